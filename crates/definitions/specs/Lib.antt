@@ -1,0 +1,10 @@
+pub mod Answers
+pub mod System
+pub mod Tables
+pub mod Step
+pub mod Refusals
+pub mod Calls
+pub mod Reader
+pub mod Bound
+pub mod Runs
+pub mod Examples

@@ -1,0 +1,15 @@
+pub mod Differences
+pub mod Terms
+pub mod Integers
+pub mod Sums
+pub mod Cases
+pub mod Tests
+pub mod TestLaws
+pub mod Tuples
+pub mod TupleLaws
+pub mod Systems
+pub mod SystemLaws
+pub mod Direction
+pub mod Choose
+pub mod Pigeonhole
+pub mod Interval

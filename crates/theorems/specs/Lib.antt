@@ -1,0 +1,17 @@
+pub mod Basis
+pub mod Invariant
+pub mod Listing
+pub mod Growing
+pub mod Starts
+pub mod Link
+pub mod After
+pub mod Run
+pub mod Potential
+pub mod Depth
+pub mod Equation
+pub mod Good
+pub mod Series
+pub mod Third
+pub mod First
+pub mod Demands
+pub mod Examples
