@@ -1,15 +1,16 @@
--- Marks as bits: adding a mark that is not set, the marks of a step's children, and the marks of the plain start. Assumes nothing.
+-- Marks as bits: adding a mark that is not set, the marks of a step's children, the marks of the plain start, and counts of marks. Assumes nothing.
 use mathlib.Core.Path.{_≡_, refl, ap}
 use mathlib.Core.Logic.{_≢_, _⊎_, inl, inr}
 use mathlib.Core.Bool.{Bool}
-use Prim.Native.Nat.{ℕ, zero, suc, _+_, _-_, _/_, _^_, _≤_, _<_}
-use native.Mathlib.Nat.{one-le-pow, pow-le-pow-right}
+use Prim.Native.Nat.{ℕ, zero, suc, _+_, _*_, _-_, _/_, _%_, _^_, _≤_, _<_}
+use native.Mathlib.Nat.{one-le-pow, pow-le-pow-right, one-mul, mod-eq-of-lt}
 use native.Mathlib.Decide.{ℕ-discrete}
 use native.Mathlib.Omega.{arith}
 use lib.Dec.{T, lit<}
+use lib.Pow.{pow-lt}
 use Rattle.linear.specs.Cases.{below-suc, split}
 use Rattle.linear.specs.TestLaws.{T-dec, count-below, count-one-more, number-false, number-true}
-use Rattle.linear.specs.Tests.{countTo}
+use Rattle.linear.specs.Tests.{number, countTo}
 use Rattle.definitions.specs.Step.{marksTo}
 use Rattle.definitions.specs.Tables.{bit, frozen}
 
@@ -177,3 +178,40 @@ ones-fit k q l = omega (arith, one-le-pow k 2 (lit< tt), pow-le-pow-right {n = 2
 pub frozen-none : (x : ℕ) → ¬ (T (frozen 0 x))
 unfolding frozen
 frozen-none x h = rw (bit-zero x) at h
+
+-- ---- counting marks
+
+bit-beyond : (K q x : ℕ) → K < 2 ^ q → q ≤ x → bit K x ≡ 0
+unfolding bit
+bit-beyond K zero x h l = let e : K ≡ 0 = omega arith in rw e (bit-zero x)
+bit-beyond K (suc q) zero h l = absurd (omega arith)
+bit-beyond K (suc q) (suc x) h l = bit-beyond (K / 2) q x (omega arith) (omega arith)
+
+free-beyond : (K q x : ℕ) → K < 2 ^ q → q ≤ x → ¬ (T (frozen K x))
+unfolding frozen
+free-beyond K q x h l y = rw (bit-beyond K q x h l) at y
+
+-- where no mark is beyond unknown q, the marks of the first q unknowns are all
+pub count-frozen-fit : (marks q d : ℕ) → q ≤ d → marks < 2 ^ q → countTo d (frozen marks) ≡ countTo q (frozen marks)
+unfolding countTo
+count-frozen-fit marks q zero l h = let e : q ≡ 0 = omega arith in rw e
+count-frozen-fit marks q (suc d) l h =
+    elim (split d q) [
+      | inl k ↦ let e : q ≡ suc d = omega arith in rw e
+      | inr k ↦ omega (arith, count-frozen-fit marks q d k h, number-false (frozen marks d) (free-beyond marks q d h k))
+    ]
+
+number-odd : (n : ℕ) → number (frozen n 0) ≡ n % 2
+unfolding frozen bit
+number-odd n = elim (split (n % 2) 1) [ inl l ↦ let e : n % 2 ≡ 0 = omega arith in rw e | inr l ↦ let e : n % 2 ≡ 1 = omega arith in rw e ]
+
+-- the lowest mark, and the others moved down by one place
+pub count-frozen-half : (d marks : ℕ) → countTo (suc d) (frozen marks) ≡ marks % 2 + countTo d (frozen (marks / 2))
+unfolding countTo
+count-frozen-half zero marks = omega (arith, number-odd marks)
+count-frozen-half (suc d) marks = let e : frozen marks (suc d) ≡ frozen (marks / 2) d = unfold frozen bit in refl in rw e (omega (arith, count-frozen-half d marks))
+
+-- ---- the machine's `1 << k` at 32 bits
+
+pub shift-one : (k : ℕ) → k < 32 → (1 * 2 ^ k) % 4294967296 ≡ 2 ^ k
+shift-one k h = rw one-mul (mod-eq-of-lt (pow-lt h))

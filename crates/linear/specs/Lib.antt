@@ -5,6 +5,7 @@ pub mod Sums
 pub mod Cases
 pub mod Tests
 pub mod TestLaws
+pub mod LoopLaws
 pub mod Tuples
 pub mod TupleLaws
 pub mod Systems
@@ -13,3 +14,4 @@ pub mod Direction
 pub mod Choose
 pub mod Pigeonhole
 pub mod Interval
+pub mod Gram

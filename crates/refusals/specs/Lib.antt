@@ -1,0 +1,5 @@
+pub mod Paper
+pub mod Shape
+pub mod Coefficients
+pub mod Order
+pub mod CheckLaws

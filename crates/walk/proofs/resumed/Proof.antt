@@ -1,0 +1,64 @@
+-- `resumed` meets its contract: the check decides, and the walk does the rest. Assumes nothing.
+use borrow.Author.Needs.{needs}
+use Rattle.definitions.specs.Calls.{resume}
+use Rattle.laws.specs.RefusalLaws.{resume-valid}
+use Rattle.walk.specs.StartLaws.{call-refused, call-passed, passes}
+use Rattle.walk.proofs.resumed.Statement.{statement}
+use Rattle.walk.proofs.resumed.Tie as tie
+
+check-resume-requires : tie.Need-check-resume-requires
+check-resume-requires c κs = search needs
+
+enum-known-why : tie.Need-enum-known-why
+enum-known-why c = search needs
+
+enum-told : tie.Need-enum-told
+enum-told c = search needs
+
+walk-requires : tie.Need-walk-requires
+walk-requires c κs =
+    let t = c .before .before in
+    let k = t .before .before in
+    resume-valid _ _ (passes (k .check-resume .ensures) (t .enum-told .given .1))
+
+same-length : tie.Need-same-length
+same-length c = search needs
+
+same-length-2 : tie.Need-same-length-2
+same-length-2 c = search needs
+
+returns : tie.Need-returns
+unfolding resume
+returns c =
+    let w = c .before in
+    let k = w .before .before in
+    call-refused (k .check-resume .ensures) _ _ (w .why .given .1)
+
+same-length-3 : tie.Need-same-length-3
+same-length-3 c = search needs
+
+same-length-4 : tie.Need-same-length-4
+same-length-4 c = search needs
+
+returns-2 : tie.Need-returns-2
+unfolding resume
+returns-2 c =
+    let w = c .before .before .before .before in
+    let t = w .before .before .before in
+    let k = t .before .before in
+    call-passed (k .check-resume .ensures) _ _ (t .enum-told .given .1) (w .walk .ensures)
+
+pub resumed-spec : {M : Type 1} → statement M
+resumed-spec =
+    tie.close
+    (tie.spec
+    check-resume-requires
+    enum-known-why
+    enum-told
+    walk-requires
+    same-length
+    same-length-2
+    returns
+    same-length-3
+    same-length-4
+    returns-2)

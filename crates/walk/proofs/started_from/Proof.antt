@@ -1,0 +1,71 @@
+-- `started_from` meets its contract: the check decides, and the row written is the lower bound's. Assumes nothing.
+use native.Mathlib.Omega.{arith}
+use borrow.Author.Needs.{needs}
+use Rattle.definitions.specs.Tables.{lowerStart}
+use Rattle.definitions.specs.Calls.{startFrom}
+use Rattle.laws.specs.RefusalLaws.{lower-shaped}
+use Rattle.walk.specs.StartLaws.{call-refused, call-passed, passes, first-row}
+use Rattle.walk.proofs.started_from.Statement.{statement}
+use Rattle.walk.proofs.started_from.Tie as tie
+
+check-start-from-requires : tie.Need-check-start-from-requires
+check-start-from-requires c κs = search needs
+
+enum-known-why : tie.Need-enum-known-why
+enum-known-why c = search needs
+
+enum-told : tie.Need-enum-told
+enum-told c = search needs
+
+write-lower-requires : tie.Need-write-lower-requires
+write-lower-requires c κs =
+    let t = c .before in
+    let k = t .before .before in
+    let (g, len, less) = lower-shaped _ _ _ (passes (k .check-start-from .ensures) (t .enum-told .given .1)) in
+    (first-row (g .q-some) (g .stack), omega (arith, len))
+
+begun-requires : tie.Need-begun-requires
+begun-requires c κs = search needs
+
+same-length : tie.Need-same-length
+same-length c = search needs
+
+same-length-2 : tie.Need-same-length-2
+same-length-2 c = search needs
+
+returns : tie.Need-returns
+unfolding startFrom
+returns c =
+    let w = c .before in
+    let k = w .before .before in
+    call-refused (k .check-start-from .ensures) _ _ (w .why .given .1)
+
+same-length-3 : tie.Need-same-length-3
+same-length-3 c = search needs
+
+same-length-4 : tie.Need-same-length-4
+same-length-4 c = search needs
+
+returns-2 : tie.Need-returns-2
+unfolding startFrom lowerStart
+returns-2 c =
+    let w = c .before .before .before in
+    let t = w .before .before in
+    let k = t .before .before in
+    call-passed (k .check-start-from .ensures) _ _ (t .enum-told .given .1) (rw (c .begun .ensures, w .write-lower .ensures))
+
+pub started-from-spec : {M : Type 1} → statement M
+started-from-spec =
+    tie.close
+    (tie.spec
+    check-start-from-requires
+    enum-known-why
+    enum-told
+    write-lower-requires
+    begun-requires
+    same-length
+    same-length-2
+    returns
+    same-length-3
+    same-length-4
+    returns-2)

@@ -1,0 +1,95 @@
+-- What the contracts of the cache cite: small systems and rows, tables with rows of 16 integers, the Gram matrix of a system in such a table, and the
+-- inner products of the rows on the stack with every column. Assumes nothing.
+use mathlib.Core.Path.{_≡_}
+use mathlib.Core.List.{List}
+use Prim.Native.Nat.{ℕ, _+_, _*_, _≤_, _<_}
+use lib.IntN.{ℤ, pos, natAbs, _+ℤ_}
+use lib.ListN.{length, getD}
+use Rattle.linear.specs.Systems.{inner}
+use Rattle.linear.specs.Gram.{gram}
+use Rattle.definitions.specs.System.{System, mostEquations, mostUnknowns, coefLimit, componentLimit, coef}
+use Rattle.definitions.specs.Tables.{at}
+
+-- ---- sizes
+
+-- a system within the limits of document 01
+pub record SmallSystem (m : System) : Type 0 where
+  pub equations : m .p ≤ mostEquations
+  pub unknowns : m .q ≤ mostUnknowns
+  pub whole : m .p * m .q ≤ length (m .coefs)
+  pub small : (n : ℕ) → natAbs (getD (m .coefs) n (pos 0)) ≤ coefLimit
+
+-- a tuple of the stack table, from place base
+pub record SmallRow (q : ℕ) (stack : List ℕ) (base : ℕ) : Type 0 where
+  pub whole : base + q ≤ length stack
+  pub small : (i : ℕ) → i < q → getD stack (base + i) 0 ≤ componentLimit
+
+-- the rows below height
+pub record SmallRows (q : ℕ) (stack : List ℕ) (height : ℕ) : Type 0 where
+  pub few : height ≤ q
+  pub whole : height * (q + 1) ≤ length stack
+  pub small : (k i : ℕ) → k < height → i < q → at stack (q + 1) k i ≤ componentLimit
+
+-- the largest size of an inner product of two columns, and of the image of a tuple and a column
+abbrev pub gramLimit : ℕ
+gramLimit = mostEquations * (coefLimit * coefLimit)
+
+abbrev pub productLimit : ℕ
+productLimit = mostUnknowns * (componentLimit * gramLimit)
+
+-- ---- tables with rows of 16 numbers
+
+-- number j of row k
+abbrev pub entry : List ℤ → ℕ → ℕ → ℤ
+entry table k j = getD table (k * 16 + j) (pos 0)
+
+-- the first n rows hold f at their first q places
+abbrev pub Rows : ℕ → ℕ → (ℕ → ℕ → ℤ) → List ℤ → Type 0
+Rows n q f table = (k j : ℕ) → k < n → j < q → entry table k j ≡ f k j
+
+-- row k has been written, with f at its first n places, and no row before it
+pub record Written (k n : ℕ) (f : ℕ → ℤ) (table₀ table : List ℤ) : Type 0 where
+  pub kept : (i : ℕ) → i < k * 16 → getD table i (pos 0) ≡ getD table₀ i (pos 0)
+  pub new : (j : ℕ) → j < n → entry table k j ≡ f j
+  pub size : length table ≡ length table₀
+
+-- v holds the first q places of row k
+pub record Level (table : List ℤ) (k q : ℕ) (v : List ℤ) : Type 0 where
+  pub same : (j : ℕ) → j < q → getD v j (pos 0) ≡ entry table k j
+
+-- ---- the Gram matrix, and the products of the rows on the stack
+
+pub record Gram (m : System) (g : List ℤ) : Type 0 where
+  pub entries : Rows (m .q) (m .q) (gram (m .p) (coef m)) g
+
+pub record SmallGram (q : ℕ) (g : List ℤ) : Type 0 where
+  pub unknowns : q ≤ mostUnknowns
+  pub small : (i j : ℕ) → i < q → j < q → natAbs (entry g i j) ≤ gramLimit
+
+-- the sum of the rows of g, row i taken x i times: its number j
+abbrev pub combine : ℕ → List ℤ → (ℕ → ℕ) → ℕ → ℤ
+combine q g x j = inner q (λ i. pos (x i)) (λ i. entry g i j)
+
+-- level k of c holds the sum that the tuple in row k of the stack makes of the rows of g
+pub record Combined (q : ℕ) (g : List ℤ) (stack : List ℕ) (height : ℕ) (c : List ℤ) : Type 0 where
+  pub size : length c ≡ 256
+  pub levels : Rows height q (λ k. combine q g (at stack (q + 1) k)) c
+
+-- v holds those of one tuple x
+pub record Products (q : ℕ) (g : List ℤ) (x : ℕ → ℕ) (v : List ℤ) : Type 0 where
+  pub product : (j : ℕ) → j < q → getD v j (pos 0) ≡ combine q g x j
+
+pub record SmallProducts (q : ℕ) (v : List ℤ) : Type 0 where
+  pub small : (j : ℕ) → j < q → natAbs (getD v j (pos 0)) ≤ productLimit
+
+-- the products v of a tuple, with row i of g added: those of the tuple with unknown i raised (`raised-towards` of CacheLaws)
+abbrev pub raised : List ℤ → List ℤ → ℕ → ℕ → ℤ
+raised g v i j = getD v j (pos 0) +ℤ entry g i j
+
+-- level k of c is there for a child by unknown i, and the sums that it takes fit 64 bits
+pub record ChildRoom (q k i : ℕ) (c g parent : List ℤ) : Type 0 where
+  pub size : length c ≡ 256
+  pub level : k < 16
+  pub unknown : i < q
+  pub gram-small : SmallGram q g
+  pub parent-small : SmallProducts q parent

@@ -1,0 +1,122 @@
+-- What the contracts of the cache come to. Sums of rows of the Gram matrix are inner products with the columns; they are small, are all 0 just at a
+-- solution, and of a child are what `write_child` writes; and the rows of a stack stay cached while it shrinks and grows. Assumes nothing.
+use mathlib.Core.Path.{_≡_, refl, sym, _∙_, ap, ap₂}
+use mathlib.Core.Logic.{inl, inr}
+use mathlib.Core.Bool.{Bool, true, false}
+use mathlib.Core.List.{List}
+use Prim.Native.Nat.{ℕ, _+_, _*_, _≤_, _<_}
+use native.Mathlib.Omega.{arith}
+use lib.Dec.{T, eqb→eq}
+use lib.IntN.{ℤ, pos, negsuc, _+ℤ_, _*ℤ_}
+use lib.ListN.{length, getD}
+use Rattle.linear.specs.Sums.{sum-cong}
+use Rattle.linear.specs.Tests.{allTo}
+use Rattle.linear.specs.TestLaws.{all-at, all-from, all-same, T-dec}
+use Rattle.linear.specs.Tuples.{Same, raise, unit}
+use Rattle.linear.specs.Systems.{inner, value}
+use Rattle.linear.specs.SystemLaws.{inner-cong, inner-bound, value-sum, value-unit}
+use Rattle.linear.specs.Gram.{inner-comm, gram-bound, product-sum, product-zero, zero-solution}
+use Rattle.definitions.specs.System.{System, mostUnknowns, coefLimit, componentLimit, coef, towards, isZero, solves}
+use Rattle.definitions.specs.Tables.{at, writeRow}
+use Rattle.laws.specs.SystemLaws.{solves-solution, fails-fails}
+use Rattle.laws.specs.TableLaws.{row-other, row-tuple}
+use Rattle.walk.specs.Cache.{SmallSystem, gramLimit, entry, Written, Level, Gram, SmallGram, combine, Combined, Products, SmallProducts, raised}
+use Rattle.walk.specs.CacheSteps.{rows-next}
+
+-- ---- the Gram matrix of a system
+
+module _ {m : System} {g : List ℤ} where
+  pub gram-small : SmallSystem m → Gram m g → SmallGram (m .q) g
+  gram-small s h =
+      record {
+        unknowns = s .unknowns;
+        small = λ i j l k. rw (h .entries i j l k) (omega (arith, s .equations, gram-bound (m .p) (coef m) i j coefLimit (λ e _. s .small _) (λ e _. s .small _)));
+      }
+
+  pub combine-towards : Gram m g → (x : ℕ → ℕ) (j : ℕ) → j < m .q → combine (m .q) g x j ≡ towards m x j
+  unfolding inner
+  combine-towards h x j l =
+      sum-cong (m .q) (λ i k. ap (λ z. pos (x i) *ℤ z) (h .entries i j k l)) ∙ sym (product-sum (m .p) (m .q) (coef m) x j)
+
+-- ---- the products of one tuple
+
+module _ (q : ℕ) (g : List ℤ) where
+  combine-value : (x : ℕ → ℕ) (j : ℕ) → combine q g x j ≡ value (λ i. entry g i j) q x
+  unfolding value
+  combine-value x j = inner-comm q _ _
+
+  combine-same : {x y : ℕ → ℕ} → Same q x y → (j : ℕ) → combine q g x j ≡ combine q g y j
+  combine-same e j = inner-cong q (λ i l. ap pos (e i l)) (λ i l. refl)
+
+  -- raising unknown i adds row i
+  combine-raise : (x : ℕ → ℕ) (i j : ℕ) → i < q → combine q g (raise x i) j ≡ combine q g x j +ℤ entry g i j
+  combine-raise x i j l =
+      combine-value (raise x i) j
+      ∙ value-sum (λ k. entry g k j) q x (unit i) (raise x i) (λ n m. refl)
+      ∙ ap₂ _+ℤ_ (sym (combine-value x j)) (value-unit (λ k. entry g k j) i q l)
+
+module _ {q : ℕ} {g : List ℤ} where
+  -- what `level` ensures
+  pub level-products : {stack : List ℕ} {height : ℕ} {c : List ℤ} {k : ℕ} {v : List ℤ} → Combined q g stack height c → k < height → Level c k q v → Products q g (at stack (q + 1) k) v
+  level-products d l w = record { product = λ j h. w .same j h ∙ d .levels _ j l h }
+
+  pub products-same : {x y : ℕ → ℕ} {v : List ℤ} → Same q x y → Products q g x v → Products q g y v
+  products-same e d = record { product = λ j h. d .product j h ∙ combine-same q g e j }
+
+  pub products-small : {x : ℕ → ℕ} {v : List ℤ} → SmallGram q g → ((i : ℕ) → i < q → x i ≤ componentLimit) → Products q g x v → SmallProducts q v
+  products-small {x} a h d =
+      record {
+        small = λ j l. rw (d .product j l) (omega (arith, a .unknowns, inner-bound q componentLimit gramLimit (λ i. pos (x i)) (λ i. entry g i j) h (λ i k. a .small i j k l)));
+      }
+
+-- ---- solutions
+
+pub is-zero : (z : ℤ) → T (isZero z) → z ≡ pos 0
+is-zero (pos n) h = ap pos (eqb→eq n 0 h)
+is-zero (negsuc n) h = absurd h
+
+-- two tests that hold together are one
+pub same-test : (b c : Bool) → (T b → T c) → (T c → T b) → b ≡ c
+same-test true true f g = refl
+same-test true false f g = absurd (f tt)
+same-test false true f g = absurd (g tt)
+same-test false false f g = refl
+
+-- a tuple is a solution just where its image is orthogonal to every column
+solves-products : (m : System) (x : ℕ → ℕ) → solves m x ≡ allTo (m .q) (λ j. isZero (towards m x j))
+solves-products m x = same-test (solves m x) _ to from
+  where
+    to : T (solves m x) → T (allTo (m .q) (λ j. isZero (towards m x j)))
+    to h = all-from (m .q) _ (λ j l. rw (product-zero (m .p) (m .q) (coef m) x (solves-solution m x h) j) tt)
+
+    from : T (allTo (m .q) (λ j. isZero (towards m x j))) → T (solves m x)
+    from h =
+        let s = zero-solution (m .p) (m .q) (coef m) x (λ j l. is-zero (towards m x j) (all-at (m .q) _ h j l)) in
+        elim (T-dec (solves m x)) [ inl y ↦ y | inr n ↦ let (i, l, ne) = fails-fails m x n in absurd (ne (s i l)) ]
+
+-- what `vanish` ensures, for every system that has this Gram matrix
+pub vanish-solves : {m : System} {g : List ℤ} {x : ℕ → ℕ} {v : List ℤ} → Gram m g → Products (m .q) g x v → allTo (m .q) (λ j. isZero (getD v j (pos 0))) ≡ solves m x
+vanish-solves {m} {g} {x} h d = all-same (m .q) _ _ (λ j l. ap isZero (d .product j l ∙ combine-towards h x j l)) ∙ sym (solves-products m x)
+
+-- ---- the rows of a stack that changes
+
+module _ {q : ℕ} {g : List ℤ} where
+  pub combined-less : {stack : List ℕ} {height n : ℕ} {c : List ℤ} → Combined q g stack height c → n ≤ height → Combined q g stack n c
+  combined-less d h = record { size = d .size; levels = λ k j l. d .levels k j (omega arith) }
+
+  combined-same : {stack stack′ : List ℕ} {height : ℕ} {c : List ℤ} → ((k i : ℕ) → k < height → i < q → at stack′ (q + 1) k i ≡ at stack (q + 1) k i) → Combined q g stack height c → Combined q g stack′ height c
+  combined-same e d = record { size = d .size; levels = λ k j l h. d .levels k j l h ∙ combine-same q g (λ i u. sym (e k i l u)) j }
+
+  -- a child of x by unknown i on top of n rows: what `write_child` ensures
+  pub combined-child : {x : ℕ → ℕ} {v : List ℤ} {stack : List ℕ} {n : ℕ} {c₀ c : List ℤ} → Products q g x v → (i : ℕ) → i < q → (marks : ℕ) → q ≤ mostUnknowns → n * (q + 1) + (q + 1) ≤ length stack → Combined q g stack n c₀ → Written n q (raised g v i) c₀ c → Combined q g (writeRow q stack n (raise x i) marks) (n + 1) c
+  combined-child {x} {stack} {n} {c₀} {c} p i l marks few room d w =
+      let grown : List ℕ = writeRow q stack n (raise x i) marks in
+      let kept : Combined q g grown n c₀ = combined-same (λ k j u t. row-other q stack n (raise x i) marks k j (omega arith) (omega arith)) d in
+      record {
+        size = w .size ∙ d .size;
+        levels = rows-next {f = λ k. combine q g (at grown (q + 1) k)} {table₀ = c₀} {table = c} few (kept .levels) (record {
+          kept = w .kept;
+          new = λ j k. w .new j k ∙ ap (λ z. z +ℤ entry g i j) (p .product j k) ∙ sym (combine-raise q g x i j l) ∙ combine-same q g (λ e u. sym (row-tuple q stack n (raise x i) marks room e u)) j;
+          size = w .size;
+        });
+      }

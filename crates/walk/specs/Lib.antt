@@ -1,0 +1,16 @@
+pub mod Paper
+pub mod StartLaws
+pub mod Rows
+pub mod RowLaws
+pub mod Marks
+pub mod Cache
+pub mod CacheSteps
+pub mod CacheLaws
+pub mod Grow
+pub mod GrowLaws
+pub mod StateLaws
+pub mod Pushed
+pub mod Listing
+pub mod Taken
+pub mod TakeLaws
+pub mod WalkLaws

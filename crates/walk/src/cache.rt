@@ -1,0 +1,164 @@
+// The inner products of the rows on the stack with every column. Raising an unknown adds a row of the Gram matrix to them, so they are computed
+// once for the rows that a call finds, and kept beside the stack: 16 numbers a level.
+ghost use mathlib.Core.Path.{_≡_};
+ghost use Prim.Native.Nat.{_+_, _*_, _≤_, _<_};
+ghost use lib.IntN.{pos, _+ℤ_, _*ℤ_};
+ghost use lib.ListN.{length, getD};
+ghost use mir.Syntax.{w64};
+ghost use mir.Val.{SFits};
+ghost use Rattle.linear.specs.Tests.{allTo};
+ghost use Rattle.linear.specs.Gram.{gram};
+ghost use Rattle.definitions.specs.System.{coef, isZero};
+ghost use Rattle.definitions.specs.Tables.{at};
+ghost use Rattle.refusals.specs.Paper.{systemOf};
+ghost use Rattle.walk.specs.Cache.{SmallSystem, SmallRow, SmallRows, Written, Level, Gram, SmallGram, combine, Combined, raised, ChildRoom};
+
+// The Gram matrix: the inner product of columns i and j at i * 16 + j.
+pub fn gram(p: usize, q: usize, coefs: &[i32]) -> [i64; 256]
+    requires { ⌜ SmallSystem (systemOf p q (now coefs)) ⌝ }
+    ensures { λ r. ⌜ Gram (systemOf p q (now (coefs .entry))) r ⌝ }
+{
+    let mut g = [0i64; 256];
+    let mut i = 0;
+    while i < q {
+        gram_row(p, q, coefs, i, &mut g);
+        i += 1;
+    }
+    g
+}
+
+// Row i of it.
+fn gram_row(p: usize, q: usize, coefs: &[i32], i: usize, g: &mut [i64; 256])
+    requires { ⌜ SmallSystem (systemOf p q (now coefs)) × (length (now g) ≡ 256) × (i < q) ⌝ }
+    ensures { λ _. ⌜ Written i q (gram p (coef (systemOf p q (now (coefs .entry)))) i) (now (g .entry)) (now (g .exit)) ⌝ }
+{
+    let mut j = 0;
+    while j < q {
+        g[i * 16 + j] = columns(p, q, coefs, i, j);
+        j += 1;
+    }
+}
+
+// The inner product of columns i and j.
+fn columns(p: usize, q: usize, coefs: &[i32], i: usize, j: usize) -> i64
+    requires { ⌜ SmallSystem (systemOf p q (now coefs)) × (i < q) × (j < q) ⌝ }
+    ensures { λ r. ⌜ r ≡ gram p (coef (systemOf p q (now (coefs .entry)))) i j ⌝ }
+{
+    let mut sum: i64 = 0;
+    let mut k = 0;
+    while k < p {
+        sum = sum_and(sum, wide(coefs[k * q + i]), wide(coefs[k * q + j]));
+        k += 1;
+    }
+    sum
+}
+
+// What a sum of products takes, as functions with contracts in ℤ: their callers' loops hold bits.
+fn sum_and(sum: i64, x: i64, y: i64) -> i64
+    requires { ⌜ SFits w64 (x *ℤ y) ⌝ }
+    requires { ⌜ SFits w64 (sum +ℤ x *ℤ y) ⌝ }
+    ensures { λ r. ⌜ r ≡ sum +ℤ x *ℤ y ⌝ }
+{
+    sum + x * y
+}
+
+fn wide(x: i32) -> i64
+    ensures { λ r. ⌜ r ≡ x ⌝ }
+{
+    x as i64
+}
+
+fn natural(x: u32) -> i64
+    ensures { λ r. ⌜ r ≡ pos x ⌝ }
+{
+    x as i64
+}
+
+// The products of the rows on the stack, from the Gram matrix.
+pub fn products(q: usize, gram: &[i64; 256], stack: &[u32], height: usize) -> [i64; 256]
+    requires { ⌜ SmallGram q (now gram) ⌝ }
+    requires { ⌜ SmallRows q (now stack) height ⌝ }
+    ensures { λ r. ⌜ Combined q (now (gram .entry)) (now (stack .entry)) height r ⌝ }
+{
+    let mut c = [0i64; 256];
+    let mut k = 0;
+    while k < height {
+        products_row(q, gram, stack, k, &mut c);
+        k += 1;
+    }
+    c
+}
+
+// Those of row k.
+fn products_row(q: usize, gram: &[i64; 256], stack: &[u32], k: usize, c: &mut [i64; 256])
+    requires { ⌜ SmallGram q (now gram) × SmallRow q (now stack) (k * (q + 1)) × (length (now c) ≡ 256) × (k < 16) ⌝ }
+    ensures { λ _. ⌜ Written k q (combine q (now (gram .entry)) (at (now (stack .entry)) (q + 1) k)) (now (c .entry)) (now (c .exit)) ⌝ }
+{
+    let mut j = 0;
+    while j < q {
+        c[k * 16 + j] = product(q, gram, stack, k * (q + 1), j);
+        j += 1;
+    }
+}
+
+// The inner product of the image of the row at `base` with column j.
+fn product(q: usize, gram: &[i64; 256], stack: &[u32], base: usize, j: usize) -> i64
+    requires { ⌜ SmallGram q (now gram) × SmallRow q (now stack) base × (j < q) ⌝ }
+    ensures { λ r. ⌜ r ≡ combine q (now (gram .entry)) (λ i. getD (now (stack .entry)) (base + i) 0) j ⌝ }
+{
+    let mut sum: i64 = 0;
+    let mut i = 0;
+    while i < q {
+        sum = sum_and(sum, natural(stack[base + i]), gram[i * 16 + j]);
+        i += 1;
+    }
+    sum
+}
+
+// The products of the row at level k.
+pub fn level(c: &[i64; 256], k: usize, q: usize) -> [i64; 16]
+    requires { ⌜ (k < 16) × (q ≤ 16) ⌝ }
+    ensures { λ r. ⌜ Level (now (c .entry)) k q r ⌝ }
+{
+    let mut v = [0i64; 16];
+    let mut j = 0;
+    while j < q {
+        v[j] = c[k * 16 + j];
+        j += 1;
+    }
+    v
+}
+
+// Whether all are 0: then, and only then, the row is a solution.
+pub fn vanish(v: &[i64; 16], q: usize) -> bool
+    requires { ⌜ q ≤ 16 ⌝ }
+    ensures { λ r. ⌜ r ≡ allTo q (λ j. isZero (getD (now (v .entry)) j (pos 0))) ⌝ }
+{
+    let mut j = 0;
+    while j < q {
+        if v[j] != 0 {
+            return false;
+        }
+        j += 1;
+    }
+    true
+}
+
+// Writes the products of a child at level k: those of its parent, and the Gram row of the unknown that was raised.
+pub fn write_child(
+    c: &mut [i64; 256],
+    k: usize,
+    q: usize,
+    gram: &[i64; 256],
+    parent: &[i64; 16],
+    i: usize,
+)
+    requires { ⌜ ChildRoom q k i (now c) (now gram) (now parent) ⌝ }
+    ensures { λ _. ⌜ Written k q (raised (now (gram .entry)) (now (parent .entry)) i) (now (c .entry)) (now (c .exit)) ⌝ }
+{
+    let mut j = 0;
+    while j < q {
+        c[k * 16 + j] = parent[j] + gram[i * 16 + j];
+        j += 1;
+    }
+}

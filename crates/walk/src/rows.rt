@@ -1,0 +1,106 @@
+// Rows of the stack table and of the list table.
+ghost use mathlib.Core.Path.{_≡_};
+ghost use Prim.Native.Nat.{_+_, _*_, _-_, _^_, _≤_, _<_};
+ghost use lib.ListN.{length};
+ghost use Rattle.linear.specs.Tuples.{unit, raise};
+ghost use Rattle.definitions.specs.System as system;
+ghost use Rattle.definitions.specs.Tables.{at, writeTo, writeRow, unitsTo};
+ghost use Rattle.walk.specs.Rows.{tuple, Holds};
+
+// Writes the rows of the plain start: row k holds a 1 at k, and marks at the unknowns before k.
+pub fn write_units(stack: &mut [u32], q: usize)
+    requires { ⌜ (q ≤ 16) × (q * (q + 1) ≤ length (now stack)) ⌝ }
+    ensures { λ _. ⌜ now (stack .exit) ≡ unitsTo q q (now (stack .entry)) ⌝ }
+{
+    let mut k = 0;
+    while k < q {
+        write_unit(stack, q, k);
+        k += 1;
+    }
+}
+
+// Writes row `k` of them.
+fn write_unit(stack: &mut [u32], q: usize, k: usize)
+    requires { ⌜ (k < 32) × (k * (q + 1) + q < length (now stack)) ⌝ }
+    ensures { λ _. ⌜ now (stack .exit) ≡ writeRow q (now (stack .entry)) k (unit k) (2 ^ k - 1) ⌝ }
+{
+    let base = k * (q + 1);
+    let mut j = 0;
+    while j < q {
+        stack[base + j] = if j == k { 1 } else { 0 };
+        j += 1;
+    }
+    let past: u32 = 1 << k;
+    stack[base + q] = past - 1;
+}
+
+// Writes row 0: the lower bound, and no marks.
+pub fn write_lower(stack: &mut [u32], q: usize, lower: &[u32])
+    requires { ⌜ (q < length (now stack)) × (q ≤ length (now lower)) ⌝ }
+    ensures { λ _. ⌜ now (stack .exit) ≡ writeRow q (now (stack .entry)) 0 (tuple (now (lower .entry))) 0 ⌝ }
+{
+    let mut j = 0;
+    while j < q {
+        stack[j] = lower[j];
+        j += 1;
+    }
+    stack[q] = 0;
+}
+
+// The tuple that stands in the stack from place `base`.
+pub fn tuple_at(stack: &[u32], base: usize, q: usize) -> [u32; 16]
+    requires { ⌜ (q ≤ 16) × (base + q ≤ length (now stack)) ⌝ }
+    ensures { λ r. ⌜ Holds q r (now (stack .entry)) base ⌝ }
+{
+    let mut t = [0u32; 16];
+    let mut j = 0;
+    while j < q {
+        t[j] = stack[base + j];
+        j += 1;
+    }
+    t
+}
+
+// Writes the tuple `t` into a table from place `base`.
+pub fn write_tuple(table: &mut [u32], base: usize, q: usize, t: &[u32; 16])
+    requires { ⌜ (q ≤ 16) × (base + q ≤ length (now table)) ⌝ }
+    ensures { λ _. ⌜ now (table .exit) ≡ writeTo q (now (table .entry)) base (tuple (now (t .entry))) ⌝ }
+{
+    let mut j = 0;
+    while j < q {
+        table[base + j] = t[j];
+        j += 1;
+    }
+}
+
+// Writes row `k` of the stack: `t` with component `i` raised by one, and the marks.
+pub fn write_child(stack: &mut [u32], k: usize, q: usize, t: &[u32; 16], i: usize, marks: u32)
+    requires { ⌜ (i < q) × (q ≤ 16) × (k * (q + 1) + q < length (now stack)) × (tuple (now t) i + 1 < 2 ^ 32) ⌝ }
+    ensures { λ _. ⌜ now (stack .exit) ≡ writeRow q (now (stack .entry)) k (raise (tuple (now (t .entry))) i) marks ⌝ }
+{
+    let base = k * (q + 1);
+    write_tuple(stack, base, q, t);
+    stack[base + i] = t[i] + 1;
+    stack[base + q] = marks;
+}
+
+// Whether one of the first `found` rows of the list is at or below `t`.
+pub fn covered(list: &[u32], found: usize, q: usize, t: &[u32; 16]) -> bool
+    requires { ⌜ (q ≤ 16) × (found * q ≤ length (now list)) ⌝ }
+    ensures { λ r. ⌜ r ≡ system.covered q found (at (now (list .entry)) q) (tuple (now (t .entry))) ⌝ }
+{
+    let mut i = 0;
+    'rows: while i < found {
+        let base = i * q;
+        i += 1;
+        let mut j = 0;
+        while j < q {
+            if t[j] < list[base + j] {
+                continue 'rows;
+            }
+            j += 1;
+        }
+        return true;
+    }
+    false
+}
