@@ -4,7 +4,9 @@ use mathlib.Core.List.{List}
 use Rattle.definitions.specs.Calls as paper
 use Rattle.refusals.specs.Paper.{stateOf, answerOf}
 use Rattle.refusals.specs.declared.Answer.{Answer}
-use Rattle.refusals.specs.declared.Answer.the-variants.{Started}
+use Rattle.refusals.specs.declared.Answer.the-variants.{Started, Refused}
+use Rattle.refusals.specs.declared.Record.{Record}
+use Rattle.refusals.specs.declared.Refusal.{Refusal}
 use Rattle.walk.specs.declared.Outcome.{Outcome}
 
 abbrev pub outcomeOf : Outcome → List ℕ → List ℕ → paper.Outcome
@@ -13,6 +15,10 @@ outcomeOf o stack list = record { answer = answerOf (o .answer); state = stateOf
 -- an answer with the three parts of the run record
 abbrev pub leaves : Answer → ℕ → ℕ → ℕ → Outcome
 leaves answer height found steps = record { answer = answer; run = record { height = height; found = record { 0 = found }; steps = record { 0 = steps } } }
+
+-- what a call that is refused before its walk leaves
+abbrev pub refuses : Refusal → Record → Outcome
+refuses why r = record { answer = Refused why; run = r }
 
 -- what a start that is not refused leaves
 abbrev pub begins : ℕ → Outcome

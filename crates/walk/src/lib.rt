@@ -2,10 +2,11 @@
 ghost use mathlib.Core.Path.{_≡_};
 ghost use Rattle.definitions.specs.Calls.{start, startFrom, resume};
 ghost use Rattle.refusals.specs.Paper.{systemOf, stateOf};
-ghost use Rattle.walk.specs.Paper.{outcomeOf, begins};
+ghost use Rattle.walk.specs.Paper.{outcomeOf, begins, refuses};
 use refusals::Answer;
 use refusals::Check;
 use refusals::Record;
+use refusals::Refusal;
 use refusals::Solutions;
 use refusals::Steps;
 
@@ -32,10 +33,7 @@ pub fn started(
     ensures { λ o. ⌜ outcomeOf o (now (stack .exit)) (now (list .exit)) ≡ start (systemOf p q (now (coefs .entry))) (stateOf (now (stack .entry)) (now (list .entry)) r) ⌝ }
 {
     match refusals::check_start(p, q, coefs, stack, list, r) {
-        Check::Refuse(why) => Outcome {
-            answer: Answer::Refused(why),
-            run: r,
-        },
+        Check::Refuse(why) => refused(why, r),
         Check::Pass => {
             rows::write_units(stack, q);
             begun(q)
@@ -56,14 +54,21 @@ pub fn started_from(
     ensures { λ o. ⌜ outcomeOf o (now (stack .exit)) (now (list .exit)) ≡ startFrom (now (lower .entry)) (systemOf p q (now (coefs .entry))) (stateOf (now (stack .entry)) (now (list .entry)) r) ⌝ }
 {
     match refusals::check_start_from(p, q, coefs, lower, stack, list, r) {
-        Check::Refuse(why) => Outcome {
-            answer: Answer::Refused(why),
-            run: r,
-        },
+        Check::Refuse(why) => refused(why, r),
         Check::Pass => {
             rows::write_lower(stack, q, lower);
             begun(1)
         }
+    }
+}
+
+// What a call that is refused before its walk answers.
+fn refused(why: Refusal, r: Record) -> Outcome
+    ensures { λ o. ⌜ o ≡ refuses why r ⌝ }
+{
+    Outcome {
+        answer: Answer::Refused(why),
+        run: r,
     }
 }
 
@@ -94,10 +99,7 @@ pub fn resumed(
     ensures { λ o. ⌜ outcomeOf o (now (stack .exit)) (now (list .exit)) ≡ resume budget (systemOf p q (now (coefs .entry))) (stateOf (now (stack .entry)) (now (list .entry)) r) ⌝ }
 {
     match refusals::check_resume(p, q, coefs, stack, list, r) {
-        Check::Refuse(why) => Outcome {
-            answer: Answer::Refused(why),
-            run: r,
-        },
+        Check::Refuse(why) => refused(why, r),
         Check::Pass => search::walk(p, q, coefs, stack, list, r, budget),
     }
 }

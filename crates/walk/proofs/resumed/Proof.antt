@@ -12,6 +12,9 @@ check-resume-requires c κs = search needs
 enum-known-why : tie.Need-enum-known-why
 enum-known-why c = search needs
 
+refused-requires : tie.Need-refused-requires
+refused-requires c κs = search needs
+
 enum-told : tie.Need-enum-told
 enum-told c = search needs
 
@@ -30,9 +33,9 @@ same-length-2 c = search needs
 returns : tie.Need-returns
 unfolding resume
 returns c =
-    let w = c .before in
+    let w = c .before .before in
     let k = w .before .before in
-    call-refused (k .check-resume .ensures) _ _ (w .why .given .1)
+    rw (c .refused .ensures) (call-refused (k .check-resume .ensures) _ _ (w .why .given .1))
 
 same-length-3 : tie.Need-same-length-3
 same-length-3 c = search needs
@@ -54,6 +57,7 @@ resumed-spec =
     (tie.spec
     check-resume-requires
     enum-known-why
+    refused-requires
     enum-told
     walk-requires
     same-length

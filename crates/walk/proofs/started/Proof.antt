@@ -13,6 +13,9 @@ check-start-requires c κs = search needs
 enum-known-why : tie.Need-enum-known-why
 enum-known-why c = search needs
 
+refused-requires : tie.Need-refused-requires
+refused-requires c κs = search needs
+
 enum-told : tie.Need-enum-told
 enum-told c = search needs
 
@@ -35,9 +38,9 @@ same-length-2 c = search needs
 returns : tie.Need-returns
 unfolding start
 returns c =
-    let w = c .before in
+    let w = c .before .before in
     let k = w .before .before in
-    call-refused (k .check-start .ensures) _ _ (w .why .given .1)
+    rw (c .refused .ensures) (call-refused (k .check-start .ensures) _ _ (w .why .given .1))
 
 same-length-3 : tie.Need-same-length-3
 same-length-3 c = search needs
@@ -59,6 +62,7 @@ started-spec =
     (tie.spec
     check-start-requires
     enum-known-why
+    refused-requires
     enum-told
     write-units-requires
     begun-requires

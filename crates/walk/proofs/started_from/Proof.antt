@@ -14,6 +14,9 @@ check-start-from-requires c κs = search needs
 enum-known-why : tie.Need-enum-known-why
 enum-known-why c = search needs
 
+refused-requires : tie.Need-refused-requires
+refused-requires c κs = search needs
+
 enum-told : tie.Need-enum-told
 enum-told c = search needs
 
@@ -36,9 +39,9 @@ same-length-2 c = search needs
 returns : tie.Need-returns
 unfolding startFrom
 returns c =
-    let w = c .before in
+    let w = c .before .before in
     let k = w .before .before in
-    call-refused (k .check-start-from .ensures) _ _ (w .why .given .1)
+    rw (c .refused .ensures) (call-refused (k .check-start-from .ensures) _ _ (w .why .given .1))
 
 same-length-3 : tie.Need-same-length-3
 same-length-3 c = search needs
@@ -60,6 +63,7 @@ started-from-spec =
     (tie.spec
     check-start-from-requires
     enum-known-why
+    refused-requires
     enum-told
     write-lower-requires
     begun-requires
