@@ -3,6 +3,7 @@ use Prim.Native.Nat.{ℕ}
 use mathlib.Core.List.{List, [], _∷_}
 use lib.IntN.{ℤ}
 use Rattle.definitions.specs.Answers as paper
+use Rattle.definitions.specs.Calls as calls
 use Rattle.definitions.specs.System.{System}
 use Rattle.definitions.specs.Tables.{State}
 use Rattle.refusals.specs.declared.Record.{Record}
@@ -10,6 +11,7 @@ use Rattle.refusals.specs.declared.Refusal.{Refusal}
 use Rattle.refusals.specs.declared.Refusal.the-variants.{Equations, Unknowns, CoefficientCount, StackLength, BoundLength, OutOfOrder, Coefficient, BoundRange, ListFull, ComponentLimit, StackFull, StepLimit}
 use Rattle.refusals.specs.declared.Answer.{Answer}
 use Rattle.refusals.specs.declared.Answer.the-variants.{Started, Complete, Paused, Refused}
+use Rattle.refusals.specs.declared.Outcome.{Outcome}
 use Rattle.refusals.specs.declared.Check.{Check}
 use Rattle.refusals.specs.declared.Check.the-variants.{Refuse, Pass}
 
@@ -58,3 +60,19 @@ answerOf (Refused why) = paper.refused (numberOf why) (valuesOf why)
 abbrev pub checkOf : Check → paper.Check
 checkOf (Refuse why) = paper.refuse (numberOf why) (valuesOf why)
 checkOf Pass = paper.go
+
+-- ---- what a call leaves
+
+abbrev pub leftBy : Answer → List ℕ → List ℕ → Record → calls.Outcome
+leftBy a stack list r = record { answer = answerOf a; state = stateOf stack list r }
+
+abbrev pub outcomeOf : Outcome → List ℕ → List ℕ → calls.Outcome
+outcomeOf o stack list = leftBy (o .answer) stack list (o .run)
+
+-- an answer with the three parts of the run record
+abbrev pub leaves : Answer → ℕ → ℕ → ℕ → Outcome
+leaves answer height found steps = record { answer = answer; run = record { height = height; found = record { 0 = found }; steps = record { 0 = steps } } }
+
+-- refused before the walk
+abbrev pub refuses : Refusal → Record → Outcome
+refuses why r = record { answer = Refused why; run = r }

@@ -3,7 +3,7 @@ ghost use mathlib.Core.Path.{_≡_};
 ghost use Rattle.linear.specs.Tests.{countTo};
 ghost use Rattle.definitions.specs.Tables.{frozen};
 ghost use Rattle.definitions.specs.Refusals.{startChecks, lowerChecks, resumeChecks};
-ghost use Rattle.refusals.specs.Paper.{systemOf, stateOf, checkOf};
+ghost use Rattle.refusals.specs.Paper.{systemOf, stateOf, checkOf, refuses};
 
 mod coefficients; // coefficients.rt: their range
 mod order; // order.rt: a run record and tables in order
@@ -44,6 +44,12 @@ pub enum Answer {
     Complete,
     Paused,
     Refused(Refusal),
+}
+
+// What a call answers, and the run record that it leaves.
+pub struct Outcome {
+    pub answer: Answer,
+    pub run: Record,
 }
 
 // What a check finds.
@@ -109,4 +115,14 @@ pub fn count_marks(marks: u32) -> usize
     ensures { λ n. ⌜ n ≡ countTo 32 (frozen marks) ⌝ }
 {
     u32::count_ones(marks) as usize
+}
+
+// What a call that is refused before its walk answers: the record stays.
+pub fn refused(why: Refusal, r: Record) -> Outcome
+    ensures { λ o. ⌜ o ≡ refuses why r ⌝ }
+{
+    Outcome {
+        answer: Answer::Refused(why),
+        run: r,
+    }
 }

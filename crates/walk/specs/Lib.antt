@@ -1,5 +1,3 @@
-pub mod Paper
-pub mod StartLaws
 pub mod Rows
 pub mod RowLaws
 pub mod Marks

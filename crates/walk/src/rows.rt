@@ -1,51 +1,11 @@
 // Rows of the stack table and of the list table.
 ghost use mathlib.Core.Path.{_≡_};
-ghost use Prim.Native.Nat.{_+_, _*_, _-_, _^_, _≤_, _<_};
+ghost use Prim.Native.Nat.{_+_, _*_, _^_, _≤_, _<_};
 ghost use lib.ListN.{length};
-ghost use Rattle.linear.specs.Tuples.{unit, raise};
+ghost use Rattle.linear.specs.Tuples.{raise};
 ghost use Rattle.definitions.specs.System as system;
-ghost use Rattle.definitions.specs.Tables.{at, writeTo, writeRow, unitsTo};
+ghost use Rattle.definitions.specs.Tables.{at, writeTo, writeRow};
 ghost use Rattle.walk.specs.Rows.{tuple, Holds};
-
-// Writes the rows of the plain start: row k holds a 1 at k, and marks at the unknowns before k.
-pub fn write_units(stack: &mut [u32], q: usize)
-    requires { ⌜ (q ≤ 16) × (q * (q + 1) ≤ length (now stack)) ⌝ }
-    ensures { λ _. ⌜ now (stack .exit) ≡ unitsTo q q (now (stack .entry)) ⌝ }
-{
-    let mut k = 0;
-    while k < q {
-        write_unit(stack, q, k);
-        k += 1;
-    }
-}
-
-// Writes row `k` of them.
-fn write_unit(stack: &mut [u32], q: usize, k: usize)
-    requires { ⌜ (k < 32) × (k * (q + 1) + q < length (now stack)) ⌝ }
-    ensures { λ _. ⌜ now (stack .exit) ≡ writeRow q (now (stack .entry)) k (unit k) (2 ^ k - 1) ⌝ }
-{
-    let base = k * (q + 1);
-    let mut j = 0;
-    while j < q {
-        stack[base + j] = if j == k { 1 } else { 0 };
-        j += 1;
-    }
-    let past: u32 = 1 << k;
-    stack[base + q] = past - 1;
-}
-
-// Writes row 0: the lower bound, and no marks.
-pub fn write_lower(stack: &mut [u32], q: usize, lower: &[u32])
-    requires { ⌜ (q < length (now stack)) × (q ≤ length (now lower)) ⌝ }
-    ensures { λ _. ⌜ now (stack .exit) ≡ writeRow q (now (stack .entry)) 0 (tuple (now (lower .entry))) 0 ⌝ }
-{
-    let mut j = 0;
-    while j < q {
-        stack[j] = lower[j];
-        j += 1;
-    }
-    stack[q] = 0;
-}
 
 // The tuple that stands in the stack from place `base`.
 pub fn tuple_at(stack: &[u32], base: usize, q: usize) -> [u32; 16]

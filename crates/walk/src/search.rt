@@ -2,13 +2,12 @@
 ghost use mathlib.Core.Path.{_≡_};
 ghost use Rattle.definitions.specs.Calls as calls;
 ghost use Rattle.laws.specs.RefusalLaws.{Valid};
-ghost use Rattle.refusals.specs.Paper.{systemOf, stateOf};
-ghost use Rattle.walk.specs.Paper.{outcomeOf, leaves};
-use crate::Outcome;
+ghost use Rattle.refusals.specs.Paper.{systemOf, stateOf, outcomeOf, leaves};
 use crate::cache;
 use crate::step;
 use crate::step::Stepped;
 use refusals::Answer;
+use refusals::Outcome;
 use refusals::Record;
 use refusals::Refusal;
 use refusals::Solutions;

@@ -3,9 +3,9 @@ use borrow.Author.Needs.{needs}
 use Rattle.definitions.specs.Tables.{plainStart}
 use Rattle.definitions.specs.Calls.{start}
 use Rattle.laws.specs.RefusalLaws.{start-shaped}
-use Rattle.walk.specs.StartLaws.{call-refused, call-passed, passes}
-use Rattle.walk.proofs.started.Statement.{statement}
-use Rattle.walk.proofs.started.Tie as tie
+use Rattle.refusals.specs.CallLaws.{call-refused, call-passed, passes}
+use Rattle.starts.proofs.started.Statement.{statement}
+use Rattle.starts.proofs.started.Tie as tie
 
 check-start-requires : tie.Need-check-start-requires
 check-start-requires c κs = search needs

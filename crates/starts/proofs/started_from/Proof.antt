@@ -4,9 +4,10 @@ use borrow.Author.Needs.{needs}
 use Rattle.definitions.specs.Tables.{lowerStart}
 use Rattle.definitions.specs.Calls.{startFrom}
 use Rattle.laws.specs.RefusalLaws.{lower-shaped}
-use Rattle.walk.specs.StartLaws.{call-refused, call-passed, passes, first-row}
-use Rattle.walk.proofs.started_from.Statement.{statement}
-use Rattle.walk.proofs.started_from.Tie as tie
+use Rattle.refusals.specs.CallLaws.{call-refused, call-passed, passes}
+use Rattle.starts.specs.Begin.{first-row}
+use Rattle.starts.proofs.started_from.Statement.{statement}
+use Rattle.starts.proofs.started_from.Tie as tie
 
 check-start-from-requires : tie.Need-check-start-from-requires
 check-start-from-requires c κs = search needs

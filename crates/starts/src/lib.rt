@@ -1,0 +1,68 @@
+// The starts of document 01: plain, and from a lower bound. Each takes the run record by value and returns what it leaves.
+ghost use mathlib.Core.Path.{_≡_};
+ghost use Rattle.definitions.specs.Calls.{start, startFrom};
+ghost use Rattle.refusals.specs.Paper.{systemOf, stateOf, outcomeOf};
+ghost use Rattle.starts.specs.Begin.{begins};
+use refusals::Answer;
+use refusals::Check;
+use refusals::Outcome;
+use refusals::Record;
+use refusals::Solutions;
+use refusals::Steps;
+
+mod rows; // rows.rt: the rows that the starts write
+
+// The plain start.
+pub fn started(
+    p: usize,
+    q: usize,
+    coefs: &[i32],
+    stack: &mut [u32],
+    list: &mut [u32],
+    r: Record,
+) -> Outcome
+    ensures { λ o. ⌜ outcomeOf o (now (stack .exit)) (now (list .exit)) ≡ start (systemOf p q (now (coefs .entry))) (stateOf (now (stack .entry)) (now (list .entry)) r) ⌝ }
+{
+    match refusals::check_start(p, q, coefs, stack, list, r) {
+        Check::Refuse(why) => refusals::refused(why, r),
+        Check::Pass => {
+            rows::write_units(stack, q);
+            begun(q)
+        }
+    }
+}
+
+// The start from a lower bound.
+pub fn started_from(
+    p: usize,
+    q: usize,
+    coefs: &[i32],
+    stack: &mut [u32],
+    list: &mut [u32],
+    r: Record,
+    lower: &[u32],
+) -> Outcome
+    ensures { λ o. ⌜ outcomeOf o (now (stack .exit)) (now (list .exit)) ≡ startFrom (now (lower .entry)) (systemOf p q (now (coefs .entry))) (stateOf (now (stack .entry)) (now (list .entry)) r) ⌝ }
+{
+    match refusals::check_start_from(p, q, coefs, lower, stack, list, r) {
+        Check::Refuse(why) => refusals::refused(why, r),
+        Check::Pass => {
+            rows::write_lower(stack, q, lower);
+            begun(1)
+        }
+    }
+}
+
+// What a start that is not refused answers.
+fn begun(height: usize) -> Outcome
+    ensures { λ o. ⌜ o ≡ begins height ⌝ }
+{
+    Outcome {
+        answer: Answer::Started,
+        run: Record {
+            height,
+            found: Solutions(0),
+            steps: Steps(0),
+        },
+    }
+}
