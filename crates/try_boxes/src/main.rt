@@ -1,0 +1,173 @@
+// Small systems drawn in a fixed order, each solved by the walk and by trying every tuple of a box, plainly and from a lower bound. What the walk
+// lists is held against the minimal solutions of the box. It prints how much was compared, and how many rows were wrong or missing.
+use refusals::Answer;
+use refusals::Record;
+use refusals::Solutions;
+use refusals::Steps;
+use try_common::draws;
+use try_common::print;
+use try_common::tables;
+use try_common::up;
+use refusals::Outcome;
+
+mod boxes; // boxes.rt: the minimal solutions of a box
+mod compare; // compare.rt: a list held against a box
+
+const SYSTEMS: u64 = 3000;
+
+const BUDGET: u64 = 5000;
+
+// Runs made and finished; rows listed in the box and outside it, and those of them that should not be listed; minimal solutions that the boxes of
+// finished runs have, and those of them that are not listed.
+struct Tally {
+    runs: u64,
+    finished: u64,
+    inside: u64,
+    outside: u64,
+    wrong: u64,
+    minimal: u64,
+    missing: u64,
+}
+
+fn main() {
+    let none = Tally {
+        runs: 0,
+        finished: 0,
+        inside: 0,
+        outside: 0,
+        wrong: 0,
+        minimal: 0,
+        missing: 0,
+    };
+    print::line(b"systems", SYSTEMS);
+    print::text(b"plain\n");
+    report(runs(none, false));
+    print::text(b"from a lower bound\n");
+    report(runs(none, true));
+}
+
+fn report(t: Tally) {
+    print::line(b"runs", t.runs);
+    print::line(b"finished", t.finished);
+    print::line(b"rows in the box", t.inside);
+    print::line(b"rows outside the box", t.outside);
+    print::line(b"rows that should not be listed", t.wrong);
+    print::line(
+        b"minimal solutions in the boxes of finished runs",
+        t.minimal,
+    );
+    print::line(b"missing rows", t.missing);
+}
+
+// A run of each system.
+fn runs(none: Tally, bounded: bool) -> Tally {
+    let mut t = none;
+    let mut n: u64 = 0;
+    while n < SYSTEMS {
+        t = system(t, n, bounded);
+        n += 1;
+    }
+    t
+}
+
+// System n: 1 to 3 equations and 1 to 4 unknowns, with a lower bound of 0 to 3.
+fn system(t: Tally, n: u64, bounded: bool) -> Tally {
+    let p = (1 + draws::number(n, 0) % 3) as usize;
+    let q = (1 + draws::number(n, 1) % 4) as usize;
+    let mut coefs = [0i32; 12];
+    draw_coefficients(&mut coefs, n);
+    let mut lower = [0u32; 4];
+    draw_lower(&mut lower, n);
+    let entries = tables::place(p, q, 0);
+    if 12 < entries || 4 < q {
+        return t;
+    }
+    if bounded {
+        return solved(t, p, q, &coefs[0..entries], &lower[0..q]);
+    }
+    solved(t, p, q, &coefs[0..entries], &[])
+}
+
+// Coefficients of up to 1, 2, 3 or 6 in size.
+fn draw_coefficients(coefs: &mut [i32], n: u64) {
+    let most = match draws::number(n, 2) % 4 {
+        0 => 3,
+        1 => 5,
+        2 => 7,
+        _ => 13,
+    };
+    let mut i = 0;
+    while i < coefs.len() {
+        coefs[i] = draws::coefficient(draws::below(n, 16 + i as u64, most));
+        i += 1;
+    }
+}
+
+fn draw_lower(lower: &mut [u32], n: u64) {
+    let mut i = 0;
+    while i < lower.len() {
+        lower[i] = (draws::number(n, 8 + i as u64) % 4) as u32;
+        i += 1;
+    }
+}
+
+// A run of a system; an empty lower bound stands for a plain start.
+fn solved(t: Tally, p: usize, q: usize, coefs: &[i32], lower: &[u32]) -> Tally {
+    let mut list = [0u32; 4096];
+    let o = walked(p, q, coefs, lower, &mut list);
+    let mut minimal = [0u32; 4096];
+    let n = boxes::minimal(p, q, coefs, lower, &mut minimal);
+    compared(t, p, q, coefs, lower, o, &list, &minimal, n)
+}
+
+fn walked(p: usize, q: usize, coefs: &[i32], lower: &[u32], list: &mut [u32]) -> Outcome {
+    let mut stack = [0u32; 20];
+    let old = Record {
+        height: 0,
+        found: Solutions(0),
+        steps: Steps(0),
+    };
+    if lower.len() == 0 {
+        let o = starts::started(p, q, coefs, &mut stack, list, old);
+        return walk::resumed(p, q, coefs, &mut stack, list, o.run, BUDGET);
+    }
+    let o = starts::started_from(p, q, coefs, &mut stack, list, old, lower);
+    walk::resumed(p, q, coefs, &mut stack, list, o.run, BUDGET)
+}
+
+// The list of a run held against the first n rows of `minimal`.
+fn compared(
+    t: Tally,
+    p: usize,
+    q: usize,
+    coefs: &[i32],
+    lower: &[u32],
+    o: Outcome,
+    list: &[u32],
+    minimal: &[u32],
+    n: usize,
+) -> Tally {
+    let r = o.run;
+    let found = r.found;
+    let inside = compare::rows_inside(list, found.0, q);
+    let wrong = compare::wrong_rows(p, q, coefs, lower, list, found.0, minimal, n);
+    let answer = o.answer;
+    let finished = if let Answer::Complete = answer {
+        true
+    } else {
+        false
+    };
+    let missing = compare::missing_rows(list, found.0, q, minimal, n);
+    Tally {
+        runs: up(t.runs, true),
+        finished: up(t.finished, finished),
+        inside: std::num::wrapping_add_u64(t.inside, inside),
+        outside: std::num::wrapping_add_u64(
+            t.outside,
+            std::num::wrapping_sub_u64(found.0 as u64, inside),
+        ),
+        wrong: std::num::wrapping_add_u64(t.wrong, wrong),
+        minimal: std::num::wrapping_add_u64(t.minimal, if finished { n as u64 } else { 0 }),
+        missing: std::num::wrapping_add_u64(t.missing, if finished { missing } else { 0 }),
+    }
+}
