@@ -5,7 +5,7 @@ ghost use Rattle.definitions.specs.Tables.{frozen};
 ghost use Rattle.definitions.specs.Refusals.{startChecks, lowerChecks, resumeChecks};
 ghost use Rattle.refusals.specs.Paper.{systemOf, stateOf, checkOf, refuses};
 
-mod coefficients; // coefficients.rt: their range
+pub mod coefficients; // coefficients.rt: their range
 mod order; // order.rt: a run record and tables in order
 mod shape; // shape.rt: lengths and counts
 

@@ -6,6 +6,14 @@ pub fn coefficient(coefs: &[i32], i: usize) -> i64 {
     if i < coefs.len() { wide(coefs[i]) } else { 0 }
 }
 
+// The first n coefficients, or all where there are fewer.
+pub fn first(coefs: &[i32], n: usize) -> &[i32] {
+    if n < coefs.len() {
+        return &coefs[0..n];
+    }
+    &coefs[0..coefs.len()]
+}
+
 // The image of a tuple in equation i.
 pub fn image(q: usize, coefs: &[i32], tuple: &[u32], i: usize) -> i64 {
     let mut sum: i64 = 0;

@@ -41,6 +41,14 @@ pub fn row(table: &[u32], k: usize, width: usize, q: usize) -> &[u32] {
     &table[0..0]
 }
 
+// The first n entries, or all where there are fewer.
+pub fn first(table: &[u32], n: usize) -> &[u32] {
+    if n < table.len() {
+        return &table[0..n];
+    }
+    &table[0..table.len()]
+}
+
 // Whether a table's entries are those that another begins with.
 pub fn same(table: &[u32], other: &[u32]) -> bool {
     let mut i = 0;

@@ -1,0 +1,16 @@
+/* The baseline in C under the two names that the bench links it by: compiled with -O3, and with -O3 -march=native. */
+#ifndef BASELINE_H
+#define BASELINE_H
+
+#include <stddef.h>
+#include <stdint.h>
+
+typedef uint64_t start_call(size_t p, size_t q, const int32_t *coefs, size_t coefs_len, uint32_t *stack, size_t stack_len, uint32_t *list,
+                            size_t list_len, size_t *height, size_t *found, uint64_t *steps);
+typedef uint64_t resume_call(size_t p, size_t q, const int32_t *coefs, size_t coefs_len, uint32_t *stack, size_t stack_len, uint32_t *list,
+                             size_t list_len, size_t *height, size_t *found, uint64_t *steps, uint64_t budget);
+
+start_call baseline_start, native_start;
+resume_call baseline_resume, native_resume;
+
+#endif

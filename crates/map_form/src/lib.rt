@@ -1,0 +1,1 @@
+// The text form of a map: see specs/. No code.

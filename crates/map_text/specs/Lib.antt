@@ -1,0 +1,13 @@
+pub mod Answer
+pub mod Places
+pub mod ParseLaws
+pub mod NumberLaws
+pub mod SignLaws
+pub mod LineLaws
+pub mod StageLaws
+pub mod CopyLaws
+pub mod AnswerLaws
+pub mod DecimalLaws
+pub mod ReadLaws
+pub mod WriteLaws
+pub mod MapLaws

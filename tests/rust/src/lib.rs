@@ -1,0 +1,66 @@
+//! Compares the library with document 01: what the tests share.
+
+pub mod boxes; // every tuple of a small box, by code that does not walk
+pub mod draw; // drawn numbers, maps and states
+pub mod library; // the library's calls, wrapped
+pub mod model; // the same calls, in plain Rust straight from the document
+
+/// A map. Nothing here says that it is in order: the calls have to find out.
+#[derive(Clone, Debug, PartialEq, Eq)]
+pub struct System {
+    pub p: usize,
+    pub q: usize,
+    pub coefs: Vec<i32>,
+}
+
+/// All that is lent to a call: the two tables and the run record.
+#[derive(Clone, Debug, PartialEq, Eq)]
+pub struct State {
+    pub stack: Vec<u32>,
+    pub list: Vec<u32>,
+    pub height: usize,
+    pub found: usize,
+    pub steps: u64,
+}
+
+/// A call's answer; a refusal has the document's number, and 7 has its place.
+#[derive(Clone, Copy, Debug, PartialEq, Eq, PartialOrd, Ord)]
+pub enum Answer {
+    Started,
+    Complete,
+    Paused,
+    Refused { number: u8, value: usize },
+}
+
+/// What the reader answers.
+#[derive(Clone, Copy, Debug, PartialEq, Eq, PartialOrd, Ord)]
+pub enum Shown {
+    Row,
+    None,
+    Refused(u8),
+}
+
+impl System {
+    /// The map with these rows.
+    pub fn of(rows: &[&[i32]]) -> System {
+        System { p: rows.len(), q: rows[0].len(), coefs: rows.concat() }
+    }
+}
+
+impl State {
+    /// Tables for q unknowns and `room` rows, with no zeros in them, so that a place written too many shows.
+    pub fn blank(q: usize, room: usize) -> State {
+        State { stack: vec![0xa5a5_a5a5; q * (q + 1) + 3], list: vec![0x5a5a_5a5a; room * q + q / 2], height: 7, found: 8, steps: 9 }
+    }
+
+    /// The rows listed so far.
+    pub fn rows(&self, q: usize) -> Vec<Vec<u32>> {
+        self.list.chunks(q).take(self.found).map(<[u32]>::to_vec).collect()
+    }
+}
+
+impl Answer {
+    pub fn refused(number: u8) -> Answer {
+        Answer::Refused { number, value: 0 }
+    }
+}

@@ -1,0 +1,180 @@
+//! Document 01 in plain Rust, in its own order. Images are computed anew for each row, and nothing is shared with the library.
+
+use crate::{Answer, Shown, State, System};
+
+const COMPONENT_LIMIT: u32 = 1_000_000;
+const STEP_LIMIT: u64 = 1_000_000_000_000;
+
+type Check = Result<(), Answer>;
+
+fn refuse_if(condition: bool, number: u8) -> Check {
+    if condition {
+        Err(Answer::refused(number))
+    } else {
+        Ok(())
+    }
+}
+
+// ---- refusals before the walk
+
+fn check_shape(m: &System, s: &State) -> Check {
+    refuse_if(!(1..=8).contains(&m.p), 1)?;
+    refuse_if(!(1..=16).contains(&m.q), 2)?;
+    refuse_if(m.coefs.len() != m.p * m.q, 3)?;
+    refuse_if(s.stack.len() < m.q * (m.q + 1), 4)
+}
+
+fn check_order(m: &System, s: &State) -> Check {
+    refuse_if(s.height > m.q || s.found > room(m, s) || s.steps > STEP_LIMIT, 6)?;
+    for (k, row) in s.stack.chunks(m.q + 1).take(s.height).enumerate() {
+        let (tuple, marks) = row.split_at(m.q);
+        refuse_if(tuple.iter().any(|&x| x > COMPONENT_LIMIT), 6)?;
+        refuse_if((m.q..32).any(|j| marked(marks[0], j)), 6)?;
+        refuse_if((0..m.q).filter(|&j| marked(marks[0], j)).count() != k, 6)?;
+    }
+    Ok(())
+}
+
+fn check_coefficients(m: &System) -> Check {
+    match m.coefs.iter().position(|c| !(-10_000..=10_000).contains(c)) {
+        Some(place) => Err(Answer::Refused { number: 7, value: place + 1 }),
+        None => Ok(()),
+    }
+}
+
+// ---- the starts
+
+fn write_row(q: usize, stack: &mut [u32], k: usize, tuple: &[u32], marks: u32) {
+    let row = &mut stack[k * (q + 1)..(k + 1) * (q + 1)];
+    row[..q].copy_from_slice(tuple);
+    row[q] = marks;
+}
+
+fn try_start(m: &System, s: &mut State) -> Check {
+    check_shape(m, s)?;
+    check_coefficients(m)?;
+    for k in 0..m.q {
+        let unit: Vec<u32> = (0..m.q).map(|j| u32::from(j == k)).collect();
+        write_row(m.q, &mut s.stack, k, &unit, (0..k).map(|j| 1 << j).sum());
+    }
+    (s.height, s.found, s.steps) = (m.q, 0, 0);
+    Ok(())
+}
+
+fn try_start_from(m: &System, lower: &[u32], s: &mut State) -> Check {
+    check_shape(m, s)?;
+    refuse_if(lower.len() != m.q, 5)?;
+    check_coefficients(m)?;
+    refuse_if(lower.iter().any(|&x| x > COMPONENT_LIMIT), 8)?;
+    write_row(m.q, &mut s.stack, 0, lower, 0);
+    (s.height, s.found, s.steps) = (1, 0, 0);
+    Ok(())
+}
+
+pub fn start(m: &System, s: &mut State) -> Answer {
+    try_start(m, s).err().unwrap_or(Answer::Started)
+}
+
+pub fn start_from(m: &System, lower: &[u32], s: &mut State) -> Answer {
+    try_start_from(m, lower, s).err().unwrap_or(Answer::Started)
+}
+
+// ---- one step
+
+fn room(m: &System, s: &State) -> usize {
+    s.list.len() / m.q
+}
+
+fn marked(marks: u32, j: usize) -> bool {
+    marks >> j & 1 == 1
+}
+
+fn image(m: &System, tuple: &[u32]) -> Vec<i64> {
+    m.coefs.chunks(m.q).map(|row| row.iter().zip(tuple).map(|(&c, &x)| i64::from(c) * i64::from(x)).sum()).collect()
+}
+
+fn inner_product(m: &System, image: &[i64], j: usize) -> i64 {
+    image.iter().enumerate().map(|(i, &y)| y * i64::from(m.coefs[i * m.q + j])).sum()
+}
+
+fn at_or_below(a: &[u32], b: &[u32]) -> bool {
+    a.iter().zip(b).all(|(x, y)| x <= y)
+}
+
+fn raise(tuple: &[u32], j: usize) -> Vec<u32> {
+    let mut raised = tuple.to_vec();
+    raised[j] += 1;
+    raised
+}
+
+fn step(m: &System, s: &mut State) -> Check {
+    refuse_if(s.steps == STEP_LIMIT, 14)?;
+    let level = s.height - 1;
+    let top = s.stack[level * (m.q + 1)..][..m.q].to_vec();
+    let marks = s.stack[level * (m.q + 1) + m.q];
+    let image = image(m, &top);
+    if image.iter().all(|&y| y == 0) {
+        refuse_if(s.found == room(m, s), 11)?;
+        s.list[s.found * m.q..][..m.q].copy_from_slice(&top);
+        s.found += 1;
+        s.height -= 1;
+    } else {
+        let makes_child = |j: usize| {
+            let raised = raise(&top, j);
+            !marked(marks, j) && inner_product(m, &image, j) < 0 && !s.list.chunks(m.q).take(s.found).any(|row| at_or_below(row, &raised))
+        };
+        let made: Vec<usize> = (0..m.q).filter(|&j| makes_child(j)).collect();
+        refuse_if(made.iter().any(|&j| top[j] == COMPONENT_LIMIT), 12)?;
+        refuse_if(level + made.len() > m.q, 13)?;
+        let mut frozen = marks;
+        for (n, &j) in made.iter().enumerate() {
+            write_row(m.q, &mut s.stack, level + n, &raise(&top, j), frozen);
+            frozen |= 1 << j;
+        }
+        s.height = level + made.len();
+    }
+    s.steps += 1;
+    Ok(())
+}
+
+// ---- the continuing call
+
+fn try_resume(m: &System, s: &mut State, budget: u64) -> Result<Answer, Answer> {
+    check_shape(m, s)?;
+    check_order(m, s)?;
+    check_coefficients(m)?;
+    let mut left = budget;
+    loop {
+        if s.height == 0 {
+            return Ok(Answer::Complete);
+        }
+        if left == 0 {
+            return Ok(Answer::Paused);
+        }
+        step(m, s)?;
+        left -= 1;
+    }
+}
+
+pub fn resume(m: &System, s: &mut State, budget: u64) -> Answer {
+    try_resume(m, s, budget).unwrap_or_else(|refusal| refusal)
+}
+
+// ---- the reader
+
+pub fn row(list: &[u32], q: usize, found: usize, n: usize, out: &mut [u32]) -> Shown {
+    if !(1..=16).contains(&q) {
+        return Shown::Refused(2);
+    }
+    if n == 0 || n > found {
+        return Shown::None;
+    }
+    let Some(row) = list.chunks_exact(q).nth(n - 1) else {
+        return Shown::None;
+    };
+    if out.len() < q {
+        return Shown::Refused(29);
+    }
+    out[..q].copy_from_slice(row);
+    Shown::Row
+}
