@@ -1,6 +1,7 @@
 // Small systems drawn in a fixed order, each solved by the walk and by trying every tuple of a box, plainly and from a lower bound. What the walk
 // lists is held against the minimal solutions of the box. It prints how much was compared, and how many rows were wrong or missing.
 use refusals::Answer;
+use refusals::Outcome;
 use refusals::Record;
 use refusals::Solutions;
 use refusals::Steps;
@@ -8,7 +9,6 @@ use try_common::draws;
 use try_common::print;
 use try_common::tables;
 use try_common::up;
-use refusals::Outcome;
 
 mod boxes; // boxes.rt: the minimal solutions of a box
 mod compare; // compare.rt: a list held against a box

@@ -1,10 +1,10 @@
 // What holds after a run.
 use crate::runs;
 use refusals::Answer;
+use refusals::Outcome;
 use try_common::answers;
 use try_common::tables;
 use try_common::up;
-use refusals::Outcome;
 
 // How many series are made of a run: one for each pattern, or one alone of a long run.
 pub fn patterns(o: Outcome) -> u64 {

@@ -1,11 +1,11 @@
 // A run in one call, and as a series of calls.
 use refusals::Answer;
+use refusals::Outcome;
 use refusals::Record;
 use refusals::Solutions;
 use refusals::Steps;
 use try_common::answers;
 use try_common::tables;
-use refusals::Outcome;
 
 // The series of numbers that fill the tables before a run.
 pub const STACK: u64 = 1;

@@ -1,0 +1,47 @@
+-- `lines::refused_with` meets its contract. Assumes nothing.
+use native.Mathlib.Omega.{arith}
+use borrow.Author.Needs.{needs}
+use Rattle.report.specs.Put.{put-then}
+use Rattle.report.specs.Digits.{digits-64}
+use Rattle.report.proofs.lines.refused_with.Statement.{statement}
+use Rattle.report.proofs.lines.refused_with.Tie as tie
+
+slice-aggregate-word : tie.Need-slice-aggregate-word
+slice-aggregate-word c = search needs
+
+word-requires : tie.Need-word-requires
+word-requires c κs = search needs
+
+number-requires : tie.Need-number-requires
+number-requires c κs =
+    let w = c .before .before .before in
+    let s = w .before .before .before .before .before in
+    omega (arith, w .word .ensures .place, w .word .ensures .same, digits-64 (s .args .n) (s .fits .n .fits))
+
+counted-requires : tie.Need-counted-requires
+counted-requires c κs =
+    let n = c .before .before .before in
+    let w = n .before .before .before .before in
+    let s = w .before .before .before .before .before in
+    omega (arith, n .number .ensures .place, n .number .ensures .same, w .word .ensures .place, w .word .ensures .same, digits-64 (s .args .n) (s .fits .n .fits))
+
+same-length : tie.Need-same-length
+same-length c = search needs
+
+returns : tie.Need-returns
+returns c =
+    let k = c .before .before in
+    let n = k .before .before .before .before in
+    let w = n .before .before .before .before in
+    put-then (w .word .ensures) (put-then (n .number .ensures) (k .counted .ensures .0))
+
+pub refused-with-spec : {M : Type 1} → statement M
+refused-with-spec =
+    tie.close
+    (tie.spec
+    slice-aggregate-word
+    word-requires
+    number-requires
+    counted-requires
+    same-length
+    returns)

@@ -1,0 +1,42 @@
+-- Document 01's examples of what the program prints, by computation. Assumes nothing.
+use Prim.Native.String.{String}
+use mathlib.Core.List.{List, [], _∷_, map}
+use mathlib.Core.Path.{_≡_, refl}
+use Prim.Native.Nat.{ℕ}
+use Rattle.linear.specs.Sums.{sumTo}
+use Rattle.linear.specs.Tests.{allTo, anyTo, countTo}
+use Rattle.linear.specs.Tuples.{unit}
+use Rattle.linear.specs.Systems.{inner, value}
+use Rattle.definitions.specs.Answers.{refuseWith, _then_, refuseFirst}
+use Rattle.definitions.specs.System.{solves, isAtOrBelow, covered}
+use Rattle.definitions.specs.Tables.{bit, frozen, writeTo, writeRow, unitsTo, plainStart}
+use Rattle.definitions.specs.Step.{makes, marksTo, childrenTo, listed, grown, step}
+use Rattle.definitions.specs.Refusals.{rowInOrder, inOrder, check7, startChecks, resumeChecks, tooLarge, tooHigh, searchChecks}
+use Rattle.definitions.specs.Calls as calls
+use Rattle.definitions.specs.Calls.{start, unlessDone, walk, resume}
+use Rattle.map_form.specs.Form.{lastDigits, decimal, line, lines}
+use Rattle.map_form.specs.Reading.{andThen, moreDigits, readNatural, readNumber, readField, readLine, readRows, checked, acceptRows, readBody, readMap}
+use Rattle.report.specs.Printed.{bytes, counted, refusalText, counts, ending, runText, run, readingText, printed}
+
+-- a text, and what is printed for it
+abbrev Case : Type 0
+Case = String × String
+
+asPrinted : List Case → List (List ℕ)
+unfolding sumTo allTo anyTo countTo unit inner value refuseWith _then_ refuseFirst solves isAtOrBelow covered bit frozen writeTo writeRow unitsTo plainStart makes marksTo childrenTo listed grown step rowInOrder inOrder check7 startChecks resumeChecks tooLarge tooHigh searchChecks calls.checked start unlessDone walk resume lastDigits decimal line lines andThen moreDigits readNatural readNumber readField readLine readRows checked acceptRows readBody readMap counted refusalText counts ending runText run readingText printed
+asPrinted cases = map (λ (c : Case). printed (bytes (c .0))) cases
+
+asSaid : List Case → List (List ℕ)
+asSaid cases = map (λ (c : Case). bytes (c .1)) cases
+
+examples : List Case
+examples =
+    ("2 4\n-1 1 2 -3\n-1 3 -2 -1\n", "equations 2\nunknowns 4\nsteps 16\nsolutions 2\n0 1 1 1\n4 2 1 0\nend complete\n")
+    ∷ ("9 4\n", "refused 1\n")
+    ∷ ("2 4\n-1 1 2 -3\n", "refused 9 line 3\n")
+    ∷ ("2 4\n-1 1 2 -3\n10001 3 -2 -1\n", "refused 7 place 5\n")
+    ∷ []
+
+examples-printed : asPrinted examples ≡ asSaid examples
+unfolding asPrinted asSaid examples
+examples-printed = refl

@@ -1,0 +1,77 @@
+-- Document 01, "The program": the bytes that it prints for the bytes that it reads. Assumes nothing.
+use Prim.Native.Nat.{ℕ, zero, suc}
+use Prim.Native.Char.{code}
+use Prim.Native.String.{String, len, charAt}
+use mathlib.Core.Bool.{cond}
+use mathlib.Core.List.{List, [], _∷_, _++_, map}
+use lib.Dec.{eqb}
+use lib.IntN.{pos}
+use lib.ListN.{replicate}
+use Rattle.definitions.specs.Answers.{Answer, started, complete, paused, refused}
+use Rattle.definitions.specs.System.{System}
+use Rattle.definitions.specs.Tables.{State}
+use Rattle.definitions.specs.Calls.{Outcome, start, resume}
+use Rattle.map_form.specs.Form.{newline, decimal, lines}
+use Rattle.map_form.specs.Reading as reading
+use Rattle.map_form.specs.Reading.{Reading, readMap}
+
+-- ---- words
+
+-- k characters of a word, from place i on
+abbrev pub bytesFrom : ℕ → ℕ → String → List ℕ
+bytesFrom zero i word = []
+bytesFrom (suc k) i word = code (charAt word i) ∷ bytesFrom k (suc i) word
+
+-- the bytes of a word
+abbrev pub bytes : String → List ℕ
+bytes word = bytesFrom (len word) 0 word
+
+-- a line that ends with a number
+unfoldable pub counted : List ℕ → ℕ → List ℕ
+counted word n = word ++ (decimal n ++ newline ∷ [])
+
+-- ---- "An earlier refusal prints one line only: "refused 1", "refused 9 line 3", "refused 7 place 5"."
+
+-- 9 comes with a line, and 7 with a place
+abbrev pub valueWord : ℕ → List ℕ
+valueWord n = cond (eqb n 9) (bytes " line ") (bytes " place ")
+
+unfoldable pub refusalText : ℕ → List ℕ → List ℕ
+refusalText n [] = counted (bytes "refused ") n
+refusalText n (value ∷ others) = bytes "refused " ++ (decimal n ++ counted (valueWord n) value)
+
+-- ---- "p, q, steps taken, rows found, the rows in the order found, the ending."
+
+unfoldable pub counts : ℕ → ℕ → ℕ → ℕ → List ℕ
+counts p q steps found =
+    counted (bytes "equations ") p ++ (counted (bytes "unknowns ") q ++ (counted (bytes "steps ") steps ++ counted (bytes "solutions ") found))
+
+-- "The ending may also be "end paused" or "end refused 11" (12, 13 or 14)." No continuing call answers "started".
+unfoldable pub ending : Answer → List ℕ
+ending started = []
+ending complete = bytes "end complete\n"
+ending paused = bytes "end paused\n"
+ending (refused n values) = counted (bytes "end refused ") n
+
+unfoldable pub runText : ℕ → ℕ → Outcome → List ℕ
+runText p q o =
+    counts p q (o .state .steps) (o .state .found) ++ (lines (o .state .found) q (map pos (o .state .list)) ++ ending (o .answer))
+
+-- ---- the run
+
+-- what the program lends, before the start: 16 rows of 17 numbers for the stack, and "room for 8,192 numbers in the list"
+abbrev pub blank : State
+blank = record { stack = replicate 272 0; list = replicate 8192 0; height = 0; found = 0; steps = 0 }
+
+-- a plain start, and one continuing call: "It allows 1,000,000 steps"
+unfoldable pub run : System → Outcome
+run m = resume 1000000 m (start m blank .state)
+
+-- ---- the program
+
+unfoldable pub readingText : Reading → List ℕ
+readingText (reading.accepted p q coefs) = runText p q (run (record { p = p; q = q; coefs = coefs }))
+readingText (reading.refused n values) = refusalText n values
+
+unfoldable pub printed : List ℕ → List ℕ
+printed text = readingText (readMap text)

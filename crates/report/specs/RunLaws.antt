@@ -1,0 +1,121 @@
+-- The program's run: a map that is read is not refused before its walk, the rows found fit into the list, and the run does not end "started".
+-- Assumes nothing.
+use Prim.Native.Nat.{ℕ, zero, suc, _+_, _*_, _≤_, _<_}
+use mathlib.Core.Bool.{Bool, true, false}
+use mathlib.Core.List.{List}
+use mathlib.Core.Logic.{inl, inr}
+use mathlib.Core.Path.{_≡_, refl, ap, _∙_}
+use native.Mathlib.Nat.{mul-le-mul}
+use native.Mathlib.Omega.{arith}
+use lib.Dec.{eqb}
+use lib.IntN.{ℤ}
+use lib.ListN.{length}
+use borrow.Author.Tests.{eqb-false}
+use Rattle.definitions.specs.Answers.{Answer, started, complete, paused, refused, Check, refuse, go}
+use Rattle.definitions.specs.Calls.{Outcome, checked, start, unlessDone, walk, resume}
+use Rattle.definitions.specs.Refusals.{startChecks, resumeChecks, searchChecks}
+use Rattle.definitions.specs.Step.{step}
+use Rattle.definitions.specs.System.{System}
+use Rattle.definitions.specs.Tables.{State, plainStart}
+use Rattle.laws.specs.CallLaws.{resume-walks}
+use Rattle.laws.specs.RefusalLaws.{Valid, start-renders, start-shaped, resume-valid, search-going, valid-resume}
+use Rattle.laws.specs.ValidLaws.{found-fits, plain-valid, step-valid}
+use Rattle.map_form.specs.Form.{MapInRange}
+use Rattle.map_form.specs.Reading.{accepted, readMap}
+use Rattle.map_text.specs.MapLaws.{accepted-written}
+use Rattle.report.specs.Printed.{blank, run, runText, readingText, printed}
+
+-- ---- how a walk ends
+
+-- what holds of every way in which a call can end, and of what its work leaves, holds of what it leaves
+module _ (P : Outcome → Type 0) (s : State) (work : State → Outcome) where
+  checked-keeps : ((n : ℕ) (values : List ℕ) → P (record { answer = refused n values; state = s })) → (c : Check) → (c ≡ go → P (work s)) → P (checked c s work)
+  unfolding checked
+  checked-keeps p (refuse n values) h = p n values
+  checked-keeps p go h = h refl
+
+  unless-keeps : P (record { answer = complete; state = s }) → (b : Bool) → (b ≡ false → P (work s)) → P (unlessDone b s work)
+  unfolding unlessDone
+  unless-keeps p true h = p
+  unless-keeps p false h = h refl
+
+record Ended (m : System) (o : Outcome) : Type 0 where
+  valid : Valid m (o .state)
+  not-started : ¬ (o .answer ≡ started)
+
+apart : {a : Answer} → (a ≡ started → _≡_ {A = ℕ} 0 1) → ¬ (a ≡ started)
+apart h e = omega (arith, h e)
+
+high : (n : ℕ) → eqb n 0 ≡ false → 0 < n
+high zero e = absurd (eqb-false 0 0 e refl)
+high (suc n) e = omega arith
+
+walk-ended : (n : ℕ) (m : System) (s : State) → Valid m s → Ended m (walk n m s)
+unfolding walk
+walk-ended zero m s v =
+    unless-keeps (Ended m) s (λ t. record { answer = paused; state = t }) (record { valid = v; not-started = apart (λ e. cc) }) (eqb (s .height) 0)
+    (λ e. record { valid = v; not-started = apart (λ e. cc) })
+walk-ended (suc n) m s v =
+    unless-keeps (Ended m) s (λ t. checked (searchChecks m t) t (λ u. walk n m (step m u))) (record { valid = v; not-started = apart (λ e. cc) }) (eqb (s .height) 0)
+    (λ e. checked-keeps (Ended m) s (λ u. walk n m (step m u)) (λ k values. record { valid = v; not-started = apart (λ e. cc) }) (searchChecks m s) (λ f.
+    let h = high (s .height) e in walk-ended n m (step m s) (step-valid m s v h (search-going m s (v .ordered) h f))))
+
+-- ---- the rows found
+
+abbrev Fits : System → State → Type 0
+Fits m s = s .found * m .q ≤ length (s .list)
+
+resume-fits : (n : ℕ) (m : System) (s : State) → Fits m s → Fits m (resume n m s .state)
+unfolding resume
+resume-fits n m s l =
+    checked-keeps (λ o. Fits m (o .state)) s (walk n m) (λ k values. l) (resumeChecks m s)
+    (λ e. found-fits m _ (walk-ended n m s (resume-valid m s e) .valid))
+
+start-fits : (m : System) → Fits m (start m blank .state)
+unfolding start plainStart
+start-fits m =
+    checked-keeps (λ o. Fits m (o .state)) blank (λ t. record { answer = started; state = plainStart m t }) (λ k values. omega arith) (startChecks m blank)
+    (λ e. omega arith)
+
+run-fits : (m : System) → Fits m (run m .state)
+unfolding run
+run-fits m = resume-fits 1000000 m (start m blank .state) (start-fits m)
+
+-- the run, by the calls that the program makes
+module _ (m : System) {o : Outcome} where
+  pub ran-is : (begun : Outcome) → begun ≡ start m blank → o ≡ resume 1000000 m (begun .state) → o ≡ run m
+  unfolding run
+  ran-is begun e f = f ∙ ap (λ (b : Outcome). resume 1000000 m (b .state)) e
+
+  pub ran-fits : o ≡ run m → Fits m (o .state)
+  ran-fits e = rw e (run-fits m)
+
+-- ---- a map that is read
+
+module _ {p q : ℕ} {coefs : List ℤ} (r : MapInRange p q coefs) where
+  abbrev system : System
+  system = record { p = p; q = q; coefs = coefs }
+
+  starts : startChecks system blank ≡ go
+  starts =
+      start-renders system blank .silent (
+        λ o. elim o [ inl l ↦ omega (arith, r .p-some) | inr l ↦ omega (arith, r .p-few) ],
+        (
+          λ o. elim o [ inl l ↦ omega (arith, r .q-some) | inr l ↦ omega (arith, r .q-few) ],
+          (λ ne. ne (r .count), (λ l. omega (arith, mul-le-mul (r .q-few) (r .q-few), r .q-few), (λ i l h. omega (arith, r .range i l), tt))),
+        ),
+      )
+
+  valid : Valid system (plainStart system blank)
+  valid = plain-valid system blank (start-shaped system blank starts)
+
+  run-walks : run system ≡ walk 1000000 system (plainStart system blank)
+  unfolding run start checked
+  run-walks = rw starts (resume-walks system (plainStart system blank) 1000000 (valid-resume system (plainStart system blank) valid) .0)
+
+-- Neither the start nor the continuing call is refused before the walk, so that no "earlier refusal" is left to print; and the walk's answer is one of those that have an ending.
+pub map-printed : (t : List ℕ) {p q : ℕ} {coefs : List ℤ} → readMap t ≡ accepted p q coefs
+    → let m : System = record { p = p; q = q; coefs = coefs } in let o = walk 1000000 m (plainStart m blank) in (printed t ≡ runText p q o) × (¬ (o .answer ≡ started))
+unfolding printed readingText
+map-printed t {p} {q} {coefs} e =
+    let r = accepted-written t e .1 in (rw (e, run-walks r), walk-ended 1000000 _ _ (valid r) .not-started)
