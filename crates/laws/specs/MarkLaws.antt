@@ -1,12 +1,15 @@
--- Marks as bits: adding a mark that is not set, the marks of a step's children, the marks of the plain start, and counts of marks. Assumes nothing.
-use mathlib.Core.Path.{_≡_, refl, ap}
+-- Marks as bits: adding a mark that is not set, the marks of a step's children, the marks of the plain start, counts of marks, and marks as the machine takes
+-- them apart: the lowest one, the others, and those that are not among others. Assumes nothing.
+use mathlib.Core.Path.{_≡_, refl, sym, ap}
 use mathlib.Core.Logic.{_≢_, _⊎_, inl, inr}
-use mathlib.Core.Bool.{Bool}
-use Prim.Native.Nat.{ℕ, zero, suc, _+_, _*_, _-_, _/_, _%_, _^_, _≤_, _<_}
+use mathlib.Core.Bool.{Bool, not, _&&_}
+use Prim.Native.Nat.{ℕ, zero, suc, _+_, _*_, _-_, _/_, _%_, _^_, _≤_, _<_, min}
 use native.Mathlib.Nat.{one-le-pow, pow-le-pow-right, one-mul, mod-eq-of-lt}
 use native.Mathlib.Decide.{ℕ-discrete}
 use native.Mathlib.Omega.{arith}
-use lib.Dec.{T, lit<}
+use lib.Bits.{bitAnd, and-step}
+use lib.Count.{trailingZeros}
+use lib.Dec.{T, eqb, eqb→eq, lit<}
 use lib.Pow.{pow-lt}
 use Rattle.linear.specs.Cases.{below-suc, split}
 use Rattle.linear.specs.TestLaws.{T-dec, count-below, count-one-more, number-false, number-true}
@@ -187,7 +190,7 @@ bit-beyond K zero x h l = let e : K ≡ 0 = omega arith in rw e (bit-zero x)
 bit-beyond K (suc q) zero h l = absurd (omega arith)
 bit-beyond K (suc q) (suc x) h l = bit-beyond (K / 2) q x (omega arith) (omega arith)
 
-free-beyond : (K q x : ℕ) → K < 2 ^ q → q ≤ x → ¬ (T (frozen K x))
+pub free-beyond : (K q x : ℕ) → K < 2 ^ q → q ≤ x → ¬ (T (frozen K x))
 unfolding frozen
 free-beyond K q x h l y = rw (bit-beyond K q x h l) at y
 
@@ -215,3 +218,83 @@ count-frozen-half (suc d) marks = let e : frozen marks (suc d) ≡ frozen (marks
 
 pub shift-one : (k : ℕ) → k < 32 → (1 * 2 ^ k) % 4294967296 ≡ 2 ^ k
 shift-one k h = rw one-mul (mod-eq-of-lt (pow-lt h))
+
+-- ---- the lowest mark, which the machine finds by counting zeros, and the marks without one
+
+zeros-more : (K n : ℕ) → K % 2 ≡ 0 → ((j : ℕ) → j < n → bit (K / 2) j ≡ 0) → (j : ℕ) → j < suc n → bit K j ≡ 0
+unfolding bit
+zeros-more K n e h zero l = e
+zeros-more K n e h (suc j) l = h j (omega arith)
+
+lowest-bit : (k K : ℕ) → 0 < K → K < 2 ^ k → (trailingZeros k K < k) × (bit K (trailingZeros k K) ≡ 1) × ((j : ℕ) → j < trailingZeros k K → bit K j ≡ 0)
+unfolding trailingZeros bit
+lowest-bit zero K p h = absurd (omega arith)
+lowest-bit (suc k) K p h =
+    elim (split (K % 2) 1) [
+      | inl l ↦
+          let e : K % 2 ≡ 0 = omega arith in
+          let r = lowest-bit k (K / 2) (omega arith) (omega arith) in
+          rw e (omega (arith, r .0), r .1, zeros-more K (trailingZeros k (K / 2)) e (r .2))
+      | inr l ↦ let e : K % 2 ≡ 1 = omega arith in rw e (omega arith, e, λ j k. absurd (omega arith))
+    ]
+
+half-sub : (K n : ℕ) → (K - 2 ^ suc n) / 2 ≡ K / 2 - 2 ^ n
+half-sub K n = omega arith
+
+bit-sub : (K n : ℕ) → bit K n ≡ 1 → (2 ^ n ≤ K) × (bit (K - 2 ^ n) n ≡ 0)
+unfolding bit
+bit-sub K zero e = (omega arith, omega arith)
+bit-sub K (suc n) e = let r = bit-sub (K / 2) n e in (omega (arith, r .0), rw (half-sub K n) (r .1))
+
+set-bit : (K x : ℕ) → T (frozen K x) → bit K x ≡ 1
+unfolding frozen
+set-bit K x h = eqb→eq (bit K x) 1 h
+
+pub lowest-frozen : (k K : ℕ) → 0 < K → K < 2 ^ k → (trailingZeros k K < k) × T (frozen K (trailingZeros k K)) × ((j : ℕ) → j < trailingZeros k K → ¬ (T (frozen K j)))
+unfolding frozen
+lowest-frozen k K p h =
+    let r = lowest-bit k K p h in
+    (r .0, rw (r .1) tt, λ j l y. rw (r .2 j l) at y)
+
+module _ (K n : ℕ) (y : T (frozen K n)) where
+  pub frozen-le : 2 ^ n ≤ K
+  frozen-le = bit-sub K n (set-bit K n y) .0
+
+  pub frozen-gone : ¬ (T (frozen (K - 2 ^ n) n))
+  unfolding frozen
+  frozen-gone h = rw (bit-sub K n (set-bit K n y) .1) at h
+
+  pub frozen-others : (x : ℕ) → x ≢ n → frozen (K - 2 ^ n) x ≡ frozen K x
+  unfolding frozen
+  frozen-others x ne =
+      let e : K - 2 ^ n + 2 ^ n ≡ K = omega (arith, frozen-le) in
+      ap (λ b. eqb b 1) (sym (rw e at (bit-add-other (K - 2 ^ n) n x (bit-sub K n (set-bit K n y) .1) ne)))
+
+-- ---- marks that are not among others: the machine's `a & !b`
+
+bit-and : (a b j : ℕ) → bit (bitAnd a b) j ≡ min (bit a j) (bit b j)
+unfolding bit
+bit-and a b zero = omega (arith, and-step a b)
+bit-and a b (suc j) = let e : bitAnd a b / 2 ≡ bitAnd (a / 2) (b / 2) = omega (arith, and-step a b) in rw e (bit-and (a / 2) (b / 2) j)
+
+half-not : (k K : ℕ) → K < 2 ^ suc k → (2 ^ suc k - 1 - K) / 2 ≡ 2 ^ k - 1 - K / 2
+half-not k K h = omega arith
+
+bit-not : (k K j : ℕ) → K < 2 ^ k → j < k → bit (2 ^ k - 1 - K) j ≡ 1 - bit K j
+unfolding bit
+bit-not zero K j h l = absurd (omega arith)
+bit-not (suc k) K zero h l = omega arith
+bit-not (suc k) K (suc j) h l = rw (half-not k K h) (bit-not k (K / 2) j (omega arith) (omega arith))
+
+clear-test : (x y : ℕ) → x < 2 → y < 2 → eqb (min x (1 - y)) 1 ≡ eqb x 1 && not (eqb y 1)
+clear-test zero zero h l = refl
+clear-test zero (suc zero) h l = refl
+clear-test (suc zero) zero h l = refl
+clear-test (suc zero) (suc zero) h l = refl
+clear-test (suc (suc x)) y h l = absurd (omega arith)
+clear-test zero (suc (suc y)) h l = absurd (omega arith)
+clear-test (suc zero) (suc (suc y)) h l = absurd (omega arith)
+
+pub frozen-free : (k a b j : ℕ) → b < 2 ^ k → j < k → frozen (bitAnd a (2 ^ k - 1 - b)) j ≡ frozen a j && not (frozen b j)
+unfolding frozen
+frozen-free k a b j h l = rw (bit-and a (2 ^ k - 1 - b) j, bit-not k b j h l) (clear-test (bit a j) (bit b j) (bit-small a j) (bit-small b j))

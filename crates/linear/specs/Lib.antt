@@ -15,3 +15,4 @@ pub mod Choose
 pub mod Pigeonhole
 pub mod Interval
 pub mod Gram
+pub mod Copies

@@ -12,7 +12,6 @@ use map_text::TextRefusal;
 use refusals::Answer;
 use refusals::Outcome;
 use refusals::Record;
-use refusals::Refusal;
 use refusals::Solutions;
 use refusals::Steps;
 
@@ -100,26 +99,6 @@ fn ending(out: &mut [u8], at: usize, answer: Answer) -> usize
         Answer::Started => at,
         Answer::Complete => put::word(out, at, b"end complete\n"),
         Answer::Paused => put::word(out, at, b"end paused\n"),
-        Answer::Refused(why) => lines::counted(out, at, b"end refused ", number_of(why)),
-    }
-}
-
-// The number of a refusal.
-fn number_of(why: Refusal) -> u64
-    ensures { λ n. ⌜ n ≡ numberOf why ⌝ }
-{
-    match why {
-        Refusal::Equations => 1,
-        Refusal::Unknowns => 2,
-        Refusal::CoefficientCount => 3,
-        Refusal::StackLength => 4,
-        Refusal::BoundLength => 5,
-        Refusal::OutOfOrder => 6,
-        Refusal::Coefficient(_) => 7,
-        Refusal::BoundRange => 8,
-        Refusal::ListFull => 11,
-        Refusal::ComponentLimit => 12,
-        Refusal::StackFull => 13,
-        Refusal::StepLimit => 14,
+        Answer::Refused(why) => lines::counted(out, at, b"end refused ", refusals::number_of(why)),
     }
 }

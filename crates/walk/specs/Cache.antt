@@ -47,15 +47,12 @@ entry table k j = getD table (k * 16 + j) (pos 0)
 abbrev pub Rows : ℕ → ℕ → (ℕ → ℕ → ℤ) → List ℤ → Type 0
 Rows n q f table = (k j : ℕ) → k < n → j < q → entry table k j ≡ f k j
 
--- row k has been written, with f at its first n places, and no row before it
+-- row k has been written, with f at its first n places, and nothing else
 pub record Written (k n : ℕ) (f : ℕ → ℤ) (table₀ table : List ℤ) : Type 0 where
-  pub kept : (i : ℕ) → i < k * 16 → getD table i (pos 0) ≡ getD table₀ i (pos 0)
+  pub before : (i : ℕ) → i < k * 16 → getD table i (pos 0) ≡ getD table₀ i (pos 0)
   pub new : (j : ℕ) → j < n → entry table k j ≡ f j
+  pub after : (i : ℕ) → k * 16 + n ≤ i → getD table i (pos 0) ≡ getD table₀ i (pos 0)
   pub size : length table ≡ length table₀
-
--- v holds the first q places of row k
-pub record Level (table : List ℤ) (k q : ℕ) (v : List ℤ) : Type 0 where
-  pub same : (j : ℕ) → j < q → getD v j (pos 0) ≡ entry table k j
 
 -- ---- the Gram matrix, and the products of the rows on the stack
 
@@ -75,21 +72,22 @@ pub record Combined (q : ℕ) (g : List ℤ) (stack : List ℕ) (height : ℕ) (
   pub size : length c ≡ 256
   pub levels : Rows height q (λ k. combine q g (at stack (q + 1) k)) c
 
--- v holds those of one tuple x
-pub record Products (q : ℕ) (g : List ℤ) (x : ℕ → ℕ) (v : List ℤ) : Type 0 where
-  pub product : (j : ℕ) → j < q → getD v j (pos 0) ≡ combine q g x j
+-- v are those of one tuple x
+pub record Products (q : ℕ) (g : List ℤ) (x : ℕ → ℕ) (v : ℕ → ℤ) : Type 0 where
+  pub product : (j : ℕ) → j < q → v j ≡ combine q g x j
 
-pub record SmallProducts (q : ℕ) (v : List ℤ) : Type 0 where
-  pub small : (j : ℕ) → j < q → natAbs (getD v j (pos 0)) ≤ productLimit
+pub record SmallProducts (q : ℕ) (v : ℕ → ℤ) : Type 0 where
+  pub small : (j : ℕ) → j < q → natAbs (v j) ≤ productLimit
 
--- the products v of a tuple, with row i of g added: those of the tuple with unknown i raised (`raised-towards` of CacheLaws)
-abbrev pub raised : List ℤ → List ℤ → ℕ → ℕ → ℤ
-raised g v i j = getD v j (pos 0) +ℤ entry g i j
+-- the products v of a tuple, with row i of g added: those of the tuple with unknown i raised (`combine-raise` of CacheLaws)
+abbrev pub raised : List ℤ → (ℕ → ℤ) → ℕ → ℕ → ℤ
+raised g v i j = v j +ℤ entry g i j
 
--- level k of c is there for a child by unknown i, and the sums that it takes fit 64 bits
-pub record ChildRoom (q k i : ℕ) (c g parent : List ℤ) : Type 0 where
+-- level k of c is there for a child by unknown i of the row at level `from`, and the sums that it takes fit 64 bits
+pub record ChildRoom (q from k i : ℕ) (c g : List ℤ) : Type 0 where
   pub size : length c ≡ 256
+  pub below : from ≤ k
   pub level : k < 16
   pub unknown : i < q
   pub gram-small : SmallGram q g
-  pub parent-small : SmallProducts q parent
+  pub parent-small : SmallProducts q (entry c from)

@@ -8,7 +8,8 @@ use Prim.Native.Nat.{ℕ, _+_, _*_, _≤_, _<_}
 use native.Mathlib.Omega.{arith}
 use lib.Dec.{T, eqb→eq}
 use lib.IntN.{ℤ, pos, negsuc, _+ℤ_, _*ℤ_}
-use lib.ListN.{length, getD}
+use lib.ListN.{length}
+use Rattle.linear.specs.Cases.{order}
 use Rattle.linear.specs.Sums.{sum-cong}
 use Rattle.linear.specs.Tests.{allTo}
 use Rattle.linear.specs.TestLaws.{all-at, all-from, all-same, T-dec}
@@ -20,7 +21,7 @@ use Rattle.definitions.specs.System.{System, mostUnknowns, coefLimit, component
 use Rattle.definitions.specs.Tables.{at, writeRow}
 use Rattle.laws.specs.SystemLaws.{solves-solution, fails-fails}
 use Rattle.laws.specs.TableLaws.{row-other, row-tuple}
-use Rattle.walk.specs.Cache.{SmallSystem, gramLimit, entry, Written, Level, Gram, SmallGram, combine, Combined, Products, SmallProducts, raised}
+use Rattle.walk.specs.Cache.{SmallSystem, gramLimit, entry, Written, Gram, SmallGram, combine, Combined, Products, SmallProducts, raised}
 use Rattle.walk.specs.CacheSteps.{rows-next}
 
 -- ---- the Gram matrix of a system
@@ -56,14 +57,11 @@ module _ (q : ℕ) (g : List ℤ) where
       ∙ ap₂ _+ℤ_ (sym (combine-value x j)) (value-unit (λ k. entry g k j) i q l)
 
 module _ {q : ℕ} {g : List ℤ} where
-  -- what `level` ensures
-  pub level-products : {stack : List ℕ} {height : ℕ} {c : List ℤ} {k : ℕ} {v : List ℤ} → Combined q g stack height c → k < height → Level c k q v → Products q g (at stack (q + 1) k) v
-  level-products d l w = record { product = λ j h. w .same j h ∙ d .levels _ j l h }
+  -- those of a row on the stack
+  pub level-products : {stack : List ℕ} {height : ℕ} {c : List ℤ} {k : ℕ} {x : ℕ → ℕ} → Combined q g stack height c → k < height → Same q (at stack (q + 1) k) x → Products q g x (entry c k)
+  level-products {k} d l e = record { product = λ j h. d .levels k j l h ∙ combine-same q g e j }
 
-  pub products-same : {x y : ℕ → ℕ} {v : List ℤ} → Same q x y → Products q g x v → Products q g y v
-  products-same e d = record { product = λ j h. d .product j h ∙ combine-same q g e j }
-
-  pub products-small : {x : ℕ → ℕ} {v : List ℤ} → SmallGram q g → ((i : ℕ) → i < q → x i ≤ componentLimit) → Products q g x v → SmallProducts q v
+  pub products-small : {x : ℕ → ℕ} {v : ℕ → ℤ} → SmallGram q g → ((i : ℕ) → i < q → x i ≤ componentLimit) → Products q g x v → SmallProducts q v
   products-small {x} a h d =
       record {
         small = λ j l. rw (d .product j l) (omega (arith, a .unknowns, inner-bound q componentLimit gramLimit (λ i. pos (x i)) (λ i. entry g i j) h (λ i k. a .small i j k l)));
@@ -95,7 +93,7 @@ solves-products m x = same-test (solves m x) _ to from
         elim (T-dec (solves m x)) [ inl y ↦ y | inr n ↦ let (i, l, ne) = fails-fails m x n in absurd (ne (s i l)) ]
 
 -- what `vanish` ensures, for every system that has this Gram matrix
-pub vanish-solves : {m : System} {g : List ℤ} {x : ℕ → ℕ} {v : List ℤ} → Gram m g → Products (m .q) g x v → allTo (m .q) (λ j. isZero (getD v j (pos 0))) ≡ solves m x
+pub vanish-solves : {m : System} {g : List ℤ} {x : ℕ → ℕ} {v : ℕ → ℤ} → Gram m g → Products (m .q) g x v → allTo (m .q) (λ j. isZero (v j)) ≡ solves m x
 vanish-solves {m} {g} {x} h d = all-same (m .q) _ _ (λ j l. ap isZero (d .product j l ∙ combine-towards h x j l)) ∙ sym (solves-products m x)
 
 -- ---- the rows of a stack that changes
@@ -108,15 +106,30 @@ module _ {q : ℕ} {g : List ℤ} where
   combined-same e d = record { size = d .size; levels = λ k j l h. d .levels k j l h ∙ combine-same q g (λ i u. sym (e k i l u)) j }
 
   -- a child of x by unknown i on top of n rows: what `write_child` ensures
-  pub combined-child : {x : ℕ → ℕ} {v : List ℤ} {stack : List ℕ} {n : ℕ} {c₀ c : List ℤ} → Products q g x v → (i : ℕ) → i < q → (marks : ℕ) → q ≤ mostUnknowns → n * (q + 1) + (q + 1) ≤ length stack → Combined q g stack n c₀ → Written n q (raised g v i) c₀ c → Combined q g (writeRow q stack n (raise x i) marks) (n + 1) c
+  pub combined-child : {x : ℕ → ℕ} {v : ℕ → ℤ} {stack : List ℕ} {n : ℕ} {c₀ c : List ℤ} → Products q g x v → (i : ℕ) → i < q → (marks : ℕ) → q ≤ mostUnknowns → n * (q + 1) + (q + 1) ≤ length stack → Combined q g stack n c₀ → Written n q (raised g v i) c₀ c → Combined q g (writeRow q stack n (raise x i) marks) (n + 1) c
   combined-child {x} {stack} {n} {c₀} {c} p i l marks few room d w =
       let grown : List ℕ = writeRow q stack n (raise x i) marks in
       let kept : Combined q g grown n c₀ = combined-same (λ k j u t. row-other q stack n (raise x i) marks k j (omega arith) (omega arith)) d in
       record {
         size = w .size ∙ d .size;
         levels = rows-next {f = λ k. combine q g (at grown (q + 1) k)} {table₀ = c₀} {table = c} few (kept .levels) (record {
-          kept = w .kept;
+          before = w .before;
           new = λ j k. w .new j k ∙ ap (λ z. z +ℤ entry g i j) (p .product j k) ∙ sym (combine-raise q g x i j l) ∙ combine-same q g (λ e u. sym (row-tuple q stack n (raise x i) marks room e u)) j;
+          after = w .after;
           size = w .size;
         });
+      }
+
+  -- the child by unknown i of the row x at level n, in that row's place
+  pub combined-over : {x : ℕ → ℕ} {stack : List ℕ} {height n : ℕ} {c₀ c : List ℤ} → Products q g x (entry c₀ n) → n < height → (i : ℕ) → i < q → (marks : ℕ) → q ≤ mostUnknowns → n * (q + 1) + (q + 1) ≤ length stack → Combined q g stack height c₀ → Written n q (raised g (entry c₀ n) i) c₀ c → Combined q g (writeRow q stack n (raise x i) marks) height c
+  combined-over {x} {stack} {height} {n} {c₀} {c} p h i l marks few room d w =
+      record {
+        size = w .size ∙ d .size;
+        levels = λ k j u t. elim (order k n) [
+          | inl b ↦ w .before (k * 16 + j) (omega arith) ∙ d .levels k j u t ∙ combine-same q g (λ e v. sym (row-other q stack n (raise x i) marks k e (omega arith) (omega arith))) j
+          | inr o ↦ elim o [
+            | inl e ↦ rw e (w .new j t ∙ ap (λ z. z +ℤ entry g i j) (p .product j t) ∙ sym (combine-raise q g x i j l) ∙ combine-same q g (λ e v. sym (row-tuple q stack n (raise x i) marks room e v)) j)
+            | inr b ↦ w .after (k * 16 + j) (omega arith) ∙ d .levels k j u t ∙ combine-same q g (λ e v. sym (row-other q stack n (raise x i) marks k e (omega arith) (omega arith))) j
+          ]
+        ];
       }

@@ -20,7 +20,7 @@ use Rattle.linear.specs.Systems.{inner}
 use Rattle.linear.specs.SystemLaws.{inner-next, inner-bound}
 use Rattle.definitions.specs.System.{System, mostUnknowns, componentLimit, column, isZero}
 use Rattle.laws.specs.TableLaws.{row-fits}
-use Rattle.walk.specs.Cache.{SmallSystem, SmallRow, SmallRows, gramLimit, productLimit, entry, Rows, Written, Level, SmallGram, SmallProducts, raised}
+use Rattle.walk.specs.Cache.{SmallSystem, SmallRow, SmallRows, gramLimit, productLimit, entry, Rows, Written, SmallGram, SmallProducts, raised}
 
 -- ---- sums of products
 
@@ -91,48 +91,43 @@ small-row {q} {height} r k l =
 
 -- ---- the products of a child
 
--- the code's `parent[j] + gram[i * 16 + j]`, each number read from its bits
-abbrev pub childSum : List ℤ → List ℤ → ℕ → ℕ → ℤ
-childSum g v i j = toZ w64 (ofZ w64 (getD v j (pos 0))) +ℤ toZ w64 (ofZ w64 (entry g i j))
+-- the code's `z + gram[i * 16 + j]`, each number read from its bits
+abbrev pub childSum : List ℤ → ℤ → ℕ → ℕ → ℤ
+childSum g z i j = toZ w64 (ofZ w64 z) +ℤ toZ w64 (ofZ w64 (entry g i j))
 
-module _ {q : ℕ} {g v : List ℤ} (a : SmallGram q g) (b : SmallProducts q v) (i j : ℕ) (l : i < q) (k : j < q) where
-  child-is : childSum g v i j ≡ raised g v i j
+module _ {q : ℕ} {g : List ℤ} {v : ℕ → ℤ} (a : SmallGram q g) (b : SmallProducts q v) (i j : ℕ) (l : i < q) (k : j < q) {z : ℤ} (e : z ≡ v j) where
+  child-is : childSum g z i j ≡ raised g v i j
   child-is =
-      let f : SFits w64 (getD v j (pos 0)) = sfits-natAbs (omega (arith, b .small j k)) in
+      let f : SFits w64 (v j) = sfits-natAbs (omega (arith, b .small j k)) in
       let h : SFits w64 (entry g i j) = sfits-natAbs (omega (arith, a .small i j l k)) in
-      rw (toZ-ofZ f, toZ-ofZ h)
+      rw (e, toZ-ofZ f, toZ-ofZ h)
 
-  pub child-fits : SFits w64 (childSum g v i j)
-  child-fits = rw child-is (sfits-natAbs (omega (arith, natAbs-+ℤ (getD v j (pos 0)) (entry g i j), a .small i j l k, b .small j k)))
+  pub child-fits : SFits w64 (childSum g z i j)
+  child-fits = rw child-is (sfits-natAbs (omega (arith, natAbs-+ℤ (v j) (entry g i j), a .small i j l k, b .small j k)))
 
-  pub child-stored : toZ w64 (ofZ w64 (childSum g v i j)) ≡ raised g v i j
+  pub child-stored : toZ w64 (ofZ w64 (childSum g z i j)) ≡ raised g v i j
   child-stored = toZ-ofZ child-fits ∙ child-is
 
 -- ---- places and rows written
 
-pub level-next : {table : List ℤ} {k j : ℕ} {v : List ℤ} {x : ℤ} → Level table k j v → j < length v → x ≡ entry table k j
-    → Level table k (j + 1) (set v j x)
-level-next {table} {k} {j} {v} {x} w h e =
-    record {
-      same =
-          below-more (λ i. getD (set v j x) i (pos 0) ≡ entry table k i) j
-          (λ i l. getD-set-other v j i x (pos 0) (omega arith) ∙ w .same i l)
-          (getD-set-same v j x (pos 0) h ∙ e);
-    }
-
 module _ {k : ℕ} {f : ℕ → ℤ} {table₀ : List ℤ} where
   pub written-none : Written k 0 f table₀ table₀
-  written-none = record { kept = λ i l. refl; new = λ j l. absurd (omega arith); size = refl }
+  written-none = record { before = λ i l. refl; new = λ j l. absurd (omega arith); after = λ i l. refl; size = refl }
+
+  -- a place of a row up to k, that is read before place j of row k is written
+  pub written-ahead : {j from : ℕ} {table : List ℤ} → Written k j f table₀ table → from ≤ k → j < 16 → entry table from j ≡ entry table₀ from j
+  written-ahead {j} {from} w h l = elim (split from k) [ inl b ↦ w .before (from * 16 + j) (omega arith) | inr b ↦ w .after (from * 16 + j) (omega arith) ]
 
   pub written-next : {j : ℕ} {table : List ℤ} {x : ℤ} → Written k j f table₀ table → k * 16 + j < length table → x ≡ f j
       → Written k (j + 1) f table₀ (set table (k * 16 + j) x)
   written-next {j} {table} {x} w h e =
       record {
-        kept = λ i l. getD-set-other table (k * 16 + j) i x (pos 0) (omega arith) ∙ w .kept i l;
+        before = λ i l. getD-set-other table (k * 16 + j) i x (pos 0) (omega arith) ∙ w .before i l;
         new =
             below-more (λ i. entry (set table (k * 16 + j) x) k i ≡ f i) j
             (λ i l. getD-set-other table (k * 16 + j) (k * 16 + i) x (pos 0) (omega arith) ∙ w .new i l)
             (getD-set-same table (k * 16 + j) x (pos 0) h ∙ e);
+        after = λ i l. getD-set-other table (k * 16 + j) i x (pos 0) (omega arith) ∙ w .after i (omega arith);
         size = length-set table (k * 16 + j) x ∙ w .size;
       }
 
@@ -140,7 +135,7 @@ pub rows-next : {k q : ℕ} {f : ℕ → ℕ → ℤ} {table₀ table : List ℤ
     → Rows (k + 1) q f table
 rows-next {k} few r w i j l jq =
     elim (split i k) [
-      | inl h ↦ w .kept (i * 16 + j) (omega arith) ∙ r i j h jq
+      | inl h ↦ w .before (i * 16 + j) (omega arith) ∙ r i j h jq
       | inr h ↦ let e : i ≡ k = omega arith in rw e (w .new j jq)
     ]
 

@@ -1,6 +1,8 @@
 pub mod Rows
 pub mod RowLaws
+pub mod Covering
 pub mod Marks
+pub mod Scan
 pub mod Cache
 pub mod CacheSteps
 pub mod CacheLaws

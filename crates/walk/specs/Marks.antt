@@ -1,34 +1,24 @@
--- Marks as code tests and collects them: the machine's bit test, and the marks of the unknowns at which a test holds. Assumes nothing.
+-- Marks as code collects them: the marks of the unknowns at which a test holds. Assumes nothing.
 use mathlib.Core.Path.{_≡_, refl}
 use mathlib.Core.Logic.{_≢_, inl, inr}
-use mathlib.Core.Bool.{Bool, true, false}
-use Prim.Native.Nat.{ℕ, zero, suc, _+_, _*_, _/_, _%_, _^_, _<_}
-use native.Mathlib.Nat.{zero-add, div-one, div-div-eq-div-mul, pow-succ'}
+use mathlib.Core.Bool.{Bool, true, false, or-true}
+use Prim.Native.Nat.{ℕ, zero, suc, _+_, _*_, _%_, _^_, _≤_, _<_}
+use native.Mathlib.Nat.{zero-add, one-le-pow}
 use native.Mathlib.Numerals.{add-one}
 use native.Mathlib.Omega.{arith}
-use lib.Dec.{T}
+use lib.Dec.{T, lit<}
 use lib.Pow.{pow-mono}
-use borrow.Author.Tests.{eq-eqb, ne-eqb}
-use Rattle.linear.specs.Tests.{countTo}
+use Rattle.linear.specs.Cases.{split}
+use Rattle.linear.specs.Tests.{number, anyTo, countTo}
 use Rattle.linear.specs.TestLaws.{T-dec, number-true, number-false, count-same}
-use Rattle.definitions.specs.Tables.{bit, frozen}
+use Rattle.definitions.specs.Tables.{frozen}
 use Rattle.definitions.specs.Step.{marksTo}
-use Rattle.laws.specs.MarkLaws.{shift-one, bit-small, frozen-none, marks-only, marks-made}
+use Rattle.laws.specs.MarkLaws.{shift-one, frozen-none, marks-only, marks-made}
 
--- ---- the machine's test `(marks >> j) % 2`
-
-bit-shift : (marks j : ℕ) → marks / 2 ^ j % 2 ≡ bit marks j
-unfolding bit
-bit-shift marks zero = rw div-one
-bit-shift marks (suc j) = rw (pow-succ' 2 j, ← div-div-eq-div-mul) (bit-shift (marks / 2) j)
-
-pub is-frozen : (marks j : ℕ) → marks / 2 ^ j % 2 ≢ 0 → frozen marks j ≡ true
-unfolding frozen
-is-frozen marks j ne = eq-eqb (bit marks j) 1 (omega (arith, bit-shift marks j, bit-small marks j))
-
-pub is-free : (marks j : ℕ) → marks / 2 ^ j % 2 ≡ 0 → frozen marks j ≡ false
-unfolding frozen
-is-free marks j e = ne-eqb (bit marks j) 1 (omega (arith, bit-shift marks j))
+-- x marks those of the first q unknowns at which f holds, and no other
+pub record Marked (q : ℕ) (f : ℕ → Bool) (x : ℕ) : Type 0 where
+  pub below : x < 2 ^ q
+  pub at : (j : ℕ) → j < q → frozen x j ≡ f j
 
 -- ---- what the marks of a test say
 
@@ -45,6 +35,14 @@ pub marks-same : (n : ℕ) (f g : ℕ → Bool) → ((j : ℕ) → j < n → f j
 unfolding marksTo
 marks-same zero f g e = refl
 marks-same (suc n) f g e = rw (marks-same n f g (λ j l. e j (omega arith)), e n (omega arith))
+
+pub is-true : (b : Bool) → T b → b ≡ true
+is-true true h = refl
+is-true false h = absurd h
+
+pub is-false : (b : Bool) → ¬ (T b) → b ≡ false
+is-false true h = absurd (h tt)
+is-false false h = refl
 
 both-ways : (b c : Bool) → (T b → T c) → (T c → T b) → b ≡ c
 both-ways true true to from = refl
@@ -75,5 +73,53 @@ module _ (n : ℕ) (f : ℕ → Bool) (m : ℕ) (e : m ≡ marksTo n f) where
   unfolding marksTo
   marks-add l h = rw (shift-one n l, add-one, h) (omega arith)
 
+  -- added without a branch
+  pub marks-next : {r : ℕ} → r ≡ number (f n) * 2 ^ n → m + r ≡ marksTo (n + 1) f
+  unfolding marksTo
+  marks-next h = rw add-one (omega (arith, h))
+
+  pub marks-next-room : n < 16 → {r : ℕ} → r ≡ number (f n) * 2 ^ n → m + r < 65536
+  marks-next-room l h = omega (arith, marks-next h, marks-below (n + 1) f, pow-mono {i = n + 1} {j = 16} (omega arith))
+
   pub marks-room : n < 16 → m + (1 * 2 ^ n) % 4294967296 < 65536
   marks-room l = rw (shift-one n (omega arith)) (omega (arith, marks-below n f, pow-mono {i = suc n} {j = 16} l))
+
+-- ---- unknowns at which f does not hold are passed over
+
+pub marks-over : (f : ℕ → Bool) (n i : ℕ) → n ≤ i → ((j : ℕ) → n ≤ j → j < i → f j ≡ false) → marksTo i f ≡ marksTo n f
+unfolding marksTo
+marks-over f n zero l h = let e : n ≡ 0 = omega arith in rw e
+marks-over f n (suc i) l h =
+    elim (split n (suc i)) [
+      | inl k ↦ rw (h i (omega arith) (omega arith)) (omega (arith, marks-over f n i (omega arith) (λ j a b. h j a (omega arith))))
+      | inr k ↦ let e : n ≡ suc i = omega arith in rw e
+    ]
+
+pub count-over : (f : ℕ → Bool) (n i : ℕ) → n ≤ i → ((j : ℕ) → n ≤ j → j < i → f j ≡ false) → countTo i f ≡ countTo n f
+unfolding countTo
+count-over f n zero l h = let e : n ≡ 0 = omega arith in rw e
+count-over f n (suc i) l h =
+    elim (split n (suc i)) [
+      | inl k ↦ rw (h i (omega arith) (omega arith)) (omega (arith, count-over f n i (omega arith) (λ j a b. h j a (omega arith))))
+      | inr k ↦ let e : n ≡ suc i = omega arith in rw e
+    ]
+
+-- ---- whether there are any
+
+pub marks-any : (n : ℕ) (f : ℕ → Bool) → marksTo n f ≢ 0 → anyTo n f ≡ true
+unfolding marksTo anyTo
+marks-any zero f ne = absurd (ne refl)
+marks-any (suc n) f ne =
+    elim (T-dec (f n)) [
+      | inl y ↦ rw (is-true (f n) y) (or-true (anyTo n f))
+      | inr y ↦ rw (marks-any n f (λ e. ne (rw (e, number-false (f n) y) (omega arith))))
+    ]
+
+pub marks-none : (n : ℕ) (f : ℕ → Bool) → marksTo n f ≡ 0 → anyTo n f ≡ false
+unfolding marksTo anyTo
+marks-none zero f e = refl
+marks-none (suc n) f e =
+    elim (T-dec (f n)) [
+      | inl y ↦ let e′ : marksTo n f + 1 * 2 ^ n ≡ 0 = rw (number-true (f n) y) at e in absurd (omega (arith, e′, one-le-pow n 2 (lit< tt)))
+      | inr y ↦ rw (is-false (f n) y, marks-none n f (let e′ : marksTo n f + 0 * 2 ^ n ≡ 0 = rw (number-false (f n) y) at e in omega (arith, e′)))
+    ]

@@ -1,50 +1,51 @@
--- The ways through a step, from what its parts ensure: the top's tuple t and products v, the marks of the row, and the unknowns that make a child.
+-- The ways through a step, from what its parts ensure: the top's tuple t, the marks of the row, the candidates for a child, and the unknowns that make one.
 -- Assumes nothing.
 use mathlib.Core.Path.{_≡_, refl, sym, _∙_, ap}
-use mathlib.Core.Bool.{Bool, true, false, _&&_}
+use mathlib.Core.Logic.{_≢_}
+use mathlib.Core.Bool.{Bool, true, false, not, _&&_}
 use mathlib.Core.List.{List}
 use Prim.Native.Nat.{ℕ, _+_, _*_, _-_, _^_, _≤_, _<_}
 use native.Mathlib.Omega.{arith}
-use lib.Dec.{eqb}
+use lib.Dec.{T, eqb}
 use lib.IntN.{ℤ, pos}
 use lib.ListN.{length, getD}
-use borrow.Author.Tests.{lt-ltb, le-ltb}
+use lib.Signed.{ltZ}
+use borrow.Author.Tests.{le-ltb}
 use Rattle.linear.specs.Tests.{allTo, anyTo, countTo}
+use Rattle.linear.specs.TestLaws.{count-le}
 use Rattle.definitions.specs.System.{System, componentLimit, towards, isZero, solves}
 use Rattle.definitions.specs.Tables.{State, at, frozen}
 use Rattle.definitions.specs.Step.{top, makes, marksTo}
-use Rattle.laws.specs.MarkLaws.{count-frozen-fit}
+use Rattle.definitions.specs.Refusals.{tooLarge}
+use Rattle.laws.specs.MarkLaws.{marks-count}
+use Rattle.laws.specs.RefusalLaws.{RowInOrder}
 use Rattle.laws.specs.TableLaws.{row-fits, write-same}
 use Rattle.refusals.specs.Paper.{systemOf}
-use Rattle.refusals.specs.declared.Refusal.the-variants.{ComponentLimit, StackFull}
+use Rattle.refusals.specs.declared.Refusal.the-variants.{ComponentLimit}
 use Rattle.walk.specs.declared.step.Stepped.{Stepped}
 use Rattle.walk.specs.declared.step.Stepped.the-variants.{Grown, Refused}
 use Rattle.walk.specs.Rows.{tuple, Holds, Limited}
-use Rattle.walk.specs.Marks.{marks-below}
-use Rattle.walk.specs.Cache.{Level, Gram, Combined, Products}
-use Rattle.walk.specs.CacheLaws.{combine-towards, level-products, products-same, vanish-solves, combined-less}
-use Rattle.walk.specs.Grow.{madeBy, growTo}
-use Rattle.walk.specs.StateLaws.{marked-by, count-by, too-high-by, grown-by, too-large-by}
+use Rattle.walk.specs.Marks.{Marked, marks-any, marks-below, marks-counted, marks-frozen, marks-none}
+use Rattle.walk.specs.Cache.{Gram, Combined, Products, entry}
+use Rattle.walk.specs.CacheLaws.{combine-towards, level-products, vanish-solves, combined-less}
+use Rattle.walk.specs.Grow.{childBy, growTo}
+use Rattle.walk.specs.GrowLaws.{child-free, child-made}
+use Rattle.walk.specs.StateLaws.{made-by, count-by, too-high-by, grown-by, too-large-by}
+use Rattle.walk.specs.Pushed.{Parent}
 use Rattle.walk.specs.Listing.{isFull, listAnswer, listAfter, Enlisted}
-use Rattle.walk.specs.Taken.{Standing, Steps, Taken, stateAt, heightBy, step-full, step-listed, step-large, step-high, step-grown}
+use Rattle.walk.specs.Taken.{Standing, Steps, Taken, stateAt, heightBy, step-full, step-listed, step-large, step-grown}
 
 module _ {q : ℕ} {g : List ℤ} {stack list : List ℕ} {c : List ℤ} {height found : ℕ} (s : Standing q g stack list c height found) where
   -- the top's row lies in the stack table
   pub top-fits : (height - 1) * (q + 1) + (q + 1) ≤ length stack
   top-fits = omega (arith, s .high, s .low, s .long, row-fits (q + 1) (height - 1) q (omega (arith, s .high, s .low)))
 
-  pub top-marks : getD stack ((height - 1) * (q + 1) + q) 0 < 2 ^ q
-  top-marks = s .rows (height - 1) (omega (arith, s .high)) .fitting
+  top-row : RowInOrder q stack (height - 1)
+  top-row = s .rows (height - 1) (omega (arith, s .high))
 
-  module _ {t : List ℕ} (h : Holds q t stack ((height - 1) * (q + 1))) {v : List ℤ} (w : Level c (height - 1) q v) where
+  module _ {t : List ℕ} (h : Holds q t stack ((height - 1) * (q + 1))) where
     pub top-limited : Limited q (tuple t)
-    top-limited = record { at-most = λ j l. rw (h .same j l) (s .rows (height - 1) (omega (arith, s .high)) .small j l) }
-
-    pub top-products : Products q g (tuple t) v
-    top-products = products-same (λ j l. sym (h .same j l)) (level-products (s .cached) (omega (arith, s .high)) w)
-
-    pub below-top : Combined q g stack (height - 1) c
-    below-top = combined-less (s .cached) (omega (arith, s .high))
+    top-limited = record { at-most = λ j l. rw (h .same j l) (top-row .small j l) }
 
     -- for any system with this Gram matrix
     module _ (p : ℕ) (coefs : List ℤ) (gram : Gram (systemOf p q coefs) g) (n : ℕ) where
@@ -54,18 +55,21 @@ module _ {q : ℕ} {g : List ℤ} {stack list : List ℕ} {c : List ℤ} {height
       abbrev now : State
       now = stateAt stack list height found n
 
-      top-towards : (j : ℕ) → j < q → getD v j (pos 0) ≡ towards m (top m now) j
-      top-towards j l = level-products (s .cached) (omega (arith, s .high)) w .product j l ∙ combine-towards gram (top m now) j l
+      top-products : Products q g (top m now) (entry c (height - 1))
+      top-products = level-products (s .cached) (omega (arith, s .high)) (λ j l. refl)
 
-      solved-by : allTo q (λ j. isZero (getD v j (pos 0))) ≡ solves m (top m now)
-      solved-by = vanish-solves gram (level-products (s .cached) (omega (arith, s .high)) w)
+      top-towards : (j : ℕ) → j < q → entry c (height - 1) j ≡ towards m (top m now) j
+      top-towards j l = top-products .product j l ∙ combine-towards gram (top m now) j l
 
-      listing : (b : Bool) → isFull q found list ≡ b → allTo q (λ j. isZero (getD v j (pos 0))) ≡ true → {after : List ℕ} → after ≡ listAfter b q found (tuple t) list → Steps m now (listAnswer b) stack after
+      solved-by : allTo q (λ j. isZero (entry c (height - 1) j)) ≡ solves m (top m now)
+      solved-by = vanish-solves gram top-products
+
+      listing : (b : Bool) → isFull q found list ≡ b → allTo q (λ j. isZero (entry c (height - 1) j)) ≡ true → {after : List ℕ} → after ≡ listAfter b q found (tuple t) list → Steps m now (listAnswer b) stack after
       listing true f y e = rw e (step-full m now (sym solved-by ∙ y) f)
       listing false f y e = step-listed m now (sym solved-by ∙ y) f (e ∙ write-same q list (found * q) (h .same))
 
     -- the top is a solution
-    pub taken-solution : allTo q (λ j. isZero (getD v j (pos 0))) ≡ true → {r : Stepped} {after : List ℕ} → Enlisted q found (tuple t) list after r → Taken q g stack list height found r stack after c
+    pub taken-solution : allTo q (λ j. isZero (entry c (height - 1) j)) ≡ true → {r : Stepped} {after : List ℕ} → Enlisted q found (tuple t) list after r → Taken q g stack list height found r stack after c
     taken-solution y {r} {after} e =
         record {
           cached = rw (e .answers) (cached-by (isFull q found list));
@@ -74,51 +78,70 @@ module _ {q : ℕ} {g : List ℤ} {stack list : List ℕ} {c : List ℤ} {height
       where
         cached-by : (b : Bool) → Combined q g stack (heightBy (listAnswer b) (stateAt stack list height found 0)) c
         cached-by true = s .cached
-        cached-by false = below-top
+        cached-by false = combined-less (s .cached) (omega (arith, s .high))
 
-    -- the top is none, and `made` are the unknowns that make a child
-    module _ (no : allTo q (λ j. isZero (getD v j (pos 0))) ≡ false) {marks : ℕ} (row : marks ≡ getD stack ((height - 1) * (q + 1) + q) 0) {made : ℕ} (e : made ≡ marksTo q (madeBy q found (at list q) (tuple t) (λ j. getD v j (pos 0)) marks)) where
-      made-below : made < 2 ^ q
+    -- the top is none; `made` are the unknowns that make a child
+    module _ (no : allTo q (λ j. isZero (entry c (height - 1) j)) ≡ false) {marks : ℕ} (row : marks ≡ getD stack ((height - 1) * (q + 1) + q) 0) {candidates : ℕ} (are : Marked q (λ j. ltZ (entry c (height - 1) j) (pos 0) && not (frozen marks j)) candidates) {made : ℕ} (e : made ≡ marksTo q (childBy q found (at list q) (tuple t) candidates)) where
+      pub made-below : made < 2 ^ q
       made-below = rw e (marks-below q _)
 
-      pub made-count : countTo 32 (frozen made) ≡ countTo q (frozen made)
-      made-count = count-frozen-fit made q 32 (omega (arith, s .few)) made-below
+      abbrev child : ℕ → Bool
+      child = childBy q found (at list q) (tuple t) candidates
+
+      child-is : (p : ℕ) (coefs : List ℤ) → Gram (systemOf p q coefs) g → (n : ℕ) → (j : ℕ) → j < q → child j ≡ makes (systemOf p q coefs) (stateAt stack list height found n) j
+      child-is p coefs gram n j l =
+          child-made q found (at list q) (tuple t) candidates j (entry c (height - 1)) marks (are .at j l)
+          ∙ rw row (made-by (systemOf p q coefs) (stateAt stack list height found n) (h .same) (top-towards p coefs gram n) j l)
 
       made-is : (p : ℕ) (coefs : List ℤ) → Gram (systemOf p q coefs) g → (n : ℕ) → (j : ℕ) → j < q → frozen made j ≡ makes (systemOf p q coefs) (stateAt stack list height found n) j
-      made-is p coefs gram n = rw (e, row) (marked-by (systemOf p q coefs) (stateAt stack list height found n) (h .same) (top-towards p coefs gram n))
+      made-is p coefs gram n j l = rw e (marks-frozen q child j l) ∙ child-is p coefs gram n j l
 
-      pub taken-large : anyTo q (λ j. frozen made j && eqb (tuple t j) componentLimit) ≡ true → Taken q g stack list height found (Refused ComponentLimit) stack list c
-      taken-large l =
+      -- the parent's marks are as many as rows below it, and none of the children's, so the children have their rows
+      not-frozen : (j : ℕ) → j < q → T (child j) → ¬ (T (frozen marks j))
+      not-frozen j l y z = child-free q found (at list q) (tuple t) candidates j (ltZ (entry c (height - 1) j) (pos 0)) marks (are .at j l) y z
+
+      pub made-few : height - 1 + countTo q (frozen made) ≤ q
+      made-few =
+          let counted = marks-count marks child q not-frozen q (omega arith) in
+          let marked : countTo q (frozen marks) ≡ height - 1 = rw row (top-row .marked) in
+          let same : countTo q (frozen made) ≡ countTo q child = rw e (marks-counted q child) in
+          omega (arith, counted, marked, same, count-le (frozen (marks + marksTo q child)) q)
+
+      pub top-parent : Parent q g stack c (height - 1) (tuple t) marks
+      top-parent =
           record {
-            cached = s .cached;
-            steps = λ p coefs gram n.
-                let k = stateAt stack list height found n in
-                step-large (systemOf p q coefs) k (sym (solved-by p coefs gram n) ∙ no) (sym (too-large-by (systemOf p q coefs) k (h .same) (made-is p coefs gram n)) ∙ l);
+            few = s .few;
+            long = s .long;
+            small = top-limited;
+            fitting = rw row (top-row .fitting);
+            gram = s .gram;
+            row = record { tuple = λ j l. sym (h .same j l); marks-are = sym row };
+            cached = let up : height - 1 + 1 ≡ height = omega (arith, s .high) in rw up (s .cached);
           }
 
-      module _ (small : anyTo q (λ j. frozen made j && eqb (tuple t j) componentLimit) ≡ false) where
-        pub taken-high : q < height - 1 + countTo 32 (frozen made) → Taken q g stack list height found (Refused StackFull) stack list c
-        taken-high l =
+      module _ {large : ℕ} (d : large ≡ marksTo q (λ j. childBy q found (at list q) (tuple t) candidates j && eqb (tuple t j) componentLimit)) where
+        large-by : (p : ℕ) (coefs : List ℤ) → Gram (systemOf p q coefs) g → (n : ℕ) → anyTo q (λ j. child j && eqb (tuple t j) componentLimit) ≡ tooLarge (systemOf p q coefs) (stateAt stack list height found n)
+        large-by p coefs gram n = too-large-by (systemOf p q coefs) (stateAt stack list height found n) (h .same) (child-is p coefs gram n)
+
+        pub taken-large : large ≢ 0 → Taken q g stack list height found (Refused ComponentLimit) stack list c
+        taken-large ne =
             record {
               cached = s .cached;
               steps = λ p coefs gram n.
-                  let k = stateAt stack list height found n in
-                  let f = made-is p coefs gram n in
-                  step-high (systemOf p q coefs) k (sym (solved-by p coefs gram n) ∙ no)
-                  (sym (too-large-by (systemOf p q coefs) k (h .same) f) ∙ small)
-                  (sym (too-high-by (systemOf p q coefs) k f) ∙ lt-ltb q (height - 1 + countTo q (frozen made)) (omega (arith, made-count)));
+                  step-large (systemOf p q coefs) (stateAt stack list height found n) (sym (solved-by p coefs gram n) ∙ no)
+                  (sym (large-by p coefs gram n) ∙ marks-any q _ (rw d at ne));
             }
 
-        pub taken-grown : height - 1 + countTo 32 (frozen made) ≤ q → {r : ℕ} {after : List ℕ} {c′ : List ℤ} → r ≡ height - 1 + countTo q (frozen made) → after ≡ growTo q q stack (height - 1) (tuple t) marks (frozen made) → Combined q g after r c′ → Taken q g stack list height found (Grown r) after list c′
-        taken-grown l {r} {after} rise grow cached =
+        pub taken-grown : large ≡ 0 → {r : ℕ} {after : List ℕ} {c′ : List ℤ} → r ≡ height - 1 + countTo q (frozen made) → after ≡ growTo q q stack (height - 1) (tuple t) marks (frozen made) → Combined q g after r c′ → Taken q g stack list height found (Grown r) after list c′
+        taken-grown z {r} {after} rise grow cached =
             record {
               cached = cached;
               steps = λ p coefs gram n.
                   let k = stateAt stack list height found n in
                   let f = made-is p coefs gram n in
                   step-grown (systemOf p q coefs) k (sym (solved-by p coefs gram n) ∙ no)
-                  (sym (too-large-by (systemOf p q coefs) k (h .same) f) ∙ small)
-                  (sym (too-high-by (systemOf p q coefs) k f) ∙ le-ltb q (height - 1 + countTo q (frozen made)) (omega (arith, made-count)))
+                  (sym (large-by p coefs gram n) ∙ marks-none q _ (sym d ∙ z))
+                  (sym (too-high-by (systemOf p q coefs) k f) ∙ le-ltb q (height - 1 + countTo q (frozen made)) made-few)
                   (grow ∙ ap (λ x. growTo q q stack (height - 1) (tuple t) x (frozen made)) row ∙ grown-by (systemOf p q coefs) k (h .same) f)
                   (rise ∙ ap (λ x. height - 1 + x) (count-by (systemOf p q coefs) k f));
             }

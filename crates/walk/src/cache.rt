@@ -1,30 +1,32 @@
 // The inner products of the rows on the stack with every column. Raising an unknown adds a row of the Gram matrix to them, so they are computed
 // once for the rows that a call finds, and kept beside the stack: 16 numbers a level.
 ghost use mathlib.Core.Path.{_≡_};
-ghost use Prim.Native.Nat.{_+_, _*_, _≤_, _<_};
+ghost use mathlib.Core.Bool.{not, _&&_};
+ghost use Prim.Native.Nat.{_+_, _*_, _^_, _≤_, _<_};
 ghost use lib.IntN.{pos, _+ℤ_, _*ℤ_};
 ghost use lib.ListN.{length, getD};
+ghost use lib.Signed.{ltZ};
 ghost use mir.Syntax.{w64};
 ghost use mir.Val.{SFits};
-ghost use Rattle.linear.specs.Tests.{allTo};
+ghost use Rattle.linear.specs.Tests.{number, allTo};
 ghost use Rattle.linear.specs.Gram.{gram};
 ghost use Rattle.definitions.specs.System.{coef, isZero};
-ghost use Rattle.definitions.specs.Tables.{at};
+ghost use Rattle.definitions.specs.Tables.{at, frozen};
+ghost use Rattle.definitions.specs.Step.{marksTo};
 ghost use Rattle.refusals.specs.Paper.{systemOf};
-ghost use Rattle.walk.specs.Cache.{SmallSystem, SmallRow, SmallRows, Written, Level, Gram, SmallGram, combine, Combined, raised, ChildRoom};
+ghost use Rattle.walk.specs.Marks.{Marked};
+ghost use Rattle.walk.specs.Cache.{SmallSystem, SmallRow, SmallRows, entry, Written, Gram, SmallGram, combine, Combined, raised, ChildRoom};
 
-// The Gram matrix: the inner product of columns i and j at i * 16 + j.
-pub fn gram(p: usize, q: usize, coefs: &[i32]) -> [i64; 256]
-    requires { ⌜ SmallSystem (systemOf p q (now coefs)) ⌝ }
-    ensures { λ r. ⌜ Gram (systemOf p q (now (coefs .entry))) r ⌝ }
+// Writes the Gram matrix: the inner product of columns i and j at i * 16 + j.
+pub fn write_gram(p: usize, q: usize, coefs: &[i32], g: &mut [i64; 256])
+    requires { ⌜ SmallSystem (systemOf p q (now coefs)) × (length (now g) ≡ 256) ⌝ }
+    ensures { λ _. ⌜ Gram (systemOf p q (now (coefs .entry))) (now (g .exit)) ⌝ }
 {
-    let mut g = [0i64; 256];
     let mut i = 0;
     while i < q {
-        gram_row(p, q, coefs, i, &mut g);
+        gram_row(p, q, coefs, i, g);
         i += 1;
     }
-    g
 }
 
 // Row i of it.
@@ -74,19 +76,17 @@ fn natural(x: u32) -> i64
     x as i64
 }
 
-// The products of the rows on the stack, from the Gram matrix.
-pub fn products(q: usize, gram: &[i64; 256], stack: &[u32], height: usize) -> [i64; 256]
-    requires { ⌜ SmallGram q (now gram) ⌝ }
+// Writes the products of the rows on the stack, from the Gram matrix.
+pub fn write_products(q: usize, gram: &[i64; 256], stack: &[u32], height: usize, c: &mut [i64; 256])
+    requires { ⌜ SmallGram q (now gram) × (length (now c) ≡ 256) ⌝ }
     requires { ⌜ SmallRows q (now stack) height ⌝ }
-    ensures { λ r. ⌜ Combined q (now (gram .entry)) (now (stack .entry)) height r ⌝ }
+    ensures { λ _. ⌜ Combined q (now (gram .entry)) (now (stack .entry)) height (now (c .exit)) ⌝ }
 {
-    let mut c = [0i64; 256];
     let mut k = 0;
     while k < height {
-        products_row(q, gram, stack, k, &mut c);
+        products_row(q, gram, stack, k, c);
         k += 1;
     }
-    c
 }
 
 // Those of row k.
@@ -115,28 +115,14 @@ fn product(q: usize, gram: &[i64; 256], stack: &[u32], base: usize, j: usize) ->
     sum
 }
 
-// The products of the row at level k.
-pub fn level(c: &[i64; 256], k: usize, q: usize) -> [i64; 16]
+// Whether the products at level k are all 0: then, and only then, the row is a solution.
+pub fn vanish(c: &[i64; 256], k: usize, q: usize) -> bool
     requires { ⌜ (k < 16) × (q ≤ 16) ⌝ }
-    ensures { λ r. ⌜ Level (now (c .entry)) k q r ⌝ }
-{
-    let mut v = [0i64; 16];
-    let mut j = 0;
-    while j < q {
-        v[j] = c[k * 16 + j];
-        j += 1;
-    }
-    v
-}
-
-// Whether all are 0: then, and only then, the row is a solution.
-pub fn vanish(v: &[i64; 16], q: usize) -> bool
-    requires { ⌜ q ≤ 16 ⌝ }
-    ensures { λ r. ⌜ r ≡ allTo q (λ j. isZero (getD (now (v .entry)) j (pos 0))) ⌝ }
+    ensures { λ r. ⌜ r ≡ allTo q (λ j. isZero (entry (now (c .entry)) k j)) ⌝ }
 {
     let mut j = 0;
     while j < q {
-        if v[j] != 0 {
+        if c[k * 16 + j] != 0 {
             return false;
         }
         j += 1;
@@ -144,21 +130,45 @@ pub fn vanish(v: &[i64; 16], q: usize) -> bool
     true
 }
 
-// Writes the products of a child at level k: those of its parent, and the Gram row of the unknown that was raised.
-pub fn write_child(
-    c: &mut [i64; 256],
-    k: usize,
-    q: usize,
-    gram: &[i64; 256],
-    parent: &[i64; 16],
-    i: usize,
-)
-    requires { ⌜ ChildRoom q k i (now c) (now gram) (now parent) ⌝ }
-    ensures { λ _. ⌜ Written k q (raised (now (gram .entry)) (now (parent .entry)) i) (now (c .entry)) (now (c .exit)) ⌝ }
+// The unknowns that are not frozen by `marks` and whose product at level k is below zero, as marks.
+pub fn candidates(c: &[i64; 256], k: usize, q: usize, marks: u32) -> u32
+    requires { ⌜ (k < 16) × (q ≤ 16) ⌝ }
+    ensures { λ r. ⌜ Marked q (λ j. ltZ (entry (now (c .entry)) k j) (pos 0) && not (frozen marks j)) r ⌝ }
+{
+    below_zero(c, k, q) & !marks
+}
+
+// The unknowns whose product at level k is below zero, as marks.
+fn below_zero(c: &[i64; 256], k: usize, q: usize) -> u32
+    requires { ⌜ (k < 16) × (q ≤ 16) ⌝ }
+    ensures { λ r. ⌜ r ≡ marksTo q (λ j. ltZ (entry (now (c .entry)) k j) (pos 0)) ⌝ }
+{
+    let mut below: u32 = 0;
+    let mut j = 0;
+    while j < q {
+        below += sign(c[k * 16 + j], j);
+        j += 1;
+    }
+    below
+}
+
+// The mark of unknown j where its product is below zero.
+fn sign(product: i64, j: usize) -> u32
+    requires { ⌜ j < 32 ⌝ }
+    ensures { λ r. ⌜ r ≡ number (ltZ product (pos 0)) * 2 ^ j ⌝ }
+{
+    if product < 0 { 1 << j } else { 0 }
+}
+
+// Writes the products of a child at level k: those of its parent at level `from`, and the Gram row of the unknown that was raised. A child may
+// take its parent's level.
+pub fn write_child(c: &mut [i64; 256], from: usize, k: usize, q: usize, gram: &[i64; 256], i: usize)
+    requires { ⌜ ChildRoom q from k i (now c) (now gram) ⌝ }
+    ensures { λ _. ⌜ Written k q (raised (now (gram .entry)) (entry (now (c .entry)) from) i) (now (c .entry)) (now (c .exit)) ⌝ }
 {
     let mut j = 0;
     while j < q {
-        c[k * 16 + j] = parent[j] + gram[i * 16 + j];
+        c[k * 16 + j] = c[from * 16 + j] + gram[i * 16 + j];
         j += 1;
     }
 }

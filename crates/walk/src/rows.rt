@@ -7,18 +7,16 @@ ghost use Rattle.definitions.specs.System as system;
 ghost use Rattle.definitions.specs.Tables.{at, writeTo, writeRow};
 ghost use Rattle.walk.specs.Rows.{tuple, Holds};
 
-// The tuple that stands in the stack from place `base`.
-pub fn tuple_at(stack: &[u32], base: usize, q: usize) -> [u32; 16]
-    requires { ⌜ (q ≤ 16) × (base + q ≤ length (now stack)) ⌝ }
-    ensures { λ r. ⌜ Holds q r (now (stack .entry)) base ⌝ }
+// Copies the tuple that stands in the stack from place `base`.
+pub fn read(stack: &[u32], base: usize, q: usize, t: &mut [u32; 16])
+    requires { ⌜ (q ≤ 16) × (base + q ≤ length (now stack)) × (length (now t) ≡ 16) ⌝ }
+    ensures { λ _. ⌜ Holds q (now (t .exit)) (now (stack .entry)) base × (length (now (t .exit)) ≡ 16) ⌝ }
 {
-    let mut t = [0u32; 16];
     let mut j = 0;
     while j < q {
         t[j] = stack[base + j];
         j += 1;
     }
-    t
 }
 
 // Writes the tuple `t` into a table from place `base`.
@@ -46,14 +44,19 @@ pub fn write_child(stack: &mut [u32], k: usize, q: usize, t: &[u32; 16], i: usiz
 
 // Whether one of the first `found` rows of the list is at or below `t`.
 pub fn covered(list: &[u32], found: usize, q: usize, t: &[u32; 16]) -> bool
-    requires { ⌜ (q ≤ 16) × (found * q ≤ length (now list)) ⌝ }
+    requires { ⌜ (0 < q) × (q ≤ 16) × (found * q ≤ length (now list)) ⌝ }
     ensures { λ r. ⌜ r ≡ system.covered q found (at (now (list .entry)) q) (tuple (now (t .entry))) ⌝ }
 {
-    let mut i = 0;
-    'rows: while i < found {
-        let base = i * q;
-        i += 1;
-        let mut j = 0;
+    let first = t[0];
+    let end = found * q;
+    let mut next = 0;
+    'rows: while next < end {
+        let base = next;
+        next += q;
+        if first < list[base] {
+            continue 'rows;
+        }
+        let mut j = 1;
         while j < q {
             if t[j] < list[base + j] {
                 continue 'rows;

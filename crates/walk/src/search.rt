@@ -29,8 +29,11 @@ pub fn walk(
     let mut height = r.height;
     let mut found = r.found.0;
     let mut steps = r.steps.0;
-    let gram = cache::gram(p, q, coefs);
-    let mut products = cache::products(q, &gram, stack, height);
+    let mut gram = [0i64; 256];
+    cache::write_gram(p, q, coefs, &mut gram);
+    let mut products = [0i64; 256];
+    cache::write_products(q, &gram, stack, height, &mut products);
+    let mut top = [0u32; 16];
     let mut left = budget;
     while 0 < left {
         if height == 0 {
@@ -39,7 +42,16 @@ pub fn walk(
         if steps == 1000000000000 {
             return outcome(Answer::Refused(Refusal::StepLimit), height, found, steps);
         }
-        match step::take(q, &gram, stack, list, &mut products, height, found) {
+        match step::take(
+            q,
+            &gram,
+            stack,
+            list,
+            &mut products,
+            &mut top,
+            height,
+            found,
+        ) {
             Stepped::Listed => {
                 height -= 1;
                 found += 1;

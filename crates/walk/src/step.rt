@@ -2,18 +2,19 @@
 ghost use mathlib.Core.Path.{_≡_};
 ghost use mathlib.Core.Bool.{_&&_};
 ghost use Prim.Native.Nat.{_+_, _*_, _^_, _≤_, _<_};
+ghost use lib.Count.{trailingZeros};
 ghost use lib.Dec.{eqb};
-ghost use lib.IntN.{pos};
-ghost use lib.ListN.{length, getD};
-ghost use Rattle.linear.specs.Tests.{anyTo, countTo};
+ghost use lib.ListN.{length};
+ghost use Rattle.linear.specs.Tests.{countTo};
 ghost use Rattle.linear.specs.Tuples.{raise};
 ghost use Rattle.definitions.specs.System.{componentLimit, covered};
 ghost use Rattle.definitions.specs.Tables.{at, frozen};
 ghost use Rattle.definitions.specs.Step.{marksTo};
 ghost use Rattle.walk.specs.Rows.{tuple, Limited};
-ghost use Rattle.walk.specs.Grow.{madeBy, growTo};
+ghost use Rattle.walk.specs.Grow.{childBy, growTo};
 ghost use Rattle.walk.specs.Listing.{Enlisted};
-ghost use Rattle.walk.specs.Cache.{SmallGram, Products, Combined};
+ghost use Rattle.walk.specs.Cache.{Combined};
+ghost use Rattle.walk.specs.Pushed.{Parent, Others};
 ghost use Rattle.walk.specs.Taken.{Standing, Taken};
 use crate::cache;
 use crate::rows;
@@ -26,35 +27,41 @@ pub enum Stepped {
     Refused(Refusal),
 }
 
-// One step from a height above 0, the count of steps aside. `products` holds the inner products of the rows on the stack.
+// The unknowns that make a child, and those of them whose component is at its limit, as marks.
+pub struct Tried {
+    pub made: u32,
+    pub large: u32,
+}
+
+// One step from a height above 0, the count of steps aside. `products` holds the inner products of the rows on the stack; what `top` holds is
+// of no meaning. That a child never needs a row above q follows from the marks of the rows, so refusal 13 is not given.
 pub fn take(
     q: usize,
     gram: &[i64; 256],
     stack: &mut [u32],
     list: &mut [u32],
     products: &mut [i64; 256],
+    top: &mut [u32; 16],
     height: usize,
     found: usize,
 ) -> Stepped
-    requires { ⌜ Standing q (now gram) (now stack) (now list) (now products) height found ⌝ }
+    requires { ⌜ Standing q (now gram) (now stack) (now list) (now products) height found × (length (now top) ≡ 16) ⌝ }
     ensures { λ r. ⌜ Taken q (now (gram .entry)) (now (stack .entry)) (now (list .entry)) height found r (now (stack .exit)) (now (list .exit)) (now (products .exit)) ⌝ }
+    ensures { λ _. ⌜ length (now (top .exit)) ≡ 16 ⌝ }
 {
     let level = height - 1;
     let base = level * (q + 1);
-    let top = rows::tuple_at(stack, base, q);
-    let v = cache::level(products, level, q);
-    if cache::vanish(&v, q) {
-        return enlist(list, found, q, &top);
+    rows::read(stack, base, q, top);
+    if cache::vanish(products, level, q) {
+        return enlist(list, found, q, top);
     }
     let marks = stack[base + q];
-    let made = children(list, found, q, top, &v, marks);
-    if too_large(q, &top, made) {
+    let candidates = cache::candidates(products, level, q, marks);
+    let tried = children(list, found, q, top, candidates);
+    if tried.large != 0 {
         return Stepped::Refused(Refusal::ComponentLimit);
     }
-    if q < level + refusals::count_marks(made) {
-        return Stepped::Refused(Refusal::StackFull);
-    }
-    Stepped::Grown(push(q, gram, stack, products, level, &top, &v, marks, made))
+    Stepped::Grown(push(q, gram, stack, products, level, top, marks, tried.made))
 }
 
 // Lists a solution where there is room.
@@ -69,62 +76,47 @@ fn enlist(list: &mut [u32], found: usize, q: usize, top: &[u32; 16]) -> Stepped
     Stepped::Listed
 }
 
-// The unknowns that make a child, as marks.
-fn children(list: &[u32], found: usize, q: usize, top: [u32; 16], v: &[i64; 16], marks: u32) -> u32
-    requires { ⌜ (q ≤ 16) × (found * q ≤ length (now list)) ⌝ }
-    requires { ⌜ Limited q (tuple top) ⌝ }
-    ensures { λ r. ⌜ r ≡ marksTo q (madeBy q found (at (now (list .entry)) q) (tuple top) (λ j. getD (now (v .entry)) j (pos 0)) marks) ⌝ }
+// Which of the `candidates` unknowns make a child.
+fn children(list: &[u32], found: usize, q: usize, top: &mut [u32; 16], candidates: u32) -> Tried
+    requires { ⌜ (0 < q) × (q ≤ 16) × (found * q ≤ length (now list)) × (length (now top) ≡ 16) × (candidates < 2 ^ q) ⌝ }
+    requires { ⌜ Limited q (tuple (now top)) ⌝ }
+    ensures { λ r. ⌜ r .made ≡ marksTo q (childBy q found (at (now (list .entry)) q) (tuple (now (top .entry))) candidates) ⌝ }
+    ensures { λ r. ⌜ r .large ≡ marksTo q (λ j. childBy q found (at (now (list .entry)) q) (tuple (now (top .entry))) candidates j && eqb (tuple (now (top .entry)) j) componentLimit) ⌝ }
+    ensures { λ _. ⌜ now (top .exit) ≡ now (top .entry) ⌝ }
 {
     let mut made: u32 = 0;
-    let mut j = 0;
-    while j < q {
-        let at = j;
-        j += 1;
-        if (marks >> at) % 2 != 0 {
+    let mut large: u32 = 0;
+    let mut rest = candidates;
+    while rest != 0 {
+        let i = u32::trailing_zeros(rest) as usize;
+        let bit: u32 = 1 << i;
+        rest -= bit;
+        if blocked(list, found, q, top, i) {
             continue;
         }
-        if v[at] >= 0 {
-            continue;
-        }
-        if blocked(list, found, q, top, at) {
-            continue;
-        }
-        let bit: u32 = 1 << at;
         made += bit;
+        if top[i] < 1000000 {
+            continue;
+        }
+        large += bit;
     }
-    made
+    Tried { made, large }
 }
 
-// Whether the list has a row at or below `t` with component i raised by one.
-fn blocked(list: &[u32], found: usize, q: usize, mut t: [u32; 16], i: usize) -> bool
-    requires { ⌜ (i < q) × (q ≤ 16) × (found * q ≤ length (now list)) × (tuple t i + 1 < 2 ^ 32) ⌝ }
-    ensures { λ r. ⌜ r ≡ covered q found (at (now (list .entry)) q) (raise (tuple t) i) ⌝ }
+// Whether the list has a row at or below `t` with component i raised by one; `t` is as before afterwards.
+fn blocked(list: &[u32], found: usize, q: usize, t: &mut [u32; 16], i: usize) -> bool
+    requires { ⌜ (i < q) × (q ≤ 16) × (found * q ≤ length (now list)) × (length (now t) ≡ 16) × (tuple (now t) i + 1 < 2 ^ 32) ⌝ }
+    ensures { λ r. ⌜ r ≡ covered q found (at (now (list .entry)) q) (raise (tuple (now (t .entry))) i) ⌝ }
+    ensures { λ _. ⌜ now (t .exit) ≡ now (t .entry) ⌝ }
 {
     t[i] += 1;
-    rows::covered(list, found, q, &t)
+    let r = rows::covered(list, found, q, t);
+    t[i] -= 1;
+    r
 }
 
-// Whether a child would have a component above 1,000,000.
-fn too_large(q: usize, top: &[u32; 16], made: u32) -> bool
-    requires { ⌜ q ≤ 16 ⌝ }
-    requires { ⌜ Limited q (tuple (now top)) ⌝ }
-    ensures { λ r. ⌜ r ≡ anyTo q (λ j. frozen made j && eqb (tuple (now (top .entry)) j) componentLimit) ⌝ }
-{
-    let mut j = 0;
-    while j < q {
-        let at = j;
-        j += 1;
-        if (made >> at) % 2 == 0 {
-            continue;
-        }
-        if 1000000 <= top[at] {
-            return true;
-        }
-    }
-    false
-}
-
-// Writes the children's rows and products from `level` up, and returns the height that they reach.
+// Writes the children's rows and products from `level` up, and returns the height that they reach. The first child takes its parent's place, so
+// it comes last, when no other needs the parent.
 fn push(
     q: usize,
     gram: &[i64; 256],
@@ -132,28 +124,51 @@ fn push(
     products: &mut [i64; 256],
     level: usize,
     top: &[u32; 16],
-    v: &[i64; 16],
     marks: u32,
     made: u32,
 ) -> usize
-    requires { ⌜ (q ≤ 16) × (q * (q + 1) ≤ length (now stack)) × (level + countTo q (frozen made) ≤ q) × (marks < 2 ^ q) ⌝ }
-    requires { ⌜ Limited q (tuple (now top)) × SmallGram q (now gram) × Products q (now gram) (tuple (now top)) (now v) × Combined q (now gram) (now stack) level (now products) ⌝ }
+    requires { ⌜ Parent q (now gram) (now stack) (now products) level (tuple (now top)) marks ⌝ }
+    requires { ⌜ (level + countTo q (frozen made) ≤ q) × (made < 2 ^ q) ⌝ }
     ensures { λ r. ⌜ r ≡ level + countTo q (frozen made) ⌝ }
     ensures { λ _. ⌜ now (stack .exit) ≡ growTo q q (now (stack .entry)) level (tuple (now (top .entry))) marks (frozen made) ⌝ }
     ensures { λ r. ⌜ Combined q (now (gram .entry)) (now (stack .exit)) r (now (products .exit)) ⌝ }
 {
-    let mut h = level;
-    let mut frozen = marks;
-    let mut j = 0;
-    while j < q {
-        let at = j;
-        j += 1;
-        if (made >> at) % 2 == 0 {
-            continue;
-        }
-        rows::write_child(stack, h, q, top, at, frozen);
-        cache::write_child(products, h, q, gram, v, at);
-        let bit: u32 = 1 << at;
+    if made == 0 {
+        return level;
+    }
+    let first = u32::trailing_zeros(made) as usize;
+    let height = push_others(q, gram, stack, products, level, top, marks, made, first);
+    stack[level * (q + 1) + first] += 1;
+    cache::write_child(products, level, level, q, gram, first);
+    height
+}
+
+// Writes those of all children but the first.
+fn push_others(
+    q: usize,
+    gram: &[i64; 256],
+    stack: &mut [u32],
+    products: &mut [i64; 256],
+    level: usize,
+    top: &[u32; 16],
+    marks: u32,
+    made: u32,
+    first: usize,
+) -> usize
+    requires { ⌜ Parent q (now gram) (now stack) (now products) level (tuple (now top)) marks ⌝ }
+    requires { ⌜ (level + countTo q (frozen made) ≤ q) × (made < 2 ^ q) × (0 < made) × (first ≡ trailingZeros 32 made) ⌝ }
+    ensures { λ r. ⌜ Others q (now (stack .entry)) level (tuple (now (top .entry))) marks (frozen made) first (now (gram .entry)) (now (stack .exit)) (now (products .exit)) r ⌝ }
+{
+    let bit: u32 = 1 << first;
+    let mut rest = made - bit;
+    let mut frozen = marks + bit;
+    let mut h = level + 1;
+    while rest != 0 {
+        let i = u32::trailing_zeros(rest) as usize;
+        let bit: u32 = 1 << i;
+        rest -= bit;
+        rows::write_child(stack, h, q, top, i, frozen);
+        cache::write_child(products, level, h, q, gram, i);
         frozen += bit;
         h += 1;
     }

@@ -5,7 +5,7 @@ use native.Mathlib.Nat.{le-antisymm, sub-zero, zero-mul}
 use native.Mathlib.Omega.{arith}
 use borrow.Author.Needs.{needs}
 use lib.IntN.{pos}
-use lib.ListN.{length, drop}
+use lib.ListN.{drop}
 use Rattle.laws.specs.TableLaws.{row-fits}
 use Rattle.map_form.specs.Form.{lines}
 use Rattle.report.specs.Put.{Rest, rest-begins, rest-next, rest-ends}

@@ -1,5 +1,4 @@
 -- `steps::walked` is safe and ends: one step of the budget a turn, and the tables keep their lengths. Assumes nothing.
-use Prim.Native.Nat.{_-_}
 use mathlib.Core.Path.{_≡_}
 use lib.ListN.{length}
 use borrow.Author.Needs.{needs}

@@ -1,5 +1,5 @@
 -- `slices::repeat` is safe and ends: it writes one byte a turn, and the slice keeps its length. Assumes nothing.
-use Prim.Native.Nat.{_≤_, _-_}
+use Prim.Native.Nat.{_-_}
 use mathlib.Core.Path.{_≡_}
 use lib.ListN.{length}
 use borrow.Author.Needs.{needs}

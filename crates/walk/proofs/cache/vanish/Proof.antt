@@ -7,22 +7,21 @@ use denote.Ref.{now}
 use borrow.Author.Needs.{needs, sfits-of}
 use borrow.Author.Count.{below-none, below-more}
 use lib.Dec.{T}
-use lib.IntN.{pos}
-use lib.ListN.{getD}
 use mir.Syntax.{w64}
 use mir.Val.{ofZ}
 use Rattle.linear.specs.TestLaws.{all-at, all-from}
 use Rattle.definitions.specs.System.{isZero}
+use Rattle.walk.specs.Cache.{entry}
 use Rattle.walk.specs.CacheSteps.{zero-bits}
 use Rattle.walk.specs.CacheLaws.{same-test, is-zero}
 use Rattle.walk.proofs.cache.vanish.Statement.{statement}
 use Rattle.walk.proofs.cache.vanish.Tie as tie
 
 abbrev Inv-loop : tie.InvT-loop
-Inv-loop v q j₀ j = (j ≤ q) × ((i : ℕ) → i < j → T (isZero (getD v i (pos 0))))
+Inv-loop c k q j₀ j = (j ≤ q) × ((i : ℕ) → i < j → T (isZero (entry c k i)))
 
 abbrev μ-loop : tie.MeasureT-loop
-μ-loop v q j₀ j = q - j
+μ-loop c k q j₀ j = q - j
 
 loop-holds : tie.Need-loop-holds Inv-loop μ-loop
 loop-holds c = (search needs, below-none _)
@@ -30,13 +29,19 @@ loop-holds c = (search needs, below-none _)
 mul-if1 : tie.Need-mul-if1 Inv-loop μ-loop
 mul-if1 c = search needs
 
+add-if1 : tie.Need-add-if1 Inv-loop μ-loop
+add-if1 c = search needs
+
+mul-if1-2 : tie.Need-mul-if1-2 Inv-loop μ-loop
+mul-if1-2 c = search needs
+
 element-copy-out-if1 : tie.Need-element-copy-out-if1 Inv-loop μ-loop
 element-copy-out-if1 c = search needs
 
 returns : tie.Need-returns Inv-loop μ-loop
 returns c =
     let l = c .before .before in
-    let z = getD (now (l .before .before .args .v)) (l .before .loop .j) (pos 0) in
+    let z = entry (now (l .before .before .args .c)) (l .before .before .args .k) (l .before .loop .j) in
     same-test false _ (λ h. absurd h) (λ h. c .if1 .taken (ap (ofZ w64) (is-zero z (all-at _ _ h _ (l .loop-test .taken)))))
 
 add-j : tie.Need-add-j Inv-loop μ-loop
@@ -48,7 +53,7 @@ loop-less c = search needs
 loop-again : tie.Need-loop-again Inv-loop μ-loop
 loop-again c =
     let a = c .before .before .before in
-    let z = getD (now (a .before .args .v)) (a .loop .j) (pos 0) in
+    let z = entry (now (a .before .args .c)) (a .before .args .k) (a .loop .j) in
     (search needs, below-more _ _ (a .loop .inv .1) (zero-bits z (sfits-of (c .before .if12 .given)) (c .if1 .left)))
 
 returns-2 : tie.Need-returns-2 Inv-loop μ-loop
@@ -64,6 +69,8 @@ vanish-spec =
     μ-loop
     loop-holds
     mul-if1
+    add-if1
+    mul-if1-2
     element-copy-out-if1
     returns
     add-j

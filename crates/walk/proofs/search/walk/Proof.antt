@@ -2,7 +2,7 @@
 -- that budget. Assumes nothing.
 use mathlib.Core.Path.{_≡_, refl, sym, _∙_}
 use mathlib.Core.Logic.{inl, inr}
-use Prim.Native.Nat.{ℕ, _-_, _<_}
+use Prim.Native.Nat.{ℕ, _<_}
 use native.Mathlib.Omega.{arith}
 use lib.ListN.{length}
 use borrow.Author.Needs.{needs}
@@ -14,29 +14,30 @@ use Rattle.walk.proofs.search.walk.Statement.{statement}
 use Rattle.walk.proofs.search.walk.Tie as tie
 
 abbrev Inv-loop : tie.InvT-loop
-Inv-loop p q coefs stack₀ list₀ budget height₀ found₀ steps₀ gram products₀ left₀ stack list height found steps products left =
+Inv-loop p q coefs stack₀ list₀ budget height₀ found₀ steps₀ gram products₀ top₀ left₀ stack list height found steps products top left =
     (length stack ≡ length stack₀) × (length list ≡ length list₀)
     × Walking (systemOf p q coefs) gram budget (stateAt stack₀ list₀ height₀ found₀ steps₀) left (stateAt stack list height found steps) products
+    × (length top ≡ 16)
 
 abbrev μ-loop : tie.MeasureT-loop
-μ-loop p q coefs stack₀ list₀ budget height₀ found₀ steps₀ gram products₀ left₀ stack list height found steps products left = left
+μ-loop p q coefs stack₀ list₀ budget height₀ found₀ steps₀ gram products₀ top₀ left₀ stack list height found steps products top left = left
 
 positive : {n : ℕ} → ¬ (n ≡ 0) → 0 < n
 positive {n} h = omega (arith, h)
 
-gram-requires : tie.Need-gram-requires Inv-loop μ-loop
-gram-requires c κs = small-system (c .before .before .pre)
+write-gram-requires : tie.Need-write-gram-requires Inv-loop μ-loop
+write-gram-requires c κs = (small-system (c .before .before .before .pre), refl)
 
-products-requires : tie.Need-products-requires Inv-loop μ-loop
-products-requires c κs =
-    let g = c .before .before in
-    let s = g .before .before .before in
-    (gram-small (small-system (s .pre)) (g .gram .ensures), small-rows (s .pre))
+write-products-requires : tie.Need-write-products-requires Inv-loop μ-loop
+write-products-requires c κs =
+    let g = c .before .before .before in
+    let s = g .before .before .before .before in
+    ((gram-small (small-system (s .pre)) (g .write-gram .ensures), refl), small-rows (s .pre))
 
 loop-holds : tie.Need-loop-holds Inv-loop μ-loop
 loop-holds c =
-    let s = c .before .before .before .before .before .before in
-    (refl, refl, record { valid = s .pre; cached = c .products .ensures; same = refl })
+    let s = c .before .before .before .before .before .before .before .before in
+    (refl, refl, record { valid = s .pre; cached = c .write-products .ensures; same = refl }, refl)
 
 outcome-requires : tie.Need-outcome-requires Inv-loop μ-loop
 outcome-requires c κs = search needs
@@ -70,11 +71,11 @@ returns-2 c =
 
 take-requires : tie.Need-take-requires Inv-loop μ-loop
 take-requires c κs =
-    let e = c .before .before .before .before .before in
+    let e = c .before .before .before .before .before .before in
     let a = e .before .before in
-    let g = a .before .before .before .before in
-    let s = g .before .before .before in
-    standing (a .loop .inv .2 .valid) (gram-small (small-system (s .pre)) (g .gram .ensures)) (a .loop .inv .2 .cached) (positive (e .if1 .left))
+    let g = a .before .before .before .before .before in
+    let s = g .before .before .before .before in
+    (standing (a .loop .inv .2 .valid) (gram-small (small-system (s .pre)) (g .write-gram .ensures)) (a .loop .inv .2 .cached) (positive (e .if1 .left)), a .loop .inv .3)
 
 enum-told : tie.Need-enum-told Inv-loop μ-loop
 enum-told c = search needs
@@ -85,11 +86,11 @@ sub-height c = search needs
 add-found : tie.Need-add-found Inv-loop μ-loop
 add-found c =
     let k = c .before .before .before .before .before .before in
-    let e = k .before .before .before .before .before in
+    let e = k .before .before .before .before .before .before in
     let a = e .before .before .before in
-    let g = a .before .before .before .before in
-    let next = turn-listed (a .loop .inv .2) (g .gram .ensures) (positive (e .before .if1 .left)) (e .before .before .loop-test .taken) (e .if2 .left) (k .take .ensures) (c .enum-told .given .1) refl refl in
-    omega (arith, found-small (next .valid), k .take .kept .1 .1 .1 .0, a .loop .inv .1, g .before .before .before .good .1 .1 .1 .1 .0)
+    let g = a .before .before .before .before .before in
+    let next = turn-listed (a .loop .inv .2) (g .write-gram .ensures) (positive (e .before .if1 .left)) (e .before .before .loop-test .taken) (e .if2 .left) (k .take .ensures .0) (c .enum-told .given .1) refl refl in
+    omega (arith, found-small (next .valid), k .take .kept .1 .1 .1 .0, a .loop .inv .1, g .before .before .before .before .good .1 .1 .1 .1 .0)
 
 enum-known-h : tie.Need-enum-known-h Inv-loop μ-loop
 enum-known-h c = search needs
@@ -109,15 +110,15 @@ same-length-6 c = search needs
 returns-3 : tie.Need-returns-3 Inv-loop μ-loop
 returns-3 c =
     let k = c .before .before .before .before .before .before .before .before in
-    let e = k .before .before .before .before .before in
+    let e = k .before .before .before .before .before .before in
     let a = e .before .before .before in
-    let g = a .before .before .before .before in
-    rw (c .outcome3 .ensures) (sym (turn-refused (a .loop .inv .2) (g .gram .ensures) (positive (e .before .if1 .left)) (e .before .before .loop-test .taken) (e .if2 .left) (k .take .ensures) (c .before .before .why .given .1)))
+    let g = a .before .before .before .before .before in
+    rw (c .outcome3 .ensures) (sym (turn-refused (a .loop .inv .2) (g .write-gram .ensures) (positive (e .before .if1 .left)) (e .before .before .loop-test .taken) (e .if2 .left) (k .take .ensures .0) (c .before .before .why .given .1)))
 
 add-steps : tie.Need-add-steps Inv-loop μ-loop
 add-steps c =
     let k = c .before .before .before .before .before in
-    let a = k .before .before .before .before .before .before .before .before in
+    let a = k .before .before .before .before .before .before .before .before .before in
     omega (arith, a .loop .inv .2 .valid .ordered .early)
 
 sub-left : tie.Need-sub-left Inv-loop μ-loop
@@ -129,17 +130,18 @@ loop-less c = search needs
 loop-again : tie.Need-loop-again Inv-loop μ-loop
 loop-again c =
     let k = c .before .before .before .before .before in
-    let e = k .before .before .before .before .before in
+    let e = k .before .before .before .before .before .before in
     let a = e .before .before .before in
-    let g = a .before .before .before .before in
+    let g = a .before .before .before .before .before in
     let h = positive (e .before .if1 .left) in
     let more = e .before .before .loop-test .taken in (
       k .take .kept .1 .1 .0 ∙ a .loop .inv .0,
       k .take .kept .1 .1 .1 .0 ∙ a .loop .inv .1,
       elim (c .match .came) [
-        | inl (match, told, eh, ef) ↦ turn-listed (a .loop .inv .2) (g .gram .ensures) h more (e .if2 .left) (k .take .ensures) (told .given .1) eh ef
-        | inr (match, n, known, eh, ef) ↦ turn-grown (a .loop .inv .2) (g .gram .ensures) h more (e .if2 .left) (k .take .ensures) (n .given .1) eh ef
+        | inl (match, told, eh, ef) ↦ turn-listed (a .loop .inv .2) (g .write-gram .ensures) h more (e .if2 .left) (k .take .ensures .0) (told .given .1) eh ef
+        | inr (match, n, known, eh, ef) ↦ turn-grown (a .loop .inv .2) (g .write-gram .ensures) h more (e .if2 .left) (k .take .ensures .0) (n .given .1) eh ef
       ],
+      k .take .ensures .1,
     )
 
 outcome-requires-4 : tie.Need-outcome-requires-4 Inv-loop μ-loop
@@ -178,8 +180,8 @@ walk-spec =
     (tie.spec
     Inv-loop
     μ-loop
-    gram-requires
-    products-requires
+    write-gram-requires
+    write-products-requires
     loop-holds
     outcome-requires
     same-length

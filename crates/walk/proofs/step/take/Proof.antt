@@ -1,14 +1,29 @@
 -- `step::take` meets its contract: each way out is one of `TakeLaws`. Assumes nothing.
-use mathlib.Core.Path.{refl, sym, _∙_}
-use Prim.Native.Nat.{_-_}
+use mathlib.Core.Path.{_≡_, refl, sym, _∙_}
 use native.Mathlib.Omega.{arith}
+use lib.ListN.{length}
 use borrow.Author.Needs.{needs}
-use Rattle.linear.specs.TestLaws.{count-le}
-use Rattle.definitions.specs.Tables.{frozen}
 use Rattle.walk.specs.RowLaws.{rows-fit}
-use Rattle.walk.specs.TakeLaws.{top-fits, top-marks, top-limited, top-products, below-top, made-count, taken-solution, taken-large, taken-high, taken-grown}
+use Rattle.walk.specs.TakeLaws.{top-fits, top-limited, made-below, made-few, top-parent, taken-solution, taken-large, taken-grown}
 use Rattle.walk.proofs.step.take.Statement.{statement}
 use Rattle.walk.proofs.step.take.Tie as tie
+
+-- what is known where the top is no solution and its children are found
+module _ (x : tie.After-children) where
+  abbrev d : tie.After-candidates
+  d = x .before .before .before
+
+  abbrev e : tie.Else1
+  e = d .before .before .before
+
+  abbrev r : tie.After-read
+  r = e .before .before .before
+
+  abbrev s : tie.Start
+  s = r .before .before .before .before .before
+
+  kept : length (x .children .last .1 .1 .1 .0) ≡ 16
+  kept = rw (x .children .ensures .1 .1) (r .read .ensures .1)
 
 sub-level : tie.Need-sub-level
 sub-level c = search needs
@@ -17,13 +32,10 @@ add-base : tie.Need-add-base
 add-base c = search needs
 
 mul-base : tie.Need-mul-base
-mul-base c = omega (arith, top-fits (c .before .before .pre))
+mul-base c = omega (arith, top-fits (c .before .before .pre .0))
 
-tuple-at-requires : tie.Need-tuple-at-requires
-tuple-at-requires c κs = omega (arith, top-fits (c .before .before .before .pre))
-
-level-requires : tie.Need-level-requires
-level-requires c κs = search needs
+read-requires : tie.Need-read-requires
+read-requires c κs = omega (arith, top-fits (c .before .before .before .before .pre .0))
 
 vanish-requires : tie.Need-vanish-requires
 vanish-requires c κs = search needs
@@ -40,37 +52,30 @@ same-length-2 c = search needs
 returns : tie.Need-returns
 returns c =
     let k = c .before .before in
-    let y = k .before .before .before in
-    let x = y .before in
-    let l = x .before .before in
-    let t = l .before .before in
-    let s = t .before .before .before .before in
-    taken-solution (s .pre) (t .tuple-at .ensures) (l .level .ensures) (sym (x .vanish .ensures) ∙ y .if1 .taken) (k .enlist .ensures)
+    let t = k .before .before .before in
+    let v = t .before in
+    let r = v .before .before in
+    let s = r .before .before .before .before .before in
+    (taken-solution (s .pre .0) (r .read .ensures .0) (sym (v .vanish .ensures) ∙ t .if1 .taken) (k .enlist .ensures), r .read .ensures .1)
 
 add-marks : tie.Need-add-marks
-add-marks c = omega (arith, top-fits (c .before .before .before .before .before .before .before .before .before .pre))
+add-marks c = omega (arith, top-fits (c .before .before .before .before .before .before .before .before .pre .0))
 
 mul-marks : tie.Need-mul-marks
-mul-marks c = omega (arith, top-fits (c .before .before .before .before .before .before .before .before .before .pre))
+mul-marks c = omega (arith, top-fits (c .before .before .before .before .before .before .before .before .pre .0))
 
 slice-read-marks : tie.Need-slice-read-marks
-slice-read-marks c = omega (arith, top-fits (c .before .before .before .before .before .before .before .before .before .before .pre))
+slice-read-marks c = omega (arith, top-fits (c .before .before .before .before .before .before .before .before .before .pre .0))
+
+candidates-requires : tie.Need-candidates-requires
+candidates-requires c κs = search needs
 
 children-requires : tie.Need-children-requires
 children-requires c κs =
-    let x = c .before .before .before .before in
-    let l = x .before .before in
-    let t = l .before .before in
-    let s = t .before .before .before .before in
-    ((s .pre .few, rows-fit (s .args .q) _ (s .args .found) (s .pre .listed)), top-limited (s .pre) (t .tuple-at .ensures) (l .level .ensures))
-
-too-large-requires : tie.Need-too-large-requires
-too-large-requires c κs =
-    let x = c .before .before .before .before .before .before in
-    let l = x .before .before in
-    let t = l .before .before in
-    let s = t .before .before .before .before in
-    (s .pre .few, top-limited (s .pre) (t .tuple-at .ensures) (l .level .ensures))
+    let d = c .before .before in
+    let r = d .before .before .before .before .before .before in
+    let s = r .before .before .before .before .before in
+    ((s .pre .0 .some, s .pre .0 .few, rows-fit (s .args .q) _ (s .args .found) (s .pre .0 .listed), r .read .ensures .1, d .candidates .ensures .below), top-limited (s .pre .0) (r .read .ensures .0))
 
 same-length-3 : tie.Need-same-length-3
 same-length-3 c = search needs
@@ -80,26 +85,18 @@ same-length-4 c = search needs
 
 returns-2 : tie.Need-returns-2
 returns-2 c =
-    let k = c .before .before .before in
-    let e = k .before .before .before .before in
-    let x = e .before in
-    let l = x .before .before in
-    let t = l .before .before in
-    let s = t .before .before .before .before in
-    taken-large (s .pre) (t .tuple-at .ensures) (l .level .ensures) (sym (x .vanish .ensures) ∙ e .if1 .left) refl (k .children .ensures) (sym (c .before .too-large .ensures) ∙ c .if2 .taken)
+    let x = c .before .before in
+    let no = sym (e x .before .vanish .ensures) ∙ e x .if1 .left in
+    (taken-large (s x .pre .0) (r x .read .ensures .0) no refl (d x .candidates .ensures) (x .children .ensures .0) (x .children .ensures .1 .0) (c .if2 .taken), kept x)
 
-count-marks-requires : tie.Need-count-marks-requires
-count-marks-requires c κs = search needs
-
-add-if3 : tie.Need-add-if3
-add-if3 c =
-    let k = c .before .before .before .before in
-    let e = k .before .before .before .before in
-    let x = e .before in
-    let l = x .before .before in
-    let t = l .before .before in
-    let s = t .before .before .before .before in
-    omega (arith, c .count-marks .ensures, s .pre .low, s .pre .few, count-le (frozen (k .children .result)) 32)
+push-requires : tie.Need-push-requires
+push-requires c κs =
+    let x = c .before .before .before .before .before in
+    let no = sym (e x .before .vanish .ensures) ∙ e x .if1 .left in
+    rw (x .children .ensures .1 .1) (
+      top-parent (s x .pre .0) (r x .read .ensures .0) no refl (d x .candidates .ensures) (x .children .ensures .0),
+      (made-few (s x .pre .0) (r x .read .ensures .0) no refl (d x .candidates .ensures) (x .children .ensures .0), made-below (s x .pre .0) (r x .read .ensures .0) no refl (d x .candidates .ensures) (x .children .ensures .0)),
+    )
 
 same-length-5 : tie.Need-same-length-5
 same-length-5 c = search needs
@@ -109,50 +106,12 @@ same-length-6 c = search needs
 
 returns-3 : tie.Need-returns-3
 returns-3 c =
-    let n = c .before in
-    let f = n .before in
-    let k = f .before .before .before in
-    let e = k .before .before .before .before in
-    let x = e .before in
-    let l = x .before .before in
-    let t = l .before .before in
-    let s = t .before .before .before .before in
-    taken-high (s .pre) (t .tuple-at .ensures) (l .level .ensures) (sym (x .vanish .ensures) ∙ e .if1 .left) refl (k .children .ensures) (sym (f .before .too-large .ensures) ∙ f .if2 .left) (omega (arith, n .count-marks .ensures, c .if3 .taken))
-
-push-requires : tie.Need-push-requires
-push-requires c κs =
-    let n = c .before .before .before .before .before in
-    let f = n .before in
-    let k = f .before .before .before in
-    let e = k .before .before .before .before in
-    let x = e .before in
-    let l = x .before .before in
-    let t = l .before .before in
-    let s = t .before .before .before .before in
-    let few = made-count (s .pre) (t .tuple-at .ensures) (l .level .ensures) (sym (x .vanish .ensures) ∙ e .if1 .left) refl (k .children .ensures) in (
-      (s .pre .few, s .pre .long, omega (arith, c .before .before .before .before .if3 .left, n .count-marks .ensures, few), top-marks (s .pre)),
-      (top-limited (s .pre) (t .tuple-at .ensures) (l .level .ensures), s .pre .gram, top-products (s .pre) (t .tuple-at .ensures) (l .level .ensures), below-top (s .pre) (t .tuple-at .ensures) (l .level .ensures)),
-    )
-
-same-length-7 : tie.Need-same-length-7
-same-length-7 c = search needs
-
-same-length-8 : tie.Need-same-length-8
-same-length-8 c = search needs
-
-returns-4 : tie.Need-returns-4
-returns-4 c =
-    let w = c .before .before in
-    let b = w .before .before .before .before .before in
-    let n = b .before in
-    let f = n .before in
-    let k = f .before .before .before in
-    let e = k .before .before .before .before in
-    let x = e .before in
-    let l = x .before .before in
-    let t = l .before .before in
-    let s = t .before .before .before .before in
-    taken-grown (s .pre) (t .tuple-at .ensures) (l .level .ensures) (sym (x .vanish .ensures) ∙ e .if1 .left) refl (k .children .ensures) (sym (f .before .too-large .ensures) ∙ f .if2 .left) (omega (arith, n .count-marks .ensures, b .if3 .left)) (w .push .ensures .0) (w .push .ensures .1 .0) (w .push .ensures .1 .1)
+    let p = c .before .before in
+    let f = p .before .before .before .before in
+    let x = f .before .before in
+    let no = sym (e x .before .vanish .ensures) ∙ e x .if1 .left in
+    let grown = rw (x .children .ensures .1 .1) at (p .push .ensures .1 .0) in
+    (taken-grown (s x .pre .0) (r x .read .ensures .0) no refl (d x .candidates .ensures) (x .children .ensures .0) (x .children .ensures .1 .0) (f .if2 .left) (p .push .ensures .0) grown (p .push .ensures .1 .1), kept x)
 
 pub take-spec : {M : Type 1} → statement M
 take-spec =
@@ -161,8 +120,7 @@ take-spec =
     sub-level
     add-base
     mul-base
-    tuple-at-requires
-    level-requires
+    read-requires
     vanish-requires
     enlist-requires
     same-length
@@ -171,17 +129,12 @@ take-spec =
     add-marks
     mul-marks
     slice-read-marks
+    candidates-requires
     children-requires
-    too-large-requires
     same-length-3
     same-length-4
     returns-2
-    count-marks-requires
-    add-if3
+    push-requires
     same-length-5
     same-length-6
-    returns-3
-    push-requires
-    same-length-7
-    same-length-8
-    returns-4)
+    returns-3)

@@ -1,5 +1,5 @@
--- `walk::cache::products` meets its contract. Every level passed holds the sum of its row. Assumes nothing.
-use mathlib.Core.Path.{_≡_, refl, _∙_}
+-- `walk::cache::write_products` meets its contract. Every level passed holds the sum of its row. Assumes nothing.
+use mathlib.Core.Path.{_≡_, _∙_}
 use Prim.Native.Nat.{_+_, _-_, _≤_}
 use native.Mathlib.Nat.{le-antisymm}
 use native.Mathlib.Omega.{arith}
@@ -8,8 +8,8 @@ use lib.ListN.{length}
 use Rattle.definitions.specs.Tables.{at}
 use Rattle.walk.specs.Cache.{combine, Rows}
 use Rattle.walk.specs.CacheSteps.{rows-next, small-row}
-use Rattle.walk.proofs.cache.products.Statement.{statement}
-use Rattle.walk.proofs.cache.products.Tie as tie
+use Rattle.walk.proofs.cache.write_products.Statement.{statement}
+use Rattle.walk.proofs.cache.write_products.Tie as tie
 
 abbrev Inv-loop : tie.InvT-loop
 Inv-loop q gram stack height c₀ k₀ c k = (k ≤ height) × (length c ≡ 256) × Rows k q (λ l. combine q gram (at stack (q + 1) l)) c
@@ -18,14 +18,14 @@ abbrev μ-loop : tie.MeasureT-loop
 μ-loop q gram stack height c₀ k₀ c k = height - k
 
 loop-holds : tie.Need-loop-holds Inv-loop μ-loop
-loop-holds c = (search needs, refl, λ l j h i. absurd (omega arith))
+loop-holds c = (search needs, c .before .pre .0 .1, λ l j h i. absurd (omega arith))
 
 products-row-requires : tie.Need-products-row-requires Inv-loop μ-loop
 products-row-requires c κs =
     let l = c .before in
     let a = l .before in
     let s = a .before .before in
-    (s .pre .0, small-row (s .pre .1) (a .loop .k) (l .loop-test .taken), a .loop .inv .1, omega arith)
+    (s .pre .0 .0, small-row (s .pre .1) (a .loop .k) (l .loop-test .taken), a .loop .inv .1, omega arith)
 
 add-k : tie.Need-add-k Inv-loop μ-loop
 add-k c = search needs
@@ -37,14 +37,14 @@ loop-again : tie.Need-loop-again Inv-loop μ-loop
 loop-again c =
     let a = c .before .before .before in
     let w = c .products-row .ensures in
-    (search needs, w .size ∙ a .loop .inv .1, rows-next (a .before .before .pre .0 .unknowns) (a .loop .inv .2) w)
+    (search needs, w .size ∙ a .loop .inv .1, rows-next (a .before .before .pre .0 .0 .unknowns) (a .loop .inv .2) w)
 
 returns : tie.Need-returns Inv-loop μ-loop
 returns c =
     let a = c .before in
     record { size = a .loop .inv .1; levels = rw (le-antisymm (a .loop .inv .0) (c .loop-test .left)) at (a .loop .inv .2) }
 
-pub products-spec : {M : Type 1} → statement M
-products-spec =
+pub write-products-spec : {M : Type 1} → statement M
+write-products-spec =
     tie.close
     (tie.spec Inv-loop μ-loop loop-holds products-row-requires add-k loop-less loop-again returns)

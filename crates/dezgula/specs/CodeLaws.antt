@@ -1,0 +1,140 @@
+-- A number of 64 bits holds each answer, as a place is one of at most 128 coefficients; and what a call by value leaves, as an exported one tells it.
+-- Assumes nothing.
+use Prim.Native.Nat.{ℕ, zero, suc, _*_, _^_, _≤_, _<_}
+use mathlib.Core.Bool.{Bool, true, false, not}
+use mathlib.Core.List.{List, [], _∷_}
+use mathlib.Core.Path.{_≡_, refl, subst}
+use native.Mathlib.Nat.{mul-le-mul}
+use native.Mathlib.Omega.{arith}
+use lib.Dec.{T, leb, eqb, eqb→eq, leb→le}
+use lib.ListN.{length}
+use Rattle.linear.specs.TestLaws.{and-parts}
+use Rattle.definitions.specs.Answers.{Answer, Check, refuse, go, refuseWith, refuseIf, refuseFirst, _then_}
+use Rattle.definitions.specs.System.{System, mostEquations, mostUnknowns}
+use Rattle.definitions.specs.Tables.{State}
+use Rattle.definitions.specs.Step.{step}
+use Rattle.definitions.specs.Refusals.{between, check1, check2, check3, check4, check5, check6, check7, check8, startChecks, lowerChecks, resumeChecks, searchChecks}
+use Rattle.definitions.specs.Calls.{Outcome, checked, start, startFrom, unlessDone, walk, resume}
+use Rattle.laws.specs.AnswerLaws.{refuse-if-go}
+use Rattle.refusals.specs.Paper.{answerOf, outcomeOf}
+use Rattle.refusals.specs.declared.Outcome as values
+use Rattle.dezgula.specs.Codes.{refusalCode, code, lent, recordOf, told}
+
+abbrev Fits : Answer → Type 0
+Fits a = code a < 2 ^ 64
+
+-- ---- checks
+
+abbrev Small : Check → Type 0
+Small (refuse n values) = refusalCode n values < 2 ^ 64
+Small go = Unit
+
+small-with : (b : Bool) (n : ℕ) (values : List ℕ) → refusalCode n values < 2 ^ 64 → Small (refuseWith b n values)
+unfolding refuseWith
+small-with true n values h = h
+small-with false n values h = tt
+
+small-then : (c d : Check) → Small c → (c ≡ go → Small d) → Small (c then d)
+unfolding _then_
+small-then (refuse n values) d a b = a
+small-then go d a b = b refl
+
+small-first : (n k : ℕ) (f : ℕ → Bool) → n < 256 → k ≤ 128 → Small (refuseFirst n k f)
+unfolding refuseFirst
+small-first n zero f h l = tt
+small-first n (suc k) f h l =
+    small-then (refuseFirst n k f) (refuseWith (f k) n (suc k ∷ [])) (small-first n k f h (omega arith)) (λ _. small-with (f k) n (suc k ∷ []) (omega arith))
+
+small-if : (b : Bool) (n : ℕ) → n < 256 → Small (refuseIf b n)
+small-if b n h = small-with b n [] (omega arith)
+
+not-false : (b : Bool) → not b ≡ false → T b
+not-false true e = tt
+not-false false e = subst T e tt
+
+within : (a b n r : ℕ) → refuseIf (not (between a b n)) r ≡ go → n ≤ b
+within a b n r e = leb→le n b (and-parts (leb a n) (leb n b) (not-false (between a b n) (refuse-if-go (not (between a b n)) r e)) .1)
+
+few : (m : System) → check1 m ≡ go → check2 m ≡ go → check3 m ≡ go → length (m .coefs) ≤ 128
+few m a b c =
+    let same : length (m .coefs) ≡ m .p * m .q = eqb→eq (length (m .coefs)) (m .p * m .q) (not-false (eqb (length (m .coefs)) (m .p * m .q)) (refuse-if-go (not (eqb (length (m .coefs)) (m .p * m .q))) 3 c)) in
+    omega (arith, same, mul-le-mul (within 1 mostEquations (m .p) 1 a) (within 1 mostUnknowns (m .q) 2 b))
+
+-- what follows the checks of the sizes
+small-sized : (m : System) (d : Check) → (length (m .coefs) ≤ 128 → Small d) → Small (check1 m then check2 m then check3 m then d)
+small-sized m d h =
+    small-then (check1 m) (check2 m then check3 m then d) (small-if _ 1 (omega arith)) (λ a.
+    small-then (check2 m) (check3 m then d) (small-if _ 2 (omega arith)) (λ b.
+    small-then (check3 m) d (small-if _ 3 (omega arith)) (λ c. h (few m a b c))))
+
+small-range : (m : System) → length (m .coefs) ≤ 128 → Small (check7 m)
+unfolding check7
+small-range m l = small-first 7 (length (m .coefs)) _ (omega arith) l
+
+module _ (m : System) (s : State) where
+  small-start : Small (startChecks m s)
+  unfolding startChecks
+  small-start =
+      small-sized m (check4 m s then check7 m) (λ l.
+      small-then (check4 m s) (check7 m) (small-if _ 4 (omega arith)) (λ _. small-range m l))
+
+  small-lower : (lower : List ℕ) → Small (lowerChecks lower m s)
+  unfolding lowerChecks
+  small-lower lower =
+      small-sized m (check4 m s then check5 m lower then check7 m then check8 lower) (λ l.
+      small-then (check4 m s) (check5 m lower then check7 m then check8 lower) (small-if _ 4 (omega arith)) (λ _.
+      small-then (check5 m lower) (check7 m then check8 lower) (small-if _ 5 (omega arith)) (λ _.
+      small-then (check7 m) (check8 lower) (small-range m l) (λ _. small-if _ 8 (omega arith)))))
+
+  small-resume : Small (resumeChecks m s)
+  unfolding resumeChecks
+  small-resume =
+      small-sized m (check4 m s then check6 m s then check7 m) (λ l.
+      small-then (check4 m s) (check6 m s then check7 m) (small-if _ 4 (omega arith)) (λ _.
+      small-then (check6 m s) (check7 m) (small-if _ 6 (omega arith)) (λ _. small-range m l)))
+
+  small-search : Small (searchChecks m s)
+  unfolding searchChecks
+  small-search =
+      small-then (refuseIf _ 14) _ (small-if _ 14 (omega arith)) (λ _.
+      small-then (refuseIf _ 11) _ (small-if _ 11 (omega arith)) (λ _.
+      small-then (refuseIf _ 12) _ (small-if _ 12 (omega arith)) (λ _. small-if _ 13 (omega arith))))
+
+-- ---- calls
+
+fits-checked : (c : Check) (s : State) (work : State → Outcome) → Small c → Fits (work s .answer) → Fits (checked c s work .answer)
+unfolding checked
+fits-checked (refuse n values) s work h w = h
+fits-checked go s work h w = w
+
+fits-unless : (b : Bool) (s : State) (work : State → Outcome) → Fits (work s .answer) → Fits (unlessDone b s work .answer)
+unfolding unlessDone
+fits-unless true s work w = omega arith
+fits-unless false s work w = w
+
+fits-walk : (n : ℕ) (m : System) (s : State) → Fits (walk n m s .answer)
+unfolding walk
+fits-walk zero m s = fits-unless _ s _ (omega arith)
+fits-walk (suc n) m s = fits-unless _ s _ (fits-checked (searchChecks m s) s _ (small-search m s) (fits-walk n m (step m s)))
+
+module _ (m : System) (s : State) where
+  pub start-fits : Fits (start m s .answer)
+  unfolding start
+  start-fits = fits-checked (startChecks m s) s _ (small-start m s) (omega arith)
+
+  pub start-from-fits : (lower : List ℕ) → Fits (startFrom lower m s .answer)
+  unfolding startFrom
+  start-from-fits lower = fits-checked (lowerChecks lower m s) s _ (small-lower m s lower) (omega arith)
+
+  pub resume-fits : (budget : ℕ) → Fits (resume budget m s .answer)
+  unfolding resume
+  resume-fits budget = fits-checked (resumeChecks m s) s (walk budget m) (small-resume m s) (fits-walk budget m s)
+
+-- ---- what a call by value answered and left
+
+module _ (o : values.Outcome) {stack list : List ℕ} {call : Outcome} (e : outcomeOf o stack list ≡ call) where
+  pub answer-fits : Fits (call .answer) → Fits (answerOf (o .answer))
+  answer-fits h = rw (← e) at h
+
+  pub call-told : {a height found steps : ℕ} → a ≡ code (answerOf (o .answer)) → recordOf height found steps ≡ o .run → (a, lent stack list height found steps) ≡ told call
+  call-told {a} {height} {found} {steps} d r = rw (← e, d, ← r)

@@ -1,0 +1,4 @@
+pub mod Codes
+pub mod CodeLaws
+pub mod Rows
+pub mod RowLaws
