@@ -5,5 +5,7 @@ fn main() {
     let n = io::read_full(0, &mut text);
     let mut out = [0u8; 91000];
     let end = report::report(&text[..n], &mut out);
-    io::write_all(1, &out[0..end]);
+    if !io::write_all(1, &out[0..end]) {
+        io::write_all(2, b"basis: cannot write to standard output\n");
+    }
 }

@@ -10,6 +10,7 @@ pub mod Grow
 pub mod GrowLaws
 pub mod StateLaws
 pub mod Pushed
+pub mod Tried
 pub mod Listing
 pub mod Taken
 pub mod TakeLaws

@@ -1,12 +1,12 @@
 -- Marks as code collects them: the marks of the unknowns at which a test holds. Assumes nothing.
-use mathlib.Core.Path.{_≡_, refl}
-use mathlib.Core.Logic.{_≢_, inl, inr}
-use mathlib.Core.Bool.{Bool, true, false, or-true}
+use mathlib.Core.Path.{_≡_, refl, subst}
+use mathlib.Core.Logic.{inl, inr}
+use mathlib.Core.Bool.{Bool, true, false}
 use Prim.Native.Nat.{ℕ, zero, suc, _+_, _*_, _%_, _^_, _≤_, _<_}
-use native.Mathlib.Nat.{zero-add, one-le-pow}
+use native.Mathlib.Nat.{zero-add}
 use native.Mathlib.Numerals.{add-one}
 use native.Mathlib.Omega.{arith}
-use lib.Dec.{T, lit<}
+use lib.Dec.{T}
 use lib.Pow.{pow-mono}
 use Rattle.linear.specs.Cases.{split}
 use Rattle.linear.specs.Tests.{number, anyTo, countTo}
@@ -104,22 +104,19 @@ count-over f n (suc i) l h =
       | inr k ↦ let e : n ≡ suc i = omega arith in rw e
     ]
 
--- ---- whether there are any
+pub marks-zero : (f : ℕ → Bool) → marksTo 0 f ≡ 0
+unfolding marksTo
+marks-zero f = refl
 
-pub marks-any : (n : ℕ) (f : ℕ → Bool) → marksTo n f ≢ 0 → anyTo n f ≡ true
-unfolding marksTo anyTo
-marks-any zero f ne = absurd (ne refl)
-marks-any (suc n) f ne =
-    elim (T-dec (f n)) [
-      | inl y ↦ rw (is-true (f n) y) (or-true (anyTo n f))
-      | inr y ↦ rw (marks-any n f (λ e. ne (rw (e, number-false (f n) y) (omega arith))))
-    ]
+pub any-zero : (f : ℕ → Bool) → anyTo 0 f ≡ false
+unfolding anyTo
+any-zero f = refl
 
-pub marks-none : (n : ℕ) (f : ℕ → Bool) → marksTo n f ≡ 0 → anyTo n f ≡ false
-unfolding marksTo anyTo
-marks-none zero f e = refl
-marks-none (suc n) f e =
-    elim (T-dec (f n)) [
-      | inl y ↦ let e′ : marksTo n f + 1 * 2 ^ n ≡ 0 = rw (number-true (f n) y) at e in absurd (omega (arith, e′, one-le-pow n 2 (lit< tt)))
-      | inr y ↦ rw (is-false (f n) y, marks-none n f (let e′ : marksTo n f + 0 * 2 ^ n ≡ 0 = rw (number-false (f n) y) at e in omega (arith, e′)))
+pub any-over : (f : ℕ → Bool) (n i : ℕ) → n ≤ i → ((j : ℕ) → n ≤ j → j < i → f j ≡ false) → anyTo n f ≡ false → anyTo i f ≡ false
+unfolding anyTo
+any-over f n zero l h e = let d : n ≡ 0 = omega arith in rw d at e
+any-over f n (suc i) l h e =
+    elim (split n (suc i)) [
+      | inl k ↦ rw (h i (omega arith) (omega arith), any-over f n i (omega arith) (λ j a b. h j a (omega arith)) e)
+      | inr k ↦ let d : n ≡ suc i = omega arith in subst (λ x. anyTo x f ≡ false) d e
     ]

@@ -1,14 +1,14 @@
 -- The ways through a step, from what its parts ensure: the top's tuple t, the marks of the row, the candidates for a child, and the unknowns that make one.
 -- Assumes nothing.
 use mathlib.Core.Path.{_≡_, refl, sym, _∙_, ap}
-use mathlib.Core.Logic.{_≢_}
 use mathlib.Core.Bool.{Bool, true, false, not, _&&_}
 use mathlib.Core.List.{List}
 use Prim.Native.Nat.{ℕ, _+_, _*_, _-_, _^_, _≤_, _<_}
 use native.Mathlib.Omega.{arith}
 use lib.Dec.{T, eqb}
 use lib.IntN.{ℤ, pos}
-use lib.ListN.{length, getD}
+use lib.ListN.{length, getD, drop}
+use lib.Seq.{getD-drop}
 use lib.Signed.{ltZ}
 use borrow.Author.Tests.{le-ltb}
 use Rattle.linear.specs.Tests.{allTo, anyTo, countTo}
@@ -17,7 +17,7 @@ use Rattle.definitions.specs.System.{System, componentLimit, towards, isZero, s
 use Rattle.definitions.specs.Tables.{State, at, frozen}
 use Rattle.definitions.specs.Step.{top, makes, marksTo}
 use Rattle.definitions.specs.Refusals.{tooLarge}
-use Rattle.laws.specs.MarkLaws.{marks-count}
+use Rattle.laws.specs.MarkLaws.{frozen-none, marks-count}
 use Rattle.laws.specs.RefusalLaws.{RowInOrder}
 use Rattle.laws.specs.TableLaws.{row-fits, write-same}
 use Rattle.refusals.specs.Paper.{systemOf}
@@ -25,13 +25,13 @@ use Rattle.refusals.specs.declared.Refusal.the-variants.{ComponentLimit}
 use Rattle.walk.specs.declared.step.Stepped.{Stepped}
 use Rattle.walk.specs.declared.step.Stepped.the-variants.{Grown, Refused}
 use Rattle.walk.specs.Rows.{tuple, Holds, Limited}
-use Rattle.walk.specs.Marks.{Marked, marks-any, marks-below, marks-counted, marks-frozen, marks-none}
+use Rattle.walk.specs.Marks.{Marked, any-over, any-zero, is-false, marks-below, marks-zero, marks-counted, marks-frozen, marks-over}
 use Rattle.walk.specs.Cache.{Gram, Combined, Products, entry}
 use Rattle.walk.specs.CacheLaws.{combine-towards, level-products, vanish-solves, combined-less}
 use Rattle.walk.specs.Grow.{childBy, growTo}
-use Rattle.walk.specs.GrowLaws.{child-free, child-made}
+use Rattle.walk.specs.GrowLaws.{child-free, child-made, closed-makes-none}
 use Rattle.walk.specs.StateLaws.{made-by, count-by, too-high-by, grown-by, too-large-by}
-use Rattle.walk.specs.Pushed.{Parent}
+use Rattle.walk.specs.Pushed.{Parent, none-pushed}
 use Rattle.walk.specs.Listing.{isFull, listAnswer, listAfter, Enlisted}
 use Rattle.walk.specs.Taken.{Standing, Steps, Taken, stateAt, heightBy, step-full, step-listed, step-large, step-grown}
 
@@ -119,29 +119,38 @@ module _ {q : ℕ} {g : List ℤ} {stack list : List ℕ} {c : List ℤ} {height
             cached = let up : height - 1 + 1 ≡ height = omega (arith, s .high) in rw up (s .cached);
           }
 
-      module _ {large : ℕ} (d : large ≡ marksTo q (λ j. childBy q found (at list q) (tuple t) candidates j && eqb (tuple t j) componentLimit)) where
-        large-by : (p : ℕ) (coefs : List ℤ) → Gram (systemOf p q coefs) g → (n : ℕ) → anyTo q (λ j. child j && eqb (tuple t j) componentLimit) ≡ tooLarge (systemOf p q coefs) (stateAt stack list height found n)
-        large-by p coefs gram n = too-large-by (systemOf p q coefs) (stateAt stack list height found n) (h .same) (child-is p coefs gram n)
+      large-by : (p : ℕ) (coefs : List ℤ) → Gram (systemOf p q coefs) g → (n : ℕ) → anyTo q (λ j. child j && eqb (tuple t j) componentLimit) ≡ tooLarge (systemOf p q coefs) (stateAt stack list height found n)
+      large-by p coefs gram n = too-large-by (systemOf p q coefs) (stateAt stack list height found n) (h .same) (child-is p coefs gram n)
 
-        pub taken-large : large ≢ 0 → Taken q g stack list height found (Refused ComponentLimit) stack list c
-        taken-large ne =
-            record {
-              cached = s .cached;
-              steps = λ p coefs gram n.
-                  step-large (systemOf p q coefs) (stateAt stack list height found n) (sym (solved-by p coefs gram n) ∙ no)
-                  (sym (large-by p coefs gram n) ∙ marks-any q _ (rw d at ne));
-            }
+      pub taken-large : anyTo q (λ j. child j && eqb (tuple t j) componentLimit) ≡ true → Taken q g stack list height found (Refused ComponentLimit) stack list c
+      taken-large l =
+          record {
+            cached = s .cached;
+            steps = λ p coefs gram n. step-large (systemOf p q coefs) (stateAt stack list height found n) (sym (solved-by p coefs gram n) ∙ no) (sym (large-by p coefs gram n) ∙ l);
+          }
 
-        pub taken-grown : large ≡ 0 → {r : ℕ} {after : List ℕ} {c′ : List ℤ} → r ≡ height - 1 + countTo q (frozen made) → after ≡ growTo q q stack (height - 1) (tuple t) marks (frozen made) → Combined q g after r c′ → Taken q g stack list height found (Grown r) after list c′
-        taken-grown z {r} {after} rise grow cached =
-            record {
-              cached = cached;
-              steps = λ p coefs gram n.
-                  let k = stateAt stack list height found n in
-                  let f = made-is p coefs gram n in
-                  step-grown (systemOf p q coefs) k (sym (solved-by p coefs gram n) ∙ no)
-                  (sym (large-by p coefs gram n) ∙ marks-none q _ (sym d ∙ z))
-                  (sym (too-high-by (systemOf p q coefs) k f) ∙ le-ltb q (height - 1 + countTo q (frozen made)) made-few)
-                  (grow ∙ ap (λ x. growTo q q stack (height - 1) (tuple t) x (frozen made)) row ∙ grown-by (systemOf p q coefs) k (h .same) f)
-                  (rise ∙ ap (λ x. height - 1 + x) (count-by (systemOf p q coefs) k f));
-            }
+      pub taken-grown : anyTo q (λ j. child j && eqb (tuple t j) componentLimit) ≡ false → {r : ℕ} {after : List ℕ} {c′ : List ℤ} → r ≡ height - 1 + countTo q (frozen made) → after ≡ growTo q q stack (height - 1) (tuple t) marks (frozen made) → Combined q g after r c′ → Taken q g stack list height found (Grown r) after list c′
+      taken-grown none {r} {after} rise grow cached =
+          record {
+            cached = cached;
+            steps = λ p coefs gram n.
+                let k = stateAt stack list height found n in
+                let f = made-is p coefs gram n in
+                step-grown (systemOf p q coefs) k (sym (solved-by p coefs gram n) ∙ no)
+                (sym (large-by p coefs gram n) ∙ none)
+                (sym (too-high-by (systemOf p q coefs) k f) ∙ le-ltb q (height - 1 + countTo q (frozen made)) made-few)
+                (grow ∙ ap (λ x. growTo q q stack (height - 1) (tuple t) x (frozen made)) row ∙ grown-by (systemOf p q coefs) k (h .same) f)
+                (rise ∙ ap (λ x. height - 1 + x) (count-by (systemOf p q coefs) k f));
+          }
+
+  -- no candidates, and so no children: the row is taken off, whatever tuple it has
+  pub taken-none : allTo q (λ j. isZero (entry c (height - 1) j)) ≡ false → {marks : ℕ} → marks ≡ getD stack ((height - 1) * (q + 1) + q) 0 → Marked q (λ j. ltZ (entry c (height - 1) j) (pos 0) && not (frozen marks j)) 0 → Taken q g stack list height found (Grown (height - 1)) stack list c
+  taken-none fails {marks} row are =
+      let base : ℕ = (height - 1) * (q + 1) in
+      let t : List ℕ = drop base stack in
+      let held : Holds q t stack base = record { same = λ j l. getD-drop base stack j 0 } in
+      let none : (j : ℕ) → childBy q found (at list q) (tuple t) 0 j ≡ false = λ j. closed-makes-none q found (at list q) (tuple t) 0 j (is-false (frozen 0 j) (frozen-none j)) in
+      let pushed = none-pushed q stack (height - 1) (tuple t) marks (frozen 0) (λ j _ _. is-false (frozen 0 j) (frozen-none j)) in
+      taken-grown held fails row are (sym (marks-over (childBy q found (at list q) (tuple t) 0) 0 q (omega arith) (λ j _ _. none j) ∙ marks-zero _))
+      (any-over _ 0 q (omega arith) (λ j _ _. rw (none j)) (any-zero _))
+      (pushed .0) (pushed .1) (combined-less (s .cached) (omega (arith, s .high)))

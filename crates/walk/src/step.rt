@@ -1,17 +1,15 @@
 // One step. Which unknowns make a child is found before anything is written.
 ghost use mathlib.Core.Path.{_≡_};
-ghost use mathlib.Core.Bool.{_&&_};
 ghost use Prim.Native.Nat.{_+_, _*_, _^_, _≤_, _<_};
 ghost use lib.Count.{trailingZeros};
-ghost use lib.Dec.{eqb};
 ghost use lib.ListN.{length};
 ghost use Rattle.linear.specs.Tests.{countTo};
 ghost use Rattle.linear.specs.Tuples.{raise};
-ghost use Rattle.definitions.specs.System.{componentLimit, covered};
+ghost use Rattle.definitions.specs.System.{covered};
 ghost use Rattle.definitions.specs.Tables.{at, frozen};
-ghost use Rattle.definitions.specs.Step.{marksTo};
 ghost use Rattle.walk.specs.Rows.{tuple, Limited};
 ghost use Rattle.walk.specs.Grow.{childBy, growTo};
+ghost use Rattle.walk.specs.Tried.{triedBy};
 ghost use Rattle.walk.specs.Listing.{Enlisted};
 ghost use Rattle.walk.specs.Cache.{Combined};
 ghost use Rattle.walk.specs.Pushed.{Parent, Others};
@@ -27,10 +25,10 @@ pub enum Stepped {
     Refused(Refusal),
 }
 
-// The unknowns that make a child, and those of them whose component is at its limit, as marks.
-pub struct Tried {
-    pub made: u32,
-    pub large: u32,
+// What trying the candidates came to: a child would have a component above the limit, or the unknowns that make a child, as marks.
+pub enum Tried {
+    TooLarge,
+    Made(u32),
 }
 
 // One step from a height above 0, the count of steps aside. `products` holds the inner products of the rows on the stack; what `top` holds is
@@ -51,17 +49,22 @@ pub fn take(
 {
     let level = height - 1;
     let base = level * (q + 1);
-    rows::read(stack, base, q, top);
     if cache::vanish(products, level, q) {
+        rows::read(stack, base, q, top);
         return enlist(list, found, q, top);
     }
     let marks = stack[base + q];
     let candidates = cache::candidates(products, level, q, marks);
-    let tried = children(list, found, q, top, candidates);
-    if tried.large != 0 {
-        return Stepped::Refused(Refusal::ComponentLimit);
+    if candidates == 0 {
+        return Stepped::Grown(level);
     }
-    Stepped::Grown(push(q, gram, stack, products, level, top, marks, tried.made))
+    rows::read(stack, base, q, top);
+    match children(list, found, q, top, candidates) {
+        Tried::TooLarge => Stepped::Refused(Refusal::ComponentLimit),
+        Tried::Made(made) => {
+            Stepped::Grown(push(q, gram, stack, products, level, top, marks, made))
+        }
+    }
 }
 
 // Lists a solution where there is room.
@@ -80,12 +83,10 @@ fn enlist(list: &mut [u32], found: usize, q: usize, top: &[u32; 16]) -> Stepped
 fn children(list: &[u32], found: usize, q: usize, top: &mut [u32; 16], candidates: u32) -> Tried
     requires { ⌜ (0 < q) × (q ≤ 16) × (found * q ≤ length (now list)) × (length (now top) ≡ 16) × (candidates < 2 ^ q) ⌝ }
     requires { ⌜ Limited q (tuple (now top)) ⌝ }
-    ensures { λ r. ⌜ r .made ≡ marksTo q (childBy q found (at (now (list .entry)) q) (tuple (now (top .entry))) candidates) ⌝ }
-    ensures { λ r. ⌜ r .large ≡ marksTo q (λ j. childBy q found (at (now (list .entry)) q) (tuple (now (top .entry))) candidates j && eqb (tuple (now (top .entry)) j) componentLimit) ⌝ }
+    ensures { λ r. ⌜ r ≡ triedBy q (childBy q found (at (now (list .entry)) q) (tuple (now (top .entry))) candidates) (tuple (now (top .entry))) ⌝ }
     ensures { λ _. ⌜ now (top .exit) ≡ now (top .entry) ⌝ }
 {
     let mut made: u32 = 0;
-    let mut large: u32 = 0;
     let mut rest = candidates;
     while rest != 0 {
         let i = u32::trailing_zeros(rest) as usize;
@@ -94,13 +95,12 @@ fn children(list: &[u32], found: usize, q: usize, top: &mut [u32; 16], candidate
         if blocked(list, found, q, top, i) {
             continue;
         }
-        made += bit;
-        if top[i] < 1000000 {
-            continue;
+        if 1000000 <= top[i] {
+            return Tried::TooLarge;
         }
-        large += bit;
+        made += bit;
     }
-    Tried { made, large }
+    Tried::Made(made)
 }
 
 // Whether the list has a row at or below `t` with component i raised by one; `t` is as before afterwards.
