@@ -14,13 +14,13 @@ use Rattle.walk.proofs.search.walk.Statement.{statement}
 use Rattle.walk.proofs.search.walk.Tie as tie
 
 abbrev Inv-loop : tie.InvT-loop
-Inv-loop p q coefs stack₀ list₀ budget height₀ found₀ steps₀ gram products₀ top₀ left₀ stack list height found steps products top left =
+Inv-loop p q coefs stack₀ list₀ budget height₀ found₀ steps₀ gram inner₀ top₀ left₀ stack list height found steps inner top left =
     (length stack ≡ length stack₀) × (length list ≡ length list₀)
-    × Walking (systemOf p q coefs) gram budget (stateAt stack₀ list₀ height₀ found₀ steps₀) left (stateAt stack list height found steps) products
+    × Walking (systemOf p q coefs) gram budget (stateAt stack₀ list₀ height₀ found₀ steps₀) left (stateAt stack list height found steps) inner
     × (length top ≡ 16)
 
 abbrev μ-loop : tie.MeasureT-loop
-μ-loop p q coefs stack₀ list₀ budget height₀ found₀ steps₀ gram products₀ top₀ left₀ stack list height found steps products top left = left
+μ-loop p q coefs stack₀ list₀ budget height₀ found₀ steps₀ gram inner₀ top₀ left₀ stack list height found steps inner top left = left
 
 positive : {n : ℕ} → ¬ (n ≡ 0) → 0 < n
 positive {n} h = omega (arith, h)
@@ -50,8 +50,9 @@ same-length-2 c = search needs
 
 returns : tie.Need-returns Inv-loop μ-loop
 returns c =
-    let a = c .before .before .before in
-    rw (c .outcome .ensures) (sym (ends-complete (a .loop .inv .2) (c .before .if1 .taken)))
+    let t = c .before in
+    let a = t .before .before in
+    rw (c .outcome .ensures) (sym (ends-paused (a .loop .inv .2) (t .before .loop-test .taken) (t .if1 .taken)))
 
 outcome-requires-2 : tie.Need-outcome-requires-2 Inv-loop μ-loop
 outcome-requires-2 c κs = search needs
@@ -67,7 +68,7 @@ returns-2 c =
     let t = c .before in
     let e = t .before in
     let a = e .before .before in
-    rw (c .outcome2 .ensures) (sym (ends-late (a .loop .inv .2) (positive (e .if1 .left)) (e .before .loop-test .taken) (t .if2 .taken)))
+    rw (c .outcome2 .ensures) (sym (ends-late (a .loop .inv .2) (e .before .loop-test .taken) (positive (e .if1 .left)) (t .if2 .taken)))
 
 take-requires : tie.Need-take-requires Inv-loop μ-loop
 take-requires c κs =
@@ -75,7 +76,7 @@ take-requires c κs =
     let a = e .before .before in
     let g = a .before .before .before .before .before in
     let s = g .before .before .before .before in
-    (standing (a .loop .inv .2 .valid) (gram-small (small-system (s .pre)) (g .write-gram .ensures)) (a .loop .inv .2 .cached) (positive (e .if1 .left)), a .loop .inv .3)
+    (standing (a .loop .inv .2 .valid) (gram-small (small-system (s .pre)) (g .write-gram .ensures)) (a .loop .inv .2 .cached) (e .before .loop-test .taken), a .loop .inv .3)
 
 enum-told : tie.Need-enum-told Inv-loop μ-loop
 enum-told c = search needs
@@ -89,7 +90,7 @@ add-found c =
     let e = k .before .before .before .before .before .before in
     let a = e .before .before .before in
     let g = a .before .before .before .before .before in
-    let next = turn-listed (a .loop .inv .2) (g .write-gram .ensures) (positive (e .before .if1 .left)) (e .before .before .loop-test .taken) (e .if2 .left) (k .take .ensures .0) (c .enum-told .given .1) refl refl in
+    let next = turn-listed (a .loop .inv .2) (g .write-gram .ensures) (e .before .before .loop-test .taken) (positive (e .before .if1 .left)) (e .if2 .left) (k .take .ensures .0) (c .enum-told .given .1) refl refl in
     omega (arith, found-small (next .valid), k .take .kept .1 .1 .1 .0, a .loop .inv .1, g .before .before .before .before .good .1 .1 .1 .1 .0)
 
 enum-known-h : tie.Need-enum-known-h Inv-loop μ-loop
@@ -113,7 +114,7 @@ returns-3 c =
     let e = k .before .before .before .before .before .before in
     let a = e .before .before .before in
     let g = a .before .before .before .before .before in
-    rw (c .outcome3 .ensures) (sym (turn-refused (a .loop .inv .2) (g .write-gram .ensures) (positive (e .before .if1 .left)) (e .before .before .loop-test .taken) (e .if2 .left) (k .take .ensures .0) (c .before .before .why .given .1)))
+    rw (c .outcome3 .ensures) (sym (turn-refused (a .loop .inv .2) (g .write-gram .ensures) (e .before .before .loop-test .taken) (positive (e .before .if1 .left)) (e .if2 .left) (k .take .ensures .0) (c .before .before .why .given .1)))
 
 add-steps : tie.Need-add-steps Inv-loop μ-loop
 add-steps c =
@@ -133,8 +134,8 @@ loop-again c =
     let e = k .before .before .before .before .before .before in
     let a = e .before .before .before in
     let g = a .before .before .before .before .before in
-    let h = positive (e .before .if1 .left) in
-    let more = e .before .before .loop-test .taken in (
+    let h = e .before .before .loop-test .taken in
+    let more = positive (e .before .if1 .left) in (
       k .take .kept .1 .1 .0 ∙ a .loop .inv .0,
       k .take .kept .1 .1 .1 .0 ∙ a .loop .inv .1,
       elim (c .match .came) [
@@ -155,24 +156,8 @@ same-length-8 c = search needs
 
 returns-4 : tie.Need-returns-4 Inv-loop μ-loop
 returns-4 c =
-    let t = c .before in
-    let a = t .before .before in
-    rw (c .outcome4 .ensures) (sym (ends-complete (a .loop .inv .2) (t .if3 .taken)))
-
-outcome-requires-5 : tie.Need-outcome-requires-5 Inv-loop μ-loop
-outcome-requires-5 c κs = search needs
-
-same-length-9 : tie.Need-same-length-9 Inv-loop μ-loop
-same-length-9 c = search needs
-
-same-length-10 : tie.Need-same-length-10 Inv-loop μ-loop
-same-length-10 c = search needs
-
-returns-5 : tie.Need-returns-5 Inv-loop μ-loop
-returns-5 c =
-    let t = c .before in
-    let a = t .before .before in
-    rw (c .outcome5 .ensures) (sym (ends-paused (a .loop .inv .2) (positive (t .if3 .left)) (omega (arith, t .before .loop-test .left))))
+    let e = c .before in
+    rw (c .outcome4 .ensures) (sym (ends-complete (e .before .loop .inv .2) (omega (arith, e .loop-test .left))))
 
 pub walk-spec : {M : Type 1} → statement M
 walk-spec =
@@ -208,8 +193,4 @@ walk-spec =
     outcome-requires-4
     same-length-7
     same-length-8
-    returns-4
-    outcome-requires-5
-    same-length-9
-    same-length-10
-    returns-5)
+    returns-4)
