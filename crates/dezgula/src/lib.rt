@@ -128,5 +128,5 @@ fn refusal(why: Refusal) -> u64
     requires { ⌜ refusalCode (numberOf why) (valuesOf why) < 2 ^ 64 ⌝ }
     ensures { λ a. ⌜ a ≡ refusalCode (numberOf why) (valuesOf why) ⌝ }
 {
-    refusals::number_of(why) + 256 * refusals::value_of(why) as u64
+    numbers::number_of(why) + 256 * numbers::value_of(why) as u64
 }

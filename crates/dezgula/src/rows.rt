@@ -12,7 +12,7 @@ pub fn tell(list: &[u32], q: usize, found: usize, n: usize, out: &mut [u32]) -> 
     ensures { λ a. ⌜ (a, now (out .exit)) ≡ rowTold q (now (list .entry)) found n (now (out .entry)) ⌝ }
 {
     match solver::reader_answer(q) {
-        Readable::Refused(why) => refusals::number_of(why),
+        Readable::Refused(why) => numbers::number_of(why),
         Readable::Yes => tell_part(solver::row_of(list, q, Solutions(found), n), out),
     }
 }

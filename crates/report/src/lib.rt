@@ -99,6 +99,6 @@ fn ending(out: &mut [u8], at: usize, answer: Answer) -> usize
         Answer::Started => at,
         Answer::Complete => put::word(out, at, b"end complete\n"),
         Answer::Paused => put::word(out, at, b"end paused\n"),
-        Answer::Refused(why) => lines::counted(out, at, b"end refused ", refusals::number_of(why)),
+        Answer::Refused(why) => lines::counted(out, at, b"end refused ", numbers::number_of(why)),
     }
 }
