@@ -54,6 +54,10 @@ pub record Written (k n : ℕ) (f : ℕ → ℤ) (table₀ table : List ℤ) : T
   pub after : (i : ℕ) → k * 16 + n ≤ i → getD table i (pos 0) ≡ getD table₀ i (pos 0)
   pub size : length table ≡ length table₀
 
+-- row k and those after it hold zeros
+pub record Zeros (table : List ℤ) (k : ℕ) : Type 0 where
+  pub zero : (i : ℕ) → k * 16 ≤ i → getD table i (pos 0) ≡ pos 0
+
 -- ---- the Gram matrix, and the products of the rows on the stack
 
 pub record Gram (m : System) (g : List ℤ) : Type 0 where
@@ -63,9 +67,17 @@ pub record SmallGram (q : ℕ) (g : List ℤ) : Type 0 where
   pub unknowns : q ≤ mostUnknowns
   pub small : (i j : ℕ) → i < q → j < q → natAbs (entry g i j) ≤ gramLimit
 
--- the sum of the rows of g, row i taken x i times: its number j
+-- the sum of the first n rows of g, row i taken x i times: its number j
+abbrev pub partial : List ℤ → (ℕ → ℕ) → ℕ → ℕ → ℤ
+partial g x n j = inner n (λ i. pos (x i)) (λ i. entry g i j)
+
+-- level k of c holds it
+pub record Summed (q : ℕ) (g : List ℤ) (x : ℕ → ℕ) (n k : ℕ) (c : List ℤ) : Type 0 where
+  pub sums : (j : ℕ) → j < q → entry c k j ≡ partial g x n j
+
+-- the sum of all q rows
 abbrev pub combine : ℕ → List ℤ → (ℕ → ℕ) → ℕ → ℤ
-combine q g x j = inner q (λ i. pos (x i)) (λ i. entry g i j)
+combine q g x j = partial g x q j
 
 -- level k of c holds the sum that the tuple in row k of the stack makes of the rows of g
 pub record Combined (q : ℕ) (g : List ℤ) (stack : List ℕ) (height : ℕ) (c : List ℤ) : Type 0 where

@@ -8,7 +8,7 @@ use native.Mathlib.Nat.{mul-le-mul}
 use native.Mathlib.Omega.{arith}
 use borrow.Author.Count.{below-more}
 use lib.Dec.{T}
-use lib.IntN.{ℤ, pos, natAbs, _+ℤ_, _*ℤ_}
+use lib.IntN.{ℤ, pos, natAbs, _+ℤ_, _*ℤ_, zero-*ℤ, +ℤ-idr}
 use lib.ListN.{length, getD, set, length-set}
 use lib.Seq.{getD-set-same, getD-set-other}
 use mir.Syntax.{w32, w64}
@@ -16,11 +16,12 @@ use mir.Val.{SFits, ofZ, toZ}
 use mir.Facts.{toZ-ofZ}
 use Rattle.linear.specs.Cases.{split}
 use Rattle.linear.specs.Integers.{sfits-natAbs, natAbs-+ℤ, natAbs-*ℤ}
+use Rattle.linear.specs.Sums.{sumTo}
 use Rattle.linear.specs.Systems.{inner}
 use Rattle.linear.specs.SystemLaws.{inner-next, inner-bound}
 use Rattle.definitions.specs.System.{System, mostUnknowns, componentLimit, column, isZero}
 use Rattle.laws.specs.TableLaws.{row-fits}
-use Rattle.walk.specs.Cache.{SmallSystem, SmallRow, SmallRows, gramLimit, productLimit, entry, Rows, Written, SmallGram, SmallProducts, raised}
+use Rattle.walk.specs.Cache.{SmallSystem, SmallRow, SmallRows, gramLimit, productLimit, entry, Rows, Zeros, Written, SmallGram, partial, SmallProducts, raised}
 
 -- ---- sums of products
 
@@ -64,6 +65,9 @@ module _ {n : ℕ} {v w : ℕ → ℤ} (s : SmallTerms n v w) where
       pub next-fits : SFits w64 (toZ w64 (ofZ w64 x) *ℤ toZ w64 (ofZ w64 y)) × SFits w64 (added sum x y)
       next-fits =
           (rw (f, g, toZ-ofZ (left-fits k l), toZ-ofZ (right-fits k l)) (term-fits k l), rw added-is (sum-fits (k + 1) (omega arith)))
+
+      pub next-value : {r : ℤ} → r ≡ added sum x y → toZ w64 (ofZ w64 r) ≡ inner (k + 1) v w
+      next-value h = rw (h ∙ added-is) (toZ-ofZ (sum-fits (k + 1) (omega arith)))
 
       pub next-sum : {r : ℤ} → r ≡ added sum x y → ofZ w64 r ≡ ofZ w64 (inner (k + 1) v w)
       next-sum h = ap (ofZ w64) (h ∙ added-is)
@@ -130,6 +134,27 @@ module _ {k : ℕ} {f : ℕ → ℤ} {table₀ : List ℤ} where
         after = λ i l. getD-set-other table (k * 16 + j) i x (pos 0) (omega arith) ∙ w .after i (omega arith);
         size = length-set table (k * 16 + j) x ∙ w .size;
       }
+
+  -- a row written again
+  pub written-again : {n : ℕ} {h : ℕ → ℤ} {table table′ : List ℤ} → Written k n h table₀ table → Written k n f table table′ → Written k n f table₀ table′
+  written-again w u = record { before = λ i l. u .before i l ∙ w .before i l; new = u .new; after = λ i l. u .after i l ∙ w .after i l; size = u .size ∙ w .size }
+
+  -- a row that holds what is written
+  pub written-same : {n : ℕ} → ((j : ℕ) → j < n → entry table₀ k j ≡ f j) → Written k n f table₀ table₀
+  written-same h = record { before = λ i l. refl; new = h; after = λ i l. refl; size = refl }
+
+-- ---- rows of zeros
+
+pub zeros-after : {k q : ℕ} {f : ℕ → ℤ} {table₀ table : List ℤ} → q ≤ mostUnknowns → Zeros table₀ k → Written k q f table₀ table → Zeros table (k + 1)
+zeros-after few z w = record { zero = λ i l. w .after i (omega arith) ∙ z .zero i (omega arith) }
+
+pub zeros-summed : {q : ℕ} (g : List ℤ) (x : ℕ → ℕ) {k : ℕ} {c : List ℤ} → Zeros c k → (j : ℕ) → j < q → entry c k j ≡ partial g x 0 j
+unfolding inner sumTo
+zeros-summed g x {k} z j l = z .zero (k * 16 + j) (omega arith)
+
+-- a component of 0 adds nothing
+pub partial-skip : (g : List ℤ) (x : ℕ → ℕ) (n j : ℕ) → x n ≡ 0 → partial g x n j ≡ partial g x (n + 1) j
+partial-skip g x n j e = sym (inner-next n (λ i. pos (x i)) (λ i. entry g i j) ∙ rw (e, zero-*ℤ (entry g n j)) (+ℤ-idr (partial g x n j)))
 
 pub rows-next : {k q : ℕ} {f : ℕ → ℕ → ℤ} {table₀ table : List ℤ} → q ≤ mostUnknowns → Rows k q f table₀ → Written k q (f k) table₀ table
     → Rows (k + 1) q f table

@@ -1,11 +1,11 @@
 -- The loop of the walk: what it keeps, a turn of it, and its ends. Assumes nothing.
-use mathlib.Core.Path.{_≡_, sym, _∙_, ap}
+use mathlib.Core.Path.{_≡_, refl, sym, _∙_, ap}
 use mathlib.Core.Logic.{_≢_, inl, inr}
 use mathlib.Core.List.{List, []}
-use Prim.Native.Nat.{ℕ, suc, _+_, _-_, _≤_, _<_}
+use Prim.Native.Nat.{ℕ, zero, suc, _+_, _-_, _≤_, _<_}
 use native.Mathlib.Omega.{arith}
 use lib.IntN.{ℤ, pos}
-use lib.ListN.{length, List·getD-eq-default}
+use lib.ListN.{length, getD, replicate, List·getD-eq-default}
 use native.Mathlib.Nat.{mul-le-mul-right, le-mul-of-pos-right}
 use Rattle.linear.specs.Cases.{split}
 use borrow.Author.Tests.{ne-eqb, eq-eqb}
@@ -22,8 +22,17 @@ use Rattle.refusals.specs.Paper.{systemOf, numberOf, valuesOf}
 use Rattle.refusals.specs.declared.Refusal.{Refusal}
 use Rattle.walk.specs.declared.step.Stepped.{Stepped}
 use Rattle.walk.specs.declared.step.Stepped.the-variants.{Listed, Grown, Refused}
-use Rattle.walk.specs.Cache.{SmallSystem, Gram, SmallGram, SmallRows, Combined}
+use Rattle.walk.specs.Cache.{SmallSystem, Gram, SmallGram, SmallRows, Combined, Zeros}
 use Rattle.walk.specs.Taken.{Standing, stepChecks, stateBy, stateAt, Steps, Taken}
+
+-- a table as it is made
+pub blank-zeros : Zeros (replicate 256 (pos 0)) 0
+blank-zeros = record { zero = λ i l. getD-replicate 256 i }
+  where
+    getD-replicate : (n i : ℕ) → getD (replicate n (pos 0)) i (pos 0) ≡ pos 0
+    getD-replicate zero i = refl
+    getD-replicate (suc n) zero = refl
+    getD-replicate (suc n) (suc i) = getD-replicate n i
 
 -- ---- what passed the checks is small
 

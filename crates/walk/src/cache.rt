@@ -4,7 +4,7 @@ ghost use mathlib.Core.Path.{_≡_};
 ghost use mathlib.Core.Bool.{not, _&&_};
 ghost use Prim.Native.Nat.{_+_, _*_, _^_, _≤_, _<_};
 ghost use lib.IntN.{pos, _+ℤ_, _*ℤ_};
-ghost use lib.ListN.{length, getD};
+ghost use lib.ListN.{length};
 ghost use lib.Signed.{ltZ};
 ghost use mir.Syntax.{w64};
 ghost use mir.Val.{SFits};
@@ -15,7 +15,7 @@ ghost use Rattle.definitions.specs.Tables.{at, frozen};
 ghost use Rattle.definitions.specs.Step.{marksTo};
 ghost use Rattle.refusals.specs.Paper.{systemOf};
 ghost use Rattle.walk.specs.Marks.{Marked};
-ghost use Rattle.walk.specs.Cache.{SmallSystem, SmallRow, SmallRows, entry, Written, Gram, SmallGram, combine, Combined, raised, ChildRoom};
+ghost use Rattle.walk.specs.Cache.{SmallSystem, SmallRow, SmallRows, entry, Zeros, Written, Gram, SmallGram, partial, Summed, combine, Combined, raised, ChildRoom};
 
 // Writes the Gram matrix: the inner product of columns i and j at i * 16 + j.
 pub fn write_gram(p: usize, q: usize, coefs: &[i32], g: &mut [i64; 256])
@@ -76,9 +76,9 @@ fn natural(x: u32) -> i64
     x as i64
 }
 
-// Writes the products of the rows on the stack, from the Gram matrix.
+// Writes the products of the rows on the stack, from the Gram matrix, into a table of zeros.
 pub fn write_products(q: usize, gram: &[i64; 256], stack: &[u32], height: usize, c: &mut [i64; 256])
-    requires { ⌜ SmallGram q (now gram) × (length (now c) ≡ 256) ⌝ }
+    requires { ⌜ SmallGram q (now gram) × (length (now c) ≡ 256) × Zeros (now c) 0 ⌝ }
     requires { ⌜ SmallRows q (now stack) height ⌝ }
     ensures { λ _. ⌜ Combined q (now (gram .entry)) (now (stack .entry)) height (now (c .exit)) ⌝ }
 {
@@ -91,28 +91,31 @@ pub fn write_products(q: usize, gram: &[i64; 256], stack: &[u32], height: usize,
 
 // Those of row k.
 fn products_row(q: usize, gram: &[i64; 256], stack: &[u32], k: usize, c: &mut [i64; 256])
-    requires { ⌜ SmallGram q (now gram) × SmallRow q (now stack) (k * (q + 1)) × (length (now c) ≡ 256) × (k < 16) ⌝ }
+    requires { ⌜ SmallGram q (now gram) × SmallRow q (now stack) (k * (q + 1)) × (length (now c) ≡ 256) × (k < 16) × Zeros (now c) k ⌝ }
     ensures { λ _. ⌜ Written k q (combine q (now (gram .entry)) (at (now (stack .entry)) (q + 1) k)) (now (c .entry)) (now (c .exit)) ⌝ }
 {
-    let mut j = 0;
-    while j < q {
-        c[k * 16 + j] = product(q, gram, stack, k * (q + 1), j);
-        j += 1;
+    let mut i = 0;
+    while i < q {
+        add_component(q, gram, stack, k, i, c);
+        i += 1;
     }
 }
 
-// The inner product of the image of the row at `base` with column j.
-fn product(q: usize, gram: &[i64; 256], stack: &[u32], base: usize, j: usize) -> i64
-    requires { ⌜ SmallGram q (now gram) × SmallRow q (now stack) base × (j < q) ⌝ }
-    ensures { λ r. ⌜ r ≡ combine q (now (gram .entry)) (λ i. getD (now (stack .entry)) (base + i) 0) j ⌝ }
+// Adds to the products at level k what component i of its row makes of them. Most components are 0, and make nothing.
+fn add_component(q: usize, gram: &[i64; 256], stack: &[u32], k: usize, i: usize, c: &mut [i64; 256])
+    requires { ⌜ SmallGram q (now gram) × SmallRow q (now stack) (k * (q + 1)) × (length (now c) ≡ 256) × (k < 16) × (i < q) ⌝ }
+    requires { ⌜ Summed q (now gram) (at (now stack) (q + 1) k) i k (now c) ⌝ }
+    ensures { λ _. ⌜ Written k q (partial (now (gram .entry)) (at (now (stack .entry)) (q + 1) k) (i + 1)) (now (c .entry)) (now (c .exit)) ⌝ }
 {
-    let mut sum: i64 = 0;
-    let mut i = 0;
-    while i < q {
-        sum = sum_and(sum, natural(stack[base + i]), gram[i * 16 + j]);
-        i += 1;
+    let x = stack[k * (q + 1) + i];
+    if x == 0 {
+        return;
     }
-    sum
+    let mut j = 0;
+    while j < q {
+        c[k * 16 + j] = sum_and(c[k * 16 + j], natural(x), gram[i * 16 + j]);
+        j += 1;
+    }
 }
 
 // Whether the products at level k are all 0: then, and only then, the row is a solution.
