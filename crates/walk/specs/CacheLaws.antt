@@ -2,7 +2,6 @@
 -- solution, and of a child are what `write_child` writes; and the rows of a stack stay cached while it shrinks and grows. Assumes nothing.
 use mathlib.Core.Path.{_≡_, refl, sym, _∙_, ap, ap₂}
 use mathlib.Core.Logic.{inl, inr}
-use mathlib.Core.Bool.{Bool, true, false}
 use mathlib.Core.List.{List}
 use Prim.Native.Nat.{ℕ, _+_, _*_, _≤_, _<_}
 use native.Mathlib.Omega.{arith}
@@ -21,6 +20,7 @@ use Rattle.definitions.specs.System.{System, mostUnknowns, coefLimit, component
 use Rattle.definitions.specs.Tables.{at, writeRow}
 use Rattle.laws.specs.SystemLaws.{solves-solution, fails-fails}
 use Rattle.laws.specs.TableLaws.{row-other, row-tuple}
+use Rattle.walk.specs.Marks.{same-test}
 use Rattle.walk.specs.Cache.{SmallSystem, gramLimit, entry, Written, Gram, SmallGram, combine, Combined, Products, SmallProducts, raised}
 use Rattle.walk.specs.CacheSteps.{rows-next}
 
@@ -72,13 +72,6 @@ module _ {q : ℕ} {g : List ℤ} where
 pub is-zero : (z : ℤ) → T (isZero z) → z ≡ pos 0
 is-zero (pos n) h = ap pos (eqb→eq n 0 h)
 is-zero (negsuc n) h = absurd h
-
--- two tests that hold together are one
-pub same-test : (b c : Bool) → (T b → T c) → (T c → T b) → b ≡ c
-same-test true true f g = refl
-same-test true false f g = absurd (f tt)
-same-test false true f g = absurd (g tt)
-same-test false false f g = refl
 
 -- a tuple is a solution just where its image is orthogonal to every column
 solves-products : (m : System) (x : ℕ → ℕ) → solves m x ≡ allTo (m .q) (λ j. isZero (towards m x j))
