@@ -16,8 +16,8 @@ use Rattle.definitions.specs.Step.{step}
 use Rattle.definitions.specs.Refusals.{between, check1, check2, check3, check4, check5, check6, check7, check8, startChecks, lowerChecks, resumeChecks, searchChecks}
 use Rattle.definitions.specs.Calls.{Outcome, checked, start, startFrom, unlessDone, walk, resume}
 use Rattle.laws.specs.AnswerLaws.{refuse-if-go}
-use Rattle.refusals.specs.Paper.{answerOf, outcomeOf}
-use Rattle.refusals.specs.declared.Outcome as values
+use Rattle.calls.specs.Paper.{answerOf, outcomeOf}
+use Rattle.calls.specs.declared.Outcome as values
 use Rattle.dezgula.specs.Codes.{refusalCode, code, lent, recordOf, told}
 
 abbrev Fits : Answer → Type 0

@@ -4,8 +4,8 @@ use mathlib.Core.List.{List}
 use Rattle.definitions.specs.Answers.{Answer, started, complete, paused, refused}
 use Rattle.definitions.specs.Tables.{State}
 use Rattle.definitions.specs.Calls.{Outcome}
-use Rattle.refusals.specs.Paper.{value}
-use Rattle.refusals.specs.declared.Record.{Record}
+use Rattle.calls.specs.Paper.{value}
+use Rattle.calls.specs.declared.Record.{Record}
 
 -- document 01's number of a refusal in the low 8 bits, and its value above them
 abbrev pub refusalCode : ℕ → List ℕ → ℕ

@@ -3,15 +3,15 @@
 ghost use mathlib.Core.Path.{_≡_};
 ghost use Prim.Native.Nat.{_^_, _<_};
 ghost use Rattle.definitions.specs.Calls.{start, startFrom, resume};
-ghost use Rattle.refusals.specs.Paper.{systemOf, numberOf, valuesOf, answerOf};
+ghost use Rattle.calls.specs.Paper.{systemOf, numberOf, valuesOf, answerOf};
 ghost use Rattle.dezgula.specs.Codes.{code, refusalCode, told, lent, recordOf};
 ghost use Rattle.dezgula.specs.Rows.{rowTold};
-use refusals::Answer;
-use refusals::Outcome;
-use refusals::Record;
-use refusals::Refusal;
-use refusals::Solutions;
-use refusals::Steps;
+use calls::Answer;
+use calls::Outcome;
+use calls::Record;
+use calls::Refusal;
+use calls::Solutions;
+use calls::Steps;
 
 mod rows; // rows.rt: reading a row
 
@@ -128,5 +128,5 @@ fn refusal(why: Refusal) -> u64
     requires { ⌜ refusalCode (numberOf why) (valuesOf why) < 2 ^ 64 ⌝ }
     ensures { λ a. ⌜ a ≡ refusalCode (numberOf why) (valuesOf why) ⌝ }
 {
-    numbers::number_of(why) + 256 * numbers::value_of(why) as u64
+    calls::number_of(why) + 256 * calls::value_of(why) as u64
 }

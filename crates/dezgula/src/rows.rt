@@ -4,7 +4,7 @@ ghost use mathlib.Core.List.{_++_};
 ghost use Prim.Native.Nat.{_≤_};
 ghost use lib.ListN.{length, drop};
 ghost use Rattle.dezgula.specs.Rows.{rowTold, copyTold};
-use refusals::Solutions;
+use calls::Solutions;
 use solver::Readable;
 
 // Whether the reader is refused, and then what it shows.
@@ -12,7 +12,7 @@ pub fn tell(list: &[u32], q: usize, found: usize, n: usize, out: &mut [u32]) -> 
     ensures { λ a. ⌜ (a, now (out .exit)) ≡ rowTold q (now (list .entry)) found n (now (out .entry)) ⌝ }
 {
     match solver::reader_answer(q) {
-        Readable::Refused(why) => numbers::number_of(why),
+        Readable::Refused(why) => calls::number_of(why),
         Readable::Yes => tell_part(solver::row_of(list, q, Solutions(found), n), out),
     }
 }

@@ -87,7 +87,7 @@ fn accept(p: usize, q: usize, found: &[i32], coefs: &mut [i32]) -> Read
 {
     let mut i = 0;
     while i < found.len() {
-        if refusals::coefficients::out_of_range(found[i]) {
+        if checks::coefficients::out_of_range(found[i]) {
             return Read::Refused(TextRefusal::Coefficient(i + 1));
         }
         i += 1;

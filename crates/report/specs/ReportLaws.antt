@@ -7,7 +7,7 @@ use native.Mathlib.Omega.{arith}
 use lib.IntN.{ℤ}
 use lib.ListN.{length, take, drop, length-append, length-take}
 use lib.Seq.{take-at}
-use Rattle.refusals.specs.Paper.{systemOf}
+use Rattle.calls.specs.Paper.{systemOf}
 use Rattle.map_form.specs.Reading as reading
 use Rattle.map_form.specs.Reading.{Reading, readMap}
 use Rattle.map_text.specs.Answer.{Outcome, answered, outcome, numberOf, valuesOf}

@@ -4,16 +4,16 @@ ghost use mathlib.Core.List.{[]};
 ghost use Prim.Native.Nat.{_+_, _*_, _≤_};
 ghost use lib.ListN.{length, take, drop};
 ghost use Rattle.map_text.specs.Answer as reading;
-ghost use Rattle.refusals.specs.Paper.{systemOf, answerOf, numberOf, outcomeOf};
+ghost use Rattle.calls.specs.Paper.{systemOf, answerOf, numberOf, outcomeOf};
 ghost use Rattle.report.specs.Printed as paper;
 ghost use Rattle.report.specs.Put.{Put};
+use calls::Answer;
+use calls::Outcome;
+use calls::Record;
+use calls::Solutions;
+use calls::Steps;
 use map_text::Read;
 use map_text::TextRefusal;
-use refusals::Answer;
-use refusals::Outcome;
-use refusals::Record;
-use refusals::Solutions;
-use refusals::Steps;
 
 mod lines; // lines.rt: lines of the report
 mod put; // put.rt: writing into a buffer
@@ -99,6 +99,6 @@ fn ending(out: &mut [u8], at: usize, answer: Answer) -> usize
         Answer::Started => at,
         Answer::Complete => put::word(out, at, b"end complete\n"),
         Answer::Paused => put::word(out, at, b"end paused\n"),
-        Answer::Refused(why) => lines::counted(out, at, b"end refused ", numbers::number_of(why)),
+        Answer::Refused(why) => lines::counted(out, at, b"end refused ", calls::number_of(why)),
     }
 }

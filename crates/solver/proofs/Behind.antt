@@ -37,17 +37,17 @@ use denote.Struct.Rest.{all-own, own-open}
 use denote.Enum.Laws as EL
 use denote.Triple.End.{Kepts}
 use denote.Triple.Clauses.{Ended, Clauses, Lasts, lasts, atExit}
-use Rattle.refusals.specs.declared.Record.{Record}
-use Rattle.refusals.specs.declared.Answer.{Answer}
-use Rattle.refusals.specs.declared.Outcome.{Outcome}
+use Rattle.calls.specs.declared.Record.{Record}
+use Rattle.calls.specs.declared.Answer.{Answer}
+use Rattle.calls.specs.declared.Outcome.{Outcome}
 use Rattle.solver.proofs.Frame.{Cells}
 use Rattle.solver.proofs.Walk.{tokens, Met, Handed, hands, returned, Spelleds, number, shared-slice, lent-slice, lent}
-use Rattle.refusals.proofs.Record as Rec
-use Rattle.refusals.proofs.Record.Laws as Rec′
-use Rattle.refusals.proofs.Answer as Ans
-use Rattle.refusals.proofs.Answer.Laws as Ans′
-use Rattle.refusals.proofs.Outcome as Out
-use Rattle.refusals.proofs.Outcome.Laws as Out′
+use Rattle.calls.proofs.Record as Rec
+use Rattle.calls.proofs.Record.Laws as Rec′
+use Rattle.calls.proofs.Answer as Ans
+use Rattle.calls.proofs.Answer.Laws as Ans′
+use Rattle.calls.proofs.Outcome as Out
+use Rattle.calls.proofs.Outcome.Laws as Out′
 
 -- ---- the parameters that the entries share: p, q, coefs, stack, list and the record, in locals 1 to 6. Others may follow.
 module _ {P Q R S X : Type 0} where

@@ -18,7 +18,7 @@ use Rattle.laws.specs.TableLaws.{row-fits}
 use Rattle.definitions.specs.Reader.{Shown, row, none, refused, readerCheck, hasRow, rowPart, showIf, shownBy, shown}
 use Rattle.solver.specs.declared.Readable.{Readable}
 use Rattle.solver.specs.declared.Readable.the-variants.{Yes, Refused}
-use Rattle.refusals.specs.Paper.{numberOf, valuesOf}
+use Rattle.calls.specs.Paper.{numberOf, valuesOf}
 
 abbrev pub readableOf : Readable → Check
 readableOf Yes = go

@@ -5,12 +5,12 @@ ghost use Rattle.definitions.specs.Calls.{start as startOf, startFrom as startF
 ghost use Rattle.definitions.specs.Reader.{readerCheck};
 ghost use Rattle.definitions.specs.Refusals.{between};
 ghost use Rattle.definitions.specs.System.{mostUnknowns};
-ghost use Rattle.refusals.specs.Paper.{systemOf, stateOf, leftBy};
+ghost use Rattle.calls.specs.Paper.{systemOf, stateOf, leftBy};
 ghost use Rattle.solver.specs.Reading.{readableOf, shownPart, shows};
-use refusals::Answer;
-use refusals::Record;
-use refusals::Refusal;
-use refusals::Solutions;
+use calls::Answer;
+use calls::Record;
+use calls::Refusal;
+use calls::Solutions;
 
 // The plain start.
 pub fn start(

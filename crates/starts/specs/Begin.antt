@@ -2,9 +2,9 @@
 use Prim.Native.Nat.{ℕ, _+_, _*_, _≤_, _<_}
 use native.Mathlib.Nat.{mul-le-mul-right}
 use native.Mathlib.Omega.{arith}
-use Rattle.refusals.specs.Paper.{leaves}
-use Rattle.refusals.specs.declared.Answer.the-variants.{Started}
-use Rattle.refusals.specs.declared.Outcome.{Outcome}
+use Rattle.calls.specs.Paper.{leaves}
+use Rattle.calls.specs.declared.Answer.the-variants.{Started}
+use Rattle.calls.specs.declared.Outcome.{Outcome}
 
 abbrev pub begins : ℕ → Outcome
 begins height = leaves Started height 0 0

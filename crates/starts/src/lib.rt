@@ -1,14 +1,14 @@
 // The starts of document 01: plain, and from a lower bound. Each takes the run record by value and returns what it leaves.
 ghost use mathlib.Core.Path.{_≡_};
 ghost use Rattle.definitions.specs.Calls.{start, startFrom};
-ghost use Rattle.refusals.specs.Paper.{systemOf, stateOf, outcomeOf};
+ghost use Rattle.calls.specs.Paper.{systemOf, stateOf, outcomeOf};
 ghost use Rattle.starts.specs.Begin.{begins};
-use refusals::Answer;
-use refusals::Check;
-use refusals::Outcome;
-use refusals::Record;
-use refusals::Solutions;
-use refusals::Steps;
+use calls::Answer;
+use calls::Check;
+use calls::Outcome;
+use calls::Record;
+use calls::Solutions;
+use calls::Steps;
 
 mod rows; // rows.rt: the rows that the starts write
 
@@ -23,8 +23,8 @@ pub fn started(
 ) -> Outcome
     ensures { λ o. ⌜ outcomeOf o (now (stack .exit)) (now (list .exit)) ≡ start (systemOf p q (now (coefs .entry))) (stateOf (now (stack .entry)) (now (list .entry)) r) ⌝ }
 {
-    match refusals::check_start(p, q, coefs, stack, list, r) {
-        Check::Refuse(why) => refusals::refused(why, r),
+    match checks::check_start(p, q, coefs, stack, list, r) {
+        Check::Refuse(why) => calls::refused(why, r),
         Check::Pass => {
             rows::write_units(stack, q);
             begun(q)
@@ -44,8 +44,8 @@ pub fn started_from(
 ) -> Outcome
     ensures { λ o. ⌜ outcomeOf o (now (stack .exit)) (now (list .exit)) ≡ startFrom (now (lower .entry)) (systemOf p q (now (coefs .entry))) (stateOf (now (stack .entry)) (now (list .entry)) r) ⌝ }
 {
-    match refusals::check_start_from(p, q, coefs, lower, stack, list, r) {
-        Check::Refuse(why) => refusals::refused(why, r),
+    match checks::check_start_from(p, q, coefs, lower, stack, list, r) {
+        Check::Refuse(why) => calls::refused(why, r),
         Check::Pass => {
             rows::write_lower(stack, q, lower);
             begun(1)

@@ -1,10 +1,10 @@
 // Small systems drawn in a fixed order, each solved by the walk and by trying every tuple of a box, plainly and from a lower bound. What the walk
 // lists is held against the minimal solutions of the box. It prints how much was compared, and how many rows were wrong or missing.
-use refusals::Answer;
-use refusals::Outcome;
-use refusals::Record;
-use refusals::Solutions;
-use refusals::Steps;
+use calls::Answer;
+use calls::Outcome;
+use calls::Record;
+use calls::Solutions;
+use calls::Steps;
 use try_common::draws;
 use try_common::print;
 use try_common::tables;

@@ -1,8 +1,8 @@
 // Answers as numbers, and outcomes compared.
-use refusals::Answer;
-use refusals::Outcome;
-use refusals::Record;
-use refusals::Refusal;
+use calls::Answer;
+use calls::Outcome;
+use calls::Record;
+use calls::Refusal;
 
 // Answers that are no refusal.
 pub const STARTED: u64 = 15;

@@ -1,7 +1,7 @@
 // What a program prints.
 use crate::answers;
 use crate::tables;
-use refusals::Answer;
+use calls::Answer;
 
 pub fn text(bytes: &[u8]) {
     io::write_all(1, bytes);

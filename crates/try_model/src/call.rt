@@ -1,7 +1,7 @@
 // A call as numbers: its sizes, its record, and what its tables are built from.
-use refusals::Record;
-use refusals::Solutions;
-use refusals::Steps;
+use calls::Record;
+use calls::Solutions;
+use calls::Steps;
 use try_common::tables;
 
 // The kinds of call.

@@ -1,6 +1,6 @@
 // The refusals before the walk.
 use crate::call;
-use refusals::Record;
+use calls::Record;
 use try_common::marks;
 use try_common::sums;
 use try_common::tables;

@@ -1,9 +1,9 @@
 // Calls as numbers, the tables that are built from them, and what document 01 has such a call answer and leave, with no thought of speed: images are
 // summed anew wherever one is asked for. The tests hold the calls against it.
 use crate::call::Call;
-use refusals::Record;
-use refusals::Solutions;
-use refusals::Steps;
+use calls::Record;
+use calls::Solutions;
+use calls::Steps;
 use try_common::answers;
 use try_common::marks;
 use try_common::tables;

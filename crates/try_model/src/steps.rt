@@ -2,9 +2,9 @@
 use crate::Told;
 use crate::call;
 use crate::checks;
-use refusals::Record;
-use refusals::Solutions;
-use refusals::Steps;
+use calls::Record;
+use calls::Solutions;
+use calls::Steps;
 use try_common::answers;
 use try_common::marks;
 use try_common::sums;

@@ -1,5 +1,5 @@
 // A call made and held against the model, and what was counted of many.
-use refusals::Outcome;
+use calls::Outcome;
 use try_common::answers;
 use try_common::print;
 use try_common::sums;

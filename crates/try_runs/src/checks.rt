@@ -1,7 +1,7 @@
 // What holds after a run.
 use crate::runs;
-use refusals::Answer;
-use refusals::Outcome;
+use calls::Answer;
+use calls::Outcome;
 use try_common::answers;
 use try_common::tables;
 use try_common::up;

@@ -1,7 +1,7 @@
 // Document 01's "Runs to compare", each in one call, and again as series of calls that share its budget out. Before a run the tables and the
 // record hold numbers of no meaning, and the tables are longer than they need be. It prints what each run came to, and how many were made.
-use refusals::Answer;
-use refusals::Outcome;
+use calls::Answer;
+use calls::Outcome;
 use try_common::print;
 use try_common::tables;
 use try_common::up;

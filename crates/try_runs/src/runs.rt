@@ -1,9 +1,9 @@
 // A run in one call, and as a series of calls.
-use refusals::Answer;
-use refusals::Outcome;
-use refusals::Record;
-use refusals::Solutions;
-use refusals::Steps;
+use calls::Answer;
+use calls::Outcome;
+use calls::Record;
+use calls::Solutions;
+use calls::Steps;
 use try_common::answers;
 use try_common::tables;
 

@@ -18,8 +18,8 @@ use Rattle.definitions.specs.Calls.{walk}
 use Rattle.laws.specs.CallLaws.{walk-done, walk-paused, walk-refused, walk-more}
 use Rattle.laws.specs.RefusalLaws.{Valid, search-going}
 use Rattle.laws.specs.ValidLaws.{step-valid, found-fits}
-use Rattle.refusals.specs.Paper.{systemOf, numberOf, valuesOf}
-use Rattle.refusals.specs.declared.Refusal.{Refusal}
+use Rattle.calls.specs.Paper.{systemOf, numberOf, valuesOf}
+use Rattle.calls.specs.declared.Refusal.{Refusal}
 use Rattle.walk.specs.declared.step.Stepped.{Stepped}
 use Rattle.walk.specs.declared.step.Stepped.the-variants.{Listed, Grown, Refused}
 use Rattle.walk.specs.Cache.{SmallSystem, Gram, SmallGram, SmallRows, Combined, Zeros}

@@ -13,7 +13,7 @@ ghost use Rattle.linear.specs.Gram.{gram};
 ghost use Rattle.definitions.specs.System.{coef, isZero};
 ghost use Rattle.definitions.specs.Tables.{at, frozen};
 ghost use Rattle.definitions.specs.Step.{marksTo};
-ghost use Rattle.refusals.specs.Paper.{systemOf};
+ghost use Rattle.calls.specs.Paper.{systemOf};
 ghost use Rattle.walk.specs.Marks.{Marked};
 ghost use Rattle.walk.specs.Cache.{SmallSystem, SmallRow, SmallRows, entry, Zeros, Written, Gram, SmallGram, partial, Summed, combine, Combined, raised, ChildRoom};
 

@@ -16,7 +16,7 @@ ghost use Rattle.walk.specs.Pushed.{Parent, Others};
 ghost use Rattle.walk.specs.Taken.{Standing, Taken};
 use crate::cache;
 use crate::rows;
-use refusals::Refusal;
+use calls::Refusal;
 
 // What a step came to: a solution listed, children written up to a height, or a refusal.
 pub enum Stepped {

@@ -1,7 +1,7 @@
 -- `number` meets its contract. Assumes nothing.
 use mathlib.Core.Path.{_∙_, sym, ap}
 use borrow.Author.Needs.{needs}
-use Rattle.refusals.specs.Paper.{answerOf}
+use Rattle.calls.specs.Paper.{answerOf}
 use Rattle.dezgula.specs.Codes.{code}
 use Rattle.dezgula.proofs.number.Statement.{statement}
 use Rattle.dezgula.proofs.number.Tie as tie

@@ -1,6 +1,6 @@
 -- `solved` meets its contract. Assumes nothing.
 use borrow.Author.Needs.{needs}
-use Rattle.refusals.specs.Paper.{systemOf}
+use Rattle.calls.specs.Paper.{systemOf}
 use Rattle.report.specs.Printed as paper
 use Rattle.report.specs.RunLaws.{ran-is, ran-fits}
 use Rattle.report.proofs.solved.Statement.{statement}

@@ -12,7 +12,7 @@ use denote.Triple.Call.{calls-at}
 use denote.Triple.Clauses.{Clauses}
 use denote.Triple.Statement.{Contract}
 use denote.Triple.Table.{cited}
-use Rattle.refusals.specs.declared.Record.{Record}
+use Rattle.calls.specs.declared.Record.{Record}
 use Rattle.solver.proofs.Frame.{here, ends}
 use Rattle.solver.proofs.Walk.{Met, shared-slice, proved}
 use Rattle.solver.proofs.Behind.{less, with, values, shared, lends, copies, puts-back}

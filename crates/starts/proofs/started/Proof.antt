@@ -3,7 +3,7 @@ use borrow.Author.Needs.{needs}
 use Rattle.definitions.specs.Tables.{plainStart}
 use Rattle.definitions.specs.Calls.{start}
 use Rattle.laws.specs.RefusalLaws.{start-shaped}
-use Rattle.refusals.specs.CallLaws.{call-refused, call-passed, passes}
+use Rattle.calls.specs.CallLaws.{call-refused, call-passed, passes}
 use Rattle.starts.proofs.started.Statement.{statement}
 use Rattle.starts.proofs.started.Tie as tie
 

@@ -4,7 +4,7 @@ use borrow.Author.Needs.{needs}
 use Rattle.definitions.specs.Tables.{lowerStart}
 use Rattle.definitions.specs.Calls.{startFrom}
 use Rattle.laws.specs.RefusalLaws.{lower-shaped}
-use Rattle.refusals.specs.CallLaws.{call-refused, call-passed, passes}
+use Rattle.calls.specs.CallLaws.{call-refused, call-passed, passes}
 use Rattle.starts.specs.Begin.{first-row}
 use Rattle.starts.proofs.started_from.Statement.{statement}
 use Rattle.starts.proofs.started_from.Tie as tie

@@ -27,8 +27,8 @@ use Rattle.solver.proofs.Frame.{here, ends}
 use Rattle.solver.proofs.Walk.{Met, hands, returned, silent, number, struct, proved}
 use Rattle.solver.proofs.Reader as T
 use Rattle.solver.proofs.Reader.Laws as T′
-use Rattle.refusals.proofs.Solutions as S
-use Rattle.refusals.proofs.Solutions.Laws as S′
+use Rattle.calls.proofs.Solutions as S
+use Rattle.calls.proofs.Solutions.Laws as S′
 use Rattle.solver.proofs.row_of as row-of
 use Rattle.solver.proofs.row_of.Symbol as row-of-def
 use Rattle.solver.proofs.row_of.Symbol.{name as #solver·row-of}

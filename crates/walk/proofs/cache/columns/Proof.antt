@@ -15,7 +15,7 @@ use Rattle.linear.specs.Systems.{inner}
 use Rattle.laws.specs.TableLaws.{row-fits}
 use Rattle.definitions.specs.System.{column}
 use Rattle.walk.specs.CacheSteps.{next-fits, next-sum, sum-value, column-terms, coef-fits}
-use Rattle.refusals.specs.Paper.{systemOf}
+use Rattle.calls.specs.Paper.{systemOf}
 use Rattle.walk.proofs.cache.columns.Statement.{statement}
 use Rattle.walk.proofs.cache.columns.Tie as tie
 

@@ -1,0 +1,40 @@
+-- `checks::check_start` meets its contract: a refusal of the shape decides, else the coefficients do. Assumes nothing.
+use denote.Ref.{now}
+use borrow.Author.Needs.{needs}
+use Rattle.definitions.specs.Refusals.{startChecks, check7}
+use Rattle.calls.specs.Paper.{systemOf, stateOf}
+use Rattle.checks.specs.CheckLaws.{shape-refused, shape-passed}
+use Rattle.checks.proofs.check_start.Statement.{statement}
+use Rattle.checks.proofs.check_start.Tie as tie
+
+check-requires : tie.Need-check-requires
+check-requires c κs = search needs
+
+enum-known-why : tie.Need-enum-known-why
+enum-known-why c = search needs
+
+enum-told : tie.Need-enum-told
+enum-told c = search needs
+
+check-requires-2 : tie.Need-check-requires-2
+check-requires-2 c κs = search needs
+
+returns : tie.Need-returns
+unfolding startChecks
+returns c =
+    let a = c .before .before .before .before .before .before .args in
+    let m = systemOf (a .p) (a .q) (now (a .coefs)) in
+    let s = stateOf (now (a .stack)) (now (a .list)) (a .r) in
+    shape-refused m s _ (c .before .why .given .1) (c .before .before .before .check .ensures)
+
+returns-2 : tie.Need-returns-2
+unfolding startChecks check7
+returns-2 c =
+    let a = c .before .before .before .before .before .before .args in
+    let m = systemOf (a .p) (a .q) (now (a .coefs)) in
+    let s = stateOf (now (a .stack)) (now (a .list)) (a .r) in
+    shape-passed m s (check7 m) (c .before .enum-told .given .1) (c .before .before .before .check .ensures) (c .check2 .ensures)
+
+pub check-start-spec : {M : Type 1} → statement M
+check-start-spec =
+    tie.close (tie.spec check-requires enum-known-why enum-told check-requires-2 returns returns-2)

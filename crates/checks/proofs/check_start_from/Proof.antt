@@ -1,0 +1,41 @@
+-- `checks::check_start_from` meets its contract: a refusal of the shape decides, else the lower bound and the coefficients do. Assumes nothing.
+use denote.Ref.{now}
+use borrow.Author.Needs.{needs}
+use Rattle.definitions.specs.Answers.{_then_}
+use Rattle.definitions.specs.Refusals.{lowerChecks, check5, check7, check8}
+use Rattle.calls.specs.Paper.{systemOf, stateOf}
+use Rattle.checks.specs.CheckLaws.{shape-refused, shape-passed}
+use Rattle.checks.proofs.check_start_from.Statement.{statement}
+use Rattle.checks.proofs.check_start_from.Tie as tie
+
+check-requires : tie.Need-check-requires
+check-requires c κs = search needs
+
+enum-known-why : tie.Need-enum-known-why
+enum-known-why c = search needs
+
+enum-told : tie.Need-enum-told
+enum-told c = search needs
+
+check-lower-requires : tie.Need-check-lower-requires
+check-lower-requires c κs = search needs
+
+returns : tie.Need-returns
+unfolding lowerChecks
+returns c =
+    let a = c .before .before .before .before .before .before .before .args in
+    let m = systemOf (a .p) (a .q) (now (a .coefs)) in
+    let s = stateOf (now (a .stack)) (now (a .list)) (a .r) in
+    shape-refused m s _ (c .before .why .given .1) (c .before .before .before .check .ensures)
+
+returns-2 : tie.Need-returns-2
+unfolding lowerChecks
+returns-2 c =
+    let a = c .before .before .before .before .before .before .before .args in
+    let m = systemOf (a .p) (a .q) (now (a .coefs)) in
+    let s = stateOf (now (a .stack)) (now (a .list)) (a .r) in
+    shape-passed m s (check5 m (now (a .lower)) then check7 m then check8 (now (a .lower))) (c .before .enum-told .given .1) (c .before .before .before .check .ensures) (c .check-lower .ensures (a .p))
+
+pub check-start-from-spec : {M : Type 1} → statement M
+check-start-from-spec =
+    tie.close (tie.spec check-requires enum-known-why enum-told check-lower-requires returns returns-2)

@@ -1,0 +1,4 @@
+pub mod Shape
+pub mod Coefficients
+pub mod Order
+pub mod CheckLaws

@@ -1,0 +1,68 @@
+// Counts and lengths: refusals 1 to 4; and what a lower bound adds: 5, and 8 after 7.
+ghost use mathlib.Core.Path.{_≡_};
+ghost use Prim.Native.Nat.{ℕ};
+ghost use Rattle.definitions.specs.Answers.{_then_};
+ghost use Rattle.definitions.specs.Refusals.{check5, check7, check8};
+ghost use Rattle.calls.specs.Paper.{systemOf, checkOf};
+ghost use Rattle.checks.specs.Shape.{shapeChecks, lowerAboveLimit};
+use crate::coefficients;
+use calls::Check;
+use calls::Refusal;
+
+// Refusals 1 to 4, from the numbers of coefficients and of entries of the stack table.
+pub fn check(p: usize, q: usize, coefs: usize, stack: usize) -> Check
+    ensures { λ c. ⌜ checkOf c ≡ shapeChecks p q coefs stack ⌝ }
+{
+    if p < 1 {
+        return Check::Refuse(Refusal::Equations);
+    }
+    if 8 < p {
+        return Check::Refuse(Refusal::Equations);
+    }
+    if q < 1 {
+        return Check::Refuse(Refusal::Unknowns);
+    }
+    if 16 < q {
+        return Check::Refuse(Refusal::Unknowns);
+    }
+    if coefs != p * q {
+        return Check::Refuse(Refusal::CoefficientCount);
+    }
+    if stack < q * (q + 1) {
+        return Check::Refuse(Refusal::StackLength);
+    }
+    Check::Pass
+}
+
+// Refusals 5, 7 and 8, which do not depend on p.
+pub fn check_lower(q: usize, coefs: &[i32], lower: &[u32]) -> Check
+    ensures { λ c. ⌜ ((p : ℕ) → checkOf c ≡ (check5 (systemOf p q (now (coefs .entry))) (now (lower .entry)) then check7 (systemOf p q (now (coefs .entry))) then check8 (now (lower .entry)))) ⌝ }
+{
+    if lower.len() != q {
+        return Check::Refuse(Refusal::BoundLength);
+    }
+    match coefficients::check(coefs) {
+        Check::Refuse(why) => Check::Refuse(why),
+        Check::Pass => {
+            if lower_above_limit(lower) {
+                Check::Refuse(Refusal::BoundRange)
+            } else {
+                Check::Pass
+            }
+        }
+    }
+}
+
+// Whether a component of the lower bound is above 1,000,000.
+fn lower_above_limit(lower: &[u32]) -> bool
+    ensures { λ b. ⌜ b ≡ lowerAboveLimit (now (lower .entry)) ⌝ }
+{
+    let mut j = 0;
+    while j < lower.len() {
+        if 1000000 < lower[j] {
+            return true;
+        }
+        j += 1;
+    }
+    false
+}
