@@ -2,18 +2,18 @@
 use mathlib.Core.Path.{_≡_, sym, _∙_, ap}
 use Rattle.definitions.specs.Answers as paper
 use Rattle.definitions.specs.Tables.{State}
-use Rattle.definitions.specs.Calls as calls
+use Rattle.definitions.specs.Machine as calls
 use Rattle.calls.specs.Paper.{numberOf, valuesOf, checkOf}
 use Rattle.calls.specs.declared.Refusal.{Refusal}
 use Rattle.calls.specs.declared.Check.{Check}
 use Rattle.calls.specs.declared.Check.the-variants.{Refuse, Pass}
 
-module _ {r : Check} {c : paper.Check} (e : checkOf r ≡ c) (s : State) (work : State → calls.Outcome) where
+module _ {r : Check} {c : paper.Check} (e : checkOf r ≡ c) (s : State) (work : State → calls.Outcome State) where
   pub call-refused : {why : Refusal} → r ≡ Refuse why → record { answer = paper.refused (numberOf why) (valuesOf why); state = s } ≡ calls.checked c s work
   unfolding calls.checked
   call-refused h = rw (← e, h)
 
-  pub call-passed : r ≡ Pass → {o : calls.Outcome} → o ≡ work s → o ≡ calls.checked c s work
+  pub call-passed : r ≡ Pass → {o : calls.Outcome State} → o ≡ work s → o ≡ calls.checked c s work
   unfolding calls.checked
   call-passed h g = rw (← e, h) g
 

@@ -3,8 +3,10 @@ use Prim.Native.Nat.{ℕ}
 use mathlib.Core.List.{List, [], _∷_}
 use lib.IntN.{ℤ}
 use Rattle.definitions.specs.Answers as paper
-use Rattle.definitions.specs.Calls as calls
-use Rattle.definitions.specs.System.{System}
+use Rattle.definitions.specs.Input.{Input, alone}
+use Rattle.definitions.specs.Machine as calls
+use Rattle.definitions.specs.System.{mostComponent}
+use Rattle.definitions.specs.Tables as tables
 use Rattle.definitions.specs.Tables.{State}
 use Rattle.calls.specs.declared.Record.{Record}
 use Rattle.calls.specs.declared.Refusal.{Refusal}
@@ -15,11 +17,17 @@ use Rattle.calls.specs.declared.Outcome.{Outcome}
 use Rattle.calls.specs.declared.Check.{Check}
 use Rattle.calls.specs.declared.Check.the-variants.{Refuse, Pass}
 
-abbrev pub systemOf : ℕ → ℕ → List ℤ → System
-systemOf p q coefs = record { p = p; q = q; coefs = coefs }
+-- a map, with document 01's limit of components
+abbrev pub inputOf : ℕ → ℕ → List ℤ → Input
+inputOf p q coefs = record { p = p; q = q; coefs = coefs; extra = alone; limit = mostComponent }
 
+-- the run record
+abbrev pub recordOf : Record → tables.Record
+recordOf r = record { height = r .height; found = r .found .0; steps = r .steps .0 }
+
+-- all that is lent
 abbrev pub stateOf : List ℕ → List ℕ → Record → State
-stateOf stack list r = record { stack = stack; list = list; height = r .height; found = r .found .0; steps = r .steps .0 }
+stateOf stack list r = record { stack = stack; list = list; run = recordOf r }
 
 -- the number of a refusal
 abbrev pub numberOf : Refusal → ℕ
@@ -68,10 +76,10 @@ checkOf Pass = paper.go
 
 -- ---- what a call leaves
 
-abbrev pub leftBy : Answer → List ℕ → List ℕ → Record → calls.Outcome
+abbrev pub leftBy : Answer → List ℕ → List ℕ → Record → calls.Outcome State
 leftBy a stack list r = record { answer = answerOf a; state = stateOf stack list r }
 
-abbrev pub outcomeOf : Outcome → List ℕ → List ℕ → calls.Outcome
+abbrev pub outcomeOf : Outcome → List ℕ → List ℕ → calls.Outcome State
 outcomeOf o stack list = leftBy (o .answer) stack list (o .run)
 
 -- an answer with the three parts of the run record

@@ -1,8 +1,10 @@
 pub mod Answers
 pub mod System
+pub mod Input
 pub mod Tables
 pub mod Step
 pub mod Refusals
+pub mod Machine
 pub mod Calls
 pub mod Reader
 pub mod Bound

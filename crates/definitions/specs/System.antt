@@ -21,14 +21,21 @@ abbrev pub coefLimit : ℕ
 coefLimit = 10000
 
 -- "A tuple gives each unknown a natural number, at most 1,000,000."
-abbrev pub componentLimit : ℕ
-componentLimit = 1000000
+abbrev pub mostComponent : ℕ
+mostComponent = 1000000
 
--- A system (document 01: a map): p equations, q unknowns, and the coefficients, "given row by row, p × q of them. All right sides are zero."
+-- The kinds of walk. What a kind decides is a definition by cases on it: `stoppedBy`, `within`, `rowWidth`, `fullFor` and `enlist` of `Step`.
+pub data Kind : Type 0 where
+  plain : Kind
+
+-- A system that a walk goes through (document 01: a map): p equations, q unknowns, and the coefficients, "given row by row, p × q of them. All right sides are
+-- zero."; the kind of the walk, and the limit of its components.
 pub record System : Type 0 where
   pub p : ℕ
   pub q : ℕ
   pub coefs : List ℤ
+  pub kind : Kind
+  pub limit : ℕ
 
 abbrev pub coef : System → ℕ → ℕ → ℤ
 coef m i j = getD (m .coefs) (i * m .q + j) (pos 0)

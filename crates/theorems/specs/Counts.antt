@@ -1,0 +1,27 @@
+-- The record counts the steps. Assumes nothing.
+use mathlib.Core.Path.{_≡_, refl}
+use mathlib.Core.Bool.{Bool, true, false}
+use Prim.Native.Nat.{ℕ, zero, suc, _+_}
+use native.Mathlib.Omega.{arith}
+use Rattle.definitions.specs.Calls.{machine}
+use Rattle.definitions.specs.Input.{Input, systemOf}
+use Rattle.definitions.specs.Machine.{after}
+use Rattle.definitions.specs.Step.{enlist, grown, listed, pick, step, top}
+use Rattle.definitions.specs.System.{Kind, System, plain, solves}
+use Rattle.definitions.specs.Tables.{State}
+
+enlist-counts : (k : Kind) (q : ℕ) (s : State) (x : ℕ → ℕ) → enlist k q s x .run .steps ≡ s .run .steps + 1
+enlist-counts plain q s x = refl
+
+step-counts : (m : System) (s : State) → step m s .run .steps ≡ s .run .steps + 1
+unfolding step listed grown
+step-counts m s = go (solves m (top m s))
+  where
+    go : (b : Bool) → pick b (listed m s) (grown m s) .run .steps ≡ s .run .steps + 1
+    go true = enlist-counts (m .kind) (m .q) s (top m s)
+    go false = refl
+
+pub after-counts : (i : Input) (n : ℕ) (s : State) → after n (machine i) s .run .steps ≡ s .run .steps + n
+unfolding after
+after-counts i zero s = omega arith
+after-counts i (suc n) s = omega (arith, after-counts i n (step (systemOf i) s), step-counts (systemOf i) s)
