@@ -25,7 +25,7 @@ Fits a = code a < 2 ^ 64
 
 -- ---- checks
 
-abbrev Small : Check → Type 0
+abbrev pub Small : Check → Type 0
 Small (refuse n values) = refusalCode n values < 2 ^ 64
 Small go = Unit
 
@@ -87,7 +87,7 @@ module _ (m : System) (s : State) where
       small-then (check5 m lower) (check7 m then check8 lower) (small-if _ 5 (omega arith)) (λ _.
       small-then (check7 m) (check8 lower) (small-range m l) (λ _. small-if _ 8 (omega arith)))))
 
-  small-resume : Small (resumeChecks m s)
+  pub small-resume : Small (resumeChecks m s)
   unfolding resumeChecks
   small-resume =
       small-sized m (check4 m s then check6 m s then check7 m) (λ l.

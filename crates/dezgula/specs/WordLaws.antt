@@ -1,11 +1,11 @@
 -- The calls on a record of words, as the code goes about them; and that another number of words is refused with 6, after 1 to 4. Assumes nothing.
-use Prim.Native.Nat.{ℕ, _≤_, _<_}
+use Prim.Native.Nat.{ℕ, _^_, _≤_, _<_}
 use mathlib.Core.Bool.{Bool, true, false, not, _||_}
 use mathlib.Core.Logic.{_≢_}
 use mathlib.Core.List.{List, []}
-use mathlib.Core.Path.{_≡_, refl, ap, _∙_}
+use mathlib.Core.Path.{_≡_, refl, sym, subst, ap, _∙_}
 use native.Mathlib.Omega.{arith}
-use lib.Dec.{eqb}
+use lib.Dec.{T, eqb}
 use lib.ListN.{length, getD, set}
 use borrow.Author.Tests.{lt-leb, eq-eqb, ne-eqb}
 use Rattle.definitions.specs.Answers.{Check, refuse, go, refuseWith, refuseIf, _then_}
@@ -13,10 +13,15 @@ use Rattle.definitions.specs.System.{System, mostUnknowns}
 use Rattle.definitions.specs.Tables.{State}
 use Rattle.definitions.specs.Refusals.{inOrder, check1, check2, check3, check4, check6, check7, resumeChecks}
 use Rattle.definitions.specs.Calls.{Outcome, checked, start, startFrom, walk, resume}
-use Rattle.calls.specs.Paper.{stateOf, answerOf, outcomeOf}
+use Rattle.laws.specs.AnswerLaws.{then-go}
+use Rattle.calls.specs.Paper.{stateOf, numberOf, valuesOf, answerOf, checkOf, outcomeOf}
+use Rattle.calls.specs.CallLaws.{call-refused, passes}
+use Rattle.calls.specs.declared.Check as values-check
+use Rattle.calls.specs.declared.Check.the-variants.{Refuse, Pass}
+use Rattle.calls.specs.declared.Refusal.{Refusal}
 use Rattle.calls.specs.declared.Outcome as values
-use Rattle.dezgula.specs.Codes.{code}
-use Rattle.dezgula.specs.CodeLaws.{within}
+use Rattle.dezgula.specs.Codes.{refusalCode, code}
+use Rattle.dezgula.specs.CodeLaws.{Small, within, small-resume}
 use Rattle.dezgula.specs.Words.{isRecord, recordOf, recordIn, wordsLeft, told, startIf, startWords, startFromWords, resumeWords}
 
 -- ---- reading and writing the words
@@ -44,6 +49,9 @@ three-decides n b e = rw (eq-eqb n 3 e)
 
 pub three-leaves : (n : ℕ) (b : Bool) → n ≢ 3 → b ≡ (eqb n 3 || b)
 three-leaves n b ne = rw (ne-eqb n 3 ne)
+
+pub three-missing : (n : ℕ) (b : Bool) {t : Bool} → t ≡ (eqb n 3 || b) → t ≡ false → n ≢ 3
+three-missing n b e f h = subst T (three-decides n b h ∙ sym e ∙ f) tt
 
 -- ---- by the number of words
 
@@ -85,6 +93,13 @@ module _ (words : List ℕ) (m : System) (stack list : List ℕ) {a : Told} (e :
       → a ≡ told words (startFromWords lower words m stack list)
   told-from-misfit lower h t = e ∙ ap (told words) (start-from-misfit words m stack list lower h t)
 
+abbrev Refused : Check → Type 0
+Refused (refuse n values) = Unit {0}
+Refused go = ⊥
+
+refused-goes : {n : ℕ} {values : List ℕ} → refuse n values ≡ go → ⊥
+refused-goes e = subst Refused e tt
+
 -- ---- another number of words: "6: run record or tables out of order"
 
 then-same : (c d e : Check) → (c ≡ go → d ≡ e) → c then d ≡ c then e
@@ -96,15 +111,40 @@ disordered : (m : System) (s : State) → m .q < s .height → (check6 m s then 
 unfolding inOrder refuseWith _then_
 disordered m s h = rw (lt-leb (s .height) (m .q) h)
 
-pub misfit-refused : (budget : ℕ) (words : List ℕ) (m : System) (stack list : List ℕ) → length words ≢ 3
-    → let s : State = stateOf stack list (recordIn words) in
-    resumeWords budget words m stack list ≡ checked (check1 m then check2 m then check3 m then check4 m s then refuse 6 []) s (walk budget m)
-unfolding resumeWords resume resumeChecks recordIn
-misfit-refused budget words m stack list ne =
-    let high : m .q ≤ mostUnknowns → m .q < stateOf stack list (recordIn words) .height = λ l. rw (ne-eqb (length words) 3 ne) (omega arith) in
-    let s : State = stateOf stack list (recordIn words) in
-    ap (λ c. checked c s (walk budget m))
-    (then-same (check1 m) _ _ (λ _.
-    then-same (check2 m) _ _ (λ b.
-    then-same (check3 m) _ _ (λ _.
-    then-same (check4 m s) _ _ (λ _. disordered m s (high (within _ _ _ _ b)))))))
+module _ (words : List ℕ) (m : System) (stack list : List ℕ) (ne : length words ≢ 3) where
+  abbrev lent : State
+  lent = stateOf stack list (recordIn words)
+
+  misfit-checks : resumeChecks m lent ≡ (check1 m then check2 m then check3 m then check4 m lent then refuse 6 [])
+  unfolding resumeChecks recordIn
+  misfit-checks =
+      let high : m .q ≤ mostUnknowns → m .q < lent .height = λ l. rw (ne-eqb (length words) 3 ne) (omega arith) in
+      then-same (check1 m) _ _ (λ _.
+      then-same (check2 m) _ _ (λ b.
+      then-same (check3 m) _ _ (λ _.
+      then-same (check4 m lent) _ _ (λ _. disordered m lent (high (within _ _ _ _ b))))))
+
+  -- "Refusals 1 to 8 are checked in rising number": the first of 1 to 4 that is due, or else 6, and nothing lent is changed
+  pub misfit-refused : (budget : ℕ) → resumeWords budget words m stack list
+      ≡ checked (check1 m then check2 m then check3 m then check4 m lent then refuse 6 []) lent (walk budget m)
+  unfolding resumeWords resume
+  misfit-refused budget = ap (λ c. checked c lent (walk budget m)) misfit-checks
+
+  -- ---- the same from a check of the code
+
+  module _ {k : values-check.Check} (e : checkOf k ≡ resumeChecks m lent) where
+    pub misfit-never-passes : k ≡ Pass → ⊥
+    misfit-never-passes h =
+        let a : (check1 m then check2 m then check3 m then check4 m lent then refuse 6 []) ≡ go = sym misfit-checks ∙ passes e h in
+        let b : (check4 m lent then refuse 6 []) ≡ go = then-go _ _ (then-go _ _ (then-go _ _ a .1) .1) .1 in
+        refused-goes (then-go _ _ b .1)
+
+    module _ {why : Refusal} (h : k ≡ Refuse why) where
+      pub misfit-fits : refusalCode (numberOf why) (valuesOf why) < 2 ^ 64
+      misfit-fits = subst Small (sym e ∙ ap checkOf h) (small-resume m lent)
+
+      pub misfit-told : {a : ℕ} → a ≡ refusalCode (numberOf why) (valuesOf why) → (a, (stack, (list, words))) ≡ told words (resumeWords 0 words m stack list)
+      unfolding resumeWords resume
+      misfit-told d =
+          (λ i. (d i, (stack, (list, words-misfit words (lent .height) (lent .found) (lent .steps) ne i))))
+          ∙ ap (told words) (call-refused e lent (walk 0 m) h)

@@ -18,7 +18,7 @@ pub fn number(answer: Answer) -> u64
     }
 }
 
-fn refusal(why: Refusal) -> u64
+pub fn refusal(why: Refusal) -> u64
     requires { ⌜ refusalCode (numberOf why) (valuesOf why) < 2 ^ 64 ⌝ }
     ensures { λ a. ⌜ a ≡ refusalCode (numberOf why) (valuesOf why) ⌝ }
 {

@@ -3,11 +3,14 @@
 ghost use mathlib.Core.Path.{_≡_};
 ghost use Prim.Native.Nat.{_^_, _<_};
 ghost use mathlib.Core.Bool.{not, _||_};
+ghost use mathlib.Core.Logic.{_≢_};
 ghost use lib.Dec.{eqb};
+ghost use lib.ListN.{length};
 ghost use Rattle.calls.specs.Paper.{systemOf, answerOf};
 ghost use Rattle.dezgula.specs.Codes.{code};
 ghost use Rattle.dezgula.specs.Words.{told, wordsLeft, startWords, startFromWords, resumeWords};
 ghost use Rattle.dezgula.specs.Rows.{rowTold};
+use calls::Check;
 use calls::Outcome;
 
 mod answers; // answers.rt: an answer as one number
@@ -32,7 +35,7 @@ pub extern "C" fn dezgula_raw_start(
         let o = starts::started(p, q, coefs, stack, list, r);
         return tell(o, run);
     }
-    dezgula_raw_resume(p, q, coefs, stack, list, run, 0)
+    misfit(p, q, coefs, stack, list, run)
 }
 
 // The start from a lower bound.
@@ -55,7 +58,7 @@ pub extern "C" fn dezgula_raw_start_from(
         let o = starts::started_from(p, q, coefs, stack, list, r, lower);
         return tell(o, run);
     }
-    dezgula_raw_resume(p, q, coefs, stack, list, run, 0)
+    misfit(p, q, coefs, stack, list, run)
 }
 
 // The continuing call.
@@ -99,6 +102,19 @@ fn starts_from(words: usize, lower: usize, q: usize) -> bool
         return true;
     }
     lower != q
+}
+
+// What a start is told whose record has another number of words: what a continuing call is told, and nothing is written.
+fn misfit(p: usize, q: usize, coefs: &[i32], stack: &[u32], list: &[u32], run: &[u64]) -> u64
+    requires { ⌜ length (now run) ≢ 3 ⌝ }
+    ensures { λ a. ⌜ (a, (now (stack .entry), (now (list .entry), now (run .entry)))) ≡
+        told (now (run .entry)) (resumeWords 0 (now (run .entry)) (systemOf p q (now (coefs .entry))) (now (stack .entry)) (now (list .entry))) ⌝ }
+{
+    let r = words::read(run);
+    match checks::check_resume(p, q, coefs, stack, list, r) {
+        Check::Refuse(why) => answers::refusal(why),
+        Check::Pass => 6,
+    }
 }
 
 // Puts the run record back, and gives the answer as a number.

@@ -2,7 +2,7 @@
 use mathlib.Core.Path.{_∙_}
 use borrow.Author.Needs.{needs}
 use Rattle.dezgula.specs.CodeLaws.{answer-fits, start-from-fits}
-use Rattle.dezgula.specs.WordLaws.{call-told, start-from-fitting, told-from-misfit}
+use Rattle.dezgula.specs.WordLaws.{call-told, start-from-fitting, told-from-misfit, three-missing}
 use Rattle.dezgula.proofs.dezgula_raw_start_from.Statement.{statement}
 use Rattle.dezgula.proofs.dezgula_raw_start_from.Tie as tie
 
@@ -40,8 +40,10 @@ returns c =
     (t .tell .ensures .0)
     (t .tell .ensures .1)
 
-dezgula-raw-resume-requires : tie.Need-dezgula-raw-resume-requires
-dezgula-raw-resume-requires c κs = search needs
+misfit-requires : tie.Need-misfit-requires
+misfit-requires c κs =
+    let d = c .before .before .before in
+    three-missing _ _ (d .before .starts-from .ensures) (d .if1 .left)
 
 same-length-4 : tie.Need-same-length-4
 same-length-4 c = search needs
@@ -54,9 +56,8 @@ same-length-6 c = search needs
 
 returns-2 : tie.Need-returns-2
 returns-2 c =
-    let w = c .before .before .before .before .before .before in
-    let d = w .before .before .before .before in
-    told-from-misfit _ _ _ _ (w .dezgula-raw-resume .ensures) _ (d .before .starts-from .ensures) (d .if1 .left)
+    let d = c .before .before .before .before in
+    told-from-misfit _ _ _ _ (c .misfit .ensures) _ (d .before .starts-from .ensures) (d .if1 .left)
 
 pub dezgula-raw-start-from-spec : {M : Type 1} → statement M
 dezgula-raw-start-from-spec =
@@ -70,7 +71,7 @@ dezgula-raw-start-from-spec =
     same-length-2
     same-length-3
     returns
-    dezgula-raw-resume-requires
+    misfit-requires
     same-length-4
     same-length-5
     same-length-6
