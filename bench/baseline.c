@@ -45,20 +45,24 @@ static bool in_order(size_t q, const uint32_t *stack, size_t height)
     return true;
 }
 
+/* The words of a run record. */
+enum { HEIGHT, FOUND, STEPS };
+
 uint64_t baseline_start(size_t p, size_t q, const int32_t *coefs, size_t coefs_len, uint32_t *stack, size_t stack_len, uint32_t *list, size_t list_len,
-                        size_t *height, size_t *found, uint64_t *steps)
+                        uint64_t *record, size_t record_len)
 {
     (void)list, (void)list_len;
     uint64_t refusal = check_shape(p, q, coefs_len, stack_len);
+    if (refusal == PASS && record_len != DEZGULA_RECORD_LENGTH) refusal = DEZGULA_OUT_OF_ORDER;
     if (refusal == PASS) refusal = check_range(coefs, coefs_len);
     if (refusal != PASS) return refusal;
     for (size_t k = 0; k < q; k++, stack += q + 1) {
         for (size_t j = 0; j < q; j++) stack[j] = j == k;
         stack[q] = (1u << k) - 1;
     }
-    *height = q;
-    *found = 0;
-    *steps = 0;
+    record[HEIGHT] = q;
+    record[FOUND] = 0;
+    record[STEPS] = 0;
     return DEZGULA_STARTED;
 }
 
@@ -160,10 +164,10 @@ static inline void push(cache *c, size_t level, size_t q, uint32_t *top, brood b
     add(c->product[level], c->product[level], c->gram[i], q);
 }
 
-static uint64_t walk(cache *c, size_t q, uint32_t *stack, uint32_t *list, size_t list_len, size_t *height, size_t *found, uint64_t *steps, uint64_t budget)
+static uint64_t walk(cache *c, size_t q, uint32_t *stack, uint32_t *list, size_t list_len, uint64_t *record, uint64_t budget)
 {
-    size_t h = *height, n = *found, room = list_len / q;
-    uint64_t taken = *steps, answer;
+    size_t h = record[HEIGHT], n = record[FOUND], room = list_len / q;
+    uint64_t taken = record[STEPS], answer;
     for (;; taken++, budget--) {
         if (h == 0) { answer = DEZGULA_COMPLETE; break; }
         if (budget == 0) { answer = DEZGULA_PAUSED; break; }
@@ -183,21 +187,23 @@ static uint64_t walk(cache *c, size_t q, uint32_t *stack, uint32_t *list, size_t
         push(c, h - 1, q, top, b);
         h += b.count - 1;
     }
-    *height = h;
-    *found = n;
-    *steps = taken;
+    record[HEIGHT] = h;
+    record[FOUND] = n;
+    record[STEPS] = taken;
     return answer;
 }
 
 uint64_t baseline_resume(size_t p, size_t q, const int32_t *coefs, size_t coefs_len, uint32_t *stack, size_t stack_len, uint32_t *list, size_t list_len,
-                         size_t *height, size_t *found, uint64_t *steps, uint64_t budget)
+                         uint64_t *record, size_t record_len, uint64_t budget)
 {
     uint64_t refusal = check_shape(p, q, coefs_len, stack_len);
     if (refusal != PASS) return refusal;
-    if (*height > q || *found > list_len / q || *steps > DEZGULA_STEP_LIMIT || !in_order(q, stack, *height)) return DEZGULA_OUT_OF_ORDER;
+    if (record_len != DEZGULA_RECORD_LENGTH || record[HEIGHT] > q || record[FOUND] > list_len / q || record[STEPS] > DEZGULA_STEP_LIMIT ||
+        !in_order(q, stack, record[HEIGHT]))
+        return DEZGULA_OUT_OF_ORDER;
     refusal = check_range(coefs, coefs_len);
     if (refusal != PASS) return refusal;
     cache c;
-    fill(&c, p, q, coefs, stack, *height);
-    return walk(&c, q, stack, list, list_len, height, found, steps, budget);
+    fill(&c, p, q, coefs, stack, record[HEIGHT]);
+    return walk(&c, q, stack, list, list_len, record, budget);
 }

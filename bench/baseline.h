@@ -6,9 +6,9 @@
 #include <stdint.h>
 
 typedef uint64_t start_call(size_t p, size_t q, const int32_t *coefs, size_t coefs_len, uint32_t *stack, size_t stack_len, uint32_t *list,
-                            size_t list_len, size_t *height, size_t *found, uint64_t *steps);
+                            size_t list_len, uint64_t *record, size_t record_len);
 typedef uint64_t resume_call(size_t p, size_t q, const int32_t *coefs, size_t coefs_len, uint32_t *stack, size_t stack_len, uint32_t *list,
-                             size_t list_len, size_t *height, size_t *found, uint64_t *steps, uint64_t budget);
+                             size_t list_len, uint64_t *record, size_t record_len, uint64_t budget);
 
 start_call baseline_start, native_start;
 resume_call baseline_resume, native_resume;

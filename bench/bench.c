@@ -26,8 +26,7 @@ typedef struct {
 
 typedef struct {
     uint32_t stack[STACK], list[LIST];
-    size_t height, found;
-    uint64_t steps, answer;
+    uint64_t record[DEZGULA_RECORD_LENGTH], answer;
 } run;
 
 typedef struct {
@@ -39,10 +38,20 @@ typedef struct {
 static const kind kinds[KINDS] = {
     {"baseline", baseline_start, baseline_resume},
     {"native", native_start, native_resume},
-    {"library", dezgula_start, dezgula_resume},
+    {"library", dezgula_raw_start, dezgula_raw_resume},
 };
 
 static run runs[KINDS];
+
+static uint64_t found(const run *r)
+{
+    return r->record[1];
+}
+
+static uint64_t steps(const run *r)
+{
+    return r->record[2];
+}
 
 static void fail(const char *what, const char *which)
 {
@@ -67,12 +76,12 @@ static map read_map(const char *path, const char *budget)
 
 static void go(const kind *k, const map *m, run *r, uint64_t budget)
 {
-    r->answer = k->resume(m->p, m->q, m->coefs, m->p * m->q, r->stack, STACK, r->list, LIST, &r->height, &r->found, &r->steps, budget);
+    r->answer = k->resume(m->p, m->q, m->coefs, m->p * m->q, r->stack, STACK, r->list, LIST, r->record, DEZGULA_RECORD_LENGTH, budget);
 }
 
 static void start(const kind *k, const map *m, run *r)
 {
-    r->answer = k->start(m->p, m->q, m->coefs, m->p * m->q, r->stack, STACK, r->list, LIST, &r->height, &r->found, &r->steps);
+    r->answer = k->start(m->p, m->q, m->coefs, m->p * m->q, r->stack, STACK, r->list, LIST, r->record, DEZGULA_RECORD_LENGTH);
     if (r->answer != DEZGULA_STARTED) fail("does not start", m->name);
 }
 
@@ -86,9 +95,9 @@ static void in_pieces(const kind *k, const map *m, run *r)
 {
     start(k, m, r);
     do {
-        uint64_t left = m->budget - r->steps;
+        uint64_t left = m->budget - steps(r);
         go(k, m, r, left < PAUSE ? left : PAUSE);
-    } while (r->answer == DEZGULA_PAUSED && r->steps < m->budget);
+    } while (r->answer == DEZGULA_PAUSED && steps(r) < m->budget);
 }
 
 /* Tables that hold no zeros, so that a place written too many shows. */
@@ -142,9 +151,9 @@ static void measure(const map *m, int repetitions)
             double ns = nanoseconds(&kinds[i], m, &runs[i], times);
             if (ns < best[i]) best[i] = ns;
         }
-    double steps = (double)runs[0].steps;
-    printf("| %s | %zu × %zu | %" PRIu64 " | %zu | %s | %.1f | %.1f | %.1f | %.2f | %.2f |\n", m->name, m->p, m->q, runs[0].steps, runs[0].found,
-           ending(runs[0].answer), best[0] / steps, best[1] / steps, best[2] / steps, best[2] / best[0], best[2] / best[1]);
+    double taken = (double)steps(&runs[0]);
+    printf("| %s | %zu × %zu | %" PRIu64 " | %" PRIu64 " | %s | %.1f | %.1f | %.1f | %.2f | %.2f |\n", m->name, m->p, m->q, steps(&runs[0]), found(&runs[0]),
+           ending(runs[0].answer), best[0] / taken, best[1] / taken, best[2] / taken, best[2] / best[0], best[2] / best[1]);
     fflush(stdout);
 }
 
@@ -155,7 +164,7 @@ int main(int count, char **words)
         if (strcmp(words[1], kinds[i].name) == 0) {
             map m = read_map(words[2], words[3]);
             whole(&kinds[i], &m, &runs[i]);
-            printf("%" PRIu64 "\n", runs[i].steps);
+            printf("%" PRIu64 "\n", steps(&runs[i]));
             return 0;
         }
     puts("| map | size | steps | solutions | ending | baseline -O3, ns a step | baseline native | library | library / -O3 | library / native |");

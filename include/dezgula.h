@@ -4,18 +4,20 @@
  * natural number of at most 1,000,000. A solution brings every equation to zero; it is minimal if it is not all zero and no other such solution is
  * at or below it in every component.
  *
- * The caller lends two tables and a run record:
+ * A run is lent two tables and keeps a run record:
  *
  *   stack    at least q * (q + 1) numbers, in rows of q + 1: q components, then the marks, where bit j - 1 says that unknown j is frozen;
  *            what lies past the first q rows is never touched
  *   list     any number of numbers, also none, in rows of q; its capacity is list_len / q rows
- *   height   rows on the stack
- *   found    solutions listed: rows 1 to *found of the list, in the order found
- *   steps    steps taken since the start
+ *   record   height: rows on the stack. found: solutions listed, which are rows 1 to found of the list, in the order found. steps: steps taken
+ *            since the start
  *
  * No call trusts what it is lent: lengths, coefficients, tables and record are checked first, and what is not in order is refused. A table comes as a
- * pointer and the number of its entries. A pointer is never null, not even with length 0, and is aligned for what it points to. What a call may write
- * (stack, list, height, found, steps, out) lies apart from everything else that the call is lent. Nothing is kept between two calls.
+ * pointer and the number of its entries; NULL is an empty table. What a call may write (stack, list, record, out) lies apart from everything else that the
+ * call is lent. Nothing is kept between two calls, so runs may go on in several threads, each in one at a time.
+ *
+ * The answer of a start must be looked at: a start that is refused writes nothing, and a continuing call would then go on with whatever the tables and the
+ * record held before.
  */
 #ifndef DEZGULA_H
 #define DEZGULA_H
@@ -27,6 +29,8 @@
 extern "C" {
 #endif
 
+#define DEZGULA_VERSION "1.0.0"
+
 #define DEZGULA_MOST_EQUATIONS 8
 #define DEZGULA_MOST_UNKNOWNS 16
 #define DEZGULA_COEFFICIENT_LIMIT 10000
@@ -35,6 +39,14 @@ extern "C" {
 
 /* How many numbers the stack table of a system with q unknowns takes. */
 #define DEZGULA_STACK_LENGTH(q) ((size_t)(q) * ((size_t)(q) + 1))
+
+#if defined(__GNUC__) || defined(__clang__)
+#define DEZGULA_LOOK_AT_IT __attribute__((warn_unused_result))
+#else
+#define DEZGULA_LOOK_AT_IT
+#endif
+
+/* ---- answers */
 
 /* The number of an answer. */
 enum {
@@ -47,65 +59,199 @@ enum {
     DEZGULA_STACK_SHORT = 4,       /* stack_len is below q * (q + 1) */
     DEZGULA_BOUND_LENGTH = 5,      /* lower_len is not q */
     DEZGULA_OUT_OF_ORDER = 6,      /* height above q; found above the capacity of the list; steps above 10^12; or in rows 1 to height of the
-                                      stack a component above 1,000,000, a mark beyond unknown q, or in row k not exactly k - 1 marks */
-    DEZGULA_COEFFICIENT = 7,       /* a coefficient is out of range; the value is the place of the first such one, from 1 */
+                                      stack a component above 1,000,000, a mark beyond unknown q, or in row k not exactly k - 1 marks; or a
+                                      record not of DEZGULA_RECORD_LENGTH words */
+    DEZGULA_COEFFICIENT = 7,       /* a coefficient is out of range; the place is that of the first such one, from 1 */
     DEZGULA_BOUND_RANGE = 8,       /* a component of the lower bound is above 1,000,000 */
 
     /* 9 and 10 are about the text form of a map, and not given here. */
 
     /* Refused within the walk. Tables and record stand as after the last whole step; the same call again is refused again. */
-    DEZGULA_LIST_FULL = 11,       /* the next row is a solution and the list has no room: a longer list with the same rows may be lent */
-    DEZGULA_COMPONENT = 12,       /* a child would have a component of 1,000,001 */
-    DEZGULA_STACK_FULL = 13,      /* a child would need a row above q: never met, as 6 shuts it out */
-    DEZGULA_STEPS_AT_LIMIT = 14,  /* 10^12 steps are taken */
+    DEZGULA_LIST_FULL = 11,      /* the next row is a solution and the list has no room: a longer list with the same rows may be lent */
+    DEZGULA_COMPONENT = 12,      /* a child would have a component of 1,000,001 */
+    DEZGULA_STACK_FULL = 13,     /* a child would need a row above q: never met, as 6 shuts it out */
+    DEZGULA_STEPS_AT_LIMIT = 14, /* 10^12 steps are taken */
 
     DEZGULA_OUTPUT_SHORT = 29, /* dezgula_row: out is shorter than a row */
 
-    DEZGULA_STARTED = 100,
-    DEZGULA_PAUSED = 101, /* the budget is used up; a further call goes on from here */
+    /* Not refused. */
+    DEZGULA_STARTED = 100, /* a start has written its rows and its record */
+    DEZGULA_PAUSED = 101,  /* the budget is used up; a further call goes on from here */
+    DEZGULA_ROW = 102,     /* dezgula_row: the row was copied */
+    DEZGULA_NO_ROW = 103   /* dezgula_row: there is no such row */
 };
 
-/* What dezgula_row answers when it is not refused. */
-enum {
-    DEZGULA_NO_ROW = 0,
-    DEZGULA_ROW = 1,
-};
-
-/* An answer is a number in its low 8 bits and a value in the others. The value is the place for DEZGULA_COEFFICIENT, and 0 for all else. */
+/* An answer is a number in its low 8 bits and a place in the others. */
 static inline unsigned dezgula_number(uint64_t answer)
 {
     return (unsigned)(answer & 0xff);
 }
 
-static inline uint64_t dezgula_value(uint64_t answer)
+/* The place that DEZGULA_COEFFICIENT comes with, from 1, row by row; 0 for all other answers. */
+static inline uint64_t dezgula_place(uint64_t answer)
 {
     return answer >> 8;
 }
 
+/* What an answer says, as an English sentence. */
+static inline const char *dezgula_sentence(uint64_t answer)
+{
+    switch (dezgula_number(answer)) {
+    case DEZGULA_COMPLETE: return "The list is complete.";
+    case DEZGULA_EQUATIONS: return "The number of equations is not 1 to 8.";
+    case DEZGULA_UNKNOWNS: return "The number of unknowns is not 1 to 16.";
+    case DEZGULA_COEFFICIENT_COUNT: return "The number of coefficients is not that of equations times unknowns.";
+    case DEZGULA_STACK_SHORT: return "The stack table is too short.";
+    case DEZGULA_BOUND_LENGTH: return "The lower bound does not have a component for each unknown.";
+    case DEZGULA_OUT_OF_ORDER: return "The run record or the tables are out of order.";
+    case DEZGULA_COEFFICIENT: return "A coefficient is outside -10,000 to 10,000.";
+    case DEZGULA_BOUND_RANGE: return "A component of the lower bound is above 1,000,000.";
+    case DEZGULA_LIST_FULL: return "The list is full.";
+    case DEZGULA_COMPONENT: return "A component would pass 1,000,000.";
+    case DEZGULA_STACK_FULL: return "The stack would need another row.";
+    case DEZGULA_STEPS_AT_LIMIT: return "The run has taken 1,000,000,000,000 steps.";
+    case DEZGULA_OUTPUT_SHORT: return "The space for the row is too short.";
+    case DEZGULA_STARTED: return "The run has started.";
+    case DEZGULA_PAUSED: return "The run is paused, as its budget is used up.";
+    case DEZGULA_ROW: return "The row was copied.";
+    case DEZGULA_NO_ROW: return "There is no such row.";
+    default: return "This is no answer of the library.";
+    }
+}
+
+/* ---- what is handed over */
+
+/* The two counts are types of their own, so that neither can be handed over where the other is asked. */
+typedef struct {
+    uint64_t count;
+} dezgula_solutions;
+
+typedef struct {
+    uint64_t count;
+} dezgula_steps;
+
+/* The run record. A version to come may add fields: what a program does not know of a record it leaves to the calls. */
+typedef struct {
+    uint64_t height;
+    dezgula_solutions found;
+    dezgula_steps steps;
+} dezgula_record;
+
+typedef struct {
+    size_t p, q;
+    const int32_t *coefs;
+    size_t coefs_len;
+} dezgula_system;
+
+/* What a run is lent, and its record. A start sets the record; until then it may hold anything. */
+typedef struct {
+    uint32_t *stack;
+    size_t stack_len;
+    uint32_t *list;
+    size_t list_len;
+    dezgula_record record;
+} dezgula_run;
+
+/* ---- the exported functions: for callers in other languages, and for the calls below, which do the same and are easier to use. Here the record is
+ * its words, in the order of its fields; a record of another length is refused with 6, also by a start, before 7 and after all other refusals below
+ * it. A pointer is never NULL, not even with length 0, and is aligned for what it points to. */
+
+enum { DEZGULA_RECORD_LENGTH = 3 };
+
+uint64_t dezgula_raw_start(size_t p, size_t q, const int32_t *coefs, size_t coefs_len, uint32_t *stack, size_t stack_len, uint32_t *list,
+                           size_t list_len, uint64_t *record, size_t record_len) DEZGULA_LOOK_AT_IT;
+
+uint64_t dezgula_raw_start_from(size_t p, size_t q, const int32_t *coefs, size_t coefs_len, uint32_t *stack, size_t stack_len, uint32_t *list,
+                                size_t list_len, uint64_t *record, size_t record_len, const uint32_t *lower, size_t lower_len) DEZGULA_LOOK_AT_IT;
+
+uint64_t dezgula_raw_resume(size_t p, size_t q, const int32_t *coefs, size_t coefs_len, uint32_t *stack, size_t stack_len, uint32_t *list,
+                            size_t list_len, uint64_t *record, size_t record_len, uint64_t budget) DEZGULA_LOOK_AT_IT;
+
+uint64_t dezgula_raw_row(const uint32_t *list, size_t list_len, size_t q, size_t found, size_t n, uint32_t *out, size_t out_len) DEZGULA_LOOK_AT_IT;
+
+/* ---- the calls */
+
+/* NULL as an exported function takes it: an empty table at a place that is neither read nor written. */
+static inline void *dezgula_lent(const void *table)
+{
+    return table != NULL ? (void *)(uintptr_t)table : (void *)(uintptr_t)sizeof(uint64_t);
+}
+
+static inline size_t dezgula_lent_length(const void *table, size_t length)
+{
+    return table != NULL ? length : 0;
+}
+
+static inline void dezgula_pack(dezgula_record record, uint64_t words[DEZGULA_RECORD_LENGTH])
+{
+    words[0] = record.height;
+    words[1] = record.found.count;
+    words[2] = record.steps.count;
+}
+
+static inline dezgula_record dezgula_unpack(const uint64_t words[DEZGULA_RECORD_LENGTH])
+{
+    dezgula_record record;
+    record.height = words[0];
+    record.found.count = words[1];
+    record.steps.count = words[2];
+    return record;
+}
+
+/* The parameters that every call on a run begins with. */
+#define DEZGULA_LENT(system, run, words) \
+    (system)->p, (system)->q, (const int32_t *)dezgula_lent((system)->coefs), dezgula_lent_length((system)->coefs, (system)->coefs_len), \
+        (uint32_t *)dezgula_lent((run)->stack), dezgula_lent_length((run)->stack, (run)->stack_len), (uint32_t *)dezgula_lent((run)->list), \
+        dezgula_lent_length((run)->list, (run)->list_len), (words), (size_t)DEZGULA_RECORD_LENGTH
+
 /* A plain start. Answers DEZGULA_STARTED, or refuses with 1, 2, 3, 4 or 7.
- * Started: writes rows 1 to q of the stack, sets *height to q, *found and *steps to 0. The list and the rest of the stack stay as they were.
+ * Started: writes rows 1 to q of the stack, sets the record's height to q, its found and steps to 0. The list and the rest of the stack stay as they were.
  * Refused: changes nothing. What tables and record held before does not matter. */
-uint64_t dezgula_start(size_t p, size_t q, const int32_t *coefs, size_t coefs_len, uint32_t *stack, size_t stack_len, uint32_t *list, size_t list_len,
-                       size_t *height, size_t *found, uint64_t *steps);
+DEZGULA_LOOK_AT_IT static inline uint64_t dezgula_start(const dezgula_system *system, dezgula_run *run)
+{
+    uint64_t words[DEZGULA_RECORD_LENGTH];
+    dezgula_pack(run->record, words);
+    uint64_t answer = dezgula_raw_start(DEZGULA_LENT(system, run, words));
+    run->record = dezgula_unpack(words);
+    return answer;
+}
 
 /* A start from a lower bound: the run lists the minimal solutions at or above it, zero counting as a solution. Answers DEZGULA_STARTED, or refuses with
- * 1, 2, 3, 4, 5, 7 or 8.
- * Started: writes row 1 of the stack, sets *height to 1, *found and *steps to 0. The list and the rest of the stack stay as they were.
+ * 1, 2, 3, 4, 5, 7 or 8. Reads the lower bound only.
+ * Started: writes row 1 of the stack, sets the record's height to 1, its found and steps to 0. The list and the rest of the stack stay as they were.
  * Refused: changes nothing. What tables and record held before does not matter. */
-uint64_t dezgula_start_from(size_t p, size_t q, const int32_t *coefs, size_t coefs_len, const uint32_t *lower, size_t lower_len, uint32_t *stack,
-                            size_t stack_len, uint32_t *list, size_t list_len, size_t *height, size_t *found, uint64_t *steps);
+DEZGULA_LOOK_AT_IT static inline uint64_t dezgula_start_from(const dezgula_system *system, dezgula_run *run, const uint32_t *lower, size_t lower_len)
+{
+    uint64_t words[DEZGULA_RECORD_LENGTH];
+    dezgula_pack(run->record, words);
+    uint64_t answer = dezgula_raw_start_from(DEZGULA_LENT(system, run, words), (const uint32_t *)dezgula_lent(lower), dezgula_lent_length(lower, lower_len));
+    run->record = dezgula_unpack(words);
+    return answer;
+}
 
 /* Goes on with a run of either kind for at most `budget` steps. Answers DEZGULA_COMPLETE, DEZGULA_PAUSED, a refusal before the walk (1, 2, 3, 4, 6, 7) or
  * one within it (11, 12, 14).
  * Refused before the walk: changes nothing. Else: advances the stack, appends to the list, and leaves in the record where the walk now stands. List rows
- * past *found are not touched. Rows of the stack above *height keep what they last held. */
-uint64_t dezgula_resume(size_t p, size_t q, const int32_t *coefs, size_t coefs_len, uint32_t *stack, size_t stack_len, uint32_t *list, size_t list_len,
-                        size_t *height, size_t *found, uint64_t *steps, uint64_t budget);
+ * past the found count are not touched. Rows of the stack above the height keep what they last held. */
+DEZGULA_LOOK_AT_IT static inline uint64_t dezgula_resume(const dezgula_system *system, dezgula_run *run, uint64_t budget)
+{
+    uint64_t words[DEZGULA_RECORD_LENGTH];
+    dezgula_pack(run->record, words);
+    uint64_t answer = dezgula_raw_resume(DEZGULA_LENT(system, run, words), budget);
+    run->record = dezgula_unpack(words);
+    return answer;
+}
 
-/* Copies row n of the list, from 1, to out. Answers DEZGULA_ROW; DEZGULA_NO_ROW for n = 0, n above found or n above the capacity; or refuses with 2, or,
- * where there is such a row, with 29. Reads the list only.
+/* Copies row n of the list, from 1, to out. Answers DEZGULA_ROW; DEZGULA_NO_ROW for n = 0, n above the found count or n above the capacity; or refuses with 2,
+ * or, where there is such a row, with 29. Reads the run's list and found count only.
  * DEZGULA_ROW: writes out[0] to out[q - 1], and what stood past them stays. Else: writes nothing. */
-uint64_t dezgula_row(const uint32_t *list, size_t list_len, size_t q, size_t found, size_t n, uint32_t *out, size_t out_len);
+DEZGULA_LOOK_AT_IT static inline uint64_t dezgula_row(const dezgula_system *system, const dezgula_run *run, size_t n, uint32_t *out, size_t out_len)
+{
+    return dezgula_raw_row((const uint32_t *)dezgula_lent(run->list), dezgula_lent_length(run->list, run->list_len), system->q, run->record.found.count, n,
+                           (uint32_t *)dezgula_lent(out), dezgula_lent_length(out, out_len));
+}
+
+#undef DEZGULA_LENT
 
 #ifdef __cplusplus
 }

@@ -1,5 +1,4 @@
--- A number of 64 bits holds each answer, as a place is one of at most 128 coefficients; and what a call by value leaves, as an exported one tells it.
--- Assumes nothing.
+-- A number of 64 bits holds each answer, as a place is one of at most 128 coefficients. Assumes nothing.
 use Prim.Native.Nat.{ℕ, zero, suc, _*_, _^_, _≤_, _<_}
 use mathlib.Core.Bool.{Bool, true, false, not}
 use mathlib.Core.List.{List, [], _∷_}
@@ -13,19 +12,20 @@ use Rattle.definitions.specs.Answers.{Answer, Check, refuse, go, refuseWith, re
 use Rattle.definitions.specs.System.{System, mostEquations, mostUnknowns}
 use Rattle.definitions.specs.Tables.{State}
 use Rattle.definitions.specs.Step.{step}
-use Rattle.definitions.specs.Refusals.{between, check1, check2, check3, check4, check5, check6, check7, check8, startChecks, lowerChecks, resumeChecks, searchChecks}
+use Rattle.definitions.specs.Refusals.{between, check1, check2, check3, check4, check5, check6, check7, check8}
+use Rattle.definitions.specs.Refusals.{startChecks, lowerChecks, resumeChecks, searchChecks}
 use Rattle.definitions.specs.Calls.{Outcome, checked, start, startFrom, unlessDone, walk, resume}
 use Rattle.laws.specs.AnswerLaws.{refuse-if-go}
 use Rattle.calls.specs.Paper.{answerOf, outcomeOf}
 use Rattle.calls.specs.declared.Outcome as values
-use Rattle.dezgula.specs.Codes.{refusalCode, code, lent, recordOf, told}
+use Rattle.dezgula.specs.Codes.{refusalCode, code}
 
 abbrev Fits : Answer → Type 0
 Fits a = code a < 2 ^ 64
 
 -- ---- checks
 
-abbrev Small : Check → Type 0
+abbrev pub Small : Check → Type 0
 Small (refuse n values) = refusalCode n values < 2 ^ 64
 Small go = Unit
 
@@ -52,12 +52,13 @@ not-false : (b : Bool) → not b ≡ false → T b
 not-false true e = tt
 not-false false e = subst T e tt
 
-within : (a b n r : ℕ) → refuseIf (not (between a b n)) r ≡ go → n ≤ b
+pub within : (a b n r : ℕ) → refuseIf (not (between a b n)) r ≡ go → n ≤ b
 within a b n r e = leb→le n b (and-parts (leb a n) (leb n b) (not-false (between a b n) (refuse-if-go (not (between a b n)) r e)) .1)
 
 few : (m : System) → check1 m ≡ go → check2 m ≡ go → check3 m ≡ go → length (m .coefs) ≤ 128
 few m a b c =
-    let same : length (m .coefs) ≡ m .p * m .q = eqb→eq (length (m .coefs)) (m .p * m .q) (not-false (eqb (length (m .coefs)) (m .p * m .q)) (refuse-if-go (not (eqb (length (m .coefs)) (m .p * m .q))) 3 c)) in
+    let counted : Bool = eqb (length (m .coefs)) (m .p * m .q) in
+    let same : length (m .coefs) ≡ m .p * m .q = eqb→eq (length (m .coefs)) (m .p * m .q) (not-false counted (refuse-if-go (not counted) 3 c)) in
     omega (arith, same, mul-le-mul (within 1 mostEquations (m .p) 1 a) (within 1 mostUnknowns (m .q) 2 b))
 
 -- what follows the checks of the sizes
@@ -86,7 +87,7 @@ module _ (m : System) (s : State) where
       small-then (check5 m lower) (check7 m then check8 lower) (small-if _ 5 (omega arith)) (λ _.
       small-then (check7 m) (check8 lower) (small-range m l) (λ _. small-if _ 8 (omega arith)))))
 
-  small-resume : Small (resumeChecks m s)
+  pub small-resume : Small (resumeChecks m s)
   unfolding resumeChecks
   small-resume =
       small-sized m (check4 m s then check6 m s then check7 m) (λ l.
@@ -130,11 +131,8 @@ module _ (m : System) (s : State) where
   unfolding resume
   resume-fits budget = fits-checked (resumeChecks m s) s (walk budget m) (small-resume m s) (fits-walk budget m s)
 
--- ---- what a call by value answered and left
+-- ---- what a call by value answered
 
-module _ (o : values.Outcome) {stack list : List ℕ} {call : Outcome} (e : outcomeOf o stack list ≡ call) where
-  pub answer-fits : Fits (call .answer) → Fits (answerOf (o .answer))
-  answer-fits h = rw (← e) at h
-
-  pub call-told : {a height found steps : ℕ} → a ≡ code (answerOf (o .answer)) → recordOf height found steps ≡ o .run → (a, lent stack list height found steps) ≡ told call
-  call-told {a} {height} {found} {steps} d r = rw (← e, d, ← r)
+pub answer-fits : (o : values.Outcome) {stack list : List ℕ} {call : Outcome} → outcomeOf o stack list ≡ call
+    → Fits (call .answer) → Fits (answerOf (o .answer))
+answer-fits o e h = rw (← e) at h

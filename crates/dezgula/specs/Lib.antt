@@ -1,4 +1,6 @@
 pub mod Codes
 pub mod CodeLaws
+pub mod Words
+pub mod WordLaws
 pub mod Rows
 pub mod RowLaws

@@ -13,7 +13,7 @@ use Rattle.dezgula.specs.Rows.{copyTold, shownTold, rowTold}
 
 -- ---- a part
 
-pub told-none : (part out : List ℕ) → length part ≡ 0 → (0, out) ≡ copyTold part out
+pub told-none : (part out : List ℕ) → length part ≡ 0 → (103, out) ≡ copyTold part out
 unfolding copyTold
 told-none [] out e = refl
 told-none (x ∷ part) out e = absurd (omega (arith, e))
@@ -23,7 +23,8 @@ unfolding copyTold
 told-short [] out ne l = absurd (ne refl)
 told-short (x ∷ part) out ne l = rw (lt-ltb (length out) (length (x ∷ part)) l)
 
-pub told-copied : (part out : List ℕ) {after : List ℕ} → length part ≢ 0 → length part ≤ length out → after ≡ part ++ drop (length part) out → (1, after) ≡ copyTold part out
+pub told-copied : (part out : List ℕ) {after : List ℕ} → length part ≢ 0 → length part ≤ length out → after ≡ part ++ drop (length part) out
+    → (102, after) ≡ copyTold part out
 unfolding copyTold
 told-copied [] out ne l e = absurd (ne refl)
 told-copied (x ∷ part) out ne l e = rw (le-ltb (length out) (length (x ∷ part)) l, e)

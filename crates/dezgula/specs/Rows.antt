@@ -1,4 +1,5 @@
--- What reading a row answers: 2 where the reader is refused, 0 where there is no row, 29 where the space is too short for it, and else 1. Assumes nothing.
+-- What reading a row answers: 2 where the reader is refused, 103 where there is no row, 29 where the space is too short for it, and else 102.
+-- Assumes nothing.
 use Prim.Native.Nat.{ℕ}
 use mathlib.Core.Bool.{Bool, true, false}
 use mathlib.Core.List.{List, [], _∷_, _++_}
@@ -8,16 +9,16 @@ use Rattle.definitions.specs.Reader.{Shown, row, none, refused, shown}
 
 abbrev pub copyIf : Bool → List ℕ → List ℕ → ℕ × List ℕ
 copyIf true part out = (29, out)
-copyIf false part out = (1, part ++ drop (length part) out)
+copyIf false part out = (102, part ++ drop (length part) out)
 
 -- a part of the list table written to the beginning of a space: what stood past it stays
 unfoldable pub copyTold : List ℕ → List ℕ → ℕ × List ℕ
-copyTold [] out = (0, out)
+copyTold [] out = (103, out)
 copyTold (x ∷ part) out = copyIf (ltb (length out) (length (x ∷ part))) (x ∷ part) out
 
 abbrev pub shownTold : Shown → List ℕ → ℕ × List ℕ
 shownTold (row part) out = copyTold part out
-shownTold none out = (0, out)
+shownTold none out = (103, out)
 shownTold (refused n values) out = (n, out)
 
 unfoldable pub rowTold : ℕ → List ℕ → ℕ → ℕ → List ℕ → ℕ × List ℕ

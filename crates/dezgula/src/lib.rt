@@ -1,82 +1,88 @@
-// The solver as C and Rust call it; include/dezgula.h says the same to them. The run record comes as three numbers behind references, and an answer
-// goes out as one number: specs/Codes.antt.
+// The solver as C and Rust call it; include/dezgula.h says the same to them. The run record comes as words (specs/Words.antt), and an answer goes out as
+// one number (specs/Codes.antt).
 ghost use mathlib.Core.Path.{_≡_};
 ghost use Prim.Native.Nat.{_^_, _<_};
-ghost use Rattle.definitions.specs.Calls.{start, startFrom, resume};
-ghost use Rattle.calls.specs.Paper.{systemOf, numberOf, valuesOf, answerOf};
-ghost use Rattle.dezgula.specs.Codes.{code, refusalCode, told, lent, recordOf};
+ghost use mathlib.Core.Bool.{not, _||_};
+ghost use mathlib.Core.Logic.{_≢_};
+ghost use lib.Dec.{eqb};
+ghost use lib.ListN.{length};
+ghost use Rattle.calls.specs.Paper.{systemOf, answerOf};
+ghost use Rattle.dezgula.specs.Codes.{code};
+ghost use Rattle.dezgula.specs.Words.{told, wordsLeft, startWords, startFromWords, resumeWords};
 ghost use Rattle.dezgula.specs.Rows.{rowTold};
-use calls::Answer;
+use calls::Check;
 use calls::Outcome;
-use calls::Record;
-use calls::Refusal;
-use calls::Solutions;
-use calls::Steps;
 
+mod answers; // answers.rt: an answer as one number
 mod rows; // rows.rt: reading a row
+mod words; // words.rt: the run record as words
 
 // The plain start.
 #[no_mangle]
-pub extern "C" fn dezgula_start(
+pub extern "C" fn dezgula_raw_start(
     p: usize,
     q: usize,
     coefs: &[i32],
     stack: &mut [u32],
     list: &mut [u32],
-    height: &mut usize,
-    found: &mut usize,
-    steps: &mut u64,
+    run: &mut [u64],
 ) -> u64
-    ensures { λ a. ⌜ (a, lent (now (stack .exit)) (now (list .exit)) (now (height .exit)) (now (found .exit)) (now (steps .exit))) ≡ told (start (systemOf p q (now (coefs .entry))) (lent (now (stack .entry)) (now (list .entry)) (now (height .entry)) (now (found .entry)) (now (steps .entry)))) ⌝ }
+    ensures { λ a. ⌜ (a, (now (stack .exit), (now (list .exit), now (run .exit)))) ≡
+        told (now (run .entry)) (startWords (now (run .entry)) (systemOf p q (now (coefs .entry))) (now (stack .entry)) (now (list .entry))) ⌝ }
 {
-    let r = run_record(*height, *found, *steps);
-    let o = starts::started(p, q, coefs, stack, list, r);
-    tell(o, height, found, steps)
+    if run.len() == 3 {
+        let r = words::read(run);
+        let o = starts::started(p, q, coefs, stack, list, r);
+        return tell(o, run);
+    }
+    misfit(p, q, coefs, stack, list, run)
 }
 
 // The start from a lower bound.
 #[no_mangle]
-pub extern "C" fn dezgula_start_from(
+pub extern "C" fn dezgula_raw_start_from(
     p: usize,
     q: usize,
     coefs: &[i32],
-    lower: &[u32],
     stack: &mut [u32],
     list: &mut [u32],
-    height: &mut usize,
-    found: &mut usize,
-    steps: &mut u64,
+    run: &mut [u64],
+    lower: &[u32],
 ) -> u64
-    ensures { λ a. ⌜ (a, lent (now (stack .exit)) (now (list .exit)) (now (height .exit)) (now (found .exit)) (now (steps .exit))) ≡ told (startFrom (now (lower .entry)) (systemOf p q (now (coefs .entry))) (lent (now (stack .entry)) (now (list .entry)) (now (height .entry)) (now (found .entry)) (now (steps .entry)))) ⌝ }
+    ensures { λ a. ⌜ (a, (now (stack .exit), (now (list .exit), now (run .exit)))) ≡
+        told (now (run .entry))
+        (startFromWords (now (lower .entry)) (now (run .entry)) (systemOf p q (now (coefs .entry))) (now (stack .entry)) (now (list .entry))) ⌝ }
 {
-    let r = run_record(*height, *found, *steps);
-    let o = starts::started_from(p, q, coefs, stack, list, r, lower);
-    tell(o, height, found, steps)
+    if starts_from(run.len(), lower.len(), q) {
+        let r = words::read(run);
+        let o = starts::started_from(p, q, coefs, stack, list, r, lower);
+        return tell(o, run);
+    }
+    misfit(p, q, coefs, stack, list, run)
 }
 
 // The continuing call.
 #[no_mangle]
-pub extern "C" fn dezgula_resume(
+pub extern "C" fn dezgula_raw_resume(
     p: usize,
     q: usize,
     coefs: &[i32],
     stack: &mut [u32],
     list: &mut [u32],
-    height: &mut usize,
-    found: &mut usize,
-    steps: &mut u64,
+    run: &mut [u64],
     budget: u64,
 ) -> u64
-    ensures { λ a. ⌜ (a, lent (now (stack .exit)) (now (list .exit)) (now (height .exit)) (now (found .exit)) (now (steps .exit))) ≡ told (resume budget (systemOf p q (now (coefs .entry))) (lent (now (stack .entry)) (now (list .entry)) (now (height .entry)) (now (found .entry)) (now (steps .entry)))) ⌝ }
+    ensures { λ a. ⌜ (a, (now (stack .exit), (now (list .exit), now (run .exit)))) ≡
+        told (now (run .entry)) (resumeWords budget (now (run .entry)) (systemOf p q (now (coefs .entry))) (now (stack .entry)) (now (list .entry))) ⌝ }
 {
-    let r = run_record(*height, *found, *steps);
+    let r = words::read(run);
     let o = walk::resumed(p, q, coefs, stack, list, r, budget);
-    tell(o, height, found, steps)
+    tell(o, run)
 }
 
 // Row n of a finished list, copied to the beginning of `out`.
 #[no_mangle]
-pub extern "C" fn dezgula_row(
+pub extern "C" fn dezgula_raw_row(
     list: &[u32],
     q: usize,
     found: usize,
@@ -88,45 +94,37 @@ pub extern "C" fn dezgula_row(
     rows::tell(list, q, found, n, out)
 }
 
-fn run_record(height: usize, found: usize, steps: u64) -> Record
-    ensures { λ r. ⌜ r ≡ recordOf height found steps ⌝ }
+// Whether a start from a lower bound is answered by its own checks, as it is where the lower bound is refused before the words of the record are looked at.
+fn starts_from(words: usize, lower: usize, q: usize) -> bool
+    ensures { λ b. ⌜ b ≡ (eqb words 3 || not (eqb lower q)) ⌝ }
 {
-    Record {
-        height,
-        found: Solutions(found),
-        steps: Steps(steps),
+    if words == 3 {
+        return true;
+    }
+    lower != q
+}
+
+// What a start is told whose record has another number of words: what a continuing call is told, and nothing is written.
+fn misfit(p: usize, q: usize, coefs: &[i32], stack: &[u32], list: &[u32], run: &[u64]) -> u64
+    requires { ⌜ length (now run) ≢ 3 ⌝ }
+    ensures { λ a. ⌜ (a, (now (stack .entry), (now (list .entry), now (run .entry)))) ≡
+        told (now (run .entry)) (resumeWords 0 (now (run .entry)) (systemOf p q (now (coefs .entry))) (now (stack .entry)) (now (list .entry))) ⌝ }
+{
+    let r = words::read(run);
+    match checks::check_resume(p, q, coefs, stack, list, r) {
+        Check::Refuse(why) => answers::refusal(why),
+        Check::Pass => 6,
     }
 }
 
 // Puts the run record back, and gives the answer as a number.
-fn tell(o: Outcome, height: &mut usize, found: &mut usize, steps: &mut u64) -> u64
+fn tell(o: Outcome, run: &mut [u64]) -> u64
     requires { ⌜ code (answerOf (o .answer)) < 2 ^ 64 ⌝ }
     ensures { λ a. ⌜ a ≡ code (answerOf (o .answer)) ⌝ }
-    ensures { λ _. ⌜ recordOf (now (height .exit)) (now (found .exit)) (now (steps .exit)) ≡ o .run ⌝ }
+    ensures { λ _. ⌜ now (run .exit) ≡ wordsLeft (now (run .entry)) (o .run .height) (o .run .found .0) (o .run .steps .0) ⌝ }
 {
     let answer = o.answer;
-    let run = o.run;
-    *height = run.height;
-    *found = run.found.0;
-    *steps = run.steps.0;
-    number(answer)
-}
-
-fn number(answer: Answer) -> u64
-    requires { ⌜ code (answerOf answer) < 2 ^ 64 ⌝ }
-    ensures { λ a. ⌜ a ≡ code (answerOf answer) ⌝ }
-{
-    match answer {
-        Answer::Started => 100,
-        Answer::Complete => 0,
-        Answer::Paused => 101,
-        Answer::Refused(why) => refusal(why),
-    }
-}
-
-fn refusal(why: Refusal) -> u64
-    requires { ⌜ refusalCode (numberOf why) (valuesOf why) < 2 ^ 64 ⌝ }
-    ensures { λ a. ⌜ a ≡ refusalCode (numberOf why) (valuesOf why) ⌝ }
-{
-    calls::number_of(why) + 256 * calls::value_of(why) as u64
+    let left = o.run;
+    words::write(run, left);
+    answers::number(answer)
 }

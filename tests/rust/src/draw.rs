@@ -1,6 +1,6 @@
 //! Drawn numbers, maps and states: the same for the same seed.
 
-use crate::{State, System};
+use crate::{State, System, FOUND, HEIGHT, STEPS};
 
 /// SplitMix64.
 pub struct Draw(u64);
@@ -124,15 +124,25 @@ pub fn state(d: &mut Draw, q: usize) -> State {
         1 => d.word() % 1_000_000_000_001,
         _ => d.of(&[1_000_000_000_000, 999_999_999_999, 999_999_999_990, 1]),
     };
-    State { height: d.between(0, q), found: d.between(0, length / q), stack, list, steps }
+    let record = vec![d.between(0, q) as u64, d.between(0, length / q) as u64, steps];
+    State { stack, list, record }
+}
+
+/// Sets a word of the record, where it has that word.
+fn set(s: &mut State, place: usize, word: u64) {
+    if let Some(x) = s.record.get_mut(place) {
+        *x = word;
+    }
 }
 
 /// Spoils a state in one way.
 pub fn damage_state(d: &mut Draw, q: usize, s: &mut State) {
-    match d.between(0, 7) {
-        0 => s.height = d.of(&[q + 1, q + 2, usize::MAX]),
-        1 => s.found = d.of(&[s.list.len() / q + 1, s.list.len() / q + 2, usize::MAX]),
-        2 => s.steps = d.of(&[1_000_000_000_001, u64::MAX]),
+    let room = (s.list.len() / q) as u64;
+    match d.between(0, 8) {
+        0 => set(s, HEIGHT, d.of(&[q as u64 + 1, q as u64 + 2, u64::MAX])),
+        1 => set(s, FOUND, d.of(&[room + 1, room + 2, u64::MAX])),
+        2 => set(s, STEPS, d.of(&[1_000_000_000_001, u64::MAX])),
+        8 => s.record.resize(d.of(&[0, 1, 2, 4, 7]), 0),
         3 => s.stack.truncate(d.between(0, q * (q + 1))),
         4 => s.list.truncate(d.between(0, s.list.len())),
         kind => {

@@ -18,10 +18,14 @@ pub struct System {
 pub struct State {
     pub stack: Vec<u32>,
     pub list: Vec<u32>,
-    pub height: usize,
-    pub found: usize,
-    pub steps: u64,
+    /// The words of the run record.
+    pub record: Vec<u64>,
 }
+
+/// The words of a run record in order.
+pub const HEIGHT: usize = 0;
+pub const FOUND: usize = 1;
+pub const STEPS: usize = 2;
 
 /// A call's answer; a refusal has the document's number, and 7 has its place.
 #[derive(Clone, Copy, Debug, PartialEq, Eq, PartialOrd, Ord)]
@@ -50,12 +54,24 @@ impl System {
 impl State {
     /// Tables for q unknowns and `room` rows, with no zeros in them, so that a place written too many shows.
     pub fn blank(q: usize, room: usize) -> State {
-        State { stack: vec![0xa5a5_a5a5; q * (q + 1) + 3], list: vec![0x5a5a_5a5a; room * q + q / 2], height: 7, found: 8, steps: 9 }
+        State { stack: vec![0xa5a5_a5a5; q * (q + 1) + 3], list: vec![0x5a5a_5a5a; room * q + q / 2], record: vec![7, 8, 9] }
+    }
+
+    pub fn height(&self) -> usize {
+        self.record[HEIGHT] as usize
+    }
+
+    pub fn found(&self) -> usize {
+        self.record[FOUND] as usize
+    }
+
+    pub fn steps(&self) -> u64 {
+        self.record[STEPS]
     }
 
     /// The rows listed so far.
     pub fn rows(&self, q: usize) -> Vec<Vec<u32>> {
-        self.list.chunks(q).take(self.found).map(<[u32]>::to_vec).collect()
+        self.list.chunks(q).take(self.found()).map(<[u32]>::to_vec).collect()
     }
 }
 

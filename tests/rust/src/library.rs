@@ -3,7 +3,7 @@
 use crate::{Answer, Shown, State, System};
 
 extern "C" {
-    fn dezgula_start(
+    fn dezgula_raw_start(
         p: usize,
         q: usize,
         coefs: *const i32,
@@ -12,28 +12,26 @@ extern "C" {
         stack_len: usize,
         list: *mut u32,
         list_len: usize,
-        height: &mut usize,
-        found: &mut usize,
-        steps: &mut u64,
+        record: *mut u64,
+        record_len: usize,
     ) -> u64;
 
-    fn dezgula_start_from(
+    fn dezgula_raw_start_from(
         p: usize,
         q: usize,
         coefs: *const i32,
         coefs_len: usize,
+        stack: *mut u32,
+        stack_len: usize,
+        list: *mut u32,
+        list_len: usize,
+        record: *mut u64,
+        record_len: usize,
         lower: *const u32,
         lower_len: usize,
-        stack: *mut u32,
-        stack_len: usize,
-        list: *mut u32,
-        list_len: usize,
-        height: &mut usize,
-        found: &mut usize,
-        steps: &mut u64,
     ) -> u64;
 
-    fn dezgula_resume(
+    fn dezgula_raw_resume(
         p: usize,
         q: usize,
         coefs: *const i32,
@@ -42,18 +40,17 @@ extern "C" {
         stack_len: usize,
         list: *mut u32,
         list_len: usize,
-        height: &mut usize,
-        found: &mut usize,
-        steps: &mut u64,
+        record: *mut u64,
+        record_len: usize,
         budget: u64,
     ) -> u64;
 
-    fn dezgula_row(list: *const u32, list_len: usize, q: usize, found: usize, n: usize, out: *mut u32, out_len: usize) -> u64;
+    fn dezgula_raw_row(list: *const u32, list_len: usize, q: usize, found: usize, n: usize, out: *mut u32, out_len: usize) -> u64;
 }
 
 pub fn start(m: &System, s: &mut State) -> Answer {
     decode(unsafe {
-        dezgula_start(
+        dezgula_raw_start(
             m.p,
             m.q,
             m.coefs.as_ptr(),
@@ -62,36 +59,34 @@ pub fn start(m: &System, s: &mut State) -> Answer {
             s.stack.len(),
             s.list.as_mut_ptr(),
             s.list.len(),
-            &mut s.height,
-            &mut s.found,
-            &mut s.steps,
+            s.record.as_mut_ptr(),
+            s.record.len(),
         )
     })
 }
 
 pub fn start_from(m: &System, lower: &[u32], s: &mut State) -> Answer {
     decode(unsafe {
-        dezgula_start_from(
+        dezgula_raw_start_from(
             m.p,
             m.q,
             m.coefs.as_ptr(),
             m.coefs.len(),
-            lower.as_ptr(),
-            lower.len(),
             s.stack.as_mut_ptr(),
             s.stack.len(),
             s.list.as_mut_ptr(),
             s.list.len(),
-            &mut s.height,
-            &mut s.found,
-            &mut s.steps,
+            s.record.as_mut_ptr(),
+            s.record.len(),
+            lower.as_ptr(),
+            lower.len(),
         )
     })
 }
 
 pub fn resume(m: &System, s: &mut State, budget: u64) -> Answer {
     decode(unsafe {
-        dezgula_resume(
+        dezgula_raw_resume(
             m.p,
             m.q,
             m.coefs.as_ptr(),
@@ -100,19 +95,18 @@ pub fn resume(m: &System, s: &mut State, budget: u64) -> Answer {
             s.stack.len(),
             s.list.as_mut_ptr(),
             s.list.len(),
-            &mut s.height,
-            &mut s.found,
-            &mut s.steps,
+            s.record.as_mut_ptr(),
+            s.record.len(),
             budget,
         )
     })
 }
 
 pub fn row(list: &[u32], q: usize, found: usize, n: usize, out: &mut [u32]) -> Shown {
-    match unsafe { dezgula_row(list.as_ptr(), list.len(), q, found, n, out.as_mut_ptr(), out.len()) } {
-        0 => Shown::None,
-        1 => Shown::Row,
-        answer => Shown::Refused(u8::try_from(answer).expect("a reader's refusal has no value")),
+    match unsafe { dezgula_raw_row(list.as_ptr(), list.len(), q, found, n, out.as_mut_ptr(), out.len()) } {
+        102 => Shown::Row,
+        103 => Shown::None,
+        answer => Shown::Refused(u8::try_from(answer).expect("a reader's refusal has no place")),
     }
 }
 

@@ -1,6 +1,6 @@
 //! Document 01 in plain Rust, in its own order. Images are computed anew for each row, and nothing is shared with the library.
 
-use crate::{Answer, Shown, State, System};
+use crate::{Answer, Shown, State, System, FOUND, HEIGHT, STEPS};
 
 const COMPONENT_LIMIT: u32 = 1_000_000;
 const STEP_LIMIT: u64 = 1_000_000_000_000;
@@ -24,9 +24,15 @@ fn check_shape(m: &System, s: &State) -> Check {
     refuse_if(s.stack.len() < m.q * (m.q + 1), 4)
 }
 
+/// A record of another length than its three words is out of order, for a start too.
+fn check_record(s: &State) -> Check {
+    refuse_if(s.record.len() != 3, 6)
+}
+
 fn check_order(m: &System, s: &State) -> Check {
-    refuse_if(s.height > m.q || s.found > room(m, s) || s.steps > STEP_LIMIT, 6)?;
-    for (k, row) in s.stack.chunks(m.q + 1).take(s.height).enumerate() {
+    check_record(s)?;
+    refuse_if(s.height() > m.q || s.found() > room(m, s) || s.steps() > STEP_LIMIT, 6)?;
+    for (k, row) in s.stack.chunks(m.q + 1).take(s.height()).enumerate() {
         let (tuple, marks) = row.split_at(m.q);
         refuse_if(tuple.iter().any(|&x| x > COMPONENT_LIMIT), 6)?;
         refuse_if((m.q..32).any(|j| marked(marks[0], j)), 6)?;
@@ -52,22 +58,24 @@ fn write_row(q: usize, stack: &mut [u32], k: usize, tuple: &[u32], marks: u32) {
 
 fn try_start(m: &System, s: &mut State) -> Check {
     check_shape(m, s)?;
+    check_record(s)?;
     check_coefficients(m)?;
     for k in 0..m.q {
         let unit: Vec<u32> = (0..m.q).map(|j| u32::from(j == k)).collect();
         write_row(m.q, &mut s.stack, k, &unit, (0..k).map(|j| 1 << j).sum());
     }
-    (s.height, s.found, s.steps) = (m.q, 0, 0);
+    s.record = vec![m.q as u64, 0, 0];
     Ok(())
 }
 
 fn try_start_from(m: &System, lower: &[u32], s: &mut State) -> Check {
     check_shape(m, s)?;
     refuse_if(lower.len() != m.q, 5)?;
+    check_record(s)?;
     check_coefficients(m)?;
     refuse_if(lower.iter().any(|&x| x > COMPONENT_LIMIT), 8)?;
     write_row(m.q, &mut s.stack, 0, lower, 0);
-    (s.height, s.found, s.steps) = (1, 0, 0);
+    s.record = vec![1, 0, 0];
     Ok(())
 }
 
@@ -108,20 +116,21 @@ fn raise(tuple: &[u32], j: usize) -> Vec<u32> {
 }
 
 fn step(m: &System, s: &mut State) -> Check {
-    refuse_if(s.steps == STEP_LIMIT, 14)?;
-    let level = s.height - 1;
+    refuse_if(s.steps() == STEP_LIMIT, 14)?;
+    let level = s.height() - 1;
     let top = s.stack[level * (m.q + 1)..][..m.q].to_vec();
     let marks = s.stack[level * (m.q + 1) + m.q];
     let image = image(m, &top);
     if image.iter().all(|&y| y == 0) {
-        refuse_if(s.found == room(m, s), 11)?;
-        s.list[s.found * m.q..][..m.q].copy_from_slice(&top);
-        s.found += 1;
-        s.height -= 1;
+        refuse_if(s.found() == room(m, s), 11)?;
+        let place = s.found() * m.q;
+        s.list[place..][..m.q].copy_from_slice(&top);
+        s.record[FOUND] += 1;
+        s.record[HEIGHT] -= 1;
     } else {
         let makes_child = |j: usize| {
             let raised = raise(&top, j);
-            !marked(marks, j) && inner_product(m, &image, j) < 0 && !s.list.chunks(m.q).take(s.found).any(|row| at_or_below(row, &raised))
+            !marked(marks, j) && inner_product(m, &image, j) < 0 && !s.list.chunks(m.q).take(s.found()).any(|row| at_or_below(row, &raised))
         };
         let made: Vec<usize> = (0..m.q).filter(|&j| makes_child(j)).collect();
         refuse_if(made.iter().any(|&j| top[j] == COMPONENT_LIMIT), 12)?;
@@ -131,9 +140,9 @@ fn step(m: &System, s: &mut State) -> Check {
             write_row(m.q, &mut s.stack, level + n, &raise(&top, j), frozen);
             frozen |= 1 << j;
         }
-        s.height = level + made.len();
+        s.record[HEIGHT] = (level + made.len()) as u64;
     }
-    s.steps += 1;
+    s.record[STEPS] += 1;
     Ok(())
 }
 
@@ -145,7 +154,7 @@ fn try_resume(m: &System, s: &mut State, budget: u64) -> Result<Answer, Answer> 
     check_coefficients(m)?;
     let mut left = budget;
     loop {
-        if s.height == 0 {
+        if s.height() == 0 {
             return Ok(Answer::Complete);
         }
         if left == 0 {

@@ -74,7 +74,7 @@ fn cut_short() {
         library::resume(&m, &mut long, BUDGET);
         let mut short = State::blank(m.q, ROOM);
         library::start(&m, &mut short);
-        library::resume(&m, &mut short, d.word() % (long.steps + 1));
-        assert_eq!(short.rows(m.q), long.rows(m.q)[..short.found]);
+        library::resume(&m, &mut short, d.word() % (long.steps() + 1));
+        assert_eq!(short.rows(m.q), long.rows(m.q)[..short.found()]);
     }
 }

@@ -32,7 +32,7 @@ fn one_equation(d: &mut Draw) -> System {
 
 fn sums_within(m: &System, s: &State) -> bool {
     let sum = |row: &[u32]| row[..m.q].iter().map(|&x| u64::from(x)).sum::<u64>();
-    s.stack.chunks(m.q + 1).take(s.height).all(|row| sum(row) <= depth(m))
+    s.stack.chunks(m.q + 1).take(s.height()).all(|row| sum(row) <= depth(m))
 }
 
 /// A call of another map, or a bad one, that is handed the run's own tables and record and leaves them.
@@ -72,13 +72,13 @@ fn ends_within_its_bound() {
             last = library::resume(&m, &mut s, budget);
             allowed += budget;
             assert!(last == Answer::Paused || last == Answer::Complete, "{m:?}: {last:?}");
-            assert!(s.steps <= bound && s.steps <= allowed && sums_within(&m, &s), "{m:?}");
+            assert!(s.steps() <= bound && s.steps() <= allowed && sums_within(&m, &s), "{m:?}");
             if d.one_in(3) {
                 foreign(&mut d, &m, &mut s);
             }
         }
         assert_eq!(last, Answer::Complete, "{m:?}");
-        steps += s.steps;
+        steps += s.steps();
     }
     println!("{steps} steps");
 }

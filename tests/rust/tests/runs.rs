@@ -14,7 +14,7 @@ struct Run {
 fn go(m: &System, s: &mut State, started: Answer, budget: u64) -> Run {
     assert_eq!(started, Answer::Started);
     let answer = library::resume(m, s, budget);
-    Run { answer, steps: s.steps, height: s.height, rows: s.rows(m.q) }
+    Run { answer, steps: s.steps(), height: s.height(), rows: s.rows(m.q) }
 }
 
 fn run(rows: &[&[i32]], room: usize, budget: u64) -> Run {

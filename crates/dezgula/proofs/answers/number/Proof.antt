@@ -1,10 +1,10 @@
--- `number` meets its contract. Assumes nothing.
+-- `answers::number` meets its contract. Assumes nothing.
 use mathlib.Core.Path.{_∙_, sym, ap}
 use borrow.Author.Needs.{needs}
 use Rattle.calls.specs.Paper.{answerOf}
 use Rattle.dezgula.specs.Codes.{code}
-use Rattle.dezgula.proofs.number.Statement.{statement}
-use Rattle.dezgula.proofs.number.Tie as tie
+use Rattle.dezgula.proofs.answers.number.Statement.{statement}
+use Rattle.dezgula.proofs.answers.number.Tie as tie
 
 enum-told : tie.Need-enum-told
 enum-told c = search needs

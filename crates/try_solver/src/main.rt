@@ -1,0 +1,132 @@
+// The calls over a reference and the reader, as a caller uses them (lent.rt): the map of document 01's "The program" with a pause after 7 steps, a run from a
+// lower bound, and calls that are refused; and the same calls by value. It prints what each call answered and left.
+use calls::Answer;
+use calls::Outcome;
+use calls::Record;
+use calls::Solutions;
+use calls::Steps;
+use try_common::print;
+
+mod lent; // lent.rt: each call with a record of its own
+
+fn main() {
+    map_in_two_calls();
+    from_a_lower_bound();
+    refused_calls();
+    by_value();
+}
+
+fn map_in_two_calls() {
+    let coefs = [-1, 1, 2, -3, -1, 3, -2, -1];
+    let mut stack = [0u32; 20];
+    let mut list = [0u32; 8];
+    let r = told(
+        b"start",
+        lent::started(2, 4, &coefs, &mut stack, &mut list, unused()),
+    );
+    let r = told(
+        b"7 steps",
+        lent::resumed(2, 4, &coefs, &mut stack, &mut list, r, 7),
+    );
+    show(&list, 4, r.found, 1);
+    show(&list, 4, r.found, 2);
+    let r = told(
+        b"all steps",
+        lent::resumed(2, 4, &coefs, &mut stack, &mut list, r, 1000000),
+    );
+    show(&list, 4, r.found, 1);
+    show(&list, 4, r.found, 2);
+    show(&list, 4, r.found, 3);
+}
+
+fn from_a_lower_bound() {
+    let coefs = [1, -1];
+    let mut stack = [0u32; 6];
+    let mut list = [0u32; 8];
+    let r = told(
+        b"start from 0 2",
+        lent::started_from(1, 2, &coefs, &mut stack, &mut list, unused(), &[0, 2]),
+    );
+    let r = told(
+        b"all steps",
+        lent::resumed(1, 2, &coefs, &mut stack, &mut list, r, 1000000),
+    );
+    show(&list, 2, r.found, 1);
+    show(&list, 17, r.found, 1);
+}
+
+fn refused_calls() {
+    let coefs = [1, -10001];
+    let mut stack = [0u32; 6];
+    let mut list = [0u32; 8];
+    let r = told(
+        b"a coefficient out of range",
+        lent::started(1, 2, &coefs, &mut stack, &mut list, unused()),
+    );
+    let r = told(
+        b"a lower bound of three",
+        lent::started_from(1, 2, &coefs, &mut stack, &mut list, r, &[0, 0, 0]),
+    );
+    told(
+        b"going on all the same",
+        lent::resumed(1, 2, &coefs, &mut stack, &mut list, r, 1),
+    );
+}
+
+// The calls by value, as README.md has them.
+fn by_value() {
+    let coefs = [-1, 1, 2, -3, -1, 3, -2, -1];
+    let mut stack = [0u32; 272];
+    let mut list = [0u32; 8192];
+    let s = starts::started(2, 4, &coefs, &mut stack, &mut list, unused());
+    let answer = s.answer;
+    let Answer::Started = answer else {
+        return;
+    };
+    let r = s.run;
+    let o = walk::resumed(2, 4, &coefs, &mut stack, &mut list, r, 1000000);
+    let r = o.run;
+    let row = solver::row_of(&list, 4, r.found, 1);
+    print::text(b"by value:");
+    print::tuple(row);
+    print::text(b"\n");
+}
+
+// A record out of order, so that one which a start has not set is refused.
+fn unused() -> Record {
+    Record {
+        height: 17,
+        found: Solutions(0),
+        steps: Steps(0),
+    }
+}
+
+// Prints what a call answered, and the record that it left.
+fn told(name: &[u8], o: Outcome) -> Record {
+    let answer = o.answer;
+    let run = o.run;
+    print::text(name);
+    print::text(b": ");
+    print::answer(answer);
+    print::text(b", height ");
+    print::number(run.height as u64);
+    print::text(b", found ");
+    print::number(run.found.0 as u64);
+    print::text(b", steps ");
+    print::number(run.steps.0);
+    print::text(b"\n");
+    run
+}
+
+// Prints a row as the reader shows it.
+fn show(list: &[u32], q: usize, found: Solutions, n: usize) {
+    let row = lent::row(list, q, found, n);
+    print::text(b"    row ");
+    print::number(n as u64);
+    print::text(b":");
+    if row.len() == 0 {
+        print::text(b" none");
+    }
+    print::tuple(row);
+    print::text(b"\n");
+}
