@@ -1,24 +1,16 @@
 -- Texts read and maps written, by computation. Assumes nothing.
-use Prim.Native.Nat.{ℕ, zero, suc}
-use Prim.Native.Char.{code}
-use Prim.Native.String.{String, len, charAt}
+use Prim.Native.Nat.{ℕ}
+use Prim.Native.String.{String}
 use mathlib.Core.Path.{_≡_, refl}
 use mathlib.Core.List.{List, [], _∷_, map}
 use lib.IntN.{pos, negsuc}
 use lib.ListN.{replicate}
 use Rattle.definitions.specs.Answers.{_then_, refuseWith, refuseFirst}
 use Rattle.definitions.specs.Refusals.{check7}
-use Rattle.map_form.specs.Form.{lastDigits, decimal, line, lines, written}
-use Rattle.map_form.specs.Reading.{andThen, moreDigits, readNatural, readNumber, readField, readLine, readRows, Reading, accepted, refused, checked, acceptRows, readBody, readMap}
-
--- the bytes of a text in ASCII, k of them from place i on
-bytesFrom : ℕ → ℕ → String → List ℕ
-bytesFrom zero i s = []
-bytesFrom (suc k) i s = code (charAt s i) ∷ bytesFrom k (suc i) s
-
-bytes : String → List ℕ
-unfolding bytesFrom
-bytes s = bytesFrom (len s) 0 s
+use Rattle.texts.specs.Decimals.{bytes, lastDigits, decimal}
+use Rattle.texts.specs.Reading.{andThen, moreDigits, readNatural, readNumber}
+use Rattle.map_form.specs.Form.{line, lines, written}
+use Rattle.map_form.specs.Reading.{readField, readLine, readRows, Reading, accepted, refused, checked, acceptRows, readBody, readMap}
 
 -- ---- reading
 
@@ -27,7 +19,7 @@ abbrev Case : Type 0
 Case = String × Reading
 
 asRead : List Case → List Reading
-unfolding bytes _then_ refuseWith refuseFirst check7 andThen moreDigits readNatural readNumber readField readLine readRows checked acceptRows readBody readMap
+unfolding _then_ refuseWith refuseFirst check7 andThen moreDigits readNatural readNumber readField readLine readRows checked acceptRows readBody readMap
 asRead cases = map (λ (c : Case). readMap (bytes (c .0))) cases
 
 asSaid : List Case → List Reading
@@ -134,9 +126,9 @@ not-long = refl
 -- ---- writing
 
 example-written : written 2 4 (negsuc 0 ∷ pos 1 ∷ pos 2 ∷ negsuc 2 ∷ negsuc 0 ∷ pos 3 ∷ negsuc 1 ∷ negsuc 0 ∷ []) ≡ bytes "2 4\n-1 1 2 -3\n-1 3 -2 -1\n"
-unfolding bytes lastDigits decimal line lines written
+unfolding lastDigits decimal line lines written
 example-written = refl
 
 numbers-written : written 1 3 (pos 0 ∷ pos 10000 ∷ negsuc 9999 ∷ []) ≡ bytes "1 3\n0 10000 -10000\n"
-unfolding bytes lastDigits decimal line lines written
+unfolding lastDigits decimal line lines written
 numbers-written = refl

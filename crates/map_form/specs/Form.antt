@@ -1,50 +1,20 @@
 -- Document 01, "The program": how a map is written. A text is the list of its bytes. Assumes nothing.
-use Prim.Native.Nat.{ℕ, zero, suc, _+_, _*_, _/_, _%_, _≤_, _<_}
-use mathlib.Core.Bool.{cond}
+use Prim.Native.Nat.{ℕ, zero, suc, _*_, _^_, _≤_, _<_}
 use mathlib.Core.List.{List, [], _∷_, _++_}
 use mathlib.Core.Path.{_≡_}
-use lib.Dec.{ltb}
-use lib.IntN.{ℤ, pos, negsuc, natAbs}
+use lib.IntN.{ℤ, pos, natAbs}
 use lib.ListN.{length, getD, take, drop}
 use Rattle.definitions.specs.System.{mostEquations, mostUnknowns, coefLimit}
+use Rattle.texts.specs.Decimals.{numeral, separator}
 
--- ---- bytes
+-- ---- numbers and lines
 
-abbrev pub newline : ℕ
-newline = 10
+-- "A number is an optional minus and 1 to 6 digits without leading zeros"
+abbrev pub mostDigits : ℕ
+mostDigits = 6
 
-abbrev pub space : ℕ
-space = 32
-
-abbrev pub minus : ℕ
-minus = 45
-
--- the digit 0; the others follow it in order
-abbrev pub zeroDigit : ℕ
-zeroDigit = 48
-
--- ---- numbers
-
--- the digits of n, the last k of them if there are more
-unfoldable pub lastDigits : ℕ → ℕ → List ℕ
-lastDigits zero n = []
-lastDigits (suc k) n = let others = lastDigits k (n / 10) in cond (ltb n 10) ((zeroDigit + n) ∷ []) (others ++ ((zeroDigit + n % 10) ∷ []))
-
--- "digits without leading zeros": n has at most n + 1
-unfoldable pub decimal : ℕ → List ℕ
-decimal n = lastDigits (suc n) n
-
--- "A number is an optional minus and .. digits without leading zeros; "-0" is not in the form."
-abbrev pub numeral : ℤ → List ℕ
-numeral (pos n) = decimal n
-numeral (negsuc n) = minus ∷ decimal (suc n)
-
--- ---- lines
-
--- what stands after a number when k numbers of its line follow: "single spaces, each line ended by a newline"
-abbrev pub separator : ℕ → ℕ
-separator zero = newline
-separator (suc k) = space
+abbrev pub ShortNumbers : List ℤ → Type 0
+ShortNumbers zs = (i : ℕ) → i < length zs → natAbs (getD zs i (pos 0)) < 10 ^ mostDigits
 
 -- a line of these numbers
 unfoldable pub line : List ℤ → List ℕ

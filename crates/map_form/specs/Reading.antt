@@ -1,60 +1,16 @@
 -- Document 01, "The program": how a text is read, and when it is refused. Assumes nothing.
-use Prim.Native.Nat.{ℕ, zero, suc, _+_, _*_, _-_}
-use mathlib.Core.Bool.{Bool, true, not, _&&_, cond}
+use Prim.Native.Nat.{ℕ, zero, suc}
+use mathlib.Core.Bool.{Bool, true, not, cond}
 use mathlib.Core.List.{List, [], _∷_, _++_}
-use lib.Dec.{leb, ltb, eqb}
+use lib.Dec.{ltb, eqb}
 use lib.IntN.{ℤ, pos, negsuc, natAbs}
 use lib.ListN.{length, getD}
 use Rattle.definitions.specs.Answers.{Check, refuse, go, _then_, refuseIf}
 use Rattle.definitions.specs.System.{mostEquations, mostUnknowns}
 use Rattle.definitions.specs.Refusals.{between, check7}
-use Rattle.map_form.specs.Form.{minus, zeroDigit, separator}
-
--- What a text begins with: something in the form, and the text after it; or nothing in the form.
-pub data Parse (A : Type 0) : Type 0 where
-  parsed : A → List ℕ → Parse A
-  malformed : Parse A
-
--- one thing after another
-unfoldable pub andThen : {A B : Type 0} → Parse A → (A → List ℕ → Parse B) → Parse B
-andThen (parsed a t) f = f a t
-andThen malformed f = malformed
-
--- ---- a number
-
-abbrev pub isDigit : ℕ → Bool
-isDigit b = leb zeroDigit b && leb b (zeroDigit + 9)
-
-abbrev pub digit : ℕ → ℕ
-digit b = b - zeroDigit
-
--- the number that n becomes by up to k more digits
-unfoldable pub moreDigits : ℕ → ℕ → List ℕ → Parse ℕ
-moreDigits zero n t = parsed n t
-moreDigits (suc k) n [] = parsed n []
-moreDigits (suc k) n (b ∷ t) = cond (isDigit b) (moreDigits k (n * 10 + digit b) t) (parsed n (b ∷ t))
-
--- "1 to 6 digits without leading zeros": how many may follow the first, none if that is 0
-abbrev pub mayFollow : ℕ → ℕ
-mayFollow zero = 0
-mayFollow (suc d) = 5
-
-unfoldable pub readNatural : List ℕ → Parse ℕ
-readNatural [] = malformed
-readNatural (b ∷ t) = cond (isDigit b) (moreDigits (mayFollow (digit b)) (digit b) t) malformed
-
-abbrev pub unsigned : ℕ → List ℕ → Parse ℤ
-unsigned n t = parsed (pos n) t
-
--- ""-0" is not in the form"
-abbrev pub negative : ℕ → List ℕ → Parse ℤ
-negative zero t = malformed
-negative (suc n) t = parsed (negsuc n) t
-
--- "A number is an optional minus and 1 to 6 digits"
-unfoldable pub readNumber : List ℕ → Parse ℤ
-readNumber [] = malformed
-readNumber (b ∷ t) = cond (eqb b minus) (andThen (readNatural t) negative) (andThen (readNatural (b ∷ t)) unsigned)
+use Rattle.texts.specs.Decimals.{separator}
+use Rattle.texts.specs.Reading.{Parse, parsed, malformed, andThen, readNumber}
+use Rattle.map_form.specs.Form.{mostDigits}
 
 -- ---- a line
 
@@ -65,7 +21,7 @@ endedBy s z (b ∷ t) = cond (eqb b s) (parsed z t) malformed
 
 -- a number that k numbers of its line follow: "single spaces, each line ended by a newline"
 unfoldable pub readField : ℕ → List ℕ → Parse ℤ
-readField k t = andThen (readNumber t) (endedBy (separator k))
+readField k t = andThen (readNumber mostDigits t) (endedBy (separator k))
 
 -- a line of k numbers, which come after the numbers zs
 unfoldable pub readLine : ℕ → List ℤ → List ℕ → Parse (List ℤ)

@@ -10,7 +10,6 @@ use crate::lines::Line;
 use crate::lines::Rows;
 
 mod lines; // lines.rt: lines of numbers
-mod number; // number.rt: one number
 
 // Why a text is refused; specs/Answer.antt has document 01's number for each.
 pub enum TextRefusal {

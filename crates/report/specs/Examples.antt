@@ -14,9 +14,11 @@ use Rattle.definitions.specs.Step.{makes, marksTo, childrenTo, listed, grown, s
 use Rattle.definitions.specs.Refusals.{rowInOrder, inOrder, check7, startChecks, resumeChecks, tooLarge, tooHigh, searchChecks}
 use Rattle.definitions.specs.Calls as calls
 use Rattle.definitions.specs.Calls.{start, unlessDone, walk, resume}
-use Rattle.map_form.specs.Form.{lastDigits, decimal, line, lines}
-use Rattle.map_form.specs.Reading.{andThen, moreDigits, readNatural, readNumber, readField, readLine, readRows, checked, acceptRows, readBody, readMap}
-use Rattle.report.specs.Printed.{bytes, counted, refusalText, counts, ending, runText, run, readingText, printed}
+use Rattle.texts.specs.Decimals.{lastDigits, decimal, bytes}
+use Rattle.texts.specs.Reading.{andThen, moreDigits, readNatural, readNumber}
+use Rattle.map_form.specs.Form.{line, lines}
+use Rattle.map_form.specs.Reading.{readField, readLine, readRows, checked, acceptRows, readBody, readMap}
+use Rattle.report.specs.Printed.{counted, refusalText, counts, ending, runText, run, readingText, printed}
 
 -- a text, and what is printed for it
 abbrev Case : Type 0

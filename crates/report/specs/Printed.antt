@@ -1,7 +1,5 @@
 -- Document 01, "The program": the bytes that it prints for the bytes that it reads. Assumes nothing.
-use Prim.Native.Nat.{ℕ, zero, suc}
-use Prim.Native.Char.{code}
-use Prim.Native.String.{String, len, charAt}
+use Prim.Native.Nat.{ℕ}
 use mathlib.Core.Bool.{cond}
 use mathlib.Core.List.{List, [], _∷_, _++_, map}
 use lib.Dec.{eqb}
@@ -11,20 +9,12 @@ use Rattle.definitions.specs.Answers.{Answer, started, complete, paused, refuse
 use Rattle.definitions.specs.System.{System}
 use Rattle.definitions.specs.Tables.{State}
 use Rattle.definitions.specs.Calls.{Outcome, start, resume}
-use Rattle.map_form.specs.Form.{newline, decimal, lines}
+use Rattle.texts.specs.Decimals.{newline, bytes, decimal}
+use Rattle.map_form.specs.Form.{lines}
 use Rattle.map_form.specs.Reading as reading
 use Rattle.map_form.specs.Reading.{Reading, readMap}
 
 -- ---- words
-
--- k characters of a word, from place i on
-abbrev pub bytesFrom : ℕ → ℕ → String → List ℕ
-bytesFrom zero i word = []
-bytesFrom (suc k) i word = code (charAt word i) ∷ bytesFrom k (suc i) word
-
--- the bytes of a word
-abbrev pub bytes : String → List ℕ
-bytes word = bytesFrom (len word) 0 word
 
 -- a line that ends with a number
 unfoldable pub counted : List ℕ → ℕ → List ℕ

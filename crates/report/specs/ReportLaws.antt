@@ -9,6 +9,7 @@ use lib.ListN.{length, take, drop, length-append, length-take}
 use lib.Seq.{take-at}
 use Rattle.calls.specs.Paper.{systemOf}
 use Rattle.map_form.specs.Reading as reading
+use Rattle.texts.specs.Put.{Put}
 use Rattle.map_form.specs.Reading.{Reading, readMap}
 use Rattle.map_text.specs.Answer.{Outcome, answered, outcome, numberOf, valuesOf}
 use Rattle.map_text.specs.MapLaws.{accepted-written}
@@ -16,7 +17,6 @@ use Rattle.map_text.specs.declared.Read.{Read}
 use Rattle.map_text.specs.declared.Read.the-variants.{Map, Refused}
 use Rattle.map_text.specs.declared.TextRefusal.{TextRefusal}
 use Rattle.report.specs.Printed.{refusalText, runText, run, readingText, printed}
-use Rattle.report.specs.Put.{Put}
 
 -- a text at the beginning of a buffer
 pub put-first : {before text after : List ℕ} {next : ℕ} → Put before 0 text after next

@@ -113,6 +113,14 @@ module _ {p q : ℕ} {coefs : List ℤ} (r : MapInRange p q coefs) where
   unfolding run start checked
   run-walks = rw starts (resume-walks system (plainStart system blank) 1000000 (valid-resume system (plainStart system blank) valid) .0)
 
+  -- the program's start answers "started", and its continuing call does not
+  pub run-starts : start system blank .answer ≡ started
+  unfolding start checked
+  run-starts = rw starts
+
+  pub run-ends : ¬ (run system .answer ≡ started)
+  run-ends = rw run-walks (walk-ended 1000000 system (plainStart system blank) valid .not-started)
+
 -- Neither the start nor the continuing call is refused before the walk, so that no "earlier refusal" is left to print; and the walk's answer is one of those that have an ending.
 pub map-printed : (t : List ℕ) {p q : ℕ} {coefs : List ℤ} → readMap t ≡ accepted p q coefs
     → let m : System = record { p = p; q = q; coefs = coefs } in let o = walk 1000000 m (plainStart m blank) in (printed t ≡ runText p q o) × (¬ (o .answer ≡ started))

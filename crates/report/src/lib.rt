@@ -6,7 +6,7 @@ ghost use lib.ListN.{length, take, drop};
 ghost use Rattle.map_text.specs.Answer as reading;
 ghost use Rattle.calls.specs.Paper.{systemOf, answerOf, numberOf, outcomeOf};
 ghost use Rattle.report.specs.Printed as paper;
-ghost use Rattle.report.specs.Put.{Put};
+ghost use Rattle.texts.specs.Put.{Put};
 use calls::Answer;
 use calls::Outcome;
 use calls::Record;
@@ -16,7 +16,6 @@ use map_text::Read;
 use map_text::TextRefusal;
 
 mod lines; // lines.rt: lines of the report
-mod put; // put.rt: writing into a buffer
 
 // Writes the report on `text` to the beginning of `out`, and returns how many bytes it has.
 pub fn report(text: &[u8], out: &mut [u8; 91000]) -> usize
@@ -97,8 +96,8 @@ fn ending(out: &mut [u8], at: usize, answer: Answer) -> usize
 {
     match answer {
         Answer::Started => at,
-        Answer::Complete => put::word(out, at, b"end complete\n"),
-        Answer::Paused => put::word(out, at, b"end paused\n"),
+        Answer::Complete => texts::put::word(out, at, b"end complete\n"),
+        Answer::Paused => texts::put::word(out, at, b"end paused\n"),
         Answer::Refused(why) => lines::counted(out, at, b"end refused ", calls::number_of(why)),
     }
 }

@@ -1,14 +1,15 @@
 // Lines of the report.
-ghost use mathlib.Core.Path.{_≡_};
 ghost use mathlib.Core.List.{_++_, map};
 ghost use Prim.Native.Nat.{_+_, _*_, _≤_};
 ghost use lib.IntN.{pos};
 ghost use lib.ListN.{length};
-ghost use Rattle.map_form.specs.Form.{decimal, separator, line, lines};
+ghost use Rattle.texts.specs.Decimals.{bytes, decimal};
+ghost use Rattle.texts.specs.Put.{Put};
+ghost use Rattle.map_form.specs.Form.{line, lines};
 ghost use Rattle.report.specs.Printed as paper;
-ghost use Rattle.report.specs.Put.{Put};
 ghost use Rattle.report.specs.Rows.{fieldText};
-use crate::put;
+use texts::put;
+use texts::separator_after;
 
 // A line that ends with a number.
 pub fn counted(out: &mut [u8], at: usize, word: &[u8], n: u64) -> usize
@@ -24,7 +25,7 @@ pub fn counted(out: &mut [u8], at: usize, word: &[u8], n: u64) -> usize
 // The line of a refusal that comes with a value, at the beginning.
 pub fn refused_with(out: &mut [u8], n: u64, word: &[u8], value: usize) -> usize
     requires { ⌜ length (now word) + 49 ≤ length (now out) ⌝ }
-    ensures { λ r. ⌜ Put (now (out .entry)) 0 (paper.bytes "refused " ++ (decimal n ++ paper.counted (now (word .entry)) value)) (now (out .exit)) r ⌝ }
+    ensures { λ r. ⌜ Put (now (out .entry)) 0 (bytes "refused " ++ (decimal n ++ paper.counted (now (word .entry)) value)) (now (out .exit)) r ⌝ }
 {
     let number = put::word(out, 0, b"refused ");
     let detail = put::number(out, number, n);
@@ -55,12 +56,6 @@ fn field(out: &mut [u8], at: usize, n: u32, left: usize) -> usize
 {
     let end = put::number(out, at, n as u64);
     put::byte(out, end, separator_after(left))
-}
-
-fn separator_after(left: usize) -> u8
-    ensures { λ b. ⌜ b ≡ separator left ⌝ }
-{
-    if left == 0 { b'\n' } else { b' ' }
 }
 
 // The lines of the first `found` rows of the list.

@@ -1,7 +1,7 @@
 -- `counts` meets its contract. Assumes nothing.
 use borrow.Author.Needs.{needs}
 use Rattle.report.specs.Printed as paper
-use Rattle.report.specs.Put.{put-then}
+use Rattle.texts.specs.Put.{put-then}
 use Rattle.report.proofs.counts.Statement.{statement}
 use Rattle.report.proofs.counts.Tie as tie
 

@@ -1,7 +1,7 @@
 -- `ending` meets its contract. Assumes nothing.
 use borrow.Author.Needs.{needs}
 use Rattle.report.specs.Printed as paper
-use Rattle.report.specs.Put.{put-none}
+use Rattle.texts.specs.Put.{put-none}
 use Rattle.report.proofs.ending.Statement.{statement}
 use Rattle.report.proofs.ending.Tie as tie
 

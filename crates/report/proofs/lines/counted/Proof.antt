@@ -2,8 +2,8 @@
 use native.Mathlib.Omega.{arith}
 use borrow.Author.Needs.{needs}
 use Rattle.report.specs.Printed as paper
-use Rattle.report.specs.Put.{put-then}
-use Rattle.report.specs.Digits.{digits-64}
+use Rattle.texts.specs.Put.{put-then}
+use Rattle.texts.specs.DecimalLaws.{digits-64}
 use Rattle.report.proofs.lines.counted.Statement.{statement}
 use Rattle.report.proofs.lines.counted.Tie as tie
 

@@ -1,9 +1,9 @@
 -- `lines::field` meets its contract. Assumes nothing.
 use native.Mathlib.Omega.{arith}
 use borrow.Author.Needs.{needs}
-use Rattle.report.specs.Put.{put-then}
+use Rattle.texts.specs.Put.{put-then}
+use Rattle.texts.specs.DecimalLaws.{digits-32}
 use Rattle.report.specs.Rows.{fieldText}
-use Rattle.report.specs.Digits.{digits-32}
 use Rattle.report.proofs.lines.field.Statement.{statement}
 use Rattle.report.proofs.lines.field.Tie as tie
 

@@ -1,8 +1,8 @@
 -- `lines::refused_with` meets its contract. Assumes nothing.
 use native.Mathlib.Omega.{arith}
 use borrow.Author.Needs.{needs}
-use Rattle.report.specs.Put.{put-then}
-use Rattle.report.specs.Digits.{digits-64}
+use Rattle.texts.specs.Put.{put-then}
+use Rattle.texts.specs.DecimalLaws.{digits-64}
 use Rattle.report.proofs.lines.refused_with.Statement.{statement}
 use Rattle.report.proofs.lines.refused_with.Tie as tie
 

@@ -1,0 +1,1 @@
+// What a printed "end complete" means: see specs/. No code.
