@@ -1,5 +1,5 @@
 // The minimal solutions of a box, found by trying its tuples one by one.
-use try_common::sums;
+use crate::sums;
 use try_common::tables;
 
 // How many numbers a component of the box may be: 0 to 6.

@@ -1,6 +1,6 @@
 // A list held against the minimal solutions of a box.
 use crate::boxes;
-use try_common::sums;
+use crate::sums;
 use try_common::tables;
 use try_common::up;
 

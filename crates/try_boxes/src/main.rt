@@ -5,13 +5,14 @@ use calls::Outcome;
 use calls::Record;
 use calls::Solutions;
 use calls::Steps;
-use try_common::draws;
 use try_common::print;
 use try_common::tables;
 use try_common::up;
 
 mod boxes; // boxes.rt: the minimal solutions of a box
 mod compare; // compare.rt: a list held against a box
+mod draws; // draws.rt: numbers drawn in a fixed order
+mod sums; // sums.rt: images of tuples
 
 const SYSTEMS: u64 = 3000;
 

@@ -1,5 +1,4 @@
 // What a program prints.
-use crate::answers;
 use crate::tables;
 use calls::Answer;
 
@@ -21,45 +20,38 @@ pub fn line(name: &[u8], n: u64) {
 
 // An answer in document 01's words.
 pub fn answer(a: Answer) {
-    answer_of(answers::number(a));
-    let place = answers::place(a);
-    if 0 < place {
-        text(b" place ");
-        number(place as u64);
-    }
-}
-
-// The answer that has a number.
-pub fn answer_of(n: u64) {
-    match n {
-        answers::STARTED => text(b"started"),
-        answers::COMPLETE => text(b"complete"),
-        answers::PAUSED => text(b"paused"),
-        _ => {
+    match a {
+        Answer::Started => text(b"started"),
+        Answer::Complete => text(b"complete"),
+        Answer::Paused => text(b"paused"),
+        Answer::Refused(why) => {
             text(b"refused ");
-            number(n);
+            number(calls::number_of(why));
+            let value = calls::value_of(why);
+            if 0 < value {
+                text(b" place ");
+                number(value as u64);
+            }
         }
     }
 }
 
-// The numbers of a tuple, a space before each.
-pub fn tuple(numbers: &[u32]) {
+// The rows of a list, a space before each number and a comma between two rows.
+pub fn rows(list: &[u32], q: usize) {
     let mut i = 0;
-    while i < numbers.len() {
-        text(b" ");
-        number(tables::wide(numbers[i]));
+    while i < list.len() {
+        separator(i, q);
+        number(tables::wide(list[i]));
         i += 1;
     }
 }
 
-// The first n rows of a list, a comma between two.
-pub fn rows(list: &[u32], n: usize, q: usize) {
-    let mut i = 0;
-    while i < n {
-        if 0 < i {
+// What comes before number i of rows of q numbers.
+fn separator(i: usize, q: usize) {
+    if 0 < q {
+        if i % q == 0 && 0 < i {
             text(b",");
         }
-        tuple(tables::row(list, i, q, q));
-        i += 1;
     }
+    text(b" ");
 }

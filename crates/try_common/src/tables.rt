@@ -1,5 +1,4 @@
 // Tables of numbers, read and written within their length. A tuple is a row of one.
-use crate::draws;
 
 // The entry at i, and 0 past the end.
 pub fn at(table: &[u32], i: usize) -> u32 {
@@ -23,11 +22,6 @@ pub fn place(row: usize, width: usize, column: usize) -> usize {
         }
     }
     1000000000000
-}
-
-// The place of a row of a stack table, whose rows have q + 1 numbers.
-pub fn stack_place(k: usize, q: usize) -> usize {
-    place(k, std::num::wrapping_add_usize(q, 1), 0)
 }
 
 // The first q numbers of a row, or none where the table ends before.
@@ -92,27 +86,6 @@ pub fn copy(from: &[u32], to: &mut [u32], first: usize) {
         put(to, std::num::wrapping_add_usize(first, i), from[i]);
         i += 1;
     }
-}
-
-// Fills a table with any 32-bit numbers.
-pub fn fill(table: &mut [u32], series: u64) {
-    let mut i = 0;
-    while i < table.len() {
-        table[i] = (draws::number(series, i as u64) % 4294967296) as u32;
-        i += 1;
-    }
-}
-
-// Whether the entries from `first` on are those that `fill` wrote.
-pub fn filled_from(table: &[u32], series: u64, first: usize) -> bool {
-    let mut i = first;
-    while i < table.len() {
-        if wide(table[i]) != draws::number(series, i as u64) {
-            return false;
-        }
-        i += 1;
-    }
-    true
 }
 
 pub fn wide(x: u32) -> u64 {

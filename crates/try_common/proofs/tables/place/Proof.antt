@@ -18,17 +18,7 @@ mul-result c = omega (arith, product _ _ (c .before .before .if1 .taken) (c .bef
 add-result : tie.Need-add-result
 add-result c = omega (arith, product _ _ (c .before .before .if1 .taken) (c .before .if2 .taken))
 
-returns : tie.Need-returns
-returns c = search needs
-
-returns-2 : tie.Need-returns-2
-returns-2 c = search needs
-
-returns-3 : tie.Need-returns-3
-returns-3 c = search needs
-
-returns-4 : tie.Need-returns-4
-returns-4 c = search needs
-
 pub place-spec : {M : Type 1} → statement M
-place-spec = tie.close (tie.spec mul-result add-result returns returns-2 returns-3 returns-4)
+place-spec =
+    tie.close
+    (tie.spec mul-result add-result (λ c. search needs) (λ c. search needs) (λ c. search needs) (λ c. search needs))

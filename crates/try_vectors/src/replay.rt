@@ -1,0 +1,163 @@
+// The kinds of call: each is made as its line has it, and held against what the line says must come of it. A further kind is one more arm of `agrees`
+// and one more function, which takes its operands and tables from the line and compares what comes of them by the functions below.
+use crate::line::COEFFICIENTS;
+use crate::line::Line;
+use crate::line::ROOM;
+use calls::Answer;
+use calls::Outcome;
+use calls::Record;
+use calls::Refusal;
+use calls::Solutions;
+use calls::Steps;
+use solver::Readable;
+
+// Whether the call of a line comes to what the line says. One whose tables have no room is not made.
+pub fn agrees(l: Line) -> bool {
+    if COEFFICIENTS < l.coefs_length
+        || ROOM < l.tuple_length
+        || ROOM < l.stack_length
+        || ROOM < l.list_length
+    {
+        return false;
+    }
+    let kind = l.kind;
+    match kind {
+        b's' | b'f' | b'r' => run(l),
+        b'v' => view(l),
+        _ => false,
+    }
+}
+
+// A start or a continuing call: its answer, its record and every entry of its tables.
+fn run(l: Line) -> bool {
+    let mut stack = l.stack;
+    let mut list = l.list;
+    let o = called(l, &mut stack, &mut list);
+    let a = o.answer;
+    let r = o.run;
+    let stack_after = l.stack_after;
+    let list_after = l.list_after;
+    answers(l, a)
+        && records(l, r)
+        && same_table(&stack, &stack_after)
+        && same_table(&list, &list_after)
+}
+
+// The call, on the parts of the tables that the line fills; there are such parts, as `agrees` saw.
+fn called(l: Line, stack: &mut [u32], list: &mut [u32]) -> Outcome {
+    let coefs = l.coefs;
+    let lower = l.tuple;
+    let s = l.stack_length;
+    let n = l.list_length;
+    if stack.len() < s {
+        return calls::refused(Refusal::StackFull, record(l));
+    }
+    if list.len() < n {
+        return calls::refused(Refusal::StackFull, record(l));
+    }
+    made(
+        l,
+        first_signed(&coefs, l.coefs_length),
+        first(&lower, l.tuple_length),
+        &mut stack[0..s],
+        &mut list[0..n],
+    )
+}
+
+fn record(l: Line) -> Record {
+    let x = l.record;
+    Record {
+        height: x[0] as usize,
+        found: Solutions(x[1] as usize),
+        steps: Steps(x[2]),
+    }
+}
+
+// p, q and a budget.
+fn made(l: Line, coefs: &[i32], lower: &[u32], stack: &mut [u32], list: &mut [u32]) -> Outcome {
+    let x = l.operands;
+    let p = x[0] as usize;
+    let q = x[1] as usize;
+    let r = record(l);
+    let kind = l.kind;
+    match kind {
+        b's' => starts::started(p, q, coefs, stack, list, r),
+        b'f' => starts::started_from(p, q, coefs, stack, list, r, lower),
+        _ => walk::resumed(p, q, coefs, stack, list, r, x[2]),
+    }
+}
+
+// q, the solutions found and the row asked for; the tuple is the row that is to be shown.
+fn view(l: Line) -> bool {
+    let x = l.operands;
+    let q = x[0] as usize;
+    let list = l.list;
+    let tuple = l.tuple;
+    let row = solver::row_of(
+        first(&list, l.list_length),
+        q,
+        Solutions(x[1] as usize),
+        x[2] as usize,
+    );
+    if !same(row, first(&tuple, l.tuple_length)) {
+        return false;
+    }
+    match solver::reader_answer(q) {
+        Readable::Yes => l.answer == b'Y',
+        Readable::Refused(why) => refuses(l, why),
+    }
+}
+
+// The first n entries, or all where there are fewer.
+fn first(table: &[u32], n: usize) -> &[u32] {
+    if n < table.len() {
+        return &table[0..n];
+    }
+    &table[0..table.len()]
+}
+
+fn first_signed(table: &[i32], n: usize) -> &[i32] {
+    if n < table.len() {
+        return &table[0..n];
+    }
+    &table[0..table.len()]
+}
+
+fn answers(l: Line, a: Answer) -> bool {
+    match a {
+        Answer::Started => l.answer == b'S',
+        Answer::Complete => l.answer == b'C',
+        Answer::Paused => l.answer == b'P',
+        Answer::Refused(why) => refuses(l, why),
+    }
+}
+
+fn refuses(l: Line, why: Refusal) -> bool {
+    let x = l.answered;
+    l.answer == b'R' && calls::number_of(why) == x[0] && calls::value_of(why) as u64 == x[1]
+}
+
+fn records(l: Line, r: Record) -> bool {
+    let x = l.record_after;
+    let found = r.found;
+    let steps = r.steps;
+    r.height as u64 == x[0] && found.0 as u64 == x[1] && steps.0 == x[2]
+}
+
+fn same_table(a: &[u32; ROOM], b: &[u32; ROOM]) -> bool {
+    same(a, b)
+}
+
+fn same(a: &[u32], b: &[u32]) -> bool {
+    if a.len() != b.len() {
+        return false;
+    }
+    let mut i = 0;
+    while i < a.len() {
+        if a[i] != b[i] {
+            return false;
+        }
+        i += 1;
+    }
+    true
+}
