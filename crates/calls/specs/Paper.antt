@@ -7,6 +7,8 @@ use Rattle.definitions.specs.Calls as calls
 use Rattle.definitions.specs.System.{System}
 use Rattle.definitions.specs.Tables.{State}
 use Rattle.calls.specs.declared.Record.{Record}
+use Rattle.calls.specs.declared.Solutions.{Solutions}
+use Rattle.calls.specs.declared.Steps.{Steps}
 use Rattle.calls.specs.declared.Refusal.{Refusal}
 use Rattle.calls.specs.declared.Refusal.the-variants.{Equations, Unknowns, CoefficientCount, StackLength, BoundLength, OutOfOrder, Coefficient, BoundRange, ListFull, ComponentLimit, StackFull, StepLimit}
 use Rattle.calls.specs.declared.Answer.{Answer}
@@ -68,6 +70,10 @@ checkOf Pass = paper.go
 
 -- ---- what a call leaves
 
+-- a run record of its parts
+abbrev pub recordOf : ℕ → Solutions → Steps → Record
+recordOf height found steps = record { height = height; found = found; steps = steps }
+
 abbrev pub leftBy : Answer → List ℕ → List ℕ → Record → calls.Outcome
 leftBy a stack list r = record { answer = answerOf a; state = stateOf stack list r }
 
@@ -76,7 +82,7 @@ outcomeOf o stack list = leftBy (o .answer) stack list (o .run)
 
 -- an answer with the three parts of the run record
 abbrev pub leaves : Answer → ℕ → ℕ → ℕ → Outcome
-leaves answer height found steps = record { answer = answer; run = record { height = height; found = record { 0 = found }; steps = record { 0 = steps } } }
+leaves answer height found steps = record { answer = answer; run = recordOf height (record { 0 = found }) (record { 0 = steps }) }
 
 -- refused before the walk
 abbrev pub refuses : Refusal → Record → Outcome
