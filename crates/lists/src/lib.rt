@@ -15,12 +15,11 @@ pub fn covered(list: &[u32], found: usize, w: usize, t: &[u32]) -> bool
     ensures { λ r. ⌜ r ≡ system.covered w found (at (now (list .entry)) w) (tuple (now (t .entry))) ⌝ }
 {
     let first = t[0];
+    let end = found * w;
     let mut verdict = false;
-    let mut n: usize = 0;
     let mut next: usize = 0;
-    'rows: while n < found {
+    'rows: while next < end {
         let base = next;
-        n += 1;
         next += w;
         let mut j = 0;
         while j < w {
