@@ -9,6 +9,8 @@ use Rattle.definitions.specs.System.{mostComponent}
 use Rattle.definitions.specs.Tables as tables
 use Rattle.definitions.specs.Tables.{State}
 use Rattle.calls.specs.declared.Record.{Record}
+use Rattle.calls.specs.declared.Solutions.{Solutions}
+use Rattle.calls.specs.declared.Steps.{Steps}
 use Rattle.calls.specs.declared.Refusal.{Refusal}
 use Rattle.calls.specs.declared.Refusal.the-variants.{Equations, Unknowns, CoefficientCount, StackLength, BoundLength, OutOfOrder, Coefficient, BoundRange, ListFull, ComponentLimit, StackFull, StepLimit}
 use Rattle.calls.specs.declared.Answer.{Answer}
@@ -22,12 +24,12 @@ abbrev pub inputOf : ℕ → ℕ → List ℤ → Input
 inputOf p q coefs = record { p = p; q = q; coefs = coefs; extra = alone; limit = mostComponent }
 
 -- the run record
-abbrev pub recordOf : Record → tables.Record
-recordOf r = record { height = r .height; found = r .found .0; steps = r .steps .0 }
+abbrev pub runOf : Record → tables.Record
+runOf r = record { height = r .height; found = r .found .0; steps = r .steps .0 }
 
 -- all that is lent
 abbrev pub stateOf : List ℕ → List ℕ → Record → State
-stateOf stack list r = record { stack = stack; list = list; run = recordOf r }
+stateOf stack list r = record { stack = stack; list = list; run = runOf r }
 
 -- the number of a refusal
 abbrev pub numberOf : Refusal → ℕ
@@ -76,6 +78,10 @@ checkOf Pass = paper.go
 
 -- ---- what a call leaves
 
+-- a run record of its parts
+abbrev pub recordOf : ℕ → Solutions → Steps → Record
+recordOf height found steps = record { height = height; found = found; steps = steps }
+
 abbrev pub leftBy : Answer → List ℕ → List ℕ → Record → calls.Outcome State
 leftBy a stack list r = record { answer = answerOf a; state = stateOf stack list r }
 
@@ -84,7 +90,7 @@ outcomeOf o stack list = leftBy (o .answer) stack list (o .run)
 
 -- an answer with the three parts of the run record
 abbrev pub leaves : Answer → ℕ → ℕ → ℕ → Outcome
-leaves answer height found steps = record { answer = answer; run = record { height = height; found = record { 0 = found }; steps = record { 0 = steps } } }
+leaves answer height found steps = record { answer = answer; run = recordOf height (record { 0 = found }) (record { 0 = steps }) }
 
 -- refused before the walk
 abbrev pub refuses : Refusal → Record → Outcome

@@ -1,6 +1,12 @@
 // What a caller hands over and gets back, and document 01's number of each refusal.
 ghost use mathlib.Core.Path.{_≡_};
-ghost use Rattle.calls.specs.Paper.{numberOf, valuesOf, value, refuses};
+ghost use Rattle.calls.specs.Paper.{numberOf, valuesOf, value, recordOf, refuses};
+
+// "A tuple gives each unknown a natural number, at most 1,000,000."
+pub const COMPONENT_LIMIT: u32 = 1000000;
+
+// "14: steps taken stand at 1,000,000,000,000."
+pub const STEP_LIMIT: u64 = 1000000000000;
 
 // Steps taken.
 pub struct Steps(pub u64);
@@ -13,6 +19,19 @@ pub struct Record {
     pub height: usize,
     pub found: Solutions,
     pub steps: Steps,
+}
+
+impl Record {
+    // A run record of its parts.
+    pub fn new(height: usize, found: Solutions, steps: Steps) -> Record
+        ensures { λ r. ⌜ r ≡ recordOf height found steps ⌝ }
+    {
+        Record {
+            height,
+            found,
+            steps,
+        }
+    }
 }
 
 // Why a call is refused; specs/Paper.antt has document 01's number for each.

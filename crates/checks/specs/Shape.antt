@@ -10,12 +10,12 @@ use Rattle.linear.specs.Tests.{anyTo}
 use Rattle.linear.specs.TestLaws.{and-parts}
 use Rattle.definitions.specs.Answers.{Check, go, _then_, refuseIf}
 use Rattle.laws.specs.AnswerLaws.{then-assoc, then-go, refuse-if-go}
-use Rattle.definitions.specs.System.{System, mostEquations, mostUnknowns, componentLimit}
+use Rattle.definitions.specs.System.{System, mostEquations, mostUnknowns}
 use Rattle.definitions.specs.Tables.{State}
 use Rattle.definitions.specs.Refusals.{between, check1, check2, check3, check4}
 
-abbrev pub lowerAboveLimit : List ℕ → Bool
-lowerAboveLimit lower = anyTo (length lower) (λ j. ltb componentLimit (getD lower j 0))
+abbrev pub lowerAboveLimit : ℕ → List ℕ → Bool
+lowerAboveLimit limit lower = anyTo (length lower) (λ j. ltb limit (getD lower j 0))
 
 unfoldable pub shapeChecks : ℕ → ℕ → ℕ → ℕ → Check
 shapeChecks p q coefs stack =

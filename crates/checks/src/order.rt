@@ -5,8 +5,9 @@ ghost use Prim.Native.Nat.{ℕ, _+_, _*_, _≤_, _<_};
 ghost use lib.ListN.{length};
 ghost use Rattle.linear.specs.Tests.{allTo};
 ghost use Rattle.definitions.specs.Answers.{_then_};
-ghost use Rattle.definitions.specs.Refusals.{inOrder, rowInOrder, check6, check7};
+ghost use Rattle.definitions.specs.Refusals.{inOrder, check6, check7};
 ghost use Rattle.calls.specs.Paper.{systemOf, stateOf, checkOf};
+ghost use Rattle.checks.specs.Order.{rowFits};
 ghost use Rattle.checks.specs.Shape.{InShape};
 use crate::coefficients;
 use crate::count_marks;
@@ -39,20 +40,20 @@ fn in_order(q: usize, stack: &[u32], list: &[u32], r: Record) -> bool
     if list.len() / q < found {
         return false;
     }
-    if 1000000000000 < steps {
+    if calls::STEP_LIMIT < steps {
         return false;
     }
-    rows_in_order(q, stack, height)
+    rows_in_order(q, stack, height, calls::COMPONENT_LIMIT)
 }
 
-// Whether the first `height` rows are in order.
-fn rows_in_order(q: usize, stack: &[u32], height: usize) -> bool
+// Whether the first `height` rows are in order, with components up to the limit.
+fn rows_in_order(q: usize, stack: &[u32], height: usize, limit: u32) -> bool
     requires { ⌜ (q ≤ 16) × (height * (q + 1) ≤ length (now stack)) ⌝ }
-    ensures { λ b. ⌜ b ≡ allTo height (rowInOrder q (now (stack .entry))) ⌝ }
+    ensures { λ b. ⌜ b ≡ allTo height (rowFits limit q (now (stack .entry))) ⌝ }
 {
     let mut k = 0;
     while k < height {
-        if !row_in_order(q, stack, k) {
+        if !row_in_order(q, stack, k, limit) {
             return false;
         }
         k += 1;
@@ -61,14 +62,14 @@ fn rows_in_order(q: usize, stack: &[u32], height: usize) -> bool
 }
 
 // Whether row `k` is in order: components, marks within the unknowns, and k marks.
-fn row_in_order(q: usize, stack: &[u32], k: usize) -> bool
+fn row_in_order(q: usize, stack: &[u32], k: usize, limit: u32) -> bool
     requires { ⌜ (q ≤ 16) × (k * (q + 1) + q < length (now stack)) ⌝ }
-    ensures { λ b. ⌜ b ≡ rowInOrder q (now (stack .entry)) k ⌝ }
+    ensures { λ b. ⌜ b ≡ rowFits limit q (now (stack .entry)) k ⌝ }
 {
     let base = k * (q + 1);
     let mut j = 0;
     while j < q {
-        if 1000000 < stack[base + j] {
+        if limit < stack[base + j] {
             return false;
         }
         j += 1;

@@ -44,7 +44,7 @@ pub fn check_lower(q: usize, coefs: &[i32], lower: &[u32]) -> Check
     match coefficients::check(coefs) {
         Check::Refuse(why) => Check::Refuse(why),
         Check::Pass => {
-            if lower_above_limit(lower) {
+            if lower_above_limit(lower, calls::COMPONENT_LIMIT) {
                 Check::Refuse(Refusal::BoundRange)
             } else {
                 Check::Pass
@@ -53,13 +53,13 @@ pub fn check_lower(q: usize, coefs: &[i32], lower: &[u32]) -> Check
     }
 }
 
-// Whether a component of the lower bound is above 1,000,000.
-fn lower_above_limit(lower: &[u32]) -> bool
-    ensures { λ b. ⌜ b ≡ lowerAboveLimit (now (lower .entry)) ⌝ }
+// Whether a component of the lower bound is above the limit.
+fn lower_above_limit(lower: &[u32], limit: u32) -> bool
+    ensures { λ b. ⌜ b ≡ lowerAboveLimit limit (now (lower .entry)) ⌝ }
 {
     let mut j = 0;
     while j < lower.len() {
-        if 1000000 < lower[j] {
+        if limit < lower[j] {
             return true;
         }
         j += 1;

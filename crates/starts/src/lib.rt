@@ -57,12 +57,9 @@ pub fn started_from(
 fn begun(height: usize) -> Outcome
     ensures { λ o. ⌜ o ≡ begins height ⌝ }
 {
+    let run = Record::new(height, Solutions(0), Steps(0));
     Outcome {
         answer: Answer::Started,
-        run: Record {
-            height,
-            found: Solutions(0),
-            steps: Steps(0),
-        },
+        run,
     }
 }

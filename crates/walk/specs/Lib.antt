@@ -1,17 +1,1 @@
-pub mod Rows
-pub mod RowLaws
-pub mod Covering
-pub mod Marks
-pub mod Scan
-pub mod Cache
-pub mod CacheSteps
-pub mod CacheLaws
-pub mod Grow
-pub mod GrowLaws
-pub mod StateLaws
-pub mod Pushed
-pub mod Tried
-pub mod Listing
-pub mod Taken
-pub mod TakeLaws
 pub mod WalkLaws

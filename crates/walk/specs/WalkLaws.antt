@@ -10,7 +10,7 @@ use native.Mathlib.Nat.{mul-le-mul-right, le-mul-of-pos-right}
 use Rattle.linear.specs.Cases.{split}
 use borrow.Author.Tests.{ne-eqb, eq-eqb}
 use Rattle.definitions.specs.Answers.{complete, paused, refused, refuse, go, refuseWith, _then_}
-use Rattle.definitions.specs.System.{System}
+use Rattle.definitions.specs.System.{System, componentLimit}
 use Rattle.definitions.specs.Tables.{State}
 use Rattle.definitions.specs.Step.{step}
 use Rattle.definitions.specs.Refusals.{stepLimit, searchChecks}
@@ -20,10 +20,10 @@ use Rattle.laws.specs.RefusalLaws.{Valid, search-going}
 use Rattle.laws.specs.ValidLaws.{step-valid, found-fits}
 use Rattle.calls.specs.Paper.{systemOf, numberOf, valuesOf}
 use Rattle.calls.specs.declared.Refusal.{Refusal}
-use Rattle.walk.specs.declared.step.Stepped.{Stepped}
-use Rattle.walk.specs.declared.step.Stepped.the-variants.{Listed, Grown, Refused}
-use Rattle.walk.specs.Cache.{SmallSystem, Gram, SmallGram, SmallRows, Combined, Zeros}
-use Rattle.walk.specs.Taken.{Standing, stepChecks, stateBy, stateAt, Steps, Taken}
+use Rattle.step.specs.declared.Stepped.{Stepped}
+use Rattle.step.specs.declared.Stepped.the-variants.{Listed, Grown, Refused}
+use Rattle.products.specs.Products.{SmallCoefs, Gram, SmallGram, SmallRows, Combined, Zeros}
+use Rattle.step.specs.Taken.{Standing, stepChecks, stateBy, stateAt, Steps, Taken}
 
 -- a table as it is made
 pub blank-zeros : Zeros (replicate 256 (pos 0)) 0
@@ -36,8 +36,8 @@ blank-zeros = record { zero = λ i l. getD-replicate 256 i }
 
 -- ---- what passed the checks is small
 
-pub small-system : {m : System} {s : State} → Valid m s → SmallSystem m
-small-system {m} v =
+pub small-coefs : {m : System} {s : State} → Valid m s → SmallCoefs (m .p) (m .q) (m .coefs)
+small-coefs {m} v =
     record {
       equations = v .shaped .p-few;
       unknowns = v .shaped .q-few;
@@ -56,8 +56,8 @@ small-rows {m} {s} v =
       small = λ k i l h. v .ordered .rows k l .small i h;
     }
 
-pub standing : {m : System} {s : State} {g c : List ℤ} → Valid m s → SmallGram (m .q) g → Combined (m .q) g (s .stack) (s .height) c → 0 < s .height → Standing (m .q) g (s .stack) (s .list) c (s .height) (s .found)
-standing v a d h =
+pub standing : {m : System} {s : State} {g c : List ℤ} → Valid m s → SmallGram (m .q) g → Combined (m .q) g (s .stack) (s .height) c → 0 < s .height → {limit : ℕ} → limit ≡ componentLimit → Standing limit (m .q) g (s .stack) (s .list) c (s .height) (s .found)
+standing v a d h bounded =
     record {
       some = v .shaped .q-some;
       few = v .shaped .q-few;
@@ -65,6 +65,7 @@ standing v a d h =
       low = v .ordered .height;
       long = v .shaped .stack;
       rows = v .ordered .rows;
+      bounded = bounded;
       listed = v .ordered .found;
       gram = a;
       cached = d;
@@ -119,7 +120,7 @@ module _ {m : System} {g : List ℤ} {budget : ℕ} {s₀ : State} {left : ℕ} 
 
 -- ---- a turn, from what `take` ensures
 
-module _ {p q : ℕ} {coefs g : List ℤ} {budget left : ℕ} {s₀ : State} {stack list : List ℕ} {height found steps : ℕ} {c : List ℤ} (w : Walking (systemOf p q coefs) g budget s₀ left (stateAt stack list height found steps) c) (gram : Gram (systemOf p q coefs) g) (h : 0 < height) (more : 0 < left) (early : steps ≢ stepLimit) {r : Stepped} {stack′ list′ : List ℕ} {c′ : List ℤ} (t : Taken q g stack list height found r stack′ list′ c′) where
+module _ {p q : ℕ} {coefs g : List ℤ} {budget left : ℕ} {s₀ : State} {stack list : List ℕ} {height found steps : ℕ} {c : List ℤ} (w : Walking (systemOf p q coefs) g budget s₀ left (stateAt stack list height found steps) c) (gram : Gram p q coefs g) (h : 0 < height) (more : 0 < left) (early : steps ≢ stepLimit) {r : Stepped} {stack′ list′ : List ℕ} {c′ : List ℤ} (t : Taken q g stack list height found r stack′ list′ c′) where
   pub turn-listed : r ≡ Listed → {height′ found′ : ℕ} → height′ ≡ height - 1 → found′ ≡ found + 1 → Walking (systemOf p q coefs) g budget s₀ (left - 1) (stateAt stack′ list′ height′ found′ (steps + 1)) c′
   turn-listed e {height′} {found′} eh ef =
       let st = rw e at (t .steps p coefs gram steps) in

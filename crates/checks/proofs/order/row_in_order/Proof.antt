@@ -12,22 +12,21 @@ use borrow.Author.Tests.{le-leb, lt-leb, le-ltb, lt-ltb}
 use Rattle.linear.specs.Tests.{allTo}
 use Rattle.linear.specs.LoopLaws.{all-next, all-fails}
 use Rattle.laws.specs.MarkLaws.{count-frozen-fit}
-use Rattle.definitions.specs.Refusals.{rowInOrder}
-use Rattle.definitions.specs.System.{componentLimit}
 use Rattle.definitions.specs.Tables.{at}
 use Rattle.laws.specs.MarkLaws.{shift-one}
+use Rattle.checks.specs.Order.{rowFits}
 use Rattle.checks.proofs.order.row_in_order.Statement.{statement}
 use Rattle.checks.proofs.order.row_in_order.Tie as tie
 
 -- component j of row k is at most the limit
-abbrev small : ℕ → List ℕ → ℕ → ℕ → Bool
-small q stack k j = leb (at stack (q + 1) k j) componentLimit
+abbrev small : ℕ → ℕ → List ℕ → ℕ → ℕ → Bool
+small limit q stack k j = leb (at stack (q + 1) k j) limit
 
 abbrev Inv-loop : tie.InvT-loop
-Inv-loop q stack k base j₀ j = (j ≤ q) × (allTo j (small q stack k) ≡ true)
+Inv-loop q stack k limit base j₀ j = (j ≤ q) × (allTo j (small limit q stack k) ≡ true)
 
 abbrev μ-loop : tie.MeasureT-loop
-μ-loop q stack k base j₀ j = q - j
+μ-loop q stack k limit base j₀ j = q - j
 
 add-base : tie.Need-add-base Inv-loop μ-loop
 add-base c = search needs
@@ -49,11 +48,11 @@ shared-slice-read-if1 : tie.Need-shared-slice-read-if1 Inv-loop μ-loop
 shared-slice-read-if1 c = search needs
 
 returns : tie.Need-returns Inv-loop μ-loop
-unfolding rowInOrder
+unfolding rowFits
 returns c =
     let l = c .before .before in
     let s = l .before .before .before .args in
-    rw (all-fails _ (small (s .q) (now (s .stack)) (s .k)) (l .before .loop .j) (l .loop-test .taken) (lt-leb _ _ (c .if1 .taken)))
+    rw (all-fails _ (small (s .limit) (s .q) (now (s .stack)) (s .k)) (l .before .loop .j) (l .loop-test .taken) (lt-leb _ _ (c .if1 .taken)))
 
 add-j : tie.Need-add-j Inv-loop μ-loop
 add-j c = search needs
@@ -81,11 +80,11 @@ shl-past c = omega arith
 
 -- after the loop every component is at most the limit
 whole : (c : tie.After-loop Inv-loop μ-loop)
-    → allTo (c .before .before .before .args .q) (small (c .before .before .before .args .q) (now (c .before .before .before .args .stack)) (c .before .before .before .args .k)) ≡ true
+    → allTo (c .before .before .before .args .q) (small (c .before .before .before .args .limit) (c .before .before .before .args .q) (now (c .before .before .before .args .stack)) (c .before .before .before .args .k)) ≡ true
 whole c = cc (le-antisymm (c .before .loop .inv .0) (c .loop-test .left))
 
 returns-2 : tie.Need-returns-2 Inv-loop μ-loop
-unfolding rowInOrder
+unfolding rowFits
 returns-2 c =
     let l = c .before .before in
     let s = l .before .before .before .args in
@@ -96,7 +95,7 @@ count-marks-requires : tie.Need-count-marks-requires Inv-loop μ-loop
 count-marks-requires c κs = search needs
 
 returns-3 : tie.Need-returns-3 Inv-loop μ-loop
-unfolding rowInOrder
+unfolding rowFits
 returns-3 c =
     let l = c .before .before .before in
     let q = l .before .before .before .args .q in

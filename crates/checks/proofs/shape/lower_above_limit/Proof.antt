@@ -9,15 +9,14 @@ use borrow.Author.Needs.{needs}
 use borrow.Author.Tests.{lt-ltb, le-ltb}
 use Rattle.linear.specs.Tests.{anyTo}
 use Rattle.linear.specs.LoopLaws.{any-next, any-holds}
-use Rattle.definitions.specs.System.{componentLimit}
 use Rattle.checks.proofs.shape.lower_above_limit.Statement.{statement}
 use Rattle.checks.proofs.shape.lower_above_limit.Tie as tie
 
 abbrev Inv-loop : tie.InvT-loop
-Inv-loop lower j₀ j = (j ≤ length lower) × (anyTo j (λ k. ltb componentLimit (getD lower k 0)) ≡ false)
+Inv-loop lower limit j₀ j = (j ≤ length lower) × (anyTo j (λ k. ltb limit (getD lower k 0)) ≡ false)
 
 abbrev μ-loop : tie.MeasureT-loop
-μ-loop lower j₀ j = length lower - j
+μ-loop lower limit j₀ j = length lower - j
 
 loop-holds : tie.Need-loop-holds Inv-loop μ-loop
 unfolding anyTo

@@ -1,0 +1,79 @@
+-- `vanish` meets its contract. Every place passed holds 0. Assumes nothing.
+use mathlib.Core.Bool.{true, false}
+use mathlib.Core.Path.{ap}
+use Prim.Native.Nat.{ℕ, _-_, _≤_, _<_}
+use native.Mathlib.Nat.{le-antisymm}
+use denote.Ref.{now}
+use borrow.Author.Needs.{needs, sfits-of}
+use borrow.Author.Count.{below-none, below-more}
+use lib.Dec.{T}
+use mir.Syntax.{w64}
+use mir.Val.{ofZ}
+use Rattle.linear.specs.TestLaws.{all-at, all-from}
+use Rattle.definitions.specs.System.{isZero}
+use Rattle.products.specs.Products.{entry}
+use Rattle.products.specs.Turns.{is-zero, zero-bits}
+use Rattle.products.specs.Marks.{same-test}
+use Rattle.products.proofs.vanish.Statement.{statement}
+use Rattle.products.proofs.vanish.Tie as tie
+
+abbrev Inv-loop : tie.InvT-loop
+Inv-loop c k q j₀ j = (j ≤ q) × ((i : ℕ) → i < j → T (isZero (entry c k i)))
+
+abbrev μ-loop : tie.MeasureT-loop
+μ-loop c k q j₀ j = q - j
+
+loop-holds : tie.Need-loop-holds Inv-loop μ-loop
+loop-holds c = (search needs, below-none _)
+
+mul-if1 : tie.Need-mul-if1 Inv-loop μ-loop
+mul-if1 c = search needs
+
+add-if1 : tie.Need-add-if1 Inv-loop μ-loop
+add-if1 c = search needs
+
+mul-if1-2 : tie.Need-mul-if1-2 Inv-loop μ-loop
+mul-if1-2 c = search needs
+
+element-copy-out-if1 : tie.Need-element-copy-out-if1 Inv-loop μ-loop
+element-copy-out-if1 c = search needs
+
+returns : tie.Need-returns Inv-loop μ-loop
+returns c =
+    let l = c .before .before in
+    let z = entry (now (l .before .before .args .c)) (l .before .before .args .k) (l .before .loop .j) in
+    same-test false _ (λ h. absurd h) (λ h. c .if1 .taken (ap (ofZ w64) (is-zero z (all-at _ _ h _ (l .loop-test .taken)))))
+
+add-j : tie.Need-add-j Inv-loop μ-loop
+add-j c = search needs
+
+loop-less : tie.Need-loop-less Inv-loop μ-loop
+loop-less c = search needs
+
+loop-again : tie.Need-loop-again Inv-loop μ-loop
+loop-again c =
+    let a = c .before .before .before in
+    let z = entry (now (a .before .args .c)) (a .before .args .k) (a .loop .j) in
+    (search needs, below-more _ _ (a .loop .inv .1) (zero-bits z (sfits-of (c .before .if12 .given)) (c .if1 .left)))
+
+returns-2 : tie.Need-returns-2 Inv-loop μ-loop
+returns-2 c =
+    let a = c .before in
+    same-test true _ (λ h. all-from _ _ (rw (le-antisymm (a .loop .inv .0) (c .loop-test .left)) at (a .loop .inv .1))) (λ h. tt)
+
+pub vanish-spec : {M : Type 1} → statement M
+vanish-spec =
+    tie.close
+    (tie.spec
+    Inv-loop
+    μ-loop
+    loop-holds
+    mul-if1
+    add-if1
+    mul-if1-2
+    element-copy-out-if1
+    returns
+    add-j
+    loop-less
+    loop-again
+    returns-2)

@@ -1,0 +1,4 @@
+pub mod Marks
+pub mod Products
+pub mod Turns
+pub mod ProductLaws

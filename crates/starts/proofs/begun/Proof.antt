@@ -1,0 +1,13 @@
+-- `begun` meets its contract. Assumes nothing.
+use borrow.Author.Needs.{needs}
+use Rattle.starts.proofs.begun.Statement.{statement}
+use Rattle.starts.proofs.begun.Tie as tie
+
+new-requires : tie.Need-new-requires
+new-requires c κs = search needs
+
+returns : tie.Need-returns
+returns c = rw (c .new .ensures)
+
+pub begun-spec : {M : Type 1} → statement M
+begun-spec = tie.close (tie.spec new-requires returns)

@@ -1,0 +1,12 @@
+pub mod Rows
+pub mod RowLaws
+pub mod Scan
+pub mod Grow
+pub mod GrowLaws
+pub mod Solved
+pub mod StateLaws
+pub mod Pushed
+pub mod Tried
+pub mod Listing
+pub mod Taken
+pub mod TakeLaws
