@@ -3,13 +3,14 @@ use mathlib.Core.Path.{_≡_, _∙_}
 use lib.ListN.{length}
 use Rattle.definitions.specs.Answers as paper
 use Rattle.definitions.specs.Answers.{_then_}
-use Rattle.definitions.specs.System.{System}
+use Rattle.definitions.specs.Input.{Input}
+use Rattle.definitions.specs.Refusals.{shapeThen}
 use Rattle.definitions.specs.Tables.{State}
 use Rattle.calls.specs.declared.Refusal.{Refusal}
 use Rattle.calls.specs.declared.Check.{Check}
 use Rattle.calls.specs.declared.Check.the-variants.{Refuse, Pass}
 use Rattle.calls.specs.Paper.{checkOf}
-use Rattle.checks.specs.Shape.{shapeChecks, callChecks, shape-then}
+use Rattle.checks.specs.Shape.{shapeChecks, shape-then}
 
 module _ {r : Check} {a : paper.Check} (b : paper.Check) where
   pub refused-first : {why : Refusal} → r ≡ Refuse why → checkOf r ≡ a → checkOf (Refuse why) ≡ a then b
@@ -22,9 +23,9 @@ module _ {r : Check} {a : paper.Check} (b : paper.Check) where
 
 -- ---- the check of a call's shape
 
-module _ (m : System) (s : State) (own : paper.Check) {r : Check} where
-  pub shape-refused : {why : Refusal} → r ≡ Refuse why → checkOf r ≡ shapeChecks (m .p) (m .q) (length (m .coefs)) (length (s .stack)) → checkOf (Refuse why) ≡ callChecks m s own
-  shape-refused g e = refused-first own g e ∙ shape-then m s own
+module _ (i : Input) (s : State) (own : paper.Check) {r : Check} where
+  pub shape-refused : {why : Refusal} → r ≡ Refuse why → checkOf r ≡ shapeChecks (i .p) (i .q) (length (i .coefs)) (length (s .stack)) → checkOf (Refuse why) ≡ shapeThen i s own
+  shape-refused g e = refused-first own g e ∙ shape-then i s own
 
-  pub shape-passed : {c : paper.Check} → r ≡ Pass → checkOf r ≡ shapeChecks (m .p) (m .q) (length (m .coefs)) (length (s .stack)) → c ≡ own → c ≡ callChecks m s own
-  shape-passed g e h = h ∙ passed-first own g e ∙ shape-then m s own
+  pub shape-passed : {c : paper.Check} → r ≡ Pass → checkOf r ≡ shapeChecks (i .p) (i .q) (length (i .coefs)) (length (s .stack)) → c ≡ own → c ≡ shapeThen i s own
+  shape-passed g e h = h ∙ passed-first own g e ∙ shape-then i s own

@@ -10,9 +10,10 @@ use Rattle.linear.specs.Tests.{anyTo}
 use Rattle.linear.specs.TestLaws.{and-parts}
 use Rattle.definitions.specs.Answers.{Check, go, _then_, refuseIf}
 use Rattle.laws.specs.AnswerLaws.{then-assoc, then-go, refuse-if-go}
-use Rattle.definitions.specs.System.{System, mostEquations, mostUnknowns}
+use Rattle.definitions.specs.Input.{Input}
+use Rattle.definitions.specs.System.{mostEquations, mostUnknowns}
 use Rattle.definitions.specs.Tables.{State}
-use Rattle.definitions.specs.Refusals.{between, check1, check2, check3, check4}
+use Rattle.definitions.specs.Refusals.{between, shapeThen}
 
 abbrev pub lowerAboveLimit : ℕ → List ℕ → Bool
 lowerAboveLimit limit lower = anyTo (length lower) (λ j. ltb limit (getD lower j 0))
@@ -24,13 +25,9 @@ shapeChecks p q coefs stack =
     then refuseIf (not (eqb coefs (p * q))) 3
     then refuseIf (ltb stack (q * (q + 1))) 4
 
--- the checks of a call: 1 to 4, and then its own
-abbrev pub callChecks : System → State → Check → Check
-callChecks m s own = check1 m then check2 m then check3 m then check4 m s then own
-
-pub shape-then : (m : System) (s : State) (own : Check) → shapeChecks (m .p) (m .q) (length (m .coefs)) (length (s .stack)) then own ≡ callChecks m s own
+pub shape-then : (i : Input) (s : State) (own : Check) → shapeChecks (i .p) (i .q) (length (i .coefs)) (length (s .stack)) then own ≡ shapeThen i s own
 unfolding shapeChecks
-shape-then m s own = simp then-assoc
+shape-then i s own = simp then-assoc
 
 -- where these find nothing, q is in range and the stack table has q rows
 pub record InShape (q stack : ℕ) : Type 0 where

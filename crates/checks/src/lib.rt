@@ -3,7 +3,7 @@ ghost use mathlib.Core.Path.{_≡_};
 ghost use Rattle.linear.specs.Tests.{countTo};
 ghost use Rattle.definitions.specs.Tables.{frozen};
 ghost use Rattle.definitions.specs.Refusals.{startChecks, lowerChecks, resumeChecks};
-ghost use Rattle.calls.specs.Paper.{systemOf, stateOf, checkOf};
+ghost use Rattle.calls.specs.Paper.{inputOf, stateOf, checkOf};
 use calls::Check;
 use calls::Record;
 
@@ -20,7 +20,7 @@ pub fn check_start(
     list: &[u32],
     r: Record,
 ) -> Check
-    ensures { λ c. ⌜ checkOf c ≡ startChecks (systemOf p q (now (coefs .entry))) (stateOf (now (stack .entry)) (now (list .entry)) r) ⌝ }
+    ensures { λ c. ⌜ checkOf c ≡ startChecks (inputOf p q (now (coefs .entry))) (stateOf (now (stack .entry)) (now (list .entry)) r) ⌝ }
 {
     match shape::check(p, q, coefs.len(), stack.len()) {
         Check::Refuse(why) => Check::Refuse(why),
@@ -38,7 +38,7 @@ pub fn check_start_from(
     list: &[u32],
     r: Record,
 ) -> Check
-    ensures { λ c. ⌜ checkOf c ≡ lowerChecks (now (lower .entry)) (systemOf p q (now (coefs .entry))) (stateOf (now (stack .entry)) (now (list .entry)) r) ⌝ }
+    ensures { λ c. ⌜ checkOf c ≡ lowerChecks (now (lower .entry)) (inputOf p q (now (coefs .entry))) (stateOf (now (stack .entry)) (now (list .entry)) r) ⌝ }
 {
     match shape::check(p, q, coefs.len(), stack.len()) {
         Check::Refuse(why) => Check::Refuse(why),
@@ -55,7 +55,7 @@ pub fn check_resume(
     list: &[u32],
     r: Record,
 ) -> Check
-    ensures { λ c. ⌜ checkOf c ≡ resumeChecks (systemOf p q (now (coefs .entry))) (stateOf (now (stack .entry)) (now (list .entry)) r) ⌝ }
+    ensures { λ c. ⌜ checkOf c ≡ resumeChecks (inputOf p q (now (coefs .entry))) (stateOf (now (stack .entry)) (now (list .entry)) r) ⌝ }
 {
     match shape::check(p, q, coefs.len(), stack.len()) {
         Check::Refuse(why) => Check::Refuse(why),

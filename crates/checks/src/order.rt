@@ -5,9 +5,9 @@ ghost use Prim.Native.Nat.{ℕ, _+_, _*_, _≤_, _<_};
 ghost use lib.ListN.{length};
 ghost use Rattle.linear.specs.Tests.{allTo};
 ghost use Rattle.definitions.specs.Answers.{_then_};
-ghost use Rattle.definitions.specs.Refusals.{inOrder, check6, check7};
-ghost use Rattle.calls.specs.Paper.{systemOf, stateOf, checkOf};
-ghost use Rattle.checks.specs.Order.{rowFits};
+ghost use Rattle.definitions.specs.Refusals.{inOrder, rowInOrder, check6, check7};
+ghost use Rattle.definitions.specs.Input.{systemOf};
+ghost use Rattle.calls.specs.Paper.{inputOf, stateOf, checkOf};
 ghost use Rattle.checks.specs.Shape.{InShape};
 use crate::coefficients;
 use crate::count_marks;
@@ -18,7 +18,7 @@ use calls::Refusal;
 // Refusals 6 and 7, which do not depend on p.
 pub fn check(q: usize, coefs: &[i32], stack: &[u32], list: &[u32], r: Record) -> Check
     requires { ⌜ InShape q (length (now stack)) ⌝ }
-    ensures { λ c. ⌜ ((p : ℕ) → checkOf c ≡ (check6 (systemOf p q (now (coefs .entry))) (stateOf (now (stack .entry)) (now (list .entry)) r) then check7 (systemOf p q (now (coefs .entry))))) ⌝ }
+    ensures { λ c. ⌜ ((p : ℕ) → checkOf c ≡ (check6 (systemOf (inputOf p q (now (coefs .entry)))) (stateOf (now (stack .entry)) (now (list .entry)) r) then check7 (inputOf p q (now (coefs .entry))))) ⌝ }
 {
     if !in_order(q, stack, list, r) {
         return Check::Refuse(Refusal::OutOfOrder);
@@ -29,7 +29,7 @@ pub fn check(q: usize, coefs: &[i32], stack: &[u32], list: &[u32], r: Record) ->
 // Whether record and tables are in order, which depends on q alone of the system.
 fn in_order(q: usize, stack: &[u32], list: &[u32], r: Record) -> bool
     requires { ⌜ InShape q (length (now stack)) ⌝ }
-    ensures { λ b. ⌜ b ≡ inOrder (systemOf 0 q []) (stateOf (now (stack .entry)) (now (list .entry)) r) ⌝ }
+    ensures { λ b. ⌜ b ≡ inOrder (systemOf (inputOf 0 q [])) (stateOf (now (stack .entry)) (now (list .entry)) r) ⌝ }
 {
     let height = r.height;
     let found = r.found.0;
@@ -49,7 +49,7 @@ fn in_order(q: usize, stack: &[u32], list: &[u32], r: Record) -> bool
 // Whether the first `height` rows are in order, with components up to the limit.
 fn rows_in_order(q: usize, stack: &[u32], height: usize, limit: u32) -> bool
     requires { ⌜ (q ≤ 16) × (height * (q + 1) ≤ length (now stack)) ⌝ }
-    ensures { λ b. ⌜ b ≡ allTo height (rowFits limit q (now (stack .entry))) ⌝ }
+    ensures { λ b. ⌜ b ≡ allTo height (rowInOrder limit q (now (stack .entry))) ⌝ }
 {
     let mut k = 0;
     while k < height {
@@ -64,7 +64,7 @@ fn rows_in_order(q: usize, stack: &[u32], height: usize, limit: u32) -> bool
 // Whether row `k` is in order: components, marks within the unknowns, and k marks.
 fn row_in_order(q: usize, stack: &[u32], k: usize, limit: u32) -> bool
     requires { ⌜ (q ≤ 16) × (k * (q + 1) + q < length (now stack)) ⌝ }
-    ensures { λ b. ⌜ b ≡ rowFits limit q (now (stack .entry)) k ⌝ }
+    ensures { λ b. ⌜ b ≡ rowInOrder limit q (now (stack .entry)) k ⌝ }
 {
     let base = k * (q + 1);
     let mut j = 0;

@@ -3,7 +3,7 @@ ghost use mathlib.Core.Path.{_≡_};
 ghost use Prim.Native.Nat.{ℕ};
 ghost use Rattle.definitions.specs.Answers.{_then_};
 ghost use Rattle.definitions.specs.Refusals.{check5, check7, check8};
-ghost use Rattle.calls.specs.Paper.{systemOf, checkOf};
+ghost use Rattle.calls.specs.Paper.{inputOf, checkOf};
 ghost use Rattle.checks.specs.Shape.{shapeChecks, lowerAboveLimit};
 use crate::coefficients;
 use calls::Check;
@@ -36,7 +36,7 @@ pub fn check(p: usize, q: usize, coefs: usize, stack: usize) -> Check
 
 // Refusals 5, 7 and 8, which do not depend on p.
 pub fn check_lower(q: usize, coefs: &[i32], lower: &[u32]) -> Check
-    ensures { λ c. ⌜ ((p : ℕ) → checkOf c ≡ (check5 (systemOf p q (now (coefs .entry))) (now (lower .entry)) then check7 (systemOf p q (now (coefs .entry))) then check8 (now (lower .entry)))) ⌝ }
+    ensures { λ c. ⌜ ((p : ℕ) → checkOf c ≡ (check5 (inputOf p q (now (coefs .entry))) (now (lower .entry)) then check7 (inputOf p q (now (coefs .entry))) then check8 (inputOf p q (now (coefs .entry))) (now (lower .entry)))) ⌝ }
 {
     if lower.len() != q {
         return Check::Refuse(Refusal::BoundLength);

@@ -1,7 +1,7 @@
 // The starts of document 01: plain, and from a lower bound. Each takes the run record by value and returns what it leaves.
 ghost use mathlib.Core.Path.{_≡_};
 ghost use Rattle.definitions.specs.Calls.{start, startFrom};
-ghost use Rattle.calls.specs.Paper.{systemOf, stateOf, outcomeOf};
+ghost use Rattle.calls.specs.Paper.{inputOf, stateOf, outcomeOf};
 ghost use Rattle.starts.specs.Begin.{begins};
 use calls::Answer;
 use calls::Check;
@@ -21,7 +21,7 @@ pub fn started(
     list: &mut [u32],
     r: Record,
 ) -> Outcome
-    ensures { λ o. ⌜ outcomeOf o (now (stack .exit)) (now (list .exit)) ≡ start (systemOf p q (now (coefs .entry))) (stateOf (now (stack .entry)) (now (list .entry)) r) ⌝ }
+    ensures { λ o. ⌜ outcomeOf o (now (stack .exit)) (now (list .exit)) ≡ start (inputOf p q (now (coefs .entry))) (stateOf (now (stack .entry)) (now (list .entry)) r) ⌝ }
 {
     match checks::check_start(p, q, coefs, stack, list, r) {
         Check::Refuse(why) => calls::refused(why, r),
@@ -42,7 +42,7 @@ pub fn started_from(
     r: Record,
     lower: &[u32],
 ) -> Outcome
-    ensures { λ o. ⌜ outcomeOf o (now (stack .exit)) (now (list .exit)) ≡ startFrom (now (lower .entry)) (systemOf p q (now (coefs .entry))) (stateOf (now (stack .entry)) (now (list .entry)) r) ⌝ }
+    ensures { λ o. ⌜ outcomeOf o (now (stack .exit)) (now (list .exit)) ≡ startFrom (now (lower .entry)) (inputOf p q (now (coefs .entry))) (stateOf (now (stack .entry)) (now (list .entry)) r) ⌝ }
 {
     match checks::check_start_from(p, q, coefs, lower, stack, list, r) {
         Check::Refuse(why) => calls::refused(why, r),

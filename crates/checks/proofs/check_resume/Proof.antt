@@ -3,8 +3,9 @@ use mathlib.Core.Path.{sym, ap, _∙_}
 use denote.Ref.{now}
 use borrow.Author.Needs.{needs}
 use Rattle.definitions.specs.Answers.{_then_}
+use Rattle.definitions.specs.Input.{systemOf}
 use Rattle.definitions.specs.Refusals.{resumeChecks, check6, check7}
-use Rattle.calls.specs.Paper.{systemOf, stateOf, checkOf}
+use Rattle.calls.specs.Paper.{inputOf, stateOf, checkOf}
 use Rattle.checks.specs.CheckLaws.{shape-refused, shape-passed}
 use Rattle.checks.specs.Shape.{shape-fits}
 use Rattle.checks.proofs.check_resume.Statement.{statement}
@@ -28,17 +29,17 @@ returns : tie.Need-returns
 unfolding resumeChecks
 returns c =
     let a = c .before .before .before .before .before .before .args in
-    let m = systemOf (a .p) (a .q) (now (a .coefs)) in
+    let i = inputOf (a .p) (a .q) (now (a .coefs)) in
     let s = stateOf (now (a .stack)) (now (a .list)) (a .r) in
-    shape-refused m s _ (c .before .why .given .1) (c .before .before .before .check .ensures)
+    shape-refused i s _ (c .before .why .given .1) (c .before .before .before .check .ensures)
 
 returns-2 : tie.Need-returns-2
 unfolding resumeChecks
 returns-2 c =
     let a = c .before .before .before .before .before .before .args in
-    let m = systemOf (a .p) (a .q) (now (a .coefs)) in
+    let i = inputOf (a .p) (a .q) (now (a .coefs)) in
     let s = stateOf (now (a .stack)) (now (a .list)) (a .r) in
-    shape-passed m s (check6 m s then check7 m) (c .before .enum-told .given .1) (c .before .before .before .check .ensures) (c .check2 .ensures (a .p))
+    shape-passed i s (check6 (systemOf i) s then check7 i) (c .before .enum-told .given .1) (c .before .before .before .check .ensures) (c .check2 .ensures (a .p))
 
 pub check-resume-spec : {M : Type 1} → statement M
 check-resume-spec =

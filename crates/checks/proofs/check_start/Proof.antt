@@ -2,7 +2,7 @@
 use denote.Ref.{now}
 use borrow.Author.Needs.{needs}
 use Rattle.definitions.specs.Refusals.{startChecks, check7}
-use Rattle.calls.specs.Paper.{systemOf, stateOf}
+use Rattle.calls.specs.Paper.{inputOf, stateOf}
 use Rattle.checks.specs.CheckLaws.{shape-refused, shape-passed}
 use Rattle.checks.proofs.check_start.Statement.{statement}
 use Rattle.checks.proofs.check_start.Tie as tie
@@ -23,17 +23,17 @@ returns : tie.Need-returns
 unfolding startChecks
 returns c =
     let a = c .before .before .before .before .before .before .args in
-    let m = systemOf (a .p) (a .q) (now (a .coefs)) in
+    let i = inputOf (a .p) (a .q) (now (a .coefs)) in
     let s = stateOf (now (a .stack)) (now (a .list)) (a .r) in
-    shape-refused m s _ (c .before .why .given .1) (c .before .before .before .check .ensures)
+    shape-refused i s _ (c .before .why .given .1) (c .before .before .before .check .ensures)
 
 returns-2 : tie.Need-returns-2
 unfolding startChecks check7
 returns-2 c =
     let a = c .before .before .before .before .before .before .args in
-    let m = systemOf (a .p) (a .q) (now (a .coefs)) in
+    let i = inputOf (a .p) (a .q) (now (a .coefs)) in
     let s = stateOf (now (a .stack)) (now (a .list)) (a .r) in
-    shape-passed m s (check7 m) (c .before .enum-told .given .1) (c .before .before .before .check .ensures) (c .check2 .ensures)
+    shape-passed i s (check7 i) (c .before .enum-told .given .1) (c .before .before .before .check .ensures) (c .check2 .ensures)
 
 pub check-start-spec : {M : Type 1} → statement M
 check-start-spec =

@@ -5,8 +5,7 @@ use native.Mathlib.Nat.{mul-le-mul-right}
 use native.Mathlib.Omega.{arith}
 use borrow.Author.Needs.{needs}
 use borrow.Author.Tests.{le-leb, lt-leb}
-use Rattle.definitions.specs.Refusals.{inOrder, rowInOrder}
-use Rattle.checks.specs.Order.{rowFits}
+use Rattle.definitions.specs.Refusals.{inOrder}
 use Rattle.checks.proofs.order.in_order.Statement.{statement}
 use Rattle.checks.proofs.order.in_order.Tie as tie
 
@@ -29,7 +28,7 @@ rows-in-order-requires : tie.Need-rows-in-order-requires
 rows-in-order-requires c κs = omega (arith, mul-le-mul-right (c .before .before .before .before .before .args .q + 1) (c .before .before .if1 .left))
 
 returns-4 : tie.Need-returns-4
-unfolding inOrder rowInOrder rowFits
+unfolding inOrder
 returns-4 c =
     let e = c .before in
     rw (le-leb _ _ (e .before .before .if1 .left), le-leb _ _ (e .before .if2 .left), le-leb _ _ (e .if3 .left)) (c .rows-in-order .ensures)

@@ -11,7 +11,7 @@ use borrow.Author.Needs.{needs}
 use borrow.Author.Tests.{eq-eqb, ne-eqb}
 use Rattle.definitions.specs.Answers.{Check, refuseWith, refuseIf, _then_}
 use Rattle.definitions.specs.Refusals.{check5, check7, check8}
-use Rattle.calls.specs.Paper.{systemOf}
+use Rattle.calls.specs.Paper.{inputOf}
 use Rattle.checks.specs.CheckLaws.{refused-first, passed-first}
 use Rattle.checks.proofs.shape.check_lower.Statement.{statement}
 use Rattle.checks.proofs.shape.check_lower.Tie as tie
@@ -50,8 +50,8 @@ startOf c = c .before .before .before .before .before .before
 -- neither 5 nor 7 refuses, so that what comes last decides
 last-decides : (c : tie.After-lower-above-limit) (p : ℕ) (last : Check)
     → last
-    ≡ check5 (systemOf p (startOf c .args .q) (now (startOf c .args .coefs))) (now (startOf c .args .lower))
-    then check7 (systemOf p (startOf c .args .q) (now (startOf c .args .coefs)))
+    ≡ check5 (inputOf p (startOf c .args .q) (now (startOf c .args .coefs))) (now (startOf c .args .lower))
+    then check7 (inputOf p (startOf c .args .q) (now (startOf c .args .coefs)))
     then last
 unfolding check7
 last-decides c p last =
@@ -61,11 +61,11 @@ last-decides c p last =
 
 returns-3 : tie.Need-returns-3
 unfolding refuseWith
-returns-3 c p = let b = c .before in rw (← last-decides b p (check8 (now (startOf b .args .lower))), ← b .lower-above-limit .ensures, c .if2 .taken)
+returns-3 c p = let b = c .before in rw (← last-decides b p (check8 (inputOf p (startOf b .args .q) (now (startOf b .args .coefs))) (now (startOf b .args .lower))), ← b .lower-above-limit .ensures, c .if2 .taken)
 
 returns-4 : tie.Need-returns-4
 unfolding refuseWith
-returns-4 c p = let b = c .before in rw (← last-decides b p (check8 (now (startOf b .args .lower))), ← b .lower-above-limit .ensures, c .if2 .left)
+returns-4 c p = let b = c .before in rw (← last-decides b p (check8 (inputOf p (startOf b .args .q) (now (startOf b .args .coefs))) (now (startOf b .args .lower))), ← b .lower-above-limit .ensures, c .if2 .left)
 
 pub check-lower-spec : {M : Type 1} → statement M
 check-lower-spec =
