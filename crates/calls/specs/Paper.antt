@@ -3,9 +3,8 @@ use Prim.Native.Nat.{ℕ}
 use mathlib.Core.List.{List, [], _∷_}
 use lib.IntN.{ℤ}
 use Rattle.definitions.specs.Answers as paper
-use Rattle.definitions.specs.Input.{Input, alone}
-use Rattle.definitions.specs.Machine as calls
-use Rattle.definitions.specs.System.{mostComponent}
+use Rattle.definitions.specs.Machine as machine
+use Rattle.definitions.specs.System.{System, plain}
 use Rattle.definitions.specs.Tables as tables
 use Rattle.definitions.specs.Tables.{State}
 use Rattle.calls.specs.declared.Record.{Record}
@@ -19,15 +18,13 @@ use Rattle.calls.specs.declared.Outcome.{Outcome}
 use Rattle.calls.specs.declared.Check.{Check}
 use Rattle.calls.specs.declared.Check.the-variants.{Refuse, Pass}
 
--- a map, with document 01's limit of components
-abbrev pub inputOf : ℕ → ℕ → List ℤ → Input
-inputOf p q coefs = record { p = p; q = q; coefs = coefs; extra = alone; limit = mostComponent }
+-- the system that a plain walk goes through
+abbrev pub plainSystem : ℕ → ℕ → List ℤ → ℕ → System
+plainSystem p q coefs limit = record { p = p; q = q; coefs = coefs; kind = plain; limit = limit }
 
--- the run record
 abbrev pub runOf : Record → tables.Record
 runOf r = record { height = r .height; found = r .found .0; steps = r .steps .0 }
 
--- all that is lent
 abbrev pub stateOf : List ℕ → List ℕ → Record → State
 stateOf stack list r = record { stack = stack; list = list; run = runOf r }
 
@@ -82,10 +79,10 @@ checkOf Pass = paper.go
 abbrev pub recordOf : ℕ → Solutions → Steps → Record
 recordOf height found steps = record { height = height; found = found; steps = steps }
 
-abbrev pub leftBy : Answer → List ℕ → List ℕ → Record → calls.Outcome State
+abbrev pub leftBy : Answer → List ℕ → List ℕ → Record → machine.Outcome State
 leftBy a stack list r = record { answer = answerOf a; state = stateOf stack list r }
 
-abbrev pub outcomeOf : Outcome → List ℕ → List ℕ → calls.Outcome State
+abbrev pub outcomeOf : Outcome → List ℕ → List ℕ → machine.Outcome State
 outcomeOf o stack list = leftBy (o .answer) stack list (o .run)
 
 -- an answer with the three parts of the run record

@@ -3,7 +3,8 @@ ghost use mathlib.Core.Path.{_≡_};
 ghost use Rattle.linear.specs.Tests.{countTo};
 ghost use Rattle.definitions.specs.Tables.{frozen};
 ghost use Rattle.definitions.specs.Refusals.{startChecks, lowerChecks, resumeChecks};
-ghost use Rattle.calls.specs.Paper.{inputOf, stateOf, checkOf};
+ghost use Rattle.definitions.specs.Input.{inputOf};
+ghost use Rattle.calls.specs.Paper.{stateOf, checkOf};
 use calls::Check;
 use calls::Record;
 

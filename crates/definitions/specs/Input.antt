@@ -17,6 +17,10 @@ pub record Input : Type 0 where
   pub extra : Extra
   pub limit : ℕ
 
+-- a map alone, with document 01's limit of components
+abbrev pub inputOf : ℕ → ℕ → List ℤ → Input
+inputOf p q coefs = record { p = p; q = q; coefs = coefs; extra = alone; limit = mostComponent }
+
 -- the kind of walk that it is for
 abbrev pub kindFor : Extra → Kind
 kindFor alone = plain

@@ -9,12 +9,14 @@ use lib.Dec.{T, leb, eqb, eqb→eq, leb→le}
 use lib.ListN.{length}
 use Rattle.linear.specs.TestLaws.{and-parts}
 use Rattle.definitions.specs.Answers.{Answer, Check, refuse, go, refuseWith, refuseIf, refuseFirst, _then_}
-use Rattle.definitions.specs.System.{System, mostEquations, mostUnknowns}
+use Rattle.definitions.specs.Input.{Input, systemOf}
+use Rattle.definitions.specs.Machine.{Outcome, call, checked, unlessDone, walk}
+use Rattle.definitions.specs.System.{mostEquations, mostUnknowns}
 use Rattle.definitions.specs.Tables.{State}
 use Rattle.definitions.specs.Step.{step}
 use Rattle.definitions.specs.Refusals.{between, check1, check2, check3, check4, check5, check6, check7, check8}
-use Rattle.definitions.specs.Refusals.{startChecks, lowerChecks, resumeChecks, searchChecks}
-use Rattle.definitions.specs.Calls.{Outcome, checked, start, startFrom, unlessDone, walk, resume}
+use Rattle.definitions.specs.Refusals.{shapeThen, startChecks, lowerChecks, resumeChecks, searchChecks}
+use Rattle.definitions.specs.Calls.{machine, start, startFrom, resume}
 use Rattle.laws.specs.AnswerLaws.{refuse-if-go}
 use Rattle.calls.specs.Paper.{answerOf, outcomeOf}
 use Rattle.calls.specs.declared.Outcome as values
@@ -55,46 +57,43 @@ not-false false e = subst T e tt
 pub within : (a b n r : ℕ) → refuseIf (not (between a b n)) r ≡ go → n ≤ b
 within a b n r e = leb→le n b (and-parts (leb a n) (leb n b) (not-false (between a b n) (refuse-if-go (not (between a b n)) r e)) .1)
 
-few : (m : System) → check1 m ≡ go → check2 m ≡ go → check3 m ≡ go → length (m .coefs) ≤ 128
+few : (m : Input) → check1 m ≡ go → check2 m ≡ go → check3 m ≡ go → length (m .coefs) ≤ 128
 few m a b c =
     let counted : Bool = eqb (length (m .coefs)) (m .p * m .q) in
     let same : length (m .coefs) ≡ m .p * m .q = eqb→eq (length (m .coefs)) (m .p * m .q) (not-false counted (refuse-if-go (not counted) 3 c)) in
     omega (arith, same, mul-le-mul (within 1 mostEquations (m .p) 1 a) (within 1 mostUnknowns (m .q) 2 b))
 
--- what follows the checks of the sizes
-small-sized : (m : System) (d : Check) → (length (m .coefs) ≤ 128 → Small d) → Small (check1 m then check2 m then check3 m then d)
-small-sized m d h =
-    small-then (check1 m) (check2 m then check3 m then d) (small-if _ 1 (omega arith)) (λ a.
-    small-then (check2 m) (check3 m then d) (small-if _ 2 (omega arith)) (λ b.
-    small-then (check3 m) d (small-if _ 3 (omega arith)) (λ c. h (few m a b c))))
+-- what follows the checks of the shape
+small-shape : (m : Input) (s : State) (d : Check) → (length (m .coefs) ≤ 128 → Small d) → Small (shapeThen m s d)
+small-shape m s d h =
+    small-then (check1 m) _ (small-if _ 1 (omega arith)) (λ a.
+    small-then (check2 m) _ (small-if _ 2 (omega arith)) (λ b.
+    small-then (check3 m) _ (small-if _ 3 (omega arith)) (λ c.
+    small-then (check4 (systemOf m) s) d (small-if _ 4 (omega arith)) (λ _. h (few m a b c)))))
 
-small-range : (m : System) → length (m .coefs) ≤ 128 → Small (check7 m)
+small-range : (m : Input) → length (m .coefs) ≤ 128 → Small (check7 m)
 unfolding check7
 small-range m l = small-first 7 (length (m .coefs)) _ (omega arith) l
 
-module _ (m : System) (s : State) where
+module _ (m : Input) (s : State) where
   small-start : Small (startChecks m s)
   unfolding startChecks
-  small-start =
-      small-sized m (check4 m s then check7 m) (λ l.
-      small-then (check4 m s) (check7 m) (small-if _ 4 (omega arith)) (λ _. small-range m l))
+  small-start = small-shape m s (check7 m) (small-range m)
 
   small-lower : (lower : List ℕ) → Small (lowerChecks lower m s)
   unfolding lowerChecks
   small-lower lower =
-      small-sized m (check4 m s then check5 m lower then check7 m then check8 lower) (λ l.
-      small-then (check4 m s) (check5 m lower then check7 m then check8 lower) (small-if _ 4 (omega arith)) (λ _.
-      small-then (check5 m lower) (check7 m then check8 lower) (small-if _ 5 (omega arith)) (λ _.
-      small-then (check7 m) (check8 lower) (small-range m l) (λ _. small-if _ 8 (omega arith)))))
+      small-shape m s (check5 m lower then check7 m then check8 m lower) (λ l.
+      small-then (check5 m lower) (check7 m then check8 m lower) (small-if _ 5 (omega arith)) (λ _.
+      small-then (check7 m) (check8 m lower) (small-range m l) (λ _. small-if _ 8 (omega arith))))
 
   pub small-resume : Small (resumeChecks m s)
   unfolding resumeChecks
   small-resume =
-      small-sized m (check4 m s then check6 m s then check7 m) (λ l.
-      small-then (check4 m s) (check6 m s then check7 m) (small-if _ 4 (omega arith)) (λ _.
-      small-then (check6 m s) (check7 m) (small-if _ 6 (omega arith)) (λ _. small-range m l)))
+      small-shape m s (check6 (systemOf m) s then check7 m) (λ l.
+      small-then (check6 (systemOf m) s) (check7 m) (small-if _ 6 (omega arith)) (λ _. small-range m l))
 
-  small-search : Small (searchChecks m s)
+  small-search : Small (searchChecks (systemOf m) s)
   unfolding searchChecks
   small-search =
       small-then (refuseIf _ 14) _ (small-if _ 14 (omega arith)) (λ _.
@@ -103,22 +102,22 @@ module _ (m : System) (s : State) where
 
 -- ---- calls
 
-fits-checked : (c : Check) (s : State) (work : State → Outcome) → Small c → Fits (work s .answer) → Fits (checked c s work .answer)
+fits-checked : (c : Check) (s : State) (work : State → Outcome State) → Small c → Fits (work s .answer) → Fits (checked c s work .answer)
 unfolding checked
 fits-checked (refuse n values) s work h w = h
 fits-checked go s work h w = w
 
-fits-unless : (b : Bool) (s : State) (work : State → Outcome) → Fits (work s .answer) → Fits (unlessDone b s work .answer)
+fits-unless : (b : Bool) (s : State) (work : State → Outcome State) → Fits (work s .answer) → Fits (unlessDone b s work .answer)
 unfolding unlessDone
 fits-unless true s work w = omega arith
 fits-unless false s work w = w
 
-fits-walk : (n : ℕ) (m : System) (s : State) → Fits (walk n m s .answer)
+fits-walk : (n : ℕ) (m : Input) (s : State) → Fits (walk n (machine m) s .answer)
 unfolding walk
 fits-walk zero m s = fits-unless _ s _ (omega arith)
-fits-walk (suc n) m s = fits-unless _ s _ (fits-checked (searchChecks m s) s _ (small-search m s) (fits-walk n m (step m s)))
+fits-walk (suc n) m s = fits-unless _ s _ (fits-checked (searchChecks (systemOf m) s) s _ (small-search m s) (fits-walk n m (step (systemOf m) s)))
 
-module _ (m : System) (s : State) where
+module _ (m : Input) (s : State) where
   pub start-fits : Fits (start m s .answer)
   unfolding start
   start-fits = fits-checked (startChecks m s) s _ (small-start m s) (omega arith)
@@ -128,11 +127,11 @@ module _ (m : System) (s : State) where
   start-from-fits lower = fits-checked (lowerChecks lower m s) s _ (small-lower m s lower) (omega arith)
 
   pub resume-fits : (budget : ℕ) → Fits (resume budget m s .answer)
-  unfolding resume
-  resume-fits budget = fits-checked (resumeChecks m s) s (walk budget m) (small-resume m s) (fits-walk budget m s)
+  unfolding call
+  resume-fits budget = fits-checked (resumeChecks m s) s (walk budget (machine m)) (small-resume m s) (fits-walk budget m s)
 
 -- ---- what a call by value answered
 
-pub answer-fits : (o : values.Outcome) {stack list : List ℕ} {call : Outcome} → outcomeOf o stack list ≡ call
-    → Fits (call .answer) → Fits (answerOf (o .answer))
+pub answer-fits : (o : values.Outcome) {stack list : List ℕ} {left : Outcome State} → outcomeOf o stack list ≡ left
+    → Fits (left .answer) → Fits (answerOf (o .answer))
 answer-fits o e h = rw (← e) at h

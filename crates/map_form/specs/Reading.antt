@@ -6,6 +6,7 @@ use lib.Dec.{ltb, eqb}
 use lib.IntN.{ℤ, pos, negsuc, natAbs}
 use lib.ListN.{length, getD}
 use Rattle.definitions.specs.Answers.{Check, refuse, go, _then_, refuseIf}
+use Rattle.definitions.specs.Input.{inputOf}
 use Rattle.definitions.specs.System.{mostEquations, mostUnknowns}
 use Rattle.definitions.specs.Refusals.{between, check7}
 use Rattle.texts.specs.Decimals.{separator}
@@ -60,7 +61,7 @@ checked go r = r
 
 -- "7: a coefficient outside its range, with the place of the first, from 1, row by row. .. 9: a text line not in the form below, with its number."
 unfoldable pub acceptRows : ℕ → ℕ → Rows → Reading
-acceptRows p q (rows coefs) = checked (check7 (record { p = p; q = q; coefs = coefs })) (accepted p q coefs)
+acceptRows p q (rows coefs) = checked (check7 (inputOf p q coefs)) (accepted p q coefs)
 acceptRows p q (malformedAt n) = refused 9 (n ∷ [])
 
 -- a count outside 1 to b

@@ -11,6 +11,7 @@ use lib.ListN.{length, getD}
 use borrow.Author.Tests.{le-ltb, lt-ltb, le-leb, lt-leb}
 use Rattle.linear.specs.Cases.{order, split}
 use Rattle.definitions.specs.Answers.{Check, refuse, go, refuseWith, _then_}
+use Rattle.definitions.specs.Input.{inputOf}
 use Rattle.definitions.specs.System.{mostEquations, mostUnknowns, coefLimit}
 use Rattle.definitions.specs.Refusals.{check7}
 use Rattle.laws.specs.CheckLaws.{Rule, Rules, rule, placed, _▹_, end, Due, Silent, Renders, refuse-not-go, check-cases}
@@ -133,12 +134,12 @@ module _ {t r : List ℕ} (p q : ℕ) (first : Begins 2 (pos p ∷ pos q ∷ [])
 
   module _ (p-few : p ≤ mostEquations) (q-some : 1 ≤ q) (q-few : q ≤ mostUnknowns) where
     range-case : (coefs : List ℤ) → readRows p q 2 [] r ≡ rows coefs
-        → Renders (check7 (record { p = p; q = q; coefs = coefs })) (placed 7 (mostEquations * mostUnknowns) (LargeAt t) ▹ end)
+        → Renders (check7 (inputOf p q coefs)) (placed 7 (mostEquations * mostUnknowns) (LargeAt t) ▹ end)
     range-case coefs e =
         let a = rows-read p q 2 [] r e in
         let n : length coefs ≡ p * q = cc (a .count, a .after) in
-        let d = range-decides (record { p = p; q = q; coefs = coefs }) in
-        elim (check-cases (check7 (record { p = p; q = q; coefs = coefs }))) [
+        let d = range-decides (inputOf p q coefs) in
+        elim (check-cases (check7 (inputOf p q coefs))) [
           | inl g ↦ rw g (renders-silent (λ i l h. let (x, y) = only-large coefs e i h in d .goes g i x y) renders-end)
           | inr (k, vs, g) ↦
               let (x, i, l, y, z, none) = d .refuses k vs g in
@@ -156,7 +157,7 @@ module _ {t r : List ℕ} (p q : ℕ) (first : Begins 2 (pos p ∷ pos q ∷ [])
     rows-case : (x : Rows) → readRows p q 2 [] r ≡ x → Renders (verdict (acceptRows p q x)) lastRules
     unfolding acceptRows verdict
     rows-case (rows coefs) e =
-        rw (checked-verdict (check7 (record { p = p; q = q; coefs = coefs })) p q coefs)
+        rw (checked-verdict (check7 (inputOf p q coefs)) p q coefs)
         (renders-silent (λ i l. good-line i (λ j h. rows-all p q 2 [] r q-some e j)) (range-case coefs e))
     rows-case (malformedAt m) e =
         let (j, x, b) = rows-bad p q 2 [] r q-some e in

@@ -13,7 +13,7 @@ use Rattle.linear.specs.Tuples.{Same, raise, unit}
 use Rattle.linear.specs.Systems.{inner, value}
 use Rattle.linear.specs.SystemLaws.{inner-cong, inner-bound, value-sum, value-unit}
 use Rattle.linear.specs.Gram.{inner-comm, gram-bound, product, product-sum}
-use Rattle.definitions.specs.System.{mostUnknowns, coefLimit, componentLimit}
+use Rattle.definitions.specs.System.{mostUnknowns, coefLimit, mostComponent}
 use Rattle.definitions.specs.Tables.{at, writeRow}
 use Rattle.laws.specs.TableLaws.{row-other, row-tuple}
 use Rattle.products.specs.Products.{given, SmallCoefs, gramLimit, entry, Written, Gram, SmallGram, combine, Combined, Products, SmallProducts, raised}
@@ -55,10 +55,10 @@ module _ {q : ℕ} {g : List ℤ} where
   pub level-products : {stack : List ℕ} {height : ℕ} {c : List ℤ} {k : ℕ} {x : ℕ → ℕ} → Combined q g stack height c → k < height → Same q (at stack (q + 1) k) x → Products q g x (entry c k)
   level-products {k} d l e = record { product = λ j h. d .levels k j l h ∙ combine-same q g e j }
 
-  pub products-small : {x : ℕ → ℕ} {v : ℕ → ℤ} → SmallGram q g → ((i : ℕ) → i < q → x i ≤ componentLimit) → Products q g x v → SmallProducts q v
+  pub products-small : {x : ℕ → ℕ} {v : ℕ → ℤ} → SmallGram q g → ((i : ℕ) → i < q → x i ≤ mostComponent) → Products q g x v → SmallProducts q v
   products-small {x} a h d =
       record {
-        small = λ j l. rw (d .product j l) (omega (arith, a .unknowns, inner-bound q componentLimit gramLimit (λ i. pos (x i)) (λ i. entry g i j) h (λ i k. a .small i j k l)));
+        small = λ j l. rw (d .product j l) (omega (arith, a .unknowns, inner-bound q mostComponent gramLimit (λ i. pos (x i)) (λ i. entry g i j) h (λ i k. a .small i j k l)));
       }
 
 -- ---- the rows of a stack that changes

@@ -7,7 +7,7 @@ use lib.IntN.{ℤ, pos, natAbs, _+ℤ_}
 use lib.ListN.{length, getD}
 use Rattle.linear.specs.Systems.{inner}
 use Rattle.linear.specs.Gram.{gram}
-use Rattle.definitions.specs.System.{mostEquations, mostUnknowns, coefLimit, componentLimit}
+use Rattle.definitions.specs.System.{mostEquations, mostUnknowns, coefLimit, mostComponent}
 use Rattle.definitions.specs.Tables.{at}
 
 -- ---- sizes
@@ -26,20 +26,20 @@ pub record SmallCoefs (p q : ℕ) (coefs : List ℤ) : Type 0 where
 -- a tuple of the stack table, from place base
 pub record SmallRow (q : ℕ) (stack : List ℕ) (base : ℕ) : Type 0 where
   pub whole : base + q ≤ length stack
-  pub small : (i : ℕ) → i < q → getD stack (base + i) 0 ≤ componentLimit
+  pub small : (i : ℕ) → i < q → getD stack (base + i) 0 ≤ mostComponent
 
 -- the rows below height
 pub record SmallRows (q : ℕ) (stack : List ℕ) (height : ℕ) : Type 0 where
   pub few : height ≤ q
   pub whole : height * (q + 1) ≤ length stack
-  pub small : (k i : ℕ) → k < height → i < q → at stack (q + 1) k i ≤ componentLimit
+  pub small : (k i : ℕ) → k < height → i < q → at stack (q + 1) k i ≤ mostComponent
 
 -- the largest size of an inner product of two columns, and of the image of a tuple and a column
 abbrev pub gramLimit : ℕ
 gramLimit = mostEquations * (coefLimit * coefLimit)
 
 abbrev pub productLimit : ℕ
-productLimit = mostUnknowns * (componentLimit * gramLimit)
+productLimit = mostUnknowns * (mostComponent * gramLimit)
 
 -- ---- tables with rows of 16 numbers
 

@@ -19,7 +19,7 @@ use Rattle.linear.specs.Integers.{sfits-natAbs, natAbs-+ℤ, natAbs-*ℤ}
 use Rattle.linear.specs.Sums.{sumTo}
 use Rattle.linear.specs.Systems.{inner}
 use Rattle.linear.specs.SystemLaws.{inner-next, inner-bound}
-use Rattle.definitions.specs.System.{mostUnknowns, componentLimit, isZero}
+use Rattle.definitions.specs.System.{mostUnknowns, mostComponent, isZero}
 use Rattle.laws.specs.TableLaws.{row-fits}
 use Rattle.products.specs.Products.{given, SmallCoefs, SmallRow, SmallRows, gramLimit, productLimit, entry, Rows, Zeros, Written, SmallGram, partial, SmallProducts, raised}
 
@@ -28,7 +28,7 @@ use Rattle.products.specs.Products.{given, SmallCoefs, SmallRow, SmallRo
 -- the factors of at most 16 products, of a component of a tuple and an entry of a Gram matrix, or of two coefficients
 pub record SmallTerms (n : ℕ) (v w : ℕ → ℤ) : Type 0 where
   pub few : n ≤ mostUnknowns
-  pub left : (i : ℕ) → i < n → natAbs (v i) ≤ componentLimit
+  pub left : (i : ℕ) → i < n → natAbs (v i) ≤ mostComponent
   pub right : (i : ℕ) → i < n → natAbs (w i) ≤ gramLimit
 
 -- the code's `sum + x * y`, each number read from its bits
@@ -48,7 +48,7 @@ module _ {n : ℕ} {v w : ℕ → ℤ} (s : SmallTerms n v w) where
   sum-small : (k : ℕ) → k ≤ n → natAbs (inner k v w) ≤ productLimit
   sum-small k l =
       omega
-      (arith, s .few, inner-bound k componentLimit gramLimit v w (λ i m. s .left i (omega arith)) (λ i m. s .right i (omega arith)))
+      (arith, s .few, inner-bound k mostComponent gramLimit v w (λ i m. s .left i (omega arith)) (λ i m. s .right i (omega arith)))
 
   sum-fits : (k : ℕ) → k ≤ n → SFits w64 (inner k v w)
   sum-fits k l = sfits-natAbs (omega (arith, sum-small k l))

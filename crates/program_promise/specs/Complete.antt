@@ -7,10 +7,12 @@ use native.Mathlib.Omega.{arith}
 use lib.IntN.{ℤ, pos}
 use Rattle.definitions.specs.Answers.{Answer, started, complete, paused, refused}
 use Rattle.definitions.specs.Calls.{start}
-use Rattle.definitions.specs.System.{System, MinimalSolution}
+use Rattle.definitions.specs.Input.{Input, inputOf, systemOf}
+use Rattle.definitions.specs.System.{MinimalSolution}
 use Rattle.definitions.specs.Tables.{State}
 use Rattle.theorems.specs.Demands.{second-demand}
-use Rattle.theorems.specs.Run.{Exactly, started-plain}
+use Rattle.theorems.specs.Listed.{Exactly}
+use Rattle.theorems.specs.Run.{started-plain}
 use Rattle.texts.specs.Decimals.{bytes, decimal}
 use Rattle.map_form.specs.Form.{lines, written, MapInRange}
 use Rattle.map_form.specs.Reading as reading
@@ -26,13 +28,13 @@ endComplete = bytes "end complete\n"
 -- The text was accepted as the written form of a map; what is printed are its counts, the rows listed in the order found, and "end complete"; and the
 -- rows listed are the map's minimal solutions, each once and no other.
 pub record PrintedBasis (t : List ℕ) : Type 0 where
-  pub m : System
+  pub i : Input
   pub s : State
-  pub accepted : readMap t ≡ reading.accepted (m .p) (m .q) (m .coefs)
-  pub text : t ≡ written (m .p) (m .q) (m .coefs)
-  pub range : MapInRange (m .p) (m .q) (m .coefs)
-  pub shown : printed t ≡ counts (m .p) (m .q) (s .steps) (s .found) ++ (lines (s .found) (m .q) (map pos (s .list)) ++ endComplete)
-  pub basis : Exactly (m .q) (MinimalSolution m) s
+  pub accepted : readMap t ≡ reading.accepted (i .p) (i .q) (i .coefs)
+  pub text : t ≡ written (i .p) (i .q) (i .coefs)
+  pub range : MapInRange (i .p) (i .q) (i .coefs)
+  pub shown : printed t ≡ counts (i .p) (i .q) (s .run .steps) (s .run .found) ++ (lines (s .run .found) (i .q) (map pos (s .list)) ++ endComplete)
+  pub basis : Exactly (i .q) (MinimalSolution (systemOf i)) (s .list) (s .run .found)
 
 -- ---- another ending
 
@@ -50,33 +52,33 @@ refusal-ends n (value ∷ others) = digit-after (bytes "refused ") (digit-after 
 -- ---- a map
 
 module _ (t : List ℕ) (p q : ℕ) (coefs : List ℤ) (e : readMap t ≡ reading.accepted p q coefs) (ends : EndsWith 101 (printed t)) where
-  abbrev system : System
-  system = record { p = p; q = q; coefs = coefs }
+  abbrev input : Input
+  input = inputOf p q coefs
 
   -- what stands before the ending
   abbrev front : List ℕ
-  front = counts p q (run system .state .steps) (run system .state .found)
+  front = counts p q (run input .state .run .steps) (run input .state .run .found)
 
   abbrev listed : List ℕ
-  listed = lines (run system .state .found) q (map pos (run system .state .list))
+  listed = lines (run input .state .run .found) q (map pos (run input .state .list))
 
-  shown-as : {a : Answer} → run system .answer ≡ a → printed t ≡ front ++ (listed ++ ending a)
+  shown-as : {a : Answer} → run input .answer ≡ a → printed t ≡ front ++ (listed ++ ending a)
   unfolding printed readingText runText
   shown-as f = rw (e, f)
 
-  by-answer : (a : Answer) → run system .answer ≡ a → PrintedBasis t
+  by-answer : (a : Answer) → run input .answer ≡ a → PrintedBasis t
   unfolding run ending
   by-answer started f = absurd (run-ends (accepted-written t e .1) f)
   by-answer complete f =
       let (x, y) = accepted-written t e in
       record {
-        m = system;
-        s = run system .state;
+        i = input;
+        s = run input .state;
         accepted = e;
         text = x;
         range = y;
         shown = shown-as f;
-        basis = second-demand .plainly system (start system blank .state) (started-plain blank (run-starts y)) .finished 1000000 f;
+        basis = second-demand .plainly input (start input blank .state) (started-plain blank (run-starts y)) .finished 1000000 f;
       }
   by-answer paused f =
       let d = ends-after front (ends-after listed (record { others = bytes "end pause"; text = refl })) in
@@ -93,5 +95,5 @@ printed-complete t before e = by (readMap t) refl
     ends = rw e (complete-ends before)
 
     by : (x : Reading) → readMap t ≡ x → PrintedBasis t
-    by (reading.accepted p q coefs) f = by-answer t p q coefs f ends (run (record { p = p; q = q; coefs = coefs }) .answer) refl
+    by (reading.accepted p q coefs) f = by-answer t p q coefs f ends (run (inputOf p q coefs) .answer) refl
     by (reading.refused n values) f = no-digit (refusal-ends n values) (rw f at ends)

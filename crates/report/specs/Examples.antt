@@ -12,8 +12,9 @@ use Rattle.definitions.specs.System.{solves, isAtOrBelow, covered}
 use Rattle.definitions.specs.Tables.{bit, frozen, writeTo, writeRow, unitsTo, plainStart}
 use Rattle.definitions.specs.Step.{makes, marksTo, childrenTo, listed, grown, step}
 use Rattle.definitions.specs.Refusals.{rowInOrder, inOrder, check7, startChecks, resumeChecks, tooLarge, tooHigh, searchChecks}
-use Rattle.definitions.specs.Calls as calls
-use Rattle.definitions.specs.Calls.{start, unlessDone, walk, resume}
+use Rattle.definitions.specs.Calls.{start}
+use Rattle.definitions.specs.Machine as machine
+use Rattle.definitions.specs.Machine.{call, unlessDone, walk}
 use Rattle.texts.specs.Decimals.{lastDigits, decimal, bytes}
 use Rattle.texts.specs.Reading.{andThen, moreDigits, readNatural, readNumber}
 use Rattle.map_form.specs.Form.{line, lines}
@@ -25,7 +26,7 @@ abbrev Case : Type 0
 Case = String × String
 
 asPrinted : List Case → List (List ℕ)
-unfolding sumTo allTo anyTo countTo unit inner value refuseWith _then_ refuseFirst solves isAtOrBelow covered bit frozen writeTo writeRow unitsTo plainStart makes marksTo childrenTo listed grown step rowInOrder inOrder check7 startChecks resumeChecks tooLarge tooHigh searchChecks calls.checked start unlessDone walk resume lastDigits decimal line lines andThen moreDigits readNatural readNumber readField readLine readRows checked acceptRows readBody readMap counted refusalText counts ending runText run readingText printed
+unfolding sumTo allTo anyTo countTo unit inner value refuseWith _then_ refuseFirst solves isAtOrBelow covered bit frozen writeTo writeRow unitsTo plainStart makes marksTo childrenTo listed grown step rowInOrder inOrder check7 startChecks resumeChecks tooLarge tooHigh searchChecks machine.checked start unlessDone walk call lastDigits decimal line lines andThen moreDigits readNatural readNumber readField readLine readRows checked acceptRows readBody readMap counted refusalText counts ending runText run readingText printed
 asPrinted cases = map (λ (c : Case). printed (bytes (c .0))) cases
 
 asSaid : List Case → List (List ℕ)

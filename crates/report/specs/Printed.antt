@@ -3,12 +3,13 @@ use Prim.Native.Nat.{ℕ}
 use mathlib.Core.Bool.{cond}
 use mathlib.Core.List.{List, [], _∷_, _++_, map}
 use lib.Dec.{eqb}
-use lib.IntN.{pos}
+use lib.IntN.{ℤ, pos}
 use lib.ListN.{replicate}
 use Rattle.definitions.specs.Answers.{Answer, started, complete, paused, refused}
-use Rattle.definitions.specs.System.{System}
-use Rattle.definitions.specs.Tables.{State}
-use Rattle.definitions.specs.Calls.{Outcome, start, resume}
+use Rattle.definitions.specs.Input.{Input, inputOf}
+use Rattle.definitions.specs.Machine.{Outcome}
+use Rattle.definitions.specs.Tables.{State, begun}
+use Rattle.definitions.specs.Calls.{start, resume}
 use Rattle.texts.specs.Decimals.{newline, bytes, decimal}
 use Rattle.map_form.specs.Form.{lines}
 use Rattle.map_form.specs.Reading as reading
@@ -43,24 +44,24 @@ ending complete = bytes "end complete\n"
 ending paused = bytes "end paused\n"
 ending (refused n values) = counted (bytes "end refused ") n
 
-unfoldable pub runText : ℕ → ℕ → Outcome → List ℕ
+unfoldable pub runText : ℕ → ℕ → Outcome State → List ℕ
 runText p q o =
-    counts p q (o .state .steps) (o .state .found) ++ (lines (o .state .found) q (map pos (o .state .list)) ++ ending (o .answer))
+    counts p q (o .state .run .steps) (o .state .run .found) ++ (lines (o .state .run .found) q (map pos (o .state .list)) ++ ending (o .answer))
 
 -- ---- the run
 
 -- what the program lends, before the start: 16 rows of 17 numbers for the stack, and "room for 8,192 numbers in the list"
 abbrev pub blank : State
-blank = record { stack = replicate 272 0; list = replicate 8192 0; height = 0; found = 0; steps = 0 }
+blank = record { stack = replicate 272 0; list = replicate 8192 0; run = begun 0 }
 
 -- a plain start, and one continuing call: "It allows 1,000,000 steps"
-unfoldable pub run : System → Outcome
+unfoldable pub run : Input → Outcome State
 run m = resume 1000000 m (start m blank .state)
 
 -- ---- the program
 
 unfoldable pub readingText : Reading → List ℕ
-readingText (reading.accepted p q coefs) = runText p q (run (record { p = p; q = q; coefs = coefs }))
+readingText (reading.accepted p q coefs) = runText p q (run (inputOf p q coefs))
 readingText (reading.refused n values) = refusalText n values
 
 unfoldable pub printed : List ℕ → List ℕ

@@ -7,7 +7,8 @@ use native.Mathlib.Omega.{arith}
 use lib.IntN.{ℤ}
 use lib.ListN.{length, take, drop, length-append, length-take}
 use lib.Seq.{take-at}
-use Rattle.calls.specs.Paper.{systemOf}
+use Rattle.definitions.specs.Input.{inputOf}
+
 use Rattle.map_form.specs.Reading as reading
 use Rattle.texts.specs.Put.{Put}
 use Rattle.map_form.specs.Reading.{Reading, readMap}
@@ -41,7 +42,7 @@ refused-text t before {table} {r} {why} e h = refused-as (readMap t) before tabl
 pub record MapRead (t : List ℕ) (table : List ℤ) (p q : ℕ) : Type 0 where
   pub few : p * q ≤ 128
   pub fits : p * q ≤ length table
-  pub text : runText p q (run (systemOf p q (take (p * q) table))) ≡ printed t
+  pub text : runText p q (run (inputOf p q (take (p * q) table))) ≡ printed t
 
 accepted-as : (x : Reading) (before table : List ℤ) (p q : ℕ) → outcome (Map p q) table ≡ answered x before
     → (zs : List ℤ) × (x ≡ reading.accepted p q zs) × (table ≡ zs ++ drop (length zs) before)

@@ -12,12 +12,14 @@ use lib.IntN.{ℤ}
 use lib.ListN.{length}
 use borrow.Author.Tests.{eqb-false}
 use Rattle.definitions.specs.Answers.{Answer, started, complete, paused, refused, Check, refuse, go}
-use Rattle.definitions.specs.Calls.{Outcome, checked, start, unlessDone, walk, resume}
+use Rattle.definitions.specs.Calls.{machine, start, resume}
+use Rattle.definitions.specs.Input.{Input, systemOf}
+use Rattle.definitions.specs.Machine.{Outcome, call, checked, unlessDone, walk}
 use Rattle.definitions.specs.Refusals.{startChecks, resumeChecks, searchChecks}
 use Rattle.definitions.specs.Step.{step}
 use Rattle.definitions.specs.System.{System}
 use Rattle.definitions.specs.Tables.{State, plainStart}
-use Rattle.laws.specs.CallLaws.{resume-walks}
+use Rattle.laws.specs.MachineLaws.{call-walks}
 use Rattle.laws.specs.RefusalLaws.{Valid, start-renders, start-shaped, resume-valid, search-going, valid-resume}
 use Rattle.laws.specs.ValidLaws.{found-fits, plain-valid, step-valid}
 use Rattle.map_form.specs.Form.{MapInRange}
@@ -28,7 +30,7 @@ use Rattle.report.specs.Printed.{blank, run, runText, readingText, print
 -- ---- how a walk ends
 
 -- what holds of every way in which a call can end, and of what its work leaves, holds of what it leaves
-module _ (P : Outcome → Type 0) (s : State) (work : State → Outcome) where
+module _ (P : Outcome State → Type 0) (s : State) (work : State → Outcome State) where
   checked-keeps : ((n : ℕ) (values : List ℕ) → P (record { answer = refused n values; state = s })) → (c : Check) → (c ≡ go → P (work s)) → P (checked c s work)
   unfolding checked
   checked-keeps p (refuse n values) h = p n values
@@ -39,7 +41,7 @@ module _ (P : Outcome → Type 0) (s : State) (work : State → Outcome) where
   unless-keeps p true h = p
   unless-keeps p false h = h refl
 
-record Ended (m : System) (o : Outcome) : Type 0 where
+record Ended (m : System) (o : Outcome State) : Type 0 where
   valid : Valid m (o .state)
   not-started : ¬ (o .answer ≡ started)
 
@@ -50,55 +52,61 @@ high : (n : ℕ) → eqb n 0 ≡ false → 0 < n
 high zero e = absurd (eqb-false 0 0 e refl)
 high (suc n) e = omega arith
 
-walk-ended : (n : ℕ) (m : System) (s : State) → Valid m s → Ended m (walk n m s)
+walk-ended : (n : ℕ) (i : Input) (s : State) → Valid (systemOf i) s → Ended (systemOf i) (walk n (machine i) s)
 unfolding walk
-walk-ended zero m s v =
-    unless-keeps (Ended m) s (λ t. record { answer = paused; state = t }) (record { valid = v; not-started = apart (λ e. cc) }) (eqb (s .height) 0)
+walk-ended zero i s v =
+    unless-keeps (Ended (systemOf i)) s (λ t. record { answer = paused; state = t }) (record { valid = v; not-started = apart (λ e. cc) }) (eqb (s .run .height) 0)
     (λ e. record { valid = v; not-started = apart (λ e. cc) })
-walk-ended (suc n) m s v =
-    unless-keeps (Ended m) s (λ t. checked (searchChecks m t) t (λ u. walk n m (step m u))) (record { valid = v; not-started = apart (λ e. cc) }) (eqb (s .height) 0)
-    (λ e. checked-keeps (Ended m) s (λ u. walk n m (step m u)) (λ k values. record { valid = v; not-started = apart (λ e. cc) }) (searchChecks m s) (λ f.
-    let h = high (s .height) e in walk-ended n m (step m s) (step-valid m s v h (search-going m s (v .ordered) h f))))
+walk-ended (suc n) i s v =
+    let m = systemOf i in
+    unless-keeps (Ended m) s (λ t. checked (searchChecks m t) t (λ u. walk n (machine i) (step m u))) (record { valid = v; not-started = apart (λ e. cc) }) (eqb (s .run .height) 0)
+    (λ e. checked-keeps (Ended m) s (λ u. walk n (machine i) (step m u)) (λ k values. record { valid = v; not-started = apart (λ e. cc) }) (searchChecks m s) (λ f.
+    let h = high (s .run .height) e in walk-ended n i (step m s) (step-valid m s v h (search-going m s (v .ordered) h f))))
 
 -- ---- the rows found
 
-abbrev Fits : System → State → Type 0
-Fits m s = s .found * m .q ≤ length (s .list)
+abbrev Fits : ℕ → State → Type 0
+Fits q s = s .run .found * q ≤ length (s .list)
 
-resume-fits : (n : ℕ) (m : System) (s : State) → Fits m s → Fits m (resume n m s .state)
-unfolding resume
-resume-fits n m s l =
-    checked-keeps (λ o. Fits m (o .state)) s (walk n m) (λ k values. l) (resumeChecks m s)
-    (λ e. found-fits m _ (walk-ended n m s (resume-valid m s e) .valid))
+-- of a map alone
+module _ (p q : ℕ) (coefs : List ℤ) where
+  abbrev input : Input
+  input = inputOf p q coefs
 
-start-fits : (m : System) → Fits m (start m blank .state)
-unfolding start plainStart
-start-fits m =
-    checked-keeps (λ o. Fits m (o .state)) blank (λ t. record { answer = started; state = plainStart m t }) (λ k values. omega arith) (startChecks m blank)
-    (λ e. omega arith)
+  resume-fits : (n : ℕ) (s : State) → Fits q s → Fits q (resume n input s .state)
+  unfolding call
+  resume-fits n s l =
+      checked-keeps (λ o. Fits q (o .state)) s (walk n (machine input)) (λ k values. l) (resumeChecks input s)
+      (λ e. found-fits (systemOf input) _ (walk-ended n input s (resume-valid input s e) .valid))
 
-run-fits : (m : System) → Fits m (run m .state)
-unfolding run
-run-fits m = resume-fits 1000000 m (start m blank .state) (start-fits m)
+  start-fits : Fits q (start input blank .state)
+  unfolding start plainStart
+  start-fits =
+      checked-keeps (λ o. Fits q (o .state)) blank (λ t. record { answer = started; state = plainStart (systemOf input) t }) (λ k values. omega arith) (startChecks input blank)
+      (λ e. omega arith)
 
--- the run, by the calls that the program makes
-module _ (m : System) {o : Outcome} where
-  pub ran-is : (begun : Outcome) → begun ≡ start m blank → o ≡ resume 1000000 m (begun .state) → o ≡ run m
+  run-fits : Fits q (run input .state)
   unfolding run
-  ran-is begun e f = f ∙ ap (λ (b : Outcome). resume 1000000 m (b .state)) e
+  run-fits = resume-fits 1000000 (start input blank .state) start-fits
 
-  pub ran-fits : o ≡ run m → Fits m (o .state)
-  ran-fits e = rw e (run-fits m)
+  -- the run, by the calls that the program makes
+  module _ {o : Outcome State} where
+    pub ran-is : (begun : Outcome State) → begun ≡ start input blank → o ≡ resume 1000000 input (begun .state) → o ≡ run input
+    unfolding run
+    ran-is begun e f = f ∙ ap (λ (b : Outcome State). resume 1000000 input (b .state)) e
+
+    pub ran-fits : o ≡ run input → Fits q (o .state)
+    ran-fits e = rw e run-fits
 
 -- ---- a map that is read
 
 module _ {p q : ℕ} {coefs : List ℤ} (r : MapInRange p q coefs) where
-  abbrev system : System
-  system = record { p = p; q = q; coefs = coefs }
+  abbrev map : Input
+  map = inputOf p q coefs
 
-  starts : startChecks system blank ≡ go
+  starts : startChecks map blank ≡ go
   starts =
-      start-renders system blank .silent (
+      start-renders map blank .silent (
         λ o. elim o [ inl l ↦ omega (arith, r .p-some) | inr l ↦ omega (arith, r .p-few) ],
         (
           λ o. elim o [ inl l ↦ omega (arith, r .q-some) | inr l ↦ omega (arith, r .q-few) ],
@@ -106,12 +114,12 @@ module _ {p q : ℕ} {coefs : List ℤ} (r : MapInRange p q coefs) where
         ),
       )
 
-  valid : Valid system (plainStart system blank)
-  valid = plain-valid system blank (start-shaped system blank starts)
+  valid : Valid (systemOf map) (plainStart (systemOf map) blank)
+  valid = plain-valid (systemOf map) blank (start-shaped map blank starts)
 
-  run-walks : run system ≡ walk 1000000 system (plainStart system blank)
+  run-walks : run map ≡ walk 1000000 (machine map) (plainStart (systemOf map) blank)
   unfolding run start checked
-  run-walks = rw starts (resume-walks system (plainStart system blank) 1000000 (valid-resume system (plainStart system blank) valid) .0)
+  run-walks = rw starts (call-walks (machine map) (plainStart (systemOf map) blank) 1000000 (valid-resume map (plainStart (systemOf map) blank) valid) .0)
 
   -- the program's start answers "started", and its continuing call does not
   pub run-starts : start system blank .answer ≡ started
@@ -123,7 +131,7 @@ module _ {p q : ℕ} {coefs : List ℤ} (r : MapInRange p q coefs) where
 
 -- Neither the start nor the continuing call is refused before the walk, so that no "earlier refusal" is left to print; and the walk's answer is one of those that have an ending.
 pub map-printed : (t : List ℕ) {p q : ℕ} {coefs : List ℤ} → readMap t ≡ accepted p q coefs
-    → let m : System = record { p = p; q = q; coefs = coefs } in let o = walk 1000000 m (plainStart m blank) in (printed t ≡ runText p q o) × (¬ (o .answer ≡ started))
+    → let i : Input = inputOf p q coefs in let o = walk 1000000 (machine i) (plainStart (systemOf i) blank) in (printed t ≡ runText p q o) × (¬ (o .answer ≡ started))
 unfolding printed readingText
 map-printed t {p} {q} {coefs} e =
     let r = accepted-written t e .1 in (rw (e, run-walks r), walk-ended 1000000 _ _ (valid r) .not-started)

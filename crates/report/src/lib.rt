@@ -4,7 +4,8 @@ ghost use mathlib.Core.List.{[]};
 ghost use Prim.Native.Nat.{_+_, _*_, _≤_};
 ghost use lib.ListN.{length, take, drop};
 ghost use Rattle.map_text.specs.Answer as reading;
-ghost use Rattle.calls.specs.Paper.{systemOf, answerOf, numberOf, outcomeOf};
+ghost use Rattle.definitions.specs.Input.{inputOf};
+ghost use Rattle.calls.specs.Paper.{answerOf, numberOf, outcomeOf};
 ghost use Rattle.report.specs.Printed as paper;
 ghost use Rattle.texts.specs.Put.{Put};
 use calls::Answer;
@@ -50,15 +51,11 @@ fn refused(out: &mut [u8], why: TextRefusal) -> usize
 // The report on a map: a plain start, and one continuing call.
 fn solved(out: &mut [u8], p: usize, q: usize, coefs: &[i32]) -> usize
     requires { ⌜ 91000 ≤ length (now out) ⌝ }
-    ensures { λ r. ⌜ Put (now (out .entry)) 0 (paper.runText p q (paper.run (systemOf p q (now (coefs .entry))))) (now (out .exit)) r ⌝ }
+    ensures { λ r. ⌜ Put (now (out .entry)) 0 (paper.runText p q (paper.run (inputOf p q (now (coefs .entry))))) (now (out .exit)) r ⌝ }
 {
     let mut stack = [0u32; 272];
     let mut list = [0u32; 8192];
-    let blank = Record {
-        height: 0,
-        found: Solutions(0),
-        steps: Steps(0),
-    };
+    let blank = Record::new(0, Solutions(0), Steps(0));
     let begun = starts::started(p, q, coefs, &mut stack, &mut list, blank);
     let run = begun.run;
     let ended = walk::resumed(p, q, coefs, &mut stack, &mut list, run, 1000000);

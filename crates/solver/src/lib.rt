@@ -5,7 +5,8 @@ ghost use Rattle.definitions.specs.Calls.{start as startOf, startFrom as startF
 ghost use Rattle.definitions.specs.Reader.{readerCheck};
 ghost use Rattle.definitions.specs.Refusals.{between};
 ghost use Rattle.definitions.specs.System.{mostUnknowns};
-ghost use Rattle.calls.specs.Paper.{systemOf, stateOf, leftBy};
+ghost use Rattle.definitions.specs.Input.{inputOf};
+ghost use Rattle.calls.specs.Paper.{stateOf, leftBy};
 ghost use Rattle.solver.specs.Reading.{readableOf, shownPart, shows};
 use calls::Answer;
 use calls::Record;
@@ -21,7 +22,7 @@ pub fn start(
     list: &mut [u32],
     r: &mut Record,
 ) -> Answer
-    ensures { λ a. ⌜ leftBy a (now (stack .exit)) (now (list .exit)) (now (r .exit)) ≡ startOf (systemOf p q (now (coefs .entry))) (stateOf (now (stack .entry)) (now (list .entry)) (now (r .entry))) ⌝ }
+    ensures { λ a. ⌜ leftBy a (now (stack .exit)) (now (list .exit)) (now (r .exit)) ≡ startOf (inputOf p q (now (coefs .entry))) (stateOf (now (stack .entry)) (now (list .entry)) (now (r .entry))) ⌝ }
 {
     let o = starts::started(p, q, coefs, stack, list, *r);
     *r = o.run;
@@ -38,7 +39,7 @@ pub fn start_from(
     r: &mut Record,
     lower: &[u32],
 ) -> Answer
-    ensures { λ a. ⌜ leftBy a (now (stack .exit)) (now (list .exit)) (now (r .exit)) ≡ startFromOf (now (lower .entry)) (systemOf p q (now (coefs .entry))) (stateOf (now (stack .entry)) (now (list .entry)) (now (r .entry))) ⌝ }
+    ensures { λ a. ⌜ leftBy a (now (stack .exit)) (now (list .exit)) (now (r .exit)) ≡ startFromOf (now (lower .entry)) (inputOf p q (now (coefs .entry))) (stateOf (now (stack .entry)) (now (list .entry)) (now (r .entry))) ⌝ }
 {
     let o = starts::started_from(p, q, coefs, stack, list, *r, lower);
     *r = o.run;
@@ -55,7 +56,7 @@ pub fn resume(
     r: &mut Record,
     budget: u64,
 ) -> Answer
-    ensures { λ a. ⌜ leftBy a (now (stack .exit)) (now (list .exit)) (now (r .exit)) ≡ resumeOf budget (systemOf p q (now (coefs .entry))) (stateOf (now (stack .entry)) (now (list .entry)) (now (r .entry))) ⌝ }
+    ensures { λ a. ⌜ leftBy a (now (stack .exit)) (now (list .exit)) (now (r .exit)) ≡ resumeOf budget (inputOf p q (now (coefs .entry))) (stateOf (now (stack .entry)) (now (list .entry)) (now (r .entry))) ⌝ }
 {
     let o = walk::resumed(p, q, coefs, stack, list, *r, budget);
     *r = o.run;

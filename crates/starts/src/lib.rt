@@ -1,7 +1,8 @@
 // The starts of document 01: plain, and from a lower bound. Each takes the run record by value and returns what it leaves.
 ghost use mathlib.Core.Path.{_≡_};
 ghost use Rattle.definitions.specs.Calls.{start, startFrom};
-ghost use Rattle.calls.specs.Paper.{inputOf, stateOf, outcomeOf};
+ghost use Rattle.definitions.specs.Input.{inputOf};
+ghost use Rattle.calls.specs.Paper.{stateOf, outcomeOf};
 ghost use Rattle.starts.specs.Begin.{begins};
 use calls::Answer;
 use calls::Check;

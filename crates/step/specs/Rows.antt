@@ -1,10 +1,10 @@
 -- Tuples within limits, and the part of a tuple that a row of a list is compared with. Assumes nothing.
 use Prim.Native.Nat.{ℕ, _+_, _≤_, _<_}
-use Rattle.definitions.specs.System.{componentLimit}
+use Rattle.definitions.specs.System.{mostComponent}
 
 -- no component of x is above that of any walk, and none above the limit of this one
 pub record Limited (q : ℕ) (x : ℕ → ℕ) : Type 0 where
-  pub at-most : (j : ℕ) → j < q → x j ≤ componentLimit
+  pub at-most : (j : ℕ) → j < q → x j ≤ mostComponent
 
 pub record Within (limit q : ℕ) (x : ℕ → ℕ) : Type 0 where
   pub at-most : (j : ℕ) → j < q → x j ≤ limit

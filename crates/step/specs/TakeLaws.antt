@@ -1,6 +1,7 @@
 -- The ways through a step, from what its parts ensure: the top's tuple t, the marks of the row, the candidates for a child, and the unknowns that make one.
 -- Assumes nothing.
 use mathlib.Core.Path.{_≡_, refl, sym, _∙_, ap}
+use mathlib.Core.Logic.{_≢_}
 use mathlib.Core.Bool.{Bool, true, false, not, _&&_}
 use mathlib.Core.List.{List}
 use Prim.Native.Nat.{ℕ, _+_, _*_, _-_, _^_, _≤_, _<_}
@@ -15,11 +16,11 @@ use Rattle.linear.specs.Tests.{allTo, anyTo, countTo}
 use Rattle.definitions.specs.System.{System, towards, isZero, solves}
 use Rattle.definitions.specs.Tables.{State, at, frozen}
 use Rattle.definitions.specs.Step.{top, makes, marksTo}
-use Rattle.definitions.specs.Refusals.{tooLarge}
+use Rattle.definitions.specs.Refusals.{stepLimit, tooLarge}
 use Rattle.laws.specs.MarkLaws.{frozen-none, marks-few}
 use Rattle.laws.specs.RefusalLaws.{RowInOrder}
 use Rattle.laws.specs.TableLaws.{row-fits, write-same}
-use Rattle.calls.specs.Paper.{systemOf}
+use Rattle.calls.specs.Paper.{plainSystem}
 use Rattle.calls.specs.declared.Refusal.the-variants.{ComponentLimit}
 use Rattle.step.specs.declared.Stepped.{Stepped}
 use Rattle.step.specs.declared.Stepped.the-variants.{Grown, Refused}
@@ -41,20 +42,20 @@ module _ {limit q : ℕ} {g : List ℤ} {stack list : List ℕ} {c : List ℤ} {
   pub top-fits : (height - 1) * (q + 1) + (q + 1) ≤ length stack
   top-fits = omega (arith, s .high, s .low, s .long, row-fits (q + 1) (height - 1) q (omega (arith, s .high, s .low)))
 
-  top-row : RowInOrder q stack (height - 1)
+  top-row : RowInOrder limit q stack (height - 1)
   top-row = s .rows (height - 1) (omega (arith, s .high))
 
   module _ {t : List ℕ} (h : Holds q t stack ((height - 1) * (q + 1))) where
-    pub top-limited : Limited q (tuple t)
-    top-limited = record { at-most = λ j l. rw (h .same j l) (top-row .small j l) }
-
     pub top-within : Within limit q (tuple t)
-    top-within = record { at-most = λ j l. rw (s .bounded) (top-limited .at-most j l) }
+    top-within = record { at-most = λ j l. rw (h .same j l) (top-row .small j l) }
+
+    pub top-limited : Limited q (tuple t)
+    top-limited = record { at-most = λ j l. omega (arith, top-within .at-most j l, s .bounded) }
 
     -- for any system with this Gram matrix
     module _ (p : ℕ) (coefs : List ℤ) (gram : Gram p q coefs g) (n : ℕ) where
       abbrev m : System
-      m = systemOf p q coefs
+      m = plainSystem p q coefs limit
 
       abbrev now : State
       now = stateAt stack list height found n
@@ -63,21 +64,21 @@ module _ {limit q : ℕ} {g : List ℤ} {stack list : List ℕ} {c : List ℤ} {
       top-products = level-products (s .cached) (omega (arith, s .high)) (λ j l. refl)
 
       top-towards : (j : ℕ) → j < q → entry c (height - 1) j ≡ towards m (top m now) j
-      top-towards j l = product-towards gram top-products j l
+      top-towards j l = product-towards gram top-products limit j l
 
       solved-by : allTo q (λ j. isZero (entry c (height - 1) j)) ≡ solves m (top m now)
-      solved-by = vanish-solves gram top-products
+      solved-by = vanish-solves gram top-products limit
 
-      listing : (b : Bool) → isFull q found list ≡ b → allTo q (λ j. isZero (entry c (height - 1) j)) ≡ true → {after : List ℕ} → after ≡ listAfter b q found (tuple t) list → Steps m now (listAnswer b) stack after
-      listing true f y e = rw e (step-full m now (sym solved-by ∙ y) f)
-      listing false f y e = step-listed m now (sym solved-by ∙ y) f (e ∙ write-same q list (found * q) (h .same))
+      listing : n ≢ stepLimit → (b : Bool) → isFull q found list ≡ b → allTo q (λ j. isZero (entry c (height - 1) j)) ≡ true → {after : List ℕ} → after ≡ listAfter b q found (tuple t) list → Steps m now (listAnswer b) stack after
+      listing early true f y e = rw e (step-full p q coefs limit now early (sym solved-by ∙ y) f)
+      listing early false f y e = step-listed p q coefs limit now early (sym solved-by ∙ y) f (e ∙ write-same q list (found * q) (h .same))
 
     -- the top is a solution
-    pub taken-solution : allTo q (λ j. isZero (entry c (height - 1) j)) ≡ true → {r : Stepped} {after : List ℕ} → Enlisted q found (tuple t) list after r → Taken q g stack list height found r stack after c
+    pub taken-solution : allTo q (λ j. isZero (entry c (height - 1) j)) ≡ true → {r : Stepped} {after : List ℕ} → Enlisted q found (tuple t) list after r → Taken limit q g stack list height found r stack after c
     taken-solution y {r} {after} e =
         record {
           cached = rw (e .answers) (cached-by (isFull q found list));
-          steps = λ p coefs gram n. rw (e .answers) (listing p coefs gram n (isFull q found list) refl y (e .leaves));
+          steps = λ p coefs gram n early. rw (e .answers) (listing p coefs gram n early (isFull q found list) refl y (e .leaves));
         }
       where
         cached-by : (b : Bool) → Combined q g stack (heightBy (listAnswer b) (stateAt stack list height found 0)) c
@@ -92,12 +93,12 @@ module _ {limit q : ℕ} {g : List ℤ} {stack list : List ℕ} {c : List ℤ} {
       abbrev child : ℕ → Bool
       child = childBy q 0 found (at list q) (tuple t) candidates
 
-      child-is : (p : ℕ) (coefs : List ℤ) → Gram p q coefs g → (n : ℕ) → (j : ℕ) → j < q → child j ≡ makes (systemOf p q coefs) (stateAt stack list height found n) j
+      child-is : (p : ℕ) (coefs : List ℤ) → Gram p q coefs g → (n : ℕ) → (j : ℕ) → j < q → child j ≡ makes (plainSystem p q coefs limit) (stateAt stack list height found n) j
       child-is p coefs gram n j l =
           child-made q found (at list q) (tuple t) candidates j (entry c (height - 1)) marks (are .at j l)
-          ∙ rw row (made-by (systemOf p q coefs) (stateAt stack list height found n) (h .same) (top-towards p coefs gram n) j l)
+          ∙ rw row (made-by p q coefs limit (stateAt stack list height found n) (h .same) (top-towards p coefs gram n) j l)
 
-      made-is : (p : ℕ) (coefs : List ℤ) → Gram p q coefs g → (n : ℕ) → (j : ℕ) → j < q → frozen made j ≡ makes (systemOf p q coefs) (stateAt stack list height found n) j
+      made-is : (p : ℕ) (coefs : List ℤ) → Gram p q coefs g → (n : ℕ) → (j : ℕ) → j < q → frozen made j ≡ makes (plainSystem p q coefs limit) (stateAt stack list height found n) j
       made-is p coefs gram n j l = rw e (marks-frozen q child j l) ∙ child-is p coefs gram n j l
 
       -- the parent's marks are as many as rows below it, and none of the children's, so the children have their rows
@@ -122,32 +123,32 @@ module _ {limit q : ℕ} {g : List ℤ} {stack list : List ℕ} {c : List ℤ} {
             cached = let up : height - 1 + 1 ≡ height = omega (arith, s .high) in rw up (s .cached);
           }
 
-      large-by : (p : ℕ) (coefs : List ℤ) → Gram p q coefs g → (n : ℕ) → anyTo q (λ j. child j && eqb (tuple t j) limit) ≡ tooLarge (systemOf p q coefs) (stateAt stack list height found n)
-      large-by p coefs gram n = rw (s .bounded) (too-large-by (systemOf p q coefs) (stateAt stack list height found n) (h .same) (child-is p coefs gram n))
+      large-by : (p : ℕ) (coefs : List ℤ) → Gram p q coefs g → (n : ℕ) → anyTo q (λ j. child j && eqb (tuple t j) limit) ≡ tooLarge (plainSystem p q coefs limit) (stateAt stack list height found n)
+      large-by p coefs gram n = too-large-by p q coefs limit (stateAt stack list height found n) (h .same) (child-is p coefs gram n)
 
-      pub taken-large : anyTo q (λ j. child j && eqb (tuple t j) limit) ≡ true → Taken q g stack list height found (Refused ComponentLimit) stack list c
+      pub taken-large : anyTo q (λ j. child j && eqb (tuple t j) limit) ≡ true → Taken limit q g stack list height found (Refused ComponentLimit) stack list c
       taken-large l =
           record {
             cached = s .cached;
-            steps = λ p coefs gram n. step-large (systemOf p q coefs) (stateAt stack list height found n) (sym (solved-by p coefs gram n) ∙ no) (sym (large-by p coefs gram n) ∙ l);
+            steps = λ p coefs gram n early. step-large p q coefs limit (stateAt stack list height found n) early (sym (solved-by p coefs gram n) ∙ no) (sym (large-by p coefs gram n) ∙ l);
           }
 
-      pub taken-grown : anyTo q (λ j. child j && eqb (tuple t j) limit) ≡ false → {r : ℕ} {after : List ℕ} {c′ : List ℤ} → r ≡ height - 1 + countTo q (frozen made) → after ≡ growTo q q stack (height - 1) (tuple t) marks (frozen made) → Combined q g after r c′ → Taken q g stack list height found (Grown r) after list c′
+      pub taken-grown : anyTo q (λ j. child j && eqb (tuple t j) limit) ≡ false → {r : ℕ} {after : List ℕ} {c′ : List ℤ} → r ≡ height - 1 + countTo q (frozen made) → after ≡ growTo q q stack (height - 1) (tuple t) marks (frozen made) → Combined q g after r c′ → Taken limit q g stack list height found (Grown r) after list c′
       taken-grown none {r} {after} rise grow cached =
           record {
             cached = cached;
-            steps = λ p coefs gram n.
+            steps = λ p coefs gram n early.
                 let k = stateAt stack list height found n in
                 let f = made-is p coefs gram n in
-                step-grown (systemOf p q coefs) k (sym (solved-by p coefs gram n) ∙ no)
+                step-grown p q coefs limit k early (sym (solved-by p coefs gram n) ∙ no)
                 (sym (large-by p coefs gram n) ∙ none)
-                (sym (too-high-by (systemOf p q coefs) k f) ∙ le-ltb q (height - 1 + countTo q (frozen made)) made-few)
-                (grow ∙ ap (λ x. growTo q q stack (height - 1) (tuple t) x (frozen made)) row ∙ grown-by (systemOf p q coefs) k (h .same) f)
-                (rise ∙ ap (λ x. height - 1 + x) (count-by (systemOf p q coefs) k f));
+                (sym (too-high-by p q coefs limit k f) ∙ le-ltb q (height - 1 + countTo q (frozen made)) made-few)
+                (grow ∙ ap (λ x. growTo q q stack (height - 1) (tuple t) x (frozen made)) row ∙ grown-by p q coefs limit k (h .same) f)
+                (rise ∙ ap (λ x. height - 1 + x) (count-by p q coefs limit k f));
           }
 
   -- no candidates, and so no children: the row is taken off, whatever tuple it has
-  pub taken-none : allTo q (λ j. isZero (entry c (height - 1) j)) ≡ false → {marks : ℕ} → marks ≡ getD stack ((height - 1) * (q + 1) + q) 0 → Marked q (λ j. ltZ (entry c (height - 1) j) (pos 0) && not (frozen marks j)) 0 → Taken q g stack list height found (Grown (height - 1)) stack list c
+  pub taken-none : allTo q (λ j. isZero (entry c (height - 1) j)) ≡ false → {marks : ℕ} → marks ≡ getD stack ((height - 1) * (q + 1) + q) 0 → Marked q (λ j. ltZ (entry c (height - 1) j) (pos 0) && not (frozen marks j)) 0 → Taken limit q g stack list height found (Grown (height - 1)) stack list c
   taken-none fails {marks} row are =
       let base : ℕ = (height - 1) * (q + 1) in
       let t : List ℕ = drop base stack in

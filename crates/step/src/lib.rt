@@ -46,7 +46,7 @@ pub fn take(
     limit: u32,
 ) -> Stepped
     requires { ⌜ Standing limit q (now gram) (now stack) (now list) (now inner) height found × (q ≤ length (now top)) ⌝ }
-    ensures { λ r. ⌜ Taken q (now (gram .entry)) (now (stack .entry)) (now (list .entry)) height found r (now (stack .exit)) (now (list .exit)) (now (inner .exit)) ⌝ }
+    ensures { λ r. ⌜ Taken limit q (now (gram .entry)) (now (stack .entry)) (now (list .entry)) height found r (now (stack .exit)) (now (list .exit)) (now (inner .exit)) ⌝ }
 {
     let level = height - 1;
     let base = level * (q + 1);

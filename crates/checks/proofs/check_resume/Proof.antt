@@ -3,9 +3,9 @@ use mathlib.Core.Path.{sym, ap, _∙_}
 use denote.Ref.{now}
 use borrow.Author.Needs.{needs}
 use Rattle.definitions.specs.Answers.{_then_}
-use Rattle.definitions.specs.Input.{systemOf}
+use Rattle.definitions.specs.Input.{systemOf, inputOf}
 use Rattle.definitions.specs.Refusals.{resumeChecks, check6, check7}
-use Rattle.calls.specs.Paper.{inputOf, stateOf, checkOf}
+use Rattle.calls.specs.Paper.{stateOf, checkOf}
 use Rattle.checks.specs.CheckLaws.{shape-refused, shape-passed}
 use Rattle.checks.specs.Shape.{shape-fits}
 use Rattle.checks.proofs.check_resume.Statement.{statement}

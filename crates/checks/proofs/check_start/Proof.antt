@@ -2,7 +2,8 @@
 use denote.Ref.{now}
 use borrow.Author.Needs.{needs}
 use Rattle.definitions.specs.Refusals.{startChecks, check7}
-use Rattle.calls.specs.Paper.{inputOf, stateOf}
+use Rattle.definitions.specs.Input.{inputOf}
+use Rattle.calls.specs.Paper.{stateOf}
 use Rattle.checks.specs.CheckLaws.{shape-refused, shape-passed}
 use Rattle.checks.proofs.check_start.Statement.{statement}
 use Rattle.checks.proofs.check_start.Tie as tie

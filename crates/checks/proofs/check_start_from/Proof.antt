@@ -3,7 +3,8 @@ use denote.Ref.{now}
 use borrow.Author.Needs.{needs}
 use Rattle.definitions.specs.Answers.{_then_}
 use Rattle.definitions.specs.Refusals.{lowerChecks, check5, check7, check8}
-use Rattle.calls.specs.Paper.{inputOf, stateOf}
+use Rattle.definitions.specs.Input.{inputOf}
+use Rattle.calls.specs.Paper.{stateOf}
 use Rattle.checks.specs.CheckLaws.{shape-refused, shape-passed}
 use Rattle.checks.proofs.check_start_from.Statement.{statement}
 use Rattle.checks.proofs.check_start_from.Tie as tie

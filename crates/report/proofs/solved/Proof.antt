@@ -1,6 +1,5 @@
 -- `solved` meets its contract. Assumes nothing.
 use borrow.Author.Needs.{needs}
-use Rattle.calls.specs.Paper.{systemOf}
 use Rattle.report.specs.Printed as paper
 use Rattle.report.specs.RunLaws.{ran-is, ran-fits}
 use Rattle.report.proofs.solved.Statement.{statement}
@@ -32,9 +31,8 @@ ran-requires c κs =
     let e = c .before .before .before .before in
     let b = e .before .before .before .before .before .before in
     let a = b .before .before .before .before .args in
-    let m = systemOf (a .p) (a .q) (a .coefs .now) in
-    let run = ran-is m _ (b .started .ensures) (e .resumed .ensures) in
-    (search needs, ran-fits m run, search needs)
+    let run = ran-is (a .p) (a .q) (a .coefs .now) _ (b .started .ensures) (e .resumed .ensures) in
+    (search needs, ran-fits (a .p) (a .q) (a .coefs .now) run, search needs)
 
 same-length : tie.Need-same-length
 same-length c = search needs
@@ -46,7 +44,7 @@ returns c =
     let e = r .before .before .before .before .before in
     let b = e .before .before .before .before .before .before in
     let a = b .before .before .before .before .args in
-    rw (← ran-is (systemOf (a .p) (a .q) (a .coefs .now)) _ (b .started .ensures) (e .resumed .ensures)) (r .ran .ensures)
+    rw (← ran-is (a .p) (a .q) (a .coefs .now) _ (b .started .ensures) (e .resumed .ensures)) (r .ran .ensures)
 
 pub solved-spec : {M : Type 1} → statement M
 solved-spec =
