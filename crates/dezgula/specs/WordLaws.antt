@@ -143,8 +143,9 @@ module _ (words : List ℕ) (m : System) (stack list : List ℕ) (ne : length wo
       pub misfit-fits : refusalCode (numberOf why) (valuesOf why) < 2 ^ 64
       misfit-fits = subst Small (sym e ∙ ap checkOf h) (small-resume m lent)
 
-      pub misfit-told : {a : ℕ} → a ≡ refusalCode (numberOf why) (valuesOf why) → (a, (stack, (list, words))) ≡ told words (resumeWords 0 words m stack list)
+      pub misfit-told : {a : ℕ} → a ≡ refusalCode (numberOf why) (valuesOf why) → (budget : ℕ)
+          → (a, (stack, (list, words))) ≡ told words (resumeWords budget words m stack list)
       unfolding resumeWords resume
-      misfit-told d =
+      misfit-told d budget =
           (λ i. (d i, (stack, (list, words-misfit words (lent .height) (lent .found) (lent .steps) ne i))))
-          ∙ ap (told words) (call-refused e lent (walk 0 m) h)
+          ∙ ap (told words) (call-refused e lent (walk budget m) h)

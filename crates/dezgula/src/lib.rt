@@ -1,7 +1,7 @@
 // The solver as C and Rust call it; include/dezgula.h says the same to them. The run record comes as words (specs/Words.antt), and an answer goes out as
 // one number (specs/Codes.antt).
 ghost use mathlib.Core.Path.{_≡_};
-ghost use Prim.Native.Nat.{_^_, _<_};
+ghost use Prim.Native.Nat.{ℕ, _^_, _<_};
 ghost use mathlib.Core.Bool.{not, _||_};
 ghost use mathlib.Core.Logic.{_≢_};
 ghost use lib.Dec.{eqb};
@@ -75,9 +75,12 @@ pub extern "C" fn dezgula_raw_resume(
     ensures { λ a. ⌜ (a, (now (stack .exit), (now (list .exit), now (run .exit)))) ≡
         told (now (run .entry)) (resumeWords budget (now (run .entry)) (systemOf p q (now (coefs .entry))) (now (stack .entry)) (now (list .entry))) ⌝ }
 {
-    let r = words::read(run);
-    let o = walk::resumed(p, q, coefs, stack, list, r, budget);
-    tell(o, run)
+    if run.len() == 3 {
+        let r = words::read(run);
+        let o = walk::resumed(p, q, coefs, stack, list, r, budget);
+        return tell(o, run);
+    }
+    misfit(p, q, coefs, stack, list, run)
 }
 
 // Row n of a finished list, copied to the beginning of `out`.
@@ -104,11 +107,11 @@ fn starts_from(words: usize, lower: usize, q: usize) -> bool
     lower != q
 }
 
-// What a start is told whose record has another number of words: what a continuing call is told, and nothing is written.
+// What a call is told whose record has another number of words. Nothing is written.
 fn misfit(p: usize, q: usize, coefs: &[i32], stack: &[u32], list: &[u32], run: &[u64]) -> u64
     requires { ⌜ length (now run) ≢ 3 ⌝ }
-    ensures { λ a. ⌜ (a, (now (stack .entry), (now (list .entry), now (run .entry)))) ≡
-        told (now (run .entry)) (resumeWords 0 (now (run .entry)) (systemOf p q (now (coefs .entry))) (now (stack .entry)) (now (list .entry))) ⌝ }
+    ensures { λ a. ⌜ ((budget : ℕ) → (a, (now (stack .entry), (now (list .entry), now (run .entry)))) ≡
+        told (now (run .entry)) (resumeWords budget (now (run .entry)) (systemOf p q (now (coefs .entry))) (now (stack .entry)) (now (list .entry)))) ⌝ }
 {
     let r = words::read(run);
     match checks::check_resume(p, q, coefs, stack, list, r) {

@@ -49,7 +49,7 @@ same-length-6 : tie.Need-same-length-6
 same-length-6 c = search needs
 
 returns-2 : tie.Need-returns-2
-returns-2 c = told-misfit _ _ _ _ (c .misfit .ensures) (c .before .before .before .before .if1 .left)
+returns-2 c = told-misfit _ _ _ _ (c .misfit .ensures 0) (c .before .before .before .before .if1 .left)
 
 pub dezgula-raw-start-spec : {M : Type 1} → statement M
 dezgula-raw-start-spec =

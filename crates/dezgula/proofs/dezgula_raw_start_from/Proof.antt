@@ -57,7 +57,7 @@ same-length-6 c = search needs
 returns-2 : tie.Need-returns-2
 returns-2 c =
     let d = c .before .before .before .before in
-    told-from-misfit _ _ _ _ (c .misfit .ensures) _ (d .before .starts-from .ensures) (d .if1 .left)
+    told-from-misfit _ _ _ _ (c .misfit .ensures 0) _ (d .before .starts-from .ensures) (d .if1 .left)
 
 pub dezgula-raw-start-from-spec : {M : Type 1} → statement M
 dezgula-raw-start-from-spec =

@@ -32,7 +32,7 @@ returns c =
 returns-2 : tie.Need-returns-2
 returns-2 c =
     let k = c .before .before in
-    absurd (misfit-never-passes _ _ _ _ (k .before .before .before .before .before .pre) (rw (k .before .read .ensures) at (k .check-resume .ensures))
+    λ _. absurd (misfit-never-passes _ _ _ _ (k .before .before .before .before .before .pre) (rw (k .before .read .ensures) at (k .check-resume .ensures))
     (c .enum-told .given .1))
 
 pub misfit-spec : {M : Type 1} → statement M
