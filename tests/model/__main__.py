@@ -1,4 +1,7 @@
-"""Writes the vectors into a folder, and prints how many calls have each answer."""
+"""Writes the vectors into a folder, and prints how many calls have each answer.
+
+A further kind of call is a model of its own beside calls.py, its cases beside edges.py, a function in text.py that writes its line, and its word in
+KINDS; crates/try_vectors then takes the line apart by one more function in replay.rt and counts it in tally.rt."""
 
 import sys
 from collections import Counter
@@ -10,6 +13,7 @@ import series
 from build import with_
 from text import HEAD, call_line, view_line
 
+KINDS = ("start", "from", "resume", "view")
 DRAWN = 6000
 CALLS_OF_A_RUN = 60
 
@@ -57,7 +61,7 @@ def lines(counts):
 
 def main(folder):
     """Writes the vectors as the standard input of the program that replays them, and what it prints where all agree."""
-    answers, kinds = Counter(), Counter(start=0, resume=0, view=0, **{"from": 0})
+    answers, kinds = Counter(), Counter()
     with open(f"{folder}/stdin", "w", encoding="ascii") as file:
         file.write(HEAD)
         for line in lines(answers):
@@ -65,7 +69,7 @@ def main(folder):
             kinds[line.split()[0]] += 1
     del kinds["#"]
     with open(f"{folder}/stdout", "w", encoding="ascii") as file:
-        for kind in ("start", "from", "resume", "view"):
+        for kind in KINDS:
             file.write(f"{kind} {kinds[kind]} agreed {kinds[kind]}\n")
         file.write(f"calls {kinds.total()} agreed {kinds.total()}\n")
     for answer, n in sorted(answers.items(), key=str):
