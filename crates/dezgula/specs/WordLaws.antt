@@ -9,10 +9,12 @@ use lib.Dec.{T, eqb}
 use lib.ListN.{length, getD, set}
 use borrow.Author.Tests.{lt-leb, eq-eqb, ne-eqb}
 use Rattle.definitions.specs.Answers.{Check, refuse, go, refuseWith, refuseIf, _then_}
-use Rattle.definitions.specs.System.{System, mostUnknowns}
+use Rattle.definitions.specs.Input.{Input, systemOf}
+use Rattle.definitions.specs.Machine.{Outcome, call, checked, walk}
+use Rattle.definitions.specs.System.{mostUnknowns}
 use Rattle.definitions.specs.Tables.{State}
-use Rattle.definitions.specs.Refusals.{inOrder, check1, check2, check3, check4, check6, check7, resumeChecks}
-use Rattle.definitions.specs.Calls.{Outcome, checked, start, startFrom, walk, resume}
+use Rattle.definitions.specs.Refusals.{inOrder, check1, check2, check3, check4, check6, check7, resumeChecks, shapeThen}
+use Rattle.definitions.specs.Calls.{machine, start, startFrom, resume}
 use Rattle.laws.specs.AnswerLaws.{then-go}
 use Rattle.calls.specs.Paper.{stateOf, numberOf, valuesOf, answerOf, checkOf, outcomeOf}
 use Rattle.calls.specs.CallLaws.{call-refused, passes}
@@ -55,7 +57,7 @@ three-missing n b e f h = subst T (three-decides n b h ∙ sym e ∙ f) tt
 
 -- ---- by the number of words
 
-module _ (words : List ℕ) (m : System) (stack list : List ℕ) where
+module _ (words : List ℕ) (m : Input) (stack list : List ℕ) where
   pub start-fitting : length words ≡ 3 → start m (stateOf stack list (recordIn words)) ≡ startWords words m stack list
   unfolding startWords
   start-fitting e = rw (eq-eqb (length words) 3 e)
@@ -75,17 +77,17 @@ module _ (words : List ℕ) (m : System) (stack list : List ℕ) where
 
 -- ---- what a call by value answered and left
 
-pub call-told : (words : List ℕ) (o : values.Outcome) {stack list left : List ℕ} {call : Outcome} {a : ℕ}
-    → outcomeOf o stack list ≡ call
+pub call-told : (words : List ℕ) (o : values.Outcome) {stack list left : List ℕ} {left′ : Outcome State} {a : ℕ}
+    → outcomeOf o stack list ≡ left′
     → a ≡ code (answerOf (o .answer))
-    → left ≡ wordsLeft words (o .run .height) (o .run .found .0) (o .run .steps .0) → (a, (stack, (list, left))) ≡ told words call
+    → left ≡ wordsLeft words (o .run .height) (o .run .found .0) (o .run .steps .0) → (a, (stack, (list, left))) ≡ told words left′
 call-told words o e d r = rw (← e, d, r)
 
 -- a start on another number of words is told what a continuing call is
 abbrev Told : Type 0
 Told = ℕ × (List ℕ × (List ℕ × List ℕ))
 
-module _ (words : List ℕ) (m : System) (stack list : List ℕ) {a : Told} (e : a ≡ told words (resumeWords 0 words m stack list)) where
+module _ (words : List ℕ) (m : Input) (stack list : List ℕ) {a : Told} (e : a ≡ told words (resumeWords 0 words m stack list)) where
   pub told-misfit : length words ≢ 3 → a ≡ told words (startWords words m stack list)
   told-misfit ne = e ∙ ap (told words) (start-misfit words m stack list ne)
 
@@ -107,36 +109,36 @@ unfolding _then_
 then-same (refuse n values) d e h = refl
 then-same go d e h = h refl
 
-disordered : (m : System) (s : State) → m .q < s .height → (check6 m s then check7 m) ≡ refuse 6 []
+disordered : (m : Input) (s : State) → m .q < s .run .height → (check6 (systemOf m) s then check7 m) ≡ refuse 6 []
 unfolding inOrder refuseWith _then_
-disordered m s h = rw (lt-leb (s .height) (m .q) h)
+disordered m s h = rw (lt-leb (s .run .height) (m .q) h)
 
-module _ (words : List ℕ) (m : System) (stack list : List ℕ) (ne : length words ≢ 3) where
+module _ (words : List ℕ) (m : Input) (stack list : List ℕ) (ne : length words ≢ 3) where
   abbrev lent : State
   lent = stateOf stack list (recordIn words)
 
-  misfit-checks : resumeChecks m lent ≡ (check1 m then check2 m then check3 m then check4 m lent then refuse 6 [])
+  misfit-checks : resumeChecks m lent ≡ shapeThen m lent (refuse 6 [])
   unfolding resumeChecks recordIn
   misfit-checks =
-      let high : m .q ≤ mostUnknowns → m .q < lent .height = λ l. rw (ne-eqb (length words) 3 ne) (omega arith) in
+      let high : m .q ≤ mostUnknowns → m .q < lent .run .height = λ l. rw (ne-eqb (length words) 3 ne) (omega arith) in
       then-same (check1 m) _ _ (λ _.
       then-same (check2 m) _ _ (λ b.
       then-same (check3 m) _ _ (λ _.
-      then-same (check4 m lent) _ _ (λ _. disordered m lent (high (within _ _ _ _ b))))))
+      then-same (check4 (systemOf m) lent) _ _ (λ _. disordered m lent (high (within _ _ _ _ b))))))
 
   -- "Refusals 1 to 8 are checked in rising number": the first of 1 to 4 that is due, or else 6, and nothing lent is changed
   pub misfit-refused : (budget : ℕ) → resumeWords budget words m stack list
-      ≡ checked (check1 m then check2 m then check3 m then check4 m lent then refuse 6 []) lent (walk budget m)
-  unfolding resumeWords resume
-  misfit-refused budget = ap (λ c. checked c lent (walk budget m)) misfit-checks
+      ≡ checked (shapeThen m lent (refuse 6 [])) lent (walk budget (machine m))
+  unfolding resumeWords call
+  misfit-refused budget = ap (λ c. checked c lent (walk budget (machine m))) misfit-checks
 
   -- ---- the same from a check of the code
 
   module _ {k : values-check.Check} (e : checkOf k ≡ resumeChecks m lent) where
     pub misfit-never-passes : k ≡ Pass → ⊥
     misfit-never-passes h =
-        let a : (check1 m then check2 m then check3 m then check4 m lent then refuse 6 []) ≡ go = sym misfit-checks ∙ passes e h in
-        let b : (check4 m lent then refuse 6 []) ≡ go = then-go _ _ (then-go _ _ (then-go _ _ a .1) .1) .1 in
+        let a : shapeThen m lent (refuse 6 []) ≡ go = sym misfit-checks ∙ passes e h in
+        let b : (check4 (systemOf m) lent then refuse 6 []) ≡ go = then-go _ _ (then-go _ _ (then-go _ _ a .1) .1) .1 in
         refused-goes (then-go _ _ b .1)
 
     module _ {why : Refusal} (h : k ≡ Refuse why) where
@@ -145,7 +147,7 @@ module _ (words : List ℕ) (m : System) (stack list : List ℕ) (ne : length wo
 
       pub misfit-told : {a : ℕ} → a ≡ refusalCode (numberOf why) (valuesOf why) → (budget : ℕ)
           → (a, (stack, (list, words))) ≡ told words (resumeWords budget words m stack list)
-      unfolding resumeWords resume
+      unfolding resumeWords call
       misfit-told d budget =
-          (λ i. (d i, (stack, (list, words-misfit words (lent .height) (lent .found) (lent .steps) ne i))))
-          ∙ ap (told words) (call-refused e lent (walk budget m) h)
+          (λ i. (d i, (stack, (list, words-misfit words (lent .run .height) (lent .run .found) (lent .run .steps) ne i))))
+          ∙ ap (told words) (call-refused e lent (walk budget (machine m)) h)

@@ -4,8 +4,10 @@ use mathlib.Core.Bool.{Bool, true, false, not, _||_}
 use mathlib.Core.List.{List}
 use lib.Dec.{eqb}
 use lib.ListN.{length, getD, set}
-use Rattle.definitions.specs.System.{System}
-use Rattle.definitions.specs.Calls.{Outcome, start, startFrom, resume}
+use Rattle.definitions.specs.Input.{Input}
+use Rattle.definitions.specs.Machine.{Outcome}
+use Rattle.definitions.specs.Calls.{start, startFrom, resume}
+use Rattle.definitions.specs.Tables.{State}
 use Rattle.calls.specs.Paper.{stateOf}
 use Rattle.calls.specs.declared.Record.{Record}
 use Rattle.dezgula.specs.Codes.{code}
@@ -34,26 +36,26 @@ unfoldable pub wordsLeft : List ℕ → ℕ → ℕ → ℕ → List ℕ
 wordsLeft words height found steps = wordsIf (isRecord words) words height found steps
 
 -- what a call answers, as a number, and what it leaves in the two tables and in the words
-abbrev pub told : List ℕ → Outcome → ℕ × (List ℕ × (List ℕ × List ℕ))
-told words o = (code (o .answer), (o .state .stack, (o .state .list, wordsLeft words (o .state .height) (o .state .found) (o .state .steps))))
+abbrev pub told : List ℕ → Outcome State → ℕ × (List ℕ × (List ℕ × List ℕ))
+told words o = (code (o .answer), (o .state .stack, (o .state .list, wordsLeft words (o .state .run .height) (o .state .run .found) (o .state .run .steps))))
 
--- ---- the calls: each is handed the words of the record, a system, and the two tables
+-- ---- the calls: each is handed the words of the record, a map, and the two tables
 
-unfoldable pub resumeWords : ℕ → List ℕ → System → List ℕ → List ℕ → Outcome
-resumeWords budget words m stack list = resume budget m (stateOf stack list (recordIn words))
+unfoldable pub resumeWords : ℕ → List ℕ → Input → List ℕ → List ℕ → Outcome State
+resumeWords budget words i stack list = resume budget i (stateOf stack list (recordIn words))
 
-abbrev pub startIf : Bool → Outcome → Outcome → Outcome
+abbrev pub startIf : Bool → Outcome State → Outcome State → Outcome State
 startIf true begun misfit = begun
 startIf false begun misfit = misfit
 
 -- A start "looks at no old content and so never gives 6", but it cannot write its record into another number of words: it then answers as a
 -- continuing call does, with the first of 1 to 4 that is due, or with 6 (`misfit-refused` in WordLaws).
-unfoldable pub startWords : List ℕ → System → List ℕ → List ℕ → Outcome
-startWords words m stack list = startIf (isRecord words) (start m (stateOf stack list (recordIn words))) (resumeWords 0 words m stack list)
+unfoldable pub startWords : List ℕ → Input → List ℕ → List ℕ → Outcome State
+startWords words i stack list = startIf (isRecord words) (start i (stateOf stack list (recordIn words))) (resumeWords 0 words i stack list)
 
 -- "Refusals 1 to 8 are checked in rising number": 5 comes before 6, so that a lower bound of another length is the start's own refusal
-unfoldable pub startFromWords : List ℕ → List ℕ → System → List ℕ → List ℕ → Outcome
-startFromWords lower words m stack list =
-    startIf (isRecord words || not (eqb (length lower) (m .q)))
-    (startFrom lower m (stateOf stack list (recordIn words)))
-    (resumeWords 0 words m stack list)
+unfoldable pub startFromWords : List ℕ → List ℕ → Input → List ℕ → List ℕ → Outcome State
+startFromWords lower words i stack list =
+    startIf (isRecord words || not (eqb (length lower) (i .q)))
+    (startFrom lower i (stateOf stack list (recordIn words)))
+    (resumeWords 0 words i stack list)

@@ -6,7 +6,8 @@ ghost use mathlib.Core.Bool.{not, _||_};
 ghost use mathlib.Core.Logic.{_≢_};
 ghost use lib.Dec.{eqb};
 ghost use lib.ListN.{length};
-ghost use Rattle.calls.specs.Paper.{systemOf, answerOf};
+ghost use Rattle.definitions.specs.Input.{inputOf};
+ghost use Rattle.calls.specs.Paper.{answerOf};
 ghost use Rattle.dezgula.specs.Codes.{code};
 ghost use Rattle.dezgula.specs.Words.{told, wordsLeft, startWords, startFromWords, resumeWords};
 ghost use Rattle.dezgula.specs.Rows.{rowTold};
@@ -28,7 +29,7 @@ pub extern "C" fn dezgula_raw_start(
     run: &mut [u64],
 ) -> u64
     ensures { λ a. ⌜ (a, (now (stack .exit), (now (list .exit), now (run .exit)))) ≡
-        told (now (run .entry)) (startWords (now (run .entry)) (systemOf p q (now (coefs .entry))) (now (stack .entry)) (now (list .entry))) ⌝ }
+        told (now (run .entry)) (startWords (now (run .entry)) (inputOf p q (now (coefs .entry))) (now (stack .entry)) (now (list .entry))) ⌝ }
 {
     if run.len() == 3 {
         let r = words::read(run);
@@ -51,7 +52,7 @@ pub extern "C" fn dezgula_raw_start_from(
 ) -> u64
     ensures { λ a. ⌜ (a, (now (stack .exit), (now (list .exit), now (run .exit)))) ≡
         told (now (run .entry))
-        (startFromWords (now (lower .entry)) (now (run .entry)) (systemOf p q (now (coefs .entry))) (now (stack .entry)) (now (list .entry))) ⌝ }
+        (startFromWords (now (lower .entry)) (now (run .entry)) (inputOf p q (now (coefs .entry))) (now (stack .entry)) (now (list .entry))) ⌝ }
 {
     if starts_from(run.len(), lower.len(), q) {
         let r = words::read(run);
@@ -73,7 +74,7 @@ pub extern "C" fn dezgula_raw_resume(
     budget: u64,
 ) -> u64
     ensures { λ a. ⌜ (a, (now (stack .exit), (now (list .exit), now (run .exit)))) ≡
-        told (now (run .entry)) (resumeWords budget (now (run .entry)) (systemOf p q (now (coefs .entry))) (now (stack .entry)) (now (list .entry))) ⌝ }
+        told (now (run .entry)) (resumeWords budget (now (run .entry)) (inputOf p q (now (coefs .entry))) (now (stack .entry)) (now (list .entry))) ⌝ }
 {
     if run.len() == 3 {
         let r = words::read(run);
@@ -111,7 +112,7 @@ fn starts_from(words: usize, lower: usize, q: usize) -> bool
 fn misfit(p: usize, q: usize, coefs: &[i32], stack: &[u32], list: &[u32], run: &[u64]) -> u64
     requires { ⌜ length (now run) ≢ 3 ⌝ }
     ensures { λ a. ⌜ ((budget : ℕ) → (a, (now (stack .entry), (now (list .entry), now (run .entry)))) ≡
-        told (now (run .entry)) (resumeWords budget (now (run .entry)) (systemOf p q (now (coefs .entry))) (now (stack .entry)) (now (list .entry)))) ⌝ }
+        told (now (run .entry)) (resumeWords budget (now (run .entry)) (inputOf p q (now (coefs .entry))) (now (stack .entry)) (now (list .entry)))) ⌝ }
 {
     let r = words::read(run);
     match checks::check_resume(p, q, coefs, stack, list, r) {

@@ -13,7 +13,7 @@ use lib.ListN.{length}
 use borrow.Author.Tests.{eqb-false}
 use Rattle.definitions.specs.Answers.{Answer, started, complete, paused, refused, Check, refuse, go}
 use Rattle.definitions.specs.Calls.{machine, start, resume}
-use Rattle.definitions.specs.Input.{Input, systemOf}
+use Rattle.definitions.specs.Input.{Input, inputOf, systemOf}
 use Rattle.definitions.specs.Machine.{Outcome, call, checked, unlessDone, walk}
 use Rattle.definitions.specs.Refusals.{startChecks, resumeChecks, searchChecks}
 use Rattle.definitions.specs.Step.{step}
@@ -122,12 +122,12 @@ module _ {p q : ℕ} {coefs : List ℤ} (r : MapInRange p q coefs) where
   run-walks = rw starts (call-walks (machine map) (plainStart (systemOf map) blank) 1000000 (valid-resume map (plainStart (systemOf map) blank) valid) .0)
 
   -- the program's start answers "started", and its continuing call does not
-  pub run-starts : start system blank .answer ≡ started
+  pub run-starts : start map blank .answer ≡ started
   unfolding start checked
   run-starts = rw starts
 
-  pub run-ends : ¬ (run system .answer ≡ started)
-  run-ends = rw run-walks (walk-ended 1000000 system (plainStart system blank) valid .not-started)
+  pub run-ends : ¬ (run map .answer ≡ started)
+  run-ends = rw run-walks (walk-ended 1000000 map (plainStart (systemOf map) blank) valid .not-started)
 
 -- Neither the start nor the continuing call is refused before the walk, so that no "earlier refusal" is left to print; and the walk's answer is one of those that have an ending.
 pub map-printed : (t : List ℕ) {p q : ℕ} {coefs : List ℤ} → readMap t ≡ accepted p q coefs
