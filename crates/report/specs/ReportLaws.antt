@@ -8,7 +8,6 @@ use lib.IntN.{ℤ}
 use lib.ListN.{length, take, drop, length-append, length-take}
 use lib.Seq.{take-at}
 use Rattle.definitions.specs.Input.{inputOf}
-
 use Rattle.map_form.specs.Reading as reading
 use Rattle.texts.specs.Put.{Put}
 use Rattle.map_form.specs.Reading.{Reading, readMap}

@@ -5,6 +5,9 @@ use Rattle.report.specs.RunLaws.{ran-is, ran-fits}
 use Rattle.report.proofs.solved.Statement.{statement}
 use Rattle.report.proofs.solved.Tie as tie
 
+new-requires : tie.Need-new-requires
+new-requires c κs = search needs
+
 slice-aggregate-started : tie.Need-slice-aggregate-started
 slice-aggregate-started c = search needs
 
@@ -30,8 +33,9 @@ ran-requires : tie.Need-ran-requires
 ran-requires c κs =
     let e = c .before .before .before .before in
     let b = e .before .before .before .before .before .before in
-    let a = b .before .before .before .before .args in
-    let run = ran-is (a .p) (a .q) (a .coefs .now) _ (b .started .ensures) (e .resumed .ensures) in
+    let n = b .before .before .before in
+    let a = n .before .before .args in
+    let run = ran-is (a .p) (a .q) (a .coefs .now) _ (rw (n .new .ensures) at (b .started .ensures)) (e .resumed .ensures) in
     (search needs, ran-fits (a .p) (a .q) (a .coefs .now) run, search needs)
 
 same-length : tie.Need-same-length
@@ -43,13 +47,15 @@ returns c =
     let r = c .before .before in
     let e = r .before .before .before .before .before in
     let b = e .before .before .before .before .before .before in
-    let a = b .before .before .before .before .args in
-    rw (← ran-is (a .p) (a .q) (a .coefs .now) _ (b .started .ensures) (e .resumed .ensures)) (r .ran .ensures)
+    let n = b .before .before .before in
+    let a = n .before .before .args in
+    rw (← ran-is (a .p) (a .q) (a .coefs .now) _ (rw (n .new .ensures) at (b .started .ensures)) (e .resumed .ensures)) (r .ran .ensures)
 
 pub solved-spec : {M : Type 1} → statement M
 solved-spec =
     tie.close
     (tie.spec
+    new-requires
     slice-aggregate-started
     slice-aggregate-started-2
     started-requires

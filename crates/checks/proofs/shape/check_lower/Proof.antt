@@ -12,7 +12,6 @@ use borrow.Author.Tests.{eq-eqb, ne-eqb}
 use Rattle.definitions.specs.Answers.{Check, refuseWith, refuseIf, _then_}
 use Rattle.definitions.specs.Refusals.{check5, check7, check8}
 use Rattle.definitions.specs.Input.{inputOf}
-
 use Rattle.checks.specs.CheckLaws.{refused-first, passed-first}
 use Rattle.checks.proofs.shape.check_lower.Statement.{statement}
 use Rattle.checks.proofs.shape.check_lower.Tie as tie
