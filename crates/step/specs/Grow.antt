@@ -1,15 +1,12 @@
 -- A step's children, made of the data that code has at hand: the top's tuple, its inner products with the columns, and its marks.
 -- (`Step` of the definitions says the same of a state; `StateLaws` links the two.) Assumes nothing.
-use Prim.Native.Nat.{ℕ, zero, suc, _+_}
+use Prim.Native.Nat.{ℕ}
 use mathlib.Core.Bool.{Bool, not, _&&_}
-use mathlib.Core.List.{List}
 use lib.IntN.{ℤ, pos}
 use lib.Signed.{ltZ}
-use Rattle.linear.specs.Tests.{countTo}
 use Rattle.linear.specs.Tuples.{raise}
 use Rattle.definitions.specs.System.{covered}
-use Rattle.definitions.specs.Tables.{frozen, writeRowIf}
-use Rattle.definitions.specs.Step.{marksTo}
+use Rattle.definitions.specs.Tables.{frozen}
 use Rattle.step.specs.Rows.{part}
 
 -- Raising unknown j makes a child of the tuple t with the inner products v: j is not frozen, its inner product is below zero, and none of
@@ -20,10 +17,3 @@ madeBy q found row t v marks j = not (frozen marks j) && (ltZ (v j) (pos 0) && n
 -- the same with the unknowns at hand that pass the first two tests, as marks, for rows of w numbers that stand for those of a tuple from a place on
 unfoldable pub childBy : ℕ → ℕ → ℕ → (ℕ → ℕ → ℕ) → (ℕ → ℕ) → ℕ → ℕ → Bool
 childBy w from found row t candidates j = frozen candidates j && not (covered w found row (part from (raise t j)))
-
--- the stack table with the rows of those of the children 0 .. n - 1 of x that f admits, from `level` up, first child lowest; a child's marks
--- are those of x and the unknowns of the children before it
-unfoldable pub growTo : ℕ → ℕ → List ℕ → ℕ → (ℕ → ℕ) → ℕ → (ℕ → Bool) → List ℕ
-growTo zero q stack level x marks f = stack
-growTo (suc j) q stack level x marks f =
-    writeRowIf (f j) q (growTo j q stack level x marks f) (level + countTo j f) (raise x j) (marks + marksTo j f)

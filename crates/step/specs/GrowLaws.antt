@@ -18,9 +18,9 @@ use Rattle.definitions.specs.System.{covered}
 use Rattle.laws.specs.SystemLaws.{covered-same}
 use Rattle.definitions.specs.Tables.{frozen, writeRowIf}
 use Rattle.laws.specs.TableLaws.{row-same, stays-length}
-use Rattle.definitions.specs.Step.{marksTo}
+use Rattle.definitions.specs.Step.{marksTo, writeChildren}
 use Rattle.step.specs.Rows.{part}
-use Rattle.step.specs.Grow.{madeBy, childBy, growTo}
+use Rattle.step.specs.Grow.{madeBy, childBy}
 use Rattle.products.specs.Marks.{marks-same}
 
 -- ---- the test that admits a child
@@ -64,8 +64,8 @@ child-made q found row t candidates j v marks e =
 -- ---- the rows of the children
 
 module _ (q : ℕ) (stack : List ℕ) (k : ℕ) (x : ℕ → ℕ) (marks : ℕ) where
-  pub grow-length : (f : ℕ → Bool) (n : ℕ) → length (growTo n q stack k x marks f) ≡ length stack
-  unfolding growTo
+  pub grow-length : (f : ℕ → Bool) (n : ℕ) → length (writeChildren n q stack k x marks f) ≡ length stack
+  unfolding writeChildren
   grow-length f zero = refl
   grow-length f (suc n) = stays-length (f n) q _ _ _ _ ∙ grow-length f n
 
@@ -74,17 +74,17 @@ if-same true q table row marks e = row-same q table row marks e
 if-same false q table row marks e = refl
 
 -- tuples that agree below q, and tests that agree below n
-pub grow-same : (n q : ℕ) (stack : List ℕ) (k : ℕ) {x y : ℕ → ℕ} (marks : ℕ) {f g : ℕ → Bool} → Same q x y → ((j : ℕ) → j < n → f j ≡ g j) → growTo n q stack k x marks f ≡ growTo n q stack k y marks g
-unfolding growTo
+pub grow-same : (n q : ℕ) (stack : List ℕ) (k : ℕ) {x y : ℕ → ℕ} (marks : ℕ) {f g : ℕ → Bool} → Same q x y → ((j : ℕ) → j < n → f j ≡ g j) → writeChildren n q stack k x marks f ≡ writeChildren n q stack k y marks g
+unfolding writeChildren
 grow-same zero q stack k marks e h = refl
 grow-same (suc n) q stack k {x} {y} marks {f} {g} e h =
     let before : (j : ℕ) → j < n → f j ≡ g j = λ j l. h j (omega arith) in
-    if-same (f n) q (growTo n q stack k x marks f) (k + countTo n f) (marks + marksTo n f) (λ i l. ap (λ z. z + unit n i) (e i l))
+    if-same (f n) q (writeChildren n q stack k x marks f) (k + countTo n f) (marks + marksTo n f) (λ i l. ap (λ z. z + unit n i) (e i l))
     ∙ rw (grow-same n q stack k marks e before, h n (omega arith), count-same f g n before, marks-same n f g before)
 
 -- unknowns that make no child are passed over
-pub grow-over : (q : ℕ) (stack : List ℕ) (k : ℕ) (x : ℕ → ℕ) (marks : ℕ) (f : ℕ → Bool) (n i : ℕ) → n ≤ i → ((j : ℕ) → n ≤ j → j < i → f j ≡ false) → growTo i q stack k x marks f ≡ growTo n q stack k x marks f
-unfolding growTo
+pub grow-over : (q : ℕ) (stack : List ℕ) (k : ℕ) (x : ℕ → ℕ) (marks : ℕ) (f : ℕ → Bool) (n i : ℕ) → n ≤ i → ((j : ℕ) → n ≤ j → j < i → f j ≡ false) → writeChildren i q stack k x marks f ≡ writeChildren n q stack k x marks f
+unfolding writeChildren
 grow-over q stack k x marks f n zero l h = let e : n ≡ 0 = omega arith in rw e
 grow-over q stack k x marks f n (suc i) l h =
     elim (split n (suc i)) [

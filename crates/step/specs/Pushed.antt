@@ -16,14 +16,13 @@ use Rattle.linear.specs.TestLaws.{count-step}
 use Rattle.linear.specs.Tuples.{raise}
 use Rattle.definitions.specs.System.{mostUnknowns}
 use Rattle.definitions.specs.Tables.{at, writeRow, writeTo}
-use Rattle.definitions.specs.Step.{marksTo}
+use Rattle.definitions.specs.Step.{marksTo, writeChildren}
 use Rattle.laws.specs.TableLaws.{RowIs, row-other, row-row, write-again, write-outside}
 use Rattle.step.specs.Rows.{Limited}
 use Rattle.step.specs.RowLaws.{write-raise}
 use Rattle.products.specs.Marks.{count-over, marks-add, marks-over, marks-room}
 use Rattle.step.specs.Scan.{Left, next-first, next-holds, next-inside, next-later, left-none}
 use Rattle.products.specs.Products.{SmallGram, Combined}
-use Rattle.step.specs.Grow.{growTo}
 use Rattle.step.specs.GrowLaws.{grow-over}
 
 -- the row x at `level`, of which children are written, is on the stack, and its products are cached
@@ -39,7 +38,7 @@ pub record Parent (q : ℕ) (g : List ℤ) (stack : List ℕ) (c : List ℤ) (le
 module _ (q : ℕ) (stack : List ℕ) (level : ℕ) (x : ℕ → ℕ) (marks : ℕ) (f : ℕ → Bool) (first : ℕ) where
   -- the stack table, its height and the marks of the next child, after the unknowns 0 .. n - 1; the first child is yet to be written
   pub record Pushed (n : ℕ) (table : List ℕ) (h passed : ℕ) : Type 0 where
-    pub rows : writeRow q table level (raise x first) marks ≡ growTo n q stack level x marks f
+    pub rows : writeRow q table level (raise x first) marks ≡ writeChildren n q stack level x marks f
     pub row : RowIs q table level x marks
     pub height : h ≡ level + countTo n f
     pub next-marks : passed ≡ marks + marksTo n f
@@ -48,7 +47,7 @@ module _ (q : ℕ) (stack : List ℕ) (level : ℕ) (x : ℕ → ℕ) (marks : �
   -- f holds at `first`, and at none before
   module _ (none : (j : ℕ) → 0 ≤ j → j < first → f j ≡ false) (one : f first ≡ true) where
     pub pushed-first : first < 32 → RowIs q stack level x marks → Pushed (first + 1) stack (level + 1) (marks + (1 * 2 ^ first) % 4294967296)
-    unfolding growTo countTo marksTo
+    unfolding writeChildren countTo marksTo
     pushed-first l r =
         let before = grow-over q stack level x marks f 0 first (omega arith) none in
         let counted = count-over f 0 first (omega arith) none in
@@ -76,7 +75,7 @@ module _ (q : ℕ) (stack : List ℕ) (level : ℕ) (x : ℕ → ℕ) (marks : �
         }
 
     pushed-one : n < 32 → f n ≡ true → {written : List ℕ} → written ≡ writeRow q table h (raise x n) passed → Pushed (n + 1) written (h + 1) (passed + (1 * 2 ^ n) % 4294967296)
-    unfolding growTo countTo
+    unfolding writeChildren countTo
     pushed-one l e {written} w =
         record {
           rows = rw (w, add-one n, e, ← (s .rows), ← (s .height), ← (s .next-marks)) (row-row q table level h (raise x first) (raise x n) marks passed (s .above));
@@ -109,7 +108,7 @@ module _ (q : ℕ) (stack : List ℕ) (level : ℕ) (x : ℕ → ℕ) (marks : �
 
   -- all but the first are written
   pub record Others (g : List ℤ) (table : List ℕ) (c : List ℤ) (r : ℕ) : Type 0 where
-    pub rows : writeRow q table level (raise x first) marks ≡ growTo q q stack level x marks f
+    pub rows : writeRow q table level (raise x first) marks ≡ writeChildren q q stack level x marks f
     pub row : RowIs q table level x marks
     pub height : r ≡ level + countTo q f
     pub above : level < r
@@ -131,6 +130,6 @@ raise-row q table k x marks i r l =
     ∙ sym (ap (set (writeTo q table base (raise x i)) (base + q)) (sym kept) ∙ set-getD (writeTo q table base (raise x i)) (base + q) 0)
 
 -- no child: nothing is written
-pub none-pushed : (q : ℕ) (stack : List ℕ) (level : ℕ) (x : ℕ → ℕ) (marks : ℕ) (f : ℕ → Bool) → ((j : ℕ) → 0 ≤ j → j < q → f j ≡ false) → (level ≡ level + countTo q f) × (stack ≡ growTo q q stack level x marks f)
-unfolding growTo countTo
+pub none-pushed : (q : ℕ) (stack : List ℕ) (level : ℕ) (x : ℕ → ℕ) (marks : ℕ) (f : ℕ → Bool) → ((j : ℕ) → 0 ≤ j → j < q → f j ≡ false) → (level ≡ level + countTo q f) × (stack ≡ writeChildren q q stack level x marks f)
+unfolding writeChildren countTo
 none-pushed q stack level x marks f none = (omega (arith, count-over f 0 q (omega arith) none), sym (grow-over q stack level x marks f 0 q (omega arith) none))

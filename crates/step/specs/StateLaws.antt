@@ -13,10 +13,10 @@ use Rattle.linear.specs.Tuples.{Same}
 use Rattle.linear.specs.TupleLaws.{unit-same}
 use Rattle.definitions.specs.System.{System, towards}
 use Rattle.definitions.specs.Tables.{State, listRow}
-use Rattle.definitions.specs.Step.{level, top, topMarks, makes, childrenTo}
+use Rattle.definitions.specs.Step.{childrenTo, level, makes, top, topMarks, writeChildren}
 use Rattle.definitions.specs.Refusals.{tooLarge, tooHigh}
 use Rattle.calls.specs.Paper.{plainSystem}
-use Rattle.step.specs.Grow.{madeBy, growTo}
+use Rattle.step.specs.Grow.{madeBy}
 use Rattle.step.specs.GrowLaws.{made-same, grow-same}
 
 module _ (p q : ℕ) (coefs : List ℤ) (limit : ℕ) (s : State) where
@@ -26,11 +26,6 @@ module _ (p q : ℕ) (coefs : List ℤ) (limit : ℕ) (s : State) where
   pub makes-made : (j : ℕ) → makes m s j ≡ madeBy (m .q) (s .run .found) (listRow (m .q) s) (top m s) (towards m (top m s)) (topMarks m s) j
   unfolding makes madeBy
   makes-made j = refl
-
-  pub children-grow : (n : ℕ) → childrenTo n m s ≡ growTo n (m .q) (s .stack) (level s) (top m s) (topMarks m s) (makes m s)
-  unfolding childrenTo growTo
-  children-grow zero = refl
-  children-grow (suc n) = rw (children-grow n)
 
   -- f says which unknowns make a child
   module _ {f : ℕ → Bool} (h : (j : ℕ) → j < m .q → f j ≡ makes m s j) where
@@ -52,8 +47,8 @@ module _ (p q : ℕ) (coefs : List ℤ) (limit : ℕ) (s : State) where
       made-by j l = made-same (m .q) (s .run .found) (listRow (m .q) s) (topMarks m s) e h j l ∙ sym (makes-made j)
 
     module _ {f : ℕ → Bool} (h : (j : ℕ) → j < m .q → f j ≡ makes m s j) where
-      pub grown-by : growTo (m .q) (m .q) (s .stack) (level s) t (topMarks m s) f ≡ childrenTo (m .q) m s
-      grown-by = grow-same (m .q) (m .q) (s .stack) (level s) (topMarks m s) e h ∙ sym (children-grow (m .q))
+      pub grown-by : writeChildren (m .q) (m .q) (s .stack) (level s) t (topMarks m s) f ≡ childrenTo (m .q) m s
+      grown-by = grow-same (m .q) (m .q) (s .stack) (level s) (topMarks m s) e h
 
       pub too-large-by : anyTo q (λ j. f j && eqb (t j) limit) ≡ tooLarge m s
       unfolding tooLarge

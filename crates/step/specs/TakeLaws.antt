@@ -15,7 +15,7 @@ use borrow.Author.Tests.{le-ltb}
 use Rattle.linear.specs.Tests.{allTo, anyTo, countTo}
 use Rattle.definitions.specs.System.{System, towards, isZero, solves}
 use Rattle.definitions.specs.Tables.{State, at, frozen}
-use Rattle.definitions.specs.Step.{top, makes, marksTo}
+use Rattle.definitions.specs.Step.{top, makes, marksTo, writeChildren}
 use Rattle.definitions.specs.Refusals.{stepLimit, tooLarge}
 use Rattle.laws.specs.MarkLaws.{frozen-none, marks-few}
 use Rattle.laws.specs.RefusalLaws.{RowInOrder}
@@ -29,7 +29,7 @@ use Rattle.step.specs.Rows.{Limited, Within}
 use Rattle.products.specs.Marks.{Marked, any-over, any-zero, is-false, marks-below, marks-zero, marks-counted, marks-frozen, marks-over}
 use Rattle.products.specs.Products.{Gram, Combined, Products, entry}
 use Rattle.products.specs.ProductLaws.{level-products, combined-less}
-use Rattle.step.specs.Grow.{childBy, growTo}
+use Rattle.step.specs.Grow.{childBy}
 use Rattle.step.specs.GrowLaws.{child-free, child-made, closed-makes-none}
 use Rattle.step.specs.Solved.{product-towards, vanish-solves}
 use Rattle.step.specs.StateLaws.{made-by, count-by, too-high-by, grown-by, too-large-by}
@@ -133,7 +133,7 @@ module _ {limit q : ℕ} {g : List ℤ} {stack list : List ℕ} {c : List ℤ} {
             steps = λ p coefs gram n early. step-large p q coefs limit (stateAt stack list height found n) early (sym (solved-by p coefs gram n) ∙ no) (sym (large-by p coefs gram n) ∙ l);
           }
 
-      pub taken-grown : anyTo q (λ j. child j && eqb (tuple t j) limit) ≡ false → {r : ℕ} {after : List ℕ} {c′ : List ℤ} → r ≡ height - 1 + countTo q (frozen made) → after ≡ growTo q q stack (height - 1) (tuple t) marks (frozen made) → Combined q g after r c′ → Taken limit q g stack list height found (Grown r) after list c′
+      pub taken-grown : anyTo q (λ j. child j && eqb (tuple t j) limit) ≡ false → {r : ℕ} {after : List ℕ} {c′ : List ℤ} → r ≡ height - 1 + countTo q (frozen made) → after ≡ writeChildren q q stack (height - 1) (tuple t) marks (frozen made) → Combined q g after r c′ → Taken limit q g stack list height found (Grown r) after list c′
       taken-grown none {r} {after} rise grow cached =
           record {
             cached = cached;
@@ -143,7 +143,7 @@ module _ {limit q : ℕ} {g : List ℤ} {stack list : List ℕ} {c : List ℤ} {
                 step-grown p q coefs limit k early (sym (solved-by p coefs gram n) ∙ no)
                 (sym (large-by p coefs gram n) ∙ none)
                 (sym (too-high-by p q coefs limit k f) ∙ le-ltb q (height - 1 + countTo q (frozen made)) made-few)
-                (grow ∙ ap (λ x. growTo q q stack (height - 1) (tuple t) x (frozen made)) row ∙ grown-by p q coefs limit k (h .same) f)
+                (grow ∙ ap (λ x. writeChildren q q stack (height - 1) (tuple t) x (frozen made)) row ∙ grown-by p q coefs limit k (h .same) f)
                 (rise ∙ ap (λ x. height - 1 + x) (count-by p q coefs limit k f));
           }
 

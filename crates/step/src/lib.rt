@@ -10,7 +10,8 @@ ghost use Rattle.definitions.specs.Tables.{at, frozen};
 ghost use Rattle.lists.specs.Rows.{tuple};
 ghost use Rattle.products.specs.Products.{Combined};
 ghost use Rattle.step.specs.Rows.{Limited, Within, part};
-ghost use Rattle.step.specs.Grow.{childBy, growTo};
+ghost use Rattle.definitions.specs.Step.{writeChildren};
+ghost use Rattle.step.specs.Grow.{childBy};
 ghost use Rattle.step.specs.Tried.{triedBy};
 ghost use Rattle.step.specs.Listing.{Enlisted};
 ghost use Rattle.step.specs.Pushed.{Parent, Others};
@@ -140,7 +141,7 @@ fn push(
     requires { ⌜ Parent q (now gram) (now stack) (now inner) level (tuple (now top)) marks × (q ≤ length (now top)) ⌝ }
     requires { ⌜ (level + countTo q (frozen made) ≤ q) × (made < 2 ^ q) ⌝ }
     ensures { λ r. ⌜ r ≡ level + countTo q (frozen made) ⌝ }
-    ensures { λ _. ⌜ now (stack .exit) ≡ growTo q q (now (stack .entry)) level (tuple (now (top .entry))) marks (frozen made) ⌝ }
+    ensures { λ _. ⌜ now (stack .exit) ≡ writeChildren q q (now (stack .entry)) level (tuple (now (top .entry))) marks (frozen made) ⌝ }
     ensures { λ r. ⌜ Combined q (now (gram .entry)) (now (stack .exit)) r (now (inner .exit)) ⌝ }
 {
     if made == 0 {
