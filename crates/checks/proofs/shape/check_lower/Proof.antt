@@ -12,7 +12,9 @@ use borrow.Author.Tests.{eq-eqb, ne-eqb}
 use Rattle.definitions.specs.Answers.{Check, refuseWith, refuseIf, _then_}
 use Rattle.definitions.specs.Refusals.{check5, check7, check8}
 use Rattle.definitions.specs.Input.{inputOf}
+use Rattle.definitions.specs.System.{mostComponent}
 use Rattle.checks.specs.CheckLaws.{refused-first, passed-first}
+use Rattle.checks.specs.Shape.{lowerAboveLimit}
 use Rattle.checks.proofs.shape.check_lower.Statement.{statement}
 use Rattle.checks.proofs.shape.check_lower.Tie as tie
 
@@ -59,13 +61,17 @@ last-decides c p last =
     passed-first last (c .before .enum-told .given .1) (c .before .before .before .check .ensures)
     ∙ right-length (now (startOf c .args .lower)) (startOf c .args .q) _ (e .if1 .left)
 
+-- that is the test of 8
+last-tests : (b : tie.After-lower-above-limit) → b .lower-above-limit .result ≡ lowerAboveLimit mostComponent (now (startOf b .args .lower))
+last-tests b = b .lower-above-limit .ensures
+
 returns-3 : tie.Need-returns-3
 unfolding refuseWith
-returns-3 c p = let b = c .before in rw (← last-decides b p (check8 (inputOf p (startOf b .args .q) (now (startOf b .args .coefs))) (now (startOf b .args .lower))), ← b .lower-above-limit .ensures, c .if2 .taken)
+returns-3 c p = let b = c .before in rw (← last-decides b p (check8 (inputOf p (startOf b .args .q) (now (startOf b .args .coefs))) (now (startOf b .args .lower))), ← last-tests b, c .if2 .taken)
 
 returns-4 : tie.Need-returns-4
 unfolding refuseWith
-returns-4 c p = let b = c .before in rw (← last-decides b p (check8 (inputOf p (startOf b .args .q) (now (startOf b .args .coefs))) (now (startOf b .args .lower))), ← b .lower-above-limit .ensures, c .if2 .left)
+returns-4 c p = let b = c .before in rw (← last-decides b p (check8 (inputOf p (startOf b .args .q) (now (startOf b .args .coefs))) (now (startOf b .args .lower))), ← last-tests b, c .if2 .left)
 
 pub check-lower-spec : {M : Type 1} → statement M
 check-lower-spec =
