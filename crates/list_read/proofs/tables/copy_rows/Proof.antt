@@ -43,7 +43,7 @@ loop-less c = omega arith
 loop-again : tie.Need-loop-again Inv-loop μ-loop
 loop-again c =
     let l = c .before .before .before .before .before .before in
-    (omega arith, c .before .before .copy-part .kept .0 ∙ l .loop .inv .1, c .before .before .copy-part .ensures _ (l .loop .inv .2))
+    (omega arith, c .before .before .copy-part .kept .1 .1 .1 .1 .0 ∙ l .loop .inv .1, c .before .before .copy-part .ensures _ (l .loop .inv .2))
 
 same-length : tie.Need-same-length Inv-loop μ-loop
 same-length c = c .before .loop .inv .1
