@@ -13,6 +13,7 @@ use calls::Refusal;
 use calls::Solutions;
 use calls::Steps;
 
+mod files; // files.rt: lists as files
 mod rows; // rows.rt: reading a row
 
 // The plain start.

@@ -58,14 +58,17 @@ changed : ℕ → ℕ → ℕ → ℕ → List ℕ
 unfolding encoded blockWord total
 changed k w last sum = encoded 256 (λ i. cond (eqb i k) w (cond (eqb i last) sum (fileWord small i)))
 
--- the sum of block 1, before its number; the number of block 0; a row count that asks for more blocks; a coefficient out of range
+-- the sum of block 1, before its number; the number of block 0; a row count that asks for more blocks; a coefficient out of range, also before a short
+-- table; filler
 refused-in-order :
     (checkedAs (changed 128 2 127 4294967292) 2 2 ≡ refuse 20 [])
     × (checkedAs (changed 0 1 127 4294967291) 2 2 ≡ refuse 21 [])
     × (checkedAs (changed 3 200 127 4294967093) 2 2 ≡ refuse 19 [])
     × (checkedAs (changed 129 10001 255 4294957292) 2 2 ≡ refuse 22 [])
+    × (checkedAs (changed 129 10001 255 4294957292) 1 2 ≡ refuse 22 [])
+    × (checkedAs (changed 133 7 255 4294967284) 2 2 ≡ refuse 22 [])
 unfolding checkedAs changed
-refused-in-order = (refl, refl, refl, refl)
+refused-in-order = (refl, refl, refl, refl, refl, refl)
 
 -- ---- the writer
 
