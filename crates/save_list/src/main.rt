@@ -1,7 +1,6 @@
 // Writes the file of a list (document 02, Job 5) to standard output: that of the map on standard input, solved as `basis` solves it. Where there is no
 // file, because the map is refused or the list is cut short by a refusal, it says on standard error what `basis` prints.
 ghost use Prim.Native.Nat.{_≤_};
-ghost use lib.ListN.{length};
 use calls::Answer;
 use calls::Record;
 use calls::Solutions;
@@ -33,19 +32,12 @@ fn saved(text: &[u8], file: &mut [u8]) -> usize
     let mut coefs = [0i32; 128];
     match map_text::read_map(text, &mut coefs) {
         Read::Refused(_) => 0,
-        Read::Map { p, q } => {
-            let n = times(p, q);
-            if 128 < n {
-                return 0;
-            }
-            solved(p, q, &coefs[..n], file)
-        }
+        Read::Map { p, q } => solved(p, q, coefs_first(&coefs, times(p, q)), file),
     }
 }
 
 // A plain start, and one continuing call.
 fn solved(p: usize, q: usize, coefs: &[i32], file: &mut [u8]) -> usize
-    requires { ⌜ length (now coefs) ≤ 128 ⌝ }
     ensures { λ r. ⌜ r ≤ 34816 ⌝ }
 {
     let mut stack = [0u32; 272];
@@ -59,23 +51,26 @@ fn solved(p: usize, q: usize, coefs: &[i32], file: &mut [u8]) -> usize
     let run = begun.run;
     let ended = walk::resumed(p, q, coefs, &mut stack, &mut list, run, 1000000);
     let answer = ended.answer;
-    let found = ended.run.found;
-    let numbers = times(found.0, q);
-    if 8192 < numbers {
-        return 0;
-    }
+    let last = ended.run;
+    let rows = list_first(&list, times(last.found.0, q));
     match answer {
-        Answer::Complete => written(p, q, coefs, &list[..numbers], 0, file),
-        Answer::Paused => written(p, q, coefs, &list[..numbers], 1, file),
+        Answer::Complete => written(p, q, coefs, rows, 0, file),
+        Answer::Paused => written(p, q, coefs, rows, 1, file),
         Answer::Started => 0,
         Answer::Refused(_) => 0,
     }
 }
 
+// The file is as long as its list asks for: at most 68 blocks.
 fn written(p: usize, q: usize, coefs: &[i32], rows: &[u32], ending: u32, file: &mut [u8]) -> usize
-    requires { ⌜ (length (now coefs) ≤ 128) × (length (now rows) ≤ 8192) ⌝ }
     ensures { λ r. ⌜ r ≤ 34816 ⌝ }
 {
+    if 128 < coefs.len() {
+        return 0;
+    }
+    if 8192 < rows.len() {
+        return 0;
+    }
     let end = 512 * ((coefs.len() + rows.len() + 125) / 126 + 1);
     if file.len() < end {
         return 0;
@@ -84,6 +79,25 @@ fn written(p: usize, q: usize, coefs: &[i32], rows: &[u32], ending: u32, file: &
         Write::Whole => end,
         Write::Refused(_) => 0,
     }
+}
+
+// The first n entries, or as many as there are.
+fn coefs_first(coefs: &[i32; 128], n: usize) -> &[i32] {
+    coefs_part(coefs, n)
+}
+
+fn coefs_part(s: &[i32], n: usize) -> &[i32] {
+    if n <= s.len() {
+        return &s[0..n];
+    }
+    s
+}
+
+fn list_first(s: &[u32], n: usize) -> &[u32] {
+    if n <= s.len() {
+        return &s[0..n];
+    }
+    s
 }
 
 // The product of numbers that are in range, and 0 of others.
