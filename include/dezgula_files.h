@@ -6,7 +6,8 @@
  * is the one that writing makes of what was read, and every file that is written is read, where the tables are long enough, and gives what was written.
  *
  * No call trusts what it is lent: all is checked before anything is written, and a refusal writes nothing. A table or a file comes as a pointer and the
- * number of its entries or bytes; the pointer is never null, not even with length 0. What a call may write to must not overlap anything else that it is lent. */
+ * number of its entries or bytes; the pointer is never null, not even with length 0. What a call may write to must not overlap anything else that it is
+ * lent. */
 #ifndef DEZGULA_FILES_H
 #define DEZGULA_FILES_H
 
@@ -28,7 +29,8 @@ enum {
     DEZGULA_FILE_LENGTH_WRONG = 19, /* writing: out_len is not the length of the file; reading: below one block, or not as many blocks as block 0 says */
     DEZGULA_FILE_SUM = 20,          /* the words of a block do not add to zero */
     DEZGULA_FILE_NUMBER = 21,       /* a block has another number than its place */
-    DEZGULA_FILE_RANGE = 22,        /* a word is out of range or filler is not zero; writing: a row count, component or ending out of range, or a row not whole */
+    DEZGULA_FILE_RANGE = 22,        /* a word is out of range or filler is not zero; writing: a row count, component or ending is out of range, or a row
+                                       is not whole */
     DEZGULA_FILE_TABLE_SHORT = 29,  /* reading: a table is too short for what the file holds */
     DEZGULA_FILE_WRITTEN = 110,     /* the file was written */
     DEZGULA_FILE_READ = 111         /* the file was read */

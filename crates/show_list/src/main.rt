@@ -4,7 +4,7 @@ use list_read::Read;
 
 fn main() {
     // one byte more than the longest file has, which tells a longer one
-    let mut file = [0u8; 267265];
+    let mut file = [0u8; 267777];
     let n = io::read_full(0, &mut file);
     let mut coefs = [0i32; 128];
     let mut list = [0u32; 65536];
