@@ -15,6 +15,7 @@ use calls::Check;
 use calls::Outcome;
 
 mod answers; // answers.rt: an answer as one number
+mod files; // files.rt: lists as files
 mod rows; // rows.rt: reading a row
 mod words; // words.rt: the run record as words
 

@@ -2,6 +2,7 @@
 
 pub mod boxes; // every tuple of a small box, by code that does not walk
 pub mod draw; // drawn numbers, maps and states
+pub mod files; // lists as files: the calls, wrapped, and the same in plain Rust
 pub mod library; // the library's calls, wrapped
 pub mod model; // the same calls, in plain Rust straight from the document
 

@@ -1,0 +1,29 @@
+// Files of lists (document 02, Job 5); include/dezgula_files.h says the same to C and Rust.
+ghost use mathlib.Core.Path.{_≡_};
+ghost use Rattle.list_form.specs.Writing.{writeList};
+ghost use Rattle.list_form.specs.Reading.{readFile};
+ghost use Rattle.list_write.specs.Answer.{listOf};
+ghost use Rattle.list_codes.specs.Codes.{writeTold, readTold};
+
+// Writes a list into `out`, which has the exact length.
+#[no_mangle]
+pub extern "C" fn dezgula_raw_write_list(
+    p: usize,
+    q: usize,
+    coefs: &[i32],
+    rows: &[u32],
+    ending: u32,
+    out: &mut [u8],
+) -> u64
+    ensures { λ a. ⌜ (a, now (out .exit)) ≡ writeTold (writeList (listOf p q (now (coefs .entry)) (now (rows .entry)) ending) (now (out .entry))) ⌝ }
+{
+    list_codes::write_list(p, q, coefs, rows, ending, out)
+}
+
+// Reads a file: the coefficients go to the beginning of `coefs`, the rows to the beginning of `list`.
+#[no_mangle]
+pub extern "C" fn dezgula_raw_read_list(file: &[u8], coefs: &mut [i32], list: &mut [u32]) -> u64
+    ensures { λ a. ⌜ (a, now (coefs .exit), now (list .exit)) ≡ readTold (readFile (now (file .entry)) (now (coefs .entry)) (now (list .entry))) ⌝ }
+{
+    list_codes::read_list(file, coefs, list)
+}

@@ -1,0 +1,67 @@
+-- `list_codes::read_list` meets its contract: each answer as its number. Assumes nothing.
+use denote.Ref.{now}
+use borrow.Author.Needs.{needs}
+use Rattle.list_codes.specs.CodeLaws.{read-refusal-fits, read-list-fits, read-refused-told, read-list-told}
+use Rattle.list_codes.proofs.read_list.Statement.{statement}
+use Rattle.list_codes.proofs.read_list.Tie as tie
+
+read-list-requires : tie.Need-read-list-requires
+read-list-requires c κs = search needs
+
+enum-known-why : tie.Need-enum-known-why
+enum-known-why c = search needs
+
+refusal-requires : tie.Need-refusal-requires
+refusal-requires c κs =
+    let r = c .before .before .before .before .before .before in
+    let a = r .before .before .before .before .before .args in
+    read-refusal-fits (now (a .file)) (now (a .coefs)) (now (a .list)) (r .read-list .ensures) (c .before .why .given .1)
+
+enum-known-p : tie.Need-enum-known-p
+enum-known-p c = search needs
+
+counts-requires : tie.Need-counts-requires
+counts-requires c κs =
+    let r = c .before .before .before .before .before .before in
+    let a = r .before .before .before .before .before .args in
+    read-list-fits (now (a .file)) (now (a .coefs)) (now (a .list)) (r .read-list .ensures) (c .before .p .given .1)
+
+same-length : tie.Need-same-length
+same-length c = search needs
+
+same-length-2 : tie.Need-same-length-2
+same-length-2 c = search needs
+
+returns : tie.Need-returns
+returns c =
+    let r = c .before .before .before .before .before .before .before in
+    let a = r .before .before .before .before .before .args in
+    read-refused-told (now (a .file)) (now (a .coefs)) (now (a .list)) (r .read-list .ensures) (c .before .before .why .given .1) (c .refusal .ensures)
+
+same-length-3 : tie.Need-same-length-3
+same-length-3 c = search needs
+
+same-length-4 : tie.Need-same-length-4
+same-length-4 c = search needs
+
+returns-2 : tie.Need-returns-2
+returns-2 c =
+    let r = c .before .before .before .before .before .before .before in
+    let a = r .before .before .before .before .before .args in
+    read-list-told (now (a .file)) (now (a .coefs)) (now (a .list)) (r .read-list .ensures) (c .before .before .p .given .1) (c .counts .ensures)
+
+pub read-list-spec : {M : Type 1} → statement M
+read-list-spec =
+    tie.close
+    (tie.spec
+    read-list-requires
+    enum-known-why
+    refusal-requires
+    enum-known-p
+    counts-requires
+    same-length
+    same-length-2
+    returns
+    same-length-3
+    same-length-4
+    returns-2)

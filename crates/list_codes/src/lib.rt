@@ -1,0 +1,61 @@
+// The calls on files with answers that are one number each, as C and Rust are told them: specs/Codes.antt.
+ghost use mathlib.Core.Path.{_≡_};
+ghost use Prim.Native.Nat.{_^_, _<_};
+ghost use Rattle.list_form.specs.Writing.{writeList};
+ghost use Rattle.list_form.specs.Reading.{read as listRead, readFile};
+ghost use Rattle.list_words.specs.Paper.{numberOf, valuesOf};
+ghost use Rattle.list_write.specs.Answer.{listOf};
+ghost use Rattle.list_codes.specs.Codes.{refusalCode, readCode, writeTold, readTold};
+use list_read::Read;
+use list_words::FileRefusal;
+use list_write::Write;
+
+// Writes a list into `out`, which has the exact length.
+pub fn write_list(
+    p: usize,
+    q: usize,
+    coefs: &[i32],
+    rows: &[u32],
+    ending: u32,
+    out: &mut [u8],
+) -> u64
+    ensures { λ a. ⌜ (a, now (out .exit)) ≡ writeTold (writeList (listOf p q (now (coefs .entry)) (now (rows .entry)) ending) (now (out .entry))) ⌝ }
+{
+    match list_write::write_list(p, q, coefs, rows, ending, out) {
+        Write::Whole => 110,
+        Write::Refused(why) => refusal(why),
+    }
+}
+
+// Reads a file: the coefficients go to the beginning of `coefs`, the rows to the beginning of `list`.
+pub fn read_list(file: &[u8], coefs: &mut [i32], list: &mut [u32]) -> u64
+    ensures { λ a. ⌜ (a, now (coefs .exit), now (list .exit)) ≡ readTold (readFile (now (file .entry)) (now (coefs .entry)) (now (list .entry))) ⌝ }
+{
+    match list_read::read_list(file, coefs, list) {
+        Read::Refused(why) => refusal(why),
+        Read::List {
+            p,
+            q,
+            found,
+            ending,
+        } => {
+            let rows = found.0;
+            counts(p, q, rows, ending)
+        }
+    }
+}
+
+// What was read, as one number.
+fn counts(p: usize, q: usize, rows: usize, ending: u32) -> u64
+    requires { ⌜ readCode (listRead p q rows ending) < 2 ^ 64 ⌝ }
+    ensures { λ a. ⌜ a ≡ readCode (listRead p q rows ending) ⌝ }
+{
+    111 + 256 * (p as u64 + 256 * (q as u64 + 256 * (ending as u64 + 256 * rows as u64)))
+}
+
+fn refusal(why: FileRefusal) -> u64
+    requires { ⌜ refusalCode (numberOf why) (valuesOf why) < 2 ^ 64 ⌝ }
+    ensures { λ a. ⌜ a ≡ refusalCode (numberOf why) (valuesOf why) ⌝ }
+{
+    list_words::number_of(why) + 256 * list_words::value_of(why) as u64
+}

@@ -1,0 +1,10 @@
+pub mod Deciding
+pub mod WordLaws
+pub mod SumLaws
+pub mod ListLaws
+pub mod Ranges
+pub mod RuleLaws
+pub mod ContentLaws
+pub mod AcceptedLaws
+pub mod WrittenLaws
+pub mod FileLaws

@@ -1,0 +1,46 @@
+-- `list_read::checking::check` meets its contract: the file, and then the tables. Assumes nothing.
+use mathlib.Core.Path.{_∙_}
+use denote.Ref.{now}
+use borrow.Author.Needs.{needs}
+use Rattle.list_laws.specs.RuleLaws.{file-in}
+use Rattle.list_words.specs.CheckLaws.{refused-first, passed-first, passes}
+use Rattle.list_read.specs.ReadLaws.{tableChecks, header-read, read-stages}
+use Rattle.list_read.proofs.checking.check.Statement.{statement}
+use Rattle.list_read.proofs.checking.check.Tie as tie
+
+check-blocks-requires : tie.Need-check-blocks-requires
+check-blocks-requires c κs = search needs
+
+enum-known-why : tie.Need-enum-known-why
+enum-known-why c = search needs
+
+enum-told : tie.Need-enum-told
+enum-told c = search needs
+
+check-tables-requires : tie.Need-check-tables-requires
+check-tables-requires c κs = header-read _ (file-in _ (passes (c .before .before .check-blocks .ensures) (c .enum-told .given .1)))
+
+returns : tie.Need-returns
+returns c =
+    let k = c .before .before .before in
+    let a = k .before .before .args in
+    refused-first (tableChecks (now (a .file)) (a .coefs) (a .list)) (c .before .why .given .1) (k .check-blocks .ensures) ∙ read-stages _ _ _
+
+returns-2 : tie.Need-returns-2
+returns-2 c =
+    let k = c .before .before .before in
+    let a = k .before .before .args in
+    c .check-tables .ensures
+    ∙ passed-first (tableChecks (now (a .file)) (a .coefs) (a .list)) (c .before .enum-told .given .1) (k .check-blocks .ensures)
+    ∙ read-stages _ _ _
+
+pub check-spec : {M : Type 1} → statement M
+check-spec =
+    tie.close
+    (tie.spec
+    check-blocks-requires
+    enum-known-why
+    enum-told
+    check-tables-requires
+    returns
+    returns-2)

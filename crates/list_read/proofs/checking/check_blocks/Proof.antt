@@ -1,0 +1,57 @@
+-- `list_read::checking::check_blocks` meets its contract: the length, block 0, and what comes after it. Assumes nothing.
+use mathlib.Core.Path.{_∙_}
+use borrow.Author.Needs.{needs}
+use Rattle.list_laws.specs.RuleLaws.{header-in}
+use Rattle.list_words.specs.CheckLaws.{refused-first, passed-first, passes}
+use Rattle.list_read.specs.ReadLaws.{laterChecks, too-short, file-stages}
+use Rattle.list_read.proofs.checking.check_blocks.Statement.{statement}
+use Rattle.list_read.proofs.checking.check_blocks.Tie as tie
+
+returns : tie.Need-returns
+returns c = too-short _ (c .if1 .taken)
+
+header-in-range-requires : tie.Need-header-in-range-requires
+header-in-range-requires c κs = search needs
+
+check-block-requires : tie.Need-check-block-requires
+check-block-requires c κs = search needs
+
+enum-known-why : tie.Need-enum-known-why
+enum-known-why c = search needs
+
+enum-told : tie.Need-enum-told
+enum-told c = search needs
+
+check-later-requires : tie.Need-check-later-requires
+check-later-requires c κs =
+    let k = c .before .before in
+    record {
+      long = k .before .before .if1 .left;
+      range = header-in _ (passes (rw (k .before .header-in-range .ensures) at (k .check-block .ensures)) (c .enum-told .given .1));
+    }
+
+returns-2 : tie.Need-returns-2
+returns-2 c =
+    let k = c .before .before .before in
+    refused-first (laterChecks _) (c .before .why .given .1) (rw (k .before .header-in-range .ensures) at (k .check-block .ensures))
+    ∙ file-stages _ (k .before .before .if1 .left)
+
+returns-3 : tie.Need-returns-3
+returns-3 c =
+    let k = c .before .before .before in
+    c .check-later .ensures
+    ∙ passed-first (laterChecks _) (c .before .enum-told .given .1) (rw (k .before .header-in-range .ensures) at (k .check-block .ensures))
+    ∙ file-stages _ (k .before .before .if1 .left)
+
+pub check-blocks-spec : {M : Type 1} → statement M
+check-blocks-spec =
+    tie.close
+    (tie.spec
+    returns
+    header-in-range-requires
+    check-block-requires
+    enum-known-why
+    enum-told
+    check-later-requires
+    returns-2
+    returns-3)

@@ -1,0 +1,5 @@
+pub mod Paper
+pub mod CheckLaws
+pub mod StoreLaws
+pub mod SignLaws
+pub mod RangeLaws

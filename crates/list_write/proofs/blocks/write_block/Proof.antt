@@ -1,0 +1,68 @@
+-- `list_write::blocks::write_block` meets its contract: the last word makes the sum zero. Assumes nothing.
+use Prim.Native.Nat.{_+_, _*_, _<_}
+use mathlib.Core.Path.{_≡_}
+use native.Mathlib.Omega.{arith}
+use denote.Ref.{now}
+use borrow.Author.Needs.{needs}
+use Rattle.list_form.specs.Form.{ListFile}
+use Rattle.list_form.specs.Words.{wordLimit}
+use Rattle.list_write.specs.Answer.{listOf}
+use Rattle.list_write.specs.BlockLaws.{begun-next, last-place}
+use Rattle.list_write.proofs.blocks.write_block.Statement.{statement}
+use Rattle.list_write.proofs.blocks.write_block.Tie as tie
+
+write-words-requires : tie.Need-write-words-requires
+write-words-requires c κs = search needs
+
+mul-wrapping-sum : tie.Need-mul-wrapping-sum
+mul-wrapping-sum c = search needs
+
+wrapping-sum-requires : tie.Need-wrapping-sum-requires
+wrapping-sum-requires c κs = search needs
+
+mul-put-word : tie.Need-mul-put-word
+mul-put-word c = search needs
+
+add-put-word : tie.Need-add-put-word
+add-put-word c = search needs
+
+wrapping-sub-u32-requires : tie.Need-wrapping-sub-u32-requires
+wrapping-sub-u32-requires c κs = search needs
+
+put-word-requires : tie.Need-put-word-requires
+put-word-requires c κs = search needs
+
+same-length : tie.Need-same-length
+same-length c = search needs
+
+abbrev list : tie.Start → ListFile
+list s = listOf (s .args .p) (s .args .q) (now (s .args .coefs)) (now (s .args .rows)) (s .args .ending)
+
+returns : tie.Need-returns
+returns c =
+    let put = c .before .before in
+    let negated = put .before in
+    let sum = negated .before .before in
+    let content = sum .before .before .before .before in
+    let s = content .before .before .before .before in
+    let b = s .args .b in
+    let e : 128 * (b + 1) ≡ 128 * b + 127 + 1 = omega arith in
+    let out = content .write-words .last .1 .1 .1 .1 .1 .1 .0 in
+    let w = negated .wrapping-sub-u32 .result in
+    let small : w < wordLimit = omega (arith, negated .wrapping-sub-u32 .ok) in
+    let last = last-place (list s) (s .pre .writable .list) b (s .pre .inside) out (sum .wrapping-sum .result) w (content .write-words .ensures) (sum .wrapping-sum .ensures) small (negated .wrapping-sub-u32 .ensures) in
+    rw e (begun-next (list s) (128 * b + 127) w out (put .put-word .last .0) (content .write-words .ensures) (put .put-word .ensures) last)
+
+pub write-block-spec : {M : Type 1} → statement M
+write-block-spec =
+    tie.close
+    (tie.spec
+    write-words-requires
+    mul-wrapping-sum
+    wrapping-sum-requires
+    mul-put-word
+    add-put-word
+    wrapping-sub-u32-requires
+    put-word-requires
+    same-length
+    returns)

@@ -1,0 +1,61 @@
+-- `list_write::checking::check_rows` meets its contract: what is in range does not depend on p and the coefficients. Assumes nothing.
+use Prim.Native.Nat.{ℕ}
+use mathlib.Core.Path.{sym, _∙_}
+use denote.Ref.{now}
+use borrow.Author.Needs.{needs}
+use borrow.Author.Tests.{not-true, not-false}
+use Rattle.list_form.specs.Form.{ListFile}
+use Rattle.list_form.specs.Writing.{listInRange}
+use Rattle.list_write.specs.Answer.{listOf}
+use Rattle.list_write.specs.CheckLaws.{out-of-range, wrong-length, all-passed}
+use Rattle.list_write.proofs.checking.check_rows.Statement.{statement}
+use Rattle.list_write.proofs.checking.check_rows.Tie as tie
+
+list-in-range-requires : tie.Need-list-in-range-requires
+list-in-range-requires c κs = search needs
+
+abbrev list : tie.Start → ℕ → ListFile
+list s p = listOf p (s .args .q) (now (s .args .coefs)) (now (s .args .rows)) (s .args .ending)
+
+returns : tie.Need-returns
+unfolding listInRange
+returns c p =
+    let s = c .before .before .before in
+    out-of-range (list s p) _ (sym (c .before .list-in-range .ensures) ∙ not-true _ (c .if1 .taken))
+
+add-later : tie.Need-add-later
+add-later c = search needs
+
+add-later-2 : tie.Need-add-later-2
+add-later-2 c = search needs
+
+add-if2 : tie.Need-add-if2
+add-if2 c = search needs
+
+mul-if2 : tie.Need-mul-if2
+mul-if2 c = search needs
+
+returns-2 : tie.Need-returns-2
+unfolding listInRange
+returns-2 c p =
+    let s = c .before .before .before .before in
+    wrong-length (list s p) _ (sym (c .before .before .list-in-range .ensures) ∙ not-false _ (c .before .if1 .left)) (c .if2 .taken)
+
+returns-3 : tie.Need-returns-3
+unfolding listInRange
+returns-3 c p =
+    let s = c .before .before .before .before in
+    all-passed (list s p) _ (sym (c .before .before .list-in-range .ensures) ∙ not-false _ (c .before .if1 .left)) (c .if2 .left)
+
+pub check-rows-spec : {M : Type 1} → statement M
+check-rows-spec =
+    tie.close
+    (tie.spec
+    list-in-range-requires
+    returns
+    add-later
+    add-later-2
+    add-if2
+    mul-if2
+    returns-2
+    returns-3)

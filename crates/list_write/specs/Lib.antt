@@ -1,0 +1,4 @@
+pub mod Answer
+pub mod CheckLaws
+pub mod BlockLaws
+pub mod CallLaws
