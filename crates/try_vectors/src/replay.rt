@@ -170,7 +170,7 @@ fn says(l: Line, a: ListingAnswer) -> bool {
 fn same_text(out: &[u8; ROOM], text: &[u32]) -> bool {
     let mut i = 0;
     while i < ROOM {
-        if out[i] as u32 != expected(text, i) {
+        if wide(out[i]) != expected(text, i) {
             return false;
         }
         i += 1;
@@ -182,7 +182,11 @@ fn expected(text: &[u32], i: usize) -> u32 {
     if i < text.len() {
         return text[i];
     }
-    BEFORE as u32
+    wide(BEFORE)
+}
+
+fn wide(b: u8) -> u32 {
+    b as u32
 }
 
 // The first n entries, or all where there are fewer.
