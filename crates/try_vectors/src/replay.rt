@@ -133,15 +133,9 @@ fn order(l: Line) -> bool {
     says(l, a) && same_text(&out, first(&tuple, l.tuple_length))
 }
 
-fn listed(
-    l: Line,
-    coefs: &[i32],
-    list: &[u32],
-    out: &mut [u8; ROOM],
-    room: usize,
-) -> ListingAnswer {
+fn listed(l: Line, coefs: &[i32], list: &[u32], out: &mut [u8], room: usize) -> ListingAnswer {
     let x = l.operands;
-    if ROOM < room {
+    if out.len() < room {
         return ListingAnswer::Written(0);
     }
     listing::listed(
