@@ -72,13 +72,18 @@ enum {
     DEZGULA_STACK_FULL = 13,     /* a child would need a row above q: never met, as 6 shuts it out */
     DEZGULA_STEPS_AT_LIMIT = 14, /* 10^12 steps are taken */
 
-    DEZGULA_OUTPUT_SHORT = 29, /* dezgula_row: out is shorter than a row */
+    /* Refused by the calls of single-file maps, after all others before the walk. Nothing lent was changed. */
+    DEZGULA_COLUMN = 26,      /* a column is neither one 1, one -1 and otherwise zeros, nor all zeros; the place is the first such column */
+    DEZGULA_NOT_MINIMAL = 30, /* dezgula_listing: a row is no minimal solution; the place is the first such row */
+
+    DEZGULA_OUTPUT_SHORT = 29, /* dezgula_row: out is shorter than a row; dezgula_listing, last: out is shorter than the listing */
 
     /* Not refused. */
     DEZGULA_STARTED = 100, /* a start has written its rows and its record */
     DEZGULA_PAUSED = 101,  /* the budget is used up; a further call goes on from here */
     DEZGULA_ROW = 102,     /* dezgula_row: the row was copied */
-    DEZGULA_NO_ROW = 103   /* dezgula_row: there is no such row */
+    DEZGULA_NO_ROW = 103,  /* dezgula_row: there is no such row */
+    DEZGULA_WRITTEN = 104  /* dezgula_listing: the listing was written; the place is the number of its bytes */
 };
 
 /* An answer is a number in its low 8 bits and a place in the others. */
@@ -87,7 +92,8 @@ static inline unsigned dezgula_number(uint64_t answer)
     return (unsigned)(answer & 0xff);
 }
 
-/* The place that DEZGULA_COEFFICIENT comes with, from 1, row by row; 0 for all other answers. */
+/* The place that DEZGULA_COEFFICIENT comes with, from 1, row by row; the column of DEZGULA_COLUMN and the row of DEZGULA_NOT_MINIMAL, from 1; the bytes of
+ * DEZGULA_WRITTEN; 0 for all other answers. */
 static inline uint64_t dezgula_place(uint64_t answer)
 {
     return answer >> 8;
@@ -110,11 +116,14 @@ static inline const char *dezgula_sentence(uint64_t answer)
     case DEZGULA_COMPONENT: return "A component would pass 1,000,000.";
     case DEZGULA_STACK_FULL: return "The stack would need another row.";
     case DEZGULA_STEPS_AT_LIMIT: return "The run has taken 1,000,000,000,000 steps.";
-    case DEZGULA_OUTPUT_SHORT: return "The space for the row is too short.";
+    case DEZGULA_COLUMN: return "A column is neither one 1, one -1 and zeros, nor all zeros.";
+    case DEZGULA_NOT_MINIMAL: return "A row of the list is no minimal solution.";
+    case DEZGULA_OUTPUT_SHORT: return "The space for the output is too short.";
     case DEZGULA_STARTED: return "The run has started.";
     case DEZGULA_PAUSED: return "The run is paused, as its budget is used up.";
     case DEZGULA_ROW: return "The row was copied.";
     case DEZGULA_NO_ROW: return "There is no such row.";
+    case DEZGULA_WRITTEN: return "The listing was written.";
     default: return "This is no answer of the library.";
     }
 }
@@ -168,6 +177,15 @@ uint64_t dezgula_raw_resume(size_t p, size_t q, const int32_t *coefs, size_t coe
                             size_t list_len, uint64_t *record, size_t record_len, uint64_t budget) DEZGULA_LOOK_AT_IT;
 
 uint64_t dezgula_raw_row(const uint32_t *list, size_t list_len, size_t q, size_t found, size_t n, uint32_t *out, size_t out_len) DEZGULA_LOOK_AT_IT;
+
+uint64_t dezgula_raw_start_single_file(size_t p, size_t q, const int32_t *coefs, size_t coefs_len, uint32_t *stack, size_t stack_len, uint32_t *list,
+                                       size_t list_len, uint64_t *record, size_t record_len) DEZGULA_LOOK_AT_IT;
+
+uint64_t dezgula_raw_resume_single_file(size_t p, size_t q, const int32_t *coefs, size_t coefs_len, uint32_t *stack, size_t stack_len, uint32_t *list,
+                                        size_t list_len, uint64_t *record, size_t record_len, uint64_t budget) DEZGULA_LOOK_AT_IT;
+
+uint64_t dezgula_raw_listing(size_t p, size_t q, const int32_t *coefs, size_t coefs_len, const uint32_t *list, size_t list_len, size_t found, uint8_t *out,
+                             size_t out_len) DEZGULA_LOOK_AT_IT;
 
 /* ---- the calls */
 
@@ -249,6 +267,39 @@ DEZGULA_LOOK_AT_IT static inline uint64_t dezgula_row(const dezgula_system *syst
 {
     return dezgula_raw_row((const uint32_t *)dezgula_lent(run->list), dezgula_lent_length(run->list, run->list_len), system->q, run->record.found.count, n,
                            (uint32_t *)dezgula_lent(out), dezgula_lent_length(out, out_len));
+}
+
+/* ---- single-file maps: each column has one 1, one -1 and otherwise zeros, or is all zeros. Every component of a minimal solution is 0 or 1 there. */
+
+/* A plain start that refuses other maps: as dezgula_start, and with 26 after 7. */
+DEZGULA_LOOK_AT_IT static inline uint64_t dezgula_start_single_file(const dezgula_system *system, dezgula_run *run)
+{
+    uint64_t words[DEZGULA_RECORD_LENGTH];
+    dezgula_pack(run->record, words);
+    uint64_t answer = dezgula_raw_start_single_file(DEZGULA_LENT(system, run, words));
+    run->record = dezgula_unpack(words);
+    return answer;
+}
+
+/* A continuing call that refuses other maps: as dezgula_resume, and with 26 after 7. */
+DEZGULA_LOOK_AT_IT static inline uint64_t dezgula_resume_single_file(const dezgula_system *system, dezgula_run *run, uint64_t budget)
+{
+    uint64_t words[DEZGULA_RECORD_LENGTH];
+    dezgula_pack(run->record, words);
+    uint64_t answer = dezgula_raw_resume_single_file(DEZGULA_LENT(system, run, words), budget);
+    run->record = dezgula_unpack(words);
+    return answer;
+}
+
+/* Writes a line for each row of the run's list to out, as "1 2 3 order 1 3 2" and a newline: its unknowns rising, then in the order in which each has its 1
+ * where the next has its -1, back to the first, from the lowest on. A row of dezgula_start_single_file and its continuing calls always has such an order.
+ * Answers DEZGULA_WRITTEN, or refuses with 1, 2, 3, 6 (the found count is above the capacity), 7, 26, 30 or 29, in this order. Reads the run's list and found
+ * count only. Written: dezgula_place bytes, with no 0 after them, and what stood past them stays. Refused: writes nothing. */
+DEZGULA_LOOK_AT_IT static inline uint64_t dezgula_listing(const dezgula_system *system, const dezgula_run *run, uint8_t *out, size_t out_len)
+{
+    return dezgula_raw_listing(system->p, system->q, (const int32_t *)dezgula_lent(system->coefs), dezgula_lent_length(system->coefs, system->coefs_len),
+                               (const uint32_t *)dezgula_lent(run->list), dezgula_lent_length(run->list, run->list_len), run->record.found.count,
+                               (uint8_t *)dezgula_lent(out), dezgula_lent_length(out, out_len));
 }
 
 #undef DEZGULA_LENT

@@ -349,7 +349,7 @@ static void read_rows(void)
 
 static void say_sentences(void)
 {
-    static const unsigned numbers[] = {0, 1, 2, 3, 4, 5, 6, 7, 8, 11, 12, 13, 14, 29, 100, 101, 102, 103};
+    static const unsigned numbers[] = {0, 1, 2, 3, 4, 5, 6, 7, 8, 11, 12, 13, 14, 26, 29, 30, 100, 101, 102, 103, 104};
     const char *other = dezgula_sentence(99);
     for (size_t i = 0; i < sizeof numbers / sizeof *numbers; i++) {
         const char *sentence = dezgula_sentence((uint64_t)3 << 8 | numbers[i]);
@@ -357,6 +357,36 @@ static void say_sentences(void)
         for (size_t k = 0; k < i; k++) expect(strcmp(sentence, dezgula_sentence(numbers[k])) != 0, "of its own");
         printf("%u: %s\n", numbers[i], sentence);
     }
+}
+
+/* Activity 1 moves from tray 3 to tray 1, activity 2 from 2 to 3, activity 3 from 1 to 2. */
+static const int32_t in_a_ring[] = {1, 0, -1, 0, -1, 1, -1, 1, 0};
+static const dezgula_system ring = {3, 3, in_a_ring, 9};
+
+static void list_single_file_maps(void)
+{
+    tables t, before;
+    uint8_t out[24];
+    static const char line[] = "1 2 3 order 1 3 2\n";
+    lend(&t, LIST);
+    expect(dezgula_start_single_file(&ring, &t.run) == DEZGULA_STARTED, "it starts");
+    expect(dezgula_resume_single_file(&ring, &t.run, 1000) == DEZGULA_COMPLETE, "a ring is solved");
+    memset(out, 0xa5, sizeof out);
+    uint64_t answer = dezgula_listing(&ring, &t.run, out, sizeof out);
+    printf("the listing of a ring: %.*s", (int)dezgula_place(answer), (const char *)out);
+    expect(dezgula_number(answer) == DEZGULA_WRITTEN && dezgula_place(answer) == strlen(line), "it is written");
+    expect(memcmp(out, line, strlen(line)) == 0 && out[strlen(line)] == 0xa5, "one line, and what stood past it stays");
+
+    expect(dezgula_listing(&ring, &t.run, out, strlen(line) - 1) == DEZGULA_OUTPUT_SHORT, "one byte less is too short");
+    t.list[0] = 2;
+    expect(dezgula_listing(&ring, &t.run, out, sizeof out) == (DEZGULA_NOT_MINIMAL | 1u << 8), "row 1 is no minimal solution");
+    expect(dezgula_listing(&equal, &t.run, out, sizeof out) == (DEZGULA_COLUMN | 1u << 8), "one equation has no such column");
+    lend(&t, LIST);
+    before = t;
+    expect_unchanged("a start on another map", dezgula_start_single_file(&example, &t.run), DEZGULA_COLUMN | 1u << 8, &before, &t);
+    expect_start(&example, &t);
+    before = t;
+    expect_unchanged("going on with another map", dezgula_resume_single_file(&example, &t.run, 9), DEZGULA_COLUMN | 1u << 8, &before, &t);
 }
 
 int main(void)
@@ -371,6 +401,7 @@ int main(void)
     meet_disorder();
     meet_refusals_of_the_search();
     read_rows();
+    list_single_file_maps();
     say_sentences();
     printf("%u checks, no surprise\n", checked);
     return 0;

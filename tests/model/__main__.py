@@ -10,10 +10,11 @@ import drawn
 import edges
 import faults
 import series
+import single_file
 from build import with_
-from text import HEAD, call_line, view_line
+from text import HEAD, call_line, order_line, view_line
 
-KINDS = ("start", "from", "resume", "view")
+KINDS = ("start", "from", "resume", "view", "begin", "go", "order")
 DRAWN = 6000
 CALLS_OF_A_RUN = 60
 
@@ -52,6 +53,16 @@ def lines(counts):
     yield from runs(counts)
     yield "# rows asked of the reader"
     yield from (view_line(*view) for view in series.views())
+    yield "# calls of single-file maps"
+    for call in single_file.calls():
+        line, answer, _ = call_line(call)
+        counts[answer[:2]] += 1
+        yield line
+    yield "# listings of single-file maps"
+    for listing in single_file.listings():
+        line, answer = order_line(*listing)
+        counts[answer[:2]] += 1
+        yield line
     yield "# drawn calls"
     for n in range(DRAWN):
         line, answer, _ = call_line(drawn.drawn(n))

@@ -35,7 +35,7 @@ class Refusal(Exception):
 def answered(call):
     """The answer to a call. Its tables and record are changed as the call changes them."""
     try:
-        return {"start": start, "from": start_from, "resume": resume}[call.kind](call)
+        return {"start": start, "from": start_from, "resume": resume, "begin": begin, "go": go}[call.kind](call)
     except Refusal as refusal:
         return refusal.answer
 
@@ -174,3 +174,28 @@ def view(q, table, found, n):
     if not 1 <= n <= min(found, len(table) // q):
         return ("Yes",), []
     return ("Yes",), table[(n - 1) * q : n * q]
+
+
+# Job 12 of document 02: "This profile has a plain start and continuing call with 26", "after 7".
+
+
+def check_profile(p, q, coefs):
+    """"each column has one 1, one -1 and otherwise zeros, or is all zeros\""""
+    for j in range(q):
+        if sorted(x for x in coefs[j::q] if x != 0) not in ([], [-1, 1]):
+            raise Refusal(26, j + 1)
+
+
+def begin(c):
+    check_shape(c)
+    check_coefficients(c)
+    check_profile(c.p, c.q, c.coefs)
+    return start(c)
+
+
+def go(c):
+    check_shape(c)
+    check_order(c)
+    check_coefficients(c)
+    check_profile(c.p, c.q, c.coefs)
+    return resume(c)

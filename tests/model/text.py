@@ -1,10 +1,12 @@
 """The text of vectors: a line for each call, with what must come of it."""
 
 from calls import answered, view
+from single_file import listed
 
 HEAD = """# Calls and what must come of each, written by tests/model, which reads document 01 by itself. Made anew by tests/vectors; never edited.
-# A line is a kind of call with its numbers: start p q; from p q; resume p q budget; view q found n.
-# Then come, each after its letter: c the coefficients; t the lower bound, or the row that is shown; s the stack; l the list; r height, found and steps.
+# A line is a kind of call with its numbers: start p q; from p q; resume p q budget; view q found n; of single-file maps begin p q; go p q budget;
+# order p q found room.
+# Then come, each after its letter: c the coefficients; t the lower bound, or the row that is shown, or the bytes that are written; s the stack; l the list; r height, found and steps.
 # Then the answer; and after it what has changed: s4 1 0 says that entries 4 and 5 of the stack, from 0, are 1 and 0 now. All else is as before.
 """
 
@@ -32,7 +34,7 @@ def call_line(call):
     """The line of a call, and the call as it leaves its tables and record."""
     after = call.copy()
     answer = answered(after)
-    head = [call.kind, call.p, call.q] + ([call.budget] if call.kind == "resume" else [])
+    head = [call.kind, call.p, call.q] + ([call.budget] if call.kind in ("resume", "go") else [])
     words = [*map(str, head), *numbers("c", call.coefs), *numbers("t", call.lower), *numbers("s", call.stack), *numbers("l", call.list)]
     words += [*numbers("r", call.record), *map(str, answer)]
     for key, before, now in (("r", call.record, after.record), ("s", call.stack, after.stack), ("l", call.list, after.list)):
@@ -43,3 +45,10 @@ def call_line(call):
 def view_line(q, table, found, n):
     answer, row = view(q, table, found, n)
     return " ".join([f"view {q} {found} {n}", *numbers("t", row), *numbers("l", table), *map(str, answer)])
+
+
+def order_line(p, q, coefs, table, found, room):
+    """The line of a listing."""
+    answer, text = listed(p, q, coefs, table, found, room)
+    words = [f"order {p} {q} {found} {room}", *numbers("c", coefs), *numbers("t", text), *numbers("l", table), *map(str, answer)]
+    return " ".join(words), answer

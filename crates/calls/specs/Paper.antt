@@ -11,7 +11,7 @@ use Rattle.calls.specs.declared.Record.{Record}
 use Rattle.calls.specs.declared.Solutions.{Solutions}
 use Rattle.calls.specs.declared.Steps.{Steps}
 use Rattle.calls.specs.declared.Refusal.{Refusal}
-use Rattle.calls.specs.declared.Refusal.the-variants.{Equations, Unknowns, CoefficientCount, StackLength, BoundLength, OutOfOrder, Coefficient, BoundRange, ListFull, ComponentLimit, StackFull, StepLimit}
+use Rattle.calls.specs.declared.Refusal.the-variants.{Equations, Unknowns, CoefficientCount, StackLength, BoundLength, OutOfOrder, Coefficient, BoundRange, ListFull, ComponentLimit, StackFull, StepLimit, Column}
 use Rattle.calls.specs.declared.Answer.{Answer}
 use Rattle.calls.specs.declared.Answer.the-variants.{Started, Complete, Paused, Refused}
 use Rattle.calls.specs.declared.Outcome.{Outcome}
@@ -42,8 +42,9 @@ numberOf ListFull = 11
 numberOf ComponentLimit = 12
 numberOf StackFull = 13
 numberOf StepLimit = 14
+numberOf (Column column) = 26
 
--- the values that it comes with: 7 has the place
+-- the values that it comes with: 7 has the place, and 26 the column
 abbrev pub valuesOf : Refusal → List ℕ
 valuesOf Equations = []
 valuesOf Unknowns = []
@@ -57,6 +58,7 @@ valuesOf ListFull = []
 valuesOf ComponentLimit = []
 valuesOf StackFull = []
 valuesOf StepLimit = []
+valuesOf (Column column) = column ∷ []
 
 -- the first of them, and 0 where there is none
 abbrev pub value : List ℕ → ℕ

@@ -1,4 +1,4 @@
-// What a caller hands over and gets back, and document 01's number of each refusal.
+// What a caller hands over and gets back, and the number of each refusal in documents 01 and 02.
 ghost use mathlib.Core.Path.{_≡_};
 ghost use Rattle.calls.specs.Paper.{numberOf, valuesOf, value, recordOf, refuses};
 
@@ -34,7 +34,7 @@ impl Record {
     }
 }
 
-// Why a call is refused; specs/Paper.antt has document 01's number for each.
+// Why a call is refused; specs/Paper.antt has the documents' number for each.
 pub enum Refusal {
     Equations,
     Unknowns,
@@ -48,6 +48,7 @@ pub enum Refusal {
     ComponentLimit,
     StackFull,
     StepLimit,
+    Column(usize),
 }
 
 // What a call answers.
@@ -80,7 +81,7 @@ pub fn refused(why: Refusal, r: Record) -> Outcome
     }
 }
 
-// Document 01's number of a refusal.
+// The documents' number of a refusal.
 pub fn number_of(why: Refusal) -> u64
     ensures { λ n. ⌜ n ≡ numberOf why ⌝ }
 {
@@ -97,10 +98,11 @@ pub fn number_of(why: Refusal) -> u64
         Refusal::ComponentLimit => 12,
         Refusal::StackFull => 13,
         Refusal::StepLimit => 14,
+        Refusal::Column(_) => 26,
     }
 }
 
-// The value that it comes with: the place for 7, and 0 for all others.
+// The value that it comes with: the place for 7, the column for 26, and 0 for all others.
 pub fn value_of(why: Refusal) -> usize
     ensures { λ n. ⌜ n ≡ value (valuesOf why) ⌝ }
 {
@@ -117,5 +119,6 @@ pub fn value_of(why: Refusal) -> usize
         Refusal::ComponentLimit => 0,
         Refusal::StackFull => 0,
         Refusal::StepLimit => 0,
+        Refusal::Column(column) => column,
     }
 }

@@ -22,7 +22,7 @@ use Rattle.calls.specs.Paper.{answerOf, outcomeOf}
 use Rattle.calls.specs.declared.Outcome as values
 use Rattle.dezgula.specs.Codes.{refusalCode, code}
 
-abbrev Fits : Answer → Type 0
+abbrev pub Fits : Answer → Type 0
 Fits a = code a < 2 ^ 64
 
 -- ---- checks
@@ -36,12 +36,12 @@ unfolding refuseWith
 small-with true n values h = h
 small-with false n values h = tt
 
-small-then : (c d : Check) → Small c → (c ≡ go → Small d) → Small (c then d)
+pub small-then : (c d : Check) → Small c → (c ≡ go → Small d) → Small (c then d)
 unfolding _then_
 small-then (refuse n values) d a b = a
 small-then go d a b = b refl
 
-small-first : (n k : ℕ) (f : ℕ → Bool) → n < 256 → k ≤ 128 → Small (refuseFirst n k f)
+pub small-first : (n k : ℕ) (f : ℕ → Bool) → n < 256 → k ≤ 128 → Small (refuseFirst n k f)
 unfolding refuseFirst
 small-first n zero f h l = tt
 small-first n (suc k) f h l =
@@ -76,7 +76,7 @@ unfolding check7
 small-range m l = small-first 7 (length (m .coefs)) _ (omega arith) l
 
 module _ (m : Input) (s : State) where
-  small-start : Small (startChecks m s)
+  pub small-start : Small (startChecks m s)
   unfolding startChecks
   small-start = small-shape m s (check7 m) (small-range m)
 
@@ -102,7 +102,7 @@ module _ (m : Input) (s : State) where
 
 -- ---- calls
 
-fits-checked : (c : Check) (s : State) (work : State → Outcome State) → Small c → Fits (work s .answer) → Fits (checked c s work .answer)
+pub fits-checked : (c : Check) (s : State) (work : State → Outcome State) → Small c → Fits (work s .answer) → Fits (checked c s work .answer)
 unfolding checked
 fits-checked (refuse n values) s work h w = h
 fits-checked go s work h w = w

@@ -4,3 +4,5 @@ pub mod Words
 pub mod WordLaws
 pub mod Rows
 pub mod RowLaws
+pub mod SingleFile
+pub mod SingleFileLaws

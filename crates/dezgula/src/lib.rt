@@ -11,12 +11,15 @@ ghost use Rattle.calls.specs.Paper.{answerOf};
 ghost use Rattle.dezgula.specs.Codes.{code};
 ghost use Rattle.dezgula.specs.Words.{told, wordsLeft, startWords, startFromWords, resumeWords};
 ghost use Rattle.dezgula.specs.Rows.{rowTold};
+ghost use Rattle.single_file.specs.Listing.{listingCall};
+ghost use Rattle.dezgula.specs.SingleFile.{singleStartWords, singleResumeWords, listingTold};
 use calls::Check;
 use calls::Outcome;
 
 mod answers; // answers.rt: an answer as one number
 mod files; // files.rt: lists as files
 mod rows; // rows.rt: reading a row
+mod single; // single.rt: single-file maps
 mod words; // words.rt: the run record as words
 
 // The plain start.
@@ -97,6 +100,54 @@ pub extern "C" fn dezgula_raw_row(
     ensures { λ a. ⌜ (a, now (out .exit)) ≡ rowTold q (now (list .entry)) found n (now (out .entry)) ⌝ }
 {
     rows::tell(list, q, found, n, out)
+}
+
+// The plain start of a single-file map.
+#[no_mangle]
+pub extern "C" fn dezgula_raw_start_single_file(
+    p: usize,
+    q: usize,
+    coefs: &[i32],
+    stack: &mut [u32],
+    list: &mut [u32],
+    run: &mut [u64],
+) -> u64
+    ensures { λ a. ⌜ (a, (now (stack .exit), (now (list .exit), now (run .exit)))) ≡
+        told (now (run .entry)) (singleStartWords (now (run .entry)) (inputOf p q (now (coefs .entry))) (now (stack .entry)) (now (list .entry))) ⌝ }
+{
+    single::start(p, q, coefs, stack, list, run)
+}
+
+// The continuing call of a single-file map.
+#[no_mangle]
+pub extern "C" fn dezgula_raw_resume_single_file(
+    p: usize,
+    q: usize,
+    coefs: &[i32],
+    stack: &mut [u32],
+    list: &mut [u32],
+    run: &mut [u64],
+    budget: u64,
+) -> u64
+    ensures { λ a. ⌜ (a, (now (stack .exit), (now (list .exit), now (run .exit)))) ≡
+        told (now (run .entry)) (singleResumeWords budget (now (run .entry)) (inputOf p q (now (coefs .entry))) (now (stack .entry)) (now (list .entry))) ⌝ }
+{
+    single::resume(p, q, coefs, stack, list, run, budget)
+}
+
+// The listing of a single-file map.
+#[no_mangle]
+pub extern "C" fn dezgula_raw_listing(
+    p: usize,
+    q: usize,
+    coefs: &[i32],
+    list: &[u32],
+    found: usize,
+    out: &mut [u8],
+) -> u64
+    ensures { λ a. ⌜ (a, now (out .exit)) ≡ listingTold (listingCall (inputOf p q (now (coefs .entry))) (now (list .entry)) found (now (out .entry))) ⌝ }
+{
+    single::listed(p, q, coefs, list, found, out)
 }
 
 // Whether a start from a lower bound is answered by its own checks, as it is where the lower bound is refused before the words of the record are looked at.

@@ -100,10 +100,10 @@ from-outside : (a b n : ℕ) → Outside a b n → T (not (between a b n))
 from-outside a b n o =
     not-T (between a b n) (λ h. let (l, k) = and-parts (leb a n) (leb n b) h in elim o [ inl x ↦ omega (arith, leb→le a n l) | inr x ↦ omega (arith, leb→le n b k) ])
 
-decides-outside : (r a b n : ℕ) → Decides (refuseIf (not (between a b n)) r) (rule r (Outside a b n))
+pub decides-outside : (r a b n : ℕ) → Decides (refuseIf (not (between a b n)) r) (rule r (Outside a b n))
 decides-outside r a b n = decides-if (not (between a b n)) r (Outside a b n) (to-outside a b n) (from-outside a b n)
 
-decides-unequal : (r k n : ℕ) → Decides (refuseIf (not (eqb k n)) r) (rule r (k ≢ n))
+pub decides-unequal : (r k n : ℕ) → Decides (refuseIf (not (eqb k n)) r) (rule r (k ≢ n))
 decides-unequal r k n =
     decides-if (not (eqb k n)) r (k ≢ n)
     (λ h e. T-not (eqb k n) h (rw e (eqb-refl n)))
@@ -112,7 +112,7 @@ decides-unequal r k n =
 decides-short : (m : System) (s : State) → Decides (check4 m s) (rule 4 (length (s .stack) < m .q * (m .q + 1)))
 decides-short m s = decides-if _ 4 _ (ltb→lt (length (s .stack)) (m .q * (m .q + 1))) (lt→ltb (length (s .stack)) (m .q * (m .q + 1)))
 
-decides-range : (i : Input) → Decides (check7 i) (rangeRule i)
+pub decides-range : (i : Input) → Decides (check7 i) (rangeRule i)
 unfolding check7
 decides-range i =
     decides-first 7 (length (i .coefs)) (λ k. outOfRange (getD (i .coefs) k (pos 0))) _

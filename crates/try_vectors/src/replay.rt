@@ -9,7 +9,11 @@ use calls::Record;
 use calls::Refusal;
 use calls::Solutions;
 use calls::Steps;
+use listing::ListingAnswer;
 use solver::Readable;
+
+// What stands in an output space before: a byte that no text has.
+const BEFORE: u8 = 170;
 
 // Whether the call of a line comes to what the line says. One whose tables have no room is not made.
 pub fn agrees(l: Line) -> bool {
@@ -22,7 +26,8 @@ pub fn agrees(l: Line) -> bool {
     }
     let kind = l.kind;
     match kind {
-        b's' | b'f' | b'r' => run(l),
+        b's' | b'f' | b'r' | b'b' | b'g' => run(l),
+        b'o' => order(l),
         b'v' => view(l),
         _ => false,
     }
@@ -83,6 +88,8 @@ fn made(l: Line, coefs: &[i32], lower: &[u32], stack: &mut [u32], list: &mut [u3
     match kind {
         b's' => starts::started(p, q, coefs, stack, list, r),
         b'f' => starts::started_from(p, q, coefs, stack, list, r, lower),
+        b'b' => single_file_calls::started(p, q, coefs, stack, list, r),
+        b'g' => single_file_calls::resumed(p, q, coefs, stack, list, r, x[2]),
         _ => walk::resumed(p, q, coefs, stack, list, r, x[2]),
     }
 }
@@ -106,6 +113,74 @@ fn view(l: Line) -> bool {
         Readable::Yes => l.answer == b'Y',
         Readable::Refused(why) => refuses(l, why),
     }
+}
+
+// The listing of a single-file map: p, q, the solutions found and the length of the space; the tuple is the text that is to be written.
+fn order(l: Line) -> bool {
+    let x = l.operands;
+    let coefs = l.coefs;
+    let list = l.list;
+    let tuple = l.tuple;
+    let room = (x[3] % 321) as usize;
+    let mut out = [BEFORE; ROOM];
+    let a = listed(
+        l,
+        first_signed(&coefs, l.coefs_length),
+        first(&list, l.list_length),
+        &mut out,
+        room,
+    );
+    says(l, a) && same_text(&out, first(&tuple, l.tuple_length))
+}
+
+fn listed(l: Line, coefs: &[i32], list: &[u32], out: &mut [u8], room: usize) -> ListingAnswer {
+    let x = l.operands;
+    if out.len() < room {
+        return ListingAnswer::Written(0);
+    }
+    listing::listed(
+        x[0] as usize,
+        x[1] as usize,
+        coefs,
+        list,
+        Solutions(x[2] as usize),
+        &mut out[0..room],
+    )
+}
+
+fn says(l: Line, a: ListingAnswer) -> bool {
+    let x = l.answered;
+    match a {
+        ListingAnswer::Written(n) => l.answer == b'W' && n as u64 == x[0],
+        ListingAnswer::Refused(why) => {
+            l.answer == b'R'
+                && listing::number_of(why) == x[0]
+                && listing::value_of(why) as u64 == x[1]
+        }
+    }
+}
+
+// Whether a space holds a text, and what stood there before past it.
+fn same_text(out: &[u8; ROOM], text: &[u32]) -> bool {
+    let mut i = 0;
+    while i < ROOM {
+        if wide(out[i]) != expected(text, i) {
+            return false;
+        }
+        i += 1;
+    }
+    true
+}
+
+fn expected(text: &[u32], i: usize) -> u32 {
+    if i < text.len() {
+        return text[i];
+    }
+    wide(BEFORE)
+}
+
+fn wide(b: u8) -> u32 {
+    b as u32
 }
 
 // The first n entries, or all where there are fewer.

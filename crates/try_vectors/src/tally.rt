@@ -67,6 +67,9 @@ pub fn report(t: Tally) {
     by_kind(b"from", t, b'f');
     by_kind(b"resume", t, b'r');
     by_kind(b"view", t, b'v');
+    by_kind(b"begin", t, b'b');
+    by_kind(b"go", t, b'g');
+    by_kind(b"order", t, b'o');
     line(b"calls", t.tried, t.agreed);
 }
 

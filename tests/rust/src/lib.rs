@@ -45,6 +45,13 @@ pub enum Shown {
     Refused(u8),
 }
 
+/// What the listing of a single-file map answers: the bytes written, or a refusal.
+#[derive(Clone, Copy, Debug, PartialEq, Eq, PartialOrd, Ord)]
+pub enum Listed {
+    Written(usize),
+    Refused { number: u8, value: usize },
+}
+
 impl System {
     /// The map with these rows.
     pub fn of(rows: &[&[i32]]) -> System {

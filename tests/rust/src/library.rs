@@ -1,6 +1,6 @@
 //! The library's C interface (include/dezgula.h), wrapped in safe functions: a slice's pointer is never null, and `&mut` keeps what is lent apart.
 
-use crate::{Answer, Shown, State, System};
+use crate::{Answer, Listed, Shown, State, System};
 
 extern "C" {
     fn dezgula_raw_start(
@@ -43,6 +43,45 @@ extern "C" {
         record: *mut u64,
         record_len: usize,
         budget: u64,
+    ) -> u64;
+
+    fn dezgula_raw_start_single_file(
+        p: usize,
+        q: usize,
+        coefs: *const i32,
+        coefs_len: usize,
+        stack: *mut u32,
+        stack_len: usize,
+        list: *mut u32,
+        list_len: usize,
+        record: *mut u64,
+        record_len: usize,
+    ) -> u64;
+
+    fn dezgula_raw_resume_single_file(
+        p: usize,
+        q: usize,
+        coefs: *const i32,
+        coefs_len: usize,
+        stack: *mut u32,
+        stack_len: usize,
+        list: *mut u32,
+        list_len: usize,
+        record: *mut u64,
+        record_len: usize,
+        budget: u64,
+    ) -> u64;
+
+    fn dezgula_raw_listing(
+        p: usize,
+        q: usize,
+        coefs: *const i32,
+        coefs_len: usize,
+        list: *const u32,
+        list_len: usize,
+        found: usize,
+        out: *mut u8,
+        out_len: usize,
     ) -> u64;
 
     fn dezgula_raw_row(list: *const u32, list_len: usize, q: usize, found: usize, n: usize, out: *mut u32, out_len: usize) -> u64;
@@ -102,6 +141,50 @@ pub fn resume(m: &System, s: &mut State, budget: u64) -> Answer {
     })
 }
 
+pub fn start_single_file(m: &System, s: &mut State) -> Answer {
+    decode(unsafe {
+        dezgula_raw_start_single_file(
+            m.p,
+            m.q,
+            m.coefs.as_ptr(),
+            m.coefs.len(),
+            s.stack.as_mut_ptr(),
+            s.stack.len(),
+            s.list.as_mut_ptr(),
+            s.list.len(),
+            s.record.as_mut_ptr(),
+            s.record.len(),
+        )
+    })
+}
+
+pub fn resume_single_file(m: &System, s: &mut State, budget: u64) -> Answer {
+    decode(unsafe {
+        dezgula_raw_resume_single_file(
+            m.p,
+            m.q,
+            m.coefs.as_ptr(),
+            m.coefs.len(),
+            s.stack.as_mut_ptr(),
+            s.stack.len(),
+            s.list.as_mut_ptr(),
+            s.list.len(),
+            s.record.as_mut_ptr(),
+            s.record.len(),
+            budget,
+        )
+    })
+}
+
+pub fn listing(m: &System, list: &[u32], found: usize, out: &mut [u8]) -> Listed {
+    let answer = unsafe { dezgula_raw_listing(m.p, m.q, m.coefs.as_ptr(), m.coefs.len(), list.as_ptr(), list.len(), found, out.as_mut_ptr(), out.len()) };
+    let value = (answer >> 8) as usize;
+    match answer & 0xff {
+        104 => Listed::Written(value),
+        number => Listed::Refused { number: number as u8, value },
+    }
+}
+
 pub fn row(list: &[u32], q: usize, found: usize, n: usize, out: &mut [u32]) -> Shown {
     match unsafe { dezgula_raw_row(list.as_ptr(), list.len(), q, found, n, out.as_mut_ptr(), out.len()) } {
         102 => Shown::Row,
@@ -116,7 +199,7 @@ fn decode(answer: u64) -> Answer {
         (0, 0) => Answer::Complete,
         (100, 0) => Answer::Started,
         (101, 0) => Answer::Paused,
-        (number @ 1..=14, value) => Answer::Refused { number: number as u8, value },
+        (number @ (1..=14 | 26), value) => Answer::Refused { number: number as u8, value },
         _ => panic!("no such answer: {answer:#x}"),
     }
 }

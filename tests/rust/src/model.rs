@@ -1,6 +1,6 @@
 //! Document 01 in plain Rust, in its own order. Images are computed anew for each row, and nothing is shared with the library.
 
-use crate::{Answer, Shown, State, System, FOUND, HEIGHT, STEPS};
+use crate::{Answer, Listed, Shown, State, System, FOUND, HEIGHT, STEPS};
 
 const COMPONENT_LIMIT: u32 = 1_000_000;
 const STEP_LIMIT: u64 = 1_000_000_000_000;
@@ -186,4 +186,92 @@ pub fn row(list: &[u32], q: usize, found: usize, n: usize, out: &mut [u32]) -> S
     }
     out[..q].copy_from_slice(row);
     Shown::Row
+}
+
+// ---- single-file maps: document 02, job 12
+
+fn column(m: &System, j: usize) -> Vec<i32> {
+    m.coefs.chunks(m.q).map(|row| row[j]).collect()
+}
+
+fn check_profile(m: &System) -> Check {
+    let fits = |j: usize| {
+        let mut others: Vec<i32> = column(m, j).into_iter().filter(|&c| c != 0).collect();
+        others.sort_unstable();
+        others.is_empty() || others == [-1, 1]
+    };
+    match (0..m.q).find(|&j| !fits(j)) {
+        Some(j) => Err(Answer::Refused { number: 26, value: j + 1 }),
+        None => Ok(()),
+    }
+}
+
+pub fn start_single_file(m: &System, s: &mut State) -> Answer {
+    let checks = || check_shape(m, s).and_then(|()| check_record(s)).and_then(|()| check_coefficients(m)).and_then(|()| check_profile(m));
+    match checks() {
+        Err(refusal) => refusal,
+        Ok(()) => start(m, s),
+    }
+}
+
+pub fn resume_single_file(m: &System, s: &mut State, budget: u64) -> Answer {
+    let checks = || check_shape(m, s).and_then(|()| check_order(m, s)).and_then(|()| check_coefficients(m)).and_then(|()| check_profile(m));
+    match checks() {
+        Err(refusal) => refusal,
+        Ok(()) => resume(m, s, budget),
+    }
+}
+
+/// Whether a row is a minimal solution, by trying every row of 0 and 1 at or below it: one that has a larger component has such a row below it.
+fn is_minimal(m: &System, row: &[u32]) -> bool {
+    let solves = |x: &[u32]| image(m, x).iter().all(|&y| y == 0);
+    if row.iter().all(|&x| x == 0) || !solves(row) {
+        return false;
+    }
+    let named: Vec<usize> = (0..m.q).filter(|&j| row[j] > 0).collect();
+    (1..1_u32 << named.len()).all(|parts| {
+        let part: Vec<u32> = (0..m.q).map(|j| u32::from(named.iter().position(|&k| k == j).is_some_and(|n| parts >> n & 1 == 1))).collect();
+        part == row || !solves(&part)
+    })
+}
+
+/// The order that begins with the lowest: from each unknown on to the one that has its -1 where this one has its 1.
+fn order(m: &System, row: &[u32]) -> Vec<usize> {
+    let named: Vec<usize> = (0..m.q).filter(|&j| row[j] > 0).collect();
+    let mut order = vec![named[0]];
+    while order.len() < named.len() {
+        let here = column(m, order[order.len() - 1]);
+        order.push(*named.iter().find(|&&k| here.iter().zip(column(m, k)).any(|(&c, other)| c == 1 && other == -1)).expect("a next one"));
+    }
+    order
+}
+
+fn line(m: &System, row: &[u32]) -> String {
+    let names = |unknowns: Vec<usize>| unknowns.iter().map(|j| (j + 1).to_string()).collect::<Vec<_>>().join(" ");
+    format!("{} order {}\n", names((0..m.q).filter(|&j| row[j] > 0).collect()), names(order(m, row)))
+}
+
+fn try_listing(m: &System, list: &[u32], found: usize, out: &mut [u8]) -> Result<usize, Answer> {
+    refuse_if(!(1..=8).contains(&m.p), 1)?;
+    refuse_if(!(1..=16).contains(&m.q), 2)?;
+    refuse_if(m.coefs.len() != m.p * m.q, 3)?;
+    refuse_if(found > list.len() / m.q, 6)?;
+    check_coefficients(m)?;
+    check_profile(m)?;
+    let rows = || list.chunks(m.q).take(found);
+    if let Some(n) = rows().position(|row| !is_minimal(m, row)) {
+        return Err(Answer::Refused { number: 30, value: n + 1 });
+    }
+    let text: String = rows().map(|row| line(m, row)).collect();
+    refuse_if(text.len() > out.len(), 29)?;
+    out[..text.len()].copy_from_slice(text.as_bytes());
+    Ok(text.len())
+}
+
+pub fn listing(m: &System, list: &[u32], found: usize, out: &mut [u8]) -> Listed {
+    match try_listing(m, list, found, out) {
+        Ok(bytes) => Listed::Written(bytes),
+        Err(Answer::Refused { number, value }) => Listed::Refused { number, value },
+        Err(other) => panic!("no refusal: {other:?}"),
+    }
 }

@@ -1,0 +1,58 @@
+// What the listing looks at before the rows: refusals 1, 2, 3, 6, 7 and 26.
+ghost use mathlib.Core.Path.{_≡_};
+ghost use Prim.Native.Nat.{_*_, _≤_};
+ghost use lib.ListN.{length};
+ghost use Rattle.definitions.specs.Answers.{_then_};
+ghost use Rattle.definitions.specs.Refusals.{check7};
+ghost use Rattle.definitions.specs.Input.{inputOf};
+ghost use Rattle.calls.specs.Paper.{checkOf};
+ghost use Rattle.circuits.specs.Rows.{mapOf};
+ghost use Rattle.single_file.specs.Profile.{check26};
+ghost use Rattle.listing.specs.Passes.{countChecks, mapChecks};
+use calls::Check;
+use calls::Refusal;
+
+pub fn check(p: usize, q: usize, coefs: &[i32], list: usize, found: usize) -> Check
+    ensures { λ c. ⌜ checkOf c ≡ mapChecks (inputOf p q (now (coefs .entry))) list found ⌝ }
+{
+    match check_counts(p, q, coefs.len(), list, found) {
+        Check::Refuse(why) => Check::Refuse(why),
+        Check::Pass => check_columns(p, q, coefs),
+    }
+}
+
+// Refusals 1, 2, 3 and 6, from the numbers of coefficients and of entries of the list table.
+fn check_counts(p: usize, q: usize, coefs: usize, list: usize, found: usize) -> Check
+    ensures { λ c. ⌜ checkOf c ≡ countChecks p q coefs list found ⌝ }
+{
+    if p < 1 {
+        return Check::Refuse(Refusal::Equations);
+    }
+    if 8 < p {
+        return Check::Refuse(Refusal::Equations);
+    }
+    if q < 1 {
+        return Check::Refuse(Refusal::Unknowns);
+    }
+    if 16 < q {
+        return Check::Refuse(Refusal::Unknowns);
+    }
+    if coefs != p * q {
+        return Check::Refuse(Refusal::CoefficientCount);
+    }
+    if list / q < found {
+        return Check::Refuse(Refusal::OutOfOrder);
+    }
+    Check::Pass
+}
+
+// Refusals 7 and 26.
+fn check_columns(p: usize, q: usize, coefs: &[i32]) -> Check
+    requires { ⌜ p * q ≤ length (now coefs) ⌝ }
+    ensures { λ c. ⌜ checkOf c ≡ (check7 (inputOf p q (now (coefs .entry))) then check26 (mapOf p q (now (coefs .entry)))) ⌝ }
+{
+    match checks::coefficients::check(coefs) {
+        Check::Refuse(why) => Check::Refuse(why),
+        Check::Pass => circuits::columns::check(p, q, coefs),
+    }
+}

@@ -1,0 +1,7 @@
+pub mod Returns
+pub mod Visits
+pub mod Circuits
+pub mod ProfileLaws
+pub mod Promises
+pub mod RuleLaws
+pub mod Runs
