@@ -106,18 +106,27 @@ static inline uint32_t below_zero(const int64_t *product, size_t q)
     return bits;
 }
 
-/* Whether a listed row is at or below the tuple. Most rows end at their first component; out of line, its loops have the registers to themselves. */
+static inline bool at_or_below(const uint32_t *row, uint32_t first, const uint32_t *tuple, size_t q)
+{
+    if (first < row[0]) return false;
+    for (size_t j = 1; j < q; j++)
+        if (tuple[j] < row[j]) return false;
+    return true;
+}
+
+/* Whether a listed row is at or below the tuple: the newest rows first, or, where OLDEST_FIRST is defined, the oldest. Most rows end at their first component;
+ * out of line, its loops have the registers to themselves. */
 static __attribute__((noinline)) bool covered(const uint32_t *list, size_t found, size_t q, const uint32_t *tuple)
 {
     const uint32_t *end = list + found * q;
     uint32_t first = tuple[0];
-    for (; list != end; list += q) {
-        if (first < list[0]) continue;
-        size_t j = 1;
-        for (; j < q; j++)
-            if (tuple[j] < list[j]) break;
-        if (j == q) return true;
-    }
+#ifdef OLDEST_FIRST
+    for (const uint32_t *row = list; row != end; row += q)
+        if (at_or_below(row, first, tuple, q)) return true;
+#else
+    for (const uint32_t *row = end; row != list;)
+        if (at_or_below(row -= q, first, tuple, q)) return true;
+#endif
     return false;
 }
 

@@ -2,6 +2,7 @@
  *
  *   bench REPETITIONS MAP BUDGET [MAP BUDGET ..]   a table of ns a step, best of REPETITIONS, the three taking turns
  *   bench WHO MAP BUDGET                           one run of one of them, for a tool that counts; prints the steps
+ *   bench REPETITIONS                              a table of one call whose work is the check on a list of 4,096 rows
  *
  * WHO is baseline, native or library. A run is a plain start and one continuing call with BUDGET steps. Before anything is timed, all three must agree:
  * answer, record, stack table and list table; and so must the library when it is paused after every 1,000 steps. */
@@ -157,8 +158,66 @@ static void measure(const map *m, int repetitions)
     fflush(stdout);
 }
 
+/* ---- the check on the list: 4,096 rows, only one of them at or below the tuples that are tried */
+
+enum { ROWS = 4096, CALLS = 200 };
+
+static const kind orders[KINDS] = {
+    {"oldest", oldest_start, oldest_resume},
+    {"baseline", baseline_start, baseline_resume},
+    {"library", dezgula_raw_start, dezgula_raw_resume},
+};
+
+/* x1 = x2 + .. + xq from the tuple 1 0 .. 0: every unknown but the first is tried, and the row 1 0 .. 0 stops it; rows 2 0 .. 0 do not. */
+static map one_row_stops(size_t q, size_t place, run *r)
+{
+    map m = {.name = "list", .p = 1, .q = q, .coefs = {1}, .budget = 1};
+    for (size_t j = 1; j < q; j++) m.coefs[j] = -1;
+    memset(r, 0, sizeof *r);
+    r->stack[0] = 1;
+    for (size_t k = 0; k < ROWS; k++) r->list[k * q] = k == place ? 1 : 2;
+    return m;
+}
+
+static double one_step(const kind *k, const map *m, run *r)
+{
+    struct timespec from, to;
+    clock_gettime(CLOCK_PROCESS_CPUTIME_ID, &from);
+    for (unsigned i = 0; i < CALLS; i++) {
+        r->record[0] = 1, r->record[1] = ROWS, r->record[2] = 0;
+        go(k, m, r, m->budget);
+    }
+    clock_gettime(CLOCK_PROCESS_CPUTIME_ID, &to);
+    if (r->answer != DEZGULA_COMPLETE || r->record[0] != 0 || steps(r) != 1) fail("is not stopped", k->name);
+    return ((double)(to.tv_sec - from.tv_sec) * 1e9 + (double)(to.tv_nsec - from.tv_nsec)) / CALLS;
+}
+
+static void measure_list(size_t q, size_t place, const char *which, int repetitions)
+{
+    double best[KINDS] = {1e300, 1e300, 1e300};
+    for (int r = 0; r < repetitions; r++)
+        for (size_t i = 0; i < KINDS; i++) {
+            map m = one_row_stops(q, place, &runs[i]);
+            double ns = one_step(&orders[i], &m, &runs[i]);
+            if (ns < best[i]) best[i] = ns;
+        }
+    printf("| 1 × %zu | %s | %.0f | %.0f | %.0f | %.3f |\n", q, which, best[0], best[1], best[2], best[2] / best[0]);
+}
+
+static void measure_lists(int repetitions)
+{
+    static const size_t sizes[] = {4, 8, 16};
+    puts("| size | the only row at or below | oldest first in C, ns a call | newest first in C | library | library / oldest first |");
+    puts("|---|---|---:|---:|---:|---:|");
+    for (size_t i = 0; i < sizeof sizes / sizeof *sizes; i++) {
+        measure_list(sizes[i], 0, "first", repetitions);
+        measure_list(sizes[i], ROWS - 1, "last", repetitions);
+    }
+}
+
 int main(int count, char **words)
 {
+    if (count == 2) return measure_lists(atoi(words[1])), 0;
     if (count < 4 || count % 2 != 0) fail("see the head of bench.c for its words", "usage");
     for (size_t i = 0; i < KINDS; i++)
         if (strcmp(words[1], kinds[i].name) == 0) {

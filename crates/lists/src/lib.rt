@@ -8,23 +8,21 @@ ghost use Rattle.lists.specs.Rows.{tuple};
 
 pub mod rows; // rows.rt: rows copied
 
-// Whether one of the first `found` rows of w numbers is at or below `t`. Most rows fail at their first component, so that of `t` is kept at hand: the
-// compiler then takes the first turn of the inner loop out of it.
+// Whether one of the first `found` rows of w numbers is at or below `t`. The newest rows come first: it is they that most often are. Most rows fail at
+// their first component, so that of `t` is kept at hand: the compiler then takes the first turn of the inner loop out of it.
 pub fn covered(list: &[u32], found: usize, w: usize, t: &[u32]) -> bool
     requires { ⌜ (0 < w) × (w ≤ length (now t)) × (found * w ≤ length (now list)) ⌝ }
     ensures { λ r. ⌜ r ≡ system.covered w found (at (now (list .entry)) w) (tuple (now (t .entry))) ⌝ }
 {
     let first = t[0];
-    let end = found * w;
     let mut verdict = false;
-    let mut next: usize = 0;
-    'rows: while next < end {
-        let base = next;
-        next += w;
+    let mut rest = found * w;
+    'rows: while 0 < rest {
+        rest -= w;
         let mut j = 0;
         while j < w {
             let x = if j == 0 { first } else { t[j] };
-            if x < list[base + j] {
+            if x < list[rest + j] {
                 continue 'rows;
             }
             j += 1;

@@ -3,7 +3,7 @@
 use mathlib.Core.Path.{_≡_, refl, sym, _∙_}
 use mathlib.Core.Bool.{true, false}
 use mathlib.Core.Logic.{inl, inr}
-use Prim.Native.Nat.{_+_, _*_, _-_, _≤_, _<_}
+use Prim.Native.Nat.{_+_, _-_, _≤_}
 use native.Mathlib.Nat.{le-antisymm}
 use native.Mathlib.Omega.{arith}
 use denote.Ref.{now}
@@ -14,41 +14,37 @@ use borrow.Author.Tests.{le-leb, lt-leb}
 use Rattle.linear.specs.Tests.{allTo}
 use Rattle.linear.specs.LoopLaws.{all-next}
 use Rattle.lists.specs.Rows.{tuple}
-use Rattle.lists.specs.Search.{Passed, passed-none, passed-fits, passed-next, passed-covers, passed-end}
+use Rattle.lists.specs.Search.{Left, left-all, left-covers, left-fits, left-long, left-next, left-none}
 use Rattle.lists.proofs.covered.Statement.{statement}
 use Rattle.lists.proofs.covered.Tie as tie
 
 abbrev Inv-loop : tie.InvT-loop
-Inv-loop list found w t first end verdict next base j₀ j = (j ≤ w) × (base + w ≤ length list) × (allTo j (λ k. leb (getD list (base + k) 0) (tuple t k)) ≡ true)
+Inv-loop list found w t first verdict rest j₀ j = (j ≤ w) × (rest + w ≤ length list) × (allTo j (λ k. leb (getD list (rest + k) 0) (tuple t k)) ≡ true)
 
 abbrev μ-loop : tie.MeasureT-loop
-μ-loop list found w t first end verdict next base j₀ j = w - j
+μ-loop list found w t first verdict rest j₀ j = w - j
 
 abbrev Inv-rows : tie.InvT-rows
-Inv-rows list found w t first end verdict₀ next₀ verdict next = (verdict ≡ false) × (end ≡ found * w) × Passed w list (tuple t) found next
+Inv-rows list found w t first verdict₀ rest₀ verdict rest = (verdict ≡ false) × Left w list (tuple t) found rest
 
 abbrev μ-rows : tie.MeasureT-rows
-μ-rows list found w t first end verdict₀ next₀ verdict next = end - next
+μ-rows list found w t first verdict₀ rest₀ verdict rest = rest
 
 shared-slice-read-first : tie.Need-shared-slice-read-first Inv-loop μ-loop Inv-rows μ-rows
 shared-slice-read-first c = search needs
 
-mul-end : tie.Need-mul-end Inv-loop μ-loop Inv-rows μ-rows
-mul-end c = search needs
+mul-rest : tie.Need-mul-rest Inv-loop μ-loop Inv-rows μ-rows
+mul-rest c = search needs
 
 rows-holds : tie.Need-rows-holds Inv-loop μ-loop Inv-rows μ-rows
-rows-holds c = (refl, refl, passed-none _ _ _ _)
+rows-holds c = (refl, left-all _ _ _ _)
 
--- another row is there
-more : (r : tie.In-rows Inv-loop μ-loop Inv-rows μ-rows) → r .before .rows .next < r .before .before .before .args .found * r .before .before .before .args .w
-more r = rw (r .before .rows .inv .1) at (r .rows-test .taken)
-
-add-next : tie.Need-add-next Inv-loop μ-loop Inv-rows μ-rows
-add-next c = omega (arith, c .before .rows .inv .1, passed-fits _ _ _ _ (c .before .rows .inv .2) (more c))
+sub-rest : tie.Need-sub-rest Inv-loop μ-loop Inv-rows μ-rows
+sub-rest c = left-long _ _ _ _ (c .before .rows .inv .1) (c .rows-test .taken)
 
 loop-holds : tie.Need-loop-holds Inv-loop μ-loop Inv-rows μ-rows
 unfolding allTo
-loop-holds c = (search needs, omega (arith, passed-fits _ _ _ _ (c .before .rows .inv .2) (more c)), refl)
+loop-holds c = (search needs, omega (arith, left-fits _ _ _ _ (c .before .rows .inv .1) (c .rows-test .taken)), refl)
 
 -- the number that is compared is component j
 component : (c : tie.Joined1 Inv-loop μ-loop Inv-rows μ-rows) → c .if1 .x ≡ tuple (now (c .before .before .before .before .before .before .args .t)) (c .before .before .loop .j)
@@ -70,7 +66,9 @@ shared-slice-read-if2 : tie.Need-shared-slice-read-if2 Inv-loop μ-loop Inv-rows
 shared-slice-read-if2 c = search needs
 
 rows-less : tie.Need-rows-less Inv-loop μ-loop Inv-rows μ-rows
-rows-less c = search needs
+rows-less c =
+    let r = c .before .before .before .before .before in
+    omega (arith, left-long _ _ _ _ (r .before .rows .inv .1) (r .rows-test .taken), r .before .before .before .pre .0)
 
 rows-again : tie.Need-rows-again Inv-loop μ-loop Inv-rows μ-rows
 rows-again c =
@@ -78,7 +76,7 @@ rows-again c =
     let l = b .before in
     let r = l .before .before in
     let a = r .before in
-    (a .rows .inv .0, a .rows .inv .1, passed-next _ _ _ _ (a .rows .inv .2) (more r) _ (l .loop-test .taken) (lt-leb _ _ (rw (component b) at (c .if2 .taken))))
+    (a .rows .inv .0, left-next _ _ _ _ (a .rows .inv .1) (r .rows-test .taken) _ (l .loop-test .taken) (lt-leb _ _ (rw (component b) at (c .if2 .taken))))
 
 add-j : tie.Need-add-j Inv-loop μ-loop Inv-rows μ-rows
 add-j c = search needs
@@ -94,14 +92,14 @@ loop-again c =
 returns : tie.Need-returns Inv-loop μ-loop Inv-rows μ-rows
 returns c =
     let a = c .before in
-    a .rows .inv .0 ∙ sym (passed-end _ _ _ _ (a .rows .inv .2) (a .before .before .pre .0) (rw (a .rows .inv .1) at (c .rows-test .left)))
+    a .rows .inv .0 ∙ sym (left-none _ _ _ _ (a .rows .inv .1) (a .before .before .pre .0) (c .rows-test .left))
 
 returns-2 : tie.Need-returns-2 Inv-loop μ-loop Inv-rows μ-rows
 returns-2 c =
     let l = c .before in
     let r = l .before in
     let all = rw (le-antisymm (l .loop .inv .0) (c .loop-test .left)) at (l .loop .inv .2) in
-    sym (passed-covers _ _ _ _ (r .before .rows .inv .2) (more r) all)
+    sym (left-covers _ _ _ _ (r .before .rows .inv .1) (r .rows-test .taken) all)
 
 pub covered-spec : {M : Type 1} → statement M
 covered-spec =
@@ -112,9 +110,9 @@ covered-spec =
     Inv-rows
     μ-rows
     shared-slice-read-first
-    mul-end
+    mul-rest
     rows-holds
-    add-next
+    sub-rest
     loop-holds
     mul-x
     shared-slice-read-x
