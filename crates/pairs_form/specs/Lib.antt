@@ -8,3 +8,4 @@ pub mod Calls
 pub mod Rules
 pub mod Invariant
 pub mod Runs
+pub mod Examples
