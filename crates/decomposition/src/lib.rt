@@ -1,0 +1,1 @@
+// The minimal solutions make up every solution: see specs/Loops.antt. No code.

@@ -1,0 +1,70 @@
+-- The promises of a listing by sums of pairs, in one place: open this file first. Assumes nothing.
+use mathlib.Core.Path.{_≡_}
+use mathlib.Core.List.{List}
+use Prim.Native.Nat.{ℕ, _≤_, _<_}
+use native.Mathlib.Nat.{le-div-iff-mul-le}
+use lib.IntN.{ℤ}
+use lib.ListN.{length}
+use Rattle.linear.specs.Combinations.{Enumerates, SumOf}
+use Rattle.linear.specs.Systems.{Solution}
+use Rattle.linear.specs.Tuples.{Same}
+use Rattle.definitions.specs.Answers.{complete}
+use Rattle.definitions.specs.Input.{inputOf, systemOf}
+use Rattle.definitions.specs.System.{MinimalSolution, System, coef}
+use Rattle.theorems.specs.Listed.{Exactly}
+use Rattle.decomposition.specs.Loops.{loops-fewest, loops-make-up}
+use Rattle.pairs_form.specs.Calls.{equations, resume}
+use Rattle.pairs_form.specs.Done.{among}
+use Rattle.pairs_form.specs.Equations.{Holding}
+use Rattle.pairs_form.specs.Method.{Outcome, Work, row}
+use Rattle.pairs_form.specs.Runs.{Runs, continued, roomOf, run-complete, run-members, runs-some, runs-sound}
+
+abbrev system : (p q : ℕ) (coefs : List ℤ) → System
+system p q coefs = systemOf (inputOf p q coefs)
+
+-- what a continuing call comes to, in tables beside the working table of n and k entries
+abbrev pub resumed : (p q : ℕ) (coefs : List ℤ) (n k budget : ℕ) → Work → Outcome
+resumed p q coefs n k budget s = resume p q coefs (roomOf q n k s) budget s
+
+module _ (p q : ℕ) (coefs : List ℤ) where
+  -- Complete: the rows, as a sequence of tuples, are the minimal solutions of the map, each once and no other;
+  pub complete-lists : {s : Work} → Runs p q coefs s → (n k budget : ℕ) → resumed p q coefs n k budget s .answer ≡ complete
+      → Enumerates q (MinimalSolution (system p q coefs)) (resumed p q coefs n k budget s .work .rows) (row q (resumed p q coefs n k budget s .work))
+  complete-lists r n k budget e = run-complete p q coefs r n k budget e
+
+  -- and they lie in the working table, as those of a complete run of the walk do in its list.
+  pub complete-exactly : {s : Work} → Runs p q coefs s → (n k budget : ℕ) → resumed p q coefs n k budget s .answer ≡ complete
+      → Exactly q (MinimalSolution (system p q coefs)) (resumed p q coefs n k budget s .work .table) (resumed p q coefs n k budget s .work .rows)
+  complete-exactly {s} r n k budget e =
+      let w = resumed p q coefs n k budget s .work in
+      let c = complete-lists r n k budget e in
+      let fits = runs-sound p q coefs (continued r n k budget) .fits in
+      record {
+        part = record { room = le-div-iff-mul-le {k = q} {x = w .rows} {y = length (w .table)} (runs-some p q coefs r) .1 fits; only = c .only; once = c .once };
+        all = c .all;
+      }
+
+  -- Cut short at any time: the rows are nonzero solutions of the equations done, each minimal one of these is among them, and of the map nothing is said.
+  pub cut-short : {s : Work} → Runs p q coefs s → Holding p q (among (s .done) (equations q coefs)) (s .rows) (row q s)
+  cut-short r = run-members p q coefs r
+
+  -- Every plan is made of the rows, and no shorter list of solutions does (document 02, Job 13).
+  pub record MadeOfRows (n : ℕ) (row : ℕ → ℕ → ℕ) : Type 0 where
+    pub every : (t : ℕ → ℕ) → Solution p q (equations q coefs) t → SumOf q n row t
+    pub fewest : (m : ℕ) (other : ℕ → ℕ → ℕ) → ((i : ℕ) → i < m → Solution p q (equations q coefs) (other i))
+        → ((t : ℕ → ℕ) → Solution p q (equations q coefs) t → SumOf q m other t) → n ≤ m
+
+  pub plans : {s : Work} → Runs p q coefs s → (n k budget : ℕ) → resumed p q coefs n k budget s .answer ≡ complete
+      → MadeOfRows (resumed p q coefs n k budget s .work .rows) (row q (resumed p q coefs n k budget s .work))
+  plans {s} r n k budget e =
+      let loops = complete-lists r n k budget e in
+      let o = resumed p q coefs n k budget s .work in
+      record {
+        every = loops-make-up p q (equations q coefs) (o .rows) (row q o) loops;
+        fewest = loops-fewest p q (equations q coefs) (o .rows) (row q o) loops;
+      }
+
+  -- Any other list of the same tuples, the walk's included, is the same set: each row of the one is a row of the other.
+  pub same-lists : {n m : ℕ} {one other : ℕ → ℕ → ℕ} → Enumerates q (MinimalSolution (system p q coefs)) n one → Enumerates q (MinimalSolution (system p q coefs)) m other
+      → (i : ℕ) → i < n → (k : ℕ) × (k < m) × Same q (other k) (one i)
+  same-lists {one = one} x y i l = y .all (one i) (x .only i l)

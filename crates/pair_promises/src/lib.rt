@@ -1,0 +1,1 @@
+// What a listing by sums of pairs promises: open specs/Promises.antt first. No code.

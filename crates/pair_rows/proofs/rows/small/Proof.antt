@@ -1,0 +1,64 @@
+use Rattle.pair_rows.specs.Reducing.{none-below}
+use Rattle.pairs_form.specs.Method.{isSmall}
+use Rattle.definitions.specs.System.{mostComponent}
+use Rattle.linear.specs.LoopLaws.{all-fails, all-next}
+use Rattle.linear.specs.Tests.{allTo}
+use borrow.Author.Tests.{le-leb, lt-leb}
+use lib.ListN.{getD}
+use lib.Dec.{leb}
+use native.Mathlib.Nat.{le-antisymm}
+use Prim.Native.Nat.{_-_, _≤_}
+use mathlib.Core.Bool.{true}
+use mathlib.Core.Path.{_≡_, sym}
+use borrow.Author.Needs.{needs}
+use native.Mathlib.Omega.{arith}
+use Rattle.pair_rows.proofs.rows.small.Statement.{statement}
+use Rattle.pair_rows.proofs.rows.small.Tie as tie
+
+abbrev Inv-loop : tie.InvT-loop
+Inv-loop z q j₀ j = (j ≤ q) × (allTo j (λ k. leb (getD z k 0) mostComponent) ≡ true)
+
+abbrev μ-loop : tie.MeasureT-loop
+μ-loop z q j₀ j = q - j
+
+loop-holds : tie.Need-loop-holds Inv-loop μ-loop
+loop-holds c = (search needs, none-below _)
+
+mul-if1 : tie.Need-mul-if1 Inv-loop μ-loop
+mul-if1 c = search needs
+
+element-copy-out-if1 : tie.Need-element-copy-out-if1 Inv-loop μ-loop
+element-copy-out-if1 c = search needs
+
+returns : tie.Need-returns Inv-loop μ-loop
+unfolding isSmall
+returns c = let l = c .before .before in sym (all-fails _ _ (l .before .loop .j) (l .loop-test .taken) (lt-leb _ _ (c .if1 .taken)))
+
+add-j : tie.Need-add-j Inv-loop μ-loop
+add-j c = search needs
+
+loop-less : tie.Need-loop-less Inv-loop μ-loop
+loop-less c = search needs
+
+loop-again : tie.Need-loop-again Inv-loop μ-loop
+loop-again c = let l = c .before .before .before in
+    (search needs, all-next _ _ (l .loop .inv .1) (le-leb _ _ (c .if1 .left)))
+
+returns-2 : tie.Need-returns-2 Inv-loop μ-loop
+unfolding isSmall
+returns-2 c = let a = c .before in sym (rw (le-antisymm (a .loop .inv .0) (c .loop-test .left)) at (a .loop .inv .1))
+
+pub small-spec : {M : Type 1} → statement M
+small-spec =
+    tie.close
+    (tie.spec
+    Inv-loop
+    μ-loop
+    loop-holds
+    mul-if1
+    element-copy-out-if1
+    returns
+    add-j
+    loop-less
+    loop-again
+    returns-2)

@@ -1,0 +1,14 @@
+use mir.Facts.{toZ-ofZ}
+use borrow.Author.Needs.{needs}
+use native.Mathlib.Omega.{arith}
+use Rattle.pairs.proofs.search.most.Statement.{statement}
+use Rattle.pairs.proofs.search.most.Tie as tie
+
+returns : tie.Need-returns
+returns c = let s = c .before in rw (rw (toZ-ofZ (s .fits .x)) at (c .if1 .taken)) (search needs)
+
+returns-2 : tie.Need-returns-2
+returns-2 c = let s = c .before in rw (rw (toZ-ofZ (s .fits .x)) at (c .if1 .left)) (toZ-ofZ (s .fits .x))
+
+pub most-spec : {M : Type 1} → statement M
+most-spec = tie.close (tie.spec returns returns-2)

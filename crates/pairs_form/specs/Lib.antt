@@ -1,0 +1,11 @@
+pub mod Signs
+pub mod Equations
+pub mod Done
+pub mod Choice
+pub mod Method
+pub mod MethodLaws
+pub mod Calls
+pub mod Rules
+pub mod Invariant
+pub mod Runs
+pub mod Examples

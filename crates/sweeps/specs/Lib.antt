@@ -1,0 +1,4 @@
+pub mod Pack
+pub mod Sweep
+pub mod SweepLaws
+pub mod SweepTable
