@@ -7,6 +7,7 @@ pub mod Refusals
 pub mod Machine
 pub mod Calls
 pub mod Reader
+pub mod Highest
 pub mod Bound
 pub mod Runs
 pub mod Examples

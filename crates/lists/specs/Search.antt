@@ -1,13 +1,17 @@
--- The search for a listed row at or below a tuple, from the last row to the first. Assumes nothing.
-use mathlib.Core.Path.{_≡_, refl, _∙_}
-use mathlib.Core.Bool.{Bool, true, false, or-false}
+-- The search of a list from its last row to its first. Assumes nothing.
+use mathlib.Core.Path.{_≡_, refl, sym, ap, _∙_}
+use mathlib.Core.Bool.{Bool, true, false}
 use mathlib.Core.List.{List}
-use Prim.Native.Nat.{ℕ, zero, suc, _+_, _*_, _-_, _≤_, _<_}
-use native.Mathlib.Nat.{suc-mul}
+use mathlib.Core.Option.{some, none}
+use Prim.Native.Nat.{ℕ, zero, suc, _+_, _*_, _-_, _/_, _≤_, _<_}
+use native.Mathlib.Nat.{div-eq-of-eq-mul-left, suc-mul}
+use native.Mathlib.Numerals.{add-one}
 use native.Mathlib.Omega.{arith}
-use lib.Dec.{T, leb}
+use lib.Dec.{T}
 use lib.ListN.{getD}
-use Rattle.linear.specs.LoopLaws.{all-fails, any-holds}
+use Rattle.linear.specs.LoopLaws.{all-fails}
+use Rattle.linear.specs.Places.{lastTo}
+use Rattle.linear.specs.PlaceLaws.{last-here, last-passed}
 use Rattle.linear.specs.Tests.{allTo, anyTo}
 use Rattle.linear.specs.TestLaws.{any-at, any-from}
 use Rattle.definitions.specs.System.{covered, isAtOrBelow}
@@ -51,30 +55,30 @@ pub covered-newest : (w n : ℕ) (row : ℕ → ℕ → ℕ) (x : ℕ → ℕ) �
 unfolding covered
 covered-newest w n row x = any-ordered n (λ i. isAtOrBelow w (row i) x) (newest n) (newest-order n)
 
--- ---- the search
+-- ---- the search, for a test on the components of a row and of a tuple
 
-any-passed : (n : ℕ) (f : ℕ → Bool) → f n ≡ false → anyTo (suc n) f ≡ anyTo n f
-unfolding anyTo
-any-passed n f e = rw e (or-false (anyTo n f))
+module _ (test : ℕ → ℕ → Bool) (w : ℕ) (list : List ℕ) (t : ℕ → ℕ) (found : ℕ) where
+  -- row i passes where each component does
+  abbrev pub passes : ℕ → Bool
+  passes i = allTo w (λ j. test (at list w i j) (t j))
 
-module _ (w : ℕ) (list : List ℕ) (t : ℕ → ℕ) (found : ℕ) where
-  -- the rows before place `rest` are left, and none of those after it is at or below t
+  -- the rows before place `rest` are left, and none of those after it passes
   pub record Left (rest : ℕ) : Type 0 where
     pub rows : ℕ
     pub few : rows ≤ found
     pub place : rest ≡ rows * w
-    pub same : covered w found (at list w) t ≡ covered w rows (at list w) t
+    pub same : lastTo found passes ≡ lastTo rows passes
 
   pub left-all : Left (found * w)
   left-all = record { rows = found; few = omega arith; place = refl; same = refl }
 
-  pub left-none : {rest : ℕ} → Left rest → 0 < w → rest ≤ 0 → covered w found (at list w) t ≡ false
-  unfolding covered anyTo
-  left-none {rest} s some l = none (s .rows) (s .place) (s .same)
+  pub left-none : {rest : ℕ} → Left rest → 0 < w → rest ≤ 0 → none ≡ lastTo found passes
+  unfolding lastTo
+  left-none {rest} s positive l = sym (at-end (s .rows) (s .place) (s .same))
     where
-      none : (n : ℕ) → rest ≡ n * w → covered w found (at list w) t ≡ covered w n (at list w) t → covered w found (at list w) t ≡ false
-      none zero e h = h
-      none (suc n) e h = absurd (omega (arith, suc-mul n w))
+      at-end : (n : ℕ) → rest ≡ n * w → lastTo found passes ≡ lastTo n passes → lastTo found passes ≡ none
+      at-end zero e h = h
+      at-end (suc n) e h = absurd (omega (arith, suc-mul n w))
 
   module _ {rest : ℕ} (s : Left rest) (more : 0 < rest) where
     -- the last row that is left
@@ -83,12 +87,12 @@ module _ (w : ℕ) (list : List ℕ) (t : ℕ → ℕ) (found : ℕ) where
       there : row < found
       begins : rest - w ≡ row * w
       long : w ≤ rest
-      same : covered w found (at list w) t ≡ covered w (suc row) (at list w) t
+      same : lastTo found passes ≡ lastTo (suc row) passes
 
     last : Last
     last = of (s .rows) (s .few) (s .place) (s .same)
       where
-        of : (n : ℕ) → n ≤ found → rest ≡ n * w → covered w found (at list w) t ≡ covered w n (at list w) t → Last
+        of : (n : ℕ) → n ≤ found → rest ≡ n * w → lastTo found passes ≡ lastTo n passes → Last
         of zero few e h = absurd (omega arith)
         of (suc n) few e h =
             record { row = n; there = omega arith; begins = omega (arith, suc-mul n w); long = omega (arith, suc-mul n w); same = h }
@@ -99,16 +103,20 @@ module _ (w : ℕ) (list : List ℕ) (t : ℕ → ℕ) (found : ℕ) where
     pub left-fits : rest - w + w ≤ found * w
     left-fits = omega (arith, last .begins, row-fits w (last .row) found (last .there))
 
-    pub left-next : (j : ℕ) → j < w → leb (getD list (rest - w + j) 0) (t j) ≡ false → Left (rest - w)
-    unfolding covered isAtOrBelow
+    pub left-next : (j : ℕ) → j < w → test (getD list (rest - w + j) 0) (t j) ≡ false → Left (rest - w)
     left-next j l e =
         record {
           rows = last .row;
           few = omega (arith, last .there);
           place = last .begins;
-          same = last .same ∙ any-passed (last .row) _ (all-fails w _ j l (rw (last .begins) at e));
+          same = last .same ∙ last-passed (last .row) passes (all-fails w _ j l (rw (last .begins) at e));
         }
 
-    pub left-covers : allTo w (λ k. leb (getD list (rest - w + k) 0) (t k)) ≡ true → covered w found (at list w) t ≡ true
-    unfolding covered isAtOrBelow
-    left-covers e = any-holds found _ (last .row) (last .there) (rw (last .begins) at e)
+    pub left-here : 0 < w → allTo w (λ k. test (getD list (rest - w + k) 0) (t k)) ≡ true → some ((rest - w) / w + 1) ≡ lastTo found passes
+    left-here positive e =
+        let row-is : (rest - w) / w ≡ last .row = div-eq-of-eq-mul-left positive (last .begins) in
+        sym (last .same ∙ last-here (last .row) passes (rw (last .begins) at e) ∙ ap some (sym (ap (λ n. n + 1) row-is ∙ add-one (last .row))))
+
+    -- the place is one of the list's
+    pub left-place : 0 < w → (rest - w) / w < found
+    left-place positive = rw (div-eq-of-eq-mul-left {k = last .row} positive (last .begins)) (last .there)

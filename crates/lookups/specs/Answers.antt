@@ -1,0 +1,17 @@
+-- The answers in document 02's terms: for each case its values, or document 01's number and values of a refusal; and as one number. Assumes nothing.
+use Prim.Native.Nat.{ℕ, _+_}
+use Rattle.definitions.specs.Highest as paper
+use Rattle.calls.specs.Paper.{numberOf, valuesOf}
+use Rattle.lookups.specs.declared.Located.{Located}
+use Rattle.lookups.specs.declared.Located.the-variants.{At, Nowhere, Refused}
+
+abbrev pub locatedOf : Located → paper.Located
+locatedOf (At n) = paper.place n
+locatedOf Nowhere = paper.nowhere
+locatedOf (Refused why) = paper.refused (numberOf why) (valuesOf why)
+
+-- refusals are below 256, places above
+abbrev pub locatedNumber : paper.Located → ℕ
+locatedNumber (paper.place n) = 255 + n
+locatedNumber paper.nowhere = 0
+locatedNumber (paper.refused n values) = n

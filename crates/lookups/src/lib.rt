@@ -1,0 +1,47 @@
+// Questions about a list (document 02): which row lies at or below a tuple.
+ghost use mathlib.Core.Path.{_≡_};
+ghost use Rattle.definitions.specs.Highest as paper;
+ghost use Rattle.lookups.specs.Answers.{locatedOf, locatedNumber};
+use calls::Refusal;
+use calls::Solutions;
+use lists::Place;
+
+// Where the row is, its place from 1; specs/Answers.antt has the documents' values for each.
+pub enum Located {
+    At(usize),
+    Nowhere,
+    Refused(Refusal),
+}
+
+// The highest place of one of the first `found` rows of a list table that is at or below `t`.
+pub fn locate(list: &[u32], q: usize, found: Solutions, t: &[u32]) -> Located
+    ensures { λ r. ⌜ locatedOf r ≡ paper.locate q (now (list .entry)) (found .0) (now (t .entry)) ⌝ }
+{
+    if q < 1 {
+        return Located::Refused(Refusal::Unknowns);
+    }
+    if 16 < q {
+        return Located::Refused(Refusal::Unknowns);
+    }
+    if t.len() != q {
+        return Located::Refused(Refusal::BoundLength);
+    }
+    if list.len() / q < found.0 {
+        return Located::Refused(Refusal::OutOfOrder);
+    }
+    match lists::highest(list, found.0, q, t) {
+        Place::At(n) => Located::At(n),
+        Place::Nowhere => Located::Nowhere,
+    }
+}
+
+// The same as one number, for C: a refusal's own number, 0 for no such row, and 255 + n for place n.
+pub fn locate_number(list: &[u32], q: usize, found: usize, t: &[u32]) -> u64
+    ensures { λ r. ⌜ r ≡ locatedNumber (paper.locate q (now (list .entry)) found (now (t .entry))) ⌝ }
+{
+    match locate(list, q, Solutions(found), t) {
+        Located::At(n) => 255 + n as u64,
+        Located::Nowhere => 0,
+        Located::Refused(why) => calls::number_of(why),
+    }
+}
