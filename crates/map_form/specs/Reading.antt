@@ -10,7 +10,7 @@ use Rattle.definitions.specs.Input.{inputOf}
 use Rattle.definitions.specs.System.{mostEquations, mostUnknowns}
 use Rattle.definitions.specs.Refusals.{between, check7}
 use Rattle.texts.specs.Decimals.{separator}
-use Rattle.texts.specs.Reading.{Parse, parsed, malformed, andThen, readNumber}
+use Rattle.texts.specs.Reading.{mostBytes, Parse, parsed, malformed, andThen, readNumber}
 use Rattle.map_form.specs.Form.{mostDigits}
 
 -- ---- a line
@@ -79,10 +79,6 @@ readBody p q t =
 abbrev pub afterFirst : Parse (List ℤ) → Reading
 afterFirst (parsed zs t) = readBody (getD zs 0 (pos 0)) (getD zs 1 (pos 0)) t
 afterFirst malformed = refused 9 (1 ∷ [])
-
--- "10: text longer than 4,096 bytes."
-abbrev pub mostBytes : ℕ
-mostBytes = 4096
 
 -- "Order: 10; the first line's form (9); 1; 2; the other lines in turn ..; 7."
 unfoldable pub readMap : List ℕ → Reading

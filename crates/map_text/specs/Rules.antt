@@ -6,12 +6,12 @@ use mathlib.Core.Path.{_≡_}
 use lib.Dec.{eqb}
 use lib.IntN.{ℤ, pos, negsuc, natAbs}
 use lib.ListN.{length, getD}
+use Rattle.texts.specs.Reading.{mostBytes}
 use Rattle.definitions.specs.System.{mostEquations, mostUnknowns, coefLimit}
 use Rattle.laws.specs.CheckLaws.{Rules, _▹_, end, placed, rule}
 use Rattle.laws.specs.RefusalLaws.{Outside}
 use Rattle.texts.specs.Decimals.{newline}
 use Rattle.map_form.specs.Form.{ShortNumbers, line, written}
-use Rattle.map_form.specs.Reading.{mostBytes}
 
 -- ---- the lines of a text
 

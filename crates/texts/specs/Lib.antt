@@ -9,3 +9,4 @@ pub mod SignLaws
 pub mod ReadLaws
 pub mod WriteLaws
 pub mod Put
+pub mod Verdicts

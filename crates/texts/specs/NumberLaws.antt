@@ -88,7 +88,7 @@ few-small {most} f = pow-le-pow-right {n = 10} (omega arith) {i = most} {j = 9} 
 pub room-small : {most n k : ℕ} → Room most n k → n < 10 ^ most
 room-small {n = n} {k = k} r = omega (arith, r .below, mul-le-mul-left {m = 1} {n = 10 ^ k} (n + 1) (one-le-pow k 10 (omega arith)))
 
-room-digit : {most n k : ℕ} (d : ℕ) → d ≤ 9 → Room most n (suc k) → Room most (n * 10 + d) k
+pub room-digit : {most n k : ℕ} (d : ℕ) → d ≤ 9 → Room most n (suc k) → Room most (n * 10 + d) k
 room-digit {n = n} {k = k} d l r = record { below = omega (arith, rw (pow-succ' 10 k) at (r .below), mul-le-mul-right (10 ^ k) l) }
 
 pub room-next : (most n k d : ℕ) → 0 < k → d ≤ 9 → Room most n k → Room most (n * 10 + d) (k - 1)

@@ -6,6 +6,10 @@ use lib.Dec.{leb, eqb}
 use lib.IntN.{ℤ, pos, negsuc}
 use Rattle.texts.specs.Decimals.{minus, zeroDigit}
 
+-- "10: text longer than 4,096 bytes."
+abbrev pub mostBytes : ℕ
+mostBytes = 4096
+
 -- What a text begins with: something in the form, and the text after it; or nothing in the form.
 pub data Parse (A : Type 0) : Type 0 where
   parsed : A → List ℕ → Parse A

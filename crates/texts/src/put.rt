@@ -1,8 +1,10 @@
 // Writing into a buffer: each writer takes the place to write at, and returns the place after what it wrote.
+ghost use mathlib.Core.Path.{_≡_};
 ghost use mathlib.Core.List.{[], _∷_};
 ghost use Prim.Native.Nat.{_+_, _≤_, _<_};
+ghost use lib.IntN.{natAbs};
 ghost use lib.ListN.{length};
-ghost use Rattle.texts.specs.Decimals.{decimal};
+ghost use Rattle.texts.specs.Decimals.{decimal, numeral};
 ghost use Rattle.texts.specs.Put.{Put};
 
 pub fn byte(out: &mut [u8], at: usize, b: u8) -> usize
@@ -35,4 +37,27 @@ pub fn number(out: &mut [u8], at: usize, n: u64) -> usize
     }
     let next = number(out, at, n / 10);
     byte(out, next, b'0' + (n % 10) as u8)
+}
+
+// A number with its sign.
+pub fn signed(out: &mut [u8], at: usize, z: i32) -> usize
+    requires { ⌜ (natAbs z ≤ 1000000000) × (at + length (numeral z) ≤ length (now out)) ⌝ }
+    ensures { λ r. ⌜ Put (now (out .entry)) at (numeral z) (now (out .exit)) r ⌝ }
+{
+    if z < 0 {
+        let next = byte(out, at, b'-');
+        return number(out, next, size(z));
+    }
+    number(out, at, size(z))
+}
+
+// A number without its sign.
+pub fn size(z: i32) -> u64
+    requires { ⌜ natAbs z ≤ 1000000000 ⌝ }
+    ensures { λ r. ⌜ r ≡ natAbs z ⌝ }
+{
+    if z < 0 {
+        return (-z) as u64;
+    }
+    z as u64
 }

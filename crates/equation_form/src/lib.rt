@@ -1,0 +1,1 @@
+// Equations as people write them: see specs/. No code.

@@ -1,0 +1,14 @@
+pub mod TextLaws
+pub mod PartLaws
+pub mod SoundLaws
+pub mod CompleteLaws
+pub mod Agreement
+pub mod WriteLaws
+pub mod ScanBack
+pub mod ScanRun
+pub mod PlaceLaws
+pub mod Unknowns
+pub mod DepthLaws
+pub mod RoundTrip
+pub mod Theorems
+pub mod Rules

@@ -1,0 +1,1 @@
+// The laws of equations in text: see specs/. No code.

@@ -1,0 +1,11 @@
+pub mod Places
+pub mod Totals
+pub mod After
+pub mod ByteLaws
+pub mod SizeLaws
+pub mod RoomLaws
+pub mod SumLaws
+pub mod MeaningLaws
+pub mod Answer
+pub mod EquationLaws
+pub mod SideLaws

@@ -1,0 +1,5 @@
+pub mod Texts
+pub mod TextLaws
+pub mod Answer
+pub mod CallLaws
+pub mod BackLaws
