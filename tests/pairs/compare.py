@@ -1,8 +1,8 @@
 #!/usr/bin/env python3
-"""Holds the program whole-basis against four others on drawn maps: the model (rows in order, and the number of pairs), the walk's program (as sets), boxes (every
-tuple of a small box), and 4ti2 and Normaliz where they are installed (as sets).
+"""Holds a program that lists by sums of pairs against four others on drawn maps: the model (rows in order, and the number of pairs), the walk's program (as sets),
+boxes (every tuple of a small box), and 4ti2 and Normaliz where they are installed (as sets).
 
-  tests/pairs/compare.py [MAPS]     target/bin/whole_basis and target/bin/basis must be built"""
+  tests/pairs/compare.py PROGRAM [MAPS]     PROGRAM reads a map and prints as bench/pairs/pairs.c does; target/bin/basis must be built"""
 import itertools
 import os
 import random
@@ -25,8 +25,8 @@ def text(system):
     return f"{len(system)} {len(system[0])}\n" + "".join(" ".join(map(str, c)) + "\n" for c in system)
 
 
-def program(name, system):
-    done = subprocess.run([os.path.join(ROOT, "target", "bin", name)], input=text(system), capture_output=True, text=True, check=True)
+def program(path, system):
+    done = subprocess.run([path], input=text(system), capture_output=True, text=True, check=True)
     return done.stdout.splitlines()
 
 
@@ -64,18 +64,19 @@ def by_normaliz(system, directory):
 
 
 def main():
-    maps = int(sys.argv[1]) if len(sys.argv) > 1 else 2000
+    maps = int(sys.argv[2]) if len(sys.argv) > 2 else 2000
+    pairs, walk = sys.argv[1], os.path.join(ROOT, "target", "bin", "basis")
     r, walks, boxes, peers, solutions = random.Random(1), 0, 0, 0, 0
     peer = [f for tool, f in (("4ti2-hilbert", by_4ti2), ("normaliz", by_normaliz)) if shutil.which(tool)]
     for n in range(maps):
         system = draw(r)
-        lines = program("whole_basis", system)
+        lines = program(pairs, system)
         ending, rows = listed(lines)
         run = Run(system, len(system[0]))
         assert run.run() == "complete" and ending == "end complete", system
         assert rows == run.rows and lines[2] == f"pairs {run.steps}", system
         solutions += len(rows)
-        walked, found = listed(program("basis", system))
+        walked, found = listed(program(walk, system))
         if walked == "end complete":
             walks += 1
             assert set(found) == set(rows) and len(found) == len(rows), system
