@@ -100,10 +100,10 @@ from-outside : (a b n : ℕ) → Outside a b n → T (not (between a b n))
 from-outside a b n o =
     not-T (between a b n) (λ h. let (l, k) = and-parts (leb a n) (leb n b) h in elim o [ inl x ↦ omega (arith, leb→le a n l) | inr x ↦ omega (arith, leb→le n b k) ])
 
-decides-outside : (r a b n : ℕ) → Decides (refuseIf (not (between a b n)) r) (rule r (Outside a b n))
+pub decides-outside : (r a b n : ℕ) → Decides (refuseIf (not (between a b n)) r) (rule r (Outside a b n))
 decides-outside r a b n = decides-if (not (between a b n)) r (Outside a b n) (to-outside a b n) (from-outside a b n)
 
-decides-unequal : (r k n : ℕ) → Decides (refuseIf (not (eqb k n)) r) (rule r (k ≢ n))
+pub decides-unequal : (r k n : ℕ) → Decides (refuseIf (not (eqb k n)) r) (rule r (k ≢ n))
 decides-unequal r k n =
     decides-if (not (eqb k n)) r (k ≢ n)
     (λ h e. T-not (eqb k n) h (rw e (eqb-refl n)))
@@ -112,14 +112,14 @@ decides-unequal r k n =
 decides-short : (m : System) (s : State) → Decides (check4 m s) (rule 4 (length (s .stack) < m .q * (m .q + 1)))
 decides-short m s = decides-if _ 4 _ (ltb→lt (length (s .stack)) (m .q * (m .q + 1))) (lt→ltb (length (s .stack)) (m .q * (m .q + 1)))
 
-decides-range : (i : Input) → Decides (check7 i) (rangeRule i)
+pub decides-range : (i : Input) → Decides (check7 i) (rangeRule i)
 unfolding check7
 decides-range i =
     decides-first 7 (length (i .coefs)) (λ k. outOfRange (getD (i .coefs) k (pos 0))) _
     (λ k l. ltb→lt coefLimit (natAbs (getD (i .coefs) k (pos 0))))
     (λ k l. lt→ltb coefLimit (natAbs (getD (i .coefs) k (pos 0))))
 
-decides-bound : (i : Input) (lower : List ℕ) → Decides (check8 i lower) (rule 8 ((j : ℕ) × (j < length lower) × (limitOf (i .limit) < getD lower j 0)))
+pub decides-bound : (i : Input) (lower : List ℕ) → Decides (check8 i lower) (rule 8 ((j : ℕ) × (j < length lower) × (limitOf (i .limit) < getD lower j 0)))
 decides-bound i lower =
     let limit : ℕ = limitOf (i .limit) in
     decides-if _ 8 _
@@ -316,10 +316,10 @@ pub record Valid (m : System) (s : State) : Type 0 where
   pub shaped : Shaped m s
   pub ordered : InOrder m s
 
-equal : (k n : ℕ) → ¬ (k ≢ n) → k ≡ n
+pub equal : (k n : ℕ) → ¬ (k ≢ n) → k ≡ n
 equal k n h = elim (ℕ-discrete k n) [ yes e ↦ e | no ne ↦ absurd (h ne) ]
 
-at-most : (k n : ℕ) → ¬ (n < k) → k ≤ n
+pub at-most : (k n : ℕ) → ¬ (n < k) → k ≤ n
 at-most k n h = elim (split n k) [ inl l ↦ absurd (h l) | inr l ↦ l ]
 
 module _ (i : Input) (s : State) where
