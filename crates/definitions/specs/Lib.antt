@@ -8,6 +8,7 @@ pub mod Machine
 pub mod Calls
 pub mod Reader
 pub mod Highest
+pub mod Reasons
 pub mod Bound
 pub mod Runs
 pub mod Examples

@@ -119,7 +119,7 @@ decides-range i =
     (λ k l. ltb→lt coefLimit (natAbs (getD (i .coefs) k (pos 0))))
     (λ k l. lt→ltb coefLimit (natAbs (getD (i .coefs) k (pos 0))))
 
-decides-bound : (i : Input) (lower : List ℕ) → Decides (check8 i lower) (rule 8 ((j : ℕ) × (j < length lower) × (limitOf (i .limit) < getD lower j 0)))
+pub decides-bound : (i : Input) (lower : List ℕ) → Decides (check8 i lower) (rule 8 ((j : ℕ) × (j < length lower) × (limitOf (i .limit) < getD lower j 0)))
 decides-bound i lower =
     let limit : ℕ = limitOf (i .limit) in
     decides-if _ 8 _
@@ -316,10 +316,10 @@ pub record Valid (m : System) (s : State) : Type 0 where
   pub shaped : Shaped m s
   pub ordered : InOrder m s
 
-equal : (k n : ℕ) → ¬ (k ≢ n) → k ≡ n
+pub equal : (k n : ℕ) → ¬ (k ≢ n) → k ≡ n
 equal k n h = elim (ℕ-discrete k n) [ yes e ↦ e | no ne ↦ absurd (h ne) ]
 
-at-most : (k n : ℕ) → ¬ (n < k) → k ≤ n
+pub at-most : (k n : ℕ) → ¬ (n < k) → k ≤ n
 at-most k n h = elim (split n k) [ inl l ↦ absurd (h l) | inr l ↦ l ]
 
 module _ (i : Input) (s : State) where

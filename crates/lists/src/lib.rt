@@ -9,6 +9,7 @@ ghost use Rattle.lists.specs.Places.{placeOf};
 ghost use Rattle.lists.specs.Rows.{tuple};
 
 pub mod rows; // rows.rt: rows copied
+pub mod same; // same.rt: the row that is a tuple
 
 // A place in a list, from 1; specs/Places.antt has the document's values.
 pub enum Place {

@@ -50,7 +50,7 @@ module _ {n : ℕ} {v w : ℕ → ℤ} (s : SmallTerms n v w) where
       omega
       (arith, s .few, inner-bound k mostComponent gramLimit v w (λ i m. s .left i (omega arith)) (λ i m. s .right i (omega arith)))
 
-  sum-fits : (k : ℕ) → k ≤ n → SFits w64 (inner k v w)
+  pub sum-fits : (k : ℕ) → k ≤ n → SFits w64 (inner k v w)
   sum-fits k l = sfits-natAbs (omega (arith, sum-small k l))
 
   -- sum is the bits of the first k terms, and x * y is the next term

@@ -55,7 +55,7 @@ fn columns(p: usize, q: usize, coefs: &[i32], i: usize, j: usize) -> i64
 }
 
 // What a sum of products takes, as functions with contracts in ℤ: their callers' loops hold bits.
-fn sum_and(sum: i64, x: i64, y: i64) -> i64
+pub fn sum_and(sum: i64, x: i64, y: i64) -> i64
     requires { ⌜ SFits w64 (x *ℤ y) ⌝ }
     requires { ⌜ SFits w64 (sum +ℤ x *ℤ y) ⌝ }
     ensures { λ r. ⌜ r ≡ sum +ℤ x *ℤ y ⌝ }
@@ -63,13 +63,13 @@ fn sum_and(sum: i64, x: i64, y: i64) -> i64
     sum + x * y
 }
 
-fn wide(x: i32) -> i64
+pub fn wide(x: i32) -> i64
     ensures { λ r. ⌜ r ≡ x ⌝ }
 {
     x as i64
 }
 
-fn natural(x: u32) -> i64
+pub fn natural(x: u32) -> i64
     ensures { λ r. ⌜ r ≡ pos x ⌝ }
 {
     x as i64

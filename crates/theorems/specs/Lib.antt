@@ -21,4 +21,5 @@ pub mod Third
 pub mod First
 pub mod Untouched
 pub mod Demands
+pub mod Reasons
 pub mod Examples

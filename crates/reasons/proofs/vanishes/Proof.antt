@@ -1,0 +1,62 @@
+-- `reasons::vanishes` meets its contract. The components passed are 0. Assumes nothing.
+use mathlib.Core.Path.{_≡_, refl, sym}
+use mathlib.Core.Bool.{true}
+use Prim.Native.Nat.{_-_, _≤_}
+use native.Mathlib.Nat.{le-antisymm}
+use lib.Dec.{eqb}
+use borrow.Author.Tests.{eq-eqb, ne-eqb}
+use Rattle.linear.specs.Tests.{allTo}
+use Rattle.linear.specs.LoopLaws.{all-next, all-fails}
+use Rattle.definitions.specs.Reasons.{vanishes}
+use Rattle.lists.specs.Rows.{tuple}
+use borrow.Author.Needs.{needs}
+use Rattle.reasons.proofs.vanishes.Statement.{statement}
+use Rattle.reasons.proofs.vanishes.Tie as tie
+
+abbrev Inv-loop : tie.InvT-loop
+Inv-loop q t j₀ j = (j ≤ q) × (allTo j (λ k. eqb (tuple t k) 0) ≡ true)
+
+abbrev μ-loop : tie.MeasureT-loop
+μ-loop q t j₀ j = q - j
+
+loop-holds : tie.Need-loop-holds Inv-loop μ-loop
+unfolding allTo
+loop-holds c = (search needs, refl)
+
+mul-if1 : tie.Need-mul-if1 Inv-loop μ-loop
+mul-if1 c = search needs
+
+shared-slice-read-if1 : tie.Need-shared-slice-read-if1 Inv-loop μ-loop
+shared-slice-read-if1 c = search needs
+
+returns : tie.Need-returns Inv-loop μ-loop
+unfolding vanishes
+returns c = sym (all-fails _ _ _ (c .before .before .loop-test .taken) (ne-eqb _ _ (c .if1 .taken)))
+
+add-j : tie.Need-add-j Inv-loop μ-loop
+add-j c = search needs
+
+loop-less : tie.Need-loop-less Inv-loop μ-loop
+loop-less c = search needs
+
+loop-again : tie.Need-loop-again Inv-loop μ-loop
+loop-again c = (search needs, all-next _ _ (c .before .before .before .loop .inv .1) (eq-eqb _ _ (c .if1 .left)))
+
+returns-2 : tie.Need-returns-2 Inv-loop μ-loop
+unfolding vanishes
+returns-2 c = cc (le-antisymm (c .before .loop .inv .0) (c .loop-test .left), c .before .loop .inv .1)
+
+pub vanishes-spec : {M : Type 1} → statement M
+vanishes-spec =
+    tie.close
+    (tie.spec
+    Inv-loop
+    μ-loop
+    loop-holds
+    mul-if1
+    shared-slice-read-if1
+    returns
+    add-j
+    loop-less
+    loop-again
+    returns-2)

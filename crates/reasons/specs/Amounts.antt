@@ -1,0 +1,110 @@
+-- A question that is not refused is small; and the amounts of the equations at a tuple, as code computes and tests them. Assumes nothing.
+use mathlib.Core.Path.{_≡_, refl, sym, _∙_, ap}
+use mathlib.Core.Logic.{inl, inr}
+use mathlib.Core.Bool.{Bool, true, false, not}
+use mathlib.Core.List.{List}
+use mathlib.Core.Option.{some}
+use Prim.Native.Nat.{ℕ, _+_, _*_, _-_, _≤_, _<_}
+use native.Mathlib.Nat.{mul-le-mul-right, div-mul-le-self}
+use native.Mathlib.Omega.{arith}
+use lib.Dec.{T}
+use lib.IntN.{ℤ, natAbs, pos}
+use lib.ListN.{getD, length, List·getD-eq-default}
+use mir.Facts.{toZ-ofZ}
+use mir.Syntax.{w32, w64}
+use mir.Val.{SFits, ofZ, toZ}
+use Rattle.linear.specs.Cases.{split}
+use Rattle.linear.specs.Integers.{sfits-natAbs}
+use Rattle.linear.specs.PlaceLaws.{First, first-is}
+use Rattle.linear.specs.Systems.{value}
+use Rattle.definitions.specs.Reasons.{firstOff}
+use Rattle.definitions.specs.Input.{inputOf, systemOf}
+use Rattle.definitions.specs.System.{System, coefLimit, imageOf, isZero, mostComponent, mostUnknowns}
+use Rattle.laws.specs.ReasonLaws.{Askable}
+use Rattle.laws.specs.SystemLaws.{is-zero}
+use Rattle.laws.specs.TableLaws.{row-fits}
+use Rattle.lists.specs.Rows.{tuple}
+use Rattle.products.specs.Products.{SmallCoefs}
+use Rattle.products.specs.Turns.{SmallTerms, sum-fits, zero-bits}
+
+true-of : (b : Bool) → T b → not b ≡ false
+true-of true y = refl
+true-of false y = absurd y
+
+false-of : (b : Bool) → ¬ (T b) → not b ≡ true
+false-of true n = absurd (n tt)
+false-of false n = refl
+
+-- ---- sizes
+
+-- one equation, i from 0
+pub record SmallEquation (q : ℕ) (coefs : List ℤ) (i : ℕ) : Type 0 where
+  pub unknowns : q ≤ mostUnknowns
+  pub whole : i * q + q ≤ length coefs
+  pub small : (n : ℕ) → natAbs (getD coefs n (pos 0)) ≤ coefLimit
+
+-- a tuple of q components in a slice
+pub record SmallTuple (q : ℕ) (t : List ℕ) : Type 0 where
+  pub whole : q ≤ length t
+  pub small : (j : ℕ) → j < q → getD t j 0 ≤ mostComponent
+
+-- the terms of the left side of an equation at a tuple
+module _ {q : ℕ} {coefs : List ℤ} {i : ℕ} (s : SmallEquation q coefs i) where
+  pub equation-fits : (n : ℕ) → SFits w32 (getD coefs n (pos 0))
+  equation-fits n = sfits-natAbs (omega (arith, s .small n))
+
+  pub equation-terms : {t : List ℕ} → SmallTuple q t → SmallTerms q (λ j. getD coefs (i * q + j) (pos 0)) (λ j. pos (getD t j 0))
+  equation-terms r =
+      record { few = s .unknowns; left = λ j l. omega (arith, s .small (i * q + j)); right = λ j l. omega (arith, r .small j l) }
+
+-- what passed the checks is small
+module _ {p q : ℕ} {coefs : List ℤ} {list : List ℕ} {found : ℕ} {t : List ℕ} (a : Askable (inputOf p q coefs) list found t) where
+  pub asked-system : SmallCoefs p q coefs
+  asked-system =
+      record {
+        equations = a .p-few;
+        unknowns = a .q-few;
+        whole = omega (arith, a .coefs);
+        small = λ n. elim (split n (length coefs)) [ inl l ↦ a .range n l | inr l ↦ rw (List·getD-eq-default coefs (pos 0) l) (omega arith) ];
+      }
+
+  pub asked-tuple : SmallTuple q t
+  asked-tuple = record { whole = omega (arith, a .tuple); small = λ j l. a .small j (omega (arith, a .tuple)) }
+
+  pub asked-rows : found * q ≤ length list
+  asked-rows = omega (arith, mul-le-mul-right q (a .rows), div-mul-le-self (length list) q)
+
+-- ---- the amounts
+
+module _ {p q : ℕ} {coefs : List ℤ} {t : List ℕ} (s : SmallCoefs p q coefs) (r : SmallTuple q t) {i : ℕ} (l : i < p) where
+  abbrev m : System
+  m = systemOf (inputOf p q coefs)
+
+  pub equation-of : SmallEquation q coefs i
+  equation-of = record { unknowns = s .unknowns; whole = omega (arith, s .whole, row-fits q i p l); small = s .small }
+
+  amount-fits : SFits w64 (imageOf m (tuple t) i)
+  unfolding value
+  amount-fits = sum-fits (equation-terms equation-of r) q (omega arith)
+
+  -- z is the amount of equation i, which code holds as bits
+  module _ {z : ℤ} (e : z ≡ imageOf m (tuple t) i) where
+    pub amount-kept : toZ w64 (ofZ w64 z) ≡ imageOf m (tuple t) (i + 1 - 1)
+    amount-kept = let h : i + 1 - 1 ≡ i = omega arith in rw (e, h) (toZ-ofZ amount-fits)
+
+    pub amount-off : (ofZ w64 z ≡ 0 → ⊥) → not (isZero (imageOf m (tuple t) i)) ≡ true
+    amount-off n = false-of (isZero (imageOf m (tuple t) i)) (λ h. n (ap (ofZ w64) (e ∙ is-zero (imageOf m (tuple t) i) h)))
+
+    pub amount-even : ofZ w64 z ≡ 0 → not (isZero (imageOf m (tuple t) i)) ≡ false
+    amount-even h = true-of (isZero (imageOf m (tuple t) i)) (zero-bits (imageOf m (tuple t) i) amount-fits (rw e at h))
+
+-- the amount that is told of equation k, read from its bits
+module _ {p q : ℕ} {coefs : List ℤ} {t : List ℕ} (s : SmallCoefs p q coefs) (r : SmallTuple q t) where
+  abbrev image : ℕ → ℤ
+  image = imageOf (systemOf (inputOf p q coefs)) (tuple t)
+
+  pub amount-read : {k : ℕ} {amount : ℤ} → firstOff (systemOf (inputOf p q coefs)) (tuple t) ≡ some k → amount ≡ image (k - 1) → toZ w64 (ofZ w64 amount) ≡ image (k - 1)
+  unfolding firstOff
+  amount-read {k} e f =
+      let first : First p (λ i. not (isZero (image i))) k = rw e at (first-is p (λ i. not (isZero (image i)))) in
+      rw f (toZ-ofZ (amount-fits s r (omega (arith, first .some, first .few))))

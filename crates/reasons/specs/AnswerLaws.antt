@@ -1,0 +1,64 @@
+-- What each way through the code comes to: the tests that were made, and the reason that they give. Assumes nothing.
+use mathlib.Core.Path.{_≡_}
+use mathlib.Core.Bool.{true, false}
+use mathlib.Core.List.{List}
+use mathlib.Core.Option.{some, none}
+use Prim.Native.Nat.{ℕ, _-_}
+use lib.IntN.{ℤ}
+use lib.ListN.{getD}
+use Rattle.definitions.specs.Reasons as paper
+use Rattle.definitions.specs.Highest.{highest}
+use Rattle.definitions.specs.Input.{Input, systemOf}
+use Rattle.definitions.specs.Reasons.{standing}
+use Rattle.definitions.specs.System.{System, imageOf}
+use Rattle.definitions.specs.Tables.{at}
+use Rattle.lists.specs.Places.{placeOf}
+use Rattle.lists.specs.declared.Place.{Place}
+use Rattle.lists.specs.declared.Place.the-variants.{At, Nowhere}
+use Rattle.calls.specs.Paper.{checkOf, numberOf, valuesOf}
+use Rattle.calls.specs.declared.Check.{Check}
+use Rattle.calls.specs.declared.Check.the-variants.{Pass, Refuse}
+use Rattle.calls.specs.declared.Refusal.{Refusal}
+
+-- ---- a solution in the list
+
+module _ (q found : ℕ) (row : ℕ → ℕ → ℕ) (x : ℕ → ℕ) {s : Place} (e : placeOf s ≡ standing q found row x) where
+  pub stands-at : {n : ℕ} → s ≡ At n → paper.stands n ≡ paper.inList q found row x
+  unfolding paper.inList paper.standsOr
+  stands-at g = rw (← e, g)
+
+  module _ (g : s ≡ Nowhere) {h : Place} (f : placeOf h ≡ highest q found row x) where
+    pub above-at : {n : ℕ} → h ≡ At n → paper.above n ≡ paper.inList q found row x
+    unfolding paper.inList paper.standsOr paper.aboveOr
+    above-at k = rw (← e, g, ← f, k)
+
+    pub unlisted-at : h ≡ Nowhere → paper.unlisted ≡ paper.inList q found row x
+    unfolding paper.inList paper.standsOr paper.aboveOr
+    unlisted-at k = rw (← e, g, ← f, k)
+
+-- ---- the first that is true
+
+module _ (m : System) (found : ℕ) (row : ℕ → ℕ → ℕ) (x : ℕ → ℕ) where
+  pub zero-at : paper.vanishes (m .q) x ≡ true → paper.zero ≡ paper.firstTrue m found row x
+  unfolding paper.firstTrue paper.zeroOr
+  zero-at e = rw e
+
+  module _ (e : paper.vanishes (m .q) x ≡ false) where
+    pub off-at : {k : ℕ} {amount : ℤ} → paper.firstOff m x ≡ some k → amount ≡ imageOf m x (k - 1) → paper.off k amount ≡ paper.firstTrue m found row x
+    unfolding paper.firstTrue paper.zeroOr paper.offOr
+    off-at f g = rw (e, f, g)
+
+    pub even-at : paper.firstOff m x ≡ none → {r : paper.Reason} → r ≡ paper.inList (m .q) found row x → r ≡ paper.firstTrue m found row x
+    unfolding paper.firstTrue paper.zeroOr paper.offOr
+    even-at f g = rw (e, f) g
+
+-- ---- refused or not
+
+module _ (i : Input) (list : List ℕ) (found : ℕ) (t : List ℕ) {c : Check} (e : checkOf c ≡ paper.reasonChecks i list found t) where
+  pub refused-at : {why : Refusal} → c ≡ Refuse why → paper.refused (numberOf why) (valuesOf why) ≡ paper.reason i list found t
+  unfolding paper.reason paper.unlessRefused
+  refused-at g = rw (← e, g)
+
+  pub passed-at : c ≡ Pass → {r : paper.Reason} → r ≡ paper.firstTrue (systemOf i) found (at list (i .q)) (λ j. getD t j 0) → r ≡ paper.reason i list found t
+  unfolding paper.reason paper.unlessRefused
+  passed-at g h = rw (← e, g) h

@@ -1,0 +1,65 @@
+// What is refused of a question: in rising number, 1, 2, 3, 5, 6, 7 and 8.
+ghost use mathlib.Core.Path.{_≡_};
+ghost use Rattle.definitions.specs.Input.{inputOf};
+ghost use Rattle.definitions.specs.Reasons.{reasonChecks};
+ghost use Rattle.calls.specs.Paper.{checkOf};
+ghost use Rattle.reasons.specs.Refusals.{rangeChecks, aboveLimit};
+use calls::Check;
+use calls::Refusal;
+
+pub fn check(p: usize, q: usize, coefs: &[i32], list: &[u32], found: usize, t: &[u32]) -> Check
+    ensures { λ c. ⌜ checkOf c ≡ reasonChecks (inputOf p q (now (coefs .entry))) (now (list .entry)) found (now (t .entry)) ⌝ }
+{
+    if p < 1 {
+        return Check::Refuse(Refusal::Equations);
+    }
+    if 8 < p {
+        return Check::Refuse(Refusal::Equations);
+    }
+    if q < 1 {
+        return Check::Refuse(Refusal::Unknowns);
+    }
+    if 16 < q {
+        return Check::Refuse(Refusal::Unknowns);
+    }
+    if coefs.len() != p * q {
+        return Check::Refuse(Refusal::CoefficientCount);
+    }
+    if t.len() != q {
+        return Check::Refuse(Refusal::BoundLength);
+    }
+    if list.len() / q < found {
+        return Check::Refuse(Refusal::OutOfOrder);
+    }
+    ranges(coefs, t)
+}
+
+// Refusals 7 and 8.
+fn ranges(coefs: &[i32], t: &[u32]) -> Check
+    ensures { λ c. ⌜ checkOf c ≡ rangeChecks (now (coefs .entry)) (now (t .entry)) ⌝ }
+{
+    match checks::coefficients::check(coefs) {
+        Check::Refuse(why) => Check::Refuse(why),
+        Check::Pass => {
+            if above_limit(t, calls::COMPONENT_LIMIT) {
+                Check::Refuse(Refusal::BoundRange)
+            } else {
+                Check::Pass
+            }
+        }
+    }
+}
+
+// Whether a component is above the limit.
+fn above_limit(t: &[u32], limit: u32) -> bool
+    ensures { λ b. ⌜ b ≡ aboveLimit limit (now (t .entry)) ⌝ }
+{
+    let mut j = 0;
+    while j < t.len() {
+        if limit < t[j] {
+            return true;
+        }
+        j += 1;
+    }
+    false
+}

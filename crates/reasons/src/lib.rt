@@ -1,0 +1,130 @@
+// Why a tuple is not in a list (document 02, Job 8): the first reason that is true.
+ghost use mathlib.Core.Path.{_≡_};
+ghost use Prim.Native.Nat.{_+_, _*_, _≤_, _<_};
+ghost use lib.IntN.{pos};
+ghost use lib.ListN.{length, getD};
+ghost use Rattle.linear.specs.Systems.{value};
+ghost use Rattle.definitions.specs.Tables.{at};
+ghost use Rattle.definitions.specs.Reasons as paper;
+ghost use Rattle.definitions.specs.Input.{inputOf, systemOf};
+ghost use Rattle.laws.specs.ReasonLaws.{Askable};
+ghost use Rattle.lists.specs.Rows.{tuple};
+ghost use Rattle.products.specs.Products.{SmallCoefs};
+ghost use Rattle.reasons.specs.Amounts.{SmallEquation, SmallTuple};
+ghost use Rattle.reasons.specs.Answers.{reasonOf, OffIs};
+use calls::Check;
+use calls::Refusal;
+use calls::Solutions;
+use lists::Place;
+
+mod asked; // asked.rt: what is refused
+
+// The reasons, equations and places from 1; specs/Answers.antt has the document's values for each.
+pub enum Reason {
+    Zero,
+    Off(usize, i64),
+    Stands(usize),
+    Above(usize),
+    Unlisted,
+    Refused(Refusal),
+}
+
+// The first equation that is off, from 1, and its amount.
+pub enum Balance {
+    Even,
+    Off(usize, i64),
+}
+
+// The answer to a question: a system, the first `found` rows of a list table, and a tuple.
+pub fn explain(
+    p: usize,
+    q: usize,
+    coefs: &[i32],
+    list: &[u32],
+    found: Solutions,
+    t: &[u32],
+) -> Reason
+    ensures { λ r. ⌜ reasonOf r ≡ paper.reason (inputOf p q (now (coefs .entry))) (now (list .entry)) (found .0) (now (t .entry)) ⌝ }
+{
+    match asked::check(p, q, coefs, list, found.0, t) {
+        Check::Refuse(why) => Reason::Refused(why),
+        Check::Pass => first_true(p, q, coefs, list, found.0, t),
+    }
+}
+
+// The first reason that is true, of a question that is not refused.
+fn first_true(p: usize, q: usize, coefs: &[i32], list: &[u32], found: usize, t: &[u32]) -> Reason
+    requires { ⌜ Askable (inputOf p q (now coefs)) (now list) found (now t) ⌝ }
+    ensures { λ r. ⌜ reasonOf r ≡ paper.firstTrue (systemOf (inputOf p q (now (coefs .entry)))) found (at (now (list .entry)) q) (tuple (now (t .entry))) ⌝ }
+{
+    if vanishes(q, t) {
+        return Reason::Zero;
+    }
+    match first_off(p, q, coefs, t) {
+        Balance::Off(k, amount) => Reason::Off(k, amount),
+        Balance::Even => in_list(list, found, q, t),
+    }
+}
+
+// Where a tuple that solves the system stands in the list, or which row lies below it.
+fn in_list(list: &[u32], found: usize, q: usize, t: &[u32]) -> Reason
+    requires { ⌜ (0 < q) × (q ≤ length (now t)) × (found * q ≤ length (now list)) ⌝ }
+    ensures { λ r. ⌜ reasonOf r ≡ paper.inList q found (at (now (list .entry)) q) (tuple (now (t .entry))) ⌝ }
+{
+    match lists::same::standing(list, found, q, t) {
+        Place::At(n) => Reason::Stands(n),
+        Place::Nowhere => match lists::highest(list, found, q, t) {
+            Place::At(n) => Reason::Above(n),
+            Place::Nowhere => Reason::Unlisted,
+        },
+    }
+}
+
+// Whether the tuple is all zero.
+fn vanishes(q: usize, t: &[u32]) -> bool
+    requires { ⌜ q ≤ length (now t) ⌝ }
+    ensures { λ b. ⌜ b ≡ paper.vanishes q (tuple (now (t .entry))) ⌝ }
+{
+    let mut j = 0;
+    while j < q {
+        if t[j] != 0 {
+            return false;
+        }
+        j += 1;
+    }
+    true
+}
+
+// The first equation that is off.
+fn first_off(p: usize, q: usize, coefs: &[i32], t: &[u32]) -> Balance
+    requires { ⌜ SmallCoefs p q (now coefs) × SmallTuple q (now t) ⌝ }
+    ensures { λ r. ⌜ OffIs (systemOf (inputOf p q (now (coefs .entry)))) (tuple (now (t .entry))) r ⌝ }
+{
+    let mut i = 0;
+    while i < p {
+        let amount = left_side(q, coefs, i, t);
+        if amount != 0 {
+            return Balance::Off(i + 1, amount);
+        }
+        i += 1;
+    }
+    Balance::Even
+}
+
+// The left side of equation i, from 0, at the tuple.
+fn left_side(q: usize, coefs: &[i32], i: usize, t: &[u32]) -> i64
+    requires { ⌜ SmallEquation q (now coefs) i × SmallTuple q (now t) ⌝ }
+    ensures { λ r. ⌜ r ≡ value (λ j. getD (now (coefs .entry)) (i * q + j) (pos 0)) q (tuple (now (t .entry))) ⌝ }
+{
+    let mut sum: i64 = 0;
+    let mut j = 0;
+    while j < q {
+        sum = products::sum_and(
+            sum,
+            products::wide(coefs[i * q + j]),
+            products::natural(t[j]),
+        );
+        j += 1;
+    }
+    sum
+}
