@@ -192,8 +192,11 @@ abbrev pub servedTo : Schedule → Round → Round → Dispatched
 servedTo d before after = record { check = go; answers = answersOf d after; steps = stepsBetween (d .count) before after; round = after }
 
 -- "a refusal not given within a walk changes nothing lent"
+abbrev pub refusedWith : Check → Round → Dispatched
+refusedWith check r = record { check = check; answers = λ i. answers.started; steps = 0; round = r }
+
 abbrev pub checkedTurns : Check → ℕ → Schedule → Round → Dispatched
-checkedTurns (refuse n values) turns d r = record { check = refuse n values; answers = λ i. answers.started; steps = 0; round = r }
+checkedTurns (refuse n values) turns d r = refusedWith (refuse n values) r
 checkedTurns go turns d r = servedTo d r (afterTurns turns d (opened r))
 
 unfoldable pub dispatch : ℕ → Schedule → Round → Dispatched

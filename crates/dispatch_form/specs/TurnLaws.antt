@@ -12,7 +12,7 @@ use Rattle.definitions.specs.Tables.{State}
 use Rattle.dispatch_form.specs.Parts.{Part, partOf, withPart}
 use Rattle.dispatch_form.specs.PartLaws.{In, Apart, part-length, with-length, with-own, with-other, with-outside}
 use Rattle.dispatch_form.specs.ResumeLaws.{resume-stack-length, resume-list-length, Rises, rises-not, rises-on, resume-rises}
-use Rattle.dispatch_form.specs.RoundLaws.{put-same, put-other}
+use Rattle.dispatch_form.specs.RoundLaws.{next-some, put-same, put-other}
 use Rattle.dispatch_form.specs.Dispatch.{Schedule, Round, Progress, own, next, leaveTurn, turnOf, serveRun, serve, afterTurns}
 
 -- the parts as the check for 28 found them, for tables of these lengths
@@ -96,3 +96,17 @@ pub turns-rise : (k : ℕ) (d : Schedule) (r : Round) (i : ℕ) → Rises (r .pr
 unfolding afterTurns serve
 turns-rise zero d r i = rises-not (r .progress i .run .steps)
 turns-rise (suc k) d r i = rises-on (turns-rise k d r i) (serve-rises d (afterTurns k d r) (next (d .count) (afterTurns k d r)) i)
+
+-- ---- numbers past the runs
+
+serve-past : (d : Schedule) (r : Round) (o : Option ℕ) → 0 < d .count → next (d .count) r ≡ o → (i : ℕ) → d .count ≤ i → serveRun o d r .progress i ≡ r .progress i
+unfolding leaveTurn
+serve-past d r none some-run e i l = refl
+serve-past d r (some j) some-run e i l =
+    put-other j _ (r .progress) i (λ q. omega (arith, q, next-some (d .count) r some-run j e .below))
+
+pub turns-past : (k : ℕ) (d : Schedule) (r : Round) → 0 < d .count → (i : ℕ) → d .count ≤ i → afterTurns k d r .progress i ≡ r .progress i
+unfolding afterTurns serve
+turns-past zero d r some-run i l = refl
+turns-past (suc k) d r some-run i l =
+    serve-past d (afterTurns k d r) (next (d .count) (afterTurns k d r)) some-run refl i l ∙ turns-past k d r some-run i l

@@ -9,14 +9,13 @@ use native.Mathlib.Decide.{ℕ-discrete}
 use native.Mathlib.Nat.{zero-add}
 use native.Mathlib.Omega.{arith}
 use borrow.Author.Tests.{eq-eqb, ne-eqb}
-use Rattle.definitions.specs.Answers.{Answer, go}
-use Rattle.definitions.specs.Calls.{Outcome, resume}
-use Rattle.definitions.specs.System.{System}
-use Rattle.definitions.specs.Tables.{State}
-use Rattle.laws.specs.CallLaws.{walk-done, walk-paused, resume-walks}
-use Rattle.laws.specs.CheckLaws.{check-cases}
+use Rattle.definitions.specs.Calls.{machine, resume}
+use Rattle.definitions.specs.Input.{Input}
+use Rattle.definitions.specs.Machine.{Outcome}
 use Rattle.definitions.specs.Refusals.{resumeChecks}
-use Rattle.dispatch_form.specs.ResumeLaws.{resume-refused}
+use Rattle.definitions.specs.Tables.{State}
+use Rattle.laws.specs.CheckLaws.{check-cases}
+use Rattle.laws.specs.MachineLaws.{call-refused, call-walks, walk-done, walk-paused}
 use Rattle.dispatch_form.specs.RoundLaws.{Next}
 use Rattle.dispatch_form.specs.TurnLaws.{Laid, turn-fits, turn-own, turn-answer, turn-progress, turn-other}
 use Rattle.dispatch_form.specs.CheckRules.{accepted}
@@ -25,15 +24,19 @@ use Rattle.dispatch_promises.specs.Turns.{Turn, turnTaken, turnsOf, turn
 use Rattle.dispatch_promises.specs.Serving.{after-turns, opened-laid, Served}
 
 -- a call with allowance 0 changes nothing
-pub idle : (m : System) (s : State) → resume 0 m s .state ≡ s
-idle m s =
-    elim (check-cases (resumeChecks m s)) [
-      | inr (r, values, e) ↦ rw (resume-refused 0 m s r values e)
-      | inl e ↦ rw (resume-walks m s 0 e .0) (elim (ℕ-discrete (s .height) 0) [ yes z ↦ rw (walk-done m s 0 z .0) | no z ↦ rw (walk-paused m s (omega (arith, z)) .0) ])
+pub idle : (input : Input) (s : State) → resume 0 input s .state ≡ s
+idle input s =
+    elim (check-cases (resumeChecks input s)) [
+      | inr (r, values, e) ↦ rw (call-refused (machine input) s 0 r values e .0)
+      | inl e ↦ rw (call-walks (machine input) s 0 e .0)
+      (elim (ℕ-discrete (s .run .height) 0) [
+        | yes z ↦ rw (walk-done (machine input) s 0 z .0)
+        | no z ↦ rw (walk-paused (machine input) s (omega (arith, z)) .0)
+      ])
     ]
 
 -- run i as the dispatcher leaves it
-abbrev pub outcomeFor : Schedule → Round → ℕ → Outcome
+abbrev pub outcomeFor : Schedule → Round → ℕ → Outcome State
 outcomeFor d r i = record { answer = answerFor d r i; state = own d r i }
 
 -- the turns of run i, one more or not
@@ -48,14 +51,14 @@ turns-other i t log ne = rw (ne-eqb i (t .run) ne) (omega arith)
 module _ (d : Schedule) (r₀ : Round) (i : ℕ) (li : i < d .count) where
   -- after these turns run i is where it would be alone
   abbrev Alike : Round → List Turn → Type 0
-  Alike r log = outcomeFor d r i ≡ alone (d .quantum) (turnsBy i log) (d .shares i .system) (own d r₀ i)
+  Alike r log = outcomeFor d r i ≡ alone (d .quantum) (turnsBy i log) (d .shares i .input) (own d r₀ i)
 
   alike-own : (r : Round) (log : List Turn) → Laid d r → Alike r log → Alike (leaveTurn d i r (turnOf d i r)) (turnTaken d i r ∷ log)
   unfolding answerFor alone
   alike-own r log l a =
       let f = turn-fits d r l i li (d .quantum) in
       rw (turns-own i (turnTaken d i r) log refl, turn-own d r l i li (turnOf d i r) f, turn-answer d r l i li (turnOf d i r) f)
-      (ap (λ (o : Outcome). resume (d .quantum) (d .shares i .system) (o .state)) a)
+      (ap (λ (o : Outcome State). resume (d .quantum) (d .shares i .input) (o .state)) a)
 
   alike-other : (r : Round) (log : List Turn) → Laid d r → Alike r log → (j : ℕ) → j < d .count → ¬ (i ≡ j) → Alike (leaveTurn d j r (turnOf d j r)) (turnTaken d j r ∷ log)
   unfolding answerFor
@@ -72,11 +75,13 @@ module _ (d : Schedule) (r₀ : Round) (i : ℕ) (li : i < d .count) where
 
   alike-opened : Alike (opened r₀) []
   unfolding answerFor alone turnsBy own opened
-  alike-opened = let e = idle (d .shares i .system) (own d r₀ i) in ap (λ (s : State). record { answer = resume 0 (d .shares i .system) (own d r₀ i) .answer; state = s }) (sym e)
+  alike-opened = let e = idle (d .shares i .input) (own d r₀ i) in ap (λ (s : State). record { answer = resume 0 (d .shares i .input) (own d r₀ i) .answer; state = s }) (sym e)
 
 -- in a call that serves, each run is where it would be alone, after as many continuing calls as it had turns
-pub each-alone : {turns : ℕ} {d : Schedule} {r : Round} {answers : ℕ → Answer} {steps : ℕ} → Served turns d r answers steps → (i : ℕ) → i < d .count → record { answer = answers i; state = own d (dispatch turns d r .round) i } ≡ alone (d .quantum) (turnsBy i (turnsOf turns d r)) (d .shares i .system) (own d r i)
+pub each-alone : {turns : ℕ} {d : Schedule} {r : Round} → Served turns d r → (i : ℕ) → i < d .count
+    → record { answer = dispatch turns d r .answers i; state = own d (dispatch turns d r .round) i }
+    ≡ alone (d .quantum) (turnsBy i (turnsOf turns d r)) (d .shares i .input) (own d r i)
 each-alone {turns} {d} {r} s i li =
     let a = accepted d r (s .goes) in
-    rw (s .answers-are, s .round-is, s .turns-are)
+    rw (s .answers-are i li, s .round-is, s .turns-are)
     (after-turns d (a .some-run) (Alike d r i li) (alike-turn d r i li) (opened r) (opened-laid d r (a .laid)) (alike-opened d r i li) turns .1)

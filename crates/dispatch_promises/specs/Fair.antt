@@ -13,15 +13,16 @@ use borrow.Author.Tests.{lt-ltb, le-ltb}
 use lib.Dec.{T, lt→ltb}
 use lib.ListN.{length}
 use Rattle.linear.specs.Cases.{split}
-use Rattle.definitions.specs.Answers.{Answer, started, complete, paused, refused, go, refuse}
-use Rattle.definitions.specs.Calls.{Outcome, resume, resumeSteps, walk, walkSteps}
+use Rattle.definitions.specs.Answers.{Answer, paused, refused}
+use Rattle.definitions.specs.Calls.{machine, resume, resumeSteps}
+use Rattle.definitions.specs.Input.{Input, systemOf}
+use Rattle.definitions.specs.Machine.{Machine, Outcome, walkSteps}
 use Rattle.definitions.specs.Refusals.{resumeChecks, searchChecks}
 use Rattle.definitions.specs.Step.{step}
-use Rattle.definitions.specs.System.{System}
 use Rattle.definitions.specs.Tables.{State}
-use Rattle.laws.specs.CallLaws.{walk-done, walk-paused, walk-refused, walk-more, resume-walks}
 use Rattle.laws.specs.CheckLaws.{check-cases}
-use Rattle.theorems.specs.After.{Ends, completes, pauses, refuses, Walked, resumed, refused-none}
+use Rattle.laws.specs.MachineLaws.{call-refused, call-walks, walk-done, walk-more, walk-refused}
+use Rattle.theorems.specs.WholeSteps.{Ends, called, completes, pauses, refuses}
 use Rattle.dispatch_form.specs.RoundLaws.{put-same, put-other, none-not-some, asked-below, ahead, ahead-less, ahead-round, ahead-below, further-ahead, Next, next-some}
 use Rattle.dispatch_form.specs.CheckRules.{Accepted, accepted}
 use Rattle.dispatch_form.specs.Dispatch.{Schedule, Round, Progress, mostRuns, inRound, staysIn, firstAsked, further, own, next, leaveTurn, turnOf, serveRun, serve, afterTurns, opened, dispatchChecks, dispatch}
@@ -43,37 +44,37 @@ pub data NoneOf (i : ℕ) : List Turn → Type 0 where
 
 -- ---- a turn takes at most its steps
 
-walk-few : (n : ℕ) (m : System) (s : State) → walkSteps n m s ≤ n
+walk-few : (n : ℕ) (i : Input) (s : State) → walkSteps n (machine i) s ≤ n
 unfolding walkSteps
-walk-few zero m s = omega arith
-walk-few (suc n) m s =
-    elim (ℕ-discrete (s .height) 0) [
-      | yes e ↦ omega (arith, walk-done m s (suc n) e .1)
-      | no ne ↦ elim (check-cases (searchChecks m s)) [
-        | inl e ↦ omega (arith, walk-more m s n (omega (arith, ne)) e .1, walk-few n m (step m s))
-        | inr (r, values, e) ↦ omega (arith, walk-refused m s n r values (omega (arith, ne)) e .1)
+walk-few zero i s = omega arith
+walk-few (suc n) i s =
+    elim (ℕ-discrete (s .run .height) 0) [
+      | yes e ↦ omega (arith, walk-done (machine i) s (suc n) e .1)
+      | no ne ↦ elim (check-cases (searchChecks (systemOf i) s)) [
+        | inl e ↦ omega (arith, walk-more (machine i) s n (omega (arith, ne)) e .1, walk-few n i (step (systemOf i) s))
+        | inr (r, values, e) ↦ omega (arith, walk-refused (machine i) s n r values (omega (arith, ne)) e .1)
       ]
     ]
 
-pub resume-few : (n : ℕ) (m : System) (s : State) → resumeSteps n m s ≤ n
-resume-few n m s =
-    elim (check-cases (resumeChecks m s)) [
-      | inl e ↦ rw (resume-walks m s n e .1) (walk-few n m s)
-      | inr (r, values, e) ↦ omega (arith, refused-none n m s r values e .1)
+pub resume-few : (n : ℕ) (i : Input) (s : State) → resumeSteps n i s ≤ n
+resume-few n i s =
+    elim (check-cases (resumeChecks i s)) [
+      | inl e ↦ rw (call-walks (machine i) s n e .1) (walk-few n i s)
+      | inr (r, values, e) ↦ omega (arith, call-refused (machine i) s n r values e .1)
     ]
 
 -- a run that pauses is unfinished
-paused-high : {n k : ℕ} {m : System} {t : State} {a : Answer} → Ends n k m t a → a ≡ paused → 0 < t .height
+paused-high : {n i : ℕ} {k : Machine State} {t : State} {a : Answer} → Ends n i k t a → a ≡ paused → 0 < k .height t
 paused-high (completes h) e = absurd (let z : _≡_ {A = ℕ} 0 1 = cc in omega arith)
 paused-high (pauses h q) e = h
 paused-high (refuses r values h l q) e = h
 
-pub resume-paused : (n : ℕ) (m : System) (s : State) → resume n m s .answer ≡ paused → 0 < resume n m s .state .height
-resume-paused n m s e =
-    elim (check-cases (resumeChecks m s)) [
-      | inl c ↦ paused-high (resumed m n s c .ends) e
+pub resume-paused : (n : ℕ) (i : Input) (s : State) → resume n i s .answer ≡ paused → 0 < resume n i s .state .run .height
+resume-paused n i s e =
+    elim (check-cases (resumeChecks i s)) [
+      | inl c ↦ paused-high (called (machine i) n s c .ends) e
       | inr (r, values, c) ↦
-          let q : refused r values ≡ paused = sym (ap (λ (o : Outcome). o .answer) (refused-none n m s r values c .0)) ∙ e in
+          let q : refused r values ≡ paused = sym (ap (λ (o : Outcome State). o .answer) (call-refused (machine i) s n r values c .0)) ∙ e in
           absurd (let z : _≡_ {A = ℕ} 0 1 = cc in omega arith)
     ]
 
@@ -132,7 +133,7 @@ next-ahead count r some-run i j li n stays ne =
 record Waiting (d : Schedule) (r : Round) (i : ℕ) (between : List Turn) : Type 0 where
   below : i < d .count
   stays : T (inRound r i)
-  high : 0 < r .progress i .height
+  high : 0 < r .progress i .run .height
   few : length between + suc (ahead (d .count) (firstAsked (d .count) (r .last)) i) ≤ d .count
   worth : taken between ≤ length between * d .quantum
 
@@ -144,12 +145,12 @@ module _ (d : Schedule) (some-run : 0 < d .count) (r : Round) (i : ℕ) where
       record {
         below = li;
         stays = rw (same, e) tt;
-        high = rw same (resume-paused (d .quantum) (d .shares i .system) (own d r i) e);
+        high = rw same (resume-paused (d .quantum) (d .shares i .input) (own d r i) e);
         few = omega (arith, all-ahead (d .count) i li);
         worth = omega arith;
       }
     where
-      same : leaveTurn d i r (turnOf d i r) .progress i ≡ record { height = turnOf d i r .state .height; found = turnOf d i r .state .found; steps = turnOf d i r .state .steps; answer = some (turnOf d i r .answer) }
+      same : leaveTurn d i r (turnOf d i r) .progress i ≡ record { run = turnOf d i r .state .run; answer = some (turnOf d i r .answer) }
       same = put-same i _ (r .progress)
 
   -- after another run's turn
@@ -161,7 +162,7 @@ module _ (d : Schedule) (some-run : 0 < d .count) (r : Round) (i : ℕ) where
         stays = rw same (w .stays);
         high = rw same (w .high);
         few = omega (arith, w .few, nearer (d .count) (firstAsked (d .count) (r .last)) i j (asked-below (d .count) (r .last) some-run) (w .below) (n .below) (next-ahead (d .count) r some-run i j (w .below) n (w .stays) ne));
-        worth = rw (suc-mul (length between) (d .quantum)) (omega (arith, w .worth, resume-few (d .quantum) (d .shares j .system) (own d r j)));
+        worth = rw (suc-mul (length between) (d .quantum)) (omega (arith, w .worth, resume-few (d .quantum) (d .shares j .input) (own d r j)));
       }
     where
       same : leaveTurn d j r (turnOf d j r) .progress i ≡ r .progress i
@@ -170,7 +171,7 @@ module _ (d : Schedule) (some-run : 0 < d .count) (r : Round) (i : ℕ) where
   -- from one call to the next
   waits-opened : (between : List Turn) → Waiting d r i between → Waiting d (opened r) i between
   unfolding opened
-  waits-opened between w = record { below = w .below; stays = lt→ltb 0 (r .progress i .height) (w .high); high = w .high; few = w .few; worth = w .worth }
+  waits-opened between w = record { below = w .below; stays = lt→ltb 0 (r .progress i .run .height) (w .high); high = w .high; few = w .few; worth = w .worth }
 
 -- ---- turns and calls, one moment after the other
 

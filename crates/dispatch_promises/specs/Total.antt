@@ -7,11 +7,8 @@ use native.Mathlib.Decide.{ℕ-discrete}
 use native.Mathlib.Omega.{arith}
 use borrow.Author.Tests.{eq-eqb, ne-eqb}
 use Rattle.linear.specs.Cases.{below-suc}
-use Rattle.definitions.specs.Answers.{Answer}
-use Rattle.definitions.specs.Calls.{resume, resumeSteps}
-use Rattle.definitions.specs.System.{System}
 use Rattle.definitions.specs.Tables.{State}
-use Rattle.theorems.specs.After.{resume-after, after-counts}
+use Rattle.dispatch_form.specs.ResumeLaws.{resume-counts}
 use Rattle.dispatch_form.specs.RoundLaws.{Next}
 use Rattle.dispatch_form.specs.TurnLaws.{Laid, turn-fits, turn-own, turn-progress}
 use Rattle.dispatch_form.specs.CheckRules.{accepted}
@@ -19,11 +16,7 @@ use Rattle.dispatch_form.specs.Dispatch.{Schedule, Round, either, totalTo, own,
 use Rattle.dispatch_promises.specs.Turns.{Turn, turnTaken, turnsOf, taken, takenBy}
 use Rattle.dispatch_promises.specs.Serving.{after-turns, opened-laid, Served}
 
--- the record counts the steps of a continuing call
-resume-counts : (n : ℕ) (m : System) (s : State) → resume n m s .state .steps ≡ s .steps + resumeSteps n m s
-resume-counts n m s = ap (λ (t : State). t .steps) (resume-after n m s) ∙ after-counts (resumeSteps n m s) m s
-
-own-steps : (d : Schedule) (r : Round) (i : ℕ) → own d r i .steps ≡ r .progress i .steps
+own-steps : (d : Schedule) (r : Round) (i : ℕ) → own d r i .run .steps ≡ r .progress i .run .steps
 unfolding own
 own-steps d r i = refl
 
@@ -56,17 +49,17 @@ total-more (suc n) f g j k l e others =
 
 module _ (d : Schedule) (r₀ : Round) where
   record Counted (r : Round) (log : List Turn) : Type 0 where
-    each : (i : ℕ) → i < d .count → r .progress i .steps ≡ r₀ .progress i .steps + takenBy i log
+    each : (i : ℕ) → i < d .count → r .progress i .run .steps ≡ r₀ .progress i .run .steps + takenBy i log
     all : totalTo (d .count) (λ i. takenBy i log) ≡ taken log
 
   module _ (r : Round) (log : List Turn) (l : Laid d r) (c : Counted r log) (j : ℕ) (lj : j < d .count) where
-    own-counted : leaveTurn d j r (turnOf d j r) .progress j .steps ≡ r₀ .progress j .steps + takenBy j (turnTaken d j r ∷ log)
+    own-counted : leaveTurn d j r (turnOf d j r) .progress j .run .steps ≡ r₀ .progress j .run .steps + takenBy j (turnTaken d j r ∷ log)
     own-counted =
         let f = turn-fits d r l j lj (d .quantum) in
-        let e = sym (own-steps d (leaveTurn d j r (turnOf d j r)) j) ∙ ap (λ (t : State). t .steps) (turn-own d r l j lj (turnOf d j r) f) in
-        omega (arith, e, resume-counts (d .quantum) (d .shares j .system) (own d r j), own-steps d r j, c .each j lj, taken-own j (turnTaken d j r) log refl)
+        let e = sym (own-steps d (leaveTurn d j r (turnOf d j r)) j) ∙ ap (λ (t : State). t .run .steps) (turn-own d r l j lj (turnOf d j r) f) in
+        omega (arith, e, resume-counts (d .quantum) (d .shares j .input) (own d r j), own-steps d r j, c .each j lj, taken-own j (turnTaken d j r) log refl)
 
-    other-counted : (i : ℕ) → i < d .count → ¬ (i ≡ j) → leaveTurn d j r (turnOf d j r) .progress i .steps ≡ r₀ .progress i .steps + takenBy i (turnTaken d j r ∷ log)
+    other-counted : (i : ℕ) → i < d .count → ¬ (i ≡ j) → leaveTurn d j r (turnOf d j r) .progress i .run .steps ≡ r₀ .progress i .run .steps + takenBy i (turnTaken d j r ∷ log)
     other-counted i li ne =
         let f = turn-fits d r l j lj (d .quantum) in
         rw (turn-progress d r l j lj (turnOf d j r) f i li ne, taken-other i (turnTaken d j r) log ne) (c .each i li)
@@ -92,15 +85,15 @@ module _ (d : Schedule) (r₀ : Round) where
 
 -- "the sum of those the runs took in the call", run by run and turn by turn
 pub record Sum (d : Schedule) (before after : Round) (log : List Turn) (steps : ℕ) : Type 0 where
-  pub each : (i : ℕ) → i < d .count → after .progress i .steps ≡ before .progress i .steps + takenBy i log
+  pub each : (i : ℕ) → i < d .count → after .progress i .run .steps ≡ before .progress i .run .steps + takenBy i log
   pub by-runs : steps ≡ totalTo (d .count) (λ i. takenBy i log)
   pub by-turns : steps ≡ taken log
 
-pub steps-sum : {turns : ℕ} {d : Schedule} {r : Round} {answers : ℕ → Answer} {steps : ℕ} → Served turns d r answers steps → Sum d r (dispatch turns d r .round) (turnsOf turns d r) steps
+pub steps-sum : {turns : ℕ} {d : Schedule} {r : Round} → Served turns d r → Sum d r (dispatch turns d r .round) (turnsOf turns d r) (dispatch turns d r .steps)
 unfolding stepsBetween
-steps-sum {turns} {d} {r} {answers} {steps} s =
+steps-sum {turns} {d} {r} s =
     let a = accepted d r (s .goes) in
     let c = after-turns d (a .some-run) (Counted d r) (λ t log l c i n. counted-turn d r t log l c i (n .below)) (opened r) (opened-laid d r (a .laid)) (counted-opened d r) turns .1 in
     let c′ : Counted d r (dispatch turns d r .round) (turnsOf turns d r) = rw (s .round-is, s .turns-are) c in
-    let sum : steps ≡ totalTo (d .count) (λ i. takenBy i (turnsOf turns d r)) = s .steps-are ∙ total-same (d .count) _ _ (λ i li. omega (arith, c′ .each i li)) in
+    let sum : dispatch turns d r .steps ≡ totalTo (d .count) (λ i. takenBy i (turnsOf turns d r)) = s .steps-are ∙ total-same (d .count) _ _ (λ i li. omega (arith, c′ .each i li)) in
     record { each = c′ .each; by-runs = sum; by-turns = sum ∙ c′ .all }

@@ -4,8 +4,9 @@ use mathlib.Core.List.{List, [], _∷_}
 use mathlib.Core.Option.{Option, none, some}
 use lib.Dec.{eqb}
 use Rattle.definitions.specs.Answers.{Answer, Check, refuse, go}
-use Rattle.definitions.specs.Calls.{Outcome, resume, resumeSteps}
-use Rattle.definitions.specs.System.{System}
+use Rattle.definitions.specs.Calls.{resume, resumeSteps}
+use Rattle.definitions.specs.Input.{Input}
+use Rattle.definitions.specs.Machine.{Outcome}
 use Rattle.definitions.specs.Tables.{State}
 use Rattle.dispatch_form.specs.Dispatch.{Schedule, Round, either, own, next, turnOf, afterTurns, opened, dispatchChecks}
 
@@ -16,7 +17,7 @@ pub record Turn : Type 0 where
 
 -- a turn of run i
 abbrev pub turnTaken : Schedule → ℕ → Round → Turn
-turnTaken d i r = record { run = i; steps = resumeSteps (d .quantum) (d .shares i .system) (own d r i); answer = turnOf d i r .answer }
+turnTaken d i r = record { run = i; steps = resumeSteps (d .quantum) (d .shares i .input) (own d r i); answer = turnOf d i r .answer }
 
 abbrev pub written : Option ℕ → Schedule → Round → List Turn → List Turn
 written none d r log = log
@@ -54,6 +55,6 @@ turnsBy i (t ∷ log) = either (eqb i (t .run)) 1 0 + turnsBy i log
 
 -- "those it would have alone from one continuing call for each of its turns, with a turn's steps as allowance; a run without a turn answers as
 -- to allowance 0"
-unfoldable pub alone : ℕ → ℕ → System → State → Outcome
-alone quantum zero m s = resume 0 m s
-alone quantum (suc k) m s = resume quantum m (alone quantum k m s .state)
+unfoldable pub alone : ℕ → ℕ → Input → State → Outcome State
+alone quantum zero i s = resume 0 i s
+alone quantum (suc k) i s = resume quantum i (alone quantum k i s .state)

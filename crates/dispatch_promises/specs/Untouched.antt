@@ -3,7 +3,6 @@ use mathlib.Core.Path.{_≡_, refl, sym, _∙_, ap}
 use mathlib.Core.List.{List, [], _∷_}
 use Prim.Native.Nat.{ℕ, _<_}
 use lib.ListN.{length, getD}
-use Rattle.definitions.specs.Answers.{Answer}
 use Rattle.dispatch_form.specs.Parts.{Part}
 use Rattle.dispatch_form.specs.PartLaws.{In, with-length}
 use Rattle.dispatch_form.specs.RoundLaws.{Next}
@@ -48,7 +47,7 @@ module _ (d : Schedule) (r₀ : Round) where
   unfolding opened
   same-opened = record { stacks = record { long = refl; outside = λ x out. refl }; lists = record { long = refl; outside = λ x out. refl } }
 
-module _ {turns : ℕ} {d : Schedule} {r : Round} {answers : ℕ → Answer} {steps : ℕ} (s : Served turns d r answers steps) where
+module _ {turns : ℕ} {d : Schedule} {r : Round} (s : Served turns d r) where
   same : Tables d r (dispatch turns d r .round) []
   same =
       let a = accepted d r (s .goes) in

@@ -6,12 +6,13 @@ use mathlib.Core.List.{List, []}
 use mathlib.Core.Option.{none}
 use Prim.Native.Nat.{ℕ, _+_, _-_, _≤_, _<_}
 use native.Mathlib.Omega.{arith}
+use borrow.Author.Tests.{lt-ltb, le-ltb}
 use lib.IntN.{ℤ}
 use lib.ListN.{length, getD, List·getD-eq-default}
 use Rattle.linear.specs.Cases.{split}
 use Rattle.definitions.specs.Answers as paper
 use Rattle.definitions.specs.Tables.{State}
-use Rattle.calls.specs.Paper.{answerOf}
+use Rattle.calls.specs.Paper.{answerOf, runOf}
 use Rattle.calls.specs.declared.Record.{Record}
 use Rattle.calls.specs.declared.Outcome.{Outcome}
 use Rattle.dispatch_form.specs.Parts.{apart}
@@ -19,7 +20,7 @@ use Rattle.dispatch_form.specs.Dispatch as form
 use Rattle.dispatch_form.specs.Dispatch.{own, opened, afterTurns, answerFor, stepsBetween, totalTo, dispatchChecks, dispatch}
 use Rattle.dispatch_form.specs.CheckRules.{Accepted, accepted}
 use Rattle.dispatch_form.specs.ResumeLaws.{Rises}
-use Rattle.dispatch_form.specs.TurnLaws.{turns-rise}
+use Rattle.dispatch_form.specs.TurnLaws.{turns-past, turns-rise}
 use Rattle.dispatcher.specs.declared.types.Share.{Share}
 use Rattle.dispatcher.specs.declared.types.Progress.{Progress}
 use Rattle.dispatcher.specs.declared.types.Fault.{Fault}
@@ -35,25 +36,15 @@ use Rattle.dispatcher.specs.Finish.{Rising, Finishing}
 abbrev pub handed : List ℕ → List ℕ → List Record → ℕ → form.Round
 handed stack list records last = record { stack = stack; list = list; progress = λ i. progressOf (unservedOf (getD records i noRecord)); last = last }
 
--- a run's record is what the definitions have
-pub record SameRecord (r : Record) (p : form.Progress) : Type 0 where
-  pub height : r .height ≡ p .height
-  pub found : r .found .0 ≡ p .found
-  pub steps : r .steps .0 ≡ p .steps
-
--- the reply: refusal 27 or 28, or the runs' answers and the steps that they took
-abbrev pub Replies : Verdict → ℕ → List Outcome → ℕ → form.Reply → Type 0
-Replies (Refuse why) count outcomes steps reply = (reply ≡ form.refused (faultOf why)) × (steps ≡ 0)
-Replies Pass count outcomes steps reply =
-    (answers : ℕ → paper.Answer) × (reply ≡ form.served answers steps) × ((i : ℕ) → i < count → answerOf (getD outcomes i noOutcome .answer) ≡ answers i)
-
--- what a call returns, and leaves in the tables, is what the definitions have
-pub record Returns (count : ℕ) (x : form.Outcome) (d : Dispatched) (stack list : List ℕ) : Type 0 where
-  pub reply : Replies (d .verdict) count (d .outcomes) (d .steps) (x .reply)
+-- what a call returns, and leaves in the tables, is what the definitions have: at each of the eight places an answer and a record
+pub record Returns (x : form.Dispatched) (d : Dispatched) (stack list : List ℕ) : Type 0 where
+  pub check : verdictOf (d .verdict) ≡ x .check
+  pub answers : (i : ℕ) → i < 8 → answerOf (getD (d .outcomes) i noOutcome .answer) ≡ x .answers i
+  pub records : (i : ℕ) → i < 8 → runOf (getD (d .outcomes) i noOutcome .run) ≡ x .round .progress i .run
+  pub steps : d .steps ≡ x .steps
+  pub last : d .last ≡ x .round .last
   pub stacks : stack ≡ x .round .stack
   pub lists : list ≡ x .round .list
-  pub records : (i : ℕ) → i < count → i < 8 → SameRecord (getD (d .outcomes) i noOutcome .run) (x .round .progress i)
-  pub last : d .last ≡ x .round .last
 
 -- ---- refused
 
@@ -69,17 +60,19 @@ unfolding checksFor dispatchChecks
 checks-are count shares coefs quantum stack list records last = refl
 
 module _ (count : ℕ) (shares : List Share) (coefs : List ℤ) (quantum : ℕ) (stack list : List ℕ) (records : List Record) (last turns : ℕ) where
-  pub returns-refused : {why : Fault} {v : Verdict} → verdictOf v ≡ checksFor count shares quantum last (length stack) (length list) → v ≡ Refuse why → (d : Dispatched) → Refused why records last d → Returns count (dispatch turns (scheduleFor count shares coefs quantum) (handed stack list records last)) d stack list
+  pub returns-refused : {why : Fault} {v : Verdict} → verdictOf v ≡ checksFor count shares quantum last (length stack) (length list) → v ≡ Refuse why → (d : Dispatched) → Refused why records last d → Returns (dispatch turns (scheduleFor count shares coefs quantum) (handed stack list records last)) d stack list
   unfolding dispatch
   returns-refused {why} e q d r =
       let c : paper.refuse (faultOf why) [] ≡ dispatchChecks (scheduleFor count shares coefs quantum) (handed stack list records last) = sym (ap verdictOf q) ∙ e ∙ checks-are count shares coefs quantum stack list records last in
       rw (← c)
       (record {
-        reply = rw (r .verdict) (refl, r .steps);
+        check = rw (r .verdict) refl;
+        answers = λ i l. rw (r .outcomes .same i l) refl;
+        records = λ i l. rw (r .outcomes .same i l) refl;
+        steps = r .steps;
+        last = r .number;
         stacks = refl;
         lists = refl;
-        records = λ i l h. rw (r .outcomes .same i h) (record { height = refl; found = refl; steps = refl });
-        last = r .number;
       })
 
   -- ---- served
@@ -116,17 +109,29 @@ module _ (count : ℕ) (shares : List Share) (coefs : List ℤ) (quantum : ℕ) 
       unfolding opened
       rise i = rw turned-to at (turns-rise turns (scheduleFor count shares coefs quantum) (opened (handed stack list records last)) i)
 
+      -- a place past the runs has no turn
+      past : (i : ℕ) → count ≤ i → runOf (getD records i noRecord) ≡ runOf (getD progress′ i noProgress .run)
+      unfolding opened
+      past i l =
+          let t = turns-past turns (scheduleFor count shares coefs quantum) (opened (handed stack list records last)) (ready .some-run) i l in
+          sym (ap (λ (p : form.Progress). p .run) (rw turned-to at t))
+
       pub rising : Rising count records progress′
       rising = record { rises = λ i l. rise i }
 
-      pub returns-served : {outcomes : List Outcome} {steps : ℕ} → Finishing count shares coefs stack′ list′ records progress′ outcomes steps count → Returns count (dispatch turns (scheduleFor count shares coefs quantum) (handed stack list records last)) (record { verdict = Pass; outcomes = outcomes; last = last′; steps = steps }) stack′ list′
+      pub returns-served : {outcomes : List Outcome} {steps : ℕ} → Finishing count shares coefs stack′ list′ records progress′ outcomes steps count → Returns (dispatch turns (scheduleFor count shares coefs quantum) (handed stack list records last)) (record { verdict = Pass; outcomes = outcomes; last = last′; steps = steps }) stack′ list′
       unfolding dispatch answerFor own stepsBetween
       returns-served g =
           rw (goes, turned-to)
           (record {
-            reply = (answerFor (scheduleFor count shares coefs quantum) (roundFor stack′ list′ progress′ last′), rw (g .sum) refl, λ i l. g .each i l .answer);
+            check = refl;
+            answers = λ i l. elim (split i count) [ inl m ↦ rw (lt-ltb i count m) (g .each i m .answer) | inr m ↦ rw (le-ltb i count m, g .others i m l) refl ];
+            records = λ i l. elim (split i count) [
+              | inl m ↦ ap runOf (g .each i m .run)
+              | inr m ↦ ap (λ (o : Outcome). runOf (o .run)) (g .others i m l) ∙ past i m
+            ];
+            steps = rw (g .sum) refl;
+            last = refl;
             stacks = refl;
             lists = refl;
-            records = λ i l m. rw (g .each i l .run) (record { height = refl; found = refl; steps = refl });
-            last = refl;
           })

@@ -10,7 +10,7 @@ use lib.IntN.{ℤ}
 use lib.ListN.{length, getD, set, length-set}
 use lib.Seq.{getD-set-same, getD-set-other}
 use Rattle.definitions.specs.Refusals.{stepLimit}
-use Rattle.definitions.specs.System.{System}
+use Rattle.definitions.specs.Input.{Input}
 use Rattle.definitions.specs.Tables.{State}
 use Rattle.calls.specs.declared.Record.{Record}
 use Rattle.calls.specs.declared.Outcome.{Outcome}
@@ -18,7 +18,8 @@ use Rattle.dispatch_form.specs.Dispatch.{totalTo}
 use Rattle.dispatch_form.specs.ResumeLaws.{Rises}
 use Rattle.dispatcher.specs.declared.types.Share.{Share}
 use Rattle.dispatcher.specs.declared.types.Progress.{Progress}
-use Rattle.dispatcher.specs.Form.{noRun, noRecord, noProgress, noOutcome, systemFor, ownState}
+use Rattle.dispatcher.specs.Form.{noRun, noRecord, noProgress, noOutcome, inputFor, keptOf, ownState}
+use Rattle.dispatcher.specs.Filling.{Filled}
 use Rattle.dispatcher.specs.Idle.{OutcomeFor}
 
 -- each run's count of steps has not fallen, and has risen to no more than the limit
@@ -29,13 +30,13 @@ pub record Rising (count : ℕ) (records : List Record) (progress : List Progres
 abbrev pub took : List Record → List Progress → ℕ → ℕ
 took records progress i = getD progress i noProgress .run .steps .0 - getD records i noRecord .steps .0
 
-pub took-by : {p : Progress} {m : System} {s : State} {o : Outcome} (b : ℕ) {t : ℕ} → OutcomeFor p m s o → t ≡ o .run .steps .0 - b → t ≡ p .run .steps .0 - b
+pub took-by : {p : Progress} {m : Input} {s : State} {o : Outcome} (b : ℕ) {t : ℕ} → OutcomeFor p m s o → t ≡ o .run .steps .0 - b → t ≡ p .run .steps .0 - b
 took-by b h e = rw (h .run) at e
 
 -- what is answered for run i
 abbrev pub AnswersFor : List Share → List ℤ → List ℕ → List ℕ → List Progress → List Outcome → ℕ → Type 0
 AnswersFor shares coefs stack list progress outcomes i =
-    OutcomeFor (getD progress i noProgress) (systemFor (getD shares i noRun) coefs)
+    OutcomeFor (getD progress i noProgress) (inputFor (getD shares i noRun) coefs)
     (ownState (getD shares i noRun .stack) (getD shares i noRun .list) stack list (getD progress i noProgress .run))
     (getD outcomes i noOutcome)
 
@@ -44,12 +45,14 @@ pub record Finishing (count : ℕ) (shares : List Share) (coefs : List ℤ) (sta
   pub upto : i ≤ count
   pub long : length outcomes ≡ 8
   pub each : (j : ℕ) → j < i → AnswersFor shares coefs stack list progress outcomes j
+  pub others : (j : ℕ) → i ≤ j → j < 8 → getD outcomes j noOutcome ≡ keptOf (getD records j noRecord)
   pub sum : steps ≡ totalTo i (took records progress)
 
 module _ (count : ℕ) (shares : List Share) (coefs : List ℤ) (stack list : List ℕ) (records : List Record) (progress : List Progress) where
-  pub finishing-begins : (outcomes : List Outcome) → length outcomes ≡ 8 → Finishing count shares coefs stack list records progress outcomes 0 0
+  pub finishing-begins : (outcomes : List Outcome) → Filled 8 (λ j. keptOf (getD records j noRecord)) noOutcome outcomes 8
+      → Finishing count shares coefs stack list records progress outcomes 0 0
   unfolding totalTo
-  finishing-begins outcomes e = record { upto = omega arith; long = e; each = λ j l. absurd (omega arith); sum = refl }
+  finishing-begins outcomes f = record { upto = omega arith; long = f .long; each = λ j l. absurd (omega arith); others = λ j l h. f .same j h; sum = refl }
 
 total-bound : (n b : ℕ) (f : ℕ → ℕ) → ((i : ℕ) → i < n → f i ≤ b) → totalTo n f ≤ n * b
 unfolding totalTo
@@ -66,7 +69,7 @@ module _ {count : ℕ} {shares : List Share} {coefs : List ℤ} {stack list : Li
   finishing-small r e =
       omega (arith, f .sum, total-bound i stepLimit (took records progress) (λ j l. took-few r j (omega arith)), took-few r i less)
 
-  pub finishing-more : {t : ℕ} → t ≡ took records progress i → (o : Outcome) → OutcomeFor (getD progress i noProgress) (systemFor (getD shares i noRun) coefs) (ownState (getD shares i noRun .stack) (getD shares i noRun .list) stack list (getD progress i noProgress .run)) o → Finishing count shares coefs stack list records progress (set outcomes i o) (steps + t) (i + 1)
+  pub finishing-more : {t : ℕ} → t ≡ took records progress i → (o : Outcome) → OutcomeFor (getD progress i noProgress) (inputFor (getD shares i noRun) coefs) (ownState (getD shares i noRun .stack) (getD shares i noRun .list) stack list (getD progress i noProgress .run)) o → Finishing count shares coefs stack list records progress (set outcomes i o) (steps + t) (i + 1)
   unfolding totalTo
   finishing-more e o h =
       record {
@@ -76,6 +79,7 @@ module _ {count : ℕ} {shares : List Share} {coefs : List ℤ} {stack list : Li
           | yes q ↦ rw (q, getD-set-same outcomes i o noOutcome (omega (arith, f .long))) h
           | no q ↦ rw (getD-set-other outcomes i j o noOutcome q) (f .each j (omega (arith, q)))
         ];
+        others = λ j l h. getD-set-other outcomes i j o noOutcome (λ q. omega arith) ∙ f .others j (omega arith) h;
         sum = rw (add-one i, f .sum, e);
       }
 

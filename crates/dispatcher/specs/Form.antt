@@ -9,11 +9,11 @@ use lib.IntN.{ℤ}
 use lib.ListN.{getD}
 use Rattle.definitions.specs.Answers as paper
 use Rattle.definitions.specs.Answers.{_then_}
-use Rattle.definitions.specs.Calls as calls
+use Rattle.definitions.specs.Input.{Input, inputOf}
+use Rattle.definitions.specs.Machine as machine
 use Rattle.definitions.specs.Refusals.{between}
-use Rattle.definitions.specs.System.{System}
 use Rattle.definitions.specs.Tables.{State}
-use Rattle.calls.specs.Paper.{stateOf, systemOf, answerOf}
+use Rattle.calls.specs.Paper.{answerOf, runOf, stateOf}
 use Rattle.calls.specs.declared.Record.{Record}
 use Rattle.calls.specs.declared.Outcome.{Outcome}
 use Rattle.calls.specs.declared.Answer.the-variants.{Started}
@@ -59,19 +59,19 @@ pub part-fits : {len : ℕ} (a : Part) {x : parts.Part} → partFor a ≡ x → 
 part-fits a e l = rw (← e) at l
 
 -- a run's coefficients are those that lie in its part of the slice
-abbrev pub systemFor : Share → List ℤ → System
-systemFor run coefs = systemOf (run .p) (run .q) (partOf (partFor (run .coefs)) coefs)
+abbrev pub inputFor : Share → List ℤ → Input
+inputFor share coefs = inputOf (share .p) (share .q) (partOf (partFor (share .coefs)) coefs)
 
-abbrev pub runFor : Share → List ℤ → form.Share
-runFor run coefs = record { system = systemFor run coefs; stackPart = partFor (run .stack); listPart = partFor (run .list) }
+abbrev pub shareFor : Share → List ℤ → form.Share
+shareFor share coefs = record { input = inputFor share coefs; stackPart = partFor (share .stack); listPart = partFor (share .list) }
 
 abbrev pub scheduleFor : ℕ → List Share → List ℤ → ℕ → form.Schedule
-scheduleFor count shares coefs quantum = record { count = count; shares = λ i. runFor (getD shares i noRun) coefs; quantum = quantum }
+scheduleFor count shares coefs quantum = record { count = count; shares = λ i. shareFor (getD shares i noRun) coefs; quantum = quantum }
 
 -- a run's part of the list table, or of the stack table
 abbrev pub chosen : Bool → Share → parts.Part
-chosen true run = partFor (run .list)
-chosen false run = partFor (run .stack)
+chosen true share = partFor (share .list)
+chosen false share = partFor (share .stack)
 
 abbrev pub partAt : Bool → List Share → ℕ → parts.Part
 partAt ofList shares i = chosen ofList (getD shares i noRun)
@@ -100,7 +100,7 @@ lastOf (Turn a) = some (answerOf a)
 lastOf NoTurn = none
 
 abbrev pub progressOf : Progress → form.Progress
-progressOf p = record { height = p .run .height; found = p .run .found .0; steps = p .run .steps .0; answer = lastOf (p .last) }
+progressOf p = record { run = runOf (p .run); answer = lastOf (p .last) }
 
 abbrev pub roundFor : List ℕ → List ℕ → List Progress → ℕ → form.Round
 roundFor stack list progress last = record { stack = stack; list = list; progress = λ i. progressOf (getD progress i noProgress); last = last }
@@ -120,7 +120,7 @@ turned o = record { run = o .run; last = Turn (o .answer) }
 abbrev pub unservedOf : Record → Progress
 unservedOf r = record { run = r; last = NoTurn }
 
--- and where nothing is answered
+-- where no run is answered for: "started", which no continuing call answers, and the record as it was handed over
 abbrev pub keptOf : Record → Outcome
 keptOf r = record { answer = Started; run = r }
 
@@ -131,7 +131,7 @@ abbrev pub ownState : Part → Part → List ℕ → List ℕ → Record → Sta
 ownState a b stack list r = stateOf (partOf (partFor a) stack) (partOf (partFor b) list) r
 
 -- what a call on the parts left, with the tables whole
-abbrev pub placed : Part → Part → List ℕ → List ℕ → calls.Outcome → calls.Outcome
+abbrev pub placed : Part → Part → List ℕ → List ℕ → machine.Outcome State → machine.Outcome State
 placed a b stack list o =
     record {
       answer = o .answer;
@@ -139,8 +139,6 @@ placed a b stack list o =
           record {
             stack = withPart (partFor a) stack (o .state .stack);
             list = withPart (partFor b) list (o .state .list);
-            height = o .state .height;
-            found = o .state .found;
-            steps = o .state .steps;
+            run = o .state .run;
           };
     }

@@ -11,7 +11,9 @@ use borrow.Author.Tests.{eq-eqb, ne-eqb}
 use lib.IntN.{ℤ}
 use lib.ListN.{length, getD, set, length-set}
 use lib.Seq.{getD-set-same, getD-set-other}
-use Rattle.definitions.specs.Calls as calls
+use Rattle.definitions.specs.Calls.{resume}
+use Rattle.definitions.specs.Machine as machine
+use Rattle.definitions.specs.Tables.{State}
 use Rattle.calls.specs.Paper.{outcomeOf}
 use Rattle.calls.specs.declared.Outcome.{Outcome}
 use Rattle.dispatch_form.specs.Dispatch as form
@@ -21,7 +23,7 @@ use Rattle.dispatcher.specs.declared.types.Share.{Share}
 use Rattle.dispatcher.specs.declared.types.Progress.{Progress}
 use Rattle.dispatcher.specs.declared.round.Found.{Found}
 use Rattle.dispatcher.specs.declared.round.Found.the-variants as found
-use Rattle.dispatcher.specs.Form.{noRun, noProgress, scheduleFor, systemFor, progressOf, roundFor, staysFor, foundOf, turned, ownState, placed}
+use Rattle.dispatcher.specs.Form.{noRun, noProgress, scheduleFor, inputFor, progressOf, roundFor, staysFor, foundOf, turned, ownState, placed}
 
 -- the runs are 1 to 8, and their parts lie in tables of these lengths
 pub record Ready (count : ℕ) (shares : List Share) (stackLength listLength : ℕ) : Type 0 where
@@ -45,12 +47,12 @@ turning-begins count shares coefs quantum turns stack list progress last h = rec
 -- ---- a turn
 
 -- what a call left goes to the round
-abbrev leftBy : form.Round → ℕ → calls.Outcome → form.Round
+abbrev leftBy : form.Round → ℕ → machine.Outcome State → form.Round
 leftBy r i o =
     record {
       stack = o .state .stack;
       list = o .state .list;
-      progress = put i (record { height = o .state .height; found = o .state .found; steps = o .state .steps; answer = some (o .answer) }) (r .progress);
+      progress = put i (record { run = o .state .run; answer = some (o .answer) }) (r .progress);
       last = suc i;
     }
 
@@ -81,7 +83,7 @@ module _ {count : ℕ} {shares : List Share} {coefs : List ℤ} {quantum : ℕ} 
   unfolding afterTurns serve
   served-now o e = rw (← t .same, e)
 
-  pub turning-more : {i : ℕ} → k < turns → i < 8 → next count (roundFor stack list progress last) ≡ some i → (o : Outcome) {stack′ list′ : List ℕ} → outcomeOf o stack′ list′ ≡ placed (getD shares i noRun .stack) (getD shares i noRun .list) stack list (calls.resume quantum (systemFor (getD shares i noRun) coefs) (ownState (getD shares i noRun .stack) (getD shares i noRun .list) stack list (getD progress i noProgress .run))) → length stack′ ≡ length stack → length list′ ≡ length list → Turning count shares coefs quantum r₀ turns (k + 1) stack′ list′ (set progress i (turned o)) (i + 1)
+  pub turning-more : {i : ℕ} → k < turns → i < 8 → next count (roundFor stack list progress last) ≡ some i → (o : Outcome) {stack′ list′ : List ℕ} → outcomeOf o stack′ list′ ≡ placed (getD shares i noRun .stack) (getD shares i noRun .list) stack list (resume quantum (inputFor (getD shares i noRun) coefs) (ownState (getD shares i noRun .stack) (getD shares i noRun .list) stack list (getD progress i noProgress .run))) → length stack′ ≡ length stack → length list′ ≡ length list → Turning count shares coefs quantum r₀ turns (k + 1) stack′ list′ (set progress i (turned o)) (i + 1)
   unfolding leaveTurn own
   turning-more {i} more l e o {stack′} {list′} h ls ll =
       record {

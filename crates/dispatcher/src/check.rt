@@ -14,11 +14,11 @@ use crate::types::Share;
 use crate::types::Verdict;
 
 // A run's part of one of the two tables.
-fn part_of(run: Share, lists: bool) -> Part
-    ensures { λ a. ⌜ partFor a ≡ chosen lists run ⌝ }
+fn part_of(share: Share, lists: bool) -> Part
+    ensures { λ a. ⌜ partFor a ≡ chosen lists share ⌝ }
 {
-    let stack = run.stack;
-    let list = run.list;
+    let stack = share.stack;
+    let list = share.list;
     if lists { list } else { stack }
 }
 

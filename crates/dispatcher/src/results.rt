@@ -5,7 +5,7 @@ ghost use lib.ListN.{length, getD};
 ghost use Rattle.definitions.specs.Calls.{resume};
 ghost use Rattle.calls.specs.Paper.{answerOf};
 ghost use Rattle.dispatch_form.specs.Dispatch.{orIdle};
-ghost use Rattle.dispatcher.specs.Form.{systemFor, ownState, lastOf, noRecord, noProgress, noOutcome, unservedOf, keptOf};
+ghost use Rattle.dispatcher.specs.Form.{inputFor, ownState, lastOf, noRecord, noProgress, noOutcome, unservedOf, keptOf};
 ghost use Rattle.dispatcher.specs.Filling.{Filled};
 ghost use Rattle.dispatcher.specs.Turning.{Ready};
 ghost use Rattle.dispatcher.specs.Finish.{Rising, Finishing};
@@ -30,14 +30,14 @@ fn rest(height: usize) -> Answer
 }
 
 // What a run answers to a budget of 0.
-fn idle(run: Share, coefs: &[i32], stack: &[u32], list: &[u32], r: Record) -> Answer
-    requires { ⌜ run .stack .start + run .stack .size ≤ length (now stack) ⌝ }
-    requires { ⌜ run .list .start + run .list .size ≤ length (now list) ⌝ }
-    ensures { λ a. ⌜ answerOf a ≡ resume 0 (systemFor run (now (coefs .entry))) (ownState (run .stack) (run .list) (now (stack .entry)) (now (list .entry)) r) .answer ⌝ }
+fn idle(share: Share, coefs: &[i32], stack: &[u32], list: &[u32], r: Record) -> Answer
+    requires { ⌜ share .stack .start + share .stack .size ≤ length (now stack) ⌝ }
+    requires { ⌜ share .list .start + share .list .size ≤ length (now list) ⌝ }
+    ensures { λ a. ⌜ answerOf a ≡ resume 0 (inputFor share (now (coefs .entry))) (ownState (share .stack) (share .list) (now (stack .entry)) (now (list .entry)) r) .answer ⌝ }
 {
-    let c = turn::inside(run.coefs, coefs.len());
-    let a = run.stack;
-    let b = run.list;
+    let c = turn::inside(share.coefs, coefs.len());
+    let a = share.stack;
+    let b = share.list;
     let c_start = c.start;
     let c_end = c.start + c.size;
     let a_start = a.start;
@@ -45,8 +45,8 @@ fn idle(run: Share, coefs: &[i32], stack: &[u32], list: &[u32], r: Record) -> An
     let b_start = b.start;
     let b_end = b.start + b.size;
     match checks::check_resume(
-        run.p,
-        run.q,
+        share.p,
+        share.q,
         &coefs[c_start..c_end],
         &stack[a_start..a_end],
         &list[b_start..b_end],
@@ -58,28 +58,28 @@ fn idle(run: Share, coefs: &[i32], stack: &[u32], list: &[u32], r: Record) -> An
 }
 
 // What a run answers: to its last turn, or to a budget of 0 where it had none.
-fn answer(run: Share, coefs: &[i32], stack: &[u32], list: &[u32], p: Progress) -> Answer
-    requires { ⌜ run .stack .start + run .stack .size ≤ length (now stack) ⌝ }
-    requires { ⌜ run .list .start + run .list .size ≤ length (now list) ⌝ }
-    ensures { λ a. ⌜ answerOf a ≡ orIdle (lastOf (p .last)) (systemFor run (now (coefs .entry))) (ownState (run .stack) (run .list) (now (stack .entry)) (now (list .entry)) (p .run)) ⌝ }
+fn answer(share: Share, coefs: &[i32], stack: &[u32], list: &[u32], p: Progress) -> Answer
+    requires { ⌜ share .stack .start + share .stack .size ≤ length (now stack) ⌝ }
+    requires { ⌜ share .list .start + share .list .size ≤ length (now list) ⌝ }
+    ensures { λ a. ⌜ answerOf a ≡ orIdle (lastOf (p .last)) (inputFor share (now (coefs .entry))) (ownState (share .stack) (share .list) (now (stack .entry)) (now (list .entry)) (p .run)) ⌝ }
 {
     let last = p.last;
     let r = p.run;
     match last {
         Last::Turn(a) => a,
-        Last::NoTurn => idle(run, coefs, stack, list, r),
+        Last::NoTurn => idle(share, coefs, stack, list, r),
     }
 }
 
 // What is answered for a run, with its record.
-fn outcome(run: Share, coefs: &[i32], stack: &[u32], list: &[u32], p: Progress) -> Outcome
-    requires { ⌜ run .stack .start + run .stack .size ≤ length (now stack) ⌝ }
-    requires { ⌜ run .list .start + run .list .size ≤ length (now list) ⌝ }
-    ensures { λ o. ⌜ OutcomeFor p (systemFor run (now (coefs .entry))) (ownState (run .stack) (run .list) (now (stack .entry)) (now (list .entry)) (p .run)) o ⌝ }
+fn outcome(share: Share, coefs: &[i32], stack: &[u32], list: &[u32], p: Progress) -> Outcome
+    requires { ⌜ share .stack .start + share .stack .size ≤ length (now stack) ⌝ }
+    requires { ⌜ share .list .start + share .list .size ≤ length (now list) ⌝ }
+    ensures { λ o. ⌜ OutcomeFor p (inputFor share (now (coefs .entry))) (ownState (share .stack) (share .list) (now (stack .entry)) (now (list .entry)) (p .run)) o ⌝ }
 {
     let r = p.run;
     Outcome {
-        answer: answer(run, coefs, stack, list, p),
+        answer: answer(share, coefs, stack, list, p),
         run: r,
     }
 }

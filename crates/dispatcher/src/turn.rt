@@ -3,8 +3,9 @@ ghost use mathlib.Core.Path.{_≡_};
 ghost use Prim.Native.Nat.{_+_, _≤_};
 ghost use lib.ListN.{length};
 ghost use Rattle.definitions.specs.Calls.{resume};
-ghost use Rattle.calls.specs.Paper.{systemOf, outcomeOf};
-ghost use Rattle.dispatcher.specs.Form.{systemFor, ownState, placed};
+ghost use Rattle.definitions.specs.Input.{inputOf};
+ghost use Rattle.calls.specs.Paper.{outcomeOf};
+ghost use Rattle.dispatcher.specs.Form.{inputFor, ownState, placed};
 ghost use Rattle.dispatcher.specs.Cut.{Inside};
 use crate::types::Part;
 use crate::types::Share;
@@ -25,7 +26,7 @@ pub fn serve(
 ) -> Outcome
     requires { ⌜ a .start + a .size ≤ length (now stack) ⌝ }
     requires { ⌜ b .start + b .size ≤ length (now list) ⌝ }
-    ensures { λ o. ⌜ outcomeOf o (now (stack .exit)) (now (list .exit)) ≡ placed a b (now (stack .entry)) (now (list .entry)) (resume quantum (systemOf p q (now (coefs .entry))) (ownState a b (now (stack .entry)) (now (list .entry)) r)) ⌝ }
+    ensures { λ o. ⌜ outcomeOf o (now (stack .exit)) (now (list .exit)) ≡ placed a b (now (stack .entry)) (now (list .entry)) (resume quantum (inputOf p q (now (coefs .entry))) (ownState a b (now (stack .entry)) (now (list .entry)) r)) ⌝ }
 {
     let from = a.start;
     let to = a.start + a.size;
@@ -62,25 +63,25 @@ pub fn inside(a: Part, len: usize) -> Part
 
 // A turn of a run: its coefficients are those that lie in its part of the slice.
 pub fn serve_run(
-    run: Share,
+    share: Share,
     coefs: &[i32],
     stack: &mut [u32],
     list: &mut [u32],
     r: Record,
     quantum: u64,
 ) -> Outcome
-    requires { ⌜ run .stack .start + run .stack .size ≤ length (now stack) ⌝ }
-    requires { ⌜ run .list .start + run .list .size ≤ length (now list) ⌝ }
-    ensures { λ o. ⌜ outcomeOf o (now (stack .exit)) (now (list .exit)) ≡ placed (run .stack) (run .list) (now (stack .entry)) (now (list .entry)) (resume quantum (systemFor run (now (coefs .entry))) (ownState (run .stack) (run .list) (now (stack .entry)) (now (list .entry)) r)) ⌝ }
+    requires { ⌜ share .stack .start + share .stack .size ≤ length (now stack) ⌝ }
+    requires { ⌜ share .list .start + share .list .size ≤ length (now list) ⌝ }
+    ensures { λ o. ⌜ outcomeOf o (now (stack .exit)) (now (list .exit)) ≡ placed (share .stack) (share .list) (now (stack .entry)) (now (list .entry)) (resume quantum (inputFor share (now (coefs .entry))) (ownState (share .stack) (share .list) (now (stack .entry)) (now (list .entry)) r)) ⌝ }
 {
-    let a = run.stack;
-    let b = run.list;
-    let c = inside(run.coefs, coefs.len());
+    let a = share.stack;
+    let b = share.list;
+    let c = inside(share.coefs, coefs.len());
     let from = c.start;
     let to = c.start + c.size;
     serve(
-        run.p,
-        run.q,
+        share.p,
+        share.q,
         &coefs[from..to],
         stack,
         list,

@@ -55,10 +55,10 @@ pub fn serve(
                 last: number,
             };
         };
-        let run = shares[i];
+        let share = shares[i];
         let before = all[i];
         let r = before.run;
-        let o = turn::serve_run(run, coefs, stack, list, r, quantum);
+        let o = turn::serve_run(share, coefs, stack, list, r, quantum);
         all[i] = after_turn(o);
         number = i + 1;
         k += 1;

@@ -19,7 +19,7 @@ kept-requires : tie.Need-kept-requires Inv-loop μ-loop
 kept-requires c κs = search needs
 
 loop-holds : tie.Need-loop-holds Inv-loop μ-loop
-loop-holds c = finishing-begins _ _ _ _ _ _ _ _ (c .kept .ensures .long)
+loop-holds c = finishing-begins _ _ _ _ _ _ _ _ (c .kept .ensures)
 
 mul-outcome : tie.Need-mul-outcome Inv-loop μ-loop
 mul-outcome c = search needs

@@ -38,8 +38,8 @@ returns c =
     let n = c .before .before in
     turning-stops (n .before .before .loop .inv) (sym (n .next-after .ensures) ∙ ap foundOf (c .enum-told .given .1))
 
-mul-run : tie.Need-mul-run Inv-loop μ-loop
-mul-run c =
+mul-share : tie.Need-mul-share Inv-loop μ-loop
+mul-share c =
     let t = c in
     let n = t .before .before .before in
     let w = n .before in
@@ -49,8 +49,8 @@ mul-run c =
     let few = ready .few in
     search needs
 
-array-copy-out-run : tie.Need-array-copy-out-run Inv-loop μ-loop
-array-copy-out-run c =
+array-copy-out-share : tie.Need-array-copy-out-share Inv-loop μ-loop
+array-copy-out-share c =
     let t = c in
     let n = t .before .before .before in
     let w = n .before in
@@ -171,8 +171,8 @@ serve-spec =
     same-length
     same-length-2
     returns
-    mul-run
-    array-copy-out-run
+    mul-share
+    array-copy-out-share
     mul-before
     array-copy-out-before
     serve-run-requires
