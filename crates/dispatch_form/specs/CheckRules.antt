@@ -108,7 +108,8 @@ module _ (d : Schedule) (r : Round) where
 common : (a b : Part) → T (overlap a b) → (x : ℕ) × In a x × In b x
 unfolding overlap
 common a b h =
-    let (u, v) = and-parts (ltb (a .start) (a .start + a .size) && ltb (a .start) (b .start + b .size)) (ltb (b .start) (a .start + a .size) && ltb (b .start) (b .start + b .size)) h in
+    let (u, v) = and-parts (ltb (a .start) (a .start + a .size) && ltb (a .start) (b .start + b .size))
+    (ltb (b .start) (a .start + a .size) && ltb (b .start) (b .start + b .size)) h in
     let (p, q) = and-parts (ltb (a .start) (a .start + a .size)) (ltb (a .start) (b .start + b .size)) u in
     let (s, t) = and-parts (ltb (b .start) (a .start + a .size)) (ltb (b .start) (b .start + b .size)) v in
     let p′ = ltb→lt (a .start) (a .start + a .size) p in
@@ -130,7 +131,8 @@ module _ (n len : ℕ) (part : ℕ → Part) where
   overlapping h =
       let (i, l, f) = all-not n (λ i. allTo i (λ j. not (overlap (part i) (part j)))) h in
       let (j, k, g) = all-not i (λ j. not (overlap (part i) (part j))) f in
-      let (x, p, q) = common (part i) (part j) (elim (T-dec (overlap (part i) (part j))) [ inl w ↦ w | inr w ↦ absurd (g (not-T (overlap (part i) (part j)) w)) ]) in
+      let (x, p, q) = common (part i) (part j)
+      (elim (T-dec (overlap (part i) (part j))) [ inl w ↦ w | inr w ↦ absurd (g (not-T (overlap (part i) (part j)) w)) ]) in
       overlaps i j l (omega arith) (λ e. omega arith) x p q
 
   clash-from : ¬ (T (apart n len part)) → Clash n len part

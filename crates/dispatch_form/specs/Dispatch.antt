@@ -1,5 +1,5 @@
--- Document 02, job 14: the dispatcher, a round robin scheduler of plain runs. Runs count from 0 here; the dispatcher's record keeps the number of
--- a run from 1, and 0 before the first turn. Assumes nothing.
+-- Document 02, job 14: the dispatcher, a round robin of plain runs. Runs count from 0 here; the dispatcher's record keeps the number of a run from 1,
+-- and 0 before the first turn. Assumes nothing.
 use Prim.Native.Nat.{ℕ, zero, suc, _+_, _-_}
 use mathlib.Core.Bool.{Bool, true, false, not, _&&_, _||_}
 use mathlib.Core.List.{List}
@@ -163,8 +163,9 @@ answerFor d r i = orIdle (r .progress i .answer) (d .shares i .input) (own d r i
 unfoldable pub stepsBetween : ℕ → Round → Round → ℕ
 stepsBetween count before after = totalTo count (λ i. after .progress i .run .steps - before .progress i .run .steps)
 
--- What a call answers, and what it leaves in all that it was lent: refusal 27 or 28, if one is due; the answer of each run; and the steps that they took. Answers
--- are given for every number, so that none is left open: a number that is no run's, and in a refused call each, has "started", which no continuing call answers.
+-- What a call answers, and what it leaves in all that it was lent: refusal 27 or 28, if one is due; the answer of each run; and the steps that they took.
+-- Answers are given for every number, so that none is left open: a number that is no run's, and in a refused call each, has "started", which no
+-- continuing call answers.
 pub record Dispatched : Type 0 where
   pub check : Check
   pub answers : ℕ → Answer

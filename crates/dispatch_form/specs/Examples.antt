@@ -35,7 +35,8 @@ parts-hold = (refl, refl, refl, refl, refl, refl)
 
 -- ---- whose turn it is: "rising from the one after the run served last .. (0 at first)", and with run 1 after the last one
 
-order-holds : (nextAfter 3 0 (λ i. true) ≡ some 0) × (nextAfter 3 1 (λ i. true) ≡ some 1) × (nextAfter 3 3 (λ i. true) ≡ some 0) × (nextAfter 3 8 (λ i. true) ≡ some 0)
+order-holds : (nextAfter 3 0 (λ i. true) ≡ some 0) × (nextAfter 3 1 (λ i. true) ≡ some 1) × (nextAfter 3 3 (λ i. true) ≡ some 0)
+    × (nextAfter 3 8 (λ i. true) ≡ some 0)
     × (nextAfter 3 2 (λ i. eqb i 1) ≡ some 1) × (nextAfter 3 2 (λ i. false) ≡ none)
 unfolding nextAfter firstTo
 order-holds = (refl, refl, refl, refl, refl, refl)
@@ -63,8 +64,8 @@ starts =
       last = 2;
     }
 
--- what a call comes to: its refusal; the answers at the numbers of the two runs and one past them; the steps; the rows of run 1; both heights; the number kept; and
--- whether all outside the parts is as it was
+-- what a call comes to: its refusal; the answers at the numbers of the two runs and one past them; the steps; the rows of run 1; both heights; the
+-- number kept; and whether all outside the parts is as it was
 record Summary : Type 0 where
   check : Check
   answers : List Answer
@@ -99,15 +100,17 @@ refuses : ℕ → Summary
 refuses n =
     record { check = refuse n []; answers = started ∷ started ∷ started ∷ []; steps = 0; rows = []; heights = 2 ∷ 3 ∷ []; last = 2; untouched = true }
 
--- no turn; one turn; three turns, the third of which ends run 1; more turns than are needed; three turns, the third of which is refused; a turn of 0 steps;
+-- no turn; one turn; three turns, the third of which ends run 1; more turns than are needed; three turns, the third of which is refused; more turns, of which
+-- that run has no other; a turn of 0 steps;
 -- parts that overlap; a part that leaves the table
 calls-hold : (called 0 (schedule (part 15 6) 7 3) ≡ comes (paused ∷ paused ∷ started ∷ []) 0 [] (2 ∷ 3 ∷ []) 2)
     × (called 1 (schedule (part 15 6) 7 3) ≡ comes (paused ∷ paused ∷ started ∷ []) 3 [] (1 ∷ 3 ∷ []) 1)
     × (called 3 (schedule (part 15 6) 7 3) ≡ comes (complete ∷ paused ∷ started ∷ []) 9 (3 ∷ 2 ∷ []) (0 ∷ 1 ∷ []) 1)
     × (called 9 (schedule (part 15 6) 7 3) ≡ comes (complete ∷ complete ∷ started ∷ []) 11 (3 ∷ 2 ∷ []) (0 ∷ 0 ∷ []) 2)
     × (called 3 (schedule (part 15 6) 1 3) ≡ comes (refused 11 [] ∷ paused ∷ started ∷ []) 8 [] (1 ∷ 1 ∷ []) 1)
+    × (called 9 (schedule (part 15 6) 1 3) ≡ comes (refused 11 [] ∷ complete ∷ started ∷ []) 10 [] (1 ∷ 0 ∷ []) 2)
     × (called 9 (schedule (part 15 6) 7 0) ≡ refuses 27)
     × (called 9 (schedule (part 13 8) 7 3) ≡ refuses 28)
     × (called 9 (schedule (part 15 8) 7 3) ≡ refuses 28)
 unfolding part share pair schedule starts nines summary called comes refuses partOf withPart overlap apart firstTo totalTo own nextAfter leaveTurn serve afterTurns opened answerFor stepsBetween dispatchChecks dispatch sumTo allTo anyTo countTo unit inner value refuseWith _then_ refuseFirst solves isAtOrBelow covered bit frozen writeTo writeRow unitsTo makes marksTo childrenTo listed grown step rowInOrder inOrder check7 resumeChecks tooLarge tooHigh searchChecks checked unlessDone walk call
-calls-hold = (refl, refl, refl, refl, refl, refl, refl, refl)
+calls-hold = (refl, refl, refl, refl, refl, refl, refl, refl, refl)

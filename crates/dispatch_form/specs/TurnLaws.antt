@@ -67,8 +67,10 @@ module _ (d : Schedule) (r : Round) (laid : Laid d r) (i : ℕ) (li : i < d .cou
       unfolding own leaveTurn
       turn-other =
           rw (
-            with-other (d .shares i .stackPart) (r .stack) (o .state .stack) (laid .stacks .fit i li) (f .stack) (d .shares j .stackPart) (laid .stacks .fit j lj) (laid .stacks .none i j li lj (λ e. ne (sym e))),
-            with-other (d .shares i .listPart) (r .list) (o .state .list) (laid .lists .fit i li) (f .list) (d .shares j .listPart) (laid .lists .fit j lj) (laid .lists .none i j li lj (λ e. ne (sym e))),
+            with-other (d .shares i .stackPart) (r .stack) (o .state .stack) (laid .stacks .fit i li) (f .stack) (d .shares j .stackPart)
+                (laid .stacks .fit j lj) (laid .stacks .none i j li lj (λ e. ne (sym e))),
+            with-other (d .shares i .listPart) (r .list) (o .state .list) (laid .lists .fit i li) (f .list) (d .shares j .listPart) (laid .lists .fit j lj)
+                (laid .lists .none i j li lj (λ e. ne (sym e))),
             put-other i (record { run = o .state .run; answer = some (o .answer) }) (r .progress) j ne,
           )
 
@@ -99,7 +101,8 @@ turns-rise (suc k) d r i = rises-on (turns-rise k d r i) (serve-rises d (afterTu
 
 -- ---- numbers past the runs
 
-serve-past : (d : Schedule) (r : Round) (o : Option ℕ) → 0 < d .count → next (d .count) r ≡ o → (i : ℕ) → d .count ≤ i → serveRun o d r .progress i ≡ r .progress i
+serve-past : (d : Schedule) (r : Round) (o : Option ℕ) → 0 < d .count → next (d .count) r ≡ o → (i : ℕ) → d .count ≤ i
+    → serveRun o d r .progress i ≡ r .progress i
 unfolding leaveTurn
 serve-past d r none some-run e i l = refl
 serve-past d r (some j) some-run e i l =

@@ -29,10 +29,10 @@ idle input s =
     elim (check-cases (resumeChecks input s)) [
       | inr (r, values, e) ↦ rw (call-refused (machine input) s 0 r values e .0)
       | inl e ↦ rw (call-walks (machine input) s 0 e .0)
-      (elim (ℕ-discrete (s .run .height) 0) [
-        | yes z ↦ rw (walk-done (machine input) s 0 z .0)
-        | no z ↦ rw (walk-paused (machine input) s (omega (arith, z)) .0)
-      ])
+          (elim (ℕ-discrete (s .run .height) 0) [
+            | yes z ↦ rw (walk-done (machine input) s 0 z .0)
+            | no z ↦ rw (walk-paused (machine input) s (omega (arith, z)) .0)
+          ])
     ]
 
 -- run i as the dispatcher leaves it
@@ -60,13 +60,15 @@ module _ (d : Schedule) (r₀ : Round) (i : ℕ) (li : i < d .count) where
       rw (turns-own i (turnTaken d i r) log refl, turn-own d r l i li (turnOf d i r) f, turn-answer d r l i li (turnOf d i r) f)
       (ap (λ (o : Outcome State). resume (d .quantum) (d .shares i .input) (o .state)) a)
 
-  alike-other : (r : Round) (log : List Turn) → Laid d r → Alike r log → (j : ℕ) → j < d .count → ¬ (i ≡ j) → Alike (leaveTurn d j r (turnOf d j r)) (turnTaken d j r ∷ log)
+  alike-other : (r : Round) (log : List Turn) → Laid d r → Alike r log → (j : ℕ) → j < d .count → ¬ (i ≡ j)
+      → Alike (leaveTurn d j r (turnOf d j r)) (turnTaken d j r ∷ log)
   unfolding answerFor
   alike-other r log l a j lj ne =
       let f = turn-fits d r l j lj (d .quantum) in
       rw (turns-other i (turnTaken d j r) log ne, turn-other d r l j lj (turnOf d j r) f i li ne, turn-progress d r l j lj (turnOf d j r) f i li ne) a
 
-  alike-turn : (r : Round) (log : List Turn) → Laid d r → Alike r log → (j : ℕ) → Next (d .count) r j → Alike (leaveTurn d j r (turnOf d j r)) (turnTaken d j r ∷ log)
+  alike-turn : (r : Round) (log : List Turn) → Laid d r → Alike r log → (j : ℕ) → Next (d .count) r j
+      → Alike (leaveTurn d j r (turnOf d j r)) (turnTaken d j r ∷ log)
   alike-turn r log l a j n =
       elim (ℕ-discrete j i) [
         | yes e ↦ rw e (alike-own r log l a)
@@ -75,7 +77,8 @@ module _ (d : Schedule) (r₀ : Round) (i : ℕ) (li : i < d .count) where
 
   alike-opened : Alike (opened r₀) []
   unfolding answerFor alone turnsBy own opened
-  alike-opened = let e = idle (d .shares i .input) (own d r₀ i) in ap (λ (s : State). record { answer = resume 0 (d .shares i .input) (own d r₀ i) .answer; state = s }) (sym e)
+  alike-opened = let e = idle (d .shares i .input) (own d r₀ i)
+      in ap (λ (s : State). record { answer = resume 0 (d .shares i .input) (own d r₀ i) .answer; state = s }) (sym e)
 
 -- in a call that serves, each run is where it would be alone, after as many continuing calls as it had turns
 pub each-alone : {turns : ℕ} {d : Schedule} {r : Round} → Served turns d r → (i : ℕ) → i < d .count

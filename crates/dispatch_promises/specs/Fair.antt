@@ -23,9 +23,11 @@ use Rattle.definitions.specs.Tables.{State}
 use Rattle.laws.specs.CheckLaws.{check-cases}
 use Rattle.laws.specs.MachineLaws.{call-refused, call-walks, walk-done, walk-more, walk-refused}
 use Rattle.theorems.specs.WholeSteps.{Ends, called, completes, pauses, refuses}
-use Rattle.dispatch_form.specs.RoundLaws.{put-same, put-other, none-not-some, asked-below, ahead, ahead-less, ahead-round, ahead-below, further-ahead, Next, next-some}
+use Rattle.dispatch_form.specs.RoundLaws.{put-same, put-other, none-not-some, asked-below, ahead}
+use Rattle.dispatch_form.specs.RoundLaws.{ahead-less, ahead-round, ahead-below, further-ahead, Next, next-some}
 use Rattle.dispatch_form.specs.CheckRules.{Accepted, accepted}
-use Rattle.dispatch_form.specs.Dispatch.{Schedule, Round, Progress, mostRuns, inRound, staysIn, firstAsked, further, own, next, leaveTurn, turnOf, serveRun, serve, afterTurns, opened, dispatchChecks, dispatch}
+use Rattle.dispatch_form.specs.Dispatch.{Schedule, Round, Progress, mostRuns, inRound, staysIn, firstAsked, further, own}
+use Rattle.dispatch_form.specs.Dispatch.{next, leaveTurn, turnOf, serveRun, serve, afterTurns, opened, dispatchChecks, dispatch}
 use Rattle.dispatch_promises.specs.Turns.{Turn, turnTaken, written, turnsTo, turnsOf, taken}
 use Rattle.dispatch_promises.specs.Serving.{dispatch-refused, dispatch-served}
 
@@ -116,13 +118,16 @@ module _ (count start i j : ℕ) (ls : start < count) (li : i < count) (lj : j <
       ]
 
 -- another run that is next is asked before one that is in the round
-next-ahead : (count : ℕ) (r : Round) → 0 < count → (i j : ℕ) → i < count → Next count r j → T (inRound r i) → ¬ (j ≡ i) → ahead count (firstAsked count (r .last)) j < ahead count (firstAsked count (r .last)) i
+next-ahead : (count : ℕ) (r : Round) → 0 < count → (i j : ℕ) → i < count → Next count r j → T (inRound r i) → ¬ (j ≡ i)
+    → ahead count (firstAsked count (r .last)) j < ahead count (firstAsked count (r .last)) i
 next-ahead count r some-run i j li n stays ne =
     let ls = asked-below count (r .last) some-run in
     elim (split (ahead count (firstAsked count (r .last)) j) (ahead count (firstAsked count (r .last)) i)) [
       | inl h ↦ h
       | inr h ↦ elim (ℕ-discrete (ahead count (firstAsked count (r .last)) i) (ahead count (firstAsked count (r .last)) j)) [
-        | yes e ↦ absurd (ne (sym (further-ahead count (firstAsked count (r .last)) j ls (n .below)) ∙ ap (further count (firstAsked count (r .last))) (sym e) ∙ further-ahead count (firstAsked count (r .last)) i ls li))
+        | yes e ↦ absurd (ne
+            (sym (further-ahead count (firstAsked count (r .last)) j ls (n .below)) ∙ ap (further count (firstAsked count (r .last))) (sym e)
+            ∙ further-ahead count (firstAsked count (r .last)) i ls li))
         | no q ↦ absurd (n .before i li (omega (arith, q)) stays)
       ]
     ]
@@ -154,14 +159,20 @@ module _ (d : Schedule) (some-run : 0 < d .count) (r : Round) (i : ℕ) where
       same = put-same i _ (r .progress)
 
   -- after another run's turn
-  waits-other : (between : List Turn) (j : ℕ) → Waiting d r i between → Next (d .count) r j → ¬ (j ≡ i) → Waiting d (leaveTurn d j r (turnOf d j r)) i (turnTaken d j r ∷ between)
+  waits-other : (between : List Turn) (j : ℕ) → Waiting d r i between → Next (d .count) r j → ¬ (j ≡ i)
+      → Waiting d (leaveTurn d j r (turnOf d j r)) i (turnTaken d j r ∷ between)
   unfolding leaveTurn taken
   waits-other between j w n ne =
       record {
         below = w .below;
         stays = rw same (w .stays);
         high = rw same (w .high);
-        few = omega (arith, w .few, nearer (d .count) (firstAsked (d .count) (r .last)) i j (asked-below (d .count) (r .last) some-run) (w .below) (n .below) (next-ahead (d .count) r some-run i j (w .below) n (w .stays) ne));
+        few = omega (
+          arith,
+          w .few,
+          nearer (d .count) (firstAsked (d .count) (r .last)) i j (asked-below (d .count) (r .last) some-run) (w .below)
+              (n .below) (next-ahead (d .count) r some-run i j (w .below) n (w .stays) ne),
+        );
         worth = rw (suc-mul (length between) (d .quantum)) (omega (arith, w .worth, resume-few (d .quantum) (d .shares j .input) (own d r j)));
       }
     where
@@ -177,7 +188,8 @@ module _ (d : Schedule) (some-run : 0 < d .count) (r : Round) (i : ℕ) where
 
 data Moments (d : Schedule) (r₀ : Round) : Round → List Turn → Type 0 where
   here : Moments d r₀ r₀ []
-  turn : {r : Round} {log : List Turn} → Moments d r₀ r log → (i : ℕ) → Next (d .count) r i → Moments d r₀ (leaveTurn d i r (turnOf d i r)) (turnTaken d i r ∷ log)
+  turn : {r : Round} {log : List Turn} → Moments d r₀ r log → (i : ℕ) → Next (d .count) r i
+      → Moments d r₀ (leaveTurn d i r (turnOf d i r)) (turnTaken d i r ∷ log)
   again : {r : Round} {log : List Turn} → Moments d r₀ r log → Moments d r₀ (opened r) log
 
 empty : (t : Turn) (between earlier : List Turn) → [] ≡ between ++ (t ∷ earlier) → ⊥
@@ -185,7 +197,8 @@ empty t [] earlier e = let z : _≡_ {A = ℕ} 0 1 = cc in omega arith
 empty t (b ∷ between) earlier e = let z : _≡_ {A = ℕ} 0 1 = cc in omega arith
 
 module _ (d : Schedule) (some-run : 0 < d .count) (r₀ : Round) where
-  next-moment : (o : Option ℕ) {r : Round} (done log : List Turn) → Moments d r₀ r (done ++ log) → next (d .count) r ≡ o → Moments d r₀ (serveRun o d r) (written o d r done ++ log)
+  next-moment : (o : Option ℕ) {r : Round} (done log : List Turn) → Moments d r₀ r (done ++ log) → next (d .count) r ≡ o
+      → Moments d r₀ (serveRun o d r) (written o d r done ++ log)
   next-moment none done log m e = m
   next-moment (some i) {r} done log m e = turn m i (next-some (d .count) r some-run i e)
 
@@ -204,7 +217,8 @@ module _ (d : Schedule) (some-run : 0 < d .count) (r₀ : Round) where
 
   -- a turn of run i that pauses, and since then none of its own
   module _ (i : ℕ) (t : Turn) (own-turn : t .run ≡ i) (pausing : t .answer ≡ paused) where
-    waiting : {r : Round} {log : List Turn} → Moments d r₀ r log → (between earlier : List Turn) → NoneOf i between → log ≡ between ++ (t ∷ earlier) → Waiting d r i between
+    waiting : {r : Round} {log : List Turn} → Moments d r₀ r log → (between earlier : List Turn) → NoneOf i between → log ≡ between ++ (t ∷ earlier)
+        → Waiting d r i between
     waiting here between earlier others e = absurd (empty t between earlier e)
     waiting (again {r} m) between earlier others e = waits-opened d some-run r i between (waiting m between earlier others e)
     waiting (turn {r} m j n) [] earlier others e =
@@ -216,7 +230,8 @@ module _ (d : Schedule) (some-run : 0 < d .count) (r₀ : Round) where
         let rest : log ≡ between ++ (t ∷ earlier) = cc in
         rw (sym same) (waits-other d some-run r i between j (waiting m between earlier others rest) n (λ q. ne (ap (λ (u : Turn). u .run) (sym same) ∙ q)))
 
-    fair-moments : {r : Round} {log : List Turn} → Moments d r₀ r log → (later between earlier : List Turn) → NoneOf i between → log ≡ later ++ (between ++ (t ∷ earlier)) → (suc (length between) ≤ d .count) × (taken between ≤ length between * d .quantum)
+    fair-moments : {r : Round} {log : List Turn} → Moments d r₀ r log → (later between earlier : List Turn) → NoneOf i between
+        → log ≡ later ++ (between ++ (t ∷ earlier)) → (suc (length between) ≤ d .count) × (taken between ≤ length between * d .quantum)
     fair-moments m [] between earlier others e = let w = waiting m between earlier others e in (omega (arith, w .few), w .worth)
     fair-moments here (u ∷ later) between earlier others e = absurd (let z : _≡_ {A = ℕ} 0 1 = cc in omega arith)
     fair-moments (again m) (u ∷ later) between earlier others e = fair-moments m (u ∷ later) between earlier others e
@@ -243,7 +258,8 @@ nonempty t (u ∷ later) between earlier e = let z : _≡_ {A = ℕ} 0 1 = cc in
 
 -- "From one turn of a run left in the round to its next .. the others take at most seven turns' worth of steps.": t is a turn of run i that pauses,
 -- and the turns between are those of others; the next later turn may be run i's, or may not have come yet
-pub fair : {d : Schedule} {r₀ r : Round} {log : List Turn} → Calls d r₀ r log → (i : ℕ) (t : Turn) (later between earlier : List Turn) → log ≡ later ++ (between ++ (t ∷ earlier)) → t .run ≡ i → t .answer ≡ paused → NoneOf i between → (length between ≤ 7) × (taken between ≤ 7 * d .quantum)
+pub fair : {d : Schedule} {r₀ r : Round} {log : List Turn} → Calls d r₀ r log → (i : ℕ) (t : Turn) (later between earlier : List Turn)
+    → log ≡ later ++ (between ++ (t ∷ earlier)) → t .run ≡ i → t .answer ≡ paused → NoneOf i between → (length between ≤ 7) × (taken between ≤ 7 * d .quantum)
 fair {d} {r₀} c i t later between earlier e own-turn pausing others =
     elim (runs-few c) [
       | inl q ↦ absurd (nonempty t later between earlier (sym q ∙ e))

@@ -59,7 +59,8 @@ module _ (d : Schedule) (r₀ : Round) where
         let e = sym (own-steps d (leaveTurn d j r (turnOf d j r)) j) ∙ ap (λ (t : State). t .run .steps) (turn-own d r l j lj (turnOf d j r) f) in
         omega (arith, e, resume-counts (d .quantum) (d .shares j .input) (own d r j), own-steps d r j, c .each j lj, taken-own j (turnTaken d j r) log refl)
 
-    other-counted : (i : ℕ) → i < d .count → ¬ (i ≡ j) → leaveTurn d j r (turnOf d j r) .progress i .run .steps ≡ r₀ .progress i .run .steps + takenBy i (turnTaken d j r ∷ log)
+    other-counted : (i : ℕ) → i < d .count → ¬ (i ≡ j)
+        → leaveTurn d j r (turnOf d j r) .progress i .run .steps ≡ r₀ .progress i .run .steps + takenBy i (turnTaken d j r ∷ log)
     other-counted i li ne =
         let f = turn-fits d r l j lj (d .quantum) in
         rw (turn-progress d r l j lj (turnOf d j r) f i li ne, taken-other i (turnTaken d j r) log ne) (c .each i li)
@@ -70,7 +71,8 @@ module _ (d : Schedule) (r₀ : Round) where
         record {
           each = λ i li. elim (ℕ-discrete i j) [ yes e ↦ rw e own-counted | no ne ↦ other-counted i li ne ];
           all =
-              total-more (d .count) (λ i. takenBy i log) (λ i. takenBy i (turnTaken d j r ∷ log)) j (turnTaken d j r .steps) lj (taken-own j (turnTaken d j r) log refl) (λ i ne. taken-other i (turnTaken d j r) log ne)
+              total-more (d .count) (λ i. takenBy i log) (λ i. takenBy i (turnTaken d j r ∷ log)) j (turnTaken d j r .steps) lj
+              (taken-own j (turnTaken d j r) log refl) (λ i ne. taken-other i (turnTaken d j r) log ne)
               ∙ ap (λ n. turnTaken d j r .steps + n) (c .all);
         }
 
@@ -93,7 +95,9 @@ pub steps-sum : {turns : ℕ} {d : Schedule} {r : Round} → Served turns d r �
 unfolding stepsBetween
 steps-sum {turns} {d} {r} s =
     let a = accepted d r (s .goes) in
-    let c = after-turns d (a .some-run) (Counted d r) (λ t log l c i n. counted-turn d r t log l c i (n .below)) (opened r) (opened-laid d r (a .laid)) (counted-opened d r) turns .1 in
+    let c = after-turns d (a .some-run) (Counted d r) (λ t log l c i n. counted-turn d r t log l c i (n .below)) (opened r) (opened-laid d r (a .laid))
+    (counted-opened d r) turns .1 in
     let c′ : Counted d r (dispatch turns d r .round) (turnsOf turns d r) = rw (s .round-is, s .turns-are) c in
-    let sum : dispatch turns d r .steps ≡ totalTo (d .count) (λ i. takenBy i (turnsOf turns d r)) = s .steps-are ∙ total-same (d .count) _ _ (λ i li. omega (arith, c′ .each i li)) in
+    let sum : dispatch turns d r .steps ≡ totalTo (d .count) (λ i. takenBy i (turnsOf turns d r)) = s .steps-are
+    ∙ total-same (d .count) _ _ (λ i li. omega (arith, c′ .each i li)) in
     record { each = c′ .each; by-runs = sum; by-turns = sum ∙ c′ .all }

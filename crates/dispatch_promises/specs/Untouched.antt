@@ -26,7 +26,8 @@ module _ (d : Schedule) (r₀ : Round) where
     stacks : Same (d .count) (λ i. d .shares i .stackPart) (r₀ .stack) (r .stack)
     lists : Same (d .count) (λ i. d .shares i .listPart) (r₀ .list) (r .list)
 
-  same-turn : (r : Round) (log : List Turn) → Laid d r → Tables r log → (i : ℕ) → Next (d .count) r i → Tables (leaveTurn d i r (turnOf d i r)) (turnTaken d i r ∷ log)
+  same-turn : (r : Round) (log : List Turn) → Laid d r → Tables r log → (i : ℕ) → Next (d .count) r i
+      → Tables (leaveTurn d i r (turnOf d i r)) (turnTaken d i r ∷ log)
   unfolding leaveTurn
   same-turn r log l t i n =
       let f = turn-fits d r l i (n .below) (d .quantum) in

@@ -27,7 +27,8 @@ use Rattle.dispatcher.specs.declared.types.Fault.{Fault}
 use Rattle.dispatcher.specs.declared.types.Verdict.{Verdict}
 use Rattle.dispatcher.specs.declared.types.Verdict.the-variants.{Refuse, Pass}
 use Rattle.dispatcher.specs.declared.types.Dispatched.{Dispatched}
-use Rattle.dispatcher.specs.Form.{noRun, noRecord, noProgress, noOutcome, scheduleFor, progressOf, roundFor, unservedOf, keptOf, faultOf, verdictOf, checksFor}
+use Rattle.dispatcher.specs.Form.{noShare, noRecord, noProgress, noOutcome, scheduleFor, progressOf}
+use Rattle.dispatcher.specs.Form.{roundFor, unservedOf, keptOf, faultOf, verdictOf, checksFor}
 use Rattle.dispatcher.specs.Filling.{Filled}
 use Rattle.dispatcher.specs.Turning.{Ready}
 use Rattle.dispatcher.specs.Finish.{Rising, Finishing}
@@ -55,15 +56,21 @@ pub record Refused (why : Fault) (records : List Record) (last : ℕ) (d : Dispa
   pub steps : d .steps ≡ 0
 
 -- the checks look at no more
-pub checks-are : (count : ℕ) (shares : List Share) (coefs : List ℤ) (quantum : ℕ) (stack list : List ℕ) (records : List Record) (last : ℕ) → checksFor count shares quantum last (length stack) (length list) ≡ dispatchChecks (scheduleFor count shares coefs quantum) (handed stack list records last)
+pub checks-are : (count : ℕ) (shares : List Share) (coefs : List ℤ) (quantum : ℕ) (stack list : List ℕ) (records : List Record) (last : ℕ)
+    → checksFor count shares quantum last (length stack) (length list)
+    ≡ dispatchChecks (scheduleFor count shares coefs quantum) (handed stack list records last)
 unfolding checksFor dispatchChecks
 checks-are count shares coefs quantum stack list records last = refl
 
 module _ (count : ℕ) (shares : List Share) (coefs : List ℤ) (quantum : ℕ) (stack list : List ℕ) (records : List Record) (last turns : ℕ) where
-  pub returns-refused : {why : Fault} {v : Verdict} → verdictOf v ≡ checksFor count shares quantum last (length stack) (length list) → v ≡ Refuse why → (d : Dispatched) → Refused why records last d → Returns (dispatch turns (scheduleFor count shares coefs quantum) (handed stack list records last)) d stack list
+  pub returns-refused : {why : Fault} {v : Verdict} → verdictOf v ≡ checksFor count shares quantum last (length stack) (length list) → v ≡ Refuse why
+      → (d : Dispatched) → Refused why records last d
+      → Returns (dispatch turns (scheduleFor count shares coefs quantum) (handed stack list records last)) d stack list
   unfolding dispatch
   returns-refused {why} e q d r =
-      let c : paper.refuse (faultOf why) [] ≡ dispatchChecks (scheduleFor count shares coefs quantum) (handed stack list records last) = sym (ap verdictOf q) ∙ e ∙ checks-are count shares coefs quantum stack list records last in
+      let c : paper.refuse (faultOf why) []
+      ≡ dispatchChecks (scheduleFor count shares coefs quantum) (handed stack list records last) = sym (ap verdictOf q) ∙ e
+      ∙ checks-are count shares coefs quantum stack list records last in
       rw (← c)
       (record {
         check = rw (r .verdict) refl;
@@ -78,7 +85,8 @@ module _ (count : ℕ) (shares : List Share) (coefs : List ℤ) (quantum : ℕ) 
   -- ---- served
 
   -- the records before the first turn
-  unserved-at : {p : List Progress} → length records ≡ 8 → Filled 8 (λ i. unservedOf (getD records i noRecord)) noProgress p 8 → (j : ℕ) → progressOf (unservedOf (getD records j noRecord)) ≡ progressOf (getD p j noProgress)
+  unserved-at : {p : List Progress} → length records ≡ 8 → Filled 8 (λ i. unservedOf (getD records i noRecord)) noProgress p 8 → (j : ℕ)
+      → progressOf (unservedOf (getD records j noRecord)) ≡ progressOf (getD p j noProgress)
   unserved-at {p} e f j =
       elim (split j 8) [
         | inl l ↦ ap progressOf (sym (f .same j l))
@@ -88,7 +96,8 @@ module _ (count : ℕ) (shares : List Share) (coefs : List ℤ) (quantum : ℕ) 
             rw (List·getD-eq-default records noRecord short, List·getD-eq-default p noProgress short′)
       ]
 
-  pub opened-handed : {p : List Progress} → length records ≡ 8 → Filled 8 (λ i. unservedOf (getD records i noRecord)) noProgress p 8 → opened (handed stack list records last) ≡ roundFor stack list p last
+  pub opened-handed : {p : List Progress} → length records ≡ 8 → Filled 8 (λ i. unservedOf (getD records i noRecord)) noProgress p 8
+      → opened (handed stack list records last) ≡ roundFor stack list p last
   unfolding opened
   opened-handed {p} e f = ap (λ (x : ℕ → form.Progress). record { stack = stack; list = list; progress = x; last = last }) (fun-ext (unserved-at e f))
 
@@ -101,7 +110,9 @@ module _ (count : ℕ) (shares : List Share) (coefs : List ℤ) (quantum : ℕ) 
         let a = accepted (scheduleFor count shares coefs quantum) (handed stack list records last) goes in
         record { some-run = a .some-run; few = a .few-runs; stacks = λ i l. a .laid .stacks .fit i l; lists = λ i l. a .laid .lists .fit i l }
 
-    module _ {p : List Progress} (long : length records ≡ 8) (f : Filled 8 (λ i. unservedOf (getD records i noRecord)) noProgress p 8) {stack′ list′ : List ℕ} (progress′ : List Progress) {last′ : ℕ} (h : roundFor stack′ list′ progress′ last′ ≡ afterTurns turns (scheduleFor count shares coefs quantum) (roundFor stack list p last)) where
+    module _ {p : List Progress} (long : length records ≡ 8) (f : Filled 8 (λ i. unservedOf (getD records i noRecord)) noProgress p 8)
+        {stack′ list′ : List ℕ} (progress′ : List Progress) {last′ : ℕ}
+        (h : roundFor stack′ list′ progress′ last′ ≡ afterTurns turns (scheduleFor count shares coefs quantum) (roundFor stack list p last)) where
       turned-to : afterTurns turns (scheduleFor count shares coefs quantum) (opened (handed stack list records last)) ≡ roundFor stack′ list′ progress′ last′
       turned-to = ap (afterTurns turns (scheduleFor count shares coefs quantum)) (opened-handed long f) ∙ sym h
 
@@ -119,7 +130,9 @@ module _ (count : ℕ) (shares : List Share) (coefs : List ℤ) (quantum : ℕ) 
       pub rising : Rising count records progress′
       rising = record { rises = λ i l. rise i }
 
-      pub returns-served : {outcomes : List Outcome} {steps : ℕ} → Finishing count shares coefs stack′ list′ records progress′ outcomes steps count → Returns (dispatch turns (scheduleFor count shares coefs quantum) (handed stack list records last)) (record { verdict = Pass; outcomes = outcomes; last = last′; steps = steps }) stack′ list′
+      pub returns-served : {outcomes : List Outcome} {steps : ℕ} → Finishing count shares coefs stack′ list′ records progress′ outcomes steps count
+          → Returns (dispatch turns (scheduleFor count shares coefs quantum) (handed stack list records last))
+          (record { verdict = Pass; outcomes = outcomes; last = last′; steps = steps }) stack′ list′
       unfolding dispatch answerFor own stepsBetween
       returns-served g =
           rw (goes, turned-to)

@@ -18,7 +18,7 @@ use Rattle.dispatch_form.specs.Dispatch.{totalTo}
 use Rattle.dispatch_form.specs.ResumeLaws.{Rises}
 use Rattle.dispatcher.specs.declared.types.Share.{Share}
 use Rattle.dispatcher.specs.declared.types.Progress.{Progress}
-use Rattle.dispatcher.specs.Form.{noRun, noRecord, noProgress, noOutcome, inputFor, keptOf, ownState}
+use Rattle.dispatcher.specs.Form.{noShare, noRecord, noProgress, noOutcome, inputFor, keptOf, ownState}
 use Rattle.dispatcher.specs.Filling.{Filled}
 use Rattle.dispatcher.specs.Idle.{OutcomeFor}
 
@@ -36,12 +36,13 @@ took-by b h e = rw (h .run) at e
 -- what is answered for run i
 abbrev pub AnswersFor : List Share → List ℤ → List ℕ → List ℕ → List Progress → List Outcome → ℕ → Type 0
 AnswersFor shares coefs stack list progress outcomes i =
-    OutcomeFor (getD progress i noProgress) (inputFor (getD shares i noRun) coefs)
-    (ownState (getD shares i noRun .stack) (getD shares i noRun .list) stack list (getD progress i noProgress .run))
+    OutcomeFor (getD progress i noProgress) (inputFor (getD shares i noShare) coefs)
+    (ownState (getD shares i noShare .stack) (getD shares i noShare .list) stack list (getD progress i noProgress .run))
     (getD outcomes i noOutcome)
 
 -- the first i runs are answered for
-pub record Finishing (count : ℕ) (shares : List Share) (coefs : List ℤ) (stack list : List ℕ) (records : List Record) (progress : List Progress) (outcomes : List Outcome) (steps i : ℕ) : Type 0 where
+pub record Finishing (count : ℕ) (shares : List Share) (coefs : List ℤ) (stack list : List ℕ) (records : List Record) (progress : List Progress)
+    (outcomes : List Outcome) (steps i : ℕ) : Type 0 where
   pub upto : i ≤ count
   pub long : length outcomes ≡ 8
   pub each : (j : ℕ) → j < i → AnswersFor shares coefs stack list progress outcomes j
@@ -59,17 +60,23 @@ unfolding totalTo
 total-bound zero b f h = omega arith
 total-bound (suc n) b f h = rw (suc-mul n b) (omega (arith, total-bound n b f (λ i l. h i (omega arith)), h n (omega arith)))
 
-took-few : {count : ℕ} {records : List Record} {progress : List Progress} → Rising count records progress → (i : ℕ) → i < count → took records progress i ≤ stepLimit
+took-few : {count : ℕ} {records : List Record} {progress : List Progress} → Rising count records progress → (i : ℕ) → i < count
+    → took records progress i ≤ stepLimit
 took-few r i l = omega (arith, r .rises i l .from, r .rises i l .top)
 
-module _ {count : ℕ} {shares : List Share} {coefs : List ℤ} {stack list : List ℕ} {records : List Record} {progress : List Progress} {outcomes : List Outcome} {steps i : ℕ} (f : Finishing count shares coefs stack list records progress outcomes steps i) (few : count ≤ 8) (less : i < count) where
+module _ {count : ℕ} {shares : List Share} {coefs : List ℤ} {stack list : List ℕ} {records : List Record} {progress : List Progress}
+    {outcomes : List Outcome} {steps i : ℕ} (f : Finishing count shares coefs stack list records progress outcomes steps i) (few : count ≤ 8)
+    (less : i < count) where
   -- the sum stays small
   pub finishing-small : Rising count records progress → {t : ℕ} → t ≡ took records progress i → steps + t ≤ 8 * stepLimit
   unfolding totalTo
   finishing-small r e =
       omega (arith, f .sum, total-bound i stepLimit (took records progress) (λ j l. took-few r j (omega arith)), took-few r i less)
 
-  pub finishing-more : {t : ℕ} → t ≡ took records progress i → (o : Outcome) → OutcomeFor (getD progress i noProgress) (inputFor (getD shares i noRun) coefs) (ownState (getD shares i noRun .stack) (getD shares i noRun .list) stack list (getD progress i noProgress .run)) o → Finishing count shares coefs stack list records progress (set outcomes i o) (steps + t) (i + 1)
+  pub finishing-more : {t : ℕ} → t ≡ took records progress i → (o : Outcome)
+      → OutcomeFor (getD progress i noProgress) (inputFor (getD shares i noShare) coefs)
+      (ownState (getD shares i noShare .stack) (getD shares i noShare .list) stack list (getD progress i noProgress .run)) o
+      → Finishing count shares coefs stack list records progress (set outcomes i o) (steps + t) (i + 1)
   unfolding totalTo
   finishing-more e o h =
       record {
@@ -83,5 +90,7 @@ module _ {count : ℕ} {shares : List Share} {coefs : List ℤ} {stack list : Li
         sum = rw (add-one i, f .sum, e);
       }
 
-pub finishing-ends : {count : ℕ} {shares : List Share} {coefs : List ℤ} {stack list : List ℕ} {records : List Record} {progress : List Progress} {outcomes : List Outcome} {steps i : ℕ} → Finishing count shares coefs stack list records progress outcomes steps i → count ≤ i → Finishing count shares coefs stack list records progress outcomes steps count
+pub finishing-ends : {count : ℕ} {shares : List Share} {coefs : List ℤ} {stack list : List ℕ} {records : List Record} {progress : List Progress}
+    {outcomes : List Outcome} {steps i : ℕ} → Finishing count shares coefs stack list records progress outcomes steps i → count ≤ i
+    → Finishing count shares coefs stack list records progress outcomes steps count
 finishing-ends {count} {i = i} f l = let e : i ≡ count = omega (arith, f .upto) in rw e at f

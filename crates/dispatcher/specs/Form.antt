@@ -38,8 +38,8 @@ use Rattle.dispatcher.specs.declared.round.Found.the-variants as found
 abbrev pub noPart : Part
 noPart = record { start = 0; size = 0 }
 
-abbrev pub noRun : Share
-noRun = record { p = 0; q = 0; coefs = noPart; stack = noPart; list = noPart }
+abbrev pub noShare : Share
+noShare = record { p = 0; q = 0; coefs = noPart; stack = noPart; list = noPart }
 
 abbrev pub noRecord : Record
 noRecord = record { height = 0; found = record { 0 = 0 }; steps = record { 0 = 0 } }
@@ -66,7 +66,7 @@ abbrev pub shareFor : Share → List ℤ → form.Share
 shareFor share coefs = record { input = inputFor share coefs; stackPart = partFor (share .stack); listPart = partFor (share .list) }
 
 abbrev pub scheduleFor : ℕ → List Share → List ℤ → ℕ → form.Schedule
-scheduleFor count shares coefs quantum = record { count = count; shares = λ i. shareFor (getD shares i noRun) coefs; quantum = quantum }
+scheduleFor count shares coefs quantum = record { count = count; shares = λ i. shareFor (getD shares i noShare) coefs; quantum = quantum }
 
 -- a run's part of the list table, or of the stack table
 abbrev pub chosen : Bool → Share → parts.Part
@@ -74,7 +74,7 @@ chosen true share = partFor (share .list)
 chosen false share = partFor (share .stack)
 
 abbrev pub partAt : Bool → List Share → ℕ → parts.Part
-partAt ofList shares i = chosen ofList (getD shares i noRun)
+partAt ofList shares i = chosen ofList (getD shares i noShare)
 
 -- ---- refusals
 

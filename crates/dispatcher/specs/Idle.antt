@@ -72,8 +72,13 @@ pub record OutcomeFor (p : Progress) (m : Input) (s : State) (o : Outcome) : Typ
   pub answer : answerOf (o .answer) ≡ orIdle (lastOf (p .last)) m s
 
 -- the checks of a run by itself, as code makes them on its parts
-pub checks-back : (share : Share) (coefs : List ℤ) (stack list : List ℕ) (r : Record) (part : Part) {x : paper.Check} → Inside (share .coefs) (length coefs) part → x ≡ resumeChecks (inputOf (share .p) (share .q) (take (part .start + part .size - part .start) (drop (part .start) coefs))) (stateOf (between (share .stack) stack) (between (share .list) list) r) → x ≡ resumeChecks (inputFor share coefs) (ownState (share .stack) (share .list) stack list r)
+pub checks-back : (share : Share) (coefs : List ℤ) (stack list : List ℕ) (r : Record) (part : Part) {x : paper.Check}
+    → Inside (share .coefs) (length coefs) part
+    → x ≡ resumeChecks (inputOf (share .p) (share .q) (take (part .start + part .size - part .start) (drop (part .start) coefs)))
+    (stateOf (between (share .stack) stack) (between (share .list) list) r)
+    → x ≡ resumeChecks (inputFor share coefs) (ownState (share .stack) (share .list) stack list r)
 checks-back share coefs stack list r part i h =
     h
-    ∙ ap (λ (l : List ℤ). resumeChecks (inputOf (share .p) (share .q) l) (stateOf (between (share .stack) stack) (between (share .list) list) r)) (cut-same coefs i)
+    ∙ ap (λ (l : List ℤ). resumeChecks (inputOf (share .p) (share .q) l) (stateOf (between (share .stack) stack) (between (share .list) list) r))
+    (cut-same coefs i)
     ∙ ap (resumeChecks (inputFor share coefs)) (own-between (share .stack) (share .list) stack list r)

@@ -20,7 +20,9 @@ between a table = take (a .start + a .size - a .start) (drop (a .start) table)
 abbrev pub around : Part → List ℕ → List ℕ → List ℕ
 around a table new = take (a .start) table ++ (new ++ drop (a .start + a .size - a .start) (drop (a .start) table))
 
-pub placed-back : (a b : Part) (stack list : List ℕ) (quantum : ℕ) (m : Input) (r : Record) (o : Outcome) {ys zs : List ℕ} → outcomeOf o ys zs ≡ resume quantum m (stateOf (between a stack) (between b list) r) → outcomeOf o (around a stack ys) (around b list zs) ≡ placed a b stack list (resume quantum m (ownState a b stack list r))
+pub placed-back : (a b : Part) (stack list : List ℕ) (quantum : ℕ) (m : Input) (r : Record) (o : Outcome) {ys zs : List ℕ}
+    → outcomeOf o ys zs ≡ resume quantum m (stateOf (between a stack) (between b list) r)
+    → outcomeOf o (around a stack ys) (around b list zs) ≡ placed a b stack list (resume quantum m (ownState a b stack list r))
 unfolding partOf withPart
 placed-back a b stack list quantum m r o h =
     let ea : a .start + a .size - a .start ≡ a .size = omega arith in

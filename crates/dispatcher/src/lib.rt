@@ -28,7 +28,9 @@ pub fn dispatch(
     quantum: u64,
     turns: u64,
 ) -> Dispatched
-    ensures { λ d. ⌜ Returns (form.dispatch turns (scheduleFor count shares (now (coefs .entry)) quantum) (handed (now (stack .entry)) (now (list .entry)) records last)) d (now (stack .exit)) (now (list .exit)) ⌝ }
+    ensures { λ d. ⌜ Returns
+        (form.dispatch turns (scheduleFor count shares (now (coefs .entry)) quantum) (handed (now (stack .entry)) (now (list .entry)) records last)) d
+        (now (stack .exit)) (now (list .exit)) ⌝ }
 {
     match check::check(count, shares, quantum, last, stack.len(), list.len()) {
         Verdict::Refuse(why) => refused(why, records, last),

@@ -33,7 +33,8 @@ fn rest(height: usize) -> Answer
 fn idle(share: Share, coefs: &[i32], stack: &[u32], list: &[u32], r: Record) -> Answer
     requires { ⌜ share .stack .start + share .stack .size ≤ length (now stack) ⌝ }
     requires { ⌜ share .list .start + share .list .size ≤ length (now list) ⌝ }
-    ensures { λ a. ⌜ answerOf a ≡ resume 0 (inputFor share (now (coefs .entry))) (ownState (share .stack) (share .list) (now (stack .entry)) (now (list .entry)) r) .answer ⌝ }
+    ensures { λ a. ⌜ answerOf a
+        ≡ resume 0 (inputFor share (now (coefs .entry))) (ownState (share .stack) (share .list) (now (stack .entry)) (now (list .entry)) r) .answer ⌝ }
 {
     let c = turn::inside(share.coefs, coefs.len());
     let a = share.stack;
@@ -61,7 +62,9 @@ fn idle(share: Share, coefs: &[i32], stack: &[u32], list: &[u32], r: Record) -> 
 fn answer(share: Share, coefs: &[i32], stack: &[u32], list: &[u32], p: Progress) -> Answer
     requires { ⌜ share .stack .start + share .stack .size ≤ length (now stack) ⌝ }
     requires { ⌜ share .list .start + share .list .size ≤ length (now list) ⌝ }
-    ensures { λ a. ⌜ answerOf a ≡ orIdle (lastOf (p .last)) (inputFor share (now (coefs .entry))) (ownState (share .stack) (share .list) (now (stack .entry)) (now (list .entry)) (p .run)) ⌝ }
+    ensures { λ a. ⌜ answerOf a
+        ≡ orIdle (lastOf (p .last)) (inputFor share (now (coefs .entry)))
+        (ownState (share .stack) (share .list) (now (stack .entry)) (now (list .entry)) (p .run)) ⌝ }
 {
     let last = p.last;
     let r = p.run;
@@ -75,7 +78,8 @@ fn answer(share: Share, coefs: &[i32], stack: &[u32], list: &[u32], p: Progress)
 fn outcome(share: Share, coefs: &[i32], stack: &[u32], list: &[u32], p: Progress) -> Outcome
     requires { ⌜ share .stack .start + share .stack .size ≤ length (now stack) ⌝ }
     requires { ⌜ share .list .start + share .list .size ≤ length (now list) ⌝ }
-    ensures { λ o. ⌜ OutcomeFor p (inputFor share (now (coefs .entry))) (ownState (share .stack) (share .list) (now (stack .entry)) (now (list .entry)) (p .run)) o ⌝ }
+    ensures { λ o. ⌜ OutcomeFor p (inputFor share (now (coefs .entry)))
+        (ownState (share .stack) (share .list) (now (stack .entry)) (now (list .entry)) (p .run)) o ⌝ }
 {
     let r = p.run;
     Outcome {

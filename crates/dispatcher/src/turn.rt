@@ -26,7 +26,9 @@ pub fn serve(
 ) -> Outcome
     requires { ⌜ a .start + a .size ≤ length (now stack) ⌝ }
     requires { ⌜ b .start + b .size ≤ length (now list) ⌝ }
-    ensures { λ o. ⌜ outcomeOf o (now (stack .exit)) (now (list .exit)) ≡ placed a b (now (stack .entry)) (now (list .entry)) (resume quantum (inputOf p q (now (coefs .entry))) (ownState a b (now (stack .entry)) (now (list .entry)) r)) ⌝ }
+    ensures { λ o. ⌜ outcomeOf o (now (stack .exit)) (now (list .exit))
+        ≡ placed a b (now (stack .entry)) (now (list .entry))
+        (resume quantum (inputOf p q (now (coefs .entry))) (ownState a b (now (stack .entry)) (now (list .entry)) r)) ⌝ }
 {
     let from = a.start;
     let to = a.start + a.size;
@@ -72,7 +74,9 @@ pub fn serve_run(
 ) -> Outcome
     requires { ⌜ share .stack .start + share .stack .size ≤ length (now stack) ⌝ }
     requires { ⌜ share .list .start + share .list .size ≤ length (now list) ⌝ }
-    ensures { λ o. ⌜ outcomeOf o (now (stack .exit)) (now (list .exit)) ≡ placed (share .stack) (share .list) (now (stack .entry)) (now (list .entry)) (resume quantum (inputFor share (now (coefs .entry))) (ownState (share .stack) (share .list) (now (stack .entry)) (now (list .entry)) r)) ⌝ }
+    ensures { λ o. ⌜ outcomeOf o (now (stack .exit)) (now (list .exit))
+        ≡ placed (share .stack) (share .list) (now (stack .entry)) (now (list .entry))
+        (resume quantum (inputFor share (now (coefs .entry))) (ownState (share .stack) (share .list) (now (stack .entry)) (now (list .entry)) r)) ⌝ }
 {
     let a = share.stack;
     let b = share.list;

@@ -43,7 +43,8 @@ pub fn serve(
     turns: u64,
 ) -> Served
     requires { ⌜ Ready count shares (length (now stack)) (length (now list)) ⌝ }
-    ensures { λ s. ⌜ roundFor (now (stack .exit)) (now (list .exit)) (s .progress) (s .last) ≡ afterTurns turns (scheduleFor count shares (now (coefs .entry)) quantum) (roundFor (now (stack .entry)) (now (list .entry)) progress last) ⌝ }
+    ensures { λ s. ⌜ roundFor (now (stack .exit)) (now (list .exit)) (s .progress) (s .last)
+        ≡ afterTurns turns (scheduleFor count shares (now (coefs .entry)) quantum) (roundFor (now (stack .entry)) (now (list .entry)) progress last) ⌝ }
 {
     let mut all = progress;
     let mut number = last;

@@ -9,7 +9,8 @@ pub struct Part {
     pub size: usize,
 }
 
-// A run: its map, whose coefficients are a part of one slice, and its parts of the two tables.
+// What a run goes by: its map, whose coefficients are a part of one slice, and its parts of the two tables. Coefficients that leave the slice are missing,
+// so that they are the run's own refusal 3.
 pub struct Share {
     pub p: usize,
     pub q: usize,
@@ -43,7 +44,8 @@ pub enum Verdict {
 }
 
 // What a call returns: whether it was refused as a whole; for each run what it answers and the record that it leaves; the number of the run served
-// last; and the steps that the runs took. Where nothing is answered, as past the number of runs, a record stands as it was handed over.
+// last; and the steps that the runs took. A place past the number of runs, and each place of a call that was refused, has the answer `Started`, which no turn
+// gives, and its record as it was handed over.
 pub struct Dispatched {
     pub verdict: Verdict,
     pub outcomes: [Outcome; 8],

@@ -43,15 +43,19 @@ finish-requires c κs =
     let told = u .before .enum-told .given .1 in
     let kept = v .serve .kept in
     let long = records-long (k .before .before .before) in (
-      rw (kept .1 .1 .1 .0, kept .1 .1 .1 .1 .0) (ready (s .count) (s .shares) (now (s .coefs)) (s .quantum) (now (s .stack)) (now (s .list)) (s .records) (s .last) (s .turns) (k .check .ensures) told),
-      rising (s .count) (s .shares) (now (s .coefs)) (s .quantum) (now (s .stack)) (now (s .list)) (s .records) (s .last) (s .turns) (k .check .ensures) told long (u .unserved .ensures) (v .serve .result .progress) (v .serve .ensures),
+      rw (kept .1 .1 .1 .0, kept .1 .1 .1 .1 .0)
+          (ready (s .count) (s .shares) (now (s .coefs)) (s .quantum) (now (s .stack)) (now (s .list)) (s .records) (s .last) (s .turns)
+          (k .check .ensures) told),
+      rising (s .count) (s .shares) (now (s .coefs)) (s .quantum) (now (s .stack)) (now (s .list)) (s .records) (s .last) (s .turns)
+          (k .check .ensures) told long (u .unserved .ensures) (v .serve .result .progress) (v .serve .ensures),
     )
 
 returns : tie.Need-returns
 returns c =
     let k = c .before .before .before .before in
     let s = k .before .before .before .args in
-    returns-refused (s .count) (s .shares) (now (s .coefs)) (s .quantum) (now (s .stack)) (now (s .list)) (s .records) (s .last) (s .turns) (k .check .ensures) (c .before .before .why .given .1) (c .refused .result) (c .refused .ensures)
+    returns-refused (s .count) (s .shares) (now (s .coefs)) (s .quantum) (now (s .stack)) (now (s .list)) (s .records) (s .last) (s .turns)
+    (k .check .ensures) (c .before .before .why .given .1) (c .refused .result) (c .refused .ensures)
 
 same-length : tie.Need-same-length
 same-length c = search needs
@@ -67,7 +71,8 @@ returns-2 c =
     let s = k .before .before .before .args in
     let told = u .before .enum-told .given .1 in
     let long = records-long (k .before .before .before) in
-    returns-served (s .count) (s .shares) (now (s .coefs)) (s .quantum) (now (s .stack)) (now (s .list)) (s .records) (s .last) (s .turns) (k .check .ensures) told long (u .unserved .ensures) (v .serve .result .progress) (v .serve .ensures) (c .before .finish .ensures)
+    returns-served (s .count) (s .shares) (now (s .coefs)) (s .quantum) (now (s .stack)) (now (s .list)) (s .records) (s .last) (s .turns)
+    (k .check .ensures) told long (u .unserved .ensures) (v .serve .result .progress) (v .serve .ensures) (c .before .finish .ensures)
 
 pub dispatch-spec : {M : Type 1} → statement M
 dispatch-spec =

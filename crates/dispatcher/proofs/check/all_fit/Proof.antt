@@ -34,7 +34,8 @@ returns : tie.Need-returns Inv-loop μ-loop
 returns c =
     let k = c .before in
     let w = k .before .before .before in
-    passing-fails (w .before .loop .inv) (w .loop-test .taken) (sym (k .fits2 .ensures ∙ ap (fits _) (k .before .part-of .ensures)) ∙ not-true _ (c .if1 .taken))
+    passing-fails (w .before .loop .inv) (w .loop-test .taken)
+    (sym (k .fits2 .ensures ∙ ap (fits _) (k .before .part-of .ensures)) ∙ not-true _ (c .if1 .taken))
 
 add-i : tie.Need-add-i Inv-loop μ-loop
 add-i c = search needs

@@ -38,7 +38,8 @@ returns : tie.Need-returns Inv-loop μ-loop
 returns c =
     let k = c .before in
     let w = k .before .before .before in
-    passing-fails (w .before .loop .inv) (w .loop-test .taken) (ap not (sym (k .overlap .ensures ∙ ap (overlap _) (k .before .part-of .ensures)) ∙ c .if1 .taken))
+    passing-fails (w .before .loop .inv) (w .loop-test .taken)
+    (ap not (sym (k .overlap .ensures ∙ ap (overlap _) (k .before .part-of .ensures)) ∙ c .if1 .taken))
 
 add-j : tie.Need-add-j Inv-loop μ-loop
 add-j c = search needs

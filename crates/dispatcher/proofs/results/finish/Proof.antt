@@ -77,7 +77,8 @@ loop-again c =
     let o = c .before .before .before in
     let w = o .before .before .before in
     let pre = w .before .before .before .before .before .pre in
-    finishing-more (w .before .loop .inv) (pre .0 .few) (w .loop-test .taken) (took-by _ (o .outcome .ensures) (c .taken .ensures)) (o .outcome .result) (o .outcome .ensures)
+    finishing-more (w .before .loop .inv) (pre .0 .few) (w .loop-test .taken) (took-by _ (o .outcome .ensures) (c .taken .ensures)) (o .outcome .result)
+    (o .outcome .ensures)
 
 returns : tie.Need-returns Inv-loop μ-loop
 returns c = finishing-ends (c .before .loop .inv) (c .loop-test .left)

@@ -44,7 +44,8 @@ mul-share c =
     let n = t .before .before .before in
     let w = n .before in
     let ready = w .before .before .before .before .pre in
-    let f = found-below _ _ (w .before .loop .all) (w .before .loop .stack) (w .before .loop .list) (ready .some-run) (n .next-after .ensures) (t .before .i .given .1) in
+    let f = found-below _ _ (w .before .loop .all) (w .before .loop .stack) (w .before .loop .list) (ready .some-run) (n .next-after .ensures)
+    (t .before .i .given .1) in
     let l = f .1 in
     let few = ready .few in
     search needs
@@ -55,7 +56,8 @@ array-copy-out-share c =
     let n = t .before .before .before in
     let w = n .before in
     let ready = w .before .before .before .before .pre in
-    let f = found-below _ _ (w .before .loop .all) (w .before .loop .stack) (w .before .loop .list) (ready .some-run) (n .next-after .ensures) (t .before .i .given .1) in
+    let f = found-below _ _ (w .before .loop .all) (w .before .loop .stack) (w .before .loop .list) (ready .some-run) (n .next-after .ensures)
+    (t .before .i .given .1) in
     let l = f .1 in
     let few = ready .few in
     search needs
@@ -66,7 +68,8 @@ mul-before c =
     let n = t .before .before .before in
     let w = n .before in
     let ready = w .before .before .before .before .pre in
-    let f = found-below _ _ (w .before .loop .all) (w .before .loop .stack) (w .before .loop .list) (ready .some-run) (n .next-after .ensures) (t .before .i .given .1) in
+    let f = found-below _ _ (w .before .loop .all) (w .before .loop .stack) (w .before .loop .list) (ready .some-run) (n .next-after .ensures)
+    (t .before .i .given .1) in
     let l = f .1 in
     let few = ready .few in
     search needs
@@ -77,7 +80,8 @@ array-copy-out-before c =
     let n = t .before .before .before in
     let w = n .before in
     let ready = w .before .before .before .before .pre in
-    let f = found-below _ _ (w .before .loop .all) (w .before .loop .stack) (w .before .loop .list) (ready .some-run) (n .next-after .ensures) (t .before .i .given .1) in
+    let f = found-below _ _ (w .before .loop .all) (w .before .loop .stack) (w .before .loop .list) (ready .some-run) (n .next-after .ensures)
+    (t .before .i .given .1) in
     let l = f .1 in
     let few = ready .few in
     search needs
@@ -88,7 +92,8 @@ serve-run-requires c κs =
     let n = t .before .before .before in
     let w = n .before in
     let ready = w .before .before .before .before .pre in
-    let f = found-below _ _ (w .before .loop .all) (w .before .loop .stack) (w .before .loop .list) (ready .some-run) (n .next-after .ensures) (t .before .i .given .1) in
+    let f = found-below _ _ (w .before .loop .all) (w .before .loop .stack) (w .before .loop .list) (ready .some-run) (n .next-after .ensures)
+    (t .before .i .given .1) in
     let inv = w .before .loop .inv in
     (omega (arith, ready .stacks _ (f .1), inv .stacks), omega (arith, ready .lists _ (f .1), inv .lists))
 
@@ -101,7 +106,8 @@ mul-all c =
     let n = t .before .before .before in
     let w = n .before in
     let ready = w .before .before .before .before .pre in
-    let f = found-below _ _ (w .before .loop .all) (w .before .loop .stack) (w .before .loop .list) (ready .some-run) (n .next-after .ensures) (t .before .i .given .1) in
+    let f = found-below _ _ (w .before .loop .all) (w .before .loop .stack) (w .before .loop .list) (ready .some-run) (n .next-after .ensures)
+    (t .before .i .given .1) in
     let l = f .1 in
     let few = ready .few in
     search needs
@@ -112,7 +118,8 @@ array-set-from-all c =
     let n = t .before .before .before in
     let w = n .before in
     let ready = w .before .before .before .before .pre in
-    let f = found-below _ _ (w .before .loop .all) (w .before .loop .stack) (w .before .loop .list) (ready .some-run) (n .next-after .ensures) (t .before .i .given .1) in
+    let f = found-below _ _ (w .before .loop .all) (w .before .loop .stack) (w .before .loop .list) (ready .some-run) (n .next-after .ensures)
+    (t .before .i .given .1) in
     let l = f .1 in
     let few = ready .few in
     search needs
@@ -123,7 +130,8 @@ add-number c =
     let n = t .before .before .before in
     let w = n .before in
     let ready = w .before .before .before .before .pre in
-    let f = found-below _ _ (w .before .loop .all) (w .before .loop .stack) (w .before .loop .list) (ready .some-run) (n .next-after .ensures) (t .before .i .given .1) in
+    let f = found-below _ _ (w .before .loop .all) (w .before .loop .stack) (w .before .loop .list) (ready .some-run) (n .next-after .ensures)
+    (t .before .i .given .1) in
     let l = f .1 in
     let few = ready .few in
     search needs
@@ -144,10 +152,12 @@ loop-again c =
     let n = t .before .before .before in
     let w = n .before in
     let ready = w .before .before .before .before .pre in
-    let f = found-below _ _ (w .before .loop .all) (w .before .loop .stack) (w .before .loop .list) (ready .some-run) (n .next-after .ensures) (t .before .i .given .1) in
+    let f = found-below _ _ (w .before .loop .all) (w .before .loop .stack) (w .before .loop .list) (ready .some-run) (n .next-after .ensures)
+    (t .before .i .given .1) in
     let k = c .before .before .before .before .before in
     rw (c .after-turn .ensures)
-    (turning-more (w .before .loop .inv) (w .loop-test .taken) (omega (arith, f .1, ready .few)) (f .0) (k .serve-run .result) (k .serve-run .ensures) (k .serve-run .kept .1 .1 .0) (k .serve-run .kept .1 .1 .1 .0))
+    (turning-more (w .before .loop .inv) (w .loop-test .taken) (omega (arith, f .1, ready .few)) (f .0) (k .serve-run .result) (k .serve-run .ensures)
+    (k .serve-run .kept .1 .1 .0) (k .serve-run .kept .1 .1 .1 .0))
 
 same-length-3 : tie.Need-same-length-3 Inv-loop μ-loop
 same-length-3 c = search needs
