@@ -72,6 +72,10 @@ enum {
     DEZGULA_STACK_FULL = 13,     /* a child would need a row above q: never met, as 6 shuts it out */
     DEZGULA_STEPS_AT_LIMIT = 14, /* 10^12 steps are taken */
 
+    /* dezgula_dispatch: refused as a whole, before any run's own refusals. Nothing lent was changed. */
+    DEZGULA_SCHEDULE = 27, /* not 1 to 8 runs, a turn of 0 steps, a kept number above 8, or a record not of DEZGULA_ROUND_LENGTH words */
+    DEZGULA_PARTS = 28,    /* two parts of a table overlap, or one leaves it */
+
     /* Refused by the calls of single-file maps, after all others before the walk. Nothing lent was changed. */
     DEZGULA_COLUMN = 26,      /* a column is neither one 1, one -1 and otherwise zeros, nor all zeros; the place is the first such column */
     DEZGULA_NOT_MINIMAL = 30, /* dezgula_listing: a row is no minimal solution; the place is the first such row */
@@ -83,7 +87,8 @@ enum {
     DEZGULA_PAUSED = 101,  /* the budget is used up; a further call goes on from here */
     DEZGULA_ROW = 102,     /* dezgula_row: the row was copied */
     DEZGULA_NO_ROW = 103,  /* dezgula_row: there is no such row */
-    DEZGULA_WRITTEN = 104  /* dezgula_listing: the listing was written; the place is the number of its bytes */
+    DEZGULA_WRITTEN = 104, /* dezgula_listing: the listing was written; the place is the number of its bytes */
+    DEZGULA_SERVED = 110   /* dezgula_dispatch: turns were handed out; each run has its own answer */
 };
 
 /* An answer is a number in its low 8 bits and a place in the others. */
@@ -116,6 +121,8 @@ static inline const char *dezgula_sentence(uint64_t answer)
     case DEZGULA_COMPONENT: return "A component would pass 1,000,000.";
     case DEZGULA_STACK_FULL: return "The stack would need another row.";
     case DEZGULA_STEPS_AT_LIMIT: return "The run has taken 1,000,000,000,000 steps.";
+    case DEZGULA_SCHEDULE: return "There are not 1 to 8 runs, a turn has no steps, or the dispatcher's record is out of order.";
+    case DEZGULA_PARTS: return "Two parts of a table overlap, or one leaves it.";
     case DEZGULA_COLUMN: return "A column is neither one 1, one -1 and zeros, nor all zeros.";
     case DEZGULA_NOT_MINIMAL: return "A row of the list is no minimal solution.";
     case DEZGULA_OUTPUT_SHORT: return "The space for the output is too short.";
@@ -124,6 +131,7 @@ static inline const char *dezgula_sentence(uint64_t answer)
     case DEZGULA_ROW: return "The row was copied.";
     case DEZGULA_NO_ROW: return "There is no such row.";
     case DEZGULA_WRITTEN: return "The listing was written.";
+    case DEZGULA_SERVED: return "Turns were handed out.";
     default: return "This is no answer of the library.";
     }
 }
@@ -161,11 +169,39 @@ typedef struct {
     dezgula_record record;
 } dezgula_run;
 
+/* ---- up to eight runs at a time */
+
+#define DEZGULA_MOST_RUNS 8
+
+/* A part of a table: where it begins, from 0, and how many numbers it has. */
+typedef struct {
+    size_t start, size;
+} dezgula_part;
+
+/* What a run goes by: its system, whose coefficients are a part of one table, and its parts of one stack and one list. */
+typedef struct {
+    size_t p, q;
+    dezgula_part coefs, stack, list;
+} dezgula_share;
+
+/* A run's record, and what it answered in the last call. */
+typedef struct {
+    dezgula_record record;
+    uint64_t answer;
+} dezgula_turn;
+
+/* The dispatcher's record: the number of the run served last, from 1, and 0 at first; the steps that the runs took in the last call; and the runs. */
+typedef struct {
+    uint64_t last;
+    dezgula_steps steps;
+    dezgula_turn runs[DEZGULA_MOST_RUNS];
+} dezgula_round;
+
 /* ---- the exported functions: for callers in other languages, and for the calls below, which do the same and are easier to use. Here the record is
  * its words, in the order of its fields; a record of another length is refused with 6, also by a start, before 7 and after all other refusals below
  * it. A pointer is never NULL, not even with length 0, and is aligned for what it points to. */
 
-enum { DEZGULA_RECORD_LENGTH = 3 };
+enum { DEZGULA_RECORD_LENGTH = 3, DEZGULA_SHARE_LENGTH = 8, DEZGULA_ROUND_LENGTH = 42 };
 
 uint64_t dezgula_raw_start(size_t p, size_t q, const int32_t *coefs, size_t coefs_len, uint32_t *stack, size_t stack_len, uint32_t *list,
                            size_t list_len, uint64_t *record, size_t record_len) DEZGULA_LOOK_AT_IT;
@@ -186,6 +222,12 @@ uint64_t dezgula_raw_resume_single_file(size_t p, size_t q, const int32_t *coefs
 
 uint64_t dezgula_raw_listing(size_t p, size_t q, const int32_t *coefs, size_t coefs_len, const uint32_t *list, size_t list_len, size_t found, uint8_t *out,
                              size_t out_len) DEZGULA_LOOK_AT_IT;
+
+/* The words of a share are p, q, and start and size of the parts, in the order of its fields; words past the end are 0. The words of the dispatcher's record are the
+ * number of the run served last, the steps, and for each of eight runs height, found, steps, the number of its answer and the place that it comes with. */
+uint64_t dezgula_raw_dispatch(size_t count, uint64_t quantum, uint64_t turns, const uint64_t *shares, size_t shares_len, const int32_t *coefs,
+                              size_t coefs_len, uint32_t *stack, size_t stack_len, uint32_t *list, size_t list_len, uint64_t *round,
+                              size_t round_len) DEZGULA_LOOK_AT_IT;
 
 /* ---- the calls */
 
@@ -303,6 +345,48 @@ DEZGULA_LOOK_AT_IT static inline uint64_t dezgula_listing(const dezgula_system *
 }
 
 #undef DEZGULA_LENT
+
+/* Hands out `turns` turns of `quantum` steps each round the unfinished runs (height above 0), rising from the one after the run served last. A run that
+ * refuses or finishes leaves the round for this call. `shares` are `count` of them. Before the first call each run is started on its parts, and its record is put
+ * into the round; the same shares, quantum and round go to every call.
+ * Answers DEZGULA_SERVED, or refuses with 27 or 28 and changes nothing. Served: each run's record, answer and rows are those that it would have alone from one
+ * dezgula_resume for each of its turns; a run without a turn answers as to budget 0. No run's parts are touched by another's turn, nor what lies in no
+ * part. From one turn of a run that is paused to its next, the others take at most 7 * quantum steps. A place past `count` has the answer DEZGULA_STARTED. */
+DEZGULA_LOOK_AT_IT static inline uint64_t dezgula_dispatch(size_t count, const dezgula_share *shares, const int32_t *coefs, size_t coefs_len,
+                                                           uint32_t *stack, size_t stack_len, uint32_t *list, size_t list_len,
+                                                           dezgula_round *round, uint64_t quantum, uint64_t turns)
+{
+    uint64_t all[DEZGULA_MOST_RUNS * DEZGULA_SHARE_LENGTH] = {0}, words[DEZGULA_ROUND_LENGTH];
+    size_t i;
+    for (i = 0; i < count && i < DEZGULA_MOST_RUNS; i++) {
+        uint64_t *own = all + i * DEZGULA_SHARE_LENGTH;
+        own[0] = shares[i].p;
+        own[1] = shares[i].q;
+        own[2] = shares[i].coefs.start;
+        own[3] = shares[i].coefs.size;
+        own[4] = shares[i].stack.start;
+        own[5] = shares[i].stack.size;
+        own[6] = shares[i].list.start;
+        own[7] = shares[i].list.size;
+    }
+    words[0] = round->last;
+    words[1] = round->steps.count;
+    for (i = 0; i < DEZGULA_MOST_RUNS; i++) {
+        dezgula_pack(round->runs[i].record, words + 2 + 5 * i);
+        words[5 + 5 * i] = dezgula_number(round->runs[i].answer);
+        words[6 + 5 * i] = dezgula_place(round->runs[i].answer);
+    }
+    uint64_t answer = dezgula_raw_dispatch(count, quantum, turns, all, sizeof all / sizeof *all, (const int32_t *)dezgula_lent(coefs),
+                                           dezgula_lent_length(coefs, coefs_len), (uint32_t *)dezgula_lent(stack), dezgula_lent_length(stack, stack_len),
+                                           (uint32_t *)dezgula_lent(list), dezgula_lent_length(list, list_len), words, DEZGULA_ROUND_LENGTH);
+    round->last = words[0];
+    round->steps.count = words[1];
+    for (i = 0; i < DEZGULA_MOST_RUNS; i++) {
+        round->runs[i].record = dezgula_unpack(words + 2 + 5 * i);
+        round->runs[i].answer = words[5 + 5 * i] + 256 * words[6 + 5 * i];
+    }
+    return answer;
+}
 
 #ifdef __cplusplus
 }

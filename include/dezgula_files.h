@@ -32,8 +32,8 @@ enum {
     DEZGULA_FILE_RANGE = 22,        /* a word is out of range or filler is not zero; writing: a row count, component or ending is out of range, or a row
                                        is not whole */
     DEZGULA_FILE_TABLE_SHORT = 29,  /* reading: a table is too short for what the file holds */
-    DEZGULA_FILE_WRITTEN = 110,     /* the file was written */
-    DEZGULA_FILE_READ = 111         /* the file was read */
+    DEZGULA_FILE_WRITTEN = 106,     /* the file was written */
+    DEZGULA_FILE_READ = 107         /* the file was read */
 };
 
 /* What an answer of these calls says, as an English sentence; NULL for a number that include/dezgula.h has the sentence of. */

@@ -8,6 +8,7 @@ ghost use lib.Dec.{eqb};
 ghost use lib.ListN.{length};
 ghost use Rattle.definitions.specs.Input.{inputOf};
 ghost use Rattle.calls.specs.Paper.{answerOf};
+ghost use Rattle.dispatch_words.specs.Words.{dispatchWords};
 ghost use Rattle.dezgula.specs.Codes.{code};
 ghost use Rattle.dezgula.specs.Words.{told, wordsLeft, startWords, startFromWords, resumeWords};
 ghost use Rattle.dezgula.specs.Rows.{rowTold};
@@ -148,6 +149,24 @@ pub extern "C" fn dezgula_raw_listing(
     ensures { λ a. ⌜ (a, now (out .exit)) ≡ listingTold (listingCall (inputOf p q (now (coefs .entry))) (now (list .entry)) found (now (out .entry))) ⌝ }
 {
     single::listed(p, q, coefs, list, found, out)
+}
+
+// Up to eight runs at a time.
+#[no_mangle]
+pub extern "C" fn dezgula_raw_dispatch(
+    count: usize,
+    quantum: u64,
+    turns: u64,
+    shares: &[u64],
+    coefs: &[i32],
+    stack: &mut [u32],
+    list: &mut [u32],
+    round: &mut [u64],
+) -> u64
+    ensures { λ a. ⌜ (a, (now (stack .exit), (now (list .exit), now (round .exit)))) ≡
+        dispatchWords count quantum turns (now (shares .entry)) (now (coefs .entry)) (now (stack .entry)) (now (list .entry)) (now (round .entry)) ⌝ }
+{
+    dispatch_words::dispatch(count, quantum, turns, shares, coefs, stack, list, round)
 }
 
 // Whether a start from a lower bound is answered by its own checks, as it is where the lower bound is refused before the words of the record are looked at.

@@ -129,7 +129,7 @@ module _ (l : ListFile) (out : List ℕ) {r : Write} {after : List ℕ} (e : wri
   pub write-refused-told : {why : FileRefusal} {a : ℕ} → r ≡ write.Refused why → a ≡ refusalCode (numberOf why) (valuesOf why) → (a, after) ≡ writeTold (writeList l out)
   write-refused-told g d = rw (← e, g, d)
 
-  pub write-whole-told : r ≡ write.Whole → (110, after) ≡ writeTold (writeList l out)
+  pub write-whole-told : r ≡ write.Whole → (106, after) ≡ writeTold (writeList l out)
   write-whole-told g = rw (← e, g)
 
 module _ (file : List ℕ) (coefs : List ℤ) (list : List ℕ) {r : Read} {coefs′ : List ℤ} {list′ : List ℕ} (e : readOutcome r coefs′ list′ ≡ readFile file coefs list) where

@@ -11,12 +11,12 @@ abbrev pub refusalCode : ℕ → List ℕ → ℕ
 refusalCode n values = n + 256 * value values
 
 abbrev pub writeCode : writing.WriteAnswer → ℕ
-writeCode writing.wrote = 110
+writeCode writing.wrote = 106
 writeCode (writing.refused n values) = refusalCode n values
 
--- what was read: 111, and above it p, q and the ending, 8 bits each, and the row count
+-- what was read: 107, and above it p, q and the ending, 8 bits each, and the row count
 abbrev pub readCode : reading.ReadAnswer → ℕ
-readCode (reading.read p q rows ending) = 111 + 256 * (p + 256 * (q + 256 * (ending + 256 * rows)))
+readCode (reading.read p q rows ending) = 107 + 256 * (p + 256 * (q + 256 * (ending + 256 * rows)))
 readCode (reading.refused n values) = refusalCode n values
 
 -- what a call answers, as a number, and what it leaves in all that it was lent

@@ -22,7 +22,7 @@ pub fn write_list(
     ensures { λ a. ⌜ (a, now (out .exit)) ≡ writeTold (writeList (listOf p q (now (coefs .entry)) (now (rows .entry)) ending) (now (out .entry))) ⌝ }
 {
     match list_write::write_list(p, q, coefs, rows, ending, out) {
-        Write::Whole => 110,
+        Write::Whole => 106,
         Write::Refused(why) => refusal(why),
     }
 }
@@ -50,7 +50,7 @@ fn counts(p: usize, q: usize, rows: usize, ending: u32) -> u64
     requires { ⌜ readCode (listRead p q rows ending) < 2 ^ 64 ⌝ }
     ensures { λ a. ⌜ a ≡ readCode (listRead p q rows ending) ⌝ }
 {
-    111 + 256 * (p as u64 + 256 * (q as u64 + 256 * (ending as u64 + 256 * rows as u64)))
+    107 + 256 * (p as u64 + 256 * (q as u64 + 256 * (ending as u64 + 256 * rows as u64)))
 }
 
 fn refusal(why: FileRefusal) -> u64

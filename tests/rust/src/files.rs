@@ -31,7 +31,7 @@ pub type Refused = (u8, usize);
 
 pub fn write(l: &List, out: &mut [u8]) -> Result<(), Refused> {
     match unsafe { dezgula_raw_write_list(l.p, l.q, l.coefs.as_ptr(), l.coefs.len(), l.rows.as_ptr(), l.rows.len(), l.ending, out.as_mut_ptr(), out.len()) } {
-        110 => Ok(()),
+        106 => Ok(()),
         answer => Err((answer as u8, (answer >> 8) as usize)),
     }
 }
@@ -40,7 +40,7 @@ pub fn write(l: &List, out: &mut [u8]) -> Result<(), Refused> {
 pub fn read(file: &[u8], coefs: &mut [i32], list: &mut [u32]) -> Result<(usize, usize, usize, u32), Refused> {
     let answer = unsafe { dezgula_raw_read_list(file.as_ptr(), file.len(), coefs.as_mut_ptr(), coefs.len(), list.as_mut_ptr(), list.len()) };
     match answer & 0xff {
-        111 => Ok(((answer >> 8 & 0xff) as usize, (answer >> 16 & 0xff) as usize, (answer >> 32) as usize, (answer >> 24 & 0xff) as u32)),
+        107 => Ok(((answer >> 8 & 0xff) as usize, (answer >> 16 & 0xff) as usize, (answer >> 32) as usize, (answer >> 24 & 0xff) as u32)),
         number => Err((number as u8, (answer >> 8) as usize)),
     }
 }

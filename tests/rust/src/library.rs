@@ -84,6 +84,22 @@ extern "C" {
         out_len: usize,
     ) -> u64;
 
+    fn dezgula_raw_dispatch(
+        count: usize,
+        quantum: u64,
+        turns: u64,
+        shares: *const u64,
+        shares_len: usize,
+        coefs: *const i32,
+        coefs_len: usize,
+        stack: *mut u32,
+        stack_len: usize,
+        list: *mut u32,
+        list_len: usize,
+        round: *mut u64,
+        round_len: usize,
+    ) -> u64;
+
     fn dezgula_raw_row(list: *const u32, list_len: usize, q: usize, found: usize, n: usize, out: *mut u32, out_len: usize) -> u64;
 }
 
@@ -190,6 +206,27 @@ pub fn row(list: &[u32], q: usize, found: usize, n: usize, out: &mut [u32]) -> S
         102 => Shown::Row,
         103 => Shown::None,
         answer => Shown::Refused(u8::try_from(answer).expect("a reader's refusal has no place")),
+    }
+}
+
+/// Turns of `quantum` steps: the words of the runs' shares and of the dispatcher's record are those of include/dezgula.h. The number of the call.
+pub fn dispatch(count: usize, quantum: u64, turns: u64, shares: &[u64], coefs: &[i32], s: &mut State) -> u64 {
+    unsafe {
+        dezgula_raw_dispatch(
+            count,
+            quantum,
+            turns,
+            shares.as_ptr(),
+            shares.len(),
+            coefs.as_ptr(),
+            coefs.len(),
+            s.stack.as_mut_ptr(),
+            s.stack.len(),
+            s.list.as_mut_ptr(),
+            s.list.len(),
+            s.record.as_mut_ptr(),
+            s.record.len(),
+        )
     }
 }
 
