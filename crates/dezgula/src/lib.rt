@@ -6,8 +6,10 @@ ghost use mathlib.Core.Bool.{not, _||_};
 ghost use mathlib.Core.Logic.{_≢_};
 ghost use lib.Dec.{eqb};
 ghost use lib.ListN.{length};
+ghost use Rattle.definitions.specs.Highest.{locate};
 ghost use Rattle.definitions.specs.Input.{inputOf};
 ghost use Rattle.calls.specs.Paper.{answerOf};
+ghost use Rattle.lookups.specs.Answers.{locatedNumber};
 ghost use Rattle.dezgula.specs.Codes.{code};
 ghost use Rattle.dezgula.specs.Words.{told, wordsLeft, startWords, startFromWords, resumeWords};
 ghost use Rattle.dezgula.specs.Rows.{rowTold};
@@ -96,6 +98,14 @@ pub extern "C" fn dezgula_raw_row(
     ensures { λ a. ⌜ (a, now (out .exit)) ≡ rowTold q (now (list .entry)) found n (now (out .entry)) ⌝ }
 {
     rows::tell(list, q, found, n, out)
+}
+
+// The highest place of a row of the list at or below a tuple.
+#[no_mangle]
+pub extern "C" fn dezgula_raw_locate(list: &[u32], q: usize, found: usize, tuple: &[u32]) -> u64
+    ensures { λ a. ⌜ a ≡ locatedNumber (locate q (now (list .entry)) found (now (tuple .entry))) ⌝ }
+{
+    lookups::locate_number(list, q, found, tuple)
 }
 
 // Whether a start from a lower bound is answered by its own checks, as it is where the lower bound is refused before the words of the record are looked at.
