@@ -229,6 +229,8 @@ uint64_t dezgula_raw_dispatch(size_t count, uint64_t quantum, uint64_t turns, co
                               size_t coefs_len, uint32_t *stack, size_t stack_len, uint32_t *list, size_t list_len, uint64_t *round,
                               size_t round_len) DEZGULA_LOOK_AT_IT;
 
+uint64_t dezgula_raw_locate(const uint32_t *list, size_t list_len, size_t q, size_t found, const uint32_t *tuple, size_t tuple_len) DEZGULA_LOOK_AT_IT;
+
 /* ---- the calls */
 
 /* NULL as an exported function takes it: an empty table at a place that is neither read nor written. */
@@ -342,6 +344,21 @@ DEZGULA_LOOK_AT_IT static inline uint64_t dezgula_listing(const dezgula_system *
     return dezgula_raw_listing(system->p, system->q, (const int32_t *)dezgula_lent(system->coefs), dezgula_lent_length(system->coefs, system->coefs_len),
                                (const uint32_t *)dezgula_lent(run->list), dezgula_lent_length(run->list, run->list_len), run->record.found.count,
                                (uint8_t *)dezgula_lent(out), dezgula_lent_length(out, out_len));
+
+/* Which row of the list stopped a tuple: the highest place of a row that is at or below it, told as 255 plus the place, from 1; DEZGULA_NOWHERE; or a refusal
+ * with 2, 5 (the tuple does not have q components) or 6 (the found count is above the capacity). Reads the run's list and found count only, and writes nothing. */
+enum { DEZGULA_NOWHERE = 0 };
+
+DEZGULA_LOOK_AT_IT static inline uint64_t dezgula_locate(const dezgula_system *system, const dezgula_run *run, const uint32_t *tuple, size_t tuple_len)
+{
+    return dezgula_raw_locate((const uint32_t *)dezgula_lent(run->list), dezgula_lent_length(run->list, run->list_len), system->q, run->record.found.count,
+                              (const uint32_t *)dezgula_lent(tuple), dezgula_lent_length(tuple, tuple_len));
+}
+
+/* The place that dezgula_locate told, from 1; 0 for its other answers. */
+static inline uint64_t dezgula_located(uint64_t answer)
+{
+    return answer > 255 ? answer - 255 : 0;
 }
 
 #undef DEZGULA_LENT

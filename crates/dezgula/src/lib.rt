@@ -6,9 +6,11 @@ ghost use mathlib.Core.Bool.{not, _||_};
 ghost use mathlib.Core.Logic.{_≢_};
 ghost use lib.Dec.{eqb};
 ghost use lib.ListN.{length};
+ghost use Rattle.definitions.specs.Highest.{locate};
 ghost use Rattle.definitions.specs.Input.{inputOf};
 ghost use Rattle.calls.specs.Paper.{answerOf};
 ghost use Rattle.dispatch_words.specs.Words.{dispatchWords};
+ghost use Rattle.lookups.specs.Answers.{locatedNumber};
 ghost use Rattle.dezgula.specs.Codes.{code};
 ghost use Rattle.dezgula.specs.Words.{told, wordsLeft, startWords, startFromWords, resumeWords};
 ghost use Rattle.dezgula.specs.Rows.{rowTold};
@@ -167,6 +169,14 @@ pub extern "C" fn dezgula_raw_dispatch(
         dispatchWords count quantum turns (now (shares .entry)) (now (coefs .entry)) (now (stack .entry)) (now (list .entry)) (now (round .entry)) ⌝ }
 {
     dispatch_words::dispatch(count, quantum, turns, shares, coefs, stack, list, round)
+}
+
+// The highest place of a row of the list at or below a tuple.
+#[no_mangle]
+pub extern "C" fn dezgula_raw_locate(list: &[u32], q: usize, found: usize, tuple: &[u32]) -> u64
+    ensures { λ a. ⌜ a ≡ locatedNumber (locate q (now (list .entry)) found (now (tuple .entry))) ⌝ }
+{
+    lookups::locate_number(list, q, found, tuple)
 }
 
 // Whether a start from a lower bound is answered by its own checks, as it is where the lower bound is refused before the words of the record are looked at.

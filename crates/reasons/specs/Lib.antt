@@ -2,3 +2,4 @@ pub mod Answers
 pub mod AnswerLaws
 pub mod Amounts
 pub mod Refusals
+pub mod Numbers

@@ -18,6 +18,7 @@ use calls::Solutions;
 use lists::Place;
 
 mod asked; // asked.rt: what is refused
+pub mod told; // told.rt: a reason as numbers
 
 // The reasons, equations and places from 1; specs/Answers.antt has the document's values for each.
 pub enum Reason {
