@@ -344,6 +344,7 @@ DEZGULA_LOOK_AT_IT static inline uint64_t dezgula_listing(const dezgula_system *
     return dezgula_raw_listing(system->p, system->q, (const int32_t *)dezgula_lent(system->coefs), dezgula_lent_length(system->coefs, system->coefs_len),
                                (const uint32_t *)dezgula_lent(run->list), dezgula_lent_length(run->list, run->list_len), run->record.found.count,
                                (uint8_t *)dezgula_lent(out), dezgula_lent_length(out, out_len));
+}
 
 /* Which row of the list stopped a tuple: the highest place of a row that is at or below it, told as 255 plus the place, from 1; DEZGULA_NOWHERE; or a refusal
  * with 2, 5 (the tuple does not have q components) or 6 (the found count is above the capacity). Reads the run's list and found count only, and writes nothing. */
