@@ -231,6 +231,15 @@ uint64_t dezgula_raw_dispatch(size_t count, uint64_t quantum, uint64_t turns, co
 
 uint64_t dezgula_raw_locate(const uint32_t *list, size_t list_len, size_t q, size_t found, const uint32_t *tuple, size_t tuple_len) DEZGULA_LOOK_AT_IT;
 
+uint64_t dezgula_raw_reason(size_t p, size_t q, const int32_t *coefs, size_t coefs_len, const uint32_t *list, size_t list_len, size_t found,
+                            const uint32_t *tuple, size_t tuple_len) DEZGULA_LOOK_AT_IT;
+
+size_t dezgula_raw_reason_place(size_t p, size_t q, const int32_t *coefs, size_t coefs_len, const uint32_t *list, size_t list_len, size_t found,
+                                const uint32_t *tuple, size_t tuple_len) DEZGULA_LOOK_AT_IT;
+
+int64_t dezgula_raw_reason_amount(size_t p, size_t q, const int32_t *coefs, size_t coefs_len, const uint32_t *list, size_t list_len, size_t found,
+                                  const uint32_t *tuple, size_t tuple_len) DEZGULA_LOOK_AT_IT;
+
 /* ---- the calls */
 
 /* NULL as an exported function takes it: an empty table at a place that is neither read nor written. */
@@ -360,6 +369,53 @@ DEZGULA_LOOK_AT_IT static inline uint64_t dezgula_locate(const dezgula_system *s
 static inline uint64_t dezgula_located(uint64_t answer)
 {
     return answer > 255 ? answer - 255 : 0;
+}
+
+/* Why a tuple is not in the list: the first of these that is true of it, or a refusal with 1, 2, 3, 5 (the tuple does not have q components), 6 (the found
+ * count is above the capacity), 7 or 8 (a component of the tuple is above 1,000,000). Reads only, and writes nothing. */
+enum {
+    DEZGULA_ALL_ZERO = 110, /* it is all zero */
+    DEZGULA_OFF = 111,      /* an equation is off; `place` is the first such one, from 1, and `amount` its left side */
+    DEZGULA_STANDS = 112,   /* it is in the list; `place` is the highest place where it stands, from 1 */
+    DEZGULA_ABOVE = 113,    /* a row of the list lies below it; `place` is the highest place of such a row, from 1 */
+    DEZGULA_UNLISTED = 114  /* nothing listed lies below it: the list is not complete */
+};
+
+typedef struct {
+    uint64_t number; /* of the reason, or of the refusal */
+    size_t place;    /* for DEZGULA_OFF, DEZGULA_STANDS, DEZGULA_ABOVE and refusal 7; else 0 */
+    int64_t amount;  /* for DEZGULA_OFF; else 0 */
+} dezgula_why;
+
+DEZGULA_LOOK_AT_IT static inline dezgula_why dezgula_reason(const dezgula_system *system, const dezgula_run *run, const uint32_t *tuple, size_t tuple_len)
+{
+    const int32_t *coefs = (const int32_t *)dezgula_lent(system->coefs);
+    size_t coefs_len = dezgula_lent_length(system->coefs, system->coefs_len);
+    const uint32_t *list = (const uint32_t *)dezgula_lent(run->list);
+    size_t list_len = dezgula_lent_length(run->list, run->list_len), found = run->record.found.count;
+    const uint32_t *asked = (const uint32_t *)dezgula_lent(tuple);
+    size_t asked_len = dezgula_lent_length(tuple, tuple_len);
+    dezgula_why why;
+    why.number = dezgula_raw_reason(system->p, system->q, coefs, coefs_len, list, list_len, found, asked, asked_len);
+    why.place = dezgula_raw_reason_place(system->p, system->q, coefs, coefs_len, list, list_len, found, asked, asked_len);
+    why.amount = dezgula_raw_reason_amount(system->p, system->q, coefs, coefs_len, list, list_len, found, asked, asked_len);
+    return why;
+}
+
+/* What a reason says, as an English sentence; `place` and `amount` are the caller's to add. */
+static inline const char *dezgula_reason_sentence(uint64_t number)
+{
+    switch (number) {
+    case DEZGULA_ALL_ZERO: return "The tuple is all zero.";
+    case DEZGULA_OFF: return "An equation is off.";
+    case DEZGULA_STANDS: return "The tuple is in the list.";
+    case DEZGULA_ABOVE: return "A row of the list lies below the tuple.";
+    case DEZGULA_UNLISTED: return "Nothing listed lies below the tuple.";
+    case DEZGULA_BOUND_LENGTH: return "The tuple does not have a component for each unknown.";
+    case DEZGULA_OUT_OF_ORDER: return "The count of rows is above what the list has room for.";
+    case DEZGULA_BOUND_RANGE: return "A component of the tuple is above 1,000,000.";
+    default: return dezgula_sentence(number);
+    }
 }
 
 #undef DEZGULA_LENT

@@ -10,7 +10,9 @@ ghost use Rattle.definitions.specs.Highest.{locate};
 ghost use Rattle.definitions.specs.Input.{inputOf};
 ghost use Rattle.calls.specs.Paper.{answerOf};
 ghost use Rattle.dispatch_words.specs.Words.{dispatchWords};
+ghost use Rattle.definitions.specs.Reasons.{reason};
 ghost use Rattle.lookups.specs.Answers.{locatedNumber};
+ghost use Rattle.reasons.specs.Numbers.{reasonAmount, reasonNumber, reasonPlace};
 ghost use Rattle.dezgula.specs.Codes.{code};
 ghost use Rattle.dezgula.specs.Words.{told, wordsLeft, startWords, startFromWords, resumeWords};
 ghost use Rattle.dezgula.specs.Rows.{rowTold};
@@ -177,6 +179,51 @@ pub extern "C" fn dezgula_raw_locate(list: &[u32], q: usize, found: usize, tuple
     ensures { λ a. ⌜ a ≡ locatedNumber (locate q (now (list .entry)) found (now (tuple .entry))) ⌝ }
 {
     lookups::locate_number(list, q, found, tuple)
+}
+
+// Why a tuple is not in the list: the number of the reason.
+#[no_mangle]
+pub extern "C" fn dezgula_raw_reason(
+    p: usize,
+    q: usize,
+    coefs: &[i32],
+    list: &[u32],
+    found: usize,
+    tuple: &[u32],
+) -> u64
+    ensures { λ a. ⌜ a ≡ reasonNumber (reason (inputOf p q (now (coefs .entry))) (now (list .entry)) found (now (tuple .entry))) ⌝ }
+{
+    reasons::told::number(p, q, coefs, list, found, tuple)
+}
+
+// The equation or the place that the reason comes with.
+#[no_mangle]
+pub extern "C" fn dezgula_raw_reason_place(
+    p: usize,
+    q: usize,
+    coefs: &[i32],
+    list: &[u32],
+    found: usize,
+    tuple: &[u32],
+) -> usize
+    ensures { λ a. ⌜ a ≡ reasonPlace (reason (inputOf p q (now (coefs .entry))) (now (list .entry)) found (now (tuple .entry))) ⌝ }
+{
+    reasons::told::place(p, q, coefs, list, found, tuple)
+}
+
+// By how much the equation is off.
+#[no_mangle]
+pub extern "C" fn dezgula_raw_reason_amount(
+    p: usize,
+    q: usize,
+    coefs: &[i32],
+    list: &[u32],
+    found: usize,
+    tuple: &[u32],
+) -> i64
+    ensures { λ a. ⌜ a ≡ reasonAmount (reason (inputOf p q (now (coefs .entry))) (now (list .entry)) found (now (tuple .entry))) ⌝ }
+{
+    reasons::told::amount(p, q, coefs, list, found, tuple)
 }
 
 // Whether a start from a lower bound is answered by its own checks, as it is where the lower bound is refused before the words of the record are looked at.

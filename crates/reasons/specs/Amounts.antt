@@ -17,13 +17,15 @@ use Rattle.linear.specs.Cases.{split}
 use Rattle.linear.specs.Integers.{sfits-natAbs}
 use Rattle.linear.specs.PlaceLaws.{First, first-is}
 use Rattle.linear.specs.Systems.{value}
-use Rattle.definitions.specs.Reasons.{firstOff}
+use Rattle.definitions.specs.Reasons.{Reason, above, firstOff, off, reason, reasonChecks, refused, stands, unlessRefused, unlisted, zero}
 use Rattle.definitions.specs.Input.{inputOf, systemOf}
 use Rattle.definitions.specs.System.{System, coefLimit, imageOf, isZero, mostComponent, mostUnknowns}
-use Rattle.laws.specs.ReasonLaws.{Askable}
+use Rattle.laws.specs.CheckLaws.{check-cases}
+use Rattle.laws.specs.ReasonLaws.{Askable, reason-askable, reason-given, reason-renders}
 use Rattle.laws.specs.SystemLaws.{is-zero}
 use Rattle.laws.specs.TableLaws.{row-fits}
 use Rattle.lists.specs.Rows.{tuple}
+use Rattle.reasons.specs.Numbers.{reasonAmount}
 use Rattle.products.specs.Products.{SmallCoefs}
 use Rattle.products.specs.Turns.{SmallTerms, sum-fits, zero-bits}
 
@@ -108,3 +110,30 @@ module _ {p q : ℕ} {coefs : List ℤ} {t : List ℕ} (s : SmallCoefs p q coefs
   amount-read {k} e f =
       let first : First p (λ i. not (isZero (image i))) k = rw e at (first-is p (λ i. not (isZero (image i)))) in
       rw f (toZ-ofZ (amount-fits s r (omega (arith, first .some, first .few))))
+
+-- an amount that is told fits 64 bits
+told-otherwise : {k n : ℕ} {amount : ℤ} {values : List ℕ} → off k amount ≡ refused n values → ⊥
+told-otherwise e = let z : _≡_ {A = ℕ} 0 1 = cc in omega arith
+
+pub told-fits : (p q : ℕ) (coefs : List ℤ) (list : List ℕ) (found : ℕ) (t : List ℕ) (k : ℕ) (amount : ℤ) → off k amount ≡ reason (inputOf p q coefs) list found t → SFits w64 amount
+unfolding reason unlessRefused
+told-fits p q coefs list found t k amount e =
+    elim (check-cases (reasonChecks (inputOf p q coefs) list found t)) [
+      | inl g ↦ let i = inputOf p q coefs in
+          let a = reason-askable i list found t g in
+          let claim = reason-given i list found t (reason-renders i list found t .goes g) (off k amount) (sym e) .0 in
+          rw (← claim .by) (amount-fits (asked-system a) (asked-tuple a) {i = k - 1} (omega (arith, claim .some, claim .few)))
+      | inr (n, values, g) ↦ absurd (told-otherwise (rw g at e))
+    ]
+
+-- and so does what is told in its place where there is none
+pub amount-told : (p q : ℕ) (coefs : List ℤ) (list : List ℕ) (found : ℕ) (t : List ℕ) → SFits w64 (reasonAmount (reason (inputOf p q coefs) list found t))
+amount-told p q coefs list found t = of (reason (inputOf p q coefs) list found t) refl
+  where
+    of : (r : Reason) → r ≡ reason (inputOf p q coefs) list found t → SFits w64 (reasonAmount r)
+    of zero e = sfits-natAbs (omega arith)
+    of (off k amount) e = told-fits p q coefs list found t k amount e
+    of (stands n) e = sfits-natAbs (omega arith)
+    of (above n) e = sfits-natAbs (omega arith)
+    of unlisted e = sfits-natAbs (omega arith)
+    of (refused n values) e = sfits-natAbs (omega arith)

@@ -2,7 +2,7 @@
 ghost use mathlib.Core.Path.{_≡_};
 ghost use Rattle.definitions.specs.Input.{inputOf};
 ghost use Rattle.definitions.specs.Reasons as paper;
-ghost use Rattle.reasons.specs.Numbers.{reasonNumber, reasonPlace};
+ghost use Rattle.reasons.specs.Numbers.{reasonAmount, reasonNumber, reasonPlace};
 use crate::Reason;
 use crate::explain;
 use calls::Solutions;
@@ -32,5 +32,19 @@ pub fn place(p: usize, q: usize, coefs: &[i32], list: &[u32], found: usize, t: &
         Reason::Above(n) => n,
         Reason::Unlisted => 0,
         Reason::Refused(why) => calls::value_of(why),
+    }
+}
+
+// By how much the equation is off; 0 for every other reason.
+pub fn amount(p: usize, q: usize, coefs: &[i32], list: &[u32], found: usize, t: &[u32]) -> i64
+    ensures { λ r. ⌜ r ≡ reasonAmount (paper.reason (inputOf p q (now (coefs .entry))) (now (list .entry)) found (now (t .entry))) ⌝ }
+{
+    match explain(p, q, coefs, list, Solutions(found), t) {
+        Reason::Zero => 0,
+        Reason::Off(_, amount) => amount,
+        Reason::Stands(_) => 0,
+        Reason::Above(_) => 0,
+        Reason::Unlisted => 0,
+        Reason::Refused(_) => 0,
     }
 }
