@@ -17,7 +17,7 @@ use Rattle.definitions.specs.Input.{inputOf}
 use Rattle.definitions.specs.Machine.{call, checked, unlessDone, walk}
 use Rattle.definitions.specs.System.{covered, isAtOrBelow, solves}
 use Rattle.definitions.specs.Tables.{begun, bit, frozen, unitsTo, writeRow, writeTo}
-use Rattle.definitions.specs.Step.{makes, marksTo, childrenTo, listed, grown, step}
+use Rattle.definitions.specs.Step.{makes, marksTo, writeChildren, listed, grown, step}
 use Rattle.definitions.specs.Refusals.{rowInOrder, inOrder, check7, resumeChecks, tooLarge, tooHigh, searchChecks}
 use Rattle.dispatch_form.specs.Parts.{Part, partOf, withPart, lies, overlap, apart}
 use Rattle.dispatch_form.specs.Dispatch.{Schedule, Share, Round, Dispatched, firstTo, totalTo, own, nextAfter, leaveTurn, serve}
@@ -112,5 +112,5 @@ calls-hold : (called 0 (schedule (part 15 6) 7 3) ≡ comes (paused ∷ paused �
     × (called 9 (schedule (part 15 6) 7 0) ≡ refuses 27)
     × (called 9 (schedule (part 13 8) 7 3) ≡ refuses 28)
     × (called 9 (schedule (part 15 8) 7 3) ≡ refuses 28)
-unfolding part share pair schedule starts nines summary called comes refuses partOf withPart overlap apart firstTo totalTo own nextAfter leaveTurn serve afterTurns opened answerFor stepsBetween dispatchChecks dispatch sumTo allTo anyTo countTo unit inner value refuseWith _then_ refuseFirst solves isAtOrBelow covered bit frozen writeTo writeRow unitsTo makes marksTo childrenTo listed grown step rowInOrder inOrder check7 resumeChecks tooLarge tooHigh searchChecks checked unlessDone walk call
+unfolding part share pair schedule starts nines summary called comes refuses partOf withPart overlap apart firstTo totalTo own nextAfter leaveTurn serve afterTurns opened answerFor stepsBetween dispatchChecks dispatch sumTo allTo anyTo countTo unit inner value refuseWith _then_ refuseFirst solves isAtOrBelow covered bit frozen writeTo writeRow unitsTo makes marksTo writeChildren listed grown step rowInOrder inOrder check7 resumeChecks tooLarge tooHigh searchChecks checked unlessDone walk call
 calls-hold = (refl, refl, refl, refl, refl, refl, refl, refl, refl)
