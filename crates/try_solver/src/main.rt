@@ -88,7 +88,7 @@ fn by_value() {
     let r = o.run;
     let row = solver::row_of(&list, 4, r.found, 1);
     print::text(b"by value:");
-    print::tuple(row);
+    print::rows(row, 4);
     print::text(b"\n");
 }
 
@@ -127,6 +127,6 @@ fn show(list: &[u32], q: usize, found: Solutions, n: usize) {
     if row.len() == 0 {
         print::text(b" none");
     }
-    print::tuple(row);
+    print::rows(row, q);
     print::text(b"\n");
 }
