@@ -34,11 +34,15 @@ fn size(p: usize, q: usize) -> usize
 }
 
 // The first n coefficients, or all where there are fewer.
-fn first(coefs: &[i32], n: usize) -> &[i32] {
-    if n < coefs.len() {
-        return &coefs[0..n];
+fn first(coefs: &[i32; 128], n: usize) -> &[i32] {
+    part(coefs, n)
+}
+
+fn part(s: &[i32], n: usize) -> &[i32] {
+    if n <= s.len() {
+        return &s[0..n];
     }
-    &coefs[0..coefs.len()]
+    s
 }
 
 // A plain start, and then one continuing call.

@@ -1,7 +1,8 @@
 // The calls over a reference: each lends them a record of its own, as a caller does. Their proofs are walks by hand, so they do nothing else.
 ghost use mathlib.Core.Path.{_≡_};
 ghost use Rattle.definitions.specs.Calls.{start, startFrom, resume};
-ghost use Rattle.calls.specs.Paper.{systemOf, stateOf, outcomeOf};
+ghost use Rattle.definitions.specs.Input.{inputOf};
+ghost use Rattle.calls.specs.Paper.{stateOf, outcomeOf};
 ghost use Rattle.solver.specs.Reading.{shownPart};
 use calls::Outcome;
 use calls::Record;
@@ -17,7 +18,7 @@ pub fn started(
     r: Record,
 ) -> Outcome
     ensures { λ o. ⌜ outcomeOf o (now (stack .exit)) (now (list .exit)) ≡
-        start (systemOf p q (now (coefs .entry))) (stateOf (now (stack .entry)) (now (list .entry)) r) ⌝ }
+        start (inputOf p q (now (coefs .entry))) (stateOf (now (stack .entry)) (now (list .entry)) r) ⌝ }
 {
     let mut run = r;
     let answer = solver::start(p, q, coefs, stack, list, &mut run);
@@ -34,7 +35,7 @@ pub fn started_from(
     lower: &[u32],
 ) -> Outcome
     ensures { λ o. ⌜ outcomeOf o (now (stack .exit)) (now (list .exit)) ≡
-        startFrom (now (lower .entry)) (systemOf p q (now (coefs .entry))) (stateOf (now (stack .entry)) (now (list .entry)) r) ⌝ }
+        startFrom (now (lower .entry)) (inputOf p q (now (coefs .entry))) (stateOf (now (stack .entry)) (now (list .entry)) r) ⌝ }
 {
     let mut run = r;
     let answer = solver::start_from(p, q, coefs, stack, list, &mut run, lower);
@@ -51,7 +52,7 @@ pub fn resumed(
     budget: u64,
 ) -> Outcome
     ensures { λ o. ⌜ outcomeOf o (now (stack .exit)) (now (list .exit)) ≡
-        resume budget (systemOf p q (now (coefs .entry))) (stateOf (now (stack .entry)) (now (list .entry)) r) ⌝ }
+        resume budget (inputOf p q (now (coefs .entry))) (stateOf (now (stack .entry)) (now (list .entry)) r) ⌝ }
 {
     let mut run = r;
     let answer = solver::resume(p, q, coefs, stack, list, &mut run, budget);
