@@ -374,11 +374,11 @@ static inline uint64_t dezgula_located(uint64_t answer)
 /* Why a tuple is not in the list: the first of these that is true of it, or a refusal with 1, 2, 3, 5 (the tuple does not have q components), 6 (the found
  * count is above the capacity), 7 or 8 (a component of the tuple is above 1,000,000). Reads only, and writes nothing. */
 enum {
-    DEZGULA_ALL_ZERO = 110, /* it is all zero */
-    DEZGULA_OFF = 111,      /* an equation is off; `place` is the first such one, from 1, and `amount` its left side */
-    DEZGULA_STANDS = 112,   /* it is in the list; `place` is the highest place where it stands, from 1 */
-    DEZGULA_ABOVE = 113,    /* a row of the list lies below it; `place` is the highest place of such a row, from 1 */
-    DEZGULA_UNLISTED = 114  /* nothing listed lies below it: the list is not complete */
+    DEZGULA_ALL_ZERO = 120, /* it is all zero */
+    DEZGULA_OFF = 121,      /* an equation is off; `place` is the first such one, from 1, and `amount` its left side */
+    DEZGULA_STANDS = 122,   /* it is in the list; `place` is the highest place where it stands, from 1 */
+    DEZGULA_ABOVE = 123,    /* a row of the list lies below it; `place` is the highest place of such a row, from 1 */
+    DEZGULA_UNLISTED = 124  /* nothing listed lies below it: the list is not complete */
 };
 
 typedef struct {

@@ -37,17 +37,17 @@ def reason(p, q, coefs, table, found, t):
     if any(x > 1000000 for x in t):
         return 8, 0, 0
     if not any(t):
-        return 110, 0, 0
+        return 120, 0, 0
     for k in range(p):
         amount = sum(c * x for c, x in zip(coefs[k * q:k * q + q], t))
         if amount:
-            return 111, k + 1, amount
+            return 121, k + 1, amount
     rows = [table[n * q:n * q + q] for n in range(found)]
     same = [n + 1 for n, row in enumerate(rows) if row == t]
     if same:
-        return 112, same[-1], 0
+        return 122, same[-1], 0
     below = [n + 1 for n, row in enumerate(rows) if at_or_below(row, t)]
-    return (113, below[-1], 0) if below else (114, 0, 0)
+    return (123, below[-1], 0) if below else (124, 0, 0)
 
 
 def drawn(r):

@@ -6,11 +6,11 @@ use Rattle.calls.specs.Paper.{value}
 
 -- refusals keep their own numbers
 abbrev pub reasonNumber : Reason → ℕ
-reasonNumber zero = 110
-reasonNumber (off k amount) = 111
-reasonNumber (stands n) = 112
-reasonNumber (above n) = 113
-reasonNumber unlisted = 114
+reasonNumber zero = 120
+reasonNumber (off k amount) = 121
+reasonNumber (stands n) = 122
+reasonNumber (above n) = 123
+reasonNumber unlisted = 124
 reasonNumber (refused n values) = n
 
 abbrev pub reasonPlace : Reason → ℕ

@@ -12,11 +12,11 @@ pub fn number(p: usize, q: usize, coefs: &[i32], list: &[u32], found: usize, t: 
     ensures { λ r. ⌜ r ≡ reasonNumber (paper.reason (inputOf p q (now (coefs .entry))) (now (list .entry)) found (now (t .entry))) ⌝ }
 {
     match explain(p, q, coefs, list, Solutions(found), t) {
-        Reason::Zero => 110,
-        Reason::Off(_, _) => 111,
-        Reason::Stands(_) => 112,
-        Reason::Above(_) => 113,
-        Reason::Unlisted => 114,
+        Reason::Zero => 120,
+        Reason::Off(_, _) => 121,
+        Reason::Stands(_) => 122,
+        Reason::Above(_) => 123,
+        Reason::Unlisted => 124,
         Reason::Refused(why) => calls::number_of(why),
     }
 }
