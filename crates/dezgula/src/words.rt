@@ -10,17 +10,13 @@ pub fn read(words: &[u64]) -> Record
     ensures { λ r. ⌜ r ≡ recordIn (now (words .entry)) ⌝ }
 {
     if words.len() == 3 {
-        return Record {
-            height: words[0] as usize,
-            found: Solutions(words[1] as usize),
-            steps: Steps(words[2]),
-        };
+        return Record::new(
+            words[0] as usize,
+            Solutions(words[1] as usize),
+            Steps(words[2]),
+        );
     }
-    Record {
-        height: 17,
-        found: Solutions(0),
-        steps: Steps(0),
-    }
+    Record::new(17, Solutions(0), Steps(0))
 }
 
 // Puts a record back into its words; another number of them stays as it is.

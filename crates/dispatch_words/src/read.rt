@@ -65,11 +65,9 @@ fn record(words: &[u64], base: usize) -> Record
     requires { ⌜ base ≤ 37 ⌝ }
     ensures { λ r. ⌜ r ≡ recordAt (now (words .entry)) base ⌝ }
 {
-    Record {
-        height: word(words, base) as usize,
-        found: Solutions(word(words, base + 1) as usize),
-        steps: Steps(word(words, base + 2)),
-    }
+    let height = word(words, base) as usize;
+    let found = Solutions(word(words, base + 1) as usize);
+    Record::new(height, found, Steps(word(words, base + 2)))
 }
 
 // The records of eight runs.

@@ -9,12 +9,6 @@ use listing::ListingAnswer;
 use map_text::Read;
 use map_text::TextRefusal;
 
-const BLANK: Record = Record {
-    height: 0,
-    found: Solutions(0),
-    steps: Steps(0),
-};
-
 fn main() {
     // one byte more than a text may have, which tells a longer one
     let mut text = [0u8; 4097];
@@ -49,7 +43,8 @@ fn part(s: &[i32], n: usize) -> &[i32] {
 fn solve(p: usize, q: usize, coefs: &[i32]) {
     let mut stack = [0u32; 272];
     let mut list = [0u32; 8192];
-    let begun = single_file_calls::started(p, q, coefs, &mut stack, &mut list, BLANK);
+    let blank = Record::new(0, Solutions(0), Steps(0));
+    let begun = single_file_calls::started(p, q, coefs, &mut stack, &mut list, blank);
     let answer = begun.answer;
     match answer {
         Answer::Refused(why) => refuse(calls::number_of(why), b" column ", calls::value_of(why)),

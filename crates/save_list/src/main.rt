@@ -42,11 +42,7 @@ fn solved(p: usize, q: usize, coefs: &[i32], file: &mut [u8]) -> usize
 {
     let mut stack = [0u32; 272];
     let mut list = [0u32; 8192];
-    let blank = Record {
-        height: 0,
-        found: Solutions(0),
-        steps: Steps(0),
-    };
+    let blank = Record::new(0, Solutions(0), Steps(0));
     let begun = starts::started(p, q, coefs, &mut stack, &mut list, blank);
     let run = begun.run;
     let ended = walk::resumed(p, q, coefs, &mut stack, &mut list, run, 1000000);
