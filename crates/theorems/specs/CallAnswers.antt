@@ -5,10 +5,10 @@ use mathlib.Core.List.{List}
 use Prim.Native.Nat.{ℕ, suc, _<_}
 use native.Mathlib.Omega.{arith}
 use Rattle.definitions.specs.Answers.{Answer, Check, complete, go, paused, refuse, refused, started}
-use Rattle.definitions.specs.Machine.{Machine, Outcome, call, callSteps, checked}
+use Rattle.definitions.specs.Machine.{Machine, Outcome, call, callSteps, checked, walk}
 use Rattle.laws.specs.CheckLaws.{AllSilent, FirstDue, Renders, Rules, check-cases, refuse-not-go}
-use Rattle.laws.specs.MachineLaws.{call-refused, call-walks, walk-refused}
-use Rattle.theorems.specs.WholeSteps.{Ends, Steady, called, completes, pauses, refuses, settled-after}
+use Rattle.laws.specs.MachineLaws.{call-refused, call-walks, walk-more, walk-refused}
+use Rattle.theorems.specs.WholeSteps.{Ends, Goes, Steady, called, completes, pauses, refuses, settled-after}
 
 -- ---- a start
 
@@ -135,3 +135,7 @@ module _ {S : Type 0} {k : Machine S} {before within : S → Rules} (ruled : Rul
       let (h, r) = refused-there n values e a in
       let same : k .settle left ≡ left = ap (k .settle) (called k budget s e .state) ∙ settled-after k steady (callSteps budget k s) s ∙ sym (called k budget s e .state) in
       call-walks k left (suc more) f .0 ∙ walk-refused k left more n values (rw same h) (rw same r) .0 ∙ ap (λ t. record { answer = refused n values; state = t }) same
+
+-- "after 11 a longer list table with the same rows may be given": where what stood in the way is gone, the call takes the step that was refused
+pub goes-on : {S : Type 0} (k : Machine S) (s : S) → k .before s ≡ go → Goes k (k .settle s) → (more : ℕ) → call (suc more) k s ≡ walk more k (k .step (k .settle s))
+goes-on k s e (h, f) more = call-walks k s (suc more) e .0 ∙ walk-more k s more h f .0
