@@ -7,8 +7,10 @@ pub mod Refusals
 pub mod Machine
 pub mod Calls
 pub mod Reader
+pub mod RowExamples
 pub mod Highest
 pub mod Reasons
 pub mod Bound
 pub mod Runs
+pub mod CappedRuns
 pub mod Examples

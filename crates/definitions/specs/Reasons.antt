@@ -14,7 +14,7 @@ use Rattle.linear.specs.Places.{elseIf, firstTo, lastTo, placeIf}
 use Rattle.linear.specs.Tests.{allTo, anyTo}
 use Rattle.definitions.specs.Answers.{Check, refuse, go, refuseWith, refuseIf, _then_, refuseFirst}
 use Rattle.definitions.specs.System.{System, imageOf, isAtOrBelow, isZero}
-use Rattle.definitions.specs.Input.{Input, inputOf, systemOf}
+use Rattle.definitions.specs.Input.{Input, inputOf, mapOf}
 use Rattle.definitions.specs.Highest.{highest}
 use Rattle.definitions.specs.Tables.{at, capacity}
 use Rattle.definitions.specs.Refusals.{check1, check2, check3, check5, check7, check8}
@@ -89,7 +89,7 @@ unlessRefused (refuse n values) r = refused n values
 unlessRefused go r = r
 
 unfoldable pub reason : Input → List ℕ → ℕ → List ℕ → Reason
-reason i list found t = unlessRefused (reasonChecks i list found t) (firstTrue (systemOf i) found (at list (i .q)) (λ j. getD t j 0))
+reason i list found t = unlessRefused (reasonChecks i list found t) (firstTrue (mapOf i) found (at list (i .q)) (λ j. getD t j 0))
 
 -- ---- it computes: on 2 −3 with the list 3 2, 3 2, and on the program's map with both of its solutions; one answer of each kind, and each refusal
 -- ahead of those after it

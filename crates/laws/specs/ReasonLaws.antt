@@ -18,7 +18,7 @@ use Rattle.linear.specs.TupleLaws.{differ}
 use Rattle.linear.specs.Tuples.{AtOrBelow, Below, Nonzero, Same}
 use Rattle.definitions.specs.Answers.{Check, go, refuse, refuseIf}
 use Rattle.definitions.specs.Highest.{highest}
-use Rattle.definitions.specs.Input.{Input, limitOf, systemOf}
+use Rattle.definitions.specs.Input.{Input, limitOf, mapOf}
 use Rattle.definitions.specs.Reasons.{Reason, above, aboveOr, checkCount, firstOff, firstTrue, inList, isSame, off, offOr, reason, reasonChecks, refused, standing, stands, standsOr, unlessRefused, unlisted, vanishes, zero, zeroOr}
 use Rattle.definitions.specs.System.{System, coef, coefLimit, imageOf, isAtOrBelow, isZero, mostEquations, mostUnknowns}
 use Rattle.definitions.specs.Tables.{at, capacity}
@@ -39,7 +39,7 @@ reasonRules i list found t =
     ▹ rule 8 ((j : ℕ) × (j < length t) × (limitOf (i .limit) < getD t j 0))
     ▹ end
 
-decides-count : (i : Input) (list : List ℕ) (found : ℕ) → Decides (checkCount i list found) (rule 6 (capacity (i .q) list < found))
+pub decides-count : (i : Input) (list : List ℕ) (found : ℕ) → Decides (checkCount i list found) (rule 6 (capacity (i .q) list < found))
 decides-count i list found =
     let room : ℕ = capacity (i .q) list in
     decides-if (not (leb found room)) 6 (room < found)
@@ -342,7 +342,7 @@ module _ (i : Input) (list : List ℕ) (found : ℕ) (t : List ℕ) where
   unfolding reason
   reason-refused n values e =
       reason-renders i list found t .refuses n values
-      (refused-by (reasonChecks i list found t) (firstTrue (systemOf i) found row x) n values (λ f. rw f at (first-given (systemOf i) found row x .0)) e)
+      (refused-by (reasonChecks i list found t) (firstTrue (mapOf i) found row x) n values (λ f. rw f at (first-given (mapOf i) found row x .0)) e)
 
   pub refused-reason : (n : ℕ) (values : List ℕ) → FirstDue (reasonRules i list found t) n values → reason i list found t ≡ refused n values
   unfolding reason unlessRefused
@@ -350,15 +350,15 @@ module _ (i : Input) (list : List ℕ) (found : ℕ) (t : List ℕ) where
 
   -- and where none is due, the first that is true
   module _ (none-due : AllSilent (reasonRules i list found t)) where
-    asked : reason i list found t ≡ firstTrue (systemOf i) found row x
+    asked : reason i list found t ≡ firstTrue (mapOf i) found row x
     unfolding reason unlessRefused
     asked = rw (reason-renders i list found t .silent none-due)
 
-    pub reason-given : (r : Reason) → reason i list found t ≡ r → Claim (systemOf i) found row x r × NoneEarlier (systemOf i) found row x r
-    reason-given r e = rw (sym asked ∙ e) at (first-given (systemOf i) found row x)
+    pub reason-given : (r : Reason) → reason i list found t ≡ r → Claim (mapOf i) found row x r × NoneEarlier (mapOf i) found row x r
+    reason-given r e = rw (sym asked ∙ e) at (first-given (mapOf i) found row x)
 
-    pub given-reason : (r : Reason) → Claim (systemOf i) found row x r × NoneEarlier (systemOf i) found row x r → reason i list found t ≡ r
-    given-reason r h = asked ∙ only-given (systemOf i) found row x r h
+    pub given-reason : (r : Reason) → Claim (mapOf i) found row x r × NoneEarlier (mapOf i) found row x r → reason i list found t ≡ r
+    given-reason r h = asked ∙ only-given (mapOf i) found row x r h
 
   -- an answer that is no refusal comes where none is due
   pub unlisted-asked : reason i list found t ≡ unlisted → AllSilent (reasonRules i list found t)

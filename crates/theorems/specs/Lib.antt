@@ -5,11 +5,14 @@ pub mod Invariant
 pub mod Listing
 pub mod Growing
 pub mod Starts
+pub mod Lower
+pub mod RightSides
 pub mod Link
 pub mod WholeSteps
 pub mod CallAnswers
 pub mod Listed
 pub mod Run
+pub mod Held
 pub mod Potential
 pub mod Depth
 pub mod Equation

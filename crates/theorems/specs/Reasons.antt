@@ -11,14 +11,14 @@ use Rattle.linear.specs.Tuples.{total}
 use Rattle.definitions.specs.Answers.{complete}
 use Rattle.definitions.specs.Calls.{resume}
 use Rattle.definitions.specs.Reasons.{Reason, reason, refused, unlisted}
-use Rattle.definitions.specs.Input.{Input, inputOf, systemOf}
-use Rattle.definitions.specs.System.{MinimalSolution}
+use Rattle.definitions.specs.Input.{Input, inputOf, inputWith, mapOf, rights}
+use Rattle.definitions.specs.System.{MinimalSolution, mostComponent}
 use Rattle.definitions.specs.Tables.{State, at}
 use Rattle.laws.specs.CheckLaws.{AllSilent, FirstDue}
 use Rattle.laws.specs.ReasonLaws.{Claim, NoneEarlier, count-refused, given-reason, reason-given, reason-refused, reasonRules, refused-reason, unlisted-asked, unlisted-means}
 use Rattle.theorems.specs.Basis.{basis-below}
 use Rattle.theorems.specs.Demands.{second-demand}
-use Rattle.theorems.specs.Link.{nonzero, task}
+use Rattle.theorems.specs.Link.{nonzero, task, upToOne}
 use Rattle.theorems.specs.Listed.{Exactly, Only}
 use Rattle.theorems.specs.Run.{Run}
 
@@ -29,9 +29,9 @@ pub record Reasoned (i : Input) (list : List ℕ) (found : ℕ) (t : List ℕ) :
   pub due-refusal : (n : ℕ) (values : List ℕ) → FirstDue (reasonRules i list found t) n values → reason i list found t ≡ refused n values
   -- "the tool gives the first that is true": "Every reason is proved true of the tuple", none before it is, and no other answer is so
   pub true-first : AllSilent (reasonRules i list found t) → (r : Reason) → reason i list found t ≡ r
-      → Claim (systemOf i) found (at list (i .q)) (λ j. getD t j 0) r × NoneEarlier (systemOf i) found (at list (i .q)) (λ j. getD t j 0) r
+      → Claim (mapOf i) found (at list (i .q)) (λ j. getD t j 0) r × NoneEarlier (mapOf i) found (at list (i .q)) (λ j. getD t j 0) r
   pub first-true : AllSilent (reasonRules i list found t) → (r : Reason)
-      → Claim (systemOf i) found (at list (i .q)) (λ j. getD t j 0) r × NoneEarlier (systemOf i) found (at list (i .q)) (λ j. getD t j 0) r → reason i list found t ≡ r
+      → Claim (mapOf i) found (at list (i .q)) (λ j. getD t j 0) r × NoneEarlier (mapOf i) found (at list (i .q)) (λ j. getD t j 0) r → reason i list found t ≡ r
 
 pub record ReasonPromise : Type 1 where
   -- the list of a run, finished or cut short, is never refused for its count
@@ -39,14 +39,17 @@ pub record ReasonPromise : Type 1 where
   pub reasoned : (i : Input) (list : List ℕ) (found : ℕ) (t : List ℕ) → Reasoned i list found t
   -- "and the last is never given for a complete plain list": for any list that holds the minimal solutions, and so after any plain run that
   -- answered "complete"
-  pub whole-list : (i : Input) (list : List ℕ) (found : ℕ) → Exactly (i .q) (MinimalSolution (systemOf i)) list found → (t : List ℕ) → reason i list found t ≢ unlisted
+  pub whole-list : (i : Input) (list : List ℕ) (found : ℕ) → Exactly (i .q) (MinimalSolution (mapOf i)) list found → (t : List ℕ) → reason i list found t ≢ unlisted
   pub complete-list : (p q : ℕ) (coefs : List ℤ) (s : State) → Run (inputOf p q coefs) nonzero s → (budget : ℕ) → resume budget (inputOf p q coefs) s .answer ≡ complete → (t : List ℕ)
       → reason (inputOf p q coefs) (resume budget (inputOf p q coefs) s .state .list) (resume budget (inputOf p q coefs) s .state .run .found) t ≢ unlisted
+  -- and for the list at 0 of a complete run with right sides
+  pub complete-at-0 : (p q : ℕ) (coefs b : List ℤ) (s : State) → let i = inputWith (rights b) mostComponent p q coefs in
+      Run i upToOne s → (budget : ℕ) → resume budget i s .answer ≡ complete → (t : List ℕ) → reason (inputOf p q coefs) (resume budget i s .state .list) (resume budget i s .state .run .found) t ≢ unlisted
 
 -- a solution that is not all zero has a minimal solution at or below it, and that one is listed
-never-unlisted : (i : Input) (list : List ℕ) (found : ℕ) → Exactly (i .q) (MinimalSolution (systemOf i)) list found → (t : List ℕ) → reason i list found t ≢ unlisted
+never-unlisted : (i : Input) (list : List ℕ) (found : ℕ) → Exactly (i .q) (MinimalSolution (mapOf i)) list found → (t : List ℕ) → reason i list found t ≢ unlisted
 never-unlisted i list found e t h =
-    let m = systemOf i in
+    let m = mapOf i in
     let (wanted, bare) = unlisted-means m found (at list (i .q)) (λ j. getD t j 0) (reason-given i list found t (unlisted-asked i list found t h) unlisted h) in
     basis-below (task m nonzero) (suc (total (λ j. getD t j 0) (i .q))) (λ j. getD t j 0) (omega arith) wanted
     (λ u basis b. let (k, l, same) = e .all u basis in bare k l (λ j n. omega (arith, same j n, b j n)))
@@ -63,5 +66,7 @@ reason-promise =
       };
       whole-list = never-unlisted;
       complete-list = λ p q coefs s r budget c. let i = inputOf p q coefs in
-          never-unlisted i (resume budget i s .state .list) (resume budget i s .state .run .found) (second-demand .plainly i s r .finished budget c);
+          never-unlisted i (resume budget i s .state .list) (resume budget i s .state .run .found) (second-demand .lists i s r .finished budget c);
+      complete-at-0 = λ p q coefs b s r budget c. let i = inputWith (rights b) mostComponent p q coefs in
+          never-unlisted (inputOf p q coefs) (resume budget i s .state .list) (resume budget i s .state .run .found) (second-demand .lists i s r .finished budget c .0);
     }

@@ -11,18 +11,18 @@ use lib.ListN.{getD, length}
 use Rattle.linear.specs.Tests.{countTo}
 use Rattle.definitions.specs.Answers.{go}
 use Rattle.definitions.specs.Calls.{machine, resume, resumeSteps, start, startFrom}
-use Rattle.definitions.specs.Input.{Input, systemOf}
+use Rattle.definitions.specs.Input.{Input, alone, systemOf}
 use Rattle.definitions.specs.Machine.{after, checked}
 use Rattle.definitions.specs.Refusals.{lowerChecks, resumeChecks, startChecks}
-use Rattle.definitions.specs.Step.{enlist, grown, listed, pick, rowWidth, step, top, width}
+use Rattle.definitions.specs.Step.{deeper, enlist, enlistIn, grown, listed, pick, rowOf, rowWidth, step, toSecond, top, width}
 use Rattle.definitions.specs.System.{Kind, System, plain, solves}
-use Rattle.definitions.specs.Tables.{State, frozen, lowerStart, plainStart, stackMarks}
+use Rattle.definitions.specs.Tables.{State, frozen, lowerStart, unitsStart, stackMarks}
 use Rattle.laws.specs.CheckLaws.{check-cases}
 use Rattle.laws.specs.MachineLaws.{call-refused}
 use Rattle.laws.specs.RefusalLaws.{Going, Room, Valid, lower-shaped, resume-valid, search-going, start-shaped}
 use Rattle.laws.specs.StepLaws.{children-length, children-outside}
 use Rattle.laws.specs.TableLaws.{row-length, row-outside, units-length, units-outside, write-outside}
-use Rattle.laws.specs.ValidLaws.{children-few, enlists, lower-valid, plain-valid, step-valid}
+use Rattle.laws.specs.ValidLaws.{children-few, enlists, lower-valid, step-valid, units-inside, units-valid}
 use Rattle.theorems.specs.Series.{Call, callChecks, continuing, perform, refused-outcome, starting, starting-from}
 use Rattle.theorems.specs.WholeSteps.{Goes, after-keeps, after-more, call-going, call-keeps}
 
@@ -34,9 +34,12 @@ pub record Untouched (q w : ℕ) (s t : State) : Type 0 where
   pub list-length : length (t .list) ≡ length (s .list)
   -- "List rows past the found count are not touched."
   pub past : (e : ℕ) → t .run .found * w ≤ e → getD (t .list) e 0 ≡ getD (s .list) e 0
+  -- and of the second list
+  pub second-length : length (t .second) ≡ length (s .second)
+  pub past₂ : (e : ℕ) → t .run .found₂ * w ≤ e → getD (t .second) e 0 ≡ getD (s .second) e 0
 
 untouched : (q w : ℕ) (s : State) → Untouched q w s s
-untouched q w s = record { stack-length = refl; beyond = λ e l. refl; list-length = refl; past = λ e l. refl }
+untouched q w s = record { stack-length = refl; beyond = λ e l. refl; list-length = refl; past = λ e l. refl; second-length = refl; past₂ = λ e l. refl }
 
 -- ---- one step
 
@@ -44,10 +47,27 @@ untouched q w s = record { stack-length = refl; beyond = λ e l. refl; list-leng
 pub record Listing (w : ℕ) (s t : State) : Type 0 where
   pub grows : s .run .found ≤ t .run .found
   pub past : (e : ℕ) → t .run .found * w ≤ e → getD (t .list) e 0 ≡ getD (s .list) e 0
+  pub grows₂ : s .run .found₂ ≤ t .run .found₂
+  pub past₂ : (e : ℕ) → t .run .found₂ * w ≤ e → getD (t .second) e 0 ≡ getD (s .second) e 0
+
+listing-in : (b : Bool) (w : ℕ) (s : State) (y : ℕ → ℕ) (deepest : ℕ) → Listing w s (enlistIn b w s y deepest)
+listing-in false w s y deepest =
+    record {
+      grows = omega arith;
+      past = λ e l. write-outside y (s .list) (s .run .found * w) w e (inr (omega arith));
+      grows₂ = omega arith;
+      past₂ = λ e l. refl;
+    }
+listing-in true w s y deepest =
+    record {
+      grows = omega arith;
+      past = λ e l. refl;
+      grows₂ = omega arith;
+      past₂ = λ e l. write-outside y (s .second) (s .run .found₂ * w) w e (inr (omega arith));
+    }
 
 listing : (k : Kind) (q : ℕ) (s : State) (x : ℕ → ℕ) → Listing (rowWidth k q) s (enlist k q s x)
-listing plain q s x =
-    record { grows = omega arith; past = λ e l. write-outside x (s .list) (s .run .found * q) q e (inr (omega arith)) }
+listing k q s x = listing-in (toSecond k x) (rowWidth k q) s (rowOf k x) (deeper q s x)
 
 -- "Table rows above the height keep what they last held.": every entry from there on
 pub above-kept : (m : System) (s : State) → Valid m s → Going m s → (e : ℕ) → step m s .run .height * (m .q + 1) ≤ e → getD (step m s .stack) e 0 ≡ getD (s .stack) e 0
@@ -69,6 +89,8 @@ module _ (m : System) (s t : State) (v : Valid m t) (g : Going m t) (u : Untouch
         beyond = λ p h. ap (λ stack. getD stack p 0) (e .stack) ∙ u .beyond p h;
         list-length = e .room ∙ u .list-length;
         past = λ p h. l .past p h ∙ u .past p (omega (arith, mul-le-mul-right (width m) (l .grows)));
+        second-length = e .room₂ ∙ u .second-length;
+        past₂ = λ p h. l .past₂ p h ∙ u .past₂ p (omega (arith, mul-le-mul-right (width m) (l .grows₂)));
       }
 
   grown-untouched : Untouched (m .q) (width m) s (grown m t)
@@ -79,6 +101,8 @@ module _ (m : System) (s t : State) (v : Valid m t) (g : Going m t) (u : Untouch
         beyond = λ e h. children-outside m t (m .q) e (omega (arith, mul-le-mul-right (m .q + 1) (children-few m t v (g .high)))) ∙ u .beyond e h;
         list-length = u .list-length;
         past = u .past;
+        second-length = u .second-length;
+        past₂ = u .past₂;
       }
 
   step-untouched : Untouched (m .q) (width m) s (step m t)
@@ -93,7 +117,7 @@ module _ (m : System) (s t : State) (v : Valid m t) (g : Going m t) (u : Untouch
 
 abbrev pub inputFor : Call → Input
 inputFor (starting i) = i
-inputFor (starting-from lower i) = i
+inputFor (starting-from lower i is) = i
 inputFor (continuing budget i) = i
 
 -- A call whose checks let it go on leaves record and tables in order, and what is none of its own untouched.
@@ -102,33 +126,46 @@ pub record Leaves (m : System) (s t : State) : Type 0 where
   pub untouched : Untouched (m .q) (width m) s t
 
 module _ (i : Input) (s : State) where
-  plain-leaves : startChecks i s ≡ go → Leaves (systemOf i) s (plainStart (systemOf i) s)
-  unfolding plainStart
-  plain-leaves e =
-      record {
-        valid = plain-valid (systemOf i) s (start-shaped i s e);
-        untouched =
-            record { stack-length = units-length (i .q) (s .stack) (i .q); beyond = units-outside (i .q) (s .stack) (i .q); list-length = refl; past = λ e l. refl };
-      }
+  abbrev n : ℕ
+  n = systemOf i .q
 
-  lower-leaves : (lower : List ℕ) → lowerChecks lower i s ≡ go → Leaves (systemOf i) s (lowerStart lower (systemOf i) s)
-  unfolding lowerStart
-  lower-leaves lower e =
-      let (g, len, less) = lower-shaped i s lower e in
+  units-leaves : startChecks i s ≡ go → Leaves (systemOf i) s (unitsStart (systemOf i) s)
+  unfolding unitsStart
+  units-leaves e =
       record {
-        valid = lower-valid (systemOf i) s g lower less;
+        valid = units-valid (systemOf i) s (start-shaped i s e) (units-inside (i .extra) i);
         untouched =
             record {
-              stack-length = row-length (i .q) (s .stack) 0 (λ j. getD lower j 0) 0;
-              beyond = λ e h. row-outside true (i .q) (s .stack) 0 (λ j. getD lower j 0) 0 e (omega (arith, mul-le-mul-right (i .q + 1) (g .q-some)));
+              stack-length = units-length n (s .stack) n;
+              beyond = units-outside n (s .stack) n;
               list-length = refl;
               past = λ e l. refl;
+              second-length = refl;
+              past₂ = λ e l. refl;
+            };
+      }
+
+  lower-leaves : i .extra ≡ alone → (lower : List ℕ) → lowerChecks lower i s ≡ go → Leaves (systemOf i) s (lowerStart lower (systemOf i) s)
+  unfolding lowerStart
+  lower-leaves is lower e =
+      let (g, len, less) = lower-shaped i s lower is e in
+      let kind : systemOf i .kind ≡ plain = rw is refl in
+      record {
+        valid = lower-valid (systemOf i) s g lower kind (rw is less);
+        untouched =
+            record {
+              stack-length = row-length n (s .stack) 0 (λ j. getD lower j 0) 0;
+              beyond = λ e h. row-outside true n (s .stack) 0 (λ j. getD lower j 0) 0 e (omega (arith, mul-le-mul-right (n + 1) (g .q-some)));
+              list-length = refl;
+              past = λ e l. refl;
+              second-length = refl;
+              past₂ = λ e l. refl;
             };
       }
 
   resume-leaves : (budget : ℕ) → resumeChecks i s ≡ go → Leaves (systemOf i) s (resume budget i s .state)
   resume-leaves budget e =
-      call-keeps (machine i) (Leaves (systemOf i) s) (λ t l. l) kept budget s (record { valid = resume-valid i s e; untouched = untouched (i .q) (width (systemOf i)) s })
+      call-keeps (machine i) (Leaves (systemOf i) s) (λ t l. l) kept budget s (record { valid = resume-valid i s e; untouched = untouched n (width (systemOf i)) s })
     where
       kept : (t : State) → Leaves (systemOf i) s t → Goes (machine i) t → Leaves (systemOf i) s (step (systemOf i) t)
       kept t l (h, f) =
@@ -137,23 +174,23 @@ module _ (i : Input) (s : State) where
 
 pub call-leaves : (c : Call) (s : State) → callChecks c s ≡ go → Leaves (systemOf (inputFor c)) s (perform c s .state)
 unfolding start startFrom checked
-call-leaves (starting i) s e = rw e (plain-leaves i s e)
-call-leaves (starting-from lower i) s e = rw e (lower-leaves i s lower e)
+call-leaves (starting i) s e = rw e (units-leaves i s e)
+call-leaves (starting-from lower i is) s e = rw e (lower-leaves i s is lower e)
 call-leaves (continuing budget i) s e = resume-leaves i s budget e
 
-pub call-untouched : (c : Call) (s : State) → Untouched (inputFor c .q) (width (systemOf (inputFor c))) s (perform c s .state)
+pub call-untouched : (c : Call) (s : State) → Untouched (systemOf (inputFor c) .q) (width (systemOf (inputFor c))) s (perform c s .state)
 call-untouched c s =
     elim (check-cases (callChecks c s)) [
       | inl e ↦ call-leaves c s e .untouched
-      | inr (n, values, e) ↦ rw (refused-outcome c s n values e) (untouched (inputFor c .q) (width (systemOf (inputFor c))) s)
+      | inr (n, values, e) ↦ rw (refused-outcome c s n values e) (untouched (systemOf (inputFor c) .q) (width (systemOf (inputFor c))) s)
     ]
 
 -- "Row k of the stack always carries exactly k − 1 marks." (from 0 here)
-pub call-marked : (c : Call) (s : State) → callChecks c s ≡ go → (k : ℕ) → k < perform c s .state .run .height → countTo (inputFor c .q) (frozen (stackMarks (inputFor c .q) (perform c s .state) k)) ≡ k
+pub call-marked : (c : Call) (s : State) → callChecks c s ≡ go → (k : ℕ) → k < perform c s .state .run .height → countTo (systemOf (inputFor c) .q) (frozen (stackMarks (systemOf (inputFor c) .q) (perform c s .state) k)) ≡ k
 call-marked c s e k l = call-leaves c s e .valid .ordered .rows k l .marked
 
 -- each step of a continuing call keeps what lies above the height that it leaves
-pub steps-above : (budget : ℕ) (i : Input) (s : State) (n : ℕ) → n < resumeSteps budget i s → (e : ℕ) → after (n + 1) (machine i) s .run .height * (i .q + 1) ≤ e → getD (after (n + 1) (machine i) s .stack) e 0 ≡ getD (after n (machine i) s .stack) e 0
+pub steps-above : (budget : ℕ) (i : Input) (s : State) (n : ℕ) → n < resumeSteps budget i s → (e : ℕ) → after (n + 1) (machine i) s .run .height * (systemOf i .q + 1) ≤ e → getD (after (n + 1) (machine i) s .stack) e 0 ≡ getD (after n (machine i) s .stack) e 0
 steps-above budget i s n l e h =
     elim (check-cases (resumeChecks i s)) [
       | inl c ↦
