@@ -1,0 +1,4 @@
+pub mod Training
+pub mod TrainingRules
+pub mod Promises
+pub mod Examples

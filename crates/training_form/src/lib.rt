@@ -1,0 +1,1 @@
+// The training seat: see specs/Training.antt. No code.
