@@ -4,29 +4,54 @@ use mathlib.Core.List.{List, [], _∷_}
 use lib.IntN.{ℤ}
 use Rattle.definitions.specs.Answers as paper
 use Rattle.definitions.specs.Machine as machine
-use Rattle.definitions.specs.System.{System, plain}
+use Rattle.definitions.specs.System.{Kind, System, plain}
 use Rattle.definitions.specs.Tables as tables
 use Rattle.definitions.specs.Tables.{State}
 use Rattle.calls.specs.declared.Record.{Record}
+use Rattle.calls.specs.declared.Run.{Run}
+use Rattle.calls.specs.declared.Run.the-variants.{Plain, Capped, LowerPlain, LowerAbove, Desks}
 use Rattle.calls.specs.declared.Solutions.{Solutions}
 use Rattle.calls.specs.declared.Steps.{Steps}
 use Rattle.calls.specs.declared.Refusal.{Refusal}
-use Rattle.calls.specs.declared.Refusal.the-variants.{Equations, Unknowns, CoefficientCount, StackLength, BoundLength, OutOfOrder, Coefficient, BoundRange, ListFull, ComponentLimit, StackFull, StepLimit, Column}
+use Rattle.calls.specs.declared.Refusal.the-variants.{Equations, Unknowns, CoefficientCount, StackLength, BoundLength, OutOfOrder, Coefficient, BoundRange, ListFull, ComponentLimit, StackFull, StepLimit, RightSide, Column}
 use Rattle.calls.specs.declared.Answer.{Answer}
 use Rattle.calls.specs.declared.Answer.the-variants.{Started, Complete, Paused, Refused}
 use Rattle.calls.specs.declared.Outcome.{Outcome}
 use Rattle.calls.specs.declared.Check.{Check}
 use Rattle.calls.specs.declared.Check.the-variants.{Refuse, Pass}
 
--- the system that a plain walk goes through
+-- the system that a walk of a kind goes through
+abbrev pub systemWith : Kind → ℕ → ℕ → List ℤ → ℕ → System
+systemWith kind p q coefs limit = record { p = p; q = q; coefs = coefs; kind = kind; limit = limit }
+
 abbrev pub plainSystem : ℕ → ℕ → List ℤ → ℕ → System
-plainSystem p q coefs limit = record { p = p; q = q; coefs = coefs; kind = plain; limit = limit }
+plainSystem p q coefs limit = systemWith plain p q coefs limit
+
+abbrev pub kindOf : Run → tables.Run
+kindOf Plain = tables.plainRun
+kindOf Capped = tables.cappedRun
+kindOf LowerPlain = tables.lowerPlain
+kindOf LowerAbove = tables.lowerAbove
+kindOf Desks = tables.deskByDesk
 
 abbrev pub runOf : Record → tables.Record
-runOf r = record { height = r .height; found = r .found .0; steps = r .steps .0 }
+runOf r =
+    record {
+      kind = kindOf (r .kind);
+      height = r .height;
+      found = r .found .0;
+      steps = r .steps .0;
+      found₂ = r .second .0;
+      steps₂ = r .before .0;
+      deepest = r .deepest;
+    }
+
+-- what is lent to a call with two lists; and to one with a single list, whose second one is empty
+abbrev pub stateWith : List ℕ → List ℕ → List ℕ → Record → State
+stateWith stack list second r = record { stack = stack; list = list; second = second; run = runOf r }
 
 abbrev pub stateOf : List ℕ → List ℕ → Record → State
-stateOf stack list r = record { stack = stack; list = list; run = runOf r }
+stateOf stack list r = stateWith stack list [] r
 
 -- the number of a refusal
 abbrev pub numberOf : Refusal → ℕ
@@ -42,6 +67,7 @@ numberOf ListFull = 11
 numberOf ComponentLimit = 12
 numberOf StackFull = 13
 numberOf StepLimit = 14
+numberOf RightSide = 15
 numberOf (Column column) = 26
 
 -- the values that it comes with: 7 has the place, and 26 the column
@@ -58,6 +84,7 @@ valuesOf ListFull = []
 valuesOf ComponentLimit = []
 valuesOf StackFull = []
 valuesOf StepLimit = []
+valuesOf RightSide = []
 valuesOf (Column column) = column ∷ []
 
 -- the first of them, and 0 where there is none
@@ -78,18 +105,30 @@ checkOf Pass = paper.go
 -- ---- what a call leaves
 
 -- a run record of its parts
-abbrev pub recordOf : ℕ → Solutions → Steps → Record
-recordOf height found steps = record { height = height; found = found; steps = steps }
+abbrev pub recordOf : Run → ℕ → Solutions → Steps → Solutions → Steps → ℕ → Record
+recordOf kind height found steps second before deepest =
+    record { kind = kind; height = height; found = found; steps = steps; second = second; before = before; deepest = deepest }
+
+-- that of a plain run that shows no depth yet
+abbrev pub plainRecord : ℕ → Solutions → Steps → Record
+plainRecord height found steps = recordOf Plain height found steps (record { 0 = 0 }) (record { 0 = 0 }) 0
+
+abbrev pub leftWith : Answer → List ℕ → List ℕ → List ℕ → Record → machine.Outcome State
+leftWith a stack list second r = record { answer = answerOf a; state = stateWith stack list second r }
 
 abbrev pub leftBy : Answer → List ℕ → List ℕ → Record → machine.Outcome State
-leftBy a stack list r = record { answer = answerOf a; state = stateOf stack list r }
+leftBy a stack list r = leftWith a stack list [] r
+
+abbrev pub outcomeWith : Outcome → List ℕ → List ℕ → List ℕ → machine.Outcome State
+outcomeWith o stack list second = leftWith (o .answer) stack list second (o .run)
 
 abbrev pub outcomeOf : Outcome → List ℕ → List ℕ → machine.Outcome State
-outcomeOf o stack list = leftBy (o .answer) stack list (o .run)
+outcomeOf o stack list = outcomeWith o stack list []
 
--- an answer with the three parts of the run record
-abbrev pub leaves : Answer → ℕ → ℕ → ℕ → Outcome
-leaves answer height found steps = record { answer = answer; run = recordOf height (record { 0 = found }) (record { 0 = steps }) }
+-- an answer with a record r whose counts and depth have moved
+abbrev pub leaves : Answer → Record → ℕ → ℕ → ℕ → ℕ → ℕ → Outcome
+leaves answer r height found steps second deepest =
+    record { answer = answer; run = recordOf (r .kind) height (record { 0 = found }) (record { 0 = steps }) (record { 0 = second }) (r .before) deepest }
 
 -- refused before the walk
 abbrev pub refuses : Refusal → Record → Outcome

@@ -1,6 +1,8 @@
 // What a caller hands over and gets back, and the number of each refusal in documents 01 and 02.
 ghost use mathlib.Core.Path.{_≡_};
-ghost use Rattle.calls.specs.Paper.{numberOf, valuesOf, value, recordOf, refuses};
+ghost use Rattle.definitions.specs.Input.{limitOf};
+ghost use Rattle.definitions.specs.Tables.{runNumber};
+ghost use Rattle.calls.specs.Paper.{numberOf, valuesOf, value, kindOf, recordOf, plainRecord, refuses, leaves};
 
 // "A tuple gives each unknown a natural number, at most 1,000,000."
 pub const COMPONENT_LIMIT: u32 = 1000000;
@@ -14,24 +16,82 @@ pub struct Steps(pub u64);
 // Solutions found.
 pub struct Solutions(pub usize);
 
-// The run record.
+// The kinds of run, as the run record has them.
+pub enum Run {
+    Plain,
+    Capped,
+    LowerPlain,
+    LowerAbove,
+    Desks,
+}
+
+// The number of a kind of run.
+pub fn run_number(kind: Run) -> u64
+    ensures { λ n. ⌜ n ≡ runNumber (kindOf kind) ⌝ }
+{
+    match kind {
+        Run::Plain => 0,
+        Run::Capped => 1,
+        Run::LowerPlain => 2,
+        Run::LowerAbove => 3,
+        Run::Desks => 4,
+    }
+}
+
+// The run record. Where a run has two lists, `second` counts the rows of the second one; of a run from a lower bound `before` are the steps of its plain walk.
 pub struct Record {
+    pub kind: Run,
     pub height: usize,
     pub found: Solutions,
     pub steps: Steps,
+    pub second: Solutions,
+    pub before: Steps,
+    pub deepest: u64,
 }
 
 impl Record {
-    // A run record of its parts.
+    // The record of a plain run that shows no depth yet.
     pub fn new(height: usize, found: Solutions, steps: Steps) -> Record
-        ensures { λ r. ⌜ r ≡ recordOf height found steps ⌝ }
+        ensures { λ r. ⌜ r ≡ plainRecord height found steps ⌝ }
+    {
+        Record::of(Run::Plain, height, found, steps, Solutions(0), Steps(0), 0)
+    }
+
+    // A run record of its parts.
+    pub fn of(
+        kind: Run,
+        height: usize,
+        found: Solutions,
+        steps: Steps,
+        second: Solutions,
+        before: Steps,
+        deepest: u64,
+    ) -> Record
+        ensures { λ r. ⌜ r ≡ recordOf kind height found steps second before deepest ⌝ }
     {
         Record {
+            kind,
             height,
             found,
             steps,
+            second,
+            before,
+            deepest,
         }
     }
+}
+
+// The limit of components that counts.
+pub fn limit_of(limit: u32) -> u32
+    ensures { λ r. ⌜ r ≡ limitOf limit ⌝ }
+{
+    if limit < 1 {
+        return 1;
+    }
+    if COMPONENT_LIMIT < limit {
+        return COMPONENT_LIMIT;
+    }
+    limit
 }
 
 // Why a call is refused; specs/Paper.antt has the documents' number for each.
@@ -48,6 +108,7 @@ pub enum Refusal {
     ComponentLimit,
     StackFull,
     StepLimit,
+    RightSide,
     Column(usize),
 }
 
@@ -81,6 +142,31 @@ pub fn refused(why: Refusal, r: Record) -> Outcome
     }
 }
 
+// What a call that has walked answers: the record with its counts and its depth moved.
+pub fn left(
+    answer: Answer,
+    r: Record,
+    height: usize,
+    found: usize,
+    steps: u64,
+    second: usize,
+    deepest: u64,
+) -> Outcome
+    ensures { λ o. ⌜ o ≡ leaves answer r height found steps second deepest ⌝ }
+{
+    let kind = r.kind;
+    let run = Record::of(
+        kind,
+        height,
+        Solutions(found),
+        Steps(steps),
+        Solutions(second),
+        r.before,
+        deepest,
+    );
+    Outcome { answer, run }
+}
+
 // The documents' number of a refusal.
 pub fn number_of(why: Refusal) -> u64
     ensures { λ n. ⌜ n ≡ numberOf why ⌝ }
@@ -98,6 +184,7 @@ pub fn number_of(why: Refusal) -> u64
         Refusal::ComponentLimit => 12,
         Refusal::StackFull => 13,
         Refusal::StepLimit => 14,
+        Refusal::RightSide => 15,
         Refusal::Column(_) => 26,
     }
 }
@@ -119,6 +206,7 @@ pub fn value_of(why: Refusal) -> usize
         Refusal::ComponentLimit => 0,
         Refusal::StackFull => 0,
         Refusal::StepLimit => 0,
+        Refusal::RightSide => 0,
         Refusal::Column(column) => column,
     }
 }

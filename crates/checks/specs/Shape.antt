@@ -1,16 +1,18 @@
 -- Refusals 1 to 4 from counts and lengths alone, what holds where they find nothing, and the test of 8. Assumes nothing.
-use Prim.Native.Nat.{ℕ, _+_, _*_, _≤_}
-use mathlib.Core.Bool.{Bool, true, not}
+use Prim.Native.Nat.{ℕ, suc, _+_, _*_, _-_, _≤_}
+use mathlib.Core.Bool.{Bool, true, not, _||_, or-false}
 use mathlib.Core.List.{List}
-use mathlib.Core.Path.{_≡_}
+use mathlib.Core.Path.{_≡_, refl}
+use native.Mathlib.Omega.{arith}
 use lib.Dec.{leb, ltb, eqb, leb→le}
+use lib.IntN.{ℤ}
 use lib.ListN.{length, getD}
-use borrow.Author.Tests.{ltb-false, not-false}
+use borrow.Author.Tests.{eq-eqb, ltb-false, not-false}
 use Rattle.linear.specs.Tests.{anyTo}
 use Rattle.linear.specs.TestLaws.{and-parts}
 use Rattle.definitions.specs.Answers.{Check, go, _then_, refuseIf}
 use Rattle.laws.specs.AnswerLaws.{then-assoc, then-go, refuse-if-go}
-use Rattle.definitions.specs.Input.{Input}
+use Rattle.definitions.specs.Input.{Extra, alone, inputWith, rights}
 use Rattle.definitions.specs.System.{mostEquations, mostUnknowns}
 use Rattle.definitions.specs.Tables.{State}
 use Rattle.definitions.specs.Refusals.{between, shapeThen}
@@ -18,18 +20,33 @@ use Rattle.definitions.specs.Refusals.{between, shapeThen}
 abbrev pub lowerAboveLimit : ℕ → List ℕ → Bool
 lowerAboveLimit limit lower = anyTo (length lower) (λ j. ltb limit (getD lower j 0))
 
-unfoldable pub shapeChecks : ℕ → ℕ → ℕ → ℕ → Check
-shapeChecks p q coefs stack =
+-- how many unknowns come to those of the map: with right sides "an extra unknown"
+abbrev pub extraUnknowns : Extra → ℕ
+extraUnknowns alone = 0
+extraUnknowns (rights b) = 1
+
+-- how many right sides there are; a map alone has none to be counted, so it may say p
+abbrev pub sidesOf : Extra → ℕ → ℕ
+sidesOf alone p = p
+sidesOf (rights b) p = length b
+
+unfoldable pub shapeChecks : ℕ → ℕ → ℕ → ℕ → ℕ → ℕ → Check
+shapeChecks p q extra coefs sides stack =
     refuseIf (not (between 1 mostEquations p)) 1
-    then refuseIf (not (between 1 mostUnknowns q)) 2
-    then refuseIf (not (eqb coefs (p * q))) 3
-    then refuseIf (ltb stack (q * (q + 1))) 4
+    then refuseIf (not (between 1 (mostUnknowns - extra) q)) 2
+    then refuseIf (not (eqb coefs (p * q)) || not (eqb sides p)) 3
+    then refuseIf (ltb stack ((q + extra) * (q + extra + 1))) 4
 
-pub shape-then : (i : Input) (s : State) (own : Check) → shapeChecks (i .p) (i .q) (length (i .coefs)) (length (s .stack)) then own ≡ shapeThen i s own
+pub shape-then : (e : Extra) (limit p q : ℕ) (coefs : List ℤ) (s : State) (own : Check)
+    → shapeChecks p q (extraUnknowns e) (length coefs) (sidesOf e p) (length (s .stack)) then own ≡ shapeThen (inputWith e limit p q coefs) s own
 unfolding shapeChecks
-shape-then i s own = simp then-assoc
+shape-then alone limit p q coefs s own =
+    let none : q + 0 ≡ q = omega arith in
+    let same : eqb p p ≡ true = eq-eqb p p refl in
+    rw (none, same, or-false (not (eqb (length coefs) (p * q)))) (simp then-assoc)
+shape-then (rights b) limit p q coefs s own = let one : q + 1 ≡ suc q = omega arith in rw one (simp then-assoc)
 
--- where these find nothing, q is in range and the stack table has q rows
+-- where these find nothing, the unknowns are in range and the stack table has a row for each
 pub record InShape (q stack : ℕ) : Type 0 where
   pub least : 1 ≤ q
   pub most : q ≤ mostUnknowns
@@ -38,11 +55,14 @@ pub record InShape (q stack : ℕ) : Type 0 where
 within : (a b n : ℕ) → between a b n ≡ true → (a ≤ n) × (n ≤ b)
 within a b n e = let (l, m) = and-parts (leb a n) (leb n b) (rw e tt) in (leb→le a n l, leb→le n b m)
 
-pub shape-fits : (p q coefs stack : ℕ) → shapeChecks p q coefs stack ≡ go → InShape q stack
+pub shape-fits : (p q extra coefs sides stack : ℕ) → extra ≤ 1 → shapeChecks p q extra coefs sides stack ≡ go → (1 ≤ q) × InShape (q + extra) stack
 unfolding shapeChecks
-shape-fits p q coefs stack e =
+shape-fits p q extra coefs sides stack few e =
     let (_, e2) = then-go (refuseIf (not (between 1 mostEquations p)) 1) _ e in
-    let (unknowns, e3) = then-go (refuseIf (not (between 1 mostUnknowns q)) 2) _ e2 in
-    let (_, long) = then-go (refuseIf (not (eqb coefs (p * q))) 3) _ e3 in
-    let (least, most) = within 1 mostUnknowns q (not-false _ (refuse-if-go _ 2 unknowns)) in
-    record { least = least; most = most; rows = ltb-false stack (q * (q + 1)) (refuse-if-go _ 4 long) }
+    let (unknowns, e3) = then-go (refuseIf (not (between 1 (mostUnknowns - extra) q)) 2) _ e2 in
+    let (_, long) = then-go (refuseIf (not (eqb coefs (p * q)) || not (eqb sides p)) 3) _ e3 in
+    let (least, most) = within 1 (mostUnknowns - extra) q (not-false _ (refuse-if-go _ 2 unknowns)) in
+    (least, record { least = omega arith; most = omega arith; rows = ltb-false stack ((q + extra) * (q + extra + 1)) (refuse-if-go _ 4 long) })
+
+pub alone-fits : (p q coefs sides stack : ℕ) → shapeChecks p q 0 coefs sides stack ≡ go → InShape q stack
+alone-fits p q coefs sides stack e = let none : q + 0 ≡ q = omega arith in rw none at (shape-fits p q 0 coefs sides stack (omega arith) e .1)

@@ -1,6 +1,7 @@
-// The range of the coefficients: refusal 7.
+// The range of the coefficients and of the right sides: refusals 7 and 15.
 ghost use mathlib.Core.Path.{_≡_};
-ghost use Rattle.definitions.specs.Refusals.{outOfRange};
+ghost use Rattle.definitions.specs.Answers.{_then_};
+ghost use Rattle.definitions.specs.Refusals.{check15, outOfRange};
 ghost use Rattle.calls.specs.Paper.{checkOf};
 ghost use Rattle.checks.specs.Coefficients.{coefficientChecks};
 use calls::Check;
@@ -18,6 +19,26 @@ pub fn check(coefs: &[i32]) -> Check
         i += 1;
     }
     Check::Pass
+}
+
+// The coefficients, and after them the right sides, whose places are not told.
+pub fn check_both(coefs: &[i32], rights: &[i32]) -> Check
+    ensures { λ c. ⌜ checkOf c ≡ (coefficientChecks (now (coefs .entry)) then check15 (now (rights .entry))) ⌝ }
+{
+    match check(coefs) {
+        Check::Refuse(why) => Check::Refuse(why),
+        Check::Pass => check_sides(rights),
+    }
+}
+
+// Whether a right side is out of range.
+fn check_sides(rights: &[i32]) -> Check
+    ensures { λ c. ⌜ checkOf c ≡ check15 (now (rights .entry)) ⌝ }
+{
+    match check(rights) {
+        Check::Refuse(_) => Check::Refuse(Refusal::RightSide),
+        Check::Pass => Check::Pass,
+    }
 }
 
 pub fn out_of_range(x: i32) -> bool

@@ -140,26 +140,25 @@ pub fn candidates(c: &[i64; 256], k: usize, q: usize, marks: u32) -> u32
     below_zero(c, k, q) & !marks
 }
 
-// The unknowns whose product at level k is below zero, as marks.
+// The unknowns whose product at level k is below zero, as marks: from the last to the first, so that no mark is shifted to its place.
 fn below_zero(c: &[i64; 256], k: usize, q: usize) -> u32
     requires { ⌜ (k < 16) × (q ≤ 16) ⌝ }
     ensures { λ r. ⌜ r ≡ marksTo q (λ j. ltZ (entry (now (c .entry)) k j) (pos 0)) ⌝ }
 {
     let mut below: u32 = 0;
-    let mut j = 0;
-    while j < q {
-        below += sign(c[k * 16 + j], j);
-        j += 1;
+    let mut j = q;
+    while 0 < j {
+        j -= 1;
+        below = below + below + sign(c[k * 16 + j]);
     }
     below
 }
 
-// The mark of unknown j where its product is below zero.
-fn sign(product: i64, j: usize) -> u32
-    requires { ⌜ j < 32 ⌝ }
-    ensures { λ r. ⌜ r ≡ number (ltZ product (pos 0)) * 2 ^ j ⌝ }
+// 1 where a product is below zero.
+fn sign(product: i64) -> u32
+    ensures { λ r. ⌜ r ≡ number (ltZ product (pos 0)) ⌝ }
 {
-    if product < 0 { 1 << j } else { 0 }
+    if product < 0 { 1 } else { 0 }
 }
 
 // Writes the products of a child at level k: those of its parent at level `from`, and the Gram row of the unknown that was raised. A child may

@@ -49,6 +49,10 @@ use Rattle.calls.proofs.Answer.Laws as Ans′
 use Rattle.calls.proofs.Outcome as Out
 use Rattle.calls.proofs.Outcome.Laws as Out′
 
+-- the machine value of a run record
+abbrev recordVal : Record → Val
+recordVal = LL.val Rec.the-type Rec′.the-laws
+
 -- ---- the parameters that the entries share: p, q, coefs, stack, list and the record, in locals 1 to 6. Others may follow.
 module _ {P Q R S X : Type 0} where
   -- without the record's lifetime, which is the fourth
@@ -61,11 +65,70 @@ module _ {P Q R S X : Type 0} where
 
 -- the machine values of the shared parameters, with the record's own in the place of its reference's, and then vss
 abbrev pub values : {X Y : Type 0} → ℕ × (ℕ × (RefT (List ℤ) × (RefT (List ℕ) × (RefT (List ℕ) × (RefT Record × X))))) → Y → List Val × (List Val × (List Val × (List Val × (List Val × (List Val × Y)))))
-values a vss = (uint-vals w64 (a .0), (uint-vals w64 (a .1 .0), (slice-vals (a .1 .1 .0), (slice-vals (a .1 .1 .1 .0), (slice-vals (a .1 .1 .1 .1 .0), (Rec′.lowered (now (a .1 .1 .1 .1 .1 .0)) ∷ [], vss))))))
+values a vss = (uint-vals w64 (a .0), (uint-vals w64 (a .1 .0), (slice-vals (a .1 .1 .0), (slice-vals (a .1 .1 .1 .0), (slice-vals (a .1 .1 .1 .1 .0), (recordVal (now (a .1 .1 .1 .1 .1 .0)) ∷ [], vss))))))
 
 abbrev pub shared : {X : Type 0} (κs : Lft × (Lft × (Lft × (Lft × X)))) (Rs : List RattleType) → Spelleds Rs
     → Spelleds (usize ∷ usize ∷ ShrSlice (named 0) (κs .0) i32 ∷ MutSlice (named 1) (κs .1 .0) u32 ∷ MutSlice (named 2) (κs .1 .1 .0) u32 ∷ MutRef (named 3) (κs .1 .1 .1 .0) Rec.the-row ∷ Rs)
 shared κs Rs ss = (number w64, (number w64, (shared-slice (named 0) (κs .0) i32, (lent-slice (named 1) (κs .1 .0) u32, (lent-slice (named 2) (κs .1 .1 .0) u32, (lent (named 3) (κs .1 .1 .1 .0) Rec.the-row, ss))))))
+
+-- ---- those of the capped entries: p, q, coefs, rights, stack, list, second and the record, in locals 1 to 8. Others may follow.
+module _ {P Q R S T U X : Type 0} where
+  -- without the record's lifetime, which is the sixth
+  abbrev pub less₂ : P × (Q × (R × (S × (T × (U × X))))) → P × (Q × (R × (S × (T × X))))
+  less₂ κs = (κs .0, (κs .1 .0, (κs .1 .1 .0, (κs .1 .1 .1 .0, (κs .1 .1 .1 .1 .0, κs .1 .1 .1 .1 .1 .1)))))
+
+  -- with x in the record's place, which is the eighth
+  abbrev pub with₂ : {Y B B′ : Type 0} → P × (Q × (R × (S × (T × (U × (Y × (B × X))))))) → B′ → P × (Q × (R × (S × (T × (U × (Y × (B′ × X)))))))
+  with₂ a x =
+      (a .0, (a .1 .0, (a .1 .1 .0, (a .1 .1 .1 .0, (a .1 .1 .1 .1 .0, (a .1 .1 .1 .1 .1 .0, (a .1 .1 .1 .1 .1 .1 .0, (x, a .1 .1 .1 .1 .1 .1 .1 .1))))))))
+
+abbrev pub values₂ : {X Y : Type 0} → ℕ × (ℕ × (RefT (List ℤ) × (RefT (List ℤ) × (RefT (List ℕ) × (RefT (List ℕ) × (RefT (List ℕ) × (RefT Record × X))))))) → Y
+    → List Val × (List Val × (List Val × (List Val × (List Val × (List Val × (List Val × (List Val × Y)))))))
+values₂ a vss = (
+  uint-vals w64 (a .0),
+  (
+    uint-vals w64 (a .1 .0),
+    (
+      slice-vals (a .1 .1 .0),
+      (
+        slice-vals (a .1 .1 .1 .0),
+        (
+          slice-vals (a .1 .1 .1 .1 .0),
+          (
+            slice-vals (a .1 .1 .1 .1 .1 .0),
+            (
+              slice-vals (a .1 .1 .1 .1 .1 .1 .0),
+              (recordVal (now (a .1 .1 .1 .1 .1 .1 .1 .0)) ∷ [], vss),
+            ),
+          ),
+        ),
+      ),
+    ),
+  ),
+)
+
+abbrev pub shared₂ : {X : Type 0} (κs : Lft × (Lft × (Lft × (Lft × (Lft × (Lft × X)))))) (Rs : List RattleType) → Spelleds Rs
+    → Spelleds (usize ∷ usize ∷ ShrSlice (named 0) (κs .0) i32 ∷ ShrSlice (named 1) (κs .1 .0) i32 ∷ MutSlice (named 2) (κs .1 .1 .0) u32 ∷ MutSlice (named 3) (κs .1 .1 .1 .0) u32
+    ∷ MutSlice (named 4) (κs .1 .1 .1 .1 .0) u32 ∷ MutRef (named 5) (κs .1 .1 .1 .1 .1 .0) Rec.the-row ∷ Rs)
+shared₂ κs Rs ss = (
+  number w64,
+  (
+    number w64,
+    (
+      shared-slice (named 0) (κs .0) i32,
+      (
+        shared-slice (named 1) (κs .1 .0) i32,
+        (
+          lent-slice (named 2) (κs .1 .1 .0) u32,
+          (
+            lent-slice (named 3) (κs .1 .1 .1 .0) u32,
+            (lent-slice (named 4) (κs .1 .1 .1 .1 .0) u32, (lent (named 5) (κs .1 .1 .1 .1 .1 .0) Rec.the-row, ss)),
+          ),
+        ),
+      ),
+    ),
+  ),
+)
 
 -- ---- chains of formulas, as the types of a function's parameters own one
 abbrev pub Fmls : ℕ → Type 1
@@ -109,9 +172,9 @@ behind (suc n) i = suc (behind n i)
 abbrev pub returning : (n : ℕ) (ps : List (Slot n)) → Kepts ps → Ended
 returning n ps ks = record { signature = record { lifetimes = n; outlives = []; params = ps; result = plain (λ _. Out.the-row) }; kept = ks }
 
--- the statements after the call, with the outcome in local o
-abbrev pub afterwards : ℕ → Body
-afterwards o = seq (assign (place 6 (deref Rec′.mir ∷ [])) (rvOpd (copy (place o (field 1 ∷ []))))) (seq (assign (place 0 []) (rvOpd (copy (place o (field 0 ∷ []))))) return)
+-- the statements after the call, with the outcome in local o, and the reference to the record in local l
+abbrev pub afterwards : ℕ → ℕ → Body
+afterwards l o = seq (assign (place l (deref Rec′.mir ∷ [])) (rvOpd (copy (place o (field 1 ∷ []))))) (seq (assign (place 0 []) (rvOpd (copy (place o (field 0 ∷ []))))) return)
 
 -- the machine values of an outcome and of an answer
 abbrev outcomeVal : Outcome → Val
@@ -131,7 +194,7 @@ module _ {M : Type 1} {𝓤 : URA M} where
   -- the borrow of the record, while it is open
   abbrev opened : Lft → Share → RefT Record → List (Item 𝓤)
   opened κ s r =
-      ‵ (cellAt fullShare (Rec.the-row .mir) (Rec′.lowered (now r) ∷ []) (ptr r .0) (ptr r .1)) ∷ ‵ (fobor κ s (Held (mem Rec.the-row) (ptr r .0) (ptr r .1) (name r)))
+      ‵ (cellAt fullShare (Rec.the-row .mir) (recordVal (now r) ∷ []) (ptr r .0) (ptr r .1)) ∷ ‵ (fobor κ s (Held (mem Rec.the-row) (ptr r .0) (ptr r .1) (name r)))
       ∷ ‵ (fobs (name r) (Rec.the-row .coded .code (now r))) ∷ ‵ (fauth (name r) (Rec.the-row .coded .code (now r))) ∷ []
 
 module _ {M : Type 1} {𝓤 : URA M} {H : Heap 𝓤} {A : Atoms 𝓤} {K : Type 0} {W : Given 𝓤 H A} {Γ : List (Item 𝓤)} {E : Cells} {C : Calls 𝓤 H} {Λ : Loops 𝓤 H} {q : Post 𝓤 H} where
@@ -147,44 +210,45 @@ module _ {M : Type 1} {𝓤 : URA M} {H : Heap 𝓤} {A : Atoms 𝓤} {K : Type 
       assigns t (addr t (found t ei (fld t refl (hop t (reads-in t (behind 2 i) hi (sub t 0 refl (whole t))) (stop t))))) (found t ej (stop t)) (init t (behind 2 j) hj (tt, tt)) $
       assigns t (agg t (and-then t (load t (found t ej (stop t)) (look t (behind 2 j) hj′)) (and-then t (load t (found t ei (fld t refl (stop t))) (reads-in t (behind 2 i) hi′ (sub t 1 refl (whole t)))) (no-more t)))) (found t ek (stop t)) (init t (behind 2 k) hk′ (tt, (tt, (record { fits = fits }, tt)))) $ s)
 
-  module _ (κ : Lft) (s : Share) (r : RefT Record) where
-    pub copies : K → {rest : Body} (ts : Fmls 3) (T : Fml) (fs : Fmls 5) (F : Fml) (n : ℕ) {τ : Ty} {b b′ : ℕ} → spotOf 𝓤 H E 6 ≡ (τ, b, zero) → spotOf 𝓤 H E n ≡ (Rec′.mir, b′, zero)
-        → nth 𝓤 H A 6 Γ ≡ cell τ b (vptr (ptr r .0) (ptr r .1)) → nth 𝓤 H A n Γ ≡ room Rec′.mir b′
-        → Step K W (raw (Handed 𝓤 H A (stars 3 ts T) (stars 5 fs (fsep (Rec.the-row .own (now r) (Rec′.lowered (now r) ∷ [])) F))) ∷ (opened κ s r ++ put 𝓤 H A n (cell Rec′.mir b′ (Rec′.lowered (now r))) Γ)) (runs C Λ E rest q)
-        (‵ (stars 3 ts (fsep (flft κ s) T)) ∷ ‵ (stars 5 fs (fsep (MutRef erased κ Rec.the-row .own r (ptr-vals r)) F)) ∷ Γ) (runs C Λ E (seq (assign (place n []) (rvOpd (copy (place 6 (deref Rec′.mir ∷ []))))) rest) q)
-    copies t ts T fs F n er en hr hn = step (λ k.
-        takes t 3 ts T $ move t (2 ∷ []) $ takes t 5 fs F $ fsplit3 t $ drop t $ move t (0 ∷ 1 ∷ 3 ∷ []) $
+  -- the record's lifetime has k lifetimes ahead of it, and its reference n parameters: it stands in local l
+  module _ (k n l : ℕ) (κ : Lft) (s : Share) (r : RefT Record) where
+    pub copies : K → {rest : Body} (ts : Fmls k) (T : Fml) (fs : Fmls n) (F : Fml) (m : ℕ) {τ : Ty} {b b′ : ℕ} → spotOf 𝓤 H E l ≡ (τ, b, zero) → spotOf 𝓤 H E m ≡ (Rec′.mir, b′, zero)
+        → nth 𝓤 H A l Γ ≡ cell τ b (vptr (ptr r .0) (ptr r .1)) → nth 𝓤 H A m Γ ≡ room Rec′.mir b′
+        → Step K W (raw (Handed 𝓤 H A (stars k ts T) (stars n fs (fsep (Rec.the-row .own (now r) (recordVal (now r) ∷ [])) F))) ∷ (opened κ s r ++ put 𝓤 H A m (cell Rec′.mir b′ (recordVal (now r))) Γ)) (runs C Λ E rest q)
+        (‵ (stars k ts (fsep (flft κ s) T)) ∷ ‵ (stars n fs (fsep (MutRef erased κ Rec.the-row .own r (ptr-vals r)) F)) ∷ Γ) (runs C Λ E (seq (assign (place m []) (rvOpd (copy (place l (deref Rec′.mir ∷ []))))) rest) q)
+    copies t ts T fs F m er en hr hn = step (λ go.
+        takes t k ts T $ move t (2 ∷ []) $ takes t n fs F $ fsplit3 t $ drop t $ move t (0 ∷ 1 ∷ 3 ∷ []) $
         opens t tt Rec.the-row {h = now r} (ptr r .0) (ptr r .1) (λ vs. spelt t Rec.the-row (Is Rec.the-row) (shows 𝓤 H A Rec.the-row) (LL.vals Rec.the-type Rec′.the-laws) (LL.tells Rec.the-type Rec′.the-laws) fullShare (now r) vs (ptr r .0) (ptr r .1) $
-        move t (1 ∷ []) $ peeks t Rec.the-row (Is Rec.the-row) (shows 𝓤 H A Rec.the-row) (now r) (Rec′.lowered (now r) ∷ []) (λ was.
+        move t (1 ∷ []) $ peeks t Rec.the-row (Is Rec.the-row) (shows 𝓤 H A Rec.the-row) (now r) (recordVal (now r) ∷ []) (λ was.
         -- [what the record owns; its cell; the open borrow; obs; auth; what the others own; the others' tokens; the locals]
-        assigns t (of-opd t (load t (found t er (hop t (look t (behind 7 6) hr) (stop t))) (look-raw t 1 refl))) (found t en (stop t)) (init t (behind 7 n) hn (LL.lawful Rec.the-type Rec′.the-laws 𝓤 H A W .typed (now r) _ was .0)) $
-        move t (0 ∷ 5 ∷ []) $ puts t 5 fs F $ move t (5 ∷ 0 ∷ []) $ hands t $ k)))
+        assigns t (of-opd t (load t (found t er (hop t (look t (behind 7 l) hr) (stop t))) (look-raw t 1 refl))) (found t en (stop t)) (init t (behind 7 m) hn (LL.lawful Rec.the-type Rec′.the-laws 𝓤 H A W .typed (now r) _ was .0)) $
+        move t (0 ∷ 5 ∷ []) $ puts t n fs F $ move t (5 ∷ 0 ∷ []) $ hands t $ go)))
 
-    pub puts-back : K → (n : ℕ) (ps : List (Slot n)) (ks : Kepts ps) (c : Clauses 𝓤 (returning n ps ks)) (y : Met 𝓤 H A (returning n ps ks) c .Ghost)
-        (ts : Fmls 3) (T : Fml) → tokens n (y .0 .0) (y .0 .1) ≡ stars 3 ts T
-        → (fs : Lasts (returning n ps ks) (y .0 .0) (y .0 .3) → Fmls 5) (F : Lasts (returning n ps ks) (y .0 .0) (y .0 .3) → Fml)
-        → ((ws : Lasts (returning n ps ks) (y .0 .0) (y .0 .3)) → lasts (returning n ps ks) (y .0 .0) (y .0 .3) ws ≡ stars 5 (fs ws) (fsep ftrue (F ws)))
+    pub puts-back : K → (x : ℕ) (ps : List (Slot x)) (ks : Kepts ps) (c : Clauses 𝓤 (returning x ps ks)) (y : Met 𝓤 H A (returning x ps ks) c .Ghost)
+        (ts : Fmls k) (T : Fml) → tokens x (y .0 .0) (y .0 .1) ≡ stars k ts T
+        → (fs : Lasts (returning x ps ks) (y .0 .0) (y .0 .3) → Fmls n) (F : Lasts (returning x ps ks) (y .0 .0) (y .0 .3) → Fml)
+        → ((ws : Lasts (returning x ps ks) (y .0 .0) (y .0 .3)) → lasts (returning x ps ks) (y .0 .0) (y .0 .3) ws ≡ stars n (fs ws) (fsep ftrue (F ws)))
         → (w : Val) (o : ℕ) {τ : Ty} {b b′ b₀ : ℕ}
-        → spotOf 𝓤 H E 6 ≡ (τ, b, zero) → spotOf 𝓤 H E o ≡ (Out′.mir, b′, zero) → spotOf 𝓤 H E 0 ≡ (Ans′.mir, b₀, zero) → nth 𝓤 H A o Γ ≡ room Out′.mir b′
-        → ((v : Outcome) → nth 𝓤 H A 6 (put 𝓤 H A o (cell Out′.mir b′ (outcomeVal v)) Γ) ≡ cell τ b (vptr (ptr r .0) (ptr r .1)))
+        → spotOf 𝓤 H E l ≡ (τ, b, zero) → spotOf 𝓤 H E o ≡ (Out′.mir, b′, zero) → spotOf 𝓤 H E 0 ≡ (Ans′.mir, b₀, zero) → nth 𝓤 H A o Γ ≡ room Out′.mir b′
+        → ((v : Outcome) → nth 𝓤 H A l (put 𝓤 H A o (cell Out′.mir b′ (outcomeVal v)) Γ) ≡ cell τ b (vptr (ptr r .0) (ptr r .1)))
         → ((v : Outcome) → nth 𝓤 H A o (put 𝓤 H A o (cell Out′.mir b′ (outcomeVal v)) Γ) ≡ cell Out′.mir b′ (outcomeVal v))
         → ((v : Outcome) → nth 𝓤 H A 0 (put 𝓤 H A o (cell Out′.mir b′ (outcomeVal v)) Γ) ≡ room Ans′.mir b₀)
-        → ((v : Outcome) (ws : Lasts (returning n ps ks) (y .0 .0) (y .0 .3)) → Seq K W
-        (((‵ (stars 3 ts (fsep (flft κ s) T)) ⊛ ‵ (Ans.the-row .own (v .answer) (answerVal (v .answer) ∷ []))) ⊛ (‵ (stars 5 (fs ws) (fsep (fres (name r) (Rec.the-row .coded .code (v .run))) (F ws))) ⊛ raw (c (y .0 .0) (y .0 .3) .ensures (y .1) v (atExit (returning n ps ks) (y .0 .0) (y .0 .3) ws))))
+        → ((v : Outcome) (ws : Lasts (returning x ps ks) (y .0 .0) (y .0 .3)) → Seq K W
+        (((‵ (stars k ts (fsep (flft κ s) T)) ⊛ ‵ (Ans.the-row .own (v .answer) (answerVal (v .answer) ∷ []))) ⊛ (‵ (stars n (fs ws) (fsep (fres (name r) (Rec.the-row .coded .code (v .run))) (F ws))) ⊛ raw (c (y .0 .0) (y .0 .3) .ensures (y .1) v (atExit (returning x ps ks) (y .0 .0) (y .0 .3) ws))))
         ∷ put 𝓤 H A 0 (cell Ans′.mir b₀ (answerVal (v .answer))) (put 𝓤 H A o (cell Out′.mir b′ (outcomeVal v)) Γ)) (runs C Λ E return q))
-        → Seq K W (raw (Met 𝓤 H A (returning n ps ks) c .post y w) ∷ (opened κ s r ++ Γ)) (lands C Λ E (place o []) w (afterwards o) q)
-    puts-back t n ps ks c y ts T et fs F ef w o er eo e0 ho hr′ ho′ h0′ k =
-        returned t tt (returning n ps ks) c y w (λ v ws. peeks t Out.the-row (Is Out.the-row) (shows 𝓤 H A Out.the-row) v (w ∷ []) (λ is.
+        → Seq K W (raw (Met 𝓤 H A (returning x ps ks) c .post y w) ∷ (opened κ s r ++ Γ)) (lands C Λ E (place o []) w (afterwards l o) q)
+    puts-back t x ps ks c y ts T et fs F ef w o er eo e0 ho hr′ ho′ h0′ go =
+        returned t tt (returning x ps ks) c y w (λ v ws. peeks t Out.the-row (Is Out.the-row) (shows 𝓤 H A Out.the-row) v (w ∷ []) (λ is.
         use1 W (given (w ∷ [] ≡ outcomeVal v ∷ []) (‵ (all-own (Out.the-type .parts) Out′.the-laws (v .answer, (v .run, tt))))) (own-open 𝓤 H A W Out.the-type Out′.the-laws (v .answer, (v .run, tt)) w) $ learn t (λ e.
-        fsplit t $ move t (1 ∷ []) $ fsplit t $ move t (1 ∷ []) $ drop t $ peeks t Rec.the-row (Is Rec.the-row) (shows 𝓤 H A Rec.the-row) (v .run) (Rec′.lowered (v .run) ∷ []) (λ is-r.
+        fsplit t $ move t (1 ∷ []) $ fsplit t $ move t (1 ∷ []) $ drop t $ peeks t Rec.the-row (Is Rec.the-row) (shows 𝓤 H A Rec.the-row) (v .run) (recordVal (v .run) ∷ []) (λ is-r.
         move t (1 ∷ []) $ peeks t Ans.the-row (Is Ans.the-row) (shows 𝓤 H A Ans.the-row) (v .answer) (answerVal (v .answer) ∷ []) (λ is-a.
         -- [what the answer owns; what the record owns; the tokens; what is said of the last values; the clause; the record's cell; the open borrow; obs; auth; the locals]
-        regoal t (λ (u : Val). lands C Λ E (place o []) u (afterwards o) q) (ap only e) refl $
+        regoal t (λ (u : Val). lands C Λ E (place o []) u (afterwards l o) q) (ap only e) refl $
         land t (found t eo (stop t)) (init t (behind 9 o) ho (LL.lawful Out.the-type Out′.the-laws 𝓤 H A W .typed v (outcomeVal v ∷ []) (subst (Is Out.the-row v) e is) .0)) $
-        assigns t (of-opd t (load t (found t eo (fld t refl (stop t))) (reads-in t (behind 9 o) (ho′ v) (sub t 1 refl (whole t))))) (found t er (hop t (look t (behind 9 6) (hr′ v)) (stop t))) (store-raw t 5 refl (LL.lawful Rec.the-type Rec′.the-laws 𝓤 H A W .typed (v .run) _ is-r .0)) $
+        assigns t (of-opd t (load t (found t eo (fld t refl (stop t))) (reads-in t (behind 9 o) (ho′ v) (sub t 1 refl (whole t))))) (found t er (hop t (look t (behind 9 l) (hr′ v)) (stop t))) (store-raw t 5 refl (LL.lawful Rec.the-type Rec′.the-laws 𝓤 H A W .typed (v .run) _ is-r .0)) $
         assigns t (of-opd t (load t (found t eo (fld t refl (stop t))) (reads-in t (behind 9 o) (ho′ v) (sub t 0 refl (whole t))))) (found t e0 (stop t)) (init t (behind 9 0) (h0′ v) (EL.lawful Ans.the-type Ans′.the-laws 𝓤 H A W tt .typed (v .answer) _ is-a .0)) $
-        move t (5 ∷ 1 ∷ 6 ∷ 7 ∷ 8 ∷ []) $ closes t tt Rec.the-row (v .run) (Rec′.lowered (v .run) ∷ []) (ptr r .0) (ptr r .1) $
+        move t (5 ∷ 1 ∷ 6 ∷ 7 ∷ 8 ∷ []) $ closes t tt Rec.the-row (v .run) (recordVal (v .run) ∷ []) (ptr r .0) (ptr r .1) $
         use1 W (‵ (fres (name r) (Rec.the-row .coded .code (v .run)))) (W .names .obs-res (name r) (Rec.the-row .coded .code (v .run))) $ move t (1 ∷ []) $ drop t $
         -- [res; the record's token; what the answer owns; the tokens; what is said of the last values; the clause; the locals]
-        rewrite t 3 (λ (f : Fml). ‵ f) et refl $ rewrite t 4 (λ (f : Fml). ‵ f) (ef ws) refl $ move t (1 ∷ 3 ∷ []) $ puts t 3 ts T $ move t (0 ∷ 2 ∷ []) $ join t $
-        move t (2 ∷ []) $ takes t 5 (fs ws) (F ws) $ drop t $ move t (2 ∷ 0 ∷ []) $ puts t 5 (fs ws) (F ws) $ move t (0 ∷ 2 ∷ []) $ join t $ move t (1 ∷ 0 ∷ []) $ join t $ k v ws)))))
+        rewrite t 3 (λ (f : Fml). ‵ f) et refl $ rewrite t 4 (λ (f : Fml). ‵ f) (ef ws) refl $ move t (1 ∷ 3 ∷ []) $ puts t k ts T $ move t (0 ∷ 2 ∷ []) $ join t $
+        move t (2 ∷ []) $ takes t n (fs ws) (F ws) $ drop t $ move t (2 ∷ 0 ∷ []) $ puts t n (fs ws) (F ws) $ move t (0 ∷ 2 ∷ []) $ join t $ move t (1 ∷ 0 ∷ []) $ join t $ go v ws)))))

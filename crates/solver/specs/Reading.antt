@@ -1,45 +1,52 @@
 -- What the reader's functions answer: whether the reader is refused, and the part of the list table that it shows. Together they are what the
 -- definitions have it show (`shown-is`). Assumes nothing.
-use Prim.Native.Nat.{ℕ, _+_, _*_, _-_, _/_, _≤_}
-use mathlib.Core.Path.{_≡_, refl}
-use mathlib.Core.Bool.{Bool, true, false, not, _&&_}
+use Prim.Native.Nat.{ℕ, _+_, _*_, _-_, _/_, _≤_, _<_}
+use mathlib.Core.Path.{_≡_, refl, sym, _∙_, ap}
+use mathlib.Core.Bool.{Bool, true, false, not, _&&_, and-false}
 use mathlib.Core.List.{List, [], _∷_}
 use native.Mathlib.Nat.{mul-le-mul-right, div-mul-le-self}
 use native.Mathlib.Omega.{arith}
 use lib.Dec.{T, leb, leb→le}
 use lib.ListN.{length, take, drop, length-drop}
 use lib.Seq.{length-take-le}
+use borrow.Author.Tests.{le-leb, lt-leb}
 use Rattle.linear.specs.TestLaws.{and-parts}
 use Rattle.definitions.specs.Answers.{Check, go, refuse, refuseWith}
 use Rattle.definitions.specs.System.{mostUnknowns}
-use Rattle.definitions.specs.Refusals.{between}
+use Rattle.definitions.specs.Input.{rights}
+use Rattle.definitions.specs.Refusals.{between, mostFor}
 use Rattle.definitions.specs.Tables.{capacity}
 use Rattle.laws.specs.TableLaws.{row-fits}
-use Rattle.definitions.specs.Reader.{Shown, row, none, refused, readerCheck, hasRow, rowPart, showIf, shownBy, shown}
+use Rattle.definitions.specs.Reader.{Shown, Which, atZero, atOne, row, none, readerCheck, hasRow, partOf, rowOfEither, rowPart, showIf, shownAt, shownBy, shown, tableAt}
+use Rattle.solver.specs.declared.Which.{Which as CodeWhich}
+use Rattle.solver.specs.declared.Which.the-variants.{Zero, One}
 use Rattle.solver.specs.declared.Readable.{Readable}
 use Rattle.solver.specs.declared.Readable.the-variants.{Yes, Refused}
 use Rattle.calls.specs.Paper.{numberOf, valuesOf}
+
+abbrev pub whichOf : CodeWhich → Which
+whichOf Zero = atZero
+whichOf One = atOne
 
 abbrev pub readableOf : Readable → Check
 readableOf Yes = go
 readableOf (Refused why) = refuse (numberOf why) (valuesOf why)
 
-abbrev pub partOf : Shown → List ℕ
-partOf (row part) = part
-partOf none = []
-partOf (refused n values) = []
+abbrev pub partIf : Bool → List ℕ → List ℕ
+partIf true part = part
+partIf false part = []
 
 -- the part of the list table that is shown: empty where no row is
 unfoldable pub shownPart : ℕ → List ℕ → ℕ → ℕ → List ℕ
 shownPart q list found n = partOf (shown q list found n)
 
+-- the same of one list of a capped run, whose system has at most 15 unknowns
+unfoldable pub cappedPart : ℕ → List ℕ → ℕ → ℕ → List ℕ
+cappedPart q list found n = partIf (between 1 (mostFor (rights [])) q && hasRow q list found n) (rowPart q list n)
+
 -- whether a row is shown
 unfoldable pub shows : ℕ → List ℕ → ℕ → ℕ → Bool
 shows q list found n = between 1 mostUnknowns q && hasRow q list found n
-
-abbrev pub partIf : Bool → List ℕ → List ℕ
-partIf true part = part
-partIf false part = []
 
 -- an empty part shows that there is no row
 abbrev pub showPart : List ℕ → Shown
@@ -114,3 +121,19 @@ module _ {b : Bool} (q : ℕ) (list : List ℕ) (found n : ℕ) (e : b ≡ shows
 pub shown-is : (q : ℕ) (list : List ℕ) (found n : ℕ) → shown q list found n ≡ shownBy (readerCheck q) (showPart (shownPart q list found n))
 unfolding shown shows
 shown-is q list found n = rw (part-is q list found n refl) (show-part (between 1 mostUnknowns q) (hasRow q list found n) (rowPart q list n) (part-length q list found n refl))
+
+-- ---- the two lists of a capped run
+
+pub either-part : (w : Which) (q : ℕ) (list second : List ℕ) (found n : ℕ) → cappedPart q (tableAt w list second) found n ≡ rowOfEither w q list second found n
+unfolding cappedPart rowOfEither shownAt
+either-part w q list second found n = sym (part-if (between 1 (mostFor (rights [])) q) (hasRow q (tableAt w list second) found n) (rowPart q (tableAt w list second) n))
+
+pub capped-wide : (q : ℕ) (list : List ℕ) (found n : ℕ) → 15 < q → [] ≡ cappedPart q list found n
+unfolding cappedPart
+capped-wide q list found n l = rw (lt-leb q 15 l, and-false (leb 1 q))
+
+pub capped-narrow : (q : ℕ) (list : List ℕ) (found n : ℕ) → q ≤ 15 → shownPart q list found n ≡ cappedPart q list found n
+unfolding cappedPart shownPart shown
+capped-narrow q list found n l =
+    part-if (between 1 mostUnknowns q) (hasRow q list found n) (rowPart q list n)
+    ∙ ap (λ b. partIf ((leb 1 q && b) && hasRow q list found n) (rowPart q list n)) (le-leb q mostUnknowns (omega arith) ∙ sym (le-leb q 15 l))

@@ -1,14 +1,16 @@
 // The calls as an editor uses them: the caller's own run record is advanced through a reference, over the calls by value; and the reader of a
 // finished list.
 ghost use mathlib.Core.Path.{_≡_};
+ghost use Prim.Native.Nat.{ℕ};
 ghost use Rattle.definitions.specs.Calls.{start as startOf, startFrom as startFromOf, resume as resumeOf};
-ghost use Rattle.definitions.specs.Reader.{readerCheck};
+ghost use Rattle.definitions.specs.Reader.{readerCheck, rowOfEither};
 ghost use Rattle.definitions.specs.Refusals.{between};
-ghost use Rattle.definitions.specs.System.{mostUnknowns};
-ghost use Rattle.definitions.specs.Input.{inputOf};
-ghost use Rattle.calls.specs.Paper.{stateOf, leftBy};
-ghost use Rattle.solver.specs.Reading.{readableOf, shownPart, shows};
+ghost use Rattle.definitions.specs.System.{mostUnknowns, mostComponent};
+ghost use Rattle.definitions.specs.Input.{inputOf, inputWith, rights as sides};
+ghost use Rattle.calls.specs.Paper.{stateOf, stateWith, leftBy, leftWith, outcomeOf, outcomeWith};
+ghost use Rattle.solver.specs.Reading.{readableOf, shownPart, cappedPart, shows, whichOf};
 use calls::Answer;
+use calls::Outcome;
 use calls::Record;
 use calls::Refusal;
 use calls::Solutions;
@@ -41,7 +43,40 @@ pub fn start_from(
 ) -> Answer
     ensures { λ a. ⌜ leftBy a (now (stack .exit)) (now (list .exit)) (now (r .exit)) ≡ startFromOf (now (lower .entry)) (inputOf p q (now (coefs .entry))) (stateOf (now (stack .entry)) (now (list .entry)) (now (r .entry))) ⌝ }
 {
-    let o = starts::started_from(p, q, coefs, stack, list, *r, lower);
+    let o = started_from(p, q, coefs, stack, list, *r, lower);
+    *r = o.run;
+    o.answer
+}
+
+// The same by value, with document 01's limit of components.
+fn started_from(
+    p: usize,
+    q: usize,
+    coefs: &[i32],
+    stack: &mut [u32],
+    list: &mut [u32],
+    r: Record,
+    lower: &[u32],
+) -> Outcome
+    ensures { λ o. ⌜ outcomeOf o (now (stack .exit)) (now (list .exit)) ≡ startFromOf (now (lower .entry)) (inputOf p q (now (coefs .entry))) (stateOf (now (stack .entry)) (now (list .entry)) r) ⌝ }
+{
+    starts::started_from(p, q, coefs, stack, list, r, lower, calls::COMPONENT_LIMIT)
+}
+
+// The start of a capped run; it does not depend on the limit of components.
+pub fn start_capped(
+    p: usize,
+    q: usize,
+    coefs: &[i32],
+    rights: &[i32],
+    stack: &mut [u32],
+    list: &mut [u32],
+    second: &mut [u32],
+    r: &mut Record,
+) -> Answer
+    ensures { λ a. ⌜ ((limit : ℕ) → leftWith a (now (stack .exit)) (now (list .exit)) (now (second .exit)) (now (r .exit)) ≡ startOf (inputWith (sides (now (rights .entry))) limit p q (now (coefs .entry))) (stateWith (now (stack .entry)) (now (list .entry)) (now (second .entry)) (now (r .entry)))) ⌝ }
+{
+    let o = starts::started_capped(p, q, coefs, rights, stack, list, second, *r);
     *r = o.run;
     o.answer
 }
@@ -58,9 +93,71 @@ pub fn resume(
 ) -> Answer
     ensures { λ a. ⌜ leftBy a (now (stack .exit)) (now (list .exit)) (now (r .exit)) ≡ resumeOf budget (inputOf p q (now (coefs .entry))) (stateOf (now (stack .entry)) (now (list .entry)) (now (r .entry))) ⌝ }
 {
-    let o = walk::resumed(p, q, coefs, stack, list, *r, budget);
+    let o = resumed(p, q, coefs, stack, list, *r, budget);
     *r = o.run;
     o.answer
+}
+
+// The same by value, with document 01's limit of components.
+fn resumed(
+    p: usize,
+    q: usize,
+    coefs: &[i32],
+    stack: &mut [u32],
+    list: &mut [u32],
+    r: Record,
+    budget: u64,
+) -> Outcome
+    ensures { λ o. ⌜ outcomeOf o (now (stack .exit)) (now (list .exit)) ≡ resumeOf budget (inputOf p q (now (coefs .entry))) (stateOf (now (stack .entry)) (now (list .entry)) r) ⌝ }
+{
+    walk::resumed(p, q, coefs, stack, list, r, budget, calls::COMPONENT_LIMIT)
+}
+
+// The continuing call of a capped run.
+pub fn resume_capped(
+    p: usize,
+    q: usize,
+    coefs: &[i32],
+    rights: &[i32],
+    stack: &mut [u32],
+    list: &mut [u32],
+    second: &mut [u32],
+    r: &mut Record,
+    budget: u64,
+) -> Answer
+    ensures { λ a. ⌜ leftWith a (now (stack .exit)) (now (list .exit)) (now (second .exit)) (now (r .exit)) ≡ resumeOf budget (inputWith (sides (now (rights .entry))) mostComponent p q (now (coefs .entry))) (stateWith (now (stack .entry)) (now (list .entry)) (now (second .entry)) (now (r .entry))) ⌝ }
+{
+    let o = resumed_capped(p, q, coefs, rights, stack, list, second, *r, budget);
+    *r = o.run;
+    o.answer
+}
+
+// The same by value, with document 01's limit of components.
+fn resumed_capped(
+    p: usize,
+    q: usize,
+    coefs: &[i32],
+    rights: &[i32],
+    stack: &mut [u32],
+    list: &mut [u32],
+    second: &mut [u32],
+    r: Record,
+    budget: u64,
+) -> Outcome
+    ensures { λ o. ⌜ outcomeWith o (now (stack .exit)) (now (list .exit)) (now (second .exit)) ≡ resumeOf budget (inputWith (sides (now (rights .entry))) mostComponent p q (now (coefs .entry))) (stateWith (now (stack .entry)) (now (list .entry)) (now (second .entry)) r) ⌝ }
+{
+    walk::resumed_capped(
+        p,
+        q,
+        coefs,
+        rights,
+        stack,
+        list,
+        second,
+        r,
+        budget,
+        calls::COMPONENT_LIMIT,
+    )
 }
 
 // A reader of a finished list borrows the list table, whose rows are of q numbers.
@@ -122,6 +219,40 @@ pub fn row_of(list: &[u32], q: usize, found: Solutions, n: usize) -> &[u32]
         return &list[a..e];
     }
     &list[0..0]
+}
+
+// Which of the two lists of a capped run a row is asked from: the one at 0, or the one at 1.
+pub enum Which {
+    Zero,
+    One,
+}
+
+// Row n of the list at 0 or of the list at 1, as a part of it; an empty part where there is none, or q is no number of unknowns of a capped run. `found` counts the rows of
+// that list.
+pub fn row_of_either<'a>(
+    list: &'a [u32],
+    second: &'a [u32],
+    which: Which,
+    q: usize,
+    found: Solutions,
+    n: usize,
+) -> &'a [u32]
+    ensures { λ r. ⌜ now r ≡ rowOfEither (whichOf which) q (now (list .entry)) (now (second .entry)) (found .0) n ⌝ }
+{
+    match which {
+        Which::Zero => capped_row(list, q, found, n),
+        Which::One => capped_row(second, q, found, n),
+    }
+}
+
+// Row n of one list of a capped run.
+fn capped_row(list: &[u32], q: usize, found: Solutions, n: usize) -> &[u32]
+    ensures { λ r. ⌜ now r ≡ cappedPart q (now (list .entry)) (found .0) n ⌝ }
+{
+    if 15 < q {
+        return &list[0..0];
+    }
+    row_of(list, q, found, n)
 }
 
 impl<'a> Reader<'a> {

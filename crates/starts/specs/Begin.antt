@@ -2,12 +2,13 @@
 use Prim.Native.Nat.{ℕ, _+_, _*_, _≤_, _<_}
 use native.Mathlib.Nat.{mul-le-mul-right}
 use native.Mathlib.Omega.{arith}
-use Rattle.calls.specs.Paper.{leaves}
+use Rattle.calls.specs.Paper.{recordOf}
 use Rattle.calls.specs.declared.Answer.the-variants.{Started}
 use Rattle.calls.specs.declared.Outcome.{Outcome}
+use Rattle.calls.specs.declared.Run.{Run}
 
-abbrev pub begins : ℕ → Outcome
-begins height = leaves Started height 0 0
+abbrev pub begins : Run → ℕ → Outcome
+begins kind height = record { answer = Started; run = recordOf kind height (record { 0 = 0 }) (record { 0 = 0 }) (record { 0 = 0 }) (record { 0 = 0 }) 0 }
 
 -- the first row of the stack table is there
 pub first-row : {q n : ℕ} → 0 < q → q * (q + 1) ≤ n → q < n

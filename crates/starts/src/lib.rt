@@ -1,13 +1,15 @@
-// The starts of document 01: plain, and from a lower bound. Each takes the run record by value and returns what it leaves.
+// The starts: plain, from a lower bound, and of a capped run. Each takes the run record by value and returns what it leaves.
 ghost use mathlib.Core.Path.{_≡_};
+ghost use Prim.Native.Nat.{ℕ};
 ghost use Rattle.definitions.specs.Calls.{start, startFrom};
-ghost use Rattle.definitions.specs.Input.{inputOf};
-ghost use Rattle.calls.specs.Paper.{stateOf, outcomeOf};
+ghost use Rattle.definitions.specs.Input.{alone, inputOf, inputWith, rights as sides};
+ghost use Rattle.calls.specs.Paper.{stateOf, stateWith, outcomeOf, outcomeWith};
 ghost use Rattle.starts.specs.Begin.{begins};
 use calls::Answer;
 use calls::Check;
 use calls::Outcome;
 use calls::Record;
+use calls::Run;
 use calls::Solutions;
 use calls::Steps;
 
@@ -28,7 +30,7 @@ pub fn started(
         Check::Refuse(why) => calls::refused(why, r),
         Check::Pass => {
             rows::write_units(stack, q);
-            begun(q)
+            begun(Run::Plain, q)
         }
     }
 }
@@ -42,23 +44,48 @@ pub fn started_from(
     list: &mut [u32],
     r: Record,
     lower: &[u32],
+    limit: u32,
 ) -> Outcome
-    ensures { λ o. ⌜ outcomeOf o (now (stack .exit)) (now (list .exit)) ≡ startFrom (now (lower .entry)) (inputOf p q (now (coefs .entry))) (stateOf (now (stack .entry)) (now (list .entry)) r) ⌝ }
+    ensures { λ o. ⌜ outcomeOf o (now (stack .exit)) (now (list .exit)) ≡ startFrom (now (lower .entry)) (inputWith alone limit p q (now (coefs .entry))) (stateOf (now (stack .entry)) (now (list .entry)) r) ⌝ }
 {
-    match checks::check_start_from(p, q, coefs, lower, stack, list, r) {
+    match checks::check_start_from(p, q, coefs, lower, stack, list, r, limit) {
         Check::Refuse(why) => calls::refused(why, r),
         Check::Pass => {
             rows::write_lower(stack, q, lower);
-            begun(1)
+            begun(Run::Plain, 1)
+        }
+    }
+}
+
+// The start of a capped run; it does not depend on the limit of components.
+pub fn started_capped(
+    p: usize,
+    q: usize,
+    coefs: &[i32],
+    rights: &[i32],
+    stack: &mut [u32],
+    list: &mut [u32],
+    second: &mut [u32],
+    r: Record,
+) -> Outcome
+    ensures { λ o. ⌜ ((limit : ℕ) → outcomeWith o (now (stack .exit)) (now (list .exit)) (now (second .exit)) ≡ start (inputWith (sides (now (rights .entry))) limit p q (now (coefs .entry))) (stateWith (now (stack .entry)) (now (list .entry)) (now (second .entry)) r)) ⌝ }
+{
+    match checks::check_start_capped(p, q, coefs, rights, stack, list, second, r) {
+        Check::Refuse(why) => calls::refused(why, r),
+        Check::Pass => {
+            let wide = q + 1;
+            rows::write_units(stack, wide);
+            begun(Run::Capped, wide)
         }
     }
 }
 
 // What a start that is not refused answers.
-fn begun(height: usize) -> Outcome
-    ensures { λ o. ⌜ o ≡ begins height ⌝ }
+fn begun(kind: Run, height: usize) -> Outcome
+    ensures { λ o. ⌜ o ≡ begins kind height ⌝ }
 {
-    let run = Record::new(height, Solutions(0), Steps(0));
+    let found = Solutions(0);
+    let run = Record::of(kind, height, found, Steps(0), Solutions(0), Steps(0), 0);
     Outcome {
         answer: Answer::Started,
         run,

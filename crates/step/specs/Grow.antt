@@ -1,19 +1,24 @@
--- A step's children, made of the data that code has at hand: the top's tuple, its inner products with the columns, and its marks.
+-- A step's children, made of the data that code has at hand: the top's tuple, and the unknowns that may make one as marks.
 -- (`Step` of the definitions says the same of a state; `StateLaws` links the two.) Assumes nothing.
 use Prim.Native.Nat.{ℕ}
 use mathlib.Core.Bool.{Bool, not, _&&_}
-use lib.IntN.{ℤ, pos}
-use lib.Signed.{ltZ}
 use Rattle.linear.specs.Tuples.{raise}
-use Rattle.definitions.specs.System.{covered}
-use Rattle.definitions.specs.Tables.{frozen}
+use Rattle.definitions.specs.System.{Kind, above, capped, covered, plain}
+use Rattle.definitions.specs.Tables.{State, frozen}
+use Rattle.laws.specs.StepLaws.{firstOpen, secondOpen}
 use Rattle.step.specs.Rows.{part}
 
--- Raising unknown j makes a child of the tuple t with the inner products v: j is not frozen, its inner product is below zero, and none of
--- the first `found` rows is at or below the raised tuple.
-unfoldable pub madeBy : ℕ → ℕ → (ℕ → ℕ → ℕ) → (ℕ → ℕ) → (ℕ → ℤ) → ℕ → ℕ → Bool
-madeBy q found row t v marks j = not (frozen marks j) && (ltZ (v j) (pos 0) && not (covered q found row (raise t j)))
+-- Raising unknown j makes a child of the tuple t: j is one of the candidates, those that are not frozen and have an inner product below zero; the cap and the second
+-- list leave it admitted; and the first list does.
+unfoldable pub childFor : Kind → ℕ → State → (ℕ → ℕ) → ℕ → ℕ → Bool
+childFor k q s t candidates j = (frozen candidates j && secondOpen k q s (raise t j)) && firstOpen k q s (raise t j)
 
--- the same with the unknowns at hand that pass the first two tests, as marks, for rows of w numbers that stand for those of a tuple from a place on
+-- one of `admitted` is left by a list whose rows of w numbers stand for those of a tuple from a place on
 unfoldable pub childBy : ℕ → ℕ → ℕ → (ℕ → ℕ → ℕ) → (ℕ → ℕ) → ℕ → ℕ → Bool
-childBy w from found row t candidates j = frozen candidates j && not (covered w found row (part from (raise t j)))
+childBy w from found row t admitted j = frozen admitted j && not (covered w found row (part from (raise t j)))
+
+-- the place from which the first list's rows stand for a tuple
+abbrev pub placeIn : Kind → ℕ
+placeIn plain = 0
+placeIn capped = 1
+placeIn (above f) = 0

@@ -1,65 +1,100 @@
 -- Laws of a step's children: what decides whether an unknown makes one, and that they read a tuple below q only. Assumes nothing.
-use mathlib.Core.Path.{_≡_, refl, sym, ap, _∙_}
+use mathlib.Core.Path.{_≡_, refl, ap, ap₂, _∙_}
 use mathlib.Core.Logic.{inl, inr}
 use mathlib.Core.Bool.{Bool, true, false, not, _&&_, and-false}
 use mathlib.Core.List.{List}
-use Prim.Native.Nat.{ℕ, zero, suc, _+_, _≤_, _<_}
+use Prim.Native.Nat.{ℕ, zero, suc, _+_, _-_, _≤_, _<_}
 use native.Mathlib.Nat.{zero-add}
 use native.Mathlib.Omega.{arith}
 use lib.Dec.{T, T-not}
-use lib.IntN.{ℤ, pos}
 use lib.ListN.{length}
-use lib.Signed.{ltZ}
 use Rattle.linear.specs.Cases.{split}
 use Rattle.linear.specs.Tests.{countTo}
 use Rattle.linear.specs.TestLaws.{and-parts, count-same}
-use Rattle.linear.specs.Tuples.{Same, unit, raise}
-use Rattle.definitions.specs.System.{covered}
+use Rattle.linear.specs.Tuples.{Same, unit, raise, rest}
+use Rattle.definitions.specs.System.{Kind, above, capped, covered, plain}
+use Rattle.laws.specs.StepLaws.{firstOpen, secondOpen}
 use Rattle.laws.specs.SystemLaws.{covered-same}
-use Rattle.definitions.specs.Tables.{frozen, writeRowIf}
+use Rattle.definitions.specs.Tables.{Run, State, frozen, listRow, secondRow, writeRowIf}
 use Rattle.laws.specs.TableLaws.{row-same, stays-length}
-use Rattle.definitions.specs.Step.{marksTo, writeChildren}
+use Rattle.definitions.specs.Step.{marksTo, rowOf, rowWidth, writeChildren}
+use Rattle.step.specs.Kinds.{beside}
 use Rattle.step.specs.Rows.{part}
-use Rattle.step.specs.Grow.{madeBy, childBy}
+use Rattle.step.specs.Grow.{childBy, childFor, placeIn}
 use Rattle.products.specs.Marks.{marks-same}
 
 -- ---- the test that admits a child
 
-and-swap : (a b c : Bool) → (a && b) && c ≡ b && (a && c)
-and-swap true b c = refl
-and-swap false b c = sym (and-false b)
-
-module _ (q found : ℕ) (row : ℕ → ℕ → ℕ) where
-  -- tuples and inner products that agree below q
-  pub made-same : {t u : ℕ → ℕ} {v w : ℕ → ℤ} (marks : ℕ) → Same q t u → ((j : ℕ) → j < q → v j ≡ w j) → (j : ℕ) → j < q → madeBy q found row t v marks j ≡ madeBy q found row u w marks j
-  unfolding madeBy
-  made-same {t} {u} marks e h j l = rw (h j l, covered-same q found row {x = raise t j} {y = raise u j} (λ i k. ap (λ y. y + unit j i) (e i k)))
-
-module _ (w from found : ℕ) (row : ℕ → ℕ → ℕ) (t : ℕ → ℕ) (candidates j : ℕ) where
-  pub closed-makes-none : frozen candidates j ≡ false → childBy w from found row t candidates j ≡ false
+module _ (w from found : ℕ) (row : ℕ → ℕ → ℕ) (t : ℕ → ℕ) (admitted j : ℕ) where
+  pub closed-makes-none : frozen admitted j ≡ false → childBy w from found row t admitted j ≡ false
   unfolding childBy
   closed-makes-none e = rw e
 
-  pub covered-makes-none : covered w found row (part from (raise t j)) ≡ true → childBy w from found row t candidates j ≡ false
+  pub covered-makes-none : covered w found row (part from (raise t j)) ≡ true → childBy w from found row t admitted j ≡ false
   unfolding childBy
   covered-makes-none e = rw (e, and-false)
 
-  pub makes-one : frozen candidates j ≡ true → covered w found row (part from (raise t j)) ≡ false → childBy w from found row t candidates j ≡ true
+  pub makes-one : frozen admitted j ≡ true → covered w found row (part from (raise t j)) ≡ false → childBy w from found row t admitted j ≡ true
   unfolding childBy
   makes-one e h = rw (e, h)
 
-  pub child-free : (b : Bool) (marks : ℕ) → frozen candidates j ≡ b && not (frozen marks j) → T (childBy w from found row t candidates j) → ¬ (T (frozen marks j))
-  unfolding childBy
+module _ (k : Kind) (q : ℕ) (s : State) (t : ℕ → ℕ) (candidates j : ℕ) where
+  pub closed-child : frozen candidates j ≡ false → childFor k q s t candidates j ≡ false
+  unfolding childFor
+  closed-child e = rw e
+
+  pub child-free : (b : Bool) (marks : ℕ) → frozen candidates j ≡ b && not (frozen marks j) → T (childFor k q s t candidates j) → ¬ (T (frozen marks j))
+  unfolding childFor
   child-free b marks e y z =
-      let (a, _) = and-parts (frozen candidates j) _ y in
-      let (_, n) = and-parts b (not (frozen marks j)) (rw e at a) in
+      let (a, _) = and-parts (frozen candidates j && secondOpen k q s (raise t j)) _ y in
+      let (c, _) = and-parts (frozen candidates j) _ a in
+      let (_, n) = and-parts b (not (frozen marks j)) (rw e at c) in
       T-not (frozen marks j) n z
 
--- whole rows: `candidates` has the unknowns that are not frozen and have a product below zero
-pub child-made : (q found : ℕ) (row : ℕ → ℕ → ℕ) (t : ℕ → ℕ) (candidates j : ℕ) (v : ℕ → ℤ) (marks : ℕ) → frozen candidates j ≡ ltZ (v j) (pos 0) && not (frozen marks j) → childBy q 0 found row t candidates j ≡ madeBy q found row t v marks j
-unfolding childBy madeBy
-child-made q found row t candidates j v marks e =
-    rw (e, covered-same q found row {x = part 0 (raise t j)} {y = raise t j} (λ i l. ap (raise t j) (zero-add i))) (and-swap (ltZ (v j) (pos 0)) (not (frozen marks j)) _)
+-- ---- what a test reads of a tuple: it is the same for tuples that agree below q, and reads nothing of the record but the counts
+
+part-row : (k : Kind) (x : ℕ → ℕ) (j : ℕ) → part (placeIn k) x j ≡ rowOf k x j
+part-row plain x j = ap x (zero-add j)
+part-row capped x j = ap x (omega arith)
+part-row (above f) x j = ap x (zero-add j)
+
+pub row-agrees : (k : Kind) (q : ℕ) {x y : ℕ → ℕ} → Same q x y → Same (rowWidth k q) (rowOf k x) (rowOf k y)
+row-agrees plain q e = e
+row-agrees capped q e = λ j l. e (suc j) (omega arith)
+row-agrees (above f) q e = e
+
+module _ (k : Kind) (q : ℕ) (s : State) where
+  first-same : {x y : ℕ → ℕ} → Same q x y → firstOpen k q s x ≡ firstOpen k q s y
+  first-same {x} {y} e = ap not (covered-same (rowWidth k q) (s .run .found) (listRow (rowWidth k q) s) {x = rowOf k x} {y = rowOf k y} (row-agrees k q e))
+
+second-same : (k : Kind) (q : ℕ) (s : State) {x y : ℕ → ℕ} → 0 < q → Same q x y → secondOpen k q s x ≡ secondOpen k q s y
+second-same plain q s some e = refl
+second-same capped q s {x} {y} some e =
+    rw (e 0 some, covered-same (q - 1) (s .run .found₂) (secondRow (q - 1) s) {x = rest x} {y = rest y} (row-agrees capped q e))
+second-same (above f) q s {x} {y} some e =
+    ap not (covered-same q (s .run .found₂) (secondRow q s) {x = λ j. x j - f j} {y = λ j. y j - f j} (λ j l. ap (λ z. z - f j) (e j l)))
+
+second-beside : (k : Kind) (q : ℕ) (s : State) (x : ℕ → ℕ) (kind : Run) (n n₂ d : ℕ) → secondOpen k q (beside s kind n n₂ d) x ≡ secondOpen k q s x
+second-beside plain q s x kind n n₂ d = refl
+second-beside capped q s x kind n n₂ d = refl
+second-beside (above f) q s x kind n n₂ d = refl
+
+pub child-beside : (k : Kind) (q : ℕ) (s : State) (t : ℕ → ℕ) (candidates j : ℕ) (kind : Run) (n n₂ d : ℕ) → childFor k q (beside s kind n n₂ d) t candidates j ≡ childFor k q s t candidates j
+unfolding childFor
+child-beside k q s t candidates j kind n n₂ d = ap (λ b. (frozen candidates j && b) && firstOpen k q s (raise t j)) (second-beside k q s (raise t j) kind n n₂ d)
+
+-- tuples that agree below q
+pub child-same : (k : Kind) (q : ℕ) (s : State) {t u : ℕ → ℕ} (candidates j : ℕ) → 0 < q → Same q t u → childFor k q s t candidates j ≡ childFor k q s u candidates j
+unfolding childFor
+child-same k q s {t} {u} candidates j some e =
+    let raised : Same q (raise t j) (raise u j) = λ i l. ap (λ y. y + unit j i) (e i l) in
+    ap₂ (λ a b. (frozen candidates j && a) && b) (second-same k q s some raised) (first-same k q s raised)
+
+-- the second list has left those of `admitted`
+pub child-open : (k : Kind) (q : ℕ) (s : State) (t : ℕ → ℕ) (candidates admitted j : ℕ) → frozen admitted j ≡ frozen candidates j && secondOpen k q s (raise t j) → childBy (rowWidth k q) (placeIn k) (s .run .found) (listRow (rowWidth k q) s) t admitted j ≡ childFor k q s t candidates j
+unfolding childBy childFor
+child-open k q s t candidates admitted j e =
+    ap₂ (λ a b. a && not b) e (covered-same (rowWidth k q) (s .run .found) (listRow (rowWidth k q) s) {x = part (placeIn k) (raise t j)} {y = rowOf k (raise t j)} (λ i l. part-row k (raise t j) i))
 
 -- ---- the rows of the children
 

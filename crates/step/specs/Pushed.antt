@@ -24,9 +24,10 @@ use Rattle.products.specs.Marks.{count-over, marks-add, marks-over, marks-room}
 use Rattle.step.specs.Scan.{Left, next-first, next-holds, next-inside, next-later, left-none}
 use Rattle.products.specs.Products.{SmallGram, Combined}
 use Rattle.step.specs.GrowLaws.{grow-over}
+use Rattle.step.specs.Totals.{Totals}
 
--- the row x at `level`, of which children are written, is on the stack, and its products are cached
-pub record Parent (q : ℕ) (g : List ℤ) (stack : List ℕ) (c : List ℤ) (level : ℕ) (x : ℕ → ℕ) (marks : ℕ) : Type 0 where
+-- the row x at `level`, of which children are written, is on the stack, and its products and its sum are kept
+pub record Parent (q : ℕ) (g : List ℤ) (stack : List ℕ) (c : List ℤ) (sums : List ℕ) (level : ℕ) (x : ℕ → ℕ) (marks : ℕ) : Type 0 where
   pub few : q ≤ mostUnknowns
   pub long : q * (q + 1) ≤ length stack
   pub small : Limited q x
@@ -34,6 +35,7 @@ pub record Parent (q : ℕ) (g : List ℤ) (stack : List ℕ) (c : List ℤ) (le
   pub gram : SmallGram q g
   pub row : RowIs q stack level x marks
   pub cached : Combined q g stack (level + 1) c
+  pub summed : Totals q stack (level + 1) sums
 
 module _ (q : ℕ) (stack : List ℕ) (level : ℕ) (x : ℕ → ℕ) (marks : ℕ) (f : ℕ → Bool) (first : ℕ) where
   -- the stack table, its height and the marks of the next child, after the unknowns 0 .. n - 1; the first child is yet to be written
@@ -107,17 +109,18 @@ module _ (q : ℕ) (stack : List ℕ) (level : ℕ) (x : ℕ → ℕ) (marks : �
     pushed-room small = omega (arith, at-next .next-marks, marks-room i f (marksTo i f) refl (omega (arith, next-inside left few some)), pow-mono {i = q} {j = 16} few)
 
   -- all but the first are written
-  pub record Others (g : List ℤ) (table : List ℕ) (c : List ℤ) (r : ℕ) : Type 0 where
+  pub record Others (g : List ℤ) (table : List ℕ) (c : List ℤ) (sums : List ℕ) (r : ℕ) : Type 0 where
     pub rows : writeRow q table level (raise x first) marks ≡ writeChildren q q stack level x marks f
     pub row : RowIs q table level x marks
     pub height : r ≡ level + countTo q f
     pub above : level < r
     pub cached : Combined q g table r c
+    pub summed : Totals q table r sums
 
-  pub others-written : {n : ℕ} {table : List ℕ} {h passed : ℕ} {g c : List ℤ} → Pushed n table h passed → Left q f n 0 → Combined q g table h c → Others g table c h
-  others-written {n} s left d =
+  pub others-written : {n : ℕ} {table : List ℕ} {h passed : ℕ} {g c : List ℤ} {sums : List ℕ} → Pushed n table h passed → Left q f n 0 → Combined q g table h c → Totals q table h sums → Others g table c sums h
+  others-written {n} s left d e =
       let t = pushed-over s q (left .few) (left-none left) in
-      record { rows = t .rows; row = t .row; height = t .height; above = t .above; cached = d }
+      record { rows = t .rows; row = t .row; height = t .height; above = t .above; cached = d; summed = e }
 
 -- component i of a row raised where it stands
 pub raise-row : (q : ℕ) (table : List ℕ) (k : ℕ) (x : ℕ → ℕ) (marks i : ℕ) → RowIs q table k x marks → i < q → set table (k * (q + 1) + i) (x i + 1) ≡ writeRow q table k (raise x i) marks

@@ -8,9 +8,9 @@ use lib.IntN.{ℤ}
 use Rattle.linear.specs.Tests.{allTo}
 use Rattle.linear.specs.TestLaws.{all-at, all-from, all-same, T-dec}
 use Rattle.linear.specs.Gram.{product-zero, zero-solution}
-use Rattle.definitions.specs.System.{System, coef, towards, isZero, solves}
+use Rattle.definitions.specs.System.{Kind, System, coef, towards, isZero, solves}
 use Rattle.laws.specs.SystemLaws.{solves-solution, fails-fails}
-use Rattle.calls.specs.Paper.{plainSystem}
+use Rattle.calls.specs.Paper.{systemWith}
 use Rattle.products.specs.Marks.{same-test}
 use Rattle.products.specs.Products.{Gram, Products}
 use Rattle.products.specs.ProductLaws.{combine-product}
@@ -29,9 +29,9 @@ solves-products m x = same-test (solves m x) _ to from
         elim (T-dec (solves m x)) [ inl y ↦ y | inr n ↦ let (i, l, ne) = fails-fails m x n in absurd (ne (s i l)) ]
 
 -- what `vanish` ensures, for every system that has this Gram matrix
-module _ {p q : ℕ} {coefs g : List ℤ} {x : ℕ → ℕ} {v : ℕ → ℤ} (h : Gram p q coefs g) (d : Products q g x v) (limit : ℕ) where
-  pub product-towards : (j : ℕ) → j < q → v j ≡ towards (plainSystem p q coefs limit) x j
+module _ {p q : ℕ} {coefs g : List ℤ} {x : ℕ → ℕ} {v : ℕ → ℤ} (h : Gram p q coefs g) (d : Products q g x v) (k : Kind) (limit : ℕ) where
+  pub product-towards : (j : ℕ) → j < q → v j ≡ towards (systemWith k p q coefs limit) x j
   product-towards j l = d .product j l ∙ combine-product h x j l
 
-  pub vanish-solves : allTo q (λ j. isZero (v j)) ≡ solves (plainSystem p q coefs limit) x
-  vanish-solves = all-same q _ _ (λ j l. ap isZero (product-towards j l)) ∙ sym (solves-products (plainSystem p q coefs limit) x)
+  pub vanish-solves : allTo q (λ j. isZero (v j)) ≡ solves (systemWith k p q coefs limit) x
+  vanish-solves = all-same q _ _ (λ j l. ap isZero (product-towards j l)) ∙ sym (solves-products (systemWith k p q coefs limit) x)

@@ -1,31 +1,37 @@
 -- A step's children, as code finds and writes them, are those of the state: with the top's tuple, inner products and children's marks in the
 -- hands of code, each test and each table is that of the definitions. Assumes nothing.
-use mathlib.Core.Path.{_≡_, refl, sym, _∙_}
-use mathlib.Core.Bool.{Bool, _&&_}
+use mathlib.Core.Path.{_≡_, sym, ap, _∙_}
+use mathlib.Core.Bool.{Bool, not, _&&_}
 use mathlib.Core.List.{List}
 use Prim.Native.Nat.{ℕ, zero, suc, _+_, _<_}
 use native.Mathlib.Numerals.{add-one}
 use lib.Dec.{ltb, eqb, eqb·suc-suc}
-use lib.IntN.{ℤ}
+use lib.IntN.{ℤ, pos}
+use lib.Signed.{ltZ}
 use Rattle.linear.specs.Tests.{anyTo, countTo}
 use Rattle.linear.specs.TestLaws.{any-same, count-same}
-use Rattle.linear.specs.Tuples.{Same}
+use Rattle.linear.specs.Tuples.{Same, raise}
 use Rattle.linear.specs.TupleLaws.{unit-same}
-use Rattle.definitions.specs.System.{System, towards}
-use Rattle.definitions.specs.Tables.{State, listRow}
+use Rattle.definitions.specs.System.{Kind, System, towards}
+use Rattle.definitions.specs.Tables.{State, frozen}
 use Rattle.definitions.specs.Step.{childrenTo, level, makes, top, topMarks, writeChildren}
 use Rattle.definitions.specs.Refusals.{tooLarge, tooHigh}
-use Rattle.calls.specs.Paper.{plainSystem}
-use Rattle.step.specs.Grow.{madeBy}
-use Rattle.step.specs.GrowLaws.{made-same, grow-same}
+use Rattle.laws.specs.StepLaws.{firstOpen, makes-parts, secondOpen}
+use Rattle.calls.specs.Paper.{systemWith}
+use Rattle.step.specs.Grow.{childFor}
+use Rattle.step.specs.GrowLaws.{child-same, grow-same}
 
-module _ (p q : ℕ) (coefs : List ℤ) (limit : ℕ) (s : State) where
+module _ (k : Kind) (p q : ℕ) (coefs : List ℤ) (limit : ℕ) (s : State) where
   abbrev m : System
-  m = plainSystem p q coefs limit
+  m = systemWith k p q coefs limit
 
-  pub makes-made : (j : ℕ) → makes m s j ≡ madeBy (m .q) (s .run .found) (listRow (m .q) s) (top m s) (towards m (top m s)) (topMarks m s) j
-  unfolding makes madeBy
-  makes-made j = refl
+  -- candidates are those unknowns that are not frozen and have an inner product below zero; t is the top's tuple
+  pub child-makes : (t : ℕ → ℕ) (candidates j : ℕ) → 0 < q → Same q t (top m s) → frozen candidates j ≡ ltZ (towards m (top m s) j) (pos 0) && not (frozen (topMarks m s) j) → childFor k q s t candidates j ≡ makes m s j
+  unfolding childFor
+  child-makes t candidates j some e c =
+      child-same k q s candidates j some e
+      ∙ ap (λ b. (b && secondOpen k q s (raise (top m s) j)) && firstOpen k q s (raise (top m s) j)) c
+      ∙ sym (makes-parts m s j)
 
   -- f says which unknowns make a child
   module _ {f : ℕ → Bool} (h : (j : ℕ) → j < m .q → f j ≡ makes m s j) where
@@ -38,14 +44,6 @@ module _ (p q : ℕ) (coefs : List ℤ) (limit : ℕ) (s : State) where
 
   -- t is the top's tuple
   module _ {t : ℕ → ℕ} (e : Same (m .q) t (top m s)) where
-    -- v are the top's inner products with the columns
-    module _ {v : ℕ → ℤ} (h : (j : ℕ) → j < m .q → v j ≡ towards m (top m s) j) where
-      abbrev made : ℕ → Bool
-      made = madeBy (m .q) (s .run .found) (listRow (m .q) s) t v (topMarks m s)
-
-      pub made-by : (j : ℕ) → j < m .q → made j ≡ makes m s j
-      made-by j l = made-same (m .q) (s .run .found) (listRow (m .q) s) (topMarks m s) e h j l ∙ sym (makes-made j)
-
     module _ {f : ℕ → Bool} (h : (j : ℕ) → j < m .q → f j ≡ makes m s j) where
       pub grown-by : writeChildren (m .q) (m .q) (s .stack) (level s) t (topMarks m s) f ≡ childrenTo (m .q) m s
       grown-by = grow-same (m .q) (m .q) (s .stack) (level s) (topMarks m s) e h

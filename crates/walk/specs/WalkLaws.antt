@@ -1,31 +1,39 @@
 -- The loop of the walk: what it keeps, a turn of it, and its ends. Assumes nothing.
 use mathlib.Core.Path.{_≡_, refl, sym, _∙_, ap}
 use mathlib.Core.Logic.{_≢_, inl, inr}
-use mathlib.Core.List.{List, []}
+use mathlib.Core.Bool.{Bool, true, false}
+use mathlib.Core.List.{List, [], _∷_}
 use Prim.Native.Nat.{ℕ, zero, suc, _+_, _-_, _≤_, _<_}
 use native.Mathlib.Omega.{arith}
 use lib.IntN.{ℤ, pos}
-use lib.ListN.{length, getD, replicate, List·getD-eq-default}
+use lib.ListN.{length, getD, set, length-set, replicate, List·getD-eq-default}
+use lib.Seq.{getD-set-same, getD-set-other}
 use native.Mathlib.Nat.{mul-le-mul-right, le-mul-of-pos-right}
+use native.Mathlib.Decide.{ℕ-discrete}
+use native.Mathlib.Numerals.{add-one}
 use Rattle.linear.specs.Cases.{split}
+use Rattle.linear.specs.Tuples.{total}
+use Rattle.linear.specs.TupleLaws.{total-most}
 use borrow.Author.Tests.{eq-eqb}
 use Rattle.definitions.specs.Answers.{complete, paused, refused, refuse, go, refuseWith, _then_}
 use Rattle.definitions.specs.Input.{Input, systemOf}
 use Rattle.definitions.specs.Machine.{walk}
-use Rattle.definitions.specs.System.{System}
-use Rattle.definitions.specs.Tables.{State}
-use Rattle.definitions.specs.Step.{step}
+use Rattle.definitions.specs.System.{Kind, System, above, capped, mostComponent, plain, solves}
+use Rattle.definitions.specs.Tables.{Run, State, at, capacity}
+use Rattle.definitions.specs.Step.{deeper, grown, listed, pick, step, toSecond, top, width}
 use Rattle.definitions.specs.Refusals.{stepLimit, searchChecks}
 use Rattle.definitions.specs.Calls.{machine}
 use Rattle.laws.specs.MachineLaws.{walk-done, walk-paused, walk-refused, walk-more}
-use Rattle.laws.specs.RefusalLaws.{Valid, search-going}
-use Rattle.laws.specs.ValidLaws.{step-valid, found-fits}
-use Rattle.calls.specs.Paper.{plainSystem, numberOf, valuesOf}
+use Rattle.laws.specs.RefusalLaws.{Going, SecondFits, Valid, search-going}
+use Rattle.laws.specs.ValidLaws.{rows-fit, step-valid}
+use Rattle.calls.specs.Paper.{systemWith, numberOf, valuesOf}
 use Rattle.calls.specs.declared.Refusal.{Refusal}
 use Rattle.step.specs.declared.Stepped.{Stepped}
-use Rattle.step.specs.declared.Stepped.the-variants.{Listed, Grown, Refused}
+use Rattle.step.specs.declared.Stepped.the-variants.{Listed, ListedSecond, Grown, Refused}
 use Rattle.products.specs.Products.{SmallCoefs, Gram, SmallGram, SmallRows, Combined, Zeros}
-use Rattle.step.specs.Taken.{Standing, stateAt, Taken}
+use Rattle.step.specs.Kinds.{asked, beside}
+use Rattle.step.specs.Taken.{Standing, Taken}
+use Rattle.step.specs.Totals.{Totals}
 
 -- a table as it is made
 pub blank-zeros : Zeros (replicate 256 (pos 0)) 0
@@ -58,10 +66,16 @@ small-rows {m} {s} v =
       small = λ k i l h. omega (arith, v .ordered .rows k l .small i h, v .shaped .limit-few);
     }
 
-pub standing : {p q : ℕ} {coefs : List ℤ} {limit : ℕ} {s : State} {g c : List ℤ} → Valid (plainSystem p q coefs limit) s → SmallGram q g → Combined q g (s .stack) (s .run .height) c → 0 < s .run .height → Standing limit q g (s .stack) (s .list) c (s .run .height) (s .run .found)
-standing v a d h =
+second-beside : (k : Kind) (q : ℕ) (s : State) (run : Run) (n n₂ d : ℕ) → SecondFits k q (beside s run n n₂ d) → SecondFits k q s
+second-beside plain q s run n n₂ d h = h
+second-beside capped q s run n n₂ d h = h
+second-beside (above f) q s run n n₂ d h = h
+
+pub standing : {k : Kind} {p q : ℕ} {coefs : List ℤ} {limit : ℕ} (s : State) (run : Run) (n n₂ d : ℕ) {g c : List ℤ} {sums : List ℕ} → Valid (systemWith k p q coefs limit) (beside s run n n₂ d) → SmallGram q g → Combined q g (s .stack) (s .run .height) c → Totals q (s .stack) (s .run .height) sums → 0 < s .run .height → Standing k limit q g s c sums
+standing {k} {p} {q} s run n n₂ d v a e t h =
     record {
       some = v .shaped .q-some;
+      wide = v .shaped .wide;
       few = v .shaped .q-few;
       high = h;
       low = v .ordered .height;
@@ -69,36 +83,37 @@ standing v a d h =
       rows = v .ordered .rows;
       bounded = v .shaped .limit-few;
       listed = v .ordered .found;
+      listed₂ = second-beside k q s run n n₂ d (v .ordered .found₂);
       gram = a;
-      cached = d;
+      cached = e;
+      summed = t;
     }
 
 -- ---- the loop
 
 -- After some turns the walk from s₀ has come to s, with this budget left, for every input of the system.
-pub record Walking (m : System) (g : List ℤ) (budget : ℕ) (s₀ : State) (left : ℕ) (s : State) (c : List ℤ) : Type 0 where
+pub record Walking (m : System) (g : List ℤ) (budget : ℕ) (s₀ : State) (left : ℕ) (s : State) (c : List ℤ) (sums : List ℕ) : Type 0 where
   pub valid : Valid m s
   pub cached : Combined (m .q) g (s .stack) (s .run .height) c
+  pub summed : Totals (m .q) (s .stack) (s .run .height) sums
   pub same : (i : Input) → systemOf i ≡ m → walk budget (machine i) s₀ ≡ walk left (machine i) s
 
 search-late : (m : System) (s : State) → s .run .steps ≡ stepLimit → searchChecks m s ≡ refuse 14 []
 unfolding searchChecks refuseWith _then_
 search-late m s e = rw (eq-eqb (s .run .steps) stepLimit e)
 
-module _ {m : System} {g : List ℤ} {budget : ℕ} {s₀ : State} {left : ℕ} {s : State} {c : List ℤ} (w : Walking m g budget s₀ left s c) where
-  another : 0 < left → left ≡ suc (left - 1)
-  another more = omega arith
-
-  pub goes-on : 0 < s .run .height → 0 < left → {next : State} {c′ : List ℤ} → searchChecks m s ≡ go → next ≡ step m s → Combined (m .q) g (next .stack) (next .run .height) c′ → Walking m g budget s₀ (left - 1) next c′
-  goes-on h more {next} f e d =
+module _ {m : System} {g : List ℤ} {budget : ℕ} {s₀ : State} {left : ℕ} {s : State} {c : List ℤ} {sums : List ℕ} (w : Walking m g budget s₀ left s c sums) where
+  goes-on : 0 < s .run .height → {less : ℕ} → left ≡ suc less → {next : State} {c′ : List ℤ} {sums′ : List ℕ} → searchChecks m s ≡ go → next ≡ step m s → Combined (m .q) g (next .stack) (next .run .height) c′ → Totals (m .q) (next .stack) (next .run .height) sums′ → Walking m g budget s₀ less next c′ sums′
+  goes-on h {less} more {next} f e d t =
       record {
         valid = rw e (step-valid m s (w .valid) h (search-going m s (w .valid .ordered) h f));
         cached = d;
+        summed = t;
         same = λ i is.
             w .same i is
-            ∙ ap (λ n. walk n (machine i) s) (another more)
-            ∙ walk-more (machine i) s (left - 1) h (ap (λ k. searchChecks k s) is ∙ f) .0
-            ∙ ap (walk (left - 1) (machine i)) (ap (λ k. step k s) is ∙ sym e);
+            ∙ ap (λ n. walk n (machine i) s) more
+            ∙ walk-more (machine i) s less h (ap (λ k. searchChecks k s) is ∙ f) .0
+            ∙ ap (walk less (machine i)) (ap (λ k. step k s) is ∙ sym e);
       }
 
   module _ (i : Input) (is : systemOf i ≡ m) where
@@ -109,31 +124,99 @@ module _ {m : System} {g : List ℤ} {budget : ℕ} {s₀ : State} {left : ℕ} 
       pub ends-paused : left ≡ 0 → walk budget (machine i) s₀ ≡ record { answer = paused; state = s }
       ends-paused e = w .same i is ∙ ap (λ n. walk n (machine i) s) e ∙ walk-paused (machine i) s h .0
 
-      ends-refused : 0 < left → {n : ℕ} {values : List ℕ} → searchChecks m s ≡ refuse n values → walk budget (machine i) s₀ ≡ record { answer = refused n values; state = s }
-      ends-refused more {n} {values} e =
-          w .same i is ∙ ap (λ k. walk k (machine i) s) (another more) ∙ walk-refused (machine i) s (left - 1) n values h (ap (λ k. searchChecks k s) is ∙ e) .0
+      ends-refused : {less : ℕ} → left ≡ suc less → {n : ℕ} {values : List ℕ} → searchChecks m s ≡ refuse n values → walk budget (machine i) s₀ ≡ record { answer = refused n values; state = s }
+      ends-refused {less} more {n} {values} e =
+          w .same i is ∙ ap (λ k. walk k (machine i) s) more ∙ walk-refused (machine i) s less n values h (ap (λ k. searchChecks k s) is ∙ e) .0
 
-      pub ends-late : 0 < left → s .run .steps ≡ stepLimit → walk budget (machine i) s₀ ≡ record { answer = refused 14 []; state = s }
+      pub ends-late : {less : ℕ} → left ≡ suc less → s .run .steps ≡ stepLimit → walk budget (machine i) s₀ ≡ record { answer = refused 14 []; state = s }
       ends-late more e = ends-refused more (search-late m s e)
+
+-- ---- the counts of the lists are places of slices
+
+count-fits : (w n : ℕ) (table : List ℕ) → 0 < w → n ≤ capacity w table → n ≤ length table
+count-fits w n table some h = omega (arith, rows-fit w n table some h, le-mul-of-pos-right n some)
+
+pub found-small : {m : System} {s : State} → Valid m s → s .run .found ≤ length (s .list)
+found-small {m} {s} v = count-fits (width m) (s .run .found) (s .list) (v .shaped .wide) (v .ordered .found)
+
+-- a step that counts one more row of the second list has had room there
+second-room : (m : System) (s : State) → Going m s → step m s .run .found₂ ≡ s .run .found₂ + 1 → s .run .found₂ < capacity (width m) (s .second)
+unfolding step listed grown
+second-room m s g e = of (solves m (top m s)) (toSecond (m .kind) (top m s)) refl refl e
+  where
+    of : (solved b : Bool) → solves m (top m s) ≡ solved → toSecond (m .kind) (top m s) ≡ b → pick (solves m (top m s)) (listed m s) (grown m s) .run .found₂ ≡ s .run .found₂ + 1 → s .run .found₂ < capacity (width m) (s .second)
+    of false b y z h = absurd (omega (arith, rw y at h))
+    of true false y z h = absurd (omega (arith, rw (y, z) at h))
+    of true true y z h = rw z at (g .roomy (rw y tt))
 
 -- ---- a turn, from what `take` ensures
 
-module _ {p q : ℕ} {coefs g : List ℤ} {limit budget left : ℕ} {s₀ : State} {stack list : List ℕ} {height found steps : ℕ} {c : List ℤ} (w : Walking (plainSystem p q coefs limit) g budget s₀ left (stateAt stack list height found steps) c) (gram : Gram p q coefs g) (h : 0 < height) (more : 0 < left) (early : steps ≢ stepLimit) {r : Stepped} {stack′ list′ : List ℕ} {c′ : List ℤ} (t : Taken limit q g stack list height found r stack′ list′ c′) where
-  pub turn-listed : r ≡ Listed → {height′ found′ : ℕ} → height′ ≡ height - 1 → found′ ≡ found + 1 → Walking (plainSystem p q coefs limit) g budget s₀ (left - 1) (stateAt stack′ list′ height′ found′ (steps + 1)) c′
-  turn-listed e eh ef =
-      let st = rw e at (t .steps p coefs gram steps early) in
-      rw (eh, ef) (goes-on w h more {next = stateAt stack′ list′ (height - 1) (found + 1) (steps + 1)} (st .checks) (st .leaves) (rw e at (t .cached)))
+module _ {k : Kind} {p q : ℕ} {coefs g : List ℤ} {limit budget left : ℕ} {s₀ : State} (s : State) (run : Run) (n n₂ d : ℕ) {c : List ℤ} {sums : List ℕ} (w : Walking (systemWith k p q coefs limit) g budget s₀ left (beside s run n n₂ d) c sums) (gram : Gram p q coefs g) (h : 0 < s .run .height) {less : ℕ} (more : left ≡ suc less) (early : n ≢ stepLimit) {r : Stepped} {stack list second : List ℕ} {c′ : List ℤ} {sums′ : List ℕ} (t : Taken k limit q g s r stack list second c′ sums′) where
+  abbrev m : System
+  m = systemWith k p q coefs limit
 
-  pub turn-grown : {n : ℕ} → r ≡ Grown n → {height′ found′ : ℕ} → height′ ≡ n → found′ ≡ found → Walking (plainSystem p q coefs limit) g budget s₀ (left - 1) (stateAt stack′ list′ height′ found′ (steps + 1)) c′
-  turn-grown {n} e eh ef =
-      let st = rw e at (t .steps p coefs gram steps early) in
-      rw (eh, ef) (goes-on w h more {next = stateAt stack′ list′ n found (steps + 1)} (st .checks) (st .leaves) (rw e at (t .cached)))
+  abbrev now : State
+  now = beside s run n n₂ d
 
-  pub turn-refused : (i : Input) → systemOf i ≡ plainSystem p q coefs limit → {why : Refusal} → r ≡ Refused why → walk budget (machine i) s₀ ≡ record { answer = refused (numberOf why) (valuesOf why); state = stateAt stack′ list′ height found steps }
+  abbrev deep : ℕ
+  deep = deeper q now (top m now)
+
+  -- the state that the step leaves, with these counts
+  abbrev left-by : ℕ → ℕ → ℕ → ℕ → State
+  left-by height found found₂ depth = beside (asked stack list second height found found₂) run (n + 1) n₂ depth
+
+  pub turn-listed : r ≡ Listed → {height found found₂ depth : ℕ} → height ≡ s .run .height - 1 → found ≡ s .run .found + 1 → found₂ ≡ s .run .found₂ → depth ≡ deep → Walking m g budget s₀ less (left-by height found found₂ depth) c′ sums′
+  turn-listed e eh ef e₂ ed =
+      let st = rw e at (t .steps p coefs gram run n n₂ d early) in
+      rw (eh, ef, e₂, ed) (goes-on w h more {next = left-by (s .run .height - 1) (s .run .found + 1) (s .run .found₂) deep} (st .checks) (st .leaves) (rw e at (t .cached)) (rw e at (t .summed)))
+
+  pub turn-listed₂ : r ≡ ListedSecond → {height found found₂ depth : ℕ} → height ≡ s .run .height - 1 → found ≡ s .run .found → found₂ ≡ s .run .found₂ + 1 → depth ≡ deep → Walking m g budget s₀ less (left-by height found found₂ depth) c′ sums′
+  turn-listed₂ e eh ef e₂ ed =
+      let st = rw e at (t .steps p coefs gram run n n₂ d early) in
+      rw (eh, ef, e₂, ed) (goes-on w h more {next = left-by (s .run .height - 1) (s .run .found) (s .run .found₂ + 1) deep} (st .checks) (st .leaves) (rw e at (t .cached)) (rw e at (t .summed)))
+
+  pub turn-grown : {rise : ℕ} → r ≡ Grown rise → {height found found₂ depth : ℕ} → height ≡ rise → found ≡ s .run .found → found₂ ≡ s .run .found₂ → depth ≡ deep → Walking m g budget s₀ less (left-by height found found₂ depth) c′ sums′
+  turn-grown {rise} e eh ef e₂ ed =
+      let st = rw e at (t .steps p coefs gram run n n₂ d early) in
+      rw (eh, ef, e₂, ed) (goes-on w h more {next = left-by rise (s .run .found) (s .run .found₂) deep} (st .checks) (st .leaves) (rw e at (t .cached)) (rw e at (t .summed)))
+
+  pub turn-refused : (i : Input) → systemOf i ≡ m → {why : Refusal} → r ≡ Refused why → walk budget (machine i) s₀ ≡ record { answer = refused (numberOf why) (valuesOf why); state = beside (asked stack list second (s .run .height) (s .run .found) (s .run .found₂)) run n n₂ d }
   turn-refused i is {why} e =
-      let st = rw e at (t .steps p coefs gram steps early) in
+      let st = rw e at (t .steps p coefs gram run n n₂ d early) in
       ends-refused w i is h more (st .checks) ∙ ap (λ x. record { answer = refused (numberOf why) (valuesOf why); state = x }) (sym (st .leaves))
 
--- the found count is one of a slice's places
-pub found-small : {p q : ℕ} {coefs : List ℤ} {limit : ℕ} {s : State} → Valid (plainSystem p q coefs limit) s → s .run .found ≤ length (s .list)
-found-small {p} {q} {coefs} {limit} {s} v = omega (arith, found-fits (plainSystem p q coefs limit) s v, le-mul-of-pos-right (s .run .found) (v .shaped .q-some))
+  -- one row more in the second list is still a place of it
+  pub second-small : r ≡ ListedSecond → s .run .found₂ + 1 ≤ length (s .second)
+  second-small e =
+      let st = rw e at (t .steps p coefs gram run n n₂ d early) in
+      let room = second-room m now (search-going m now (w .valid .ordered) h (st .checks)) (sym (ap (λ x. x .run .found₂) (st .leaves))) in
+      count-fits (width m) (s .run .found₂ + 1) (s .second) (w .valid .shaped .wide) (omega (arith, room))
+
+-- ---- a slice without places stays one
+
+pub empty-is : (l : List ℕ) → length l ≡ 0 → l ≡ []
+empty-is [] e = refl
+empty-is (x ∷ l) e = absurd (omega (arith, e))
+
+-- ---- the sums of the rows that a call finds
+
+pub totals-none : (q : ℕ) (stack sums : List ℕ) → length sums ≡ 16 → Totals q stack 0 sums
+totals-none q stack sums e = record { size = e; levels = λ k l. absurd (omega arith) }
+
+pub totals-next : {q : ℕ} {stack sums : List ℕ} {k sum : ℕ} → k < 16 → sum ≡ total (at stack (q + 1) k) q → Totals q stack k sums → Totals q stack (k + 1) (set sums k sum)
+totals-next {q} {stack} {sums} {k} {sum} l e t =
+    record {
+      size = length-set sums k sum ∙ t .size;
+      levels = λ n h. elim (ℕ-discrete n k) [
+        | yes is ↦ rw is (getD-set-same sums k sum 0 (omega (arith, t .size)) ∙ e)
+        | no ne ↦ getD-set-other sums k n sum 0 ne ∙ t .levels n (omega arith)
+      ];
+    }
+
+-- the sum of the first j components, and one more
+pub total-more : (x : ℕ → ℕ) (j : ℕ) {sum : ℕ} → sum ≡ total x j → sum + x j ≡ total x (j + 1)
+unfolding total
+total-more x j e = rw add-one (omega (arith, e))
+
+pub total-room : (x : ℕ → ℕ) (j : ℕ) → j ≤ 16 → ((i : ℕ) → i < j → x i ≤ mostComponent) → total x j ≤ 16000000
+total-room x j few small = omega (arith, total-most x j mostComponent small)

@@ -44,11 +44,11 @@ rows-holds : tie.Need-rows-holds Inv-loop μ-loop Inv-rows μ-rows
 rows-holds c = (refl, left-all leb _ _ _ _)
 
 sub-rest : tie.Need-sub-rest Inv-loop μ-loop Inv-rows μ-rows
-sub-rest c = left-long _ _ _ _ _ (c .before .rows .inv .1) (c .rows-test .taken)
+sub-rest c = left-long _ _ _ _ _ (c .before .rows .inv .1) (omega (arith, c .rows-test .taken))
 
 loop-holds : tie.Need-loop-holds Inv-loop μ-loop Inv-rows μ-rows
 unfolding allTo
-loop-holds c = (search needs, omega (arith, left-fits _ _ _ _ _ (c .before .rows .inv .1) (c .rows-test .taken)), refl)
+loop-holds c = (search needs, omega (arith, left-fits _ _ _ _ _ (c .before .rows .inv .1) (omega (arith, c .rows-test .taken))), refl)
 
 -- the number that is compared is component j
 component : (c : tie.Joined1 Inv-loop μ-loop Inv-rows μ-rows) → c .if1 .x ≡ tuple (now (c .before .before .before .before .before .before .args .t)) (c .before .before .loop .j)
@@ -72,7 +72,7 @@ shared-slice-read-if2 c = search needs
 rows-less : tie.Need-rows-less Inv-loop μ-loop Inv-rows μ-rows
 rows-less c =
     let r = c .before .before .before .before .before in
-    omega (arith, left-long _ _ _ _ _ (r .before .rows .inv .1) (r .rows-test .taken), r .before .before .before .pre .0)
+    omega (arith, left-long _ _ _ _ _ (r .before .rows .inv .1) (omega (arith, r .rows-test .taken)), r .before .before .before .pre .0)
 
 rows-again : tie.Need-rows-again Inv-loop μ-loop Inv-rows μ-rows
 rows-again c =
@@ -80,7 +80,7 @@ rows-again c =
     let l = b .before in
     let r = l .before .before in
     let a = r .before in
-    (a .rows .inv .0, left-next _ _ _ _ _ (a .rows .inv .1) (r .rows-test .taken) _ (l .loop-test .taken) (lt-leb _ _ (rw (component b) at (c .if2 .taken))))
+    (a .rows .inv .0, left-next _ _ _ _ _ (a .rows .inv .1) (omega (arith, r .rows-test .taken)) _ (l .loop-test .taken) (lt-leb _ _ (rw (component b) at (c .if2 .taken))))
 
 add-j : tie.Need-add-j Inv-loop μ-loop Inv-rows μ-rows
 add-j c = search needs
@@ -105,7 +105,7 @@ div-place c = search needs
 add-place : tie.Need-add-place Inv-loop μ-loop Inv-rows μ-rows
 add-place c =
     let r = c .before .before in
-    omega (arith, left-place _ _ _ _ _ (r .before .rows .inv .1) (r .rows-test .taken) (r .before .before .before .pre .0))
+    omega (arith, left-place _ _ _ _ _ (r .before .rows .inv .1) (omega (arith, r .rows-test .taken)) (r .before .before .before .pre .0))
 
 returns-2 : tie.Need-returns-2 Inv-loop μ-loop Inv-rows μ-rows
 unfolding highest isAtOrBelow
@@ -113,7 +113,7 @@ returns-2 c =
     let l = c .before in
     let r = l .before in
     let all = rw (le-antisymm (l .loop .inv .0) (c .loop-test .left)) at (l .loop .inv .2) in
-    left-here _ _ _ _ _ (r .before .rows .inv .1) (r .rows-test .taken) (r .before .before .before .pre .0) all
+    left-here _ _ _ _ _ (r .before .rows .inv .1) (omega (arith, r .rows-test .taken)) (r .before .before .before .pre .0) all
 
 pub highest-spec : {M : Type 1} → statement M
 highest-spec =

@@ -3,11 +3,11 @@ use borrow.Author.Needs.{needs}
 use Rattle.starts.proofs.begun.Statement.{statement}
 use Rattle.starts.proofs.begun.Tie as tie
 
-new-requires : tie.Need-new-requires
-new-requires c κs = search needs
+of-requires : tie.Need-of-requires
+of-requires c κs = search needs
 
 returns : tie.Need-returns
-returns c = rw (c .new .ensures)
+returns c = rw (c .of .ensures)
 
 pub begun-spec : {M : Type 1} → statement M
-begun-spec = tie.close (tie.spec new-requires returns)
+begun-spec = tie.close (tie.spec of-requires returns)

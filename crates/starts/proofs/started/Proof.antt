@@ -1,6 +1,6 @@
 -- `started` meets its contract: the check decides, and the rows written are those of the plain start. Assumes nothing.
 use borrow.Author.Needs.{needs}
-use Rattle.definitions.specs.Tables.{plainStart}
+use Rattle.definitions.specs.Tables.{unitsStart}
 use Rattle.definitions.specs.Calls.{start}
 use Rattle.laws.specs.RefusalLaws.{start-shaped}
 use Rattle.calls.specs.CallLaws.{call-refused, call-passed, passes}
@@ -49,7 +49,7 @@ same-length-4 : tie.Need-same-length-4
 same-length-4 c = search needs
 
 returns-2 : tie.Need-returns-2
-unfolding start plainStart
+unfolding start unitsStart
 returns-2 c =
     let w = c .before .before .before in
     let t = w .before .before in

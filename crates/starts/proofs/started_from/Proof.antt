@@ -1,4 +1,5 @@
 -- `started_from` meets its contract: the check decides, and the row written is the lower bound's. Assumes nothing.
+use mathlib.Core.Path.{refl}
 use native.Mathlib.Omega.{arith}
 use borrow.Author.Needs.{needs}
 use Rattle.definitions.specs.Tables.{lowerStart}
@@ -25,7 +26,7 @@ write-lower-requires : tie.Need-write-lower-requires
 write-lower-requires c κs =
     let t = c .before in
     let k = t .before .before in
-    let (g, len, less) = lower-shaped _ _ _ (passes (k .check-start-from .ensures) (t .enum-told .given .1)) in
+    let (g, len, less) = lower-shaped _ _ _ refl (passes (k .check-start-from .ensures) (t .enum-told .given .1)) in
     (first-row (g .q-some) (g .stack), omega (arith, len))
 
 begun-requires : tie.Need-begun-requires

@@ -1,30 +1,96 @@
--- `enlist` meets its contract. Assumes nothing.
+-- `enlist` meets its contract: the kind of the walk and the first component say which list it is. Assumes nothing.
 use native.Mathlib.Omega.{arith}
 use borrow.Author.Needs.{needs}
-use Rattle.step.specs.RowLaws.{room-fits}
-use Rattle.step.specs.Listing.{enlisted-none, enlisted-next}
+use Rattle.step.specs.Listing.{enlisted-plain, enlisted-zero, enlisted-one}
 use Rattle.step.proofs.enlist.Statement.{statement}
 use Rattle.step.proofs.enlist.Tie as tie
 
-div-if1 : tie.Need-div-if1
-div-if1 c = search needs
+enum-told : tie.Need-enum-told
+enum-told c = search needs
 
-returns : tie.Need-returns
-returns c = enlisted-none _ _ _ _ (c .if1 .taken)
+append-requires : tie.Need-append-requires
+append-requires c κs =
+    let e = c .before in
+    let s = e .before .before .before .before .before in
+    omega (arith, rw (e .enum-told .given .1) at (s .pre .0), s .pre .1)
 
-mul-write : tie.Need-mul-write
-mul-write c = omega (arith, room-fits _ _ _ (c .before .if1 .left))
+enum-told-2 : tie.Need-enum-told-2
+enum-told-2 c = search needs
 
-write-requires : tie.Need-write-requires
-write-requires c κs = omega (arith, room-fits _ _ _ (c .before .if1 .left))
+shared-slice-read-if1 : tie.Need-shared-slice-read-if1
+shared-slice-read-if1 c =
+    let e = c .before in
+    let s = e .before .before .before .before .before in
+    omega (arith, rw (e .enum-told2 .given .1) at (s .pre .0), s .pre .1)
+
+sub-append : tie.Need-sub-append
+sub-append c =
+    let e = c .before .before .before in
+    let s = e .before .before .before .before .before in
+    omega (arith, rw (e .enum-told2 .given .1) at (s .pre .0), s .pre .1)
+
+append-requires-2 : tie.Need-append-requires-2
+append-requires-2 c κs =
+    let e = c .before .before .before in
+    let s = e .before .before .before .before .before in
+    omega (arith, rw (e .enum-told2 .given .1) at (s .pre .0), s .pre .1)
 
 same-length : tie.Need-same-length
 same-length c = search needs
 
+returns : tie.Need-returns
+returns c =
+    let a = c .before .before in
+    let t = a .before .before in
+    let e = t .before .before in
+    rw (e .enum-told2 .given .1) (enlisted-zero _ _ _ (t .if1 .taken) (a .append2 .ensures))
+
+sub-append-2 : tie.Need-sub-append-2
+sub-append-2 c =
+    let e = c .before .before .before in
+    let s = e .before .before .before .before .before in
+    omega (arith, rw (e .enum-told2 .given .1) at (s .pre .0), s .pre .1)
+
+append-requires-3 : tie.Need-append-requires-3
+append-requires-3 c κs =
+    let e = c .before .before .before in
+    let s = e .before .before .before .before .before in
+    omega (arith, rw (e .enum-told2 .given .1) at (s .pre .0), s .pre .1)
+
+same-length-2 : tie.Need-same-length-2
+same-length-2 c = search needs
+
 returns-2 : tie.Need-returns-2
 returns-2 c =
-    let w = c .before .before in enlisted-next _ _ _ _ (w .before .before .if1 .left) (w .write .ensures)
+    let a = c .before .before in
+    let e = a .before .before in
+    rw (e .enum-told .given .1) (enlisted-plain _ _ _ (a .append .ensures))
+
+same-length-3 : tie.Need-same-length-3
+same-length-3 c = search needs
+
+returns-3 : tie.Need-returns-3
+returns-3 c =
+    let a = c .before .before in
+    let t = a .before .before in
+    let e = t .before .before in
+    rw (e .enum-told2 .given .1) (enlisted-one _ _ _ (omega (arith, t .if1 .left)) (a .append3 .ensures))
 
 pub enlist-spec : {M : Type 1} → statement M
 enlist-spec =
-    tie.close (tie.spec div-if1 returns mul-write write-requires same-length returns-2)
+    tie.close
+    (tie.spec
+    enum-told
+    append-requires
+    enum-told-2
+    shared-slice-read-if1
+    sub-append
+    append-requires-2
+    same-length
+    returns
+    sub-append-2
+    append-requires-3
+    same-length-2
+    returns-2
+    same-length-3
+    returns-3)

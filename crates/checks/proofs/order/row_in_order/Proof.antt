@@ -14,7 +14,7 @@ use Rattle.linear.specs.LoopLaws.{all-next, all-fails}
 use Rattle.laws.specs.MarkLaws.{count-frozen-fit}
 use Rattle.definitions.specs.Tables.{at}
 use Rattle.laws.specs.MarkLaws.{shift-one}
-use Rattle.definitions.specs.Refusals.{rowInOrder}
+use Rattle.definitions.specs.Refusals.{rowFits}
 use Rattle.checks.proofs.order.row_in_order.Statement.{statement}
 use Rattle.checks.proofs.order.row_in_order.Tie as tie
 
@@ -48,7 +48,7 @@ shared-slice-read-if1 : tie.Need-shared-slice-read-if1 Inv-loop μ-loop
 shared-slice-read-if1 c = search needs
 
 returns : tie.Need-returns Inv-loop μ-loop
-unfolding rowInOrder
+unfolding rowFits
 returns c =
     let l = c .before .before in
     let s = l .before .before .before .args in
@@ -84,7 +84,7 @@ whole : (c : tie.After-loop Inv-loop μ-loop)
 whole c = cc (le-antisymm (c .before .loop .inv .0) (c .loop-test .left))
 
 returns-2 : tie.Need-returns-2 Inv-loop μ-loop
-unfolding rowInOrder
+unfolding rowFits
 returns-2 c =
     let l = c .before .before in
     let s = l .before .before .before .args in
@@ -95,7 +95,7 @@ count-marks-requires : tie.Need-count-marks-requires Inv-loop μ-loop
 count-marks-requires c κs = search needs
 
 returns-3 : tie.Need-returns-3 Inv-loop μ-loop
-unfolding rowInOrder
+unfolding rowFits
 returns-3 c =
     let l = c .before .before .before in
     let q = l .before .before .before .args .q in

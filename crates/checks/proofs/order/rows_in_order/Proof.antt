@@ -9,12 +9,12 @@ use borrow.Author.Tests.{not-true, not-false}
 use Rattle.linear.specs.Tests.{allTo}
 use Rattle.linear.specs.LoopLaws.{all-next, all-fails}
 use Rattle.laws.specs.TableLaws.{row-fits}
-use Rattle.definitions.specs.Refusals.{rowInOrder}
+use Rattle.definitions.specs.Refusals.{rowFits}
 use Rattle.checks.proofs.order.rows_in_order.Statement.{statement}
 use Rattle.checks.proofs.order.rows_in_order.Tie as tie
 
 abbrev Inv-loop : tie.InvT-loop
-Inv-loop q stack height limit k₀ k = (k ≤ height) × (allTo k (rowInOrder limit q stack) ≡ true)
+Inv-loop q stack height limit k₀ k = (k ≤ height) × (allTo k (rowFits limit q stack) ≡ true)
 
 abbrev μ-loop : tie.MeasureT-loop
 μ-loop q stack height limit k₀ k = height - k

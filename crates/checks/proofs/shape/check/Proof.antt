@@ -1,5 +1,5 @@
 -- `checks::shape::check` meets its contract: each test decides the first check that refuses. Assumes nothing.
-use Prim.Native.Nat.{ℕ, _+_, _*_, _≤_}
+use Prim.Native.Nat.{ℕ, _+_, _*_, _-_, _≤_}
 use mathlib.Core.Bool.{true}
 use mathlib.Core.Path.{_≡_}
 use native.Mathlib.Nat.{mul-le-mul}
@@ -27,11 +27,14 @@ returns-3 : tie.Need-returns-3
 unfolding shapeChecks refuseWith _then_
 returns-3 c = let s = c .before .before .before .args in rw (in-range 8 (s .p) (omega arith) (omega arith), lt-leb 1 (s .q) (c .if3 .taken))
 
+sub-if4 : tie.Need-sub-if4
+sub-if4 c = search needs
+
 returns-4 : tie.Need-returns-4
 unfolding shapeChecks refuseWith _then_
 returns-4 c =
     let s = c .before .before .before .before .args in
-    rw (in-range 8 (s .p) (omega arith) (omega arith), le-leb 1 (s .q) (omega arith), lt-leb (s .q) 16 (c .if4 .taken))
+    rw (in-range 8 (s .p) (omega arith) (omega arith), le-leb 1 (s .q) (omega arith), lt-leb (s .q) (16 - s .extra) (c .if4 .taken))
 
 mul-if5 : tie.Need-mul-if5
 mul-if5 c = let s = c .before .before .before .before .args in omega (arith, mul-le-mul {n₁ = s .p} {m₁ = s .q} {n₂ = 8} {m₂ = 16} (omega arith) (omega arith))
@@ -40,15 +43,7 @@ returns-5 : tie.Need-returns-5
 unfolding shapeChecks refuseWith _then_
 returns-5 c =
     let s = c .before .before .before .before .before .args in
-    rw (in-range 8 (s .p) (omega arith) (omega arith), in-range 16 (s .q) (omega arith) (omega arith), ne-eqb (s .coefs) (s .p * s .q) (c .if5 .taken))
-
-add-if6 : tie.Need-add-if6
-add-if6 c = search needs
-
-mul-if6 : tie.Need-mul-if6
-mul-if6 c =
-    let s = c .before .before .before .before .before .args in
-    omega (arith, mul-le-mul {n₁ = s .q} {m₁ = s .q + 1} {n₂ = 16} {m₂ = 17} (omega arith) (omega arith))
+    rw (in-range 8 (s .p) (omega arith) (omega arith), in-range (16 - s .extra) (s .q) (omega arith) (omega arith), ne-eqb (s .coefs) (s .p * s .q) (c .if5 .taken))
 
 returns-6 : tie.Need-returns-6
 unfolding shapeChecks refuseWith _then_
@@ -56,20 +51,44 @@ returns-6 c =
     let s = c .before .before .before .before .before .before .args in
     rw (
       in-range 8 (s .p) (omega arith) (omega arith),
-      in-range 16 (s .q) (omega arith) (omega arith),
+      in-range (16 - s .extra) (s .q) (omega arith) (omega arith),
       eq-eqb (s .coefs) (s .p * s .q) (c .before .if5 .left),
-      lt-ltb (s .stack) (s .q * (s .q + 1)) (c .if6 .taken),
+      ne-eqb (s .sides) (s .p) (c .if6 .taken),
     )
+
+add-wide : tie.Need-add-wide
+add-wide c = search needs
+
+add-if7 : tie.Need-add-if7
+add-if7 c = search needs
+
+mul-if7 : tie.Need-mul-if7
+mul-if7 c =
+    let s = c .before .before .before .before .before .before .args in
+    omega (arith, mul-le-mul {n₁ = s .q + s .extra} {m₁ = s .q + s .extra + 1} {n₂ = 16} {m₂ = 17} (omega arith) (omega arith))
 
 returns-7 : tie.Need-returns-7
 unfolding shapeChecks refuseWith _then_
 returns-7 c =
-    let s = c .before .before .before .before .before .before .args in
+    let s = c .before .before .before .before .before .before .before .args in
     rw (
       in-range 8 (s .p) (omega arith) (omega arith),
-      in-range 16 (s .q) (omega arith) (omega arith),
-      eq-eqb (s .coefs) (s .p * s .q) (c .before .if5 .left),
-      le-ltb (s .stack) (s .q * (s .q + 1)) (c .if6 .left),
+      in-range (16 - s .extra) (s .q) (omega arith) (omega arith),
+      eq-eqb (s .coefs) (s .p * s .q) (c .before .before .if5 .left),
+      eq-eqb (s .sides) (s .p) (c .before .if6 .left),
+      lt-ltb (s .stack) ((s .q + s .extra) * (s .q + s .extra + 1)) (c .if7 .taken),
+    )
+
+returns-8 : tie.Need-returns-8
+unfolding shapeChecks refuseWith _then_
+returns-8 c =
+    let s = c .before .before .before .before .before .before .before .args in
+    rw (
+      in-range 8 (s .p) (omega arith) (omega arith),
+      in-range (16 - s .extra) (s .q) (omega arith) (omega arith),
+      eq-eqb (s .coefs) (s .p * s .q) (c .before .before .if5 .left),
+      eq-eqb (s .sides) (s .p) (c .before .if6 .left),
+      le-ltb (s .stack) ((s .q + s .extra) * (s .q + s .extra + 1)) (c .if7 .left),
     )
 
 pub check-spec : {M : Type 1} → statement M
@@ -79,10 +98,13 @@ check-spec =
     returns
     returns-2
     returns-3
+    sub-if4
     returns-4
     mul-if5
     returns-5
-    add-if6
-    mul-if6
     returns-6
-    returns-7)
+    add-wide
+    add-if7
+    mul-if7
+    returns-7
+    returns-8)

@@ -2,7 +2,7 @@
 use Prim.Native.Nat.{ℕ}
 use mathlib.Core.Bool.{not}
 use mathlib.Core.List.{List}
-use mathlib.Core.Path.{_≡_, _∙_}
+use mathlib.Core.Path.{_≡_, _∙_, ap}
 use native.Mathlib.Omega.{arith}
 use lib.Dec.{eqb}
 use lib.ListN.{length}
@@ -11,8 +11,7 @@ use borrow.Author.Needs.{needs}
 use borrow.Author.Tests.{eq-eqb, ne-eqb}
 use Rattle.definitions.specs.Answers.{Check, refuseWith, refuseIf, _then_}
 use Rattle.definitions.specs.Refusals.{check5, check7, check8}
-use Rattle.definitions.specs.Input.{inputOf}
-use Rattle.definitions.specs.System.{mostComponent}
+use Rattle.definitions.specs.Input.{alone, inputWith, limitOf}
 use Rattle.checks.specs.CheckLaws.{refused-first, passed-first}
 use Rattle.checks.specs.Shape.{lowerAboveLimit}
 use Rattle.checks.proofs.shape.check_lower.Statement.{statement}
@@ -35,6 +34,9 @@ enum-known-why c = search needs
 enum-told : tie.Need-enum-told
 enum-told c = search needs
 
+limit-of-requires : tie.Need-limit-of-requires
+limit-of-requires c κs = search needs
+
 lower-above-limit-requires : tie.Need-lower-above-limit-requires
 lower-above-limit-requires c κs = search needs
 
@@ -47,31 +49,31 @@ returns-2 c p =
     ∙ right-length (now (s .lower)) (s .q) _ (e .if1 .left)
 
 abbrev startOf : tie.After-lower-above-limit → tie.Start
-startOf c = c .before .before .before .before .before .before
+startOf c = c .before .before .before .before .before .before .before
 
 -- neither 5 nor 7 refuses, so that what comes last decides
 last-decides : (c : tie.After-lower-above-limit) (p : ℕ) (last : Check)
     → last
-    ≡ check5 (inputOf p (startOf c .args .q) (now (startOf c .args .coefs))) (now (startOf c .args .lower))
-    then check7 (inputOf p (startOf c .args .q) (now (startOf c .args .coefs)))
+    ≡ check5 (inputWith alone (startOf c .args .limit) p (startOf c .args .q) (now (startOf c .args .coefs))) (now (startOf c .args .lower))
+    then check7 (inputWith alone (startOf c .args .limit) p (startOf c .args .q) (now (startOf c .args .coefs)))
     then last
 unfolding check7
 last-decides c p last =
-    let e = c .before .before .before .before in
-    passed-first last (c .before .enum-told .given .1) (c .before .before .before .check .ensures)
+    let e = c .before .before .before .before .before in
+    passed-first last (c .before .before .enum-told .given .1) (c .before .before .before .before .check .ensures)
     ∙ right-length (now (startOf c .args .lower)) (startOf c .args .q) _ (e .if1 .left)
 
 -- that is the test of 8
-last-tests : (b : tie.After-lower-above-limit) → b .lower-above-limit .result ≡ lowerAboveLimit mostComponent (now (startOf b .args .lower))
-last-tests b = b .lower-above-limit .ensures
+last-tests : (b : tie.After-lower-above-limit) → b .lower-above-limit .result ≡ lowerAboveLimit (limitOf (startOf b .args .limit)) (now (startOf b .args .lower))
+last-tests b = b .lower-above-limit .ensures ∙ ap (λ l. lowerAboveLimit l (now (startOf b .args .lower))) (b .before .limit-of .ensures)
 
 returns-3 : tie.Need-returns-3
 unfolding refuseWith
-returns-3 c p = let b = c .before in rw (← last-decides b p (check8 (inputOf p (startOf b .args .q) (now (startOf b .args .coefs))) (now (startOf b .args .lower))), ← last-tests b, c .if2 .taken)
+returns-3 c p = let b = c .before in rw (← last-decides b p (check8 (inputWith alone (startOf b .args .limit) p (startOf b .args .q) (now (startOf b .args .coefs))) (now (startOf b .args .lower))), ← last-tests b, c .if2 .taken)
 
 returns-4 : tie.Need-returns-4
 unfolding refuseWith
-returns-4 c p = let b = c .before in rw (← last-decides b p (check8 (inputOf p (startOf b .args .q) (now (startOf b .args .coefs))) (now (startOf b .args .lower))), ← last-tests b, c .if2 .left)
+returns-4 c p = let b = c .before in rw (← last-decides b p (check8 (inputWith alone (startOf b .args .limit) p (startOf b .args .q) (now (startOf b .args .coefs))) (now (startOf b .args .lower))), ← last-tests b, c .if2 .left)
 
 pub check-lower-spec : {M : Type 1} → statement M
 check-lower-spec =
@@ -81,6 +83,7 @@ check-lower-spec =
     check-requires
     enum-known-why
     enum-told
+    limit-of-requires
     lower-above-limit-requires
     returns-2
     returns-3

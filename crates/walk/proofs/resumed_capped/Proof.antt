@@ -1,0 +1,130 @@
+-- `resumed_capped` meets its contract: the walk goes through the extended system. Assumes nothing.
+use mathlib.Core.Path.{_≡_, refl, sym, subst, _∙_, ap}
+use Prim.Native.Nat.{_+_, _*_}
+use native.Mathlib.Nat.{mul-le-mul-right}
+use native.Mathlib.Omega.{arith}
+use borrow.Author.Needs.{needs}
+use lib.ListN.{length-take}
+use denote.Ref.{now}
+use Rattle.definitions.specs.Input.{inputWith, rights}
+use Rattle.definitions.specs.Machine.{call}
+use Rattle.laws.specs.RefusalLaws.{Handed, Valid, resume-handed, resume-valid}
+use Rattle.calls.specs.CallLaws.{call-refused, call-passed, passes}
+use Rattle.calls.specs.Paper.{stateWith}
+use Rattle.walk.specs.ExtendLaws.{Sided, extended-system, handed-sided, table-fits}
+use Rattle.walk.proofs.resumed_capped.Statement.{statement}
+use Rattle.walk.proofs.resumed_capped.Tie as tie
+
+check-resume-capped-requires : tie.Need-check-resume-capped-requires
+check-resume-capped-requires c κs = search needs
+
+enum-known-why : tie.Need-enum-known-why
+enum-known-why c = search needs
+
+refused-requires : tie.Need-refused-requires
+refused-requires c κs = search needs
+
+enum-told : tie.Need-enum-told
+enum-told c = search needs
+
+limit-of-requires : tie.Need-limit-of-requires
+limit-of-requires c κs = search needs
+
+-- what is known once the check has passed
+module _ (t : tie.After-enum-told) where
+  abbrev k : tie.After-check-resume-capped
+  k = t .before .before
+
+  abbrev s : tie.Start
+  s = k .before .before .before .before .before .before .before
+
+  handed : Handed (inputWith (rights (now (s .args .rights))) (s .args .limit) (s .args .p) (s .args .q) (now (s .args .coefs)))
+  handed = resume-handed _ _ (passes (k .check-resume-capped .ensures) (t .enum-told .given .1))
+
+  sided : Sided (s .args .p) (s .args .q) (now (s .args .coefs)) (now (s .args .rights))
+  sided = handed-sided handed
+
+write-requires : tie.Need-write-requires
+write-requires c κs = (sided (c .before .before), refl)
+
+add-walk : tie.Need-add-walk
+add-walk c = omega (arith, sided (c .before .before .before) .few)
+
+add-wide : tie.Need-add-wide
+add-wide c = omega (arith, sided (c .before .before .before) .few)
+
+mul-wide : tie.Need-mul-wide
+mul-wide c = omega (arith, table-fits (sided (c .before .before .before)))
+
+array-share-prefix-wide : tie.Need-array-share-prefix-wide
+array-share-prefix-wide c = omega (arith, table-fits (sided (c .before .before .before)), c .write .ensures .size)
+
+slice-aggregate-walk : tie.Need-slice-aggregate-walk
+slice-aggregate-walk c = let w = c .before in simp length-take (omega (arith, table-fits (sided (w .before .before .before)), w .write .ensures .size))
+
+walk-requires : tie.Need-walk-requires
+walk-requires c κs =
+    let w = c .before .before .before .before in
+    let m = w .before .before in
+    let t = m .before in
+    let a = s t .args in
+    subst (λ x. Valid x (stateWith (now (a .stack)) (now (a .list)) (now (a .second)) (a .r))) (extended-system (handed t) (w .write .ensures) (m .limit-of .ensures)) (resume-valid _ _ (passes (k t .check-resume-capped .ensures) (t .enum-told .given .1)))
+
+same-length : tie.Need-same-length
+same-length c = search needs
+
+same-length-2 : tie.Need-same-length-2
+same-length-2 c = search needs
+
+same-length-3 : tie.Need-same-length-3
+same-length-3 c = search needs
+
+returns : tie.Need-returns
+unfolding call
+returns c =
+    let w = c .before .before in
+    let k = w .before .before in
+    rw (c .refused .ensures) (call-refused (k .check-resume-capped .ensures) _ _ (w .why .given .1))
+
+same-length-4 : tie.Need-same-length-4
+same-length-4 c = search needs
+
+same-length-5 : tie.Need-same-length-5
+same-length-5 c = search needs
+
+same-length-6 : tie.Need-same-length-6
+same-length-6 c = search needs
+
+returns-2 : tie.Need-returns-2
+unfolding call
+returns-2 c =
+    let x = c .before .before .before .before .before .before in
+    let w = x .before .before .before .before .before in
+    let m = w .before .before in
+    let t = m .before in
+    call-passed (k t .check-resume-capped .ensures) _ _ (t .enum-told .given .1) (x .walk .ensures _ (extended-system (handed t) (w .write .ensures) (m .limit-of .ensures)))
+
+pub resumed-capped-spec : {M : Type 1} → statement M
+resumed-capped-spec =
+    tie.close
+    (tie.spec
+    check-resume-capped-requires
+    enum-known-why
+    refused-requires
+    enum-told
+    limit-of-requires
+    write-requires
+    add-walk
+    add-wide
+    mul-wide
+    array-share-prefix-wide
+    slice-aggregate-walk
+    walk-requires
+    same-length
+    same-length-2
+    same-length-3
+    returns
+    same-length-4
+    same-length-5
+    same-length-6
+    returns-2)
