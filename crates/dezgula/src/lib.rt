@@ -1,31 +1,24 @@
-// The solver as C and Rust call it; include/dezgula.h says the same to them. The run record comes as words (specs/Words.antt), and an answer goes out as
-// one number (specs/Codes.antt).
+// The solver as C and Rust call it; include/dezgula.h says the same to them. Each function forwards to a crate that holds its logic. The run record comes as
+// words (record_words/specs/Words.antt), and an answer goes out as one number (record_words/specs/Codes.antt).
 ghost use mathlib.Core.Path.{_≡_};
-ghost use Prim.Native.Nat.{ℕ, _^_, _<_};
-ghost use mathlib.Core.Bool.{not, _||_};
-ghost use mathlib.Core.Logic.{_≢_};
-ghost use lib.Dec.{eqb};
-ghost use lib.ListN.{length};
 ghost use Rattle.definitions.specs.Highest.{locate};
 ghost use Rattle.definitions.specs.Input.{inputOf};
-ghost use Rattle.calls.specs.Paper.{answerOf};
-ghost use Rattle.dispatch_words.specs.Words.{dispatchWords};
 ghost use Rattle.definitions.specs.Reasons.{reason};
+ghost use Rattle.dispatch_words.specs.Words.{dispatchWords};
 ghost use Rattle.lookups.specs.Answers.{locatedNumber};
 ghost use Rattle.reasons.specs.Numbers.{reasonAmount, reasonNumber, reasonPlace};
-ghost use Rattle.dezgula.specs.Codes.{code};
-ghost use Rattle.dezgula.specs.Words.{told, wordsLeft, startWords, startFromWords, resumeWords};
-ghost use Rattle.dezgula.specs.Rows.{rowTold};
+ghost use Rattle.record_words.specs.Words.{told, startWords, startFromWords, resumeWords};
+ghost use Rattle.row_words.specs.Rows.{rowTold};
+ghost use Rattle.map_words.specs.Words.{readWords};
+ghost use Rattle.pair_lists.specs.Calling.{roomOf};
+ghost use Rattle.pair_words.specs.Words.{startWords as pairsStartWords, resumeWords as pairsResumeWords, told as pairsTold};
+ghost use Rattle.multiples_form.specs.Parts.{decomposed};
+ghost use Rattle.multiples.specs.Answers.{partsTold};
 ghost use Rattle.single_file.specs.Listing.{listingCall};
-ghost use Rattle.dezgula.specs.SingleFile.{singleStartWords, singleResumeWords, listingTold};
-use calls::Check;
-use calls::Outcome;
+ghost use Rattle.single_words.specs.SingleFile.{singleStartWords, singleResumeWords, listingTold};
 
-mod answers; // answers.rt: an answer as one number
+mod equations; // equations.rt: typed equations
 mod files; // files.rt: lists as files
-mod rows; // rows.rt: reading a row
-mod single; // single.rt: single-file maps
-mod words; // words.rt: the run record as words
 
 // The plain start.
 #[no_mangle]
@@ -40,12 +33,7 @@ pub extern "C" fn dezgula_raw_start(
     ensures { λ a. ⌜ (a, (now (stack .exit), (now (list .exit), now (run .exit)))) ≡
         told (now (run .entry)) (startWords (now (run .entry)) (inputOf p q (now (coefs .entry))) (now (stack .entry)) (now (list .entry))) ⌝ }
 {
-    if run.len() == 3 {
-        let r = words::read(run);
-        let o = starts::started(p, q, coefs, stack, list, r);
-        return tell(o, run);
-    }
-    misfit(p, q, coefs, stack, list, run)
+    call_words::start(p, q, coefs, stack, list, run)
 }
 
 // The start from a lower bound.
@@ -63,12 +51,7 @@ pub extern "C" fn dezgula_raw_start_from(
         told (now (run .entry))
         (startFromWords (now (lower .entry)) (now (run .entry)) (inputOf p q (now (coefs .entry))) (now (stack .entry)) (now (list .entry))) ⌝ }
 {
-    if starts_from(run.len(), lower.len(), q) {
-        let r = words::read(run);
-        let o = starts::started_from(p, q, coefs, stack, list, r, lower);
-        return tell(o, run);
-    }
-    misfit(p, q, coefs, stack, list, run)
+    call_words::start_from(p, q, coefs, stack, list, run, lower)
 }
 
 // The continuing call.
@@ -85,12 +68,7 @@ pub extern "C" fn dezgula_raw_resume(
     ensures { λ a. ⌜ (a, (now (stack .exit), (now (list .exit), now (run .exit)))) ≡
         told (now (run .entry)) (resumeWords budget (now (run .entry)) (inputOf p q (now (coefs .entry))) (now (stack .entry)) (now (list .entry))) ⌝ }
 {
-    if run.len() == 3 {
-        let r = words::read(run);
-        let o = walk::resumed(p, q, coefs, stack, list, r, budget);
-        return tell(o, run);
-    }
-    misfit(p, q, coefs, stack, list, run)
+    call_words::resume(p, q, coefs, stack, list, run, budget)
 }
 
 // Row n of a finished list, copied to the beginning of `out`.
@@ -104,7 +82,7 @@ pub extern "C" fn dezgula_raw_row(
 ) -> u64
     ensures { λ a. ⌜ (a, now (out .exit)) ≡ rowTold q (now (list .entry)) found n (now (out .entry)) ⌝ }
 {
-    rows::tell(list, q, found, n, out)
+    row_words::tell(list, q, found, n, out)
 }
 
 // The plain start of a single-file map.
@@ -120,7 +98,7 @@ pub extern "C" fn dezgula_raw_start_single_file(
     ensures { λ a. ⌜ (a, (now (stack .exit), (now (list .exit), now (run .exit)))) ≡
         told (now (run .entry)) (singleStartWords (now (run .entry)) (inputOf p q (now (coefs .entry))) (now (stack .entry)) (now (list .entry))) ⌝ }
 {
-    single::start(p, q, coefs, stack, list, run)
+    single_words::start(p, q, coefs, stack, list, run)
 }
 
 // The continuing call of a single-file map.
@@ -137,7 +115,7 @@ pub extern "C" fn dezgula_raw_resume_single_file(
     ensures { λ a. ⌜ (a, (now (stack .exit), (now (list .exit), now (run .exit)))) ≡
         told (now (run .entry)) (singleResumeWords budget (now (run .entry)) (inputOf p q (now (coefs .entry))) (now (stack .entry)) (now (list .entry))) ⌝ }
 {
-    single::resume(p, q, coefs, stack, list, run, budget)
+    single_words::resume(p, q, coefs, stack, list, run, budget)
 }
 
 // The listing of a single-file map.
@@ -152,7 +130,7 @@ pub extern "C" fn dezgula_raw_listing(
 ) -> u64
     ensures { λ a. ⌜ (a, now (out .exit)) ≡ listingTold (listingCall (inputOf p q (now (coefs .entry))) (now (list .entry)) found (now (out .entry))) ⌝ }
 {
-    single::listed(p, q, coefs, list, found, out)
+    single_words::listed(p, q, coefs, list, found, out)
 }
 
 // Up to eight runs at a time.
@@ -226,37 +204,72 @@ pub extern "C" fn dezgula_raw_reason_amount(
     reasons::told::amount(p, q, coefs, list, found, tuple)
 }
 
-// Whether a start from a lower bound is answered by its own checks, as it is where the lower bound is refused before the words of the record are looked at.
-fn starts_from(words: usize, lower: usize, q: usize) -> bool
-    ensures { λ b. ⌜ b ≡ (eqb words 3 || not (eqb lower q)) ⌝ }
+// What a solution is made of: how often each row is taken goes to `times`.
+#[no_mangle]
+pub extern "C" fn dezgula_raw_decompose(
+    p: usize,
+    q: usize,
+    coefs: &[i32],
+    list: &[u32],
+    found: usize,
+    tuple: &[u32],
+    times: &mut [u32],
+) -> u64
+    ensures { λ a. ⌜ (a, now (times .exit)) ≡
+        partsTold (decomposed (inputOf p q (now (coefs .entry))) (now (list .entry)) found (now (tuple .entry)) (now (times .entry))) ⌝ }
 {
-    if words == 3 {
-        return true;
-    }
-    lower != q
+    multiples::decompose_number(p, q, coefs, list, found, tuple, times)
 }
 
-// What a call is told whose record has another number of words. Nothing is written.
-fn misfit(p: usize, q: usize, coefs: &[i32], stack: &[u32], list: &[u32], run: &[u64]) -> u64
-    requires { ⌜ length (now run) ≢ 3 ⌝ }
-    ensures { λ a. ⌜ ((budget : ℕ) → (a, (now (stack .entry), (now (list .entry), now (run .entry)))) ≡
-        told (now (run .entry)) (resumeWords budget (now (run .entry)) (inputOf p q (now (coefs .entry))) (now (stack .entry)) (now (list .entry)))) ⌝ }
+// ---- the basis by sums of pairs (crate pair_words)
+
+// The start.
+#[no_mangle]
+pub extern "C" fn dezgula_raw_pairs_start(
+    p: usize,
+    q: usize,
+    coefs: &[i32],
+    table: &mut [u32],
+    supports: &[u32],
+    values: &[i64],
+    run: &mut [u64],
+) -> u64
+    ensures { λ a. ⌜ (a, (now (table .exit), now (run .exit))) ≡
+        pairsTold (now (run .entry))
+        (pairsStartWords p q (now (coefs .entry)) (roomOf q (now (table .entry)) (now (supports .entry)) (now (values .entry))) (now (table .entry))
+        (now (run .entry))) ⌝ }
 {
-    let r = words::read(run);
-    match checks::check_resume(p, q, coefs, stack, list, r) {
-        Check::Refuse(why) => answers::refusal(why),
-        Check::Pass => 6,
-    }
+    pair_words::start(p, q, coefs, table, supports, values, run)
 }
 
-// Puts the run record back, and gives the answer as a number.
-fn tell(o: Outcome, run: &mut [u64]) -> u64
-    requires { ⌜ code (answerOf (o .answer)) < 2 ^ 64 ⌝ }
-    ensures { λ a. ⌜ a ≡ code (answerOf (o .answer)) ⌝ }
-    ensures { λ _. ⌜ now (run .exit) ≡ wordsLeft (now (run .entry)) (o .run .height) (o .run .found .0) (o .run .steps .0) ⌝ }
+// The continuing call.
+#[no_mangle]
+pub extern "C" fn dezgula_raw_pairs_resume(
+    p: usize,
+    q: usize,
+    coefs: &[i32],
+    table: &mut [u32],
+    supports: &mut [u32],
+    values: &mut [i64],
+    run: &mut [u64],
+    budget: u64,
+) -> u64
+    ensures { λ a. ⌜ (a, (now (table .exit), now (run .exit))) ≡
+        pairsTold (now (run .entry))
+        (pairsResumeWords p q (now (coefs .entry)) (roomOf q (now (table .entry)) (now (supports .entry)) (now (values .entry))) budget
+        (now (table .entry)) (now (run .entry))) ⌝ }
 {
-    let answer = o.answer;
-    let left = o.run;
-    words::write(run, left);
-    answers::number(answer)
+    pair_words::resume(p, q, coefs, table, supports, values, run, budget)
+}
+
+// Reads the text form of a map (crate map_words).
+#[no_mangle]
+pub extern "C" fn dezgula_raw_read_map(
+    text: &[u8],
+    coefs: &mut [i32; 128],
+    words: &mut [u64; 2],
+) -> u64
+    ensures { λ a. ⌜ (a, (now (coefs .exit), now (words .exit))) ≡ readWords (now (text .entry)) (now (coefs .entry)) (now (words .entry)) ⌝ }
+{
+    map_words::read_map(text, coefs, words)
 }

@@ -1,0 +1,66 @@
+-- `resume` meets its contract: what the continuing call by value answered and left is told on, or its refusal. Assumes nothing.
+use borrow.Author.Needs.{needs}
+use Rattle.record_words.specs.CodeLaws.{answer-fits, resume-fits}
+use Rattle.record_words.specs.Words.{resumeWords}
+use Rattle.record_words.specs.WordLaws.{call-told}
+use Rattle.call_words.proofs.resume.Statement.{statement}
+use Rattle.call_words.proofs.resume.Tie as tie
+
+read-requires : tie.Need-read-requires
+read-requires c κs = search needs
+
+resumed-requires : tie.Need-resumed-requires
+resumed-requires c κs = search needs
+
+tell-requires : tie.Need-tell-requires
+tell-requires c κs =
+    let w = c .before .before .before .before .before in
+    answer-fits (w .resumed .result) (w .resumed .ensures) (resume-fits _ _ _)
+
+same-length : tie.Need-same-length
+same-length c = search needs
+
+same-length-2 : tie.Need-same-length-2
+same-length-2 c = search needs
+
+same-length-3 : tie.Need-same-length-3
+same-length-3 c = search needs
+
+returns : tie.Need-returns
+unfolding resumeWords
+returns c =
+    let t = c .before .before in
+    let w = t .before .before .before .before .before .before in
+    call-told _ (w .resumed .result) (rw (w .before .before .before .read .ensures) at (w .resumed .ensures)) (t .tell .ensures .0) (t .tell .ensures .1)
+
+misfit-requires : tie.Need-misfit-requires
+misfit-requires c κs = search needs
+
+same-length-4 : tie.Need-same-length-4
+same-length-4 c = search needs
+
+same-length-5 : tie.Need-same-length-5
+same-length-5 c = search needs
+
+same-length-6 : tie.Need-same-length-6
+same-length-6 c = search needs
+
+returns-2 : tie.Need-returns-2
+returns-2 c = c .misfit .ensures _
+
+pub resume-spec : {M : Type 1} → statement M
+resume-spec =
+    tie.close
+    (tie.spec
+    read-requires
+    resumed-requires
+    tell-requires
+    same-length
+    same-length-2
+    same-length-3
+    returns
+    misfit-requires
+    same-length-4
+    same-length-5
+    same-length-6
+    returns-2)

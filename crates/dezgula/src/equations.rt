@@ -1,0 +1,43 @@
+// Equations as people write them (document 02, Job 3); include/dezgula_equations.h says the same to C and Rust.
+ghost use mathlib.Core.Path.{_≡_};
+ghost use lib.ListN.{length};
+ghost use Rattle.equation_form.specs.Outcome.{outcome};
+ghost use Rattle.equation_form.specs.Writing.{write};
+ghost use Rattle.equation_text.specs.Answer.{answered};
+ghost use Rattle.equation_lines.specs.Systems.{readSystem};
+ghost use Rattle.equation_codes.specs.Codes.{readTold, writeTold, systemTold};
+
+// Reads the equation that `text` writes for `q` unknowns; its coefficients go to `row`.
+#[no_mangle]
+pub extern "C" fn dezgula_raw_read_equation(text: &[u8], q: usize, row: &mut [i32]) -> u64
+    ensures { λ a. ⌜ (a, now (row .exit)) ≡ readTold (answered (outcome q (length (now (row .entry))) (now (text .entry))) (now (row .entry))) ⌝ }
+{
+    equation_codes::read_equation(text, q, row)
+}
+
+// Writes the equation of `row`, the coefficients of `q` unknowns, with the right side `right` to the beginning of `out`.
+#[no_mangle]
+pub extern "C" fn dezgula_raw_write_equation(
+    q: usize,
+    row: &[i32],
+    right: i32,
+    out: &mut [u8],
+) -> u64
+    ensures { λ a. ⌜ (a, now (out .exit)) ≡ writeTold (write q (now (row .entry)) right (now (out .entry))) ⌝ }
+{
+    equation_codes::write_equation(q, row, right, out)
+}
+
+// Reads the system that `text` writes for `q` unknowns, one equation a line; its coefficients go to the beginning of `coefs`, its right sides to that of
+// `rights`.
+#[no_mangle]
+pub extern "C" fn dezgula_raw_read_system(
+    text: &[u8],
+    q: usize,
+    coefs: &mut [i32],
+    rights: &mut [i32],
+) -> u64
+    ensures { λ a. ⌜ (a, now (coefs .exit), now (rights .exit)) ≡ systemTold (readSystem q (now (text .entry)) (now (coefs .entry)) (now (rights .entry))) ⌝ }
+{
+    equation_codes::systems::read_system(text, q, coefs, rights)
+}

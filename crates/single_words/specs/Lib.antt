@@ -1,0 +1,2 @@
+pub mod SingleFile
+pub mod SingleFileLaws

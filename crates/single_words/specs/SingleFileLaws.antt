@@ -1,0 +1,108 @@
+-- A number of 64 bits holds each answer of the calls of single-file maps; and what these leave, as the exported ones tell it. Assumes nothing.
+use Prim.Native.Nat.{ℕ, _+_, _*_, _≤_, _<_, min}
+use mathlib.Core.Logic.{_≢_}
+use mathlib.Core.List.{List}
+use mathlib.Core.Path.{_≡_}
+use native.Mathlib.Omega.{arith}
+use lib.ListN.{length}
+use borrow.Author.Tests.{eq-eqb, ne-eqb}
+use Rattle.definitions.specs.Answers.{go, _then_}
+use Rattle.definitions.specs.Calls.{resume, start}
+use Rattle.definitions.specs.Input.{Extra, Input, alone, mapOf, rights, walkSystem}
+use Rattle.definitions.specs.Machine.{checked}
+use Rattle.definitions.specs.Refusals.{resumeChecks, startChecks}
+use Rattle.definitions.specs.Tables.{State}
+use Rattle.laws.specs.RefusalLaws.{resume-valid, start-shaped}
+use Rattle.calls.specs.Paper as calls
+use Rattle.calls.specs.Paper.{stateOf, value}
+use Rattle.calls.specs.declared.Refusal.{Refusal}
+use Rattle.calls.specs.declared.Refusal.the-variants.{Equations, Unknowns, CoefficientCount, StackLength, BoundLength, OutOfOrder, Coefficient, BoundRange, ListFull, ComponentLimit, StackFull, StepLimit, RightSide, Column}
+use Rattle.listing.specs.Listed.{listedOf, numberOf, valuesOf}
+use Rattle.listing.specs.declared.ListingAnswer.{ListingAnswer}
+use Rattle.listing.specs.declared.ListingAnswer.the-variants.{Written, Refused}
+use Rattle.listing.specs.declared.ListingRefusal.{ListingRefusal}
+use Rattle.listing.specs.declared.ListingRefusal.the-variants.{Call, NotMinimal, OutputLength}
+use Rattle.single_file.specs.Calls.{singleResume, singleResumeChecks, singleStart, singleStartChecks}
+use Rattle.single_file.specs.Listing.{Listing}
+use Rattle.single_file.specs.Profile.{check26}
+use Rattle.record_words.specs.CodeLaws.{Fits, Small, fits-checked, resume-fits, small-first, small-resume, small-start, small-then, start-fits}
+use Rattle.single_words.specs.SingleFile.{capped, listingTold, singleStartWords}
+use Rattle.record_words.specs.Words.{recordIn, resumeWords, told}
+
+-- the walk has at least the unknowns of the map
+map-few : (e : Extra) (i : Input) → walkSystem e i .q ≤ 16 → i .q ≤ 16
+map-few alone i l = l
+map-few (rights b) i l = omega (arith, l)
+
+module _ (i : Input) (s : State) where
+  small-26 : i .q ≤ 16 → Small (check26 (mapOf i))
+  unfolding check26
+  small-26 l = small-first 26 (i .q) _ (omega arith) (omega arith)
+
+  pub single-start-fits : Fits (singleStart i s .answer)
+  unfolding singleStart singleStartChecks
+  single-start-fits =
+      fits-checked (startChecks i s then check26 (mapOf i)) s (start i)
+      (small-then (startChecks i s) (check26 (mapOf i)) (small-start i s) (λ e. small-26 (map-few (i .extra) i (start-shaped i s e .q-few))))
+      (start-fits i s)
+
+  pub single-resume-fits : (budget : ℕ) → Fits (singleResume budget i s .answer)
+  unfolding singleResume singleResumeChecks
+  single-resume-fits budget =
+      fits-checked (resumeChecks i s then check26 (mapOf i)) s (resume budget i)
+      (small-then (resumeChecks i s) (check26 (mapOf i)) (small-resume i s) (λ e. small-26 (map-few (i .extra) i (resume-valid i s e .shaped .q-few))))
+      (resume-fits i s budget)
+
+-- ---- by the number of words
+
+module _ (words : List ℕ) (i : Input) (stack list : List ℕ) where
+  pub single-fitting : length words ≡ 7 → singleStart i (stateOf stack list (recordIn words)) ≡ singleStartWords words i stack list
+  unfolding singleStartWords
+  single-fitting e = rw (eq-eqb (length words) 7 e)
+
+  pub single-misfit : {a : ℕ × (List ℕ × (List ℕ × List ℕ))} → a ≡ told words (resumeWords 0 words i stack list) → length words ≢ 7
+      → a ≡ told words (singleStartWords words i stack list)
+  unfolding singleStartWords
+  single-misfit e ne = rw (ne-eqb (length words) 7 ne) e
+
+-- ---- the listing
+
+call-small : (why : Refusal) → calls.numberOf why < 256
+call-small Equations = omega arith
+call-small Unknowns = omega arith
+call-small CoefficientCount = omega arith
+call-small StackLength = omega arith
+call-small BoundLength = omega arith
+call-small OutOfOrder = omega arith
+call-small (Coefficient place) = omega arith
+call-small BoundRange = omega arith
+call-small ListFull = omega arith
+call-small ComponentLimit = omega arith
+call-small StackFull = omega arith
+call-small StepLimit = omega arith
+call-small RightSide = omega arith
+call-small (Column column) = omega arith
+
+number-small : (why : ListingRefusal) → numberOf why < 256
+number-small (Call why) = call-small why
+number-small (NotMinimal row) = omega arith
+number-small OutputLength = omega arith
+
+pub refused-small : {r : ListingAnswer} {why : ListingRefusal} {n : ℕ} → r ≡ Refused why → n ≡ numberOf why → n < 256
+refused-small {why = why} h e = rw e (number-small why)
+
+module _ {r : ListingAnswer} {out : List ℕ} {l : Listing} (e : listedOf r out ≡ l) {a : ℕ} where
+  pub told-written : {n : ℕ} → r ≡ Written n → a ≡ 104 + 256 * capped n → (a, out) ≡ listingTold l
+  told-written h d = rw (← e, h, d)
+
+  pub told-refused : {why : ListingRefusal} {n v : ℕ} → r ≡ Refused why → n ≡ numberOf why → v ≡ value (valuesOf why) → a ≡ n + 256 * capped v
+      → (a, out) ≡ listingTold l
+  told-refused h x y d = rw (← e, h, d, x, y)
+
+-- ---- a value beside its number
+
+pub capped-small : (n v : ℕ) → v < 72057594037927936 → n + 256 * v ≡ n + 256 * capped v
+capped-small n v l = omega arith
+
+pub capped-large : (n v : ℕ) → 72057594037927936 ≤ v → n + 18446744073709551360 ≡ n + 256 * capped v
+capped-large n v l = omega arith

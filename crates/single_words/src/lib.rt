@@ -1,0 +1,71 @@
+// Single-file maps: the start and the continuing call on a record of words, and the listing with its answer as one number.
+ghost use mathlib.Core.Path.{_≡_};
+ghost use Prim.Native.Nat.{_+_, _*_, _<_};
+ghost use Rattle.definitions.specs.Input.{inputOf};
+ghost use Rattle.single_file.specs.Listing.{listingCall};
+ghost use Rattle.record_words.specs.Words.{told};
+ghost use Rattle.single_words.specs.SingleFile.{singleStartWords, singleResumeWords, capped, listingTold};
+use calls::Solutions;
+use listing::ListingAnswer;
+use record_words::misfit;
+use record_words::tell;
+use record_words::words;
+
+// The plain start.
+pub fn start(
+    p: usize,
+    q: usize,
+    coefs: &[i32],
+    stack: &mut [u32],
+    list: &mut [u32],
+    run: &mut [u64],
+) -> u64
+    ensures { λ a. ⌜ (a, (now (stack .exit), (now (list .exit), now (run .exit)))) ≡
+        told (now (run .entry)) (singleStartWords (now (run .entry)) (inputOf p q (now (coefs .entry))) (now (stack .entry)) (now (list .entry))) ⌝ }
+{
+    if run.len() == 7 {
+        let r = words::read(run);
+        let o = single_file_calls::started(p, q, coefs, stack, list, r);
+        return tell(o, run);
+    }
+    misfit(p, q, coefs, stack, list, run)
+}
+
+// The continuing call.
+pub fn resume(
+    p: usize,
+    q: usize,
+    coefs: &[i32],
+    stack: &mut [u32],
+    list: &mut [u32],
+    run: &mut [u64],
+    budget: u64,
+) -> u64
+    ensures { λ a. ⌜ (a, (now (stack .exit), (now (list .exit), now (run .exit)))) ≡
+        told (now (run .entry)) (singleResumeWords budget (now (run .entry)) (inputOf p q (now (coefs .entry))) (now (stack .entry)) (now (list .entry))) ⌝ }
+{
+    let r = words::read(run);
+    let o = single_file_calls::resumed(p, q, coefs, stack, list, r, budget);
+    tell(o, run)
+}
+
+// The listing.
+pub fn listed(p: usize, q: usize, coefs: &[i32], list: &[u32], found: usize, out: &mut [u8]) -> u64
+    ensures { λ a. ⌜ (a, now (out .exit)) ≡ listingTold (listingCall (inputOf p q (now (coefs .entry))) (now (list .entry)) found (now (out .entry))) ⌝ }
+{
+    match listing::listed(p, q, coefs, list, Solutions(found), out) {
+        ListingAnswer::Written(n) => coded(104, n),
+        ListingAnswer::Refused(why) => coded(listing::number_of(why), listing::value_of(why)),
+    }
+}
+
+// A number, with a value above its 8 bits.
+fn coded(number: u64, value: usize) -> u64
+    requires { ⌜ number < 256 ⌝ }
+    ensures { λ a. ⌜ a ≡ number + 256 * capped value ⌝ }
+{
+    if value < 72057594037927936 {
+        return number + 256 * value as u64;
+    }
+    number + 18446744073709551360
+}
