@@ -13,7 +13,7 @@ use Rattle.linear.specs.Cases.{split}
 use Rattle.linear.specs.TestLaws.{and-parts}
 use Rattle.definitions.specs.Answers.{Check, _then_, go, refuse, refuseFirst, refuseIf, refuseWith}
 use Rattle.definitions.specs.Refusals.{between, check7}
-use Rattle.definitions.specs.Input.{Input, systemOf}
+use Rattle.definitions.specs.Input.{Input, mapOf}
 use Rattle.definitions.specs.System.{System, mostEquations, mostUnknowns}
 use Rattle.definitions.specs.Tables.{at}
 use Rattle.laws.specs.AnswerLaws.{refuse-at, refuse-if-go, refuse-next, then-assoc, then-go}
@@ -36,11 +36,11 @@ countChecks p q coefs list found =
 
 -- then 7 and 26: all that comes before the rows
 unfoldable pub mapChecks : Input → ℕ → ℕ → Check
-mapChecks i list found = countChecks (i .p) (i .q) (length (i .coefs)) list found then check7 i then check26 (systemOf i)
+mapChecks i list found = countChecks (i .p) (i .q) (length (i .coefs)) list found then check7 i then check26 (mapOf i)
 
 -- then the rows, into an output space of length `room`
 unfoldable pub checksIn : Input → List ℕ → ℕ → ℕ → Check
-checksIn i list found room = mapChecks i (length list) found then rowChecks (systemOf i) list found room
+checksIn i list found room = mapChecks i (length list) found then rowChecks (mapOf i) list found room
 
 pub checks-are : (i : Input) (list : List ℕ) (found : ℕ) (out : List ℕ) → checksIn i list found (length out) ≡ listingChecks i list found out
 unfolding checksIn mapChecks countChecks listingChecks
@@ -78,7 +78,7 @@ module _ (p q coefs list found : ℕ) (e : countChecks p q coefs list found ≡ 
 
 module _ (i : Input) (list : List ℕ) (found : ℕ) where
   abbrev m : System
-  m = systemOf i
+  m = mapOf i
 
   pub map-whole : mapChecks i (length list) found ≡ go → Whole m list found
   unfolding mapChecks
@@ -119,7 +119,7 @@ module _ (i : Input) (list : List ℕ) (found : ℕ) (out : List ℕ) where
       let e : r ≡ length text = omega (arith, h .place) in
       (e, sym (take-append-drop r after) ∙ ap (λ t. t ++ drop r after) (h .written) ∙ ap (λ t. text ++ t) (h .kept ∙ ap (λ k. drop k out) e))
 
-  pub call-written : {after : List ℕ} {r : ℕ} → go ≡ checksIn i list found (length out) → Put out 0 (listing (systemOf i) list found) after r
+  pub call-written : {after : List ℕ} {r : ℕ} → go ≡ checksIn i list found (length out) → Put out 0 (listing (mapOf i) list found) after r
       → record { answer = written r; out = after } ≡ listingCall i list found out
   unfolding listingCall listedBy
   call-written {after} {r} e h = let g = e ∙ checks-are i list found out in let (a, b) = put-whole h in rw (← g, a, b)

@@ -18,7 +18,7 @@ use Rattle.linear.specs.Integers.{sfits-natAbs}
 use Rattle.linear.specs.PlaceLaws.{First, first-is}
 use Rattle.linear.specs.Systems.{value}
 use Rattle.definitions.specs.Reasons.{Reason, above, firstOff, off, reason, reasonChecks, refused, stands, unlessRefused, unlisted, zero}
-use Rattle.definitions.specs.Input.{inputOf, systemOf}
+use Rattle.definitions.specs.Input.{inputOf, mapOf}
 use Rattle.definitions.specs.System.{System, coefLimit, imageOf, isZero, mostComponent, mostUnknowns}
 use Rattle.laws.specs.CheckLaws.{check-cases}
 use Rattle.laws.specs.ReasonLaws.{Askable, reason-askable, reason-given, reason-renders}
@@ -80,7 +80,7 @@ module _ {p q : ℕ} {coefs : List ℤ} {list : List ℕ} {found : ℕ} {t : Lis
 
 module _ {p q : ℕ} {coefs : List ℤ} {t : List ℕ} (s : SmallCoefs p q coefs) (r : SmallTuple q t) {i : ℕ} (l : i < p) where
   abbrev m : System
-  m = systemOf (inputOf p q coefs)
+  m = mapOf (inputOf p q coefs)
 
   pub equation-of : SmallEquation q coefs i
   equation-of = record { unknowns = s .unknowns; whole = omega (arith, s .whole, row-fits q i p l); small = s .small }
@@ -103,9 +103,9 @@ module _ {p q : ℕ} {coefs : List ℤ} {t : List ℕ} (s : SmallCoefs p q coefs
 -- the amount that is told of equation k, read from its bits
 module _ {p q : ℕ} {coefs : List ℤ} {t : List ℕ} (s : SmallCoefs p q coefs) (r : SmallTuple q t) where
   abbrev image : ℕ → ℤ
-  image = imageOf (systemOf (inputOf p q coefs)) (tuple t)
+  image = imageOf (mapOf (inputOf p q coefs)) (tuple t)
 
-  pub amount-read : {k : ℕ} {amount : ℤ} → firstOff (systemOf (inputOf p q coefs)) (tuple t) ≡ some k → amount ≡ image (k - 1) → toZ w64 (ofZ w64 amount) ≡ image (k - 1)
+  pub amount-read : {k : ℕ} {amount : ℤ} → firstOff (mapOf (inputOf p q coefs)) (tuple t) ≡ some k → amount ≡ image (k - 1) → toZ w64 (ofZ w64 amount) ≡ image (k - 1)
   unfolding firstOff
   amount-read {k} e f =
       let first : First p (λ i. not (isZero (image i))) k = rw e at (first-is p (λ i. not (isZero (image i)))) in

@@ -8,7 +8,7 @@ use lib.IntN.{ℤ}
 use lib.ListN.{getD}
 use Rattle.definitions.specs.Reasons as paper
 use Rattle.definitions.specs.Highest.{highest}
-use Rattle.definitions.specs.Input.{Input, systemOf}
+use Rattle.definitions.specs.Input.{Input, mapOf}
 use Rattle.definitions.specs.Reasons.{standing}
 use Rattle.definitions.specs.System.{System, imageOf}
 use Rattle.definitions.specs.Tables.{at}
@@ -59,6 +59,6 @@ module _ (i : Input) (list : List ℕ) (found : ℕ) (t : List ℕ) {c : Check} 
   unfolding paper.reason paper.unlessRefused
   refused-at g = rw (← e, g)
 
-  pub passed-at : c ≡ Pass → {r : paper.Reason} → r ≡ paper.firstTrue (systemOf i) found (at list (i .q)) (λ j. getD t j 0) → r ≡ paper.reason i list found t
+  pub passed-at : c ≡ Pass → {r : paper.Reason} → r ≡ paper.firstTrue (mapOf i) found (at list (i .q)) (λ j. getD t j 0) → r ≡ paper.reason i list found t
   unfolding paper.reason paper.unlessRefused
   passed-at g h = rw (← e, g) h

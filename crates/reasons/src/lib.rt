@@ -6,7 +6,7 @@ ghost use lib.ListN.{length, getD};
 ghost use Rattle.linear.specs.Systems.{value};
 ghost use Rattle.definitions.specs.Tables.{at};
 ghost use Rattle.definitions.specs.Reasons as paper;
-ghost use Rattle.definitions.specs.Input.{inputOf, systemOf};
+ghost use Rattle.definitions.specs.Input.{inputOf, mapOf};
 ghost use Rattle.laws.specs.ReasonLaws.{Askable};
 ghost use Rattle.lists.specs.Rows.{tuple};
 ghost use Rattle.products.specs.Products.{SmallCoefs};
@@ -56,7 +56,7 @@ pub fn explain(
 // The first reason that is true, of a question that is not refused.
 fn first_true(p: usize, q: usize, coefs: &[i32], list: &[u32], found: usize, t: &[u32]) -> Reason
     requires { ⌜ Askable (inputOf p q (now coefs)) (now list) found (now t) ⌝ }
-    ensures { λ r. ⌜ reasonOf r ≡ paper.firstTrue (systemOf (inputOf p q (now (coefs .entry)))) found (at (now (list .entry)) q) (tuple (now (t .entry))) ⌝ }
+    ensures { λ r. ⌜ reasonOf r ≡ paper.firstTrue (mapOf (inputOf p q (now (coefs .entry)))) found (at (now (list .entry)) q) (tuple (now (t .entry))) ⌝ }
 {
     if vanishes(q, t) {
         return Reason::Zero;
@@ -82,7 +82,7 @@ fn in_list(list: &[u32], found: usize, q: usize, t: &[u32]) -> Reason
 }
 
 // Whether the tuple is all zero.
-fn vanishes(q: usize, t: &[u32]) -> bool
+pub fn vanishes(q: usize, t: &[u32]) -> bool
     requires { ⌜ q ≤ length (now t) ⌝ }
     ensures { λ b. ⌜ b ≡ paper.vanishes q (tuple (now (t .entry))) ⌝ }
 {
@@ -99,7 +99,7 @@ fn vanishes(q: usize, t: &[u32]) -> bool
 // The first equation that is off.
 fn first_off(p: usize, q: usize, coefs: &[i32], t: &[u32]) -> Balance
     requires { ⌜ SmallCoefs p q (now coefs) × SmallTuple q (now t) ⌝ }
-    ensures { λ r. ⌜ OffIs (systemOf (inputOf p q (now (coefs .entry)))) (tuple (now (t .entry))) r ⌝ }
+    ensures { λ r. ⌜ OffIs (mapOf (inputOf p q (now (coefs .entry)))) (tuple (now (t .entry))) r ⌝ }
 {
     let mut i = 0;
     while i < p {

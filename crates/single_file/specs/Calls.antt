@@ -3,17 +3,17 @@
 use Prim.Native.Nat.{ℕ}
 use Rattle.definitions.specs.Answers.{Check, _then_}
 use Rattle.definitions.specs.Calls.{resume, start}
-use Rattle.definitions.specs.Input.{Input, systemOf}
+use Rattle.definitions.specs.Input.{Input, mapOf}
 use Rattle.definitions.specs.Machine.{Outcome, checked}
 use Rattle.definitions.specs.Refusals.{resumeChecks, startChecks}
 use Rattle.definitions.specs.Tables.{State}
 use Rattle.single_file.specs.Profile.{check26}
 
 unfoldable pub singleStartChecks : Input → State → Check
-singleStartChecks i s = startChecks i s then check26 (systemOf i)
+singleStartChecks i s = startChecks i s then check26 (mapOf i)
 
 unfoldable pub singleResumeChecks : Input → State → Check
-singleResumeChecks i s = resumeChecks i s then check26 (systemOf i)
+singleResumeChecks i s = resumeChecks i s then check26 (mapOf i)
 
 unfoldable pub singleStart : Input → State → Outcome State
 singleStart i s = checked (singleStartChecks i s) s (start i)

@@ -9,7 +9,7 @@ use lib.ListN.{getD, replicate}
 use Rattle.linear.specs.Tests.{allTo, countTo}
 use Rattle.definitions.specs.Answers.{Check, _then_, go, refuse, refuseFirst, refuseWith}
 use Rattle.definitions.specs.Refusals.{check7}
-use Rattle.definitions.specs.Input.{Input, inputOf, systemOf}
+use Rattle.definitions.specs.Input.{Input, inputOf, mapOf}
 use Rattle.texts.specs.Decimals.{bytes, decimal, lastDigits}
 use Rattle.single_file.specs.First.{findTo, iterate}
 use Rattle.single_file.specs.Graph.{isCircuit, leaving, lowest, size}
@@ -40,17 +40,17 @@ outside =
     ∷ four (negsuc 0 ∷ pos 0 ∷ pos 1 ∷ pos 0 ∷ pos 0 ∷ pos 0 ∷ pos 0 ∷ pos 1 ∷ [])
     ∷ []
 
-profile-holds : map (λ i. check26 (systemOf i)) (three ∷ ways ∷ outside) ≡ go ∷ go ∷ refuse 26 (2 ∷ []) ∷ refuse 26 (1 ∷ []) ∷ refuse 26 (2 ∷ []) ∷ []
+profile-holds : map (λ i. check26 (mapOf i)) (three ∷ ways ∷ outside) ≡ go ∷ go ∷ refuse 26 (2 ∷ []) ∷ refuse 26 (1 ∷ []) ∷ refuse 26 (2 ∷ []) ∷ []
 unfolding three ways four outside check26 refuseFirst refuseWith _then_ inProfile allTo countTo
 profile-holds = refl
 
 -- ---- rows
 
 minimal : Input → List ℕ → Bool
-minimal i x = isCircuitOf (systemOf i) (λ j. getD x j 0)
+minimal i x = isCircuitOf (mapOf i) (λ j. getD x j 0)
 
 line : Input → List ℕ → List ℕ
-line i x = loopLine (systemOf i) (λ j. getD x j 0)
+line i x = loopLine (mapOf i) (λ j. getD x j 0)
 
 -- once round; twice round, part of the way and nothing at all are no minimal solutions; nor are two rounds in one row, or a column of zeros beside another
 rows-hold :

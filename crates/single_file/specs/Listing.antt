@@ -7,7 +7,7 @@ use lib.Dec.{ltb}
 use lib.ListN.{length, drop}
 use Rattle.definitions.specs.Answers.{Check, _then_, refuse, go, refuseIf}
 use Rattle.definitions.specs.Refusals.{check1, check2, check3, check7}
-use Rattle.definitions.specs.Input.{Input, systemOf}
+use Rattle.definitions.specs.Input.{Input, mapOf}
 use Rattle.definitions.specs.System.{System}
 use Rattle.definitions.specs.Tables.{at, capacity}
 use Rattle.texts.specs.Decimals.{bytes, decimal, newline, space}
@@ -60,8 +60,8 @@ listingChecks i list found out =
     then check3 i
     then refuseIf (ltb (capacity (i .q) list) found) 6
     then check7 i
-    then check26 (systemOf i)
-    then rowChecks (systemOf i) list found (length out)
+    then check26 (mapOf i)
+    then rowChecks (mapOf i) list found (length out)
 
 -- what the listing answers: how many bytes it wrote, or a refusal with its values; and what it leaves in the space that it was lent
 pub data Listed : Type 0 where
@@ -78,4 +78,4 @@ listedBy (refuse n values) text out = record { answer = refused n values; out = 
 listedBy go text out = record { answer = written (length text); out = text ++ drop (length text) out }
 
 unfoldable pub listingCall : Input → List ℕ → ℕ → List ℕ → Listing
-listingCall i list found out = listedBy (listingChecks i list found out) (listing (systemOf i) list found) out
+listingCall i list found out = listedBy (listingChecks i list found out) (listing (mapOf i) list found) out

@@ -42,7 +42,7 @@ pub fn resumed(
 {
     match check_resume(p, q, coefs, stack, list, r) {
         Check::Refuse(why) => calls::refused(why, r),
-        Check::Pass => walk::resumed(p, q, coefs, stack, list, r, budget),
+        Check::Pass => walk::resumed(p, q, coefs, stack, list, r, budget, calls::COMPONENT_LIMIT),
     }
 }
 
@@ -95,7 +95,7 @@ fn check_start(p: usize, q: usize, coefs: &[i32], stack: &[u32], list: &[u32], r
 fn check_resume(p: usize, q: usize, coefs: &[i32], stack: &[u32], list: &[u32], r: Record) -> Check
     ensures { λ c. ⌜ checkOf c ≡ singleResumeChecks (inputOf p q (now (coefs .entry))) (stateOf (now (stack .entry)) (now (list .entry)) r) ⌝ }
 {
-    match checks::check_resume(p, q, coefs, stack, list, r) {
+    match checks::check_resume(p, q, coefs, stack, list, r, calls::COMPONENT_LIMIT) {
         Check::Refuse(why) => Check::Refuse(why),
         Check::Pass => circuits::columns::check(p, q, coefs),
     }

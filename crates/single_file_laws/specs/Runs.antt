@@ -9,7 +9,7 @@ use lib.ListN.{length}
 use Rattle.definitions.specs.Answers.{Check, _then_, go, refuse, started}
 use Rattle.definitions.specs.Answers as paper
 use Rattle.definitions.specs.Calls.{resume, start}
-use Rattle.definitions.specs.Input.{Extra, Input, alone, kindFor, systemOf}
+use Rattle.definitions.specs.Input.{Input, alone, mapOf}
 use Rattle.definitions.specs.Machine.{Outcome, call, checked}
 use Rattle.definitions.specs.Refusals.{resumeChecks, startChecks}
 use Rattle.definitions.specs.Step.{rowWidth}
@@ -18,9 +18,9 @@ use Rattle.definitions.specs.Tables.{State, at, capacity}
 use Rattle.laws.specs.AnswerLaws.{then-go}
 use Rattle.laws.specs.CheckLaws.{Renders, Rules, _▹_, decides-if, end, placed, renders-last, renders-then, rule}
 use Rattle.laws.specs.RefusalLaws.{Outside, decides-outside, decides-range, decides-unequal, rangeRule, resume-renders, resumeRules, start-renders, startRules}
-use Rattle.theorems.specs.Link.{nonzero}
 use Rattle.theorems.specs.Listed.{Only}
-use Rattle.theorems.specs.Run.{Run, continued, run-only, started-plain}
+use Rattle.theorems.specs.Demands.{second-demand}
+use Rattle.theorems.specs.Run.{Run, aimOf, continued, started-units}
 use Rattle.single_file.specs.Calls.{singleResume, singleResumeChecks, singleStart, singleStartChecks}
 use Rattle.single_file.specs.Graph.{size}
 use Rattle.single_file.specs.Listing.{listedBy, listing, listingCall, listingChecks, refused, rowChecks}
@@ -37,24 +37,24 @@ rule26 m = placed 26 (m .q) (λ j. ¬ (InProfile (m .p) (column m j))) ▹ end
 
 -- "This profile has a plain start and continuing call with 26"
 pub record SingleCalls (i : Input) : Type 0 where
-  pub start-refuses : (s : State) → Renders (singleStartChecks i s) (startRules i s ▹▹ rule26 (systemOf i))
-  pub resume-refuses : (s : State) → Renders (singleResumeChecks i s) (resumeRules i s ▹▹ rule26 (systemOf i))
+  pub start-refuses : (s : State) → Renders (singleStartChecks i s) (startRules i s ▹▹ rule26 (mapOf i))
+  pub resume-refuses : (s : State) → Renders (singleResumeChecks i s) (resumeRules i s ▹▹ rule26 (mapOf i))
   -- "a refusal not given within a walk changes nothing lent"
   pub start-unchanged : (s : State) (n : ℕ) (values : List ℕ) → singleStartChecks i s ≡ refuse n values
       → singleStart i s ≡ record { answer = paper.refused n values; state = s }
   pub resume-unchanged : (budget : ℕ) (s : State) (n : ℕ) (values : List ℕ) → singleResumeChecks i s ≡ refuse n values
       → singleResume budget i s ≡ record { answer = paper.refused n values; state = s }
   -- where the map is in the profile the calls are the plain ones
-  pub start-same : SingleFile (systemOf i) → (s : State) → singleStart i s ≡ start i s
-  pub resume-same : SingleFile (systemOf i) → (budget : ℕ) (s : State) → singleResume budget i s ≡ resume budget i s
+  pub start-same : SingleFile (mapOf i) → (s : State) → singleStart i s ≡ start i s
+  pub resume-same : SingleFile (mapOf i) → (budget : ℕ) (s : State) → singleResume budget i s ≡ resume budget i s
   -- and it is where the start answers "started"
-  pub in-profile : (s : State) → singleStart i s .answer ≡ started → SingleFile (systemOf i)
+  pub in-profile : (s : State) → singleStart i s .answer ≡ started → SingleFile (mapOf i)
 
 -- a run of the profile: it is a plain run, of a map in the profile that nothing comes with
 pub record SingleRun (i : Input) (s : State) : Type 0 where
   pub nothing-else : i .extra ≡ alone
-  pub profile : SingleFile (systemOf i)
-  pub run : Run i nonzero s
+  pub profile : SingleFile (mapOf i)
+  pub run : Run i (aimOf (i .extra)) s
 
 -- what the run's list holds: minimal solutions of components 0 and 1, each in its order; and the listing of such a run never gives 30
 pub record ListsOrdered (m : System) (list : List ℕ) (found : ℕ) : Type 0 where
@@ -71,9 +71,9 @@ listingRules i list found out =
     ▹ rule 3 (length (i .coefs) ≢ i .p * i .q)
     ▹ rule 6 (capacity (i .q) list < found)
     ▹ rangeRule i
-    ▹ placed 26 (i .q) (λ j. ¬ (InProfile (i .p) (column (systemOf i) j)))
-    ▹ placed 30 found (λ k. ¬ (MinimalSolution (systemOf i) (at list (i .q) k)))
-    ▹ rule 29 (length out < length (listing (systemOf i) list found))
+    ▹ placed 26 (i .q) (λ j. ¬ (InProfile (i .p) (column (mapOf i) j)))
+    ▹ placed 30 found (λ k. ¬ (MinimalSolution (mapOf i) (at list (i .q) k)))
+    ▹ rule 29 (length out < length (listing (mapOf i) list found))
     ▹ end
 
 pub record ListingRefuses (i : Input) (list : List ℕ) (found : ℕ) (out : List ℕ) : Type 0 where
@@ -113,7 +113,7 @@ behind-own go s work call e = refl
 
 module _ (i : Input) where
   abbrev m : System
-  m = systemOf i
+  m = mapOf i
 
   start-plain : SingleFile m → (s : State) → singleStart i s ≡ start i s
   unfolding singleStart singleStartChecks start
@@ -149,26 +149,21 @@ pub single-started : (i : Input) → i .extra ≡ alone → (s : State) → sing
 single-started i none s e =
     let f = single-calls i .in-profile s e in
     let g = single-calls i .start-same f s in
-    record { nothing-else = none; profile = f; run = rw g (started-plain s (rw g at e)) }
+    record { nothing-else = none; profile = f; run = rw g (started-units s (rw g at e)) }
 
 pub single-continued : (i : Input) (s : State) → SingleRun i s → (budget : ℕ) → SingleRun i (singleResume budget i s .state)
 single-continued i s r budget =
     record { nothing-else = r .nothing-else; profile = r .profile; run = rw (single-calls i .resume-same (r .profile) budget s) (continued (r .run) budget) }
 
--- rows are of q numbers in a plain run
-width-is : (e : Extra) (q : ℕ) → e ≡ alone → rowWidth (kindFor e) q ≡ q
-width-is e q h = rw h
-
-pub single-lists : (i : Input) (s : State) → SingleRun i s → ListsOrdered (systemOf i) (s .list) (s .run .found)
+pub single-lists : (i : Input) (s : State) → SingleRun i s → ListsOrdered (mapOf i) (s .list) (s .run .found)
 single-lists i s r =
-    let l = single-file-solutions (systemOf i) (r .profile) in
-    let w = width-is (i .extra) (i .q) (r .nothing-else) in
-    let o : Only (i .q) (MinimalSolution (systemOf i)) (s .list) (s .run .found) = rw w at (run-only i (r .run)) in
+    let l = single-file-solutions (mapOf i) (r .profile) in
+    let o : Only (i .q) (MinimalSolution (mapOf i)) (s .list) (s .run .found) = rw (r .nothing-else) at (second-demand .lists i s (r .run) .cut-short) in
     record {
       only = o;
       zero-or-one = λ k h. l .zero-or-one _ (o .only k h);
       ordered = λ k h. l .ordered _ (o .only k h);
-      not-30 = listed-goes (systemOf i) (r .profile) (s .run .found) (at (s .list) (i .q)) (o .only);
+      not-30 = listed-goes (mapOf i) (r .profile) (s .run .found) (at (s .list) (i .q)) (o .only);
     }
 
 -- ---- the listing
@@ -183,10 +178,10 @@ module _ (i : Input) (list : List ℕ) (found : ℕ) (out : List ℕ) where
       (renders-then (decides-unequal 3 (length (i .coefs)) (i .p * i .q))
       (renders-then (decides-if _ 6 _ (ltb→lt (capacity (i .q) list) found) (lt→ltb (capacity (i .q) list) found))
       (renders-then (decides-range i)
-      (renders-after (check26 (systemOf i)) _ (rule26 (systemOf i)) _ (renders-last (refuses-26 (systemOf i))) (λ h.
-      renders-then (single-file-solutions (systemOf i) (λ j l. profile-decides (i .p) (column (systemOf i) j) (h .0 j l)) .refuses-30 found (at list (i .q)))
+      (renders-after (check26 (mapOf i)) _ (rule26 (mapOf i)) _ (renders-last (refuses-26 (mapOf i))) (λ h.
+      renders-then (single-file-solutions (mapOf i) (λ j l. profile-decides (i .p) (column (mapOf i) j) (h .0 j l)) .refuses-30 found (at list (i .q)))
       (renders-last
-      (decides-if _ 29 _ (ltb→lt (length out) (length (listing (systemOf i) list found))) (lt→ltb (length out) (length (listing (systemOf i) list found)))))))))))
+      (decides-if _ 29 _ (ltb→lt (length out) (length (listing (mapOf i) list found))) (lt→ltb (length out) (length (listing (mapOf i) list found)))))))))))
 
   by-refused : (c : Check) (text : List ℕ) (n : ℕ) (values : List ℕ) → c ≡ refuse n values
       → listedBy c text out ≡ record { answer = refused n values; out = out }
@@ -198,5 +193,5 @@ module _ (i : Input) (list : List ℕ) (found : ℕ) (out : List ℕ) where
   listing-refuses =
       record {
         refuses = listing-renders;
-        unchanged = λ n values e. by-refused (listingChecks i list found out) (listing (systemOf i) list found) n values e;
+        unchanged = λ n values e. by-refused (listingChecks i list found out) (listing (mapOf i) list found) n values e;
       }

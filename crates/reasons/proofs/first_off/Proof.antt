@@ -9,14 +9,14 @@ use Rattle.linear.specs.PlaceLaws.{first-next, first-here}
 use Rattle.definitions.specs.Reasons.{firstOff}
 use Rattle.definitions.specs.System.{imageOf, isZero}
 use Rattle.lists.specs.Rows.{tuple}
-use Rattle.definitions.specs.Input.{inputOf, systemOf}
+use Rattle.definitions.specs.Input.{inputOf, mapOf}
 use Rattle.reasons.specs.Amounts.{equation-of, amount-kept, amount-off, amount-even}
 use borrow.Author.Needs.{needs}
 use Rattle.reasons.proofs.first_off.Statement.{statement}
 use Rattle.reasons.proofs.first_off.Tie as tie
 
 abbrev Inv-loop : tie.InvT-loop
-Inv-loop p q coefs t i₀ i = (i ≤ p) × (firstTo i (λ k. not (isZero (imageOf (systemOf (inputOf p q coefs)) (tuple t) k))) ≡ none)
+Inv-loop p q coefs t i₀ i = (i ≤ p) × (firstTo i (λ k. not (isZero (imageOf (mapOf (inputOf p q coefs)) (tuple t) k))) ≡ none)
 
 abbrev μ-loop : tie.MeasureT-loop
 μ-loop p q coefs t i₀ i = p - i
