@@ -2,7 +2,7 @@
 -- and 0 before the first turn. Assumes nothing.
 use Prim.Native.Nat.{ℕ, zero, suc, _+_, _-_}
 use mathlib.Core.Bool.{Bool, true, false, not, _&&_, _||_}
-use mathlib.Core.List.{List}
+use mathlib.Core.List.{List, []}
 use mathlib.Core.Option.{Option, none, some}
 use lib.Dec.{ltb, eqb}
 use lib.ListN.{length}
@@ -76,6 +76,7 @@ own d r i =
     record {
       stack = partOf (d .shares i .stackPart) (r .stack);
       list = partOf (d .shares i .listPart) (r .list);
+      second = [];
       run = r .progress i .run;
     }
 

@@ -10,15 +10,15 @@ use lib.IntN.{ℤ, pos, negsuc}
 use lib.ListN.{length, getD, take, replicate}
 use Rattle.linear.specs.Sums.{sumTo}
 use Rattle.linear.specs.Tests.{allTo, anyTo, countTo}
-use Rattle.linear.specs.Tuples.{unit}
+use Rattle.linear.specs.Tuples.{total, unit}
 use Rattle.linear.specs.Systems.{inner, value}
 use Rattle.definitions.specs.Answers.{Answer, Check, complete, go, paused, refuse, refuseFirst, refuseWith, refused, started, _then_}
 use Rattle.definitions.specs.Input.{inputOf}
 use Rattle.definitions.specs.Machine.{call, checked, unlessDone, walk}
 use Rattle.definitions.specs.System.{covered, isAtOrBelow, solves}
-use Rattle.definitions.specs.Tables.{begun, bit, frozen, unitsTo, writeRow, writeTo}
+use Rattle.definitions.specs.Tables.{begun, bit, frozen, plainRun, unitsTo, writeRow, writeTo}
 use Rattle.definitions.specs.Step.{makes, marksTo, writeChildren, listed, grown, step}
-use Rattle.definitions.specs.Refusals.{rowInOrder, inOrder, check7, resumeChecks, tooLarge, tooHigh, searchChecks}
+use Rattle.definitions.specs.Refusals.{rowFits, inOrder, check7, resumeChecks, tooLarge, tooHigh, searchChecks}
 use Rattle.dispatch_form.specs.Parts.{Part, partOf, withPart, lies, overlap, apart}
 use Rattle.dispatch_form.specs.Dispatch.{Schedule, Share, Round, Dispatched, firstTo, totalTo, own, nextAfter, leaveTurn, serve}
 use Rattle.dispatch_form.specs.Dispatch.{afterTurns, opened, answerFor, stepsBetween, dispatchChecks, dispatch}
@@ -60,7 +60,7 @@ starts =
     record {
       stack = withPart (part 15 6) (withPart (part 1 12) (replicate 22 9) (unitsTo 3 3 (replicate 12 9))) (unitsTo 2 2 (replicate 6 9));
       list = replicate 20 9;
-      progress = λ i. record { run = begun (2 + i); answer = none };
+      progress = λ i. record { run = begun plainRun (2 + i); answer = none };
       last = 2;
     }
 
@@ -112,5 +112,5 @@ calls-hold : (called 0 (schedule (part 15 6) 7 3) ≡ comes (paused ∷ paused �
     × (called 9 (schedule (part 15 6) 7 0) ≡ refuses 27)
     × (called 9 (schedule (part 13 8) 7 3) ≡ refuses 28)
     × (called 9 (schedule (part 15 8) 7 3) ≡ refuses 28)
-unfolding part share pair schedule starts nines summary called comes refuses partOf withPart overlap apart firstTo totalTo own nextAfter leaveTurn serve afterTurns opened answerFor stepsBetween dispatchChecks dispatch sumTo allTo anyTo countTo unit inner value refuseWith _then_ refuseFirst solves isAtOrBelow covered bit frozen writeTo writeRow unitsTo makes marksTo writeChildren listed grown step rowInOrder inOrder check7 resumeChecks tooLarge tooHigh searchChecks checked unlessDone walk call
+unfolding total part share pair schedule starts nines summary called comes refuses partOf withPart overlap apart firstTo totalTo own nextAfter leaveTurn serve afterTurns opened answerFor stepsBetween dispatchChecks dispatch sumTo allTo anyTo countTo unit inner value refuseWith _then_ refuseFirst solves isAtOrBelow covered bit frozen writeTo writeRow unitsTo makes marksTo writeChildren listed grown step rowFits inOrder check7 resumeChecks tooLarge tooHigh searchChecks checked unlessDone walk call
 calls-hold = (refl, refl, refl, refl, refl, refl, refl, refl, refl)

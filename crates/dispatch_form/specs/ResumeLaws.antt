@@ -1,6 +1,7 @@
 -- What a continuing call keeps: the lengths of its tables, and the order of its count of steps. Assumes nothing.
-use mathlib.Core.Path.{_≡_, _∙_, ap}
+use mathlib.Core.Path.{_≡_, refl, _∙_, ap}
 use mathlib.Core.Logic.{inl, inr}
+use mathlib.Core.List.{List, [], _∷_}
 use Prim.Native.Nat.{ℕ, _+_, _≤_, max}
 use native.Mathlib.Omega.{arith}
 use lib.ListN.{length}
@@ -22,6 +23,14 @@ resume-stack-length n i s = call-untouched (continuing n i) s .stack-length
 
 pub resume-list-length : (n : ℕ) (i : Input) (s : State) → length (resume n i s .state .list) ≡ length (s .list)
 resume-list-length n i s = call-untouched (continuing n i) s .list-length
+
+none-left : (xs : List ℕ) → length xs ≡ 0 → xs ≡ []
+none-left [] e = refl
+none-left (x ∷ xs) e = absurd (omega arith)
+
+-- a run with no second list is left with none
+pub resume-no-second : (n : ℕ) (i : Input) (s : State) → s .second ≡ [] → resume n i s .state .second ≡ []
+resume-no-second n i s e = none-left _ (call-untouched (continuing n i) s .second-length ∙ ap length e)
 
 -- ---- the count of steps
 

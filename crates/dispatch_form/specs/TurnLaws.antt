@@ -1,5 +1,6 @@
 -- What a turn does: to the run that has it, what a continuing call does; to the others, nothing. Assumes nothing.
 use mathlib.Core.Path.{_≡_, refl, sym, _∙_, ap}
+use mathlib.Core.List.{[]}
 use mathlib.Core.Option.{Option, none, some}
 use Prim.Native.Nat.{ℕ, zero, suc, _+_, _≤_, _<_}
 use native.Mathlib.Decide.{ℕ-discrete}
@@ -11,7 +12,7 @@ use Rattle.definitions.specs.Machine.{Outcome}
 use Rattle.definitions.specs.Tables.{State}
 use Rattle.dispatch_form.specs.Parts.{Part, partOf, withPart}
 use Rattle.dispatch_form.specs.PartLaws.{In, Apart, part-length, with-length, with-own, with-other, with-outside}
-use Rattle.dispatch_form.specs.ResumeLaws.{resume-stack-length, resume-list-length, Rises, rises-not, rises-on, resume-rises}
+use Rattle.dispatch_form.specs.ResumeLaws.{resume-no-second, resume-stack-length, resume-list-length, Rises, rises-not, rises-on, resume-rises}
 use Rattle.dispatch_form.specs.RoundLaws.{next-some, put-same, put-other}
 use Rattle.dispatch_form.specs.Dispatch.{Schedule, Round, Progress, own, next, leaveTurn, turnOf, serveRun, serve, afterTurns}
 
@@ -24,6 +25,7 @@ pub record Laid (d : Schedule) (r : Round) : Type 0 where
 pub record Fits (d : Schedule) (i : ℕ) (o : Outcome State) : Type 0 where
   pub stack : length (o .state .stack) ≡ d .shares i .stackPart .size
   pub list : length (o .state .list) ≡ d .shares i .listPart .size
+  pub single : o .state .second ≡ []
 
 module _ (d : Schedule) (r : Round) (laid : Laid d r) (i : ℕ) (li : i < d .count) where
   pub turn-fits : (n : ℕ) → Fits d i (resume n (d .shares i .input) (own d r i))
@@ -32,6 +34,7 @@ module _ (d : Schedule) (r : Round) (laid : Laid d r) (i : ℕ) (li : i < d .cou
       record {
         stack = resume-stack-length n _ (own d r i) ∙ part-length (d .shares i .stackPart) (r .stack) (laid .stacks .fit i li);
         list = resume-list-length n _ (own d r i) ∙ part-length (d .shares i .listPart) (r .list) (laid .lists .fit i li);
+        single = resume-no-second n _ (own d r i) refl;
       }
 
   module _ (o : Outcome State) (f : Fits d i o) where
@@ -51,6 +54,7 @@ module _ (d : Schedule) (r : Round) (laid : Laid d r) (i : ℕ) (li : i < d .cou
           with-own (d .shares i .stackPart) (r .stack) (o .state .stack) (laid .stacks .fit i li) (f .stack),
           with-own (d .shares i .listPart) (r .list) (o .state .list) (laid .lists .fit i li) (f .list),
           put-same i (record { run = o .state .run; answer = some (o .answer) }) (r .progress),
+          f .single,
         )
 
     pub turn-answer : leaveTurn d i r o .progress i .answer ≡ some (o .answer)

@@ -2,14 +2,14 @@
 use Prim.Native.Nat.{ℕ, zero, suc, _+_, _*_, _≤_, _<_}
 use mathlib.Core.Path.{_≡_, refl, sym, subst, ap, _∙_, fun-ext}
 use mathlib.Core.Logic.{_≢_, inl, inr}
-use mathlib.Core.Bool.{true, false}
+use mathlib.Core.Bool.{Bool, true, false}
 use mathlib.Core.List.{List, []}
 use mathlib.Core.Option.{none}
 use native.Mathlib.Decide.{ℕ-discrete}
 use native.Mathlib.Numerals.{add-one}
 use native.Mathlib.Omega.{arith}
 use borrow.Author.Tests.{lt-ltb, le-ltb, eq-eqb, ne-eqb}
-use lib.Dec.{eqb}
+use lib.Dec.{eqb, ltb}
 use lib.IntN.{ℤ}
 use lib.ListN.{length, getD, set, length-set, List·getD-eq-default}
 use Rattle.linear.specs.Cases.{split}
@@ -30,17 +30,17 @@ use Rattle.dispatcher.specs.declared.types.Share.{Share}
 use Rattle.dispatcher.specs.declared.types.Verdict.{Verdict}
 use Rattle.dispatcher.specs.declared.types.Verdict.the-variants.{Refuse, Pass}
 use Rattle.dispatch_words.specs.Words.{base, dispatchWords, lastIn, recordIn, recordsIn, roundIn}
-use Rattle.dispatch_words.specs.Words.{scheduleIn, shareIn, sharesIn, told, writeRun, writeRuns}
+use Rattle.dispatch_words.specs.Words.{scheduleIn, shareIn, sharesIn, told, writeCounts, writeIf, writeOthers, writeRecord, writeRun, writeRuns}
 
 -- ---- reading
 
-pub last-round : (words : List ℕ) → length words ≡ 42 → getD words 0 0 ≡ lastIn words
+pub last-round : (words : List ℕ) → length words ≡ 74 → getD words 0 0 ≡ lastIn words
 unfolding lastIn
-last-round words e = rw (eq-eqb (length words) 42 e)
+last-round words e = rw (eq-eqb (length words) 74 e)
 
-pub last-other : (words : List ℕ) → length words ≢ 42 → 9 ≡ lastIn words
+pub last-other : (words : List ℕ) → length words ≢ 74 → 9 ≡ lastIn words
 unfolding lastIn
-last-other words ne = rw (ne-eqb (length words) 42 ne)
+last-other words ne = rw (ne-eqb (length words) 74 ne)
 
 shares-at : (words : List ℕ) {all : List Share} → Filled 8 (shareIn words) noShare all 8 → (i : ℕ) → getD all i noShare ≡ sharesIn words i
 unfolding sharesIn
@@ -90,9 +90,9 @@ toldBy Pass words d = (110, servedBy words d)
 -- a call that is not refused was handed as many words as it writes
 abbrev pub Fitting : Verdict → List ℕ → Type 0
 Fitting (Refuse why) words = Unit {0}
-Fitting Pass words = length words ≡ 42
+Fitting Pass words = length words ≡ 74
 
-pub fitting-pass : (words : List ℕ) {v : Verdict} → v ≡ Pass → Fitting v words → length words ≡ 42
+pub fitting-pass : (words : List ℕ) {v : Verdict} → v ≡ Pass → Fitting v words → length words ≡ 74
 fitting-pass words e h = rw e at h
 
 module _ (words : List ℕ) (d : Dispatched) {v : Verdict} where
@@ -102,9 +102,25 @@ module _ (words : List ℕ) (d : Dispatched) {v : Verdict} where
   pub told-served : v ≡ Pass → {left : List ℕ} → left ≡ servedBy words d → (110, left) ≡ toldBy v words d
   told-served e q = rw (e, q)
 
+pub record-length : (words : List ℕ) (at : ℕ) (r : tables.Record) → length (writeRecord words at r) ≡ length words
+unfolding writeRecord
+record-length words at r = if-length (ltb (r .height) 65)
+  where
+    if-length : (b : Bool) → length (writeIf b words at r) ≡ length words
+    if-length true = rw (length-set, length-set, length-set, length-set, length-set, length-set, length-set)
+    if-length false = refl
+
+pub record-written : (words : List ℕ) (at : ℕ) (r : tables.Record) → r .height < 65 → writeOthers (writeCounts words at r) at r ≡ writeRecord words at r
+unfolding writeRecord
+record-written words at r l = rw (lt-ltb (r .height) 65 l)
+
+pub record-left : (words : List ℕ) (at : ℕ) (r : tables.Record) → 65 ≤ r .height → words ≡ writeRecord words at r
+unfolding writeRecord
+record-left words at r l = rw (le-ltb (r .height) 65 l)
+
 pub run-length : (words : List ℕ) (at : ℕ) (r : tables.Record) (a : paper.Answer) → length (writeRun words at r a) ≡ length words
 unfolding writeRun
-run-length words at r a = rw (length-set, length-set, length-set, length-set, length-set)
+run-length words at r a = rw (length-set, length-set) (record-length words at r)
 
 pub runs-length : (n : ℕ) (words : List ℕ) (runs : ℕ → tables.Record) (answers : ℕ → paper.Answer) → length (writeRuns n words runs answers) ≡ length words
 unfolding writeRuns
@@ -115,29 +131,29 @@ pub served-length : (words : List ℕ) (d : Dispatched) → length (servedBy wor
 served-length words d = runs-length 8 _ _ _ ∙ length-set (set words 0 (d .last)) 1 (d .steps) ∙ length-set words 0 (d .last)
 
 pub runs-next : (n : ℕ) (words : List ℕ) (runs : ℕ → tables.Record) (answers : ℕ → paper.Answer)
-    → writeRun (writeRuns n words runs answers) (2 + 5 * n) (runs n) (answers n) ≡ writeRuns (n + 1) words runs answers
+    → writeRun (writeRuns n words runs answers) (2 + 9 * n) (runs n) (answers n) ≡ writeRuns (n + 1) words runs answers
 unfolding writeRuns
 runs-next n words runs answers = rw (add-one n)
 
 -- the loop that writes the runs, after i of them
 pub record Writing (outcomes : List Outcome) (words₀ words : List ℕ) (i : ℕ) : Type 0 where
   pub upto : i ≤ 8
-  pub long : length words ≡ 42
+  pub long : length words ≡ 74
   pub same : words ≡ leftBy i words₀ outcomes
 
-pub writing-begins : (outcomes : List Outcome) (words : List ℕ) → length words ≡ 42 → Writing outcomes words words 0
+pub writing-begins : (outcomes : List Outcome) (words : List ℕ) → length words ≡ 74 → Writing outcomes words words 0
 unfolding writeRuns
 writing-begins outcomes words e = record { upto = omega arith; long = e; same = refl }
 
 module _ {outcomes : List Outcome} {words₀ words : List ℕ} {i : ℕ} (w : Writing outcomes words₀ words i) where
   pub writing-more : i < 8 → {left : List ℕ}
-      → left ≡ writeRun words (2 + 5 * i) (runOf (getD outcomes i noOutcome .run)) (answerOf (getD outcomes i noOutcome .answer))
+      → left ≡ writeRun words (2 + 9 * i) (runOf (getD outcomes i noOutcome .run)) (answerOf (getD outcomes i noOutcome .answer))
       → Writing outcomes words₀ left (i + 1)
   writing-more l {left} e =
       record {
         upto = omega arith;
         long = ap length e ∙ run-length words _ _ _ ∙ w .long;
-        same = e ∙ ap (λ x. writeRun x (2 + 5 * i) (runOf (getD outcomes i noOutcome .run)) (answerOf (getD outcomes i noOutcome .answer))) (w .same)
+        same = e ∙ ap (λ x. writeRun x (2 + 9 * i) (runOf (getD outcomes i noOutcome .run)) (answerOf (getD outcomes i noOutcome .answer))) (w .same)
             ∙ runs-next i words₀ _ _;
       }
 
@@ -181,7 +197,7 @@ module _ (count quantum turns : ℕ) (shares : List ℕ) (coefs : List ℤ) (sta
   fitting-by (Refuse why) e = tt
   fitting-by Pass e =
       let a = accepted (scheduleIn count quantum shares coefs) (roundIn stack list words) (sym (check-is turns _ _) ∙ sym e) in
-      elim (ℕ-discrete (length words) 42) [ yes q ↦ q | no ne ↦ absurd (omega (arith, a .kept, last-other words ne)) ]
+      elim (ℕ-discrete (length words) 74) [ yes q ↦ q | no ne ↦ absurd (omega (arith, a .kept, last-other words ne)) ]
 
   module _ {all : List Share} {records : List Record} {last : ℕ} (f : Filled 8 (shareIn shares) noShare all 8)
       (g : Filled 8 (recordIn words) noRecord records 8) (e : last ≡ lastIn words) (d : Dispatched) {stack′ list′ : List ℕ}

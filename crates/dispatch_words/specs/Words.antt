@@ -8,8 +8,10 @@ use lib.IntN.{ℤ}
 use lib.ListN.{length, getD, set}
 use Rattle.definitions.specs.Answers.{Answer, Check, complete, go, paused, refuse, refused, started}
 use Rattle.definitions.specs.Tables as tables
+use Rattle.definitions.specs.Tables.{runNumber}
 use Rattle.calls.specs.Paper.{runOf, value}
 use Rattle.calls.specs.declared.Record.{Record}
+use Rattle.record_words.specs.Words.{recordAt}
 use Rattle.dispatch_form.specs.Dispatch.{Dispatched, Round, Schedule, dispatch, either}
 use Rattle.dispatcher.specs.Form.{noRecord, noShare, shareFor}
 use Rattle.dispatcher.specs.declared.types.Share.{Share}
@@ -33,20 +35,22 @@ shareIn words i = shareAt words (8 * i)
 unfoldable pub sharesIn : List ℕ → ℕ → Share
 sharesIn words i = either (ltb i 8) (shareIn words i) noShare
 
--- The dispatcher's record is 42 words: the number of the run served last, the steps of the call, and for each of eight runs its record (height,
--- solutions found, steps taken), the number of its answer and the place that it comes with.
+-- The dispatcher's record is 74 words: the number of the run served last, the steps of the call, and for each of eight runs the seven words of its record,
+-- the number of its answer and the place that it comes with.
 abbrev pub isRound : List ℕ → Bool
-isRound words = eqb (length words) 42
+isRound words = eqb (length words) 74
 
 -- where those of run i (from 0) begin
 abbrev pub base : ℕ → ℕ
-base i = 2 + 5 * i
+base i = 2 + 9 * i
 
-abbrev pub recordAt : List ℕ → ℕ → Record
-recordAt words at = record { height = getD words at 0; found = record { 0 = getD words (at + 1) 0 }; steps = record { 0 = getD words (at + 2) 0 } }
+abbrev pub runAt : List ℕ → ℕ → Record
+runAt words at =
+    recordAt (getD words at 0) (getD words (at + 1) 0) (getD words (at + 2) 0) (getD words (at + 3) 0) (getD words (at + 4) 0) (getD words (at + 5) 0)
+    (getD words (at + 6) 0)
 
 unfoldable pub recordIn : List ℕ → ℕ → Record
-recordIn words i = recordAt words (base i)
+recordIn words i = runAt words (base i)
 
 unfoldable pub recordsIn : List ℕ → ℕ → Record
 recordsIn words i = either (ltb i 8) (recordIn words i) noRecord
@@ -81,9 +85,23 @@ answerPlace started = 0
 answerPlace paused = 0
 answerPlace (refused n values) = value values
 
+-- a run's record, in seven words from a place on
+abbrev pub writeCounts : List ℕ → ℕ → tables.Record → List ℕ
+writeCounts words at r = set (set (set words at (r .height)) (at + 1) (r .found)) (at + 2) (r .steps)
+
+abbrev pub writeOthers : List ℕ → ℕ → tables.Record → List ℕ
+writeOthers words at r = set (set (set (set words (at + 3) (runNumber (r .kind))) (at + 4) (r .found₂)) (at + 5) (r .steps₂)) (at + 6) (r .deepest)
+
+abbrev pub writeIf : Bool → List ℕ → ℕ → tables.Record → List ℕ
+writeIf true words at r = writeOthers (writeCounts words at r) at r
+writeIf false words at r = words
+
+-- (a record that was read as out of order is not written, since no call goes on with it)
+unfoldable pub writeRecord : List ℕ → ℕ → tables.Record → List ℕ
+writeRecord words at r = writeIf (ltb (r .height) 65) words at r
+
 unfoldable pub writeRun : List ℕ → ℕ → tables.Record → Answer → List ℕ
-writeRun words at r a =
-    set (set (set (set (set words at (r .height)) (at + 1) (r .found)) (at + 2) (r .steps)) (at + 3) (answerNumber a)) (at + 4) (answerPlace a)
+writeRun words at r a = set (set (writeRecord words at r) (at + 7) (answerNumber a)) (at + 8) (answerPlace a)
 
 -- the words with the first n runs written
 unfoldable pub writeRuns : ℕ → List ℕ → (ℕ → tables.Record) → (ℕ → Answer) → List ℕ

@@ -4,12 +4,11 @@ ghost use Prim.Native.Nat.{_<_, _≤_};
 ghost use lib.ListN.{getD};
 ghost use Rattle.dispatcher.specs.Filling.{Filled};
 ghost use Rattle.dispatcher.specs.Form.{noRecord, noShare};
-ghost use Rattle.dispatch_words.specs.Words.{lastIn, recordAt, recordIn, shareAt, shareIn};
+ghost use Rattle.dispatch_words.specs.Words.{lastIn, recordIn, runAt, shareAt, shareIn};
 use calls::Record;
-use calls::Solutions;
-use calls::Steps;
 use dispatcher::types::Part;
 use dispatcher::types::Share;
+use record_words::words;
 
 // A word, and 0 past the end.
 fn word(words: &[u64], k: usize) -> u64
@@ -62,12 +61,19 @@ pub fn shares(words: &[u64]) -> [Share; 8]
 
 // The run record whose words begin at a place.
 fn record(words: &[u64], base: usize) -> Record
-    requires { ⌜ base ≤ 37 ⌝ }
-    ensures { λ r. ⌜ r ≡ recordAt (now (words .entry)) base ⌝ }
+    requires { ⌜ base ≤ 65 ⌝ }
+    ensures { λ r. ⌜ r ≡ runAt (now (words .entry)) base ⌝ }
 {
-    let height = word(words, base) as usize;
-    let found = Solutions(word(words, base + 1) as usize);
-    Record::new(height, found, Steps(word(words, base + 2)))
+    let seven = [
+        word(words, base),
+        word(words, base + 1),
+        word(words, base + 2),
+        word(words, base + 3),
+        word(words, base + 4),
+        word(words, base + 5),
+        word(words, base + 6),
+    ];
+    words::read(&seven)
 }
 
 // The records of eight runs.
@@ -77,7 +83,7 @@ pub fn records(words: &[u64]) -> [Record; 8]
     let mut all = [record(words, 2); 8];
     let mut i = 0;
     while i < 8 {
-        all[i] = record(words, 2 + 5 * i);
+        all[i] = record(words, 2 + 9 * i);
         i += 1;
     }
     all
@@ -87,7 +93,7 @@ pub fn records(words: &[u64]) -> [Record; 8]
 pub fn last(words: &[u64]) -> usize
     ensures { λ r. ⌜ r ≡ lastIn (now (words .entry)) ⌝ }
 {
-    if words.len() == 42 {
+    if words.len() == 74 {
         return words[0] as usize;
     }
     9

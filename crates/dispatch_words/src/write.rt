@@ -4,10 +4,11 @@ ghost use Prim.Native.Nat.{_+_, _*_, _<_, _≤_};
 ghost use lib.ListN.{length, getD};
 ghost use Rattle.calls.specs.Paper.{answerOf, runOf};
 ghost use Rattle.dispatcher.specs.Form.{faultOf};
-ghost use Rattle.dispatch_words.specs.Words.{answerNumber, answerPlace, writeRun};
+ghost use Rattle.dispatch_words.specs.Words.{answerNumber, answerPlace, writeCounts, writeOthers, writeRecord, writeRun};
 ghost use Rattle.dispatch_words.specs.WordLaws.{Fitting, leftBy, servedBy, toldBy};
 use calls::Answer;
 use calls::Outcome;
+use calls::Record;
 use dispatcher::types::Dispatched;
 use dispatcher::types::Fault;
 use dispatcher::types::Verdict;
@@ -46,35 +47,64 @@ fn fault(why: Fault) -> u64
     }
 }
 
+// Writes the seven words of a run's record.
+fn record(words: &mut [u64], at: usize, r: Record)
+    requires { ⌜ at + 6 < length (now words) ⌝ }
+    ensures { λ _. ⌜ now (words .exit) ≡ writeRecord (now (words .entry)) at (runOf r) ⌝ }
+{
+    if r.height < 65 {
+        counts(words, at, r);
+        others(words, at, r);
+    }
+}
+
+fn counts(words: &mut [u64], at: usize, r: Record)
+    requires { ⌜ at + 6 < length (now words) ⌝ }
+    ensures { λ _. ⌜ now (words .exit) ≡ writeCounts (now (words .entry)) at (runOf r) ⌝ }
+{
+    words[at] = r.height as u64;
+    words[at + 1] = r.found.0 as u64;
+    words[at + 2] = r.steps.0;
+}
+
+fn others(words: &mut [u64], at: usize, r: Record)
+    requires { ⌜ at + 6 < length (now words) ⌝ }
+    ensures { λ _. ⌜ now (words .exit) ≡ writeOthers (now (words .entry)) at (runOf r) ⌝ }
+{
+    let kind = r.kind;
+    words[at + 3] = calls::run_number(kind);
+    words[at + 4] = r.second.0 as u64;
+    words[at + 5] = r.before.0;
+    words[at + 6] = r.deepest;
+}
+
 // Writes what a run answered and left.
 fn run(words: &mut [u64], at: usize, o: Outcome)
-    requires { ⌜ at + 4 < length (now words) ⌝ }
+    requires { ⌜ at + 8 < length (now words) ⌝ }
     ensures { λ _. ⌜ now (words .exit) ≡ writeRun (now (words .entry)) at (runOf (o .run)) (answerOf (o .answer)) ⌝ }
 {
     let answer = o.answer;
     let r = o.run;
-    words[at] = r.height as u64;
-    words[at + 1] = r.found.0 as u64;
-    words[at + 2] = r.steps.0;
-    words[at + 3] = number(answer);
-    words[at + 4] = place(answer);
+    record(words, at, r);
+    words[at + 7] = number(answer);
+    words[at + 8] = place(answer);
 }
 
 // Writes what eight runs answered and left.
 fn runs(words: &mut [u64], outcomes: [Outcome; 8])
-    requires { ⌜ length (now words) ≡ 42 ⌝ }
+    requires { ⌜ length (now words) ≡ 74 ⌝ }
     ensures { λ _. ⌜ now (words .exit) ≡ leftBy 8 (now (words .entry)) outcomes ⌝ }
 {
     let mut i = 0;
     while i < 8 {
-        run(words, 2 + 5 * i, outcomes[i]);
+        run(words, 2 + 9 * i, outcomes[i]);
         i += 1;
     }
 }
 
 // Writes what a call that was not refused answered and left.
 fn served(words: &mut [u64], d: Dispatched)
-    requires { ⌜ length (now words) ≡ 42 ⌝ }
+    requires { ⌜ length (now words) ≡ 74 ⌝ }
     ensures { λ _. ⌜ now (words .exit) ≡ servedBy (now (words .entry)) d ⌝ }
 {
     let outcomes = d.outcomes;

@@ -13,7 +13,7 @@ use Rattle.definitions.specs.Input.{Input, inputOf}
 use Rattle.definitions.specs.Machine as machine
 use Rattle.definitions.specs.Refusals.{between}
 use Rattle.definitions.specs.Tables.{State}
-use Rattle.calls.specs.Paper.{answerOf, runOf, stateOf}
+use Rattle.calls.specs.Paper.{answerOf, plainRecord, runOf, stateOf}
 use Rattle.calls.specs.declared.Record.{Record}
 use Rattle.calls.specs.declared.Outcome.{Outcome}
 use Rattle.calls.specs.declared.Answer.the-variants.{Started}
@@ -42,7 +42,7 @@ abbrev pub noShare : Share
 noShare = record { p = 0; q = 0; coefs = noPart; stack = noPart; list = noPart }
 
 abbrev pub noRecord : Record
-noRecord = record { height = 0; found = record { 0 = 0 }; steps = record { 0 = 0 } }
+noRecord = plainRecord 0 (record { 0 = 0 }) (record { 0 = 0 })
 
 abbrev pub noProgress : Progress
 noProgress = record { run = noRecord; last = NoTurn }
@@ -139,6 +139,7 @@ placed a b stack list o =
           record {
             stack = withPart (partFor a) stack (o .state .stack);
             list = withPart (partFor b) list (o .state .list);
+            second = o .state .second;
             run = o .state .run;
           };
     }

@@ -52,6 +52,7 @@ fn idle(share: Share, coefs: &[i32], stack: &[u32], list: &[u32], r: Record) -> 
         &stack[a_start..a_end],
         &list[b_start..b_end],
         r,
+        calls::COMPONENT_LIMIT,
     ) {
         Check::Refuse(why) => Answer::Refused(why),
         Check::Pass => rest(r.height),

@@ -42,6 +42,7 @@ pub fn serve(
         &mut list[first..last],
         r,
         quantum,
+        calls::COMPONENT_LIMIT,
     )
 }
 

@@ -1,5 +1,6 @@
 -- `dispatch_words::read::record` meets its contract. Assumes nothing.
 use borrow.Author.Needs.{needs}
+use Rattle.record_words.specs.Words.{recordIn}
 use Rattle.dispatch_words.proofs.read.record.Statement.{statement}
 use Rattle.dispatch_words.proofs.read.record.Tie as tie
 
@@ -18,12 +19,65 @@ add-word-2 c = search needs
 word-requires-3 : tie.Need-word-requires-3
 word-requires-3 c κs = search needs
 
-new-requires : tie.Need-new-requires
-new-requires c κs = search needs
+add-word-3 : tie.Need-add-word-3
+add-word-3 c = search needs
+
+word-requires-4 : tie.Need-word-requires-4
+word-requires-4 c κs = search needs
+
+add-word-4 : tie.Need-add-word-4
+add-word-4 c = search needs
+
+word-requires-5 : tie.Need-word-requires-5
+word-requires-5 c κs = search needs
+
+add-word-5 : tie.Need-add-word-5
+add-word-5 c = search needs
+
+word-requires-6 : tie.Need-word-requires-6
+word-requires-6 c κs = search needs
+
+add-word-6 : tie.Need-add-word-6
+add-word-6 c = search needs
+
+word-requires-7 : tie.Need-word-requires-7
+word-requires-7 c κs = search needs
+
+slice-aggregate-read : tie.Need-slice-aggregate-read
+slice-aggregate-read c = search needs
+
+read-requires : tie.Need-read-requires
+read-requires c κs = search needs
 
 returns : tie.Need-returns
-returns c = cc (c .new .ensures, c .before .word3 .ensures, c .before .before .word2 .ensures, c .before .before .before .word .ensures)
+unfolding recordIn
+returns c =
+    let w7 = c .before .before in
+    let w6 = w7 .before in
+    let w5 = w6 .before in
+    let w4 = w5 .before in
+    let w3 = w4 .before in
+    let w2 = w3 .before in
+    let w1 = w2 .before in
+    rw (c .read .ensures, w7 .word7 .ensures, w6 .word6 .ensures, w5 .word5 .ensures, w4 .word4 .ensures, w3 .word3 .ensures, w2 .word2 .ensures, w1 .word .ensures)
 
 pub record-spec : {M : Type 1} → statement M
 record-spec =
-    tie.close (tie.spec word-requires add-word word-requires-2 add-word-2 word-requires-3 new-requires returns)
+    tie.close
+    (tie.spec
+    word-requires
+    add-word
+    word-requires-2
+    add-word-2
+    word-requires-3
+    add-word-3
+    word-requires-4
+    add-word-4
+    word-requires-5
+    add-word-5
+    word-requires-6
+    add-word-6
+    word-requires-7
+    slice-aggregate-read
+    read-requires
+    returns)

@@ -1,0 +1,33 @@
+-- `dispatch_words::write::record` meets its contract. Assumes nothing.
+use borrow.Author.Needs.{needs}
+use Rattle.dispatch_words.specs.WordLaws.{record-left, record-written}
+use Rattle.dispatch_words.proofs.write.record.Statement.{statement}
+use Rattle.dispatch_words.proofs.write.record.Tie as tie
+
+counts-requires : tie.Need-counts-requires
+counts-requires c κs = search needs
+
+others-requires : tie.Need-others-requires
+others-requires c κs = search needs
+
+same-length : tie.Need-same-length
+same-length c = search needs
+
+returns : tie.Need-returns
+returns c =
+    let o = c .before .before in
+    let k = o .before .before .before .before in
+    rw (o .others .ensures, k .counts .ensures) (record-written _ _ _ (k .before .before .if1 .taken))
+
+returns-2 : tie.Need-returns-2
+returns-2 c = record-left _ _ _ (c .if1 .left)
+
+pub record-spec : {M : Type 1} → statement M
+record-spec =
+    tie.close
+    (tie.spec
+    counts-requires
+    others-requires
+    same-length
+    returns
+    returns-2)
