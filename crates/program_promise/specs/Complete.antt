@@ -12,7 +12,7 @@ use Rattle.definitions.specs.System.{MinimalSolution}
 use Rattle.definitions.specs.Tables.{State}
 use Rattle.theorems.specs.Demands.{second-demand}
 use Rattle.theorems.specs.Listed.{Exactly}
-use Rattle.theorems.specs.Run.{started-plain}
+use Rattle.theorems.specs.Run.{started-units}
 use Rattle.texts.specs.Decimals.{bytes, decimal}
 use Rattle.map_form.specs.Form.{lines, written, MapInRange}
 use Rattle.map_form.specs.Reading as reading
@@ -78,7 +78,7 @@ module _ (t : List ℕ) (p q : ℕ) (coefs : List ℤ) (e : readMap t ≡ readin
         text = x;
         range = y;
         shown = shown-as f;
-        basis = second-demand .plainly input (start input blank .state) (started-plain blank (run-starts y)) .finished 1000000 f;
+        basis = second-demand .lists input (start input blank .state) (started-units blank (run-starts y)) .finished 1000000 f;
       }
   by-answer paused f =
       let d = ends-after front (ends-after listed (record { others = bytes "end pause"; text = refl })) in

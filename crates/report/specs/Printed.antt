@@ -8,7 +8,7 @@ use lib.ListN.{replicate}
 use Rattle.definitions.specs.Answers.{Answer, started, complete, paused, refused}
 use Rattle.definitions.specs.Input.{Input, inputOf}
 use Rattle.definitions.specs.Machine.{Outcome}
-use Rattle.definitions.specs.Tables.{State, begun}
+use Rattle.definitions.specs.Tables.{State, begun, plainRun}
 use Rattle.definitions.specs.Calls.{start, resume}
 use Rattle.texts.specs.Decimals.{newline, bytes, decimal}
 use Rattle.map_form.specs.Form.{lines}
@@ -52,7 +52,7 @@ runText p q o =
 
 -- what the program lends, before the start: 16 rows of 17 numbers for the stack, and "room for 8,192 numbers in the list"
 abbrev pub blank : State
-blank = record { stack = replicate 272 0; list = replicate 8192 0; run = begun 0 }
+blank = record { stack = replicate 272 0; list = replicate 8192 0; second = []; run = begun plainRun 0 }
 
 -- a plain start, and one continuing call: "It allows 1,000,000 steps"
 unfoldable pub run : Input → Outcome State

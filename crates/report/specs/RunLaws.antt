@@ -18,10 +18,10 @@ use Rattle.definitions.specs.Machine.{Outcome, call, checked, unlessDone, walk}
 use Rattle.definitions.specs.Refusals.{startChecks, resumeChecks, searchChecks}
 use Rattle.definitions.specs.Step.{step}
 use Rattle.definitions.specs.System.{System}
-use Rattle.definitions.specs.Tables.{State, plainStart}
+use Rattle.definitions.specs.Tables.{State, unitsStart}
 use Rattle.laws.specs.MachineLaws.{call-walks}
-use Rattle.laws.specs.RefusalLaws.{Valid, start-renders, start-shaped, resume-valid, search-going, valid-resume}
-use Rattle.laws.specs.ValidLaws.{found-fits, plain-valid, step-valid}
+use Rattle.laws.specs.RefusalLaws.{Valid, start-handed, start-renders, start-shaped, resume-valid, search-going, valid-resume}
+use Rattle.laws.specs.ValidLaws.{found-fits, step-valid, units-valid}
 use Rattle.map_form.specs.Form.{MapInRange}
 use Rattle.map_form.specs.Reading.{accepted, readMap}
 use Rattle.map_text.specs.MapLaws.{accepted-written}
@@ -80,9 +80,9 @@ module _ (p q : ℕ) (coefs : List ℤ) where
       (λ e. found-fits (systemOf input) _ (walk-ended n input s (resume-valid input s e) .valid))
 
   start-fits : Fits q (start input blank .state)
-  unfolding start plainStart
+  unfolding start unitsStart
   start-fits =
-      checked-keeps (λ o. Fits q (o .state)) blank (λ t. record { answer = started; state = plainStart (systemOf input) t }) (λ k values. omega arith) (startChecks input blank)
+      checked-keeps (λ o. Fits q (o .state)) blank (λ t. record { answer = started; state = unitsStart (systemOf input) t }) (λ k values. omega arith) (startChecks input blank)
       (λ e. omega arith)
 
   run-fits : Fits q (run input .state)
@@ -114,12 +114,12 @@ module _ {p q : ℕ} {coefs : List ℤ} (r : MapInRange p q coefs) where
         ),
       )
 
-  valid : Valid (systemOf map) (plainStart (systemOf map) blank)
-  valid = plain-valid (systemOf map) blank (start-shaped map blank starts)
+  valid : Valid (systemOf map) (unitsStart (systemOf map) blank)
+  valid = units-valid (systemOf map) blank (start-shaped map blank starts) (λ l. tt)
 
-  run-walks : run map ≡ walk 1000000 (machine map) (plainStart (systemOf map) blank)
+  run-walks : run map ≡ walk 1000000 (machine map) (unitsStart (systemOf map) blank)
   unfolding run start checked
-  run-walks = rw starts (call-walks (machine map) (plainStart (systemOf map) blank) 1000000 (valid-resume map (plainStart (systemOf map) blank) valid) .0)
+  run-walks = rw starts (call-walks (machine map) (unitsStart (systemOf map) blank) 1000000 (valid-resume map (unitsStart (systemOf map) blank) (start-handed map blank starts) valid) .0)
 
   -- the program's start answers "started", and its continuing call does not
   pub run-starts : start map blank .answer ≡ started
@@ -127,11 +127,11 @@ module _ {p q : ℕ} {coefs : List ℤ} (r : MapInRange p q coefs) where
   run-starts = rw starts
 
   pub run-ends : ¬ (run map .answer ≡ started)
-  run-ends = rw run-walks (walk-ended 1000000 map (plainStart (systemOf map) blank) valid .not-started)
+  run-ends = rw run-walks (walk-ended 1000000 map (unitsStart (systemOf map) blank) valid .not-started)
 
 -- Neither the start nor the continuing call is refused before the walk, so that no "earlier refusal" is left to print; and the walk's answer is one of those that have an ending.
 pub map-printed : (t : List ℕ) {p q : ℕ} {coefs : List ℤ} → readMap t ≡ accepted p q coefs
-    → let i : Input = inputOf p q coefs in let o = walk 1000000 (machine i) (plainStart (systemOf i) blank) in (printed t ≡ runText p q o) × (¬ (o .answer ≡ started))
+    → let i : Input = inputOf p q coefs in let o = walk 1000000 (machine i) (unitsStart (systemOf i) blank) in (printed t ≡ runText p q o) × (¬ (o .answer ≡ started))
 unfolding printed readingText
 map-printed t {p} {q} {coefs} e =
     let r = accepted-written t e .1 in (rw (e, run-walks r), walk-ended 1000000 _ _ (valid r) .not-started)

@@ -48,8 +48,8 @@ fn refused(out: &mut [u8], why: TextRefusal) -> usize
     }
 }
 
-// The report on a map: a plain start, and one continuing call.
-fn solved(out: &mut [u8], p: usize, q: usize, coefs: &[i32]) -> usize
+// The report on a map whose coefficients are given: a plain start, and one continuing call.
+pub fn solved(out: &mut [u8], p: usize, q: usize, coefs: &[i32]) -> usize
     requires { ⌜ 91000 ≤ length (now out) ⌝ }
     ensures { λ r. ⌜ Put (now (out .entry)) 0 (paper.runText p q (paper.run (inputOf p q (now (coefs .entry))))) (now (out .exit)) r ⌝ }
 {
@@ -58,7 +58,16 @@ fn solved(out: &mut [u8], p: usize, q: usize, coefs: &[i32]) -> usize
     let blank = Record::new(0, Solutions(0), Steps(0));
     let begun = starts::started(p, q, coefs, &mut stack, &mut list, blank);
     let run = begun.run;
-    let ended = walk::resumed(p, q, coefs, &mut stack, &mut list, run, 1000000);
+    let ended = walk::resumed(
+        p,
+        q,
+        coefs,
+        &mut stack,
+        &mut list,
+        run,
+        1000000,
+        calls::COMPONENT_LIMIT,
+    );
     ran(out, p, q, ended, &list)
 }
 

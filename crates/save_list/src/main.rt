@@ -45,7 +45,16 @@ fn solved(p: usize, q: usize, coefs: &[i32], file: &mut [u8]) -> usize
     let blank = Record::new(0, Solutions(0), Steps(0));
     let begun = starts::started(p, q, coefs, &mut stack, &mut list, blank);
     let run = begun.run;
-    let ended = walk::resumed(p, q, coefs, &mut stack, &mut list, run, 1000000);
+    let ended = walk::resumed(
+        p,
+        q,
+        coefs,
+        &mut stack,
+        &mut list,
+        run,
+        1000000,
+        calls::COMPONENT_LIMIT,
+    );
     let answer = ended.answer;
     let last = ended.run;
     let rows = list_first(&list, times(last.found.0, q));
