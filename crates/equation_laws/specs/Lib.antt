@@ -12,3 +12,4 @@ pub mod DepthLaws
 pub mod RoundTrip
 pub mod Theorems
 pub mod Rules
+pub mod WriteRules

@@ -1,5 +1,5 @@
--- Request 3: "The text is accepted exactly when the grammar has a reading within the limits, and the row equals that reading's meaning."
--- Assumes nothing.
+-- Request 3: "The text is accepted exactly when the grammar has a reading within the limits, and the row equals that reading's meaning.": `read-exactly`, at the
+-- end; its two directions before it. Assumes nothing.
 use Prim.Native.Nat.{ℕ, suc, _≤_, _<_}
 use mathlib.Core.Bool.{false, not, _&&_, _||_}
 use mathlib.Core.List.{List}
@@ -20,7 +20,7 @@ use Rattle.equation_form.specs.Grammar.{Equation, Reads}
 use Rattle.equation_form.specs.Meaning.{coefficient, rightSide, sumSteep}
 use Rattle.equation_form.specs.Reader.{readEquation}
 use Rattle.equation_form.specs.Outcome.{Outcome, accepted, refused, checked, mostDepth, row, limits, treeOutcome, outcome}
-use Rattle.equation_laws.specs.Agreement.{depth, read-any, read-reads}
+use Rattle.equation_laws.specs.Agreement.{depth, read-any, read-reads, unambiguous}
 
 -- the caller's part: 10, 2 and 3 are not due
 pub record Called (q n : ℕ) (t : List ℕ) : Type 0 where
@@ -107,3 +107,24 @@ unfolding outcome treeOutcome checked _then_ refuseWith
 read-is-accepted q n t e r =
     let c = r .called in
     rw (le-ltb mostBytes (length t) (c .short), le-leb 1 q (c .some), le-leb q mostUnknowns (c .few), eq-eqb n q (c .whole), read-any q e t (c .few) (r .reads), within-go q e (r .within))
+
+-- zs and z are the meaning of a reading of the text within the limits
+abbrev pub MeansWithin : ℕ → ℕ → List ℕ → List ℤ → ℤ → Type 0
+MeansWithin q n t zs z = (e : Equation) × ReadAs q n t e × (zs ≡ row q e) × (z ≡ rightSide e)
+
+-- Both directions: "The text is accepted exactly when the grammar has a reading within the limits, and the row equals that reading's meaning."
+pub record ReadExactly (q n : ℕ) (t : List ℕ) : Type 0 where
+  -- where the text is accepted, the grammar has a reading within the limits, and row and right side are its meaning
+  pub only-readings : (zs : List ℤ) (z : ℤ) → outcome q n t ≡ accepted zs z → MeansWithin q n t zs z
+  -- where the grammar has such a reading, the text is accepted, as its meaning
+  pub all-readings : (zs : List ℤ) (z : ℤ) → MeansWithin q n t zs z → outcome q n t ≡ accepted zs z
+  -- "that reading": there is no other
+  pub one-reading : (e f : Equation) → ReadAs q n t e → ReadAs q n t f → e ≡ f
+
+pub read-exactly : (q n : ℕ) (t : List ℕ) → ReadExactly q n t
+read-exactly q n t =
+    record {
+      only-readings = λ zs z. accepted-is-read q n t;
+      all-readings = λ zs z (e, r, u, v). rw (u, v) (read-is-accepted q n t e r);
+      one-reading = λ e f r s. unambiguous q e f t (r .called .few) (r .reads) (s .reads);
+    }

@@ -9,3 +9,4 @@ pub mod MeaningLaws
 pub mod Answer
 pub mod EquationLaws
 pub mod SideLaws
+pub mod AnsweredLaws

@@ -96,7 +96,7 @@ fn accept(p: usize, q: usize, found: &[i32], coefs: &mut [i32]) -> Read
 }
 
 // Writes `found` to the beginning of `coefs`.
-fn copy(found: &[i32], coefs: &mut [i32])
+pub fn copy(found: &[i32], coefs: &mut [i32])
     requires { ⌜ length (now found) ≤ length (now coefs) ⌝ }
     ensures { λ r. ⌜ now (coefs .exit) ≡ now (found .entry) ++ drop (length (now (found .entry))) (now (coefs .entry)) ⌝ }
 {

@@ -1,0 +1,4 @@
+pub mod Lines
+pub mod Systems
+pub mod Examples
+pub mod Rules

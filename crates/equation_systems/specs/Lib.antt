@@ -1,0 +1,4 @@
+pub mod Answer
+pub mod LineLaws
+pub mod RowLaws
+pub mod CallLaws
