@@ -1,0 +1,106 @@
+// What a solution is made of (document 02, Job 13): the multiples of the rows of a list.
+ghost use mathlib.Core.Path.{_≡_};
+ghost use Prim.Native.Nat.{_*_, _≤_, _<_};
+ghost use lib.Dec.{leb};
+ghost use lib.ListN.{length};
+ghost use Rattle.definitions.specs.Input.{inputOf};
+ghost use Rattle.definitions.specs.Reasons.{reason};
+ghost use Rattle.definitions.specs.Tables.{at};
+ghost use Rattle.lists.specs.Rows.{tuple};
+ghost use Rattle.multiples_form.specs.Parts as paper;
+ghost use Rattle.multiples.specs.Answers.{ExcuseIs, outcomeOf, partsTold};
+use calls::Refusal;
+use calls::Solutions;
+use reasons::Reason;
+
+mod rows; // rows.rt: rows taken off a tuple
+
+// What is answered, equations from 1; specs/Answers.antt has the document's values for each.
+pub enum Parts {
+    Made,
+    Off(usize, i64),
+    Unlisted,
+    NoSpace,
+    Refused(Refusal),
+}
+
+// Why a tuple is not taken apart: it is no solution, or the question is refused.
+pub enum Excuse {
+    Solves,
+    Off(usize, i64),
+    Refused(Refusal),
+}
+
+// Takes a tuple apart into the first `found` rows of a list table: where it is made of them, `times` tells how often each is taken.
+pub fn decompose(
+    p: usize,
+    q: usize,
+    coefs: &[i32],
+    list: &[u32],
+    found: Solutions,
+    t: &[u32],
+    times: &mut [u32],
+) -> Parts
+    ensures { λ r. ⌜ outcomeOf r (now (times .exit)) ≡
+        paper.decomposed (inputOf p q (now (coefs .entry))) (now (list .entry)) (found .0) (now (t .entry)) (now (times .entry)) ⌝ }
+{
+    match why_not(p, q, coefs, list, found.0, t) {
+        Excuse::Refused(why) => Parts::Refused(why),
+        Excuse::Off(k, amount) => Parts::Off(k, amount),
+        Excuse::Solves => apart(list, found.0, q, t, times),
+    }
+}
+
+// The same as one number, for C: a refusal's own number, 29 for no space, and those of Job 8's reasons.
+pub fn decompose_number(
+    p: usize,
+    q: usize,
+    coefs: &[i32],
+    list: &[u32],
+    found: usize,
+    t: &[u32],
+    times: &mut [u32],
+) -> u64
+    ensures { λ r. ⌜ (r, now (times .exit)) ≡
+        partsTold (paper.decomposed (inputOf p q (now (coefs .entry))) (now (list .entry)) found (now (t .entry)) (now (times .entry))) ⌝ }
+{
+    match decompose(p, q, coefs, list, Solutions(found), t, times) {
+        Parts::Made => 125,
+        Parts::Off(_, _) => 121,
+        Parts::Unlisted => 124,
+        Parts::NoSpace => 29,
+        Parts::Refused(why) => calls::number_of(why),
+    }
+}
+
+fn why_not(p: usize, q: usize, coefs: &[i32], list: &[u32], found: usize, t: &[u32]) -> Excuse
+    ensures { λ e. ⌜ ExcuseIs (reason (inputOf p q (now (coefs .entry))) (now (list .entry)) found (now (t .entry))) e ⌝ }
+{
+    match reasons::explain(p, q, coefs, list, Solutions(found), t) {
+        Reason::Zero => Excuse::Solves,
+        Reason::Off(k, amount) => Excuse::Off(k, amount),
+        Reason::Stands(_) => Excuse::Solves,
+        Reason::Above(_) => Excuse::Solves,
+        Reason::Unlisted => Excuse::Solves,
+        Reason::Refused(why) => Excuse::Refused(why),
+    }
+}
+
+// A solution, if there is a place for a multiple of each row.
+fn apart(list: &[u32], found: usize, q: usize, t: &[u32], times: &mut [u32]) -> Parts
+    requires { ⌜ (q ≤ 16) × (q ≤ length (now t)) × (found * q ≤ length (now list)) ⌝ }
+    ensures { λ r. ⌜ outcomeOf r (now (times .exit)) ≡
+        paper.ifSpace (leb found (length (now (times .entry)))) (now (times .entry))
+        (paper.takenApart q found (at (now (list .entry)) q) (tuple (now (t .entry))) (now (times .entry))) ⌝ }
+{
+    if times.len() < found {
+        return Parts::NoSpace;
+    }
+    let mut rest = [0u32; 16];
+    lists::rows::write(&mut rest, 0, q, t);
+    rows::take(list, found, q, &mut rest, times);
+    if reasons::vanishes(q, &rest) {
+        return Parts::Made;
+    }
+    Parts::Unlisted
+}

@@ -1,0 +1,61 @@
+// Asks the questions about lists that a model outside Rattle wrote down (tests/questions/model.py), one a line, each with its answers; counts those that agree;
+// and names the first lines that do not. Some are drawn; the others are every tuple of small boxes, the reasons looked up by trying.
+use crate::line::Line;
+use crate::line::Word;
+use crate::tally::Tally;
+
+mod line; // line.rt: the words of a line
+mod replay; // replay.rt: the questions of a line
+mod tally; // tally.rt: what was counted
+
+// What was read so far of the line and the word under way, and what the lines before came to.
+struct State {
+    line: Line,
+    word: Word,
+    tally: Tally,
+}
+
+fn main() {
+    let mut s = State {
+        line: line::empty(),
+        word: line::no_word(),
+        tally: tally::none(),
+    };
+    let mut pieces: u64 = 64;
+    while 0 < pieces {
+        s = piece(s);
+        pieces -= 1;
+    }
+    let t = s.tally;
+    tally::report(t);
+}
+
+// The next 65,536 bytes of the text, or what is left of it.
+fn piece(s: State) -> State {
+    let mut text = io::large_buffer();
+    let n = io::read_full(0, &mut text);
+    read(s, &text[..n])
+}
+
+fn read(s: State, text: &[u8]) -> State {
+    let mut line = s.line;
+    let mut word = s.word;
+    let mut tally = s.tally;
+    let mut i = 0;
+    while i < text.len() {
+        let b = text[i];
+        i += 1;
+        if b' ' < b {
+            word = line::longer(word, b);
+            continue;
+        }
+        line = line::with(line, word);
+        word = line::no_word();
+        if b == b' ' {
+            continue;
+        }
+        tally = tally::counted(tally, line);
+        line = line::empty();
+    }
+    State { line, word, tally }
+}
