@@ -2,13 +2,13 @@
 -- Assumes nothing.
 use mathlib.Core.Path.{_≡_, refl}
 use mathlib.Core.Logic.{_⊎_, inl, inr}
-use mathlib.Core.Bool.{Bool, true, false, not, _||_}
+use mathlib.Core.Bool.{Bool, true, false, not}
 use Prim.Native.Nat.{ℕ, zero, suc, _+_, _*_, _<_}
 use native.Mathlib.Nat.{mul-le-mul-right}
 use native.Mathlib.Omega.{arith}
 use lib.Dec.{T, T-not, not-T, ltb→lt, lt→ltb}
 use Rattle.linear.specs.Cases.{order}
-use Rattle.linear.specs.TestLaws.{T-dec, and-both, and-parts, any-at, any-from, count-at, count-mono, count-step}
+use Rattle.linear.specs.TestLaws.{T-dec, and-both, and-parts, any-at, any-from, count-at, count-step, or-cases, or-left, or-right}
 use Rattle.linear.specs.Tests.{anyTo, countTo}
 use Rattle.linear.specs.TupleLaws.{differ, total-less, total-same}
 use Rattle.linear.specs.Tuples.{AtOrBelow, Below, Same, total}
@@ -17,14 +17,6 @@ use Rattle.laws.specs.SystemLaws.{below-from, below-to}
 use Rattle.sweeps.specs.Sweep.{keeps, spoils}
 
 -- ---- what the tests say
-
-or-parts : (b c : Bool) → T (b || c) → T b ⊎ T c
-or-parts true c h = inl tt
-or-parts false c h = inr h
-
-or-one : (b c : Bool) → T b ⊎ T c → T (b || c)
-or-one true c h = tt
-or-one false c h = elim h [ inl x ↦ absurd x | inr x ↦ x ]
 
 pub T-same : (b c : Bool) → (T b → T c) → (T c → T b) → b ≡ c
 T-same true true f g = refl
@@ -39,7 +31,7 @@ module _ (q : ℕ) (row : ℕ → ℕ → ℕ) (i k : ℕ) where
       let (u, o) = and-parts (isAtOrBelow q (row k) (row i)) _ h in
       let b = below-from q (row k) (row i) u in (
         b,
-        elim (or-parts (not (isAtOrBelow q (row i) (row k))) _ o) [
+        elim (or-cases (not (isAtOrBelow q (row i) (row k))) _ o) [
           | inl x ↦ inl (record { at-most = b; other = λ e. T-not (isAtOrBelow q (row i) (row k)) x (below-to q (row i) (row k) (λ j jq. omega (arith, e j jq))) })
           | inr x ↦ inr (ltb→lt k i x)
         ],
@@ -49,12 +41,12 @@ module _ (q : ℕ) (row : ℕ → ℕ → ℕ) (i k : ℕ) where
   unfolding spoils
   below-spoils b =
       and-both (isAtOrBelow q (row k) (row i)) _ (below-to q (row k) (row i) (b .at-most))
-      (or-one (not (isAtOrBelow q (row i) (row k))) _ (inl (not-T (isAtOrBelow q (row i) (row k)) (λ h. b .other (λ j jq. omega (arith, b .at-most j jq, below-from q (row i) (row k) h j jq))))))
+      (or-left (not (isAtOrBelow q (row i) (row k))) _ (not-T (isAtOrBelow q (row i) (row k)) (λ h. b .other (λ j jq. omega (arith, b .at-most j jq, below-from q (row i) (row k) h j jq)))))
 
   repeat-spoils : k < i → AtOrBelow q (row k) (row i) → T (spoils q row i k)
   unfolding spoils
   repeat-spoils l b =
-      and-both (isAtOrBelow q (row k) (row i)) _ (below-to q (row k) (row i) b) (or-one (not (isAtOrBelow q (row i) (row k))) _ (inr (lt→ltb k i l)))
+      and-both (isAtOrBelow q (row k) (row i)) _ (below-to q (row k) (row i) b) (or-right (not (isAtOrBelow q (row i) (row k))) _ (lt→ltb k i l))
 
 -- "each row that lies above another row or repeats an earlier one" is removed: a row stays if no row is below it and no earlier one is the same
 pub record Stays (q n : ℕ) (row : ℕ → ℕ → ℕ) (i : ℕ) : Type 0 where

@@ -1,0 +1,65 @@
+-- `images::vanishes` meets its contract. Every place passed holds 0. Assumes nothing.
+use Prim.Native.Nat.{ℕ, _-_, _≤_, _<_}
+use borrow.Author.Count.{below-more, below-none}
+use borrow.Author.Needs.{needs, sfits-of}
+use denote.Ref.{now}
+use lib.Dec.{T}
+use mathlib.Core.Bool.{false, true}
+use mathlib.Core.Path.{_≡_, ap}
+use mir.Syntax.{w64}
+use mir.Val.{ofZ}
+use native.Mathlib.Nat.{le-antisymm}
+use Rattle.definitions.specs.System.{isZero}
+use Rattle.desk_rows.specs.Images.{entry}
+use Rattle.linear.specs.TestLaws.{all-at, all-from}
+use Rattle.products.specs.Marks.{same-test}
+use Rattle.products.specs.Turns.{is-zero, zero-bits}
+use Rattle.desk_rows.proofs.images.vanishes.Statement.{statement}
+use Rattle.desk_rows.proofs.images.vanishes.Tie as tie
+
+abbrev Inv-loop : tie.InvT-loop
+Inv-loop p images k i₀ i = (i ≤ p) × ((e : ℕ) → e < i → T (isZero (entry images k e)))
+
+abbrev μ-loop : tie.MeasureT-loop
+μ-loop p images k i₀ i = p - i
+
+loop-holds : tie.Need-loop-holds Inv-loop μ-loop
+loop-holds c = (search needs, below-none _)
+
+mul-if1 : tie.Need-mul-if1 Inv-loop μ-loop
+mul-if1 c = search needs
+
+add-if1 : tie.Need-add-if1 Inv-loop μ-loop
+add-if1 c = search needs
+
+mul-if1-2 : tie.Need-mul-if1-2 Inv-loop μ-loop
+mul-if1-2 c = search needs
+
+element-copy-out-if1 : tie.Need-element-copy-out-if1 Inv-loop μ-loop
+element-copy-out-if1 c = search needs
+
+returns : tie.Need-returns Inv-loop μ-loop
+returns c =
+    let l = c .before .before in
+    let z = entry (now (l .before .before .args .images)) (l .before .before .args .k) (l .before .loop .i) in
+    same-test false _ (λ h. absurd h) (λ h. c .if1 .taken (ap (ofZ w64) (is-zero z (all-at _ _ h _ (l .loop-test .taken)))))
+
+add-i : tie.Need-add-i Inv-loop μ-loop
+add-i c = search needs
+
+loop-less : tie.Need-loop-less Inv-loop μ-loop
+loop-less c = search needs
+
+loop-again : tie.Need-loop-again Inv-loop μ-loop
+loop-again c =
+    let a = c .before .before .before in
+    let z = entry (now (a .before .args .images)) (a .before .args .k) (a .loop .i) in
+    (search needs, below-more _ _ (a .loop .inv .1) (zero-bits z (sfits-of (c .before .if12 .given)) (c .if1 .left)))
+
+returns-2 : tie.Need-returns-2 Inv-loop μ-loop
+returns-2 c =
+    let a = c .before in
+    same-test true _ (λ h. all-from _ _ (rw (le-antisymm (a .loop .inv .0) (c .loop-test .left)) at (a .loop .inv .1))) (λ h. tt)
+
+pub vanishes-spec : {M : Type 1} → statement M
+vanishes-spec = tie.close (tie.spec Inv-loop μ-loop loop-holds mul-if1 add-if1 mul-if1-2 element-copy-out-if1 returns add-i loop-less loop-again returns-2)

@@ -1,0 +1,83 @@
+-- `enlist` meets its contract: its three ways out. Assumes nothing.
+use Prim.Native.Nat.{_*_}
+use borrow.Author.Needs.{needs}
+use denote.Ref.{now}
+use mathlib.Core.Path.{refl, _∙_, ap}
+use native.Mathlib.Omega.{arith}
+use Rattle.definitions.specs.Tables.{writeTo}
+use Rattle.desk_step.specs.Listing as listing
+use Rattle.desk_step.specs.Listing.{capacity-small, freed-listed, kept-place, kept-size, next-fits}
+use Rattle.lists.specs.Rows.{tuple}
+use Rattle.desk_step.proofs.enlist.Statement.{statement}
+use Rattle.desk_step.proofs.enlist.Tie as tie
+
+div-capacity : tie.Need-div-capacity
+div-capacity c = search needs
+
+mul-write : tie.Need-mul-write
+mul-write c = search needs
+
+write-requires : tie.Need-write-requires
+write-requires c κs =
+    let t = c .before in
+    let s = t .before .before .before in
+    (s .pre .1, next-fits (s .args .q) (s .args .found) (now (s .args .list)) (t .if1 .taken))
+
+add-t12 : tie.Need-add-t12
+add-t12 c =
+    let t = c .before .before .before .before in
+    let s = t .before .before .before in
+    omega (arith, t .if1 .taken, capacity-small (s .args .q) (now (s .args .list)) (s .pre .0), s .good .0)
+
+same-length : tie.Need-same-length
+same-length c = search needs
+
+returns : tie.Need-returns
+returns c =
+    let w = c .before .before in
+    let t = w .before .before in
+    listing.roomy (t .if1 .taken) refl (w .write .ensures)
+
+sweep-requires : tie.Need-sweep-requires
+sweep-requires c κs = search needs
+
+same-length-2 : tie.Need-same-length-2
+same-length-2 c = search needs
+
+returns-2 : tie.Need-returns-2
+returns-2 c =
+    let w = c .before .before .before in
+    let e = w .before .before in
+    listing.full (e .if1 .left) (rw (w .sweep .ensures .counted) at (c .if2 .taken)) refl (w .sweep .ensures .rows)
+
+mul-write-2 : tie.Need-mul-write-2
+mul-write-2 c =
+    let w = c .before .before .before .before in
+    let s = w .before .before .before .before .before in
+    omega (arith, kept-place (w .sweep .ensures) (s .pre .2), s .good .0)
+
+write-requires-2 : tie.Need-write-requires-2
+write-requires-2 c κs =
+    let w = c .before .before .before .before in
+    let s = w .before .before .before .before .before in
+    (s .pre .1, omega (arith, kept-size (w .sweep .ensures), next-fits (s .args .q) _ (now (s .args .list)) (c .before .if2 .left)))
+
+add-t7 : tie.Need-add-t7
+add-t7 c =
+    let e = c .before .before .before .before in
+    let s = e .before .before .before .before .before .before .before .before in
+    omega (arith, e .if2 .left, capacity-small (s .args .q) (now (s .args .list)) (s .pre .0), s .good .0)
+
+same-length-3 : tie.Need-same-length-3
+same-length-3 c = search needs
+
+returns-3 : tie.Need-returns-3
+returns-3 c =
+    let u = c .before .before in
+    let e = u .before .before in
+    let w = e .before .before .before in
+    let f = w .before .before in
+    freed-listed (f .if1 .left) (w .sweep .ensures) (e .if2 .left) (u .write2 .ensures)
+
+pub enlist-spec : {M : Type 1} → statement M
+enlist-spec = tie.close (tie.spec div-capacity mul-write write-requires add-t12 same-length returns sweep-requires same-length-2 returns-2 mul-write-2 write-requires-2 add-t7 same-length-3 returns-3)

@@ -1,0 +1,3 @@
+pub mod Trying
+pub mod Pushing
+pub mod Listing
