@@ -1,8 +1,8 @@
 #!/usr/bin/env python3
-"""Holds a program that lists by sums of pairs against four others on drawn maps: the model (rows in order, and the number of pairs), the walk's program (as sets),
-boxes (every tuple of a small box), and 4ti2 and Normaliz where they are installed (as sets).
+"""Holds a program that lists by sums of pairs against four others on drawn maps: the model (rows in order, and the number of pairs), the walk's program (as
+sets), boxes (every tuple of a small box), and 4ti2 and Normaliz where they are installed (as sets).
 
-  tests/pairs/compare.py PROGRAM [MAPS]     PROGRAM reads a map and prints as bench/pairs/pairs.c does; target/bin/basis must be built"""
+  tests/pairs/compare.py PROGRAM [MAPS]     PROGRAM reads a map and prints as bench/pairs/pairs.c does; the walk's is target/bin/basis, where built"""
 import itertools
 import os
 import random
@@ -76,7 +76,7 @@ def main():
         assert run.run() == "complete" and ending == "end complete", system
         assert rows == run.rows and lines[2] == f"pairs {run.steps}", system
         solutions += len(rows)
-        walked, found = listed(program(walk, system))
+        walked, found = listed(program(walk, system)) if os.path.exists(walk) else ("", [])
         if walked == "end complete":
             walks += 1
             assert set(found) == set(rows) and len(found) == len(rows), system

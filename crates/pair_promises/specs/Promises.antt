@@ -1,18 +1,17 @@
 -- The promises of a listing by sums of pairs, in one place: open this file first. Assumes nothing.
 use mathlib.Core.Path.{_≡_}
 use mathlib.Core.List.{List}
-use Prim.Native.Nat.{ℕ, _≤_, _<_}
+use Prim.Native.Nat.{ℕ, _<_}
 use native.Mathlib.Nat.{le-div-iff-mul-le}
 use lib.IntN.{ℤ}
 use lib.ListN.{length}
-use Rattle.linear.specs.Combinations.{Enumerates, SumOf}
-use Rattle.linear.specs.Systems.{Solution}
+use Rattle.linear.specs.Combinations.{Enumerates}
 use Rattle.linear.specs.Tuples.{Same}
 use Rattle.definitions.specs.Answers.{complete}
 use Rattle.definitions.specs.Input.{inputOf, systemOf}
 use Rattle.definitions.specs.System.{MinimalSolution, System, coef}
 use Rattle.theorems.specs.Listed.{Exactly}
-use Rattle.decomposition.specs.Loops.{loops-fewest, loops-make-up}
+use Rattle.decomposition.specs.Loops.{MadeOfRows, made-of-loops}
 use Rattle.pairs_form.specs.Calls.{equations, resume}
 use Rattle.pairs_form.specs.Done.{among}
 use Rattle.pairs_form.specs.Equations.{Holding}
@@ -49,20 +48,11 @@ module _ (p q : ℕ) (coefs : List ℤ) where
   cut-short r = run-members p q coefs r
 
   -- Every plan is made of the rows, and no shorter list of solutions does (document 02, Job 13).
-  pub record MadeOfRows (n : ℕ) (row : ℕ → ℕ → ℕ) : Type 0 where
-    pub every : (t : ℕ → ℕ) → Solution p q (equations q coefs) t → SumOf q n row t
-    pub fewest : (m : ℕ) (other : ℕ → ℕ → ℕ) → ((i : ℕ) → i < m → Solution p q (equations q coefs) (other i))
-        → ((t : ℕ → ℕ) → Solution p q (equations q coefs) t → SumOf q m other t) → n ≤ m
-
   pub plans : {s : Work} → Runs p q coefs s → (n k budget : ℕ) → resumed p q coefs n k budget s .answer ≡ complete
-      → MadeOfRows (resumed p q coefs n k budget s .work .rows) (row q (resumed p q coefs n k budget s .work))
+      → MadeOfRows p q (equations q coefs) (resumed p q coefs n k budget s .work .rows) (row q (resumed p q coefs n k budget s .work))
   plans {s} r n k budget e =
-      let loops = complete-lists r n k budget e in
       let o = resumed p q coefs n k budget s .work in
-      record {
-        every = loops-make-up p q (equations q coefs) (o .rows) (row q o) loops;
-        fewest = loops-fewest p q (equations q coefs) (o .rows) (row q o) loops;
-      }
+      made-of-loops p q (equations q coefs) (o .rows) (row q o) (complete-lists r n k budget e)
 
   -- Any other list of the same tuples, the walk's included, is the same set: each row of the one is a row of the other.
   pub same-lists : {n m : ℕ} {one other : ℕ → ℕ → ℕ} → Enumerates q (MinimalSolution (system p q coefs)) n one → Enumerates q (MinimalSolution (system p q coefs)) m other

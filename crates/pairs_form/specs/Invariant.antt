@@ -22,6 +22,7 @@ use Rattle.definitions.specs.System.{mostComponent}
 use Rattle.definitions.specs.Tables.{at, frozen, writeTo}
 use Rattle.laws.specs.TableLaws.{row-fits, write-length}
 use Rattle.decomposition.specs.Loops.{Loop}
+use Rattle.sweeps.specs.Again.{table-swept}
 use Rattle.sweeps.specs.Pack.{pack-length, pack-row}
 use Rattle.sweeps.specs.Sweep.{keeps, sweptTo}
 use Rattle.sweeps.specs.SweepLaws.{comes-from}
@@ -29,7 +30,7 @@ use Rattle.pairs_form.specs.Choice.{Choice, chosen, chosen-fits, pairsOf
 use Rattle.pairs_form.specs.Done.{all-done, among, done-extends, none-asks}
 use Rattle.pairs_form.specs.Equations.{Holding, Wanted, basis-holds, next-equation, units-enumerate, wanted-alike, zeroRow}
 use Rattle.pairs_form.specs.Method.{Turned, Work, always, appended, begin, cleared, ended, following, goes, isSmall, keeping, needed, nextEarlier, nextLater, onward, opposes, paired, pairTurn, passed, reducible, row, stops, sumOf, turn, units, zeros}
-use Rattle.pairs_form.specs.MethodLaws.{Against, against-opposes, append-kept, append-new, pick-fits, pick-length, pick-picks, reduced-itself, reduced-more, reducible-from, small-from, sweep-sweeps}
+use Rattle.pairs_form.specs.MethodLaws.{Against, against-opposes, append-kept, append-new, pick-fits, pick-length, pick-picks, reduced-itself, reduced-more, reducible-from, small-from}
 use Rattle.pairs_form.specs.Signs.{Closed, Reduced, plus}
 
 -- the pair (k, l) comes before the pair (earlier, later)
@@ -208,7 +209,7 @@ module _ (p q : ℕ) (a : ℕ → ℕ → ℤ) (some : 0 < q) (s : Work) (sound 
     unfolding keeping
     end-basis =
         next-equation p q (among (s .done) a) (among done′ a) c (done-extends p q a (s .done) (s .equation) going (sound .left going)) (s .rows) (row q s) (sound .holding) closed
-        (t .rows) (row q t) (pick-picks q (s .table) (s .rows) (sound .fits) (zeroRow q c (row q s))) (r .rows) (row q r) (sweep-sweeps q (t .table) (t .rows) zeros-fit)
+        (t .rows) (row q t) (pick-picks q (s .table) (s .rows) (sound .fits) (zeroRow q c (row q s))) (r .rows) (row q r) (table-swept q (t .rows) (t .table))
 
     zeros-small : (i j : ℕ) → i < t .rows → j < q → row q t i j ≤ mostComponent
     unfolding keeping
@@ -220,7 +221,7 @@ module _ (p q : ℕ) (a : ℕ → ℕ → ℤ) (some : 0 < q) (s : Work) (sound 
     end-small : (i j : ℕ) → i < r .rows → j < q → row q r i j ≤ mostComponent
     unfolding keeping
     end-small m j l jq =
-        let f = comes-from (sweep-sweeps q (t .table) (t .rows) zeros-fit) m l in
+        let f = comes-from (table-swept q (t .rows) (t .table)) m l in
         omega (arith, f .same j jq, zeros-small (f .i) j (f .low) jq)
 
     end-fits : r .rows * q ≤ length (r .table)

@@ -21,8 +21,7 @@ use Rattle.definitions.specs.Tables.{at, writeTo}
 use Rattle.laws.specs.SystemLaws.{below-from, below-to}
 use Rattle.laws.specs.TableLaws.{row-before, write-inside, write-length, write-outside}
 use Rattle.sweeps.specs.Pack.{pack-length, pack-row}
-use Rattle.sweeps.specs.Sweep.{keeps, sweptTo}
-use Rattle.sweeps.specs.SweepLaws.{Swept}
+use Rattle.sweeps.specs.Sweep.{sweptTo}
 use Rattle.pairs_form.specs.Equations.{Picked}
 use Rattle.pairs_form.specs.Method.{isSmall, isWithin, opposes, reduces, reducible}
 use Rattle.pairs_form.specs.Signs.{Reduced, Within, plus}
@@ -132,7 +131,3 @@ module _ (q : ℕ) (table : List ℕ) (n : ℕ) (long : n * q ≤ length table) 
 
   pub pick-fits : countTo n f * q ≤ length (sweptTo n q table f)
   pick-fits = omega (arith, pick-length, native.Mathlib.Nat.mul-le-mul-right q (count-le f n))
-
-pub sweep-sweeps : (q : ℕ) (table : List ℕ) (n : ℕ) → n * q ≤ length table
-    → Swept q n (at table q) (countTo n (keeps q n (at table q))) (at (sweptTo n q table (keeps q n (at table q))) q)
-sweep-sweeps q table n long = let p = pick-picks q table n long (keeps q n (at table q)) in record { count = p .count; rows = p .rows }

@@ -1,0 +1,51 @@
+-- `resume` meets its contract: what the continuing call by value answered and left is told on. Assumes nothing.
+use borrow.Author.Needs.{needs}
+use Rattle.pair_words.specs.CodeLaws.{answer-fits, resume-fits}
+use Rattle.pair_words.specs.WordLaws.{call-told}
+use Rattle.pair_words.specs.Words.{resumeWords}
+use Rattle.pair_words.proofs.resume.Statement.{statement}
+use Rattle.pair_words.proofs.resume.Tie as tie
+
+read-requires : tie.Need-read-requires
+read-requires c κs = search needs
+
+resume-requires : tie.Need-resume-requires
+resume-requires c κs = search needs
+
+tell-requires : tie.Need-tell-requires
+tell-requires c κs =
+    let k = c .before .before .before .before .before .before in
+    answer-fits (k .resume .result) (k .resume .ensures .outcome) (resume-fits _ _ _ _ _ _)
+
+same-length : tie.Need-same-length
+same-length c = search needs
+
+same-length-2 : tie.Need-same-length-2
+same-length-2 c = search needs
+
+same-length-3 : tie.Need-same-length-3
+same-length-3 c = search needs
+
+same-length-4 : tie.Need-same-length-4
+same-length-4 c = search needs
+
+returns : tie.Need-returns
+unfolding resumeWords
+returns c =
+    let t = c .before .before in
+    let k = t .before .before .before .before .before .before .before in
+    let l = rw (k .before .before .before .before .read .ensures) at (k .resume .ensures) in
+    (call-told _ (k .resume .result) (l .outcome) (t .tell .ensures .0) (t .tell .ensures .1), (k .resume .result, l))
+
+pub resume-spec : {M : Type 1} → statement M
+resume-spec =
+    tie.close
+    (tie.spec
+    read-requires
+    resume-requires
+    tell-requires
+    same-length
+    same-length-2
+    same-length-3
+    same-length-4
+    returns)
