@@ -1,7 +1,8 @@
 /* The walk of dezgula.h in plain C, to compare with: the same steps, tables, answers and order of the list.
  *
  * Beside the stack it keeps, for each row, the inner products of the row's image with every column. They tell all that a step asks of an image: it is zero
- * if all of them are, and an unknown may be raised where its product is below zero. Raising an unknown adds its row of the Gram matrix of the columns. */
+ * if all of them are, and an unknown may be raised where its product is below zero. Raising an unknown adds its row of the Gram matrix of the columns, and 1
+ * to the sum of the row's components. */
 #include "baseline.h"
 #include "dezgula.h"
 
@@ -13,6 +14,7 @@ enum { MOST = DEZGULA_MOST_UNKNOWNS };
 typedef struct {
     int64_t gram[MOST][MOST];    /* inner products of the columns */
     int64_t product[MOST][MOST]; /* row k: those of stack row k */
+    uint64_t sum[MOST];          /* the sum of the components of stack row k */
 } cache;
 
 /* ---- before the walk */
@@ -46,7 +48,7 @@ static bool in_order(size_t q, const uint32_t *stack, size_t height)
 }
 
 /* The words of a run record. */
-enum { HEIGHT, FOUND, STEPS };
+enum { HEIGHT, FOUND, STEPS, KIND, SECOND, BEFORE, DEEPEST };
 
 uint64_t baseline_start(size_t p, size_t q, const int32_t *coefs, size_t coefs_len, uint32_t *stack, size_t stack_len, uint32_t *list, size_t list_len,
                         uint64_t *record, size_t record_len)
@@ -60,15 +62,14 @@ uint64_t baseline_start(size_t p, size_t q, const int32_t *coefs, size_t coefs_l
         for (size_t j = 0; j < q; j++) stack[j] = j == k;
         stack[q] = (1u << k) - 1;
     }
+    memset(record, 0, DEZGULA_RECORD_LENGTH * sizeof *record);
     record[HEIGHT] = q;
-    record[FOUND] = 0;
-    record[STEPS] = 0;
     return DEZGULA_STARTED;
 }
 
 /* ---- the walk */
 
-/* Fills the Gram matrix, and the products of the rows that are on the stack; a row is filled to its full width. */
+/* Fills the Gram matrix, and the products and sums of the rows that are on the stack; a row is filled to its full width. */
 static void fill(cache *c, size_t p, size_t q, const int32_t *coefs, const uint32_t *stack, size_t height)
 {
     for (size_t i = 0; i < q; i++) {
@@ -78,9 +79,12 @@ static void fill(cache *c, size_t p, size_t q, const int32_t *coefs, const uint3
     }
     for (size_t k = 0; k < height; k++, stack += q + 1) {
         memset(c->product[k], 0, sizeof c->product[k]);
-        for (size_t i = 0; i < q; i++)
+        c->sum[k] = 0;
+        for (size_t i = 0; i < q; i++) {
+            c->sum[k] += stack[i];
             if (stack[i] != 0)
                 for (size_t j = 0; j < q; j++) c->product[k][j] += (int64_t)stack[i] * c->gram[i][j];
+        }
     }
 }
 
@@ -159,6 +163,7 @@ static inline void push(cache *c, size_t level, size_t q, uint32_t *top, brood b
 {
     if (b.count == 0) return;
     uint32_t marks = top[q];
+    c->sum[level]++;
     for (size_t k = b.count - 1; k > 0; k--) {
         unsigned i = 31 - (unsigned)__builtin_clz(b.made);
         uint32_t *row = top + k * (q + 1);
@@ -167,6 +172,7 @@ static inline void push(cache *c, size_t level, size_t q, uint32_t *top, brood b
         row[i]++;
         row[q] = marks | b.made;
         add(c->product[level + k], c->product[level], c->gram[i], q);
+        c->sum[level + k] = c->sum[level];
     }
     unsigned i = (unsigned)__builtin_ctz(b.made);
     top[i]++;
@@ -176,13 +182,14 @@ static inline void push(cache *c, size_t level, size_t q, uint32_t *top, brood b
 static uint64_t walk(cache *c, size_t q, uint32_t *stack, uint32_t *list, size_t list_len, uint64_t *record, uint64_t budget)
 {
     size_t h = record[HEIGHT], n = record[FOUND], room = list_len / q;
-    uint64_t taken = record[STEPS], answer;
-    for (;; taken++, budget--) {
+    uint64_t taken = record[STEPS], deepest = record[DEEPEST], sum = 0, answer;
+    for (;; taken++, budget--, deepest = sum > deepest ? sum : deepest) {
         if (h == 0) { answer = DEZGULA_COMPLETE; break; }
         if (budget == 0) { answer = DEZGULA_PAUSED; break; }
         if (taken == DEZGULA_STEP_LIMIT) { answer = DEZGULA_STEPS_AT_LIMIT; break; }
         uint32_t *top = stack + (h - 1) * (q + 1);
         const int64_t *product = c->product[h - 1];
+        sum = c->sum[h - 1];
         uint32_t open = below_zero(product, q);
         if (open == 0 && vanishes(product, q)) {
             if (n >= room) { answer = DEZGULA_LIST_FULL; break; }
@@ -199,6 +206,7 @@ static uint64_t walk(cache *c, size_t q, uint32_t *stack, uint32_t *list, size_t
     record[HEIGHT] = h;
     record[FOUND] = n;
     record[STEPS] = taken;
+    record[DEEPEST] = deepest;
     return answer;
 }
 
@@ -207,8 +215,8 @@ uint64_t baseline_resume(size_t p, size_t q, const int32_t *coefs, size_t coefs_
 {
     uint64_t refusal = check_shape(p, q, coefs_len, stack_len);
     if (refusal != PASS) return refusal;
-    if (record_len != DEZGULA_RECORD_LENGTH || record[HEIGHT] > q || record[FOUND] > list_len / q || record[STEPS] > DEZGULA_STEP_LIMIT ||
-        !in_order(q, stack, record[HEIGHT]))
+    if (record_len != DEZGULA_RECORD_LENGTH || record[KIND] != DEZGULA_RUN_PLAIN || record[HEIGHT] > q || record[FOUND] > list_len / q ||
+        record[STEPS] > DEZGULA_STEP_LIMIT || record[DEEPEST] > DEZGULA_SUM_LIMIT || !in_order(q, stack, record[HEIGHT]))
         return DEZGULA_OUT_OF_ORDER;
     refusal = check_range(coefs, coefs_len);
     if (refusal != PASS) return refusal;

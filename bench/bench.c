@@ -184,7 +184,8 @@ static double one_step(const kind *k, const map *m, run *r)
     struct timespec from, to;
     clock_gettime(CLOCK_PROCESS_CPUTIME_ID, &from);
     for (unsigned i = 0; i < CALLS; i++) {
-        r->record[0] = 1, r->record[1] = ROWS, r->record[2] = 0;
+        memset(r->record, 0, sizeof r->record);
+        r->record[0] = 1, r->record[1] = ROWS;
         go(k, m, r, m->budget);
     }
     clock_gettime(CLOCK_PROCESS_CPUTIME_ID, &to);

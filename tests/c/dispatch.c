@@ -76,12 +76,20 @@ int main(void)
     round_of_runs.last = 9;
     expect(serve(1) == DEZGULA_SCHEDULE, "a kept number above 8 is refused");
     round_of_runs = kept;
+    round_of_runs.runs[1].record.kind = 1;
+    round_of_runs.runs[2].record.deepest = DEZGULA_SUM_LIMIT + 1;
+    expect(serve(0) == DEZGULA_SERVED && round_of_runs.runs[0].answer == DEZGULA_PAUSED, "a run in order is served");
+    expect(round_of_runs.runs[1].answer == DEZGULA_OUT_OF_ORDER && round_of_runs.runs[1].record.kind == 1, "a record of another kind of run is not");
+    expect(round_of_runs.runs[2].answer == DEZGULA_OUT_OF_ORDER, "nor one with a greatest sum above 16,000,000");
+    round_of_runs = kept;
     unsigned turns = 0;
     while (round_of_runs.runs[0].record.height + round_of_runs.runs[1].record.height + round_of_runs.runs[2].record.height > 0) {
         one_turn();
         turns++;
     }
     expect(turns == 2 + 2 + 6, "as many turns as the steps ask for");
+    expect(round_of_runs.runs[0].record.deepest == 5 && round_of_runs.runs[1].record.deepest == 2 && round_of_runs.runs[2].record.deepest == 7,
+           "the greatest sum of each run");
     expect(serve(5) == DEZGULA_SERVED && round_of_runs.steps.count == 0, "then there is nothing to do");
     printf("dispatch: %u turns, each as alone\n", turns);
     return 0;

@@ -61,7 +61,8 @@ static const char *words(uint64_t answer)
 static void show(const char *title, const dezgula_system *m, const tables *t, uint64_t answer)
 {
     const dezgula_record *r = &t->run.record;
-    printf("%s: %s, %" PRIu64 " steps, height %" PRIu64 ", %" PRIu64 " listed\n", title, words(answer), r->steps.count, r->height, r->found.count);
+    printf("%s: %s, %" PRIu64 " steps, height %" PRIu64 ", %" PRIu64 " listed, greatest sum %" PRIu64 "\n", title, words(answer), r->steps.count, r->height,
+           r->found.count, r->deepest);
     uint32_t row[MOST];
     for (size_t n = 1; dezgula_row(m, &t->run, n, row, MOST) == DEZGULA_ROW; n++) {
         printf("   ");
@@ -70,11 +71,13 @@ static void show(const char *title, const dezgula_system *m, const tables *t, ui
     }
 }
 
-static void expect_record(const tables *t, uint64_t steps, uint64_t height, uint64_t found)
+static void expect_record(const tables *t, uint64_t steps, uint64_t height, uint64_t found, uint64_t deepest)
 {
     expect(t->run.record.steps.count == steps, "steps taken");
     expect(t->run.record.height == height, "height");
     expect(t->run.record.found.count == found, "solutions found");
+    expect(t->run.record.deepest == deepest, "the greatest sum of components taken off");
+    expect(t->run.record.kind == DEZGULA_RUN_PLAIN && t->run.record.second.count == 0 && t->run.record.before.count == 0, "a plain run");
 }
 
 static void expect_row(const dezgula_system *m, const tables *t, size_t n, const uint32_t *components)
@@ -110,12 +113,12 @@ static void solve_systems(void)
     tables t;
     lend(&t, LIST);
     expect_start(&example, &t);
-    expect_record(&t, 0, 4, 0);
+    expect_record(&t, 0, 4, 0, 0);
     expect(t.stack[20] == UNTOUCHED && t.list[0] == UNTOUCHED, "a start touches q rows of the stack and no list");
     uint64_t answer = dezgula_resume(&example, &t.run, 1000000);
     show("example", &example, &t, answer);
     expect(answer == DEZGULA_COMPLETE, "the example ends");
-    expect_record(&t, 16, 0, 2);
+    expect_record(&t, 16, 0, 2, 7);
     expect_row(&example, &t, 1, (uint32_t[]){0, 1, 1, 1});
     expect_row(&example, &t, 2, (uint32_t[]){4, 2, 1, 0});
     expect(t.stack[20] == UNTOUCHED && t.list[8] == UNTOUCHED, "nothing past q rows of the stack, nothing past the rows found");
@@ -126,7 +129,7 @@ static void solve_systems(void)
     answer = dezgula_resume(&example4, &t.run, UINT64_MAX);
     show("its first equation alone", &example4, &t, answer);
     expect(answer == DEZGULA_COMPLETE, "one equation ends");
-    expect_record(&t, 17, 0, 6);
+    expect_record(&t, 17, 0, 6, 5);
 }
 
 static void pause_and_go_on(void)
@@ -135,11 +138,11 @@ static void pause_and_go_on(void)
     lend(&t, LIST);
     expect_start(&example, &t);
     expect(dezgula_resume(&example, &t.run, 0) == DEZGULA_PAUSED, "a budget of 0 takes no step");
-    expect_record(&t, 0, 4, 0);
+    expect_record(&t, 0, 4, 0, 0);
     uint64_t answer = dezgula_resume(&example, &t.run, 7);
     show("example, 7 steps", &example, &t, answer);
     expect(answer == DEZGULA_PAUSED, "paused after 7 steps");
-    expect_record(&t, 7, 1, 1);
+    expect_record(&t, 7, 1, 1, 3);
     unsigned calls = 0;
     do {
         answer = dezgula_resume(&example, &t.run, 2);
@@ -147,7 +150,7 @@ static void pause_and_go_on(void)
     } while (answer == DEZGULA_PAUSED);
     show("and 2 at a time", &example, &t, answer);
     expect(answer == DEZGULA_COMPLETE && calls == 5, "nine steps more in five calls");
-    expect_record(&t, 16, 0, 2);
+    expect_record(&t, 16, 0, 2, 7);
 }
 
 static void lend_a_longer_list(void)
@@ -158,13 +161,14 @@ static void lend_a_longer_list(void)
     uint64_t answer = dezgula_resume(&example, &t.run, 1000);
     show("example, room for one row", &example, &t, answer);
     expect(answer == DEZGULA_LIST_FULL, "the list is full");
-    expect_record(&t, 15, 1, 1);
-    expect(dezgula_resume(&example, &t.run, 1000) == DEZGULA_LIST_FULL && t.run.record.steps.count == 15, "the same call again is refused again");
+    expect_record(&t, 15, 1, 1, 6);
+    expect(dezgula_resume(&example, &t.run, 1000) == DEZGULA_LIST_FULL, "the same call again is refused again");
+    expect_record(&t, 15, 1, 1, 6);
     t.run.list_len = LIST;
     answer = dezgula_resume(&example, &t.run, 1000);
     show("with a longer list", &example, &t, answer);
     expect(answer == DEZGULA_COMPLETE, "it ends");
-    expect_record(&t, 16, 0, 2);
+    expect_record(&t, 16, 0, 2, 7);
 }
 
 static void start_from_a_lower_bound(void)
@@ -172,19 +176,19 @@ static void start_from_a_lower_bound(void)
     tables t;
     lend(&t, LIST);
     expect(dezgula_start_from(&equal, &t.run, (uint32_t[]){0, 2}, 2) == DEZGULA_STARTED, "a start from a lower bound");
-    expect_record(&t, 0, 1, 0);
+    expect_record(&t, 0, 1, 0, 0);
     expect(t.stack[3] == UNTOUCHED, "only row 1 of the stack is written");
     uint64_t answer = dezgula_resume(&equal, &t.run, 1000);
     show("x1 = x2 from 0 2", &equal, &t, answer);
     expect(answer == DEZGULA_COMPLETE, "it ends");
-    expect_record(&t, 3, 0, 1);
+    expect_record(&t, 3, 0, 1, 4);
     expect_row(&equal, &t, 1, (uint32_t[]){2, 2});
 
     expect(dezgula_start_from(&equal, &t.run, (uint32_t[]){1000000, 0}, 2) == DEZGULA_STARTED, "from 1000000 0");
     answer = dezgula_resume(&equal, &t.run, UINT64_MAX);
     show("x1 = x2 from 1000000 0", &equal, &t, answer);
     expect(answer == DEZGULA_COMPLETE, "it ends");
-    expect_record(&t, 1000001, 0, 1);
+    expect_record(&t, 1000001, 0, 1, 2000000);
     expect_row(&equal, &t, 1, (uint32_t[]){1000000, 1000000});
 }
 
@@ -249,10 +253,10 @@ static void meet_records_of_another_length(void)
     tables t;
     lend(&t, LIST);
     const tables before = t;
-    uint64_t record[5] = {1, 2, 3, 4, 5};
+    uint64_t record[9] = {1, 2, 3, 4, 5, 6, 7, 8, 9};
     static const uint32_t lower[] = {0, 0, 0, 1000001};
     static const int32_t large[] = {0, 0, 0, 0, 10001, 0, 0, 0};
-    for (size_t n = 0; n <= 5; n++) {
+    for (size_t n = 0; n <= 9; n++) {
         if (n == DEZGULA_RECORD_LENGTH) continue;
         expect_unchanged("a start", dezgula_raw_start(2, 4, large, 8, t.stack, STACK, t.list, LIST, record, n), DEZGULA_OUT_OF_ORDER, &before, &t);
         uint64_t answer = dezgula_raw_start_from(2, 4, large, 8, t.stack, STACK, t.list, LIST, record, n, lower, 4);
@@ -261,7 +265,7 @@ static void meet_records_of_another_length(void)
         expect_unchanged("a short stack", dezgula_raw_start(2, 4, large, 8, t.stack, 19, t.list, LIST, record, n), DEZGULA_STACK_SHORT, &before, &t);
         answer = dezgula_raw_start_from(2, 4, large, 8, t.stack, STACK, t.list, LIST, record, n, lower, 3);
         expect_unchanged("a short bound", answer, DEZGULA_BOUND_LENGTH, &before, &t);
-        expect(memcmp(record, (uint64_t[]){1, 2, 3, 4, 5}, sizeof record) == 0, "the words are not changed");
+        expect(memcmp(record, (uint64_t[]){1, 2, 3, 4, 5, 6, 7, 8, 9}, sizeof record) == 0, "the words are not changed");
     }
 }
 
@@ -278,14 +282,23 @@ static void meet_disorder(void)
         uint32_t entry;
         dezgula_record record;
     } bad[] = {
-        {"height above q", 0, 1, {5, {0}, {0}}},
-        {"height beyond all", 0, 1, {UINT64_MAX, {0}, {0}}},
-        {"more found than there is room for", 0, 1, {4, {LIST / 4 + 1}, {0}}},
-        {"more than 10^12 steps", 0, 1, {4, {0}, {DEZGULA_STEP_LIMIT + 1}}},
-        {"a component of 1,000,001", 2, 1000001, {4, {0}, {0}}},
-        {"a mark beyond unknown q", 19, 1u << 4 | 7, {4, {0}, {0}}},
-        {"a mark too many", 14, 7, {4, {0}, {0}}},
-        {"a mark too few", 9, 0, {4, {0}, {0}}},
+        {"height above q", 0, 1, {.height = 5}},
+        {"height beyond all", 0, 1, {.height = UINT64_MAX}},
+        {"more found than there is room for", 0, 1, {.height = 4, .found = {LIST / 4 + 1}}},
+        {"more than 10^12 steps", 0, 1, {.height = 4, .steps = {DEZGULA_STEP_LIMIT + 1}}},
+        {"a capped run", 0, 1, {.height = 4, .kind = 1}},
+        {"a run from a lower bound, the plain walk", 0, 1, {.height = 4, .kind = 2}},
+        {"a run from a lower bound, the walk above it", 0, 1, {.height = 4, .kind = 3}},
+        {"a run desk by desk", 0, 1, {.height = 4, .kind = 4}},
+        {"no kind of run", 0, 1, {.height = 4, .kind = 5, .second = {6}, .before = {7}, .deepest = 8}},
+        {"no kind of run in 8 bits", 0, 1, {.height = 4, .kind = 256}},
+        {"no kind of run, beyond all", 0, 1, {.height = 4, .kind = UINT64_MAX}},
+        {"a greatest sum of 16,000,001", 0, 1, {.height = 4, .deepest = DEZGULA_SUM_LIMIT + 1}},
+        {"a greatest sum beyond all", 0, 1, {.height = 4, .deepest = UINT64_MAX}},
+        {"a component of 1,000,001", 2, 1000001, {.height = 4}},
+        {"a mark beyond unknown q", 19, 1u << 4 | 7, {.height = 4}},
+        {"a mark too many", 14, 7, {.height = 4}},
+        {"a mark too few", 9, 0, {.height = 4}},
     };
     for (size_t i = 0; i < sizeof bad / sizeof *bad; i++) {
         t = good;
@@ -302,6 +315,28 @@ static void meet_disorder(void)
     expect_unchanged("another system, out of range", dezgula_resume(&other, &t.run, 1), 8 << 8 | DEZGULA_COEFFICIENT, &good, &t);
 }
 
+/* What a continuing call of a plain run keeps, and what a start does not look at. */
+static void keep_what_has_no_meaning(void)
+{
+    tables t;
+    lend(&t, LIST);
+    expect_start(&example, &t);
+    t.run.record.second.count = UINT64_MAX;
+    t.run.record.before.count = UINT64_MAX - 1;
+    t.run.record.deepest = DEZGULA_SUM_LIMIT;
+    expect(dezgula_resume(&example, &t.run, 1000) == DEZGULA_COMPLETE, "the largest greatest sum is in order");
+    expect(t.run.record.second.count == UINT64_MAX && t.run.record.before.count == UINT64_MAX - 1, "the two counts are kept");
+    expect(t.run.record.deepest == DEZGULA_SUM_LIMIT && t.run.record.kind == DEZGULA_RUN_PLAIN, "and so is a greater sum");
+    for (uint64_t kind = 1; kind <= 6; kind++) {
+        t.run.record.kind = kind;
+        expect_start(&example, &t);
+        expect_record(&t, 0, 4, 0, 0);
+        t.run.record.kind = kind;
+        expect(dezgula_start_from(&example, &t.run, (uint32_t[]){1, 1, 1, 1}, 4) == DEZGULA_STARTED, "a start on a record of another kind");
+        expect_record(&t, 0, 1, 0, 0);
+    }
+}
+
 static void meet_refusals_of_the_search(void)
 {
     static const int32_t coefs[] = {2, -1};
@@ -312,7 +347,7 @@ static void meet_refusals_of_the_search(void)
     uint64_t answer = dezgula_resume(&twice, &t.run, 1000);
     show("2 x1 = x2 from 1000000 999999", &twice, &t, answer);
     expect(answer == DEZGULA_COMPONENT, "x2 would pass 1,000,000");
-    expect_record(&t, 1, 1, 0);
+    expect_record(&t, 1, 1, 0, 1999999);
     tables before = t;
     expect_unchanged("the same call again", dezgula_resume(&twice, &t.run, 1000), DEZGULA_COMPONENT, &before, &t);
 
@@ -399,6 +434,7 @@ int main(void)
     lend_nothing();
     meet_records_of_another_length();
     meet_disorder();
+    keep_what_has_no_meaning();
     meet_refusals_of_the_search();
     read_rows();
     list_single_file_maps();

@@ -3,6 +3,7 @@
 
 Usage: model.py                 writes crates/try_equations/stdin and stdout
        model.py Q TEXT          says what TEXT comes to for Q unknowns
+       model.py drawn N SEED    writes N drawn texts, most of them damaged, with what they come to, as tests/equations/ask.c reads them
 
 The place of refusal 16 is found by an Earley recognizer over the grammar as it is written: a text begins something allowed as long as its chart goes on.
 """
@@ -229,6 +230,93 @@ def texts():
     return cases
 
 
+# ---- systems of several lines
+
+def read_lines(text, q):
+    """p, the coefficients and the right sides; or the refusal's number, its line and its place, 0 where there is none."""
+    lines = text.split("\n")
+    ended = lines.pop() == ""
+    if not ended:
+        lines = text.split("\n")
+    if len(text) > 4096:
+        return ("refused", 10, 0, 0)
+    if not 1 <= len(lines) <= 8:
+        return ("refused", 1, 0, 0)
+    if not 1 <= q <= 16:
+        return ("refused", 2, 0, 0)
+    coefs, rights = [], []
+    for k, line in enumerate(lines, 1):
+        if k == len(lines) and not ended:
+            return ("refused", 9, k, 0)
+        answer = read(line, q)
+        if answer[0] == "refused":
+            return ("refused", answer[1], k, answer[2] if len(answer) == 3 else 0)
+        coefs += answer[1]
+        rights.append(answer[2])
+    return ("read", len(lines), *coefs, *rights)
+
+
+# ---- drawn texts, for the library
+
+def drawn_text(draw, q):
+    kind = draw.random()
+    if kind < 0.12:
+        return "".join(draw.choice("0123456789xxx+-*()= ") for _ in range(draw.randint(0, 12)))
+    if kind < 0.16:
+        return "".join(chr(draw.randint(0, 255)) for _ in range(draw.randint(0, 8)))
+    while True:
+        deep = draw.choice([0, 0, 1, 2, 9])
+        text = spaced(draw, drawn_sum(draw, q, deep) + ["="] + drawn_sum(draw, q, draw.choice([0, 1])))
+        if deep == 9 and draw.random() < 0.5:
+            n = draw.randint(7, 10)
+            text = "(" * n + text.replace("=", ")" * n + "=", 1)
+        if len(text) <= 90:
+            break
+    for _ in range(draw.choice([0, 0, 1, 1, 2, 3])):
+        text = damaged_anyhow(draw, text)
+    return text
+
+
+def damaged_anyhow(draw, text):
+    if draw.random() < 0.8:
+        return damaged(draw, text)
+    at = draw.randint(0, len(text))
+    return text[:at] + chr(draw.randint(0, 255)) + text[at + draw.randint(0, 1):]
+
+
+def drawn_line(draw, q):
+    if draw.random() < 0.15:
+        return drawn_text(draw, q).replace("\n", "")
+    return write([draw.choice([0, 1, -2]) for _ in range(q)], draw.choice([0, 0, 5]))
+
+
+def hexed(text):
+    return text.encode("latin-1").hex() or "-"
+
+
+def drawn(n, seed):
+    draw = random.Random(seed)
+    for _ in range(n):
+        q = draw.choice([1, 2, 3, 5, 9, 12, 16])
+        if draw.random() < 0.85:
+            text = drawn_text(draw, q)
+            asked = draw.choice([0, 17, 99]) if draw.random() < 0.01 else q
+            entries = draw.choice([0, q + 1, 16]) if draw.random() < 0.01 else asked
+            if entries > 99:
+                entries = 99
+            if draw.random() < 0.002:
+                text = text + " " * 4097
+            answer = read(text, asked, entries)
+            words = [answer[0]] + ([answer[1], answer[2] if len(answer) == 3 else 0] if answer[0] == "refused" else [answer[2], *answer[1]])
+            print("equation", asked, entries, hexed(text), *words)
+        else:
+            text = "".join(drawn_line(draw, q) + "\n" for _ in range(draw.choice([0, 1, 2, 3, 8, 9])))
+            if draw.random() < 0.1:
+                text = damaged_anyhow(draw, text)
+            asked = draw.choice([0, 17]) if draw.random() < 0.01 else q
+            print("system", asked, hexed(text), *read_lines(text, asked))
+
+
 def told(q, text):
     answer = read(text, q)
     if answer[0] == "refused":
@@ -241,6 +329,9 @@ def told(q, text):
 
 
 def main():
+    if len(sys.argv) == 4:
+        drawn(int(sys.argv[2]), int(sys.argv[3]))
+        return
     if len(sys.argv) == 3:
         print(told(int(sys.argv[1]), sys.argv[2]), end="")
         return

@@ -6,10 +6,11 @@ from collections import Counter
 from dataclasses import dataclass
 
 from build import any_numbers, drawer
-from calls import Call, answered
+from calls import Call, answered, row
 from text import changes, numbers
 
-MOST_RUNS, SHARE, ROUND = 8, 8, 42
+MOST_RUNS, SHARE, RUN, ROUND = 8, 8, 9, 74
+MOST_KIND, NO_HEIGHT, MOST_SUM = 4, 65, 16_000_000
 SERVED = 110
 NUMBERS = {"Complete": 0, "Started": 100, "Paused": 101}
 HUGE = 2**64 - 1
@@ -45,19 +46,41 @@ def cut(table, part):
     return table[start : start + size]
 
 
+def base(i):
+    """Where the words of run i begin: those of its record, the number of its answer and the place that it comes with."""
+    return 2 + RUN * i
+
+
 def alone(d, i, budget):
     """A continuing call of run i on copies of its parts: its answer, and the call as it left them."""
     p, q, coefs, stack, table = d.share(i)
-    at = 2 + 5 * i
-    call = Call("resume", p, q, cut(d.coefs, coefs), cut(d.stack, stack), cut(d.list, table), d.round[at : at + 3], budget=budget)
-    return answered(call), call
+    at = base(i)
+    call = Call("resume", p, q, cut(d.coefs, coefs), cut(d.stack, stack), cut(d.list, table), d.round[at : at + 3])
+    kind, second, before, deepest = d.round[at + 3 : at + 7]
+    if kind != 0 or deepest > MOST_SUM:
+        refused = call.copy()
+        refused.record[0] = NO_HEIGHT
+        answer = answered(refused)
+    else:
+        answer = answered(call)
+    call.budget = 1
+    for _ in range(budget):
+        if answer != ("Paused",):
+            break
+        *top, _ = row(call, call.record[0])
+        steps = call.record[2]
+        answer = answered(call)
+        if call.record[2] > steps:
+            deepest = max(deepest, sum(top))
+    call.record += [kind, second, before, deepest]
+    return answer, call
 
 
 def back(d, i, call):
     _, _, _, (s, n), (l, m) = d.share(i)
     d.stack[s : s + n] = call.stack
     d.list[l : l + m] = call.list
-    d.round[2 + 5 * i : 5 + 5 * i] = call.record
+    d.round[base(i) : base(i) + 7] = call.record
 
 
 def overlap(a, b):
@@ -81,16 +104,16 @@ def dispatched(d):
     if refusal(d):
         return refusal(d), []
     answers, taken, steps = [None] * d.count, [0] * d.count, 0
-    staying = [i for i in range(d.count) if d.round[2 + 5 * i] > 0]
+    staying = [i for i in range(d.count) if d.round[base(i)] > 0 or d.round[base(i) + 3] > MOST_KIND]
     for _ in range(d.turns):
         if not staying:
             break
         last = d.round[0]
         i = min(staying, key=lambda i: (i < last, i) if last <= d.count else (False, i))
-        before = d.round[4 + 5 * i]
+        before = d.round[base(i) + 2]
         answers[i], call = alone(d, i, d.quantum)
         back(d, i, call)
-        steps += d.round[4 + 5 * i] - before
+        steps += d.round[base(i) + 2] - before
         taken[i] += 1
         d.round[0] = i + 1
         if answers[i] != ("Paused",):
@@ -99,7 +122,7 @@ def dispatched(d):
     d.round[1] = steps
     for i in range(MOST_RUNS):
         a = answers[i] if i < d.count else ("Started",)
-        d.round[5 + 5 * i : 7 + 5 * i] = [a[1], a[2] if len(a) > 2 else 0] if a[0] == "Refused" else [NUMBERS[a[0]], 0]
+        d.round[base(i) + 7 : base(i) + 9] = [a[1], a[2] if len(a) > 2 else 0] if a[0] == "Refused" else [NUMBERS[a[0]], 0]
     return SERVED, taken
 
 
@@ -114,8 +137,8 @@ def checked_alone(before, after, taken):
             answer, _ = alone(single, i, 0)
         p, q, c, s, l = before.share(i)
         assert cut(single.stack, s) == cut(after.stack, s) and cut(single.list, l) == cut(after.list, l)
-        assert single.round[2 + 5 * i : 5 + 5 * i] == after.round[2 + 5 * i : 5 + 5 * i]
-        assert (answer[1] if answer[0] == "Refused" else NUMBERS[answer[0]]) == after.round[5 + 5 * i]
+        assert single.round[base(i) : base(i) + 7] == after.round[base(i) : base(i) + 7]
+        assert (answer[1] if answer[0] == "Refused" else NUMBERS[answer[0]]) == after.round[base(i) + 7]
     for k, old, new in ((3, before.stack, after.stack), (4, before.list, after.list)):
         inside = {x for i in range(before.count) for x in range(before.share(i)[k][0], sum(before.share(i)[k]))}
         assert all(old[x] == new[x] for x in range(len(old)) if x not in inside)
@@ -137,7 +160,7 @@ def line(d, counts):
 def shaped(rng):
     """Runs after plain starts, some of them out of order or of no meaning, their parts in a drawn order with gaps."""
     count = rng.choice((1, 2, 2, 3, 3, 4, 8))
-    shares, coefs, starts, rounds = [[] for _ in range(count)], [], {}, [rng.randint(0, count), 0] + [0] * 40
+    shares, coefs, starts, rounds = [[] for _ in range(count)], [], {}, [rng.randint(0, count), 0] + [0] * (ROUND - 2)
     for i in range(count):
         p, q = rng.randint(1, 2), rng.randint(1, 3 if count < 8 else 2)
         own = [rng.randint(-3, 3) for _ in range(p * q)]
@@ -145,7 +168,7 @@ def shaped(rng):
         coefs += own
         starts[i] = Call("start", p, q, own, [9] * shares[i][5], [9] * shares[i][7], [0, 0, 0])
         answered(starts[i])
-        rounds[2 + 5 * i : 5 + 5 * i] = starts[i].record
+        rounds[base(i) : base(i) + 3] = starts[i].record
     tables = {}
     for at, key in ((4, "stack"), (6, "list")):
         table = []
@@ -159,7 +182,7 @@ def shaped(rng):
 
 def faulty(d, rng):
     """One word of any meaning, or a fault of the whole call."""
-    kind = rng.randrange(8)
+    kind = rng.randrange(11)
     if kind == 0:
         d.count = rng.choice((0, 8, 9, HUGE))
     elif kind == 1:
@@ -167,11 +190,14 @@ def faulty(d, rng):
     elif kind == 2:
         d.round[0] = rng.choice((8, 9, HUGE))
     elif kind == 3:
-        d.round = d.round[: rng.choice((0, 41))]
+        d.round = d.round[: rng.choice((0, 42, ROUND - 1))]
     elif kind == 4:
         d.shares = d.shares[: rng.randrange(len(d.shares))]
     elif kind == 5:
-        d.round[rng.randrange(2, 42)] = rng.choice((0, 1, 2, 17, HUGE))
+        d.round[rng.randrange(2, ROUND)] = rng.choice((0, 1, 2, 17, HUGE))
+    elif kind < 9:
+        word = rng.randint(3, 6)
+        d.round[base(rng.randrange(d.count)) + word] = rng.choice((1, 2, 3, MOST_KIND, MOST_KIND + 1, HUGE) if word < 6 else (1, MOST_SUM, MOST_SUM + 1, HUGE))
     else:
         k = rng.randrange(len(d.shares)) if rng.randrange(3) == 0 else 8 * rng.randrange(len(d.shares) // 8) + rng.randint(4, 7)
         d.shares[k] = rng.choice((0, 1, d.shares[k] + 1, d.shares[k] - 1 if d.shares[k] else 0, HUGE))

@@ -1,8 +1,8 @@
-"""Questions about a list, with the answers that documents 01 and 02 give, read anew here: one a line, as tests/questions/ask.c reads them.
-
-A line: p q, the number of coefficients and they, the number of entries of the list table and they, the count of rows, the number of components and they; then the number,
-place and amount of the reason, and what the highest place is told as."""
+"""Questions about a list, with the answers that documents 01 and 02 give, read anew here: some drawn, the others every tuple of small boxes. The first argument says how
+they are written: `words` as tests/questions/ask.c reads them, `lines` as crates/try_questions does, and `count` says how many there are."""
+import itertools
 import random
+import sys
 
 
 def at_or_below(row, t):
@@ -50,6 +50,21 @@ def reason(p, q, coefs, table, found, t):
     return (123, below[-1], 0) if below else (124, 0, 0)
 
 
+def parts(p, q, coefs, table, found, t, times):
+    """The answer and the table of multiples: each row is taken off as often as it goes, the last first; one of zeros never goes."""
+    number = reason(p, q, coefs, table, found, t)[0]
+    if number < 120 or number == 121:
+        return number, times
+    if len(times) < found:
+        return 29, times
+    rest, after = list(t), list(times)
+    for n in reversed(range(found)):
+        row = table[n * q:n * q + q]
+        after[n] = min((x // r for x, r in zip(rest, row) if r), default=0)
+        rest = [x - after[n] * r for x, r in zip(rest, row)]
+    return (124 if any(rest) else 125), after
+
+
 def drawn(r):
     p, q = r.choice([0, 1, 1, 1, 2, 2, 3, 8, 9]), r.choice([0, 1, 2, 2, 3, 3, 4, 16, 17])
     size = max(0, p * q + r.choice([0] * 20 + [1, -1]))
@@ -67,12 +82,54 @@ def drawn(r):
     return p, q, coefs, table, min(max(0, n + r.choice([0, 0, 0, -1, 1])), n + 1), t
 
 
-def main():
+def minimal(p, q, coefs, side):
+    """The minimal solutions in a box, by trying every tuple of it."""
+    found = []
+    for t in sorted(itertools.product(range(side + 1), repeat=q), key=sum):
+        solves = all(sum(c * x for c, x in zip(coefs[k * q:k * q + q], t)) == 0 for k in range(p))
+        if any(t) and solves and not any(at_or_below(row, t) for row in found):
+            found.append(t)
+    return found
+
+
+def boxed(r, wide):
+    """Every tuple of a box with room for `wide` of them, or of a smaller one; the list holds the box's minimal solutions, now and then all but the last."""
+    p, q = r.choice([1, 1, 2]), r.choice([1, 2, 2, 3])
+    coefs = [r.choice([0, 1, -1, 2, -2, 3, -4]) for _ in range(p * q)]
+    side = int(wide ** (1 / q)) - 1
+    rows = minimal(p, q, coefs, side)
+    r.shuffle(rows)
+    table = [x for row in rows for x in row]
+    found = len(rows) - (1 if rows and r.random() < 0.2 else 0)
+    for t in itertools.product(range(side + 1), repeat=q):
+        yield p, q, coefs, table, found, list(t)
+
+
+def questions(drawn_ones, boxes, wide):
     r = random.Random(8)
-    for _ in range(20000):
-        p, q, coefs, table, found, t = drawn(r)
-        words = [p, q, len(coefs), *coefs, len(table), *table, found, len(t), *t, *reason(p, q, coefs, table, found, t), locate(q, table, found, t)]
-        print(*words)
+    asked = [drawn(r) for _ in range(drawn_ones)]
+    for _ in range(boxes):
+        asked += boxed(r, wide)
+    for p, q, coefs, table, found, t in asked:
+        times = [9] * max(0, found + r.choice([0, 0, 0, 1, -1]))
+        number, place, amount = reason(p, q, coefs, table, found, t)
+        told, after = parts(p, q, coefs, table, found, t, times)
+        yield p, q, coefs, table, found, t, times, (number, place, locate(q, table, found, t), told), amount, after
+
+
+def main():
+    how = sys.argv[1]
+    if how == "words":
+        for p, q, coefs, table, found, t, times, numbers, amount, after in questions(20000, 200, 130):
+            print(p, q, len(coefs), *coefs, len(table), *table, found, len(t), *t, len(times), *times, *numbers, amount, *after)
+        return
+    count = 0
+    for p, q, coefs, table, found, t, times, numbers, amount, after in questions(4000, 60, 70):
+        count += 1
+        if how == "lines":
+            print("q", p, q, found, "c", *coefs, "l", *table, "t", *t, "m", *times, "e", *numbers, "a", amount, "o", *after)
+    if how == "count":
+        print("questions", count, "agreed", count)
 
 
 main()

@@ -7,12 +7,19 @@ const SIDE: u32 = 7;
 
 // Writes the minimal solutions of the box, and returns how many there are. A tuple comes after all tuples below it, so it is minimal where no
 // solution that was written is at or below it.
-pub fn minimal(p: usize, q: usize, coefs: &[i32], lower: &[u32], rows: &mut [u32]) -> usize {
+pub fn minimal(
+    p: usize,
+    q: usize,
+    coefs: &[i32],
+    rights: &[i32],
+    lower: &[u32],
+    rows: &mut [u32],
+) -> usize {
     let most = size(q);
     let mut n: usize = 0;
     let mut code: u64 = 0;
     while code < most {
-        if next(p, q, coefs, lower, rows, n, code) {
+        if next(p, q, coefs, rights, lower, rows, n, code) {
             n = std::num::wrapping_add_usize(n, 1);
         }
         code += 1;
@@ -25,6 +32,7 @@ fn next(
     p: usize,
     q: usize,
     coefs: &[i32],
+    rights: &[i32],
     lower: &[u32],
     rows: &mut [u32],
     n: usize,
@@ -41,7 +49,7 @@ fn next(
     ];
     let tuple = &t[0..q];
     if !allowed(lower, tuple)
-        || !sums::solves(p, q, coefs, tuple)
+        || !sums::solves(p, q, coefs, rights, tuple)
         || tables::any_at_or_below(rows, n, q, tuple)
     {
         return false;

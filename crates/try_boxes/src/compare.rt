@@ -20,6 +20,7 @@ pub fn wrong_rows(
     p: usize,
     q: usize,
     coefs: &[i32],
+    rights: &[i32],
     lower: &[u32],
     list: &[u32],
     found: usize,
@@ -31,7 +32,7 @@ pub fn wrong_rows(
     while i < found {
         let tuple = tables::row(list, i, q, q);
         let right = boxes::allowed(lower, tuple)
-            && sums::solves(p, q, coefs, tuple)
+            && sums::solves(p, q, coefs, rights, tuple)
             && least(tuple, q, minimal, n)
             && alone(list, found, q, i);
         wrong = up(wrong, !right);

@@ -1,5 +1,5 @@
-// Small systems drawn in a fixed order, each solved by the walk and by trying every tuple of a box, plainly and from a lower bound. What the walk
-// lists is held against the minimal solutions of the box. It prints how much was compared, and how many rows were wrong or missing.
+// Small systems drawn in a fixed order, each solved by the walk and by trying every tuple of a box, plainly, from a lower bound and with right sides.
+// What the walk lists is held against the minimal solutions of the box. It prints how much was compared, and how many rows were wrong or missing.
 use calls::Answer;
 use calls::Outcome;
 use calls::Record;
@@ -30,6 +30,14 @@ struct Tally {
     missing: u64,
 }
 
+// Which runs are made; and of runs with right sides, which of their two lists is held against the box.
+enum Sort {
+    Plain,
+    From,
+    First,
+    Second,
+}
+
 fn main() {
     let none = Tally {
         runs: 0,
@@ -42,9 +50,13 @@ fn main() {
     };
     print::line(b"systems", SYSTEMS);
     print::text(b"plain\n");
-    report(runs(none, false));
+    report(runs(none, Sort::Plain));
     print::text(b"from a lower bound\n");
-    report(runs(none, true));
+    report(runs(none, Sort::From));
+    print::text(b"with right sides: the first list\n");
+    report(runs(none, Sort::First));
+    print::text(b"with right sides: the second list\n");
+    report(runs(none, Sort::Second));
 }
 
 fn report(t: Tally) {
@@ -61,32 +73,35 @@ fn report(t: Tally) {
 }
 
 // A run of each system.
-fn runs(none: Tally, bounded: bool) -> Tally {
+fn runs(none: Tally, sort: Sort) -> Tally {
     let mut t = none;
     let mut n: u64 = 0;
     while n < SYSTEMS {
-        t = system(t, n, bounded);
+        t = system(t, n, sort);
         n += 1;
     }
     t
 }
 
-// System n: 1 to 3 equations and 1 to 4 unknowns, with a lower bound of 0 to 3.
-fn system(t: Tally, n: u64, bounded: bool) -> Tally {
+// System n: 1 to 3 equations and 1 to 4 unknowns, with a lower bound of 0 to 3, and right sides of the coefficients' sizes.
+fn system(t: Tally, n: u64, sort: Sort) -> Tally {
     let p = (1 + draws::number(n, 0) % 3) as usize;
     let q = (1 + draws::number(n, 1) % 4) as usize;
-    let mut coefs = [0i32; 12];
+    let mut coefs = [0i32; 15];
     draw_coefficients(&mut coefs, n);
     let mut lower = [0u32; 4];
     draw_lower(&mut lower, n);
     let entries = tables::place(p, q, 0);
-    if 12 < entries || 4 < q {
+    if 12 < entries || 4 < q || 3 < p {
         return t;
     }
-    if bounded {
-        return solved(t, p, q, &coefs[0..entries], &lower[0..q]);
+    let rights = [coefs[12], coefs[13], coefs[14]];
+    match sort {
+        Sort::Plain => solved(t, p, q, &coefs[0..entries], &[]),
+        Sort::From => solved(t, p, q, &coefs[0..entries], &lower[0..q]),
+        Sort::First => met(t, p, q, &coefs[0..entries], &rights[0..p], false),
+        Sort::Second => met(t, p, q, &coefs[0..entries], &rights[0..p], true),
     }
-    solved(t, p, q, &coefs[0..entries], &[])
 }
 
 // Coefficients of up to 1, 2, 3 or 6 in size.
@@ -117,23 +132,103 @@ fn solved(t: Tally, p: usize, q: usize, coefs: &[i32], lower: &[u32]) -> Tally {
     let mut list = [0u32; 4096];
     let o = walked(p, q, coefs, lower, &mut list);
     let mut minimal = [0u32; 4096];
-    let n = boxes::minimal(p, q, coefs, lower, &mut minimal);
-    compared(t, p, q, coefs, lower, o, &list, &minimal, n)
+    let n = boxes::minimal(p, q, coefs, &[], lower, &mut minimal);
+    let a = o.answer;
+    let r = o.run;
+    compared(t, p, q, coefs, &[], lower, a, r.found, &list, &minimal, n)
+}
+
+// A run of a system with right sides: its first list is held against the solutions without them, its second one against those with them, of which zero
+// may be one.
+fn met(t: Tally, p: usize, q: usize, coefs: &[i32], rights: &[i32], second: bool) -> Tally {
+    let mut list = [0u32; 4096];
+    let mut other = [0u32; 4096];
+    let o = walked_capped(p, q, coefs, rights, &mut list, &mut other);
+    let r = o.run;
+    let a = o.answer;
+    let mut minimal = [0u32; 4096];
+    if second {
+        let zero = [0u32; 4];
+        let n = boxes::minimal(p, q, coefs, rights, &zero, &mut minimal);
+        return compared(
+            t,
+            p,
+            q,
+            coefs,
+            rights,
+            &zero,
+            a,
+            r.second,
+            &other,
+            &minimal,
+            n,
+        );
+    }
+    let n = boxes::minimal(p, q, coefs, &[], &[], &mut minimal);
+    compared(t, p, q, coefs, &[], &[], a, r.found, &list, &minimal, n)
+}
+
+fn walked_capped(
+    p: usize,
+    q: usize,
+    coefs: &[i32],
+    rights: &[i32],
+    list: &mut [u32],
+    second: &mut [u32],
+) -> Outcome {
+    let mut stack = [0u32; 30];
+    let old = Record::new(0, Solutions(0), Steps(0));
+    let o = starts::started_capped(p, q, coefs, rights, &mut stack, list, second, old);
+    walk::resumed_capped(
+        p,
+        q,
+        coefs,
+        rights,
+        &mut stack,
+        list,
+        second,
+        o.run,
+        BUDGET,
+        calls::COMPONENT_LIMIT,
+    )
 }
 
 fn walked(p: usize, q: usize, coefs: &[i32], lower: &[u32], list: &mut [u32]) -> Outcome {
     let mut stack = [0u32; 20];
-    let old = Record {
-        height: 0,
-        found: Solutions(0),
-        steps: Steps(0),
-    };
+    let old = Record::new(0, Solutions(0), Steps(0));
     if lower.len() == 0 {
         let o = starts::started(p, q, coefs, &mut stack, list, old);
-        return walk::resumed(p, q, coefs, &mut stack, list, o.run, BUDGET);
+        return walk::resumed(
+            p,
+            q,
+            coefs,
+            &mut stack,
+            list,
+            o.run,
+            BUDGET,
+            calls::COMPONENT_LIMIT,
+        );
     }
-    let o = starts::started_from(p, q, coefs, &mut stack, list, old, lower);
-    walk::resumed(p, q, coefs, &mut stack, list, o.run, BUDGET)
+    let o = starts::started_from(
+        p,
+        q,
+        coefs,
+        &mut stack,
+        list,
+        old,
+        lower,
+        calls::COMPONENT_LIMIT,
+    );
+    walk::resumed(
+        p,
+        q,
+        coefs,
+        &mut stack,
+        list,
+        o.run,
+        BUDGET,
+        calls::COMPONENT_LIMIT,
+    )
 }
 
 // The list of a run held against the first n rows of `minimal`.
@@ -142,17 +237,16 @@ fn compared(
     p: usize,
     q: usize,
     coefs: &[i32],
+    rights: &[i32],
     lower: &[u32],
-    o: Outcome,
+    answer: Answer,
+    found: Solutions,
     list: &[u32],
     minimal: &[u32],
     n: usize,
 ) -> Tally {
-    let r = o.run;
-    let found = r.found;
     let inside = compare::rows_inside(list, found.0, q);
-    let wrong = compare::wrong_rows(p, q, coefs, lower, list, found.0, minimal, n);
-    let answer = o.answer;
+    let wrong = compare::wrong_rows(p, q, coefs, rights, lower, list, found.0, minimal, n);
     let finished = if let Answer::Complete = answer {
         true
     } else {

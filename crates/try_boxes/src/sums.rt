@@ -21,11 +21,11 @@ pub fn image(q: usize, coefs: &[i32], tuple: &[u32], i: usize) -> i64 {
     sum
 }
 
-// Whether the image of a tuple is zero.
-pub fn solves(p: usize, q: usize, coefs: &[i32], tuple: &[u32]) -> bool {
+// Whether the image of a tuple is what stands right; an equation without a right side has 0 there.
+pub fn solves(p: usize, q: usize, coefs: &[i32], rights: &[i32], tuple: &[u32]) -> bool {
     let mut i = 0;
     while i < p {
-        if image(q, coefs, tuple, i) != 0 {
+        if image(q, coefs, tuple, i) != coefficient(rights, i) {
             return false;
         }
         i += 1;

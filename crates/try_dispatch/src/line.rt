@@ -4,6 +4,9 @@
 // How many entries a table of a line may have.
 pub const ROOM: usize = 160;
 
+// How many words the dispatcher's record of a line may have.
+pub const ROUND_ROOM: usize = 80;
+
 // A word so far: its letter or 0, its sign, whether it has digits, and their number.
 pub struct Word {
     letter: u8,
@@ -19,8 +22,8 @@ pub struct Line {
     pub answered: [u64; 64],
     pub shares: [u64; 64],
     pub shares_length: usize,
-    pub round: [u64; 64],
-    pub round_after: [u64; 64],
+    pub round: [u64; ROUND_ROOM],
+    pub round_after: [u64; ROUND_ROOM],
     pub round_length: usize,
     pub coefs: [i32; ROOM],
     pub coefs_length: usize,
@@ -43,8 +46,8 @@ pub fn empty() -> Line {
         answered: [0; 64],
         shares: [0; 64],
         shares_length: 0,
-        round: [0; 64],
-        round_after: [0; 64],
+        round: [0; 80],
+        round_after: [0; 80],
         round_length: 0,
         coefs: [0; 160],
         coefs_length: 0,
@@ -128,9 +131,9 @@ fn entered(l: Line, w: Word) -> Line {
             m.shares_length = next;
         }
         b'r' => {
-            put_word(&mut m.round_after, at, w.number);
+            put_round(&mut m.round_after, at, w.number);
             if !l.after {
-                put_word(&mut m.round, at, w.number);
+                put_round(&mut m.round, at, w.number);
                 m.round_length = next;
             }
         }
@@ -172,6 +175,12 @@ fn put_signed(table: &mut [i32; ROOM], at: usize, x: i32) {
 
 fn put_word(table: &mut [u64; 64], at: usize, x: u64) {
     if at < 64 {
+        table[at] = x;
+    }
+}
+
+fn put_round(table: &mut [u64; ROUND_ROOM], at: usize, x: u64) {
+    if at < ROUND_ROOM {
         table[at] = x;
     }
 }

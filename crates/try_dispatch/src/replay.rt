@@ -1,13 +1,14 @@
 // The call of a line: it is made as the line has it, and held against what the line says must come of it.
 use crate::line::Line;
 use crate::line::ROOM;
+use crate::line::ROUND_ROOM;
 
 // Whether the call comes to what the line says. One whose tables have no room is not made.
 pub fn agrees(l: Line) -> bool {
     if ROOM < l.coefs_length || ROOM < l.stack_length || ROOM < l.list_length {
         return false;
     }
-    if 64 < l.shares_length || 64 < l.round_length {
+    if 64 < l.shares_length || ROUND_ROOM < l.round_length {
         return false;
     }
     comes(l)
@@ -77,7 +78,7 @@ fn same_table(a: &[u32; ROOM], b: &[u32; ROOM]) -> bool {
     same(a, b)
 }
 
-fn same_round(a: &[u64; 64], b: &[u64; 64]) -> bool {
+fn same_round(a: &[u64; ROUND_ROOM], b: &[u64; ROUND_ROOM]) -> bool {
     same_words(a, b)
 }
 

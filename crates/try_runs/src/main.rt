@@ -93,7 +93,16 @@ fn in_one_call(
     let a = o.answer;
     let r = o.run;
     match a {
-        Answer::Started => walk::resumed(p, q, coefs, stack, list, r, budget),
+        Answer::Started => walk::resumed(
+            p,
+            q,
+            coefs,
+            stack,
+            list,
+            r,
+            budget,
+            calls::COMPONENT_LIMIT,
+        ),
         _ => o,
     }
 }
@@ -106,15 +115,11 @@ fn start(
     stack: &mut [u32],
     list: &mut [u32],
 ) -> Outcome {
-    let r = Record {
-        height: 0,
-        found: Solutions(0),
-        steps: Steps(0),
-    };
+    let r = Record::new(0, Solutions(0), Steps(0));
     if lower.len() == 0 {
         return starts::started(p, q, coefs, stack, list, r);
     }
-    starts::started_from(p, q, coefs, stack, list, r, lower)
+    starts::started_from(p, q, coefs, stack, list, r, lower, calls::COMPONENT_LIMIT)
 }
 
 // A line for a run: its name, the answer, the record and the rows found.

@@ -84,7 +84,16 @@ fn by_value() {
         return;
     };
     let r = s.run;
-    let o = walk::resumed(2, 4, &coefs, &mut stack, &mut list, r, 1000000);
+    let o = walk::resumed(
+        2,
+        4,
+        &coefs,
+        &mut stack,
+        &mut list,
+        r,
+        1000000,
+        calls::COMPONENT_LIMIT,
+    );
     let r = o.run;
     let row = solver::row_of(&list, 4, r.found, 1);
     print::text(b"by value:");
@@ -94,11 +103,7 @@ fn by_value() {
 
 // A record out of order, so that one which a start has not set is refused.
 fn unused() -> Record {
-    Record {
-        height: 17,
-        found: Solutions(0),
-        steps: Steps(0),
-    }
+    Record::new(17, Solutions(0), Steps(0))
 }
 
 // Prints what a call answered, and the record that it left.

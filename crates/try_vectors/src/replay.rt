@@ -71,11 +71,7 @@ fn called(l: Line, stack: &mut [u32], list: &mut [u32]) -> Outcome {
 
 fn record(l: Line) -> Record {
     let x = l.record;
-    Record {
-        height: x[0] as usize,
-        found: Solutions(x[1] as usize),
-        steps: Steps(x[2]),
-    }
+    Record::new(x[0] as usize, Solutions(x[1] as usize), Steps(x[2]))
 }
 
 // p, q and a budget.
@@ -87,10 +83,10 @@ fn made(l: Line, coefs: &[i32], lower: &[u32], stack: &mut [u32], list: &mut [u3
     let kind = l.kind;
     match kind {
         b's' => starts::started(p, q, coefs, stack, list, r),
-        b'f' => starts::started_from(p, q, coefs, stack, list, r, lower),
+        b'f' => starts::started_from(p, q, coefs, stack, list, r, lower, calls::COMPONENT_LIMIT),
         b'b' => single_file_calls::started(p, q, coefs, stack, list, r),
         b'g' => single_file_calls::resumed(p, q, coefs, stack, list, r, x[2]),
-        _ => walk::resumed(p, q, coefs, stack, list, r, x[2]),
+        _ => walk::resumed(p, q, coefs, stack, list, r, x[2], calls::COMPONENT_LIMIT),
     }
 }
 

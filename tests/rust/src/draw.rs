@@ -1,6 +1,6 @@
 //! Drawn numbers, maps and states: the same for the same seed.
 
-use crate::{State, System, FOUND, HEIGHT, STEPS};
+use crate::{State, System, DEEPEST, FOUND, HEIGHT, KIND, STEPS};
 
 /// SplitMix64.
 pub struct Draw(u64);
@@ -124,7 +124,13 @@ pub fn state(d: &mut Draw, q: usize) -> State {
         1 => d.word() % 1_000_000_000_001,
         _ => d.of(&[1_000_000_000_000, 999_999_999_999, 999_999_999_990, 1]),
     };
-    let record = vec![d.between(0, q) as u64, d.between(0, length / q) as u64, steps];
+    let deepest = match d.between(0, 2) {
+        0 => 0,
+        1 => d.word() % 16_000_001,
+        _ => d.of(&[16_000_000, 15_999_999, 1, 2, 3]),
+    };
+    let (second, before) = (d.of(&[0, 1, 1 << 32, u64::MAX]), d.of(&[0, 1, 1_000_000_000_001, u64::MAX]));
+    let record = vec![d.between(0, q) as u64, d.between(0, length / q) as u64, steps, 0, second, before, deepest];
     State { stack, list, record }
 }
 
@@ -138,11 +144,13 @@ fn set(s: &mut State, place: usize, word: u64) {
 /// Spoils a state in one way.
 pub fn damage_state(d: &mut Draw, q: usize, s: &mut State) {
     let room = (s.list.len() / q) as u64;
-    match d.between(0, 8) {
+    match d.between(0, 10) {
         0 => set(s, HEIGHT, d.of(&[q as u64 + 1, q as u64 + 2, u64::MAX])),
         1 => set(s, FOUND, d.of(&[room + 1, room + 2, u64::MAX])),
         2 => set(s, STEPS, d.of(&[1_000_000_000_001, u64::MAX])),
-        8 => s.record.resize(d.of(&[0, 1, 2, 4, 7]), 0),
+        8 => s.record.resize(d.of(&[0, 1, 3, 6, 8, 42]), 0),
+        9 => set(s, KIND, d.of(&[1, 2, 3, 4, 5, 6, 256, 1 << 32, u64::MAX])),
+        10 => set(s, DEEPEST, d.of(&[16_000_001, 1 << 32, u64::MAX])),
         3 => s.stack.truncate(d.between(0, q * (q + 1))),
         4 => s.list.truncate(d.between(0, s.list.len())),
         kind => {

@@ -2,9 +2,12 @@
 
 pub mod boxes; // every tuple of a small box, by code that does not walk
 pub mod draw; // drawn numbers, maps and states
+pub mod equations; // equations as people write them: the calls, wrapped
 pub mod files; // lists as files: the calls, wrapped, and the same in plain Rust
 pub mod library; // the library's calls, wrapped
 pub mod model; // the same calls, in plain Rust straight from the document
+pub mod pairs; // the basis by sums of pairs: the calls, wrapped, and the same in plain Rust
+pub mod questions; // why a tuple is not listed, and what it is made of: the calls, wrapped, and the same in plain Rust
 
 /// A map. Nothing here says that it is in order: the calls have to find out.
 #[derive(Clone, Debug, PartialEq, Eq)]
@@ -27,6 +30,11 @@ pub struct State {
 pub const HEIGHT: usize = 0;
 pub const FOUND: usize = 1;
 pub const STEPS: usize = 2;
+pub const KIND: usize = 3;
+pub const SECOND: usize = 4;
+pub const BEFORE: usize = 5;
+pub const DEEPEST: usize = 6;
+pub const WORDS: usize = 7;
 
 /// A call's answer; a refusal has the document's number, and 7 has its place.
 #[derive(Clone, Copy, Debug, PartialEq, Eq, PartialOrd, Ord)]
@@ -42,6 +50,14 @@ pub enum Answer {
 pub enum Shown {
     Row,
     None,
+    Refused(u8),
+}
+
+/// Which row of a list is at or below a tuple: its place from 1.
+#[derive(Clone, Copy, Debug, PartialEq, Eq, PartialOrd, Ord)]
+pub enum Located {
+    At(usize),
+    Nowhere,
     Refused(u8),
 }
 
@@ -62,7 +78,7 @@ impl System {
 impl State {
     /// Tables for q unknowns and `room` rows, with no zeros in them, so that a place written too many shows.
     pub fn blank(q: usize, room: usize) -> State {
-        State { stack: vec![0xa5a5_a5a5; q * (q + 1) + 3], list: vec![0x5a5a_5a5a; room * q + q / 2], record: vec![7, 8, 9] }
+        State { stack: vec![0xa5a5_a5a5; q * (q + 1) + 3], list: vec![0x5a5a_5a5a; room * q + q / 2], record: vec![7, 8, 9, 10, 11, 12, u64::MAX] }
     }
 
     pub fn height(&self) -> usize {
@@ -75,6 +91,11 @@ impl State {
 
     pub fn steps(&self) -> u64 {
         self.record[STEPS]
+    }
+
+    /// The greatest sum of components among the tuples taken off so far.
+    pub fn deepest(&self) -> u64 {
+        self.record[DEEPEST]
     }
 
     /// The rows listed so far.

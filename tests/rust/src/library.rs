@@ -1,6 +1,6 @@
 //! The library's C interface (include/dezgula.h), wrapped in safe functions: a slice's pointer is never null, and `&mut` keeps what is lent apart.
 
-use crate::{Answer, Listed, Shown, State, System};
+use crate::{Answer, Listed, Located, Shown, State, System};
 
 extern "C" {
     fn dezgula_raw_start(
@@ -101,6 +101,8 @@ extern "C" {
     ) -> u64;
 
     fn dezgula_raw_row(list: *const u32, list_len: usize, q: usize, found: usize, n: usize, out: *mut u32, out_len: usize) -> u64;
+
+    fn dezgula_raw_locate(list: *const u32, list_len: usize, q: usize, found: usize, tuple: *const u32, tuple_len: usize) -> u64;
 }
 
 pub fn start(m: &System, s: &mut State) -> Answer {
@@ -206,6 +208,14 @@ pub fn row(list: &[u32], q: usize, found: usize, n: usize, out: &mut [u32]) -> S
         102 => Shown::Row,
         103 => Shown::None,
         answer => Shown::Refused(u8::try_from(answer).expect("a reader's refusal has no place")),
+    }
+}
+
+pub fn locate(list: &[u32], q: usize, found: usize, tuple: &[u32]) -> Located {
+    match unsafe { dezgula_raw_locate(list.as_ptr(), list.len(), q, found, tuple.as_ptr(), tuple.len()) } {
+        0 => Located::Nowhere,
+        answer @ 1..=255 => Located::Refused(answer as u8),
+        answer => Located::At((answer - 255) as usize),
     }
 }
 

@@ -1,9 +1,11 @@
 //! Document 01 in plain Rust, in its own order. Images are computed anew for each row, and nothing is shared with the library.
 
-use crate::{Answer, Listed, Shown, State, System, FOUND, HEIGHT, STEPS};
+use crate::{Answer, Listed, Located, Shown, State, System, DEEPEST, FOUND, HEIGHT, KIND, STEPS, WORDS};
 
 const COMPONENT_LIMIT: u32 = 1_000_000;
 const STEP_LIMIT: u64 = 1_000_000_000_000;
+const SUM_LIMIT: u64 = 16_000_000;
+const PLAIN: u64 = 0;
 
 type Check = Result<(), Answer>;
 
@@ -24,14 +26,15 @@ fn check_shape(m: &System, s: &State) -> Check {
     refuse_if(s.stack.len() < m.q * (m.q + 1), 4)
 }
 
-/// A record of another length than its three words is out of order, for a start too.
+/// A record of another length than its seven words is out of order, for a start too.
 fn check_record(s: &State) -> Check {
-    refuse_if(s.record.len() != 3, 6)
+    refuse_if(s.record.len() != WORDS, 6)
 }
 
 fn check_order(m: &System, s: &State) -> Check {
     check_record(s)?;
-    refuse_if(s.height() > m.q || s.found() > room(m, s) || s.steps() > STEP_LIMIT, 6)?;
+    refuse_if(s.record[KIND] != PLAIN, 6)?;
+    refuse_if(s.height() > m.q || s.found() > room(m, s) || s.steps() > STEP_LIMIT || s.deepest() > SUM_LIMIT, 6)?;
     for (k, row) in s.stack.chunks(m.q + 1).take(s.height()).enumerate() {
         let (tuple, marks) = row.split_at(m.q);
         refuse_if(tuple.iter().any(|&x| x > COMPONENT_LIMIT), 6)?;
@@ -50,6 +53,11 @@ fn check_coefficients(m: &System) -> Check {
 
 // ---- the starts
 
+/// The record of a plain run that has taken no step.
+fn begun(height: usize) -> Vec<u64> {
+    vec![height as u64, 0, 0, PLAIN, 0, 0, 0]
+}
+
 fn write_row(q: usize, stack: &mut [u32], k: usize, tuple: &[u32], marks: u32) {
     let row = &mut stack[k * (q + 1)..(k + 1) * (q + 1)];
     row[..q].copy_from_slice(tuple);
@@ -64,7 +72,7 @@ fn try_start(m: &System, s: &mut State) -> Check {
         let unit: Vec<u32> = (0..m.q).map(|j| u32::from(j == k)).collect();
         write_row(m.q, &mut s.stack, k, &unit, (0..k).map(|j| 1 << j).sum());
     }
-    s.record = vec![m.q as u64, 0, 0];
+    s.record = begun(m.q);
     Ok(())
 }
 
@@ -75,7 +83,7 @@ fn try_start_from(m: &System, lower: &[u32], s: &mut State) -> Check {
     check_coefficients(m)?;
     refuse_if(lower.iter().any(|&x| x > COMPONENT_LIMIT), 8)?;
     write_row(m.q, &mut s.stack, 0, lower, 0);
-    s.record = vec![1, 0, 0];
+    s.record = begun(1);
     Ok(())
 }
 
@@ -143,6 +151,7 @@ fn step(m: &System, s: &mut State) -> Check {
         s.record[HEIGHT] = (level + made.len()) as u64;
     }
     s.record[STEPS] += 1;
+    s.record[DEEPEST] = s.deepest().max(top.iter().map(|&x| u64::from(x)).sum());
     Ok(())
 }
 
@@ -274,4 +283,21 @@ pub fn listing(m: &System, list: &[u32], found: usize, out: &mut [u8]) -> Listed
         Err(Answer::Refused { number, value }) => Listed::Refused { number, value },
         Err(other) => panic!("no refusal: {other:?}"),
     }
+}
+
+// ---- document 02, Job 7: "The check says which row"
+
+/// The highest place, from 1, of a listed row that is at or below the tuple in every component.
+pub fn locate(list: &[u32], q: usize, found: usize, tuple: &[u32]) -> Located {
+    if !(1..=16).contains(&q) {
+        return Located::Refused(2);
+    }
+    if tuple.len() != q {
+        return Located::Refused(5);
+    }
+    if found > list.len() / q {
+        return Located::Refused(6);
+    }
+    let places: Vec<usize> = (1..=found).filter(|n| list[(n - 1) * q..n * q].iter().zip(tuple).all(|(a, b)| a <= b)).collect();
+    places.last().map_or(Located::Nowhere, |&n| Located::At(n))
 }

@@ -1,12 +1,14 @@
 //! Several runs at a time against the same runs alone: drawn maps, in turns of a drawn length, call after call to the end.
 
-use dezgula_tests::{draw, draw::Draw, library, model, Answer, State, System};
+use dezgula_tests::{draw, draw::Draw, library, model, Answer, State, System, DEEPEST, KIND, STEPS, WORDS};
 
 const SERVED: u64 = 110;
-const ROUND: usize = 42;
+const ROUND: usize = 2 + 8 * TURN;
+/// The words of a run's record, the number of its answer and its place.
+const TURN: usize = WORDS + 2;
 
 fn at(i: usize) -> usize {
-    2 + 5 * i
+    2 + TURN * i
 }
 
 fn number(a: Answer) -> [u64; 2] {
@@ -18,6 +20,7 @@ fn number(a: Answer) -> [u64; 2] {
     }
 }
 
+/// Now and then a run's record is one that refuses to go on: it is left as it is.
 #[test]
 fn each_run_as_alone() {
     let mut d = Draw::new(14);
@@ -34,13 +37,18 @@ fn each_run_as_alone() {
         let mut whole = State { stack: vec![], list: vec![], record: vec![0; ROUND] };
         for (i, (m, s)) in maps.iter().zip(&mut alone).enumerate() {
             model::start(m, s);
+            match d.between(0, 19) {
+                0 => s.record[KIND] = d.of(&[1, 2, 3, 4, 5, u64::MAX]),
+                1 => s.record[DEEPEST] = d.of(&[16_000_000, 16_000_001, u64::MAX]),
+                _ => {}
+            }
             let parts = [(coefs.len(), m.coefs.len()), (whole.stack.len(), s.stack.len()), (whole.list.len(), s.list.len())];
             shares.extend([m.p as u64, m.q as u64]);
             shares.extend(parts.iter().flat_map(|&(start, size)| [start as u64, size as u64]));
             coefs.extend(&m.coefs);
             whole.stack.extend(&s.stack);
             whole.list.extend(&s.list);
-            whole.record[at(i)..at(i) + 3].copy_from_slice(&s.record);
+            whole.record[at(i)..at(i) + WORDS].copy_from_slice(&s.record);
         }
         let quantum = d.of(&[1, 2, 3, 10, 100]);
         for _ in 0..40 {
@@ -53,9 +61,9 @@ fn each_run_as_alone() {
             for (i, (m, s)) in maps.iter().zip(&mut alone).enumerate() {
                 let turn = next == Some(&i);
                 let answer = model::resume(m, s, if turn { quantum } else { 0 });
-                steps += s.steps() - before[at(i) + 2];
-                assert_eq!(whole.record[at(i)..at(i) + 3], s.record[..]);
-                assert_eq!(whole.record[at(i) + 3..at(i) + 5], number(answer));
+                steps += s.steps() - before[at(i) + STEPS];
+                assert_eq!(whole.record[at(i)..at(i) + WORDS], s.record[..]);
+                assert_eq!(whole.record[at(i) + WORDS..at(i) + TURN], number(answer));
             }
             assert_eq!(whole.record[0], next.map_or(before[0], |&i| i as u64 + 1));
             assert_eq!(whole.record[1], steps);

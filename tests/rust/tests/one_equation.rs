@@ -72,7 +72,7 @@ fn ends_within_its_bound() {
             last = library::resume(&m, &mut s, budget);
             allowed += budget;
             assert!(last == Answer::Paused || last == Answer::Complete, "{m:?}: {last:?}");
-            assert!(s.steps() <= bound && s.steps() <= allowed && sums_within(&m, &s), "{m:?}");
+            assert!(s.steps() <= bound && s.steps() <= allowed && sums_within(&m, &s) && s.deepest() <= depth(&m), "{m:?}");
             if d.one_in(3) {
                 foreign(&mut d, &m, &mut s);
             }

@@ -8,13 +8,14 @@ struct Run {
     answer: Answer,
     steps: u64,
     height: usize,
+    deepest: u64,
     rows: Vec<Vec<u32>>,
 }
 
 fn go(m: &System, s: &mut State, started: Answer, budget: u64) -> Run {
     assert_eq!(started, Answer::Started);
     let answer = library::resume(m, s, budget);
-    Run { answer, steps: s.steps(), height: s.height(), rows: s.rows(m.q) }
+    Run { answer, steps: s.steps(), height: s.height(), deepest: s.deepest(), rows: s.rows(m.q) }
 }
 
 fn run(rows: &[&[i32]], room: usize, budget: u64) -> Run {
@@ -85,6 +86,25 @@ fn example_4_of_the_paper() {
     let mut r = run(&[&[-1, 1, 2, -3]], ROOM, u64::MAX);
     r.rows.sort();
     complete(r, 17, &[&[0, 0, 3, 2], &[0, 1, 1, 1], &[0, 3, 0, 1], &[1, 0, 2, 1], &[1, 1, 0, 0], &[2, 0, 1, 0]]);
+}
+
+/// Document 02, Job 6: "the greatest sum of components among the tuples taken off so far, 0 at the start".
+#[test]
+fn the_greatest_sum() {
+    let whole = |rows: &[&[i32]]| run(rows, ROOM, u64::MAX).deepest;
+    assert_eq!(whole(&[&[0]]), 1);
+    assert_eq!(whole(&[&[2, -3]]), 5);
+    assert_eq!(whole(&[&[1, 1, -1]]), 2);
+    assert_eq!(whole(&[&[1, -1], &[1, 1]]), 1);
+    assert_eq!(whole(EXAMPLE), 7);
+    assert_eq!(whole(&[&[-1, 1, 2, -3]]), 5);
+    assert_eq!(run(EXAMPLE, ROOM, 0).deepest, 0);
+    assert_eq!(run(EXAMPLE, ROOM, 7).deepest, 3);
+    assert_eq!(run(EXAMPLE, 1, u64::MAX).deepest, 6, "the step that is refused takes nothing off");
+    assert_eq!(run_from(&[&[2, -3]], &[0, 0]).deepest, 0);
+    assert_eq!(run_from(&[&[1, -1]], &[0, 2]).deepest, 4, "the lower bound's own components count");
+    assert_eq!(run_from(&[&[2, -1]], &[1_000_000, 999_999]).deepest, 1_999_999);
+    assert_eq!(run_from(&[&[0; 16]], &[1_000_000; 16]).deepest, 16_000_000);
 }
 
 /// The numbers of solutions in the tables of the paper's section 11.4.

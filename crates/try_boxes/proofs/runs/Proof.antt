@@ -5,10 +5,10 @@ use Rattle.try_boxes.proofs.runs.Statement.{statement}
 use Rattle.try_boxes.proofs.runs.Tie as tie
 
 abbrev Inv-loop : tie.InvT-loop
-Inv-loop bounded t₀ n₀ t n = n ≤ 3000
+Inv-loop sort t₀ n₀ t n = n ≤ 3000
 
 abbrev μ-loop : tie.MeasureT-loop
-μ-loop bounded t₀ n₀ t n = 3000 - n
+μ-loop sort t₀ n₀ t n = 3000 - n
 
 pub runs-spec : {M : Type 1} → statement M
 runs-spec =

@@ -7,10 +7,10 @@ use Rattle.try_boxes.proofs.boxes.minimal.Statement.{statement}
 use Rattle.try_boxes.proofs.boxes.minimal.Tie as tie
 
 abbrev Inv-loop : tie.InvT-loop
-Inv-loop p q coefs lower rows₀ most n₀ code₀ rows n code = (code ≤ most) × (length rows ≡ length rows₀)
+Inv-loop p q coefs rights lower rows₀ most n₀ code₀ rows n code = (code ≤ most) × (length rows ≡ length rows₀)
 
 abbrev μ-loop : tie.MeasureT-loop
-μ-loop p q coefs lower rows₀ most n₀ code₀ rows n code = most - code
+μ-loop p q coefs rights lower rows₀ most n₀ code₀ rows n code = most - code
 
 pub minimal-spec : {M : Type 1} → statement M
 minimal-spec =

@@ -5,10 +5,10 @@ use Rattle.try_boxes.proofs.compare.wrong_rows.Statement.{statement}
 use Rattle.try_boxes.proofs.compare.wrong_rows.Tie as tie
 
 abbrev Inv-loop : tie.InvT-loop
-Inv-loop p q coefs lower list found minimal n wrong₀ i₀ wrong i = i ≤ found
+Inv-loop p q coefs rights lower list found minimal n wrong₀ i₀ wrong i = i ≤ found
 
 abbrev μ-loop : tie.MeasureT-loop
-μ-loop p q coefs lower list found minimal n wrong₀ i₀ wrong i = found - i
+μ-loop p q coefs rights lower list found minimal n wrong₀ i₀ wrong i = found - i
 
 pub wrong-rows-spec : {M : Type 1} → statement M
 wrong-rows-spec =

@@ -5,13 +5,13 @@ use Rattle.try_boxes.proofs.sums.solves.Statement.{statement}
 use Rattle.try_boxes.proofs.sums.solves.Tie as tie
 
 abbrev Inv-loop : tie.InvT-loop
-Inv-loop p q coefs tuple i₀ i = i ≤ p
+Inv-loop p q coefs rights tuple i₀ i = i ≤ p
 
 abbrev μ-loop : tie.MeasureT-loop
-μ-loop p q coefs tuple i₀ i = p - i
+μ-loop p q coefs rights tuple i₀ i = p - i
 
 pub solves-spec : {M : Type 1} → statement M
 solves-spec =
     tie.close
-    (tie.spec Inv-loop μ-loop (λ c. search needs) (λ c κs. search needs) (λ c. search needs) (λ c. search needs) (λ c. search needs)
+    (tie.spec Inv-loop μ-loop (λ c. search needs) (λ c κs. search needs) (λ c κs. search needs) (λ c. search needs) (λ c. search needs) (λ c. search needs)
     (λ c. search needs) (λ c. search needs))

@@ -45,7 +45,7 @@ use Rattle.solver.proofs.resume as resume
 use Rattle.solver.proofs.resume.Symbol as resume-def
 use Rattle.solver.proofs.resume.Symbol.{name as #solver·resume}
 use Rattle.solver.proofs.resume.Met as resume-thm
-use Rattle.try_solver.proofs.Loan.{lies, stands}
+use Rattle.try_solver.proofs.Loan.{recordVal, lies, stands}
 use Rattle.try_solver.proofs.lent.resumed.Key.{name as #try_solver·resumed}
 use Rattle.try_solver.proofs.lent.resumed as resumed
 use Rattle.try_solver.proofs.lent.resumed.Statement as stated
@@ -120,10 +120,10 @@ resumed-spec 𝓤 H 𝓜 𝓖 𝓡 =
     move ! (1 ∷ []) $ takes ! 3 _ _ $ lft-end ! tt $ move ! (3 ∷ []) $ takes ! 5 _ _ $ move ! (2 ∷ 6 ∷ 0 ∷ []) $
     use3 (givenOf 𝓤 H 𝓜 𝓖) (later (‵ (partAt Rec.the-row fullShare h b zero))) (ref-back 𝓤 H (𝓖 .A) (givenOf 𝓤 H 𝓜 𝓖) Rec.the-row (ν ∷ []) δ h b zero) $
     await ! tt $
-    use1 (givenOf 𝓤 H 𝓜 𝓖) (‵ (fat fullShare Rec′.mir b zero (Rec′.lowered h)) ⊛ ‵ (Rec.the-row .own h (Rec′.lowered h ∷ [])))
+    use1 (givenOf 𝓤 H 𝓜 𝓖) (‵ (fat fullShare Rec′.mir b zero (recordVal h)) ⊛ ‵ (Rec.the-row .own h (recordVal h ∷ [])))
     (stands 𝓤 H (𝓖 .A) (givenOf 𝓤 H 𝓜 𝓖) h b) $ split ! $
     -- [its cell; what the record owns; what is said of last values; the tokens; what the answer owns; the clause; locals 0 to 7; locals 9 on]
-    move ! (1 ∷ 0 ∷ []) $ peeks ! Rec.the-row (Is Rec.the-row) (shows 𝓤 H (𝓖 .A) Rec.the-row) h (Rec′.lowered h ∷ []) (λ is-h.
+    move ! (1 ∷ 0 ∷ []) $ peeks ! Rec.the-row (Is Rec.the-row) (shows 𝓤 H (𝓖 .A) Rec.the-row) h (recordVal h ∷ []) (λ is-h.
     assigns ! (of-opd ! (load ! (from ! (stop !)) (look ! 1 refl))) (from ! (stop !))
     (init ! 20 refl (LL.lawful Rec.the-type Rec′.the-laws 𝓤 H (𝓖 .A) (givenOf 𝓤 H 𝓜 𝓖) .typed h _ is-h .0)) $
     let o : Outcome = record { answer = v; run = h } in

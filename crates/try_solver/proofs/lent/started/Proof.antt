@@ -45,7 +45,7 @@ use Rattle.solver.proofs.start as start
 use Rattle.solver.proofs.start.Symbol as start-def
 use Rattle.solver.proofs.start.Symbol.{name as #solver·start}
 use Rattle.solver.proofs.start.Met as start-thm
-use Rattle.try_solver.proofs.Loan.{lies, stands}
+use Rattle.try_solver.proofs.Loan.{recordVal, lies, stands}
 use Rattle.try_solver.proofs.lent.started.Key.{name as #try_solver·started}
 use Rattle.try_solver.proofs.lent.started as started
 use Rattle.try_solver.proofs.lent.started.Statement as stated
@@ -113,10 +113,10 @@ started-spec 𝓤 H 𝓜 𝓖 𝓡 =
     move ! (1 ∷ []) $ takes ! 3 _ _ $ lft-end ! tt $ move ! (3 ∷ []) $ takes ! 5 _ _ $ move ! (2 ∷ 6 ∷ 0 ∷ []) $
     use3 (givenOf 𝓤 H 𝓜 𝓖) (later (‵ (partAt Rec.the-row fullShare h b zero))) (ref-back 𝓤 H (𝓖 .A) (givenOf 𝓤 H 𝓜 𝓖) Rec.the-row (ν ∷ []) δ h b zero) $
     await ! tt $
-    use1 (givenOf 𝓤 H 𝓜 𝓖) (‵ (fat fullShare Rec′.mir b zero (Rec′.lowered h)) ⊛ ‵ (Rec.the-row .own h (Rec′.lowered h ∷ [])))
+    use1 (givenOf 𝓤 H 𝓜 𝓖) (‵ (fat fullShare Rec′.mir b zero (recordVal h)) ⊛ ‵ (Rec.the-row .own h (recordVal h ∷ [])))
     (stands 𝓤 H (𝓖 .A) (givenOf 𝓤 H 𝓜 𝓖) h b) $ split ! $
     -- [its cell; what the record owns; what is said of last values; the tokens; what the answer owns; the clause; locals 0 to 6; locals 8 on]
-    move ! (1 ∷ 0 ∷ []) $ peeks ! Rec.the-row (Is Rec.the-row) (shows 𝓤 H (𝓖 .A) Rec.the-row) h (Rec′.lowered h ∷ []) (λ is-h.
+    move ! (1 ∷ 0 ∷ []) $ peeks ! Rec.the-row (Is Rec.the-row) (shows 𝓤 H (𝓖 .A) Rec.the-row) h (recordVal h ∷ []) (λ is-h.
     assigns ! (of-opd ! (load ! (from ! (stop !)) (look ! 1 refl))) (from ! (stop !))
     (init ! 19 refl (LL.lawful Rec.the-type Rec′.the-laws 𝓤 H (𝓖 .A) (givenOf 𝓤 H 𝓜 𝓖) .typed h _ is-h .0)) $
     let o : Outcome = record { answer = v; run = h } in

@@ -1,0 +1,186 @@
+// The kinds of call: each is made as its line has it, and held against what the line says must come of it.
+use crate::line::COEFFICIENTS;
+use crate::line::Line;
+use crate::line::ROOM;
+use calls::Answer;
+use calls::Outcome;
+use calls::Record;
+use calls::Refusal;
+use calls::Run;
+use calls::Solutions;
+use calls::Steps;
+
+// Whether the call of a line comes to what the line says. One whose tables have no room is not made.
+pub fn agrees(l: Line) -> bool {
+    fits(l) && run(l)
+}
+
+fn fits(l: Line) -> bool {
+    l.coefs_length <= COEFFICIENTS && l.rights_length <= COEFFICIENTS
+}
+
+// A start or a continuing call: its answer, its record and every entry of its tables.
+fn run(l: Line) -> bool {
+    let mut stack = l.stack;
+    let mut list = l.list;
+    let mut second = l.second;
+    let o = called(l, &mut stack, &mut list, &mut second);
+    let a = o.answer;
+    let r = o.run;
+    let stack_after = l.stack_after;
+    let list_after = l.list_after;
+    let second_after = l.second_after;
+    answers(l, a)
+        && records(l, r)
+        && same_table(&stack, &stack_after)
+        && same_table(&list, &list_after)
+        && same_table(&second, &second_after)
+}
+
+// The call, on the parts of the tables that the line fills.
+fn called(l: Line, stack: &mut [u32], list: &mut [u32], second: &mut [u32]) -> Outcome {
+    let s = l.stack_length;
+    let n = l.list_length;
+    let m = l.second_length;
+    if stack.len() < s {
+        return calls::refused(Refusal::StackFull, record(l));
+    }
+    if list.len() < n {
+        return calls::refused(Refusal::StackFull, record(l));
+    }
+    if second.len() < m {
+        return calls::refused(Refusal::StackFull, record(l));
+    }
+    made(l, &mut stack[0..s], &mut list[0..n], &mut second[0..m])
+}
+
+fn record(l: Line) -> Record {
+    let x = l.record;
+    Record::of(
+        kind_of(x[0]),
+        x[1] as usize,
+        Solutions(x[2] as usize),
+        Steps(x[3]),
+        Solutions(x[4] as usize),
+        Steps(x[5]),
+        x[6],
+    )
+}
+
+// The kind of run of a number.
+fn kind_of(n: u64) -> Run {
+    match n {
+        0 => Run::Plain,
+        1 => Run::Capped,
+        2 => Run::LowerPlain,
+        3 => Run::LowerAbove,
+        _ => Run::Desks,
+    }
+}
+
+fn made(l: Line, stack: &mut [u32], list: &mut [u32], second: &mut [u32]) -> Outcome {
+    let kind = l.kind;
+    if kind == b'm' || kind == b'g' {
+        return capped(l, stack, list, second);
+    }
+    plain(l, stack, list)
+}
+
+// p, q, a budget and a limit.
+fn plain(l: Line, stack: &mut [u32], list: &mut [u32]) -> Outcome {
+    let x = l.operands;
+    let p = x[0] as usize;
+    let q = x[1] as usize;
+    let limit = (x[3] % 4294967296) as u32;
+    let table = l.coefs;
+    let coefs = first_signed(&table, l.coefs_length);
+    let tuple = l.tuple;
+    let lower = first(&tuple, l.tuple_length);
+    let r = record(l);
+    let kind = l.kind;
+    match kind {
+        b's' => starts::started(p, q, coefs, stack, list, r),
+        b'f' => starts::started_from(p, q, coefs, stack, list, r, lower, limit),
+        _ => walk::resumed(p, q, coefs, stack, list, r, x[2], limit),
+    }
+}
+
+// p, q, a budget and a limit.
+fn capped(l: Line, stack: &mut [u32], list: &mut [u32], second: &mut [u32]) -> Outcome {
+    let x = l.operands;
+    let p = x[0] as usize;
+    let q = x[1] as usize;
+    let limit = (x[3] % 4294967296) as u32;
+    let table = l.coefs;
+    let coefs = first_signed(&table, l.coefs_length);
+    let sides = l.rights;
+    let rights = first_signed(&sides, l.rights_length);
+    let r = record(l);
+    if l.kind == b'm' {
+        return starts::started_capped(p, q, coefs, rights, stack, list, second, r);
+    }
+    walk::resumed_capped(p, q, coefs, rights, stack, list, second, r, x[2], limit)
+}
+
+// The first n entries, or all where there are fewer.
+fn first(table: &[u32], n: usize) -> &[u32] {
+    if n < table.len() {
+        return &table[0..n];
+    }
+    &table[0..table.len()]
+}
+
+fn first_signed(table: &[i32], n: usize) -> &[i32] {
+    if n < table.len() {
+        return &table[0..n];
+    }
+    &table[0..table.len()]
+}
+
+fn answers(l: Line, a: Answer) -> bool {
+    match a {
+        Answer::Started => l.answer == b'S',
+        Answer::Complete => l.answer == b'C',
+        Answer::Paused => l.answer == b'P',
+        Answer::Refused(why) => refuses(l, why),
+    }
+}
+
+fn refuses(l: Line, why: Refusal) -> bool {
+    let x = l.answered;
+    l.answer == b'R' && calls::number_of(why) == x[0] && calls::value_of(why) as u64 == x[1]
+}
+
+fn records(l: Line, r: Record) -> bool {
+    let x = l.record_after;
+    let found = r.found;
+    let steps = r.steps;
+    let second = r.second;
+    let before = r.before;
+    let kind = r.kind;
+    calls::run_number(kind) == x[0]
+        && r.height as u64 == x[1]
+        && found.0 as u64 == x[2]
+        && steps.0 == x[3]
+        && second.0 as u64 == x[4]
+        && before.0 == x[5]
+        && r.deepest == x[6]
+}
+
+fn same_table(a: &[u32; ROOM], b: &[u32; ROOM]) -> bool {
+    same(a, b)
+}
+
+fn same(a: &[u32], b: &[u32]) -> bool {
+    if a.len() != b.len() {
+        return false;
+    }
+    let mut i = 0;
+    while i < a.len() {
+        if a[i] != b[i] {
+            return false;
+        }
+        i += 1;
+    }
+    true
+}

@@ -1,0 +1,194 @@
+//! Why a tuple is not in a list, and what it is made of (document 02, Jobs 8 and 13): the library's calls, wrapped, and the same in plain Rust.
+
+use crate::System;
+
+extern "C" {
+    fn dezgula_raw_reason(
+        p: usize,
+        q: usize,
+        coefs: *const i32,
+        coefs_len: usize,
+        list: *const u32,
+        list_len: usize,
+        found: usize,
+        tuple: *const u32,
+        tuple_len: usize,
+    ) -> u64;
+
+    fn dezgula_raw_reason_place(
+        p: usize,
+        q: usize,
+        coefs: *const i32,
+        coefs_len: usize,
+        list: *const u32,
+        list_len: usize,
+        found: usize,
+        tuple: *const u32,
+        tuple_len: usize,
+    ) -> usize;
+
+    fn dezgula_raw_reason_amount(
+        p: usize,
+        q: usize,
+        coefs: *const i32,
+        coefs_len: usize,
+        list: *const u32,
+        list_len: usize,
+        found: usize,
+        tuple: *const u32,
+        tuple_len: usize,
+    ) -> i64;
+
+    fn dezgula_raw_decompose(
+        p: usize,
+        q: usize,
+        coefs: *const i32,
+        coefs_len: usize,
+        list: *const u32,
+        list_len: usize,
+        found: usize,
+        tuple: *const u32,
+        tuple_len: usize,
+        times: *mut u32,
+        times_len: usize,
+    ) -> u64;
+}
+
+/// The reasons, equations and places from 1; a refusal has its number, and 7 its place.
+#[derive(Clone, Copy, Debug, PartialEq, Eq, PartialOrd, Ord)]
+pub enum Reason {
+    Zero,
+    Off(usize, i64),
+    Stands(usize),
+    Above(usize),
+    Unlisted,
+    Refused(u64, usize),
+}
+
+/// What a tuple is made of, or why it is not told.
+#[derive(Clone, Copy, Debug, PartialEq, Eq, PartialOrd, Ord)]
+pub enum Parts {
+    Made,
+    Unlisted,
+    NoSpace,
+    Not(Reason),
+}
+
+pub fn reason(m: &System, list: &[u32], found: usize, tuple: &[u32]) -> Reason {
+    let (c, l, t) = (&m.coefs, list, tuple);
+    let (number, place, amount) = unsafe {
+        (
+            dezgula_raw_reason(m.p, m.q, c.as_ptr(), c.len(), l.as_ptr(), l.len(), found, t.as_ptr(), t.len()),
+            dezgula_raw_reason_place(m.p, m.q, c.as_ptr(), c.len(), l.as_ptr(), l.len(), found, t.as_ptr(), t.len()),
+            dezgula_raw_reason_amount(m.p, m.q, c.as_ptr(), c.len(), l.as_ptr(), l.len(), found, t.as_ptr(), t.len()),
+        )
+    };
+    match number {
+        120 => Reason::Zero,
+        121 => Reason::Off(place, amount),
+        122 => Reason::Stands(place),
+        123 => Reason::Above(place),
+        124 => Reason::Unlisted,
+        _ => Reason::Refused(number, place),
+    }
+}
+
+pub fn decompose(m: &System, list: &[u32], found: usize, tuple: &[u32], times: &mut [u32]) -> Parts {
+    let number = unsafe {
+        dezgula_raw_decompose(
+            m.p,
+            m.q,
+            m.coefs.as_ptr(),
+            m.coefs.len(),
+            list.as_ptr(),
+            list.len(),
+            found,
+            tuple.as_ptr(),
+            tuple.len(),
+            times.as_mut_ptr(),
+            times.len(),
+        )
+    };
+    match number {
+        125 => Parts::Made,
+        124 => Parts::Unlisted,
+        29 => Parts::NoSpace,
+        _ => {
+            let why = reason(m, list, found, tuple);
+            assert!(matches!(why, Reason::Off(..) if number == 121) || matches!(why, Reason::Refused(n, _) if n == number), "{number} and {why:?}");
+            Parts::Not(why)
+        }
+    }
+}
+
+// ---- the same from the document
+
+fn refusal(m: &System, list: &[u32], found: usize, tuple: &[u32]) -> Option<(u64, usize)> {
+    if !(1..=8).contains(&m.p) {
+        return Some((1, 0));
+    }
+    if !(1..=16).contains(&m.q) {
+        return Some((2, 0));
+    }
+    if m.coefs.len() != m.p * m.q {
+        return Some((3, 0));
+    }
+    if tuple.len() != m.q {
+        return Some((5, 0));
+    }
+    if found > list.len() / m.q {
+        return Some((6, 0));
+    }
+    if let Some(place) = m.coefs.iter().position(|c| c.abs() > 10_000) {
+        return Some((7, place + 1));
+    }
+    tuple.iter().any(|&x| x > 1_000_000).then_some((8, 0))
+}
+
+fn at_or_below(row: &[u32], tuple: &[u32]) -> bool {
+    row.iter().zip(tuple).all(|(a, b)| a <= b)
+}
+
+pub fn expected_reason(m: &System, list: &[u32], found: usize, tuple: &[u32]) -> Reason {
+    if let Some((number, place)) = refusal(m, list, found, tuple) {
+        return Reason::Refused(number, place);
+    }
+    if tuple.iter().all(|&x| x == 0) {
+        return Reason::Zero;
+    }
+    for (k, equation) in m.coefs.chunks(m.q).enumerate() {
+        let amount: i64 = equation.iter().zip(tuple).map(|(&c, &x)| i64::from(c) * i64::from(x)).sum();
+        if amount != 0 {
+            return Reason::Off(k + 1, amount);
+        }
+    }
+    let rows: Vec<&[u32]> = list.chunks(m.q).take(found).collect();
+    if let Some(n) = rows.iter().rposition(|row| *row == tuple) {
+        return Reason::Stands(n + 1);
+    }
+    rows.iter().rposition(|row| at_or_below(row, tuple)).map_or(Reason::Unlisted, |n| Reason::Above(n + 1))
+}
+
+/// Each row is taken off one at a time, as long as it goes, the last row first; a row of zeros never goes.
+pub fn expected_parts(m: &System, list: &[u32], found: usize, tuple: &[u32], times: &mut [u32]) -> Parts {
+    match expected_reason(m, list, found, tuple) {
+        why @ (Reason::Refused(..) | Reason::Off(..)) => return Parts::Not(why),
+        _ => {}
+    }
+    if times.len() < found {
+        return Parts::NoSpace;
+    }
+    let mut rest = tuple.to_vec();
+    for (n, row) in list.chunks(m.q).take(found).enumerate().rev() {
+        times[n] = 0;
+        while row.iter().any(|&x| x != 0) && at_or_below(row, &rest) {
+            rest.iter_mut().zip(row).for_each(|(x, r)| *x -= r);
+            times[n] += 1;
+        }
+    }
+    if rest.iter().all(|&x| x == 0) {
+        Parts::Made
+    } else {
+        Parts::Unlisted
+    }
+}
