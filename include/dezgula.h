@@ -10,7 +10,7 @@
  *            what lies past the first q rows is never touched
  *   list     any number of numbers, also none, in rows of q; its capacity is list_len / q rows
  *   record   height: rows on the stack. found: solutions listed, which are rows 1 to found of the list, in the order found. steps: steps taken
- *            since the start
+ *            since the start. deepest: the greatest sum of components among the tuples taken off so far. kind: of the run, which a start sets
  *
  * No call trusts what it is lent: lengths, coefficients, tables and record are checked first, and what is not in order is refused. A table comes as a
  * pointer and the number of its entries; NULL is an empty table. What a call may write (stack, list, record, out) lies apart from everything else that the
@@ -36,6 +36,7 @@ extern "C" {
 #define DEZGULA_COEFFICIENT_LIMIT 10000
 #define DEZGULA_COMPONENT_LIMIT 1000000
 #define DEZGULA_STEP_LIMIT UINT64_C(1000000000000)
+#define DEZGULA_SUM_LIMIT 16000000
 
 /* How many numbers the stack table of a system with q unknowns takes. */
 #define DEZGULA_STACK_LENGTH(q) ((size_t)(q) * ((size_t)(q) + 1))
@@ -58,9 +59,9 @@ enum {
     DEZGULA_COEFFICIENT_COUNT = 3, /* coefs_len is not p * q */
     DEZGULA_STACK_SHORT = 4,       /* stack_len is below q * (q + 1) */
     DEZGULA_BOUND_LENGTH = 5,      /* lower_len is not q */
-    DEZGULA_OUT_OF_ORDER = 6,      /* height above q; found above the capacity of the list; steps above 10^12; or in rows 1 to height of the
-                                      stack a component above 1,000,000, a mark beyond unknown q, or in row k not exactly k - 1 marks; or a
-                                      record not of DEZGULA_RECORD_LENGTH words */
+    DEZGULA_OUT_OF_ORDER = 6,      /* a record of another kind of run; height above q; found above the capacity of the list; steps above 10^12;
+                                      deepest above 16,000,000; or in rows 1 to height of the stack a component above 1,000,000, a mark beyond
+                                      unknown q, or in row k not exactly k - 1 marks; or a record not of DEZGULA_RECORD_LENGTH words */
     DEZGULA_COEFFICIENT = 7,       /* a coefficient is out of range; the place is that of the first such one, from 1 */
     DEZGULA_BOUND_RANGE = 8,       /* a component of the lower bound is above 1,000,000 */
 
@@ -80,7 +81,7 @@ enum {
     DEZGULA_COLUMN = 26,      /* a column is neither one 1, one -1 and otherwise zeros, nor all zeros; the place is the first such column */
     DEZGULA_NOT_MINIMAL = 30, /* dezgula_listing: a row is no minimal solution; the place is the first such row */
 
-    DEZGULA_OUTPUT_SHORT = 29, /* dezgula_row: out is shorter than a row; dezgula_listing, last: out is shorter than the listing */
+    DEZGULA_OUTPUT_SHORT = 29, /* dezgula_row: out is shorter than a row; dezgula_listing, last: out is shorter than the listing; dezgula_decompose, last */
 
     /* Not refused. */
     DEZGULA_STARTED = 100, /* a start has written its rows and its record */
@@ -147,11 +148,19 @@ typedef struct {
     uint64_t count;
 } dezgula_steps;
 
-/* The run record. A version to come may add fields: what a program does not know of a record it leaves to the calls. */
+/* The kinds of run that a record tells. A record of one kind is refused with 6 by a continuing call of another. */
+enum { DEZGULA_RUN_PLAIN = 0 };
+
+/* The run record. A version to come may add fields: what a program does not know of a record it leaves to the calls. `second` and `before` have no meaning in
+ * the runs that there are calls for here. */
 typedef struct {
     uint64_t height;
     dezgula_solutions found;
     dezgula_steps steps;
+    uint64_t kind;
+    dezgula_solutions second;
+    dezgula_steps before;
+    uint64_t deepest;
 } dezgula_record;
 
 typedef struct {
@@ -201,7 +210,12 @@ typedef struct {
  * its words, in the order of its fields; a record of another length is refused with 6, also by a start, before 7 and after all other refusals below
  * it. A pointer is never NULL, not even with length 0, and is aligned for what it points to. */
 
-enum { DEZGULA_RECORD_LENGTH = 3, DEZGULA_SHARE_LENGTH = 8, DEZGULA_ROUND_LENGTH = 42 };
+enum {
+    DEZGULA_RECORD_LENGTH = 7,
+    DEZGULA_SHARE_LENGTH = 8,
+    DEZGULA_TURN_LENGTH = DEZGULA_RECORD_LENGTH + 2,
+    DEZGULA_ROUND_LENGTH = 2 + DEZGULA_MOST_RUNS * DEZGULA_TURN_LENGTH
+};
 
 uint64_t dezgula_raw_start(size_t p, size_t q, const int32_t *coefs, size_t coefs_len, uint32_t *stack, size_t stack_len, uint32_t *list,
                            size_t list_len, uint64_t *record, size_t record_len) DEZGULA_LOOK_AT_IT;
@@ -224,7 +238,7 @@ uint64_t dezgula_raw_listing(size_t p, size_t q, const int32_t *coefs, size_t co
                              size_t out_len) DEZGULA_LOOK_AT_IT;
 
 /* The words of a share are p, q, and start and size of the parts, in the order of its fields; words past the end are 0. The words of the dispatcher's record are the
- * number of the run served last, the steps, and for each of eight runs height, found, steps, the number of its answer and the place that it comes with. */
+ * number of the run served last, the steps, and for each of eight runs the words of its record, the number of its answer and the place that it comes with. */
 uint64_t dezgula_raw_dispatch(size_t count, uint64_t quantum, uint64_t turns, const uint64_t *shares, size_t shares_len, const int32_t *coefs,
                               size_t coefs_len, uint32_t *stack, size_t stack_len, uint32_t *list, size_t list_len, uint64_t *round,
                               size_t round_len) DEZGULA_LOOK_AT_IT;
@@ -239,6 +253,9 @@ size_t dezgula_raw_reason_place(size_t p, size_t q, const int32_t *coefs, size_t
 
 int64_t dezgula_raw_reason_amount(size_t p, size_t q, const int32_t *coefs, size_t coefs_len, const uint32_t *list, size_t list_len, size_t found,
                                   const uint32_t *tuple, size_t tuple_len) DEZGULA_LOOK_AT_IT;
+
+uint64_t dezgula_raw_decompose(size_t p, size_t q, const int32_t *coefs, size_t coefs_len, const uint32_t *list, size_t list_len, size_t found,
+                               const uint32_t *tuple, size_t tuple_len, uint32_t *times, size_t times_len) DEZGULA_LOOK_AT_IT;
 
 /* ---- the calls */
 
@@ -258,6 +275,10 @@ static inline void dezgula_pack(dezgula_record record, uint64_t words[DEZGULA_RE
     words[0] = record.height;
     words[1] = record.found.count;
     words[2] = record.steps.count;
+    words[3] = record.kind;
+    words[4] = record.second.count;
+    words[5] = record.before.count;
+    words[6] = record.deepest;
 }
 
 static inline dezgula_record dezgula_unpack(const uint64_t words[DEZGULA_RECORD_LENGTH])
@@ -266,6 +287,10 @@ static inline dezgula_record dezgula_unpack(const uint64_t words[DEZGULA_RECORD_
     record.height = words[0];
     record.found.count = words[1];
     record.steps.count = words[2];
+    record.kind = words[3];
+    record.second.count = words[4];
+    record.before.count = words[5];
+    record.deepest = words[6];
     return record;
 }
 
@@ -276,7 +301,7 @@ static inline dezgula_record dezgula_unpack(const uint64_t words[DEZGULA_RECORD_
         dezgula_lent_length((run)->list, (run)->list_len), (words), (size_t)DEZGULA_RECORD_LENGTH
 
 /* A plain start. Answers DEZGULA_STARTED, or refuses with 1, 2, 3, 4 or 7.
- * Started: writes rows 1 to q of the stack, sets the record's height to q, its found and steps to 0. The list and the rest of the stack stay as they were.
+ * Started: writes rows 1 to q of the stack, sets the record's height to q and all else in it to 0. The list and the rest of the stack stay as they were.
  * Refused: changes nothing. What tables and record held before does not matter. */
 DEZGULA_LOOK_AT_IT static inline uint64_t dezgula_start(const dezgula_system *system, dezgula_run *run)
 {
@@ -289,7 +314,7 @@ DEZGULA_LOOK_AT_IT static inline uint64_t dezgula_start(const dezgula_system *sy
 
 /* A start from a lower bound: the run lists the minimal solutions at or above it, zero counting as a solution. Answers DEZGULA_STARTED, or refuses with
  * 1, 2, 3, 4, 5, 7 or 8. Reads the lower bound only.
- * Started: writes row 1 of the stack, sets the record's height to 1, its found and steps to 0. The list and the rest of the stack stay as they were.
+ * Started: writes row 1 of the stack, sets the record's height to 1 and all else in it to 0. The list and the rest of the stack stay as they were.
  * Refused: changes nothing. What tables and record held before does not matter. */
 DEZGULA_LOOK_AT_IT static inline uint64_t dezgula_start_from(const dezgula_system *system, dezgula_run *run, const uint32_t *lower, size_t lower_len)
 {
@@ -378,7 +403,8 @@ enum {
     DEZGULA_OFF = 121,      /* an equation is off; `place` is the first such one, from 1, and `amount` its left side */
     DEZGULA_STANDS = 122,   /* it is in the list; `place` is the highest place where it stands, from 1 */
     DEZGULA_ABOVE = 123,    /* a row of the list lies below it; `place` is the highest place of such a row, from 1 */
-    DEZGULA_UNLISTED = 124  /* nothing listed lies below it: the list is not complete */
+    DEZGULA_UNLISTED = 124, /* nothing listed lies below it: the list is not complete */
+    DEZGULA_MADE = 125      /* dezgula_decompose only: it is made of rows of the list */
 };
 
 typedef struct {
@@ -411,11 +437,29 @@ static inline const char *dezgula_reason_sentence(uint64_t number)
     case DEZGULA_STANDS: return "The tuple is in the list.";
     case DEZGULA_ABOVE: return "A row of the list lies below the tuple.";
     case DEZGULA_UNLISTED: return "Nothing listed lies below the tuple.";
+    case DEZGULA_MADE: return "The tuple is made of rows of the list.";
     case DEZGULA_BOUND_LENGTH: return "The tuple does not have a component for each unknown.";
     case DEZGULA_OUT_OF_ORDER: return "The count of rows is above what the list has room for.";
     case DEZGULA_BOUND_RANGE: return "A component of the tuple is above 1,000,000.";
     default: return dezgula_sentence(number);
     }
+}
+
+/* What a solution is made of: the rows of the list that add up to it, each as often as `times` says, the first row's multiple first. Answers DEZGULA_MADE,
+ * always so for a solution where the list is complete; DEZGULA_OFF, with the equation and its amount; or DEZGULA_UNLISTED: something is left that nothing listed
+ * lies below. Refuses as dezgula_reason does, and last with DEZGULA_OUTPUT_SHORT where `times` has no place for each row. Made or unlisted: the first `found`
+ * places of `times` are written, the last row being taken as often as it goes, then the one before it, and so on. Else nothing is written. */
+DEZGULA_LOOK_AT_IT static inline dezgula_why dezgula_decompose(const dezgula_system *system, const dezgula_run *run, const uint32_t *tuple, size_t tuple_len,
+                                                               uint32_t *times, size_t times_len)
+{
+    dezgula_why why = {dezgula_raw_decompose(system->p, system->q, (const int32_t *)dezgula_lent(system->coefs),
+                                             dezgula_lent_length(system->coefs, system->coefs_len), (const uint32_t *)dezgula_lent(run->list),
+                                             dezgula_lent_length(run->list, run->list_len), run->record.found.count,
+                                             (const uint32_t *)dezgula_lent(tuple), dezgula_lent_length(tuple, tuple_len),
+                                             (uint32_t *)dezgula_lent(times), dezgula_lent_length(times, times_len)),
+                       0, 0};
+    if (why.number == DEZGULA_OFF || why.number == DEZGULA_COEFFICIENT) return dezgula_reason(system, run, tuple, tuple_len);
+    return why;
 }
 
 #undef DEZGULA_LENT
@@ -446,9 +490,10 @@ DEZGULA_LOOK_AT_IT static inline uint64_t dezgula_dispatch(size_t count, const d
     words[0] = round->last;
     words[1] = round->steps.count;
     for (i = 0; i < DEZGULA_MOST_RUNS; i++) {
-        dezgula_pack(round->runs[i].record, words + 2 + 5 * i);
-        words[5 + 5 * i] = dezgula_number(round->runs[i].answer);
-        words[6 + 5 * i] = dezgula_place(round->runs[i].answer);
+        uint64_t *own = words + 2 + i * DEZGULA_TURN_LENGTH;
+        dezgula_pack(round->runs[i].record, own);
+        own[DEZGULA_RECORD_LENGTH] = dezgula_number(round->runs[i].answer);
+        own[DEZGULA_RECORD_LENGTH + 1] = dezgula_place(round->runs[i].answer);
     }
     uint64_t answer = dezgula_raw_dispatch(count, quantum, turns, all, sizeof all / sizeof *all, (const int32_t *)dezgula_lent(coefs),
                                            dezgula_lent_length(coefs, coefs_len), (uint32_t *)dezgula_lent(stack), dezgula_lent_length(stack, stack_len),
@@ -456,8 +501,9 @@ DEZGULA_LOOK_AT_IT static inline uint64_t dezgula_dispatch(size_t count, const d
     round->last = words[0];
     round->steps.count = words[1];
     for (i = 0; i < DEZGULA_MOST_RUNS; i++) {
-        round->runs[i].record = dezgula_unpack(words + 2 + 5 * i);
-        round->runs[i].answer = words[5 + 5 * i] + 256 * words[6 + 5 * i];
+        const uint64_t *own = words + 2 + i * DEZGULA_TURN_LENGTH;
+        round->runs[i].record = dezgula_unpack(own);
+        round->runs[i].answer = own[DEZGULA_RECORD_LENGTH] + 256 * own[DEZGULA_RECORD_LENGTH + 1];
     }
     return answer;
 }
