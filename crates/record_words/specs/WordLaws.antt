@@ -6,7 +6,7 @@ use mathlib.Core.List.{List, [], _∷_}
 use mathlib.Core.Path.{_≡_, refl, sym, subst, ap, _∙_}
 use native.Mathlib.Decide.{ℕ-discrete}
 use native.Mathlib.Omega.{arith}
-use lib.Dec.{T, eqb, lit<}
+use lib.Dec.{T, eqb, lit<, ltb}
 use lib.ListN.{length, getD, set}
 use borrow.Author.Tests.{le-ltb, lt-ltb, eq-eqb, ne-eqb}
 use Rattle.definitions.specs.Answers.{Check, refuse, go, refuseWith, refuseIf, _then_}
@@ -27,7 +27,7 @@ use Rattle.calls.specs.declared.Refusal.{Refusal}
 use Rattle.calls.specs.declared.Outcome as values
 use Rattle.record_words.specs.Codes.{refusalCode, code}
 use Rattle.record_words.specs.CodeLaws.{Small, within, small-resume}
-use Rattle.record_words.specs.Words.{isRecord, kindAt, recordAt, recordIn, wordsLeft, wordsOf, told, startIf, startWords, startFromWords, resumeWords}
+use Rattle.record_words.specs.Words.{heightIf, isRecord, kindAt, recordAt, recordIn, wordsLeft, wordsOf, told, startIf, startWords, startFromWords, resumeWords}
 
 -- ---- reading and writing the words
 
@@ -39,6 +39,13 @@ record-fitting words e = rw (eq-eqb (length words) 7 e)
 pub record-misfit : (words : List ℕ) → length words ≢ 7 → recordAt 65 0 0 0 0 0 0 ≡ recordIn words
 unfolding recordIn
 record-misfit words ne = rw (ne-eqb (length words) 7 ne)
+
+-- the height that is read: that of the words where the number is a kind's
+pub height-low : (kind height : ℕ) → kind < 5 → height ≡ heightIf (ltb kind 5) height
+height-low kind height l = rw (lt-ltb kind 5 l)
+
+pub height-none : (kind height : ℕ) → 5 ≤ kind → 65 ≡ heightIf (ltb kind 5) height
+height-none kind height l = rw (le-ltb kind 5 l)
 
 pub words-fitting : (words : List ℕ) (r : Record) → length words ≡ 7 → r .height < 65 → wordsOf words r ≡ wordsLeft words r
 unfolding wordsLeft
