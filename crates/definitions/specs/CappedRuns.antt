@@ -1,6 +1,6 @@
--- Runs with right sides, by computation (document 02, Job 1): right sides of 0, whose list at 1 is the zero row and whose list at 0 is the plain map's; one that no tuple meets;
--- one that a unit tuple meets; and the map of "The program" with right sides 3 and 1. Each is begun on tables and a record with old content. The greatest sum counts the
--- extra unknown. Assumes nothing.
+-- Runs with right sides, by computation (document 02, Job 1): right sides of 0, whose list at 1 is the zero row and whose list at 0 is the plain map's; one
+-- that no tuple meets; one that a unit tuple meets; one cut short, and with too little room in either list. Each is begun on tables and a record with old
+-- content. The greatest sum counts the extra unknown. (A longer run: laws/specs/CappedExample.antt.) Assumes nothing.
 use Prim.Native.Nat.{ℕ, _*_}
 use mathlib.Core.Path.{_≡_, refl}
 use mathlib.Core.Bool.{false, true}
@@ -16,20 +16,20 @@ use Rattle.definitions.specs.System.{capped, covered, extendTo, isAtOrBe
 use Rattle.definitions.specs.Input.{Input, inputWith, limitOf, rights}
 use Rattle.definitions.specs.Tables.{State, begun, bit, cappedRun, deskByDesk, frozen, writeTo, writeRow, unitsTo, unitsStart}
 use Rattle.definitions.specs.Step.{grown, listed, makes, marksTo, step, stoppedBy, writeChildren}
-use Rattle.definitions.specs.Refusals.{rowFits, inOrder, check7, startChecks, resumeChecks, tooLarge, tooHigh, searchChecks}
+use Rattle.definitions.specs.Refusals.{rowFits, inOrder, check7, startChecks, resumeChecks, tooLarge, searchChecks}
 use Rattle.definitions.specs.Machine.{Outcome, call, checked, unlessDone, walk}
 use Rattle.definitions.specs.Calls.{resume, start}
 
 -- the answer, the rows of the list at 0 and of the list at 1, height, steps and the greatest sum
-record Summary : Type 0 where
-  answer : Answer
-  zero : List ℕ
-  one : List ℕ
-  height : ℕ
-  steps : ℕ
-  deepest : ℕ
+pub record Summary : Type 0 where
+  pub answer : Answer
+  pub zero : List ℕ
+  pub one : List ℕ
+  pub height : ℕ
+  pub steps : ℕ
+  pub deepest : ℕ
 
-lent : ℕ → ℕ → State
+unfoldable pub lent : ℕ → ℕ → State
 lent room room₂ =
     record {
       stack = replicate 31 9;
@@ -38,7 +38,7 @@ lent room room₂ =
       run = record { kind = deskByDesk; height = 9; found = 9; steps = 9; found₂ = 9; steps₂ = 9; deepest = 9 };
     }
 
-summed : ℕ → Outcome State → Summary
+unfoldable pub summed : ℕ → Outcome State → Summary
 summed q o =
     record {
       answer = o .answer;
@@ -49,16 +49,16 @@ summed q o =
       deepest = o .state .run .deepest;
     }
 
-ran : ℕ → ℕ → ℕ → Input → Summary
+unfoldable pub ran : ℕ → ℕ → ℕ → Input → Summary
+unfolding lent summed sumTo inner value unit total allTo anyTo countTo refuseWith _then_ refuseFirst solves isAtOrBelow covered extendTo bit frozen
+    writeTo writeRow unitsTo unitsStart makes marksTo writeChildren listed grown step rowFits inOrder check7 startChecks resumeChecks tooLarge
+    searchChecks checked start unlessDone walk call
 ran budget room room₂ i = summed (i .q) (resume budget i (start i (lent room room₂) .state))
 
 with-side : List ℤ → ℤ → Input
 with-side coefs b = inputWith (rights (b ∷ [])) mostComponent 1 (length coefs) coefs
 
-example : Input
-example = inputWith (rights (pos 3 ∷ pos 1 ∷ [])) mostComponent 2 4 (negsuc 0 ∷ pos 1 ∷ pos 2 ∷ negsuc 2 ∷ negsuc 0 ∷ pos 3 ∷ negsuc 1 ∷ negsuc 0 ∷ [])
-
-comes : Answer → List ℕ → List ℕ → ℕ → ℕ → ℕ → Summary
+unfoldable pub comes : Answer → List ℕ → List ℕ → ℕ → ℕ → ℕ → Summary
 comes answer zero one height steps deepest = record { answer = answer; zero = zero; one = one; height = height; steps = steps; deepest = deepest }
 
 two-three : List ℤ
@@ -70,10 +70,9 @@ runs =
     ∷ ran 100 9 9 (with-side (pos 2 ∷ negsuc 3 ∷ []) (pos 1))
     ∷ ran 100 9 9 (with-side (pos 1 ∷ negsuc 0 ∷ []) (pos 1))
     ∷ ran 100 9 9 (with-side two-three (pos 4))
-    ∷ ran 100 9 9 example
-    ∷ ran 7 9 9 example
-    ∷ ran 100 9 3 example
-    ∷ ran 100 7 9 example
+    ∷ ran 4 9 9 (with-side two-three (pos 4))
+    ∷ ran 100 9 1 (with-side two-three (pos 4))
+    ∷ ran 100 1 9 (with-side two-three (pos 4))
     ∷ []
 
 expected : List Summary
@@ -82,14 +81,13 @@ expected =
     ∷ comes complete (2 ∷ 1 ∷ []) [] 0 7 3
     ∷ comes complete (1 ∷ 1 ∷ []) (1 ∷ 0 ∷ []) 0 5 2
     ∷ comes complete (3 ∷ 2 ∷ []) (2 ∷ 0 ∷ []) 0 9 5
-    ∷ comes complete (0 ∷ 1 ∷ 1 ∷ 1 ∷ 4 ∷ 2 ∷ 1 ∷ 0 ∷ []) (0 ∷ 1 ∷ 1 ∷ 0 ∷ []) 0 20 7
-    ∷ comes paused (0 ∷ 1 ∷ 1 ∷ 1 ∷ []) [] 2 7 3
-    ∷ comes (refused 11 []) (0 ∷ 1 ∷ 1 ∷ 1 ∷ 4 ∷ 2 ∷ 1 ∷ 0 ∷ []) [] 1 19 7
-    ∷ comes (refused 11 []) (0 ∷ 1 ∷ 1 ∷ 1 ∷ []) [] 2 15 6
+    ∷ comes paused [] [] 2 4 3
+    ∷ comes (refused 11 []) (3 ∷ 2 ∷ []) [] 1 8 5
+    ∷ comes (refused 11 []) [] [] 2 5 4
     ∷ []
 
 runs-hold : runs ≡ expected
-unfolding runs expected lent summed ran with-side example two-three comes sumTo inner value unit total allTo anyTo countTo refuseWith _then_ refuseFirst solves isAtOrBelow covered extendTo bit frozen writeTo writeRow unitsTo unitsStart makes marksTo writeChildren listed grown step rowFits inOrder check7 startChecks resumeChecks tooLarge tooHigh searchChecks checked start unlessDone walk call
+unfolding runs expected with-side two-three comes ran
 runs-hold = refl
 
 -- ---- which rows stop a tuple: "a comparison puts it back"
@@ -113,7 +111,8 @@ stops-hold = refl
 -- ---- refusals
 
 started-with : ℕ → ℕ → List ℤ → List ℤ → ℕ → Check
-started-with p q coefs sides stack = startChecks (inputWith (rights sides) mostComponent p q coefs) (record { stack = replicate stack 9; list = []; second = []; run = begun cappedRun 0 })
+started-with p q coefs sides stack =
+    startChecks (inputWith (rights sides) mostComponent p q coefs) (record { stack = replicate stack 9; list = []; second = []; run = begun cappedRun 0 })
 
 -- 15 unknowns and no more; coefficients and right sides of the right number; a stack row for the extra unknown too; 7 before 15, and 15 without a place
 refusals-hold : (started-with 1 15 (replicate 15 (pos 1)) (pos 0 ∷ []) 272 ≡ go)

@@ -3,7 +3,8 @@
 use Prim.Native.Nat.{ℕ, min, max}
 use mathlib.Core.List.{List}
 use lib.IntN.{ℤ}
-use Rattle.definitions.specs.System.{Kind, System, extended, mostComponent, plain}
+use lib.ListN.{getD}
+use Rattle.definitions.specs.System.{Kind, System, above, extended, mostComponent, plain}
 
 -- what comes with the map: nothing, or right sides
 pub data Extra : Type 0 where
@@ -45,3 +46,11 @@ walkSystem (rights b) i = extended b (mapOf i)
 
 abbrev pub systemOf : Input → System
 systemOf i = walkSystem (i .extra) i
+
+-- a lower bound as a tuple (document 01: a floor, "q numbers")
+abbrev pub boundOf : List ℕ → ℕ → ℕ
+boundOf lower j = getD lower j 0
+
+-- the system that the second walk of a run from a lower bound goes through; its first goes through the map by itself
+abbrev pub aboveSystem : List ℕ → Input → System
+aboveSystem lower i = systemFor (above (boundOf lower)) i

@@ -13,4 +13,5 @@ pub mod Reasons
 pub mod Bound
 pub mod Runs
 pub mod CappedRuns
+pub mod LowerRuns
 pub mod Examples

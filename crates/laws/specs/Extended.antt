@@ -35,7 +35,8 @@ module _ (q : ℕ) (coefs rights : List ℤ) where
   tail-other n j l = getD-take q (drop (n * q) coefs) j (pos 0) l ∙ getD-drop (n * q) coefs j (pos 0)
 
   -- a place in an earlier row, and in the last one
-  extend-before : (n k : ℕ) → n * q ≤ length coefs → k < n * suc q → getD (extendTo (suc n) q coefs rights) k (pos 0) ≡ getD (extendTo n q coefs rights) k (pos 0)
+  extend-before : (n k : ℕ) → n * q ≤ length coefs → k < n * suc q
+      → getD (extendTo (suc n) q coefs rights) k (pos 0) ≡ getD (extendTo n q coefs rights) k (pos 0)
   unfolding extendTo
   extend-before n k h l = List·getD-append (extendTo n q coefs rights) (tail n) (pos 0) k (rw (extend-length n h) l)
 
@@ -43,7 +44,8 @@ module _ (q : ℕ) (coefs rights : List ℤ) where
   unfolding extendTo
   extend-last n x h = rw (extend-length n h) at (getD-append-add (extendTo n q coefs rights) (tail n) x (pos 0))
 
-  pub extend-entry : (n : ℕ) → n * q ≤ length coefs → (i x : ℕ) → i < n → x < suc q → getD (extendTo n q coefs rights) (i * suc q + x) (pos 0) ≡ getD (tail i) x (pos 0)
+  pub extend-entry : (n : ℕ) → n * q ≤ length coefs → (i x : ℕ) → i < n → x < suc q
+      → getD (extendTo n q coefs rights) (i * suc q + x) (pos 0) ≡ getD (tail i) x (pos 0)
   extend-entry zero h i x l k = absurd (omega arith)
   extend-entry (suc n) h i x l k =
       elim (below-suc l) [
@@ -68,9 +70,11 @@ module _ (q : ℕ) (coefs rights : List ℤ) where
         ]
 
 -- the extended system is that of the right sides
-pub extends : (m : System) (rights : List ℤ) → length (m .coefs) ≡ m .p * m .q → Extends (m .p) (m .q) (coef m) (λ i. getD rights i (pos 0)) (coef (extended rights m))
+pub extends : (m : System) (rights : List ℤ) → length (m .coefs) ≡ m .p * m .q
+    → Extends (m .p) (m .q) (coef m) (λ i. getD rights i (pos 0)) (coef (extended rights m))
 extends m rights len =
     record {
       first = λ i l. extend-entry (m .q) (m .coefs) rights (m .p) (omega (arith, len)) i 0 l (omega arith);
-      others = λ i j l k. extend-entry (m .q) (m .coefs) rights (m .p) (omega (arith, len)) i (suc j) l (omega arith) ∙ tail-other (m .q) (m .coefs) rights i j k;
+      others =
+          λ i j l k. extend-entry (m .q) (m .coefs) rights (m .p) (omega (arith, len)) i (suc j) l (omega arith) ∙ tail-other (m .q) (m .coefs) rights i j k;
     }

@@ -1,10 +1,10 @@
--- Document 02, Job 7, "The check says which row": there is a place exactly where the check said yes, the row there is at or below the tuple, and none higher is.
+-- Document 02, Job 7, "The check says which row": there is a place exactly where the check said yes, the row there is at or below the tuple, and none higher
+-- is.
 -- Assumes nothing.
-use mathlib.Core.Path.{_≡_, refl, ap}
+use mathlib.Core.Path.{_≡_}
 use mathlib.Core.Bool.{true, false}
 use mathlib.Core.Option.{Option, some, none}
 use Prim.Native.Nat.{ℕ, _-_, _≤_, _<_}
-use native.Mathlib.Omega.{arith}
 use Rattle.linear.specs.PlaceLaws.{LastIs, any-last, given, last-is}
 use Rattle.linear.specs.Tuples.{AtOrBelow}
 use Rattle.definitions.specs.System.{covered, isAtOrBelow}

@@ -33,7 +33,8 @@ module _ {S : Type 0} (k : Machine S) (s : S) where
   unfolding walk walkSteps unlessDone checked moved
   walk-refused n r values h e = (rw (high-is (k .height here) h, e), rw (high-is (k .height here) h, e))
 
-  pub walk-more : (n : ℕ) → 0 < k .height here → k .refusals here ≡ go → (walk (suc n) k s ≡ walk n k (k .step here)) × (walkSteps (suc n) k s ≡ suc (walkSteps n k (k .step here)))
+  pub walk-more : (n : ℕ) → 0 < k .height here → k .refusals here ≡ go
+      → (walk (suc n) k s ≡ walk n k (k .step here)) × (walkSteps (suc n) k s ≡ suc (walkSteps n k (k .step here)))
   unfolding walk walkSteps unlessDone checked moved
   walk-more n h e = (rw (high-is (k .height here) h, e), rw (high-is (k .height here) h, e))
 
@@ -45,3 +46,10 @@ module _ {S : Type 0} (k : Machine S) (s : S) where
   pub call-refused : (n r : ℕ) (values : List ℕ) → k .before s ≡ refuse r values → (call n k s ≡ record { answer = refused r values; state = s }) × (callSteps n k s ≡ 0)
   unfolding call callSteps checked stepsIf
   call-refused n r values e = (rw e, rw e)
+
+-- a state that is settled already walks as the one that it was settled from
+pub walk-settled : {S : Type 0} (k : Machine S) (s : S) → k .settle (k .settle s) ≡ k .settle s → (n : ℕ)
+    → (walk n k (k .settle s) ≡ walk n k s) × (walkSteps n k (k .settle s) ≡ walkSteps n k s)
+unfolding walk walkSteps
+walk-settled k s e zero = (rw e, refl)
+walk-settled k s e (suc n) = (rw e, rw e)

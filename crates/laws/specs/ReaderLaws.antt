@@ -3,7 +3,7 @@ use mathlib.Core.Path.{_≡_, refl, _∙_, ap}
 use mathlib.Core.Logic.{inl, inr}
 use mathlib.Core.Bool.{Bool, true, false, not, _&&_}
 use mathlib.Core.List.{List, []}
-use Prim.Native.Nat.{ℕ, suc, _+_, _*_, _-_, _≤_, _<_}
+use Prim.Native.Nat.{ℕ, suc, _*_, _-_, _≤_, _<_}
 use native.Mathlib.Nat.{le-div-iff-mul-le}
 use native.Mathlib.Omega.{arith}
 use lib.Dec.{T, leb, leb→le, le→leb}
@@ -11,7 +11,7 @@ use lib.ListN.{drop, getD, length, length-drop, take}
 use lib.Seq.{getD-drop, getD-take, length-take-le}
 use Rattle.linear.specs.TestLaws.{and-both, and-parts}
 use Rattle.definitions.specs.Answers.{refuseWith}
-use Rattle.definitions.specs.Reader.{Shown, Which, hasRow, partOf, row, rowOfEither, rowPart, showIf, shown, shownAt, shownBy, tableAt}
+use Rattle.definitions.specs.Reader.{Which, hasRow, partOf, row, rowOfEither, rowPart, showIf, shown, shownAt, shownBy, tableAt}
 use Rattle.definitions.specs.Refusals.{between}
 use Rattle.definitions.specs.System.{mostUnknowns}
 use Rattle.definitions.specs.Tables.{at, capacity}
@@ -24,7 +24,8 @@ there true false part y z = absurd z
 there false h part y z = absurd y
 
 -- row i, from 0, is shown where it is listed and lies in the table
-pub shows : (q : ℕ) (list : List ℕ) (found i : ℕ) → 0 < q → q ≤ mostUnknowns → i < found → i < capacity q list → shown q list found (suc i) ≡ row (rowPart q list (suc i))
+pub shows : (q : ℕ) (list : List ℕ) (found i : ℕ) → 0 < q → q ≤ mostUnknowns → i < found → i < capacity q list
+    → shown q list found (suc i) ≡ row (rowPart q list (suc i))
 unfolding shown hasRow
 shows q list found i some few l here =
     there (between 1 mostUnknowns q) (leb 1 (suc i) && (leb (suc i) found && leb (suc i) (capacity q list))) (rowPart q list (suc i))

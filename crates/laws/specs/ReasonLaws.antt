@@ -1,13 +1,13 @@
 -- Document 02, Job 8, "Why is my loop not in the list?": what each reason claims of the tuple, and that the answer is the first that is true, or the
 -- refusal that is due. Assumes nothing.
-use mathlib.Core.Path.{_≡_, refl, sym, _∙_, ap}
+use mathlib.Core.Path.{_≡_, refl, sym, _∙_}
 use mathlib.Core.Logic.{_≢_, inl, inr}
 use mathlib.Core.Bool.{Bool, true, false, not}
 use mathlib.Core.List.{List}
 use mathlib.Core.Option.{Option, some, none}
 use Prim.Native.Nat.{ℕ, _*_, _-_, _≤_, _<_}
 use native.Mathlib.Omega.{arith}
-use lib.Dec.{T, T-not, not-T, leb, leb→le, le→leb, eqb, eqb→eq, eqb-refl}
+use lib.Dec.{T, T-not, not-T, leb, leb→le, le→leb, eqb→eq, eqb-refl}
 use lib.IntN.{ℤ, pos, natAbs}
 use lib.ListN.{length, getD}
 use Rattle.linear.specs.Cases.{split}
@@ -16,10 +16,11 @@ use Rattle.linear.specs.TestLaws.{T-dec, all-at, all-from}
 use Rattle.linear.specs.Systems.{SolutionIn}
 use Rattle.linear.specs.TupleLaws.{differ}
 use Rattle.linear.specs.Tuples.{AtOrBelow, Below, Nonzero, Same}
-use Rattle.definitions.specs.Answers.{Check, go, refuse, refuseIf}
+use Rattle.definitions.specs.Answers.{Check, go, refuse}
 use Rattle.definitions.specs.Highest.{highest}
 use Rattle.definitions.specs.Input.{Input, limitOf, mapOf}
-use Rattle.definitions.specs.Reasons.{Reason, above, aboveOr, checkCount, firstOff, firstTrue, inList, isSame, off, offOr, reason, reasonChecks, refused, standing, stands, standsOr, unlessRefused, unlisted, vanishes, zero, zeroOr}
+use Rattle.definitions.specs.Reasons.{Reason, above, aboveOr, checkCount, firstOff, firstTrue, inList, isSame, off, offOr, reason, reasonChecks, refused}
+use Rattle.definitions.specs.Reasons.{standing, stands, standsOr, unlessRefused, unlisted, vanishes, zero, zeroOr}
 use Rattle.definitions.specs.System.{System, coef, coefLimit, imageOf, isAtOrBelow, isZero, mostEquations, mostUnknowns}
 use Rattle.definitions.specs.Tables.{at, capacity}
 use Rattle.laws.specs.CheckLaws.{AllSilent, Decides, FirstDue, Renders, Rules, _▹_, check-cases, decides-if, end, renders-last, renders-then, rule}
@@ -239,14 +240,16 @@ module _ (m : System) (found : ℕ) (row : ℕ → ℕ → ℕ) (x : ℕ → ℕ
       (none-below, (z, f, λ i y. s (i - 1) (omega (arith, y .some, y .few)) (stands-to y .holds), λ i y. none-below (i - 1) (omega (arith, y .some, y .few)) (y .below)))
   given-above z f s (some n) h = (above-from s n h, (z, f, λ i y. s (i - 1) (omega (arith, y .some, y .few)) (stands-to y .holds)))
 
-  given-stands : ¬ AllZero → ((k : ℕ) (amount : ℤ) → ¬ (Off k amount)) → (o : Option ℕ) → LastIs found isRow o → Given (standsOr o (aboveOr (highest (m .q) found row x) unlisted))
+  given-stands : ¬ AllZero → ((k : ℕ) (amount : ℤ) → ¬ (Off k amount)) → (o : Option ℕ) → LastIs found isRow o
+      → Given (standsOr o (aboveOr (highest (m .q) found row x) unlisted))
   unfolding standsOr highest
   given-stands z f none h = given-above z f h (highest (m .q) found row x) (last-is found isBelow)
   given-stands z f (some n) h = (stands-from n h, (z, f))
 
   given-off : ¬ AllZero → (o : Option ℕ) → FirstIs (m .p) isOff o → Given (offOr (imageOf m x) o (inList (m .q) found row x))
   unfolding offOr standing inList
-  given-off z none h = given-stands z (λ k amount o. h (k - 1) (omega (arith, o .some, o .few)) (off-to o .holds)) (standing (m .q) found row x) (last-is found isRow)
+  given-off z none h =
+      given-stands z (λ k amount o. h (k - 1) (omega (arith, o .some, o .few)) (off-to o .holds)) (standing (m .q) found row x) (last-is found isRow)
   given-off z (some k) h = (off-from k h, z)
 
   given-zero : (b : Bool) → vanishes (m .q) x ≡ b → Given (zeroOr b (offOr (imageOf m x) (firstOff m x) (inList (m .q) found row x)))
@@ -311,7 +314,8 @@ module _ (m : System) (found : ℕ) (row : ℕ → ℕ → ℕ) (x : ℕ → ℕ
   only-given (refused n values) (c, u) = absurd c
 
   -- what the last reason comes to: a solution, not all zero, with no row at or below it
-  pub unlisted-means : Claim unlisted × NoneEarlier unlisted → SolutionIn (m .p) (m .q) (coef m) (Nonzero (m .q)) x × ((i : ℕ) → i < found → ¬ (AtOrBelow (m .q) (row i) x))
+  pub unlisted-means : Claim unlisted × NoneEarlier unlisted
+      → SolutionIn (m .p) (m .q) (coef m) (Nonzero (m .q)) x × ((i : ℕ) → i < found → ¬ (AtOrBelow (m .q) (row i) x))
   unlisted-means (c, (z, f, s, a)) = (
     record {
       solution = λ i l. is-zero (imageOf m x i) (not-not-T (isZero (imageOf m x i)) (not-T (isOff i) (none-off-at i l)));

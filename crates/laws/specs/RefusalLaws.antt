@@ -2,7 +2,7 @@
 -- a call go on. Assumes nothing.
 use mathlib.Core.Path.{_≡_, refl, sym, _∙_, ap}
 use mathlib.Core.Logic.{_≢_, _⊎_, inl, inr}
-use mathlib.Core.Bool.{Bool, true, false, not, _&&_, _||_}
+use mathlib.Core.Bool.{Bool, true, false, not, _&&_}
 use mathlib.Core.List.{List}
 use Prim.Native.Nat.{ℕ, zero, suc, _+_, _*_, _-_, _^_, _≤_, _<_}
 use native.Mathlib.Decide.{ℕ-discrete}
@@ -18,11 +18,14 @@ use Rattle.linear.specs.TupleLaws.{unit-same}
 use Rattle.linear.specs.Tuples.{AtOrBelow, raise}
 use Rattle.definitions.specs.Answers.{Check, go, refuseIf}
 use Rattle.definitions.specs.Input.{Extra, Input, alone, limitOf, rights, systemOf, walkSystem}
-use Rattle.definitions.specs.Refusals.{between, check15, check3, check4, check6, check7, check8, deepestLimit, inOrder, inside, lowerChecks, misnumbered, mostFor, outOfRange, rangeChecks, resumeChecks, rowFits, rowInOrder, searchChecks, secondFits, shapeThen, startChecks, stepLimit, tooHigh, tooLarge}
+use Rattle.definitions.specs.Refusals.{between, check15, check4, check6, check7, check8, deepestLimit, inOrder, inside, lowerChecks, misnumbered, mostFor}
+use Rattle.definitions.specs.Refusals.{outOfRange, rangeChecks, resumeChecks, rowFits, rowInOrder, searchChecks, secondFits, shapeThen, startChecks, stepLimit}
+use Rattle.definitions.specs.Refusals.{tooLarge}
 use Rattle.definitions.specs.Step.{fullFor, fullIn, level, makes, rowWidth, toSecond, top, width}
 use Rattle.definitions.specs.System.{Kind, System, above, capped, coef, coefLimit, mostComponent, mostEquations, mostUnknowns, plain, solves}
 use Rattle.definitions.specs.Tables.{Run, State, at, capacity, cappedRun, deskByDesk, frozen, isRun, lowerAbove, lowerPlain, plainRun, runFor, runNumber}
-use Rattle.laws.specs.CheckLaws.{AllSilent, Decides, Renders, Rule, Rules, Silent, _▹_, decides-first, decides-if, end, placed, renders-last, renders-then, rule}
+use Rattle.laws.specs.CheckLaws.{AllSilent, Decides, Renders, Rule, Rules, Silent, _▹_, decides-first, decides-if, end, placed, renders-last}
+use Rattle.laws.specs.CheckLaws.{renders-then, rule}
 use Rattle.laws.specs.Extended.{extend-length, extend-range}
 use Rattle.laws.specs.SystemLaws.{below-from, below-to, fails-fails, solution-solves, solves-solution}
 
@@ -38,7 +41,8 @@ Inside plain q x = Unit {0}
 Inside capped q x = x 0 ≤ 1
 Inside (above f) q x = AtOrBelow q f x
 
--- "in rows 1 to height a component above 1,000,000, a mark beyond unknown q, or a mark count other than k − 1 in row k" (from 0 here); "a capped component above 1"; "a
+-- "in rows 1 to height a component above 1,000,000, a mark beyond unknown q, or a mark count other than k − 1 in row k" (from 0 here); "a capped component
+-- above 1"; "a
 -- floor-walk row not at or above the floor"
 pub data BadRow (kind : Kind) (limit q : ℕ) (stack : List ℕ) (k : ℕ) : Type 0 where
   large : (j : ℕ) → j < q → limit < at stack (q + 1) k j → BadRow kind limit q stack k
@@ -52,7 +56,8 @@ SecondFits plain q s = Unit {0}
 SecondFits capped q s = s .run .found₂ ≤ capacity (q - 1) (s .second)
 SecondFits (above f) q s = s .run .found₂ ≤ capacity q (s .second)
 
--- "height above q, found above the room, steps above 1,000,000,000,000; or" such a row; "A record of one kind of run .. given to a continuing call of another kind"; "a
+-- "height above q, found above the room, steps above 1,000,000,000,000; or" such a row; "A record of one kind of run .. given to a continuing call of another
+-- kind"; "a
 -- value above 16,000,000"
 pub data OutOfOrder (m : System) (s : State) : Type 0 where
   other : s .run .kind ≢ runFor (m .kind) → OutOfOrder m s
@@ -102,7 +107,8 @@ startRules i s = shapeRules i s (rangeRules (i .extra) i)
 
 -- "and with a floor also 5 and 8"
 abbrev pub lowerRules : List ℕ → Input → State → Rules
-lowerRules lower i s = shapeRules i s (rule 5 (length lower ≢ i .q) ▹ rangeRule i ▹ rule 8 ((j : ℕ) × (j < length lower) × (limitOf (i .limit) < getD lower j 0)) ▹ end)
+lowerRules lower i s =
+    shapeRules i s (rule 5 (length lower ≢ i .q) ▹ rangeRule i ▹ rule 8 ((j : ℕ) × (j < length lower) × (limitOf (i .limit) < getD lower j 0)) ▹ end)
 
 -- "A continuing call checks 1 to 4, 6 and 7."
 abbrev pub resumeRules : Input → State → Rules
@@ -114,7 +120,6 @@ searchRules m s =
     rule 14 (s .run .steps ≡ stepLimit)
     ▹ rule 11 (Solution (m .p) (m .q) (coef m) (top m s) × NoRoom (m .kind) (m .q) s (top m s))
     ▹ rule 12 (Fails (m .p) (m .q) (coef m) (top m s) × (j : ℕ) × (j < m .q) × T (makes m s j) × (top m s j ≡ m .limit))
-    ▹ rule 13 (Fails (m .p) (m .q) (coef m) (top m s) × (m .q < level s + countTo (m .q) (makes m s)))
     ▹ end
 
 -- ---- each check renders its rule
@@ -321,7 +326,7 @@ module _ (m : System) (s : State) where
   abbrev rowsTest : Bool
   rowsTest = allTo (s .run .height) (rowInOrder (m .kind) (m .limit) (m .q) (s .stack))
 
-  out-of : ¬ (T (inOrder m s)) → OutOfOrder m s
+  pub out-of : ¬ (T (inOrder m s)) → OutOfOrder m s
   out-of h =
       elim (T-dec (isRun (s .run .kind) (runFor (m .kind)))) [
         | inr n ↦ other (λ e. n (run-to (s .run .kind) (runFor (m .kind)) e))
@@ -337,14 +342,16 @@ module _ (m : System) (s : State) where
         ]
       ]
     where
-      out-of-rest : s .run .kind ≡ runFor (m .kind) → s .run .height ≤ m .q → s .run .found ≤ capacity (width m) (s .list) → s .run .steps ≤ stepLimit → OutOfOrder m s
+      out-of-rest : s .run .kind ≡ runFor (m .kind) → s .run .height ≤ m .q → s .run .found ≤ capacity (width m) (s .list) → s .run .steps ≤ stepLimit
+          → OutOfOrder m s
       out-of-rest r x y z =
           elim (split deepestLimit (s .run .deepest)) [
             | inl d ↦ deep d
             | inr d ↦ elim (T-dec (secondFits (m .kind) (m .q) s)) [
               | inr n ↦ many₂ (λ f. n (second-to (m .kind) (m .q) s f))
               | inl w ↦ elim (T-dec rowsTest) [
-                | inr n ↦ let (k, l, b) = all-not (s .run .height) (rowInOrder (m .kind) (m .limit) (m .q) (s .stack)) n in row k l (row-bad (m .kind) (m .limit) (m .q) (s .stack) k b)
+                | inr n ↦ let (k, l, b) =
+                    all-not (s .run .height) (rowInOrder (m .kind) (m .limit) (m .q) (s .stack)) n in row k l (row-bad (m .kind) (m .limit) (m .q) (s .stack) k b)
                 | inl a ↦
                     let rows : (k : ℕ) → k < s .run .height → RowInOrder (m .kind) (m .limit) (m .q) (s .stack) k = λ k l. row-from (m .kind) (m .limit) (m .q) (s .stack) k (all-at (s .run .height) _ a k l) in
                     absurd (h (order-to (record { kind = r; height = x; found = y; early = z; shallow = d; found₂ = second-from (m .kind) (m .q) s w; rows = rows })))
@@ -352,7 +359,7 @@ module _ (m : System) (s : State) where
             ]
           ]
 
-  not-order : OutOfOrder m s → InOrder m s → ⊥
+  pub not-order : OutOfOrder m s → InOrder m s → ⊥
   not-order (other ne) o = ne (o .kind)
   not-order (high h) o = omega (arith, o .height)
   not-order (many h) o = omega (arith, o .found)
@@ -367,10 +374,14 @@ module _ (m : System) (s : State) where
       (λ h. out-of (T-not (inOrder m s) h))
       (λ b. not-T (inOrder m s) (λ h. not-order b (order-from h)))
 
+  -- a record and tables that pass the check for 6
+  pub checked-order : check6 m s ≡ go → InOrder m s
+  checked-order e = elim (T-dec (inOrder m s)) [ inl y ↦ order-from y | inr n ↦ absurd (decides-order .goes e (out-of n)) ]
+
 -- ---- the calls
 
 module _ (i : Input) (s : State) where
-  shape-renders : {c : Check} {rs : Rules} → Renders c rs → Renders (shapeThen i s c) (shapeRules i s rs)
+  pub shape-renders : {c : Check} {rs : Rules} → Renders c rs → Renders (shapeThen i s c) (shapeRules i s rs)
   shape-renders own =
       renders-then (decides-outside 1 1 mostEquations (i .p))
       (renders-then (decides-outside 2 1 (mostFor (i .extra)) (i .q))
@@ -382,7 +393,8 @@ module _ (i : Input) (s : State) where
 
   pub lower-renders : (lower : List ℕ) → Renders (lowerChecks lower i s) (lowerRules lower i s)
   unfolding lowerChecks
-  lower-renders lower = shape-renders (renders-then (decides-unequal 5 (length lower) (i .q)) (renders-then (decides-range i) (renders-last (decides-bound i lower))))
+  lower-renders lower =
+      shape-renders (renders-then (decides-unequal 5 (length lower) (i .q)) (renders-then (decides-range i) (renders-last (decides-bound i lower))))
 
   pub resume-renders : Renders (resumeChecks i s) (resumeRules i s)
   unfolding resumeChecks
@@ -422,26 +434,19 @@ module _ (m : System) (s : State) where
       any-from (m .q) (λ j. makes m s j && eqb (raise (top m s) j j) (m .limit + 1)) j l (and-both (makes m s j) _ y (rw u (eqb-refl (m .limit + 1))))
 
   -- (by whichever number a seat has for it)
-  pub decides-large : (r : ℕ) → Decides (refuseIf (not sol && tooLarge m s) r) (rule r (Fails (m .p) (m .q) (coef m) (top m s) × (j : ℕ) × (j < m .q) × T (makes m s j) × (top m s j ≡ m .limit)))
+  pub decides-large : (r : ℕ)
+      → Decides (refuseIf (not sol && tooLarge m s) r) (rule r (Fails (m .p) (m .q) (coef m) (top m s) × (j : ℕ) × (j < m .q) × T (makes m s j) × (top m s j ≡ m .limit)))
   decides-large r =
       decides-if (not sol && tooLarge m s) r _
       (λ h. let (y, l) = and-parts (not sol) _ h in let (j, jq, mj, e) = large-from l in (fails-fails m (top m s) (T-not sol y), j, jq, mj, e))
       (λ (y, j, l, a, e). and-both (not sol) _ (not-T sol (λ h. y .2 (solves-solution m (top m s) h (y .0) (y .1)))) (large-to j l a e))
 
-  pub decides-high : Decides (refuseIf (not sol && tooHigh m s) 13) (rule 13 (Fails (m .p) (m .q) (coef m) (top m s) × (m .q < level s + countTo (m .q) (makes m s))))
-  unfolding tooHigh
-  decides-high =
-      decides-if (not sol && tooHigh m s) 13 _
-      (λ h. let (y, l) = and-parts (not sol) _ h in (fails-fails m (top m s) (T-not sol y), ltb→lt (m .q) (level s + countTo (m .q) (makes m s)) l))
-      (λ (y, l). and-both (not sol) _ (not-T sol (λ h. y .2 (solves-solution m (top m s) h (y .0) (y .1)))) (lt→ltb (m .q) (level s + countTo (m .q) (makes m s)) l))
-
   pub decides-late : Decides (refuseIf (eqb (s .run .steps) stepLimit) 14) (rule 14 (s .run .steps ≡ stepLimit))
   decides-late = decides-if (eqb (s .run .steps) stepLimit) 14 (s .run .steps ≡ stepLimit) (eqb→eq (s .run .steps) stepLimit) (λ e. rw e (eqb-refl stepLimit))
 
   pub search-renders : Renders (searchChecks m s) (searchRules m s)
-  unfolding searchChecks tooHigh
-  search-renders =
-      renders-then decides-late (renders-then decides-full (renders-then (decides-large 12) (renders-last decides-high)))
+  unfolding searchChecks
+  search-renders = renders-then decides-late (renders-then decides-full (renders-last (decides-large 12)))
 
 -- ---- what is known once a call has made its checks
 
@@ -477,7 +482,8 @@ pub record Handed (i : Input) : Type 0 where
 
 -- the shape of the walk's system, by what comes with the map
 module _ (i : Input) (s : State) where
-  own-shaped : Handed i → length (i .coefs) ≡ i .p * i .q → Silent (rangeRule i) → i .q ≤ mostUnknowns → i .q * (i .q + 1) ≤ length (s .stack) → Shaped (walkSystem alone i) s
+  own-shaped : Handed i → length (i .coefs) ≡ i .p * i .q → Silent (rangeRule i) → i .q ≤ mostUnknowns → i .q * (i .q + 1) ≤ length (s .stack)
+      → Shaped (walkSystem alone i) s
   own-shaped h len range few long =
       record {
         p-some = at-most 1 (i .p) (λ l. h .equations (inl l));
@@ -500,7 +506,8 @@ module _ (i : Input) (s : State) where
         | inr l ↦ rw (List·getD-eq-default b (pos 0) l) (omega arith)
       ]
 
-  sides-shaped : (b : List ℤ) → Handed i → i .q ≤ mostUnknowns - 1 → length (i .coefs) ≡ i .p * i .q → AllSilent (rangeRules (rights b) i) → suc (i .q) * (suc (i .q) + 1) ≤ length (s .stack) → Shaped (walkSystem (rights b) i) s
+  sides-shaped : (b : List ℤ) → Handed i → i .q ≤ mostUnknowns - 1 → length (i .coefs) ≡ i .p * i .q → AllSilent (rangeRules (rights b) i)
+      → suc (i .q) * (suc (i .q) + 1) ≤ length (s .stack) → Shaped (walkSystem (rights b) i) s
   sides-shaped b h few len (range, (sides, u)) long =
       let some : 0 < i .q = at-most 1 (i .q) (λ l. h .unknowns (inl l)) in
       let whole = extend-length (i .q) (i .coefs) b (i .p) (omega (arith, len)) in
@@ -540,7 +547,8 @@ module _ (i : Input) (s : State) where
   lower-handed lower a e =
       let (p, (q, (c, (k, (n, (r, (b, u))))))) = lower-renders i s lower .goes e in record { equations = p; unknowns = q; numbers = c; ranges = rw a (r, tt) }
 
-  pub lower-shaped : (lower : List ℕ) → i .extra ≡ alone → lowerChecks lower i s ≡ go → Shaped (systemOf i) s × (length lower ≡ i .q) × ((j : ℕ) → j < i .q → getD lower j 0 ≤ limitOf (i .limit))
+  pub lower-shaped : (lower : List ℕ) → i .extra ≡ alone → lowerChecks lower i s ≡ go
+      → Shaped (systemOf i) s × (length lower ≡ i .q) × ((j : ℕ) → j < i .q → getD lower j 0 ≤ limitOf (i .limit))
   lower-shaped lower a e =
       let (p, (q, (c, (k, (n, (r, (b, u))))))) = lower-renders i s lower .goes e in
       let len = equal (length lower) (i .q) n in
@@ -554,7 +562,7 @@ module _ (i : Input) (s : State) where
       let (p, (q, (c, (k, (o, r))))) = resume-renders i s .goes e in
       record {
         shaped = handed-shaped (resume-handed e) k;
-        ordered = elim (T-dec (inOrder (systemOf i) s)) [ inl y ↦ order-from (systemOf i) s y | inr n ↦ absurd (o (out-of (systemOf i) s n)) ];
+        ordered = checked-order (systemOf i) s (decides-order (systemOf i) s .silent o);
       }
 
   pub valid-resume : Handed i → Valid (systemOf i) s → resumeChecks i s ≡ go
@@ -587,12 +595,11 @@ pub record Going (m : System) (s : State) : Type 0 where
   pub early : s .run .steps < stepLimit
   pub roomy : T (solves m (top m s)) → Room (m .kind) (m .q) s (top m s)
   pub small : ¬ (T (solves m (top m s))) → (j : ℕ) → j < m .q → T (makes m s j) → top m s j < m .limit
-  pub low : ¬ (T (solves m (top m s))) → level s + countTo (m .q) (makes m s) ≤ m .q
 
 module _ (m : System) (s : State) where
   pub search-going : InOrder m s → 0 < s .run .height → searchChecks m s ≡ go → Going m s
   search-going o h e =
-      let (last, (full, (over, (tall, u)))) = search-renders m s .goes e in
+      let (last, (full, (over, u))) = search-renders m s .goes e in
       record {
         high = h;
         early = omega (arith, o .early, last);
@@ -600,7 +607,6 @@ module _ (m : System) (s : State) where
         small = λ n j l mj.
             let ne : top m s j ≢ m .limit = λ x. over (fails-fails m (top m s) n, j, l, mj, x) in
             omega (arith, o .rows (level s) (omega arith) .small j l);
-        low = λ n. at-most (level s + countTo (m .q) (makes m s)) (m .q) (λ l. tall (fails-fails m (top m s) n, l));
       }
 
   pub going-search : Going m s → searchChecks m s ≡ go
@@ -609,9 +615,6 @@ module _ (m : System) (s : State) where
         λ e. omega (arith, g .early),
         (
           λ (y, l). room-not (toSecond (m .kind) (top m s)) (width m) s (g .roomy (solution-solves m (top m s) y)) l,
-          (
-            λ (y, j, l, mj, e). omega (arith, g .small (λ h. y .2 (solves-solution m (top m s) h (y .0) (y .1))) j l mj),
-            (λ (y, l). omega (arith, g .low (λ h. y .2 (solves-solution m (top m s) h (y .0) (y .1)))), tt),
-          ),
+          (λ (y, j, l, mj, e). omega (arith, g .small (λ h. y .2 (solves-solution m (top m s) h (y .0) (y .1))) j l mj), tt),
         ),
       )

@@ -46,12 +46,14 @@ started-goes go s work e = (refl, refl)
 
 -- ---- the continuing call
 
--- The answer a of a continuing call with a budget that took `taken` steps to a state of the height given: refused by the first of the rules before the walk that is in
+-- The answer a of a continuing call with a budget that took `taken` steps to a state of the height given: refused by the first of the rules before the walk
+-- that is in
 -- its case; else by how that state stands.
 pub record CallAnswers (before within : Rules) (budget taken height : ℕ) (a : Answer) : Type 0 where
   pub completes : (a ≡ complete) ↔ (AllSilent before × (height ≡ 0))
   pub pauses : (a ≡ paused) ↔ (AllSilent before × (0 < height) × (taken ≡ budget))
-  pub refuses : (n : ℕ) (values : List ℕ) → (a ≡ refused n values) ↔ (FirstDue before n values ⊎ (AllSilent before × (0 < height) × (taken < budget) × FirstDue within n values))
+  pub refuses : (n : ℕ) (values : List ℕ)
+      → (a ≡ refused n values) ↔ (FirstDue before n values ⊎ (AllSilent before × (0 < height) × (taken < budget) × FirstDue within n values))
   pub never : a ≢ started
 
 -- a machine's checks by rules
@@ -122,7 +124,8 @@ module _ {S : Type 0} {k : Machine S} {before within : S → Rules} (ruled : Rul
       ]
 
   -- what the search refused, it refuses in the state that is left
-  pub refused-there : (n : ℕ) (values : List ℕ) → k .before s ≡ go → call budget k s .answer ≡ refused n values → (0 < k .height left) × (k .refusals left ≡ refuse n values)
+  pub refused-there : (n : ℕ) (values : List ℕ) → k .before s ≡ go → call budget k s .answer ≡ refused n values
+      → (0 < k .height left) × (k .refusals left ≡ refuse n values)
   refused-there n values e a =
       elim (call-answers .refuses n values .0 a) [
         | inl y ↦ absurd (not-before ruled budget s e n values y)
@@ -137,5 +140,6 @@ module _ {S : Type 0} {k : Machine S} {before within : S → Rules} (ruled : Rul
       call-walks k left (suc more) f .0 ∙ walk-refused k left more n values (rw same h) (rw same r) .0 ∙ ap (λ t. record { answer = refused n values; state = t }) same
 
 -- "after 11 a longer list table with the same rows may be given": where what stood in the way is gone, the call takes the step that was refused
-pub goes-on : {S : Type 0} (k : Machine S) (s : S) → k .before s ≡ go → Goes k (k .settle s) → (more : ℕ) → call (suc more) k s ≡ walk more k (k .step (k .settle s))
+pub goes-on : {S : Type 0} (k : Machine S) (s : S) → k .before s ≡ go → Goes k (k .settle s) → (more : ℕ)
+    → call (suc more) k s ≡ walk more k (k .step (k .settle s))
 goes-on k s e (h, f) more = call-walks k s (suc more) e .0 ∙ walk-more k s more h f .0

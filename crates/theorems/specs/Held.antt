@@ -1,4 +1,5 @@
--- What the lists of a run that was begun with units hold, in the words of the map: the minimal solutions, and where there are right sides the minimal tuples that meet
+-- What the lists of a run that was begun with units hold, in the words of the map: the minimal solutions, and where there are right sides the minimal tuples
+-- that meet
 -- them. Assumes nothing.
 use mathlib.Core.Path.{_≡_, refl, subst}
 use mathlib.Core.Logic.{inl}
@@ -27,18 +28,21 @@ Part (rights b) i s = Only (i .q) (MinimalSolution (mapOf i)) (s .list) (s .run 
 -- and all of them
 abbrev pub Whole : Extra → Input → State → Type 0
 Whole alone i s = Exactly (i .q) (MinimalSolution (mapOf i)) (s .list) (s .run .found)
-Whole (rights b) i s = Exactly (i .q) (MinimalSolution (mapOf i)) (s .list) (s .run .found) × Exactly (i .q) (MinimalMeeting (mapOf i) b) (s .second) (s .run .found₂)
+Whole (rights b) i s =
+    Exactly (i .q) (MinimalSolution (mapOf i)) (s .list) (s .run .found) × Exactly (i .q) (MinimalMeeting (mapOf i) b) (s .second) (s .run .found₂)
 
 -- what a user reads of each list
 abbrev pub Read : Extra → Input → State → Type 0
 Read alone i s = (n : ℕ) → n < s .run .found → Reads (i .q) (s .list) (s .run .found) n
-Read (rights b) i s = ((n : ℕ) → n < s .run .found → Reads (i .q) (s .list) (s .run .found) n) × ((n : ℕ) → n < s .run .found₂ → Reads (i .q) (s .second) (s .run .found₂) n)
+Read (rights b) i s =
+    ((n : ℕ) → n < s .run .found → Reads (i .q) (s .list) (s .run .found) n) × ((n : ℕ) → n < s .run .found₂ → Reads (i .q) (s .second) (s .run .found₂) n)
 
 -- rows of another set, and of as many numbers
 only-as : {q w n : ℕ} {U W : (ℕ → ℕ) → Type 0} {table : List ℕ} → w ≡ q → ((y : ℕ → ℕ) → U y → W y) → Only w U table n → Only q W table n
 only-as {q} {w} {n} {U} {W} {table} e f o = subst (λ w. Only w W table n) e (record { room = o .room; only = λ i l. f _ (o .only i l); once = o .once })
 
-exactly-as : {q w n : ℕ} {U W : (ℕ → ℕ) → Type 0} {table : List ℕ} → w ≡ q → ((y : ℕ → ℕ) → U y → W y) → ((y : ℕ → ℕ) → W y → U y) → Exactly w U table n → Exactly q W table n
+exactly-as : {q w n : ℕ} {U W : (ℕ → ℕ) → Type 0} {table : List ℕ} → w ≡ q → ((y : ℕ → ℕ) → U y → W y) → ((y : ℕ → ℕ) → W y → U y) → Exactly w U table n
+    → Exactly q W table n
 exactly-as {q} {w} {n} {U} {W} {table} e f g o =
     subst (λ w. Exactly w W table n) e (record { part = record { room = o .part .room; only = λ i l. f _ (o .part .only i l); once = o .part .once }; all = λ t h. o .all t (g t h) })
 
@@ -94,5 +98,6 @@ module _ (i : Input) (h : Handed i) (s : State) where
   sound-read o = read-for (i .extra) (wide-for (i .extra) o) o (sound-part o)
 
 -- "zero if all of them are zero"
-pub zero-sides : (i : Input) (b : List ℤ) → ((k : ℕ) → k < i .p → getD b k (pos 0) ≡ pos 0) → MinimalMeeting (mapOf i) b (λ j. 0) × ((t : ℕ → ℕ) → MinimalMeeting (mapOf i) b t → Same (i .q) (λ j. 0) t)
+pub zero-sides : (i : Input) (b : List ℤ) → ((k : ℕ) → k < i .p → getD b k (pos 0) ≡ pos 0)
+    → MinimalMeeting (mapOf i) b (λ j. 0) × ((t : ℕ → ℕ) → MinimalMeeting (mapOf i) b t → Same (i .q) (λ j. 0) t)
 zero-sides i b zeros = (zero-minimal (i .p) (i .q) (coef (mapOf i)) _ zeros, only-zero (i .p) (i .q) (coef (mapOf i)) _ zeros)

@@ -13,6 +13,7 @@ pub mod CallAnswers
 pub mod Listed
 pub mod Run
 pub mod Held
+pub mod LowerRun
 pub mod Potential
 pub mod Depth
 pub mod Equation
@@ -23,6 +24,9 @@ pub mod Series
 pub mod Third
 pub mod First
 pub mod Untouched
+pub mod Deepest
+pub mod StackRows
+pub mod LowerFirst
 pub mod Demands
 pub mod Reasons
 pub mod Examples

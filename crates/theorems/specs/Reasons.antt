@@ -15,7 +15,8 @@ use Rattle.definitions.specs.Input.{Input, inputOf, inputWith, mapOf, rights}
 use Rattle.definitions.specs.System.{MinimalSolution, mostComponent}
 use Rattle.definitions.specs.Tables.{State, at}
 use Rattle.laws.specs.CheckLaws.{AllSilent, FirstDue}
-use Rattle.laws.specs.ReasonLaws.{Claim, NoneEarlier, count-refused, given-reason, reason-given, reason-refused, reasonRules, refused-reason, unlisted-asked, unlisted-means}
+use Rattle.laws.specs.ReasonLaws.{Claim, NoneEarlier, count-refused, given-reason, reason-given, reason-refused, reasonRules, refused-reason, unlisted-asked}
+use Rattle.laws.specs.ReasonLaws.{unlisted-means}
 use Rattle.theorems.specs.Basis.{basis-below}
 use Rattle.theorems.specs.Demands.{second-demand}
 use Rattle.theorems.specs.Link.{nonzero, task, upToOne}
@@ -35,19 +36,23 @@ pub record Reasoned (i : Input) (list : List ℕ) (found : ℕ) (t : List ℕ) :
 
 pub record ReasonPromise : Type 1 where
   -- the list of a run, finished or cut short, is never refused for its count
-  pub own-list : (i : Input) (W : (ℕ → ℕ) → Type 0) (list : List ℕ) (found : ℕ) → Only (i .q) W list found → (t values : List ℕ) → reason i list found t ≢ refused 6 values
+  pub own-list : (i : Input) (W : (ℕ → ℕ) → Type 0) (list : List ℕ) (found : ℕ) → Only (i .q) W list found → (t values : List ℕ)
+      → reason i list found t ≢ refused 6 values
   pub reasoned : (i : Input) (list : List ℕ) (found : ℕ) (t : List ℕ) → Reasoned i list found t
   -- "and the last is never given for a complete plain list": for any list that holds the minimal solutions, and so after any plain run that
   -- answered "complete"
-  pub whole-list : (i : Input) (list : List ℕ) (found : ℕ) → Exactly (i .q) (MinimalSolution (mapOf i)) list found → (t : List ℕ) → reason i list found t ≢ unlisted
-  pub complete-list : (p q : ℕ) (coefs : List ℤ) (s : State) → Run (inputOf p q coefs) nonzero s → (budget : ℕ) → resume budget (inputOf p q coefs) s .answer ≡ complete → (t : List ℕ)
+  pub whole-list : (i : Input) (list : List ℕ) (found : ℕ) → Exactly (i .q) (MinimalSolution (mapOf i)) list found → (t : List ℕ)
+      → reason i list found t ≢ unlisted
+  pub complete-list : (p q : ℕ) (coefs : List ℤ) (s : State) → Run (inputOf p q coefs) nonzero s → (budget : ℕ)
+      → resume budget (inputOf p q coefs) s .answer ≡ complete → (t : List ℕ)
       → reason (inputOf p q coefs) (resume budget (inputOf p q coefs) s .state .list) (resume budget (inputOf p q coefs) s .state .run .found) t ≢ unlisted
   -- and for the list at 0 of a complete run with right sides
   pub complete-at-0 : (p q : ℕ) (coefs b : List ℤ) (s : State) → let i = inputWith (rights b) mostComponent p q coefs in
       Run i upToOne s → (budget : ℕ) → resume budget i s .answer ≡ complete → (t : List ℕ) → reason (inputOf p q coefs) (resume budget i s .state .list) (resume budget i s .state .run .found) t ≢ unlisted
 
 -- a solution that is not all zero has a minimal solution at or below it, and that one is listed
-never-unlisted : (i : Input) (list : List ℕ) (found : ℕ) → Exactly (i .q) (MinimalSolution (mapOf i)) list found → (t : List ℕ) → reason i list found t ≢ unlisted
+never-unlisted : (i : Input) (list : List ℕ) (found : ℕ) → Exactly (i .q) (MinimalSolution (mapOf i)) list found → (t : List ℕ)
+    → reason i list found t ≢ unlisted
 never-unlisted i list found e t h =
     let m = mapOf i in
     let (wanted, bare) = unlisted-means m found (at list (i .q)) (λ j. getD t j 0) (reason-given i list found t (unlisted-asked i list found t h) unlisted h) in

@@ -1,29 +1,32 @@
 -- What the calls of document 01 never touch, and the marks that rows carry after each. Assumes nothing.
-use mathlib.Core.Path.{_≡_, refl, _∙_, ap}
+use mathlib.Core.Path.{_≡_, refl, sym, _∙_, ap, subst}
 use mathlib.Core.Logic.{inl, inr}
 use mathlib.Core.Bool.{Bool, true, false}
 use mathlib.Core.List.{List}
-use Prim.Native.Nat.{ℕ, _+_, _*_, _≤_, _<_}
+use Prim.Native.Nat.{ℕ, zero, suc, _+_, _*_, _≤_, _<_}
 use native.Mathlib.Nat.{mul-le-mul-right}
 use native.Mathlib.Omega.{arith}
 use lib.Dec.{T}
 use lib.ListN.{getD, length}
 use Rattle.linear.specs.Tests.{countTo}
 use Rattle.definitions.specs.Answers.{go}
-use Rattle.definitions.specs.Calls.{machine, resume, resumeSteps, start, startFrom}
-use Rattle.definitions.specs.Input.{Input, alone, systemOf}
+use Rattle.definitions.specs.Calls.{changed, machine, machineFrom, resume, resumeFrom, resumeSteps, settleFrom, start, startFrom, stepFrom}
+use Rattle.definitions.specs.Input.{Input, aboveSystem, alone, boundOf, mapOf, systemOf, walkSystem}
 use Rattle.definitions.specs.Machine.{after, checked}
-use Rattle.definitions.specs.Refusals.{lowerChecks, resumeChecks, startChecks}
+use Rattle.definitions.specs.Refusals.{lowerChecks, resumeChecks, resumeFromChecks, startChecks}
 use Rattle.definitions.specs.Step.{deeper, enlist, enlistIn, grown, listed, pick, rowOf, rowWidth, step, toSecond, top, width}
-use Rattle.definitions.specs.System.{Kind, System, plain, solves}
-use Rattle.definitions.specs.Tables.{State, frozen, lowerStart, unitsStart, stackMarks}
+use Rattle.definitions.specs.System.{Kind, System, solves}
+use Rattle.definitions.specs.Tables.{Record, Run, State, byWalk, cappedRun, deskByDesk, frozen, lowerAbove, lowerPlain, lowerStart, lowered, plainPart}
+use Rattle.definitions.specs.Tables.{plainRun, stackMarks, unitsStart, unitsTo, wholeOf}
 use Rattle.laws.specs.CheckLaws.{check-cases}
 use Rattle.laws.specs.MachineLaws.{call-refused}
-use Rattle.laws.specs.RefusalLaws.{Going, Room, Valid, lower-shaped, resume-valid, search-going, start-shaped}
+use Rattle.laws.specs.LowerLaws.{GoingFrom, InOrderBy, ValidFrom, above-valid, plain-valid, resume-from-valid, search-going-from, settled-valid}
+use Rattle.laws.specs.LowerLaws.{start-from-valid, step-from-valid}
+use Rattle.laws.specs.RefusalLaws.{Going, Room, Valid, resume-valid, search-going, start-shaped}
 use Rattle.laws.specs.StepLaws.{children-length, children-outside}
 use Rattle.laws.specs.TableLaws.{row-length, row-outside, units-length, units-outside, write-outside}
-use Rattle.laws.specs.ValidLaws.{children-few, enlists, lower-valid, step-valid, units-inside, units-valid}
-use Rattle.theorems.specs.Series.{Call, callChecks, continuing, perform, refused-outcome, starting, starting-from}
+use Rattle.laws.specs.ValidLaws.{children-few, enlists, step-valid, units-inside, units-valid}
+use Rattle.theorems.specs.Series.{Call, callChecks, continuing, continuing-from, perform, refused-outcome, starting, starting-from}
 use Rattle.theorems.specs.WholeSteps.{Goes, after-keeps, after-more, call-going, call-keeps}
 
 -- What a call for q unknowns and list rows of w numbers leaves alone, that was lent s and leaves t.
@@ -70,11 +73,13 @@ listing : (k : Kind) (q : ℕ) (s : State) (x : ℕ → ℕ) → Listing (rowWid
 listing k q s x = listing-in (toSecond k x) (rowWidth k q) s (rowOf k x) (deeper q s x)
 
 -- "Table rows above the height keep what they last held.": every entry from there on
-pub above-kept : (m : System) (s : State) → Valid m s → Going m s → (e : ℕ) → step m s .run .height * (m .q + 1) ≤ e → getD (step m s .stack) e 0 ≡ getD (s .stack) e 0
+pub above-kept : (m : System) (s : State) → Valid m s → Going m s → (e : ℕ) → step m s .run .height * (m .q + 1) ≤ e
+    → getD (step m s .stack) e 0 ≡ getD (s .stack) e 0
 unfolding step listed grown
 above-kept m s v g e = go (solves m (top m s)) (g .roomy)
   where
-    go : (b : Bool) → (T b → Room (m .kind) (m .q) s (top m s)) → pick b (listed m s) (grown m s) .run .height * (m .q + 1) ≤ e → getD (pick b (listed m s) (grown m s) .stack) e 0 ≡ getD (s .stack) e 0
+    go : (b : Bool) → (T b → Room (m .kind) (m .q) s (top m s)) → pick b (listed m s) (grown m s) .run .height * (m .q + 1) ≤ e
+        → getD (pick b (listed m s) (grown m s) .stack) e 0 ≡ getD (s .stack) e 0
     go true room l = ap (λ stack. getD stack e 0) (enlists (m .kind) (m .q) s (top m s) (room tt) .stack)
     go false room l = children-outside m s (m .q) e l
 
@@ -119,64 +124,141 @@ abbrev pub inputFor : Call → Input
 inputFor (starting i) = i
 inputFor (starting-from lower i is) = i
 inputFor (continuing budget i) = i
+inputFor (continuing-from budget lower i is) = i
 
--- A call whose checks let it go on leaves record and tables in order, and what is none of its own untouched.
-pub record Leaves (m : System) (s t : State) : Type 0 where
-  pub valid : Valid m t
-  pub untouched : Untouched (m .q) (width m) s t
+-- "Row k of the stack always carries exactly k − 1 marks." (from 0 here)
+abbrev pub Marked : ℕ → State → Type 0
+Marked q t = (k : ℕ) → k < t .run .height → countTo q (frozen (stackMarks q t k)) ≡ k
+
+-- A call whose checks let it go on leaves rows with their marks, and what is none of its own untouched.
+pub record Leaves (q w : ℕ) (s t : State) : Type 0 where
+  pub marked : Marked q t
+  pub untouched : Untouched q w s t
+
+units-untouched : (q w : ℕ) (s : State) (run : Record) → Untouched q w s (record { stack = unitsTo q q (s .stack); list = s .list; second = s .second; run = run })
+units-untouched q w s run =
+    record {
+      stack-length = units-length q (s .stack) q;
+      beyond = units-outside q (s .stack) q;
+      list-length = refl;
+      past = λ e l. refl;
+      second-length = refl;
+      past₂ = λ e l. refl;
+    }
 
 module _ (i : Input) (s : State) where
   abbrev n : ℕ
   n = systemOf i .q
 
-  units-leaves : startChecks i s ≡ go → Leaves (systemOf i) s (unitsStart (systemOf i) s)
+  units-leaves : startChecks i s ≡ go → Leaves n (width (systemOf i)) s (unitsStart (systemOf i) s)
   unfolding unitsStart
   units-leaves e =
       record {
-        valid = units-valid (systemOf i) s (start-shaped i s e) (units-inside (i .extra) i);
-        untouched =
-            record {
-              stack-length = units-length n (s .stack) n;
-              beyond = units-outside n (s .stack) n;
-              list-length = refl;
-              past = λ e l. refl;
-              second-length = refl;
-              past₂ = λ e l. refl;
-            };
+        marked = λ k l. units-valid (systemOf i) s (start-shaped i s e) (units-inside (i .extra) i) .ordered .rows k l .marked;
+        untouched = units-untouched n (width (systemOf i)) s _;
       }
 
-  lower-leaves : i .extra ≡ alone → (lower : List ℕ) → lowerChecks lower i s ≡ go → Leaves (systemOf i) s (lowerStart lower (systemOf i) s)
-  unfolding lowerStart
-  lower-leaves is lower e =
-      let (g, len, less) = lower-shaped i s lower is e in
-      let kind : systemOf i .kind ≡ plain = rw is refl in
-      record {
-        valid = lower-valid (systemOf i) s g lower kind (rw is less);
-        untouched =
-            record {
-              stack-length = row-length n (s .stack) 0 (λ j. getD lower j 0) 0;
-              beyond = λ e h. row-outside true n (s .stack) 0 (λ j. getD lower j 0) 0 e (omega (arith, mul-le-mul-right (n + 1) (g .q-some)));
-              list-length = refl;
-              past = λ e l. refl;
-              second-length = refl;
-              past₂ = λ e l. refl;
-            };
-      }
-
-  resume-leaves : (budget : ℕ) → resumeChecks i s ≡ go → Leaves (systemOf i) s (resume budget i s .state)
+  resume-leaves : (budget : ℕ) → resumeChecks i s ≡ go → Leaves n (width (systemOf i)) s (resume budget i s .state)
   resume-leaves budget e =
-      call-keeps (machine i) (Leaves (systemOf i) s) (λ t l. l) kept budget s (record { valid = resume-valid i s e; untouched = untouched n (width (systemOf i)) s })
+      let (v, u) = call-keeps (machine i) (λ t. Valid (systemOf i) t × Untouched n (width (systemOf i)) s t) (λ t l. l) kept budget s (resume-valid i s e, untouched n (width (systemOf i)) s) in
+      record { marked = λ k l. v .ordered .rows k l .marked; untouched = u }
     where
-      kept : (t : State) → Leaves (systemOf i) s t → Goes (machine i) t → Leaves (systemOf i) s (step (systemOf i) t)
-      kept t l (h, f) =
-          let g = search-going (systemOf i) t (l .valid .ordered) h f in
-          record { valid = step-valid (systemOf i) t (l .valid) h g; untouched = step-untouched (systemOf i) s t (l .valid) g (l .untouched) }
+      kept : (t : State) → Valid (systemOf i) t × Untouched n (width (systemOf i)) s t → Goes (machine i) t
+          → Valid (systemOf i) (step (systemOf i) t) × Untouched n (width (systemOf i)) s (step (systemOf i) t)
+      kept t (v, u) (h, f) =
+          let g = search-going (systemOf i) t (v .ordered) h f in
+          (step-valid (systemOf i) t v h g, step-untouched (systemOf i) s t v g u)
 
-pub call-leaves : (c : Call) (s : State) → callChecks c s ≡ go → Leaves (systemOf (inputFor c)) s (perform c s .state)
+-- ---- runs from a lower bound
+
+-- the plain walk's list is the second one
+plain-untouched : {q w : ℕ} {s t : State} → Untouched q w s t → Untouched q w (plainPart s) (plainPart t)
+plain-untouched u =
+    record { stack-length = u .stack-length; beyond = u .beyond; list-length = u .second-length; past = u .past₂; second-length = u .list-length; past₂ = u .past }
+
+whole-untouched : {q w d : ℕ} {s t : State} → Untouched q w (plainPart s) t → Untouched q w s (wholeOf d t)
+whole-untouched u =
+    record { stack-length = u .stack-length; beyond = u .beyond; list-length = u .second-length; past = u .past₂; second-length = u .list-length; past₂ = u .past }
+
+-- its rows carry their marks, in either walk
+marked-by : (lower : List ℕ) (i : Input) (t : State) (r : Run) → InOrderBy r lower i t → Marked (i .q) t
+marked-by lower i t plainRun o = absurd o
+marked-by lower i t cappedRun o = absurd o
+marked-by lower i t lowerPlain (o, f, l) = λ k h. o .rows k h .marked
+marked-by lower i t lowerAbove (o, l) = λ k h. o .rows k h .marked
+marked-by lower i t deskByDesk o = absurd o
+
+module _ (lower : List ℕ) (i : Input) (s : State) where
+  abbrev Standing : State → Type 0
+  Standing t = ValidFrom lower i t × Untouched (i .q) (i .q) s t
+
+  settled-untouched : (t : State) → Standing t → Untouched (i .q) (i .q) s (settleFrom lower i t)
+  unfolding settleFrom lowered
+  settled-untouched t (v, u) = go (t .run .kind) (t .run .height)
+    where
+      lowers : Untouched (i .q) (i .q) s (lowered (boundOf lower) (i .q) t)
+      lowers =
+          record {
+            stack-length = row-length (i .q) (t .stack) 0 (boundOf lower) 0 ∙ u .stack-length;
+            beyond = λ e h.
+                row-outside true (i .q) (t .stack) 0 (boundOf lower) 0 e (omega (arith, mul-le-mul-right (i .q + 1) (v .shaped .q-some))) ∙ u .beyond e h;
+            list-length = u .list-length;
+            past = u .past;
+            second-length = u .second-length;
+            past₂ = u .past₂;
+          }
+
+      go : (r : Run) (h : ℕ) → Untouched (i .q) (i .q) s (changed r h lower i t)
+      go plainRun h = u
+      go cappedRun h = u
+      go lowerPlain zero = lowers
+      go lowerPlain (suc h) = u
+      go lowerAbove h = u
+      go deskByDesk h = u
+
+  stepped-untouched : (t : State) → Standing t → GoingFrom lower i t → Untouched (i .q) (i .q) s (stepFrom lower i t)
+  unfolding stepFrom
+  stepped-untouched t (v, u) (p, a) = go (t .run .kind) refl (v .ordered)
+    where
+      go : (r : Run) → t .run .kind ≡ r → InOrderBy r lower i t
+          → Untouched (i .q) (i .q) s (byWalk r (wholeOf (t .run .deepest) (step (mapOf i) (plainPart t))) (step (aboveSystem lower i) t))
+      go plainRun e o = absurd o
+      go cappedRun e o = absurd o
+      go lowerPlain e o =
+          whole-untouched {s = s} (step-untouched (mapOf i) (plainPart s) (plainPart t) (plain-valid lower i t e v) (p e) (plain-untouched {s = s} {t = t} u))
+      go lowerAbove e o = step-untouched (aboveSystem lower i) s t (above-valid lower i t e v) (a e) u
+      go deskByDesk e o = absurd o
+
+  pub kept-standing : (t : State) → Standing t → Goes (machineFrom lower i) t → Standing (stepFrom lower i t)
+  kept-standing t (v, u) (h, f) =
+      let g = search-going-from lower i t v h f in (step-from-valid lower i t v g, stepped-untouched t (v, u) g)
+
+  module _ (is : i .extra ≡ alone) where
+    start-from-leaves : lowerChecks lower i s ≡ go → Leaves (i .q) (i .q) s (lowerStart (mapOf i) s)
+    unfolding lowerStart
+    start-from-leaves e =
+        record {
+          marked = marked-by lower i (lowerStart (mapOf i) s) lowerPlain (start-from-valid lower i s is e .ordered);
+          untouched = units-untouched (i .q) (i .q) s _;
+        }
+
+    resume-from-leaves : (budget : ℕ) → resumeFromChecks lower i s ≡ go → Leaves (i .q) (i .q) s (resumeFrom budget lower i s .state)
+    resume-from-leaves budget e =
+        let t : State = resumeFrom budget lower i s .state in
+        let (v, u) = call-keeps (machineFrom lower i) Standing (λ t (v, u). (settled-valid lower i t v, settled-untouched t (v, u))) kept-standing budget s
+        (resume-from-valid lower i s is e .1, untouched (i .q) (i .q) s) in
+        record { marked = marked-by lower i t (t .run .kind) (v .ordered); untouched = u }
+
+-- a map alone is what the walk goes through
+as-map : (i : Input) → i .extra ≡ alone → {s t : State} → Leaves (i .q) (i .q) s t → Leaves (systemOf i .q) (width (systemOf i)) s t
+as-map i is {s} {t} l = subst (λ e. Leaves (walkSystem e i .q) (width (walkSystem e i)) s t) (sym is) l
+
+pub call-leaves : (c : Call) (s : State) → callChecks c s ≡ go → Leaves (systemOf (inputFor c) .q) (width (systemOf (inputFor c))) s (perform c s .state)
 unfolding start startFrom checked
 call-leaves (starting i) s e = rw e (units-leaves i s e)
-call-leaves (starting-from lower i is) s e = rw e (lower-leaves i s is lower e)
+call-leaves (starting-from lower i is) s e = rw e (as-map i is (start-from-leaves lower i s is e))
 call-leaves (continuing budget i) s e = resume-leaves i s budget e
+call-leaves (continuing-from budget lower i is) s e = as-map i is (resume-from-leaves lower i s is budget e)
 
 pub call-untouched : (c : Call) (s : State) → Untouched (systemOf (inputFor c) .q) (width (systemOf (inputFor c))) s (perform c s .state)
 call-untouched c s =
@@ -185,12 +267,13 @@ call-untouched c s =
       | inr (n, values, e) ↦ rw (refused-outcome c s n values e) (untouched (systemOf (inputFor c) .q) (width (systemOf (inputFor c))) s)
     ]
 
--- "Row k of the stack always carries exactly k − 1 marks." (from 0 here)
-pub call-marked : (c : Call) (s : State) → callChecks c s ≡ go → (k : ℕ) → k < perform c s .state .run .height → countTo (systemOf (inputFor c) .q) (frozen (stackMarks (systemOf (inputFor c) .q) (perform c s .state) k)) ≡ k
-call-marked c s e k l = call-leaves c s e .valid .ordered .rows k l .marked
+pub call-marked : (c : Call) (s : State) → callChecks c s ≡ go → Marked (systemOf (inputFor c) .q) (perform c s .state)
+call-marked c s e = call-leaves c s e .marked
 
 -- each step of a continuing call keeps what lies above the height that it leaves
-pub steps-above : (budget : ℕ) (i : Input) (s : State) (n : ℕ) → n < resumeSteps budget i s → (e : ℕ) → after (n + 1) (machine i) s .run .height * (systemOf i .q + 1) ≤ e → getD (after (n + 1) (machine i) s .stack) e 0 ≡ getD (after n (machine i) s .stack) e 0
+pub steps-above : (budget : ℕ) (i : Input) (s : State) (n : ℕ) → n < resumeSteps budget i s → (e : ℕ)
+    → after (n + 1) (machine i) s .run .height * (systemOf i .q + 1) ≤ e
+    → getD (after (n + 1) (machine i) s .stack) e 0 ≡ getD (after n (machine i) s .stack) e 0
 steps-above budget i s n l e h =
     elim (check-cases (resumeChecks i s)) [
       | inl c ↦

@@ -1,5 +1,5 @@
 -- A continuing call over any machine leaves the state after its whole steps, and its answer says how it stands then. Assumes nothing.
-use mathlib.Core.Path.{_≡_, refl, sym, _∙_, ap}
+use mathlib.Core.Path.{_≡_, refl, sym, ap}
 use mathlib.Core.Logic.{_⊎_, inl, inr}
 use mathlib.Core.List.{List}
 use Prim.Native.Nat.{ℕ, zero, suc, _+_, _<_}
@@ -51,7 +51,8 @@ module _ {S : Type 0} (k : Machine S) where
         | no ne ↦ let d = walk-paused k s (positive ne) in rw (d .0, d .1) (record { state = refl; ends = pauses (positive ne) refl })
       ]
 
-  walked-suc : (n : ℕ) (s : S) → Walked n k (k .step (k .settle s)) (walk n k (k .step (k .settle s))) (walkSteps n k (k .step (k .settle s))) → Walked (suc n) k s (walk (suc n) k s) (walkSteps (suc n) k s)
+  walked-suc : (n : ℕ) (s : S) → Walked n k (k .step (k .settle s)) (walk n k (k .step (k .settle s))) (walkSteps n k (k .step (k .settle s)))
+      → Walked (suc n) k s (walk (suc n) k s) (walkSteps (suc n) k s)
   unfolding after
   walked-suc n s next =
       elim (ℕ-discrete (k .height (k .settle s)) 0) [
@@ -78,7 +79,10 @@ module _ {S : Type 0} (k : Machine S) where
   walk-going zero s i l = absurd (omega arith)
   walk-going (suc n) s i l = first (ℕ-discrete (k .height (k .settle s)) 0) (check-cases (k .refusals (k .settle s))) (walk-going n (k .step (k .settle s))) i l
     where
-      first : Dec (k .height (k .settle s) ≡ 0) → (k .refusals (k .settle s) ≡ go) ⊎ ((r : ℕ) × (values : List ℕ) × (k .refusals (k .settle s) ≡ refuse r values)) → ((i : ℕ) → i < walkSteps n k (k .step (k .settle s)) → Goes k (after i k (k .step (k .settle s)))) → (i : ℕ) → i < walkSteps (suc n) k s → Goes k (after i k s)
+      first : Dec (k .height (k .settle s) ≡ 0)
+          → (k .refusals (k .settle s) ≡ go) ⊎ ((r : ℕ) × (values : List ℕ) × (k .refusals (k .settle s) ≡ refuse r values))
+          → ((i : ℕ) → i < walkSteps n k (k .step (k .settle s)) → Goes k (after i k (k .step (k .settle s)))) → (i : ℕ) → i < walkSteps (suc n) k s
+          → Goes k (after i k s)
       first (yes e) c next i l = absurd (omega (arith, walk-done k s (suc n) e .1))
       first (no ne) (inr (r, values, e)) next i l = absurd (omega (arith, walk-refused k s n r values (positive ne) e .1))
       first (no ne) (inl e) next zero l = (positive ne, e)
