@@ -13,7 +13,8 @@ use Rattle.calls.specs.declared.Run.the-variants.{Plain, Capped, LowerPl
 use Rattle.calls.specs.declared.Solutions.{Solutions}
 use Rattle.calls.specs.declared.Steps.{Steps}
 use Rattle.calls.specs.declared.Refusal.{Refusal}
-use Rattle.calls.specs.declared.Refusal.the-variants.{Equations, Unknowns, CoefficientCount, StackLength, BoundLength, OutOfOrder, Coefficient, BoundRange, ListFull, ComponentLimit, StackFull, StepLimit, RightSide, Column}
+use Rattle.calls.specs.declared.Refusal.the-variants.{Equations, Unknowns, CoefficientCount, StackLength, BoundLength, OutOfOrder, Coefficient}
+use Rattle.calls.specs.declared.Refusal.the-variants.{BoundRange, ListFull, ComponentLimit, StepLimit, RightSide, SeatUnknowns, SeatComponent, Column}
 use Rattle.calls.specs.declared.Answer.{Answer}
 use Rattle.calls.specs.declared.Answer.the-variants.{Started, Complete, Paused, Refused}
 use Rattle.calls.specs.declared.Outcome.{Outcome}
@@ -65,9 +66,10 @@ numberOf (Coefficient place) = 7
 numberOf BoundRange = 8
 numberOf ListFull = 11
 numberOf ComponentLimit = 12
-numberOf StackFull = 13
 numberOf StepLimit = 14
 numberOf RightSide = 15
+numberOf SeatUnknowns = 23
+numberOf SeatComponent = 24
 numberOf (Column column) = 26
 
 -- the values that it comes with: 7 has the place, and 26 the column
@@ -82,9 +84,10 @@ valuesOf (Coefficient place) = place ∷ []
 valuesOf BoundRange = []
 valuesOf ListFull = []
 valuesOf ComponentLimit = []
-valuesOf StackFull = []
 valuesOf StepLimit = []
 valuesOf RightSide = []
+valuesOf SeatUnknowns = []
+valuesOf SeatComponent = []
 valuesOf (Column column) = column ∷ []
 
 -- the first of them, and 0 where there is none
@@ -112,6 +115,10 @@ recordOf kind height found steps second before deepest =
 -- that of a plain run that shows no depth yet
 abbrev pub plainRecord : ℕ → Solutions → Steps → Record
 plainRecord height found steps = recordOf Plain height found steps (record { 0 = 0 }) (record { 0 = 0 }) 0
+
+-- what the plain walk of a run from a lower bound sees of it (`plainPart` of the definitions)
+abbrev pub plainPartOf : Record → Record
+plainPartOf r = recordOf Plain (r .height) (r .second) (r .before) (r .found) (r .steps) (r .deepest)
 
 abbrev pub leftWith : Answer → List ℕ → List ℕ → List ℕ → Record → machine.Outcome State
 leftWith a stack list second r = record { answer = answerOf a; state = stateWith stack list second r }

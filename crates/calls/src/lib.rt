@@ -2,7 +2,7 @@
 ghost use mathlib.Core.Path.{_≡_};
 ghost use Rattle.definitions.specs.Input.{limitOf};
 ghost use Rattle.definitions.specs.Tables.{runNumber};
-ghost use Rattle.calls.specs.Paper.{numberOf, valuesOf, value, kindOf, recordOf, plainRecord, refuses, leaves};
+ghost use Rattle.calls.specs.Paper.{numberOf, valuesOf, value, kindOf, recordOf, plainPartOf, plainRecord, refuses, leaves};
 
 // "A tuple gives each unknown a natural number, at most 1,000,000."
 pub const COMPONENT_LIMIT: u32 = 1000000;
@@ -81,6 +81,21 @@ impl Record {
     }
 }
 
+// What the plain walk of a run from a lower bound sees of its record: that of a plain run, with the counts of the second list and of that walk.
+pub fn plain_part(r: Record) -> Record
+    ensures { λ p. ⌜ p ≡ plainPartOf r ⌝ }
+{
+    Record::of(
+        Run::Plain,
+        r.height,
+        r.second,
+        r.before,
+        r.found,
+        r.steps,
+        r.deepest,
+    )
+}
+
 // The limit of components that counts.
 pub fn limit_of(limit: u32) -> u32
     ensures { λ r. ⌜ r ≡ limitOf limit ⌝ }
@@ -106,9 +121,10 @@ pub enum Refusal {
     BoundRange,
     ListFull,
     ComponentLimit,
-    StackFull,
     StepLimit,
     RightSide,
+    SeatUnknowns,
+    SeatComponent,
     Column(usize),
 }
 
@@ -182,9 +198,10 @@ pub fn number_of(why: Refusal) -> u64
         Refusal::BoundRange => 8,
         Refusal::ListFull => 11,
         Refusal::ComponentLimit => 12,
-        Refusal::StackFull => 13,
         Refusal::StepLimit => 14,
         Refusal::RightSide => 15,
+        Refusal::SeatUnknowns => 23,
+        Refusal::SeatComponent => 24,
         Refusal::Column(_) => 26,
     }
 }
@@ -204,9 +221,10 @@ pub fn value_of(why: Refusal) -> usize
         Refusal::BoundRange => 0,
         Refusal::ListFull => 0,
         Refusal::ComponentLimit => 0,
-        Refusal::StackFull => 0,
         Refusal::StepLimit => 0,
         Refusal::RightSide => 0,
+        Refusal::SeatUnknowns => 0,
+        Refusal::SeatComponent => 0,
         Refusal::Column(column) => column,
     }
 }

@@ -1,4 +1,3 @@
 pub mod Shape
 pub mod Coefficients
-pub mod Order
 pub mod CheckLaws

@@ -16,6 +16,7 @@ use Rattle.definitions.specs.Input.{Extra, alone, inputWith, rights}
 use Rattle.definitions.specs.System.{mostEquations, mostUnknowns}
 use Rattle.definitions.specs.Tables.{State}
 use Rattle.definitions.specs.Refusals.{between, shapeThen}
+use Rattle.orders.specs.Order.{InShape}
 
 abbrev pub lowerAboveLimit : ℕ → List ℕ → Bool
 lowerAboveLimit limit lower = anyTo (length lower) (λ j. ltb limit (getD lower j 0))
@@ -47,11 +48,6 @@ shape-then alone limit p q coefs s own =
 shape-then (rights b) limit p q coefs s own = let one : q + 1 ≡ suc q = omega arith in rw one (simp then-assoc)
 
 -- where these find nothing, the unknowns are in range and the stack table has a row for each
-pub record InShape (q stack : ℕ) : Type 0 where
-  pub least : 1 ≤ q
-  pub most : q ≤ mostUnknowns
-  pub rows : q * (q + 1) ≤ stack
-
 within : (a b n : ℕ) → between a b n ≡ true → (a ≤ n) × (n ≤ b)
 within a b n e = let (l, m) = and-parts (leb a n) (leb n b) (rw e tt) in (leb→le a n l, leb→le n b m)
 

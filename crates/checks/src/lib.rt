@@ -1,16 +1,14 @@
 // The refusals that come before the walk (document 01, "Refusals, by who causes them"; 15: document 02).
 ghost use mathlib.Core.Path.{_≡_};
 ghost use Prim.Native.Nat.{ℕ};
-ghost use Rattle.linear.specs.Tests.{countTo};
-ghost use Rattle.definitions.specs.Tables.{frozen};
-ghost use Rattle.definitions.specs.Refusals.{startChecks, lowerChecks, resumeChecks};
+ghost use Rattle.definitions.specs.Refusals.{startChecks, lowerChecks, resumeChecks, resumeFromChecks};
 ghost use Rattle.definitions.specs.Input.{alone, inputOf, inputWith, rights as sides};
 ghost use Rattle.calls.specs.Paper.{stateOf, stateWith, checkOf};
 use calls::Check;
 use calls::Record;
 
 pub mod coefficients; // coefficients.rt: their range, and that of right sides
-mod order; // order.rt: a run record and tables in order
+mod order; // order.rt: a run record and tables in order, and what comes after
 mod shape; // shape.rt: lengths and counts
 
 // What a plain start looks at.
@@ -57,10 +55,12 @@ pub fn check_start_from(
     lower: &[u32],
     stack: &[u32],
     list: &[u32],
+    second: &[u32],
     r: Record,
     limit: u32,
 ) -> Check
-    ensures { λ c. ⌜ checkOf c ≡ lowerChecks (now (lower .entry)) (inputWith alone limit p q (now (coefs .entry))) (stateOf (now (stack .entry)) (now (list .entry)) r) ⌝ }
+    ensures { λ c. ⌜ checkOf c ≡ lowerChecks (now (lower .entry)) (inputWith alone limit p q (now (coefs .entry)))
+        (stateWith (now (stack .entry)) (now (list .entry)) (now (second .entry)) r) ⌝ }
 {
     match shape::check(p, q, 0, coefs.len(), p, stack.len()) {
         Check::Refuse(why) => Check::Refuse(why),
@@ -106,9 +106,23 @@ pub fn check_resume_capped(
     }
 }
 
-// How many marks are set.
-pub fn count_marks(marks: u32) -> usize
-    ensures { λ n. ⌜ n ≡ countTo 32 (frozen marks) ⌝ }
+// What a continuing call of a run from a lower bound looks at.
+pub fn check_resume_from(
+    p: usize,
+    q: usize,
+    coefs: &[i32],
+    lower: &[u32],
+    stack: &[u32],
+    list: &[u32],
+    second: &[u32],
+    r: Record,
+    limit: u32,
+) -> Check
+    ensures { λ c. ⌜ checkOf c ≡ resumeFromChecks (now (lower .entry)) (inputWith alone limit p q (now (coefs .entry)))
+        (stateWith (now (stack .entry)) (now (list .entry)) (now (second .entry)) r) ⌝ }
 {
-    u32::count_ones(marks) as usize
+    match shape::check(p, q, 0, coefs.len(), p, stack.len()) {
+        Check::Refuse(why) => Check::Refuse(why),
+        Check::Pass => order::check_from(q, coefs, lower, stack, list, second, r, limit),
+    }
 }

@@ -1,25 +1,18 @@
-// A run record and tables in order: refusal 6; and what comes after it.
+// Refusal 6, and what comes after it.
 ghost use mathlib.Core.Path.{_≡_};
-ghost use Prim.Native.Nat.{ℕ, _+_, _*_, _≤_, _<_};
-ghost use lib.Dec.{leb};
+ghost use Prim.Native.Nat.{ℕ, _+_, _≤_};
 ghost use lib.ListN.{length};
-ghost use Rattle.linear.specs.Tests.{allTo};
 ghost use Rattle.definitions.specs.Answers.{_then_};
-ghost use Rattle.definitions.specs.Refusals.{rowFits, check6, check7, rangeChecks};
+ghost use Rattle.definitions.specs.Refusals.{check5, check6, check6From, check7, check8, rangeChecks};
 ghost use Rattle.definitions.specs.Input.{alone, inputWith, systemOf, rights as sides};
-ghost use Rattle.definitions.specs.Tables.{at, isRun};
-ghost use Rattle.calls.specs.Paper.{stateOf, stateWith, checkOf, kindOf, runOf};
-ghost use Rattle.checks.specs.Order.{recordFits, cappedFits};
-ghost use Rattle.checks.specs.Shape.{InShape};
+ghost use Rattle.calls.specs.Paper.{stateOf, stateWith, checkOf};
+ghost use Rattle.orders.specs.Order.{InShape};
 use crate::coefficients;
-use crate::count_marks;
+use crate::shape;
 use calls::Check;
 use calls::Record;
 use calls::Refusal;
 use calls::Run;
-
-// "(Refusal 6 also covers a value above 16,000,000.)"
-const DEEPEST_LIMIT: u64 = 16000000;
 
 // Refusals 6 and 7 of a plain run, which do not depend on p.
 pub fn check(q: usize, coefs: &[i32], stack: &[u32], list: &[u32], r: Record, limit: u32) -> Check
@@ -27,7 +20,7 @@ pub fn check(q: usize, coefs: &[i32], stack: &[u32], list: &[u32], r: Record, li
     ensures { λ c. ⌜ ((p : ℕ) → checkOf c ≡ (check6 (systemOf (inputWith alone limit p q (now (coefs .entry)))) (stateOf (now (stack .entry)) (now (list .entry)) r) then check7 (inputWith alone limit p q (now (coefs .entry))))) ⌝ }
 {
     let most = calls::limit_of(limit);
-    if !in_order(Run::Plain, q, q, stack, list, r, most) {
+    if !orders::in_order(Run::Plain, q, q, stack, list, r, most) {
         return Check::Refuse(Refusal::OutOfOrder);
     }
     coefficients::check(coefs)
@@ -49,118 +42,38 @@ pub fn check_capped(
 {
     let most = calls::limit_of(limit);
     let wide = q + 1;
-    if !in_order(Run::Capped, wide, q, stack, list, r, most) {
+    if !orders::in_order(Run::Capped, wide, q, stack, list, r, most) {
         return Check::Refuse(Refusal::OutOfOrder);
     }
-    if !capped_fits(wide, q, stack, second, r) {
+    if !orders::capped_fits(wide, q, stack, second, r) {
         return Check::Refuse(Refusal::OutOfOrder);
     }
     coefficients::check_both(coefs, rights)
 }
 
-// Whether record and rows are in order for a run of a kind, on q unknowns and with rows of `width` numbers in the list.
-fn in_order(
-    kind: Run,
+// Refusals 5, 6, 7 and 8 of a run from a lower bound, which do not depend on p.
+pub fn check_from(
     q: usize,
-    width: usize,
+    coefs: &[i32],
+    lower: &[u32],
     stack: &[u32],
     list: &[u32],
+    second: &[u32],
     r: Record,
     limit: u32,
-) -> bool
-    requires { ⌜ (1 ≤ width) × InShape q (length (now stack)) ⌝ }
-    ensures { λ b. ⌜ b ≡ recordFits (kindOf kind) q width limit (now (stack .entry)) (now (list .entry)) (runOf r) ⌝ }
+) -> Check
+    requires { ⌜ InShape q (length (now stack)) ⌝ }
+    ensures { λ c. ⌜ ((p : ℕ) → checkOf c ≡ (check5 (inputWith alone limit p q (now (coefs .entry))) (now (lower .entry))
+        then check6From (now (lower .entry)) (inputWith alone limit p q (now (coefs .entry))) (stateWith (now (stack .entry)) (now (list .entry)) (now (second .entry)) r)
+        then check7 (inputWith alone limit p q (now (coefs .entry)))
+        then check8 (inputWith alone limit p q (now (coefs .entry))) (now (lower .entry)))) ⌝ }
 {
-    let own = r.kind;
-    let height = r.height;
-    let found = r.found.0;
-    let steps = r.steps.0;
-    let deepest = r.deepest;
-    if !same_run(own, kind) {
-        return false;
+    if lower.len() != q {
+        return Check::Refuse(Refusal::BoundLength);
     }
-    if q < height {
-        return false;
+    let most = calls::limit_of(limit);
+    if !orders::lower_in_order(q, lower, stack, list, second, r, most) {
+        return Check::Refuse(Refusal::OutOfOrder);
     }
-    if list.len() / width < found {
-        return false;
-    }
-    if calls::STEP_LIMIT < steps {
-        return false;
-    }
-    if DEEPEST_LIMIT < deepest {
-        return false;
-    }
-    rows_in_order(q, stack, height, limit)
-}
-
-// Whether two kinds of run are one.
-fn same_run(a: Run, b: Run) -> bool
-    ensures { λ r. ⌜ r ≡ isRun (kindOf a) (kindOf b) ⌝ }
-{
-    calls::run_number(a) == calls::run_number(b)
-}
-
-// What a capped run on q unknowns is asked besides: the count of the second list within its room, and every first component at most 1.
-fn capped_fits(q: usize, width: usize, stack: &[u32], second: &[u32], r: Record) -> bool
-    requires { ⌜ (1 ≤ width) × (r .height ≤ q) × InShape q (length (now stack)) ⌝ }
-    ensures { λ b. ⌜ b ≡ cappedFits q width (now (stack .entry)) (now (second .entry)) (runOf r) ⌝ }
-{
-    let height = r.height;
-    let count = r.second.0;
-    if second.len() / width < count {
-        return false;
-    }
-    firsts_fit(q, stack, height)
-}
-
-// Whether the first component of each of the first `height` rows is at most 1.
-fn firsts_fit(q: usize, stack: &[u32], height: usize) -> bool
-    requires { ⌜ (q ≤ 16) × (height * (q + 1) ≤ length (now stack)) ⌝ }
-    ensures { λ b. ⌜ b ≡ allTo height (λ k. leb (at (now (stack .entry)) (q + 1) k 0) 1) ⌝ }
-{
-    let mut k = 0;
-    while k < height {
-        if 1 < stack[k * (q + 1)] {
-            return false;
-        }
-        k += 1;
-    }
-    true
-}
-
-// Whether the first `height` rows are in order, with components up to the limit.
-fn rows_in_order(q: usize, stack: &[u32], height: usize, limit: u32) -> bool
-    requires { ⌜ (q ≤ 16) × (height * (q + 1) ≤ length (now stack)) ⌝ }
-    ensures { λ b. ⌜ b ≡ allTo height (rowFits limit q (now (stack .entry))) ⌝ }
-{
-    let mut k = 0;
-    while k < height {
-        if !row_in_order(q, stack, k, limit) {
-            return false;
-        }
-        k += 1;
-    }
-    true
-}
-
-// Whether row `k` is in order: components, marks within the unknowns, and k marks.
-fn row_in_order(q: usize, stack: &[u32], k: usize, limit: u32) -> bool
-    requires { ⌜ (q ≤ 16) × (k * (q + 1) + q < length (now stack)) ⌝ }
-    ensures { λ b. ⌜ b ≡ rowFits limit q (now (stack .entry)) k ⌝ }
-{
-    let base = k * (q + 1);
-    let mut j = 0;
-    while j < q {
-        if limit < stack[base + j] {
-            return false;
-        }
-        j += 1;
-    }
-    let marks = stack[base + q];
-    let past: u32 = 1 << q;
-    if past <= marks {
-        return false;
-    }
-    count_marks(marks) == k
+    shape::check_lower(q, coefs, lower, limit)
 }

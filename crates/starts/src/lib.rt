@@ -35,24 +35,26 @@ pub fn started(
     }
 }
 
-// The start from a lower bound.
+// The start of a run from a lower bound: it writes as a plain one.
 pub fn started_from(
     p: usize,
     q: usize,
     coefs: &[i32],
+    lower: &[u32],
     stack: &mut [u32],
     list: &mut [u32],
+    second: &mut [u32],
     r: Record,
-    lower: &[u32],
     limit: u32,
 ) -> Outcome
-    ensures { λ o. ⌜ outcomeOf o (now (stack .exit)) (now (list .exit)) ≡ startFrom (now (lower .entry)) (inputWith alone limit p q (now (coefs .entry))) (stateOf (now (stack .entry)) (now (list .entry)) r) ⌝ }
+    ensures { λ o. ⌜ outcomeWith o (now (stack .exit)) (now (list .exit)) (now (second .exit)) ≡ startFrom (now (lower .entry)) (inputWith alone limit p q (now (coefs .entry)))
+        (stateWith (now (stack .entry)) (now (list .entry)) (now (second .entry)) r) ⌝ }
 {
-    match checks::check_start_from(p, q, coefs, lower, stack, list, r, limit) {
+    match checks::check_start_from(p, q, coefs, lower, stack, list, second, r, limit) {
         Check::Refuse(why) => calls::refused(why, r),
         Check::Pass => {
-            rows::write_lower(stack, q, lower);
-            begun(Run::Plain, 1)
+            rows::write_units(stack, q);
+            begun(Run::LowerPlain, q)
         }
     }
 }
