@@ -58,6 +58,14 @@ pub record Written (k n : ℕ) (f : ℕ → ℤ) (table₀ table : List ℤ) : T
   pub after : (i : ℕ) → k * 16 + n ≤ i → getD table i (pos 0) ≡ getD table₀ i (pos 0)
   pub size : length table ≡ length table₀
 
+-- row k holds f at its first q places
+pub record Filled (q : ℕ) (f : ℕ → ℤ) (k : ℕ) (table : List ℤ) : Type 0 where
+  pub holds : (j : ℕ) → j < q → entry table k j ≡ f j
+
+-- the rows from k on, up to row q, hold f at their first q places
+pub record Ahead (k q : ℕ) (f : ℕ → ℕ → ℤ) (table : List ℤ) : Type 0 where
+  pub rows : (i j : ℕ) → k ≤ i → i < q → j < q → entry table i j ≡ f i j
+
 -- row k and those after it hold zeros
 pub record Zeros (table : List ℤ) (k : ℕ) : Type 0 where
   pub zero : (i : ℕ) → k * 16 ≤ i → getD table i (pos 0) ≡ pos 0

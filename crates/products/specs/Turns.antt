@@ -17,11 +17,12 @@ use mir.Facts.{toZ-ofZ}
 use Rattle.linear.specs.Cases.{split}
 use Rattle.linear.specs.Integers.{sfits-natAbs, natAbs-+ℤ, natAbs-*ℤ}
 use Rattle.linear.specs.Sums.{sumTo}
+use Rattle.linear.specs.Gram.{gram}
 use Rattle.linear.specs.Systems.{inner}
 use Rattle.linear.specs.SystemLaws.{inner-next, inner-bound}
 use Rattle.definitions.specs.System.{mostUnknowns, mostComponent, isZero}
 use Rattle.laws.specs.TableLaws.{row-fits}
-use Rattle.products.specs.Products.{given, SmallCoefs, SmallRow, SmallRows, gramLimit, productLimit, entry, Rows, Zeros, Written, SmallGram, partial, SmallProducts, raised}
+use Rattle.products.specs.Products.{Ahead, Gram, given, SmallCoefs, SmallRow, SmallRows, gramLimit, productLimit, entry, Rows, Zeros, Written, SmallGram, partial, SmallProducts, raised}
 
 -- ---- sums of products
 
@@ -163,6 +164,19 @@ rows-next {k} few r w i j l jq =
       | inl h ↦ w .before (i * 16 + j) (omega arith) ∙ r i j h jq
       | inr h ↦ let e : i ≡ k = omega arith in rw e (w .new j jq)
     ]
+
+-- ---- the rows of a table that are still to be written
+
+pub ahead-all : {q : ℕ} {f : ℕ → ℕ → ℤ} {table : List ℤ} → Rows q q f table → Ahead 0 q f table
+ahead-all r = record { rows = λ i j _ l k. r i j l k }
+
+pub ahead-next : {k q : ℕ} {f : ℕ → ℕ → ℤ} {h : ℕ → ℤ} {table₀ table : List ℤ} → q ≤ mostUnknowns → Ahead k q f table₀ → Written k q h table₀ table → Ahead (k + 1) q f table
+ahead-next few a w = record { rows = λ i j l m n. w .after (i * 16 + j) (omega arith) ∙ a .rows i j (omega arith) m n }
+
+-- a table of zeros is the Gram matrix of no equations
+pub zeros-gram : {q : ℕ} {coefs g : List ℤ} → Zeros g 0 → Gram 0 q coefs g
+unfolding gram inner sumTo
+zeros-gram z = record { entries = λ i j _ _. z .zero (i * 16 + j) (omega arith) }
 
 -- ---- the test for 0, which is one of bits
 

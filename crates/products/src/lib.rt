@@ -10,48 +10,50 @@ ghost use mir.Syntax.{w64};
 ghost use mir.Val.{SFits};
 ghost use Rattle.linear.specs.Tests.{number, allTo};
 ghost use Rattle.linear.specs.Gram.{gram};
+ghost use Rattle.linear.specs.Tuples.{total};
 ghost use Rattle.definitions.specs.System.{isZero};
 ghost use Rattle.definitions.specs.Tables.{at, frozen};
 ghost use Rattle.definitions.specs.Step.{marksTo};
 ghost use Rattle.products.specs.Marks.{Marked};
-ghost use Rattle.products.specs.Products.{given, SmallCoefs, SmallRow, SmallRows, entry, Zeros, Written, Gram, SmallGram, partial, Summed, combine, Combined, raised, ChildRoom};
+ghost use Rattle.products.specs.Products.{given, SmallCoefs, SmallRow, SmallRows, entry, Zeros, Written, Filled, Gram, SmallGram, partial, Summed, combine, Combined, raised, ChildRoom};
+ghost use Rattle.products.specs.Totals.{Totals};
 
-// Writes the Gram matrix: the inner product of columns i and j at i * 16 + j.
+// Writes the Gram matrix into a table of zeros: the inner product of columns i and j at i * 16 + j, by what each equation adds to it.
 pub fn write_gram(p: usize, q: usize, coefs: &[i32], g: &mut [i64; 256])
-    requires { ⌜ SmallCoefs p q (now coefs) × (length (now g) ≡ 256) ⌝ }
+    requires { ⌜ SmallCoefs p q (now coefs) × (length (now g) ≡ 256) × Zeros (now g) 0 ⌝ }
     ensures { λ _. ⌜ Gram p q (now (coefs .entry)) (now (g .exit)) ⌝ }
+{
+    let mut e = 0;
+    while e < p {
+        add_equation(p, q, coefs, e, g);
+        e += 1;
+    }
+}
+
+// Adds what equation e adds.
+fn add_equation(p: usize, q: usize, coefs: &[i32], e: usize, g: &mut [i64; 256])
+    requires { ⌜ SmallCoefs p q (now coefs) × (length (now g) ≡ 256) × (e < p) × Gram e q (now coefs) (now g) ⌝ }
+    ensures { λ _. ⌜ Gram (e + 1) q (now (coefs .entry)) (now (g .exit)) × (length (now (g .exit)) ≡ 256) ⌝ }
 {
     let mut i = 0;
     while i < q {
-        gram_row(p, q, coefs, i, g);
+        add_coefficient(p, q, coefs, e, i, g);
         i += 1;
     }
 }
 
-// Row i of it.
-fn gram_row(p: usize, q: usize, coefs: &[i32], i: usize, g: &mut [i64; 256])
-    requires { ⌜ SmallCoefs p q (now coefs) × (length (now g) ≡ 256) × (i < q) ⌝ }
-    ensures { λ _. ⌜ Written i q (gram p (given q (now (coefs .entry))) i) (now (g .entry)) (now (g .exit)) ⌝ }
+// To row i.
+fn add_coefficient(p: usize, q: usize, coefs: &[i32], e: usize, i: usize, g: &mut [i64; 256])
+    requires { ⌜ SmallCoefs p q (now coefs) × (length (now g) ≡ 256) × (e < p) × (i < q) ⌝ }
+    requires { ⌜ Filled q (gram e (given q (now coefs)) i) i (now g) ⌝ }
+    ensures { λ _. ⌜ Written i q (gram (e + 1) (given q (now (coefs .entry))) i) (now (g .entry)) (now (g .exit)) ⌝ }
 {
+    let x = coefs[e * q + i];
     let mut j = 0;
     while j < q {
-        g[i * 16 + j] = columns(p, q, coefs, i, j);
+        g[i * 16 + j] = sum_and(g[i * 16 + j], wide(x), wide(coefs[e * q + j]));
         j += 1;
     }
-}
-
-// The inner product of columns i and j.
-fn columns(p: usize, q: usize, coefs: &[i32], i: usize, j: usize) -> i64
-    requires { ⌜ SmallCoefs p q (now coefs) × (i < q) × (j < q) ⌝ }
-    ensures { λ r. ⌜ r ≡ gram p (given q (now (coefs .entry))) i j ⌝ }
-{
-    let mut sum: i64 = 0;
-    let mut k = 0;
-    while k < p {
-        sum = sum_and(sum, wide(coefs[k * q + i]), wide(coefs[k * q + j]));
-        k += 1;
-    }
-    sum
 }
 
 // What a sum of products takes, as functions with contracts in ℤ: their callers' loops hold bits.
@@ -75,29 +77,41 @@ pub fn natural(x: u32) -> i64
     x as i64
 }
 
-// Writes the products of the rows on the stack, from the Gram matrix, into a table of zeros.
-pub fn write_products(q: usize, gram: &[i64; 256], stack: &[u32], height: usize, c: &mut [i64; 256])
+// Writes the products of the rows on the stack, from the Gram matrix, into a table of zeros; and beside them the rows' sums of components.
+pub fn write_products(
+    q: usize,
+    gram: &[i64; 256],
+    stack: &[u32],
+    height: usize,
+    c: &mut [i64; 256],
+    sums: &mut [u64; 16],
+)
     requires { ⌜ SmallGram q (now gram) × (length (now c) ≡ 256) × Zeros (now c) 0 ⌝ }
-    requires { ⌜ SmallRows q (now stack) height ⌝ }
+    requires { ⌜ SmallRows q (now stack) height × (length (now sums) ≡ 16) ⌝ }
     ensures { λ _. ⌜ Combined q (now (gram .entry)) (now (stack .entry)) height (now (c .exit)) ⌝ }
+    ensures { λ _. ⌜ Totals q (now (stack .entry)) height (now (sums .exit)) ⌝ }
 {
     let mut k = 0;
     while k < height {
-        products_row(q, gram, stack, k, c);
+        sums[k] = products_row(q, gram, stack, k, c);
         k += 1;
     }
 }
 
-// Those of row k.
-fn products_row(q: usize, gram: &[i64; 256], stack: &[u32], k: usize, c: &mut [i64; 256])
+// Those of row k; its sum is returned.
+fn products_row(q: usize, gram: &[i64; 256], stack: &[u32], k: usize, c: &mut [i64; 256]) -> u64
     requires { ⌜ SmallGram q (now gram) × SmallRow q (now stack) (k * (q + 1)) × (length (now c) ≡ 256) × (k < 16) × Zeros (now c) k ⌝ }
     ensures { λ _. ⌜ Written k q (combine q (now (gram .entry)) (at (now (stack .entry)) (q + 1) k)) (now (c .entry)) (now (c .exit)) ⌝ }
+    ensures { λ r. ⌜ r ≡ total (at (now (stack .entry)) (q + 1) k) q ⌝ }
 {
+    let mut sum: u64 = 0;
     let mut i = 0;
     while i < q {
+        sum += stack[k * (q + 1) + i] as u64;
         add_component(q, gram, stack, k, i, c);
         i += 1;
     }
+    sum
 }
 
 // Adds to the products at level k what component i of its row makes of them. Most components are 0, and make nothing.

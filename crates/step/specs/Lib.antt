@@ -1,15 +1,5 @@
-pub mod Rows
-pub mod RowLaws
-pub mod Kinds
-pub mod Scan
-pub mod Grow
-pub mod GrowLaws
 pub mod Solved
 pub mod StateLaws
-pub mod Totals
-pub mod Pushed
-pub mod Tried
-pub mod Open
 pub mod Listing
 pub mod Taken
 pub mod TakeLaws

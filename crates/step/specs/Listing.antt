@@ -9,11 +9,11 @@ use lib.Dec.{leb}
 use borrow.Author.Tests.{le-leb, lt-leb}
 use Rattle.linear.specs.Tuples.{rest}
 use Rattle.definitions.specs.Step.{enlistIn, fullFor, fullIn, rowOf, rowWidth, toSecond}
-use Rattle.definitions.specs.System.{Kind, capped, plain}
+use Rattle.definitions.specs.System.{Kind, above, capped, plain}
 use Rattle.definitions.specs.Tables.{State, capacity, writeTo}
 use Rattle.laws.specs.TableLaws.{write-same}
 use Rattle.calls.specs.declared.Refusal.the-variants.{ListFull}
-use Rattle.step.specs.Rows.{part}
+use Rattle.lists.specs.Rows.{part}
 use Rattle.step.specs.declared.Stepped.{Stepped}
 use Rattle.step.specs.declared.Stepped.the-variants.{Listed, ListedSecond, Refused}
 
@@ -96,6 +96,10 @@ enlisted-plain q s x a =
       first = a .leaves ∙ after-same full q (s .run .found) (s .list) (λ j _. ap x (zero-add j)) ∙ first-after q s x full;
       other = first-other q s x full;
     }
+
+-- a walk above a lower bound lists as a plain one
+pub enlisted-above : (f : ℕ → ℕ) (q : ℕ) (s : State) (x : ℕ → ℕ) {after : List ℕ} {r : Stepped} → Appended q (s .run .found) (part 0 x) (s .list) after Listed r → Enlisted (above f) q s x after (s .second) r
+enlisted-above f q s x a = let e = enlisted-plain q s x a in record { answers = e .answers; first = e .first; other = e .other }
 
 module _ (q : ℕ) (s : State) (x : ℕ → ℕ) where
   pub enlisted-zero : x 0 ≡ 0 → {after : List ℕ} {r : Stepped} → Appended (q - 1) (s .run .found) (part 1 x) (s .list) after Listed r → Enlisted capped q s x after (s .second) r

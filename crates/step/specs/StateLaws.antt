@@ -5,7 +5,7 @@ use mathlib.Core.Bool.{Bool, not, _&&_}
 use mathlib.Core.List.{List}
 use Prim.Native.Nat.{ℕ, zero, suc, _+_, _<_}
 use native.Mathlib.Numerals.{add-one}
-use lib.Dec.{ltb, eqb, eqb·suc-suc}
+use lib.Dec.{eqb, eqb·suc-suc}
 use lib.IntN.{ℤ, pos}
 use lib.Signed.{ltZ}
 use Rattle.linear.specs.Tests.{anyTo, countTo}
@@ -15,11 +15,12 @@ use Rattle.linear.specs.TupleLaws.{unit-same}
 use Rattle.definitions.specs.System.{Kind, System, towards}
 use Rattle.definitions.specs.Tables.{State, frozen}
 use Rattle.definitions.specs.Step.{childrenTo, level, makes, top, topMarks, writeChildren}
-use Rattle.definitions.specs.Refusals.{tooLarge, tooHigh}
+use Rattle.definitions.specs.Refusals.{tooLarge}
 use Rattle.laws.specs.StepLaws.{firstOpen, makes-parts, secondOpen}
 use Rattle.calls.specs.Paper.{systemWith}
-use Rattle.step.specs.Grow.{childFor}
-use Rattle.step.specs.GrowLaws.{child-same, grow-same}
+use Rattle.candidates.specs.Grow.{childFor}
+use Rattle.candidates.specs.GrowLaws.{child-same}
+use Rattle.children.specs.GrowLaws.{grow-same}
 
 module _ (k : Kind) (p q : ℕ) (coefs : List ℤ) (limit : ℕ) (s : State) where
   abbrev m : System
@@ -37,10 +38,6 @@ module _ (k : Kind) (p q : ℕ) (coefs : List ℤ) (limit : ℕ) (s : State) whe
   module _ {f : ℕ → Bool} (h : (j : ℕ) → j < m .q → f j ≡ makes m s j) where
     pub count-by : countTo (m .q) f ≡ countTo (m .q) (makes m s)
     count-by = count-same f (makes m s) (m .q) h
-
-    pub too-high-by : ltb (m .q) (level s + countTo (m .q) f) ≡ tooHigh m s
-    unfolding tooHigh
-    too-high-by = rw count-by
 
   -- t is the top's tuple
   module _ {t : ℕ → ℕ} (e : Same (m .q) t (top m s)) where

@@ -3,15 +3,14 @@
 use mathlib.Core.Path.{_≡_, refl, sym, _∙_, ap}
 use mathlib.Core.Logic.{_≢_}
 use mathlib.Core.Bool.{Bool, true, false, not, _&&_}
-use mathlib.Core.List.{List, []}
+use mathlib.Core.List.{List, [], _++_}
 use Prim.Native.Nat.{ℕ, _+_, _*_, _-_, _^_, _≤_, _<_}
 use native.Mathlib.Omega.{arith}
 use lib.Dec.{T, eqb}
 use lib.IntN.{ℤ, pos}
-use lib.ListN.{length, getD, drop}
+use lib.ListN.{length, getD, take, drop, take-append-drop}
 use lib.Seq.{getD-drop}
 use lib.Signed.{ltZ}
-use borrow.Author.Tests.{le-ltb}
 use Rattle.linear.specs.Tests.{allTo, anyTo, countTo}
 use Rattle.linear.specs.Tuples.{Same}
 use Rattle.definitions.specs.System.{Kind, System, above, capped, isZero, plain, solves, towards}
@@ -26,18 +25,17 @@ use Rattle.calls.specs.Paper.{systemWith}
 use Rattle.calls.specs.declared.Refusal.the-variants.{ComponentLimit}
 use Rattle.step.specs.declared.Stepped.{Stepped}
 use Rattle.step.specs.declared.Stepped.the-variants.{Grown, Refused}
-use Rattle.lists.specs.Rows.{tuple, Holds}
-use Rattle.step.specs.Rows.{Limited, Within}
+use Rattle.lists.specs.Rows.{tuple, Holds, Limited, Within}
 use Rattle.products.specs.Marks.{Marked, any-over, any-zero, is-false, marks-below, marks-zero, marks-counted, marks-frozen, marks-over}
 use Rattle.products.specs.Products.{Gram, Combined, Products, entry}
 use Rattle.products.specs.ProductLaws.{level-products, combined-less}
-use Rattle.step.specs.Grow.{childFor}
-use Rattle.step.specs.GrowLaws.{child-beside, child-free, closed-child, row-agrees}
-use Rattle.step.specs.Kinds.{asked, beside}
+use Rattle.candidates.specs.Grow.{childFor}
+use Rattle.candidates.specs.GrowLaws.{child-beside, child-free, closed-child, row-agrees}
+use Rattle.candidates.specs.Kinds.{asked, beside}
 use Rattle.step.specs.Solved.{product-towards, vanish-solves}
-use Rattle.step.specs.StateLaws.{child-makes, count-by, too-high-by, grown-by, too-large-by}
-use Rattle.step.specs.Totals.{Totals, totals-less}
-use Rattle.step.specs.Pushed.{Parent, none-pushed}
+use Rattle.step.specs.StateLaws.{child-makes, count-by, grown-by, too-large-by}
+use Rattle.products.specs.Totals.{Totals, totals-less}
+use Rattle.children.specs.Pushed.{Parent, none-pushed}
 use Rattle.step.specs.Listing.{Enlisted, listAnswer, listsAfter}
 use Rattle.step.specs.Taken.{Standing, Steps, Taken, heightBy, step-full, step-grown, step-large, step-listed, step-listed₂}
 
@@ -50,6 +48,10 @@ to-second-same (above f) some e = refl
 full-beside : (b : Bool) (w : ℕ) (s : State) (run : Run) (n n₂ d : ℕ) → fullIn b w (beside s run n n₂ d) ≡ fullIn b w s
 full-beside true w s run n n₂ d = refl
 full-beside false w s run n n₂ d = refl
+
+-- the part of a table from a place on was lent, and came back as it was
+pub part-back : (table : List ℕ) (base k : ℕ) {new : List ℕ} → new ≡ take k (drop base table) → take base table ++ (new ++ drop k (drop base table)) ≡ table
+part-back table base k e = rw e (ap (λ (r : List ℕ). take base table ++ r) (take-append-drop k (drop base table)) ∙ take-append-drop base table)
 
 -- ---- the lists and their counts are all that the parts of a step are told
 
@@ -188,16 +190,16 @@ module _ {k : Kind} {limit q : ℕ} {g : List ℤ} {s : State} {c : List ℤ} {s
           let same : countTo q (frozen made) ≡ countTo q child = rw e (marks-counted q child) in
           omega (arith, marked, same, marks-few marks child q not-frozen)
 
-      pub top-parent : Parent q g (s .stack) c sums (level s) (tuple t) marks
+      pub top-parent : Parent q g (s .stack) c sums (level s) (at (s .stack) (q + 1) (level s)) marks
       top-parent =
           let up : level s + 1 ≡ s .run .height = omega (arith, v .high) in
           record {
             few = v .few;
             long = v .long;
-            small = top-limited;
+            small = record { at-most = λ j l. omega (arith, top-row .small j l, v .bounded) };
             fitting = rw row (top-row .fitting);
             gram = v .gram;
-            row = record { tuple = λ j l. sym (h .same j l); marks-are = sym row };
+            row = record { tuple = λ j l. refl; marks-are = sym row };
             cached = rw up (v .cached);
             summed = rw up (v .summed);
           }
@@ -213,7 +215,7 @@ module _ {k : Kind} {limit q : ℕ} {g : List ℤ} {s : State} {c : List ℤ} {s
             steps = λ p coefs gram run n n₂ d early. step-large (systemWith k p q coefs limit) (beside s run n n₂ d) early (sym (solved-by p coefs gram run n n₂ d) ∙ no) (sym (large-by p coefs gram run n n₂ d) ∙ l);
           }
 
-      pub taken-grown : anyTo q (λ j. child j && eqb (tuple t j) limit) ≡ false → {r : ℕ} {after : List ℕ} {c′ : List ℤ} {sums′ : List ℕ} → r ≡ level s + countTo q (frozen made) → after ≡ writeChildren q q (s .stack) (level s) (tuple t) marks (frozen made) → Combined q g after r c′ → Totals q after r sums′ → Taken k limit q g s (Grown r) after (s .list) (s .second) c′ sums′
+      pub taken-grown : anyTo q (λ j. child j && eqb (tuple t j) limit) ≡ false → {r : ℕ} {after : List ℕ} {c′ : List ℤ} {sums′ : List ℕ} → r ≡ level s + countTo q (frozen made) → after ≡ writeChildren q q (s .stack) (level s) (at (s .stack) (q + 1) (level s)) marks (frozen made) → Combined q g after r c′ → Totals q after r sums′ → Taken k limit q g s (Grown r) after (s .list) (s .second) c′ sums′
       taken-grown none {r} {after} rise grow cached summed =
           record {
             cached = cached;
@@ -223,8 +225,7 @@ module _ {k : Kind} {limit q : ℕ} {g : List ℤ} {s : State} {c : List ℤ} {s
                 let f = made-is p coefs gram run n n₂ d in
                 step-grown (systemWith k p q coefs limit) now early (sym (solved-by p coefs gram run n n₂ d) ∙ no)
                 (sym (large-by p coefs gram run n n₂ d) ∙ none)
-                (sym (too-high-by k p q coefs limit now f) ∙ le-ltb q (level s + countTo q (frozen made)) made-few)
-                (grow ∙ ap (λ x. writeChildren q q (s .stack) (level s) (tuple t) x (frozen made)) row ∙ grown-by k p q coefs limit now (h .same) f)
+                (grow ∙ ap (λ x. writeChildren q q (s .stack) (level s) (at (s .stack) (q + 1) (level s)) x (frozen made)) row ∙ grown-by k p q coefs limit now (λ j l. refl) f)
                 (rise ∙ ap (λ x. level s + x) (count-by k p q coefs limit now f));
           }
 
@@ -235,7 +236,7 @@ module _ {k : Kind} {limit q : ℕ} {g : List ℤ} {s : State} {c : List ℤ} {s
       let t : List ℕ = drop base (s .stack) in
       let held : Holds q t (s .stack) base = record { same = λ j l. getD-drop base (s .stack) j 0 } in
       let none : (j : ℕ) → childFor k q s (tuple t) 0 j ≡ false = λ j. closed-child k q s (tuple t) 0 j (is-false (frozen 0 j) (frozen-none j)) in
-      let pushed = none-pushed q (s .stack) (level s) (tuple t) marks (frozen 0) (λ j _ _. is-false (frozen 0 j) (frozen-none j)) in
+      let pushed = none-pushed q (s .stack) (level s) (at (s .stack) (q + 1) (level s)) marks (frozen 0) (λ j _ _. is-false (frozen 0 j) (frozen-none j)) in
       taken-grown held fails row are (sym (marks-over (childFor k q s (tuple t) 0) 0 q (omega arith) (λ j _ _. none j) ∙ marks-zero _))
       (any-over _ 0 q (omega arith) (λ j _ _. rw (none j)) (any-zero _))
       (pushed .0) (pushed .1) (combined-less (v .cached) (omega (arith, v .high))) (totals-less (v .summed) (omega (arith, v .high)))

@@ -13,14 +13,14 @@ use Rattle.definitions.specs.Answers.{Check, refuse, go, refuseWith, _then_}
 use Rattle.definitions.specs.System.{Kind, System, mostComponent, mostUnknowns, solves}
 use Rattle.definitions.specs.Tables.{Run, State, capacity, stepped, writeTo}
 use Rattle.definitions.specs.Step.{childrenTo, deeper, fullFor, fullIn, grown, level, listed, makes, rowOf, rowWidth, step, toSecond, top, width}
-use Rattle.definitions.specs.Refusals.{searchChecks, stepLimit, tooHigh, tooLarge}
+use Rattle.definitions.specs.Refusals.{searchChecks, stepLimit, tooLarge}
 use Rattle.laws.specs.RefusalLaws.{RowInOrder, SecondFits}
 use Rattle.calls.specs.Paper.{systemWith, numberOf, valuesOf}
 use Rattle.calls.specs.declared.Refusal.the-variants.{ListFull, ComponentLimit}
 use Rattle.step.specs.declared.Stepped.{Stepped}
 use Rattle.step.specs.declared.Stepped.the-variants.{Listed, ListedSecond, Grown, Refused}
-use Rattle.step.specs.Kinds.{beside}
-use Rattle.step.specs.Totals.{Totals}
+use Rattle.candidates.specs.Kinds.{beside}
+use Rattle.products.specs.Totals.{Totals}
 use Rattle.products.specs.Products.{Gram, SmallGram, Combined}
 
 -- what a step is taken from: rows in order on a stack that is not empty, lists that have their rows, and the products and sums of the rows
@@ -98,6 +98,6 @@ module _ (m : System) (s : State) (early : s .run .steps ≢ stepLimit) where
   unfolding searchChecks refuseWith _then_
   step-large n l = record { checks = rw (ne-eqb (s .run .steps) stepLimit early, n, l); leaves = refl }
 
-  pub step-grown : {stack : List ℕ} {height : ℕ} → solves m (top m s) ≡ false → tooLarge m s ≡ false → tooHigh m s ≡ false → stack ≡ childrenTo (m .q) m s → height ≡ level s + countTo (m .q) (makes m s) → Steps m s (Grown height) stack (s .list) (s .second)
+  pub step-grown : {stack : List ℕ} {height : ℕ} → solves m (top m s) ≡ false → tooLarge m s ≡ false → stack ≡ childrenTo (m .q) m s → height ≡ level s + countTo (m .q) (makes m s) → Steps m s (Grown height) stack (s .list) (s .second)
   unfolding searchChecks refuseWith _then_ step grown
-  step-grown n l h e f = record { checks = rw (ne-eqb (s .run .steps) stepLimit early, n, l, h); leaves = rw (n, e, f) }
+  step-grown n l e f = record { checks = rw (ne-eqb (s .run .steps) stepLimit early, n, l); leaves = rw (n, e, f) }

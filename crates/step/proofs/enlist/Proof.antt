@@ -1,7 +1,7 @@
 -- `enlist` meets its contract: the kind of the walk and the first component say which list it is. Assumes nothing.
 use native.Mathlib.Omega.{arith}
 use borrow.Author.Needs.{needs}
-use Rattle.step.specs.Listing.{enlisted-plain, enlisted-zero, enlisted-one}
+use Rattle.step.specs.Listing.{enlisted-above, enlisted-plain, enlisted-zero, enlisted-one}
 use Rattle.step.proofs.enlist.Statement.{statement}
 use Rattle.step.proofs.enlist.Tie as tie
 
@@ -39,7 +39,7 @@ same-length : tie.Need-same-length
 same-length c = search needs
 
 returns : tie.Need-returns
-returns c =
+returns c lower =
     let a = c .before .before in
     let t = a .before .before in
     let e = t .before .before in
@@ -57,24 +57,40 @@ append-requires-3 c κs =
     let s = e .before .before .before .before .before in
     omega (arith, rw (e .enum-told2 .given .1) at (s .pre .0), s .pre .1)
 
+enum-told-3 : tie.Need-enum-told-3
+enum-told-3 c = search needs
+
+append-requires-4 : tie.Need-append-requires-4
+append-requires-4 c κs =
+    let e = c .before in
+    let s = e .before .before .before .before .before in
+    omega (arith, rw (e .enum-told3 .given .1) at (s .pre .0), s .pre .1)
+
 same-length-2 : tie.Need-same-length-2
 same-length-2 c = search needs
 
 returns-2 : tie.Need-returns-2
-returns-2 c =
+returns-2 c lower =
     let a = c .before .before in
-    let e = a .before .before in
-    rw (e .enum-told .given .1) (enlisted-plain _ _ _ (a .append .ensures))
+    rw (a .before .before .enum-told .given .1) (enlisted-plain _ _ _ (a .append .ensures))
 
 same-length-3 : tie.Need-same-length-3
 same-length-3 c = search needs
 
 returns-3 : tie.Need-returns-3
-returns-3 c =
+returns-3 c lower =
     let a = c .before .before in
     let t = a .before .before in
     let e = t .before .before in
     rw (e .enum-told2 .given .1) (enlisted-one _ _ _ (omega (arith, t .if1 .left)) (a .append3 .ensures))
+
+same-length-4 : tie.Need-same-length-4
+same-length-4 c = search needs
+
+returns-4 : tie.Need-returns-4
+returns-4 c lower =
+    let a = c .before .before in
+    rw (a .before .before .enum-told3 .given .1) (enlisted-above _ _ _ _ (a .append4 .ensures))
 
 pub enlist-spec : {M : Type 1} → statement M
 enlist-spec =
@@ -90,7 +106,11 @@ enlist-spec =
     returns
     sub-append-2
     append-requires-3
+    enum-told-3
+    append-requires-4
     same-length-2
     returns-2
     same-length-3
-    returns-3)
+    returns-3
+    same-length-4
+    returns-4)

@@ -6,12 +6,16 @@ use native.Mathlib.Omega.{arith}
 use borrow.Author.Needs.{needs}
 use lib.ListN.{length-take}
 use denote.Ref.{now}
+use Rattle.definitions.specs.Calls.{machineOf}
 use Rattle.definitions.specs.Input.{inputWith, rights}
-use Rattle.definitions.specs.Machine.{call}
+use Rattle.definitions.specs.Machine.{Outcome, call, walk}
+use Rattle.definitions.specs.Refusals.{resumeChecks}
+use Rattle.definitions.specs.System.{System}
+use Rattle.definitions.specs.Tables.{State}
 use Rattle.laws.specs.RefusalLaws.{Handed, Valid, resume-handed, resume-valid}
 use Rattle.calls.specs.CallLaws.{call-refused, call-passed, passes}
 use Rattle.calls.specs.Paper.{stateWith}
-use Rattle.walk.specs.ExtendLaws.{Sided, extended-system, handed-sided, table-fits}
+use Rattle.extended.specs.ExtendLaws.{Sided, extended-system, handed-sided, table-fits}
 use Rattle.walk.proofs.resumed_capped.Statement.{statement}
 use Rattle.walk.proofs.resumed_capped.Tie as tie
 
@@ -62,13 +66,16 @@ array-share-prefix-wide c = omega (arith, table-fits (sided (c .before .before .
 slice-aggregate-walk : tie.Need-slice-aggregate-walk
 slice-aggregate-walk c = let w = c .before in simp length-take (omega (arith, table-fits (sided (w .before .before .before)), w .write .ensures .size))
 
+slice-aggregate-walk-2 : tie.Need-slice-aggregate-walk-2
+slice-aggregate-walk-2 c = search needs
+
 walk-requires : tie.Need-walk-requires
 walk-requires c κs =
-    let w = c .before .before .before .before in
+    let w = c .before .before .before .before .before in
     let m = w .before .before in
     let t = m .before in
     let a = s t .args in
-    subst (λ x. Valid x (stateWith (now (a .stack)) (now (a .list)) (now (a .second)) (a .r))) (extended-system (handed t) (w .write .ensures) (m .limit-of .ensures)) (resume-valid _ _ (passes (k t .check-resume-capped .ensures) (t .enum-told .given .1)))
+    (subst (λ x. Valid x (stateWith (now (a .stack)) (now (a .list)) (now (a .second)) (a .r))) (extended-system (handed t) (w .write .ensures) (m .limit-of .ensures)) (resume-valid _ _ (passes (k t .check-resume-capped .ensures) (t .enum-told .given .1))), tt)
 
 same-length : tie.Need-same-length
 same-length c = search needs
@@ -99,10 +106,13 @@ returns-2 : tie.Need-returns-2
 unfolding call
 returns-2 c =
     let x = c .before .before .before .before .before .before in
-    let w = x .before .before .before .before .before in
+    let w = x .before .before .before .before .before .before in
     let m = w .before .before in
     let t = m .before in
-    call-passed (k t .check-resume-capped .ensures) _ _ (t .enum-told .given .1) (x .walk .ensures _ (extended-system (handed t) (w .write .ensures) (m .limit-of .ensures)))
+    let a = s t .args in
+    let checks = resumeChecks (inputWith (rights (now (a .rights))) (a .limit) (a .p) (a .q) (now (a .coefs))) in
+    let go : System → Outcome State = λ n. walk (a .budget) (machineOf checks n) (stateWith (now (a .stack)) (now (a .list)) (now (a .second)) (a .r)) in
+    call-passed (k t .check-resume-capped .ensures) _ _ (t .enum-told .given .1) (x .walk .ensures checks ∙ ap go (sym (extended-system (handed t) (w .write .ensures) (m .limit-of .ensures))))
 
 pub resumed-capped-spec : {M : Type 1} → statement M
 resumed-capped-spec =
@@ -119,6 +129,7 @@ resumed-capped-spec =
     mul-wide
     array-share-prefix-wide
     slice-aggregate-walk
+    slice-aggregate-walk-2
     walk-requires
     same-length
     same-length-2

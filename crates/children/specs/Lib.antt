@@ -1,0 +1,4 @@
+pub mod RowLaws
+pub mod GrowLaws
+pub mod Totals
+pub mod Pushed
