@@ -71,7 +71,7 @@ abbrev pub shared : {X : Type 0} (κs : Lft × (Lft × (Lft × (Lft × X)))) (Rs
     → Spelleds (usize ∷ usize ∷ ShrSlice (named 0) (κs .0) i32 ∷ MutSlice (named 1) (κs .1 .0) u32 ∷ MutSlice (named 2) (κs .1 .1 .0) u32 ∷ MutRef (named 3) (κs .1 .1 .1 .0) Rec.the-row ∷ Rs)
 shared κs Rs ss = (number w64, (number w64, (shared-slice (named 0) (κs .0) i32, (lent-slice (named 1) (κs .1 .0) u32, (lent-slice (named 2) (κs .1 .1 .0) u32, (lent (named 3) (κs .1 .1 .1 .0) Rec.the-row, ss))))))
 
--- ---- those of the capped entries: p, q, coefs, rights, stack, list, second and the record, in locals 1 to 8. Others may follow.
+-- ---- those of entries with two lists: p, q, coefs, what comes with the map, stack, list, second and the record, in locals 1 to 8. Others may follow.
 module _ {P Q R S T U X : Type 0} where
   -- without the record's lifetime, which is the sixth
   abbrev pub less₂ : P × (Q × (R × (S × (T × (U × X))))) → P × (Q × (R × (S × (T × X))))
@@ -82,7 +82,7 @@ module _ {P Q R S T U X : Type 0} where
   with₂ a x =
       (a .0, (a .1 .0, (a .1 .1 .0, (a .1 .1 .1 .0, (a .1 .1 .1 .1 .0, (a .1 .1 .1 .1 .1 .0, (a .1 .1 .1 .1 .1 .1 .0, (x, a .1 .1 .1 .1 .1 .1 .1 .1))))))))
 
-abbrev pub values₂ : {X Y : Type 0} → ℕ × (ℕ × (RefT (List ℤ) × (RefT (List ℤ) × (RefT (List ℕ) × (RefT (List ℕ) × (RefT (List ℕ) × (RefT Record × X))))))) → Y
+abbrev pub values₂ : {A X Y : Type 0} → ℕ × (ℕ × (RefT (List ℤ) × (RefT (List A) × (RefT (List ℕ) × (RefT (List ℕ) × (RefT (List ℕ) × (RefT Record × X))))))) → Y
     → List Val × (List Val × (List Val × (List Val × (List Val × (List Val × (List Val × (List Val × Y)))))))
 values₂ a vss = (
   uint-vals w64 (a .0),
@@ -107,17 +107,18 @@ values₂ a vss = (
   ),
 )
 
-abbrev pub shared₂ : {X : Type 0} (κs : Lft × (Lft × (Lft × (Lft × (Lft × (Lft × X)))))) (Rs : List RattleType) → Spelleds Rs
-    → Spelleds (usize ∷ usize ∷ ShrSlice (named 0) (κs .0) i32 ∷ ShrSlice (named 1) (κs .1 .0) i32 ∷ MutSlice (named 2) (κs .1 .1 .0) u32 ∷ MutSlice (named 3) (κs .1 .1 .1 .0) u32
+-- (E: the type of the numbers that come with the map)
+abbrev pub shared₂ : {X : Type 0} (E : RattleType) (κs : Lft × (Lft × (Lft × (Lft × (Lft × (Lft × X)))))) (Rs : List RattleType) → Spelleds Rs
+    → Spelleds (usize ∷ usize ∷ ShrSlice (named 0) (κs .0) i32 ∷ ShrSlice (named 1) (κs .1 .0) E ∷ MutSlice (named 2) (κs .1 .1 .0) u32 ∷ MutSlice (named 3) (κs .1 .1 .1 .0) u32
     ∷ MutSlice (named 4) (κs .1 .1 .1 .1 .0) u32 ∷ MutRef (named 5) (κs .1 .1 .1 .1 .1 .0) Rec.the-row ∷ Rs)
-shared₂ κs Rs ss = (
+shared₂ E κs Rs ss = (
   number w64,
   (
     number w64,
     (
       shared-slice (named 0) (κs .0) i32,
       (
-        shared-slice (named 1) (κs .1 .0) i32,
+        shared-slice (named 1) (κs .1 .0) E,
         (
           lent-slice (named 2) (κs .1 .1 .0) u32,
           (

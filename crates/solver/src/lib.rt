@@ -2,7 +2,7 @@
 // finished list.
 ghost use mathlib.Core.Path.{_≡_};
 ghost use Prim.Native.Nat.{ℕ};
-ghost use Rattle.definitions.specs.Calls.{start as startOf, startFrom as startFromOf, resume as resumeOf};
+ghost use Rattle.definitions.specs.Calls.{start as startOf, resume as resumeOf};
 ghost use Rattle.definitions.specs.Reader.{readerCheck, rowOfEither};
 ghost use Rattle.definitions.specs.Refusals.{between};
 ghost use Rattle.definitions.specs.System.{mostUnknowns, mostComponent};
@@ -29,38 +29,6 @@ pub fn start(
     let o = starts::started(p, q, coefs, stack, list, *r);
     *r = o.run;
     o.answer
-}
-
-// The start from a lower bound.
-pub fn start_from(
-    p: usize,
-    q: usize,
-    coefs: &[i32],
-    stack: &mut [u32],
-    list: &mut [u32],
-    r: &mut Record,
-    lower: &[u32],
-) -> Answer
-    ensures { λ a. ⌜ leftBy a (now (stack .exit)) (now (list .exit)) (now (r .exit)) ≡ startFromOf (now (lower .entry)) (inputOf p q (now (coefs .entry))) (stateOf (now (stack .entry)) (now (list .entry)) (now (r .entry))) ⌝ }
-{
-    let o = started_from(p, q, coefs, stack, list, *r, lower);
-    *r = o.run;
-    o.answer
-}
-
-// The same by value, with document 01's limit of components.
-fn started_from(
-    p: usize,
-    q: usize,
-    coefs: &[i32],
-    stack: &mut [u32],
-    list: &mut [u32],
-    r: Record,
-    lower: &[u32],
-) -> Outcome
-    ensures { λ o. ⌜ outcomeOf o (now (stack .exit)) (now (list .exit)) ≡ startFromOf (now (lower .entry)) (inputOf p q (now (coefs .entry))) (stateOf (now (stack .entry)) (now (list .entry)) r) ⌝ }
-{
-    starts::started_from(p, q, coefs, stack, list, r, lower, calls::COMPONENT_LIMIT)
 }
 
 // The start of a capped run; it does not depend on the limit of components.

@@ -2,7 +2,7 @@
 ghost use mathlib.Core.Path.{_≡_};
 ghost use Rattle.definitions.specs.Calls.{start, startFrom, resume};
 ghost use Rattle.definitions.specs.Input.{inputOf};
-ghost use Rattle.calls.specs.Paper.{stateOf, outcomeOf};
+ghost use Rattle.calls.specs.Paper.{stateOf, stateWith, outcomeOf, outcomeWith};
 ghost use Rattle.solver.specs.Reading.{shownPart};
 use calls::Outcome;
 use calls::Record;
@@ -25,20 +25,22 @@ pub fn started(
     Outcome { answer, run }
 }
 
+// The start of a run from a lower bound.
 pub fn started_from(
     p: usize,
     q: usize,
     coefs: &[i32],
+    lower: &[u32],
     stack: &mut [u32],
     list: &mut [u32],
+    second: &mut [u32],
     r: Record,
-    lower: &[u32],
 ) -> Outcome
-    ensures { λ o. ⌜ outcomeOf o (now (stack .exit)) (now (list .exit)) ≡
-        startFrom (now (lower .entry)) (inputOf p q (now (coefs .entry))) (stateOf (now (stack .entry)) (now (list .entry)) r) ⌝ }
+    ensures { λ o. ⌜ outcomeWith o (now (stack .exit)) (now (list .exit)) (now (second .exit)) ≡
+        startFrom (now (lower .entry)) (inputOf p q (now (coefs .entry))) (stateWith (now (stack .entry)) (now (list .entry)) (now (second .entry)) r) ⌝ }
 {
     let mut run = r;
-    let answer = solver::start_from(p, q, coefs, stack, list, &mut run, lower);
+    let answer = lower_solver::start_from(p, q, coefs, lower, stack, list, second, &mut run);
     Outcome { answer, run }
 }
 

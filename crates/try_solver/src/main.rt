@@ -1,5 +1,5 @@
-// The calls over a reference and the reader, as a caller uses them (lent.rt): the map of document 01's "The program" with a pause after 7 steps, a run from a
-// lower bound, and calls that are refused; and the same calls by value. It prints what each call answered and left.
+// The calls over a reference and the reader, as a caller uses them (lent.rt): the map of document 01's "The program" with a pause after 7 steps, the start of a
+// run from a lower bound, and calls that are refused; and calls by value. It prints what each call answered and left.
 use calls::Answer;
 use calls::Outcome;
 use calls::Record;
@@ -41,17 +41,40 @@ fn map_in_two_calls() {
 
 fn from_a_lower_bound() {
     let coefs = [1, -1];
+    let lower = [0, 2];
     let mut stack = [0u32; 6];
     let mut list = [0u32; 8];
+    let mut second = [0u32; 8];
     let r = told(
         b"start from 0 2",
-        lent::started_from(1, 2, &coefs, &mut stack, &mut list, unused(), &[0, 2]),
+        lent::started_from(
+            1,
+            2,
+            &coefs,
+            &lower,
+            &mut stack,
+            &mut list,
+            &mut second,
+            unused(),
+        ),
     );
     let r = told(
         b"all steps",
-        lent::resumed(1, 2, &coefs, &mut stack, &mut list, r, 1000000),
+        walk::resumed_from(
+            1,
+            2,
+            &coefs,
+            &lower,
+            &mut stack,
+            &mut list,
+            &mut second,
+            r,
+            1000000,
+            calls::COMPONENT_LIMIT,
+        ),
     );
     show(&list, 2, r.found, 1);
+    show(&second, 2, r.second, 1);
     show(&list, 17, r.found, 1);
 }
 
@@ -62,10 +85,6 @@ fn refused_calls() {
     let r = told(
         b"a coefficient out of range",
         lent::started(1, 2, &coefs, &mut stack, &mut list, unused()),
-    );
-    let r = told(
-        b"a lower bound of three",
-        lent::started_from(1, 2, &coefs, &mut stack, &mut list, r, &[0, 0, 0]),
     );
     told(
         b"going on all the same",

@@ -5,7 +5,7 @@ use mathlib.Core.List.{[], _∷_}
 use mir.Syntax.{w64}
 use types.Kit.{_$_, !, by}
 use types.Run.{and-then, no-more}
-use denote.Builtin.{u64}
+use denote.Builtin.{i32, u64}
 use denote.Plain.{uint-vals}
 use denote.Ref.{RefT, now}
 use denote.Triple.Call.{calls-at}
@@ -30,7 +30,7 @@ unfolding code.routine
 resume-capped-spec 𝓤 H 𝓜 𝓖 𝓡 =
     let c : Clauses 𝓤 resumed.ended = resumed.clauses 𝓤 H (𝓖 .A) (𝓜 .mem) (𝓡 .run) in
     let callee : Contract 𝓤 = Met 𝓤 H (𝓖 .A) resumed.ended c in
-    proved 𝓤 H 𝓜 𝓖 𝓡 resume.ended (resume.clauses 𝓤 H (𝓖 .A) (𝓜 .mem) (𝓡 .run)) code.env #solver·resume-capped code.function (code.unfolded 𝓤 H 𝓜 𝓡) (λ κs. shared₂ κs (u64 ∷ []) (number w64, tt)) (λ κs a t. t)
+    proved 𝓤 H 𝓜 𝓖 𝓡 resume.ended (resume.clauses 𝓤 H (𝓖 .A) (𝓜 .mem) (𝓡 .run)) code.env #solver·resume-capped code.function (code.unfolded 𝓤 H 𝓜 𝓡) (λ κs. shared₂ i32 κs (u64 ∷ []) (number w64, tt)) (λ κs a t. t)
     (λ fm κs qs a g are leave bs.
     let r : RefT Record = a .1 .1 .1 .1 .1 .1 .1 .0 in
     let y : callee .Ghost = ((less₂ κs, less₂ qs, tt, with₂ a (now r), values₂ a (uint-vals w64 (a .1 .1 .1 .1 .1 .1 .1 .1 .0), tt)), tt) in

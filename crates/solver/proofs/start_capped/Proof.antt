@@ -4,6 +4,7 @@ use mathlib.Core.Path.{refl}
 use mathlib.Core.List.{[]}
 use types.Kit.{_$_, !, by}
 use types.Run.{and-then, no-more}
+use denote.Builtin.{i32}
 use denote.Ref.{RefT, now}
 use denote.Triple.Call.{calls-at}
 use denote.Triple.Clauses.{Clauses}
@@ -27,7 +28,7 @@ unfolding code.routine
 start-capped-spec 𝓤 H 𝓜 𝓖 𝓡 =
     let c : Clauses 𝓤 started.ended = started.clauses 𝓤 H (𝓖 .A) (𝓜 .mem) (𝓡 .run) in
     let callee : Contract 𝓤 = Met 𝓤 H (𝓖 .A) started.ended c in
-    proved 𝓤 H 𝓜 𝓖 𝓡 start.ended (start.clauses 𝓤 H (𝓖 .A) (𝓜 .mem) (𝓡 .run)) code.env #solver·start-capped code.function (code.unfolded 𝓤 H 𝓜 𝓡) (λ κs. shared₂ κs [] tt) (λ κs a t. t)
+    proved 𝓤 H 𝓜 𝓖 𝓡 start.ended (start.clauses 𝓤 H (𝓖 .A) (𝓜 .mem) (𝓡 .run)) code.env #solver·start-capped code.function (code.unfolded 𝓤 H 𝓜 𝓡) (λ κs. shared₂ i32 κs [] tt) (λ κs a t. t)
     (λ fm κs qs a g are leave bs.
     let r : RefT Record = a .1 .1 .1 .1 .1 .1 .1 .0 in
     let y : callee .Ghost = ((less₂ κs, less₂ qs, tt, with₂ a (now r), values₂ a tt), tt) in
