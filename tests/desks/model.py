@@ -3,7 +3,8 @@
 
     tests/desks/model.py [COUNT] [SEED]
 
-Draws COUNT small maps, splits each at every equation, and compares the list of the whole map with that built one group after the other, and with all tuples of a box."""
+Draws COUNT small maps, splits each at every equation, and compares the list of the whole map with that built one group after the other, and with all
+tuples of a box."""
 import itertools
 import random
 import sys

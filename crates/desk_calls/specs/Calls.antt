@@ -5,41 +5,26 @@ use mathlib.Core.Path.{_≡_, sym, _∙_, ap}
 use lib.IntN.{ℤ}
 use Rattle.definitions.specs.Answers as paper
 use Rattle.definitions.specs.Machine as machine
-use Rattle.calls.specs.Paper.{numberOf, valuesOf}
+use Rattle.definitions.specs.Tables.{State}
+use Rattle.calls.specs.Paper.{numberOf, recordOf, stateOf, valuesOf}
+use Rattle.calls.specs.declared.Record.{Record}
 use Rattle.calls.specs.declared.Refusal.{Refusal}
+use Rattle.calls.specs.declared.Run.the-variants.{Desks}
 use Rattle.desk_form.specs.Desks.{Desk}
-use Rattle.desk_form.specs.Records as desk
-use Rattle.desk_form.specs.Records.{DeskState}
 use Rattle.desk_calls.specs.declared.Answer.{Answer}
 use Rattle.desk_calls.specs.declared.Answer.the-variants.{Complete, Paused, Refused, Started, Wide}
 use Rattle.desk_calls.specs.declared.DeskCheck.{DeskCheck}
 use Rattle.desk_calls.specs.declared.DeskCheck.the-variants as found
 use Rattle.desk_calls.specs.declared.Outcome.{Outcome}
-use Rattle.desk_calls.specs.declared.Record.{Record}
-use Rattle.desk_calls.specs.declared.Run.{Run}
-use Rattle.desk_calls.specs.declared.Run.the-variants.{Capped, Desks, LowerAbove, LowerPlain, Plain}
 
 -- ---- what is handed over
 
 abbrev pub deskOf : ℕ → ℕ → List ℤ → List ℕ → Desk
 deskOf p q coefs generators = record { p = p; q = q; coefs = coefs; generators = generators }
 
-abbrev pub kindOf : Run → desk.Run
-kindOf Plain = desk.plainRun
-kindOf Capped = desk.cappedRun
-kindOf LowerPlain = desk.lowerPlain
-kindOf LowerAbove = desk.lowerAbove
-kindOf Desks = desk.deskByDesk
-
-abbrev pub runOf : Record → desk.DeskRecord
-runOf r = record { kind = kindOf (r .kind); height = r .height; found = r .found .0; steps = r .steps .0; deepest = r .deepest }
-
-abbrev pub stateOf : List ℕ → List ℕ → Record → DeskState
-stateOf stack list r = record { stack = stack; list = list; run = runOf r }
-
--- the record of a run desk by desk of its parts
-abbrev pub recordOf : ℕ → ℕ → ℕ → ℕ → Record
-recordOf height found steps deepest = record { kind = Desks; height = height; found = record { 0 = found }; steps = record { 0 = steps }; deepest = deepest }
+-- a record with its counts and its depth moved
+abbrev pub moved : Record → ℕ → ℕ → ℕ → ℕ → Record
+moved r height found steps deepest = recordOf (r .kind) height (record { 0 = found }) (record { 0 = steps }) (r .second) (r .before) deepest
 
 -- ---- what is given back
 
@@ -58,13 +43,17 @@ checkOf found.Pass = paper.go
 abbrev pub leaves : Answer → Record → Outcome
 leaves answer r = record { answer = answer; run = r }
 
-abbrev pub outcomeOf : Outcome → List ℕ → List ℕ → machine.Outcome DeskState
+abbrev pub begins : ℕ → Outcome
+begins height = leaves Started (recordOf Desks height (record { 0 = 0 }) (record { 0 = 0 }) (record { 0 = 0 }) (record { 0 = 0 }) 0)
+
+abbrev pub outcomeOf : Outcome → List ℕ → List ℕ → machine.Outcome State
 outcomeOf o stack list = record { answer = answerOf (o .answer); state = stateOf stack list (o .run) }
 
 -- ---- a call after its check
 
 module _ {r : DeskCheck} {c : paper.Check} (e : checkOf r ≡ c) {S : Type 0} (s : S) (work : S → machine.Outcome S) where
-  pub call-refused : {why : Refusal} → r ≡ found.Refuse why → record { answer = paper.refused (numberOf why) (valuesOf why); state = s } ≡ machine.checked c s work
+  pub call-refused : {why : Refusal} → r ≡ found.Refuse why
+      → record { answer = paper.refused (numberOf why) (valuesOf why); state = s } ≡ machine.checked c s work
   unfolding machine.checked
   call-refused h = rw (← e, h)
 

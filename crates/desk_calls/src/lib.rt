@@ -1,28 +1,13 @@
-// What the calls of a run desk by desk hand over and get back.
+// What the calls of a run desk by desk get back. The run record is that of every kind of run.
 ghost use mathlib.Core.Path.{_≡_};
-ghost use Rattle.desk_form.specs.Records.{isDeskByDesk};
-ghost use Rattle.desk_calls.specs.Calls.{kindOf, leaves, recordOf};
+ghost use Rattle.definitions.specs.Tables.{deskByDesk, isRun};
+ghost use Rattle.calls.specs.Paper.{kindOf};
+ghost use Rattle.desk_calls.specs.Calls.{begins, leaves, moved};
+use calls::Record;
 use calls::Refusal;
+use calls::Run;
 use calls::Solutions;
 use calls::Steps;
-
-// The kinds of run, as the run record has them.
-pub enum Run {
-    Plain,
-    Capped,
-    LowerPlain,
-    LowerAbove,
-    Desks,
-}
-
-// The run record.
-pub struct Record {
-    pub kind: Run,
-    pub height: usize,
-    pub found: Solutions,
-    pub steps: Steps,
-    pub deepest: u64,
-}
 
 // What a check finds. Wide is refusal 25: more than 64 generators, or one with an image above 7,000,000 in size.
 pub enum DeskCheck {
@@ -48,26 +33,51 @@ pub struct Outcome {
 
 // Whether a run is one desk by desk.
 pub fn is_desks(kind: Run) -> bool
-    ensures { λ b. ⌜ b ≡ isDeskByDesk (kindOf kind) ⌝ }
+    ensures { λ b. ⌜ b ≡ isRun (kindOf kind) deskByDesk ⌝ }
 {
-    match kind {
-        Run::Plain => false,
-        Run::Capped => false,
-        Run::LowerPlain => false,
-        Run::LowerAbove => false,
-        Run::Desks => true,
-    }
+    calls::run_number(kind) == 4
 }
 
-// An answer with the record of a run desk by desk.
-pub fn leave(answer: Answer, height: usize, found: usize, steps: u64, deepest: u64) -> Outcome
-    ensures { λ o. ⌜ o ≡ leaves answer (recordOf height found steps deepest) ⌝ }
+// What a start leaves that wrote rows up to a height.
+pub fn begin(height: usize) -> Outcome
+    ensures { λ o. ⌜ o ≡ begins height ⌝ }
 {
     let run = Record {
         kind: Run::Desks,
         height,
+        found: Solutions(0),
+        steps: Steps(0),
+        second: Solutions(0),
+        before: Steps(0),
+        deepest: 0,
+    };
+    Outcome {
+        answer: Answer::Started,
+        run,
+    }
+}
+
+// What a call that has walked leaves: the record with its counts and its depth moved.
+pub fn leave(
+    answer: Answer,
+    r: Record,
+    height: usize,
+    found: usize,
+    steps: u64,
+    deepest: u64,
+) -> Outcome
+    ensures { λ o. ⌜ o ≡ leaves answer (moved r height found steps deepest) ⌝ }
+{
+    let kind = r.kind;
+    let second = r.second;
+    let before = r.before;
+    let run = Record {
+        kind,
+        height,
         found: Solutions(found),
         steps: Steps(steps),
+        second,
+        before,
         deepest,
     };
     Outcome { answer, run }

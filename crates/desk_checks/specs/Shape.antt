@@ -1,5 +1,5 @@
 -- Refusals 1 to 4 from counts and lengths alone, what holds where they find nothing, and the checks that come after them. Assumes nothing.
-use mathlib.Core.Path.{_≡_, refl, sym, _∙_}
+use mathlib.Core.Path.{_≡_, refl, sym}
 use mathlib.Core.Logic.{inl, inr}
 use mathlib.Core.Bool.{Bool, true, false, not, _||_}
 use mathlib.Core.List.{List, []}
@@ -16,17 +16,16 @@ use Rattle.linear.specs.Tests.{allTo}
 use Rattle.definitions.specs.Answers.{Check, go, _then_, refuse, refuseIf, refuseWith}
 use Rattle.definitions.specs.Refusals.{between, check7}
 use Rattle.definitions.specs.System.{mostComponent, mostEquations, mostUnknowns}
+use Rattle.definitions.specs.Tables.{State}
 use Rattle.laws.specs.AnswerLaws.{refuse-if-go, then-assoc, then-go}
 use Rattle.laws.specs.RefusalLaws.{at-most, decides-range}
 use Rattle.desk_form.specs.Desks.{Desk, deskChecks, groupInput, rangesChecks, wide}
-use Rattle.desk_form.specs.Records.{DeskState}
 use Rattle.calls.specs.Paper as paper
 use Rattle.calls.specs.declared.Check as made
 use Rattle.calls.specs.declared.Check.the-variants.{Pass, Refuse}
 use Rattle.calls.specs.declared.Refusal.{Refusal}
 use Rattle.desk_calls.specs.Calls.{checkOf, deskOf}
 use Rattle.desk_calls.specs.declared.DeskCheck.the-variants as found
-use Rattle.pair_rows.specs.Choosing.{SmallMap}
 use Rattle.desk_rows.specs.Images.{SmallDesk}
 
 unfoldable pub shapeChecks : (p q coefs generators stack : ℕ) → Check
@@ -95,11 +94,13 @@ shape-fits p q coefs generators stack e =
 
 -- ---- the checks after them
 
-shape-then : (d : Desk) (s : DeskState) (own : Check) → shapeChecks (d .p) (d .q) (length (d .coefs)) (length (d .generators)) (length (s .stack)) then own then rangesChecks d ≡ deskChecks d s own
+shape-then : (d : Desk) (s : State) (own : Check)
+    → shapeChecks (d .p) (d .q) (length (d .coefs)) (length (d .generators)) (length (s .stack)) then own then rangesChecks d ≡ deskChecks d s own
 unfolding shapeChecks
 shape-then d s own = simp then-assoc
 
-module _ (d : Desk) (s : DeskState) (own : Check) {r : made.Check} (e : paper.checkOf r ≡ shapeChecks (d .p) (d .q) (length (d .coefs)) (length (d .generators)) (length (s .stack))) where
+module _ (d : Desk) (s : State) (own : Check) {r : made.Check}
+    (e : paper.checkOf r ≡ shapeChecks (d .p) (d .q) (length (d .coefs)) (length (d .generators)) (length (s .stack))) where
   pub shape-refused : {why : Refusal} → r ≡ Refuse why → checkOf (found.Refuse why) ≡ deskChecks d s own
   unfolding _then_
   shape-refused g = rw (← shape-then d s own, ← e, g)
@@ -126,7 +127,8 @@ pub record Handed (p q coefs : ℕ) (generators : List ℕ) : Type 0 where
   pub count : coefs ≡ p * q
   pub small : (i : ℕ) → i < length generators → getD generators i 0 ≤ mostComponent
 
-pub handed-by : {p q coefs : ℕ} {generators : List ℕ} {stack : ℕ} → InShape p q coefs (length generators) stack → allTo (length generators) (λ i. leb (getD generators i 0) mostComponent) ≡ true → Handed p q coefs generators
+pub handed-by : {p q coefs : ℕ} {generators : List ℕ} {stack : ℕ} → InShape p q coefs (length generators) stack
+    → allTo (length generators) (λ i. leb (getD generators i 0) mostComponent) ≡ true → Handed p q coefs generators
 handed-by {generators = generators} s h =
     record {
       equations = s .equations;
@@ -136,7 +138,8 @@ handed-by {generators = generators} s h =
       small = λ i l. leb→le (getD generators i 0) mostComponent (all-at (length generators) (λ i. leb (getD generators i 0) mostComponent) (rw h tt) i l);
     }
 
-pub handed-small : (p q : ℕ) (coefs : List ℤ) (generators : List ℕ) → Handed p q (length coefs) generators → check7 (groupInput (deskOf p q coefs generators)) ≡ go → SmallDesk p q coefs generators
+pub handed-small : (p q : ℕ) (coefs : List ℤ) (generators : List ℕ) → Handed p q (length coefs) generators
+    → check7 (groupInput (deskOf p q coefs generators)) ≡ go → SmallDesk p q coefs generators
 handed-small p q coefs generators s e =
     let range = decides-range (groupInput (deskOf p q coefs generators)) .goes e in
     record {

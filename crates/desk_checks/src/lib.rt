@@ -1,10 +1,11 @@
 // The refusals before the second walk: 1 to 4, then 6, then 7 and, last, 25.
 ghost use mathlib.Core.Path.{_≡_};
 ghost use Rattle.desk_form.specs.Desks.{deskResumeChecks, deskStartChecks};
-ghost use Rattle.desk_calls.specs.Calls.{checkOf, deskOf, stateOf};
+ghost use Rattle.calls.specs.Paper.{stateOf};
+ghost use Rattle.desk_calls.specs.Calls.{checkOf, deskOf};
+use calls::Record;
 use calls::Refusal;
 use desk_calls::DeskCheck;
-use desk_calls::Record;
 
 mod order; // order.rt: generators, record and tables in order
 mod ranges; // ranges.rt: the coefficients, and the images of the generators
@@ -20,7 +21,8 @@ pub fn check_start(
     list: &[u32],
     r: Record,
 ) -> DeskCheck
-    ensures { λ c. ⌜ checkOf c ≡ deskStartChecks (deskOf p q (now (coefs .entry)) (now (generators .entry))) (stateOf (now (stack .entry)) (now (list .entry)) r) ⌝ }
+    ensures { λ c. ⌜ checkOf c
+        ≡ deskStartChecks (deskOf p q (now (coefs .entry)) (now (generators .entry))) (stateOf (now (stack .entry)) (now (list .entry)) r) ⌝ }
 {
     match shape::check(p, q, coefs.len(), generators.len(), stack.len()) {
         calls::Check::Refuse(why) => DeskCheck::Refuse(why),
@@ -43,7 +45,8 @@ pub fn check_resume(
     list: &[u32],
     r: Record,
 ) -> DeskCheck
-    ensures { λ c. ⌜ checkOf c ≡ deskResumeChecks (deskOf p q (now (coefs .entry)) (now (generators .entry))) (stateOf (now (stack .entry)) (now (list .entry)) r) ⌝ }
+    ensures { λ c. ⌜ checkOf c
+        ≡ deskResumeChecks (deskOf p q (now (coefs .entry)) (now (generators .entry))) (stateOf (now (stack .entry)) (now (list .entry)) r) ⌝ }
 {
     match shape::check(p, q, coefs.len(), generators.len(), stack.len()) {
         calls::Check::Refuse(why) => DeskCheck::Refuse(why),

@@ -7,9 +7,10 @@ ghost use lib.ListN.{length, getD};
 ghost use Rattle.linear.specs.Tests.{allTo};
 ghost use Rattle.definitions.specs.System.{mostComponent};
 ghost use Rattle.desk_form.specs.Desks.{deskInOrder, deskRowInOrder};
-ghost use Rattle.desk_calls.specs.Calls.{deskOf, stateOf};
+ghost use Rattle.calls.specs.Paper.{stateOf};
+ghost use Rattle.desk_calls.specs.Calls.{deskOf};
 ghost use Rattle.desk_checks.specs.Shape.{RowsFit};
-use desk_calls::Record;
+use calls::Record;
 use desk_rows::marks;
 use pair_rows::rows;
 

@@ -53,7 +53,11 @@ fn is_wide(p: usize, q: usize, coefs: &[i32], generators: &[u32]) -> bool
 // Whether the image of generator k is.
 fn wide_image(p: usize, q: usize, coefs: &[i32], generators: &[u32], k: usize) -> bool
     requires { ⌜ SmallDesk p q (now coefs) (now generators) × (k < generatorCount (deskOf p q (now coefs) (now generators))) ⌝ }
-    ensures { λ b. ⌜ b ≡ anyTo p (λ i. ltb imageLimit (natAbs (imageOf (secondGroup (deskOf p q (now (coefs .entry)) (now (generators .entry)))) (generator (deskOf p q (now (coefs .entry)) (now (generators .entry))) k) i))) ⌝ }
+    ensures { λ b. ⌜ b
+        ≡ anyTo p
+        (λ i. ltb imageLimit
+        (natAbs (imageOf (secondGroup (deskOf p q (now (coefs .entry)) (now (generators .entry))))
+        (generator (deskOf p q (now (coefs .entry)) (now (generators .entry))) k) i))) ⌝ }
 {
     let mut i = 0;
     while i < p {

@@ -19,10 +19,12 @@ module _ (d : Desk) where
 
   -- a row kept beside its inner products: those of a child by generator k are the parent's plus the Gram entries of the generators' images
   pub towards-plus : (x : ℕ → ℕ) (k j : ℕ)
-      → towardsGenerator d (plus x (generator d k)) j ≡ towardsGenerator d x j +ℤ inner (d .p) (imageOf (secondGroup d) (generator d k)) (imageOf (secondGroup d) (generator d j))
+      → towardsGenerator d (plus x (generator d k)) j
+      ≡ towardsGenerator d x j +ℤ inner (d .p) (imageOf (secondGroup d) (generator d k)) (imageOf (secondGroup d) (generator d j))
   towards-plus x k j =
       inner-comm (d .p) _ _
-      ∙ inner-cong (d .p) {v = imageOf (secondGroup d) (generator d j)} {v′ = imageOf (secondGroup d) (generator d j)} (λ i l. refl) (λ i l. image-plus x (generator d k) i)
+      ∙ inner-cong (d .p) {v = imageOf (secondGroup d) (generator d j)} {v′ = imageOf (secondGroup d) (generator d j)} (λ i l. refl)
+      (λ i l. image-plus x (generator d k) i)
       ∙ inner-add (d .p) (imageOf (secondGroup d) (generator d j)) (imageOf (secondGroup d) x) (imageOf (secondGroup d) (generator d k))
       ∙ ap₂ _+ℤ_ (inner-comm (d .p) _ _) (inner-comm (d .p) _ _)
 
@@ -50,6 +52,7 @@ module _ (d : Desk) (size : ℕ) (g : DeskShaped d size) (x : ℕ → ℕ) (smal
 pub gram-fits : (d : Desk) (size : ℕ) → DeskShaped d size → (k j : ℕ) → k < generatorCount d → j < generatorCount d
     → natAbs (inner (d .p) (imageOf (secondGroup d) (generator d k)) (imageOf (secondGroup d) (generator d j))) ≤ 392000000000000
 gram-fits d size g k j kn jn =
-    let bound = inner-bound (d .p) imageLimit imageLimit (imageOf (secondGroup d) (generator d k)) (imageOf (secondGroup d) (generator d j)) (λ i ip. g .images k i kn ip) (λ i ip. g .images j i jn ip) in
+    let bound = inner-bound (d .p) imageLimit imageLimit (imageOf (secondGroup d) (generator d k)) (imageOf (secondGroup d) (generator d j))
+    (λ i ip. g .images k i kn ip) (λ i ip. g .images j i jn ip) in
     let most = mul-le-mul-right (imageLimit * imageLimit) (g .p-few) in
     omega (arith, bound, most)

@@ -13,11 +13,13 @@ use Rattle.definitions.specs.Machine.{Outcome, call, checked, unlessDone, walk}
 use Rattle.definitions.specs.Refusals.{check7}
 use Rattle.definitions.specs.Step.{marksTo}
 use Rattle.definitions.specs.System.{covered, isAtOrBelow, solves}
-use Rattle.definitions.specs.Tables.{bit, frozen, writeTo}
+use Rattle.definitions.specs.Tables.{Run, State, bit, cappedRun, deskByDesk, frozen, lowerAbove, lowerPlain, plainRun, writeTo}
 use Rattle.sweeps.specs.Pack.{packTo}
 use Rattle.sweeps.specs.Sweep.{keeps, spoils}
-use Rattle.desk_form.specs.Records.{DeskState, Run, cappedRun, deskByDesk, lowerAbove, lowerPlain, plainRun, recordOf, stateOf}
-use Rattle.desk_form.specs.Desks.{Desk, deskBegin, deskGrown, deskInOrder, deskListed, deskResume, deskResumeChecks, deskRow, deskRowInOrder, deskSearchChecks, deskStart, deskStartChecks, deskStep, deskTooLarge, freed, generatorsInOrder, raises, settled, swept, wide}
+use Rattle.desk_form.specs.Records.{recordOf, stateOf}
+use Rattle.desk_form.specs.Desks.{Desk, deskBegin, deskGrown, deskInOrder, deskListed, deskResume, deskResumeChecks, deskRow, deskRowInOrder}
+use Rattle.desk_form.specs.Desks.{deskSearchChecks, deskStart, deskStartChecks, deskStep, deskTooLarge, freed, generatorsInOrder, raises, settled, swept}
+use Rattle.desk_form.specs.Desks.{wide}
 
 -- what a run comes to: its answer, its rows and what stands past them in the list table, height, steps and the greatest sum
 record Summary : Type 0 where
@@ -28,7 +30,7 @@ record Summary : Type 0 where
   steps : ℕ
   deepest : ℕ
 
-summed : Desk → Outcome DeskState → Summary
+summed : Desk → Outcome State → Summary
 summed d o =
     record {
       answer = o .answer;
@@ -40,7 +42,7 @@ summed d o =
     }
 
 -- a stack table of 40 numbers and a list table, all 9, and a record of some kind
-lent : Run → ℕ → DeskState
+lent : Run → ℕ → State
 lent k length = stateOf (replicate 40 9) (replicate length 9) (recordOf k 0 0 9 9)
 
 -- a start, and a continuing call, with a list table of `length` numbers
@@ -77,19 +79,22 @@ runs-hold :
     (ran 11 100 example ≡ record { answer = complete; rows = 4 ∷ 2 ∷ 1 ∷ 0 ∷ 0 ∷ 1 ∷ 1 ∷ 1 ∷ []; past = 9 ∷ 9 ∷ 9 ∷ []; height = 0; steps = 19; deepest = 24 })
     × (ran 11 14 meeting ≡ record { answer = paused; rows = 6 ∷ 8 ∷ 10 ∷ 3 ∷ 4 ∷ 5 ∷ []; past = 9 ∷ 9 ∷ 9 ∷ 9 ∷ 9 ∷ []; height = 1; steps = 14; deepest = 24 })
     -- "entries past the count after a sweep keep what they held before it"
-    × (ran 11 100 meeting ≡ record { answer = complete; rows = 3 ∷ 4 ∷ 5 ∷ []; past = 3 ∷ 4 ∷ 5 ∷ 9 ∷ 9 ∷ 9 ∷ 9 ∷ 9 ∷ []; height = 0; steps = 15; deepest = 24 })
+    × (ran 11 100 meeting
+    ≡ record { answer = complete; rows = 3 ∷ 4 ∷ 5 ∷ []; past = 3 ∷ 4 ∷ 5 ∷ 9 ∷ 9 ∷ 9 ∷ 9 ∷ 9 ∷ []; height = 0; steps = 15; deepest = 24 })
     × (ran 5 100 meeting ≡ record { answer = refused 11 []; rows = 6 ∷ 8 ∷ 10 ∷ []; past = 9 ∷ 9 ∷ []; height = 2; steps = 12; deepest = 24 })
     × (ran 7 100 freeing ≡ record { answer = complete; rows = 1 ∷ 5 ∷ 2 ∷ []; past = 1 ∷ 5 ∷ 2 ∷ 9 ∷ []; height = 0; steps = 13; deepest = 24 })
     × (ran 4 100 large ≡ record { answer = refused 12 []; rows = []; past = 9 ∷ 9 ∷ 9 ∷ 9 ∷ []; height = 1; steps = 1; deepest = 500100 })
     × (ran 5 0 nothing ≡ record { answer = complete; rows = []; past = 9 ∷ 9 ∷ 9 ∷ 9 ∷ 9 ∷ []; height = 0; steps = 0; deepest = 0 })
-unfolding lent ran summed example meeting freeing large nothing packTo deskRow deskStart raises deskGrown freed deskListed deskStep keeps spoils swept settled deskTooLarge deskSearchChecks generatorsInOrder deskRowInOrder deskInOrder wide deskStartChecks deskResumeChecks deskBegin checked unlessDone walk call check7 refuseWith _then_ refuseFirst marksTo covered isAtOrBelow solves bit frozen writeTo allTo anyTo countTo total inner value sumTo
+unfolding lent ran summed example meeting freeing large nothing packTo deskRow deskStart raises deskGrown freed deskListed deskStep keeps spoils swept settled
+    deskTooLarge deskSearchChecks generatorsInOrder deskRowInOrder deskInOrder wide deskStartChecks deskResumeChecks deskBegin checked unlessDone walk
+    call check7 refuseWith _then_ refuseFirst marksTo covered isAtOrBelow solves bit frozen writeTo allTo anyTo countTo total inner value sumTo
 runs-hold = (refl, refl, refl, refl, refl, refl, refl)
 
 -- ---- the sweep
 
 -- of 2 0, 1 1, 2 0, 0 3, 1 2 the third repeats the first and the fifth lies above the second: the others stay, in their order, and past them the table holds
 -- what it held
-sweeping : DeskState
+sweeping : State
 sweeping = stateOf [] (2 ∷ 0 ∷ 1 ∷ 1 ∷ 2 ∷ 0 ∷ 0 ∷ 3 ∷ 1 ∷ 2 ∷ 9 ∷ []) (recordOf deskByDesk 0 5 7 8)
 
 sweep-holds : swept 2 sweeping ≡ stateOf [] (2 ∷ 0 ∷ 1 ∷ 1 ∷ 0 ∷ 3 ∷ 0 ∷ 3 ∷ 1 ∷ 2 ∷ 9 ∷ []) (recordOf deskByDesk 0 3 7 8)
@@ -103,7 +108,8 @@ ones : ℕ → List ℤ → Desk
 ones n coefs = record { p = 1; q = 1; coefs = coefs; generators = replicate n 1 }
 
 -- "two numbers a row, loops 1 to 32 in the first": of the rows of 34 generators, row 33 has marks 1 to 32 and row 34 marks 1 to 33
-marks-hold : take 6 (drop 96 (deskStart (ones 34 []) (stateOf (replicate 105 9) [] (recordOf plainRun 9 9 9 9)) .stack)) ≡ 1 ∷ 4294967295 ∷ 0 ∷ 1 ∷ 4294967295 ∷ 1 ∷ []
+marks-hold : take 6 (drop 96 (deskStart (ones 34 []) (stateOf (replicate 105 9) [] (recordOf plainRun 9 9 9 9)) .stack))
+    ≡ 1 ∷ 4294967295 ∷ 0 ∷ 1 ∷ 4294967295 ∷ 1 ∷ []
 unfolding ones deskStart packTo deskRow writeTo countTo
 marks-hold = refl
 
@@ -135,5 +141,6 @@ refusals-hold :
     × (resume-answer lowerPlain (ones 2 (pos 1 ∷ [])) ≡ refused 6 [])
     × (resume-answer lowerAbove (ones 2 (pos 1 ∷ [])) ≡ refused 6 [])
     × (resume-answer deskByDesk (ones 65 (pos 1 ∷ [])) ≡ refused 25 [])
-unfolding ones start-answer resume-answer keeps spoils swept packTo settled deskStart generatorsInOrder deskRowInOrder deskInOrder wide deskStartChecks deskResumeChecks deskBegin checked unlessDone walk call check7 refuseWith _then_ refuseFirst isAtOrBelow writeTo allTo anyTo countTo inner value sumTo
+unfolding ones start-answer resume-answer keeps spoils swept packTo settled deskStart generatorsInOrder deskRowInOrder deskInOrder wide deskStartChecks
+    deskResumeChecks deskBegin checked unlessDone walk call check7 refuseWith _then_ refuseFirst isAtOrBelow writeTo allTo anyTo countTo inner value sumTo
 refusals-hold = (refl, refl, refl, refl, refl, refl, refl, refl, refl, refl, refl, refl, refl, refl)

@@ -70,7 +70,9 @@ module _ (d : Desk) (stack : List ℕ) (long : generatorCount d * (d .q + 2) ≤
   start-row k l =
       row-is (d .q) _ k _ _ (λ x xw.
       let place : 0 + countTo k always ≡ k = omega (arith, all-counted k) in
-      rw place at (pack-row (d .q + 2) stack 0 always (λ k. deskRow (d .q) (generator d k) (2 ^ k - 1)) (generatorCount d) long (generatorCount d) (omega (arith, all-counted (generatorCount d))) k l tt x xw))
+      rw place at
+      (pack-row (d .q + 2) stack 0 always (λ k. deskRow (d .q) (generator d k) (2 ^ k - 1)) (generatorCount d) long (generatorCount d)
+      (omega (arith, all-counted (generatorCount d))) k l tt x xw))
 
 -- ---- when raising makes a child
 
@@ -99,7 +101,9 @@ module _ (d : Desk) (list : List ℕ) (found : ℕ) (x : ℕ → ℕ) (marks : �
         | inl y ↦
             let (i, l, b) = any-at found (λ i. isAtOrBelow (d .q) (row i) (plus x (generator d j))) y in
             inr (i, l, below-from (d .q) _ _ b)
-        | inr y ↦ inl (and-both (not (frozen marks j)) _ (not-T (frozen marks j) f) (and-both (ltZ (towardsGenerator d x j) (pos 0)) _ (a .lt) (not-T (covers (plus x (generator d j))) y)))
+        | inr y ↦ inl
+            (and-both (not (frozen marks j)) _ (not-T (frozen marks j) f)
+            (and-both (ltZ (towardsGenerator d x j) (pos 0)) _ (a .lt) (not-T (covers (plus x (generator d j))) y)))
       ]
 
 -- ---- the children of a step

@@ -4,6 +4,7 @@ use mathlib.Core.Logic.{_≢_, _⊎_, inl, inr}
 use mathlib.Core.Bool.{Bool, not, _&&_, _||_}
 use mathlib.Core.List.{List}
 use Prim.Native.Nat.{ℕ, _+_, _*_, _^_, _%_, _≤_, _<_}
+use native.Mathlib.Decide.{ℕ-discrete}
 use native.Mathlib.Omega.{arith}
 use lib.Dec.{T, T-not, not-T, eqb, eqb-refl, eqb→eq, leb, leb→le, le→leb, ltb, ltb→lt, lt→ltb}
 use lib.IntN.{natAbs}
@@ -12,15 +13,17 @@ use Rattle.linear.specs.Cases.{split}
 use Rattle.linear.specs.Systems.{Fails, Solution}
 use Rattle.linear.specs.TestLaws.{T-dec, all-at, all-from, all-not, and-both, and-parts, any-at, any-from, or-cases, or-left, or-right}
 use Rattle.linear.specs.Tests.{allTo, anyTo, countTo}
-use Rattle.definitions.specs.Answers.{Check, refuseIf}
+use Rattle.definitions.specs.Answers.{Check, go, refuseIf}
 use Rattle.definitions.specs.Refusals.{stepLimit}
 use Rattle.definitions.specs.System.{coef, imageOf, mostComponent, mostEquations, mostUnknowns, solves}
-use Rattle.definitions.specs.Tables.{capacity, frozen}
+use Rattle.definitions.specs.Tables.{State, capacity, frozen}
 use Rattle.laws.specs.CheckLaws.{Decides, Renders, Rule, Rules, _▹_, decides-if, end, renders-last, renders-then, rule}
 use Rattle.laws.specs.RefusalLaws.{Outside, decides-outside, decides-range, rangeRule}
 use Rattle.laws.specs.SystemLaws.{fails-fails, solution-solves, solves-solution}
-use Rattle.desk_form.specs.Records.{DeskState, IsDesk, desk-is, is-desk, isDesk}
-use Rattle.desk_form.specs.Desks.{Desk, deepestLimit, deskCheck3, deskCheck4, deskChecks, deskFull, deskInOrder, deskMakes, deskMarks, deskResumeChecks, deskRowInOrder, deskSearchChecks, deskStartChecks, deskTooLarge, deskTop, deskTuple, freed, generator, generatorCount, generatorsInOrder, groupInput, imageLimit, mostGenerators, plus, secondGroup, wide}
+use Rattle.desk_form.specs.Records.{IsDesk, desk-is, is-desk, isDesk}
+use Rattle.desk_form.specs.Desks.{Desk, deepestLimit, deskCheck3, deskCheck4, deskChecks, deskFull, deskInOrder, deskMakes, deskMarks, deskResumeChecks}
+use Rattle.desk_form.specs.Desks.{deskRowInOrder, deskSearchChecks, deskStartChecks, deskTooLarge, deskTop, deskTuple, freed, generator, generatorCount}
+use Rattle.desk_form.specs.Desks.{generatorsInOrder, groupInput, imageLimit, mostGenerators, plus, secondGroup, wide}
 
 -- ---- the cases
 
@@ -36,7 +39,7 @@ pub data BadDeskRow (d : Desk) (stack : List ℕ) (k : ℕ) : Type 0 where
 
 -- "A record of one kind of run .. given to a continuing call of another kind"; "height above" the number of generators, "found above the room, steps above
 -- 1,000,000,000,000; or" such a row; "a value above 16,000,000"
-pub data DeskOutOfOrder (d : Desk) (s : DeskState) : Type 0 where
+pub data DeskOutOfOrder (d : Desk) (s : State) : Type 0 where
   other-kind : ¬ (IsDesk (s .run)) → DeskOutOfOrder d s
   high : generatorCount d < s .run .height → DeskOutOfOrder d s
   many : capacity (d .q) (s .list) < s .run .found → DeskOutOfOrder d s
@@ -46,16 +49,18 @@ pub data DeskOutOfOrder (d : Desk) (s : DeskState) : Type 0 where
 
 -- "more than 64 loops or a second-group image of one above 7,000,000 in size"
 abbrev pub Wide : Desk → Type 0
-Wide d = (mostGenerators < generatorCount d) ⊎ ((k : ℕ) × (k < generatorCount d) × (i : ℕ) × (i < d .p) × (imageLimit < natAbs (imageOf (secondGroup d) (generator d k) i)))
+Wide d =
+    (mostGenerators < generatorCount d) ⊎
+    ((k : ℕ) × (k < generatorCount d) × (i : ℕ) × (i < d .p) × (imageLimit < natAbs (imageOf (secondGroup d) (generator d k) i)))
 
 -- "12 for any component above 1,000,000": a child would have it
-abbrev pub LargeChild : Desk → DeskState → Type 0
+abbrev pub LargeChild : Desk → State → Type 0
 LargeChild d s = (j : ℕ) × (j < generatorCount d) × T (deskMakes d s j) × (i : ℕ) × (i < d .q) × (mostComponent < plus (deskTop d s) (generator d j) i)
 
 -- ---- the rules of each call
 
 -- each checks 1 to 4, then its own 6, then 7 and, last before the walk, 25
-abbrev pub deskRules : Desk → DeskState → Rule → Rules
+abbrev pub deskRules : Desk → State → Rule → Rules
 deskRules d s own =
     rule 1 (Outside 1 mostEquations (d .p))
     ▹ rule 2 (Outside 1 mostUnknowns (d .q))
@@ -66,14 +71,14 @@ deskRules d s own =
     ▹ rule 25 (Wide d)
     ▹ end
 
-abbrev pub deskStartRules : Desk → DeskState → Rules
+abbrev pub deskStartRules : Desk → State → Rules
 deskStartRules d s = deskRules d s (rule 6 (LargeGenerator d))
 
-abbrev pub deskResumeRules : Desk → DeskState → Rules
+abbrev pub deskResumeRules : Desk → State → Rules
 deskResumeRules d s = deskRules d s (rule 6 (LargeGenerator d ⊎ DeskOutOfOrder d s))
 
 -- "14, 11, 12 keep their order"; "11 only if the sweep frees no row"
-abbrev pub deskSearchRules : Desk → DeskState → Rules
+abbrev pub deskSearchRules : Desk → State → Rules
 deskSearchRules d s =
     rule 14 (s .run .steps ≡ stepLimit)
     ▹ rule 11 (Solution (d .p) (d .q) (coef (secondGroup d)) (deskTop d s) × (capacity (d .q) (s .list) ≤ freed d s .run .found))
@@ -93,8 +98,17 @@ module _ (d : Desk) where
   decides-numbers =
       let b : Bool = not (eqb (length (d .coefs)) (d .p * d .q)) in
       decides-if (b || not (eqb (length (d .generators) % d .q) 0)) 3 _
-      (λ h. elim (or-cases b _ h) [ inl x ↦ inl (unequal-from (length (d .coefs)) (d .p * d .q) x) | inr x ↦ inr (unequal-from (length (d .generators) % d .q) 0 x) ])
-      (λ h. elim h [ inl x ↦ or-left b _ (unequal-to (length (d .coefs)) (d .p * d .q) x) | inr x ↦ or-right b _ (unequal-to (length (d .generators) % d .q) 0 x) ])
+      (λ h. elim
+      (or-cases b _ h) [ inl x ↦ inl (unequal-from (length (d .coefs)) (d .p * d .q) x) | inr x ↦ inr (unequal-from (length (d .generators) % d .q) 0 x) ])
+      (λ h. elim h [
+        | inl x ↦ or-left b _ (unequal-to (length (d .coefs)) (d .p * d .q) x)
+        | inr x ↦ or-right b _
+            (unequal-to (length (d .generators) % d .q) 0 x)
+      ])
+
+  pub numbers-go : deskCheck3 d ≡ go → length (d .coefs) ≡ d .p * d .q
+  numbers-go e =
+      elim (ℕ-discrete (length (d .coefs)) (d .p * d .q)) [ yes same ↦ same | no ne ↦ absurd (decides-numbers .goes e (inl ne)) ]
 
   large-generator : ¬ (T (generatorsInOrder d)) → LargeGenerator d
   unfolding generatorsInOrder
@@ -104,10 +118,12 @@ module _ (d : Desk) where
 
   not-large : LargeGenerator d → ¬ (T (generatorsInOrder d))
   unfolding generatorsInOrder
-  not-large (i, l, y) h = omega (arith, leb→le (getD (d .generators) i 0) mostComponent (all-at (length (d .generators)) (λ i. leb (getD (d .generators) i 0) mostComponent) h i l))
+  not-large (i, l, y) h =
+      omega (arith, leb→le (getD (d .generators) i 0) mostComponent (all-at (length (d .generators)) (λ i. leb (getD (d .generators) i 0) mostComponent) h i l))
 
   decides-generators : Decides (refuseIf (not (generatorsInOrder d)) 6) (rule 6 (LargeGenerator d))
-  decides-generators = decides-if (not (generatorsInOrder d)) 6 _ (λ h. large-generator (T-not (generatorsInOrder d) h)) (λ b. not-T (generatorsInOrder d) (not-large b))
+  decides-generators =
+      decides-if (not (generatorsInOrder d)) 6 _ (λ h. large-generator (T-not (generatorsInOrder d) h)) (λ b. not-T (generatorsInOrder d) (not-large b))
 
   abbrev wideAt : ℕ → Bool
   wideAt k = anyTo (d .p) (λ i. ltb imageLimit (natAbs (imageOf (secondGroup d) (generator d k) i)))
@@ -125,7 +141,10 @@ module _ (d : Desk) where
       ])
       (λ h. elim h [
         | inl x ↦ or-left (ltb mostGenerators (generatorCount d)) _ (lt→ltb mostGenerators (generatorCount d) x)
-        | inr (k, kn, i, ip, z) ↦ or-right (ltb mostGenerators (generatorCount d)) _ (any-from (generatorCount d) wideAt k kn (any-from (d .p) (λ i. ltb imageLimit (natAbs (imageOf (secondGroup d) (generator d k) i))) i ip (lt→ltb imageLimit (natAbs (imageOf (secondGroup d) (generator d k) i)) z)))
+        | inr (k, kn, i, ip, z) ↦ or-right (ltb mostGenerators (generatorCount d)) _
+            (any-from (generatorCount d) wideAt k kn
+            (any-from (d .p) (λ i. ltb imageLimit (natAbs (imageOf (secondGroup d) (generator d k) i))) i ip
+            (lt→ltb imageLimit (natAbs (imageOf (secondGroup d) (generator d k) i)) z)))
       ])
 
 -- ---- a row and a record in order
@@ -135,7 +154,7 @@ pub record DeskRowInOrder (d : Desk) (stack : List ℕ) (k : ℕ) : Type 0 where
   pub fitting : deskMarks (d .q) stack k < 2 ^ generatorCount d
   pub marked : countTo (generatorCount d) (frozen (deskMarks (d .q) stack k)) ≡ k
 
-pub record DeskInOrder (d : Desk) (s : DeskState) : Type 0 where
+pub record DeskInOrder (d : Desk) (s : State) : Type 0 where
   pub own : IsDesk (s .run)
   pub height : s .run .height ≤ generatorCount d
   pub found : s .run .found ≤ capacity (d .q) (s .list)
@@ -174,10 +193,17 @@ module _ (d : Desk) (stack : List ℕ) (k : ℕ) where
       elim (T-dec (allTo (d .q) smallAt)) [
         | inr n ↦
             let (j, l, y) = all-not (d .q) smallAt n in
-            large j l (elim (split mostComponent (deskTuple (d .q) stack k j)) [ inl x ↦ x | inr x ↦ absurd (y (le→leb (deskTuple (d .q) stack k j) mostComponent x)) ])
+            large j l
+            (elim (split mostComponent (deskTuple (d .q) stack k j)) [
+              | inl x ↦ x
+              | inr x ↦ absurd
+                  (y (le→leb (deskTuple (d .q) stack k j) mostComponent x))
+            ])
         | inl a ↦ elim (split marks (2 ^ generatorCount d)) [
           | inr x ↦ beyond x
-          | inl x ↦ miscounted (λ e. h (row-to (record { small = λ j l. leb→le (deskTuple (d .q) stack k j) mostComponent (all-at (d .q) smallAt a j l); fitting = x; marked = e })))
+          | inl x ↦ miscounted
+              (λ e. h (row-to
+              (record { small = λ j l. leb→le (deskTuple (d .q) stack k j) mostComponent (all-at (d .q) smallAt a j l); fitting = x; marked = e })))
         ]
       ]
 
@@ -186,7 +212,7 @@ module _ (d : Desk) (stack : List ℕ) (k : ℕ) where
   bad-row (beyond h) r = omega (arith, r .fitting)
   bad-row (miscounted ne) r = ne (r .marked)
 
-module _ (d : Desk) (s : DeskState) where
+module _ (d : Desk) (s : State) where
   pub order-from : T (deskInOrder d s) → DeskInOrder d s
   unfolding deskInOrder
   order-from h =
@@ -264,7 +290,8 @@ module _ (d : Desk) (s : DeskState) where
         | inr n ↦ inl (large-generator d n)
         | inl y ↦ inr (out-of (λ o. T-not (generatorsInOrder d && own) h (and-both (generatorsInOrder d) own y o)))
       ])
-      (λ b. not-T (generatorsInOrder d && own) (λ h. let (y, o) = and-parts (generatorsInOrder d) own h in elim b [ inl x ↦ not-large d x y | inr x ↦ not-order x (order-from o) ]))
+      (λ b. not-T (generatorsInOrder d && own)
+      (λ h. let (y, o) = and-parts (generatorsInOrder d) own h in elim b [ inl x ↦ not-large d x y | inr x ↦ not-order x (order-from o) ]))
 
   -- ---- the calls
 
@@ -291,7 +318,8 @@ module _ (d : Desk) (s : DeskState) where
   abbrev sol : Bool
   sol = solves (secondGroup d) (deskTop d s)
 
-  decides-full : Decides (refuseIf (sol && deskFull d s) 11) (rule 11 (Solution (d .p) (d .q) (coef (secondGroup d)) (deskTop d s) × (capacity (d .q) (s .list) ≤ freed d s .run .found)))
+  decides-full : Decides (refuseIf (sol && deskFull d s) 11)
+      (rule 11 (Solution (d .p) (d .q) (coef (secondGroup d)) (deskTop d s) × (capacity (d .q) (s .list) ≤ freed d s .run .found)))
   decides-full =
       decides-if (sol && deskFull d s) 11 _
       (λ h. let (y, l) = and-parts sol _ h in (solves-solution (secondGroup d) (deskTop d s) y, leb→le (capacity (d .q) (s .list)) (freed d s .run .found) l))
@@ -312,7 +340,9 @@ module _ (d : Desk) (s : DeskState) where
   unfolding deskTooLarge
   large-to (j, jn, mj, i, iq, l) =
       any-from (generatorCount d) (λ j. deskMakes d s j && largeAt j) j jn
-      (and-both (deskMakes d s j) (largeAt j) mj (any-from (d .q) (λ i. ltb mostComponent (plus (deskTop d s) (generator d j) i)) i iq (lt→ltb mostComponent (plus (deskTop d s) (generator d j) i) l)))
+      (and-both (deskMakes d s j) (largeAt j) mj
+      (any-from (d .q) (λ i. ltb mostComponent (plus (deskTop d s) (generator d j) i)) i iq
+      (lt→ltb mostComponent (plus (deskTop d s) (generator d j) i) l)))
 
   decides-over : Decides (refuseIf (not sol && deskTooLarge d s) 12) (rule 12 (Fails (d .p) (d .q) (coef (secondGroup d)) (deskTop d s) × LargeChild d s))
   decides-over =

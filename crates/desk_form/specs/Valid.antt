@@ -17,7 +17,7 @@ use Rattle.linear.specs.TupleLaws.{total-most}
 use Rattle.definitions.specs.Answers.{go}
 use Rattle.definitions.specs.Refusals.{stepLimit}
 use Rattle.definitions.specs.System.{coefLimit, imageOf, mostComponent, mostEquations, mostUnknowns, solves}
-use Rattle.definitions.specs.Tables.{at, capacity, frozen}
+use Rattle.definitions.specs.Tables.{State, at, capacity, frozen}
 use Rattle.laws.specs.CheckLaws.{AllSilent}
 use Rattle.laws.specs.MarkLaws.{marks-count, marks-few, marks-fit, ones-count, ones-fit}
 use Rattle.laws.specs.RefusalLaws.{at-most, equal}
@@ -26,10 +26,13 @@ use Rattle.laws.specs.TableLaws.{row-before, write-length}
 use Rattle.sweeps.specs.Again.{sweep-again, table-swept}
 use Rattle.sweeps.specs.Pack.{pack-beyond, pack-length}
 use Rattle.sweeps.specs.SweepLaws.{Swept}
-use Rattle.desk_form.specs.Records.{DeskState, IsDesk, desk-is, is-desk, isDesk, lentWith, recounted}
-use Rattle.desk_form.specs.Desks.{Desk, always, deepestLimit, deskDeeper, deskGrown, deskLevel, deskListed, deskMakes, deskMarks, deskResumeChecks, deskSearchChecks, deskStart, deskStartChecks, deskStep, deskTop, deskTopMarks, deskTuple, freed, generator, generatorCount, imageLimit, isDone, isFull, mostGenerators, plus, secondGroup, settled, stays, swept}
+use Rattle.desk_form.specs.Records.{IsDesk, desk-is, is-desk, isDesk, lentWith, recounted}
+use Rattle.desk_form.specs.Desks.{Desk, always, deepestLimit, deskDeeper, deskGrown, deskLevel, deskListed, deskMakes, deskMarks, deskResumeChecks}
+use Rattle.desk_form.specs.Desks.{deskSearchChecks, deskStart, deskStartChecks, deskStep, deskTop, deskTopMarks, deskTuple, freed, generator}
+use Rattle.desk_form.specs.Desks.{generatorCount, imageLimit, isDone, isFull, mostGenerators, plus, secondGroup, settled, stays, swept}
 use Rattle.desk_form.specs.Rows.{child-is, marks-kept, raises-free, rows-kept, start-row}
-use Rattle.desk_form.specs.Rules.{DeskInOrder, DeskOutOfOrder, DeskRowInOrder, beyond, deep, deskResumeRules, high, large, late, many, miscounted, not-order, other-kind, resume-renders, row, search-renders, start-renders}
+use Rattle.desk_form.specs.Rules.{DeskInOrder, DeskOutOfOrder, DeskRowInOrder, beyond, deep, deskResumeRules, high, large, late, many, miscounted}
+use Rattle.desk_form.specs.Rules.{not-order, other-kind, resume-renders, row, search-renders, start-renders}
 
 -- ---- what is known once a call has made its checks
 
@@ -48,11 +51,11 @@ pub record DeskShaped (d : Desk) (size : ℕ) : Type 0 where
   pub images : (k i : ℕ) → k < generatorCount d → i < d .p → natAbs (imageOf (secondGroup d) (generator d k) i) ≤ imageLimit
 
 -- a continuing call goes on: the shape, and the record and tables in order
-pub record DeskValid (d : Desk) (s : DeskState) : Type 0 where
+pub record DeskValid (d : Desk) (s : State) : Type 0 where
   pub shaped : DeskShaped d (length (s .stack))
   pub ordered : DeskInOrder d s
 
-module _ (d : Desk) (s : DeskState) where
+module _ (d : Desk) (s : State) where
   pub start-shaped : deskStartChecks d s ≡ go → DeskShaped d (length (s .stack))
   start-shaped e =
       let (a1, (a2, (a3, (a4, (a6, (a7, (a25, u))))))) = start-renders d s .goes e in
@@ -107,7 +110,10 @@ module _ (d : Desk) (s : DeskState) where
           λ l. omega (arith, g .stack),
           (
             λ b. elim b [ inl (i, l, h) ↦ omega (arith, g .handed i l) | inr x ↦ n x ],
-            (λ i l h. omega (arith, g .range i l), (λ b. elim b [ inl l ↦ omega (arith, g .few) | inr (k, kn, i, ip, h) ↦ omega (arith, g .images k i kn ip) ], tt)),
+            (
+              λ i l h. omega (arith, g .range i l),
+              (λ b. elim b [ inl l ↦ omega (arith, g .few) | inr (k, kn, i, ip, h) ↦ omega (arith, g .images k i kn ip) ], tt),
+            ),
           ),
         ),
       ),
@@ -119,27 +125,28 @@ module _ (d : Desk) (s : DeskState) where
 
 -- ---- what lets a step be taken
 
-pub record DeskGoing (d : Desk) (s : DeskState) : Type 0 where
+pub record DeskGoing (d : Desk) (s : State) : Type 0 where
   pub high : 0 < s .run .height
   pub early : s .run .steps < stepLimit
   pub roomy : T (solves (secondGroup d) (deskTop d s)) → freed d s .run .found < capacity (d .q) (s .list)
   pub small : ¬ (T (solves (secondGroup d) (deskTop d s))) → (j : ℕ) → j < generatorCount d → T (deskMakes d s j) → (i : ℕ) → i < d .q
       → plus (deskTop d s) (generator d j) i ≤ mostComponent
 
-pub search-going : (d : Desk) (s : DeskState) → DeskInOrder d s → 0 < s .run .height → deskSearchChecks d s ≡ go → DeskGoing d s
+pub search-going : (d : Desk) (s : State) → DeskInOrder d s → 0 < s .run .height → deskSearchChecks d s ≡ go → DeskGoing d s
 search-going d s o h e =
     let (last, (full, (over, u))) = search-renders d s .goes e in
     record {
       high = h;
       early = omega (arith, o .early, last);
       roomy = λ y. at-most (suc (freed d s .run .found)) (capacity (d .q) (s .list)) (λ l. full (solves-solution (secondGroup d) (deskTop d s) y, omega arith));
-      small = λ n j jn mj i iq. at-most (plus (deskTop d s) (generator d j) i) mostComponent (λ l. over (fails-fails (secondGroup d) (deskTop d s) n, (j, jn, mj, i, iq, l)));
+      small = λ n j jn mj i iq. at-most (plus (deskTop d s) (generator d j) i) mostComponent
+          (λ l. over (fails-fails (secondGroup d) (deskTop d s) n, (j, jn, mj, i, iq, l)));
     }
 
 -- ---- a sweep
 
 -- t is s but for the rows listed and their number
-pub record SweepOf (s t : DeskState) : Type 0 where
+pub record SweepOf (s t : State) : Type 0 where
   pub stack : t .stack ≡ s .stack
   pub kind : IsDesk (s .run) → IsDesk (t .run)
   pub height : t .run .height ≡ s .run .height
@@ -148,7 +155,7 @@ pub record SweepOf (s t : DeskState) : Type 0 where
   pub length-same : length (t .list) ≡ length (s .list)
   pub fewer : t .run .found ≤ s .run .found
 
-pub swept-of : (q : ℕ) (s : DeskState) → SweepOf s (swept q s)
+pub swept-of : (q : ℕ) (s : State) → SweepOf s (swept q s)
 unfolding swept
 swept-of q s =
     record {
@@ -161,11 +168,11 @@ swept-of q s =
       fewer = count-le (stays q s) (s .run .found);
     }
 
-none-of : (s : DeskState) → SweepOf s s
+none-of : (s : State) → SweepOf s s
 none-of s = record { stack = refl; kind = λ e. e; height = refl; steps = refl; deepest = refl; length-same = refl; fewer = omega arith }
 
 -- what a sweep keeps, it keeps where it may be due
-module _ (P : DeskState → Type 0) (d : Desk) (s : DeskState) (after : P (swept (d .q) s)) (now : P s) where
+module _ (P : State → Type 0) (d : Desk) (s : State) (after : P (swept (d .q) s)) (now : P s) where
   maybe : (b : Bool) → P (cond b (swept (d .q) s) s)
   maybe true = after
   maybe false = now
@@ -178,16 +185,16 @@ module _ (P : DeskState → Type 0) (d : Desk) (s : DeskState) (after : P (swept
   unfolding settled
   settled-has = maybe (isDone s)
 
-pub freed-of : (d : Desk) (s : DeskState) → SweepOf s (freed d s)
+pub freed-of : (d : Desk) (s : State) → SweepOf s (freed d s)
 freed-of d s = freed-has (SweepOf s) d s (swept-of (d .q) s) (none-of s)
 
-pub settled-of : (d : Desk) (s : DeskState) → SweepOf s (settled d s)
+pub settled-of : (d : Desk) (s : State) → SweepOf s (settled d s)
 settled-of d s = settled-has (SweepOf s) d s (swept-of (d .q) s) (none-of s)
 
-pub same-top : (d : Desk) {s t : DeskState} → SweepOf s t → deskTop d t ≡ deskTop d s
+pub same-top : (d : Desk) {s t : State} → SweepOf s t → deskTop d t ≡ deskTop d s
 same-top d o = ap₂ (λ stack h. at stack (d .q + 2) (h - 1)) (o .stack) (o .height)
 
-pub sweep-valid : {d : Desk} {s t : DeskState} → SweepOf s t → DeskValid d s → DeskValid d t
+pub sweep-valid : {d : Desk} {s t : State} → SweepOf s t → DeskValid d s → DeskValid d t
 sweep-valid {d} {s} {t} o v =
     record {
       shaped = rw (o .stack) (v .shaped);
@@ -204,7 +211,7 @@ sweep-valid {d} {s} {t} o v =
 
 -- ---- the start
 
-module _ (d : Desk) (s : DeskState) (g : DeskShaped d (length (s .stack))) where
+module _ (d : Desk) (s : State) (g : DeskShaped d (length (s .stack))) where
   pub generator-small : (k : ℕ) → k < generatorCount d → (j : ℕ) → j < d .q → generator d k j ≤ mostComponent
   generator-small k kn j jq =
       let long = le-div-iff-mul-le {k = d .q} {x = generatorCount d} {y = length (d .generators)} (g .q-some) .0 (omega arith) in
@@ -234,7 +241,7 @@ module _ (d : Desk) (s : DeskState) (g : DeskShaped d (length (s .stack))) where
 
 -- ---- a step
 
-module _ (d : Desk) (s : DeskState) (v : DeskValid d s) (h : 0 < s .run .height) where
+module _ (d : Desk) (s : State) (v : DeskValid d s) (h : 0 < s .run .height) where
   top-row : DeskRowInOrder d (s .stack) (deskLevel s)
   top-row = v .ordered .rows (deskLevel s) (omega arith)
 
@@ -320,7 +327,7 @@ module _ (d : Desk) (s : DeskState) (v : DeskValid d s) (h : 0 < s .run .height)
         }
 
 -- the two ways of a step
-module _ (P : DeskState → Type 0) (d : Desk) (s : DeskState) where
+module _ (P : State → Type 0) (d : Desk) (s : State) where
   pub step-has : (T (solves (secondGroup d) (deskTop d s)) → P (deskListed d (freed d s))) → (¬ (T (solves (secondGroup d) (deskTop d s))) → P (deskGrown d s))
       → P (deskStep d s)
   unfolding deskStep
@@ -330,18 +337,18 @@ module _ (P : DeskState → Type 0) (d : Desk) (s : DeskState) where
       go′ true y n = y tt
       go′ false y n = n (λ h. h)
 
-pub freed-valid : (d : Desk) (s : DeskState) → DeskValid d s → DeskValid d (freed d s)
+pub freed-valid : (d : Desk) (s : State) → DeskValid d s → DeskValid d (freed d s)
 freed-valid d s v = sweep-valid (freed-of d s) v
 
-pub settled-valid : (d : Desk) (s : DeskState) → DeskValid d s → DeskValid d (settled d s)
+pub settled-valid : (d : Desk) (s : State) → DeskValid d s → DeskValid d (settled d s)
 settled-valid d s v = sweep-valid (settled-of d s) v
 
 -- after the sweep of a full list there is room for the solution that is due
-pub freed-room : (d : Desk) (s : DeskState) → DeskGoing d s → T (solves (secondGroup d) (deskTop d s))
+pub freed-room : (d : Desk) (s : State) → DeskGoing d s → T (solves (secondGroup d) (deskTop d s))
     → freed d s .run .found < capacity (d .q) (freed d s .list)
 freed-room d s g y = rw (freed-of d s .length-same) (g .roomy y)
 
-pub step-valid : (d : Desk) (s : DeskState) → DeskValid d s → DeskGoing d s → DeskValid d (deskStep d s)
+pub step-valid : (d : Desk) (s : State) → DeskValid d s → DeskGoing d s → DeskValid d (deskStep d s)
 step-valid d s v g =
     let o = freed-of d s in
     step-has (DeskValid d) d s
@@ -349,7 +356,7 @@ step-valid d s v g =
     (λ n. grown-valid d s v (g .high) (g .small n) (g .early))
 
 -- at height 0 the list is swept
-pub settled-done : (d : Desk) (s : DeskState) → s .run .height ≡ 0 → settled d s ≡ swept (d .q) s
+pub settled-done : (d : Desk) (s : State) → s .run .height ≡ 0 → settled d s ≡ swept (d .q) s
 unfolding settled
 settled-done d s e = rw e refl
 
@@ -357,27 +364,27 @@ settled-done d s e = rw e refl
 
 -- "removes each row that lies above another row or repeats an earlier one, and closes the gaps, order kept": the rows that stay, in their order; and past their
 -- number every entry of the table keeps what it held
-pub record SweepLeaves (q : ℕ) (s t : DeskState) : Type 0 where
+pub record SweepLeaves (q : ℕ) (s t : State) : Type 0 where
   pub rows : Swept q (s .run .found) (at (s .list) q) (t .run .found) (at (t .list) q)
   pub past : (e : ℕ) → t .run .found * q ≤ e → getD (t .list) e 0 ≡ getD (s .list) e 0
 
-pub sweep-leaves : (q : ℕ) (s : DeskState) → SweepLeaves q s (swept q s)
+pub sweep-leaves : (q : ℕ) (s : State) → SweepLeaves q s (swept q s)
 unfolding swept
 sweep-leaves q s =
     record { rows = table-swept q (s .run .found) (s .list); past = λ e l. pack-beyond q (s .list) 0 _ _ (s .run .found) e (omega arith) }
 
 -- ---- what is done ahead of a step is done once
 
-again-at : (b : Bool) (q : ℕ) (s : DeskState) → cond b (swept q (cond b (swept q s) s)) (cond b (swept q s) s) ≡ cond b (swept q s) s
+again-at : (b : Bool) (q : ℕ) (s : State) → cond b (swept q (cond b (swept q s) s)) (cond b (swept q s) s) ≡ cond b (swept q s) s
 unfolding swept
 again-at false q s = refl
 again-at true q s =
     let e = sweep-again q (s .run .found) (s .list) in
     ap₂ (λ list found. lentWith s (s .stack) list (recounted (s .run) found)) (e .0) (e .1)
 
-again-height : (d : Desk) (s : DeskState) → settled d s .run .height ≡ s .run .height → settled d (settled d s) ≡ settled d s
+again-height : (d : Desk) (s : State) → settled d s .run .height ≡ s .run .height → settled d (settled d s) ≡ settled d s
 unfolding settled
 again-height d s e = rw e (again-at (isDone s) (d .q) s)
 
-pub settled-again : (d : Desk) (s : DeskState) → settled d (settled d s) ≡ settled d s
+pub settled-again : (d : Desk) (s : State) → settled d (settled d s) ≡ settled d s
 settled-again d s = again-height d s (settled-of d s .height)

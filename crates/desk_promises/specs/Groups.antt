@@ -55,7 +55,8 @@ minimal-alike : (m : System) {t u : ℕ → ℕ} → Same (m .q) t u → Minimal
 minimal-alike m {t} {u} e b =
     record {
       holds = first-alike (m .p) (m .q) (coef m) t u e (b .holds);
-      none-below = λ s w h. b .none-below s w (record { at-most = λ j jq. omega (arith, h .at-most j jq, e j jq); other = λ g. h .other (λ j jq. g j jq ∙ e j jq) });
+      none-below =
+          λ s w h. b .none-below s w (record { at-most = λ j jq. omega (arith, h .at-most j jq, e j jq); other = λ g. h .other (λ j jq. g j jq ∙ e j jq) });
     }
 
 -- the first n rows of a list table, as a table of their own

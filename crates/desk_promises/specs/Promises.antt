@@ -1,36 +1,41 @@
 -- THE PROMISES OF A RUN ONE DESK AFTER THE OTHER (document 02, Job 10), each under its words. Open this file first. They are about the definitions of
 -- `desk_form` (Desks, Records), which the code's contracts equate with what the code does. The minimal solutions of the first group that are handed over (the
 -- trade's loops) are the generators of the second walk. Assumes nothing.
-use mathlib.Core.Path.{_≡_, _∙_}
+use mathlib.Core.Path.{_≡_, refl, _∙_}
+use mathlib.Core.Bool.{Bool, true, false, cond}
 use mathlib.Core.Logic.{_≢_, inl, inr}
 use mathlib.Core.List.{List, []}
-use Prim.Native.Nat.{ℕ, suc, _+_, _*_, _/_, _≤_, _<_}
+use Prim.Native.Nat.{ℕ, suc, _+_, _*_, _/_, _≤_, _<_, max}
 use native.Mathlib.Nat.{le-antisymm}
 use native.Mathlib.Omega.{arith}
 use lib.ListN.{length, take}
 use Rattle.linear.specs.Combinations.{Enumerates, met-each}
 use Rattle.linear.specs.Systems.{SolutionIn}
-use Rattle.linear.specs.Tests.{countTo}
-use Rattle.linear.specs.Tuples.{Nonzero, Same}
+use Rattle.linear.specs.Tests.{countTo, maxTo}
+use Rattle.linear.specs.Tuples.{Nonzero, Same, total}
 use Rattle.definitions.specs.Answers.{complete, go, refuse, refused, started}
 use Rattle.definitions.specs.Calls.{resume}
 use Rattle.definitions.specs.Input.{Input, inputOf, systemOf}
 use Rattle.definitions.specs.Machine.{after, walk}
-use Rattle.definitions.specs.System.{MinimalSolution, System, coef}
+use Rattle.definitions.specs.System.{MinimalSolution, System, coef, solves}
 use Rattle.definitions.specs.Tables.{State, at, capacity, frozen}
 use Rattle.laws.specs.CheckLaws.{FirstDue, refuse-not-go}
 use Rattle.laws.specs.MachineLaws.{call-refused, call-walks, walk-done}
 use Rattle.theorems.specs.CallAnswers.{CallAnswers, StartAnswers}
+use Rattle.theorems.specs.Deepest.{greatest}
 use Rattle.theorems.specs.Demands.{second-demand}
 use Rattle.theorems.specs.Link.{nonzero}
 use Rattle.theorems.specs.Listed.{Exactly, Reads, enumerated, only-reads}
 use Rattle.theorems.specs.Run.{Run, SameRows, run-sound}
+use Rattle.theorems.specs.StackRows.{rows-suffice}
 use Rattle.decomposition.specs.Loops.{MakesUp, Solutions, loops-fewest, loops-make-up}
-use Rattle.desk_form.specs.Records.{DeskState}
-use Rattle.desk_form.specs.Desks.{Desk, deepestLimit, deskBegin, deskLevel, deskMachine, deskMakes, deskMarks, deskResume, deskResumeChecks, deskResumeSteps, deskStart, deskStartChecks, deskStep, generator, generatorCount, settled, swept}
+use Rattle.desk_form.specs.Desks.{Desk, deepestLimit, deskBegin, deskLevel, deskMachine, deskMakes, deskMarks, deskResume, deskResumeChecks, deskResumeSteps}
+use Rattle.desk_form.specs.Desks.{deskGrown, deskListed, deskStart, deskStartChecks, deskStep, deskTop, deskTopMarks, freed, generator, generatorCount}
+use Rattle.desk_form.specs.Desks.{secondGroup, settled, swept}
 use Rattle.desk_form.specs.Rules.{deskResumeRules, deskSearchRules, deskStartRules, resume-renders}
-use Rattle.desk_form.specs.Valid.{SweepLeaves, children-few, resume-valid, settled-done, sweep-leaves, valid-resume}
-use Rattle.desk_promises.specs.First.{Kept, Untouched, after-next, again, begin-answers, begin-goes, begin-marked, begin-refused, begin-untouched, longer-list, resume-after, resume-counts, resume-marked, resume-untouched, settled-kept, start-kept, step-kept}
+use Rattle.desk_form.specs.Valid.{SweepLeaves, free, freed-of, resume-valid, settled-again, settled-done, settled-of, sweep-leaves, valid-resume}
+use Rattle.desk_promises.specs.First.{Kept, Untouched, after-next, again, begin-answers, begin-goes, begin-marked, begin-refused, begin-untouched}
+use Rattle.desk_promises.specs.First.{longer-list, resume-after, resume-counts, resume-marked, resume-untouched, settled-kept, start-kept, step-kept}
 use Rattle.desk_promises.specs.Groups.{FirstGroup, bothGroups, firstSystem, handed-over, wholeSystem}
 use Rattle.desk_promises.specs.Runs.{DeskRun, continued, desk-answers, left, left-swept, run-exactly, run-solutions, run-valid}
 use Rattle.desk_promises.specs.Walk.{withList}
@@ -41,43 +46,47 @@ use Rattle.desk_promises.specs.Walk.{withList}
 -- leaves is the definition `deskBegin` or `deskResume`. Of these:
 pub record FirstDemand : Type 0 where
   -- "A refusal before the walk changes none of them"
-  pub start-unchanged : (d : Desk) (s : DeskState) (n : ℕ) (values : List ℕ) → deskStartChecks d s ≡ refuse n values → deskBegin d s ≡ record { answer = refused n values; state = s }
-  pub unchanged : (budget : ℕ) (d : Desk) (s : DeskState) (n : ℕ) (values : List ℕ) → deskResumeChecks d s ≡ refuse n values → deskResume budget d s ≡ record { answer = refused n values; state = s }
-  pub starts : (d : Desk) (s : DeskState) → deskStartChecks d s ≡ go → deskBegin d s ≡ record { answer = started; state = deskStart d s }
+  pub start-unchanged : (d : Desk) (s : State) (n : ℕ) (values : List ℕ) → deskStartChecks d s ≡ refuse n values
+      → deskBegin d s ≡ record { answer = refused n values; state = s }
+  pub unchanged : (budget : ℕ) (d : Desk) (s : State) (n : ℕ) (values : List ℕ) → deskResumeChecks d s ≡ refuse n values
+      → deskResume budget d s ≡ record { answer = refused n values; state = s }
+  pub starts : (d : Desk) (s : State) → deskStartChecks d s ≡ go → deskBegin d s ≡ record { answer = started; state = deskStart d s }
   -- "a refusal within it leaves the state after the last whole step": so does every continuing call that goes on; after each step comes the sweep that is due
   -- before "complete", and the record counts the steps
-  pub whole-steps : (budget : ℕ) (d : Desk) (s : DeskState) → deskResumeChecks d s ≡ go → left budget d s ≡ after (deskResumeSteps budget d s) (deskMachine d) s
-  pub next : (d : Desk) (n : ℕ) (s : DeskState) → after (n + 1) (deskMachine d) s ≡ settled d (deskStep d (after n (deskMachine d) s))
-  pub counted : (budget : ℕ) (d : Desk) (s : DeskState) → left budget d s .run .steps ≡ s .run .steps + deskResumeSteps budget d s
+  pub whole-steps : (budget : ℕ) (d : Desk) (s : State) → deskResumeChecks d s ≡ go → left budget d s ≡ after (deskResumeSteps budget d s) (deskMachine d) s
+  pub next : (d : Desk) (n : ℕ) (s : State) → after (n + 1) (deskMachine d) s ≡ settled d (deskStep d (after n (deskMachine d) s))
+  pub counted : (budget : ℕ) (d : Desk) (s : State) → left budget d s .run .steps ≡ s .run .steps + deskResumeSteps budget d s
   -- "Each is given in its case and in no other.", in the documents' order
-  pub starting-call : (d : Desk) (s : DeskState) → StartAnswers (deskStartRules d s) (deskBegin d s .answer)
-  pub continuing-call : (budget : ℕ) (d : Desk) (s : DeskState)
-      → CallAnswers (deskResumeRules d s) (deskSearchRules d (left budget d s)) budget (deskResumeSteps budget d s) (left budget d s .run .height) (deskResume budget d s .answer)
+  pub starting-call : (d : Desk) (s : State) → StartAnswers (deskStartRules d s) (deskBegin d s .answer)
+  pub continuing-call : (budget : ℕ) (d : Desk) (s : State)
+      → CallAnswers (deskResumeRules d s) (deskSearchRules d (left budget d s)) budget (deskResumeSteps budget d s) (left budget d s .run .height)
+      (deskResume budget d s .answer)
   -- "the same call again refuses again"
-  pub again : (budget : ℕ) (d : Desk) (s : DeskState) (n : ℕ) (values : List ℕ) → deskResumeChecks d s ≡ go → deskResume budget d s .answer ≡ refused n values → (more : ℕ) → deskResume (suc more) d (left budget d s) ≡ record { answer = refused n values; state = left budget d s }
+  pub again : (budget : ℕ) (d : Desk) (s : State) (n : ℕ) (values : List ℕ) → deskResumeChecks d s ≡ go → deskResume budget d s .answer ≡ refused n values
+      → (more : ℕ) → deskResume (suc more) d (left budget d s) ≡ record { answer = refused n values; state = left budget d s }
   -- "after 11 a longer list table with the same rows may be given"
-  pub longer : (budget : ℕ) (d : Desk) (s : DeskState) → deskResumeChecks d s ≡ go → deskResume budget d s .answer ≡ refused 11 [] → (list : List ℕ)
+  pub longer : (budget : ℕ) (d : Desk) (s : State) → deskResumeChecks d s ≡ go → deskResume budget d s .answer ≡ refused 11 [] → (list : List ℕ)
       → SameRows (d .q) (left budget d s .run .found) (left budget d s .list) list → left budget d s .run .found < capacity (d .q) list → (more : ℕ)
       → deskResume (suc more) d (withList (left budget d s) list) ≡ walk more (deskMachine d) (deskStep d (withList (left budget d s) list))
   -- a start, each step and each sweep: "Table rows above the height keep what they last held.", and so do entries of the list table past the new count
-  pub start-kept : (d : Desk) (s : DeskState) → Kept (d .q) s (deskStart d s)
-  pub step-kept : (d : Desk) (s : DeskState) → Kept (d .q) s (deskStep d s)
-  pub settled-kept : (d : Desk) (s : DeskState) → Kept (d .q) s (settled d s)
+  pub start-kept : (d : Desk) (s : State) → Kept (d .q) s (deskStart d s)
+  pub step-kept : (d : Desk) (s : State) → Kept (d .q) s (deskStep d s)
+  pub settled-kept : (d : Desk) (s : State) → Kept (d .q) s (settled d s)
   -- of the stack table "entries beyond them are never touched", nor what stands in the list table past its last whole row
-  pub start-untouched : (d : Desk) (s : DeskState) → Untouched d s (deskBegin d s .state)
-  pub untouched : (budget : ℕ) (d : Desk) (s : DeskState) → Untouched d s (left budget d s)
+  pub start-untouched : (d : Desk) (s : State) → Untouched d s (deskBegin d s .state)
+  pub untouched : (budget : ℕ) (d : Desk) (s : State) → Untouched d s (left budget d s)
   -- "Row k of the stack always carries exactly k − 1 marks." (from 0 here)
-  pub start-marked : (d : Desk) (s : DeskState) → deskStartChecks d s ≡ go → (k : ℕ) → k < deskStart d s .run .height
+  pub start-marked : (d : Desk) (s : State) → deskStartChecks d s ≡ go → (k : ℕ) → k < deskStart d s .run .height
       → countTo (generatorCount d) (frozen (deskMarks (d .q) (deskStart d s .stack) k)) ≡ k
-  pub marked : (budget : ℕ) (d : Desk) (s : DeskState) → deskResumeChecks d s ≡ go → (k : ℕ) → k < left budget d s .run .height
+  pub marked : (budget : ℕ) (d : Desk) (s : State) → deskResumeChecks d s ≡ go → (k : ℕ) → k < left budget d s .run .height
       → countTo (generatorCount d) (frozen (deskMarks (d .q) (left budget d s .stack) k)) ≡ k
   -- "a sweep removes each row that lies above another row or repeats an earlier one, and closes the gaps, order kept": `Swept` (sweeps/specs/SweepLaws) says
   -- which rows stay
-  pub sweep : (q : ℕ) (s : DeskState) → SweepLeaves q s (swept q s)
+  pub sweep : (q : ℕ) (s : State) → SweepLeaves q s (swept q s)
   -- "It runs before each "complete"", also with allowance 0
-  pub swept-before : (budget : ℕ) (d : Desk) (s : DeskState) → deskResume budget d s .answer ≡ complete → swept (d .q) (left budget d s) ≡ left budget d s
+  pub swept-before : (budget : ℕ) (d : Desk) (s : State) → deskResume budget d s .answer ≡ complete → swept (d .q) (left budget d s) ≡ left budget d s
 
-silent-goes : (budget : ℕ) (d : Desk) (s : DeskState) → deskResume budget d s .answer ≡ complete → deskResumeChecks d s ≡ go
+silent-goes : (budget : ℕ) (d : Desk) (s : State) → deskResume budget d s .answer ≡ complete → deskResumeChecks d s ≡ go
 silent-goes budget d s a = resume-renders d s .silent (desk-answers budget d s .completes .0 a .0)
 
 pub first-demand : FirstDemand
@@ -111,7 +120,7 @@ abbrev pub WholeList : (d : Desk) → FirstGroup d → Type 0
 WholeList d g = Enumerates (d .q) (MinimalSolution (firstSystem d g)) (generatorCount d) (generator d)
 
 -- "From the first group's whole list, a complete result is, as a set, the list of the whole map, each once; cut short, it promises solutions only."
-pub record SecondDemand (d : Desk) (g : FirstGroup d) (s : DeskState) : Type 0 where
+pub record SecondDemand (d : Desk) (g : FirstGroup d) (s : State) : Type 0 where
   -- from any nonzero solutions of the first group: the table has as many rows as are counted, and each is a nonzero solution of the whole map
   pub room : s .run .found ≤ capacity (d .q) (s .list)
   pub cut-short : ((k : ℕ) → k < generatorCount d → SolutionIn (g .p) (d .q) (coef (firstSystem d g)) (Nonzero (d .q)) (generator d k))
@@ -122,7 +131,7 @@ pub record SecondDemand (d : Desk) (g : FirstGroup d) (s : DeskState) : Type 0 w
   pub read : WholeList d g → (budget : ℕ) → deskResume budget d s .answer ≡ complete → (n : ℕ) → n < left budget d s .run .found
       → Reads (d .q) (left budget d s .list) (left budget d s .run .found) n
 
-pub second-demand-desks : (d : Desk) (g : FirstGroup d) (s : DeskState) → DeskRun d s → SecondDemand d g s
+pub second-demand-desks : (d : Desk) (g : FirstGroup d) (s : State) → DeskRun d s → SecondDemand d g s
 second-demand-desks d g s r =
     let v = run-valid r in
     record {
@@ -133,16 +142,16 @@ second-demand-desks d g s r =
     }
 
 -- no continuing call of a run is refused before its walk: not by 6, nor by another of these numbers
-pub own-calls : (d : Desk) (s : DeskState) → DeskRun d s → deskResumeChecks d s ≡ go
+pub own-calls : (d : Desk) (s : State) → DeskRun d s → deskResumeChecks d s ≡ go
 own-calls d s r = valid-resume d s (run-valid r)
 
-not-within : (d : Desk) (s : DeskState) → FirstDue (deskSearchRules d s) 6 [] → ⊥
+not-within : (d : Desk) (s : State) → FirstDue (deskSearchRules d s) 6 [] → ⊥
 not-within d s (inl (n, v, e)) = omega arith
 not-within d s (inr (a, inl (n, v, e))) = omega arith
 not-within d s (inr (a, inr (b, inl (n, v, e)))) = omega arith
 not-within d s (inr (a, inr (b, inr (c, y)))) = absurd y
 
-pub never-six : (d : Desk) (s : DeskState) → DeskRun d s → (budget : ℕ) → deskResume budget d s .answer ≢ refused 6 []
+pub never-six : (d : Desk) (s : State) → DeskRun d s → (budget : ℕ) → deskResume budget d s .answer ≢ refused 6 []
 never-six d s r budget a =
     elim (desk-answers budget d s .refuses 6 [] .0 a) [
       | inl y ↦ refuse-not-go {n = 6} {values = []} (cc (resume-renders d s .due 6 [] y, own-calls d s r))
@@ -150,10 +159,11 @@ never-six d s r budget a =
     ]
 
 -- after "complete" every own call answers so, takes no step and changes nothing
-pub stays-complete : (d : Desk) (s : DeskState) → DeskRun d s → (budget : ℕ) → deskResume budget d s .answer ≡ complete
-    → (more : ℕ) → (deskResume more d (left budget d s) ≡ record { answer = complete; state = left budget d s }) × (deskResumeSteps more d (left budget d s) ≡ 0)
+pub stays-complete : (d : Desk) (s : State) → DeskRun d s → (budget : ℕ) → deskResume budget d s .answer ≡ complete
+    → (more : ℕ)
+    → (deskResume more d (left budget d s) ≡ record { answer = complete; state = left budget d s }) × (deskResumeSteps more d (left budget d s) ≡ 0)
 stays-complete d s r budget a more =
-    let t : DeskState = left budget d s in
+    let t : State = left budget d s in
     let done = desk-answers budget d s .completes .0 a .1 in
     let same : settled d t ≡ t = settled-done d t done ∙ left-swept budget d s (own-calls d s r) done in
     let e = call-walks (deskMachine d) t more (own-calls d t (continued r budget)) in
@@ -169,7 +179,9 @@ same-table q W generators part e h = rw e h
 
 pub first-then-second : (d : Desk) (g : FirstGroup d) (s : State) → Run (inputOf (g .p) (d .q) (g .coefs)) nonzero s → (budget : ℕ)
     → resume budget (inputOf (g .p) (d .q) (g .coefs)) s .answer ≡ complete
-    → d .generators ≡ take (resume budget (inputOf (g .p) (d .q) (g .coefs)) s .state .run .found * d .q) (resume budget (inputOf (g .p) (d .q) (g .coefs)) s .state .list) → WholeList d g
+    → d .generators
+    ≡ take (resume budget (inputOf (g .p) (d .q) (g .coefs)) s .state .run .found * d .q) (resume budget (inputOf (g .p) (d .q) (g .coefs)) s .state .list)
+    → WholeList d g
 first-then-second d g s r budget a e =
     let i : Input = inputOf (g .p) (d .q) (g .coefs) in
     let t : State = resume budget i s .state in
@@ -177,11 +189,12 @@ first-then-second d g s r budget a e =
     (handed-over (systemOf i) (t .list) (t .run .found) (run-sound i r .valid .shaped .q-some) (second-demand .lists i s r .finished budget a))
 
 -- More than two desks: the list of the first two, handed to the third, is the whole list of their equations; and so on, to any number of desks.
-pub second-then-third : (d : Desk) (g : FirstGroup d) (s : DeskState) → DeskRun d s → WholeList d g → (budget : ℕ) → deskResume budget d s .answer ≡ complete
-    → (all : length (d .coefs) ≡ d .p * d .q) (e : Desk) (same : e .q ≡ d .q) → e .generators ≡ take (left budget d s .run .found * d .q) (left budget d s .list)
+pub second-then-third : (d : Desk) (g : FirstGroup d) (s : State) → DeskRun d s → WholeList d g → (budget : ℕ) → deskResume budget d s .answer ≡ complete
+    → (all : length (d .coefs) ≡ d .p * d .q) (e : Desk) (same : e .q ≡ d .q)
+    → e .generators ≡ take (left budget d s .run .found * d .q) (left budget d s .list)
     → WholeList e (bothGroups d g all e same)
 second-then-third d g s r whole budget a all e same gens =
-    let t : DeskState = left budget d s in
+    let t : State = left budget d s in
     let h = handed-over (wholeSystem d g) (t .list) (t .run .found) (run-valid r .shaped .q-some) (second-demand-desks d g s r .finished whole budget a) in
     rw (← same) at (same-table (d .q) _ (e .generators) _ gens h)
 
@@ -194,7 +207,8 @@ same-rows {q} {one = one} x y i l = y .all (at one q i) (x .part .only i l)
 
 no-more : {q : ℕ} {W : (ℕ → ℕ) → Type 0} {one other : List ℕ} {n m : ℕ} → Exactly q W one n → Exactly q W other m → n ≤ m
 no-more {q} {one = one} {other = other} {n = n} {m = m} x y =
-    met-each n m (λ i k. Same q (at other q k) (at one q i)) (λ i l. same-rows x y i l) (λ i j k ij jn e f. x .part .once i j ij jn (λ c cq. omega (arith, e c cq, f c cq)))
+    met-each n m (λ i k. Same q (at other q k) (at one q i)) (λ i l. same-rows x y i l)
+    (λ i j k ij jn e f. x .part .once i j ij jn (λ c cq. omega (arith, e c cq, f c cq)))
 
 -- and as many of them
 pub same-number : {q : ℕ} {W : (ℕ → ℕ) → Type 0} {one other : List ℕ} {n m : ℕ} → Exactly q W one n → Exactly q W other m → n ≡ m
@@ -203,7 +217,8 @@ same-number x y = le-antisymm (no-more x y) (no-more y x)
 -- "The two lists of loops should hold the same loops.": a complete plain run on the whole map lists what `SecondDemand` says of the run desk by desk
 pub whole-run : (d : Desk) (g : FirstGroup d) (s : State) → Run (inputOf (g .p + d .p) (d .q) (wholeSystem d g .coefs)) nonzero s → (budget : ℕ)
     → resume budget (inputOf (g .p + d .p) (d .q) (wholeSystem d g .coefs)) s .answer ≡ complete
-    → Exactly (d .q) (MinimalSolution (wholeSystem d g)) (resume budget (inputOf (g .p + d .p) (d .q) (wholeSystem d g .coefs)) s .state .list) (resume budget (inputOf (g .p + d .p) (d .q) (wholeSystem d g .coefs)) s .state .run .found)
+    → Exactly (d .q) (MinimalSolution (wholeSystem d g)) (resume budget (inputOf (g .p + d .p) (d .q) (wholeSystem d g .coefs)) s .state .list)
+    (resume budget (inputOf (g .p + d .p) (d .q) (wholeSystem d g .coefs)) s .state .run .found)
 whole-run d g s r budget a = second-demand .lists (inputOf (g .p + d .p) (d .q) (wholeSystem d g .coefs)) s r .finished budget a
 
 -- ---- requests
@@ -214,19 +229,40 @@ pub record MadeOfRows (m : System) (n : ℕ) (row : ℕ → ℕ → ℕ) : Type 
   pub every : MakesUp (m .p) (m .q) (coef m) n row
   pub fewest : (k : ℕ) (other : ℕ → ℕ → ℕ) → Solutions (m .p) (m .q) (coef m) k other → MakesUp (m .p) (m .q) (coef m) k other → n ≤ k
 
-pub every-plan : (d : Desk) (g : FirstGroup d) (s : DeskState) → DeskRun d s → WholeList d g → (budget : ℕ) → deskResume budget d s .answer ≡ complete
+pub every-plan : (d : Desk) (g : FirstGroup d) (s : State) → DeskRun d s → WholeList d g → (budget : ℕ) → deskResume budget d s .answer ≡ complete
     → MadeOfRows (wholeSystem d g) (left budget d s .run .found) (at (left budget d s .list) (d .q))
 every-plan d g s r whole budget a =
     let m : System = wholeSystem d g in
-    let t : DeskState = left budget d s in
+    let t : State = left budget d s in
     let e = enumerated (second-demand-desks d g s r .finished whole budget a) in
-    record { every = loops-make-up (m .p) (m .q) (coef m) (t .run .found) (at (t .list) (d .q)) e; fewest = loops-fewest (m .p) (m .q) (coef m) (t .run .found) (at (t .list) (d .q)) e }
+    record {
+      every = loops-make-up (m .p) (m .q) (coef m) (t .run .found) (at (t .list) (d .q)) e;
+      fewest =
+          loops-fewest (m .p) (m .q) (coef m) (t .run .found) (at (t .list) (d .q)) e;
+    }
 
 -- Job 11: "from any run record that passes the check for 6, no step needs a row beyond the last one"
-pub rows-suffice : (d : Desk) (s : DeskState) → deskResumeChecks d s ≡ go → 0 < s .run .height
+pub desk-rows : (d : Desk) (s : State) → deskResumeChecks d s ≡ go → 0 < s .run .height
     → deskLevel s + countTo (generatorCount d) (deskMakes d s) ≤ generatorCount d
-rows-suffice d s e high = children-few d s (resume-valid d s e) high
+desk-rows d s e high =
+    let v = resume-valid d s e in
+    rows-suffice (generatorCount d) (deskLevel s) (deskTopMarks d s) (deskMakes d s) (v .ordered .rows (deskLevel s) (omega arith) .marked) (free d s v high)
 
--- Job 6: the number shown stays within what refusal 6 allows
-pub deepest-fits : (d : Desk) (s : DeskState) → DeskRun d s → s .run .deepest ≤ deepestLimit
+-- Job 6: "the greatest sum of components among the tuples taken off so far", here of the q components: of what was shown and the sums of the tuples that these
+-- steps took off
+step-shows : (d : Desk) (s : State) → deskStep d s .run .deepest ≡ max (s .run .deepest) (total (deskTop d s) (d .q))
+unfolding deskStep deskListed deskGrown
+step-shows d s = go (solves (secondGroup d) (deskTop d s))
+  where
+    go : (b : Bool) → cond b (deskListed d (freed d s)) (deskGrown d s) .run .deepest ≡ max (s .run .deepest) (total (deskTop d s) (d .q))
+    go true = let f = freed-of d s in rw (f .stack, f .height, f .deepest)
+    go false = refl
+
+pub desk-deepest : (d : Desk) (n : ℕ) (s : State)
+    → after n (deskMachine d) s .run .deepest ≡ max (s .run .deepest) (maxTo n (λ j. total (deskTop d (after j (deskMachine d) s)) (d .q)))
+desk-deepest d =
+    greatest (deskMachine d) (settled-again d) (λ s. s .run .deepest) (λ s. total (deskTop d s) (d .q)) (λ s. settled-of d s .deepest) (step-shows d)
+
+-- and it stays within what refusal 6 allows
+pub deepest-fits : (d : Desk) (s : State) → DeskRun d s → s .run .deepest ≤ deepestLimit
 deepest-fits d s r = run-valid r .ordered .shallow

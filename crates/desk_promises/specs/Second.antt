@@ -12,7 +12,8 @@ use Rattle.linear.specs.SystemLaws.{inner-cong, value-sum}
 use Rattle.linear.specs.Systems.{Solution, SolutionIn, value}
 use Rattle.linear.specs.Tuples.{Minimal, Nonzero, Same}
 use Rattle.theorems.specs.View.{View}
-use Rattle.theorems.specs.Reaching.{Alike, Begins, Grows, Lists, Plus, Raising, Reaching, Sure, WantedBy, alike-reaches, alike-sure, begins-reaching, begins-sure, growing-reaches, growing-sure, listing-reaches, listing-sure}
+use Rattle.theorems.specs.Reaching.{Alike, Begins, Grows, Lists, Plus, Raising, Reaching, Sure, WantedBy, alike-reaches, alike-sure, begins-reaching}
+use Rattle.theorems.specs.Reaching.{begins-sure, growing-reaches, growing-sure, listing-reaches, listing-sure}
 use Rattle.decomposition.specs.Loops.{Loop, Solutions, loops-make-up}
 use Rattle.desk_promises.specs.Sweeping.{Sweeps, sweeping-enumerates, sweeping-reaches, sweeping-sure}
 

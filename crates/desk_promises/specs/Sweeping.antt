@@ -38,7 +38,9 @@ module _ {r : Raising} {v w : View} (s : Sweeps r v w) where
   sweeping-sure inv =
       record {
         wanted = left-wanted inv;
-        admitted = λ l lh. r .alike (v .tuple l) (w .tuple l) (λ j jq. omega (arith, s .kept .tuples l (rw (s .height) at lh) j jq)) (inv .admitted l (rw (s .height) at lh));
+        admitted =
+            λ l lh. r .alike (v .tuple l) (w .tuple l) (λ j jq. omega (arith, s .kept .tuples l (rw (s .height) at lh) j jq))
+            (inv .admitted l (rw (s .height) at lh));
       }
 
   -- a basis tuple that was listed is listed still: what stays at or below it is it
@@ -83,7 +85,8 @@ module _ {r : Raising} {v w : View} (s : Sweeps r v w) where
         let f = comes-from (s .swept) i (omega arith) in
         let g = comes-from (s .swept) j jw in
         elim (order (f .i) (g .i)) [
-          | inl lt ↦ none-earlier (r .q) (v .found 0) (v .row 0) (g .i) (g .low) (g .stays) (f .i) lt (λ x xq. omega (arith, e x xq, f .same x xq, g .same x xq))
+          | inl lt ↦ none-earlier (r .q) (v .found 0) (v .row 0) (g .i) (g .low) (g .stays) (f .i) lt
+              (λ x xq. omega (arith, e x xq, f .same x xq, g .same x xq))
           | inr o ↦ elim o [
             | inl same ↦ omega (arith, f .place, rw same at (f .place), g .place)
             | inr gt ↦ omega (arith, f .place, g .place, count-mono (keeps (r .q) (v .found 0) (v .row 0)) (g .i) (f .i) (omega arith))
@@ -96,7 +99,8 @@ module _ {r : Raising} {v w : View} (s : Sweeps r v w) where
         record {
           only = λ m l.
               let f = comes-from (s .swept) m l in
-              basis-alike (λ j jq. omega (arith, f .same j jq)) (left-basis (f .i) (f .low) (keeps-stays (r .q) (v .found 0) (v .row 0) (f .i) (f .low) (f .stays) .least));
+              basis-alike (λ j jq. omega (arith, f .same j jq))
+              (left-basis (f .i) (f .low) (keeps-stays (r .q) (v .found 0) (v .row 0) (f .i) (f .low) (f .stays) .least));
           once = left-once;
           all = λ t b. in-first w (s .one′) (still-listed (inv .sure) t b (all-listed inv done t b));
         }

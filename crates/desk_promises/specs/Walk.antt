@@ -12,7 +12,7 @@ use Rattle.linear.specs.Tests.{countTo}
 use Rattle.linear.specs.Tuples.{AtOrBelow, Same}
 use Rattle.definitions.specs.Refusals.{stepLimit}
 use Rattle.definitions.specs.System.{coef, solves}
-use Rattle.definitions.specs.Tables.{at, capacity, frozen}
+use Rattle.definitions.specs.Tables.{State, at, capacity, frozen}
 use Rattle.laws.specs.MarkLaws.{marks-inherit, marks-made, marks-only, ones-free, ones-frozen}
 use Rattle.laws.specs.SystemLaws.{fails-fails, solves-solution}
 use Rattle.laws.specs.TableLaws.{row-before, write-inside, write-outside}
@@ -20,10 +20,12 @@ use Rattle.theorems.specs.Reaching.{Begins, Child, Grows, Lists, Raising, liste
 use Rattle.theorems.specs.Run.{SameRows}
 use Rattle.theorems.specs.View.{Kept, View}
 use Rattle.decomposition.specs.Loops.{Solutions}
-use Rattle.desk_form.specs.Records.{DeskState, lentWith}
-use Rattle.desk_form.specs.Desks.{Desk, deskGrown, deskLevel, deskListed, deskMakes, deskMarks, deskStart, deskStep, deskTop, deskTopMarks, deskTuple, freed, generator, generatorCount, secondGroup, settled, swept}
+use Rattle.desk_form.specs.Records.{lentWith}
+use Rattle.desk_form.specs.Desks.{Desk, deskGrown, deskLevel, deskListed, deskMakes, deskMarks, deskStart, deskStep, deskTop, deskTopMarks, deskTuple, freed}
+use Rattle.desk_form.specs.Desks.{generator, generatorCount, secondGroup, settled, swept}
 use Rattle.desk_form.specs.Rows.{child-is, marks-kept, raises-clear, raises-tried, rows-kept, start-row}
-use Rattle.desk_form.specs.Valid.{DeskGoing, DeskShaped, DeskValid, children-few, free, freed-has, freed-of, freed-room, grown-valid, listed-valid, same-top, settled-has, start-valid, step-has, sweep-leaves, sweep-valid, swept-of}
+use Rattle.desk_form.specs.Valid.{DeskGoing, DeskShaped, DeskValid, children-few, free, freed-has, freed-of, freed-room, grown-valid, listed-valid, same-top}
+use Rattle.desk_form.specs.Valid.{settled-has, start-valid, step-has, sweep-leaves, sweep-valid, swept-of}
 use Rattle.desk_promises.specs.Second.{Walked, begun, byGenerators, first-onwards, growing, listing, relisting, sweeping}
 use Rattle.desk_promises.specs.Sweeping.{Sweeps}
 
@@ -32,7 +34,7 @@ abbrev pub oneFound : ℕ → ℕ → ℕ
 oneFound n zero = n
 oneFound n (suc c) = 0
 
-abbrev pub deskView : ℕ → DeskState → View
+abbrev pub deskView : ℕ → State → View
 deskView q s =
     record {
       height = s .run .height;
@@ -43,10 +45,10 @@ deskView q s =
     }
 
 -- another list table
-abbrev pub withList : DeskState → List ℕ → DeskState
+abbrev pub withList : State → List ℕ → State
 withList s list = lentWith s (s .stack) list (s .run)
 
-pub relisted-valid : (d : Desk) (s : DeskState) (list : List ℕ) → SameRows (d .q) (s .run .found) (s .list) list → DeskValid d s → DeskValid d (withList s list)
+pub relisted-valid : (d : Desk) (s : State) (list : List ℕ) → SameRows (d .q) (s .run .found) (s .list) list → DeskValid d s → DeskValid d (withList s list)
 relisted-valid d s list same v =
     record {
       shaped = v .shaped;
@@ -65,10 +67,10 @@ module _ (d : Desk) (p₁ : ℕ) (a₁ : ℕ → ℕ → ℤ) (solve : Solutions
   abbrev r : Raising
   r = byGenerators p₁ (d .p) (d .q) a₁ (coef (secondGroup d)) (generatorCount d) (generator d)
 
-  abbrev view : DeskState → View
+  abbrev view : State → View
   view = deskView (d .q)
 
-  begins : (s : DeskState) → generatorCount d * (d .q + 2) ≤ length (s .stack) → Begins r (view (deskStart d s))
+  begins : (s : State) → generatorCount d * (d .q + 2) ≤ length (s .stack) → Begins r (view (deskStart d s))
   unfolding deskStart
   begins s long =
       record {
@@ -83,7 +85,7 @@ module _ (d : Desk) (p₁ : ℕ) (a₁ : ℕ → ℕ → ℤ) (solve : Solutions
       none-found zero = refl
       none-found (suc c) = refl
 
-  pub sweeps : (s : DeskState) → Sweeps r (view s) (view (swept (d .q) s))
+  pub sweeps : (s : State) → Sweeps r (view s) (view (swept (d .q) s))
   sweeps s =
       let o = swept-of (d .q) s in
       record {
@@ -94,7 +96,7 @@ module _ (d : Desk) (p₁ : ℕ) (a₁ : ℕ → ℕ → ℤ) (solve : Solutions
         swept = sweep-leaves (d .q) s .rows;
       }
 
-  module _ (s : DeskState) (valid : DeskValid d s) (high : 0 < s .run .height) where
+  module _ (s : State) (valid : DeskValid d s) (high : 0 < s .run .height) where
     lists : s .run .found * d .q + d .q ≤ length (s .list) → T (solves (secondGroup d) (deskTop d s)) → Lists r (view s) (view (deskListed d s)) 0
     unfolding deskListed
     lists room y =
@@ -113,14 +115,16 @@ module _ (d : Desk) (p₁ : ℕ) (a₁ : ℕ → ℕ → ℤ) (solve : Solutions
         others (suc c) ne = refl
 
         rows : (c i : ℕ) → i < oneFound (s .run .found) c → Same (d .q) (at (deskListed d s .list) (d .q) i) (at (s .list) (d .q) i)
-        rows zero i l j jq = let b = row-before (d .q) (s .run .found) i 0 j l jq in write-outside (deskTop d s) (s .list) (s .run .found * d .q) (d .q) (i * d .q + j) (inl (omega arith))
+        rows zero i l j jq = let b = row-before (d .q) (s .run .found) i 0 j l jq in
+            write-outside (deskTop d s) (s .list) (s .run .found * d .q) (d .q) (i * d .q + j) (inl (omega arith))
         rows (suc c) i l j jq = absurd (omega arith)
 
     child : (j : ℕ) → j < generatorCount d → T (deskMakes d s j)
         → Child r (view s) (view (deskGrown d s)) (deskMakes d s) (deskLevel s) j (deskLevel s + countTo j (deskMakes d s))
     unfolding deskGrown
     child j jn mj =
-        let c = child-is d (s .stack) (deskLevel s) (deskTop d s) (deskTopMarks d s) (deskMakes d s) (valid .shaped .stack) (children-few d s valid high) j jn mj in
+        let c = child-is d (s .stack) (deskLevel s) (deskTop d s) (deskTopMarks d s) (deskMakes d s) (valid .shaped .stack)
+        (children-few d s valid high) j jn mj in
         let unfrozen = free d s valid high in
         record {
           raised = c .tuple;
@@ -143,7 +147,12 @@ module _ (d : Desk) (p₁ : ℕ) (a₁ : ℕ → ℕ → ℤ) (solve : Solutions
           free = λ j jn mj. free d s valid high j jn mj;
           clear = clear;
           admits = λ j jn mj. first-onwards p₁ (d .q) a₁ (generatorCount d) (generator d) solve (deskTop d s) _ j jn (child j jn mj .raised);
-          tried = λ j jn f a. elim (raises-tried d (s .list) (s .run .found) (deskTop d s) (deskTopMarks d s) j f a) [ inl mj ↦ inl mj | inr (i, l, b) ↦ inr (listed-below 0 i l b) ];
+          tried = λ j jn f a. elim
+              (raises-tried d (s .list) (s .run .found) (deskTop d s) (deskTopMarks d s) j f a) [
+                | inl mj ↦ inl mj
+                | inr (i, l, b) ↦ inr
+                    (listed-below 0 i l b)
+              ];
         }
       where
         kept : Kept (d .q) (generatorCount d) (view s) (view (deskGrown d s)) (deskLevel s)
@@ -155,41 +164,42 @@ module _ (d : Desk) (p₁ : ℕ) (a₁ : ℕ → ℕ → ℤ) (solve : Solutions
 
         clear : (j : ℕ) → j < generatorCount d → T (deskMakes d s j) → (c i : ℕ) → i < oneFound (s .run .found) c
             → ¬ (AtOrBelow (d .q) (at (s .list) (d .q) i) (deskTuple (d .q) (deskGrown d s .stack) (deskLevel s + countTo j (deskMakes d s))))
-        clear j jn mj zero i l b = raises-clear d (s .list) (s .run .found) (deskTop d s) (deskTopMarks d s) j mj i l (λ x xq. omega (arith, b x xq, child j jn mj .raised x xq))
+        clear j jn mj zero i l b =
+            raises-clear d (s .list) (s .run .found) (deskTop d s) (deskTopMarks d s) j mj i l (λ x xq. omega (arith, b x xq, child j jn mj .raised x xq))
         clear j jn mj (suc c) i l b = omega arith
 
   -- ---- what is kept along a run
 
-  pub record Sound (s : DeskState) : Type 0 where
+  pub record Sound (s : State) : Type 0 where
     pub valid : DeskValid d s
     pub walked : Walked r (view s)
 
-  pub start-sound : (s : DeskState) → DeskShaped d (length (s .stack)) → Sound (deskStart d s)
+  pub start-sound : (s : State) → DeskShaped d (length (s .stack)) → Sound (deskStart d s)
   start-sound s g = record { valid = start-valid d s g; walked = begun (begins s (g .stack)) }
 
-  swept-sound : (s : DeskState) → Sound s → Sound (swept (d .q) s)
+  swept-sound : (s : State) → Sound s → Sound (swept (d .q) s)
   swept-sound s o = record { valid = sweep-valid (swept-of (d .q) s) (o .valid); walked = sweeping (o .walked) (sweeps s) }
 
-  pub settled-sound : (s : DeskState) → Sound s → Sound (settled d s)
+  pub settled-sound : (s : State) → Sound s → Sound (settled d s)
   settled-sound s o = settled-has Sound d s (swept-sound s o) o
 
-  freed-sound : (s : DeskState) → Sound s → Sound (freed d s)
+  freed-sound : (s : State) → Sound s → Sound (freed d s)
   freed-sound s o = freed-has Sound d s (swept-sound s o) o
 
-  listed-sound : (s : DeskState) → Sound s → 0 < s .run .height → s .run .steps < stepLimit → s .run .found < capacity (d .q) (s .list)
+  listed-sound : (s : State) → Sound s → 0 < s .run .height → s .run .steps < stepLimit → s .run .found < capacity (d .q) (s .list)
       → T (solves (secondGroup d) (deskTop d s)) → Sound (deskListed d s)
   listed-sound s o high early room y =
       let fits = le-div-iff-mul-le {k = d .q} {x = suc (s .run .found)} {y = length (s .list)} (o .valid .shaped .q-some) .0 room in
       record { valid = listed-valid d s (o .valid) high early room; walked = listing (o .walked) (lists s (o .valid) high (omega arith) y) }
 
-  pub step-sound : (s : DeskState) → Sound s → DeskGoing d s → Sound (deskStep d s)
+  pub step-sound : (s : State) → Sound s → DeskGoing d s → Sound (deskStep d s)
   step-sound s o g =
       let f = freed-of d s in
       step-has Sound d s
       (λ y. listed-sound (freed d s) (freed-sound s o) (rw (f .height) (g .high)) (rw (f .steps) (g .early)) (freed-room d s g y) (rw (same-top d f) y))
       (λ n. record { valid = grown-valid d s (o .valid) (g .high) (g .small n) (g .early); walked = growing (o .walked) (grows s (o .valid) (g .high) n) })
 
-  pub relisted-sound : (s : DeskState) (list : List ℕ) → SameRows (d .q) (s .run .found) (s .list) list → Sound s → Sound (withList s list)
+  pub relisted-sound : (s : State) (list : List ℕ) → SameRows (d .q) (s .run .found) (s .list) list → Sound s → Sound (withList s list)
   relisted-sound s list same o =
       record {
         valid = relisted-valid d s list same (o .valid);

@@ -11,7 +11,7 @@ use lib.Seq.{getD-set-other, getD-set-same}
 use mir.Facts.{toZ-ofZ}
 use mir.Syntax.{w64}
 use mir.Val.{SFits, ofZ, toZ}
-use Rattle.linear.specs.Cases.{order, split}
+use Rattle.linear.specs.Cases.{split}
 use Rattle.linear.specs.Integers.{natAbs-*ℤ, sfits-natAbs}
 use Rattle.linear.specs.SystemLaws.{inner-bound, inner-next}
 use Rattle.linear.specs.Systems.{inner, value}
@@ -111,7 +111,12 @@ module _ {p : ℕ} {images : List ℤ} {a b : ℕ} (s : Factors p images a b) wh
 
   pub product-fits : (k : ℕ) → k ≤ p → SFits w64 (inner k (entry images a) (entry images b))
   product-fits k l =
-      sfits-natAbs (omega (arith, s .few, inner-bound k valueLimit imageLimit (entry images a) (entry images b) (λ i m. s .left i (omega arith)) (λ i m. s .right i (omega arith))))
+      sfits-natAbs
+      (omega (
+        arith,
+        s .few,
+        inner-bound k valueLimit imageLimit (entry images a) (entry images b) (λ i m. s .left i (omega arith)) (λ i m. s .right i (omega arith)),
+      ))
 
   module _ (k : ℕ) {sum : ℕ} (e : sum ≡ ofZ w64 (inner k (entry images a) (entry images b))) where
     pub sum-value : k ≤ p → toZ w64 sum ≡ inner k (entry images a) (entry images b)
@@ -121,7 +126,8 @@ module _ {p : ℕ} {images : List ℤ} {a b : ℕ} (s : Factors p images a b) wh
       added-is : added sum (entry images a k) (entry images b k) ≡ inner (k + 1) (entry images a) (entry images b)
       added-is = rw (toZ-ofZ (left-fits k l), toZ-ofZ (right-fits k l), sum-value (omega arith)) (sym (inner-next k (entry images a) (entry images b)))
 
-      pub next-fits : SFits w64 (toZ w64 (ofZ w64 (entry images a k)) *ℤ toZ w64 (ofZ w64 (entry images b k))) × SFits w64 (added sum (entry images a k) (entry images b k))
+      pub next-fits : SFits w64 (toZ w64 (ofZ w64 (entry images a k)) *ℤ toZ w64 (ofZ w64 (entry images b k)))
+          × SFits w64 (added sum (entry images a k) (entry images b k))
       next-fits = (rw (toZ-ofZ (left-fits k l), toZ-ofZ (right-fits k l)) (term-fits k l), rw added-is (product-fits (k + 1) (omega arith)))
 
       pub next-sum : {r : ℤ} → r ≡ added sum (entry images a k) (entry images b k) → ofZ w64 r ≡ ofZ w64 (inner (k + 1) (entry images a) (entry images b))

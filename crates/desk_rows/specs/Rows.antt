@@ -1,14 +1,14 @@
 -- What the contracts on rows cite, and one turn of their loops. Assumes nothing.
-use mathlib.Core.Path.{_≡_, refl, sym, _∙_, ap}
+use mathlib.Core.Path.{_≡_, refl, _∙_}
 use mathlib.Core.Logic.{inl, inr}
 use mathlib.Core.Bool.{Bool, true, false, cond}
 use mathlib.Core.List.{List}
-use Prim.Native.Nat.{ℕ, suc, _+_, _*_, _^_, _/_, _%_, _≤_, _<_}
+use Prim.Native.Nat.{ℕ, suc, _+_, _^_, _/_, _%_, _≤_, _<_}
 use native.Mathlib.Nat.{mul-le-mul-right}
 use native.Mathlib.Numerals.{add-one}
 use native.Mathlib.Omega.{arith}
 use lib.Dec.{T, eqb, ltb, ltb→lt}
-use lib.ListN.{length, getD, set}
+use lib.ListN.{length, set}
 use lib.Seq.{getD-set-other, getD-set-same}
 use Rattle.linear.specs.Cases.{split}
 use Rattle.linear.specs.TupleLaws.{total-most}
@@ -29,7 +29,8 @@ pub record SmallTuple (q : ℕ) (t : List ℕ) : Type 0 where
 pub record Raised (q : ℕ) (z t table : List ℕ) (base : ℕ) : Type 0 where
   pub sums : (j : ℕ) → j < q → tuple z j ≡ tuple t j + rowAt table base j
 
-pub raised-more : {j : ℕ} {z t table : List ℕ} {base : ℕ} → j < length z → Raised j z t table base → Raised (j + 1) (set z j (tuple t j + rowAt table base j)) t table base
+pub raised-more : {j : ℕ} {z t table : List ℕ} {base : ℕ} → j < length z → Raised j z t table base
+    → Raised (j + 1) (set z j (tuple t j + rowAt table base j)) t table base
 raised-more {j} {z} {t} {table} {base} l a =
     record {
       sums = λ i il. elim (split i j) [
@@ -56,11 +57,13 @@ row-agrees : (q : ℕ) {x y : ℕ → ℕ} (marks : ℕ) → Same q x y → (j :
 unfolding deskRow
 row-agrees q {x} {y} marks e j = pick (ltb j q) (λ h. e j (ltb→lt j q h))
   where
-    pick : (b : Bool) → (T b → x j ≡ y j) → cond b (x j) (cond (eqb j q) (marks % word) (marks / word)) ≡ cond b (y j) (cond (eqb j q) (marks % word) (marks / word))
+    pick : (b : Bool) → (T b → x j ≡ y j)
+        → cond b (x j) (cond (eqb j q) (marks % word) (marks / word)) ≡ cond b (y j) (cond (eqb j q) (marks % word) (marks / word))
     pick true h = h tt
     pick false h = refl
 
-pub row-alike : (q : ℕ) (table : List ℕ) (base : ℕ) {x y : ℕ → ℕ} (marks : ℕ) → Same q x y → writeTo (q + 2) table base (deskRow q x marks) ≡ writeTo (q + 2) table base (deskRow q y marks)
+pub row-alike : (q : ℕ) (table : List ℕ) (base : ℕ) {x y : ℕ → ℕ} (marks : ℕ) → Same q x y
+    → writeTo (q + 2) table base (deskRow q x marks) ≡ writeTo (q + 2) table base (deskRow q y marks)
 row-alike q table base marks e = write-same (q + 2) table base (λ j l. row-agrees q marks e j)
 
 -- ---- the sum of the components

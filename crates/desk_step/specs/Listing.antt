@@ -29,7 +29,8 @@ pub data Enlisted (q found : ℕ) (x : ℕ → ℕ) (list after : List ℕ) (ans
   roomy : found < capacity q list → answer ≡ Listed (found + 1) → after ≡ writeTo q list (found * q) x → Enlisted q found x list after answer
   freed : capacity q list ≤ found → sweptCount q found list < capacity q list → answer ≡ Listed (sweptCount q found list + 1)
       → after ≡ writeTo q (sweptList q found list) (sweptCount q found list * q) x → Enlisted q found x list after answer
-  full : capacity q list ≤ found → capacity q list ≤ sweptCount q found list → answer ≡ Refused ListFull → after ≡ sweptList q found list → Enlisted q found x list after answer
+  full : capacity q list ≤ found → capacity q list ≤ sweptCount q found list → answer ≡ Refused ListFull → after ≡ sweptList q found list
+      → Enlisted q found x list after answer
 
 -- ---- places
 
@@ -47,6 +48,8 @@ module _ {q found : ℕ} {list after : List ℕ} {left : ℕ} (k : Kept q found 
   kept-place l = rw (k .counted) (omega (arith, mul-le-mul-right q (count-le (keeps q found (at list q)) found)))
 
 -- room that a sweep has made
-pub freed-listed : {q found : ℕ} {x : ℕ → ℕ} {list after swept : List ℕ} {left : ℕ} → capacity q list ≤ found → Kept q found (keeps q found (at list q)) list swept left → left < capacity q list
+pub freed-listed : {q found : ℕ} {x : ℕ → ℕ} {list after swept : List ℕ} {left : ℕ} → capacity q list ≤ found
+    → Kept q found (keeps q found (at list q)) list swept left → left < capacity q list
     → after ≡ writeTo q swept (left * q) x → Enlisted q found x list after (Listed (left + 1))
-freed-listed {q} {found} {x} l k room w = freed l (rw (k .counted) at room) (ap (λ n. Listed (n + 1)) (k .counted)) (w ∙ ap₂ (λ t n. writeTo q t (n * q) x) (k .rows) (k .counted))
+freed-listed {q} {found} {x} l k room w =
+    freed l (rw (k .counted) at room) (ap (λ n. Listed (n + 1)) (k .counted)) (w ∙ ap₂ (λ t n. writeTo q t (n * q) x) (k .rows) (k .counted))

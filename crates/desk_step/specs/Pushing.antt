@@ -1,21 +1,19 @@
 -- The children's rows written: what is known ahead of it, and one turn. Assumes nothing.
-use mathlib.Core.Path.{_≡_, refl, sym, _∙_, ap}
+use mathlib.Core.Path.{_≡_, refl, _∙_, ap}
 use mathlib.Core.Bool.{Bool, true, false}
 use mathlib.Core.List.{List}
-use Prim.Native.Nat.{ℕ, suc, _+_, _*_, _^_, _%_, _≤_, _<_}
-use native.Mathlib.Nat.{mul-le-mul-right, one-mul}
+use Prim.Native.Nat.{ℕ, _+_, _*_, _^_, _%_, _≤_, _<_}
+use native.Mathlib.Nat.{one-mul}
 use native.Mathlib.Numerals.{add-one}
 use native.Mathlib.Omega.{arith}
-use lib.Dec.{T}
 use lib.ListN.{length, getD}
 use Rattle.linear.specs.TestLaws.{count-step}
-use Rattle.linear.specs.Tests.{countTo, number}
-use Rattle.linear.specs.Tuples.{Same}
+use Rattle.linear.specs.Tests.{countTo}
 use Rattle.definitions.specs.Step.{marksTo}
 use Rattle.definitions.specs.System.{mostComponent}
 use Rattle.definitions.specs.Tables.{at, frozen, writeTo}
 use Rattle.laws.specs.TableLaws.{row-fits}
-use Rattle.sweeps.specs.Pack.{pack-length, packTo, writeIf}
+use Rattle.sweeps.specs.Pack.{pack-length, packTo}
 use Rattle.desk_form.specs.Desks.{deskRow, plus}
 use Rattle.desk_rows.specs.Marks.{shift-one}
 use Rattle.desk_rows.specs.Rows.{Raised, SmallTuple, row-alike}
@@ -55,7 +53,13 @@ module _ (q : ℕ) (generators stack₀ : List ℕ) (level : ℕ) (top : List �
 
     pub pushed-skip : f j ≡ false → Pushed (j + 1) stack h passed
     unfolding packTo countTo marksTo
-    pushed-skip e = record { rows = rw (add-one j, e) (s .rows); height = rw (add-one j, e) (omega (arith, s .height)); marked = rw (add-one j, e) (omega (arith, s .marked)) }
+    pushed-skip e =
+        record {
+          rows = rw (add-one j, e) (s .rows);
+          height = rw (add-one j, e) (omega (arith, s .height));
+          marked =
+              rw (add-one j, e) (omega (arith, s .marked));
+        }
 
     -- its row fits the table
     pub pushed-place : (n : ℕ) → j < n → f j ≡ true → (level + countTo n f) * (q + 2) ≤ length stack₀ → h * (q + 2) + (q + 2) ≤ length stack
@@ -69,14 +73,17 @@ module _ (q : ℕ) (generators stack₀ : List ℕ) (level : ℕ) (top : List �
     unfolding marksTo
     marks-one e = rw (add-one j, e) (omega (arith, s .marked, one-mul (2 ^ j)))
 
-    pub pushed-room : j < 64 → f j ≡ true → marks + marksTo (j + 1) f < 18446744073709551616 → passed + (1 * 2 ^ j) % 18446744073709551616 < 18446744073709551616
+    pub pushed-room : j < 64 → f j ≡ true → marks + marksTo (j + 1) f < 18446744073709551616
+        → passed + (1 * 2 ^ j) % 18446744073709551616 < 18446744073709551616
     pushed-room l e fits = rw (shift-one j l) (omega (arith, marks-one e))
 
-    pub pushed-one : j < 64 → f j ≡ true → {held : List ℕ} → Raised q held top generators (j * q) → {after : List ℕ} → after ≡ writeTo (q + 2) stack (h * (q + 2)) (deskRow q (tuple held) passed)
+    pub pushed-one : j < 64 → f j ≡ true → {held : List ℕ} → Raised q held top generators (j * q) → {after : List ℕ}
+        → after ≡ writeTo (q + 2) stack (h * (q + 2)) (deskRow q (tuple held) passed)
         → Pushed (j + 1) after (h + 1) (passed + (1 * 2 ^ j) % 18446744073709551616)
     pushed-one l e {held} r {after} w =
         record {
-          rows = w ∙ row-alike q stack (h * (q + 2)) {x = tuple held} {y = plus x (at generators q j)} passed (r .sums) ∙ (unfold packTo in (rw (add-one j, e, ← s .rows, ← s .height, ← s .marked)));
+          rows = w ∙ row-alike q stack (h * (q + 2)) {x = tuple held} {y = plus x (at generators q j)} passed (r .sums)
+              ∙ (unfold packTo in (rw (add-one j, e, ← s .rows, ← s .height, ← s .marked)));
           height = unfold countTo in (rw (add-one j, e) (omega (arith, s .height)));
           marked = rw (shift-one j l) (marks-one e);
         }

@@ -2,7 +2,7 @@
 use mathlib.Core.Path.{_≡_, refl, sym, _∙_, ap, subst}
 use mathlib.Core.Bool.{Bool, true, false, not, _&&_, and-false}
 use mathlib.Core.List.{List}
-use Prim.Native.Nat.{ℕ, zero, suc, _+_, _*_, _^_, _%_, _≤_, _<_}
+use Prim.Native.Nat.{ℕ, suc, _+_, _*_, _^_, _%_, _≤_, _<_}
 use native.Mathlib.Nat.{one-mul, pow-le-pow-right}
 use native.Mathlib.Numerals.{add-one}
 use native.Mathlib.Omega.{arith}
@@ -52,7 +52,8 @@ triedIf false made = Made made
 -- a child that would have a component above the limit decides; else the generators that make one are told, as marks
 unfoldable pub triedBy : (p q : ℕ) (generators : List ℕ) (n : ℕ) (images : List ℤ) (list : List ℕ) (found : ℕ) (x : ℕ → ℕ) (marks : ℕ) → Tried
 triedBy p q generators n images list found x marks =
-    triedIf (anyTo n (λ j. madeBy p q generators images list found x marks j && largeBy q generators x j)) (marksTo n (madeBy p q generators images list found x marks))
+    triedIf (anyTo n (λ j. madeBy p q generators images list found x marks j && largeBy q generators x j))
+    (marksTo n (madeBy p q generators images list found x marks))
 
 -- what is known as they are tried on the tuple that `top` holds
 pub record Trying (p q : ℕ) (generators : List ℕ) (n : ℕ) (images : List ℤ) (list : List ℕ) (found : ℕ) (top : List ℕ) : Type 0 where
@@ -64,7 +65,8 @@ pub record Trying (p q : ℕ) (generators : List ℕ) (n : ℕ) (images : List �
   pub small : SmallTuple q top
   pub listed : found * q ≤ length list
 
-pub generator-row : (q n : ℕ) (generators : List ℕ) → n * q ≤ length generators → ((i : ℕ) → getD generators i 0 ≤ mostComponent) → (j : ℕ) → j < n → SmallRow q generators (j * q)
+pub generator-row : (q n : ℕ) (generators : List ℕ) → n * q ≤ length generators → ((i : ℕ) → getD generators i 0 ≤ mostComponent) → (j : ℕ) → j < n
+    → SmallRow q generators (j * q)
 generator-row q n generators whole handed j l = record { whole = omega (arith, row-fits q j n l); small = λ i iq. handed _ }
 
 -- ---- the marks made so far, at one generator more
@@ -140,12 +142,15 @@ module _ (p q : ℕ) (generators : List ℕ) (images : List ℤ) (list : List �
     large-same : anyTo q (λ i. ltb mostComponent (z i)) ≡ largeBy q generators x j
     large-same = any-same q _ _ (λ i l. ap (ltb mostComponent) (same i l))
 
-    pub tries-large : covered q found (at list q) z ≡ false → anyTo q (λ i. ltb mostComponent (z i)) ≡ true → (n : ℕ) → j < n → TooLarge ≡ triedBy p q generators n images list found x marks
+    pub tries-large : covered q found (at list q) z ≡ false → anyTo q (λ i. ltb mostComponent (z i)) ≡ true → (n : ℕ) → j < n
+        → TooLarge ≡ triedBy p q generators n images list found x marks
     unfolding triedBy
     tries-large e h n l = rw (any-holds n large j l (rw (makes-one e) (sym large-same ∙ h)))
 
-    pub tries-made : j < 64 → covered q found (at list q) z ≡ false → anyTo q (λ i. ltb mostComponent (z i)) ≡ false → Tries (j + 1) (made + (1 * 2 ^ j) % 18446744073709551616)
-    tries-made l e h = record { marked = marks-add j made makes (t .marked) l (makes-one e); none = any-next j large (t .none) (rw (makes-one e) (sym large-same ∙ h)) }
+    pub tries-made : j < 64 → covered q found (at list q) z ≡ false → anyTo q (λ i. ltb mostComponent (z i)) ≡ false
+        → Tries (j + 1) (made + (1 * 2 ^ j) % 18446744073709551616)
+    tries-made l e h =
+        record { marked = marks-add j made makes (t .marked) l (makes-one e); none = any-next j large (t .none) (rw (makes-one e) (sym large-same ∙ h)) }
 
   pub tries-all : {n made : ℕ} → Tries n made → Made made ≡ triedBy p q generators n images list found x marks
   unfolding triedBy
@@ -175,10 +180,12 @@ module _ (p q : ℕ) (generators : List ℕ) (n : ℕ) (images : List ℤ) (list
   unfolding triedBy
   large-tried e = large-if _ _ e
 
-  pub made-tried : {made : ℕ} → Made made ≡ triedBy p q generators n images list found (tuple top) marks → Tries p q generators images list found top marks n made
+  pub made-tried : {made : ℕ} → Made made ≡ triedBy p q generators n images list found (tuple top) marks
+      → Tries p q generators images list found top marks n made
   unfolding triedBy
   made-tried e = let (a, b) = made-if _ _ e in record { marked = b; none = a }
 
 -- an inner product as it is handed on and read back
-pub product-back : {p : ℕ} {images : List ℤ} {a b : ℕ} → Factors p images a b → {v : ℤ} → v ≡ inner p (entry images a) (entry images b) → toZ w64 (ofZ w64 v) ≡ inner p (entry images a) (entry images b)
+pub product-back : {p : ℕ} {images : List ℤ} {a b : ℕ} → Factors p images a b → {v : ℤ} → v ≡ inner p (entry images a) (entry images b)
+    → toZ w64 (ofZ w64 v) ≡ inner p (entry images a) (entry images b)
 product-back {p} s h = rw h (toZ-ofZ (product-fits s p (omega arith)))

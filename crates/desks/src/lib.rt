@@ -3,17 +3,16 @@ ghost use mathlib.Core.Path.{_≡_};
 ghost use Prim.Native.Nat.{_+_, _*_, _≤_, _<_};
 ghost use lib.ListN.{length};
 ghost use Rattle.desk_form.specs.Desks.{deskBegin, deskResume};
-ghost use Rattle.desk_calls.specs.Calls.{deskOf, leaves, outcomeOf, stateOf};
+ghost use Rattle.calls.specs.Paper.{stateOf};
+ghost use Rattle.desk_calls.specs.Calls.{deskOf, leaves, outcomeOf};
 ghost use Rattle.desk_calls.specs.declared.Answer.the-variants as answers;
-ghost use Rattle.desks.specs.Walking.{startTo};
+ghost use Rattle.desks.specs.Starting.{startTo};
+use calls::Record;
 use calls::Refusal;
 use desk_calls::Answer;
 use desk_calls::DeskCheck;
 use desk_calls::Outcome;
-use desk_calls::Record;
 use desk_rows::rows;
-
-mod search; // search.rt: the walk
 
 // The start: writes a row for each generator, takes no step.
 pub fn start(
@@ -25,7 +24,8 @@ pub fn start(
     list: &[u32],
     r: Record,
 ) -> Outcome
-    ensures { λ o. ⌜ outcomeOf o (now (stack .exit)) (now (list .entry)) ≡ deskBegin (deskOf p q (now (coefs .entry)) (now (generators .entry))) (stateOf (now (stack .entry)) (now (list .entry)) r) ⌝ }
+    ensures { λ o. ⌜ outcomeOf o (now (stack .exit)) (now (list .entry))
+        ≡ deskBegin (deskOf p q (now (coefs .entry)) (now (generators .entry))) (stateOf (now (stack .entry)) (now (list .entry)) r) ⌝ }
 {
     match desk_checks::check_start(p, q, coefs, generators, stack, list, r) {
         DeskCheck::Refuse(why) => refuse(why, r),
@@ -33,7 +33,7 @@ pub fn start(
         DeskCheck::Pass => {
             let n = generators.len() / q;
             write_start(q, generators, n, stack);
-            desk_calls::leave(Answer::Started, n, 0, 0, 0)
+            desk_calls::begin(n)
         }
     }
 }
@@ -49,12 +49,13 @@ pub fn resume(
     r: Record,
     budget: u64,
 ) -> Outcome
-    ensures { λ o. ⌜ outcomeOf o (now (stack .exit)) (now (list .exit)) ≡ deskResume budget (deskOf p q (now (coefs .entry)) (now (generators .entry))) (stateOf (now (stack .entry)) (now (list .entry)) r) ⌝ }
+    ensures { λ o. ⌜ outcomeOf o (now (stack .exit)) (now (list .exit))
+        ≡ deskResume budget (deskOf p q (now (coefs .entry)) (now (generators .entry))) (stateOf (now (stack .entry)) (now (list .entry)) r) ⌝ }
 {
     match desk_checks::check_resume(p, q, coefs, generators, stack, list, r) {
         DeskCheck::Refuse(why) => refuse(why, r),
         DeskCheck::Wide => refuse_wide(r),
-        DeskCheck::Pass => search::walk(p, q, coefs, generators, stack, list, r, budget),
+        DeskCheck::Pass => desk_walk::walk(p, q, coefs, generators, stack, list, r, budget),
     }
 }
 

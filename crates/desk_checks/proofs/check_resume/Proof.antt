@@ -3,9 +3,10 @@ use borrow.Author.Needs.{needs}
 use borrow.Author.Tests.{not-false, not-true}
 use denote.Ref.{now}
 use mathlib.Core.Bool.{_&&_, and-false}
-use mathlib.Core.Path.{_≡_, sym, _∙_, ap}
+use mathlib.Core.Path.{sym, _∙_, ap}
 use Rattle.calls.specs.Paper as paper
-use Rattle.desk_calls.specs.Calls.{deskOf, stateOf}
+use Rattle.calls.specs.Paper.{stateOf}
+use Rattle.desk_calls.specs.Calls.{deskOf}
 use Rattle.desk_checks.specs.Shape.{handed-by, rows-fit, shape-fits, shape-passed, shape-refused, six-passed, six-refused}
 use Rattle.desk_form.specs.Desks.{deskInOrder, deskResumeChecks, deskRowInOrder, generatorsInOrder}
 use Rattle.desk_checks.proofs.check_resume.Statement.{statement}
@@ -31,7 +32,8 @@ returns c =
     let a = k .before .before .before .before .args in
     let d = deskOf (a .p) (a .q) (now (a .coefs)) (now (a .generators)) in
     let s = stateOf (now (a .stack)) (now (a .list)) (a .r) in
-    shape-passed d s _ (k .check .ensures) (t .enum-told .given .1) (six-refused (generatorsInOrder d && deskInOrder d s) _ (ap (λ b. b && deskInOrder d s) (sym (c .before .small .ensures) ∙ not-true _ (c .if1 .taken))))
+    shape-passed d s _ (k .check .ensures) (t .enum-told .given .1)
+    (six-refused (generatorsInOrder d && deskInOrder d s) _ (ap (λ b. b && deskInOrder d s) (sym (c .before .small .ensures) ∙ not-true _ (c .if1 .taken))))
 
 in-order-requires : tie.Need-in-order-requires
 in-order-requires c κs =
@@ -49,14 +51,16 @@ returns-2 c =
     let d = deskOf (a .p) (a .q) (now (a .coefs)) (now (a .generators)) in
     let no = sym (c .before .in-order .ensures) ∙ not-true _ (c .if2 .taken) in
     let s = stateOf (now (a .stack)) (now (a .list)) (a .r) in
-    shape-passed d s _ (k .check .ensures) (t .enum-told .given .1) (six-refused (generatorsInOrder d && deskInOrder d s) _ (ap (λ b. generatorsInOrder d && b) no ∙ and-false (generatorsInOrder d)))
+    shape-passed d s _ (k .check .ensures) (t .enum-told .given .1)
+    (six-refused (generatorsInOrder d && deskInOrder d s) _ (ap (λ b. generatorsInOrder d && b) no ∙ and-false (generatorsInOrder d)))
 
 check-requires-2 : tie.Need-check-requires-2
 check-requires-2 c κs =
     let e = c .before .before in
     let t = e .before .before in
     let k = t .before .before in
-    handed-by (shape-fits _ _ _ _ _ (sym (k .check .ensures) ∙ ap paper.checkOf (t .enum-told .given .1))) (sym (e .before .small .ensures) ∙ not-false _ (e .if1 .left))
+    handed-by (shape-fits _ _ _ _ _ (sym (k .check .ensures) ∙ ap paper.checkOf (t .enum-told .given .1)))
+    (sym (e .before .small .ensures) ∙ not-false _ (e .if1 .left))
 
 returns-3 : tie.Need-returns-3
 unfolding deskResumeChecks
@@ -78,7 +82,9 @@ returns-4 c =
     let yes = sym (f .before .in-order .ensures) ∙ not-false _ (f .if2 .left) in
     let small = sym (e .before .small .ensures) ∙ not-false _ (e .if1 .left) in
     let s = stateOf (now (a .stack)) (now (a .list)) (a .r) in
-    shape-passed d s _ (k .check .ensures) (t .enum-told .given .1) (six-passed (generatorsInOrder d && deskInOrder d s) _ (ap (λ b. b && deskInOrder d s) small ∙ yes) (c .check2 .ensures))
+    shape-passed d s _ (k .check .ensures) (t .enum-told .given .1)
+    (six-passed (generatorsInOrder d && deskInOrder d s) _ (ap (λ b. b && deskInOrder d s) small ∙ yes) (c .check2 .ensures))
 
 pub check-resume-spec : {M : Type 1} → statement M
-check-resume-spec = tie.close (tie.spec check-requires enum-known-why enum-told small-requires returns in-order-requires returns-2 check-requires-2 returns-3 returns-4)
+check-resume-spec =
+    tie.close (tie.spec check-requires enum-known-why enum-told small-requires returns in-order-requires returns-2 check-requires-2 returns-3 returns-4)

@@ -4,7 +4,8 @@ use borrow.Author.Tests.{not-false, not-true}
 use denote.Ref.{now}
 use mathlib.Core.Path.{sym, _∙_, ap}
 use Rattle.calls.specs.Paper as paper
-use Rattle.desk_calls.specs.Calls.{deskOf, stateOf}
+use Rattle.calls.specs.Paper.{stateOf}
+use Rattle.desk_calls.specs.Calls.{deskOf}
 use Rattle.desk_checks.specs.Shape.{handed-by, shape-fits, shape-passed, shape-refused, six-passed, six-refused}
 use Rattle.desk_form.specs.Desks.{deskStartChecks, generatorsInOrder}
 use Rattle.desk_checks.proofs.check_start.Statement.{statement}
@@ -29,13 +30,15 @@ returns c =
     let k = t .before .before in
     let a = k .before .before .before .before .args in
     let d = deskOf (a .p) (a .q) (now (a .coefs)) (now (a .generators)) in
-    shape-passed d (stateOf (now (a .stack)) (now (a .list)) (a .r)) _ (k .check .ensures) (t .enum-told .given .1) (six-refused _ _ (sym (c .before .small .ensures) ∙ not-true _ (c .if1 .taken)))
+    shape-passed d (stateOf (now (a .stack)) (now (a .list)) (a .r)) _ (k .check .ensures) (t .enum-told .given .1)
+    (six-refused _ _ (sym (c .before .small .ensures) ∙ not-true _ (c .if1 .taken)))
 
 check-requires-2 : tie.Need-check-requires-2
 check-requires-2 c κs =
     let t = c .before .before in
     let k = t .before .before in
-    handed-by (shape-fits _ _ _ _ _ (sym (k .check .ensures) ∙ ap paper.checkOf (t .enum-told .given .1))) (sym (c .before .small .ensures) ∙ not-false _ (c .if1 .left))
+    handed-by (shape-fits _ _ _ _ _ (sym (k .check .ensures) ∙ ap paper.checkOf (t .enum-told .given .1)))
+    (sym (c .before .small .ensures) ∙ not-false _ (c .if1 .left))
 
 returns-2 : tie.Need-returns-2
 unfolding deskStartChecks
@@ -53,7 +56,8 @@ returns-3 c =
     let k = t .before .before in
     let a = k .before .before .before .before .args in
     let d = deskOf (a .p) (a .q) (now (a .coefs)) (now (a .generators)) in
-    shape-passed d (stateOf (now (a .stack)) (now (a .list)) (a .r)) _ (k .check .ensures) (t .enum-told .given .1) (six-passed _ _ (sym (e .before .small .ensures) ∙ not-false _ (e .if1 .left)) (c .check2 .ensures))
+    shape-passed d (stateOf (now (a .stack)) (now (a .list)) (a .r)) _ (k .check .ensures) (t .enum-told .given .1)
+    (six-passed _ _ (sym (e .before .small .ensures) ∙ not-false _ (e .if1 .left)) (c .check2 .ensures))
 
 pub check-start-spec : {M : Type 1} → statement M
 check-start-spec = tie.close (tie.spec check-requires enum-known-why enum-told small-requires returns check-requires-2 returns-2 returns-3)

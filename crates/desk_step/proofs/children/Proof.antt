@@ -1,5 +1,5 @@
 -- `children` meets its contract. The generators passed have been tried. Assumes nothing.
-use Prim.Native.Nat.{ℕ, _*_, _≤_, _<_, _-_}
+use Prim.Native.Nat.{_*_, _≤_, _<_, _-_}
 use borrow.Author.Needs.{needs}
 use borrow.Author.Tests.{not-false, not-true}
 use denote.Ref.{now}
@@ -13,7 +13,8 @@ use Rattle.desk_step.proofs.children.Statement.{statement}
 use Rattle.desk_step.proofs.children.Tie as tie
 
 abbrev Inv-loop : tie.InvT-loop
-Inv-loop p q generators n images list found top child₀ marks made₀ next₀ child made next = (next ≤ n) × (length child ≡ length child₀) × Tries p q generators images list found top marks next made
+Inv-loop p q generators n images list found top child₀ marks made₀ next₀ child made next =
+    (next ≤ n) × (length child ≡ length child₀) × Tries p q generators images list found top marks next made
 
 abbrev μ-loop : tie.MeasureT-loop
 μ-loop p q generators n images list found top child₀ marks made₀ next₀ child made next = n - next
@@ -22,7 +23,9 @@ abbrev begun : tie.In-loop Inv-loop μ-loop → tie.Start Inv-loop μ-loop
 begun l = l .before .before .before .before .before .before
 
 abbrev place : (l : tie.In-loop Inv-loop μ-loop) → SmallRow (begun l .args .q) (now (begun l .args .generators)) (l .before .loop .next * begun l .args .q)
-place l = generator-row (begun l .args .q) (begun l .args .n) (now (begun l .args .generators)) (begun l .pre .0 .whole) (begun l .pre .0 .handed) (l .before .loop .next) (l .loop-test .taken)
+place l =
+    generator-row (begun l .args .q) (begun l .args .n) (now (begun l .args .generators)) (begun l .pre .0 .whole) (begun l .pre .0 .handed)
+    (l .before .loop .next) (l .loop-test .taken)
 
 low : (l : tie.In-loop Inv-loop μ-loop) → l .before .loop .next < 64
 low l = omega (arith, l .loop-test .taken, begun l .pre .0 .few)
@@ -41,8 +44,11 @@ loop-less c = search needs
 
 loop-again : tie.Need-loop-again Inv-loop μ-loop
 loop-again c =
-    let l = c .before .before in
-    (search needs, l .before .loop .inv .1, tries-closed _ _ _ _ _ _ _ _ (l .before .loop .inv .2) (sym (c .before .is-open .ensures) ∙ not-true _ (c .if1 .taken)))
+    let l = c .before .before in (
+      search needs,
+      l .before .loop .inv .1,
+      tries-closed _ _ _ _ _ _ _ _ (l .before .loop .inv .2) (sym (c .before .is-open .ensures) ∙ not-true _ (c .if1 .taken)),
+    )
 
 mul-add : tie.Need-mul-add Inv-loop μ-loop
 mul-add c = let l = c .before .before in omega (arith, place l .whole)
@@ -64,8 +70,13 @@ loop-again-2 c =
     let k = c .before in
     let x = k .before .before .before .before in
     let e = x .before .before in
-    let l = e .before .before in
-    (search needs, x .add .kept .1 .1 .1 .1 .0 ∙ l .before .loop .inv .1, tries-covered _ _ _ _ _ _ _ _ (l .before .loop .inv .2) (sym (e .before .is-open .ensures) ∙ not-false _ (e .if1 .left)) (x .add .ensures) (sym (k .covered .ensures) ∙ c .if2 .taken))
+    let l = e .before .before in (
+      search needs,
+      x .add .kept .1 .1 .1 .1 .0
+          ∙ l .before .loop .inv .1,
+      tries-covered _ _ _ _ _ _ _ _ (l .before .loop .inv .2) (sym (e .before .is-open .ensures) ∙ not-false _ (e .if1 .left)) (x .add .ensures)
+          (sym (k .covered .ensures) ∙ c .if2 .taken),
+    )
 
 is-large-requires : tie.Need-is-large-requires Inv-loop μ-loop
 is-large-requires c κs =
@@ -87,7 +98,8 @@ returns c =
     let x = k .before .before .before .before in
     let e = x .before .before in
     let l = e .before .before in
-    tries-large _ _ _ _ _ _ _ _ (l .before .loop .inv .2) (sym (e .before .is-open .ensures) ∙ not-false _ (e .if1 .left)) (x .add .ensures) (sym (k .covered .ensures) ∙ f .if2 .left) (sym (g .is-large .ensures) ∙ c .if3 .taken) _ (l .loop-test .taken)
+    tries-large _ _ _ _ _ _ _ _ (l .before .loop .inv .2) (sym (e .before .is-open .ensures) ∙ not-false _ (e .if1 .left)) (x .add .ensures)
+    (sym (k .covered .ensures) ∙ f .if2 .left) (sym (g .is-large .ensures) ∙ c .if3 .taken) _ (l .loop-test .taken)
 
 shl-made : tie.Need-shl-made Inv-loop μ-loop
 shl-made c = let l = c .before .before .before .before .before .before .before .before .before .before .before .before in omega (arith, low l)
@@ -107,8 +119,13 @@ loop-again-3 c =
     let k = f .before in
     let x = k .before .before .before .before in
     let e = x .before .before in
-    let l = e .before .before in
-    (search needs, x .add .kept .1 .1 .1 .1 .0 ∙ l .before .loop .inv .1, tries-made _ _ _ _ _ _ _ _ (l .before .loop .inv .2) (sym (e .before .is-open .ensures) ∙ not-false _ (e .if1 .left)) (x .add .ensures) (low l) (sym (k .covered .ensures) ∙ f .if2 .left) (sym (g .is-large .ensures) ∙ c .if3 .left))
+    let l = e .before .before in (
+      search needs,
+      x .add .kept .1 .1 .1 .1 .0
+          ∙ l .before .loop .inv .1,
+      tries-made _ _ _ _ _ _ _ _ (l .before .loop .inv .2) (sym (e .before .is-open .ensures) ∙ not-false _ (e .if1 .left)) (x .add .ensures) (low l)
+          (sym (k .covered .ensures) ∙ f .if2 .left) (sym (g .is-large .ensures) ∙ c .if3 .left),
+    )
 
 same-length-2 : tie.Need-same-length-2 Inv-loop μ-loop
 same-length-2 c = search needs
@@ -117,4 +134,7 @@ returns-2 : tie.Need-returns-2 Inv-loop μ-loop
 returns-2 c = let a = c .before in tries-all _ _ _ _ _ _ _ _ (rw (le-antisymm (a .loop .inv .0) (c .loop-test .left)) at (a .loop .inv .2))
 
 pub children-spec : {M : Type 1} → statement M
-children-spec = tie.close (tie.spec Inv-loop μ-loop loop-holds add-next is-open-requires loop-less loop-again mul-add add-requires covered-requires loop-less-2 loop-again-2 is-large-requires same-length returns shl-made add-made loop-less-3 loop-again-3 same-length-2 returns-2)
+children-spec =
+    tie.close
+    (tie.spec Inv-loop μ-loop loop-holds add-next is-open-requires loop-less loop-again mul-add add-requires covered-requires loop-less-2 loop-again-2
+    is-large-requires same-length returns shl-made add-made loop-less-3 loop-again-3 same-length-2 returns-2)

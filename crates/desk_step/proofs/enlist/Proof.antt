@@ -1,13 +1,10 @@
 -- `enlist` meets its contract: its three ways out. Assumes nothing.
-use Prim.Native.Nat.{_*_}
 use borrow.Author.Needs.{needs}
 use denote.Ref.{now}
-use mathlib.Core.Path.{refl, _∙_, ap}
+use mathlib.Core.Path.{refl}
 use native.Mathlib.Omega.{arith}
-use Rattle.definitions.specs.Tables.{writeTo}
 use Rattle.desk_step.specs.Listing as listing
 use Rattle.desk_step.specs.Listing.{capacity-small, freed-listed, kept-place, kept-size, next-fits}
-use Rattle.lists.specs.Rows.{tuple}
 use Rattle.desk_step.proofs.enlist.Statement.{statement}
 use Rattle.desk_step.proofs.enlist.Tie as tie
 
@@ -80,4 +77,7 @@ returns-3 c =
     freed-listed (f .if1 .left) (w .sweep .ensures) (e .if2 .left) (u .write2 .ensures)
 
 pub enlist-spec : {M : Type 1} → statement M
-enlist-spec = tie.close (tie.spec div-capacity mul-write write-requires add-t12 same-length returns sweep-requires same-length-2 returns-2 mul-write-2 write-requires-2 add-t7 same-length-3 returns-3)
+enlist-spec =
+    tie.close
+    (tie.spec div-capacity mul-write write-requires add-t12 same-length returns sweep-requires same-length-2 returns-2 mul-write-2 write-requires-2 add-t7
+    same-length-3 returns-3)

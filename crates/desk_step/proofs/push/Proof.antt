@@ -1,5 +1,5 @@
 -- `push` meets its contract. The rows of the generators passed have been written. Assumes nothing.
-use Prim.Native.Nat.{ℕ, _+_, _*_, _≤_, _<_, _-_}
+use Prim.Native.Nat.{_+_, _*_, _≤_, _<_, _-_}
 use borrow.Author.Needs.{needs}
 use denote.Ref.{now}
 use lib.ListN.{length}
@@ -24,7 +24,9 @@ abbrev begun : tie.In-loop Inv-loop μ-loop → tie.Start Inv-loop μ-loop
 begun l = l .before .before .before .before .before .before
 
 abbrev place : (l : tie.In-loop Inv-loop μ-loop) → SmallRow (begun l .args .q) (now (begun l .args .generators)) (l .before .loop .next * begun l .args .q)
-place l = generator-row (begun l .args .q) (begun l .args .n) (now (begun l .args .generators)) (begun l .pre .0 .whole) (begun l .pre .0 .handed) (l .before .loop .next) (l .loop-test .taken)
+place l =
+    generator-row (begun l .args .q) (begun l .args .n) (now (begun l .args .generators)) (begun l .pre .0 .whole) (begun l .pre .0 .handed)
+    (l .before .loop .next) (l .loop-test .taken)
 
 low : (l : tie.In-loop Inv-loop μ-loop) → l .before .loop .next < 64
 low l = omega (arith, l .loop-test .taken, begun l .pre .0 .few)
@@ -49,8 +51,12 @@ write-requires c κs =
     let x = c .before .before .before .before in
     let t = x .before .before in
     let l = t .before .before in
-    let s = begun l in
-    (omega (arith, x .add .kept .1 .1 .1 .1 .0, l .before .loop .inv .2, s .pre .1), s .pre .0 .unknowns, pushed-place _ _ _ _ _ _ _ (l .before .loop .inv .3) (s .args .n) (l .loop-test .taken) (sym (t .before .is-marked .ensures) ∙ t .if1 .taken) (s .pre .0 .room))
+    let s = begun l in (
+      omega (arith, x .add .kept .1 .1 .1 .1 .0, l .before .loop .inv .2, s .pre .1),
+      s .pre .0 .unknowns,
+      pushed-place _ _ _ _ _ _ _ (l .before .loop .inv .3) (s .args .n) (l .loop-test .taken) (sym (t .before .is-marked .ensures) ∙ t .if1 .taken)
+          (s .pre .0 .room),
+    )
 
 shl-frozen : tie.Need-shl-frozen Inv-loop μ-loop
 shl-frozen c = let l = c .before .before .before .before .before .before .before .before .before .before .before in omega (arith, low l)
@@ -59,13 +65,21 @@ add-frozen : tie.Need-add-frozen Inv-loop μ-loop
 add-frozen c =
     let t = c .before .before .before .before .before .before .before .before .before in
     let l = t .before .before in
-    omega (arith, pushed-room _ _ _ _ _ _ _ (l .before .loop .inv .3) (low l) (sym (t .before .is-marked .ensures) ∙ t .if1 .taken) (begun l .pre .0 .fits (l .before .loop .next + 1) (omega (arith, l .loop-test .taken))))
+    omega (
+      arith,
+      pushed-room _ _ _ _ _ _ _ (l .before .loop .inv .3) (low l) (sym (t .before .is-marked .ensures) ∙ t .if1 .taken)
+          (begun l .pre .0 .fits (l .before .loop .next + 1) (omega (arith, l .loop-test .taken))),
+    )
 
 add-h : tie.Need-add-h Inv-loop μ-loop
 add-h c =
     let t = c .before .before .before .before .before .before .before .before .before in
     let l = t .before .before in
-    omega (arith, pushed-low _ _ _ _ _ _ _ (l .before .loop .inv .3) (begun l .args .n) (l .loop-test .taken) (sym (t .before .is-marked .ensures) ∙ t .if1 .taken) (begun l .pre .0 .low))
+    omega (
+      arith,
+      pushed-low _ _ _ _ _ _ _ (l .before .loop .inv .3) (begun l .args .n) (l .loop-test .taken) (sym (t .before .is-marked .ensures) ∙ t .if1 .taken)
+          (begun l .pre .0 .low),
+    )
 
 loop-less : tie.Need-loop-less Inv-loop μ-loop
 loop-less c = search needs
@@ -75,16 +89,26 @@ loop-again c =
     let w = c .before .before in
     let x = w .before .before .before .before .before in
     let t = x .before .before in
-    let l = t .before .before in
-    (search needs, w .write .kept .0 ∙ l .before .loop .inv .1, x .add .kept .1 .1 .1 .1 .0 ∙ l .before .loop .inv .2, pushed-one _ _ _ _ _ _ _ (l .before .loop .inv .3) (low l) (sym (t .before .is-marked .ensures) ∙ t .if1 .taken) (x .add .ensures) (w .write .ensures))
+    let l = t .before .before in (
+      search needs,
+      w .write .kept .0 ∙ l .before .loop .inv .1,
+      x .add .kept .1 .1 .1 .1 .0
+          ∙ l .before .loop .inv .2,
+      pushed-one _ _ _ _ _ _ _ (l .before .loop .inv .3) (low l) (sym (t .before .is-marked .ensures) ∙ t .if1 .taken) (x .add .ensures)
+          (w .write .ensures),
+    )
 
 loop-less-2 : tie.Need-loop-less-2 Inv-loop μ-loop
 loop-less-2 c = search needs
 
 loop-again-2 : tie.Need-loop-again-2 Inv-loop μ-loop
 loop-again-2 c =
-    let l = c .before .before in
-    (search needs, l .before .loop .inv .1, l .before .loop .inv .2, pushed-skip _ _ _ _ _ _ _ (l .before .loop .inv .3) (sym (c .before .is-marked .ensures) ∙ c .if1 .left))
+    let l = c .before .before in (
+      search needs,
+      l .before .loop .inv .1,
+      l .before .loop .inv .2,
+      pushed-skip _ _ _ _ _ _ _ (l .before .loop .inv .3) (sym (c .before .is-marked .ensures) ∙ c .if1 .left),
+    )
 
 same-length : tie.Need-same-length Inv-loop μ-loop
 same-length c = search needs
@@ -99,4 +123,7 @@ returns c =
     (s .height, s .rows)
 
 pub push-spec : {M : Type 1} → statement M
-push-spec = tie.close (tie.spec Inv-loop μ-loop loop-holds add-next is-marked-requires mul-add add-requires write-requires shl-frozen add-frozen add-h loop-less loop-again loop-less-2 loop-again-2 same-length same-length-2 returns)
+push-spec =
+    tie.close
+    (tie.spec Inv-loop μ-loop loop-holds add-next is-marked-requires mul-add add-requires write-requires shl-frozen add-frozen add-h loop-less loop-again
+    loop-less-2 loop-again-2 same-length same-length-2 returns)

@@ -2,7 +2,8 @@
 use borrow.Author.Needs.{needs}
 use denote.Ref.{now}
 use Rattle.definitions.specs.Machine.{call}
-use Rattle.desk_calls.specs.Calls.{call-passed, call-refused, call-wide, deskOf, passes, stateOf}
+use Rattle.calls.specs.Paper.{stateOf}
+use Rattle.desk_calls.specs.Calls.{call-passed, call-refused, call-wide, deskOf, passes}
 use Rattle.desk_form.specs.Valid.{resume-valid}
 use Rattle.desks.proofs.resume.Statement.{statement}
 use Rattle.desks.proofs.resume.Tie as tie
@@ -30,7 +31,8 @@ walk-requires c κs =
     let t = c .before .before in
     let k = t .before .before in
     let a = k .before .before .before .before .before .before .args in
-    resume-valid (deskOf (a .p) (a .q) (now (a .coefs)) (now (a .generators))) (stateOf (now (a .stack)) (now (a .list)) (a .r)) (passes (k .check-resume .ensures) (t .enum-told2 .given .1))
+    resume-valid (deskOf (a .p) (a .q) (now (a .coefs)) (now (a .generators))) (stateOf (now (a .stack)) (now (a .list)) (a .r))
+    (passes (k .check-resume .ensures) (t .enum-told2 .given .1))
 
 same-length : tie.Need-same-length
 same-length c = search needs
@@ -73,4 +75,7 @@ returns-3 c =
     call-passed (k .check-resume .ensures) _ _ (t .enum-told2 .given .1) (w .walk .ensures)
 
 pub resume-spec : {M : Type 1} → statement M
-resume-spec = tie.close (tie.spec check-resume-requires enum-known-why refuse-requires enum-told refuse-wide-requires enum-told-2 walk-requires same-length same-length-2 returns same-length-3 same-length-4 returns-2 same-length-5 same-length-6 returns-3)
+resume-spec =
+    tie.close
+    (tie.spec check-resume-requires enum-known-why refuse-requires enum-told refuse-wide-requires enum-told-2 walk-requires same-length same-length-2
+    returns same-length-3 same-length-4 returns-2 same-length-5 same-length-6 returns-3)

@@ -5,7 +5,8 @@ use lib.ListN.{length}
 use mathlib.Core.Path.{refl}
 use native.Mathlib.Nat.{div-mul-le-self}
 use native.Mathlib.Omega.{arith}
-use Rattle.desk_calls.specs.Calls.{call-passed, call-refused, call-wide, deskOf, passes, stateOf}
+use Rattle.calls.specs.Paper.{stateOf}
+use Rattle.desk_calls.specs.Calls.{call-passed, call-refused, call-wide, deskOf, passes}
 use Rattle.desk_form.specs.Desks.{deskBegin, deskStart}
 use Rattle.desk_form.specs.Valid.{start-shaped}
 use Rattle.desks.proofs.start.Statement.{statement}
@@ -33,7 +34,8 @@ div-n : tie.Need-div-n
 div-n c =
     let k = c .before .before in
     let a = k .before .before .before .before .before .args in
-    let g = start-shaped (deskOf (a .p) (a .q) (now (a .coefs)) (now (a .generators))) (stateOf (now (a .stack)) (now (a .list)) (a .r)) (passes (k .check-start .ensures) (c .enum-told2 .given .1)) in
+    let g = start-shaped (deskOf (a .p) (a .q) (now (a .coefs)) (now (a .generators))) (stateOf (now (a .stack)) (now (a .list)) (a .r))
+    (passes (k .check-start .ensures) (c .enum-told2 .given .1)) in
     omega (arith, g .q-some)
 
 write-start-requires : tie.Need-write-start-requires
@@ -41,11 +43,12 @@ write-start-requires c κs =
     let t = c .before in
     let k = t .before .before in
     let a = k .before .before .before .before .before .args in
-    let g = start-shaped (deskOf (a .p) (a .q) (now (a .coefs)) (now (a .generators))) (stateOf (now (a .stack)) (now (a .list)) (a .r)) (passes (k .check-start .ensures) (t .enum-told2 .given .1)) in
+    let g = start-shaped (deskOf (a .p) (a .q) (now (a .coefs)) (now (a .generators))) (stateOf (now (a .stack)) (now (a .list)) (a .r))
+    (passes (k .check-start .ensures) (t .enum-told2 .given .1)) in
     (g .q-few, g .few, div-mul-le-self (length (now (a .generators))) (a .q), g .stack)
 
-leave-requires : tie.Need-leave-requires
-leave-requires c κs = search needs
+begin-requires : tie.Need-begin-requires
+begin-requires c κs = search needs
 
 same-length : tie.Need-same-length
 same-length c = search needs
@@ -76,7 +79,10 @@ returns-3 c =
     let w = c .before .before .before in
     let t = w .before .before in
     let k = t .before .before in
-    call-passed (k .check-start .ensures) _ _ (t .enum-told2 .given .1) (rw (c .leave .ensures, w .write-start .ensures) refl)
+    call-passed (k .check-start .ensures) _ _ (t .enum-told2 .given .1) (rw (c .begin .ensures, w .write-start .ensures) refl)
 
 pub start-spec : {M : Type 1} → statement M
-start-spec = tie.close (tie.spec check-start-requires enum-known-why refuse-requires enum-told refuse-wide-requires enum-told-2 div-n write-start-requires leave-requires same-length returns same-length-2 returns-2 same-length-3 returns-3)
+start-spec =
+    tie.close
+    (tie.spec check-start-requires enum-known-why refuse-requires enum-told refuse-wide-requires enum-told-2 div-n write-start-requires begin-requires
+    same-length returns same-length-2 returns-2 same-length-3 returns-3)

@@ -50,7 +50,14 @@ returns-5 c =
     let e3 = e4 .before in
     let e2 = e3 .before in
     let e1 = e2 .before in
-    rw (sym (e1 .before .is-desks .ensures) ∙ not-false _ (e1 .if1 .left), le-leb _ _ (e2 .if2 .left), le-leb _ _ (e3 .if3 .left), le-leb _ _ (e4 .if4 .left), lt-leb _ _ (c .if5 .taken))
+    rw (
+      sym (e1 .before .is-desks .ensures)
+          ∙ not-false _ (e1 .if1 .left),
+      le-leb _ _ (e2 .if2 .left),
+      le-leb _ _ (e3 .if3 .left),
+      le-leb _ _ (e4 .if4 .left),
+      lt-leb _ _ (c .if5 .taken),
+    )
 
 rows-in-order-requires : tie.Need-rows-in-order-requires
 rows-in-order-requires c κs =
@@ -66,7 +73,15 @@ returns-6 c =
     let e3 = e4 .before in
     let e2 = e3 .before in
     let e1 = e2 .before in
-    rw (sym (e1 .before .is-desks .ensures) ∙ not-false _ (e1 .if1 .left), le-leb _ _ (e2 .if2 .left), le-leb _ _ (e3 .if3 .left), le-leb _ _ (e4 .if4 .left), le-leb _ _ (e5 .if5 .left)) (c .rows-in-order .ensures)
+    rw (
+      sym (e1 .before .is-desks .ensures)
+          ∙ not-false _ (e1 .if1 .left),
+      le-leb _ _ (e2 .if2 .left),
+      le-leb _ _ (e3 .if3 .left),
+      le-leb _ _ (e4 .if4 .left),
+      le-leb _ _ (e5 .if5 .left),
+    )
+    (c .rows-in-order .ensures)
 
 pub in-order-spec : {M : Type 1} → statement M
 in-order-spec = tie.close (tie.spec is-desks-requires returns div-if2 returns-2 div-if3 returns-3 returns-4 returns-5 rows-in-order-requires returns-6)

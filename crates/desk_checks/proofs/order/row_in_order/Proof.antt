@@ -58,4 +58,7 @@ returns-2 c =
     rw (sym (e .before .small-at .ensures) ∙ not-false _ (e .if1 .left)) (rw (j .join .ensures) at (c .in-order .ensures))
 
 pub row-in-order-spec : {M : Type 1} → statement M
-row-in-order-spec = tie.close (tie.spec add-base mul-base small-at-requires returns add-join mul-join shared-slice-read-join add-join-2 add-join-3 mul-join-2 shared-slice-read-join-2 join-requires div-in-order in-order-requires returns-2)
+row-in-order-spec =
+    tie.close
+    (tie.spec add-base mul-base small-at-requires returns add-join mul-join shared-slice-read-join add-join-2 add-join-3 mul-join-2
+    shared-slice-read-join-2 join-requires div-in-order in-order-requires returns-2)

@@ -23,7 +23,8 @@ unfolding check7
 is-wide-requires c κs =
     let k = c .before .before in
     let s = k .before .before in
-    handed-small (s .args .p) (s .args .q) (now (s .args .coefs)) (now (s .args .generators)) (s .pre) (sym (k .check .ensures) ∙ ap paper.checkOf (c .enum-told .given .1))
+    handed-small (s .args .p) (s .args .q) (now (s .args .coefs)) (now (s .args .generators)) (s .pre)
+    (sym (k .check .ensures) ∙ ap paper.checkOf (c .enum-told .given .1))
 
 returns : tie.Need-returns
 unfolding check7
@@ -38,7 +39,8 @@ returns-2 c =
     let t = c .before .before in
     let k = t .before .before in
     let a = k .before .before .args in
-    range-wide (deskOf (a .p) (a .q) (now (a .coefs)) (now (a .generators))) (k .check .ensures) (t .enum-told .given .1) (sym (c .before .is-wide .ensures) ∙ c .if1 .taken)
+    range-wide (deskOf (a .p) (a .q) (now (a .coefs)) (now (a .generators))) (k .check .ensures) (t .enum-told .given .1)
+    (sym (c .before .is-wide .ensures) ∙ c .if1 .taken)
 
 returns-3 : tie.Need-returns-3
 unfolding check7
@@ -46,7 +48,8 @@ returns-3 c =
     let t = c .before .before in
     let k = t .before .before in
     let a = k .before .before .args in
-    range-passed (deskOf (a .p) (a .q) (now (a .coefs)) (now (a .generators))) (k .check .ensures) (t .enum-told .given .1) (sym (c .before .is-wide .ensures) ∙ c .if1 .left)
+    range-passed (deskOf (a .p) (a .q) (now (a .coefs)) (now (a .generators))) (k .check .ensures) (t .enum-told .given .1)
+    (sym (c .before .is-wide .ensures) ∙ c .if1 .left)
 
 pub check-spec : {M : Type 1} → statement M
 check-spec = tie.close (tie.spec check-requires enum-known-why enum-told is-wide-requires returns returns-2 returns-3)

@@ -1,5 +1,4 @@
 -- `ranges::is_large` meets its contract: the two comparisons of signed numbers are one of the size. Assumes nothing.
-use borrow.Author.Needs.{needs}
 use lib.Dec.{leb·suc-suc, ltb}
 use lib.IntN.{ℤ, pos, natAbs, negsuc}
 use lib.Signed.{ltZ}

@@ -1,5 +1,5 @@
 -- `ranges::is_wide` meets its contract: their number decides, else no image passed is wide. Assumes nothing.
-use Prim.Native.Nat.{_/_, _-_, _≤_}
+use Prim.Native.Nat.{_-_, _≤_}
 use borrow.Author.Needs.{needs}
 use borrow.Author.Tests.{le-ltb, lt-ltb}
 use lib.Dec.{ltb}
@@ -7,7 +7,6 @@ use lib.IntN.{natAbs}
 use mathlib.Core.Bool.{false}
 use mathlib.Core.Path.{_≡_, refl, sym, _∙_}
 use native.Mathlib.Nat.{le-antisymm}
-use native.Mathlib.Omega.{arith}
 use Rattle.definitions.specs.System.{imageOf}
 use Rattle.desk_calls.specs.Calls.{deskOf}
 use Rattle.desk_form.specs.Desks.{generator, imageLimit, mostGenerators, secondGroup, wide}
@@ -18,7 +17,10 @@ use Rattle.desk_checks.proofs.ranges.is_wide.Tie as tie
 
 abbrev Inv-loop : tie.InvT-loop
 Inv-loop p q coefs generators n k₀ k =
-    (k ≤ n) × (anyTo k (λ g. anyTo p (λ e. ltb imageLimit (natAbs (imageOf (secondGroup (deskOf p q coefs generators)) (generator (deskOf p q coefs generators) g) e)))) ≡ false)
+    (k ≤ n) ×
+    (anyTo k
+    (λ g. anyTo p (λ e. ltb imageLimit (natAbs (imageOf (secondGroup (deskOf p q coefs generators)) (generator (deskOf p q coefs generators) g) e))))
+    ≡ false)
 
 abbrev μ-loop : tie.MeasureT-loop
 μ-loop p q coefs generators n k₀ k = n - k
@@ -41,7 +43,8 @@ returns-2 : tie.Need-returns-2 Inv-loop μ-loop
 unfolding wide
 returns-2 c =
     let l = c .before .before in
-    rw (le-ltb mostGenerators _ (l .before .before .if1 .left)) (sym (any-holds _ _ _ (l .loop-test .taken) (sym (c .before .wide-image .ensures) ∙ c .if2 .taken)))
+    rw (le-ltb mostGenerators _ (l .before .before .if1 .left))
+    (sym (any-holds _ _ _ (l .loop-test .taken) (sym (c .before .wide-image .ensures) ∙ c .if2 .taken)))
 
 add-k : tie.Need-add-k Inv-loop μ-loop
 add-k c = search needs

@@ -1,5 +1,5 @@
 -- `ranges::wide_image` meets its contract: no sum passed is large. Assumes nothing.
-use Prim.Native.Nat.{_*_, _-_, _≤_}
+use Prim.Native.Nat.{_-_, _≤_}
 use borrow.Author.Needs.{needs}
 use lib.Dec.{ltb}
 use lib.IntN.{natAbs}
@@ -18,7 +18,9 @@ use Rattle.desk_checks.proofs.ranges.wide_image.Statement.{statement}
 use Rattle.desk_checks.proofs.ranges.wide_image.Tie as tie
 
 abbrev Inv-loop : tie.InvT-loop
-Inv-loop p q coefs generators k i₀ i = (i ≤ p) × (anyTo i (λ e. ltb imageLimit (natAbs (imageOf (secondGroup (deskOf p q coefs generators)) (generator (deskOf p q coefs generators) k) e))) ≡ false)
+Inv-loop p q coefs generators k i₀ i =
+    (i ≤ p) ×
+    (anyTo i (λ e. ltb imageLimit (natAbs (imageOf (secondGroup (deskOf p q coefs generators)) (generator (deskOf p q coefs generators) k) e))) ≡ false)
 
 abbrev μ-loop : tie.MeasureT-loop
 μ-loop p q coefs generators k i₀ i = p - i
@@ -45,7 +47,8 @@ returns : tie.Need-returns Inv-loop μ-loop
 returns c =
     let l = c .before .before .before in
     let s = l .before .before .before in
-    let v = value-back (desk-equation (s .pre .0) (l .before .loop .i) (l .loop-test .taken)) (desk-row (s .pre .0) (s .args .k) (s .pre .1)) (c .before .before .value-of .ensures) in
+    let v = value-back (desk-equation (s .pre .0) (l .before .loop .i) (l .loop-test .taken)) (desk-row (s .pre .0) (s .args .k) (s .pre .1))
+    (c .before .before .value-of .ensures) in
     sym (any-holds _ _ _ (l .loop-test .taken) (rw v at (sym (c .before .is-large .ensures) ∙ c .if1 .taken)))
 
 add-i : tie.Need-add-i Inv-loop μ-loop
@@ -58,11 +61,13 @@ loop-again : tie.Need-loop-again Inv-loop μ-loop
 loop-again c =
     let l = c .before .before .before in
     let s = l .before .before .before in
-    let v = value-back (desk-equation (s .pre .0) (l .before .loop .i) (l .loop-test .taken)) (desk-row (s .pre .0) (s .args .k) (s .pre .1)) (c .before .before .value-of .ensures) in
+    let v = value-back (desk-equation (s .pre .0) (l .before .loop .i) (l .loop-test .taken)) (desk-row (s .pre .0) (s .args .k) (s .pre .1))
+    (c .before .before .value-of .ensures) in
     (search needs, any-next _ _ (l .before .loop .inv .1) (rw v at (sym (c .before .is-large .ensures) ∙ c .if1 .left)))
 
 returns-2 : tie.Need-returns-2 Inv-loop μ-loop
 returns-2 c = cc (le-antisymm (c .before .loop .inv .0) (c .loop-test .left))
 
 pub wide-image-spec : {M : Type 1} → statement M
-wide-image-spec = tie.close (tie.spec Inv-loop μ-loop loop-holds mul-value-of mul-value-of-2 value-of-requires is-large-requires returns add-i loop-less loop-again returns-2)
+wide-image-spec =
+    tie.close (tie.spec Inv-loop μ-loop loop-holds mul-value-of mul-value-of-2 value-of-requires is-large-requires returns add-i loop-less loop-again returns-2)

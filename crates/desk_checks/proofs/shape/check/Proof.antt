@@ -49,7 +49,12 @@ returns-6 : tie.Need-returns-6
 unfolding shapeChecks refuseWith _then_
 returns-6 c =
     let s = c .before .before .before .before .before .before .args in
-    rw (in-range 8 (s .p) (omega arith) (omega arith), in-range 16 (s .q) (omega arith) (omega arith), eq-eqb (s .coefs) (s .p * s .q) (c .before .if5 .left), ne-eqb (s .generators % s .q) 0 (c .if6 .taken))
+    rw (
+      in-range 8 (s .p) (omega arith) (omega arith),
+      in-range 16 (s .q) (omega arith) (omega arith),
+      eq-eqb (s .coefs) (s .p * s .q) (c .before .if5 .left),
+      ne-eqb (s .generators % s .q) 0 (c .if6 .taken),
+    )
 
 add-if7 : tie.Need-add-if7
 add-if7 c = search needs
@@ -64,13 +69,25 @@ returns-7 : tie.Need-returns-7
 unfolding shapeChecks refuseWith _then_
 returns-7 c =
     let s = c .before .before .before .before .before .before .before .args in
-    rw (in-range 8 (s .p) (omega arith) (omega arith), in-range 16 (s .q) (omega arith) (omega arith), eq-eqb (s .coefs) (s .p * s .q) (c .before .before .if5 .left), eq-eqb (s .generators % s .q) 0 (c .before .if6 .left), lt-ltb (s .stack) (s .generators / s .q * (s .q + 2)) (room-short (s .q) (s .generators / s .q) (s .stack) (c .if7 .taken)))
+    rw (
+      in-range 8 (s .p) (omega arith) (omega arith),
+      in-range 16 (s .q) (omega arith) (omega arith),
+      eq-eqb (s .coefs) (s .p * s .q) (c .before .before .if5 .left),
+      eq-eqb (s .generators % s .q) 0 (c .before .if6 .left),
+      lt-ltb (s .stack) (s .generators / s .q * (s .q + 2)) (room-short (s .q) (s .generators / s .q) (s .stack) (c .if7 .taken)),
+    )
 
 returns-8 : tie.Need-returns-8
 unfolding shapeChecks refuseWith _then_
 returns-8 c =
     let s = c .before .before .before .before .before .before .before .args in
-    rw (in-range 8 (s .p) (omega arith) (omega arith), in-range 16 (s .q) (omega arith) (omega arith), eq-eqb (s .coefs) (s .p * s .q) (c .before .before .if5 .left), eq-eqb (s .generators % s .q) 0 (c .before .if6 .left), le-ltb (s .stack) (s .generators / s .q * (s .q + 2)) (room-enough (s .q) (s .generators / s .q) (s .stack) (c .if7 .left)))
+    rw (
+      in-range 8 (s .p) (omega arith) (omega arith),
+      in-range 16 (s .q) (omega arith) (omega arith),
+      eq-eqb (s .coefs) (s .p * s .q) (c .before .before .if5 .left),
+      eq-eqb (s .generators % s .q) 0 (c .before .if6 .left),
+      le-ltb (s .stack) (s .generators / s .q * (s .q + 2)) (room-enough (s .q) (s .generators / s .q) (s .stack) (c .if7 .left)),
+    )
 
 pub check-spec : {M : Type 1} → statement M
 check-spec = tie.close (tie.spec returns returns-2 returns-3 returns-4 mul-if5 returns-5 rem-if6 returns-6 add-if7 div-if7 div-if7-2 returns-7 returns-8)

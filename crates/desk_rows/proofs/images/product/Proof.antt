@@ -71,4 +71,7 @@ returns c =
     rw (le-antisymm (a .loop .inv .0) (c .loop-test .left)) at sum
 
 pub product-spec : {M : Type 1} → statement M
-product-spec = tie.close (tie.spec Inv-loop μ-loop loop-holds mul-sum-and add-sum-and mul-sum-and-2 element-copy-out-sum-and mul-sum-and-3 add-sum-and-2 mul-sum-and-4 element-copy-out-sum-and-2 sum-and-requires add-i loop-less loop-again returns)
+product-spec =
+    tie.close
+    (tie.spec Inv-loop μ-loop loop-holds mul-sum-and add-sum-and mul-sum-and-2 element-copy-out-sum-and mul-sum-and-3 add-sum-and-2 mul-sum-and-4
+    element-copy-out-sum-and-2 sum-and-requires add-i loop-less loop-again returns)

@@ -5,7 +5,7 @@ use borrow.Author.Needs.{needs, sfits-of}
 use denote.Ref.{now}
 use lib.Dec.{T}
 use mathlib.Core.Bool.{false, true}
-use mathlib.Core.Path.{_≡_, ap}
+use mathlib.Core.Path.{ap}
 use mir.Syntax.{w64}
 use mir.Val.{ofZ}
 use native.Mathlib.Nat.{le-antisymm}

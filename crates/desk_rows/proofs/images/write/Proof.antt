@@ -1,7 +1,6 @@
 -- `images::write` meets its contract. The sums passed have been written. Assumes nothing.
 use Prim.Native.Nat.{_-_, _≤_}
 use borrow.Author.Needs.{needs}
-use mathlib.Core.Path.{_≡_}
 use native.Mathlib.Nat.{le-antisymm}
 use native.Mathlib.Omega.{arith}
 use Rattle.desk_rows.specs.Images.{ImageWritten, image-next, image-none, imageAt}
@@ -51,11 +50,16 @@ loop-again c =
     let l = c .before in
     let a = l .before in
     let s = a .before .before in
-    let v = value-back (map-equation (s .pre .0) (a .loop .i) (l .loop-test .taken)) (s .pre .1) (c .value-of .ensures) in
-    (search needs, image-next (a .loop .inv .1) (omega (arith, s .pre .0 .equations, l .loop-test .taken)) (omega (arith, s .pre .2, s .pre .3, s .pre .0 .equations, l .loop-test .taken, a .loop .inv .1 .size)) v)
+    let v = value-back (map-equation (s .pre .0) (a .loop .i) (l .loop-test .taken)) (s .pre .1) (c .value-of .ensures) in (
+      search needs,
+      image-next (a .loop .inv .1) (omega (arith, s .pre .0 .equations, l .loop-test .taken))
+          (omega (arith, s .pre .2, s .pre .3, s .pre .0 .equations, l .loop-test .taken, a .loop .inv .1 .size)) v,
+    )
 
 returns : tie.Need-returns Inv-loop μ-loop
 returns c = let a = c .before in rw (le-antisymm (a .loop .inv .0) (c .loop-test .left)) at (a .loop .inv .1)
 
 pub write-spec : {M : Type 1} → statement M
-write-spec = tie.close (tie.spec Inv-loop μ-loop loop-holds mul-value-of value-of-requires mul-t12 add-t13 mul-t14 element-set-from-images add-i loop-less loop-again returns)
+write-spec =
+    tie.close
+    (tie.spec Inv-loop μ-loop loop-holds mul-value-of value-of-requires mul-t12 add-t13 mul-t14 element-set-from-images add-i loop-less loop-again returns)

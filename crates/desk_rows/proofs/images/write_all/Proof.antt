@@ -19,14 +19,19 @@ loop-holds : tie.Need-loop-holds Inv-loop μ-loop
 loop-holds c = (search needs, c .before .pre .3, images-none)
 
 mul-write : tie.Need-mul-write Inv-loop μ-loop
-mul-write c = let s = c .before .before .before in omega (arith, desk-rows (s .pre .0) (s .args .n) (s .pre .2) (c .before .loop .k) (c .loop-test .taken) .whole)
+mul-write c = let s = c .before .before .before in
+    omega (arith, desk-rows (s .pre .0) (s .args .n) (s .pre .2) (c .before .loop .k) (c .loop-test .taken) .whole)
 
 write-requires : tie.Need-write-requires Inv-loop μ-loop
 write-requires c κs =
     let l = c .before in
     let a = l .before in
-    let s = a .before .before in
-    (s .pre .0 .group, desk-rows (s .pre .0) (s .args .n) (s .pre .2) (a .loop .k) (l .loop-test .taken), omega (arith, s .pre .1, l .loop-test .taken), a .loop .inv .1)
+    let s = a .before .before in (
+      s .pre .0 .group,
+      desk-rows (s .pre .0) (s .args .n) (s .pre .2) (a .loop .k) (l .loop-test .taken),
+      omega (arith, s .pre .1, l .loop-test .taken),
+      a .loop .inv .1,
+    )
 
 add-k : tie.Need-add-k Inv-loop μ-loop
 add-k c = search needs

@@ -52,7 +52,8 @@ loop-less : tie.Need-loop-less Inv-loop μ-loop
 loop-less c = search needs
 
 loop-again : tie.Need-loop-again Inv-loop μ-loop
-loop-again c = let a = c .before .before .before in (search needs, simp length-set (a .loop .inv .1), raised-more (omega (arith, a .loop .inv .1, a .before .pre .0)) (a .loop .inv .2))
+loop-again c = let a = c .before .before .before in
+    (search needs, simp length-set (a .loop .inv .1), raised-more (omega (arith, a .loop .inv .1, a .before .pre .0)) (a .loop .inv .2))
 
 same-length : tie.Need-same-length Inv-loop μ-loop
 same-length c = search needs
@@ -61,4 +62,7 @@ returns : tie.Need-returns Inv-loop μ-loop
 returns c = let a = c .before in rw (le-antisymm (a .loop .inv .0) (c .loop-test .left)) at (a .loop .inv .2)
 
 pub add-spec : {M : Type 1} → statement M
-add-spec = tie.close (tie.spec Inv-loop μ-loop loop-holds mul-z shared-slice-read-z add-z mul-z-2 shared-slice-read-z-2 add-z-2 mul-z-3 slice-write-z add-j loop-less loop-again same-length returns)
+add-spec =
+    tie.close
+    (tie.spec Inv-loop μ-loop loop-holds mul-z shared-slice-read-z add-z mul-z-2 shared-slice-read-z-2 add-z-2 mul-z-3 slice-write-z add-j loop-less
+    loop-again same-length returns)

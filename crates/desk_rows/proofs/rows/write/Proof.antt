@@ -63,7 +63,11 @@ returns c =
     let a = w .before .before .before .before .args in
     let base : ℕ = a .k * (a .q + 2) in
     rw (l .low .ensures, c .high .ensures)
-    (ap (λ t. set (set t (base + a .q) (a .marks % word)) (base + (a .q + 1)) (a .marks / word)) (w .write .ensures) ∙ row-numbers (a .q) (now (a .stack)) base (tuple (now (a .t))) (a .marks))
+    (ap (λ t. set (set t (base + a .q) (a .marks % word)) (base + (a .q + 1)) (a .marks / word)) (w .write .ensures)
+    ∙ row-numbers (a .q) (now (a .stack)) base (tuple (now (a .t))) (a .marks))
 
 pub write-spec : {M : Type 1} → statement M
-write-spec = tie.close (tie.spec add-base mul-base write-requires low-requires add-stack mul-stack slice-write-stack high-requires add-stack-2 add-stack-3 mul-stack-2 slice-write-stack-2 same-length returns)
+write-spec =
+    tie.close
+    (tie.spec add-base mul-base write-requires low-requires add-stack mul-stack slice-write-stack high-requires add-stack-2 add-stack-3 mul-stack-2
+    slice-write-stack-2 same-length returns)
