@@ -8,12 +8,11 @@ use Rattle.linear.specs.Sums.{sumTo}
 use Rattle.linear.specs.Tests.{allTo, anyTo, countTo}
 use Rattle.linear.specs.Tuples.{total, unit}
 use Rattle.linear.specs.Systems.{inner, value}
-use Rattle.definitions.specs.Answers.{Answer, Check, complete, go, refuse, refused, refuseWith, _then_, refuseFirst}
+use Rattle.definitions.specs.Answers.{Answer, complete, go, refuse, refused, refuseWith, _then_, refuseFirst}
 use Rattle.definitions.specs.System.{covered, isAtOrBelow, solves}
-use Rattle.definitions.specs.Input.{Input}
 use Rattle.definitions.specs.Tables.{State, begun, bit, frozen, plainRun, writeTo, writeRow, unitsTo, unitsStart}
 use Rattle.definitions.specs.Step.{grown, listed, makes, marksTo, step, writeChildren}
-use Rattle.definitions.specs.Refusals.{rowFits, inOrder, check7, tooLarge, tooHigh}
+use Rattle.definitions.specs.Refusals.{rowFits, inOrder, check7, tooLarge}
 use Rattle.definitions.specs.Machine.{Outcome, call, checked, unlessDone, walk}
 use Rattle.training_form.specs.Training.{seatInput, seatLowerChecks, seatResume, seatResumeChecks, seatSearch, seatStart, seatStartChecks}
 
@@ -28,7 +27,8 @@ lent : ℕ → State
 lent stack = record { stack = replicate stack 0; list = replicate 9 0; second = []; run = begun plainRun 0 }
 
 summed : ℕ → Outcome State → Summary
-summed q o = record { answer = o .answer; rows = take (o .state .run .found * q) (o .state .list); steps = o .state .run .steps; deepest = o .state .run .deepest }
+summed q o =
+    record { answer = o .answer; rows = take (o .state .run .found * q) (o .state .list); steps = o .state .run .steps; deepest = o .state .run .deepest }
 
 ran : ℕ → List ℤ → Summary
 ran q coefs = summed q (seatResume 100 (seatInput 1 q coefs) (seatStart (seatInput 1 q coefs) (lent 42) .state))
@@ -37,7 +37,9 @@ ran q coefs = summed q (seatResume 100 (seatInput 1 q coefs) (seatStart (seatInp
 runs-hold : (ran 2 (pos 2 ∷ negsuc 2 ∷ []) ≡ record { answer = complete; rows = 3 ∷ 2 ∷ []; steps = 6; deepest = 5 })
     × (ran 2 (pos 20 ∷ negsuc 18 ∷ []) ≡ record { answer = complete; rows = 19 ∷ 20 ∷ []; steps = 40; deepest = 39 })
     × (ran 2 (pos 21 ∷ negsuc 19 ∷ []) ≡ record { answer = refused 24 []; rows = []; steps = 40; deepest = 39 })
-unfolding lent summed ran sumTo inner value unit total allTo anyTo countTo refuseWith _then_ refuseFirst solves isAtOrBelow covered bit frozen writeTo writeRow unitsTo unitsStart makes marksTo writeChildren listed grown step rowFits inOrder check7 tooLarge tooHigh checked unlessDone walk call seatSearch seatStart seatStartChecks seatResumeChecks
+unfolding lent summed ran sumTo inner value unit total allTo anyTo countTo refuseWith _then_ refuseFirst solves isAtOrBelow covered bit frozen writeTo writeRow
+    unitsTo unitsStart makes marksTo writeChildren listed grown step rowFits inOrder check7 tooLarge checked unlessDone walk call seatSearch seatStart
+    seatStartChecks seatResumeChecks
 runs-hold = (refl, refl, refl)
 
 -- 2 before 23, 23 before 3; a lower bound above 20; a row above 20

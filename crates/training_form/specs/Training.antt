@@ -1,4 +1,5 @@
--- Document 02, Job 9: "A cheaper seat uses the same solver with at most 6 unknowns and components up to 20. It is a layer of its own above the core, which takes the
+-- Document 02, Job 9: "A cheaper seat uses the same solver with at most 6 unknowns and components up to 20. It is a layer of its own above the core, which
+-- takes the
 -- component limit with each call". Assumes nothing.
 use Prim.Native.Nat.{ℕ}
 use mathlib.Core.Bool.{not, _&&_}
@@ -6,12 +7,13 @@ use mathlib.Core.List.{List}
 use lib.Dec.{eqb, ltb}
 use lib.IntN.{ℤ}
 use Rattle.definitions.specs.Answers.{Check, _then_, refuseIf, started}
-use Rattle.definitions.specs.Input.{Input, alone, inputWith, systemOf}
+use Rattle.definitions.specs.Calls.{settleFrom, stepFrom}
+use Rattle.definitions.specs.Input.{Input, aboveSystem, alone, inputWith, mapOf, systemOf}
 use Rattle.definitions.specs.Machine.{Machine, Outcome, call, callSteps, checked}
-use Rattle.definitions.specs.Refusals.{check1, check4, check5, check6, check7, check8, numbersCheck, stepLimit, tooHigh, tooLarge, unknownsCheck}
+use Rattle.definitions.specs.Refusals.{check1, check4, check5, check6, check6From, check7, check8, numbersCheck, stepLimit, tooLarge, unknownsCheck}
 use Rattle.definitions.specs.Step.{fullFor, step, top}
 use Rattle.definitions.specs.System.{System, solves}
-use Rattle.definitions.specs.Tables.{State, lowerStart, unitsStart}
+use Rattle.definitions.specs.Tables.{State, byWalk, lowerStart, plainPart, unitsStart}
 
 -- "at most 6 unknowns and components up to 20"
 abbrev pub seatUnknowns : ℕ
@@ -49,7 +51,13 @@ seatSearch m s =
     refuseIf (eqb (s .run .steps) stepLimit) 14
     then refuseIf (solves m (top m s) && fullFor (m .kind) (m .q) s (top m s)) 11
     then refuseIf (not (solves m (top m s)) && tooLarge m s) 24
-    then refuseIf (not (solves m (top m s)) && tooHigh m s) 13
+
+-- of a run from a lower bound: a row above 20 is 6 in either walk, a bound above 20 is 8, and 24 is about the walk under way
+unfoldable pub seatResumeFromChecks : List ℕ → Input → State → Check
+seatResumeFromChecks lower i s = seatThen i s (check5 i lower then check6From lower i s then check7 i then check8 i lower)
+
+unfoldable pub seatSearchFrom : List ℕ → Input → State → Check
+seatSearchFrom lower i s = byWalk (s .run .kind) (seatSearch (mapOf i) (plainPart s)) (seatSearch (aboveSystem lower i) s)
 
 -- ---- the calls
 
@@ -57,7 +65,7 @@ unfoldable pub seatStart : Input → State → Outcome State
 seatStart i s = checked (seatStartChecks i s) s (λ t. record { answer = started; state = unitsStart (systemOf i) t })
 
 unfoldable pub seatStartFrom : List ℕ → Input → State → Outcome State
-seatStartFrom lower i s = checked (seatLowerChecks lower i s) s (λ t. record { answer = started; state = lowerStart lower (systemOf i) t })
+seatStartFrom lower i s = checked (seatLowerChecks lower i s) s (λ t. record { answer = started; state = lowerStart (mapOf i) t })
 
 -- what its continuing call goes by: the core's step
 abbrev pub seatMachine : Input → Machine State
@@ -75,3 +83,19 @@ seatResume budget i s = call budget (seatMachine i) s
 
 abbrev pub seatSteps : ℕ → Input → State → ℕ
 seatSteps budget i s = callSteps budget (seatMachine i) s
+
+abbrev pub seatMachineFrom : List ℕ → Input → Machine State
+seatMachineFrom lower i =
+    record {
+      before = seatResumeFromChecks lower i;
+      settle = settleFrom lower i;
+      height = λ s. s .run .height;
+      refusals = seatSearchFrom lower i;
+      step = stepFrom lower i;
+    }
+
+abbrev pub seatResumeFrom : ℕ → List ℕ → Input → State → Outcome State
+seatResumeFrom budget lower i s = call budget (seatMachineFrom lower i) s
+
+abbrev pub seatStepsFrom : ℕ → List ℕ → Input → State → ℕ
+seatStepsFrom budget lower i s = callSteps budget (seatMachineFrom lower i) s

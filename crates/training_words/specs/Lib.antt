@@ -1,0 +1,2 @@
+pub mod SeatWords
+pub mod SeatWordLaws
