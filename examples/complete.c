@@ -1,7 +1,8 @@
 /* Lists the minimal solutions of a map to the end, however long that takes: complete [FILE]
  *
- * A run that pauses is gone on with, and a full list is made twice as long. Standard error shows steps, solutions and seconds after each call; standard
- * output gets the report that the program `basis` prints. The status is 0 for a complete list, 1 where the library refuses, 2 where no map can be read.
+ * A run that pauses is gone on with, and a full list is made twice as long. Standard error shows steps, solutions, the greatest sum of components and seconds
+ * after each call; standard output gets the report that the program `basis` prints. The status is 0 for a complete list, 1 where the library refuses, 2 where
+ * no map can be read.
  *
  *   cc -O2 -Iinclude examples/complete.c target/staticlib/libdezgula.a -o complete */
 #include "dezgula.h"
@@ -57,7 +58,8 @@ static uint64_t go_on_to_the_end(const dezgula_system *system, dezgula_run *run)
     timespec_get(&from, TIME_UTC);
     for (;;) {
         uint64_t answer = dezgula_resume(system, run, BUDGET);
-        fprintf(stderr, "%" PRIu64 " steps, %" PRIu64 " solutions, %.1f s\n", run->record.steps.count, run->record.found.count, seconds_since(&from));
+        fprintf(stderr, "%" PRIu64 " steps, %" PRIu64 " solutions, greatest sum %" PRIu64 ", %.1f s\n", run->record.steps.count, run->record.found.count,
+                run->record.deepest, seconds_since(&from));
         if (answer == DEZGULA_LIST_FULL) lengthen(system, run, 2 * (run->list_len / system->q));
         else if (answer != DEZGULA_PAUSED) return answer;
     }

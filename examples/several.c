@@ -1,9 +1,10 @@
 /* Lists the minimal solutions of up to eight maps at a time: several, a filter
  *
- * Standard input has 1 to 8 maps, each in the text form of the program `basis`, with an empty line between two. Standard output gets for each the report that `basis`
- * prints, in the same order and with an empty line between two. The maps are worked at in turns of 10,000 steps, so that none waits for another's end; each is allowed
- * 1,000,000 steps and has room for 8,192 numbers in its list, as in `basis`. More than eight maps are "refused 27", a text that is longer than eight can be "refused 10".
- * The status is 0 where each list is complete, 3 where one is cut short, 1 where a map is refused.
+ * Standard input has 1 to 8 maps, each in the text form of the program `basis`, with an empty line between two. Standard output gets for each the report
+ * that `basis` prints, in the same order and with an empty line between two; standard error shows for each how deep it went, as the greatest sum of
+ * components. The maps are worked at in turns of 10,000 steps, so that none waits for another's end; each is allowed 1,000,000 steps and has room for 8,192
+ * numbers in its list, as in `basis`. More than eight maps are "refused 27", a text that is longer than eight can be "refused 10". The status is 0 where each
+ * list is complete, 3 where one is cut short, 1 where a map is refused.
  *
  *   cc -O2 -Iinclude examples/several.c target/staticlib/libdezgula.a -o several */
 #include "dezgula.h"
@@ -116,8 +117,11 @@ static int report(size_t i)
         putchar('\n');
         return 1;
     }
-    printf("equations %zu\nunknowns %zu\nsteps %" PRIu64 "\nsolutions %" PRIu64 "\n", shares[i].p, shares[i].q, run->record.steps.count, run->record.found.count);
+    printf("equations %zu\nunknowns %zu\nsteps %" PRIu64 "\nsolutions %" PRIu64 "\n", shares[i].p, shares[i].q, run->record.steps.count,
+           run->record.found.count);
     for (size_t n = 0; n < run->record.found.count * shares[i].q; n++) printf("%" PRIu32 "%c", list[i * LIST + n], (n + 1) % shares[i].q ? ' ' : '\n');
+    fprintf(stderr, "map %zu: %" PRIu64 " steps, %" PRIu64 " solutions, greatest sum %" PRIu64 "\n", i + 1, run->record.steps.count, run->record.found.count,
+            run->record.deepest);
     if (run->answer == DEZGULA_COMPLETE) puts("end complete");
     else if (run->answer == DEZGULA_PAUSED) puts("end paused");
     else printf("end refused %u\n", dezgula_number(run->answer));

@@ -58,19 +58,18 @@ enum {
     DEZGULA_UNKNOWNS = 2,          /* q is outside 1 to 16 */
     DEZGULA_COEFFICIENT_COUNT = 3, /* coefs_len is not p * q */
     DEZGULA_STACK_SHORT = 4,       /* stack_len is below q * (q + 1) */
-    DEZGULA_BOUND_LENGTH = 5,      /* lower_len is not q */
+    DEZGULA_BOUND_LENGTH = 5,      /* lower_len is not q (dezgula_lower.h) */
     DEZGULA_OUT_OF_ORDER = 6,      /* a record of another kind of run; height above q; found above the capacity of the list; steps above 10^12;
                                       deepest above 16,000,000; or in rows 1 to height of the stack a component above 1,000,000, a mark beyond
                                       unknown q, or in row k not exactly k - 1 marks; or a record not of DEZGULA_RECORD_LENGTH words */
     DEZGULA_COEFFICIENT = 7,       /* a coefficient is out of range; the place is that of the first such one, from 1 */
-    DEZGULA_BOUND_RANGE = 8,       /* a component of the lower bound is above 1,000,000 */
+    DEZGULA_BOUND_RANGE = 8,       /* a component of the lower bound is above 1,000,000 (dezgula_lower.h) */
 
-    /* 9 and 10 are about the text form of a map, and not given here. */
+    /* 9 and 10 are about the text form of a map, and not given here. 13 is retired: it is given to nothing. */
 
     /* Refused within the walk. Tables and record stand as after the last whole step; the same call again is refused again. */
     DEZGULA_LIST_FULL = 11,      /* the next row is a solution and the list has no room: a longer list with the same rows may be lent */
     DEZGULA_COMPONENT = 12,      /* a child would have a component of 1,000,001 */
-    DEZGULA_STACK_FULL = 13,     /* a child would need a row above q: never met, as 6 shuts it out */
     DEZGULA_STEPS_AT_LIMIT = 14, /* 10^12 steps are taken */
 
     /* dezgula_dispatch: refused as a whole, before any run's own refusals. Nothing lent was changed. */
@@ -120,7 +119,6 @@ static inline const char *dezgula_sentence(uint64_t answer)
     case DEZGULA_BOUND_RANGE: return "A component of the lower bound is above 1,000,000.";
     case DEZGULA_LIST_FULL: return "The list is full.";
     case DEZGULA_COMPONENT: return "A component would pass 1,000,000.";
-    case DEZGULA_STACK_FULL: return "The stack would need another row.";
     case DEZGULA_STEPS_AT_LIMIT: return "The run has taken 1,000,000,000,000 steps.";
     case DEZGULA_SCHEDULE: return "There are not 1 to 8 runs, a turn has no steps, or the dispatcher's record is out of order.";
     case DEZGULA_PARTS: return "Two parts of a table overlap, or one leaves it.";
@@ -148,11 +146,12 @@ typedef struct {
     uint64_t count;
 } dezgula_steps;
 
-/* The kinds of run that a record tells. A record of one kind is refused with 6 by a continuing call of another. */
+/* The kinds of run that a record tells. A record of one kind is refused with 6 by a continuing call of another. (dezgula_sides.h has runs with right sides,
+ * dezgula_lower.h those from a lower bound.) */
 enum { DEZGULA_RUN_PLAIN = 0 };
 
 /* The run record. A version to come may add fields: what a program does not know of a record it leaves to the calls. `second` and `before` have no meaning in
- * the runs that there are calls for here. */
+ * a plain run; in one with right sides `second` counts the rows of its second list; in one from a lower bound they are those of its plain walk. */
 typedef struct {
     uint64_t height;
     dezgula_solutions found;
@@ -220,9 +219,6 @@ enum {
 uint64_t dezgula_raw_start(size_t p, size_t q, const int32_t *coefs, size_t coefs_len, uint32_t *stack, size_t stack_len, uint32_t *list,
                            size_t list_len, uint64_t *record, size_t record_len) DEZGULA_LOOK_AT_IT;
 
-uint64_t dezgula_raw_start_from(size_t p, size_t q, const int32_t *coefs, size_t coefs_len, uint32_t *stack, size_t stack_len, uint32_t *list,
-                                size_t list_len, uint64_t *record, size_t record_len, const uint32_t *lower, size_t lower_len) DEZGULA_LOOK_AT_IT;
-
 uint64_t dezgula_raw_resume(size_t p, size_t q, const int32_t *coefs, size_t coefs_len, uint32_t *stack, size_t stack_len, uint32_t *list,
                             size_t list_len, uint64_t *record, size_t record_len, uint64_t budget) DEZGULA_LOOK_AT_IT;
 
@@ -237,8 +233,8 @@ uint64_t dezgula_raw_resume_single_file(size_t p, size_t q, const int32_t *coefs
 uint64_t dezgula_raw_listing(size_t p, size_t q, const int32_t *coefs, size_t coefs_len, const uint32_t *list, size_t list_len, size_t found, uint8_t *out,
                              size_t out_len) DEZGULA_LOOK_AT_IT;
 
-/* The words of a share are p, q, and start and size of the parts, in the order of its fields; words past the end are 0. The words of the dispatcher's record are the
- * number of the run served last, the steps, and for each of eight runs the words of its record, the number of its answer and the place that it comes with. */
+/* The words of a share are p, q, and start and size of the parts, in the order of its fields; words past the end are 0. Those of the dispatcher's record are
+ * the number of the run served last, the steps, and for each of eight runs the words of its record, the number of its answer and the place of it. */
 uint64_t dezgula_raw_dispatch(size_t count, uint64_t quantum, uint64_t turns, const uint64_t *shares, size_t shares_len, const int32_t *coefs,
                               size_t coefs_len, uint32_t *stack, size_t stack_len, uint32_t *list, size_t list_len, uint64_t *round,
                               size_t round_len) DEZGULA_LOOK_AT_IT;
@@ -312,20 +308,7 @@ DEZGULA_LOOK_AT_IT static inline uint64_t dezgula_start(const dezgula_system *sy
     return answer;
 }
 
-/* A start from a lower bound: the run lists the minimal solutions at or above it, zero counting as a solution. Answers DEZGULA_STARTED, or refuses with
- * 1, 2, 3, 4, 5, 7 or 8. Reads the lower bound only.
- * Started: writes row 1 of the stack, sets the record's height to 1 and all else in it to 0. The list and the rest of the stack stay as they were.
- * Refused: changes nothing. What tables and record held before does not matter. */
-DEZGULA_LOOK_AT_IT static inline uint64_t dezgula_start_from(const dezgula_system *system, dezgula_run *run, const uint32_t *lower, size_t lower_len)
-{
-    uint64_t words[DEZGULA_RECORD_LENGTH];
-    dezgula_pack(run->record, words);
-    uint64_t answer = dezgula_raw_start_from(DEZGULA_LENT(system, run, words), (const uint32_t *)dezgula_lent(lower), dezgula_lent_length(lower, lower_len));
-    run->record = dezgula_unpack(words);
-    return answer;
-}
-
-/* Goes on with a run of either kind for at most `budget` steps. Answers DEZGULA_COMPLETE, DEZGULA_PAUSED, a refusal before the walk (1, 2, 3, 4, 6, 7) or
+/* Goes on with a plain run for at most `budget` steps. Answers DEZGULA_COMPLETE, DEZGULA_PAUSED, a refusal before the walk (1, 2, 3, 4, 6, 7) or
  * one within it (11, 12, 14).
  * Refused before the walk: changes nothing. Else: advances the stack, appends to the list, and leaves in the record where the walk now stands. List rows
  * past the found count are not touched. Rows of the stack above the height keep what they last held. */
@@ -381,7 +364,7 @@ DEZGULA_LOOK_AT_IT static inline uint64_t dezgula_listing(const dezgula_system *
 }
 
 /* Which row of the list stopped a tuple: the highest place of a row that is at or below it, told as 255 plus the place, from 1; DEZGULA_NOWHERE; or a refusal
- * with 2, 5 (the tuple does not have q components) or 6 (the found count is above the capacity). Reads the run's list and found count only, and writes nothing. */
+ * with 2, 5 (the tuple does not have q components) or 6 (the found count is above the capacity). Reads the run's list and found count only, writes nothing. */
 enum { DEZGULA_NOWHERE = 0 };
 
 DEZGULA_LOOK_AT_IT static inline uint64_t dezgula_locate(const dezgula_system *system, const dezgula_run *run, const uint32_t *tuple, size_t tuple_len)
@@ -446,9 +429,9 @@ static inline const char *dezgula_reason_sentence(uint64_t number)
 }
 
 /* What a solution is made of: the rows of the list that add up to it, each as often as `times` says, the first row's multiple first. Answers DEZGULA_MADE,
- * always so for a solution where the list is complete; DEZGULA_OFF, with the equation and its amount; or DEZGULA_UNLISTED: something is left that nothing listed
- * lies below. Refuses as dezgula_reason does, and last with DEZGULA_OUTPUT_SHORT where `times` has no place for each row. Made or unlisted: the first `found`
- * places of `times` are written, the last row being taken as often as it goes, then the one before it, and so on. Else nothing is written. */
+ * always so for a solution where the list is complete; DEZGULA_OFF, with the equation and its amount; or DEZGULA_UNLISTED: something is left that nothing
+ * listed lies below. Refuses as dezgula_reason does, and last with DEZGULA_OUTPUT_SHORT where `times` has no place for each row. Made or unlisted: the first
+ * `found` places of `times` are written, the last row being taken as often as it goes, then the one before it, and so on. Else nothing is written. */
 DEZGULA_LOOK_AT_IT static inline dezgula_why dezgula_decompose(const dezgula_system *system, const dezgula_run *run, const uint32_t *tuple, size_t tuple_len,
                                                                uint32_t *times, size_t times_len)
 {
@@ -465,8 +448,8 @@ DEZGULA_LOOK_AT_IT static inline dezgula_why dezgula_decompose(const dezgula_sys
 #undef DEZGULA_LENT
 
 /* Hands out `turns` turns of `quantum` steps each round the unfinished runs (height above 0), rising from the one after the run served last. A run that
- * refuses or finishes leaves the round for this call. `shares` are `count` of them. Before the first call each run is started on its parts, and its record is put
- * into the round; the same shares, quantum and round go to every call.
+ * refuses or finishes leaves the round for this call. `shares` are `count` of them. Before the first call each run is started on its parts, and its record is
+ * put into the round; the same shares, quantum and round go to every call.
  * Answers DEZGULA_SERVED, or refuses with 27 or 28 and changes nothing. Served: each run's record, answer and rows are those that it would have alone from one
  * dezgula_resume for each of its turns; a run without a turn answers as to budget 0. No run's parts are touched by another's turn, nor what lies in no
  * part. From one turn of a run that is paused to its next, the others take at most 7 * quantum steps. A place past `count` has the answer DEZGULA_STARTED. */

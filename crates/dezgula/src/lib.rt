@@ -4,10 +4,12 @@ ghost use mathlib.Core.Path.{_≡_};
 ghost use Rattle.definitions.specs.Highest.{locate};
 ghost use Rattle.definitions.specs.Input.{inputOf};
 ghost use Rattle.definitions.specs.Reasons.{reason};
+ghost use Rattle.desk_calls.specs.Calls.{deskOf};
+ghost use Rattle.desk_words.specs.Words.{deskResumeWords, deskStartWords};
 ghost use Rattle.dispatch_words.specs.Words.{dispatchWords};
 ghost use Rattle.lookups.specs.Answers.{locatedNumber};
 ghost use Rattle.reasons.specs.Numbers.{reasonAmount, reasonNumber, reasonPlace};
-ghost use Rattle.record_words.specs.Words.{told, startWords, startFromWords, resumeWords};
+ghost use Rattle.record_words.specs.Words.{told, startWords, resumeWords};
 ghost use Rattle.row_words.specs.Rows.{rowTold};
 ghost use Rattle.map_words.specs.Words.{readWords};
 ghost use Rattle.pair_lists.specs.Calling.{roomOf};
@@ -17,8 +19,11 @@ ghost use Rattle.multiples.specs.Answers.{partsTold};
 ghost use Rattle.single_file.specs.Listing.{listingCall};
 ghost use Rattle.single_words.specs.SingleFile.{singleStartWords, singleResumeWords, listingTold};
 
+mod capped; // capped.rt: maps with right sides
 mod equations; // equations.rt: typed equations
 mod files; // files.rt: lists as files
+mod lower; // lower.rt: runs from a lower bound
+mod training; // training.rt: the training seat
 
 // The plain start.
 #[no_mangle]
@@ -34,24 +39,6 @@ pub extern "C" fn dezgula_raw_start(
         told (now (run .entry)) (startWords (now (run .entry)) (inputOf p q (now (coefs .entry))) (now (stack .entry)) (now (list .entry))) ⌝ }
 {
     call_words::start(p, q, coefs, stack, list, run)
-}
-
-// The start from a lower bound.
-#[no_mangle]
-pub extern "C" fn dezgula_raw_start_from(
-    p: usize,
-    q: usize,
-    coefs: &[i32],
-    stack: &mut [u32],
-    list: &mut [u32],
-    run: &mut [u64],
-    lower: &[u32],
-) -> u64
-    ensures { λ a. ⌜ (a, (now (stack .exit), (now (list .exit), now (run .exit)))) ≡
-        told (now (run .entry))
-        (startFromWords (now (lower .entry)) (now (run .entry)) (inputOf p q (now (coefs .entry))) (now (stack .entry)) (now (list .entry))) ⌝ }
-{
-    call_words::start_from(p, q, coefs, stack, list, run, lower)
 }
 
 // The continuing call.
@@ -260,6 +247,45 @@ pub extern "C" fn dezgula_raw_pairs_resume(
         (now (table .entry)) (now (run .entry))) ⌝ }
 {
     pair_words::resume(p, q, coefs, table, supports, values, run, budget)
+}
+
+// ---- one desk after the other (crate desk_words)
+
+// The start of the second of two desks.
+#[no_mangle]
+pub extern "C" fn dezgula_raw_desks_start(
+    p: usize,
+    q: usize,
+    coefs: &[i32],
+    generators: &[u32],
+    stack: &mut [u32],
+    list: &mut [u32],
+    run: &mut [u64],
+) -> u64
+    ensures { λ a. ⌜ (a, (now (stack .exit), (now (list .exit), now (run .exit)))) ≡
+        told (now (run .entry))
+        (deskStartWords (now (run .entry)) (deskOf p q (now (coefs .entry)) (now (generators .entry))) (now (stack .entry)) (now (list .entry))) ⌝ }
+{
+    desk_words::start(p, q, coefs, generators, stack, list, run)
+}
+
+// The continuing call.
+#[no_mangle]
+pub extern "C" fn dezgula_raw_desks_resume(
+    p: usize,
+    q: usize,
+    coefs: &[i32],
+    generators: &[u32],
+    stack: &mut [u32],
+    list: &mut [u32],
+    run: &mut [u64],
+    budget: u64,
+) -> u64
+    ensures { λ a. ⌜ (a, (now (stack .exit), (now (list .exit), now (run .exit)))) ≡
+        told (now (run .entry))
+        (deskResumeWords budget (now (run .entry)) (deskOf p q (now (coefs .entry)) (now (generators .entry))) (now (stack .entry)) (now (list .entry))) ⌝ }
+{
+    desk_words::resume(p, q, coefs, generators, stack, list, run, budget)
 }
 
 // Reads the text form of a map (crate map_words).

@@ -11,17 +11,16 @@ use lib.Dec.{T, leb, leb→le}
 use lib.ListN.{length}
 use Rattle.linear.specs.TestLaws.{and-parts}
 use Rattle.definitions.specs.Answers.{Answer, Check, refuse, go, refuseWith, refuseIf, refuseFirst, _then_}
-use Rattle.definitions.specs.Input.{Extra, Input, alone, rights, systemOf}
-use Rattle.definitions.specs.Machine.{Outcome, call, checked, unlessDone, walk}
-use Rattle.definitions.specs.System.{mostEquations, mostUnknowns}
-use Rattle.definitions.specs.Tables.{State}
-use Rattle.definitions.specs.Step.{step}
-use Rattle.definitions.specs.Refusals.{between, check1, check15, check4, check5, check6, check7, check8, misnumbered, mostFor, numbersCheck, rangeChecks, unknownsCheck}
-use Rattle.definitions.specs.Refusals.{shapeThen, startChecks, lowerChecks, resumeChecks, searchChecks}
-use Rattle.definitions.specs.Calls.{machine, start, startFrom, resume}
+use Rattle.definitions.specs.Input.{Extra, Input, aboveSystem, alone, mapOf, rights, systemOf}
+use Rattle.definitions.specs.Machine.{Machine, Outcome, call, checked, unlessDone, walk}
+use Rattle.definitions.specs.System.{System, mostEquations, mostUnknowns}
+use Rattle.definitions.specs.Tables.{Run, State, byWalk, cappedRun, deskByDesk, lowerAbove, lowerPlain, plainPart, plainRun}
+use Rattle.definitions.specs.Refusals.{between, check1, check15, check4, check5, check6, check6From, check7, check8, numbersCheck, rangeChecks, unknownsCheck}
+use Rattle.definitions.specs.Refusals.{lowerChecks, misnumbered, mostFor, resumeChecks, resumeFromChecks, searchChecks, shapeThen, startChecks}
+use Rattle.definitions.specs.Calls.{machine, machineFrom, resume, resumeFrom, searchFrom, start, startFrom}
 use Rattle.laws.specs.AnswerLaws.{refuse-if-go}
 use Rattle.laws.specs.RefusalLaws.{Misnumbered, decides-number}
-use Rattle.calls.specs.Paper.{answerOf, outcomeOf}
+use Rattle.calls.specs.Paper.{answerOf, outcomeWith}
 use Rattle.calls.specs.declared.Outcome as values
 use Rattle.record_words.specs.Codes.{refusalCode, code}
 
@@ -50,7 +49,7 @@ small-first n zero f h l = tt
 small-first n (suc k) f h l =
     small-then (refuseFirst n k f) (refuseWith (f k) n (suc k ∷ [])) (small-first n k f h (omega arith)) (λ _. small-with (f k) n (suc k ∷ []) (omega arith))
 
-small-if : (b : Bool) (n : ℕ) → n < 256 → Small (refuseIf b n)
+pub small-if : (b : Bool) (n : ℕ) → n < 256 → Small (refuseIf b n)
 small-if b n h = small-with b n [] (omega arith)
 
 not-false : (b : Bool) → not b ≡ false → T b
@@ -85,7 +84,7 @@ small-shape m s d h =
     small-then (numbersCheck m) _ (small-if _ 3 (omega arith)) (λ c.
     small-then (check4 (systemOf m) s) d (small-if _ 4 (omega arith)) (λ _. h (few m a b c)))))
 
-small-range : (m : Input) → length (m .coefs) ≤ 128 → Small (check7 m)
+pub small-range : (m : Input) → length (m .coefs) ≤ 128 → Small (check7 m)
 unfolding check7
 small-range m l = small-first 7 (length (m .coefs)) _ (omega arith) l
 
@@ -112,12 +111,32 @@ module _ (m : Input) (s : State) where
       small-shape m s (check6 (systemOf m) s then rangeChecks (m .extra) m) (λ l.
       small-then (check6 (systemOf m) s) (rangeChecks (m .extra) m) (small-if _ 6 (omega arith)) (λ _. small-ranges (m .extra) m l))
 
-  small-search : Small (searchChecks (systemOf m) s)
-  unfolding searchChecks
-  small-search =
-      small-then (refuseIf _ 14) _ (small-if _ 14 (omega arith)) (λ _.
-      small-then (refuseIf _ 11) _ (small-if _ 11 (omega arith)) (λ _.
-      small-then (refuseIf _ 12) _ (small-if _ 12 (omega arith)) (λ _. small-if _ 13 (omega arith))))
+  small-resume-from : (lower : List ℕ) → Small (resumeFromChecks lower m s)
+  unfolding resumeFromChecks
+  small-resume-from lower =
+      small-shape m s (check5 m lower then check6From lower m s then check7 m then check8 m lower) (λ l.
+      small-then (check5 m lower) (check6From lower m s then check7 m then check8 m lower) (small-if _ 5 (omega arith)) (λ _.
+      small-then (check6From lower m s) (check7 m then check8 m lower) (small-if _ 6 (omega arith)) (λ _.
+      small-then (check7 m) (check8 m lower) (small-range m l) (λ _. small-if _ 8 (omega arith)))))
+
+small-search : (m : System) (s : State) → Small (searchChecks m s)
+unfolding searchChecks
+small-search m s =
+    small-then (refuseIf _ 14) _ (small-if _ 14 (omega arith)) (λ _.
+    small-then (refuseIf _ 11) _ (small-if _ 11 (omega arith)) (λ _.
+    small-if _ 12 (omega arith)))
+
+-- the walk under way
+small-walk : (r : Run) (c d : Check) → Small c → Small d → Small (byWalk r c d)
+small-walk plainRun c d a b = b
+small-walk cappedRun c d a b = b
+small-walk lowerPlain c d a b = a
+small-walk lowerAbove c d a b = b
+small-walk deskByDesk c d a b = b
+
+small-search-from : (lower : List ℕ) (m : Input) (s : State) → Small (searchFrom lower m s)
+unfolding searchFrom
+small-search-from lower m s = small-walk (s .run .kind) _ _ (small-search (mapOf m) (plainPart s)) (small-search (aboveSystem lower m) s)
 
 -- ---- calls
 
@@ -126,15 +145,17 @@ unfolding checked
 fits-checked (refuse n values) s work h w = h
 fits-checked go s work h w = w
 
-fits-unless : (b : Bool) (s : State) (work : State → Outcome State) → Fits (work s .answer) → Fits (unlessDone b s work .answer)
+pub fits-unless : (b : Bool) (s : State) (work : State → Outcome State) → Fits (work s .answer) → Fits (unlessDone b s work .answer)
 unfolding unlessDone
 fits-unless true s work w = omega arith
 fits-unless false s work w = w
 
-fits-walk : (n : ℕ) (m : Input) (s : State) → Fits (walk n (machine m) s .answer)
+fits-walk : (n : ℕ) (m : Machine State) → ((s : State) → Small (m .refusals s)) → (s : State) → Fits (walk n m s .answer)
 unfolding walk
-fits-walk zero m s = fits-unless _ s _ (omega arith)
-fits-walk (suc n) m s = fits-unless _ s _ (fits-checked (searchChecks (systemOf m) s) s _ (small-search m s) (fits-walk n m (step (systemOf m) s)))
+fits-walk zero m small s = fits-unless _ (m .settle s) _ (omega arith)
+fits-walk (suc n) m small s =
+    let t : State = m .settle s in
+    fits-unless _ t _ (fits-checked (m .refusals t) t _ (small t) (fits-walk n m small (m .step t)))
 
 module _ (m : Input) (s : State) where
   pub start-fits : Fits (start m s .answer)
@@ -147,10 +168,15 @@ module _ (m : Input) (s : State) where
 
   pub resume-fits : (budget : ℕ) → Fits (resume budget m s .answer)
   unfolding call
-  resume-fits budget = fits-checked (resumeChecks m s) s (walk budget (machine m)) (small-resume m s) (fits-walk budget m s)
+  resume-fits budget = fits-checked (resumeChecks m s) s _ (small-resume m s) (fits-walk budget (machine m) (small-search (systemOf m)) s)
+
+  pub resume-from-fits : (budget : ℕ) (lower : List ℕ) → Fits (resumeFrom budget lower m s .answer)
+  unfolding call
+  resume-from-fits budget lower =
+      fits-checked (resumeFromChecks lower m s) s _ (small-resume-from m s lower) (fits-walk budget (machineFrom lower m) (small-search-from lower m) s)
 
 -- ---- what a call by value answered
 
-pub answer-fits : (o : values.Outcome) {stack list : List ℕ} {left : Outcome State} → outcomeOf o stack list ≡ left
+pub answer-fits : (o : values.Outcome) {stack list second : List ℕ} {left : Outcome State} → outcomeWith o stack list second ≡ left
     → Fits (left .answer) → Fits (answerOf (o .answer))
 answer-fits o e h = rw (← e) at h

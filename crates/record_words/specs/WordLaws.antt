@@ -1,33 +1,29 @@
--- The calls on a record of words, as the code goes about them; and that another number of words is refused with 6, after 1 to 4. Assumes nothing.
-use Prim.Native.Nat.{ℕ, zero, suc, _^_, _≤_, _<_}
-use mathlib.Core.Bool.{Bool, true, false, not, _||_}
+-- The calls on a record of words, as the code goes about them; and that another number of words is refused with 6, after 1 to 4. (With a lower bound it is
+-- after 5: lower_words/specs/LowerLaws.) Assumes nothing.
+use Prim.Native.Nat.{ℕ, zero, suc, _≤_, _<_}
 use mathlib.Core.Logic.{_≢_, inl, inr}
 use mathlib.Core.List.{List, [], _∷_}
-use mathlib.Core.Path.{_≡_, refl, sym, subst, ap, _∙_}
+use mathlib.Core.Path.{_≡_, refl, sym, ap, _∙_}
 use native.Mathlib.Decide.{ℕ-discrete}
 use native.Mathlib.Omega.{arith}
-use lib.Dec.{T, eqb, lit<, ltb}
+use lib.Dec.{lit<, ltb}
 use lib.ListN.{length, getD, set}
 use borrow.Author.Tests.{le-ltb, lt-ltb, eq-eqb, ne-eqb}
-use Rattle.definitions.specs.Answers.{Check, refuse, go, refuseWith, refuseIf, _then_}
+use Rattle.definitions.specs.Answers.{Check, refuse, go, _then_}
 use Rattle.definitions.specs.Input.{Extra, Input, alone, rights, systemOf, walkSystem}
 use Rattle.definitions.specs.Machine.{Outcome, call, checked, walk}
 use Rattle.definitions.specs.System.{mostUnknowns}
 use Rattle.linear.specs.Cases.{split}
 use Rattle.definitions.specs.Tables.{Record, State, runNumber}
 use Rattle.definitions.specs.Refusals.{check1, check4, check6, mostFor, numbersCheck, rangeChecks, resumeChecks, shapeThen, unknownsCheck}
-use Rattle.definitions.specs.Calls.{machine, start, startFrom, resume}
-use Rattle.laws.specs.AnswerLaws.{then-go}
+use Rattle.definitions.specs.Calls.{machine, start, resume}
 use Rattle.laws.specs.RefusalLaws.{decides-order, high}
-use Rattle.calls.specs.Paper.{kindOf, runOf, stateOf, numberOf, valuesOf, answerOf, checkOf, outcomeOf}
-use Rattle.calls.specs.CallLaws.{call-refused, passes}
-use Rattle.calls.specs.declared.Check as values-check
-use Rattle.calls.specs.declared.Check.the-variants.{Refuse, Pass}
-use Rattle.calls.specs.declared.Refusal.{Refusal}
+use Rattle.calls.specs.Paper.{kindOf, runOf, stateOf, stateWith, answerOf, outcomeOf, outcomeWith}
 use Rattle.calls.specs.declared.Outcome as values
-use Rattle.record_words.specs.Codes.{refusalCode, code}
-use Rattle.record_words.specs.CodeLaws.{Small, within, small-resume}
-use Rattle.record_words.specs.Words.{heightIf, isRecord, kindAt, recordAt, recordIn, wordsLeft, wordsOf, told, startIf, startWords, startFromWords, resumeWords}
+use Rattle.record_words.specs.Codes.{code}
+use Rattle.record_words.specs.CodeLaws.{within}
+use Rattle.record_words.specs.Words.{heightIf, kindAt, recordAt, recordIn, wordsLeft, wordsOf, told, toldBoth}
+use Rattle.record_words.specs.Words.{startWords, resumeWords}
 
 -- ---- reading and writing the words
 
@@ -78,7 +74,8 @@ module _ (words : List ℕ) (e : length words ≡ 7) where
   unfolding recordIn
   own-words l =
       let own : (i : ℕ) → i < 7 → set words i (getD words i 0) ≡ words = λ i h. set-own words i (rw e h) in
-      rw (eq-eqb (length words) 7 e, lt-ltb (getD words 3 0) 5 l, kind-number (getD words 3 0) l, own 0 (lit< tt), own 1 (lit< tt), own 2 (lit< tt), own 3 (lit< tt), own 4 (lit< tt), own 5 (lit< tt), own 6 (lit< tt))
+      rw (eq-eqb (length words) 7 e, lt-ltb (getD words 3 0) 5 l, kind-number (getD words 3 0) l)
+      (rw (own 0 (lit< tt), own 1 (lit< tt), own 2 (lit< tt), own 3 (lit< tt), own 4 (lit< tt), own 5 (lit< tt), own 6 (lit< tt)))
 
   high-words : 5 ≤ getD words 3 0 → runOf (recordIn words) .height ≡ 65
   unfolding recordIn
@@ -98,16 +95,6 @@ module _ (words : List ℕ) (e : length words ≡ 7) where
 pub kept-words : (words : List ℕ) → wordsLeft words (runOf (recordIn words)) ≡ words
 kept-words words = elim (ℕ-discrete (length words) 7) [ yes e ↦ kept-record words e | no ne ↦ sym (words-misfit words (runOf (recordIn words)) ne) ]
 
--- a test that a number is 7 decides, or else another does
-pub seven-decides : (n : ℕ) (b : Bool) → n ≡ 7 → true ≡ (eqb n 7 || b)
-seven-decides n b e = rw (eq-eqb n 7 e)
-
-pub seven-leaves : (n : ℕ) (b : Bool) → n ≢ 7 → b ≡ (eqb n 7 || b)
-seven-leaves n b ne = rw (ne-eqb n 7 ne)
-
-pub seven-missing : (n : ℕ) (b : Bool) {t : Bool} → t ≡ (eqb n 7 || b) → t ≡ false → n ≢ 7
-seven-missing n b e f h = subst T (seven-decides n b h ∙ sym e ∙ f) tt
-
 -- ---- by the number of words
 
 module _ (words : List ℕ) (m : Input) (stack list : List ℕ) where
@@ -119,15 +106,6 @@ module _ (words : List ℕ) (m : Input) (stack list : List ℕ) where
   unfolding startWords
   start-misfit ne = rw (ne-eqb (length words) 7 ne)
 
-  module _ (lower : List ℕ) {b : Bool} (e : b ≡ (isRecord words || not (eqb (length lower) (m .q)))) where
-    pub start-from-fitting : b ≡ true → startFrom lower m (stateOf stack list (recordIn words)) ≡ startFromWords lower words m stack list
-    unfolding startFromWords
-    start-from-fitting t = rw (← e, t)
-
-    pub start-from-misfit : b ≡ false → resumeWords 0 words m stack list ≡ startFromWords lower words m stack list
-    unfolding startFromWords
-    start-from-misfit t = rw (← e, t)
-
 -- ---- what a call by value answered and left
 
 pub call-told : (words : List ℕ) (o : values.Outcome) {stack list left : List ℕ} {left′ : Outcome State} {a : ℕ}
@@ -135,6 +113,12 @@ pub call-told : (words : List ℕ) (o : values.Outcome) {stack list left : List 
     → a ≡ code (answerOf (o .answer))
     → left ≡ wordsLeft words (runOf (o .run)) → (a, (stack, (list, left))) ≡ told words left′
 call-told words o e d r = rw (← e, d, r)
+
+pub both-told : (words : List ℕ) (o : values.Outcome) {stack list second left : List ℕ} {left′ : Outcome State} {a : ℕ}
+    → outcomeWith o stack list second ≡ left′
+    → a ≡ code (answerOf (o .answer))
+    → left ≡ wordsLeft words (runOf (o .run)) → (a, (stack, (list, (second, left)))) ≡ toldBoth words left′
+both-told words o e d r = rw (← e, d, r)
 
 -- a start on another number of words is told what a continuing call is
 abbrev Told : Type 0
@@ -144,20 +128,9 @@ module _ (words : List ℕ) (m : Input) (stack list : List ℕ) {a : Told} (e : 
   pub told-misfit : length words ≢ 7 → a ≡ told words (startWords words m stack list)
   told-misfit ne = e ∙ ap (told words) (start-misfit words m stack list ne)
 
-  pub told-from-misfit : (lower : List ℕ) {b : Bool} → b ≡ (isRecord words || not (eqb (length lower) (m .q))) → b ≡ false
-      → a ≡ told words (startFromWords lower words m stack list)
-  told-from-misfit lower h t = e ∙ ap (told words) (start-from-misfit words m stack list lower h t)
-
-abbrev Refused : Check → Type 0
-Refused (refuse n values) = Unit {0}
-Refused go = ⊥
-
-refused-goes : {n : ℕ} {values : List ℕ} → refuse n values ≡ go → ⊥
-refused-goes e = subst Refused e tt
-
 -- ---- another number of words: "6: run record or tables out of order"
 
-then-same : (c d e : Check) → (c ≡ go → d ≡ e) → c then d ≡ c then e
+pub then-same : (c d e : Check) → (c ≡ go → d ≡ e) → c then d ≡ c then e
 unfolding _then_
 then-same (refuse n values) d e h = refl
 then-same go d e h = h refl
@@ -171,9 +144,9 @@ walk-few : (e : Extra) (m : Input) → m .q ≤ mostFor e → walkSystem e m .q 
 walk-few alone m l = l
 walk-few (rights b) m l = omega arith
 
-module _ (words : List ℕ) (m : Input) (stack list : List ℕ) (ne : length words ≢ 7) where
+module _ (words : List ℕ) (m : Input) (stack list second : List ℕ) (ne : length words ≢ 7) where
   abbrev lent : State
-  lent = stateOf stack list (recordIn words)
+  lent = stateWith stack list second (recordIn words)
 
   misfit-checks : resumeChecks m lent ≡ shapeThen m lent (refuse 6 [])
   unfolding resumeChecks recordIn
@@ -185,27 +158,6 @@ module _ (words : List ℕ) (m : Input) (stack list : List ℕ) (ne : length wor
       then-same (check4 (systemOf m) lent) _ _ (λ _. disordered m lent (above (walk-few (m .extra) m (within _ _ _ _ b)))))))
 
   -- "Refusals 1 to 8 are checked in rising number": the first of 1 to 4 that is due, or else 6, and nothing lent is changed
-  pub misfit-refused : (budget : ℕ) → resumeWords budget words m stack list
-      ≡ checked (shapeThen m lent (refuse 6 [])) lent (walk budget (machine m))
-  unfolding resumeWords call
+  pub misfit-refused : (budget : ℕ) → resume budget m lent ≡ checked (shapeThen m lent (refuse 6 [])) lent (walk budget (machine m))
+  unfolding call
   misfit-refused budget = ap (λ c. checked c lent (walk budget (machine m))) misfit-checks
-
-  -- ---- the same from a check of the code
-
-  module _ {k : values-check.Check} (e : checkOf k ≡ resumeChecks m lent) where
-    pub misfit-never-passes : k ≡ Pass → ⊥
-    misfit-never-passes h =
-        let a : shapeThen m lent (refuse 6 []) ≡ go = sym misfit-checks ∙ passes e h in
-        let b : (check4 (systemOf m) lent then refuse 6 []) ≡ go = then-go _ _ (then-go _ _ (then-go _ _ a .1) .1) .1 in
-        refused-goes (then-go _ _ b .1)
-
-    module _ {why : Refusal} (h : k ≡ Refuse why) where
-      pub misfit-fits : refusalCode (numberOf why) (valuesOf why) < 2 ^ 64
-      misfit-fits = subst Small (sym e ∙ ap checkOf h) (small-resume m lent)
-
-      pub misfit-told : {a : ℕ} → a ≡ refusalCode (numberOf why) (valuesOf why) → (budget : ℕ)
-          → (a, (stack, (list, words))) ≡ told words (resumeWords budget words m stack list)
-      unfolding resumeWords call
-      misfit-told d budget =
-          (λ i. (d i, (stack, (list, words-misfit words (lent .run) ne i))))
-          ∙ ap (told words) (call-refused e lent (walk budget (machine m)) h)

@@ -41,10 +41,10 @@ fn kind_at(n: u64) -> Run
     if n == 2 {
         return Run::LowerPlain;
     }
-    if n == 3 {
-        return Run::LowerAbove;
+    if n == 4 {
+        return Run::Desks;
     }
-    Run::Desks
+    Run::LowerAbove
 }
 
 // The height, or one out of order where the number is no kind's.

@@ -16,7 +16,8 @@ use Rattle.laws.specs.RefusalLaws.{resume-valid, start-shaped}
 use Rattle.calls.specs.Paper as calls
 use Rattle.calls.specs.Paper.{stateOf, value}
 use Rattle.calls.specs.declared.Refusal.{Refusal}
-use Rattle.calls.specs.declared.Refusal.the-variants.{Equations, Unknowns, CoefficientCount, StackLength, BoundLength, OutOfOrder, Coefficient, BoundRange, ListFull, ComponentLimit, StackFull, StepLimit, RightSide, Column}
+use Rattle.calls.specs.declared.Refusal.the-variants.{Equations, Unknowns, CoefficientCount, StackLength, BoundLength, OutOfOrder, Coefficient, BoundRange}
+use Rattle.calls.specs.declared.Refusal.the-variants.{ListFull, ComponentLimit, StepLimit, RightSide, SeatUnknowns, SeatComponent, Column}
 use Rattle.listing.specs.Listed.{listedOf, numberOf, valuesOf}
 use Rattle.listing.specs.declared.ListingAnswer.{ListingAnswer}
 use Rattle.listing.specs.declared.ListingAnswer.the-variants.{Written, Refused}
@@ -78,9 +79,10 @@ call-small (Coefficient place) = omega arith
 call-small BoundRange = omega arith
 call-small ListFull = omega arith
 call-small ComponentLimit = omega arith
-call-small StackFull = omega arith
 call-small StepLimit = omega arith
 call-small RightSide = omega arith
+call-small SeatUnknowns = omega arith
+call-small SeatComponent = omega arith
 call-small (Column column) = omega arith
 
 number-small : (why : ListingRefusal) → numberOf why < 256

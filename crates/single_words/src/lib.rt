@@ -7,7 +7,6 @@ ghost use Rattle.record_words.specs.Words.{told};
 ghost use Rattle.single_words.specs.SingleFile.{singleStartWords, singleResumeWords, capped, listingTold};
 use calls::Solutions;
 use listing::ListingAnswer;
-use record_words::misfit;
 use record_words::tell;
 use record_words::words;
 
@@ -28,7 +27,7 @@ pub fn start(
         let o = single_file_calls::started(p, q, coefs, stack, list, r);
         return tell(o, run);
     }
-    misfit(p, q, coefs, stack, list, run)
+    call_words::resume(p, q, coefs, stack, list, run, 0)
 }
 
 // The continuing call.

@@ -2,8 +2,8 @@
 
 use crate::System;
 
-fn solves(m: &System, tuple: &[u32]) -> bool {
-    (0..m.p).all(|i| (0..m.q).map(|j| i64::from(m.coefs[i * m.q + j]) * i64::from(tuple[j])).sum::<i64>() == 0)
+fn meets(m: &System, rights: &[i32], tuple: &[u32]) -> bool {
+    (0..m.p).all(|i| (0..m.q).map(|j| i64::from(m.coefs[i * m.q + j]) * i64::from(tuple[j])).sum::<i64>() == i64::from(rights[i]))
 }
 
 /// The next tuple of the box, the last component running fastest; none after the last.
@@ -20,10 +20,15 @@ fn advance(tuple: &mut [u32], lower: &[u32], side: u32) -> bool {
 
 /// Those solutions in the box from `lower` to `lower` + side, zero left out unless `zero`, that have no other of them below. In rising order.
 pub fn minimal(m: &System, lower: &[u32], side: u32, zero: bool) -> Vec<Vec<u32>> {
+    minimal_meeting(m, &vec![0; m.p], lower, side, zero)
+}
+
+/// The same of the tuples that meet right sides.
+pub fn minimal_meeting(m: &System, rights: &[i32], lower: &[u32], side: u32, zero: bool) -> Vec<Vec<u32>> {
     let mut solutions: Vec<Vec<u32>> = Vec::new();
     let mut tuple = lower.to_vec();
     loop {
-        if solves(m, &tuple) && (zero || tuple.iter().any(|&x| x != 0)) {
+        if meets(m, rights, &tuple) && (zero || tuple.iter().any(|&x| x != 0)) {
             solutions.push(tuple.clone());
         }
         if !advance(&mut tuple, lower, side) {

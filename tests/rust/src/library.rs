@@ -16,21 +16,6 @@ extern "C" {
         record_len: usize,
     ) -> u64;
 
-    fn dezgula_raw_start_from(
-        p: usize,
-        q: usize,
-        coefs: *const i32,
-        coefs_len: usize,
-        stack: *mut u32,
-        stack_len: usize,
-        list: *mut u32,
-        list_len: usize,
-        record: *mut u64,
-        record_len: usize,
-        lower: *const u32,
-        lower_len: usize,
-    ) -> u64;
-
     fn dezgula_raw_resume(
         p: usize,
         q: usize,
@@ -118,25 +103,6 @@ pub fn start(m: &System, s: &mut State) -> Answer {
             s.list.len(),
             s.record.as_mut_ptr(),
             s.record.len(),
-        )
-    })
-}
-
-pub fn start_from(m: &System, lower: &[u32], s: &mut State) -> Answer {
-    decode(unsafe {
-        dezgula_raw_start_from(
-            m.p,
-            m.q,
-            m.coefs.as_ptr(),
-            m.coefs.len(),
-            s.stack.as_mut_ptr(),
-            s.stack.len(),
-            s.list.as_mut_ptr(),
-            s.list.len(),
-            s.record.as_mut_ptr(),
-            s.record.len(),
-            lower.as_ptr(),
-            lower.len(),
         )
     })
 }
@@ -246,7 +212,7 @@ fn decode(answer: u64) -> Answer {
         (0, 0) => Answer::Complete,
         (100, 0) => Answer::Started,
         (101, 0) => Answer::Paused,
-        (number @ (1..=14 | 26), value) => Answer::Refused { number: number as u8, value },
+        (number @ (1..=4 | 6 | 7 | 11 | 12 | 14 | 26), value) => Answer::Refused { number: number as u8, value },
         _ => panic!("no such answer: {answer:#x}"),
     }
 }

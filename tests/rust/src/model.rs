@@ -51,7 +51,7 @@ fn check_coefficients(m: &System) -> Check {
     }
 }
 
-// ---- the starts
+// ---- the start
 
 /// The record of a plain run that has taken no step.
 fn begun(height: usize) -> Vec<u64> {
@@ -76,23 +76,8 @@ fn try_start(m: &System, s: &mut State) -> Check {
     Ok(())
 }
 
-fn try_start_from(m: &System, lower: &[u32], s: &mut State) -> Check {
-    check_shape(m, s)?;
-    refuse_if(lower.len() != m.q, 5)?;
-    check_record(s)?;
-    check_coefficients(m)?;
-    refuse_if(lower.iter().any(|&x| x > COMPONENT_LIMIT), 8)?;
-    write_row(m.q, &mut s.stack, 0, lower, 0);
-    s.record = begun(1);
-    Ok(())
-}
-
 pub fn start(m: &System, s: &mut State) -> Answer {
     try_start(m, s).err().unwrap_or(Answer::Started)
-}
-
-pub fn start_from(m: &System, lower: &[u32], s: &mut State) -> Answer {
-    try_start_from(m, lower, s).err().unwrap_or(Answer::Started)
 }
 
 // ---- one step
@@ -142,7 +127,6 @@ fn step(m: &System, s: &mut State) -> Check {
         };
         let made: Vec<usize> = (0..m.q).filter(|&j| makes_child(j)).collect();
         refuse_if(made.iter().any(|&j| top[j] == COMPONENT_LIMIT), 12)?;
-        refuse_if(level + made.len() > m.q, 13)?;
         let mut frozen = marks;
         for (n, &j) in made.iter().enumerate() {
             write_row(m.q, &mut s.stack, level + n, &raise(&top, j), frozen);

@@ -51,7 +51,7 @@ fn foreign(d: &mut Draw, m: &System, s: &mut State) {
         }
         _ => {
             other.p = 9;
-            assert_eq!(library::start_from(&other, &[], s), Answer::refused(1));
+            assert_eq!(library::start(&other, s), Answer::refused(1));
         }
     }
     assert_eq!(*s, before);

@@ -50,7 +50,9 @@ fn drawn_questions() {
         *seen.entry(format!("parts {}", matches!(wanted, Parts::Made))).or_default() += 1;
     }
     println!("{seen:?}");
-    for name in ["Zero", "Off", "Stands", "Above", "Unlisted", "refused 1", "refused 2", "refused 3", "refused 5", "refused 6", "refused 7", "refused 8", "parts true"] {
+    for name in
+        ["Zero", "Off", "Stands", "Above", "Unlisted", "refused 1", "refused 2", "refused 3", "refused 5", "refused 6", "refused 7", "refused 8", "parts true"]
+    {
         assert!(seen.get(name).is_some_and(|&n| n > 20), "{name}: {seen:?}");
     }
 }

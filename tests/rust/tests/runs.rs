@@ -1,6 +1,7 @@
 //! The document's "Runs to compare".
 
-use dezgula_tests::{library, Answer, State, System};
+use dezgula_tests::lower::{self, Bounded, LIST};
+use dezgula_tests::{library, Answer, State, System, DEEPEST, HEIGHT, STEPS};
 
 const ROOM: usize = 100;
 
@@ -12,24 +13,21 @@ struct Run {
     rows: Vec<Vec<u32>>,
 }
 
-fn go(m: &System, s: &mut State, started: Answer, budget: u64) -> Run {
-    assert_eq!(started, Answer::Started);
-    let answer = library::resume(m, s, budget);
-    Run { answer, steps: s.steps(), height: s.height(), deepest: s.deepest(), rows: s.rows(m.q) }
-}
-
 fn run(rows: &[&[i32]], room: usize, budget: u64) -> Run {
     let m = System::of(rows);
     let mut s = State::blank(m.q, room);
-    let started = library::start(&m, &mut s);
-    go(&m, &mut s, started, budget)
+    assert_eq!(library::start(&m, &mut s), Answer::Started);
+    let answer = library::resume(&m, &mut s, budget);
+    Run { answer, steps: s.steps(), height: s.height(), deepest: s.deepest(), rows: s.rows(m.q) }
 }
 
+/// The walk above a lower bound, after the plain walk.
 fn run_from(rows: &[&[i32]], lower: &[u32]) -> Run {
-    let m = System::of(rows);
-    let mut s = State::blank(m.q, ROOM);
-    let started = library::start_from(&m, lower, &mut s);
-    go(&m, &mut s, started, u64::MAX)
+    let m = Bounded { map: System::of(rows), lower: lower.to_vec() };
+    let mut s = lower::blank(m.map.q, [ROOM, ROOM]);
+    assert_eq!(lower::start(&m, &mut s), Answer::Started);
+    let answer = lower::resume(&m, &mut s, u64::MAX);
+    Run { answer, steps: s.record[STEPS], height: s.record[HEIGHT] as usize, deepest: s.record[DEEPEST], rows: s.rows(m.map.q, LIST) }
 }
 
 fn expect(r: Run, answer: Answer, steps: u64, rows: &[&[u32]]) {
@@ -73,6 +71,7 @@ fn from_a_lower_bound() {
     complete(run_from(&[&[1, -1]], &[3, 3]), 1, &[&[3, 3]]);
     expect(run_from(&[&[2, -1]], &[1_000_000, 999_999]), Answer::refused(12), 1, &[]);
     complete(run_from(&[&[1, -1]], &[1_000_000, 0]), 1_000_001, &[&[1_000_000, 1_000_000]]);
+    complete(run_from(&[&[2, -2, 1], &[0, 0, 1]], &[0, 0, 1]), 2, &[]);
 }
 
 #[test]

@@ -1,4 +1,4 @@
--- `resume` meets its contract: what the continuing call by value answered and left is told on, or its refusal. Assumes nothing.
+-- `resume` meets its contract: what the continuing call by value answered and left is told on. Assumes nothing.
 use borrow.Author.Needs.{needs}
 use Rattle.record_words.specs.CodeLaws.{answer-fits, resume-fits}
 use Rattle.record_words.specs.Words.{resumeWords}
@@ -33,21 +33,6 @@ returns c =
     let w = t .before .before .before .before .before .before in
     call-told _ (w .resumed .result) (rw (w .before .before .before .read .ensures) at (w .resumed .ensures)) (t .tell .ensures .0) (t .tell .ensures .1)
 
-misfit-requires : tie.Need-misfit-requires
-misfit-requires c κs = search needs
-
-same-length-4 : tie.Need-same-length-4
-same-length-4 c = search needs
-
-same-length-5 : tie.Need-same-length-5
-same-length-5 c = search needs
-
-same-length-6 : tie.Need-same-length-6
-same-length-6 c = search needs
-
-returns-2 : tie.Need-returns-2
-returns-2 c = c .misfit .ensures _
-
 pub resume-spec : {M : Type 1} → statement M
 resume-spec =
     tie.close
@@ -58,9 +43,4 @@ resume-spec =
     same-length
     same-length-2
     same-length-3
-    returns
-    misfit-requires
-    same-length-4
-    same-length-5
-    same-length-6
-    returns-2)
+    returns)

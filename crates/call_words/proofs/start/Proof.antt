@@ -36,8 +36,8 @@ returns c =
     (t .tell .ensures .0)
     (t .tell .ensures .1)
 
-misfit-requires : tie.Need-misfit-requires
-misfit-requires c κs = search needs
+resume-requires : tie.Need-resume-requires
+resume-requires c κs = search needs
 
 same-length-4 : tie.Need-same-length-4
 same-length-4 c = search needs
@@ -49,7 +49,9 @@ same-length-6 : tie.Need-same-length-6
 same-length-6 c = search needs
 
 returns-2 : tie.Need-returns-2
-returns-2 c = told-misfit _ _ _ _ (c .misfit .ensures 0) (c .before .before .before .before .if1 .left)
+returns-2 c =
+    let w = c .before .before .before .before .before .before in
+    told-misfit _ _ _ _ (w .resume .ensures) (w .before .before .before .before .if1 .left)
 
 pub start-spec : {M : Type 1} → statement M
 start-spec =
@@ -62,7 +64,7 @@ start-spec =
     same-length-2
     same-length-3
     returns
-    misfit-requires
+    resume-requires
     same-length-4
     same-length-5
     same-length-6

@@ -2,12 +2,10 @@
 use mathlib.Core.Path.{_∙_}
 use borrow.Author.Needs.{needs}
 use Rattle.record_words.specs.CodeLaws.{answer-fits, start-from-fits}
-use Rattle.record_words.specs.WordLaws.{call-told, start-from-fitting, told-from-misfit, seven-missing}
-use Rattle.call_words.proofs.start_from.Statement.{statement}
-use Rattle.call_words.proofs.start_from.Tie as tie
-
-starts-from-requires : tie.Need-starts-from-requires
-starts-from-requires c κs = search needs
+use Rattle.record_words.specs.WordLaws.{both-told}
+use Rattle.lower_words.specs.LowerLaws.{bound-fitting, bound-misfit}
+use Rattle.lower_words.proofs.start_from.Statement.{statement}
+use Rattle.lower_words.proofs.start_from.Tie as tie
 
 read-requires : tie.Need-read-requires
 read-requires c κs = search needs
@@ -17,7 +15,7 @@ started-from-requires c κs = search needs
 
 tell-requires : tie.Need-tell-requires
 tell-requires c κs =
-    let w = c .before .before .before .before .before in
+    let w = c .before .before .before .before .before .before .before in
     answer-fits (w .started-from .result) (w .started-from .ensures) (start-from-fits _ _ _)
 
 same-length : tie.Need-same-length
@@ -29,24 +27,21 @@ same-length-2 c = search needs
 same-length-3 : tie.Need-same-length-3
 same-length-3 c = search needs
 
+same-length-4 : tie.Need-same-length-4
+same-length-4 c = search needs
+
 returns : tie.Need-returns
 returns c =
     let t = c .before .before in
-    let w = t .before .before .before .before .before .before in
-    let r = w .before .before .before in
-    let d = r .before .before in
-    call-told _ (w .started-from .result)
-    (rw (r .read .ensures) at (w .started-from .ensures) ∙ start-from-fitting _ _ _ _ _ (d .before .starts-from .ensures) (d .if1 .taken))
+    let w = t .before .before .before .before .before .before .before .before in
+    let r = w .before .before .before .before in
+    both-told _ (w .started-from .result)
+    (rw (r .read .ensures) at (w .started-from .ensures) ∙ bound-fitting _ _ _ _ _ _ (r .before .before .if1 .taken))
     (t .tell .ensures .0)
     (t .tell .ensures .1)
 
-misfit-requires : tie.Need-misfit-requires
-misfit-requires c κs =
-    let d = c .before .before .before in
-    seven-missing _ _ (d .before .starts-from .ensures) (d .if1 .left)
-
-same-length-4 : tie.Need-same-length-4
-same-length-4 c = search needs
+resume-from-requires : tie.Need-resume-from-requires
+resume-from-requires c κs = search needs
 
 same-length-5 : tie.Need-same-length-5
 same-length-5 c = search needs
@@ -54,25 +49,32 @@ same-length-5 c = search needs
 same-length-6 : tie.Need-same-length-6
 same-length-6 c = search needs
 
+same-length-7 : tie.Need-same-length-7
+same-length-7 c = search needs
+
+same-length-8 : tie.Need-same-length-8
+same-length-8 c = search needs
+
 returns-2 : tie.Need-returns-2
 returns-2 c =
-    let d = c .before .before .before .before in
-    told-from-misfit _ _ _ _ (c .misfit .ensures 0) _ (d .before .starts-from .ensures) (d .if1 .left)
+    let w = c .before .before .before .before .before .before .before .before in
+    bound-misfit _ _ _ _ _ _ (w .resume-from .ensures) (w .before .before .before .before .before .if1 .left)
 
 pub start-from-spec : {M : Type 1} → statement M
 start-from-spec =
     tie.close
     (tie.spec
-    starts-from-requires
     read-requires
     started-from-requires
     tell-requires
     same-length
     same-length-2
     same-length-3
-    returns
-    misfit-requires
     same-length-4
+    returns
+    resume-from-requires
     same-length-5
     same-length-6
+    same-length-7
+    same-length-8
     returns-2)

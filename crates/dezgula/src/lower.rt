@@ -1,0 +1,46 @@
+// Runs from a lower bound; include/dezgula_lower.h says the same to C and Rust.
+ghost use mathlib.Core.Path.{_≡_};
+ghost use Rattle.definitions.specs.Input.{inputOf};
+ghost use Rattle.record_words.specs.Words.{toldBoth};
+ghost use Rattle.lower_words.specs.Lower.{startFromWords, resumeFromWords};
+
+// The start.
+#[no_mangle]
+pub extern "C" fn dezgula_raw_start_from(
+    p: usize,
+    q: usize,
+    coefs: &[i32],
+    lower: &[u32],
+    stack: &mut [u32],
+    list: &mut [u32],
+    second: &mut [u32],
+    run: &mut [u64],
+) -> u64
+    ensures { λ a. ⌜ (a, (now (stack .exit), (now (list .exit), (now (second .exit), now (run .exit))))) ≡
+        toldBoth (now (run .entry))
+        (startFromWords (now (lower .entry)) (now (run .entry)) (inputOf p q (now (coefs .entry))) (now (stack .entry)) (now (list .entry))
+        (now (second .entry))) ⌝ }
+{
+    lower_words::start_from(p, q, coefs, lower, stack, list, second, run)
+}
+
+// The continuing call.
+#[no_mangle]
+pub extern "C" fn dezgula_raw_resume_from(
+    p: usize,
+    q: usize,
+    coefs: &[i32],
+    lower: &[u32],
+    stack: &mut [u32],
+    list: &mut [u32],
+    second: &mut [u32],
+    run: &mut [u64],
+    budget: u64,
+) -> u64
+    ensures { λ a. ⌜ (a, (now (stack .exit), (now (list .exit), (now (second .exit), now (run .exit))))) ≡
+        toldBoth (now (run .entry))
+        (resumeFromWords budget (now (lower .entry)) (now (run .entry)) (inputOf p q (now (coefs .entry))) (now (stack .entry)) (now (list .entry))
+        (now (second .entry))) ⌝ }
+{
+    lower_words::resume_from(p, q, coefs, lower, stack, list, second, run, budget)
+}

@@ -1,0 +1,79 @@
+// The training seat; include/dezgula_training.h says the same to C and Rust.
+ghost use mathlib.Core.Path.{_≡_};
+ghost use Rattle.record_words.specs.Words.{told, toldBoth};
+ghost use Rattle.training_form.specs.Training.{seatInput};
+ghost use Rattle.training_words.specs.SeatWords.{seatResumeFromWords, seatResumeWords, seatStartFromWords, seatStartWords};
+
+// The plain start.
+#[no_mangle]
+pub extern "C" fn dezgula_raw_start_training(
+    p: usize,
+    q: usize,
+    coefs: &[i32],
+    stack: &mut [u32],
+    list: &mut [u32],
+    run: &mut [u64],
+) -> u64
+    ensures { λ a. ⌜ (a, (now (stack .exit), (now (list .exit), now (run .exit)))) ≡
+        told (now (run .entry)) (seatStartWords (now (run .entry)) (seatInput p q (now (coefs .entry))) (now (stack .entry)) (now (list .entry))) ⌝ }
+{
+    training_words::start(p, q, coefs, stack, list, run)
+}
+
+// The start of a run from a lower bound.
+#[no_mangle]
+pub extern "C" fn dezgula_raw_start_training_from(
+    p: usize,
+    q: usize,
+    coefs: &[i32],
+    lower: &[u32],
+    stack: &mut [u32],
+    list: &mut [u32],
+    second: &mut [u32],
+    run: &mut [u64],
+) -> u64
+    ensures { λ a. ⌜ (a, (now (stack .exit), (now (list .exit), (now (second .exit), now (run .exit))))) ≡
+        toldBoth (now (run .entry))
+        (seatStartFromWords (now (lower .entry)) (now (run .entry)) (seatInput p q (now (coefs .entry))) (now (stack .entry)) (now (list .entry))
+        (now (second .entry))) ⌝ }
+{
+    training_words::start_from(p, q, coefs, lower, stack, list, second, run)
+}
+
+// The continuing call of a plain run.
+#[no_mangle]
+pub extern "C" fn dezgula_raw_resume_training(
+    p: usize,
+    q: usize,
+    coefs: &[i32],
+    stack: &mut [u32],
+    list: &mut [u32],
+    run: &mut [u64],
+    budget: u64,
+) -> u64
+    ensures { λ a. ⌜ (a, (now (stack .exit), (now (list .exit), now (run .exit)))) ≡
+        told (now (run .entry)) (seatResumeWords budget (now (run .entry)) (seatInput p q (now (coefs .entry))) (now (stack .entry)) (now (list .entry))) ⌝ }
+{
+    training_words::resume(p, q, coefs, stack, list, run, budget)
+}
+
+// The continuing call of a run from a lower bound.
+#[no_mangle]
+pub extern "C" fn dezgula_raw_resume_training_from(
+    p: usize,
+    q: usize,
+    coefs: &[i32],
+    lower: &[u32],
+    stack: &mut [u32],
+    list: &mut [u32],
+    second: &mut [u32],
+    run: &mut [u64],
+    budget: u64,
+) -> u64
+    ensures { λ a. ⌜ (a, (now (stack .exit), (now (list .exit), (now (second .exit), now (run .exit))))) ≡
+        toldBoth (now (run .entry))
+        (seatResumeFromWords budget (now (lower .entry)) (now (run .entry)) (seatInput p q (now (coefs .entry))) (now (stack .entry)) (now (list .entry))
+        (now (second .entry))) ⌝ }
+{
+    training_words::resume_from(p, q, coefs, lower, stack, list, second, run, budget)
+}

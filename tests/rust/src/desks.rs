@@ -1,0 +1,124 @@
+//! One desk after the other: the library's calls (include/dezgula_desks.h) in safe functions, and a map solved desk by desk with them.
+
+use crate::{library, Answer, State, System};
+
+extern "C" {
+    fn dezgula_raw_desks_start(
+        p: usize,
+        q: usize,
+        coefs: *const i32,
+        coefs_len: usize,
+        generators: *const u32,
+        generators_len: usize,
+        stack: *mut u32,
+        stack_len: usize,
+        list: *mut u32,
+        list_len: usize,
+        record: *mut u64,
+        record_len: usize,
+    ) -> u64;
+
+    fn dezgula_raw_desks_resume(
+        p: usize,
+        q: usize,
+        coefs: *const i32,
+        coefs_len: usize,
+        generators: *const u32,
+        generators_len: usize,
+        stack: *mut u32,
+        stack_len: usize,
+        list: *mut u32,
+        list_len: usize,
+        record: *mut u64,
+        record_len: usize,
+        budget: u64,
+    ) -> u64;
+}
+
+/// The kind of these runs, as their record tells it.
+pub const DESKS: u64 = 4;
+
+/// Tables for `generators` of q unknowns and `room` rows, with no zeros in them, so that a place written too many shows.
+pub fn blank(q: usize, generators: usize, room: usize) -> State {
+    State { stack: vec![0xa5a5_a5a5; generators * (q + 2) + 3], ..State::blank(q, room) }
+}
+
+fn answer(code: u64) -> Answer {
+    match code {
+        0 => Answer::Complete,
+        100 => Answer::Started,
+        101 => Answer::Paused,
+        _ => Answer::Refused { number: code as u8, value: (code >> 8) as usize },
+    }
+}
+
+pub fn start(m: &System, generators: &[u32], s: &mut State) -> Answer {
+    answer(unsafe {
+        dezgula_raw_desks_start(
+            m.p,
+            m.q,
+            m.coefs.as_ptr(),
+            m.coefs.len(),
+            generators.as_ptr(),
+            generators.len(),
+            s.stack.as_mut_ptr(),
+            s.stack.len(),
+            s.list.as_mut_ptr(),
+            s.list.len(),
+            s.record.as_mut_ptr(),
+            s.record.len(),
+        )
+    })
+}
+
+pub fn resume(m: &System, generators: &[u32], s: &mut State, budget: u64) -> Answer {
+    answer(unsafe {
+        dezgula_raw_desks_resume(
+            m.p,
+            m.q,
+            m.coefs.as_ptr(),
+            m.coefs.len(),
+            generators.as_ptr(),
+            generators.len(),
+            s.stack.as_mut_ptr(),
+            s.stack.len(),
+            s.list.as_mut_ptr(),
+            s.list.len(),
+            s.record.as_mut_ptr(),
+            s.record.len(),
+            budget,
+        )
+    })
+}
+
+/// The equations of a map from one to before another.
+pub fn group(m: &System, from: usize, to: usize) -> System {
+    System { p: to - from, q: m.q, coefs: m.coefs[from * m.q..to * m.q].to_vec() }
+}
+
+/// The rows of a whole list, one behind the other.
+pub fn plain(m: &System, room: usize) -> Vec<u32> {
+    let mut s = State::blank(m.q, room);
+    assert_eq!(library::start(m, &mut s), Answer::Started);
+    assert_eq!(library::resume(m, &mut s, u64::MAX), Answer::Complete, "{m:?}");
+    s.rows(m.q).concat()
+}
+
+/// The same desk by desk, where the places say which equations begin a further desk; none where 25 is given.
+pub fn built(m: &System, places: &[usize], room: usize) -> Option<Vec<u32>> {
+    let ends = places.iter().copied().chain([m.p]);
+    let mut rows = plain(&group(m, 0, places.first().copied().unwrap_or(m.p)), room);
+    for (from, to) in places.iter().copied().zip(ends.skip(1)) {
+        let second = group(m, from, to);
+        let mut s = blank(m.q, rows.len() / m.q, room);
+        match start(&second, &rows, &mut s) {
+            Answer::Started => assert_eq!(resume(&second, &rows, &mut s, u64::MAX), Answer::Complete, "{m:?}"),
+            refused => {
+                assert_eq!(refused, Answer::refused(25), "{m:?}");
+                return None;
+            }
+        }
+        rows = s.rows(m.q).concat();
+    }
+    Some(rows)
+}
