@@ -14,7 +14,7 @@ import single_file
 from build import with_
 from text import HEAD, call_line, order_line, view_line
 
-KINDS = ("start", "from", "resume", "view", "begin", "go", "order")
+KINDS = ("start", "resume", "view", "begin", "go", "order")
 DRAWN = 6000
 CALLS_OF_A_RUN = 60
 
@@ -41,7 +41,7 @@ def runs(counts):
             over += answer[0] in ("Complete", "Refused")
             if over == 2:
                 break
-            call = with_(after, kind="resume", lower=[], budget=budgets[n % len(budgets)])
+            call = with_(after, kind="resume", budget=budgets[n % len(budgets)])
             if answer == ("Refused", 11):
                 call.list += [8] * (2 * call.q)
 

@@ -4,7 +4,7 @@ import random
 
 from calls import Call
 
-KINDS = ("start", "from", "resume")
+KINDS = ("start", "resume")
 HUGE = 2**64 - 1
 WORD = 2**32 - 1
 
@@ -31,8 +31,7 @@ def valid(kind, p, q):
     height = min(q, 2)
     stack = rows_in_order(q, [[0] * q] * height)
     stack += any_numbers(rng, q * (q + 1) - len(stack))
-    lower = [0] * q if kind == "from" else []
-    return Call(kind, p, q, [0] * (p * q), stack, any_numbers(rng, 3 * q), [height, 1, 5], lower, 1 if kind == "resume" else 0)
+    return Call(kind, p, q, [0] * (p * q), stack, any_numbers(rng, 3 * q), [height, 1, 5], 1 if kind == "resume" else 0)
 
 
 def with_(call, **parts):

@@ -1,7 +1,7 @@
-"""Document 01 as a model: the plain start, the start from a lower bound, the continuing call and the reader, each on a whole state. It is written
-from the document alone and with no thought of speed: images are summed anew wherever one is asked for."""
+"""Document 01 as a model: the plain start, the continuing call and the reader, each on a whole state. It is written from the document alone and with no
+thought of speed: images are summed anew wherever one is asked for. Runs from a lower bound are in lower.py."""
 
-from dataclasses import dataclass, field
+from dataclasses import dataclass
 
 MOST_EQUATIONS, MOST_UNKNOWNS = 8, 16
 MOST_COEFFICIENT, MOST_COMPONENT, MOST_STEPS = 10_000, 1_000_000, 1_000_000_000_000
@@ -9,7 +9,7 @@ MOST_COEFFICIENT, MOST_COMPONENT, MOST_STEPS = 10_000, 1_000_000, 1_000_000_000_
 
 @dataclass
 class Call:
-    """What is handed over: the system, the tables, the run record (height, found, steps), and a lower bound or a budget where the kind has one."""
+    """What is handed over: the system, the tables, the run record (height, found, steps), and a budget where the kind has one."""
 
     kind: str
     p: int
@@ -18,11 +18,10 @@ class Call:
     stack: list
     list: list
     record: list
-    lower: list = field(default_factory=list)
     budget: int = 0
 
     def copy(self):
-        return Call(self.kind, self.p, self.q, self.coefs[:], self.stack[:], self.list[:], self.record[:], self.lower[:], self.budget)
+        return Call(self.kind, self.p, self.q, self.coefs[:], self.stack[:], self.list[:], self.record[:], self.budget)
 
 
 class Refusal(Exception):
@@ -35,7 +34,7 @@ class Refusal(Exception):
 def answered(call):
     """The answer to a call. Its tables and record are changed as the call changes them."""
     try:
-        return {"start": start, "from": start_from, "resume": resume, "begin": begin, "go": go}[call.kind](call)
+        return {"start": start, "resume": resume, "begin": begin, "go": go}[call.kind](call)
     except Refusal as refusal:
         return refusal.answer
 
@@ -84,8 +83,8 @@ def write_row(c, k, components, marks):
     c.stack[(k - 1) * (c.q + 1) : k * (c.q + 1)] = components + [marks]
 
 
-# "A plain start writes rows 1 to q: row k holds a 1 at place k, and marks 1 to k - 1. A floor start writes row 1 only: the floor, no marks. Both set
-# height to q or 1, found and steps to 0, take no step, touch nothing else and answer 'started'."
+# "A plain start writes rows 1 to q: row k holds a 1 at place k, and marks 1 to k - 1." It sets "height to q .., found and steps to 0", takes no step, touches
+# nothing else and answers "started".
 
 
 def start(c):
@@ -94,18 +93,6 @@ def start(c):
     for k in range(1, c.q + 1):
         write_row(c, k, [1 if j == k else 0 for j in range(1, c.q + 1)], sum(2 ** (j - 1) for j in range(1, k)))
     c.record[:] = [c.q, 0, 0]
-    return ("Started",)
-
-
-def start_from(c):
-    check_shape(c)
-    if len(c.lower) != c.q:
-        raise Refusal(5)
-    check_coefficients(c)
-    if max(c.lower) > MOST_COMPONENT:
-        raise Refusal(8)
-    write_row(c, 1, c.lower[:], 0)
-    c.record[:] = [1, 0, 0]
     return ("Started",)
 
 
@@ -130,7 +117,7 @@ def image(c, tuple_):
 
 
 def step(c):
-    """One step, or the refusal of the search that stands before it: 14, 11, 12, 13."""
+    """One step, or the refusal of the search that stands before it: 14, 11, 12. ("13 is retired": no step needs a row beyond the last.)"""
     height, found, steps = c.record
     if steps >= MOST_STEPS:
         raise Refusal(14)
@@ -149,8 +136,7 @@ def step(c):
             rows.append((raised, marks | sum(2**k for _, _, k in rows), j))
     if any(max(raised) > MOST_COMPONENT for raised, _, _ in rows):
         raise Refusal(12)
-    if height - 1 + len(rows) > c.q:
-        raise Refusal(13)
+    assert height - 1 + len(rows) <= c.q
     for n, (raised, frozen, _) in enumerate(rows):
         write_row(c, height + n, raised, frozen)
     c.record[:] = [height - 1 + len(rows), found, steps + 1]

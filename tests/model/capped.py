@@ -1,26 +1,15 @@
 """Document 02, job 1, as a model: starts and continuing calls of runs with right sides; with them the plain ones, under any limit of components (job 9)
 and with the greatest sum of components (job 6). Written from the documents alone: images are summed anew, and a listed row gets the extra unknown back
-before it is compared. Run as a program it writes the vectors of crates/try_capped into a folder."""
+before it is compared."""
 
-import sys
-from collections import Counter
 from dataclasses import dataclass, replace
 
 from build import HUGE, WORD, any_numbers, drawer
 from calls import MOST_COEFFICIENT, MOST_COMPONENT, MOST_EQUATIONS, MOST_STEPS, MOST_UNKNOWNS, Refusal
-from text import changes, numbers
 
 MOST_SUM = 16_000_000
 PLAIN, CAPPED, KINDS_OF_RUN = 0, 1, 5
-KINDS = ("start", "from", "resume", "meet", "go")
 DRAWN, SERIES = 1500, 60
-
-HEAD = """# Calls of plain and capped runs and what must come of each, written by tests/model/capped.py, which reads documents 01 and 02 by itself. Made anew by
-# tests/capped_vectors; never edited. A line is a kind of call with its numbers: start p q; from p q 0 limit; resume p q budget limit; with right sides
-# meet p q (a start); go p q budget limit. Then come, each after its letter: c the coefficients; b the right sides; t the lower bound; s the stack; l the list;
-# n the second list; r the kind of run, height, found, steps, rows of the second list, steps of the plain walk before, greatest sum.
-# Then the answer; and after it what has changed: s4 1 0 says that entries 4 and 5 of the stack, from 0, are 1 and 0 now. All else is as before.
-"""
 
 
 @dataclass
@@ -114,19 +103,16 @@ def check_order(c):
             raise Refusal(6)
 
 
-def start(c):
-    check_shape(c)
-    if c.kind == "from" and len(c.lower) != c.q:
-        raise Refusal(5)
-    check_ranges(c)
-    if c.kind == "from":
-        if max(c.lower) > most(c):
-            raise Refusal(8)
-        c.write_row(1, c.lower[:], 0)
-        c.record[:] = [PLAIN, 1, 0, 0, 0, 0, 0]
-        return ("Started",)
+def write_units(c):
+    """"A plain start writes rows 1 to q: row k holds a 1 at place k, and marks 1 to k - 1.\""""
     for k in range(1, c.width + 1):
         c.write_row(k, [int(j == k) for j in range(1, c.width + 1)], 2 ** (k - 1) - 1)
+
+
+def start(c):
+    check_shape(c)
+    check_ranges(c)
+    write_units(c)
     c.record[:] = [CAPPED if c.capped else PLAIN, c.width, 0, 0, 0, 0, 0]
     return ("Started",)
 
@@ -200,8 +186,7 @@ def valid(kind, p, q):
     stack += any_numbers(rng, width * (width + 1) - len(stack))
     record = [CAPPED if kind == "go" else PLAIN, height, 1, 5, 1, 7, 3]
     rights = [0] * p if kind in ("meet", "go") else []
-    lower = [0] * q if kind == "from" else []
-    return Call(kind, p, q, [0] * (p * q), rights, stack, any_numbers(rng, 3 * q), any_numbers(rng, 3 * q), record, lower, int(kind in ("resume", "go")))
+    return Call(kind, p, q, [0] * (p * q), rights, stack, any_numbers(rng, 3 * q), any_numbers(rng, 3 * q), record, [], int(kind in ("resume", "go")))
 
 
 def with_(call, **parts):
@@ -398,7 +383,7 @@ def series():
 
 
 def shaped(rng):
-    kind = rng.choice(("meet", "start", "from", "resume") + ("go",) * 8)
+    kind = rng.choice(("meet", "start", "resume") + ("go",) * 8)
     capped = kind in ("meet", "go")
     p, q = rng.randint(1, 2), rng.randint(1, rng.choice((2, 3, 4)))
     width, size = q + capped, rng.choice((1, 2, 6, 10000))
@@ -421,9 +406,8 @@ def shaped(rng):
     list_, second = ([component() for _ in range(f * q)] + any_numbers(rng, (room - f) * q + rng.randrange(q)) for f, room in zip(founds, rooms))
     steps, before, deepest = rng.choice((0, 5, MOST_STEPS - rng.randrange(4))), rng.randrange(9), rng.choice((0, 3, MOST_SUM))
     record = [CAPPED if capped else PLAIN, height, founds[0], steps, founds[1], before, deepest]
-    lower = [component() for _ in range(q)] if kind == "from" else []
     budget = rng.choice((0, 1, 2, 3, 9, 60)) if kind in ("go", "resume") else 0
-    return Call(kind, p, q, coefs, rights, stack, list_, second if capped else [], record, lower, budget, limit)
+    return Call(kind, p, q, coefs, rights, stack, list_, second if capped else [], record, [], budget, limit)
 
 
 def faulty(c, rng):
@@ -457,40 +441,3 @@ def cases():
         rng = drawer("capped", n)
         c = shaped(rng)
         yield faulty(c, rng) if rng.randrange(4) == 0 else c, None
-
-
-def line(call, number, counts):
-    after = call.copy()
-    answer = answered(after)
-    if number is not None:
-        assert (answer[1] if answer[0] == "Refused" else 0) == number, (call, answer, number)
-    counts[answer[:2]] += 1
-    words = [call.kind, str(call.p), str(call.q), str(call.budget), str(call.limit)]
-    for key, name in (("c", "coefs"), ("b", "rights"), ("t", "lower"), ("s", "stack"), ("l", "list"), ("n", "second"), ("r", "record")):
-        words += numbers(key, getattr(call, name))
-    words += map(str, answer)
-    for key, name in (("r", "record"), ("s", "stack"), ("l", "list"), ("n", "second")):
-        words += changes(key, getattr(call, name), getattr(after, name))
-    return " ".join(words)
-
-
-def main(folder):
-    answers, kinds, text = Counter(), Counter(), [HEAD]
-    for case in cases():
-        if isinstance(case, str):
-            text.append(f"# {case}\n")
-            continue
-        text.append(line(*case, answers) + "\n")
-        kinds[case[0].kind] += 1
-    with open(f"{folder}/stdin", "w", encoding="ascii") as file:
-        file.write("".join(text))
-    with open(f"{folder}/stdout", "w", encoding="ascii") as file:
-        for kind in KINDS:
-            file.write(f"{kind} {kinds[kind]} agreed {kinds[kind]}\n")
-        file.write(f"calls {kinds.total()} agreed {kinds.total()}\n")
-    for answer, n in sorted(answers.items(), key=str):
-        print(*answer, n)
-
-
-if __name__ == "__main__":
-    main(sys.argv[1])

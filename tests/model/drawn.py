@@ -17,12 +17,11 @@ def some(rng, few, many):
 
 def shaped(rng):
     """Sizes, coefficients, rows that are in order and a record."""
-    kind = rng.choice(("start", "from", "from") + ("resume",) * 9)
+    kind = rng.choice(("start",) + ("resume",) * 9)
     p, q = some(rng, 2, 8), some(rng, rng.choice((2, 3, 4)), 16)
     size = rng.choice((1, 1, 2, 2, 6, 6, 6, 10000))
     coefs = [rng.randint(-size, size) * rng.choice((0, 1, 1, 1)) for _ in range(p * q)]
     tables = any_numbers(rng, rng.choice((0, 0, 0, 0, 1, q, 9)))
-    lower = [component(rng, rng.randrange(4)) for _ in range(q)] if kind == "from" else []
     capacity = rng.choice((0, 1, 1, 2, 2, 3, 4, 6))
     table = any_numbers(rng, capacity * q + rng.choice((0, 0, 0, rng.randrange(q))))
     found = rng.randint(0, min(3, capacity))
@@ -32,7 +31,7 @@ def shaped(rng):
         table[: found * q] = [component(rng, style) for _ in range(found * q)]
     stack = rows + any_numbers(rng, q * (q + 1) - len(rows)) + tables
     steps, budget = counts(rng)
-    return Call(kind, p, q, coefs, stack, table, [height, found, steps], lower, budget if kind == "resume" else 0)
+    return Call(kind, p, q, coefs, stack, table, [height, found, steps], budget if kind == "resume" else 0)
 
 
 def component(rng, style):

@@ -16,9 +16,7 @@ def edges():
     for kind in KINDS:
         yield from shape_edges(kind)
         yield from coefficient_edges(kind)
-    yield from bound_edges()
-    yield from starts_in_disorder("start")
-    yield from starts_in_disorder("from")
+    yield from starts_in_disorder()
     yield from record_edges()
     yield from row_edges()
     yield from mark_edges()
@@ -52,19 +50,9 @@ def coefficient_edges(kind):
     yield with_(with_(c, coefs_at=(4, -10001)), coefs_at=(1, 10001)), refused(7, 2)
 
 
-def bound_edges():
-    c = valid("from", 2, 3)
-    for n in (0, 2, 4):
-        yield with_(c, lower_length=n), refused(5)
-    for at in (0, 1, 2):
-        yield with_(c, lower_at=(at, MOST_COMPONENT)), ("Started",)
-        yield with_(c, lower_at=(at, MOST_COMPONENT + 1)), refused(8)
-        yield with_(c, lower_at=(at, WORD)), refused(8)
-
-
-def starts_in_disorder(kind):
+def starts_in_disorder():
     """"A start looks at no old content and so never gives 6.\""""
-    c = valid(kind, 2, 3)
+    c = valid("start", 2, 3)
     c.stack = [WORD - 7 * i for i in range(12)]
     for record in ([2, 1, 5], [HUGE, 1, 5], [HUGE, HUGE, 5], [HUGE, HUGE, HUGE]):
         yield with_(c, record=record), ("Started",)
@@ -149,7 +137,7 @@ def large(height=1, listed=()):
     """2 -1 with components at the limit, where raising unknown 2 makes a child."""
     tuples = [[MOST_COMPONENT] * 2] * 2
     table = [x for t in listed for x in t] + [3] * (6 - 2 * len(listed))
-    return Call("resume", 1, 2, [2, -1], rows_in_order(2, tuples), table, [height, len(listed), 5], [], 1)
+    return Call("resume", 1, 2, [2, -1], rows_in_order(2, tuples), table, [height, len(listed), 5], 1)
 
 
 def component_edges():
@@ -171,6 +159,6 @@ def component_edges():
     frozen = with_(large(height=2), stack_at=(5, 2))
     yield frozen, ("Paused",)
     yield with_(frozen, budget=2), refused(12)
-    good_first = Call("resume", 1, 3, [-1, 5, -1], [0, 1, MOST_COMPONENT, 0] + [7] * 8, [4] * 6, [1, 0, 5], [], 1)
+    good_first = Call("resume", 1, 3, [-1, 5, -1], [0, 1, MOST_COMPONENT, 0] + [7] * 8, [4] * 6, [1, 0, 5], 1)
     yield with_(good_first, stack_at=(1, MOST_COMPONENT)), refused(12)
     yield with_(good_first, stack_at=(2, 4)), ("Paused",)

@@ -46,7 +46,6 @@ def seventeen_unknowns(c):
     c.coefs[:] = [0] * (c.p * 17)
     c.stack[:] = rows_in_order(17, [[0] * 17] * 17)
     c.list[:] = [1] * 51
-    c.lower[:] = [0] * 17 if c.lower else []
 
 
 def child_past_the_limit(c):
@@ -65,8 +64,6 @@ FAULTS = (
     (3, length("coefs", lambda c: len(c.coefs) + 1)),
     (12, child_past_the_limit),
     (4, length("stack", lambda c: c.q * (c.q + 1) - 1)),
-    (5, length("lower", lambda c: len(c.lower) - 1)),
-    (5, length("lower", lambda c: len(c.lower) + 1)),
     (6, entry("record", 0, lambda c: c.q + 1)),
     (6, entry("record", 1, lambda c: len(c.list) + 1)),
     (6, entry("record", 2, MOST_STEPS + 1)),
@@ -75,24 +72,20 @@ FAULTS = (
     (6, top(lambda q: q, lambda q: 0)),
     (7, entry("coefs", 0, 10001)),
     (7, entry("coefs", -1, -10001)),
-    (8, entry("lower", 0, MOST_COMPONENT + 1)),
-    (8, entry("lower", -1, MOST_COMPONENT + 1)),
     (14, entry("record", 2, MOST_STEPS)),
     (11, entry("record", 1, lambda c: max(3, c.record[1]))),
 )
 
 # Two that cannot be had together: steps above their limit do not stand at it, and a top with a child is no solution.
-APART = ({11, 19}, {5, 20})
+APART = ({9, 15}, {5, 16})
 
 # Which of two refusals is answered: the lower number before the walk, and in the walk 14 first.
-ORDER = (1, 2, 3, 4, 5, 6, 7, 8, 14, 11, 12)
+ORDER = (1, 2, 3, 4, 6, 7, 14, 11, 12)
 
 
 def looks_at(kind, number):
     """Whether a kind of call looks at what a refusal is about."""
-    if number in (1, 2, 3, 4, 7):
-        return True
-    return kind == ("from" if number in (5, 8) else "resume")
+    return number in (1, 2, 3, 4, 7) or kind == "resume"
 
 
 def faults():

@@ -4,9 +4,9 @@ from calls import answered, view
 from single_file import listed
 
 HEAD = """# Calls and what must come of each, written by tests/model, which reads document 01 by itself. Made anew by tests/vectors; never edited.
-# A line is a kind of call with its numbers: start p q; from p q; resume p q budget; view q found n; of single-file maps begin p q; go p q budget;
+# A line is a kind of call with its numbers: start p q; resume p q budget; view q found n; of single-file maps begin p q; go p q budget;
 # order p q found room.
-# Then come, each after its letter: c the coefficients; t the lower bound, or the row that is shown, or the bytes that are written; s the stack; l the list; r height, found and steps.
+# Then come, each after its letter: c the coefficients; t the row that is shown, or the bytes that are written; s the stack; l the list; r height, found, steps.
 # Then the answer; and after it what has changed: s4 1 0 says that entries 4 and 5 of the stack, from 0, are 1 and 0 now. All else is as before.
 """
 
@@ -35,7 +35,7 @@ def call_line(call):
     after = call.copy()
     answer = answered(after)
     head = [call.kind, call.p, call.q] + ([call.budget] if call.kind in ("resume", "go") else [])
-    words = [*map(str, head), *numbers("c", call.coefs), *numbers("t", call.lower), *numbers("s", call.stack), *numbers("l", call.list)]
+    words = [*map(str, head), *numbers("c", call.coefs), *numbers("s", call.stack), *numbers("l", call.list)]
     words += [*numbers("r", call.record), *map(str, answer)]
     for key, before, now in (("r", call.record, after.record), ("s", call.stack, after.stack), ("l", call.list, after.list)):
         words += changes(key, before, now)

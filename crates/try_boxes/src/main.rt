@@ -30,10 +30,11 @@ struct Tally {
     missing: u64,
 }
 
-// Which runs are made; and of runs with right sides, which of their two lists is held against the box.
+// Which runs are made; and of runs from a lower bound or with right sides, which of their two lists is held against the box.
 enum Sort {
     Plain,
     From,
+    FromSecond,
     First,
     Second,
 }
@@ -51,8 +52,10 @@ fn main() {
     print::line(b"systems", SYSTEMS);
     print::text(b"plain\n");
     report(runs(none, Sort::Plain));
-    print::text(b"from a lower bound\n");
+    print::text(b"from a lower bound: the first list\n");
     report(runs(none, Sort::From));
+    print::text(b"from a lower bound: the second list\n");
+    report(runs(none, Sort::FromSecond));
     print::text(b"with right sides: the first list\n");
     report(runs(none, Sort::First));
     print::text(b"with right sides: the second list\n");
@@ -97,8 +100,9 @@ fn system(t: Tally, n: u64, sort: Sort) -> Tally {
     }
     let rights = [coefs[12], coefs[13], coefs[14]];
     match sort {
-        Sort::Plain => solved(t, p, q, &coefs[0..entries], &[]),
-        Sort::From => solved(t, p, q, &coefs[0..entries], &lower[0..q]),
+        Sort::Plain => solved(t, p, q, &coefs[0..entries]),
+        Sort::From => raised(t, p, q, &coefs[0..entries], &lower[0..q], false),
+        Sort::FromSecond => raised(t, p, q, &coefs[0..entries], &lower[0..q], true),
         Sort::First => met(t, p, q, &coefs[0..entries], &rights[0..p], false),
         Sort::Second => met(t, p, q, &coefs[0..entries], &rights[0..p], true),
     }
@@ -127,14 +131,30 @@ fn draw_lower(lower: &mut [u32], n: u64) {
     }
 }
 
-// A run of a system; an empty lower bound stands for a plain start.
-fn solved(t: Tally, p: usize, q: usize, coefs: &[i32], lower: &[u32]) -> Tally {
+// A plain run of a system.
+fn solved(t: Tally, p: usize, q: usize, coefs: &[i32]) -> Tally {
     let mut list = [0u32; 4096];
-    let o = walked(p, q, coefs, lower, &mut list);
+    let o = walked(p, q, coefs, &mut list);
     let mut minimal = [0u32; 4096];
-    let n = boxes::minimal(p, q, coefs, &[], lower, &mut minimal);
+    let n = boxes::minimal(p, q, coefs, &[], &[], &mut minimal);
     let a = o.answer;
     let r = o.run;
+    compared(t, p, q, coefs, &[], &[], a, r.found, &list, &minimal, n)
+}
+
+// A run of a system from a lower bound: its first list is held against the solutions at or above the bound, its second one against those of the plain system.
+fn raised(t: Tally, p: usize, q: usize, coefs: &[i32], lower: &[u32], second: bool) -> Tally {
+    let mut list = [0u32; 4096];
+    let mut other = [0u32; 4096];
+    let o = walked_from(p, q, coefs, lower, &mut list, &mut other);
+    let r = o.run;
+    let a = o.answer;
+    let mut minimal = [0u32; 4096];
+    if second {
+        let n = boxes::minimal(p, q, coefs, &[], &[], &mut minimal);
+        return compared(t, p, q, coefs, &[], &[], a, r.second, &other, &minimal, n);
+    }
+    let n = boxes::minimal(p, q, coefs, &[], lower, &mut minimal);
     compared(t, p, q, coefs, &[], lower, a, r.found, &list, &minimal, n)
 }
 
@@ -193,41 +213,38 @@ fn walked_capped(
     )
 }
 
-fn walked(p: usize, q: usize, coefs: &[i32], lower: &[u32], list: &mut [u32]) -> Outcome {
+fn walked(p: usize, q: usize, coefs: &[i32], list: &mut [u32]) -> Outcome {
     let mut stack = [0u32; 20];
+    let limit = calls::COMPONENT_LIMIT;
     let old = Record::new(0, Solutions(0), Steps(0));
-    if lower.len() == 0 {
-        let o = starts::started(p, q, coefs, &mut stack, list, old);
-        return walk::resumed(
-            p,
-            q,
-            coefs,
-            &mut stack,
-            list,
-            o.run,
-            BUDGET,
-            calls::COMPONENT_LIMIT,
-        );
-    }
-    let o = starts::started_from(
+    let o = starts::started(p, q, coefs, &mut stack, list, old);
+    walk::resumed(p, q, coefs, &mut stack, list, o.run, BUDGET, limit)
+}
+
+fn walked_from(
+    p: usize,
+    q: usize,
+    coefs: &[i32],
+    lower: &[u32],
+    list: &mut [u32],
+    second: &mut [u32],
+) -> Outcome {
+    let mut stack = [0u32; 20];
+    let limit = calls::COMPONENT_LIMIT;
+    let old = Record::new(0, Solutions(0), Steps(0));
+    let o = starts::started_from(p, q, coefs, lower, &mut stack, list, second, old, limit);
+    let r = o.run;
+    walk::resumed_from(
         p,
         q,
         coefs,
-        &mut stack,
-        list,
-        old,
         lower,
-        calls::COMPONENT_LIMIT,
-    );
-    walk::resumed(
-        p,
-        q,
-        coefs,
         &mut stack,
         list,
-        o.run,
+        second,
+        r,
         BUDGET,
-        calls::COMPONENT_LIMIT,
+        limit,
     )
 }
 

@@ -1,7 +1,4 @@
 // The kinds of call: each is made as its line has it, and held against what the line says must come of it.
-use crate::line::COEFFICIENTS;
-use crate::line::Line;
-use crate::line::ROOM;
 use calls::Answer;
 use calls::Outcome;
 use calls::Record;
@@ -9,6 +6,12 @@ use calls::Refusal;
 use calls::Run;
 use calls::Solutions;
 use calls::Steps;
+use try_lines::line::COEFFICIENTS;
+use try_lines::line::Line;
+use try_lines::line::ROOM;
+use try_lines::tables::first;
+use try_lines::tables::first_signed;
+use try_lines::tables::same_table;
 
 // Whether the call of a line comes to what the line says. One whose tables have no room is not made.
 pub fn agrees(l: Line) -> bool {
@@ -16,7 +19,7 @@ pub fn agrees(l: Line) -> bool {
 }
 
 fn fits(l: Line) -> bool {
-    l.coefs_length <= COEFFICIENTS && l.rights_length <= COEFFICIENTS
+    l.coefs_length <= COEFFICIENTS && l.rights_length <= COEFFICIENTS && l.tuple_length <= ROOM
 }
 
 // A start or a continuing call: its answer, its record and every entry of its tables.
@@ -37,19 +40,19 @@ fn run(l: Line) -> bool {
         && same_table(&second, &second_after)
 }
 
-// The call, on the parts of the tables that the line fills.
+// The call, on the parts of the tables that the line fills; where there are no such parts, an answer that no line has.
 fn called(l: Line, stack: &mut [u32], list: &mut [u32], second: &mut [u32]) -> Outcome {
     let s = l.stack_length;
     let n = l.list_length;
     let m = l.second_length;
     if stack.len() < s {
-        return calls::refused(Refusal::StackFull, record(l));
+        return calls::refused(Refusal::Column(0), record(l));
     }
     if list.len() < n {
-        return calls::refused(Refusal::StackFull, record(l));
+        return calls::refused(Refusal::Column(0), record(l));
     }
     if second.len() < m {
-        return calls::refused(Refusal::StackFull, record(l));
+        return calls::refused(Refusal::Column(0), record(l));
     }
     made(l, &mut stack[0..s], &mut list[0..n], &mut second[0..m])
 }
@@ -80,10 +83,13 @@ fn kind_of(n: u64) -> Run {
 
 fn made(l: Line, stack: &mut [u32], list: &mut [u32], second: &mut [u32]) -> Outcome {
     let kind = l.kind;
-    if kind == b'm' || kind == b'g' {
-        return capped(l, stack, list, second);
+    match kind {
+        b'm' | b'g' => capped(l, stack, list, second),
+        b'f' | b'o' => lower(l, stack, list, second),
+        b'b' | b'l' => seat(l, stack, list),
+        b'a' | b'c' => seat_lower(l, stack, list, second),
+        _ => plain(l, stack, list),
     }
-    plain(l, stack, list)
 }
 
 // p, q, a budget and a limit.
@@ -94,15 +100,11 @@ fn plain(l: Line, stack: &mut [u32], list: &mut [u32]) -> Outcome {
     let limit = (x[3] % 4294967296) as u32;
     let table = l.coefs;
     let coefs = first_signed(&table, l.coefs_length);
-    let tuple = l.tuple;
-    let lower = first(&tuple, l.tuple_length);
     let r = record(l);
-    let kind = l.kind;
-    match kind {
-        b's' => starts::started(p, q, coefs, stack, list, r),
-        b'f' => starts::started_from(p, q, coefs, stack, list, r, lower, limit),
-        _ => walk::resumed(p, q, coefs, stack, list, r, x[2], limit),
+    if l.kind == b's' {
+        return starts::started(p, q, coefs, stack, list, r);
     }
+    walk::resumed(p, q, coefs, stack, list, r, x[2], limit)
 }
 
 // p, q, a budget and a limit.
@@ -122,19 +124,51 @@ fn capped(l: Line, stack: &mut [u32], list: &mut [u32], second: &mut [u32]) -> O
     walk::resumed_capped(p, q, coefs, rights, stack, list, second, r, x[2], limit)
 }
 
-// The first n entries, or all where there are fewer.
-fn first(table: &[u32], n: usize) -> &[u32] {
-    if n < table.len() {
-        return &table[0..n];
+// p, q, a budget and a limit; the tuple is the lower bound.
+fn lower(l: Line, stack: &mut [u32], list: &mut [u32], second: &mut [u32]) -> Outcome {
+    let x = l.operands;
+    let p = x[0] as usize;
+    let q = x[1] as usize;
+    let limit = (x[3] % 4294967296) as u32;
+    let table = l.coefs;
+    let coefs = first_signed(&table, l.coefs_length);
+    let tuple = l.tuple;
+    let bound = first(&tuple, l.tuple_length);
+    let r = record(l);
+    if l.kind == b'f' {
+        return starts::started_from(p, q, coefs, bound, stack, list, second, r, limit);
     }
-    &table[0..table.len()]
+    walk::resumed_from(p, q, coefs, bound, stack, list, second, r, x[2], limit)
 }
 
-fn first_signed(table: &[i32], n: usize) -> &[i32] {
-    if n < table.len() {
-        return &table[0..n];
+// Of the training seat: p, q and a budget.
+fn seat(l: Line, stack: &mut [u32], list: &mut [u32]) -> Outcome {
+    let x = l.operands;
+    let p = x[0] as usize;
+    let q = x[1] as usize;
+    let table = l.coefs;
+    let coefs = first_signed(&table, l.coefs_length);
+    let r = record(l);
+    if l.kind == b'b' {
+        return training::started(p, q, coefs, stack, list, r);
     }
-    &table[0..table.len()]
+    training::resumed(p, q, coefs, stack, list, r, x[2])
+}
+
+// The same from a lower bound, which is the tuple.
+fn seat_lower(l: Line, stack: &mut [u32], list: &mut [u32], second: &mut [u32]) -> Outcome {
+    let x = l.operands;
+    let p = x[0] as usize;
+    let q = x[1] as usize;
+    let table = l.coefs;
+    let coefs = first_signed(&table, l.coefs_length);
+    let tuple = l.tuple;
+    let bound = first(&tuple, l.tuple_length);
+    let r = record(l);
+    if l.kind == b'a' {
+        return training::started_from(p, q, coefs, bound, stack, list, second, r);
+    }
+    training::resumed_from(p, q, coefs, bound, stack, list, second, r, x[2])
 }
 
 fn answers(l: Line, a: Answer) -> bool {
@@ -165,22 +199,4 @@ fn records(l: Line, r: Record) -> bool {
         && second.0 as u64 == x[4]
         && before.0 == x[5]
         && r.deepest == x[6]
-}
-
-fn same_table(a: &[u32; ROOM], b: &[u32; ROOM]) -> bool {
-    same(a, b)
-}
-
-fn same(a: &[u32], b: &[u32]) -> bool {
-    if a.len() != b.len() {
-        return false;
-    }
-    let mut i = 0;
-    while i < a.len() {
-        if a[i] != b[i] {
-            return false;
-        }
-        i += 1;
-    }
-    true
 }

@@ -1,8 +1,5 @@
 // The kinds of call: each is made as its line has it, and held against what the line says must come of it. A further kind is one more arm of `agrees`
 // and one more function, which takes its operands and tables from the line and compares what comes of them by the functions below.
-use crate::line::COEFFICIENTS;
-use crate::line::Line;
-use crate::line::ROOM;
 use calls::Answer;
 use calls::Outcome;
 use calls::Record;
@@ -11,6 +8,13 @@ use calls::Solutions;
 use calls::Steps;
 use listing::ListingAnswer;
 use solver::Readable;
+use try_lines::line::COEFFICIENTS;
+use try_lines::line::Line;
+use try_lines::line::ROOM;
+use try_lines::tables::first;
+use try_lines::tables::first_signed;
+use try_lines::tables::same;
+use try_lines::tables::same_table;
 
 // What stands in an output space before: a byte that no text has.
 const BEFORE: u8 = 170;
@@ -26,7 +30,7 @@ pub fn agrees(l: Line) -> bool {
     }
     let kind = l.kind;
     match kind {
-        b's' | b'f' | b'r' | b'b' | b'g' => run(l),
+        b's' | b'r' | b'b' | b'g' => run(l),
         b'o' => order(l),
         b'v' => view(l),
         _ => false,
@@ -48,22 +52,20 @@ fn run(l: Line) -> bool {
         && same_table(&list, &list_after)
 }
 
-// The call, on the parts of the tables that the line fills; there are such parts, as `agrees` saw.
+// The call, on the parts of the tables that the line fills; there are such parts, as `agrees` saw, and else the answer is one that no line has.
 fn called(l: Line, stack: &mut [u32], list: &mut [u32]) -> Outcome {
     let coefs = l.coefs;
-    let lower = l.tuple;
     let s = l.stack_length;
     let n = l.list_length;
     if stack.len() < s {
-        return calls::refused(Refusal::StackFull, record(l));
+        return calls::refused(Refusal::Column(0), record(l));
     }
     if list.len() < n {
-        return calls::refused(Refusal::StackFull, record(l));
+        return calls::refused(Refusal::Column(0), record(l));
     }
     made(
         l,
         first_signed(&coefs, l.coefs_length),
-        first(&lower, l.tuple_length),
         &mut stack[0..s],
         &mut list[0..n],
     )
@@ -75,7 +77,7 @@ fn record(l: Line) -> Record {
 }
 
 // p, q and a budget.
-fn made(l: Line, coefs: &[i32], lower: &[u32], stack: &mut [u32], list: &mut [u32]) -> Outcome {
+fn made(l: Line, coefs: &[i32], stack: &mut [u32], list: &mut [u32]) -> Outcome {
     let x = l.operands;
     let p = x[0] as usize;
     let q = x[1] as usize;
@@ -83,7 +85,6 @@ fn made(l: Line, coefs: &[i32], lower: &[u32], stack: &mut [u32], list: &mut [u3
     let kind = l.kind;
     match kind {
         b's' => starts::started(p, q, coefs, stack, list, r),
-        b'f' => starts::started_from(p, q, coefs, stack, list, r, lower, calls::COMPONENT_LIMIT),
         b'b' => single_file_calls::started(p, q, coefs, stack, list, r),
         b'g' => single_file_calls::resumed(p, q, coefs, stack, list, r, x[2]),
         _ => walk::resumed(p, q, coefs, stack, list, r, x[2], calls::COMPONENT_LIMIT),
@@ -117,6 +118,7 @@ fn order(l: Line) -> bool {
     let coefs = l.coefs;
     let list = l.list;
     let tuple = l.tuple;
+    let text = first(&tuple, l.tuple_length);
     let room = (x[3] % 321) as usize;
     let mut out = [BEFORE; ROOM];
     let a = listed(
@@ -126,7 +128,7 @@ fn order(l: Line) -> bool {
         &mut out,
         room,
     );
-    says(l, a) && same_text(&out, first(&tuple, l.tuple_length))
+    says(l, a) && same_text(&out, text)
 }
 
 fn listed(l: Line, coefs: &[i32], list: &[u32], out: &mut [u8], room: usize) -> ListingAnswer {
@@ -179,21 +181,6 @@ fn wide(b: u8) -> u32 {
     b as u32
 }
 
-// The first n entries, or all where there are fewer.
-fn first(table: &[u32], n: usize) -> &[u32] {
-    if n < table.len() {
-        return &table[0..n];
-    }
-    &table[0..table.len()]
-}
-
-fn first_signed(table: &[i32], n: usize) -> &[i32] {
-    if n < table.len() {
-        return &table[0..n];
-    }
-    &table[0..table.len()]
-}
-
 fn answers(l: Line, a: Answer) -> bool {
     match a {
         Answer::Started => l.answer == b'S',
@@ -213,22 +200,4 @@ fn records(l: Line, r: Record) -> bool {
     let found = r.found;
     let steps = r.steps;
     r.height as u64 == x[0] && found.0 as u64 == x[1] && steps.0 == x[2]
-}
-
-fn same_table(a: &[u32; ROOM], b: &[u32; ROOM]) -> bool {
-    same(a, b)
-}
-
-fn same(a: &[u32], b: &[u32]) -> bool {
-    if a.len() != b.len() {
-        return false;
-    }
-    let mut i = 0;
-    while i < a.len() {
-        if a[i] != b[i] {
-            return false;
-        }
-        i += 1;
-    }
-    true
 }
