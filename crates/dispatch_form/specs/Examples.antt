@@ -18,20 +18,10 @@ use Rattle.definitions.specs.Machine.{call, checked, unlessDone, walk}
 use Rattle.definitions.specs.System.{covered, isAtOrBelow, solves}
 use Rattle.definitions.specs.Tables.{begun, bit, frozen, plainRun, unitsTo, writeRow, writeTo}
 use Rattle.definitions.specs.Step.{makes, marksTo, writeChildren, listed, grown, step}
-use Rattle.definitions.specs.Refusals.{rowFits, inOrder, check7, resumeChecks, tooLarge, tooHigh, searchChecks}
-use Rattle.dispatch_form.specs.Parts.{Part, partOf, withPart, lies, overlap, apart}
+use Rattle.definitions.specs.Refusals.{rowFits, inOrder, check7, resumeChecks, tooLarge, searchChecks}
+use Rattle.dispatch_form.specs.Parts.{Part, part, partOf, withPart, lies, overlap, apart}
 use Rattle.dispatch_form.specs.Dispatch.{Schedule, Share, Round, Dispatched, firstTo, totalTo, own, nextAfter, leaveTurn, serve}
 use Rattle.dispatch_form.specs.Dispatch.{afterTurns, opened, answerFor, stepsBetween, dispatchChecks, dispatch}
-
-part : ℕ → ℕ → Part
-part start size = record { start = start; size = size }
-
--- ---- "two parts overlap": parts that touch do not, and an empty part overlaps none
-
-parts-hold : (overlap (part 1 13) (part 13 6) ≡ true) × (overlap (part 1 13) (part 14 6) ≡ false) × (overlap (part 14 6) (part 1 13) ≡ false)
-    × (overlap (part 2 0) (part 1 13) ≡ false) × (overlap (part 1 13) (part 2 0) ≡ false) × (overlap (part 2 1) (part 1 13) ≡ true)
-unfolding part overlap
-parts-hold = (refl, refl, refl, refl, refl, refl)
 
 -- ---- whose turn it is: "rising from the one after the run served last .. (0 at first)", and with run 1 after the last one
 
@@ -112,5 +102,8 @@ calls-hold : (called 0 (schedule (part 15 6) 7 3) ≡ comes (paused ∷ paused �
     × (called 9 (schedule (part 15 6) 7 0) ≡ refuses 27)
     × (called 9 (schedule (part 13 8) 7 3) ≡ refuses 28)
     × (called 9 (schedule (part 15 8) 7 3) ≡ refuses 28)
-unfolding total part share pair schedule starts nines summary called comes refuses partOf withPart overlap apart firstTo totalTo own nextAfter leaveTurn serve afterTurns opened answerFor stepsBetween dispatchChecks dispatch sumTo allTo anyTo countTo unit inner value refuseWith _then_ refuseFirst solves isAtOrBelow covered bit frozen writeTo writeRow unitsTo makes marksTo writeChildren listed grown step rowFits inOrder check7 resumeChecks tooLarge tooHigh searchChecks checked unlessDone walk call
+unfolding total part share pair schedule starts nines summary called comes refuses partOf withPart overlap apart firstTo totalTo own nextAfter leaveTurn serve
+    afterTurns opened answerFor stepsBetween dispatchChecks dispatch sumTo allTo anyTo countTo unit inner value refuseWith _then_ refuseFirst solves isAtOrBelow
+    covered bit frozen writeTo writeRow unitsTo makes marksTo writeChildren listed grown step rowFits inOrder check7 resumeChecks tooLarge searchChecks checked
+    unlessDone walk call
 calls-hold = (refl, refl, refl, refl, refl, refl, refl, refl, refl)

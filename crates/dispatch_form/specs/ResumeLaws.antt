@@ -14,7 +14,8 @@ use Rattle.laws.specs.MachineLaws.{call-refused}
 use Rattle.theorems.specs.Counts.{after-counts}
 use Rattle.theorems.specs.First.{resume-after}
 use Rattle.theorems.specs.Series.{continuing}
-use Rattle.theorems.specs.Untouched.{call-leaves, call-untouched}
+use Rattle.theorems.specs.First.{left-valid}
+use Rattle.theorems.specs.Untouched.{call-untouched}
 
 -- ---- the lengths of the tables
 
@@ -53,7 +54,7 @@ pub resume-rises : (n : ℕ) (i : Input) (s : State) → Rises (s .run .steps) (
 resume-rises n i s =
     elim (check-cases (resumeChecks i s)) [
       | inl e ↦
-          let early : resume n i s .state .run .steps ≤ stepLimit = call-leaves (continuing n i) s e .valid .ordered .early in
+          let early : resume n i s .state .run .steps ≤ stepLimit = left-valid n i s e .ordered .early in
           record { from = omega (arith, resume-counts n i s); top = omega (arith, early) }
       | inr (r, values, e) ↦ rw (call-refused (machine i) s n r values e .0) (rises-not (s .run .steps))
     ]

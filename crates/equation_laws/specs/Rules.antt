@@ -15,11 +15,10 @@ use Rattle.linear.specs.Cases.{split}
 use Rattle.definitions.specs.Answers.{Check, refuse, go, refuseWith, refuseFirst, _then_}
 use Rattle.definitions.specs.Refusals.{outOfRange}
 use Rattle.definitions.specs.System.{mostUnknowns, coefLimit}
-use Rattle.laws.specs.CheckLaws.{Rules, _▹_, end, placed, rule, Decides, Renders, decides-if, renders-last, renders-then}
+use Rattle.laws.specs.CheckLaws.{Rules, _▹_, end, placed, rule, Decides, Renders, decides-if, renders-last, renders-then, renders-due, renders-silent}
 use Rattle.laws.specs.RefusalLaws.{Outside}
 use Rattle.texts.specs.Reading.{mostBytes, Parse, parsed, malformed}
 use Rattle.texts.specs.ParseLaws.{not-parsed}
-use Rattle.texts.specs.Verdicts.{renders-due, renders-silent}
 use Rattle.equation_form.specs.Grammar.{Equation, Reads}
 use Rattle.equation_form.specs.Meaning.{coefficient, rightSide, sumSteep}
 use Rattle.equation_form.specs.Reader.{readEquation}

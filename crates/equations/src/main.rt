@@ -1,7 +1,6 @@
 // Lists the minimal solutions of a system typed as several lines (document 02, job 3): the first line has the number of unknowns, and each line after it is an
 // equation as people write it. What it prints of a system whose right sides are all 0 is `report`'s contract; of another it prints both lists of a capped run
 // (job 1). A refusal names the line of the text, the first being 1.
-ghost use Prim.Native.Nat.{_≤_};
 use calls::Answer;
 use calls::Outcome;
 use calls::Record;
@@ -10,6 +9,10 @@ use calls::Steps;
 use equation_systems::SystemRead;
 use equation_systems::SystemRefusal;
 use equation_systems::read_system;
+use program_parts::first;
+use program_parts::part;
+use program_parts::rows;
+use program_parts::size;
 use texts::number::Natural;
 use texts::number::read_natural;
 
@@ -48,25 +51,6 @@ fn read_lines(text: &[u8], next: usize, q: usize) {
         SystemRead::Refused(why) => refuse_system(why),
         SystemRead::System { p } => solve(p, q, first(&coefs, size(p, q)), &rights),
     }
-}
-
-// How many coefficients a system of p equations in q unknowns has, where both are in range.
-fn size(p: usize, q: usize) -> usize
-    ensures { λ n. ⌜ n ≤ 128 ⌝ }
-{
-    (p % 9) * (q % 17)
-}
-
-// The first n coefficients, or all where there are fewer.
-fn first(coefs: &[i32; 128], n: usize) -> &[i32] {
-    part(coefs, n)
-}
-
-fn part(s: &[i32], n: usize) -> &[i32] {
-    if n <= s.len() {
-        return &s[0..n];
-    }
-    s
 }
 
 // The system that was read. Right sides past the p-th are 0.
@@ -156,32 +140,6 @@ fn count(name: &[u8], n: u64) {
     say(name);
     io::print_decimal(1, n);
     say(b"\n");
-}
-
-// The first `found` rows of q numbers.
-fn rows(list: &[u32], q: usize, found: usize) {
-    if q == 0 {
-        return;
-    }
-    let mut k = 0;
-    while k < list.len() {
-        if k / q == found {
-            return;
-        }
-        let n = list[k];
-        k += 1;
-        entry(n, k % q == 0);
-    }
-}
-
-// A number of a row, and what separates it from the next.
-fn entry(n: u32, last: bool) {
-    io::print_decimal(1, n as u64);
-    if last {
-        say(b"\n");
-        return;
-    }
-    say(b" ");
 }
 
 // The last line, in the words of `basis`.

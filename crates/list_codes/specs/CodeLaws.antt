@@ -12,12 +12,12 @@ use lib.ListN.{length}
 use Rattle.definitions.specs.Answers.{Check, refuse, go, refuseWith, refuseIf, refuseFirst, _then_}
 use Rattle.definitions.specs.Refusals.{between}
 use Rattle.definitions.specs.System.{mostEquations, mostUnknowns}
+use Rattle.laws.specs.RefusalLaws.{at-most, decides-outside, decides-unequal, equal}
 use Rattle.list_form.specs.Form.{ListFile}
 use Rattle.list_form.specs.Writing as writing
 use Rattle.list_form.specs.Writing.{writeChecks, writeDecided, writeList}
 use Rattle.list_form.specs.Reading as reading
 use Rattle.list_form.specs.Reading.{blockChecks, streamChecks, fileChecks, readChecks, listIn, handedOut, readDecided, readFile, coefWords, rowWords}
-use Rattle.list_laws.specs.Deciding.{at-most, decides-outside, decides-unequal, equal}
 use Rattle.list_laws.specs.RuleLaws.{read-in}
 use Rattle.list_laws.specs.AcceptedLaws.{row-count}
 use Rattle.calls.specs.declared.Solutions.{Solutions}

@@ -1,20 +1,19 @@
--- Lists written and files read, by computation. Assumes nothing.
+-- A list written, and what is asked of a file, of a block and of a word, by computation. (Whole files read: list_laws/specs/Examples.antt.) Assumes nothing.
 use Prim.Native.Nat.{ℕ}
-use mathlib.Core.Bool.{cond}
+use mathlib.Core.Bool.{Bool, true, false, not}
 use mathlib.Core.List.{List, [], _∷_, _++_}
 use mathlib.Core.Path.{_≡_, refl}
-use lib.Dec.{eqb}
 use lib.IntN.{pos, negsuc}
 use lib.ListN.{take, replicate}
 use Rattle.linear.specs.Tests.{allTo}
-use Rattle.definitions.specs.Answers.{Check, refuse, go, _then_, refuseWith, refuseFirst}
+use Rattle.definitions.specs.Answers.{Check, refuse, go, _then_, refuseIf, refuseWith, refuseFirst}
 use Rattle.list_form.specs.Words.{encoded, wordAt, total}
 use Rattle.list_form.specs.Form.{ListFile, blockWord, fileWord, written}
 use Rattle.list_form.specs.Writing.{rowsInRange, listInRange, writeChecks}
-use Rattle.list_form.specs.Reading.{listed, blockChecks, headerInRange, blockInRange, streamChecks, fileChecks, readChecks}
+use Rattle.list_form.specs.Reading.{listed, blockChecks, streamWordInRange, fileChecks, readChecks}
 
 -- the equation 2 -3 with its one minimal solution
-abbrev small : ListFile
+abbrev pub small : ListFile
 small = record { p = 1; q = 2; coefs = pos 2 ∷ negsuc 2 ∷ []; rows = 3 ∷ 2 ∷ []; ending = 0 }
 
 -- ---- its words
@@ -30,9 +29,18 @@ words-written : smallWords ≡ (0 ∷ 1 ∷ 2 ∷ 1 ∷ 0 ∷ zeros 122) ++ (429
 unfolding smallWords
 words-written = refl
 
+-- ---- blocks that the stream fills: 126 words each, and the sum of all of them
+
+filled : ListFile
+filled = record { p = 1; q = 1; coefs = []; rows = replicate 126 5 ++ (7 ∷ []); ending = 0 }
+
+blocks-filled : (blockWord filled 1 1 ≡ 5) × (blockWord filled 1 126 ≡ 5) × (blockWord filled 1 127 ≡ 4294966665) × (blockWord filled 2 1 ≡ 7)
+unfolding filled blockWord total
+blocks-filled = (refl, refl, refl, refl)
+
 -- ---- its file
 
-smallFile : List ℕ
+unfoldable pub smallFile : List ℕ
 unfolding written encoded blockWord total
 smallFile = written small
 
@@ -40,35 +48,32 @@ begins : take 12 smallFile ≡ 0 ∷ 0 ∷ 0 ∷ 0 ∷ 1 ∷ 0 ∷ 0 ∷ 0 ∷ 2
 unfolding smallFile
 begins = refl
 
-checkedAs : List ℕ → ℕ → ℕ → Check
-unfolding readChecks fileChecks streamChecks blockChecks headerInRange blockInRange wordAt total allTo _then_ refuseWith
-checkedAs file coefs list = readChecks file coefs list
+-- ---- what is asked of a file: below one block, before a table too short
 
-accepted : checkedAs smallFile 2 2 ≡ go
-unfolding checkedAs smallFile
-accepted = refl
+below-block : readChecks (take 12 smallFile) 1 2 ≡ refuse 19 []
+unfolding readChecks fileChecks wordAt _then_ refuseWith smallFile
+below-block = refl
 
-table-short : checkedAs smallFile 2 1 ≡ refuse 29 []
-unfolding checkedAs smallFile
-table-short = refl
+-- ---- of a block: its sum, its number, and then its words. (Words past the end of a file read as zero.)
 
--- ---- files with a word changed, and the last word of a block with it
+block-numbered : blockChecks [] 1 true ≡ refuse 21 []
+unfolding blockChecks wordAt total _then_ refuseWith
+block-numbered = refl
 
-changed : ℕ → ℕ → ℕ → ℕ → List ℕ
-unfolding encoded blockWord total
-changed k w last sum = encoded 256 (λ i. cond (eqb i k) w (cond (eqb i last) sum (fileWord small i)))
+block-summed : (inRange : Bool) → blockChecks smallFile 0 inRange ≡ refuseIf (not inRange) 22
+unfolding blockChecks wordAt total _then_ refuseWith smallFile
+block-summed inRange = refl
 
--- the sum of block 1, before its number; the number of block 0; a row count that asks for more blocks; a coefficient out of range, also before a short
--- table; filler
-refused-in-order :
-    (checkedAs (changed 128 2 127 4294967292) 2 2 ≡ refuse 20 [])
-    × (checkedAs (changed 0 1 127 4294967291) 2 2 ≡ refuse 21 [])
-    × (checkedAs (changed 3 200 127 4294967093) 2 2 ≡ refuse 19 [])
-    × (checkedAs (changed 129 10001 255 4294957292) 2 2 ≡ refuse 22 [])
-    × (checkedAs (changed 129 10001 255 4294957292) 1 2 ≡ refuse 22 [])
-    × (checkedAs (changed 133 7 255 4294967284) 2 2 ≡ refuse 22 [])
-unfolding checkedAs changed
-refused-in-order = (refl, refl, refl, refl, refl, refl)
+-- ---- of a word of the stream: a coefficient, a component, filler
+
+word-refused :
+    (streamWordInRange 2 2 1 4294957296 ≡ true)
+    × (streamWordInRange 2 2 1 10001 ≡ false)
+    × (streamWordInRange 2 2 3 1000000 ≡ true)
+    × (streamWordInRange 2 2 3 1000001 ≡ false)
+    × (streamWordInRange 2 2 4 0 ≡ true)
+    × (streamWordInRange 2 2 4 7 ≡ false)
+word-refused = (refl, refl, refl, refl, refl, refl)
 
 -- ---- the writer
 

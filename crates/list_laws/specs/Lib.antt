@@ -1,4 +1,3 @@
-pub mod Deciding
 pub mod WordLaws
 pub mod SumLaws
 pub mod ListLaws
@@ -8,3 +7,4 @@ pub mod ContentLaws
 pub mod AcceptedLaws
 pub mod WrittenLaws
 pub mod FileLaws
+pub mod Examples

@@ -6,20 +6,20 @@ use mathlib.Core.List.{List}
 use mathlib.Core.Logic.{_≢_, inl, inr}
 use mathlib.Core.Path.{_≡_, refl}
 use native.Mathlib.Omega.{arith}
-use lib.Dec.{T, T-not, not-T, ltb, eqb, ltb→lt, lt→ltb}
-use lib.IntN.{pos, natAbs}
+use lib.Dec.{T, ltb, eqb, ltb→lt, lt→ltb}
+use lib.IntN.{ℤ, pos, natAbs}
 use lib.ListN.{length, getD}
 use Rattle.linear.specs.Cases.{below-suc}
-use Rattle.definitions.specs.Answers.{Check, go, _then_, refuseIf}
+use Rattle.definitions.specs.Answers.{Check, go, _then_, refuseIf, refuseFirst}
+use Rattle.definitions.specs.Refusals.{outOfRange}
 use Rattle.definitions.specs.System.{mostEquations, mostUnknowns, coefLimit}
 use Rattle.laws.specs.AnswerLaws.{then-assoc, then-go}
-use Rattle.laws.specs.CheckLaws.{Renders, Rules, _▹_, end, placed, renders-last, renders-then, rule}
-use Rattle.laws.specs.RefusalLaws.{Outside}
+use Rattle.laws.specs.CheckLaws.{Decides, Renders, Rules, _▹_, by-test, decides-below, decides-first, decides-not, end, placed, renders-last, renders-then, rule}
+use Rattle.laws.specs.RefusalLaws.{Outside, at-most, decides-outside, decides-unequal, equal}
 use Rattle.list_form.specs.Words.{wrappingSum}
 use Rattle.list_form.specs.Form.{ListFile, blockBytes, blockWords, laterBlocks, blockCount, fileBlocks}
 use Rattle.list_form.specs.Writing.{listInRange, writeChecks}
 use Rattle.list_form.specs.Reading.{coefWords, rowWords, inBlock, blockChecks, headerInRange, blockInRange, streamChecks, fileChecks, readChecks}
-use Rattle.list_laws.specs.Deciding.{at-most, by-test, decides-below, decides-coefs, decides-not, decides-outside, decides-unequal, equal}
 use Rattle.list_laws.specs.Ranges.{RowsInRange, rows-from, rows-to, HeaderInRange, header-from, header-to, BlockInRange, block-from, block-to}
 
 -- ---- the writer
@@ -35,6 +35,14 @@ writeRules l room =
     ▹ rule 22 (¬ (RowsInRange l))
     ▹ rule 19 (room ≢ blockBytes * fileBlocks l)
     ▹ end
+
+-- 7: the first coefficient out of range
+decides-coefs : (coefs : List ℤ)
+    → Decides (refuseFirst 7 (length coefs) (λ i. outOfRange (getD coefs i (pos 0)))) (placed 7 (length coefs) (λ i. coefLimit < natAbs (getD coefs i (pos 0))))
+decides-coefs coefs =
+    decides-first 7 (length coefs) (λ i. outOfRange (getD coefs i (pos 0))) (λ i. coefLimit < natAbs (getD coefs i (pos 0)))
+    (λ i l. ltb→lt coefLimit (natAbs (getD coefs i (pos 0))))
+    (λ i l. lt→ltb coefLimit (natAbs (getD coefs i (pos 0))))
 
 pub write-renders : (l : ListFile) (room : ℕ) → Renders (writeChecks l room) (writeRules l room)
 unfolding writeChecks

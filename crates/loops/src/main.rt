@@ -1,6 +1,5 @@
 // Lists the minimal solutions of the single-file map on standard input, each with the order of its unknowns (document 02, job 12), and how the run ended. The
 // map's text, the steps allowed and the room of the list are those of `basis`; each line printed is `listing`'s contract.
-ghost use Prim.Native.Nat.{_≤_};
 use calls::Answer;
 use calls::Record;
 use calls::Solutions;
@@ -8,6 +7,8 @@ use calls::Steps;
 use listing::ListingAnswer;
 use map_text::Read;
 use map_text::TextRefusal;
+use program_parts::first;
+use program_parts::size;
 
 fn main() {
     // one byte more than a text may have, which tells a longer one
@@ -18,25 +19,6 @@ fn main() {
         Read::Refused(why) => refuse_text(why),
         Read::Map { p, q } => solve(p, q, first(&coefs, size(p, q))),
     }
-}
-
-// How many coefficients a map of p equations in q unknowns has, where both are in range.
-fn size(p: usize, q: usize) -> usize
-    ensures { λ n. ⌜ n ≤ 128 ⌝ }
-{
-    (p % 9) * (q % 17)
-}
-
-// The first n coefficients, or all where there are fewer.
-fn first(coefs: &[i32; 128], n: usize) -> &[i32] {
-    part(coefs, n)
-}
-
-fn part(s: &[i32], n: usize) -> &[i32] {
-    if n <= s.len() {
-        return &s[0..n];
-    }
-    s
 }
 
 // A plain start, and then one continuing call.

@@ -14,8 +14,7 @@ use Rattle.definitions.specs.Answers.{Check, refuse, go, refuseWith, _then_}
 use Rattle.definitions.specs.Input.{inputOf}
 use Rattle.definitions.specs.System.{mostEquations, mostUnknowns, coefLimit}
 use Rattle.definitions.specs.Refusals.{check7}
-use Rattle.laws.specs.CheckLaws.{Rules, rule, placed, _▹_, end, Renders, check-cases}
-use Rattle.texts.specs.Verdicts.{renders-due, renders-silent, renders-end}
+use Rattle.laws.specs.CheckLaws.{Rules, rule, placed, _▹_, end, Renders, check-cases, renders-due, renders-silent, renders-end}
 use Rattle.texts.specs.Reading.{mostBytes, Parse, parsed, malformed}
 use Rattle.texts.specs.ParseLaws.{same}
 use Rattle.map_form.specs.Form.{line, lines, written}

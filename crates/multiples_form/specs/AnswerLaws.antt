@@ -23,7 +23,8 @@ use Rattle.definitions.specs.Tables.{at}
 use Rattle.laws.specs.CheckLaws.{AllSilent, FirstDue, check-cases}
 use Rattle.laws.specs.ReasonLaws.{AllZero, Claim, NoneEarlier, Off, reason-askable, reason-given, reason-renders, reasonRules, refused-reason}
 use Rattle.laws.specs.SystemLaws.{is-zero, zero-is}
-use Rattle.multiples_form.specs.Parts.{Outcome, Parts, allTaken, decomposed, ifSpace, leftOver, made, noSpace, off, refused, takenApart, unlessOff, unlisted}
+use Rattle.multiples_form.specs.Parts.{Outcome, Parts, allTaken, decomposed, ifSpace, leftOver, made, noSpace, off, refused, takenApart, unlessOff}
+use Rattle.multiples_form.specs.Parts.{unlisted}
 use Rattle.multiples_form.specs.PartsLaws.{Small, none-left, times-add-up, times-length, times-outside}
 
 -- ---- a tuple that leaves no equation off is a solution

@@ -108,7 +108,9 @@ six = 0 ∷ 0 ∷ 3 ∷ 2 ∷ 0 ∷ 1 ∷ 1 ∷ 1 ∷ 0 ∷ 3 ∷ 0 ∷ 1 ∷ 1 
 
 -- 4 5 4 3 is 0 0 3 2, 0 1 1 1, and four times 1 1 0 0
 plan : decomposed example4 six 6 (4 ∷ 5 ∷ 4 ∷ 3 ∷ []) (9 ∷ 9 ∷ 9 ∷ 9 ∷ 9 ∷ 9 ∷ []) ≡ record { answer = made; times = 1 ∷ 1 ∷ 0 ∷ 0 ∷ 0 ∷ 4 ∷ [] }
-unfolding example4 six lower oftenTo bounded leftOver writeTimes allTaken takenApart ifSpace unlessOff decomposed sumTo inner value allTo anyTo elseIf firstTo placeIf lastTo refuseWith _then_ refuseFirst isAtOrBelow why.isSame highest why.standing check7 why.reasonChecks vanishes why.firstOff why.zeroOr why.offOr why.standsOr why.aboveOr why.inList why.firstTrue why.unlessRefused reason
+unfolding example4 six lower oftenTo bounded leftOver writeTimes allTaken takenApart ifSpace unlessOff decomposed sumTo inner value allTo anyTo elseIf firstTo
+    placeIf lastTo refuseWith _then_ refuseFirst isAtOrBelow why.isSame highest why.standing check7 why.reasonChecks vanishes why.firstOff why.zeroOr why.offOr
+    why.standsOr why.aboveOr why.inList why.firstTrue why.unlessRefused reason
 plan = refl
 
 example : Input
@@ -142,5 +144,7 @@ answers =
 
 parts-hold : answers ≡ (made, 3 ∷ 2 ∷ 9 ∷ []) ∷ (made, 0 ∷ 0 ∷ 9 ∷ []) ∷ (made, 0 ∷ 1 ∷ 9 ∷ []) ∷ (unlisted, 3 ∷ 9 ∷ 9 ∷ []) ∷ (off 1 (negsuc 2), nine) ∷ (made, 333333 ∷ 0 ∷ 9 ∷ [])
     ∷ (noSpace, 9 ∷ []) ∷ (off 1 (negsuc 2), 9 ∷ []) ∷ (refused 8 [], 9 ∷ []) ∷ []
-unfolding example both small nine told answers lower oftenTo bounded leftOver writeTimes allTaken takenApart ifSpace unlessOff decomposed sumTo inner value allTo anyTo elseIf firstTo placeIf lastTo refuseWith _then_ refuseFirst isAtOrBelow why.isSame highest why.standing check7 why.reasonChecks vanishes why.firstOff why.zeroOr why.offOr why.standsOr why.aboveOr why.inList why.firstTrue why.unlessRefused reason
+unfolding example both small nine told answers lower oftenTo bounded leftOver writeTimes allTaken takenApart ifSpace unlessOff decomposed sumTo inner value
+    allTo anyTo elseIf firstTo placeIf lastTo refuseWith _then_ refuseFirst isAtOrBelow why.isSame highest why.standing check7 why.reasonChecks vanishes
+    why.firstOff why.zeroOr why.offOr why.standsOr why.aboveOr why.inList why.firstTrue why.unlessRefused reason
 parts-hold = refl

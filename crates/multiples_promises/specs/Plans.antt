@@ -52,7 +52,8 @@ every-plan p q coefs s r budget c =
     list-made p q coefs (end .list) (end .run .found) (second-demand .lists (inputOf p q coefs) s r .finished budget c)
 
 -- "The list of loops from Job 1 is included.": the list at 0 of a complete run with right sides
-pub every-plan-at-0 : (p q : ℕ) (coefs b : List ℤ) (s : State) → let i = inputWith (rights b) mostComponent p q coefs in Run i upToOne s → (budget : ℕ) → resume budget i s .answer ≡ complete
+pub every-plan-at-0 : (p q : ℕ) (coefs b : List ℤ) (s : State) → let i =
+    inputWith (rights b) mostComponent p q coefs in Run i upToOne s → (budget : ℕ) → resume budget i s .answer ≡ complete
     → MadeOfRows p q (coef (system p q coefs)) (resume budget i s .state .run .found) (at (resume budget i s .state .list) q)
 every-plan-at-0 p q coefs b s r budget c =
     let i = inputWith (rights b) mostComponent p q coefs in

@@ -14,11 +14,11 @@ use Rattle.linear.specs.Cases.{split}
 use Rattle.linear.specs.TestLaws.{T-dec, all-at, all-from, all-not, and-both, and-parts}
 use Rattle.linear.specs.Tests.{allTo}
 use Rattle.definitions.specs.Answers.{go, refuseIf}
-use Rattle.definitions.specs.Refusals.{between, outOfRange, stepLimit}
+use Rattle.definitions.specs.Refusals.{outOfRange, stepLimit}
 use Rattle.definitions.specs.System.{coefLimit, mostComponent, mostEquations, mostUnknowns}
 use Rattle.definitions.specs.Tables.{frozen}
 use Rattle.laws.specs.CheckLaws.{Decides, Renders, Rules, _▹_, decides-first, decides-if, end, placed, renders-last, renders-then, rule}
-use Rattle.laws.specs.RefusalLaws.{Outside}
+use Rattle.laws.specs.RefusalLaws.{Outside, at-most, decides-outside, decides-unequal, equal}
 use Rattle.pairs_form.specs.Calls.{check7, inOrder, marksInOrder, placeInOrder, resumeChecks, startChecks}
 use Rattle.pairs_form.specs.Method.{Work, isSmall, row}
 
@@ -214,29 +214,6 @@ module _ (p q room : ℕ) (s : Work) where
 
 -- ---- each check renders its rule
 
-to-outside : (a b n : ℕ) → T (not (between a b n)) → Outside a b n
-to-outside a b n h =
-    elim (split n a) [
-      | inl l ↦ inl l
-      | inr l ↦ elim (split b n) [
-        | inl k ↦ inr k
-        | inr k ↦ absurd (T-not (between a b n) h (and-both (leb a n) (leb n b) (le→leb a n l) (le→leb n b k)))
-      ]
-    ]
-
-from-outside : (a b n : ℕ) → Outside a b n → T (not (between a b n))
-from-outside a b n o =
-    not-T (between a b n) (λ h. let (l, k) = and-parts (leb a n) (leb n b) h in elim o [ inl x ↦ omega (arith, leb→le a n l) | inr x ↦ omega (arith, leb→le n b k) ])
-
-decides-outside : (r a b n : ℕ) → Decides (refuseIf (not (between a b n)) r) (rule r (Outside a b n))
-decides-outside r a b n = decides-if (not (between a b n)) r (Outside a b n) (to-outside a b n) (from-outside a b n)
-
-decides-unequal : (r k n : ℕ) → Decides (refuseIf (not (eqb k n)) r) (rule r (k ≢ n))
-decides-unequal r k n =
-    decides-if (not (eqb k n)) r (k ≢ n)
-    (λ h e. T-not (eqb k n) h (rw e (eqb-refl n)))
-    (λ ne. not-T (eqb k n) (λ h. ne (eqb→eq k n h)))
-
 decides-range : (coefs : List ℤ) → Decides (check7 coefs) (placed 7 (length coefs) (λ i. coefLimit < natAbs (getD coefs i (pos 0))))
 decides-range coefs =
     decides-first 7 (length coefs) (λ i. outOfRange (getD coefs i (pos 0))) _
@@ -274,12 +251,6 @@ pub record Shaped (p q : ℕ) (coefs : List ℤ) (room : ℕ) : Type 0 where
   pub count : length coefs ≡ p * q
   pub roomy : q ≤ room
   pub range : (i : ℕ) → i < length coefs → natAbs (getD coefs i (pos 0)) ≤ coefLimit
-
-at-most : (k n : ℕ) → ¬ (n < k) → k ≤ n
-at-most k n h = elim (split n k) [ inl l ↦ absurd (h l) | inr l ↦ l ]
-
-equal : (k n : ℕ) → ¬ (k ≢ n) → k ≡ n
-equal k n h = elim (ℕ-discrete k n) [ yes e ↦ e | no ne ↦ absurd (h ne) ]
 
 module _ (p q : ℕ) (coefs : List ℤ) (room : ℕ) where
   shaped-by : ¬ (Outside 1 mostEquations p) → ¬ (Outside 1 mostUnknowns q) → ¬ (length coefs ≢ p * q) → ¬ (room < q) → ((i : ℕ) → i < length coefs → ¬ (coefLimit < natAbs (getD coefs i (pos 0)))) → Shaped p q coefs room

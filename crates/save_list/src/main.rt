@@ -7,6 +7,9 @@ use calls::Solutions;
 use calls::Steps;
 use list_write::Write;
 use map_text::Read;
+use program_parts::first;
+use program_parts::part_of_list;
+use program_parts::size;
 
 fn main() {
     // one byte more than a text may have, which tells a longer one
@@ -32,7 +35,7 @@ fn saved(text: &[u8], file: &mut [u8]) -> usize
     let mut coefs = [0i32; 128];
     match map_text::read_map(text, &mut coefs) {
         Read::Refused(_) => 0,
-        Read::Map { p, q } => solved(p, q, coefs_first(&coefs, times(p, q)), file),
+        Read::Map { p, q } => solved(p, q, first(&coefs, size(p, q)), file),
     }
 }
 
@@ -57,7 +60,7 @@ fn solved(p: usize, q: usize, coefs: &[i32], file: &mut [u8]) -> usize
     );
     let answer = ended.answer;
     let last = ended.run;
-    let rows = list_first(&list, times(last.found.0, q));
+    let rows = part_of_list(&list, times(last.found.0, q));
     match answer {
         Answer::Complete => written(p, q, coefs, rows, 0, file),
         Answer::Paused => written(p, q, coefs, rows, 1, file),
@@ -84,25 +87,6 @@ fn written(p: usize, q: usize, coefs: &[i32], rows: &[u32], ending: u32, file: &
         Write::Whole => end,
         Write::Refused(_) => 0,
     }
-}
-
-// The first n entries, or as many as there are.
-fn coefs_first(coefs: &[i32; 128], n: usize) -> &[i32] {
-    coefs_part(coefs, n)
-}
-
-fn coefs_part(s: &[i32], n: usize) -> &[i32] {
-    if n <= s.len() {
-        return &s[0..n];
-    }
-    s
-}
-
-fn list_first(s: &[u32], n: usize) -> &[u32] {
-    if n <= s.len() {
-        return &s[0..n];
-    }
-    s
 }
 
 // The product of numbers that are in range, and 0 of others.

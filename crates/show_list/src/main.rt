@@ -1,6 +1,7 @@
 // Prints the list in the file on standard input (document 02, Job 5) as `basis` prints a list, but for the steps, which no file holds. A file that is
 // refused gets one line, "refused" and the number.
 use list_read::Read;
+use program_parts::rows;
 
 fn main() {
     // one byte more than the longest file has, which tells a longer one
@@ -38,30 +39,4 @@ fn ended(ending: u32) {
         return;
     }
     io::write_all(1, b"end paused\n");
-}
-
-// The first `count` rows of `q` numbers.
-fn rows(list: &[u32], q: usize, count: usize) {
-    if q == 0 {
-        return;
-    }
-    let mut k = 0;
-    while k < list.len() {
-        if k / q == count {
-            return;
-        }
-        let n = list[k];
-        k += 1;
-        entry(n, k % q == 0);
-    }
-}
-
-// A number of a row, and what separates it from the next.
-fn entry(n: u32, last: bool) {
-    io::print_decimal(1, n as u64);
-    if last {
-        io::write_all(1, b"\n");
-        return;
-    }
-    io::write_all(1, b" ");
 }

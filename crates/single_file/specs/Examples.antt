@@ -13,7 +13,8 @@ use Rattle.definitions.specs.Input.{Input, inputOf, mapOf}
 use Rattle.texts.specs.Decimals.{bytes, decimal, lastDigits}
 use Rattle.single_file.specs.First.{findTo, iterate}
 use Rattle.single_file.specs.Graph.{isCircuit, leaving, lowest, size}
-use Rattle.single_file.specs.Listing.{Listing, linesTo, listedBy, listing, listingCall, listingChecks, loopLine, orderTo, refused, risingTo, rowChecks, written}
+use Rattle.single_file.specs.Listing.{Listing, linesTo, listedBy, listing, listingCall, listingChecks, loopLine, orderTo, refused, risingTo, rowChecks}
+use Rattle.single_file.specs.Listing.{written}
 use Rattle.single_file.specs.Profile.{check26, check30, inProfile, isCircuitOf, nodeOf}
 
 -- ---- maps
@@ -83,5 +84,6 @@ listing-holds :
     × (called ways ways-list 4 40 ≡ refuses 6 [] 40)
     × (called ways (1 ∷ 0 ∷ 0 ∷ 1 ∷ 0 ∷ 1 ∷ 1 ∷ 0 ∷ 1 ∷ 0 ∷ []) 2 3 ≡ refuses 30 (2 ∷ []) 3)
     × (called (four (pos 0 ∷ pos 2 ∷ pos 0 ∷ negsuc 1 ∷ pos 0 ∷ pos 0 ∷ pos 0 ∷ pos 0 ∷ [])) (0 ∷ 0 ∷ []) 1 3 ≡ refuses 26 (2 ∷ []) 3)
-unfolding ways four called refuses ways-list listingCall listedBy listingChecks rowChecks listing linesTo loopLine risingTo orderTo decimal lastDigits check7 check26 check30 refuseFirst refuseWith _then_ inProfile isCircuit allTo countTo size lowest leaving nodeOf findTo iterate
+unfolding ways four called refuses ways-list listingCall listedBy listingChecks rowChecks listing linesTo loopLine risingTo orderTo decimal lastDigits check7
+    check26 check30 refuseFirst refuseWith _then_ inProfile isCircuit allTo countTo size lowest leaving nodeOf findTo iterate
 listing-holds = (refl, refl, refl, refl, refl, refl)

@@ -17,7 +17,8 @@ use Rattle.single_file.specs.Graph.{Circulation, Graph, goesOn, isCircuit, lowe
 use Rattle.single_file.specs.FirstLaws.{eqb-from, first-found, first-of}
 use Rattle.single_file.specs.GraphLaws.{lowest-below, lowest-inside, lowest-named}
 use Rattle.single_file_laws.specs.Returns.{Returns, apart, comes-back, returns-from}
-use Rattle.single_file_laws.specs.Visits.{flow-same, flow-some, flow-term, size-total, total-visits, visits, visits-at, visits-balanced, visits-once, visits-some}
+use Rattle.single_file_laws.specs.Visits.{flow-same, flow-some, flow-term, size-total, total-visits, visits, visits-at, visits-balanced, visits-once}
+use Rattle.single_file_laws.specs.Visits.{visits-some}
 
 -- ---- the arc that leaves a node
 

@@ -3,5 +3,4 @@ pub mod Visits
 pub mod Circuits
 pub mod ProfileLaws
 pub mod Promises
-pub mod RuleLaws
 pub mod Runs

@@ -17,8 +17,10 @@ use Rattle.single_file.specs.First.{iterate}
 use Rattle.single_file.specs.Graph.{size}
 use Rattle.single_file.specs.GraphLaws.{lowest-below}
 use Rattle.single_file.specs.Profile.{Idle, InProfile, SingleFile, check26, check30, inProfile, isCircuitOf, circuitOrder, graph, headOf}
-use Rattle.single_file_laws.specs.ProfileLaws.{IdleAt, ArcAt, circulation-minimal, column-kinds, minimal-circulation, profile-from, profile-to, head-only, tail-only}
-use Rattle.single_file_laws.specs.Circuits.{Circuit, minimal-circuit, only-one, order-all, order-apart, order-back, order-linked, order-named, circuit-from, circuit-minimal, circuit-to, nodes-apart}
+use Rattle.single_file_laws.specs.ProfileLaws.{IdleAt, ArcAt, circulation-minimal, column-kinds, minimal-circulation, profile-from, profile-to, head-only}
+use Rattle.single_file_laws.specs.ProfileLaws.{tail-only}
+use Rattle.single_file_laws.specs.Circuits.{Circuit, minimal-circuit, only-one, order-all, order-apart, order-back, order-linked, order-named}
+use Rattle.single_file_laws.specs.Circuits.{circuit-from, circuit-minimal, circuit-to, nodes-apart}
 use Rattle.single_file_laws.specs.Visits.{size-total, total-visits, visits, visits-at, visits-once, visits-some}
 
 -- ---- the order of a minimal solution

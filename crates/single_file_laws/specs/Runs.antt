@@ -16,7 +16,7 @@ use Rattle.definitions.specs.Step.{rowWidth}
 use Rattle.definitions.specs.System.{MinimalSolution, System, column, mostEquations, mostUnknowns}
 use Rattle.definitions.specs.Tables.{State, at, capacity}
 use Rattle.laws.specs.AnswerLaws.{then-go}
-use Rattle.laws.specs.CheckLaws.{Renders, Rules, _▹_, decides-if, end, placed, renders-last, renders-then, rule}
+use Rattle.laws.specs.CheckLaws.{Renders, Rules, _▹_, _▹▹_, decides-if, end, placed, renders-after, renders-last, renders-then, rule}
 use Rattle.laws.specs.RefusalLaws.{Outside, decides-outside, decides-range, decides-unequal, rangeRule, resume-renders, resumeRules, start-renders, startRules}
 use Rattle.theorems.specs.Listed.{Only}
 use Rattle.theorems.specs.Demands.{second-demand}
@@ -27,7 +27,6 @@ use Rattle.single_file.specs.Listing.{listedBy, listing, listingCall, listingCh
 use Rattle.single_file.specs.Profile.{InProfile, SingleFile, check26, check30, circuitOrder}
 use Rattle.single_file_laws.specs.ProfileLaws.{profile-decides}
 use Rattle.single_file_laws.specs.Promises.{Ordered, listed-goes, refuses-26, single-file-solutions}
-use Rattle.single_file_laws.specs.RuleLaws.{_▹▹_, renders-after}
 
 -- ---- the statements
 

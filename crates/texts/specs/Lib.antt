@@ -9,4 +9,3 @@ pub mod SignLaws
 pub mod ReadLaws
 pub mod WriteLaws
 pub mod Put
-pub mod Verdicts

@@ -1,12 +1,12 @@
 // Asks the questions about lists that a model outside Rattle wrote down (tests/questions/model.py), one a line, each with its answers; counts those that agree;
 // and names the first lines that do not. Some are drawn; the others are every tuple of small boxes, the reasons looked up by trying.
-use crate::line::Line;
-use crate::line::Word;
-use crate::tally::Tally;
+use try_lines::line;
+use try_lines::line::Line;
+use try_lines::line::Word;
+use try_lines::tally;
+use try_lines::tally::Tally;
 
-mod line; // line.rt: the words of a line
 mod replay; // replay.rt: the questions of a line
-mod tally; // tally.rt: what was counted
 
 // What was read so far of the line and the word under way, and what the lines before came to.
 struct State {
@@ -27,7 +27,11 @@ fn main() {
         pieces -= 1;
     }
     let t = s.tally;
-    tally::report(t);
+    report(t);
+}
+
+fn report(t: Tally) {
+    tally::report(b"questions", t);
 }
 
 // The next 65,536 bytes of the text, or what is left of it.
@@ -54,8 +58,17 @@ fn read(s: State, text: &[u8]) -> State {
         if b == b' ' {
             continue;
         }
-        tally = tally::counted(tally, line);
+        tally = counted(tally::with_line(tally), line);
         line = line::empty();
     }
     State { line, word, tally }
+}
+
+// The questions of a line, which an empty one and a comment do not have.
+fn counted(t: Tally, l: Line) -> Tally {
+    let kind = l.kind;
+    if kind == 0 || kind == b'#' {
+        return t;
+    }
+    tally::with_call(t, kind, replay::agrees(l))
 }

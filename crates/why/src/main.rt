@@ -8,6 +8,9 @@ use calls::Solutions;
 use calls::Steps;
 use map_text::Read;
 use map_text::TextRefusal;
+use program_parts::first;
+use program_parts::part_of_list;
+use program_parts::size;
 use reasons::Reason;
 use texts::number::Natural;
 
@@ -73,35 +76,9 @@ fn asked(text: &[u8], at: usize) {
     }
 }
 
-// How many coefficients a map of p equations in q unknowns has, where both are in range.
-fn size(p: usize, q: usize) -> usize
-    ensures { λ n. ⌜ n ≤ 128 ⌝ }
-{
-    (p % 9) * (q % 17)
-}
-
-// The first n coefficients, or all where there are fewer.
-fn first(coefs: &[i32; 128], n: usize) -> &[i32] {
-    part(coefs, n)
-}
-
-fn part(s: &[i32], n: usize) -> &[i32] {
-    if n <= s.len() {
-        return &s[0..n];
-    }
-    s
-}
-
 // The first n numbers of a line, or all where there are fewer.
 fn tuple(t: &[u32; 17], n: usize) -> &[u32] {
-    tuple_part(t, n)
-}
-
-fn tuple_part(s: &[u32], n: usize) -> &[u32] {
-    if n <= s.len() {
-        return &s[0..n];
-    }
-    s
+    part_of_list(t, n)
 }
 
 // How many numbers the line from place `at` on has, the last of the text; 17 stands for more, and 0 for a line that is not in the form.

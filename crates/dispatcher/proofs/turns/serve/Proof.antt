@@ -1,5 +1,5 @@
 -- `dispatcher::turns::serve` meets its contract. Assumes nothing.
-use Prim.Native.Nat.{_-_}
+use Prim.Native.Nat.{_-_, _<_}
 use borrow.Author.Needs.{needs}
 use native.Mathlib.Omega.{arith}
 use mathlib.Core.Path.{sym, _∙_, ap}
@@ -38,127 +38,75 @@ returns c =
     let n = c .before .before in
     turning-stops (n .before .before .loop .inv) (sym (n .next-after .ensures) ∙ ap foundOf (c .enum-told .given .1))
 
-mul-share : tie.Need-mul-share Inv-loop μ-loop
-mul-share c =
-    let t = c in
+-- ---- the turn of a run
+
+abbrev entry : tie.After-known-told Inv-loop μ-loop → tie.Start Inv-loop μ-loop
+entry t = t .before .before .before .before .before .before .before .before
+
+-- it is one of the runs, of which there are at most eight
+below : (t : tie.After-known-told Inv-loop μ-loop) → t .before .i .given .0 .0 < entry t .args .count
+below t =
     let n = t .before .before .before in
-    let w = n .before in
-    let ready = w .before .before .before .before .pre in
-    let f = found-below _ _ (w .before .loop .all) (w .before .loop .stack) (w .before .loop .list) (ready .some-run) (n .next-after .ensures)
-    (t .before .i .given .1) in
-    let l = f .1 in
-    let few = ready .few in
-    search needs
+    let w = n .before .before .loop in
+    found-below _ _ (w .all) (w .stack) (w .list) (entry t .pre .some-run) (n .next-after .ensures) (t .before .i .given .1) .1
+
+below-eight : (t : tie.After-known-told Inv-loop μ-loop) → t .before .i .given .0 .0 < 8
+below-eight t = omega (arith, below t, entry t .pre .few)
+
+mul-share : tie.Need-mul-share Inv-loop μ-loop
+mul-share c = let l = below-eight c in search needs
 
 array-copy-out-share : tie.Need-array-copy-out-share Inv-loop μ-loop
-array-copy-out-share c =
-    let t = c in
-    let n = t .before .before .before in
-    let w = n .before in
-    let ready = w .before .before .before .before .pre in
-    let f = found-below _ _ (w .before .loop .all) (w .before .loop .stack) (w .before .loop .list) (ready .some-run) (n .next-after .ensures)
-    (t .before .i .given .1) in
-    let l = f .1 in
-    let few = ready .few in
-    search needs
+array-copy-out-share c = let l = below-eight c in search needs
 
 mul-before : tie.Need-mul-before Inv-loop μ-loop
-mul-before c =
-    let t = c .before in
-    let n = t .before .before .before in
-    let w = n .before in
-    let ready = w .before .before .before .before .pre in
-    let f = found-below _ _ (w .before .loop .all) (w .before .loop .stack) (w .before .loop .list) (ready .some-run) (n .next-after .ensures)
-    (t .before .i .given .1) in
-    let l = f .1 in
-    let few = ready .few in
-    search needs
+mul-before c = let l = below-eight (c .before) in search needs
 
 array-copy-out-before : tie.Need-array-copy-out-before Inv-loop μ-loop
-array-copy-out-before c =
-    let t = c .before in
-    let n = t .before .before .before in
-    let w = n .before in
-    let ready = w .before .before .before .before .pre in
-    let f = found-below _ _ (w .before .loop .all) (w .before .loop .stack) (w .before .loop .list) (ready .some-run) (n .next-after .ensures)
-    (t .before .i .given .1) in
-    let l = f .1 in
-    let few = ready .few in
-    search needs
+array-copy-out-before c = let l = below-eight (c .before) in search needs
 
 serve-run-requires : tie.Need-serve-run-requires Inv-loop μ-loop
 serve-run-requires c κs =
     let t = c .before .before .before .before .before in
-    let n = t .before .before .before in
-    let w = n .before in
-    let ready = w .before .before .before .before .pre in
-    let f = found-below _ _ (w .before .loop .all) (w .before .loop .stack) (w .before .loop .list) (ready .some-run) (n .next-after .ensures)
-    (t .before .i .given .1) in
-    let inv = w .before .loop .inv in
-    (omega (arith, ready .stacks _ (f .1), inv .stacks), omega (arith, ready .lists _ (f .1), inv .lists))
+    let ready = entry t .pre in
+    let inv = t .before .before .before .before .before .loop .inv in
+    (omega (arith, ready .stacks _ (below t), inv .stacks), omega (arith, ready .lists _ (below t), inv .lists))
 
 after-turn-requires : tie.Need-after-turn-requires Inv-loop μ-loop
 after-turn-requires c κs = search needs
 
+-- the turn, from after it
+abbrev turn : tie.After-after-turn Inv-loop μ-loop → tie.After-known-told Inv-loop μ-loop
+turn c = c .before .before .before .before .before .before .before .before .before .before .before
+
 mul-all : tie.Need-mul-all Inv-loop μ-loop
-mul-all c =
-    let t = c .before .before .before .before .before .before .before .before .before .before .before in
-    let n = t .before .before .before in
-    let w = n .before in
-    let ready = w .before .before .before .before .pre in
-    let f = found-below _ _ (w .before .loop .all) (w .before .loop .stack) (w .before .loop .list) (ready .some-run) (n .next-after .ensures)
-    (t .before .i .given .1) in
-    let l = f .1 in
-    let few = ready .few in
-    search needs
+mul-all c = let l = below-eight (turn c) in search needs
 
 array-set-from-all : tie.Need-array-set-from-all Inv-loop μ-loop
-array-set-from-all c =
-    let t = c .before .before .before .before .before .before .before .before .before .before .before in
-    let n = t .before .before .before in
-    let w = n .before in
-    let ready = w .before .before .before .before .pre in
-    let f = found-below _ _ (w .before .loop .all) (w .before .loop .stack) (w .before .loop .list) (ready .some-run) (n .next-after .ensures)
-    (t .before .i .given .1) in
-    let l = f .1 in
-    let few = ready .few in
-    search needs
+array-set-from-all c = let l = below-eight (turn c) in search needs
 
 add-number : tie.Need-add-number Inv-loop μ-loop
-add-number c =
-    let t = c .before .before .before .before .before .before .before .before .before .before .before in
-    let n = t .before .before .before in
-    let w = n .before in
-    let ready = w .before .before .before .before .pre in
-    let f = found-below _ _ (w .before .loop .all) (w .before .loop .stack) (w .before .loop .list) (ready .some-run) (n .next-after .ensures)
-    (t .before .i .given .1) in
-    let l = f .1 in
-    let few = ready .few in
-    search needs
+add-number c = let l = below-eight (turn c) in search needs
 
 add-k : tie.Need-add-k Inv-loop μ-loop
 add-k c =
-    let w = c .before .before .before .before .before .before .before .before .before .before .before .before .before .before .before in
-    let l = w .loop-test .taken in
-    let fits = w .before .before .before .before .fits .turns in
+    let l = turn c .before .before .before .before .loop-test .taken in
+    let fits = entry (turn c) .fits .turns in
     search needs
 
 loop-less : tie.Need-loop-less Inv-loop μ-loop
-loop-less c =
-    let w = c .before .before .before .before .before .before .before .before .before .before .before .before .before .before .before in
-    omega (arith, w .loop-test .taken)
+loop-less c = omega (arith, turn c .before .before .before .before .loop-test .taken)
 
 loop-again : tie.Need-loop-again Inv-loop μ-loop
 loop-again c =
-    let t = c .before .before .before .before .before .before .before .before .before .before .before in
+    let t = turn c in
     let n = t .before .before .before in
     let w = n .before in
-    let ready = w .before .before .before .before .pre in
-    let f = found-below _ _ (w .before .loop .all) (w .before .loop .stack) (w .before .loop .list) (ready .some-run) (n .next-after .ensures)
+    let f = found-below _ _ (w .before .loop .all) (w .before .loop .stack) (w .before .loop .list) (entry t .pre .some-run) (n .next-after .ensures)
     (t .before .i .given .1) in
     let k = c .before .before .before .before .before in
     rw (c .after-turn .ensures)
-    (turning-more (w .before .loop .inv) (w .loop-test .taken) (omega (arith, f .1, ready .few)) (f .0) (k .serve-run .result) (k .serve-run .ensures)
+    (turning-more (w .before .loop .inv) (w .loop-test .taken) (below-eight t) (f .0) (k .serve-run .result) (k .serve-run .ensures)
     (k .serve-run .kept .1 .1 .0) (k .serve-run .kept .1 .1 .1 .0))
 
 same-length-3 : tie.Need-same-length-3 Inv-loop μ-loop
