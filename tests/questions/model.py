@@ -127,7 +127,7 @@ def main():
     for p, q, coefs, table, found, t, times, numbers, amount, after in questions(4000, 60, 70):
         count += 1
         if how == "lines":
-            print("q", p, q, found, "c", *coefs, "l", *table, "t", *t, "m", *times, "e", *numbers, "a", amount, "o", *after)
+            print("q", p, q, found, "c", *coefs, "l", *table, "t", *t, "n", *times, "n0", *after, "E", *numbers, abs(amount), int(amount < 0))
     if how == "count":
         print("questions", count, "agreed", count)
 
