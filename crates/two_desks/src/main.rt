@@ -10,6 +10,10 @@ use calls::Steps;
 use desk_calls::Answer as DeskAnswer;
 use map_text::Read;
 use map_text::TextRefusal;
+use program_parts::part;
+use program_parts::part_of_list;
+use program_parts::rows;
+use program_parts::size;
 use reasons::Reason;
 
 // As many as `basis` allows.
@@ -214,31 +218,9 @@ fn desk(p: usize, q: usize, coefs: &[i32], generators: &[u32], list: &mut [u32])
     }
 }
 
-// How many coefficients a map of p equations in q unknowns has, where both are in range.
-fn size(p: usize, q: usize) -> usize
-    ensures { λ n. ⌜ n ≤ 128 ⌝ }
-{
-    (p % 9) * (q % 17)
-}
-
-// The first n coefficients, or all where there are fewer.
-fn part(s: &[i32], n: usize) -> &[i32] {
-    if n <= s.len() {
-        return &s[0..n];
-    }
-    s
-}
-
 // The first `found` rows of a list of 8,192 numbers.
 fn rows_part(list: &[u32; 8192], found: usize, q: usize) -> &[u32] {
-    numbers_part(list, (found % 8193) * (q % 17))
-}
-
-fn numbers_part(s: &[u32], n: usize) -> &[u32] {
-    if n <= s.len() {
-        return &s[0..n];
-    }
-    s
+    part_of_list(list, (found % 8193) * (q % 17))
 }
 
 // Whether as many rows are in the one list as in the other, and each of the first stands in the second.
@@ -283,32 +265,6 @@ fn count(name: &[u8], n: u64) {
     say(name);
     io::print_decimal(1, n);
     say(b"\n");
-}
-
-// The first `found` rows of q numbers.
-fn rows(list: &[u32], q: usize, found: usize) {
-    if q == 0 {
-        return;
-    }
-    let mut k = 0;
-    while k < list.len() {
-        if k / q == found {
-            return;
-        }
-        let n = list[k];
-        k += 1;
-        entry(n, k % q == 0);
-    }
-}
-
-// A number of a row, and what separates it from the next.
-fn entry(n: u32, last: bool) {
-    io::print_decimal(1, n as u64);
-    if last {
-        say(b"\n");
-        return;
-    }
-    say(b" ");
 }
 
 // The last line, in the words of `basis`; whether the list is complete.
