@@ -123,11 +123,18 @@ fn row_in_order(q: usize, stack: &[u32], k: usize, limit: u32) -> bool
     count_marks(marks) == k
 }
 
-// How many marks are set.
+// How many marks are set, one after the other: rows have few, and the machine that every caller has counts no bits in one instruction.
 fn count_marks(marks: u32) -> usize
     ensures { λ n. ⌜ n ≡ countTo 32 (frozen marks) ⌝ }
 {
-    u32::count_ones(marks) as usize
+    let mut rest = marks;
+    let mut n: usize = 0;
+    while rest != 0 {
+        let bit: u32 = 1 << u32::trailing_zeros(rest);
+        rest -= bit;
+        n += 1;
+    }
+    n
 }
 
 // Whether record and tables of a run from a lower bound are in order, by the walk that the record names.
