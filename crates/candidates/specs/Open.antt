@@ -16,7 +16,9 @@ use Rattle.definitions.specs.Step.{marksTo}
 use Rattle.definitions.specs.Tables.{State, at, bit, frozen}
 use Rattle.laws.specs.StepLaws.{open-capped, open-first, open-one, open-zero, secondOpen}
 use Rattle.laws.specs.SystemLaws.{covered-same}
-use Rattle.products.specs.Marks.{Marked, marks-below, marks-frozen}
+use Rattle.products.specs.Marks.{Marked, is-false, marks-below, marks-frozen, marks-over}
+use Rattle.laws.specs.MarkLaws.{frozen-none}
+use Rattle.linear.specs.Tests.{number}
 use Rattle.candidates.specs.Kinds.{asked}
 use Rattle.lists.specs.Rows.{Limited, part, tuple}
 use Rattle.candidates.specs.Grow.{childBy, openFor}
@@ -35,6 +37,15 @@ others-later : (c j : ℕ) → j ≢ 0 → frozen (c - c % 2) j ≡ frozen c j
 unfolding frozen bit
 others-later c zero ne = absurd (ne refl)
 others-later c (suc j) ne = let e : (c - c % 2) / 2 ≡ c / 2 = omega arith in rw e
+
+one-first : (j : ℕ) → 0 < j → frozen 1 j ≡ false
+unfolding frozen bit
+one-first zero l = absurd (omega arith)
+one-first (suc j) l = is-false (frozen 0 j) (frozen-none j)
+
+number-most : (b : Bool) → number b ≤ 1
+number-most true = omega arith
+number-most false = omega arith
 
 -- ---- the ways out
 
@@ -66,10 +77,10 @@ module _ (q found : ℕ) (second : List ℕ) (t : ℕ → ℕ) (c : ℕ) where
     pub open-none : c % 2 ≡ 0 → Marked q (openFor capped q s t c) c
     open-none e = opened c (all-open (rw (first-none c e)))
 
-    pub open-clear : stops 0 ≡ false → Marked q (openFor capped q s t c) c
+    open-clear : stops 0 ≡ false → Marked q (openFor capped q s t c) c
     open-clear e = opened c (all-open (sym (ap (λ b. frozen c 0 && b) (open-first q s t z ∙ ap not (stops-rest 0 ∙ e)) ∙ and-true (frozen c 0))))
 
-    pub open-stopped : stops 0 ≡ true → Marked q (openFor capped q s t c) (c - c % 2)
+    open-stopped : stops 0 ≡ true → Marked q (openFor capped q s t c) (c - c % 2)
     open-stopped e =
         opened (c - c % 2) (record {
           below = omega (arith, below);
@@ -78,6 +89,28 @@ module _ (q found : ℕ) (second : List ℕ) (t : ℕ → ℕ) (c : ℕ) where
             | no ne ↦ others-later c j ne ∙ later j ne
           ];
         })
+
+    -- so the list is asked for that one alone
+    module _ (some : 0 < q) (e : c % 2 ≡ 1) {o : ℕ} (asks : o ≡ marksTo q (childBy (q - 1) 1 found (at second (q - 1)) t (c % 2))) where
+      abbrev alone : ℕ → Bool
+      alone = childBy (q - 1) 1 found (at second (q - 1)) t 1
+
+      left : o ≡ number (not (stops 0))
+      unfolding marksTo childBy frozen bit
+      left =
+          let one : o ≡ marksTo q alone = rw e at asks in
+          let over = marks-over alone 1 q some (λ j l _. closed-makes-none (q - 1) 1 found (at second (q - 1)) t 1 j (one-first j (omega arith))) in
+          one ∙ over ∙ omega arith
+
+      pub alone-room : o ≤ 1
+      alone-room = rw left (number-most (not (stops 0)))
+
+      pub open-alone : Marked q (openFor capped q s t c) (c - c % 2 + o)
+      open-alone = by (stops 0) refl
+        where
+          by : (b : Bool) → stops 0 ≡ b → Marked q (openFor capped q s t c) (c - c % 2 + o)
+          by true d = let w : c - c % 2 + o ≡ c - c % 2 = omega (arith, rw d at left) in rw w (open-stopped d)
+          by false d = let w : c - c % 2 + o ≡ c = omega (arith, e, rw d at left) in rw w (open-clear d)
 
   -- with it, it is at its cap, and the second list is asked for all others
   module _ (z : t 0 ≡ 1) where

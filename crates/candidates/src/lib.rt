@@ -54,6 +54,43 @@ pub fn admitted(
 {
     match walk {
         Walk::Plain => children(list, found, q, t, candidates, limit),
+        _ => sifted(
+            walk,
+            list,
+            second,
+            lower,
+            found,
+            other,
+            q,
+            t,
+            candidates,
+            limit,
+        ),
+    }
+}
+
+// The same one list after the other, of any walk.
+fn sifted(
+    walk: Walk,
+    list: &[u32],
+    second: &[u32],
+    lower: &[u32],
+    found: usize,
+    other: usize,
+    q: usize,
+    t: &mut [u32],
+    candidates: u32,
+    limit: u32,
+) -> Tried
+    requires { ⌜ ((0 < rowWidth (kindBy walk (now lower)) q) × (q ≤ 16) × (found ≤ capacity (rowWidth (kindBy walk (now lower)) q) (now list))) × Bounds walk q (now lower) ⌝ }
+    requires { ⌜ SecondFits (kindBy walk (now lower)) q (asked [] (now list) (now second) 0 found other) × (q ≤ length (now t)) × (candidates < 2 ^ q) ⌝ }
+    requires { ⌜ Limited q (tuple (now t)) × Within limit q (tuple (now t)) × Inside (kindBy walk (now lower)) q (tuple (now t)) ⌝ }
+    ensures { λ r. ⌜ r ≡ triedBy limit q (childFor (kindBy walk (now (lower .entry))) q (asked [] (now (list .entry)) (now (second .entry)) 0 found other)
+        (tuple (now (t .entry))) candidates) (tuple (now (t .entry))) ⌝ }
+    ensures { λ _. ⌜ now (t .exit) ≡ now (t .entry) ⌝ }
+{
+    match walk {
+        Walk::Plain => passed(list, found, q, 0, q, t, candidates, limit),
         Walk::Capped => {
             let left = uncapped(second, other, q, t, candidates);
             passed(list, found, q - 1, 1, q, t, left, limit)
@@ -77,10 +114,7 @@ fn uncapped(second: &[u32], found: usize, q: usize, t: &mut [u32], candidates: u
         if first == 0 {
             return candidates;
         }
-        if blocked(second, found, q - 1, 1, t, 0) {
-            return candidates - first;
-        }
-        return candidates;
+        return candidates - first + unstopped(second, found, q - 1, 1, q, t, first);
     }
     unstopped(second, found, q - 1, 1, q, t, candidates - first)
 }
