@@ -37,9 +37,9 @@ pub fn push(
     }
     let first = u32::trailing_zeros(made) as usize;
     let height = push_others(q, gram, stack, inner, sums, level, top, marks, made, first);
+    sums[level] += 1;
     stack[level * (q + 1) + first] += 1;
     products::write_child(inner, level, level, q, gram, first);
-    sums[level] += 1;
     height
 }
 

@@ -55,7 +55,7 @@ pub fn walk(
             let late = Answer::Refused(Refusal::StepLimit);
             return calls::left(late, r, height, found, steps, other, deepest);
         }
-        let sum = sums[height - 1];
+        let next = greater(deepest, sums[height - 1]);
         match step::take(
             kind,
             q,
@@ -86,7 +86,7 @@ pub fn walk(
                 return calls::left(refused, r, height, found, steps, other, deepest);
             }
         }
-        deepest = greater(deepest, sum);
+        deepest = next;
         steps += 1;
     }
     calls::left(Answer::Complete, r, height, found, steps, other, deepest)

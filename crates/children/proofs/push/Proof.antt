@@ -71,28 +71,28 @@ add-stack : tie.Need-add-stack
 add-stack c = search needs
 
 mul-stack : tie.Need-mul-stack
-mul-stack c = omega (arith, row-room (c .before .before .before .before))
+mul-stack c = omega (arith, row-room (c .before .before .before .before .before))
 
 add-stack-2 : tie.Need-add-stack-2
-add-stack-2 c = let w = c .before .before .before .before in omega (arith, row-room w, first-inside (parent-else w))
+add-stack-2 c = let w = c .before .before .before .before .before in omega (arith, row-room w, first-inside (parent-else w))
 
 mul-stack-2 : tie.Need-mul-stack-2
-mul-stack-2 c = let w = c .before .before .before .before in omega (arith, row-room w, first-inside (parent-else w))
+mul-stack-2 c = let w = c .before .before .before .before .before in omega (arith, row-room w, first-inside (parent-else w))
 
 slice-read-stack : tie.Need-slice-read-stack
-slice-read-stack c = let w = c .before .before .before .before .before in omega (arith, row-room w, first-inside (parent-else w))
+slice-read-stack c = let w = c .before .before .before .before .before .before in omega (arith, row-room w, first-inside (parent-else w))
 
 add-stack-3 : tie.Need-add-stack-3
 add-stack-3 c =
-    let w = c .before .before .before .before .before in
+    let w = c .before .before .before .before .before .before in
     omega (arith, component w, start w .pre .0 .0 .small .at-most (trailingZeros 32 (start w .args .made)) (first-inside (parent-else w)))
 
 slice-write-stack : tie.Need-slice-write-stack
-slice-write-stack c = let w = c .before .before .before .before .before in omega (arith, row-room w, first-inside (parent-else w))
+slice-write-stack c = let w = c .before .before .before .before .before .before in omega (arith, row-room w, first-inside (parent-else w))
 
 write-child-requires : tie.Need-write-child-requires
 write-child-requires c κs =
-    let w = c .before .before .before .before .before .before in
+    let w = c .before .before .before .before .before .before .before in
     let s = start w in
     let o = w .push-others .ensures in
     record {
@@ -110,22 +110,22 @@ sum-is w = let o = w .push-others .ensures in o .summed .levels _ (o .above) ∙
 
 mul-sums : tie.Need-mul-sums
 mul-sums c =
-    let w = c .before .before .before .before .before .before .before in
+    let w = c .before .before .before .before in
     omega (arith, level-low w, start w .pre .0 .0 .few)
 
 element-copy-out-sums : tie.Need-element-copy-out-sums
 element-copy-out-sums c =
-    let w = c .before .before .before .before .before .before .before in
+    let w = c .before .before .before .before in
     omega (arith, level-low w, start w .pre .0 .0 .few)
 
 add-sums : tie.Need-add-sums
 add-sums c =
-    let w = c .before .before .before .before .before .before .before .before in
+    let w = c .before .before .before .before .before in
     omega (arith, sum-is w, total-fits (start w .pre .0 .0 .few) (start w .pre .0 .0 .small))
 
 element-write-sums : tie.Need-element-write-sums
 element-write-sums c =
-    let w = c .before .before .before .before .before .before .before .before in
+    let w = c .before .before .before .before .before in
     omega (arith, level-low w, start w .pre .0 .0 .few)
 
 same-length : tie.Need-same-length
@@ -136,8 +136,7 @@ same-length-2 c = search needs
 
 returns-2 : tie.Need-returns-2
 returns-2 c =
-    let d = c .before in
-    let w = d .before .before .before .before .before .before .before in
+    let w = c .before .before .before .before .before .before .before .before in
     let s = start w in
     let o = w .push-others .ensures in
     let inside = first-inside (parent-else w) in
@@ -146,7 +145,7 @@ returns-2 c =
       (
         raised ∙ o .rows,
         (
-          rw raised (combined-over (level-products (o .cached) (o .above) (o .row .tuple)) (o .above) _ inside (s .args .marks) (s .pre .0 .0 .few) (row-room w) (o .cached) (d .write-child .ensures)),
+          rw raised (combined-over (level-products (o .cached) (o .above) (o .row .tuple)) (o .above) _ inside (s .args .marks) (s .pre .0 .0 .few) (row-room w) (o .cached) (c .write-child .ensures)),
           rw raised (totals-row (x s) (λ k kh ne. kh) (omega (arith, level-low w, s .pre .0 .0 .few)) _ inside (s .args .marks) (row-room w) (sum-is w) (o .summed)),
         ),
       ),
@@ -159,6 +158,10 @@ push-spec =
     returns
     cast-first
     push-others-requires
+    mul-sums
+    element-copy-out-sums
+    add-sums
+    element-write-sums
     add-stack
     mul-stack
     add-stack-2
@@ -167,10 +170,6 @@ push-spec =
     add-stack-3
     slice-write-stack
     write-child-requires
-    mul-sums
-    element-copy-out-sums
-    add-sums
-    element-write-sums
     same-length
     same-length-2
     returns-2)

@@ -145,21 +145,24 @@ returns-2 c checks =
     let more : first l + s l .args .budget - a l .loop .steps ≡ suc (first l + s l .args .budget - a l .loop .steps - 1) = omega (arith, t .if2 .left, at-stop, stop-is l, a l .loop .inv .6) in
     rw (c .left2 .ensures) (sym (ends-late (a l .loop .inv .3) checks (l .loop-test .taken) more (omega (arith, t .if2 .left, at-stop, stopped (grammed (a l)) .stop-at .ensures, a l .loop .inv .6))))
 
-sub-sum : tie.Need-sub-sum Inv-loop μ-loop
-sub-sum c = search needs
+sub-greater : tie.Need-sub-greater Inv-loop μ-loop
+sub-greater c = search needs
 
-mul-sum : tie.Need-mul-sum Inv-loop μ-loop
-mul-sum c = omega (arith, height-few (c .before))
+mul-greater : tie.Need-mul-greater Inv-loop μ-loop
+mul-greater c = omega (arith, height-few (c .before))
 
-array-read-sum : tie.Need-array-read-sum Inv-loop μ-loop
-array-read-sum c = omega (arith, height-few (c .before), c .before .loop-test .taken)
+array-read-greater : tie.Need-array-read-greater Inv-loop μ-loop
+array-read-greater c = omega (arith, height-few (c .before), c .before .loop-test .taken)
+
+greater-requires : tie.Need-greater-requires Inv-loop μ-loop
+greater-requires c κs = search needs
 
 slice-aggregate-take : tie.Need-slice-aggregate-take Inv-loop μ-loop
 slice-aggregate-take c = search needs
 
 take-requires : tie.Need-take-requires Inv-loop μ-loop
 take-requires c κs =
-    let l = c .before .before .before .before .before .before .before .before in
+    let l = c .before .before .before .before .before .before .before .before .before in
     let w = a l .loop .inv .3 in
     let g = grammed (a l) in
     let r = s l .args .r in (
@@ -170,7 +173,7 @@ take-requires c κs =
 -- the step of the turn
 module _ (t : tie.After-take Inv-loop μ-loop) where
   abbrev e : tie.Else1 Inv-loop μ-loop
-  e = t .before .before .before .before .before .before .before .before
+  e = t .before .before .before .before .before .before .before .before .before
 
   abbrev l : tie.In-loop Inv-loop μ-loop
   l = e .before
@@ -245,12 +248,9 @@ returns-3 c checks =
     let r = s l .args .r in
     rw (c .left3 .ensures) (sym (turn-refused (told (a l)) (kindOf (r .kind)) (a l .loop .steps) (r .before .0) (a l .loop .deepest) (a l .loop .inv .3) (grammed (a l) .write-gram .ensures) (l .loop-test .taken) (more t) (early t) (t .take .ensures) checks (y .why .given .1)))
 
-greater-requires : tie.Need-greater-requires Inv-loop μ-loop
-greater-requires c κs = search needs
-
 -- the turn of the end of a turn
-abbrev taken : tie.After-greater Inv-loop μ-loop → tie.After-take Inv-loop μ-loop
-taken c = c .before .before .before .before .before .before .before .before .before
+abbrev taken : tie.At-match-came Inv-loop μ-loop → tie.After-take Inv-loop μ-loop
+taken c = c .before .before .before .before .before .before .before .before
 
 add-steps : tie.Need-add-steps Inv-loop μ-loop
 add-steps c = let l = l (taken c) in omega (arith, a l .loop .inv .5, stop-few l)
@@ -267,11 +267,11 @@ loop-again c =
     let r = s l .args .r in
     let w = a l .loop .inv .3 in
     let g = grammed (a l) .write-gram .ensures in
-    let d = c .greater .ensures ∙ deep t in (
+    let d = t .before .before .before .before .before .before .before .before .greater .ensures ∙ deep t in (
       t .take .kept .1 .1 .1 .0 ∙ a l .loop .inv .0,
       t .take .kept .1 .1 .1 .1 .0 ∙ a l .loop .inv .1,
       t .take .kept .1 .1 .1 .1 .1 .0 ∙ a l .loop .inv .2,
-      elim (c .before .match .came) [
+      elim (c .match .came) [
         | inl (match, known, eh, ef, e₂) ↦ turn-listed (told (a l)) (kindOf (r .kind)) (a l .loop .steps) (r .before .0) (a l .loop .deepest) w g (l .loop-test .taken) (more t) (early t) (t .take .ensures) (known .given .1) eh ef e₂ d
         | inr o ↦ elim o [
           | inl (match, known, eh, ef, e₂) ↦ turn-listed₂ (told (a l)) (kindOf (r .kind)) (a l .loop .steps) (r .before .0) (a l .loop .deepest) w g (l .loop-test .taken) (more t) (early t) (t .take .ensures) (known .given .1) eh ef e₂ d
@@ -321,9 +321,10 @@ walk-spec =
     same-length-5
     same-length-6
     returns-2
-    sub-sum
-    mul-sum
-    array-read-sum
+    sub-greater
+    mul-greater
+    array-read-greater
+    greater-requires
     slice-aggregate-take
     take-requires
     enum-told
@@ -339,7 +340,6 @@ walk-spec =
     same-length-8
     same-length-9
     returns-3
-    greater-requires
     add-steps
     loop-less
     loop-again
