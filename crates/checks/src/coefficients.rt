@@ -3,7 +3,7 @@ ghost use mathlib.Core.Path.{_≡_};
 ghost use Rattle.definitions.specs.Answers.{_then_};
 ghost use Rattle.definitions.specs.Refusals.{check15, outOfRange};
 ghost use Rattle.calls.specs.Paper.{checkOf};
-ghost use Rattle.checks.specs.Coefficients.{coefficientChecks};
+ghost use Rattle.checks.specs.Coefficients.{FirstOutside, coefficientChecks};
 use calls::Check;
 use calls::Refusal;
 
@@ -11,14 +11,25 @@ use calls::Refusal;
 pub fn check(coefs: &[i32]) -> Check
     ensures { λ c. ⌜ checkOf c ≡ coefficientChecks (now (coefs .entry)) ⌝ }
 {
+    let i = first_outside(coefs);
+    if i < coefs.len() {
+        return Check::Refuse(Refusal::Coefficient(i + 1));
+    }
+    Check::Pass
+}
+
+// Its place from 0; where there is none, the number of coefficients.
+fn first_outside(coefs: &[i32]) -> usize
+    ensures { λ i. ⌜ FirstOutside (now (coefs .entry)) i ⌝ }
+{
     let mut i = 0;
     while i < coefs.len() {
         if out_of_range(coefs[i]) {
-            return Check::Refuse(Refusal::Coefficient(i + 1));
+            return i;
         }
         i += 1;
     }
-    Check::Pass
+    i
 }
 
 // The coefficients, and after them the right sides, whose places are not told.
