@@ -1,3 +1,4 @@
+pub mod Counts
 pub mod Shape
 pub mod Coefficients
 pub mod CheckLaws

@@ -1,22 +1,21 @@
 -- Refusals 1 to 4 from counts and lengths alone, what holds where they find nothing, and the test of 8. Assumes nothing.
-use Prim.Native.Nat.{ℕ, suc, _+_, _*_, _-_, _≤_}
-use mathlib.Core.Bool.{Bool, true, not, _||_, or-false}
+use Prim.Native.Nat.{ℕ, suc, _+_, _*_, _≤_}
+use mathlib.Core.Bool.{Bool, true, not}
 use mathlib.Core.List.{List}
 use mathlib.Core.Path.{_≡_, refl}
 use native.Mathlib.Omega.{arith}
-use lib.Dec.{leb, ltb, eqb, leb→le}
+use lib.Dec.{ltb, eqb}
 use lib.IntN.{ℤ}
 use lib.ListN.{length, getD}
-use borrow.Author.Tests.{eq-eqb, ltb-false, not-false}
+use borrow.Author.Tests.{eq-eqb, ltb-false}
 use Rattle.linear.specs.Tests.{anyTo}
-use Rattle.linear.specs.TestLaws.{and-parts}
 use Rattle.definitions.specs.Answers.{Check, go, _then_, refuseIf}
 use Rattle.laws.specs.AnswerLaws.{then-assoc, then-go, refuse-if-go}
 use Rattle.definitions.specs.Input.{Extra, alone, inputWith, rights}
-use Rattle.definitions.specs.System.{mostEquations, mostUnknowns}
 use Rattle.definitions.specs.Tables.{State}
-use Rattle.definitions.specs.Refusals.{between, shapeThen}
+use Rattle.definitions.specs.Refusals.{shapeThen}
 use Rattle.orders.specs.Order.{InShape}
+use Rattle.checks.specs.Counts.{counted, countChecks, either-refuses, none-refuses}
 
 abbrev pub lowerAboveLimit : ℕ → List ℕ → Bool
 lowerAboveLimit limit lower = anyTo (length lower) (λ j. ltb limit (getD lower j 0))
@@ -33,31 +32,30 @@ sidesOf (rights b) p = length b
 
 unfoldable pub shapeChecks : ℕ → ℕ → ℕ → ℕ → ℕ → ℕ → Check
 shapeChecks p q extra coefs sides stack =
-    refuseIf (not (between 1 mostEquations p)) 1
-    then refuseIf (not (between 1 (mostUnknowns - extra) q)) 2
-    then refuseIf (not (eqb coefs (p * q)) || not (eqb sides p)) 3
+    countChecks p q extra coefs
+    then refuseIf (not (eqb sides p)) 3
     then refuseIf (ltb stack ((q + extra) * (q + extra + 1))) 4
 
 pub shape-then : (e : Extra) (limit p q : ℕ) (coefs : List ℤ) (s : State) (own : Check)
     → shapeChecks p q (extraUnknowns e) (length coefs) (sidesOf e p) (length (s .stack)) then own ≡ shapeThen (inputWith e limit p q coefs) s own
-unfolding shapeChecks
+unfolding shapeChecks countChecks
 shape-then alone limit p q coefs s own =
     let none : q + 0 ≡ q = omega arith in
     let same : eqb p p ≡ true = eq-eqb p p refl in
-    rw (none, same, or-false (not (eqb (length coefs) (p * q)))) (simp then-assoc)
-shape-then (rights b) limit p q coefs s own = let one : q + 1 ≡ suc q = omega arith in rw one (simp then-assoc)
+    rw (none, same, none-refuses 3 (refuseIf (ltb (length (s .stack)) (q * (q + 1))) 4)) (simp then-assoc)
+shape-then (rights b) limit p q coefs s own =
+    let one : q + 1 ≡ suc q = omega arith in
+    rw (one, ← either-refuses (not (eqb (length coefs) (p * q))) (not (eqb (length b) p)) 3 _) (simp then-assoc)
 
 -- where these find nothing, the unknowns are in range and the stack table has a row for each
-within : (a b n : ℕ) → between a b n ≡ true → (a ≤ n) × (n ≤ b)
-within a b n e = let (l, m) = and-parts (leb a n) (leb n b) (rw e tt) in (leb→le a n l, leb→le n b m)
-
 pub shape-fits : (p q extra coefs sides stack : ℕ) → extra ≤ 1 → shapeChecks p q extra coefs sides stack ≡ go → (1 ≤ q) × InShape (q + extra) stack
 unfolding shapeChecks
 shape-fits p q extra coefs sides stack few e =
-    let (_, e2) = then-go (refuseIf (not (between 1 mostEquations p)) 1) _ e in
-    let (unknowns, e3) = then-go (refuseIf (not (between 1 (mostUnknowns - extra) q)) 2) _ e2 in
-    let (_, long) = then-go (refuseIf (not (eqb coefs (p * q)) || not (eqb sides p)) 3) _ e3 in
-    let (least, most) = within 1 (mostUnknowns - extra) q (not-false _ (refuse-if-go _ 2 unknowns)) in
+    let (counts, e2) = then-go (countChecks p q extra coefs) _ e in
+    let (_, long) = then-go (refuseIf (not (eqb sides p)) 3) _ e2 in
+    let m = counted p q extra coefs counts in
+    let least = m .some in
+    let most = m .unknowns in
     (least, record { least = omega arith; most = omega arith; rows = ltb-false stack ((q + extra) * (q + extra + 1)) (refuse-if-go _ 4 long) })
 
 pub alone-fits : (p q coefs sides stack : ℕ) → shapeChecks p q 0 coefs sides stack ≡ go → InShape q stack

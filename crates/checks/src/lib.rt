@@ -8,8 +8,9 @@ use calls::Check;
 use calls::Record;
 
 pub mod coefficients; // coefficients.rt: their range, and that of right sides
+pub mod counts; // counts.rt: refusals 1 to 3
 mod order; // order.rt: a run record and tables in order, and what comes after
-mod shape; // shape.rt: lengths and counts
+mod shape; // shape.rt: counts and lengths
 
 // What a plain start looks at.
 pub fn check_start(

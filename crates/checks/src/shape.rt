@@ -7,6 +7,7 @@ ghost use Rattle.definitions.specs.Input.{alone, inputWith};
 ghost use Rattle.calls.specs.Paper.{checkOf};
 ghost use Rattle.checks.specs.Shape.{shapeChecks, lowerAboveLimit};
 use crate::coefficients;
+use crate::counts;
 use calls::Check;
 use calls::Refusal;
 
@@ -15,29 +16,19 @@ pub fn check(p: usize, q: usize, extra: usize, coefs: usize, sides: usize, stack
     requires { ⌜ extra ≤ 1 ⌝ }
     ensures { λ c. ⌜ checkOf c ≡ shapeChecks p q extra coefs sides stack ⌝ }
 {
-    if p < 1 {
-        return Check::Refuse(Refusal::Equations);
+    match counts::check(p, q, extra, coefs) {
+        Check::Refuse(why) => Check::Refuse(why),
+        Check::Pass => {
+            if sides != p {
+                return Check::Refuse(Refusal::CoefficientCount);
+            }
+            let wide = q + extra;
+            if stack < wide * (wide + 1) {
+                return Check::Refuse(Refusal::StackLength);
+            }
+            Check::Pass
+        }
     }
-    if 8 < p {
-        return Check::Refuse(Refusal::Equations);
-    }
-    if q < 1 {
-        return Check::Refuse(Refusal::Unknowns);
-    }
-    if 16 - extra < q {
-        return Check::Refuse(Refusal::Unknowns);
-    }
-    if coefs != p * q {
-        return Check::Refuse(Refusal::CoefficientCount);
-    }
-    if sides != p {
-        return Check::Refuse(Refusal::CoefficientCount);
-    }
-    let wide = q + extra;
-    if stack < wide * (wide + 1) {
-        return Check::Refuse(Refusal::StackLength);
-    }
-    Check::Pass
 }
 
 // Refusals 5, 7 and 8, which do not depend on p.

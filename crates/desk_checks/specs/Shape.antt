@@ -1,7 +1,7 @@
 -- Refusals 1 to 4 from counts and lengths alone, what holds where they find nothing, and the checks that come after them. Assumes nothing.
-use mathlib.Core.Path.{_≡_, refl, sym}
+use mathlib.Core.Path.{_≡_}
 use mathlib.Core.Logic.{inl, inr}
-use mathlib.Core.Bool.{Bool, true, false, not, _||_}
+use mathlib.Core.Bool.{Bool, true, false, not}
 use mathlib.Core.List.{List, []}
 use Prim.Native.Nat.{ℕ, _+_, _*_, _/_, _%_, _≤_, _<_}
 use native.Mathlib.Nat.{le-div-iff-mul-le}
@@ -9,12 +9,12 @@ use native.Mathlib.Omega.{arith}
 use lib.Dec.{leb, ltb, eqb, leb→le}
 use lib.IntN.{ℤ, pos}
 use lib.ListN.{List·getD-eq-default, length, getD}
-use borrow.Author.Tests.{eqb-true, ltb-false, not-false}
+use borrow.Author.Tests.{ltb-false}
 use Rattle.linear.specs.Cases.{split}
-use Rattle.linear.specs.TestLaws.{all-at, and-parts}
+use Rattle.linear.specs.TestLaws.{all-at}
 use Rattle.linear.specs.Tests.{allTo}
 use Rattle.definitions.specs.Answers.{Check, go, _then_, refuse, refuseIf, refuseWith}
-use Rattle.definitions.specs.Refusals.{between, check7}
+use Rattle.definitions.specs.Refusals.{check7}
 use Rattle.definitions.specs.System.{mostComponent, mostEquations, mostUnknowns}
 use Rattle.definitions.specs.Tables.{State}
 use Rattle.laws.specs.AnswerLaws.{refuse-if-go, then-assoc, then-go}
@@ -24,15 +24,15 @@ use Rattle.calls.specs.Paper as paper
 use Rattle.calls.specs.declared.Check as made
 use Rattle.calls.specs.declared.Check.the-variants.{Pass, Refuse}
 use Rattle.calls.specs.declared.Refusal.{Refusal}
+use Rattle.checks.specs.Counts.{counted, countChecks, either-refuses}
 use Rattle.desk_calls.specs.Calls.{checkOf, deskOf}
 use Rattle.desk_calls.specs.declared.DeskCheck.the-variants as found
 use Rattle.desk_rows.specs.Images.{SmallDesk}
 
 unfoldable pub shapeChecks : (p q coefs generators stack : ℕ) → Check
 shapeChecks p q coefs generators stack =
-    refuseIf (not (between 1 mostEquations p)) 1
-    then refuseIf (not (between 1 mostUnknowns q)) 2
-    then refuseIf (not (eqb coefs (p * q)) || not (eqb (generators % q) 0)) 3
+    countChecks p q 0 coefs
+    then refuseIf (not (eqb (generators % q) 0)) 3
     then refuseIf (ltb stack (generators / q * (q + 2))) 4
 
 -- stack entries for n rows, asked by division
@@ -64,31 +64,17 @@ pub record RowsFit (q generators stack : ℕ) : Type 0 where
 pub rows-fit : {p q coefs generators stack : ℕ} → InShape p q coefs generators stack → RowsFit q generators stack
 rows-fit s = record { some = s .some; unknowns = s .unknowns; rows = s .rows }
 
-within : (a b n : ℕ) → between a b n ≡ true → (a ≤ n) × (n ≤ b)
-within a b n e = let (l, m) = and-parts (leb a n) (leb n b) (rw e tt) in (leb→le a n l, leb→le n b m)
-
-neither : (b c : Bool) → not b || not c ≡ false → (b ≡ true) × (c ≡ true)
-neither true true e = (refl, refl)
-neither true false e = (refl, sym e)
-neither false c e = (sym e, no c)
-  where
-    no : (c : Bool) → c ≡ true
-    no true = refl
-    no false = sym e
-
 pub shape-fits : (p q coefs generators stack : ℕ) → shapeChecks p q coefs generators stack ≡ go → InShape p q coefs generators stack
 unfolding shapeChecks
 shape-fits p q coefs generators stack e =
-    let (equations, e2) = then-go (refuseIf (not (between 1 mostEquations p)) 1) _ e in
-    let (unknowns, e3) = then-go (refuseIf (not (between 1 mostUnknowns q)) 2) _ e2 in
-    let (numbers, long) = then-go (refuseIf (not (eqb coefs (p * q)) || not (eqb (generators % q) 0)) 3) _ e3 in
-    let (a, b) = within 1 mostEquations p (not-false _ (refuse-if-go _ 1 equations)) in
-    let (c, d) = within 1 mostUnknowns q (not-false _ (refuse-if-go _ 2 unknowns)) in
+    let (counts, e2) = then-go (countChecks p q 0 coefs) _ e in
+    let (_, long) = then-go (refuseIf (not (eqb (generators % q) 0)) 3) _ e2 in
+    let m = counted p q 0 coefs counts in
     record {
-      equations = b;
-      some = c;
-      unknowns = d;
-      count = eqb-true coefs (p * q) (neither (eqb coefs (p * q)) (eqb (generators % q) 0) (refuse-if-go _ 3 numbers) .0);
+      equations = m .equations;
+      some = m .some;
+      unknowns = m .unknowns;
+      count = m .count;
       rows = ltb-false stack (generators / q * (q + 2)) (refuse-if-go _ 4 long);
     }
 
@@ -96,8 +82,9 @@ shape-fits p q coefs generators stack e =
 
 shape-then : (d : Desk) (s : State) (own : Check)
     → shapeChecks (d .p) (d .q) (length (d .coefs)) (length (d .generators)) (length (s .stack)) then own then rangesChecks d ≡ deskChecks d s own
-unfolding shapeChecks
-shape-then d s own = simp then-assoc
+unfolding shapeChecks countChecks
+shape-then d s own =
+    rw (← either-refuses (not (eqb (length (d .coefs)) (d .p * d .q))) (not (eqb (length (d .generators) % d .q) 0)) 3 _) (simp then-assoc)
 
 module _ (d : Desk) (s : State) (own : Check) {r : made.Check}
     (e : paper.checkOf r ≡ shapeChecks (d .p) (d .q) (length (d .coefs)) (length (d .generators)) (length (s .stack))) where

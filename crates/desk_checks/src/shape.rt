@@ -4,31 +4,22 @@ ghost use Rattle.calls.specs.Paper.{checkOf};
 ghost use Rattle.desk_checks.specs.Shape.{shapeChecks};
 use calls::Check;
 use calls::Refusal;
+use checks::counts;
 
 // From the numbers of coefficients, of numbers of the generators' table and of entries of the stack table.
 pub fn check(p: usize, q: usize, coefs: usize, generators: usize, stack: usize) -> Check
     ensures { λ c. ⌜ checkOf c ≡ shapeChecks p q coefs generators stack ⌝ }
 {
-    if p < 1 {
-        return Check::Refuse(Refusal::Equations);
+    match counts::check(p, q, 0, coefs) {
+        Check::Refuse(why) => Check::Refuse(why),
+        Check::Pass => {
+            if generators % q != 0 {
+                return Check::Refuse(Refusal::CoefficientCount);
+            }
+            if stack / (q + 2) < generators / q {
+                return Check::Refuse(Refusal::StackLength);
+            }
+            Check::Pass
+        }
     }
-    if 8 < p {
-        return Check::Refuse(Refusal::Equations);
-    }
-    if q < 1 {
-        return Check::Refuse(Refusal::Unknowns);
-    }
-    if 16 < q {
-        return Check::Refuse(Refusal::Unknowns);
-    }
-    if coefs != p * q {
-        return Check::Refuse(Refusal::CoefficientCount);
-    }
-    if generators % q != 0 {
-        return Check::Refuse(Refusal::CoefficientCount);
-    }
-    if stack / (q + 2) < generators / q {
-        return Check::Refuse(Refusal::StackLength);
-    }
-    Check::Pass
 }

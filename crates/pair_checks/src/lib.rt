@@ -12,6 +12,7 @@ ghost use Rattle.pair_checks.specs.Shape.{Within, shapeChecks};
 use calls::Check;
 use calls::Refusal;
 use checks::coefficients;
+use checks::counts;
 use pair_calls::Progress;
 use pair_rows::choice;
 use pair_rows::rows;
@@ -67,25 +68,15 @@ fn check_shape(
 ) -> Check
     ensures { λ c. ⌜ checkOf c ≡ shapeChecks p q coefs (roomFor q table supports values) ⌝ }
 {
-    if p < 1 {
-        return Check::Refuse(Refusal::Equations);
+    match counts::check(p, q, 0, coefs) {
+        Check::Refuse(why) => Check::Refuse(why),
+        Check::Pass => {
+            if room_for(q, table, supports, values) < q {
+                return Check::Refuse(Refusal::StackLength);
+            }
+            Check::Pass
+        }
     }
-    if 8 < p {
-        return Check::Refuse(Refusal::Equations);
-    }
-    if q < 1 {
-        return Check::Refuse(Refusal::Unknowns);
-    }
-    if 16 < q {
-        return Check::Refuse(Refusal::Unknowns);
-    }
-    if coefs != p * q {
-        return Check::Refuse(Refusal::CoefficientCount);
-    }
-    if room_for(q, table, supports, values) < q {
-        return Check::Refuse(Refusal::StackLength);
-    }
-    Check::Pass
 }
 
 // The rows that find room in three tables of these lengths.

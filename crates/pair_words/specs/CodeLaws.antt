@@ -11,7 +11,8 @@ use lib.IntN.{ℤ}
 use lib.ListN.{length}
 use Rattle.linear.specs.TestLaws.{and-parts}
 use Rattle.definitions.specs.Answers.{Answer, Check, refuse, go, refuseWith, refuseIf, refuseFirst, _then_}
-use Rattle.definitions.specs.Refusals.{between, stepLimit}
+use Rattle.definitions.specs.Input.{Input, inputOf}
+use Rattle.definitions.specs.Refusals.{between, check1, check2, check3, check7, stepLimit}
 use Rattle.definitions.specs.System.{mostEquations, mostUnknowns}
 use Rattle.laws.specs.AnswerLaws.{refuse-if-go}
 use Rattle.pairs_form.specs.Calls as calls
@@ -57,29 +58,35 @@ within : (b n r : ℕ) → refuseIf (not (between 1 b n)) r ≡ go → n ≤ b
 within b n r e = leb→le n b (and-parts (leb 1 n) (leb n b) (not-false (between 1 b n) (refuse-if-go (not (between 1 b n)) r e)) .1)
 
 module _ (p q : ℕ) (coefs : List ℤ) (room : ℕ) where
-  few : calls.check1 p ≡ go → calls.check2 q ≡ go → calls.check3 p q coefs ≡ go → length coefs ≤ 128
+  abbrev map : Input
+  map = inputOf p q coefs
+
+  few : check1 map ≡ go → check2 map ≡ go → check3 map ≡ go → length coefs ≤ 128
   few a b c =
       let counted : Bool = eqb (length coefs) (p * q) in
       let same : length coefs ≡ p * q = eqb→eq (length coefs) (p * q) (not-false counted (refuse-if-go (not counted) 3 c)) in
       omega (arith, same, mul-le-mul (within mostEquations p 1 a) (within mostUnknowns q 2 b))
 
-  small-shape : (d : Check) → (length coefs ≤ 128 → Small d)
-      → Small (calls.check1 p then calls.check2 q then calls.check3 p q coefs then calls.check4 q room then d)
+  small-shape : (d : Check) → (length coefs ≤ 128 → Small d) → Small (calls.shapeThen map room d)
   small-shape d h =
-      small-then (calls.check1 p) _ (small-if _ 1 (omega arith)) (λ a.
-      small-then (calls.check2 q) _ (small-if _ 2 (omega arith)) (λ b.
-      small-then (calls.check3 p q coefs) _ (small-if _ 3 (omega arith)) (λ c.
+      small-then (check1 map) _ (small-if _ 1 (omega arith)) (λ a.
+      small-then (check2 map) _ (small-if _ 2 (omega arith)) (λ b.
+      small-then (check3 map) _ (small-if _ 3 (omega arith)) (λ c.
       small-then (calls.check4 q room) d (small-if _ 4 (omega arith)) (λ _. h (few a b c)))))
+
+  small-range : length coefs ≤ 128 → Small (check7 map)
+  unfolding check7
+  small-range l = small-first 7 (length coefs) _ (omega arith) l
 
   small-start : Small (calls.startChecks p q coefs room)
   unfolding calls.startChecks
-  small-start = small-shape (calls.check7 coefs) (λ l. small-first 7 (length coefs) _ (omega arith) l)
+  small-start = small-shape (check7 map) small-range
 
   pub small-resume : (s : Work) → Small (calls.resumeChecks p q coefs room s)
   unfolding calls.resumeChecks
   small-resume s =
-      small-shape (calls.check6 p q room s then calls.check7 coefs) (λ l.
-      small-then (calls.check6 p q room s) (calls.check7 coefs) (small-if _ 6 (omega arith)) (λ _. small-first 7 (length coefs) _ (omega arith) l))
+      small-shape (calls.check6 p q room s then check7 map) (λ l.
+      small-then (calls.check6 p q room s) (check7 map) (small-if _ 6 (omega arith)) (λ _. small-range l))
 
 -- ---- calls
 

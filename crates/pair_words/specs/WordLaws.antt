@@ -11,6 +11,8 @@ use lib.Dec.{T, eqb, ltb}
 use lib.IntN.{ℤ}
 use lib.ListN.{length, getD, set}
 use Rattle.definitions.specs.Answers.{Check, refuse, go, refuseIf, refuseWith, _then_}
+use Rattle.definitions.specs.Input.{Input, inputOf}
+use Rattle.definitions.specs.Refusals.{check1, check2, check3, check7}
 use Rattle.laws.specs.AnswerLaws.{then-go}
 use Rattle.calls.specs.Paper.{checkOf, numberOf, valuesOf}
 use Rattle.calls.specs.declared.Check as values-check
@@ -115,18 +117,20 @@ module _ (p q : ℕ) (coefs : List ℤ) (room : ℕ) (table words : List ℕ) (o
   disordered : calls.inOrder p q room lent ≡ false
   disordered = let (l, e) = nowhere in no-T (calls.inOrder p q room lent) (λ h. omega (arith, order-from p q room lent h .place, l, e))
 
-  last-checks : (calls.check6 p q room lent then calls.check7 coefs) ≡ refuse 6 []
+  abbrev map : Input
+  map = inputOf p q coefs
+
+  last-checks : (calls.check6 p q room lent then check7 map) ≡ refuse 6 []
   unfolding refuseWith _then_
   last-checks = rw disordered
 
   -- the first of 1 to 4 that is due, or else 6
-  pub misfit-checks : calls.resumeChecks p q coefs room lent
-      ≡ calls.check1 p then calls.check2 q then calls.check3 p q coefs then calls.check4 q room then refuse 6 []
+  pub misfit-checks : calls.resumeChecks p q coefs room lent ≡ calls.shapeThen map room (refuse 6 [])
   unfolding calls.resumeChecks
   misfit-checks =
-      then-same (calls.check1 p) _ _ (λ _.
-      then-same (calls.check2 q) _ _ (λ _.
-      then-same (calls.check3 p q coefs) _ _ (λ _.
+      then-same (check1 map) _ _ (λ _.
+      then-same (check2 map) _ _ (λ _.
+      then-same (check3 map) _ _ (λ _.
       then-same (calls.check4 q room) _ _ (λ _. last-checks))))
 
   -- ---- the same from a check of the code

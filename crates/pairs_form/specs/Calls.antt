@@ -6,11 +6,11 @@ use mathlib.Core.Bool.{Bool, not, cond, _&&_}
 use mathlib.Core.List.{List}
 use lib.Dec.{eqb, leb, ltb}
 use lib.IntN.{ℤ, pos}
-use lib.ListN.{length, getD}
+use lib.ListN.{getD}
 use Rattle.linear.specs.Tests.{allTo}
-use Rattle.definitions.specs.Answers.{Check, _then_, go, refuse, refuseFirst, refuseIf, refused, started}
-use Rattle.definitions.specs.Refusals.{between, outOfRange, stepLimit}
-use Rattle.definitions.specs.System.{mostEquations, mostUnknowns}
+use Rattle.definitions.specs.Answers.{Check, _then_, go, refuse, refuseIf, refused, started}
+use Rattle.definitions.specs.Input.{Input, inputOf}
+use Rattle.definitions.specs.Refusals.{check1, check2, check3, check7, stepLimit}
 use Rattle.definitions.specs.Tables.{frozen}
 use Rattle.pairs_form.specs.Method.{Outcome, Work, begin, isSmall, outcome, row, run}
 
@@ -29,15 +29,6 @@ abbrev pub roomFor : (q table supports values : ℕ) → ℕ
 roomFor q table supports values = min (min (table / q) supports) (min values mostRows)
 
 -- ---- refusals before the first turn
-
-abbrev pub check1 : ℕ → Check
-check1 p = refuseIf (not (between 1 mostEquations p)) 1
-
-abbrev pub check2 : ℕ → Check
-check2 q = refuseIf (not (between 1 mostUnknowns q)) 2
-
-abbrev pub check3 : ℕ → ℕ → List ℤ → Check
-check3 p q coefs = refuseIf (not (eqb (length coefs) (p * q))) 3
 
 -- 4: room for fewer than q rows
 abbrev pub check4 : ℕ → ℕ → Check
@@ -62,14 +53,15 @@ inOrder p q room s =
 abbrev pub check6 : (p q room : ℕ) → Work → Check
 check6 p q room s = refuseIf (not (inOrder p q room s)) 6
 
-abbrev pub check7 : List ℤ → Check
-check7 coefs = refuseFirst 7 (length coefs) (λ i. outOfRange (getD coefs i (pos 0)))
+-- each call checks 1 to 4, 1 to 3 being those of every call that takes a map, and then what is its own
+abbrev pub shapeThen : Input → (room : ℕ) → Check → Check
+shapeThen i room own = check1 i then check2 i then check3 i then check4 (i .q) room then own
 
 unfoldable pub startChecks : (p q : ℕ) (coefs : List ℤ) (room : ℕ) → Check
-startChecks p q coefs room = check1 p then check2 q then check3 p q coefs then check4 q room then check7 coefs
+startChecks p q coefs room = shapeThen (inputOf p q coefs) room (check7 (inputOf p q coefs))
 
 unfoldable pub resumeChecks : (p q : ℕ) (coefs : List ℤ) (room : ℕ) → Work → Check
-resumeChecks p q coefs room s = check1 p then check2 q then check3 p q coefs then check4 q room then check6 p q room s then check7 coefs
+resumeChecks p q coefs room s = shapeThen (inputOf p q coefs) room (check6 p q room s then check7 (inputOf p q coefs))
 
 -- ---- the calls
 

@@ -13,13 +13,14 @@ use lib.ListN.{length, getD}
 use Rattle.linear.specs.Cases.{split}
 use Rattle.linear.specs.TestLaws.{T-dec, all-at, all-from, all-not, and-both, and-parts}
 use Rattle.linear.specs.Tests.{allTo}
-use Rattle.definitions.specs.Answers.{go, refuseIf}
-use Rattle.definitions.specs.Refusals.{outOfRange, stepLimit}
+use Rattle.definitions.specs.Answers.{Check, go, refuseIf}
+use Rattle.definitions.specs.Input.{inputOf}
+use Rattle.definitions.specs.Refusals.{stepLimit}
 use Rattle.definitions.specs.System.{coefLimit, mostComponent, mostEquations, mostUnknowns}
 use Rattle.definitions.specs.Tables.{frozen}
-use Rattle.laws.specs.CheckLaws.{Decides, Renders, Rules, _▹_, decides-first, decides-if, end, placed, renders-last, renders-then, rule}
-use Rattle.laws.specs.RefusalLaws.{Outside, at-most, decides-outside, decides-unequal, equal}
-use Rattle.pairs_form.specs.Calls.{check7, inOrder, marksInOrder, placeInOrder, resumeChecks, startChecks}
+use Rattle.laws.specs.CheckLaws.{Decides, Renders, Rules, _▹_, decides-if, end, renders-last, renders-then, rule}
+use Rattle.laws.specs.RefusalLaws.{Outside, at-most, decides-outside, decides-range, decides-unequal, equal, rangeRule}
+use Rattle.pairs_form.specs.Calls.{inOrder, marksInOrder, placeInOrder, resumeChecks, shapeThen, startChecks}
 use Rattle.pairs_form.specs.Method.{Work, isSmall, row}
 
 -- ---- the cases
@@ -39,24 +40,20 @@ pub data OutOfOrder (p q room : ℕ) (s : Work) : Type 0 where
   -- a component above 1,000,000
   large : (i j : ℕ) → i < s .rows → j < q → mostComponent < row q s i j → OutOfOrder p q room s
 
-abbrev pub startRules : (p q : ℕ) (coefs : List ℤ) (room : ℕ) → Rules
-startRules p q coefs room =
+-- each call checks 1 to 4, and then what is its own
+abbrev pub shapeRules : (p q : ℕ) (coefs : List ℤ) (room : ℕ) → Rules → Rules
+shapeRules p q coefs room own =
     rule 1 (Outside 1 mostEquations p)
     ▹ rule 2 (Outside 1 mostUnknowns q)
     ▹ rule 3 (length coefs ≢ p * q)
     ▹ rule 4 (room < q)
-    ▹ placed 7 (length coefs) (λ i. coefLimit < natAbs (getD coefs i (pos 0)))
-    ▹ end
+    ▹ own
+
+abbrev pub startRules : (p q : ℕ) (coefs : List ℤ) (room : ℕ) → Rules
+startRules p q coefs room = shapeRules p q coefs room (rangeRule (inputOf p q coefs) ▹ end)
 
 abbrev pub resumeRules : (p q : ℕ) (coefs : List ℤ) (room : ℕ) → Work → Rules
-resumeRules p q coefs room s =
-    rule 1 (Outside 1 mostEquations p)
-    ▹ rule 2 (Outside 1 mostUnknowns q)
-    ▹ rule 3 (length coefs ≢ p * q)
-    ▹ rule 4 (room < q)
-    ▹ rule 6 (OutOfOrder p q room s)
-    ▹ placed 7 (length coefs) (λ i. coefLimit < natAbs (getD coefs i (pos 0)))
-    ▹ end
+resumeRules p q coefs room s = shapeRules p q coefs room (rule 6 (OutOfOrder p q room s) ▹ rangeRule (inputOf p q coefs) ▹ end)
 
 -- ---- a record and rows in order
 
@@ -214,12 +211,6 @@ module _ (p q room : ℕ) (s : Work) where
 
 -- ---- each check renders its rule
 
-decides-range : (coefs : List ℤ) → Decides (check7 coefs) (placed 7 (length coefs) (λ i. coefLimit < natAbs (getD coefs i (pos 0))))
-decides-range coefs =
-    decides-first 7 (length coefs) (λ i. outOfRange (getD coefs i (pos 0))) _
-    (λ i l. ltb→lt coefLimit (natAbs (getD coefs i (pos 0))))
-    (λ i l. lt→ltb coefLimit (natAbs (getD coefs i (pos 0))))
-
 decides-order : (p q room : ℕ) (s : Work) → Decides (refuseIf (not (inOrder p q room s)) 6) (rule 6 (OutOfOrder p q room s))
 decides-order p q room s =
     decides-if (not (inOrder p q room s)) 6 (OutOfOrder p q room s)
@@ -227,19 +218,20 @@ decides-order p q room s =
     (λ o. not-T (inOrder p q room s) (λ h. not-order p q room s o (order-from p q room s h)))
 
 module _ (p q : ℕ) (coefs : List ℤ) (room : ℕ) where
+  shape-renders : {own : Check} {rules : Rules} → Renders own rules → Renders (shapeThen (inputOf p q coefs) room own) (shapeRules p q coefs room rules)
+  shape-renders own =
+      renders-then (decides-outside 1 1 mostEquations p) (renders-then (decides-outside 2 1 mostUnknowns q) (renders-then (decides-unequal 3 (length coefs) (p * q))
+      (renders-then (decides-if (ltb room q) 4 (room < q) (ltb→lt room q) (lt→ltb room q)) own)))
+
   -- each refusal of a start is given in its case and in no other
   pub start-renders : Renders (startChecks p q coefs room) (startRules p q coefs room)
   unfolding startChecks
-  start-renders =
-      renders-then (decides-outside 1 1 mostEquations p) (renders-then (decides-outside 2 1 mostUnknowns q) (renders-then (decides-unequal 3 (length coefs) (p * q))
-      (renders-then (decides-if (ltb room q) 4 (room < q) (ltb→lt room q) (lt→ltb room q)) (renders-last (decides-range coefs)))))
+  start-renders = shape-renders (renders-last (decides-range (inputOf p q coefs)))
 
   -- and of a continuing call
   pub resume-renders : (s : Work) → Renders (resumeChecks p q coefs room s) (resumeRules p q coefs room s)
   unfolding resumeChecks
-  resume-renders s =
-      renders-then (decides-outside 1 1 mostEquations p) (renders-then (decides-outside 2 1 mostUnknowns q) (renders-then (decides-unequal 3 (length coefs) (p * q))
-      (renders-then (decides-if (ltb room q) 4 (room < q) (ltb→lt room q) (lt→ltb room q)) (renders-then (decides-order p q room s) (renders-last (decides-range coefs))))))
+  resume-renders s = shape-renders (renders-then (decides-order p q room s) (renders-last (decides-range (inputOf p q coefs))))
 
 -- ---- what is known once a call has made its checks
 

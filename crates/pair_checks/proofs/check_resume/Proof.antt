@@ -2,6 +2,7 @@
 use mathlib.Core.Path.{sym, ap, _∙_}
 use denote.Ref.{now}
 use borrow.Author.Needs.{needs}
+use Rattle.definitions.specs.Refusals.{check7}
 use Rattle.calls.specs.Paper.{checkOf}
 use Rattle.pairs_form.specs.Calls.{resumeChecks}
 use Rattle.pair_checks.specs.Shape.{order-passed, order-refused, shape-fits, shape-passed, shape-refused, shape-some}
@@ -52,7 +53,7 @@ returns-2 c =
     shape-refused (a .p) (a .q) (now (a .coefs)) _ _ (k .check-shape .ensures) (c .before .why .given .1)
 
 returns-3 : tie.Need-returns-3
-unfolding resumeChecks
+unfolding resumeChecks check7
 returns-3 c =
     let o = c .before .before in
     let f = o .before in

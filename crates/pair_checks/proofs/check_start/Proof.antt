@@ -1,6 +1,7 @@
 -- `pair_checks::check_start` meets its contract: a refusal of the shape decides, else the coefficients do. Assumes nothing.
 use denote.Ref.{now}
 use borrow.Author.Needs.{needs}
+use Rattle.definitions.specs.Refusals.{check7}
 use Rattle.pairs_form.specs.Calls.{startChecks}
 use Rattle.pair_checks.specs.Shape.{shape-passed, shape-refused}
 use Rattle.pair_checks.proofs.check_start.Statement.{statement}
@@ -26,7 +27,7 @@ returns c =
     shape-refused (a .p) (a .q) (now (a .coefs)) _ _ (k .check-shape .ensures) (c .before .why .given .1)
 
 returns-2 : tie.Need-returns-2
-unfolding startChecks
+unfolding startChecks check7
 returns-2 c =
     let k = c .before .before .before in
     let a = k .before .args in
