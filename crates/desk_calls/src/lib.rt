@@ -42,15 +42,15 @@ pub fn is_desks(kind: Run) -> bool
 pub fn begin(height: usize) -> Outcome
     ensures { λ o. ⌜ o ≡ begins height ⌝ }
 {
-    let run = Record {
-        kind: Run::Desks,
+    let run = Record::of(
+        Run::Desks,
         height,
-        found: Solutions(0),
-        steps: Steps(0),
-        second: Solutions(0),
-        before: Steps(0),
-        deepest: 0,
-    };
+        Solutions(0),
+        Steps(0),
+        Solutions(0),
+        Steps(0),
+        0,
+    );
     Outcome {
         answer: Answer::Started,
         run,
@@ -69,16 +69,14 @@ pub fn leave(
     ensures { λ o. ⌜ o ≡ leaves answer (moved r height found steps deepest) ⌝ }
 {
     let kind = r.kind;
-    let second = r.second;
-    let before = r.before;
-    let run = Record {
+    let run = Record::of(
         kind,
         height,
-        found: Solutions(found),
-        steps: Steps(steps),
-        second,
-        before,
+        Solutions(found),
+        Steps(steps),
+        r.second,
+        r.before,
         deepest,
-    };
+    );
     Outcome { answer, run }
 }
