@@ -1,12 +1,12 @@
 // Replays calls of the second of two desks that a model outside Rattle wrote down (tests/desks/vectors.py), one a line, each with what must come of it;
 // counts those that do; and names the first lines that do not. The text begins with what its words mean.
-use crate::line::Line;
-use crate::line::Word;
-use crate::tally::Tally;
+use try_lines::line;
+use try_lines::line::Line;
+use try_lines::line::Word;
+use try_lines::tally;
+use try_lines::tally::Tally;
 
-mod line; // line.rt: the words of a line
 mod replay; // replay.rt: the kinds of call
-mod tally; // tally.rt: what was counted
 
 // What was read so far of the line and the word under way, and what the lines before came to.
 struct State {
@@ -27,7 +27,11 @@ fn main() {
         pieces -= 1;
     }
     let t = s.tally;
-    tally::report(t);
+    report(t);
+}
+
+fn report(t: Tally) {
+    tally::report(b"calls", t);
 }
 
 // The next 65,536 bytes of the text, or what is left of it.
@@ -54,8 +58,17 @@ fn read(s: State, text: &[u8]) -> State {
         if b == b' ' {
             continue;
         }
-        tally = tally::counted(tally, line);
+        tally = counted(tally::with_line(tally), line);
         line = line::empty();
     }
     State { line, word, tally }
+}
+
+// The call of a line, which an empty one and a comment do not have.
+fn counted(t: Tally, l: Line) -> Tally {
+    let kind = l.kind;
+    if kind == 0 || kind == b'#' {
+        return t;
+    }
+    tally::with_call(t, kind, replay::agrees(l))
 }

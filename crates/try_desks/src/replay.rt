@@ -1,22 +1,37 @@
 // The kinds of call: each is made as its line has it, and held against what the line says must come of it.
-use crate::line::Line;
-use crate::line::ROOM;
+use try_lines::line::COEFFICIENTS;
+use try_lines::line::Line;
+use try_lines::line::ROOM;
+use try_lines::tables::first;
+use try_lines::tables::first_signed;
+use try_lines::tables::same_record;
+use try_lines::tables::same_table;
 
-// Whether the call of a line comes to what the line says: its answer, its record and every entry of its tables. One whose tables have no room is not made.
+// Whether the call of a line comes to what the line says. One whose tables have no room is not made.
 pub fn agrees(l: Line) -> bool {
+    fits(l) && run(l)
+}
+
+fn fits(l: Line) -> bool {
+    l.coefs_length <= COEFFICIENTS && l.generators_length <= ROOM
+}
+
+// Its answer, its record and every entry of its tables.
+fn run(l: Line) -> bool {
     let mut stack = l.stack;
     let mut list = l.list;
     let mut record = l.record;
     let stack_after = l.stack_after;
     let list_after = l.list_after;
     let record_after = l.record_after;
-    called(l, &mut stack, &mut list, &mut record) == l.answer
+    let answered = l.answered;
+    called(l, &mut stack, &mut list, &mut record) == answered[0]
         && same_table(&stack, &stack_after)
         && same_table(&list, &list_after)
-        && same_words(&record, &record_after)
+        && same_record(&record, &record_after)
 }
 
-// The call, on the parts of the tables that the line fills.
+// The call, on the parts of the tables that the line fills; where there are no such parts, an answer that no line has.
 fn called(l: Line, stack: &mut [u32], list: &mut [u32], record: &mut [u64]) -> u64 {
     let s = l.stack_length;
     let n = l.list_length;
@@ -46,48 +61,4 @@ fn made(l: Line, stack: &mut [u32], list: &mut [u32], record: &mut [u64]) -> u64
         return desk_words::start(p, q, coefs, generators, stack, list, record);
     }
     desk_words::resume(p, q, coefs, generators, stack, list, record, x[2])
-}
-
-// The first n entries, or all where there are fewer.
-fn first(table: &[u32], n: usize) -> &[u32] {
-    if n < table.len() {
-        return &table[0..n];
-    }
-    &table[0..table.len()]
-}
-
-fn first_signed(table: &[i32], n: usize) -> &[i32] {
-    if n < table.len() {
-        return &table[0..n];
-    }
-    &table[0..table.len()]
-}
-
-fn same_table(a: &[u32; ROOM], b: &[u32; ROOM]) -> bool {
-    same(a, b)
-}
-
-fn same(a: &[u32], b: &[u32]) -> bool {
-    if a.len() != b.len() {
-        return false;
-    }
-    let mut i = 0;
-    while i < a.len() {
-        if a[i] != b[i] {
-            return false;
-        }
-        i += 1;
-    }
-    true
-}
-
-fn same_words(a: &[u64; 8], b: &[u64; 8]) -> bool {
-    let mut i = 0;
-    while i < 8 {
-        if a[i] != b[i] {
-            return false;
-        }
-        i += 1;
-    }
-    true
 }

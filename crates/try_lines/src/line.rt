@@ -31,6 +31,8 @@ pub struct Line {
     pub list_length: usize,
     pub tuple: [u32; ROOM],
     pub tuple_length: usize,
+    pub generators: [u32; ROOM],
+    pub generators_length: usize,
     pub stack: [u32; ROOM],
     pub stack_after: [u32; ROOM],
     pub stack_length: usize,
@@ -72,6 +74,8 @@ pub fn empty() -> Line {
         rights_length: 0,
         tuple: [0; 320],
         tuple_length: 0,
+        generators: [0; 320],
+        generators_length: 0,
         stack: [0; 320],
         stack_after: [0; 320],
         stack_length: 0,
@@ -177,6 +181,10 @@ fn entered(l: Line, w: Word) -> Line {
         b't' => {
             put(&mut m.tuple, at, unsigned(w));
             m.tuple_length = next;
+        }
+        b'g' => {
+            put(&mut m.generators, at, unsigned(w));
+            m.generators_length = next;
         }
         b's' => {
             put(&mut m.stack_after, at, unsigned(w));
