@@ -4,12 +4,10 @@ ghost use mathlib.Core.List.{[]};
 ghost use Prim.Native.Nat.{ℕ, _≤_};
 ghost use lib.ListN.{length};
 ghost use Rattle.list_form.specs.Writing.{rowsInRange, listInRange, writeChecks};
-ghost use Rattle.calls.specs.Paper.{checkOf as systemCheckOf};
 ghost use Rattle.list_words.specs.Paper.{checkOf};
 ghost use Rattle.list_write.specs.Answer.{listOf};
-ghost use Rattle.list_write.specs.CheckLaws.{countChecks, listChecks};
+ghost use Rattle.list_write.specs.CheckLaws.{listChecks};
 use calls::Check;
-use calls::Refusal;
 use list_words::FileCheck;
 use list_words::FileRefusal;
 use list_words::also_within;
@@ -18,35 +16,13 @@ use list_words::also_within;
 pub fn check(p: usize, q: usize, coefs: &[i32], rows: &[u32], ending: u32, room: usize) -> FileCheck
     ensures { λ c. ⌜ checkOf c ≡ writeChecks (listOf p q (now (coefs .entry)) (now (rows .entry)) ending) room ⌝ }
 {
-    match check_counts(p, q, coefs.len()) {
+    match checks::counts::check(p, q, 0, coefs.len()) {
         Check::Refuse(why) => FileCheck::Refuse(FileRefusal::System(why)),
         Check::Pass => match checks::coefficients::check(coefs) {
             Check::Refuse(why) => FileCheck::Refuse(FileRefusal::System(why)),
             Check::Pass => check_rows(q, coefs, rows, ending, room),
         },
     }
-}
-
-// Refusals 1 to 3.
-fn check_counts(p: usize, q: usize, coefs: usize) -> Check
-    ensures { λ c. ⌜ systemCheckOf c ≡ countChecks p q coefs ⌝ }
-{
-    if p < 1 {
-        return Check::Refuse(Refusal::Equations);
-    }
-    if 8 < p {
-        return Check::Refuse(Refusal::Equations);
-    }
-    if q < 1 {
-        return Check::Refuse(Refusal::Unknowns);
-    }
-    if 16 < q {
-        return Check::Refuse(Refusal::Unknowns);
-    }
-    if coefs != p * q {
-        return Check::Refuse(Refusal::CoefficientCount);
-    }
-    Check::Pass
 }
 
 // Refusals 22 and 19, which do not depend on p.

@@ -6,18 +6,18 @@ use mathlib.Core.List.{List, [], _∷_, _++_}
 use Prim.Native.Nat.{ℕ, zero, suc, _+_, _*_, _-_, _/_, _≤_, _<_}
 use native.Mathlib.Nat.{div-add-mod', le-antisymm, mul-le-mul-right}
 use native.Mathlib.Omega.{arith}
-use lib.Dec.{T, T-not, not-T, eqb, eqb→eq, leb, leb→le, ltb}
+use lib.Dec.{T, T-not, not-T, ltb}
 use lib.ListN.{length, length-append, take, drop, take-append-drop}
-use borrow.Author.Tests.{le-ltb, lt-ltb, ltb-false, not-false}
+use borrow.Author.Tests.{le-ltb, lt-ltb, ltb-false}
 use Rattle.linear.specs.Cases.{split}
-use Rattle.linear.specs.TestLaws.{and-parts}
 use Rattle.definitions.specs.Answers.{Check, _then_, go, refuse, refuseFirst, refuseIf, refuseWith}
-use Rattle.definitions.specs.Refusals.{between, check7}
+use Rattle.definitions.specs.Refusals.{check7}
 use Rattle.definitions.specs.Input.{Input, mapOf}
-use Rattle.definitions.specs.System.{System, mostEquations, mostUnknowns}
+use Rattle.definitions.specs.System.{System, mostUnknowns}
 use Rattle.definitions.specs.Tables.{at}
 use Rattle.laws.specs.AnswerLaws.{refuse-at, refuse-if-go, refuse-next, then-assoc, then-go}
 use Rattle.laws.specs.CheckLaws.{decides-first}
+use Rattle.checks.specs.Counts.{counted, countChecks}
 use Rattle.texts.specs.Put.{Put}
 use Rattle.single_file.specs.Graph.{gate}
 use Rattle.single_file.specs.Listing.{Listing, linesTo, listedBy, listing, listingCall, listingChecks, loopLine, refused, rowChecks, written}
@@ -27,23 +27,19 @@ use Rattle.single_file.specs.Profile.{check26, check30, isCircuitOf}
 -- ---- the checks, as the code makes them
 
 -- 1, 2, 3 and 6, from the numbers of coefficients and of entries of the list table
-unfoldable pub countChecks : ℕ → ℕ → ℕ → ℕ → ℕ → Check
-countChecks p q coefs list found =
-    refuseIf (not (between 1 mostEquations p)) 1
-    then refuseIf (not (between 1 mostUnknowns q)) 2
-    then refuseIf (not (eqb coefs (p * q))) 3
-    then refuseIf (ltb (list / q) found) 6
+unfoldable pub shapeChecks : ℕ → ℕ → ℕ → ℕ → ℕ → Check
+shapeChecks p q coefs list found = countChecks p q 0 coefs then refuseIf (ltb (list / q) found) 6
 
 -- then 7 and 26: all that comes before the rows
 unfoldable pub mapChecks : Input → ℕ → ℕ → Check
-mapChecks i list found = countChecks (i .p) (i .q) (length (i .coefs)) list found then check7 i then check26 (mapOf i)
+mapChecks i list found = shapeChecks (i .p) (i .q) (length (i .coefs)) list found then check7 i then check26 (mapOf i)
 
 -- then the rows, into an output space of length `room`
 unfoldable pub checksIn : Input → List ℕ → ℕ → ℕ → Check
 checksIn i list found room = mapChecks i (length list) found then rowChecks (mapOf i) list found room
 
 pub checks-are : (i : Input) (list : List ℕ) (found : ℕ) (out : List ℕ) → checksIn i list found (length out) ≡ listingChecks i list found out
-unfolding checksIn mapChecks countChecks listingChecks
+unfolding checksIn mapChecks shapeChecks countChecks listingChecks
 checks-are i list found out = simp then-assoc
 
 -- ---- what is known once they find nothing
@@ -58,23 +54,13 @@ pub record Listable (m : System) (list : List ℕ) (found room : ℕ) : Type 0 w
   pub minimal : (i : ℕ) → i < found → T (isCircuitOf m (at list (m .q) i))
   pub fits : length (listing m list found) ≤ room
 
-module _ (p q coefs list found : ℕ) (e : countChecks p q coefs list found ≡ go) where
-  counts-parts : (refuseIf (not (between 1 mostUnknowns q)) 2 ≡ go) × (refuseIf (not (eqb coefs (p * q))) 3 ≡ go) × (refuseIf (ltb (list / q) found) 6 ≡ go)
-  unfolding countChecks
-  counts-parts =
-      let (_, e2) = then-go (refuseIf (not (between 1 mostEquations p)) 1) _ e in
-      let (u, e3) = then-go (refuseIf (not (between 1 mostUnknowns q)) 2) _ e2 in
-      let (c, f) = then-go (refuseIf (not (eqb coefs (p * q))) 3) _ e3 in
-      (u, c, f)
-
-  pub counts-whole : (q ≤ mostUnknowns) × (coefs ≡ p * q) × (found * q ≤ list)
-  counts-whole =
-      let (u, c, f) = counts-parts in
-      let b : between 1 mostUnknowns q ≡ true = not-false _ (refuse-if-go _ 2 u) in
-      let (l, h) = and-parts (leb 1 q) (leb q mostUnknowns) (rw b tt) in
-      let same : eqb coefs (p * q) ≡ true = not-false _ (refuse-if-go _ 3 c) in
-      let room : found ≤ list / q = ltb-false (list / q) found (refuse-if-go _ 6 f) in
-      (leb→le q mostUnknowns h, eqb→eq coefs (p * q) (rw same tt), omega (arith, mul-le-mul-right q room, div-add-mod' list q))
+pub shape-whole : (p q coefs list found : ℕ) → shapeChecks p q coefs list found ≡ go → (q ≤ mostUnknowns) × (coefs ≡ p * q) × (found * q ≤ list)
+unfolding shapeChecks
+shape-whole p q coefs list found e =
+    let (counts, f) = then-go (countChecks p q 0 coefs) _ e in
+    let m = counted p q 0 coefs counts in
+    let room : found ≤ list / q = ltb-false (list / q) found (refuse-if-go _ 6 f) in
+    (m .unknowns, m .count, omega (arith, mul-le-mul-right q room, div-add-mod' list q))
 
 module _ (i : Input) (list : List ℕ) (found : ℕ) where
   abbrev m : System
@@ -83,8 +69,8 @@ module _ (i : Input) (list : List ℕ) (found : ℕ) where
   pub map-whole : mapChecks i (length list) found ≡ go → Whole m list found
   unfolding mapChecks
   map-whole e =
-      let (a, _) = then-go (countChecks (m .p) (m .q) (length (m .coefs)) (length list) found) _ e in
-      let (few, same, rows) = counts-whole (m .p) (m .q) (length (m .coefs)) (length list) found a in
+      let (a, _) = then-go (shapeChecks (m .p) (m .q) (length (m .coefs)) (length list) found) _ e in
+      let (few, same, rows) = shape-whole (m .p) (m .q) (length (m .coefs)) (length list) found a in
       record { q-few = few; coefs = omega (arith, same); rows = rows }
 
   rows-minimal : check30 m found (at list (m .q)) ≡ go → (k : ℕ) → k < found → T (isCircuitOf m (at list (m .q) k))

@@ -8,42 +8,32 @@ ghost use Rattle.definitions.specs.Input.{inputOf};
 ghost use Rattle.calls.specs.Paper.{checkOf};
 ghost use Rattle.circuits.specs.Rows.{mapOf};
 ghost use Rattle.single_file.specs.Profile.{check26};
-ghost use Rattle.listing.specs.Passes.{countChecks, mapChecks};
+ghost use Rattle.listing.specs.Passes.{mapChecks, shapeChecks};
 use calls::Check;
 use calls::Refusal;
 
 pub fn check(p: usize, q: usize, coefs: &[i32], list: usize, found: usize) -> Check
     ensures { λ c. ⌜ checkOf c ≡ mapChecks (inputOf p q (now (coefs .entry))) list found ⌝ }
 {
-    match check_counts(p, q, coefs.len(), list, found) {
+    match check_shape(p, q, coefs.len(), list, found) {
         Check::Refuse(why) => Check::Refuse(why),
         Check::Pass => check_columns(p, q, coefs),
     }
 }
 
 // Refusals 1, 2, 3 and 6, from the numbers of coefficients and of entries of the list table.
-fn check_counts(p: usize, q: usize, coefs: usize, list: usize, found: usize) -> Check
-    ensures { λ c. ⌜ checkOf c ≡ countChecks p q coefs list found ⌝ }
+fn check_shape(p: usize, q: usize, coefs: usize, list: usize, found: usize) -> Check
+    ensures { λ c. ⌜ checkOf c ≡ shapeChecks p q coefs list found ⌝ }
 {
-    if p < 1 {
-        return Check::Refuse(Refusal::Equations);
+    match checks::counts::check(p, q, 0, coefs) {
+        Check::Refuse(why) => Check::Refuse(why),
+        Check::Pass => {
+            if list / q < found {
+                return Check::Refuse(Refusal::OutOfOrder);
+            }
+            Check::Pass
+        }
     }
-    if 8 < p {
-        return Check::Refuse(Refusal::Equations);
-    }
-    if q < 1 {
-        return Check::Refuse(Refusal::Unknowns);
-    }
-    if 16 < q {
-        return Check::Refuse(Refusal::Unknowns);
-    }
-    if coefs != p * q {
-        return Check::Refuse(Refusal::CoefficientCount);
-    }
-    if list / q < found {
-        return Check::Refuse(Refusal::OutOfOrder);
-    }
-    Check::Pass
 }
 
 // Refusals 7 and 26.

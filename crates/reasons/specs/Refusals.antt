@@ -2,22 +2,24 @@
 use mathlib.Core.Path.{_≡_}
 use mathlib.Core.Bool.{Bool, true, false}
 use mathlib.Core.List.{List, []}
-use Prim.Native.Nat.{ℕ, _*_}
+use Prim.Native.Nat.{ℕ}
 use lib.Dec.{leb, ltb, eqb}
-use lib.IntN.{ℤ, pos}
+use lib.IntN.{ℤ}
 use lib.ListN.{length, getD}
 use Rattle.linear.specs.Tests.{anyTo}
-use Rattle.definitions.specs.Answers.{Check, _then_, go, refuse, refuseFirst, refuseIf, refuseWith}
+use Rattle.definitions.specs.Answers.{Check, _then_, go, refuse, refuseIf, refuseWith}
 use Rattle.definitions.specs.Input.{inputOf}
-use Rattle.definitions.specs.Reasons.{reasonChecks}
-use Rattle.definitions.specs.Refusals.{check7, outOfRange}
+use Rattle.definitions.specs.Reasons.{checkCount, reasonChecks}
+use Rattle.definitions.specs.Refusals.{check5, check7, check8}
 use Rattle.definitions.specs.System.{mostComponent}
 use Rattle.definitions.specs.Tables.{capacity}
+use Rattle.laws.specs.AnswerLaws.{then-assoc}
 use Rattle.calls.specs.Paper.{checkOf}
 use Rattle.calls.specs.declared.Check as declared
 use Rattle.calls.specs.declared.Check.the-variants.{Pass, Refuse}
 use Rattle.calls.specs.declared.Refusal.{Refusal}
 use Rattle.checks.specs.Coefficients.{coefficientChecks}
+use Rattle.checks.specs.Counts.{countChecks}
 
 abbrev pub aboveLimit : ℕ → List ℕ → Bool
 aboveLimit limit t = anyTo (length t) (λ j. ltb limit (getD t j 0))
@@ -43,40 +45,28 @@ module _ (p q : ℕ) (coefs : List ℤ) (list : List ℕ) (found : ℕ) (t : Lis
   abbrev asked : Check
   asked = reasonChecks (inputOf p q coefs) list found t
 
-  pub no-equations : leb 1 p ≡ false → refuse 1 [] ≡ asked
-  unfolding reasonChecks refuseWith _then_
-  no-equations a = rw a
+  abbrev own : Check
+  own = check5 (inputOf p q coefs) t then checkCount (inputOf p q coefs) list found then check7 (inputOf p q coefs) then check8 (inputOf p q coefs) t
 
-  module _ (a : leb 1 p ≡ true) where
-    pub many-equations : leb p 8 ≡ false → refuse 1 [] ≡ asked
-    unfolding reasonChecks refuseWith _then_
-    many-equations b = rw (a, b)
+  counts-then : countChecks p q 0 (length coefs) then own ≡ asked
+  unfolding countChecks reasonChecks
+  counts-then = simp then-assoc
 
-    module _ (b : leb p 8 ≡ true) where
-      pub no-unknowns : leb 1 q ≡ false → refuse 2 [] ≡ asked
-      unfolding reasonChecks refuseWith _then_
-      no-unknowns c = rw (a, b, c)
+  module _ {c : declared.Check} (k : checkOf c ≡ countChecks p q 0 (length coefs)) where
+    pub counts-off : {why : Refusal} → c ≡ Refuse why → checkOf (Refuse why) ≡ asked
+    unfolding _then_
+    counts-off g = rw (← counts-then, ← k, g)
 
-      module _ (c : leb 1 q ≡ true) where
-        pub many-unknowns : leb q 16 ≡ false → refuse 2 [] ≡ asked
-        unfolding reasonChecks refuseWith _then_
-        many-unknowns d = rw (a, b, c, d)
+    module _ (g : c ≡ Pass) where
+      pub other-length : eqb (length t) q ≡ false → refuse 5 [] ≡ asked
+      unfolding refuseWith _then_
+      other-length f = rw (← counts-then, ← k, g, f)
 
-        module _ (d : leb q 16 ≡ true) where
-          pub other-count : eqb (length coefs) (p * q) ≡ false → refuse 3 [] ≡ asked
-          unfolding reasonChecks refuseWith _then_
-          other-count e = rw (a, b, c, d, e)
+      module _ (f : eqb (length t) q ≡ true) where
+        pub many-rows : leb found (capacity q list) ≡ false → refuse 6 [] ≡ asked
+        unfolding refuseWith _then_
+        many-rows h = rw (← counts-then, ← k, g, f, h)
 
-          module _ (e : eqb (length coefs) (p * q) ≡ true) where
-            pub other-length : eqb (length t) q ≡ false → refuse 5 [] ≡ asked
-            unfolding reasonChecks refuseWith _then_
-            other-length f = rw (a, b, c, d, e, f)
-
-            module _ (f : eqb (length t) q ≡ true) where
-              pub many-rows : leb found (capacity q list) ≡ false → refuse 6 [] ≡ asked
-              unfolding reasonChecks refuseWith _then_
-              many-rows g = rw (a, b, c, d, e, f, g)
-
-              pub in-ranges : leb found (capacity q list) ≡ true → {r : Check} → r ≡ rangeChecks coefs t → r ≡ asked
-              unfolding reasonChecks check7 refuseWith _then_
-              in-ranges g h = rw (a, b, c, d, e, f, g) h
+        pub in-ranges : leb found (capacity q list) ≡ true → {r : Check} → r ≡ rangeChecks coefs t → r ≡ asked
+        unfolding check7 refuseWith _then_
+        in-ranges h i = rw (← counts-then, ← k, g, f, h) i

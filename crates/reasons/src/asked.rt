@@ -10,28 +10,18 @@ use calls::Refusal;
 pub fn check(p: usize, q: usize, coefs: &[i32], list: &[u32], found: usize, t: &[u32]) -> Check
     ensures { λ c. ⌜ checkOf c ≡ reasonChecks (inputOf p q (now (coefs .entry))) (now (list .entry)) found (now (t .entry)) ⌝ }
 {
-    if p < 1 {
-        return Check::Refuse(Refusal::Equations);
+    match checks::counts::check(p, q, 0, coefs.len()) {
+        Check::Refuse(why) => Check::Refuse(why),
+        Check::Pass => {
+            if t.len() != q {
+                return Check::Refuse(Refusal::BoundLength);
+            }
+            if list.len() / q < found {
+                return Check::Refuse(Refusal::OutOfOrder);
+            }
+            ranges(coefs, t)
+        }
     }
-    if 8 < p {
-        return Check::Refuse(Refusal::Equations);
-    }
-    if q < 1 {
-        return Check::Refuse(Refusal::Unknowns);
-    }
-    if 16 < q {
-        return Check::Refuse(Refusal::Unknowns);
-    }
-    if coefs.len() != p * q {
-        return Check::Refuse(Refusal::CoefficientCount);
-    }
-    if t.len() != q {
-        return Check::Refuse(Refusal::BoundLength);
-    }
-    if list.len() / q < found {
-        return Check::Refuse(Refusal::OutOfOrder);
-    }
-    ranges(coefs, t)
 }
 
 // Refusals 7 and 8.

@@ -1,9 +1,8 @@
 -- `pair_checks::check_shape` meets its contract: the counts decide, else the room does. Assumes nothing.
-use mathlib.Core.Path.{sym, ap, _∙_}
 use borrow.Author.Needs.{needs}
 use borrow.Author.Tests.{le-ltb, lt-ltb}
 use Rattle.definitions.specs.Answers.{refuseWith}
-use Rattle.calls.specs.Paper.{checkOf}
+use Rattle.calls.specs.CallLaws.{passes}
 use Rattle.checks.specs.CheckLaws.{passed-first, refused-first}
 use Rattle.checks.specs.Counts.{counted}
 use Rattle.pair_checks.specs.Shape.{shapeChecks}
@@ -20,7 +19,7 @@ enum-told : tie.Need-enum-told
 enum-told c = search needs
 
 room-for-requires : tie.Need-room-for-requires
-room-for-requires c κs = counted _ _ _ _ (sym (c .before .before .check .ensures) ∙ ap checkOf (c .enum-told .given .1)) .some
+room-for-requires c κs = counted _ _ _ _ (passes (c .before .before .check .ensures) (c .enum-told .given .1)) .some
 
 returns : tie.Need-returns
 unfolding shapeChecks refuseWith

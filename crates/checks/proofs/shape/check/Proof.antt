@@ -1,12 +1,11 @@
 -- `checks::shape::check` meets its contract: the counts decide, else each test decides the first check that refuses. Assumes nothing.
 use Prim.Native.Nat.{_+_, _*_}
-use mathlib.Core.Path.{sym, ap, _∙_}
 use native.Mathlib.Nat.{mul-le-mul}
 use native.Mathlib.Omega.{arith}
 use borrow.Author.Needs.{needs}
 use borrow.Author.Tests.{le-ltb, lt-ltb, eq-eqb, ne-eqb}
 use Rattle.definitions.specs.Answers.{refuseWith, _then_}
-use Rattle.calls.specs.Paper.{checkOf}
+use Rattle.calls.specs.CallLaws.{passes}
 use Rattle.checks.specs.CheckLaws.{refused-first, passed-first}
 use Rattle.checks.specs.Counts.{Counted, counted}
 use Rattle.checks.specs.Shape.{shapeChecks}
@@ -26,7 +25,7 @@ abbrev startOf : tie.After-enum-told → tie.Start
 startOf t = t .before .before .before
 
 in-range : (t : tie.After-enum-told) → Counted (startOf t .args .p) (startOf t .args .q) (startOf t .args .extra) (startOf t .args .coefs)
-in-range t = counted _ _ _ _ (sym (t .before .before .check .ensures) ∙ ap checkOf (t .enum-told .given .1))
+in-range t = counted _ _ _ _ (passes (t .before .before .check .ensures) (t .enum-told .given .1))
 
 returns : tie.Need-returns
 unfolding shapeChecks refuseWith _then_

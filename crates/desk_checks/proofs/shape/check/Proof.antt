@@ -2,9 +2,8 @@
 use Prim.Native.Nat.{_+_, _*_, _/_, _%_}
 use borrow.Author.Needs.{needs}
 use borrow.Author.Tests.{le-ltb, lt-ltb, eq-eqb, ne-eqb}
-use mathlib.Core.Path.{sym, ap, _∙_}
 use native.Mathlib.Omega.{arith}
-use Rattle.calls.specs.Paper.{checkOf}
+use Rattle.calls.specs.CallLaws.{passes}
 use Rattle.checks.specs.CheckLaws.{passed-first, refused-first}
 use Rattle.checks.specs.Counts.{Counted, counted}
 use Rattle.definitions.specs.Answers.{refuseWith, _then_}
@@ -25,7 +24,7 @@ abbrev startOf : tie.After-enum-told → tie.Start
 startOf t = t .before .before .before
 
 in-range : (t : tie.After-enum-told) → Counted (startOf t .args .p) (startOf t .args .q) 0 (startOf t .args .coefs)
-in-range t = counted _ _ _ _ (sym (t .before .before .check .ensures) ∙ ap checkOf (t .enum-told .given .1))
+in-range t = counted _ _ _ _ (passes (t .before .before .check .ensures) (t .enum-told .given .1))
 
 rem-if1 : tie.Need-rem-if1
 rem-if1 c = omega (arith, in-range c .some)

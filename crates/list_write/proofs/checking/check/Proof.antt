@@ -12,8 +12,8 @@ use Rattle.list_write.specs.CheckLaws.{listChecks, counts-in, write-stag
 use Rattle.list_write.proofs.checking.check.Statement.{statement}
 use Rattle.list_write.proofs.checking.check.Tie as tie
 
-check-counts-requires : tie.Need-check-counts-requires
-check-counts-requires c κs = search needs
+check-requires : tie.Need-check-requires
+check-requires c κs = search needs
 
 enum-known-why : tie.Need-enum-known-why
 enum-known-why c = search needs
@@ -21,8 +21,8 @@ enum-known-why c = search needs
 enum-told : tie.Need-enum-told
 enum-told c = search needs
 
-check-requires : tie.Need-check-requires
-check-requires c κs = search needs
+check-requires-2 : tie.Need-check-requires-2
+check-requires-2 c κs = search needs
 
 enum-known-why-2 : tie.Need-enum-known-why-2
 enum-known-why-2 c = search needs
@@ -36,21 +36,21 @@ list s = listOf (s .args .p) (s .args .q) (now (s .args .coefs)) (now (s .args .
 check-rows-requires : tie.Need-check-rows-requires
 check-rows-requires c κs =
     let told = c .before .before .before in
-    let counts = counts-in _ _ _ (passes (told .before .before .check-counts .ensures) (told .enum-told .given .1)) in
+    let counts = counts-in _ _ _ (passes (told .before .before .check .ensures) (told .enum-told .given .1)) in
     (counts .q-some, counts .q-few, counts .coefs-few)
 
 returns : tie.Need-returns
 returns c =
     let s = c .before .before .before .before .before in
-    refused-first (coefficientChecks (list s .coefs) then listChecks (list s) (s .args .room)) (c .before .why .given .1) (c .before .before .before .check-counts .ensures)
+    refused-first (coefficientChecks (list s .coefs) then listChecks (list s) (s .args .room)) (c .before .why .given .1) (c .before .before .before .check .ensures)
     ∙ write-stages (list s) (s .args .room)
 
 returns-2 : tie.Need-returns-2
 returns-2 c =
     let told = c .before .before .before .before in
     let s = told .before .before .before .before in
-    refused-first (listChecks (list s) (s .args .room)) (c .before .why2 .given .1) (c .before .before .before .check .ensures)
-    ∙ passed-first (coefficientChecks (list s .coefs) then listChecks (list s) (s .args .room)) (told .enum-told .given .1) (told .before .before .check-counts .ensures)
+    refused-first (listChecks (list s) (s .args .room)) (c .before .why2 .given .1) (c .before .before .before .check2 .ensures)
+    ∙ passed-first (coefficientChecks (list s .coefs) then listChecks (list s) (s .args .room)) (told .enum-told .given .1) (told .before .before .check .ensures)
     ∙ write-stages (list s) (s .args .room)
 
 returns-3 : tie.Need-returns-3
@@ -58,18 +58,18 @@ returns-3 c =
     let told = c .before .before .before .before in
     let s = told .before .before .before .before in
     c .check-rows .ensures (s .args .p)
-    ∙ passed-first (listChecks (list s) (s .args .room)) (c .before .enum-told2 .given .1) (c .before .before .before .check .ensures)
-    ∙ passed-first (coefficientChecks (list s .coefs) then listChecks (list s) (s .args .room)) (told .enum-told .given .1) (told .before .before .check-counts .ensures)
+    ∙ passed-first (listChecks (list s) (s .args .room)) (c .before .enum-told2 .given .1) (c .before .before .before .check2 .ensures)
+    ∙ passed-first (coefficientChecks (list s .coefs) then listChecks (list s) (s .args .room)) (told .enum-told .given .1) (told .before .before .check .ensures)
     ∙ write-stages (list s) (s .args .room)
 
 pub check-spec : {M : Type 1} → statement M
 check-spec =
     tie.close
     (tie.spec
-    check-counts-requires
+    check-requires
     enum-known-why
     enum-told
-    check-requires
+    check-requires-2
     enum-known-why-2
     enum-told-2
     check-rows-requires

@@ -1,84 +1,61 @@
--- `reasons::asked::check` meets its contract: each test decides where those before it do not. Assumes nothing.
-use native.Mathlib.Nat.{mul-le-mul}
+-- `reasons::asked::check` meets its contract: the counts decide, else each test decides where those before it do not. Assumes nothing.
 use native.Mathlib.Omega.{arith}
 use borrow.Author.Needs.{needs}
 use borrow.Author.Tests.{eq-eqb, le-leb, lt-leb, ne-eqb}
-use Rattle.reasons.specs.Refusals.{in-ranges, many-equations, many-rows, many-unknowns, no-equations, no-unknowns, other-count, other-length}
+use Rattle.calls.specs.CallLaws.{passes}
+use Rattle.checks.specs.Counts.{counted}
+use Rattle.reasons.specs.Refusals.{counts-off, in-ranges, many-rows, other-length}
 use Rattle.reasons.proofs.asked.check.Statement.{statement}
 use Rattle.reasons.proofs.asked.check.Tie as tie
 
+check-requires : tie.Need-check-requires
+check-requires c κs = search needs
+
+enum-known-why : tie.Need-enum-known-why
+enum-known-why c = search needs
+
+enum-told : tie.Need-enum-told
+enum-told c = search needs
+
 returns : tie.Need-returns
-returns c = no-equations _ _ _ _ _ _ (lt-leb _ _ (c .if1 .taken))
+returns c =
+    let t = c .before in
+    other-length _ _ _ _ _ _ (t .before .before .check .ensures) (t .enum-told .given .1) (ne-eqb _ _ (c .if1 .taken))
+
+div-if2 : tie.Need-div-if2
+div-if2 c =
+    let t = c .before in
+    omega (arith, counted _ _ _ _ (passes (t .before .before .check .ensures) (t .enum-told .given .1)) .some)
 
 returns-2 : tie.Need-returns-2
-returns-2 c = many-equations _ _ _ _ _ _ (le-leb _ _ (c .before .if1 .left)) (lt-leb _ _ (c .if2 .taken))
-
-returns-3 : tie.Need-returns-3
-returns-3 c = let b = c .before in no-unknowns _ _ _ _ _ _ (le-leb _ _ (b .before .if1 .left)) (le-leb _ _ (b .if2 .left)) (lt-leb _ _ (c .if3 .taken))
-
-returns-4 : tie.Need-returns-4
-returns-4 c =
-    let d = c .before in
-    let b = d .before in
-    many-unknowns _ _ _ _ _ _ (le-leb _ _ (b .before .if1 .left)) (le-leb _ _ (b .if2 .left)) (le-leb _ _ (d .if3 .left)) (lt-leb _ _ (c .if4 .taken))
-
-mul-if5 : tie.Need-mul-if5
-mul-if5 c =
-    let s = c .before .before .before .before .before .before .args in
-    omega (arith, mul-le-mul {n₁ = s .p} {m₁ = s .q} {n₂ = 8} {m₂ = 16} (omega arith) (omega arith))
-
-returns-5 : tie.Need-returns-5
-returns-5 c =
-    let e = c .before in
-    let d = e .before in
-    let b = d .before in
-    other-count _ _ _ _ _ _ (le-leb _ _ (b .before .if1 .left)) (le-leb _ _ (b .if2 .left)) (le-leb _ _ (d .if3 .left)) (le-leb _ _ (e .if4 .left)) (ne-eqb _ _ (c .if5 .taken))
-
-returns-6 : tie.Need-returns-6
-returns-6 c =
+returns-2 c =
     let f = c .before in
-    let e = f .before in
-    let d = e .before in
-    let b = d .before in
-    other-length _ _ _ _ _ _ (le-leb _ _ (b .before .if1 .left)) (le-leb _ _ (b .if2 .left)) (le-leb _ _ (d .if3 .left)) (le-leb _ _ (e .if4 .left)) (eq-eqb _ _ (f .if5 .left)) (ne-eqb _ _ (c .if6 .taken))
-
-div-if7 : tie.Need-div-if7
-div-if7 c = search needs
-
-returns-7 : tie.Need-returns-7
-returns-7 c =
-    let g = c .before in
-    let f = g .before in
-    let e = f .before in
-    let d = e .before in
-    let b = d .before in
-    many-rows _ _ _ _ _ _ (le-leb _ _ (b .before .if1 .left)) (le-leb _ _ (b .if2 .left)) (le-leb _ _ (d .if3 .left)) (le-leb _ _ (e .if4 .left)) (eq-eqb _ _ (f .if5 .left)) (eq-eqb _ _ (g .if6 .left)) (lt-leb _ _ (c .if7 .taken))
+    let t = f .before in
+    many-rows _ _ _ _ _ _ (t .before .before .check .ensures) (t .enum-told .given .1) (eq-eqb _ _ (f .if1 .left)) (lt-leb _ _ (c .if2 .taken))
 
 ranges-requires : tie.Need-ranges-requires
 ranges-requires c κs = search needs
 
-returns-8 : tie.Need-returns-8
-returns-8 c =
+returns-3 : tie.Need-returns-3
+returns-3 c = counts-off _ _ _ _ _ _ (c .before .before .before .check .ensures) (c .before .why .given .1)
+
+returns-4 : tie.Need-returns-4
+returns-4 c =
     let h = c .before in
-    let g = h .before in
-    let f = g .before in
-    let e = f .before in
-    let d = e .before in
-    let b = d .before in
-    in-ranges _ _ _ _ _ _ (le-leb _ _ (b .before .if1 .left)) (le-leb _ _ (b .if2 .left)) (le-leb _ _ (d .if3 .left)) (le-leb _ _ (e .if4 .left)) (eq-eqb _ _ (f .if5 .left)) (eq-eqb _ _ (g .if6 .left)) (le-leb _ _ (h .if7 .left)) (c .ranges .ensures)
+    let f = h .before in
+    let t = f .before in
+    in-ranges _ _ _ _ _ _ (t .before .before .check .ensures) (t .enum-told .given .1) (eq-eqb _ _ (f .if1 .left)) (le-leb _ _ (h .if2 .left)) (c .ranges .ensures)
 
 pub check-spec : {M : Type 1} → statement M
 check-spec =
     tie.close
     (tie.spec
+    check-requires
+    enum-known-why
+    enum-told
     returns
+    div-if2
     returns-2
-    returns-3
-    returns-4
-    mul-if5
-    returns-5
-    returns-6
-    div-if7
-    returns-7
     ranges-requires
-    returns-8)
+    returns-3
+    returns-4)
