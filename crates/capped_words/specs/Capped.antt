@@ -8,7 +8,7 @@ use Rattle.definitions.specs.Machine.{Outcome}
 use Rattle.definitions.specs.System.{mostComponent}
 use Rattle.definitions.specs.Tables.{State}
 use Rattle.calls.specs.Paper.{stateWith}
-use Rattle.record_words.specs.Words.{isRecord, recordIn, startIf}
+use Rattle.record_words.specs.Words.{recordIn, startOn}
 
 -- a map with right sides, with document 01's limit of components
 abbrev pub inputSided : ℕ → ℕ → List ℤ → List ℤ → Input
@@ -22,4 +22,4 @@ resumeCappedWords budget words i stack list second = resume budget i (stateWith 
 -- record_words/specs/WordLaws)
 unfoldable pub startCappedWords : List ℕ → Input → List ℕ → List ℕ → List ℕ → Outcome State
 startCappedWords words i stack list second =
-    startIf (isRecord words) (start i (stateWith stack list second (recordIn words))) (resumeCappedWords 0 words i stack list second)
+    startOn words (start i (stateWith stack list second (recordIn words))) (resumeCappedWords 0 words i stack list second)

@@ -1,2 +1,1 @@
 pub mod Capped
-pub mod CappedLaws

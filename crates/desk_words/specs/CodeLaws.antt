@@ -1,13 +1,12 @@
 -- A number of 64 bits holds each answer, as a place is one of at most 128 coefficients. Assumes nothing.
 use Prim.Native.Nat.{ℕ, zero, suc, _≤_}
 use mathlib.Core.Bool.{not}
-use mathlib.Core.List.{List}
 use mathlib.Core.Path.{_≡_}
 use native.Mathlib.Nat.{mul-le-mul}
 use native.Mathlib.Omega.{arith}
 use lib.ListN.{length}
 use Rattle.definitions.specs.Answers.{Check, go, refuseIf}
-use Rattle.definitions.specs.Machine.{Outcome, call, walk}
+use Rattle.definitions.specs.Machine.{call, walk}
 use Rattle.definitions.specs.Refusals.{check1, check2, check7}
 use Rattle.definitions.specs.System.{mostEquations, mostUnknowns}
 use Rattle.definitions.specs.Tables.{State}
@@ -15,7 +14,6 @@ use Rattle.record_words.specs.CodeLaws.{Fits, Small, fits-checked, fits-unless,
 use Rattle.desk_form.specs.Desks.{Desk, deskBegin, deskCheck3, deskCheck4, deskChecks, deskMachine, deskResume, deskResumeChecks, deskSearchChecks}
 use Rattle.desk_form.specs.Desks.{deskStartChecks, deskStep, generatorsInOrder, groupInput, rangesChecks, settled, wide}
 use Rattle.desk_form.specs.Rules.{numbers-go}
-use Rattle.desk_calls.specs.Calls.{answerOf, outcomeOf}
 use Rattle.desk_calls.specs.declared.Outcome as values
 
 -- ---- checks
@@ -63,9 +61,3 @@ begin-fits d s = fits-checked (deskStartChecks d s) s _ (small-start d s) (omega
 pub resume-fits : (budget : ℕ) (d : Desk) (s : State) → Fits (deskResume budget d s .answer)
 unfolding call
 resume-fits budget d s = fits-checked (deskResumeChecks d s) s (walk budget (deskMachine d)) (small-resume d s) (fits-walk budget d s)
-
--- ---- what a call by value answered
-
-pub answer-fits : (o : values.Outcome) {stack list : List ℕ} {left : Outcome State} → outcomeOf o stack list ≡ left → Fits (left .answer)
-    → Fits (answerOf (o .answer))
-answer-fits o e h = rw (← e) at h

@@ -4,38 +4,19 @@ use mathlib.Core.Bool.{Bool, true, false, _&&_, not}
 use mathlib.Core.List.{List, []}
 use mathlib.Core.Logic.{_≢_}
 use mathlib.Core.Path.{_≡_, refl, ap}
-use borrow.Author.Tests.{eq-eqb, ne-eqb}
+use borrow.Author.Tests.{ne-eqb}
 use lib.ListN.{length}
 use Rattle.definitions.specs.Answers.{_then_, refuse, refuseIf, refuseWith}
-use Rattle.definitions.specs.Machine.{Outcome, call, checked, walk}
+use Rattle.definitions.specs.Machine.{call, checked, walk}
 use Rattle.definitions.specs.Refusals.{check1, check2}
 use Rattle.definitions.specs.Tables.{State}
-use Rattle.calls.specs.Paper.{runOf, stateOf}
-use Rattle.record_words.specs.Codes.{code}
+use Rattle.calls.specs.Paper.{stateOf}
 use Rattle.record_words.specs.WordLaws.{then-same}
-use Rattle.record_words.specs.Words.{recordIn, told, wordsLeft}
-use Rattle.desk_form.specs.Desks.{Desk, deskBegin, deskCheck3, deskCheck4, deskInOrder, deskMachine, deskResumeChecks, generatorsInOrder, groupInput}
+use Rattle.record_words.specs.Words.{recordIn}
+use Rattle.desk_form.specs.Desks.{Desk, deskCheck3, deskCheck4, deskInOrder, deskMachine, deskResumeChecks, generatorsInOrder, groupInput}
 use Rattle.desk_form.specs.Desks.{rangesChecks}
-use Rattle.desk_calls.specs.Calls.{answerOf, outcomeOf}
 use Rattle.desk_calls.specs.declared.Outcome as values
-use Rattle.desk_words.specs.Words.{deskResumeWords, deskStartWords}
-
--- ---- by the number of words
-
-module _ (words : List ℕ) (d : Desk) (stack list : List ℕ) where
-  pub start-fitting : length words ≡ 7 → deskBegin d (stateOf stack list (recordIn words)) ≡ deskStartWords words d stack list
-  unfolding deskStartWords
-  start-fitting e = rw (eq-eqb (length words) 7 e)
-
-  pub start-misfit : length words ≢ 7 → deskResumeWords 0 words d stack list ≡ deskStartWords words d stack list
-  unfolding deskStartWords
-  start-misfit ne = rw (ne-eqb (length words) 7 ne)
-
--- ---- what a call by value answered and left
-
-pub call-told : (words : List ℕ) (o : values.Outcome) {stack list left : List ℕ} {whole : Outcome State} {a : ℕ} → outcomeOf o stack list ≡ whole
-    → a ≡ code (answerOf (o .answer)) → left ≡ wordsLeft words (runOf (o .run)) → (a, (stack, (list, left))) ≡ told words whole
-call-told words o e d r = rw (← e, d, r)
+use Rattle.desk_words.specs.Words.{deskResumeWords}
 
 -- ---- another number of words: "6: run record or tables out of order"
 

@@ -5,7 +5,7 @@ use mathlib.Core.List.{List}
 use Rattle.definitions.specs.Machine.{Outcome}
 use Rattle.definitions.specs.Tables.{State}
 use Rattle.calls.specs.Paper.{stateOf}
-use Rattle.record_words.specs.Words.{isRecord, recordIn, startIf}
+use Rattle.record_words.specs.Words.{recordIn, startOn}
 use Rattle.desk_form.specs.Desks.{Desk, deskBegin, deskResume}
 
 -- each is handed the words of the record, the second group with the generators, and the two tables
@@ -15,4 +15,4 @@ deskResumeWords budget words d stack list = deskResume budget d (stateOf stack l
 -- A start looks at no old content, but it cannot write its record into another number of words: it then answers as a continuing call does, with the first of 1
 -- to 4 that is due, or with 6 (`misfit-refused` in WordLaws).
 unfoldable pub deskStartWords : List ℕ → Desk → List ℕ → List ℕ → Outcome State
-deskStartWords words d stack list = startIf (isRecord words) (deskBegin d (stateOf stack list (recordIn words))) (deskResumeWords 0 words d stack list)
+deskStartWords words d stack list = startOn words (deskBegin d (stateOf stack list (recordIn words))) (deskResumeWords 0 words d stack list)

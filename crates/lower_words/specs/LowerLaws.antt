@@ -1,33 +1,20 @@
--- The start of a run from a lower bound, by the number of words that its record comes in; and that another number of words is refused with 6, after 1 to 5.
--- Assumes nothing.
+-- A run from a lower bound whose record comes in another number of words is refused with 6, after 1 to 5. Assumes nothing.
 use Prim.Native.Nat.{ℕ}
 use mathlib.Core.List.{List, []}
 use mathlib.Core.Logic.{_≢_}
 use mathlib.Core.Path.{_≡_, ap}
 use lib.ListN.{length}
-use borrow.Author.Tests.{eq-eqb, ne-eqb}
+use borrow.Author.Tests.{ne-eqb}
 use Rattle.definitions.specs.Answers.{_then_, refuse, refuseWith}
-use Rattle.definitions.specs.Calls.{machineFrom, resumeFrom, startFrom}
+use Rattle.definitions.specs.Calls.{machineFrom, resumeFrom}
 use Rattle.definitions.specs.Input.{Input, systemOf}
 use Rattle.definitions.specs.Machine.{call, checked, walk}
 use Rattle.definitions.specs.Refusals.{check1, check4, check5, check6From, check7, check8, inOrderFrom, numbersCheck, resumeFromChecks, shapeThen}
 use Rattle.definitions.specs.Refusals.{unknownsCheck}
 use Rattle.definitions.specs.Tables.{State}
 use Rattle.calls.specs.Paper.{stateWith}
-use Rattle.record_words.specs.Words.{recordIn, toldBoth}
+use Rattle.record_words.specs.Words.{recordIn}
 use Rattle.record_words.specs.WordLaws.{then-same}
-use Rattle.lower_words.specs.Lower.{resumeFromWords, startFromWords}
-
-module _ (lower words : List ℕ) (i : Input) (stack list second : List ℕ) where
-  pub bound-fitting : length words ≡ 7
-      → startFrom lower i (stateWith stack list second (recordIn words)) ≡ startFromWords lower words i stack list second
-  unfolding startFromWords
-  bound-fitting e = rw (eq-eqb (length words) 7 e)
-
-  pub bound-misfit : {a : ℕ × (List ℕ × (List ℕ × (List ℕ × List ℕ)))} → a ≡ toldBoth words (resumeFromWords 0 lower words i stack list second)
-      → length words ≢ 7 → a ≡ toldBoth words (startFromWords lower words i stack list second)
-  unfolding startFromWords
-  bound-misfit e ne = rw (ne-eqb (length words) 7 ne) e
 
 -- ---- another number of words: "6: run record or tables out of order"
 

@@ -20,8 +20,6 @@ use Rattle.definitions.specs.Refusals.{lowerChecks, misnumbered, mostFor, resum
 use Rattle.definitions.specs.Calls.{machine, machineFrom, resume, resumeFrom, searchFrom, start, startFrom}
 use Rattle.laws.specs.AnswerLaws.{refuse-if-go}
 use Rattle.laws.specs.RefusalLaws.{Misnumbered, decides-number}
-use Rattle.calls.specs.Paper.{answerOf, outcomeWith}
-use Rattle.calls.specs.declared.Outcome as values
 use Rattle.record_words.specs.Codes.{refusalCode, code}
 
 abbrev pub Fits : Answer → Type 0
@@ -177,6 +175,6 @@ module _ (m : Input) (s : State) where
 
 -- ---- what a call by value answered
 
-pub answer-fits : (o : values.Outcome) {stack list second : List ℕ} {left : Outcome State} → outcomeWith o stack list second ≡ left
-    → Fits (left .answer) → Fits (answerOf (o .answer))
-answer-fits o e h = rw (← e) at h
+pub answer-fits : {S : Type 0} {a : Answer} {s : S} {left : Outcome S} → _≡_ {A = Outcome S} (record { answer = a; state = s }) left → Fits (left .answer)
+    → Fits a
+answer-fits e h = rw (← e) at h

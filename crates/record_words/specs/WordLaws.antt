@@ -9,21 +9,19 @@ use native.Mathlib.Omega.{arith}
 use lib.Dec.{lit<, ltb}
 use lib.ListN.{length, getD, set}
 use borrow.Author.Tests.{le-ltb, lt-ltb, eq-eqb, ne-eqb}
-use Rattle.definitions.specs.Answers.{Check, refuse, go, _then_}
+use Rattle.definitions.specs.Answers.{Answer, Check, refuse, go, _then_}
 use Rattle.definitions.specs.Input.{Extra, Input, alone, rights, systemOf, walkSystem}
 use Rattle.definitions.specs.Machine.{Outcome, call, checked, walk}
 use Rattle.definitions.specs.System.{mostUnknowns}
 use Rattle.linear.specs.Cases.{split}
 use Rattle.definitions.specs.Tables.{Record, State, runNumber}
 use Rattle.definitions.specs.Refusals.{check1, check4, check6, mostFor, numbersCheck, rangeChecks, resumeChecks, shapeThen, unknownsCheck}
-use Rattle.definitions.specs.Calls.{machine, start, resume}
+use Rattle.definitions.specs.Calls.{machine, resume}
 use Rattle.laws.specs.RefusalLaws.{decides-order, high}
-use Rattle.calls.specs.Paper.{kindOf, runOf, stateOf, stateWith, answerOf, outcomeOf, outcomeWith}
-use Rattle.calls.specs.declared.Outcome as values
+use Rattle.calls.specs.Paper.{kindOf, runOf, stateWith}
 use Rattle.record_words.specs.Codes.{code}
 use Rattle.record_words.specs.CodeLaws.{within}
-use Rattle.record_words.specs.Words.{heightIf, kindAt, recordAt, recordIn, wordsLeft, wordsOf, told, toldBoth}
-use Rattle.record_words.specs.Words.{startWords, resumeWords}
+use Rattle.record_words.specs.Words.{heightIf, kindAt, recordAt, recordIn, startOn, told, toldBoth, wordsLeft, wordsOf}
 
 -- ---- reading and writing the words
 
@@ -95,38 +93,29 @@ module _ (words : List ℕ) (e : length words ≡ 7) where
 pub kept-words : (words : List ℕ) → wordsLeft words (runOf (recordIn words)) ≡ words
 kept-words words = elim (ℕ-discrete (length words) 7) [ yes e ↦ kept-record words e | no ne ↦ sym (words-misfit words (runOf (recordIn words)) ne) ]
 
--- ---- by the number of words
-
-module _ (words : List ℕ) (m : Input) (stack list : List ℕ) where
-  pub start-fitting : length words ≡ 7 → start m (stateOf stack list (recordIn words)) ≡ startWords words m stack list
-  unfolding startWords
-  start-fitting e = rw (eq-eqb (length words) 7 e)
-
-  pub start-misfit : length words ≢ 7 → resumeWords 0 words m stack list ≡ startWords words m stack list
-  unfolding startWords
-  start-misfit ne = rw (ne-eqb (length words) 7 ne)
-
 -- ---- what a call by value answered and left
 
-pub call-told : (words : List ℕ) (o : values.Outcome) {stack list left : List ℕ} {left′ : Outcome State} {a : ℕ}
-    → outcomeOf o stack list ≡ left′
-    → a ≡ code (answerOf (o .answer))
-    → left ≡ wordsLeft words (runOf (o .run)) → (a, (stack, (list, left))) ≡ told words left′
-call-told words o e d r = rw (← e, d, r)
+module _ (words : List ℕ) {answer : Answer} {r : Record} {stack list second left : List ℕ} {whole : Outcome State} {a : ℕ}
+    (e : _≡_ {A = Outcome State} (record { answer = answer; state = record { stack = stack; list = list; second = second; run = r } }) whole)
+    (d : a ≡ code answer)
+    (l : left ≡ wordsLeft words r) where
+  pub call-told : (a, (stack, (list, left))) ≡ told words whole
+  call-told = rw (← e, d, l)
 
-pub both-told : (words : List ℕ) (o : values.Outcome) {stack list second left : List ℕ} {left′ : Outcome State} {a : ℕ}
-    → outcomeWith o stack list second ≡ left′
-    → a ≡ code (answerOf (o .answer))
-    → left ≡ wordsLeft words (runOf (o .run)) → (a, (stack, (list, (second, left)))) ≡ toldBoth words left′
-both-told words o e d r = rw (← e, d, r)
+  pub both-told : (a, (stack, (list, (second, left)))) ≡ toldBoth words whole
+  both-told = rw (← e, d, l)
 
--- a start on another number of words is told what a continuing call is
-abbrev Told : Type 0
-Told = ℕ × (List ℕ × (List ℕ × List ℕ))
+-- ---- a start, by the number of words: what it begins, or what the continuing call is told
 
-module _ (words : List ℕ) (m : Input) (stack list : List ℕ) {a : Told} (e : a ≡ told words (resumeWords 0 words m stack list)) where
-  pub told-misfit : length words ≢ 7 → a ≡ told words (startWords words m stack list)
-  told-misfit ne = e ∙ ap (told words) (start-misfit words m stack list ne)
+module _ (words : List ℕ) (begun misfit : Outcome State) where
+  pub begun-fitting : length words ≡ 7 → begun ≡ startOn words begun misfit
+  unfolding startOn
+  begun-fitting e = rw (eq-eqb (length words) 7 e)
+
+  -- in whatever form it is told
+  pub told-misfit : {A : Type 0} (tell : Outcome State → A) {a : A} → a ≡ tell misfit → length words ≢ 7 → a ≡ tell (startOn words begun misfit)
+  unfolding startOn
+  told-misfit tell e ne = rw (ne-eqb (length words) 7 ne) e
 
 -- ---- another number of words: "6: run record or tables out of order"
 

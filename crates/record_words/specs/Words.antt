@@ -77,5 +77,8 @@ startIf false begun misfit = misfit
 
 -- A start "looks at no old content and so never gives 6", but it cannot write its record into another number of words: it then answers as a
 -- continuing call does, with the first of 1 to 4 that is due, or with 6 (`misfit-refused` in WordLaws).
+unfoldable pub startOn : List ℕ → Outcome State → Outcome State → Outcome State
+startOn words begun misfit = startIf (isRecord words) begun misfit
+
 unfoldable pub startWords : List ℕ → Input → List ℕ → List ℕ → Outcome State
-startWords words i stack list = startIf (isRecord words) (start i (stateOf stack list (recordIn words))) (resumeWords 0 words i stack list)
+startWords words i stack list = startOn words (start i (stateOf stack list (recordIn words))) (resumeWords 0 words i stack list)

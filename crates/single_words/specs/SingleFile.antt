@@ -8,14 +8,14 @@ use Rattle.definitions.specs.Tables.{State}
 use Rattle.calls.specs.Paper.{stateOf, value}
 use Rattle.single_file.specs.Calls.{singleResume, singleStart}
 use Rattle.single_file.specs.Listing.{Listed, Listing, refused, written}
-use Rattle.record_words.specs.Words.{isRecord, recordIn, resumeWords, startIf}
+use Rattle.record_words.specs.Words.{recordIn, resumeWords, startOn}
 
 unfoldable pub singleResumeWords : ℕ → List ℕ → Input → List ℕ → List ℕ → Outcome State
 singleResumeWords budget words i stack list = singleResume budget i (stateOf stack list (recordIn words))
 
 -- another number of words than a record has is answered as in a plain start
 unfoldable pub singleStartWords : List ℕ → Input → List ℕ → List ℕ → Outcome State
-singleStartWords words i stack list = startIf (isRecord words) (singleStart i (stateOf stack list (recordIn words))) (resumeWords 0 words i stack list)
+singleStartWords words i stack list = startOn words (singleStart i (stateOf stack list (recordIn words))) (resumeWords 0 words i stack list)
 
 -- a value beside its number: the most that 56 bits hold stands for all above, which no table reaches
 abbrev pub capped : ℕ → ℕ

@@ -1,20 +1,16 @@
 -- A number of 64 bits holds each answer of the calls of single-file maps; and what these leave, as the exported ones tell it. Assumes nothing.
-use Prim.Native.Nat.{ℕ, _+_, _*_, _≤_, _<_, min}
-use mathlib.Core.Logic.{_≢_}
+use Prim.Native.Nat.{ℕ, _+_, _*_, _≤_, _<_}
 use mathlib.Core.List.{List}
 use mathlib.Core.Path.{_≡_}
 use native.Mathlib.Omega.{arith}
-use lib.ListN.{length}
-use borrow.Author.Tests.{eq-eqb, ne-eqb}
-use Rattle.definitions.specs.Answers.{go, _then_}
+use Rattle.definitions.specs.Answers.{_then_}
 use Rattle.definitions.specs.Calls.{resume, start}
 use Rattle.definitions.specs.Input.{Extra, Input, alone, mapOf, rights, walkSystem}
-use Rattle.definitions.specs.Machine.{checked}
 use Rattle.definitions.specs.Refusals.{resumeChecks, startChecks}
 use Rattle.definitions.specs.Tables.{State}
 use Rattle.laws.specs.RefusalLaws.{resume-valid, start-shaped}
 use Rattle.calls.specs.Paper as calls
-use Rattle.calls.specs.Paper.{stateOf, value}
+use Rattle.calls.specs.Paper.{value}
 use Rattle.calls.specs.declared.Refusal.{Refusal}
 use Rattle.calls.specs.declared.Refusal.the-variants.{Equations, Unknowns, CoefficientCount, StackLength, BoundLength, OutOfOrder, Coefficient, BoundRange}
 use Rattle.calls.specs.declared.Refusal.the-variants.{ListFull, ComponentLimit, StepLimit, RightSide, SeatUnknowns, SeatComponent, Column}
@@ -27,8 +23,7 @@ use Rattle.single_file.specs.Calls.{singleResume, singleResumeChecks, singleSta
 use Rattle.single_file.specs.Listing.{Listing}
 use Rattle.single_file.specs.Profile.{check26}
 use Rattle.record_words.specs.CodeLaws.{Fits, Small, fits-checked, resume-fits, small-first, small-resume, small-start, small-then, start-fits}
-use Rattle.single_words.specs.SingleFile.{capped, listingTold, singleStartWords}
-use Rattle.record_words.specs.Words.{recordIn, resumeWords, told}
+use Rattle.single_words.specs.SingleFile.{capped, listingTold}
 
 -- the walk has at least the unknowns of the map
 map-few : (e : Extra) (i : Input) → walkSystem e i .q ≤ 16 → i .q ≤ 16
@@ -53,18 +48,6 @@ module _ (i : Input) (s : State) where
       fits-checked (resumeChecks i s then check26 (mapOf i)) s (resume budget i)
       (small-then (resumeChecks i s) (check26 (mapOf i)) (small-resume i s) (λ e. small-26 (map-few (i .extra) i (resume-valid i s e .shaped .q-few))))
       (resume-fits i s budget)
-
--- ---- by the number of words
-
-module _ (words : List ℕ) (i : Input) (stack list : List ℕ) where
-  pub single-fitting : length words ≡ 7 → singleStart i (stateOf stack list (recordIn words)) ≡ singleStartWords words i stack list
-  unfolding singleStartWords
-  single-fitting e = rw (eq-eqb (length words) 7 e)
-
-  pub single-misfit : {a : ℕ × (List ℕ × (List ℕ × List ℕ))} → a ≡ told words (resumeWords 0 words i stack list) → length words ≢ 7
-      → a ≡ told words (singleStartWords words i stack list)
-  unfolding singleStartWords
-  single-misfit e ne = rw (ne-eqb (length words) 7 ne) e
 
 -- ---- the listing
 

@@ -1,24 +1,18 @@
--- A number of 64 bits holds each answer of the seat's calls; and a start by the number of words. Assumes nothing.
+-- A number of 64 bits holds each answer of the seat's calls. Assumes nothing.
 use Prim.Native.Nat.{ℕ}
 use mathlib.Core.List.{List}
-use mathlib.Core.Logic.{_≢_}
-use mathlib.Core.Path.{_≡_}
 use native.Mathlib.Decide.{ℕ-discrete}
 use native.Mathlib.Omega.{arith}
 use lib.IntN.{ℤ}
-use lib.ListN.{length}
 use borrow.Author.Tests.{eq-eqb, ne-eqb}
 use Rattle.definitions.specs.Answers.{Answer, _then_, complete, paused, refused, started}
 use Rattle.definitions.specs.Calls.{resume, resumeFrom, start, startFrom}
 use Rattle.definitions.specs.Input.{Input}
 use Rattle.definitions.specs.Refusals.{check1, unknownsCheck}
 use Rattle.definitions.specs.Tables.{State}
-use Rattle.calls.specs.Paper.{stateOf, stateWith}
 use Rattle.record_words.specs.CodeLaws.{Fits, Small, fits-checked, resume-fits, resume-from-fits, small-if, small-then, start-fits, start-from-fits}
-use Rattle.record_words.specs.Words.{recordIn, told, toldBoth}
 use Rattle.training_form.specs.Training.{check23, seatInput, seatResume, seatResumeFrom, seatStart, seatStartFrom}
 use Rattle.training_form.specs.TrainingRules.{renumber, renumbered, seat-resumes, seat-resumes-from, seat-starts, seat-starts-from, seatFirst}
-use Rattle.training_words.specs.SeatWords.{seatResumeFromWords, seatResumeWords, seatStartFromWords, seatStartWords}
 
 -- 24 fits where 12 does
 renumber-fits : (a : Answer) → Fits a → Fits (renumber a)
@@ -57,25 +51,3 @@ module _ (p q : ℕ) (coefs : List ℤ) (s : State) where
       rw (seat-resumes-from p q coefs lower budget s)
       (fits-checked (seatFirst i) s (λ t. renumbered (resumeFrom budget lower i t)) (small-seat i)
       (renumber-fits (resumeFrom budget lower i s .answer) (resume-from-fits i s budget lower)))
-
--- ---- by the number of words
-
-module _ (words : List ℕ) (i : Input) (stack list : List ℕ) where
-  pub seat-fitting : length words ≡ 7 → seatStart i (stateOf stack list (recordIn words)) ≡ seatStartWords words i stack list
-  unfolding seatStartWords
-  seat-fitting e = rw (eq-eqb (length words) 7 e)
-
-  pub seat-misfit : {a : ℕ × (List ℕ × (List ℕ × List ℕ))} → a ≡ told words (seatResumeWords 0 words i stack list) → length words ≢ 7
-      → a ≡ told words (seatStartWords words i stack list)
-  unfolding seatStartWords
-  seat-misfit e ne = rw (ne-eqb (length words) 7 ne) e
-
-  module _ (second lower : List ℕ) where
-    pub seat-from-fitting : length words ≡ 7 → seatStartFrom lower i (stateWith stack list second (recordIn words)) ≡ seatStartFromWords lower words i stack list second
-    unfolding seatStartFromWords
-    seat-from-fitting e = rw (eq-eqb (length words) 7 e)
-
-    pub seat-from-misfit : {a : ℕ × (List ℕ × (List ℕ × (List ℕ × List ℕ)))} → a ≡ toldBoth words (seatResumeFromWords 0 lower words i stack list second)
-        → length words ≢ 7 → a ≡ toldBoth words (seatStartFromWords lower words i stack list second)
-    unfolding seatStartFromWords
-    seat-from-misfit e ne = rw (ne-eqb (length words) 7 ne) e

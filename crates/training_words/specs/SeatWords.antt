@@ -5,7 +5,7 @@ use Rattle.definitions.specs.Input.{Input}
 use Rattle.definitions.specs.Machine.{Outcome}
 use Rattle.definitions.specs.Tables.{State}
 use Rattle.calls.specs.Paper.{stateOf, stateWith}
-use Rattle.record_words.specs.Words.{isRecord, recordIn, startIf}
+use Rattle.record_words.specs.Words.{recordIn, startOn}
 use Rattle.training_form.specs.Training.{seatResume, seatResumeFrom, seatStart, seatStartFrom}
 
 unfoldable pub seatResumeWords : ℕ → List ℕ → Input → List ℕ → List ℕ → Outcome State
@@ -16,8 +16,8 @@ seatResumeFromWords budget lower words i stack list second = seatResumeFrom budg
 
 -- a start cannot write its record into another number of words: it then answers as a continuing call does, with the first of 1, 2, 23, 3, 4 and 5 that is due, or with 6
 unfoldable pub seatStartWords : List ℕ → Input → List ℕ → List ℕ → Outcome State
-seatStartWords words i stack list = startIf (isRecord words) (seatStart i (stateOf stack list (recordIn words))) (seatResumeWords 0 words i stack list)
+seatStartWords words i stack list = startOn words (seatStart i (stateOf stack list (recordIn words))) (seatResumeWords 0 words i stack list)
 
 unfoldable pub seatStartFromWords : List ℕ → List ℕ → Input → List ℕ → List ℕ → List ℕ → Outcome State
 seatStartFromWords lower words i stack list second =
-    startIf (isRecord words) (seatStartFrom lower i (stateWith stack list second (recordIn words))) (seatResumeFromWords 0 lower words i stack list second)
+    startOn words (seatStartFrom lower i (stateWith stack list second (recordIn words))) (seatResumeFromWords 0 lower words i stack list second)

@@ -2,70 +2,34 @@
 use mathlib.Core.Path.{_∙_}
 use borrow.Author.Needs.{needs}
 use Rattle.record_words.specs.CodeLaws.{answer-fits, start-fits}
-use Rattle.record_words.specs.WordLaws.{call-told, start-fitting, told-misfit}
+use Rattle.record_words.specs.WordLaws.{begun-fitting, call-told, told-misfit}
+use Rattle.record_words.specs.Words.{startWords, told}
 use Rattle.call_words.proofs.start.Statement.{statement}
 use Rattle.call_words.proofs.start.Tie as tie
-
-read-requires : tie.Need-read-requires
-read-requires c κs = search needs
-
-started-requires : tie.Need-started-requires
-started-requires c κs = search needs
 
 tell-requires : tie.Need-tell-requires
 tell-requires c κs =
     let w = c .before .before .before .before .before in
-    answer-fits (w .started .result) (w .started .ensures) (start-fits _ _)
-
-same-length : tie.Need-same-length
-same-length c = search needs
-
-same-length-2 : tie.Need-same-length-2
-same-length-2 c = search needs
-
-same-length-3 : tie.Need-same-length-3
-same-length-3 c = search needs
+    answer-fits (w .started .ensures) (start-fits _ _)
 
 returns : tie.Need-returns
+unfolding startWords
 returns c =
     let t = c .before .before in
     let w = t .before .before .before .before .before .before in
     let r = w .before .before .before in
-    call-told _ (w .started .result)
-    (rw (r .read .ensures) at (w .started .ensures) ∙ start-fitting _ _ _ _ (r .before .before .if1 .taken))
+    call-told _ (rw (r .read .ensures) at (w .started .ensures) ∙ begun-fitting _ _ _ (r .before .before .if1 .taken))
     (t .tell .ensures .0)
     (t .tell .ensures .1)
 
-resume-requires : tie.Need-resume-requires
-resume-requires c κs = search needs
-
-same-length-4 : tie.Need-same-length-4
-same-length-4 c = search needs
-
-same-length-5 : tie.Need-same-length-5
-same-length-5 c = search needs
-
-same-length-6 : tie.Need-same-length-6
-same-length-6 c = search needs
-
 returns-2 : tie.Need-returns-2
+unfolding startWords
 returns-2 c =
     let w = c .before .before .before .before .before .before in
-    told-misfit _ _ _ _ (w .resume .ensures) (w .before .before .before .before .if1 .left)
+    told-misfit _ _ _ (told _) (w .resume .ensures) (w .before .before .before .before .if1 .left)
 
 pub start-spec : {M : Type 1} → statement M
 start-spec =
     tie.close
-    (tie.spec
-    read-requires
-    started-requires
-    tell-requires
-    same-length
-    same-length-2
-    same-length-3
-    returns
-    resume-requires
-    same-length-4
-    same-length-5
-    same-length-6
-    returns-2)
+    (tie.spec (λ c κs. search needs) (λ c κs. search needs) tell-requires (λ c. search needs) (λ c. search needs) (λ c. search needs) returns
+    (λ c κs. search needs) (λ c. search needs) (λ c. search needs) (λ c. search needs) returns-2)

@@ -7,41 +7,19 @@ use Rattle.record_words.specs.WordLaws.{call-told}
 use Rattle.single_words.proofs.resume.Statement.{statement}
 use Rattle.single_words.proofs.resume.Tie as tie
 
-read-requires : tie.Need-read-requires
-read-requires c κs = search needs
-
-resumed-requires : tie.Need-resumed-requires
-resumed-requires c κs = search needs
-
 tell-requires : tie.Need-tell-requires
 tell-requires c κs =
     let w = c .before .before .before .before .before in
-    answer-fits (w .resumed .result) (w .resumed .ensures) (single-resume-fits _ _ _)
-
-same-length : tie.Need-same-length
-same-length c = search needs
-
-same-length-2 : tie.Need-same-length-2
-same-length-2 c = search needs
-
-same-length-3 : tie.Need-same-length-3
-same-length-3 c = search needs
+    answer-fits (w .resumed .ensures) (single-resume-fits _ _ _)
 
 returns : tie.Need-returns
 unfolding singleResumeWords
 returns c =
     let t = c .before .before in
     let w = t .before .before .before .before .before .before in
-    call-told _ (w .resumed .result) (rw (w .before .before .before .read .ensures) at (w .resumed .ensures)) (t .tell .ensures .0) (t .tell .ensures .1)
+    call-told _ (rw (w .before .before .before .read .ensures) at (w .resumed .ensures)) (t .tell .ensures .0) (t .tell .ensures .1)
 
 pub resume-spec : {M : Type 1} → statement M
 resume-spec =
     tie.close
-    (tie.spec
-    read-requires
-    resumed-requires
-    tell-requires
-    same-length
-    same-length-2
-    same-length-3
-    returns)
+    (tie.spec (λ c κs. search needs) (λ c κs. search needs) tell-requires (λ c. search needs) (λ c. search needs) (λ c. search needs) returns)
