@@ -1,71 +1,41 @@
 -- A number of 64 bits holds each answer, as a place is one of at most 128 coefficients. Assumes nothing.
-use Prim.Native.Nat.{ℕ, zero, suc, _*_, _^_, _≤_, _<_}
-use mathlib.Core.Bool.{Bool, true, false, not, cond}
-use mathlib.Core.List.{List, [], _∷_}
-use mathlib.Core.Logic.{inl, inr}
-use mathlib.Core.Path.{_≡_, refl, subst}
+use Prim.Native.Nat.{ℕ, zero, suc, _*_, _≤_, _<_}
+use mathlib.Core.Bool.{Bool, true, false, cond}
+use mathlib.Core.List.{List}
+use mathlib.Core.Path.{_≡_}
 use native.Mathlib.Nat.{mul-le-mul}
+use native.Mathlib.Decide.{ℕ-discrete}
 use native.Mathlib.Omega.{arith}
-use lib.Dec.{T, eqb, leb, ltb, eqb→eq, leb→le}
+use borrow.Author.Tests.{ne-eqb}
+use lib.Dec.{eqb, ltb}
 use lib.IntN.{ℤ}
 use lib.ListN.{length}
-use Rattle.linear.specs.TestLaws.{and-parts}
-use Rattle.definitions.specs.Answers.{Answer, Check, refuse, go, refuseWith, refuseIf, refuseFirst, _then_}
+use Rattle.definitions.specs.Answers.{Check, refuse, go, refuseWith, _then_}
 use Rattle.definitions.specs.Input.{Input, inputOf}
-use Rattle.definitions.specs.Refusals.{between, check1, check2, check3, check7, stepLimit}
+use Rattle.definitions.specs.Refusals.{check1, check2, check3, check7, stepLimit}
 use Rattle.definitions.specs.System.{mostEquations, mostUnknowns}
-use Rattle.laws.specs.AnswerLaws.{refuse-if-go}
+use Rattle.laws.specs.CheckLaws.{refuse-not-go}
+use Rattle.record_words.specs.CodeLaws.{Fits, Small, small-first, small-if, small-then, within}
 use Rattle.pairs_form.specs.Calls as calls
 use Rattle.pairs_form.specs.Method as method
 use Rattle.pairs_form.specs.Method.{Outcome, Work, goes, stops}
 use Rattle.pair_calls.specs.Records.{answerOf, outcomeOf}
 use Rattle.pair_calls.specs.declared.Outcome as values
-use Rattle.pair_words.specs.Words.{code, refusalCode, resumeWords, startIf, startWords}
-
-abbrev pub Fits : Answer → Type 0
-Fits a = code a < 2 ^ 64
 
 -- ---- checks
-
-abbrev pub Small : Check → Type 0
-Small (refuse n values) = refusalCode n values < 2 ^ 64
-Small go = Unit
-
-small-with : (b : Bool) (n : ℕ) (values : List ℕ) → refusalCode n values < 2 ^ 64 → Small (refuseWith b n values)
-unfolding refuseWith
-small-with true n values h = h
-small-with false n values h = tt
-
-small-then : (c d : Check) → Small c → (c ≡ go → Small d) → Small (c then d)
-unfolding _then_
-small-then (refuse n values) d a b = a
-small-then go d a b = b refl
-
-small-first : (n k : ℕ) (f : ℕ → Bool) → n < 256 → k ≤ 128 → Small (refuseFirst n k f)
-unfolding refuseFirst
-small-first n zero f h l = tt
-small-first n (suc k) f h l =
-    small-then (refuseFirst n k f) (refuseWith (f k) n (suc k ∷ [])) (small-first n k f h (omega arith)) (λ _. small-with (f k) n (suc k ∷ []) (omega arith))
-
-small-if : (b : Bool) (n : ℕ) → n < 256 → Small (refuseIf b n)
-small-if b n h = small-with b n [] (omega arith)
-
-not-false : (b : Bool) → not b ≡ false → T b
-not-false true e = tt
-not-false false e = subst T e tt
-
-within : (b n r : ℕ) → refuseIf (not (between 1 b n)) r ≡ go → n ≤ b
-within b n r e = leb→le n b (and-parts (leb 1 n) (leb n b) (not-false (between 1 b n) (refuse-if-go (not (between 1 b n)) r e)) .1)
 
 module _ (p q : ℕ) (coefs : List ℤ) (room : ℕ) where
   abbrev map : Input
   map = inputOf p q coefs
 
   few : check1 map ≡ go → check2 map ≡ go → check3 map ≡ go → length coefs ≤ 128
+  unfolding refuseWith
   few a b c =
-      let counted : Bool = eqb (length coefs) (p * q) in
-      let same : length coefs ≡ p * q = eqb→eq (length coefs) (p * q) (not-false counted (refuse-if-go (not counted) 3 c)) in
-      omega (arith, same, mul-le-mul (within mostEquations p 1 a) (within mostUnknowns q 2 b))
+      let bounds : p * q ≤ mostEquations * mostUnknowns = mul-le-mul (within 1 mostEquations p 1 a) (within 1 mostUnknowns q 2 b) in
+      elim (ℕ-discrete (length coefs) (p * q)) [
+        | yes same ↦ omega (arith, same, bounds)
+        | no ne ↦ absurd (refuse-not-go (rw (ne-eqb (length coefs) (p * q) ne) at c))
+      ]
 
   small-shape : (d : Check) → (length coefs ≤ 128 → Small d) → Small (calls.shapeThen map room d)
   small-shape d h =

@@ -9,11 +9,12 @@ use native.Mathlib.Omega.{arith}
 use borrow.Author.Tests.{eq-eqb, le-ltb, lt-ltb, ne-eqb}
 use lib.Dec.{T, eqb, ltb}
 use lib.IntN.{ℤ}
-use lib.ListN.{length, getD, set}
-use Rattle.definitions.specs.Answers.{Check, refuse, go, refuseIf, refuseWith, _then_}
+use lib.ListN.{length, getD}
+use Rattle.definitions.specs.Answers.{Check, refuse, refuseWith, _then_}
 use Rattle.definitions.specs.Input.{Input, inputOf}
 use Rattle.definitions.specs.Refusals.{check1, check2, check3, check7}
 use Rattle.laws.specs.AnswerLaws.{then-go}
+use Rattle.laws.specs.CheckLaws.{refuse-not-go}
 use Rattle.calls.specs.Paper.{checkOf, numberOf, valuesOf}
 use Rattle.calls.specs.declared.Check as values-check
 use Rattle.calls.specs.declared.Check.the-variants.{Refuse, Pass}
@@ -22,11 +23,14 @@ use Rattle.pairs_form.specs.Calls as calls
 use Rattle.pairs_form.specs.Method as method
 use Rattle.pairs_form.specs.Rules.{order-from}
 use Rattle.pairs_form.specs.Method.{Outcome, Work}
-use Rattle.pair_calls.specs.Records.{answerOf, call-refused, outcomeOf, passes, progressOf, workOf}
+use Rattle.pair_calls.specs.Records.{answerOf, call-refused, outcomeOf, passes, workOf}
 use Rattle.pair_calls.specs.declared.Outcome as values
 use Rattle.pair_calls.specs.declared.Progress.{Progress}
-use Rattle.pair_words.specs.CodeLaws.{Small, small-resume}
-use Rattle.pair_words.specs.Words.{code, isRecord, progressIf, progressIn, refusalCode, resumeWords, startIf, startWords, told, wordsIf, wordsLeft}
+use Rattle.record_words.specs.CodeLaws.{Small}
+use Rattle.record_words.specs.Codes.{code, refusalCode}
+use Rattle.record_words.specs.WordLaws.{then-same}
+use Rattle.pair_words.specs.CodeLaws.{small-resume}
+use Rattle.pair_words.specs.Words.{isRecord, progressIf, progressIn, resumeWords, startWords, told, wordsIf, wordsLeft}
 
 -- ---- which words are a record
 
@@ -92,19 +96,7 @@ no-T : (b : Bool) → (T b → ⊥) → b ≡ false
 no-T true h = absurd (h tt)
 no-T false h = refl
 
-abbrev Refused : Check → Type 0
-Refused (refuse n values) = Unit {0}
-Refused go = ⊥
-
-refused-goes : {n : ℕ} {values : List ℕ} → refuse n values ≡ go → ⊥
-refused-goes e = subst Refused e tt
-
 -- ---- other words: "6: run record or tables out of order"
-
-then-same : (c d e : Check) → (c ≡ go → d ≡ e) → c then d ≡ c then e
-unfolding _then_
-then-same (refuse n values) d e h = refl
-then-same go d e h = h refl
 
 module _ (p q : ℕ) (coefs : List ℤ) (room : ℕ) (table words : List ℕ) (other : isRecord words ≡ false) where
   abbrev lent : Work
@@ -140,7 +132,7 @@ module _ (p q : ℕ) (coefs : List ℤ) (room : ℕ) (table words : List ℕ) (o
     misfit-never-passes h =
         let a = sym misfit-checks ∙ passes e h in
         let b = then-go _ _ (then-go _ _ (then-go _ _ a .1) .1) .1 in
-        refused-goes (then-go _ _ b .1)
+        refuse-not-go (then-go _ _ b .1)
 
     module _ {why : Refusal} (h : k ≡ Refuse why) where
       pub misfit-fits : refusalCode (numberOf why) (valuesOf why) < 2 ^ 64

@@ -1,30 +1,16 @@
 -- The calls that list by sums of pairs as callers in other languages have them (include/dezgula_pairs.h): the record as words of 64 bits, the answer as one
--- number. Assumes nothing.
-use Prim.Native.Nat.{ℕ, _+_, _*_, _^_}
-use mathlib.Core.Bool.{Bool, true, false, _&&_}
+-- number (`Codes` of record_words). Assumes nothing.
+use Prim.Native.Nat.{ℕ, _^_}
+use mathlib.Core.Bool.{Bool, true, false, _&&_, cond}
 use mathlib.Core.List.{List}
 use lib.Dec.{eqb, ltb}
 use lib.IntN.{ℤ}
 use lib.ListN.{length, getD, set}
-use Rattle.definitions.specs.Answers.{Answer, complete, paused, refused, started}
-use Rattle.calls.specs.Paper.{value}
+use Rattle.record_words.specs.Codes.{code}
 use Rattle.pairs_form.specs.Calls as calls
 use Rattle.pairs_form.specs.Method.{Outcome, Work}
 use Rattle.pair_calls.specs.Records.{progressOf, workOf}
 use Rattle.pair_calls.specs.declared.Progress.{Progress}
-
--- ---- answers
-
--- the number of a refusal in the low 8 bits, and its value above them
-abbrev pub refusalCode : ℕ → List ℕ → ℕ
-refusalCode n values = n + 256 * value values
-
--- three answers are no refusals, and have numbers of their own
-abbrev pub code : Answer → ℕ
-code complete = 0
-code started = 100
-code paused = 101
-code (refused n values) = refusalCode n values
 
 -- ---- the record
 
@@ -58,12 +44,8 @@ told words o = (code (o .answer), (o .work .table, wordsLeft words (o .work)))
 unfoldable pub resumeWords : (p q : ℕ) (coefs : List ℤ) (room budget : ℕ) (table words : List ℕ) → Outcome
 resumeWords p q coefs room budget table words = calls.resume p q coefs room budget (workOf table (progressIn words))
 
-abbrev pub startIf : Bool → Outcome → Outcome → Outcome
-startIf true begun misfit = begun
-startIf false begun misfit = misfit
-
 -- A start looks at no old content, but it cannot write its record into other words: it then answers as a continuing call does, with the first of 1 to 4
 -- that is due, or with 6 (`misfit-checks` in WordLaws).
 unfoldable pub startWords : (p q : ℕ) (coefs : List ℤ) (room : ℕ) (table words : List ℕ) → Outcome
 startWords p q coefs room table words =
-    startIf (isRecord words) (calls.start p q coefs room (workOf table (progressIn words))) (resumeWords p q coefs room 0 table words)
+    cond (isRecord words) (calls.start p q coefs room (workOf table (progressIn words))) (resumeWords p q coefs room 0 table words)

@@ -7,7 +7,8 @@ ghost use Rattle.pair_calls.specs.Records.{answerOf, workOf};
 ghost use Rattle.pairs_form.specs.Calls.{roomFor};
 ghost use Rattle.pair_calls.specs.declared.Outcome.{Outcome as Left};
 ghost use Rattle.pair_lists.specs.Calling.{ResumeLeft, roomOf};
-ghost use Rattle.pair_words.specs.Words.{code, isRecord, progressIn, resumeWords, startWords, told, wordsLeft};
+ghost use Rattle.record_words.specs.Codes.{code};
+ghost use Rattle.pair_words.specs.Words.{isRecord, progressIn, resumeWords, startWords, told, wordsLeft};
 ghost use mathlib.Core.List.{[]};
 use calls::Check;
 use pair_calls::Outcome;
@@ -78,7 +79,7 @@ fn misfit(
 {
     let r = words::read(run);
     match pair_checks::check_resume(p, q, coefs, table, supports, values, r) {
-        Check::Refuse(why) => answers::refusal(why),
+        Check::Refuse(why) => record_words::answers::refusal(why),
         Check::Pass => 6,
     }
 }

@@ -4,22 +4,10 @@ use Rattle.pair_words.specs.WordLaws.{misfit-fits, misfit-never-passes, 
 use Rattle.pair_words.proofs.misfit.Statement.{statement}
 use Rattle.pair_words.proofs.misfit.Tie as tie
 
-read-requires : tie.Need-read-requires
-read-requires c κs = search needs
-
-check-resume-requires : tie.Need-check-resume-requires
-check-resume-requires c κs = search needs
-
-enum-known-why : tie.Need-enum-known-why
-enum-known-why c = search needs
-
 refusal-requires : tie.Need-refusal-requires
 refusal-requires c κs =
     let k = c .before .before .before in
     misfit-fits _ _ _ _ _ _ (k .before .before .before .before .pre) (rw (k .before .read .ensures) at (k .check-resume .ensures)) (c .before .why .given .1)
-
-enum-told : tie.Need-enum-told
-enum-told c = search needs
 
 returns : tie.Need-returns
 returns c =
@@ -36,11 +24,4 @@ returns-2 c =
 pub misfit-spec : {M : Type 1} → statement M
 misfit-spec =
     tie.close
-    (tie.spec
-    read-requires
-    check-resume-requires
-    enum-known-why
-    refusal-requires
-    enum-told
-    returns
-    returns-2)
+    (tie.spec (λ c κs. search needs) (λ c κs. search needs) (λ c. search needs) refusal-requires (λ c. search needs) returns returns-2)

@@ -6,28 +6,10 @@ use Rattle.pair_words.specs.Words.{resumeWords}
 use Rattle.pair_words.proofs.resume.Statement.{statement}
 use Rattle.pair_words.proofs.resume.Tie as tie
 
-read-requires : tie.Need-read-requires
-read-requires c κs = search needs
-
-resume-requires : tie.Need-resume-requires
-resume-requires c κs = search needs
-
 tell-requires : tie.Need-tell-requires
 tell-requires c κs =
     let k = c .before .before .before .before .before .before in
     answer-fits (k .resume .result) (k .resume .ensures .outcome) (resume-fits _ _ _ _ _ _)
-
-same-length : tie.Need-same-length
-same-length c = search needs
-
-same-length-2 : tie.Need-same-length-2
-same-length-2 c = search needs
-
-same-length-3 : tie.Need-same-length-3
-same-length-3 c = search needs
-
-same-length-4 : tie.Need-same-length-4
-same-length-4 c = search needs
 
 returns : tie.Need-returns
 unfolding resumeWords
@@ -40,12 +22,5 @@ returns c =
 pub resume-spec : {M : Type 1} → statement M
 resume-spec =
     tie.close
-    (tie.spec
-    read-requires
-    resume-requires
-    tell-requires
-    same-length
-    same-length-2
-    same-length-3
-    same-length-4
+    (tie.spec (λ c κs. search needs) (λ c κs. search needs) tell-requires (λ c. search needs) (λ c. search needs) (λ c. search needs) (λ c. search needs)
     returns)

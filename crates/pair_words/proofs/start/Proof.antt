@@ -7,23 +7,8 @@ use Rattle.pair_words.specs.Words.{told}
 use Rattle.pair_words.proofs.start.Statement.{statement}
 use Rattle.pair_words.proofs.start.Tie as tie
 
-fits-requires : tie.Need-fits-requires
-fits-requires c κs = search needs
-
-read-requires : tie.Need-read-requires
-read-requires c κs = search needs
-
-start-requires : tie.Need-start-requires
-start-requires c κs = search needs
-
 tell-requires : tie.Need-tell-requires
 tell-requires c κs = answer-fits (c .before .before .before .start .result) (c .before .before .before .start .ensures) (start-fits _ _ _ _ _)
-
-same-length : tie.Need-same-length
-same-length c = search needs
-
-same-length-2 : tie.Need-same-length-2
-same-length-2 c = search needs
 
 returns : tie.Need-returns
 returns c =
@@ -37,12 +22,6 @@ returns c =
 misfit-requires : tie.Need-misfit-requires
 misfit-requires c κs = sym (c .before .before .before .fits2 .ensures) ∙ c .before .before .if1 .left
 
-same-length-3 : tie.Need-same-length-3
-same-length-3 c = search needs
-
-same-length-4 : tie.Need-same-length-4
-same-length-4 c = search needs
-
 returns-2 : tie.Need-returns-2
 returns-2 c =
     let i = c .before .before .before in
@@ -51,15 +30,5 @@ returns-2 c =
 pub start-spec : {M : Type 1} → statement M
 start-spec =
     tie.close
-    (tie.spec
-    fits-requires
-    read-requires
-    start-requires
-    tell-requires
-    same-length
-    same-length-2
-    returns
-    misfit-requires
-    same-length-3
-    same-length-4
-    returns-2)
+    (tie.spec (λ c κs. search needs) (λ c κs. search needs) (λ c κs. search needs) tell-requires (λ c. search needs) (λ c. search needs) returns
+    misfit-requires (λ c. search needs) (λ c. search needs) returns-2)
