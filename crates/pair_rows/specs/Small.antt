@@ -15,10 +15,6 @@ use Rattle.linear.specs.Systems.{inner}
 use Rattle.linear.specs.SystemLaws.{inner-next, inner-bound}
 use Rattle.definitions.specs.System.{coefLimit, mostComponent, isZero, mostUnknowns}
 
--- the tuple that an array holds
-abbrev pub tuple : List ℕ → ℕ → ℕ
-tuple t j = getD t j 0
-
 -- the row that stands in a table from place base
 pub record SmallRow (q : ℕ) (table : List ℕ) (base : ℕ) : Type 0 where
   pub whole : base + q ≤ length table

@@ -11,7 +11,7 @@ ghost use Rattle.definitions.specs.Tables.{at, writeTo};
 ghost use Rattle.pair_rows.specs.Small.{SmallRow};
 ghost use Rattle.pairs_form.specs.Method.{isSmall};
 ghost use Rattle.pair_rows.specs.Valuing.{Added, rowAt};
-ghost use Rattle.pair_rows.specs.Small.{tuple};
+ghost use Rattle.lists.specs.Rows.{tuple};
 ghost use Rattle.pair_rows.specs.Reducing.{Searched, integerAt, reducibleBy};
 
 // Whether one of the first n rows is at or below z, whose support is handed over, and has a value from `lo` to `hi`.
@@ -128,11 +128,7 @@ pub fn write(table: &mut [u32], base: usize, q: usize, z: &[u32; 16])
     requires { ⌜ (q ≤ 16) × (base + q ≤ length (now table)) ⌝ }
     ensures { λ _. ⌜ now (table .exit) ≡ writeTo q (now (table .entry)) base (tuple (now (z .entry))) ⌝ }
 {
-    let mut j = 0;
-    while j < q {
-        table[base + j] = z[j];
-        j += 1;
-    }
+    lists::rows::write(table, base, q, z);
 }
 
 // Copies the row that stands from place `from` to an earlier place.

@@ -4,7 +4,7 @@ ghost use Prim.Native.Nat.{_+_, _*_, _^_, _≤_, _<_};
 ghost use lib.Dec.{ltb};
 ghost use lib.ListN.{length};
 ghost use Rattle.linear.specs.Tests.{number};
-ghost use Rattle.pair_rows.specs.Small.{tuple};
+ghost use Rattle.lists.specs.Rows.{tuple};
 ghost use Rattle.pair_rows.specs.Supporting.{Supported, supportOf};
 ghost use Rattle.pair_rows.specs.Valuing.{rowAt};
 

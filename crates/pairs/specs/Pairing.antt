@@ -24,7 +24,8 @@ use Rattle.definitions.specs.Tables.{at, writeTo}
 use Rattle.laws.specs.TableLaws.{row-fits, write-length, write-same}
 use Rattle.pairs_form.specs.Method as method
 use Rattle.pairs_form.specs.MethodLaws.{append-kept, append-new, small-from}
-use Rattle.pair_rows.specs.Small.{SmallRow, tuple, valueLimit}
+use Rattle.lists.specs.Rows.{tuple}
+use Rattle.pair_rows.specs.Small.{SmallRow, valueLimit}
 use Rattle.pair_rows.specs.Supporting.{Supported, holds, marks-same, supportOf, supported-more}
 use Rattle.pair_rows.specs.Reducing.{integerAt, reducibleBy, reducible-by}
 use Rattle.pair_calls.specs.Records.{progressOf, workOf}

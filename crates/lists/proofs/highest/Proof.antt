@@ -34,12 +34,6 @@ Inv-rows list found w t first verdict₀ rest₀ verdict rest = (verdict ≡ Now
 abbrev μ-rows : tie.MeasureT-rows
 μ-rows list found w t first verdict₀ rest₀ verdict rest = rest
 
-shared-slice-read-first : tie.Need-shared-slice-read-first Inv-loop μ-loop Inv-rows μ-rows
-shared-slice-read-first c = search needs
-
-mul-rest : tie.Need-mul-rest Inv-loop μ-loop Inv-rows μ-rows
-mul-rest c = search needs
-
 rows-holds : tie.Need-rows-holds Inv-loop μ-loop Inv-rows μ-rows
 rows-holds c = (refl, left-all leb _ _ _ _)
 
@@ -54,21 +48,6 @@ loop-holds c = (search needs, omega (arith, left-fits _ _ _ _ _ (c .before .rows
 component : (c : tie.Joined1 Inv-loop μ-loop Inv-rows μ-rows) → c .if1 .x ≡ tuple (now (c .before .before .before .before .before .before .args .t)) (c .before .before .loop .j)
 component c = elim (c .if1 .came) [ inl (i, e) ↦ rw (i .taken) e | inr (i, k, e) ↦ e ]
 
-mul-x : tie.Need-mul-x Inv-loop μ-loop Inv-rows μ-rows
-mul-x c = search needs
-
-shared-slice-read-x : tie.Need-shared-slice-read-x Inv-loop μ-loop Inv-rows μ-rows
-shared-slice-read-x c = search needs
-
-add-if2 : tie.Need-add-if2 Inv-loop μ-loop Inv-rows μ-rows
-add-if2 c = search needs
-
-mul-if2 : tie.Need-mul-if2 Inv-loop μ-loop Inv-rows μ-rows
-mul-if2 c = search needs
-
-shared-slice-read-if2 : tie.Need-shared-slice-read-if2 Inv-loop μ-loop Inv-rows μ-rows
-shared-slice-read-if2 c = search needs
-
 rows-less : tie.Need-rows-less Inv-loop μ-loop Inv-rows μ-rows
 rows-less c =
     let r = c .before .before .before .before .before in
@@ -82,12 +61,6 @@ rows-again c =
     let a = r .before in
     (a .rows .inv .0, left-next _ _ _ _ _ (a .rows .inv .1) (omega (arith, r .rows-test .taken)) _ (l .loop-test .taken) (lt-leb _ _ (rw (component b) at (c .if2 .taken))))
 
-add-j : tie.Need-add-j Inv-loop μ-loop Inv-rows μ-rows
-add-j c = search needs
-
-loop-less : tie.Need-loop-less Inv-loop μ-loop Inv-rows μ-rows
-loop-less c = search needs
-
 loop-again : tie.Need-loop-again Inv-loop μ-loop Inv-rows μ-rows
 loop-again c =
     let b = c .before .before in
@@ -98,9 +71,6 @@ unfolding highest isAtOrBelow
 returns c =
     let a = c .before in
     ap placeOf (a .rows .inv .0) ∙ left-none _ _ _ _ _ (a .rows .inv .1) (a .before .before .pre .0) (c .rows-test .left)
-
-div-place : tie.Need-div-place Inv-loop μ-loop Inv-rows μ-rows
-div-place c = search needs
 
 add-place : tie.Need-add-place Inv-loop μ-loop Inv-rows μ-rows
 add-place c =
@@ -118,27 +88,6 @@ returns-2 c =
 pub highest-spec : {M : Type 1} → statement M
 highest-spec =
     tie.close
-    (tie.spec
-    Inv-loop
-    μ-loop
-    Inv-rows
-    μ-rows
-    shared-slice-read-first
-    mul-rest
-    rows-holds
-    sub-rest
-    loop-holds
-    mul-x
-    shared-slice-read-x
-    add-if2
-    mul-if2
-    shared-slice-read-if2
-    rows-less
-    rows-again
-    add-j
-    loop-less
-    loop-again
-    div-place
-    add-place
-    returns
-    returns-2)
+    (tie.spec Inv-loop μ-loop Inv-rows μ-rows (λ c. search needs) (λ c. search needs) rows-holds sub-rest loop-holds (λ c. search needs)
+    (λ c. search needs) (λ c. search needs) (λ c. search needs) (λ c. search needs) rows-less rows-again (λ c. search needs) (λ c. search needs) loop-again
+    (λ c. search needs) add-place returns returns-2)

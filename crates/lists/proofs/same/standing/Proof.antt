@@ -31,9 +31,6 @@ Inv-rows list found w t verdict₀ rest₀ verdict rest = (verdict ≡ Nowhere) 
 abbrev μ-rows : tie.MeasureT-rows
 μ-rows list found w t verdict₀ rest₀ verdict rest = rest
 
-mul-rest : tie.Need-mul-rest Inv-loop μ-loop Inv-rows μ-rows
-mul-rest c = search needs
-
 rows-holds : tie.Need-rows-holds Inv-loop μ-loop Inv-rows μ-rows
 rows-holds c = (refl, left-all eqb _ _ _ _)
 
@@ -43,21 +40,6 @@ sub-rest c = left-long _ _ _ _ _ (c .before .rows .inv .1) (c .rows-test .taken)
 loop-holds : tie.Need-loop-holds Inv-loop μ-loop Inv-rows μ-rows
 unfolding allTo
 loop-holds c = (search needs, omega (arith, left-fits _ _ _ _ _ (c .before .rows .inv .1) (c .rows-test .taken)), refl)
-
-add-if1 : tie.Need-add-if1 Inv-loop μ-loop Inv-rows μ-rows
-add-if1 c = search needs
-
-mul-if1 : tie.Need-mul-if1 Inv-loop μ-loop Inv-rows μ-rows
-mul-if1 c = search needs
-
-shared-slice-read-if1 : tie.Need-shared-slice-read-if1 Inv-loop μ-loop Inv-rows μ-rows
-shared-slice-read-if1 c = search needs
-
-mul-if1-2 : tie.Need-mul-if1-2 Inv-loop μ-loop Inv-rows μ-rows
-mul-if1-2 c = search needs
-
-shared-slice-read-if1-2 : tie.Need-shared-slice-read-if1-2 Inv-loop μ-loop Inv-rows μ-rows
-shared-slice-read-if1-2 c = search needs
 
 rows-less : tie.Need-rows-less Inv-loop μ-loop Inv-rows μ-rows
 rows-less c =
@@ -71,19 +53,10 @@ rows-again c =
     let a = r .before in
     (a .rows .inv .0, left-next _ _ _ _ _ (a .rows .inv .1) (r .rows-test .taken) _ (l .loop-test .taken) (ne-eqb _ _ (c .if1 .taken)))
 
-add-j : tie.Need-add-j Inv-loop μ-loop Inv-rows μ-rows
-add-j c = search needs
-
-loop-less : tie.Need-loop-less Inv-loop μ-loop Inv-rows μ-rows
-loop-less c = search needs
-
 loop-again : tie.Need-loop-again Inv-loop μ-loop Inv-rows μ-rows
 loop-again c =
     let l = c .before .before .before .before in
     (search needs, search needs, all-next _ _ (l .loop .inv .2) (eq-eqb _ _ (c .if1 .left)))
-
-div-place : tie.Need-div-place Inv-loop μ-loop Inv-rows μ-rows
-div-place c = search needs
 
 add-place : tie.Need-add-place Inv-loop μ-loop Inv-rows μ-rows
 add-place c =
@@ -107,26 +80,6 @@ returns-2 c =
 pub standing-spec : {M : Type 1} → statement M
 standing-spec =
     tie.close
-    (tie.spec
-    Inv-loop
-    μ-loop
-    Inv-rows
-    μ-rows
-    mul-rest
-    rows-holds
-    sub-rest
-    loop-holds
-    add-if1
-    mul-if1
-    shared-slice-read-if1
-    mul-if1-2
-    shared-slice-read-if1-2
-    rows-less
-    rows-again
-    add-j
-    loop-less
-    loop-again
-    div-place
-    add-place
-    returns
-    returns-2)
+    (tie.spec Inv-loop μ-loop Inv-rows μ-rows (λ c. search needs) rows-holds sub-rest loop-holds (λ c. search needs) (λ c. search needs)
+    (λ c. search needs) (λ c. search needs) (λ c. search needs) rows-less rows-again (λ c. search needs) (λ c. search needs) loop-again (λ c. search needs)
+    add-place returns returns-2)

@@ -18,7 +18,7 @@ use Rattle.linear.specs.Tests.{allTo}
 use Rattle.definitions.specs.Tables.{at}
 use Rattle.laws.specs.TableLaws.{row-fits}
 use Rattle.pair_rows.specs.Reducing.{found-row, integerAt, none-below, none-yet, passed-component, passed-support, passed-value, reducibleBy}
-use Rattle.pair_rows.specs.Small.{tuple}
+use Rattle.lists.specs.Rows.{tuple}
 use Rattle.pair_rows.proofs.rows.reducible.Statement.{statement}
 use Rattle.pair_rows.proofs.rows.reducible.Tie as tie
 
@@ -37,31 +37,10 @@ abbrev μ-rows : tie.MeasureT-rows
 rows-holds : tie.Need-rows-holds Inv-loop μ-loop Inv-rows μ-rows
 rows-holds c = (search needs, none-yet _ _ _ _ _ _)
 
-add-i : tie.Need-add-i Inv-loop μ-loop Inv-rows μ-rows
-add-i c = search needs
-
-mul-if1 : tie.Need-mul-if1 Inv-loop μ-loop Inv-rows μ-rows
-mul-if1 c = search needs
-
-shared-slice-read-if1 : tie.Need-shared-slice-read-if1 Inv-loop μ-loop Inv-rows μ-rows
-shared-slice-read-if1 c = search needs
-
-rows-less : tie.Need-rows-less Inv-loop μ-loop Inv-rows μ-rows
-rows-less c = search needs
-
 rows-again : tie.Need-rows-again Inv-loop μ-loop Inv-rows μ-rows
 rows-again c =
     let a = c .before .before .before in
     (search needs, passed-support (a .before .before .before .pre) _ _ (a .rows .i) (c .before .before .rows-test .taken) (a .rows .inv .1) (c .if1 .taken))
-
-mul-between : tie.Need-mul-between Inv-loop μ-loop Inv-rows μ-rows
-mul-between c = search needs
-
-shared-slice-copy-out-between : tie.Need-shared-slice-copy-out-between Inv-loop μ-loop Inv-rows μ-rows
-shared-slice-copy-out-between c = search needs
-
-between-requires : tie.Need-between-requires Inv-loop μ-loop Inv-rows μ-rows
-between-requires c κs = search needs
 
 mul-base : tie.Need-mul-base Inv-loop μ-loop Inv-rows μ-rows
 mul-base c =
@@ -75,35 +54,11 @@ loop-holds c =
     let s = a .before .before .before in
     (search needs, omega (arith, s .pre .whole, row-fits (s .args .q) (a .rows .i) (s .args .n) (c .before .before .before .before .before .rows-test .taken)), none-below _)
 
-mul-if3 : tie.Need-mul-if3 Inv-loop μ-loop Inv-rows μ-rows
-mul-if3 c = search needs
-
-element-copy-out-if3 : tie.Need-element-copy-out-if3 Inv-loop μ-loop Inv-rows μ-rows
-element-copy-out-if3 c = search needs
-
-add-if3 : tie.Need-add-if3 Inv-loop μ-loop Inv-rows μ-rows
-add-if3 c = search needs
-
-mul-if3-2 : tie.Need-mul-if3-2 Inv-loop μ-loop Inv-rows μ-rows
-mul-if3-2 c = search needs
-
-shared-slice-read-if3 : tie.Need-shared-slice-read-if3 Inv-loop μ-loop Inv-rows μ-rows
-shared-slice-read-if3 c = search needs
-
-rows-less-2 : tie.Need-rows-less-2 Inv-loop μ-loop Inv-rows μ-rows
-rows-less-2 c = search needs
-
 rows-again-2 : tie.Need-rows-again-2 Inv-loop μ-loop Inv-rows μ-rows
 rows-again-2 c =
     let l = c .before .before .before in
     let a = l .before .before .before .before .before .before .before .before in
     (search needs, passed-component _ _ _ _ _ _ (a .rows .i) (l .before .loop .j) (a .rows .inv .1) (l .loop-test .taken) (lt-leb _ _ (c .if3 .taken)))
-
-add-j : tie.Need-add-j Inv-loop μ-loop Inv-rows μ-rows
-add-j c = search needs
-
-loop-less : tie.Need-loop-less Inv-loop μ-loop Inv-rows μ-rows
-loop-less c = search needs
 
 loop-again : tie.Need-loop-again Inv-loop μ-loop Inv-rows μ-rows
 loop-again c = let l = c .before .before .before .before in (search needs, search needs, all-next _ _ (l .loop .inv .2) (le-leb _ _ (c .if3 .left)))
@@ -118,9 +73,6 @@ returns c =
     let fits = rw (known, toZ-ofZ (s .fits .lo), toZ-ofZ (s .fits .hi)) at (sym (t .before .between .ensures) ∙ t .if2 .taken) in
     let all = rw (le-antisymm (l .loop .inv .0) (c .loop-test .left)) at (l .loop .inv .2) in
     sym (found-row _ _ _ _ _ _ (s .args .n) (a .rows .i) (t .before .before .before .before .before .rows-test .taken) fits all)
-
-rows-less-3 : tie.Need-rows-less-3 Inv-loop μ-loop Inv-rows μ-rows
-rows-less-3 c = search needs
 
 rows-again-3 : tie.Need-rows-again-3 Inv-loop μ-loop Inv-rows μ-rows
 rows-again-3 c =
@@ -139,33 +91,7 @@ returns-2 c =
 pub reducible-spec : {M : Type 1} → statement M
 reducible-spec =
     tie.close
-    (tie.spec
-    Inv-loop
-    μ-loop
-    Inv-rows
-    μ-rows
-    rows-holds
-    add-i
-    mul-if1
-    shared-slice-read-if1
-    rows-less
-    rows-again
-    mul-between
-    shared-slice-copy-out-between
-    between-requires
-    mul-base
-    loop-holds
-    mul-if3
-    element-copy-out-if3
-    add-if3
-    mul-if3-2
-    shared-slice-read-if3
-    rows-less-2
-    rows-again-2
-    add-j
-    loop-less
-    loop-again
-    returns
-    rows-less-3
-    rows-again-3
-    returns-2)
+    (tie.spec Inv-loop μ-loop Inv-rows μ-rows rows-holds (λ c. search needs) (λ c. search needs) (λ c. search needs) (λ c. search needs) rows-again
+    (λ c. search needs) (λ c. search needs) (λ c κs. search needs) mul-base loop-holds (λ c. search needs) (λ c. search needs) (λ c. search needs)
+    (λ c. search needs) (λ c. search needs) (λ c. search needs) rows-again-2 (λ c. search needs) (λ c. search needs) loop-again returns (λ c. search needs)
+    rows-again-3 returns-2)

@@ -6,7 +6,7 @@ use native.Mathlib.Omega.{arith}
 use denote.Ref.{now}
 use borrow.Author.Needs.{needs}
 use Rattle.definitions.specs.Step.{marksTo}
-use Rattle.pair_rows.specs.Small.{tuple}
+use Rattle.lists.specs.Rows.{tuple}
 use Rattle.pair_rows.specs.Supporting.{holds, marks-next, marks-next-room}
 use Rattle.pair_rows.proofs.supports.support.Statement.{statement}
 use Rattle.pair_rows.proofs.supports.support.Tie as tie
