@@ -1,5 +1,6 @@
 -- Steps of a walk by hand that are the same in each entry: a function that is lent the run record calls another on a copy of it, and puts the record back.
 --     less, with, values, shared     the parameters that the entries share, as the function called has them, and how they are spelled
+--     found, reads-in, room, cell     a local by its number, and its entry of the context; opened: the borrow of the record, while it is open
 --     stars, takes, puts             a chain of formulas; a formula is taken out of a chain, and put into one, behind the first few
 --     lends                          a slice that was lent is lent on
 --     copies                         the reference to the record is opened, and the record is copied into a local
@@ -50,7 +51,7 @@ use Rattle.calls.proofs.Outcome as Out
 use Rattle.calls.proofs.Outcome.Laws as Out′
 
 -- the machine value of a run record
-abbrev recordVal : Record → Val
+abbrev pub recordVal : Record → Val
 recordVal = LL.val Rec.the-type Rec′.the-laws
 
 -- ---- the parameters that the entries share: p, q, coefs, stack, list and the record, in locals 1 to 6. Others may follow.
@@ -70,6 +71,40 @@ values a vss = (uint-vals w64 (a .0), (uint-vals w64 (a .1 .0), (slice-vals (a .
 abbrev pub shared : {X : Type 0} (κs : Lft × (Lft × (Lft × (Lft × X)))) (Rs : List RattleType) → Spelleds Rs
     → Spelleds (usize ∷ usize ∷ ShrSlice (named 0) (κs .0) i32 ∷ MutSlice (named 1) (κs .1 .0) u32 ∷ MutSlice (named 2) (κs .1 .1 .0) u32 ∷ MutRef (named 3) (κs .1 .1 .1 .0) Rec.the-row ∷ Rs)
 shared κs Rs ss = (number w64, (number w64, (shared-slice (named 0) (κs .0) i32, (lent-slice (named 1) (κs .1 .0) u32, (lent-slice (named 2) (κs .1 .1 .0) u32, (lent (named 3) (κs .1 .1 .1 .0) Rec.the-row, ss))))))
+
+-- ---- those of entries with one slice more: p, q, coefs, three slices and the record, in locals 1 to 7. Others may follow.
+module _ {P Q R S T X : Type 0} where
+  -- without the record's lifetime, which is the fifth
+  abbrev pub less₁ : P × (Q × (R × (S × (T × X)))) → P × (Q × (R × (S × X)))
+  less₁ κs = (κs .0, (κs .1 .0, (κs .1 .1 .0, (κs .1 .1 .1 .0, κs .1 .1 .1 .1 .1))))
+
+  -- with x in the record's place, which is the seventh
+  abbrev pub with₁ : {U Y Y′ : Type 0} → P × (Q × (R × (S × (T × (U × (Y × X)))))) → Y′ → P × (Q × (R × (S × (T × (U × (Y′ × X))))))
+  with₁ a x = (a .0, (a .1 .0, (a .1 .1 .0, (a .1 .1 .1 .0, (a .1 .1 .1 .1 .0, (a .1 .1 .1 .1 .1 .0, (x, a .1 .1 .1 .1 .1 .1 .1)))))))
+
+-- (val: the machine value of a record, which may be one of another kind)
+abbrev pub values₁ : {B C D E R X Y : Type 0} → (R → Val)
+    → ℕ × (ℕ × (RefT (List B) × (RefT (List C) × (RefT (List D) × (RefT (List E) × (RefT R × X)))))) → Y
+    → List Val × (List Val × (List Val × (List Val × (List Val × (List Val × (List Val × Y))))))
+values₁ val a vss = (
+  uint-vals w64 (a .0),
+  (
+    uint-vals w64 (a .1 .0),
+    (
+      slice-vals (a .1 .1 .0),
+      (
+        slice-vals (a .1 .1 .1 .0),
+        (
+          slice-vals (a .1 .1 .1 .1 .0),
+          (
+            slice-vals (a .1 .1 .1 .1 .1 .0),
+            (val (now (a .1 .1 .1 .1 .1 .1 .0)) ∷ [], vss),
+          ),
+        ),
+      ),
+    ),
+  ),
+)
 
 -- ---- those of entries with two lists: p, q, coefs, what comes with the map, stack, list, second and the record, in locals 1 to 8. Others may follow.
 module _ {P Q R S T U X : Type 0} where
@@ -158,14 +193,14 @@ module _ {M : Type 1} {𝓤 : URA M} {H : Heap 𝓤} {A : Atoms 𝓤} {K : Type 
 
 -- ---- statements
 module _ {M : Type 1} {𝓤 : URA M} {H : Heap 𝓤} {A : Atoms 𝓤} {K : Type 0} {W : Given 𝓤 H A} {Γ : List (Item 𝓤)} where
-  found : K → {E : Cells} {i : ℕ} {st : List PStep} {τ : Ty} {b : ℕ} {sp : Spot 𝓤 H} → spotOf 𝓤 H E i ≡ (τ, b, zero) → Walks K W Γ E (τ, b, zero) st sp → Finds K W Γ E (place i st) sp
+  pub found : K → {E : Cells} {i : ℕ} {st : List PStep} {τ : Ty} {b : ℕ} {sp : Spot 𝓤 H} → spotOf 𝓤 H E i ≡ (τ, b, zero) → Walks K W Γ E (τ, b, zero) st sp → Finds K W Γ E (place i st) sp
   found t {E} {st = st} {sp = sp} e w = from t (subst (λ (s : Spot 𝓤 H). Walks K W Γ E s st sp) (sym e) w)
 
-  reads-in : K → (n : ℕ) {i : Item 𝓤} {q : Share} {τ : Ty} {b o : ℕ} {v : Val} {back : Val → Item 𝓤} → nth 𝓤 H A n Γ ≡ i → Part K W i q τ b o v back → Reads K W Γ τ b o v
+  pub reads-in : K → (n : ℕ) {i : Item 𝓤} {q : Share} {τ : Ty} {b o : ℕ} {v : Val} {back : Val → Item 𝓤} → nth 𝓤 H A n Γ ≡ i → Part K W i q τ b o v back → Reads K W Γ τ b o v
   reads-in t n {q = q} {τ} {b} {o} {v} {back} e p = look-in t n (subst (λ (j : Item 𝓤). Part K W j q τ b o v back) (sym e) p)
 
 -- the place i of a list behind its first n
-abbrev behind : ℕ → ℕ → ℕ
+abbrev pub behind : ℕ → ℕ → ℕ
 behind zero i = i
 behind (suc n) i = suc (behind n i)
 
@@ -186,14 +221,14 @@ answerVal = EL.val Ans.the-type Ans′.the-laws
 
 module _ {M : Type 1} {𝓤 : URA M} where
   -- a local's entry of the context: room at the block b, or the value v there
-  abbrev room : Ty → ℕ → Item 𝓤
+  abbrev pub room : Ty → ℕ → Item 𝓤
   room τ b = ‵ (froom τ b zero)
 
-  abbrev cell : Ty → ℕ → Val → Item 𝓤
+  abbrev pub cell : Ty → ℕ → Val → Item 𝓤
   cell τ b v = ‵ (fat fullShare τ b zero v)
 
   -- the borrow of the record, while it is open
-  abbrev opened : Lft → Share → RefT Record → List (Item 𝓤)
+  abbrev pub opened : Lft → Share → RefT Record → List (Item 𝓤)
   opened κ s r =
       ‵ (cellAt fullShare (Rec.the-row .mir) (recordVal (now r) ∷ []) (ptr r .0) (ptr r .1)) ∷ ‵ (fobor κ s (Held (mem Rec.the-row) (ptr r .0) (ptr r .1) (name r)))
       ∷ ‵ (fobs (name r) (Rec.the-row .coded .code (now r))) ∷ ‵ (fauth (name r) (Rec.the-row .coded .code (now r))) ∷ []

@@ -15,8 +15,8 @@ use Rattle.calls.specs.declared.Record.{Record}
 use Rattle.calls.proofs.Record as Rec
 use Rattle.solver.proofs.Frame.{here, ends}
 use Rattle.solver.proofs.Walk.{Met, lent, lent-slice, number, proved, shared-slice}
-use Rattle.solver.proofs.Behind.{copies, lends}
-use Rattle.desk_solver.proofs.Behind.{less, with, values, puts-back}
+use Rattle.solver.proofs.Behind.{copies, lends, less₁, with₁, values₁, recordVal}
+use Rattle.desk_solver.proofs.Behind.{puts-back}
 use Rattle.desks.proofs.resume as resumed
 use Rattle.desks.proofs.resume.Symbol as resumed-def
 use Rattle.desks.proofs.resume.Symbol.{name as #desks·resume}
@@ -50,7 +50,7 @@ resume-spec 𝓤 H 𝓜 𝓖 𝓡 =
     )) (λ κs a t. t)
     (λ fm κs qs a g are leave bs.
     let r : RefT Record = a .1 .1 .1 .1 .1 .1 .0 in
-    let y : callee .Ghost = ((less κs, less qs, tt, with a (now r), values a (uint-vals w64 (a .1 .1 .1 .1 .1 .1 .1 .0), tt)), tt) in
+    let y : callee .Ghost = ((less₁ κs, less₁ qs, tt, with₁ a (now r), values₁ recordVal a (uint-vals w64 (a .1 .1 .1 .1 .1 .1 .1 .0), tt)), tt) in
     lends ! 5 10 11 (are .1 .1 .1 .1 .0 .0 .1 .0) refl refl refl refl refl refl refl refl $
     lends ! 6 12 13 (are .1 .1 .1 .1 .1 .0 .0 .1 .0) refl refl refl refl refl refl refl refl $
     copies 4 6 7 (κs .1 .1 .1 .1 .0) (qs .1 .1 .1 .1 .0) r ! _ _ _ _ 14 refl refl refl refl $
@@ -64,4 +64,4 @@ resume-spec 𝓤 H 𝓜 𝓖 𝓡 =
     (λ w.
     puts-back (κs .1 .1 .1 .1 .0) (qs .1 .1 .1 .1 .0) r ! 4 (resumed.signature .params) (resumed.ended .kept) c y _ _ refl (λ ws. _) (λ ws. _)
     (λ ws. refl) w 9 refl refl refl refl (λ v. refl) (λ v. refl) (λ v. refl) (λ v ws.
-    ends ! tt _ $ by ! (leave _ (v .answer) (with ws (v .run))))))
+    ends ! tt _ $ by ! (leave _ (v .answer) (with₁ ws (v .run))))))

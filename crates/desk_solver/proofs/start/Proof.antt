@@ -15,8 +15,8 @@ use Rattle.calls.specs.declared.Record.{Record}
 use Rattle.calls.proofs.Record as Rec
 use Rattle.solver.proofs.Frame.{here, ends}
 use Rattle.solver.proofs.Walk.{Met, lent, lent-slice, number, proved, shared-slice}
-use Rattle.solver.proofs.Behind.{copies, lends}
-use Rattle.desk_solver.proofs.Behind.{less, with, values, puts-back}
+use Rattle.solver.proofs.Behind.{copies, lends, less₁, with₁, values₁, recordVal}
+use Rattle.desk_solver.proofs.Behind.{puts-back}
 use Rattle.desks.proofs.start as started
 use Rattle.desks.proofs.start.Symbol as started-def
 use Rattle.desks.proofs.start.Symbol.{name as #desks·start}
@@ -50,7 +50,7 @@ start-spec 𝓤 H 𝓜 𝓖 𝓡 =
     )) (λ κs a t. t)
     (λ fm κs qs a g are leave bs.
     let r : RefT Record = a .1 .1 .1 .1 .1 .1 .0 in
-    let y : callee .Ghost = ((less κs, less qs, tt, with a (now r), values a tt), tt) in
+    let y : callee .Ghost = ((less₁ κs, less₁ qs, tt, with₁ a (now r), values₁ recordVal a tt), tt) in
     lends ! 5 9 10 (are .1 .1 .1 .1 .0 .0 .1 .0) refl refl refl refl refl refl refl refl $
     copies 4 6 7 (κs .1 .1 .1 .1 .0) (qs .1 .1 .1 .1 .0) r ! _ _ _ _ 11 refl refl refl refl $
     calls-at ! fm callee (cited 𝓤 H callee 𝓜 𝓡 code.env #desks·start started-def.routine code.calls-desks·start (started-thm.met 𝓤 H 𝓜 𝓖 𝓡)) y
@@ -61,4 +61,4 @@ start-spec 𝓤 H 𝓜 𝓖 𝓡 =
     (and-then ! (here ! 9 refl) (and-then ! (here ! 15 refl) (and-then ! (here ! 11 refl) (and-then ! (here ! 16 refl) (no-more !)))))))) (λ w.
     puts-back (κs .1 .1 .1 .1 .0) (qs .1 .1 .1 .1 .0) r ! 4 (started.signature .params) (started.ended .kept) c y _ _ refl (λ ws. _) (λ ws. _)
     (λ ws. refl) w 8 refl refl refl refl (λ v. refl) (λ v. refl) (λ v. refl) (λ v ws.
-    ends ! tt _ $ by ! (leave _ (v .answer) (with ws (v .run))))))
+    ends ! tt _ $ by ! (leave _ (v .answer) (with₁ ws (v .run))))))

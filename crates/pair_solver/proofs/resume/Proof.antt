@@ -14,10 +14,11 @@ use denote.Triple.Statement.{Contract}
 use denote.Triple.Table.{cited}
 use Rattle.pair_calls.specs.declared.Progress.{Progress}
 use Rattle.pair_calls.proofs.Progress as Rec
+use Rattle.pair_calls.proofs.Progress.Laws as Rec′
 use Rattle.solver.proofs.Frame.{here, ends}
 use Rattle.solver.proofs.Walk.{Met, lent, lent-slice, number, proved, shared-slice}
-use Rattle.solver.proofs.Behind.{lends}
-use Rattle.pair_solver.proofs.Behind.{less, with, values, copies, puts-back}
+use Rattle.solver.proofs.Behind.{lends, less₁, with₁, values₁}
+use Rattle.pair_solver.proofs.Behind.{copies, puts-back}
 use Rattle.pair_lists.proofs.resume as resumed
 use Rattle.pair_lists.proofs.resume.Symbol as resumed-def
 use Rattle.pair_lists.proofs.resume.Symbol.{name as #pair-lists·resume}
@@ -51,7 +52,7 @@ resume-spec 𝓤 H 𝓜 𝓖 𝓡 =
     )) (λ κs a t. t)
     (λ fm κs qs a g are leave bs.
     let r : RefT Progress = a .1 .1 .1 .1 .1 .1 .0 in
-    let y : callee .Ghost = ((less κs, less qs, tt, with a (now r), values a (uint-vals w64 (a .1 .1 .1 .1 .1 .1 .1 .0), tt)), tt) in
+    let y : callee .Ghost = ((less₁ κs, less₁ qs, tt, with₁ a (now r), values₁ Rec′.lowered a (uint-vals w64 (a .1 .1 .1 .1 .1 .1 .1 .0), tt)), tt) in
     lends ! 4 10 11 (are .1 .1 .1 .0 .0 .1 .0) refl refl refl refl refl refl refl refl $
     lends ! 5 12 13 (are .1 .1 .1 .1 .0 .0 .1 .0) refl refl refl refl refl refl refl refl $
     lends ! 6 14 15 (are .1 .1 .1 .1 .1 .0 .0 .1 .0) refl refl refl refl refl refl refl refl $
@@ -60,4 +61,4 @@ resume-spec 𝓤 H 𝓜 𝓖 𝓡 =
     -- [what the call is handed; the open borrow, four entries; the locals]: local n stands at place n + 5
     (and-then ! (here ! 6 refl) (and-then ! (here ! 7 refl) (and-then ! (here ! 8 refl) (and-then ! (here ! 16 refl) (and-then ! (here ! 18 refl) (and-then ! (here ! 20 refl) (and-then ! (here ! 21 refl) (and-then ! (here ! 13 refl) (no-more !))))))))) (λ w.
     puts-back (κs .1 .1 .1 .1 .0) (qs .1 .1 .1 .1 .0) r ! 4 (resumed.signature .params) (resumed.ended .kept) c y _ _ refl (λ ws. _) (λ ws. _) (λ ws. refl) w 9 refl refl refl refl (λ v. refl) (λ v. refl) (λ v. refl) (λ v ws.
-    ends ! tt _ $ by ! (leave _ (v .answer) (with ws (v .run))))))
+    ends ! tt _ $ by ! (leave _ (v .answer) (with₁ ws (v .run))))))
