@@ -1,7 +1,10 @@
 // The plain start and the continuing call on a record of words, with an answer that is one number.
 ghost use mathlib.Core.Path.{_≡_};
+ghost use mathlib.Core.Logic.{_≢_};
+ghost use lib.ListN.{length};
 ghost use Rattle.definitions.specs.Input.{inputOf};
 ghost use Rattle.record_words.specs.Words.{told, startWords, resumeWords};
+use calls::Check;
 use record_words::tell;
 use record_words::words;
 
@@ -22,7 +25,7 @@ pub fn start(
         let o = starts::started(p, q, coefs, stack, list, r);
         return tell(o, run);
     }
-    resume(p, q, coefs, stack, list, run, 0)
+    misfit(p, q, coefs, stack, list, run)
 }
 
 // The continuing call.
@@ -41,4 +44,17 @@ pub fn resume(
     let r = words::read(run);
     let o = walk::resumed(p, q, coefs, stack, list, r, budget, calls::COMPONENT_LIMIT);
     tell(o, run)
+}
+
+// What a start is told whose words are no record: a continuing call's refusal. Nothing is written.
+pub fn misfit(p: usize, q: usize, coefs: &[i32], stack: &[u32], list: &[u32], run: &[u64]) -> u64
+    requires { ⌜ length (now run) ≢ 7 ⌝ }
+    ensures { λ a. ⌜ (a, (now (stack .entry), (now (list .entry), now (run .entry)))) ≡
+        told (now (run .entry)) (resumeWords 0 (now (run .entry)) (inputOf p q (now (coefs .entry))) (now (stack .entry)) (now (list .entry))) ⌝ }
+{
+    let r = words::read(run);
+    match checks::check_resume(p, q, coefs, stack, list, r, calls::COMPONENT_LIMIT) {
+        Check::Refuse(why) => record_words::answers::refusal(why),
+        Check::Pass => 6,
+    }
 }

@@ -1,4 +1,4 @@
-// Refusals 1 to 3, with which every call that takes a map begins.
+// Refusals 1 to 3: the counts of a map.
 ghost use mathlib.Core.Path.{_≡_};
 ghost use Prim.Native.Nat.{_≤_};
 ghost use Rattle.calls.specs.Paper.{checkOf};

@@ -1,9 +1,9 @@
 -- The calls on a record of words, as the code goes about them; and that another number of words is refused with 6, after 1 to 4. (With a lower bound it is
 -- after 5: lower_words/specs/LowerLaws.) Assumes nothing.
-use Prim.Native.Nat.{ℕ, zero, suc, _≤_, _<_}
+use Prim.Native.Nat.{ℕ, zero, suc, _^_, _≤_, _<_}
 use mathlib.Core.Logic.{_≢_, inl, inr}
 use mathlib.Core.List.{List, [], _∷_}
-use mathlib.Core.Path.{_≡_, refl, sym, ap, _∙_}
+use mathlib.Core.Path.{_≡_, refl, sym, ap, subst, _∙_}
 use native.Mathlib.Decide.{ℕ-discrete}
 use native.Mathlib.Omega.{arith}
 use lib.Dec.{lit<, ltb}
@@ -17,10 +17,15 @@ use Rattle.linear.specs.Cases.{split}
 use Rattle.definitions.specs.Tables.{Record, State, runNumber}
 use Rattle.definitions.specs.Refusals.{check1, check4, check6, mostFor, numbersCheck, rangeChecks, resumeChecks, shapeThen, unknownsCheck}
 use Rattle.definitions.specs.Calls.{machine, resume}
+use Rattle.laws.specs.AnswerLaws.{then-go}
+use Rattle.laws.specs.CheckLaws.{refuse-not-go}
 use Rattle.laws.specs.RefusalLaws.{decides-order, high}
-use Rattle.calls.specs.Paper.{kindOf, runOf, stateWith}
-use Rattle.record_words.specs.Codes.{code}
-use Rattle.record_words.specs.CodeLaws.{within}
+use Rattle.calls.specs.Paper.{checkOf, kindOf, numberOf, runOf, stateWith, valuesOf}
+use Rattle.calls.specs.declared.Check as values-check
+use Rattle.calls.specs.declared.Check.the-variants.{Refuse, Pass}
+use Rattle.calls.specs.declared.Refusal.{Refusal}
+use Rattle.record_words.specs.Codes.{code, refusalCode}
+use Rattle.record_words.specs.CodeLaws.{Small, small-resume, within}
 use Rattle.record_words.specs.Words.{heightIf, kindAt, recordAt, recordIn, startOn, told, toldBoth, wordsLeft, wordsOf}
 
 -- ---- reading and writing the words
@@ -150,3 +155,25 @@ module _ (words : List ℕ) (m : Input) (stack list second : List ℕ) (ne : len
   pub misfit-refused : (budget : ℕ) → resume budget m lent ≡ checked (shapeThen m lent (refuse 6 [])) lent (walk budget (machine m))
   unfolding call
   misfit-refused budget = ap (λ c. checked c lent (walk budget (machine m))) misfit-checks
+
+  -- ---- the same from a check of the code
+
+  module _ {k : values-check.Check} (e : checkOf k ≡ resumeChecks m lent) where
+    pub misfit-never-passes : k ≡ Pass → ⊥
+    misfit-never-passes h =
+        let a = sym misfit-checks ∙ sym e ∙ ap checkOf h in
+        let b = then-go _ _ (then-go _ _ (then-go _ _ a .1) .1) .1 in
+        refuse-not-go (then-go _ _ b .1)
+
+    module _ {why : Refusal} (h : k ≡ Refuse why) where
+      refuses : resumeChecks m lent ≡ refuse (numberOf why) (valuesOf why)
+      refuses = sym e ∙ ap checkOf h
+
+      pub misfit-fits : refusalCode (numberOf why) (valuesOf why) < 2 ^ 64
+      misfit-fits = subst Small refuses (small-resume m lent)
+
+      pub misfit-told : (budget : ℕ) {a : ℕ} → a ≡ refusalCode (numberOf why) (valuesOf why) → (a, (stack, (list, words))) ≡ told words (resume budget m lent)
+      unfolding call checked
+      misfit-told budget d =
+          (λ i. (d i, (stack, (list, sym (kept-words words) i))))
+          ∙ ap (λ c. told words (checked c lent (walk budget (machine m)))) (sym refuses)

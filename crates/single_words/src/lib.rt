@@ -27,7 +27,7 @@ pub fn start(
         let o = single_file_calls::started(p, q, coefs, stack, list, r);
         return tell(o, run);
     }
-    call_words::resume(p, q, coefs, stack, list, run, 0)
+    call_words::misfit(p, q, coefs, stack, list, run)
 }
 
 // The continuing call.
