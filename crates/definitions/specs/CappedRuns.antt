@@ -103,7 +103,8 @@ halfway =
     }
 
 -- a row of the list at 0 stops tuples with 0 and with 1 there, one of the list at 1 only those with 1
-stops-hold : map (λ x. stoppedBy capped 3 halfway (λ j. getD x j 0)) ((0 ∷ 1 ∷ 5 ∷ []) ∷ (1 ∷ 1 ∷ 5 ∷ []) ∷ (0 ∷ 2 ∷ 1 ∷ []) ∷ (1 ∷ 2 ∷ 1 ∷ []) ∷ (1 ∷ 0 ∷ 5 ∷ []) ∷ [])
+stops-hold : map (λ x. stoppedBy capped 3 halfway (λ j. getD x j 0))
+    ((0 ∷ 1 ∷ 5 ∷ []) ∷ (1 ∷ 1 ∷ 5 ∷ []) ∷ (0 ∷ 2 ∷ 1 ∷ []) ∷ (1 ∷ 2 ∷ 1 ∷ []) ∷ (1 ∷ 0 ∷ 5 ∷ []) ∷ [])
     ≡ false ∷ true ∷ true ∷ true ∷ false ∷ []
 unfolding halfway anyTo allTo isAtOrBelow covered
 stops-hold = refl

@@ -96,9 +96,8 @@ expected =
 
 runs-hold : runs ≡ expected
 unfolding runs expected lent summed ran comes two-rows one-one sumTo inner value unit total allTo anyTo countTo refuseWith _then_ refuseFirst solves isAtOrBelow
-    covered bit frozen
-    writeTo writeRow unitsTo lowerStart lowered makes marksTo writeChildren listed grown step rowFits inOrder inOrderFrom check7 lowerChecks resumeFromChecks tooLarge
-    searchChecks checked startFrom settleFrom searchFrom stepFrom unlessDone walk call
+    covered bit frozen writeTo writeRow unitsTo lowerStart lowered makes marksTo writeChildren listed grown step rowFits inOrder inOrderFrom check7 lowerChecks
+    resumeFromChecks tooLarge searchChecks checked startFrom settleFrom searchFrom stepFrom unlessDone walk call
 runs-hold = refl
 
 -- ---- refusals

@@ -134,7 +134,8 @@ refusals =
     ∷ reason (inputOf 1 2 (pos 0 ∷ pos 10000 ∷ [])) (0 ∷ 0 ∷ []) 1 (1000000 ∷ 1000000 ∷ [])
     ∷ []
 
-reasons-hold : (answers ≡ zero ∷ off 1 (negsuc 2) ∷ off 1 (pos 5) ∷ stands 2 ∷ stands 1 ∷ above 2 ∷ unlisted ∷ unlisted ∷ off 1 (negsuc 0) ∷ off 2 (negsuc 7) ∷ above 2 ∷ unlisted ∷ [])
+reasons-hold : (answers ≡ zero ∷ off 1 (negsuc 2) ∷ off 1 (pos 5) ∷ stands 2 ∷ stands 1 ∷ above 2 ∷ unlisted ∷ unlisted ∷ off 1 (negsuc 0) ∷ off 2 (negsuc 7)
+    ∷ above 2 ∷ unlisted ∷ [])
     × (refusals ≡ refused 1 [] ∷ refused 2 [] ∷ refused 3 [] ∷ refused 5 [] ∷ refused 6 [] ∷ refused 7 (2 ∷ []) ∷ refused 8 [] ∷ off 1 (pos 10000000000) ∷ [])
 unfolding small twice example both answers refusals sumTo inner value allTo anyTo elseIf firstTo placeIf lastTo refuseWith _then_ refuseFirst isAtOrBelow isSame
     highest standing check7 reasonChecks vanishes firstOff zeroOr offOr standsOr aboveOr inList firstTrue unlessRefused reason

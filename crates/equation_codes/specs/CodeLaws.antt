@@ -67,8 +67,16 @@ few-unknowns q h = elim (split 16 q) [ inl l ↦ absurd (h (inr l)) | inr l ↦ 
 
 module _ (q n : ℕ) (t : List ℕ) where
   reader-small : Small (equationRules q n t)
-  reader-small =
-      (omega arith, λ short. (omega arith, λ range. (omega arith, λ _. (omega arith, omega arith, (omega arith, λ _. (omega arith, λ _. (omega arith, omega (arith, few-unknowns q range), (omega arith, λ _. tt))))))))
+  reader-small = (
+    omega arith,
+    λ short. (
+      omega arith,
+      λ range. (
+        omega arith,
+        λ _. (omega arith, omega arith, (omega arith, λ _. (omega arith, λ _. (omega arith, omega (arith, few-unknowns q range), (omega arith, λ _. tt))))),
+      ),
+    ),
+  )
 
   pub outcome-fits : (k : ℕ) (values : List ℕ) → outcome q n t ≡ form.refused k values → Fitting k values
   unfolding verdict
@@ -78,7 +86,8 @@ module _ (q n : ℕ) (t : List ℕ) where
 module _ (q : ℕ) (t : List ℕ) (row : List ℤ) (r : EquationRead) (after : List ℤ) (e : answerOf r after ≡ answered (outcome q (length row) t) row) where
   pub read-refusal-fits : {why : EquationRefusal} → r ≡ read.Refused why → refusalCode (numberOf why) (valuesOf why) < 2 ^ 64
   read-refusal-fits {why} g =
-      fitting-code (numberOf why) (valuesOf why) (outcome-fits q (length row) t (numberOf why) (valuesOf why) (answered-refused (outcome q (length row) t) row (rw g at e)))
+      fitting-code (numberOf why) (valuesOf why)
+      (outcome-fits q (length row) t (numberOf why) (valuesOf why) (answered-refused (outcome q (length row) t) row (rw g at e)))
 
   pub read-side-small : {right : ℤ} → r ≡ read.Equation right → natAbs right ≤ 10000
   read-side-small {right} g = side-small q (length row) t row {right = right} {left = after} (rw g at e)
@@ -124,7 +133,8 @@ module _ (q : ℕ) (row : List ℤ) (right : ℤ) (out : List ℕ) (r : Equation
   pub write-refusal-fits : {why : Refusal} → r ≡ wrote.Refused why → refusalCode (paper.numberOf why) (paper.valuesOf why) < 2 ^ 64
   unfolding write
   write-refusal-fits {why} g =
-      checks-fit q row right out (paper.numberOf why) (paper.valuesOf why) (put-refused (writeChecks q row right (length out)) (written row right) out (rw g at e))
+      checks-fit q row right out (paper.numberOf why) (paper.valuesOf why)
+      (put-refused (writeChecks q row right (length out)) (written row right) out (rw g at e))
 
   pub write-short : {n : ℕ} → r ≡ wrote.Written n → n ≤ 256
   unfolding write

@@ -84,7 +84,8 @@ handed-fits : (o : Outcome) (coefs rights : List ℤ) {n : ℕ} {values : List �
     → ((k : ℕ) (ws : List ℕ) → o ≡ form.refused k ws → lineCode k ws < 2 ^ 64)
     → form.refused n values xs ds ≡ handedOut o coefs rights → lineCode n values < 2 ^ 64
 unfolding handedOut
-handed-fits (accepted p zs rs) coefs rights {n} {values} f e = tables-fit zs rs coefs rights n values (hand-refused (tableChecks zs rs coefs rights) p zs rs coefs rights e)
+handed-fits (accepted p zs rs) coefs rights {n} {values} f e =
+    tables-fit zs rs coefs rights n values (hand-refused (tableChecks zs rs coefs rights) p zs rs coefs rights e)
 handed-fits (form.refused k ws) coefs rights {n} {values} f e = let a : k ≡ n = cc in let b : ws ≡ values = cc in f n values (rw (a, b))
 
 handed-few : (o : Outcome) (coefs rights : List ℤ) {k : ℕ} {xs ds : List ℤ} → ((p : ℕ) (zs rs : List ℤ) → o ≡ accepted p zs rs → p ≤ 8)
@@ -98,7 +99,8 @@ handed-few (form.refused k ws) coefs rights f e = absurd (let z : _≡_ {A = ℕ
 module _ (q : ℕ) (t : List ℕ) (coefs rights : List ℤ) (r : SystemRead) (after sides : List ℤ) (e : answerOf r after sides ≡ readSystem q t coefs rights) where
   pub system-refusal-fits : {why : SystemRefusal} → r ≡ read.Refused why → lineCode (numberOf why) (valuesOf why) < 2 ^ 64
   unfolding readSystem
-  system-refusal-fits {why} g = handed-fits (systemOutcome q t) coefs rights {n = numberOf why} {values = valuesOf why} {xs = after} {ds = sides} (outcome-fit q t) (rw g at e)
+  system-refusal-fits {why} g =
+      handed-fits (systemOutcome q t) coefs rights {n = numberOf why} {values = valuesOf why} {xs = after} {ds = sides} (outcome-fit q t) (rw g at e)
 
   pub system-few : {p : ℕ} → r ≡ read.System p → p ≤ 8
   unfolding readSystem

@@ -20,7 +20,9 @@ abbrev Case : Type 0
 Case = ℕ × String × Outcome
 
 asRead : List Case → List Outcome
-unfolding skip onByte onSign andThen moreDigits readNatural readIndex readFactor afterNumeral readTerm moreTerms firstTerm readSum closed readBracket rightOf readEquation onward factorBegins termBegins sumBegins afterDigits afterFactor step placeFrom place _then_ refuseWith refuseFirst coefficient rightSide ofSum sumDepth sumSteep checked list limits treeOutcome outcome
+unfolding skip onByte onSign andThen moreDigits readNatural readIndex readFactor afterNumeral readTerm moreTerms firstTerm readSum closed readBracket rightOf
+    readEquation onward factorBegins termBegins sumBegins afterDigits afterFactor step placeFrom place _then_ refuseWith refuseFirst coefficient rightSide ofSum
+    sumDepth sumSteep checked list limits treeOutcome outcome
 asRead cases = map (λ (c : Case). outcome (c .0) (c .0) (bytes (c .1))) cases
 
 asSaid : List Case → List Outcome
@@ -94,7 +96,9 @@ rows-written = refl
 
 -- 2, 3, 7, 15, then 29; an exact fit is no 29, and what stands past the text stays
 calls-answered :
-    write 17 [] (pos 0) [] ∷ write 2 (pos 99999 ∷ []) (pos 0) [] ∷ write 1 (pos 10001 ∷ []) (pos 10001) [] ∷ write 1 (pos 1 ∷ []) (negsuc 10000) [] ∷ write 1 (pos 1 ∷ []) (pos 0) (1 ∷ 2 ∷ 3 ∷ 4 ∷ 5 ∷ []) ∷ write 1 (pos 1 ∷ []) (pos 0) (1 ∷ 2 ∷ 3 ∷ 4 ∷ 5 ∷ 6 ∷ []) ∷ write 1 (pos 1 ∷ []) (pos 0) (1 ∷ 2 ∷ 3 ∷ 4 ∷ 5 ∷ 6 ∷ 7 ∷ []) ∷ []
+    write 17 [] (pos 0) [] ∷ write 2 (pos 99999 ∷ []) (pos 0) [] ∷ write 1 (pos 10001 ∷ []) (pos 10001) [] ∷ write 1 (pos 1 ∷ []) (negsuc 10000) []
+    ∷ write 1 (pos 1 ∷ []) (pos 0) (1 ∷ 2 ∷ 3 ∷ 4 ∷ 5 ∷ []) ∷ write 1 (pos 1 ∷ []) (pos 0) (1 ∷ 2 ∷ 3 ∷ 4 ∷ 5 ∷ 6 ∷ [])
+    ∷ write 1 (pos 1 ∷ []) (pos 0) (1 ∷ 2 ∷ 3 ∷ 4 ∷ 5 ∷ 6 ∷ 7 ∷ []) ∷ []
     ≡ writing.refused 2 [] []
     ∷ writing.refused 3 [] []
     ∷ writing.refused 7 (1 ∷ []) []

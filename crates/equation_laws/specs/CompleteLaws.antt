@@ -89,10 +89,14 @@ pub record Summed (q d : ℕ) (e : Sum) (ps : List Part) (t : List ℕ) : Type 0
   pub shorter : length rest < length t
 
 abbrev FactorBack : ℕ → Factor → Type 0
-FactorBack q f = (d : ℕ) (ps : List Part) (t : List ℕ) → mayEndTerm ps ≡ true → factorDepth f ≤ d → Spells q (factorParts f ps) t → skip t ≡ t → Back q (readFactor (readBracket q d) q t) f ps t
+FactorBack q f =
+    (d : ℕ) (ps : List Part) (t : List ℕ) → mayEndTerm ps ≡ true → factorDepth f ≤ d → Spells q (factorParts f ps) t → skip t ≡ t
+    → Back q (readFactor (readBracket q d) q t) f ps t
 
 abbrev TermBack : ℕ → Term → Type 0
-TermBack q u = (d : ℕ) (ps : List Part) (t : List ℕ) → mayEndTerm ps ≡ true → termDepth u ≤ d → Spells q (termParts u ps) t → skip t ≡ t → Back q (readTerm (readBracket q d) q t) u ps t
+TermBack q u =
+    (d : ℕ) (ps : List Part) (t : List ℕ) → mayEndTerm ps ≡ true → termDepth u ≤ d → Spells q (termParts u ps) t → skip t ≡ t
+    → Back q (readTerm (readBracket q d) q t) u ps t
 
 abbrev SumBack : ℕ → Sum → Type 0
 SumBack q e = (d : ℕ) (ps : List Part) (t : List ℕ) → mayEndTerm ps ≡ true → sumDepth e ≤ d → Spells q (sumParts e ps) t → skip t ≡ t → Summed q d e ps t
@@ -141,7 +145,9 @@ module _ (q : ℕ) (few : q ≤ 16) where
       let e : t ≡ letter ∷ (decimal k ++ i .rest) = sym b ∙ i .text in
       record {
         rest = i .rest;
-        reads = ap (readFactor (readBracket q d) q) e ∙ rw (index-back q k (i .rest) few (i .allowed .0) (i .allowed .1) (no-digit (end-no-numeral ps h) (i .spells)));
+        reads =
+            ap (readFactor (readBracket q d) q) e
+            ∙ rw (index-back q k (i .rest) few (i .allowed .0) (i .allowed .1) (no-digit (end-no-numeral ps h) (i .spells)));
         spells = i .spells;
         shorter = i .shorter;
       }
@@ -168,7 +174,12 @@ module _ (q : ℕ) (few : q ≤ 16) where
       let i = first s in
       let x : t ≡ openByte ∷ i .rest = sym b ∙ i .text in
       let a = inside-back e ih d ps (i .rest) l (i .spells) in
-      record { rest = a .rest; reads = ap (readFactor (readBracket q d) q) x ∙ rw (a .reads); spells = a .spells; shorter = omega (arith, a .shorter, i .shorter) }
+      record {
+        rest = a .rest;
+        reads = ap (readFactor (readBracket q d) q) x ∙ rw (a .reads);
+        spells = a .spells;
+        shorter = omega (arith, a .shorter, i .shorter);
+      }
 
   -- ---- terms
 
@@ -241,10 +252,14 @@ module _ (q : ℕ) (few : q ≤ 16) where
   -- a term begins with no sign
   unsigned : {A : Type 0} (u : Term) (ps : List Part) (t : List ℕ) (f : Sign → List ℕ → A) (a : A) → Spells q (termParts u ps) t → skip t ≡ t → onSign t f a ≡ a
   unfolding termParts factorParts
-  unsigned (number n) ps t f a s b = ap (λ x. onSign x f a) (sym b ∙ first s .text) ∙ sign-other (numeral n) _ f a (λ g e. absurd (let z : _≡_ {A = ℕ} 0 1 = cc in omega arith))
-  unsigned (plain (unknown k)) ps t f a s b = ap (λ x. onSign x f a) (sym b ∙ first s .text) ∙ sign-other (variable k) _ f a (λ g e. absurd (let z : _≡_ {A = ℕ} 0 1 = cc in omega arith))
-  unsigned (plain (bracket e)) ps t f a s b = ap (λ x. onSign x f a) (sym b ∙ first s .text) ∙ sign-other opening _ f a (λ g e. absurd (let z : _≡_ {A = ℕ} 0 1 = cc in omega arith))
-  unsigned (times n g) ps t f a s b = ap (λ x. onSign x f a) (sym b ∙ first s .text) ∙ sign-other (numeral n) _ f a (λ g e. absurd (let z : _≡_ {A = ℕ} 0 1 = cc in omega arith))
+  unsigned (number n) ps t f a s b =
+      ap (λ x. onSign x f a) (sym b ∙ first s .text) ∙ sign-other (numeral n) _ f a (λ g e. absurd (let z : _≡_ {A = ℕ} 0 1 = cc in omega arith))
+  unsigned (plain (unknown k)) ps t f a s b =
+      ap (λ x. onSign x f a) (sym b ∙ first s .text) ∙ sign-other (variable k) _ f a (λ g e. absurd (let z : _≡_ {A = ℕ} 0 1 = cc in omega arith))
+  unsigned (plain (bracket e)) ps t f a s b =
+      ap (λ x. onSign x f a) (sym b ∙ first s .text) ∙ sign-other opening _ f a (λ g e. absurd (let z : _≡_ {A = ℕ} 0 1 = cc in omega arith))
+  unsigned (times n g) ps t f a s b =
+      ap (λ x. onSign x f a) (sym b ∙ first s .text) ∙ sign-other (numeral n) _ f a (λ g e. absurd (let z : _≡_ {A = ℕ} 0 1 = cc in omega arith))
 
   bare-back : (u : Term) → TermBack q u → SumBack q (one bare u)
   unfolding sumParts sumDepth readSum firstTerm andThen

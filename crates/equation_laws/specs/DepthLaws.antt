@@ -41,7 +41,8 @@ byte-below b (c ∷ t) f f′ x x′ g h = go (lib.Dec.eqb c b)
 sign-below : {A : Type 0} (t : List ℕ) (f f′ : Sign → List ℕ → Parse A) (x x′ : Parse A) → ((s : Sign) (r : List ℕ) → Below (f s r) (f′ s r)) → Below x x′
     → Below (onSign t f x) (onSign t f′ x′)
 unfolding onSign
-sign-below t f f′ x x′ g h = byte-below 43 t _ _ _ _ (g Rattle.equation_form.specs.Grammar.plus) (byte-below 45 t _ _ _ _ (g Rattle.equation_form.specs.Grammar.minus) h)
+sign-below t f f′ x x′ g h =
+    byte-below 43 t _ _ _ _ (g Rattle.equation_form.specs.Grammar.plus) (byte-below 45 t _ _ _ _ (g Rattle.equation_form.specs.Grammar.minus) h)
 
 same-below : {A : Type 0} (p : Parse A) → Below p p
 same-below p a r e = e
@@ -49,7 +50,8 @@ same-below p a r e = e
 module _ (q : ℕ) (inside inside′ : List ℕ → Parse Sum) (h : (t : List ℕ) → Below (inside t) (inside′ t)) where
   factor-below : (t : List ℕ) → Below (readFactor inside q t) (readFactor inside′ q t)
   unfolding readFactor
-  factor-below t = byte-below letter t _ _ _ _ (λ r. same-below _) (byte-below openByte t _ _ _ _ (λ r. then-below _ _ _ _ (h r) (λ e s. same-below _)) (same-below _))
+  factor-below t =
+      byte-below letter t _ _ _ _ (λ r. same-below _) (byte-below openByte t _ _ _ _ (λ r. then-below _ _ _ _ (h r) (λ e s. same-below _)) (same-below _))
 
   after-below : (n : ℕ) (t : List ℕ) → Below (afterNumeral inside q n t) (afterNumeral inside′ q n t)
   unfolding afterNumeral
@@ -85,14 +87,16 @@ bracket-below : (q d n : ℕ) → d ≤ n → (t : List ℕ) → Below (readBrac
 unfolding readBracket
 bracket-below q zero n l t = λ a r e. not-parsed e
 bracket-below q (suc d) zero l t = absurd (omega arith)
-bracket-below q (suc d) (suc n) l t = then-below _ _ _ _ (sum-below q (readBracket q d) (readBracket q n) (λ v. bracket-below q d n (omega arith) v) (skip t)) (λ e s. same-below _)
+bracket-below q (suc d) (suc n) l t =
+    then-below _ _ _ _ (sum-below q (readBracket q d) (readBracket q n) (λ v. bracket-below q d n (omega arith) v) (skip t)) (λ e s. same-below _)
 
 deeper : (q d n : ℕ) (t : List ℕ) (e : Sum) (r : List ℕ) → d ≤ n → readSum (readBracket q d) q t ≡ parsed e r → readSum (readBracket q n) q t ≡ parsed e r
 deeper q d n t e r l h = sum-below q (readBracket q d) (readBracket q n) (bracket-below q d n l) t e r h
 
 -- ---- a sum e of the grammar, before the parts ps
 
-module _ (q : ℕ) (few : q ≤ 16) (e : Sum) (ps : List Part) (t : List ℕ) (a : mayEndTerm ps ≡ true) (b : mayEndSum ps ≡ true) (s : Spells q (sumParts e ps) t) (k : skip t ≡ t) where
+module _ (q : ℕ) (few : q ≤ 16) (e : Sum) (ps : List Part) (t : List ℕ) (a : mayEndTerm ps ≡ true) (b : mayEndSum ps ≡ true)
+    (s : Spells q (sumParts e ps) t) (k : skip t ≡ t) where
   -- at a depth that is enough, it is read
   enough : (d : ℕ) → sumDepth e ≤ d → (r : List ℕ) × (readSum (readBracket q d) q t ≡ parsed e r) × Spells q ps r
   enough d l =

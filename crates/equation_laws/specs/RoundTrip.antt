@@ -42,4 +42,13 @@ module _ (row : List ℤ) (right : ℤ) (few : length row ≤ 16) (f : CoefsInRa
   written-back some =
       let r = read-any (length row) (treeOf row right) (written row right) few (written-reads row right f l) in
       let s = list-is row 1 (coefficient (treeOf row right)) (λ j. let e : 1 + j ≡ suc j = omega arith in rw e (written-coefficient row right j)) in
-      rw (le-ltb mostBytes (length (written row right)) (omega (arith, written-short row right few f l)), le-leb 1 (length row) some, le-leb (length row) 16 few, eq-eqb (length row) (length row) refl, r, within-limits, s, written-right row right)
+      rw (
+        le-ltb mostBytes (length (written row right)) (omega (arith, written-short row right few f l)),
+        le-leb 1 (length row) some,
+        le-leb (length row) 16 few,
+        eq-eqb (length row) (length row) refl,
+        r,
+        within-limits,
+        s,
+        written-right row right,
+      )

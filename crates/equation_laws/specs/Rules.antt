@@ -78,12 +78,27 @@ module _ (q : ℕ) (t : List ℕ) (few : q ≤ 16) (e : Equation) (reads : Reads
   only : {P : Equation → Type 0} → ReadSo q t P → P e
   only {P} (f, r, p) = rw (unambiguous q f e t few r reads) at p
 
-  decides-range : Decides (refuseFirst 7 q (λ i. outOfRange (coefficient e (suc i)))) (placed 7 q (λ i. ReadSo q t (λ e. coefLimit < natAbs (coefficient e (suc i)))))
+  decides-range : Decides (refuseFirst 7 q (λ i. outOfRange (coefficient e (suc i))))
+      (placed 7 q (λ i. ReadSo q t (λ e. coefLimit < natAbs (coefficient e (suc i)))))
   decides-range =
       let d = range-decides q e in
       record {
-        refuses = λ n values h. let (a, i, l, b, x, none) = d .refuses n values h in (a, i, l, b, (e, reads, x), λ j m y. none j m (only {P = λ f. coefLimit < natAbs (coefficient f (suc j))} y));
-        due = λ n values (a, i, l, b, x, none). d .due n values (a, i, l, b, only {P = λ f. coefLimit < natAbs (coefficient f (suc i))} x, λ j m y. none j m (e, reads, y));
+        refuses = λ n values h. let (a, i, l, b, x, none) = d .refuses n values h in (
+          a,
+          i,
+          l,
+          b,
+          (e, reads, x),
+          λ j m y. none j m (only {P = λ f. coefLimit < natAbs (coefficient f (suc j))} y),
+        );
+        due = λ n values (a, i, l, b, x, none). d .due n values (
+          a,
+          i,
+          l,
+          b,
+          only {P = λ f. coefLimit < natAbs (coefficient f (suc i))} x,
+          λ j m y. none j m (e, reads, y),
+        );
         goes = λ h i l x. d .goes h i l (only {P = λ f. coefLimit < natAbs (coefficient f (suc i))} x);
         silent = λ h. d .silent (λ i l x. h i l (e, reads, x));
       }
@@ -94,7 +109,8 @@ module _ (q : ℕ) (t : List ℕ) (few : q ≤ 16) (e : Equation) (reads : Reads
       renders-then (decides-if _ 17 _ (λ h. (e, reads, ltb→lt mostDepth (depth e) h)) (λ x. lt→ltb mostDepth (depth e) (only {P = λ f. mostDepth < depth f} x)))
       (renders-then (decides-if _ 18 _ (λ h. (e, reads, h)) (λ x. only {P = Steep} x))
       (renders-then decides-range
-      (renders-last (decides-if _ 15 _ (λ h. (e, reads, ltb→lt coefLimit (natAbs (rightSide e)) h)) (λ x. lt→ltb coefLimit (natAbs (rightSide e)) (only {P = λ f. coefLimit < natAbs (rightSide f)} x))))))
+      (renders-last (decides-if _ 15 _ (λ h. (e, reads, ltb→lt coefLimit (natAbs (rightSide e)) h))
+      (λ x. lt→ltb coefLimit (natAbs (rightSide e)) (only {P = λ f. coefLimit < natAbs (rightSide f)} x))))))
 
   not-stuck : (i : ℕ) → ¬ (Stuck q t i)
   not-stuck i (at-byte l h) = h (record { rest = drop (suc i) t; equation = e; reads = rw (take-append-drop (suc i) t) reads })
@@ -109,7 +125,8 @@ module _ (q : ℕ) (t : List ℕ) (some : 1 ≤ q) (few : q ≤ 16) (none : read
   -- a text begins something allowed up to every byte before its place
   begins-before : (j k : ℕ) → suc j ≤ k → Begins q (take k t) → Begins q (take (suc j) t)
   begins-before j k l b =
-      let e : take k t ≡ take (suc j) t ++ drop (suc j) (take k t) = sym (take-append-drop (suc j) (take k t)) ∙ ap (λ x. x ++ drop (suc j) (take k t)) (take-take (suc j) k t l) in
+      let e : take k t ≡ take (suc j) t ++ drop (suc j) (take k t) =
+      sym (take-append-drop (suc j) (take k t)) ∙ ap (λ x. x ++ drop (suc j) (take k t)) (take-take (suc j) k t l) in
       record {
         rest = drop (suc j) (take k t) ++ b .rest;
         equation = b .equation;

@@ -174,7 +174,12 @@ module _ (q : ℕ) where
     unfolding Completes
     sign-back s d r e h =
         let i = ih termDue d r h in
-        record { ps = sign s ∷ i .ps; due = join s (i .due .term) (i .due .is) (i .due .after); text = rw e (here (sign s) _ refl tt (i .text)); present = some }
+        record {
+          ps = sign s ∷ i .ps;
+          due = join s (i .due .term) (i .due .is) (i .due .after);
+          text = rw e (here (sign s) _ refl tt (i .text));
+          present = some;
+        }
 
     close-back : (d : ℕ) (r : Bool) → b ≡ closeByte → goOn (scan.closing d r) rest false ≡ true → Later d r (b ∷ t)
     unfolding Completes
@@ -231,9 +236,18 @@ module _ (q : ℕ) where
     number-term d r i {v} e = go (i .due) (i .text)
       where
         go : {ps : List Part} → NumberAfter d r ps → Spells q ps (i .rest) → Terms d r v
-        go (over {ps = ps} a) s = record { ps = numeral (i .m) ∷ ps; due = record { term = number (i .m); rest = ps; is = refl; after = a }; text = here (numeral (i .m)) _ (e ∙ i .digits) (i .small) s }
+        go (over {ps = ps} a) s =
+            record {
+              ps = numeral (i .m) ∷ ps;
+              due = record { term = number (i .m); rest = ps; is = refl; after = a };
+              text = here (numeral (i .m)) _ (e ∙ i .digits) (i .small) s;
+            }
         go (scaled f {ps = ps} {qs = qs} x a) s =
-            record { ps = numeral (i .m) ∷ star ∷ qs; due = record { term = times (i .m) f; rest = ps; is = ap (λ y. numeral (i .m) ∷ star ∷ y) x; after = a }; text = here (numeral (i .m)) _ (e ∙ i .digits) (i .small) s }
+            record {
+              ps = numeral (i .m) ∷ star ∷ qs;
+              due = record { term = times (i .m) f; rest = ps; is = ap (λ y. numeral (i .m) ∷ star ∷ y) x; after = a };
+              text = here (numeral (i .m)) _ (e ∙ i .digits) (i .small) s;
+            }
 
     term-back : (d : ℕ) (r : Bool) → goOn (termBegins b d r) rest false ≡ true → Terms d r (b ∷ t)
     unfolding termBegins Completes termParts
@@ -276,23 +290,31 @@ module _ (q : ℕ) where
     unfolding afterDigits Completes
     digits-back d r h =
         cond-step (eqb b space) _ _ h
-        (λ c e. let i = ih afterNumber d r e in record { ps = i .ps; due = i .due; text = rw (eqb-true b space c) (one-space (i .present) (i .text)); present = i .present })
+        (λ c e. let i = ih afterNumber d r e in
+        record { ps = i .ps; due = i .due; text = rw (eqb-true b space c) (one-space (i .present) (i .text)); present = i .present })
         (λ _ h. cond-step (eqb b starByte) _ _ h
         (λ c e.
         let i = ih factorDue d r e in
-        record { ps = star ∷ i .ps; due = scaled (i .due .factor) (i .due .is) (i .due .after); text = rw (eqb-true b starByte c) (here star _ refl tt (i .text)); present = some })
+        record {
+          ps = star ∷ i .ps;
+          due = scaled (i .due .factor) (i .due .is) (i .due .after);
+          text = rw (eqb-true b starByte c) (here star _ refl tt (i .text));
+          present = some;
+        })
         (λ _ h. let i = onward-back d r h in record { ps = i .ps; due = over (i .due); text = i .text; present = i .present }))
 
     ends-back : (d : ℕ) (r : Bool) → goOn (afterFactor b d r) rest false ≡ true → Later d r (b ∷ t)
     unfolding afterFactor Completes
     ends-back d r h =
         cond-step (eqb b space) _ _ h
-        (λ c e. let i = ih afterTerm d r e in record { ps = i .ps; due = i .due; text = rw (eqb-true b space c) (one-space (i .present) (i .text)); present = i .present })
+        (λ c e. let i = ih afterTerm d r e in
+        record { ps = i .ps; due = i .due; text = rw (eqb-true b space c) (one-space (i .present) (i .text)); present = i .present })
         (λ _ h. onward-back d r h)
 
     -- a space before a sum, a term, a factor
     spaced-sum : {d : ℕ} {r : Bool} → b ≡ space → Sums d r t → Sums d r (b ∷ t)
-    spaced-sum e i = record { ps = i .ps; due = i .due; text = rw e (one-space (rw (i .due .is) (sum-some (one (i .due .lead) (i .due .term)) (i .due .rest))) (i .text)) }
+    spaced-sum e i =
+        record { ps = i .ps; due = i .due; text = rw e (one-space (rw (i .due .is) (sum-some (one (i .due .lead) (i .due .term)) (i .due .rest))) (i .text)) }
 
     spaced-term : {d : ℕ} {r : Bool} → b ≡ space → Terms d r t → Terms d r (b ∷ t)
     spaced-term e i = record { ps = i .ps; due = i .due; text = rw e (one-space (rw (i .due .is) (term-some (i .due .term) (i .due .rest))) (i .text)) }
@@ -374,7 +396,8 @@ module _ (q : ℕ) where
   end-back (inNumber k) d r h =
       λ n least room. record { m = n; rest = []; ps = []; digits = refl; small = omega (arith, room-small room); due = over (final-after d r h); text = done }
   end-back afterNumber d r h = never h
-  end-back (inIndex k) d r h = λ least most. record { m = k; rest = []; ps = []; digits = refl; least = least; most = most; due = final-after d r h; text = done }
+  end-back (inIndex k) d r h =
+      λ least most. record { m = k; rest = []; ps = []; digits = refl; least = least; most = most; due = final-after d r h; text = done }
   end-back afterBracket d r h = record { ps = []; due = final-after d r h; text = done }
   end-back afterTerm d r h = never h
 

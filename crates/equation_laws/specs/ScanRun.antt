@@ -231,7 +231,13 @@ module _ (q : ℕ) where
   term-sum : {d : ℕ} {r : Bool} {t : List ℕ} → TermRun d r t → SumRun d r t
   unfolding sumBegins
   term-sum i =
-      record { byte = i .byte; rest = i .rest; text = i .text; no-space = i .plain .no-space; runs = rw (ne-eqb _ 43 (i .plain .no-plus), ne-eqb _ 45 (i .plain .no-minus)) (i .runs) }
+      record {
+        byte = i .byte;
+        rest = i .rest;
+        text = i .text;
+        no-space = i .plain .no-space;
+        runs = rw (ne-eqb _ 43 (i .plain .no-plus), ne-eqb _ 45 (i .plain .no-minus)) (i .runs);
+      }
 
   -- a number in front
   number-run : (n d : ℕ) (r : Bool) (t s : List ℕ) → n ≤ 99999 → skip t ≡ decimal n ++ s → ((j : ℕ) → accepts q (inNumber j) d r s ≡ true) → TermRun d r t
@@ -264,7 +270,17 @@ module _ (q : ℕ) where
         | no x ↦
             let e : k / 10 ≡ 1 = omega arith in
             let v : 1 * 10 + k % 10 ≡ k = omega arith in
-            rw (decimal-more k (omega arith), e, decimal-digit 1 (omega arith), le-leb 1 q (omega arith), digit-is (k % 10) (omega arith), digit-of (k % 10), v, le-leb 1 k l, le-leb k q m) (h k)
+            rw (
+              decimal-more k (omega arith),
+              e,
+              decimal-digit 1 (omega arith),
+              le-leb 1 q (omega arith),
+              digit-is (k % 10) (omega arith),
+              digit-of (k % 10),
+              v,
+              le-leb 1 k l,
+              le-leb k q m,
+            ) (h k)
       ]
 
   -- ---- every tree
@@ -353,10 +369,22 @@ module _ (q : ℕ) where
   unfolding sumParts sumBegins
   led-runs plus u ih d r ps t s h =
       let i = first s in
-      record { byte = signByte plus; rest = i .rest; text = i .text; no-space = λ x. omega arith; runs = term-accepted d r (i .rest) (ih d r ps (i .rest) (i .spells) h) }
+      record {
+        byte = signByte plus;
+        rest = i .rest;
+        text = i .text;
+        no-space = λ x. omega arith;
+        runs = term-accepted d r (i .rest) (ih d r ps (i .rest) (i .spells) h);
+      }
   led-runs minus u ih d r ps t s h =
       let i = first s in
-      record { byte = signByte minus; rest = i .rest; text = i .text; no-space = λ x. omega arith; runs = term-accepted d r (i .rest) (ih d r ps (i .rest) (i .spells) h) }
+      record {
+        byte = signByte minus;
+        rest = i .rest;
+        text = i .text;
+        no-space = λ x. omega arith;
+        runs = term-accepted d r (i .rest) (ih d r ps (i .rest) (i .spells) h);
+      }
 
   more-runs : (e : Sum) (g : Sign) (u : Term) → SumRuns e → TermRuns u → SumRuns (more e g u)
   unfolding sumParts

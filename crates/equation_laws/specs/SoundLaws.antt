@@ -110,7 +110,8 @@ module _ (q d : ℕ) (inside : List ℕ → Parse Sum) (sound : (t : List ℕ) (
   unfolding afterNumeral termDepth termParts
   after-numeral n {t} t₁ l x e =
       on-byte starByte (skip t₁) _ _ e (λ s b g. term-times n s l g t₁ x b)
-      (λ h. let (a, c) = same h in let w : TermRead q d (number n) t t₁ = record { depth = omega arith; text = λ m. here (numeral n) t x l m } in rw (a, c) at w)
+      (λ h. let (a, c) = same h in let w : TermRead q d (number n) t t₁ = record { depth = omega arith; text = λ m. here (numeral n) t x l m } in
+      rw (a, c) at w)
 
   pub term-read : (t : List ℕ) {u : Term} {r : List ℕ} → readTerm inside q t ≡ parsed u r → TermRead q d u t r
   unfolding readTerm termDepth termParts

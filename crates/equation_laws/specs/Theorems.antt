@@ -1,5 +1,5 @@
--- Request 3: "The text is accepted exactly when the grammar has a reading within the limits, and the row equals that reading's meaning.": `read-exactly`, at the
--- end; its two directions before it. Assumes nothing.
+-- Request 3: "The text is accepted exactly when the grammar has a reading within the limits, and the row equals that reading's meaning.":
+-- `read-exactly`, at the end; its two directions before it. Assumes nothing.
 use Prim.Native.Nat.{ℕ, suc, _≤_, _<_}
 use mathlib.Core.Bool.{false, not, _&&_, _||_}
 use mathlib.Core.List.{List}
@@ -53,7 +53,8 @@ passed go o e = (refl, e)
 pub range-decides : (q : ℕ) (e : Equation)
     → Decides (refuseFirst 7 q (λ i. outOfRange (coefficient e (suc i)))) (placed 7 q (λ i. coefLimit < natAbs (coefficient e (suc i))))
 range-decides q e =
-    decides-first 7 q (λ i. outOfRange (coefficient e (suc i))) (λ i. coefLimit < natAbs (coefficient e (suc i))) (λ i l. ltb→lt coefLimit (natAbs (coefficient e (suc i)))) (λ i l. lib.Dec.lt→ltb coefLimit (natAbs (coefficient e (suc i))))
+    decides-first 7 q (λ i. outOfRange (coefficient e (suc i))) (λ i. coefLimit < natAbs (coefficient e (suc i)))
+    (λ i l. ltb→lt coefLimit (natAbs (coefficient e (suc i)))) (λ i l. lib.Dec.lt→ltb coefLimit (natAbs (coefficient e (suc i))))
 
 limits-go : (q : ℕ) (e : Equation) → limits q e ≡ go → Within q e
 unfolding limits
@@ -71,7 +72,12 @@ limits-go q e h =
 within-go : (q : ℕ) (e : Equation) → Within q e → limits q e ≡ go
 unfolding limits _then_ refuseWith
 within-go q e w =
-    rw (le-ltb mostDepth (depth e) (w .shallow), w .gentle, range-decides q e .silent (λ i l h. omega (arith, w .range i l)), le-ltb coefLimit (natAbs (rightSide e)) (w .right))
+    rw (
+      le-ltb mostDepth (depth e) (w .shallow),
+      w .gentle,
+      range-decides q e .silent (λ i l h. omega (arith, w .range i l)),
+      le-ltb coefLimit (natAbs (rightSide e)) (w .right),
+    )
 
 tree-accepted : (q : ℕ) (t : List ℕ) (p : Parse Equation) {zs : List ℤ} {z : ℤ} → readEquation q (length t) t ≡ p → treeOutcome q t p ≡ accepted zs z
     → (e : Equation) × Reads q e t × Within q e × (zs ≡ row q e) × (z ≡ rightSide e)
@@ -93,7 +99,13 @@ accepted-is-read q n t h =
     let (e, reads, within, u, v) = tree-accepted q t (readEquation q (length t) t) refl o in (
       e,
       record {
-        called = record { short = ltb-false mostBytes (length t) (refuse-if-go _ 10 a); some = leb→le 1 q x; few = leb→le q mostUnknowns y; whole = eqb-true n q (not-false (eqb n q) (refuse-if-go _ 3 d)) };
+        called =
+            record {
+              short = ltb-false mostBytes (length t) (refuse-if-go _ 10 a);
+              some = leb→le 1 q x;
+              few = leb→le q mostUnknowns y;
+              whole = eqb-true n q (not-false (eqb n q) (refuse-if-go _ 3 d));
+            };
         reads = reads;
         within = within;
       },
@@ -106,7 +118,14 @@ pub read-is-accepted : (q n : ℕ) (t : List ℕ) (e : Equation) → ReadAs q n 
 unfolding outcome treeOutcome checked _then_ refuseWith
 read-is-accepted q n t e r =
     let c = r .called in
-    rw (le-ltb mostBytes (length t) (c .short), le-leb 1 q (c .some), le-leb q mostUnknowns (c .few), eq-eqb n q (c .whole), read-any q e t (c .few) (r .reads), within-go q e (r .within))
+    rw (
+      le-ltb mostBytes (length t) (c .short),
+      le-leb 1 q (c .some),
+      le-leb q mostUnknowns (c .few),
+      eq-eqb n q (c .whole),
+      read-any q e t (c .few) (r .reads),
+      within-go q e (r .within),
+    )
 
 -- zs and z are the meaning of a reading of the text within the limits
 abbrev pub MeansWithin : ℕ → ℕ → List ℕ → List ℤ → ℤ → Type 0

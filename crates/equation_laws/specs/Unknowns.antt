@@ -32,7 +32,8 @@ module _ (q n : ℕ) (l : q ≤ n) where
 
     sum-upto : (e : Sum) (ps : List Part) (t : List ℕ) → Spells q (sumParts e ps) t → Left q (SumUpTo e n) ps
     sum-upto (one bare u) ps t s = let a = term-upto u ps t s in record { holds = a .holds; rest = a .rest; spells = a .spells }
-    sum-upto (one (led g) u) ps t s = let i = first s in let a = term-upto u ps (i .rest) (i .spells) in record { holds = a .holds; rest = a .rest; spells = a .spells }
+    sum-upto (one (led g) u) ps t s = let i = first s in let a = term-upto u ps (i .rest) (i .spells) in
+        record { holds = a .holds; rest = a .rest; spells = a .spells }
     sum-upto (more e g u) ps t s =
         let c = sum-upto e (sign g ∷ termParts u ps) t s in
         let i = first (c .spells) in

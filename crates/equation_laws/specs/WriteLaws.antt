@@ -80,10 +80,12 @@ module _ (q : ℕ) where
   later-writes (pos zero ∷ zs) k e x f l h w = later-writes zs (suc k) e x (λ i m. f (suc i) (omega arith)) (omega arith) (omega arith) w
   later-writes (pos (suc n) ∷ zs) k e x f l h w =
       rw (← append-assoc x (spacedSign plus ++ multiple (suc n) k) (laterTerms (suc k) zs))
-      (later-writes zs (suc k) (more e plus (multipleTerm (suc n) k)) (x ++ (spacedSign plus ++ multiple (suc n) k)) (λ i m. f (suc i) (omega arith)) (omega arith) (omega arith) (later-one e x plus (suc n) k (omega arith) (omega (arith, f 0 (omega arith))) l (omega arith) w))
+      (later-writes zs (suc k) (more e plus (multipleTerm (suc n) k)) (x ++ (spacedSign plus ++ multiple (suc n) k)) (λ i m. f (suc i) (omega arith))
+      (omega arith) (omega arith) (later-one e x plus (suc n) k (omega arith) (omega (arith, f 0 (omega arith))) l (omega arith) w))
   later-writes (negsuc n ∷ zs) k e x f l h w =
       rw (← append-assoc x (spacedSign minus ++ multiple (suc n) k) (laterTerms (suc k) zs))
-      (later-writes zs (suc k) (more e minus (multipleTerm (suc n) k)) (x ++ (spacedSign minus ++ multiple (suc n) k)) (λ i m. f (suc i) (omega arith)) (omega arith) (omega arith) (later-one e x minus (suc n) k (omega arith) (omega (arith, f 0 (omega arith))) l (omega arith) w))
+      (later-writes zs (suc k) (more e minus (multipleTerm (suc n) k)) (x ++ (spacedSign minus ++ multiple (suc n) k)) (λ i m. f (suc i) (omega arith))
+      (omega arith) (omega arith) (later-one e x minus (suc n) k (omega arith) (omega (arith, f 0 (omega arith))) l (omega arith) w))
 
   bare-writes : (m k : ℕ) → 1 ≤ m → m ≤ 99999 → 1 ≤ k → k ≤ q → Writes q (one bare (multipleTerm m k)) (multiple m k)
   unfolding sumParts
@@ -102,9 +104,11 @@ module _ (q : ℕ) where
   tree-writes [] k f l h = zero-writes
   tree-writes (pos zero ∷ zs) k f l h = tree-writes zs (suc k) (λ i m. f (suc i) (omega arith)) (omega arith) (omega arith)
   tree-writes (pos (suc n) ∷ zs) k f l h =
-      later-writes zs (suc k) _ (multiple (suc n) k) (λ i m. f (suc i) (omega arith)) (omega arith) (omega arith) (bare-writes (suc n) k (omega arith) (omega (arith, f 0 (omega arith))) l (omega arith))
+      later-writes zs (suc k) _ (multiple (suc n) k) (λ i m. f (suc i) (omega arith)) (omega arith) (omega arith)
+      (bare-writes (suc n) k (omega arith) (omega (arith, f 0 (omega arith))) l (omega arith))
   tree-writes (negsuc n ∷ zs) k f l h =
-      later-writes zs (suc k) _ (signByte minus ∷ multiple (suc n) k) (λ i m. f (suc i) (omega arith)) (omega arith) (omega arith) (led-writes (suc n) k (omega arith) (omega (arith, f 0 (omega arith))) l (omega arith))
+      later-writes zs (suc k) _ (signByte minus ∷ multiple (suc n) k) (λ i m. f (suc i) (omega arith)) (omega arith) (omega arith)
+      (led-writes (suc n) k (omega arith) (omega (arith, f 0 (omega arith))) l (omega arith))
 
   number-spells : (z : ℤ) → natAbs z ≤ coefLimit → Spells q (sumParts (numberTree z) []) (space ∷ texts.numeral z)
   unfolding sumParts
@@ -119,7 +123,8 @@ terms-begin (pos zero ∷ zs) k r e = terms-begin zs (suc k) r e
 terms-begin (pos (suc zero) ∷ zs) k r e = omega (arith, e)
 terms-begin (pos (suc (suc n)) ∷ zs) k r e =
     let b = begins (suc (suc n)) in
-    let w = ap (λ x. getD x 0 0) (append-assoc (multiple (suc (suc n)) k) (laterTerms (suc k) zs) r ∙ append-assoc (decimal (suc (suc n))) _ _ ∙ by-first (suc (suc n)) b _) in
+    let w = ap (λ x. getD x 0 0)
+    (append-assoc (multiple (suc (suc n)) k) (laterTerms (suc k) zs) r ∙ append-assoc (decimal (suc (suc n))) _ _ ∙ by-first (suc (suc n)) b _) in
     omega (arith, w, e)
 terms-begin (negsuc n ∷ zs) k r e = omega (arith, e)
 
@@ -278,7 +283,8 @@ written-steep row right p = (tree-steep row 1 p, number-steep right p)
 pub multiple-short : (m k : ℕ) → m ≤ coefLimit → k ≤ 99 → length (multiple m k) ≤ 9
 multiple-short zero k l h = omega arith
 multiple-short (suc zero) k l h = omega (arith, digits-most 1 k (omega arith))
-multiple-short (suc (suc m)) k l h = rw (length-append (decimal (suc (suc m)))) (omega (arith, digits-most 1 k (omega arith), digits-most 4 (suc (suc m)) (omega arith)))
+multiple-short (suc (suc m)) k l h =
+    rw (length-append (decimal (suc (suc m)))) (omega (arith, digits-most 1 k (omega arith), digits-most 4 (suc (suc m)) (omega arith)))
 
 later-short : (zs : List ℤ) (k : ℕ) → CoefsInRange zs → k + length zs ≤ 99 → length (laterTerms k zs) ≤ 15 * length zs
 unfolding laterTerms

@@ -27,6 +27,8 @@ unfolding writeChecks
 write-renders q row right bytes =
     renders-then (decides-outside 2 1 mostUnknowns q)
     (renders-then (decides-unequal 3 (length row) q)
-    (renders-then (decides-first 7 (length row) (λ i. outOfRange (getD row i (pos 0))) _ (λ i l. ltb→lt coefLimit (natAbs (getD row i (pos 0)))) (λ i l. lt→ltb coefLimit (natAbs (getD row i (pos 0)))))
+    (renders-then (decides-first 7 (length row) (λ i. outOfRange (getD row i (pos 0))) _ (λ i l. ltb→lt coefLimit (natAbs (getD row i (pos 0))))
+    (λ i l. lt→ltb coefLimit (natAbs (getD row i (pos 0)))))
     (renders-then (decides-if (outOfRange right) 15 _ (ltb→lt coefLimit (natAbs right)) (lt→ltb coefLimit (natAbs right)))
-    (renders-last (decides-if (ltb bytes (length (written row right))) 29 _ (ltb→lt bytes (length (written row right))) (lt→ltb bytes (length (written row right))))))))
+    (renders-last (decides-if (ltb bytes (length (written row right))) 29 _ (ltb→lt bytes (length (written row right)))
+    (lt→ltb bytes (length (written row right))))))))

@@ -14,7 +14,22 @@ use Rattle.equation_form.specs.Reader.{readBracket, rightOf, readEquation}
 use Rattle.equation_form.specs.Scan.{onward, factorBegins, termBegins, sumBegins, afterDigits, afterFactor, step, placeFrom, place}
 use Rattle.equation_form.specs.Outcome.{checked, list, limits, treeOutcome, outcome}
 use Rattle.equation_lines.specs.Lines.{lineLength, lineCount}
-use Rattle.equation_lines.specs.Systems.{lineOutcome, readLines, Outcome, accepted, refused, ofRows, unless, systemChecks, systemOutcome, read, handOut, tableChecks, handedOut, readSystem}
+use Rattle.equation_lines.specs.Systems.{
+  lineOutcome,
+  readLines,
+  Outcome,
+  accepted,
+  refused,
+  ofRows,
+  unless,
+  systemChecks,
+  systemOutcome,
+  read,
+  handOut,
+  tableChecks,
+  handedOut,
+  readSystem,
+}
 use Rattle.equation_lines.specs.Systems as systems
 
 -- a number of unknowns, a text, and what it comes to
@@ -22,7 +37,9 @@ abbrev Case : Type 0
 Case = ℕ × String × Outcome
 
 asRead : List Case → List Outcome
-unfolding skip onByte onSign andThen moreDigits readNatural readIndex readFactor afterNumeral readTerm moreTerms firstTerm readSum closed readBracket rightOf readEquation onward factorBegins termBegins sumBegins afterDigits afterFactor step placeFrom place _then_ refuseWith refuseFirst coefficient rightSide ofSum sumDepth sumSteep checked list limits treeOutcome outcome lineLength lineCount lineOutcome readLines ofRows unless systemChecks systemOutcome
+unfolding skip onByte onSign andThen moreDigits readNatural readIndex readFactor afterNumeral readTerm moreTerms firstTerm readSum closed readBracket rightOf
+    readEquation onward factorBegins termBegins sumBegins afterDigits afterFactor step placeFrom place _then_ refuseWith refuseFirst coefficient rightSide ofSum
+    sumDepth sumSteep checked list limits treeOutcome outcome lineLength lineCount lineOutcome readLines ofRows unless systemChecks systemOutcome
 asRead cases = map (λ (c : Case). systemOutcome (c .0) (bytes (c .1))) cases
 
 asSaid : List Case → List Outcome
@@ -31,7 +48,11 @@ asSaid cases = map (λ (c : Case). c .2) cases
 cases : List Case
 cases =
     (3, "2*(x1 + x3) - x2 = 3\nx1 = x2\n", accepted 2 (pos 2 ∷ negsuc 0 ∷ pos 2 ∷ pos 1 ∷ negsuc 0 ∷ pos 0 ∷ []) (pos 3 ∷ pos 0 ∷ []))
-    ∷ (1, "0=0\n0=0\n0=0\n0=0\n0=0\n0=0\n0=0\nx1=7\n", accepted 8 (pos 0 ∷ pos 0 ∷ pos 0 ∷ pos 0 ∷ pos 0 ∷ pos 0 ∷ pos 0 ∷ pos 1 ∷ []) (pos 0 ∷ pos 0 ∷ pos 0 ∷ pos 0 ∷ pos 0 ∷ pos 0 ∷ pos 0 ∷ pos 7 ∷ []))
+    ∷ (
+      1,
+      "0=0\n0=0\n0=0\n0=0\n0=0\n0=0\n0=0\nx1=7\n",
+      accepted 8 (pos 0 ∷ pos 0 ∷ pos 0 ∷ pos 0 ∷ pos 0 ∷ pos 0 ∷ pos 0 ∷ pos 1 ∷ []) (pos 0 ∷ pos 0 ∷ pos 0 ∷ pos 0 ∷ pos 0 ∷ pos 0 ∷ pos 0 ∷ pos 7 ∷ []),
+    )
     ∷ (1, "0=0\n0=0\n0=0\n0=0\n0=0\n0=0\n0=0\n0=0\n0=0\n", refused 1 [])
     ∷ (1, "0=0\n0=0\n0=0\n0=0\n0=0\n0=0\n0=0\n0=0\nx", refused 1 [])
     ∷ (17, "", refused 1 [])
@@ -59,7 +80,9 @@ long = refl
 
 -- both tables are written from their beginnings; 29 where one is too short, and nothing is written then
 tables :
-    readSystem 1 (bytes "x1=2\n3*x1=-4\n") (pos 9 ∷ pos 9 ∷ pos 9 ∷ []) (pos 8 ∷ pos 8 ∷ []) ∷ readSystem 1 (bytes "x1=2\n3*x1=-4\n") (pos 9 ∷ []) (pos 8 ∷ pos 8 ∷ []) ∷ readSystem 1 (bytes "x1=2\n3*x1=-4\n") (pos 9 ∷ pos 9 ∷ []) (pos 8 ∷ []) ∷ readSystem 1 (bytes "x1=2\n3*x1=-4") [] [] ∷ []
+    readSystem 1 (bytes "x1=2\n3*x1=-4\n") (pos 9 ∷ pos 9 ∷ pos 9 ∷ []) (pos 8 ∷ pos 8 ∷ [])
+    ∷ readSystem 1 (bytes "x1=2\n3*x1=-4\n") (pos 9 ∷ []) (pos 8 ∷ pos 8 ∷ []) ∷ readSystem 1 (bytes "x1=2\n3*x1=-4\n") (pos 9 ∷ pos 9 ∷ []) (pos 8 ∷ [])
+    ∷ readSystem 1 (bytes "x1=2\n3*x1=-4") [] [] ∷ []
     ≡ read 2 (pos 1 ∷ pos 3 ∷ pos 9 ∷ []) (pos 2 ∷ negsuc 3 ∷ [])
     ∷ systems.refused 29 [] (pos 9 ∷ []) (pos 8 ∷ pos 8 ∷ [])
     ∷ systems.refused 29 [] (pos 9 ∷ pos 9 ∷ []) (pos 8 ∷ [])

@@ -72,7 +72,8 @@ lines-accept zero q n zs rs t e = ([], [], no-line, cc (append-nil zs), cc (appe
 lines-accept (suc k) q n zs rs t {ys} {ss} e = by (lineOutcome q t) refl e (λ zs rs. lines-accept k q (suc n) zs rs (afterLine t) {ys = ys} {ss = ss})
   where
     by : (o : equation.Outcome) → lineOutcome q t ≡ o → atLine n zs rs o (λ zs rs. readLines k q (suc n) zs rs (afterLine t)) ≡ rows ys ss
-        → ((zs rs : List ℤ) → readLines k q (suc n) zs rs (afterLine t) ≡ rows ys ss → (xs : List ℤ) × (ds : List ℤ) × Accepts q k (afterLine t) xs ds × (ys ≡ zs ++ xs) × (ss ≡ rs ++ ds))
+        → ((zs rs : List ℤ) → readLines k q (suc n) zs rs (afterLine t) ≡ rows ys ss
+        → (xs : List ℤ) × (ds : List ℤ) × Accepts q k (afterLine t) xs ds × (ys ≡ zs ++ xs) × (ss ≡ rs ++ ds))
         → (xs : List ℤ) × (ds : List ℤ) × Accepts q (suc k) t xs ds × (ys ≡ zs ++ xs) × (ss ≡ rs ++ ds)
     by (equation.refused j values) h x ih = absurd (let z : _≡_ {A = ℕ} 0 1 = cc in omega arith)
     by (equation.accepted row right) h x ih =

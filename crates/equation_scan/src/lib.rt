@@ -4,7 +4,19 @@ ghost use Prim.Native.Nat.{_≤_, _+_, _*_};
 ghost use mathlib.Core.Bool.{true};
 ghost use Rattle.texts.specs.Reading.{isDigit, digit};
 ghost use lib.ListN.{length};
-ghost use Rattle.equation_form.specs.Scan.{onward as onwardStep, factorBegins, termBegins, sumBegins, afterDigits, afterFactor, indexed as indexedStep, step as nextStep, inNumber, final, place as faultPlace};
+ghost use Rattle.equation_form.specs.Scan.{
+  onward as onwardStep,
+  factorBegins,
+  termBegins,
+  sumBegins,
+  afterDigits,
+  afterFactor,
+  indexed as indexedStep,
+  step as nextStep,
+  inNumber,
+  final,
+  place as faultPlace,
+};
 ghost use Rattle.equation_scan.specs.Phases.{stepOf, phaseOf};
 use texts::number::is_digit;
 

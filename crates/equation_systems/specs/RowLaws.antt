@@ -45,7 +45,8 @@ module _ (q n : ℕ) (zs rs : List ℤ) (line : List ℕ) (part : List ℤ) (who
 pub row-read : (q i n : ℕ) (coefs rights : List ℤ) (line : List ℕ) (part after post : List ℤ) (right : ℤ) → i * q + q ≤ length coefs → i < length rights
     → length part ≡ q
     → length after ≡ length part → read right after ≡ answered (outcome q (length part) line) part
-    → rows (take (i * q + q) (take (i * q) coefs ++ (after ++ post))) (take (i + 1) (set rights i right)) ≡ atLine n (take (i * q) coefs) (take i rights) (outcome q q line) rows
+    → rows (take (i * q + q) (take (i * q) coefs ++ (after ++ post))) (take (i + 1) (set rights i right))
+    ≡ atLine n (take (i * q) coefs) (take i rights) (outcome q q line) rows
 row-read q i n coefs rights line part after post right l m whole same e =
     rw (row-in (i * q) q coefs after post l (same ∙ whole), add-one i, take-suc-set rights i right m)
     (row-accepted q n (take (i * q) coefs) (take i rights) line part whole e)

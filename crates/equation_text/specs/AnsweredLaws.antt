@@ -10,7 +10,8 @@ use Rattle.equation_form.specs.Outcome.{Outcome, outcome}
 use Rattle.equation_laws.specs.Theorems.{accepted-is-read}
 use Rattle.equation_text.specs.Answer.{answered, read, refused}
 
-pub answered-refused : (o : Outcome) (row : List ℤ) {n : ℕ} {values : List ℕ} {left : List ℤ} → refused n values left ≡ answered o row → o ≡ form.refused n values
+pub answered-refused : (o : Outcome) (row : List ℤ) {n : ℕ} {values : List ℕ} {left : List ℤ} → refused n values left ≡ answered o row
+    → o ≡ form.refused n values
 unfolding answered
 answered-refused (form.accepted zs z) row h = absurd (let z : _≡_ {A = ℕ} 0 1 = cc in omega arith)
 answered-refused (form.refused k values) row h = cc

@@ -42,7 +42,10 @@ module _ (t : List ℕ) (i : ℕ) where
   -- a byte that stands at place i stands in the text
   pub starts-inside : (b : ℕ) → starts b (drop i t) ≡ true → i < length t
   starts-inside b e =
-      elim (decLt i (length t)) [ yes h ↦ h | no h ↦ absurd (let l : length t ≤ i = omega arith in let n = rw (drop-of-length-le t l) at e in let z : _≡_ {A = ℕ} 0 1 = cc in omega arith) ]
+      elim (decLt i (length t)) [
+        | yes h ↦ h
+        | no h ↦ absurd (let l : length t ≤ i = omega arith in let n = rw (drop-of-length-le t l) at e in let z : _≡_ {A = ℕ} 0 1 = cc in omega arith)
+      ]
 
   pub starts-byte : (b : ℕ) → starts b (drop i t) ≡ true → drop i t ≡ b ∷ drop (i + 1) t
   starts-byte b e =
@@ -111,7 +114,11 @@ after-shorter (b ∷ s) = go (eqb b 43) (eqb b 45)
 module _ (t : List ℕ) (i : ℕ) (e : isLed (leadOf (drop i t)) ≡ true) where
   pub sign-inside : i < length t
   unfolding leadOf onSign onByte
-  sign-inside = elim (decLt i (length t)) [ yes h ↦ h | no h ↦ absurd (let l : length t ≤ i = omega arith in let n = rw (drop-of-length-le t l) at e in let z : _≡_ {A = ℕ} 0 1 = cc in omega arith) ]
+  sign-inside =
+      elim (decLt i (length t)) [
+        | yes h ↦ h
+        | no h ↦ absurd (let l : length t ≤ i = omega arith in let n = rw (drop-of-length-le t l) at e in let z : _≡_ {A = ℕ} 0 1 = cc in omega arith)
+      ]
 
   pub sign-rest : skip (drop (i + 1) t) ≡ afterLead (drop i t)
   sign-rest = let b = byte-at t i sign-inside in rw b (sym (lead-rest (getD t i 0) (drop (i + 1) t) (rw b at e)))

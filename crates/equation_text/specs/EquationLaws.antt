@@ -45,7 +45,8 @@ unfolding list
 list-eq [] k f h = refl
 list-eq (z ∷ zs) k f h =
     let e : k + 0 ≡ k = omega arith in
-    ap₂ (λ x y. x ∷ y) (rw e at (h 0 (omega arith))) (list-eq zs (suc k) f (λ j m. let e : suc k + j ≡ k + suc j = omega arith in rw e (h (suc j) (omega arith))))
+    ap₂ (λ x y. x ∷ y) (rw e at (h 0 (omega arith)))
+    (list-eq zs (suc k) f (λ j m. let e : suc k + j ≡ k + suc j = omega arith in rw e (h (suc j) (omega arith))))
 
 pub row-all : (row ts : List ℤ) (q i : ℕ) → length row ≡ q → i ≤ q → q ≤ i → ((j : ℕ) → j < i → getD row j (pos 0) ≡ getD ts (suc j) (pos 0))
     → row ≡ list q 1 (λ k. getD ts k (pos 0))
@@ -127,7 +128,12 @@ module _ (q : ℕ) (few : q ≤ 16) (e : Equation) (t : List ℕ) (reads : Reads
         ap negℤ (v 0) ∙ ring (⊖ (# ofSum (e .left) 0 ⊕ ⊖ (# ofSum (e .right) 0))) (# ofSum (e .right) 0 ⊕ ⊖ (# ofSum (e .left) 0)) (omega arith)
         in
         ap (λ o. answered o row)
-        (rw (refuse-cong 7 q (λ i. outOfRange (getD ts (suc i) (pos 0))) (λ i. outOfRange (ofSum (e .left) (suc i) -ℤ ofSum (e .right) (suc i))) (λ i. ap outOfRange (v (suc i))), list-cong q 1 (λ k. getD ts k (pos 0)) (λ k. ofSum (e .left) k -ℤ ofSum (e .right) k) v, r)
+        (rw (
+          refuse-cong 7 q (λ i. outOfRange (getD ts (suc i) (pos 0))) (λ i. outOfRange (ofSum (e .left) (suc i) -ℤ ofSum (e .right) (suc i)))
+              (λ i. ap outOfRange (v (suc i))),
+          list-cong q 1 (λ k. getD ts k (pos 0)) (λ k. ofSum (e .left) k -ℤ ofSum (e .right) k) v,
+          r,
+        )
         (sym (whole-is ∙ rw (le-ltb mostDepth _ l, h))))
 
 -- ---- the refusals in their order: a text t, q unknowns, and a row of n numbers

@@ -131,14 +131,17 @@ unfolding addSum ofSum
 more-adds e s u z f g ts i l =
     g (addSum e z ts) i (sum-length e z ts ∙ l)
     ∙ ap₂ (λ a b. a +ℤ b) (f ts i l) (signed-times s z (ofTerm u i))
-    ∙ ring (# getD ts i (pos 0) ⊕ # z ⊗ # ofSum e i ⊕ # z ⊗ # signed s (ofTerm u i)) (# getD ts i (pos 0) ⊕ # z ⊗ (# ofSum e i ⊕ # signed s (ofTerm u i))) (omega arith)
+    ∙ ring (# getD ts i (pos 0) ⊕ # z ⊗ # ofSum e i ⊕ # z ⊗ # signed s (ofTerm u i))
+    (# getD ts i (pos 0) ⊕ # z ⊗ (# ofSum e i ⊕ # signed s (ofTerm u i))) (omega arith)
 
 mutual
   unfolding addSum ofSum steepSum SumUpTo
 
   pub sum-adds : (e : Sum) (z : ℤ) → SumUpTo e 16 → steepSum e z ≡ false → Adds (addSum e) (ofSum e) z
   sum-adds (one l u) z w h ts i n = term-adds u (ledBy l z) w h ts i n ∙ ap (λ x. getD ts i (pos 0) +ℤ x) (led-times l z (ofTerm u i))
-  sum-adds (more e s u) z w h ts i n = more-adds e s u z (λ us j m. sum-adds e z (w .0) (or-parts _ (steepTerm u (signed s z)) h .0) us j m) (λ us j m. term-adds u (signed s z) (w .1) (or-parts (steepSum e z) _ h .1) us j m) ts i n
+  sum-adds (more e s u) z w h ts i n =
+      more-adds e s u z (λ us j m. sum-adds e z (w .0) (or-parts _ (steepTerm u (signed s z)) h .0) us j m)
+      (λ us j m. term-adds u (signed s z) (w .1) (or-parts (steepSum e z) _ h .1) us j m) ts i n
 
   term-adds : (u : Term) (z : ℤ) → TermUpTo u 16 → steepTerm u z ≡ false → Adds (addTerm u) (ofTerm u) z
   term-adds (number n) z w h ts i l = add-at ts 0 i (z *ℤ pos n) (omega arith) ∙ ap (λ x. getD ts i (pos 0) +ℤ x) (times-single z (pos n) 0 i)

@@ -71,7 +71,13 @@ module _ (q : ℕ) (few : q ≤ 16) (e : Equation) (t : List ℕ) (reads : Reads
       let (v, w, m) = equals-after q few e t reads 8 p in
       let (l, u) = first-inside t k 61 v (s ∙ w) in
       let i = left-is q few e t reads 8 p in
-      record { inside = l; spells = rw u m; within = left-within q few e t reads 8 p; totals = x ∙ ap (λ g. addSum g (pos 1) ts) i; steep = y ∙ ap (λ g. steepSum g (pos 1)) i }
+      record {
+        inside = l;
+        spells = rw u m;
+        within = left-within q few e t reads 8 p;
+        totals = x ∙ ap (λ g. addSum g (pos 1) ts) i;
+        steep = y ∙ ap (λ g. steepSum g (pos 1)) i;
+      }
 
   module _ {k : ℕ} {ts us : List ℤ} {st : Bool} (a : Middle q e t k ts us st) (m : ℕ) (s : drop m t ≡ skip (drop (k + 1) t)) where
     pub right-stopped : (row : List ℤ) → stopped ≡ sumCollected (negsuc 0) us (eight q (drop m t))

@@ -118,7 +118,8 @@ module _ (q d : ℕ) (z : ℤ) (ts : List ℤ) (t : List ℕ) (i : ℕ) where
   unfolding andThen termCollected
   term-malformed l e h = rw (number-first l e, ← h)
 
-  module _ (n j k : ℕ) (l : i < length t) (e : isDigit (getD t i 0) ≡ true) (h : parsed n (drop j t) ≡ readNumeral (drop i t)) (s : drop k t ≡ skip (drop j t)) where
+  module _ (n j k : ℕ) (l : i < length t) (e : isDigit (getD t i 0) ≡ true) (h : parsed n (drop j t) ≡ readNumeral (drop i t))
+      (s : drop k t ≡ skip (drop j t)) where
     pub term-number : starts 42 (drop k t) ≡ false
         → collected (addAt 0 (z *ℤ pos n) ts) false (drop j t) ≡ termCollected z ts (readTerm (readBracket q d) q (drop i t))
     unfolding andThen afterNumeral
@@ -151,7 +152,8 @@ module _ (q d : ℕ) (z : ℤ) (ts : List ℤ) (t : List ℕ) (i j : ℕ) (some 
   unfolding andThen bracketCollected
   bracket-stopped h = rw (bracket-opened, sum-stopped (bounded z) ts _ h)
 
-  module _ (n k : ℕ) {us : List ℤ} {st : Bool} (h : collected us st (drop n t) ≡ sumCollected (bounded z) ts (readSum (readBracket q (d - 1)) q (drop j t))) (v : drop k t ≡ skip (drop n t)) where
+  module _ (n k : ℕ) {us : List ℤ} {st : Bool} (h : collected us st (drop n t) ≡ sumCollected (bounded z) ts (readSum (readBracket q (d - 1)) q (drop j t)))
+      (v : drop k t ≡ skip (drop n t)) where
     pub bracket-open : starts 41 (drop k t) ≡ false → stopped ≡ bracketCollected z ts (readBracket q d (drop i t))
     unfolding andThen closed bracketCollected
     bracket-open x =
@@ -267,16 +269,25 @@ module _ (q d : ℕ) (t : List ℕ) (i : ℕ) (z : ℤ) (ts : List ℤ) where
     pub due-stopped : stopped ≡ termCollected (signedBy neg z) us (readTerm (readBracket q d) q (drop next t))
         → stopped ≡ sumCollected z ts (readSum (readBracket q d) q (drop i t))
     unfolding andThen sumCollected
-    due-stopped h = ap (sumCollected z ts) (sym (ap (λ p. andThen p (λ u. moreTerms (readBracket q d) q (a .k) (a .sum u))) (term-stopped (signedBy neg z) us _ h)) ∙ a .comes)
+    due-stopped h =
+        ap (sumCollected z ts)
+        (sym (ap (λ p. andThen p (λ u. moreTerms (readBracket q d) q (a .k) (a .sum u))) (term-stopped (signedBy neg z) us _ h)) ∙ a .comes)
 
     -- the term is read, up to place j
-    module _ (j k : ℕ) {vs : List ℤ} {more′ : Bool} (h : collected vs more′ (drop j t) ≡ termCollected (signedBy neg z) us (readTerm (readBracket q d) q (drop next t))) (s : drop k t ≡ skip (drop j t)) where
+    module _ (j k : ℕ) {vs : List ℤ} {more′ : Bool}
+        (h : collected vs more′ (drop j t) ≡ termCollected (signedBy neg z) us (readTerm (readBracket q d) q (drop next t)))
+        (s : drop k t ≡ skip (drop j t)) where
       -- the sum with it, and what is left to read
-      with-term : (e : Sum) × (moreTerms (readBracket q d) q (a .k) e (drop j t) ≡ readSum (readBracket q d) q (drop i t)) × (vs ≡ addSum e z ts) × ((steep || more′) ≡ steepSum e z)
+      with-term : (e : Sum) × (moreTerms (readBracket q d) q (a .k) e (drop j t) ≡ readSum (readBracket q d) q (drop i t)) × (vs ≡ addSum e z ts)
+          × ((steep || more′) ≡ steepSum e z)
       unfolding andThen
       with-term =
-          let (u, x, y, w) = term-parsed (signedBy neg z) us (readTerm (readBracket q d) q (drop next t)) h in
-          (a .sum u, sym (ap (λ p. andThen p (λ u. moreTerms (readBracket q d) q (a .k) (a .sum u))) x) ∙ a .comes, y ∙ sym (a .adds u), ap (λ b. steep || b) w ∙ sym (a .steeps u))
+          let (u, x, y, w) = term-parsed (signedBy neg z) us (readTerm (readBracket q d) q (drop next t)) h in (
+            a .sum u,
+            sym (ap (λ p. andThen p (λ u. moreTerms (readBracket q d) q (a .k) (a .sum u))) x) ∙ a .comes,
+            y ∙ sym (a .adds u),
+            ap (λ b. steep || b) w ∙ sym (a .steeps u),
+          )
 
       over-with : (e : Sum) → moreTerms (readBracket q d) q (a .k) e (drop j t) ≡ readSum (readBracket q d) q (drop i t) → vs ≡ addSum e z ts
           → (steep || more′) ≡ steepSum e z

@@ -58,7 +58,8 @@ pub fn read_equation(text: &[u8], q: usize, row: &mut [i32]) -> EquationRead
 // An equation that is in the grammar.
 fn read_sides(text: &[u8], q: usize, row: &mut [i32]) -> EquationRead
     requires { ⌜ (length (now text) ≤ 4096) × (1 ≤ q) × (q ≤ 16) × (length (now row) ≡ q) × (faultPlace q (now text) ≡ 0) ⌝ }
-    ensures { λ r. ⌜ answerOf r (now (row .exit)) ≡ answered (treeOutcome q (now (text .entry)) (readEquation q (length (now (text .entry))) (now (text .entry)))) (now (row .entry)) ⌝ }
+    ensures { λ r. ⌜ answerOf r (now (row .exit))
+        ≡ answered (treeOutcome q (now (text .entry)) (readEquation q (length (now (text .entry))) (now (text .entry)))) (now (row .entry)) ⌝ }
 {
     let mut totals = [0i64; 17];
     match read_sum(text, 0, q, 8, 1, &mut totals) {

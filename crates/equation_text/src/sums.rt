@@ -37,7 +37,8 @@ pub fn read_sum(
     totals: &mut [i64; 17],
 ) -> After
     requires { ⌜ Ready 10000 (now text) at q times (now totals) ⌝ }
-    ensures read { λ r. ⌜ collectedBy (now (text .entry)) r (now (totals .exit)) ≡ sumCollected times (now (totals .entry)) (readSum (readBracket q depth) q (drop at (now (text .entry)))) ⌝ }
+    ensures read { λ r. ⌜ collectedBy (now (text .entry)) r (now (totals .exit))
+        ≡ sumCollected times (now (totals .entry)) (readSum (readBracket q depth) q (drop at (now (text .entry)))) ⌝ }
     ensures passed { λ r. ⌜ Passed (now (text .entry)) at r (now (totals .exit)) ⌝ }
 {
     let mut next = after_sign(text, at);
@@ -74,7 +75,8 @@ fn read_term(
     totals: &mut [i64; 17],
 ) -> After
     requires { ⌜ Ready 10000 (now text) at q times (now totals) ⌝ }
-    ensures read { λ r. ⌜ collectedBy (now (text .entry)) r (now (totals .exit)) ≡ termCollected times (now (totals .entry)) (readTerm (readBracket q depth) q (drop at (now (text .entry)))) ⌝ }
+    ensures read { λ r. ⌜ collectedBy (now (text .entry)) r (now (totals .exit))
+        ≡ termCollected times (now (totals .entry)) (readTerm (readBracket q depth) q (drop at (now (text .entry)))) ⌝ }
     ensures passed { λ r. ⌜ Passed (now (text .entry)) at r (now (totals .exit)) ⌝ }
 {
     if text.len() <= at {
@@ -113,7 +115,8 @@ fn read_factor(
     totals: &mut [i64; 17],
 ) -> After
     requires { ⌜ Ready 1000000000 (now text) at q times (now totals) ⌝ }
-    ensures read { λ r. ⌜ collectedBy (now (text .entry)) r (now (totals .exit)) ≡ factorCollected times (now (totals .entry)) (readFactor (readBracket q depth) q (drop at (now (text .entry)))) ⌝ }
+    ensures read { λ r. ⌜ collectedBy (now (text .entry)) r (now (totals .exit))
+        ≡ factorCollected times (now (totals .entry)) (readFactor (readBracket q depth) q (drop at (now (text .entry)))) ⌝ }
     ensures passed { λ r. ⌜ Passed (now (text .entry)) at r (now (totals .exit)) ⌝ }
 {
     if stands(text, at, b'(') {
@@ -141,7 +144,8 @@ fn read_bracket(
     totals: &mut [i64; 17],
 ) -> After
     requires { ⌜ Ready 1000000000 (now text) at q times (now totals) ⌝ }
-    ensures read { λ r. ⌜ collectedBy (now (text .entry)) r (now (totals .exit)) ≡ bracketCollected times (now (totals .entry)) (readBracket q depth (drop at (now (text .entry)))) ⌝ }
+    ensures read { λ r. ⌜ collectedBy (now (text .entry)) r (now (totals .exit))
+        ≡ bracketCollected times (now (totals .entry)) (readBracket q depth (drop at (now (text .entry)))) ⌝ }
     ensures passed { λ r. ⌜ Passed (now (text .entry)) at r (now (totals .exit)) ⌝ }
 {
     if depth == 0 {

@@ -38,5 +38,6 @@ wrote-back q row right out {n} {space} e = by (writeChecks q row right (length o
         let m : length (written row right) ≡ n = cc in
         let s : written row right ++ drop (length (written row right)) out ≡ space = cc in
         let t : take n space ≡ written row right = rw (← m, ← s) (take-at (written row right) _ (length (written row right)) refl) in
-        let r = written-back row right (rw w (leb→le q mostUnknowns y)) (passed row (sym c) .range) (ltb-false coefLimit (natAbs right) (refuse-if-go _ 15 d)) (rw w (leb→le 1 q x)) in
+        let r = written-back row right (rw w (leb→le q mostUnknowns y)) (passed row (sym c) .range)
+        (ltb-false coefLimit (natAbs right) (refuse-if-go _ 15 d)) (rw w (leb→le 1 q x)) in
         rw t (rw w at r)

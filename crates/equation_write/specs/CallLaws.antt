@@ -41,7 +41,8 @@ module _ (q : ℕ) (row : List ℤ) (right : ℤ) (out : List ℕ) where
         large e = rw (le-leb 1 q some, le-leb q 16 few, eq-eqb (length row) q whole, ← e)
 
         pub in-range : go ≡ coefficientChecks row
-            → putOut (refuseIf (outOfRange right) 15 then refuseIf (ltb (length out) (length (written row right))) 29) (written row right) out ≡ write q row right out
+            → putOut (refuseIf (outOfRange right) 15 then refuseIf (ltb (length out) (length (written row right))) 29)
+            (written row right) out ≡ write q row right out
         unfolding write writeChecks putOut _then_ refuseWith
         in-range e = rw (le-leb 1 q some, le-leb q 16 few, eq-eqb (length row) q whole, ← e)
 
@@ -49,7 +50,8 @@ module _ (q : ℕ) (row : List ℤ) (right : ℤ) (out : List ℕ) where
 pub passed : (row : List ℤ) → go ≡ coefficientChecks row → InRange row
 passed row e =
     let size : ℕ → ℕ = λ i. natAbs (getD row i (pos 0)) in
-    let d = decides-first 7 (length row) (λ i. outOfRange (getD row i (pos 0))) (λ i. coefLimit < size i) (λ i l. ltb→lt coefLimit (size i)) (λ i l. lt→ltb coefLimit (size i)) in
+    let d = decides-first 7 (length row) (λ i. outOfRange (getD row i (pos 0))) (λ i. coefLimit < size i) (λ i l. ltb→lt coefLimit (size i))
+    (λ i l. lt→ltb coefLimit (size i)) in
     record { range = λ i l. omega (arith, d .goes (rw (← e)) i l) }
 
 module _ (right : ℤ) (text out : List ℕ) where
@@ -59,7 +61,8 @@ module _ (right : ℤ) (text out : List ℕ) where
   right-out e = rw e
 
   pub right-in : outOfRange right ≡ false
-      → putOut (refuseIf (ltb (length out) (length text)) 29) text out ≡ putOut (refuseIf (outOfRange right) 15 then refuseIf (ltb (length out) (length text)) 29) text out
+      → putOut (refuseIf (ltb (length out) (length text)) 29) text out
+      ≡ putOut (refuseIf (outOfRange right) 15 then refuseIf (ltb (length out) (length text)) 29) text out
   unfolding putOut _then_ refuseWith
   right-in e = rw e
 
@@ -77,4 +80,5 @@ module _ (text out : List ℕ) where
 pub sides-short : (row : List ℤ) (right : ℤ) → length row ≤ 16 → InRange row → natAbs right ≤ coefLimit
     → length (terms 1 row) + 3 + length (numeral right) ≤ 256
 unfolding written
-sides-short row right few r l = omega (arith, written-short row right few (r .range) l, length-append (terms 1 row) (space ∷ equalsByte ∷ space ∷ numeral right))
+sides-short row right few r l =
+    omega (arith, written-short row right few (r .range) l, length-append (terms 1 row) (space ∷ equalsByte ∷ space ∷ numeral right))

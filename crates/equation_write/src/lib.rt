@@ -49,7 +49,9 @@ pub fn write_equation(q: usize, row: &[i32], right: i32, out: &mut [u8]) -> Equa
 // A row whose coefficients are in range.
 fn write_row(row: &[i32], right: i32, out: &mut [u8]) -> EquationWritten
     requires { ⌜ (length (now row) ≤ 16) × InRange (now row) ⌝ }
-    ensures { λ r. ⌜ wroteBy r (now (out .exit)) ≡ putOut (refuseIf (outOfRange right) 15 then refuseIf (ltb (length (now (out .entry))) (length (written (now (row .entry)) right))) 29) (written (now (row .entry)) right) (now (out .entry)) ⌝ }
+    ensures { λ r. ⌜ wroteBy r (now (out .exit))
+        ≡ putOut (refuseIf (outOfRange right) 15 then refuseIf (ltb (length (now (out .entry))) (length (written (now (row .entry)) right))) 29)
+        (written (now (row .entry)) right) (now (out .entry)) ⌝ }
 {
     if out_of_range(right) {
         return EquationWritten::RightSide;
@@ -61,7 +63,8 @@ fn write_row(row: &[i32], right: i32, out: &mut [u8]) -> EquationWritten
 
 // A text, if there is space for it.
 fn hand_out(text: &[u8], out: &mut [u8]) -> EquationWritten
-    ensures { λ r. ⌜ wroteBy r (now (out .exit)) ≡ putOut (refuseIf (ltb (length (now (out .entry))) (length (now (text .entry)))) 29) (now (text .entry)) (now (out .entry)) ⌝ }
+    ensures { λ r. ⌜ wroteBy r (now (out .exit))
+        ≡ putOut (refuseIf (ltb (length (now (out .entry))) (length (now (text .entry)))) 29) (now (text .entry)) (now (out .entry)) ⌝ }
 {
     if out.len() < text.len() {
         return EquationWritten::Space;

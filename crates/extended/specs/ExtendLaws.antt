@@ -102,15 +102,19 @@ coef-fits {p} {q} s i j l k = omega (arith, s .whole, row-fits q i p l)
 
 module _ (i q : ℕ) (coefs rights : List ℤ) where
   -- the extra unknown's number is written first
-  pub row-first : (wide₀ : List ℤ) {number : ℤ} → number ≡ negℤ (getD rights i (pos 0)) → i * (q + 1) < length wide₀ → RowWritten i q coefs rights 0 (set wide₀ (i * (q + 1)) number) (set wide₀ (i * (q + 1)) number)
+  pub row-first : (wide₀ : List ℤ) {number : ℤ} → number ≡ negℤ (getD rights i (pos 0)) → i * (q + 1) < length wide₀
+      → RowWritten i q coefs rights 0 (set wide₀ (i * (q + 1)) number) (set wide₀ (i * (q + 1)) number)
   row-first wide₀ {number} e l =
       record {
         size = refl;
         before = λ k h. refl;
-        new = λ x h. let is : x ≡ 0 = omega arith in rw is (ap (λ n. getD (set wide₀ (i * (q + 1)) number) n (pos 0)) (omega arith) ∙ getD-set-same wide₀ (i * (q + 1)) number (pos 0) l ∙ e);
+        new =
+            λ x h. let is : x ≡ 0 = omega arith in
+            rw is (ap (λ n. getD (set wide₀ (i * (q + 1)) number) n (pos 0)) (omega arith) ∙ getD-set-same wide₀ (i * (q + 1)) number (pos 0) l ∙ e);
       }
 
-  pub row-next : {j : ℕ} {wide₀ wide : List ℤ} {number : ℤ} → number ≡ getD coefs (i * q + j) (pos 0) → RowWritten i q coefs rights j wide₀ wide → i * (q + 1) + (j + 1) < length wide → RowWritten i q coefs rights (j + 1) wide₀ (set wide (i * (q + 1) + (j + 1)) number)
+  pub row-next : {j : ℕ} {wide₀ wide : List ℤ} {number : ℤ} → number ≡ getD coefs (i * q + j) (pos 0) → RowWritten i q coefs rights j wide₀ wide
+      → i * (q + 1) + (j + 1) < length wide → RowWritten i q coefs rights (j + 1) wide₀ (set wide (i * (q + 1) + (j + 1)) number)
   row-next {j} {wide₀} {wide} {number} e w l =
       let place : ℕ = i * (q + 1) + (j + 1) in
       record {
@@ -122,7 +126,8 @@ module _ (i q : ℕ) (coefs rights : List ℤ) where
         ];
       }
 
-  pub row-all : (wide₀ : List ℤ) (number : ℤ) {wide : List ℤ} → RowWritten i q coefs rights q (set wide₀ (i * (q + 1)) number) wide → RowWritten i q coefs rights q wide₀ wide
+  pub row-all : (wide₀ : List ℤ) (number : ℤ) {wide : List ℤ} → RowWritten i q coefs rights q (set wide₀ (i * (q + 1)) number) wide
+      → RowWritten i q coefs rights q wide₀ wide
   row-all wide₀ number {wide} w =
       record {
         size = w .size ∙ length-set wide₀ (i * (q + 1)) number;
@@ -135,7 +140,8 @@ module _ (i q : ℕ) (coefs rights : List ℤ) where
 pub extends-none : (q : ℕ) (coefs rights wide : List ℤ) → length wide ≡ 128 → Extends 0 q coefs rights wide
 extends-none q coefs rights wide e = record { size = e; entries = λ i x l k. absurd (omega arith) }
 
-pub extends-next : {i q : ℕ} {coefs rights wide₀ wide : List ℤ} → Extends i q coefs rights wide₀ → RowWritten i q coefs rights q wide₀ wide → Extends (i + 1) q coefs rights wide
+pub extends-next : {i q : ℕ} {coefs rights wide₀ wide : List ℤ} → Extends i q coefs rights wide₀ → RowWritten i q coefs rights q wide₀ wide
+    → Extends (i + 1) q coefs rights wide
 extends-next {i} {q} e w =
     record {
       size = w .size ∙ e .size;
@@ -149,9 +155,11 @@ below-rows : (i x p w : ℕ) → i * w + x < p * w → i < p
 below-rows i x p w h = elim (split i p) [ inl l ↦ l | inr l ↦ absurd (omega (arith, mul-le-mul-right w l)) ]
 
 -- the first p rows are all coefficients of the extended system
-pub extends-take : {p q : ℕ} {coefs rights wide : List ℤ} → Sided p q coefs rights → length coefs ≡ p * q → Extends p q coefs rights wide → take (p * (q + 1)) wide ≡ extendTo p q coefs rights
+pub extends-take : {p q : ℕ} {coefs rights wide : List ℤ} → Sided p q coefs rights → length coefs ≡ p * q → Extends p q coefs rights wide
+    → take (p * (q + 1)) wide ≡ extendTo p q coefs rights
 extends-take {p} {q} {coefs} {rights} {wide} s len e =
-    ext-getD (pos 0) (take (p * (q + 1)) wide) (extendTo p q coefs rights) (taken ∙ sym (all ∙ omega arith)) (λ k l. getD-take (p * (q + 1)) wide k (pos 0) (rw taken at l) ∙ here k (rw taken at l))
+    ext-getD (pos 0) (take (p * (q + 1)) wide) (extendTo p q coefs rights) (taken ∙ sym (all ∙ omega arith))
+    (λ k l. getD-take (p * (q + 1)) wide k (pos 0) (rw taken at l) ∙ here k (rw taken at l))
   where
     all : length (extendTo p q coefs rights) ≡ p * suc q
     all = extend-length q coefs rights p (omega (arith, len))
@@ -176,5 +184,6 @@ extends-take {p} {q} {coefs} {rights} {wide} s len e =
         rw parts (e .entries i x low (omega arith) ∙ entry i x low (omega arith) ∙ ap (λ n. getD (extendTo p q coefs rights) (n + x) (pos 0)) (omega arith))
 
 -- the walk of a capped run goes through it
-pub extended-system : {p q limit most : ℕ} {coefs b wide : List ℤ} → Handed (inputWith (delivered b) limit p q coefs) → Extends p q coefs b wide → most ≡ limitOf limit → systemOf (inputWith (delivered b) limit p q coefs) ≡ systemWith capped p (q + 1) (take (p * (q + 1)) wide) most
+pub extended-system : {p q limit most : ℕ} {coefs b wide : List ℤ} → Handed (inputWith (delivered b) limit p q coefs) → Extends p q coefs b wide
+    → most ≡ limitOf limit → systemOf (inputWith (delivered b) limit p q coefs) ≡ systemWith capped p (q + 1) (take (p * (q + 1)) wide) most
 extended-system {p} {q} {limit} {most} {coefs} {b} {wide} h e l = rw (extends-take (handed-sided h) (handed-numbers h .0) e, l, add-one q)

@@ -123,7 +123,10 @@ module _ (lower : List ℕ) (i : Input) (s : State) where
   -- a record and tables that pass the check for 6
   pub from-order : check6From lower i s ≡ go → InOrderBy (s .run .kind) lower i s
   from-order e =
-      elim (T-dec (ordersBy (s .run .kind) lower i s)) [ inl y ↦ orders-from (s .run .kind) y | inr n ↦ absurd (decides-from .goes e (out-by (s .run .kind) refl n)) ]
+      elim (T-dec (ordersBy (s .run .kind) lower i s)) [
+        | inl y ↦ orders-from (s .run .kind) y
+        | inr n ↦ absurd (decides-from .goes e (out-by (s .run .kind) refl n))
+      ]
 
 -- ---- the rules of the continuing call
 
@@ -177,7 +180,18 @@ pub record ValidFrom (lower : List ℕ) (i : Input) (s : State) : Type 0 where
 -- the same map, for the walk above the bound
 pub shaped-above : (lower : List ℕ) (i : Input) {s : State} → Shaped (mapOf i) s → Shaped (aboveSystem lower i) s
 shaped-above lower i g =
-    record { p-some = g .p-some; p-few = g .p-few; q-some = g .q-some; q-few = g .q-few; wide = g .wide; coefs = g .coefs; stack = g .stack; range = g .range; limit-some = g .limit-some; limit-few = g .limit-few }
+    record {
+      p-some = g .p-some;
+      p-few = g .p-few;
+      q-some = g .q-some;
+      q-few = g .q-few;
+      wide = g .wide;
+      coefs = g .coefs;
+      stack = g .stack;
+      range = g .range;
+      limit-some = g .limit-some;
+      limit-few = g .limit-few;
+    }
 
 module _ (lower : List ℕ) (i : Input) (s : State) where
   -- the plain walk is that of a plain run, and so is the one above the bound that of a run of its own
@@ -213,7 +227,10 @@ module _ (lower : List ℕ) (i : Input) (s : State) where
               h .numbers,
               (
                 λ l. let g = v .shaped .stack in omega (arith, rw is at l),
-                (λ ne. ne (v .long), (λ b. not-from lower i s b (v .ordered), (range, (λ (j, l, x). let g = v .small j (rw (← v .long) l) in omega (arith, g), tt)))),
+                (
+                  λ ne. ne (v .long),
+                  (λ b. not-from lower i s b (v .ordered), (range, (λ (j, l, x). let g = v .small j (rw (← v .long) l) in omega (arith, g), tt))),
+                ),
               ),
             ),
           ),
@@ -358,8 +375,10 @@ module _ (lower : List ℕ) (i : Input) (s : State) where
   pub search-going-from : ValidFrom lower i s → 0 < s .run .height → searchFrom lower i s ≡ go → GoingFrom lower i s
   unfolding searchFrom
   search-going-from v h c = (
-    λ e. search-going (mapOf i) (plainPart s) (plain-valid lower i s e v .ordered) h (subst (λ r. byWalk r (searchChecks (mapOf i) (plainPart s)) (searchChecks (aboveSystem lower i) s) ≡ go) e c),
-    λ e. search-going (aboveSystem lower i) s (above-valid lower i s e v .ordered) h (subst (λ r. byWalk r (searchChecks (mapOf i) (plainPart s)) (searchChecks (aboveSystem lower i) s) ≡ go) e c),
+    λ e. search-going (mapOf i) (plainPart s) (plain-valid lower i s e v .ordered) h
+        (subst (λ r. byWalk r (searchChecks (mapOf i) (plainPart s)) (searchChecks (aboveSystem lower i) s) ≡ go) e c),
+    λ e. search-going (aboveSystem lower i) s (above-valid lower i s e v .ordered) h
+        (subst (λ r. byWalk r (searchChecks (mapOf i) (plainPart s)) (searchChecks (aboveSystem lower i) s) ≡ go) e c),
   )
 
   pub step-from-valid : ValidFrom lower i s → GoingFrom lower i s → ValidFrom lower i (stepFrom lower i s)

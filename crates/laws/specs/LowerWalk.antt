@@ -96,7 +96,16 @@ module _ (checks : State → Check) (lower : List ℕ) (i : Input) where
         stack = t .stack;
         list = t .list;
         second = t .second;
-        run = record { kind = r; height = t .run .height; found = t .run .found; steps = t .run .steps; found₂ = t .run .found₂; steps₂ = t .run .steps₂; deepest = d };
+        run =
+            record {
+              kind = r;
+              height = t .run .height;
+              found = t .run .found;
+              steps = t .run .steps;
+              found₂ = t .run .found₂;
+              steps₂ = t .run .steps₂;
+              deepest = d;
+            };
       }) (sym e)
 
   plain-search : (d : ℕ) (t : State) → t .run .kind ≡ plainRun → searchFrom lower i (wholeOf d t) ≡ searchChecks (mapOf i) t
@@ -118,7 +127,8 @@ module _ (checks : State → Check) (lower : List ℕ) (i : Input) where
   -- what the run comes to from what the plain walk comes to
   abbrev joined : ℕ → ℕ → State → Outcome State
   joined n d t =
-      let o = walk n (machineOf checks (mapOf i)) t in thenAbove checks lower i (o .answer) (wholeOf d (o .state)) (n - walkSteps n (machineOf checks (mapOf i)) t)
+      let o = walk n (machineOf checks (mapOf i)) t in
+      thenAbove checks lower i (o .answer) (wholeOf d (o .state)) (n - walkSteps n (machineOf checks (mapOf i)) t)
 
   plain-done : (n d : ℕ) (t : State) → t .run .height ≡ 0 → walk n (machineFrom lower i) (wholeOf d t) ≡ joined n d t
   unfolding lowered
@@ -153,7 +163,8 @@ module _ (checks : State → Check) (lower : List ℕ) (i : Input) where
         → walk (suc n) (machineFrom lower i) (wholeOf d t) ≡ joined (suc n) d t
     plain-more n g next =
         let (o, k) = walk-more (machineOf checks (mapOf i)) t n (positive nz) g in
-        let left : suc n - suc (walkSteps n (machineOf checks (mapOf i)) (step (mapOf i) t)) ≡ n - walkSteps n (machineOf checks (mapOf i)) (step (mapOf i) t) = omega arith in
+        let left : suc n - suc (walkSteps n (machineOf checks (mapOf i)) (step (mapOf i) t))
+        ≡ n - walkSteps n (machineOf checks (mapOf i)) (step (mapOf i) t) = omega arith in
         rw (o, k, left)
         (walk-more (machineFrom lower i) (wholeOf d t) n (rw stays (positive nz)) (ap (searchFrom lower i) stays ∙ plain-search d t e ∙ g) .0
         ∙ ap (walk n (machineFrom lower i)) (ap (stepFrom lower i) stays ∙ plain-step d t e)
@@ -184,13 +195,23 @@ module _ (checks : State → Check) (lower : List ℕ) (i : Input) where
             stack = s .stack;
             list = s .list;
             second = s .second;
-            run = record { kind = r; height = s .run .height; found = s .run .found; steps = s .run .steps; found₂ = s .run .found₂; steps₂ = s .run .steps₂; deepest = s .run .deepest };
+            run =
+                record {
+                  kind = r;
+                  height = s .run .height;
+                  found = s .run .found;
+                  steps = s .run .steps;
+                  found₂ = s .run .found₂;
+                  steps₂ = s .run .steps₂;
+                  deepest = s .run .deepest;
+                };
           }) e
 
 -- ---- what a walk of its own keeps, for the code that makes one after the other
 
 module _ (checks : State → Check) (m : System) where
-  walk-turns : (P : State → ℕ → State → Type 0) → ((t : State) → P t 0 t) → ((t u : State) (k : ℕ) → 0 < t .run .height → searchChecks m t ≡ go → P (step m t) k u → P t (suc k) u)
+  walk-turns : (P : State → ℕ → State → Type 0) → ((t : State) → P t 0 t)
+      → ((t u : State) (k : ℕ) → 0 < t .run .height → searchChecks m t ≡ go → P (step m t) k u → P t (suc k) u)
       → (n : ℕ) (t : State) → P t (walkSteps n (machineOf checks m) t) (walk n (machineOf checks m) t .state)
   walk-turns P stays goes n t = by n t
     where
@@ -205,7 +226,8 @@ module _ (checks : State → Check) (m : System) where
           ]
       by (suc n) t = turn (by n (step m t))
         where
-          turn : P (step m t) (walkSteps n (machineOf checks m) (step m t)) (walk n (machineOf checks m) (step m t) .state) → P t (walkSteps (suc n) (machineOf checks m) t) (walk (suc n) (machineOf checks m) t .state)
+          turn : P (step m t) (walkSteps n (machineOf checks m) (step m t)) (walk n (machineOf checks m) (step m t) .state)
+              → P t (walkSteps (suc n) (machineOf checks m) t) (walk (suc n) (machineOf checks m) t .state)
           turn next =
               elim (ℕ-discrete (t .run .height) 0) [
                 | yes z ↦ done (suc n) t z
@@ -216,7 +238,9 @@ module _ (checks : State → Check) (m : System) where
               ]
 
   -- the record counts its steps, and keeps the kind of the run
-  pub walk-counts : (n : ℕ) (t : State) → (walk n (machineOf checks m) t .state .run .steps ≡ t .run .steps + walkSteps n (machineOf checks m) t) × (walk n (machineOf checks m) t .state .run .kind ≡ t .run .kind)
+  pub walk-counts : (n : ℕ) (t : State)
+      → (walk n (machineOf checks m) t .state .run .steps ≡ t .run .steps + walkSteps n (machineOf checks m) t)
+      × (walk n (machineOf checks m) t .state .run .kind ≡ t .run .kind)
   walk-counts =
       walk-turns (λ t k u. (u .run .steps ≡ t .run .steps + k) × (u .run .kind ≡ t .run .kind)) (λ t. (omega arith, refl))
       (λ t u k h g (e, f). (omega (arith, e, step-kept m t .counted), f ∙ step-kept m t .kind))

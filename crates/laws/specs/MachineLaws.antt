@@ -29,7 +29,8 @@ module _ {S : Type 0} (k : Machine S) (s : S) where
   unfolding walk walkSteps unlessDone
   walk-paused h = (rw (high-is (k .height here) h), refl)
 
-  pub walk-refused : (n r : ℕ) (values : List ℕ) → 0 < k .height here → k .refusals here ≡ refuse r values → (walk (suc n) k s ≡ record { answer = refused r values; state = here }) × (walkSteps (suc n) k s ≡ 0)
+  pub walk-refused : (n r : ℕ) (values : List ℕ) → 0 < k .height here → k .refusals here ≡ refuse r values
+      → (walk (suc n) k s ≡ record { answer = refused r values; state = here }) × (walkSteps (suc n) k s ≡ 0)
   unfolding walk walkSteps unlessDone checked moved
   walk-refused n r values h e = (rw (high-is (k .height here) h, e), rw (high-is (k .height here) h, e))
 
@@ -43,7 +44,8 @@ module _ {S : Type 0} (k : Machine S) (s : S) where
   call-walks n e = (rw e, rw e)
 
   -- a call that is refused before its walk takes no step, and changes nothing
-  pub call-refused : (n r : ℕ) (values : List ℕ) → k .before s ≡ refuse r values → (call n k s ≡ record { answer = refused r values; state = s }) × (callSteps n k s ≡ 0)
+  pub call-refused : (n r : ℕ) (values : List ℕ) → k .before s ≡ refuse r values
+      → (call n k s ≡ record { answer = refused r values; state = s }) × (callSteps n k s ≡ 0)
   unfolding call callSteps checked stepsIf
   call-refused n r values e = (rw e, rw e)
 

@@ -30,7 +30,8 @@ unfolding shown hasRow
 shows q list found i some few l here =
     there (between 1 mostUnknowns q) (leb 1 (suc i) && (leb (suc i) found && leb (suc i) (capacity q list))) (rowPart q list (suc i))
     (and-both (leb 1 q) (leb q mostUnknowns) (le→leb 1 q some) (le→leb q mostUnknowns few))
-    (and-both (leb 1 (suc i)) _ (le→leb 1 (suc i) (omega arith)) (and-both (leb (suc i) found) _ (le→leb (suc i) found l) (le→leb (suc i) (capacity q list) here)))
+    (and-both (leb 1 (suc i)) _ (le→leb 1 (suc i) (omega arith))
+    (and-both (leb (suc i) found) _ (le→leb (suc i) found l) (le→leb (suc i) (capacity q list) here)))
 
 -- as the part of the list table from i * q on
 part-from : (q : ℕ) (list : List ℕ) (i : ℕ) → rowPart q list (suc i) ≡ take q (drop (i * q) list)
@@ -88,7 +89,8 @@ module _ (w : Which) (q : ℕ) (list second : List ℕ) (found n : ℕ) where
       and-both (between 1 15 q) _
       (and-both (leb 1 q) _ (le→leb 1 q (at-most 1 q (λ l. is (two (inl l))))) (le→leb q 15 (at-most q 15 (λ l. is (two (inr l))))))
       (and-both (leb 1 n) _ (le→leb 1 n (at-most 1 n (λ l. is (zeroth l))))
-      (and-both (leb n found) _ (le→leb n found (at-most n found (λ l. is (past l)))) (le→leb n (capacity q table) (at-most n (capacity q table) (λ l. is (outside l))))))
+      (and-both (leb n found) _ (le→leb n found (at-most n found (λ l. is (past l))))
+      (le→leb n (capacity q table) (at-most n (capacity q table) (λ l. is (outside l))))))
 
   -- there is none or 2 is due: an empty part
   pub either-empty : NoRow q table found n → rowOfEither w q list second found n ≡ []

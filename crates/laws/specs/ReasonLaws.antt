@@ -236,8 +236,10 @@ module _ (m : System) (found : ℕ) (row : ℕ → ℕ → ℕ) (x : ℕ → ℕ
   given-above : ¬ AllZero → ((k : ℕ) (amount : ℤ) → ¬ (Off k amount)) → Never found isRow → (o : Option ℕ) → LastIs found isBelow o → Given (aboveOr o unlisted)
   unfolding aboveOr
   given-above z f s none h =
-      let none-below : NoneBelow = λ i l b. h i l (below-to (m .q) (row i) x (b .at-most)) in
-      (none-below, (z, f, λ i y. s (i - 1) (omega (arith, y .some, y .few)) (stands-to y .holds), λ i y. none-below (i - 1) (omega (arith, y .some, y .few)) (y .below)))
+      let none-below : NoneBelow = λ i l b. h i l (below-to (m .q) (row i) x (b .at-most)) in (
+        none-below,
+        (z, f, λ i y. s (i - 1) (omega (arith, y .some, y .few)) (stands-to y .holds), λ i y. none-below (i - 1) (omega (arith, y .some, y .few)) (y .below)),
+      )
   given-above z f s (some n) h = (above-from s n h, (z, f, λ i y. s (i - 1) (omega (arith, y .some, y .few)) (stands-to y .holds)))
 
   given-stands : ¬ AllZero → ((k : ℕ) (amount : ℤ) → ¬ (Off k amount)) → (o : Option ℕ) → LastIs found isRow o

@@ -136,7 +136,8 @@ to-outside a b n h =
 
 from-outside : (a b n : ℕ) → Outside a b n → T (not (between a b n))
 from-outside a b n o =
-    not-T (between a b n) (λ h. let (l, k) = and-parts (leb a n) (leb n b) h in elim o [ inl x ↦ omega (arith, leb→le a n l) | inr x ↦ omega (arith, leb→le n b k) ])
+    not-T (between a b n) (λ h. let (l, k) = and-parts (leb a n) (leb n b) h in
+    elim o [ inl x ↦ omega (arith, leb→le a n l) | inr x ↦ omega (arith, leb→le n b k) ])
 
 pub decides-outside : (r a b n : ℕ) → Decides (refuseIf (not (between a b n)) r) (rule r (Outside a b n))
 decides-outside r a b n = decides-if (not (between a b n)) r (Outside a b n) (to-outside a b n) (from-outside a b n)
@@ -350,11 +351,14 @@ module _ (m : System) (s : State) where
             | inr d ↦ elim (T-dec (secondFits (m .kind) (m .q) s)) [
               | inr n ↦ many₂ (λ f. n (second-to (m .kind) (m .q) s f))
               | inl w ↦ elim (T-dec rowsTest) [
-                | inr n ↦ let (k, l, b) =
-                    all-not (s .run .height) (rowInOrder (m .kind) (m .limit) (m .q) (s .stack)) n in row k l (row-bad (m .kind) (m .limit) (m .q) (s .stack) k b)
+                | inr n ↦ let (k, l, b) = all-not (s .run .height) (rowInOrder (m .kind) (m .limit) (m .q) (s .stack)) n in
+                    row k l (row-bad (m .kind) (m .limit) (m .q) (s .stack) k b)
                 | inl a ↦
-                    let rows : (k : ℕ) → k < s .run .height → RowInOrder (m .kind) (m .limit) (m .q) (s .stack) k = λ k l. row-from (m .kind) (m .limit) (m .q) (s .stack) k (all-at (s .run .height) _ a k l) in
-                    absurd (h (order-to (record { kind = r; height = x; found = y; early = z; shallow = d; found₂ = second-from (m .kind) (m .q) s w; rows = rows })))
+                    let rows : (k : ℕ) → k < s .run .height
+                    → RowInOrder (m .kind) (m .limit) (m .q) (s .stack) k =
+                    λ k l. row-from (m .kind) (m .limit) (m .q) (s .stack) k (all-at (s .run .height) _ a k l) in
+                    absurd
+                    (h (order-to (record { kind = r; height = x; found = y; early = z; shallow = d; found₂ = second-from (m .kind) (m .q) s w; rows = rows })))
               ]
             ]
           ]
@@ -414,7 +418,8 @@ module _ (m : System) (s : State) where
   abbrev sol : Bool
   sol = solves m (top m s)
 
-  pub decides-full : Decides (refuseIf (sol && fullFor (m .kind) (m .q) s (top m s)) 11) (rule 11 (Solution (m .p) (m .q) (coef m) (top m s) × NoRoom (m .kind) (m .q) s (top m s)))
+  pub decides-full : Decides (refuseIf (sol && fullFor (m .kind) (m .q) s (top m s)) 11)
+      (rule 11 (Solution (m .p) (m .q) (coef m) (top m s) × NoRoom (m .kind) (m .q) s (top m s)))
   decides-full =
       decides-if (sol && fullFor (m .kind) (m .q) s (top m s)) 11 _
       (λ h. let (y, l) = and-parts sol _ h in (solves-solution m (top m s) y, full-from (toSecond (m .kind) (top m s)) (width m) s l))
@@ -435,7 +440,8 @@ module _ (m : System) (s : State) where
 
   -- (by whichever number a seat has for it)
   pub decides-large : (r : ℕ)
-      → Decides (refuseIf (not sol && tooLarge m s) r) (rule r (Fails (m .p) (m .q) (coef m) (top m s) × (j : ℕ) × (j < m .q) × T (makes m s j) × (top m s j ≡ m .limit)))
+      → Decides (refuseIf (not sol && tooLarge m s) r)
+      (rule r (Fails (m .p) (m .q) (coef m) (top m s) × (j : ℕ) × (j < m .q) × T (makes m s j) × (top m s j ≡ m .limit)))
   decides-large r =
       decides-if (not sol && tooLarge m s) r _
       (λ h. let (y, l) = and-parts (not sol) _ h in let (j, jq, mj, e) = large-from l in (fails-fails m (top m s) (T-not sol y), j, jq, mj, e))
@@ -511,7 +517,8 @@ module _ (i : Input) (s : State) where
   sides-shaped b h few len (range, (sides, u)) long =
       let some : 0 < i .q = at-most 1 (i .q) (λ l. h .unknowns (inl l)) in
       let whole = extend-length (i .q) (i .coefs) b (i .p) (omega (arith, len)) in
-      let small : (j : ℕ) → j < length (i .coefs) → natAbs (getD (i .coefs) j (pos 0)) ≤ coefLimit = λ j l. at-most (natAbs (getD (i .coefs) j (pos 0))) coefLimit (range j l) in
+      let small : (j : ℕ) → j < length (i .coefs)
+      → natAbs (getD (i .coefs) j (pos 0)) ≤ coefLimit = λ j l. at-most (natAbs (getD (i .coefs) j (pos 0))) coefLimit (range j l) in
       record {
         p-some = at-most 1 (i .p) (λ l. h .equations (inl l));
         p-few = at-most (i .p) mostEquations (λ l. h .equations (inr l));

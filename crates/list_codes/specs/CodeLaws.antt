@@ -126,13 +126,15 @@ module _ (l : ListFile) (out : List ℕ) {r : Write} {after : List ℕ} (e : wri
   pub write-refusal-fits : {why : FileRefusal} → r ≡ write.Refused why → refusalCode (numberOf why) (valuesOf why) < 2 ^ 64
   write-refusal-fits g = let h : writeCode (writeAnswer r) < 2 ^ 64 = rw (← e) at (write-fits l out) in rw g at h
 
-  pub write-refused-told : {why : FileRefusal} {a : ℕ} → r ≡ write.Refused why → a ≡ refusalCode (numberOf why) (valuesOf why) → (a, after) ≡ writeTold (writeList l out)
+  pub write-refused-told : {why : FileRefusal} {a : ℕ} → r ≡ write.Refused why → a ≡ refusalCode (numberOf why) (valuesOf why)
+      → (a, after) ≡ writeTold (writeList l out)
   write-refused-told g d = rw (← e, g, d)
 
   pub write-whole-told : r ≡ write.Whole → (106, after) ≡ writeTold (writeList l out)
   write-whole-told g = rw (← e, g)
 
-module _ (file : List ℕ) (coefs : List ℤ) (list : List ℕ) {r : Read} {coefs′ : List ℤ} {list′ : List ℕ} (e : readOutcome r coefs′ list′ ≡ readFile file coefs list) where
+module _ (file : List ℕ) (coefs : List ℤ) (list : List ℕ) {r : Read} {coefs′ : List ℤ} {list′ : List ℕ}
+    (e : readOutcome r coefs′ list′ ≡ readFile file coefs list) where
   pub read-refusal-fits : {why : FileRefusal} → r ≡ read.Refused why → refusalCode (numberOf why) (valuesOf why) < 2 ^ 64
   read-refusal-fits g = let h : readCode (readAnswer r) < 2 ^ 64 = rw (← e) at (read-fits file coefs list) in rw g at h
 

@@ -14,7 +14,21 @@ use Rattle.definitions.specs.Answers.{Check, go, _then_, refuseIf, refuseFirst}
 use Rattle.definitions.specs.Refusals.{outOfRange}
 use Rattle.definitions.specs.System.{mostEquations, mostUnknowns, coefLimit}
 use Rattle.laws.specs.AnswerLaws.{then-assoc, then-go}
-use Rattle.laws.specs.CheckLaws.{Decides, Renders, Rules, _▹_, by-test, decides-below, decides-first, decides-not, end, placed, renders-last, renders-then, rule}
+use Rattle.laws.specs.CheckLaws.{
+  Decides,
+  Renders,
+  Rules,
+  _▹_,
+  by-test,
+  decides-below,
+  decides-first,
+  decides-not,
+  end,
+  placed,
+  renders-last,
+  renders-then,
+  rule,
+}
 use Rattle.laws.specs.RefusalLaws.{Outside, at-most, decides-outside, decides-unequal, equal}
 use Rattle.list_form.specs.Words.{wrappingSum}
 use Rattle.list_form.specs.Form.{ListFile, blockBytes, blockWords, laterBlocks, blockCount, fileBlocks}
@@ -142,14 +156,16 @@ module _ (file : List ℕ) (coefs rows : ℕ) where
   stream-renders (suc b) {c} {rs} r =
       rw (then-assoc (streamChecks file coefs rows b) (blockChecks file (b + 1) (blockInRange file coefs rows b)) c)
       (stream-renders b
-      (block-renders-then file (b + 1) (blockInRange file coefs rows b) (BlockInRange file coefs rows b) (block-from file coefs rows b) (block-to file coefs rows b) r))
+      (block-renders-then file (b + 1) (blockInRange file coefs rows b) (BlockInRange file coefs rows b) (block-from file coefs rows b)
+      (block-to file coefs rows b) r))
 
   stream-in : (n : ℕ) → streamChecks file coefs rows n ≡ go → (b : ℕ) → b < n → BlockInOrder file (b + 1) (BlockInRange file coefs rows b)
   unfolding streamChecks
   stream-in zero e b l = absurd (omega arith)
   stream-in (suc n) e b l =
       let (f, g) = then-go (streamChecks file coefs rows n) _ e in
-      let here : BlockInOrder file (n + 1) (BlockInRange file coefs rows n) = block-in file (n + 1) (blockInRange file coefs rows n) _ (block-from file coefs rows n) (block-to file coefs rows n) g in
+      let here : BlockInOrder file (n + 1) (BlockInRange file coefs rows n) =
+      block-in file (n + 1) (blockInRange file coefs rows n) _ (block-from file coefs rows n) (block-to file coefs rows n) g in
       elim (below-suc l) [ inl m ↦ stream-in n f b m | inr h ↦ rw h here ]
 
   stream-out : (n : ℕ) → ((b : ℕ) → b < n → BlockInOrder file (b + 1) (BlockInRange file coefs rows b)) → streamChecks file coefs rows n ≡ go

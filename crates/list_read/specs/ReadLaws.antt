@@ -20,7 +20,28 @@ use Rattle.definitions.specs.Refusals.{between}
 use Rattle.definitions.specs.System.{mostComponent}
 use Rattle.list_form.specs.Words.{wordAt, signed, wrappingSum}
 use Rattle.list_form.specs.Form.{blockBytes, blockWords, streamWords, laterBlocks, blockCount}
-use Rattle.list_form.specs.Reading.{equationsOf, unknownsOf, rowsOf, endingOf, coefWords, rowWords, inBlock, streamAt, listed, listIn, blockChecks, headerInRange, streamWordInRange, blockInRange, streamChecks, fileChecks, readChecks, ReadOutcome, read, handedOut}
+use Rattle.list_form.specs.Reading.{
+  equationsOf,
+  unknownsOf,
+  rowsOf,
+  endingOf,
+  coefWords,
+  rowWords,
+  inBlock,
+  streamAt,
+  listed,
+  listIn,
+  blockChecks,
+  headerInRange,
+  streamWordInRange,
+  blockInRange,
+  streamChecks,
+  fileChecks,
+  readChecks,
+  ReadOutcome,
+  read,
+  handedOut,
+}
 use Rattle.list_laws.specs.ListLaws.{listed-length, listed-next}
 use Rattle.list_laws.specs.Ranges.{HeaderInRange, component-word}
 use Rattle.list_laws.specs.RuleLaws.{FileInOrder}
@@ -101,7 +122,12 @@ module _ (file : List ℕ) (coefs : List ℤ) (list : List ℕ) where
 
   pub handed-out : 1 ≤ unknownsOf file → copied ≡ handedOut (listIn file) coefs list
   unfolding handedOut listIn
-  handed-out l = rw (listed-length (coefWords file) (λ i. signed (streamAt file i)), listed-length (rowWords file) (λ i. streamAt file (coefWords file + i)), mul-div-cancel (rowsOf file) l)
+  handed-out l =
+      rw (
+        listed-length (coefWords file) (λ i. signed (streamAt file i)),
+        listed-length (rowWords file) (λ i. streamAt file (coefWords file + i)),
+        mul-div-cancel (rowsOf file) l,
+      )
 
 -- ---- the stages
 

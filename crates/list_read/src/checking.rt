@@ -3,7 +3,17 @@ ghost use mathlib.Core.Path.{_≡_};
 ghost use Prim.Native.Nat.{_+_, _*_, _≤_, _<_};
 ghost use lib.ListN.{length};
 ghost use Rattle.list_form.specs.Words.{wordAt};
-ghost use Rattle.list_form.specs.Reading.{coefWords, rowWords, blockChecks, headerInRange, streamWordInRange, blockInRange, streamChecks, fileChecks, readChecks};
+ghost use Rattle.list_form.specs.Reading.{
+  coefWords,
+  rowWords,
+  blockChecks,
+  headerInRange,
+  streamWordInRange,
+  blockInRange,
+  streamChecks,
+  fileChecks,
+  readChecks,
+};
 ghost use Rattle.list_words.specs.Paper.{checkOf};
 ghost use Rattle.list_read.specs.ReadLaws.{HeaderRead, StreamRead, laterChecks, tableChecks};
 use list_words::FileCheck;

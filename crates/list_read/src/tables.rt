@@ -70,7 +70,8 @@ fn smaller(a: usize, b: usize) -> usize
 // Copies `m` of these words, from the one for entry `i` of the list on; all of them stand in one block.
 fn copy_part(file: &[u8], first: usize, i: usize, m: usize, list: &mut [u32])
     requires { ⌜ InBlock (first + i) m (length (now file)) × (i + m ≤ length (now list)) ⌝ }
-    ensures { λ r. ⌜ ((table : List ℕ) → Filled (λ k. streamAt (now (file .entry)) (first + k)) i table (now (list .entry)) → Filled (λ k. streamAt (now (file .entry)) (first + k)) (i + m) table (now (list .exit))) ⌝ }
+    ensures { λ r. ⌜ ((table : List ℕ) → Filled (λ k. streamAt (now (file .entry)) (first + k)) i table (now (list .entry))
+        → Filled (λ k. streamAt (now (file .entry)) (first + k)) (i + m) table (now (list .exit))) ⌝ }
 {
     let at = place(first + i);
     let mut j = 0;

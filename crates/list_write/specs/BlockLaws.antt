@@ -79,7 +79,8 @@ module _ (l : ListFile) where
   unfolding encoded
   begun-none out = record { same = refl }
 
-  pub begun-next : (k w : ℕ) (out after : List ℕ) → Begun l k out → take (4 * k + 4) after ≡ take (4 * k) out ++ wordBytes w → w ≡ fileWord l k → Begun l (k + 1) after
+  pub begun-next : (k w : ℕ) (out after : List ℕ) → Begun l k out → take (4 * k + 4) after ≡ take (4 * k) out ++ wordBytes w
+      → w ≡ fileWord l k → Begun l (k + 1) after
   unfolding encoded
   begun-next k w out after b e f =
       let s : 4 * (k + 1) ≡ 4 * k + 4 = omega arith in record { same = rw (s, add-one k, e, b .same, f) }

@@ -77,7 +77,8 @@ fn write_components(
     from: usize,
     out: &mut [u8],
 )
-    requires { ⌜ (AtBlock (listOf p q (now coefs) (now rows) ending) b (now out)) × (OfRows (listOf p q (now coefs) (now rows) ending) b from) × (512 * (b + 1) ≤ length (now out)) × (b < 1000) ⌝ }
+    requires { ⌜ (AtBlock (listOf p q (now coefs) (now rows) ending) b (now out)) × (OfRows (listOf p q (now coefs) (now rows) ending) b from)
+        × (512 * (b + 1) ≤ length (now out)) × (b < 1000) ⌝ }
     ensures { λ r. ⌜ Begun (listOf p q (now (coefs .entry)) (now (rows .entry)) ending) (128 * b + 127) (now (out .exit)) ⌝ }
 {
     put_word(out, 128 * b, b as u32);

@@ -33,7 +33,8 @@ module _ (q : ℕ) (list : List ℕ) (found : ℕ) (t : List ℕ) where
         unfolding paper.locate paper.locateChecks paper.unlessRefused refuseWith _then_
         many-rows d = rw (a, b, c, d)
 
-        pub asked : leb found (capacity q list) ≡ true → {o : Option ℕ} → o ≡ paper.highest q found (at list q) (λ j. getD t j 0) → paper.placed o ≡ paper.locate q list found t
+        pub asked : leb found (capacity q list) ≡ true → {o : Option ℕ} → o ≡ paper.highest q found (at list q) (λ j. getD t j 0)
+            → paper.placed o ≡ paper.locate q list found t
         unfolding paper.locate paper.locateChecks paper.unlessRefused refuseWith _then_
         asked d e = rw (a, b, c, d, ← e)
 
@@ -59,5 +60,6 @@ place-fits q list found t n e = by (leb 1 q) (leb q 16) (eqb (length t) q) (leb 
     by true true true false ea eb ec ed = absurd (place-refused (e ∙ sym (many-rows q list found t ea eb ec ed)))
     by true true true true ea eb ec ed =
         let row = at list q in
-        let few = placed-few q found row (λ j. getD t j 0) (paper.highest q found row (λ j. getD t j 0)) (highest-is q found row (λ j. getD t j 0)) n (e ∙ sym (asked q list found t ea eb ec ed refl)) in
+        let few = placed-few q found row (λ j. getD t j 0) (paper.highest q found row (λ j. getD t j 0)) (highest-is q found row (λ j. getD t j 0)) n
+        (e ∙ sym (asked q list found t ea eb ec ed refl)) in
         omega (arith, few, leb→le found (capacity q list) (rw ed tt), div-le-self (length list) q)

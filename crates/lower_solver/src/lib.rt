@@ -18,8 +18,8 @@ pub fn start_from(
     second: &mut [u32],
     r: &mut Record,
 ) -> Answer
-    ensures { λ a. ⌜ leftWith a (now (stack .exit)) (now (list .exit)) (now (second .exit)) (now (r .exit)) ≡ startFrom (now (lower .entry)) (inputOf p q (now (coefs .entry)))
-        (stateWith (now (stack .entry)) (now (list .entry)) (now (second .entry)) (now (r .entry))) ⌝ }
+    ensures { λ a. ⌜ leftWith a (now (stack .exit)) (now (list .exit)) (now (second .exit)) (now (r .exit)) ≡ startFrom (now (lower .entry))
+        (inputOf p q (now (coefs .entry))) (stateWith (now (stack .entry)) (now (list .entry)) (now (second .entry)) (now (r .entry))) ⌝ }
 {
     let o = started(p, q, coefs, lower, stack, list, second, *r);
     *r = o.run;
@@ -38,8 +38,8 @@ pub fn resume_from(
     r: &mut Record,
     budget: u64,
 ) -> Answer
-    ensures { λ a. ⌜ leftWith a (now (stack .exit)) (now (list .exit)) (now (second .exit)) (now (r .exit)) ≡ resumeFrom budget (now (lower .entry)) (inputOf p q (now (coefs .entry)))
-        (stateWith (now (stack .entry)) (now (list .entry)) (now (second .entry)) (now (r .entry))) ⌝ }
+    ensures { λ a. ⌜ leftWith a (now (stack .exit)) (now (list .exit)) (now (second .exit)) (now (r .exit)) ≡ resumeFrom budget
+        (now (lower .entry)) (inputOf p q (now (coefs .entry))) (stateWith (now (stack .entry)) (now (list .entry)) (now (second .entry)) (now (r .entry))) ⌝ }
 {
     let o = resumed(p, q, coefs, lower, stack, list, second, *r, budget);
     *r = o.run;
@@ -57,7 +57,8 @@ fn started(
     second: &mut [u32],
     r: Record,
 ) -> Outcome
-    ensures { λ o. ⌜ outcomeWith o (now (stack .exit)) (now (list .exit)) (now (second .exit)) ≡ startFrom (now (lower .entry)) (inputOf p q (now (coefs .entry)))
+    ensures { λ o. ⌜ outcomeWith o (now (stack .exit)) (now (list .exit)) (now (second .exit))
+        ≡ startFrom (now (lower .entry)) (inputOf p q (now (coefs .entry)))
         (stateWith (now (stack .entry)) (now (list .entry)) (now (second .entry)) r) ⌝ }
 {
     starts::started_from(
@@ -84,7 +85,8 @@ fn resumed(
     r: Record,
     budget: u64,
 ) -> Outcome
-    ensures { λ o. ⌜ outcomeWith o (now (stack .exit)) (now (list .exit)) (now (second .exit)) ≡ resumeFrom budget (now (lower .entry)) (inputOf p q (now (coefs .entry)))
+    ensures { λ o. ⌜ outcomeWith o (now (stack .exit)) (now (list .exit)) (now (second .exit))
+        ≡ resumeFrom budget (now (lower .entry)) (inputOf p q (now (coefs .entry)))
         (stateWith (now (stack .entry)) (now (list .entry)) (now (second .entry)) r) ⌝ }
 {
     walk::resumed_from(

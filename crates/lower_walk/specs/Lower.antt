@@ -71,11 +71,21 @@ module _ (lower : List ℕ) (i : Input) (s : State) (v : ValidFrom lower i s) (e
             stack = s .stack;
             list = s .list;
             second = s .second;
-            run = record { kind = r; height = s .run .height; found = s .run .found; steps = s .run .steps; found₂ = s .run .found₂; steps₂ = s .run .steps₂; deepest = s .run .deepest };
+            run =
+                record {
+                  kind = r;
+                  height = s .run .height;
+                  found = s .run .found;
+                  steps = s .run .steps;
+                  found₂ = s .run .found₂;
+                  steps₂ = s .run .steps₂;
+                  deepest = s .run .deepest;
+                };
           }) e
 
   -- its steps are those that the record has more than before, and no more than the budget
-  pub steps-more : (plainly .state .run .steps ≡ s .run .steps₂ + walkSteps n (machineOf checks (mapOf i)) (plainPart s)) × (walkSteps n (machineOf checks (mapOf i)) (plainPart s) ≤ n)
+  pub steps-more : (plainly .state .run .steps ≡ s .run .steps₂ + walkSteps n (machineOf checks (mapOf i)) (plainPart s))
+      × (walkSteps n (machineOf checks (mapOf i)) (plainPart s) ≤ n)
   steps-more = (walk-counts checks (mapOf i) n (plainPart s) .0, walk-steps-few (machineOf checks (mapOf i)) n (plainPart s))
 
   pub change-valid : ValidFrom lower i (lowered (boundOf lower) (i .q) (wholeOf d (plainly .state)))
@@ -86,21 +96,28 @@ module _ (lower : List ℕ) (i : Input) (s : State) (v : ValidFrom lower i s) (e
   first-row = let g = left-valid .shaped in (omega (arith, g .stack, mul-le-mul-right (i .q + 1) (g .q-some)), omega (arith, v .long))
 
   -- where it does not complete, that is the answer
-  pub ended : (a : Answer) → plainly .answer ≡ answerOf a → ¬ (a ≡ Complete) → record { answer = answerOf a; state = wholeOf d (plainly .state) } ≡ walk n (machineFrom lower i) s
+  pub ended : (a : Answer) → plainly .answer ≡ answerOf a → ¬ (a ≡ Complete)
+      → record { answer = answerOf a; state = wholeOf d (plainly .state) } ≡ walk n (machineFrom lower i) s
   ended a same not = sym (from-plain checks lower i n s e ∙ go a same not)
     where
-      go : (a : Answer) → plainly .answer ≡ answerOf a → ¬ (a ≡ Complete) → thenAbove checks lower i (plainly .answer) (wholeOf d (plainly .state)) (n - walkSteps n (machineOf checks (mapOf i)) (plainPart s)) ≡ record { answer = answerOf a; state = wholeOf d (plainly .state) }
+      go : (a : Answer) → plainly .answer ≡ answerOf a → ¬ (a ≡ Complete)
+          → thenAbove checks lower i (plainly .answer) (wholeOf d (plainly .state)) (n - walkSteps n (machineOf checks (mapOf i)) (plainPart s))
+          ≡ record { answer = answerOf a; state = wholeOf d (plainly .state) }
       go Started same not = rw same
       go Complete same not = absurd (not refl)
       go Paused same not = rw same
       go (Refused why) same not = rw same
 
   -- the same of what the code leaves, whose outcome o is that of the plain walk
-  pub ended-by : (o : machine.Outcome State) → o ≡ plainly → {a b : Answer} → a ≡ b → o .answer ≡ answerOf a → ¬ (b ≡ Complete) → record { answer = answerOf b; state = wholeOf d (o .state) } ≡ walk n (machineFrom lower i) s
-  ended-by o told {a} {b} same is not = ap (λ (u : machine.Outcome State). record { answer = answerOf b; state = wholeOf d (u .state) }) told ∙ ended b (sym (ap (λ u. u .answer) told) ∙ is ∙ ap answerOf same) not
+  pub ended-by : (o : machine.Outcome State) → o ≡ plainly → {a b : Answer} → a ≡ b → o .answer ≡ answerOf a → ¬ (b ≡ Complete)
+      → record { answer = answerOf b; state = wholeOf d (o .state) } ≡ walk n (machineFrom lower i) s
+  ended-by o told {a} {b} same is not =
+      ap (λ (u : machine.Outcome State). record { answer = answerOf b; state = wholeOf d (u .state) }) told
+      ∙ ended b (sym (ap (λ u. u .answer) told) ∙ is ∙ ap answerOf same) not
 
   -- else the bound's row is written, no count changed
-  pub change-made : (o : Outcome) {stack list second stack′ : List ℕ} {r : Record} → outcomeWith o stack second list ≡ plainly → stack′ ≡ writeRow (i .q) stack 0 (boundOf lower) 0 → r ≡ loweredRecord (o .run) d
+  pub change-made : (o : Outcome) {stack list second stack′ : List ℕ} {r : Record} → outcomeWith o stack second list ≡ plainly
+      → stack′ ≡ writeRow (i .q) stack 0 (boundOf lower) 0 → r ≡ loweredRecord (o .run) d
       → stateWith stack′ list second r ≡ lowered (boundOf lower) (i .q) (wholeOf d (plainly .state))
   unfolding lowered
   change-made o {stack} {list} {second} {stack′} told wrote is =

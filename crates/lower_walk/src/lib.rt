@@ -1,5 +1,5 @@
-// The two walks of a run from a lower bound (document 02, Job 4), once its checks have let it go on: the plain one into the second list, and then, with what is left of the budget,
-// the one above the bound.
+// The two walks of a run from a lower bound (document 02, Job 4), once its checks have let it go on:
+// the plain one into the second list, and then, with what is left of the budget, the one above the bound.
 ghost use mathlib.Core.Path.{_≡_};
 ghost use Prim.Native.Nat.{_+_, _*_, _-_, _≤_, _<_};
 ghost use lib.ListN.{length};
@@ -54,7 +54,8 @@ fn further(
     budget: u64,
     limit: u32,
 ) -> Outcome
-    requires { ⌜ ValidFrom (now lower) (inputWith alone limit p q (now coefs)) (stateWith (now stack) (now list) (now second) r) × (kindOf (r .kind) ≡ lowerAbove) ⌝ }
+    requires { ⌜ ValidFrom (now lower) (inputWith alone limit p q (now coefs)) (stateWith (now stack) (now list) (now second) r)
+        × (kindOf (r .kind) ≡ lowerAbove) ⌝ }
     ensures { λ o. ⌜ outcomeWith o (now (stack .exit)) (now (list .exit)) (now (second .exit))
         ≡ paper.walk budget (machineFrom (now (lower .entry)) (inputWith alone limit p q (now (coefs .entry))))
         (stateWith (now (stack .entry)) (now (list .entry)) (now (second .entry)) r) ⌝ }
@@ -88,7 +89,8 @@ fn both(
     budget: u64,
     limit: u32,
 ) -> Outcome
-    requires { ⌜ ValidFrom (now lower) (inputWith alone limit p q (now coefs)) (stateWith (now stack) (now list) (now second) r) × (kindOf (r .kind) ≡ lowerPlain) ⌝ }
+    requires { ⌜ ValidFrom (now lower) (inputWith alone limit p q (now coefs)) (stateWith (now stack) (now list) (now second) r)
+        × (kindOf (r .kind) ≡ lowerPlain) ⌝ }
     ensures { λ o. ⌜ outcomeWith o (now (stack .exit)) (now (list .exit)) (now (second .exit))
         ≡ paper.walk budget (machineFrom (now (lower .entry)) (inputWith alone limit p q (now (coefs .entry))))
         (stateWith (now (stack .entry)) (now (list .entry)) (now (second .entry)) r) ⌝ }

@@ -56,7 +56,8 @@ pub record ReadLine (k : ℕ) (zs : List ℤ) (t : List ℕ) (ys : List ℤ) (r 
 
 pub line-read : (k : ℕ) (zs : List ℤ) (t : List ℕ) {ys : List ℤ} {r : List ℕ} → readLine k zs t ≡ parsed ys r → ReadLine k zs t ys r
 unfolding readLine line
-line-read zero zs t e = let (a, c) = same e in record { numbers = []; after = sym a ∙ sym (append-nil zs); count = refl; short = λ i l. absurd (omega arith); text = c }
+line-read zero zs t e = let (a, c) = same e in
+    record { numbers = []; after = sym a ∙ sym (append-nil zs); count = refl; short = λ i l. absurd (omega arith); text = c }
 line-read (suc k) zs t e =
     let (z, s, g, h) = and-then (readField k t) (λ z. readLine k (zs ++ (z ∷ []))) e in
     let l = line-read k (zs ++ (z ∷ [])) s h in
@@ -79,7 +80,8 @@ pub record ReadRows (k q : ℕ) (zs : List ℤ) (t : List ℕ) (ys : List ℤ) :
 pub not-rows : {P : Type 0} {n : ℕ} {ys : List ℤ} → malformedAt n ≡ rows ys → P
 not-rows e = absurd (let z : _≡_ {A = ℕ} 0 1 = cc in omega arith)
 
-pub at-line : (n : ℕ) (p : Parse (List ℤ)) (f : List ℤ → List ℕ → Rows) {ys : List ℤ} → atLine n p f ≡ rows ys → (xs : List ℤ) × (t : List ℕ) × (p ≡ parsed xs t) × (f xs t ≡ rows ys)
+pub at-line : (n : ℕ) (p : Parse (List ℤ)) (f : List ℤ → List ℕ → Rows) {ys : List ℤ} → atLine n p f ≡ rows ys
+    → (xs : List ℤ) × (t : List ℕ) × (p ≡ parsed xs t) × (f xs t ≡ rows ys)
 at-line n (parsed xs t) f e = (xs, t, refl, e)
 at-line n malformed f e = not-rows e
 

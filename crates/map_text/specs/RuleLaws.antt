@@ -18,7 +18,22 @@ use Rattle.laws.specs.CheckLaws.{Rules, rule, placed, _▹_, end, Renders, chec
 use Rattle.texts.specs.Reading.{mostBytes, Parse, parsed, malformed}
 use Rattle.texts.specs.ParseLaws.{same}
 use Rattle.map_form.specs.Form.{line, lines, written}
-use Rattle.map_form.specs.Reading.{Rows, rows, malformedAt, readLine, readRows, Reading, accepted, refused, checked, outside, acceptRows, readBody, afterFirst, readMap}
+use Rattle.map_form.specs.Reading.{
+  Rows,
+  rows,
+  malformedAt,
+  readLine,
+  readRows,
+  Reading,
+  accepted,
+  refused,
+  checked,
+  outside,
+  acceptRows,
+  readBody,
+  afterFirst,
+  readMap,
+}
 use Rattle.map_text.specs.Rules.{afterLine, afterLines, Begins, InForm, RowInForm, Counts, OutsideCount, BadLine, LargeAt, textRules}
 use Rattle.map_text.specs.ReadLaws.{rows-read}
 use Rattle.map_text.specs.WriteLaws.{line-back, rows-back}

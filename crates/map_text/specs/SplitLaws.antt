@@ -106,7 +106,8 @@ row-back : {k q i : ℕ} {t : List ℕ} → RowInForm (suc k) q (suc i) t → Ro
 row-back f = (λ l. f .0 (omega arith), λ l. f .1 (omega arith))
 
 -- a row in the form before others
-rows-after : {k q : ℕ} {t r : List ℕ} → InForm q t → afterLine t ≡ r → ((i : ℕ) → RowInForm k q i (afterLines i r)) → (i : ℕ) → RowInForm (suc k) q i (afterLines i t)
+rows-after : {k q : ℕ} {t r : List ℕ} → InForm q t → afterLine t ≡ r → ((i : ℕ) → RowInForm k q i (afterLines i r)) → (i : ℕ)
+    → RowInForm (suc k) q i (afterLines i t)
 unfolding afterLines
 rows-after f e g zero = (λ l. f, λ l. absurd (omega arith))
 rows-after f e g (suc i) = rw e (row-next (g i))

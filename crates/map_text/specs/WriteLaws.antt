@@ -38,7 +38,12 @@ pub line-back : (zs ys : List ℤ) (t : List ℕ) → ShortNumbers zs → readLi
 unfolding readLine line andThen
 line-back [] ys t f = rw append-nil
 line-back (z ∷ zs) ys t f =
-    rw (append-assoc, field-back (length zs) z (line zs ++ t) (f 0 (omega arith)), line-back zs (ys ++ (z ∷ [])) t (λ i l. f (suc i) (omega arith)), append-snoc)
+    rw (
+      append-assoc,
+      field-back (length zs) z (line zs ++ t) (f 0 (omega arith)),
+      line-back zs (ys ++ (z ∷ [])) t (λ i l. f (suc i) (omega arith)),
+      append-snoc,
+    )
 
 pub rows-back : (k q n : ℕ) (ys zs : List ℤ) → length zs ≡ k * q → ShortNumbers zs → readRows k q n ys (lines k q zs) ≡ rows (ys ++ zs)
 unfolding readRows lines

@@ -52,7 +52,12 @@ module _ (q found : ℕ) (list t times : List ℕ) where
     pub taken-at : record { answer = allTaken b; times = times₂ } ≡ ifSpace (leb found (length times)) times (takenApart q found (at list q) (tuple t) times)
     unfolding ifSpace takenApart
     taken-at =
-        rw (le-leb found (length times) space, v ∙ vanish-same q (l .left) ∙ vanish-same q (left-same q (at list q) found same), e, times-same q (at list q) found times same)
+        rw (
+          le-leb found (length times) space,
+          v ∙ vanish-same q (l .left) ∙ vanish-same q (left-same q (at list q) found same),
+          e,
+          times-same q (at list q) found times same,
+        )
 
     pub made-at : b ≡ true
         → record { answer = paper.made; times = times₂ } ≡ ifSpace (leb found (length times)) times (takenApart q found (at list q) (tuple t) times)

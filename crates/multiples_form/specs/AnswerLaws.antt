@@ -45,7 +45,11 @@ module _ (m : System) (found : ℕ) (row : ℕ → ℕ → ℕ) (x : ℕ → ℕ
               few = kl;
               by = ap (imageOf m x) (omega arith);
               not-zero = λ e. T-not (isZero (imageOf m x k)) is (zero-is (imageOf m x k) e);
-              first = λ j h. elim (T-dec (isZero (imageOf m x j))) [ inl y ↦ is-zero (imageOf m x j) y | inr y ↦ absurd (before j (omega arith) (not-T (isZero (imageOf m x j)) y)) ];
+              first =
+                  λ j h. elim (T-dec (isZero (imageOf m x j))) [
+                    | inl y ↦ is-zero (imageOf m x j) y
+                    | inr y ↦ absurd (before j (omega arith) (not-T (isZero (imageOf m x j)) y))
+                  ];
             }))
       ]
 

@@ -142,7 +142,8 @@ answers =
     ∷ told small (3 ∷ 2 ∷ 0 ∷ 0 ∷ []) 2 (1000002 ∷ 666668 ∷ []) (9 ∷ [])
     ∷ []
 
-parts-hold : answers ≡ (made, 3 ∷ 2 ∷ 9 ∷ []) ∷ (made, 0 ∷ 0 ∷ 9 ∷ []) ∷ (made, 0 ∷ 1 ∷ 9 ∷ []) ∷ (unlisted, 3 ∷ 9 ∷ 9 ∷ []) ∷ (off 1 (negsuc 2), nine) ∷ (made, 333333 ∷ 0 ∷ 9 ∷ [])
+parts-hold : answers ≡ (made, 3 ∷ 2 ∷ 9 ∷ []) ∷ (made, 0 ∷ 0 ∷ 9 ∷ []) ∷ (made, 0 ∷ 1 ∷ 9 ∷ []) ∷ (unlisted, 3 ∷ 9 ∷ 9 ∷ []) ∷ (off 1 (negsuc 2), nine)
+    ∷ (made, 333333 ∷ 0 ∷ 9 ∷ [])
     ∷ (noSpace, 9 ∷ []) ∷ (off 1 (negsuc 2), 9 ∷ []) ∷ (refused 8 [], 9 ∷ []) ∷ []
 unfolding example both small nine told answers lower oftenTo bounded leftOver writeTimes allTaken takenApart ifSpace unlessOff decomposed sumTo inner value
     allTo anyTo elseIf firstTo placeIf lastTo refuseWith _then_ refuseFirst isAtOrBelow why.isSame highest why.standing check7 why.reasonChecks vanishes

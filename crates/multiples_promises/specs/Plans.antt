@@ -46,7 +46,8 @@ list-made p q coefs list found e = made-of-loops p q (coef (system p q coefs)) f
 -- rows with natural multiples, and no shorter list of solutions has that property."
 pub every-plan : (p q : ℕ) (coefs : List ℤ) (s : State) → Run (inputOf p q coefs) nonzero s → (budget : ℕ)
     → resume budget (inputOf p q coefs) s .answer ≡ complete
-    → MadeOfRows p q (coef (system p q coefs)) (resume budget (inputOf p q coefs) s .state .run .found) (at (resume budget (inputOf p q coefs) s .state .list) q)
+    → MadeOfRows p q (coef (system p q coefs)) (resume budget (inputOf p q coefs) s .state .run .found)
+    (at (resume budget (inputOf p q coefs) s .state .list) q)
 every-plan p q coefs s r budget c =
     let end = resume budget (inputOf p q coefs) s .state in
     list-made p q coefs (end .list) (end .run .found) (second-demand .lists (inputOf p q coefs) s r .finished budget c)
@@ -123,7 +124,8 @@ module _ (p q : ℕ) (coefs : List ℤ) (list : List ℕ) (found : ℕ) (t times
       elim (ℕ-discrete (total (a .left) q) 0) [
         | yes z ↦ omega (arith, term-le-total (a .left) q j l)
         | no ne ↦
-            let rest : SolutionIn p q (coef m) (Nonzero q) (a .left) = record { solution = left-solves (λ k h. e .part .only k h .holds .solution) s a; admitted = total-some (a .left) q ne } in
+            let rest : SolutionIn p q (coef m) (Nonzero q) (a .left) =
+            record { solution = left-solves (λ k h. e .part .only k h .holds .solution) s a; admitted = total-some (a .left) q ne } in
             let (k, h, below) = found-below q (SolutionIn p q (coef m) (Nonzero q)) found row (e .all) (a .left) rest in
             absurd (a .none-below k h (e .part .only k h .holds .admitted) below)
       ]
@@ -243,7 +245,8 @@ pub record PlanPromise : Type 0 where
   -- so after every plain run that answered "complete"
   pub complete-list : (p q : ℕ) (coefs : List ℤ) (s : State) → Run (inputOf p q coefs) nonzero s → (budget : ℕ)
       → resume budget (inputOf p q coefs) s .answer ≡ complete
-      → Exactly q (MinimalSolution (system p q coefs)) (resume budget (inputOf p q coefs) s .state .list) (resume budget (inputOf p q coefs) s .state .run .found)
+      → Exactly q (MinimalSolution (system p q coefs)) (resume budget (inputOf p q coefs) s .state .list)
+      (resume budget (inputOf p q coefs) s .state .run .found)
 
 pub plan-promise : PlanPromise
 plan-promise =

@@ -43,7 +43,8 @@ pub record InShape (q stack : ℕ) : Type 0 where
 unfoldable pub recordFits : Run → ℕ → ℕ → ℕ → List ℕ → List ℕ → Record → Bool
 recordFits kind q w limit stack list r =
     isRun (r .kind) kind
-    && (leb (r .height) q && (leb (r .found) (capacity w list) && (leb (r .steps) stepLimit && (leb (r .deepest) deepestLimit && allTo (r .height) (rowFits limit q stack)))))
+    && (leb (r .height) q
+    && (leb (r .found) (capacity w list) && (leb (r .steps) stepLimit && (leb (r .deepest) deepestLimit && allTo (r .height) (rowFits limit q stack)))))
 
 -- what a capped run on q unknowns is asked besides, with rows of w numbers in the second list
 unfoldable pub cappedFits : ℕ → ℕ → List ℕ → List ℕ → Record → Bool
@@ -109,7 +110,8 @@ module _ (m : System) (s : State) where
   unfolding inOrder recordFits
   order-parts =
       rw (all-and (s .run .height) (rowFits (m .limit) (m .q) (s .stack)) (λ k. inside (m .kind) (m .q) (at (s .stack) (m .q + 1) k)))
-      (own-last (isRun (s .run .kind) (runFor (m .kind))) (leb (s .run .height) (m .q)) (leb (s .run .found) (capacity (width m) (s .list))) (leb (s .run .steps) stepLimit) (leb (s .run .deepest) deepestLimit)
+      (own-last (isRun (s .run .kind) (runFor (m .kind))) (leb (s .run .height) (m .q)) (leb (s .run .found) (capacity (width m) (s .list)))
+      (leb (s .run .steps) stepLimit) (leb (s .run .deepest) deepestLimit)
       (secondFits (m .kind) (m .q) s) (allTo (s .run .height) (rowFits (m .limit) (m .q) (s .stack))) _)
 
 -- a plain run is asked nothing besides
@@ -121,16 +123,19 @@ without-first : (q : ℕ) → suc q - 1 ≡ q
 without-first q = omega arith
 
 pub order-capped : (p q wide : ℕ) (coefs : List ℤ) (limit : ℕ) (s : State) → wide ≡ suc q
-    → inOrder (systemWith capped p (suc q) coefs limit) s ≡ recordFits cappedRun wide q limit (s .stack) (s .list) (s .run) && cappedFits wide q (s .stack) (s .second) (s .run)
+    → inOrder (systemWith capped p (suc q) coefs limit) s
+    ≡ recordFits cappedRun wide q limit (s .stack) (s .list) (s .run) && cappedFits wide q (s .stack) (s .second) (s .run)
 unfolding cappedFits
 order-capped p q wide coefs limit s e =
     rw e
     (order-parts (systemWith capped p (suc q) coefs limit) s
-    ∙ ap (λ w. recordFits cappedRun (suc q) w limit (s .stack) (s .list) (s .run) && (leb (s .run .found₂) (capacity w (s .second)) && allTo (s .run .height) (λ k. leb (at (s .stack) (suc q + 1) k 0) 1))) (without-first q))
+    ∙ ap (λ w. recordFits cappedRun (suc q) w limit (s .stack) (s .list) (s .run)
+    && (leb (s .run .found₂) (capacity w (s .second)) && allTo (s .run .height) (λ k. leb (at (s .stack) (suc q + 1) k 0) 1))) (without-first q))
 
 -- a run from a lower bound
 order-above : (lower : List ℕ) (p q : ℕ) (coefs : List ℤ) (limit : ℕ) (s : State)
-    → inOrder (systemWith (above (boundOf lower)) p q coefs limit) s ≡ recordFits lowerAbove q q limit (s .stack) (s .list) (s .run) && aboveFits q lower (s .stack) (s .second) (s .run)
+    → inOrder (systemWith (above (boundOf lower)) p q coefs limit) s
+    ≡ recordFits lowerAbove q q limit (s .stack) (s .list) (s .run) && aboveFits q lower (s .stack) (s .second) (s .run)
 unfolding aboveFits
 order-above lower p q coefs limit s = order-parts (systemWith (above (boundOf lower)) p q coefs limit) s
 
@@ -151,7 +156,8 @@ order-lower lower p q limit coefs s = go (s .run .kind)
     go deskByDesk = refl
 
 -- 6 of a capped run and the checks after it, by the two tests a and b of the code
-module _ (p q wide : ℕ) (coefs : List ℤ) (limit : ℕ) (s : State) (after : Check) {a : Bool} (e : wide ≡ suc q) (f : a ≡ recordFits cappedRun wide q limit (s .stack) (s .list) (s .run)) where
+module _ (p q wide : ℕ) (coefs : List ℤ) (limit : ℕ) (s : State) (after : Check) {a : Bool} (e : wide ≡ suc q)
+    (f : a ≡ recordFits cappedRun wide q limit (s .stack) (s .list) (s .run)) where
   pub capped-first : not a ≡ true → refuse 6 [] ≡ check6 (systemWith capped p (suc q) coefs limit) s then after
   unfolding refuseWith _then_
   capped-first h = rw (order-capped p q wide coefs limit s e, ← f, not-true a h)
@@ -175,7 +181,8 @@ module _ (lower : List ℕ) (p q limit : ℕ) (coefs : List ℤ) (s : State) (af
   unfolding refuseWith _then_
   lower-first e = rw e
 
-  module _ {a : Bool} (e : eqb (length lower) q ≡ true) (f : a ≡ lowerFits (s .run .kind) q (limitOf limit) lower (s .stack) (s .list) (s .second) (s .run)) where
+  module _ {a : Bool} (e : eqb (length lower) q ≡ true)
+      (f : a ≡ lowerFits (s .run .kind) q (limitOf limit) lower (s .stack) (s .list) (s .second) (s .run)) where
     pub lower-second : not a ≡ true → refuse 6 [] ≡ check5 i lower then check6From lower i s then after
     unfolding refuseWith _then_
     lower-second h = rw (e, order-lower lower p q limit coefs s, ← f, not-true a h)

@@ -91,7 +91,8 @@ units-small q table long =
           omega (arith, e, term-le-total (unit i) q j jq, total-unit i q l);
     }
 
-pub start-fits : {p q : ℕ} {coefs : List ℤ} (table supports : List ℕ) (values : List ℤ) → calls.startChecks p q coefs (roomOf q table supports values) ≡ paper.go → SmallMap p q coefs × (q * q ≤ length table)
+pub start-fits : {p q : ℕ} {coefs : List ℤ} (table supports : List ℕ) (values : List ℤ)
+    → calls.startChecks p q coefs (roomOf q table supports values) ≡ paper.go → SmallMap p q coefs × (q * q ≤ length table)
 start-fits {p} {q} {coefs} table supports values e =
     let s = start-shaped p q coefs (roomOf q table supports values) e in
     (shaped-map s, omega (arith, room-within q table supports values .fits, mul-le-mul-right q (s .roomy)))
@@ -117,7 +118,8 @@ module _ {p q : ℕ} {coefs : List ℤ} {table supports : List ℕ} {values : Li
       }
 
   pub entered-room : (r .rows ≤ length supports) × (r .rows ≤ length values)
-  entered-room = (omega (arith, e .order .few, room-within q table supports values .marked), omega (arith, e .order .few, room-within q table supports values .numbered))
+  entered-room =
+      (omega (arith, e .order .few, room-within q table supports values .marked), omega (arith, e .order .few, room-within q table supports values .numbered))
 
   -- with the supports and values written, the loop may begin
   pub entered-ready : (supports′ : List ℕ) (values′ : List ℤ) → length supports′ ≡ length supports → length values′ ≡ length values
@@ -140,9 +142,11 @@ module _ {p q : ℕ} {coefs : List ℤ} {table supports : List ℕ} {values : Li
 
 -- What a continuing call leaves. The outcome is that of the definition. Refused before its first turn, it has changed nothing lent; else, unless all equations
 -- are done, beside each row stand its support and its value under the equation at hand. Past the rows the two tables hold what they may.
-pub record ResumeLeft (p q : ℕ) (coefs : List ℤ) (budget : ℕ) (table₀ supports₀ : List ℕ) (values₀ : List ℤ) (r : Progress) (o : Outcome) (table supports : List ℕ) (values : List ℤ) : Type 0 where
+pub record ResumeLeft (p q : ℕ) (coefs : List ℤ) (budget : ℕ) (table₀ supports₀ : List ℕ) (values₀ : List ℤ) (r : Progress) (o : Outcome)
+    (table supports : List ℕ) (values : List ℤ) : Type 0 where
   pub outcome : outcomeOf o table ≡ calls.resume p q coefs (roomOf q table₀ supports₀ values₀) budget (workOf table₀ r)
-  pub beside : Untouched table₀ supports₀ values₀ table supports values ⊎ RunLeft p q coefs (calls.resume p q coefs (roomOf q table₀ supports₀ values₀) budget (workOf table₀ r)) o table supports values
+  pub beside : Untouched table₀ supports₀ values₀ table supports values
+      ⊎ RunLeft p q coefs (calls.resume p q coefs (roomOf q table₀ supports₀ values₀) budget (workOf table₀ r)) o table supports values
 
 module _ {p q : ℕ} {coefs : List ℤ} {budget : ℕ} {table supports : List ℕ} {values : List ℤ} {r : Progress} {made : Check}
     (e : checkOf made ≡ calls.resumeChecks p q coefs (roomOf q table supports values) (workOf table r)) where
@@ -160,5 +164,6 @@ module _ {p q : ℕ} {coefs : List ℤ} {budget : ℕ} {table supports : List �
 
 -- ---- one unit tuple more
 
-pub units-more : (i q : ℕ) (table₀ : List ℕ) {table after : List ℕ} → table ≡ unitsTo i q table₀ → after ≡ writeTo q table (i * q) (unit i) → after ≡ unitsTo (i + 1) q table₀
+pub units-more : (i q : ℕ) (table₀ : List ℕ) {table after : List ℕ} → table ≡ unitsTo i q table₀ → after ≡ writeTo q table (i * q) (unit i)
+    → after ≡ unitsTo (i + 1) q table₀
 units-more i q table₀ e f = f ∙ ap (λ t. writeTo q t (i * q) (unit i)) e ∙ sym (units-next i q table₀)

@@ -1,4 +1,5 @@
-// The calls that list by sums of pairs, one equation after the other: the start, and the continuing call. Each takes the record by value and returns what it leaves.
+// The calls that list by sums of pairs, one equation after the other: the start, and the continuing call.
+// Each takes the record by value and returns what it leaves.
 ghost use mathlib.Core.Path.{_≡_};
 ghost use Prim.Native.Nat.{_*_, _≤_};
 ghost use lib.ListN.{length};
@@ -29,7 +30,9 @@ pub fn start(
     values: &[i64],
     r: Progress,
 ) -> Outcome
-    ensures { λ o. ⌜ outcomeOf o (now (table .exit)) ≡ calls.start p q (now (coefs .entry)) (calls.roomFor q (length (now (table .entry))) (length (now (supports .entry))) (length (now (values .entry)))) (workOf (now (table .entry)) r) ⌝ }
+    ensures { λ o. ⌜ outcomeOf o (now (table .exit))
+        ≡ calls.start p q (now (coefs .entry)) (calls.roomFor q (length (now (table .entry))) (length (now (supports .entry))) (length (now (values .entry))))
+        (workOf (now (table .entry)) r) ⌝ }
 {
     match pair_checks::check_start(p, q, coefs, table.len(), supports.len(), values.len()) {
         Check::Refuse(why) => pair_calls::refused(why, r),
@@ -48,7 +51,8 @@ pub fn resume(
     r: Progress,
     budget: u64,
 ) -> Outcome
-    ensures { λ o. ⌜ ResumeLeft p q (now (coefs .entry)) budget (now (table .entry)) (now (supports .entry)) (now (values .entry)) r o (now (table .exit)) (now (supports .exit)) (now (values .exit)) ⌝ }
+    ensures { λ o. ⌜ ResumeLeft p q (now (coefs .entry)) budget (now (table .entry)) (now (supports .entry)) (now (values .entry)) r o (now (table .exit))
+        (now (supports .exit)) (now (values .exit)) ⌝ }
 {
     match pair_checks::check_resume(p, q, coefs, table, supports.len(), values.len(), r) {
         Check::Refuse(why) => pair_calls::refused(why, r),
@@ -59,7 +63,8 @@ pub fn resume(
 // The start after its checks.
 fn begin(p: usize, q: usize, coefs: &[i32], table: &mut [u32]) -> Outcome
     requires { ⌜ SmallMap p q (now coefs) × (q * q ≤ length (now table)) ⌝ }
-    ensures { λ o. ⌜ outcomeOf o (now (table .exit)) ≡ method.outcome started (method.begin p q (calls.equations q (now (coefs .entry))) (now (table .entry))) ⌝ }
+    ensures { λ o. ⌜ outcomeOf o (now (table .exit))
+        ≡ method.outcome started (method.begin p q (calls.equations q (now (coefs .entry))) (now (table .entry))) ⌝ }
 {
     write_units(table, q);
     let e = choice::choose(p, q, coefs, table, q, 0);
@@ -100,7 +105,9 @@ fn go_on(
     budget: u64,
 ) -> Outcome
     requires { ⌜ Entered p q (now coefs) (now table) (now supports) (now values) r ⌝ }
-    ensures { λ o. ⌜ RunLeft p q (now (coefs .entry)) (method.run p q (calls.equations q (now (coefs .entry))) (roomOf q (now (table .entry)) (now (supports .entry)) (now (values .entry))) budget (workOf (now (table .entry)) r)) o (now (table .exit)) (now (supports .exit)) (now (values .exit)) ⌝ }
+    ensures { λ o. ⌜ RunLeft p q (now (coefs .entry))
+        (method.run p q (calls.equations q (now (coefs .entry))) (roomOf q (now (table .entry)) (now (supports .entry)) (now (values .entry))) budget
+        (workOf (now (table .entry)) r)) o (now (table .exit)) (now (supports .exit)) (now (values .exit)) ⌝ }
 {
     let done = r.done;
     let equation = r.equation;

@@ -39,7 +39,8 @@ module _ (p q : ℕ) (coefs : List ℤ) where
       let c = complete-lists r n k budget e in
       let fits = runs-sound p q coefs (continued r n k budget) .fits in
       record {
-        part = record { room = le-div-iff-mul-le {k = q} {x = w .rows} {y = length (w .table)} (runs-some p q coefs r) .1 fits; only = c .only; once = c .once };
+        part =
+            record { room = le-div-iff-mul-le {k = q} {x = w .rows} {y = length (w .table)} (runs-some p q coefs r) .1 fits; only = c .only; once = c .once };
         all = c .all;
       }
 
@@ -55,6 +56,7 @@ module _ (p q : ℕ) (coefs : List ℤ) where
       made-of-loops p q (equations q coefs) (o .rows) (row q o) (complete-lists r n k budget e)
 
   -- Any other list of the same tuples, the walk's included, is the same set: each row of the one is a row of the other.
-  pub same-lists : {n m : ℕ} {one other : ℕ → ℕ → ℕ} → Enumerates q (MinimalSolution (system p q coefs)) n one → Enumerates q (MinimalSolution (system p q coefs)) m other
+  pub same-lists : {n m : ℕ} {one other : ℕ → ℕ → ℕ} → Enumerates q (MinimalSolution (system p q coefs)) n one
+      → Enumerates q (MinimalSolution (system p q coefs)) m other
       → (i : ℕ) → i < n → (k : ℕ) × (k < m) × Same q (other k) (one i)
   same-lists {one = one} x y i l = y .all (one i) (x .only i l)

@@ -9,7 +9,28 @@ use lib.Dec.{T, eqb, ltb, ltb→lt}
 use lib.IntN.{ℤ}
 use Rattle.definitions.specs.Answers.{Answer, complete, paused, refused}
 use Rattle.definitions.specs.Refusals.{stepLimit}
-use Rattle.pairs_form.specs.Method.{Outcome, Turned, Work, after, appended, ended, following, goes, isSmall, keeping, needed, onward, outcome, paired, pairTurn, passed, run, stops, sumOf, turn}
+use Rattle.pairs_form.specs.Method.{
+  Outcome,
+  Turned,
+  Work,
+  after,
+  appended,
+  ended,
+  following,
+  goes,
+  isSmall,
+  keeping,
+  needed,
+  onward,
+  outcome,
+  paired,
+  pairTurn,
+  passed,
+  run,
+  stops,
+  sumOf,
+  turn,
+}
 
 -- ---- one turn
 
@@ -49,7 +70,8 @@ module _ (p q : ℕ) (a : ℕ → ℕ → ℤ) (room : ℕ) where
   ended-here : (budget : ℕ) (s : Work) (x : Answer) → (x ≡ paused → ⊥) → Taken budget s (outcome x s)
   ended-here budget s x other = record { least = omega arith; most = omega arith; whole = λ e. absurd (other e) }
 
-  after-taken : (budget : ℕ) (s : Work) (t : Turned) → Counts (s .steps + 1) t → ((r : Work) → Taken budget r (run p q a room budget r)) → Taken (suc budget) s (after t (run p q a room budget) s)
+  after-taken : (budget : ℕ) (s : Work) (t : Turned) → Counts (s .steps + 1) t → ((r : Work) → Taken budget r (run p q a room budget r))
+      → Taken (suc budget) s (after t (run p q a room budget) s)
   unfolding after
   after-taken budget s (goes r) e f =
       let k = f r in
@@ -77,17 +99,21 @@ module _ (p q : ℕ) (a : ℕ → ℕ → ℤ) (room : ℕ) where
     pub going : s .equation < p
     pub again : turn p q a room s ≡ stops n
 
-  pub run-stands : (budget : ℕ) (s : Work) (n : ℕ) (values : List ℕ) → run p q a room budget s .answer ≡ refused n values → Stands n (run p q a room budget s .work)
+  pub run-stands : (budget : ℕ) (s : Work) (n : ℕ) (values : List ℕ) → run p q a room budget s .answer ≡ refused n values
+      → Stands n (run p q a room budget s .work)
   unfolding run after
   run-stands zero s n values e = absurd (never (ltb (s .equation) p) e)
     where
       never : (b : Bool) → (cond b (outcome paused s) (outcome complete s)) .answer ≡ refused n values → ⊥
       never true h = let z : _≡_ {A = ℕ} 0 1 = cc in omega arith
       never false h = let z : _≡_ {A = ℕ} 0 1 = cc in omega arith
-  run-stands (suc budget) s n values e = here (ltb (s .equation) p) (λ h. ltb→lt (s .equation) p h) (turn p q a room s) refl (λ r. run-stands budget r n values) e
+  run-stands (suc budget) s n values e =
+      here (ltb (s .equation) p) (λ h. ltb→lt (s .equation) p h) (turn p q a room s) refl (λ r. run-stands budget r n values) e
     where
-      here : (b : Bool) → (T b → s .equation < p) → (t : Turned) → turn p q a room s ≡ t → ((r : Work) → run p q a room budget r .answer ≡ refused n values → Stands n (run p q a room budget r .work))
-          → (cond b (after t (run p q a room budget) s) (outcome complete s)) .answer ≡ refused n values → Stands n ((cond b (after t (run p q a room budget) s) (outcome complete s)) .work)
+      here : (b : Bool) → (T b → s .equation < p) → (t : Turned) → turn p q a room s ≡ t
+          → ((r : Work) → run p q a room budget r .answer ≡ refused n values → Stands n (run p q a room budget r .work))
+          → (cond b (after t (run p q a room budget) s) (outcome complete s)) .answer ≡ refused n values
+          → Stands n ((cond b (after t (run p q a room budget) s) (outcome complete s)) .work)
       here true f (goes r) g ih h = ih r h
       here true f (stops m) g ih h = let same : m ≡ n = cc in record { going = f tt; again = g ∙ ap stops same }
       here false f t g ih h = absurd (let z : _≡_ {A = ℕ} 0 1 = cc in omega arith)
@@ -116,4 +142,5 @@ module _ (p q : ℕ) (a : ℕ → ℕ → ℤ) (room room′ : ℕ) (s : Work) (
           → cond b (stops 14) (cond c (pairTurn q (a (s .equation)) room′ s) (goes (ended p q a s))) ≡ goes (appended q s)
       here true c h = absurd (let z : _≡_ {A = ℕ} 14 31 = cc in omega arith)
       here false false h = absurd (let z : _≡_ {A = ℕ} 0 1 = cc in omega arith)
-      here false true h = rw (lt-ltb (s .rows) room′ more) (paired-full (needed q (a (s .equation)) s) (isSmall q (sumOf q s)) (ltb (s .rows) room) (passed s) (appended q s) h)
+      here false true h =
+          rw (lt-ltb (s .rows) room′ more) (paired-full (needed q (a (s .equation)) s) (isSmall q (sumOf q s)) (ltb (s .rows) room) (passed s) (appended q s) h)

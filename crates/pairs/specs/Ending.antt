@@ -48,7 +48,8 @@ pub record Ready (p q room : ℕ) (coefs : List ℤ) (table supports : List ℕ)
   pub valued : r .equation < p → Valued (equations q coefs (r .equation)) q (r .rows) table values
 
 -- The answer and the table are those of the method's turn; a refusal leaves the tables.
-pub record TurnLeft (p q room : ℕ) (coefs : List ℤ) (table₀ supports₀ : List ℕ) (values₀ : List ℤ) (r : Progress) (t : Turned) (table supports : List ℕ) (values : List ℤ) : Type 0 where
+pub record TurnLeft (p q room : ℕ) (coefs : List ℤ) (table₀ supports₀ : List ℕ) (values₀ : List ℤ) (r : Progress) (t : Turned) (table supports : List ℕ)
+    (values : List ℤ) : Type 0 where
   pub turned : turnedOf t table ≡ method.turn p q (equations q coefs) room (workOf table₀ r)
   pub ready : AfterOr (Ready p q room coefs table supports values) (Untouched table₀ supports₀ values₀ table supports values) t
   pub long : length table ≡ length table₀
@@ -79,7 +80,8 @@ module _ (p q room : ℕ) (coefs : List ℤ) (table supports : List ℕ) (values
       }
 
   stood-ready : (table′ supports′ : List ℕ) (values′ : List ℤ) (t : Turned)
-      → AfterOr (λ r′. Stood q room coefs table′ supports′ values′ r′ × (r′ .equation ≡ equation) × (r′ .done ≡ done)) (Untouched table supports values table′ supports′ values′) t
+      → AfterOr (λ r′. Stood q room coefs table′ supports′ values′ r′ × (r′ .equation ≡ equation) × (r′ .done ≡ done))
+      (Untouched table supports values table′ supports′ values′) t
       → AfterOr (Ready p q room coefs table′ supports′ values′) (Untouched table supports values table′ supports′ values′) t
   stood-ready table′ supports′ values′ (Goes r′) (o, e, d) =
       record {
@@ -99,7 +101,8 @@ module _ (p q room : ℕ) (coefs : List ℤ) (table supports : List ℕ) (values
   stood-ready table′ supports′ values′ Full o = o
 
   -- a pair
-  pub turn-pair : steps ≢ 1000000000000 → later < n → {t : Turned} {table′ supports′ : List ℕ} {values′ : List ℤ} → PairLeft q room coefs table supports values here t table′ supports′ values′
+  pub turn-pair : steps ≢ 1000000000000 → later < n → {t : Turned} {table′ supports′ : List ℕ} {values′ : List ℤ}
+      → PairLeft q room coefs table supports values here t table′ supports′ values′
       → TurnLeft p q room coefs table supports values here t table′ supports′ values′
   unfolding method.turn
   turn-pair ne l {t} {table′} {supports′} {values′} x =
@@ -119,7 +122,8 @@ pack-same zero q table f g row e = refl
 pack-same (suc n) q table f g row e =
     rw (pack-same n q table f g row (λ i l. e i (omega arith)), count-same f g n (λ i l. e i (omega arith)), e n (omega arith))
 
-pub kept-small : (q n : ℕ) (stay : ℕ → Bool) (table₀ : List ℕ) {table : List ℕ} {count : ℕ} → SmallTable q n table₀ → Kept q n stay table₀ table count → SmallTable q count table
+pub kept-small : (q n : ℕ) (stay : ℕ → Bool) (table₀ : List ℕ) {table : List ℕ} {count : ℕ} → SmallTable q n table₀ → Kept q n stay table₀ table count
+    → SmallTable q count table
 kept-small q n stay table₀ {table} {count} s k =
     rw (k .rows, k .counted)
     (record {
@@ -132,7 +136,8 @@ kept-small q n stay table₀ {table} {count} s k =
 
 module _ (p q room : ℕ) (coefs : List ℤ) (table supports : List ℕ) (values : List ℤ) (done equation later earlier n steps : ℕ)
     (s : Ready p q room coefs table supports values (progressOf done equation later earlier n steps)) (going : equation < p) (on : steps ≢ 1000000000000)
-    (past : n ≤ later) {table₁ : List ℕ} {n₁ : ℕ} (zeros : Kept q n (zeroValue values) table table₁ n₁) {table₂ : List ℕ} {n₂ : ℕ} (left : Kept q n₁ (keeps q n₁ (at table₁ q)) table₁ table₂ n₂) where
+    (past : n ≤ later) {table₁ : List ℕ} {n₁ : ℕ} (zeros : Kept q n (zeroValue values) table table₁ n₁) {table₂ : List ℕ} {n₂ : ℕ}
+    (left : Kept q n₁ (keeps q n₁ (at table₁ q)) table₁ table₂ n₂) where
   zero-tests : (i : ℕ) → i < n → zeroValue values i ≡ zeroRow q (equations q coefs equation) (at table q) i
   zero-tests i l = ap isZero (s .valued going .each i l)
 
@@ -168,7 +173,8 @@ module _ (p q room : ℕ) (coefs : List ℤ) (table supports : List ℕ) (values
   marked-low = bit-add-fits done equation p (free-bit done equation (s .left going)) going (s .fitting)
 
   end-turn : (e : ℕ) → e ≡ chosen p q (equations q coefs) done′ n₂ (at table₂ q)
-      → method.goes (workOf table₂ (progressOf done′ e 1 0 n₂ (steps + 1))) ≡ method.turn p q (equations q coefs) room (workOf table (progressOf done equation later earlier n steps))
+      → method.goes (workOf table₂ (progressOf done′ e 1 0 n₂ (steps + 1)))
+      ≡ method.turn p q (equations q coefs) room (workOf table (progressOf done equation later earlier n steps))
   unfolding method.turn method.following method.keeping
   end-turn e c = rw (ne-eqb steps 1000000000000 on, le-ltb later n past, c, left .rows, left .counted, zeros-table, zeros-count)
 
@@ -181,7 +187,8 @@ module _ (p q room : ℕ) (coefs : List ℤ) (table supports : List ℕ) (values
 
     pub turn-end : (supports′ : List ℕ) (values′ : List ℤ) → length supports′ ≡ length supports → length values′ ≡ length values
         → (e < p → Supported q n₂ table₂ supports′) → (e < p → Valued (equations q coefs e) q n₂ table₂ values′)
-        → TurnLeft p q room coefs table supports values (progressOf done equation later earlier n steps) (Goes (progressOf marked e 1 0 n₂ (steps + 1))) table₂ supports′ values′
+        → TurnLeft p q room coefs table supports values (progressOf done equation later earlier n steps)
+        (Goes (progressOf marked e 1 0 n₂ (steps + 1))) table₂ supports′ values′
     turn-end supports′ values′ wide deep supported valued =
         let choice = chosen-fits p (λ e. pairsOf q (equations q coefs e) n₂ (at table₂ q)) marked in
         record {

@@ -97,11 +97,13 @@ module _ (q room : ℕ) (coefs : List ℤ) (table supports : List ℕ) (values :
         valued = s .valued;
       }
 
-  skipped : method.pairTurn q c room w ≡ method.goes (method.passed w) → PairLeft q room coefs table supports values p (Goes (nextProgress done equation later earlier n steps)) table supports values
+  skipped : method.pairTurn q c room w ≡ method.goes (method.passed w)
+      → PairLeft q room coefs table supports values p (Goes (nextProgress done equation later earlier n steps)) table supports values
   unfolding method.onward
   skipped e = record { turned = sym e; stood = (skip-stood, refl, refl); long = refl; wide = refl; deep = refl }
 
-  pub left-unopposed : method.opposes x y ≡ false → PairLeft q room coefs table supports values p (Goes (nextProgress done equation later earlier n steps)) table supports values
+  pub left-unopposed : method.opposes x y ≡ false
+      → PairLeft q room coefs table supports values p (Goes (nextProgress done equation later earlier n steps)) table supports values
   unfolding method.pairTurn method.needed method.paired
   left-unopposed e = let e′ : method.opposes (value c q (at table q earlier)) (value c q (at table q later)) ≡ false = rw (← x-is, ← y-is) e in skipped (rw e′)
 
@@ -122,7 +124,10 @@ module _ (q room : ℕ) (coefs : List ℤ) (table supports : List ℕ) (values :
     unfolding reduces method.reducible isAtOrBelow
     reduces-is =
         reducible-by q c n (at table q) (integerAt values) (tuple z) sum (s .valued .each)
-        ∙ rw sum-value (any-same n _ _ (λ i l. ap (λ b. method.isWithin (value c q (at table q i)) (value c q (method.sumOf q w)) && b) (all-same q _ _ (λ j jq. ap (leb (at table q i j)) (same j jq)))))
+        ∙ rw sum-value
+        (any-same n _ _
+        (λ i l. ap (λ b. method.isWithin (value c q (at table q i)) (value c q (method.sumOf q w)) && b)
+        (all-same q _ _ (λ j jq. ap (leb (at table q i j)) (same j jq)))))
 
     small-is : method.isSmall q (tuple z) ≡ method.isSmall q (method.sumOf q w)
     unfolding method.isSmall
@@ -134,7 +139,8 @@ module _ (q room : ℕ) (coefs : List ℤ) (table supports : List ℕ) (values :
         let o : method.opposes (value c q (at table q earlier)) (value c q (at table q later)) ≡ true = rw (← x-is, ← y-is) opposed in
         rw (o, reduces-is, small-is)
 
-    pub left-reduced : reducibleBy q n (at table q) (integerAt values) (tuple z) (method.low sum) (method.high sum) ≡ true → PairLeft q room coefs table supports values p (Goes (nextProgress done equation later earlier n steps)) table supports values
+    pub left-reduced : reducibleBy q n (at table q) (integerAt values) (tuple z) (method.low sum) (method.high sum) ≡ true
+        → PairLeft q room coefs table supports values p (Goes (nextProgress done equation later earlier n steps)) table supports values
     unfolding method.paired reduces
     left-reduced e = skipped (turn-is ∙ rw e)
 
@@ -170,7 +176,8 @@ module _ (q room : ℕ) (coefs : List ℤ) (table supports : List ℕ) (values :
                 whole = omega (arith, append-fits, write-length (tuple z) table (n * q) q);
                 small = λ i j il jq. elim (split i n) [
                   | inl h ↦ omega (arith, append-kept q table n (tuple z) i h j jq, s .small .small i j h jq)
-                  | inr h ↦ let e : i ≡ n = omega arith in rw e (omega (arith, append-new q table n (tuple z) append-fits j jq, small-from q (tuple z) low′ j jq))
+                  | inr h ↦ let e : i ≡ n = omega arith in
+                      rw e (omega (arith, append-new q table n (tuple z) append-fits j jq, small-from q (tuple z) low′ j jq))
                 ];
               }
 
@@ -178,15 +185,21 @@ module _ (q room : ℕ) (coefs : List ℤ) (table supports : List ℕ) (values :
           new-support support e = e ∙ support-same q (tuple z) (at table′ q n) (λ j jq. sym (append-new q table n (tuple z) append-fits j jq))
 
           old-supports : Supported q n table′ supports
-          old-supports = record { each = λ i l. s .supported .each i l ∙ support-same q (at table q i) (at table′ q i) (λ j jq. sym (append-kept q table n (tuple z) i l j jq)) }
+          old-supports =
+              record {
+                each = λ i l. s .supported .each i l ∙ support-same q (at table q i) (at table′ q i) (λ j jq. sym (append-kept q table n (tuple z) i l j jq));
+              }
 
           pub left-more : (written : ℤ) → written ≡ sum → (support : ℕ) → support ≡ supportOf q (tuple z) → (after : List ℕ) → after ≡ table′
-              → PairLeft q room coefs table supports values p (Goes (nextProgress done equation later earlier (n + 1) steps)) after (set supports n support) (set values n written)
+              → PairLeft q room coefs table supports values p (Goes (nextProgress done equation later earlier (n + 1) steps)) after
+              (set supports n support) (set values n written)
           unfolding method.paired reduces method.onward
           left-more written e support f after g =
               rw (g, e)
               (record {
-                turned = ap (λ t. method.goes (workOf t (nextProgress done equation later earlier (n + 1) steps))) (write-same q table (n * q) same) ∙ sym (turn-is ∙ rw (fresh, low, lt-ltb n room roomy));
+                turned =
+                    ap (λ t. method.goes (workOf t (nextProgress done equation later earlier (n + 1) steps))) (write-same q table (n * q) same)
+                    ∙ sym (turn-is ∙ rw (fresh, low, lt-ltb n room roomy));
                 stood = (
                   record {
                     place = next-below earlier later (ltb (earlier + 1) later) (λ e. ltb-true (earlier + 1) later e);

@@ -79,7 +79,8 @@ module _ {p q room : ℕ} {coefs : List ℤ} {whole : method.Outcome} {table sup
   left-by : (answer : Answer) → outcomeOf (leaves answer r) table ≡ whole → RunLeft p q coefs whole (leaves answer r) table supports values
   left-by answer e = record { outcome = e; supported = g .ready .supported; valued = g .ready .valued }
 
-  stopped-by : (answer : Answer) {table′ supports′ : List ℕ} {values′ : List ℤ} → Untouched table supports values table′ supports′ values′ → outcomeOf (leaves answer r) table′ ≡ whole
+  stopped-by : (answer : Answer) {table′ supports′ : List ℕ} {values′ : List ℤ} → Untouched table supports values table′ supports′ values′
+      → outcomeOf (leaves answer r) table′ ≡ whole
       → RunLeft p q coefs whole (leaves answer r) table′ supports′ values′
   stopped-by answer {table′} {supports′} {values′} u e =
       record {
@@ -94,7 +95,8 @@ module _ {p q room : ℕ} {coefs : List ℤ} {whole : method.Outcome} {table sup
   pub ends-complete : p ≤ r .equation → RunLeft p q coefs whole (leaves Complete r) table supports values
   ends-complete l = left-by Complete (sym (run-complete p q room coefs table supports values r left l) ∙ g .same)
 
-  module _ (l : r .equation < p) (h : 0 < left) {t : Turned} {table′ supports′ : List ℕ} {values′ : List ℤ} (x : TurnLeft p q room coefs table supports values r t table′ supports′ values′) where
+  module _ (l : r .equation < p) (h : 0 < left) {t : Turned} {table′ supports′ : List ℕ} {values′ : List ℤ}
+      (x : TurnLeft p q room coefs table supports values r t table′ supports′ values′) where
     pub goes-on : {r′ : Progress} → t ≡ turned.Goes r′ → Going p q room coefs whole table′ supports′ values′ r′ (left - 1)
     goes-on e = let x′ = rw e at x in record { ready = x′ .ready; same = run-goes p q room coefs table supports values r left l h x′ ∙ g .same }
 
@@ -102,7 +104,8 @@ module _ {p q room : ℕ} {coefs : List ℤ} {whole : method.Outcome} {table sup
     ends-late e = let x′ = rw e at x in stopped-by (Refused StepLimit) (x′ .ready) (run-late p q room coefs table supports values r left l h x′ ∙ g .same)
 
     pub ends-large : t ≡ turned.Large → RunLeft p q coefs whole (leaves (Refused ComponentLimit) r) table′ supports′ values′
-    ends-large e = let x′ = rw e at x in stopped-by (Refused ComponentLimit) (x′ .ready) (run-large p q room coefs table supports values r left l h x′ ∙ g .same)
+    ends-large e = let x′ = rw e at x in
+        stopped-by (Refused ComponentLimit) (x′ .ready) (run-large p q room coefs table supports values r left l h x′ ∙ g .same)
 
     pub ends-full : t ≡ turned.Full → RunLeft p q coefs whole (leaves Full r) table′ supports′ values′
     ends-full e = let x′ = rw e at x in stopped-by Full (x′ .ready) (run-full p q room coefs table supports values r left l h x′ ∙ g .same)

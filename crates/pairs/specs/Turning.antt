@@ -75,9 +75,11 @@ pub record Stood (q room : ℕ) (coefs : List ℤ) (table supports : List ℕ) (
   pub valued : Valued (equationAt coefs (r .equation * q)) q (r .rows) table values
 
 -- A pair: the answer and the table are those of the method. A refusal leaves the tables.
-pub record PairLeft (q room : ℕ) (coefs : List ℤ) (table₀ supports₀ : List ℕ) (values₀ : List ℤ) (r : Progress) (t : Turned) (table supports : List ℕ) (values : List ℤ) : Type 0 where
+pub record PairLeft (q room : ℕ) (coefs : List ℤ) (table₀ supports₀ : List ℕ) (values₀ : List ℤ) (r : Progress) (t : Turned) (table supports : List ℕ)
+    (values : List ℤ) : Type 0 where
   pub turned : turnedOf t table ≡ method.pairTurn q (equationAt coefs (r .equation * q)) room (workOf table₀ r)
-  pub stood : AfterOr (λ r′. Stood q room coefs table supports values r′ × (r′ .equation ≡ r .equation) × (r′ .done ≡ r .done)) (Untouched table₀ supports₀ values₀ table supports values) t
+  pub stood : AfterOr (λ r′. Stood q room coefs table supports values r′ × (r′ .equation ≡ r .equation) × (r′ .done ≡ r .done))
+      (Untouched table₀ supports₀ values₀ table supports values) t
   pub long : length table ≡ length table₀
   pub wide : length supports ≡ length supports₀
   pub deep : length values ≡ length values₀

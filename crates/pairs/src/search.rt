@@ -46,7 +46,8 @@ pub fn turn(
     steps: u64,
 ) -> Turned
     requires { ⌜ Ready p q room (now coefs) (now table) (now supports) (now values) (progressOf done equation later earlier n steps) × (equation < p) ⌝ }
-    ensures { λ r. ⌜ TurnLeft p q room (now (coefs .entry)) (now (table .entry)) (now (supports .entry)) (now (values .entry)) (progressOf done equation later earlier n steps) r (now (table .exit)) (now (supports .exit)) (now (values .exit)) ⌝ }
+    ensures { λ r. ⌜ TurnLeft p q room (now (coefs .entry)) (now (table .entry)) (now (supports .entry)) (now (values .entry))
+        (progressOf done equation later earlier n steps) r (now (table .exit)) (now (supports .exit)) (now (values .exit)) ⌝ }
 {
     if steps == 1000000000000 {
         return Turned::Late;
@@ -109,7 +110,8 @@ fn pair(
     steps: u64,
 ) -> Turned
     requires { ⌜ Standing q room (now coefs) (now table) (now supports) (now values) (progressOf done equation later earlier n steps) × (later < n) ⌝ }
-    ensures { λ r. ⌜ PairLeft q room (now (coefs .entry)) (now (table .entry)) (now (supports .entry)) (now (values .entry)) (progressOf done equation later earlier n steps) r (now (table .exit)) (now (supports .exit)) (now (values .exit)) ⌝ }
+    ensures { λ r. ⌜ PairLeft q room (now (coefs .entry)) (now (table .entry)) (now (supports .entry)) (now (values .entry))
+        (progressOf done equation later earlier n steps) r (now (table .exit)) (now (supports .exit)) (now (values .exit)) ⌝ }
 {
     let x = values[earlier];
     let y = values[later];
@@ -222,7 +224,9 @@ pub fn run(
     budget: u64,
 ) -> Outcome
     requires { ⌜ Ready p q room (now coefs) (now table) (now supports) (now values) (progressOf done equation later earlier n steps) ⌝ }
-    ensures { λ o. ⌜ RunLeft p q (now (coefs .entry)) (method.run p q (equations q (now (coefs .entry))) room budget (workOf (now (table .entry)) (progressOf done equation later earlier n steps))) o (now (table .exit)) (now (supports .exit)) (now (values .exit)) ⌝ }
+    ensures { λ o. ⌜ RunLeft p q (now (coefs .entry))
+        (method.run p q (equations q (now (coefs .entry))) room budget (workOf (now (table .entry)) (progressOf done equation later earlier n steps))) o
+        (now (table .exit)) (now (supports .exit)) (now (values .exit)) ⌝ }
 {
     let mut d = done;
     let mut e = equation;

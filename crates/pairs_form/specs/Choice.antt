@@ -51,7 +51,8 @@ pub record Choice (p done k e : ℕ) : Type 0 where
 
 better-choice : (p : ℕ) (pairs : ℕ → ℕ) (done k best : ℕ) → k < p → Choice p done k best → Choice p done (suc k) (better p pairs (frozen done k) k best)
 unfolding better
-better-choice p pairs done k best l c = go (frozen done k) (λ h. h) (λ h. h) (ltb best p && leb (pairs best) (pairs k)) (λ h. ltb→lt best p (and-parts (ltb best p) _ h .0))
+better-choice p pairs done k best l c =
+    go (frozen done k) (λ h. h) (λ h. h) (ltb best p && leb (pairs best) (pairs k)) (λ h. ltb→lt best p (and-parts (ltb best p) _ h .0))
   where
     go : (b : Bool) → (T b → T (frozen done k)) → (T (frozen done k) → T b) → (d : Bool) → (T d → best < p) → Choice p done (suc k) (cond (b || d) best k)
     go true f g d h = record { early = c .early; left = c .left; none = λ e i il. elim (below-suc il) [ inl o ↦ c .none e i o | inr o ↦ rw o (f tt) ] }

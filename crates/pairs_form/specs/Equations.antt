@@ -131,13 +131,17 @@ module _ (p q : ℕ) (a a′ : ℕ → ℕ → ℤ) (c : ℕ → ℤ) (x : Exten
     zeros-inside m l =
         let (i, il, z, e) = count-at (zeroRow q c row) n m (omega (arith, picked .count)) in
         let same : Same q (row i) (row₁ m) = λ j jq. sym (rw e at (picked .rows i il z) j jq) in
-        wanted-alike p q a′ same (record { solution = x .more (row i) (h .wanted i il .solution) (is-zero (value c q (row i)) z); admitted = h .wanted i il .admitted })
+        wanted-alike p q a′ same
+        (record { solution = x .more (row i) (h .wanted i il .solution) (is-zero (value c q (row i)) z); admitted = h .wanted i il .admitted })
 
     zeros-under : (t : ℕ → ℕ) → Wanted p q a′ t → (m : ℕ) × (m < n₁) × AtOrBelow q (row₁ m) t
     zeros-under t w =
         let (i, il, e, b) = zero-below t w in
-        let z = zero-is (value c q (row i)) e in
-        (countTo i (zeroRow q c row), omega (arith, picked .count, count-step (zeroRow q c row) i n il z), λ j jq. omega (arith, b j jq, picked .rows i il z j jq))
+        let z = zero-is (value c q (row i)) e in (
+          countTo i (zeroRow q c row),
+          omega (arith, picked .count, count-step (zeroRow q c row) i n il z),
+          λ j jq. omega (arith, b j jq, picked .rows i il z j jq),
+        )
 
     -- swept, the rows with value 0 are the minimal solutions of the system with the equation, each once
     pub next-equation : (n₂ : ℕ) (row₂ : ℕ → ℕ → ℕ) → Swept q n₁ row₁ n₂ row₂ → Enumerates q (Loop p q a′) n₂ row₂
@@ -147,17 +151,28 @@ module _ (p q : ℕ) (a a′ : ℕ → ℕ → ℤ) (c : ℕ → ℤ) (x : Exten
 -- ---- before the first equation
 
 -- rows that are the q unit tuples, where every tuple is a solution
-pub units-enumerate : (p q : ℕ) (a : ℕ → ℕ → ℤ) (free : (t : ℕ → ℕ) → Solution p q a t) (row : ℕ → ℕ → ℕ) → ((i : ℕ) → i < q → Same q (row i) (unit i)) → Enumerates q (Loop p q a) q row
+pub units-enumerate : (p q : ℕ) (a : ℕ → ℕ → ℤ) (free : (t : ℕ → ℕ) → Solution p q a t) (row : ℕ → ℕ → ℕ) → ((i : ℕ) → i < q → Same q (row i) (unit i))
+    → Enumerates q (Loop p q a) q row
 units-enumerate p q a free row is =
     record {
       only = λ i l. minimal-from (record { solution = free (row i); admitted = (i, l, omega (arith, is i l i l, unit-same i)) }) (λ s w b. whole i l s w b);
-      once = λ i j ij jn e. omega (arith, e i (omega arith), is i (omega arith) i (omega arith), is j jn i (omega arith), unit-same i, unit-other j i (omega arith));
+      once = λ i j ij jn e. omega (
+        arith,
+        e i (omega arith),
+        is i (omega arith) i (omega arith),
+        is j jn i (omega arith),
+        unit-same i,
+        unit-other j i (omega arith),
+      );
       all = λ t b.
           let (j, jq, h) = b .holds .admitted in (
             j,
             jq,
             least b (row j) (record { solution = free (row j); admitted = (j, jq, omega (arith, is j jq j jq, unit-same j)) })
-                (λ x xq. elim (ℕ-discrete x j) [ yes e ↦ rw e (omega (arith, is j jq j jq, unit-same j)) | no ne ↦ omega (arith, is j jq x xq, unit-other j x ne) ]),
+                (λ x xq. elim (ℕ-discrete x j) [
+                  | yes e ↦ rw e (omega (arith, is j jq j jq, unit-same j))
+                  | no ne ↦ omega (arith, is j jq x xq, unit-other j x ne)
+                ]),
           );
     }
   where

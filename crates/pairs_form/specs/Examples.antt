@@ -17,7 +17,24 @@ use Rattle.sweeps.specs.Pack.{packTo}
 use Rattle.sweeps.specs.Sweep.{keeps, spoils}
 use Rattle.pairs_form.specs.Calls.{checked, inOrder, marksInOrder, placeInOrder, resume, resumeChecks, start, startChecks}
 use Rattle.pairs_form.specs.Choice.{better, chosenTo, pairsOf}
-use Rattle.pairs_form.specs.Method.{Outcome, Work, after, begin, following, isSmall, isWithin, keeping, needed, onward, opposes, paired, pairTurn, reducible, run, turn}
+use Rattle.pairs_form.specs.Method.{
+  Outcome,
+  Work,
+  after,
+  begin,
+  following,
+  isSmall,
+  isWithin,
+  keeping,
+  needed,
+  onward,
+  opposes,
+  paired,
+  pairTurn,
+  reducible,
+  run,
+  turn,
+}
 
 -- a record and a table of zeros, as they may come to a start
 abbrev blank : ℕ → ℕ → Work

@@ -29,8 +29,47 @@ use Rattle.sweeps.specs.SweepLaws.{comes-from}
 use Rattle.pairs_form.specs.Choice.{Choice, chosen, chosen-fits, pairsOf}
 use Rattle.pairs_form.specs.Done.{all-done, among, done-extends, none-asks}
 use Rattle.pairs_form.specs.Equations.{Holding, Wanted, basis-holds, next-equation, units-enumerate, wanted-alike, zeroRow}
-use Rattle.pairs_form.specs.Method.{Turned, Work, always, appended, begin, cleared, ended, following, goes, isSmall, keeping, needed, nextEarlier, nextLater, onward, opposes, paired, pairTurn, passed, reducible, row, stops, sumOf, turn, units, zeros}
-use Rattle.pairs_form.specs.MethodLaws.{Against, against-opposes, append-kept, append-new, pick-fits, pick-length, pick-picks, reduced-itself, reduced-more, reducible-from, small-from}
+use Rattle.pairs_form.specs.Method.{
+  Turned,
+  Work,
+  always,
+  appended,
+  begin,
+  cleared,
+  ended,
+  following,
+  goes,
+  isSmall,
+  keeping,
+  needed,
+  nextEarlier,
+  nextLater,
+  onward,
+  opposes,
+  paired,
+  pairTurn,
+  passed,
+  reducible,
+  row,
+  stops,
+  sumOf,
+  turn,
+  units,
+  zeros,
+}
+use Rattle.pairs_form.specs.MethodLaws.{
+  Against,
+  against-opposes,
+  append-kept,
+  append-new,
+  pick-fits,
+  pick-length,
+  pick-picks,
+  reduced-itself,
+  reduced-more,
+  reducible-from,
+  small-from,
+}
 use Rattle.pairs_form.specs.Signs.{Closed, Reduced, plus}
 
 -- the pair (k, l) comes before the pair (earlier, later)
@@ -132,13 +171,15 @@ module _ (p q : ℕ) (a : ℕ → ℕ → ℤ) (some : 0 < q) (s : Work) (sound 
     still-reduced : (k l : ℕ) → k < s .rows → l < s .rows → PairReduced q c s k l → PairReduced q c (appended q s) k l
     unfolding onward
     still-reduced k l kn ln r =
-        reduced-more q c (s .rows) (s .rows + 1) (row q s) (row q (appended q s)) (plus (row q s k) (row q s l)) (plus (row q (appended q s) k) (row q (appended q s) l)) (omega arith) kept
+        reduced-more q c (s .rows) (s .rows + 1) (row q s) (row q (appended q s)) (plus (row q s k) (row q s l))
+        (plus (row q (appended q s) k) (row q (appended q s) l)) (omega arith) kept
         (λ j jq. omega (arith, kept k kn j jq, kept l ln j jq)) r
 
     new-reduced : PairReduced q c (appended q s) (s .earlier) (s .later)
     unfolding onward
     new-reduced =
-        reduced-itself q c (s .rows + 1) (row q (appended q s)) (s .rows) (plus (row q (appended q s) (s .earlier)) (row q (appended q s) (s .later))) (omega arith)
+        reduced-itself q c (s .rows + 1) (row q (appended q s)) (s .rows)
+        (plus (row q (appended q s) (s .earlier)) (row q (appended q s) (s .later))) (omega arith)
         (λ j jq. omega (arith, new j jq, kept (s .earlier) (omega (arith, sound .place)) j jq, kept (s .later) more j jq))
 
     was-opposite : (k l : ℕ) → k < s .rows → l < s .rows → Opposite q c (appended q s) k l → Opposite q c s k l
@@ -146,7 +187,8 @@ module _ (p q : ℕ) (a : ℕ → ℕ → ℤ) (some : 0 < q) (s : Work) (sound 
 
     sum-wanted : Wanted p q (among (s .done) a) (sumOf q s)
     sum-wanted =
-        plus-wanted p q (among (s .done) a) (row q s (s .earlier)) (row q s (s .later)) (sound .holding .wanted (s .earlier) (omega (arith, sound .place))) (sound .holding .wanted (s .later) more)
+        plus-wanted p q (among (s .done) a) (row q s (s .earlier)) (row q s (s .later)) (sound .holding .wanted (s .earlier) (omega (arith, sound .place)))
+        (sound .holding .wanted (s .later) more)
 
     appended-sound : Sound p q a (appended q s)
     unfolding onward
@@ -187,7 +229,8 @@ module _ (p q : ℕ) (a : ℕ → ℕ → ℤ) (some : 0 < q) (s : Work) (sound 
           | inr o ↦ elim o [
             | inl e ↦ absurd (omega (arith, one-side (value c q (row q s k)), rw e at uh))
             | inr kh ↦
-                reduced-more q c (s .rows) (s .rows) (row q s) (row q s) (plus (row q s k) (row q s h)) (plus (row q s h) (row q s k)) (omega arith) (λ i l j jq. refl) (λ j jq. omega arith)
+                reduced-more q c (s .rows) (s .rows) (row q s) (row q s) (plus (row q s k) (row q s h)) (plus (row q s h) (row q s k)) (omega arith)
+                (λ i l j jq. refl) (λ j jq. omega arith)
                 (sound .pairs k h kh hn (inl (omega arith)) (inr (record { above = uh; below = dk })))
           ]
         ]
@@ -208,7 +251,8 @@ module _ (p q : ℕ) (a : ℕ → ℕ → ℤ) (some : 0 < q) (s : Work) (sound 
     end-basis : Enumerates q (Loop p q (among done′ a)) (r .rows) (row q r)
     unfolding keeping
     end-basis =
-        next-equation p q (among (s .done) a) (among done′ a) c (done-extends p q a (s .done) (s .equation) going (sound .left going)) (s .rows) (row q s) (sound .holding) closed
+        next-equation p q (among (s .done) a) (among done′ a) c (done-extends p q a (s .done) (s .equation) going (sound .left going)) (s .rows)
+        (row q s) (sound .holding) closed
         (t .rows) (row q t) (pick-picks q (s .table) (s .rows) (sound .fits) (zeroRow q c (row q s))) (r .rows) (row q r) (table-swept q (t .rows) (t .table))
 
     zeros-small : (i j : ℕ) → i < t .rows → j < q → row q t i j ≤ mostComponent
@@ -272,7 +316,8 @@ module _ (p q : ℕ) (a : ℕ → ℕ → ℤ) (n : ℕ) where
 
 module _ (p q : ℕ) (a : ℕ → ℕ → ℤ) (some : 0 < q) (s : Work) (sound : Sound p q a s) (going : s .equation < p) where
   -- a pair that needs no row of its own is reduced
-  not-needed : ¬ (T (needed q (a (s .equation)) s)) → Opposite q (a (s .equation)) s (s .earlier) (s .later) → PairReduced q (a (s .equation)) s (s .earlier) (s .later)
+  not-needed : ¬ (T (needed q (a (s .equation)) s)) → Opposite q (a (s .equation)) s (s .earlier) (s .later)
+      → PairReduced q (a (s .equation)) s (s .earlier) (s .later)
   unfolding needed
   not-needed h o =
       let x = value (a (s .equation)) q (row q s (s .earlier)) in
@@ -293,7 +338,10 @@ module _ (p q : ℕ) (a : ℕ → ℕ → ℤ) (some : 0 < q) (s : Work) (sound 
   appended-fit : s .later < s .rows → s .rows * q + q ≤ length (s .table) → T (isSmall q (sumOf q s)) → Fit p q a (length (s .table)) (appended q s)
   unfolding onward
   appended-fit more fits low =
-      record { sound = appended-sound p q a some s sound going more fits (small-from q (sumOf q s) low); long = write-length (sumOf q s) (s .table) (s .rows * q) q }
+      record {
+        sound = appended-sound p q a some s sound going more fits (small-from q (sumOf q s) low);
+        long = write-length (sumOf q s) (s .table) (s .rows * q) q;
+      }
 
   ended-fit : s .rows ≤ s .later → Fit p q a (length (s .table)) (ended p q a s)
   unfolding following keeping
@@ -302,9 +350,11 @@ module _ (p q : ℕ) (a : ℕ → ℕ → ℤ) (some : 0 < q) (s : Work) (sound 
   pub turn-fine : (room : ℕ) → room * q ≤ length (s .table) → Fine p q a (length (s .table)) (turn p q a room s)
   unfolding turn pairTurn
   turn-fine room long =
-      cond-fine p q a (length (s .table)) (eqb (s .steps) stepLimit) (stops 14) (cond (ltb (s .later) (s .rows)) (pairTurn q (a (s .equation)) room s) (goes (ended p q a s))) (λ h. tt)
+      cond-fine p q a (length (s .table)) (eqb (s .steps) stepLimit) (stops 14)
+      (cond (ltb (s .later) (s .rows)) (pairTurn q (a (s .equation)) room s) (goes (ended p q a s))) (λ h. tt)
       (λ h. cond-fine p q a (length (s .table)) (ltb (s .later) (s .rows)) (pairTurn q (a (s .equation)) room s) (goes (ended p q a s))
-      (λ more. paired-fine p q a (length (s .table)) (needed q (a (s .equation)) s) (isSmall q (sumOf q s)) (ltb (s .rows) room) (passed s) (appended q s) passed-fit
+      (λ more. paired-fine p q a (length (s .table)) (needed q (a (s .equation)) s) (isSmall q (sumOf q s)) (ltb (s .rows) room) (passed s)
+      (appended q s) passed-fit
       (λ n sm rm. appended-fit (ltb→lt (s .later) (s .rows) more) (room-fits room long (ltb→lt (s .rows) room rm)) sm))
       (λ past. ended-fit (nltb→le (s .later) (s .rows) past)))
 

@@ -245,7 +245,8 @@ pub record Shaped (p q : ℕ) (coefs : List ℤ) (room : ℕ) : Type 0 where
   pub range : (i : ℕ) → i < length coefs → natAbs (getD coefs i (pos 0)) ≤ coefLimit
 
 module _ (p q : ℕ) (coefs : List ℤ) (room : ℕ) where
-  shaped-by : ¬ (Outside 1 mostEquations p) → ¬ (Outside 1 mostUnknowns q) → ¬ (length coefs ≢ p * q) → ¬ (room < q) → ((i : ℕ) → i < length coefs → ¬ (coefLimit < natAbs (getD coefs i (pos 0)))) → Shaped p q coefs room
+  shaped-by : ¬ (Outside 1 mostEquations p) → ¬ (Outside 1 mostUnknowns q) → ¬ (length coefs ≢ p * q) → ¬ (room < q)
+      → ((i : ℕ) → i < length coefs → ¬ (coefLimit < natAbs (getD coefs i (pos 0)))) → Shaped p q coefs room
   shaped-by np nq nc nr range =
       record {
         p-some = at-most 1 p (λ l. np (inl l));

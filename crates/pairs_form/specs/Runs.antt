@@ -46,7 +46,8 @@ module _ (p q : ℕ) (a : ℕ → ℕ → ℤ) where
   ended-good : (s : Work) → Sound p q a s → p ≤ s .equation → Good p q a (outcome complete s)
   ended-good s sound l = record { sound = sound; done = λ e. omega (arith, sound .early) }
 
-  after-good : (t : Turned) (f : Work → Outcome) (s : Work) (n : ℕ) → Sound p q a s → Fine p q a n t → ((r : Work) → Fit p q a n r → Good p q a (f r)) → Good p q a (after t f s)
+  after-good : (t : Turned) (f : Work → Outcome) (s : Work) (n : ℕ) → Sound p q a s → Fine p q a n t → ((r : Work) → Fit p q a n r → Good p q a (f r))
+      → Good p q a (after t f s)
   unfolding after
   after-good (goes r) f s n sound fine g = g r fine
   after-good (stops why) f s n sound fine g = stopped-good s (refused why []) sound (λ e. let z : _≡_ {A = ℕ} 0 1 = cc in omega arith)
@@ -54,11 +55,13 @@ module _ (p q : ℕ) (a : ℕ → ℕ → ℤ) where
   pub run-good : 0 < q → (room budget : ℕ) (s : Work) → room * q ≤ length (s .table) → Sound p q a s → Good p q a (run p q a room budget s)
   unfolding run
   run-good some room zero s long sound =
-      cond-good (ltb (s .equation) p) (outcome paused s) (outcome complete s) (λ h. stopped-good s paused sound (λ e. let z : _≡_ {A = ℕ} 0 1 = cc in omega arith))
+      cond-good (ltb (s .equation) p) (outcome paused s) (outcome complete s)
+      (λ h. stopped-good s paused sound (λ e. let z : _≡_ {A = ℕ} 0 1 = cc in omega arith))
       (λ h. ended-good s sound (nltb→le (s .equation) p h))
   run-good some room (suc budget) s long sound =
       cond-good (ltb (s .equation) p) (after (turn p q a room s) (run p q a room budget) s) (outcome complete s)
-      (λ h. after-good (turn p q a room s) (run p q a room budget) s (length (s .table)) sound (turn-fine p q a some s sound (ltb→lt (s .equation) p h) room long)
+      (λ h. after-good (turn p q a room s) (run p q a room budget) s (length (s .table)) sound
+      (turn-fine p q a some s sound (ltb→lt (s .equation) p h) room long)
       (λ r f. run-good some room budget r (omega (arith, f .long)) (f .sound)))
       (λ h. ended-good s sound (nltb→le (s .equation) p h))
 
@@ -70,14 +73,17 @@ module _ (p q : ℕ) (a : ℕ → ℕ → ℤ) (room : ℕ) where
   unfolding run after
   run-on zero b′ s h = let e : b′ + 0 ≡ b′ = omega arith in rw e (from-here (ltb (s .equation) p) h)
     where
-      from-here : (c : Bool) → (cond c (outcome paused s) (outcome complete s)) .answer ≡ paused → run p q a room b′ ((cond c (outcome paused s) (outcome complete s)) .work) ≡ run p q a room b′ s
+      from-here : (c : Bool) → (cond c (outcome paused s) (outcome complete s)) .answer ≡ paused
+          → run p q a room b′ ((cond c (outcome paused s) (outcome complete s)) .work) ≡ run p q a room b′ s
       from-here true h = refl
       from-here false h = refl
   run-on (suc b) b′ s h = let e : b′ + suc b ≡ suc (b′ + b) = omega arith in rw e (from-here (ltb (s .equation) p) (turn p q a room s) (λ r. run-on b b′ r) h)
     where
-      from-here : (c : Bool) (t : Turned) → ((r : Work) → run p q a room b r .answer ≡ paused → run p q a room b′ (run p q a room b r .work) ≡ run p q a room (b′ + b) r)
+      from-here : (c : Bool) (t : Turned)
+          → ((r : Work) → run p q a room b r .answer ≡ paused → run p q a room b′ (run p q a room b r .work) ≡ run p q a room (b′ + b) r)
           → (cond c (after t (run p q a room b) s) (outcome complete s)) .answer ≡ paused
-          → run p q a room b′ ((cond c (after t (run p q a room b) s) (outcome complete s)) .work) ≡ cond c (after t (run p q a room (b′ + b)) s) (outcome complete s)
+          → run p q a room b′ ((cond c (after t (run p q a room b) s) (outcome complete s)) .work)
+          ≡ cond c (after t (run p q a room (b′ + b)) s) (outcome complete s)
       from-here true (goes r) ih h = ih r h
       from-here true (stops why) ih h = absurd (let z : _≡_ {A = ℕ} 0 1 = cc in omega arith)
       from-here false t ih h = absurd (let z : _≡_ {A = ℕ} 0 1 = cc in omega arith)
@@ -93,7 +99,8 @@ pub record SameRows (q n : ℕ) (old table : List ℕ) : Type 0 where
   pub long : n * q ≤ length table
   pub same : (i : ℕ) → i < n * q → getD table i 0 ≡ getD old i 0
 
-enumerates-alike : (q : ℕ) (p : ℕ) (a : ℕ → ℕ → ℤ) (n : ℕ) (old new : ℕ → ℕ → ℕ) → ((i : ℕ) → i < n → Same q (new i) (old i)) → Enumerates q (Loop p q a) n old → Enumerates q (Loop p q a) n new
+enumerates-alike : (q : ℕ) (p : ℕ) (a : ℕ → ℕ → ℤ) (n : ℕ) (old new : ℕ → ℕ → ℕ) → ((i : ℕ) → i < n → Same q (new i) (old i)) → Enumerates q (Loop p q a) n old
+    → Enumerates q (Loop p q a) n new
 enumerates-alike q p a n old new same e =
     record {
       only = λ i l. record {
@@ -107,7 +114,8 @@ enumerates-alike q p a n old new same e =
       all = λ t b. let (i, l, g) = e .all t b in (i, l, λ j jq. same i l j jq ∙ g j jq);
     }
 
-pub moved-sound : (p q : ℕ) (a : ℕ → ℕ → ℤ) (s : Work) (table : List ℕ) → SameRows q (s .rows) (s .table) table → Sound p q a s → Sound p q a (withTable s table)
+pub moved-sound : (p q : ℕ) (a : ℕ → ℕ → ℤ) (s : Work) (table : List ℕ) → SameRows q (s .rows) (s .table) table → Sound p q a s
+    → Sound p q a (withTable s table)
 moved-sound p q a s table r sound =
     record {
       early = sound .early;
@@ -158,13 +166,15 @@ started-goes (refuse n values) s work e = absurd (let z : _≡_ {A = ℕ} 0 1 = 
 started-goes go s work e = (refl, refl)
 
 -- what a continuing call leaves, from what its turns leave where its checks let it go on
-checked-good : (p q : ℕ) (a : ℕ → ℕ → ℤ) (c : Check) (s : Work) (work : Work → Outcome) → Sound p q a s → (c ≡ go → Good p q a (work s)) → Good p q a (checked c s work)
+checked-good : (p q : ℕ) (a : ℕ → ℕ → ℤ) (c : Check) (s : Work) (work : Work → Outcome) → Sound p q a s → (c ≡ go → Good p q a (work s))
+    → Good p q a (checked c s work)
 unfolding checked
 checked-good p q a (refuse n values) s work sound f = record { sound = sound; done = λ e. absurd (let z : _≡_ {A = ℕ} 0 1 = cc in omega arith) }
 checked-good p q a go s work sound f = f refl
 
 module _ (p q : ℕ) (coefs : List ℤ) where
-  started-sound : (n k : ℕ) (s : Work) → start p q coefs (roomOf q n k s) s .answer ≡ started → Sound p q (equations q coefs) (start p q coefs (roomOf q n k s) s .work)
+  started-sound : (n k : ℕ) (s : Work) → start p q coefs (roomOf q n k s) s .answer ≡ started
+      → Sound p q (equations q coefs) (start p q coefs (roomOf q n k s) s .work)
   unfolding start
   started-sound n k s e =
       let (g, w) = started-goes (startChecks p q coefs (roomOf q n k s)) s _ e in
@@ -190,7 +200,8 @@ module _ (p q : ℕ) (coefs : List ℤ) where
 
   -- When a call of such a run says complete, the rows are exactly the minimal solutions, each once.
   pub run-complete : {s : Work} → Runs p q coefs s → (n k budget : ℕ) → resume p q coefs (roomOf q n k s) budget s .answer ≡ complete
-      → Enumerates q (Loop p q (equations q coefs)) (resume p q coefs (roomOf q n k s) budget s .work .rows) (row q (resume p q coefs (roomOf q n k s) budget s .work))
+      → Enumerates q (Loop p q (equations q coefs)) (resume p q coefs (roomOf q n k s) budget s .work .rows)
+      (row q (resume p q coefs (roomOf q n k s) budget s .work))
   run-complete {s} r n k budget e = let g = resume-good n k budget s (runs-sound r) in g .sound .basis (g .done e)
 
   -- Cut short at any time: nonzero solutions of the equations done, among them each minimal one of these.

@@ -105,7 +105,8 @@ module _ {p q : ℕ} {coefs : List ℤ} {t : List ℕ} (s : SmallCoefs p q coefs
   abbrev image : ℕ → ℤ
   image = imageOf (mapOf (inputOf p q coefs)) (tuple t)
 
-  pub amount-read : {k : ℕ} {amount : ℤ} → firstOff (mapOf (inputOf p q coefs)) (tuple t) ≡ some k → amount ≡ image (k - 1) → toZ w64 (ofZ w64 amount) ≡ image (k - 1)
+  pub amount-read : {k : ℕ} {amount : ℤ} → firstOff (mapOf (inputOf p q coefs)) (tuple t) ≡ some k → amount ≡ image (k - 1)
+      → toZ w64 (ofZ w64 amount) ≡ image (k - 1)
   unfolding firstOff
   amount-read {k} e f =
       let first : First p (λ i. not (isZero (image i))) k = rw e at (first-is p (λ i. not (isZero (image i)))) in
@@ -115,7 +116,8 @@ module _ {p q : ℕ} {coefs : List ℤ} {t : List ℕ} (s : SmallCoefs p q coefs
 told-otherwise : {k n : ℕ} {amount : ℤ} {values : List ℕ} → off k amount ≡ refused n values → ⊥
 told-otherwise e = let z : _≡_ {A = ℕ} 0 1 = cc in omega arith
 
-pub told-fits : (p q : ℕ) (coefs : List ℤ) (list : List ℕ) (found : ℕ) (t : List ℕ) (k : ℕ) (amount : ℤ) → off k amount ≡ reason (inputOf p q coefs) list found t → SFits w64 amount
+pub told-fits : (p q : ℕ) (coefs : List ℤ) (list : List ℕ) (found : ℕ) (t : List ℕ) (k : ℕ) (amount : ℤ)
+    → off k amount ≡ reason (inputOf p q coefs) list found t → SFits w64 amount
 unfolding reason unlessRefused
 told-fits p q coefs list found t k amount e =
     elim (check-cases (reasonChecks (inputOf p q coefs) list found t)) [

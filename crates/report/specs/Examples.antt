@@ -26,7 +26,10 @@ abbrev Case : Type 0
 Case = String × String
 
 asPrinted : List Case → List (List ℕ)
-unfolding total sumTo allTo anyTo countTo unit inner value refuseWith _then_ refuseFirst solves isAtOrBelow covered bit frozen writeTo writeRow unitsTo unitsStart makes marksTo writeChildren listed grown step rowFits inOrder check7 startChecks resumeChecks tooLarge searchChecks machine.checked start unlessDone walk call lastDigits decimal line lines andThen moreDigits readNatural readNumber readField readLine readRows checked acceptRows readBody readMap counted refusalText counts ending runText run readingText printed
+unfolding total sumTo allTo anyTo countTo unit inner value refuseWith _then_ refuseFirst solves isAtOrBelow covered bit frozen writeTo writeRow unitsTo
+    unitsStart makes marksTo writeChildren listed grown step rowFits inOrder check7 startChecks resumeChecks tooLarge searchChecks machine.checked start
+    unlessDone walk call lastDigits decimal line lines andThen moreDigits readNatural readNumber readField readLine readRows checked acceptRows readBody readMap
+    counted refusalText counts ending runText run readingText printed
 asPrinted cases = map (λ (c : Case). printed (bytes (c .0))) cases
 
 asSaid : List Case → List (List ℕ)

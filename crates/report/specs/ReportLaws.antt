@@ -25,12 +25,14 @@ put-first p = (p .written, (p .kept, omega (arith, p .place, rw length-take at (
 
 -- ---- a text that is refused
 
-refused-as : (x : Reading) (before table : List ℤ) (why : TextRefusal) → outcome (Refused why) table ≡ answered x before → refusalText (numberOf why) (valuesOf why) ≡ readingText x
+refused-as : (x : Reading) (before table : List ℤ) (why : TextRefusal) → outcome (Refused why) table ≡ answered x before
+    → refusalText (numberOf why) (valuesOf why) ≡ readingText x
 unfolding answered readingText
 refused-as (reading.accepted p q coefs) before table why e = let a = ap (λ (o : Outcome). o .answer) e in absurd (let z : _≡_ {A = ℕ} 0 1 = cc in omega arith)
 refused-as (reading.refused n values) before table why e = let a = ap (λ (o : Outcome). o .answer) e in cc
 
-pub refused-text : (t : List ℕ) (before : List ℤ) {table : List ℤ} {r : Read} {why : TextRefusal} → outcome r table ≡ answered (readMap t) before → r ≡ Refused why
+pub refused-text : (t : List ℕ) (before : List ℤ) {table : List ℤ} {r : Read} {why : TextRefusal}
+    → outcome r table ≡ answered (readMap t) before → r ≡ Refused why
     → refusalText (numberOf why) (valuesOf why) ≡ printed t
 unfolding printed
 refused-text t before {table} {r} {why} e h = refused-as (readMap t) before table why (rw h at e)
@@ -54,9 +56,14 @@ unfolding printed readingText
 accepted-text t zs before p q x =
     let m = accepted-written t x .1 in
     let n : length zs ≡ p * q = m .count in
-    record { few = omega (arith, mul-le-mul (m .p-few) (m .q-few)); fits = rw length-append (omega arith); text = rw (x, take-at zs (drop (length zs) before) (p * q) n) }
+    record {
+      few = omega (arith, mul-le-mul (m .p-few) (m .q-few));
+      fits = rw length-append (omega arith);
+      text = rw (x, take-at zs (drop (length zs) before) (p * q) n);
+    }
 
-pub map-read : (t : List ℕ) (before : List ℤ) {table : List ℤ} {r : Read} {p q : ℕ} → outcome r table ≡ answered (readMap t) before → r ≡ Map p q → MapRead t table p q
+pub map-read : (t : List ℕ) (before : List ℤ) {table : List ℤ} {r : Read} {p q : ℕ} → outcome r table ≡ answered (readMap t) before
+    → r ≡ Map p q → MapRead t table p q
 map-read t before {table} {r} {p} {q} e h =
     let (zs, x, y) = accepted-as (readMap t) before table p q (rw h at e) in
     subst (λ (l : List ℤ). MapRead t l p q) (sym y) (accepted-text t zs before p q x)

@@ -52,7 +52,8 @@ module _ (list : List ℕ) (q found k : ℕ) where
   pub part-size : k < found → found * q ≤ length list → length rowPart ≡ q
   part-size l m = rw (part-is, length-take, length-drop) (omega (arith, row-fits q k found l))
 
-  pub rows-next : k < found → lines (found - k) q (map pos (drop (k * q) list)) ≡ line (map pos rowPart) ++ lines (found - (k + 1)) q (map pos (drop ((k + 1) * q) list))
+  pub rows-next : k < found
+      → lines (found - k) q (map pos (drop (k * q) list)) ≡ line (map pos rowPart) ++ lines (found - (k + 1)) q (map pos (drop ((k + 1) * q) list))
   unfolding lines
   rows-next l =
       let e : found - k ≡ suc (found - (k + 1)) = omega arith in

@@ -55,12 +55,15 @@ high (suc n) e = omega arith
 walk-ended : (n : ℕ) (i : Input) (s : State) → Valid (systemOf i) s → Ended (systemOf i) (walk n (machine i) s)
 unfolding walk
 walk-ended zero i s v =
-    unless-keeps (Ended (systemOf i)) s (λ t. record { answer = paused; state = t }) (record { valid = v; not-started = apart (λ e. cc) }) (eqb (s .run .height) 0)
+    unless-keeps (Ended (systemOf i)) s (λ t. record { answer = paused; state = t })
+    (record { valid = v; not-started = apart (λ e. cc) }) (eqb (s .run .height) 0)
     (λ e. record { valid = v; not-started = apart (λ e. cc) })
 walk-ended (suc n) i s v =
     let m = systemOf i in
-    unless-keeps (Ended m) s (λ t. checked (searchChecks m t) t (λ u. walk n (machine i) (step m u))) (record { valid = v; not-started = apart (λ e. cc) }) (eqb (s .run .height) 0)
-    (λ e. checked-keeps (Ended m) s (λ u. walk n (machine i) (step m u)) (λ k values. record { valid = v; not-started = apart (λ e. cc) }) (searchChecks m s) (λ f.
+    unless-keeps (Ended m) s (λ t. checked (searchChecks m t) t (λ u. walk n (machine i) (step m u)))
+    (record { valid = v; not-started = apart (λ e. cc) }) (eqb (s .run .height) 0)
+    (λ e. checked-keeps (Ended m) s (λ u. walk n (machine i) (step m u))
+    (λ k values. record { valid = v; not-started = apart (λ e. cc) }) (searchChecks m s) (λ f.
     let h = high (s .run .height) e in walk-ended n i (step m s) (step-valid m s v h (search-going m s (v .ordered) h f))))
 
 -- ---- the rows found
@@ -82,7 +85,8 @@ module _ (p q : ℕ) (coefs : List ℤ) where
   start-fits : Fits q (start input blank .state)
   unfolding start unitsStart
   start-fits =
-      checked-keeps (λ o. Fits q (o .state)) blank (λ t. record { answer = started; state = unitsStart (systemOf input) t }) (λ k values. omega arith) (startChecks input blank)
+      checked-keeps (λ o. Fits q (o .state)) blank (λ t. record { answer = started; state = unitsStart (systemOf input) t }) (λ k values. omega arith)
+      (startChecks input blank)
       (λ e. omega arith)
 
   run-fits : Fits q (run input .state)
@@ -119,7 +123,9 @@ module _ {p q : ℕ} {coefs : List ℤ} (r : MapInRange p q coefs) where
 
   run-walks : run map ≡ walk 1000000 (machine map) (unitsStart (systemOf map) blank)
   unfolding run start checked
-  run-walks = rw starts (call-walks (machine map) (unitsStart (systemOf map) blank) 1000000 (valid-resume map (unitsStart (systemOf map) blank) (start-handed map blank starts) valid) .0)
+  run-walks =
+      rw starts (call-walks (machine map) (unitsStart (systemOf map) blank) 1000000
+      (valid-resume map (unitsStart (systemOf map) blank) (start-handed map blank starts) valid) .0)
 
   -- the program's start answers "started", and its continuing call does not
   pub run-starts : start map blank .answer ≡ started
@@ -129,9 +135,11 @@ module _ {p q : ℕ} {coefs : List ℤ} (r : MapInRange p q coefs) where
   pub run-ends : ¬ (run map .answer ≡ started)
   run-ends = rw run-walks (walk-ended 1000000 map (unitsStart (systemOf map) blank) valid .not-started)
 
--- Neither the start nor the continuing call is refused before the walk, so that no "earlier refusal" is left to print; and the walk's answer is one of those that have an ending.
+-- Neither the start nor the continuing call is refused before the walk, so that no "earlier refusal" is left to print;
+-- and the walk's answer is one of those that have an ending.
 pub map-printed : (t : List ℕ) {p q : ℕ} {coefs : List ℤ} → readMap t ≡ accepted p q coefs
-    → let i : Input = inputOf p q coefs in let o = walk 1000000 (machine i) (unitsStart (systemOf i) blank) in (printed t ≡ runText p q o) × (¬ (o .answer ≡ started))
+    → let i : Input = inputOf p q coefs in let o = walk 1000000 (machine i) (unitsStart (systemOf i) blank) in
+    (printed t ≡ runText p q o) × (¬ (o .answer ≡ started))
 unfolding printed readingText
 map-printed t {p} {q} {coefs} e =
     let r = accepted-written t e .1 in (rw (e, run-walks r), walk-ended 1000000 _ _ (valid r) .not-started)

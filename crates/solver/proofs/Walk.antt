@@ -1,10 +1,13 @@
--- From a function's contract to a walk of its body by hand, and back, for any signature. In the body local n stands at place n + 2 of the context, behind the tokens and what the parameters own (`Frame`).
+-- From a function's contract to a walk of its body by hand, and back, for any signature.
+-- In the body local n stands at place n + 2 of the context, behind the tokens and what the parameters own (`Frame`).
 --     tokens, Met          a share of each lifetime; a function's contract, of its clauses
 --     Owed, Left           what is owed at the return, at a result and last values; the same at some
 --     Handed, hands        what a call of no `requires` is handed: the tokens, and what the arguments own.        returned     what it gives back
 --     states, silent       a clause that is a fact; and what is owed where nothing is said of last values
---     Spelled              how a type spells its values, that its relation tells them, and that they are of its MIR type; `number`, `shared-slice`, `lent-slice`, `lent` and `struct` are those of the types that parameters have here
---     proved               a function's theorem, from a walk of its body. The walk may use no `requires`. It is told that the table of calls is framed, and how what is owed is left
+--     Spelled              how a type spells its values, that its relation tells them, and that they are of its MIR type;
+--                          `number`, `shared-slice`, `lent-slice`, `lent` and `struct` are those of the types that parameters have here
+--     proved               a function's theorem, from a walk of its body. The walk may use no `requires`.
+--                          It is told that the table of calls is framed, and how what is owed is left
 -- Assumes `Given`.
 use Prim.Native.Nat.{ℕ, zero, suc}
 use mathlib.Core.List.{List, [], _∷_, _++_}
@@ -21,7 +24,35 @@ use contract.Monad.{fact, factI}
 use contract.Lifetimes.{Lfts, Shares, toks}
 use contract.Running.{Running, GhostRules, givenOf, tables, tablesOf}
 use sound.WpLaws.{FmC, fmOf}
-use types.Kit.{Given, Item, ‵, raw, _⊛_, some, later, Goal, Soaks, runs, atRet, Go, Seq, Step, step, _$_, _∵_, !, qed, move, use0, use1, use2, split, join, pick, await}
+use types.Kit.{
+  Given,
+  Item,
+  ‵,
+  raw,
+  _⊛_,
+  some,
+  later,
+  Goal,
+  Soaks,
+  runs,
+  atRet,
+  Go,
+  Seq,
+  Step,
+  step,
+  _$_,
+  _∵_,
+  !,
+  qed,
+  move,
+  use0,
+  use1,
+  use2,
+  split,
+  join,
+  pick,
+  await,
+}
 use types.Run.{enter}
 use denote.RattleType.{RattleType, Denots, Valss, mirs, owns, flat}
 use denote.Laws.{Typed, Is, Are, Ises, Spells, valss, Tells, Tellss, Lawful, Lawfuls, all-typed}
@@ -70,7 +101,8 @@ module _ {M : Type 1} (𝓤 : URA M) (H : Heap 𝓤) (A : Atoms 𝓤) (T : Ended
     Left = H .⇛ (ex 𝓤 (λ (r : Res S κs). sep 𝓤 (Had r) (ensured 𝓤 H A T c κs a g r)))
 
     leaves : Given 𝓤 H A → (r : Res S κs) (ws : Lasts T κs a) → ent 𝓤 (Owed r ws) Left
-    leaves W r ws = via 𝓤 _ (monoR 𝓤 (Had r) (exI 𝓤 (Said r) ws)) (via 𝓤 _ (exI 𝓤 (λ (s : Res S κs). sep 𝓤 (Had s) (ensured 𝓤 H A T c κs a g s)) r) (W .laws .⇛-intro _))
+    leaves W r ws =
+        via 𝓤 _ (monoR 𝓤 (Had r) (exI 𝓤 (Said r) ws)) (via 𝓤 _ (exI 𝓤 (λ (s : Res S κs). sep 𝓤 (Had s) (ensured 𝓤 H A T c κs a g s)) r) (W .laws .⇛-intro _))
 
 -- ---- a call
 abbrev pub Handed : {M : Type 1} (𝓤 : URA M) (H : Heap 𝓤) (A : Atoms 𝓤) → Fml → Fml → SProp 𝓤
@@ -94,14 +126,18 @@ module _ {M : Type 1} {𝓤 : URA M} {H : Heap 𝓤} {A : Atoms 𝓤} {K : Type 
 
   -- what a call that has returned w gives back
   pub returned : K → Soaks G → (T : Ended) (c : Clauses 𝓤 T) (y : Met 𝓤 H A T c .Ghost) (w : Val)
-      → ((r : Res (T .signature) (y .0 .0)) (ws : Lasts T (y .0 .0) (y .0 .3)) → Seq K W (‵ (typeAt (T .signature .result) (y .0 .0) .own r (w ∷ [])) ∷ ‵ (tokens (T .signature .lifetimes) (y .0 .0) (y .0 .1))
+      → ((r : Res (T .signature) (y .0 .0)) (ws : Lasts T (y .0 .0) (y .0 .3))
+      → Seq K W (‵ (typeAt (T .signature .result) (y .0 .0) .own r (w ∷ [])) ∷ ‵ (tokens (T .signature .lifetimes) (y .0 .0) (y .0 .1))
       ∷ ‵ (lasts T (y .0 .0) (y .0 .3) ws) ∷ raw (c (y .0 .0) (y .0 .3) .ensures (y .1) r (atExit T (y .0 .0) (y .0 .3) ws)) ∷ Γ) G)
       → Seq K W (raw (Met 𝓤 H A T c .post y w) ∷ Γ) G
   returned t z T c y w k =
       let κs : Lfts (T .signature .lifetimes) = y .0 .0 in
-      use1 W (later (some (λ (r : Res (T .signature) κs). (raw (toks 𝓤 A (T .signature .lifetimes) κs (y .0 .1)) ⊛ ‵ (typeAt (T .signature .result) κs .own r (w ∷ [])))
+      use1 W
+      (later (some (λ (r : Res (T .signature) κs).
+      (raw (toks 𝓤 A (T .signature .lifetimes) κs (y .0 .1)) ⊛ ‵ (typeAt (T .signature .result) κs .own r (w ∷ [])))
       ⊛ some (λ (ws : Lasts T κs (y .0 .3)). ‵ (lasts T κs (y .0 .3) ws) ⊛ raw (c κs (y .0 .3) .ensures (y .1) r (atExit T κs (y .0 .3) ws)))))) (id⊢ 𝓤 _) $
-      await t z $ pick t (λ r. split t $ split t $ use1 W (‵ (tokens (T .signature .lifetimes) κs (y .0 .1))) (tokened 𝓤 H A (T .signature .lifetimes) κs (y .0 .1)) $
+      await t z $ pick t (λ r. split t $ split t $
+      use1 W (‵ (tokens (T .signature .lifetimes) κs (y .0 .1))) (tokened 𝓤 H A (T .signature .lifetimes) κs (y .0 .1)) $
       move t (2 ∷ []) $ pick t (λ ws. split t $ move t (3 ∷ 2 ∷ []) $ k r ws))
 
   -- a clause that is a fact
@@ -176,9 +212,13 @@ module _ {M : Type 1} (𝓤 : URA M) (H : Heap 𝓤) (𝓜 : Model 𝓤 H) (𝓖
     passing κs a = flat (Rows κs) (vals κs a)
 
     pub proved : ((κs : Lfts (T .signature .lifetimes)) (a : Denots (Rows κs)) → Typed (mirs (Rows κs)) (passing κs a) → Taken (f .locals) (passing κs a))
-        → (FmC 𝓤 H (W .laws) C → (κs : Lfts (T .signature .lifetimes)) (qs : Shares (T .signature .lifetimes)) (a : Denots (Rows κs)) (g : c κs a .ghost) → Are (Rows κs) (Ises (Rows κs)) a (vals κs a)
+        → (FmC 𝓤 H (W .laws) C → (κs : Lfts (T .signature .lifetimes)) (qs : Shares (T .signature .lifetimes)) (a : Denots (Rows κs)) (g : c κs a .ghost)
+        → Are (Rows κs) (Ises (Rows κs)) a (vals κs a)
         → ((v : Val) (r : Res (T .signature) κs) (ws : Lasts T κs a) → ent 𝓤 (Owed 𝓤 H (𝓖 .A) T c κs qs a g v r ws) (Left 𝓤 H (𝓖 .A) T c κs qs a g v))
-        → (bs : List ℕ) → Seq (Go {0}) W (‵ (tokens (T .signature .lifetimes) κs qs) ∷ ‵ (owns (Rows κs) a (vals κs a)) ∷ (called (envOf (f .locals) bs) (passing κs a) ++ (dies (envOf (f .locals) bs) ++ [])))
+        → (bs : List ℕ)
+        → Seq (Go {0}) W
+        (‵ (tokens (T .signature .lifetimes) κs qs) ∷ ‵ (owns (Rows κs) a (vals κs a))
+        ∷ (called (envOf (f .locals) bs) (passing κs a) ++ (dies (envOf (f .locals) bs) ++ [])))
         (runs C Λ (envOf (f .locals) bs) (f .body) (atRet (envOf (f .locals) bs) (Left 𝓤 H (𝓖 .A) T c κs qs a g))))
         → Meets 𝓤 H (𝓖 .A) (T .signature) (C key) (closing 𝓤 H (𝓖 .A) T c)
     proved taken k = entered 𝓤 H (Met 𝓤 H (𝓖 .A) T c) C Λ key f closed (λ y.
@@ -189,4 +229,5 @@ module _ {M : Type 1} (𝓤 : URA M) (H : Heap 𝓤) (𝓜 : Model 𝓤 H) (𝓖
         (λ us. WpFn 𝓤 H C Λ f (flat (Rows κs) us) (Left 𝓤 H (𝓖 .A) T c κs qs a (y .1))) (y .0 .4) (λ are.
         qed W ((raw (toks 𝓤 (𝓖 .A) (T .signature .lifetimes) κs qs) ⊛ ‵ (owns (Rows κs) a (vals κs a))) ∷ []) ∵ enter ! C Λ f (passing κs a) _ $
         begins ! (f .locals) (passing κs a) (taken κs a (all-typed 𝓤 H (𝓖 .A) (Rows κs) (lawfuls 𝓤 H (𝓖 .A) W (Rows κs) (ss κs)) a (vals κs a) are)) (λ bs.
-        split ! $ use1 W (‵ (tokens (T .signature .lifetimes) κs qs)) (tokened 𝓤 H (𝓖 .A) (T .signature .lifetimes) κs qs) $ k framed κs qs a (y .1) are (λ v. leaves 𝓤 H (𝓖 .A) T c κs qs a (y .1) v W) bs))))
+        split ! $ use1 W (‵ (tokens (T .signature .lifetimes) κs qs)) (tokened 𝓤 H (𝓖 .A) (T .signature .lifetimes) κs qs) $
+        k framed κs qs a (y .1) are (λ v. leaves 𝓤 H (𝓖 .A) T c κs qs a (y .1) v W) bs))))

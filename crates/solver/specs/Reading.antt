@@ -17,7 +17,24 @@ use Rattle.definitions.specs.Input.{rights}
 use Rattle.definitions.specs.Refusals.{between, mostFor}
 use Rattle.definitions.specs.Tables.{capacity}
 use Rattle.laws.specs.TableLaws.{row-fits}
-use Rattle.definitions.specs.Reader.{Shown, Which, atZero, atOne, row, none, readerCheck, hasRow, partOf, rowOfEither, rowPart, showIf, shownAt, shownBy, shown, tableAt}
+use Rattle.definitions.specs.Reader.{
+  Shown,
+  Which,
+  atZero,
+  atOne,
+  row,
+  none,
+  readerCheck,
+  hasRow,
+  partOf,
+  rowOfEither,
+  rowPart,
+  showIf,
+  shownAt,
+  shownBy,
+  shown,
+  tableAt,
+}
 use Rattle.solver.specs.declared.Which.{Which as CodeWhich}
 use Rattle.solver.specs.declared.Which.the-variants.{Zero, One}
 use Rattle.solver.specs.declared.Readable.{Readable}
@@ -120,13 +137,15 @@ module _ {b : Bool} (q : ℕ) (list : List ℕ) (found n : ℕ) (e : b ≡ shows
 -- what the reader shows is its refusal, or the part that it shows: a row, or none where the part is empty
 pub shown-is : (q : ℕ) (list : List ℕ) (found n : ℕ) → shown q list found n ≡ shownBy (readerCheck q) (showPart (shownPart q list found n))
 unfolding shown shows
-shown-is q list found n = rw (part-is q list found n refl) (show-part (between 1 mostUnknowns q) (hasRow q list found n) (rowPart q list n) (part-length q list found n refl))
+shown-is q list found n =
+    rw (part-is q list found n refl) (show-part (between 1 mostUnknowns q) (hasRow q list found n) (rowPart q list n) (part-length q list found n refl))
 
 -- ---- the two lists of a capped run
 
 pub either-part : (w : Which) (q : ℕ) (list second : List ℕ) (found n : ℕ) → cappedPart q (tableAt w list second) found n ≡ rowOfEither w q list second found n
 unfolding cappedPart rowOfEither shownAt
-either-part w q list second found n = sym (part-if (between 1 (mostFor (rights [])) q) (hasRow q (tableAt w list second) found n) (rowPart q (tableAt w list second) n))
+either-part w q list second found n =
+    sym (part-if (between 1 (mostFor (rights [])) q) (hasRow q (tableAt w list second) found n) (rowPart q (tableAt w list second) n))
 
 pub capped-wide : (q : ℕ) (list : List ℕ) (found n : ℕ) → 15 < q → [] ≡ cappedPart q list found n
 unfolding cappedPart

@@ -24,7 +24,8 @@ pub fn start(
     list: &mut [u32],
     r: &mut Record,
 ) -> Answer
-    ensures { λ a. ⌜ leftBy a (now (stack .exit)) (now (list .exit)) (now (r .exit)) ≡ startOf (inputOf p q (now (coefs .entry))) (stateOf (now (stack .entry)) (now (list .entry)) (now (r .entry))) ⌝ }
+    ensures { λ a. ⌜ leftBy a (now (stack .exit)) (now (list .exit)) (now (r .exit)) ≡ startOf (inputOf p q (now (coefs .entry)))
+        (stateOf (now (stack .entry)) (now (list .entry)) (now (r .entry))) ⌝ }
 {
     let o = starts::started(p, q, coefs, stack, list, *r);
     *r = o.run;
@@ -42,7 +43,10 @@ pub fn start_capped(
     second: &mut [u32],
     r: &mut Record,
 ) -> Answer
-    ensures { λ a. ⌜ ((limit : ℕ) → leftWith a (now (stack .exit)) (now (list .exit)) (now (second .exit)) (now (r .exit)) ≡ startOf (inputWith (sides (now (rights .entry))) limit p q (now (coefs .entry))) (stateWith (now (stack .entry)) (now (list .entry)) (now (second .entry)) (now (r .entry)))) ⌝ }
+    ensures { λ a. ⌜ ((limit : ℕ)
+        → leftWith a (now (stack .exit)) (now (list .exit)) (now (second .exit)) (now (r .exit)) ≡ startOf
+        (inputWith (sides (now (rights .entry))) limit p q (now (coefs .entry)))
+        (stateWith (now (stack .entry)) (now (list .entry)) (now (second .entry)) (now (r .entry)))) ⌝ }
 {
     let o = starts::started_capped(p, q, coefs, rights, stack, list, second, *r);
     *r = o.run;
@@ -59,7 +63,8 @@ pub fn resume(
     r: &mut Record,
     budget: u64,
 ) -> Answer
-    ensures { λ a. ⌜ leftBy a (now (stack .exit)) (now (list .exit)) (now (r .exit)) ≡ resumeOf budget (inputOf p q (now (coefs .entry))) (stateOf (now (stack .entry)) (now (list .entry)) (now (r .entry))) ⌝ }
+    ensures { λ a. ⌜ leftBy a (now (stack .exit)) (now (list .exit)) (now (r .exit)) ≡ resumeOf budget (inputOf p q (now (coefs .entry)))
+        (stateOf (now (stack .entry)) (now (list .entry)) (now (r .entry))) ⌝ }
 {
     let o = resumed(p, q, coefs, stack, list, *r, budget);
     *r = o.run;
@@ -76,7 +81,8 @@ fn resumed(
     r: Record,
     budget: u64,
 ) -> Outcome
-    ensures { λ o. ⌜ outcomeOf o (now (stack .exit)) (now (list .exit)) ≡ resumeOf budget (inputOf p q (now (coefs .entry))) (stateOf (now (stack .entry)) (now (list .entry)) r) ⌝ }
+    ensures { λ o. ⌜ outcomeOf o (now (stack .exit)) (now (list .exit))
+        ≡ resumeOf budget (inputOf p q (now (coefs .entry))) (stateOf (now (stack .entry)) (now (list .entry)) r) ⌝ }
 {
     walk::resumed(p, q, coefs, stack, list, r, budget, calls::COMPONENT_LIMIT)
 }
@@ -93,7 +99,9 @@ pub fn resume_capped(
     r: &mut Record,
     budget: u64,
 ) -> Answer
-    ensures { λ a. ⌜ leftWith a (now (stack .exit)) (now (list .exit)) (now (second .exit)) (now (r .exit)) ≡ resumeOf budget (inputWith (sides (now (rights .entry))) mostComponent p q (now (coefs .entry))) (stateWith (now (stack .entry)) (now (list .entry)) (now (second .entry)) (now (r .entry))) ⌝ }
+    ensures { λ a. ⌜ leftWith a (now (stack .exit)) (now (list .exit)) (now (second .exit)) (now (r .exit)) ≡ resumeOf budget
+        (inputWith (sides (now (rights .entry))) mostComponent p q (now (coefs .entry)))
+        (stateWith (now (stack .entry)) (now (list .entry)) (now (second .entry)) (now (r .entry))) ⌝ }
 {
     let o = resumed_capped(p, q, coefs, rights, stack, list, second, *r, budget);
     *r = o.run;
@@ -112,7 +120,9 @@ fn resumed_capped(
     r: Record,
     budget: u64,
 ) -> Outcome
-    ensures { λ o. ⌜ outcomeWith o (now (stack .exit)) (now (list .exit)) (now (second .exit)) ≡ resumeOf budget (inputWith (sides (now (rights .entry))) mostComponent p q (now (coefs .entry))) (stateWith (now (stack .entry)) (now (list .entry)) (now (second .entry)) r) ⌝ }
+    ensures { λ o. ⌜ outcomeWith o (now (stack .exit)) (now (list .exit)) (now (second .exit))
+        ≡ resumeOf budget (inputWith (sides (now (rights .entry))) mostComponent p q (now (coefs .entry)))
+        (stateWith (now (stack .entry)) (now (list .entry)) (now (second .entry)) r) ⌝ }
 {
     walk::resumed_capped(
         p,
@@ -195,8 +205,8 @@ pub enum Which {
     One,
 }
 
-// Row n of the list at 0 or of the list at 1, as a part of it; an empty part where there is none, or q is no number of unknowns of a capped run. `found` counts the rows of
-// that list.
+// Row n of the list at 0 or of the list at 1, as a part of it; an empty part where there is none, or q is no number of unknowns of a capped run.
+// `found` counts the rows of that list.
 pub fn row_of_either<'a>(
     list: &'a [u32],
     second: &'a [u32],

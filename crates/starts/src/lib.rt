@@ -24,7 +24,8 @@ pub fn started(
     list: &mut [u32],
     r: Record,
 ) -> Outcome
-    ensures { λ o. ⌜ outcomeOf o (now (stack .exit)) (now (list .exit)) ≡ start (inputOf p q (now (coefs .entry))) (stateOf (now (stack .entry)) (now (list .entry)) r) ⌝ }
+    ensures { λ o. ⌜ outcomeOf o (now (stack .exit)) (now (list .exit))
+        ≡ start (inputOf p q (now (coefs .entry))) (stateOf (now (stack .entry)) (now (list .entry)) r) ⌝ }
 {
     match checks::check_start(p, q, coefs, stack, list, r) {
         Check::Refuse(why) => calls::refused(why, r),
@@ -47,7 +48,8 @@ pub fn started_from(
     r: Record,
     limit: u32,
 ) -> Outcome
-    ensures { λ o. ⌜ outcomeWith o (now (stack .exit)) (now (list .exit)) (now (second .exit)) ≡ startFrom (now (lower .entry)) (inputWith alone limit p q (now (coefs .entry)))
+    ensures { λ o. ⌜ outcomeWith o (now (stack .exit)) (now (list .exit)) (now (second .exit))
+        ≡ startFrom (now (lower .entry)) (inputWith alone limit p q (now (coefs .entry)))
         (stateWith (now (stack .entry)) (now (list .entry)) (now (second .entry)) r) ⌝ }
 {
     match checks::check_start_from(p, q, coefs, lower, stack, list, second, r, limit) {
@@ -70,7 +72,10 @@ pub fn started_capped(
     second: &mut [u32],
     r: Record,
 ) -> Outcome
-    ensures { λ o. ⌜ ((limit : ℕ) → outcomeWith o (now (stack .exit)) (now (list .exit)) (now (second .exit)) ≡ start (inputWith (sides (now (rights .entry))) limit p q (now (coefs .entry))) (stateWith (now (stack .entry)) (now (list .entry)) (now (second .entry)) r)) ⌝ }
+    ensures { λ o. ⌜ ((limit : ℕ)
+        → outcomeWith o (now (stack .exit)) (now (list .exit)) (now (second .exit))
+        ≡ start (inputWith (sides (now (rights .entry))) limit p q (now (coefs .entry)))
+        (stateWith (now (stack .entry)) (now (list .entry)) (now (second .entry)) r)) ⌝ }
 {
     match checks::check_start_capped(p, q, coefs, rights, stack, list, second, r) {
         Check::Refuse(why) => calls::refused(why, r),

@@ -32,7 +32,10 @@ module _ (q : ℕ) (row : ℕ → ℕ → ℕ) (i k : ℕ) where
       let b = below-from q (row k) (row i) u in (
         b,
         elim (or-cases (not (isAtOrBelow q (row i) (row k))) _ o) [
-          | inl x ↦ inl (record { at-most = b; other = λ e. T-not (isAtOrBelow q (row i) (row k)) x (below-to q (row i) (row k) (λ j jq. omega (arith, e j jq))) })
+          | inl x ↦ inl (record {
+            at-most = b;
+            other = λ e. T-not (isAtOrBelow q (row i) (row k)) x (below-to q (row i) (row k) (λ j jq. omega (arith, e j jq)));
+          })
           | inr x ↦ inr (ltb→lt k i x)
         ],
       )
@@ -41,7 +44,8 @@ module _ (q : ℕ) (row : ℕ → ℕ → ℕ) (i k : ℕ) where
   unfolding spoils
   below-spoils b =
       and-both (isAtOrBelow q (row k) (row i)) _ (below-to q (row k) (row i) (b .at-most))
-      (or-left (not (isAtOrBelow q (row i) (row k))) _ (not-T (isAtOrBelow q (row i) (row k)) (λ h. b .other (λ j jq. omega (arith, b .at-most j jq, below-from q (row i) (row k) h j jq)))))
+      (or-left (not (isAtOrBelow q (row i) (row k))) _
+      (not-T (isAtOrBelow q (row i) (row k)) (λ h. b .other (λ j jq. omega (arith, b .at-most j jq, below-from q (row i) (row k) h j jq)))))
 
   repeat-spoils : k < i → AtOrBelow q (row k) (row i) → T (spoils q row i k)
   unfolding spoils
@@ -75,7 +79,8 @@ module _ (q n : ℕ) (row : ℕ → ℕ → ℕ) where
       let (b, o) = spoils-says q row i k sp in
       elim o [
         | inl x ↦ s .least k kn x
-        | inr x ↦ elim (differ q (row k) (row i)) [ inl e ↦ s .first k x e | inr (j, jq, ne) ↦ s .least k kn (record { at-most = b; other = λ e. ne (e j jq) }) ]
+        | inr x ↦ elim (differ q (row k) (row i))
+            [ inl e ↦ s .first k x e | inr (j, jq, ne) ↦ s .least k kn (record { at-most = b; other = λ e. ne (e j jq) }) ]
       ])
 
   -- ---- a row that goes is at or above one that stays

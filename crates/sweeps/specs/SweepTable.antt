@@ -94,8 +94,11 @@ module _ (q n : ℕ) (table : List ℕ) (long : n * q ≤ length table) (i : ℕ
             T-not (anyTo n (λ k. ltb i k && (isAtOrBelow q (now k) (now i) && not (isAtOrBelow q (now i) (now k))))) b
             (any-from n (λ k. ltb i k && (isAtOrBelow q (now k) (now i) && not (isAtOrBelow q (now i) (now k)))) k kn
             (and-both (ltb i k) _ (lt→ltb i k ik)
-            (and-both (isAtOrBelow q (now k) (now i)) _ (below-to q (now k) (now i) (λ j jq. omega (arith, u .at-most j jq, ahead k (omega arith) j jq, ahead i (omega arith) j jq)))
-            (not-T (isAtOrBelow q (now i) (now k)) (λ h. u .other (λ j jq. omega (arith, u .at-most j jq, below-from q (now i) (now k) h j jq, ahead k (omega arith) j jq, ahead i (omega arith) j jq)))))));
+            (and-both (isAtOrBelow q (now k) (now i)) _
+            (below-to q (now k) (now i) (λ j jq. omega (arith, u .at-most j jq, ahead k (omega arith) j jq, ahead i (omega arith) j jq)))
+            (not-T (isAtOrBelow q (now i) (now k))
+            (λ h. u .other
+            (λ j jq. omega (arith, u .at-most j jq, below-from q (now i) (now k) h j jq, ahead k (omega arith) j jq, ahead i (omega arith) j jq)))))));
       }
 
   stays-here : StaysInPlace q n (at table q) i → T (staysHere q n now (countTo i stay) i)
@@ -114,10 +117,13 @@ module _ (q n : ℕ) (table : List ℕ) (long : n * q ≤ length table) (i : ℕ
       let (a, b) = and-parts (isAtOrBelow q (now k) (now i)) _ v in
       s .later k ik′ kn (record {
         at-most = λ j jq. omega (arith, below-from q (now k) (now i) a j jq, ahead k (omega arith) j jq, ahead i (omega arith) j jq);
-        other = λ e. T-not (isAtOrBelow q (now i) (now k)) b (below-to q (now i) (now k) (λ j jq. omega (arith, e j jq, ahead k (omega arith) j jq, ahead i (omega arith) j jq)));
+        other =
+            λ e. T-not (isAtOrBelow q (now i) (now k)) b
+            (below-to q (now i) (now k) (λ j jq. omega (arith, e j jq, ahead k (omega arith) j jq, ahead i (omega arith) j jq)));
       })))
 
   -- the loop's test is the sweep's
   pub sweep-test : staysHere q n now (countTo i stay) i ≡ keeps q n (at table q) i
   sweep-test =
-      T-same (staysHere q n now (countTo i stay) i) (keeps q n (at table q) i) (λ h. in-place-keeps q n (at table q) i l (here-stays h)) (λ h. stays-here (keeps-in-place q n (at table q) i l h))
+      T-same (staysHere q n now (countTo i stay) i) (keeps q n (at table q) i) (λ h. in-place-keeps q n (at table q) i l (here-stays h))
+      (λ h. stays-here (keeps-in-place q n (at table q) i l h))

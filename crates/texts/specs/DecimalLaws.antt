@@ -58,7 +58,13 @@ begins =
     by-digits
     Begins
     (λ n l. record { d = n; others = []; most = omega arith; some = λ h. h; digits = decimal-digit n l })
-    (λ n l b. record { d = b .d; others = b .others ++ ((zeroDigit + n % 10) ∷ []); most = b .most; some = λ h. b .some (omega arith); digits = rw (decimal-more n l, b .digits) })
+    (λ n l b. record {
+      d = b .d;
+      others = b .others ++ ((zeroDigit + n % 10) ∷ []);
+      most = b .most;
+      some = λ h. b .some (omega arith);
+      digits = rw (decimal-more n l, b .digits);
+    })
 
 -- a number and what follows it, by its first digit
 pub by-first : (n : ℕ) (b : Begins n) (t : List ℕ) → decimal n ++ t ≡ (zeroDigit + b .d) ∷ (b .others ++ t)

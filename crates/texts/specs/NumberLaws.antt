@@ -13,7 +13,20 @@ use lib.Seq.{drop-cons}
 use borrow.Author.Tests.{ne-eqb}
 use Rattle.linear.specs.TestLaws.{and-parts}
 use Rattle.texts.specs.Decimals.{minus, zeroDigit}
-use Rattle.texts.specs.Reading.{parsed, malformed, isDigit, digit, startsDigit, moreDigits, mayFollow, readNatural, negative, unsigned, readNumber, andThen}
+use Rattle.texts.specs.Reading.{
+  parsed,
+  malformed,
+  isDigit,
+  digit,
+  startsDigit,
+  moreDigits,
+  mayFollow,
+  readNatural,
+  negative,
+  unsigned,
+  readNumber,
+  andThen,
+}
 use Rattle.texts.specs.ParseLaws.{not-parsed, same, cond-cases, and-then}
 use Rattle.texts.specs.Places.{FewDigits, Room}
 
@@ -47,7 +60,8 @@ module _ (t : List ℕ) (i n : ℕ) where
   pub more-stop : (k : ℕ) → i < length t → isDigit (getD t i 0) ≡ false → parsed n (drop i t) ≡ moreDigits k n (drop i t)
   more-stop k l e = rw (byte-at t i l, digits-end k n (getD t i 0 ∷ drop (i + 1) t) e)
 
-  pub more-digit : (k : ℕ) → 0 < k → i < length t → isDigit (getD t i 0) ≡ true → moreDigits (k - 1) (n * 10 + digit (getD t i 0)) (drop (i + 1) t) ≡ moreDigits k n (drop i t)
+  pub more-digit : (k : ℕ) → 0 < k → i < length t → isDigit (getD t i 0) ≡ true
+      → moreDigits (k - 1) (n * 10 + digit (getD t i 0)) (drop (i + 1) t) ≡ moreDigits k n (drop i t)
   unfolding moreDigits
   more-digit zero m l e = absurd (omega arith)
   more-digit (suc k) m l e = let s : suc k - 1 ≡ k = omega arith in rw (s, byte-at t i l, e)

@@ -29,7 +29,8 @@ digits-read (suc k) n (b ∷ t) l e =
     rw (decimal-next n (digit b) l high, digit-byte b low, append-snoc) at g)
     (λ d f. let (a, c) = same f in rw (a, ← c))
 
-first-read : (most b : ℕ) (t : List ℕ) (d : ℕ) {m : ℕ} {r : List ℕ} → d ≤ 9 → b ≡ zeroDigit + d → moreDigits (mayFollow most d) d t ≡ parsed m r → b ∷ t ≡ decimal m ++ r
+first-read : (most b : ℕ) (t : List ℕ) (d : ℕ) {m : ℕ} {r : List ℕ} → d ≤ 9 → b ≡ zeroDigit + d
+    → moreDigits (mayFollow most d) d t ≡ parsed m r → b ∷ t ≡ decimal m ++ r
 unfolding moreDigits
 first-read most b t zero l h e = let (a, c) = same e in rw (h, ← a, c, decimal-digit 0 (omega arith))
 first-read most b t (suc d) l h e = rw (h, ← digits-read (mayFollow most (suc d)) (suc d) t (omega arith) e, decimal-digit (suc d) (omega arith))

@@ -29,7 +29,10 @@ module _ {S : Type 0} (c : Check) (s : S) (work : S → Outcome S) (works : work
   start-answers =
       elim answers-when [
         | inl (a, e) ↦ record {
-          refuses = λ n values. (λ b. absurd (let z : _≡_ {A = ℕ} 0 1 = cc in omega arith), λ d. absurd (refuse-not-go {n = n} {values = values} (cc (r .due n values d))));
+          refuses = λ n values. (
+            λ b. absurd (let z : _≡_ {A = ℕ} 0 1 = cc in omega arith),
+            λ d. absurd (refuse-not-go {n = n} {values = values} (cc (r .due n values d))),
+          );
           starts = (λ b. r .goes e, λ d. a);
         }
         | inr (k, vs, e, a) ↦ record {
@@ -91,14 +94,20 @@ module _ {S : Type 0} {k : Machine S} {before within : S → Rules} (ruled : Rul
       record {
         completes = (λ b. (quiet, h), λ d. refl);
         pauses = (λ b. absurd (let z : _≡_ {A = ℕ} 0 1 = cc in omega arith), λ (q, p, k). absurd (omega arith));
-        refuses = λ n values. (λ b. absurd (let z : _≡_ {A = ℕ} 0 1 = cc in omega arith), λ d. elim d [ inl y ↦ absurd (not-before n values y) | inr (q, p, k, y) ↦ absurd (omega arith) ]);
+        refuses = λ n values. (
+          λ b. absurd (let z : _≡_ {A = ℕ} 0 1 = cc in omega arith),
+          λ d. elim d [ inl y ↦ absurd (not-before n values y) | inr (q, p, k, y) ↦ absurd (omega arith) ],
+        );
         never = λ b. let z : _≡_ {A = ℕ} 0 1 = cc in omega arith;
       }
   ends-answers (pauses h u) =
       record {
         completes = (λ b. absurd (let z : _≡_ {A = ℕ} 0 1 = cc in omega arith), λ (q, p). absurd (omega arith));
         pauses = (λ b. (quiet, h, u), λ d. refl);
-        refuses = λ n values. (λ b. absurd (let z : _≡_ {A = ℕ} 0 1 = cc in omega arith), λ d. elim d [ inl y ↦ absurd (not-before n values y) | inr (q, p, l, y) ↦ absurd (omega arith) ]);
+        refuses = λ n values. (
+          λ b. absurd (let z : _≡_ {A = ℕ} 0 1 = cc in omega arith),
+          λ d. elim d [ inl y ↦ absurd (not-before n values y) | inr (q, p, l, y) ↦ absurd (omega arith) ],
+        );
         never = λ b. let z : _≡_ {A = ℕ} 0 1 = cc in omega arith;
       }
   ends-answers {t = t} (refuses r vs h l f) =
@@ -120,7 +129,8 @@ module _ {S : Type 0} {k : Machine S} {before within : S → Rules} (ruled : Rul
   call-answers =
       elim (check-cases (k .before s)) [
         | inl e ↦ ends-answers ruled budget s e (called k budget s e .ends)
-        | inr (r, vs, e) ↦ rw (ap (λ o. o .answer) (call-refused k s budget r vs e .0)) (refused-answers (ruled .before-renders s) e (within left) budget (callSteps budget k s) (k .height left))
+        | inr (r, vs, e) ↦ rw (ap (λ o. o .answer) (call-refused k s budget r vs e .0))
+            (refused-answers (ruled .before-renders s) e (within left) budget (callSteps budget k s) (k .height left))
       ]
 
   -- what the search refused, it refuses in the state that is left
@@ -133,11 +143,14 @@ module _ {S : Type 0} {k : Machine S} {before within : S → Rules} (ruled : Rul
       ]
 
   -- "the same call again refuses again", with any budget above 0, if its checks let it go on
-  pub refused-again : Steady k → (n : ℕ) (values : List ℕ) → k .before s ≡ go → k .before left ≡ go → call budget k s .answer ≡ refused n values → (more : ℕ) → call (suc more) k left ≡ record { answer = refused n values; state = left }
+  pub refused-again : Steady k → (n : ℕ) (values : List ℕ) → k .before s ≡ go → k .before left ≡ go → call budget k s .answer ≡ refused n values → (more : ℕ)
+      → call (suc more) k left ≡ record { answer = refused n values; state = left }
   refused-again steady n values e f a more =
       let (h, r) = refused-there n values e a in
-      let same : k .settle left ≡ left = ap (k .settle) (called k budget s e .state) ∙ settled-after k steady (callSteps budget k s) s ∙ sym (called k budget s e .state) in
-      call-walks k left (suc more) f .0 ∙ walk-refused k left more n values (rw same h) (rw same r) .0 ∙ ap (λ t. record { answer = refused n values; state = t }) same
+      let same : k .settle left ≡ left = ap (k .settle) (called k budget s e .state) ∙ settled-after k steady (callSteps budget k s) s
+      ∙ sym (called k budget s e .state) in
+      call-walks k left (suc more) f .0 ∙ walk-refused k left more n values (rw same h) (rw same r) .0
+      ∙ ap (λ t. record { answer = refused n values; state = t }) same
 
 -- "after 11 a longer list table with the same rows may be given": where what stood in the way is gone, the call takes the step that was refused
 pub goes-on : {S : Type 0} (k : Machine S) (s : S) → k .before s ≡ go → Goes k (k .settle s) → (more : ℕ)

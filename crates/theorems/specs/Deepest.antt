@@ -17,7 +17,8 @@ use Rattle.theorems.specs.WholeSteps.{Steady, after-more, settled-after}
 
 -- ---- any machine whose step shows the greater of the number shown and a sum, and which shows as much when it is settled
 
-module _ {S : Type 0} (k : Machine S) (steady : Steady k) (shown sum : S → ℕ) (settles : (s : S) → shown (k .settle s) ≡ shown s) (steps : (s : S) → shown (k .step s) ≡ max (shown s) (sum s)) where
+module _ {S : Type 0} (k : Machine S) (steady : Steady k) (shown sum : S → ℕ) (settles : (s : S) → shown (k .settle s) ≡ shown s)
+    (steps : (s : S) → shown (k .step s) ≡ max (shown s) (sum s)) where
   next : (n : ℕ) (s : S) → after (n + 1) k s ≡ k .settle (k .step (after n k s))
   next n s = after-more k steady n 1 s ∙ one ∙ ap (λ t. k .settle (k .step t)) (settled-after k steady n s)
     where
@@ -76,7 +77,8 @@ unfolding stepFrom
 stepped-shows lower i s = go (s .run .kind)
   where
     go : (r : Run)
-        → byWalk r (wholeOf (s .run .deepest) (step (mapOf i) (plainPart s))) (step (aboveSystem lower i) s) .run .deepest ≡ max (s .run .deepest) (byWalk r 0 (total (top (aboveSystem lower i) s) (i .q)))
+        → byWalk r (wholeOf (s .run .deepest) (step (mapOf i) (plainPart s))) (step (aboveSystem lower i) s) .run .deepest
+        ≡ max (s .run .deepest) (byWalk r 0 (total (top (aboveSystem lower i) s) (i .q)))
     go plainRun = step-deepest (aboveSystem lower i) s
     go cappedRun = step-deepest (aboveSystem lower i) s
     go lowerPlain = omega arith

@@ -44,7 +44,8 @@ only-as {q} {w} {n} {U} {W} {table} e f o = subst (λ w. Only w W table n) e (re
 exactly-as : {q w n : ℕ} {U W : (ℕ → ℕ) → Type 0} {table : List ℕ} → w ≡ q → ((y : ℕ → ℕ) → U y → W y) → ((y : ℕ → ℕ) → W y → U y) → Exactly w U table n
     → Exactly q W table n
 exactly-as {q} {w} {n} {U} {W} {table} e f g o =
-    subst (λ w. Exactly w W table n) e (record { part = record { room = o .part .room; only = λ i l. f _ (o .part .only i l); once = o .part .once }; all = λ t h. o .all t (g t h) })
+    subst (λ w. Exactly w W table n) e
+    (record { part = record { room = o .part .room; only = λ i l. f _ (o .part .only i l); once = o .part .once }; all = λ t h. o .all t (g t h) })
 
 -- the map has the coefficients that it says
 numbered : (e : Extra) (i : Input) → i .extra ≡ e → Handed i → length (i .coefs) ≡ i .p * i .q
@@ -62,8 +63,10 @@ module _ (i : Input) (b : List ℤ) (len : length (i .coefs) ≡ i .p * i .q) (s
   less = omega arith
 
   sides-part : Sound m upToOne s → Part (rights b) i s
-  sides-part o =
-      (only-as less (λ y h. basis-at-0 x (put 0 y) refl h) (sound-only m upToOne s o), only-as less (λ y h. basis-at-1 x (put 1 y) refl h) (sound-second m upToOne refl s o))
+  sides-part o = (
+    only-as less (λ y h. basis-at-0 x (put 0 y) refl h) (sound-only m upToOne s o),
+    only-as less (λ y h. basis-at-1 x (put 1 y) refl h) (sound-second m upToOne refl s o),
+  )
 
   sides-whole : Sound m upToOne s → s .run .height ≡ 0 → Whole (rights b) i s
   sides-whole o e = (

@@ -48,7 +48,8 @@ module _ (lower : List ℕ) (i : Input) where
   ruled-from = record { before-renders = resume-from-renders lower i; within-renders = search-from-renders lower i }
 
   pub resume-from-answers : (budget : ℕ) (s : State)
-      → CallAnswers (resumeFromRules lower i s) (searchFromRules lower i (resumeFrom budget lower i s .state)) budget (resumeFromSteps budget lower i s) (resumeFrom budget lower i s .state .run .height) (resumeFrom budget lower i s .answer)
+      → CallAnswers (resumeFromRules lower i s) (searchFromRules lower i (resumeFrom budget lower i s .state)) budget (resumeFromSteps budget lower i s)
+      (resumeFrom budget lower i s .state .run .height) (resumeFrom budget lower i s .answer)
   resume-from-answers budget s = call-answers ruled-from budget s
 
   -- ---- whole steps, and their number
@@ -116,10 +117,13 @@ module _ (lower : List ℕ) (i : Input) where
         call-keeps (machineFrom lower i) (ValidFrom lower i) (settled-valid lower i) kept-valid budget s (resume-from-valid lower i s is e .1)
 
     -- "the same call again refuses again"
-    pub again-from : (budget : ℕ) (s : State) (n : ℕ) (values : List ℕ) → resumeFromChecks lower i s ≡ go → resumeFrom budget lower i s .answer ≡ refused n values → (more : ℕ) → resumeFrom (suc more) lower i (resumeFrom budget lower i s .state) ≡ record { answer = refused n values; state = resumeFrom budget lower i s .state }
+    pub again-from : (budget : ℕ) (s : State) (n : ℕ) (values : List ℕ) → resumeFromChecks lower i s ≡ go
+        → resumeFrom budget lower i s .answer ≡ refused n values → (more : ℕ)
+        → resumeFrom (suc more) lower i (resumeFrom budget lower i s .state) ≡ record { answer = refused n values; state = resumeFrom budget lower i s .state }
     again-from budget s n values e a more =
         let left : State = resumeFrom budget lower i s .state in
-        again ruled-from budget s steady n values e (valid-resume-from lower i left is (resume-from-valid lower i s is e .0) (left-valid-from budget s e)) a more
+        again ruled-from budget s steady n values e
+        (valid-resume-from lower i left is (resume-from-valid lower i s is e .0) (left-valid-from budget s e)) a more
 
     -- ---- after 11
 
@@ -168,7 +172,10 @@ module _ (lower : List ℕ) (i : Input) where
 
     -- "after 11 a longer list table with the same rows may be given": the call then takes the step that it had no room for
     pub longer-from : (budget : ℕ) (s : State) → resumeFromChecks lower i s ≡ go → resumeFrom budget lower i s .answer ≡ refused 11 [] → let t =
-        resumeFrom budget lower i s .state in (list second : List ℕ) → SameRows (i .q) (t .run .found) (t .list) list → SameRows (i .q) (t .run .found₂) (t .second) second → RoomBy (i .q) (t .run .kind) (withLists t list second) → (more : ℕ) → resumeFrom (suc more) lower i (withLists t list second) ≡ walk more (machineFrom lower i) (stepFrom lower i (withLists t list second))
+        resumeFrom budget lower i s .state in
+        (list second : List ℕ) → SameRows (i .q) (t .run .found) (t .list) list → SameRows (i .q) (t .run .found₂) (t .second) second
+        → RoomBy (i .q) (t .run .kind) (withLists t list second) → (more : ℕ)
+        → resumeFrom (suc more) lower i (withLists t list second) ≡ walk more (machineFrom lower i) (stepFrom lower i (withLists t list second))
     longer-from budget s e a list second r r₂ roomy more =
         let t : State = resumeFrom budget lower i s .state in
         let u : State = withLists t list second in
@@ -176,7 +183,8 @@ module _ (lower : List ℕ) (i : Input) where
         let due = search-from-renders lower i t .refuses 11 [] f in
         let same : settleFrom lower i u ≡ u = high-stays u h in
         let v = relisted-from t list second r r₂ (left-valid-from budget s e) in
-        goes-on (machineFrom lower i) u (valid-resume-from lower i u is (resume-from-valid lower i s is e .0) v) (rw same (h, goes-by t list second roomy due)) more
+        goes-on (machineFrom lower i) u (valid-resume-from lower i u is (resume-from-valid lower i s is e .0) v)
+        (rw same (h, goes-by t list second roomy due)) more
         ∙ ap (λ x. walk more (machineFrom lower i) (stepFrom lower i x)) same
 
     -- ---- "Table rows above the height keep what they last held."
@@ -188,7 +196,8 @@ module _ (lower : List ℕ) (i : Input) where
     step-above t v (p, a) e = go (t .run .kind) refl (v .ordered)
       where
         go : (r : Run) → t .run .kind ≡ r → InOrderBy r lower i t → let u =
-            byWalk r (wholeOf (t .run .deepest) (step (mapOf i) (plainPart t))) (step (aboveSystem lower i) t) in u .run .height * (i .q + 1) ≤ e → getD (u .stack) e 0 ≡ getD (t .stack) e 0
+            byWalk r (wholeOf (t .run .deepest) (step (mapOf i) (plainPart t))) (step (aboveSystem lower i) t) in
+            u .run .height * (i .q + 1) ≤ e → getD (u .stack) e 0 ≡ getD (t .stack) e 0
         go plainRun k o l = absurd o
         go cappedRun k o l = absurd o
         go lowerPlain k o l = above-kept (mapOf i) (plainPart t) (plain-valid lower i t k v) (p k) e l
@@ -217,7 +226,8 @@ module _ (lower : List ℕ) (i : Input) where
         elim (check-cases (resumeFromChecks lower i s)) [
           | inl c ↦
               let t : State = after n (machineFrom lower i) s in
-              let v = after-keeps (machineFrom lower i) (ValidFrom lower i) (settled-valid lower i) kept-valid n s (resume-from-valid lower i s is c .1) (λ j jn. call-going (machineFrom lower i) budget s c j (omega arith)) in
+              let v = after-keeps (machineFrom lower i) (ValidFrom lower i) (settled-valid lower i) kept-valid n s (resume-from-valid lower i s is c .1)
+              (λ j jn. call-going (machineFrom lower i) budget s c j (omega arith)) in
               let (high, goes) = call-going (machineFrom lower i) budget s c n l in
               let (k, same) = settle-above (stepFrom lower i t) e (rw (next n s) at h) in
               rw (next n s) (same ∙ step-above t v (search-going-from lower i t v high goes) e k)
@@ -226,7 +236,9 @@ module _ (lower : List ℕ) (i : Input) where
       where
         next : (n : ℕ) (s : State) → after (n + 1) (machineFrom lower i) s ≡ settleFrom lower i (stepFrom lower i (after n (machineFrom lower i) s))
         next n s =
-            after-more (machineFrom lower i) steady n 1 s ∙ one ∙ ap (λ t. settleFrom lower i (stepFrom lower i t)) (settled-after (machineFrom lower i) steady n s)
+            after-more (machineFrom lower i) steady n 1 s ∙ one
+            ∙ ap (λ t. settleFrom lower i (stepFrom lower i t)) (settled-after (machineFrom lower i) steady n s)
           where
-            one : after 1 (machineFrom lower i) (after n (machineFrom lower i) s) ≡ settleFrom lower i (stepFrom lower i (settleFrom lower i (after n (machineFrom lower i) s)))
+            one : after 1 (machineFrom lower i) (after n (machineFrom lower i) s)
+                ≡ settleFrom lower i (stepFrom lower i (settleFrom lower i (after n (machineFrom lower i) s)))
             one = unfold after in refl

@@ -234,12 +234,14 @@ module _ (lower : List ℕ) (i : Input) where
 
   -- at height 0 with no change of walk ahead, all of them
   pub sound-from-exactly : (s : State) → SoundFrom lower i s → settleFrom lower i s ≡ s → s .run .height ≡ 0
-      → Exactly (i .q) (MinimalFrom (mapOf i) (boundOf lower)) (s .list) (s .run .found) × Exactly (i .q) (MinimalSolution (mapOf i)) (s .second) (s .run .found₂)
+      → Exactly (i .q) (MinimalFrom (mapOf i) (boundOf lower)) (s .list) (s .run .found)
+      × Exactly (i .q) (MinimalSolution (mapOf i)) (s .second) (s .run .found₂)
   unfolding settleFrom lowered
   sound-from-exactly s o e z = go (s .run .kind) (s .run .height) z (ap (λ t. t .run .height) e) (o .holds)
     where
       go : (k : Run) (h : ℕ) → h ≡ 0 → changed k h lower i s .run .height ≡ s .run .height → SoundBy k lower i s
-          → Exactly (i .q) (MinimalFrom (mapOf i) (boundOf lower)) (s .list) (s .run .found) × Exactly (i .q) (MinimalSolution (mapOf i)) (s .second) (s .run .found₂)
+          → Exactly (i .q) (MinimalFrom (mapOf i) (boundOf lower)) (s .list) (s .run .found)
+          × Exactly (i .q) (MinimalSolution (mapOf i)) (s .second) (s .run .found₂)
       go plainRun h n c b = absurd b
       go cappedRun h n c b = absurd b
       go lowerPlain zero n c b = absurd (omega (arith, z))

@@ -83,7 +83,8 @@ module _ {S : Type 0} (k : Machine S) (P : S → Type 0) (u : Unrefused k P) whe
     call-good = call-keeps k P (u .settles) (λ t q g. u .keeps t q (g .0)) n s p
 
     -- it is complete, or has used up its budget
-    call-ends : ((call n k s .answer ≡ complete) × (k .height (call n k s .state) ≡ 0)) ⊎ ((call n k s .answer ≡ paused) × (0 < k .height (call n k s .state)) × (callSteps n k s ≡ n))
+    call-ends : ((call n k s .answer ≡ complete) × (k .height (call n k s .state) ≡ 0))
+        ⊎ ((call n k s .answer ≡ paused) × (0 < k .height (call n k s .state)) × (callSteps n k s ≡ n))
     call-ends = sort (called k n s (u .resumes s p) .ends) call-good
       where
         sort : {i : ℕ} {t : S} {a : Answer} → Ends n i k t a → P t → ((a ≡ complete) × (k .height t ≡ 0)) ⊎ ((a ≡ paused) × (0 < k .height t) × (i ≡ n))
@@ -118,7 +119,8 @@ module _ {S : Type 0} (k : Machine S) (P : S → Type 0) (u : Unrefused k P) whe
 
       own-stepped : call n k (g .state) .state ≡ after (g .taken + callSteps n k (g .state)) k s₀
       own-stepped =
-          called k n (g .state) (u .resumes (g .state) (a .good)) .state ∙ ap (after (callSteps n k (g .state)) k) (a .stepped) ∙ sym (after-more k (u .steady) (g .taken) (callSteps n k (g .state)) s₀)
+          called k n (g .state) (u .resumes (g .state) (a .good)) .state ∙ ap (after (callSteps n k (g .state)) k) (a .stepped)
+          ∙ sym (after-more k (u .steady) (g .taken) (callSteps n k (g .state)) s₀)
 
       -- a step of the call is a step of the run
       own-before : (i : ℕ) → i < g .taken + callSteps n k (g .state) → Goes k (after i k s₀)
@@ -127,7 +129,8 @@ module _ {S : Type 0} (k : Machine S) (P : S → Type 0) (u : Unrefused k P) whe
             | inl h ↦ a .before i h
             | inr h ↦
                 let at : i ≡ g .taken + (i - g .taken) = omega arith in
-                let there : after i k s₀ ≡ after (i - g .taken) k (g .state) = ap (λ x. after x k s₀) at ∙ after-more k (u .steady) (g .taken) (i - g .taken) s₀ ∙ ap (after (i - g .taken) k) (sym (a .stepped)) in
+                let there : after i k s₀ ≡ after (i - g .taken) k (g .state) =
+                ap (λ x. after x k s₀) at ∙ after-more k (u .steady) (g .taken) (i - g .taken) s₀ ∙ ap (after (i - g .taken) k) (sym (a .stepped)) in
                 rw there (call-going k n (g .state) (u .resumes (g .state) (a .good)) (i - g .taken) (omega arith))
           ]
 
@@ -157,7 +160,8 @@ module _ {S : Type 0} (k : Machine S) (P : S → Type 0) (u : Unrefused k P) whe
         sorted (going-on h e p) = pausing p
 
     -- "after the first "complete" every own call answers so and takes no step"
-    pub along-stays : {g : Log S} → Along g → Completed (g .answers) → (n : ℕ) → (call n k (g .state) ≡ record { answer = complete; state = g .state }) × (callSteps n k (g .state) ≡ 0)
+    pub along-stays : {g : Log S} → Along g → Completed (g .answers) → (n : ℕ)
+        → (call n k (g .state) ≡ record { answer = complete; state = g .state }) × (callSteps n k (g .state) ≡ 0)
     along-stays {g} a (last, c) n = stays (a .status)
       where
         stays : Status k g → (call n k (g .state) ≡ record { answer = complete; state = g .state }) × (callSteps n k (g .state) ≡ 0)

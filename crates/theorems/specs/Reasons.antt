@@ -32,7 +32,8 @@ pub record Reasoned (i : Input) (list : List ℕ) (found : ℕ) (t : List ℕ) :
   pub true-first : AllSilent (reasonRules i list found t) → (r : Reason) → reason i list found t ≡ r
       → Claim (mapOf i) found (at list (i .q)) (λ j. getD t j 0) r × NoneEarlier (mapOf i) found (at list (i .q)) (λ j. getD t j 0) r
   pub first-true : AllSilent (reasonRules i list found t) → (r : Reason)
-      → Claim (mapOf i) found (at list (i .q)) (λ j. getD t j 0) r × NoneEarlier (mapOf i) found (at list (i .q)) (λ j. getD t j 0) r → reason i list found t ≡ r
+      → Claim (mapOf i) found (at list (i .q)) (λ j. getD t j 0) r × NoneEarlier (mapOf i) found (at list (i .q)) (λ j. getD t j 0) r
+      → reason i list found t ≡ r
 
 pub record ReasonPromise : Type 1 where
   -- the list of a run, finished or cut short, is never refused for its count
@@ -48,7 +49,8 @@ pub record ReasonPromise : Type 1 where
       → reason (inputOf p q coefs) (resume budget (inputOf p q coefs) s .state .list) (resume budget (inputOf p q coefs) s .state .run .found) t ≢ unlisted
   -- and for the list at 0 of a complete run with right sides
   pub complete-at-0 : (p q : ℕ) (coefs b : List ℤ) (s : State) → let i = inputWith (rights b) mostComponent p q coefs in
-      Run i upToOne s → (budget : ℕ) → resume budget i s .answer ≡ complete → (t : List ℕ) → reason (inputOf p q coefs) (resume budget i s .state .list) (resume budget i s .state .run .found) t ≢ unlisted
+      Run i upToOne s → (budget : ℕ) → resume budget i s .answer ≡ complete → (t : List ℕ)
+      → reason (inputOf p q coefs) (resume budget i s .state .list) (resume budget i s .state .run .found) t ≢ unlisted
 
 -- a solution that is not all zero has a minimal solution at or below it, and that one is listed
 never-unlisted : (i : Input) (list : List ℕ) (found : ℕ) → Exactly (i .q) (MinimalSolution (mapOf i)) list found → (t : List ℕ)
@@ -73,5 +75,6 @@ reason-promise =
       complete-list = λ p q coefs s r budget c. let i = inputOf p q coefs in
           never-unlisted i (resume budget i s .state .list) (resume budget i s .state .run .found) (second-demand .lists i s r .finished budget c);
       complete-at-0 = λ p q coefs b s r budget c. let i = inputWith (rights b) mostComponent p q coefs in
-          never-unlisted (inputOf p q coefs) (resume budget i s .state .list) (resume budget i s .state .run .found) (second-demand .lists i s r .finished budget c .0);
+          never-unlisted (inputOf p q coefs) (resume budget i s .state .list) (resume budget i s .state .run .found)
+          (second-demand .lists i s r .finished budget c .0);
     }

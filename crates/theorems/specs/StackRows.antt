@@ -38,9 +38,13 @@ checked-rows m s e = walk-rows m s (checked-order m s e)
 
 -- a record of a run from a lower bound, in either of its walks
 pub lower-rows : (lower : List ℕ) (i : Input) (s : State) → check6From lower i s ≡ go → 0 < s .run .height
-    → (s .run .kind ≡ lowerPlain → level s + countTo (i .q) (makes (mapOf i) (plainPart s)) ≤ i .q) × (s .run .kind ≡ lowerAbove → level s + countTo (i .q) (makes (aboveSystem lower i) s) ≤ i .q)
+    → (s .run .kind ≡ lowerPlain → level s + countTo (i .q) (makes (mapOf i) (plainPart s)) ≤ i .q)
+    × (s .run .kind ≡ lowerAbove → level s + countTo (i .q) (makes (aboveSystem lower i) s) ≤ i .q)
 lower-rows lower i s e h =
-    let o = from-order lower i s e in (λ k. walk-rows (mapOf i) (plainPart s) (named-order lower i s k o .0) h, λ k. walk-rows (aboveSystem lower i) s (named-order lower i s k o .0) h)
+    let o = from-order lower i s e in (
+      λ k. walk-rows (mapOf i) (plainPart s) (named-order lower i s k o .0) h,
+      λ k. walk-rows (aboveSystem lower i) s (named-order lower i s k o .0) h,
+    )
 
 -- So a step never writes past the last row: every entry of the stack table from there on is as it was.
 pub never-past-the-last-row : (m : System) (s : State) → InOrder m s → 0 < s .run .height → (e : ℕ) → m .q * (m .q + 1) ≤ e

@@ -135,7 +135,8 @@ pub record Leaves (q w : ℕ) (s t : State) : Type 0 where
   pub marked : Marked q t
   pub untouched : Untouched q w s t
 
-units-untouched : (q w : ℕ) (s : State) (run : Record) → Untouched q w s (record { stack = unitsTo q q (s .stack); list = s .list; second = s .second; run = run })
+units-untouched : (q w : ℕ) (s : State) (run : Record)
+    → Untouched q w s (record { stack = unitsTo q q (s .stack); list = s .list; second = s .second; run = run })
 units-untouched q w s run =
     record {
       stack-length = units-length q (s .stack) q;
@@ -160,7 +161,8 @@ module _ (i : Input) (s : State) where
 
   resume-leaves : (budget : ℕ) → resumeChecks i s ≡ go → Leaves n (width (systemOf i)) s (resume budget i s .state)
   resume-leaves budget e =
-      let (v, u) = call-keeps (machine i) (λ t. Valid (systemOf i) t × Untouched n (width (systemOf i)) s t) (λ t l. l) kept budget s (resume-valid i s e, untouched n (width (systemOf i)) s) in
+      let (v, u) = call-keeps (machine i) (λ t. Valid (systemOf i) t × Untouched n (width (systemOf i)) s t) (λ t l. l) kept budget s
+      (resume-valid i s e, untouched n (width (systemOf i)) s) in
       record { marked = λ k l. v .ordered .rows k l .marked; untouched = u }
     where
       kept : (t : State) → Valid (systemOf i) t × Untouched n (width (systemOf i)) s t → Goes (machine i) t
@@ -174,11 +176,25 @@ module _ (i : Input) (s : State) where
 -- the plain walk's list is the second one
 plain-untouched : {q w : ℕ} {s t : State} → Untouched q w s t → Untouched q w (plainPart s) (plainPart t)
 plain-untouched u =
-    record { stack-length = u .stack-length; beyond = u .beyond; list-length = u .second-length; past = u .past₂; second-length = u .list-length; past₂ = u .past }
+    record {
+      stack-length = u .stack-length;
+      beyond = u .beyond;
+      list-length = u .second-length;
+      past = u .past₂;
+      second-length = u .list-length;
+      past₂ = u .past;
+    }
 
 whole-untouched : {q w d : ℕ} {s t : State} → Untouched q w (plainPart s) t → Untouched q w s (wholeOf d t)
 whole-untouched u =
-    record { stack-length = u .stack-length; beyond = u .beyond; list-length = u .second-length; past = u .past₂; second-length = u .list-length; past₂ = u .past }
+    record {
+      stack-length = u .stack-length;
+      beyond = u .beyond;
+      list-length = u .second-length;
+      past = u .past₂;
+      second-length = u .list-length;
+      past₂ = u .past;
+    }
 
 -- its rows carry their marks, in either walk
 marked-by : (lower : List ℕ) (i : Input) (t : State) (r : Run) → InOrderBy r lower i t → Marked (i .q) t
@@ -278,7 +294,8 @@ steps-above budget i s n l e h =
     elim (check-cases (resumeChecks i s)) [
       | inl c ↦
           let t : State = after n (machine i) s in
-          let v = after-keeps (machine i) (Valid (systemOf i)) (λ t v. v) kept n s (resume-valid i s c) (λ j jn. call-going (machine i) budget s c j (omega arith)) in
+          let v = after-keeps (machine i) (Valid (systemOf i)) (λ t v. v) kept n s (resume-valid i s c)
+          (λ j jn. call-going (machine i) budget s c j (omega arith)) in
           let (high, goes) = call-going (machine i) budget s c n l in
           rw (next n s) (above-kept (systemOf i) t v (search-going (systemOf i) t (v .ordered) high goes) e (rw (next n s) at h))
       | inr (r, values, c) ↦ absurd (omega (arith, call-refused (machine i) s budget r values c .1))

@@ -32,7 +32,8 @@ after-office : (p q : ℕ) (coefs : List ℤ) (n : ℕ) (s : State) → after n 
 unfolding after
 after-office p q coefs zero s = refl
 after-office p q coefs (suc n) s =
-    ap (λ t. after n (seatMachine (seatInput p q coefs)) t) (step-limit (systemOf (inputOf p q coefs)) 20 s) ∙ after-office p q coefs n (step (systemOf (inputOf p q coefs)) s)
+    ap (λ t. after n (seatMachine (seatInput p q coefs)) t) (step-limit (systemOf (inputOf p q coefs)) 20 s)
+    ∙ after-office p q coefs n (step (systemOf (inputOf p q coefs)) s)
 
 -- a step of either walk of a run from a lower bound does not depend on the limit
 step-from-office : (p q : ℕ) (coefs : List ℤ) (lower : List ℕ) (s : State) → stepFrom lower (seatInput p q coefs) s ≡ stepFrom lower (inputOf p q coefs) s
@@ -46,7 +47,8 @@ step-from-office p q coefs lower s = go (s .run .kind)
     further = step-limit (aboveSystem lower (inputOf p q coefs)) 20 s
 
     go : (r : Run)
-        → byWalk r (wholeOf (s .run .deepest) (step (mapOf (seatInput p q coefs)) (plainPart s))) (step (aboveSystem lower (seatInput p q coefs)) s) ≡ byWalk r (wholeOf (s .run .deepest) (step (mapOf (inputOf p q coefs)) (plainPart s))) (step (aboveSystem lower (inputOf p q coefs)) s)
+        → byWalk r (wholeOf (s .run .deepest) (step (mapOf (seatInput p q coefs)) (plainPart s))) (step (aboveSystem lower (seatInput p q coefs)) s)
+        ≡ byWalk r (wholeOf (s .run .deepest) (step (mapOf (inputOf p q coefs)) (plainPart s))) (step (aboveSystem lower (inputOf p q coefs)) s)
     go plainRun = further
     go cappedRun = further
     go lowerPlain = ap (wholeOf (s .run .deepest)) plainly
@@ -91,9 +93,11 @@ pub record TrainingPromise (p q : ℕ) (coefs : List ℤ) : Type 0 where
   pub starts-from : (lower : List ℕ) (s : State)
       → StartAnswers (seatLowerRules lower (seatInput p q coefs) s) (seatStartFrom lower (seatInput p q coefs) s .answer)
   pub continues : (budget : ℕ) (s : State) → let i = seatInput p q coefs in
-      CallAnswers (seatResumeRules i s) (seatSearchRules (systemOf i) (seatResume budget i s .state)) budget (seatSteps budget i s) (seatResume budget i s .state .run .height) (seatResume budget i s .answer)
+      CallAnswers (seatResumeRules i s) (seatSearchRules (systemOf i) (seatResume budget i s .state)) budget (seatSteps budget i s)
+      (seatResume budget i s .state .run .height) (seatResume budget i s .answer)
   pub continues-from : (lower : List ℕ) (budget : ℕ) (s : State) → let i = seatInput p q coefs in let o = seatResumeFrom budget lower i s in
-      CallAnswers (seatResumeFromRules lower i s) (seatSearchFromRules lower i (o .state)) budget (seatStepsFrom budget lower i s) (o .state .run .height) (o .answer)
+      CallAnswers (seatResumeFromRules lower i s) (seatSearchFromRules lower i (o .state)) budget (seatStepsFrom budget lower i s)
+      (o .state .run .height) (o .answer)
   -- "A training run that is not refused lists what the office run lists after as many steps.": its start leaves what the office's leaves, and each of its calls
   -- what as many
   -- steps of the office's machine leave, in tables and record

@@ -156,7 +156,8 @@ seat-search-from lower i s = go (s .run .kind)
     b = seat-search (aboveSystem lower i) s
 
     go : (r : Run)
-        → byWalk r (seatSearch (mapOf i) (plainPart s)) (seatSearch (aboveSystem lower i) s) ≡ renumberCheck (byWalk r (searchChecks (mapOf i) (plainPart s)) (searchChecks (aboveSystem lower i) s))
+        → byWalk r (seatSearch (mapOf i) (plainPart s)) (seatSearch (aboveSystem lower i) s)
+        ≡ renumberCheck (byWalk r (searchChecks (mapOf i) (plainPart s)) (searchChecks (aboveSystem lower i) s))
     go plainRun = b
     go cappedRun = b
     go lowerPlain = a
@@ -175,7 +176,8 @@ checked-renumbered (refuse n values) s f g e = refl
 checked-renumbered go s f g e = e s
 
 -- a machine that is another with 24 for 12 in its refusals
-module _ (k c : Machine State) (settles : (s : State) → k .settle s ≡ c .settle s) (height : (s : State) → k .height s ≡ c .height s) (refusals : (s : State) → k .refusals s ≡ renumberCheck (c .refusals s)) (steps : (s : State) → k .step s ≡ c .step s) where
+module _ (k c : Machine State) (settles : (s : State) → k .settle s ≡ c .settle s) (height : (s : State) → k .height s ≡ c .height s)
+    (refusals : (s : State) → k .refusals s ≡ renumberCheck (c .refusals s)) (steps : (s : State) → k .step s ≡ c .step s) where
   walk-renumbered : (n : ℕ) (s : State) → walk n k s ≡ renumbered (walk n c s)
   unfolding walk
   walk-renumbered zero s = rw (settles s, height (c .settle s)) (unless-renumbered (eqb (c .height (c .settle s)) 0) (c .settle s) _ _ refl)
@@ -201,7 +203,8 @@ checked-then go b s f = refl
 seat-first : (i : Input) (s : State) (own : Check) (f : State → Outcome State)
     → checked (seatThen i s own) s f ≡ checked (seatFirst i) s (λ t. checked (shapeThen i s own) s f)
 seat-first i s own f =
-    ap (λ c. checked c s f) (seat-splits (check1 i) (unknownsCheck i) (check23 i) (numbersCheck i then check4 (systemOf i) s then own)) ∙ checked-then (seatFirst i) (shapeThen i s own) s f
+    ap (λ c. checked c s f) (seat-splits (check1 i) (unknownsCheck i) (check23 i) (numbersCheck i then check4 (systemOf i) s then own))
+    ∙ checked-then (seatFirst i) (shapeThen i s own) s f
 
 checked-same : (c : Check) (s : State) (f g : State → Outcome State) → f s ≡ g s → checked c s f ≡ checked c s g
 unfolding checked
@@ -245,7 +248,8 @@ module _ (p q : ℕ) (coefs : List ℤ) where
   pub seat-resumes : (n : ℕ) (s : State) → seatResume n i s ≡ checked (seatFirst i) s (λ t. renumbered (resume n i t))
   unfolding call seatResumeChecks resumeChecks
   seat-resumes n s = seat-first i s _ (walk n (seatMachine i)) ∙ checked-same (seatFirst i) s _ _
-      (checked-quiet (resumeChecks i s) s _ _ (no-12 s) (walk-renumbered (seatMachine i) (machine i) (λ t. refl) (λ t. refl) (seat-search (systemOf i)) (λ t. refl) n s))
+      (checked-quiet (resumeChecks i s) s _ _ (no-12 s)
+      (walk-renumbered (seatMachine i) (machine i) (λ t. refl) (λ t. refl) (seat-search (systemOf i)) (λ t. refl) n s))
 
   no-12-from : (lower : List ℕ) (s : State) (n : ℕ) (values : List ℕ) → resumeFromChecks lower i s ≡ refuse n values → n ≢ 12
   no-12-from lower s n values e t =

@@ -1,5 +1,5 @@
-// Replays calls of plain and capped runs, of runs from a lower bound and of the training seat that a model outside Rattle wrote down (tests/model/runs.py), one a
-// line, each with what must come of it; counts those that do; and names the first lines that do not. The text begins with what its words mean.
+// Replays calls of plain and capped runs, of runs from a lower bound and of the training seat that a model outside Rattle wrote down (tests/model/runs.py),
+// one a line, each with what must come of it; counts those that do; and names the first lines that do not. The text begins with what its words mean.
 use try_lines::line;
 use try_lines::line::Line;
 use try_lines::line::Word;

@@ -3,7 +3,16 @@ use Prim.Native.Nat.{_-_}
 use denote.Ref.{now}
 use Rattle.circuits.specs.Rows.{mapOf}
 use Rattle.circuits.specs.Rows.{rowOf}
-use Rattle.circuits.specs.Following.{Following, following-closed, following-early, following-first, following-next, following-open, following-stuck, ones-no-loop}
+use Rattle.circuits.specs.Following.{
+  Following,
+  following-closed,
+  following-early,
+  following-first,
+  following-next,
+  following-open,
+  following-stuck,
+  ones-no-loop,
+}
 use borrow.Author.Needs.{needs}
 use Rattle.circuits.proofs.order_of.Statement.{statement}
 use Rattle.circuits.proofs.order_of.Tie as tie

@@ -40,7 +40,8 @@ returns c =
     let s = w .before .before .before in
     let l = read-side-small (s .args .q) (now (s .args .text)) (now (s .args .row)) _ _ (w .read-equation .ensures) (c .before .before .right .given .1) in
     let z = toZ-ofZ {w = w32} {z = c .before .before .right .given .0 .0} (sfits-natAbs (omega (arith, l))) in
-    read-told (s .args .q) (now (s .args .text)) (now (s .args .row)) _ _ (w .read-equation .ensures) (c .before .before .right .given .1) (rw z at (c .read-code .ensures))
+    read-told (s .args .q) (now (s .args .text)) (now (s .args .row)) _ _ (w .read-equation .ensures) (c .before .before .right .given .1)
+    (rw z at (c .read-code .ensures))
 
 same-length-2 : tie.Need-same-length-2
 same-length-2 c = search needs
@@ -49,7 +50,8 @@ returns-2 : tie.Need-returns-2
 returns-2 c =
     let w = c .before .before .before .before .before in
     let s = w .before .before .before in
-    read-refused-told (s .args .q) (now (s .args .text)) (now (s .args .row)) _ _ (w .read-equation .ensures) (c .before .before .why .given .1) (c .refusal .ensures)
+    read-refused-told (s .args .q) (now (s .args .text)) (now (s .args .row)) _ _ (w .read-equation .ensures)
+    (c .before .before .why .given .1) (c .refusal .ensures)
 
 pub read-equation-spec : {M : Type 1} → statement M
 read-equation-spec =

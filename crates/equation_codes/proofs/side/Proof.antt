@@ -18,7 +18,8 @@ cast-result c =
 
 returns : tie.Need-returns
 returns c =
-    rw (toZ-ofZ (c .fits .right), toZ-ofZ {w = w32} {z = c .args .right +ℤ pos 10000} (side-fits (c .args .right) (c .pre))) (refl, side-most (c .args .right) (c .pre))
+    rw (toZ-ofZ (c .fits .right), toZ-ofZ {w = w32} {z = c .args .right +ℤ pos 10000} (side-fits (c .args .right) (c .pre)))
+    (refl, side-most (c .args .right) (c .pre))
 
 pub side-spec : {M : Type 1} → statement M
 side-spec = tie.close (tie.spec add-result cast-result returns)

@@ -16,7 +16,8 @@ written-code-requires : tie.Need-written-code-requires
 written-code-requires c κs =
     let w = c .before .before .before .before .before in
     let s = w .before .before .before in
-    write-short (s .args .q) (now (s .args .row)) (s .args .right) (now (s .args .out)) (w .write-equation .result) _ (rw (toZ-ofZ (s .fits .right)) at (w .write-equation .ensures)) (c .before .n .given .1)
+    write-short (s .args .q) (now (s .args .row)) (s .args .right) (now (s .args .out)) (w .write-equation .result) _
+    (rw (toZ-ofZ (s .fits .right)) at (w .write-equation .ensures)) (c .before .n .given .1)
 
 enum-known-why : tie.Need-enum-known-why
 enum-known-why c = search needs
@@ -25,7 +26,8 @@ row-refusal-requires : tie.Need-row-refusal-requires
 row-refusal-requires c κs =
     let w = c .before .before .before .before .before in
     let s = w .before .before .before in
-    write-refusal-fits (s .args .q) (now (s .args .row)) (s .args .right) (now (s .args .out)) (w .write-equation .result) _ (rw (toZ-ofZ (s .fits .right)) at (w .write-equation .ensures)) (c .before .why .given .1)
+    write-refusal-fits (s .args .q) (now (s .args .row)) (s .args .right) (now (s .args .out)) (w .write-equation .result) _
+    (rw (toZ-ofZ (s .fits .right)) at (w .write-equation .ensures)) (c .before .why .given .1)
 
 enum-told : tie.Need-enum-told
 enum-told c = search needs
@@ -40,7 +42,8 @@ returns : tie.Need-returns
 returns c =
     let w = c .before .before .before .before .before .before in
     let s = w .before .before .before in
-    write-told (s .args .q) (now (s .args .row)) (s .args .right) (now (s .args .out)) (w .write-equation .result) _ (rw (toZ-ofZ (s .fits .right)) at (w .write-equation .ensures)) (c .before .before .n .given .1) (c .written-code .ensures)
+    write-told (s .args .q) (now (s .args .row)) (s .args .right) (now (s .args .out)) (w .write-equation .result) _
+    (rw (toZ-ofZ (s .fits .right)) at (w .write-equation .ensures)) (c .before .before .n .given .1) (c .written-code .ensures)
 
 same-length-2 : tie.Need-same-length-2
 same-length-2 c = search needs
@@ -49,7 +52,8 @@ returns-2 : tie.Need-returns-2
 returns-2 c =
     let w = c .before .before .before .before .before .before in
     let s = w .before .before .before in
-    write-refused-told (s .args .q) (now (s .args .row)) (s .args .right) (now (s .args .out)) (w .write-equation .result) _ (rw (toZ-ofZ (s .fits .right)) at (w .write-equation .ensures)) (c .before .before .why .given .1) (c .row-refusal .ensures)
+    write-refused-told (s .args .q) (now (s .args .row)) (s .args .right) (now (s .args .out)) (w .write-equation .result) _
+    (rw (toZ-ofZ (s .fits .right)) at (w .write-equation .ensures)) (c .before .before .why .given .1) (c .row-refusal .ensures)
 
 same-length-3 : tie.Need-same-length-3
 same-length-3 c = search needs
@@ -58,7 +62,8 @@ returns-3 : tie.Need-returns-3
 returns-3 c =
     let w = c .before .before .before .before in
     let s = w .before .before .before in
-    side-told (s .args .q) (now (s .args .row)) (s .args .right) (now (s .args .out)) (w .write-equation .result) _ (rw (toZ-ofZ (s .fits .right)) at (w .write-equation .ensures)) (c .enum-told .given .1)
+    side-told (s .args .q) (now (s .args .row)) (s .args .right) (now (s .args .out)) (w .write-equation .result) _
+    (rw (toZ-ofZ (s .fits .right)) at (w .write-equation .ensures)) (c .enum-told .given .1)
 
 same-length-4 : tie.Need-same-length-4
 same-length-4 c = search needs
@@ -67,7 +72,8 @@ returns-4 : tie.Need-returns-4
 returns-4 c =
     let w = c .before .before .before .before in
     let s = w .before .before .before in
-    space-told (s .args .q) (now (s .args .row)) (s .args .right) (now (s .args .out)) (w .write-equation .result) _ (rw (toZ-ofZ (s .fits .right)) at (w .write-equation .ensures)) (c .enum-told2 .given .1)
+    space-told (s .args .q) (now (s .args .row)) (s .args .right) (now (s .args .out)) (w .write-equation .result) _
+    (rw (toZ-ofZ (s .fits .right)) at (w .write-equation .ensures)) (c .enum-told2 .given .1)
 
 pub write-equation-spec : {M : Type 1} → statement M
 write-equation-spec =

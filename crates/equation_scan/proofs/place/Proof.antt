@@ -13,7 +13,8 @@ use Rattle.equation_scan.proofs.place.Statement.{statement}
 use Rattle.equation_scan.proofs.place.Tie as tie
 
 abbrev Inv-loop : tie.InvT-loop
-Inv-loop text q phase₀ opened₀ right₀ i₀ phase opened right i = (opened ≤ i) × (i ≤ length text) × (placeFrom q (i + 1) (phaseOf phase) opened right (drop i text) ≡ place q text)
+Inv-loop text q phase₀ opened₀ right₀ i₀ phase opened right i =
+    (opened ≤ i) × (i ≤ length text) × (placeFrom q (i + 1) (phaseOf phase) opened right (drop i text) ≡ place q text)
 
 abbrev μ-loop : tie.MeasureT-loop
 μ-loop text q phase₀ opened₀ right₀ i₀ phase opened right i = length text - i
@@ -39,7 +40,8 @@ returns : tie.Need-returns Inv-loop μ-loop
 returns c = let a = c .before .before in
     let l = a .before .before in
     let s = l .before .before .before in
-    at-fault (s .args .q) (now (s .args .text)) (l .before .loop .i) (phaseOf (l .before .loop .phase)) (l .before .loop .opened) (l .before .loop .right) (l .loop-test .taken) (rw (c .enum-told .given .1) at (a .advance .ensures))
+    at-fault (s .args .q) (now (s .args .text)) (l .before .loop .i) (phaseOf (l .before .loop .phase)) (l .before .loop .opened) (l .before .loop .right)
+    (l .loop-test .taken) (rw (c .enum-told .given .1) at (a .advance .ensures))
     ∙ l .before .loop .inv .2
 
 enum-known-p : tie.Need-enum-known-p Inv-loop μ-loop
@@ -58,9 +60,14 @@ loop-again c = let p = c .before in
     let s = l .before .before .before in
     let e = rw (p .p .given .1) at (a .advance .ensures) in
     let text = now (s .args .text) in (
-      omega (arith, opened-most (getD text (l .before .loop .i) 0) (l .before .loop .opened) (l .before .loop .right) (s .args .q) (phaseOf (l .before .loop .phase)) e, l .before .loop .inv .0),
+      omega (
+        arith,
+        opened-most (getD text (l .before .loop .i) 0) (l .before .loop .opened) (l .before .loop .right) (s .args .q) (phaseOf (l .before .loop .phase)) e,
+        l .before .loop .inv .0,
+      ),
       omega (arith, l .loop-test .taken),
-      at-step (s .args .q) text (l .before .loop .i) (phaseOf (l .before .loop .phase)) (l .before .loop .opened) (l .before .loop .right) (l .loop-test .taken) e ∙ l .before .loop .inv .2,
+      at-step (s .args .q) text (l .before .loop .i) (phaseOf (l .before .loop .phase)) (l .before .loop .opened) (l .before .loop .right)
+          (l .loop-test .taken) e ∙ l .before .loop .inv .2,
     )
 
 is-final-requires : tie.Need-is-final-requires Inv-loop μ-loop
@@ -70,7 +77,8 @@ returns-2 : tie.Need-returns-2 Inv-loop μ-loop
 returns-2 c = let f = c .before in
     let l = f .before in
     let s = l .before .before .before in
-    at-end (s .args .q) (now (s .args .text)) (l .before .loop .i) (phaseOf (l .before .loop .phase)) (l .before .loop .opened) (l .before .loop .right) (l .loop-test .left) true (sym (c .if1 .taken) ∙ f .is-final .ensures)
+    at-end (s .args .q) (now (s .args .text)) (l .before .loop .i) (phaseOf (l .before .loop .phase)) (l .before .loop .opened) (l .before .loop .right)
+    (l .loop-test .left) true (sym (c .if1 .taken) ∙ f .is-final .ensures)
     ∙ l .before .loop .inv .2
 
 add-result-2 : tie.Need-add-result-2 Inv-loop μ-loop
@@ -80,7 +88,8 @@ returns-3 : tie.Need-returns-3 Inv-loop μ-loop
 returns-3 c = let f = c .before in
     let l = f .before in
     let s = l .before .before .before in
-    at-end (s .args .q) (now (s .args .text)) (l .before .loop .i) (phaseOf (l .before .loop .phase)) (l .before .loop .opened) (l .before .loop .right) (l .loop-test .left) false (sym (c .if1 .left) ∙ f .is-final .ensures)
+    at-end (s .args .q) (now (s .args .text)) (l .before .loop .i) (phaseOf (l .before .loop .phase)) (l .before .loop .opened) (l .before .loop .right)
+    (l .loop-test .left) false (sym (c .if1 .left) ∙ f .is-final .ensures)
     ∙ l .before .loop .inv .2
 
 pub place-spec : {M : Type 1} → statement M

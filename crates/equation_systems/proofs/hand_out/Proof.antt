@@ -23,7 +23,9 @@ same-length-2 : tie.Need-same-length-2
 same-length-2 c = search needs
 
 returns-3 : tie.Need-returns-3
-returns-3 c = both-written _ _ _ _ _ (c .before .before .before .before .before .before .before .if1 .left) (c .before .before .before .before .before .before .if2 .left) (c .before .before .before .before .copy .ensures) (c .before .copy2 .ensures)
+returns-3 c =
+    both-written _ _ _ _ _ (c .before .before .before .before .before .before .before .if1 .left) (c .before .before .before .before .before .before .if2 .left)
+    (c .before .before .before .before .copy .ensures) (c .before .copy2 .ensures)
 
 pub hand-out-spec : {M : Type 1} → statement M
 hand-out-spec =

@@ -29,14 +29,20 @@ enum-told : tie.Need-enum-told
 enum-told c = search needs
 
 -- what was read is within the arrays
-inside : (c : tie.After-enum-told) → c .before .before .before .before .before .before .before .before .args .p * c .before .before .before .before .before .before .before .before .args .q ≤ length (c .before .before .before .before .read-lines .last .1 .1 .1 .0)
-inside c = let s = c .before .before .before .before .before .before .before .before in rw (c .before .before .before .before .read-lines .kept .1 .1 .1 .0) (mul-le-mul {n₂ = 8} {m₂ = 16} (s .pre .0) (s .pre .1))
+inside : (c : tie.After-enum-told)
+    → c .before .before .before .before .before .before .before .before .args .p * c .before .before .before .before .before .before .before .before .args .q
+    ≤ length (c .before .before .before .before .read-lines .last .1 .1 .1 .0)
+inside c = let s = c .before .before .before .before .before .before .before .before in
+    rw (c .before .before .before .before .read-lines .kept .1 .1 .1 .0) (mul-le-mul {n₂ = 8} {m₂ = 16} (s .pre .0) (s .pre .1))
 
-sides-inside : (c : tie.After-enum-told) → c .before .before .before .before .before .before .before .before .args .p ≤ length (c .before .before .before .before .read-lines .last .1 .1 .1 .1 .0)
-sides-inside c = rw (c .before .before .before .before .read-lines .kept .1 .1 .1 .1 .0) (c .before .before .before .before .before .before .before .before .pre .0)
+sides-inside : (c : tie.After-enum-told)
+    → c .before .before .before .before .before .before .before .before .args .p ≤ length (c .before .before .before .before .read-lines .last .1 .1 .1 .1 .0)
+sides-inside c =
+    rw (c .before .before .before .before .read-lines .kept .1 .1 .1 .1 .0) (c .before .before .before .before .before .before .before .before .pre .0)
 
 mul-n : tie.Need-mul-n
-mul-n c = let s = c .before .before .before .before .before .before .before .before in omega (arith, mul-le-mul {n₁ = s .args .p} {m₁ = s .args .q} {n₂ = 8} {m₂ = 16} (s .pre .0) (s .pre .1))
+mul-n c = let s = c .before .before .before .before .before .before .before .before in
+    omega (arith, mul-le-mul {n₁ = s .args .p} {m₁ = s .args .q} {n₂ = 8} {m₂ = 16} (s .pre .0) (s .pre .1))
 
 array-share-prefix-found : tie.Need-array-share-prefix-found
 array-share-prefix-found c = inside c

@@ -18,10 +18,12 @@ returns-3 : tie.Need-returns-3
 returns-3 c = let e = c .before in let k = e .before in many-lines _ _ _ _ _ (k .count .ensures) (k .before .if1 .left) (e .if2 .left) (c .if3 .taken)
 
 returns-4 : tie.Need-returns-4
-returns-4 c = let f = c .before in let e = f .before in let k = e .before in no-unknown _ _ _ _ _ (k .count .ensures) (k .before .if1 .left) (e .if2 .left) (f .if3 .left) (c .if4 .taken)
+returns-4 c = let f = c .before in let e = f .before in let k = e .before in
+    no-unknown _ _ _ _ _ (k .count .ensures) (k .before .if1 .left) (e .if2 .left) (f .if3 .left) (c .if4 .taken)
 
 returns-5 : tie.Need-returns-5
-returns-5 c = let g = c .before in let f = g .before in let e = f .before in let k = e .before in many-unknowns _ _ _ _ _ (k .count .ensures) (k .before .if1 .left) (e .if2 .left) (f .if3 .left) (g .if4 .left) (c .if5 .taken)
+returns-5 c = let g = c .before in let f = g .before in let e = f .before in let k = e .before in
+    many-unknowns _ _ _ _ _ (k .count .ensures) (k .before .if1 .left) (e .if2 .left) (f .if3 .left) (g .if4 .left) (c .if5 .taken)
 
 read-equations-requires : tie.Need-read-equations-requires
 read-equations-requires c κs = search needs
@@ -39,7 +41,8 @@ returns-6 c =
     let f = g .before in
     let e = f .before in
     let k = e .before in
-    c .before .before .read-equations .ensures ∙ to-lines _ _ _ _ _ (k .count .ensures) (k .before .if1 .left) (e .if2 .left) (f .if3 .left) (g .if4 .left) (x .if5 .left)
+    c .before .before .read-equations .ensures
+    ∙ to-lines _ _ _ _ _ (k .count .ensures) (k .before .if1 .left) (e .if2 .left) (f .if3 .left) (g .if4 .left) (x .if5 .left)
 
 pub read-system-spec : {M : Type 1} → statement M
 read-system-spec =

@@ -51,7 +51,15 @@ number-requires-3 c κs = let w = c .before .before .before in
     let f = n .before .before in
     let s = f .before .before in
     let x = ap length (multiple-many (s .args .m) (s .args .k) (s .pre .0) (f .if1 .left)) in
-    omega (arith, w .word .ensures .place, w .word .ensures .same, n .number2 .ensures .place, n .number2 .ensures .same, x ∙ length-append (decimal (s .args .m)) _, s .pre .1)
+    omega (
+      arith,
+      w .word .ensures .place,
+      w .word .ensures .same,
+      n .number2 .ensures .place,
+      n .number2 .ensures .same,
+      x ∙ length-append (decimal (s .args .m)) _,
+      s .pre .1,
+    )
 
 same-length-2 : tie.Need-same-length-2
 same-length-2 c = search needs

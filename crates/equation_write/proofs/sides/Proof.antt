@@ -19,7 +19,13 @@ word-requires : tie.Need-word-requires
 word-requires c κs =
     let t = c .before .before .before .before in
     let s = t .before .before .before in
-    omega (arith, t .terms .ensures .place, t .terms .ensures .same, sides-short (now (s .args .row)) (s .args .right) (s .pre .0) (s .pre .1) (s .pre .2), s .pre .3)
+    omega (
+      arith,
+      t .terms .ensures .place,
+      t .terms .ensures .same,
+      sides-short (now (s .args .row)) (s .args .right) (s .pre .0) (s .pre .1) (s .pre .2),
+      s .pre .3,
+    )
 
 signed-requires : tie.Need-signed-requires
 signed-requires c κs =
@@ -28,7 +34,15 @@ signed-requires c κs =
     let s = t .before .before .before in
     rw (toZ-ofZ (s .fits .right)) (
       omega (arith, s .pre .2),
-      omega (arith, w .word .ensures .place, w .word .ensures .same, t .terms .ensures .place, t .terms .ensures .same, sides-short (now (s .args .row)) (s .args .right) (s .pre .0) (s .pre .1) (s .pre .2), s .pre .3),
+      omega (
+        arith,
+        w .word .ensures .place,
+        w .word .ensures .same,
+        t .terms .ensures .place,
+        t .terms .ensures .same,
+        sides-short (now (s .args .row)) (s .args .right) (s .pre .0) (s .pre .1) (s .pre .2),
+        s .pre .3,
+      ),
     )
 
 same-length : tie.Need-same-length
@@ -43,7 +57,13 @@ returns c =
     let s = t .before .before .before in
     let r = rw (toZ-ofZ (s .fits .right)) at (g .signed .ensures) in (
       put-then (t .terms .ensures) (put-then (w .word .ensures) r),
-      omega (arith, r .place, w .word .ensures .place, t .terms .ensures .place, sides-short (now (s .args .row)) (s .args .right) (s .pre .0) (s .pre .1) (s .pre .2)),
+      omega (
+        arith,
+        r .place,
+        w .word .ensures .place,
+        t .terms .ensures .place,
+        sides-short (now (s .args .row)) (s .args .right) (s .pre .0) (s .pre .1) (s .pre .2),
+      ),
     )
 
 pub sides-spec : {M : Type 1} → statement M

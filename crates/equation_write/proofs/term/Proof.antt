@@ -26,7 +26,14 @@ multiple-requires c κs = let l = c .before .before .before .before in
     let s = l .before .before .before in
     let e = c .size .ensures ∙ ap natAbs (toZ-ofZ (s .fits .c)) in (
       rw e (s .pre .0),
-      rw e (omega (arith, l .lead .ensures .place, l .lead .ensures .same, lead-short (s .args .first) (ltZ (toZ w32 (ofZ w32 (s .args .c))) (pos 0)), multiple-short (natAbs (s .args .c)) (s .args .k) (s .pre .1) (s .pre .2), s .pre .3)),
+      rw e (omega (
+        arith,
+        l .lead .ensures .place,
+        l .lead .ensures .same,
+        lead-short (s .args .first) (ltZ (toZ w32 (ofZ w32 (s .args .c))) (pos 0)),
+        multiple-short (natAbs (s .args .c)) (s .args .k) (s .pre .1) (s .pre .2),
+        s .pre .3,
+      )),
     )
 
 same-length : tie.Need-same-length

@@ -18,7 +18,8 @@ use Rattle.equation_write.proofs.terms.Statement.{statement}
 use Rattle.equation_write.proofs.terms.Tie as tie
 
 abbrev Inv-loop : tie.InvT-loop
-Inv-loop out₀ row next₀ first₀ i₀ out next first i = Rest out₀ 0 (terms 1 row) out next (restText first (i + 1) (drop i row)) × (next ≤ 12 * i) × (i ≤ length row)
+Inv-loop out₀ row next₀ first₀ i₀ out next first i =
+    Rest out₀ 0 (terms 1 row) out next (restText first (i + 1) (drop i row)) × (next ≤ 12 * i) × (i ≤ length row)
 
 abbrev μ-loop : tie.MeasureT-loop
 μ-loop out₀ row next₀ first₀ i₀ out next first i = length row - i
@@ -43,8 +44,11 @@ loop-again c = let l = c .before .before in
     let a = l .before in
     let s = a .before .before in
     let row = now (s .args .row) in
-    let e = zero-word (getD row (a .loop .i) (pos 0)) (s .pre .1 .range (a .loop .i) (l .loop-test .taken)) (c .if1 .taken) in
-    (rw (← rest-zero row (a .loop .i) (l .loop-test .taken) (a .loop .first) e) (a .loop .inv .0), omega (arith, a .loop .inv .1), omega (arith, l .loop-test .taken))
+    let e = zero-word (getD row (a .loop .i) (pos 0)) (s .pre .1 .range (a .loop .i) (l .loop-test .taken)) (c .if1 .taken) in (
+      rw (← rest-zero row (a .loop .i) (l .loop-test .taken) (a .loop .first) e) (a .loop .inv .0),
+      omega (arith, a .loop .inv .1),
+      omega (arith, l .loop-test .taken),
+    )
 
 term-requires : tie.Need-term-requires Inv-loop μ-loop
 term-requires c κs = let f = c .before in
@@ -93,7 +97,8 @@ returns c = let b = c .before .before in
     let f = b .before .before in
     let a = f .before .before in
     let s = a .before .before in
-    let x = rw (f .if2 .taken, rest-end (now (s .args .row)) (a .loop .i) (a .loop .i + 1) (f .before .loop-test .left) .0, decimal-digit 0 (omega arith)) at (a .loop .inv .0) in
+    let x = rw (f .if2 .taken, rest-end (now (s .args .row)) (a .loop .i) (a .loop .i + 1) (f .before .loop-test .left) .0, decimal-digit 0 (omega arith))
+    at (a .loop .inv .0) in
     x .completes (b .byte .ensures)
 
 same-length-2 : tie.Need-same-length-2 Inv-loop μ-loop

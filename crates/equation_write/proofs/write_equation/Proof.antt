@@ -52,7 +52,8 @@ returns-5 c =
     let e₂ = e₃ .before in
     let s = e₂ .before .before .before in
     (rw (toZ-ofZ (s .fits .right)) at (w .write-row .ensures))
-    ∙ in-range (s .args .q) (now (s .args .row)) (s .args .right) (now (s .args .out)) (e₂ .before .if1 .left) (e₂ .if2 .left) (e₃ .if3 .left) (rw (t .enum-told .given .1) at (k .check .ensures))
+    ∙ in-range (s .args .q) (now (s .args .row)) (s .args .right) (now (s .args .out)) (e₂ .before .if1 .left) (e₂ .if2 .left) (e₃ .if3 .left)
+    (rw (t .enum-told .given .1) at (k .check .ensures))
 
 pub write-equation-spec : {M : Type 1} → statement M
 write-equation-spec =

@@ -60,13 +60,17 @@ element-set-from-wide : tie.Need-element-set-from-wide Inv-loop μ-loop
 element-set-from-wide c = omega (arith, first-place (c .before .before))
 
 -- the extra unknown's number
-first-number : (c : tie.After-negated Inv-loop μ-loop) → let s = c .before .before in toZ w32 (ofZ w32 (c .negated .result)) ≡ negℤ (getD (now (s .args .rights)) (s .args .i) (pos 0))
+first-number : (c : tie.After-negated Inv-loop μ-loop) → let s = c .before .before in
+    toZ w32 (ofZ w32 (c .negated .result)) ≡ negℤ (getD (now (s .args .rights)) (s .args .i) (pos 0))
 first-number c = toZ-ofZ {w = w32} (sfits-of (c .negated .ok)) ∙ c .negated .ensures ∙ ap negℤ (side (c .before .before))
 
 loop-holds : tie.Need-loop-holds Inv-loop μ-loop
 loop-holds c =
-    let s = c .before .before in
-    (search needs, row-first (s .args .i) (s .args .q) (now (s .args .coefs)) (now (s .args .rights)) (now (s .args .wide)) (first-number c) (omega (arith, first-place s, s .pre .1)))
+    let s = c .before .before in (
+      search needs,
+      row-first (s .args .i) (s .args .q) (now (s .args .coefs)) (now (s .args .rights)) (now (s .args .wide)) (first-number c)
+          (omega (arith, first-place s, s .pre .1)),
+    )
 
 mul-wide : tie.Need-mul-wide Inv-loop μ-loop
 mul-wide c = omega (arith, next-coef (begun c) (c .before .loop .j) (c .loop-test .taken))
@@ -109,13 +113,23 @@ loop-again c =
     let l = c .before in
     let s = begun l in
     let w = l .before .loop .inv .1 in
-    let number = toZ-ofZ {w = w32} (coef-number-fits (s .pre .0) (s .args .i * s .args .q + l .before .loop .j)) in
-    (search needs, row-next (s .args .i) (s .args .q) (now (s .args .coefs)) (now (s .args .rights)) number w (omega (arith, next-place s (l .before .loop .j) (l .loop-test .taken), w .size, length-set (now (s .args .wide)) (s .args .i * (s .args .q + 1)) (toZ w32 (ofZ w32 (l .before .before .negated .result))), s .pre .1)))
+    let number = toZ-ofZ {w = w32} (coef-number-fits (s .pre .0) (s .args .i * s .args .q + l .before .loop .j)) in (
+      search needs,
+      row-next (s .args .i) (s .args .q) (now (s .args .coefs)) (now (s .args .rights)) number w
+          (omega (
+            arith,
+            next-place s (l .before .loop .j) (l .loop-test .taken),
+            w .size,
+            length-set (now (s .args .wide)) (s .args .i * (s .args .q + 1)) (toZ w32 (ofZ w32 (l .before .before .negated .result))),
+            s .pre .1,
+          )),
+    )
 
 returns : tie.Need-returns Inv-loop μ-loop
 returns c =
     let s = c .before .before .before .before in
-    row-all (s .args .i) (s .args .q) (now (s .args .coefs)) (now (s .args .rights)) (now (s .args .wide)) (toZ w32 (ofZ w32 (c .before .before .negated .result))) (rw (le-antisymm (c .before .loop .inv .0) (c .loop-test .left)) at (c .before .loop .inv .1))
+    row-all (s .args .i) (s .args .q) (now (s .args .coefs)) (now (s .args .rights)) (now (s .args .wide))
+    (toZ w32 (ofZ w32 (c .before .before .negated .result))) (rw (le-antisymm (c .before .loop .inv .0) (c .loop-test .left)) at (c .before .loop .inv .1))
 
 pub row-spec : {M : Type 1} → statement M
 row-spec =

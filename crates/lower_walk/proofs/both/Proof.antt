@@ -1,4 +1,5 @@
--- `lower_walk::both` meets its contract: what the plain walk comes to decides, and where it completes the walk above the bound goes on from the row of the bound. Assumes nothing.
+-- `lower_walk::both` meets its contract: what the plain walk comes to decides, and where it completes the walk above the bound goes on from the row of the
+-- bound. Assumes nothing.
 use mathlib.Core.Path.{_≡_, refl, sym, _∙_, ap, subst}
 use Prim.Native.Nat.{ℕ, _-_}
 use native.Mathlib.Omega.{arith}
@@ -41,9 +42,11 @@ made : (w : tie.After-walk) → let s = startOf w in let a = s .args in let l = 
     ≡ meant w
 made w =
     let a = startOf w .args in
-    ap (λ most. walk (a .budget) (machineOf (λ t. paper.go) (systemWith plain (a .p) (a .q) (now (a .coefs)) most)) (stateWith (now (a .stack)) (now (a .second)) (now (a .list)) (w .before .plain-part .result)))
+    ap (λ most. walk (a .budget) (machineOf (λ t. paper.go) (systemWith plain (a .p) (a .q) (now (a .coefs)) most))
+    (stateWith (now (a .stack)) (now (a .second)) (now (a .list)) (w .before .plain-part .result)))
     (w .before .before .before .before .before .limit-of .ensures)
-    ∙ ap (λ r. walk (a .budget) (machineOf (λ t. paper.go) (systemWith plain (a .p) (a .q) (now (a .coefs)) (limitOf (a .limit)))) (stateWith (now (a .stack)) (now (a .second)) (now (a .list)) r))
+    ∙ ap (λ r. walk (a .budget) (machineOf (λ t. paper.go) (systemWith plain (a .p) (a .q) (now (a .coefs)) (limitOf (a .limit))))
+    (stateWith (now (a .stack)) (now (a .second)) (now (a .list)) r))
     (w .before .plain-part .ensures)
 
 limit-of-requires : tie.Need-limit-of-requires
@@ -100,7 +103,8 @@ further-requires c κs =
     let w = walkOf (l .before .before .before .before .before) in
     let s = startOf w in
     let told = w .walk .ensures (λ t. paper.go) ∙ made w in
-    let m = change-made (now (s .args .lower)) (inputAt s) (stateAt s) (s .pre .0) (s .pre .1) (s .args .budget) (w .walk .result) told (l .write-lower .ensures) (c .lowered .ensures) in
+    let m = change-made (now (s .args .lower)) (inputAt s) (stateAt s) (s .pre .0) (s .pre .1) (s .args .budget) (w .walk .result) told
+    (l .write-lower .ensures) (c .lowered .ensures) in
     let v = change-valid (now (s .args .lower)) (inputAt s) (stateAt s) (s .pre .0) (s .pre .1) (s .args .budget) in
     (subst (ValidFrom (now (s .args .lower)) (inputAt s)) (sym m) v, ap (λ r. kindOf (r .kind)) (c .lowered .ensures))
 
@@ -130,7 +134,8 @@ returns c =
     let w = walkOf (c .before .before .before) in
     let s = startOf w in
     rw (c .whole .ensures)
-    (ended-by (now (s .args .lower)) (inputAt s) (stateAt s) (s .pre .0) (s .pre .1) (s .args .budget) _ (w .walk .ensures (λ t. paper.go) ∙ made w) (c .before .enum-told .given .1) refl (λ e. let z : _≡_ {A = ℕ} 0 1 = cc in omega arith))
+    (ended-by (now (s .args .lower)) (inputAt s) (stateAt s) (s .pre .0) (s .pre .1) (s .args .budget) _ (w .walk .ensures (λ t. paper.go) ∙ made w)
+    (c .before .enum-told .given .1) refl (λ e. let z : _≡_ {A = ℕ} 0 1 = cc in omega arith))
 
 same-length-4 : tie.Need-same-length-4
 same-length-4 c =
@@ -167,8 +172,10 @@ returns-2 c =
     let left : ℕ = s .args .budget - (w .walk .result .run .steps .0 - s .args .r .before .0) in
     f .further .ensures
     ∙ ap (walk left (machineFrom (now (s .args .lower)) (inputAt s)))
-    (change-made (now (s .args .lower)) (inputAt s) (stateAt s) (s .pre .0) (s .pre .1) (s .args .budget) (w .walk .result) told (l .write-lower .ensures) (k .lowered .ensures))
-    ∙ changed-walk (now (s .args .lower)) (inputAt s) (stateAt s) (s .pre .0) (s .pre .1) (s .args .budget) (sym (ap (λ o. o .answer) told) ∙ ap answerOf (t .enum-told2 .given .1)) left (omega (arith, counted, m .0, m .1))
+    (change-made (now (s .args .lower)) (inputAt s) (stateAt s) (s .pre .0) (s .pre .1) (s .args .budget) (w .walk .result) told
+    (l .write-lower .ensures) (k .lowered .ensures))
+    ∙ changed-walk (now (s .args .lower)) (inputAt s) (stateAt s) (s .pre .0) (s .pre .1) (s .args .budget)
+    (sym (ap (λ o. o .answer) told) ∙ ap answerOf (t .enum-told2 .given .1)) left (omega (arith, counted, m .0, m .1))
 
 same-length-7 : tie.Need-same-length-7
 same-length-7 c = search needs
@@ -184,7 +191,8 @@ returns-3 c =
     let w = walkOf (c .before .before .before) in
     let s = startOf w in
     rw (c .whole2 .ensures)
-    (ended-by (now (s .args .lower)) (inputAt s) (stateAt s) (s .pre .0) (s .pre .1) (s .args .budget) _ (w .walk .ensures (λ t. paper.go) ∙ made w) (c .before .enum-told3 .given .1) refl (λ e. let z : _≡_ {A = ℕ} 0 1 = cc in omega arith))
+    (ended-by (now (s .args .lower)) (inputAt s) (stateAt s) (s .pre .0) (s .pre .1) (s .args .budget) _ (w .walk .ensures (λ t. paper.go) ∙ made w)
+    (c .before .enum-told3 .given .1) refl (λ e. let z : _≡_ {A = ℕ} 0 1 = cc in omega arith))
 
 same-length-10 : tie.Need-same-length-10
 same-length-10 c = search needs
@@ -200,7 +208,8 @@ returns-4 c =
     let w = walkOf (c .before .before .before .before) in
     let s = startOf w in
     rw (c .whole3 .ensures)
-    (ended-by (now (s .args .lower)) (inputAt s) (stateAt s) (s .pre .0) (s .pre .1) (s .args .budget) _ (w .walk .ensures (λ t. paper.go) ∙ made w) (c .before .before .answer .given .1) refl (λ e. let z : _≡_ {A = ℕ} 0 1 = cc in omega arith))
+    (ended-by (now (s .args .lower)) (inputAt s) (stateAt s) (s .pre .0) (s .pre .1) (s .args .budget) _ (w .walk .ensures (λ t. paper.go) ∙ made w)
+    (c .before .before .answer .given .1) refl (λ e. let z : _≡_ {A = ℕ} 0 1 = cc in omega arith))
 
 pub both-spec : {M : Type 1} → statement M
 both-spec =

@@ -50,7 +50,8 @@ returns c =
     let s = l .before .before .before .before .before in
     let a = s .args in
     w .walk .ensures unasked
-    ∙ ap (λ most. walk (a .budget) (machineOf unasked (systemWith (above (boundOf (now (a .lower)))) (a .p) (a .q) (now (a .coefs)) most)) (stateAt s)) (l .limit-of .ensures)
+    ∙ ap (λ most. walk (a .budget) (machineOf unasked (systemWith (above (boundOf (now (a .lower)))) (a .p) (a .q) (now (a .coefs)) most)) (stateAt s))
+    (l .limit-of .ensures)
     ∙ sym (above-walks unasked (now (a .lower)) (inputAt s) (a .budget) (stateAt s) (s .pre .1))
 
 pub further-spec : {M : Type 1} → statement M

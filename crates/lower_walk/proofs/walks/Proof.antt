@@ -16,8 +16,11 @@ both-requires : tie.Need-both-requires
 both-requires c κs =
     let t = c .before .before .before in
     let s = t .before .before .before .before .before .before in
-    let a = s .args in
-    (s .pre, names-plain (now (a .lower)) (inputWith alone (a .limit) (a .p) (a .q) (now (a .coefs))) (stateWith (now (a .stack)) (now (a .list)) (now (a .second)) (a .r)) (s .pre) (sym (t .before .run-number .ensures) ∙ t .if1 .taken))
+    let a = s .args in (
+      s .pre,
+      names-plain (now (a .lower)) (inputWith alone (a .limit) (a .p) (a .q) (now (a .coefs)))
+          (stateWith (now (a .stack)) (now (a .list)) (now (a .second)) (a .r)) (s .pre) (sym (t .before .run-number .ensures) ∙ t .if1 .taken),
+    )
 
 same-length : tie.Need-same-length
 same-length c = search needs
@@ -35,8 +38,11 @@ further-requires : tie.Need-further-requires
 further-requires c κs =
     let t = c .before .before .before in
     let s = t .before .before .before .before .before .before in
-    let a = s .args in
-    (s .pre, names-above (now (a .lower)) (inputWith alone (a .limit) (a .p) (a .q) (now (a .coefs))) (stateWith (now (a .stack)) (now (a .list)) (now (a .second)) (a .r)) (s .pre) (λ e. t .if1 .left (t .before .run-number .ensures ∙ e)))
+    let a = s .args in (
+      s .pre,
+      names-above (now (a .lower)) (inputWith alone (a .limit) (a .p) (a .q) (now (a .coefs)))
+          (stateWith (now (a .stack)) (now (a .list)) (now (a .second)) (a .r)) (s .pre) (λ e. t .if1 .left (t .before .run-number .ensures ∙ e)),
+    )
 
 same-length-4 : tie.Need-same-length-4
 same-length-4 c = search needs

@@ -42,7 +42,8 @@ returns-2 c =
     let k = c .before .before .before .before .before .before in
     let w = k .before .before .before .before in
     let a = w .before .before .before .before .before .before .args in
-    made-at (a .q) (a .found) (a .list .now) (a .t .now) (a .times .now) (search needs) (written-same (a .q) (replicate 16 0) (a .t .now) (search needs) (w .write .ensures))
+    made-at (a .q) (a .found) (a .list .now) (a .t .now) (a .times .now) (search needs)
+    (written-same (a .q) (replicate 16 0) (a .t .now) (search needs) (w .write .ensures))
     (k .take .ensures .0) (k .take .ensures .1) (c .before .vanishes .ensures) (c .if2 .taken)
 
 same-length-2 : tie.Need-same-length-2
@@ -53,7 +54,8 @@ returns-3 c =
     let k = c .before .before .before .before .before .before in
     let w = k .before .before .before .before in
     let a = w .before .before .before .before .before .before .args in
-    unlisted-at (a .q) (a .found) (a .list .now) (a .t .now) (a .times .now) (search needs) (written-same (a .q) (replicate 16 0) (a .t .now) (search needs) (w .write .ensures))
+    unlisted-at (a .q) (a .found) (a .list .now) (a .t .now) (a .times .now) (search needs)
+    (written-same (a .q) (replicate 16 0) (a .t .now) (search needs) (w .write .ensures))
     (k .take .ensures .0) (k .take .ensures .1) (c .before .vanishes .ensures) (c .if2 .left)
 
 pub apart-spec : {M : Type 1} → statement M

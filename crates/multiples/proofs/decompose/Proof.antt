@@ -45,7 +45,8 @@ returns-3 c =
     let k = c .before .before in
     let w = k .before .before .before .before in
     let a = w .before .before .before .before .args in
-    solved-at (a .p) (a .q) (a .coefs .now) (a .list .now) (a .found .0) (a .t .now) (a .times .now) (rw (k .before .before .enum-told .given .1) at (w .why-not .ensures)) (k .apart .ensures)
+    solved-at (a .p) (a .q) (a .coefs .now) (a .list .now) (a .found .0) (a .t .now) (a .times .now)
+    (rw (k .before .before .enum-told .given .1) at (w .why-not .ensures)) (k .apart .ensures)
 
 pub decompose-spec : {M : Type 1} → statement M
 decompose-spec =

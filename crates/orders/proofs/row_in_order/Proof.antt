@@ -80,7 +80,9 @@ shl-past c = omega arith
 
 -- after the loop every component is at most the limit
 whole : (c : tie.After-loop Inv-loop μ-loop)
-    → allTo (c .before .before .before .args .q) (small (c .before .before .before .args .limit) (c .before .before .before .args .q) (now (c .before .before .before .args .stack)) (c .before .before .before .args .k)) ≡ true
+    → allTo (c .before .before .before .args .q)
+    (small (c .before .before .before .args .limit) (c .before .before .before .args .q) (now (c .before .before .before .args .stack))
+    (c .before .before .before .args .k)) ≡ true
 whole c = cc (le-antisymm (c .before .loop .inv .0) (c .loop-test .left))
 
 returns-2 : tie.Need-returns-2 Inv-loop μ-loop

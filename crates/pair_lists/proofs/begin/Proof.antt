@@ -13,8 +13,11 @@ write-units-requires c κs = c .before .before .pre .1
 
 choose-requires : tie.Need-choose-requires
 choose-requires c κs =
-    let s = c .before .before .before .before .before .before in
-    (s .pre .0, rw (c .before .before .before .write-units .ensures) (units-small (s .args .q) (now (s .args .table)) (s .pre .1)), omega (arith, s .pre .0 .unknowns))
+    let s = c .before .before .before .before .before .before in (
+      s .pre .0,
+      rw (c .before .before .before .write-units .ensures) (units-small (s .args .q) (now (s .args .table)) (s .pre .1)),
+      omega (arith, s .pre .0 .unknowns),
+    )
 
 same-length : tie.Need-same-length
 same-length c = search needs

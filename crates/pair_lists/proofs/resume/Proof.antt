@@ -22,7 +22,8 @@ go-on-requires : tie.Need-go-on-requires
 go-on-requires c κs =
     let k = c .before .before .before .before .before in
     let a = k .before .before .before .before .args in
-    resume-enters (now (a .table)) (now (a .supports)) (now (a .values)) (a .r) (passes (k .check-resume .ensures) (c .before .before .before .enum-told .given .1))
+    resume-enters (now (a .table)) (now (a .supports)) (now (a .values)) (a .r)
+    (passes (k .check-resume .ensures) (c .before .before .before .enum-told .given .1))
 
 same-length : tie.Need-same-length
 same-length c = search needs
@@ -40,7 +41,9 @@ same-length-4 : tie.Need-same-length-4
 same-length-4 c = search needs
 
 returns-2 : tie.Need-returns-2
-returns-2 c = resumed-left (c .before .before .before .before .before .before .before .before .before .before .before .check-resume .ensures) (c .before .before .before .before .before .before .before .before .before .enum-told .given .1) (c .before .before .before .before .before .go-on .ensures)
+returns-2 c =
+    resumed-left (c .before .before .before .before .before .before .before .before .before .before .before .check-resume .ensures)
+    (c .before .before .before .before .before .before .before .before .before .enum-told .given .1) (c .before .before .before .before .before .go-on .ensures)
 
 pub resume-spec : {M : Type 1} → statement M
 resume-spec =

@@ -34,7 +34,9 @@ same-length c = search needs
 
 returns-2 : tie.Need-returns-2
 unfolding calls.start
-returns-2 c = call-passed (c .before .before .before .before .before .before .check-start .ensures) _ _ _ (c .before .before .before .before .enum-told .given .1) (c .before .before .begin .ensures)
+returns-2 c =
+    call-passed (c .before .before .before .before .before .before .check-start .ensures) _ _ _ (c .before .before .before .before .enum-told .given .1)
+    (c .before .before .begin .ensures)
 
 pub start-spec : {M : Type 1} → statement M
 start-spec =

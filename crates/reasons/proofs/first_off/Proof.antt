@@ -36,8 +36,10 @@ unfolding firstOff
 returns c =
     let l = c .before .before in
     let p = l .before .before .before .pre in
-    let e = c .before .left-side .ensures in
-    (first-here _ _ _ (l .loop-test .taken) (l .before .loop .inv .1) (amount-off (p .0) (p .1) (l .loop-test .taken) e (c .if1 .taken)), amount-kept (p .0) (p .1) (l .loop-test .taken) e)
+    let e = c .before .left-side .ensures in (
+      first-here _ _ _ (l .loop-test .taken) (l .before .loop .inv .1) (amount-off (p .0) (p .1) (l .loop-test .taken) e (c .if1 .taken)),
+      amount-kept (p .0) (p .1) (l .loop-test .taken) e,
+    )
 
 add-i : tie.Need-add-i Inv-loop μ-loop
 add-i c = search needs

@@ -38,8 +38,10 @@ returns c =
     let fourth = c .before .before in
     let third = fourth .before .before .before .before .before in
     let second = third .before .before .before .before .before in
-    let first = second .before .before .before .before .before in
-    (put-then (first .counted .ensures .0) (put-then (second .counted2 .ensures .0) (put-then (third .counted3 .ensures .0) (fourth .counted4 .ensures .0))), search needs)
+    let first = second .before .before .before .before .before in (
+      put-then (first .counted .ensures .0) (put-then (second .counted2 .ensures .0) (put-then (third .counted3 .ensures .0) (fourth .counted4 .ensures .0))),
+      search needs,
+    )
 
 pub counts-spec : {M : Type 1} → statement M
 counts-spec =

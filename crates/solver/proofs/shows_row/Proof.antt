@@ -19,14 +19,28 @@ returns-2 c = rw (← c .before .before .in-range .ensures, not-false (c .before
 
 returns-3 : tie.Need-returns-3
 unfolding shows hasRow
-returns-3 c = rw (← c .before .before .before .before .in-range .ensures, not-false (c .before .before .before .before .in-range .result) (c .before .before .before .if1 .left), le-leb 1 _ (c .before .before .if2 .left), lt-leb _ _ (c .if3 .taken))
+returns-3 c =
+    rw (
+      ← c .before .before .before .before .in-range .ensures,
+      not-false (c .before .before .before .before .in-range .result) (c .before .before .before .if1 .left),
+      le-leb 1 _ (c .before .before .if2 .left),
+      lt-leb _ _ (c .if3 .taken),
+    )
 
 div-result : tie.Need-div-result
-div-result c = range-least _ (c .before .before .before .before .in-range .ensures) (not-false (c .before .before .before .before .in-range .result) (c .before .before .before .if1 .left))
+div-result c =
+    range-least _ (c .before .before .before .before .in-range .ensures)
+    (not-false (c .before .before .before .before .in-range .result) (c .before .before .before .if1 .left))
 
 returns-4 : tie.Need-returns-4
 unfolding shows hasRow
-returns-4 c = rw (← c .before .before .before .before .in-range .ensures, not-false (c .before .before .before .before .in-range .result) (c .before .before .before .if1 .left), le-leb 1 _ (c .before .before .if2 .left), le-leb _ _ (c .if3 .left))
+returns-4 c =
+    rw (
+      ← c .before .before .before .before .in-range .ensures,
+      not-false (c .before .before .before .before .in-range .result) (c .before .before .before .if1 .left),
+      le-leb 1 _ (c .before .before .if2 .left),
+      le-leb _ _ (c .if3 .left),
+    )
 
 pub shows-row-spec : {M : Type 1} → statement M
 shows-row-spec = tie.close (tie.spec in-range-requires returns returns-2 returns-3 div-result returns-4)

@@ -59,7 +59,16 @@ returns c =
     let w3 = w4 .before in
     let w2 = w3 .before in
     let w1 = w2 .before in
-    rw (c .read .ensures, w7 .word7 .ensures, w6 .word6 .ensures, w5 .word5 .ensures, w4 .word4 .ensures, w3 .word3 .ensures, w2 .word2 .ensures, w1 .word .ensures)
+    rw (
+      c .read .ensures,
+      w7 .word7 .ensures,
+      w6 .word6 .ensures,
+      w5 .word5 .ensures,
+      w4 .word4 .ensures,
+      w3 .word3 .ensures,
+      w2 .word2 .ensures,
+      w1 .word .ensures,
+    )
 
 pub record-spec : {M : Type 1} → statement M
 record-spec =

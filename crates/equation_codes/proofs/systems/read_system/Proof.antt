@@ -24,7 +24,8 @@ refusal-requires : tie.Need-refusal-requires
 refusal-requires c κs =
     let r = c .before .before .before .before .before in
     let a = r .before .before .before .before .args in
-    system-refusal-fits (a .q) (now (a .text)) (now (a .coefs)) (now (a .rights)) (r .read-system .result) _ _ (r .read-system .ensures) (c .before .why .given .1)
+    system-refusal-fits (a .q) (now (a .text)) (now (a .coefs)) (now (a .rights)) (r .read-system .result) _ _ (r .read-system .ensures)
+    (c .before .why .given .1)
 
 same-length : tie.Need-same-length
 same-length c = search needs
@@ -36,7 +37,8 @@ returns : tie.Need-returns
 returns c =
     let r = c .before .before .before .before .before .before in
     let a = r .before .before .before .before .args in
-    system-told (a .q) (now (a .text)) (now (a .coefs)) (now (a .rights)) (r .read-system .result) _ _ (r .read-system .ensures) (c .before .before .p .given .1) (c .read-code .ensures)
+    system-told (a .q) (now (a .text)) (now (a .coefs)) (now (a .rights)) (r .read-system .result) _ _ (r .read-system .ensures)
+    (c .before .before .p .given .1) (c .read-code .ensures)
 
 same-length-3 : tie.Need-same-length-3
 same-length-3 c = search needs
@@ -48,7 +50,8 @@ returns-2 : tie.Need-returns-2
 returns-2 c =
     let r = c .before .before .before .before .before .before in
     let a = r .before .before .before .before .args in
-    system-refused-told (a .q) (now (a .text)) (now (a .coefs)) (now (a .rights)) (r .read-system .result) _ _ (r .read-system .ensures) (c .before .before .why .given .1) (c .refusal .ensures)
+    system-refused-told (a .q) (now (a .text)) (now (a .coefs)) (now (a .rights)) (r .read-system .result) _ _ (r .read-system .ensures)
+    (c .before .before .why .given .1) (c .refusal .ensures)
 
 pub read-system-spec : {M : Type 1} → statement M
 read-system-spec =

@@ -29,7 +29,8 @@ loop-holds c = (refl, refl, search needs, search needs, rw (zero-mul, sub-zero))
 
 -- there is room for the line
 fits-in : (c : tie.In-loop Inv-loop μ-loop)
-    → (c .before .loop .i * c .before .before .before .args .q + c .before .before .before .args .q ≤ length (c .before .loop .coefs)) × (c .before .loop .i < length (c .before .loop .rights))
+    → (c .before .loop .i * c .before .before .before .args .q + c .before .before .before .args .q ≤ length (c .before .loop .coefs))
+    × (c .before .loop .i < length (c .before .loop .rights))
 fits-in c =
     let l = c .before .loop in
     let s = c .before .before .before in
@@ -56,7 +57,8 @@ returns c =
     let w = c .before .before in
     let l = w .before .loop in
     let s = w .before .before .before in
-    lines-unended (s .args .p) (s .args .q) (l .i) (take (l .i * s .args .q) (l .coefs)) (take (l .i) (l .rights)) (now (s .args .text)) (l .at) (c .before .line-end .result) (w .loop-test .taken) (l .inv .3) (c .before .line-end .ensures .0) (c .if1 .taken) ∙ l .inv .4
+    lines-unended (s .args .p) (s .args .q) (l .i) (take (l .i * s .args .q) (l .coefs)) (take (l .i) (l .rights)) (now (s .args .text)) (l .at)
+    (c .before .line-end .result) (w .loop-test .taken) (l .inv .3) (c .before .line-end .ensures .0) (c .if1 .taken) ∙ l .inv .4
 
 sub-read-row : tie.Need-sub-read-row Inv-loop μ-loop
 sub-read-row c = omega (arith, c .before .line-end .ensures .0)
@@ -81,10 +83,14 @@ add-t21 c =
     omega (arith, w .loop-test .taken, s .pre .equations)
 
 same-length-3 : tie.Need-same-length-3 Inv-loop μ-loop
-same-length-3 c = c .before .before .before .before .before .read-row .kept .1 .1 .1 .0 ∙ c .before .before .before .before .before .before .before .before .before .before .before .before .loop .inv .0
+same-length-3 c =
+    c .before .before .before .before .before .read-row .kept .1 .1 .1 .0
+    ∙ c .before .before .before .before .before .before .before .before .before .before .before .before .loop .inv .0
 
 same-length-4 : tie.Need-same-length-4 Inv-loop μ-loop
-same-length-4 c = c .before .before .before .before .before .read-row .kept .1 .1 .1 .1 .0 ∙ c .before .before .before .before .before .before .before .before .before .before .before .before .loop .inv .1
+same-length-4 c =
+    c .before .before .before .before .before .read-row .kept .1 .1 .1 .1 .0
+    ∙ c .before .before .before .before .before .before .before .before .before .before .before .before .loop .inv .1
 
 returns-2 : tie.Need-returns-2 Inv-loop μ-loop
 returns-2 c =
@@ -93,7 +99,9 @@ returns-2 c =
     let s = w .before .before .before in
     let e = c .before .before .before .before .before .before .before .before .before .before in
     let f = c .before .before .before .before .before .before .before .before .before in
-    lines-refused (s .args .p) (s .args .q) (l .i) (take (l .i * s .args .q) (l .coefs)) (take (l .i) (l .rights)) (now (s .args .text)) (l .at) (e .line-end .result) (w .loop-test .taken) (l .inv .3) (e .line-end .ensures .0) (f .if1 .left) (rw (c .before .why .given .1) at (c .before .before .before .before .before .read-row .ensures)) ∙ l .inv .4
+    lines-refused (s .args .p) (s .args .q) (l .i) (take (l .i * s .args .q) (l .coefs)) (take (l .i) (l .rights)) (now (s .args .text)) (l .at)
+    (e .line-end .result) (w .loop-test .taken) (l .inv .3) (e .line-end .ensures .0) (f .if1 .left)
+    (rw (c .before .why .given .1) at (c .before .before .before .before .before .read-row .ensures)) ∙ l .inv .4
 
 enum-told : tie.Need-enum-told Inv-loop μ-loop
 enum-told c = search needs
@@ -123,7 +131,9 @@ loop-again c =
       r .read-row .kept .1 .1 .1 .1 .0 ∙ l .inv .1,
       omega (arith, w .loop-test .taken),
       omega (arith, f .if1 .left),
-      lines-read (s .args .p) (s .args .q) (l .i) (take (l .i * s .args .q) (l .coefs)) (take (l .i) (l .rights)) (now (s .args .text)) (l .at) (e .line-end .result) (w .loop-test .taken) (l .inv .3) (e .line-end .ensures .0) _ _ (f .if1 .left) (rw (c .enum-told .given .1) at (r .read-row .ensures)) ∙ l .inv .4,
+      lines-read (s .args .p) (s .args .q) (l .i) (take (l .i * s .args .q) (l .coefs)) (take (l .i) (l .rights)) (now (s .args .text)) (l .at)
+          (e .line-end .result) (w .loop-test .taken) (l .inv .3) (e .line-end .ensures .0) _ _ (f .if1 .left)
+          (rw (c .enum-told .given .1) at (r .read-row .ensures)) ∙ l .inv .4,
     )
 
 same-length-5 : tie.Need-same-length-5 Inv-loop μ-loop

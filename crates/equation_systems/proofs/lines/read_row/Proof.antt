@@ -58,7 +58,9 @@ returns : tie.Need-returns
 returns c =
     let w = c .before .before .before .before in
     let s = w .before .before .before in
-    row-refused (s .args .q) (s .args .i + 1) (take (s .args .i * s .args .q) (now (s .args .coefs))) (take (s .args .i) (now (s .args .rights))) (now (s .args .line)) (part s) (part-whole (s .args .i * s .args .q) (s .args .q) (now (s .args .coefs)) (s .pre .0)) (rw (c .before .why .given .1) at (w .read-equation .ensures))
+    row-refused (s .args .q) (s .args .i + 1) (take (s .args .i * s .args .q) (now (s .args .coefs))) (take (s .args .i) (now (s .args .rights)))
+    (now (s .args .line)) (part s) (part-whole (s .args .i * s .args .q) (s .args .q) (now (s .args .coefs)) (s .pre .0))
+    (rw (c .before .why .given .1) at (w .read-equation .ensures))
 
 same-length-2 : tie.Need-same-length-2
 same-length-2 c = search needs
@@ -73,7 +75,9 @@ returns-2 c =
     let e = rw (c .before .right .given .1) at (w .read-equation .ensures) in
     let l = side-small (s .args .q) (length (part s)) (now (s .args .line)) (part s) e in
     rw (toZ-ofZ {w = w32} {z = c .before .right .given .0 .0} (sfits-natAbs (omega (arith, l))))
-    (row-read (s .args .q) (s .args .i) (s .args .i + 1) (now (s .args .coefs)) (now (s .args .rights)) (now (s .args .line)) (part s) _ _ (c .before .right .given .0 .0) (s .pre .0) (s .pre .1) (part-whole (s .args .i * s .args .q) (s .args .q) (now (s .args .coefs)) (s .pre .0)) (w .read-equation .kept .1 .1 .0) e)
+    (row-read (s .args .q) (s .args .i) (s .args .i + 1) (now (s .args .coefs)) (now (s .args .rights)) (now (s .args .line)) (part s) _ _
+    (c .before .right .given .0 .0) (s .pre .0) (s .pre .1) (part-whole (s .args .i * s .args .q) (s .args .q) (now (s .args .coefs)) (s .pre .0))
+    (w .read-equation .kept .1 .1 .0) e)
 
 pub read-row-spec : {M : Type 1} → statement M
 read-row-spec =

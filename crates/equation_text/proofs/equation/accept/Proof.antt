@@ -75,7 +75,8 @@ returns-2 c = let p = c .before in
     let l = p .before .before .before in
     let s = l .before in
     let n : l .loop .i ≡ s .args .q = omega (arith, l .loop .inv .0, p .before .before .loop-test .left) in
-    right-out (s .args .q) (now (s .args .totals)) (now (s .args .row)) (rw n at (l .loop .inv .1)) (rw (toZ-ofZ {w = w64} (sfits-of (p .before .is-steep-arg2 .given))) at (sym (p .is-steep2 .ensures) ∙ c .if2 .taken))
+    right-out (s .args .q) (now (s .args .totals)) (now (s .args .row)) (rw n at (l .loop .inv .1))
+    (rw (toZ-ofZ {w = w64} (sfits-of (p .before .is-steep-arg2 .given))) at (sym (p .is-steep2 .ensures) ∙ c .if2 .taken))
 
 write-row-requires : tie.Need-write-row-requires Inv-loop μ-loop
 write-row-requires c κs = let l = c .before .before .before .before .before in
@@ -90,7 +91,8 @@ negated-requires : tie.Need-negated-requires Inv-loop μ-loop
 negated-requires c κs = let p = c .before .before .before .before .before in
     let s = p .before .before .before .before in
     let z = toZ-ofZ {w = w64} {z = getD (now (s .args .totals)) 0 (pos 0)} (sfits-of (c .negated-arg .given)) in
-    let e = rw (toZ-ofZ {w = w64} (sfits-of (p .before .is-steep-arg2 .given))) at (sym (p .is-steep2 .ensures) ∙ c .before .before .before .before .if2 .left) in
+    let e = rw (toZ-ofZ {w = w64} (sfits-of (p .before .is-steep-arg2 .given)))
+    at (sym (p .is-steep2 .ensures) ∙ c .before .before .before .before .if2 .left) in
     rw z (ltb-false 10000 _ e)
 
 same-length : tie.Need-same-length Inv-loop μ-loop
@@ -104,8 +106,11 @@ returns-3 c = let n = c .before in
     let l = p .before .before .before in
     let s = l .before in
     let m : l .loop .i ≡ s .args .q = omega (arith, l .loop .inv .0, p .before .before .loop-test .left) in
-    all-in (s .args .q) (now (s .args .totals)) (now (s .args .row)) (rw m at (l .loop .inv .1)) (rw (toZ-ofZ {w = w64} (sfits-of (p .before .is-steep-arg2 .given))) at (sym (p .is-steep2 .ensures) ∙ f .if2 .left))
-    (w .write-row .ensures) (toZ-ofZ {w = w32} (sfits-of (c .negated .ok)) ∙ c .negated .ensures ∙ ap negℤ (toZ-ofZ {w = w64} {z = getD (now (s .args .totals)) 0 (pos 0)} (sfits-of (n .negated-arg .given))))
+    all-in (s .args .q) (now (s .args .totals)) (now (s .args .row)) (rw m at (l .loop .inv .1))
+    (rw (toZ-ofZ {w = w64} (sfits-of (p .before .is-steep-arg2 .given))) at (sym (p .is-steep2 .ensures) ∙ f .if2 .left))
+    (w .write-row .ensures)
+    (toZ-ofZ {w = w32} (sfits-of (c .negated .ok)) ∙ c .negated .ensures
+    ∙ ap negℤ (toZ-ofZ {w = w64} {z = getD (now (s .args .totals)) 0 (pos 0)} (sfits-of (n .negated-arg .given))))
 
 pub accept-spec : {M : Type 1} → statement M
 accept-spec =

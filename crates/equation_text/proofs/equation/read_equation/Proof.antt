@@ -29,7 +29,8 @@ returns-5 c = let p = c .before in
     let e₂ = e₃ .before in
     let s = e₂ .before .before .before in
     rw (p .place .ensures)
-    (at-fault (s .args .q) (length (now (s .args .row))) (now (s .args .text)) (now (s .args .row)) (e₂ .before .if1 .left) (e₂ .if2 .left) (e₃ .if3 .left) (e₄ .if4 .left) (rw (p .place .ensures) at (c .if5 .taken)))
+    (at-fault (s .args .q) (length (now (s .args .row))) (now (s .args .text)) (now (s .args .row)) (e₂ .before .if1 .left) (e₂ .if2 .left) (e₃ .if3 .left)
+    (e₄ .if4 .left) (rw (p .place .ensures) at (c .if5 .taken)))
 
 read-sides-requires : tie.Need-read-sides-requires
 read-sides-requires c κs = search needs
@@ -44,7 +45,8 @@ returns-6 c = let v = c .before in
     let e₃ = e₄ .before in
     let e₂ = e₃ .before in
     let s = e₂ .before .before .before in
-    v .read-sides .ensures ∙ to-tree (s .args .q) (length (now (s .args .row))) (now (s .args .text)) (now (s .args .row)) (e₂ .before .if1 .left) (e₂ .if2 .left) (e₃ .if3 .left) (e₄ .if4 .left)
+    v .read-sides .ensures ∙ to-tree (s .args .q) (length (now (s .args .row))) (now (s .args .text)) (now (s .args .row)) (e₂ .before .if1 .left)
+    (e₂ .if2 .left) (e₃ .if3 .left) (e₄ .if4 .left)
 
 pub read-equation-spec : {M : Type 1} → statement M
 read-equation-spec =

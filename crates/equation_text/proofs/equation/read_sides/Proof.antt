@@ -29,7 +29,8 @@ add-skip c = let n = c .before .before in
     let r = n .before .before in
     let s = r .before .before .before in
     let (e, w) = unplaced-reads (s .args .q) (s .pre .1) (s .pre .2) (now (s .args .text)) (s .pre .4) in
-    let a = middle (s .args .q) (s .pre .2) e (now (s .args .text)) w (n .next .given .0 .0) (c .skip .result) zeros (rw (n .next .given .1) at (r .read-sum .ensures .0)) (c .skip .ensures) in
+    let a = middle (s .args .q) (s .pre .2) e (now (s .args .text)) w (n .next .given .0 .0) (c .skip .result) zeros
+    (rw (n .next .given .1) at (r .read-sum .ensures .0)) (c .skip .ensures) in
     omega (arith, a .inside, s .good)
 
 skip-requires-2 : tie.Need-skip-requires-2
@@ -66,9 +67,12 @@ returns c = let o = c .before in
     let r = n .before .before in
     let s = r .before .before .before in
     let (e, w) = unplaced-reads (s .args .q) (s .pre .1) (s .pre .2) (now (s .args .text)) (s .pre .4) in
-    let a = middle (s .args .q) (s .pre .2) e (now (s .args .text)) w (n .next .given .0 .0) (k .skip .result) zeros (rw (n .next .given .1) at (r .read-sum .ensures .0)) (k .skip .ensures) in
-    let b = both (s .args .q) (s .pre .2) e (now (s .args .text)) w a (k₂ .skip2 .result) (k₂ .skip2 .ensures) (rw (m .more .given .1) at (r₂ .read-sum2 .ensures .0)) in
-    sides-steep (s .args .q) (s .pre .2) e (now (s .args .text)) w a (k₂ .skip2 .result) (k₂ .skip2 .ensures) b (now (s .args .row)) (sym (o .either .ensures) ∙ c .if1 .taken)
+    let a = middle (s .args .q) (s .pre .2) e (now (s .args .text)) w (n .next .given .0 .0) (k .skip .result) zeros
+    (rw (n .next .given .1) at (r .read-sum .ensures .0)) (k .skip .ensures) in
+    let b = both (s .args .q) (s .pre .2) e (now (s .args .text)) w a (k₂ .skip2 .result) (k₂ .skip2 .ensures)
+    (rw (m .more .given .1) at (r₂ .read-sum2 .ensures .0)) in
+    sides-steep (s .args .q) (s .pre .2) e (now (s .args .text)) w a (k₂ .skip2 .result) (k₂ .skip2 .ensures) b (now (s .args .row))
+    (sym (o .either .ensures) ∙ c .if1 .taken)
 
 accept-requires : tie.Need-accept-requires
 accept-requires c κs = search needs
@@ -87,8 +91,10 @@ returns-3 c = let r₂ = c .before .before in
     let r = n .before .before in
     let s = r .before .before .before in
     let (e, w) = unplaced-reads (s .args .q) (s .pre .1) (s .pre .2) (now (s .args .text)) (s .pre .4) in
-    let a = middle (s .args .q) (s .pre .2) e (now (s .args .text)) w (n .next .given .0 .0) (k .skip .result) zeros (rw (n .next .given .1) at (r .read-sum .ensures .0)) (k .skip .ensures) in
-    right-stopped (s .args .q) (s .pre .2) e (now (s .args .text)) w a (k₂ .skip2 .result) (k₂ .skip2 .ensures) (now (s .args .row)) (rw (c .enum-told2 .given .1) at (r₂ .read-sum2 .ensures .0))
+    let a = middle (s .args .q) (s .pre .2) e (now (s .args .text)) w (n .next .given .0 .0) (k .skip .result) zeros
+    (rw (n .next .given .1) at (r .read-sum .ensures .0)) (k .skip .ensures) in
+    right-stopped (s .args .q) (s .pre .2) e (now (s .args .text)) w a (k₂ .skip2 .result) (k₂ .skip2 .ensures) (now (s .args .row))
+    (rw (c .enum-told2 .given .1) at (r₂ .read-sum2 .ensures .0))
 
 same-length : tie.Need-same-length
 same-length c = search needs
@@ -105,9 +111,12 @@ returns-4 c = let p = c .before in
     let r = n .before .before in
     let s = r .before .before .before in
     let (e, w) = unplaced-reads (s .args .q) (s .pre .1) (s .pre .2) (now (s .args .text)) (s .pre .4) in
-    let a = middle (s .args .q) (s .pre .2) e (now (s .args .text)) w (n .next .given .0 .0) (k .skip .result) zeros (rw (n .next .given .1) at (r .read-sum .ensures .0)) (k .skip .ensures) in
-    let b = both (s .args .q) (s .pre .2) e (now (s .args .text)) w a (k₂ .skip2 .result) (k₂ .skip2 .ensures) (rw (m .more .given .1) at (r₂ .read-sum2 .ensures .0)) in
-    sides-taken (s .args .q) (s .pre .2) e (now (s .args .text)) w a (k₂ .skip2 .result) (k₂ .skip2 .ensures) b (now (s .args .row)) (sym (o .either .ensures) ∙ f .if1 .left) refl (p .accept .ensures)
+    let a = middle (s .args .q) (s .pre .2) e (now (s .args .text)) w (n .next .given .0 .0) (k .skip .result) zeros
+    (rw (n .next .given .1) at (r .read-sum .ensures .0)) (k .skip .ensures) in
+    let b = both (s .args .q) (s .pre .2) e (now (s .args .text)) w a (k₂ .skip2 .result) (k₂ .skip2 .ensures)
+    (rw (m .more .given .1) at (r₂ .read-sum2 .ensures .0)) in
+    sides-taken (s .args .q) (s .pre .2) e (now (s .args .text)) w a (k₂ .skip2 .result) (k₂ .skip2 .ensures) b (now (s .args .row))
+    (sym (o .either .ensures) ∙ f .if1 .left) refl (p .accept .ensures)
 
 pub read-sides-spec : {M : Type 1} → statement M
 read-sides-spec =

@@ -38,7 +38,8 @@ element-copy-out-narrow c = omega (arith, c .loop-test .taken, c .before .before
 narrow-requires : tie.Need-narrow-requires Inv-loop μ-loop
 narrow-requires c κs = let l = c .before in
     let s = l .before .before in
-    let m : natAbs (getD (now (s .args .totals)) (l .before .loop .i + 1) (pos 0)) ≤ 10000 = rw (add-one (l .before .loop .i)) (s .pre .2 .range (l .before .loop .i) (l .loop-test .taken)) in
+    let m : natAbs (getD (now (s .args .totals)) (l .before .loop .i + 1) (pos 0)) ≤ 10000 =
+    rw (add-one (l .before .loop .i)) (s .pre .2 .range (l .before .loop .i) (l .loop-test .taken)) in
     rw (toZ-ofZ {w = w64} {z = getD (now (s .args .totals)) (l .before .loop .i + 1) (pos 0)} (sfits-natAbs (omega (arith, m)))) m
 
 mul-t12 : tie.Need-mul-t12 Inv-loop μ-loop
@@ -56,11 +57,13 @@ loop-less c = omega (arith, c .before .before .loop-test .taken)
 loop-again : tie.Need-loop-again Inv-loop μ-loop
 loop-again c = let l = c .before .before in
     let s = l .before .before in
-    let m : natAbs (getD (now (s .args .totals)) (l .before .loop .i + 1) (pos 0)) ≤ 10000 = rw (add-one (l .before .loop .i)) (s .pre .2 .range (l .before .loop .i) (l .loop-test .taken)) in
+    let m : natAbs (getD (now (s .args .totals)) (l .before .loop .i + 1) (pos 0)) ≤ 10000 =
+    rw (add-one (l .before .loop .i)) (s .pre .2 .range (l .before .loop .i) (l .loop-test .taken)) in
     let e = toZ-ofZ {w = w64} {z = getD (now (s .args .totals)) (l .before .loop .i + 1) (pos 0)} (sfits-natAbs (omega (arith, m))) in (
       omega (arith, l .loop-test .taken),
       length-set (l .before .loop .row) (l .before .loop .i) _ ∙ l .before .loop .inv .1,
-      row-next (l .before .loop .row) (now (s .args .totals)) (l .before .loop .i) _ (omega (arith, l .loop-test .taken, l .before .loop .inv .1, s .pre .1)) (l .before .loop .inv .2)
+      row-next (l .before .loop .row) (now (s .args .totals)) (l .before .loop .i) _ (omega (arith, l .loop-test .taken, l .before .loop .inv .1, s .pre .1))
+          (l .before .loop .inv .2)
           (toZ-ofZ {w = w32} (sfits-of (c .narrow .ok)) ∙ c .narrow .ensures ∙ e),
     )
 
@@ -70,7 +73,8 @@ same-length c = search needs
 returns : tie.Need-returns Inv-loop μ-loop
 returns c = let l = c .before in
     let s = l .before in
-    row-all (l .loop .row) (now (s .args .totals)) (s .args .q) (l .loop .i) (l .loop .inv .1 ∙ s .pre .1) (l .loop .inv .0) (c .loop-test .left) (l .loop .inv .2)
+    row-all (l .loop .row) (now (s .args .totals)) (s .args .q) (l .loop .i) (l .loop .inv .1 ∙ s .pre .1) (l .loop .inv .0)
+    (c .loop-test .left) (l .loop .inv .2)
 
 pub write-row-spec : {M : Type 1} → statement M
 write-row-spec =

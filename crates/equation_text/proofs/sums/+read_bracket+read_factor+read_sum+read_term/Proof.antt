@@ -105,19 +105,71 @@ read-term-below t =
 
 -- what the calls of `read_bracket` ask and tell
 abbrev read-bracket-calls : ℕ → read-bracket-lts.Claims
-read-bracket-calls t = (skip-reads.Asked, skip-reads.Learnt, within-reads.Asked, within-reads.Learnt, read-sum-below t, read-sum.Post, stands-reads.Asked, stands-reads.Learnt, is-steep-reads.Asked, is-steep-reads.Learnt, either-reads.Asked, either-reads.Learnt)
+read-bracket-calls t = (
+  skip-reads.Asked,
+  skip-reads.Learnt,
+  within-reads.Asked,
+  within-reads.Learnt,
+  read-sum-below t,
+  read-sum.Post,
+  stands-reads.Asked,
+  stands-reads.Learnt,
+  is-steep-reads.Asked,
+  is-steep-reads.Learnt,
+  either-reads.Asked,
+  either-reads.Learnt,
+)
 
 -- what the calls of `read_factor` ask and tell
 abbrev read-factor-calls : ℕ → read-factor-lts.Claims
-read-factor-calls t = (stands-reads.Asked, stands-reads.Learnt, read-bracket-below t, read-bracket.Post, read-index-reads.Asked, read-index-reads.Learnt, add-at-reads.Asked, add-at-reads.Learnt)
+read-factor-calls t = (
+  stands-reads.Asked,
+  stands-reads.Learnt,
+  read-bracket-below t,
+  read-bracket.Post,
+  read-index-reads.Asked,
+  read-index-reads.Learnt,
+  add-at-reads.Asked,
+  add-at-reads.Learnt,
+)
 
 -- what the calls of `read_sum` ask and tell
 abbrev read-sum-calls : ℕ → read-sum-lts.Claims
-read-sum-calls t = (after-sign-reads.Asked, after-sign-reads.Learnt, is-minus-reads.Asked, is-minus-reads.Learnt, signed-reads.Asked, signed-reads.Learnt, read-term-below t, read-term.Post, either-reads.Asked, either-reads.Learnt, skip-reads.Asked, skip-reads.Learnt, is-sign-reads.Asked, is-sign-reads.Learnt)
+read-sum-calls t = (
+  after-sign-reads.Asked,
+  after-sign-reads.Learnt,
+  is-minus-reads.Asked,
+  is-minus-reads.Learnt,
+  signed-reads.Asked,
+  signed-reads.Learnt,
+  read-term-below t,
+  read-term.Post,
+  either-reads.Asked,
+  either-reads.Learnt,
+  skip-reads.Asked,
+  skip-reads.Learnt,
+  is-sign-reads.Asked,
+  is-sign-reads.Learnt,
+)
 
 -- what the calls of `read_term` ask and tell
 abbrev read-term-calls : ℕ → read-term-lts.Claims
-read-term-calls t = (is-digit-reads.Asked, is-digit-reads.Learnt, read-factor-below t, read-factor.Post, read-natural-reads.Asked, read-natural-reads.Learnt, skip-reads.Asked, skip-reads.Learnt, stands-reads.Asked, stands-reads.Learnt, scaled-reads.Asked, scaled-reads.Learnt, add-at-reads.Asked, add-at-reads.Learnt)
+read-term-calls t = (
+  is-digit-reads.Asked,
+  is-digit-reads.Learnt,
+  read-factor-below t,
+  read-factor.Post,
+  read-natural-reads.Asked,
+  read-natural-reads.Learnt,
+  skip-reads.Asked,
+  skip-reads.Learnt,
+  stands-reads.Asked,
+  stands-reads.Learnt,
+  scaled-reads.Asked,
+  scaled-reads.Learnt,
+  add-at-reads.Asked,
+  add-at-reads.Learnt,
+)
 
 read-bracket-returns : (t : ℕ) → read-bracket-lts.Need-returns (read-bracket-calls t) (read-bracket-at t) read-bracket.Post
 read-bracket-returns t c = (bracket-none _ _ _ _ _ (c .if1 .taken), tt)
@@ -166,7 +218,8 @@ read-bracket-returns-2 t c = let k₂ = c .before .before in
     let m = toZ-ofZ {w = w64} (sfits-of (w .within .ok)) ∙ w .within .ensures ∙ ap bounded (toZ-ofZ (s .fits .times)) in
     let h = rw (n .next .given .1, m) at (r .read-sum .ensures .0) in (
       bracket-open
-          (s .args .q) (s .args .depth) (s .args .times) (now (s .args .totals)) (now (s .args .text)) (s .args .at) (k .skip .result) (k .before .if1 .left) (k .skip .ensures)
+          (s .args .q) (s .args .depth) (s .args .times) (now (s .args .totals)) (now (s .args .text)) (s .args .at) (k .skip .result)
+          (k .before .if1 .left) (k .skip .ensures)
           (n .next .given .0 .0) (k₂ .skip2 .result) h (k₂ .skip2 .ensures) (sym (c .before .stands .ensures) ∙ not-true _ (c .if2 .taken)),
       tt,
     )
@@ -190,7 +243,8 @@ read-bracket-returns-3 t c = let r = c .before .before in
     let m = toZ-ofZ {w = w64} (sfits-of (w .within .ok)) ∙ w .within .ensures ∙ ap bounded (toZ-ofZ (s .fits .times)) in
     let h = rw (c .enum-told .given .1, m) at (r .read-sum .ensures .0) in (
       bracket-stopped
-          (s .args .q) (s .args .depth) (s .args .times) (now (s .args .totals)) (now (s .args .text)) (s .args .at) (k .skip .result) (k .before .if1 .left) (k .skip .ensures) h,
+          (s .args .q) (s .args .depth) (s .args .times) (now (s .args .totals)) (now (s .args .text)) (s .args .at) (k .skip .result)
+          (k .before .if1 .left) (k .skip .ensures) h,
       tt,
     )
 
@@ -234,7 +288,8 @@ read-factor-returns : (t : ℕ) → read-factor-lts.Need-returns (read-factor-ca
 read-factor-returns t c = let b = c .before .before in
     let s = b .before .before .before in
     let h = rw (toZ-ofZ (s .fits .times)) at (c .read-bracket .ensures .0) in (
-      factor-bracket (s .args .q) (s .args .depth) (s .args .times) (now (s .args .totals)) (now (s .args .text)) (s .args .at) (sym (b .before .stands .ensures) ∙ b .if1 .taken) h,
+      factor-bracket (s .args .q) (s .args .depth) (s .args .times) (now (s .args .totals)) (now (s .args .text)) (s .args .at)
+          (sym (b .before .stands .ensures) ∙ b .if1 .taken) h,
       passed-from (now (s .args .text)) (s .args .at) (s .args .at + 1) (c .read-bracket .result) _ (omega arith) (c .read-bracket .ensures .1),
     )
 
@@ -276,7 +331,8 @@ read-factor-returns-3 t c = let x = c .before .before in
     let l = x .before in
     let s = l .before .before .before .before .before in
     let h = rw (c .enum-told .given .1) at (x .read-index .ensures) in (
-      factor-malformed (s .args .q) (s .args .depth) (s .args .times) (now (s .args .totals)) (now (s .args .text)) (s .args .at) (sym (l .before .stands2 .ensures) ∙ not-false _ (l .if2 .left)) h,
+      factor-malformed (s .args .q) (s .args .depth) (s .args .times) (now (s .args .totals)) (now (s .args .text)) (s .args .at)
+          (sym (l .before .stands2 .ensures) ∙ not-false _ (l .if2 .left)) h,
       tt,
     )
 
@@ -290,15 +346,19 @@ read-factor-returns-4 t c = let v = c .before .before .before in
     let h = rw (v .value .given .1) at (x .read-index .ensures) in
     let y = index-left text (s .args .at + 1) (v .value .given .0 .1 .0) (s .args .q) n h in (
       rw (c .add-at .ensures, toZ-ofZ (s .fits .times))
-          (factor-unknown (s .args .q) (s .args .depth) (s .args .times) (now (s .args .totals)) text (s .args .at) n (sym (l .before .stands2 .ensures) ∙ not-false _ (l .if2 .left)) h),
+          (factor-unknown (s .args .q) (s .args .depth) (s .args .times) (now (s .args .totals)) text (s .args .at) n
+          (sym (l .before .stands2 .ensures) ∙ not-false _ (l .if2 .left)) h),
       record {
         less = omega arith;
-        room = rw (c .add-at .ensures, toZ-ofZ (s .fits .times)) (add-room n (s .args .times) (now (s .args .totals)) (s .pre .1 .multiple) (omega arith) (s .pre .1 .room));
+        room =
+            rw (c .add-at .ensures, toZ-ofZ (s .fits .times))
+            (add-room n (s .args .times) (now (s .args .totals)) (s .pre .1 .multiple) (omega arith) (s .pre .1 .room));
       },
     )
 
 abbrev read-sum-Inv-loop : read-sum-lts.InvT-loop
-read-sum-Inv-loop text at q depth times totals₀ next₀ minus₀ steep₀ totals next minus steep = Due q depth text at (toZ w64 times) totals₀ totals next minus steep
+read-sum-Inv-loop text at q depth times totals₀ next₀ minus₀ steep₀ totals next minus steep =
+    Due q depth text at (toZ w64 times) totals₀ totals next minus steep
 
 abbrev read-sum-μ-loop : read-sum-lts.MeasureT-loop
 read-sum-μ-loop text at q depth times totals₀ next₀ minus₀ steep₀ totals next minus steep = length text - next
@@ -314,7 +374,8 @@ read-sum-loop-holds : (t : ℕ) → read-sum-lts.Need-loop-holds (read-sum-calls
 read-sum-loop-holds t c = let a = c .before in
     let s = a .before .before in
     rw (toZ-ofZ (s .fits .times), c .is-minus .ensures)
-    (due-first (s .args .q) (s .args .depth) (now (s .args .text)) (s .args .at) (s .args .times) (now (s .args .totals)) (a .after-sign .result) (a .after-sign .ensures) (s .pre .1 .room))
+    (due-first (s .args .q) (s .args .depth) (now (s .args .text)) (s .args .at) (s .args .times) (now (s .args .totals)) (a .after-sign .result)
+    (a .after-sign .ensures) (s .pre .1 .room))
 
 read-sum-signed-requires : (t : ℕ) → read-sum-lts.Need-signed-requires (read-sum-calls t) (read-sum-at t) read-sum.Post read-sum-Inv-loop read-sum-μ-loop
 read-sum-signed-requires t c κs = let s = c .before .before .before .before in rw (toZ-ofZ (s .fits .times)) (s .pre .1 .multiple)
@@ -326,7 +387,9 @@ read-sum-read-term-requires t c κs = let g = c .before in
       omega (arith, s .pre .0),
       record {
         few = s .pre .1 .few;
-        multiple = rw (toZ-ofZ {w = w64} (sfits-of (g .signed .ok)), g .signed .ensures, toZ-ofZ (s .fits .times)) (signed-small (l .loop .minus) (s .args .times) (s .pre .1 .multiple));
+        multiple =
+            rw (toZ-ofZ {w = w64} (sfits-of (g .signed .ok)), g .signed .ensures, toZ-ofZ (s .fits .times))
+            (signed-small (l .loop .minus) (s .args .times) (s .pre .1 .multiple));
         room = l .loop .inv .room;
       },
     )
@@ -370,7 +433,8 @@ read-sum-returns-2 t c = let k = c .before .before in
     let a = rw (n .end .given .1) at (r .read-term .ensures .1) in (
       rw (e .either .ensures)
           (due-over
-          (s .args .q) (s .args .depth) (now (s .args .text)) (s .args .at) (s .args .times) (now (s .args .totals)) inv (n .end .given .0 .0) (k .skip .result) h (k .skip .ensures)
+          (s .args .q) (s .args .depth) (now (s .args .text)) (s .args .at) (s .args .times) (now (s .args .totals)) inv (n .end .given .0 .0)
+          (k .skip .result) h (k .skip .ensures)
           (sym (c .before .is-sign .ensures) ∙ not-true _ (c .if1 .taken))),
       record { less = omega (arith, a .less, inv .onward); room = a .room },
     )
@@ -392,7 +456,12 @@ read-sum-loop-less t c = let f = c .before .before in
     let s = l .before .before .before .before in
     let text = now (s .args .text) in
     let a = rw (n .end .given .1) at (r .read-term .ensures .1) in
-    omega (arith, a .less, skip-left text (n .end .given .0 .0) (k .skip .result) (k .skip .ensures), after-left text (k .skip .result) (c .after-sign2 .result) (c .after-sign2 .ensures))
+    omega (
+      arith,
+      a .less,
+      skip-left text (n .end .given .0 .0) (k .skip .result) (k .skip .ensures),
+      after-left text (k .skip .result) (c .after-sign2 .result) (c .after-sign2 .ensures),
+    )
 
 read-sum-loop-again : (t : ℕ) → read-sum-lts.Need-loop-again (read-sum-calls t) (read-sum-at t) read-sum.Post read-sum-Inv-loop read-sum-μ-loop
 read-sum-loop-again t c = let i = c .before in
@@ -410,7 +479,8 @@ read-sum-loop-again t c = let i = c .before in
     let a = rw (n .end .given .1) at (r .read-term .ensures .1) in
     rw (toZ-ofZ (s .fits .times), e .either .ensures, i .is-minus2 .ensures)
     (due-next
-    (s .args .q) (s .args .depth) (now (s .args .text)) (s .args .at) (s .args .times) (now (s .args .totals)) inv (n .end .given .0 .0) (k .skip .result) h (k .skip .ensures)
+    (s .args .q) (s .args .depth) (now (s .args .text)) (s .args .at) (s .args .times) (now (s .args .totals)) inv (n .end .given .0 .0)
+    (k .skip .result) h (k .skip .ensures)
     (c .after-sign2 .result) (sym (f .before .is-sign .ensures) ∙ not-false _ (f .if1 .left)) (c .after-sign2 .ensures) (a .less) (a .room))
 
 read-term-returns : (t : ℕ) → read-term-lts.Need-returns (read-term-calls t) (read-term-at t) read-term.Post
@@ -433,7 +503,8 @@ read-term-returns-2 t c = let b = c .before .before in
     let e = b .before .before .before in
     let s = e .before .before in
     let h = rw (toZ-ofZ (s .fits .times)) at (c .read-factor .ensures .0) in (
-      term-factor (s .args .q) (s .args .depth) (s .args .times) (now (s .args .totals)) (now (s .args .text)) (s .args .at) (e .if1 .left) (sym (b .before .is-digit .ensures) ∙ not-true _ (b .if2 .taken)) h,
+      term-factor (s .args .q) (s .args .depth) (s .args .times) (now (s .args .totals)) (now (s .args .text)) (s .args .at) (e .if1 .left)
+          (sym (b .before .is-digit .ensures) ∙ not-true _ (b .if2 .taken)) h,
       c .read-factor .ensures .1,
     )
 
@@ -483,7 +554,9 @@ read-term-read-factor-requires-2 t c κs = let x = c .before in
       omega (arith, s .pre .0),
       record {
         few = s .pre .1 .few;
-        multiple = rw (toZ-ofZ {w = w64} (sfits-of (x .scaled .ok)), x .scaled .ensures, toZ-ofZ (s .fits .times)) (product-small (s .args .times) n (s .pre .1 .multiple) (numeral-most n _ _ h));
+        multiple =
+            rw (toZ-ofZ {w = w64} (sfits-of (x .scaled .ok)), x .scaled .ensures, toZ-ofZ (s .fits .times))
+            (product-small (s .args .times) n (s .pre .1 .multiple) (numeral-most n _ _ h));
         room = less-left (omega arith) (s .pre .1 .room);
       },
     )
@@ -508,7 +581,8 @@ read-term-returns-3 t c = let x = c .before .before in
     let z = toZ-ofZ {w = w64} (sfits-of (x .scaled .ok)) ∙ x .scaled .ensures ∙ ap (λ a. a *ℤ pos n) (toZ-ofZ (s .fits .times)) in (
       term-times
           (s .args .q) (s .args .depth) (s .args .times) (now (s .args .totals)) text (s .args .at) n j (k .skip .result) (e .if1 .left)
-          (sym (f .before .is-digit .ensures) ∙ not-false _ (f .if2 .left)) h (k .skip .ensures) (k₂ .skip2 .result) (sym (b .before .stands .ensures) ∙ b .if3 .taken) (k₂ .skip2 .ensures)
+          (sym (f .before .is-digit .ensures) ∙ not-false _ (f .if2 .left)) h (k .skip .ensures) (k₂ .skip2 .result)
+          (sym (b .before .stands .ensures) ∙ b .if3 .taken) (k₂ .skip2 .ensures)
           (rw z at (c .read-factor2 .ensures .0)),
       passed-from text (s .args .at) (k₂ .skip2 .result) (c .read-factor2 .result) _ (omega arith) (c .read-factor2 .ensures .1),
     )
@@ -527,7 +601,8 @@ read-term-add-at-requires t c κs = let v = c .before .before .before .before .b
     let h = rw (v .value .given .1) at (m .read-natural .ensures) in (
       omega arith,
       total-small 0 (s .pre .1 .room),
-      rw (toZ-ofZ {w = w64} (sfits-of (c .scaled2 .ok)), c .scaled2 .ensures, toZ-ofZ (s .fits .times)) (product-small (s .args .times) n (s .pre .1 .multiple) (numeral-most n _ _ h)),
+      rw (toZ-ofZ {w = w64} (sfits-of (c .scaled2 .ok)), c .scaled2 .ensures, toZ-ofZ (s .fits .times))
+          (product-small (s .args .times) n (s .pre .1 .multiple) (numeral-most n _ _ h)),
     )
 
 read-term-returns-4 : (t : ℕ) → read-term-lts.Need-returns-4 (read-term-calls t) (read-term-at t) read-term.Post
@@ -536,7 +611,8 @@ read-term-returns-4 t c = let m = c .before .before in
     let e = f .before .before .before in
     let s = e .before .before in
     let h = rw (c .enum-told .given .1) at (m .read-natural .ensures) in (
-      term-malformed (s .args .q) (s .args .depth) (s .args .times) (now (s .args .totals)) (now (s .args .text)) (s .args .at) (e .if1 .left) (sym (f .before .is-digit .ensures) ∙ not-false _ (f .if2 .left)) h,
+      term-malformed (s .args .q) (s .args .depth) (s .args .times) (now (s .args .totals)) (now (s .args .text)) (s .args .at) (e .if1 .left)
+          (sym (f .before .is-digit .ensures) ∙ not-false _ (f .if2 .left)) h,
       tt,
     )
 
@@ -561,7 +637,8 @@ read-term-returns-5 t c = let x = c .before in
       record {
         less = numeral-left text (s .args .at) j n h;
         room = rw (c .add-at .ensures, z)
-            (add-room 0 (s .args .times *ℤ pos n) (now (s .args .totals)) (product-small (s .args .times) n (s .pre .1 .multiple) (numeral-most n _ _ h)) (numeral-left text (s .args .at) j n h) (s .pre .1 .room));
+            (add-room 0 (s .args .times *ℤ pos n) (now (s .args .totals)) (product-small (s .args .times) n (s .pre .1 .multiple) (numeral-most n _ _ h))
+            (numeral-left text (s .args .at) j n h) (s .pre .1 .room));
       },
     )
 

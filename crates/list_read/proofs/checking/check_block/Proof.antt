@@ -26,17 +26,20 @@ cast-if2 c = search needs
 
 returns-2 : tie.Need-returns-2
 returns-2 c =
-    bad-number _ _ _ (sym (c .before .before .before .wrapping-sum .ensures) ∙ c .before .before .if1 .left) (λ e. c .if2 .taken (c .before .word-at .ensures ∙ e))
+    bad-number _ _ _ (sym (c .before .before .before .wrapping-sum .ensures) ∙ c .before .before .if1 .left)
+    (λ e. c .if2 .taken (c .before .word-at .ensures ∙ e))
 
 returns-3 : tie.Need-returns-3
 returns-3 c =
     let n = c .before .before in
-    bad-range _ _ _ (sym (n .before .before .wrapping-sum .ensures) ∙ n .before .if1 .left) (sym (n .word-at .ensures) ∙ c .before .if2 .left) (not-true _ (c .if3 .taken))
+    bad-range _ _ _ (sym (n .before .before .wrapping-sum .ensures) ∙ n .before .if1 .left) (sym (n .word-at .ensures) ∙ c .before .if2 .left)
+    (not-true _ (c .if3 .taken))
 
 returns-4 : tie.Need-returns-4
 returns-4 c =
     let n = c .before .before in
-    block-passed _ _ _ (sym (n .before .before .wrapping-sum .ensures) ∙ n .before .if1 .left) (sym (n .word-at .ensures) ∙ c .before .if2 .left) (not-false _ (c .if3 .left))
+    block-passed _ _ _ (sym (n .before .before .wrapping-sum .ensures) ∙ n .before .if1 .left) (sym (n .word-at .ensures) ∙ c .before .if2 .left)
+    (not-false _ (c .if3 .left))
 
 pub check-block-spec : {M : Type 1} → statement M
 check-block-spec =

@@ -37,7 +37,8 @@ returns : tie.Need-returns Inv-loop μ-loop
 returns c =
     let k = c .before .before .before in
     let l = k .before .before in
-    stream-at _ _ _ _ _ (l .loop-test .taken) (l .before .loop .inv .1) (refuses (rw (k .before .block-in-range .ensures) at (k .check-block .ensures)) (c .before .why .given .1))
+    stream-at _ _ _ _ _ (l .loop-test .taken) (l .before .loop .inv .1)
+    (refuses (rw (k .before .block-in-range .ensures) at (k .check-block .ensures)) (c .before .why .given .1))
 
 enum-told : tie.Need-enum-told Inv-loop μ-loop
 enum-told c = search needs
@@ -50,8 +51,11 @@ loop-less c = omega arith
 
 loop-again : tie.Need-loop-again Inv-loop μ-loop
 loop-again c =
-    let k = c .before .before in
-    (omega arith, stream-next _ _ _ _ (k .before .before .before .loop .inv .1) (passes (rw (k .before .block-in-range .ensures) at (k .check-block .ensures)) (c .enum-told .given .1)))
+    let k = c .before .before in (
+      omega arith,
+      stream-next _ _ _ _ (k .before .before .before .loop .inv .1)
+          (passes (rw (k .before .block-in-range .ensures) at (k .check-block .ensures)) (c .enum-told .given .1)),
+    )
 
 returns-2 : tie.Need-returns-2 Inv-loop μ-loop
 returns-2 c = cc (le-antisymm (c .before .loop .inv .0) (c .loop-test .left))

@@ -20,7 +20,11 @@ cast-result-2 c = search needs
 mul-result : tie.Need-mul-result
 mul-result c =
     let s = c .before .before .before .pre in
-    omega (arith, mul-le-mul {n₁ = c .before .word-at .result} {m₁ = c .word-at2 .result} {n₂ = 4096} {m₂ = 16} (omega (arith, c .before .word-at .ensures)) (omega (arith, c .word-at2 .ensures)))
+    omega (
+      arith,
+      mul-le-mul {n₁ = c .before .word-at .result} {m₁ = c .word-at2 .result} {n₂ = 4096} {m₂ = 16} (omega (arith, c .before .word-at .ensures))
+          (omega (arith, c .word-at2 .ensures)),
+    )
 
 returns : tie.Need-returns
 returns c = rw (c .before .word-at .ensures, c .word-at2 .ensures)

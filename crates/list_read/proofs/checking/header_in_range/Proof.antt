@@ -68,7 +68,8 @@ returns-7 c =
     let r = c .before .before .before .before in
     let (p1, p2) = p-within (r .before .before .before) in
     let (q1, q2) = q-within (r .before) in
-    c .all-within .ensures ∙ all-zero 122 (λ j. wordAt (now (file .args .file)) (5 + j)) ∙ zeros-decide _ p1 p2 q1 q2 (omega (arith, r .word-at3 .ensures)) (omega (arith, c .before .before .word-at4 .ensures))
+    c .all-within .ensures ∙ all-zero 122 (λ j. wordAt (now (file .args .file)) (5 + j))
+    ∙ zeros-decide _ p1 p2 q1 q2 (omega (arith, r .word-at3 .ensures)) (omega (arith, c .before .before .word-at4 .ensures))
 
 pub header-in-range-spec : {M : Type 1} → statement M
 header-in-range-spec =

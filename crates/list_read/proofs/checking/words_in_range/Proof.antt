@@ -59,8 +59,10 @@ loop-less c = omega arith
 
 loop-again : tie.Need-loop-again Inv-loop μ-loop
 loop-again c =
-    let w = c .before .before in
-    (omega arith, all-next _ _ (w .before .before .loop .inv .1) (sym (rw (w .word-at .ensures) at (c .before .word-in-range .ensures)) ∙ not-false _ (c .if1 .left)))
+    let w = c .before .before in (
+      omega arith,
+      all-next _ _ (w .before .before .loop .inv .1) (sym (rw (w .word-at .ensures) at (c .before .word-in-range .ensures)) ∙ not-false _ (c .if1 .left)),
+    )
 
 returns-2 : tie.Need-returns-2 Inv-loop μ-loop
 unfolding blockInRange

@@ -50,7 +50,8 @@ returns c =
     let out = content .write-words .last .1 .1 .1 .1 .1 .1 .0 in
     let w = negated .wrapping-sub-u32 .result in
     let small : w < wordLimit = omega (arith, negated .wrapping-sub-u32 .ok) in
-    let last = last-place (list s) (s .pre .writable .list) b (s .pre .inside) out (sum .wrapping-sum .result) w (content .write-words .ensures) (sum .wrapping-sum .ensures) small (negated .wrapping-sub-u32 .ensures) in
+    let last = last-place (list s) (s .pre .writable .list) b (s .pre .inside) out (sum .wrapping-sum .result) w (content .write-words .ensures)
+    (sum .wrapping-sum .ensures) small (negated .wrapping-sub-u32 .ensures) in
     rw e (begun-next (list s) (128 * b + 127) w out (put .put-word .last .0) (content .write-words .ensures) (put .put-word .ensures) last)
 
 pub write-block-spec : {M : Type 1} → statement M

@@ -34,8 +34,11 @@ loop-holds : tie.Need-loop-holds Inv-loop μ-loop
 loop-holds c =
     let s = c .before .before .before .before .before .before in
     let b = s .args .b in
-    let e : 128 * b + 1 + 0 ≡ 128 * b + 1 = omega arith in
-    (omega arith, refl, rw e (begun-next (list s) (128 * b) b (now (s .args .out)) _ (s .pre .0 .begun) (c .before .before .put-word .ensures) (number-place (list s) b)))
+    let e : 128 * b + 1 + 0 ≡ 128 * b + 1 = omega arith in (
+      omega arith,
+      refl,
+      rw e (begun-next (list s) (128 * b) b (now (s .args .out)) _ (s .pre .0 .begun) (c .before .before .put-word .ensures) (number-place (list s) b)),
+    )
 
 add-w : tie.Need-add-w Inv-loop μ-loop
 add-w c = omega arith

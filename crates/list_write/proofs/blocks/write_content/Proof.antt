@@ -36,7 +36,8 @@ add-put-word : tie.Need-add-put-word Inv-loop μ-loop
 add-put-word c = let s = c .before .before .before .before .before .before in omega (arith, s .pre .inside, blocks-few (s .pre .writable .list))
 
 put-word-requires : tie.Need-put-word-requires Inv-loop μ-loop
-put-word-requires c κs = let s = c .before .before .before .before .before .before in omega (arith, s .pre .inside, s .pre .writable .exact, c .before .before .before .loop .inv .1)
+put-word-requires c κs = let s = c .before .before .before .before .before .before in
+    omega (arith, s .pre .inside, s .pre .writable .exact, c .before .before .before .loop .inv .1)
 
 add-j : tie.Need-add-j Inv-loop μ-loop
 add-j c = omega arith

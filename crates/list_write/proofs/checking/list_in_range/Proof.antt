@@ -33,7 +33,8 @@ rows-in-range-requires c κs = search needs
 returns-4 : tie.Need-returns-4
 returns-4 c =
     c .rows-in-range .ensures
-    ∙ rows-decide (list (c .before .before .before .before .before)) (c .before .before .before .if1 .left) (c .before .before .if2 .left) (c .before .if3 .left)
+    ∙ rows-decide (list (c .before .before .before .before .before)) (c .before .before .before .if1 .left)
+    (c .before .before .if2 .left) (c .before .if3 .left)
 
 pub list-in-range-spec : {M : Type 1} → statement M
 list-in-range-spec =

@@ -32,7 +32,8 @@ often-requires c κs =
     (omega (arith, row-fits (s .args .q) (l .loop .i - 1) (s .args .found) (search needs), s .pre .0), omega (arith, l .loop .inv .1, s .pre .1))
 
 mul-take-off : tie.Need-mul-take-off Inv-loop μ-loop
-mul-take-off c = let s = c .before .before .before .before .before .before .before in omega (arith, row-fits (s .args .q) (c .before .before .before .loop .i - 1) (s .args .found) (search needs))
+mul-take-off c = let s = c .before .before .before .before .before .before .before in
+    omega (arith, row-fits (s .args .q) (c .before .before .before .loop .i - 1) (s .args .found) (search needs))
 
 take-off-requires : tie.Need-take-off-requires Inv-loop μ-loop
 take-off-requires c κs =

@@ -17,21 +17,34 @@ use Rattle.pairs.proofs.search.pair.Statement.{statement}
 use Rattle.pairs.proofs.search.pair.Tie as tie
 
 -- what was read
-x-back : (c : tie.After-x) → toZ w64 (ofZ w64 (getD (now (c .before .before .before .args .values)) (c .before .before .before .args .earlier) (pos 0))) ≡ getD (now (c .before .before .before .args .values)) (c .before .before .before .args .earlier) (pos 0)
+x-back : (c : tie.After-x)
+    → toZ w64 (ofZ w64 (getD (now (c .before .before .before .args .values)) (c .before .before .before .args .earlier) (pos 0)))
+    ≡ getD (now (c .before .before .before .args .values)) (c .before .before .before .args .earlier) (pos 0)
 x-back c = toZ-ofZ (sfits-of (c .x .given))
 
-y-back : (c : tie.After-y) → toZ w64 (ofZ w64 (getD (now (c .before .before .before .before .args .values)) (c .before .before .before .before .args .later) (pos 0))) ≡ getD (now (c .before .before .before .before .args .values)) (c .before .before .before .before .args .later) (pos 0)
+y-back : (c : tie.After-y)
+    → toZ w64 (ofZ w64 (getD (now (c .before .before .before .before .args .values)) (c .before .before .before .before .args .later) (pos 0)))
+    ≡ getD (now (c .before .before .before .before .args .values)) (c .before .before .before .before .args .later) (pos 0)
 y-back c = toZ-ofZ (sfits-of (c .y .given))
 
 fits : (s : tie.Start) → SFits w64 (getD (now (s .args .values)) (s .args .earlier) (pos 0) +ℤ getD (now (s .args .values)) (s .args .later) (pos 0))
 fits s =
-    pair-fits (s .args .q) (s .args .room) (now (s .args .coefs)) (now (s .args .table)) (now (s .args .supports)) (now (s .args .values)) (s .args .done) (s .args .equation) (s .args .later) (s .args .earlier) (s .args .n) (s .args .steps)
+    pair-fits (s .args .q) (s .args .room) (now (s .args .coefs)) (now (s .args .table)) (now (s .args .supports)) (now (s .args .values)) (s .args .done)
+    (s .args .equation) (s .args .later) (s .args .earlier) (s .args .n) (s .args .steps)
     (s .pre .0) (s .pre .1)
 
-tested : (c : tie.After-opposed) → c .opposed .result ≡ method.opposes (getD (now (c .before .before .before .before .before .args .values)) (c .before .before .before .before .before .args .earlier) (pos 0)) (getD (now (c .before .before .before .before .before .args .values)) (c .before .before .before .before .before .args .later) (pos 0))
+tested : (c : tie.After-opposed)
+    → c .opposed .result ≡ method.opposes
+    (getD (now (c .before .before .before .before .before .args .values)) (c .before .before .before .before .before .args .earlier) (pos 0))
+    (getD (now (c .before .before .before .before .before .args .values)) (c .before .before .before .before .before .args .later) (pos 0))
 tested c = rw (x-back (c .before .before), y-back (c .before)) at (c .opposed .ensures)
 
-sum-back : (c : tie.After-both) → toZ w64 (ofZ w64 (c .both .result)) ≡ getD (now (c .before .before .before .before .before .before .before .args .values)) (c .before .before .before .before .before .before .before .args .earlier) (pos 0) +ℤ getD (now (c .before .before .before .before .before .before .before .args .values)) (c .before .before .before .before .before .before .before .args .later) (pos 0)
+sum-back : (c : tie.After-both)
+    → toZ w64 (ofZ w64 (c .both .result))
+    ≡ getD (now (c .before .before .before .before .before .before .before .args .values))
+    (c .before .before .before .before .before .before .before .args .earlier) (pos 0)
+    +ℤ getD (now (c .before .before .before .before .before .before .before .args .values))
+    (c .before .before .before .before .before .before .before .args .later) (pos 0)
 sum-back c =
     let o = c .before .before in
     let e = rw (x-back (o .before .before), y-back (o .before)) at (c .both .ensures) in
@@ -87,8 +100,12 @@ mul-add-2 c =
 
 add-requires : tie.Need-add-requires
 add-requires c κs =
-    let s = c .before .before .before .before .before .before .before .before .before in
-    (s .pre .0 .equation .unknowns, pair-rows _ _ _ _ _ _ _ _ _ _ _ _ (s .pre .0) (s .pre .1) .0, pair-rows _ _ _ _ _ _ _ _ _ _ _ _ (s .pre .0) (s .pre .1) .1, search needs)
+    let s = c .before .before .before .before .before .before .before .before .before in (
+      s .pre .0 .equation .unknowns,
+      pair-rows _ _ _ _ _ _ _ _ _ _ _ _ (s .pre .0) (s .pre .1) .0,
+      pair-rows _ _ _ _ _ _ _ _ _ _ _ _ (s .pre .0) (s .pre .1) .1,
+      search needs,
+    )
 
 support-requires : tie.Need-support-requires
 support-requires c κs = c .before .before .before .before .before .before .before .before .before .before .before .pre .0 .equation .unknowns
@@ -113,7 +130,8 @@ reducible-requires c κs =
 
 next-requires-2 : tie.Need-next-requires-2
 next-requires-2 c κs =
-    let s = c .before .before .before .before .before .before .before .before .before .before .before .before .before .before .before .before .before .before .before .before in
+    let s = c .before .before .before .before .before .before .before .before .before .before .before .before .before .before .before .before .before
+    .before .before .before in
     (s .pre .0 .place, omega (arith, s .pre .1), pair-room _ _ _ _ _ _ _ _ _ _ _ _ (s .pre .0) (s .pre .1) .2, s .pre .0 .early)
 
 same-length : tie.Need-same-length
@@ -134,10 +152,14 @@ returns-2 c =
     let s = o .before .before .before .before .before in
     let f : SFits w64 (toZ w64 (ofZ w64 (b .both .result))) = rw (sum-back b) (fits s) in
     let opposite = sym (tested o) ∙ not-false _ (b .before .if1 .left) in
-    rw (c .next2 .ensures) (left-reduced _ _ _ _ _ _ _ _ _ _ _ _ (s .pre .0) (s .pre .1) _ (u .before .before .add .ensures .0) _ (sum-back b) opposite (rw (low-back f (r .before .before .least .ensures), high-back f (r .before .most .ensures)) at (sym (r .reducible .ensures) ∙ c .before .if2 .taken)))
+    rw (c .next2 .ensures)
+    (left-reduced _ _ _ _ _ _ _ _ _ _ _ _ (s .pre .0) (s .pre .1) _ (u .before .before .add .ensures .0) _ (sum-back b) opposite
+    (rw (low-back f (r .before .before .least .ensures), high-back f (r .before .most .ensures)) at (sym (r .reducible .ensures) ∙ c .before .if2 .taken)))
 
 small-requires : tie.Need-small-requires
-small-requires c κs = c .before .before .before .before .before .before .before .before .before .before .before .before .before .before .before .before .before .before .before .before .before .pre .0 .equation .unknowns
+small-requires c κs =
+    c .before .before .before .before .before .before .before .before .before .before .before .before .before .before .before .before .before .before .before
+    .before .before .pre .0 .equation .unknowns
 
 same-length-4 : tie.Need-same-length-4
 same-length-4 c = search needs
@@ -157,7 +179,9 @@ returns-3 c =
     let s = o .before .before .before .before .before in
     let f : SFits w64 (toZ w64 (ofZ w64 (b .both .result))) = rw (sum-back b) (fits s) in
     let opposite = sym (tested o) ∙ not-false _ (b .before .if1 .left) in
-    left-large _ _ _ _ _ _ _ _ _ _ _ _ (s .pre .0) (s .pre .1) _ (u .before .before .add .ensures .0) _ (sum-back b) opposite (rw (low-back f (r .before .before .least .ensures), high-back f (r .before .most .ensures)) at (sym (r .reducible .ensures) ∙ c .before .before .before .if2 .left)) (sym (c .before .small .ensures) ∙ not-true _ (c .if3 .taken))
+    left-large _ _ _ _ _ _ _ _ _ _ _ _ (s .pre .0) (s .pre .1) _ (u .before .before .add .ensures .0) _ (sum-back b) opposite
+    (rw (low-back f (r .before .before .least .ensures), high-back f (r .before .most .ensures))
+    at (sym (r .reducible .ensures) ∙ c .before .before .before .if2 .left)) (sym (c .before .small .ensures) ∙ not-true _ (c .if3 .taken))
 
 same-length-7 : tie.Need-same-length-7
 same-length-7 c = search needs
@@ -177,47 +201,62 @@ returns-4 c =
     let s = o .before .before .before .before .before in
     let f : SFits w64 (toZ w64 (ofZ w64 (b .both .result))) = rw (sum-back b) (fits s) in
     let opposite = sym (tested o) ∙ not-false _ (b .before .if1 .left) in
-    left-full _ _ _ _ _ _ _ _ _ _ _ _ (s .pre .0) (s .pre .1) _ (u .before .before .add .ensures .0) _ (sum-back b) opposite (rw (low-back f (r .before .before .least .ensures), high-back f (r .before .most .ensures)) at (sym (r .reducible .ensures) ∙ c .before .before .before .before .if2 .left)) (sym (c .before .before .small .ensures) ∙ not-false _ (c .before .if3 .left)) (c .if4 .taken)
+    left-full _ _ _ _ _ _ _ _ _ _ _ _ (s .pre .0) (s .pre .1) _ (u .before .before .add .ensures .0) _ (sum-back b) opposite
+    (rw (low-back f (r .before .before .least .ensures), high-back f (r .before .most .ensures))
+    at (sym (r .reducible .ensures) ∙ c .before .before .before .before .if2 .left))
+    (sym (c .before .before .small .ensures) ∙ not-false _ (c .before .if3 .left)) (c .if4 .taken)
 
 mul-write : tie.Need-mul-write
 mul-write c =
-    let s = c .before .before .before .before .before .before .before .before .before .before .before .before .before .before .before .before .before .before .before .before .before .before .before .before .before in
+    let s = c .before .before .before .before .before .before .before .before .before .before .before .before .before .before .before .before .before .before
+    .before .before .before .before .before .before .before in
     omega (arith, s .pre .0 .roomy .fits, row-fits (s .args .q) (s .args .n) (s .args .room) (c .before .if4 .left))
 
 write-requires : tie.Need-write-requires
 write-requires c κs =
-    let s = c .before .before .before .before .before .before .before .before .before .before .before .before .before .before .before .before .before .before .before .before .before .before .before .before .before .before in
+    let s = c .before .before .before .before .before .before .before .before .before .before .before .before .before .before .before .before .before .before
+    .before .before .before .before .before .before .before .before in
     (s .pre .0 .equation .unknowns, omega (arith, s .pre .0 .roomy .fits, row-fits (s .args .q) (s .args .n) (s .args .room) (c .before .before .if4 .left)))
 
 mul-supports : tie.Need-mul-supports
 mul-supports c =
-    let s = c .before .before .before .before .before .before .before .before .before .before .before .before .before .before .before .before .before .before .before .before .before .before .before .before .before .before .before .before .before in
+    let s = c .before .before .before .before .before .before .before .before .before .before .before .before .before .before .before .before .before .before
+    .before .before .before .before .before .before .before .before .before .before .before in
     omega (arith, s .pre .0 .roomy .marked, c .before .before .before .before .before .if4 .left)
 
 slice-write-supports : tie.Need-slice-write-supports
 slice-write-supports c =
-    let s = c .before .before .before .before .before .before .before .before .before .before .before .before .before .before .before .before .before .before .before .before .before .before .before .before .before .before .before .before .before in
+    let s = c .before .before .before .before .before .before .before .before .before .before .before .before .before .before .before .before .before .before
+    .before .before .before .before .before .before .before .before .before .before .before in
     omega (arith, s .pre .0 .roomy .marked, c .before .before .before .before .before .if4 .left)
 
 mul-sum : tie.Need-mul-sum
 mul-sum c =
-    let s = c .before .before .before .before .before .before .before .before .before .before .before .before .before .before .before .before .before .before .before .before .before .before .before .before .before .before .before .before .before in
+    let s = c .before .before .before .before .before .before .before .before .before .before .before .before .before .before .before .before .before .before
+    .before .before .before .before .before .before .before .before .before .before .before in
     omega (arith, s .pre .0 .roomy .numbered, c .before .before .before .before .before .if4 .left)
 
 slice-set-from-sum : tie.Need-slice-set-from-sum
 slice-set-from-sum c =
-    let s = c .before .before .before .before .before .before .before .before .before .before .before .before .before .before .before .before .before .before .before .before .before .before .before .before .before .before .before .before .before in
+    let s = c .before .before .before .before .before .before .before .before .before .before .before .before .before .before .before .before .before .before
+    .before .before .before .before .before .before .before .before .before .before .before in
     omega (arith, s .pre .0 .roomy .numbered, c .before .before .before .before .before .if4 .left)
 
 add-next : tie.Need-add-next
 add-next c =
-    let s = c .before .before .before .before .before .before .before .before .before .before .before .before .before .before .before .before .before .before .before .before .before .before .before .before .before .before .before .before .before in
+    let s = c .before .before .before .before .before .before .before .before .before .before .before .before .before .before .before .before .before .before
+    .before .before .before .before .before .before .before .before .before .before .before in
     omega (arith, s .pre .0 .roomy .capped, c .before .before .before .before .before .if4 .left)
 
 next-requires-3 : tie.Need-next-requires-3
 next-requires-3 c κs =
-    let s = c .before .before .before .before .before .before .before .before .before .before .before .before .before .before .before .before .before .before .before .before .before .before .before .before .before .before .before .before .before in
-    (s .pre .0 .place, omega (arith, s .pre .1), omega (arith, s .pre .0 .roomy .capped, c .before .before .before .before .before .if4 .left), s .pre .0 .early)
+    let s = c .before .before .before .before .before .before .before .before .before .before .before .before .before .before .before .before .before .before
+    .before .before .before .before .before .before .before .before .before .before .before in (
+      s .pre .0 .place,
+      omega (arith, s .pre .1),
+      omega (arith, s .pre .0 .roomy .capped, c .before .before .before .before .before .if4 .left),
+      s .pre .0 .early,
+    )
 
 same-length-10 : tie.Need-same-length-10
 same-length-10 c = search needs
@@ -238,7 +277,12 @@ returns-5 c =
     let f : SFits w64 (toZ w64 (ofZ w64 (b .both .result))) = rw (sum-back b) (fits s) in
     let opposite = sym (tested o) ∙ not-false _ (b .before .if1 .left) in
     rw (c .next3 .ensures)
-    (left-more _ _ _ _ _ _ _ _ _ _ _ _ (s .pre .0) (s .pre .1) _ (u .before .before .add .ensures .0) _ (sum-back b) opposite (rw (low-back f (r .before .before .least .ensures), high-back f (r .before .most .ensures)) at (sym (r .reducible .ensures) ∙ c .before .before .before .before .before .before .before .before .before .before .if2 .left)) (sym (c .before .before .before .before .before .before .before .before .small .ensures) ∙ not-false _ (c .before .before .before .before .before .before .before .if3 .left)) (c .before .before .before .before .before .before .if4 .left) _ refl _ (u .support .ensures) _ (c .before .before .before .write .ensures))
+    (left-more _ _ _ _ _ _ _ _ _ _ _ _ (s .pre .0) (s .pre .1) _ (u .before .before .add .ensures .0) _ (sum-back b) opposite
+    (rw (low-back f (r .before .before .least .ensures), high-back f (r .before .most .ensures))
+    at (sym (r .reducible .ensures) ∙ c .before .before .before .before .before .before .before .before .before .before .if2 .left))
+    (sym (c .before .before .before .before .before .before .before .before .small .ensures)
+    ∙ not-false _ (c .before .before .before .before .before .before .before .if3 .left))
+    (c .before .before .before .before .before .before .if4 .left) _ refl _ (u .support .ensures) _ (c .before .before .before .write .ensures))
 
 pub pair-spec : {M : Type 1} → statement M
 pair-spec =

@@ -13,7 +13,8 @@ use Rattle.pairs.proofs.search.run.Tie as tie
 
 abbrev Inv-loop : tie.InvT-loop
 Inv-loop p q room coefs table₀ supports₀ values₀ done equation later earlier n steps budget d₀ e₀ l₀ k₀ m₀ s₀ left₀ table supports values d e l k m s left =
-    Going p q room coefs (method.run p q (equations q coefs) room budget (workOf table₀ (progressOf done equation later earlier n steps))) table supports values (progressOf d e l k m s) left
+    Going p q room coefs (method.run p q (equations q coefs) room budget (workOf table₀ (progressOf done equation later earlier n steps))) table supports values
+    (progressOf d e l k m s) left
     × (length table ≡ length table₀)
     × (length supports ≡ length supports₀)
     × (length values ≡ length values₀)
@@ -58,7 +59,10 @@ loop-again : tie.Need-loop-again Inv-loop μ-loop
 loop-again c =
     let a = c .before .before .before .before .before .before .before .before .before .before .before .before .before .before in
     let u = c .before .before .before .before .before .before .before .before in
-    let on = goes-on (a .loop .inv .0) (c .before .before .before .before .before .before .before .before .before .before .before .before .before .loop-test .taken) (positive (c .before .before .before .before .before .before .before .before .before .before .before .before .if1 .left)) (u .turn .ensures) (c .before .next .given .1) in
+    let on = goes-on (a .loop .inv .0)
+    (c .before .before .before .before .before .before .before .before .before .before .before .before .before .loop-test .taken)
+    (positive (c .before .before .before .before .before .before .before .before .before .before .before .before .if1 .left)) (u .turn .ensures)
+    (c .before .next .given .1) in
     (on, u .turn .ensures .long ∙ a .loop .inv .1, u .turn .ensures .wide ∙ a .loop .inv .2, u .turn .ensures .deep ∙ a .loop .inv .3)
 
 enum-told : tie.Need-enum-told Inv-loop μ-loop
@@ -79,7 +83,10 @@ same-length-6 c = search needs
 returns-2 : tie.Need-returns-2 Inv-loop μ-loop
 returns-2 c =
     let a = c .before .before .before .before .before .before .before .before .before .before .before .before .before .before in
-    rw (c .ended2 .ensures) (ends-late (a .loop .inv .0) (c .before .before .before .before .before .before .before .before .before .before .before .before .before .loop-test .taken) (positive (c .before .before .before .before .before .before .before .before .before .before .before .before .if1 .left)) (c .before .before .before .before .before .before .before .before .turn .ensures) (c .before .enum-told .given .1))
+    rw (c .ended2 .ensures)
+    (ends-late (a .loop .inv .0) (c .before .before .before .before .before .before .before .before .before .before .before .before .before .loop-test .taken)
+    (positive (c .before .before .before .before .before .before .before .before .before .before .before .before .if1 .left))
+    (c .before .before .before .before .before .before .before .before .turn .ensures) (c .before .enum-told .given .1))
 
 enum-told-2 : tie.Need-enum-told-2 Inv-loop μ-loop
 enum-told-2 c = search needs
@@ -99,7 +106,10 @@ same-length-9 c = search needs
 returns-3 : tie.Need-returns-3 Inv-loop μ-loop
 returns-3 c =
     let a = c .before .before .before .before .before .before .before .before .before .before .before .before .before .before in
-    rw (c .ended3 .ensures) (ends-large (a .loop .inv .0) (c .before .before .before .before .before .before .before .before .before .before .before .before .before .loop-test .taken) (positive (c .before .before .before .before .before .before .before .before .before .before .before .before .if1 .left)) (c .before .before .before .before .before .before .before .before .turn .ensures) (c .before .enum-told2 .given .1))
+    rw (c .ended3 .ensures)
+    (ends-large (a .loop .inv .0) (c .before .before .before .before .before .before .before .before .before .before .before .before .before .loop-test .taken)
+    (positive (c .before .before .before .before .before .before .before .before .before .before .before .before .if1 .left))
+    (c .before .before .before .before .before .before .before .before .turn .ensures) (c .before .enum-told2 .given .1))
 
 enum-told-3 : tie.Need-enum-told-3 Inv-loop μ-loop
 enum-told-3 c = search needs
@@ -119,7 +129,10 @@ same-length-12 c = search needs
 returns-4 : tie.Need-returns-4 Inv-loop μ-loop
 returns-4 c =
     let a = c .before .before .before .before .before .before .before .before .before .before .before .before .before .before in
-    rw (c .ended4 .ensures) (ends-full (a .loop .inv .0) (c .before .before .before .before .before .before .before .before .before .before .before .before .before .loop-test .taken) (positive (c .before .before .before .before .before .before .before .before .before .before .before .before .if1 .left)) (c .before .before .before .before .before .before .before .before .turn .ensures) (c .before .enum-told3 .given .1))
+    rw (c .ended4 .ensures)
+    (ends-full (a .loop .inv .0) (c .before .before .before .before .before .before .before .before .before .before .before .before .before .loop-test .taken)
+    (positive (c .before .before .before .before .before .before .before .before .before .before .before .before .if1 .left))
+    (c .before .before .before .before .before .before .before .before .turn .ensures) (c .before .enum-told3 .given .1))
 
 ended-requires-5 : tie.Need-ended-requires-5 Inv-loop μ-loop
 ended-requires-5 c κs = search needs

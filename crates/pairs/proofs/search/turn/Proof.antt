@@ -30,7 +30,8 @@ same-length-3 c = search needs
 returns-2 : tie.Need-returns-2
 returns-2 c =
     let s = c .before .before .before .before .before .before .before .before .before .before .before .before .before in
-    turn-pair _ _ _ _ _ _ _ _ _ _ _ _ _ (s .pre .0) (s .pre .1) (c .before .before .before .before .before .before .before .before .before .before .if1 .left) (c .before .before .before .before .before .before .before .before .before .if2 .taken) (c .before .before .before .before .before .pair .ensures)
+    turn-pair _ _ _ _ _ _ _ _ _ _ _ _ _ (s .pre .0) (s .pre .1) (c .before .before .before .before .before .before .before .before .before .before .if1 .left)
+    (c .before .before .before .before .before .before .before .before .before .if2 .taken) (c .before .before .before .before .before .pair .ensures)
 
 keep-zeros-requires : tie.Need-keep-zeros-requires
 keep-zeros-requires c κs =
@@ -55,12 +56,31 @@ shl-marked c =
 add-marked : tie.Need-add-marked
 add-marked c =
     let s = c .before .before .before .before .before .before .before .before .before .before .before .before .before in
-    omega (arith, marked-fits _ _ _ _ _ _ _ _ _ _ _ _ _ (s .pre .0) (s .pre .1) (c .before .before .before .before .before .before .before .before .before .before .if1 .left) (c .before .before .before .before .before .before .before .before .before .if2 .left) (c .before .before .before .before .before .before .keep-zeros .ensures) (c .before .before .sweep .ensures))
+    omega (
+      arith,
+      marked-fits _ _ _ _ _ _ _ _ _ _ _ _ _ (s .pre .0) (s .pre .1)
+          (c .before .before .before .before .before .before .before .before .before .before .if1 .left)
+          (c .before .before .before .before .before .before .before .before .before .if2 .left)
+          (c .before .before .before .before .before .before .keep-zeros .ensures) (c .before .before .sweep .ensures),
+    )
 
 choose-requires : tie.Need-choose-requires
 choose-requires c κs =
-    let s = c .before .before .before .before .before .before .before .before .before .before .before .before .before .before in
-    (s .pre .0 .map, left-small _ _ _ _ _ _ _ _ _ _ _ _ _ (s .pre .0) (s .pre .1) (c .before .before .before .before .before .before .before .before .before .before .before .if1 .left) (c .before .before .before .before .before .before .before .before .before .before .if2 .left) (c .before .before .before .before .before .before .before .keep-zeros .ensures) (c .before .before .before .sweep .ensures), omega (arith, left-few _ _ _ _ _ _ _ _ _ _ _ _ _ (s .pre .0) (s .pre .1) (c .before .before .before .before .before .before .before .before .before .before .before .if1 .left) (c .before .before .before .before .before .before .before .before .before .before .if2 .left) (c .before .before .before .before .before .before .before .keep-zeros .ensures) (c .before .before .before .sweep .ensures), s .pre .0 .roomy .capped))
+    let s = c .before .before .before .before .before .before .before .before .before .before .before .before .before .before in (
+      s .pre .0 .map,
+      left-small _ _ _ _ _ _ _ _ _ _ _ _ _ (s .pre .0) (s .pre .1)
+          (c .before .before .before .before .before .before .before .before .before .before .before .if1 .left)
+          (c .before .before .before .before .before .before .before .before .before .before .if2 .left)
+          (c .before .before .before .before .before .before .before .keep-zeros .ensures) (c .before .before .before .sweep .ensures),
+      omega (
+        arith,
+        left-few _ _ _ _ _ _ _ _ _ _ _ _ _ (s .pre .0) (s .pre .1)
+            (c .before .before .before .before .before .before .before .before .before .before .before .if1 .left)
+            (c .before .before .before .before .before .before .before .before .before .before .if2 .left)
+            (c .before .before .before .before .before .before .before .keep-zeros .ensures) (c .before .before .before .sweep .ensures),
+        s .pre .0 .roomy .capped,
+      ),
+    )
 
 add-t35 : tie.Need-add-t35
 add-t35 c =
@@ -76,7 +96,12 @@ same-length-5 c = search needs
 returns-3 : tie.Need-returns-3
 returns-3 c =
     let s = c .before .before .before .before .before .before .before .before .before .before .before .before .before .before .before .before in
-    turn-end _ _ _ _ _ _ _ _ _ _ _ _ _ (s .pre .0) (s .pre .1) (c .before .before .before .before .before .before .before .before .before .before .before .before .before .if1 .left) (c .before .before .before .before .before .before .before .before .before .before .before .before .if2 .left) (c .before .before .before .before .before .before .before .before .before .keep-zeros .ensures) (c .before .before .before .before .before .sweep .ensures) _ refl _ (c .before .choose .ensures) _ _ refl refl (λ l. absurd (omega (arith, c .if3 .taken))) (λ l. absurd (omega (arith, c .if3 .taken)))
+    turn-end _ _ _ _ _ _ _ _ _ _ _ _ _ (s .pre .0) (s .pre .1)
+    (c .before .before .before .before .before .before .before .before .before .before .before .before .before .if1 .left)
+    (c .before .before .before .before .before .before .before .before .before .before .before .before .if2 .left)
+    (c .before .before .before .before .before .before .before .before .before .keep-zeros .ensures)
+    (c .before .before .before .before .before .sweep .ensures) _ refl _ (c .before .choose .ensures) _ _ refl refl (λ l. absurd (omega (arith, c .if3 .taken)))
+    (λ l. absurd (omega (arith, c .if3 .taken)))
 
 mul-write-values : tie.Need-mul-write-values
 mul-write-values c =
@@ -85,17 +110,54 @@ mul-write-values c =
 
 write-values-requires : tie.Need-write-values-requires
 write-values-requires c κs =
-    let s = c .before .before .before .before .before .before .before .before .before .before .before .before .before .before .before .before .before .before in
-    (map-equation (s .pre .0 .map) _ (c .before .before .if3 .left), left-small _ _ _ _ _ _ _ _ _ _ _ _ _ (s .pre .0) (s .pre .1) (c .before .before .before .before .before .before .before .before .before .before .before .before .before .before .before .if1 .left) (c .before .before .before .before .before .before .before .before .before .before .before .before .before .before .if2 .left) (c .before .before .before .before .before .before .before .before .before .before .before .keep-zeros .ensures) (c .before .before .before .before .before .before .before .sweep .ensures), omega (arith, left-few _ _ _ _ _ _ _ _ _ _ _ _ _ (s .pre .0) (s .pre .1) (c .before .before .before .before .before .before .before .before .before .before .before .before .before .before .before .if1 .left) (c .before .before .before .before .before .before .before .before .before .before .before .before .before .before .if2 .left) (c .before .before .before .before .before .before .before .before .before .before .before .keep-zeros .ensures) (c .before .before .before .before .before .before .before .sweep .ensures), s .pre .0 .roomy .numbered))
+    let s = c .before .before .before .before .before .before .before .before .before .before .before .before .before .before .before
+    .before .before .before in (
+      map-equation (s .pre .0 .map) _ (c .before .before .if3 .left),
+      left-small _ _ _ _ _ _ _ _ _ _ _ _ _ (s .pre .0) (s .pre .1)
+          (c .before .before .before .before .before .before .before .before .before .before .before .before .before .before .before .if1 .left)
+          (c .before .before .before .before .before .before .before .before .before .before .before .before .before .before .if2 .left)
+          (c .before .before .before .before .before .before .before .before .before .before .before .keep-zeros .ensures)
+          (c .before .before .before .before .before .before .before .sweep .ensures),
+      omega (
+        arith,
+        left-few _ _ _ _ _ _ _ _ _ _ _ _ _ (s .pre .0) (s .pre .1)
+            (c .before .before .before .before .before .before .before .before .before .before .before .before .before .before .before .if1 .left)
+            (c .before .before .before .before .before .before .before .before .before .before .before .before .before .before .if2 .left)
+            (c .before .before .before .before .before .before .before .before .before .before .before .keep-zeros .ensures)
+            (c .before .before .before .before .before .before .before .sweep .ensures),
+        s .pre .0 .roomy .numbered,
+      ),
+    )
 
 write-supports-requires : tie.Need-write-supports-requires
 write-supports-requires c κs =
-    let s = c .before .before .before .before .before .before .before .before .before .before .before .before .before .before .before .before .before .before .before .before .before .before in
-    (s .pre .0 .map .unknowns, left-small _ _ _ _ _ _ _ _ _ _ _ _ _ (s .pre .0) (s .pre .1) (c .before .before .before .before .before .before .before .before .before .before .before .before .before .before .before .before .before .before .before .if1 .left) (c .before .before .before .before .before .before .before .before .before .before .before .before .before .before .before .before .before .before .if2 .left) (c .before .before .before .before .before .before .before .before .before .before .before .before .before .before .before .keep-zeros .ensures) (c .before .before .before .before .before .before .before .before .before .before .before .sweep .ensures) .whole, omega (arith, left-few _ _ _ _ _ _ _ _ _ _ _ _ _ (s .pre .0) (s .pre .1) (c .before .before .before .before .before .before .before .before .before .before .before .before .before .before .before .before .before .before .before .if1 .left) (c .before .before .before .before .before .before .before .before .before .before .before .before .before .before .before .before .before .before .if2 .left) (c .before .before .before .before .before .before .before .before .before .before .before .before .before .before .before .keep-zeros .ensures) (c .before .before .before .before .before .before .before .before .before .before .before .sweep .ensures), s .pre .0 .roomy .marked))
+    let s = c .before .before .before .before .before .before .before .before .before .before .before .before .before .before .before .before .before .before
+    .before .before .before .before in (
+      s .pre .0 .map .unknowns,
+      left-small _ _ _ _ _ _ _ _ _ _ _ _ _ (s .pre .0) (s .pre .1)
+          (c .before .before .before .before .before .before .before .before .before .before .before .before .before .before .before .before .before .before
+          .before .if1 .left)
+          (c .before .before .before .before .before .before .before .before .before .before .before .before .before .before .before .before .before .before
+          .if2 .left)
+          (c .before .before .before .before .before .before .before .before .before .before .before .before .before .before .before .keep-zeros .ensures)
+          (c .before .before .before .before .before .before .before .before .before .before .before .sweep .ensures) .whole,
+      omega (
+        arith,
+        left-few _ _ _ _ _ _ _ _ _ _ _ _ _ (s .pre .0) (s .pre .1)
+            (c .before .before .before .before .before .before .before .before .before .before .before .before .before .before .before .before .before .before
+            .before .if1 .left)
+            (c .before .before .before .before .before .before .before .before .before .before .before .before .before .before .before .before .before .before
+            .if2 .left)
+            (c .before .before .before .before .before .before .before .before .before .before .before .before .before .before .before .keep-zeros .ensures)
+            (c .before .before .before .before .before .before .before .before .before .before .before .sweep .ensures),
+        s .pre .0 .roomy .marked,
+      ),
+    )
 
 add-t47 : tie.Need-add-t47
 add-t47 c =
-    let s = c .before .before .before .before .before .before .before .before .before .before .before .before .before .before .before .before .before .before .before .before .before .before .before .before .before in
+    let s = c .before .before .before .before .before .before .before .before .before .before .before .before .before .before .before .before .before .before
+    .before .before .before .before .before .before .before in
     omega (arith, s .pre .0 .early)
 
 same-length-6 : tie.Need-same-length-6
@@ -109,8 +171,19 @@ same-length-8 c = search needs
 
 returns-4 : tie.Need-returns-4
 returns-4 c =
-    let s = c .before .before .before .before .before .before .before .before .before .before .before .before .before .before .before .before .before .before .before .before .before .before .before .before .before in
-    turn-end _ _ _ _ _ _ _ _ _ _ _ _ _ (s .pre .0) (s .pre .1) (c .before .before .before .before .before .before .before .before .before .before .before .before .before .before .before .before .before .before .before .before .before .before .if1 .left) (c .before .before .before .before .before .before .before .before .before .before .before .before .before .before .before .before .before .before .before .before .before .if2 .left) (c .before .before .before .before .before .before .before .before .before .before .before .before .before .before .before .before .before .before .keep-zeros .ensures) (c .before .before .before .before .before .before .before .before .before .before .before .before .before .before .sweep .ensures) _ refl _ (c .before .before .before .before .before .before .before .before .before .before .choose .ensures) _ _ (c .before .before .write-supports .ensures .1) (c .before .before .before .before .before .before .write-values .ensures .1) (λ l. c .before .before .write-supports .ensures .0) (λ l. c .before .before .before .before .before .before .write-values .ensures .0)
+    let s = c .before .before .before .before .before .before .before .before .before .before .before .before .before .before .before .before .before .before
+    .before .before .before .before .before .before .before in
+    turn-end _ _ _ _ _ _ _ _ _ _ _ _ _ (s .pre .0) (s .pre .1)
+    (c .before .before .before .before .before .before .before .before .before .before .before .before .before .before .before .before .before .before .before
+    .before .before .before .if1 .left)
+    (c .before .before .before .before .before .before .before .before .before .before .before .before .before .before .before .before .before .before .before
+    .before .before .if2 .left)
+    (c .before .before .before .before .before .before .before .before .before .before .before .before .before .before .before .before .before .before
+    .keep-zeros .ensures)
+    (c .before .before .before .before .before .before .before .before .before .before .before .before .before .before .sweep .ensures) _ refl _
+    (c .before .before .before .before .before .before .before .before .before .before .choose .ensures) _ _ (c .before .before .write-supports .ensures .1)
+    (c .before .before .before .before .before .before .write-values .ensures .1) (λ l. c .before .before .write-supports .ensures .0)
+    (λ l. c .before .before .before .before .before .before .write-values .ensures .0)
 
 pub turn-spec : {M : Type 1} → statement M
 turn-spec =

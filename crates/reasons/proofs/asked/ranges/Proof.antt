@@ -27,13 +27,15 @@ returns-2 : tie.Need-returns-2
 returns-2 c =
     let b = c .before in
     let s = b .before .before .before .before .before .args in
-    one-large (now (s .coefs)) (now (s .t)) (b .before .before .before .check .ensures) (b .before .enum-told .given .1) (sym (b .above-limit .ensures) ∙ c .if1 .taken)
+    one-large (now (s .coefs)) (now (s .t)) (b .before .before .before .check .ensures) (b .before .enum-told .given .1)
+    (sym (b .above-limit .ensures) ∙ c .if1 .taken)
 
 returns-3 : tie.Need-returns-3
 returns-3 c =
     let b = c .before in
     let s = b .before .before .before .before .before .args in
-    all-small (now (s .coefs)) (now (s .t)) (b .before .before .before .check .ensures) (b .before .enum-told .given .1) (sym (b .above-limit .ensures) ∙ c .if1 .left)
+    all-small (now (s .coefs)) (now (s .t)) (b .before .before .before .check .ensures) (b .before .enum-told .given .1)
+    (sym (b .above-limit .ensures) ∙ c .if1 .left)
 
 pub ranges-spec : {M : Type 1} → statement M
 ranges-spec =

@@ -21,7 +21,14 @@ byte-requires c κs =
     let n = c .before .before .before in
     let w = n .before .before .before .before in
     let s = w .before .before .before .before in
-    omega (arith, n .number .ensures .place, n .number .ensures .same, w .word .ensures .place, w .word .ensures .same, digits-64 (s .args .n) (s .fits .n .fits))
+    omega (
+      arith,
+      n .number .ensures .place,
+      n .number .ensures .same,
+      w .word .ensures .place,
+      w .word .ensures .same,
+      digits-64 (s .args .n) (s .fits .n .fits),
+    )
 
 same-length : tie.Need-same-length
 same-length c = search needs

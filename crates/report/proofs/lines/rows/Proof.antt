@@ -27,10 +27,12 @@ mul-base : tie.Need-mul-base Inv-loop μ-loop
 mul-base c = let s = c .before .before .before .before in omega (arith, row-fits (s .args .q) (c .before .loop .k) (s .args .found) (c .loop-test .taken))
 
 add-row : tie.Need-add-row Inv-loop μ-loop
-add-row c = let s = c .before .before .before .before .before in omega (arith, row-fits (s .args .q) (c .before .before .loop .k) (s .args .found) (c .before .loop-test .taken))
+add-row c = let s = c .before .before .before .before .before in
+    omega (arith, row-fits (s .args .q) (c .before .before .loop .k) (s .args .found) (c .before .loop-test .taken))
 
 mul-row : tie.Need-mul-row Inv-loop μ-loop
-mul-row c = let s = c .before .before .before .before .before in omega (arith, row-fits (s .args .q) (c .before .before .loop .k) (s .args .found) (c .before .loop-test .taken))
+mul-row c = let s = c .before .before .before .before .before in
+    omega (arith, row-fits (s .args .q) (c .before .before .loop .k) (s .args .found) (c .before .loop-test .taken))
 
 sub-row : tie.Need-sub-row Inv-loop μ-loop
 sub-row c = omega arith
@@ -39,13 +41,18 @@ part-row-start : tie.Need-part-row-start Inv-loop μ-loop
 part-row-start c = omega arith
 
 part-row-end : tie.Need-part-row-end Inv-loop μ-loop
-part-row-end c = let s = c .before .before .before .before .before in omega (arith, row-fits (s .args .q) (c .before .before .loop .k) (s .args .found) (c .before .loop-test .taken))
+part-row-end c = let s = c .before .before .before .before .before in
+    omega (arith, row-fits (s .args .q) (c .before .before .loop .k) (s .args .found) (c .before .loop-test .taken))
 
 row-requires : tie.Need-row-requires Inv-loop μ-loop
 row-requires c κs =
     let l = c .before .before .before in
     let a = l .before .before .before .args in
-    omega (arith, row-fits (a .q) (l .loop .k) (a .found) (c .before .before .loop-test .taken), part-size (a .list .now) (a .q) (a .found) (l .loop .k) (c .before .before .loop-test .taken) (search needs))
+    omega (
+      arith,
+      row-fits (a .q) (l .loop .k) (a .found) (c .before .before .loop-test .taken),
+      part-size (a .list .now) (a .q) (a .found) (l .loop .k) (c .before .before .loop-test .taken) (search needs),
+    )
 
 add-k : tie.Need-add-k Inv-loop μ-loop
 add-k c = search needs
@@ -69,8 +76,10 @@ same-length c = search needs
 returns : tie.Need-returns Inv-loop μ-loop
 returns c =
     let l = c .before .loop in
-    let a = c .before .before .before .before .args in
-    (rest-ends (rw (rows-done (a .list .now) (a .q) (a .found) (l .k) (c .loop-test .left)) at (l .inv .2)), rw (← le-antisymm (l .inv .0) (c .loop-test .left)) (l .inv .1))
+    let a = c .before .before .before .before .args in (
+      rest-ends (rw (rows-done (a .list .now) (a .q) (a .found) (l .k) (c .loop-test .left)) at (l .inv .2)),
+      rw (← le-antisymm (l .inv .0) (c .loop-test .left)) (l .inv .1),
+    )
 
 pub rows-spec : {M : Type 1} → statement M
 rows-spec =

@@ -45,12 +45,16 @@ answer-spec 𝓤 H 𝓜 𝓖 𝓡 =
     (λ κs. (struct (T.the-type (namedLft 1 0 tt κs)) (T′.the-laws (namedLft 1 0 tt κs)), tt)) (λ κs a t. t)
     (λ fm κs qs a g are leave bs.
     let α : NamedLft = namedLft 1 0 tt κs in
-    let wt : Holds (hasTy (T′.mir (named 0)) (T′.lowered (a .0))) × WT (T′.lowered (a .0)) = LL.lawful (T.the-type α) (T′.the-laws α) 𝓤 H (𝓖 .A) (givenOf 𝓤 H 𝓜 𝓖) .typed (a .0) _ (are .0) .0 in
+    let wt : Holds (hasTy (T′.mir (named 0)) (T′.lowered (a .0))) × WT (T′.lowered (a .0)) =
+    LL.lawful (T.the-type α) (T′.the-laws α) 𝓤 H (𝓖 .A) (givenOf 𝓤 H 𝓜 𝓖) .typed (a .0) _ (are .0) .0 in
     let y : callee .Ghost = ((tt, tt, tt, (a .0 .q, tt), (uint-vals w64 (a .0 .q), tt)), tt) in
     assigns ! (of-opd ! (load ! (from ! (fld ! refl (stop !))) (look-in ! 3 (sub ! 1 refl (whole !))))) (from ! (stop !)) (init ! 4 refl (tt, wt .1 .1 .0)) $
     nothing ! $ owned ! usize (Is usize) (uint-makes 𝓤 H (𝓖 .A) (givenOf 𝓤 H 𝓜 𝓖) w64) (a .0 .q) _ (refl, wt .1 .1 .0 .fits) $ fjoin ! $ nothing ! $ hands ! $
-    calls-at ! fm callee (cited 𝓤 H callee 𝓜 𝓡 code.env #solver·reader-answer reader-answer-def.routine code.calls-solver·reader-answer (reader-answer-thm.met 𝓤 H 𝓜 𝓖 𝓡)) y
+    calls-at ! fm callee
+    (cited 𝓤 H callee 𝓜 𝓡 code.env #solver·reader-answer reader-answer-def.routine code.calls-solver·reader-answer (reader-answer-thm.met 𝓤 H 𝓜 𝓖 𝓡)) y
     -- [what the call is handed; the token; what the reader owns; the locals]
-    (and-then ! (here ! 5 refl) (no-more !)) (λ w. returned ! tt reader-answer.ended c y w (λ r ws. peeks ! R.the-row (Is R.the-row) (shows 𝓤 H (𝓖 .A) R.the-row) r (w ∷ []) (λ is.
-    land ! (from ! (stop !)) (init ! 6 refl (EL.lawful R.the-type R′.the-laws 𝓤 H (𝓖 .A) (givenOf 𝓤 H 𝓜 𝓖) tt .typed r _ is .0)) $ move ! (1 ∷ 2 ∷ 5 ∷ []) $ drop ! $ drop ! $ drop ! $ move ! (0 ∷ 2 ∷ []) $
+    (and-then ! (here ! 5 refl) (no-more !))
+    (λ w. returned ! tt reader-answer.ended c y w (λ r ws. peeks ! R.the-row (Is R.the-row) (shows 𝓤 H (𝓖 .A) R.the-row) r (w ∷ []) (λ is.
+    land ! (from ! (stop !)) (init ! 6 refl (EL.lawful R.the-type R′.the-laws 𝓤 H (𝓖 .A) (givenOf 𝓤 H 𝓜 𝓖) tt .typed r _ is .0)) $ move ! (1 ∷ 2 ∷ 5 ∷ []) $
+    drop ! $ drop ! $ drop ! $ move ! (0 ∷ 2 ∷ []) $
     silent ! 1 $ ends ! tt _ $ by ! (leave _ r (tt, tt))))))

@@ -48,14 +48,26 @@ row-spec 𝓤 H 𝓜 𝓖 𝓡 =
     (λ fm κs qs a g are leave bs.
     let α : NamedLft = namedLft 1 0 tt κs in
     let Part : RattleType = ShrSlice (named 0) (κs .0) u32 in
-    let wt : Holds (hasTy (T′.mir (named 0)) (T′.lowered (a .0))) × WT (T′.lowered (a .0)) = LL.lawful (T.the-type α) (T′.the-laws α) 𝓤 H (𝓖 .A) (givenOf 𝓤 H 𝓜 𝓖) .typed (a .0) _ (are .0) .0 in
-    let y : callee .Ghost = ((κs, qs, tt, (a .0 .list, (a .0 .q, a .1)), (slice-vals (a .0 .list), (uint-vals w64 (a .0 .q), (S′.lowered (a .1 .0) ∷ [], (uint-vals w64 (a .1 .1 .0), tt))))), tt) in
+    let wt : Holds (hasTy (T′.mir (named 0)) (T′.lowered (a .0))) × WT (T′.lowered (a .0)) =
+    LL.lawful (T.the-type α) (T′.the-laws α) 𝓤 H (𝓖 .A) (givenOf 𝓤 H 𝓜 𝓖) .typed (a .0) _ (are .0) .0 in
+    let y : callee .Ghost = (
+      (
+        κs,
+        qs,
+        tt,
+        (a .0 .list, (a .0 .q, a .1)),
+        (slice-vals (a .0 .list), (uint-vals w64 (a .0 .q), (S′.lowered (a .1 .0) ∷ [], (uint-vals w64 (a .1 .1 .0), tt)))),
+      ),
+      tt,
+    ) in
     assigns ! (of-opd ! (load ! (from ! (fld ! refl (stop !))) (look-in ! 3 (sub ! 0 refl (whole !))))) (from ! (stop !)) (init ! 6 refl (tt, wt .1 .0)) $
     assigns ! (of-opd ! (load ! (from ! (fld ! refl (stop !))) (look-in ! 3 (sub ! 1 refl (whole !))))) (from ! (stop !)) (init ! 7 refl (tt, wt .1 .1 .0)) $
-    move ! (1 ∷ []) $ fsplit ! $ use1 (givenOf 𝓤 H 𝓜 𝓖) (given (T′.lowered (a .0) ∷ [] ≡ T′.lowered (a .0) ∷ []) (‵ (all-own (T.the-type α .parts) (T′.the-laws α) (a .0 .list, (a .0 .q, tt)))))
+    move ! (1 ∷ []) $ fsplit ! $ use1 (givenOf 𝓤 H 𝓜 𝓖)
+    (given (T′.lowered (a .0) ∷ [] ≡ T′.lowered (a .0) ∷ []) (‵ (all-own (T.the-type α .parts) (T′.the-laws α) (a .0 .list, (a .0 .q, tt)))))
     (own-open 𝓤 H (𝓖 .A) (givenOf 𝓤 H 𝓜 𝓖) (T.the-type α) (T′.the-laws α) (a .0 .list, (a .0 .q, tt)) (T′.lowered (a .0))) $ learn ! (λ _.
     -- [what the list and q own; what the others own; the token; the locals]
-    fsplit ! $ move ! (1 ∷ []) $ fsplit ! $ move ! (1 ∷ []) $ drop ! $ move ! (0 ∷ 2 ∷ []) $ fjoin ! $ move ! (1 ∷ 0 ∷ []) $ fjoin ! $ move ! (1 ∷ 0 ∷ []) $ hands ! $
+    fsplit ! $ move ! (1 ∷ []) $ fsplit ! $ move ! (1 ∷ []) $ drop ! $ move ! (0 ∷ 2 ∷ []) $ fjoin ! $ move ! (1 ∷ 0 ∷ []) $ fjoin ! $
+    move ! (1 ∷ 0 ∷ []) $ hands ! $
     calls-at ! fm callee (cited 𝓤 H callee 𝓜 𝓡 code.env #solver·row-of row-of-def.routine code.calls-solver·row-of (row-of-thm.met 𝓤 H 𝓜 𝓖 𝓡)) y
     -- [what the call is handed; the locals]
     (and-then ! (here ! 5 refl) (and-then ! (here ! 6 refl) (and-then ! (here ! 3 refl) (and-then ! (here ! 4 refl) (no-more !))))) (λ w.

@@ -43,7 +43,8 @@ returns-2 c =
 
 -- the byte that was read is a digit
 is-one : (c : tie.Else2 Inv-loop μ-loop)
-    → isDigit (getD (now (c .before .before .before .before .before .before .before .args .text)) (c .before .before .before .before .before .loop .next) 0) ≡ true
+    → isDigit (getD (now (c .before .before .before .before .before .before .before .args .text)) (c .before .before .before .before .before .loop .next) 0)
+    ≡ true
 is-one c = sym (c .before .is-digit .ensures) ∙ not-false _ (c .if2 .left)
 
 size : (c : tie.Else2 Inv-loop μ-loop)

@@ -25,7 +25,8 @@ returns-2 : tie.Need-returns-2
 returns-2 c = natural-stop _ _ _ (c .before .before .before .if1 .left) (sym (c .before .is-digit .ensures) ∙ not-true _ (c .if2 .taken))
 
 -- the byte that was read is a digit
-is-one : (c : tie.Else2) → isDigit (getD (now (c .before .before .before .before .before .args .text)) (c .before .before .before .before .before .args .at) 0) ≡ true
+is-one : (c : tie.Else2)
+    → isDigit (getD (now (c .before .before .before .before .before .args .text)) (c .before .before .before .before .before .args .at) 0) ≡ true
 is-one c = sym (c .before .is-digit .ensures) ∙ not-false _ (c .if2 .left)
 
 size : (c : tie.Else2) → digit (getD (now (c .before .before .before .before .before .args .text)) (c .before .before .before .before .before .args .at) 0) ≤ 9

@@ -34,7 +34,9 @@ enum-known-value : tie.Need-enum-known-value
 enum-known-value c = search needs
 
 small : (c : tie.After-value) → c .value .given .0 .0 < 1000000000
-small c = natural-small _ (c .before .before .before .before .before .before .before .pre) (sym (rw (c .value .given .1) at (c .before .before .read-natural .ensures)))
+small c =
+    natural-small _ (c .before .before .before .before .before .before .before .pre)
+    (sym (rw (c .value .given .1) at (c .before .before .read-natural .ensures)))
 
 cast-t13 : tie.Need-cast-t13
 cast-t13 c = fits-word _ (small (c .before))

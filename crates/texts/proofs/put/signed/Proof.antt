@@ -26,7 +26,13 @@ number-requires c κs =
     let s = f .before .before in
     let e = c .size .ensures ∙ ap natAbs (toZ-ofZ (s .fits .z)) in
     rw e
-    (omega (arith, b .byte .ensures .place, b .byte .ensures .same, ap length (numeral-negative (s .args .z) (rw (toZ-ofZ (s .fits .z)) at (f .if1 .taken))), s .pre .1))
+    (omega (
+      arith,
+      b .byte .ensures .place,
+      b .byte .ensures .same,
+      ap length (numeral-negative (s .args .z) (rw (toZ-ofZ (s .fits .z)) at (f .if1 .taken))),
+      s .pre .1,
+    ))
 
 same-length : tie.Need-same-length
 same-length c = search needs

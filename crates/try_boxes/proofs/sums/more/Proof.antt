@@ -44,7 +44,8 @@ add-result c =
     let es = toZ-ofZ (start .fits .sum) in
     let ea = toZ-ofZ (start .fits .a) in
     let eb = toZ-ofZ (start .fits .b) in
-    let g = within 999999999999999999 (start .args .sum) (rw es at (c .before .before .before .before .before .if1 .left)) (rw es at (c .before .before .before .before .if2 .left)) in
+    let g = within 999999999999999999 (start .args .sum) (rw es at (c .before .before .before .before .before .if1 .left))
+    (rw es at (c .before .before .before .before .if2 .left)) in
     let h = within 9999 (start .args .a) (rw ea at (c .before .before .before .if3 .left)) (rw ea at (c .before .before .if4 .left)) in
     let k = within 999999999999 (start .args .b) (rw eb at (c .before .if5 .left)) (rw eb at (c .if6 .left)) in
     rw (ea, eb, toZ-ofZ (product-fits (start .args .a) (start .args .b) h k), es) (sum-fits (start .args .sum) (start .args .a) (start .args .b) g h k)

@@ -119,7 +119,8 @@ started-from-spec 𝓤 H 𝓜 𝓖 𝓡 =
       tt,
     ) in
     move ! (0 ∷ 3 ∷ []) $ puts ! 7 _ _ $ move ! (2 ∷ 3 ∷ []) $ puts ! 5 _ _ $ hands ! $
-    calls-at ! fm callee (cited 𝓤 H callee 𝓜 𝓡 code.env #lower-solver·start-from start-from-def.routine code.calls-lower-solver·start-from (start-from-thm.met 𝓤 H 𝓜 𝓖 𝓡)) y
+    calls-at ! fm callee
+    (cited 𝓤 H callee 𝓜 𝓡 code.env #lower-solver·start-from start-from-def.routine code.calls-lower-solver·start-from (start-from-thm.met 𝓤 H 𝓜 𝓖 𝓡)) y
     -- [what the call is handed; the lender's part; locals 0 to 8; locals 10 on]
     (and-then ! (here ! 3 refl) (and-then ! (here ! 4 refl)
     (and-then ! (here ! 5 refl) (and-then ! (here ! 6 refl) (and-then ! (here ! 13 refl)
