@@ -12,8 +12,8 @@ use Rattle.lists.specs.Rows.{part}
 unfoldable pub openFor : Kind → ℕ → State → (ℕ → ℕ) → ℕ → ℕ → Bool
 openFor k q s t candidates j = frozen candidates j && secondOpen k q s (raise t j)
 
--- Raising unknown j makes a child of the tuple t: j is one of the candidates, those that are not frozen and have an inner product below zero; the cap and the second
--- list leave it admitted; and the first list does.
+-- Raising unknown j makes a child of the tuple t: j is one of the candidates, those that are not frozen and have an inner product below zero;
+-- the cap and the second list leave it admitted; and the first list does.
 unfoldable pub childFor : Kind → ℕ → State → (ℕ → ℕ) → ℕ → ℕ → Bool
 childFor k q s t candidates j = (frozen candidates j && secondOpen k q s (raise t j)) && firstOpen k q s (raise t j)
 

@@ -73,25 +73,32 @@ second-beside plain q s x kind n n₂ d = refl
 second-beside capped q s x kind n n₂ d = refl
 second-beside (above f) q s x kind n n₂ d = refl
 
-pub child-beside : (k : Kind) (q : ℕ) (s : State) (t : ℕ → ℕ) (candidates j : ℕ) (kind : Run) (n n₂ d : ℕ) → childFor k q (beside s kind n n₂ d) t candidates j ≡ childFor k q s t candidates j
+pub child-beside : (k : Kind) (q : ℕ) (s : State) (t : ℕ → ℕ) (candidates j : ℕ) (kind : Run) (n n₂ d : ℕ)
+    → childFor k q (beside s kind n n₂ d) t candidates j ≡ childFor k q s t candidates j
 unfolding childFor
-child-beside k q s t candidates j kind n n₂ d = ap (λ b. (frozen candidates j && b) && firstOpen k q s (raise t j)) (second-beside k q s (raise t j) kind n n₂ d)
+child-beside k q s t candidates j kind n n₂ d =
+    ap (λ b. (frozen candidates j && b) && firstOpen k q s (raise t j)) (second-beside k q s (raise t j) kind n n₂ d)
 
 -- tuples that agree below q
-pub child-same : (k : Kind) (q : ℕ) (s : State) {t u : ℕ → ℕ} (candidates j : ℕ) → 0 < q → Same q t u → childFor k q s t candidates j ≡ childFor k q s u candidates j
+pub child-same : (k : Kind) (q : ℕ) (s : State) {t u : ℕ → ℕ} (candidates j : ℕ) → 0 < q → Same q t u
+    → childFor k q s t candidates j ≡ childFor k q s u candidates j
 unfolding childFor
 child-same k q s {t} {u} candidates j some e =
     let raised : Same q (raise t j) (raise u j) = λ i l. ap (λ y. y + unit j i) (e i l) in
     ap₂ (λ a b. (frozen candidates j && a) && b) (second-same k q s some raised) (first-same k q s raised)
 
 -- the second list has left those of `left`
-pub child-open : (k : Kind) (q : ℕ) (s : State) (t : ℕ → ℕ) (candidates left j : ℕ) → frozen left j ≡ openFor k q s t candidates j → childBy (rowWidth k q) (placeIn k) (s .run .found) (listRow (rowWidth k q) s) t left j ≡ childFor k q s t candidates j
+pub child-open : (k : Kind) (q : ℕ) (s : State) (t : ℕ → ℕ) (candidates left j : ℕ) → frozen left j ≡ openFor k q s t candidates j
+    → childBy (rowWidth k q) (placeIn k) (s .run .found) (listRow (rowWidth k q) s) t left j ≡ childFor k q s t candidates j
 unfolding childBy childFor openFor
 child-open k q s t candidates left j e =
-    ap₂ (λ a b. a && not b) e (covered-same (rowWidth k q) (s .run .found) (listRow (rowWidth k q) s) {x = part (placeIn k) (raise t j)} {y = rowOf k (raise t j)} (λ i l. part-row k (raise t j) i))
+    ap₂ (λ a b. a && not b) e
+    (covered-same (rowWidth k q) (s .run .found) (listRow (rowWidth k q) s) {x = part (placeIn k) (raise t j)} {y = rowOf k (raise t j)}
+    (λ i l. part-row k (raise t j) i))
 
 -- which are left depends on the second list and its count only
-pub open-asked : (k : Kind) (q : ℕ) (list second : List ℕ) (found found₂ : ℕ) (t : ℕ → ℕ) (candidates j : ℕ) → openFor k q (asked [] [] second 0 0 found₂) t candidates j ≡ openFor k q (asked [] list second 0 found found₂) t candidates j
+pub open-asked : (k : Kind) (q : ℕ) (list second : List ℕ) (found found₂ : ℕ) (t : ℕ → ℕ) (candidates j : ℕ)
+    → openFor k q (asked [] [] second 0 0 found₂) t candidates j ≡ openFor k q (asked [] list second 0 found found₂) t candidates j
 unfolding openFor
 open-asked plain q list second found found₂ t candidates j = refl
 open-asked capped q list second found found₂ t candidates j = refl

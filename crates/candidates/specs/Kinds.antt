@@ -1,5 +1,5 @@
--- The kinds of walk as code has them, and what a step is told of a state: its tables, its height and the counts of its lists. The rest of the record it does not
--- look at. Assumes nothing.
+-- The kinds of walk as code has them, and what a step is told of a state: its tables, its height and the counts of its lists.
+-- The rest of the record it does not look at. Assumes nothing.
 use mathlib.Core.Path.{_≡_, refl}
 use mathlib.Core.List.{List}
 use Prim.Native.Nat.{ℕ, _≤_}

@@ -1,5 +1,5 @@
--- Which candidates the cap and the second list leave open. Of a capped walk the list is asked only where the raised tuple has 1 at its first place; of one above a lower bound
--- it is asked for the tuple less the bound. Assumes nothing.
+-- Which candidates the cap and the second list leave open. Of a capped walk the list is asked only where the raised tuple has 1 at its first place;
+-- of one above a lower bound it is asked for the tuple less the bound. Assumes nothing.
 use mathlib.Core.Path.{_≡_, refl, sym, _∙_, ap}
 use mathlib.Core.Logic.{_≢_}
 use mathlib.Core.Bool.{Bool, true, false, not, _&&_, and-false, and-true}
@@ -121,7 +121,8 @@ module _ (q found : ℕ) (second : List ℕ) (t : ℕ → ℕ) (c : ℕ) where
     unfolding childBy
     child-open j =
         elim (ℕ-discrete j 0) [
-          | yes is ↦ rw is (closed-makes-none (q - 1) 1 found (at second (q - 1)) t (c - c % 2) 0 (others-first c) ∙ sym (ap (λ b. frozen c 0 && b) (open-capped q s t z) ∙ and-false (frozen c 0)))
+          | yes is ↦ rw is (closed-makes-none (q - 1) 1 found (at second (q - 1)) t (c - c % 2) 0 (others-first c)
+              ∙ sym (ap (λ b. frozen c 0 && b) (open-capped q s t z) ∙ and-false (frozen c 0)))
           | no ne ↦ ap (λ b. b && not (stops j)) (others-later c j ne) ∙ ap (λ b. frozen c j && b) (ap not (sym (stops-rest j)) ∙ sym (open-one q s t z j ne))
         ]
 

@@ -63,10 +63,12 @@ module _ (limit q : ℕ) (child : ℕ → Bool) (t : ℕ → ℕ) where
   made-tried e = made-if _ _ e
 
 -- the children's marks are tried one by one
-pub tried-marks : (limit q : ℕ) (child : ℕ → Bool) (t : ℕ → ℕ) {made : ℕ} → made ≡ marksTo q child → triedIf (anyTo q (λ j. frozen made j && eqb (t j) limit)) made ≡ triedBy limit q child t
+pub tried-marks : (limit q : ℕ) (child : ℕ → Bool) (t : ℕ → ℕ) {made : ℕ} → made ≡ marksTo q child
+    → triedIf (anyTo q (λ j. frozen made j && eqb (t j) limit)) made ≡ triedBy limit q child t
 unfolding triedBy
 tried-marks limit q child t e = rw e (ap (λ b. triedIf b (marksTo q child)) (any-same q _ _ (λ j l. ap (λ b. b && eqb (t j) limit) (marks-frozen q child j l))))
 
 -- what the second list leaves, put to the first list
-pub tried-open : (limit : ℕ) (k : Kind) (q : ℕ) (s : State) (t : ℕ → ℕ) (candidates left : ℕ) → ((j : ℕ) → j < q → frozen left j ≡ openFor k q s t candidates j) → triedBy limit q (childBy (rowWidth k q) (placeIn k) (s .run .found) (listRow (rowWidth k q) s) t left) t ≡ triedBy limit q (childFor k q s t candidates) t
+pub tried-open : (limit : ℕ) (k : Kind) (q : ℕ) (s : State) (t : ℕ → ℕ) (candidates left : ℕ) → ((j : ℕ) → j < q → frozen left j ≡ openFor k q s t candidates j)
+    → triedBy limit q (childBy (rowWidth k q) (placeIn k) (s .run .found) (listRow (rowWidth k q) s) t left) t ≡ triedBy limit q (childFor k q s t candidates) t
 tried-open limit k q s t candidates left h = tried-same limit q _ _ t (λ j l. child-open k q s t candidates left j (h j l))

@@ -1,5 +1,5 @@
-// Which unknowns make a child of the row that a step takes off. The kind of the walk decides which candidates the cap and the second list leave open, and what of a tuple is
-// compared with the first list.
+// Which unknowns make a child of the row that a step takes off. The kind of the walk decides which candidates the cap and the second list leave open,
+// and what of a tuple is compared with the first list.
 ghost use mathlib.Core.Path.{_≡_};
 ghost use mathlib.Core.Bool.{_&&_};
 ghost use mathlib.Core.List.{[]};
@@ -46,10 +46,13 @@ pub fn admitted(
     candidates: u32,
     limit: u32,
 ) -> Tried
-    requires { ⌜ ((0 < rowWidth (kindBy walk (now lower)) q) × (q ≤ 16) × (found ≤ capacity (rowWidth (kindBy walk (now lower)) q) (now list))) × Bounds walk q (now lower) ⌝ }
+    requires { ⌜ ((0 < rowWidth (kindBy walk (now lower)) q) × (q ≤ 16) × (found ≤ capacity (rowWidth (kindBy walk (now lower)) q) (now list)))
+        × Bounds walk q (now lower) ⌝ }
     requires { ⌜ SecondFits (kindBy walk (now lower)) q (asked [] (now list) (now second) 0 found other) × (q ≤ length (now t)) × (candidates < 2 ^ q) ⌝ }
     requires { ⌜ Limited q (tuple (now t)) × Within limit q (tuple (now t)) × Inside (kindBy walk (now lower)) q (tuple (now t)) ⌝ }
-    ensures { λ r. ⌜ r ≡ triedBy limit q (childFor (kindBy walk (now (lower .entry))) q (asked [] (now (list .entry)) (now (second .entry)) 0 found other) (tuple (now (t .entry))) candidates) (tuple (now (t .entry))) ⌝ }
+    ensures { λ r. ⌜ r ≡ triedBy limit q
+        (childFor (kindBy walk (now (lower .entry))) q (asked [] (now (list .entry)) (now (second .entry)) 0 found other) (tuple (now (t .entry))) candidates)
+        (tuple (now (t .entry))) ⌝ }
     ensures { λ _. ⌜ now (t .exit) ≡ now (t .entry) ⌝ }
 {
     match walk {
@@ -82,7 +85,8 @@ fn sifted(
     candidates: u32,
     limit: u32,
 ) -> Tried
-    requires { ⌜ ((0 < rowWidth (kindBy walk (now lower)) q) × (q ≤ 16) × (found ≤ capacity (rowWidth (kindBy walk (now lower)) q) (now list))) × Bounds walk q (now lower) ⌝ }
+    requires { ⌜ ((0 < rowWidth (kindBy walk (now lower)) q) × (q ≤ 16) × (found ≤ capacity (rowWidth (kindBy walk (now lower)) q) (now list)))
+        × Bounds walk q (now lower) ⌝ }
     requires { ⌜ SecondFits (kindBy walk (now lower)) q (asked [] (now list) (now second) 0 found other) × (q ≤ length (now t)) × (candidates < 2 ^ q) ⌝ }
     requires { ⌜ Limited q (tuple (now t)) × Within limit q (tuple (now t)) × Inside (kindBy walk (now lower)) q (tuple (now t)) ⌝ }
     ensures { λ r. ⌜ r ≡ triedBy limit q (childFor (kindBy walk (now (lower .entry))) q (asked [] (now (list .entry)) (now (second .entry)) 0 found other)
@@ -123,7 +127,8 @@ fn uncapped(second: &[u32], found: usize, q: usize, t: &mut [u32], candidates: u
 fn apart(second: &[u32], lower: &[u32], found: usize, q: usize, t: &[u32], candidates: u32) -> u32
     requires { ⌜ ((0 < q) × (q ≤ 16) × (found * q ≤ length (now second))) × (q ≤ length (now lower)) × (q ≤ length (now t)) × (candidates < 2 ^ q) ⌝ }
     requires { ⌜ Limited q (tuple (now t)) × AtOrBelow q (boundOf (now lower)) (tuple (now t)) ⌝ }
-    ensures { λ r. ⌜ Marked q (openFor (above (boundOf (now (lower .entry)))) q (asked [] [] (now (second .entry)) 0 0 found) (tuple (now (t .entry))) candidates) r ⌝ }
+    ensures { λ r. ⌜ Marked q
+        (openFor (above (boundOf (now (lower .entry)))) q (asked [] [] (now (second .entry)) 0 0 found) (tuple (now (t .entry))) candidates) r ⌝ }
 {
     let mut over = [0u32; 16];
     subtract(t, lower, q, &mut over);
@@ -208,7 +213,8 @@ fn limited(made: u32, q: usize, t: &[u32], limit: u32) -> Tried
     Tried::Made(made)
 }
 
-// Both at once, for a plain walk: most of its time goes into this loop, and with rows of q numbers and a single caller it is compiled into the loop over the steps.
+// Both at once, for a plain walk: most of its time goes into this loop, and with rows of q numbers and a single caller it is compiled into the loop over the
+// steps.
 fn children(
     list: &[u32],
     found: usize,

@@ -40,7 +40,9 @@ pub fn check_start_capped(
     second: &[u32],
     r: Record,
 ) -> Check
-    ensures { λ c. ⌜ ((limit : ℕ) → checkOf c ≡ startChecks (inputWith (sides (now (rights .entry))) limit p q (now (coefs .entry))) (stateWith (now (stack .entry)) (now (list .entry)) (now (second .entry)) r)) ⌝ }
+    ensures { λ c. ⌜ ((limit : ℕ)
+        → checkOf c ≡ startChecks (inputWith (sides (now (rights .entry))) limit p q (now (coefs .entry)))
+        (stateWith (now (stack .entry)) (now (list .entry)) (now (second .entry)) r)) ⌝ }
 {
     match shape::check(p, q, 1, coefs.len(), rights.len(), stack.len()) {
         Check::Refuse(why) => Check::Refuse(why),
@@ -99,7 +101,8 @@ pub fn check_resume_capped(
     r: Record,
     limit: u32,
 ) -> Check
-    ensures { λ c. ⌜ checkOf c ≡ resumeChecks (inputWith (sides (now (rights .entry))) limit p q (now (coefs .entry))) (stateWith (now (stack .entry)) (now (list .entry)) (now (second .entry)) r) ⌝ }
+    ensures { λ c. ⌜ checkOf c ≡ resumeChecks (inputWith (sides (now (rights .entry))) limit p q (now (coefs .entry)))
+        (stateWith (now (stack .entry)) (now (list .entry)) (now (second .entry)) r) ⌝ }
 {
     match shape::check(p, q, 1, coefs.len(), rights.len(), stack.len()) {
         Check::Refuse(why) => Check::Refuse(why),

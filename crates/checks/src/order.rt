@@ -17,7 +17,9 @@ use calls::Run;
 // Refusals 6 and 7 of a plain run, which do not depend on p.
 pub fn check(q: usize, coefs: &[i32], stack: &[u32], list: &[u32], r: Record, limit: u32) -> Check
     requires { ⌜ InShape q (length (now stack)) ⌝ }
-    ensures { λ c. ⌜ ((p : ℕ) → checkOf c ≡ (check6 (systemOf (inputWith alone limit p q (now (coefs .entry)))) (stateOf (now (stack .entry)) (now (list .entry)) r) then check7 (inputWith alone limit p q (now (coefs .entry))))) ⌝ }
+    ensures { λ c. ⌜ ((p : ℕ)
+        → checkOf c ≡ (check6 (systemOf (inputWith alone limit p q (now (coefs .entry)))) (stateOf (now (stack .entry)) (now (list .entry)) r)
+        then check7 (inputWith alone limit p q (now (coefs .entry))))) ⌝ }
 {
     let most = calls::limit_of(limit);
     if !orders::in_order(Run::Plain, q, q, stack, list, r, most) {
@@ -38,7 +40,10 @@ pub fn check_capped(
     limit: u32,
 ) -> Check
     requires { ⌜ (1 ≤ q) × InShape (q + 1) (length (now stack)) ⌝ }
-    ensures { λ c. ⌜ ((p : ℕ) → checkOf c ≡ (check6 (systemOf (inputWith (sides (now (rights .entry))) limit p q (now (coefs .entry)))) (stateWith (now (stack .entry)) (now (list .entry)) (now (second .entry)) r) then rangeChecks (sides (now (rights .entry))) (inputWith (sides (now (rights .entry))) limit p q (now (coefs .entry))))) ⌝ }
+    ensures { λ c. ⌜ ((p : ℕ)
+        → checkOf c ≡ (check6 (systemOf (inputWith (sides (now (rights .entry))) limit p q (now (coefs .entry))))
+        (stateWith (now (stack .entry)) (now (list .entry)) (now (second .entry)) r)
+        then rangeChecks (sides (now (rights .entry))) (inputWith (sides (now (rights .entry))) limit p q (now (coefs .entry))))) ⌝ }
 {
     let most = calls::limit_of(limit);
     let wide = q + 1;
@@ -64,7 +69,8 @@ pub fn check_from(
 ) -> Check
     requires { ⌜ InShape q (length (now stack)) ⌝ }
     ensures { λ c. ⌜ ((p : ℕ) → checkOf c ≡ (check5 (inputWith alone limit p q (now (coefs .entry))) (now (lower .entry))
-        then check6From (now (lower .entry)) (inputWith alone limit p q (now (coefs .entry))) (stateWith (now (stack .entry)) (now (list .entry)) (now (second .entry)) r)
+        then check6From (now (lower .entry)) (inputWith alone limit p q (now (coefs .entry)))
+        (stateWith (now (stack .entry)) (now (list .entry)) (now (second .entry)) r)
         then check7 (inputWith alone limit p q (now (coefs .entry)))
         then check8 (inputWith alone limit p q (now (coefs .entry))) (now (lower .entry)))) ⌝ }
 {

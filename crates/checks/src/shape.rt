@@ -33,7 +33,9 @@ pub fn check(p: usize, q: usize, extra: usize, coefs: usize, sides: usize, stack
 
 // Refusals 5, 7 and 8, which do not depend on p.
 pub fn check_lower(q: usize, coefs: &[i32], lower: &[u32], limit: u32) -> Check
-    ensures { λ c. ⌜ ((p : ℕ) → checkOf c ≡ (check5 (inputWith alone limit p q (now (coefs .entry))) (now (lower .entry)) then check7 (inputWith alone limit p q (now (coefs .entry))) then check8 (inputWith alone limit p q (now (coefs .entry))) (now (lower .entry)))) ⌝ }
+    ensures { λ c. ⌜ ((p : ℕ)
+        → checkOf c ≡ (check5 (inputWith alone limit p q (now (coefs .entry))) (now (lower .entry)) then check7 (inputWith alone limit p q (now (coefs .entry)))
+        then check8 (inputWith alone limit p q (now (coefs .entry))) (now (lower .entry)))) ⌝ }
 {
     if lower.len() != q {
         return Check::Refuse(Refusal::BoundLength);

@@ -26,7 +26,8 @@ if-same true q table row marks e = row-same q table row marks e
 if-same false q table row marks e = refl
 
 -- tuples that agree below q, and tests that agree below n
-pub grow-same : (n q : ℕ) (stack : List ℕ) (k : ℕ) {x y : ℕ → ℕ} (marks : ℕ) {f g : ℕ → Bool} → Same q x y → ((j : ℕ) → j < n → f j ≡ g j) → writeChildren n q stack k x marks f ≡ writeChildren n q stack k y marks g
+pub grow-same : (n q : ℕ) (stack : List ℕ) (k : ℕ) {x y : ℕ → ℕ} (marks : ℕ) {f g : ℕ → Bool} → Same q x y → ((j : ℕ) → j < n → f j ≡ g j)
+    → writeChildren n q stack k x marks f ≡ writeChildren n q stack k y marks g
 unfolding writeChildren
 grow-same zero q stack k marks e h = refl
 grow-same (suc n) q stack k {x} {y} marks {f} {g} e h =
@@ -35,7 +36,8 @@ grow-same (suc n) q stack k {x} {y} marks {f} {g} e h =
     ∙ rw (grow-same n q stack k marks e before, h n (omega arith), count-same f g n before, marks-same n f g before)
 
 -- unknowns that make no child are passed over
-pub grow-over : (q : ℕ) (stack : List ℕ) (k : ℕ) (x : ℕ → ℕ) (marks : ℕ) (f : ℕ → Bool) (n i : ℕ) → n ≤ i → ((j : ℕ) → n ≤ j → j < i → f j ≡ false) → writeChildren i q stack k x marks f ≡ writeChildren n q stack k x marks f
+pub grow-over : (q : ℕ) (stack : List ℕ) (k : ℕ) (x : ℕ → ℕ) (marks : ℕ) (f : ℕ → Bool) (n i : ℕ) → n ≤ i → ((j : ℕ) → n ≤ j → j < i → f j ≡ false)
+    → writeChildren i q stack k x marks f ≡ writeChildren n q stack k x marks f
 unfolding writeChildren
 grow-over q stack k x marks f n zero l h = let e : n ≡ 0 = omega arith in rw e
 grow-over q stack k x marks f n (suc i) l h =

@@ -38,7 +38,8 @@ pub record Parent (q : ℕ) (g : List ℤ) (stack : List ℕ) (c : List ℤ) (su
   pub summed : Totals q stack (level + 1) sums
 
 -- a tuple that agrees with the row's below q is as good
-pub parent-same : {q : ℕ} {g : List ℤ} {stack : List ℕ} {c : List ℤ} {sums : List ℕ} {level : ℕ} {x y : ℕ → ℕ} {marks : ℕ} → Same q x y → Parent q g stack c sums level x marks → Parent q g stack c sums level y marks
+pub parent-same : {q : ℕ} {g : List ℤ} {stack : List ℕ} {c : List ℤ} {sums : List ℕ} {level : ℕ} {x y : ℕ → ℕ} {marks : ℕ} → Same q x y
+    → Parent q g stack c sums level x marks → Parent q g stack c sums level y marks
 parent-same e p =
     record {
       few = p .few;
@@ -90,11 +91,13 @@ module _ (q : ℕ) (stack : List ℕ) (level : ℕ) (x : ℕ → ℕ) (marks : �
           above = s .above;
         }
 
-    pushed-one : n < 32 → f n ≡ true → {written : List ℕ} → written ≡ writeRow q table h (raise x n) passed → Pushed (n + 1) written (h + 1) (passed + (1 * 2 ^ n) % 4294967296)
+    pushed-one : n < 32 → f n ≡ true → {written : List ℕ} → written ≡ writeRow q table h (raise x n) passed
+        → Pushed (n + 1) written (h + 1) (passed + (1 * 2 ^ n) % 4294967296)
     unfolding writeChildren countTo
     pushed-one l e {written} w =
         record {
-          rows = rw (w, add-one n, e, ← (s .rows), ← (s .height), ← (s .next-marks)) (row-row q table level h (raise x first) (raise x n) marks passed (s .above));
+          rows =
+              rw (w, add-one n, e, ← (s .rows), ← (s .height), ← (s .next-marks)) (row-row q table level h (raise x first) (raise x n) marks passed (s .above));
           row = rw w (record {
             tuple = λ j jq. row-other q table h (raise x n) passed level j (omega (arith, s .above)) (omega arith) ∙ s .row .tuple j jq;
             marks-are = row-other q table h (raise x n) passed level q (omega (arith, s .above)) (omega arith) ∙ s .row .marks-are;
@@ -120,7 +123,8 @@ module _ (q : ℕ) (stack : List ℕ) (level : ℕ) (x : ℕ → ℕ) (marks : �
     pushed-low low = omega (arith, at-next .height, count-step f i q (next-inside left few some) (rw (next-holds left few some) tt))
 
     pub pushed-room : marks < 2 ^ q → passed + (1 * 2 ^ i) % 4294967296 < 4294967296
-    pushed-room small = omega (arith, at-next .next-marks, marks-room i f (marksTo i f) refl (omega (arith, next-inside left few some)), pow-mono {i = q} {j = 16} few)
+    pushed-room small =
+        omega (arith, at-next .next-marks, marks-room i f (marksTo i f) refl (omega (arith, next-inside left few some)), pow-mono {i = q} {j = 16} few)
 
   -- all but the first are written
   pub record Others (g : List ℤ) (table : List ℕ) (c : List ℤ) (sums : List ℕ) (r : ℕ) : Type 0 where
@@ -131,12 +135,14 @@ module _ (q : ℕ) (stack : List ℕ) (level : ℕ) (x : ℕ → ℕ) (marks : �
     pub cached : Combined q g table r c
     pub summed : Totals q table r sums
 
-  pub others-written : {n : ℕ} {table : List ℕ} {h passed : ℕ} {g c : List ℤ} {sums : List ℕ} → Pushed n table h passed → Left q f n 0 → Combined q g table h c → Totals q table h sums → Others g table c sums h
+  pub others-written : {n : ℕ} {table : List ℕ} {h passed : ℕ} {g c : List ℤ} {sums : List ℕ} → Pushed n table h passed → Left q f n 0 → Combined q g table h c
+      → Totals q table h sums → Others g table c sums h
   others-written {n} s left d e =
       let t = pushed-over s q (left .few) (left-none left) in
       record { rows = t .rows; row = t .row; height = t .height; above = t .above; cached = d; summed = e }
 
-pub others-same : {q : ℕ} {stack : List ℕ} {level : ℕ} {x y : ℕ → ℕ} {marks : ℕ} {f : ℕ → Bool} {first : ℕ} {g : List ℤ} {table : List ℕ} {c : List ℤ} {sums : List ℕ} {r : ℕ} → Same q x y → Others q stack level x marks f first g table c sums r → Others q stack level y marks f first g table c sums r
+pub others-same : {q : ℕ} {stack : List ℕ} {level : ℕ} {x y : ℕ → ℕ} {marks : ℕ} {f : ℕ → Bool} {first : ℕ} {g : List ℤ} {table : List ℕ} {c : List ℤ}
+    {sums : List ℕ} {r : ℕ} → Same q x y → Others q stack level x marks f first g table c sums r → Others q stack level y marks f first g table c sums r
 others-same {q} {stack} {level} {marks} {first} {table} e o =
     record {
       rows = sym (row-same q table level marks (λ j l. ap (λ z. z + unit first j) (e j l))) ∙ o .rows ∙ grow-same q q stack level marks e (λ j l. refl);
@@ -148,16 +154,19 @@ others-same {q} {stack} {level} {marks} {first} {table} e o =
     }
 
 -- component i of a row raised where it stands
-pub raise-row : (q : ℕ) (table : List ℕ) (k : ℕ) (x : ℕ → ℕ) (marks i : ℕ) → RowIs q table k x marks → i < q → set table (k * (q + 1) + i) (x i + 1) ≡ writeRow q table k (raise x i) marks
+pub raise-row : (q : ℕ) (table : List ℕ) (k : ℕ) (x : ℕ → ℕ) (marks i : ℕ) → RowIs q table k x marks → i < q
+    → set table (k * (q + 1) + i) (x i + 1) ≡ writeRow q table k (raise x i) marks
 unfolding writeRow
 raise-row q table k x marks i r l =
     let base : ℕ = k * (q + 1) in
-    let kept : getD (writeTo q table base (raise x i)) (base + q) 0 ≡ marks = write-outside (raise x i) table base q (base + q) (inr (omega arith)) ∙ r .marks-are in
+    let kept : getD (writeTo q table base (raise x i)) (base + q) 0 ≡ marks =
+    write-outside (raise x i) table base q (base + q) (inr (omega arith)) ∙ r .marks-are in
     ap (λ t. set t (base + i) (x i + 1)) (sym (write-again q table base x (r .tuple)))
     ∙ write-raise q table base x i l
     ∙ sym (ap (set (writeTo q table base (raise x i)) (base + q)) (sym kept) ∙ set-getD (writeTo q table base (raise x i)) (base + q) 0)
 
 -- no child: nothing is written
-pub none-pushed : (q : ℕ) (stack : List ℕ) (level : ℕ) (x : ℕ → ℕ) (marks : ℕ) (f : ℕ → Bool) → ((j : ℕ) → 0 ≤ j → j < q → f j ≡ false) → (level ≡ level + countTo q f) × (stack ≡ writeChildren q q stack level x marks f)
+pub none-pushed : (q : ℕ) (stack : List ℕ) (level : ℕ) (x : ℕ → ℕ) (marks : ℕ) (f : ℕ → Bool) → ((j : ℕ) → 0 ≤ j → j < q → f j ≡ false)
+    → (level ≡ level + countTo q f) × (stack ≡ writeChildren q q stack level x marks f)
 unfolding writeChildren countTo
 none-pushed q stack level x marks f none = (omega (arith, count-over f 0 q (omega arith) none), sym (grow-over q stack level x marks f 0 q (omega arith) none))

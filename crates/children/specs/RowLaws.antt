@@ -13,7 +13,8 @@ use Rattle.definitions.specs.Tables.{writeTo}
 use Rattle.laws.specs.TableLaws.{write-same}
 
 -- a tuple written, and then component i written over with one more
-pub write-raise : (n : ℕ) (table : List ℕ) (base : ℕ) (x : ℕ → ℕ) (i : ℕ) → i < n → set (writeTo n table base x) (base + i) (x i + 1) ≡ writeTo n table base (raise x i)
+pub write-raise : (n : ℕ) (table : List ℕ) (base : ℕ) (x : ℕ → ℕ) (i : ℕ) → i < n
+    → set (writeTo n table base x) (base + i) (x i + 1) ≡ writeTo n table base (raise x i)
 unfolding writeTo
 write-raise zero table base x i l = absurd (omega arith)
 write-raise (suc n) table base x i l =

@@ -58,7 +58,8 @@ fn push_others(
 ) -> usize
     requires { ⌜ Parent q (now gram) (now stack) (now inner) (now sums) level (at (now stack) (q + 1) level) marks × (q ≤ length (now top)) ⌝ }
     requires { ⌜ (level + countTo q (frozen made) ≤ q) × (made < 2 ^ q) × (0 < made) × (first ≡ trailingZeros 32 made) ⌝ }
-    ensures { λ r. ⌜ Others q (now (stack .entry)) level (at (now (stack .entry)) (q + 1) level) marks (frozen made) first (now (gram .entry)) (now (stack .exit)) (now (inner .exit)) (now (sums .exit)) r ⌝ }
+    ensures { λ r. ⌜ Others q (now (stack .entry)) level (at (now (stack .entry)) (q + 1) level) marks (frozen made) first (now (gram .entry))
+        (now (stack .exit)) (now (inner .exit)) (now (sums .exit)) r ⌝ }
 {
     let bit: u32 = 1 << first;
     let mut rest = made - bit;

@@ -55,7 +55,8 @@ shape-some p q coefs room e = shape-counted p q coefs room e .some
 room-few : (q table supports values : ℕ) → roomFor q table supports values ≤ table / q
 room-few q table supports values = omega arith
 
-pub shape-fits : (p q coefs table supports values : ℕ) → shapeChecks p q coefs (roomFor q table supports values) ≡ go → Within p q (roomFor q table supports values) table
+pub shape-fits : (p q coefs table supports values : ℕ) → shapeChecks p q coefs (roomFor q table supports values) ≡ go
+    → Within p q (roomFor q table supports values) table
 shape-fits p q coefs table supports values e =
     let m = shape-counted p q coefs _ e in
     record {

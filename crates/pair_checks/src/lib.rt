@@ -44,7 +44,8 @@ pub fn check_resume(
     values: usize,
     r: Progress,
 ) -> Check
-    ensures { λ c. ⌜ checkOf c ≡ resumeChecks p q (now (coefs .entry)) (roomFor q (length (now (table .entry))) supports values) (workOf (now (table .entry)) r) ⌝ }
+    ensures { λ c. ⌜ checkOf c ≡ resumeChecks p q (now (coefs .entry)) (roomFor q (length (now (table .entry))) supports values)
+        (workOf (now (table .entry)) r) ⌝ }
 {
     match check_shape(p, q, coefs.len(), table.len(), supports, values) {
         Check::Refuse(why) => Check::Refuse(why),

@@ -60,7 +60,8 @@ unfolding countTo
 counted-none q c row = record { ups = refl; downs = refl }
 
 module _ {q : ℕ} {c : ℕ → ℤ} {row : ℕ → ℕ → ℕ} {i up down : ℕ} (k : Counted q c row i up down) where
-  pub counted-next : (u d : ℕ) → u ≡ number (ltZ (pos 0) (value c q (row i))) → d ≡ number (ltZ (value c q (row i)) (pos 0)) → Counted q c row (i + 1) (up + u) (down + d)
+  pub counted-next : (u d : ℕ) → u ≡ number (ltZ (pos 0) (value c q (row i))) → d ≡ number (ltZ (value c q (row i)) (pos 0))
+      → Counted q c row (i + 1) (up + u) (down + d)
   counted-next u d e f =
       record {
         ups = rw count-next (omega (arith, k .ups));
@@ -68,7 +69,8 @@ module _ {q : ℕ} {c : ℕ → ℤ} {row : ℕ → ℕ → ℕ} {i up down : �
       }
 
   pub counted-few : (up ≤ i) × (down ≤ i)
-  counted-few = (omega (arith, k .ups, count-le (λ k. ltZ (pos 0) (value c q (row k))) i), omega (arith, k .downs, count-le (λ k. ltZ (value c q (row k)) (pos 0)) i))
+  counted-few =
+      (omega (arith, k .ups, count-le (λ k. ltZ (pos 0) (value c q (row k))) i), omega (arith, k .downs, count-le (λ k. ltZ (value c q (row k)) (pos 0)) i))
 
   pub counted-pairs : up * down ≡ pairsOf q c i row
   unfolding pairsOf

@@ -56,11 +56,13 @@ module _ (q : ℕ) (stay : ℕ → Bool) (table₀ : List ℕ) where
         record {
           rows =
               let place : 0 + countTo i stay ≡ countTo i stay = omega arith in
-              rw (add-one i, e, place, ← k .counted, ← k .rows) (write-same q table (count * q) (λ j jq. rw (k .rows) (swept-ahead q table₀ stay i i j (count-le stay i) jq)));
+              rw (add-one i, e, place, ← k .counted, ← k .rows)
+              (write-same q table (count * q) (λ j jq. rw (k .rows) (swept-ahead q table₀ stay i i j (count-le stay i) jq)));
           counted = rw (add-one i, e) (omega (arith, k .counted));
         }
 
-pub kept-copied : (q : ℕ) (stay : ℕ → Bool) (table₀ : List ℕ) {i : ℕ} {table : List ℕ} {count : ℕ} → Kept q i stay table₀ table count → stay i ≡ true → {after : List ℕ}
+pub kept-copied : (q : ℕ) (stay : ℕ → Bool) (table₀ : List ℕ) {i : ℕ} {table : List ℕ} {count : ℕ} → Kept q i stay table₀ table count
+    → stay i ≡ true → {after : List ℕ}
     → after ≡ writeTo q table (count * q) (rowAt table (i * q)) → Kept q (i + 1) stay table₀ after (count + 1)
 kept-copied q stay table₀ k e h = rw h (kept-more q stay table₀ k e)
 
@@ -116,6 +118,7 @@ module _ (q : ℕ) (now : ℕ → ℕ → ℕ) (i : ℕ) where
   stays-both n c e g = rw (e, g)
 
 -- the test made on the table as it is written over
-pub kept-test : (q n : ℕ) (table₀ : List ℕ) {i : ℕ} {table : List ℕ} {count : ℕ} → n * q ≤ length table₀ → i < n → Kept q i (keeps q n (at table₀ q)) table₀ table count
+pub kept-test : (q n : ℕ) (table₀ : List ℕ) {i : ℕ} {table : List ℕ} {count : ℕ} → n * q ≤ length table₀ → i < n
+    → Kept q i (keeps q n (at table₀ q)) table₀ table count
     → staysHere q n (at table q) count i ≡ keeps q n (at table₀ q) i
 kept-test q n table₀ {i} {table} {count} long l k = rw (k .rows, k .counted) (sweep-test q n table₀ long i l)

@@ -49,10 +49,12 @@ reducible-by q c n row v z sum e = any-same n _ _ (λ i l. ap (λ x. (leZ (low s
 -- ---- the test of one value
 
 pub between-below : (x lo hi : ℤ) → ltZ x lo ≡ true → (leZ lo x && leZ x hi) ≡ false
-between-below x lo hi h = T-same (leZ lo x && leZ x hi) false (λ y. clashℤ (ltZ-yes {a = x} {b = lo} (rw h tt)) (leZ-yes (and-parts (leZ lo x) _ y .0))) (λ y. absurd y)
+between-below x lo hi h =
+    T-same (leZ lo x && leZ x hi) false (λ y. clashℤ (ltZ-yes {a = x} {b = lo} (rw h tt)) (leZ-yes (and-parts (leZ lo x) _ y .0))) (λ y. absurd y)
 
 pub between-rest : (x lo hi : ℤ) → ltZ x lo ≡ false → (leZ lo x && leZ x hi) ≡ leZ x hi
-between-rest x lo hi h = T-same (leZ lo x && leZ x hi) (leZ x hi) (λ y. and-parts (leZ lo x) _ y .1) (λ y. and-both (leZ lo x) _ (ltZ-no {a = x} {b = lo} (rw h tt) .le) y)
+between-rest x lo hi h =
+    T-same (leZ lo x && leZ x hi) (leZ x hi) (λ y. and-parts (leZ lo x) _ y .1) (λ y. and-both (leZ lo x) _ (ltZ-no {a = x} {b = lo} (rw h tt) .le) y)
 
 -- ---- the search, row by row
 
@@ -74,7 +76,8 @@ module _ (q : ℕ) (row : ℕ → ℕ → ℕ) (v : ℕ → ℤ) (z : ℕ → �
   -- as it has a component above that of z
   pub passed-component : (i j : ℕ) → reducibleBy q i row v z lo hi ≡ false → j < q → leb (row i j) (z j) ≡ false → reducibleBy q (i + 1) row v z lo hi ≡ false
   unfolding reducibleBy isAtOrBelow
-  passed-component i j h l e = any-next i (fitsBy q row v z lo hi) h (rw (all-fails q (λ j. leb (row i j) (z j)) j l e) (and-false (leZ lo (v i) && leZ (v i) hi)))
+  passed-component i j h l e =
+      any-next i (fitsBy q row v z lo hi) h (rw (all-fails q (λ j. leb (row i j) (z j)) j l e) (and-false (leZ lo (v i) && leZ (v i) hi)))
 
   pub found-row : (n i : ℕ) → i < n → (leZ lo (v i) && leZ (v i) hi) ≡ true → allTo q (λ j. leb (row i j) (z j)) ≡ true → reducibleBy q n row v z lo hi ≡ true
   unfolding reducibleBy isAtOrBelow
@@ -85,7 +88,9 @@ unfolding allTo
 none-below f = refl
 
 -- row i has a mark that z lacks
-pub passed-support : {q n : ℕ} {table supports : List ℕ} {values : List ℤ} {z : ℕ → ℕ} {support : ℕ} → Searched q n table supports values z support → (lo hi : ℤ) (i : ℕ) → i < n
-    → reducibleBy q i (at table q) (integerAt values) z lo hi ≡ false → bitAnd (getD supports i 0) (4294967295 - support) ≢ 0 → reducibleBy q (i + 1) (at table q) (integerAt values) z lo hi ≡ false
+pub passed-support : {q n : ℕ} {table supports : List ℕ} {values : List ℤ} {z : ℕ → ℕ} {support : ℕ} → Searched q n table supports values z support
+    → (lo hi : ℤ) (i : ℕ) → i < n
+    → reducibleBy q i (at table q) (integerAt values) z lo hi ≡ false → bitAnd (getD supports i 0) (4294967295 - support) ≢ 0
+    → reducibleBy q (i + 1) (at table q) (integerAt values) z lo hi ≡ false
 passed-support {q} {n} {table} {supports} {values} {z} {support} s lo hi i l h ne =
     passed-row q (at table q) (integerAt values) z lo hi i h (outside-fails q (at table q i) z (s .few) (rw (s .supported .each i l, s .support-is) at ne))

@@ -93,7 +93,8 @@ outside-fails q x z few ne =
 pub supported-none : {q : ℕ} {table supports : List ℕ} → Supported q 0 table supports
 supported-none = record { each = λ i l. absurd (omega arith) }
 
-pub supported-more : {q i : ℕ} {table supports : List ℕ} → i < length supports → Supported q i table supports → (v : ℕ) → v ≡ supportOf q (at table q i) → Supported q (i + 1) table (set supports i v)
+pub supported-more : {q i : ℕ} {table supports : List ℕ} → i < length supports → Supported q i table supports → (v : ℕ) → v ≡ supportOf q (at table q i)
+    → Supported q (i + 1) table (set supports i v)
 supported-more {q} {i} {table} {supports} l a v g =
     record {
       each = λ k kl. elim (split k i) [

@@ -55,7 +55,8 @@ pub value-terms : {q : ℕ} {coefs : List ℤ} {from : ℕ} {table : List ℕ} {
 value-terms {q} {coefs} {from} e r =
     record { few = e .unknowns; left = λ j l. omega (arith, e .small (from + j)); right = λ j l. omega (arith, r .small j l) }
 
-pub added-more : {j : ℕ} {z table : List ℕ} {x y : ℕ} → j < length z → Added j z table x y → Added (j + 1) (set z j (rowAt table x j + rowAt table y j)) table x y
+pub added-more : {j : ℕ} {z table : List ℕ} {x y : ℕ} → j < length z → Added j z table x y
+    → Added (j + 1) (set z j (rowAt table x j + rowAt table y j)) table x y
 added-more {j} {z} {table} {x} {y} l a =
     record {
       sums = λ i il. elim (split i j) [
@@ -64,7 +65,8 @@ added-more {j} {z} {table} {x} {y} l a =
       ];
     }
 
-pub valued-more : {c : ℕ → ℤ} {q i : ℕ} {table : List ℕ} {values : List ℤ} → i < length values → Valued c q i table values → (v : ℤ) → v ≡ value c q (at table q i) → Valued c q (i + 1) table (set values i v)
+pub valued-more : {c : ℕ → ℤ} {q i : ℕ} {table : List ℕ} {values : List ℤ} → i < length values → Valued c q i table values → (v : ℤ)
+    → v ≡ value c q (at table q i) → Valued c q (i + 1) table (set values i v)
 valued-more {c} {q} {i} {table} {values} l a v g =
     record {
       each = λ k kl. elim (split k i) [
@@ -80,15 +82,18 @@ copy-ahead x table from to j l = write-outside x table to j (from + j) (inr (ome
 pub equation-fits : {q : ℕ} {coefs : List ℤ} {from : ℕ} → SmallEquation q coefs from → (n : ℕ) → SFits w32 (getD coefs n (pos 0))
 equation-fits s n = sfits-natAbs (omega (arith, s .small n))
 
-pub value-small : {q : ℕ} {coefs : List ℤ} {from : ℕ} (x : ℕ → ℕ) → SmallEquation q coefs from → ((j : ℕ) → j < q → x j ≤ mostComponent) → natAbs (value (equationAt coefs from) q x) ≤ valueLimit
+pub value-small : {q : ℕ} {coefs : List ℤ} {from : ℕ} (x : ℕ → ℕ) → SmallEquation q coefs from → ((j : ℕ) → j < q → x j ≤ mostComponent)
+    → natAbs (value (equationAt coefs from) q x) ≤ valueLimit
 unfolding value
 value-small {q} {coefs} {from} x e r =
     omega (arith, e .unknowns, inner-bound q coefLimit mostComponent (equationAt coefs from) (λ j. pos (x j)) (λ j l. e .small (from + j)) (λ j l. r j l))
 
-pub value-fits : {q : ℕ} {coefs : List ℤ} {from : ℕ} (x : ℕ → ℕ) → SmallEquation q coefs from → ((j : ℕ) → j < q → x j ≤ mostComponent) → SFits w64 (value (equationAt coefs from) q x)
+pub value-fits : {q : ℕ} {coefs : List ℤ} {from : ℕ} (x : ℕ → ℕ) → SmallEquation q coefs from → ((j : ℕ) → j < q → x j ≤ mostComponent)
+    → SFits w64 (value (equationAt coefs from) q x)
 value-fits x e r = sfits-natAbs (omega (arith, value-small x e r))
 
 -- the value as it is written and read back
-pub value-back : {q : ℕ} {coefs : List ℤ} {from : ℕ} {table : List ℕ} {base : ℕ} → SmallEquation q coefs from → SmallRow q table base → {v : ℤ} → v ≡ value (equationAt coefs from) q (rowAt table base)
+pub value-back : {q : ℕ} {coefs : List ℤ} {from : ℕ} {table : List ℕ} {base : ℕ} → SmallEquation q coefs from → SmallRow q table base → {v : ℤ}
+    → v ≡ value (equationAt coefs from) q (rowAt table base)
     → toZ w64 (ofZ w64 v) ≡ value (equationAt coefs from) q (rowAt table base)
 value-back {q} {coefs} {from} {table} {base} e r h = rw h (toZ-ofZ (value-fits (rowAt table base) e (r .small)))

@@ -34,7 +34,8 @@ pub fn write_values(
     values: &mut [i64],
 )
     requires { ⌜ SmallEquation q (now coefs) from × SmallTable q n (now table) × (n ≤ length (now values)) ⌝ }
-    ensures { λ _. ⌜ Valued (equationAt (now (coefs .entry)) from) q n (now (table .entry)) (now (values .exit)) × (length (now (values .exit)) ≡ length (now (values .entry))) ⌝ }
+    ensures { λ _. ⌜ Valued (equationAt (now (coefs .entry)) from) q n (now (table .entry)) (now (values .exit))
+        × (length (now (values .exit)) ≡ length (now (values .entry))) ⌝ }
 {
     let mut i = 0;
     while i < n {

@@ -13,7 +13,32 @@ use mir.Val.{Val, vptr}
 use base.Fml.{Lft, Share, Fml, ftrue, fsep, fres, flft, fobs, fauth, fobor}
 use prog.Wp.{Heap, spotOf, Calls, Loops}
 use ghost.Atoms.{Atoms}
-use types.Kit.{Given, Item, ‵, raw, _⊛_, given, nth, put, Post, runs, lands, Seq, Step, step, _$_, move, drop, use1, join, learn, regoal, rewrite, fsplit, fsplit3}
+use types.Kit.{
+  Given,
+  Item,
+  ‵,
+  raw,
+  _⊛_,
+  given,
+  nth,
+  put,
+  Post,
+  runs,
+  lands,
+  Seq,
+  Step,
+  step,
+  _$_,
+  move,
+  drop,
+  use1,
+  join,
+  learn,
+  regoal,
+  rewrite,
+  fsplit,
+  fsplit3,
+}
 use types.Run.{look, look-raw, init, store-raw, stop, hop, fld, load, of-opd, assigns, land}
 use types.Part.{whole, sub}
 use types.SemTy.{Body as Held}
@@ -47,7 +72,9 @@ returning n ps ks = record { signature = record { lifetimes = n; outlives = []; 
 
 -- the statements after the call, with the outcome in local o
 abbrev pub afterwards : ℕ → Body
-afterwards o = seq (assign (place 7 (deref Rec′.mir ∷ [])) (rvOpd (copy (place o (field 1 ∷ []))))) (seq (assign (place 0 []) (rvOpd (copy (place o (field 0 ∷ []))))) return)
+afterwards o =
+    seq (assign (place 7 (deref Rec′.mir ∷ [])) (rvOpd (copy (place o (field 1 ∷ [])))))
+    (seq (assign (place 0 []) (rvOpd (copy (place o (field 0 ∷ []))))) return)
 
 -- the machine values of an outcome and of an answer
 abbrev outcomeVal : Outcome → Val
@@ -60,21 +87,29 @@ module _ {M : Type 1} {𝓤 : URA M} where
   -- the borrow of the record, while it is open
   abbrev opened : Lft → Share → RefT Progress → List (Item 𝓤)
   opened κ s r =
-      ‵ (cellAt fullShare (Rec.the-row .mir) (Rec′.lowered (now r) ∷ []) (ptr r .0) (ptr r .1)) ∷ ‵ (fobor κ s (Held (mem Rec.the-row) (ptr r .0) (ptr r .1) (name r)))
+      ‵ (cellAt fullShare (Rec.the-row .mir) (Rec′.lowered (now r) ∷ []) (ptr r .0) (ptr r .1))
+      ∷ ‵ (fobor κ s (Held (mem Rec.the-row) (ptr r .0) (ptr r .1) (name r)))
       ∷ ‵ (fobs (name r) (Rec.the-row .coded .code (now r))) ∷ ‵ (fauth (name r) (Rec.the-row .coded .code (now r))) ∷ []
 
-module _ {M : Type 1} {𝓤 : URA M} {H : Heap 𝓤} {A : Atoms 𝓤} {K : Type 0} {W : Given 𝓤 H A} {Γ : List (Item 𝓤)} {E : Cells} {C : Calls 𝓤 H} {Λ : Loops 𝓤 H} {q : Post 𝓤 H} where
+module _ {M : Type 1} {𝓤 : URA M} {H : Heap 𝓤} {A : Atoms 𝓤} {K : Type 0} {W : Given 𝓤 H A} {Γ : List (Item 𝓤)} {E : Cells} {C : Calls 𝓤 H}
+    {Λ : Loops 𝓤 H} {q : Post 𝓤 H} where
   module _ (κ : Lft) (s : Share) (r : RefT Progress) where
-    pub copies : K → {rest : Body} (ts : Fmls 4) (T : Fml) (fs : Fmls 6) (F : Fml) (n : ℕ) {τ : Ty} {b b′ : ℕ} → spotOf 𝓤 H E 7 ≡ (τ, b, zero) → spotOf 𝓤 H E n ≡ (Rec′.mir, b′, zero)
+    pub copies : K → {rest : Body} (ts : Fmls 4) (T : Fml) (fs : Fmls 6) (F : Fml) (n : ℕ) {τ : Ty} {b b′ : ℕ} → spotOf 𝓤 H E 7 ≡ (τ, b, zero)
+        → spotOf 𝓤 H E n ≡ (Rec′.mir, b′, zero)
         → nth 𝓤 H A 7 Γ ≡ cell τ b (vptr (ptr r .0) (ptr r .1)) → nth 𝓤 H A n Γ ≡ room Rec′.mir b′
-        → Step K W (raw (Handed 𝓤 H A (stars 4 ts T) (stars 6 fs (fsep (Rec.the-row .own (now r) (Rec′.lowered (now r) ∷ [])) F))) ∷ (opened κ s r ++ put 𝓤 H A n (cell Rec′.mir b′ (Rec′.lowered (now r))) Γ)) (runs C Λ E rest q)
-        (‵ (stars 4 ts (fsep (flft κ s) T)) ∷ ‵ (stars 6 fs (fsep (MutRef erased κ Rec.the-row .own r (ptr-vals r)) F)) ∷ Γ) (runs C Λ E (seq (assign (place n []) (rvOpd (copy (place 7 (deref Rec′.mir ∷ []))))) rest) q)
+        → Step K W (raw (Handed 𝓤 H A (stars 4 ts T) (stars 6 fs (fsep (Rec.the-row .own (now r) (Rec′.lowered (now r) ∷ [])) F)))
+        ∷ (opened κ s r ++ put 𝓤 H A n (cell Rec′.mir b′ (Rec′.lowered (now r))) Γ)) (runs C Λ E rest q)
+        (‵ (stars 4 ts (fsep (flft κ s) T)) ∷ ‵ (stars 6 fs (fsep (MutRef erased κ Rec.the-row .own r (ptr-vals r)) F)) ∷ Γ)
+        (runs C Λ E (seq (assign (place n []) (rvOpd (copy (place 7 (deref Rec′.mir ∷ []))))) rest) q)
     copies t ts T fs F n er en hr hn = step (λ k.
         takes t 4 ts T $ move t (2 ∷ []) $ takes t 6 fs F $ fsplit3 t $ drop t $ move t (0 ∷ 1 ∷ 3 ∷ []) $
-        opens t tt Rec.the-row {h = now r} (ptr r .0) (ptr r .1) (λ vs. spelt t Rec.the-row (Is Rec.the-row) (shows 𝓤 H A Rec.the-row) (LL.vals Rec.the-type Rec′.the-laws) (LL.tells Rec.the-type Rec′.the-laws) fullShare (now r) vs (ptr r .0) (ptr r .1) $
+        opens t tt Rec.the-row {h = now r} (ptr r .0) (ptr r .1)
+        (λ vs. spelt t Rec.the-row (Is Rec.the-row) (shows 𝓤 H A Rec.the-row) (LL.vals Rec.the-type Rec′.the-laws)
+        (LL.tells Rec.the-type Rec′.the-laws) fullShare (now r) vs (ptr r .0) (ptr r .1) $
         move t (1 ∷ []) $ peeks t Rec.the-row (Is Rec.the-row) (shows 𝓤 H A Rec.the-row) (now r) (Rec′.lowered (now r) ∷ []) (λ was.
         -- [what the record owns; its cell; the open borrow; obs; auth; what the others own; the others' tokens; the locals]
-        assigns t (of-opd t (load t (found t er (hop t (look t (behind 7 7) hr) (stop t))) (look-raw t 1 refl))) (found t en (stop t)) (init t (behind 7 n) hn (LL.lawful Rec.the-type Rec′.the-laws 𝓤 H A W .typed (now r) _ was .0)) $
+        assigns t (of-opd t (load t (found t er (hop t (look t (behind 7 7) hr) (stop t))) (look-raw t 1 refl))) (found t en (stop t))
+        (init t (behind 7 n) hn (LL.lawful Rec.the-type Rec′.the-laws 𝓤 H A W .typed (now r) _ was .0)) $
         move t (0 ∷ 5 ∷ []) $ puts t 6 fs F $ move t (5 ∷ 0 ∷ []) $ hands t $ k)))
 
     pub puts-back : K → (n : ℕ) (ps : List (Slot n)) (ks : Kepts ps) (c : Clauses 𝓤 (returning n ps ks)) (y : Met 𝓤 H A (returning n ps ks) c .Ghost)
@@ -87,21 +122,33 @@ module _ {M : Type 1} {𝓤 : URA M} {H : Heap 𝓤} {A : Atoms 𝓤} {K : Type 
         → ((v : Outcome) → nth 𝓤 H A o (put 𝓤 H A o (cell Out′.mir b′ (outcomeVal v)) Γ) ≡ cell Out′.mir b′ (outcomeVal v))
         → ((v : Outcome) → nth 𝓤 H A 0 (put 𝓤 H A o (cell Out′.mir b′ (outcomeVal v)) Γ) ≡ room Ans′.mir b₀)
         → ((v : Outcome) (ws : Lasts (returning n ps ks) (y .0 .0) (y .0 .3)) → Seq K W
-        (((‵ (stars 4 ts (fsep (flft κ s) T)) ⊛ ‵ (Ans.the-row .own (v .answer) (answerVal (v .answer) ∷ []))) ⊛ (‵ (stars 6 (fs ws) (fsep (fres (name r) (Rec.the-row .coded .code (v .run))) (F ws))) ⊛ raw (c (y .0 .0) (y .0 .3) .ensures (y .1) v (atExit (returning n ps ks) (y .0 .0) (y .0 .3) ws))))
+        (((‵ (stars 4 ts (fsep (flft κ s) T)) ⊛ ‵ (Ans.the-row .own (v .answer) (answerVal (v .answer) ∷ [])))
+        ⊛ (‵ (stars 6 (fs ws) (fsep (fres (name r) (Rec.the-row .coded .code (v .run))) (F ws)))
+        ⊛ raw (c (y .0 .0) (y .0 .3) .ensures (y .1) v (atExit (returning n ps ks) (y .0 .0) (y .0 .3) ws))))
         ∷ put 𝓤 H A 0 (cell Ans′.mir b₀ (answerVal (v .answer))) (put 𝓤 H A o (cell Out′.mir b′ (outcomeVal v)) Γ)) (runs C Λ E return q))
         → Seq K W (raw (Met 𝓤 H A (returning n ps ks) c .post y w) ∷ (opened κ s r ++ Γ)) (lands C Λ E (place o []) w (afterwards o) q)
     puts-back t n ps ks c y ts T et fs F ef w o er eo e0 ho hr′ ho′ h0′ k =
         returned t tt (returning n ps ks) c y w (λ v ws. peeks t Out.the-row (Is Out.the-row) (shows 𝓤 H A Out.the-row) v (w ∷ []) (λ is.
-        use1 W (given (w ∷ [] ≡ outcomeVal v ∷ []) (‵ (all-own (Out.the-type .parts) Out′.the-laws (v .answer, (v .run, tt))))) (own-open 𝓤 H A W Out.the-type Out′.the-laws (v .answer, (v .run, tt)) w) $ learn t (λ e.
-        fsplit t $ move t (1 ∷ []) $ fsplit t $ move t (1 ∷ []) $ drop t $ peeks t Rec.the-row (Is Rec.the-row) (shows 𝓤 H A Rec.the-row) (v .run) (Rec′.lowered (v .run) ∷ []) (λ is-r.
+        use1 W (given (w ∷ [] ≡ outcomeVal v ∷ []) (‵ (all-own (Out.the-type .parts) Out′.the-laws (v .answer, (v .run, tt)))))
+        (own-open 𝓤 H A W Out.the-type Out′.the-laws (v .answer, (v .run, tt)) w) $ learn t (λ e.
+        fsplit t $ move t (1 ∷ []) $ fsplit t $ move t (1 ∷ []) $ drop t $
+        peeks t Rec.the-row (Is Rec.the-row) (shows 𝓤 H A Rec.the-row) (v .run) (Rec′.lowered (v .run) ∷ []) (λ is-r.
         move t (1 ∷ []) $ peeks t Ans.the-row (Is Ans.the-row) (shows 𝓤 H A Ans.the-row) (v .answer) (answerVal (v .answer) ∷ []) (λ is-a.
-        -- [what the answer owns; what the record owns; the tokens; what is said of the last values; the clause; the record's cell; the open borrow; obs; auth; the locals]
+        -- [what the answer owns; what the record owns; the tokens; what is said of the last values; the clause; the record's cell; the open borrow; obs; auth;
+        -- the locals]
         regoal t (λ (u : Val). lands C Λ E (place o []) u (afterwards o) q) (ap only e) refl $
-        land t (found t eo (stop t)) (init t (behind 9 o) ho (LL.lawful Out.the-type Out′.the-laws 𝓤 H A W .typed v (outcomeVal v ∷ []) (subst (Is Out.the-row v) e is) .0)) $
-        assigns t (of-opd t (load t (found t eo (fld t refl (stop t))) (reads-in t (behind 9 o) (ho′ v) (sub t 1 refl (whole t))))) (found t er (hop t (look t (behind 9 7) (hr′ v)) (stop t))) (store-raw t 5 refl (LL.lawful Rec.the-type Rec′.the-laws 𝓤 H A W .typed (v .run) _ is-r .0)) $
-        assigns t (of-opd t (load t (found t eo (fld t refl (stop t))) (reads-in t (behind 9 o) (ho′ v) (sub t 0 refl (whole t))))) (found t e0 (stop t)) (init t (behind 9 0) (h0′ v) (EL.lawful Ans.the-type Ans′.the-laws 𝓤 H A W tt .typed (v .answer) _ is-a .0)) $
+        land t (found t eo (stop t))
+        (init t (behind 9 o) ho (LL.lawful Out.the-type Out′.the-laws 𝓤 H A W .typed v (outcomeVal v ∷ []) (subst (Is Out.the-row v) e is) .0)) $
+        assigns t (of-opd t (load t (found t eo (fld t refl (stop t))) (reads-in t (behind 9 o) (ho′ v) (sub t 1 refl (whole t)))))
+        (found t er (hop t (look t (behind 9 7) (hr′ v)) (stop t)))
+        (store-raw t 5 refl (LL.lawful Rec.the-type Rec′.the-laws 𝓤 H A W .typed (v .run) _ is-r .0)) $
+        assigns t (of-opd t (load t (found t eo (fld t refl (stop t))) (reads-in t (behind 9 o) (ho′ v) (sub t 0 refl (whole t))))) (found t e0 (stop t))
+        (init t (behind 9 0) (h0′ v) (EL.lawful Ans.the-type Ans′.the-laws 𝓤 H A W tt .typed (v .answer) _ is-a .0)) $
         move t (5 ∷ 1 ∷ 6 ∷ 7 ∷ 8 ∷ []) $ closes t tt Rec.the-row (v .run) (Rec′.lowered (v .run) ∷ []) (ptr r .0) (ptr r .1) $
-        use1 W (‵ (fres (name r) (Rec.the-row .coded .code (v .run)))) (W .names .obs-res (name r) (Rec.the-row .coded .code (v .run))) $ move t (1 ∷ []) $ drop t $
+        use1 W (‵ (fres (name r) (Rec.the-row .coded .code (v .run)))) (W .names .obs-res (name r) (Rec.the-row .coded .code (v .run))) $
+        move t (1 ∷ []) $ drop t $
         -- [res; the record's token; what the answer owns; the tokens; what is said of the last values; the clause; the locals]
-        rewrite t 3 (λ (f : Fml). ‵ f) et refl $ rewrite t 4 (λ (f : Fml). ‵ f) (ef ws) refl $ move t (1 ∷ 3 ∷ []) $ puts t 4 ts T $ move t (0 ∷ 2 ∷ []) $ join t $
-        move t (2 ∷ []) $ takes t 6 (fs ws) (F ws) $ drop t $ move t (2 ∷ 0 ∷ []) $ puts t 6 (fs ws) (F ws) $ move t (0 ∷ 2 ∷ []) $ join t $ move t (1 ∷ 0 ∷ []) $ join t $ k v ws)))))
+        rewrite t 3 (λ (f : Fml). ‵ f) et refl $ rewrite t 4 (λ (f : Fml). ‵ f) (ef ws) refl $ move t (1 ∷ 3 ∷ []) $ puts t 4 ts T $
+        move t (0 ∷ 2 ∷ []) $ join t $
+        move t (2 ∷ []) $ takes t 6 (fs ws) (F ws) $ drop t $ move t (2 ∷ 0 ∷ []) $ puts t 6 (fs ws) (F ws) $ move t (0 ∷ 2 ∷ []) $ join t $
+        move t (1 ∷ 0 ∷ []) $ join t $ k v ws)))))

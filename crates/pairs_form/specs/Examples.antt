@@ -75,5 +75,7 @@ pub record Runs : Type 0 where
   pub short : start 1 3 half 2 (blank 3 2) .answer ≡ refused 4 []
 
 runs : Runs
-unfolding start resume startChecks resumeChecks check7 checked _then_ refuseFirst refuseWith inOrder marksInOrder placeInOrder run turn pairTurn paired after needed opposes isWithin reducible isSmall onward keeping following begin chosenTo better pairsOf value inner sumTo allTo anyTo countTo isAtOrBelow packTo writeTo keeps spoils unit frozen bit
+unfolding start resume startChecks resumeChecks check7 checked _then_ refuseFirst refuseWith inOrder marksInOrder placeInOrder run turn pairTurn paired after
+    needed opposes isWithin reducible isSmall onward keeping following begin chosenTo better pairsOf value inner sumTo allTo anyTo countTo isAtOrBelow packTo
+    writeTo keeps spoils unit frozen bit
 runs = record { one = refl; cut = refl; resumed = refl; full = refl; again = refl; none = refl; short = refl }

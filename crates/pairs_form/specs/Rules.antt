@@ -220,7 +220,8 @@ decides-order p q room s =
 module _ (p q : ℕ) (coefs : List ℤ) (room : ℕ) where
   shape-renders : {own : Check} {rules : Rules} → Renders own rules → Renders (shapeThen (inputOf p q coefs) room own) (shapeRules p q coefs room rules)
   shape-renders own =
-      renders-then (decides-outside 1 1 mostEquations p) (renders-then (decides-outside 2 1 mostUnknowns q) (renders-then (decides-unequal 3 (length coefs) (p * q))
+      renders-then (decides-outside 1 1 mostEquations p)
+      (renders-then (decides-outside 2 1 mostUnknowns q) (renders-then (decides-unequal 3 (length coefs) (p * q))
       (renders-then (decides-if (ltb room q) 4 (room < q) (ltb→lt room q) (lt→ltb room q)) own)))
 
   -- each refusal of a start is given in its case and in no other

@@ -1,5 +1,5 @@
--- What the contracts of the products cite: small coefficients and rows, tables with rows of 16 integers, the Gram matrix of the coefficients in such a table, and the
--- inner products of the rows on the stack with every column. Assumes nothing.
+-- What the contracts of the products cite: small coefficients and rows, tables with rows of 16 integers, the Gram matrix of the coefficients in such a table,
+-- and the inner products of the rows on the stack with every column. Assumes nothing.
 use mathlib.Core.Path.{_≡_}
 use mathlib.Core.List.{List}
 use Prim.Native.Nat.{ℕ, _+_, _*_, _≤_, _<_}

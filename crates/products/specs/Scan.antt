@@ -91,5 +91,6 @@ module _ {q : ℕ} {f : ℕ → Bool} {n rest : ℕ} (s : Left q f n rest) (few 
 pub none-end : {q : ℕ} {f : ℕ → Bool} {n : ℕ} → Left q f n 0 → (g : ℕ → Bool) → ((j : ℕ) → f j ≡ false → g j ≡ false) → anyTo n g ≡ false → anyTo q g ≡ false
 none-end {q} {f} {n} s g within e = any-over g n q (s .few) (λ j l k. within j (left-none s j l k)) e
 
-pub left-end : {q : ℕ} {f : ℕ → Bool} {n : ℕ} → Left q f n 0 → (g : ℕ → Bool) → ((j : ℕ) → f j ≡ false → g j ≡ false) → {m : ℕ} → m ≡ marksTo n g → m ≡ marksTo q g
+pub left-end : {q : ℕ} {f : ℕ → Bool} {n : ℕ} → Left q f n 0 → (g : ℕ → Bool) → ((j : ℕ) → f j ≡ false → g j ≡ false) → {m : ℕ}
+    → m ≡ marksTo n g → m ≡ marksTo q g
 left-end {q} {f} {n} s g within e = e ∙ sym (marks-over g n q (s .few) (λ j l k. within j (left-none s j l k)))

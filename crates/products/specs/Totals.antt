@@ -25,7 +25,8 @@ totals-less d h = record { size = d .size; levels = λ k l. d .levels k (omega a
 pub totals-none : (q : ℕ) (stack sums : List ℕ) → length sums ≡ 16 → Totals q stack 0 sums
 totals-none q stack sums e = record { size = e; levels = λ k l. absurd (omega arith) }
 
-pub totals-next : {q : ℕ} {stack sums : List ℕ} {k sum : ℕ} → k < 16 → sum ≡ total (at stack (q + 1) k) q → Totals q stack k sums → Totals q stack (k + 1) (set sums k sum)
+pub totals-next : {q : ℕ} {stack sums : List ℕ} {k sum : ℕ} → k < 16 → sum ≡ total (at stack (q + 1) k) q → Totals q stack k sums
+    → Totals q stack (k + 1) (set sums k sum)
 totals-next {q} {stack} {sums} {k} {sum} l e t =
     record {
       size = length-set sums k sum ∙ t .size;

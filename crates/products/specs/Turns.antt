@@ -22,7 +22,24 @@ use Rattle.linear.specs.Systems.{inner}
 use Rattle.linear.specs.SystemLaws.{inner-next, inner-bound}
 use Rattle.definitions.specs.System.{mostUnknowns, mostComponent, isZero}
 use Rattle.laws.specs.TableLaws.{row-fits}
-use Rattle.products.specs.Products.{Ahead, Gram, given, SmallCoefs, SmallRow, SmallRows, gramLimit, productLimit, entry, Rows, Zeros, Written, SmallGram, partial, SmallProducts, raised}
+use Rattle.products.specs.Products.{
+  Ahead,
+  Gram,
+  given,
+  SmallCoefs,
+  SmallRow,
+  SmallRows,
+  gramLimit,
+  productLimit,
+  entry,
+  Rows,
+  Zeros,
+  Written,
+  SmallGram,
+  partial,
+  SmallProducts,
+  raised,
+}
 
 -- ---- sums of products
 
@@ -138,7 +155,8 @@ module _ {k : ℕ} {f : ℕ → ℤ} {table₀ : List ℤ} where
 
   -- a row written again
   pub written-again : {n : ℕ} {h : ℕ → ℤ} {table table′ : List ℤ} → Written k n h table₀ table → Written k n f table table′ → Written k n f table₀ table′
-  written-again w u = record { before = λ i l. u .before i l ∙ w .before i l; new = u .new; after = λ i l. u .after i l ∙ w .after i l; size = u .size ∙ w .size }
+  written-again w u =
+      record { before = λ i l. u .before i l ∙ w .before i l; new = u .new; after = λ i l. u .after i l ∙ w .after i l; size = u .size ∙ w .size }
 
   -- a row that holds what is written
   pub written-same : {n : ℕ} → ((j : ℕ) → j < n → entry table₀ k j ≡ f j) → Written k n f table₀ table₀
@@ -170,7 +188,8 @@ rows-next {k} few r w i j l jq =
 pub ahead-all : {q : ℕ} {f : ℕ → ℕ → ℤ} {table : List ℤ} → Rows q q f table → Ahead 0 q f table
 ahead-all r = record { rows = λ i j _ l k. r i j l k }
 
-pub ahead-next : {k q : ℕ} {f : ℕ → ℕ → ℤ} {h : ℕ → ℤ} {table₀ table : List ℤ} → q ≤ mostUnknowns → Ahead k q f table₀ → Written k q h table₀ table → Ahead (k + 1) q f table
+pub ahead-next : {k q : ℕ} {f : ℕ → ℕ → ℤ} {h : ℕ → ℤ} {table₀ table : List ℤ} → q ≤ mostUnknowns → Ahead k q f table₀ → Written k q h table₀ table
+    → Ahead (k + 1) q f table
 ahead-next few a w = record { rows = λ i j l m n. w .after (i * 16 + j) (omega arith) ∙ a .rows i j (omega arith) m n }
 
 -- a table of zeros is the Gram matrix of no equations

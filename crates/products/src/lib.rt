@@ -15,7 +15,24 @@ ghost use Rattle.definitions.specs.System.{isZero};
 ghost use Rattle.definitions.specs.Tables.{at, frozen};
 ghost use Rattle.definitions.specs.Step.{marksTo};
 ghost use Rattle.products.specs.Marks.{Marked};
-ghost use Rattle.products.specs.Products.{given, SmallCoefs, SmallRow, SmallRows, entry, Zeros, Written, Filled, Gram, SmallGram, partial, Summed, combine, Combined, raised, ChildRoom};
+ghost use Rattle.products.specs.Products.{
+  given,
+  SmallCoefs,
+  SmallRow,
+  SmallRows,
+  entry,
+  Zeros,
+  Written,
+  Filled,
+  Gram,
+  SmallGram,
+  partial,
+  Summed,
+  combine,
+  Combined,
+  raised,
+  ChildRoom,
+};
 ghost use Rattle.products.specs.Totals.{Totals};
 
 // Writes the Gram matrix into a table of zeros: the inner product of columns i and j at i * 16 + j, by what each equation adds to it.

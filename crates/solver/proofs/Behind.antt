@@ -249,10 +249,12 @@ module _ {M : Type 1} {𝓤 : URA M} {H : Heap 𝓤} {A : Atoms 𝓤} {K : Type 
 
 -- ---- statements
 module _ {M : Type 1} {𝓤 : URA M} {H : Heap 𝓤} {A : Atoms 𝓤} {K : Type 0} {W : Given 𝓤 H A} {Γ : List (Item 𝓤)} where
-  pub found : K → {E : Cells} {i : ℕ} {st : List PStep} {τ : Ty} {b : ℕ} {sp : Spot 𝓤 H} → spotOf 𝓤 H E i ≡ (τ, b, zero) → Walks K W Γ E (τ, b, zero) st sp → Finds K W Γ E (place i st) sp
+  pub found : K → {E : Cells} {i : ℕ} {st : List PStep} {τ : Ty} {b : ℕ} {sp : Spot 𝓤 H} → spotOf 𝓤 H E i ≡ (τ, b, zero) → Walks K W Γ E (τ, b, zero) st sp
+      → Finds K W Γ E (place i st) sp
   found t {E} {st = st} {sp = sp} e w = from t (subst (λ (s : Spot 𝓤 H). Walks K W Γ E s st sp) (sym e) w)
 
-  pub reads-in : K → (n : ℕ) {i : Item 𝓤} {q : Share} {τ : Ty} {b o : ℕ} {v : Val} {back : Val → Item 𝓤} → nth 𝓤 H A n Γ ≡ i → Part K W i q τ b o v back → Reads K W Γ τ b o v
+  pub reads-in : K → (n : ℕ) {i : Item 𝓤} {q : Share} {τ : Ty} {b o : ℕ} {v : Val} {back : Val → Item 𝓤} → nth 𝓤 H A n Γ ≡ i
+      → Part K W i q τ b o v back → Reads K W Γ τ b o v
   reads-in t n {q = q} {τ} {b} {o} {v} {back} e p = look-in t n (subst (λ (j : Item 𝓤). Part K W j q τ b o v back) (sym e) p)
 
 -- the place i of a list behind its first n

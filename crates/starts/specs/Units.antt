@@ -22,7 +22,8 @@ pub record ZeroRow (q : ℕ) (table : List ℕ) (k : ℕ) : Type 0 where
 pub unit-row : (q : ℕ) (table : List ℕ) (k i : ℕ) → i < q → k * (q + 1) + q ≤ length table → ZeroRow q table k
     → set table (k * (q + 1) + i) 1 ≡ writeTo q table (k * (q + 1)) (unit i)
 unit-row q table k i l room z =
-    ext-getD 0 (set table (base + i) 1) (writeTo q table base (unit i)) (length-set table (base + i) 1 ∙ sym (write-length (unit i) table base q)) (λ e _. there e)
+    ext-getD 0 (set table (base + i) 1) (writeTo q table base (unit i))
+    (length-set table (base + i) 1 ∙ sym (write-length (unit i) table base q)) (λ e _. there e)
   where
     base : ℕ
     base = k * (q + 1)

@@ -84,11 +84,13 @@ module _ (w : ℕ) (s : State) (y : ℕ → ℕ) where
   second-other true = refl
   second-other false = refl
 
-after-same : (full : Bool) (w found : ℕ) {x y : ℕ → ℕ} (list : List ℕ) → ((j : ℕ) → j < w → x j ≡ y j) → listAfter full w found x list ≡ listAfter full w found y list
+after-same : (full : Bool) (w found : ℕ) {x y : ℕ → ℕ} (list : List ℕ) → ((j : ℕ) → j < w → x j ≡ y j)
+    → listAfter full w found x list ≡ listAfter full w found y list
 after-same true w found list e = refl
 after-same false w found list e = write-same w list (found * w) e
 
-pub enlisted-plain : (q : ℕ) (s : State) (x : ℕ → ℕ) {after : List ℕ} {r : Stepped} → Appended q (s .run .found) (part 0 x) (s .list) after Listed r → Enlisted plain q s x after (s .second) r
+pub enlisted-plain : (q : ℕ) (s : State) (x : ℕ → ℕ) {after : List ℕ} {r : Stepped} → Appended q (s .run .found) (part 0 x) (s .list) after Listed r
+    → Enlisted plain q s x after (s .second) r
 enlisted-plain q s x a =
     let full = isFull q (s .run .found) (s .list) in
     record {
@@ -98,11 +100,13 @@ enlisted-plain q s x a =
     }
 
 -- a walk above a lower bound lists as a plain one
-pub enlisted-above : (f : ℕ → ℕ) (q : ℕ) (s : State) (x : ℕ → ℕ) {after : List ℕ} {r : Stepped} → Appended q (s .run .found) (part 0 x) (s .list) after Listed r → Enlisted (above f) q s x after (s .second) r
+pub enlisted-above : (f : ℕ → ℕ) (q : ℕ) (s : State) (x : ℕ → ℕ) {after : List ℕ} {r : Stepped} → Appended q (s .run .found) (part 0 x) (s .list) after Listed r
+    → Enlisted (above f) q s x after (s .second) r
 enlisted-above f q s x a = let e = enlisted-plain q s x a in record { answers = e .answers; first = e .first; other = e .other }
 
 module _ (q : ℕ) (s : State) (x : ℕ → ℕ) where
-  pub enlisted-zero : x 0 ≡ 0 → {after : List ℕ} {r : Stepped} → Appended (q - 1) (s .run .found) (part 1 x) (s .list) after Listed r → Enlisted capped q s x after (s .second) r
+  pub enlisted-zero : x 0 ≡ 0 → {after : List ℕ} {r : Stepped} → Appended (q - 1) (s .run .found) (part 1 x) (s .list) after Listed r
+      → Enlisted capped q s x after (s .second) r
   enlisted-zero z {after} {r} a =
       let full = isFull (q - 1) (s .run .found) (s .list) in
       record {
@@ -111,7 +115,8 @@ module _ (q : ℕ) (s : State) (x : ℕ → ℕ) where
         other = rw z (first-other (q - 1) s (rest x) full);
       }
 
-  pub enlisted-one : 0 < x 0 → {after : List ℕ} {r : Stepped} → Appended (q - 1) (s .run .found₂) (part 1 x) (s .second) after ListedSecond r → Enlisted capped q s x (s .list) after r
+  pub enlisted-one : 0 < x 0 → {after : List ℕ} {r : Stepped} → Appended (q - 1) (s .run .found₂) (part 1 x) (s .second) after ListedSecond r
+      → Enlisted capped q s x (s .list) after r
   enlisted-one z {after} {r} a =
       let full = isFull (q - 1) (s .run .found₂) (s .second) in
       let one : leb 1 (x 0) ≡ true = le-leb 1 (x 0) (omega arith) in

@@ -27,7 +27,8 @@ module _ (k : Kind) (p q : ℕ) (coefs : List ℤ) (limit : ℕ) (s : State) whe
   m = systemWith k p q coefs limit
 
   -- candidates are those unknowns that are not frozen and have an inner product below zero; t is the top's tuple
-  pub child-makes : (t : ℕ → ℕ) (candidates j : ℕ) → 0 < q → Same q t (top m s) → frozen candidates j ≡ ltZ (towards m (top m s) j) (pos 0) && not (frozen (topMarks m s) j) → childFor k q s t candidates j ≡ makes m s j
+  pub child-makes : (t : ℕ → ℕ) (candidates j : ℕ) → 0 < q → Same q t (top m s)
+      → frozen candidates j ≡ ltZ (towards m (top m s) j) (pos 0) && not (frozen (topMarks m s) j) → childFor k q s t candidates j ≡ makes m s j
   unfolding childFor
   child-makes t candidates j some e c =
       child-same k q s candidates j some e

@@ -60,30 +60,42 @@ second-asked plain q s h = h
 second-asked capped q s h = h
 second-asked (above f) q s h = h
 
-pub enlisted-asked : (k : Kind) (q : ℕ) (stack : List ℕ) (height : ℕ) {list second : List ℕ} {found found₂ : ℕ} {x : ℕ → ℕ} {after after₂ : List ℕ} {r : Stepped} → Enlisted k q (asked [] list second 0 found found₂) x after after₂ r → Enlisted k q (asked stack list second height found found₂) x after after₂ r
+pub enlisted-asked : (k : Kind) (q : ℕ) (stack : List ℕ) (height : ℕ) {list second : List ℕ} {found found₂ : ℕ} {x : ℕ → ℕ} {after after₂ : List ℕ}
+    {r : Stepped} → Enlisted k q (asked [] list second 0 found found₂) x after after₂ r
+    → Enlisted k q (asked stack list second height found found₂) x after after₂ r
 enlisted-asked k q stack height {list} {second} {found} {found₂} {x} e =
     let b = toSecond k x in
     record {
       answers = e .answers ∙ ap (listAnswer b) (full-asked b);
-      first = e .first ∙ first-asked b (fullIn b (rowWidth k q) (asked [] list second 0 found found₂)) ∙ ap (λ f. listsAfter b f (rowWidth k q) (asked stack list second height found found₂) (rowOf k x) .list) (full-asked b);
-      other = e .other ∙ second-asked₂ b (fullIn b (rowWidth k q) (asked [] list second 0 found found₂)) ∙ ap (λ f. listsAfter b f (rowWidth k q) (asked stack list second height found found₂) (rowOf k x) .second) (full-asked b);
+      first =
+          e .first ∙ first-asked b (fullIn b (rowWidth k q) (asked [] list second 0 found found₂))
+          ∙ ap (λ f. listsAfter b f (rowWidth k q) (asked stack list second height found found₂) (rowOf k x) .list) (full-asked b);
+      other =
+          e .other ∙ second-asked₂ b (fullIn b (rowWidth k q) (asked [] list second 0 found found₂))
+          ∙ ap (λ f. listsAfter b f (rowWidth k q) (asked stack list second height found found₂) (rowOf k x) .second) (full-asked b);
     }
   where
-    full-asked : (b : Bool) → fullIn b (rowWidth k q) (asked [] list second 0 found found₂) ≡ fullIn b (rowWidth k q) (asked stack list second height found found₂)
+    full-asked : (b : Bool)
+        → fullIn b (rowWidth k q) (asked [] list second 0 found found₂) ≡ fullIn b (rowWidth k q) (asked stack list second height found found₂)
     full-asked true = refl
     full-asked false = refl
 
-    first-asked : (b full : Bool) → listsAfter b full (rowWidth k q) (asked [] list second 0 found found₂) (rowOf k x) .list ≡ listsAfter b full (rowWidth k q) (asked stack list second height found found₂) (rowOf k x) .list
+    first-asked : (b full : Bool)
+        → listsAfter b full (rowWidth k q) (asked [] list second 0 found found₂) (rowOf k x) .list
+        ≡ listsAfter b full (rowWidth k q) (asked stack list second height found found₂) (rowOf k x) .list
     first-asked b true = refl
     first-asked false false = refl
     first-asked true false = refl
 
-    second-asked₂ : (b full : Bool) → listsAfter b full (rowWidth k q) (asked [] list second 0 found found₂) (rowOf k x) .second ≡ listsAfter b full (rowWidth k q) (asked stack list second height found found₂) (rowOf k x) .second
+    second-asked₂ : (b full : Bool)
+        → listsAfter b full (rowWidth k q) (asked [] list second 0 found found₂) (rowOf k x) .second
+        ≡ listsAfter b full (rowWidth k q) (asked stack list second height found found₂) (rowOf k x) .second
     second-asked₂ b true = refl
     second-asked₂ false false = refl
     second-asked₂ true false = refl
 
-pub child-asked : (k : Kind) (q : ℕ) (list second : List ℕ) (found found₂ : ℕ) (t : ℕ → ℕ) (candidates : ℕ) (stack : List ℕ) (height : ℕ) (j : ℕ) → childFor k q (asked [] list second 0 found found₂) t candidates j ≡ childFor k q (asked stack list second height found found₂) t candidates j
+pub child-asked : (k : Kind) (q : ℕ) (list second : List ℕ) (found found₂ : ℕ) (t : ℕ → ℕ) (candidates : ℕ) (stack : List ℕ) (height : ℕ) (j : ℕ)
+    → childFor k q (asked [] list second 0 found found₂) t candidates j ≡ childFor k q (asked stack list second height found found₂) t candidates j
 unfolding childFor
 child-asked plain q list second found found₂ t candidates stack height j = refl
 child-asked capped q list second found found₂ t candidates stack height j = refl
@@ -124,13 +136,19 @@ module _ {k : Kind} {limit q : ℕ} {g : List ℤ} {s : State} {c : List ℤ} {s
       solved-by : allTo q (λ j. isZero (entry c (level s) j)) ≡ solves m (top m now)
       solved-by = vanish-solves gram top-products k limit
 
-      listing : n ≢ stepLimit → (b full : Bool) → toSecond k (tuple t) ≡ b → fullIn b (rowWidth k q) s ≡ full → allTo q (λ j. isZero (entry c (level s) j)) ≡ true → Steps m now (listAnswer b full) (s .stack) (listsAfter b full (rowWidth k q) s (rowOf k (top m now)) .list) (listsAfter b full (rowWidth k q) s (rowOf k (top m now)) .second)
-      listing early b true e f y = step-full m now early (sym solved-by ∙ y) (ap (λ x. fullIn x (rowWidth k q) now) (sym (to-second-same k (v .some) (h .same)) ∙ e) ∙ full-beside b (rowWidth k q) s run n n₂ d ∙ f)
+      listing : n ≢ stepLimit → (b full : Bool) → toSecond k (tuple t) ≡ b → fullIn b (rowWidth k q) s ≡ full
+          → allTo q (λ j. isZero (entry c (level s) j)) ≡ true
+          → Steps m now (listAnswer b full) (s .stack) (listsAfter b full (rowWidth k q) s (rowOf k (top m now)) .list)
+          (listsAfter b full (rowWidth k q) s (rowOf k (top m now)) .second)
+      listing early b true e f y =
+          step-full m now early (sym solved-by ∙ y)
+          (ap (λ x. fullIn x (rowWidth k q) now) (sym (to-second-same k (v .some) (h .same)) ∙ e) ∙ full-beside b (rowWidth k q) s run n n₂ d ∙ f)
       listing early false false e f y = step-listed m now early (sym solved-by ∙ y) (sym (to-second-same k (v .some) (h .same)) ∙ e) f refl
       listing early true false e f y = step-listed₂ m now early (sym solved-by ∙ y) (sym (to-second-same k (v .some) (h .same)) ∙ e) f refl
 
     -- the top is a solution
-    pub taken-solution : allTo q (λ j. isZero (entry c (level s) j)) ≡ true → {r : Stepped} {list second : List ℕ} → Enlisted k q s (tuple t) list second r → Taken k limit q g s r (s .stack) list second c sums
+    pub taken-solution : allTo q (λ j. isZero (entry c (level s) j)) ≡ true → {r : Stepped} {list second : List ℕ} → Enlisted k q s (tuple t) list second r
+        → Taken k limit q g s r (s .stack) list second c sums
     taken-solution y {r} {list} {second} e =
         record {
           cached = rw (e .answers) (cached-by (toSecond k (tuple t)) (fullFor k q s (tuple t)));
@@ -159,25 +177,31 @@ module _ {k : Kind} {limit q : ℕ} {g : List ℤ} {s : State} {c : List ℤ} {s
         after-same₁ false false = write-same (rowWidth k q) (s .list) (s .run .found * rowWidth k q) (row-agrees k q (h .same))
         after-same₁ true false = refl
 
-        after-same₂ : (b full : Bool) → listsAfter b full (rowWidth k q) s (rowOf k (tuple t)) .second ≡ listsAfter b full (rowWidth k q) s (rowOf k shown) .second
+        after-same₂ : (b full : Bool)
+            → listsAfter b full (rowWidth k q) s (rowOf k (tuple t)) .second ≡ listsAfter b full (rowWidth k q) s (rowOf k shown) .second
         after-same₂ b true = refl
         after-same₂ false false = refl
         after-same₂ true false = write-same (rowWidth k q) (s .second) (s .run .found₂ * rowWidth k q) (row-agrees k q (h .same))
 
     -- the top is none; `made` are the unknowns that make a child
-    module _ (no : allTo q (λ j. isZero (entry c (level s) j)) ≡ false) {marks : ℕ} (row : marks ≡ getD (s .stack) (level s * (q + 1) + q) 0) {candidates : ℕ} (are : Marked q (λ j. ltZ (entry c (level s) j) (pos 0) && not (frozen marks j)) candidates) {made : ℕ} (e : made ≡ marksTo q (childFor k q s (tuple t) candidates)) where
+    module _ (no : allTo q (λ j. isZero (entry c (level s) j)) ≡ false) {marks : ℕ} (row : marks ≡ getD (s .stack) (level s * (q + 1) + q) 0) {candidates : ℕ}
+        (are : Marked q (λ j. ltZ (entry c (level s) j) (pos 0) && not (frozen marks j)) candidates) {made : ℕ}
+        (e : made ≡ marksTo q (childFor k q s (tuple t) candidates)) where
       pub made-below : made < 2 ^ q
       made-below = rw e (marks-below q _)
 
       abbrev child : ℕ → Bool
       child = childFor k q s (tuple t) candidates
 
-      child-is : (p : ℕ) (coefs : List ℤ) → Gram p q coefs g → (run : Run) (n n₂ d : ℕ) → (j : ℕ) → j < q → child j ≡ makes (systemWith k p q coefs limit) (beside s run n n₂ d) j
+      child-is : (p : ℕ) (coefs : List ℤ) → Gram p q coefs g → (run : Run) (n n₂ d : ℕ) → (j : ℕ) → j < q
+          → child j ≡ makes (systemWith k p q coefs limit) (beside s run n n₂ d) j
       child-is p coefs gram run n n₂ d j l =
           sym (child-beside k q s (tuple t) candidates j run n n₂ d)
-          ∙ child-makes k p q coefs limit (beside s run n n₂ d) (tuple t) candidates j (v .some) (h .same) (are .at j l ∙ rw (row, top-towards p coefs gram run n n₂ d j l))
+          ∙ child-makes k p q coefs limit (beside s run n n₂ d) (tuple t) candidates j (v .some) (h .same)
+          (are .at j l ∙ rw (row, top-towards p coefs gram run n n₂ d j l))
 
-      made-is : (p : ℕ) (coefs : List ℤ) → Gram p q coefs g → (run : Run) (n n₂ d : ℕ) → (j : ℕ) → j < q → frozen made j ≡ makes (systemWith k p q coefs limit) (beside s run n n₂ d) j
+      made-is : (p : ℕ) (coefs : List ℤ) → Gram p q coefs g → (run : Run) (n n₂ d : ℕ) → (j : ℕ) → j < q
+          → frozen made j ≡ makes (systemWith k p q coefs limit) (beside s run n n₂ d) j
       made-is p coefs gram run n n₂ d j l = rw e (marks-frozen q child j l) ∙ child-is p coefs gram run n n₂ d j l
 
       -- the parent's marks are as many as rows below it, and none of the children's, so the children have their rows
@@ -204,18 +228,24 @@ module _ {k : Kind} {limit q : ℕ} {g : List ℤ} {s : State} {c : List ℤ} {s
             summed = rw up (v .summed);
           }
 
-      large-by : (p : ℕ) (coefs : List ℤ) → Gram p q coefs g → (run : Run) (n n₂ d : ℕ) → anyTo q (λ j. child j && eqb (tuple t j) limit) ≡ tooLarge (systemWith k p q coefs limit) (beside s run n n₂ d)
+      large-by : (p : ℕ) (coefs : List ℤ) → Gram p q coefs g → (run : Run) (n n₂ d : ℕ)
+          → anyTo q (λ j. child j && eqb (tuple t j) limit) ≡ tooLarge (systemWith k p q coefs limit) (beside s run n n₂ d)
       large-by p coefs gram run n n₂ d = too-large-by k p q coefs limit (beside s run n n₂ d) (h .same) (child-is p coefs gram run n n₂ d)
 
-      pub taken-large : anyTo q (λ j. child j && eqb (tuple t j) limit) ≡ true → Taken k limit q g s (Refused ComponentLimit) (s .stack) (s .list) (s .second) c sums
+      pub taken-large : anyTo q (λ j. child j && eqb (tuple t j) limit) ≡ true
+          → Taken k limit q g s (Refused ComponentLimit) (s .stack) (s .list) (s .second) c sums
       taken-large l =
           record {
             cached = v .cached;
             summed = v .summed;
-            steps = λ p coefs gram run n n₂ d early. step-large (systemWith k p q coefs limit) (beside s run n n₂ d) early (sym (solved-by p coefs gram run n n₂ d) ∙ no) (sym (large-by p coefs gram run n n₂ d) ∙ l);
+            steps =
+                λ p coefs gram run n n₂ d early. step-large (systemWith k p q coefs limit) (beside s run n n₂ d) early
+                (sym (solved-by p coefs gram run n n₂ d) ∙ no) (sym (large-by p coefs gram run n n₂ d) ∙ l);
           }
 
-      pub taken-grown : anyTo q (λ j. child j && eqb (tuple t j) limit) ≡ false → {r : ℕ} {after : List ℕ} {c′ : List ℤ} {sums′ : List ℕ} → r ≡ level s + countTo q (frozen made) → after ≡ writeChildren q q (s .stack) (level s) (at (s .stack) (q + 1) (level s)) marks (frozen made) → Combined q g after r c′ → Totals q after r sums′ → Taken k limit q g s (Grown r) after (s .list) (s .second) c′ sums′
+      pub taken-grown : anyTo q (λ j. child j && eqb (tuple t j) limit) ≡ false → {r : ℕ} {after : List ℕ} {c′ : List ℤ} {sums′ : List ℕ}
+          → r ≡ level s + countTo q (frozen made) → after ≡ writeChildren q q (s .stack) (level s) (at (s .stack) (q + 1) (level s)) marks (frozen made)
+          → Combined q g after r c′ → Totals q after r sums′ → Taken k limit q g s (Grown r) after (s .list) (s .second) c′ sums′
       taken-grown none {r} {after} rise grow cached summed =
           record {
             cached = cached;
@@ -225,12 +255,15 @@ module _ {k : Kind} {limit q : ℕ} {g : List ℤ} {s : State} {c : List ℤ} {s
                 let f = made-is p coefs gram run n n₂ d in
                 step-grown (systemWith k p q coefs limit) now early (sym (solved-by p coefs gram run n n₂ d) ∙ no)
                 (sym (large-by p coefs gram run n n₂ d) ∙ none)
-                (grow ∙ ap (λ x. writeChildren q q (s .stack) (level s) (at (s .stack) (q + 1) (level s)) x (frozen made)) row ∙ grown-by k p q coefs limit now (λ j l. refl) f)
+                (grow ∙ ap (λ x. writeChildren q q (s .stack) (level s) (at (s .stack) (q + 1) (level s)) x (frozen made)) row
+                ∙ grown-by k p q coefs limit now (λ j l. refl) f)
                 (rise ∙ ap (λ x. level s + x) (count-by k p q coefs limit now f));
           }
 
   -- no candidates, and so no children: the row is taken off, whatever tuple it has
-  pub taken-none : allTo q (λ j. isZero (entry c (level s) j)) ≡ false → {marks : ℕ} → marks ≡ getD (s .stack) (level s * (q + 1) + q) 0 → Marked q (λ j. ltZ (entry c (level s) j) (pos 0) && not (frozen marks j)) 0 → Taken k limit q g s (Grown (level s)) (s .stack) (s .list) (s .second) c sums
+  pub taken-none : allTo q (λ j. isZero (entry c (level s) j)) ≡ false → {marks : ℕ} → marks ≡ getD (s .stack) (level s * (q + 1) + q) 0
+      → Marked q (λ j. ltZ (entry c (level s) j) (pos 0) && not (frozen marks j)) 0
+      → Taken k limit q g s (Grown (level s)) (s .stack) (s .list) (s .second) c sums
   taken-none fails {marks} row are =
       let base : ℕ = level s * (q + 1) in
       let t : List ℕ = drop base (s .stack) in

@@ -76,7 +76,8 @@ pub record Steps (m : System) (s : State) (r : Stepped) (stack list second : Lis
 pub record Taken (k : Kind) (limit q : ℕ) (g : List ℤ) (s : State) (r : Stepped) (stack list second : List ℕ) (c : List ℤ) (sums : List ℕ) : Type 0 where
   pub cached : Combined q g stack (heightBy r s) c
   pub summed : Totals q stack (heightBy r s) sums
-  pub steps : (p : ℕ) (coefs : List ℤ) → Gram p q coefs g → (run : Run) (n n₂ d : ℕ) → n ≢ stepLimit → Steps (systemWith k p q coefs limit) (beside s run n n₂ d) r stack list second
+  pub steps : (p : ℕ) (coefs : List ℤ) → Gram p q coefs g → (run : Run) (n n₂ d : ℕ) → n ≢ stepLimit
+      → Steps (systemWith k p q coefs limit) (beside s run n n₂ d) r stack list second
 
 -- ---- the ways out
 
@@ -86,11 +87,13 @@ module _ (m : System) (s : State) (early : s .run .steps ≢ stepLimit) where
   unfolding searchChecks refuseWith _then_
   step-full y f = record { checks = rw (ne-eqb (s .run .steps) stepLimit early, y, f); leaves = refl }
 
-  pub step-listed : {list : List ℕ} → solves m (top m s) ≡ true → toSecond (m .kind) (top m s) ≡ false → fullIn false (width m) s ≡ false → list ≡ writeTo (width m) (s .list) (s .run .found * width m) (rowOf (m .kind) (top m s)) → Steps m s Listed (s .stack) list (s .second)
+  pub step-listed : {list : List ℕ} → solves m (top m s) ≡ true → toSecond (m .kind) (top m s) ≡ false → fullIn false (width m) s ≡ false
+      → list ≡ writeTo (width m) (s .list) (s .run .found * width m) (rowOf (m .kind) (top m s)) → Steps m s Listed (s .stack) list (s .second)
   unfolding searchChecks refuseWith _then_ step listed
   step-listed y b f e = record { checks = rw (ne-eqb (s .run .steps) stepLimit early, y, b, f); leaves = rw (y, b, e) }
 
-  pub step-listed₂ : {second : List ℕ} → solves m (top m s) ≡ true → toSecond (m .kind) (top m s) ≡ true → fullIn true (width m) s ≡ false → second ≡ writeTo (width m) (s .second) (s .run .found₂ * width m) (rowOf (m .kind) (top m s)) → Steps m s ListedSecond (s .stack) (s .list) second
+  pub step-listed₂ : {second : List ℕ} → solves m (top m s) ≡ true → toSecond (m .kind) (top m s) ≡ true → fullIn true (width m) s ≡ false
+      → second ≡ writeTo (width m) (s .second) (s .run .found₂ * width m) (rowOf (m .kind) (top m s)) → Steps m s ListedSecond (s .stack) (s .list) second
   unfolding searchChecks refuseWith _then_ step listed
   step-listed₂ y b f e = record { checks = rw (ne-eqb (s .run .steps) stepLimit early, y, b, f); leaves = rw (y, b, e) }
 
@@ -98,6 +101,7 @@ module _ (m : System) (s : State) (early : s .run .steps ≢ stepLimit) where
   unfolding searchChecks refuseWith _then_
   step-large n l = record { checks = rw (ne-eqb (s .run .steps) stepLimit early, n, l); leaves = refl }
 
-  pub step-grown : {stack : List ℕ} {height : ℕ} → solves m (top m s) ≡ false → tooLarge m s ≡ false → stack ≡ childrenTo (m .q) m s → height ≡ level s + countTo (m .q) (makes m s) → Steps m s (Grown height) stack (s .list) (s .second)
+  pub step-grown : {stack : List ℕ} {height : ℕ} → solves m (top m s) ≡ false → tooLarge m s ≡ false → stack ≡ childrenTo (m .q) m s
+      → height ≡ level s + countTo (m .q) (makes m s) → Steps m s (Grown height) stack (s .list) (s .second)
   unfolding searchChecks refuseWith _then_ step grown
   step-grown n l e f = record { checks = rw (ne-eqb (s .run .steps) stepLimit early, n, l); leaves = rw (n, e, f) }

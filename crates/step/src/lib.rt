@@ -20,8 +20,8 @@ pub enum Stepped {
     Refused(Refusal),
 }
 
-// One step from a height above 0. `lower` is the bound of a walk above one, else of no meaning; `inner` holds the inner products of the rows on the stack, `sums` their sums of
-// components; what `top` holds is of no meaning.
+// One step from a height above 0. `lower` is the bound of a walk above one, else of no meaning;
+// `inner` holds the inner products of the rows on the stack, `sums` their sums of components; what `top` holds is of no meaning.
 pub fn take(
     walk: Walk,
     q: usize,
@@ -40,7 +40,9 @@ pub fn take(
 ) -> Stepped
     requires { ⌜ Standing (kindBy walk (now lower)) limit q (now gram) (asked (now stack) (now list) (now second) height found other) (now inner) (now sums) ⌝ }
     requires { ⌜ Bounds walk q (now lower) × (q ≤ length (now top)) ⌝ }
-    ensures { λ r. ⌜ Taken (kindBy walk (now (lower .entry))) limit q (now (gram .entry)) (asked (now (stack .entry)) (now (list .entry)) (now (second .entry)) height found other) r (now (stack .exit)) (now (list .exit)) (now (second .exit)) (now (inner .exit)) (now (sums .exit)) ⌝ }
+    ensures { λ r. ⌜ Taken (kindBy walk (now (lower .entry))) limit q (now (gram .entry))
+        (asked (now (stack .entry)) (now (list .entry)) (now (second .entry)) height found other) r (now (stack .exit)) (now (list .exit)) (now (second .exit))
+        (now (inner .exit)) (now (sums .exit)) ⌝ }
 {
     let level = height - 1;
     let base = level * (q + 1);
@@ -84,7 +86,9 @@ fn enlist(
     t: &[u32],
 ) -> Stepped
     requires { ⌜ (0 < rowWidth (kindBy walk []) q) × (q ≤ length (now t)) ⌝ }
-    ensures { λ r. ⌜ ((lower : List ℕ) → Enlisted (kindBy walk lower) q (asked [] (now (list .entry)) (now (second .entry)) 0 found other) (tuple (now (t .entry))) (now (list .exit)) (now (second .exit)) r) ⌝ }
+    ensures { λ r. ⌜ ((lower : List ℕ)
+        → Enlisted (kindBy walk lower) q (asked [] (now (list .entry)) (now (second .entry)) 0 found other) (tuple (now (t .entry))) (now (list .exit))
+        (now (second .exit)) r) ⌝ }
 {
     match walk {
         Walk::Plain => append(list, found, q, 0, t, Stepped::Listed),

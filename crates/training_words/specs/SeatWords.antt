@@ -14,7 +14,8 @@ seatResumeWords budget words i stack list = seatResume budget i (stateOf stack l
 unfoldable pub seatResumeFromWords : ℕ → List ℕ → List ℕ → Input → List ℕ → List ℕ → List ℕ → Outcome State
 seatResumeFromWords budget lower words i stack list second = seatResumeFrom budget lower i (stateWith stack list second (recordIn words))
 
--- a start cannot write its record into another number of words: it then answers as a continuing call does, with the first of 1, 2, 23, 3, 4 and 5 that is due, or with 6
+-- a start cannot write its record into another number of words: it then answers as a continuing call does, with the first of 1, 2, 23, 3, 4 and 5 that is due,
+-- or with 6
 unfoldable pub seatStartWords : List ℕ → Input → List ℕ → List ℕ → Outcome State
 seatStartWords words i stack list = startOn words (seatStart i (stateOf stack list (recordIn words))) (seatResumeWords 0 words i stack list)
 

@@ -65,7 +65,9 @@ second-beside plain q s run n n₂ d h = h
 second-beside capped q s run n n₂ d h = h
 second-beside (above f) q s run n n₂ d h = h
 
-pub standing : {k : Kind} {p q : ℕ} {coefs : List ℤ} {limit : ℕ} (s : State) (run : Run) (n n₂ d : ℕ) {g c : List ℤ} {sums : List ℕ} → Valid (systemWith k p q coefs limit) (beside s run n n₂ d) → SmallGram q g → Combined q g (s .stack) (s .run .height) c → Totals q (s .stack) (s .run .height) sums → 0 < s .run .height → Standing k limit q g s c sums
+pub standing : {k : Kind} {p q : ℕ} {coefs : List ℤ} {limit : ℕ} (s : State) (run : Run) (n n₂ d : ℕ) {g c : List ℤ} {sums : List ℕ}
+    → Valid (systemWith k p q coefs limit) (beside s run n n₂ d) → SmallGram q g → Combined q g (s .stack) (s .run .height) c
+    → Totals q (s .stack) (s .run .height) sums → 0 < s .run .height → Standing k limit q g s c sums
 standing {k} {p} {q} s run n n₂ d v a e t h =
     record {
       some = v .shaped .q-some;
@@ -97,7 +99,9 @@ unfolding searchChecks refuseWith _then_
 search-late m s e = rw (eq-eqb (s .run .steps) stepLimit e)
 
 module _ {m : System} {g : List ℤ} {budget : ℕ} {s₀ : State} {left : ℕ} {s : State} {c : List ℤ} {sums : List ℕ} (w : Walking m g budget s₀ left s c sums) where
-  goes-on : 0 < s .run .height → {less : ℕ} → left ≡ suc less → {next : State} {c′ : List ℤ} {sums′ : List ℕ} → searchChecks m s ≡ go → next ≡ step m s → Combined (m .q) g (next .stack) (next .run .height) c′ → Totals (m .q) (next .stack) (next .run .height) sums′ → Walking m g budget s₀ less next c′ sums′
+  goes-on : 0 < s .run .height → {less : ℕ} → left ≡ suc less → {next : State} {c′ : List ℤ} {sums′ : List ℕ} → searchChecks m s ≡ go → next ≡ step m s
+      → Combined (m .q) g (next .stack) (next .run .height) c′ → Totals (m .q) (next .stack) (next .run .height) sums′
+      → Walking m g budget s₀ less next c′ sums′
   goes-on h {less} more {next} f e d t =
       record {
         valid = rw e (step-valid m s (w .valid) h (search-going m s (w .valid .ordered) h f));
@@ -118,11 +122,13 @@ module _ {m : System} {g : List ℤ} {budget : ℕ} {s₀ : State} {left : ℕ} 
       pub ends-paused : left ≡ 0 → walk budget (machineOf checks m) s₀ ≡ record { answer = paused; state = s }
       ends-paused e = w .same checks ∙ ap (λ n. walk n (machineOf checks m) s) e ∙ walk-paused (machineOf checks m) s h .0
 
-      ends-refused : {less : ℕ} → left ≡ suc less → {n : ℕ} {values : List ℕ} → searchChecks m s ≡ refuse n values → walk budget (machineOf checks m) s₀ ≡ record { answer = refused n values; state = s }
+      ends-refused : {less : ℕ} → left ≡ suc less → {n : ℕ} {values : List ℕ} → searchChecks m s ≡ refuse n values
+          → walk budget (machineOf checks m) s₀ ≡ record { answer = refused n values; state = s }
       ends-refused {less} more {n} {values} e =
           w .same checks ∙ ap (λ k. walk k (machineOf checks m) s) more ∙ walk-refused (machineOf checks m) s less n values h e .0
 
-      pub ends-late : {less : ℕ} → left ≡ suc less → s .run .steps ≡ stepLimit → walk budget (machineOf checks m) s₀ ≡ record { answer = refused 14 []; state = s }
+      pub ends-late : {less : ℕ} → left ≡ suc less → s .run .steps ≡ stepLimit
+          → walk budget (machineOf checks m) s₀ ≡ record { answer = refused 14 []; state = s }
       ends-late more e = ends-refused more (search-late m s e)
 
 -- ---- the counts of the lists are places of slices
@@ -138,14 +144,18 @@ second-room : (m : System) (s : State) → Going m s → step m s .run .found₂
 unfolding step listed grown
 second-room m s g e = of (solves m (top m s)) (toSecond (m .kind) (top m s)) refl refl e
   where
-    of : (solved b : Bool) → solves m (top m s) ≡ solved → toSecond (m .kind) (top m s) ≡ b → pick (solves m (top m s)) (listed m s) (grown m s) .run .found₂ ≡ s .run .found₂ + 1 → s .run .found₂ < capacity (width m) (s .second)
+    of : (solved b : Bool) → solves m (top m s) ≡ solved → toSecond (m .kind) (top m s) ≡ b
+        → pick (solves m (top m s)) (listed m s) (grown m s) .run .found₂ ≡ s .run .found₂ + 1 → s .run .found₂ < capacity (width m) (s .second)
     of false b y z h = absurd (omega (arith, rw y at h))
     of true false y z h = absurd (omega (arith, rw (y, z) at h))
     of true true y z h = rw z at (g .roomy (rw y tt))
 
 -- ---- a turn, from what `take` ensures
 
-module _ {k : Kind} {p q : ℕ} {coefs g : List ℤ} {limit budget left : ℕ} {s₀ : State} (s : State) (run : Run) (n n₂ d : ℕ) {c : List ℤ} {sums : List ℕ} (w : Walking (systemWith k p q coefs limit) g budget s₀ left (beside s run n n₂ d) c sums) (gram : Gram p q coefs g) (h : 0 < s .run .height) {less : ℕ} (more : left ≡ suc less) (early : n ≢ stepLimit) {r : Stepped} {stack list second : List ℕ} {c′ : List ℤ} {sums′ : List ℕ} (t : Taken k limit q g s r stack list second c′ sums′) where
+module _ {k : Kind} {p q : ℕ} {coefs g : List ℤ} {limit budget left : ℕ} {s₀ : State} (s : State) (run : Run) (n n₂ d : ℕ) {c : List ℤ} {sums : List ℕ}
+    (w : Walking (systemWith k p q coefs limit) g budget s₀ left (beside s run n n₂ d) c sums) (gram : Gram p q coefs g) (h : 0 < s .run .height) {less : ℕ}
+    (more : left ≡ suc less) (early : n ≢ stepLimit) {r : Stepped} {stack list second : List ℕ} {c′ : List ℤ} {sums′ : List ℕ}
+    (t : Taken k limit q g s r stack list second c′ sums′) where
   abbrev m : System
   m = systemWith k p q coefs limit
 
@@ -159,22 +169,34 @@ module _ {k : Kind} {p q : ℕ} {coefs g : List ℤ} {limit budget left : ℕ} {
   abbrev left-by : ℕ → ℕ → ℕ → ℕ → State
   left-by height found found₂ depth = beside (asked stack list second height found found₂) run (n + 1) n₂ depth
 
-  pub turn-listed : r ≡ Listed → {height found found₂ depth : ℕ} → height ≡ s .run .height - 1 → found ≡ s .run .found + 1 → found₂ ≡ s .run .found₂ → depth ≡ deep → Walking m g budget s₀ less (left-by height found found₂ depth) c′ sums′
+  pub turn-listed : r ≡ Listed → {height found found₂ depth : ℕ} → height ≡ s .run .height - 1 → found ≡ s .run .found + 1 → found₂ ≡ s .run .found₂
+      → depth ≡ deep → Walking m g budget s₀ less (left-by height found found₂ depth) c′ sums′
   turn-listed e eh ef e₂ ed =
       let st = rw e at (t .steps p coefs gram run n n₂ d early) in
-      rw (eh, ef, e₂, ed) (goes-on w h more {next = left-by (s .run .height - 1) (s .run .found + 1) (s .run .found₂) deep} (st .checks) (st .leaves) (rw e at (t .cached)) (rw e at (t .summed)))
+      rw (eh, ef, e₂, ed)
+      (goes-on w h more {next = left-by (s .run .height - 1) (s .run .found + 1) (s .run .found₂) deep} (st .checks) (st .leaves)
+      (rw e at (t .cached)) (rw e at (t .summed)))
 
-  pub turn-listed₂ : r ≡ ListedSecond → {height found found₂ depth : ℕ} → height ≡ s .run .height - 1 → found ≡ s .run .found → found₂ ≡ s .run .found₂ + 1 → depth ≡ deep → Walking m g budget s₀ less (left-by height found found₂ depth) c′ sums′
+  pub turn-listed₂ : r ≡ ListedSecond → {height found found₂ depth : ℕ} → height ≡ s .run .height - 1 → found ≡ s .run .found → found₂ ≡ s .run .found₂ + 1
+      → depth ≡ deep → Walking m g budget s₀ less (left-by height found found₂ depth) c′ sums′
   turn-listed₂ e eh ef e₂ ed =
       let st = rw e at (t .steps p coefs gram run n n₂ d early) in
-      rw (eh, ef, e₂, ed) (goes-on w h more {next = left-by (s .run .height - 1) (s .run .found) (s .run .found₂ + 1) deep} (st .checks) (st .leaves) (rw e at (t .cached)) (rw e at (t .summed)))
+      rw (eh, ef, e₂, ed)
+      (goes-on w h more {next = left-by (s .run .height - 1) (s .run .found) (s .run .found₂ + 1) deep} (st .checks) (st .leaves)
+      (rw e at (t .cached)) (rw e at (t .summed)))
 
-  pub turn-grown : {rise : ℕ} → r ≡ Grown rise → {height found found₂ depth : ℕ} → height ≡ rise → found ≡ s .run .found → found₂ ≡ s .run .found₂ → depth ≡ deep → Walking m g budget s₀ less (left-by height found found₂ depth) c′ sums′
+  pub turn-grown : {rise : ℕ} → r ≡ Grown rise → {height found found₂ depth : ℕ} → height ≡ rise → found ≡ s .run .found → found₂ ≡ s .run .found₂
+      → depth ≡ deep → Walking m g budget s₀ less (left-by height found found₂ depth) c′ sums′
   turn-grown {rise} e eh ef e₂ ed =
       let st = rw e at (t .steps p coefs gram run n n₂ d early) in
-      rw (eh, ef, e₂, ed) (goes-on w h more {next = left-by rise (s .run .found) (s .run .found₂) deep} (st .checks) (st .leaves) (rw e at (t .cached)) (rw e at (t .summed)))
+      rw (eh, ef, e₂, ed)
+      (goes-on w h more {next = left-by rise (s .run .found) (s .run .found₂) deep} (st .checks) (st .leaves) (rw e at (t .cached)) (rw e at (t .summed)))
 
-  pub turn-refused : (checks : State → Check) → {why : Refusal} → r ≡ Refused why → walk budget (machineOf checks m) s₀ ≡ record { answer = refused (numberOf why) (valuesOf why); state = beside (asked stack list second (s .run .height) (s .run .found) (s .run .found₂)) run n n₂ d }
+  pub turn-refused : (checks : State → Check) → {why : Refusal} → r ≡ Refused why
+      → walk budget (machineOf checks m) s₀ ≡ record {
+        answer = refused (numberOf why) (valuesOf why);
+        state = beside (asked stack list second (s .run .height) (s .run .found) (s .run .found₂)) run n n₂ d;
+      }
   turn-refused checks {why} e =
       let st = rw e at (t .steps p coefs gram run n n₂ d early) in
       ends-refused w checks h more (st .checks) ∙ ap (λ x. record { answer = refused (numberOf why) (valuesOf why); state = x }) (sym (st .leaves))

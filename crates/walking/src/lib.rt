@@ -30,9 +30,11 @@ pub fn walk(
     budget: u64,
     limit: u32,
 ) -> Outcome
-    requires { ⌜ Valid (systemWith (kindBy kind (now lower)) p q (now coefs) limit) (stateWith (now stack) (now list) (now second) r) × Bounds kind q (now lower) ⌝ }
+    requires { ⌜ Valid (systemWith (kindBy kind (now lower)) p q (now coefs) limit) (stateWith (now stack) (now list) (now second) r)
+        × Bounds kind q (now lower) ⌝ }
     ensures { λ o. ⌜ ((checks : State → Checked) → outcomeWith o (now (stack .exit)) (now (list .exit)) (now (second .exit)) ≡
-        paper.walk budget (machineOf checks (systemWith (kindBy kind (now (lower .entry))) p q (now (coefs .entry)) limit)) (stateWith (now (stack .entry)) (now (list .entry)) (now (second .entry)) r)) ⌝ }
+        paper.walk budget (machineOf checks (systemWith (kindBy kind (now (lower .entry))) p q (now (coefs .entry)) limit))
+        (stateWith (now (stack .entry)) (now (list .entry)) (now (second .entry)) r)) ⌝ }
 {
     let first = r.steps.0;
     let stop = stop_at(first, budget);

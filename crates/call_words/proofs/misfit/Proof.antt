@@ -8,13 +8,15 @@ use Rattle.call_words.proofs.misfit.Tie as tie
 refusal-requires : tie.Need-refusal-requires
 refusal-requires c κs =
     let k = c .before .before .before in
-    misfit-fits _ _ _ _ _ (k .before .before .before .before .before .pre) (rw (k .before .read .ensures) at (k .check-resume .ensures)) (c .before .why .given .1)
+    misfit-fits _ _ _ _ _ (k .before .before .before .before .before .pre) (rw (k .before .read .ensures) at (k .check-resume .ensures))
+    (c .before .why .given .1)
 
 returns : tie.Need-returns
 unfolding resumeWords
 returns c =
     let k = c .before .before .before .before in
-    misfit-told _ _ _ _ _ (k .before .before .before .before .before .pre) (rw (k .before .read .ensures) at (k .check-resume .ensures)) (c .before .before .why .given .1)
+    misfit-told _ _ _ _ _ (k .before .before .before .before .before .pre) (rw (k .before .read .ensures) at (k .check-resume .ensures))
+    (c .before .before .why .given .1)
     0 (c .refusal .ensures)
 
 returns-2 : tie.Need-returns-2

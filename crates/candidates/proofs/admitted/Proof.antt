@@ -45,7 +45,11 @@ returns c =
     let a = b .args in
     let s = asked [] (now (a .list)) (now (a .second)) 0 (a .found) (a .other) in
     let t = tuple (now (a .t)) in
-    rw (e .enum-told .given .1) (x .children .ensures .0 ∙ tried-open (a .limit) plain (a .q) s t (a .candidates) (a .candidates) (open-plain (a .q) s t (a .candidates) (b .pre .1 .0 .2) .at), x .children .ensures .1)
+    rw (e .enum-told .given .1) (
+      x .children .ensures .0 ∙ tried-open (a .limit) plain (a .q) s t (a .candidates) (a .candidates)
+          (open-plain (a .q) s t (a .candidates) (b .pre .1 .0 .2) .at),
+      x .children .ensures .1,
+    )
 
 same-length-2 : tie.Need-same-length-2
 same-length-2 c = ap length (c .before .before .sifted .ensures .1)

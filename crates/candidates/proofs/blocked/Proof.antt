@@ -22,7 +22,8 @@ module _ (s : tie.Start) where
   raised-long : length raised ≡ length (now (s .args .t))
   raised-long = length-set (now (s .args .t)) (s .args .i) (tuple (now (s .args .t)) (s .args .i) + 1)
 
-  part-raised : (j : ℕ) → j < s .args .w → getD (take (length raised - s .args .from) (drop (s .args .from) raised)) j 0 ≡ raise (tuple (now (s .args .t))) (s .args .i) (s .args .from + j)
+  part-raised : (j : ℕ) → j < s .args .w
+      → getD (take (length raised - s .args .from) (drop (s .args .from) raised)) j 0 ≡ raise (tuple (now (s .args .t))) (s .args .i) (s .args .from + j)
   part-raised j l =
       getD-take (length raised - s .args .from) (drop (s .args .from) raised) j 0 (omega (arith, raised-long, s .pre .2))
       ∙ getD-drop (s .args .from) raised j 0

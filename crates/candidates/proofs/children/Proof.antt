@@ -15,7 +15,21 @@ use Rattle.linear.specs.Tests.{anyTo}
 use Rattle.definitions.specs.Tables.{at, frozen}
 use Rattle.definitions.specs.Step.{marksTo}
 use Rattle.lists.specs.Rows.{tuple}
-use Rattle.products.specs.Scan.{Left, left-all, left-next, left-end, next-inside, next-holds, next-le, next-less, next-skip, next-add, next-room, none-next, none-end}
+use Rattle.products.specs.Scan.{
+  Left,
+  left-all,
+  left-next,
+  left-end,
+  next-inside,
+  next-holds,
+  next-le,
+  next-less,
+  next-skip,
+  next-add,
+  next-room,
+  none-next,
+  none-end,
+}
 use Rattle.products.specs.Marks.{any-zero}
 use Rattle.candidates.specs.Tried.{tried-large, tried-made}
 use Rattle.candidates.specs.Grow.{childBy}
@@ -25,7 +39,8 @@ use Rattle.candidates.proofs.children.Tie as tie
 
 abbrev Inv-loop : tie.InvT-loop
 Inv-loop list found q t₀ candidates limit made₀ rest₀ t made rest =
-    (t ≡ t₀) × (n : ℕ) × Left q (frozen candidates) n rest × (made ≡ marksTo n (childBy q 0 found (at list q) (tuple t₀) candidates)) × (anyTo n (λ j. childBy q 0 found (at list q) (tuple t₀) candidates j && eqb (tuple t₀ j) limit) ≡ false)
+    (t ≡ t₀) × (n : ℕ) × Left q (frozen candidates) n rest × (made ≡ marksTo n (childBy q 0 found (at list q) (tuple t₀) candidates))
+    × (anyTo n (λ j. childBy q 0 found (at list q) (tuple t₀) candidates j && eqb (tuple t₀ j) limit) ≡ false)
 
 abbrev μ-loop : tie.MeasureT-loop
 μ-loop list found q t₀ candidates limit made₀ rest₀ t made rest = rest
@@ -69,7 +84,8 @@ module _ (b : tie.After-blocked Inv-loop μ-loop) where
 
   free-one : b .blocked .result ≡ false → child (begun turn) (unknown turn) ≡ true
   free-one e =
-      makes-one _ _ _ _ _ _ _ (next-holds (turn .before .loop .inv .2) (begun turn .pre .0 .1) (some turn)) (sym (rw (turn .before .loop .inv .0) at (b .blocked .ensures .0)) ∙ e)
+      makes-one _ _ _ _ _ _ _ (next-holds (turn .before .loop .inv .2) (begun turn .pre .0 .1) (some turn))
+      (sym (rw (turn .before .loop .inv .0) at (b .blocked .ensures .0)) ∙ e)
 
 loop-holds : tie.Need-loop-holds Inv-loop μ-loop
 unfolding marksTo
@@ -91,7 +107,13 @@ blocked-requires : tie.Need-blocked-requires Inv-loop μ-loop
 blocked-requires c κs =
     let l = c .before in
     let s = begun l in
-    rw (l .before .loop .inv .0) (omega (arith, inside l, s .pre .0 .3), s .pre .0 .0, omega (arith, s .pre .0), s .pre .0 .2, omega (arith, s .pre .1 .0 .at-most (unknown l) (inside l)))
+    rw (l .before .loop .inv .0) (
+      omega (arith, inside l, s .pre .0 .3),
+      s .pre .0 .0,
+      omega (arith, s .pre .0),
+      s .pre .0 .2,
+      omega (arith, s .pre .1 .0 .at-most (unknown l) (inside l)),
+    )
 
 loop-less : tie.Need-loop-less Inv-loop μ-loop
 loop-less c =
@@ -124,13 +146,15 @@ slice-read-if2 c =
     rw (b .blocked .ensures .1 ∙ l .before .loop .inv .0) (omega (arith, inside l, begun l .pre .0 .3))
 
 -- the component of the turn's unknown, which `blocked` has left as it was
-reached : (c : tie.Then2 Inv-loop μ-loop) → let l = turn (c .before .before .before .before .before) in tuple (now (begun l .args .t)) (unknown l) ≡ begun l .args .limit
+reached : (c : tie.Then2 Inv-loop μ-loop) → let l = turn (c .before .before .before .before .before) in
+    tuple (now (begun l .args .t)) (unknown l) ≡ begun l .args .limit
 reached c =
     let b = c .before .before .before .before .before in
     let l = turn b in
     omega (arith, rw (b .blocked .ensures .1 ∙ l .before .loop .inv .0) at (c .if2 .taken), begun l .pre .1 .1 .at-most (unknown l) (inside l))
 
-below : (c : tie.Else2 Inv-loop μ-loop) → let l = turn (c .before .before .before .before .before) in tuple (now (begun l .args .t)) (unknown l) ≢ begun l .args .limit
+below : (c : tie.Else2 Inv-loop μ-loop) → let l = turn (c .before .before .before .before .before) in
+    tuple (now (begun l .args .t)) (unknown l) ≢ begun l .args .limit
 below c =
     let b = c .before .before .before .before .before in
     omega (arith, rw (b .blocked .ensures .1 ∙ turn b .before .loop .inv .0) at (c .if2 .left))
@@ -145,7 +169,8 @@ returns c =
     let b = c .before .before .before .before .before in
     let l = turn b in
     let s = begun l in
-    let here : large s (unknown l) ≡ true = rw (free-one b (c .before .before .if1 .left), eq-eqb (tuple (now (s .args .t)) (unknown l)) (s .args .limit) (reached c)) in
+    let here : large s (unknown l) ≡ true =
+    rw (free-one b (c .before .before .if1 .left), eq-eqb (tuple (now (s .args .t)) (unknown l)) (s .args .limit) (reached c)) in
     (tried-large _ _ _ _ (any-holds _ (large s) (unknown l) (inside l) here), b .blocked .ensures .1 ∙ l .before .loop .inv .0)
 
 add-made : tie.Need-add-made Inv-loop μ-loop
@@ -169,7 +194,8 @@ loop-again-2 c =
       unknown l + 1,
       left-next left few (some l),
       next-add left few (some l) (child (begun l)) (closed (begun l)) (a .loop .inv .3) (free-one b (c .before .before .if1 .left)),
-      none-next left few (some l) (large (begun l)) (closed-large (begun l)) (a .loop .inv .4) (rw (ne-eqb (tuple (now (begun l .args .t)) (unknown l)) (begun l .args .limit) (below c), and-false)),
+      none-next left few (some l) (large (begun l)) (closed-large (begun l)) (a .loop .inv .4)
+          (rw (ne-eqb (tuple (now (begun l .args .t)) (unknown l)) (begun l .args .limit) (below c), and-false)),
     )
 
 same-length-2 : tie.Need-same-length-2 Inv-loop μ-loop

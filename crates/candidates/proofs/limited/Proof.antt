@@ -72,7 +72,8 @@ returns c =
     let l = c .before .before in
     let s = begun l in
     let reached : tuple (now (s .args .t)) (unknown l) ≡ s .args .limit = omega (arith, c .if1 .taken, s .pre .1 .at-most (unknown l) (inside l)) in
-    let here : large s (unknown l) ≡ true = rw (next-holds (l .before .loop .inv .1) (s .pre .0 .0) (some l), eq-eqb (tuple (now (s .args .t)) (unknown l)) (s .args .limit) reached) in
+    let here : large s (unknown l) ≡ true =
+    rw (next-holds (l .before .loop .inv .1) (s .pre .0 .0) (some l), eq-eqb (tuple (now (s .args .t)) (unknown l)) (s .args .limit) reached) in
     let any : anyTo (s .args .q) (large s) ≡ true = any-holds _ (large s) (unknown l) (inside l) here in
     rw any
 
@@ -89,7 +90,8 @@ loop-again c =
     let below : tuple (now (s .args .t)) (unknown l) ≢ s .args .limit = omega (arith, c .if1 .left) in (
       unknown l + 1,
       left-next left (s .pre .0 .0) (some l),
-      none-next left (s .pre .0 .0) (some l) (large s) (closed s) (l .before .loop .inv .2) (rw (ne-eqb (tuple (now (s .args .t)) (unknown l)) (s .args .limit) below, and-false)),
+      none-next left (s .pre .0 .0) (some l) (large s) (closed s) (l .before .loop .inv .2)
+          (rw (ne-eqb (tuple (now (s .args .t)) (unknown l)) (s .args .limit) below, and-false)),
     )
 
 returns-2 : tie.Need-returns-2 Inv-loop μ-loop

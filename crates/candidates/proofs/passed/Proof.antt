@@ -24,8 +24,10 @@ same-length c = ap length (c .before .before .before .before .unstopped .ensures
 returns : tie.Need-returns
 returns c =
     let u = c .before .before .before .before in
-    let s = u .before .before .before .before in
-    (rw (u .unstopped .ensures .1) at (c .limited .ensures) ∙ tried-marks (s .args .limit) (s .args .q) _ _ (u .unstopped .ensures .0), u .unstopped .ensures .1)
+    let s = u .before .before .before .before in (
+      rw (u .unstopped .ensures .1) at (c .limited .ensures) ∙ tried-marks (s .args .limit) (s .args .q) _ _ (u .unstopped .ensures .0),
+      u .unstopped .ensures .1,
+    )
 
 pub passed-spec : {M : Type 1} → statement M
 passed-spec = tie.close (tie.spec unstopped-requires limited-requires same-length returns)

@@ -91,7 +91,11 @@ returns c =
     let a = b .args in
     let s = asked [] (now (a .list)) (now (a .second)) 0 (a .found) (a .other) in
     let t = tuple (now (a .t)) in
-    rw (e .enum-told .given .1) (x .passed .ensures .0 ∙ tried-open (a .limit) plain (a .q) s t (a .candidates) (a .candidates) (open-plain (a .q) s t (a .candidates) (b .pre .1 .0 .2) .at), x .passed .ensures .1)
+    rw (e .enum-told .given .1) (
+      x .passed .ensures .0 ∙ tried-open (a .limit) plain (a .q) s t (a .candidates) (a .candidates)
+          (open-plain (a .q) s t (a .candidates) (b .pre .1 .0 .2) .at),
+      x .passed .ensures .1,
+    )
 
 same-length-2 : tie.Need-same-length-2
 same-length-2 c =
@@ -108,7 +112,11 @@ returns-2 c =
     let s = asked [] (now (a .list)) (now (a .second)) 0 (a .found) (a .other) in
     let t = tuple (now (a .t)) in
     let r = rw (u .uncapped .ensures .1) at (x .passed2 .ensures .0) in
-    rw (e .enum-told2 .given .1) (r ∙ tried-open (a .limit) capped (a .q) s t (a .candidates) (u .uncapped .result) (λ j l. u .uncapped .ensures .0 .at j l ∙ open-asked capped (a .q) (now (a .list)) (now (a .second)) (a .found) (a .other) t (a .candidates) j), x .passed2 .ensures .1 ∙ u .uncapped .ensures .1)
+    rw (e .enum-told2 .given .1) (
+      r ∙ tried-open (a .limit) capped (a .q) s t (a .candidates) (u .uncapped .result)
+          (λ j l. u .uncapped .ensures .0 .at j l ∙ open-asked capped (a .q) (now (a .list)) (now (a .second)) (a .found) (a .other) t (a .candidates) j),
+      x .passed2 .ensures .1 ∙ u .uncapped .ensures .1,
+    )
 
 same-length-3 : tie.Need-same-length-3
 same-length-3 c = ap length (c .before .before .passed3 .ensures .1)
@@ -123,7 +131,11 @@ returns-3 c =
     let s = asked [] (now (a .list)) (now (a .second)) 0 (a .found) (a .other) in
     let t = tuple (now (a .t)) in
     let k = above (boundOf (now (a .lower))) in
-    rw (e .enum-told3 .given .1) (x .passed3 .ensures .0 ∙ tried-open (a .limit) k (a .q) s t (a .candidates) (u .apart .result) (λ j l. u .apart .ensures .at j l ∙ open-asked k (a .q) (now (a .list)) (now (a .second)) (a .found) (a .other) t (a .candidates) j), x .passed3 .ensures .1)
+    rw (e .enum-told3 .given .1) (
+      x .passed3 .ensures .0 ∙ tried-open (a .limit) k (a .q) s t (a .candidates) (u .apart .result)
+          (λ j l. u .apart .ensures .at j l ∙ open-asked k (a .q) (now (a .list)) (now (a .second)) (a .found) (a .other) t (a .candidates) j),
+      x .passed3 .ensures .1,
+    )
 
 pub sifted-spec : {M : Type 1} → statement M
 sifted-spec =

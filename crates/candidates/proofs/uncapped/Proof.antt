@@ -16,8 +16,11 @@ slice-read-if1 c = let s = c .before .before .before in omega (arith, s .pre .0 
 returns : tie.Need-returns
 returns c =
     let t = c .before in
-    let s = t .before .before .before .before in
-    (open-none (s .args .q) (s .args .found) (now (s .args .second)) (tuple (now (s .args .t))) (s .args .candidates) (s .pre .0 .2) (t .if1 .taken) (c .if2 .taken), refl)
+    let s = t .before .before .before .before in (
+      open-none (s .args .q) (s .args .found) (now (s .args .second)) (tuple (now (s .args .t))) (s .args .candidates) (s .pre .0 .2)
+          (t .if1 .taken) (c .if2 .taken),
+      refl,
+    )
 
 -- ---- the first alone is asked about
 
@@ -48,15 +51,24 @@ module _ (c : tie.After-slice-known3) where
 add-result : tie.Need-add-result
 add-result c =
     let a = begun c .args in
-    omega (arith, alone-room (a .q) (a .found) (now (a .second)) (tuple (now (a .t))) (a .candidates) (begun c .pre .0 .2) (c .before .before .before .before .before .if1 .taken) (some c) (first-is c) (asking c .unstopped .ensures .0), begun c .fits .candidates .fits, first-is c)
+    omega (
+      arith,
+      alone-room (a .q) (a .found) (now (a .second)) (tuple (now (a .t))) (a .candidates) (begun c .pre .0 .2)
+          (c .before .before .before .before .before .if1 .taken) (some c) (first-is c) (asking c .unstopped .ensures .0),
+      begun c .fits .candidates .fits,
+      first-is c,
+    )
 
 same-length : tie.Need-same-length
 same-length c = ap length (asking c .unstopped .ensures .1)
 
 returns-2 : tie.Need-returns-2
 returns-2 c =
-    let a = begun c .args in
-    (open-alone (a .q) (a .found) (now (a .second)) (tuple (now (a .t))) (a .candidates) (begun c .pre .0 .2) (c .before .before .before .before .before .if1 .taken) (some c) (first-is c) (asking c .unstopped .ensures .0), asking c .unstopped .ensures .1)
+    let a = begun c .args in (
+      open-alone (a .q) (a .found) (now (a .second)) (tuple (now (a .t))) (a .candidates) (begun c .pre .0 .2)
+          (c .before .before .before .before .before .if1 .taken) (some c) (first-is c) (asking c .unstopped .ensures .0),
+      asking c .unstopped .ensures .1,
+    )
 
 -- ---- all others are
 
@@ -76,8 +88,11 @@ returns-3 : tie.Need-returns-3
 returns-3 c =
     let u = c .before .before in
     let e = u .before .before in
-    let s = e .before .before .before .before in
-    (open-others (s .args .q) (s .args .found) (now (s .args .second)) (tuple (now (s .args .t))) (s .args .candidates) (omega (arith, s .pre .1 .1, e .if1 .left)) (u .unstopped2 .ensures .0), u .unstopped2 .ensures .1)
+    let s = e .before .before .before .before in (
+      open-others (s .args .q) (s .args .found) (now (s .args .second)) (tuple (now (s .args .t))) (s .args .candidates)
+          (omega (arith, s .pre .1 .1, e .if1 .left)) (u .unstopped2 .ensures .0),
+      u .unstopped2 .ensures .1,
+    )
 
 pub uncapped-spec : {M : Type 1} → statement M
 uncapped-spec =

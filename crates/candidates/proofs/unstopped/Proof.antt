@@ -53,7 +53,9 @@ module _ (b : tie.After-blocked Inv-loop μ-loop) where
   blocked-none e = covered-makes-none _ _ _ _ _ _ _ (sym (rw (turn .before .loop .inv .0) at (b .blocked .ensures .0)) ∙ e)
 
   free-one : b .blocked .result ≡ false → child (begun turn) (unknown turn) ≡ true
-  free-one e = makes-one _ _ _ _ _ _ _ (next-holds (turn .before .loop .inv .2) (begun turn .pre .0 .1) (some turn)) (sym (rw (turn .before .loop .inv .0) at (b .blocked .ensures .0)) ∙ e)
+  free-one e =
+      makes-one _ _ _ _ _ _ _ (next-holds (turn .before .loop .inv .2) (begun turn .pre .0 .1) (some turn))
+      (sym (rw (turn .before .loop .inv .0) at (b .blocked .ensures .0)) ∙ e)
 
 loop-holds : tie.Need-loop-holds Inv-loop μ-loop
 unfolding marksTo
@@ -75,7 +77,13 @@ blocked-requires : tie.Need-blocked-requires Inv-loop μ-loop
 blocked-requires c κs =
     let l = c .before in
     let s = begun l in
-    rw (l .before .loop .inv .0) (omega (arith, inside l, s .pre .0 .3), s .pre .0 .0 .0, omega (arith, s .pre .0), s .pre .0 .2, omega (arith, s .pre .1 .at-most (unknown l) (inside l)))
+    rw (l .before .loop .inv .0) (
+      omega (arith, inside l, s .pre .0 .3),
+      s .pre .0 .0 .0,
+      omega (arith, s .pre .0),
+      s .pre .0 .2,
+      omega (arith, s .pre .1 .at-most (unknown l) (inside l)),
+    )
 
 loop-less : tie.Need-loop-less Inv-loop μ-loop
 loop-less c =

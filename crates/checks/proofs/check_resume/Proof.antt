@@ -38,7 +38,8 @@ returns-2 c =
     let a = c .before .before .before .before .before .before .args in
     let i = inputWith alone (a .limit) (a .p) (a .q) (now (a .coefs)) in
     let s = stateOf (now (a .stack)) (now (a .list)) (a .r) in
-    shape-passed alone (a .limit) (a .p) (a .q) (now (a .coefs)) s (check6 (systemOf i) s then check7 i) (c .before .enum-told .given .1) (c .before .before .before .check .ensures) (c .check2 .ensures (a .p))
+    shape-passed alone (a .limit) (a .p) (a .q) (now (a .coefs)) s (check6 (systemOf i) s then check7 i) (c .before .enum-told .given .1)
+    (c .before .before .before .check .ensures) (c .check2 .ensures (a .p))
 
 pub check-resume-spec : {M : Type 1} → statement M
 check-resume-spec =

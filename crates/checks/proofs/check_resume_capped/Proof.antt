@@ -1,4 +1,5 @@
--- `checks::check_resume_capped` meets its contract: a refusal of the shape decides, else the run record, the tables, the coefficients and the right sides do. Assumes nothing.
+-- `checks::check_resume_capped` meets its contract: a refusal of the shape decides, else the run record, the tables, the coefficients and the right sides do.
+-- Assumes nothing.
 use mathlib.Core.Path.{sym, ap, _∙_}
 use native.Mathlib.Omega.{arith}
 use denote.Ref.{now}
@@ -31,7 +32,8 @@ unfolding resumeChecks
 returns c =
     let a = c .before .before .before .before .before .before .before .args in
     let s = stateWith (now (a .stack)) (now (a .list)) (now (a .second)) (a .r) in
-    shape-refused (rights (now (a .rights))) (a .limit) (a .p) (a .q) (now (a .coefs)) s _ (c .before .why .given .1) (c .before .before .before .check .ensures)
+    shape-refused (rights (now (a .rights))) (a .limit) (a .p) (a .q) (now (a .coefs)) s _ (c .before .why .given .1)
+    (c .before .before .before .check .ensures)
 
 returns-2 : tie.Need-returns-2
 unfolding resumeChecks
@@ -40,7 +42,8 @@ returns-2 c =
     let b = rights (now (a .rights)) in
     let i = inputWith b (a .limit) (a .p) (a .q) (now (a .coefs)) in
     let s = stateWith (now (a .stack)) (now (a .list)) (now (a .second)) (a .r) in
-    shape-passed b (a .limit) (a .p) (a .q) (now (a .coefs)) s (check6 (systemOf i) s then rangeChecks b i) (c .before .enum-told .given .1) (c .before .before .before .check .ensures) (c .check-capped .ensures (a .p))
+    shape-passed b (a .limit) (a .p) (a .q) (now (a .coefs)) s (check6 (systemOf i) s then rangeChecks b i) (c .before .enum-told .given .1)
+    (c .before .before .before .check .ensures) (c .check-capped .ensures (a .p))
 
 pub check-resume-capped-spec : {M : Type 1} → statement M
 check-resume-capped-spec =

@@ -1,4 +1,5 @@
--- `checks::check_resume_from` meets its contract: a refusal of the shape decides, else the lower bound, the run record, the tables and the coefficients do. Assumes nothing.
+-- `checks::check_resume_from` meets its contract: a refusal of the shape decides, else the lower bound, the run record, the tables and the coefficients do.
+-- Assumes nothing.
 use mathlib.Core.Path.{sym, ap, _∙_}
 use denote.Ref.{now}
 use borrow.Author.Needs.{needs}
@@ -38,7 +39,8 @@ returns-2 c =
     let a = c .before .before .before .before .before .before .before .before .args in
     let i = inputWith alone (a .limit) (a .p) (a .q) (now (a .coefs)) in
     let s = stateWith (now (a .stack)) (now (a .list)) (now (a .second)) (a .r) in
-    shape-passed alone (a .limit) (a .p) (a .q) (now (a .coefs)) s (check5 i (now (a .lower)) then check6From (now (a .lower)) i s then check7 i then check8 i (now (a .lower)))
+    shape-passed alone (a .limit) (a .p) (a .q) (now (a .coefs)) s
+    (check5 i (now (a .lower)) then check6From (now (a .lower)) i s then check7 i then check8 i (now (a .lower)))
     (c .before .enum-told .given .1) (c .before .before .before .check .ensures) (c .check-from .ensures (a .p))
 
 pub check-resume-from-spec : {M : Type 1} → statement M

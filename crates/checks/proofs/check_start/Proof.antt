@@ -34,7 +34,8 @@ returns-2 c =
     let a = c .before .before .before .before .before .before .args in
     let i = inputOf (a .p) (a .q) (now (a .coefs)) in
     let s = stateOf (now (a .stack)) (now (a .list)) (a .r) in
-    shape-passed alone mostComponent (a .p) (a .q) (now (a .coefs)) s (check7 i) (c .before .enum-told .given .1) (c .before .before .before .check .ensures) (c .check2 .ensures)
+    shape-passed alone mostComponent (a .p) (a .q) (now (a .coefs)) s (check7 i) (c .before .enum-told .given .1)
+    (c .before .before .before .check .ensures) (c .check2 .ensures)
 
 pub check-start-spec : {M : Type 1} → statement M
 check-start-spec =

@@ -34,7 +34,8 @@ returns-2 c limit =
     let a = c .before .before .before .before .before .before .before .args in
     let b = now (a .rights) in
     let s = stateWith (now (a .stack)) (now (a .list)) (now (a .second)) (a .r) in
-    shape-passed (rights b) limit (a .p) (a .q) (now (a .coefs)) s (check7 (inputWith (rights b) limit (a .p) (a .q) (now (a .coefs))) then check15 b) (c .before .enum-told .given .1) (c .before .before .before .check .ensures) (c .check-both .ensures)
+    shape-passed (rights b) limit (a .p) (a .q) (now (a .coefs)) s (check7 (inputWith (rights b) limit (a .p) (a .q) (now (a .coefs))) then check15 b)
+    (c .before .enum-told .given .1) (c .before .before .before .check .ensures) (c .check-both .ensures)
 
 pub check-start-capped-spec : {M : Type 1} → statement M
 check-start-capped-spec =

@@ -34,7 +34,8 @@ returns-2 c =
     let a = c .before .before .before .before .before .before .before .before .args in
     let i = inputWith alone (a .limit) (a .p) (a .q) (now (a .coefs)) in
     let s = stateWith (now (a .stack)) (now (a .list)) (now (a .second)) (a .r) in
-    shape-passed alone (a .limit) (a .p) (a .q) (now (a .coefs)) s (check5 i (now (a .lower)) then check7 i then check8 i (now (a .lower))) (c .before .enum-told .given .1) (c .before .before .before .check .ensures) (c .check-lower .ensures (a .p))
+    shape-passed alone (a .limit) (a .p) (a .q) (now (a .coefs)) s (check5 i (now (a .lower)) then check7 i then check8 i (now (a .lower)))
+    (c .before .enum-told .given .1) (c .before .before .before .check .ensures) (c .check-lower .ensures (a .p))
 
 pub check-start-from-spec : {M : Type 1} → statement M
 check-start-from-spec =

@@ -49,7 +49,8 @@ module _ (w : tie.After-push-others) where
   row-room : start .args .level * (start .args .q + 1) + (start .args .q + 1) ≤ length (w .push-others .last .1 .1 .0)
   row-room = omega (arith, row-fits (start .args .q + 1) _ _ level-low, start .pre .0 .0 .long, w .push-others .kept .1 .1 .0)
 
-  component : getD (w .push-others .last .1 .1 .0) (start .args .level * (start .args .q + 1) + trailingZeros 32 (start .args .made)) 0 ≡ x start (trailingZeros 32 (start .args .made))
+  component : getD (w .push-others .last .1 .1 .0) (start .args .level * (start .args .q + 1) + trailingZeros 32 (start .args .made)) 0
+      ≡ x start (trailingZeros 32 (start .args .made))
   component = w .push-others .ensures .row .tuple _ (first-inside parent-else)
 
 returns : tie.Need-returns
@@ -140,13 +141,16 @@ returns-2 c =
     let s = start w in
     let o = w .push-others .ensures in
     let inside = first-inside (parent-else w) in
-    let raised = ap (λ y. set (w .push-others .last .1 .1 .0) (s .args .level * (s .args .q + 1) + trailingZeros 32 (s .args .made)) (y + 1)) (component w) ∙ raise-row (s .args .q) (w .push-others .last .1 .1 .0) (s .args .level) (x s) (s .args .marks) _ (o .row) inside in (
+    let raised = ap (λ y. set (w .push-others .last .1 .1 .0) (s .args .level * (s .args .q + 1) + trailingZeros 32 (s .args .made)) (y + 1)) (component w)
+    ∙ raise-row (s .args .q) (w .push-others .last .1 .1 .0) (s .args .level) (x s) (s .args .marks) _ (o .row) inside in (
       o .height,
       (
         raised ∙ o .rows,
         (
-          rw raised (combined-over (level-products (o .cached) (o .above) (o .row .tuple)) (o .above) _ inside (s .args .marks) (s .pre .0 .0 .few) (row-room w) (o .cached) (c .write-child .ensures)),
-          rw raised (totals-row (x s) (λ k kh ne. kh) (omega (arith, level-low w, s .pre .0 .0 .few)) _ inside (s .args .marks) (row-room w) (sum-is w) (o .summed)),
+          rw raised (combined-over (level-products (o .cached) (o .above) (o .row .tuple)) (o .above) _ inside (s .args .marks) (s .pre .0 .0 .few) (row-room w)
+              (o .cached) (c .write-child .ensures)),
+          rw raised (totals-row (x s) (λ k kh ne. kh) (omega (arith, level-low w, s .pre .0 .0 .few)) _ inside (s .args .marks)
+              (row-room w) (sum-is w) (o .summed)),
         ),
       ),
     )

@@ -26,7 +26,8 @@ use Rattle.children.proofs.push_others.Tie as tie
 
 abbrev Inv-loop : tie.InvT-loop
 Inv-loop q gram stack₀ products₀ sums₀ level top marks made first bit rest₀ h₀ frozen₀ sum stack products sums rest h passed =
-    (length stack ≡ length stack₀) × (n : ℕ) × Left q (frozen made) n rest × Pushed q stack₀ level (tuple top) marks (frozen made) first n stack h passed × Combined q gram stack h products
+    (length stack ≡ length stack₀) × (n : ℕ) × Left q (frozen made) n rest × Pushed q stack₀ level (tuple top) marks (frozen made) first n stack h passed
+    × Combined q gram stack h products
     × Totals q stack h sums
     × (sum ≡ total (tuple top) q)
 
@@ -48,7 +49,11 @@ module _ (s : tie.Start Inv-loop μ-loop) where
   level-low = omega (arith, s .pre .1 .0, count-some)
     where
       count-some : 0 < countTo (s .args .q) (frozen (s .args .made))
-      count-some = omega (arith, count-step (frozen (s .args .made)) (s .args .first) (s .args .q) first-inside (rw (s .pre .1 .3, next-holds all (few s) (s .pre .1 .2)) tt))
+      count-some =
+          omega (
+            arith,
+            count-step (frozen (s .args .made)) (s .args .first) (s .args .q) first-inside (rw (s .pre .1 .3, next-holds all (few s) (s .pre .1 .2)) tt),
+          )
 
   row-room : s .args .level * (s .args .q + 1) + (s .args .q + 1) ≤ length (now (s .args .stack))
   row-room = omega (arith, row-fits (s .args .q + 1) _ _ level-low, s .pre .0 .0 .long)
@@ -115,9 +120,13 @@ returns : tie.Need-returns Inv-loop μ-loop
 returns c =
     let s = c .before .before .before in
     let left = all s in
-    let gone : s .args .made - (1 * 2 ^ trailingZeros 32 (s .args .made)) % 4294967296 ≡ 0 = subst (λ n. s .args .made - (1 * 2 ^ n) % 4294967296 ≡ 0) (s .pre .1 .3) (c .if1 .taken) in
+    let gone : s .args .made - (1 * 2 ^ trailingZeros 32 (s .args .made)) % 4294967296 ≡ 0 =
+    subst (λ n. s .args .made - (1 * 2 ^ n) % 4294967296 ≡ 0) (s .pre .1 .3) (c .if1 .taken) in
     let rest = rw gone at (left-next left (few s) (s .pre .1 .2)) in
-    rw (s .pre .1 .3) (others-written _ _ _ _ _ _ _ (pushed-first _ _ _ _ _ _ _ (next-first left (few s) (s .pre .1 .2)) (next-holds left (few s) (s .pre .1 .2)) (omega (arith, few s, next-inside left (few s) (s .pre .1 .2))) (s .pre .0 .0 .row)) rest (s .pre .0 .0 .cached) (s .pre .0 .0 .summed))
+    rw (s .pre .1 .3)
+    (others-written _ _ _ _ _ _ _
+    (pushed-first _ _ _ _ _ _ _ (next-first left (few s) (s .pre .1 .2)) (next-holds left (few s) (s .pre .1 .2))
+    (omega (arith, few s, next-inside left (few s) (s .pre .1 .2))) (s .pre .0 .0 .row)) rest (s .pre .0 .0 .cached) (s .pre .0 .0 .summed))
 
 add-read : tie.Need-add-read Inv-loop μ-loop
 add-read c = search needs
@@ -133,7 +142,15 @@ read-requires c κs =
 add-frozen : tie.Need-add-frozen Inv-loop μ-loop
 add-frozen c =
     let s = s c in
-    rw (shift-one (s .args .first) (omega (arith, few s, first-inside s))) (omega (arith, few s, first-inside s, s .pre .0 .0 .fitting, pow-mono {i = s .args .q} {j = 16} (few s), pow-mono {i = s .args .first} {j = 16} (omega (arith, few s, first-inside s))))
+    rw (shift-one (s .args .first) (omega (arith, few s, first-inside s)))
+    (omega (
+      arith,
+      few s,
+      first-inside s,
+      s .pre .0 .0 .fitting,
+      pow-mono {i = s .args .q} {j = 16} (few s),
+      pow-mono {i = s .args .first} {j = 16} (omega (arith, few s, first-inside s)),
+    ))
 
 mul-sum : tie.Need-mul-sum Inv-loop μ-loop
 mul-sum c = omega (arith, few (s c), level-low (s c))
@@ -150,7 +167,8 @@ loop-holds c =
       refl,
       trailingZeros 32 (s .args .made) + 1,
       left-next left (few s) (s .pre .1 .2),
-      pushed-first _ _ _ _ _ _ _ (next-first left (few s) (s .pre .1 .2)) (next-holds left (few s) (s .pre .1 .2)) (omega (arith, few s, next-inside left (few s) (s .pre .1 .2))) (parent k .row),
+      pushed-first _ _ _ _ _ _ _ (next-first left (few s) (s .pre .1 .2)) (next-holds left (few s) (s .pre .1 .2))
+          (omega (arith, few s, next-inside left (few s) (s .pre .1 .2))) (parent k .row),
       s .pre .0 .0 .cached,
       s .pre .0 .0 .summed,
       sum-is k,
@@ -172,7 +190,17 @@ write-child-requires : tie.Need-write-child-requires Inv-loop μ-loop
 write-child-requires c κs =
     let l = c .before .before in
     let s = begun l in
-    omega (arith, few s, long (copied l), inside l, low l, row-fits (s .args .q + 1) _ _ (low l), s .pre .0 .0 .long, l .before .loop .inv .0, parent (copied l) .small .at-most (unknown l) (inside l))
+    omega (
+      arith,
+      few s,
+      long (copied l),
+      inside l,
+      low l,
+      row-fits (s .args .q + 1) _ _ (low l),
+      s .pre .0 .0 .long,
+      l .before .loop .inv .0,
+      parent (copied l) .small .at-most (unknown l) (inside l),
+    )
 
 write-child-requires-2 : tie.Need-write-child-requires-2 Inv-loop μ-loop
 write-child-requires-2 c κs =
@@ -185,7 +213,9 @@ write-child-requires-2 c κs =
       level = omega (arith, few s, low l);
       unknown = inside l;
       gram-small = s .pre .0 .0 .gram;
-      parent-small = products-small (s .pre .0 .0 .gram) (parent (copied l) .small .at-most) (level-products (a .loop .inv .4) (a .loop .inv .3 .above) (a .loop .inv .3 .row .tuple));
+      parent-small =
+          products-small (s .pre .0 .0 .gram) (parent (copied l) .small .at-most)
+          (level-products (a .loop .inv .4) (a .loop .inv .3 .above) (a .loop .inv .3 .row .tuple));
     }
 
 -- the turn of what is done after the products
@@ -224,8 +254,12 @@ loop-again c =
       unknown l + 1,
       left-next (a .loop .inv .2) (few s) (some l),
       pushed-next _ _ _ _ _ _ _ (a .loop .inv .3) (a .loop .inv .2) (few s) (some l) (w .write-child .ensures),
-      rw (w .write-child .ensures) (combined-child from (unknown l) (inside l) (a .loop .frozen) (few s) (omega (arith, row-fits (s .args .q + 1) _ _ (low l), s .pre .0 .0 .long, a .loop .inv .0)) (a .loop .inv .4) (c .write-child2 .ensures)),
-      rw (w .write-child .ensures) (totals-row (x (copied l)) (λ k kh ne. omega arith) (omega (arith, few s, low l)) (unknown l) (inside l) (a .loop .frozen) (omega (arith, row-fits (s .args .q + 1) _ _ (low l), s .pre .0 .0 .long, a .loop .inv .0)) (a .loop .inv .6) (a .loop .inv .5)),
+      rw (w .write-child .ensures)
+          (combined-child from (unknown l) (inside l) (a .loop .frozen) (few s)
+          (omega (arith, row-fits (s .args .q + 1) _ _ (low l), s .pre .0 .0 .long, a .loop .inv .0)) (a .loop .inv .4) (c .write-child2 .ensures)),
+      rw (w .write-child .ensures)
+          (totals-row (x (copied l)) (λ k kh ne. omega arith) (omega (arith, few s, low l)) (unknown l) (inside l) (a .loop .frozen)
+          (omega (arith, row-fits (s .args .q + 1) _ _ (low l), s .pre .0 .0 .long, a .loop .inv .0)) (a .loop .inv .6) (a .loop .inv .5)),
       a .loop .inv .6,
     )
 
@@ -238,7 +272,8 @@ same-length-2 c = search needs
 returns-2 : tie.Need-returns-2 Inv-loop μ-loop
 returns-2 c =
     let a = c .before in
-    others-same (λ j l. sym (same (a .before .before) j l)) (others-written _ _ _ _ _ _ _ (a .loop .inv .3) (rw (c .loop-test .left) at (a .loop .inv .2)) (a .loop .inv .4) (a .loop .inv .5))
+    others-same (λ j l. sym (same (a .before .before) j l))
+    (others-written _ _ _ _ _ _ _ (a .loop .inv .3) (rw (c .loop-test .left) at (a .loop .inv .2)) (a .loop .inv .4) (a .loop .inv .5))
 
 pub push-others-spec : {M : Type 1} → statement M
 push-others-spec =

@@ -45,7 +45,8 @@ unfolding allTo
 loop-holds c = (search needs, omega (arith, left-fits _ _ _ _ _ (c .before .rows .inv .1) (omega (arith, c .rows-test .taken))), refl)
 
 -- the number that is compared is component j
-component : (c : tie.Joined1 Inv-loop μ-loop Inv-rows μ-rows) → c .if1 .x ≡ tuple (now (c .before .before .before .before .before .before .args .t)) (c .before .before .loop .j)
+component : (c : tie.Joined1 Inv-loop μ-loop Inv-rows μ-rows)
+    → c .if1 .x ≡ tuple (now (c .before .before .before .before .before .before .args .t)) (c .before .before .loop .j)
 component c = elim (c .if1 .came) [ inl (i, e) ↦ rw (i .taken) e | inr (i, k, e) ↦ e ]
 
 rows-less : tie.Need-rows-less Inv-loop μ-loop Inv-rows μ-rows
@@ -58,8 +59,10 @@ rows-again c =
     let b = c .before .before in
     let l = b .before in
     let r = l .before .before in
-    let a = r .before in
-    (a .rows .inv .0, left-next _ _ _ _ _ (a .rows .inv .1) (omega (arith, r .rows-test .taken)) _ (l .loop-test .taken) (lt-leb _ _ (rw (component b) at (c .if2 .taken))))
+    let a = r .before in (
+      a .rows .inv .0,
+      left-next _ _ _ _ _ (a .rows .inv .1) (omega (arith, r .rows-test .taken)) _ (l .loop-test .taken) (lt-leb _ _ (rw (component b) at (c .if2 .taken))),
+    )
 
 loop-again : tie.Need-loop-again Inv-loop μ-loop Inv-rows μ-rows
 loop-again c =

@@ -40,7 +40,8 @@ returns c =
     let k = t .before .before in
     let a = k .before .before .args in
     let e = rw (f .room-for .ensures) at (o .in-order .ensures) in
-    shape-passed (a .p) (a .q) (now (a .coefs)) _ _ (k .check-shape .ensures) (t .enum-told .given .1) (order-refused _ _ (now (a .coefs)) _ _ _ e (c .if1 .taken))
+    shape-passed (a .p) (a .q) (now (a .coefs)) _ _ (k .check-shape .ensures) (t .enum-told .given .1)
+    (order-refused _ _ (now (a .coefs)) _ _ _ e (c .if1 .taken))
 
 check-requires : tie.Need-check-requires
 check-requires c κs = search needs
@@ -61,7 +62,8 @@ returns-3 c =
     let k = t .before .before in
     let a = k .before .before .args in
     let e = rw (f .room-for .ensures) at (o .in-order .ensures) in
-    shape-passed (a .p) (a .q) (now (a .coefs)) _ _ (k .check-shape .ensures) (t .enum-told .given .1) (order-passed _ _ (now (a .coefs)) _ _ _ e (c .before .if1 .left) (c .check .ensures))
+    shape-passed (a .p) (a .q) (now (a .coefs)) _ _ (k .check-shape .ensures) (t .enum-told .given .1)
+    (order-passed _ _ (now (a .coefs)) _ _ _ e (c .before .if1 .left) (c .check .ensures))
 
 pub check-resume-spec : {M : Type 1} → statement M
 check-resume-spec =

@@ -12,7 +12,8 @@ refusal-requires c κs =
 returns : tie.Need-returns
 returns c =
     let k = c .before .before .before .before in
-    misfit-told _ _ _ _ _ _ (k .before .before .before .before .pre) (rw (k .before .read .ensures) at (k .check-resume .ensures)) (c .before .before .why .given .1)
+    misfit-told _ _ _ _ _ _ (k .before .before .before .before .pre) (rw (k .before .read .ensures) at (k .check-resume .ensures))
+    (c .before .before .why .given .1)
     (c .refusal .ensures)
 
 returns-2 : tie.Need-returns-2

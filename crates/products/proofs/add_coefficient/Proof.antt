@@ -35,12 +35,17 @@ module _ (l : tie.In-loop Inv-loop μ-loop) where
   abbrev s : tie.Start Inv-loop μ-loop
   s = a .before .before
 
-  terms : SmallTerms (s .args .p) (λ e. given (s .args .q) (now (s .args .coefs)) e (s .args .i)) (λ e. given (s .args .q) (now (s .args .coefs)) e (a .loop .j))
+  terms : SmallTerms (s .args .p) (λ e. given (s .args .q) (now (s .args .coefs)) e (s .args .i))
+      (λ e. given (s .args .q) (now (s .args .coefs)) e (a .loop .j))
   terms = column-terms (s .pre .0 .0) _ _
 
-  held : ofZ w64 (entry (a .loop .g) (s .args .i) (a .loop .j)) ≡ ofZ w64 (inner (s .args .e) (λ e. given (s .args .q) (now (s .args .coefs)) e (s .args .i)) (λ e. given (s .args .q) (now (s .args .coefs)) e (a .loop .j)))
+  held : ofZ w64 (entry (a .loop .g) (s .args .i) (a .loop .j))
+      ≡ ofZ w64 (inner (s .args .e) (λ e. given (s .args .q) (now (s .args .coefs)) e (s .args .i))
+      (λ e. given (s .args .q) (now (s .args .coefs)) e (a .loop .j)))
   unfolding gram
-  held = ap (ofZ w64) (written-ahead (a .loop .inv .1) (omega arith) (omega (arith, l .loop-test .taken, s .pre .0 .0 .unknowns)) ∙ s .pre .1 .holds (a .loop .j) (l .loop-test .taken))
+  held =
+      ap (ofZ w64) (written-ahead (a .loop .inv .1) (omega arith) (omega (arith, l .loop-test .taken, s .pre .0 .0 .unknowns))
+      ∙ s .pre .1 .holds (a .loop .j) (l .loop-test .taken))
 
 mul-x : tie.Need-mul-x Inv-loop μ-loop
 mul-x c = omega (arith, row c)

@@ -31,8 +31,11 @@ module _ (l : tie.In-loop Inv-loop μ-loop) where
   terms : SmallTerms (s .args .q) (λ n. pos (at (now (s .args .stack)) (s .args .q + 1) (s .args .k) n)) (λ n. entry (now (s .args .gram)) n (a .loop .j))
   terms = row-terms (s .pre .0 .0) (s .pre .0 .1) (a .loop .j) (l .loop-test .taken)
 
-  held : ofZ w64 (entry (a .loop .c) (s .args .k) (a .loop .j)) ≡ ofZ w64 (partial (now (s .args .gram)) (at (now (s .args .stack)) (s .args .q + 1) (s .args .k)) (s .args .i) (a .loop .j))
-  held = ap (ofZ w64) (written-ahead (a .loop .inv .1) (omega arith) (omega (arith, l .loop-test .taken, s .pre .0 .0 .unknowns)) ∙ s .pre .1 .sums (a .loop .j) (l .loop-test .taken))
+  held : ofZ w64 (entry (a .loop .c) (s .args .k) (a .loop .j))
+      ≡ ofZ w64 (partial (now (s .args .gram)) (at (now (s .args .stack)) (s .args .q + 1) (s .args .k)) (s .args .i) (a .loop .j))
+  held =
+      ap (ofZ w64) (written-ahead (a .loop .inv .1) (omega arith) (omega (arith, l .loop-test .taken, s .pre .0 .0 .unknowns))
+      ∙ s .pre .1 .sums (a .loop .j) (l .loop-test .taken))
 
 add-x : tie.Need-add-x Inv-loop μ-loop
 add-x c = search needs
@@ -52,7 +55,8 @@ shared-slice-read-x c = search needs
 returns : tie.Need-returns Inv-loop μ-loop
 returns c =
     let s = c .before .before .before in
-    written-same (λ j l. s .pre .1 .sums j l ∙ partial-skip (now (s .args .gram)) (at (now (s .args .stack)) (s .args .q + 1) (s .args .k)) (s .args .i) j (c .if1 .taken))
+    written-same (λ j l. s .pre .1 .sums j l ∙ partial-skip (now (s .args .gram)) (at (now (s .args .stack)) (s .args .q + 1) (s .args .k))
+    (s .args .i) j (c .if1 .taken))
 
 loop-holds : tie.Need-loop-holds Inv-loop μ-loop
 loop-holds c = (search needs, written-none)

@@ -25,8 +25,10 @@ add-coefficient-requires : tie.Need-add-coefficient-requires Inv-loop μ-loop
 add-coefficient-requires c κs =
     let l = c .before in
     let a = l .before in
-    let s = a .before in
-    ((s .pre .0, a .loop .inv .1, s .pre .2, l .loop-test .taken), record { holds = λ j k. a .loop .inv .3 .rows (a .loop .i) j (omega arith) (l .loop-test .taken) k })
+    let s = a .before in (
+      (s .pre .0, a .loop .inv .1, s .pre .2, l .loop-test .taken),
+      record { holds = λ j k. a .loop .inv .3 .rows (a .loop .i) j (omega arith) (l .loop-test .taken) k },
+    )
 
 add-i : tie.Need-add-i Inv-loop μ-loop
 add-i c = search needs

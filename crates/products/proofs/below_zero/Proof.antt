@@ -45,7 +45,10 @@ sign-requires : tie.Need-sign-requires Inv-loop μ-loop
 sign-requires c κs = search needs
 
 -- what `sign` gives, of the number that the table has
-signed : (c : tie.After-sign Inv-loop μ-loop) → c .sign .result ≡ number (ltZ (entry (now (c .before .before .before .before .args .c)) (c .before .before .before .before .args .k) (c .before .before .before .loop .j - 1)) (pos 0))
+signed : (c : tie.After-sign Inv-loop μ-loop)
+    → c .sign .result
+    ≡ number (ltZ (entry (now (c .before .before .before .before .args .c)) (c .before .before .before .before .args .k)
+    (c .before .before .before .loop .j - 1)) (pos 0))
 signed c = rw (toZ-ofZ (sfits-of (c .before .sign-arg .given))) at (c .sign .ensures)
 
 add-below-2 : tie.Need-add-below-2 Inv-loop μ-loop

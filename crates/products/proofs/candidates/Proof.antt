@@ -25,7 +25,9 @@ returns c =
     let f : ℕ → Bool = λ j. ltZ (entry (now (s .args .c)) (s .args .k) j) (pos 0) in
     record {
       below = omega (arith, and-le-l (c .below-zero .result) (4294967295 - s .args .marks), rw (← e) at (marks-below (s .args .q) f));
-      at = λ j l. frozen-free 32 (c .below-zero .result) (s .args .marks) j (search needs) (omega (arith, s .pre)) ∙ ap (λ b. b && not (frozen (s .args .marks) j)) {x = frozen (c .below-zero .result) j} {y = f j} (rw e (marks-frozen (s .args .q) f j l));
+      at =
+          λ j l. frozen-free 32 (c .below-zero .result) (s .args .marks) j (search needs) (omega (arith, s .pre))
+          ∙ ap (λ b. b && not (frozen (s .args .marks) j)) {x = frozen (c .below-zero .result) j} {y = f j} (rw e (marks-frozen (s .args .q) f j l));
     }
 
 pub candidates-spec : {M : Type 1} → statement M

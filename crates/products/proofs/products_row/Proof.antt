@@ -62,7 +62,11 @@ add-sum-3 c =
     let a = l .before in
     let s = begun l in
     let few : a .loop .i + 1 ≤ 16 = omega (arith, l .loop-test .taken, s .pre .0 .unknowns) in
-    omega (arith, total-more (tuple s) (a .loop .i) (a .loop .inv .2), total-room (tuple s) (a .loop .i + 1) few (λ i u. s .pre .1 .small i (omega (arith, l .loop-test .taken))))
+    omega (
+      arith,
+      total-more (tuple s) (a .loop .i) (a .loop .inv .2),
+      total-room (tuple s) (a .loop .i + 1) few (λ i u. s .pre .1 .small i (omega (arith, l .loop-test .taken))),
+    )
 
 add-component-requires : tie.Need-add-component-requires Inv-loop μ-loop
 add-component-requires c κs =

@@ -44,7 +44,8 @@ element-copy-out-c-2 : tie.Need-element-copy-out-c-2 Inv-loop μ-loop
 element-copy-out-c-2 c = search needs
 
 -- place j of the parent's row is as it was
-ahead : (c : tie.At-loop Inv-loop μ-loop) → c .loop .j < c .before .args .q → entry (c .loop .c) (c .before .args .from) (c .loop .j) ≡ entry (now (c .before .args .c)) (c .before .args .from) (c .loop .j)
+ahead : (c : tie.At-loop Inv-loop μ-loop) → c .loop .j < c .before .args .q
+    → entry (c .loop .c) (c .before .args .from) (c .loop .j) ≡ entry (now (c .before .args .c)) (c .before .args .from) (c .loop .j)
 ahead c l = written-ahead (c .loop .inv .1) (c .before .pre .below) (omega (arith, c .before .pre .gram-small .unknowns))
 
 add-c-3 : tie.Need-add-c-3 Inv-loop μ-loop

@@ -13,9 +13,11 @@ use Rattle.step.proofs.append.Statement.{statement}
 use Rattle.step.proofs.append.Tie as tie
 
 -- the part of the tuple that is written
-part-is : (s : tie.Start) (j : ℕ) → j < s .args .w → getD (take (length (now (s .args .t)) - s .args .from) (drop (s .args .from) (now (s .args .t)))) j 0 ≡ getD (now (s .args .t)) (s .args .from + j) 0
+part-is : (s : tie.Start) (j : ℕ) → j < s .args .w
+    → getD (take (length (now (s .args .t)) - s .args .from) (drop (s .args .from) (now (s .args .t)))) j 0 ≡ getD (now (s .args .t)) (s .args .from + j) 0
 part-is s j l =
-    getD-take (length (now (s .args .t)) - s .args .from) (drop (s .args .from) (now (s .args .t))) j 0 (omega (arith, s .pre .1)) ∙ getD-drop (s .args .from) (now (s .args .t)) j 0
+    getD-take (length (now (s .args .t)) - s .args .from) (drop (s .args .from) (now (s .args .t))) j 0 (omega (arith, s .pre .1))
+    ∙ getD-drop (s .args .from) (now (s .args .t)) j 0
 
 div-if1 : tie.Need-div-if1
 div-if1 c = search needs

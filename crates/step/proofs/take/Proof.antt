@@ -15,7 +15,23 @@ use borrow.Author.Needs.{needs}
 use Rattle.candidates.specs.Grow.{childFor}
 use Rattle.candidates.specs.Kinds.{asked, kindBy, width-any}
 use Rattle.candidates.specs.Tried.{large-tried, made-tried, tried-same, triedBy}
-use Rattle.step.specs.TakeLaws.{child-asked, enlisted-asked, made-below, made-few, part-back, second-asked, taken-grown, taken-large, taken-none, taken-solution, top-fits, top-inside, top-limited, top-parent, top-within}
+use Rattle.step.specs.TakeLaws.{
+  child-asked,
+  enlisted-asked,
+  made-below,
+  made-few,
+  part-back,
+  second-asked,
+  taken-grown,
+  taken-large,
+  taken-none,
+  taken-solution,
+  top-fits,
+  top-inside,
+  top-limited,
+  top-parent,
+  top-within,
+}
 use Rattle.step.proofs.take.Statement.{statement}
 use Rattle.step.proofs.take.Tie as tie
 
@@ -65,11 +81,17 @@ module _ (x : tie.After-admitted) where
   abbrev told : tie.Start
   told = s d
 
-  back : take (base told) (now (told .args .stack)) ++ (x .admitted .last .1 .1 .1 .1 .1 .1 .1 .0 ++ drop (length (now (told .args .stack)) - base told) (drop (base told) (now (told .args .stack)))) ≡ now (told .args .stack)
+  back : take (base told) (now (told .args .stack))
+      ++ (x .admitted .last .1 .1 .1 .1 .1 .1 .1 .0 ++ drop (length (now (told .args .stack)) - base told) (drop (base told) (now (told .args .stack))))
+      ≡ now (told .args .stack)
   back = part-back (now (told .args .stack)) (base told) (length (now (told .args .stack)) - base told) (x .admitted .ensures .1)
 
-  tried-asked : x .admitted .result ≡ triedBy (told .args .limit) (told .args .q) (childFor (kind told) (told .args .q) (state told) (tuple (row told)) (d .candidates .result)) (tuple (row told))
-  tried-asked = x .admitted .ensures .0 ∙ tried-same (told .args .limit) (told .args .q) _ _ _ (λ j l. child-asked (kind told) (told .args .q) (now (told .args .list)) (now (told .args .second)) (told .args .found) (told .args .other) _ _ (now (told .args .stack)) (told .args .height) j)
+  tried-asked : x .admitted .result ≡ triedBy (told .args .limit) (told .args .q)
+      (childFor (kind told) (told .args .q) (state told) (tuple (row told)) (d .candidates .result)) (tuple (row told))
+  tried-asked =
+      x .admitted .ensures .0 ∙ tried-same (told .args .limit) (told .args .q) _ _ _
+      (λ j l. child-asked (kind told) (told .args .q) (now (told .args .list)) (now (told .args .second)) (told .args .found) (told .args .other) _ _
+      (now (told .args .stack)) (told .args .height) j)
 
 sub-level : tie.Need-sub-level
 sub-level c = search needs
@@ -91,8 +113,10 @@ read-requires c κs =
 enlist-requires : tie.Need-enlist-requires
 enlist-requires c κs =
     let r = c .before .before .before .before .before in
-    let s = begun (r .before .before .before .before) in
-    (subst (λ w. 0 < w) (width-any (s .args .walk) (now (s .args .lower)) [] (s .args .q)) (s .pre .0 .wide), omega (arith, s .pre .1 .1, r .read .kept .1 .1 .1 .0))
+    let s = begun (r .before .before .before .before) in (
+      subst (λ w. 0 < w) (width-any (s .args .walk) (now (s .args .lower)) [] (s .args .q)) (s .pre .0 .wide),
+      omega (arith, s .pre .1 .1, r .read .kept .1 .1 .1 .0),
+    )
 
 same-length : tie.Need-same-length
 same-length c = search needs
@@ -112,7 +136,8 @@ returns c =
     let r = k .before .before .before .before .before .before in
     let t = r .before .before .before in
     let s = begun (t .before) in
-    taken-solution (s .pre .0) (r .read .ensures) (sym (t .before .vanish .ensures) ∙ t .if1 .taken) (enlisted-asked (kind s) (s .args .q) (now (s .args .stack)) (s .args .height) (k .enlist .ensures (now (s .args .lower))))
+    taken-solution (s .pre .0) (r .read .ensures) (sym (t .before .vanish .ensures) ∙ t .if1 .taken)
+    (enlisted-asked (kind s) (s .args .q) (now (s .args .stack)) (s .args .height) (k .enlist .ensures (now (s .args .lower))))
 
 add-marks : tie.Need-add-marks
 add-marks c = omega (arith, fits (begun (c .before)))
@@ -173,7 +198,10 @@ push-requires c κs =
     let made = made-tried _ _ _ _ (sym (m .made .given .1) ∙ tried-asked x) .1 in
     rw (back x) (
       (top-parent (s .pre .0) (held s) (no (d x)) refl (d x .candidates .ensures) made, s .pre .1 .1),
-      (made-few (s .pre .0) (held s) (no (d x)) refl (d x .candidates .ensures) made, made-below (s .pre .0) (held s) (no (d x)) refl (d x .candidates .ensures) made),
+      (
+        made-few (s .pre .0) (held s) (no (d x)) refl (d x .candidates .ensures) made,
+        made-below (s .pre .0) (held s) (no (d x)) refl (d x .candidates .ensures) made,
+      ),
     )
 
 same-length-5 : tie.Need-same-length-5
@@ -212,7 +240,8 @@ returns-4 c =
     let s = told x in
     let (none, made) = made-tried _ _ _ _ (sym (m .made .given .1) ∙ tried-asked x) in
     let grown = rw (back x) at (p .push .ensures .1 .0) in
-    taken-grown (s .pre .0) (held s) (no (d x)) refl (d x .candidates .ensures) made none (p .push .ensures .0) grown (p .push .ensures .1 .1 .0) (p .push .ensures .1 .1 .1)
+    taken-grown (s .pre .0) (held s) (no (d x)) refl (d x .candidates .ensures) made none (p .push .ensures .0) grown (p .push .ensures .1 .1 .0)
+    (p .push .ensures .1 .1 .1)
 
 pub take-spec : {M : Type 1} → statement M
 take-spec =

@@ -74,8 +74,12 @@ walk-requires c κs =
     let w = c .before .before .before .before .before in
     let m = w .before .before in
     let t = m .before in
-    let a = s t .args in
-    (subst (λ x. Valid x (stateWith (now (a .stack)) (now (a .list)) (now (a .second)) (a .r))) (extended-system (handed t) (w .write .ensures) (m .limit-of .ensures)) (resume-valid _ _ (passes (k t .check-resume-capped .ensures) (t .enum-told .given .1))), tt)
+    let a = s t .args in (
+      subst (λ x. Valid x (stateWith (now (a .stack)) (now (a .list)) (now (a .second)) (a .r)))
+          (extended-system (handed t) (w .write .ensures) (m .limit-of .ensures))
+          (resume-valid _ _ (passes (k t .check-resume-capped .ensures) (t .enum-told .given .1))),
+      tt,
+    )
 
 same-length : tie.Need-same-length
 same-length c = search needs
@@ -112,7 +116,8 @@ returns-2 c =
     let a = s t .args in
     let checks = resumeChecks (inputWith (rights (now (a .rights))) (a .limit) (a .p) (a .q) (now (a .coefs))) in
     let go : System → Outcome State = λ n. walk (a .budget) (machineOf checks n) (stateWith (now (a .stack)) (now (a .list)) (now (a .second)) (a .r)) in
-    call-passed (k t .check-resume-capped .ensures) _ _ (t .enum-told .given .1) (x .walk .ensures checks ∙ ap go (sym (extended-system (handed t) (w .write .ensures) (m .limit-of .ensures))))
+    call-passed (k t .check-resume-capped .ensures) _ _ (t .enum-told .given .1)
+    (x .walk .ensures checks ∙ ap go (sym (extended-system (handed t) (w .write .ensures) (m .limit-of .ensures))))
 
 pub resumed-capped-spec : {M : Type 1} → statement M
 resumed-capped-spec =

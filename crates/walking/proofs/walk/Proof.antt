@@ -16,20 +16,38 @@ use Rattle.calls.specs.Paper.{kindOf, stateWith, systemWith}
 use Rattle.calls.specs.declared.Record.{Record}
 use Rattle.products.specs.ProductLaws.{gram-small}
 use Rattle.candidates.specs.Kinds.{asked, beside, kindBy}
-use Rattle.walking.specs.WalkLaws.{Walking, blank-zeros, ends-complete, ends-late, ends-paused, found-small, second-small, small-coefs, small-rows, standing, turn-grown, turn-listed, turn-listed₂, turn-refused}
+use Rattle.walking.specs.WalkLaws.{
+  Walking,
+  blank-zeros,
+  ends-complete,
+  ends-late,
+  ends-paused,
+  found-small,
+  second-small,
+  small-coefs,
+  small-rows,
+  standing,
+  turn-grown,
+  turn-listed,
+  turn-listed₂,
+  turn-refused,
+}
 use Rattle.walking.proofs.walk.Statement.{statement}
 use Rattle.walking.proofs.walk.Tie as tie
 
 abbrev Inv-loop : tie.InvT-loop
-Inv-loop kind p q coefs stack₀ list₀ second₀ lower r budget limit first stop height₀ found₀ steps₀ other₀ deepest₀ gram inner₀ sums₀ top₀ stack list second height found steps other deepest inner sums top =
+Inv-loop kind p q coefs stack₀ list₀ second₀ lower r budget limit first stop height₀ found₀ steps₀ other₀ deepest₀ gram inner₀ sums₀ top₀ stack list second
+    height found steps other deepest inner sums top =
     (length stack ≡ length stack₀) × (length list ≡ length list₀) × (length second ≡ length second₀)
-    × Walking (systemWith (kindBy kind lower) p q coefs limit) gram budget (stateWith stack₀ list₀ second₀ r) (first + budget - steps) (beside (asked stack list second height found other) (kindOf (r .kind)) steps (r .before .0) deepest) inner sums
+    × Walking (systemWith (kindBy kind lower) p q coefs limit) gram budget (stateWith stack₀ list₀ second₀ r) (first + budget - steps)
+    (beside (asked stack list second height found other) (kindOf (r .kind)) steps (r .before .0) deepest) inner sums
     × (length top ≡ 16)
     × (steps ≤ stop)
     × (first ≤ steps)
 
 abbrev μ-loop : tie.MeasureT-loop
-μ-loop kind p q coefs stack₀ list₀ second₀ lower r budget limit first stop height₀ found₀ steps₀ other₀ deepest₀ gram inner₀ sums₀ top₀ stack list second height found steps other deepest inner sums top = stop - steps
+μ-loop kind p q coefs stack₀ list₀ second₀ lower r budget limit first stop height₀ found₀ steps₀ other₀ deepest₀ gram inner₀ sums₀ top₀ stack list second height
+    found steps other deepest inner sums top = stop - steps
 
 -- ---- where things began
 
@@ -73,7 +91,9 @@ loop-holds c =
         valid = s .pre .0;
         cached = c .write-products .ensures .0;
         summed = c .write-products .ensures .1;
-        same = λ checks. ap (λ n. walk n (machineOf checks m) (stateWith (now (s .args .stack)) (now (s .args .list)) (now (s .args .second)) (s .args .r))) (omega arith);
+        same =
+            λ checks. ap (λ n. walk n (machineOf checks m) (stateWith (now (s .args .stack)) (now (s .args .list)) (now (s .args .second)) (s .args .r)))
+            (omega arith);
       },
       refl,
       omega (arith, stopped g .stop-at .ensures, s .pre .0 .ordered .early),
@@ -142,8 +162,11 @@ returns-2 c checks =
     let t = c .before in
     let l = t .before .before in
     let at-stop = t .before .if1 .taken in
-    let more : first l + s l .args .budget - a l .loop .steps ≡ suc (first l + s l .args .budget - a l .loop .steps - 1) = omega (arith, t .if2 .left, at-stop, stop-is l, a l .loop .inv .6) in
-    rw (c .left2 .ensures) (sym (ends-late (a l .loop .inv .3) checks (l .loop-test .taken) more (omega (arith, t .if2 .left, at-stop, stopped (grammed (a l)) .stop-at .ensures, a l .loop .inv .6))))
+    let more : first l + s l .args .budget - a l .loop .steps ≡ suc (first l + s l .args .budget - a l .loop .steps - 1) =
+    omega (arith, t .if2 .left, at-stop, stop-is l, a l .loop .inv .6) in
+    rw (c .left2 .ensures)
+    (sym (ends-late (a l .loop .inv .3) checks (l .loop-test .taken) more
+    (omega (arith, t .if2 .left, at-stop, stopped (grammed (a l)) .stop-at .ensures, a l .loop .inv .6))))
 
 sub-greater : tie.Need-sub-greater Inv-loop μ-loop
 sub-greater c = search needs
@@ -166,7 +189,8 @@ take-requires c κs =
     let w = a l .loop .inv .3 in
     let g = grammed (a l) in
     let r = s l .args .r in (
-      standing (told (a l)) (kindOf (r .kind)) (a l .loop .steps) (r .before .0) (a l .loop .deepest) (w .valid) (gram-small (small-coefs (s l .pre .0)) (g .write-gram .ensures)) (w .cached) (w .summed) (l .loop-test .taken),
+      standing (told (a l)) (kindOf (r .kind)) (a l .loop .steps) (r .before .0) (a l .loop .deepest) (w .valid)
+          (gram-small (small-coefs (s l .pre .0)) (g .write-gram .ensures)) (w .cached) (w .summed) (l .loop-test .taken),
       (s l .pre .1, omega (arith, a l .loop .inv .4, s l .pre .0 .shaped .q-few)),
     )
 
@@ -187,7 +211,10 @@ module _ (t : tie.After-take Inv-loop μ-loop) where
   more : first l + s l .args .budget - a l .loop .steps ≡ suc (first l + s l .args .budget - (a l .loop .steps + 1))
   more = omega (arith, e .if1 .left, stop-is l, a l .loop .inv .5, a l .loop .inv .6)
 
-  deep : max (a l .loop .deepest) (getD (a l .loop .sums) (a l .loop .height - 1) 0) ≡ deeper (s l .args .q) (beside (told (a l)) (kindOf (r .kind)) (a l .loop .steps) (r .before .0) (a l .loop .deepest)) (top (systemWith (kindBy (s l .args .kind) (now (s l .args .lower))) (s l .args .p) (s l .args .q) (now (s l .args .coefs)) (s l .args .limit)) (told (a l)))
+  deep : max (a l .loop .deepest) (getD (a l .loop .sums) (a l .loop .height - 1) 0)
+      ≡ deeper (s l .args .q) (beside (told (a l)) (kindOf (r .kind)) (a l .loop .steps) (r .before .0) (a l .loop .deepest))
+      (top (systemWith (kindBy (s l .args .kind) (now (s l .args .lower))) (s l .args .p) (s l .args .q) (now (s l .args .coefs)) (s l .args .limit))
+      (told (a l)))
   deep = ap (max (a l .loop .deepest)) (a l .loop .inv .3 .summed .levels (a l .loop .height - 1) (omega (arith, l .loop-test .taken)))
 
 enum-told : tie.Need-enum-told Inv-loop μ-loop
@@ -201,7 +228,8 @@ add-found c =
     let t = c .before .before .before .before .before .before .before .before .before in
     let l = l t in
     let r = s l .args .r in
-    let next = turn-listed (told (a l)) (kindOf (r .kind)) (a l .loop .steps) (r .before .0) (a l .loop .deepest) (a l .loop .inv .3) (grammed (a l) .write-gram .ensures) (l .loop-test .taken) (more t) (early t) (t .take .ensures) (c .enum-told .given .1) refl refl refl refl in
+    let next = turn-listed (told (a l)) (kindOf (r .kind)) (a l .loop .steps) (r .before .0) (a l .loop .deepest) (a l .loop .inv .3)
+    (grammed (a l) .write-gram .ensures) (l .loop-test .taken) (more t) (early t) (t .take .ensures) (c .enum-told .given .1) refl refl refl refl in
     omega (arith, found-small (next .valid), t .take .kept .1 .1 .1 .1 .0, a l .loop .inv .1, s l .good .1 .1 .1 .1 .1 .0)
 
 enum-told-2 : tie.Need-enum-told-2 Inv-loop μ-loop
@@ -215,7 +243,8 @@ add-other c =
     let t = c .before .before .before .before .before .before .before .before .before in
     let l = l t in
     let r = s l .args .r in
-    let small = second-small (told (a l)) (kindOf (r .kind)) (a l .loop .steps) (r .before .0) (a l .loop .deepest) (a l .loop .inv .3) (grammed (a l) .write-gram .ensures) (l .loop-test .taken) (more t) (early t) (t .take .ensures) (c .enum-told2 .given .1) in
+    let small = second-small (told (a l)) (kindOf (r .kind)) (a l .loop .steps) (r .before .0) (a l .loop .deepest) (a l .loop .inv .3)
+    (grammed (a l) .write-gram .ensures) (l .loop-test .taken) (more t) (early t) (t .take .ensures) (c .enum-told2 .given .1) in
     omega (arith, small, a l .loop .inv .2, s l .good .1 .1 .1 .1 .1 .1 .0)
 
 enum-known-h : tie.Need-enum-known-h Inv-loop μ-loop
@@ -246,7 +275,9 @@ returns-3 c checks =
     let t = y .before .before .before .before .before .before .before .before .before in
     let l = l t in
     let r = s l .args .r in
-    rw (c .left3 .ensures) (sym (turn-refused (told (a l)) (kindOf (r .kind)) (a l .loop .steps) (r .before .0) (a l .loop .deepest) (a l .loop .inv .3) (grammed (a l) .write-gram .ensures) (l .loop-test .taken) (more t) (early t) (t .take .ensures) checks (y .why .given .1)))
+    rw (c .left3 .ensures)
+    (sym (turn-refused (told (a l)) (kindOf (r .kind)) (a l .loop .steps) (r .before .0) (a l .loop .deepest) (a l .loop .inv .3)
+    (grammed (a l) .write-gram .ensures) (l .loop-test .taken) (more t) (early t) (t .take .ensures) checks (y .why .given .1)))
 
 -- the turn of the end of a turn
 abbrev taken : tie.At-match-came Inv-loop μ-loop → tie.After-take Inv-loop μ-loop
@@ -272,10 +303,13 @@ loop-again c =
       t .take .kept .1 .1 .1 .1 .0 ∙ a l .loop .inv .1,
       t .take .kept .1 .1 .1 .1 .1 .0 ∙ a l .loop .inv .2,
       elim (c .match .came) [
-        | inl (match, known, eh, ef, e₂) ↦ turn-listed (told (a l)) (kindOf (r .kind)) (a l .loop .steps) (r .before .0) (a l .loop .deepest) w g (l .loop-test .taken) (more t) (early t) (t .take .ensures) (known .given .1) eh ef e₂ d
+        | inl (match, known, eh, ef, e₂) ↦ turn-listed (told (a l)) (kindOf (r .kind)) (a l .loop .steps) (r .before .0) (a l .loop .deepest) w g
+            (l .loop-test .taken) (more t) (early t) (t .take .ensures) (known .given .1) eh ef e₂ d
         | inr o ↦ elim o [
-          | inl (match, known, eh, ef, e₂) ↦ turn-listed₂ (told (a l)) (kindOf (r .kind)) (a l .loop .steps) (r .before .0) (a l .loop .deepest) w g (l .loop-test .taken) (more t) (early t) (t .take .ensures) (known .given .1) eh ef e₂ d
-          | inr (match, n, known, eh, ef, e₂) ↦ turn-grown (told (a l)) (kindOf (r .kind)) (a l .loop .steps) (r .before .0) (a l .loop .deepest) w g (l .loop-test .taken) (more t) (early t) (t .take .ensures) (n .given .1) eh ef e₂ d
+          | inl (match, known, eh, ef, e₂) ↦ turn-listed₂ (told (a l)) (kindOf (r .kind)) (a l .loop .steps) (r .before .0) (a l .loop .deepest) w g
+              (l .loop-test .taken) (more t) (early t) (t .take .ensures) (known .given .1) eh ef e₂ d
+          | inr (match, n, known, eh, ef, e₂) ↦ turn-grown (told (a l)) (kindOf (r .kind)) (a l .loop .steps) (r .before .0) (a l .loop .deepest) w g
+              (l .loop-test .taken) (more t) (early t) (t .take .ensures) (n .given .1) eh ef e₂ d
         ]
       ],
       t .take .kept .1 .1 .1 .1 .1 .1 .1 .1 .1 .0 ∙ a l .loop .inv .4,

@@ -43,13 +43,21 @@ returns-5 : tie.Need-returns-5
 unfolding countChecks refuseWith _then_
 returns-5 c =
     let s = c .before .before .before .before .before .args in
-    rw (in-range 8 (s .p) (omega arith) (omega arith), in-range (16 - s .extra) (s .q) (omega arith) (omega arith), ne-eqb (s .coefs) (s .p * s .q) (c .if5 .taken))
+    rw (
+      in-range 8 (s .p) (omega arith) (omega arith),
+      in-range (16 - s .extra) (s .q) (omega arith) (omega arith),
+      ne-eqb (s .coefs) (s .p * s .q) (c .if5 .taken),
+    )
 
 returns-6 : tie.Need-returns-6
 unfolding countChecks refuseWith _then_
 returns-6 c =
     let s = c .before .before .before .before .before .args in
-    rw (in-range 8 (s .p) (omega arith) (omega arith), in-range (16 - s .extra) (s .q) (omega arith) (omega arith), eq-eqb (s .coefs) (s .p * s .q) (c .if5 .left))
+    rw (
+      in-range 8 (s .p) (omega arith) (omega arith),
+      in-range (16 - s .extra) (s .q) (omega arith) (omega arith),
+      eq-eqb (s .coefs) (s .p * s .q) (c .if5 .left),
+    )
 
 pub check-spec : {M : Type 1} → statement M
 check-spec =

@@ -17,7 +17,8 @@ startOf c = c .before .before .before .before
 
 -- what the test says is in order
 ordered : (c : tie.After-in-order) (p : ℕ)
-    → c .in-order .result ≡ inOrder (systemOf (inputWith alone (startOf c .args .limit) p (startOf c .args .q) (now (startOf c .args .coefs)))) (stateOf (now (startOf c .args .stack)) (now (startOf c .args .list)) (startOf c .args .r))
+    → c .in-order .result ≡ inOrder (systemOf (inputWith alone (startOf c .args .limit) p (startOf c .args .q) (now (startOf c .args .coefs))))
+    (stateOf (now (startOf c .args .stack)) (now (startOf c .args .list)) (startOf c .args .r))
 ordered c p =
     let a = startOf c .args in
     c .in-order .ensures

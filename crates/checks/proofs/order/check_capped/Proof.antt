@@ -18,7 +18,8 @@ startOf c = c .before .before .before .before .before
 
 -- the first test, with the limit that counts
 tested : (c : tie.After-in-order)
-    → c .in-order .result ≡ recordFits cappedRun (startOf c .args .q + 1) (startOf c .args .q) (limitOf (startOf c .args .limit)) (now (startOf c .args .stack)) (now (startOf c .args .list)) (runOf (startOf c .args .r))
+    → c .in-order .result ≡ recordFits cappedRun (startOf c .args .q + 1) (startOf c .args .q) (limitOf (startOf c .args .limit)) (now (startOf c .args .stack))
+    (now (startOf c .args .list)) (runOf (startOf c .args .r))
 tested c = rw (c .before .limit-of .ensures) at (c .in-order .ensures)
 
 limit-of-requires : tie.Need-limit-of-requires
@@ -33,7 +34,8 @@ in-order-requires c κs = search needs
 returns : tie.Need-returns
 returns c p =
     let a = startOf (c .before) .args in
-    capped-first p (a .q) (a .q + 1) _ _ (stateWith (now (a .stack)) (now (a .list)) (now (a .second)) (a .r)) _ (omega arith) (tested (c .before)) (c .if1 .taken)
+    capped-first p (a .q) (a .q + 1) _ _ (stateWith (now (a .stack)) (now (a .list)) (now (a .second)) (a .r)) _ (omega arith)
+    (tested (c .before)) (c .if1 .taken)
 
 capped-fits-requires : tie.Need-capped-fits-requires
 capped-fits-requires c κs =
@@ -45,7 +47,8 @@ returns-2 c p =
     let f = c .before in
     let t = f .before .before in
     let a = startOf t .args in
-    capped-second p (a .q) (a .q + 1) _ _ (stateWith (now (a .stack)) (now (a .list)) (now (a .second)) (a .r)) _ (omega arith) (tested t) (f .before .if1 .left) (f .capped-fits .ensures) (c .if2 .taken)
+    capped-second p (a .q) (a .q + 1) _ _ (stateWith (now (a .stack)) (now (a .list)) (now (a .second)) (a .r)) _ (omega arith) (tested t)
+    (f .before .if1 .left) (f .capped-fits .ensures) (c .if2 .taken)
 
 check-both-requires : tie.Need-check-both-requires
 check-both-requires c κs = search needs
@@ -57,7 +60,8 @@ returns-3 c p =
     let t = f .before .before in
     let a = startOf t .args in
     c .check-both .ensures
-    ∙ capped-after p (a .q) (a .q + 1) _ _ (stateWith (now (a .stack)) (now (a .list)) (now (a .second)) (a .r)) _ (omega arith) (tested t) (f .before .if1 .left) (f .capped-fits .ensures) (c .before .if2 .left)
+    ∙ capped-after p (a .q) (a .q + 1) _ _ (stateWith (now (a .stack)) (now (a .list)) (now (a .second)) (a .r)) _ (omega arith) (tested t)
+    (f .before .if1 .left) (f .capped-fits .ensures) (c .before .if2 .left)
 
 pub check-capped-spec : {M : Type 1} → statement M
 check-capped-spec =

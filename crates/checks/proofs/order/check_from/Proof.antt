@@ -28,7 +28,8 @@ startOf c = c .before .before .before .before .before .before .before
 
 -- the test, with the limit that counts
 tested : (c : tie.After-lower-in-order) → let a = startOf c .args in
-    c .lower-in-order .result ≡ lowerFits (kindOf (a .r .kind)) (a .q) (limitOf (a .limit)) (now (a .lower)) (now (a .stack)) (now (a .list)) (now (a .second)) (runOf (a .r))
+    c .lower-in-order .result ≡ lowerFits (kindOf (a .r .kind)) (a .q) (limitOf (a .limit)) (now (a .lower)) (now (a .stack)) (now (a .list))
+    (now (a .second)) (runOf (a .r))
 tested c = rw (c .before .limit-of .ensures) at (c .lower-in-order .ensures)
 
 returns-2 : tie.Need-returns-2

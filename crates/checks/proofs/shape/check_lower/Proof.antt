@@ -64,16 +64,29 @@ last-decides c p last =
     ∙ right-length (now (startOf c .args .lower)) (startOf c .args .q) _ (e .if1 .left)
 
 -- that is the test of 8
-last-tests : (b : tie.After-lower-above-limit) → b .lower-above-limit .result ≡ lowerAboveLimit (limitOf (startOf b .args .limit)) (now (startOf b .args .lower))
+last-tests : (b : tie.After-lower-above-limit)
+    → b .lower-above-limit .result ≡ lowerAboveLimit (limitOf (startOf b .args .limit)) (now (startOf b .args .lower))
 last-tests b = b .lower-above-limit .ensures ∙ ap (λ l. lowerAboveLimit l (now (startOf b .args .lower))) (b .before .limit-of .ensures)
 
 returns-3 : tie.Need-returns-3
 unfolding refuseWith
-returns-3 c p = let b = c .before in rw (← last-decides b p (check8 (inputWith alone (startOf b .args .limit) p (startOf b .args .q) (now (startOf b .args .coefs))) (now (startOf b .args .lower))), ← last-tests b, c .if2 .taken)
+returns-3 c p = let b = c .before in
+    rw (
+      ← last-decides b p
+          (check8 (inputWith alone (startOf b .args .limit) p (startOf b .args .q) (now (startOf b .args .coefs))) (now (startOf b .args .lower))),
+      ← last-tests b,
+      c .if2 .taken,
+    )
 
 returns-4 : tie.Need-returns-4
 unfolding refuseWith
-returns-4 c p = let b = c .before in rw (← last-decides b p (check8 (inputWith alone (startOf b .args .limit) p (startOf b .args .q) (now (startOf b .args .coefs))) (now (startOf b .args .lower))), ← last-tests b, c .if2 .left)
+returns-4 c p = let b = c .before in
+    rw (
+      ← last-decides b p
+          (check8 (inputWith alone (startOf b .args .limit) p (startOf b .args .q) (now (startOf b .args .coefs))) (now (startOf b .args .lower))),
+      ← last-tests b,
+      c .if2 .left,
+    )
 
 pub check-lower-spec : {M : Type 1} → statement M
 check-lower-spec =

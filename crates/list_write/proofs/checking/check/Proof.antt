@@ -42,7 +42,8 @@ check-rows-requires c κs =
 returns : tie.Need-returns
 returns c =
     let s = c .before .before .before .before .before in
-    refused-first (coefficientChecks (list s .coefs) then listChecks (list s) (s .args .room)) (c .before .why .given .1) (c .before .before .before .check .ensures)
+    refused-first (coefficientChecks (list s .coefs) then listChecks (list s) (s .args .room)) (c .before .why .given .1)
+    (c .before .before .before .check .ensures)
     ∙ write-stages (list s) (s .args .room)
 
 returns-2 : tie.Need-returns-2
@@ -50,7 +51,8 @@ returns-2 c =
     let told = c .before .before .before .before in
     let s = told .before .before .before .before in
     refused-first (listChecks (list s) (s .args .room)) (c .before .why2 .given .1) (c .before .before .before .check2 .ensures)
-    ∙ passed-first (coefficientChecks (list s .coefs) then listChecks (list s) (s .args .room)) (told .enum-told .given .1) (told .before .before .check .ensures)
+    ∙ passed-first (coefficientChecks (list s .coefs) then listChecks (list s) (s .args .room)) (told .enum-told .given .1)
+    (told .before .before .check .ensures)
     ∙ write-stages (list s) (s .args .room)
 
 returns-3 : tie.Need-returns-3
@@ -59,7 +61,8 @@ returns-3 c =
     let s = told .before .before .before .before in
     c .check-rows .ensures (s .args .p)
     ∙ passed-first (listChecks (list s) (s .args .room)) (c .before .enum-told2 .given .1) (c .before .before .before .check2 .ensures)
-    ∙ passed-first (coefficientChecks (list s .coefs) then listChecks (list s) (s .args .room)) (told .enum-told .given .1) (told .before .before .check .ensures)
+    ∙ passed-first (coefficientChecks (list s .coefs) then listChecks (list s) (s .args .room)) (told .enum-told .given .1)
+    (told .before .before .check .ensures)
     ∙ write-stages (list s) (s .args .room)
 
 pub check-spec : {M : Type 1} → statement M

@@ -12,7 +12,8 @@ use Rattle.pair_rows.proofs.choice.choose.Statement.{statement}
 use Rattle.pair_rows.proofs.choice.choose.Tie as tie
 
 abbrev Inv-loop : tie.InvT-loop
-Inv-loop p q coefs table n done best₀ fewest₀ e₀ best fewest e = (e ≤ p) × (best ≤ p) × Best p (λ k. pairsOf q (equations q coefs k) n (at table q)) done e best fewest
+Inv-loop p q coefs table n done best₀ fewest₀ e₀ best fewest e =
+    (e ≤ p) × (best ≤ p) × Best p (λ k. pairsOf q (equations q coefs k) n (at table q)) done e best fewest
 
 abbrev μ-loop : tie.MeasureT-loop
 μ-loop p q coefs table n done best₀ fewest₀ e₀ best fewest e = p - e
@@ -52,8 +53,12 @@ loop-less-2 c = search needs
 loop-again-2 : tie.Need-loop-again-2 Inv-loop μ-loop
 loop-again-2 c =
     let n = c .before .before in
-    let a = n .before .before .before .before in
-    (search needs, a .loop .inv .1, best-stays (a .loop .inv .2) (sym (n .before .before .is-done .ensures) ∙ n .before .if1 .left) (c .before .if2 .taken) (omega (arith, n .count-pairs .ensures, c .if3 .taken)))
+    let a = n .before .before .before .before in (
+      search needs,
+      a .loop .inv .1,
+      best-stays (a .loop .inv .2) (sym (n .before .before .is-done .ensures) ∙ n .before .if1 .left) (c .before .if2 .taken)
+          (omega (arith, n .count-pairs .ensures, c .if3 .taken)),
+    )
 
 loop-less-3 : tie.Need-loop-less-3 Inv-loop μ-loop
 loop-less-3 c = search needs
@@ -61,8 +66,12 @@ loop-less-3 c = search needs
 loop-again-3 : tie.Need-loop-again-3 Inv-loop μ-loop
 loop-again-3 c =
     let n = c .before .before in
-    let a = n .before .before .before .before in
-    (search needs, search needs, best-new (a .loop .inv .2) (sym (n .before .before .is-done .ensures) ∙ n .before .if1 .left) (λ l. omega (arith, n .count-pairs .ensures, c .if3 .left)) (a .loop .inv .1) _ (n .count-pairs .ensures))
+    let a = n .before .before .before .before in (
+      search needs,
+      search needs,
+      best-new (a .loop .inv .2) (sym (n .before .before .is-done .ensures) ∙ n .before .if1 .left) (λ l. omega (arith, n .count-pairs .ensures, c .if3 .left))
+          (a .loop .inv .1) _ (n .count-pairs .ensures),
+    )
 
 loop-less-4 : tie.Need-loop-less-4 Inv-loop μ-loop
 loop-less-4 c = search needs
@@ -70,8 +79,12 @@ loop-less-4 c = search needs
 loop-again-4 : tie.Need-loop-again-4 Inv-loop μ-loop
 loop-again-4 c =
     let n = c .before in
-    let a = n .before .before .before .before in
-    (search needs, search needs, best-new (a .loop .inv .2) (sym (n .before .before .is-done .ensures) ∙ n .before .if1 .left) (λ l. absurd (omega (arith, c .if2 .left))) (a .loop .inv .1) _ (n .count-pairs .ensures))
+    let a = n .before .before .before .before in (
+      search needs,
+      search needs,
+      best-new (a .loop .inv .2) (sym (n .before .before .is-done .ensures) ∙ n .before .if1 .left) (λ l. absurd (omega (arith, c .if2 .left)))
+          (a .loop .inv .1) _ (n .count-pairs .ensures),
+    )
 
 returns : tie.Need-returns Inv-loop μ-loop
 returns c = let a = c .before in rw (le-antisymm (a .loop .inv .0) (c .loop-test .left)) at (a .loop .inv .2 .chosen)

@@ -12,7 +12,8 @@ returns c = let s = c .before in
 
 returns-2 : tie.Need-returns-2
 returns-2 c = let s = c .before in
-    rw (toZ-ofZ (s .fits .x), toZ-ofZ (s .fits .hi)) (sym (between-rest (s .args .x) (s .args .lo) (s .args .hi) (rw (toZ-ofZ (s .fits .x), toZ-ofZ (s .fits .lo)) at (c .if1 .left))))
+    rw (toZ-ofZ (s .fits .x), toZ-ofZ (s .fits .hi))
+    (sym (between-rest (s .args .x) (s .args .lo) (s .args .hi) (rw (toZ-ofZ (s .fits .x), toZ-ofZ (s .fits .lo)) at (c .if1 .left))))
 
 pub between-spec : {M : Type 1} → statement M
 between-spec = tie.close (tie.spec returns returns-2)

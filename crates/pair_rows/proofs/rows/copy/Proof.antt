@@ -47,8 +47,15 @@ loop-less c = search needs
 
 loop-again : tie.Need-loop-again Inv-loop μ-loop
 loop-again c = let a = c .before .before in
-    let s = a .before in
-    (search needs, rw length-set (a .loop .inv .1), rw (write-next, a .loop .inv .2, copy-ahead (rowAt (now (s .args .table)) (s .args .from)) (now (s .args .table)) (s .args .from) (s .args .to) (a .loop .j) (s .pre .0)))
+    let s = a .before in (
+      search needs,
+      rw length-set (a .loop .inv .1),
+      rw (
+        write-next,
+        a .loop .inv .2,
+        copy-ahead (rowAt (now (s .args .table)) (s .args .from)) (now (s .args .table)) (s .args .from) (s .args .to) (a .loop .j) (s .pre .0),
+      ),
+    )
 
 same-length : tie.Need-same-length Inv-loop μ-loop
 same-length c = search needs

@@ -1,4 +1,5 @@
--- `rows::reducible` meets its contract. None of the rows passed reduces the sum; the components passed of a row are none above those of the sum. Assumes nothing.
+-- `rows::reducible` meets its contract. None of the rows passed reduces the sum; the components passed of a row are none above those of the sum.
+-- Assumes nothing.
 use mathlib.Core.Path.{_≡_, refl, sym, _∙_}
 use mathlib.Core.Bool.{true, false, _&&_}
 use Prim.Native.Nat.{_+_, _*_, _-_, _≤_, _<_}
@@ -23,13 +24,15 @@ use Rattle.pair_rows.proofs.rows.reducible.Statement.{statement}
 use Rattle.pair_rows.proofs.rows.reducible.Tie as tie
 
 abbrev Inv-loop : tie.InvT-loop
-Inv-loop table supports values n q z support lo hi outside i k base j₀ j = (j ≤ q) × (base + q ≤ length table) × (allTo j (λ k. leb (getD table (base + k) 0) (getD z k 0)) ≡ true)
+Inv-loop table supports values n q z support lo hi outside i k base j₀ j =
+    (j ≤ q) × (base + q ≤ length table) × (allTo j (λ k. leb (getD table (base + k) 0) (getD z k 0)) ≡ true)
 
 abbrev μ-loop : tie.MeasureT-loop
 μ-loop table supports values n q z support lo hi outside i k base j₀ j = q - j
 
 abbrev Inv-rows : tie.InvT-rows
-Inv-rows table supports values n q z support lo hi outside i₀ i = (i ≤ n) × (reducibleBy q i (at table q) (integerAt values) (tuple z) (toZ w64 lo) (toZ w64 hi) ≡ false)
+Inv-rows table supports values n q z support lo hi outside i₀ i =
+    (i ≤ n) × (reducibleBy q i (at table q) (integerAt values) (tuple z) (toZ w64 lo) (toZ w64 hi) ≡ false)
 
 abbrev μ-rows : tie.MeasureT-rows
 μ-rows table supports values n q z support lo hi outside i₀ i = n - i
@@ -51,8 +54,11 @@ mul-base c =
 loop-holds : tie.Need-loop-holds Inv-loop μ-loop Inv-rows μ-rows
 loop-holds c =
     let a = c .before .before .before .before .before .before in
-    let s = a .before .before .before in
-    (search needs, omega (arith, s .pre .whole, row-fits (s .args .q) (a .rows .i) (s .args .n) (c .before .before .before .before .before .rows-test .taken)), none-below _)
+    let s = a .before .before .before in (
+      search needs,
+      omega (arith, s .pre .whole, row-fits (s .args .q) (a .rows .i) (s .args .n) (c .before .before .before .before .before .rows-test .taken)),
+      none-below _,
+    )
 
 rows-again-2 : tie.Need-rows-again-2 Inv-loop μ-loop Inv-rows μ-rows
 rows-again-2 c =

@@ -33,7 +33,11 @@ mark-requires c κs = search needs
 add-marks : tie.Need-add-marks Inv-loop μ-loop
 add-marks c =
     let a = c .before .before .before in
-    omega (arith, marks-next-room _ (holds (tuple (now (a .before .args .z)))) _ (a .loop .inv .1) (omega (arith, a .before .pre, c .before .before .loop-test .taken)) (c .mark .ensures))
+    omega (
+      arith,
+      marks-next-room _ (holds (tuple (now (a .before .args .z)))) _ (a .loop .inv .1)
+          (omega (arith, a .before .pre, c .before .before .loop-test .taken)) (c .mark .ensures),
+    )
 
 add-j : tie.Need-add-j Inv-loop μ-loop
 add-j c = search needs
@@ -42,7 +46,10 @@ loop-less : tie.Need-loop-less Inv-loop μ-loop
 loop-less c = search needs
 
 loop-again : tie.Need-loop-again Inv-loop μ-loop
-loop-again c = let a = c .before .before .before in (search needs, marks-next _ (holds (tuple (now (a .before .args .z)))) _ (a .loop .inv .1) (c .mark .ensures))
+loop-again c = let a = c .before .before .before in (
+  search needs,
+  marks-next _ (holds (tuple (now (a .before .args .z)))) _ (a .loop .inv .1) (c .mark .ensures),
+)
 
 returns : tie.Need-returns Inv-loop μ-loop
 returns c = let a = c .before in rw (le-antisymm (a .loop .inv .0) (c .loop-test .left)) at (a .loop .inv .1)

@@ -37,7 +37,11 @@ add-marks : tie.Need-add-marks Inv-loop μ-loop
 add-marks c =
     let a = c .before .before .before in
     let s = a .before .before in
-    omega (arith, marks-next-room _ (holds (rowAt (now (s .args .table)) (s .args .base))) _ (a .loop .inv .1) (omega (arith, s .pre .0, c .before .before .loop-test .taken)) (c .mark .ensures))
+    omega (
+      arith,
+      marks-next-room _ (holds (rowAt (now (s .args .table)) (s .args .base))) _ (a .loop .inv .1)
+          (omega (arith, s .pre .0, c .before .before .loop-test .taken)) (c .mark .ensures),
+    )
 
 add-j : tie.Need-add-j Inv-loop μ-loop
 add-j c = search needs

@@ -46,8 +46,11 @@ loop-less c = search needs
 loop-again : tie.Need-loop-again Inv-loop μ-loop
 loop-again c =
     let a = c .before .before in
-    let s = a .before .before .before in
-    (search needs, simp length-set (a .loop .inv .1), supported-more (omega (arith, a .loop .inv .1, s .pre .2, c .before .loop-test .taken)) (a .loop .inv .2) _ (c .support-at .ensures))
+    let s = a .before .before .before in (
+      search needs,
+      simp length-set (a .loop .inv .1),
+      supported-more (omega (arith, a .loop .inv .1, s .pre .2, c .before .loop-test .taken)) (a .loop .inv .2) _ (c .support-at .ensures),
+    )
 
 same-length : tie.Need-same-length Inv-loop μ-loop
 same-length c = search needs

@@ -39,17 +39,26 @@ is-zero-requires c κs = search needs
 mul-copy : tie.Need-mul-copy Inv-loop μ-loop
 mul-copy c = let a = c .before .before .before .before .before in
     let s = a .before .before in
-    omega (arith, place-fits (s .args .q) (a .loop .i) (s .args .n) (a .loop .kept) (now (s .args .table)) (c .before .before .before .before .loop-test .taken) (s .pre .0) (kept-few _ _ _ (a .loop .inv .2)))
+    omega (
+      arith,
+      place-fits (s .args .q) (a .loop .i) (s .args .n) (a .loop .kept) (now (s .args .table)) (c .before .before .before .before .loop-test .taken) (s .pre .0)
+          (kept-few _ _ _ (a .loop .inv .2)),
+    )
 
 mul-copy-2 : tie.Need-mul-copy-2 Inv-loop μ-loop
 mul-copy-2 c = let a = c .before .before .before .before .before in
     let s = a .before .before in
-    omega (arith, place-fits (s .args .q) (a .loop .i) (s .args .n) (a .loop .kept) (now (s .args .table)) (c .before .before .before .before .loop-test .taken) (s .pre .0) (kept-few _ _ _ (a .loop .inv .2)))
+    omega (
+      arith,
+      place-fits (s .args .q) (a .loop .i) (s .args .n) (a .loop .kept) (now (s .args .table)) (c .before .before .before .before .loop-test .taken) (s .pre .0)
+          (kept-few _ _ _ (a .loop .inv .2)),
+    )
 
 copy-requires : tie.Need-copy-requires Inv-loop μ-loop
 copy-requires c κs = let a = c .before .before .before .before .before in
     let s = a .before .before in
-    place-fits (s .args .q) (a .loop .i) (s .args .n) (a .loop .kept) (a .loop .table) (c .before .before .before .before .loop-test .taken) (omega (arith, a .loop .inv .1, s .pre .0)) (kept-few _ _ _ (a .loop .inv .2))
+    place-fits (s .args .q) (a .loop .i) (s .args .n) (a .loop .kept) (a .loop .table) (c .before .before .before .before .loop-test .taken)
+    (omega (arith, a .loop .inv .1, s .pre .0)) (kept-few _ _ _ (a .loop .inv .2))
 
 add-kept : tie.Need-add-kept Inv-loop μ-loop
 add-kept c = let a = c .before .before .before .before .before .before .before .before in
@@ -63,7 +72,8 @@ loop-again c = let g = c .before .before in
     let a = g .before .before .before .before .before .before in
     let s = a .before .before in
     let known = toZ-ofZ {w = w64} {z = getD (now (s .args .values)) (a .loop .i) (pos 0)} (sfits-of (g .before .before .before .before .is-zero-arg .given)) in
-    let k = kept-copied _ _ _ (a .loop .inv .2) (rw known at (sym (g .before .before .before .is-zero .ensures) ∙ g .before .before .if1 .taken)) (g .copy .ensures) in
+    let k = kept-copied _ _ _ (a .loop .inv .2)
+    (rw known at (sym (g .before .before .before .is-zero .ensures) ∙ g .before .before .if1 .taken)) (g .copy .ensures) in
     (search needs, kept-length _ _ _ k, k)
 
 loop-less-2 : tie.Need-loop-less-2 Inv-loop μ-loop

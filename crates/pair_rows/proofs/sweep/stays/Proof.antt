@@ -22,7 +22,9 @@ abbrev μ-loop : tie.MeasureT-loop
 μ-loop table n q kept i base m₀ m = kept - m
 
 abbrev Inv-loop2 : tie.InvT-loop2
-Inv-loop2 table n q kept i base m next₀ next = (i < next) × (next ≤ n) × (base + q ≤ length table) × (anyTo kept (spoilsEarlier q (at table q) i) ≡ false) × (anyTo next (spoilsLater q (at table q) i) ≡ false)
+Inv-loop2 table n q kept i base m next₀ next =
+    (i < next) × (next ≤ n) × (base + q ≤ length table) × (anyTo kept (spoilsEarlier q (at table q) i) ≡ false)
+    × (anyTo next (spoilsLater q (at table q) i) ≡ false)
 
 abbrev μ-loop2 : tie.MeasureT-loop2
 μ-loop2 table n q kept i base m next₀ next = n - next
@@ -62,8 +64,13 @@ add-next : tie.Need-add-next Inv-loop μ-loop Inv-loop2 μ-loop2
 add-next c = search needs
 
 loop2-holds : tie.Need-loop2-holds Inv-loop μ-loop Inv-loop2 μ-loop2
-loop2-holds c = let a = c .before in
-    (omega arith, omega (arith, a .before .before .pre .2), a .loop .inv .1, rw (le-antisymm (a .loop .inv .0) (c .loop-test .left)) at (a .loop .inv .2), later-start _ _ _)
+loop2-holds c = let a = c .before in (
+  omega arith,
+  omega (arith, a .before .before .pre .2),
+  a .loop .inv .1,
+  rw (le-antisymm (a .loop .inv .0) (c .loop-test .left)) at (a .loop .inv .2),
+  later-start _ _ _,
+)
 
 add-next-2 : tie.Need-add-next-2 Inv-loop μ-loop Inv-loop2 μ-loop2
 add-next-2 c = search needs
@@ -82,8 +89,13 @@ loop2-less : tie.Need-loop2-less Inv-loop μ-loop Inv-loop2 μ-loop2
 loop2-less c = search needs
 
 loop2-again : tie.Need-loop2-again Inv-loop μ-loop Inv-loop2 μ-loop2
-loop2-again c = let a = c .before .before .before in
-    (search needs, search needs, a .loop2 .inv .2, a .loop2 .inv .3, later-above _ _ _ (a .loop2 .next) (a .loop2 .inv .4) (sym (c .before .below2 .ensures) ∙ not-true _ (c .if2 .taken)))
+loop2-again c = let a = c .before .before .before in (
+  search needs,
+  search needs,
+  a .loop2 .inv .2,
+  a .loop2 .inv .3,
+  later-above _ _ _ (a .loop2 .next) (a .loop2 .inv .4) (sym (c .before .below2 .ensures) ∙ not-true _ (c .if2 .taken)),
+)
 
 mul-below-3 : tie.Need-mul-below-3 Inv-loop μ-loop Inv-loop2 μ-loop2
 mul-below-3 c = let l = c .before .before in
@@ -101,14 +113,20 @@ loop2-less-2 : tie.Need-loop2-less-2 Inv-loop μ-loop Inv-loop2 μ-loop2
 loop2-less-2 c = search needs
 
 loop2-again-2 : tie.Need-loop2-again-2 Inv-loop μ-loop Inv-loop2 μ-loop2
-loop2-again-2 c = let a = c .before .before .before .before .before in
-    (search needs, search needs, a .loop2 .inv .2, a .loop2 .inv .3, later-same _ _ _ (a .loop2 .next) (a .loop2 .inv .4) (sym (c .before .below3 .ensures) ∙ c .if3 .taken))
+loop2-again-2 c = let a = c .before .before .before .before .before in (
+  search needs,
+  search needs,
+  a .loop2 .inv .2,
+  a .loop2 .inv .3,
+  later-same _ _ _ (a .loop2 .next) (a .loop2 .inv .4) (sym (c .before .below3 .ensures) ∙ c .if3 .taken),
+)
 
 returns-2 : tie.Need-returns-2 Inv-loop μ-loop Inv-loop2 μ-loop2
 returns-2 c = let e = c .before .before in
     let l = e .before .before in
     let a = l .before in
-    sym (goes-later _ _ _ _ _ (a .loop2 .next) (a .loop2 .inv .0) (l .loop2-test .taken) (sym (e .before .below2 .ensures) ∙ not-false _ (e .if2 .left)) (sym (c .before .below3 .ensures) ∙ c .if3 .left))
+    sym (goes-later _ _ _ _ _ (a .loop2 .next) (a .loop2 .inv .0) (l .loop2-test .taken) (sym (e .before .below2 .ensures) ∙ not-false _ (e .if2 .left))
+    (sym (c .before .below3 .ensures) ∙ c .if3 .left))
 
 returns-3 : tie.Need-returns-3 Inv-loop μ-loop Inv-loop2 μ-loop2
 returns-3 c = let a = c .before in

@@ -67,8 +67,10 @@ loop-again : tie.Need-loop-again Inv-loop μ-loop
 loop-again c = let l = c .before .before .before .before .before in
     let a = l .before in
     let s = a .before .before in
-    let x = c .before .before .before .wide .ensures ∙ toZ-ofZ (equation-fits (s .pre .0) _) in
-    (search needs, next-sum (value-terms (s .pre .0) (s .pre .1)) (a .loop .j) (a .loop .inv .1) (l .loop-test .taken) x (c .before .natural .ensures) (c .sum-and .ensures))
+    let x = c .before .before .before .wide .ensures ∙ toZ-ofZ (equation-fits (s .pre .0) _) in (
+      search needs,
+      next-sum (value-terms (s .pre .0) (s .pre .1)) (a .loop .j) (a .loop .inv .1) (l .loop-test .taken) x (c .before .natural .ensures) (c .sum-and .ensures),
+    )
 
 returns : tie.Need-returns Inv-loop μ-loop
 unfolding value

@@ -44,7 +44,8 @@ returns-4 c =
     let h = c .before in
     let f = h .before in
     let t = f .before in
-    in-ranges _ _ _ _ _ _ (t .before .before .check .ensures) (t .enum-told .given .1) (eq-eqb _ _ (f .if1 .left)) (le-leb _ _ (h .if2 .left)) (c .ranges .ensures)
+    in-ranges _ _ _ _ _ _ (t .before .before .check .ensures) (t .enum-told .given .1) (eq-eqb _ _ (f .if1 .left))
+    (le-leb _ _ (h .if2 .left)) (c .ranges .ensures)
 
 pub check-spec : {M : Type 1} → statement M
 check-spec =

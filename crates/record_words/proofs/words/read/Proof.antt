@@ -36,7 +36,11 @@ of-requires c κs = search needs
 
 returns : tie.Need-returns
 returns c =
-    rw (c .of .ensures, c .before .before .before .before .before .before .height-at .ensures, c .before .before .before .before .before .before .before .before .kind-at .ensures)
+    rw (
+      c .of .ensures,
+      c .before .before .before .before .before .before .height-at .ensures,
+      c .before .before .before .before .before .before .before .before .kind-at .ensures,
+    )
     (record-fitting _ (c .before .before .before .before .before .before .before .before .before .before .if1 .taken))
 
 new-requires : tie.Need-new-requires
