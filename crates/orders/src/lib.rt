@@ -40,13 +40,13 @@ pub fn in_order(
     if q < height {
         return false;
     }
-    if list.len() / width < found {
-        return false;
-    }
     if calls::STEP_LIMIT < steps {
         return false;
     }
     if DEEPEST_LIMIT < deepest {
+        return false;
+    }
+    if list.len() / width < found {
         return false;
     }
     rows_in_order(q, stack, height, limit)

@@ -26,23 +26,23 @@ returns-2 c =
     let e : leb (a .r .height) (a .q) ≡ false = lt-leb _ _ (c .if2 .taken) in
     rw (e, and-false)
 
-div-if3 : tie.Need-div-if3
-div-if3 c = search needs
-
 returns-3 : tie.Need-returns-3
 unfolding recordFits
-returns-3 c = rw (lt-leb _ _ (c .if3 .taken), and-false, and-false)
+returns-3 c = rw (lt-leb _ _ (c .if3 .taken), and-false, and-false, and-false)
 
 returns-4 : tie.Need-returns-4
 unfolding recordFits
-returns-4 c = rw (lt-leb _ _ (c .if4 .taken), and-false, and-false, and-false)
+returns-4 c =
+    let a = c .before .before .before .before .before .before .before .args in
+    let e : leb (a .r .deepest) deepestLimit ≡ false = lt-leb _ _ (c .if4 .taken) in
+    rw (e, and-false, and-false, and-false, and-false)
+
+div-if5 : tie.Need-div-if5
+div-if5 c = search needs
 
 returns-5 : tie.Need-returns-5
 unfolding recordFits
-returns-5 c =
-    let a = c .before .before .before .before .before .before .before .before .args in
-    let e : leb (a .r .deepest) deepestLimit ≡ false = lt-leb _ _ (c .if5 .taken) in
-    rw (e, and-false, and-false, and-false, and-false)
+returns-5 c = rw (lt-leb _ _ (c .if5 .taken), and-false, and-false)
 
 rows-in-order-requires : tie.Need-rows-in-order-requires
 rows-in-order-requires c κs =
@@ -58,9 +58,9 @@ returns-6 c =
     rw (
       sym (h .before .before .same-run .ensures) ∙ not-false _ (h .before .if1 .left),
       le-leb _ _ (h .if2 .left),
+      le-leb _ _ (e .if5 .left),
       le-leb _ _ (e .before .before .if3 .left),
       le-leb _ _ (e .before .if4 .left),
-      le-leb _ _ (e .if5 .left),
     ) (c .rows-in-order .ensures)
 
 pub in-order-spec : {M : Type 1} → statement M
@@ -70,9 +70,9 @@ in-order-spec =
     same-run-requires
     returns
     returns-2
-    div-if3
     returns-3
     returns-4
+    div-if5
     returns-5
     rows-in-order-requires
     returns-6)
