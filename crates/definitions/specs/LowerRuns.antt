@@ -1,8 +1,6 @@
 -- Runs from a lower bound, by computation (document 02, Job 4): "Rows 2 −2 1 and 0 0 1 from floor 0 0 1 have no solution .. The example ends with an empty list
--- after 2
--- floor steps."; pauses in either walk and at the change between them; 11 in either list, 12 and 14 of the walk under way. The greatest sum stays 0 until the
--- change. Each is
--- begun on tables and a record with old content. Assumes nothing.
+-- after 2 floor steps."; pauses in either walk and at the change between them; 11 in either list, 12 and 14 of the walk under way. The greatest sum stays 0
+-- until the change. Each is begun on tables and a record with old content. Assumes nothing.
 use Prim.Native.Nat.{ℕ, _*_}
 use mathlib.Core.Path.{_≡_, refl}
 use mathlib.Core.List.{List, _∷_, []}

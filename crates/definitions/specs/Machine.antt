@@ -5,8 +5,7 @@ use lib.Dec.{eqb}
 use Rattle.definitions.specs.Answers.{Answer, Check, complete, go, paused, refuse, refused}
 
 -- What a continuing call goes by: its refusals before the walk; what is done ahead of everything else before each step (nothing, in a plain run); the height;
--- the
--- refusals of the search; and a step.
+-- the refusals of the search; and a step.
 pub record Machine (S : Type 0) : Type 0 where
   pub before : S → Check
   pub settle : S → S

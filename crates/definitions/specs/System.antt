@@ -25,8 +25,7 @@ abbrev pub mostComponent : ℕ
 mostComponent = 1000000
 
 -- The kinds of walk: plain; with a first unknown that "is never raised past 1" (capped); from a lower bound (document 02: a floor), above a list of minimal
--- solutions.
--- What a kind decides is a definition by cases on it: `stoppedBy`, `within`, `rowWidth`, `fullFor` and `enlist` of `Step`, `inside` of `Refusals`.
+-- solutions. What a kind decides is a definition by cases on it: `stoppedBy`, `within`, `rowWidth`, `fullFor` and `enlist` of `Step`, `inside` of `Refusals`.
 pub data Kind : Type 0 where
   plain : Kind
   capped : Kind

@@ -1,6 +1,5 @@
 -- The run record and all that is lent are those of every kind of run (document 01, "The tables"). How a start, a step and a sweep of a run desk by desk leave
--- the
--- record, and the test of its kind. Assumes nothing.
+-- the record, and the test of its kind. Assumes nothing.
 use Prim.Native.Nat.{ℕ}
 use mathlib.Core.Bool.{Bool}
 use mathlib.Core.List.{List, []}
@@ -14,8 +13,7 @@ abbrev pub deskBegun : ℕ → Record
 deskBegun height = begun deskByDesk height
 
 -- after one step more: the height, the number found and the greatest sum that it leaves. A run desk by desk has no second list and no walk before it: what the
--- record
--- holds of them is kept.
+-- record holds of them is kept.
 abbrev pub deskStepped : Record → ℕ → ℕ → ℕ → Record
 deskStepped r height found deepest = stepped r height found (r .found₂) deepest
 

@@ -1,6 +1,5 @@
 -- Document 02, Job 7, "The check says which row": there is a place exactly where the check said yes, the row there is at or below the tuple, and none higher
--- is.
--- Assumes nothing.
+-- is. Assumes nothing.
 use mathlib.Core.Path.{_≡_}
 use mathlib.Core.Bool.{true, false}
 use mathlib.Core.Option.{Option, some, none}

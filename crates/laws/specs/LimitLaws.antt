@@ -1,6 +1,5 @@
 -- A step does not depend on the component limit, which only refuses (document 02: "A training run that is not refused lists what the office run lists after as
--- many
--- steps."). Assumes nothing.
+-- many steps."). Assumes nothing.
 use mathlib.Core.Path.{_≡_, refl}
 use Prim.Native.Nat.{ℕ, zero, suc}
 use Rattle.linear.specs.TestLaws.{count-same}

@@ -1,6 +1,5 @@
 -- Runs from a lower bound (document 02, Job 4): the refusals of their continuing call as rules in words and order; what is in order stays so, in either walk
--- and at the change
--- between them. Assumes nothing.
+-- and at the change between them. Assumes nothing.
 use mathlib.Core.Path.{_≡_, refl, sym, subst}
 use mathlib.Core.Logic.{_≢_, inl, inr}
 use mathlib.Core.Bool.{Bool, true, false, not}
@@ -31,8 +30,7 @@ use Rattle.laws.specs.ValidLaws.{shaped-same, step-length, step-valid, u
 -- ---- refusal 6
 
 -- "run record or tables out of order", by the walk that the record names: that walk's as in a run of its own, and of the other its list's count and its steps;
--- or a record
--- "given to a continuing call of another kind"
+-- or a record "given to a continuing call of another kind"
 pub data OutOfOrderFrom (lower : List ℕ) (i : Input) (s : State) : Type 0 where
   other : s .run .kind ≢ lowerPlain → s .run .kind ≢ lowerAbove → OutOfOrderFrom lower i s
   plain-walk : s .run .kind ≡ lowerPlain → OutOfOrder (mapOf i) (plainPart s) → OutOfOrderFrom lower i s

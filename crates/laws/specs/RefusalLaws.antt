@@ -42,8 +42,7 @@ Inside capped q x = x 0 ≤ 1
 Inside (above f) q x = AtOrBelow q f x
 
 -- "in rows 1 to height a component above 1,000,000, a mark beyond unknown q, or a mark count other than k − 1 in row k" (from 0 here); "a capped component
--- above 1"; "a
--- floor-walk row not at or above the floor"
+-- above 1"; "a floor-walk row not at or above the floor"
 pub data BadRow (kind : Kind) (limit q : ℕ) (stack : List ℕ) (k : ℕ) : Type 0 where
   large : (j : ℕ) → j < q → limit < at stack (q + 1) k j → BadRow kind limit q stack k
   beyond : 2 ^ q ≤ at stack (q + 1) k q → BadRow kind limit q stack k
@@ -57,8 +56,7 @@ SecondFits capped q s = s .run .found₂ ≤ capacity (q - 1) (s .second)
 SecondFits (above f) q s = s .run .found₂ ≤ capacity q (s .second)
 
 -- "height above q, found above the room, steps above 1,000,000,000,000; or" such a row; "A record of one kind of run .. given to a continuing call of another
--- kind"; "a
--- value above 16,000,000"
+-- kind"; "a value above 16,000,000"
 pub data OutOfOrder (m : System) (s : State) : Type 0 where
   other : s .run .kind ≢ runFor (m .kind) → OutOfOrder m s
   high : m .q < s .run .height → OutOfOrder m s

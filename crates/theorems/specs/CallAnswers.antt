@@ -50,8 +50,7 @@ started-goes go s work e = (refl, refl)
 -- ---- the continuing call
 
 -- The answer a of a continuing call with a budget that took `taken` steps to a state of the height given: refused by the first of the rules before the walk
--- that is in
--- its case; else by how that state stands.
+-- that is in its case; else by how that state stands.
 pub record CallAnswers (before within : Rules) (budget taken height : ℕ) (a : Answer) : Type 0 where
   pub completes : (a ≡ complete) ↔ (AllSilent before × (height ≡ 0))
   pub pauses : (a ≡ paused) ↔ (AllSilent before × (0 < height) × (taken ≡ budget))

@@ -1,6 +1,5 @@
 -- What the lists of a run that was begun with units hold, in the words of the map: the minimal solutions, and where there are right sides the minimal tuples
--- that meet
--- them. Assumes nothing.
+-- that meet them. Assumes nothing.
 use mathlib.Core.Path.{_≡_, refl, subst}
 use mathlib.Core.Logic.{inl}
 use mathlib.Core.List.{List}

@@ -1,6 +1,5 @@
 -- What the continuing call of a run from a lower bound leaves and answers: in which case each refusal is given, that a refusal of the search is given again,
--- that a longer list
--- table helps after refusal 11, that the record counts the steps of both walks, and what each step keeps. Assumes nothing.
+-- that a longer list table helps after refusal 11, that the record counts the steps of both walks, and what each step keeps. Assumes nothing.
 use mathlib.Core.Path.{_≡_, refl, sym, _∙_, ap, subst}
 use mathlib.Core.Logic.{inl, inr}
 use mathlib.Core.Bool.{true}

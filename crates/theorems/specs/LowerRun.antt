@@ -1,6 +1,6 @@
 -- The states of a run from a lower bound (document 02, Job 4), what its two lists hold, and what is kept through its calls and at the change of walk: the plain
--- walk is a plain run
--- into the second list, and a row of that list can be taken off any solution at or above a dropped child, so that none is missed. Assumes nothing.
+-- walk is a plain run into the second list, and a row of that list can be taken off any solution at or above a dropped child, so that none is missed. Assumes
+-- nothing.
 use mathlib.Core.Path.{_≡_, refl, sym, _∙_, ap, subst}
 use mathlib.Core.List.{List}
 use Prim.Native.Nat.{ℕ, zero, suc, _<_}
@@ -27,8 +27,7 @@ use Rattle.theorems.specs.Run.{withSecond}
 use Rattle.theorems.specs.WholeSteps.{call-keeps}
 
 -- A run that nobody else alters: a start that answered "started", continuing calls on what it left with the start's map and lower bound, and, between two
--- calls, other list
--- tables with the same rows.
+-- calls, other list tables with the same rows.
 pub data RunFrom (lower : List ℕ) (i : Input) : State → Type 0 where
   started-from : (s : State) → startFrom lower i s .answer ≡ started → RunFrom lower i (startFrom lower i s .state)
   continued : {s : State} → RunFrom lower i s → (budget : ℕ) → RunFrom lower i (resumeFrom budget lower i s .state)

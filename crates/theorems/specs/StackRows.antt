@@ -1,6 +1,6 @@
 -- Document 02, Job 11: "from any run record that passes the check for 6, no step needs a row beyond the last one, in plain, capped, floor and desk-by-desk
--- walks". One theorem over
--- marks and rows (`rows-suffice`), and its instances; that of the walk by groups of equations is `desk-rows` of desk_promises/specs/Promises. Assumes nothing.
+-- walks". One theorem over marks and rows (`rows-suffice`), and its instances; that of the walk by groups of equations is `desk-rows` of
+-- desk_promises/specs/Promises. Assumes nothing.
 use mathlib.Core.Path.{_≡_, refl, ap}
 use mathlib.Core.Bool.{Bool, true, false}
 use mathlib.Core.List.{List}
@@ -22,8 +22,7 @@ use Rattle.laws.specs.RefusalLaws.{InOrder, checked-order}
 use Rattle.laws.specs.StepLaws.{children-outside, makes-free}
 
 -- The row at a level, from 0, carries as many marks as there are rows below it. So where every child raises an unknown that is not marked, the level and the
--- children together
--- are no more than the unknowns, and these are as many as the rows.
+-- children together are no more than the unknowns, and these are as many as the rows.
 pub rows-suffice : (rows level marks : ℕ) (child : ℕ → Bool) → countTo rows (frozen marks) ≡ level → ((j : ℕ) → j < rows → T (child j) → ¬ (T (frozen marks j)))
     → level + countTo rows child ≤ rows
 rows-suffice rows level marks child marked free = omega (arith, marks-few marks child rows free)

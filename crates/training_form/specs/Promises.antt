@@ -99,8 +99,7 @@ pub record TrainingPromise (p q : ℕ) (coefs : List ℤ) : Type 0 where
       CallAnswers (seatResumeFromRules lower i s) (seatSearchFromRules lower i (o .state)) budget (seatStepsFrom budget lower i s)
       (o .state .run .height) (o .answer)
   -- "A training run that is not refused lists what the office run lists after as many steps.": its start leaves what the office's leaves, and each of its calls
-  -- what as many
-  -- steps of the office's machine leave, in tables and record
+  -- what as many steps of the office's machine leave, in tables and record
   pub as-started : (s : State) → seatStart (seatInput p q coefs) s .answer ≡ started
       → seatStart (seatInput p q coefs) s .state ≡ unitsStart (systemOf (inputOf p q coefs)) s
   pub as-started-from : (lower : List ℕ) (s : State) → seatStartFrom lower (seatInput p q coefs) s .answer ≡ started
@@ -110,8 +109,7 @@ pub record TrainingPromise (p q : ℕ) (coefs : List ℤ) : Type 0 where
   pub as-office-from : (lower : List ℕ) (budget : ℕ) (s : State) → let i = seatInput p q coefs in seatResumeFromChecks lower i s ≡ go
       → seatResumeFrom budget lower i s .state ≡ after (seatStepsFrom budget lower i s) (machineFrom lower (inputOf p q coefs)) s
   -- "The one-equation promise holds under any limit of at least D, so there if D is at most 20": the premises say so, and the seat's calls along such a series
-  -- are those that the
-  -- promise is about
+  -- are those that the promise is about
   pub one-equation : (s₀ : State) → seatFirst (seatInput p q coefs) ≡ go → Premises (seatInput p q coefs) s₀ → (g : Log State)
       → Series (seatInput p q coefs) s₀ g
       → ThirdDemand (seatInput p q coefs) s₀ g × (seatStart (seatInput p q coefs) s₀ ≡ start (seatInput p q coefs) s₀)

@@ -1,6 +1,5 @@
 -- Document 02, Job 9: "A cheaper seat uses the same solver with at most 6 unknowns and components up to 20. It is a layer of its own above the core, which
--- takes the
--- component limit with each call". Assumes nothing.
+-- takes the component limit with each call". Assumes nothing.
 use Prim.Native.Nat.{ℕ}
 use mathlib.Core.Bool.{not, _&&_}
 use mathlib.Core.List.{List}
