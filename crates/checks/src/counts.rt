@@ -2,7 +2,7 @@
 ghost use mathlib.Core.Path.{_≡_};
 ghost use Prim.Native.Nat.{_≤_};
 ghost use Rattle.calls.specs.Paper.{checkOf};
-ghost use Rattle.checks.specs.Counts.{countChecks};
+ghost use Rattle.checks.specs.Counts.{countChecks, sizeChecks};
 use calls::Check;
 use calls::Refusal;
 
@@ -10,6 +10,22 @@ use calls::Refusal;
 pub fn check(p: usize, q: usize, extra: usize, coefs: usize) -> Check
     requires { ⌜ extra ≤ 1 ⌝ }
     ensures { λ c. ⌜ checkOf c ≡ countChecks p q extra coefs ⌝ }
+{
+    match check_sizes(p, q, extra) {
+        Check::Refuse(why) => Check::Refuse(why),
+        Check::Pass => {
+            if coefs != p * q {
+                return Check::Refuse(Refusal::CoefficientCount);
+            }
+            Check::Pass
+        }
+    }
+}
+
+// 1 and 2.
+pub fn check_sizes(p: usize, q: usize, extra: usize) -> Check
+    requires { ⌜ extra ≤ 1 ⌝ }
+    ensures { λ c. ⌜ checkOf c ≡ sizeChecks p q extra ⌝ }
 {
     if p < 1 {
         return Check::Refuse(Refusal::Equations);
@@ -22,9 +38,6 @@ pub fn check(p: usize, q: usize, extra: usize, coefs: usize) -> Check
     }
     if 16 - extra < q {
         return Check::Refuse(Refusal::Unknowns);
-    }
-    if coefs != p * q {
-        return Check::Refuse(Refusal::CoefficientCount);
     }
     Check::Pass
 }

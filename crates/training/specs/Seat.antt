@@ -7,12 +7,15 @@ use native.Mathlib.Omega.{arith}
 use lib.IntN.{ℤ}
 use borrow.Author.Tests.{eq-eqb, ne-eqb}
 use Rattle.definitions.specs.Answers as paper
+use Rattle.definitions.specs.Answers.{_then_}
 use Rattle.definitions.specs.Calls.{resume, resumeFrom, start, startFrom}
 use Rattle.definitions.specs.Input.{Input, inputOf}
 use Rattle.definitions.specs.Machine as machine
 use Rattle.definitions.specs.Refusals.{check7, startChecks}
 use Rattle.definitions.specs.Tables.{State, unitsStart}
-use Rattle.training_form.specs.Training.{seatInput, seatResume, seatResumeFrom, seatStart, seatStartFrom}
+use Rattle.laws.specs.AnswerLaws.{then-assoc}
+use Rattle.checks.specs.Counts.{sizeChecks}
+use Rattle.training_form.specs.Training.{check23, seatInput, seatResume, seatResumeFrom, seatStart, seatStartFrom}
 use Rattle.training_form.specs.TrainingRules.{renumber, renumbered, seat-resumes, seat-resumes-from, seat-starts, seat-starts-from, seatFirst}
 use Rattle.calls.specs.CallLaws.{call-passed, call-refused}
 use Rattle.calls.specs.Paper.{answerOf, checkOf, numberOf, valuesOf}
@@ -52,6 +55,12 @@ at-12 why h e = rw (alone-at-12 why (sym h ∙ e), eq-eqb (numberOf why) 12 (sym
 
 pub not-at-12 : (why : Refusal) {n : ℕ} → n ≡ numberOf why → n ≢ 12 → refusedFor why ≡ renumber (refusedFor why)
 not-at-12 why h ne = rw (ne-eqb (numberOf why) 12 (λ e. ne (h ∙ e)))
+
+-- ---- 1 and 2 are those of every call, and 23 comes straight after them
+
+pub sizes-first : (p q : ℕ) (coefs : List ℤ) → sizeChecks p q 0 then check23 (seatInput p q coefs) ≡ seatFirst (seatInput p q coefs)
+unfolding sizeChecks
+sizes-first p q coefs = simp then-assoc
 
 -- ---- the calls
 

@@ -112,22 +112,15 @@ pub fn resumed_from(
 fn check(p: usize, q: usize) -> Check
     ensures { λ c. ⌜ ((coefs : List ℤ) → checkOf c ≡ seatFirst (seatInput p q coefs)) ⌝ }
 {
-    if p < 1 {
-        return Check::Refuse(Refusal::Equations);
+    match checks::counts::check_sizes(p, q, 0) {
+        Check::Refuse(why) => Check::Refuse(why),
+        Check::Pass => {
+            if SEAT_UNKNOWNS < q {
+                return Check::Refuse(Refusal::SeatUnknowns);
+            }
+            Check::Pass
+        }
     }
-    if 8 < p {
-        return Check::Refuse(Refusal::Equations);
-    }
-    if q < 1 {
-        return Check::Refuse(Refusal::Unknowns);
-    }
-    if 16 < q {
-        return Check::Refuse(Refusal::Unknowns);
-    }
-    if SEAT_UNKNOWNS < q {
-        return Check::Refuse(Refusal::SeatUnknowns);
-    }
-    Check::Pass
 }
 
 // What a continuing call of the core left, as the seat has it: 24 for 12.

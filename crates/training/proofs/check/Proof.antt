@@ -1,54 +1,44 @@
--- `check` meets its contract: each test decides the first check that refuses. Assumes nothing.
-use Prim.Native.Nat.{ℕ, _≤_}
-use mathlib.Core.Bool.{true}
-use mathlib.Core.Path.{_≡_}
-use native.Mathlib.Omega.{arith}
-use borrow.Author.Tests.{le-leb, lt-leb, le-ltb, lt-ltb}
-use Rattle.definitions.specs.Answers.{refuseWith, _then_}
-use Rattle.definitions.specs.Refusals.{between}
+-- `check` meets its contract: a refusal of the sizes decides, else the seat's own does. Assumes nothing.
+use mathlib.Core.Path.{_≡_, sym, _∙_, ap}
+use mathlib.Core.List.{List}
+use lib.IntN.{ℤ}
+use borrow.Author.Needs.{needs}
+use borrow.Author.Tests.{le-ltb, lt-ltb}
+use Rattle.definitions.specs.Answers.{go, refuseIf, refuseWith, _then_}
+use Rattle.calls.specs.CallLaws.{passes}
+use Rattle.checks.specs.Counts.{sizeChecks}
+use Rattle.training_form.specs.Training.{check23, seatInput}
+use Rattle.training.specs.Seat.{sizes-first}
 use Rattle.training.proofs.check.Statement.{statement}
 use Rattle.training.proofs.check.Tie as tie
 
-in-range : (b n : ℕ) → 1 ≤ n → n ≤ b → between 1 b n ≡ true
-in-range b n l m = rw (le-leb 1 n l, le-leb n b m)
+-- the sizes are in range
+sizes : (c : tie.After-enum-told) → let a = c .before .before .before .args in sizeChecks (a .p) (a .q) 0 ≡ go
+sizes c = passes (c .before .before .check-sizes .ensures) (c .enum-told .given .1)
 
 returns : tie.Need-returns
 unfolding refuseWith _then_
-returns c coefs = rw (lt-leb 1 _ (c .if1 .taken))
+returns c coefs =
+    let a = c .before .before .before .before .args in
+    sym (ap (λ b. refuseIf b 23) (lt-ltb 6 (a .q) (c .if1 .taken)))
+    ∙ ap (λ x. x then check23 (seatInput (a .p) (a .q) coefs)) (sym (sizes (c .before)))
+    ∙ sizes-first (a .p) (a .q) coefs
 
 returns-2 : tie.Need-returns-2
-unfolding refuseWith _then_
-returns-2 c coefs = rw (le-leb 1 _ (c .before .if1 .left), lt-leb _ 8 (c .if2 .taken))
+unfolding _then_
+returns-2 c coefs =
+    let k = c .before .before .before in
+    let a = k .before .args in
+    ap (λ x. x then check23 (seatInput (a .p) (a .q) coefs)) (rw (c .before .why .given .1) at (k .check-sizes .ensures))
+    ∙ sizes-first (a .p) (a .q) coefs
 
 returns-3 : tie.Need-returns-3
 unfolding refuseWith _then_
-returns-3 c coefs = let s = c .before .before .before .args in rw (in-range 8 (s .p) (omega arith) (omega arith), lt-leb 1 (s .q) (c .if3 .taken))
-
-returns-4 : tie.Need-returns-4
-unfolding refuseWith _then_
-returns-4 c coefs =
-    let s = c .before .before .before .before .args in
-    rw (in-range 8 (s .p) (omega arith) (omega arith), le-leb 1 (s .q) (omega arith), lt-leb (s .q) 16 (c .if4 .taken))
-
-returns-5 : tie.Need-returns-5
-unfolding refuseWith _then_
-returns-5 c coefs =
-    let s = c .before .before .before .before .before .args in
-    rw (in-range 8 (s .p) (omega arith) (omega arith), in-range 16 (s .q) (omega arith) (omega arith), lt-ltb 6 (s .q) (c .if5 .taken))
-
-returns-6 : tie.Need-returns-6
-unfolding refuseWith _then_
-returns-6 c coefs =
-    let s = c .before .before .before .before .before .args in
-    rw (in-range 8 (s .p) (omega arith) (omega arith), in-range 16 (s .q) (omega arith) (omega arith), le-ltb 6 (s .q) (c .if5 .left))
+returns-3 c coefs =
+    let a = c .before .before .before .before .args in
+    sym (ap (λ b. refuseIf b 23) (le-ltb 6 (a .q) (c .if1 .left)))
+    ∙ ap (λ x. x then check23 (seatInput (a .p) (a .q) coefs)) (sym (sizes (c .before)))
+    ∙ sizes-first (a .p) (a .q) coefs
 
 pub check-spec : {M : Type 1} → statement M
-check-spec =
-    tie.close
-    (tie.spec
-    returns
-    returns-2
-    returns-3
-    returns-4
-    returns-5
-    returns-6)
+check-spec = tie.close (tie.spec (λ c κs. search needs) (λ c. search needs) (λ c. search needs) returns returns-2 returns-3)

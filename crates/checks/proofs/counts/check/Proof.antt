@@ -1,73 +1,47 @@
--- `checks::counts::check` meets its contract: each test decides the first check that refuses. Assumes nothing.
-use Prim.Native.Nat.{ℕ, _*_, _-_, _≤_}
-use mathlib.Core.Bool.{true}
-use mathlib.Core.Path.{_≡_}
+-- `checks::counts::check` meets its contract: a refusal of the sizes decides, else the number of coefficients does. Assumes nothing.
+use Prim.Native.Nat.{_*_}
+use mathlib.Core.Path.{_≡_, _∙_, ap}
 use native.Mathlib.Nat.{mul-le-mul}
 use native.Mathlib.Omega.{arith}
 use borrow.Author.Needs.{needs}
-use borrow.Author.Tests.{le-leb, lt-leb, eq-eqb, ne-eqb}
-use Rattle.definitions.specs.Answers.{refuseWith, _then_}
-use Rattle.definitions.specs.Refusals.{between}
-use Rattle.checks.specs.Counts.{countChecks}
+use borrow.Author.Tests.{eq-eqb, ne-eqb}
+use mathlib.Core.Bool.{not}
+use lib.Dec.{eqb}
+use Rattle.definitions.specs.Answers.{go, refuseIf, refuseWith, _then_}
+use Rattle.calls.specs.CallLaws.{passes}
+use Rattle.checks.specs.Counts.{sizeChecks, sized, sizes-then}
 use Rattle.checks.proofs.counts.check.Statement.{statement}
 use Rattle.checks.proofs.counts.check.Tie as tie
 
-in-range : (b n : ℕ) → 1 ≤ n → n ≤ b → between 1 b n ≡ true
-in-range b n l m = rw (le-leb 1 n l, le-leb n b m)
+-- the sizes are in range
+sizes : (c : tie.After-enum-told) → let a = c .before .before .before .args in sizeChecks (a .p) (a .q) (a .extra) ≡ go
+sizes c = passes (c .before .before .check-sizes .ensures) (c .enum-told .given .1)
+
+mul-if1 : tie.Need-mul-if1
+mul-if1 c =
+    let a = c .before .before .before .args in
+    let s = sized (a .p) (a .q) (a .extra) (sizes c) in
+    omega (arith, mul-le-mul {n₁ = a .p} {m₁ = a .q} {n₂ = 8} {m₂ = 16} (s .equations) (omega (arith, s .unknowns)))
 
 returns : tie.Need-returns
-unfolding countChecks refuseWith _then_
-returns c = rw (lt-leb 1 _ (c .if1 .taken))
+unfolding refuseWith _then_
+returns c =
+    let a = c .before .before .before .before .args in
+    rw (sizes (c .before), ne-eqb (a .coefs) (a .p * a .q) (c .if1 .taken)) at (sizes-then (a .p) (a .q) (a .extra) (a .coefs))
 
 returns-2 : tie.Need-returns-2
-unfolding countChecks refuseWith _then_
-returns-2 c = rw (le-leb 1 _ (c .before .if1 .left), lt-leb _ 8 (c .if2 .taken))
+unfolding _then_
+returns-2 c =
+    let k = c .before .before .before in
+    let a = k .before .args in
+    ap (λ x. x then refuseIf (not (eqb (a .coefs) (a .p * a .q))) 3) (rw (c .before .why .given .1) at (k .check-sizes .ensures))
+    ∙ sizes-then (a .p) (a .q) (a .extra) (a .coefs)
 
 returns-3 : tie.Need-returns-3
-unfolding countChecks refuseWith _then_
-returns-3 c = let s = c .before .before .before .args in rw (in-range 8 (s .p) (omega arith) (omega arith), lt-leb 1 (s .q) (c .if3 .taken))
-
-sub-if4 : tie.Need-sub-if4
-sub-if4 c = search needs
-
-returns-4 : tie.Need-returns-4
-unfolding countChecks refuseWith _then_
-returns-4 c =
-    let s = c .before .before .before .before .args in
-    rw (in-range 8 (s .p) (omega arith) (omega arith), le-leb 1 (s .q) (omega arith), lt-leb (s .q) (16 - s .extra) (c .if4 .taken))
-
-mul-if5 : tie.Need-mul-if5
-mul-if5 c = let s = c .before .before .before .before .args in omega (arith, mul-le-mul {n₁ = s .p} {m₁ = s .q} {n₂ = 8} {m₂ = 16} (omega arith) (omega arith))
-
-returns-5 : tie.Need-returns-5
-unfolding countChecks refuseWith _then_
-returns-5 c =
-    let s = c .before .before .before .before .before .args in
-    rw (
-      in-range 8 (s .p) (omega arith) (omega arith),
-      in-range (16 - s .extra) (s .q) (omega arith) (omega arith),
-      ne-eqb (s .coefs) (s .p * s .q) (c .if5 .taken),
-    )
-
-returns-6 : tie.Need-returns-6
-unfolding countChecks refuseWith _then_
-returns-6 c =
-    let s = c .before .before .before .before .before .args in
-    rw (
-      in-range 8 (s .p) (omega arith) (omega arith),
-      in-range (16 - s .extra) (s .q) (omega arith) (omega arith),
-      eq-eqb (s .coefs) (s .p * s .q) (c .if5 .left),
-    )
+unfolding refuseWith _then_
+returns-3 c =
+    let a = c .before .before .before .before .args in
+    rw (sizes (c .before), eq-eqb (a .coefs) (a .p * a .q) (c .if1 .left)) at (sizes-then (a .p) (a .q) (a .extra) (a .coefs))
 
 pub check-spec : {M : Type 1} → statement M
-check-spec =
-    tie.close
-    (tie.spec
-    returns
-    returns-2
-    returns-3
-    sub-if4
-    returns-4
-    mul-if5
-    returns-5
-    returns-6)
+check-spec = tie.close (tie.spec (λ c κs. search needs) (λ c. search needs) (λ c. search needs) mul-if1 returns returns-2 returns-3)
