@@ -1,7 +1,9 @@
 // The calls over a reference: each lends them a record of its own, as a caller does. Their proofs are walks by hand, so they do nothing else.
 ghost use mathlib.Core.Path.{_≡_};
-ghost use Rattle.definitions.specs.Calls.{start, startFrom, resume};
-ghost use Rattle.definitions.specs.Input.{inputOf};
+ghost use Prim.Native.Nat.{ℕ};
+ghost use Rattle.definitions.specs.Calls.{start, startFrom, resume, resumeFrom};
+ghost use Rattle.definitions.specs.System.{mostComponent};
+ghost use Rattle.definitions.specs.Input.{inputOf, inputWith, rights as sides};
 ghost use Rattle.calls.specs.Paper.{stateOf, stateWith, outcomeOf, outcomeWith};
 ghost use Rattle.solver.specs.Reading.{shownPart};
 use calls::Outcome;
@@ -22,6 +24,27 @@ pub fn started(
 {
     let mut run = r;
     let answer = solver::start(p, q, coefs, stack, list, &mut run);
+    Outcome { answer, run }
+}
+
+// The start of a capped run; it does not depend on the limit of components.
+pub fn started_capped(
+    p: usize,
+    q: usize,
+    coefs: &[i32],
+    rights: &[i32],
+    stack: &mut [u32],
+    list: &mut [u32],
+    second: &mut [u32],
+    r: Record,
+) -> Outcome
+    ensures { λ o. ⌜ ((limit : ℕ)
+        → outcomeWith o (now (stack .exit)) (now (list .exit)) (now (second .exit)) ≡
+        start (inputWith (sides (now (rights .entry))) limit p q (now (coefs .entry)))
+        (stateWith (now (stack .entry)) (now (list .entry)) (now (second .entry)) r)) ⌝ }
+{
+    let mut run = r;
+    let answer = solver::start_capped(p, q, coefs, rights, stack, list, second, &mut run);
     Outcome { answer, run }
 }
 
@@ -58,6 +81,58 @@ pub fn resumed(
 {
     let mut run = r;
     let answer = solver::resume(p, q, coefs, stack, list, &mut run, budget);
+    Outcome { answer, run }
+}
+
+// The continuing call of a capped run.
+pub fn resumed_capped(
+    p: usize,
+    q: usize,
+    coefs: &[i32],
+    rights: &[i32],
+    stack: &mut [u32],
+    list: &mut [u32],
+    second: &mut [u32],
+    r: Record,
+    budget: u64,
+) -> Outcome
+    ensures { λ o. ⌜ outcomeWith o (now (stack .exit)) (now (list .exit)) (now (second .exit)) ≡
+        resume budget (inputWith (sides (now (rights .entry))) mostComponent p q (now (coefs .entry)))
+        (stateWith (now (stack .entry)) (now (list .entry)) (now (second .entry)) r) ⌝ }
+{
+    let mut run = r;
+    let answer = solver::resume_capped(p, q, coefs, rights, stack, list, second, &mut run, budget);
+    Outcome { answer, run }
+}
+
+// The continuing call of a run from a lower bound, which is handed anew.
+pub fn resumed_from(
+    p: usize,
+    q: usize,
+    coefs: &[i32],
+    lower: &[u32],
+    stack: &mut [u32],
+    list: &mut [u32],
+    second: &mut [u32],
+    r: Record,
+    budget: u64,
+) -> Outcome
+    ensures { λ o. ⌜ outcomeWith o (now (stack .exit)) (now (list .exit)) (now (second .exit)) ≡
+        resumeFrom budget (now (lower .entry)) (inputOf p q (now (coefs .entry)))
+        (stateWith (now (stack .entry)) (now (list .entry)) (now (second .entry)) r) ⌝ }
+{
+    let mut run = r;
+    let answer = lower_solver::resume_from(
+        p,
+        q,
+        coefs,
+        lower,
+        stack,
+        list,
+        second,
+        &mut run,
+        budget,
+    );
     Outcome { answer, run }
 }
 

@@ -1,10 +1,11 @@
-// The calls over a reference and the reader, as a caller uses them (lent.rt): the map of document 01's "The program" with a pause after 7 steps, the start of a
-// run from a lower bound, and calls that are refused; and calls by value. It prints what each call answered and left.
+// The calls over a reference and the reader, as a caller uses them (lent.rt): the map of document 01's "The program" with a pause after 7 steps, a run from a
+// lower bound, a map with right sides, and calls that are refused; and calls by value. It prints what each call answered and left.
 use calls::Answer;
 use calls::Outcome;
 use calls::Record;
 use calls::Solutions;
 use calls::Steps;
+use solver::Which;
 use try_common::print;
 
 mod lent; // lent.rt: each call with a record of its own
@@ -12,6 +13,7 @@ mod lent; // lent.rt: each call with a record of its own
 fn main() {
     map_in_two_calls();
     from_a_lower_bound();
+    with_right_sides();
     refused_calls();
     by_value();
 }
@@ -60,7 +62,7 @@ fn from_a_lower_bound() {
     );
     let r = told(
         b"all steps",
-        walk::resumed_from(
+        lent::resumed_from(
             1,
             2,
             &coefs,
@@ -70,12 +72,53 @@ fn from_a_lower_bound() {
             &mut second,
             r,
             1000000,
-            calls::COMPONENT_LIMIT,
         ),
     );
     show(&list, 2, r.found, 1);
     show(&second, 2, r.second, 1);
     show(&list, 17, r.found, 1);
+}
+
+// The equation 2 x - 3 y = 1, with a pause after 6 steps.
+fn with_right_sides() {
+    let coefs = [2, -3];
+    let rights = [1];
+    let mut stack = [0u32; 12];
+    let mut list = [0u32; 8];
+    let mut second = [0u32; 8];
+    let r = told(
+        b"start with right sides",
+        lent::started_capped(
+            1,
+            2,
+            &coefs,
+            &rights,
+            &mut stack,
+            &mut list,
+            &mut second,
+            unused(),
+        ),
+    );
+    let r = further(&coefs, &rights, &mut stack, &mut list, &mut second, r, 6);
+    show_both(&list, &second, 2, r);
+    let r = further(&coefs, &rights, &mut stack, &mut list, &mut second, r, 1000);
+    show_both(&list, &second, 2, r);
+}
+
+// The continuing call of that equation's run.
+fn further(
+    coefs: &[i32],
+    rights: &[i32],
+    stack: &mut [u32],
+    list: &mut [u32],
+    second: &mut [u32],
+    r: Record,
+    budget: u64,
+) -> Record {
+    told(
+        b"further steps",
+        lent::resumed_capped(1, 2, coefs, rights, stack, list, second, r, budget),
+    )
 }
 
 fn refused_calls() {
@@ -144,7 +187,19 @@ fn told(name: &[u8], o: Outcome) -> Record {
 
 // Prints a row as the reader shows it.
 fn show(list: &[u32], q: usize, found: Solutions, n: usize) {
-    let row = lent::row(list, q, found, n);
+    shown(lent::row(list, q, found, n), q, n);
+}
+
+// Prints the first row of the list at 0, and of the list at 1.
+fn show_both<'a>(list: &'a [u32], second: &'a [u32], q: usize, r: Record) {
+    let zero = solver::row_of_either(list, second, Which::Zero, q, r.found, 1);
+    shown(zero, q, 1);
+    let one = solver::row_of_either(list, second, Which::One, q, r.second, 1);
+    shown(one, q, 1);
+}
+
+// Prints row n of a list, which is empty where there is none.
+fn shown(row: &[u32], q: usize, n: usize) {
     print::text(b"    row ");
     print::number(n as u64);
     print::text(b":");
