@@ -19,6 +19,7 @@ use Rattle.laws.specs.SystemLaws.{covered-same}
 use Rattle.products.specs.Marks.{Marked, is-false, marks-below, marks-frozen, marks-over}
 use Rattle.laws.specs.MarkLaws.{frozen-none}
 use Rattle.linear.specs.Tests.{number}
+use Rattle.linear.specs.TestLaws.{number-le}
 use Rattle.candidates.specs.Kinds.{asked}
 use Rattle.lists.specs.Rows.{Limited, part, tuple}
 use Rattle.candidates.specs.Grow.{childBy, openFor}
@@ -42,10 +43,6 @@ one-first : (j : ℕ) → 0 < j → frozen 1 j ≡ false
 unfolding frozen bit
 one-first zero l = absurd (omega arith)
 one-first (suc j) l = is-false (frozen 0 j) (frozen-none j)
-
-number-most : (b : Bool) → number b ≤ 1
-number-most true = omega arith
-number-most false = omega arith
 
 -- ---- the ways out
 
@@ -103,7 +100,7 @@ module _ (q found : ℕ) (second : List ℕ) (t : ℕ → ℕ) (c : ℕ) where
           one ∙ over ∙ omega arith
 
       pub alone-room : o ≤ 1
-      alone-room = rw left (number-most (not (stops 0)))
+      alone-room = rw left (number-le (not (stops 0)))
 
       pub open-alone : Marked q (openFor capped q s t c) (c - c % 2 + o)
       open-alone = by (stops 0) refl

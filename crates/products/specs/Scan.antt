@@ -3,17 +3,16 @@ use mathlib.Core.Path.{_≡_, refl, sym, _∙_}
 use mathlib.Core.Logic.{inl, inr}
 use mathlib.Core.Bool.{Bool, true, false}
 use Prim.Native.Nat.{ℕ, _+_, _*_, _-_, _%_, _^_, _≤_, _<_}
-use native.Mathlib.Nat.{one-le-pow}
 use native.Mathlib.Omega.{arith}
 use lib.Count.{trailingZeros}
-use lib.Dec.{T, lit<}
+use lib.Dec.{T}
 use lib.Pow.{pow-mono}
 use Rattle.linear.specs.Cases.{split}
 use Rattle.linear.specs.LoopLaws.{any-next}
 use Rattle.linear.specs.Tests.{anyTo}
 use Rattle.definitions.specs.Tables.{frozen}
 use Rattle.definitions.specs.Step.{marksTo}
-use Rattle.laws.specs.MarkLaws.{free-beyond, frozen-gone, frozen-le, frozen-none, frozen-others, lowest-frozen, shift-one}
+use Rattle.laws.specs.MarkLaws.{free-beyond, frozen-gone, frozen-none, frozen-others, lowest-frozen, lowest-le, lowest-less, shift-one}
 use Rattle.products.specs.Marks.{any-over, is-false, is-true, marks-add, marks-over, marks-room, marks-skip}
 
 -- of the first q unknowns at which f holds, `rest` marks those from n on
@@ -33,8 +32,11 @@ module _ {q : ℕ} {f : ℕ → Bool} {n rest : ℕ} (s : Left q f n rest) (few 
   abbrev i : ℕ
   i = trailingZeros 32 rest
 
+  fits : rest < 2 ^ 32
+  fits = omega (arith, s .below, pow-mono {i = q} {j = 32} (omega arith))
+
   low : (i < 32) × T (frozen rest i) × ((j : ℕ) → j < i → ¬ (T (frozen rest j)))
-  low = lowest-frozen 32 rest some (omega (arith, s .below, pow-mono {i = q} {j = 32} (omega arith)))
+  low = lowest-frozen 32 rest some fits
 
   pub next-inside : i < q
   next-inside = elim (split i q) [ inl l ↦ l | inr l ↦ absurd (free-beyond rest q i (s .below) l (low .1)) ]
@@ -53,10 +55,10 @@ module _ {q : ℕ} {f : ℕ → Bool} {n rest : ℕ} (s : Left q f n rest) (few 
   next-bit = shift-one i (low .0)
 
   pub next-le : (1 * 2 ^ i) % 4294967296 ≤ rest
-  next-le = rw next-bit (frozen-le rest i (low .1))
+  next-le = lowest-le rest some fits
 
   pub next-less : rest - (1 * 2 ^ i) % 4294967296 < rest
-  next-less = omega (arith, next-le, next-bit, one-le-pow i 2 (lit< tt))
+  next-less = lowest-less rest some fits
 
   pub left-next : Left q f (i + 1) (rest - (1 * 2 ^ i) % 4294967296)
   left-next =

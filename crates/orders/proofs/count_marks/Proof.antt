@@ -1,15 +1,14 @@
 -- `orders::count_marks` meets its contract: the marks that are left and those counted are all marks. Assumes nothing.
 use mathlib.Core.Path.{_≡_, refl}
 use Prim.Native.Nat.{ℕ, _+_, _*_, _-_, _%_, _^_, _≤_, _<_}
-use native.Mathlib.Nat.{one-le-pow}
 use native.Mathlib.Omega.{arith}
 use lib.Count.{trailingZeros}
-use lib.Dec.{T, lit<}
+use lib.Dec.{T}
 use borrow.Author.Needs.{needs}
 use Rattle.linear.specs.TestLaws.{count-le, count-none}
 use Rattle.linear.specs.Tests.{countTo}
 use Rattle.definitions.specs.Tables.{frozen}
-use Rattle.laws.specs.MarkLaws.{count-frozen-add, frozen-gone, frozen-le, frozen-none, lowest-frozen, shift-one}
+use Rattle.laws.specs.MarkLaws.{count-frozen-add, frozen-gone, frozen-le, frozen-none, lowest-frozen, lowest-le, lowest-less, shift-one}
 use Rattle.orders.proofs.count_marks.Statement.{statement}
 use Rattle.orders.proofs.count_marks.Tie as tie
 
@@ -27,12 +26,6 @@ module _ (rest : ℕ) (some : 0 < rest) (fits : rest < 2 ^ 32) where
   low : (i < 32) × T (frozen rest i) × ((j : ℕ) → j < i → ¬ (T (frozen rest j)))
   low = lowest-frozen 32 rest some fits
 
-  bit-le : (1 * 2 ^ i) % 4294967296 ≤ rest
-  bit-le = rw (shift-one i (low .0)) (frozen-le rest i (low .1))
-
-  bit-less : rest - (1 * 2 ^ i) % 4294967296 < rest
-  bit-less = omega (arith, bit-le, shift-one i (low .0), one-le-pow i 2 (lit< tt))
-
   one-less : countTo 32 (frozen rest) ≡ countTo 32 (frozen (rest - (1 * 2 ^ i) % 4294967296)) + 1
   one-less =
       let e : rest - 2 ^ i + 2 ^ i ≡ rest = omega (arith, frozen-le rest i (low .1)) in
@@ -48,13 +41,13 @@ shl-bit : tie.Need-shl-bit Inv-loop μ-loop
 shl-bit c = let a = c .before in low (a .loop .rest) (some c) (a .loop .inv .0) .0
 
 sub-rest : tie.Need-sub-rest Inv-loop μ-loop
-sub-rest c = let a = c .before in bit-le (a .loop .rest) (some c) (a .loop .inv .0)
+sub-rest c = let a = c .before in lowest-le (a .loop .rest) (some c) (a .loop .inv .0)
 
 add-n : tie.Need-add-n Inv-loop μ-loop
 add-n c = let a = c .before in omega (arith, a .loop .inv .1, count-le (frozen (a .before .args .marks)) 32)
 
 loop-less : tie.Need-loop-less Inv-loop μ-loop
-loop-less c = let a = c .before in bit-less (a .loop .rest) (some c) (a .loop .inv .0)
+loop-less c = let a = c .before in lowest-less (a .loop .rest) (some c) (a .loop .inv .0)
 
 loop-again : tie.Need-loop-again Inv-loop μ-loop
 loop-again c =
