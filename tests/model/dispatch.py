@@ -46,6 +46,11 @@ def cut(table, part):
     return table[start : start + size]
 
 
+def coefficients(table, part):
+    """Those of a run: a part that leaves the table has none, so that they are missing."""
+    return cut(table, part) if sum(part) <= len(table) else []
+
+
 def base(i):
     """Where the words of run i begin: those of its record, the number of its answer and the place that it comes with."""
     return 2 + RUN * i
@@ -55,7 +60,7 @@ def alone(d, i, budget):
     """A continuing call of run i on copies of its parts: its answer, and the call as it left them."""
     p, q, coefs, stack, table = d.share(i)
     at = base(i)
-    call = Call("resume", p, q, cut(d.coefs, coefs), cut(d.stack, stack), cut(d.list, table), d.round[at : at + 3])
+    call = Call("resume", p, q, coefficients(d.coefs, coefs), cut(d.stack, stack), cut(d.list, table), d.round[at : at + 3])
     kind, second, before, deepest = d.round[at + 3 : at + 7]
     if kind != 0 or deepest > MOST_SUM:
         refused = call.copy()
@@ -104,7 +109,7 @@ def dispatched(d):
     if refusal(d):
         return refusal(d), []
     answers, taken, steps = [None] * d.count, [0] * d.count, 0
-    staying = [i for i in range(d.count) if d.round[base(i)] > 0 or d.round[base(i) + 3] > MOST_KIND]
+    staying = [i for i in range(d.count) if d.round[base(i)] > 0]
     for _ in range(d.turns):
         if not staying:
             break

@@ -14,4 +14,5 @@ pub mod Bound
 pub mod Runs
 pub mod CappedRuns
 pub mod LowerRuns
+pub mod Kept
 pub mod Examples

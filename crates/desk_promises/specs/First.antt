@@ -10,14 +10,14 @@ use native.Mathlib.Omega.{arith}
 use lib.Dec.{T, eqb, eqb→eq, leb, leb→le}
 use lib.ListN.{length, getD}
 use Rattle.linear.specs.Tests.{countTo}
-use Rattle.definitions.specs.Answers.{go, refuse, refused, started}
+use Rattle.definitions.specs.Answers.{go, paused, refuse, refused, started}
 use Rattle.definitions.specs.Machine.{after, checked, walk}
 use Rattle.definitions.specs.Tables.{State, capacity, frozen}
 use Rattle.laws.specs.CheckLaws.{FirstDue, check-cases}
 use Rattle.laws.specs.MachineLaws.{call-refused}
 use Rattle.laws.specs.TableLaws.{write-length, write-outside}
 use Rattle.sweeps.specs.Pack.{pack-beyond, pack-length}
-use Rattle.theorems.specs.CallAnswers.{StartAnswers, goes-on, refused-again, refused-there, start-answers}
+use Rattle.theorems.specs.CallAnswers.{StartAnswers, call-later, goes-on, refused-again, refused-there, start-answers}
 use Rattle.theorems.specs.Run.{SameRows}
 use Rattle.theorems.specs.WholeSteps.{Goes, after-more, call-keeps, called, settled-after}
 use Rattle.desk_form.specs.Desks.{Desk, always, deskBegin, deskGrown, deskLevel, deskListed, deskMachine, deskMakes, deskMarks, deskResume, deskResumeChecks}
@@ -86,6 +86,11 @@ module _ (d : Desk) where
 
   pub left-goes : (budget : ℕ) (s : State) → deskResumeChecks d s ≡ go → deskResumeChecks d (left budget d s) ≡ go
   left-goes budget s e = valid-resume d (left budget d s) (left-valid budget s e)
+
+  -- "A paused run goes on in a later call."
+  pub paused-later : (budget more : ℕ) (s : State) → deskResumeChecks d s ≡ go → deskResume budget d s .answer ≡ paused
+      → deskResume more d (left budget d s) ≡ deskResume (budget + more) d s
+  paused-later budget more s e = call-later (deskMachine d) (settled-again d) budget more s e (left-goes budget s e)
 
   -- "the same call again refuses again", with any budget above 0
   pub again : (budget : ℕ) (s : State) (n : ℕ) (values : List ℕ) → deskResumeChecks d s ≡ go → deskResume budget d s .answer ≡ refused n values

@@ -1,19 +1,21 @@
 -- THE PROMISES OF A RUN ONE DESK AFTER THE OTHER (document 02, Job 10), each under its words. Open this file first. They are about the definitions of
 -- `desk_form` (Desks, Records), which the code's contracts equate with what the code does. The minimal solutions of the first group that are handed over (the
 -- trade's loops) are the generators of the second walk. Assumes nothing.
-use mathlib.Core.Path.{_≡_, refl, _∙_}
-use mathlib.Core.Bool.{Bool, true, false, cond}
+use mathlib.Core.Path.{_≡_, refl, _∙_, ap}
+use mathlib.Core.Bool.{Bool, true, false, cond, not, _&&_}
 use mathlib.Core.Logic.{_≢_, inl, inr}
 use mathlib.Core.List.{List, []}
 use Prim.Native.Nat.{ℕ, suc, _+_, _*_, _/_, _≤_, _<_, max}
 use native.Mathlib.Nat.{le-antisymm}
 use native.Mathlib.Omega.{arith}
+use lib.Dec.{T}
 use lib.ListN.{length, take}
 use Rattle.linear.specs.Combinations.{Enumerates, met-each}
 use Rattle.linear.specs.Systems.{SolutionIn}
+use Rattle.linear.specs.TestLaws.{and-parts}
 use Rattle.linear.specs.Tests.{countTo, maxTo}
 use Rattle.linear.specs.Tuples.{Nonzero, Same, total}
-use Rattle.definitions.specs.Answers.{complete, go, refuse, refused, started}
+use Rattle.definitions.specs.Answers.{complete, go, paused, refuse, refuseIf, refuseWith, refused, started}
 use Rattle.definitions.specs.Calls.{resume}
 use Rattle.definitions.specs.Input.{Input, inputOf, systemOf}
 use Rattle.definitions.specs.Machine.{after, walk}
@@ -21,23 +23,27 @@ use Rattle.definitions.specs.System.{MinimalSolution, System, coef, solves}
 use Rattle.definitions.specs.Tables.{State, at, capacity, frozen}
 use Rattle.laws.specs.CheckLaws.{FirstDue, refuse-not-go}
 use Rattle.laws.specs.MachineLaws.{call-refused, call-walks, walk-done}
-use Rattle.theorems.specs.CallAnswers.{CallAnswers, StartAnswers}
+use Rattle.theorems.specs.CallAnswers.{CallAnswers, Paced, StartAnswers, call-paced}
 use Rattle.theorems.specs.Deepest.{greatest}
-use Rattle.theorems.specs.Demands.{second-demand}
+use Rattle.theorems.specs.Demands.{second-demand, unchanged-leaves}
 use Rattle.theorems.specs.Link.{nonzero}
 use Rattle.theorems.specs.Listed.{Exactly, Reads, enumerated, only-reads}
 use Rattle.theorems.specs.Run.{Run, SameRows, run-sound}
-use Rattle.theorems.specs.StackRows.{rows-suffice}
-use Rattle.decomposition.specs.Loops.{MakesUp, Solutions, loops-fewest, loops-make-up}
+use Rattle.theorems.specs.Series.{Lending, meanwhile}
+use Rattle.theorems.specs.StackRows.{each-step, rows-suffice}
+use Rattle.decomposition.specs.Loops.{MadeOfRows, made-of-loops}
 use Rattle.desk_form.specs.Desks.{Desk, deepestLimit, deskBegin, deskLevel, deskMachine, deskMakes, deskMarks, deskResume, deskResumeChecks, deskResumeSteps}
 use Rattle.desk_form.specs.Desks.{deskGrown, deskListed, deskStart, deskStartChecks, deskStep, deskTop, deskTopMarks, freed, generator, generatorCount}
-use Rattle.desk_form.specs.Desks.{secondGroup, settled, swept}
-use Rattle.desk_form.specs.Rules.{deskResumeRules, deskSearchRules, deskStartRules, resume-renders}
-use Rattle.desk_form.specs.Valid.{SweepLeaves, free, freed-of, resume-valid, settled-again, settled-done, settled-of, sweep-leaves, valid-resume}
+use Rattle.desk_form.specs.Desks.{deskInOrder, generatorsInOrder, secondGroup, settled, swept}
+use Rattle.desk_form.specs.Rules.{DeskInOrder, deskResumeRules, deskSearchRules, deskStartRules, order-from, resume-renders}
+use Rattle.desk_form.specs.Rows.{raises-free}
+use Rattle.desk_form.specs.Valid.{DeskValid, SweepLeaves, freed-of, resume-valid, search-going, settled-again, settled-done, settled-of, settled-valid}
+use Rattle.desk_form.specs.Valid.{step-valid, sweep-leaves, valid-resume}
 use Rattle.desk_promises.specs.First.{Kept, Untouched, after-next, again, begin-answers, begin-goes, begin-marked, begin-refused, begin-untouched}
-use Rattle.desk_promises.specs.First.{longer-list, resume-after, resume-counts, resume-marked, resume-untouched, settled-kept, start-kept, step-kept}
+use Rattle.desk_promises.specs.First.{left-goes, longer-list, paused-later, resume-after, resume-counts, resume-marked, resume-untouched}
+use Rattle.desk_promises.specs.First.{settled-kept, start-kept, step-kept}
 use Rattle.desk_promises.specs.Groups.{FirstGroup, bothGroups, firstSystem, handed-over, wholeSystem}
-use Rattle.desk_promises.specs.Runs.{DeskRun, continued, desk-answers, left, left-swept, run-exactly, run-solutions, run-valid}
+use Rattle.desk_promises.specs.Runs.{DeskRun, continued, desk-answers, desk-ruled, left, left-swept, run-exactly, run-solutions, run-valid}
 use Rattle.desk_promises.specs.Walk.{withList}
 
 -- ---- 1
@@ -56,6 +62,12 @@ pub record FirstDemand : Type 0 where
   pub whole-steps : (budget : ℕ) (d : Desk) (s : State) → deskResumeChecks d s ≡ go → left budget d s ≡ after (deskResumeSteps budget d s) (deskMachine d) s
   pub next : (d : Desk) (n : ℕ) (s : State) → after (n + 1) (deskMachine d) s ≡ settled d (deskStep d (after n (deskMachine d) s))
   pub counted : (budget : ℕ) (d : Desk) (s : State) → left budget d s .run .steps ≡ s .run .steps + deskResumeSteps budget d s
+  -- "Before each step, in this order: height 0 answers "complete"; allowance used up answers "paused"; then the refusals of the search.": of each step taken
+  pub paced : (budget : ℕ) (d : Desk) (s : State) → Paced (deskMachine d) (deskSearchRules d) budget s
+  -- "A paused run goes on in a later call.": what a call that was let go on leaves is let go on again; and a later call takes a paused one up where it stopped
+  pub goes-on : (budget : ℕ) (d : Desk) (s : State) → deskResumeChecks d s ≡ go → deskResumeChecks d (left budget d s) ≡ go
+  pub later : (budget more : ℕ) (d : Desk) (s : State) → deskResumeChecks d s ≡ go → deskResume budget d s .answer ≡ paused
+      → deskResume more d (left budget d s) ≡ deskResume (budget + more) d s
   -- "Each is given in its case and in no other.", in the documents' order
   pub starting-call : (d : Desk) (s : State) → StartAnswers (deskStartRules d s) (deskBegin d s .answer)
   pub continuing-call : (budget : ℕ) (d : Desk) (s : State)
@@ -98,6 +110,9 @@ first-demand =
       whole-steps = λ budget d. resume-after d budget;
       next = after-next;
       counted = λ budget d. resume-counts d budget;
+      paced = λ budget d. call-paced (desk-ruled d) budget;
+      goes-on = λ budget d. left-goes d budget;
+      later = λ budget more d. paused-later d budget more;
       starting-call = begin-answers;
       continuing-call = desk-answers;
       again = λ budget d. again d budget;
@@ -140,6 +155,11 @@ second-demand-desks d g s r =
       finished = λ whole budget a. run-exactly d g whole r budget a;
       read = λ whole budget a. only-reads (v .shaped .q-some) (v .shaped .q-few) (run-exactly d g whole r budget a .part);
     }
+
+-- a call of a desk that is refused before its walk is a foreign call of the third demand (theorems/specs/Series): it leaves the run as it is
+pub refused-leaves : (l : Lending State) (budget : ℕ) (d : Desk) (s : State) (n : ℕ) (values : List ℕ) → deskResumeChecks d (l .handed s) ≡ refuse n values
+    → meanwhile (left budget d) l s ≡ s
+refused-leaves l budget d s n values e = unchanged-leaves (left budget d) l s (ap (λ o. o .state) (first-demand .unchanged budget d (l .handed s) n values e))
 
 -- no continuing call of a run is refused before its walk: not by 6, nor by another of these numbers
 pub own-calls : (d : Desk) (s : State) → DeskRun d s → deskResumeChecks d s ≡ go
@@ -221,32 +241,59 @@ pub whole-run : (d : Desk) (g : FirstGroup d) (s : State) → Run (inputOf (g .p
     (resume budget (inputOf (g .p + d .p) (d .q) (wholeSystem d g .coefs)) s .state .run .found)
 whole-run d g s r budget a = second-demand .lists (inputOf (g .p + d .p) (d .q) (wholeSystem d g .coefs)) s r .finished budget a
 
+-- the same rows, as many, each row of either in the other
+pub record SameList (q : ℕ) (one : List ℕ) (n : ℕ) (other : List ℕ) (m : ℕ) : Type 0 where
+  pub number : n ≡ m
+  pub there : (i : ℕ) → i < n → (k : ℕ) × (k < m) × Same q (at other q k) (at one q i)
+  pub back : (k : ℕ) → k < m → (i : ℕ) × (i < n) × Same q (at one q i) (at other q k)
+
+-- "Solve the first group of equations, then let the second walk start from those loops and raise by them": a complete run of the first group, its list handed
+-- over, and a complete run of the second desk from it; "a complete result is, as a set, the list of the whole map, each once": of any complete run on it
+pub desk-after-desk : (d : Desk) (g : FirstGroup d) → let first = inputOf (g .p) (d .q) (g .coefs) in let whole =
+    inputOf (g .p + d .p) (d .q) (wholeSystem d g .coefs) in
+    (s₁ : State) → Run first nonzero s₁ → (n₁ : ℕ) → resume n₁ first s₁ .answer ≡ complete
+    → d .generators ≡ take (resume n₁ first s₁ .state .run .found * d .q) (resume n₁ first s₁ .state .list)
+    → (s₂ : State) → DeskRun d s₂ → (n₂ : ℕ) → deskResume n₂ d s₂ .answer ≡ complete
+    → (s : State) → Run whole nonzero s → (n : ℕ) → resume n whole s .answer ≡ complete
+    → SameList (d .q) (left n₂ d s₂ .list) (left n₂ d s₂ .run .found) (resume n whole s .state .list) (resume n whole s .state .run .found)
+desk-after-desk d g s₁ r₁ n₁ a₁ handed s₂ r₂ n₂ a₂ s r n a =
+    let x = second-demand-desks d g s₂ r₂ .finished (first-then-second d g s₁ r₁ n₁ a₁ handed) n₂ a₂ in
+    let y = whole-run d g s r n a in
+    record { number = same-number x y; there = same-rows x y; back = same-rows y x }
+
 -- ---- requests
 
 -- Job 13: "each natural solution of the system, of any size, is a sum of listed rows with natural multiples, and no shorter list of solutions has that
 -- property"
-pub record MadeOfRows (m : System) (n : ℕ) (row : ℕ → ℕ → ℕ) : Type 0 where
-  pub every : MakesUp (m .p) (m .q) (coef m) n row
-  pub fewest : (k : ℕ) (other : ℕ → ℕ → ℕ) → Solutions (m .p) (m .q) (coef m) k other → MakesUp (m .p) (m .q) (coef m) k other → n ≤ k
-
 pub every-plan : (d : Desk) (g : FirstGroup d) (s : State) → DeskRun d s → WholeList d g → (budget : ℕ) → deskResume budget d s .answer ≡ complete
-    → MadeOfRows (wholeSystem d g) (left budget d s .run .found) (at (left budget d s .list) (d .q))
+    → let m = wholeSystem d g in MadeOfRows (m .p) (m .q) (coef m) (left budget d s .run .found) (at (left budget d s .list) (d .q))
 every-plan d g s r whole budget a =
     let m : System = wholeSystem d g in
     let t : State = left budget d s in
-    let e = enumerated (second-demand-desks d g s r .finished whole budget a) in
-    record {
-      every = loops-make-up (m .p) (m .q) (coef m) (t .run .found) (at (t .list) (d .q)) e;
-      fewest =
-          loops-fewest (m .p) (m .q) (coef m) (t .run .found) (at (t .list) (d .q)) e;
-    }
+    made-of-loops (m .p) (m .q) (coef m) (t .run .found) (at (t .list) (d .q)) (enumerated (second-demand-desks d g s r .finished whole budget a))
 
--- Job 11: "from any run record that passes the check for 6, no step needs a row beyond the last one"
-pub desk-rows : (d : Desk) (s : State) → deskResumeChecks d s ≡ go → 0 < s .run .height
+-- Job 11: "from any run record that passes the check for 6, no step needs a row beyond the last one": by that check alone
+passes-6 : (b : Bool) → refuseIf (not b) 6 ≡ go → T b
+unfolding refuseWith
+passes-6 true e = tt
+passes-6 false e = absurd (refuse-not-go {n = 6} {values = []} e)
+
+order-rows : (d : Desk) (s : State) → DeskInOrder d s → 0 < s .run .height → deskLevel s + countTo (generatorCount d) (deskMakes d s) ≤ generatorCount d
+order-rows d s o high =
+    rows-suffice (generatorCount d) (deskLevel s) (deskTopMarks d s) (deskMakes d s) (o .rows (deskLevel s) (omega arith) .marked)
+    (λ j l mj. raises-free d (s .list) (s .run .found) (deskTop d s) (deskTopMarks d s) j mj)
+
+pub desk-rows : (d : Desk) (s : State) → refuseIf (not (generatorsInOrder d && deskInOrder d s)) 6 ≡ go → 0 < s .run .height
     → deskLevel s + countTo (generatorCount d) (deskMakes d s) ≤ generatorCount d
-desk-rows d s e high =
-    let v = resume-valid d s e in
-    rows-suffice (generatorCount d) (deskLevel s) (deskTopMarks d s) (deskMakes d s) (v .ordered .rows (deskLevel s) (omega arith) .marked) (free d s v high)
+desk-rows d s e high = order-rows d s (order-from d s (and-parts (generatorsInOrder d) (deskInOrder d s) (passes-6 (generatorsInOrder d && deskInOrder d s) e) .1)) high
+
+-- and each step of a continuing call
+pub desk-call-rows : (budget : ℕ) (d : Desk) (s : State) (n : ℕ) → n < deskResumeSteps budget d s → let t = after n (deskMachine d) s in
+    deskLevel t + countTo (generatorCount d) (deskMakes d t) ≤ generatorCount d
+desk-call-rows budget d s n l =
+    let (v, (h, f)) = each-step (deskMachine d) (DeskValid d) (resume-valid d) (settled-valid d)
+    (λ t v (h, f). step-valid d t v (search-going d t (v .ordered) h f)) budget s n l in
+    order-rows d (after n (deskMachine d) s) (v .ordered) h
 
 -- Job 6: "the greatest sum of components among the tuples taken off so far", here of the q components: of what was shown and the sums of the tuples that these
 -- steps took off

@@ -90,11 +90,13 @@ refuses : ℕ → Summary
 refuses n =
     record { check = refuse n []; answers = started ∷ started ∷ started ∷ []; steps = 0; rows = []; heights = 2 ∷ 3 ∷ []; last = 2; untouched = true }
 
--- no turn; one turn; three turns, the third of which ends run 1; more turns than are needed; three turns, the third of which is refused; more turns, of which
+-- no turn; one turn; eleven turns of one step, and more, which there are none of; three turns, the third of which ends run 1; more turns than are needed; three turns, the third of which is refused; more turns, of which
 -- that run has no other; a turn of 0 steps;
 -- parts that overlap; a part that leaves the table
 calls-hold : (called 0 (schedule (part 15 6) 7 3) ≡ comes (paused ∷ paused ∷ started ∷ []) 0 [] (2 ∷ 3 ∷ []) 2)
     × (called 1 (schedule (part 15 6) 7 3) ≡ comes (paused ∷ paused ∷ started ∷ []) 3 [] (1 ∷ 3 ∷ []) 1)
+    × (called 11 (schedule (part 15 6) 7 1) ≡ comes (complete ∷ complete ∷ started ∷ []) 11 (3 ∷ 2 ∷ []) (0 ∷ 0 ∷ []) 1)
+    × (called 30 (schedule (part 15 6) 7 1) ≡ comes (complete ∷ complete ∷ started ∷ []) 11 (3 ∷ 2 ∷ []) (0 ∷ 0 ∷ []) 1)
     × (called 3 (schedule (part 15 6) 7 3) ≡ comes (complete ∷ paused ∷ started ∷ []) 9 (3 ∷ 2 ∷ []) (0 ∷ 1 ∷ []) 1)
     × (called 9 (schedule (part 15 6) 7 3) ≡ comes (complete ∷ complete ∷ started ∷ []) 11 (3 ∷ 2 ∷ []) (0 ∷ 0 ∷ []) 2)
     × (called 3 (schedule (part 15 6) 1 3) ≡ comes (refused 11 [] ∷ paused ∷ started ∷ []) 8 [] (1 ∷ 1 ∷ []) 1)
@@ -106,4 +108,4 @@ unfolding total part share pair schedule starts nines summary called comes refus
     afterTurns opened answerFor stepsBetween dispatchChecks dispatch sumTo allTo anyTo countTo unit inner value refuseWith _then_ refuseFirst solves isAtOrBelow
     covered bit frozen writeTo writeRow unitsTo makes marksTo writeChildren listed grown step rowFits inOrder check7 resumeChecks tooLarge searchChecks checked
     unlessDone walk call
-calls-hold = (refl, refl, refl, refl, refl, refl, refl, refl, refl)
+calls-hold = (refl, refl, refl, refl, refl, refl, refl, refl, refl, refl, refl)

@@ -26,18 +26,28 @@ use Rattle.theorems.specs.WholeSteps.{Ends, called, completes, pauses, refuses}
 use Rattle.dispatch_form.specs.RoundLaws.{put-same, put-other, none-not-some, asked-below, ahead}
 use Rattle.dispatch_form.specs.RoundLaws.{ahead-less, ahead-round, ahead-below, further-ahead, Next, next-some}
 use Rattle.dispatch_form.specs.CheckRules.{Accepted, accepted}
-use Rattle.dispatch_form.specs.Dispatch.{Schedule, Round, Progress, mostRuns, inRound, staysIn, firstAsked, further, own}
+use Rattle.dispatch_form.specs.Dispatch.{Schedule, Share, Round, Progress, mostRuns, inRound, staysIn, firstAsked, further, own}
 use Rattle.dispatch_form.specs.Dispatch.{next, leaveTurn, turnOf, serveRun, serve, afterTurns, opened, dispatchChecks, dispatch}
 use Rattle.dispatch_promises.specs.Turns.{Turn, turnTaken, written, turnsTo, turnsOf, taken}
 use Rattle.dispatch_promises.specs.Serving.{dispatch-refused, dispatch-served}
 
 -- ---- calls one after the other
 
--- "with the same runs, turn length and dispatcher's record kept from call to call": what the last call left, and the turns of all of them, the last
--- first. Each call asks for a number of turns of its own.
-pub data Calls (d : Schedule) (r₀ : Round) : Round → List Turn → Type 0 where
-  begun : Calls d r₀ r₀ []
-  call : {r : Round} {log : List Turn} → Calls d r₀ r log → (turns : ℕ) → Calls d r₀ (dispatch turns d r .round) (turnsOf turns d r ++ log)
+-- "with the same runs, turn length and dispatcher's record kept from call to call": between two calls the number of the run served last is kept, and no
+-- unfinished run is made a finished one. The tables, the parts, the maps and the records may be others: a run may be lent a longer list, for one.
+pub record Kept (before after : Round) : Type 0 where
+  pub last : after .last ≡ before .last
+  pub unfinished : (i : ℕ) → 0 < before .progress i .run .height → 0 < after .progress i .run .height
+
+-- what runs of this number go by in one call, with turns of this length
+abbrev pub scheduled : ℕ → ℕ → (ℕ → Share) → Schedule
+scheduled count quantum shares = record { count = count; shares = shares; quantum = quantum }
+
+-- what the last call left, and the turns of all of them, the last first. Each call asks for a number of turns of its own.
+pub data Calls (count quantum : ℕ) (r₀ : Round) : Round → List Turn → Type 0 where
+  begun : Calls count quantum r₀ r₀ []
+  call : {r : Round} {log : List Turn} → Calls count quantum r₀ r log → (r′ : Round) → Kept r r′ → (shares : ℕ → Share) → (turns : ℕ)
+      → Calls count quantum r₀ (dispatch turns (scheduled count quantum shares) r′ .round) (turnsOf turns (scheduled count quantum shares) r′ ++ log)
 
 -- none of these turns is run i's
 pub data NoneOf (i : ℕ) : List Turn → Type 0 where
@@ -135,16 +145,16 @@ next-ahead count r some-run i j li n stays ne =
 -- ---- a run that waits
 
 -- run i is in the round and unfinished; since its turn the others have had these turns, and each run at most one of them
-record Waiting (d : Schedule) (r : Round) (i : ℕ) (between : List Turn) : Type 0 where
-  below : i < d .count
+record Waiting (count quantum : ℕ) (r : Round) (i : ℕ) (between : List Turn) : Type 0 where
+  below : i < count
   stays : T (inRound r i)
   high : 0 < r .progress i .run .height
-  few : length between + suc (ahead (d .count) (firstAsked (d .count) (r .last)) i) ≤ d .count
-  worth : taken between ≤ length between * d .quantum
+  few : length between + suc (ahead count (firstAsked count (r .last)) i) ≤ count
+  worth : taken between ≤ length between * quantum
 
 module _ (d : Schedule) (some-run : 0 < d .count) (r : Round) (i : ℕ) where
   -- after its own turn, where that pauses
-  waits-own : i < d .count → turnOf d i r .answer ≡ paused → Waiting d (leaveTurn d i r (turnOf d i r)) i []
+  waits-own : i < d .count → turnOf d i r .answer ≡ paused → Waiting (d .count) (d .quantum) (leaveTurn d i r (turnOf d i r)) i []
   unfolding leaveTurn taken
   waits-own li e =
       record {
@@ -159,8 +169,8 @@ module _ (d : Schedule) (some-run : 0 < d .count) (r : Round) (i : ℕ) where
       same = put-same i _ (r .progress)
 
   -- after another run's turn
-  waits-other : (between : List Turn) (j : ℕ) → Waiting d r i between → Next (d .count) r j → ¬ (j ≡ i)
-      → Waiting d (leaveTurn d j r (turnOf d j r)) i (turnTaken d j r ∷ between)
+  waits-other : (between : List Turn) (j : ℕ) → Waiting (d .count) (d .quantum) r i between → Next (d .count) r j → ¬ (j ≡ i)
+      → Waiting (d .count) (d .quantum) (leaveTurn d j r (turnOf d j r)) i (turnTaken d j r ∷ between)
   unfolding leaveTurn taken
   waits-other between j w n ne =
       record {
@@ -179,75 +189,96 @@ module _ (d : Schedule) (some-run : 0 < d .count) (r : Round) (i : ℕ) where
       same : leaveTurn d j r (turnOf d j r) .progress i ≡ r .progress i
       same = put-other j _ (r .progress) i (λ e. ne (sym e))
 
-  -- from one call to the next
-  waits-opened : (between : List Turn) → Waiting d r i between → Waiting d (opened r) i between
-  unfolding opened
-  waits-opened between w = record { below = w .below; stays = lt→ltb 0 (r .progress i .run .height) (w .high); high = w .high; few = w .few; worth = w .worth }
+-- from one call to the next
+waits-opened : (count quantum : ℕ) (r r′ : Round) (i : ℕ) (between : List Turn) → Kept r r′ → Waiting count quantum r i between
+    → Waiting count quantum (opened r′) i between
+unfolding opened
+waits-opened count quantum r r′ i between k w =
+    let h = k .unfinished i (w .high) in
+    record { below = w .below; stays = lt→ltb 0 (r′ .progress i .run .height) h; high = h; few = rw (k .last) (w .few); worth = w .worth }
 
 -- ---- turns and calls, one moment after the other
 
-data Moments (d : Schedule) (r₀ : Round) : Round → List Turn → Type 0 where
-  here : Moments d r₀ r₀ []
-  turn : {r : Round} {log : List Turn} → Moments d r₀ r log → (i : ℕ) → Next (d .count) r i
-      → Moments d r₀ (leaveTurn d i r (turnOf d i r)) (turnTaken d i r ∷ log)
-  again : {r : Round} {log : List Turn} → Moments d r₀ r log → Moments d r₀ (opened r) log
+data Moments (count quantum : ℕ) (r₀ : Round) : Round → List Turn → Type 0 where
+  here : Moments count quantum r₀ r₀ []
+  turn : {r : Round} {log : List Turn} → Moments count quantum r₀ r log → (shares : ℕ → Share) → (i : ℕ) → Next count r i
+      → Moments count quantum r₀ (leaveTurn (scheduled count quantum shares) i r (turnOf (scheduled count quantum shares) i r))
+      (turnTaken (scheduled count quantum shares) i r ∷ log)
+  again : {r : Round} {log : List Turn} → Moments count quantum r₀ r log → (r′ : Round) → Kept r r′ → Moments count quantum r₀ (opened r′) log
+
+same-kept : (r : Round) → Kept r r
+same-kept r = record { last = refl; unfinished = λ i h. h }
+
+kept-on : {a b c : Round} → Kept a b → Kept b c → Kept a c
+kept-on x y = record { last = y .last ∙ x .last; unfinished = λ i h. y .unfinished i (x .unfinished i h) }
 
 empty : (t : Turn) (between earlier : List Turn) → [] ≡ between ++ (t ∷ earlier) → ⊥
 empty t [] earlier e = let z : _≡_ {A = ℕ} 0 1 = cc in omega arith
 empty t (b ∷ between) earlier e = let z : _≡_ {A = ℕ} 0 1 = cc in omega arith
 
-module _ (d : Schedule) (some-run : 0 < d .count) (r₀ : Round) where
-  next-moment : (o : Option ℕ) {r : Round} (done log : List Turn) → Moments d r₀ r (done ++ log) → next (d .count) r ≡ o
-      → Moments d r₀ (serveRun o d r) (written o d r done ++ log)
-  next-moment none done log m e = m
-  next-moment (some i) {r} done log m e = turn m i (next-some (d .count) r some-run i e)
+module _ (count quantum : ℕ) (some-run : 0 < count) (r₀ : Round) where
+  module _ (shares : ℕ → Share) where
+    abbrev d : Schedule
+    d = scheduled count quantum shares
 
-  turn-moments : {r : Round} {log : List Turn} → Moments d r₀ r log → (k : ℕ) → Moments d r₀ (afterTurns k d r) (turnsTo k d r ++ log)
-  unfolding afterTurns turnsTo serve
-  turn-moments m zero = m
-  turn-moments {r} {log} m (suc k) = next-moment (next (d .count) (afterTurns k d r)) (turnsTo k d r) log (turn-moments m k) refl
+    next-moment : (o : Option ℕ) {r : Round} (done log : List Turn) → Moments count quantum r₀ r (done ++ log) → next count r ≡ o
+        → Moments count quantum r₀ (serveRun o d r) (written o d r done ++ log)
+    next-moment none done log m e = m
+    next-moment (some i) {r} done log m e = turn m shares i (next-some count r some-run i e)
 
-  call-moments : {r : Round} {log : List Turn} → Calls d r₀ r log → Moments d r₀ r log
-  call-moments begun = here
-  call-moments (call {r} {log} c turns) =
-      elim (check-cases (dispatchChecks d r)) [
-        | inl e ↦ let s = dispatch-served turns d r e in rw (s .0, s .1) (turn-moments (again (call-moments c)) turns)
-        | inr (n, values, e) ↦ let s = dispatch-refused turns d r n values e in rw (s .0, s .1) (call-moments c)
+    turn-moments : {r : Round} {log : List Turn} → Moments count quantum r₀ r log → (k : ℕ)
+        → Moments count quantum r₀ (afterTurns k d r) (turnsTo k d r ++ log)
+    unfolding afterTurns turnsTo serve
+    turn-moments m zero = m
+    turn-moments {r} {log} m (suc k) = next-moment (next count (afterTurns k d r)) (turnsTo k d r) log (turn-moments m k) refl
+
+  -- (a call that is refused as a whole leaves what it was lent, which need not be what the call before left)
+  call-moments : {r : Round} {log : List Turn} → Calls count quantum r₀ r log → (m : Round) × Moments count quantum r₀ m log × Kept m r
+  call-moments begun = (r₀, here, same-kept r₀)
+  call-moments (call {r} {log} c r′ kept shares turns) =
+      let (m, moments, on) = call-moments c in
+      elim (check-cases (dispatchChecks (d shares) r′)) [
+        | inl e ↦
+            let s = dispatch-served turns (d shares) r′ e in
+            rw (s .0, s .1) (afterTurns turns (d shares) (opened r′), turn-moments shares (again moments r′ (kept-on on kept)) turns, same-kept _)
+        | inr (n, values, e) ↦ let s = dispatch-refused turns (d shares) r′ n values e in rw (s .0, s .1) (m, moments, kept-on on kept)
       ]
 
   -- a turn of run i that pauses, and since then none of its own
   module _ (i : ℕ) (t : Turn) (own-turn : t .run ≡ i) (pausing : t .answer ≡ paused) where
-    waiting : {r : Round} {log : List Turn} → Moments d r₀ r log → (between earlier : List Turn) → NoneOf i between → log ≡ between ++ (t ∷ earlier)
-        → Waiting d r i between
+    waiting : {r : Round} {log : List Turn} → Moments count quantum r₀ r log → (between earlier : List Turn) → NoneOf i between
+        → log ≡ between ++ (t ∷ earlier) → Waiting count quantum r i between
     waiting here between earlier others e = absurd (empty t between earlier e)
-    waiting (again {r} m) between earlier others e = waits-opened d some-run r i between (waiting m between earlier others e)
-    waiting (turn {r} m j n) [] earlier others e =
-        let same : turnTaken d j r ≡ t = cc in
+    waiting (again {r} m r′ kept) between earlier others e = waits-opened count quantum r r′ i between kept (waiting m between earlier others e)
+    waiting (turn {r} m shares j n) [] earlier others e =
+        let same : turnTaken (d shares) j r ≡ t = cc in
         let q : j ≡ i = ap (λ (u : Turn). u .run) same ∙ own-turn in
-        rw (sym q) (waits-own d some-run r j (n .below) (ap (λ (u : Turn). u .answer) same ∙ pausing))
-    waiting (turn {r} {log} m j n) (b ∷ between) earlier (more ne others) e =
-        let same : turnTaken d j r ≡ b = cc in
+        rw (sym q) (waits-own (d shares) some-run r j (n .below) (ap (λ (u : Turn). u .answer) same ∙ pausing))
+    waiting (turn {r} {log} m shares j n) (b ∷ between) earlier (more ne others) e =
+        let same : turnTaken (d shares) j r ≡ b = cc in
         let rest : log ≡ between ++ (t ∷ earlier) = cc in
-        rw (sym same) (waits-other d some-run r i between j (waiting m between earlier others rest) n (λ q. ne (ap (λ (u : Turn). u .run) (sym same) ∙ q)))
+        rw (sym same)
+        (waits-other (d shares) some-run r i between j (waiting m between earlier others rest) n (λ q. ne (ap (λ (u : Turn). u .run) (sym same) ∙ q)))
 
-    fair-moments : {r : Round} {log : List Turn} → Moments d r₀ r log → (later between earlier : List Turn) → NoneOf i between
-        → log ≡ later ++ (between ++ (t ∷ earlier)) → (suc (length between) ≤ d .count) × (taken between ≤ length between * d .quantum)
+    fair-moments : {r : Round} {log : List Turn} → Moments count quantum r₀ r log → (later between earlier : List Turn) → NoneOf i between
+        → log ≡ later ++ (between ++ (t ∷ earlier)) → (suc (length between) ≤ count) × (taken between ≤ length between * quantum)
     fair-moments m [] between earlier others e = let w = waiting m between earlier others e in (omega (arith, w .few), w .worth)
     fair-moments here (u ∷ later) between earlier others e = absurd (let z : _≡_ {A = ℕ} 0 1 = cc in omega arith)
-    fair-moments (again m) (u ∷ later) between earlier others e = fair-moments m (u ∷ later) between earlier others e
-    fair-moments (turn {r} {log} m j n) (u ∷ later) between earlier others e =
+    fair-moments (again m r′ kept) (u ∷ later) between earlier others e = fair-moments m (u ∷ later) between earlier others e
+    fair-moments (turn {r} {log} m shares j n) (u ∷ later) between earlier others e =
         let rest : log ≡ later ++ (between ++ (t ∷ earlier)) = cc in fair-moments m later between earlier others rest
 
 -- ---- the promise
 
 -- where a turn was had, the runs are 1 to 8
-runs-few : {d : Schedule} {r₀ r : Round} {log : List Turn} → Calls d r₀ r log → (log ≡ []) ⊎ ((0 < d .count) × (d .count ≤ mostRuns))
+runs-few : {count quantum : ℕ} {r₀ r : Round} {log : List Turn} → Calls count quantum r₀ r log → (log ≡ []) ⊎ ((0 < count) × (count ≤ mostRuns))
 runs-few begun = inl refl
-runs-few {d} (call {r} {log} c turns) =
-    elim (check-cases (dispatchChecks d r)) [
-      | inl e ↦ let a = accepted d r e in inr (a .some-run, a .few-runs)
+runs-few {count} {quantum} (call {r} {log} c r′ kept shares turns) =
+    let d : Schedule = scheduled count quantum shares in
+    elim (check-cases (dispatchChecks d r′)) [
+      | inl e ↦ let a = accepted d r′ e in inr (a .some-run, a .few-runs)
       | inr (n, values, e) ↦ elim (runs-few c) [
-        | inl q ↦ inl (rw (dispatch-refused turns d r n values e .1, q) refl)
+        | inl q ↦ inl (rw (dispatch-refused turns d r′ n values e .1, q) refl)
         | inr h ↦ inr h
       ]
     ]
@@ -258,13 +289,14 @@ nonempty t (u ∷ later) between earlier e = let z : _≡_ {A = ℕ} 0 1 = cc in
 
 -- "From one turn of a run left in the round to its next .. the others take at most seven turns' worth of steps.": t is a turn of run i that pauses,
 -- and the turns between are those of others; the next later turn may be run i's, or may not have come yet
-pub fair : {d : Schedule} {r₀ r : Round} {log : List Turn} → Calls d r₀ r log → (i : ℕ) (t : Turn) (later between earlier : List Turn)
-    → log ≡ later ++ (between ++ (t ∷ earlier)) → t .run ≡ i → t .answer ≡ paused → NoneOf i between → (length between ≤ 7) × (taken between ≤ 7 * d .quantum)
-fair {d} {r₀} c i t later between earlier e own-turn pausing others =
+pub fair : {count quantum : ℕ} {r₀ r : Round} {log : List Turn} → Calls count quantum r₀ r log → (i : ℕ) (t : Turn) (later between earlier : List Turn)
+    → log ≡ later ++ (between ++ (t ∷ earlier)) → t .run ≡ i → t .answer ≡ paused → NoneOf i between → (length between ≤ 7) × (taken between ≤ 7 * quantum)
+fair {count} {quantum} {r₀} c i t later between earlier e own-turn pausing others =
     elim (runs-few c) [
       | inl q ↦ absurd (nonempty t later between earlier (sym q ∙ e))
       | inr (some-run, few-runs) ↦
-          let (few, worth) = fair-moments d some-run r₀ i t own-turn pausing (call-moments d some-run r₀ c) later between earlier others e in
+          let (m, moments, on) = call-moments count quantum some-run r₀ c in
+          let (few, worth) = fair-moments count quantum some-run r₀ i t own-turn pausing moments later between earlier others e in
           let seven : length between ≤ 7 = omega arith in
-          (seven, omega (arith, worth, mul-le-mul-right (d .quantum) seven))
+          (seven, omega (arith, worth, mul-le-mul-right quantum seven))
     ]

@@ -14,6 +14,7 @@ use Rattle.dispatch_promises.specs.Alone.{each-alone}
 use Rattle.dispatch_promises.specs.Untouched.{Same, same-stack, same-list}
 use Rattle.dispatch_promises.specs.Total.{Sum, steps-sum}
 use Rattle.dispatch_promises.specs.Fair.{Calls, NoneOf, fair}
+use Rattle.dispatch_promises.specs.Order.{Given, turns-given}
 
 -- "27, .. 28, ..; both before any run's own refusals": each in its case and in no other
 pub refusals : (d : Schedule) (r : Round) → Renders (dispatchChecks d r) (dispatchRules d r)
@@ -33,6 +34,11 @@ module _ (turns : ℕ) (d : Schedule) (r : Round) (e : dispatchChecks d r ≡ go
       ≡ alone (d .quantum) (turnsBy i (turnsOf turns d r)) (d .shares i .input) (own d r i)
   runs-alone = each-alone (served-by turns d r e)
 
+  -- "round the unfinished runs (height above 0), rising from the one after the run served last, whose number its record keeps (0 at first), as many turns as
+  -- the call asks, refused ones counted. A run that refuses or finishes leaves the round for that call."
+  pub turns-in-order : Given turns (d .count) r (turnsOf turns d r) (dispatch turns d r .round .last)
+  turns-in-order = turns-given (served-by turns d r e)
+
   -- "Writing into one run's part touches no other part.": a turn of run i leaves run j as it was
   pub others-untouched : (i j : ℕ) → i < d .count → j < d .count → ¬ (j ≡ i) → own d (leaveTurn d i r (turnOf d i r)) j ≡ own d r j
   others-untouched i j li lj ne =
@@ -49,7 +55,7 @@ module _ (turns : ℕ) (d : Schedule) (r : Round) (e : dispatchChecks d r ≡ go
 
 -- "From one turn of a run left in the round to its next, with the same runs, turn length and dispatcher's record kept from call to call, the others
 -- take at most seven turns' worth of steps."
-pub fairness : {d : Schedule} {r₀ r : Round} {log : List Turn} → Calls d r₀ r log → (i : ℕ) (t : Turn) (later between earlier : List Turn)
+pub fairness : {count quantum : ℕ} {r₀ r : Round} {log : List Turn} → Calls count quantum r₀ r log → (i : ℕ) (t : Turn) (later between earlier : List Turn)
     → log ≡ later ++ (between ++ (t ∷ earlier)) → t .run ≡ i → t .answer ≡ paused → NoneOf i between
-    → (length between ≤ 7) × (taken between ≤ 7 * d .quantum)
+    → (length between ≤ 7) × (taken between ≤ 7 * quantum)
 fairness = fair

@@ -15,12 +15,12 @@ use lib.ListN.{length, getD, set, length-set, List·getD-eq-default}
 use Rattle.linear.specs.Cases.{split}
 use Rattle.definitions.specs.Answers as paper
 use Rattle.definitions.specs.Tables as tables
-use Rattle.calls.specs.Paper.{answerOf, runOf}
+use Rattle.calls.specs.Paper.{answerOf, kindOf, runOf}
 use Rattle.calls.specs.declared.Outcome.{Outcome}
 use Rattle.calls.specs.declared.Record.{Record}
 use Rattle.dispatch_form.specs.CheckRules.{accepted}
 use Rattle.dispatch_form.specs.Dispatch as form
-use Rattle.dispatch_form.specs.Dispatch.{dispatch, dispatchChecks}
+use Rattle.dispatch_form.specs.Dispatch.{dispatch, dispatchChecks, inRound, opened}
 use Rattle.dispatcher.specs.Entry.{Returns, handed}
 use Rattle.dispatcher.specs.Filling.{Filled}
 use Rattle.dispatcher.specs.Form.{faultOf, noOutcome, noRecord, noShare, scheduleFor, shareFor, verdictOf}
@@ -29,10 +29,21 @@ use Rattle.dispatcher.specs.declared.types.Fault.{Fault}
 use Rattle.dispatcher.specs.declared.types.Share.{Share}
 use Rattle.dispatcher.specs.declared.types.Verdict.{Verdict}
 use Rattle.dispatcher.specs.declared.types.Verdict.the-variants.{Refuse, Pass}
-use Rattle.dispatch_words.specs.Words.{base, dispatchWords, lastIn, recordIn, recordsIn, roundIn}
+use Rattle.record_words.specs.WordLaws.{kind-none, kind-number, set-own}
+use Rattle.dispatch_words.specs.Words.{base, dispatchWords, lastIn, recordIn, recordsIn, roundIn, runAt}
 use Rattle.dispatch_words.specs.Words.{scheduleIn, shareIn, sharesIn, told, writeCounts, writeIf, writeOthers, writeRecord, writeRun, writeRuns}
 
 -- ---- reading
+
+-- "round the unfinished runs (height above 0)": a run is in the round as a call begins where the word of its height is above 0, whatever its other words are
+pub unfinished-words : (stack list words : List ℕ) (i : ℕ) → i < 8 → inRound (opened (roundIn stack list words)) i ≡ ltb 0 (getD words (base i) 0)
+unfolding opened recordsIn recordIn
+unfinished-words stack list words i l = rw (lt-ltb i 8 l)
+
+-- and one whose kind is no kind's number is no plain run's: "6: run record or tables out of order"
+pub no-kind-words : (words : List ℕ) (i : ℕ) → i < 8 → 5 ≤ getD words (base i + 3) 0 → runOf (recordsIn words i) .kind ≡ tables.lowerAbove
+unfolding recordsIn recordIn
+no-kind-words words i l h = rw (lt-ltb i 8 l) (ap kindOf (kind-none (getD words (base i + 3) 0) h))
 
 pub last-round : (words : List ℕ) → length words ≡ 74 → getD words 0 0 ≡ lastIn words
 unfolding lastIn
@@ -104,19 +115,38 @@ module _ (words : List ℕ) (d : Dispatched) {v : Verdict} where
 
 pub record-length : (words : List ℕ) (at : ℕ) (r : tables.Record) → length (writeRecord words at r) ≡ length words
 unfolding writeRecord
-record-length words at r = if-length (ltb (r .height) 65)
+record-length words at r = if-length (ltb (getD words (at + 3) 0) 5)
   where
     if-length : (b : Bool) → length (writeIf b words at r) ≡ length words
     if-length true = rw (length-set, length-set, length-set, length-set, length-set, length-set, length-set)
     if-length false = refl
 
-pub record-written : (words : List ℕ) (at : ℕ) (r : tables.Record) → r .height < 65 → writeOthers (writeCounts words at r) at r ≡ writeRecord words at r
+pub record-written : (words : List ℕ) (at : ℕ) (r : tables.Record) → getD words (at + 3) 0 < 5
+    → writeOthers (writeCounts words at r) at r ≡ writeRecord words at r
 unfolding writeRecord
-record-written words at r l = rw (lt-ltb (r .height) 65 l)
+record-written words at r l = rw (lt-ltb (getD words (at + 3) 0) 5 l)
 
-pub record-left : (words : List ℕ) (at : ℕ) (r : tables.Record) → 65 ≤ r .height → words ≡ writeRecord words at r
+pub record-left : (words : List ℕ) (at : ℕ) (r : tables.Record) → 5 ≤ getD words (at + 3) 0 → words ≡ writeRecord words at r
 unfolding writeRecord
-record-left words at r l = rw (le-ltb (r .height) 65 l)
+record-left words at r l = rw (le-ltb (getD words (at + 3) 0) 5 l)
+
+-- a record that a call leaves as it was read leaves its words, whatever their kind
+pub kept-run : (words : List ℕ) (at : ℕ) → at + 6 < length words → writeRecord words at (runOf (runAt words at)) ≡ words
+kept-run words at l =
+    elim (split (getD words (at + 3) 0) 5) [
+      | inr h ↦ sym (record-left words at _ h)
+      | inl h ↦
+          let own : (i : ℕ) → i ≤ at + 6 → set words i (getD words i 0) ≡ words = λ i m. set-own words i (omega arith) in
+          sym (record-written words at _ h) ∙ rw (kind-number (getD words (at + 3) 0) h) (rw (
+            own at (omega arith),
+            own (at + 1) (omega arith),
+            own (at + 2) (omega arith),
+            own (at + 3) (omega arith),
+            own (at + 4) (omega arith),
+            own (at + 5) (omega arith),
+            own (at + 6) (omega arith),
+          ))
+    ]
 
 pub run-length : (words : List ℕ) (at : ℕ) (r : tables.Record) (a : paper.Answer) → length (writeRun words at r a) ≡ length words
 unfolding writeRun

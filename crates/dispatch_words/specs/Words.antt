@@ -9,9 +9,9 @@ use lib.ListN.{length, getD, set}
 use Rattle.definitions.specs.Answers.{Answer, Check, complete, go, paused, refuse, refused, started}
 use Rattle.definitions.specs.Tables as tables
 use Rattle.definitions.specs.Tables.{runNumber}
-use Rattle.calls.specs.Paper.{runOf, value}
+use Rattle.calls.specs.Paper.{recordOf, runOf, value}
 use Rattle.calls.specs.declared.Record.{Record}
-use Rattle.record_words.specs.Words.{recordAt}
+use Rattle.record_words.specs.Words.{kindAt}
 use Rattle.dispatch_form.specs.Dispatch.{Dispatched, Round, Schedule, dispatch, either}
 use Rattle.dispatcher.specs.Form.{noRecord, noShare, shareFor}
 use Rattle.dispatcher.specs.declared.types.Share.{Share}
@@ -44,10 +44,12 @@ isRound words = eqb (length words) 74
 abbrev pub base : ℕ → ℕ
 base i = 2 + 9 * i
 
+-- "the unfinished runs (height above 0)": the height is read as handed over, whatever the kind; a number that is no kind's reads as a kind that is no plain
+-- run's, which is the run's own refusal 6
 abbrev pub runAt : List ℕ → ℕ → Record
 runAt words at =
-    recordAt (getD words at 0) (getD words (at + 1) 0) (getD words (at + 2) 0) (getD words (at + 3) 0) (getD words (at + 4) 0) (getD words (at + 5) 0)
-    (getD words (at + 6) 0)
+    recordOf (kindAt (getD words (at + 3) 0)) (getD words at 0) (record { 0 = getD words (at + 1) 0 }) (record { 0 = getD words (at + 2) 0 })
+    (record { 0 = getD words (at + 4) 0 }) (record { 0 = getD words (at + 5) 0 }) (getD words (at + 6) 0)
 
 unfoldable pub recordIn : List ℕ → ℕ → Record
 recordIn words i = runAt words (base i)
@@ -96,9 +98,9 @@ abbrev pub writeIf : Bool → List ℕ → ℕ → tables.Record → List ℕ
 writeIf true words at r = writeOthers (writeCounts words at r) at r
 writeIf false words at r = words
 
--- (a record that was read as out of order is not written, since no call goes on with it)
+-- (words whose kind is no kind's number are not written, since no call goes on with them: `kept-run` in WordLaws)
 unfoldable pub writeRecord : List ℕ → ℕ → tables.Record → List ℕ
-writeRecord words at r = writeIf (ltb (r .height) 65) words at r
+writeRecord words at r = writeIf (ltb (getD words (at + 3) 0) 5) words at r
 
 unfoldable pub writeRun : List ℕ → ℕ → tables.Record → Answer → List ℕ
 writeRun words at r a = set (set (writeRecord words at r) (at + 7) (answerNumber a)) (at + 8) (answerPlace a)

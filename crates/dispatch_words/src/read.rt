@@ -6,6 +6,8 @@ ghost use Rattle.dispatcher.specs.Filling.{Filled};
 ghost use Rattle.dispatcher.specs.Form.{noRecord, noShare};
 ghost use Rattle.dispatch_words.specs.Words.{lastIn, recordIn, runAt, shareAt, shareIn};
 use calls::Record;
+use calls::Solutions;
+use calls::Steps;
 use dispatcher::types::Part;
 use dispatcher::types::Share;
 use record_words::words;
@@ -64,16 +66,15 @@ fn record(words: &[u64], base: usize) -> Record
     requires { ⌜ base ≤ 65 ⌝ }
     ensures { λ r. ⌜ r ≡ runAt (now (words .entry)) base ⌝ }
 {
-    let seven = [
-        word(words, base),
-        word(words, base + 1),
-        word(words, base + 2),
-        word(words, base + 3),
-        word(words, base + 4),
-        word(words, base + 5),
+    Record::of(
+        words::kind_at(word(words, base + 3)),
+        word(words, base) as usize,
+        Solutions(word(words, base + 1) as usize),
+        Steps(word(words, base + 2)),
+        Solutions(word(words, base + 4) as usize),
+        Steps(word(words, base + 5)),
         word(words, base + 6),
-    ];
-    words::read(&seven)
+    )
 }
 
 // The records of eight runs.

@@ -47,12 +47,12 @@ fn fault(why: Fault) -> u64
     }
 }
 
-// Writes the seven words of a run's record.
+// Writes the seven words of a run's record; words whose kind is no kind's number stay as they are.
 fn record(words: &mut [u64], at: usize, r: Record)
     requires { ⌜ at + 6 < length (now words) ⌝ }
     ensures { λ _. ⌜ now (words .exit) ≡ writeRecord (now (words .entry)) at (runOf r) ⌝ }
 {
-    if r.height < 65 {
+    if words[at + 3] < 5 {
         counts(words, at, r);
         others(words, at, r);
     }

@@ -18,7 +18,7 @@ use Rattle.calls.specs.declared.Record.{Record}
 use Rattle.calls.specs.declared.Outcome.{Outcome}
 use Rattle.calls.specs.declared.Answer.the-variants.{Started}
 use Rattle.dispatch_form.specs.Parts as parts
-use Rattle.dispatch_form.specs.Parts.{partOf, withPart, apart}
+use Rattle.dispatch_form.specs.Parts.{partIn, partOf, withPart, apart}
 use Rattle.dispatch_form.specs.Dispatch as form
 use Rattle.dispatch_form.specs.Dispatch.{staysIn}
 use Rattle.dispatcher.specs.declared.types.Part.{Part}
@@ -58,9 +58,9 @@ partFor a = record { start = a .start; size = a .size }
 pub part-fits : {len : ℕ} (a : Part) {x : parts.Part} → partFor a ≡ x → x .start + x .size ≤ len → a .start + a .size ≤ len
 part-fits a e l = rw (← e) at l
 
--- a run's coefficients are those that lie in its part of the slice
+-- a run's coefficients are those that lie in its part of the slice; of a part that leaves the slice there are none, which is the run's own refusal 3
 abbrev pub inputFor : Share → List ℤ → Input
-inputFor share coefs = inputOf (share .p) (share .q) (partOf (partFor (share .coefs)) coefs)
+inputFor share coefs = inputOf (share .p) (share .q) (partIn (partFor (share .coefs)) coefs)
 
 abbrev pub shareFor : Share → List ℤ → form.Share
 shareFor share coefs = record { input = inputFor share coefs; stackPart = partFor (share .stack); listPart = partFor (share .list) }

@@ -46,7 +46,7 @@ pub fn serve(
     )
 }
 
-// What lies of a part in a slice of so many numbers.
+// A part that has what the part a has of a slice of so many numbers: nothing, where a leaves the slice.
 pub fn inside(a: Part, len: usize) -> Part
     ensures { λ r. ⌜ Inside a len r ⌝ }
 {
@@ -57,14 +57,13 @@ pub fn inside(a: Part, len: usize) -> Part
             size: 0,
         };
     }
-    let left = len - start;
-    if left < a.size {
-        return Part { start, size: left };
+    if len - start < a.size {
+        return Part { start, size: 0 };
     }
     a
 }
 
-// A turn of a run: its coefficients are those that lie in its part of the slice.
+// A turn of a run: its coefficients are those of its part of the slice.
 pub fn serve_run(
     share: Share,
     coefs: &[i32],

@@ -1,7 +1,7 @@
--- What the reader shows of a row that is there. Assumes nothing.
+-- The rule of the reader, of one list and of two: where 2 is due, where there is no row, and what is shown of a row that is there. Assumes nothing.
 use mathlib.Core.Path.{_≡_, refl, _∙_, ap}
 use mathlib.Core.Logic.{inl, inr}
-use mathlib.Core.Bool.{Bool, true, false, not, _&&_}
+use mathlib.Core.Bool.{Bool, true, false, not}
 use mathlib.Core.List.{List, []}
 use Prim.Native.Nat.{ℕ, suc, _*_, _-_, _≤_, _<_}
 use native.Mathlib.Nat.{le-div-iff-mul-le}
@@ -10,28 +10,85 @@ use lib.Dec.{T, leb, leb→le, le→leb}
 use lib.ListN.{drop, getD, length, length-drop, take}
 use lib.Seq.{getD-drop, getD-take, length-take-le}
 use Rattle.linear.specs.TestLaws.{and-both, and-parts}
-use Rattle.definitions.specs.Answers.{refuseWith}
-use Rattle.definitions.specs.Reader.{Which, hasRow, partOf, row, rowOfEither, rowPart, showIf, shown, shownAt, shownBy, tableAt}
+use Rattle.definitions.specs.Answers.{refuseIf}
+use Rattle.definitions.specs.Reader.{Shown, Which, hasRow, none, partOf, refused, row, rowOfEither, rowPart, showIf, shown, shownAt, shownBy, tableAt}
+use Rattle.definitions.specs.Reader.{twoListsCheck}
 use Rattle.definitions.specs.Refusals.{between}
 use Rattle.definitions.specs.System.{mostUnknowns}
 use Rattle.definitions.specs.Tables.{at, capacity}
-use Rattle.laws.specs.RefusalLaws.{Outside, at-most}
+use Rattle.laws.specs.CheckLaws.{check-cases}
+use Rattle.laws.specs.RefusalLaws.{Outside, at-most, decides-outside}
 
-there : (b h : Bool) (part : List ℕ) → T b → T h → shownBy (refuseWith (not b) 2 []) (showIf h part) ≡ row part
-unfolding refuseWith shownBy showIf
-there true true part y z = refl
-there true false part y z = absurd z
-there false h part y z = absurd y
+-- ---- the rule
+
+-- "there is none at 0, past the found count or past the room"
+pub data Missing (q : ℕ) (table : List ℕ) (found n : ℕ) : Type 0 where
+  zeroth : n < 1 → Missing q table found n
+  past : found < n → Missing q table found n
+  outside : capacity q table < n → Missing q table found n
+
+-- what a reader for q from 1 to `most` is to show of row n: "A reader for q outside 1 to 16 is refused with 2."
+pub record ShowsRow (most q : ℕ) (table : List ℕ) (found n : ℕ) (r : Shown) : Type 0 where
+  pub two : Outside 1 most q → r ≡ refused 2 []
+  pub gone : ¬ (Outside 1 most q) → Missing q table found n → r ≡ none
+  pub there : ¬ (Outside 1 most q) → ¬ (Missing q table found n) → r ≡ row (rowPart q table n)
+
+module _ (q : ℕ) (table : List ℕ) (found n : ℕ) where
+  has-row : T (hasRow q table found n) → ¬ (Missing q table found n)
+  unfolding hasRow
+  has-row h =
+      let (first, rest) = and-parts (leb 1 n) _ h in
+      let (listed, roomy) = and-parts (leb n found) _ rest in
+      λ m. elim m [
+        | zeroth l ↦ omega (arith, leb→le 1 n first)
+        | past l ↦ omega (arith, leb→le n found listed)
+        | outside l ↦ omega (arith, leb→le n (capacity q table) roomy)
+      ]
+
+  row-has : ¬ (Missing q table found n) → T (hasRow q table found n)
+  unfolding hasRow
+  row-has is =
+      and-both (leb 1 n) _ (le→leb 1 n (at-most 1 n (λ l. is (zeroth l))))
+      (and-both (leb n found) _ (le→leb n found (at-most n found (λ l. is (past l))))
+      (le→leb n (capacity q table) (at-most n (capacity q table) (λ l. is (outside l)))))
+
+  shows-row : (most : ℕ) → ShowsRow most q table found n (shownBy (refuseIf (not (between 1 most q)) 2) (showIf (hasRow q table found n) (rowPart q table n)))
+  unfolding shownBy
+  shows-row most =
+      let d = decides-outside 2 1 most q in
+      record {
+        two = λ o. rw (d .due 2 [] (refl, refl, o));
+        gone = λ is m. rw (d .silent is) (hidden (hasRow q table found n) (λ h. has-row h m));
+        there = λ is m. rw (d .silent is) (seen (hasRow q table found n) (row-has m));
+      }
+    where
+      hidden : (h : Bool) → ¬ (T h) → showIf h (rowPart q table n) ≡ none
+      hidden true z = absurd (z tt)
+      hidden false z = unfold showIf in refl
+
+      seen : (h : Bool) → T h → showIf h (rowPart q table n) ≡ row (rowPart q table n)
+      seen true z = unfold showIf in refl
+      seen false z = absurd z
+
+-- of the reader of one list
+pub reader-shows : (q : ℕ) (list : List ℕ) (found n : ℕ) → ShowsRow mostUnknowns q list found n (shown q list found n)
+unfolding shown
+reader-shows q list found n = shows-row q list found n mostUnknowns
+
+-- and of two: "2 is given at 16 unknowns here"
+pub either-shows : (w : Which) (q : ℕ) (list second : List ℕ) (found n : ℕ)
+    → ShowsRow 15 q (tableAt w list second) found n (shownAt w q list second found n)
+unfolding shownAt
+either-shows w q list second found n = shows-row q (tableAt w list second) found n 15
 
 -- row i, from 0, is shown where it is listed and lies in the table
+pub listed-there : {q : ℕ} {list : List ℕ} {found i : ℕ} → i < found → i < capacity q list → ¬ (Missing q list found (suc i))
+listed-there l here m = elim m [ zeroth h ↦ omega arith | past h ↦ omega arith | outside h ↦ omega arith ]
+
 pub shows : (q : ℕ) (list : List ℕ) (found i : ℕ) → 0 < q → q ≤ mostUnknowns → i < found → i < capacity q list
     → shown q list found (suc i) ≡ row (rowPart q list (suc i))
-unfolding shown hasRow
 shows q list found i some few l here =
-    there (between 1 mostUnknowns q) (leb 1 (suc i) && (leb (suc i) found && leb (suc i) (capacity q list))) (rowPart q list (suc i))
-    (and-both (leb 1 q) (leb q mostUnknowns) (le→leb 1 q some) (le→leb q mostUnknowns few))
-    (and-both (leb 1 (suc i)) _ (le→leb 1 (suc i) (omega arith))
-    (and-both (leb (suc i) found) _ (le→leb (suc i) found l) (le→leb (suc i) (capacity q list) here)))
+    reader-shows q list found (suc i) .there (λ o. elim o [ inl h ↦ omega arith | inr h ↦ omega arith ]) (listed-there l here)
 
 -- as the part of the list table from i * q on
 part-from : (q : ℕ) (list : List ℕ) (i : ℕ) → rowPart q list (suc i) ≡ take q (drop (i * q) list)
@@ -46,60 +103,27 @@ part-length q list i some here =
 pub part-entry : (q : ℕ) (list : List ℕ) (i j : ℕ) → j < q → getD (rowPart q list (suc i)) j 0 ≡ at list q i j
 part-entry q list i j jq = ap (λ part. getD part j 0) (part-from q list i) ∙ getD-take q (drop (i * q) list) j 0 jq ∙ getD-drop (i * q) list j 0
 
--- ---- two lists: the rule of a row of either
+-- ---- two lists: "an empty one if there is none or 2 is due"
 
--- "there is none or 2 is due": q outside 1 to 15; "there is none at 0, past the found count or past the room"
 pub data NoRow (q : ℕ) (table : List ℕ) (found n : ℕ) : Type 0 where
   two : Outside 1 15 q → NoRow q table found n
-  zeroth : n < 1 → NoRow q table found n
-  past : found < n → NoRow q table found n
-  outside : capacity q table < n → NoRow q table found n
-
-part-gone : (b h : Bool) (part : List ℕ) → ¬ (T (b && h)) → partOf (shownBy (refuseWith (not b) 2 []) (showIf h part)) ≡ []
-unfolding refuseWith shownBy showIf
-part-gone true true part gone = absurd (gone tt)
-part-gone true false part gone = refl
-part-gone false h part gone = refl
+  missing : Missing q table found n → NoRow q table found n
 
 module _ (w : Which) (q : ℕ) (list second : List ℕ) (found n : ℕ) where
   abbrev table : List ℕ
   table = tableAt w list second
 
-  abbrev there-is : Bool
-  there-is = between 1 15 q && hasRow q table found n
-
-  row-parts : T there-is → ¬ (NoRow q table found n)
-  unfolding hasRow
-  row-parts h =
-      let (range, here) = and-parts (between 1 15 q) _ h in
-      let (least, most) = and-parts (leb 1 q) _ range in
-      let (first, rest) = and-parts (leb 1 n) _ here in
-      let (listed, roomy) = and-parts (leb n found) _ rest in
-      λ none. elim none [
-        | two (inl l) ↦ omega (arith, leb→le 1 q least)
-        | two (inr l) ↦ omega (arith, leb→le q 15 most)
-        | zeroth l ↦ omega (arith, leb→le 1 n first)
-        | past l ↦ omega (arith, leb→le n found listed)
-        | outside l ↦ omega (arith, leb→le n (capacity q table) roomy)
-      ]
-
-  row-there : ¬ (NoRow q table found n) → T there-is
-  unfolding hasRow
-  row-there is =
-      and-both (between 1 15 q) _
-      (and-both (leb 1 q) _ (le→leb 1 q (at-most 1 q (λ l. is (two (inl l))))) (le→leb q 15 (at-most q 15 (λ l. is (two (inr l))))))
-      (and-both (leb 1 n) _ (le→leb 1 n (at-most 1 n (λ l. is (zeroth l))))
-      (and-both (leb n found) _ (le→leb n found (at-most n found (λ l. is (past l))))
-      (le→leb n (capacity q table) (at-most n (capacity q table) (λ l. is (outside l))))))
-
   -- there is none or 2 is due: an empty part
   pub either-empty : NoRow q table found n → rowOfEither w q list second found n ≡ []
-  unfolding rowOfEither shownAt
-  either-empty none = part-gone (between 1 15 q) (hasRow q table found n) (rowPart q table n) (λ h. row-parts h none)
+  unfolding rowOfEither
+  either-empty (two o) = ap partOf (either-shows w q list second found n .two o)
+  either-empty (missing m) =
+      elim (check-cases (twoListsCheck q)) [
+        | inl e ↦ ap partOf (either-shows w q list second found n .gone (decides-outside 2 1 15 q .goes e) m)
+        | inr (r, values, e) ↦ ap partOf (either-shows w q list second found n .two (decides-outside 2 1 15 q .refuses r values e .2))
+      ]
 
   -- else row n of the table asked from
   pub either-row : ¬ (NoRow q table found n) → rowOfEither w q list second found n ≡ rowPart q table n
-  unfolding rowOfEither shownAt
-  either-row is =
-      let (range, here) = and-parts (between 1 15 q) (hasRow q table found n) (row-there is) in
-      ap partOf (there (between 1 15 q) (hasRow q table found n) (rowPart q table n) range here)
+  unfolding rowOfEither
+  either-row is = ap partOf (either-shows w q list second found n .there (λ o. is (two o)) (λ m. is (missing m)))

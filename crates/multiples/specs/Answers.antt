@@ -9,6 +9,7 @@ use mir.Val.{ofZ, toZ}
 use Rattle.definitions.specs.Input.{inputOf}
 use Rattle.definitions.specs.Reasons as why
 use Rattle.multiples_form.specs.Parts as paper
+use Rattle.multiples_form.specs.Parts.{partsNumber}
 use Rattle.calls.specs.Paper.{numberOf, valuesOf}
 use Rattle.reasons.specs.Amounts.{told-fits}
 use Rattle.reasons.specs.Answers.{reasonOf}
@@ -27,14 +28,6 @@ partsOf (Refused cause) = paper.refused (numberOf cause) (valuesOf cause)
 
 abbrev pub outcomeOf : Parts → List ℕ → paper.Outcome
 outcomeOf r times = record { answer = partsOf r; times = times }
-
--- refusals keep their own numbers
-abbrev pub partsNumber : paper.Parts → ℕ
-partsNumber paper.made = 125
-partsNumber (paper.off k amount) = 121
-partsNumber paper.unlisted = 124
-partsNumber paper.noSpace = 29
-partsNumber (paper.refused n values) = n
 
 abbrev pub partsTold : paper.Outcome → ℕ × List ℕ
 partsTold o = (partsNumber (o .answer), o .times)

@@ -67,6 +67,14 @@ pub data Parts : Type 0 where
   noSpace : Parts
   refused : ℕ → List ℕ → Parts
 
+-- an answer as one number, where each refusal has its own: 29 is "output space too short"
+abbrev pub partsNumber : Parts → ℕ
+partsNumber made = 125
+partsNumber (off k amount) = 121
+partsNumber unlisted = 124
+partsNumber noSpace = 29
+partsNumber (refused n values) = n
+
 pub record Outcome : Type 0 where
   pub answer : Parts
   pub times : List ℕ
@@ -149,3 +157,11 @@ unfolding example both small nine told answers lower oftenTo bounded leftOver wr
     allTo anyTo elseIf firstTo placeIf lastTo refuseWith _then_ refuseFirst isAtOrBelow why.isSame highest why.standing check7 why.reasonChecks vanishes
     why.firstOff why.zeroOr why.offOr why.standsOr why.aboveOr why.inList why.firstTrue why.unlessRefused reason
 parts-hold = refl
+
+-- their numbers
+numbers-hold : (partsNumber (decomposed small (3 ∷ 2 ∷ 0 ∷ 0 ∷ []) 2 (6 ∷ 4 ∷ []) (9 ∷ []) .answer) ≡ 29)
+    × (partsNumber (decomposed small (3 ∷ 2 ∷ 0 ∷ 0 ∷ []) 2 (1000002 ∷ 666668 ∷ []) (9 ∷ []) .answer) ≡ 8)
+unfolding small lower oftenTo bounded leftOver writeTimes allTaken takenApart ifSpace unlessOff decomposed sumTo inner value
+    allTo anyTo elseIf firstTo placeIf lastTo refuseWith _then_ refuseFirst isAtOrBelow why.isSame highest why.standing check7 why.reasonChecks vanishes
+    why.firstOff why.zeroOr why.offOr why.standsOr why.aboveOr why.inList why.firstTrue why.unlessRefused reason
+numbers-hold = (refl, refl)

@@ -18,8 +18,8 @@ use Rattle.linear.specs.TupleLaws.{term-le-total, total-some}
 use Rattle.linear.specs.Tuples.{Nonzero, total}
 use Rattle.definitions.specs.Answers.{complete}
 use Rattle.definitions.specs.Calls.{resume}
-use Rattle.definitions.specs.Input.{Input, inputOf, inputWith, rights, systemOf}
-use Rattle.definitions.specs.System.{MinimalSolution, System, coef, mostComponent}
+use Rattle.definitions.specs.Input.{Input, alone, inputOf, inputWith, mapOf, rights, systemOf}
+use Rattle.definitions.specs.System.{MinimalSolution, System, coef}
 use Rattle.definitions.specs.Tables.{State, at}
 use Rattle.laws.specs.CheckLaws.{AllSilent}
 use Rattle.laws.specs.ReasonLaws.{reason-askable, reason-renders, reasonRules}
@@ -28,6 +28,9 @@ use Rattle.theorems.specs.Link.{nonzero, upToOne}
 use Rattle.theorems.specs.Listed.{Exactly, enumerated}
 use Rattle.theorems.specs.Run.{Run}
 use Rattle.decomposition.specs.Loops.{Loop, MadeOfRows, made-of-loops}
+use Rattle.training_form.specs.Promises.{training-promise}
+use Rattle.training_form.specs.SeatRuns.{SeatRun}
+use Rattle.training_form.specs.Training.{seatInput, seatResume}
 use Rattle.multiples_form.specs.AnswerLaws.{Apart, Way, apart, due, goes-one-way, never-due, off-fails, solved, uneven}
 use Rattle.multiples_form.specs.Parts.{Outcome, decomposed, ifSpace, made, noSpace, off, refused, takenApart, unlisted}
 use Rattle.multiples_form.specs.PartsLaws.{Small}
@@ -38,28 +41,37 @@ system p q coefs = systemOf (inputOf p q coefs)
 -- ---- the theorem
 
 -- of every list that holds each minimal solution once and nothing else
-pub list-made : (p q : ℕ) (coefs : List ℤ) (list : List ℕ) (found : ℕ) → Exactly q (MinimalSolution (system p q coefs)) list found
-    → MadeOfRows p q (coef (system p q coefs)) found (at list q)
-list-made p q coefs list found e = made-of-loops p q (coef (system p q coefs)) found (at list q) (enumerated e)
+pub list-made : (m : System) (list : List ℕ) (found : ℕ) → Exactly (m .q) (MinimalSolution m) list found
+    → MadeOfRows (m .p) (m .q) (coef m) found (at list (m .q))
+list-made m list found e = made-of-loops (m .p) (m .q) (coef m) found (at list (m .q)) (enumerated e)
 
 -- "after a complete plain run whose map, tables and record nobody else altered, each natural solution of the system, of any size, is a sum of listed
--- rows with natural multiples, and no shorter list of solutions has that property."
-pub every-plan : (p q : ℕ) (coefs : List ℤ) (s : State) → Run (inputOf p q coefs) nonzero s → (budget : ℕ)
-    → resume budget (inputOf p q coefs) s .answer ≡ complete
-    → MadeOfRows p q (coef (system p q coefs)) (resume budget (inputOf p q coefs) s .state .run .found)
-    (at (resume budget (inputOf p q coefs) s .state .list) q)
-every-plan p q coefs s r budget c =
-    let end = resume budget (inputOf p q coefs) s .state in
-    list-made p q coefs (end .list) (end .run .found) (second-demand .lists (inputOf p q coefs) s r .finished budget c)
+-- rows with natural multiples, and no shorter list of solutions has that property.": under any limit of components
+pub every-plan : (limit p q : ℕ) (coefs : List ℤ) (s : State) → let i = inputWith alone limit p q coefs in Run i nonzero s → (budget : ℕ)
+    → resume budget i s .answer ≡ complete
+    → MadeOfRows p q (coef (mapOf i)) (resume budget i s .state .run .found) (at (resume budget i s .state .list) q)
+every-plan limit p q coefs s r budget c =
+    let i = inputWith alone limit p q coefs in
+    let end = resume budget i s .state in
+    list-made (mapOf i) (end .list) (end .run .found) (second-demand .lists i s r .finished budget c)
+
+-- so after a complete run of the training seat (Job 9)
+pub every-plan-at-the-seat : (p q : ℕ) (coefs : List ℤ) (s : State) → SeatRun p q coefs s → (budget : ℕ) → let i = seatInput p q coefs in let o =
+    seatResume budget i s in
+    o .answer ≡ complete → MadeOfRows p q (coef (mapOf i)) (o .state .run .found) (at (o .state .list) q)
+every-plan-at-the-seat p q coefs s r budget c =
+    let i = seatInput p q coefs in
+    let end = seatResume budget i s .state in
+    list-made (mapOf i) (end .list) (end .run .found) (training-promise p q coefs .finished s r budget c)
 
 -- "The list of loops from Job 1 is included.": the list at 0 of a complete run with right sides
-pub every-plan-at-0 : (p q : ℕ) (coefs b : List ℤ) (s : State) → let i =
-    inputWith (rights b) mostComponent p q coefs in Run i upToOne s → (budget : ℕ) → resume budget i s .answer ≡ complete
-    → MadeOfRows p q (coef (system p q coefs)) (resume budget i s .state .run .found) (at (resume budget i s .state .list) q)
-every-plan-at-0 p q coefs b s r budget c =
-    let i = inputWith (rights b) mostComponent p q coefs in
+pub every-plan-at-0 : (limit p q : ℕ) (coefs b : List ℤ) (s : State) → let i =
+    inputWith (rights b) limit p q coefs in Run i upToOne s → (budget : ℕ) → resume budget i s .answer ≡ complete
+    → MadeOfRows p q (coef (mapOf i)) (resume budget i s .state .run .found) (at (resume budget i s .state .list) q)
+every-plan-at-0 limit p q coefs b s r budget c =
+    let i = inputWith (rights b) limit p q coefs in
     let end = resume budget i s .state in
-    list-made p q coefs (end .list) (end .run .found) (second-demand .lists i s r .finished budget c .0)
+    list-made (mapOf i) (end .list) (end .run .found) (second-demand .lists i s r .finished budget c .0)
 
 -- ---- the call
 
@@ -242,11 +254,10 @@ pub record PlanPromise : Type 0 where
   -- and nothing is ever left of one
   pub never-unlisted : (p q : ℕ) (coefs : List ℤ) (list : List ℕ) (found : ℕ) (t times : List ℕ) → Exactly q (MinimalSolution (system p q coefs)) list found
       → decomposed (inputOf p q coefs) list found t times .answer ≢ unlisted
-  -- so after every plain run that answered "complete"
-  pub complete-list : (p q : ℕ) (coefs : List ℤ) (s : State) → Run (inputOf p q coefs) nonzero s → (budget : ℕ)
-      → resume budget (inputOf p q coefs) s .answer ≡ complete
-      → Exactly q (MinimalSolution (system p q coefs)) (resume budget (inputOf p q coefs) s .state .list)
-      (resume budget (inputOf p q coefs) s .state .run .found)
+  -- so after every plain run that answered "complete", under any limit of components
+  pub complete-list : (limit p q : ℕ) (coefs : List ℤ) (s : State) → let i = inputWith alone limit p q coefs in Run i nonzero s → (budget : ℕ)
+      → resume budget i s .answer ≡ complete
+      → Exactly q (MinimalSolution (system p q coefs)) (resume budget i s .state .list) (resume budget i s .state .run .found)
 
 pub plan-promise : PlanPromise
 plan-promise =
@@ -257,5 +268,5 @@ plan-promise =
       no-space = due-space;
       basis = λ p q coefs list found t times e. taken p q coefs list found t times e;
       never-unlisted = λ p q coefs list found t times e. never p q coefs list found t times e;
-      complete-list = λ p q coefs s r budget c. second-demand .lists (inputOf p q coefs) s r .finished budget c;
+      complete-list = λ limit p q coefs s r budget c. second-demand .lists (inputWith alone limit p q coefs) s r .finished budget c;
     }

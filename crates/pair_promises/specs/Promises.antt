@@ -1,21 +1,24 @@
--- The promises of a listing by sums of pairs, in one place: open this file first. Assumes nothing.
+-- The promises of a listing by sums of pairs, in one place: open this file first. CallRules.antt has those of its calls: each answer in its case and in no
+-- other (`pair-answers`), "the same call again refuses again" (`again`), more room after 31 (`after-31`), and that a pause changes nothing (`pausing`). That a
+-- run ends is not promised; that its calls do not pause for ever is (`paused-within`). Assumes nothing.
 use mathlib.Core.Path.{_≡_}
 use mathlib.Core.List.{List}
-use Prim.Native.Nat.{ℕ, _<_}
+use Prim.Native.Nat.{ℕ, _≤_, _<_}
 use native.Mathlib.Nat.{le-div-iff-mul-le}
 use lib.IntN.{ℤ}
 use lib.ListN.{length}
 use Rattle.linear.specs.Combinations.{Enumerates}
 use Rattle.linear.specs.Tuples.{Same}
-use Rattle.definitions.specs.Answers.{complete}
+use Rattle.definitions.specs.Answers.{complete, go}
 use Rattle.definitions.specs.Input.{inputOf, systemOf}
 use Rattle.definitions.specs.System.{MinimalSolution, System, coef}
 use Rattle.theorems.specs.Listed.{Exactly}
 use Rattle.decomposition.specs.Loops.{MadeOfRows, made-of-loops}
-use Rattle.pairs_form.specs.Calls.{equations, resume}
+use Rattle.pairs_form.specs.Calls.{equations, resume, resumeChecks}
 use Rattle.pairs_form.specs.Done.{among}
 use Rattle.pairs_form.specs.Equations.{Holding}
 use Rattle.pairs_form.specs.Method.{Outcome, Work, row}
+use Rattle.pairs_form.specs.Own.{own-calls}
 use Rattle.pairs_form.specs.Runs.{Runs, continued, roomOf, run-complete, run-members, runs-some, runs-sound}
 
 abbrev system : (p q : ℕ) (coefs : List ℤ) → System
@@ -26,6 +29,10 @@ abbrev pub resumed : (p q : ℕ) (coefs : List ℤ) (n k budget : ℕ) → Work 
 resumed p q coefs n k budget s = resume p q coefs (roomOf q n k s) budget s
 
 module _ (p q : ℕ) (coefs : List ℤ) where
+  -- No continuing call of a run is refused before its first turn, where there is room for q rows and for those that it has.
+  pub let-go-on : {s : Work} → Runs p q coefs s → (n k : ℕ) → q ≤ roomOf q n k s → s .rows ≤ roomOf q n k s → resumeChecks p q coefs (roomOf q n k s) s ≡ go
+  let-go-on {s} r n k = own-calls p q coefs r (roomOf q n k s)
+
   -- Complete: the rows, as a sequence of tuples, are the minimal solutions of the map, each once and no other;
   pub complete-lists : {s : Work} → Runs p q coefs s → (n k budget : ℕ) → resumed p q coefs n k budget s .answer ≡ complete
       → Enumerates q (MinimalSolution (system p q coefs)) (resumed p q coefs n k budget s .work .rows) (row q (resumed p q coefs n k budget s .work))

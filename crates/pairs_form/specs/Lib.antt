@@ -8,4 +8,5 @@ pub mod Calls
 pub mod Rules
 pub mod Invariant
 pub mod Runs
+pub mod Own
 pub mod Examples

@@ -87,15 +87,15 @@ module _ (p done equation : ℕ) where
       go true f g = not-T (frozen done equation) (left (f tt))
       go false f g = let (x, y) = last (g tt) in and-both (eqb equation p) _ (rw x (eqb-refl p)) (rw y (eqb-refl (2 ^ p - 1)))
 
-small-to : (q : ℕ) (z : ℕ → ℕ) → ((j : ℕ) → j < q → z j ≤ mostComponent) → T (isSmall q z)
+pub small-to : (q : ℕ) (z : ℕ → ℕ) → ((j : ℕ) → j < q → z j ≤ mostComponent) → T (isSmall q z)
 unfolding isSmall
 small-to q z h = all-from q _ (λ j l. le→leb (z j) mostComponent (h j l))
 
-small-at : (q : ℕ) (z : ℕ → ℕ) → T (isSmall q z) → (j : ℕ) → j < q → z j ≤ mostComponent
+pub small-at : (q : ℕ) (z : ℕ → ℕ) → T (isSmall q z) → (j : ℕ) → j < q → z j ≤ mostComponent
 unfolding isSmall
 small-at q z h j l = leb→le (z j) mostComponent (all-at q _ h j l)
 
-large-in : (q : ℕ) (z : ℕ → ℕ) → ¬ (T (isSmall q z)) → (j : ℕ) × (j < q) × (mostComponent < z j)
+pub large-in : (q : ℕ) (z : ℕ → ℕ) → ¬ (T (isSmall q z)) → (j : ℕ) × (j < q) × (mostComponent < z j)
 unfolding isSmall
 large-in q z h = let (j, l, n) = all-not q _ h in (j, l, elim (split mostComponent (z j)) [ inl x ↦ x | inr x ↦ absurd (n (le→leb (z j) mostComponent x)) ])
 
@@ -135,7 +135,7 @@ module _ (p q room : ℕ) (s : Work) where
       (and-both (ltb (s .earlier) (s .later)) _ (lt→ltb (s .earlier) (s .later) (o .place)) (le→leb (s .later) (s .rows + 1) (o .near)))
       (all-from (s .rows) smallRow (λ i l. small-to q (row q s i) (λ j jq. o .small i j l jq)))))))
 
-  not-order : OutOfOrder p q room s → ¬ (InOrder p q room s)
+  pub not-order : OutOfOrder p q room s → ¬ (InOrder p q room s)
   not-order (many h) o = omega (arith, o .few)
   not-order (late h) o = omega (arith, o .early)
   not-order (beyond h) o = omega (arith, o .fitting)

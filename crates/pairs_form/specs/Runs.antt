@@ -160,7 +160,7 @@ pub data Runs (p q : ℕ) (coefs : List ℤ) : Work → Type 0 where
   moved : {s : Work} → Runs p q coefs s → (table : List ℕ) → SameRows q (s .rows) (s .table) table → Runs p q coefs (withTable s table)
 
 -- a call that answers "started" was let go on by its checks
-started-goes : (c : Check) (s : Work) (work : Work → Outcome) → checked c s work .answer ≡ started → (c ≡ go) × (checked c s work ≡ work s)
+pub started-goes : (c : Check) (s : Work) (work : Work → Outcome) → checked c s work .answer ≡ started → (c ≡ go) × (checked c s work ≡ work s)
 unfolding checked
 started-goes (refuse n values) s work e = absurd (let z : _≡_ {A = ℕ} 0 1 = cc in omega arith)
 started-goes go s work e = (refl, refl)

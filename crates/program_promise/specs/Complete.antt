@@ -1,40 +1,57 @@
--- THE PROMISE OF THE PROGRAM: where "end complete" is printed, the rows printed are exactly the basis of the map read. It is about the definition of
+-- THE PROMISE OF THE PROGRAM: where "end complete" is printed, the rows printed are exactly the basis of the map read; where "end paused" or "end refused 11"
+-- is, they are of it. It is about the definition of
 -- what is printed (`printed`), with which the contract of `report` equates what the code writes. Assumes nothing.
-use Prim.Native.Nat.{ℕ}
+use Prim.Native.Nat.{ℕ, _≤_}
 use mathlib.Core.List.{List, [], _∷_, _++_, map}
 use mathlib.Core.Path.{_≡_, refl}
 use native.Mathlib.Omega.{arith}
 use lib.IntN.{ℤ, pos}
 use Rattle.definitions.specs.Answers.{Answer, started, complete, paused, refused}
 use Rattle.definitions.specs.Calls.{start}
-use Rattle.definitions.specs.Input.{Input, inputOf, systemOf}
+use Rattle.definitions.specs.Input.{Input, inputOf, mapOf}
 use Rattle.definitions.specs.System.{MinimalSolution}
-use Rattle.definitions.specs.Tables.{State}
-use Rattle.theorems.specs.Demands.{second-demand}
-use Rattle.theorems.specs.Listed.{Exactly}
-use Rattle.theorems.specs.Run.{started-units}
+use Rattle.theorems.specs.Demands.{Lists, second-demand}
+use Rattle.theorems.specs.Listed.{Exactly, Only}
+use Rattle.theorems.specs.Run.{continued, started-units}
 use Rattle.texts.specs.Decimals.{bytes, decimal}
 use Rattle.map_form.specs.Form.{lines, written, MapInRange}
 use Rattle.map_form.specs.Reading as reading
 use Rattle.map_form.specs.Reading.{Reading, readMap}
 use Rattle.map_text.specs.MapLaws.{accepted-written}
-use Rattle.report.specs.Printed.{refusalText, valueWord, counts, ending, runText, blank, run, readingText, printed}
+use Rattle.report.specs.Printed.{refusalText, valueWord, counted, counts, ending, runText, blank, run, readingText, printed}
 use Rattle.report.specs.RunLaws.{run-starts, run-ends}
-use Rattle.program_promise.specs.Endings.{EndsWith, ends-after, ends-once, EndsInDigit, digit-after, counted-ends}
+use Rattle.program_promise.specs.Endings.{EndsWith, ends-after, ends-once, EndsInDigit, digit-after, counted-ends, ds, ds-append, counted-ds, refusal-ds}
 
 abbrev pub endComplete : List ℕ
 endComplete = bytes "end complete\n"
 
--- The text was accepted as the written form of a map; what is printed are its counts, the rows listed in the order found, and "end complete"; and the
--- rows listed are the map's minimal solutions, each once and no other.
+abbrev pub endPaused : List ℕ
+endPaused = bytes "end paused\n"
+
+-- "end refused 11" and the like
+abbrev pub endRefused : ℕ → List ℕ
+endRefused n = counted (bytes "end refused ") n
+
+-- The text was accepted as the written form of a map. What is printed are the counts of the program's run on it, the rows listed in the order found, and the
+-- ending; and each row listed is one of the map's minimal solutions, none twice.
+pub record PrintedRun (t : List ℕ) : Type 0 where
+  pub p : ℕ
+  pub q : ℕ
+  pub coefs : List ℤ
+  pub accepted : readMap t ≡ reading.accepted p q coefs
+  pub text : t ≡ written p q coefs
+  pub range : MapInRange p q coefs
+  pub shown : let o = run (inputOf p q coefs) in
+      printed t ≡ counts p q (o .state .run .steps) (o .state .run .found) ++ (lines (o .state .run .found) q (map pos (o .state .list)) ++ ending (o .answer))
+  -- "Cut short, it holds only such tuples."
+  pub only : let s = run (inputOf p q coefs) .state in Only q (MinimalSolution (mapOf (inputOf p q coefs))) (s .list) (s .run .found)
+
+-- and the run was complete: the rows listed are the map's minimal solutions, each once and no other
 pub record PrintedBasis (t : List ℕ) : Type 0 where
-  pub i : Input
-  pub s : State
-  pub accepted : readMap t ≡ reading.accepted (i .p) (i .q) (i .coefs)
-  pub text : t ≡ written (i .p) (i .q) (i .coefs)
-  pub range : MapInRange (i .p) (i .q) (i .coefs)
-  pub shown : printed t ≡ counts (i .p) (i .q) (s .run .steps) (s .run .found) ++ (lines (s .run .found) (i .q) (map pos (s .list)) ++ endComplete)
-  pub basis : Exactly (i .q) (MinimalSolution (systemOf i)) (s .list) (s .run .found)
+  pub ran : PrintedRun t
+  pub answer : run (inputOf (ran .p) (ran .q) (ran .coefs)) .answer ≡ complete
+  pub basis : let i = inputOf (ran .p) (ran .q) (ran .coefs) in let s = run i .state in
+      Exactly (ran .q) (MinimalSolution (mapOf i)) (s .list) (s .run .found)
 
 -- ---- another ending
 
@@ -51,7 +68,7 @@ refusal-ends n (value ∷ others) = digit-after (bytes "refused ") (digit-after 
 
 -- ---- a map
 
-module _ (t : List ℕ) (p q : ℕ) (coefs : List ℤ) (e : readMap t ≡ reading.accepted p q coefs) (ends : EndsWith 101 (printed t)) where
+module _ (t : List ℕ) (p q : ℕ) (coefs : List ℤ) (e : readMap t ≡ reading.accepted p q coefs) where
   abbrev input : Input
   input = inputOf p q coefs
 
@@ -66,24 +83,32 @@ module _ (t : List ℕ) (p q : ℕ) (coefs : List ℤ) (e : readMap t ≡ readin
   unfolding printed readingText runText
   shown-as f = rw (e, f)
 
-  by-answer : (a : Answer) → run input .answer ≡ a → PrintedBasis t
-  unfolding run ending
-  by-answer started f = absurd (run-ends (accepted-written t e .1) f)
-  by-answer complete f =
+  lists : Lists input (start input blank .state)
+  lists = second-demand .lists input (start input blank .state) (started-units blank (run-starts (accepted-written t e .1)))
+
+  printed-run : PrintedRun t
+  unfolding run
+  printed-run =
       let (x, y) = accepted-written t e in
       record {
-        i = input;
-        s = run input .state;
+        p = p;
+        q = q;
+        coefs = coefs;
         accepted = e;
         text = x;
         range = y;
-        shown = shown-as f;
-        basis = second-demand .lists input (start input blank .state) (started-units blank (run-starts y)) .finished 1000000 f;
+        shown = shown-as refl;
+        only = second-demand .lists input _ (continued (started-units blank (run-starts y)) 1000000) .cut-short;
       }
-  by-answer paused f =
+
+  by-answer : EndsWith 101 (printed t) → (a : Answer) → run input .answer ≡ a → PrintedBasis t
+  unfolding run ending printed-run
+  by-answer ends started f = absurd (run-ends (accepted-written t e .1) f)
+  by-answer ends complete f = record { ran = printed-run; answer = f; basis = lists .finished 1000000 f }
+  by-answer ends paused f =
       let d = ends-after front (ends-after listed (record { others = bytes "end pause"; text = refl })) in
       absurd (omega (arith, ends-once {a = 100} {b = 101} d (rw (shown-as f) at ends)))
-  by-answer (refused n values) f =
+  by-answer ends (refused n values) f =
       no-digit (digit-after front (digit-after listed (counted-ends (bytes "end refused ") n))) (rw (shown-as f) at ends)
 
 -- A printed "end complete" means that the rows printed are exactly the basis of the map read.
@@ -97,3 +122,24 @@ printed-complete t before e = by (readMap t) refl
     by : (x : Reading) → readMap t ≡ x → PrintedBasis t
     by (reading.accepted p q coefs) f = by-answer t p q coefs f ends (run (inputOf p q coefs) .answer) refl
     by (reading.refused n values) f = no-digit (refusal-ends n values) (rw f at ends)
+
+-- What is printed before "end paused" and before "end refused 11" (12 or 14) holds only minimal solutions of the map read.
+cut-short : (t : List ℕ) → 2 ≤ ds (printed t) → PrintedRun t
+unfolding printed readingText
+cut-short t two = by (readMap t) refl
+  where
+    by : (x : Reading) → readMap t ≡ x → PrintedRun t
+    by (reading.accepted p q coefs) f = printed-run t p q coefs f
+    by (reading.refused n values) f = absurd (omega (arith, refusal-ds n values, rw f at two))
+
+pub printed-paused : (t before : List ℕ) → printed t ≡ before ++ endPaused → PrintedRun t
+printed-paused t before e = cut-short t (rw e (omega (arith, ds-append before endPaused, two)))
+  where
+    two : ds endPaused ≡ 2
+    two = unfold ds in refl
+
+pub printed-refused : (t before : List ℕ) (n : ℕ) → printed t ≡ before ++ endRefused n → PrintedRun t
+printed-refused t before n e = cut-short t (rw e (omega (arith, ds-append before (endRefused n), counted-ds (bytes "end refused ") n, two)))
+  where
+    two : ds (bytes "end refused ") ≡ 2
+    two = unfold ds in refl

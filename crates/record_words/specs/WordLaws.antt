@@ -24,6 +24,7 @@ use Rattle.calls.specs.Paper.{checkOf, kindOf, numberOf, runOf, stateWith, valu
 use Rattle.calls.specs.declared.Check as values-check
 use Rattle.calls.specs.declared.Check.the-variants.{Refuse, Pass}
 use Rattle.calls.specs.declared.Refusal.{Refusal}
+use Rattle.calls.specs.declared.Run.the-variants.{LowerAbove}
 use Rattle.record_words.specs.Codes.{code, refusalCode}
 use Rattle.record_words.specs.CodeLaws.{Small, small-resume, within}
 use Rattle.record_words.specs.Words.{heightIf, kindAt, recordAt, recordIn, startOn, told, toldBoth, wordsLeft, wordsOf}
@@ -59,18 +60,23 @@ unfolding wordsLeft
 words-misfit words r ne = rw (ne-eqb (length words) 7 ne)
 
 -- a call that is refused before its walk leaves the record that was read, and so the words
-set-own : (xs : List ℕ) (i : ℕ) → i < length xs → set xs i (getD xs i 0) ≡ xs
+pub set-own : (xs : List ℕ) (i : ℕ) → i < length xs → set xs i (getD xs i 0) ≡ xs
 set-own [] i l = absurd (omega arith)
 set-own (x ∷ xs) zero l = refl
 set-own (x ∷ xs) (suc i) l = ap (λ ys. x ∷ ys) (set-own xs i (omega arith))
 
-kind-number : (k : ℕ) → k < 5 → runNumber (kindOf (kindAt k)) ≡ k
+pub kind-number : (k : ℕ) → k < 5 → runNumber (kindOf (kindAt k)) ≡ k
 kind-number zero l = refl
 kind-number (suc zero) l = refl
 kind-number (suc (suc zero)) l = refl
 kind-number (suc (suc (suc zero))) l = refl
 kind-number (suc (suc (suc (suc zero)))) l = refl
 kind-number (suc (suc (suc (suc (suc k))))) l = absurd (omega arith)
+
+pub kind-none : (k : ℕ) → 5 ≤ k → kindAt k ≡ LowerAbove
+kind-none k l =
+    let other : (n : ℕ) → n < 5 → k ≢ n = λ n h e. omega arith in
+    rw (ne-eqb k 0 (other 0 (lit< tt)), ne-eqb k 1 (other 1 (lit< tt)), ne-eqb k 2 (other 2 (lit< tt)), ne-eqb k 4 (other 4 (lit< tt)))
 
 module _ (words : List ℕ) (e : length words ≡ 7) where
   own-words : getD words 3 0 < 5 → wordsOf words (runOf (recordIn words)) ≡ words

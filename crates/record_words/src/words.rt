@@ -29,7 +29,7 @@ pub fn read(words: &[u64]) -> Record
 }
 
 // The kind of run of a number.
-fn kind_at(n: u64) -> Run
+pub fn kind_at(n: u64) -> Run
     ensures { λ r. ⌜ r ≡ kindAt n ⌝ }
 {
     if n == 0 {

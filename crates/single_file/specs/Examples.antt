@@ -27,6 +27,18 @@ three = inputOf 3 3 (pos 1 ∷ pos 0 ∷ negsuc 0 ∷ pos 0 ∷ negsuc 0 ∷ pos
 ways : Input
 ways = inputOf 2 5 (pos 1 ∷ pos 0 ∷ negsuc 0 ∷ negsuc 0 ∷ pos 0 ∷ negsuc 0 ∷ pos 0 ∷ pos 1 ∷ pos 1 ∷ pos 0 ∷ [])
 
+-- six trays, and activities from 1 to 2, 4 to 5, 2 to 3, 5 to 6, 3 to 4 and 6 to 1
+six : Input
+six =
+    inputOf 6 6 (
+    negsuc 0 ∷ pos 0 ∷ pos 0 ∷ pos 0 ∷ pos 0 ∷ pos 1
+    ∷ pos 1 ∷ pos 0 ∷ negsuc 0 ∷ pos 0 ∷ pos 0 ∷ pos 0
+    ∷ pos 0 ∷ pos 0 ∷ pos 1 ∷ pos 0 ∷ negsuc 0 ∷ pos 0
+    ∷ pos 0 ∷ negsuc 0 ∷ pos 0 ∷ pos 0 ∷ pos 1 ∷ pos 0
+    ∷ pos 0 ∷ pos 1 ∷ pos 0 ∷ negsuc 0 ∷ pos 0 ∷ pos 0
+    ∷ pos 0 ∷ pos 0 ∷ pos 0 ∷ pos 1 ∷ pos 0 ∷ negsuc 0 ∷ []
+    )
+
 -- four trays and two activities
 four : List ℤ → Input
 four c = inputOf 4 2 c
@@ -59,10 +71,11 @@ rows-hold :
     × (map (minimal ways) ((1 ∷ 0 ∷ 1 ∷ 0 ∷ 0 ∷ []) ∷ (0 ∷ 0 ∷ 0 ∷ 0 ∷ 1 ∷ []) ∷ (2 ∷ 0 ∷ 1 ∷ 1 ∷ 0 ∷ []) ∷ (1 ∷ 0 ∷ 1 ∷ 1 ∷ 0 ∷ []) ∷
     (0 ∷ 1 ∷ 0 ∷ 0 ∷ 1 ∷ []) ∷ []) ≡ true ∷ true ∷ false ∷ false ∷ false ∷ [])
     × (line three (1 ∷ 1 ∷ 1 ∷ []) ≡ bytes "1 2 3 order 1 3 2\n")
+    × (line six (1 ∷ 1 ∷ 1 ∷ 1 ∷ 1 ∷ 1 ∷ []) ≡ bytes "1 2 3 4 5 6 order 1 3 5 2 4 6\n")
     × (line ways (1 ∷ 0 ∷ 0 ∷ 1 ∷ 0 ∷ []) ≡ bytes "1 4 order 1 4\n")
     × (line ways (0 ∷ 0 ∷ 0 ∷ 0 ∷ 1 ∷ []) ≡ bytes "5 order 5\n")
-unfolding three ways minimal line loopLine risingTo orderTo decimal lastDigits isCircuit allTo countTo size lowest leaving nodeOf findTo iterate
-rows-hold = (refl, refl, refl, refl, refl)
+unfolding three ways six minimal line loopLine risingTo orderTo decimal lastDigits isCircuit allTo countTo size lowest leaving nodeOf findTo iterate
+rows-hold = (refl, refl, refl, refl, refl, refl)
 
 -- ---- the listing, into a space of 7s
 

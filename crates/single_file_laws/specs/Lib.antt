@@ -4,3 +4,4 @@ pub mod Circuits
 pub mod ProfileLaws
 pub mod Promises
 pub mod Runs
+pub mod Lines

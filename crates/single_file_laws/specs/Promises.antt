@@ -59,7 +59,7 @@ pub record SolutionsOf (m : System) : Type 0 where
   pub ordered : (x : ℕ → ℕ) → MinimalSolution m x → Ordered m x (size (m .q) x) (circuitOrder m x)
   -- and the only one
   pub no-other : (x : ℕ → ℕ) → MinimalSolution m x → (K : ℕ) (o : ℕ → ℕ) → Ordered m x K o → (K ≡ size (m .q) x) × ((k : ℕ) → k < K → o k ≡ circuitOrder m x k)
-  -- the test `isLoop` holds of the minimal solutions and of no other row
+  -- the test `isCircuitOf` holds of the minimal solutions and of no other row
   pub test : (x : ℕ → ℕ) → T (isCircuitOf m x) ↔ MinimalSolution m x
   -- "30, a row that is no minimal loop, with the first such row"
   pub refuses-30 : (found : ℕ) (row : ℕ → ℕ → ℕ) → Decides (check30 m found row) (placed 30 found (λ i. ¬ (MinimalSolution m (row i))))

@@ -19,8 +19,9 @@ use Rattle.laws.specs.AnswerLaws.{then-go}
 use Rattle.laws.specs.CheckLaws.{Renders, Rules, _▹_, _▹▹_, decides-if, end, placed, renders-after, renders-last, renders-then, rule}
 use Rattle.laws.specs.RefusalLaws.{Outside, decides-outside, decides-range, decides-unequal, rangeRule, resume-renders, resumeRules, start-renders, startRules}
 use Rattle.theorems.specs.Listed.{Only}
-use Rattle.theorems.specs.Demands.{second-demand}
+use Rattle.theorems.specs.Demands.{second-demand, unchanged-leaves}
 use Rattle.theorems.specs.Run.{Run, aimOf, continued, started-units}
+use Rattle.theorems.specs.Series.{Lending, meanwhile}
 use Rattle.single_file.specs.Calls.{singleResume, singleResumeChecks, singleStart, singleStartChecks}
 use Rattle.single_file.specs.Graph.{size}
 use Rattle.single_file.specs.Listing.{listedBy, listing, listingCall, listingChecks, refused, rowChecks}
@@ -140,6 +141,12 @@ module _ (i : Input) where
         resume-same = resume-plain;
         in-profile = started-file;
       }
+
+-- a continuing call refused with 26, or before, is a foreign call of the third demand (theorems/specs/Series): it leaves the run as it is
+pub refused-leaves : (l : Lending State) (budget : ℕ) (i : Input) (s : State) (n : ℕ) (values : List ℕ) → singleResumeChecks i (l .handed s) ≡ refuse n values
+    → meanwhile (λ t. singleResume budget i t .state) l s ≡ s
+refused-leaves l budget i s n values e =
+    unchanged-leaves (λ t. singleResume budget i t .state) l s (ap (λ o. o .state) (single-calls i .resume-unchanged budget (l .handed s) n values e))
 
 -- ---- a run
 

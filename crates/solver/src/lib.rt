@@ -6,7 +6,7 @@ ghost use Rattle.definitions.specs.Calls.{start as startOf, resume as resumeOf}
 ghost use Rattle.definitions.specs.Reader.{readerCheck, rowOfEither};
 ghost use Rattle.definitions.specs.Refusals.{between};
 ghost use Rattle.definitions.specs.System.{mostUnknowns, mostComponent};
-ghost use Rattle.definitions.specs.Input.{inputOf, inputWith, rights as sides};
+ghost use Rattle.definitions.specs.Input.{alone, inputOf, inputWith, rights as sides};
 ghost use Rattle.calls.specs.Paper.{stateOf, stateWith, leftBy, leftWith, outcomeOf, outcomeWith};
 ghost use Rattle.solver.specs.Reading.{readableOf, shownPart, cappedPart, shows, whichOf};
 use calls::Answer;
@@ -15,7 +15,7 @@ use calls::Record;
 use calls::Refusal;
 use calls::Solutions;
 
-// The plain start.
+// The plain start; it does not depend on the limit of components.
 pub fn start(
     p: usize,
     q: usize,
@@ -24,8 +24,9 @@ pub fn start(
     list: &mut [u32],
     r: &mut Record,
 ) -> Answer
-    ensures { λ a. ⌜ leftBy a (now (stack .exit)) (now (list .exit)) (now (r .exit)) ≡ startOf (inputOf p q (now (coefs .entry)))
-        (stateOf (now (stack .entry)) (now (list .entry)) (now (r .entry))) ⌝ }
+    ensures { λ a. ⌜ ((limit : ℕ)
+        → leftBy a (now (stack .exit)) (now (list .exit)) (now (r .exit)) ≡ startOf (inputWith alone limit p q (now (coefs .entry)))
+        (stateOf (now (stack .entry)) (now (list .entry)) (now (r .entry)))) ⌝ }
 {
     let o = starts::started(p, q, coefs, stack, list, *r);
     *r = o.run;

@@ -1,5 +1,13 @@
--- What a start that is not refused leaves in the record. Assumes nothing.
+-- What a start that is not refused leaves in the record, and that it takes no limit. Assumes nothing.
 use Prim.Native.Nat.{ℕ}
+use mathlib.Core.List.{List}
+use mathlib.Core.Path.{_≡_}
+use lib.IntN.{ℤ}
+use Rattle.definitions.specs.Calls.{start}
+use Rattle.definitions.specs.Input.{alone, inputOf, inputWith}
+use Rattle.definitions.specs.Machine as paper
+use Rattle.definitions.specs.Refusals.{check7, startChecks}
+use Rattle.definitions.specs.Tables.{State, unitsStart}
 use Rattle.calls.specs.Paper.{recordOf}
 use Rattle.calls.specs.declared.Answer.the-variants.{Started}
 use Rattle.calls.specs.declared.Outcome.{Outcome}
@@ -7,3 +15,9 @@ use Rattle.calls.specs.declared.Run.{Run}
 
 abbrev pub begins : Run → ℕ → Outcome
 begins kind height = record { answer = Started; run = recordOf kind height (record { 0 = 0 }) (record { 0 = 0 }) (record { 0 = 0 }) (record { 0 = 0 }) 0 }
+
+-- a start without a lower bound does not look at the limit of components
+pub for-every : (p q : ℕ) (coefs : List ℤ) (s : State) {o : paper.Outcome State} → o ≡ start (inputOf p q coefs) s → (limit : ℕ)
+    → o ≡ start (inputWith alone limit p q coefs) s
+unfolding start startChecks check7 unitsStart
+for-every p q coefs s e limit = e

@@ -2,7 +2,7 @@
 ghost use mathlib.Core.Path.{_≡_};
 ghost use Prim.Native.Nat.{ℕ};
 ghost use Rattle.definitions.specs.Calls.{start, startFrom};
-ghost use Rattle.definitions.specs.Input.{alone, inputOf, inputWith, rights as sides};
+ghost use Rattle.definitions.specs.Input.{alone, inputWith, rights as sides};
 ghost use Rattle.calls.specs.Paper.{stateOf, stateWith, outcomeOf, outcomeWith};
 ghost use Rattle.starts.specs.Begin.{begins};
 use calls::Answer;
@@ -15,7 +15,7 @@ use calls::Steps;
 
 mod rows; // rows.rt: the rows that the starts write
 
-// The plain start.
+// The plain start; it does not depend on the limit of components.
 pub fn started(
     p: usize,
     q: usize,
@@ -24,8 +24,9 @@ pub fn started(
     list: &mut [u32],
     r: Record,
 ) -> Outcome
-    ensures { λ o. ⌜ outcomeOf o (now (stack .exit)) (now (list .exit))
-        ≡ start (inputOf p q (now (coefs .entry))) (stateOf (now (stack .entry)) (now (list .entry)) r) ⌝ }
+    ensures { λ o. ⌜ ((limit : ℕ)
+        → outcomeOf o (now (stack .exit)) (now (list .exit))
+        ≡ start (inputWith alone limit p q (now (coefs .entry))) (stateOf (now (stack .entry)) (now (list .entry)) r)) ⌝ }
 {
     match checks::check_start(p, q, coefs, stack, list, r) {
         Check::Refuse(why) => calls::refused(why, r),

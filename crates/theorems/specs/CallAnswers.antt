@@ -2,13 +2,16 @@
 use mathlib.Core.Path.{_≡_, refl, sym, _∙_, ap}
 use mathlib.Core.Logic.{_≢_, _↔_, _⊎_, inl, inr}
 use mathlib.Core.List.{List}
-use Prim.Native.Nat.{ℕ, suc, _<_}
+use Prim.Native.Nat.{ℕ, zero, suc, _+_, _≤_, _<_}
+use native.Mathlib.Nat.{suc-add, zero-add}
+use native.Mathlib.Decide.{ℕ-discrete}
 use native.Mathlib.Omega.{arith}
 use Rattle.definitions.specs.Answers.{Answer, Check, complete, go, paused, refuse, refused, started}
-use Rattle.definitions.specs.Machine.{Machine, Outcome, call, callSteps, checked, walk}
+use Rattle.definitions.specs.Machine.{Machine, Outcome, after, call, callSteps, checked, walk}
 use Rattle.laws.specs.CheckLaws.{AllSilent, FirstDue, Renders, Rules, check-cases, refuse-not-go}
-use Rattle.laws.specs.MachineLaws.{call-refused, call-walks, walk-more, walk-refused}
-use Rattle.theorems.specs.WholeSteps.{Ends, Goes, Steady, called, completes, pauses, refuses, settled-after}
+use Rattle.laws.specs.LowerWalk.{walk-steps-few}
+use Rattle.laws.specs.MachineLaws.{call-refused, call-walks, walk-done, walk-more, walk-paused, walk-refused, walk-settled}
+use Rattle.theorems.specs.WholeSteps.{Ends, Goes, Steady, call-going, called, completes, pauses, refuses, settled-after}
 
 -- ---- a start
 
@@ -155,3 +158,59 @@ module _ {S : Type 0} {k : Machine S} {before within : S → Rules} (ruled : Rul
 pub goes-on : {S : Type 0} (k : Machine S) (s : S) → k .before s ≡ go → Goes k (k .settle s) → (more : ℕ)
     → call (suc more) k s ≡ walk more k (k .step (k .settle s))
 goes-on k s e (h, f) more = call-walks k s (suc more) e .0 ∙ walk-more k s more h f .0
+
+-- ---- the steps taken
+
+-- "Before each step, in this order: height 0 answers "complete"; allowance used up answers "paused"; then the refusals of the search.": the steps that a
+-- continuing call takes are at most its budget, and each is from a height above 0 where none of the refusals within the walk is due
+pub record Paced {S : Type 0} (k : Machine S) (within : S → Rules) (budget : ℕ) (s : S) : Type 0 where
+  pub few : callSteps budget k s ≤ budget
+  pub high : (n : ℕ) → n < callSteps budget k s → 0 < k .height (after n k s)
+  pub silent : (n : ℕ) → n < callSteps budget k s → AllSilent (within (after n k s))
+
+pub call-paced : {S : Type 0} {k : Machine S} {before within : S → Rules} → Ruled k before within → (budget : ℕ) (s : S) → Paced k within budget s
+call-paced {k = k} ruled budget s =
+    elim (check-cases (k .before s)) [
+      | inl e ↦ record {
+        few = rw (call-walks k s budget e .1) (walk-steps-few k budget s);
+        high = λ n l. call-going k budget s e n l .0;
+        silent = λ n l. ruled .within-renders (after n k s) .goes (call-going k budget s e n l .1);
+      }
+      | inr (r, values, e) ↦
+          let none = call-refused k s budget r values e .1 in
+          record { few = omega (arith, none); high = λ n l. absurd (omega (arith, none)); silent = λ n l. absurd (omega (arith, none)) }
+    ]
+
+-- ---- "A paused run goes on in a later call."
+
+module _ {S : Type 0} (k : Machine S) (steady : Steady k) where
+  walk-later : (n more : ℕ) (s : S) → walk n k s .answer ≡ paused → walk more k (walk n k s .state) ≡ walk (n + more) k s
+  walk-later zero more s a = rw zero-add (first (ℕ-discrete (k .height (k .settle s)) 0))
+    where
+      first : Dec (k .height (k .settle s) ≡ 0) → walk more k (walk 0 k s .state) ≡ walk more k s
+      first (yes e) = absurd (let z : _≡_ {A = ℕ} 0 1 = cc (walk-done k s 0 e .0) in omega arith)
+      first (no ne) =
+          ap (λ o. walk more k (o .state)) (walk-paused k s (omega (arith, ne)) .0) ∙ walk-settled k s (steady s) more .0
+  walk-later (suc n) more s a =
+      rw suc-add (turn (ℕ-discrete (k .height here) 0) (check-cases (k .refusals here)) (walk-later n more (k .step here)))
+    where
+      here : S
+      here = k .settle s
+
+      turn : Dec (k .height here ≡ 0) → (k .refusals here ≡ go) ⊎ ((r : ℕ) × (values : List ℕ) × (k .refusals here ≡ refuse r values))
+          → (walk n k (k .step here) .answer ≡ paused → walk more k (walk n k (k .step here) .state) ≡ walk (n + more) k (k .step here))
+          → walk more k (walk (suc n) k s .state) ≡ walk (suc (n + more)) k s
+      turn (yes e) c next = absurd (let z : _≡_ {A = ℕ} 0 1 = cc (walk-done k s (suc n) e .0) in omega arith)
+      turn (no ne) (inr (r, values, e)) next =
+          absurd (let z : _≡_ {A = ℕ} 0 1 = cc (walk-refused k s n r values (omega (arith, ne)) e .0) in omega arith)
+      turn (no ne) (inl e) next =
+          let w = walk-more k s n (omega (arith, ne)) e .0 in
+          ap (λ o. walk more k (o .state)) w ∙ next (sym (ap (λ o. o .answer) w) ∙ a) ∙ sym (walk-more k s (n + more) (omega (arith, ne)) e .0)
+
+  -- what a call with one budget and a later one with another come to, one call with both comes to
+  pub call-later : (budget more : ℕ) (s : S) → k .before s ≡ go → k .before (call budget k s .state) ≡ go → call budget k s .answer ≡ paused
+      → call more k (call budget k s .state) ≡ call (budget + more) k s
+  call-later budget more s e f a =
+      let w = call-walks k s budget e .0 in
+      call-walks k (call budget k s .state) more f .0 ∙ ap (λ o. walk more k (o .state)) w
+      ∙ walk-later budget more s (sym (ap (λ o. o .answer) w) ∙ a) ∙ sym (call-walks k s (budget + more) e .0)

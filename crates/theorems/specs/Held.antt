@@ -8,14 +8,17 @@ use native.Mathlib.Omega.{arith}
 use lib.IntN.{ℤ, pos}
 use lib.ListN.{getD, length}
 use Rattle.linear.specs.RightSides.{Extends}
-use Rattle.linear.specs.Tuples.{Same, put}
+use Rattle.linear.specs.Systems.{SolutionIn}
+use Rattle.linear.specs.TupleLaws.{least, minimal-from}
+use Rattle.linear.specs.Tuples.{AtOrBelow, Same, put}
 use Rattle.definitions.specs.Input.{Extra, Input, alone, mapOf, rights, systemOf, walkSystem}
-use Rattle.definitions.specs.System.{MinimalMeeting, MinimalSolution, System, coef, extended}
+use Rattle.definitions.specs.Reader.{atOne, atZero, rowOfEither}
+use Rattle.definitions.specs.System.{MinimalFrom, MinimalMeeting, MinimalSolution, System, coef, extended}
 use Rattle.definitions.specs.Tables.{State}
 use Rattle.laws.specs.Extended.{extends}
 use Rattle.laws.specs.RefusalLaws.{Handed, equal}
 use Rattle.theorems.specs.Link.{upToOne}
-use Rattle.theorems.specs.Listed.{Exactly, Only, Reads, only-reads}
+use Rattle.theorems.specs.Listed.{Exactly, IsRow, Only, Reads, only-reads, only-reads-at}
 use Rattle.theorems.specs.RightSides.{at-0-basis, at-1-basis, basis-at-0, basis-at-1, only-zero, zero-minimal}
 use Rattle.theorems.specs.Run.{Sound, aimOf, sound-exactly, sound-only, sound-second, sound-seconds}
 
@@ -30,11 +33,13 @@ Whole alone i s = Exactly (i .q) (MinimalSolution (mapOf i)) (s .list) (s .run .
 Whole (rights b) i s =
     Exactly (i .q) (MinimalSolution (mapOf i)) (s .list) (s .run .found) × Exactly (i .q) (MinimalMeeting (mapOf i) b) (s .second) (s .run .found₂)
 
--- what a user reads of each list
+-- what a user reads of each list; of two, "A row asked for is handed out as a part of whichever table it was asked from"
 abbrev pub Read : Extra → Input → State → Type 0
 Read alone i s = (n : ℕ) → n < s .run .found → Reads (i .q) (s .list) (s .run .found) n
 Read (rights b) i s =
     ((n : ℕ) → n < s .run .found → Reads (i .q) (s .list) (s .run .found) n) × ((n : ℕ) → n < s .run .found₂ → Reads (i .q) (s .second) (s .run .found₂) n)
+    × ((n : ℕ) → n < s .run .found → IsRow (i .q) (s .list) n (rowOfEither atZero (i .q) (s .list) (s .second) (s .run .found) (suc n)))
+    × ((n : ℕ) → n < s .run .found₂ → IsRow (i .q) (s .second) n (rowOfEither atOne (i .q) (s .list) (s .second) (s .run .found₂) (suc n)))
 
 -- rows of another set, and of as many numbers
 only-as : {q w n : ℕ} {U W : (ℕ → ℕ) → Type 0} {table : List ℕ} → w ≡ q → ((y : ℕ → ℕ) → U y → W y) → Only w U table n → Only q W table n
@@ -90,7 +95,13 @@ module _ (i : Input) (h : Handed i) (s : State) where
 
   read-for : (e : Extra) → 0 < i .q → Sound (walkSystem e i) (aimOf e) s → Part e i s → Read e i s
   read-for alone some o p = only-reads some (o .valid .shaped .q-few) p
-  read-for (rights b) some o (p, p₂) = let few = o .valid .shaped .q-few in (only-reads some (omega arith) p, only-reads some (omega arith) p₂)
+  read-for (rights b) some o (p, p₂) =
+      let few = o .valid .shaped .q-few in (
+        only-reads some (omega arith) p,
+        only-reads some (omega arith) p₂,
+        only-reads-at atZero (s .list) (s .second) some (omega arith) p,
+        only-reads-at atOne (s .list) (s .second) some (omega arith) p₂,
+      )
 
   wide-for : (e : Extra) → Sound (walkSystem e i) (aimOf e) s → 0 < i .q
   wide-for alone o = o .valid .shaped .wide
@@ -103,3 +114,13 @@ module _ (i : Input) (h : Handed i) (s : State) where
 pub zero-sides : (i : Input) (b : List ℤ) → ((k : ℕ) → k < i .p → getD b k (pos 0) ≡ pos 0)
     → MinimalMeeting (mapOf i) b (λ j. 0) × ((t : ℕ → ℕ) → MinimalMeeting (mapOf i) b t → Same (i .q) (λ j. 0) t)
 zero-sides i b zeros = (zero-minimal (i .p) (i .q) (coef (mapOf i)) _ zeros, only-zero (i .p) (i .q) (coef (mapOf i)) _ zeros)
+
+-- "the zero tuple counts: floor zero has the list "0 0 .. 0"": of every map, the minimal solution at or above 0 is 0, and no other
+pub zero-floor : (m : System) (lower : ℕ → ℕ) → ((j : ℕ) → j < m .q → lower j ≡ 0)
+    → MinimalFrom m lower (λ j. 0) × ((t : ℕ → ℕ) → MinimalFrom m lower t → Same (m .q) (λ j. 0) t)
+zero-floor m lower zeros =
+    let w : SolutionIn (m .p) (m .q) (coef m) (AtOrBelow (m .q) lower) (λ j. 0) = record {
+      solution = zero-minimal (m .p) (m .q) (coef m) (λ k. pos 0) (λ k l. refl) .holds;
+      admitted = λ j l. omega (arith, zeros j l);
+    } in
+    (minimal-from w (λ s v under j l. omega (arith, under j l)), λ t v. least v (λ j. 0) w (λ j l. omega arith))

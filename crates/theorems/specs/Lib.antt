@@ -17,6 +17,7 @@ pub mod LowerRun
 pub mod Potential
 pub mod Depth
 pub mod Equation
+pub mod Low
 pub mod Good
 pub mod OwnCalls
 pub mod Counts
@@ -27,6 +28,8 @@ pub mod Untouched
 pub mod Deepest
 pub mod StackRows
 pub mod LowerFirst
+pub mod TwoWalks
+pub mod Frames
 pub mod Demands
 pub mod Reasons
 pub mod Examples

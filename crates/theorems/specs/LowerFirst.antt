@@ -7,7 +7,7 @@ use mathlib.Core.List.{List, []}
 use Prim.Native.Nat.{ℕ, zero, suc, _+_, _*_, _≤_, _<_}
 use native.Mathlib.Omega.{arith}
 use lib.ListN.{getD}
-use Rattle.definitions.specs.Answers.{go, refused}
+use Rattle.definitions.specs.Answers.{go, paused, refused}
 use Rattle.definitions.specs.Calls.{changed, machineFrom, resumeFrom, resumeFromSteps, searchFrom, settleFrom, stepFrom}
 use Rattle.definitions.specs.Input.{Input, aboveSystem, alone, boundOf, mapOf}
 use Rattle.definitions.specs.Machine.{after, walk}
@@ -22,7 +22,7 @@ use Rattle.laws.specs.MachineLaws.{call-refused}
 use Rattle.laws.specs.RefusalLaws.{searchRules}
 use Rattle.laws.specs.TableLaws.{row-outside}
 use Rattle.laws.specs.ValidLaws.{shaped-same}
-use Rattle.theorems.specs.CallAnswers.{CallAnswers, Ruled, call-answers, goes-on, refused-again as again, refused-there}
+use Rattle.theorems.specs.CallAnswers.{CallAnswers, Paced, Ruled, call-answers, call-later, call-paced, goes-on, refused-again as again, refused-there}
 use Rattle.theorems.specs.Counts.{step-counts}
 use Rattle.theorems.specs.First.{full-only}
 use Rattle.theorems.specs.Run.{SameRows, relisted-valid, relisted-valid₂, same-fits, withList, withLists}
@@ -51,6 +51,9 @@ module _ (lower : List ℕ) (i : Input) where
       (resumeFrom budget lower i s .state .run .height) (resumeFrom budget lower i s .answer)
   resume-from-answers budget s = call-answers ruled-from budget s
 
+  pub paced-from : (budget : ℕ) (s : State) → Paced (machineFrom lower i) (searchFromRules lower i) budget s
+  paced-from budget s = call-paced ruled-from budget s
+
   -- ---- whole steps, and their number
 
   pub resume-from-after : (n : ℕ) (s : State) → resumeFromChecks lower i s ≡ go
@@ -62,6 +65,16 @@ module _ (lower : List ℕ) (i : Input) where
   left-settled n s e =
       let is = resume-from-after n s e in
       ap (settleFrom lower i) is ∙ settled-after (machineFrom lower i) steady (resumeFromSteps n lower i s) s ∙ sym is
+
+  -- one step more
+  pub next-from : (n : ℕ) (s : State) → after (n + 1) (machineFrom lower i) s ≡ settleFrom lower i (stepFrom lower i (after n (machineFrom lower i) s))
+  next-from n s =
+      after-more (machineFrom lower i) steady n 1 s ∙ one
+      ∙ ap (λ t. settleFrom lower i (stepFrom lower i t)) (settled-after (machineFrom lower i) steady n s)
+    where
+      one : after 1 (machineFrom lower i) (after n (machineFrom lower i) s)
+          ≡ settleFrom lower i (stepFrom lower i (settleFrom lower i (after n (machineFrom lower i) s)))
+      one = unfold after in refl
 
   abbrev total : State → ℕ
   total s = s .run .steps + s .run .steps₂
@@ -107,22 +120,29 @@ module _ (lower : List ℕ) (i : Input) where
 
   -- ---- what is left is in order
 
-  kept-valid : (t : State) → ValidFrom lower i t → Goes (machineFrom lower i) t → ValidFrom lower i (stepFrom lower i t)
+  pub kept-valid : (t : State) → ValidFrom lower i t → Goes (machineFrom lower i) t → ValidFrom lower i (stepFrom lower i t)
   kept-valid t v (h, f) = step-from-valid lower i t v (search-going-from lower i t v h f)
 
   module _ (is : i .extra ≡ alone) where
-    left-valid-from : (budget : ℕ) (s : State) → resumeFromChecks lower i s ≡ go → ValidFrom lower i (resumeFrom budget lower i s .state)
+    pub left-valid-from : (budget : ℕ) (s : State) → resumeFromChecks lower i s ≡ go → ValidFrom lower i (resumeFrom budget lower i s .state)
     left-valid-from budget s e =
         call-keeps (machineFrom lower i) (ValidFrom lower i) (settled-valid lower i) kept-valid budget s (resume-from-valid lower i s is e .1)
+
+    -- and is let go on again: "A paused run goes on in a later call."
+    pub left-goes-from : (budget : ℕ) (s : State) → resumeFromChecks lower i s ≡ go → resumeFromChecks lower i (resumeFrom budget lower i s .state) ≡ go
+    left-goes-from budget s e =
+        valid-resume-from lower i (resumeFrom budget lower i s .state) is (resume-from-valid lower i s is e .0) (left-valid-from budget s e)
+
+    pub paused-later-from : (budget more : ℕ) (s : State) → resumeFromChecks lower i s ≡ go → resumeFrom budget lower i s .answer ≡ paused
+        → resumeFrom more lower i (resumeFrom budget lower i s .state) ≡ resumeFrom (budget + more) lower i s
+    paused-later-from budget more s e = call-later (machineFrom lower i) steady budget more s e (left-goes-from budget s e)
 
     -- "the same call again refuses again"
     pub again-from : (budget : ℕ) (s : State) (n : ℕ) (values : List ℕ) → resumeFromChecks lower i s ≡ go
         → resumeFrom budget lower i s .answer ≡ refused n values → (more : ℕ)
         → resumeFrom (suc more) lower i (resumeFrom budget lower i s .state) ≡ record { answer = refused n values; state = resumeFrom budget lower i s .state }
     again-from budget s n values e a more =
-        let left : State = resumeFrom budget lower i s .state in
-        again ruled-from budget s steady n values e
-        (valid-resume-from lower i left is (resume-from-valid lower i s is e .0) (left-valid-from budget s e)) a more
+        again ruled-from budget s steady n values e (left-goes-from budget s e) a more
 
     -- ---- after 11
 
@@ -228,16 +248,7 @@ module _ (lower : List ℕ) (i : Input) where
               let v = after-keeps (machineFrom lower i) (ValidFrom lower i) (settled-valid lower i) kept-valid n s (resume-from-valid lower i s is c .1)
               (λ j jn. call-going (machineFrom lower i) budget s c j (omega arith)) in
               let (high, goes) = call-going (machineFrom lower i) budget s c n l in
-              let (k, same) = settle-above (stepFrom lower i t) e (rw (next n s) at h) in
-              rw (next n s) (same ∙ step-above t v (search-going-from lower i t v high goes) e k)
+              let (k, same) = settle-above (stepFrom lower i t) e (rw (next-from n s) at h) in
+              rw (next-from n s) (same ∙ step-above t v (search-going-from lower i t v high goes) e k)
           | inr (r, values, c) ↦ absurd (omega (arith, call-refused (machineFrom lower i) s budget r values c .1))
         ]
-      where
-        next : (n : ℕ) (s : State) → after (n + 1) (machineFrom lower i) s ≡ settleFrom lower i (stepFrom lower i (after n (machineFrom lower i) s))
-        next n s =
-            after-more (machineFrom lower i) steady n 1 s ∙ one
-            ∙ ap (λ t. settleFrom lower i (stepFrom lower i t)) (settled-after (machineFrom lower i) steady n s)
-          where
-            one : after 1 (machineFrom lower i) (after n (machineFrom lower i) s)
-                ≡ settleFrom lower i (stepFrom lower i (settleFrom lower i (after n (machineFrom lower i) s)))
-            one = unfold after in refl

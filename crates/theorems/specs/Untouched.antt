@@ -41,7 +41,7 @@ pub record Untouched (q w : ℕ) (s t : State) : Type 0 where
   pub second-length : length (t .second) ≡ length (s .second)
   pub past₂ : (e : ℕ) → t .run .found₂ * w ≤ e → getD (t .second) e 0 ≡ getD (s .second) e 0
 
-untouched : (q w : ℕ) (s : State) → Untouched q w s s
+pub untouched : (q w : ℕ) (s : State) → Untouched q w s s
 untouched q w s = record { stack-length = refl; beyond = λ e l. refl; list-length = refl; past = λ e l. refl; second-length = refl; past₂ = λ e l. refl }
 
 -- ---- one step

@@ -98,6 +98,9 @@ module _ {S : Type 0} (k : Machine S) where
     after-keeps zero s p g = settles s p
     after-keeps (suc n) s p g = after-keeps n (k .step (k .settle s)) (keep (k .settle s) (settles s p) (g 0 (omega arith))) (λ i l. g (suc i) (omega arith))
 
+    pub walk-keeps : (n : ℕ) (s : S) → P s → P (walk n k s .state)
+    walk-keeps n s p = rw (walked n s .state) (after-keeps (walkSteps n k s) s p (walk-going n s))
+
     pub call-keeps : (n : ℕ) (s : S) → P s → P (call n k s .state)
     call-keeps n s p =
         elim (check-cases (k .before s)) [

@@ -1,25 +1,34 @@
 -- WHAT THE TRAINING SEAT PROMISES. Open this file first. Assumes nothing.
 use mathlib.Core.Path.{_≡_, refl, _∙_, ap}
 use mathlib.Core.Logic.{inl, inr}
-use mathlib.Core.List.{List, _∷_}
-use Prim.Native.Nat.{ℕ, zero, suc}
+use mathlib.Core.List.{List, _∷_, []}
+use Prim.Native.Nat.{ℕ, zero, suc, _<_}
 use native.Mathlib.Omega.{arith}
 use lib.IntN.{ℤ}
-use Rattle.definitions.specs.Answers.{Answer, complete, go, paused, started}
-use Rattle.definitions.specs.Calls.{changed, machine, machineFrom, resume, settleFrom, start, stepFrom}
-use Rattle.definitions.specs.Input.{Input, aboveSystem, inputOf, mapOf, systemOf}
-use Rattle.definitions.specs.Machine.{Outcome, after, checked}
+use Rattle.definitions.specs.Answers.{Answer, complete, go, paused, refuse, refused, started}
+use Rattle.definitions.specs.Calls.{machine, machineFrom, resume, settleFrom, start, startFrom, stepFrom}
+use Rattle.definitions.specs.Input.{Input, boundOf, inputOf, mapOf, systemOf}
+use Rattle.definitions.specs.Machine.{Outcome, after, checked, walk}
 use Rattle.definitions.specs.Step.{step}
-use Rattle.definitions.specs.Tables.{Run, State, byWalk, cappedRun, deskByDesk, lowerAbove, lowerPlain, lowerStart, plainPart, plainRun, unitsStart, wholeOf}
+use Rattle.definitions.specs.System.{MinimalFrom, MinimalSolution}
+use Rattle.definitions.specs.Tables.{State, capacity}
 use Rattle.laws.specs.CheckLaws.{check-cases}
 use Rattle.laws.specs.LimitLaws.{step-limit}
 use Rattle.laws.specs.MachineLaws.{call-refused}
-use Rattle.theorems.specs.CallAnswers.{CallAnswers, Ruled, StartAnswers, call-answers, start-answers, started-goes}
-use Rattle.theorems.specs.Demands.{ThirdDemand, third-demand}
+use Rattle.theorems.specs.CallAnswers.{CallAnswers, Ruled, StartAnswers, call-answers, start-answers}
+use Rattle.theorems.specs.Demands.{Lists, ListsFrom, ThirdDemand, third-demand}
+use Rattle.theorems.specs.Listed.{Exactly}
+use Rattle.theorems.specs.LowerFirst.{RoomBy}
 use Rattle.theorems.specs.OwnCalls.{Log, Orderly, Pausing, completed, more, none, pausing}
+use Rattle.theorems.specs.Run.{SameRows, withList, withLists}
 use Rattle.theorems.specs.Series.{Series, own}
 use Rattle.theorems.specs.Third.{Premises}
+use Rattle.theorems.specs.Untouched.{Untouched}
 use Rattle.theorems.specs.WholeSteps.{called}
+use Rattle.training_form.specs.Office.{AsOffice, call-office, call-office-from, settle-office, start-office, start-office-from, step-from-office}
+use Rattle.training_form.specs.SeatRuns.{SeatRun, SeatRunFrom, seat-again, seat-again-from, seat-finished, seat-finished-from, seat-goes, seat-goes-from}
+use Rattle.training_form.specs.SeatRuns.{seat-lists, seat-lists-from, seat-longer, seat-longer-from, seat-start-untouched, seat-untouched}
+use Rattle.training_form.specs.SeatRuns.{seat-untouched-from}
 use Rattle.training_form.specs.Training.{seatInput, seatLowerChecks, seatMachine, seatMachineFrom, seatResume, seatResumeChecks, seatResumeFrom}
 use Rattle.training_form.specs.Training.{seatResumeFromChecks, seatStart, seatStartChecks, seatStartFrom, seatSteps, seatStepsFrom}
 use Rattle.training_form.specs.TrainingRules.{renumber, renumbered, seat-lower-renders, seat-resume-from-renders, seat-resume-renders, seat-resumes}
@@ -34,38 +43,6 @@ after-office p q coefs zero s = refl
 after-office p q coefs (suc n) s =
     ap (λ t. after n (seatMachine (seatInput p q coefs)) t) (step-limit (systemOf (inputOf p q coefs)) 20 s)
     ∙ after-office p q coefs n (step (systemOf (inputOf p q coefs)) s)
-
--- a step of either walk of a run from a lower bound does not depend on the limit
-step-from-office : (p q : ℕ) (coefs : List ℤ) (lower : List ℕ) (s : State) → stepFrom lower (seatInput p q coefs) s ≡ stepFrom lower (inputOf p q coefs) s
-unfolding stepFrom
-step-from-office p q coefs lower s = go (s .run .kind)
-  where
-    plainly : step (mapOf (seatInput p q coefs)) (plainPart s) ≡ step (mapOf (inputOf p q coefs)) (plainPart s)
-    plainly = step-limit (mapOf (inputOf p q coefs)) 20 (plainPart s)
-
-    further : step (aboveSystem lower (seatInput p q coefs)) s ≡ step (aboveSystem lower (inputOf p q coefs)) s
-    further = step-limit (aboveSystem lower (inputOf p q coefs)) 20 s
-
-    go : (r : Run)
-        → byWalk r (wholeOf (s .run .deepest) (step (mapOf (seatInput p q coefs)) (plainPart s))) (step (aboveSystem lower (seatInput p q coefs)) s)
-        ≡ byWalk r (wholeOf (s .run .deepest) (step (mapOf (inputOf p q coefs)) (plainPart s))) (step (aboveSystem lower (inputOf p q coefs)) s)
-    go plainRun = further
-    go cappedRun = further
-    go lowerPlain = ap (wholeOf (s .run .deepest)) plainly
-    go lowerAbove = further
-    go deskByDesk = further
-
-settle-office : (p q : ℕ) (coefs : List ℤ) (lower : List ℕ) (s : State) → settleFrom lower (seatInput p q coefs) s ≡ settleFrom lower (inputOf p q coefs) s
-unfolding settleFrom
-settle-office p q coefs lower s = go (s .run .kind) (s .run .height)
-  where
-    go : (r : Run) (h : ℕ) → changed r h lower (seatInput p q coefs) s ≡ changed r h lower (inputOf p q coefs) s
-    go plainRun h = refl
-    go cappedRun h = refl
-    go lowerPlain zero = refl
-    go lowerPlain (suc h) = refl
-    go lowerAbove h = refl
-    go deskByDesk h = refl
 
 after-office-from : (p q : ℕ) (coefs : List ℤ) (lower : List ℕ) (n : ℕ) (s : State)
     → after n (seatMachineFrom lower (seatInput p q coefs)) s ≡ after n (machineFrom lower (inputOf p q coefs)) s
@@ -98,16 +75,52 @@ pub record TrainingPromise (p q : ℕ) (coefs : List ℤ) : Type 0 where
   pub continues-from : (lower : List ℕ) (budget : ℕ) (s : State) → let i = seatInput p q coefs in let o = seatResumeFrom budget lower i s in
       CallAnswers (seatResumeFromRules lower i s) (seatSearchFromRules lower i (o .state)) budget (seatStepsFrom budget lower i s)
       (o .state .run .height) (o .answer)
-  -- "A training run that is not refused lists what the office run lists after as many steps.": its start leaves what the office's leaves, and each of its calls
-  -- what as many steps of the office's machine leave, in tables and record
-  pub as-started : (s : State) → seatStart (seatInput p q coefs) s .answer ≡ started
-      → seatStart (seatInput p q coefs) s .state ≡ unitsStart (systemOf (inputOf p q coefs)) s
+  -- "A training run that is not refused lists what the office run lists after as many steps.": its start is the office's, and each of its calls that is let go
+  -- on is let go on by the office, whose call takes as many steps to the same tables and record, and gives the same answer unless that is 24
+  pub as-started : (s : State) → seatStart (seatInput p q coefs) s .answer ≡ started → start (inputOf p q coefs) s ≡ seatStart (seatInput p q coefs) s
   pub as-started-from : (lower : List ℕ) (s : State) → seatStartFrom lower (seatInput p q coefs) s .answer ≡ started
-      → seatStartFrom lower (seatInput p q coefs) s .state ≡ lowerStart (mapOf (inputOf p q coefs)) s
-  pub as-office : (budget : ℕ) (s : State)
+      → startFrom lower (inputOf p q coefs) s ≡ seatStartFrom lower (seatInput p q coefs) s
+  pub as-office : (budget : ℕ) (s : State) → seatResumeChecks (seatInput p q coefs) s ≡ go
+      → AsOffice budget (seatMachine (seatInput p q coefs)) (machine (inputOf p q coefs)) s
+  pub as-office-from : (lower : List ℕ) (budget : ℕ) (s : State) → seatResumeFromChecks lower (seatInput p q coefs) s ≡ go
+      → AsOffice budget (seatMachineFrom lower (seatInput p q coefs)) (machineFrom lower (inputOf p q coefs)) s
+  -- a refusal before the walk changes nothing lent, one within it leaves the state after the last whole step; the steps are the office's
+  pub unchanged : (budget : ℕ) (s : State) (n : ℕ) (values : List ℕ) → seatResumeChecks (seatInput p q coefs) s ≡ refuse n values
+      → seatResume budget (seatInput p q coefs) s ≡ record { answer = refused n values; state = s }
+  pub unchanged-from : (lower : List ℕ) (budget : ℕ) (s : State) (n : ℕ) (values : List ℕ) → seatResumeFromChecks lower (seatInput p q coefs) s ≡ refuse n values
+      → seatResumeFrom budget lower (seatInput p q coefs) s ≡ record { answer = refused n values; state = s }
+  pub whole-steps : (budget : ℕ) (s : State)
       → seatResume budget (seatInput p q coefs) s .state ≡ after (seatSteps budget (seatInput p q coefs) s) (machine (inputOf p q coefs)) s
-  pub as-office-from : (lower : List ℕ) (budget : ℕ) (s : State) → let i = seatInput p q coefs in seatResumeFromChecks lower i s ≡ go
+  pub whole-steps-from : (lower : List ℕ) (budget : ℕ) (s : State) → let i = seatInput p q coefs in seatResumeFromChecks lower i s ≡ go
       → seatResumeFrom budget lower i s .state ≡ after (seatStepsFrom budget lower i s) (machineFrom lower (inputOf p q coefs)) s
+  -- "the same call again refuses again"; "after 11 a longer list table with the same rows may be given"
+  pub again : (budget : ℕ) (s : State) (n : ℕ) (values : List ℕ) → let i = seatInput p q coefs in let o = seatResume budget i s in seatResumeChecks i s ≡ go
+      → o .answer ≡ refused n values → (more : ℕ) → seatResume (suc more) i (o .state) ≡ record { answer = refused n values; state = o .state }
+  pub again-from : (lower : List ℕ) (budget : ℕ) (s : State) (n : ℕ) (values : List ℕ) → let i = seatInput p q coefs in let o = seatResumeFrom budget lower i s in
+      seatResumeFromChecks lower i s ≡ go → o .answer ≡ refused n values → (more : ℕ)
+      → seatResumeFrom (suc more) lower i (o .state) ≡ record { answer = refused n values; state = o .state }
+  pub longer : (budget : ℕ) (s : State) → let i = seatInput p q coefs in let o = seatResume budget i s in let t = o .state in
+      seatResumeChecks i s ≡ go → o .answer ≡ refused 11 [] → (list : List ℕ) → SameRows q (t .run .found) (t .list) list → t .run .found < capacity q list
+      → (more : ℕ) → seatResume (suc more) i (withList t list) ≡ walk more (seatMachine i) (step (systemOf i) (withList t list))
+  pub longer-from : (lower : List ℕ) (budget : ℕ) (s : State) → let i = seatInput p q coefs in let o = seatResumeFrom budget lower i s in let t = o .state in
+      seatResumeFromChecks lower i s ≡ go → o .answer ≡ refused 11 [] → (list second : List ℕ)
+      → SameRows q (t .run .found) (t .list) list → SameRows q (t .run .found₂) (t .second) second → RoomBy q (t .run .kind) (withLists t list second)
+      → (more : ℕ) → seatResumeFrom (suc more) lower i (withLists t list second) ≡ walk more (seatMachineFrom lower i) (stepFrom lower i (withLists t list second))
+  -- "entries beyond them are never touched", "List rows past the found count are not touched."
+  pub untouched : (s : State) → Untouched q q s (seatStart (seatInput p q coefs) s .state)
+      × ((budget : ℕ) → Untouched q q s (seatResume budget (seatInput p q coefs) s .state))
+      × ((lower : List ℕ) (budget : ℕ) → Untouched q q s (seatResumeFrom budget lower (seatInput p q coefs) s .state))
+  -- the second demand, of the seat's own calls: they are let go on, and the lists hold what the core's hold; finished, all of it
+  pub goes : (s : State) → SeatRun p q coefs s → seatResumeChecks (seatInput p q coefs) s ≡ go
+  pub lists : (s : State) → SeatRun p q coefs s → Lists (seatInput p q coefs) s
+  pub finished : (s : State) → SeatRun p q coefs s → (budget : ℕ) → let o = seatResume budget (seatInput p q coefs) s in o .answer ≡ complete
+      → Exactly q (MinimalSolution (mapOf (seatInput p q coefs))) (o .state .list) (o .state .run .found)
+  pub goes-from : (lower : List ℕ) (s : State) → SeatRunFrom lower p q coefs s → seatResumeFromChecks lower (seatInput p q coefs) s ≡ go
+  pub lists-from : (lower : List ℕ) (s : State) → SeatRunFrom lower p q coefs s → ListsFrom lower (seatInput p q coefs) s
+  pub finished-from : (lower : List ℕ) (s : State) → SeatRunFrom lower p q coefs s → (budget : ℕ) → let o = seatResumeFrom budget lower (seatInput p q coefs) s in
+      o .answer ≡ complete
+      → Exactly q (MinimalFrom (mapOf (seatInput p q coefs)) (boundOf lower)) (o .state .list) (o .state .run .found)
+      × Exactly q (MinimalSolution (mapOf (seatInput p q coefs))) (o .state .second) (o .state .run .found₂)
   -- "The one-equation promise holds under any limit of at least D, so there if D is at most 20": the premises say so, and the seat's calls along such a series
   -- are those that the promise is about
   pub one-equation : (s₀ : State) → seatFirst (seatInput p q coefs) ≡ go → Premises (seatInput p q coefs) s₀ → (g : Log State)
@@ -158,10 +171,25 @@ module _ (p q : ℕ) (coefs : List ℤ) where
         starts-from = λ lower s. start-answers (seatLowerChecks lower i s) s _ refl (seatLowerRules lower i s) (seat-lower-renders i s lower);
         continues = λ budget s. call-answers ruled budget s;
         continues-from = λ lower budget s. call-answers (ruled-from lower) budget s;
-        as-started = λ s e. ap (λ o. o .state) (started-goes (seatStartChecks i s) s _ e .1) ∙ (unfold unitsStart in refl);
-        as-started-from = λ lower s e. ap (λ o. o .state) (started-goes (seatLowerChecks lower i s) s _ e .1) ∙ (unfold lowerStart in refl);
-        as-office-from =
+        as-started = start-office p q coefs;
+        as-started-from = start-office-from p q coefs;
+        as-office = call-office p q coefs;
+        as-office-from = call-office-from p q coefs;
+        unchanged = λ budget s n values e. call-refused (seatMachine i) s budget n values e .0;
+        unchanged-from = λ lower budget s n values e. call-refused (seatMachineFrom lower i) s budget n values e .0;
+        whole-steps = λ budget s. seat-after i budget s ∙ after-office p q coefs (seatSteps budget i s) s;
+        whole-steps-from =
             λ lower budget s e. called (seatMachineFrom lower i) budget s e .state ∙ after-office-from p q coefs lower (seatStepsFrom budget lower i s) s;
-        as-office = λ budget s. seat-after i budget s ∙ after-office p q coefs (seatSteps budget i s) s;
+        again = seat-again p q coefs;
+        again-from = seat-again-from p q coefs;
+        longer = seat-longer p q coefs;
+        longer-from = seat-longer-from p q coefs;
+        untouched = λ s. (seat-start-untouched p q coefs s, λ budget. seat-untouched p q coefs budget s, λ lower budget. seat-untouched-from p q coefs lower budget s);
+        goes = seat-goes p q coefs;
+        lists = seat-lists p q coefs;
+        finished = seat-finished p q coefs;
+        goes-from = seat-goes-from p q coefs;
+        lists-from = seat-lists-from p q coefs;
+        finished-from = seat-finished-from p q coefs;
         one-equation = one;
       }

@@ -141,11 +141,11 @@ renumber-search false true c = refl
 renumber-search false false true = refl
 renumber-search false false false = refl
 
-seat-search : (m : System) (s : State) → seatSearch m s ≡ renumberCheck (searchChecks m s)
+pub seat-search : (m : System) (s : State) → seatSearch m s ≡ renumberCheck (searchChecks m s)
 unfolding seatSearch searchChecks
 seat-search m s = renumber-search (eqb (s .run .steps) stepLimit) _ _
 
-seat-search-from : (lower : List ℕ) (i : Input) (s : State) → seatSearchFrom lower i s ≡ renumberCheck (searchFrom lower i s)
+pub seat-search-from : (lower : List ℕ) (i : Input) (s : State) → seatSearchFrom lower i s ≡ renumberCheck (searchFrom lower i s)
 unfolding seatSearchFrom searchFrom
 seat-search-from lower i s = go (s .run .kind)
   where
@@ -178,7 +178,7 @@ checked-renumbered go s f g e = e s
 -- a machine that is another with 24 for 12 in its refusals
 module _ (k c : Machine State) (settles : (s : State) → k .settle s ≡ c .settle s) (height : (s : State) → k .height s ≡ c .height s)
     (refusals : (s : State) → k .refusals s ≡ renumberCheck (c .refusals s)) (steps : (s : State) → k .step s ≡ c .step s) where
-  walk-renumbered : (n : ℕ) (s : State) → walk n k s ≡ renumbered (walk n c s)
+  pub walk-renumbered : (n : ℕ) (s : State) → walk n k s ≡ renumbered (walk n c s)
   unfolding walk
   walk-renumbered zero s = rw (settles s, height (c .settle s)) (unless-renumbered (eqb (c .height (c .settle s)) 0) (c .settle s) _ _ refl)
   walk-renumbered (suc n) s =

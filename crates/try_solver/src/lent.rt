@@ -3,7 +3,7 @@ ghost use mathlib.Core.Path.{_≡_};
 ghost use Prim.Native.Nat.{ℕ};
 ghost use Rattle.definitions.specs.Calls.{start, startFrom, resume, resumeFrom};
 ghost use Rattle.definitions.specs.System.{mostComponent};
-ghost use Rattle.definitions.specs.Input.{inputOf, inputWith, rights as sides};
+ghost use Rattle.definitions.specs.Input.{alone, inputOf, inputWith, rights as sides};
 ghost use Rattle.calls.specs.Paper.{stateOf, stateWith, outcomeOf, outcomeWith};
 ghost use Rattle.solver.specs.Reading.{shownPart};
 use calls::Outcome;
@@ -19,8 +19,9 @@ pub fn started(
     list: &mut [u32],
     r: Record,
 ) -> Outcome
-    ensures { λ o. ⌜ outcomeOf o (now (stack .exit)) (now (list .exit)) ≡
-        start (inputOf p q (now (coefs .entry))) (stateOf (now (stack .entry)) (now (list .entry)) r) ⌝ }
+    ensures { λ o. ⌜ ((limit : ℕ)
+        → outcomeOf o (now (stack .exit)) (now (list .exit)) ≡
+        start (inputWith alone limit p q (now (coefs .entry))) (stateOf (now (stack .entry)) (now (list .entry)) r)) ⌝ }
 {
     let mut run = r;
     let answer = solver::start(p, q, coefs, stack, list, &mut run);

@@ -1,4 +1,5 @@
 -- `start` meets its contract: what the start by value answered and left is told on, or what the continuing call told. Assumes nothing.
+use Rattle.definitions.specs.System.{mostComponent}
 use mathlib.Core.Path.{_∙_}
 use borrow.Author.Needs.{needs}
 use Rattle.record_words.specs.CodeLaws.{answer-fits, start-fits}
@@ -10,7 +11,7 @@ use Rattle.call_words.proofs.start.Tie as tie
 tell-requires : tie.Need-tell-requires
 tell-requires c κs =
     let w = c .before .before .before .before .before in
-    answer-fits (w .started .ensures) (start-fits _ _)
+    answer-fits (w .started .ensures mostComponent) (start-fits _ _)
 
 returns : tie.Need-returns
 unfolding startWords
@@ -18,7 +19,7 @@ returns c =
     let t = c .before .before in
     let w = t .before .before .before .before .before .before in
     let r = w .before .before .before in
-    call-told _ (rw (r .read .ensures) at (w .started .ensures) ∙ begun-fitting _ _ _ (r .before .before .if1 .taken))
+    call-told _ (rw (r .read .ensures) at (w .started .ensures mostComponent) ∙ begun-fitting _ _ _ (r .before .before .if1 .taken))
     (t .tell .ensures .0)
     (t .tell .ensures .1)
 

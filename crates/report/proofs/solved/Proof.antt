@@ -1,4 +1,5 @@
 -- `solved` meets its contract. Assumes nothing.
+use Rattle.definitions.specs.System.{mostComponent}
 use borrow.Author.Needs.{needs}
 use Rattle.report.specs.Printed as paper
 use Rattle.report.specs.RunLaws.{ran-is, ran-fits}
@@ -35,7 +36,7 @@ ran-requires c κs =
     let b = e .before .before .before .before .before .before in
     let n = b .before .before .before in
     let a = n .before .before .args in
-    let run = ran-is (a .p) (a .q) (a .coefs .now) _ (rw (n .new .ensures) at (b .started .ensures)) (e .resumed .ensures) in
+    let run = ran-is (a .p) (a .q) (a .coefs .now) _ (rw (n .new .ensures) at (b .started .ensures mostComponent)) (e .resumed .ensures) in
     (search needs, ran-fits (a .p) (a .q) (a .coefs .now) run, search needs)
 
 same-length : tie.Need-same-length
@@ -49,7 +50,7 @@ returns c =
     let b = e .before .before .before .before .before .before in
     let n = b .before .before .before in
     let a = n .before .before .args in
-    rw (← ran-is (a .p) (a .q) (a .coefs .now) _ (rw (n .new .ensures) at (b .started .ensures)) (e .resumed .ensures)) (r .ran .ensures)
+    rw (← ran-is (a .p) (a .q) (a .coefs .now) _ (rw (n .new .ensures) at (b .started .ensures mostComponent)) (e .resumed .ensures)) (r .ran .ensures)
 
 pub solved-spec : {M : Type 1} → statement M
 solved-spec =

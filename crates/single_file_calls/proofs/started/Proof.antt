@@ -1,4 +1,5 @@
 -- `started` meets its contract. The check decides, and then the plain call does the work. Assumes nothing.
+use Rattle.definitions.specs.System.{mostComponent}
 use Rattle.calls.specs.CallLaws.{call-passed, call-refused}
 use Rattle.single_file.specs.Calls.{singleStart}
 use borrow.Author.Needs.{needs}
@@ -45,7 +46,7 @@ returns-2 c =
     let w = c .before .before .before .before in
     let t = w .before .before .before in
     let k = t .before .before in
-    call-passed (k .check-start .ensures) _ _ (t .enum-told .given .1) (w .started .ensures)
+    call-passed (k .check-start .ensures) _ _ (t .enum-told .given .1) (w .started .ensures mostComponent)
 
 pub started-spec : {M : Type 1} → statement M
 started-spec =

@@ -4,6 +4,7 @@ use Rattle.definitions.specs.Tables.{unitsStart}
 use Rattle.definitions.specs.Calls.{start}
 use Rattle.laws.specs.RefusalLaws.{start-shaped}
 use Rattle.calls.specs.CallLaws.{call-refused, call-passed, passes}
+use Rattle.starts.specs.Begin.{for-every}
 use Rattle.starts.proofs.started.Statement.{statement}
 use Rattle.starts.proofs.started.Tie as tie
 
@@ -40,7 +41,7 @@ unfolding start
 returns c =
     let w = c .before .before in
     let k = w .before .before in
-    rw (c .refused .ensures) (call-refused (k .check-start .ensures) _ _ (w .why .given .1))
+    for-every _ _ _ _ (rw (c .refused .ensures) (call-refused (k .check-start .ensures) _ _ (w .why .given .1)))
 
 same-length-3 : tie.Need-same-length-3
 same-length-3 c = search needs
@@ -54,7 +55,7 @@ returns-2 c =
     let w = c .before .before .before in
     let t = w .before .before in
     let k = t .before .before in
-    call-passed (k .check-start .ensures) _ _ (t .enum-told .given .1) (rw (c .begun .ensures, w .write-units .ensures))
+    for-every _ _ _ _ (call-passed (k .check-start .ensures) _ _ (t .enum-told .given .1) (rw (c .begun .ensures, w .write-units .ensures)))
 
 pub started-spec : {M : Type 1} → statement M
 started-spec =

@@ -1,4 +1,5 @@
 -- `started` meets its contract: the seat's own check decides, and then the core's start does the work. Assumes nothing.
+use Rattle.definitions.specs.System.{mostComponent}
 use Rattle.training.specs.Seat.{start-passed, start-refused}
 use borrow.Author.Needs.{needs}
 use Rattle.training.proofs.started.Statement.{statement}
@@ -34,7 +35,7 @@ returns-2 : tie.Need-returns-2
 returns-2 c =
     let w = c .before .before .before .before in
     let t = w .before .before .before in
-    start-passed _ _ _ _ (t .before .before .check .ensures) (t .enum-told .given .1) (w .started .ensures)
+    start-passed _ _ _ _ (t .before .before .check .ensures) (t .enum-told .given .1) (w .started .ensures mostComponent)
 
 pub started-spec : {M : Type 1} → statement M
 started-spec =

@@ -1,14 +1,16 @@
 -- `dispatch_words::read::record` meets its contract. Assumes nothing.
 use borrow.Author.Needs.{needs}
-use Rattle.record_words.specs.Words.{recordIn}
 use Rattle.dispatch_words.proofs.read.record.Statement.{statement}
 use Rattle.dispatch_words.proofs.read.record.Tie as tie
+
+add-word : tie.Need-add-word
+add-word c = search needs
 
 word-requires : tie.Need-word-requires
 word-requires c κs = search needs
 
-add-word : tie.Need-add-word
-add-word c = search needs
+kind-at-requires : tie.Need-kind-at-requires
+kind-at-requires c κs = search needs
 
 word-requires-2 : tie.Need-word-requires-2
 word-requires-2 c κs = search needs
@@ -43,39 +45,37 @@ add-word-6 c = search needs
 word-requires-7 : tie.Need-word-requires-7
 word-requires-7 c κs = search needs
 
-slice-aggregate-read : tie.Need-slice-aggregate-read
-slice-aggregate-read c = search needs
-
-read-requires : tie.Need-read-requires
-read-requires c κs = search needs
+of-requires : tie.Need-of-requires
+of-requires c κs = search needs
 
 returns : tie.Need-returns
-unfolding recordIn
 returns c =
-    let w7 = c .before .before in
+    let w7 = c .before in
     let w6 = w7 .before in
     let w5 = w6 .before in
     let w4 = w5 .before in
     let w3 = w4 .before in
     let w2 = w3 .before in
-    let w1 = w2 .before in
+    let k = w2 .before in
     rw (
-      c .read .ensures,
+      c .of .ensures,
       w7 .word7 .ensures,
       w6 .word6 .ensures,
       w5 .word5 .ensures,
       w4 .word4 .ensures,
       w3 .word3 .ensures,
       w2 .word2 .ensures,
-      w1 .word .ensures,
+      k .kind-at .ensures,
+      k .before .word .ensures,
     )
 
 pub record-spec : {M : Type 1} → statement M
 record-spec =
     tie.close
     (tie.spec
-    word-requires
     add-word
+    word-requires
+    kind-at-requires
     word-requires-2
     add-word-2
     word-requires-3
@@ -87,6 +87,5 @@ record-spec =
     word-requires-6
     add-word-6
     word-requires-7
-    slice-aggregate-read
-    read-requires
+    of-requires
     returns)

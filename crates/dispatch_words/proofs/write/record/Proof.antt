@@ -4,6 +4,15 @@ use Rattle.dispatch_words.specs.WordLaws.{record-left, record-written}
 use Rattle.dispatch_words.proofs.write.record.Statement.{statement}
 use Rattle.dispatch_words.proofs.write.record.Tie as tie
 
+add-if1 : tie.Need-add-if1
+add-if1 c = search needs
+
+mul-if1 : tie.Need-mul-if1
+mul-if1 c = search needs
+
+slice-read-if1 : tie.Need-slice-read-if1
+slice-read-if1 c = search needs
+
 counts-requires : tie.Need-counts-requires
 counts-requires c κs = search needs
 
@@ -26,6 +35,9 @@ pub record-spec : {M : Type 1} → statement M
 record-spec =
     tie.close
     (tie.spec
+    add-if1
+    mul-if1
+    slice-read-if1
     counts-requires
     others-requires
     same-length

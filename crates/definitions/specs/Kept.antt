@@ -1,0 +1,114 @@
+-- What the starred runs do not show of the definitions, as one claim by computation: that six rows listed stay as they are, and with them the count of a second
+-- list; how many steps a call takes; refusals 12 and 14 after several steps; a lower bound of four zeros; and the reader of one list where there is no row.
+-- Assumes nothing.
+use Prim.Native.Nat.{ℕ, _-_}
+use mathlib.Core.Path.{_≡_, refl}
+use mathlib.Core.List.{List, _∷_, []}
+use lib.IntN.{ℤ, pos, negsuc}
+use lib.ListN.{length, replicate}
+use Rattle.linear.specs.Sums.{sumTo}
+use Rattle.linear.specs.Tests.{allTo, anyTo, countTo}
+use Rattle.linear.specs.Tuples.{total, unit}
+use Rattle.linear.specs.Systems.{inner, value}
+use Rattle.definitions.specs.Answers.{Answer, complete, refused, refuseWith, _then_, refuseFirst}
+use Rattle.definitions.specs.System.{covered, isAtOrBelow, solves}
+use Rattle.definitions.specs.Input.{Input, inputOf}
+use Rattle.definitions.specs.Tables.{State, bit, deskByDesk, frozen, lowerStart, lowered, unitsStart, unitsTo, writeRow, writeTo}
+use Rattle.definitions.specs.Step.{grown, listed, makes, marksTo, step, writeChildren}
+use Rattle.definitions.specs.Refusals.{check7, inOrder, inOrderFrom, lowerChecks, resumeChecks, resumeFromChecks, rowFits, searchChecks, startChecks}
+use Rattle.definitions.specs.Refusals.{stepLimit, tooLarge}
+use Rattle.definitions.specs.Machine.{Outcome, call, callSteps, checked, moved, stepsIf, unlessDone, walk, walkSteps}
+use Rattle.definitions.specs.Calls.{resume, resumeFrom, resumeSteps, searchFrom, settleFrom, start, startFrom, stepFrom}
+use Rattle.definitions.specs.Reader.{hasRow, none, refused as refusedRow, rowPart, showIf, shown, shownBy}
+
+one : List ℤ → Input
+one coefs = inputOf 1 (length coefs) coefs
+
+-- tables with old content
+lent : State
+lent =
+    record {
+      stack = replicate 20 9;
+      list = replicate 24 9;
+      second = replicate 24 9;
+      run = record { kind = deskByDesk; height = 9; found = 9; steps = 9; found₂ = 9; steps₂ = 9; deepest = 9 };
+    }
+
+-- −1 1 2 −3: "the six solutions of example 4", in 17 steps
+six : Input
+six = one (negsuc 0 ∷ pos 1 ∷ pos 2 ∷ negsuc 2 ∷ [])
+
+begun : State
+begun = start six lent .state
+
+rows : List ℕ
+rows =
+    0 ∷ 0 ∷ 3 ∷ 2 ∷ 0 ∷ 1 ∷ 1 ∷ 1 ∷ 0 ∷ 3 ∷ 0 ∷ 1 ∷ 1 ∷ 0 ∷ 2 ∷ 1 ∷ 2 ∷ 0 ∷ 1 ∷ 0 ∷ 1 ∷ 1 ∷ 0 ∷ 0 ∷ []
+
+-- the same, one step before 1,000,000,000,000
+late : State
+late =
+    record {
+      stack = begun .stack;
+      list = begun .list;
+      second = begun .second;
+      run = record { kind = begun .run .kind; height = begun .run .height; found = 0; steps = stepLimit - 1; found₂ = 0; steps₂ = 0; deepest = 0 };
+    }
+
+-- from a lower bound, to its end
+above : Input → List ℕ → Outcome State
+above i lower = resumeFrom 1000 lower i (startFrom lower i lent .state)
+
+record Facts : Type 0 where
+  -- the rows listed, and what the second list counts
+  answer : Answer
+  list : List ℕ
+  found₂ : ℕ
+  -- the steps taken on allowances 7 and 1000
+  taken : List ℕ
+  -- 14 after one step, and 12 after three floor steps
+  fourteen : Answer
+  steps : ℕ
+  twelve : Answer
+  floor-steps : ℕ
+  -- from floor 0 0 0 0
+  zeros : List ℕ
+
+abbrev of : Outcome State → Outcome State → Outcome State → Outcome State → Facts
+of o l u z =
+    record {
+      answer = o .answer;
+      list = o .state .list;
+      found₂ = o .state .run .found₂;
+      taken = resumeSteps 7 six begun ∷ resumeSteps 1000 six begun ∷ [];
+      fourteen = l .answer;
+      steps = l .state .run .steps;
+      twelve = u .answer;
+      floor-steps = u .state .run .steps;
+      zeros = z .state .run .found ∷ z .state .list;
+    }
+
+facts-hold : of (resume 1000 six begun) (resume 5 six late) (above (one (pos 2 ∷ negsuc 0 ∷ [])) (1000000 ∷ 999997 ∷ []))
+    (above six (0 ∷ 0 ∷ 0 ∷ 0 ∷ []))
+    ≡ record {
+      answer = complete;
+      list = rows;
+      found₂ = 0;
+      taken = 7 ∷ 17 ∷ [];
+      fourteen = refused 14 [];
+      steps = stepLimit;
+      twelve = refused 12 [];
+      floor-steps = 3;
+      zeros = 1 ∷ 0 ∷ 0 ∷ 0 ∷ 0 ∷ replicate 20 9;
+    }
+unfolding one lent six begun rows late above sumTo inner value unit total allTo anyTo countTo refuseWith _then_ refuseFirst solves isAtOrBelow covered bit
+    frozen writeTo writeRow unitsTo unitsStart lowerStart lowered makes marksTo writeChildren listed grown step rowFits inOrder inOrderFrom check7
+    startChecks lowerChecks resumeChecks resumeFromChecks tooLarge searchChecks checked start startFrom settleFrom searchFrom stepFrom unlessDone walk call
+    callSteps walkSteps moved stepsIf
+facts-hold = refl
+
+-- "A reader for q outside 1 to 16 is refused with 2."; "there is none at 0, past the found count or past the room"
+reader-holds : (shown 0 rows 6 1 ≡ refusedRow 2 []) × (shown 17 rows 6 1 ≡ refusedRow 2 []) × (shown 4 rows 6 0 ≡ none) × (shown 4 rows 2 3 ≡ none)
+    × (shown 4 rows 7 7 ≡ none)
+unfolding rows shown shownBy refuseWith showIf hasRow rowPart
+reader-holds = (refl, refl, refl, refl, refl)
