@@ -1,19 +1,19 @@
--- What the starred runs do not show of the definitions, as one claim by computation: that six rows listed stay as they are, and with them the count of a second
--- list; how many steps a call takes; refusals 12 and 14 after several steps; a lower bound of four zeros; and the reader of one list where there is no row.
--- Assumes nothing.
+-- What the starred runs do not show of the definitions, by computation: that six rows listed stay as they are, and with them the count of a second list and the
+-- greatest sum; how many steps a call takes, and that a paused run goes on to the same end; a plain run to a component above 20; refusals 12 and 14 after
+-- several steps; a lower bound of four zeros; rows out of order by their marks; and the reader of one list where there is no row. Assumes nothing.
 use Prim.Native.Nat.{ℕ, _-_}
 use mathlib.Core.Path.{_≡_, refl}
-use mathlib.Core.List.{List, _∷_, []}
+use mathlib.Core.List.{List, _∷_, [], map}
 use lib.IntN.{ℤ, pos, negsuc}
-use lib.ListN.{length, replicate}
+use lib.ListN.{length, replicate, take}
 use Rattle.linear.specs.Sums.{sumTo}
 use Rattle.linear.specs.Tests.{allTo, anyTo, countTo}
 use Rattle.linear.specs.Tuples.{total, unit}
 use Rattle.linear.specs.Systems.{inner, value}
-use Rattle.definitions.specs.Answers.{Answer, complete, refused, refuseWith, _then_, refuseFirst}
+use Rattle.definitions.specs.Answers.{Answer, complete, go, refuse, refused, refuseWith, _then_, refuseFirst}
 use Rattle.definitions.specs.System.{covered, isAtOrBelow, solves}
 use Rattle.definitions.specs.Input.{Input, inputOf}
-use Rattle.definitions.specs.Tables.{State, bit, deskByDesk, frozen, lowerStart, lowered, unitsStart, unitsTo, writeRow, writeTo}
+use Rattle.definitions.specs.Tables.{State, bit, deskByDesk, frozen, lowerStart, lowered, plainRun, unitsStart, unitsTo, writeRow, writeTo}
 use Rattle.definitions.specs.Step.{grown, listed, makes, marksTo, step, writeChildren}
 use Rattle.definitions.specs.Refusals.{check7, inOrder, inOrderFrom, lowerChecks, resumeChecks, resumeFromChecks, rowFits, searchChecks, startChecks}
 use Rattle.definitions.specs.Refusals.{stepLimit, tooLarge}
@@ -64,6 +64,8 @@ record Facts : Type 0 where
   answer : Answer
   list : List ℕ
   found₂ : ℕ
+  -- the greatest sum of the tuples taken off, which is D here
+  deepest : ℕ
   -- the steps taken on allowances 7 and 1000
   taken : List ℕ
   -- 14 after one step, and 12 after three floor steps
@@ -80,6 +82,7 @@ of o l u z =
       answer = o .answer;
       list = o .state .list;
       found₂ = o .state .run .found₂;
+      deepest = o .state .run .deepest;
       taken = resumeSteps 7 six begun ∷ resumeSteps 1000 six begun ∷ [];
       fourteen = l .answer;
       steps = l .state .run .steps;
@@ -94,6 +97,7 @@ facts-hold : of (resume 1000 six begun) (resume 5 six late) (above (one (pos 2 �
       answer = complete;
       list = rows;
       found₂ = 0;
+      deepest = 5;
       taken = 7 ∷ 17 ∷ [];
       fourteen = refused 14 [];
       steps = stepLimit;
@@ -106,6 +110,47 @@ unfolding one lent six begun rows late above sumTo inner value unit total allTo 
     startChecks lowerChecks resumeChecks resumeFromChecks tooLarge searchChecks checked start startFrom settleFrom searchFrom stepFrom unlessDone walk call
     callSteps walkSteps moved stepsIf
 facts-hold = refl
+
+-- ---- "A paused run goes on in a later call.", wherever it was paused: to the list of the run in one call
+
+on-from : ℕ → Outcome State
+on-from n = resume 1000 six (resume n six begun .state)
+
+ended : ℕ → Answer × List ℕ
+ended n = (on-from n .answer, on-from n .state .list)
+
+later-holds : map ended (1 ∷ 3 ∷ 5 ∷ 7 ∷ 9 ∷ 11 ∷ 13 ∷ 15 ∷ []) ≡ replicate 8 (complete, rows)
+unfolding one lent six begun rows on-from ended sumTo inner value unit total allTo anyTo countTo refuseWith _then_ refuseFirst solves isAtOrBelow covered bit
+    frozen writeTo writeRow unitsTo unitsStart makes marksTo writeChildren listed grown step rowFits inOrder check7 startChecks resumeChecks tooLarge
+    searchChecks checked start unlessDone walk call
+later-holds = refl
+
+-- ---- 30 −1: a component above the training seat's limit, and no refusal
+
+far : Outcome State
+far = resume 1000 (one (pos 30 ∷ negsuc 0 ∷ [])) (start (one (pos 30 ∷ negsuc 0 ∷ [])) lent .state)
+
+far-holds : (far .answer ≡ complete) × (take 2 (far .state .list) ≡ 1 ∷ 30 ∷ []) × (far .state .run .found ≡ 1) × (far .state .run .deepest ≡ 31)
+unfolding one lent far sumTo inner value unit total allTo anyTo countTo refuseWith _then_ refuseFirst solves isAtOrBelow covered bit
+    frozen writeTo writeRow unitsTo unitsStart makes marksTo writeChildren listed grown step rowFits inOrder check7 startChecks resumeChecks tooLarge
+    searchChecks checked start unlessDone walk call
+far-holds = (refl, refl, refl, refl)
+
+-- ---- "a mark beyond unknown q, or a mark count other than k − 1 in row k": rows 0 1 and then 1 0 with these marks
+
+marked : ℕ → ℕ → State
+marked a b =
+    record {
+      stack = 0 ∷ 1 ∷ a ∷ 1 ∷ 0 ∷ b ∷ [];
+      list = [];
+      second = [];
+      run = record { kind = plainRun; height = 2; found = 0; steps = 0; found₂ = 0; steps₂ = 0; deepest = 0 };
+    }
+
+marks-hold : map (λ s. resumeChecks (one (pos 2 ∷ negsuc 2 ∷ [])) s) (marked 0 1 ∷ marked 0 2 ∷ marked 0 0 ∷ marked 0 3 ∷ marked 0 4 ∷ marked 1 1 ∷ [])
+    ≡ go ∷ go ∷ replicate 4 (refuse 6 [])
+unfolding one marked allTo anyTo countTo refuseWith _then_ refuseFirst bit frozen rowFits inOrder check7 resumeChecks
+marks-hold = refl
 
 -- "A reader for q outside 1 to 16 is refused with 2."; "there is none at 0, past the found count or past the room"
 reader-holds : (shown 0 rows 6 1 ≡ refusedRow 2 []) × (shown 17 rows 6 1 ≡ refusedRow 2 []) × (shown 4 rows 6 0 ≡ none) × (shown 4 rows 2 3 ≡ none)
