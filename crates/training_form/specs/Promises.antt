@@ -2,10 +2,11 @@
 use mathlib.Core.Path.{_≡_, refl, _∙_, ap}
 use mathlib.Core.Logic.{inl, inr}
 use mathlib.Core.List.{List, _∷_, []}
-use Prim.Native.Nat.{ℕ, zero, suc, _<_}
+use Prim.Native.Nat.{ℕ, zero, suc, _+_, _≤_, _<_}
 use native.Mathlib.Omega.{arith}
 use lib.IntN.{ℤ}
 use Rattle.definitions.specs.Answers.{Answer, complete, go, paused, refuse, refused, started}
+use Rattle.definitions.specs.Bound.{depth}
 use Rattle.definitions.specs.Calls.{machine, machineFrom, resume, settleFrom, start, startFrom, stepFrom}
 use Rattle.definitions.specs.Input.{Input, boundOf, inputOf, mapOf, systemOf}
 use Rattle.definitions.specs.Machine.{Outcome, after, checked, walk}
@@ -15,20 +16,22 @@ use Rattle.definitions.specs.Tables.{State, capacity}
 use Rattle.laws.specs.CheckLaws.{check-cases}
 use Rattle.laws.specs.LimitLaws.{step-limit}
 use Rattle.laws.specs.MachineLaws.{call-refused}
-use Rattle.theorems.specs.CallAnswers.{CallAnswers, Ruled, StartAnswers, call-answers, start-answers}
-use Rattle.theorems.specs.Demands.{Lists, ListsFrom, ThirdDemand, third-demand}
+use Rattle.theorems.specs.CallAnswers.{CallAnswers, Paced, Ruled, StartAnswers, call-answers, call-paced, start-answers}
+use Rattle.theorems.specs.Counts.{after-counts}
+use Rattle.theorems.specs.Demands.{Lists, ListsFrom, ThirdDemand, never-above, third-demand, unchanged-leaves}
 use Rattle.theorems.specs.Listed.{Exactly}
 use Rattle.theorems.specs.LowerFirst.{RoomBy}
 use Rattle.theorems.specs.OwnCalls.{Log, Orderly, Pausing, completed, more, none, pausing}
 use Rattle.theorems.specs.Run.{SameRows, withList, withLists}
-use Rattle.theorems.specs.Series.{Series, own}
+use Rattle.theorems.specs.Series.{Lending, Series, meanwhile, own}
 use Rattle.theorems.specs.Third.{Premises}
 use Rattle.theorems.specs.Untouched.{Untouched}
 use Rattle.theorems.specs.WholeSteps.{called}
 use Rattle.training_form.specs.Office.{AsOffice, call-office, call-office-from, settle-office, start-office, start-office-from, step-from-office}
 use Rattle.training_form.specs.SeatRuns.{SeatRun, SeatRunFrom, seat-again, seat-again-from, seat-finished, seat-finished-from, seat-goes, seat-goes-from}
-use Rattle.training_form.specs.SeatRuns.{seat-lists, seat-lists-from, seat-longer, seat-longer-from, seat-start-untouched, seat-untouched}
-use Rattle.training_form.specs.SeatRuns.{seat-untouched-from}
+use Rattle.training_form.specs.SeatRuns.{seat-later, seat-later-from, seat-left-goes, seat-left-goes-from, seat-lists, seat-lists-from, seat-longer}
+use Rattle.training_form.specs.SeatRuns.{seat-longer-from, seat-run, seat-start-refused, seat-start-refused-from, seat-start-untouched}
+use Rattle.training_form.specs.SeatRuns.{seat-start-untouched-from, seat-untouched, seat-untouched-from}
 use Rattle.training_form.specs.Training.{seatInput, seatLowerChecks, seatMachine, seatMachineFrom, seatResume, seatResumeChecks, seatResumeFrom}
 use Rattle.training_form.specs.Training.{seatResumeFromChecks, seatStart, seatStartChecks, seatStartFrom, seatSteps, seatStepsFrom}
 use Rattle.training_form.specs.TrainingRules.{renumber, renumbered, seat-lower-renders, seat-resume-from-renders, seat-resume-renders, seat-resumes}
@@ -75,6 +78,20 @@ pub record TrainingPromise (p q : ℕ) (coefs : List ℤ) : Type 0 where
   pub continues-from : (lower : List ℕ) (budget : ℕ) (s : State) → let i = seatInput p q coefs in let o = seatResumeFrom budget lower i s in
       CallAnswers (seatResumeFromRules lower i s) (seatSearchFromRules lower i (o .state)) budget (seatStepsFrom budget lower i s)
       (o .state .run .height) (o .answer)
+  -- the steps taken are at most the budget, each from a height above 0 where no refusal of the search is due, and the record counts them
+  pub paced : (budget : ℕ) (s : State) → let i = seatInput p q coefs in Paced (seatMachine i) (seatSearchRules (systemOf i)) budget s
+  pub paced-from : (lower : List ℕ) (budget : ℕ) (s : State) → let i = seatInput p q coefs in
+      Paced (seatMachineFrom lower i) (seatSearchFromRules lower i) budget s
+  pub counted : (budget : ℕ) (s : State) → let i = seatInput p q coefs in seatResume budget i s .state .run .steps ≡ s .run .steps + seatSteps budget i s
+  -- "A paused run goes on in a later call."
+  pub goes-on : (budget : ℕ) (s : State) → let i = seatInput p q coefs in seatResumeChecks i s ≡ go → seatResumeChecks i (seatResume budget i s .state) ≡ go
+  pub goes-on-from : (lower : List ℕ) (budget : ℕ) (s : State) → let i = seatInput p q coefs in seatResumeFromChecks lower i s ≡ go
+      → seatResumeFromChecks lower i (seatResumeFrom budget lower i s .state) ≡ go
+  pub later : (budget more : ℕ) (s : State) → let i = seatInput p q coefs in seatResumeChecks i s ≡ go → seatResume budget i s .answer ≡ paused
+      → seatResume more i (seatResume budget i s .state) ≡ seatResume (budget + more) i s
+  pub later-from : (lower : List ℕ) (budget more : ℕ) (s : State) → let i = seatInput p q coefs in seatResumeFromChecks lower i s ≡ go
+      → seatResumeFrom budget lower i s .answer ≡ paused
+      → seatResumeFrom more lower i (seatResumeFrom budget lower i s .state) ≡ seatResumeFrom (budget + more) lower i s
   -- "A training run that is not refused lists what the office run lists after as many steps.": its start is the office's, and each of its calls that is let go
   -- on is let go on by the office, whose call takes as many steps to the same tables and record, and gives the same answer unless that is 24
   pub as-started : (s : State) → seatStart (seatInput p q coefs) s .answer ≡ started → start (inputOf p q coefs) s ≡ seatStart (seatInput p q coefs) s
@@ -85,6 +102,10 @@ pub record TrainingPromise (p q : ℕ) (coefs : List ℤ) : Type 0 where
   pub as-office-from : (lower : List ℕ) (budget : ℕ) (s : State) → seatResumeFromChecks lower (seatInput p q coefs) s ≡ go
       → AsOffice budget (seatMachineFrom lower (seatInput p q coefs)) (machineFrom lower (inputOf p q coefs)) s
   -- a refusal before the walk changes nothing lent, one within it leaves the state after the last whole step; the steps are the office's
+  pub start-unchanged : (s : State) (n : ℕ) (values : List ℕ) → seatStartChecks (seatInput p q coefs) s ≡ refuse n values
+      → seatStart (seatInput p q coefs) s ≡ record { answer = refused n values; state = s }
+  pub start-unchanged-from : (lower : List ℕ) (s : State) (n : ℕ) (values : List ℕ) → seatLowerChecks lower (seatInput p q coefs) s ≡ refuse n values
+      → seatStartFrom lower (seatInput p q coefs) s ≡ record { answer = refused n values; state = s }
   pub unchanged : (budget : ℕ) (s : State) (n : ℕ) (values : List ℕ) → seatResumeChecks (seatInput p q coefs) s ≡ refuse n values
       → seatResume budget (seatInput p q coefs) s ≡ record { answer = refused n values; state = s }
   pub unchanged-from : (lower : List ℕ) (budget : ℕ) (s : State) (n : ℕ) (values : List ℕ) → seatResumeFromChecks lower (seatInput p q coefs) s ≡ refuse n values
@@ -108,6 +129,7 @@ pub record TrainingPromise (p q : ℕ) (coefs : List ℤ) : Type 0 where
       → (more : ℕ) → seatResumeFrom (suc more) lower i (withLists t list second) ≡ walk more (seatMachineFrom lower i) (stepFrom lower i (withLists t list second))
   -- "entries beyond them are never touched", "List rows past the found count are not touched."
   pub untouched : (s : State) → Untouched q q s (seatStart (seatInput p q coefs) s .state)
+      × ((lower : List ℕ) → Untouched q q s (seatStartFrom lower (seatInput p q coefs) s .state))
       × ((budget : ℕ) → Untouched q q s (seatResume budget (seatInput p q coefs) s .state))
       × ((lower : List ℕ) (budget : ℕ) → Untouched q q s (seatResumeFrom budget lower (seatInput p q coefs) s .state))
   -- the second demand, of the seat's own calls: they are let go on, and the lists hold what the core's hold; finished, all of it
@@ -121,6 +143,8 @@ pub record TrainingPromise (p q : ℕ) (coefs : List ℤ) : Type 0 where
       o .answer ≡ complete
       → Exactly q (MinimalFrom (mapOf (seatInput p q coefs)) (boundOf lower)) (o .state .list) (o .state .run .found)
       × Exactly q (MinimalSolution (mapOf (seatInput p q coefs))) (o .state .second) (o .state .run .found₂)
+  -- (Job 6) "the number shown is never above D"
+  pub never-above : p ≡ 1 → (s : State) → SeatRun p q coefs s → s .run .deepest ≤ depth (mapOf (seatInput p q coefs))
   -- "The one-equation promise holds under any limit of at least D, so there if D is at most 20": the premises say so, and the seat's calls along such a series
   -- are those that the promise is about
   pub one-equation : (s₀ : State) → seatFirst (seatInput p q coefs) ≡ go → Premises (seatInput p q coefs) s₀ → (g : Log State)
@@ -171,10 +195,20 @@ module _ (p q : ℕ) (coefs : List ℤ) where
         starts-from = λ lower s. start-answers (seatLowerChecks lower i s) s _ refl (seatLowerRules lower i s) (seat-lower-renders i s lower);
         continues = λ budget s. call-answers ruled budget s;
         continues-from = λ lower budget s. call-answers (ruled-from lower) budget s;
+        paced = λ budget s. call-paced ruled budget s;
+        paced-from = λ lower budget s. call-paced (ruled-from lower) budget s;
+        counted = λ budget s. ap (λ t. t .run .steps) (seat-after i budget s ∙ after-office p q coefs (seatSteps budget i s) s)
+            ∙ after-counts (inputOf p q coefs) (seatSteps budget i s) s;
+        goes-on = seat-left-goes p q coefs;
+        goes-on-from = seat-left-goes-from p q coefs;
+        later = seat-later p q coefs;
+        later-from = seat-later-from p q coefs;
         as-started = start-office p q coefs;
         as-started-from = start-office-from p q coefs;
         as-office = call-office p q coefs;
         as-office-from = call-office-from p q coefs;
+        start-unchanged = seat-start-refused p q coefs;
+        start-unchanged-from = seat-start-refused-from p q coefs;
         unchanged = λ budget s n values e. call-refused (seatMachine i) s budget n values e .0;
         unchanged-from = λ lower budget s n values e. call-refused (seatMachineFrom lower i) s budget n values e .0;
         whole-steps = λ budget s. seat-after i budget s ∙ after-office p q coefs (seatSteps budget i s) s;
@@ -184,12 +218,46 @@ module _ (p q : ℕ) (coefs : List ℤ) where
         again-from = seat-again-from p q coefs;
         longer = seat-longer p q coefs;
         longer-from = seat-longer-from p q coefs;
-        untouched = λ s. (seat-start-untouched p q coefs s, λ budget. seat-untouched p q coefs budget s, λ lower budget. seat-untouched-from p q coefs lower budget s);
+        untouched = λ s. (
+          seat-start-untouched p q coefs s,
+          λ lower. seat-start-untouched-from p q coefs lower s,
+          λ budget. seat-untouched p q coefs budget s,
+          λ lower budget. seat-untouched-from p q coefs lower budget s,
+        );
         goes = seat-goes p q coefs;
         lists = seat-lists p q coefs;
         finished = seat-finished p q coefs;
         goes-from = seat-goes-from p q coefs;
         lists-from = seat-lists-from p q coefs;
         finished-from = seat-finished-from p q coefs;
+        never-above = λ single s r. never-above i s single (seat-run p q coefs r .1);
         one-equation = one;
       }
+
+-- ---- foreign calls
+
+-- a call of the seat that is refused before its walk, a start too, is a foreign call of the third demand (theorems/specs/Series): it leaves the run as it is
+module _ (p q : ℕ) (coefs : List ℤ) (l : Lending State) (s : State) (n : ℕ) (values : List ℕ) where
+  abbrev given : Input
+  given = seatInput p q coefs
+
+  pub start-leaves : seatStartChecks given (l .handed s) ≡ refuse n values → meanwhile (λ t. seatStart given t .state) l s ≡ s
+  start-leaves e =
+      unchanged-leaves (λ t. seatStart given t .state) l s (ap (λ o. o .state) (training-promise p q coefs .start-unchanged (l .handed s) n values e))
+
+  pub start-leaves-from : (lower : List ℕ) → seatLowerChecks lower given (l .handed s) ≡ refuse n values
+      → meanwhile (λ t. seatStartFrom lower given t .state) l s ≡ s
+  start-leaves-from lower e =
+      unchanged-leaves (λ t. seatStartFrom lower given t .state) l s
+      (ap (λ o. o .state) (training-promise p q coefs .start-unchanged-from lower (l .handed s) n values e))
+
+  pub refused-leaves : (budget : ℕ) → seatResumeChecks given (l .handed s) ≡ refuse n values → meanwhile (λ t. seatResume budget given t .state) l s ≡ s
+  refused-leaves budget e =
+      unchanged-leaves (λ t. seatResume budget given t .state) l s
+      (ap (λ o. o .state) (training-promise p q coefs .unchanged budget (l .handed s) n values e))
+
+  pub refused-leaves-from : (lower : List ℕ) (budget : ℕ) → seatResumeFromChecks lower given (l .handed s) ≡ refuse n values
+      → meanwhile (λ t. seatResumeFrom budget lower given t .state) l s ≡ s
+  refused-leaves-from lower budget e =
+      unchanged-leaves (λ t. seatResumeFrom budget lower given t .state) l s
+      (ap (λ o. o .state) (training-promise p q coefs .unchanged-from lower budget (l .handed s) n values e))

@@ -4,7 +4,7 @@ use mathlib.Core.Path.{_≡_, refl, sym, _∙_, ap, subst}
 use mathlib.Core.Logic.{inl, inr}
 use mathlib.Core.Bool.{Bool, true, false}
 use mathlib.Core.List.{List, []}
-use Prim.Native.Nat.{ℕ, suc, _<_}
+use Prim.Native.Nat.{ℕ, suc, _+_, _<_}
 use native.Mathlib.Omega.{arith}
 use lib.Dec.{eqb}
 use lib.IntN.{ℤ}
@@ -17,13 +17,11 @@ use Rattle.definitions.specs.Step.{step}
 use Rattle.definitions.specs.System.{MinimalFrom, MinimalSolution}
 use Rattle.definitions.specs.Tables.{State, capacity}
 use Rattle.laws.specs.CheckLaws.{check-cases}
-use Rattle.laws.specs.LowerLaws.{resume-from-valid, settled-once, valid-resume-from}
-use Rattle.laws.specs.RefusalLaws.{valid-resume, resume-handed}
-use Rattle.theorems.specs.CallAnswers.{Ruled, refused-again, started-goes}
+use Rattle.laws.specs.LowerLaws.{settled-once}
+use Rattle.theorems.specs.CallAnswers.{Ruled, call-later, refused-again, started-goes}
 use Rattle.theorems.specs.Demands.{Lists, ListsFrom, first-demand, first-demand-from, second-demand}
-use Rattle.theorems.specs.First.{left-valid}
 use Rattle.theorems.specs.Listed.{Exactly, Only, Reads}
-use Rattle.theorems.specs.LowerFirst.{RoomBy, left-valid-from}
+use Rattle.theorems.specs.LowerFirst.{RoomBy}
 use Rattle.theorems.specs.LowerRun as from
 use Rattle.theorems.specs.LowerRun.{RunFrom}
 use Rattle.theorems.specs.Run.{Run, SameRows, aimOf, continued, relisted, run-handed, run-sound, sound-resumes, started-units, withList, withLists, withSecond}
@@ -148,13 +146,19 @@ module _ (p q : ℕ) (coefs : List ℤ) where
   ruled : Ruled (seatMachine i) (seatResumeRules i) (seatSearchRules (systemOf i))
   ruled = record { before-renders = seat-resume-renders i; within-renders = seat-search-renders (systemOf i) }
 
+  -- what a call that was let go on leaves is let go on again
+  pub seat-left-goes : (budget : ℕ) (s : State) → seatResumeChecks i s ≡ go → seatResumeChecks i (seatResume budget i s .state) ≡ go
+  seat-left-goes budget s e =
+      let f = first-goes s e in
+      rw (core-state f budget s) (both-go (resume budget i s .state) f (first-demand .goes-on budget i s (seat-core p q coefs s e)))
+
+  pub seat-later : (budget more : ℕ) (s : State) → seatResumeChecks i s ≡ go → seatResume budget i s .answer ≡ paused
+      → seatResume more i (seatResume budget i s .state) ≡ seatResume (budget + more) i s
+  seat-later budget more s e = call-later (seatMachine i) (λ t. refl) budget more s e (seat-left-goes budget s e)
+
   pub seat-again : (budget : ℕ) (s : State) (n : ℕ) (values : List ℕ) → seatResumeChecks i s ≡ go → seatResume budget i s .answer ≡ refused n values
       → (more : ℕ) → seatResume (suc more) i (seatResume budget i s .state) ≡ record { answer = refused n values; state = seatResume budget i s .state }
-  seat-again budget s n values e a more =
-      let f = first-goes s e in
-      let c = seat-core p q coefs s e in
-      refused-again ruled budget s (λ t. refl) n values e
-      (rw (core-state f budget s) (both-go (resume budget i s .state) f (valid-resume i _ (resume-handed i s c) (left-valid budget i s c)))) a more
+  seat-again budget s n values e a more = refused-again ruled budget s (λ t. refl) n values e (seat-left-goes budget s e) a more
 
   pub seat-longer : (budget : ℕ) (s : State) → seatResumeChecks i s ≡ go → seatResume budget i s .answer ≡ refused 11 [] → let t = seatResume budget i s .state in
       (list : List ℕ) → SameRows q (t .run .found) (t .list) list → t .run .found < capacity q list → (more : ℕ)
@@ -182,6 +186,12 @@ module _ (p q : ℕ) (coefs : List ℤ) where
             subst (λ t. Untouched q q s t) (sym (ap (λ o. o .state) (seat-resumes p q coefs budget s ∙ refused-state (seatFirst i) s _ n values e)))
             (untouched q q s)
       ]
+
+  -- a refused start changes nothing lent
+  pub seat-start-refused : (s : State) (n : ℕ) (values : List ℕ) → seatStartChecks i s ≡ refuse n values
+      → seatStart i s ≡ record { answer = refused n values; state = s }
+  unfolding seatStart
+  seat-start-refused s n values e = refused-state (seatStartChecks i s) s _ n values e
 
   pub seat-start-untouched : (s : State) → Untouched q q s (seatStart i s .state)
   seat-start-untouched s =
@@ -236,14 +246,22 @@ module _ (p q : ℕ) (coefs : List ℤ) where
     ruled-from : Ruled (seatMachineFrom lower i) (seatResumeFromRules lower i) (seatSearchFromRules lower i)
     ruled-from = record { before-renders = λ s. seat-resume-from-renders i s lower; within-renders = seat-search-from-renders lower i }
 
+    pub seat-left-goes-from : (budget : ℕ) (s : State) → seatResumeFromChecks lower i s ≡ go
+        → seatResumeFromChecks lower i (seatResumeFrom budget lower i s .state) ≡ go
+    seat-left-goes-from budget s e =
+        let f = first-goes-from s e in
+        rw (core-state-from f budget s)
+        (both-go-from (resumeFrom budget lower i s .state) f (first-demand-from lower i refl .goes-on budget s (seat-core-from p q coefs lower s e)))
+
+    pub seat-later-from : (budget more : ℕ) (s : State) → seatResumeFromChecks lower i s ≡ go → seatResumeFrom budget lower i s .answer ≡ paused
+        → seatResumeFrom more lower i (seatResumeFrom budget lower i s .state) ≡ seatResumeFrom (budget + more) lower i s
+    seat-later-from budget more s e = call-later (seatMachineFrom lower i) (settled-once lower i) budget more s e (seat-left-goes-from budget s e)
+
     pub seat-again-from : (budget : ℕ) (s : State) (n : ℕ) (values : List ℕ) → seatResumeFromChecks lower i s ≡ go
         → seatResumeFrom budget lower i s .answer ≡ refused n values → (more : ℕ) → let t = seatResumeFrom budget lower i s .state in
         seatResumeFrom (suc more) lower i t ≡ record { answer = refused n values; state = t }
     seat-again-from budget s n values e a more =
-        let f = first-goes-from s e in
-        let c = seat-core-from p q coefs lower s e in
-        refused-again ruled-from budget s (settled-once lower i) n values e
-        (rw (core-state-from f budget s) (both-go-from (resumeFrom budget lower i s .state) f (valid-resume-from lower i _ refl (resume-from-valid lower i s refl c .0) (left-valid-from lower i refl budget s c)))) a more
+        refused-again ruled-from budget s (settled-once lower i) n values e (seat-left-goes-from budget s e) a more
 
     pub seat-longer-from : (budget : ℕ) (s : State) → seatResumeFromChecks lower i s ≡ go → seatResumeFrom budget lower i s .answer ≡ refused 11 []
         → let t = seatResumeFrom budget lower i s .state in (list second : List ℕ)
@@ -264,6 +282,21 @@ module _ (p q : ℕ) (coefs : List ℤ) where
         is-core-from f (suc more) (withLists t list second) ∙ ap renumbered l
         ∙ sym (walk-renumbered (seatMachineFrom lower i) (machineFrom lower i) (λ t. refl) (λ t. refl) (seat-search-from lower i) (λ t. refl) more
         (stepFrom lower i (withLists t list second)))
+
+    pub seat-start-refused-from : (s : State) (n : ℕ) (values : List ℕ) → seatLowerChecks lower i s ≡ refuse n values
+        → seatStartFrom lower i s ≡ record { answer = refused n values; state = s }
+    unfolding seatStartFrom
+    seat-start-refused-from s n values e = refused-state (seatLowerChecks lower i s) s _ n values e
+
+    pub seat-start-untouched-from : (s : State) → Untouched q q s (seatStartFrom lower i s .state)
+    seat-start-untouched-from s =
+        elim (check-cases (seatFirst i)) [
+          | inl f ↦
+              subst (λ o. Untouched q q s (o .state)) (sym (seat-starts-from p q coefs lower s ∙ goes-checked (seatFirst i) s _ f))
+              (first-demand .untouched (starting-from lower i refl) s)
+          | inr (n, values, e) ↦
+              subst (λ o. Untouched q q s (o .state)) (sym (seat-starts-from p q coefs lower s ∙ refused-state (seatFirst i) s _ n values e)) (untouched q q s)
+        ]
 
     pub seat-untouched-from : (budget : ℕ) (s : State) → Untouched q q s (seatResumeFrom budget lower i s .state)
     seat-untouched-from budget s =
