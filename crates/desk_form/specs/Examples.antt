@@ -1,7 +1,7 @@
 -- Runs desk by desk, by computation, on tables and a record with old content. Assumes nothing.
 use Prim.Native.Nat.{ℕ, _*_}
 use mathlib.Core.Path.{_≡_, refl}
-use mathlib.Core.List.{List, _∷_, []}
+use mathlib.Core.List.{List, _∷_, [], map}
 use lib.IntN.{ℤ, pos, negsuc}
 use lib.ListN.{drop, replicate, take}
 use Rattle.linear.specs.Sums.{sumTo}
@@ -89,6 +89,83 @@ unfolding lent ran summed example meeting freeing large nothing packTo deskRow d
     deskTooLarge deskSearchChecks generatorsInOrder deskRowInOrder deskInOrder wide deskStartChecks deskResumeChecks deskBegin checked unlessDone walk
     call check7 refuseWith _then_ refuseFirst marksTo covered isAtOrBelow solves bit frozen writeTo allTo anyTo countTo total inner value sumTo
 runs-hold = (refl, refl, refl, refl, refl, refl, refl)
+
+-- ---- what stays
+
+-- the units, which are the minimal solutions of 0 0 0 0, and -1 1 2 -3: six rows are listed, and those listed before stay where they are
+units : Desk
+units =
+    record {
+      p = 1;
+      q = 4;
+      coefs = negsuc 0 ∷ pos 1 ∷ pos 2 ∷ negsuc 2 ∷ [];
+      generators = 0 ∷ 0 ∷ 0 ∷ 1 ∷ 0 ∷ 0 ∷ 1 ∷ 0 ∷ 0 ∷ 1 ∷ 0 ∷ 0 ∷ 1 ∷ 0 ∷ 0 ∷ 0 ∷ [];
+    }
+
+-- a start, and a second list with its count and steps of another walk beside
+beside : State
+beside = let t = deskBegin units (lent plainRun 24) .state in
+    record {
+      stack = t .stack;
+      list = t .list;
+      second = 5 ∷ [];
+      run = record { kind = t .run .kind; height = 4; found = 0; steps = 0; found₂ = 8; steps₂ = 7; deepest = 0 };
+    }
+
+record Facts : Type 0 where
+  answer : Answer
+  list : List ℕ
+  second : List ℕ
+  found₂ : ℕ
+  steps₂ : ℕ
+  deepest : ℕ
+
+of : Outcome State → Facts
+of o =
+    record {
+      answer = o .answer;
+      list = o .state .list;
+      second = o .state .second;
+      found₂ = o .state .run .found₂;
+      steps₂ = o .state .run .steps₂;
+      deepest = o .state .run .deepest;
+    }
+
+-- in one call, and paused after 3, 8 and 13 steps: "A paused run goes on in a later call."
+calls : List (Outcome State)
+calls =
+    deskResume 100 units beside
+    ∷ deskResume 100 units (deskResume 3 units beside .state)
+    ∷ deskResume 100 units (deskResume 8 units beside .state)
+    ∷ deskResume 100 units (deskResume 13 units beside .state)
+    ∷ []
+
+all-facts : Facts
+all-facts =
+    record {
+      answer = complete;
+      list = 1 ∷ 1 ∷ 0 ∷ 0 ∷ 2 ∷ 0 ∷ 1 ∷ 0 ∷ 0 ∷ 3 ∷ 0 ∷ 1 ∷ 0 ∷ 1 ∷ 1 ∷ 1 ∷ 1 ∷ 0 ∷ 2 ∷ 1 ∷ 0 ∷ 0 ∷ 3 ∷ 2 ∷ [];
+      second = 5 ∷ [];
+      found₂ = 8;
+      steps₂ = 7;
+      deepest = 5;
+    }
+
+stays-hold : map of calls ≡ replicate 4 all-facts
+unfolding lent units beside of calls all-facts packTo deskRow deskStart raises deskGrown freed deskListed deskStep keeps spoils swept settled deskTooLarge
+    deskSearchChecks generatorsInOrder deskRowInOrder deskInOrder wide deskStartChecks deskResumeChecks deskBegin checked unlessDone walk call check7 refuseWith
+    _then_ refuseFirst marksTo covered isAtOrBelow solves bit frozen writeTo allTo anyTo countTo total inner value sumTo
+stays-hold = refl
+
+-- a refusal before the walk changes nothing lent: of a list of two rows that a sweep would change, and no stack
+refused-state : State
+refused-state = stateOf [] (1 ∷ 1 ∷ 1 ∷ 1 ∷ 1 ∷ 1 ∷ 1 ∷ 1 ∷ []) (recordOf deskByDesk 0 2 7 8)
+
+leaves-hold : (deskBegin units refused-state ≡ record { answer = refused 4 []; state = refused-state })
+    × (deskResume 9 units refused-state ≡ record { answer = refused 4 []; state = refused-state })
+unfolding units refused-state generatorsInOrder deskRowInOrder deskInOrder wide deskStartChecks deskResumeChecks deskBegin keeps spoils swept isAtOrBelow packTo
+    writeTo checked call check7 refuseWith _then_ refuseFirst allTo anyTo countTo
+leaves-hold = (refl, refl)
 
 -- ---- the sweep
 

@@ -2,12 +2,10 @@
 -- that a longer list table helps after refusal 11, and what each step, each sweep and each call leaves alone. Assumes nothing.
 use mathlib.Core.Path.{_≡_, refl, _∙_, ap}
 use mathlib.Core.Logic.{inl, inr}
-use mathlib.Core.Bool.{Bool, true, false, cond}
 use mathlib.Core.List.{List, []}
 use Prim.Native.Nat.{ℕ, zero, suc, _+_, _*_, _≤_, _<_}
 use native.Mathlib.Nat.{mul-le-mul-right}
 use native.Mathlib.Omega.{arith}
-use lib.Dec.{T, eqb, eqb→eq, leb, leb→le}
 use lib.ListN.{length, getD}
 use Rattle.linear.specs.Tests.{countTo}
 use Rattle.definitions.specs.Answers.{go, paused, refuse, refused, started}
@@ -26,6 +24,7 @@ use Rattle.desk_form.specs.Rows.{all-counted}
 use Rattle.desk_form.specs.Rules.{deskSearchRules, deskStartRules, search-renders, start-renders}
 use Rattle.desk_form.specs.Valid.{DeskValid, freed-has, freed-of, resume-valid, search-going, settled-again, settled-has, settled-of, settled-valid}
 use Rattle.desk_form.specs.Valid.{start-shaped, start-valid, step-has, step-valid, sweep-leaves, swept-of, valid-resume}
+use Rattle.desk_promises.specs.Frames.{freed-when, settled-when}
 use Rattle.desk_promises.specs.Runs.{desk-ruled, left}
 use Rattle.desk_promises.specs.Walk.{relisted-valid, withList}
 
@@ -99,31 +98,12 @@ module _ (d : Desk) where
 
 -- ---- "after 11 a longer list table with the same rows may be given"
 
--- with room there is nothing to sweep
-not-freed : (d : Desk) (t : State) → t .run .found < capacity (d .q) (t .list) → freed d t .run .found ≡ t .run .found
-unfolding freed
-not-freed d t l = go′ (leb (capacity (d .q) (t .list)) (t .run .found)) refl
-  where
-    go′ : (b : Bool) → leb (capacity (d .q) (t .list)) (t .run .found) ≡ b → cond b (swept (d .q) t) t .run .found ≡ t .run .found
-    go′ true y = let h : T (leb (capacity (d .q) (t .list)) (t .run .found)) = rw y tt in
-        absurd (omega (arith, leb→le (capacity (d .q) (t .list)) (t .run .found) h))
-    go′ false y = refl
-
--- and above height 0 nothing is done ahead of a step
-not-settled : (d : Desk) (t : State) → 0 < t .run .height → settled d t ≡ t
-unfolding settled
-not-settled d t l = go′ (eqb (t .run .height) 0) refl
-  where
-    go′ : (b : Bool) → eqb (t .run .height) 0 ≡ b → cond b (swept (d .q) t) t ≡ t
-    go′ true y = let h : T (eqb (t .run .height) 0) = rw y tt in absurd (omega (arith, eqb→eq (t .run .height) 0 h))
-    go′ false y = refl
-
 full-only : (d : Desk) (t : State) (list : List ℕ) → FirstDue (deskSearchRules d t) 11 [] → t .run .found < capacity (d .q) list
     → deskSearchChecks d (withList t list) ≡ go
 full-only d t list (inl (n, v, e)) room = absurd (omega arith)
 full-only d t list (inr (before, inl (n, v, (sol, full)))) room =
     search-renders d (withList t list) .silent
-    (before, (λ (y, l). omega (arith, rw (not-freed d (withList t list) room) at l), (λ (y, z). y .2 (sol (y .0) (y .1)), tt)))
+    (before, (λ (y, l). omega (arith, rw (freed-when d (withList t list) .1 room) at l), (λ (y, z). y .2 (sol (y .0) (y .1)), tt)))
 full-only d t list (inr (before, inr (full, inl (n, v, e)))) room = absurd (omega arith)
 full-only d t list (inr (before, inr (full, inr (over, y)))) room = absurd y
 
@@ -136,7 +116,7 @@ longer-list budget d s e a list same room more =
     let u : State = withList t list in
     let (h, f) = refused-there (desk-ruled d) budget s 11 [] e a in
     let v = relisted-valid d t list same (left-valid d budget s e) in
-    let stays = not-settled d u h in
+    let stays = settled-when d u .1 h in
     let goes : Goes (deskMachine d) (settled d u) = rw stays (h, full-only d t list (search-renders d t .refuses 11 [] f) room) in
     goes-on (deskMachine d) u (valid-resume d u v) goes more ∙ ap (λ x. walk more (deskMachine d) (deskStep d x)) stays
 

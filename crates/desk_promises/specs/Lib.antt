@@ -3,6 +3,7 @@ pub mod Second
 pub mod Groups
 pub mod Walk
 pub mod Runs
+pub mod Frames
 pub mod First
 pub mod Promises
 pub mod Examples

@@ -42,6 +42,7 @@ use Rattle.desk_form.specs.Valid.{step-valid, sweep-leaves, valid-resume}
 use Rattle.desk_promises.specs.First.{Kept, Untouched, after-next, again, begin-answers, begin-goes, begin-marked, begin-refused, begin-untouched}
 use Rattle.desk_promises.specs.First.{left-goes, longer-list, paused-later, resume-after, resume-counts, resume-marked, resume-untouched}
 use Rattle.desk_promises.specs.First.{settled-kept, start-kept, step-kept}
+use Rattle.desk_promises.specs.Frames.{Aside, TopTaken, aside-kept, freed-when, settled-when, step-takes}
 use Rattle.desk_promises.specs.Groups.{FirstGroup, bothGroups, firstSystem, handed-over, wholeSystem}
 use Rattle.desk_promises.specs.Runs.{DeskRun, continued, desk-answers, desk-ruled, left, left-swept, run-exactly, run-solutions, run-valid}
 use Rattle.desk_promises.specs.Walk.{withList}
@@ -84,6 +85,10 @@ pub record FirstDemand : Type 0 where
   pub start-kept : (d : Desk) (s : State) → Kept (d .q) s (deskStart d s)
   pub step-kept : (d : Desk) (s : State) → Kept (d .q) s (deskStep d s)
   pub settled-kept : (d : Desk) (s : State) → Kept (d .q) s (settled d s)
+  -- frames: a step leaves the stack rows below the one taken off; the rows listed stay, but for the sweep of a full list, and the tuple is the next; the call
+  -- keeps the kind of the run and what other runs have beside
+  pub takes : (d : Desk) (s : State) → TopTaken d s (deskStep d s)
+  pub aside-kept : (budget : ℕ) (d : Desk) (s : State) → Aside s (left budget d s)
   -- of the stack table "entries beyond them are never touched", nor what stands in the list table past its last whole row
   pub start-untouched : (d : Desk) (s : State) → Untouched d s (deskBegin d s .state)
   pub untouched : (budget : ℕ) (d : Desk) (s : State) → Untouched d s (left budget d s)
@@ -95,7 +100,11 @@ pub record FirstDemand : Type 0 where
   -- "a sweep removes each row that lies above another row or repeats an earlier one, and closes the gaps, order kept": `Swept` (sweeps/specs/SweepLaws) says
   -- which rows stay
   pub sweep : (q : ℕ) (s : State) → SweepLeaves q s (swept q s)
-  -- "It runs before each "complete"", also with allowance 0
+  -- "It runs before each "complete", and when a solution is due and the list is full.": then and at no other time
+  pub sweeps-done : (d : Desk) (s : State) → (s .run .height ≡ 0 → settled d s ≡ swept (d .q) s) × (0 < s .run .height → settled d s ≡ s)
+  pub sweeps-full : (d : Desk) (s : State)
+      → (capacity (d .q) (s .list) ≤ s .run .found → freed d s ≡ swept (d .q) s) × (s .run .found < capacity (d .q) (s .list) → freed d s ≡ s)
+  -- also with allowance 0
   pub swept-before : (budget : ℕ) (d : Desk) (s : State) → deskResume budget d s .answer ≡ complete → swept (d .q) (left budget d s) ≡ left budget d s
 
 silent-goes : (budget : ℕ) (d : Desk) (s : State) → deskResume budget d s .answer ≡ complete → deskResumeChecks d s ≡ go
@@ -120,11 +129,15 @@ first-demand =
       start-kept = start-kept;
       step-kept = step-kept;
       settled-kept = settled-kept;
+      takes = step-takes;
+      aside-kept = aside-kept;
       start-untouched = begin-untouched;
       untouched = resume-untouched;
       start-marked = begin-marked;
       marked = resume-marked;
       sweep = sweep-leaves;
+      sweeps-done = settled-when;
+      sweeps-full = freed-when;
       swept-before = λ budget d s a. left-swept budget d s (silent-goes budget d s a) (desk-answers budget d s .completes .0 a .1);
     }
 
@@ -156,7 +169,12 @@ second-demand-desks d g s r =
       read = λ whole budget a. only-reads (v .shaped .q-some) (v .shaped .q-few) (run-exactly d g whole r budget a .part);
     }
 
--- a call of a desk that is refused before its walk is a foreign call of the third demand (theorems/specs/Series): it leaves the run as it is
+-- a call of a desk that is refused before its walk, a start too, is a foreign call of the third demand (theorems/specs/Series): it leaves the run as it is
+pub start-leaves : (l : Lending State) (d : Desk) (s : State) (n : ℕ) (values : List ℕ) → deskStartChecks d (l .handed s) ≡ refuse n values
+    → meanwhile (λ t. deskBegin d t .state) l s ≡ s
+start-leaves l d s n values e =
+    unchanged-leaves (λ t. deskBegin d t .state) l s (ap (λ o. o .state) (first-demand .start-unchanged d (l .handed s) n values e))
+
 pub refused-leaves : (l : Lending State) (budget : ℕ) (d : Desk) (s : State) (n : ℕ) (values : List ℕ) → deskResumeChecks d (l .handed s) ≡ refuse n values
     → meanwhile (left budget d) l s ≡ s
 refused-leaves l budget d s n values e = unchanged-leaves (left budget d) l s (ap (λ o. o .state) (first-demand .unchanged budget d (l .handed s) n values e))
