@@ -1,4 +1,5 @@
--- Small maps: which columns are in the profile, which rows are minimal solutions, and what the listing answers and writes, by computation.
+-- Small maps: which columns are in the profile, which rows are minimal solutions, what the listing answers and writes, and what a call refused with 26 leaves,
+-- by computation.
 -- Assumes nothing.
 use Prim.Native.Nat.{ℕ}
 use mathlib.Core.Path.{_≡_, refl}
@@ -7,10 +8,15 @@ use mathlib.Core.List.{List, [], _∷_, _++_, map}
 use lib.IntN.{ℤ, pos, negsuc}
 use lib.ListN.{getD, replicate}
 use Rattle.linear.specs.Tests.{allTo, countTo}
+use Rattle.definitions.specs.Answers as paper
 use Rattle.definitions.specs.Answers.{Check, _then_, go, refuse, refuseFirst, refuseWith}
-use Rattle.definitions.specs.Refusals.{check7}
+use Rattle.definitions.specs.Calls.{start}
+use Rattle.definitions.specs.Machine.{call, checked}
+use Rattle.definitions.specs.Refusals.{check7, inOrder, resumeChecks, rowFits, startChecks}
+use Rattle.definitions.specs.Tables.{State, bit, frozen, plainRun, unitsStart, unitsTo, writeRow, writeTo}
 use Rattle.definitions.specs.Input.{Input, inputOf, mapOf}
 use Rattle.texts.specs.Decimals.{bytes, decimal, lastDigits}
+use Rattle.single_file.specs.Calls.{singleResume, singleResumeChecks, singleStart, singleStartChecks}
 use Rattle.single_file.specs.First.{findTo, iterate}
 use Rattle.single_file.specs.Graph.{isCircuit, leaving, lowest, size}
 use Rattle.single_file.specs.Listing.{Listing, linesTo, listedBy, listing, listingCall, listingChecks, loopLine, orderTo, refused, risingTo, rowChecks}
@@ -100,3 +106,24 @@ listing-holds :
 unfolding ways four called refuses ways-list listingCall listedBy listingChecks rowChecks listing linesTo loopLine risingTo orderTo decimal lastDigits check7
     check26 check30 refuseFirst refuseWith _then_ inProfile isCircuit allTo countTo size lowest leaving nodeOf findTo iterate
 listing-holds = (refl, refl, refl, refl, refl, refl)
+
+-- ---- the calls: a map outside the profile is refused with 26, and nothing lent changes
+
+lent : State
+lent =
+    record {
+      stack = 1 ∷ 0 ∷ 0 ∷ 0 ∷ 1 ∷ 1 ∷ [];
+      list = 9 ∷ 9 ∷ [];
+      second = [];
+      run = record { kind = plainRun; height = 2; found = 0; steps = 3; found₂ = 4; steps₂ = 5; deepest = 6 };
+    }
+
+-- 2 and -2 in column 2
+other : Input
+other = four (pos 0 ∷ pos 2 ∷ pos 0 ∷ negsuc 1 ∷ pos 0 ∷ pos 0 ∷ pos 0 ∷ pos 0 ∷ [])
+
+calls-hold : (singleStart other lent ≡ record { answer = paper.refused 26 (2 ∷ []); state = lent })
+    × (singleResume 9 other lent ≡ record { answer = paper.refused 26 (2 ∷ []); state = lent })
+unfolding lent other four singleStart singleResume singleStartChecks singleResumeChecks startChecks resumeChecks start call checked unitsStart unitsTo writeRow
+    writeTo inOrder rowFits bit frozen check7 check26 refuseFirst refuseWith _then_ inProfile allTo countTo
+calls-hold = (refl, refl)

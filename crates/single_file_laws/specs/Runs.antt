@@ -142,7 +142,12 @@ module _ (i : Input) where
         in-profile = started-file;
       }
 
--- a continuing call refused with 26, or before, is a foreign call of the third demand (theorems/specs/Series): it leaves the run as it is
+-- a start or a continuing call refused with 26, or before, is a foreign call of the third demand (theorems/specs/Series): it leaves the run as it is
+pub start-leaves : (l : Lending State) (i : Input) (s : State) (n : ℕ) (values : List ℕ) → singleStartChecks i (l .handed s) ≡ refuse n values
+    → meanwhile (λ t. singleStart i t .state) l s ≡ s
+start-leaves l i s n values e =
+    unchanged-leaves (λ t. singleStart i t .state) l s (ap (λ o. o .state) (single-calls i .start-unchanged (l .handed s) n values e))
+
 pub refused-leaves : (l : Lending State) (budget : ℕ) (i : Input) (s : State) (n : ℕ) (values : List ℕ) → singleResumeChecks i (l .handed s) ≡ refuse n values
     → meanwhile (λ t. singleResume budget i t .state) l s ≡ s
 refused-leaves l budget i s n values e =
