@@ -14,8 +14,8 @@ use Rattle.definitions.specs.System.{solves}
 use Rattle.definitions.specs.Tables.{State, at, capacity}
 use Rattle.sweeps.specs.Pack.{pack-outside}
 use Rattle.theorems.specs.WholeSteps.{call-keeps}
-use Rattle.desk_form.specs.Desks.{Desk, deskGrown, deskLevel, deskListed, deskMachine, deskMakes, deskStep, deskTop, freed, generatorCount, secondGroup, settled}
-use Rattle.desk_form.specs.Desks.{swept}
+use Rattle.desk_form.specs.Desks.{Desk, deskGrown, deskLevel, deskListed, deskMachine, deskMakes, deskStep, deskTop, freed, generatorCount, secondGroup}
+use Rattle.desk_form.specs.Desks.{settled, swept}
 use Rattle.desk_form.specs.Valid.{freed-has, freed-of, same-top, settled-done, settled-has, step-has}
 use Rattle.desk_promises.specs.Runs.{left}
 

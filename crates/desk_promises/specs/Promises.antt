@@ -303,7 +303,9 @@ order-rows d s o high =
 
 pub desk-rows : (d : Desk) (s : State) → refuseIf (not (generatorsInOrder d && deskInOrder d s)) 6 ≡ go → 0 < s .run .height
     → deskLevel s + countTo (generatorCount d) (deskMakes d s) ≤ generatorCount d
-desk-rows d s e high = order-rows d s (order-from d s (and-parts (generatorsInOrder d) (deskInOrder d s) (passes-6 (generatorsInOrder d && deskInOrder d s) e) .1)) high
+desk-rows d s e high =
+    let (handed, ordered) = and-parts (generatorsInOrder d) (deskInOrder d s) (passes-6 (generatorsInOrder d && deskInOrder d s) e) in
+    order-rows d s (order-from d s ordered) high
 
 -- and each step of a continuing call
 pub desk-call-rows : (budget : ℕ) (d : Desk) (s : State) (n : ℕ) → n < deskResumeSteps budget d s → let t = after n (deskMachine d) s in

@@ -90,9 +90,8 @@ refuses : ℕ → Summary
 refuses n =
     record { check = refuse n []; answers = started ∷ started ∷ started ∷ []; steps = 0; rows = []; heights = 2 ∷ 3 ∷ []; last = 2; untouched = true }
 
--- no turn; one turn; eleven turns of one step, and more, which there are none of; three turns, the third of which ends run 1; more turns than are needed; three turns, the third of which is refused; more turns, of which
--- that run has no other; a turn of 0 steps;
--- parts that overlap; a part that leaves the table
+-- no turn; one turn; eleven turns of one step, and more, which there are none of; three turns, the third of which ends run 1; more turns than are needed; three
+-- turns, the third of which is refused; more turns, of which that run has no other; a turn of 0 steps; parts that overlap; a part that leaves the table
 calls-hold : (called 0 (schedule (part 15 6) 7 3) ≡ comes (paused ∷ paused ∷ started ∷ []) 0 [] (2 ∷ 3 ∷ []) 2)
     × (called 1 (schedule (part 15 6) 7 3) ≡ comes (paused ∷ paused ∷ started ∷ []) 3 [] (1 ∷ 3 ∷ []) 1)
     × (called 11 (schedule (part 15 6) 7 1) ≡ comes (complete ∷ complete ∷ started ∷ []) 11 (3 ∷ 2 ∷ []) (0 ∷ 0 ∷ []) 1)

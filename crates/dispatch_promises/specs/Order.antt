@@ -17,7 +17,8 @@ use Rattle.definitions.specs.Answers.{Answer, paused}
 use Rattle.dispatch_form.specs.RoundLaws.{Next, ahead, next-none, none-not-some, put-other, put-same}
 use Rattle.dispatch_form.specs.TurnLaws.{Laid}
 use Rattle.dispatch_form.specs.CheckRules.{accepted}
-use Rattle.dispatch_form.specs.Dispatch.{Round, Schedule, afterTurns, dispatch, either, firstAsked, inRound, leaveTurn, next, opened, serve, serveRun, staysIn, turnOf}
+use Rattle.dispatch_form.specs.Dispatch.{Round, Schedule, afterTurns, dispatch, either, firstAsked, inRound, leaveTurn, next, opened}
+use Rattle.dispatch_form.specs.Dispatch.{serve, serveRun, staysIn, turnOf}
 use Rattle.dispatch_promises.specs.Fair.{NoneOf, end, more}
 use Rattle.dispatch_promises.specs.Serving.{Served, after-turns, opened-laid}
 use Rattle.dispatch_promises.specs.Turns.{Turn, turnTaken, turnsOf, turnsTo, written}
@@ -107,7 +108,9 @@ module _ (d : Schedule) (r₀ : Round) where
 
     now-ordered : (later earlier : List Turn) (t : Turn) → now ∷ log ≡ later ++ (t ∷ earlier) → InTurn (d .count) r₀ earlier t
     now-ordered [] earlier t e =
-        let a : now ≡ t = cc in let b : log ≡ earlier = cc in subst (λ x. InTurn (d .count) r₀ earlier x) a (subst (λ x. InTurn (d .count) r₀ x now) b now-in-turn)
+        let a : now ≡ t = cc in
+        let b : log ≡ earlier = cc in
+        subst (λ x. InTurn (d .count) r₀ earlier x) a (subst (λ x. InTurn (d .count) r₀ x now) b now-in-turn)
     now-ordered (u ∷ later) earlier t e = let rest : log ≡ later ++ (t ∷ earlier) = cc in told .ordered later earlier t rest
 
     told-turn : Told (leaveTurn d i r (turnOf d i r)) (now ∷ log)
@@ -121,7 +124,10 @@ module _ (d : Schedule) (r₀ : Round) where
                   rw (e, put-same i (record { run = turnOf d i r .state .run; answer = some (turnOf d i r .answer) }) (r .progress), answer-own i now log refl)
                   (stays-by _ _ (turnOf d i r .answer))
               | no ne ↦
-                  rw (put-other i (record { run = turnOf d i r .state .run; answer = some (turnOf d i r .answer) }) (r .progress) j ne, answer-other j now log ne)
+                  rw (
+                    put-other i (record { run = turnOf d i r .state .run; answer = some (turnOf d i r .answer) }) (r .progress) j ne,
+                    answer-other j now log ne,
+                  )
                   (told .rounds j)
             ]
 

@@ -1,6 +1,6 @@
 -- THE PROMISE OF THE PROGRAM: where "end complete" is printed, the rows printed are exactly the basis of the map read; where "end paused" or "end refused 11"
--- is, they are of it. It is about the definition of
--- what is printed (`printed`), with which the contract of `report` equates what the code writes. Assumes nothing.
+-- is, they are of it. It is about the definition of what is printed (`printed`), with which the contract of `report` equates what the code writes. Which texts
+-- are read as a map and which refusal another gets: map_text/specs/RuleLaws.antt (`text-renders`). Assumes nothing.
 use Prim.Native.Nat.{ℕ, _≤_}
 use mathlib.Core.List.{List, [], _∷_, _++_, map}
 use mathlib.Core.Path.{_≡_, refl}
@@ -110,6 +110,16 @@ module _ (t : List ℕ) (p q : ℕ) (coefs : List ℤ) (e : readMap t ≡ readin
       absurd (omega (arith, ends-once {a = 100} {b = 101} d (rw (shown-as f) at ends)))
   by-answer ends (refused n values) f =
       no-digit (digit-after front (digit-after listed (counted-ends (bytes "end refused ") n))) (rw (shown-as f) at ends)
+
+-- ---- the promise
+
+-- Of every text that is read as a map, what is printed is the run's; of every other text it is the refusal, "one line only".
+pub printed-accepted : (t : List ℕ) {p q : ℕ} {coefs : List ℤ} → readMap t ≡ reading.accepted p q coefs → PrintedRun t
+printed-accepted t {p} {q} {coefs} e = printed-run t p q coefs e
+
+pub printed-refusal : (t : List ℕ) {n : ℕ} {values : List ℕ} → readMap t ≡ reading.refused n values → printed t ≡ refusalText n values
+unfolding printed readingText
+printed-refusal t e = rw e
 
 -- A printed "end complete" means that the rows printed are exactly the basis of the map read.
 pub printed-complete : (t before : List ℕ) → printed t ≡ before ++ endComplete → PrintedBasis t

@@ -186,7 +186,10 @@ module _ (i : Input) (list : List ℕ) (found : ℕ) (out : List ℕ) (e : listi
   text-is = lines-joined found (mapOf i) (at list (i .q))
 
   went : listingCall i list found out
-      ≡ record { answer = written (length (listing (mapOf i) list found)); out = listing (mapOf i) list found ++ drop (length (listing (mapOf i) list found)) out }
+      ≡ record {
+        answer = written (length (listing (mapOf i) list found));
+        out = listing (mapOf i) list found ++ drop (length (listing (mapOf i) list found)) out;
+      }
   unfolding listingCall listedBy
   went = rw e
 

@@ -105,7 +105,10 @@ module _ (k c : Machine State) (P : State → Type 0)
                     rw (d .0, d .1, f .0, f .1, next s) (i .0, ap suc (i .1)),
                     elim j [
                       | inl a ↦ inl (ap (λ o. o .answer) (d .0) ∙ a)
-                      | inr (a, b) ↦ inr (g .0 ∙ ap (walk n c) (next s) ∙ a ∙ sym (d .0), g .1 ∙ ap (λ t. suc (walkSteps n c t)) (next s) ∙ ap suc b ∙ sym (d .1))
+                      | inr (a, b) ↦ inr (
+                        g .0 ∙ ap (walk n c) (next s) ∙ a ∙ sym (d .0),
+                        g .1 ∙ ap (λ t. suc (walkSteps n c t)) (next s) ∙ ap suc b ∙ sym (d .1),
+                      )
                     ],
                   )
               | inr (r, values, e) ↦

@@ -108,7 +108,8 @@ pub record TrainingPromise (p q : ℕ) (coefs : List ℤ) : Type 0 where
       → seatStartFrom lower (seatInput p q coefs) s ≡ record { answer = refused n values; state = s }
   pub unchanged : (budget : ℕ) (s : State) (n : ℕ) (values : List ℕ) → seatResumeChecks (seatInput p q coefs) s ≡ refuse n values
       → seatResume budget (seatInput p q coefs) s ≡ record { answer = refused n values; state = s }
-  pub unchanged-from : (lower : List ℕ) (budget : ℕ) (s : State) (n : ℕ) (values : List ℕ) → seatResumeFromChecks lower (seatInput p q coefs) s ≡ refuse n values
+  pub unchanged-from : (lower : List ℕ) (budget : ℕ) (s : State) (n : ℕ) (values : List ℕ)
+      → seatResumeFromChecks lower (seatInput p q coefs) s ≡ refuse n values
       → seatResumeFrom budget lower (seatInput p q coefs) s ≡ record { answer = refused n values; state = s }
   pub whole-steps : (budget : ℕ) (s : State)
       → seatResume budget (seatInput p q coefs) s .state ≡ after (seatSteps budget (seatInput p q coefs) s) (machine (inputOf p q coefs)) s
@@ -117,7 +118,8 @@ pub record TrainingPromise (p q : ℕ) (coefs : List ℤ) : Type 0 where
   -- "the same call again refuses again"; "after 11 a longer list table with the same rows may be given"
   pub again : (budget : ℕ) (s : State) (n : ℕ) (values : List ℕ) → let i = seatInput p q coefs in let o = seatResume budget i s in seatResumeChecks i s ≡ go
       → o .answer ≡ refused n values → (more : ℕ) → seatResume (suc more) i (o .state) ≡ record { answer = refused n values; state = o .state }
-  pub again-from : (lower : List ℕ) (budget : ℕ) (s : State) (n : ℕ) (values : List ℕ) → let i = seatInput p q coefs in let o = seatResumeFrom budget lower i s in
+  pub again-from : (lower : List ℕ) (budget : ℕ) (s : State) (n : ℕ) (values : List ℕ) → let i = seatInput p q coefs in let o =
+      seatResumeFrom budget lower i s in
       seatResumeFromChecks lower i s ≡ go → o .answer ≡ refused n values → (more : ℕ)
       → seatResumeFrom (suc more) lower i (o .state) ≡ record { answer = refused n values; state = o .state }
   pub longer : (budget : ℕ) (s : State) → let i = seatInput p q coefs in let o = seatResume budget i s in let t = o .state in
@@ -126,7 +128,8 @@ pub record TrainingPromise (p q : ℕ) (coefs : List ℤ) : Type 0 where
   pub longer-from : (lower : List ℕ) (budget : ℕ) (s : State) → let i = seatInput p q coefs in let o = seatResumeFrom budget lower i s in let t = o .state in
       seatResumeFromChecks lower i s ≡ go → o .answer ≡ refused 11 [] → (list second : List ℕ)
       → SameRows q (t .run .found) (t .list) list → SameRows q (t .run .found₂) (t .second) second → RoomBy q (t .run .kind) (withLists t list second)
-      → (more : ℕ) → seatResumeFrom (suc more) lower i (withLists t list second) ≡ walk more (seatMachineFrom lower i) (stepFrom lower i (withLists t list second))
+      → (more : ℕ)
+      → seatResumeFrom (suc more) lower i (withLists t list second) ≡ walk more (seatMachineFrom lower i) (stepFrom lower i (withLists t list second))
   -- "entries beyond them are never touched", "List rows past the found count are not touched."
   pub untouched : (s : State) → Untouched q q s (seatStart (seatInput p q coefs) s .state)
       × ((lower : List ℕ) → Untouched q q s (seatStartFrom lower (seatInput p q coefs) s .state))
@@ -139,7 +142,8 @@ pub record TrainingPromise (p q : ℕ) (coefs : List ℤ) : Type 0 where
       → Exactly q (MinimalSolution (mapOf (seatInput p q coefs))) (o .state .list) (o .state .run .found)
   pub goes-from : (lower : List ℕ) (s : State) → SeatRunFrom lower p q coefs s → seatResumeFromChecks lower (seatInput p q coefs) s ≡ go
   pub lists-from : (lower : List ℕ) (s : State) → SeatRunFrom lower p q coefs s → ListsFrom lower (seatInput p q coefs) s
-  pub finished-from : (lower : List ℕ) (s : State) → SeatRunFrom lower p q coefs s → (budget : ℕ) → let o = seatResumeFrom budget lower (seatInput p q coefs) s in
+  pub finished-from : (lower : List ℕ) (s : State) → SeatRunFrom lower p q coefs s → (budget : ℕ) → let o =
+      seatResumeFrom budget lower (seatInput p q coefs) s in
       o .answer ≡ complete
       → Exactly q (MinimalFrom (mapOf (seatInput p q coefs)) (boundOf lower)) (o .state .list) (o .state .run .found)
       × Exactly q (MinimalSolution (mapOf (seatInput p q coefs))) (o .state .second) (o .state .run .found₂)

@@ -160,7 +160,8 @@ module _ (p q : ℕ) (coefs : List ℤ) where
       → (more : ℕ) → seatResume (suc more) i (seatResume budget i s .state) ≡ record { answer = refused n values; state = seatResume budget i s .state }
   seat-again budget s n values e a more = refused-again ruled budget s (λ t. refl) n values e (seat-left-goes budget s e) a more
 
-  pub seat-longer : (budget : ℕ) (s : State) → seatResumeChecks i s ≡ go → seatResume budget i s .answer ≡ refused 11 [] → let t = seatResume budget i s .state in
+  pub seat-longer : (budget : ℕ) (s : State) → seatResumeChecks i s ≡ go → seatResume budget i s .answer ≡ refused 11 []
+      → let t = seatResume budget i s .state in
       (list : List ℕ) → SameRows q (t .run .found) (t .list) list → t .run .found < capacity q list → (more : ℕ)
       → seatResume (suc more) i (withList t list) ≡ walk more (seatMachine i) (step (systemOf i) (withList t list))
   seat-longer budget s e a list same roomy more =
@@ -175,7 +176,8 @@ module _ (p q : ℕ) (coefs : List ℤ) where
       → resume (suc more) i (withList t list) ≡ walk more (machine i) (step (systemOf i) (withList t list))) (sym st)
       (λ x y. first-demand .longer budget i s c b list x y more) same roomy in
       is-core f (suc more) (withList t list) ∙ ap renumbered l
-      ∙ sym (walk-renumbered (seatMachine i) (machine i) (λ t. refl) (λ t. refl) (seat-search (systemOf i)) (λ t. refl) more (step (systemOf i) (withList t list)))
+      ∙ sym (walk-renumbered (seatMachine i) (machine i) (λ t. refl) (λ t. refl) (seat-search (systemOf i)) (λ t. refl) more
+      (step (systemOf i) (withList t list)))
 
   -- "entries beyond them are never touched", "List rows past the found count are not touched."
   pub seat-untouched : (budget : ℕ) (s : State) → Untouched q q s (seatResume budget i s .state)
@@ -196,8 +198,11 @@ module _ (p q : ℕ) (coefs : List ℤ) where
   pub seat-start-untouched : (s : State) → Untouched q q s (seatStart i s .state)
   seat-start-untouched s =
       elim (check-cases (seatFirst i)) [
-        | inl f ↦ subst (λ o. Untouched q q s (o .state)) (sym (seat-starts p q coefs s ∙ goes-checked (seatFirst i) s _ f)) (first-demand .untouched (starting i) s)
-        | inr (n, values, e) ↦ subst (λ o. Untouched q q s (o .state)) (sym (seat-starts p q coefs s ∙ refused-state (seatFirst i) s _ n values e)) (untouched q q s)
+        | inl f ↦
+            subst (λ o. Untouched q q s (o .state)) (sym (seat-starts p q coefs s ∙ goes-checked (seatFirst i) s _ f))
+            (first-demand .untouched (starting i) s)
+        | inr (n, values, e) ↦
+            subst (λ o. Untouched q q s (o .state)) (sym (seat-starts p q coefs s ∙ refused-state (seatFirst i) s _ n values e)) (untouched q q s)
       ]
 
   -- ---- runs from a lower bound
@@ -267,7 +272,8 @@ module _ (p q : ℕ) (coefs : List ℤ) where
         → let t = seatResumeFrom budget lower i s .state in (list second : List ℕ)
         → SameRows q (t .run .found) (t .list) list → SameRows q (t .run .found₂) (t .second) second
         → RoomBy q (t .run .kind) (withLists t list second)
-        → (more : ℕ) → seatResumeFrom (suc more) lower i (withLists t list second) ≡ walk more (seatMachineFrom lower i) (stepFrom lower i (withLists t list second))
+        → (more : ℕ)
+        → seatResumeFrom (suc more) lower i (withLists t list second) ≡ walk more (seatMachineFrom lower i) (stepFrom lower i (withLists t list second))
     seat-longer-from budget s e a list second same same₂ roomy more =
         let f = first-goes-from s e in
         let c = seat-core-from p q coefs lower s e in
@@ -276,7 +282,8 @@ module _ (p q : ℕ) (coefs : List ℤ) where
         let st : t ≡ resumeFrom budget lower i s .state = core-state-from f budget s in
         let b : resumeFrom budget lower i s .answer ≡ refused 11 [] = full-back (resumeFrom budget lower i s .answer) (ap (λ o. o .answer) (sym is) ∙ a) in
         let l : resumeFrom (suc more) lower i (withLists t list second) ≡ walk more (machineFrom lower i) (stepFrom lower i (withLists t list second)) =
-        subst (λ t. SameRows q (t .run .found) (t .list) list → SameRows q (t .run .found₂) (t .second) second → RoomBy q (t .run .kind) (withLists t list second)
+        subst (λ t. SameRows q (t .run .found) (t .list) list → SameRows q (t .run .found₂) (t .second) second
+        → RoomBy q (t .run .kind) (withLists t list second)
         → resumeFrom (suc more) lower i (withLists t list second) ≡ walk more (machineFrom lower i) (stepFrom lower i (withLists t list second))) (sym st)
         (λ x x₂ y. first-demand-from lower i refl .longer budget s c b list second x x₂ y more) same same₂ roomy in
         is-core-from f (suc more) (withLists t list second) ∙ ap renumbered l
@@ -303,6 +310,7 @@ module _ (p q : ℕ) (coefs : List ℤ) where
         elim (check-cases (seatFirst i)) [
           | inl f ↦ subst (λ t. Untouched q q s t) (sym (core-state-from f budget s)) (first-demand .untouched (continuing-from budget lower i refl) s)
           | inr (n, values, e) ↦
-              subst (λ t. Untouched q q s t) (sym (ap (λ o. o .state) (seat-resumes-from p q coefs lower budget s ∙ refused-state (seatFirst i) s _ n values e)))
+              subst (λ t. Untouched q q s t)
+              (sym (ap (λ o. o .state) (seat-resumes-from p q coefs lower budget s ∙ refused-state (seatFirst i) s _ n values e)))
               (untouched q q s)
         ]
