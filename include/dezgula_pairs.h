@@ -85,7 +85,7 @@ uint64_t dezgula_raw_pairs_resume(size_t p, size_t q, const int32_t *coefs, size
                                   size_t supports_len, int64_t *values, size_t values_len, uint64_t *record, size_t record_len,
                                   uint64_t budget) DEZGULA_LOOK_AT_IT;
 
-/* coefs has 128 numbers, words 2. */
+/* coefs has 128 numbers, words 2: p and q of the map read. Refused: writes nothing; the answer is the number, with the place or the line above its low 8 bits. */
 uint64_t dezgula_raw_read_map(const uint8_t *text, size_t text_len, int32_t *coefs, uint64_t *words) DEZGULA_LOOK_AT_IT;
 
 /* ---- the calls */
@@ -149,7 +149,7 @@ DEZGULA_LOOK_AT_IT static inline uint64_t dezgula_read_map(const char *text, siz
 {
     uint64_t words[2] = {0, 0};
     uint64_t answer = dezgula_raw_read_map((const uint8_t *)dezgula_lent(text), dezgula_lent_length(text, text_len), coefs, words);
-    if (answer != DEZGULA_MAP_READ) return answer + 256 * words[0];
+    if (answer != DEZGULA_MAP_READ) return answer;
     system->p = (size_t)words[0];
     system->q = (size_t)words[1];
     system->coefs = coefs;

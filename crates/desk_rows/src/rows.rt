@@ -37,14 +37,14 @@ pub fn add(t: &[u32], table: &[u32], base: usize, q: usize, z: &mut [u32])
     }
 }
 
-// Whether one of the first q numbers is above 1,000,000.
+// Whether one of the first q numbers is above the limit of components.
 pub fn is_large(t: &[u32], q: usize) -> bool
     requires { ⌜ q ≤ length (now t) ⌝ }
     ensures { λ b. ⌜ b ≡ anyTo q (λ i. ltb mostComponent (tuple (now (t .entry)) i)) ⌝ }
 {
     let mut j = 0;
     while j < q {
-        if 1000000 < t[j] {
+        if calls::COMPONENT_LIMIT < t[j] {
             return true;
         }
         j += 1;

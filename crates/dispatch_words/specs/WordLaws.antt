@@ -91,7 +91,7 @@ abbrev pub leftBy : ℕ → List ℕ → List Outcome → List ℕ
 leftBy n words outcomes = writeRuns n words (λ i. runOf (getD outcomes i noOutcome .run)) (λ i. answerOf (getD outcomes i noOutcome .answer))
 
 abbrev pub servedBy : List ℕ → Dispatched → List ℕ
-servedBy words d = leftBy 8 (set (set words 0 (d .last)) 1 (d .steps)) (d .outcomes)
+servedBy words d = leftBy 8 (set (set words 0 (d .last)) 1 (d .steps .0)) (d .outcomes)
 
 -- what is told of a call by value
 abbrev pub toldBy : Verdict → List ℕ → Dispatched → ℕ × List ℕ

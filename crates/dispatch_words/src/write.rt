@@ -109,7 +109,7 @@ fn served(words: &mut [u64], d: Dispatched)
 {
     let outcomes = d.outcomes;
     words[0] = d.last as u64;
-    words[1] = d.steps;
+    words[1] = d.steps.0;
     runs(words, outcomes);
 }
 

@@ -15,6 +15,7 @@ use Rattle.definitions.specs.Tables.{State}
 use Rattle.calls.specs.Paper.{answerOf, runOf}
 use Rattle.calls.specs.declared.Record.{Record}
 use Rattle.calls.specs.declared.Outcome.{Outcome}
+use Rattle.calls.specs.declared.Steps.{Steps}
 use Rattle.dispatch_form.specs.Parts.{apart}
 use Rattle.dispatch_form.specs.Dispatch as form
 use Rattle.dispatch_form.specs.Dispatch.{own, opened, afterTurns, answerFor, stepsBetween, totalTo, dispatchChecks, dispatch}
@@ -42,7 +43,7 @@ pub record Returns (x : form.Dispatched) (d : Dispatched) (stack list : List ℕ
   pub check : verdictOf (d .verdict) ≡ x .check
   pub answers : (i : ℕ) → i < 8 → answerOf (getD (d .outcomes) i noOutcome .answer) ≡ x .answers i
   pub records : (i : ℕ) → i < 8 → runOf (getD (d .outcomes) i noOutcome .run) ≡ x .round .progress i .run
-  pub steps : d .steps ≡ x .steps
+  pub steps : d .steps .0 ≡ x .steps
   pub last : d .last ≡ x .round .last
   pub stacks : stack ≡ x .round .stack
   pub lists : list ≡ x .round .list
@@ -53,7 +54,7 @@ pub record Refused (why : Fault) (records : List Record) (last : ℕ) (d : Dispa
   pub verdict : d .verdict ≡ Refuse why
   pub outcomes : Filled 8 (λ i. keptOf (getD records i noRecord)) noOutcome (d .outcomes) 8
   pub number : d .last ≡ last
-  pub steps : d .steps ≡ 0
+  pub steps : d .steps .0 ≡ 0
 
 -- the checks look at no more
 pub checks-are : (count : ℕ) (shares : List Share) (coefs : List ℤ) (quantum : ℕ) (stack list : List ℕ) (records : List Record) (last : ℕ)
@@ -130,7 +131,7 @@ module _ (count : ℕ) (shares : List Share) (coefs : List ℤ) (quantum : ℕ) 
       pub rising : Rising count records progress′
       rising = record { rises = λ i l. rise i }
 
-      pub returns-served : {outcomes : List Outcome} {steps : ℕ} → Finishing count shares coefs stack′ list′ records progress′ outcomes steps count
+      pub returns-served : {outcomes : List Outcome} {steps : Steps} → Finishing count shares coefs stack′ list′ records progress′ outcomes (steps .0) count
           → Returns (dispatch turns (scheduleFor count shares coefs quantum) (handed stack list records last))
           (record { verdict = Pass; outcomes = outcomes; last = last′; steps = steps }) stack′ list′
       unfolding dispatch answerFor own stepsBetween

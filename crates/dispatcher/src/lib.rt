@@ -4,6 +4,7 @@ ghost use Rattle.dispatch_form.specs.Dispatch as form;
 ghost use Rattle.dispatcher.specs.Form.{scheduleFor};
 ghost use Rattle.dispatcher.specs.Entry.{handed, Refused, Returns};
 use calls::Record;
+use calls::Steps;
 use types::Dispatched;
 use types::Fault;
 use types::Share;
@@ -69,6 +70,6 @@ fn refused(why: Fault, records: [Record; 8], last: usize) -> Dispatched
         verdict: Verdict::Refuse(why),
         outcomes,
         last,
-        steps: 0,
+        steps: Steps(0),
     }
 }

@@ -18,6 +18,7 @@ use calls::Answer;
 use calls::Check;
 use calls::Outcome;
 use calls::Record;
+use calls::Steps;
 
 // What a run answers that its checks let go on, to a budget of 0.
 fn rest(height: usize) -> Answer
@@ -138,7 +139,7 @@ pub fn kept(records: [Record; 8]) -> [Outcome; 8]
 // What is answered for the runs, and the steps that they took.
 pub struct Finished {
     pub outcomes: [Outcome; 8],
-    pub steps: u64,
+    pub steps: Steps,
 }
 
 pub fn finish(
@@ -152,7 +153,7 @@ pub fn finish(
 ) -> Finished
     requires { ⌜ Ready count shares (length (now stack)) (length (now list)) ⌝ }
     requires { ⌜ Rising count records progress ⌝ }
-    ensures { λ f. ⌜ Finishing count shares (now (coefs .entry)) (now (stack .entry)) (now (list .entry)) records progress (f .outcomes) (f .steps) count ⌝ }
+    ensures { λ f. ⌜ Finishing count shares (now (coefs .entry)) (now (stack .entry)) (now (list .entry)) records progress (f .outcomes) (f .steps .0) count ⌝ }
 {
     let mut outcomes = kept(records);
     let mut steps = 0;
@@ -164,5 +165,8 @@ pub fn finish(
         outcomes[i] = o;
         i += 1;
     }
-    Finished { outcomes, steps }
+    Finished {
+        outcomes,
+        steps: Steps(steps),
+    }
 }

@@ -2,6 +2,7 @@
 use calls::Answer;
 use calls::Outcome;
 use calls::Record;
+use calls::Steps;
 
 // A part of a table: where it begins, and how many numbers it has.
 pub struct Part {
@@ -50,5 +51,5 @@ pub struct Dispatched {
     pub verdict: Verdict,
     pub outcomes: [Outcome; 8],
     pub last: usize,
-    pub steps: u64,
+    pub steps: Steps,
 }

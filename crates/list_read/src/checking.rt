@@ -148,7 +148,7 @@ fn block_in_range(file: &[u8], coefs: usize, rows: usize, b: usize) -> bool
     if coefs + rows < 126 * b + 126 {
         return words_in_range(file, coefs, rows, b);
     }
-    all_within(file, 128 * (b + 1) + 1, 126, 1000000)
+    all_within(file, 128 * (b + 1) + 1, 126, calls::COMPONENT_LIMIT)
 }
 
 // The same word by word.
@@ -176,7 +176,7 @@ fn word_in_range(coefs: usize, rows: usize, i: usize, w: u32) -> bool
         return !checks::coefficients::out_of_range(signed(w));
     }
     if i < coefs + rows {
-        return w <= 1000000;
+        return w <= calls::COMPONENT_LIMIT;
     }
     w == 0
 }

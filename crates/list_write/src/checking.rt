@@ -57,14 +57,14 @@ fn list_in_range(q: usize, rows: &[u32], ending: u32) -> bool
     rows_in_range(rows)
 }
 
-// Whether every component is at most 1,000,000.
+// Whether every component is within the limit.
 fn rows_in_range(rows: &[u32]) -> bool
     ensures { λ b. ⌜ b ≡ rowsInRange (now (rows .entry)) ⌝ }
 {
     let mut within = true;
     let mut i = 0;
     while i < rows.len() {
-        within = also_within(within, rows[i], 1000000);
+        within = also_within(within, rows[i], calls::COMPONENT_LIMIT);
         i += 1;
     }
     within

@@ -1,12 +1,14 @@
 // Reading the text form of a map, with an answer that is one number and two words beside it: specs/Words.antt.
 ghost use mathlib.Core.Path.{_≡_};
+ghost use Prim.Native.Nat.{_^_, _<_};
 ghost use Rattle.calls.specs.Paper.{value};
 ghost use Rattle.map_text.specs.Answer.{numberOf, valuesOf};
-ghost use Rattle.map_words.specs.Words.{readWords, twoWords};
+ghost use Rattle.map_words.specs.Words.{readWords};
+ghost use Rattle.record_words.specs.Codes.{refusalCode};
 use map_text::Read;
 use map_text::TextRefusal;
 
-// Reads the map that `text` writes; its coefficients go to the beginning of `coefs`, row by row.
+// Reads the map that `text` writes: its coefficients go to the beginning of `coefs`, row by row, p and q into the words. A refusal writes nothing.
 pub fn read_map(text: &[u8], coefs: &mut [i32; 128], words: &mut [u64; 2]) -> u64
     ensures { λ a. ⌜ (a, (now (coefs .exit), now (words .exit))) ≡ readWords (now (text .entry)) (now (coefs .entry)) (now (words .entry)) ⌝ }
 {
@@ -16,12 +18,16 @@ pub fn read_map(text: &[u8], coefs: &mut [i32; 128], words: &mut [u64; 2]) -> u6
             words[1] = q as u64;
             108
         }
-        Read::Refused(why) => {
-            words[0] = value_of(why) as u64;
-            words[1] = 0;
-            number_of(why)
-        }
+        Read::Refused(why) => refusal(why),
     }
+}
+
+// A refusal as one number.
+fn refusal(why: TextRefusal) -> u64
+    requires { ⌜ refusalCode (numberOf why) (valuesOf why) < 2 ^ 64 ⌝ }
+    ensures { λ a. ⌜ a ≡ refusalCode (numberOf why) (valuesOf why) ⌝ }
+{
+    number_of(why) + 256 * value_of(why) as u64
 }
 
 fn number_of(why: TextRefusal) -> u64

@@ -125,7 +125,10 @@ pub fn read_map(text: &[u8], coefs: &mut [i32; 128]) -> Result<(usize, usize), (
     let mut words = [7, 7];
     match unsafe { dezgula_raw_read_map(text.as_ptr(), text.len(), coefs.as_mut_ptr(), words.as_mut_ptr()) } {
         108 => Ok((words[0] as usize, words[1] as usize)),
-        number => Err((number, words[0])),
+        answer => {
+            assert_eq!(words, [7, 7], "refused, it writes nothing");
+            Err((answer & 0xff, answer >> 8))
+        }
     }
 }
 

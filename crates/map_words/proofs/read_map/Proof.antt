@@ -1,6 +1,6 @@
 -- `read_map` meets its contract. Assumes nothing.
 use borrow.Author.Needs.{needs}
-use Rattle.map_words.specs.Words.{told-map, told-refused}
+use Rattle.map_words.specs.Words.{told-fits, told-map, told-refused}
 use Rattle.map_words.proofs.read_map.Statement.{statement}
 use Rattle.map_words.proofs.read_map.Tie as tie
 
@@ -19,38 +19,18 @@ element-write-words-2 c = search needs
 enum-known-why : tie.Need-enum-known-why
 enum-known-why c = search needs
 
-value-of-requires : tie.Need-value-of-requires
-value-of-requires c κs = search needs
-
-element-write-words-3 : tie.Need-element-write-words-3
-element-write-words-3 c = search needs
-
-element-write-words-4 : tie.Need-element-write-words-4
-element-write-words-4 c = search needs
-
-number-of-requires : tie.Need-number-of-requires
-number-of-requires c κs = search needs
+refusal-requires : tie.Need-refusal-requires
+refusal-requires c κs = let k = c .before in told-fits _ _ _ (k .before .before .read-map .ensures) (k .why .given .1)
 
 returns : tie.Need-returns
 returns c = told-map _ _ _ _ (c .before .before .before .read-map .ensures) (c .before .p .given .1)
 
 returns-2 : tie.Need-returns-2
 returns-2 c =
-    let k = c .before .before .before in
-    told-refused _ _ _ _ (k .before .before .read-map .ensures) (k .why .given .1) (c .number-of .ensures) (c .before .value-of .ensures)
+    let k = c .before .before in
+    told-refused _ _ _ _ (k .before .before .read-map .ensures) (k .why .given .1) (c .refusal .ensures)
 
 pub read-map-spec : {M : Type 1} → statement M
 read-map-spec =
     tie.close
-    (tie.spec
-    read-map-requires
-    enum-known-p
-    element-write-words
-    element-write-words-2
-    enum-known-why
-    value-of-requires
-    element-write-words-3
-    element-write-words-4
-    number-of-requires
-    returns
-    returns-2)
+    (tie.spec read-map-requires enum-known-p element-write-words element-write-words-2 enum-known-why refusal-requires returns returns-2)
