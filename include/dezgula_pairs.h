@@ -85,7 +85,7 @@ uint64_t dezgula_raw_pairs_resume(size_t p, size_t q, const int32_t *coefs, size
                                   size_t supports_len, int64_t *values, size_t values_len, uint64_t *record, size_t record_len,
                                   uint64_t budget) DEZGULA_LOOK_AT_IT;
 
-/* coefs has 128 numbers, words 2: p and q of the map read. Refused: writes nothing; the answer is the number, with the place or the line above its low 8 bits. */
+/* coefs has 128 numbers, words 2: p and q of the map read. Refused: writes nothing; above the low 8 bits of the answer stands the place or the line. */
 uint64_t dezgula_raw_read_map(const uint8_t *text, size_t text_len, int32_t *coefs, uint64_t *words) DEZGULA_LOOK_AT_IT;
 
 /* ---- the calls */
