@@ -68,11 +68,11 @@ record Facts : Type 0 where
   deepest : ℕ
   -- the steps taken on allowances 7 and 1000
   taken : List ℕ
-  -- 14 after one step, and 12 after three floor steps
+  -- 14 after one step, and 12 after three steps above a lower bound
   fourteen : Answer
   steps : ℕ
   twelve : Answer
-  floor-steps : ℕ
+  above-steps : ℕ
   -- from floor 0 0 0 0
   zeros : List ℕ
 
@@ -87,7 +87,7 @@ of o l u z =
       fourteen = l .answer;
       steps = l .state .run .steps;
       twelve = u .answer;
-      floor-steps = u .state .run .steps;
+      above-steps = u .state .run .steps;
       zeros = z .state .run .found ∷ z .state .list;
     }
 
@@ -102,7 +102,7 @@ facts-hold : of (resume 1000 six begun) (resume 5 six late) (above (one (pos 2 �
       fourteen = refused 14 [];
       steps = stepLimit;
       twelve = refused 12 [];
-      floor-steps = 3;
+      above-steps = 3;
       zeros = 1 ∷ 0 ∷ 0 ∷ 0 ∷ 0 ∷ replicate 20 9;
     }
 unfolding one lent six begun rows late above sumTo inner value unit total allTo anyTo countTo refuseWith _then_ refuseFirst solves isAtOrBelow covered bit

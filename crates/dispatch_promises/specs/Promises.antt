@@ -1,10 +1,13 @@
 -- Document 02, job 14: what is promised of the dispatcher, each under its words. Assumes nothing.
-use mathlib.Core.Path.{_≡_}
+use mathlib.Core.Path.{_≡_, ap}
 use mathlib.Core.List.{List, _∷_, _++_}
 use Prim.Native.Nat.{ℕ, _*_, _≤_, _<_}
 use lib.ListN.{length}
 use Rattle.definitions.specs.Answers.{go, paused, refuse}
+use Rattle.definitions.specs.Tables.{State}
 use Rattle.laws.specs.CheckLaws.{Renders}
+use Rattle.theorems.specs.Demands.{unchanged-leaves}
+use Rattle.theorems.specs.Series.{Lending, meanwhile}
 use Rattle.dispatch_form.specs.CheckRules.{dispatchRules, dispatch-renders, accepted}
 use Rattle.dispatch_form.specs.TurnLaws.{turn-fits, turn-other}
 use Rattle.dispatch_form.specs.Dispatch.{Schedule, Round, own, leaveTurn, turnOf, dispatchChecks, dispatch, refusedWith}
@@ -24,6 +27,12 @@ refusals = dispatch-renders
 pub refused-untouched : (turns : ℕ) (d : Schedule) (r : Round) (n : ℕ) (values : List ℕ) → dispatchChecks d r ≡ refuse n values
     → dispatch turns d r ≡ refusedWith (refuse n values) r
 refused-untouched turns d r n values e = dispatch-refused turns d r n values e .0
+
+-- so that a refused call is a foreign call of the third demand (theorems/specs/Series), whatever of a run it was lent: it leaves the run as it is
+pub refused-leaves : (l : Lending Round) (s : State) (turns : ℕ) (d : Schedule) (n : ℕ) (values : List ℕ) → dispatchChecks d (l .handed s) ≡ refuse n values
+    → meanwhile (λ r. dispatch turns d r .round) l s ≡ s
+refused-leaves l s turns d n values e =
+    unchanged-leaves (λ r. dispatch turns d r .round) l s (ap (λ x. x .round) (refused-untouched turns d (l .handed s) n values e))
 
 -- a call that is not refused
 module _ (turns : ℕ) (d : Schedule) (r : Round) (e : dispatchChecks d r ≡ go) where

@@ -116,9 +116,9 @@ pub zero-sides : (i : Input) (b : List ℤ) → ((k : ℕ) → k < i .p → getD
 zero-sides i b zeros = (zero-minimal (i .p) (i .q) (coef (mapOf i)) _ zeros, only-zero (i .p) (i .q) (coef (mapOf i)) _ zeros)
 
 -- "the zero tuple counts: floor zero has the list "0 0 .. 0"": of every map, the minimal solution at or above 0 is 0, and no other
-pub zero-floor : (m : System) (lower : ℕ → ℕ) → ((j : ℕ) → j < m .q → lower j ≡ 0)
+pub zero-bound : (m : System) (lower : ℕ → ℕ) → ((j : ℕ) → j < m .q → lower j ≡ 0)
     → MinimalFrom m lower (λ j. 0) × ((t : ℕ → ℕ) → MinimalFrom m lower t → Same (m .q) (λ j. 0) t)
-zero-floor m lower zeros =
+zero-bound m lower zeros =
     let w : SolutionIn (m .p) (m .q) (coef m) (AtOrBelow (m .q) lower) (λ j. 0) = record {
       solution = zero-minimal (m .p) (m .q) (coef m) (λ k. pos 0) (λ k l. refl) .holds;
       admitted = λ j l. omega (arith, zeros j l);
