@@ -78,7 +78,7 @@ nothing = record { p = 1; q = 3; coefs = negsuc 1 ∷ negsuc 0 ∷ pos 2 ∷ [];
 runs-hold :
     (ran 11 100 example ≡ record { answer = complete; rows = 4 ∷ 2 ∷ 1 ∷ 0 ∷ 0 ∷ 1 ∷ 1 ∷ 1 ∷ []; past = 9 ∷ 9 ∷ 9 ∷ []; height = 0; steps = 19; deepest = 24 })
     × (ran 11 14 meeting ≡ record { answer = paused; rows = 6 ∷ 8 ∷ 10 ∷ 3 ∷ 4 ∷ 5 ∷ []; past = 9 ∷ 9 ∷ 9 ∷ 9 ∷ 9 ∷ []; height = 1; steps = 14; deepest = 24 })
-    -- "entries past the count after a sweep keep what they held before it"
+    -- entries past the count after a sweep keep what they held before it
     × (ran 11 100 meeting
     ≡ record { answer = complete; rows = 3 ∷ 4 ∷ 5 ∷ []; past = 3 ∷ 4 ∷ 5 ∷ 9 ∷ 9 ∷ 9 ∷ 9 ∷ 9 ∷ []; height = 0; steps = 15; deepest = 24 })
     × (ran 5 100 meeting ≡ record { answer = refused 11 []; rows = 6 ∷ 8 ∷ 10 ∷ []; past = 9 ∷ 9 ∷ []; height = 2; steps = 12; deepest = 24 })

@@ -51,11 +51,12 @@ pub fn dispatch(
             let progress = s.progress;
             let f = results::finish(count, shares, coefs, stack, list, records, progress);
             let outcomes = f.outcomes;
+            let steps = f.steps;
             Dispatched {
                 verdict: Verdict::Pass,
                 outcomes,
                 last: s.last,
-                steps: f.steps,
+                steps,
             }
         }
     }

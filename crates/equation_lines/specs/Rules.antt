@@ -29,7 +29,7 @@ pub data Accepts (q : ℕ) : ℕ → List ℕ → List ℤ → List ℤ → Type
 abbrev pub LineAccepted : ℕ → List ℕ → ℕ → Type 0
 LineAccepted q t i = (row : List ℤ) × (right : ℤ) × (lineOutcome q (afterLines i t) ≡ equation.accepted row right)
 
--- "What is refused names the line": of k lines the first that is not accepted is line i, from 0, and its own refusal is n with the values `own`
+-- what is refused names the line: of k lines the first that is not accepted is line i, from 0, and its own refusal is n with the values `own`
 pub record BadAt (q k : ℕ) (t : List ℕ) (i n : ℕ) (own : List ℕ) : Type 0 where
   pub there : i < k
   pub bad : lineOutcome q (afterLines i t) ≡ equation.refused n own
@@ -39,7 +39,7 @@ pub record BadAt (q k : ℕ) (t : List ℕ) (i n : ℕ) (own : List ℕ) : Type 
 abbrev pub FirstBad : ℕ → List ℕ → ℕ → List ℕ → Type 0
 FirstBad q t n values = (i : ℕ) × (own : List ℕ) × (values ≡ suc i ∷ own) × BadAt q (lineCount t) t i n own
 
--- before the lines: "10"; "1", more than 8 lines or none; "2"
+-- before the lines: 10; 1, more than 8 lines or none; 2
 abbrev pub systemRules : ℕ → List ℕ → Rules
 systemRules q t =
     rule 10 (mostBytes < length t)
@@ -47,7 +47,7 @@ systemRules q t =
     ▹ rule 2 (Outside 1 mostUnknowns q)
     ▹ end
 
--- after them: "29", a table is too short for the coefficients, or for the right sides
+-- after them: 29, a table is too short for the coefficients, or for the right sides
 abbrev pub tableRules : List ℤ → List ℤ → List ℤ → List ℤ → Rules
 tableRules zs rs coefs rights =
     rule 29 (length coefs < length zs)

@@ -17,7 +17,7 @@ use Rattle.laws.specs.CheckLaws.{AllSilent, FirstDue, Renders, Rules, _▹_, en
 use Rattle.laws.specs.ReasonLaws.{decides-count}
 use Rattle.laws.specs.RefusalLaws.{Outside, decides-outside, decides-unequal}
 
--- "2 for q outside 1 to 16, 5 for a tuple not of length q, 6 for a count above the room", in rising number
+-- 2 for q outside 1 to 16, 5 for a tuple not of length q, 6 for a count above the room, in rising number
 abbrev pub locateRules : ℕ → List ℕ → ℕ → List ℕ → Rules
 locateRules q list found t = rule 2 (Outside 1 mostUnknowns q) ▹ rule 5 (length t ≢ q) ▹ rule 6 (capacity q list < found) ▹ end
 

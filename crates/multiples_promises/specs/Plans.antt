@@ -235,7 +235,7 @@ module _ (p q : ℕ) (coefs : List ℤ) (list : List ℕ) (found : ℕ) (t times
         clash-made : unlisted ≡ made → ⊥
         clash-made e = let z : _≡_ {A = ℕ} 0 1 = cc in omega arith
 
--- "a call that takes a plan apart", in the same order: a refusal of Job 8's, an equation that is off, and else the multiples
+-- the call that takes a plan apart, in the same order: a refusal of Job 8's, an equation that is off, and else the multiples
 pub record PlanPromise : Type 0 where
   -- every call goes one way of three: `Way` says which, and with what answer
   pub ways : (i : Input) (list : List ℕ) (found : ℕ) (t times : List ℕ) → Way i list found t times

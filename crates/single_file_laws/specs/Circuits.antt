@@ -199,7 +199,7 @@ module _ (n : Graph) (x : ℕ → ℕ) (r : Circuit n x) where
         | inr u ↦ let e : suc k ≡ N = omega arith in omega (arith, ap (order n x) e, order-back, r .inside 0 (r .returns .some))
       ]
 
-  -- "each puts its document where the next takes one"
+  -- "each puts its document (its 1) where the next takes one (its −1)"
   pub order-linked : (k : ℕ) → k < N → n .tail (order n x (suc k)) ≡ n .head (order n x k)
   unfolding iterate
   order-linked k l = leaving-is n x (n .head (order n x k)) (next-inside k l) .1

@@ -65,14 +65,14 @@ same-length-2 c = search needs
 
 returns-2 : tie.Need-returns-2
 returns-2 c =
-    let v = c .before .before .before .before .before .before .before .before .before in
+    let v = c .before .before .before .before .before .before .before .before .before .before in
     let u = v .before .before .before in
     let k = u .before .before .before in
     let s = k .before .before .before .args in
     let told = u .before .enum-told .given .1 in
     let long = records-long (k .before .before .before) in
     returns-served (s .count) (s .shares) (now (s .coefs)) (s .quantum) (now (s .stack)) (now (s .list)) (s .records) (s .last) (s .turns)
-    (k .check .ensures) told long (u .unserved .ensures) (v .serve .result .progress) (v .serve .ensures) (c .before .finish .ensures)
+    (k .check .ensures) told long (u .unserved .ensures) (v .serve .result .progress) (v .serve .ensures) (c .before .before .finish .ensures)
 
 pub dispatch-spec : {M : Type 1} → statement M
 dispatch-spec =
