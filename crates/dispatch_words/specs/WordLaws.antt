@@ -158,7 +158,7 @@ runs-length zero words runs answers = refl
 runs-length (suc n) words runs answers = run-length _ (base n) (runs n) (answers n) ∙ runs-length n words runs answers
 
 pub served-length : (words : List ℕ) (d : Dispatched) → length (servedBy words d) ≡ length words
-served-length words d = runs-length 8 _ _ _ ∙ length-set (set words 0 (d .last)) 1 (d .steps) ∙ length-set words 0 (d .last)
+served-length words d = runs-length 8 _ _ _ ∙ length-set (set words 0 (d .last)) 1 (d .steps .0) ∙ length-set words 0 (d .last)
 
 pub runs-next : (n : ℕ) (words : List ℕ) (runs : ℕ → tables.Record) (answers : ℕ → paper.Answer)
     → writeRun (writeRuns n words runs answers) (2 + 9 * n) (runs n) (answers n) ≡ writeRuns (n + 1) words runs answers
