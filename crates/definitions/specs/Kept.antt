@@ -1,5 +1,5 @@
 -- What the starred runs do not show of the definitions, by computation: that six rows listed stay as they are, and with them the count of a second list and the
--- greatest sum; how many steps a call takes, and that a paused run goes on to the same end; a plain run to a component above 20; refusals 12 and 14 after
+-- greatest sum; how many steps a call takes, and that a paused run goes on to the same end; five unknowns; a plain run to a component above 20; refusals 12 and 14 after
 -- several steps; a lower bound of four zeros; rows out of order by their marks; and the reader of one list where there is no row. Assumes nothing.
 use Prim.Native.Nat.{ℕ, _-_}
 use mathlib.Core.Path.{_≡_, refl}
@@ -60,10 +60,11 @@ above : Input → List ℕ → Outcome State
 above i lower = resumeFrom 1000 lower i (startFrom lower i lent .state)
 
 record Facts : Type 0 where
-  -- the rows listed, and what the second list counts
+  -- the rows listed, and what is none of a plain run's: the count of a second list, and the steps of another walk
   answer : Answer
   list : List ℕ
   found₂ : ℕ
+  steps₂ : ℕ
   -- the greatest sum of the tuples taken off, which is D here
   deepest : ℕ
   -- the steps taken on allowances 7 and 1000
@@ -82,6 +83,7 @@ of o l u z =
       answer = o .answer;
       list = o .state .list;
       found₂ = o .state .run .found₂;
+      steps₂ = o .state .run .steps₂;
       deepest = o .state .run .deepest;
       taken = resumeSteps 7 six begun ∷ resumeSteps 1000 six begun ∷ [];
       fourteen = l .answer;
@@ -97,6 +99,7 @@ facts-hold : of (resume 1000 six begun) (resume 5 six late) (above (one (pos 2 �
       answer = complete;
       list = rows;
       found₂ = 0;
+      steps₂ = 0;
       deepest = 5;
       taken = 7 ∷ 17 ∷ [];
       fourteen = refused 14 [];
@@ -124,6 +127,21 @@ unfolding one lent six begun rows on-from ended sumTo inner value unit total all
     frozen writeTo writeRow unitsTo unitsStart makes marksTo writeChildren listed grown step rowFits inOrder check7 startChecks resumeChecks tooLarge
     searchChecks checked start unlessDone walk call
 later-holds = refl
+
+-- ---- 1 1 1 1 −1: five unknowns, so that a step from the top of the stack has four rows below it, all of which are taken off as they were written
+
+wide : Outcome State
+wide = resume 1000 (one (pos 1 ∷ pos 1 ∷ pos 1 ∷ pos 1 ∷ negsuc 0 ∷ [])) (start (one (pos 1 ∷ pos 1 ∷ pos 1 ∷ pos 1 ∷ negsuc 0 ∷ [])) roomy .state)
+  where
+    roomy : State
+    roomy = record { stack = replicate 30 9; list = replicate 20 9; second = []; run = lent .run }
+
+wide-holds : (wide .answer ≡ complete)
+    × (wide .state .list ≡ 0 ∷ 0 ∷ 0 ∷ 1 ∷ 1 ∷ 0 ∷ 0 ∷ 1 ∷ 0 ∷ 1 ∷ 0 ∷ 1 ∷ 0 ∷ 0 ∷ 1 ∷ 1 ∷ 0 ∷ 0 ∷ 0 ∷ 1 ∷ [])
+unfolding one lent wide sumTo inner value unit total allTo anyTo countTo refuseWith _then_ refuseFirst solves isAtOrBelow covered bit frozen writeTo writeRow
+    unitsTo unitsStart makes marksTo writeChildren listed grown step rowFits inOrder check7 startChecks resumeChecks tooLarge searchChecks checked start
+    unlessDone walk call
+wide-holds = (refl, refl)
 
 -- ---- 30 −1: a component above the training seat's limit, and no refusal
 

@@ -111,7 +111,7 @@ named kind found steps found₂ steps₂ =
 asked : State → Check
 asked = resumeFromChecks (0 ∷ 2 ∷ []) one-one
 
--- "6 covers a floor-walk row not at or above the floor"; "each list's count and each walk's steps"; "A record of one kind of run .. given to a continuing call
+-- "6 covers a floor-walk row not at or above the floor", each list's count and each walk's steps; "A record of one kind of run .. given to a continuing call
 -- of another kind"
 orders-hold : (asked (standing 0 2 (named lowerAbove 1 1000000000000 1 1000000000000)) ≡ go)
     × (asked (standing 0 1 (named lowerAbove 0 0 0 0)) ≡ refuse 6 [])
@@ -129,6 +129,19 @@ orders-hold : (asked (standing 0 2 (named lowerAbove 1 1000000000000 1 100000000
 unfolding standing named asked one-one allTo anyTo countTo refuseWith _then_ refuseFirst isAtOrBelow bit frozen rowFits inOrder inOrderFrom check7 resumeChecks
     resumeFromChecks
 orders-hold = (refl, refl, refl, refl, refl, refl, refl, refl, refl, refl, refl, refl, refl)
+
+-- "14 is about the walk under way": the steps of the other may stand at 1,000,000,000,000
+fourteen : Record → Answer
+fourteen r = resumeFrom 1 (0 ∷ 2 ∷ []) one-one (standing 0 2 r) .answer
+
+fourteen-holds : (fourteen (named lowerPlain 0 0 0 1000000000000) ≡ refused 14 [])
+    × (fourteen (named lowerPlain 0 1000000000000 0 0) ≡ paused)
+    × (fourteen (named lowerAbove 0 1000000000000 0 0) ≡ refused 14 [])
+    × (fourteen (named lowerAbove 0 0 0 1000000000000) ≡ paused)
+unfolding standing named fourteen one-one sumTo inner value unit total allTo anyTo countTo refuseWith _then_ refuseFirst solves isAtOrBelow covered bit frozen
+    writeTo writeRow lowered makes marksTo writeChildren listed grown step rowFits inOrder inOrderFrom check7 resumeFromChecks tooLarge searchChecks checked
+    settleFrom searchFrom stepFrom unlessDone walk call
+fourteen-holds = (refl, refl, refl, refl)
 
 -- in rising number: 5, 6, 7, 8
 numbers-hold : (resumeFromChecks (0 ∷ []) (inputOf 1 2 (pos 1 ∷ pos 10001 ∷ [])) (standing 0 2 (named plainRun 0 0 0 0)) ≡ refuse 5 [])

@@ -144,7 +144,7 @@ module _ (file : List ℕ) (b : ℕ) (t : Bool) (P : Type 0) (from : T t → P) 
 
 -- ---- the later blocks
 
--- "block by block": the first n of them
+-- "In each block": the first n of them
 unfoldable pub streamRules : List ℕ → ℕ → ℕ → ℕ → Rules → Rules
 streamRules file coefs rows zero others = others
 streamRules file coefs rows (suc b) others = streamRules file coefs rows b (blockRules file (b + 1) (BlockInRange file coefs rows b) others)

@@ -1,4 +1,4 @@
--- "A sweep removes each row that lies above another row or repeats an earlier one, and closes the gaps, order kept." (document 02, Job 10)
+-- "a sweep removes each row that lies above another row or repeats an earlier one, and closes the gaps, order kept." (document 02, Job 10)
 -- Assumes nothing.
 use Prim.Native.Nat.{ℕ}
 use mathlib.Core.Bool.{Bool, not, _&&_, _||_}

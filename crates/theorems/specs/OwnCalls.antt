@@ -151,7 +151,7 @@ module _ {S : Type 0} (k : Machine S) (P : S → Type 0) (u : Unrefused k P) whe
         record { good = call-good n (g .state) (a .good); stepped = own-stepped n g a; before = own-before n g a; status = own-status n g a (a .status) }
     along (foreign {g = g} r t leaves) = rw leaves (along r)
 
-    -- "under the demand's premises an own call answers "paused" or "complete""
+    -- "Under the demand's premises an own call answers "paused" or "complete""
     pub along-answers : {g : Log S} → Along g → Orderly (g .answers)
     along-answers {g} a = sorted (a .status)
       where
