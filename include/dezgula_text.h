@@ -14,7 +14,7 @@ extern "C" {
 /* ---- answers: those of dezgula.h, and these */
 
 enum {
-    /* Refused. Nothing lent was changed, but for what dezgula_read_system says. */
+    /* Refused. Nothing lent was changed, but for the place within a line (dezgula_read_system). */
     DEZGULA_TEXT_LINE = 9,    /* a line is not in the form, or not ended by a newline; the place is its number */
     DEZGULA_TEXT_LENGTH = 10, /* the text has more than 4,096 bytes */
     DEZGULA_GRAMMAR = 16,     /* an equation is outside the grammar, or has an unknown above q; the place is that of the first byte up to which the text
@@ -73,7 +73,7 @@ uint64_t dezgula_write_equation(size_t q, const int32_t *row, size_t row_len, in
 /* Reads a system for q unknowns, one equation a line, each line ended by a newline. Answers DEZGULA_SYSTEM_READ with the number of equations p, or refuses with
  * 10, 1, 2, then by the first line that is refused, with its number for the place (9, or what dezgula_read_equation refuses it with) or, last of all, 29.
  * Read: writes p * q entries of coefs, row by row, and p entries of rights, and what stood past them stays; *system is the system with these coefficients.
- * A line that is refused: writes the place that its own refusal comes with, or 0, to *within, unless that is NULL. Else: writes nothing. */
+ * Else: writes to *within, unless that is NULL, the place that the refusal of the line comes with, or 0, and nothing besides. */
 uint64_t dezgula_read_system(const char *text, size_t text_len, size_t q, int32_t *coefs, size_t coefs_len, int32_t *rights, size_t rights_len,
                              dezgula_system *system, uint64_t *within) DEZGULA_LOOK_AT_IT;
 
