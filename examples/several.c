@@ -90,7 +90,7 @@ static void begin(size_t i, const char *at, const char *end)
     refusals[i] = read_map(at, end, &shares[i], coefs + i * COEFS);
     if (refusals[i].number != 0) return;
     dezgula_system system = {shares[i].p, shares[i].q, coefs + i * COEFS, shares[i].coefs.size};
-    dezgula_run run = {stack + i * STACK, STACK, list + i * LIST, LIST, rounds.runs[i].record};
+    dezgula_run run = {stack + i * STACK, STACK, list + i * LIST, LIST, NULL, 0, rounds.runs[i].record};
     if (dezgula_start(&system, &run) != DEZGULA_STARTED) exit(2);
     rounds.runs[i].record = run.record;
 }
@@ -98,11 +98,11 @@ static void begin(size_t i, const char *at, const char *end)
 /* One turn for each unfinished run, again and again: no run has more than 100. */
 static void work(size_t count)
 {
+    static const dezgula_tables tables = {coefs, MOST * COEFS, stack, MOST * STACK, list, MOST * LIST};
     for (unsigned k = 0; k < TURNS; k++) {
         uint64_t unfinished = 0;
         for (size_t i = 0; i < count; i++) unfinished += rounds.runs[i].record.height > 0;
-        if (dezgula_dispatch(count, shares, coefs, MOST * COEFS, stack, MOST * STACK, list, MOST * LIST, &rounds, QUANTUM, unfinished) != DEZGULA_SERVED)
-            exit(2);
+        if (dezgula_dispatch(shares, count, &tables, &rounds, QUANTUM, unfinished) != DEZGULA_SERVED) exit(2);
     }
 }
 

@@ -1,5 +1,5 @@
 /* The walk with right sides of dezgula.h in plain C, to compare with: that of ../baseline.c through the system with one unknown more, placed first with the
- * sides as its column, which is never raised past 1; and with two lists, whose rows leave that unknown out. */
+ * negated right sides as its column, which is never raised past 1; and with two lists, whose rows leave that unknown out. */
 #include "../baseline.c"
 #include "capped.h"
 #include "raw.h"

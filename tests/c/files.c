@@ -67,7 +67,7 @@ static void send_and_take_in(void)
     expect(answered("a bit turned", dezgula_read_list(damaged, LENGTH, map, 10, list, 9, &system, &taken, &ending)) == DEZGULA_FILE_SUM, "a damaged file");
     memcpy(damaged, file + 512, 512);
     memcpy(damaged + 512, file, 512);
-    expect(answered("blocks exchanged", dezgula_read_list(damaged, LENGTH, map, 10, list, 9, &system, &taken, &ending)) == DEZGULA_FILE_NUMBER, "blocks exchanged");
+    expect(answered("blocks exchanged", dezgula_read_list(damaged, LENGTH, map, 10, list, 9, &system, &taken, &ending)) == DEZGULA_FILE_NUMBER, "exchanged");
     expect(answered("cut short", dezgula_read_list(file, 512, map, 10, list, 9, &system, &taken, &ending)) == DEZGULA_FILE_SIZE, "a file cut short");
     expect(answered("a table too short", dezgula_read_list(file, LENGTH, map, 8, list, 7, &system, &taken, &ending)) == DEZGULA_OUTPUT_SHORT, "a short table");
     expect(answered("nothing", dezgula_read_list(NULL, LENGTH, map, 10, list, 9, &system, &taken, &ending)) == DEZGULA_FILE_SIZE, "no file");
