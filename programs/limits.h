@@ -18,7 +18,8 @@
 /* How often a loop may have an activity. */
 #define MOST_COUNT DEZGULA_COMPONENT_LIMIT
 
-/* The longest file that is read, in bytes. */
+/* The longest file that is read, and the longest text of numbers or equations with its comments, in bytes. */
 #define MOST_BYTES ((size_t)16 << 20)
+#define MOST_TEXT ((size_t)1 << 20)
 
 #endif
