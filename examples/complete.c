@@ -2,7 +2,7 @@
  *
  * A run that pauses is gone on with, and a full list is made twice as long. Standard error shows steps, solutions, the greatest sum of components and seconds
  * after each call; standard output gets the report that the program `basis` prints. The status is 0 for a complete list, 1 where the library refuses, 2 where
- * no map can be read.
+ * no map can be read or the list cannot be written.
  *
  *   cc -O2 -Iinclude examples/complete.c target/staticlib/libdezgula.a -o complete */
 #include "dezgula.h"
@@ -92,5 +92,6 @@ int main(int count, char **words)
     if (answer == DEZGULA_COMPLETE) puts("end complete");
     else printf("end refused %u\n", dezgula_number(answer));
     free(run.list);
+    if (fflush(stdout) != 0 || ferror(stdout)) stop(2, "the list cannot be written");
     return answer == DEZGULA_COMPLETE ? 0 : 1;
 }

@@ -2,7 +2,7 @@
  *
  * The first file is solved by itself; each further one from the list of those before it. All have the same unknowns. A run that pauses is gone on with, and
  * a full list is made twice as long. Standard error tells steps and solutions after each desk; standard output gets the rows. The status is 0 for a complete
- * list, 1 where the library refuses, 2 where no map can be read.
+ * list, 1 where the library refuses, 2 where no map can be read or the list cannot be written.
  *
  *   cc -O2 -Iinclude examples/desks.c target/staticlib/libdezgula.a -o desks */
 #include "dezgula_desks.h"
@@ -84,5 +84,6 @@ int main(int count, char **words)
     for (size_t n = 1; dezgula_row(&system, &run, n, row, DEZGULA_MOST_UNKNOWNS) == DEZGULA_ROW; n++)
         for (size_t j = 0; j < q; j++) printf("%" PRIu32 "%c", row[j], j + 1 < q ? ' ' : '\n');
     puts(dezgula_sentence(DEZGULA_COMPLETE));
+    if (fflush(stdout) != 0 || ferror(stdout)) stop(2, "list", "it cannot be written");
     return 0;
 }

@@ -14,17 +14,18 @@ typedef struct {
     size_t count;
     char letter;      /* of the names by place */
     const char *what; /* what they are called */
+    const map *m;     /* where trays are named: the map, which may have left some out */
 } names;
 
 static names activities_of(const map *m)
 {
-    names n = {m->activities, m->q, 'x', "activity"};
+    names n = {m->activities, m->q, 'x', "activity", NULL};
     return n;
 }
 
 static names trays_of(const map *m)
 {
-    names n = {m->trays, m->p, 't', "tray"};
+    names n = {m->trays, m->p, 't', "tray", m};
     return n;
 }
 
@@ -65,6 +66,9 @@ static bool same(const node *own, const char *name, size_t len)
 /* Refuses a name that is nobody's, with those there are, as many as fit. */
 static bool unknown_name(const names *n, const char *name, size_t len, fault *why)
 {
+    for (size_t i = 0; n->m != NULL && i < n->m->unchanged; i++)
+        if (strlen(n->m->unchanged_names[i]) == len && memcmp(n->m->unchanged_names[i], name, len) == 0)
+            return fault_set(why, 0, "the tray %.*s is changed by no activity, so nothing can be delivered to it", (int)(len > 80 ? 80 : len), name);
     fault_set(why, 0, "no %s is named \"%.*s\"; there are", n->what, (int)(len > 80 ? 80 : len), name);
     for (size_t i = 0; i < n->count; i++) {
         size_t at = strlen(why->text);
