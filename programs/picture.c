@@ -1,8 +1,8 @@
 /* The picture of a map, as SVG: picture_write.
  *
- * In order: text escaped and broken into lines; what is drawn of a map; the SVG. Activities are boxes, trays have round ends, a page is a frame with its name. A
- * loop is shown by counts at its activities. The page (report.c) has the same picture and shows loops in it by the classes "shows" and "on" and by the texts of
- * the counts, so these are there, hidden, without a loop too. */
+ * In order: text escaped and broken into lines; what is drawn of a map; the SVG. Activities are boxes, trays have round ends, a page is a frame with its
+ * name. A loop is shown by counts at its activities. The page (report.c) has the same picture and shows loops in it by the classes "shows" and "on" and by
+ * the texts of the counts, so these are there, hidden, without a loop too. */
 #include "picture.h"
 
 #include <inttypes.h>
@@ -274,14 +274,50 @@ static void write_arc(FILE *out, const drawing *d, const drawn_arc *a, bool on)
     fputs("</g>\n", out);
 }
 
-/* The count at the upper right corner of an activity. Its box is as wide as its digits. */
-static void write_count(FILE *out, const drawn_node *n, uint32_t count)
+static point end_at(const drawn_arc *a, size_t n)
+{
+    return a->from == n ? a->points[0] : a->points[a->len - 1];
+}
+
+/* How near an arc's end on node n comes to a point, squared. */
+static double nearest_end(const drawing *d, size_t n, point p)
+{
+    double nearest = 1e9;
+    for (size_t i = 0; i < d->arcs_len; i++) {
+        if (d->arcs[i].from != n && d->arcs[i].to != n) continue;
+        point end = end_at(&d->arcs[i], n);
+        double square = (end.x - p.x) * (end.x - p.x) + (end.y - p.y) * (end.y - p.y);
+        if (square < nearest) nearest = square;
+    }
+    return nearest;
+}
+
+/* The corner of an activity that is farthest from its arcs' ends, the upper right one before others. */
+static point free_corner(const drawing *d, size_t n)
+{
+    static const double SIDES[4][2] = {{1, -1}, {-1, -1}, {1, 1}, {-1, 1}};
+    const drawn_node *of = &d->nodes[n];
+    point best = of->at;
+    double most = -1;
+    for (size_t i = 0; i < 4; i++) {
+        point corner = {of->at.x + SIDES[i][0] * (of->width / 2 - 4), of->at.y + SIDES[i][1] * of->height / 2};
+        double near = nearest_end(d, n, corner);
+        if (near <= 1.2 * most) continue;
+        most = near;
+        best = corner;
+    }
+    return best;
+}
+
+/* The count at a corner of an activity. Its box is as wide as its digits. */
+static void write_count(FILE *out, const drawing *d, size_t n, uint32_t count)
 {
     char digits[24];
     (void)snprintf(digits, sizeof digits, "%" PRIu32 " \xC3\x97", count);
-    double width = 10 + 7.5 * (double)columns_in(digits, strlen(digits)), right = n->at.x + n->width / 2 + 10, top = n->at.y - n->height / 2 - 12;
-    fprintf(out, "<g class=\"count\" data-right=\"%.1f\"><rect x=\"%.1f\" y=\"%.1f\" width=\"%.1f\" height=\"20\" rx=\"10\"/><text x=\"%.1f\" y=\"%.1f\">%s</text></g>",
-            right, right - width, top, width, right - width / 2, top + 14.5, digits);
+    double width = 10 + 7.5 * (double)columns_in(digits, strlen(digits));
+    point at = free_corner(d, n);
+    fprintf(out, "<g class=\"count\" data-x=\"%.1f\"><rect x=\"%.1f\" y=\"%.1f\" width=\"%.1f\" height=\"20\" rx=\"10\"/>", at.x, at.x - width / 2, at.y - 10, width);
+    fprintf(out, "<text x=\"%.1f\" y=\"%.1f\">%s</text></g>", at.x, at.y + 4.5, digits);
 }
 
 static void write_node(FILE *out, const drawing *d, size_t i, uint32_t count, bool on)
@@ -300,7 +336,7 @@ static void write_node(FILE *out, const drawing *d, size_t i, uint32_t count, bo
         escaped_write(out, n->label[k]);
         fputs("</text>", out);
     }
-    if (!n->tray) write_count(out, n, count);
+    if (!n->tray) write_count(out, d, i, count);
     fputs("</g>\n", out);
 }
 
