@@ -316,7 +316,8 @@ static void write_count(FILE *out, const drawing *d, size_t n, uint32_t count)
     (void)snprintf(digits, sizeof digits, "%" PRIu32 " \xC3\x97", count);
     double width = 10 + 7.5 * (double)columns_in(digits, strlen(digits));
     point at = free_corner(d, n);
-    fprintf(out, "<g class=\"count\" data-x=\"%.1f\"><rect x=\"%.1f\" y=\"%.1f\" width=\"%.1f\" height=\"20\" rx=\"10\"/>", at.x, at.x - width / 2, at.y - 10, width);
+    fprintf(out, "<g class=\"count\" data-x=\"%.1f\"><rect x=\"%.1f\" y=\"%.1f\" width=\"%.1f\" height=\"20\" rx=\"10\"/>", at.x, at.x - width / 2,
+            at.y - 10, width);
     fprintf(out, "<text x=\"%.1f\" y=\"%.1f\">%s</text></g>", at.x, at.y + 4.5, digits);
 }
 

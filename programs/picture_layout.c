@@ -12,7 +12,12 @@
 #include <sys/wait.h>
 #include <unistd.h>
 
-enum { MARGIN = 26, GAP_ACROSS = 46, GAP_DOWN = 34, DESK_PAD = 14, DESK_HEAD = 26, DESK_GAP = 44, ROW_WIDTH = 1500, SECONDS = 10, FEW = 18 };
+enum { MARGIN = 26, GAP_ACROSS = 46, GAP_DOWN = 34, DESK_PAD = 14, DESK_HEAD = 26, DESK_GAP = 44, ROW_WIDTH = 1500, FEW = 18 };
+
+/* How long dot may take. */
+#ifndef DOT_SECONDS
+#define DOT_SECONDS 10
+#endif
 
 /* Sheets at which the file's places are given up: what is drawn would be far apart, or on top of each other. */
 static const double MOST_SCALE = 6.0;
@@ -217,7 +222,7 @@ static void become_dot(int in, int out)
     sigemptyset(&none);
     (void)signal(SIGALRM, SIG_DFL);
     (void)sigprocmask(SIG_SETMASK, &none, NULL);
-    (void)alarm(SECONDS);
+    (void)alarm(DOT_SECONDS);
     if (dup2(in, 0) == 0 && dup2(out, 1) == 1 && (nowhere < 0 || dup2(nowhere, 2) == 2)) (void)execlp("dot", "dot", "-Tplain", (char *)NULL);
     _exit(127);
 }

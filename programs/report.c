@@ -1,8 +1,8 @@
 /* The page of a map and its list, as HTML that needs nothing from elsewhere: report_write.
  *
- * In order: the page's style and script; small words; the head, which says what the list is and what is proved; the net; the loops; the staffing table; the map in
- * words. Everything is in the page's text, so it can be read, printed and searched with scripts off; the script shows a loop in the net. Which loop is shown stands
- * in the page's address: page.html#loop=2 shows loop 2, so it can be sent to somebody. */
+ * In order: the page's style and script; small words; the head, which says whether the list is complete; the net; the loops; the staffing table; the map in
+ * words; what is proved. Everything is in the page's text, so it can be read, printed and searched with scripts off; the script shows a loop in the net. Which
+ * loop is shown stands in the page's address: page.html#loop=2 shows loop 2, so it can be sent to somebody. */
 #include "picture.h"
 
 #include <inttypes.h>
@@ -67,8 +67,9 @@ static const char *const STYLE[] = {
     "summary{cursor:pointer;font-weight:600;font-size:1.1rem;margin-bottom:.5rem}",
     "footer{color:var(--soft);padding-bottom:2rem}footer p{max-width:none}",
     "@media(max-width:900px){.both{grid-template-columns:1fr}.sheet,#loops ol{max-height:70vh}}",
-    "@media print{body{font-size:10.5pt}header,main,footer{max-width:none;padding:0}.both{display:block}.pane,.scroll{border:0;overflow:visible;max-height:none}"
-    ".sheet,#loops ol,#said{overflow:visible;max-height:none;min-height:0}.sheet svg{min-width:0!important;max-width:100%;max-height:20cm}.bar{background:none}"
+    "@media print{body{font-size:10.5pt}header,main,footer{max-width:none;padding:0}.both{display:block}"
+    ".pane,.scroll{border:0;overflow:visible;max-height:none}.sheet,#loops ol,#said{overflow:visible;max-height:none;min-height:0}"
+    ".sheet svg{min-width:0!important;max-width:100%;max-height:20cm}.bar{background:none}"
     ".bar .right,button,select,label{display:none}thead th,tbody th[scope=row]{position:static}#loops li{content-visibility:visible;break-inside:avoid}"
     "tr{break-inside:avoid}th,td{padding:.1rem .3rem}*{-webkit-print-color-adjust:exact;print-color-adjust:exact}}",
     NULL,
@@ -224,14 +225,12 @@ static void write_start(FILE *out, const map *m, const listing *l)
 /* Whether the list is complete, in a sentence. */
 static void write_completeness(FILE *out, const map *m, const listing *l)
 {
-    if (!l->complete && l->n == 0)
-        fputs("<p class=\"cut\" id=\"complete\">The list is not complete: it was cut short before a first loop was sure. This says nothing of the loops there are.</p>\n", out);
-    else if (!l->complete)
-        fputs("<p class=\"cut\" id=\"complete\">The list is not complete: it was cut short. The loops listed are right; others may be missing.</p>\n", out);
-    else if (l->n == 0)
-        fprintf(out, "<p id=\"complete\">The list is complete: the %s has no loop. However often its activities are done, some tray does not hold what it held before.</p>\n",
-                sort_of(m));
-    else fputs("<p id=\"complete\">The list is complete: every plan after which each tray holds what it held before is made of these loops, and none can be left out.</p>\n", out);
+    fprintf(out, "<p id=\"complete\"%s>The list is %s: ", l->complete ? "" : " class=\"cut\"", l->complete ? "complete" : "not complete");
+    if (!l->complete && l->n == 0) fputs("it was cut short before a first loop was sure, and says nothing of the loops there are.", out);
+    else if (!l->complete) fputs("it was cut short. The loops listed are right; others may be missing.", out);
+    else if (l->n == 0) fprintf(out, "the %s has no loop. However often its activities are done, some tray does not hold what it held before.", sort_of(m));
+    else fputs("every plan after which each tray holds what it held before is made of these loops, and none can be left out.", out);
+    fputs("</p>\n", out);
 }
 
 static void write_unchanged(FILE *out, const map *m)
@@ -300,7 +299,9 @@ static void write_loop(FILE *out, const map *m, const uint32_t *row, size_t numb
 
 static void write_loops(FILE *out, const map *m, const listing *l)
 {
-    fputs("<section class=\"pane\" id=\"loops\" aria-labelledby=\"loops-head\">\n<div class=\"bar\"><h2 id=\"loops-head\">Loops</h2><span id=\"kept\" class=\"soft\" role=\"status\"></span>", out);
+    fputs("<section class=\"pane\" id=\"loops\" aria-labelledby=\"loops-head\">\n"
+          "<div class=\"bar\"><h2 id=\"loops-head\">Loops</h2><span id=\"kept\" class=\"soft\" role=\"status\"></span>",
+          out);
     write_choice(out, m);
     fputs("</div>\n<ol>\n", out);
     for (size_t k = 0; k < l->n; k++) write_loop(out, m, row_of(l, k), k + 1);
@@ -311,12 +312,14 @@ static void write_loops(FILE *out, const map *m, const listing *l)
 
 static int write_net(FILE *out, const map *m)
 {
-    fprintf(out,
-            "<section class=\"pane\" aria-labelledby=\"net-head\">\n<div class=\"bar\"><h2 id=\"net-head\">The %s</h2><span class=\"soft\">boxes are activities, round ends are trays</span>"
-            "<span class=\"right script\" hidden><a id=\"none\" href=\"#loop=0\" hidden>show no loop</a> <button id=\"whole\" type=\"button\" aria-pressed=\"false\">full size</button></span></div>\n"
-            "<p id=\"said\" role=\"status\" aria-live=\"polite\">The loops are listed beside the picture; with scripts on, a click on one shows it here.</p>\n"
-            "<div class=\"sheet\" id=\"sheet\" tabindex=\"0\" role=\"region\" aria-label=\"The %s, drawn\">\n",
-            sort_of(m), sort_of(m));
+    const char *sort = sort_of(m);
+    fprintf(out, "<section class=\"pane\" aria-labelledby=\"net-head\">\n<div class=\"bar\"><h2 id=\"net-head\">The %s</h2>", sort);
+    fputs("<span class=\"soft\">boxes are activities, round ends are trays</span><span class=\"right script\" hidden>"
+          "<a id=\"none\" href=\"#loop=0\" hidden>show no loop</a> "
+          "<button id=\"whole\" type=\"button\" aria-pressed=\"false\">full size</button></span></div>\n"
+          "<p id=\"said\" role=\"status\" aria-live=\"polite\">The loops are listed beside the picture; with scripts on, a click on one shows it here.</p>\n",
+          out);
+    fprintf(out, "<div class=\"sheet\" id=\"sheet\" tabindex=\"0\" role=\"region\" aria-label=\"The %s, drawn\">\n", sort);
     int status = picture_write(out, m, NULL);
     fputs("</div>\n</section>\n", out);
     return status;
@@ -418,9 +421,12 @@ static void write_moved(FILE *out, const map *m, size_t j, int32_t sign)
 
 static void write_map(FILE *out, const map *m)
 {
-    fprintf(out, "<section>\n<details>\n<summary>The %s in words</summary>\n<div class=\"scroll\" tabindex=\"0\" role=\"region\" aria-label=\"The %s in words\">\n<table>\n"
-                 "<thead><tr><th scope=\"col\" class=\"words\">Activity</th><th scope=\"col\" class=\"words\">takes from</th><th scope=\"col\" class=\"words\">puts into</th></tr></thead>\n<tbody>\n",
-            sort_of(m), sort_of(m));
+    const char *sort = sort_of(m);
+    fprintf(out, "<section>\n<details>\n<summary>The %s in words</summary>\n", sort);
+    fprintf(out, "<div class=\"scroll\" tabindex=\"0\" role=\"region\" aria-label=\"The %s in words\">\n", sort);
+    fputs("<table>\n<thead><tr><th scope=\"col\" class=\"words\">Activity</th><th scope=\"col\" class=\"words\">takes from</th>"
+          "<th scope=\"col\" class=\"words\">puts into</th></tr></thead>\n<tbody>\n",
+          out);
     for (size_t j = 0; j < m->q; j++) {
         fputs("<tr><th scope=\"row\">", out);
         escaped_write(out, m->activities[j].name);
@@ -434,8 +440,8 @@ static void write_map(FILE *out, const map *m)
 
 static void write_end(FILE *out)
 {
-    fputs("<footer>\n<p id=\"proved\">Proved: each loop in the list is one and holds no smaller one, none is in it twice, and where it says complete none is missing. "
-          "Reading the file and making this page are tested, not proved.</p>\n</footer>\n<script>\n",
+    fputs("<footer>\n<p id=\"proved\">Proved: each loop in the list is one and holds no smaller one, none is in it twice, "
+          "and in a complete list none is missing. Reading the file and making this page are tested, not proved.</p>\n</footer>\n<script>\n",
           out);
     write_lines(out, SCRIPT);
     fputs("</script>\n</body>\n</html>\n", out);
