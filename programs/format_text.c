@@ -57,7 +57,9 @@ static void ending(FILE *out, const shown *what)
 {
     const solved *s = what->s;
     fputc('\n', out);
-    if (s->complete) {
+    if (s->complete && s->loops_len == 0) {
+        fputs("The list is complete: the map has no loop.\n", out);
+    } else if (s->complete) {
         fputs("The list is complete: every loop is made of these, and none can be left out.\n", out);
     } else {
         fprintf(out, "The list is NOT complete: %s.\n", s->why.text);
