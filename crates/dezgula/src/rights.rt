@@ -1,4 +1,4 @@
-// Maps with right sides; include/dezgula_sides.h says the same to C and Rust.
+// Maps with right sides; library/raw.h says the same to C.
 ghost use mathlib.Core.Path.{_≡_};
 ghost use Rattle.record_words.specs.Words.{toldBoth};
 ghost use Rattle.capped_words.specs.Capped.{inputSided, startCappedWords, resumeCappedWords};
@@ -6,7 +6,7 @@ ghost use Rattle.row_words.specs.Rows.{eitherTold};
 
 // The start.
 #[no_mangle]
-pub extern "C" fn dezgula_raw_start_capped(
+pub extern "C" fn dezgula_raw_start_rights(
     p: usize,
     q: usize,
     coefs: &[i32],
@@ -26,7 +26,7 @@ pub extern "C" fn dezgula_raw_start_capped(
 
 // The continuing call.
 #[no_mangle]
-pub extern "C" fn dezgula_raw_resume_capped(
+pub extern "C" fn dezgula_raw_resume_rights(
     p: usize,
     q: usize,
     coefs: &[i32],
