@@ -214,15 +214,24 @@ dezgula_list dezgula_second_listed(const dezgula_run *run)
     return (dezgula_list){run->second, run->second_len, run->record.second.count};
 }
 
+/* Row n of a list that a run has two of; at 0 or 1. */
+static uint64_t row_of_either(const dezgula_system *system, const dezgula_run *run, size_t at, size_t found, size_t n, uint32_t *out, size_t out_len)
+{
+    return dezgula_raw_row_of_either(TABLE(run->list, run->list_len), TABLE(run->second, run->second_len), at, system->q, found, n, TABLE(out, out_len));
+}
+
 uint64_t dezgula_row(const dezgula_system *system, const dezgula_run *run, size_t n, uint32_t *out, size_t out_len)
 {
-    return dezgula_raw_row(TABLE(run->list, run->list_len), system->q, run->record.found.count, n, TABLE(out, out_len));
+    size_t found = run->record.found.count;
+    if (run->record.kind == DEZGULA_RUN_RIGHTS) return row_of_either(system, run, 0, found, n, out, out_len);
+    return dezgula_raw_row(TABLE(run->list, run->list_len), system->q, found, n, TABLE(out, out_len));
 }
 
 uint64_t dezgula_second_row(const dezgula_system *system, const dezgula_run *run, size_t n, uint32_t *out, size_t out_len)
 {
-    return dezgula_raw_row_of_either(TABLE(run->list, run->list_len), TABLE(run->second, run->second_len), 1, system->q, run->record.second.count, n,
-                                     TABLE(out, out_len));
+    size_t found = run->record.second.count;
+    if (run->record.kind == DEZGULA_RUN_RIGHTS) return row_of_either(system, run, 1, found, n, out, out_len);
+    return dezgula_raw_row(TABLE(run->second, run->second_len), system->q, found, n, TABLE(out, out_len));
 }
 
 /* With right sides: the list of the row on top of the stack, by its first number. */

@@ -166,9 +166,13 @@ static void questions(void)
     size_t raw_len = rows.rows != NULL ? list_len : 0;
     dezgula_run run = run_of();
     run.record.found.count = run.record.second.count = found;
-    compare("row", dezgula_row(&system_, &run, n, easy.out, out_len), dezgula_raw_row(RAW_TABLE(list), system_.q, found, n, raw.out, out_len));
+    bool both = run.record.kind == DEZGULA_RUN_RIGHTS;
+    compare("row", dezgula_row(&system_, &run, n, easy.out, out_len),
+            both ? dezgula_raw_row_of_either(RAW_TABLE(list), RAW_TABLE(second), 0, system_.q, found, n, raw.out, out_len)
+                 : dezgula_raw_row(RAW_TABLE(list), system_.q, found, n, raw.out, out_len));
     compare("second_row", dezgula_second_row(&system_, &run, n, easy.out, out_len),
-            dezgula_raw_row_of_either(RAW_TABLE(list), RAW_TABLE(second), 1, system_.q, found, n, raw.out, out_len));
+            both ? dezgula_raw_row_of_either(RAW_TABLE(list), RAW_TABLE(second), 1, system_.q, found, n, raw.out, out_len)
+                 : dezgula_raw_row(RAW_TABLE(second), system_.q, found, n, raw.out, out_len));
     compare("locate", dezgula_locate(&system_, &rows, lower, lower_len), dezgula_raw_locate(raw.list, raw_len, system_.q, found, lower, lower_len));
     compare("reason", dezgula_reason(&system_, &rows, lower, lower_len, easy.amount),
             dezgula_raw_reason(RAW_SYSTEM, raw.list, raw_len, found, lower, lower_len, raw.amount));
