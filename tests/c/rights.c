@@ -86,6 +86,12 @@ static void to_the_end(uint64_t budget)
     expect(dezgula_row(&wide, &run, 1, row, 4) == DEZGULA_UNKNOWNS, "no run has right sides and 16 unknowns");
     expect(dezgula_second_row(&wide, &run, 1, row, 4) == DEZGULA_UNKNOWNS, "in either list");
     expect(dezgula_full_list(&deliveries.system, &run) == DEZGULA_NEITHER, "at height 0 no list is full");
+    run.record.height = 6;
+    expect(dezgula_full_list(&deliveries.system, &run) == DEZGULA_NEITHER, "nor at a height that the stack does not have");
+    run.record.height = UINT64_MAX;
+    expect(dezgula_full_list(&deliveries.system, &run) == DEZGULA_NEITHER, "nor beyond all");
+    run.record.height = 1, run.stack = NULL;
+    expect(dezgula_full_list(&deliveries.system, &run) == DEZGULA_NEITHER, "nor without a stack");
 }
 
 /* Lists that are not there at first, each made longer by one row when it is full. */
