@@ -1,0 +1,97 @@
+#include <errno.h>
+#include <fcntl.h>
+#include <stdlib.h>
+#include <string.h>
+#include <unistd.h>
+
+#include "command.h"
+#include "dezgula_text.h"
+#include "io.h"
+#include "read.h"
+
+enum { MOST_NAME = 4096 };
+
+/* The bytes of the file of a list; NULL: refused, and `why` says why. */
+static uint8_t *file_of_list(const map *m, const solved *s, size_t *len, fault *why)
+{
+    dezgula_system system = {m->p, m->q, m->coefs, m->p * m->q};
+    dezgula_list list = {s->loops, s->loops_len * m->q, s->loops_len};
+    if (s->loops_len > DEZGULA_FILE_MOST_ROWS) {
+        fault_set(why, DEZGULA_FILE_RANGE, "%zu loops; a list file has at most %d", s->loops_len, DEZGULA_FILE_MOST_ROWS);
+        return NULL;
+    }
+    *len = DEZGULA_FILE_LENGTH(m->p, m->q, s->loops_len);
+    uint8_t *bytes = malloc(*len);
+    if (bytes == NULL) {
+        fault_set(why, 0, "there is no memory for the file");
+        return NULL;
+    }
+    uint64_t answer = dezgula_write_list(&system, &list, s->complete ? DEZGULA_FILE_COMPLETE : DEZGULA_FILE_PAUSED, bytes, *len);
+    if (answer == DEZGULA_LIST_WRITTEN) return bytes;
+    fault_set(why, dezgula_number(answer), "no list file: %s", dezgula_sentence(answer));
+    free(bytes);
+    return NULL;
+}
+
+/* Writes a new file, whole or not at all. */
+static bool write_file(const char *name, const void *bytes, size_t len)
+{
+    char temporary[MOST_NAME];
+    int n = snprintf(temporary, sizeof temporary, "%s.new", name);
+    errno = ENAMETOOLONG;
+    int descriptor = n > 0 && n < MOST_NAME ? open(temporary, O_WRONLY | O_CREAT | O_TRUNC | O_CLOEXEC, 0666) : -1;
+    if (descriptor < 0) return false;
+    bool written = io_write(descriptor, bytes, len) && fsync(descriptor) == 0;
+    int why = errno;
+    if (close(descriptor) != 0 && written) {
+        why = errno;
+        written = false;
+    }
+    if (written && rename(temporary, name) == 0) return true;
+    if (written) why = errno;
+    unlink(temporary);
+    errno = why;
+    return false;
+}
+
+static int write_list(const options *o, const map *m, const solved *s, int status)
+{
+    fault why = {0, ""};
+    size_t len = 0;
+    if (!s->complete && !s->walked) {
+        io_say("nothing is saved: no loop is sure before the end (--walk lists loops as it finds them)");
+        return status;
+    }
+    uint8_t *bytes = file_of_list(m, s, &len, &why);
+    if (bytes == NULL) return io_refuse(file_of(o), &why);
+    if (o->words_len < 2) fwrite(bytes, 1, len, stdout);
+    else if (!write_file(o->words[1], bytes, len)) {
+        io_say("cannot write %s: %s", o->words[1], strerror(errno));
+        status = STATUS_NOTHING;
+    }
+    free(bytes);
+    if (status == STATUS_CUT_SHORT) io_say("the list is saved as one that is cut short, with %zu loop%s", s->loops_len, s->loops_len == 1 ? "" : "s");
+    return finish(o, status);
+}
+
+static int save(const options *o)
+{
+    map m;
+    solved s;
+    if (o->words_len < 2 && isatty(STDOUT_FILENO)) {
+        io_say("standard output is a terminal; send the list to a file: dezgula save MAP > FILE");
+        return STATUS_NOTHING;
+    }
+    int status = read_map(file_of(o), o->strict, &m);
+    if (status != STATUS_COMPLETE) return status;
+    status = solve_map(&m, o, file_of(o), &s);
+    if (status == STATUS_COMPLETE || status == STATUS_CUT_SHORT) status = write_list(o, &m, &s, status);
+    solved_free(&s);
+    map_free(&m);
+    return status;
+}
+
+const command command_save = {"save", "save MAP [LIST]", "solve a map and save its list as a file that can be sent",
+                              "The file goes to LIST, or to standard output; dezgula show reads it. It holds at most 8 trays, 16 activities and 4,096 loops. A list that is cut short\n"
+                              "(--walk --steps N, or an interrupt) is saved as such, and the status is 3.\n",
+                              TAKES_WALK | TAKES_STEPS | TAKES_CHECKPOINT | TAKES_STRICT, 0, 2, save};

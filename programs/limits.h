@@ -1,0 +1,25 @@
+/* The limits that every reader and the solver go by: the only place where a number of trays or activities is written down. */
+#ifndef LIMITS_H
+#define LIMITS_H
+
+#include "dezgula.h"
+
+/* The most trays (equations) and activities (unknowns) of a map that the command takes. */
+#ifndef MOST_TRAYS
+#define MOST_TRAYS DEZGULA_MOST_EQUATIONS
+#endif
+#ifndef MOST_ACTIVITIES
+#define MOST_ACTIVITIES DEZGULA_MOST_UNKNOWNS
+#endif
+
+/* What a tray may gain or lose by one activity, and a right side, in size. */
+#define MOST_COEFFICIENT DEZGULA_COEFFICIENT_LIMIT
+
+/* How often a loop may have an activity. */
+#define MOST_COUNT DEZGULA_COMPONENT_LIMIT
+
+/* The longest file that is read, and the longest text of numbers or equations with its comments, in bytes. */
+#define MOST_BYTES ((size_t)16 << 20)
+#define MOST_TEXT ((size_t)1 << 20)
+
+#endif

@@ -1,0 +1,494 @@
+/* The file of a net, by expat's events: its pages, nodes, references and arcs as entries (net_read).
+ *
+ * In order: types of net; arcs, how many documents they move and which kinds are taken; the grammar, as a table of which element stands in which; elements
+ * that begin; text and elements that end; the parse.
+ *
+ * An element counts where its namespace is that of the file's first element, has "pnml" in it, or is none; all else is a tool's own and is passed over, and so
+ * is what stands in <toolspecific>. */
+#include "net.h"
+
+#ifndef NO_EXPAT
+
+#include <ctype.h>
+#include <math.h>
+#include <stdlib.h>
+#include <string.h>
+
+/* The most digits of a weight, so that sums of weights are small. */
+enum { MOST_DIGITS = 9 };
+
+static unsigned long line_now(const reading *r)
+{
+    return XML_GetCurrentLineNumber(r->parser);
+}
+
+/* ---- types of net */
+
+static bool is_same_word(const char *a, const char *b)
+{
+    while (*a != 0 && tolower((unsigned char)*a) == tolower((unsigned char)*b)) a++, b++;
+    return tolower((unsigned char)*a) == tolower((unsigned char)*b);
+}
+
+/* Whether `word`, in small letters, is somewhere in `text`, in letters of any size. */
+static bool has_word(const char *text, const char *word)
+{
+    size_t len = strlen(word);
+    for (; *text != 0; text++) {
+        size_t i = 0;
+        while (i < len && tolower((unsigned char)text[i]) == word[i]) i++;
+        if (i == len) return true;
+    }
+    return false;
+}
+
+/* What a type of net is called, after the last slash and without the ending of a schema's file: ISO's P/T nets and core model, and what the standard's older
+ * forms, WoPeD, PIPE, TAPAAL, Yasper and TINA write. The delays of TINA's time nets change no count and are passed over. */
+static const char *const PLACE_TRANSITION_TYPES[] = {
+    "ptnet", "ptnetb", "pnmlcoremodel", "basicpnml", "pt", "pt-net", "pt net", "p/t net", "p/t-net", "p/t nets", "place/transition net",
+    "place/transition-net", "pnml_1.1", "epnml", "epnml-1.1", "tpn",
+};
+
+static const char *const SCHEMA_ENDINGS[] = {".pntd", ".rng", ".dtd", ".rnc", ".xsd"};
+
+enum { TYPES = sizeof PLACE_TRANSITION_TYPES / sizeof *PLACE_TRANSITION_TYPES, ENDINGS = sizeof SCHEMA_ENDINGS / sizeof *SCHEMA_ENDINGS };
+
+static bool is_listed(const char *type)
+{
+    for (size_t i = 0; i < TYPES; i++)
+        if (is_same_word(type, PLACE_TRANSITION_TYPES[i])) return true;
+    return false;
+}
+
+static void cut_ending(char *type)
+{
+    size_t len = strlen(type);
+    for (size_t i = 0; i < ENDINGS; i++) {
+        size_t ending = strlen(SCHEMA_ENDINGS[i]);
+        if (len > ending && is_same_word(type + len - ending, SCHEMA_ENDINGS[i])) type[len - ending] = 0;
+    }
+}
+
+static void check_net_type(reading *r, const char *written)
+{
+    char *type = net_tidy(r, written);
+    if (r->refused || type == NULL || is_listed(type)) return;
+    shown said = net_quote(type);
+    while (type[strlen(type) - 1] == '/' && type[1] != 0) type[strlen(type) - 1] = 0;
+    cut_ending(type);
+    const char *slash = strrchr(type, '/'), *hash = strrchr(type, '#');
+    const char *last = slash == NULL ? type : slash + 1;
+    if (hash != NULL && hash > slash) last = hash + 1;
+    if (!is_listed(last)) net_refuse(r, line_now(r), FORM, "a net of the type \"%s\"; only place/transition nets (ptnet) are read", said.text);
+}
+
+/* ---- arcs: how many documents they move, and which kinds of arc are taken */
+
+static const char *const NORMAL_ARCS[] = {"normal", "ordinary", "regular", "standard", "default", "arc", "timed", "transport", "weighted"};
+static const char *const TEST_ARCS[] = {"test", "testarc", "test-arc", "test arc", "read", "readarc", "read-arc", "read arc", "both"};
+
+enum { NORMAL_WORDS = sizeof NORMAL_ARCS / sizeof *NORMAL_ARCS, TEST_WORDS = sizeof TEST_ARCS / sizeof *TEST_ARCS };
+
+static bool is_among(const char *word, const char *const *words, size_t len)
+{
+    for (size_t i = 0; i < len; i++)
+        if (is_same_word(word, words[i])) return true;
+    return false;
+}
+
+static void check_arc_type(reading *r, entry *e)
+{
+    if (e->type == NULL || is_among(e->type, NORMAL_ARCS, NORMAL_WORDS)) return;
+    if (is_among(e->type, TEST_ARCS, TEST_WORDS)) {
+        e->tests = true;
+        return;
+    }
+    shown name = net_arc(e), type = net_quote(e->type);
+    const char *advice = "the loops of a net go by normal arcs alone; take it out or make it a normal arc";
+    if (has_word(e->type, "inhib")) net_refuse(r, e->line, FORM, "%s is an inhibitor arc (%s); %s", name.text, type.text, advice);
+    else if (has_word(e->type, "reset") || has_word(e->type, "clear") || has_word(e->type, "flush"))
+        net_refuse(r, e->line, FORM, "%s is a reset arc (%s); %s", name.text, type.text, advice);
+    else if (has_word(e->type, "colo")) net_refuse(r, e->line, FORM, "%s is a coloured arc (%s); %s", name.text, type.text, advice);
+    else net_refuse(r, e->line, FORM, "%s is of the type \"%s\"; %s", name.text, type.text, advice);
+}
+
+/* The whole number that `text` is, up to the comma or the end, and where it ends; NULL where it is none, or is longer than MOST_DIGITS. */
+static const char *whole_number(const char *text, uint32_t *number)
+{
+    while (*text == ' ') text++;
+    const char *s = text;
+    *number = 0;
+    while (*s == '0' && isdigit((unsigned char)s[1])) s++, text++;
+    for (; isdigit((unsigned char)*s) && s - text < MOST_DIGITS; s++) *number = 10 * *number + (uint32_t)(*s - '0');
+    bool any = s != text;
+    while (*s == ' ') s++;
+    return any && (*s == 0 || *s == ',') ? s : NULL;
+}
+
+/* Whether `colour`, of `len` letters, is the colour that the net's documents have; the first one named is. */
+static bool is_the_colour(reading *r, const char *colour, size_t len)
+{
+    if (r->colour == NULL) {
+        r->colour = net_room(r, len);
+        if (r->colour == NULL) return false;
+        memcpy(r->colour, colour, len);
+        r->colour[len] = 0;
+    }
+    return strlen(r->colour) == len && memcmp(r->colour, colour, len) == 0;
+}
+
+static void refuse_weight(reading *r, const entry *e)
+{
+    shown name = net_arc(e), weight = net_quote(e->weight);
+    bool digits = e->weight[strspn(e->weight, "0123456789")] == 0;
+    if (digits) net_refuse(r, e->line, COEFFICIENT, "%s has the weight %s; a weight is from 1 to 10,000", name.text, weight.text);
+    else net_refuse(r, e->line, FORM, "%s has the inscription \"%s\", which is no whole number: a coloured arc, or a slip", name.text, weight.text);
+}
+
+/* PIPE's form, "Default,1" or "Default,1,Red,0": a colour and its number, again and again. Documents of two colours are a coloured net. */
+static void weigh_colours(reading *r, entry *e)
+{
+    for (const char *s = e->weight; *s != 0; s += *s == ',') {
+        const char *comma = strchr(s, ',');
+        uint32_t number = 0;
+        const char *after = comma == NULL ? NULL : whole_number(comma + 1, &number);
+        if (after == NULL) {
+            refuse_weight(r, e);
+            return;
+        }
+        if (number > 0 && !is_the_colour(r, s, (size_t)(comma - s))) {
+            shown name = net_arc(e), first = net_quote(r->colour);
+            net_refuse(r, e->line, FORM, "%s is a coloured arc: \"%.60s\" beside documents of the colour %s", name.text, e->weight, first.text);
+            return;
+        }
+        e->moves += number;
+        s = after;
+    }
+}
+
+static void weigh(reading *r, entry *e)
+{
+    if (e->weight == NULL) e->moves = 1;
+    else if (strchr(e->weight, ',') != NULL) weigh_colours(r, e);
+    else if (whole_number(e->weight, &e->moves) == NULL) refuse_weight(r, e);
+    if (!r->refused && e->moves == 0) refuse_weight(r, e);
+}
+
+/* ---- the grammar: which element stands in which */
+
+typedef struct {
+    kind in;
+    const char *name;
+    kind is;
+} production;
+
+/* A page has what a net has, and every kind of node what a place has. */
+static const production GRAMMAR[] = {
+    {NOTHING, "pnml", PNML},
+    {PNML, "net", NET},
+    {NET, "page", PAGE},
+    {NET, "place", PLACE},
+    {NET, "transition", TRANSITION},
+    {NET, "referencePlace", REFERENCE_PLACE},
+    {NET, "referenceTransition", REFERENCE_TRANSITION},
+    {NET, "arc", ARC},
+    {NET, "name", NAME},
+    {NET, "declaration", DECLARATION},
+    {PLACE, "name", NAME},
+    {PLACE, "graphics", GRAPHICS},
+    {GRAPHICS, "position", POSITION},
+    {ARC, "inscription", INSCRIPTION},
+    {ARC, "type", ARC_TYPE},
+    {ARC, "arctype", ARC_TYPE},
+    {ARC, "arcType", ARC_TYPE},
+    {NAME, "text", WORDS},
+    {NAME, "value", WORDS},
+};
+
+/* Elements that make a net another kind of net. */
+static const struct {
+    kind in;
+    const char *name, *why;
+} REFUSED[] = {
+    {NET, "net", "a net inside a page (a subprocess); put its activities on the page itself"},
+    {PLACE, "hlinitialMarking", "a coloured tray (hlinitialMarking); only place/transition nets are read"},
+    {PLACE, "condition", "an activity with a condition: a coloured net; only place/transition nets are read"},
+    {ARC, "hlinscription", "a coloured arc (hlinscription); only place/transition nets are read"},
+    {NAME, "structure", "a declaration of colours: a coloured net; only place/transition nets are read"},
+};
+
+enum { PRODUCTIONS = sizeof GRAMMAR / sizeof *GRAMMAR, REFUSALS = sizeof REFUSED / sizeof *REFUSED };
+
+static bool is_label(kind is)
+{
+    return is == NAME || is == INSCRIPTION || is == ARC_TYPE || is == DECLARATION;
+}
+
+/* The kind under whose name the table has what stands in `is`. */
+static kind family(kind is)
+{
+    return is == PAGE ? NET : net_is_node(is) ? PLACE : is_label(is) ? NAME : is;
+}
+
+static kind innermost(const reading *r)
+{
+    return r->depth == 0 ? NOTHING : r->open[r->depth - 1];
+}
+
+static const char *local_name(const char *full)
+{
+    const char *between = strrchr(full, BETWEEN);
+    return between == NULL ? full : between + 1;
+}
+
+static bool is_pnml(const reading *r, const char *full)
+{
+    const char *local = local_name(full);
+    if (local == full || r->depth == 0) return true;
+    size_t len = (size_t)(local - full) - 1;
+    if (r->grammar != NULL && strlen(r->grammar) == len && memcmp(r->grammar, full, len) == 0) return true;
+    const char *word = strstr(full, "pnml");
+    return word != NULL && word < local;
+}
+
+static kind kind_of(reading *r, const char *full)
+{
+    const char *local = local_name(full);
+    kind in = innermost(r);
+    if (!is_pnml(r, full)) return IGNORED;
+    for (size_t i = 0; i < REFUSALS; i++)
+        if (REFUSED[i].in == family(in) && strcmp(REFUSED[i].name, local) == 0) net_refuse(r, line_now(r), FORM, "%s", REFUSED[i].why);
+    for (size_t i = 0; i < PRODUCTIONS; i++)
+        if (GRAMMAR[i].in == family(in) && strcmp(GRAMMAR[i].name, local) == 0) return GRAMMAR[i].is;
+    return IGNORED;
+}
+
+/* ---- elements that begin */
+
+static const char *attribute(const char **attributes, const char *name)
+{
+    for (; attributes[0] != NULL; attributes += 2)
+        if (strcmp(local_name(attributes[0]), name) == 0) return attributes[1];
+    return NULL;
+}
+
+static void begin_file(reading *r, const char *full)
+{
+    const char *local = local_name(full);
+    shown said = net_quote(local);
+    if (strcmp(local, "pnml") != 0) {
+        net_refuse(r, line_now(r), FORM, "the file begins with <%s>, not with <pnml>: it is no PNML file; export the net as PNML", said.text);
+        return;
+    }
+    if (local == full) return;
+    size_t len = (size_t)(local - full) - 1;
+    r->grammar = net_room(r, len);
+    if (r->grammar == NULL) return;
+    memcpy(r->grammar, full, len);
+    r->grammar[len] = 0;
+}
+
+static void begin_net(reading *r, const char **attributes)
+{
+    shown id = net_quote(attribute(attributes, "id"));
+    if (r->net) net_refuse(r, line_now(r), FORM, "a second net (\"%s\") in the file; save each net in a file of its own", id.text);
+    else check_net_type(r, attribute(attributes, "type"));
+    r->net = true;
+}
+
+static void begin_page(reading *r, const char **attributes)
+{
+    entry *e = net_add(r, PAGE);
+    if (e == NULL) return;
+    e->id = net_tidy(r, attribute(attributes, "id"));
+    r->page = (size_t)(e - r->entries);
+}
+
+static bool coordinate(const char *text, double *value)
+{
+    char *end = NULL;
+    if (text == NULL) return false;
+    *value = strtod(text, &end);
+    return end != text && isfinite(*value) && fabs(*value) <= 1e6;
+}
+
+/* The first place that is given counts. */
+static void place(entry *e, const char *across, const char *down)
+{
+    double x = 0, y = 0;
+    if (e->placed || !coordinate(across, &x) || !coordinate(down, &y)) return;
+    e->placed = true;
+    e->x = x;
+    e->y = y;
+}
+
+static void begin_node(reading *r, kind is, const char **attributes)
+{
+    entry *e = net_add(r, is);
+    if (e == NULL) return;
+    r->current = (size_t)(e - r->entries);
+    e->id = net_tidy(r, attribute(attributes, "id"));
+    e->name = net_tidy(r, attribute(attributes, "name"));
+    e->target = net_tidy(r, attribute(attributes, "ref"));
+    place(e, attribute(attributes, "positionX"), attribute(attributes, "positionY"));
+    shown id = net_quote(e->id);
+    if (e->id == NULL) net_refuse(r, e->line, FORM, "a <%s> without an id", net_word(is));
+    else if (is != PLACE && is != TRANSITION && e->target == NULL)
+        net_refuse(r, e->line, FORM, "the <%s> \"%s\" has no ref: it stands for nothing", net_word(is), id.text);
+}
+
+/* TAPAAL writes an arc's kind and weight as attributes, and an interval of time, which counts nothing, as its inscription. */
+static void begin_arc(reading *r, const char **attributes)
+{
+    entry *e = net_add(r, ARC);
+    if (e == NULL) return;
+    r->current = (size_t)(e - r->entries);
+    e->id = net_tidy(r, attribute(attributes, "id"));
+    e->source = net_tidy(r, attribute(attributes, "source"));
+    e->target = net_tidy(r, attribute(attributes, "target"));
+    e->type = net_tidy(r, attribute(attributes, "type"));
+    e->weight = net_tidy(r, attribute(attributes, "weight"));
+    if (e->weight == NULL) e->weight = net_tidy(r, attribute(attributes, "inscription"));
+    if (e->weight != NULL && (e->weight[0] == '[' || e->weight[0] == '(')) e->weight = NULL;
+    shown id = net_quote(e->id);
+    if (e->source == NULL) net_refuse(r, e->line, FORM, "the arc \"%s\" has no source", id.text);
+    else if (e->target == NULL) net_refuse(r, e->line, FORM, "the arc \"%s\" has no target", id.text);
+}
+
+static void begin_label(reading *r, kind is, const char **attributes)
+{
+    r->words_len = 0;
+    r->worded = false;
+    if (is == ARC_TYPE && attribute(attributes, "value") != NULL) r->entries[r->current].type = net_tidy(r, attribute(attributes, "value"));
+}
+
+static void begin_kind(reading *r, kind is, const char *full, const char **attributes)
+{
+    if (is == PNML) begin_file(r, full);
+    else if (is == NET) begin_net(r, attributes);
+    else if (is == PAGE) begin_page(r, attributes);
+    else if (is == ARC) begin_arc(r, attributes);
+    else if (is == POSITION) place(&r->entries[r->current], attribute(attributes, "x"), attribute(attributes, "y"));
+    else if (net_is_node(is)) begin_node(r, is, attributes);
+    else if (is_label(is)) begin_label(r, is, attributes);
+}
+
+static void XMLCALL on_begin(void *data, const XML_Char *full, const XML_Char **attributes)
+{
+    reading *r = data;
+    if (r->refused) return;
+    if (r->depth + r->ignored >= MOST_OPEN) {
+        net_refuse(r, line_now(r), FORM, "elements nested deeper than %d", MOST_OPEN);
+        return;
+    }
+    kind is = r->ignored > 0 ? IGNORED : kind_of(r, full);
+    if (is == WORDS && r->worded) is = IGNORED;
+    if (r->depth == 0) is = PNML;
+    if (is == IGNORED) {
+        r->ignored++;
+        return;
+    }
+    r->open[r->depth++] = is;
+    begin_kind(r, is, full, attributes);
+}
+
+/* ---- text, and elements that end */
+
+static void XMLCALL on_text(void *data, const XML_Char *text, int len)
+{
+    reading *r = data;
+    kind in = innermost(r);
+    if (r->refused || r->ignored > 0 || (in != WORDS && !is_label(in))) return;
+    size_t need = r->words_len + (size_t)len + 1;
+    if (need > r->words_room) {
+        char *longer = realloc(r->words, 2 * need);
+        if (longer == NULL) {
+            net_no_memory(r);
+            return;
+        }
+        r->words = longer;
+        r->words_room = 2 * need;
+    }
+    memcpy(r->words + r->words_len, text, (size_t)len);
+    r->words_len += (size_t)len;
+    r->words[r->words_len] = 0;
+}
+
+/* The text of the label that ends, or NULL. */
+static char *label(reading *r)
+{
+    return r->words_len == 0 ? NULL : net_tidy(r, r->words);
+}
+
+static void end_label(reading *r, kind is)
+{
+    kind owner = innermost(r);
+    char *text = label(r);
+    if (r->refused || text == NULL) return;
+    shown said = net_quote(text);
+    if (is == DECLARATION) net_refuse(r, line_now(r), FORM, "a declaration (\"%s\"): a coloured net; only place/transition nets are read", said.text);
+    else if (is == INSCRIPTION) r->entries[r->current].weight = text;
+    else if (is == ARC_TYPE) r->entries[r->current].type = text;
+    else if (owner == PAGE) r->entries[r->page].name = text;
+    else if (net_is_node(owner)) r->entries[r->current].name = text;
+}
+
+static void XMLCALL on_end(void *data, const XML_Char *full)
+{
+    reading *r = data;
+    (void)full;
+    if (r->refused) return;
+    if (r->ignored > 0) {
+        r->ignored--;
+        return;
+    }
+    kind is = r->open[--r->depth];
+    if (is == PAGE) r->page = r->entries[r->page].page;
+    else if (is == WORDS) r->worded = r->worded || label(r) != NULL;
+    else if (is == ARC) check_arc_type(r, &r->entries[r->current]);
+    else if (is_label(is)) end_label(r, is);
+    if (is == ARC && !r->refused) weigh(r, &r->entries[r->current]);
+}
+
+static void XMLCALL on_doctype(void *data, const XML_Char *name, const XML_Char *system, const XML_Char *public, int internal)
+{
+    reading *r = data;
+    (void)name, (void)system, (void)public, (void)internal;
+    net_refuse(r, line_now(r), FORM, "a document type (<!DOCTYPE>); a net needs none: take it out");
+}
+
+static void XMLCALL on_entity(void *data, const XML_Char *name, int parameter, const XML_Char *value, int len, const XML_Char *base, const XML_Char *system,
+                              const XML_Char *public, const XML_Char *notation)
+{
+    reading *r = data;
+    (void)parameter, (void)value, (void)len, (void)base, (void)system, (void)public, (void)notation;
+    shown said = net_quote(name);
+    net_refuse(r, line_now(r), FORM, "an entity declaration (\"%s\"); a net needs none: take it out", said.text);
+}
+
+/* ---- the parse */
+
+static void refuse_xml(reading *r)
+{
+    enum XML_Error error = XML_GetErrorCode(r->parser);
+    if (error == XML_ERROR_NO_MEMORY) net_no_memory(r);
+    else if (error == XML_ERROR_UNKNOWN_ENCODING || error == XML_ERROR_INCORRECT_ENCODING)
+        net_refuse(r, line_now(r), FORM, "the file's encoding is not what is said, or is not known; save the net as UTF-8");
+    else if (error == XML_ERROR_INVALID_TOKEN)
+        net_refuse(r, line_now(r), FORM, "a character that XML does not allow here, or one that is not in the file's encoding; save the net as UTF-8");
+    else if (error == XML_ERROR_NO_ELEMENTS) net_refuse(r, line_now(r), FORM, "the file ends before its net does, or holds none");
+    else net_refuse(r, line_now(r), FORM, "this is not well-formed XML (%s)", XML_ErrorString(error));
+}
+
+void net_read(reading *r, const char *bytes, size_t len)
+{
+    XML_SetUserData(r->parser, r);
+    XML_SetElementHandler(r->parser, on_begin, on_end);
+    XML_SetCharacterDataHandler(r->parser, on_text);
+    XML_SetStartDoctypeDeclHandler(r->parser, on_doctype);
+    XML_SetEntityDeclHandler(r->parser, on_entity);
+    if (XML_Parse(r->parser, bytes, (int)len, XML_TRUE) != XML_STATUS_OK && !r->refused) refuse_xml(r);
+    if (!r->refused && !r->net) net_refuse(r, line_now(r), FORM, "there is no <net> in the file");
+}
+
+#endif

@@ -1,0 +1,102 @@
+/* Typed equations: a line with the number of unknowns, then an equation a line, as "2*(x1 + x3) - x2 = 3". Every equation is read by the proved reader; what
+ * is here finds the lines, and says why one is refused. Unless --strict is given the first line may be left out: then the highest unknown counts. */
+#include <string.h>
+
+#include "build_map.h"
+#include "dezgula_text.h"
+#include "limits.h"
+#include "read.h"
+
+/* the most unknowns that the proved reader knows */
+#define MOST_TYPED DEZGULA_MOST_UNKNOWNS
+
+static bool is_digit(char c)
+{
+    return c >= '0' && c <= '9';
+}
+
+bool is_typed(const lines *text)
+{
+    for (size_t i = 0; i < text->len; i++)
+        if (text->text[i] == '=' || (text->text[i] == 'x' && is_digit(text->text[i + 1]))) return true;
+    return false;
+}
+
+/* The highest k of the unknowns xk in the text, or one more than there may be. */
+static size_t highest_unknown(const lines *text)
+{
+    size_t highest = 0;
+    for (size_t i = 0; i + 1 < text->len; i++) {
+        size_t k = 0;
+        if (text->text[i] != 'x') continue;
+        for (size_t j = i + 1; is_digit(text->text[j]) && k <= MOST_TYPED; j++) k = 10 * k + (size_t)(text->text[j] - '0');
+        if (k > highest) highest = k;
+    }
+    return highest;
+}
+
+/* The number of unknowns, and at which line the equations begin. */
+static bool read_unknowns(const lines *text, bool strict, size_t *q, size_t *first, fault *why)
+{
+    const line *own = &text->lines[0];
+    const char *at = text->text + own->start, *end = at + own->len;
+    int32_t x = 0;
+    bool counted = read_number(at, end, &x) == end;
+    if (!counted && strict) return fault_set(why, 9, "line %zu: the first line has the number of unknowns, and nothing else", own->number);
+    *first = counted ? 1 : 0;
+    *q = counted && x > 0 ? (size_t)x : counted ? 0 : highest_unknown(text);
+    if (*q >= 1 && *q <= MOST_TYPED) return true;
+    if (counted) return fault_set(why, 2, "line %zu: %d unknowns; typed equations have 1 to %d (a larger map has the matrix form, or is a net)", own->number, (int)x, MOST_TYPED);
+    if (*q == 0) return fault_set(why, 2, "line %zu: no unknown, as x1; typed equations have 1 to %d", own->number, MOST_TYPED);
+    return fault_set(why, 2, "an unknown above x%d; typed equations have x1 to x%d (a larger map has the matrix form, or is a net)", MOST_TYPED, MOST_TYPED);
+}
+
+/* Refuses an equation outside the grammar: what stands up to the place, and what does not go on. */
+static bool off_grammar(const line *own, const char *at, size_t place, size_t q, fault *why)
+{
+    size_t shown = place > 40 ? 40 : place - 1, from = place - 1 - shown;
+    if (place > own->len)
+        return fault_set(why, 16, "line %zu: the equation is not whole; after \"%.*s\" something is missing", own->number, (int)shown, at + from);
+    unsigned char next = (unsigned char)at[place - 1];
+    if (next < 0x20 || next > 0x7e)
+        return fault_set(why, 16, "line %zu: after \"%.*s\" stands a character that no equation has", own->number, (int)shown, at + from);
+    return fault_set(why, 16, "line %zu: after \"%.*s\" no equation in x1 to x%zu goes on with \"%c\"", own->number, (int)shown, at + from, q, next);
+}
+
+/* Says a refusal of the proved reader for one equation. */
+static bool refuse_equation(const line *own, const char *at, uint64_t answer, size_t q, fault *why)
+{
+    size_t place = (size_t)dezgula_place(answer);
+    switch (dezgula_number(answer)) {
+    case DEZGULA_GRAMMAR: return off_grammar(own, at, place, q, why);
+    case DEZGULA_COEFFICIENT:
+        return fault_set(why, 7, "line %zu: x%zu comes to a coefficient outside -%d to %d", own->number, place, MOST_COEFFICIENT, MOST_COEFFICIENT);
+    default: return fault_set(why, dezgula_number(answer), "line %zu: %s", own->number, dezgula_sentence(answer));
+    }
+}
+
+/* The equations one by one. */
+static bool read_each(const lines *text, size_t first, map *m, fault *why)
+{
+    for (size_t i = 0; i < m->p; i++) {
+        const line *own = &text->lines[first + i];
+        const char *at = text->text + own->start;
+        uint64_t answer = dezgula_read_equation(at, own->len, m->q, m->coefs + i * m->q, m->q, &m->rights[i]);
+        if (answer != DEZGULA_EQUATION_READ) return refuse_equation(own, at, answer, m->q, why);
+    }
+    return true;
+}
+
+bool read_typed(const lines *text, bool strict, map *out, fault *why)
+{
+    size_t q = 0, first = 0;
+    if (strict && !lines_strict(text, why)) return false;
+    if (!read_unknowns(text, strict, &q, &first, why)) return false;
+    size_t p = text->count - first;
+    if (p < 1) return fault_set(why, 1, "line %zu: missing; there is no equation", lines_number(text, first + 1));
+    if (p > MOST_TRAYS) return fault_set(why, 1, "line %zu: %zu equations; at most %d", lines_number(text, first + MOST_TRAYS + 1), p, MOST_TRAYS);
+    if (!map_make(out, p, q, why)) return false;
+    if (read_each(text, first, out, why)) return true;
+    map_free(out);
+    return false;
+}
