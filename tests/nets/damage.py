@@ -6,10 +6,10 @@ import random
 import re
 import sys
 
-WORDS = [b'<', b'>', b'/>', b'&', b'&#0;', b'&#xD800;', b'&a;', b'"', b"'", b'<![CDATA[', b']]>', b'<!--', b'-->', b'<?xml?>', b'\0', b'\xff\xfe',
-         b'\xef\xbb\xbf', b'\xc3', b'<!DOCTYPE a [<!ENTITY b "c">]>', b'<page id="q">', b'</page>', b'<place id="p1"/>', b'<net>', b'</net>', b'<arc source="a" target="a"/>',
-         b'<toolspecific>', b'<text>', b'<inscription><text>99999999999999999999</text></inscription>', b'<referencePlace id="z" ref="z"/>', b' type="x"',
-         b'999999999']
+WORDS = [b'<', b'>', b'/>', b'&', b'&#0;', b'&#xD800;', b'&a;', b'"', b"'", b'<![CDATA[', b']]>', b'<!--', b'-->', b'<?xml?>', b'\x00', b'\xff\xfe',
+         b'\xef\xbb\xbf', b'\xc3', b'<!DOCTYPE a [<!ENTITY b "c">]>', b'<page id="q">', b'</page>', b'<place id="p1"/>', b'<net>', b'</net>',
+         b'<arc source="a" target="a"/>', b'<toolspecific>', b'<text>', b'<inscription><text>99999999999999999999</text></inscription>',
+         b'<referencePlace id="z" ref="z"/>', b' type="x"', b'999999999']
 
 
 def cut(r, b):
