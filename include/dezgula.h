@@ -59,8 +59,8 @@ const char *dezgula_version(void);
 
 /* ---- answers */
 
-/* The numbers of the answers. dezgula_text.h names 9, 10, 16 to 22, 106 to 108 and 130 to 132, and dezgula_engine.h names 31. 13 is retired: it is given to
- * nothing. Of the refusals before the walk the first, in rising number, is given, but for those whose place in the order is told here. */
+/* The numbers of the answers. dezgula_text.h names 9, 10, 16 to 22, 106 to 108 and 130 to 132, and dezgula_engine.h names 31 to 34. 13 is retired: it is
+ * given to nothing. Of the refusals before the walk the first, in rising number, is given, but for those whose place in the order is told here. */
 enum {
     DEZGULA_COMPLETE = 0, /* the run is at its end: what it lists is whole */
 
@@ -249,7 +249,7 @@ uint64_t dezgula_resume_training_from(const dezgula_system *system, const uint32
 /* ---- what a run has listed */
 
 /* Copies row n, from 1, of the run's list, or of its second one, to out. Answers DEZGULA_ROW; DEZGULA_NO_ROW for n = 0, n above the list's count or n above its
- * capacity; or refuses with 2, or, where there is such a row, with 29. Reads q, the lists and their counts only.
+ * capacity; or refuses with 2, or, where there is such a row, with 29. Reads q, the lists, their counts and the kind only.
  * DEZGULA_ROW: writes out[0] to out[q - 1], and what stood past them stays. Else: writes nothing. */
 uint64_t dezgula_row(const dezgula_system *system, const dezgula_run *run, size_t n, uint32_t *out, size_t out_len) DEZGULA_LOOK_AT_IT;
 uint64_t dezgula_second_row(const dezgula_system *system, const dezgula_run *run, size_t n, uint32_t *out, size_t out_len) DEZGULA_LOOK_AT_IT;
@@ -281,7 +281,7 @@ unsigned dezgula_full_list(const dezgula_system *system, const dezgula_run *run)
  *            a sweep removes each row that lies above another or repeats an earlier one, and closes the gaps; past the rows left the table keeps what it
  *            held. A sweep costs up to found * found comparisons of rows
  *
- * The generators too may be any rows, and what is promised of the list is for those of a whole list. */
+ * The generators too may be any rows, and what is promised of the list is for those of a whole list. Each call looks at every number of them first. */
 
 /* Answers DEZGULA_STARTED, or refuses with 1, 2, 3, 4, 6 (a generator's component, or more generators than their table has rows), 7 or 25.
  * Started: row k of the stack is generator k with the marks of those before it, the record says so, and nothing else is written. */

@@ -45,7 +45,7 @@ enum {
 
 /* ---- the text form of a map: a line "p q", then p lines of q coefficients, single spaces between them, each line ended by a newline */
 
-/* Answers DEZGULA_MAP_READ, or refuses with 1, 2, 7 (with the place), 9 (with the line) or 10, as the program `basis` does.
+/* Answers DEZGULA_MAP_READ, or refuses with 1, 2, 7 (with the place), 9 (with the line) or 10, as the program `basis` does; with coefs NULL, last of all 29.
  * Read: the coefficients stand at the beginning of coefs, which has DEZGULA_MAP_COEFFICIENTS places, what stood past them stays, and *system is the map with
  * them. Else: writes nothing. */
 uint64_t dezgula_read_map(const char *text, size_t text_len, int32_t coefs[DEZGULA_MAP_COEFFICIENTS], dezgula_system *system) DEZGULA_LOOK_AT_IT;

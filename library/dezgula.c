@@ -21,7 +21,7 @@ uint64_t dezgula_place(uint64_t answer)
     return answer >> 8;
 }
 
-/* A place in the table is the number. 31 is the engine's. */
+/* A place in the table is the number. 31 to 34 are the engine's. */
 static const char *const sentences[] = {
     [DEZGULA_COMPLETE] = "The run is complete: what it lists is whole.",
     [DEZGULA_EQUATIONS] = "The number of equations is out of range: 1 to 8, for the engine 1 to 32.",
@@ -53,7 +53,10 @@ static const char *const sentences[] = {
     [DEZGULA_PARTS] = "Two parts of a table overlap, or one leaves it.",
     [DEZGULA_OUTPUT_SHORT] = "The space for what is to be written is too short.",
     [DEZGULA_NOT_MINIMAL] = "A row of the list is no minimal solution.",
-    [31] = "The tables have no room for a row that is needed.",
+    [31] = "There is no room for a row that is needed.",
+    [32] = "There is no such equation to take or to change, or one is under way.",
+    [33] = "The unknown cannot be left out of this stage.",
+    [34] = "This is no row operation, or a coefficient would pass 1,000,000.",
     [DEZGULA_STARTED] = "The run has started.",
     [DEZGULA_PAUSED] = "The run is paused, as its budget is used up.",
     [DEZGULA_ROW] = "The row was copied.",
@@ -211,15 +214,24 @@ dezgula_list dezgula_second_listed(const dezgula_run *run)
     return (dezgula_list){run->second, run->second_len, run->record.second.count};
 }
 
+/* Row n of a list that a run has two of; at 0 or 1. */
+static uint64_t row_of_either(const dezgula_system *system, const dezgula_run *run, size_t at, size_t found, size_t n, uint32_t *out, size_t out_len)
+{
+    return dezgula_raw_row_of_either(TABLE(run->list, run->list_len), TABLE(run->second, run->second_len), at, system->q, found, n, TABLE(out, out_len));
+}
+
 uint64_t dezgula_row(const dezgula_system *system, const dezgula_run *run, size_t n, uint32_t *out, size_t out_len)
 {
-    return dezgula_raw_row(TABLE(run->list, run->list_len), system->q, run->record.found.count, n, TABLE(out, out_len));
+    size_t found = run->record.found.count;
+    if (run->record.kind == DEZGULA_RUN_RIGHTS) return row_of_either(system, run, 0, found, n, out, out_len);
+    return dezgula_raw_row(TABLE(run->list, run->list_len), system->q, found, n, TABLE(out, out_len));
 }
 
 uint64_t dezgula_second_row(const dezgula_system *system, const dezgula_run *run, size_t n, uint32_t *out, size_t out_len)
 {
-    return dezgula_raw_row_of_either(TABLE(run->list, run->list_len), TABLE(run->second, run->second_len), 1, system->q, run->record.second.count, n,
-                                     TABLE(out, out_len));
+    size_t found = run->record.second.count;
+    if (run->record.kind == DEZGULA_RUN_RIGHTS) return row_of_either(system, run, 1, found, n, out, out_len);
+    return dezgula_raw_row(TABLE(run->second, run->second_len), system->q, found, n, TABLE(out, out_len));
 }
 
 /* With right sides: the list of the row on top of the stack, by its first number. */
@@ -342,7 +354,8 @@ static void unpack_round(dezgula_round *round, const uint64_t words[DEZGULA_ROUN
 uint64_t dezgula_dispatch(const dezgula_share *shares, size_t count, const dezgula_tables *tables, dezgula_round *round, uint64_t quantum, uint64_t turns)
 {
     uint64_t all[DEZGULA_MOST_RUNS * DEZGULA_SHARE_LENGTH] = {0}, words[DEZGULA_ROUND_LENGTH];
-    for (size_t i = 0; shares != NULL && i < count && i < DEZGULA_MOST_RUNS; i++) pack_share(&shares[i], all + i * DEZGULA_SHARE_LENGTH);
+    if (shares == NULL) count = 0;
+    for (size_t i = 0; i < count && i < DEZGULA_MOST_RUNS; i++) pack_share(&shares[i], all + i * DEZGULA_SHARE_LENGTH);
     pack_round(round, words);
     uint64_t answer = dezgula_raw_dispatch(count, quantum, turns, all, sizeof all / sizeof *all, TABLE(tables->coefs, tables->coefs_len),
                                            TABLE(tables->stack, tables->stack_len), TABLE(tables->list, tables->list_len), words, DEZGULA_ROUND_LENGTH);
@@ -362,9 +375,11 @@ static void set_system(dezgula_system *system, size_t p, size_t q, const int32_t
 
 uint64_t dezgula_read_map(const char *text, size_t text_len, int32_t coefs[DEZGULA_MAP_COEFFICIENTS], dezgula_system *system)
 {
+    int32_t nowhere[DEZGULA_MAP_COEFFICIENTS] = {0};
     uint64_t words[2] = {0, 0};
-    uint64_t answer = dezgula_raw_read_map(TABLE(text, text_len), coefs, words);
+    uint64_t answer = dezgula_raw_read_map(TABLE(text, text_len), coefs != NULL ? coefs : nowhere, words);
     if (answer != DEZGULA_MAP_READ) return answer + 256 * words[0];
+    if (coefs == NULL) return DEZGULA_OUTPUT_SHORT;
     set_system(system, (size_t)words[0], (size_t)words[1], coefs);
     return answer;
 }

@@ -74,6 +74,10 @@ int main(void)
         round_of_runs.runs[i].record = run.record;
     }
     dezgula_round kept = round_of_runs;
+    const dezgula_tables none = {NULL, 9, NULL, 9, NULL, 9};
+    expect(dezgula_dispatch(NULL, RUNS, &none, &round_of_runs, QUANTUM, 1) == DEZGULA_SCHEDULE, "no shares are no runs");
+    expect(dezgula_dispatch(shares, RUNS, &none, &round_of_runs, QUANTUM, 1) == DEZGULA_PARTS, "parts of no table");
+    expect(memcmp(&kept, &round_of_runs, sizeof kept) == 0, "and nothing is changed");
     round_of_runs.last = 9;
     expect(serve(1) == DEZGULA_SCHEDULE, "a kept number above 8 is refused");
     round_of_runs = kept;

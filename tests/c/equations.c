@@ -84,6 +84,7 @@ static void maps(void)
     expect(dezgula_read_map("1 1\n10001\n", 10, coefs, &map) == (1 << 8 | DEZGULA_COEFFICIENT), "a coefficient of 10,001");
     expect(dezgula_read_map("9 1\n", 4, coefs, &map) == DEZGULA_EQUATIONS, "nine equations");
     expect(dezgula_read_map(NULL, 4, coefs, &map) == (1 << 8 | DEZGULA_TEXT_LINE), "no text");
+    expect(dezgula_read_map(text, sizeof text - 1, NULL, &map) == DEZGULA_OUTPUT_SHORT, "no table");
     expect(coefs[0] == 77 && map.p == 0, "none of these wrote anything");
     expect(dezgula_read_map(text, sizeof text - 1, coefs, &map) == DEZGULA_MAP_READ, "the map is read");
     expect(map.p == 2 && map.q == 3 && map.coefs == coefs && map.coefs_len == 6, "its system");

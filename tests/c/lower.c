@@ -110,6 +110,21 @@ static void lists_of_none_and_one(void)
     expect_row(&run, false, 1, 3, 3);
 }
 
+/* Sixteen unknowns, all of them free but the first two, which are equal: the second list has as many as the list of a plain run. */
+static void widest(void)
+{
+    static const int32_t coefs[16] = {1, -1};
+    static const uint32_t zero[16] = {0};
+    static uint32_t rows[16 * 16], row[16];
+    const dezgula_system m = {1, 16, coefs, 16};
+    dezgula_run run = lend(LIST, LIST);
+    run.second = rows, run.second_len = 16 * 16;
+    expect(dezgula_start_from(&m, zero, 16, &run) == DEZGULA_STARTED, "it starts");
+    expect(dezgula_resume_from(&m, zero, 16, &run, 1000) == DEZGULA_COMPLETE && run.record.second.count == 15, "fifteen minimal solutions");
+    expect(dezgula_second_row(&m, &run, 15, row, 16) == DEZGULA_ROW && dezgula_second_row(&m, &run, 16, row, 16) == DEZGULA_NO_ROW, "each is shown");
+    expect(dezgula_row(&m, &run, 1, row, 16) == DEZGULA_ROW && memcmp(row, zero, sizeof zero) == 0, "and zero at or above zero");
+}
+
 /* Lists that are not there at first, each made longer by one row when it is full. */
 static void grown(void)
 {
@@ -234,6 +249,7 @@ int main(void)
     for (uint64_t budget = 1; budget <= 8; budget++) to_the_end(budget);
     change_without_a_step();
     lists_of_none_and_one();
+    widest();
     grown();
     refusals();
     for (uint64_t steps = 0; steps < 6; steps++) disorder(steps);

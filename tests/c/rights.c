@@ -82,8 +82,16 @@ static void to_the_end(uint64_t budget)
     expect(row_at(1, &run, 0, row, 4) == DEZGULA_NO_ROW, "nor one before the first");
     expect(row_at(1, &run, 1, NULL, 0) == DEZGULA_OUTPUT_SHORT, "no space is too short");
     expect(list[8] == 0xa5a5a5a5u && second[28] == 0xa5a5a5a5u, "rows past the counts are not touched");
-    expect(dezgula_raw_row_of_either(list, LIST, second, LIST, 1, 16, 2, 1, row, 4) == DEZGULA_UNKNOWNS, "no run has right sides and 16 unknowns");
+    const dezgula_system wide = {2, 16, coefs, 8};
+    expect(dezgula_row(&wide, &run, 1, row, 4) == DEZGULA_UNKNOWNS, "no run has right sides and 16 unknowns");
+    expect(dezgula_second_row(&wide, &run, 1, row, 4) == DEZGULA_UNKNOWNS, "in either list");
     expect(dezgula_full_list(&deliveries.system, &run) == DEZGULA_NEITHER, "at height 0 no list is full");
+    run.record.height = 6;
+    expect(dezgula_full_list(&deliveries.system, &run) == DEZGULA_NEITHER, "nor at a height that the stack does not have");
+    run.record.height = UINT64_MAX;
+    expect(dezgula_full_list(&deliveries.system, &run) == DEZGULA_NEITHER, "nor beyond all");
+    run.record.height = 1, run.stack = NULL;
+    expect(dezgula_full_list(&deliveries.system, &run) == DEZGULA_NEITHER, "nor without a stack");
 }
 
 /* Lists that are not there at first, each made longer by one row when it is full. */

@@ -1,4 +1,4 @@
--- An answer as one number (include/dezgula.h): "An answer is a number in its low 8 bits and a place in the others." Assumes nothing.
+-- An answer as one number (include/dezgula.h): what it is in its low 8 bits, and the place that it comes with in the others. Assumes nothing.
 use Prim.Native.Nat.{ℕ, _+_, _*_, min}
 use mathlib.Core.List.{List}
 use Rattle.calls.specs.Paper.{value}

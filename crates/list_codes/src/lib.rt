@@ -28,12 +28,7 @@ pub fn write_list(
 }
 
 // Reads a file: the coefficients go to the beginning of `coefs`, the rows to the beginning of `list`, and p, q, the row count and the ending to `words`.
-pub fn read_list(
-    file: &[u8],
-    coefs: &mut [i32],
-    list: &mut [u32],
-    words: &mut [u64; 4],
-) -> u64
+pub fn read_list(file: &[u8], coefs: &mut [i32], list: &mut [u32], words: &mut [u64; 4]) -> u64
     ensures { λ a. ⌜ (a, (now (coefs .exit), (now (list .exit), now (words .exit)))) ≡
         readTold (readFile (now (file .entry)) (now (coefs .entry)) (now (list .entry))) (now (words .entry)) ⌝ }
 {

@@ -50,7 +50,8 @@ fn located(l: Line) -> bool {
         x[1] as usize,
         x[2] as usize,
         first(&tuple, l.tuple_length),
-    ) == e[1]
+    )
+        == e[1]
 }
 
 fn is_amount(amount: &[i64; 1], size: u64, minus: u64) -> bool {
