@@ -264,7 +264,8 @@ static unsigned machine_of(const problem *what, size_t group)
 static bool say_size(const problem *what, unsigned machine, unsigned number, fault *why)
 {
     size_t most_q = machine == RIGHTS ? DEZGULA_MOST_UNKNOWNS_WITH_RIGHTS : DEZGULA_MOST_UNKNOWNS;
-    const char *how = machine == WALK ? "the walk takes" : machine == RIGHTS ? "with deliveries there are" : machine == LOWER ? "from a lower bound there are" : "there are";
+    static const char *const takes[MACHINES] = {[WALK] = "the walk takes", [RIGHTS] = "with deliveries there are", [LOWER] = "from a lower bound there are"};
+    const char *how = takes[machine] != NULL ? takes[machine] : "there are";
     if (number == DEZGULA_EQUATIONS) return fault_set(why, number, "%zu trays change; %s 1 to %d", what->p, how, DEZGULA_MOST_EQUATIONS);
     return fault_set(why, number, "%zu activities; %s 1 to %zu", what->q, how, most_q);
 }
@@ -276,7 +277,8 @@ static bool say(const run *r, uint64_t answer, fault *why)
     case DEZGULA_EQUATIONS:
     case DEZGULA_UNKNOWNS: return say_size(&r->what, r->machine, number, why);
     case DEZGULA_OUT_OF_ORDER: return fault_set(why, number, "the state of the run is not in order");
-    case DEZGULA_COEFFICIENT: return fault_set(why, number, "coefficient %" PRIu64 " is outside -%d to %d", dezgula_place(answer), MOST_COEFFICIENT, MOST_COEFFICIENT);
+    case DEZGULA_COEFFICIENT:
+        return fault_set(why, number, "coefficient %" PRIu64 " is outside -%d to %d", dezgula_place(answer), MOST_COEFFICIENT, MOST_COEFFICIENT);
     case DEZGULA_TUPLE_RANGE: return fault_set(why, number, "a count to begin from is above %d", MOST_COUNT);
     case DEZGULA_RIGHT_SIDE: return fault_set(why, number, "a right side is outside -%d to %d", MOST_COEFFICIENT, MOST_COEFFICIENT);
     case DEZGULA_COMPONENT: return fault_set(why, number, "a count would be above %d", MOST_COUNT);
