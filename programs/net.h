@@ -51,6 +51,7 @@ typedef struct piece {
 
 typedef struct {
     XML_Parser parser;
+    unsigned long blank; /* lines ahead of the parsed text */
     fault *why;
     bool refused;
     piece *pieces;
@@ -100,6 +101,9 @@ shown net_arc(const entry *e);
 /* What the standard calls a node or a reference. */
 const char *net_word(kind is);
 bool net_is_node(kind is);
+
+/* The line under way, from 1. */
+unsigned long net_line(const reading *r);
 
 void net_no_memory(reading *r);
 

@@ -10,17 +10,13 @@
 #ifndef NO_EXPAT
 
 #include <ctype.h>
+#include <iconv.h>
 #include <math.h>
 #include <stdlib.h>
 #include <string.h>
 
 /* The most digits of a weight, so that sums of weights are small. */
 enum { MOST_DIGITS = 9 };
-
-static unsigned long line_now(const reading *r)
-{
-    return XML_GetCurrentLineNumber(r->parser);
-}
 
 /* ---- types of net */
 
@@ -30,15 +26,18 @@ static bool is_same_word(const char *a, const char *b)
     return tolower((unsigned char)*a) == tolower((unsigned char)*b);
 }
 
+/* Whether `text` begins with `word`, which is in small letters. */
+static bool begins_with(const char *text, const char *word)
+{
+    while (*word != 0 && tolower((unsigned char)*text) == *word) text++, word++;
+    return *word == 0;
+}
+
 /* Whether `word`, in small letters, is somewhere in `text`, in letters of any size. */
 static bool has_word(const char *text, const char *word)
 {
-    size_t len = strlen(word);
-    for (; *text != 0; text++) {
-        size_t i = 0;
-        while (i < len && tolower((unsigned char)text[i]) == word[i]) i++;
-        if (i == len) return true;
-    }
+    for (; *text != 0; text++)
+        if (begins_with(text, word)) return true;
     return false;
 }
 
@@ -79,7 +78,7 @@ static void check_net_type(reading *r, const char *written)
     const char *slash = strrchr(type, '/'), *hash = strrchr(type, '#');
     const char *last = slash == NULL ? type : slash + 1;
     if (hash != NULL && hash > slash) last = hash + 1;
-    if (!is_listed(last)) net_refuse(r, line_now(r), FORM, "a net of the type \"%s\"; only place/transition nets (ptnet) are read", said.text);
+    if (!is_listed(last)) net_refuse(r, net_line(r), FORM, "a net of the type \"%s\"; only place/transition nets (ptnet) are read", said.text);
 }
 
 /* ---- arcs: how many documents they move, and which kinds of arc are taken */
@@ -257,7 +256,7 @@ static kind kind_of(reading *r, const char *full)
     kind in = innermost(r);
     if (!is_pnml(r, full)) return IGNORED;
     for (size_t i = 0; i < REFUSALS; i++)
-        if (REFUSED[i].in == family(in) && strcmp(REFUSED[i].name, local) == 0) net_refuse(r, line_now(r), FORM, "%s", REFUSED[i].why);
+        if (REFUSED[i].in == family(in) && strcmp(REFUSED[i].name, local) == 0) net_refuse(r, net_line(r), FORM, "%s", REFUSED[i].why);
     for (size_t i = 0; i < PRODUCTIONS; i++)
         if (GRAMMAR[i].in == family(in) && strcmp(GRAMMAR[i].name, local) == 0) return GRAMMAR[i].is;
     return IGNORED;
@@ -277,7 +276,7 @@ static void begin_file(reading *r, const char *full)
     const char *local = local_name(full);
     shown said = net_quote(local);
     if (strcmp(local, "pnml") != 0) {
-        net_refuse(r, line_now(r), FORM, "the file begins with <%s>, not with <pnml>: it is no PNML file; export the net as PNML", said.text);
+        net_refuse(r, net_line(r), FORM, "the file begins with <%s>, not with <pnml>: it is no PNML file; export the net as PNML", said.text);
         return;
     }
     if (local == full) return;
@@ -291,7 +290,7 @@ static void begin_file(reading *r, const char *full)
 static void begin_net(reading *r, const char **attributes)
 {
     shown id = net_quote(attribute(attributes, "id"));
-    if (r->net) net_refuse(r, line_now(r), FORM, "a second net (\"%s\") in the file; save each net in a file of its own", id.text);
+    if (r->net) net_refuse(r, net_line(r), FORM, "a second net (\"%s\") in the file; save each net in a file of its own", id.text);
     else check_net_type(r, attribute(attributes, "type"));
     r->net = true;
 }
@@ -378,7 +377,7 @@ static void XMLCALL on_begin(void *data, const XML_Char *full, const XML_Char **
     reading *r = data;
     if (r->refused) return;
     if (r->depth + r->ignored >= MOST_OPEN) {
-        net_refuse(r, line_now(r), FORM, "elements nested deeper than %d", MOST_OPEN);
+        net_refuse(r, net_line(r), FORM, "elements nested deeper than %d", MOST_OPEN);
         return;
     }
     kind is = r->ignored > 0 ? IGNORED : kind_of(r, full);
@@ -426,7 +425,7 @@ static void end_label(reading *r, kind is)
     char *text = label(r);
     if (r->refused || text == NULL) return;
     shown said = net_quote(text);
-    if (is == DECLARATION) net_refuse(r, line_now(r), FORM, "a declaration (\"%s\"): a coloured net; only place/transition nets are read", said.text);
+    if (is == DECLARATION) net_refuse(r, net_line(r), FORM, "a declaration (\"%s\"): a coloured net; only place/transition nets are read", said.text);
     else if (is == INSCRIPTION) r->entries[r->current].weight = text;
     else if (is == ARC_TYPE) r->entries[r->current].type = text;
     else if (owner == PAGE) r->entries[r->page].name = text;
@@ -454,7 +453,7 @@ static void XMLCALL on_doctype(void *data, const XML_Char *name, const XML_Char 
 {
     reading *r = data;
     (void)name, (void)system, (void)public, (void)internal;
-    net_refuse(r, line_now(r), FORM, "a document type (<!DOCTYPE>); a net needs none: take it out");
+    net_refuse(r, net_line(r), FORM, "a document type (<!DOCTYPE>); a net needs none: take it out");
 }
 
 static void XMLCALL on_entity(void *data, const XML_Char *name, int parameter, const XML_Char *value, int len, const XML_Char *base, const XML_Char *system,
@@ -463,21 +462,65 @@ static void XMLCALL on_entity(void *data, const XML_Char *name, int parameter, c
     reading *r = data;
     (void)parameter, (void)value, (void)len, (void)base, (void)system, (void)public, (void)notation;
     shown said = net_quote(name);
-    net_refuse(r, line_now(r), FORM, "an entity declaration (\"%s\"); a net needs none: take it out", said.text);
+    net_refuse(r, net_line(r), FORM, "an entity declaration (\"%s\"); a net needs none: take it out", said.text);
 }
 
 /* ---- the parse */
+
+/* Encodings of one byte a character that expat does not know itself, and the C library does. */
+static const char *const ONE_BYTE[] = {"windows-", "cp", "iso-8859-", "koi8-", "macintosh"};
+
+enum { ONE_BYTES = sizeof ONE_BYTE / sizeof *ONE_BYTE };
+
+static bool is_one_byte(const char *encoding)
+{
+    for (size_t i = 0; i < ONE_BYTES; i++)
+        if (begins_with(encoding, ONE_BYTE[i])) return true;
+    return false;
+}
+
+/* The character that a byte stands for, or -1. */
+static int character_of(iconv_t encoding, char byte)
+{
+    unsigned char out[8] = {0};
+    char *from = &byte, *to = (char *)out;
+    size_t left = 1, room = sizeof out;
+    (void)iconv(encoding, NULL, NULL, NULL, NULL);
+    if (iconv(encoding, &from, &left, &to, &room) == (size_t)-1 || left != 0 || room != sizeof out - 4) return -1;
+    return (int)out[0] | (int)out[1] << 8 | (int)out[2] << 16;
+}
+
+static int XMLCALL on_encoding(void *data, const XML_Char *name, XML_Encoding *info)
+{
+    (void)data;
+    iconv_t encoding = is_one_byte(name) ? iconv_open("UTF-32LE", name) : (iconv_t)-1;
+    if (encoding == (iconv_t)-1) return XML_STATUS_ERROR;
+    for (int i = 0; i < 256; i++) info->map[i] = character_of(encoding, (char)i);
+    info->data = NULL;
+    info->convert = NULL;
+    info->release = NULL;
+    (void)iconv_close(encoding);
+    return XML_STATUS_OK;
+}
+
+/* How many bytes stand ahead of the XML declaration and are blank, which XML does not allow and a person does not see. */
+static size_t blanks(reading *r, const char *bytes, size_t len)
+{
+    size_t mark = len >= 3 && memcmp(bytes, "\xef\xbb\xbf", 3) == 0 ? 3 : 0, at = mark;
+    for (; at < len && memchr(" \t\r\n", bytes[at], 4) != NULL; at++) r->blank += bytes[at] == '\n';
+    return at == mark ? 0 : at;
+}
 
 static void refuse_xml(reading *r)
 {
     enum XML_Error error = XML_GetErrorCode(r->parser);
     if (error == XML_ERROR_NO_MEMORY) net_no_memory(r);
     else if (error == XML_ERROR_UNKNOWN_ENCODING || error == XML_ERROR_INCORRECT_ENCODING)
-        net_refuse(r, line_now(r), FORM, "the file's encoding is not what is said, or is not known; save the net as UTF-8");
+        net_refuse(r, net_line(r), FORM, "the file's encoding is not what is said, or is not known; save the net as UTF-8");
     else if (error == XML_ERROR_INVALID_TOKEN)
-        net_refuse(r, line_now(r), FORM, "a character that XML does not allow here, or one that is not in the file's encoding; save the net as UTF-8");
-    else if (error == XML_ERROR_NO_ELEMENTS) net_refuse(r, line_now(r), FORM, "the file ends before its net does, or holds none");
-    else net_refuse(r, line_now(r), FORM, "this is not well-formed XML (%s)", XML_ErrorString(error));
+        net_refuse(r, net_line(r), FORM, "a character that XML does not allow here, or one that is not in the file's encoding; save the net as UTF-8");
+    else if (error == XML_ERROR_NO_ELEMENTS) net_refuse(r, net_line(r), FORM, "the file ends before its net does, or holds none");
+    else net_refuse(r, net_line(r), FORM, "this is not well-formed XML (%s)", XML_ErrorString(error));
 }
 
 void net_read(reading *r, const char *bytes, size_t len)
@@ -487,8 +530,10 @@ void net_read(reading *r, const char *bytes, size_t len)
     XML_SetCharacterDataHandler(r->parser, on_text);
     XML_SetStartDoctypeDeclHandler(r->parser, on_doctype);
     XML_SetEntityDeclHandler(r->parser, on_entity);
-    if (XML_Parse(r->parser, bytes, (int)len, XML_TRUE) != XML_STATUS_OK && !r->refused) refuse_xml(r);
-    if (!r->refused && !r->net) net_refuse(r, line_now(r), FORM, "there is no <net> in the file");
+    XML_SetUnknownEncodingHandler(r->parser, on_encoding, NULL);
+    size_t at = blanks(r, bytes, len);
+    if (XML_Parse(r->parser, bytes + at, (int)(len - at), XML_TRUE) != XML_STATUS_OK && !r->refused) refuse_xml(r);
+    if (!r->refused && !r->net) net_refuse(r, net_line(r), FORM, "there is no <net> in the file");
 }
 
 #endif

@@ -33,6 +33,11 @@ char *net_room(reading *r, size_t len)
     return p->text;
 }
 
+unsigned long net_line(const reading *r)
+{
+    return r->blank + XML_GetCurrentLineNumber(r->parser);
+}
+
 entry *net_add(reading *r, kind is)
 {
     if (r->len == r->room) {
@@ -46,7 +51,7 @@ entry *net_add(reading *r, kind is)
         r->room = room;
     }
     entry *e = &r->entries[r->len++];
-    *e = (entry){.is = is, .line = XML_GetCurrentLineNumber(r->parser), .page = r->page, .from = NOWHERE, .to = NOWHERE};
+    *e = (entry){.is = is, .line = net_line(r), .page = r->page, .from = NOWHERE, .to = NOWHERE};
     return e;
 }
 

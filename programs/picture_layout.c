@@ -12,7 +12,10 @@
 #include <sys/wait.h>
 #include <unistd.h>
 
-enum { MARGIN = 26, GAP_ACROSS = 46, GAP_DOWN = 34, DESK_PAD = 14, DESK_HEAD = 26, DESK_GAP = 44, ROW_WIDTH = 1500, FEW = 18 };
+enum { MARGIN = 26, GAP_ACROSS = 46, GAP_DOWN = 34, DESK_PAD = 14, DESK_HEAD = 26, DESK_GAP = 44, ROW_WIDTH = 1500 };
+
+/* Up to FEW nodes go from left to right, more from above. Beyond MOST_FOR_DOT arcs no layout is readable, and dot takes long. */
+enum { FEW = 18, MOST_FOR_DOT = 300 };
 
 /* How long dot may take. */
 #ifndef DOT_SECONDS
@@ -415,7 +418,7 @@ static void fit_sheet(drawing *d)
 
 bool drawing_place(drawing *d)
 {
-    bool by_file = place_by_file(d), by_dot = !by_file && place_by_dot(d);
+    bool by_file = place_by_file(d), by_dot = !by_file && d->arcs_len <= MOST_FOR_DOT && place_by_dot(d);
     if (!by_file && !by_dot) {
         d->desks_len = 0;
         place_in_grid(d);

@@ -9,8 +9,9 @@
 #include <stdlib.h>
 #include <string.h>
 
-/* Up to FEW_LOOPS the staffing table has a column for each loop, and beyond a line; it ends after MOST_LINES loops, which it says. */
-enum { FEW_LOOPS = 12, MOST_LINES = 2000 };
+/* Up to FEW_LOOPS the staffing table has a column for each loop, and beyond a line; it ends after MOST_LINES loops, which it says. Of more than MANY_LOOPS the
+ * browser lays out only those of the list that are to be seen. */
+enum { FEW_LOOPS = 12, MOST_LINES = 2000, MANY_LOOPS = 400 };
 
 /* ---- style and script */
 
@@ -41,37 +42,40 @@ static const char *const STYLE[] = {
     "button,select{font:inherit;color:inherit;background:#fff;border:1px solid #9aa7b3;border-radius:5px;padding:.1rem .5rem;max-width:100%}",
     "button{cursor:pointer}",
     "#loops ol{list-style:none;margin:0;padding:.3rem;overflow:auto;max-height:max(20rem,calc(100vh - 9rem))}",
-    "#loops li{content-visibility:auto;contain-intrinsic-size:auto 3rem}",
+    "#loops .long li{content-visibility:auto;contain-intrinsic-size:auto 3rem}",
     "#loops li a{display:grid;grid-template-columns:2.6rem 1fr;padding:.35rem .5rem;border-radius:5px;color:inherit;text-decoration:none}",
     "#loops li a:hover{background:var(--wash)}",
     "#loops li a[aria-current]{background:var(--glow);box-shadow:inset 4px 0 var(--mark)}",
-    "#loops li span span{display:inline-block}",
+    "#loops li span span{display:inline-block;max-width:100%}",
+    "#loops li,#said,header p,th[scope=row],td.words,thead span{overflow-wrap:anywhere}",
     "#loops li b{color:var(--mark);font-variant-numeric:tabular-nums}",
     "section{margin:1.2rem 0}",
     ".scroll{width:fit-content;max-width:100%;overflow:auto;max-height:90vh;border:1px solid var(--line);border-radius:8px}",
     "table{border-collapse:separate;border-spacing:0;font-variant-numeric:tabular-nums}",
     "th,td{padding:.2rem .55rem;border-bottom:1px solid var(--line);text-align:right;font-weight:400;background:#fff}",
-    "td.zero{color:#8a949e}",
+    "td.zero{color:#6b7681}",
     "td.some{font-weight:600}",
     "thead th{background:var(--wash);position:sticky;top:0;z-index:1;vertical-align:bottom}",
-    "th[scope=row],th.words,td.words{text-align:left;min-width:9rem}",
+    "th[scope=row],th.words,td.words{text-align:left;min-width:9rem;max-width:26rem}",
     "tbody th[scope=row]{position:sticky;left:0;background:#fff}",
     "thead th:first-child{left:0;z-index:2}",
     "th a{text-decoration:none}",
-    "table.deep tbody th[scope=row]{min-width:0;text-align:right}",
+    "table.deep th[scope=row]{min-width:0;text-align:right}",
+    "table.deep th,table.deep td{padding:.2rem .4rem}",
     "table.deep thead th span{display:inline-block;writing-mode:vertical-rl;transform:rotate(180deg);text-align:left;max-height:13em;line-height:1.15;"
     "padding:.2rem 0}",
     "td.total,th.total{border-left:2px solid var(--line);color:var(--soft)}",
     "tr.total th,tr.total td{border-top:2px solid var(--line);color:var(--soft)}",
-    "tr.on th,tr.on td,td.on,thead th.on,table.deep tbody tr.on th[scope=row]{background:var(--glow)}",
+    "tr.on th,tr.on td,td.on,thead th.on,tr.on th[scope=row]{background:var(--glow)}",
     "summary{cursor:pointer;font-weight:600;font-size:1.1rem;margin-bottom:.5rem}",
     "footer{color:var(--soft);padding-bottom:2rem}footer p{max-width:none}",
     "@media(max-width:900px){.both{grid-template-columns:1fr}.sheet,#loops ol{max-height:70vh}}",
     "@media print{body{font-size:10.5pt}header,main,footer{max-width:none;padding:0}.both{display:block}"
     ".pane,.scroll{border:0;overflow:visible;max-height:none}.sheet,#loops ol,#said{overflow:visible;max-height:none;min-height:0}"
     ".sheet svg{min-width:0!important;max-width:100%;max-height:20cm}.bar{background:none}"
-    ".bar .right,button,select,label{display:none}thead th,tbody th[scope=row]{position:static}#loops li{content-visibility:visible;break-inside:avoid}"
-    "tr{break-inside:avoid}th,td{padding:.1rem .3rem}*{-webkit-print-color-adjust:exact;print-color-adjust:exact}}",
+    ".bar .right,button,select,label{display:none}thead th,tbody th[scope=row]{position:static}#loops .long li{content-visibility:visible}"
+    "h2,#staffing>p{break-after:avoid}#said.idle{display:none}#loops li,tr{break-inside:avoid}"
+    "th,td{padding:.1rem .3rem}*{-webkit-print-color-adjust:exact;print-color-adjust:exact}}",
     NULL,
 };
 
@@ -105,6 +109,11 @@ static const char *const SCRIPT[] = {
     "    all('.tray', net).forEach(function (t) { t.classList.toggle('on', trays[t.getAttribute('data-tray')] === true); });",
     "    net.classList.toggle('shows', row.length > 0);",
     "  }",
+    "  function bring(link, list) {",
+    "    var a = link.getBoundingClientRect(), b = list.getBoundingClientRect();",
+    "    if (a.top < b.top) list.scrollTop -= b.top - a.top;",
+    "    else if (a.bottom > b.bottom) list.scrollTop += Math.min(a.bottom - b.bottom, a.top - b.top);",
+    "  }",
     "  function show() {",
     "    var k = asked(), link = k > 0 ? links[k - 1] : null;",
     "    draw(link ? counts(link) : []);",
@@ -112,9 +121,10 @@ static const char *const SCRIPT[] = {
     "    all('#staffing .on').forEach(function (c) { c.classList.remove('on'); });",
     "    all('#staffing [data-loop=\"' + k + '\"]').forEach(function (c) { c.classList.add('on'); });",
     "    one('none').hidden = !link;",
+    "    one('said').classList.toggle('idle', !link);",
     "    if (!link) { one('said').textContent = 'No loop is shown. Choose one from the list to see it in the net, with its counts.'; return; }",
     "    link.setAttribute('aria-current', 'true');",
-    "    link.scrollIntoView({block: 'nearest'});",
+    "    bring(link, link.parentNode.parentNode);",
     "    one('said').textContent = 'Loop ' + k + ': ' + link.querySelector('.words').textContent;",
     "  }",
     "  function filter() {",
@@ -303,7 +313,7 @@ static void write_loops(FILE *out, const map *m, const listing *l)
           "<div class=\"bar\"><h2 id=\"loops-head\">Loops</h2><span id=\"kept\" class=\"soft\" role=\"status\"></span>",
           out);
     write_choice(out, m);
-    fputs("</div>\n<ol>\n", out);
+    fprintf(out, "</div>\n<ol%s>\n", l->n > MANY_LOOPS ? " class=\"long\"" : "");
     for (size_t k = 0; k < l->n; k++) write_loop(out, m, row_of(l, k), k + 1);
     fputs("</ol>\n", out);
     if (l->n == 0) fputs("<p class=\"bar\">There is no loop in the list.</p>\n", out);

@@ -65,11 +65,18 @@ static bool double_rows(table *t, size_t q)
 
 /* ---- the group under way, as the calls take it */
 
+/* How many equations the group under way has. */
+static size_t own_equations(const run *r)
+{
+    return r->what.groups_len > 1 ? r->what.groups[r->group] : r->what.p;
+}
+
+/* The equations of the group by themselves; sums of pairs go on with those of the groups before, which are done. */
 static dezgula_system system_of(const run *r)
 {
     const problem *w = &r->what;
-    size_t p = w->groups_len > 1 ? w->groups[r->group] : w->p;
-    dezgula_system system = {p, w->q, w->coefs + r->before * w->q, p * w->q};
+    size_t first = r->machine == PAIRS ? 0 : r->before, p = r->before + own_equations(r) - first;
+    dezgula_system system = {p, w->q, w->coefs + first * w->q, p * w->q};
     return system;
 }
 
@@ -112,8 +119,15 @@ static bool lengthen_pairs(run *r)
     return double_rows(&r->list, r->what.q) && beside(r);
 }
 
+/* The first group has a start. A further one goes on where the equations before it are done, from their rows: it is set to the first pair of its first
+ * equation, as the run itself would be after them. That these rows are all, and no others, is what the answers of the groups before say. */
 static uint64_t start_pairs(run *r)
 {
+    if (r->group > 0) {
+        dezgula_pairs_record at = {((uint32_t)1 << r->before) - 1, r->before, 1, 0, r->pairs.rows, r->pairs.steps};
+        r->pairs = at;
+        return DEZGULA_STARTED;
+    }
     if (!lengthen_pairs(r)) return DEZGULA_PAIRS_FULL;
     dezgula_system system = system_of(r);
     dezgula_pairs_run lent = pairs_of(r);
@@ -203,7 +217,7 @@ static uint64_t go_on_lower(run *r, uint64_t budget)
     return answer;
 }
 
-/* ---- a further desk, from the list of those before it */
+/* ---- a further desk by the walk, from the list of those before it */
 
 static uint64_t start_desk(run *r)
 {
@@ -239,7 +253,7 @@ static const machine machines[MACHINES] = {
 
 static unsigned machine_of(const problem *what, size_t group)
 {
-    if (group > 0) return DESK;
+    if (group > 0 && what->how == BY_WALK) return DESK;
     if (what->lower != NULL) return LOWER;
     if (what->rights != NULL) return RIGHTS;
     return what->how == BY_WALK ? WALK : PAIRS;
@@ -250,7 +264,8 @@ static unsigned machine_of(const problem *what, size_t group)
 static bool say_size(const problem *what, unsigned machine, unsigned number, fault *why)
 {
     size_t most_q = machine == RIGHTS ? DEZGULA_MOST_UNKNOWNS_WITH_RIGHTS : DEZGULA_MOST_UNKNOWNS;
-    const char *how = machine == WALK ? "the walk takes" : machine == RIGHTS ? "with deliveries there are" : machine == LOWER ? "from a lower bound there are" : "there are";
+    static const char *const takes[MACHINES] = {[WALK] = "the walk takes", [RIGHTS] = "with deliveries there are", [LOWER] = "from a lower bound there are"};
+    const char *how = takes[machine] != NULL ? takes[machine] : "there are";
     if (number == DEZGULA_EQUATIONS) return fault_set(why, number, "%zu trays change; %s 1 to %d", what->p, how, DEZGULA_MOST_EQUATIONS);
     return fault_set(why, number, "%zu activities; %s 1 to %zu", what->q, how, most_q);
 }
@@ -262,7 +277,8 @@ static bool say(const run *r, uint64_t answer, fault *why)
     case DEZGULA_EQUATIONS:
     case DEZGULA_UNKNOWNS: return say_size(&r->what, r->machine, number, why);
     case DEZGULA_OUT_OF_ORDER: return fault_set(why, number, "the state of the run is not in order");
-    case DEZGULA_COEFFICIENT: return fault_set(why, number, "coefficient %" PRIu64 " is outside -%d to %d", dezgula_place(answer), MOST_COEFFICIENT, MOST_COEFFICIENT);
+    case DEZGULA_COEFFICIENT:
+        return fault_set(why, number, "coefficient %" PRIu64 " is outside -%d to %d", dezgula_place(answer), MOST_COEFFICIENT, MOST_COEFFICIENT);
     case DEZGULA_TUPLE_RANGE: return fault_set(why, number, "a count to begin from is above %d", MOST_COUNT);
     case DEZGULA_RIGHT_SIDE: return fault_set(why, number, "a right side is outside -%d to %d", MOST_COEFFICIENT, MOST_COEFFICIENT);
     case DEZGULA_COMPONENT: return fault_set(why, number, "a count would be above %d", MOST_COUNT);
@@ -338,11 +354,13 @@ static size_t rows_of(const run *r)
 /* The list of the group that is done goes to the next one. */
 static state next_group(run *r, fault *why)
 {
-    free(r->generators.at);
-    r->generators = r->list;
-    r->generators.len = rows_of(r) * r->what.q;
-    r->list.at = NULL;
-    r->list.len = 0;
+    if (r->machine != PAIRS) {
+        free(r->generators.at);
+        r->generators = r->list;
+        r->generators.len = rows_of(r) * r->what.q;
+        r->list.at = NULL;
+        r->list.len = 0;
+    }
     r->before += r->what.groups[r->group++];
     r->machine = machine_of(&r->what, r->group);
     uint64_t answer = machines[r->machine].start(r);

@@ -1,7 +1,7 @@
 #!/usr/bin/env python3
 """Holds a page, as a browser shows it, against the list it was made of: check_page.py DOM ROWS LOOP
-DOM is what the browser has after the page's script ran at #loop=LOOP. With loop 0 no activity is marked; else those of the loop are, each with its count, the line of
-the list and the cells of the staffing table too. Prints nothing where all is well."""
+DOM is what the browser has after the page's script ran at #loop=LOOP. With loop 0 no activity is marked; else those of the loop are, each with its count, the
+line of the list and the cells of the staffing table too. Prints nothing where all is well."""
 import sys
 from html.parser import HTMLParser
 

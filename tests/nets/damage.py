@@ -1,14 +1,15 @@
 #!/usr/bin/env python3
 """Damaged nets: damage.py FOLDER COUNT NET ..
-Writes COUNT files into FOLDER, each one of the nets with one to four damages, drawn by a fixed seed: cut short, bytes changed, left out, doubled or exchanged, a word
-put into the place of another, or an attribute's value emptied."""
+Writes COUNT files into FOLDER, each one of the nets with one to four damages, drawn by a fixed seed: cut short, bytes changed, left out, doubled or exchanged,
+a word put in, an attribute's value emptied, or a line dropped."""
 import random
 import re
 import sys
 
-WORDS = [b'<', b'>', b'/>', b'&', b'&#0;', b'&#xD800;', b'&a;', b'"', b"'", b'<![CDATA[', b']]>', b'<!--', b'-->', b'<?xml?>', b'<!DOCTYPE a [<!ENTITY b "c">]>',
-         b'<page id="q">', b'</page>', b'<place id="p1"/>', b'<net>', b'</net>', b'<arc source="a" target="a"/>', b'\0', b'\xff\xfe', b'\xef\xbb\xbf', b'\xc3',
-         b'<toolspecific>', b'<text>', b'<inscription><text>99999999999999999999</text></inscription>', b'<referencePlace id="z" ref="z"/>', b' type="x"', b'999999999']
+WORDS = [b'<', b'>', b'/>', b'&', b'&#0;', b'&#xD800;', b'&a;', b'"', b"'", b'<![CDATA[', b']]>', b'<!--', b'-->', b'<?xml?>', b'\x00', b'\xff\xfe',
+         b'\xef\xbb\xbf', b'\xc3', b'<!DOCTYPE a [<!ENTITY b "c">]>', b'<page id="q">', b'</page>', b'<place id="p1"/>', b'<net>', b'</net>',
+         b'<arc source="a" target="a"/>', b'<toolspecific>', b'<text>', b'<inscription><text>99999999999999999999</text></inscription>',
+         b'<referencePlace id="z" ref="z"/>', b' type="x"', b'999999999']
 
 
 def cut(r, b):

@@ -1,6 +1,7 @@
 /* Pictures and pages of a net, with lists from a file in place of a solver:
  *   draw picture FILE [COUNT ..]     the SVG, with a loop of these counts
  *   draw page FILE ROWS [cut]        the page; ROWS is a list in 4ti2's matrix form ("n q" and n rows), which is complete unless it is cut
+ *   draw bare FILE ROWS              the page of the equations alone, as of a map in another format, with a right side
  * Status 0: written; 1: the net is refused; 2: no file, no list, or not written. */
 #include "../../programs/map.h"
 
@@ -55,12 +56,26 @@ static int write_page(const map *m, const char *name, bool complete)
     return status;
 }
 
+static int write_bare(const map *m, const char *name)
+{
+    int32_t *rights = calloc(m->p, sizeof *rights);
+    if (rights == NULL) return -1;
+    rights[0] = 1;
+    map bare = {.p = m->p, .q = m->q, .coefs = m->coefs, .rights = rights, .trays = m->trays, .activities = m->activities};
+    int status = write_page(&bare, name, true);
+    free(rights);
+    return status;
+}
+
 int main(int count, char **words)
 {
     map m;
+    int status = -1;
     if (count < 3) return 2;
     if (!read_net(words[2], &m)) return 1;
-    int status = strcmp(words[1], "page") == 0 && count > 3 ? write_page(&m, words[3], count == 4) : write_picture(&m, words + 3, (size_t)(count - 3));
+    if (strcmp(words[1], "bare") == 0 && count > 3) status = write_bare(&m, words[3]);
+    else if (strcmp(words[1], "page") == 0 && count > 3) status = write_page(&m, words[3], count == 4);
+    else if (strcmp(words[1], "picture") == 0) status = write_picture(&m, words + 3, (size_t)(count - 3));
     map_free(&m);
     return status == 0 && fflush(stdout) == 0 ? 0 : 2;
 }
