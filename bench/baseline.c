@@ -4,7 +4,7 @@
  * if all of them are, and an unknown may be raised where its product is below zero. Raising an unknown adds its row of the Gram matrix of the columns, and 1
  * to the sum of the row's components. */
 #include "baseline.h"
-#include "dezgula.h"
+#include "raw.h"
 
 #include <stdbool.h>
 #include <string.h>
@@ -25,7 +25,7 @@ static uint64_t check_shape(size_t p, size_t q, size_t coefs_len, size_t stack_l
 {
     if (p < 1 || p > DEZGULA_MOST_EQUATIONS) return DEZGULA_EQUATIONS;
     if (q < 1 || q > MOST) return DEZGULA_UNKNOWNS;
-    if (coefs_len != p * q) return DEZGULA_COEFFICIENT_COUNT;
+    if (coefs_len != p * q) return DEZGULA_COUNT;
     if (stack_len < DEZGULA_STACK_LENGTH(q)) return DEZGULA_STACK_SHORT;
     return PASS;
 }

@@ -7,7 +7,7 @@
  * WHO is baseline, native or library. A run is a plain start and one continuing call with BUDGET steps. Before anything is timed, all three must agree:
  * answer, record, stack table and list table; and so must the library when it is paused after every 1,000 steps. */
 #include "baseline.h"
-#include "dezgula.h"
+#include "raw.h"
 
 #include <inttypes.h>
 #include <stdbool.h>

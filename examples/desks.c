@@ -1,88 +1,59 @@
 /* The minimal solutions of a map that comes as several groups of equations, one desk after the other: desks FIRST SECOND ..
  *
- * The first file is solved by itself; each further one from the list of those before it. All have the same unknowns. A run that pauses is gone on with, and
- * a full list is made twice as long. Standard error tells steps and solutions after each desk; standard output gets the rows. The status is 0 for a complete
- * list, 1 where the library refuses, 2 where no map can be read.
+ * The first file is solved by itself; each further one from the list of those before it. All have the same unknowns. Standard error tells steps and solutions
+ * after each desk; standard output gets the rows. The status is 0 for a complete list, 1 where the library refuses, 2 where something cannot be read or
+ * written.
  *
- *   cc -O2 -Iinclude examples/desks.c target/staticlib/libdezgula.a -o desks */
-#include "dezgula_desks.h"
-#include "dezgula_pairs.h"
+ *   cc -O2 -Iinclude examples/desks.c target/library/libdezgula.a -o desks */
+#include "dezgula_text.h"
 
 #include <inttypes.h>
 #include <stdio.h>
 #include <stdlib.h>
 
-enum { BUDGET = 10000000, FIRST_ROWS = 64, TEXT = 4097 };
+enum { MOST = DEZGULA_MOST_UNKNOWNS, ROWS = 4096 };
 
-static void stop(int status, const char *file, const char *why)
+static uint32_t stack[DEZGULA_DESK_STACK_LENGTH(MOST, DEZGULA_MOST_GENERATORS)], lists[2][ROWS * MOST];
+
+static void check(uint64_t answer, unsigned expected, const char *name)
 {
-    fprintf(stderr, "desks: %s: %s\n", file, why);
-    exit(status);
+    if (dezgula_number(answer) == expected) return;
+    fprintf(stderr, "%s: %s\n", name, dezgula_sentence(answer));
+    exit(1);
 }
 
-static void read_system(const char *name, int32_t *coefs, dezgula_system *system)
+static dezgula_system read_group(const char *name, int32_t coefs[DEZGULA_MAP_COEFFICIENTS])
 {
-    static char text[TEXT];
+    static char text[DEZGULA_MOST_TEXT + 1];
+    dezgula_system group;
     FILE *file = fopen(name, "r");
-    if (file == NULL) stop(2, name, "the file cannot be read");
-    size_t length = fread(text, 1, sizeof text, file);
+    if (file == NULL) perror(name), exit(2);
+    check(dezgula_read_map(text, fread(text, 1, sizeof text, file), coefs, &group), DEZGULA_MAP_READ, name);
     fclose(file);
-    uint64_t answer = dezgula_read_map(text, length, coefs, system);
-    if (answer != DEZGULA_MAP_READ) stop(1, name, dezgula_pairs_sentence(answer));
-}
-
-/* A table of `length` numbers in the place of one, which it begins with. */
-static uint32_t *lengthened(uint32_t *table, size_t length)
-{
-    uint32_t *longer = realloc(table, (length > 0 ? length : 1) * sizeof *longer);
-    if (longer == NULL) stop(2, "list", "there is no memory for a longer table");
-    return longer;
-}
-
-static uint64_t go_on(const dezgula_system *system, const dezgula_generators *first, dezgula_run *run)
-{
-    return first == NULL ? dezgula_resume(system, run, BUDGET) : dezgula_desks_resume(system, first, run, BUDGET);
-}
-
-/* Solves one group: by itself where there are no generators, else from them. */
-static void solve(const char *name, const dezgula_system *system, const dezgula_generators *first, dezgula_run *run)
-{
-    run->stack_len = first == NULL ? DEZGULA_STACK_LENGTH(system->q) : DEZGULA_DESKS_STACK_LENGTH(system->q, first->rows_len / system->q);
-    run->stack = lengthened(NULL, run->stack_len);
-    run->list_len = FIRST_ROWS * system->q;
-    run->list = lengthened(NULL, run->list_len);
-    uint64_t answer = first == NULL ? dezgula_start(system, run) : dezgula_desks_start(system, first, run);
-    if (answer != DEZGULA_STARTED) stop(1, name, dezgula_desks_sentence(answer));
-    while ((answer = go_on(system, first, run)) != DEZGULA_COMPLETE) {
-        if (answer != DEZGULA_PAUSED && answer != DEZGULA_LIST_FULL) stop(1, name, dezgula_desks_sentence(answer));
-        if (answer == DEZGULA_PAUSED) continue;
-        run->list_len *= 2;
-        run->list = lengthened(run->list, run->list_len);
-    }
-    fprintf(stderr, "%s: %" PRIu64 " steps, %" PRIu64 " solutions\n", name, run->record.steps.count, run->record.found.count);
+    return group;
 }
 
 int main(int count, char **words)
 {
-    if (count < 2) stop(2, "usage", "desks FIRST SECOND ..");
-    static int32_t coefs[DEZGULA_MAP_COEFFICIENTS];
-    dezgula_system system;
+    int32_t coefs[DEZGULA_MAP_COEFFICIENTS];
+    dezgula_system group = {0, 0, NULL, 0};
+    dezgula_list solved = {NULL, 0, 0};
     dezgula_run run = {0};
-    read_system(words[1], coefs, &system);
-    solve(words[1], &system, NULL, &run);
-    size_t q = system.q;
-    for (int k = 2; k < count; k++) {
-        dezgula_run before = run;
-        dezgula_generators first = dezgula_listed(&system, &before);
-        read_system(words[k], coefs, &system);
-        if (system.q != q) stop(1, words[k], "the number of unknowns is another than before");
-        solve(words[k], &system, &first, &run);
-        free(before.stack);
-        free(before.list);
+    for (int k = 1; k < count; k++) {
+        size_t q = group.q;
+        group = read_group(words[k], coefs);
+        if (k > 1 && group.q != q) return fprintf(stderr, "%s: the number of unknowns is another than before\n", words[k]), 1;
+        run = (dezgula_run){.stack = stack, .stack_len = sizeof stack / sizeof *stack, .list = lists[k % 2], .list_len = ROWS * MOST};
+        uint64_t answer = k == 1 ? dezgula_start(&group, &run) : dezgula_start_desk(&group, &solved, &run);
+        check(answer, DEZGULA_STARTED, words[k]);
+        do answer = k == 1 ? dezgula_resume(&group, &run, 10000000) : dezgula_resume_desk(&group, &solved, &run, 10000000);
+        while (answer == DEZGULA_PAUSED);
+        check(answer, DEZGULA_COMPLETE, words[k]);
+        fprintf(stderr, "%s: %" PRIu64 " steps, %" PRIu64 " solutions\n", words[k], run.record.steps.count, run.record.found.count);
+        solved = dezgula_listed(&run);
     }
-    uint32_t row[DEZGULA_MOST_UNKNOWNS];
-    for (size_t n = 1; dezgula_row(&system, &run, n, row, DEZGULA_MOST_UNKNOWNS) == DEZGULA_ROW; n++)
-        for (size_t j = 0; j < q; j++) printf("%" PRIu32 "%c", row[j], j + 1 < q ? ' ' : '\n');
-    puts(dezgula_sentence(DEZGULA_COMPLETE));
-    return 0;
+    uint32_t row[MOST];
+    for (size_t n = 1; dezgula_row(&group, &run, n, row, MOST) == DEZGULA_ROW; n++)
+        for (size_t j = 0; j < group.q; j++) printf("%" PRIu32 "%c", row[j], j + 1 < group.q ? ' ' : '\n');
+    return fflush(stdout) != 0 || ferror(stdout) ? 2 : 0;
 }

@@ -1,23 +1,22 @@
-/* Dezgula: the minimal solutions of a homogeneous system of linear Diophantine equations, listed by the stack walk of Contejean and Devie.
+/* Dezgula: the minimal solutions of systems of linear Diophantine equations, listed by the stack walk of Contejean and Devie.
  *
  * A system has p equations (1 to 8), q unknowns (1 to 16) and p * q coefficients (-10,000 to 10,000), given row by row. A tuple gives each unknown a
  * natural number of at most 1,000,000. A solution brings every equation to zero; it is minimal if it is not all zero and no other such solution is
  * at or below it in every component.
  *
- * A run is lent two tables and keeps a run record:
+ * Three headers: this one has systems, every kind of run and the questions about a list; dezgula_text.h has maps, equations and list files; and
+ * dezgula_engine.h has the engine for large maps. These rules hold for every call of them:
  *
- *   stack    at least q * (q + 1) numbers, in rows of q + 1: q components, then the marks, where bit j - 1 says that unknown j is frozen;
- *            what lies past the first q rows is never touched
- *   list     any number of numbers, also none, in rows of q; its capacity is list_len / q rows
- *   record   height: rows on the stack. found: solutions listed, which are rows 1 to found of the list, in the order found. steps: steps taken
- *            since the start. deepest: the greatest sum of components among the tuples taken off so far. kind: of the run, which a start sets
- *
- * No call trusts what it is lent: lengths, coefficients, tables and record are checked first, and what is not in order is refused. A table comes as a
- * pointer and the number of its entries; NULL is an empty table. What a call may write (stack, list, record, out) lies apart from everything else that the
- * call is lent. Nothing is kept between two calls, so runs may go on in several threads, each in one at a time.
- *
- * The answer of a start must be looked at: a start that is refused writes nothing, and a continuing call would then go on with whatever the tables and the
- * record held before.
+ *   answers   A call answers with one number of 64 bits: dezgula_number gives what it is, dezgula_place the place that it comes with, from 1, or 0, and
+ *             dezgula_sentence says it in English. 0 is "complete", 1 to 99 are refusals, 100 and above are not. An answer must be looked at: a start that
+ *             is refused writes nothing, and a call that goes on would then go on with whatever the tables and the record held before.
+ *   tables    A table comes as a pointer and the number of its entries; NULL is an empty table, whatever its length says. A pointer to a struct, or to one
+ *             number, is never NULL, unless its call says so.
+ *   trust     No call trusts what it is lent: lengths, coefficients, tables and record are checked first, and what is not in order is refused.
+ *   writing   A refusal changes nothing lent, unless it is one within the walk (11, 12, 14, 24), which leaves all as after the last whole step. What else is
+ *             written, each call says; nothing more is. What a call may write lies apart from everything else that it is lent.
+ *   threads   Nothing is kept between two calls, so runs may go on in several threads, each in one at a time.
+ *   cost      Where a call says nothing of its cost, that is below some thousand operations, whatever it is lent.
  */
 #ifndef DEZGULA_H
 #define DEZGULA_H
@@ -29,17 +28,25 @@
 extern "C" {
 #endif
 
-#define DEZGULA_VERSION "1.0.0"
+#define DEZGULA_VERSION "2.0.0"
 
 #define DEZGULA_MOST_EQUATIONS 8
 #define DEZGULA_MOST_UNKNOWNS 16
+#define DEZGULA_MOST_UNKNOWNS_WITH_RIGHTS 15
 #define DEZGULA_COEFFICIENT_LIMIT 10000
 #define DEZGULA_COMPONENT_LIMIT 1000000
 #define DEZGULA_STEP_LIMIT UINT64_C(1000000000000)
 #define DEZGULA_SUM_LIMIT 16000000
+#define DEZGULA_MOST_GENERATORS 64
+#define DEZGULA_IMAGE_LIMIT 7000000
+#define DEZGULA_TRAINING_UNKNOWNS 6
+#define DEZGULA_TRAINING_LIMIT 20
+#define DEZGULA_MOST_RUNS 8
 
-/* How many numbers the stack table of a system with q unknowns takes. */
-#define DEZGULA_STACK_LENGTH(q) ((size_t)(q) * ((size_t)(q) + 1))
+/* How many numbers the stack table takes: for q unknowns; for q unknowns and right sides; for q unknowns and so many generators. */
+#define DEZGULA_STACK_LENGTH(q) ((q) * ((q) + 1))
+#define DEZGULA_RIGHTS_STACK_LENGTH(q) (((q) + 1) * ((q) + 2))
+#define DEZGULA_DESK_STACK_LENGTH(q, generators) ((generators) * ((q) + 2))
 
 #if defined(__GNUC__) || defined(__clang__)
 #define DEZGULA_LOOK_AT_IT __attribute__((warn_unused_result))
@@ -47,93 +54,69 @@ extern "C" {
 #define DEZGULA_LOOK_AT_IT
 #endif
 
+/* The version of the library that is linked, as "2.0.0"; DEZGULA_VERSION is that of this header. */
+const char *dezgula_version(void);
+
 /* ---- answers */
 
-/* The number of an answer. */
+/* The numbers of the answers. dezgula_text.h names 9, 10, 16 to 22, 106 to 108 and 130 to 132, and dezgula_engine.h names 31 to 34. 13 is retired: it is
+ * given to nothing. Of the refusals before the walk the first, in rising number, is given, but for those whose place in the order is told here. */
 enum {
-    DEZGULA_COMPLETE = 0, /* the walk is at its end: the list is whole */
+    DEZGULA_COMPLETE = 0, /* the run is at its end: what it lists is whole */
 
-    /* Refused before the walk. Nothing lent was changed. The first of them, in rising number, is given. */
-    DEZGULA_EQUATIONS = 1,         /* p is outside 1 to 8 */
-    DEZGULA_UNKNOWNS = 2,          /* q is outside 1 to 16 */
-    DEZGULA_COEFFICIENT_COUNT = 3, /* coefs_len is not p * q */
-    DEZGULA_STACK_SHORT = 4,       /* stack_len is below q * (q + 1) */
-    DEZGULA_BOUND_LENGTH = 5,      /* lower_len is not q (dezgula_lower.h) */
-    DEZGULA_OUT_OF_ORDER = 6,      /* a record of another kind of run; height above q; found above the capacity of the list; steps above 10^12;
-                                      deepest above 16,000,000; or in rows 1 to height of the stack a component above 1,000,000, a mark beyond
-                                      unknown q, or in row k not exactly k - 1 marks; or a record not of DEZGULA_RECORD_LENGTH words */
-    DEZGULA_COEFFICIENT = 7,       /* a coefficient is out of range; the place is that of the first such one, from 1 */
-    DEZGULA_BOUND_RANGE = 8,       /* a component of the lower bound is above 1,000,000 (dezgula_lower.h) */
-
-    /* 9 and 10 are about the text form of a map, and not given here. 13 is retired: it is given to nothing. */
+    /* Refused before the walk. Nothing lent was changed. */
+    DEZGULA_EQUATIONS = 1,    /* p is outside 1 to 8 */
+    DEZGULA_UNKNOWNS = 2,     /* q is outside 1 to 16; with right sides outside 1 to 15 */
+    DEZGULA_COUNT = 3,        /* coefs_len is not p * q; rights_len is not p; or a row of an equation does not have q entries */
+    DEZGULA_STACK_SHORT = 4,  /* stack_len is below what the stack takes */
+    DEZGULA_TUPLE_LENGTH = 5, /* the lower bound, or the tuple asked about, does not have q components */
+    DEZGULA_OUT_OF_ORDER = 6, /* the record is of another kind of run; height above the rows that the stack has; a count above the capacity of its list;
+                                 steps above 10^12; deepest above 16,000,000; or in rows 1 to height of the stack a component above the limit, marks beyond
+                                 the unknowns, or in row k not exactly k - 1 marks; with right sides also a first unknown above 1; from a lower bound also
+                                 a row that is not at or above it; with generators also a component of one above 1,000,000 */
+    DEZGULA_COEFFICIENT = 7,  /* a coefficient is outside -10,000 to 10,000; the place is that of the first such one, row by row */
+    DEZGULA_TUPLE_RANGE = 8,  /* a component of the lower bound, or of the tuple asked about, is above the limit */
+    DEZGULA_RIGHT_SIDE = 15,  /* a right side is outside -10,000 to 10,000 */
 
     /* Refused within the walk. Tables and record stand as after the last whole step; the same call again is refused again. */
-    DEZGULA_LIST_FULL = 11,      /* the next row is a solution and the list has no room: a longer list with the same rows may be lent */
-    DEZGULA_COMPONENT = 12,      /* a child would have a component of 1,000,001 */
-    DEZGULA_STEPS_AT_LIMIT = 14, /* 10^12 steps are taken */
+    DEZGULA_LIST_FULL = 11,         /* the next row is a solution and its list has no room (dezgula_full_list says which): a longer one with the same rows
+                                       may be lent */
+    DEZGULA_COMPONENT = 12,         /* a component would pass 1,000,000 */
+    DEZGULA_STEPS_AT_LIMIT = 14,    /* 10^12 steps are taken */
+    DEZGULA_TRAINING_COMPONENT = 24, /* at the training seat, in the place of 12: a component would pass 20 */
 
-    /* dezgula_dispatch: refused as a whole, before any run's own refusals. Nothing lent was changed. */
-    DEZGULA_SCHEDULE = 27, /* not 1 to 8 runs, a turn of 0 steps, a kept number above 8, or a record not of DEZGULA_ROUND_LENGTH words */
-    DEZGULA_PARTS = 28,    /* two parts of a table overlap, or one leaves it */
-
-    /* Refused by the calls of single-file maps, after all others before the walk. Nothing lent was changed. */
-    DEZGULA_COLUMN = 26,      /* a column is neither one 1, one -1 and otherwise zeros, nor all zeros; the place is the first such column */
-    DEZGULA_NOT_MINIMAL = 30, /* dezgula_listing: a row is no minimal solution; the place is the first such row */
-
-    DEZGULA_OUTPUT_SHORT = 29, /* dezgula_row: out is shorter than a row; dezgula_listing, last: out is shorter than the listing; dezgula_decompose, last */
+    /* Refused before the walk, each by some calls only. Nothing lent was changed. */
+    DEZGULA_TRAINING_WIDE = 23, /* at the training seat, straight after 2: q is above 6 */
+    DEZGULA_GENERATORS = 25,    /* a desk, last: more than 64 generators, or one with an image above 7,000,000 in size under the group */
+    DEZGULA_COLUMN = 26,        /* single-file maps, after 7: a column is neither one 1, one -1 and zeros, nor all zeros; the place is the first such column */
+    DEZGULA_SCHEDULE = 27,      /* dezgula_dispatch: not 1 to 8 runs, a turn of 0 steps, or a kept number above 8 */
+    DEZGULA_PARTS = 28,         /* dezgula_dispatch: two parts of a table overlap, or one leaves it */
+    DEZGULA_OUTPUT_SHORT = 29,  /* the last that is looked at: what is to be written has no room in what is lent for it */
+    DEZGULA_NOT_MINIMAL = 30,   /* dezgula_listing, after 26: a row is no minimal solution; the place is the first such row */
 
     /* Not refused. */
-    DEZGULA_STARTED = 100, /* a start has written its rows and its record */
-    DEZGULA_PAUSED = 101,  /* the budget is used up; a further call goes on from here */
-    DEZGULA_ROW = 102,     /* dezgula_row: the row was copied */
-    DEZGULA_NO_ROW = 103,  /* dezgula_row: there is no such row */
-    DEZGULA_WRITTEN = 104, /* dezgula_listing: the listing was written; the place is the number of its bytes */
-    DEZGULA_SERVED = 110   /* dezgula_dispatch: turns were handed out; each run has its own answer */
+    DEZGULA_STARTED = 100,         /* a start has written its rows and its record */
+    DEZGULA_PAUSED = 101,          /* the budget is used up; a further call goes on from here */
+    DEZGULA_ROW = 102,             /* the row was copied */
+    DEZGULA_NO_ROW = 103,          /* there is no such row */
+    DEZGULA_LISTING_WRITTEN = 104, /* the listing was written; the place is the number of its bytes */
+    DEZGULA_SERVED = 110,          /* turns were handed out; each run has its own answer */
+    DEZGULA_ALL_ZERO = 120,        /* the tuple is all zero */
+    DEZGULA_OFF = 121,             /* an equation is off; the place is the first such one, and the amount its left side */
+    DEZGULA_STANDS = 122,          /* the tuple is in the list; the place is the highest where it stands */
+    DEZGULA_ABOVE = 123,           /* a row of the list lies below the tuple; the place is the highest of such a row */
+    DEZGULA_UNLISTED = 124,        /* nothing listed lies below the tuple, or below what is left of it: the list is not complete */
+    DEZGULA_MADE = 125,            /* the tuple is made of rows of the list */
+    DEZGULA_AT_OR_BELOW = 126,     /* a row of the list is at or below the tuple; the place is the highest of such a row */
+    DEZGULA_NOWHERE = 127          /* no row of the list is at or below the tuple */
 };
 
 /* An answer is a number in its low 8 bits and a place in the others. */
-static inline unsigned dezgula_number(uint64_t answer)
-{
-    return (unsigned)(answer & 0xff);
-}
+unsigned dezgula_number(uint64_t answer);
+uint64_t dezgula_place(uint64_t answer);
 
-/* The place that DEZGULA_COEFFICIENT comes with, from 1, row by row; the column of DEZGULA_COLUMN and the row of DEZGULA_NOT_MINIMAL, from 1; the bytes of
- * DEZGULA_WRITTEN; 0 for all other answers. */
-static inline uint64_t dezgula_place(uint64_t answer)
-{
-    return answer >> 8;
-}
-
-/* What an answer says, as an English sentence. */
-static inline const char *dezgula_sentence(uint64_t answer)
-{
-    switch (dezgula_number(answer)) {
-    case DEZGULA_COMPLETE: return "The list is complete.";
-    case DEZGULA_EQUATIONS: return "The number of equations is not 1 to 8.";
-    case DEZGULA_UNKNOWNS: return "The number of unknowns is not 1 to 16.";
-    case DEZGULA_COEFFICIENT_COUNT: return "The number of coefficients is not that of equations times unknowns.";
-    case DEZGULA_STACK_SHORT: return "The stack table is too short.";
-    case DEZGULA_BOUND_LENGTH: return "The lower bound does not have a component for each unknown.";
-    case DEZGULA_OUT_OF_ORDER: return "The run record or the tables are out of order.";
-    case DEZGULA_COEFFICIENT: return "A coefficient is outside -10,000 to 10,000.";
-    case DEZGULA_BOUND_RANGE: return "A component of the lower bound is above 1,000,000.";
-    case DEZGULA_LIST_FULL: return "The list is full.";
-    case DEZGULA_COMPONENT: return "A component would pass 1,000,000.";
-    case DEZGULA_STEPS_AT_LIMIT: return "The run has taken 1,000,000,000,000 steps.";
-    case DEZGULA_SCHEDULE: return "There are not 1 to 8 runs, a turn has no steps, or the dispatcher's record is out of order.";
-    case DEZGULA_PARTS: return "Two parts of a table overlap, or one leaves it.";
-    case DEZGULA_COLUMN: return "A column is neither one 1, one -1 and zeros, nor all zeros.";
-    case DEZGULA_NOT_MINIMAL: return "A row of the list is no minimal solution.";
-    case DEZGULA_OUTPUT_SHORT: return "The space for the output is too short.";
-    case DEZGULA_STARTED: return "The run has started.";
-    case DEZGULA_PAUSED: return "The run is paused, as its budget is used up.";
-    case DEZGULA_ROW: return "The row was copied.";
-    case DEZGULA_NO_ROW: return "There is no such row.";
-    case DEZGULA_WRITTEN: return "The listing was written.";
-    case DEZGULA_SERVED: return "Turns were handed out.";
-    default: return "This is no answer of the library.";
-    }
-}
+/* What an answer of any call says, as an English sentence; never NULL. The place is the caller's to add. */
+const char *dezgula_sentence(uint64_t answer);
 
 /* ---- what is handed over */
 
@@ -146,20 +129,24 @@ typedef struct {
     uint64_t count;
 } dezgula_steps;
 
-/* The kinds of run that a record tells. A record of one kind is refused with 6 by a continuing call of another. (dezgula_sides.h has runs with right sides,
- * dezgula_lower.h those from a lower bound.) */
-enum { DEZGULA_RUN_PLAIN = 0 };
+/* The kinds of run that a record tells; a start sets it. A record of one kind is refused with 6 by a continuing call of another. */
+enum {
+    DEZGULA_RUN_PLAIN = 0,
+    DEZGULA_RUN_RIGHTS = 1,     /* with right sides */
+    DEZGULA_RUN_FROM_PLAIN = 2, /* from a lower bound: the plain walk, which comes first, is under way */
+    DEZGULA_RUN_FROM_ABOVE = 3, /* from a lower bound: the walk above it is under way */
+    DEZGULA_RUN_DESK = 4        /* one group of equations after others */
+};
 
-/* The run record. A version to come may add fields: what a program does not know of a record it leaves to the calls. `second` and `before` have no meaning in
- * a plain run; in one with right sides `second` counts the rows of its second list; in one from a lower bound they are those of its plain walk. */
+/* The run record. A version to come may add fields: what a program does not know of a record it leaves to the calls. */
 typedef struct {
-    uint64_t height;
-    dezgula_solutions found;
-    dezgula_steps steps;
-    uint64_t kind;
-    dezgula_solutions second;
-    dezgula_steps before;
-    uint64_t deepest;
+    uint64_t height;          /* rows on the stack */
+    dezgula_solutions found;  /* solutions in the list, which are its rows 1 to found, in the order found */
+    dezgula_steps steps;      /* steps taken since the start; from a lower bound those of the walk above it */
+    uint64_t kind;            /* of the run */
+    dezgula_solutions second; /* rows of the second list, in a run that has two */
+    dezgula_steps before;     /* from a lower bound: the steps of the plain walk */
+    uint64_t deepest;         /* the greatest sum of components among the tuples taken off so far; from a lower bound in the walk above it */
 } dezgula_record;
 
 typedef struct {
@@ -168,18 +155,169 @@ typedef struct {
     size_t coefs_len;
 } dezgula_system;
 
-/* What a run is lent, and its record. A start sets the record; until then it may hold anything. */
+/* What a run is lent, and its record. A start sets the record; until then it may hold anything.
+ *
+ *   stack    at least DEZGULA_STACK_LENGTH(q) numbers, in rows of q + 1: q components, then the marks, where bit j - 1 says that unknown j is frozen; what
+ *            lies past the first q rows is never touched
+ *   list     any number of numbers, also none, in rows of q; its capacity is list_len / q rows
+ *   second   the same, for the kinds of run that have two lists; the others neither read nor write it */
 typedef struct {
     uint32_t *stack;
     size_t stack_len;
     uint32_t *list;
     size_t list_len;
+    uint32_t *second;
+    size_t second_len;
     dezgula_record record;
 } dezgula_run;
 
-/* ---- up to eight runs at a time */
+/* ---- plain runs: the minimal solutions of a system
+ *
+ * A step compares what it makes with the rows found so far, so that it costs up to q * found comparisons of rows. */
 
-#define DEZGULA_MOST_RUNS 8
+/* Answers DEZGULA_STARTED, or refuses with 1, 2, 3, 4 or 7.
+ * Started: writes rows 1 to q of the stack, sets the record's height to q and all else in it to 0. The list and the rest of the stack stay as they were. What
+ * tables and record held before does not matter. */
+uint64_t dezgula_start(const dezgula_system *system, dezgula_run *run) DEZGULA_LOOK_AT_IT;
+
+/* Goes on with a run for at most `budget` steps. Answers DEZGULA_COMPLETE, DEZGULA_PAUSED, a refusal before the walk (1, 2, 3, 4, 6, 7) or one within it
+ * (14, 11, 12).
+ * Not refused before the walk: advances the stack, appends to the list, and leaves in the record where the walk now stands. Rows of the list past the found
+ * count are not touched. Rows of the stack above the height keep what they last held. */
+uint64_t dezgula_resume(const dezgula_system *system, dezgula_run *run, uint64_t budget) DEZGULA_LOOK_AT_IT;
+
+/* ---- single-file maps: each column has one 1, one -1 and otherwise zeros, or is all zeros. Every component of a minimal solution is 0 or 1 there. */
+
+/* As dezgula_start and dezgula_resume, and with 26 after 7. */
+uint64_t dezgula_start_single_file(const dezgula_system *system, dezgula_run *run) DEZGULA_LOOK_AT_IT;
+uint64_t dezgula_resume_single_file(const dezgula_system *system, dezgula_run *run, uint64_t budget) DEZGULA_LOOK_AT_IT;
+
+/* ---- runs with right sides, A x = b: p right sides from -10,000 to 10,000, and q from 1 to 15. The same right sides go to every call on a run.
+ *
+ *   list     at 0: the minimal solutions of the system without its right sides, A x = 0, as dezgula_resume lists them
+ *   second   at 1: the smallest tuples that meet the right sides, A x = b; where all right sides are zero that is the zero tuple
+ *
+ * Every tuple that meets the right sides is a row of the second list plus rows of the list. The walk has one unknown more, placed first, which is 0 or 1 and
+ * says which list a tuple is for; the stack and `deepest` count it, the rows of the lists leave it out.
+ *
+ *   stack    at least DEZGULA_RIGHTS_STACK_LENGTH(q) numbers, in rows of q + 2: the extra unknown, q components, then the marks */
+
+/* Answers DEZGULA_STARTED, or refuses with 1, 2, 3, 4, 7 or 15.
+ * Started: writes rows 1 to q + 1 of the stack, sets the record's height to q + 1, its kind to DEZGULA_RUN_RIGHTS and all else in it to 0. The lists and the
+ * rest of the stack stay as they were. What tables and record held before does not matter. */
+uint64_t dezgula_start_rights(const dezgula_system *system, const int32_t *rights, size_t rights_len, dezgula_run *run) DEZGULA_LOOK_AT_IT;
+
+/* Goes on for at most `budget` steps. Answers DEZGULA_COMPLETE, DEZGULA_PAUSED, a refusal before the walk (1, 2, 3, 4, 6, 7, 15) or one within it (14, 11, 12).
+ * Not refused before the walk: advances the stack, appends to the lists, and leaves in the record where the walk now stands. Rows of a list past its count are
+ * not touched. Rows of the stack above the height keep what they last held. */
+uint64_t dezgula_resume_rights(const dezgula_system *system, const int32_t *rights, size_t rights_len, dezgula_run *run, uint64_t budget) DEZGULA_LOOK_AT_IT;
+
+/* ---- runs from a lower bound: the minimal ones among the solutions that are at or above it in every component; zero counts as a solution here. The lower
+ * bound has q components of at most 1,000,000, and the same one goes to every call on a run. A run has two walks, each with a list of its own:
+ *
+ *   second   of the plain walk, which comes first: the minimal solutions of the system, as dezgula_resume lists them
+ *   list     of the walk above the lower bound: what the run is for. A tuple that exceeds the lower bound by a row of the second list or more leads to nothing
+ *            minimal and is dropped
+ *
+ * The plain walk is gone through whatever the lower bound is. A lower bound that is itself a solution is the whole list, after one step of the second walk; but
+ * it costs the plain run first, which may be long. Where no solution is at or above the lower bound the run may end with an empty list, or be refused with 12.
+ * The stack serves both walks, one after the other. */
+
+/* Answers DEZGULA_STARTED, or refuses with 1, 2, 3, 4, 5, 7 or 8.
+ * Started: writes rows 1 to q of the stack, as dezgula_start does, sets the record's height to q, its kind to DEZGULA_RUN_FROM_PLAIN and all else in it to 0.
+ * The lists and the rest of the stack stay as they were. What tables and record held before does not matter. */
+uint64_t dezgula_start_from(const dezgula_system *system, const uint32_t *lower, size_t lower_len, dezgula_run *run) DEZGULA_LOOK_AT_IT;
+
+/* Goes on for at most `budget` steps, those of both walks together. Answers DEZGULA_COMPLETE, DEZGULA_PAUSED, a refusal before the walk (1 to 8) or one within
+ * it (14, 11, 12), which is about the walk under way.
+ * Not refused before the walk: advances the stack, appends to the lists, and leaves in the record where the run now stands. Once the plain walk is at its end,
+ * the lower bound is written to row 1 of the stack and the other walk is under way; that takes no step, so that a call with a budget of 0 may do it and answer
+ * DEZGULA_PAUSED. Rows of a list past its count are not touched. Rows of the stack above the height keep what they last held. */
+uint64_t dezgula_resume_from(const dezgula_system *system, const uint32_t *lower, size_t lower_len, dezgula_run *run, uint64_t budget) DEZGULA_LOOK_AT_IT;
+
+/* ---- the training seat, which is the same solver for small maps: at most 6 unknowns, and components up to 20.
+ *
+ * A run at this seat lists what the calls above list after as many steps, and for one equation a plain run ends with the whole list where the largest positive
+ * coefficient and the largest size of a negative one add up to at most 20. Each call answers and writes as the one without "training", with these
+ * differences: 23 straight after 2; 6 also for a component above 20 on the stack; 8 for a component of the lower bound above 20; 24 in the place of 12. */
+uint64_t dezgula_start_training(const dezgula_system *system, dezgula_run *run) DEZGULA_LOOK_AT_IT;
+uint64_t dezgula_resume_training(const dezgula_system *system, dezgula_run *run, uint64_t budget) DEZGULA_LOOK_AT_IT;
+uint64_t dezgula_start_training_from(const dezgula_system *system, const uint32_t *lower, size_t lower_len, dezgula_run *run) DEZGULA_LOOK_AT_IT;
+uint64_t dezgula_resume_training_from(const dezgula_system *system, const uint32_t *lower, size_t lower_len, dezgula_run *run,
+                                      uint64_t budget) DEZGULA_LOOK_AT_IT;
+
+/* ---- what a run has listed */
+
+/* Copies row n, from 1, of the run's list, or of its second one, to out. Answers DEZGULA_ROW; DEZGULA_NO_ROW for n = 0, n above the list's count or n above its
+ * capacity; or refuses with 2, or, where there is such a row, with 29. Reads q, the lists, their counts and the kind only.
+ * DEZGULA_ROW: writes out[0] to out[q - 1], and what stood past them stays. Else: writes nothing. */
+uint64_t dezgula_row(const dezgula_system *system, const dezgula_run *run, size_t n, uint32_t *out, size_t out_len) DEZGULA_LOOK_AT_IT;
+uint64_t dezgula_second_row(const dezgula_system *system, const dezgula_run *run, size_t n, uint32_t *out, size_t out_len) DEZGULA_LOOK_AT_IT;
+
+/* Rows of q numbers each, one behind the other, where they stand: the first `found` of a table of `rows_len` numbers. */
+typedef struct {
+    const uint32_t *rows;
+    size_t rows_len;
+    size_t found;
+} dezgula_list;
+
+/* What a run has listed, in its list or in its second one. It must stay as it is while it is used. */
+dezgula_list dezgula_listed(const dezgula_run *run);
+dezgula_list dezgula_second_listed(const dezgula_run *run);
+
+/* After DEZGULA_LIST_FULL, for every kind of run: which list has no room. DEZGULA_NEITHER where that cannot be, as at height 0. */
+enum { DEZGULA_NEITHER = 0, DEZGULA_LIST = 1, DEZGULA_SECOND = 2 };
+unsigned dezgula_full_list(const dezgula_system *system, const dezgula_run *run);
+
+/* ---- one group of equations after others, desk by desk
+ *
+ * The first group is solved by itself. The walk of the next one starts from its minimal solutions, which are handed over with every call, and raises by them;
+ * here they are generators. Complete, its list is that of the groups together, as a set, each once. Cut short it holds solutions of all of them, some of which
+ * may not be minimal. With that list handed over a further group follows, and so on.
+ *
+ *   stack    DEZGULA_DESK_STACK_LENGTH(q, generators) numbers, as many rows as there are generators, of q + 2: q components, then the marks in two numbers,
+ *            those of generators 1 to 32 in the first
+ *   list     rows of q numbers. Paths through different generators can meet, so before each "complete", and where a solution is due and the list is full,
+ *            a sweep removes each row that lies above another or repeats an earlier one, and closes the gaps; past the rows left the table keeps what it
+ *            held. A sweep costs up to found * found comparisons of rows
+ *
+ * The generators too may be any rows, and what is promised of the list is for those of a whole list. Each call looks at every number of them first. */
+
+/* Answers DEZGULA_STARTED, or refuses with 1, 2, 3, 4, 6 (a generator's component, or more generators than their table has rows), 7 or 25.
+ * Started: row k of the stack is generator k with the marks of those before it, the record says so, and nothing else is written. */
+uint64_t dezgula_start_desk(const dezgula_system *group, const dezgula_list *generators, dezgula_run *run) DEZGULA_LOOK_AT_IT;
+
+/* Goes on for at most `budget` steps, with the group and the generators of the start. Answers DEZGULA_COMPLETE, DEZGULA_PAUSED, a refusal before the walk (1,
+ * 2, 3, 4, 6, 7, 25) or one within it (14; 11, only where a sweep frees no row; 12). Complete, with a whole list of the groups before as generators: rows 1 to
+ * found of the list are exactly the minimal solutions of all groups together, each once. */
+uint64_t dezgula_resume_desk(const dezgula_system *group, const dezgula_list *generators, dezgula_run *run, uint64_t budget) DEZGULA_LOOK_AT_IT;
+
+/* ---- questions about a list, whoever made it. They read only, but for what each says, and cost up to `found` comparisons of rows. */
+
+/* Which row of the list is at or below a tuple: DEZGULA_AT_OR_BELOW with the highest place of one, or DEZGULA_NOWHERE; or refuses with 2, 5 or 6 (found is
+ * above the capacity). Of the system it reads q only. */
+uint64_t dezgula_locate(const dezgula_system *system, const dezgula_list *list, const uint32_t *tuple, size_t tuple_len) DEZGULA_LOOK_AT_IT;
+
+/* Why a tuple is not in the list: the first of DEZGULA_ALL_ZERO, DEZGULA_OFF, DEZGULA_STANDS, DEZGULA_ABOVE and DEZGULA_UNLISTED that is true of it, with its
+ * place; or refuses with 1, 2, 3, 5, 6 (found is above the capacity), 7 or 8.
+ * DEZGULA_OFF: writes the left side of the equation to *amount, unless that is NULL. Else: writes nothing. */
+uint64_t dezgula_reason(const dezgula_system *system, const dezgula_list *list, const uint32_t *tuple, size_t tuple_len, int64_t *amount) DEZGULA_LOOK_AT_IT;
+
+/* What a solution is made of: the rows of the list that add up to it, each as often as `times` says, the first row's multiple first. Answers DEZGULA_MADE,
+ * always so for a solution where the list is complete; DEZGULA_UNLISTED: something is left that nothing listed lies below; or DEZGULA_OFF, as dezgula_reason
+ * does. Refuses as dezgula_reason does, and last with 29 where `times` has no place for each row.
+ * Made or unlisted: the first `found` places of `times` are written, the last row being taken as often as it goes, then the one before it, and so on; what
+ * stood past them stays. DEZGULA_OFF: writes *amount, unless that is NULL. Else: writes nothing. */
+uint64_t dezgula_decompose(const dezgula_system *system, const dezgula_list *list, const uint32_t *tuple, size_t tuple_len, uint32_t *times, size_t times_len,
+                           int64_t *amount) DEZGULA_LOOK_AT_IT;
+
+/* Writes a line for each row of the list of a single-file map to out, as "1 2 3 order 1 3 2" and a newline: its unknowns rising, then in the order in which
+ * each has its 1 where the next has its -1, back to the first, from the lowest on. Every minimal solution of such a map has such an order.
+ * Answers DEZGULA_LISTING_WRITTEN with the number of bytes, or refuses with 1, 2, 3, 6 (found is above the capacity), 7, 26, 30 or 29, in this order.
+ * Written: so many bytes, with no 0 after them, and what stood past them stays. Else: writes nothing. */
+uint64_t dezgula_listing(const dezgula_system *system, const dezgula_list *list, char *out, size_t out_len) DEZGULA_LOOK_AT_IT;
+
+/* ---- up to eight plain runs at a time */
 
 /* A part of a table: where it begins, from 0, and how many numbers it has. */
 typedef struct {
@@ -191,6 +329,16 @@ typedef struct {
     size_t p, q;
     dezgula_part coefs, stack, list;
 } dezgula_share;
+
+/* The tables of which each run has its part. */
+typedef struct {
+    const int32_t *coefs;
+    size_t coefs_len;
+    uint32_t *stack;
+    size_t stack_len;
+    uint32_t *list;
+    size_t list_len;
+} dezgula_tables;
 
 /* A run's record, and what it answered in the last call. */
 typedef struct {
@@ -205,291 +353,18 @@ typedef struct {
     dezgula_turn runs[DEZGULA_MOST_RUNS];
 } dezgula_round;
 
-/* ---- the exported functions: for callers in other languages, and for the calls below, which do the same and are easier to use. Here the record is
- * its words, in the order of its fields; a record of another length is refused with 6, also by a start, before 7 and after all other refusals below
- * it. A pointer is never NULL, not even with length 0, and is aligned for what it points to. */
-
-enum {
-    DEZGULA_RECORD_LENGTH = 7,
-    DEZGULA_SHARE_LENGTH = 8,
-    DEZGULA_TURN_LENGTH = DEZGULA_RECORD_LENGTH + 2,
-    DEZGULA_ROUND_LENGTH = 2 + DEZGULA_MOST_RUNS * DEZGULA_TURN_LENGTH
-};
-
-uint64_t dezgula_raw_start(size_t p, size_t q, const int32_t *coefs, size_t coefs_len, uint32_t *stack, size_t stack_len, uint32_t *list,
-                           size_t list_len, uint64_t *record, size_t record_len) DEZGULA_LOOK_AT_IT;
-
-uint64_t dezgula_raw_resume(size_t p, size_t q, const int32_t *coefs, size_t coefs_len, uint32_t *stack, size_t stack_len, uint32_t *list,
-                            size_t list_len, uint64_t *record, size_t record_len, uint64_t budget) DEZGULA_LOOK_AT_IT;
-
-uint64_t dezgula_raw_row(const uint32_t *list, size_t list_len, size_t q, size_t found, size_t n, uint32_t *out, size_t out_len) DEZGULA_LOOK_AT_IT;
-
-uint64_t dezgula_raw_start_single_file(size_t p, size_t q, const int32_t *coefs, size_t coefs_len, uint32_t *stack, size_t stack_len, uint32_t *list,
-                                       size_t list_len, uint64_t *record, size_t record_len) DEZGULA_LOOK_AT_IT;
-
-uint64_t dezgula_raw_resume_single_file(size_t p, size_t q, const int32_t *coefs, size_t coefs_len, uint32_t *stack, size_t stack_len, uint32_t *list,
-                                        size_t list_len, uint64_t *record, size_t record_len, uint64_t budget) DEZGULA_LOOK_AT_IT;
-
-uint64_t dezgula_raw_listing(size_t p, size_t q, const int32_t *coefs, size_t coefs_len, const uint32_t *list, size_t list_len, size_t found, uint8_t *out,
-                             size_t out_len) DEZGULA_LOOK_AT_IT;
-
-/* The words of a share are p, q, and start and size of the parts, in the order of its fields; words past the end are 0. Those of the dispatcher's record are
- * the number of the run served last, the steps, and for each of eight runs the words of its record, the number of its answer and the place of it. */
-uint64_t dezgula_raw_dispatch(size_t count, uint64_t quantum, uint64_t turns, const uint64_t *shares, size_t shares_len, const int32_t *coefs,
-                              size_t coefs_len, uint32_t *stack, size_t stack_len, uint32_t *list, size_t list_len, uint64_t *round,
-                              size_t round_len) DEZGULA_LOOK_AT_IT;
-
-uint64_t dezgula_raw_locate(const uint32_t *list, size_t list_len, size_t q, size_t found, const uint32_t *tuple, size_t tuple_len) DEZGULA_LOOK_AT_IT;
-
-uint64_t dezgula_raw_reason(size_t p, size_t q, const int32_t *coefs, size_t coefs_len, const uint32_t *list, size_t list_len, size_t found,
-                            const uint32_t *tuple, size_t tuple_len) DEZGULA_LOOK_AT_IT;
-
-size_t dezgula_raw_reason_place(size_t p, size_t q, const int32_t *coefs, size_t coefs_len, const uint32_t *list, size_t list_len, size_t found,
-                                const uint32_t *tuple, size_t tuple_len) DEZGULA_LOOK_AT_IT;
-
-int64_t dezgula_raw_reason_amount(size_t p, size_t q, const int32_t *coefs, size_t coefs_len, const uint32_t *list, size_t list_len, size_t found,
-                                  const uint32_t *tuple, size_t tuple_len) DEZGULA_LOOK_AT_IT;
-
-uint64_t dezgula_raw_decompose(size_t p, size_t q, const int32_t *coefs, size_t coefs_len, const uint32_t *list, size_t list_len, size_t found,
-                               const uint32_t *tuple, size_t tuple_len, uint32_t *times, size_t times_len) DEZGULA_LOOK_AT_IT;
-
-/* ---- the calls */
-
-/* NULL as an exported function takes it: an empty table at a place that is neither read nor written. */
-static inline void *dezgula_lent(const void *table)
-{
-    return table != NULL ? (void *)(uintptr_t)table : (void *)(uintptr_t)sizeof(uint64_t);
-}
-
-static inline size_t dezgula_lent_length(const void *table, size_t length)
-{
-    return table != NULL ? length : 0;
-}
-
-static inline void dezgula_pack(dezgula_record record, uint64_t words[DEZGULA_RECORD_LENGTH])
-{
-    words[0] = record.height;
-    words[1] = record.found.count;
-    words[2] = record.steps.count;
-    words[3] = record.kind;
-    words[4] = record.second.count;
-    words[5] = record.before.count;
-    words[6] = record.deepest;
-}
-
-static inline dezgula_record dezgula_unpack(const uint64_t words[DEZGULA_RECORD_LENGTH])
-{
-    dezgula_record record;
-    record.height = words[0];
-    record.found.count = words[1];
-    record.steps.count = words[2];
-    record.kind = words[3];
-    record.second.count = words[4];
-    record.before.count = words[5];
-    record.deepest = words[6];
-    return record;
-}
-
-/* The parameters that every call on a run begins with. */
-#define DEZGULA_LENT(system, run, words) \
-    (system)->p, (system)->q, (const int32_t *)dezgula_lent((system)->coefs), dezgula_lent_length((system)->coefs, (system)->coefs_len), \
-        (uint32_t *)dezgula_lent((run)->stack), dezgula_lent_length((run)->stack, (run)->stack_len), (uint32_t *)dezgula_lent((run)->list), \
-        dezgula_lent_length((run)->list, (run)->list_len), (words), (size_t)DEZGULA_RECORD_LENGTH
-
-/* A plain start. Answers DEZGULA_STARTED, or refuses with 1, 2, 3, 4 or 7.
- * Started: writes rows 1 to q of the stack, sets the record's height to q and all else in it to 0. The list and the rest of the stack stay as they were.
- * Refused: changes nothing. What tables and record held before does not matter. */
-DEZGULA_LOOK_AT_IT static inline uint64_t dezgula_start(const dezgula_system *system, dezgula_run *run)
-{
-    uint64_t words[DEZGULA_RECORD_LENGTH];
-    dezgula_pack(run->record, words);
-    uint64_t answer = dezgula_raw_start(DEZGULA_LENT(system, run, words));
-    run->record = dezgula_unpack(words);
-    return answer;
-}
-
-/* Goes on with a plain run for at most `budget` steps. Answers DEZGULA_COMPLETE, DEZGULA_PAUSED, a refusal before the walk (1, 2, 3, 4, 6, 7) or
- * one within it (11, 12, 14).
- * Refused before the walk: changes nothing. Else: advances the stack, appends to the list, and leaves in the record where the walk now stands. List rows
- * past the found count are not touched. Rows of the stack above the height keep what they last held. */
-DEZGULA_LOOK_AT_IT static inline uint64_t dezgula_resume(const dezgula_system *system, dezgula_run *run, uint64_t budget)
-{
-    uint64_t words[DEZGULA_RECORD_LENGTH];
-    dezgula_pack(run->record, words);
-    uint64_t answer = dezgula_raw_resume(DEZGULA_LENT(system, run, words), budget);
-    run->record = dezgula_unpack(words);
-    return answer;
-}
-
-/* Copies row n of the list, from 1, to out. Answers DEZGULA_ROW; DEZGULA_NO_ROW for n = 0, n above the found count or n above the capacity; or refuses with 2,
- * or, where there is such a row, with 29. Reads the run's list and found count only.
- * DEZGULA_ROW: writes out[0] to out[q - 1], and what stood past them stays. Else: writes nothing. */
-DEZGULA_LOOK_AT_IT static inline uint64_t dezgula_row(const dezgula_system *system, const dezgula_run *run, size_t n, uint32_t *out, size_t out_len)
-{
-    return dezgula_raw_row((const uint32_t *)dezgula_lent(run->list), dezgula_lent_length(run->list, run->list_len), system->q, run->record.found.count, n,
-                           (uint32_t *)dezgula_lent(out), dezgula_lent_length(out, out_len));
-}
-
-/* ---- single-file maps: each column has one 1, one -1 and otherwise zeros, or is all zeros. Every component of a minimal solution is 0 or 1 there. */
-
-/* A plain start that refuses other maps: as dezgula_start, and with 26 after 7. */
-DEZGULA_LOOK_AT_IT static inline uint64_t dezgula_start_single_file(const dezgula_system *system, dezgula_run *run)
-{
-    uint64_t words[DEZGULA_RECORD_LENGTH];
-    dezgula_pack(run->record, words);
-    uint64_t answer = dezgula_raw_start_single_file(DEZGULA_LENT(system, run, words));
-    run->record = dezgula_unpack(words);
-    return answer;
-}
-
-/* A continuing call that refuses other maps: as dezgula_resume, and with 26 after 7. */
-DEZGULA_LOOK_AT_IT static inline uint64_t dezgula_resume_single_file(const dezgula_system *system, dezgula_run *run, uint64_t budget)
-{
-    uint64_t words[DEZGULA_RECORD_LENGTH];
-    dezgula_pack(run->record, words);
-    uint64_t answer = dezgula_raw_resume_single_file(DEZGULA_LENT(system, run, words), budget);
-    run->record = dezgula_unpack(words);
-    return answer;
-}
-
-/* Writes a line for each row of the run's list to out, as "1 2 3 order 1 3 2" and a newline: its unknowns rising, then in the order in which each has its 1
- * where the next has its -1, back to the first, from the lowest on. A row of dezgula_start_single_file and its continuing calls always has such an order.
- * Answers DEZGULA_WRITTEN, or refuses with 1, 2, 3, 6 (the found count is above the capacity), 7, 26, 30 or 29, in this order. Reads the run's list and found
- * count only. Written: dezgula_place bytes, with no 0 after them, and what stood past them stays. Refused: writes nothing. */
-DEZGULA_LOOK_AT_IT static inline uint64_t dezgula_listing(const dezgula_system *system, const dezgula_run *run, uint8_t *out, size_t out_len)
-{
-    return dezgula_raw_listing(system->p, system->q, (const int32_t *)dezgula_lent(system->coefs), dezgula_lent_length(system->coefs, system->coefs_len),
-                               (const uint32_t *)dezgula_lent(run->list), dezgula_lent_length(run->list, run->list_len), run->record.found.count,
-                               (uint8_t *)dezgula_lent(out), dezgula_lent_length(out, out_len));
-}
-
-/* Which row of the list stopped a tuple: the highest place of a row that is at or below it, told as 255 plus the place, from 1; DEZGULA_NOWHERE; or a refusal
- * with 2, 5 (the tuple does not have q components) or 6 (the found count is above the capacity). Reads the run's list and found count only, writes nothing. */
-enum { DEZGULA_NOWHERE = 0 };
-
-DEZGULA_LOOK_AT_IT static inline uint64_t dezgula_locate(const dezgula_system *system, const dezgula_run *run, const uint32_t *tuple, size_t tuple_len)
-{
-    return dezgula_raw_locate((const uint32_t *)dezgula_lent(run->list), dezgula_lent_length(run->list, run->list_len), system->q, run->record.found.count,
-                              (const uint32_t *)dezgula_lent(tuple), dezgula_lent_length(tuple, tuple_len));
-}
-
-/* The place that dezgula_locate told, from 1; 0 for its other answers. */
-static inline uint64_t dezgula_located(uint64_t answer)
-{
-    return answer > 255 ? answer - 255 : 0;
-}
-
-/* Why a tuple is not in the list: the first of these that is true of it, or a refusal with 1, 2, 3, 5 (the tuple does not have q components), 6 (the found
- * count is above the capacity), 7 or 8 (a component of the tuple is above 1,000,000). Reads only, and writes nothing. */
-enum {
-    DEZGULA_ALL_ZERO = 120, /* it is all zero */
-    DEZGULA_OFF = 121,      /* an equation is off; `place` is the first such one, from 1, and `amount` its left side */
-    DEZGULA_STANDS = 122,   /* it is in the list; `place` is the highest place where it stands, from 1 */
-    DEZGULA_ABOVE = 123,    /* a row of the list lies below it; `place` is the highest place of such a row, from 1 */
-    DEZGULA_UNLISTED = 124, /* nothing listed lies below it: the list is not complete */
-    DEZGULA_MADE = 125      /* dezgula_decompose only: it is made of rows of the list */
-};
-
-typedef struct {
-    uint64_t number; /* of the reason, or of the refusal */
-    size_t place;    /* for DEZGULA_OFF, DEZGULA_STANDS, DEZGULA_ABOVE and refusal 7; else 0 */
-    int64_t amount;  /* for DEZGULA_OFF; else 0 */
-} dezgula_why;
-
-DEZGULA_LOOK_AT_IT static inline dezgula_why dezgula_reason(const dezgula_system *system, const dezgula_run *run, const uint32_t *tuple, size_t tuple_len)
-{
-    const int32_t *coefs = (const int32_t *)dezgula_lent(system->coefs);
-    size_t coefs_len = dezgula_lent_length(system->coefs, system->coefs_len);
-    const uint32_t *list = (const uint32_t *)dezgula_lent(run->list);
-    size_t list_len = dezgula_lent_length(run->list, run->list_len), found = run->record.found.count;
-    const uint32_t *asked = (const uint32_t *)dezgula_lent(tuple);
-    size_t asked_len = dezgula_lent_length(tuple, tuple_len);
-    dezgula_why why;
-    why.number = dezgula_raw_reason(system->p, system->q, coefs, coefs_len, list, list_len, found, asked, asked_len);
-    why.place = dezgula_raw_reason_place(system->p, system->q, coefs, coefs_len, list, list_len, found, asked, asked_len);
-    why.amount = dezgula_raw_reason_amount(system->p, system->q, coefs, coefs_len, list, list_len, found, asked, asked_len);
-    return why;
-}
-
-/* What a reason says, as an English sentence; `place` and `amount` are the caller's to add. */
-static inline const char *dezgula_reason_sentence(uint64_t number)
-{
-    switch (number) {
-    case DEZGULA_ALL_ZERO: return "The tuple is all zero.";
-    case DEZGULA_OFF: return "An equation is off.";
-    case DEZGULA_STANDS: return "The tuple is in the list.";
-    case DEZGULA_ABOVE: return "A row of the list lies below the tuple.";
-    case DEZGULA_UNLISTED: return "Nothing listed lies below the tuple.";
-    case DEZGULA_MADE: return "The tuple is made of rows of the list.";
-    case DEZGULA_BOUND_LENGTH: return "The tuple does not have a component for each unknown.";
-    case DEZGULA_OUT_OF_ORDER: return "The count of rows is above what the list has room for.";
-    case DEZGULA_BOUND_RANGE: return "A component of the tuple is above 1,000,000.";
-    default: return dezgula_sentence(number);
-    }
-}
-
-/* What a solution is made of: the rows of the list that add up to it, each as often as `times` says, the first row's multiple first. Answers DEZGULA_MADE,
- * always so for a solution where the list is complete; DEZGULA_OFF, with the equation and its amount; or DEZGULA_UNLISTED: something is left that nothing
- * listed lies below. Refuses as dezgula_reason does, and last with DEZGULA_OUTPUT_SHORT where `times` has no place for each row. Made or unlisted: the first
- * `found` places of `times` are written, the last row being taken as often as it goes, then the one before it, and so on. Else nothing is written. */
-DEZGULA_LOOK_AT_IT static inline dezgula_why dezgula_decompose(const dezgula_system *system, const dezgula_run *run, const uint32_t *tuple, size_t tuple_len,
-                                                               uint32_t *times, size_t times_len)
-{
-    dezgula_why why = {dezgula_raw_decompose(system->p, system->q, (const int32_t *)dezgula_lent(system->coefs),
-                                             dezgula_lent_length(system->coefs, system->coefs_len), (const uint32_t *)dezgula_lent(run->list),
-                                             dezgula_lent_length(run->list, run->list_len), run->record.found.count,
-                                             (const uint32_t *)dezgula_lent(tuple), dezgula_lent_length(tuple, tuple_len),
-                                             (uint32_t *)dezgula_lent(times), dezgula_lent_length(times, times_len)),
-                       0, 0};
-    if (why.number == DEZGULA_OFF || why.number == DEZGULA_COEFFICIENT) return dezgula_reason(system, run, tuple, tuple_len);
-    return why;
-}
-
-#undef DEZGULA_LENT
-
 /* Hands out `turns` turns of `quantum` steps each round the unfinished runs (height above 0), rising from the one after the run served last. A run that
  * refuses or finishes leaves the round for this call. `shares` are `count` of them. Before the first call each run is started on its parts, and its record is
  * put into the round; the same shares, quantum and round go to every call.
- * Answers DEZGULA_SERVED, or refuses with 27 or 28 and changes nothing. Served: each run's record, answer and rows are those that it would have alone from one
- * dezgula_resume for each of its turns; a run without a turn answers as to budget 0. No run's parts are touched by another's turn, nor what lies in no
- * part. From one turn of a run that is paused to its next, the others take at most 7 * quantum steps. A place past `count` has the answer DEZGULA_STARTED. */
-DEZGULA_LOOK_AT_IT static inline uint64_t dezgula_dispatch(size_t count, const dezgula_share *shares, const int32_t *coefs, size_t coefs_len,
-                                                           uint32_t *stack, size_t stack_len, uint32_t *list, size_t list_len,
-                                                           dezgula_round *round, uint64_t quantum, uint64_t turns)
-{
-    uint64_t all[DEZGULA_MOST_RUNS * DEZGULA_SHARE_LENGTH] = {0}, words[DEZGULA_ROUND_LENGTH];
-    size_t i;
-    for (i = 0; i < count && i < DEZGULA_MOST_RUNS; i++) {
-        uint64_t *own = all + i * DEZGULA_SHARE_LENGTH;
-        own[0] = shares[i].p;
-        own[1] = shares[i].q;
-        own[2] = shares[i].coefs.start;
-        own[3] = shares[i].coefs.size;
-        own[4] = shares[i].stack.start;
-        own[5] = shares[i].stack.size;
-        own[6] = shares[i].list.start;
-        own[7] = shares[i].list.size;
-    }
-    words[0] = round->last;
-    words[1] = round->steps.count;
-    for (i = 0; i < DEZGULA_MOST_RUNS; i++) {
-        uint64_t *own = words + 2 + i * DEZGULA_TURN_LENGTH;
-        dezgula_pack(round->runs[i].record, own);
-        own[DEZGULA_RECORD_LENGTH] = dezgula_number(round->runs[i].answer);
-        own[DEZGULA_RECORD_LENGTH + 1] = dezgula_place(round->runs[i].answer);
-    }
-    uint64_t answer = dezgula_raw_dispatch(count, quantum, turns, all, sizeof all / sizeof *all, (const int32_t *)dezgula_lent(coefs),
-                                           dezgula_lent_length(coefs, coefs_len), (uint32_t *)dezgula_lent(stack), dezgula_lent_length(stack, stack_len),
-                                           (uint32_t *)dezgula_lent(list), dezgula_lent_length(list, list_len), words, DEZGULA_ROUND_LENGTH);
-    round->last = words[0];
-    round->steps.count = words[1];
-    for (i = 0; i < DEZGULA_MOST_RUNS; i++) {
-        const uint64_t *own = words + 2 + i * DEZGULA_TURN_LENGTH;
-        round->runs[i].record = dezgula_unpack(own);
-        round->runs[i].answer = own[DEZGULA_RECORD_LENGTH] + 256 * own[DEZGULA_RECORD_LENGTH + 1];
-    }
-    return answer;
-}
+ * Answers DEZGULA_SERVED, or refuses with 27 or 28. Served: each run's record, answer and rows are those that it would have alone from one dezgula_resume for
+ * each of its turns; a run without a turn answers as to budget 0. No run's parts are touched by another's turn, nor what lies in no part. From one turn of a
+ * run that is paused to its next, the others take at most 7 * quantum steps. A place past `count` has the answer DEZGULA_STARTED. */
+uint64_t dezgula_dispatch(const dezgula_share *shares, size_t count, const dezgula_tables *tables, dezgula_round *round, uint64_t quantum,
+                          uint64_t turns) DEZGULA_LOOK_AT_IT;
+
+/* ---- for headers over further proved functions, which take no NULL: a table as they take it, and its length */
+void *dezgula_lent(const void *table);
+size_t dezgula_lent_length(const void *table, size_t length);
 
 #ifdef __cplusplus
 }

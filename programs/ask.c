@@ -53,24 +53,24 @@ static dezgula_system system_of(const question *asked)
     return system;
 }
 
-static dezgula_run list_of(const question *asked)
+static dezgula_list list_of(const question *asked)
 {
-    dezgula_run run = {.list = asked->rows, .list_len = asked->rows_len * asked->q};
-    run.record.found.count = asked->rows_len;
-    return run;
+    dezgula_list list = {asked->rows, asked->rows_len * asked->q, asked->rows_len};
+    return list;
 }
 
-static reply reply_of(dezgula_why answer, fault *why)
+static reply reply_of(uint64_t answer, fault *why)
 {
-    reply r = {ANSWER_REFUSED, answer.place > 0 ? answer.place - 1 : 0};
-    switch (answer.number) {
+    size_t place = (size_t)dezgula_place(answer);
+    reply r = {ANSWER_REFUSED, place > 0 ? place - 1 : 0};
+    switch (dezgula_number(answer)) {
     case DEZGULA_ALL_ZERO: r.kind = ANSWER_ZERO; break;
     case DEZGULA_OFF: r.kind = ANSWER_OFF; break;
     case DEZGULA_STANDS: r.kind = ANSWER_STANDS; break;
     case DEZGULA_ABOVE: r.kind = ANSWER_ABOVE; break;
     case DEZGULA_UNLISTED: r.kind = ANSWER_UNLISTED; break;
     case DEZGULA_MADE: r.kind = ANSWER_MADE; break;
-    default: fault_set(why, (unsigned)answer.number, "%s", dezgula_reason_sentence(answer.number));
+    default: fault_set(why, dezgula_number(answer), "%s", dezgula_sentence(answer));
     }
     return r;
 }
@@ -78,22 +78,21 @@ static reply reply_of(dezgula_why answer, fault *why)
 bool ask_tray(const question *asked, size_t i, int64_t *amount, fault *why)
 {
     dezgula_system tray = {1, asked->q, asked->coefs + i * asked->q, asked->q};
-    dezgula_run none = {0};
-    dezgula_why answer = dezgula_reason(&tray, &none, asked->tuple, asked->q);
-    *amount = answer.number == DEZGULA_OFF ? answer.amount : 0;
-    return reply_of(answer, why).kind != ANSWER_REFUSED;
+    dezgula_list none = {NULL, 0, 0};
+    *amount = 0;
+    return reply_of(dezgula_reason(&tray, &none, asked->tuple, asked->q, amount), why).kind != ANSWER_REFUSED;
 }
 
 reply ask_why(const question *asked, fault *why)
 {
     dezgula_system system = system_of(asked);
-    dezgula_run list = list_of(asked);
-    return reply_of(dezgula_reason(&system, &list, asked->tuple, asked->q), why);
+    dezgula_list list = list_of(asked);
+    return reply_of(dezgula_reason(&system, &list, asked->tuple, asked->q, NULL), why);
 }
 
 reply ask_plan(const question *asked, uint32_t *times, fault *why)
 {
     dezgula_system system = system_of(asked);
-    dezgula_run list = list_of(asked);
-    return reply_of(dezgula_decompose(&system, &list, asked->tuple, asked->q, times, asked->rows_len), why);
+    dezgula_list list = list_of(asked);
+    return reply_of(dezgula_decompose(&system, &list, asked->tuple, asked->q, times, asked->rows_len, NULL), why);
 }

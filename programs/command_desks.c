@@ -27,6 +27,18 @@ static int read_pages(const options *o, office *of)
     return of->desks != NULL ? STATUS_COMPLETE : io_refuse(o->words[0], &why);
 }
 
+/* Notes for each tray which file it came from, as a net notes the page. */
+static bool note_files(const options *o, office *of)
+{
+    size_t i = 0;
+    for (size_t k = 0; k < of->desks_len; k++)
+        for (size_t end = i + of->desks[k]; i < end; i++) {
+            of->m.trays[i].page = strdup(o->words[k]);
+            if (of->m.trays[i].page == NULL) return false;
+        }
+    return true;
+}
+
 /* Leaves out the desks that bring no tray of their own. */
 static void drop_empty(office *of)
 {
@@ -53,6 +65,10 @@ static int read_files(const options *o, office *of)
         if (status == STATUS_COMPLETE) n++;
     }
     if (status == STATUS_COMPLETE && !join_maps(maps, n, &of->m, of->desks, &why)) status = io_refuse("desks", &why);
+    if (status == STATUS_COMPLETE && !note_files(o, of)) {
+        io_say("there is no memory");
+        status = STATUS_NOTHING;
+    }
     for (size_t k = 0; k < n; k++) map_free(&maps[k]);
     free(maps);
     drop_empty(of);
@@ -136,9 +152,19 @@ static size_t differences(const office *of, const solved *whole, const solved *b
     return count;
 }
 
+static void tell_desks(const office *of)
+{
+    const node *tray = of->m.trays;
+    printf("%zu desks, %zu trays, %zu activities\n", of->desks_len, of->m.p, of->m.q);
+    for (size_t k = 0; k < of->desks_len; k++) {
+        printf("  desk %zu%s%s:", k + 1, tray->page != NULL ? ", " : "", tray->page != NULL ? tray->page : "");
+        for (const node *end = tray + of->desks[k]; tray < end; tray++) printf(" %s%s", tray->name, tray + 1 < end ? "," : "\n");
+    }
+}
+
 static int tell(const office *of, const solved *whole, const solved *built)
 {
-    printf("%zu desks, %zu trays, %zu activities\n", of->desks_len, of->m.p, of->m.q);
+    tell_desks(of);
     tell_list("Loaded as one map", of, whole);
     tell_list("Built one desk after the other", of, built);
     putchar('\n');

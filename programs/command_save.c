@@ -5,17 +5,17 @@
 #include <unistd.h>
 
 #include "command.h"
-#include "dezgula.h"
-#include "dezgula_files.h"
+#include "dezgula_text.h"
 #include "io.h"
 #include "read.h"
 
-enum { ENDED_COMPLETE = 0, ENDED_PAUSED = 1, MOST_NAME = 4096 };
+enum { MOST_NAME = 4096 };
 
 /* The bytes of the file of a list; NULL: refused, and `why` says why. */
 static uint8_t *file_of_list(const map *m, const solved *s, size_t *len, fault *why)
 {
-    uint32_t ending = s->complete ? ENDED_COMPLETE : ENDED_PAUSED;
+    dezgula_system system = {m->p, m->q, m->coefs, m->p * m->q};
+    dezgula_list list = {s->loops, s->loops_len * m->q, s->loops_len};
     if (s->loops_len > DEZGULA_FILE_MOST_ROWS) {
         fault_set(why, DEZGULA_FILE_RANGE, "%zu loops; a list file has at most %d", s->loops_len, DEZGULA_FILE_MOST_ROWS);
         return NULL;
@@ -26,10 +26,9 @@ static uint8_t *file_of_list(const map *m, const solved *s, size_t *len, fault *
         fault_set(why, 0, "there is no memory for the file");
         return NULL;
     }
-    uint64_t answer = dezgula_raw_write_list(m->p, m->q, m->coefs, m->p * m->q, s->loops, s->loops_len * m->q, ending, bytes, *len);
-    if ((answer & 0xff) == DEZGULA_FILE_WRITTEN) return bytes;
-    const char *sentence = dezgula_file_sentence(answer);
-    fault_set(why, (unsigned)(answer & 0xff), "no list file: %s", sentence != NULL ? sentence : dezgula_sentence(answer));
+    uint64_t answer = dezgula_write_list(&system, &list, s->complete ? DEZGULA_FILE_COMPLETE : DEZGULA_FILE_PAUSED, bytes, *len);
+    if (answer == DEZGULA_LIST_WRITTEN) return bytes;
+    fault_set(why, dezgula_number(answer), "no list file: %s", dezgula_sentence(answer));
     free(bytes);
     return NULL;
 }

@@ -4,7 +4,7 @@
 #include <string.h>
 
 #include "command.h"
-#include "dezgula_pairs.h"
+#include "dezgula_text.h"
 #include "io.h"
 #include "limits.h"
 #include "read.h"
@@ -37,7 +37,7 @@ static uint64_t read_one(const lines *text, bool strict, int32_t *coefs, dezgula
     if (answer == DEZGULA_MAP_READ) return 0;
     if (read_matrix(text, strict, &m, why)) {
         /* a map beyond the dispatcher's limits */
-        fault_set(why, dezgula_number(answer), "%s", dezgula_pairs_sentence(answer));
+        fault_set(why, dezgula_number(answer), "%s", dezgula_sentence(answer));
         map_free(&m);
     }
     if (dezgula_number(answer) == DEZGULA_TEXT_LINE) answer = DEZGULA_TEXT_LINE + 256 * (uint64_t)lines_number(text, (size_t)dezgula_place(answer));
@@ -60,7 +60,7 @@ static bool begin(office *of, const char *bytes, size_t len, bool strict)
     of->shares[i].p = system.p;
     of->shares[i].q = system.q;
     of->shares[i].coefs.size = system.coefs_len;
-    dezgula_run run = {of->stack + i * STACK, STACK, of->list + i * LIST, LIST, of->round.runs[i].record};
+    dezgula_run run = {.stack = of->stack + i * STACK, .stack_len = STACK, .list = of->list + i * LIST, .list_len = LIST};
     bool started = dezgula_start(&system, &run) == DEZGULA_STARTED;
     of->round.runs[i].record = run.record;
     return started;
@@ -97,12 +97,11 @@ static bool begin_all(office *of, const char *bytes, size_t len, bool strict)
 /* One turn for each unfinished run, again and again: no run has more than its number of turns. */
 static bool work_in_turns(office *of)
 {
+    dezgula_tables tables = {of->coefs, MOST * COEFS, of->stack, MOST * STACK, of->list, MOST * LIST};
     for (unsigned k = 0; k < TURNS; k++) {
         uint64_t unfinished = 0;
         for (size_t i = 0; i < of->count; i++) unfinished += of->round.runs[i].record.height > 0;
-        if (dezgula_dispatch(of->count, of->shares, of->coefs, MOST * COEFS, of->stack, MOST * STACK, of->list, MOST * LIST, &of->round, QUANTUM, unfinished) !=
-            DEZGULA_SERVED)
-            return false;
+        if (dezgula_dispatch(of->shares, of->count, &tables, &of->round, QUANTUM, unfinished) != DEZGULA_SERVED) return false;
     }
     return true;
 }

@@ -3,25 +3,24 @@
 
 #include "build_map.h"
 #include "command.h"
-#include "dezgula.h"
-#include "dezgula_files.h"
+#include "dezgula_text.h"
 #include "io.h"
 #include "limits.h"
 
-enum { COEFS = DEZGULA_MOST_EQUATIONS * DEZGULA_MOST_UNKNOWNS, ROWS = DEZGULA_FILE_MOST_ROWS * DEZGULA_MOST_UNKNOWNS };
+enum { COEFS = DEZGULA_MAP_COEFFICIENTS, ROWS = DEZGULA_FILE_MOST_ROWS * DEZGULA_MOST_UNKNOWNS };
 
 /* Takes over what was read. */
-static bool take(uint64_t answer, const int32_t *coefs, const uint32_t *rows, map *m, solved *s, fault *why)
+static bool take(const dezgula_system *system, const dezgula_list *list, uint32_t ending, map *m, solved *s, fault *why)
 {
-    if (!map_make(m, dezgula_file_equations(answer), dezgula_file_unknowns(answer), why)) return false;
-    memcpy(m->coefs, coefs, m->p * m->q * sizeof *coefs);
+    if (!map_make(m, system->p, system->q, why)) return false;
+    memcpy(m->coefs, system->coefs, m->p * m->q * sizeof *m->coefs);
     s->q = m->q;
-    s->loops_len = dezgula_file_rows(answer);
-    s->complete = dezgula_file_ending(answer) == 0;
+    s->loops_len = list->found;
+    s->complete = ending == DEZGULA_FILE_COMPLETE;
     if (!s->complete) fault_set(&s->why, 0, "it was saved when it was cut short");
     s->loops = malloc((s->loops_len * s->q + 1) * sizeof *s->loops);
     if (s->loops == NULL) return fault_set(why, 0, "there is no memory for the list");
-    memcpy(s->loops, rows, s->loops_len * s->q * sizeof *rows);
+    if (s->loops_len > 0) memcpy(s->loops, list->rows, s->loops_len * s->q * sizeof *s->loops);
     return true;
 }
 
@@ -29,15 +28,16 @@ static bool read_list(const char *bytes, size_t len, map *m, solved *s, fault *w
 {
     int32_t *coefs = malloc(COEFS * sizeof *coefs);
     uint32_t *rows = malloc(ROWS * sizeof *rows);
+    dezgula_system system = {0, 0, NULL, 0};
+    dezgula_list list = {NULL, 0, 0};
+    uint32_t ending = 0;
     bool read = false;
-    uint64_t answer = 0;
-    if (coefs == NULL || rows == NULL) fault_set(why, 0, "there is no memory for the list");
-    else answer = dezgula_raw_read_list((const uint8_t *)bytes, len, coefs, COEFS, rows, ROWS);
-    unsigned number = (unsigned)(answer & 0xff);
-    if (number == DEZGULA_FILE_READ) read = take(answer, coefs, rows, m, s, why);
-    else if (number != 0) {
-        const char *sentence = dezgula_file_sentence(answer);
-        fault_set(why, number, "%s", sentence != NULL ? sentence : dezgula_sentence(answer));
+    if (coefs == NULL || rows == NULL) {
+        fault_set(why, 0, "there is no memory for the list");
+    } else {
+        uint64_t answer = dezgula_read_list((const uint8_t *)bytes, len, coefs, COEFS, rows, ROWS, &system, &list, &ending);
+        if (answer == DEZGULA_LIST_READ) read = take(&system, &list, ending, m, s, why);
+        else fault_set(why, dezgula_number(answer), "%s", dezgula_sentence(answer));
     }
     free(coefs);
     free(rows);

@@ -63,14 +63,15 @@ static int list(const options *o, const map *m, const dezgula_system *system, co
 {
     /* a number of a line has at most two digits and a space, and stands at most twice in it */
     size_t room = (size_t)run->record.found.count * (6 * system->q + 16) + 1;
-    uint8_t *out = calloc(room + 1, 1);
+    char *out = calloc(room + 1, 1);
+    dezgula_list listed = dezgula_listed(run);
     if (out == NULL) {
         io_say("there is no memory");
         return STATUS_NOTHING;
     }
-    uint64_t answer = dezgula_listing(system, run, out, room);
+    uint64_t answer = dezgula_listing(system, &listed, out, room);
     int status = STATUS_COMPLETE;
-    if (dezgula_number(answer) == DEZGULA_WRITTEN) print_listing(m, (char *)out);
+    if (dezgula_number(answer) == DEZGULA_LISTING_WRITTEN) print_listing(m, out);
     else status = refuse(o, m, answer);
     free(out);
     return status;

@@ -57,11 +57,13 @@ static void ending(FILE *out, const shown *what)
 {
     const solved *s = what->s;
     fputc('\n', out);
-    if (s->complete) {
+    if (s->complete && s->loops_len == 0) {
+        fputs("The list is complete: the map has no loop.\n", out);
+    } else if (s->complete) {
         fputs("The list is complete: every loop is made of these, and none can be left out.\n", out);
     } else {
         fprintf(out, "The list is NOT complete: %s.\n", s->why.text);
-        if (s->loops_len > 0) fputs("The loops listed are right; others are missing.\n", out);
+        if (s->loops_len > 0) fputs("The loops listed are right; others may be missing.\n", out);
         else fputs("This says nothing of the map: no loop is sure before the end.\n", out);
     }
     if (s->walked) fprintf(out, "By Contejean and Devie's walk: %" PRIu64 " steps, greatest sum %" PRIu64 ".\n", s->last.steps, s->last.deepest);
@@ -108,9 +110,11 @@ void format_text(FILE *out, const shown *what)
 {
     const solved *s = what->s;
     head(out, what->m);
-    if (s->has_wanted) wanted(out, what);
-    fprintf(out, "\n%zu %s%s\n", s->loops_len, plural(s->loops_len, "loop", "loops"), s->complete ? "" : " so far");
-    rows_in_words(out, what->m, s->loops, s->loops_len);
+    if (s->has_wanted && (s->complete || s->wanted_len > 0)) wanted(out, what);
+    if (s->complete || s->loops_len > 0) {
+        fprintf(out, "\n%zu %s%s\n", s->loops_len, plural(s->loops_len, "loop", "loops"), s->complete ? "" : " so far");
+        rows_in_words(out, what->m, s->loops, s->loops_len);
+    }
     ending(out, what);
     if (!s->complete) return;
     in_no_loop(out, what->m, s);

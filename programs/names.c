@@ -14,17 +14,18 @@ typedef struct {
     size_t count;
     char letter;      /* of the names by place */
     const char *what; /* what they are called */
+    const map *m;     /* where trays are named: the map, which may have left some out */
 } names;
 
 static names activities_of(const map *m)
 {
-    names n = {m->activities, m->q, 'x', "activity"};
+    names n = {m->activities, m->q, 'x', "activity", NULL};
     return n;
 }
 
 static names trays_of(const map *m)
 {
-    names n = {m->trays, m->p, 't', "tray"};
+    names n = {m->trays, m->p, 't', "tray", m};
     return n;
 }
 
@@ -65,6 +66,9 @@ static bool same(const node *own, const char *name, size_t len)
 /* Refuses a name that is nobody's, with those there are, as many as fit. */
 static bool unknown_name(const names *n, const char *name, size_t len, fault *why)
 {
+    for (size_t i = 0; n->m != NULL && i < n->m->unchanged; i++)
+        if (strlen(n->m->unchanged_names[i]) == len && memcmp(n->m->unchanged_names[i], name, len) == 0)
+            return fault_set(why, 0, "the tray %.*s is changed by no activity, so nothing can be delivered to it", (int)(len > 80 ? 80 : len), name);
     fault_set(why, 0, "no %s is named \"%.*s\"; there are", n->what, (int)(len > 80 ? 80 : len), name);
     for (size_t i = 0; i < n->count; i++) {
         size_t at = strlen(why->text);
@@ -131,13 +135,28 @@ static bool set_one(const names *n, const char *text, size_t len, long *out, fau
     return true;
 }
 
+/* Whether a text ends with "=" and a number. */
+static bool ends_with_number(const char *text, size_t len)
+{
+    const char *equals = last_equals(text, len);
+    long x;
+    return equals != NULL && number_of(equals + 1, len - (size_t)(equals - text) - 1, &x);
+}
+
+/* The first comma that stands after a NAME=N, since names may have commas too; NULL where there is none. */
+static const char *comma_between(const char *text, size_t len)
+{
+    for (size_t i = 0; i < len; i++)
+        if (text[i] == ',' && ends_with_number(text, i)) return text + i;
+    return NULL;
+}
+
 /* Sets the numbers of a word, which may name several with commas between. */
 static bool set_named(const names *n, const char *word, size_t len, long *out, fault *why)
 {
     while (!is_one(n, word, len)) {
-        /* up to the first comma that a further NAME=N follows */
-        const char *comma = memchr(word, ',', len);
-        if (comma == NULL || last_equals(comma, len - (size_t)(comma - word)) == NULL) break;
+        const char *comma = comma_between(word, len);
+        if (comma == NULL) break;
         size_t own = (size_t)(comma - word);
         if (!set_one(n, word, own, out, why)) return false;
         word = comma + 1;
@@ -241,9 +260,7 @@ static int rights_of_file(const map *m, const char *name, long *out)
 /* Whether a word is NAME=N: what follows its last "=" is a number. */
 static bool is_named(const char *word)
 {
-    const char *equals = strrchr(word, '=');
-    long x;
-    return equals != NULL && number_of(equals + 1, strlen(equals + 1), &x);
+    return ends_with_number(word, strlen(word));
 }
 
 int rights_read(const map *m, char *const *words, size_t words_len, int32_t *out)

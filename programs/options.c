@@ -1,6 +1,7 @@
 #include <errno.h>
 #include <stdlib.h>
 #include <string.h>
+#include <unistd.h>
 
 #include "command.h"
 #include "io.h"
@@ -109,10 +110,12 @@ static size_t take_option(const command *own, char **words, size_t left, options
     return set_option(found, own_value, o) ? (next ? 2 : 1) : 0;
 }
 
+/* Whether the options go together, and there are as many words as there have to be; without a file standard input is read, but not from a terminal. */
 static bool together(const command *own, const options *o)
 {
+    bool waits = own->least_words == 0 && o->words_len == 0 && isatty(STDIN_FILENO) == 1;
     if (o->steps != 0 && !o->walk) io_say("--steps goes with --walk");
-    else if (o->words_len < own->least_words || o->words_len > own->most_words) io_say("usage: dezgula %s; dezgula %s --help says more", own->usage, own->name);
+    else if (waits || o->words_len < own->least_words || o->words_len > own->most_words) io_say("usage: dezgula %s; dezgula %s --help says more", own->usage, own->name);
     else return true;
     return false;
 }

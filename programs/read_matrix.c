@@ -4,12 +4,9 @@
 #include <string.h>
 
 #include "build_map.h"
-#include "dezgula_pairs.h"
+#include "dezgula_text.h"
 #include "limits.h"
 #include "read.h"
-
-/* the longest text that the proved reader takes */
-enum { PROVED_BYTES = 4096 };
 
 const char *read_number(const char *at, const char *end, int32_t *x)
 {
@@ -99,7 +96,7 @@ bool read_matrix(const lines *text, bool strict, map *out, fault *why)
     if (strict && !lines_strict(text, why)) return false;
     bool read = read_by_hand(text, out, why);
     if (read && (out->p > DEZGULA_MOST_EQUATIONS || out->q > DEZGULA_MOST_UNKNOWNS)) return true;
-    if (text->len > PROVED_BYTES) return read;
+    if (text->len > DEZGULA_MOST_TEXT) return read;
     uint64_t answer = dezgula_read_map(text->text, text->len, coefs, &system);
     if (answer == DEZGULA_MAP_READ) {
         if (!read && !map_make(out, system.p, system.q, why)) return false;
@@ -108,5 +105,5 @@ bool read_matrix(const lines *text, bool strict, map *out, fault *why)
     }
     if (!read) return false;
     map_free(out);
-    return fault_set(why, dezgula_number(answer), "%s", dezgula_pairs_sentence(answer));
+    return fault_set(why, dezgula_number(answer), "%s", dezgula_sentence(answer));
 }

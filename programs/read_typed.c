@@ -3,7 +3,7 @@
 #include <string.h>
 
 #include "build_map.h"
-#include "dezgula_equations.h"
+#include "dezgula_text.h"
 #include "limits.h"
 #include "read.h"
 
@@ -64,13 +64,14 @@ static bool off_grammar(const line *own, const char *at, size_t place, size_t q,
 }
 
 /* Says a refusal of the proved reader for one equation. */
-static bool refuse_equation(const line *own, const char *at, uint64_t number, size_t place, size_t q, fault *why)
+static bool refuse_equation(const line *own, const char *at, uint64_t answer, size_t q, fault *why)
 {
-    switch (number) {
-    case DEZGULA_EQUATION_GRAMMAR: return off_grammar(own, at, place, q, why);
-    case DEZGULA_EQUATION_COEFFICIENT:
+    size_t place = (size_t)dezgula_place(answer);
+    switch (dezgula_number(answer)) {
+    case DEZGULA_GRAMMAR: return off_grammar(own, at, place, q, why);
+    case DEZGULA_COEFFICIENT:
         return fault_set(why, 7, "line %zu: x%zu comes to a coefficient outside -%d to %d", own->number, place, MOST_COEFFICIENT, MOST_COEFFICIENT);
-    default: return fault_set(why, (unsigned)number, "line %zu: %s", own->number, dezgula_equation_sentence(number));
+    default: return fault_set(why, dezgula_number(answer), "line %zu: %s", own->number, dezgula_sentence(answer));
     }
 }
 
@@ -80,10 +81,8 @@ static bool read_each(const lines *text, size_t first, map *m, fault *why)
     for (size_t i = 0; i < m->p; i++) {
         const line *own = &text->lines[first + i];
         const char *at = text->text + own->start;
-        uint64_t answer = dezgula_raw_read_equation((const uint8_t *)at, own->len, m->q, m->coefs + i * m->q, m->q);
-        uint64_t number = dezgula_equation_number(answer);
-        if (number != DEZGULA_EQUATION_READ) return refuse_equation(own, at, number, dezgula_equation_place(answer), m->q, why);
-        m->rights[i] = dezgula_equation_right(answer);
+        uint64_t answer = dezgula_read_equation(at, own->len, m->q, m->coefs + i * m->q, m->q, &m->rights[i]);
+        if (answer != DEZGULA_EQUATION_READ) return refuse_equation(own, at, answer, m->q, why);
     }
     return true;
 }

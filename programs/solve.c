@@ -5,10 +5,8 @@
 #include <string.h>
 #include <time.h>
 
-#include "dezgula_desks.h"
-#include "dezgula_lower.h"
+#include "dezgula.h"
 #include "dezgula_pairs.h"
-#include "dezgula_sides.h"
 #include "limits.h"
 
 /* the rows that a table has room for at first and at most (760 MB by sums of pairs); the steps of a first call, and what a call is to take */
@@ -28,7 +26,7 @@ typedef struct {
     unsigned full;
 } machine;
 
-enum { PAIRS, WALK, SIDES, LOWER, DESK, MACHINES };
+enum { PAIRS, WALK, RIGHTS, LOWER, DESK, MACHINES };
 
 struct run {
     problem what;
@@ -67,36 +65,24 @@ static bool double_rows(table *t, size_t q)
 
 /* ---- the group under way, as the calls take it */
 
+/* How many equations the group under way has. */
+static size_t own_equations(const run *r)
+{
+    return r->what.groups_len > 1 ? r->what.groups[r->group] : r->what.p;
+}
+
+/* The equations of the group by themselves; sums of pairs go on with those of the groups before, which are done. */
 static dezgula_system system_of(const run *r)
 {
     const problem *w = &r->what;
-    size_t p = w->groups_len > 1 ? w->groups[r->group] : w->p;
-    dezgula_system system = {p, w->q, w->coefs + r->before * w->q, p * w->q};
-    return system;
-}
-
-static dezgula_sided_system sided_system_of(const run *r)
-{
-    const problem *w = &r->what;
-    dezgula_sided_system system = {w->p, w->q, w->coefs, w->p * w->q, w->rights, w->p};
+    size_t first = r->machine == PAIRS ? 0 : r->before, p = r->before + own_equations(r) - first;
+    dezgula_system system = {p, w->q, w->coefs + first * w->q, p * w->q};
     return system;
 }
 
 static dezgula_run walk_of(const run *r)
 {
-    dezgula_run lent = {r->stack.at, r->stack.len, r->list.at, r->list.len, r->record};
-    return lent;
-}
-
-static dezgula_sided_run sided_walk_of(const run *r)
-{
-    dezgula_sided_run lent = {r->stack.at, r->stack.len, r->list.at, r->list.len, r->second.at, r->second.len, r->record};
-    return lent;
-}
-
-static dezgula_lower_run lower_walk_of(const run *r)
-{
-    dezgula_lower_run lent = {r->stack.at, r->stack.len, r->list.at, r->list.len, r->second.at, r->second.len, r->record};
+    dezgula_run lent = {r->stack.at, r->stack.len, r->list.at, r->list.len, r->second.at, r->second.len, r->record};
     return lent;
 }
 
@@ -106,9 +92,9 @@ static dezgula_pairs_run pairs_of(const run *r)
     return lent;
 }
 
-static dezgula_generators generators_of(const run *r)
+static dezgula_list generators_of(const run *r)
 {
-    dezgula_generators generators = {r->generators.at, r->generators.len};
+    dezgula_list generators = {r->generators.at, r->generators.len, r->generators.len / r->what.q};
     return generators;
 }
 
@@ -133,8 +119,15 @@ static bool lengthen_pairs(run *r)
     return double_rows(&r->list, r->what.q) && beside(r);
 }
 
+/* The first group has a start. A further one goes on where the equations before it are done, from their rows: it is set to the first pair of its first
+ * equation, as the run itself would be after them. That these rows are all, and no others, is what the answers of the groups before say. */
 static uint64_t start_pairs(run *r)
 {
+    if (r->group > 0) {
+        dezgula_pairs_record at = {((uint32_t)1 << r->before) - 1, r->before, 1, 0, r->pairs.rows, r->pairs.steps};
+        r->pairs = at;
+        return DEZGULA_STARTED;
+    }
     if (!lengthen_pairs(r)) return DEZGULA_PAIRS_FULL;
     dezgula_system system = system_of(r);
     dezgula_pairs_run lent = pairs_of(r);
@@ -155,9 +148,12 @@ static uint64_t go_on_pairs(run *r, uint64_t budget)
 
 /* ---- by the walk */
 
-static bool lengthen_list(run *r)
+/* Lengthens the list that is full, of one or two. */
+static bool lengthen_walk(run *r)
 {
-    return double_rows(&r->list, r->what.q);
+    dezgula_system system = system_of(r);
+    dezgula_run lent = walk_of(r);
+    return double_rows(dezgula_full_list(&system, &lent) == DEZGULA_SECOND ? &r->second : &r->list, r->what.q);
 }
 
 static uint64_t start_walk(run *r)
@@ -181,46 +177,32 @@ static uint64_t go_on_walk(run *r, uint64_t budget)
 
 /* ---- with right sides */
 
-static bool lengthen_either(run *r)
+static uint64_t start_rights(run *r)
 {
-    dezgula_sided_system system = sided_system_of(r);
-    dezgula_sided_run lent = sided_walk_of(r);
-    bool loops = dezgula_full_list(&system, &lent) == DEZGULA_AT_ZERO;
-    return double_rows(loops ? &r->list : &r->second, r->what.q);
-}
-
-static uint64_t start_sides(run *r)
-{
-    if (!set_length(&r->stack, DEZGULA_SIDED_STACK_LENGTH(r->what.q))) return DEZGULA_LIST_FULL;
-    dezgula_sided_system system = sided_system_of(r);
-    dezgula_sided_run lent = sided_walk_of(r);
-    uint64_t answer = dezgula_start_capped(&system, &lent);
+    if (!set_length(&r->stack, DEZGULA_RIGHTS_STACK_LENGTH(r->what.q))) return DEZGULA_LIST_FULL;
+    dezgula_system system = system_of(r);
+    dezgula_run lent = walk_of(r);
+    uint64_t answer = dezgula_start_rights(&system, r->what.rights, r->what.p, &lent);
     r->record = lent.record;
     return answer;
 }
 
-static uint64_t go_on_sides(run *r, uint64_t budget)
+static uint64_t go_on_rights(run *r, uint64_t budget)
 {
-    dezgula_sided_system system = sided_system_of(r);
-    dezgula_sided_run lent = sided_walk_of(r);
-    uint64_t answer = dezgula_resume_capped(&system, &lent, budget);
+    dezgula_system system = system_of(r);
+    dezgula_run lent = walk_of(r);
+    uint64_t answer = dezgula_resume_rights(&system, r->what.rights, r->what.p, &lent, budget);
     r->record = lent.record;
     return answer;
 }
 
 /* ---- from a lower bound */
 
-static bool lengthen_walked(run *r)
-{
-    dezgula_lower_run lent = lower_walk_of(r);
-    return double_rows(dezgula_under_way(&lent) == DEZGULA_PLAIN_WALK ? &r->second : &r->list, r->what.q);
-}
-
 static uint64_t start_lower(run *r)
 {
     if (!set_length(&r->stack, DEZGULA_STACK_LENGTH(r->what.q))) return DEZGULA_LIST_FULL;
     dezgula_system system = system_of(r);
-    dezgula_lower_run lent = lower_walk_of(r);
+    dezgula_run lent = walk_of(r);
     uint64_t answer = dezgula_start_from(&system, r->what.lower, r->what.q, &lent);
     r->record = lent.record;
     return answer;
@@ -229,24 +211,24 @@ static uint64_t start_lower(run *r)
 static uint64_t go_on_lower(run *r, uint64_t budget)
 {
     dezgula_system system = system_of(r);
-    dezgula_lower_run lent = lower_walk_of(r);
+    dezgula_run lent = walk_of(r);
     uint64_t answer = dezgula_resume_from(&system, r->what.lower, r->what.q, &lent, budget);
     r->record = lent.record;
     return answer;
 }
 
-/* ---- a further desk, from the list of those before it */
+/* ---- a further desk by the walk, from the list of those before it */
 
 static uint64_t start_desk(run *r)
 {
     size_t rows = r->generators.len / r->what.q;
     /* more than the call takes are refused before there is a stack for them */
     if (rows > DEZGULA_MOST_GENERATORS) return DEZGULA_GENERATORS;
-    if (!set_length(&r->stack, DEZGULA_DESKS_STACK_LENGTH(r->what.q, rows))) return DEZGULA_LIST_FULL;
+    if (!set_length(&r->stack, DEZGULA_DESK_STACK_LENGTH(r->what.q, rows))) return DEZGULA_LIST_FULL;
     dezgula_system system = system_of(r);
-    dezgula_generators generators = generators_of(r);
+    dezgula_list generators = generators_of(r);
     dezgula_run lent = walk_of(r);
-    uint64_t answer = dezgula_desks_start(&system, &generators, &lent);
+    uint64_t answer = dezgula_start_desk(&system, &generators, &lent);
     r->record = lent.record;
     return answer;
 }
@@ -254,26 +236,26 @@ static uint64_t start_desk(run *r)
 static uint64_t go_on_desk(run *r, uint64_t budget)
 {
     dezgula_system system = system_of(r);
-    dezgula_generators generators = generators_of(r);
+    dezgula_list generators = generators_of(r);
     dezgula_run lent = walk_of(r);
-    uint64_t answer = dezgula_desks_resume(&system, &generators, &lent, budget);
+    uint64_t answer = dezgula_resume_desk(&system, &generators, &lent, budget);
     r->record = lent.record;
     return answer;
 }
 
 static const machine machines[MACHINES] = {
     {start_pairs, go_on_pairs, lengthen_pairs, DEZGULA_PAIRS_FULL},
-    {start_walk, go_on_walk, lengthen_list, DEZGULA_LIST_FULL},
-    {start_sides, go_on_sides, lengthen_either, DEZGULA_LIST_FULL},
-    {start_lower, go_on_lower, lengthen_walked, DEZGULA_LIST_FULL},
-    {start_desk, go_on_desk, lengthen_list, DEZGULA_LIST_FULL},
+    {start_walk, go_on_walk, lengthen_walk, DEZGULA_LIST_FULL},
+    {start_rights, go_on_rights, lengthen_walk, DEZGULA_LIST_FULL},
+    {start_lower, go_on_lower, lengthen_walk, DEZGULA_LIST_FULL},
+    {start_desk, go_on_desk, lengthen_walk, DEZGULA_LIST_FULL},
 };
 
 static unsigned machine_of(const problem *what, size_t group)
 {
-    if (group > 0) return DESK;
+    if (group > 0 && what->how == BY_WALK) return DESK;
     if (what->lower != NULL) return LOWER;
-    if (what->rights != NULL) return SIDES;
+    if (what->rights != NULL) return RIGHTS;
     return what->how == BY_WALK ? WALK : PAIRS;
 }
 
@@ -281,8 +263,8 @@ static unsigned machine_of(const problem *what, size_t group)
 
 static bool say_size(const problem *what, unsigned machine, unsigned number, fault *why)
 {
-    size_t most_q = machine == SIDES ? DEZGULA_MOST_SIDED_UNKNOWNS : DEZGULA_MOST_UNKNOWNS;
-    const char *how = machine == WALK ? "the walk takes" : machine == SIDES ? "with deliveries there are" : machine == LOWER ? "from a lower bound there are" : "there are";
+    size_t most_q = machine == RIGHTS ? DEZGULA_MOST_UNKNOWNS_WITH_RIGHTS : DEZGULA_MOST_UNKNOWNS;
+    const char *how = machine == WALK ? "the walk takes" : machine == RIGHTS ? "with deliveries there are" : machine == LOWER ? "from a lower bound there are" : "there are";
     if (number == DEZGULA_EQUATIONS) return fault_set(why, number, "%zu trays change; %s 1 to %d", what->p, how, DEZGULA_MOST_EQUATIONS);
     return fault_set(why, number, "%zu activities; %s 1 to %zu", what->q, how, most_q);
 }
@@ -295,7 +277,7 @@ static bool say(const run *r, uint64_t answer, fault *why)
     case DEZGULA_UNKNOWNS: return say_size(&r->what, r->machine, number, why);
     case DEZGULA_OUT_OF_ORDER: return fault_set(why, number, "the state of the run is not in order");
     case DEZGULA_COEFFICIENT: return fault_set(why, number, "coefficient %" PRIu64 " is outside -%d to %d", dezgula_place(answer), MOST_COEFFICIENT, MOST_COEFFICIENT);
-    case DEZGULA_BOUND_RANGE: return fault_set(why, number, "a count to begin from is above %d", MOST_COUNT);
+    case DEZGULA_TUPLE_RANGE: return fault_set(why, number, "a count to begin from is above %d", MOST_COUNT);
     case DEZGULA_RIGHT_SIDE: return fault_set(why, number, "a right side is outside -%d to %d", MOST_COEFFICIENT, MOST_COEFFICIENT);
     case DEZGULA_COMPONENT: return fault_set(why, number, "a count would be above %d", MOST_COUNT);
     case DEZGULA_STEPS_AT_LIMIT: return fault_set(why, number, "1,000,000,000,000 steps are taken");
@@ -370,11 +352,13 @@ static size_t rows_of(const run *r)
 /* The list of the group that is done goes to the next one. */
 static state next_group(run *r, fault *why)
 {
-    free(r->generators.at);
-    r->generators = r->list;
-    r->generators.len = rows_of(r) * r->what.q;
-    r->list.at = NULL;
-    r->list.len = 0;
+    if (r->machine != PAIRS) {
+        free(r->generators.at);
+        r->generators = r->list;
+        r->generators.len = rows_of(r) * r->what.q;
+        r->list.at = NULL;
+        r->list.len = 0;
+    }
     r->before += r->what.groups[r->group++];
     r->machine = machine_of(&r->what, r->group);
     uint64_t answer = machines[r->machine].start(r);
@@ -438,7 +422,7 @@ lists solve_lists(const run *r)
     if (!r->complete && (r->machine == PAIRS || r->machine == DESK || r->what.groups_len > 1)) return shown;
     shown.loops = r->list.at;
     shown.loops_len = rows_of(r);
-    if (r->machine == SIDES) {
+    if (r->machine == RIGHTS) {
         shown.wanted = r->second.at;
         shown.wanted_len = (size_t)r->record.second.count;
     } else if (r->machine == LOWER) {
@@ -455,7 +439,7 @@ lists solve_lists(const run *r)
 typedef struct {
     uint64_t machine, group, before;
     uint64_t generators, stack, list, second; /* lengths */
-    uint64_t record[DEZGULA_RECORD_LENGTH];
+    dezgula_record record;
     uint64_t pairs[DEZGULA_PAIRS_RECORD_LENGTH];
 } words;
 
@@ -465,7 +449,7 @@ void *solve_state(const run *r, size_t *len)
     words head = {.machine = r->machine, .group = r->group, .before = r->before, .generators = r->generators.len, .stack = r->stack.len};
     head.list = rows_of(r) * q;
     head.second = r->machine == PAIRS || r->machine == DESK ? 0 : r->record.second.count * q;
-    dezgula_pack(r->record, head.record);
+    head.record = r->record;
     dezgula_pairs_pack(r->pairs, head.pairs);
     const table tables[] = {r->generators, r->stack, {r->list.at, (size_t)head.list}, {r->second.at, (size_t)head.second}};
     *len = sizeof head;
@@ -494,9 +478,9 @@ static bool in_order(const problem *what, const words *head, size_t len)
         if (lengths[i] > numbers) return false;
         numbers -= lengths[i];
     }
-    uint64_t rows = head->machine == PAIRS ? head->pairs[4] : head->record[1];
+    uint64_t rows = head->machine == PAIRS ? head->pairs[4] : head->record.found.count;
     if (numbers != 0 || rows > head->list / what->q || head->list % what->q != 0) return false;
-    return head->machine == PAIRS || head->machine == DESK || head->record[4] <= head->second / what->q;
+    return head->machine == PAIRS || head->machine == DESK || head->record.second.count <= head->second / what->q;
 }
 
 static bool take_tables(run *r, const words *head, const char *at)
@@ -529,7 +513,7 @@ run *solve_restore(const problem *what, const void *state, size_t len, fault *wh
     r->machine = (unsigned)head.machine;
     r->group = (size_t)head.group;
     r->before = (size_t)head.before;
-    r->record = dezgula_unpack(head.record);
+    r->record = head.record;
     r->pairs = dezgula_pairs_unpack(head.pairs);
     if (take_tables(r, &head, (const char *)state + sizeof head)) return r;
     fault_set(why, 0, "there is no memory for the run");

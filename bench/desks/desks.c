@@ -1,8 +1,7 @@
 /* Times a map of 8 equations as a whole and desk by desk, in two, four and eight groups: desks MAP SECONDS. Prints a line of a table: solutions, and of each
  * way the steps of all its walks and the seconds of the processor; "over" is past the limit, 25 where a list is not one that the next desk can
  * start from. */
-#include "dezgula_desks.h"
-#include "dezgula_pairs.h"
+#include "dezgula_text.h"
 
 #include <inttypes.h>
 #include <stdio.h>
@@ -12,7 +11,7 @@
 enum { BUDGET = 20000, ROWS = 65536, TEXT = 4097 };
 
 static double limit;
-static uint32_t stack[DEZGULA_DESKS_STACK_LENGTH(DEZGULA_MOST_UNKNOWNS, ROWS)], lists[2][DEZGULA_MOST_UNKNOWNS * ROWS];
+static uint32_t stack[DEZGULA_DESK_STACK_LENGTH(DEZGULA_MOST_UNKNOWNS, ROWS)], lists[2][DEZGULA_MOST_UNKNOWNS * ROWS];
 
 typedef struct {
     uint64_t steps, found, answer;
@@ -29,19 +28,19 @@ static outcome solve(const dezgula_system *map, size_t groups)
 {
     size_t each = map->p / groups;
     outcome all = {0, 0, DEZGULA_COMPLETE, now()};
-    dezgula_generators first = {NULL, 0};
+    dezgula_list first = {NULL, 0, 0};
     for (size_t k = 0; k < groups; k++) {
         dezgula_system group = {each, map->q, map->coefs + k * each * map->q, each * map->q};
-        dezgula_run run = {stack, sizeof stack / sizeof *stack, lists[k % 2], sizeof lists[0] / sizeof **lists, {0}};
-        uint64_t answer = k == 0 ? dezgula_start(&group, &run) : dezgula_desks_start(&group, &first, &run);
+        dezgula_run run = {stack, sizeof stack / sizeof *stack, lists[k % 2], sizeof lists[0] / sizeof **lists, NULL, 0, {0}};
+        uint64_t answer = k == 0 ? dezgula_start(&group, &run) : dezgula_start_desk(&group, &first, &run);
         if (answer == DEZGULA_STARTED)
-            do answer = k == 0 ? dezgula_resume(&group, &run, BUDGET) : dezgula_desks_resume(&group, &first, &run, BUDGET);
+            do answer = k == 0 ? dezgula_resume(&group, &run, BUDGET) : dezgula_resume_desk(&group, &first, &run, BUDGET);
             while (answer == DEZGULA_PAUSED && now() - all.seconds < limit);
         if (answer != DEZGULA_GENERATORS) all.steps += run.record.steps.count;
         all.found = run.record.found.count;
         all.answer = answer;
         if (answer != DEZGULA_COMPLETE) break;
-        first = dezgula_listed(&group, &run);
+        first = dezgula_listed(&run);
     }
     all.seconds = now() - all.seconds;
     return all;

@@ -1,7 +1,7 @@
 /* Writing and reading the largest file (4,096 rows of 16 numbers), beside memcpy of as many bytes and beside the same in C, in one run.
  *
  *   files REPETITIONS   a table: best time of each, and memcpy's time over it; all must agree first */
-#include "dezgula_files.h"
+#include "dezgula_text.h"
 
 #include <stdbool.h>
 #include <stdio.h>
@@ -14,6 +14,8 @@ enum { P = 8, Q = 16, ROWS = 4096, COEFS = P * Q, NUMBERS = ROWS * Q, STREAM = C
 static int32_t coefs[COEFS], read_coefs[COEFS];
 static uint32_t rows[NUMBERS], read_rows[NUMBERS];
 static uint8_t file[LENGTH], other[LENGTH];
+static const dezgula_system map = {P, Q, coefs, COEFS};
+static const dezgula_list list = {rows, NUMBERS, ROWS};
 
 static void fail(const char *what)
 {
@@ -83,12 +85,15 @@ static bool c_read(void)
 
 static bool library_write(void)
 {
-    return dezgula_raw_write_list(P, Q, coefs, COEFS, rows, NUMBERS, 0, file, LENGTH) == DEZGULA_FILE_WRITTEN;
+    return dezgula_write_list(&map, &list, DEZGULA_FILE_COMPLETE, file, LENGTH) == DEZGULA_LIST_WRITTEN;
 }
 
 static bool library_read(void)
 {
-    return (dezgula_raw_read_list(file, LENGTH, read_coefs, COEFS, read_rows, NUMBERS) & 0xff) == DEZGULA_FILE_READ;
+    dezgula_system read_map;
+    dezgula_list read_list;
+    uint32_t ending;
+    return dezgula_read_list(file, LENGTH, read_coefs, COEFS, read_rows, NUMBERS, &read_map, &read_list, &ending) == DEZGULA_LIST_READ;
 }
 
 static bool copy(void)

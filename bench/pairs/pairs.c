@@ -1,7 +1,7 @@
 /* The method of crate pairs in C, written for speed by the same rules: which pair is next, what drops a sum, which equation follows. It keeps what the library keeps
  * beside the rows (support and value) and tests in the same order, so that the time of the two compares.
  *
- *   pairs < MAP     prints "equations", "unknowns", "pairs", "solutions" and the rows, as the program whole-basis does */
+ *   pairs < MAP     prints "equations", "unknowns", "pairs", "solutions" and the rows, as tests/pairs/whole.c does */
 #include <stdbool.h>
 #include <stdint.h>
 #include <stdio.h>

@@ -1,8 +1,8 @@
-/* The walk of dezgula_sides.h in plain C, to compare with: that of ../baseline.c through the system with one unknown more, placed first with the negated right
- * sides as its column, which is never raised past 1; and with two lists, whose rows leave that unknown out. */
+/* The walk with right sides of dezgula.h in plain C, to compare with: that of ../baseline.c through the system with one unknown more, placed first with the
+ * negated right sides as its column, which is never raised past 1; and with two lists, whose rows leave that unknown out. */
 #include "../baseline.c"
 #include "capped.h"
-#include "dezgula_sides.h"
+#include "raw.h"
 
 /* The coefficients of the system with one unknown more. */
 static void extend(size_t p, size_t q, const int32_t *coefs, const int32_t *rights, int32_t *wide)
@@ -16,9 +16,9 @@ static void extend(size_t p, size_t q, const int32_t *coefs, const int32_t *righ
 static uint64_t check_sides(size_t p, size_t q, size_t coefs_len, size_t rights_len, size_t stack_len)
 {
     if (p < 1 || p > DEZGULA_MOST_EQUATIONS) return DEZGULA_EQUATIONS;
-    if (q < 1 || q > DEZGULA_MOST_SIDED_UNKNOWNS) return DEZGULA_UNKNOWNS;
-    if (coefs_len != p * q || rights_len != p) return DEZGULA_COEFFICIENT_COUNT;
-    if (stack_len < DEZGULA_SIDED_STACK_LENGTH(q)) return DEZGULA_STACK_SHORT;
+    if (q < 1 || q > DEZGULA_MOST_UNKNOWNS_WITH_RIGHTS) return DEZGULA_UNKNOWNS;
+    if (coefs_len != p * q || rights_len != p) return DEZGULA_COUNT;
+    if (stack_len < DEZGULA_RIGHTS_STACK_LENGTH(q)) return DEZGULA_STACK_SHORT;
     return PASS;
 }
 
@@ -40,7 +40,7 @@ uint64_t capped_start(size_t p, size_t q, const int32_t *coefs, size_t coefs_len
     int32_t wide[DEZGULA_MOST_EQUATIONS * MOST];
     extend(p, q, coefs, rights, wide);
     uint64_t answer = baseline_start(p, q + 1, wide, p * (q + 1), stack, stack_len, list, list_len, record, record_len);
-    record[KIND] = DEZGULA_RUN_CAPPED;
+    record[KIND] = DEZGULA_RUN_RIGHTS;
     return answer;
 }
 
@@ -107,7 +107,7 @@ uint64_t capped_resume(size_t p, size_t q, const int32_t *coefs, size_t coefs_le
 {
     uint64_t refusal = check_sides(p, q, coefs_len, rights_len, stack_len);
     if (refusal != PASS) return refusal;
-    if (record_len != DEZGULA_RECORD_LENGTH || record[KIND] != DEZGULA_RUN_CAPPED || record[HEIGHT] > q + 1 || record[FOUND] > list_len / q ||
+    if (record_len != DEZGULA_RECORD_LENGTH || record[KIND] != DEZGULA_RUN_RIGHTS || record[HEIGHT] > q + 1 || record[FOUND] > list_len / q ||
         record[SECOND] > second_len / q || record[STEPS] > DEZGULA_STEP_LIMIT || record[DEEPEST] > DEZGULA_SUM_LIMIT || !capped_rows(q, stack, record[HEIGHT]))
         return DEZGULA_OUT_OF_ORDER;
     refusal = check_ranges(coefs, coefs_len, rights, rights_len);

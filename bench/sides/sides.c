@@ -6,7 +6,7 @@
  * WHO is baseline, native or library; every equation of the map has the right side RIGHT. A run is a start and one continuing call with BUDGET steps. Before
  * anything is timed, all three must agree in answer, record and all tables; and so must the library when it is paused after every 1,000 steps. */
 #include "capped.h"
-#include "dezgula_sides.h"
+#include "raw.h"
 
 #include <inttypes.h>
 #include <stdbool.h>
@@ -15,13 +15,13 @@
 #include <string.h>
 #include <time.h>
 
-enum { STACK = DEZGULA_SIDED_STACK_LENGTH(DEZGULA_MOST_SIDED_UNKNOWNS), LIST = 1 << 20, KINDS = 3, LIBRARY = 2, PAUSE = 1000, WORTH_TIMING = 2000000 };
+enum { STACK = DEZGULA_RIGHTS_STACK_LENGTH(DEZGULA_MOST_UNKNOWNS_WITH_RIGHTS), LIST = 1 << 20, KINDS = 3, LIBRARY = 2, PAUSE = 1000, WORTH_TIMING = 2000000 };
 enum { FOUND = 1, STEPS = 2, SECOND = 4 };
 
 typedef struct {
     const char *name;
     size_t p, q;
-    int32_t coefs[DEZGULA_MOST_EQUATIONS * DEZGULA_MOST_SIDED_UNKNOWNS], rights[DEZGULA_MOST_EQUATIONS];
+    int32_t coefs[DEZGULA_MOST_EQUATIONS * DEZGULA_MOST_UNKNOWNS_WITH_RIGHTS], rights[DEZGULA_MOST_EQUATIONS];
     uint64_t budget;
 } map;
 
@@ -39,7 +39,7 @@ typedef struct {
 static const kind kinds[KINDS] = {
     {"baseline", capped_start, capped_resume},
     {"native", capped_native_start, capped_native_resume},
-    {"library", dezgula_raw_start_capped, dezgula_raw_resume_capped},
+    {"library", dezgula_raw_start_rights, dezgula_raw_resume_rights},
 };
 
 static run runs[KINDS];
@@ -56,7 +56,7 @@ static map read_map(char *const *words)
     if (file == NULL) fail("cannot be read", words[0]);
     const char *base = strrchr(words[0], '/');
     map m = {.name = base == NULL ? words[0] : base + 1, .budget = strtoull(words[2], NULL, 10)};
-    bool good = fscanf(file, "%zu %zu", &m.p, &m.q) == 2 && m.p <= DEZGULA_MOST_EQUATIONS && m.q <= DEZGULA_MOST_SIDED_UNKNOWNS;
+    bool good = fscanf(file, "%zu %zu", &m.p, &m.q) == 2 && m.p <= DEZGULA_MOST_EQUATIONS && m.q <= DEZGULA_MOST_UNKNOWNS_WITH_RIGHTS;
     for (size_t i = 0; good && i < m.p * m.q; i++) good = fscanf(file, "%" SCNd32, &m.coefs[i]) == 1;
     for (size_t i = 0; good && i < m.p; i++) m.rights[i] = atoi(words[1]);
     fclose(file);

@@ -35,13 +35,14 @@ static dezgula_system system_of(const dezgula_share *s)
 
 static dezgula_run run_of(const dezgula_share *s, uint32_t *stacks, uint32_t *lists, dezgula_record record)
 {
-    dezgula_run run = {stacks + s->stack.start, s->stack.size, lists + s->list.start, s->list.size, record};
+    dezgula_run run = {stacks + s->stack.start, s->stack.size, lists + s->list.start, s->list.size, NULL, 0, record};
     return run;
 }
 
 static uint64_t serve(uint64_t turns)
 {
-    return dezgula_dispatch(RUNS, shares, coefs, sizeof coefs / sizeof *coefs, stack, STACK, list, LIST, &round_of_runs, QUANTUM, turns);
+    static const dezgula_tables tables = {coefs, sizeof coefs / sizeof *coefs, stack, STACK, list, LIST};
+    return dezgula_dispatch(shares, RUNS, &tables, &round_of_runs, QUANTUM, turns);
 }
 
 /* One turn: the run that has it is where it is alone, and everything else is as it was. */
@@ -73,6 +74,10 @@ int main(void)
         round_of_runs.runs[i].record = run.record;
     }
     dezgula_round kept = round_of_runs;
+    const dezgula_tables none = {NULL, 9, NULL, 9, NULL, 9};
+    expect(dezgula_dispatch(NULL, RUNS, &none, &round_of_runs, QUANTUM, 1) == DEZGULA_SCHEDULE, "no shares are no runs");
+    expect(dezgula_dispatch(shares, RUNS, &none, &round_of_runs, QUANTUM, 1) == DEZGULA_PARTS, "parts of no table");
+    expect(memcmp(&kept, &round_of_runs, sizeof kept) == 0, "and nothing is changed");
     round_of_runs.last = 9;
     expect(serve(1) == DEZGULA_SCHEDULE, "a kept number above 8 is refused");
     round_of_runs = kept;

@@ -1,6 +1,6 @@
 /* Uses the library as an editor would: solves maps, pauses and goes on, lends a longer list, reads rows, and meets every refusal that a caller can meet.
  * Prints what it did, and exits with 1 at the first surprise. */
-#include "dezgula.h"
+#include "raw.h"
 
 #include <inttypes.h>
 #include <stdbool.h>
@@ -190,7 +190,7 @@ static void meet_shape_refusals(void)
     expect_unchanged("seventeen unknowns", dezgula_resume(&m, &t.run, 1), DEZGULA_UNKNOWNS, &before, &t);
     m = example;
     m.coefs_len = 7;
-    expect_unchanged("a coefficient missing", dezgula_start(&m, &t.run), DEZGULA_COEFFICIENT_COUNT, &before, &t);
+    expect_unchanged("a coefficient missing", dezgula_start(&m, &t.run), DEZGULA_COUNT, &before, &t);
     t.run.stack_len = 19;
     expect_unchanged("a stack one number short", dezgula_start(&example, &t.run), DEZGULA_STACK_SHORT, &before, &t);
     t.run.stack_len = STACK;
@@ -207,15 +207,16 @@ static void lend_nothing(void)
     lend(&t, LIST);
     const tables before = t;
     dezgula_system m = {2, 4, NULL, 0};
-    expect_unchanged("no coefficients", dezgula_start(&m, &t.run), DEZGULA_COEFFICIENT_COUNT, &before, &t);
+    expect_unchanged("no coefficients", dezgula_start(&m, &t.run), DEZGULA_COUNT, &before, &t);
     m.coefs_len = 8;
-    expect_unchanged("eight coefficients at NULL", dezgula_start(&m, &t.run), DEZGULA_COEFFICIENT_COUNT, &before, &t);
+    expect_unchanged("eight coefficients at NULL", dezgula_start(&m, &t.run), DEZGULA_COUNT, &before, &t);
     t.run.stack = NULL;
     expect_unchanged("no stack", dezgula_start(&example, &t.run), DEZGULA_STACK_SHORT, &before, &t);
     t.run.stack = t.stack;
     t.run.list = NULL;
     expect_start(&example, &t);
     expect(dezgula_resume(&example, &t.run, 1000) == DEZGULA_LIST_FULL, "no list has no room for a row");
+    expect(dezgula_full_list(&example, &t.run) == DEZGULA_LIST, "and is the one that is full");
     expect(t.run.record.found.count == 0, "nothing is listed");
     expect(dezgula_row(&example, &t.run, 1, NULL, 0) == DEZGULA_NO_ROW, "and shows none");
     t.run.list = t.list;
@@ -352,17 +353,24 @@ static void read_rows(void)
     printf("the reader: rows 1 and 2, and no other\n");
 }
 
+/* Every number of every call has a sentence of its own, and no other has one. */
+static bool is_given(unsigned number)
+{
+    return number != 13 && (number <= 34 || (number >= 100 && number <= 104) || (number >= 106 && number <= 108) || number == 110 ||
+                            (number >= 120 && number <= 127) || (number >= 130 && number <= 132));
+}
+
 static void say_sentences(void)
 {
-    static const unsigned numbers[] = {0, 1, 2, 3, 4, 5, 6, 7, 8, 11, 12, 14, 26, 29, 30, 100, 101, 102, 103, 104};
-    const char *other = dezgula_sentence(99);
-    expect(strcmp(dezgula_sentence(13), other) == 0, "13 is retired");
-    for (size_t i = 0; i < sizeof numbers / sizeof *numbers; i++) {
-        const char *sentence = dezgula_sentence((uint64_t)3 << 8 | numbers[i]);
-        expect(strcmp(sentence, other) != 0 && sentence[strlen(sentence) - 1] == '.', "each answer has a sentence, with any place");
-        for (size_t k = 0; k < i; k++) expect(strcmp(sentence, dezgula_sentence(numbers[k])) != 0, "of its own");
-        printf("%u: %s\n", numbers[i], sentence);
+    const char *other = dezgula_sentence(13);
+    for (unsigned n = 0; n < 256; n++) {
+        const char *sentence = dezgula_sentence((uint64_t)3 << 8 | n);
+        expect(sentence != NULL && sentence[strlen(sentence) - 1] == '.', "each number has a sentence, with any place");
+        expect((strcmp(sentence, other) != 0) == is_given(n), "and those that are given have one of their own");
+        for (unsigned k = 0; is_given(n) && k < n; k++) expect(strcmp(sentence, dezgula_sentence(k)) != 0, "that no other has");
+        if (is_given(n)) printf("%u: %s\n", n, sentence);
     }
+    expect(strcmp(dezgula_version(), DEZGULA_VERSION) == 0, "library and header are of one version");
 }
 
 /* Activity 1 moves from tray 3 to tray 1, activity 2 from 2 to 3, activity 3 from 1 to 2. */
@@ -372,21 +380,24 @@ static const dezgula_system ring = {3, 3, in_a_ring, 9};
 static void list_single_file_maps(void)
 {
     tables t, before;
-    uint8_t out[24];
+    char out[24];
     static const char line[] = "1 2 3 order 1 3 2\n";
     lend(&t, LIST);
     expect(dezgula_start_single_file(&ring, &t.run) == DEZGULA_STARTED, "it starts");
     expect(dezgula_resume_single_file(&ring, &t.run, 1000) == DEZGULA_COMPLETE, "a ring is solved");
-    memset(out, 0xa5, sizeof out);
-    uint64_t answer = dezgula_listing(&ring, &t.run, out, sizeof out);
-    printf("the listing of a ring: %.*s", (int)dezgula_place(answer), (const char *)out);
-    expect(dezgula_number(answer) == DEZGULA_WRITTEN && dezgula_place(answer) == strlen(line), "it is written");
-    expect(memcmp(out, line, strlen(line)) == 0 && out[strlen(line)] == 0xa5, "one line, and what stood past it stays");
+    memset(out, '#', sizeof out);
+    dezgula_list rows = dezgula_listed(&t.run);
+    uint64_t answer = dezgula_listing(&ring, &rows, out, sizeof out);
+    printf("the listing of a ring: %.*s", (int)dezgula_place(answer), out);
+    expect(dezgula_number(answer) == DEZGULA_LISTING_WRITTEN && dezgula_place(answer) == strlen(line), "it is written");
+    expect(memcmp(out, line, strlen(line)) == 0 && out[strlen(line)] == '#', "one line, and what stood past it stays");
 
-    expect(dezgula_listing(&ring, &t.run, out, strlen(line) - 1) == DEZGULA_OUTPUT_SHORT, "one byte less is too short");
+    expect(dezgula_listing(&ring, &rows, out, strlen(line) - 1) == DEZGULA_OUTPUT_SHORT, "one byte less is too short");
     t.list[0] = 2;
-    expect(dezgula_listing(&ring, &t.run, out, sizeof out) == (DEZGULA_NOT_MINIMAL | 1u << 8), "row 1 is no minimal solution");
-    expect(dezgula_listing(&equal, &t.run, out, sizeof out) == (DEZGULA_COLUMN | 1u << 8), "one equation has no such column");
+    expect(dezgula_listing(&ring, &rows, out, sizeof out) == (DEZGULA_NOT_MINIMAL | 1u << 8), "row 1 is no minimal solution");
+    expect(dezgula_listing(&equal, &rows, out, sizeof out) == (DEZGULA_COLUMN | 1u << 8), "one equation has no such column");
+    rows.found = LIST / 3 + 1;
+    expect(dezgula_listing(&ring, &rows, out, sizeof out) == DEZGULA_OUT_OF_ORDER, "more rows than there is room for");
     lend(&t, LIST);
     before = t;
     expect_unchanged("a start on another map", dezgula_start_single_file(&example, &t.run), DEZGULA_COLUMN | 1u << 8, &before, &t);

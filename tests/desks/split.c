@@ -1,6 +1,6 @@
 /* Drawn small maps, loaded as a whole and built desk by desk, split at every equation and into single equations, and tried against every tuple of a box:
  * split [COUNT] [SEED]. Exits with 1 at the first difference. */
-#include "dezgula_desks.h"
+#include "dezgula.h"
 
 #include <inttypes.h>
 #include <stdbool.h>
@@ -45,20 +45,20 @@ static void gather(const dezgula_system *m, const dezgula_run *run, basis *into)
     qsort(into->rows, into->count, sizeof *into->rows, by_components);
 }
 
-static uint32_t stack[DEZGULA_DESKS_STACK_LENGTH(MOST_Q, ROWS)], list[2][ROWS * MOST_Q];
+static uint32_t stack[DEZGULA_DESK_STACK_LENGTH(MOST_Q, ROWS)], list[2][ROWS * MOST_Q];
 
 /* The list of the equations from `from` to `to`, from the rows in the other list where there are generators; whether there is one. */
-static bool solve(const dezgula_system *m, size_t from, size_t to, const dezgula_generators *first, int own, dezgula_run *run)
+static bool solve(const dezgula_system *m, size_t from, size_t to, const dezgula_list *first, int own, dezgula_run *run)
 {
     dezgula_system group = {to - from, m->q, m->coefs + from * m->q, (to - from) * m->q};
-    dezgula_run lent = {stack, sizeof stack / sizeof *stack, list[own], sizeof list[own] / sizeof **list, {0}};
-    uint64_t answer = first == NULL ? dezgula_start(&group, &lent) : dezgula_desks_start(&group, first, &lent);
+    dezgula_run lent = {stack, sizeof stack / sizeof *stack, list[own], sizeof list[own] / sizeof **list, NULL, 0, {0}};
+    uint64_t answer = first == NULL ? dezgula_start(&group, &lent) : dezgula_start_desk(&group, first, &lent);
     if (answer == DEZGULA_GENERATORS) return false;
     if (answer != DEZGULA_STARTED) wrong(m, "a start that is refused");
     /* some calls pause, so that a run goes on from what it left */
     do {
         uint64_t budget = (uint64_t)between(0, 50);
-        answer = first == NULL ? dezgula_resume(&group, &lent, budget) : dezgula_desks_resume(&group, first, &lent, budget);
+        answer = first == NULL ? dezgula_resume(&group, &lent, budget) : dezgula_resume_desk(&group, first, &lent, budget);
     } while (answer == DEZGULA_PAUSED);
     if (answer != DEZGULA_COMPLETE) wrong(m, "a run that is refused");
     *run = lent;
@@ -71,11 +71,11 @@ static bool built(const dezgula_system *m, unsigned cuts, basis *into)
     dezgula_run run = {0};
     int own = 0;
     size_t from = 0;
-    dezgula_generators first = {NULL, 0};
+    dezgula_list first = {NULL, 0, 0};
     for (size_t to = 1; to <= m->p; to++) {
         if (to < m->p && !(cuts >> to & 1)) continue;
         if (!solve(m, from, to, from == 0 ? NULL : &first, own, &run)) return false;
-        first = dezgula_listed(m, &run);
+        first = dezgula_listed(&run);
         own = 1 - own;
         from = to;
     }

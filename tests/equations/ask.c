@@ -2,7 +2,7 @@
  *   equation Q ENTRIES TEXT WORDS..     refused NUMBER PLACE, or read RIGHT and the coefficients
  *   system Q TEXT WORDS..               refused NUMBER LINE PLACE, or read P, the coefficients and the right sides
  * with TEXT in hexadecimal digits, or "-" where it is empty. */
-#include "dezgula_equations.h"
+#include "dezgula_text.h"
 
 #include <stdio.h>
 #include <stdlib.h>
@@ -12,7 +12,7 @@
 #define UNTOUCHED 0x5a5a5a5a
 
 static char line[4 * MOST], kind[16], hex[2 * MOST + 2], said[16];
-static uint8_t text[MOST];
+static char text[MOST];
 static int32_t coefs[160], rights[10];
 static unsigned long answers[256], lines;
 
@@ -27,7 +27,7 @@ static size_t decoded(void)
     size_t n = 0;
     unsigned byte;
     if (hex[0] == '-') return 0;
-    while (sscanf(hex + 2 * n, "%2x", &byte) == 1) text[n++] = (uint8_t)byte;
+    while (sscanf(hex + 2 * n, "%2x", &byte) == 1) text[n++] = (char)byte;
     return n;
 }
 
@@ -55,38 +55,41 @@ static void numbers(char **at, const int32_t *table, size_t n)
 
 static void equation(size_t q, size_t entries, size_t length, int is_read, char *at)
 {
-    uint64_t answer = dezgula_raw_read_equation(text, length, q, coefs, entries);
-    answers[dezgula_equation_number(answer)]++;
+    int32_t right = UNTOUCHED, right_again = UNTOUCHED;
+    uint64_t answer = dezgula_read_equation(text, length, q, coefs, entries, &right);
+    answers[dezgula_number(answer)]++;
     if (is_read) {
-        if (dezgula_equation_number(answer) != DEZGULA_EQUATION_READ || dezgula_equation_right(answer) != word(&at)) surprise("another answer was expected");
+        if (answer != DEZGULA_EQUATION_READ || right != word(&at)) surprise("another answer was expected");
         numbers(&at, coefs, q);
         untouched(coefs, q, 160);
-        uint8_t out[DEZGULA_EQUATION_WRITTEN_MOST];
+        char out[DEZGULA_MOST_EQUATION_WRITTEN];
         int32_t again[16];
-        uint64_t wrote = dezgula_raw_write_equation(q, coefs, q, dezgula_equation_right(answer), out, sizeof out);
-        if (dezgula_equation_number(wrote) != DEZGULA_EQUATION_WRITTEN) surprise("what was read is not written");
-        if (dezgula_raw_read_equation(out, dezgula_equation_place(wrote), q, again, q) != answer || memcmp(again, coefs, 4 * q))
+        uint64_t wrote = dezgula_write_equation(q, coefs, q, right, out, sizeof out);
+        if (dezgula_number(wrote) != DEZGULA_EQUATION_WRITTEN) surprise("what was read is not written");
+        if (dezgula_read_equation(out, dezgula_place(wrote), q, again, q, &right_again) != answer || right_again != right || memcmp(again, coefs, 4 * q))
             surprise("what was written is not read again");
     } else {
-        if ((long)dezgula_equation_number(answer) != word(&at) || (long)dezgula_equation_place(answer) != word(&at)) surprise("another refusal was expected");
+        if (dezgula_number(answer) != word(&at) || (long)dezgula_place(answer) != word(&at)) surprise("another refusal was expected");
         untouched(coefs, 0, 160);
+        untouched(&right, 0, 1);
     }
 }
 
 static void system_of(size_t q, size_t length, int is_read, char *at)
 {
-    uint64_t answer = dezgula_raw_read_system(text, length, q, coefs, 128, rights, 8);
-    answers[dezgula_equation_number(answer)]++;
+    dezgula_system system = {0, 0, NULL, 0};
+    uint64_t within = 0, answer = dezgula_read_system(text, length, q, coefs, 128, rights, 8, &system, &within);
+    answers[dezgula_number(answer)]++;
     if (is_read) {
-        size_t p = dezgula_system_equations(answer);
-        if (dezgula_equation_number(answer) != DEZGULA_SYSTEM_READ || (long)p != word(&at)) surprise("another answer was expected");
+        size_t p = dezgula_place(answer);
+        if (dezgula_number(answer) != DEZGULA_SYSTEM_READ || (long)p != word(&at)) surprise("another answer was expected");
+        if (system.p != p || system.q != q || system.coefs != coefs || system.coefs_len != p * q) surprise("another system was expected");
         numbers(&at, coefs, p * q);
         numbers(&at, rights, p);
         untouched(coefs, p * q, 160);
         untouched(rights, p, 10);
     } else {
-        if ((long)dezgula_equation_number(answer) != word(&at) || (long)dezgula_system_line(answer) != word(&at) ||
-            (long)dezgula_system_place(answer) != word(&at))
+        if (dezgula_number(answer) != word(&at) || (long)dezgula_place(answer) != word(&at) || (long)within != word(&at))
             surprise("another refusal was expected");
         untouched(coefs, 0, 160);
         untouched(rights, 0, 10);

@@ -27,23 +27,23 @@ int main(void)
     for (int64_t p; (p = word()) != INT64_MIN; questions++) {
         dezgula_system system = {.p = (size_t)p, .q = (size_t)word(), .coefs = (const int32_t *)coefs};
         system.coefs_len = words(coefs);
-        dezgula_run run = {.list = list};
-        run.list_len = words(list);
-        run.record.found.count = (uint64_t)word();
+        dezgula_list rows = {.rows = list};
+        rows.rows_len = words(list);
+        rows.found = (size_t)word();
         size_t length = words(tuple);
         size_t times_len = words(times);
-        uint64_t number = (uint64_t)word();
-        size_t place = (size_t)word();
-        uint64_t located = (uint64_t)word(), told = (uint64_t)word();
-        int64_t amount = word();
+        uint64_t reason = (uint64_t)word(), located = (uint64_t)word(), told = (uint64_t)word();
+        int64_t amount = word(), off = 9, by = 9;
         for (size_t i = 0; i < times_len; i++) after[i] = (uint32_t)word();
-        dezgula_why why = dezgula_reason(&system, &run, tuple, length), made = dezgula_decompose(&system, &run, tuple, length, times, times_len);
-        int same = why.number == number && why.place == place && why.amount == amount && dezgula_locate(&system, &run, tuple, length) == located;
-        if (!same || made.number != told || memcmp(times, after, times_len * sizeof *times) != 0) {
-            fprintf(stderr, "question %zu differs: %" PRIu64 " %zu %" PRId64 ", %" PRIu64 "\n", questions + 1, why.number, why.place, why.amount, made.number);
+        uint64_t why = dezgula_reason(&system, &rows, tuple, length, &off), made = dezgula_decompose(&system, &rows, tuple, length, times, times_len, &by);
+        int same = why == reason && off == amount && dezgula_locate(&system, &rows, tuple, length) == located && made == told && by == amount;
+        if (!same || memcmp(times, after, times_len * sizeof *times) != 0) {
+            fprintf(stderr, "question %zu differs: %" PRIu64 " %" PRId64 ", %" PRIu64 "\n", questions + 1, why, off, made);
             return 1;
         }
-        seen[number]++;
+        if (dezgula_reason(&system, &rows, tuple, length, NULL) != why) return 1;
+        seen[dezgula_number(why)]++;
+        seen[dezgula_number(located)]++;
         if (told == DEZGULA_MADE) seen[told]++;
     }
     printf("%zu questions agree:", questions);

@@ -1,5 +1,6 @@
 """Questions about a list, with the answers that documents 01 and 02 give, read anew here: some drawn, the others every tuple of small boxes. The first argument says how
-they are written: `words` as tests/questions/ask.c reads them, `lines` as crates/try_questions does, and `count` says how many there are."""
+they are written: `words` as tests/questions/ask.c reads them, `lines` as crates/try_questions does, and `count` says how many there are. An answer is a number
+and 256 times its place; where no amount is told, the number lent for it keeps the 9 that it held."""
 import itertools
 import random
 import sys
@@ -17,7 +18,7 @@ def locate(q, table, found, t):
     if found > len(table) // q:
         return 6
     places = [n + 1 for n in range(found) if at_or_below(table[n * q:n * q + q], t)]
-    return 255 + places[-1] if places else 0
+    return 126 + 256 * places[-1] if places else 127
 
 
 def reason(p, q, coefs, table, found, t):
@@ -52,9 +53,9 @@ def reason(p, q, coefs, table, found, t):
 
 def parts(p, q, coefs, table, found, t, times):
     """The answer and the table of multiples: each row is taken off as often as it goes, the last first; one of zeros never goes."""
-    number = reason(p, q, coefs, table, found, t)[0]
+    number, place, _ = reason(p, q, coefs, table, found, t)
     if number < 120 or number == 121:
-        return number, times
+        return number + 256 * place, times
     if len(times) < found:
         return 29, times
     rest, after = list(t), list(times)
@@ -114,7 +115,8 @@ def questions(drawn_ones, boxes, wide):
         times = [9] * max(0, found + r.choice([0, 0, 0, 1, -1]))
         number, place, amount = reason(p, q, coefs, table, found, t)
         told, after = parts(p, q, coefs, table, found, t, times)
-        yield p, q, coefs, table, found, t, times, (number, place, locate(q, table, found, t), told), amount, after
+        held = amount if number == 121 else 9
+        yield p, q, coefs, table, found, t, times, (number + 256 * place, locate(q, table, found, t), told), held, after
 
 
 def main():

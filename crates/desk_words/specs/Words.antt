@@ -1,4 +1,4 @@
--- The calls of the second of two desks as callers in other languages have them (include/dezgula_desks.h): the run record as words, those of every kind of run
+-- The calls of the second of two desks as callers in other languages have them (library/raw.h): the run record as words, those of every kind of run
 -- (`Words` of record_words), and the answer as one number, 25 among them (`Codes` there). Assumes nothing.
 use Prim.Native.Nat.{ℕ}
 use mathlib.Core.List.{List}

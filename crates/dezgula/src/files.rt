@@ -1,4 +1,4 @@
-// Files of lists (document 02, Job 5); include/dezgula_files.h says the same to C and Rust.
+// Files of lists (document 02, Job 5); library/raw.h says the same to C.
 ghost use mathlib.Core.Path.{_≡_};
 ghost use Rattle.list_form.specs.Writing.{writeList};
 ghost use Rattle.list_form.specs.Reading.{readFile};
@@ -20,10 +20,16 @@ pub extern "C" fn dezgula_raw_write_list(
     list_codes::write_list(p, q, coefs, rows, ending, out)
 }
 
-// Reads a file: the coefficients go to the beginning of `coefs`, the rows to the beginning of `list`.
+// Reads a file: the coefficients go to the beginning of `coefs`, the rows to the beginning of `list`, and p, q, the row count and the ending to `words`.
 #[no_mangle]
-pub extern "C" fn dezgula_raw_read_list(file: &[u8], coefs: &mut [i32], list: &mut [u32]) -> u64
-    ensures { λ a. ⌜ (a, now (coefs .exit), now (list .exit)) ≡ readTold (readFile (now (file .entry)) (now (coefs .entry)) (now (list .entry))) ⌝ }
+pub extern "C" fn dezgula_raw_read_list(
+    file: &[u8],
+    coefs: &mut [i32],
+    list: &mut [u32],
+    words: &mut [u64; 4],
+) -> u64
+    ensures { λ a. ⌜ (a, (now (coefs .exit), (now (list .exit), now (words .exit)))) ≡
+        readTold (readFile (now (file .entry)) (now (coefs .entry)) (now (list .entry))) (now (words .entry)) ⌝ }
 {
-    list_codes::read_list(file, coefs, list)
+    list_codes::read_list(file, coefs, list, words)
 }

@@ -1,5 +1,6 @@
-// The solver as C and Rust call it; include/dezgula.h says the same to them. Each function forwards to a crate that holds its logic. The run record comes as
-// words (record_words/specs/Words.antt), and an answer goes out as one number (record_words/specs/Codes.antt).
+// The solver as other languages call it: library/raw.h says the same to C, and library/dezgula.c has the calls of include/ over it. Each function forwards to a
+// crate that holds its logic. The run record comes as words (record_words/specs/Words.antt), and an answer goes out as one
+// number (answer_codes/specs/Codes.antt, record_words/specs/Codes.antt).
 ghost use mathlib.Core.Path.{_≡_};
 ghost use Rattle.definitions.specs.Highest.{locate};
 ghost use Rattle.definitions.specs.Input.{inputOf};
@@ -8,7 +9,7 @@ ghost use Rattle.desk_calls.specs.Calls.{deskOf};
 ghost use Rattle.desk_words.specs.Words.{deskResumeWords, deskStartWords};
 ghost use Rattle.dispatch_words.specs.Words.{dispatchWords};
 ghost use Rattle.lookups.specs.Answers.{locatedNumber};
-ghost use Rattle.reasons.specs.Numbers.{reasonAmount, reasonNumber, reasonPlace};
+ghost use Rattle.reasons.specs.Numbers.{reasonTold};
 ghost use Rattle.record_words.specs.Words.{told, startWords, resumeWords};
 ghost use Rattle.row_words.specs.Rows.{rowTold};
 ghost use Rattle.map_words.specs.Words.{readWords};
@@ -19,10 +20,10 @@ ghost use Rattle.multiples.specs.Answers.{partsTold};
 ghost use Rattle.single_file.specs.Listing.{listingCall};
 ghost use Rattle.single_words.specs.SingleFile.{singleStartWords, singleResumeWords, listingTold};
 
-mod capped; // capped.rt: maps with right sides
 mod equations; // equations.rt: typed equations
 mod files; // files.rt: lists as files
 mod lower; // lower.rt: runs from a lower bound
+mod rights; // rights.rt: maps with right sides
 mod training; // training.rt: the training seat
 
 // The plain start.
@@ -146,7 +147,7 @@ pub extern "C" fn dezgula_raw_locate(list: &[u32], q: usize, found: usize, tuple
     lookups::locate_number(list, q, found, tuple)
 }
 
-// Why a tuple is not in the list: the number of the reason.
+// Why a tuple is not in the list: the reason with its place. By how much an equation is off goes to `amount`.
 #[no_mangle]
 pub extern "C" fn dezgula_raw_reason(
     p: usize,
@@ -155,43 +156,15 @@ pub extern "C" fn dezgula_raw_reason(
     list: &[u32],
     found: usize,
     tuple: &[u32],
+    amount: &mut [i64; 1],
 ) -> u64
-    ensures { λ a. ⌜ a ≡ reasonNumber (reason (inputOf p q (now (coefs .entry))) (now (list .entry)) found (now (tuple .entry))) ⌝ }
+    ensures { λ a. ⌜ (a, now (amount .exit)) ≡
+        reasonTold (reason (inputOf p q (now (coefs .entry))) (now (list .entry)) found (now (tuple .entry))) (now (amount .entry)) ⌝ }
 {
-    reasons::told::number(p, q, coefs, list, found, tuple)
+    reasons::told::reason(p, q, coefs, list, found, tuple, amount)
 }
 
-// The equation or the place that the reason comes with.
-#[no_mangle]
-pub extern "C" fn dezgula_raw_reason_place(
-    p: usize,
-    q: usize,
-    coefs: &[i32],
-    list: &[u32],
-    found: usize,
-    tuple: &[u32],
-) -> usize
-    ensures { λ a. ⌜ a ≡ reasonPlace (reason (inputOf p q (now (coefs .entry))) (now (list .entry)) found (now (tuple .entry))) ⌝ }
-{
-    reasons::told::place(p, q, coefs, list, found, tuple)
-}
-
-// By how much the equation is off.
-#[no_mangle]
-pub extern "C" fn dezgula_raw_reason_amount(
-    p: usize,
-    q: usize,
-    coefs: &[i32],
-    list: &[u32],
-    found: usize,
-    tuple: &[u32],
-) -> i64
-    ensures { λ a. ⌜ a ≡ reasonAmount (reason (inputOf p q (now (coefs .entry))) (now (list .entry)) found (now (tuple .entry))) ⌝ }
-{
-    reasons::told::amount(p, q, coefs, list, found, tuple)
-}
-
-// What a solution is made of: how often each row is taken goes to `times`.
+// What a solution is made of: how often each row is taken goes to `times`, and by how much an equation is off to `amount`.
 #[no_mangle]
 pub extern "C" fn dezgula_raw_decompose(
     p: usize,
@@ -201,11 +174,13 @@ pub extern "C" fn dezgula_raw_decompose(
     found: usize,
     tuple: &[u32],
     times: &mut [u32],
+    amount: &mut [i64; 1],
 ) -> u64
-    ensures { λ a. ⌜ (a, now (times .exit)) ≡
-        partsTold (decomposed (inputOf p q (now (coefs .entry))) (now (list .entry)) found (now (tuple .entry)) (now (times .entry))) ⌝ }
+    ensures { λ a. ⌜ (a, (now (times .exit), now (amount .exit))) ≡
+        partsTold (decomposed (inputOf p q (now (coefs .entry))) (now (list .entry)) found (now (tuple .entry)) (now (times .entry)))
+        (now (amount .entry)) ⌝ }
 {
-    multiples::decompose_number(p, q, coefs, list, found, tuple, times)
+    multiples::decompose_number(p, q, coefs, list, found, tuple, times, amount)
 }
 
 // ---- the basis by sums of pairs (crate pair_words)
@@ -253,7 +228,7 @@ pub extern "C" fn dezgula_raw_pairs_resume(
 
 // The start of the second of two desks.
 #[no_mangle]
-pub extern "C" fn dezgula_raw_desks_start(
+pub extern "C" fn dezgula_raw_start_desk(
     p: usize,
     q: usize,
     coefs: &[i32],
@@ -271,7 +246,7 @@ pub extern "C" fn dezgula_raw_desks_start(
 
 // The continuing call.
 #[no_mangle]
-pub extern "C" fn dezgula_raw_desks_resume(
+pub extern "C" fn dezgula_raw_resume_desk(
     p: usize,
     q: usize,
     coefs: &[i32],

@@ -1,4 +1,4 @@
-// Runs from a lower bound; include/dezgula_lower.h says the same to C and Rust.
+// Runs from a lower bound; library/raw.h says the same to C.
 ghost use mathlib.Core.Path.{_≡_};
 ghost use Rattle.definitions.specs.Input.{inputOf};
 ghost use Rattle.record_words.specs.Words.{toldBoth};

@@ -1,4 +1,4 @@
-// The training seat; include/dezgula_training.h says the same to C and Rust.
+// The training seat; library/raw.h says the same to C.
 ghost use mathlib.Core.Path.{_≡_};
 ghost use Rattle.record_words.specs.Words.{told, toldBoth};
 ghost use Rattle.training_form.specs.Training.{seatInput};

@@ -1,20 +1,18 @@
 -- A number of 64 bits holds each answer: places are bounded by the length of a text that is not too long, or by the number of unknowns; right sides are in
 -- range; a written row is short. Assumes nothing.
-use Prim.Native.Nat.{ℕ, suc, _+_, _*_, _^_, _≤_, _<_}
+use Prim.Native.Nat.{ℕ, _+_, _*_, _^_, _≤_, _<_}
 use mathlib.Core.List.{List}
 use mathlib.Core.Logic.{_≢_, inl, inr}
 use mathlib.Core.Path.{_≡_, refl, ap}
 use native.Mathlib.Decide.{ℕ-discrete}
 use native.Mathlib.Omega.{arith}
-use lib.Dec.{T}
-use lib.IntN.{ℤ, pos, negsuc, natAbs, _+ℤ_}
-use lib.ListN.{length}
-use lib.Signed.{nonNeg}
+use lib.IntN.{ℤ, natAbs}
+use lib.ListN.{length, set}
+use mir.Facts.{toZ-ofZ}
 use mir.Syntax.{w32}
-use mir.Val.{SFits}
-use borrow.Author.Tests.{le-ltb}
+use mir.Val.{ofZ, toZ}
 use Rattle.linear.specs.Cases.{split}
-use Rattle.linear.specs.Integers.{natAbs-+ℤ, sfits-natAbs}
+use Rattle.linear.specs.Integers.{sfits-natAbs}
 use Rattle.definitions.specs.Answers.{Check, refuse, go}
 use Rattle.laws.specs.CheckLaws.{Rules, _▹_, end, placed, rule, FirstDue}
 use Rattle.laws.specs.RefusalLaws.{Outside}
@@ -35,7 +33,7 @@ use Rattle.equation_text.specs.declared.equation.EquationRefusal.{EquationRefus
 use Rattle.equation_write.specs.Answer.{wroteBy}
 use Rattle.equation_write.specs.declared.EquationWritten.{EquationWritten}
 use Rattle.equation_write.specs.declared.EquationWritten.the-variants as wrote
-use Rattle.equation_codes.specs.Codes.{refusalCode, sideCode, readTold, writeTold}
+use Rattle.equation_codes.specs.Codes.{refusalCode, readTold, writeTold}
 
 -- ---- refusals by rules
 
@@ -92,13 +90,14 @@ module _ (q : ℕ) (t : List ℕ) (row : List ℤ) (r : EquationRead) (after : L
   pub read-side-small : {right : ℤ} → r ≡ read.Equation right → natAbs right ≤ 10000
   read-side-small {right} g = side-small q (length row) t row {right = right} {left = after} (rw g at e)
 
-  pub read-refused-told : {why : EquationRefusal} {a : ℕ} → r ≡ read.Refused why → a ≡ refusalCode (numberOf why) (valuesOf why)
-      → (a, after) ≡ readTold (answered (outcome q (length row) t) row)
-  read-refused-told g d = rw (← e, g, d)
+  pub read-refused-told : (side : List ℤ) {why : EquationRefusal} {a : ℕ} → r ≡ read.Refused why → a ≡ refusalCode (numberOf why) (valuesOf why)
+      → (a, (after, side)) ≡ readTold (answered (outcome q (length row) t) row) side
+  read-refused-told side g d = rw (← e, g, d)
 
-  pub read-told : {right : ℤ} {a : ℕ} → r ≡ read.Equation right → a ≡ 130 + 256 * sideCode right
-      → (a, after) ≡ readTold (answered (outcome q (length row) t) row)
-  read-told g d = rw (← e, g, d)
+  -- a right side that was read fits 32 bits
+  pub read-told : (side : List ℤ) {right : ℤ} → r ≡ read.Equation right
+      → (130, (after, set side 0 (toZ w32 (ofZ w32 right)))) ≡ readTold (answered (outcome q (length row) t) row) side
+  read-told side {right} g = rw (toZ-ofZ {w = w32} {z = right} (sfits-natAbs (omega (arith, read-side-small g))), ← e, g)
 
 -- ---- the writer
 
@@ -154,16 +153,3 @@ module _ (q : ℕ) (row : List ℤ) (right : ℤ) (out : List ℕ) (r : Equation
 
   pub space-told : r ≡ wrote.Space → (29, after) ≡ writeTold (write q row right out)
   space-told g = rw (← e, g)
-
--- ---- a right side as a number
-
-module _ (right : ℤ) (l : natAbs right ≤ 10000) where
-  pub side-fits : SFits w32 (right +ℤ pos 10000)
-  side-fits = sfits-natAbs (omega (arith, natAbs-+ℤ right (pos 10000)))
-
-  pub side-most : sideCode right ≤ 20000
-  side-most = omega (arith, natAbs-+ℤ right (pos 10000))
-
-pub side-natural : (right : ℤ) → natAbs right ≤ 10000 → T (nonNeg (right +ℤ pos 10000))
-side-natural (pos n) l = tt
-side-natural (negsuc n) l = rw (le-ltb 10000 (suc n) l) tt

@@ -1,7 +1,8 @@
--- The answers of the calls on typed equations as one number, for callers in other languages (include/dezgula_equations.h). Assumes nothing.
+-- The answers of the calls on typed equations as one number, for callers in other languages (include/dezgula_text.h). Assumes nothing.
 use Prim.Native.Nat.{ℕ, _+_, _*_}
 use mathlib.Core.List.{List, [], _∷_}
-use lib.IntN.{ℤ, pos, natAbs, _+ℤ_}
+use lib.IntN.{ℤ}
+use lib.ListN.{set}
 use Rattle.calls.specs.Paper.{value}
 use Rattle.equation_form.specs.Writing as writing
 use Rattle.equation_lines.specs.Systems as systems
@@ -11,14 +12,10 @@ use Rattle.equation_text.specs.Answer as reading
 abbrev pub refusalCode : ℕ → List ℕ → ℕ
 refusalCode n values = n + 256 * value values
 
--- a right side from −10,000 to 10,000 as a number from 0 on
-abbrev pub sideCode : ℤ → ℕ
-sideCode right = natAbs (right +ℤ pos 10000)
-
--- what a call answers, as a number, and what it leaves in what it was lent: 130 with the right side
-abbrev pub readTold : reading.Answer → ℕ × List ℤ
-readTold (reading.read right row) = (130 + 256 * sideCode right, row)
-readTold (reading.refused n values row) = (refusalCode n values, row)
+-- what a call answers, as a number, and what it leaves in what it was lent: 130, and the right side in the number lent for it
+abbrev pub readTold : reading.Answer → List ℤ → ℕ × (List ℤ × List ℤ)
+readTold (reading.read right row) side = (130, (row, set side 0 right))
+readTold (reading.refused n values row) side = (refusalCode n values, (row, side))
 
 -- 131 with how many bytes were written
 abbrev pub writeTold : writing.Wrote → ℕ × List ℕ
@@ -32,11 +29,7 @@ abbrev pub second : List ℕ → ℕ
 second [] = 0
 second (x ∷ others) = value others
 
--- the papers' number in the low 8 bits, the line in the 8 above them, and the value of the line's own refusal above those
-abbrev pub lineCode : ℕ → List ℕ → ℕ
-lineCode n values = n + 256 * (value values + 256 * second values)
-
--- 132 with the number of equations
-abbrev pub systemTold : systems.Answer → ℕ × List ℤ × List ℤ
-systemTold (systems.read p coefs rights) = (132 + 256 * p, coefs, rights)
-systemTold (systems.refused n values coefs rights) = (lineCode n values, coefs, rights)
+-- 132 with the number of equations; or a refusal with its line, and the value of the line's own refusal in the number lent for it
+abbrev pub systemTold : systems.Answer → List ℕ → ℕ × (List ℤ × (List ℤ × List ℕ))
+systemTold (systems.read p coefs rights) within = (132 + 256 * p, (coefs, (rights, within)))
+systemTold (systems.refused n values coefs rights) within = (refusalCode n values, (coefs, (rights, set within 0 (second values))))

@@ -6,6 +6,7 @@ use mathlib.Core.Logic.{inl, inr}
 use mathlib.Core.Path.{_≡_, refl}
 use native.Mathlib.Omega.{arith}
 use lib.IntN.{ℤ}
+use lib.ListN.{set}
 use Rattle.linear.specs.Cases.{split}
 use Rattle.definitions.specs.Answers.{Check, refuse, go, refuseWith}
 use Rattle.laws.specs.CheckLaws.{AllSilent, FirstDue}
@@ -19,12 +20,12 @@ use Rattle.equation_systems.specs.Answer.{answerOf, numberOf, valuesOf}
 use Rattle.equation_systems.specs.declared.SystemRead.{SystemRead}
 use Rattle.equation_systems.specs.declared.SystemRead.the-variants as read
 use Rattle.equation_systems.specs.declared.SystemRefusal.{SystemRefusal}
-use Rattle.equation_codes.specs.Codes.{lineCode, systemTold}
+use Rattle.equation_codes.specs.Codes.{refusalCode, second, systemTold}
 use Rattle.equation_codes.specs.CodeLaws.{Fitting, outcome-fits}
 
 -- ---- refusals
 
-no-values : {n : ℕ} {values : List ℕ} → n < 256 → values ≡ [] → lineCode n values < 2 ^ 64
+no-values : {n : ℕ} {values : List ℕ} → n < 256 → values ≡ [] → refusalCode n values < 2 ^ 64
 no-values {n} l e = rw e (omega arith)
 
 checked-fits : (b : Bool) (o : equation.Outcome) {n : ℕ} {own : List ℕ} → ((k : ℕ) (values : List ℕ) → o ≡ equation.refused k values → Fitting k values)
@@ -42,18 +43,18 @@ few-lines : (q : ℕ) (t : List ℕ) → AllSilent (systemRules q t) → lineCou
 few-lines q t s = elim (split 8 (lineCount t)) [ inl l ↦ absurd (s .1 .0 (inr l)) | inr l ↦ l ]
 
 module _ (q : ℕ) (t : List ℕ) where
-  rules-fit : (n : ℕ) (values : List ℕ) → FirstDue (systemRules q t) n values → lineCode n values < 2 ^ 64
+  rules-fit : (n : ℕ) (values : List ℕ) → FirstDue (systemRules q t) n values → refusalCode n values < 2 ^ 64
   rules-fit n values (inl (e, v, h)) = no-values (omega arith) v
   rules-fit n values (inr (x, inl (e, v, h))) = no-values (omega arith) v
   rules-fit n values (inr (x, inr (y, inl (e, v, h)))) = no-values (omega arith) v
   rules-fit n values (inr (x, inr (y, inr (z, h)))) = absurd h
 
-  bad-fits : (n : ℕ) (values : List ℕ) → AllSilent (systemRules q t) → FirstBad q t n values → lineCode n values < 2 ^ 64
+  bad-fits : (n : ℕ) (values : List ℕ) → AllSilent (systemRules q t) → FirstBad q t n values → refusalCode n values < 2 ^ 64
   bad-fits n values s (i, own, e, b) =
       let f = line-fits q (afterLines i t) (b .bad) in
       rw e (omega (arith, f .number, f .place, b .there, few-lines q t s))
 
-  outcome-fit : (n : ℕ) (values : List ℕ) → systemOutcome q t ≡ form.refused n values → lineCode n values < 2 ^ 64
+  outcome-fit : (n : ℕ) (values : List ℕ) → systemOutcome q t ≡ form.refused n values → refusalCode n values < 2 ^ 64
   outcome-fit n values e =
       elim (system-answers q t .refuses n values e) [ inl h ↦ rules-fit n values h | inr (s, b) ↦ bad-fits n values s b ]
 
@@ -62,7 +63,7 @@ module _ (q : ℕ) (t : List ℕ) where
 
 -- ---- the tables
 
-tables-fit : (zs rs coefs rights : List ℤ) (n : ℕ) (values : List ℕ) → tableChecks zs rs coefs rights ≡ refuse n values → lineCode n values < 2 ^ 64
+tables-fit : (zs rs coefs rights : List ℤ) (n : ℕ) (values : List ℕ) → tableChecks zs rs coefs rights ≡ refuse n values → refusalCode n values < 2 ^ 64
 tables-fit zs rs coefs rights n values e =
     elim (tables-render zs rs coefs rights .refuses n values e) [
       | inl (a, v, h) ↦ no-values (omega arith) v
@@ -81,8 +82,8 @@ hand-read go p zs rs coefs rights e = cc
 hand-read (refuse j ws) p zs rs coefs rights e = absurd (let z : _≡_ {A = ℕ} 0 1 = cc in omega arith)
 
 handed-fits : (o : Outcome) (coefs rights : List ℤ) {n : ℕ} {values : List ℕ} {xs ds : List ℤ}
-    → ((k : ℕ) (ws : List ℕ) → o ≡ form.refused k ws → lineCode k ws < 2 ^ 64)
-    → form.refused n values xs ds ≡ handedOut o coefs rights → lineCode n values < 2 ^ 64
+    → ((k : ℕ) (ws : List ℕ) → o ≡ form.refused k ws → refusalCode k ws < 2 ^ 64)
+    → form.refused n values xs ds ≡ handedOut o coefs rights → refusalCode n values < 2 ^ 64
 unfolding handedOut
 handed-fits (accepted p zs rs) coefs rights {n} {values} f e =
     tables-fit zs rs coefs rights n values (hand-refused (tableChecks zs rs coefs rights) p zs rs coefs rights e)
@@ -97,7 +98,7 @@ handed-few (form.refused k ws) coefs rights f e = absurd (let z : _≡_ {A = ℕ
 -- ---- what a call answered and left, as it is told
 
 module _ (q : ℕ) (t : List ℕ) (coefs rights : List ℤ) (r : SystemRead) (after sides : List ℤ) (e : answerOf r after sides ≡ readSystem q t coefs rights) where
-  pub system-refusal-fits : {why : SystemRefusal} → r ≡ read.Refused why → lineCode (numberOf why) (valuesOf why) < 2 ^ 64
+  pub system-refusal-fits : {why : SystemRefusal} → r ≡ read.Refused why → refusalCode (numberOf why) (valuesOf why) < 2 ^ 64
   unfolding readSystem
   system-refusal-fits {why} g =
       handed-fits (systemOutcome q t) coefs rights {n = numberOf why} {values = valuesOf why} {xs = after} {ds = sides} (outcome-fit q t) (rw g at e)
@@ -106,9 +107,10 @@ module _ (q : ℕ) (t : List ℕ) (coefs rights : List ℤ) (r : SystemRead) (af
   unfolding readSystem
   system-few {p} g = handed-few (systemOutcome q t) coefs rights {k = p} {xs = after} {ds = sides} (accepted-few q t) (rw g at e)
 
-  pub system-refused-told : {why : SystemRefusal} {a : ℕ} → r ≡ read.Refused why → a ≡ lineCode (numberOf why) (valuesOf why)
-      → (a, after, sides) ≡ systemTold (readSystem q t coefs rights)
-  system-refused-told g d = rw (← e, g, d)
+  pub system-refused-told : (within : List ℕ) {why : SystemRefusal} {a place : ℕ} → r ≡ read.Refused why → a ≡ refusalCode (numberOf why) (valuesOf why)
+      → place ≡ second (valuesOf why) → (a, (after, (sides, set within 0 place))) ≡ systemTold (readSystem q t coefs rights) within
+  system-refused-told within g d f = rw (← e, g, d, f)
 
-  pub system-told : {p a : ℕ} → r ≡ read.System p → a ≡ 132 + 256 * p → (a, after, sides) ≡ systemTold (readSystem q t coefs rights)
-  system-told g d = rw (← e, g, d)
+  pub system-told : (within : List ℕ) {p a : ℕ} → r ≡ read.System p → a ≡ 132 + 256 * p
+      → (a, (after, (sides, within))) ≡ systemTold (readSystem q t coefs rights) within
+  system-told within g d = rw (← e, g, d)

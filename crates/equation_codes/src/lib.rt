@@ -1,13 +1,12 @@
 // The calls on typed equations with answers that are one number each, as C and Rust are told them: specs/Codes.antt.
 ghost use mathlib.Core.Path.{_≡_};
 ghost use Prim.Native.Nat.{_+_, _*_, _^_, _≤_, _<_};
-ghost use lib.IntN.{natAbs};
 ghost use lib.ListN.{length};
 ghost use Rattle.calls.specs.Paper as paper;
 ghost use Rattle.equation_form.specs.Outcome.{outcome};
 ghost use Rattle.equation_form.specs.Writing.{write};
 ghost use Rattle.equation_text.specs.Answer.{answered, numberOf, valuesOf};
-ghost use Rattle.equation_codes.specs.Codes.{refusalCode, sideCode, readTold, writeTold};
+ghost use Rattle.equation_codes.specs.Codes.{refusalCode, readTold, writeTold};
 use calls::Refusal;
 use equation_text::equation::EquationRead;
 use equation_text::equation::EquationRefusal;
@@ -15,12 +14,16 @@ use equation_write::EquationWritten;
 
 pub mod systems; // systems.rt: a system of several lines
 
-// Reads the equation that `text` writes for `q` unknowns; its coefficients go to `row`.
-pub fn read_equation(text: &[u8], q: usize, row: &mut [i32]) -> u64
-    ensures { λ a. ⌜ (a, now (row .exit)) ≡ readTold (answered (outcome q (length (now (row .entry))) (now (text .entry))) (now (row .entry))) ⌝ }
+// Reads the equation that `text` writes for `q` unknowns; its coefficients go to `row`, its right side to `side`.
+pub fn read_equation(text: &[u8], q: usize, row: &mut [i32], side: &mut [i32; 1]) -> u64
+    ensures { λ a. ⌜ (a, (now (row .exit), now (side .exit))) ≡
+        readTold (answered (outcome q (length (now (row .entry))) (now (text .entry))) (now (row .entry))) (now (side .entry)) ⌝ }
 {
     match equation_text::equation::read_equation(text, q, row) {
-        EquationRead::Equation { right } => read_code(right),
+        EquationRead::Equation { right } => {
+            side[0] = right;
+            130
+        }
         EquationRead::Refused(why) => refusal(why),
     }
 }
@@ -35,23 +38,6 @@ pub fn write_equation(q: usize, row: &[i32], right: i32, out: &mut [u8]) -> u64
         EquationWritten::RightSide => 15,
         EquationWritten::Space => 29,
     }
-}
-
-// An equation that was read.
-fn read_code(right: i32) -> u64
-    requires { ⌜ natAbs right ≤ 10000 ⌝ }
-    ensures { λ a. ⌜ a ≡ 130 + 256 * sideCode right ⌝ }
-{
-    130 + 256 * side(right)
-}
-
-// A right side as a number from 0 on.
-fn side(right: i32) -> u64
-    requires { ⌜ natAbs right ≤ 10000 ⌝ }
-    ensures { λ a. ⌜ a ≡ sideCode right ⌝ }
-    ensures { λ a. ⌜ a ≤ 20000 ⌝ }
-{
-    (right + 10000) as u64
 }
 
 // An equation that was written.

@@ -4,20 +4,30 @@ ghost use Prim.Native.Nat.{_+_, _*_, _^_, _≤_, _<_};
 ghost use Rattle.calls.specs.Paper.{value};
 ghost use Rattle.equation_lines.specs.Systems.{readSystem};
 ghost use Rattle.equation_systems.specs.Answer.{numberOf, valuesOf};
-ghost use Rattle.equation_codes.specs.Codes.{second, lineCode, systemTold};
+ghost use Rattle.equation_codes.specs.Codes.{second, refusalCode, systemTold};
 use crate::number_of;
 use crate::value_of;
 use equation_systems::SystemRead;
 use equation_systems::SystemRefusal;
 
 // Reads the system that `text` writes for `q` unknowns, one equation a line; its coefficients go to the beginning of `coefs`, its right sides to that of
-// `rights`.
-pub fn read_system(text: &[u8], q: usize, coefs: &mut [i32], rights: &mut [i32]) -> u64
-    ensures { λ a. ⌜ (a, now (coefs .exit), now (rights .exit)) ≡ systemTold (readSystem q (now (text .entry)) (now (coefs .entry)) (now (rights .entry))) ⌝ }
+// `rights`. A refusal comes with its line, and where in the line goes to `within`.
+pub fn read_system(
+    text: &[u8],
+    q: usize,
+    coefs: &mut [i32],
+    rights: &mut [i32],
+    within: &mut [u64; 1],
+) -> u64
+    ensures { λ a. ⌜ (a, (now (coefs .exit), (now (rights .exit), now (within .exit)))) ≡
+        systemTold (readSystem q (now (text .entry)) (now (coefs .entry)) (now (rights .entry))) (now (within .entry)) ⌝ }
 {
     match equation_systems::read_system(text, q, coefs, rights) {
         SystemRead::System { p } => read_code(p),
-        SystemRead::Refused(why) => refusal(why),
+        SystemRead::Refused(why) => {
+            within[0] = place(why) as u64;
+            refusal(why)
+        }
     }
 }
 
@@ -30,10 +40,10 @@ fn read_code(p: usize) -> u64
 }
 
 fn refusal(why: SystemRefusal) -> u64
-    requires { ⌜ lineCode (numberOf why) (valuesOf why) < 2 ^ 64 ⌝ }
-    ensures { λ a. ⌜ a ≡ lineCode (numberOf why) (valuesOf why) ⌝ }
+    requires { ⌜ refusalCode (numberOf why) (valuesOf why) < 2 ^ 64 ⌝ }
+    ensures { λ a. ⌜ a ≡ refusalCode (numberOf why) (valuesOf why) ⌝ }
 {
-    number(why) + 256 * (line(why) as u64 + 256 * place(why) as u64)
+    number(why) + 256 * line(why) as u64
 }
 
 // The papers' number.

@@ -1,4 +1,4 @@
--- A number of 64 bits holds each answer: a place is one of at most 128 coefficients, and what was read is in range. Assumes nothing.
+-- A number of 64 bits holds each answer: a place is one of at most 128 coefficients. Assumes nothing.
 use Prim.Native.Nat.{ℕ, zero, suc, _*_, _^_, _≤_, _<_}
 use mathlib.Core.Bool.{Bool, true, false, not}
 use mathlib.Core.List.{List, [], _∷_}
@@ -8,7 +8,7 @@ use native.Mathlib.Nat.{mul-le-mul}
 use native.Mathlib.Omega.{arith}
 use lib.Dec.{eqb}
 use lib.IntN.{ℤ}
-use lib.ListN.{length}
+use lib.ListN.{length, set}
 use Rattle.definitions.specs.Answers.{Check, refuse, go, refuseWith, refuseIf, refuseFirst, _then_}
 use Rattle.definitions.specs.Refusals.{between}
 use Rattle.definitions.specs.System.{mostEquations, mostUnknowns}
@@ -16,10 +16,7 @@ use Rattle.laws.specs.RefusalLaws.{at-most, decides-outside, decides-unequal, e
 use Rattle.list_form.specs.Form.{ListFile}
 use Rattle.list_form.specs.Writing as writing
 use Rattle.list_form.specs.Writing.{writeChecks, writeDecided, writeList}
-use Rattle.list_form.specs.Reading as reading
 use Rattle.list_form.specs.Reading.{blockChecks, streamChecks, fileChecks, readChecks, listIn, handedOut, readDecided, readFile, coefWords, rowWords}
-use Rattle.list_laws.specs.RuleLaws.{read-in}
-use Rattle.list_laws.specs.AcceptedLaws.{row-count}
 use Rattle.calls.specs.declared.Solutions.{Solutions}
 use Rattle.list_words.specs.Paper.{numberOf, valuesOf}
 use Rattle.list_words.specs.declared.FileRefusal.{FileRefusal}
@@ -106,19 +103,14 @@ module _ (file : List ℕ) where
       small-then (refuseIf _ 19) _ (small-if _ 19 (omega arith)) (λ _. small-stream (coefWords file) (rowWords file) _))))
       (λ _. small-then (refuseIf _ 29) _ (small-if _ 29 (omega arith)) (λ _. small-if _ 29 (omega arith)))
 
-  read-decided-fits : (c : Check) (coefs : List ℤ) (list : List ℕ) → Small c → (c ≡ go → readCode (handedOut (listIn file) coefs list .answer) < 2 ^ 64)
-      → readCode (readDecided c (listIn file) coefs list .answer) < 2 ^ 64
-  unfolding readDecided
-  read-decided-fits (refuse n values) coefs list h g = h
-  read-decided-fits go coefs list h g = g refl
+  read-decided-fits : (c : Check) (coefs : List ℤ) (list : List ℕ) → Small c → readCode (readDecided c (listIn file) coefs list .answer) < 2 ^ 64
+  unfolding readDecided handedOut
+  read-decided-fits (refuse n values) coefs list h = h
+  read-decided-fits go coefs list h = omega arith
 
   pub read-fits : (coefs : List ℤ) (list : List ℕ) → readCode (readFile file coefs list .answer) < 2 ^ 64
-  unfolding readFile handedOut listIn
-  read-fits coefs list =
-      read-decided-fits (readChecks file (length coefs) (length list)) coefs list (small-read (length coefs) (length list)) (λ e.
-      let (o, _, _) = read-in file (length coefs) (length list) e in
-      let h = o .header .range in
-      omega (arith, row-count file (h .q-some), h .p-few, h .q-few, h .rows, h .ending))
+  unfolding readFile
+  read-fits coefs list = read-decided-fits (readChecks file (length coefs) (length list)) coefs list (small-read (length coefs) (length list))
 
 -- ---- what a call answered and left, as it is told
 
@@ -138,13 +130,10 @@ module _ (file : List ℕ) (coefs : List ℤ) (list : List ℕ) {r : Read} {coef
   pub read-refusal-fits : {why : FileRefusal} → r ≡ read.Refused why → refusalCode (numberOf why) (valuesOf why) < 2 ^ 64
   read-refusal-fits g = let h : readCode (readAnswer r) < 2 ^ 64 = rw (← e) at (read-fits file coefs list) in rw g at h
 
-  pub read-list-fits : {p q : ℕ} {found : Solutions} {ending : ℕ} → r ≡ read.List p q found ending → readCode (reading.read p q (found .0) ending) < 2 ^ 64
-  read-list-fits g = let h : readCode (readAnswer r) < 2 ^ 64 = rw (← e) at (read-fits file coefs list) in rw g at h
+  pub read-refused-told : (words : List ℕ) {why : FileRefusal} {a : ℕ} → r ≡ read.Refused why → a ≡ refusalCode (numberOf why) (valuesOf why)
+      → (a, (coefs′, (list′, words))) ≡ readTold (readFile file coefs list) words
+  read-refused-told words g d = rw (← e, g, d)
 
-  pub read-refused-told : {why : FileRefusal} {a : ℕ} → r ≡ read.Refused why → a ≡ refusalCode (numberOf why) (valuesOf why)
-      → (a, coefs′, list′) ≡ readTold (readFile file coefs list)
-  read-refused-told g d = rw (← e, g, d)
-
-  pub read-list-told : {p q : ℕ} {found : Solutions} {ending a : ℕ} → r ≡ read.List p q found ending → a ≡ readCode (reading.read p q (found .0) ending)
-      → (a, coefs′, list′) ≡ readTold (readFile file coefs list)
-  read-list-told g d = rw (← e, g, d)
+  pub read-list-told : (words : List ℕ) {p q : ℕ} {found : Solutions} {ending : ℕ} → r ≡ read.List p q found ending
+      → (107, (coefs′, (list′, set (set (set (set words 0 p) 1 q) 2 (found .0)) 3 ending))) ≡ readTold (readFile file coefs list) words
+  read-list-told words g = rw (← e, g)

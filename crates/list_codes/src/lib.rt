@@ -2,10 +2,10 @@
 ghost use mathlib.Core.Path.{_≡_};
 ghost use Prim.Native.Nat.{_^_, _<_};
 ghost use Rattle.list_form.specs.Writing.{writeList};
-ghost use Rattle.list_form.specs.Reading.{read as listRead, readFile};
+ghost use Rattle.list_form.specs.Reading.{readFile};
 ghost use Rattle.list_words.specs.Paper.{numberOf, valuesOf};
 ghost use Rattle.list_write.specs.Answer.{listOf};
-ghost use Rattle.list_codes.specs.Codes.{refusalCode, readCode, writeTold, readTold};
+ghost use Rattle.list_codes.specs.Codes.{refusalCode, writeTold, readTold};
 use list_read::Read;
 use list_words::FileRefusal;
 use list_write::Write;
@@ -27,9 +27,10 @@ pub fn write_list(
     }
 }
 
-// Reads a file: the coefficients go to the beginning of `coefs`, the rows to the beginning of `list`.
-pub fn read_list(file: &[u8], coefs: &mut [i32], list: &mut [u32]) -> u64
-    ensures { λ a. ⌜ (a, now (coefs .exit), now (list .exit)) ≡ readTold (readFile (now (file .entry)) (now (coefs .entry)) (now (list .entry))) ⌝ }
+// Reads a file: the coefficients go to the beginning of `coefs`, the rows to the beginning of `list`, and p, q, the row count and the ending to `words`.
+pub fn read_list(file: &[u8], coefs: &mut [i32], list: &mut [u32], words: &mut [u64; 4]) -> u64
+    ensures { λ a. ⌜ (a, (now (coefs .exit), (now (list .exit), now (words .exit)))) ≡
+        readTold (readFile (now (file .entry)) (now (coefs .entry)) (now (list .entry))) (now (words .entry)) ⌝ }
 {
     match list_read::read_list(file, coefs, list) {
         Read::Refused(why) => refusal(why),
@@ -39,18 +40,13 @@ pub fn read_list(file: &[u8], coefs: &mut [i32], list: &mut [u32]) -> u64
             found,
             ending,
         } => {
-            let rows = found.0;
-            counts(p, q, rows, ending)
+            words[0] = p as u64;
+            words[1] = q as u64;
+            words[2] = found.0 as u64;
+            words[3] = ending as u64;
+            107
         }
     }
-}
-
-// What was read, as one number.
-fn counts(p: usize, q: usize, rows: usize, ending: u32) -> u64
-    requires { ⌜ readCode (listRead p q rows ending) < 2 ^ 64 ⌝ }
-    ensures { λ a. ⌜ a ≡ readCode (listRead p q rows ending) ⌝ }
-{
-    107 + 256 * (p as u64 + 256 * (q as u64 + 256 * (ending as u64 + 256 * rows as u64)))
 }
 
 fn refusal(why: FileRefusal) -> u64

@@ -1,6 +1,7 @@
 -- The answers in document 02's terms: for each case its values, or document 01's number and values of a refusal; and as one number. Assumes nothing.
-use Prim.Native.Nat.{ℕ, _+_}
+use Prim.Native.Nat.{ℕ}
 use Rattle.definitions.specs.Highest as paper
+use Rattle.answer_codes.specs.Codes.{code, refusalCode}
 use Rattle.calls.specs.Paper.{numberOf, valuesOf}
 use Rattle.lookups.specs.declared.Located.{Located}
 use Rattle.lookups.specs.declared.Located.the-variants.{At, Nowhere, Refused}
@@ -10,8 +11,8 @@ locatedOf (At n) = paper.place n
 locatedOf Nowhere = paper.nowhere
 locatedOf (Refused why) = paper.refused (numberOf why) (valuesOf why)
 
--- refusals are below 256, places above
+-- 126 with the place, or 127 where there is none
 abbrev pub locatedNumber : paper.Located → ℕ
-locatedNumber (paper.place n) = 255 + n
-locatedNumber paper.nowhere = 0
-locatedNumber (paper.refused n values) = n
+locatedNumber (paper.place n) = code 126 n
+locatedNumber paper.nowhere = 127
+locatedNumber (paper.refused n values) = refusalCode n values

@@ -35,13 +35,13 @@ pub fn locate(list: &[u32], q: usize, found: Solutions, t: &[u32]) -> Located
     }
 }
 
-// The same as one number, for C: a refusal's own number, 0 for no such row, and 255 + n for place n.
+// The same as one number, for callers in other languages: 126 with the place, 127 for no such row, and a refusal's own number.
 pub fn locate_number(list: &[u32], q: usize, found: usize, t: &[u32]) -> u64
     ensures { λ r. ⌜ r ≡ locatedNumber (paper.locate q (now (list .entry)) found (now (t .entry))) ⌝ }
 {
     match locate(list, q, Solutions(found), t) {
-        Located::At(n) => 255 + n as u64,
-        Located::Nowhere => 0,
-        Located::Refused(why) => calls::number_of(why),
+        Located::At(n) => answer_codes::coded(126, n),
+        Located::Nowhere => 127,
+        Located::Refused(why) => answer_codes::refusal(why),
     }
 }

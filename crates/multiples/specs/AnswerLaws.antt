@@ -8,7 +8,10 @@ use native.Mathlib.Nat.{zero-add}
 use native.Mathlib.Omega.{arith}
 use lib.Dec.{leb}
 use lib.IntN.{ℤ}
-use lib.ListN.{length, getD}
+use lib.ListN.{length, getD, set}
+use mir.Facts.{toZ-ofZ}
+use mir.Syntax.{w64}
+use mir.Val.{ofZ, toZ}
 use borrow.Author.Tests.{le-leb, lt-leb}
 use Rattle.linear.specs.TestLaws.{all-same}
 use Rattle.linear.specs.Tuples.{Same}
@@ -19,13 +22,16 @@ use Rattle.definitions.specs.Tables.{at, writeTo}
 use Rattle.laws.specs.CheckLaws.{check-cases}
 use Rattle.laws.specs.ReasonLaws.{Askable, reason-askable}
 use Rattle.laws.specs.TableLaws.{write-inside, write-length}
+use Rattle.answer_codes.specs.Codes.{code}
 use Rattle.lists.specs.Rows.{tuple}
-use Rattle.reasons.specs.Amounts.{asked-rows}
+use Rattle.reasons.specs.Amounts.{asked-rows, told-fits}
 use Rattle.multiples_form.specs.Parts.{Outcome, allTaken, decomposed, ifSpace, leftOver, noSpace, off, refused, takenApart, unlessOff, writeTimes}
 use Rattle.multiples_form.specs.Parts as paper
 use Rattle.multiples_form.specs.PartsLaws.{left-same, times-same}
-use Rattle.multiples.specs.Answers.{Solves}
+use Rattle.multiples.specs.Answers.{Solves, outcomeOf, partsTold}
 use Rattle.multiples.specs.Taking.{Left}
+use Rattle.multiples.specs.declared.Parts.{Parts}
+use Rattle.multiples.specs.declared.Parts.the-variants.{Off}
 
 -- ---- a solution
 
@@ -111,3 +117,38 @@ module _ (p q : ℕ) (coefs : List ℤ) (list : List ℕ) (found : ℕ) (t : Lis
         → o ≡ decomposed (inputOf p q coefs) list found t times
     unfolding decomposed
     solved-at {o} s e = e ∙ solving r _ s
+
+-- ---- as one number: an amount that is told is that of a reason, so that it fits 64 bits
+
+abbrev IsOff : paper.Parts → Type 0
+IsOff paper.made = ⊥
+IsOff (off k amount) = Unit {0}
+IsOff paper.unlisted = ⊥
+IsOff noSpace = ⊥
+IsOff (refused n values) = ⊥
+
+apart-not-off : (space all : Bool) (times taken : List ℕ) → ¬ (IsOff (ifSpace space times (record { answer = allTaken all; times = taken }) .answer))
+unfolding ifSpace allTaken
+apart-not-off true true times taken h = h
+apart-not-off true false times taken h = h
+apart-not-off false all times taken h = h
+
+off-reason : (s : why.Reason) (times : List ℕ) (o : Outcome) → ¬ (IsOff (o .answer)) → {k : ℕ} {amount : ℤ} → off k amount ≡ unlessOff s times o .answer
+    → why.off k amount ≡ s
+unfolding unlessOff
+off-reason why.zero times o h e = absurd (h (rw (← e) tt))
+off-reason (why.off j by) times o h e = cc
+off-reason (why.stands n) times o h e = absurd (h (rw (← e) tt))
+off-reason (why.above n) times o h e = absurd (h (rw (← e) tt))
+off-reason why.unlisted times o h e = absurd (h (rw (← e) tt))
+off-reason (why.refused n values) times o h e = absurd (let z : _≡_ {A = ℕ} 0 1 = cc in omega arith)
+
+module _ (p q : ℕ) (coefs : List ℤ) (list : List ℕ) (found : ℕ) (t times : List ℕ) (held : List ℤ) {r : Parts} (after : List ℕ)
+    (e : outcomeOf r after ≡ decomposed (inputOf p q coefs) list found t times) where
+  by-reason : {k : ℕ} {amount : ℤ} → r ≡ Off k amount → why.off k amount ≡ reason (inputOf p q coefs) list found t
+  unfolding decomposed takenApart
+  by-reason f = off-reason (reason (inputOf p q coefs) list found t) times _ (apart-not-off _ _ times _) (ap (λ o. o .answer) (rw f at e))
+
+  pub told-off : {k : ℕ} {amount : ℤ} → r ≡ Off k amount
+      → (code 121 k, (after, set held 0 (toZ w64 (ofZ w64 amount)))) ≡ partsTold (decomposed (inputOf p q coefs) list found t times) held
+  told-off {k} {amount} f = rw (toZ-ofZ (told-fits p q coefs list found t k amount (by-reason f)), ← e, f)

@@ -3,6 +3,7 @@ use mathlib.Core.List.{List}
 use mathlib.Core.Path.{_≡_, sym}
 use Prim.Native.Nat.{ℕ}
 use lib.IntN.{ℤ}
+use lib.ListN.{set}
 use mir.Facts.{toZ-ofZ}
 use mir.Syntax.{w64}
 use mir.Val.{ofZ, toZ}
@@ -10,7 +11,8 @@ use Rattle.definitions.specs.Input.{inputOf}
 use Rattle.definitions.specs.Reasons as why
 use Rattle.multiples_form.specs.Parts as paper
 use Rattle.multiples_form.specs.Parts.{partsNumber}
-use Rattle.calls.specs.Paper.{numberOf, valuesOf}
+use Rattle.answer_codes.specs.Codes.{code}
+use Rattle.calls.specs.Paper.{numberOf, value, valuesOf}
 use Rattle.reasons.specs.Amounts.{told-fits}
 use Rattle.reasons.specs.Answers.{reasonOf}
 use Rattle.reasons.specs.declared.Reason as reasons
@@ -29,11 +31,28 @@ partsOf (Refused cause) = paper.refused (numberOf cause) (valuesOf cause)
 abbrev pub outcomeOf : Parts → List ℕ → paper.Outcome
 outcomeOf r times = record { answer = partsOf r; times = times }
 
-abbrev pub partsTold : paper.Outcome → ℕ × List ℕ
-partsTold o = (partsNumber (o .answer), o .times)
+-- the equation that is off, or the value of a refusal
+abbrev pub partsPlace : paper.Parts → ℕ
+partsPlace paper.made = 0
+partsPlace (paper.off k amount) = k
+partsPlace paper.unlisted = 0
+partsPlace paper.noSpace = 0
+partsPlace (paper.refused n values) = value values
 
-pub told : {r s : Parts} {o : paper.Outcome} (times : List ℕ) → outcomeOf r times ≡ o → r ≡ s → (partsNumber (partsOf s), times) ≡ partsTold o
-told times e f = rw (← e, f)
+-- what the number lent for the amount holds after
+abbrev pub amountAfter : paper.Parts → List ℤ → List ℤ
+amountAfter paper.made held = held
+amountAfter (paper.off k amount) held = set held 0 amount
+amountAfter paper.unlisted held = held
+amountAfter paper.noSpace held = held
+amountAfter (paper.refused n values) held = held
+
+abbrev pub partsTold : paper.Outcome → List ℤ → ℕ × (List ℕ × List ℤ)
+partsTold o held = (code (partsNumber (o .answer)) (partsPlace (o .answer)), (o .times, amountAfter (o .answer) held))
+
+pub told : {r s : Parts} {o : paper.Outcome} (times : List ℕ) (held : List ℤ) → outcomeOf r times ≡ o → r ≡ s
+    → partsTold (outcomeOf s times) held ≡ partsTold o held
+told times held e f = rw (← e, f)
 
 -- a reason of a tuple that is a solution
 abbrev pub Solves : why.Reason → Type 0

@@ -51,7 +51,8 @@ pub fn decompose(
     }
 }
 
-// The same as one number, for C: a refusal's own number, 29 for no space, and those of Job 8's reasons.
+// The same as one number, for callers in other languages: that of a refusal or of Job 8's reasons, 29 for no space; by how much an equation is off goes to
+// `amount`.
 pub fn decompose_number(
     p: usize,
     q: usize,
@@ -60,16 +61,21 @@ pub fn decompose_number(
     found: usize,
     t: &[u32],
     times: &mut [u32],
+    amount: &mut [i64; 1],
 ) -> u64
-    ensures { λ r. ⌜ (r, now (times .exit)) ≡
-        partsTold (paper.decomposed (inputOf p q (now (coefs .entry))) (now (list .entry)) found (now (t .entry)) (now (times .entry))) ⌝ }
+    ensures { λ r. ⌜ (r, (now (times .exit), now (amount .exit))) ≡
+        partsTold (paper.decomposed (inputOf p q (now (coefs .entry))) (now (list .entry)) found (now (t .entry)) (now (times .entry)))
+        (now (amount .entry)) ⌝ }
 {
     match decompose(p, q, coefs, list, Solutions(found), t, times) {
         Parts::Made => 125,
-        Parts::Off(_, _) => 121,
+        Parts::Off(k, by) => {
+            amount[0] = by;
+            answer_codes::coded(121, k)
+        }
         Parts::Unlisted => 124,
         Parts::NoSpace => 29,
-        Parts::Refused(why) => calls::number_of(why),
+        Parts::Refused(why) => answer_codes::refusal(why),
     }
 }
 

@@ -9,7 +9,7 @@ use native.Mathlib.Nat.{mul-le-mul-right, div-mul-le-self}
 use native.Mathlib.Omega.{arith}
 use lib.Dec.{T}
 use lib.IntN.{ℤ, natAbs, pos}
-use lib.ListN.{getD, length, List·getD-eq-default}
+use lib.ListN.{getD, length, set, List·getD-eq-default}
 use mir.Facts.{toZ-ofZ}
 use mir.Syntax.{w32, w64}
 use mir.Val.{SFits, ofZ, toZ}
@@ -17,15 +17,16 @@ use Rattle.linear.specs.Cases.{split}
 use Rattle.linear.specs.Integers.{sfits-natAbs}
 use Rattle.linear.specs.PlaceLaws.{First, first-is}
 use Rattle.linear.specs.Systems.{value}
-use Rattle.definitions.specs.Reasons.{Reason, above, firstOff, off, reason, reasonChecks, refused, stands, unlessRefused, unlisted, zero}
+use Rattle.definitions.specs.Reasons.{firstOff, off, reason, reasonChecks, refused, unlessRefused}
 use Rattle.definitions.specs.Input.{inputOf, mapOf}
 use Rattle.definitions.specs.System.{System, coefLimit, imageOf, isZero, mostComponent, mostUnknowns}
 use Rattle.laws.specs.CheckLaws.{check-cases}
 use Rattle.laws.specs.ReasonLaws.{Askable, reason-askable, reason-given, reason-renders}
 use Rattle.laws.specs.SystemLaws.{is-zero}
 use Rattle.laws.specs.TableLaws.{row-fits}
+use Rattle.answer_codes.specs.Codes.{code}
 use Rattle.lists.specs.Rows.{tuple}
-use Rattle.reasons.specs.Numbers.{reasonAmount}
+use Rattle.reasons.specs.Numbers.{reasonTold}
 use Rattle.products.specs.Products.{SmallCoefs}
 use Rattle.products.specs.Turns.{SmallTerms, sum-fits, zero-bits}
 
@@ -128,14 +129,8 @@ told-fits p q coefs list found t k amount e =
       | inr (n, values, g) ↦ absurd (told-otherwise (rw g at e))
     ]
 
--- and so does what is told in its place where there is none
-pub amount-told : (p q : ℕ) (coefs : List ℤ) (list : List ℕ) (found : ℕ) (t : List ℕ) → SFits w64 (reasonAmount (reason (inputOf p q coefs) list found t))
-amount-told p q coefs list found t = of (reason (inputOf p q coefs) list found t) refl
-  where
-    of : (r : Reason) → r ≡ reason (inputOf p q coefs) list found t → SFits w64 (reasonAmount r)
-    of zero e = sfits-natAbs (omega arith)
-    of (off k amount) e = told-fits p q coefs list found t k amount e
-    of (stands n) e = sfits-natAbs (omega arith)
-    of (above n) e = sfits-natAbs (omega arith)
-    of unlisted e = sfits-natAbs (omega arith)
-    of (refused n values) e = sfits-natAbs (omega arith)
+-- as it is told
+pub told-off : (p q : ℕ) (coefs : List ℤ) (list : List ℕ) (found : ℕ) (t : List ℕ) (held : List ℤ) {k : ℕ} {amount : ℤ}
+    → off k amount ≡ reason (inputOf p q coefs) list found t
+    → (code 121 k, set held 0 (toZ w64 (ofZ w64 amount))) ≡ reasonTold (reason (inputOf p q coefs) list found t) held
+told-off p q coefs list found t held e = rw (toZ-ofZ (told-fits p q coefs list found t _ _ e), ← e)

@@ -19,6 +19,9 @@ use Rattle.calls.specs.Paper.{checkOf, numberOf, valuesOf}
 use Rattle.calls.specs.declared.Check.{Check}
 use Rattle.calls.specs.declared.Check.the-variants.{Pass, Refuse}
 use Rattle.calls.specs.declared.Refusal.{Refusal}
+use Rattle.reasons.specs.Answers.{reasonOf}
+use Rattle.reasons.specs.Numbers.{reasonTold}
+use Rattle.reasons.specs.declared.Reason.{Reason}
 
 -- ---- a solution in the list
 
@@ -62,3 +65,8 @@ module _ (i : Input) (list : List ℕ) (found : ℕ) (t : List ℕ) {c : Check} 
   pub passed-at : c ≡ Pass → {r : paper.Reason} → r ≡ paper.firstTrue (mapOf i) found (at list (i .q)) (λ j. getD t j 0) → r ≡ paper.reason i list found t
   unfolding paper.reason paper.unlessRefused
   passed-at g h = rw (← e, g) h
+
+-- ---- as one number
+
+pub told-as : {r s : Reason} {reason : paper.Reason} (held : List ℤ) → reasonOf r ≡ reason → r ≡ s → reasonTold (reasonOf s) held ≡ reasonTold reason held
+told-as held e f = rw (← e, f)

@@ -1,5 +1,5 @@
 pub mod Answers
+pub mod Numbers
 pub mod AnswerLaws
 pub mod Amounts
 pub mod Refusals
-pub mod Numbers

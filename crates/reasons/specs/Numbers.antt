@@ -1,31 +1,28 @@
--- A reason as numbers: its own, and the equation or the place that it comes with. Assumes nothing.
+-- A reason as one number, with the equation or the place that it comes with; and by how much the equation is off. Assumes nothing.
 use Prim.Native.Nat.{ℕ}
-use lib.IntN.{ℤ, pos}
+use mathlib.Core.List.{List}
+use lib.IntN.{ℤ}
+use lib.ListN.{set}
 use Rattle.definitions.specs.Reasons.{Reason, above, off, refused, stands, unlisted, zero}
-use Rattle.calls.specs.Paper.{value}
+use Rattle.answer_codes.specs.Codes.{code, refusalCode}
 
 -- refusals keep their own numbers
-abbrev pub reasonNumber : Reason → ℕ
-reasonNumber zero = 120
-reasonNumber (off k amount) = 121
-reasonNumber (stands n) = 122
-reasonNumber (above n) = 123
-reasonNumber unlisted = 124
-reasonNumber (refused n values) = n
+abbrev pub reasonCode : Reason → ℕ
+reasonCode zero = 120
+reasonCode (off k amount) = code 121 k
+reasonCode (stands n) = code 122 n
+reasonCode (above n) = code 123 n
+reasonCode unlisted = 124
+reasonCode (refused n values) = refusalCode n values
 
-abbrev pub reasonPlace : Reason → ℕ
-reasonPlace zero = 0
-reasonPlace (off k amount) = k
-reasonPlace (stands n) = n
-reasonPlace (above n) = n
-reasonPlace unlisted = 0
-reasonPlace (refused n values) = value values
+-- "and by what signed amount": what the number lent for it holds after
+abbrev pub amountAfter : Reason → List ℤ → List ℤ
+amountAfter zero held = held
+amountAfter (off k amount) held = set held 0 amount
+amountAfter (stands n) held = held
+amountAfter (above n) held = held
+amountAfter unlisted held = held
+amountAfter (refused n values) held = held
 
--- "and by what signed amount"
-abbrev pub reasonAmount : Reason → ℤ
-reasonAmount zero = pos 0
-reasonAmount (off k amount) = amount
-reasonAmount (stands n) = pos 0
-reasonAmount (above n) = pos 0
-reasonAmount unlisted = pos 0
-reasonAmount (refused n values) = pos 0
+abbrev pub reasonTold : Reason → List ℤ → ℕ × List ℤ
+reasonTold r held = (reasonCode r, amountAfter r held)

@@ -1,11 +1,12 @@
 -- Single-file maps (document 02, job 12) for callers in other languages: the two calls on a record of words, and the listing's answer as one number.
 -- Assumes nothing.
-use Prim.Native.Nat.{ℕ, _+_, _*_, min}
+use Prim.Native.Nat.{ℕ}
 use mathlib.Core.List.{List}
 use Rattle.definitions.specs.Input.{Input}
 use Rattle.definitions.specs.Machine.{Outcome}
 use Rattle.definitions.specs.Tables.{State}
-use Rattle.calls.specs.Paper.{stateOf, value}
+use Rattle.answer_codes.specs.Codes.{code, refusalCode}
+use Rattle.calls.specs.Paper.{stateOf}
 use Rattle.single_file.specs.Calls.{singleResume, singleStart}
 use Rattle.single_file.specs.Listing.{Listed, Listing, refused, written}
 use Rattle.record_words.specs.Words.{recordIn, resumeWords, startOn}
@@ -17,14 +18,10 @@ singleResumeWords budget words i stack list = singleResume budget i (stateOf sta
 unfoldable pub singleStartWords : List ℕ → Input → List ℕ → List ℕ → Outcome State
 singleStartWords words i stack list = startOn words (singleStart i (stateOf stack list (recordIn words))) (resumeWords 0 words i stack list)
 
--- a value beside its number: the most that 56 bits hold stands for all above, which no table reaches
-abbrev pub capped : ℕ → ℕ
-capped n = min n 72057594037927935
-
 -- 104 with the number of bytes written, or a refusal with its value
 abbrev pub listingCode : Listed → ℕ
-listingCode (written n) = 104 + 256 * capped n
-listingCode (refused n values) = n + 256 * capped (value values)
+listingCode (written n) = code 104 n
+listingCode (refused n values) = refusalCode n values
 
 abbrev pub listingTold : Listing → ℕ × List ℕ
 listingTold l = (listingCode (l .answer), l .out)

@@ -1,5 +1,5 @@
 -- A number of 64 bits holds each answer of the calls of single-file maps; and what these leave, as the exported ones tell it. Assumes nothing.
-use Prim.Native.Nat.{ℕ, _+_, _*_, _≤_, _<_}
+use Prim.Native.Nat.{ℕ, _≤_, _<_}
 use mathlib.Core.List.{List}
 use mathlib.Core.Path.{_≡_}
 use native.Mathlib.Omega.{arith}
@@ -9,11 +9,9 @@ use Rattle.definitions.specs.Input.{Extra, Input, alone, mapOf, rights, walkSys
 use Rattle.definitions.specs.Refusals.{resumeChecks, startChecks}
 use Rattle.definitions.specs.Tables.{State}
 use Rattle.laws.specs.RefusalLaws.{resume-valid, start-shaped}
-use Rattle.calls.specs.Paper as calls
+use Rattle.answer_codes.specs.CodeLaws as answers
+use Rattle.answer_codes.specs.Codes.{code}
 use Rattle.calls.specs.Paper.{value}
-use Rattle.calls.specs.declared.Refusal.{Refusal}
-use Rattle.calls.specs.declared.Refusal.the-variants.{Equations, Unknowns, CoefficientCount, StackLength, BoundLength, OutOfOrder, Coefficient, BoundRange}
-use Rattle.calls.specs.declared.Refusal.the-variants.{ListFull, ComponentLimit, StepLimit, RightSide, SeatUnknowns, SeatComponent, Column}
 use Rattle.listing.specs.Listed.{listedOf, numberOf, valuesOf}
 use Rattle.listing.specs.declared.ListingAnswer.{ListingAnswer}
 use Rattle.listing.specs.declared.ListingAnswer.the-variants.{Written, Refused}
@@ -23,7 +21,7 @@ use Rattle.single_file.specs.Calls.{singleResume, singleResumeChecks, singleSta
 use Rattle.single_file.specs.Listing.{Listing}
 use Rattle.single_file.specs.Profile.{check26}
 use Rattle.record_words.specs.CodeLaws.{Fits, Small, fits-checked, resume-fits, small-first, small-resume, small-start, small-then, start-fits}
-use Rattle.single_words.specs.SingleFile.{capped, listingTold}
+use Rattle.single_words.specs.SingleFile.{listingTold}
 
 -- the walk has at least the unknowns of the map
 map-few : (e : Extra) (i : Input) → walkSystem e i .q ≤ 16 → i .q ≤ 16
@@ -51,25 +49,8 @@ module _ (i : Input) (s : State) where
 
 -- ---- the listing
 
-call-small : (why : Refusal) → calls.numberOf why < 256
-call-small Equations = omega arith
-call-small Unknowns = omega arith
-call-small CoefficientCount = omega arith
-call-small StackLength = omega arith
-call-small BoundLength = omega arith
-call-small OutOfOrder = omega arith
-call-small (Coefficient place) = omega arith
-call-small BoundRange = omega arith
-call-small ListFull = omega arith
-call-small ComponentLimit = omega arith
-call-small StepLimit = omega arith
-call-small RightSide = omega arith
-call-small SeatUnknowns = omega arith
-call-small SeatComponent = omega arith
-call-small (Column column) = omega arith
-
 number-small : (why : ListingRefusal) → numberOf why < 256
-number-small (Call why) = call-small why
+number-small (Call why) = answers.number-small why
 number-small (NotMinimal row) = omega arith
 number-small OutputLength = omega arith
 
@@ -77,17 +58,9 @@ pub refused-small : {r : ListingAnswer} {why : ListingRefusal} {n : ℕ} → r �
 refused-small {why = why} h e = rw e (number-small why)
 
 module _ {r : ListingAnswer} {out : List ℕ} {l : Listing} (e : listedOf r out ≡ l) {a : ℕ} where
-  pub told-written : {n : ℕ} → r ≡ Written n → a ≡ 104 + 256 * capped n → (a, out) ≡ listingTold l
+  pub told-written : {n : ℕ} → r ≡ Written n → a ≡ code 104 n → (a, out) ≡ listingTold l
   told-written h d = rw (← e, h, d)
 
-  pub told-refused : {why : ListingRefusal} {n v : ℕ} → r ≡ Refused why → n ≡ numberOf why → v ≡ value (valuesOf why) → a ≡ n + 256 * capped v
+  pub told-refused : {why : ListingRefusal} {n v : ℕ} → r ≡ Refused why → n ≡ numberOf why → v ≡ value (valuesOf why) → a ≡ code n v
       → (a, out) ≡ listingTold l
   told-refused h x y d = rw (← e, h, d, x, y)
-
--- ---- a value beside its number
-
-pub capped-small : (n v : ℕ) → v < 72057594037927936 → n + 256 * v ≡ n + 256 * capped v
-capped-small n v l = omega arith
-
-pub capped-large : (n v : ℕ) → 72057594037927936 ≤ v → n + 18446744073709551360 ≡ n + 256 * capped v
-capped-large n v l = omega arith

@@ -1,10 +1,9 @@
 // Single-file maps: the start and the continuing call on a record of words, and the listing with its answer as one number.
 ghost use mathlib.Core.Path.{_≡_};
-ghost use Prim.Native.Nat.{_+_, _*_, _<_};
 ghost use Rattle.definitions.specs.Input.{inputOf};
 ghost use Rattle.single_file.specs.Listing.{listingCall};
 ghost use Rattle.record_words.specs.Words.{told};
-ghost use Rattle.single_words.specs.SingleFile.{singleStartWords, singleResumeWords, capped, listingTold};
+ghost use Rattle.single_words.specs.SingleFile.{singleStartWords, singleResumeWords, listingTold};
 use calls::Solutions;
 use listing::ListingAnswer;
 use record_words::tell;
@@ -53,18 +52,9 @@ pub fn listed(p: usize, q: usize, coefs: &[i32], list: &[u32], found: usize, out
     ensures { λ a. ⌜ (a, now (out .exit)) ≡ listingTold (listingCall (inputOf p q (now (coefs .entry))) (now (list .entry)) found (now (out .entry))) ⌝ }
 {
     match listing::listed(p, q, coefs, list, Solutions(found), out) {
-        ListingAnswer::Written(n) => coded(104, n),
-        ListingAnswer::Refused(why) => coded(listing::number_of(why), listing::value_of(why)),
+        ListingAnswer::Written(n) => answer_codes::coded(104, n),
+        ListingAnswer::Refused(why) => {
+            answer_codes::coded(listing::number_of(why), listing::value_of(why))
+        }
     }
-}
-
-// A number, with a value above its 8 bits.
-fn coded(number: u64, value: usize) -> u64
-    requires { ⌜ number < 256 ⌝ }
-    ensures { λ a. ⌜ a ≡ number + 256 * capped value ⌝ }
-{
-    if value < 72057594037927936 {
-        return number + 256 * value as u64;
-    }
-    number + 18446744073709551360
 }

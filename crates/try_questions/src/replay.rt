@@ -1,5 +1,6 @@
 // The questions of a line: they are asked as the line has them, and the answers held against what the line says. Its operands are p, q and the count of rows;
-// t is the tuple, n the table of multiples before and after; the answers are the reason, its place, the highest place, the parts, and the amount with its sign.
+// t is the tuple, n the table of multiples before and after; the answers are the reason, the highest place, the parts, and the amount with its sign. The
+// number lent for the amount holds 9 before.
 use try_lines::line::COEFFICIENTS;
 use try_lines::line::Line;
 use try_lines::line::ROOM;
@@ -15,30 +16,46 @@ pub fn agrees(l: Line) -> bool {
     if ROOM < l.tuple_length || ROOM < l.second_length {
         return false;
     }
-    told(l) && made(l)
+    reason(l) && located(l) && made(l)
 }
 
-// Why the tuple is not listed, and which row stopped it.
-fn told(l: Line) -> bool {
+// Why the tuple is not listed.
+fn reason(l: Line) -> bool {
     let coefs = l.coefs;
     let list = l.list;
     let tuple = l.tuple;
     let x = l.operands;
     let e = l.answered;
-    let p = x[0] as usize;
-    let q = x[1] as usize;
-    let n = x[2] as usize;
-    let c = first_signed(&coefs, l.coefs_length);
-    let r = first(&list, l.list_length);
-    let t = first(&tuple, l.tuple_length);
-    reasons::told::number(p, q, c, r, n, t) == e[0]
-        && reasons::told::place(p, q, c, r, n, t) == e[1] as usize
-        && lookups::locate_number(r, q, n, t) == e[2]
-        && even(reasons::told::amount(p, q, c, r, n, t), signed(e[4], e[5]))
+    let mut amount = [9i64; 1];
+    let answer = reasons::told::reason(
+        x[0] as usize,
+        x[1] as usize,
+        first_signed(&coefs, l.coefs_length),
+        first(&list, l.list_length),
+        x[2] as usize,
+        first(&tuple, l.tuple_length),
+        &mut amount,
+    );
+    answer == e[0] && is_amount(&amount, e[3], e[4])
 }
 
-fn even(a: i64, b: i64) -> bool {
-    a == b
+// Which row stopped it.
+fn located(l: Line) -> bool {
+    let list = l.list;
+    let tuple = l.tuple;
+    let x = l.operands;
+    let e = l.answered;
+    lookups::locate_number(
+        first(&list, l.list_length),
+        x[1] as usize,
+        x[2] as usize,
+        first(&tuple, l.tuple_length),
+    )
+        == e[1]
+}
+
+fn is_amount(amount: &[i64; 1], size: u64, minus: u64) -> bool {
+    amount[0] == signed(size, minus)
 }
 
 // A number with its sign: -1 - x is what the bits of x are when each is turned over.
@@ -52,13 +69,14 @@ fn signed(size: u64, minus: u64) -> i64 {
 // What it is made of.
 fn made(l: Line) -> bool {
     let mut times = l.second;
-    let number = called(l, &mut times);
+    let mut amount = [9i64; 1];
+    let answer = called(l, &mut times, &mut amount);
     let e = l.answered;
     let after = l.second_after;
-    number == e[3] && same_table(&times, &after)
+    answer == e[2] && same_table(&times, &after) && is_amount(&amount, e[3], e[4])
 }
 
-fn called(l: Line, times: &mut [u32]) -> u64 {
+fn called(l: Line, times: &mut [u32], amount: &mut [i64; 1]) -> u64 {
     let coefs = l.coefs;
     let list = l.list;
     let tuple = l.tuple;
@@ -75,5 +93,6 @@ fn called(l: Line, times: &mut [u32]) -> u64 {
         x[2] as usize,
         first(&tuple, l.tuple_length),
         &mut times[0..n],
+        amount,
     )
 }

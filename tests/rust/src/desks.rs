@@ -1,9 +1,9 @@
-//! One desk after the other: the library's calls (include/dezgula_desks.h) in safe functions, and a map solved desk by desk with them.
+//! One desk after the other: the library's calls in safe functions, and a map solved desk by desk with them.
 
 use crate::{library, Answer, State, System};
 
 extern "C" {
-    fn dezgula_raw_desks_start(
+    fn dezgula_raw_start_desk(
         p: usize,
         q: usize,
         coefs: *const i32,
@@ -18,7 +18,7 @@ extern "C" {
         record_len: usize,
     ) -> u64;
 
-    fn dezgula_raw_desks_resume(
+    fn dezgula_raw_resume_desk(
         p: usize,
         q: usize,
         coefs: *const i32,
@@ -54,7 +54,7 @@ fn answer(code: u64) -> Answer {
 
 pub fn start(m: &System, generators: &[u32], s: &mut State) -> Answer {
     answer(unsafe {
-        dezgula_raw_desks_start(
+        dezgula_raw_start_desk(
             m.p,
             m.q,
             m.coefs.as_ptr(),
@@ -73,7 +73,7 @@ pub fn start(m: &System, generators: &[u32], s: &mut State) -> Answer {
 
 pub fn resume(m: &System, generators: &[u32], s: &mut State, budget: u64) -> Answer {
     answer(unsafe {
-        dezgula_raw_desks_resume(
+        dezgula_raw_resume_desk(
             m.p,
             m.q,
             m.coefs.as_ptr(),

@@ -1,4 +1,4 @@
-//! Lists as files (document 02, Job 5): the library's calls (include/dezgula_files.h) in safe functions, and the same in plain Rust straight from the document.
+//! Lists as files (document 02, Job 5): the library's calls in safe functions, and the same in plain Rust straight from the document.
 
 extern "C" {
     fn dezgula_raw_write_list(
@@ -13,7 +13,8 @@ extern "C" {
         out_len: usize,
     ) -> u64;
 
-    fn dezgula_raw_read_list(file: *const u8, file_len: usize, coefs: *mut i32, coefs_len: usize, list: *mut u32, list_len: usize) -> u64;
+    fn dezgula_raw_read_list(file: *const u8, file_len: usize, coefs: *mut i32, coefs_len: usize, list: *mut u32, list_len: usize, words: *mut u64)
+        -> u64;
 }
 
 /// What is sent. Nothing here says that it is in order.
@@ -38,10 +39,15 @@ pub fn write(l: &List, out: &mut [u8]) -> Result<(), Refused> {
 
 /// p, q, the row count and the ending.
 pub fn read(file: &[u8], coefs: &mut [i32], list: &mut [u32]) -> Result<(usize, usize, usize, u32), Refused> {
-    let answer = unsafe { dezgula_raw_read_list(file.as_ptr(), file.len(), coefs.as_mut_ptr(), coefs.len(), list.as_mut_ptr(), list.len()) };
+    let mut words = [u64::MAX; 4];
+    let answer =
+        unsafe { dezgula_raw_read_list(file.as_ptr(), file.len(), coefs.as_mut_ptr(), coefs.len(), list.as_mut_ptr(), list.len(), words.as_mut_ptr()) };
     match answer & 0xff {
-        107 => Ok(((answer >> 8 & 0xff) as usize, (answer >> 16 & 0xff) as usize, (answer >> 32) as usize, (answer >> 24 & 0xff) as u32)),
-        number => Err((number as u8, (answer >> 8) as usize)),
+        107 => Ok((words[0] as usize, words[1] as usize, words[2] as usize, words[3] as u32)),
+        number => {
+            assert_eq!(words, [u64::MAX; 4], "a refusal writes no words");
+            Err((number as u8, (answer >> 8) as usize))
+        }
     }
 }
 

@@ -1,4 +1,4 @@
-//! The library's C interface (include/dezgula.h), wrapped in safe functions: a slice's pointer is never null, and `&mut` keeps what is lent apart.
+//! The proved functions (library/raw.h), wrapped in safe functions: a slice's pointer is never null, and `&mut` keeps what is lent apart.
 
 use crate::{Answer, Listed, Located, Shown, State, System};
 
@@ -179,13 +179,13 @@ pub fn row(list: &[u32], q: usize, found: usize, n: usize, out: &mut [u32]) -> S
 
 pub fn locate(list: &[u32], q: usize, found: usize, tuple: &[u32]) -> Located {
     match unsafe { dezgula_raw_locate(list.as_ptr(), list.len(), q, found, tuple.as_ptr(), tuple.len()) } {
-        0 => Located::Nowhere,
-        answer @ 1..=255 => Located::Refused(answer as u8),
-        answer => Located::At((answer - 255) as usize),
+        127 => Located::Nowhere,
+        answer if answer & 0xff == 126 => Located::At((answer >> 8) as usize),
+        answer => Located::Refused(u8::try_from(answer).expect("a refusal of this call has no place")),
     }
 }
 
-/// Turns of `quantum` steps: the words of the runs' shares and of the dispatcher's record are those of include/dezgula.h. The number of the call.
+/// Turns of `quantum` steps: the words of the runs' shares and of the dispatcher's record are those of library/raw.h. The number of the call.
 pub fn dispatch(count: usize, quantum: u64, turns: u64, shares: &[u64], coefs: &[i32], s: &mut State) -> u64 {
     unsafe {
         dezgula_raw_dispatch(

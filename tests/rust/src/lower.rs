@@ -1,4 +1,4 @@
-//! Runs from a lower bound: the library's calls (include/dezgula_lower.h) in safe functions, and the same in plain Rust straight from document 02, Job 4.
+//! Runs from a lower bound: the library's calls in safe functions, and the same in plain Rust straight from document 02, Job 4.
 
 use crate::draw::{self, Draw};
 use crate::sides::{Lent, COUNTS};

@@ -13,31 +13,8 @@ extern "C" {
         found: usize,
         tuple: *const u32,
         tuple_len: usize,
+        amount: *mut i64,
     ) -> u64;
-
-    fn dezgula_raw_reason_place(
-        p: usize,
-        q: usize,
-        coefs: *const i32,
-        coefs_len: usize,
-        list: *const u32,
-        list_len: usize,
-        found: usize,
-        tuple: *const u32,
-        tuple_len: usize,
-    ) -> usize;
-
-    fn dezgula_raw_reason_amount(
-        p: usize,
-        q: usize,
-        coefs: *const i32,
-        coefs_len: usize,
-        list: *const u32,
-        list_len: usize,
-        found: usize,
-        tuple: *const u32,
-        tuple_len: usize,
-    ) -> i64;
 
     fn dezgula_raw_decompose(
         p: usize,
@@ -51,6 +28,7 @@ extern "C" {
         tuple_len: usize,
         times: *mut u32,
         times_len: usize,
+        amount: *mut i64,
     ) -> u64;
 }
 
@@ -74,15 +52,19 @@ pub enum Parts {
     Not(Reason),
 }
 
+/// What the number lent for an amount holds before a call.
+const HELD: i64 = 77;
+
 pub fn reason(m: &System, list: &[u32], found: usize, tuple: &[u32]) -> Reason {
     let (c, l, t) = (&m.coefs, list, tuple);
-    let (number, place, amount) = unsafe {
-        (
-            dezgula_raw_reason(m.p, m.q, c.as_ptr(), c.len(), l.as_ptr(), l.len(), found, t.as_ptr(), t.len()),
-            dezgula_raw_reason_place(m.p, m.q, c.as_ptr(), c.len(), l.as_ptr(), l.len(), found, t.as_ptr(), t.len()),
-            dezgula_raw_reason_amount(m.p, m.q, c.as_ptr(), c.len(), l.as_ptr(), l.len(), found, t.as_ptr(), t.len()),
-        )
-    };
+    let mut amount = HELD;
+    let answer = unsafe { dezgula_raw_reason(m.p, m.q, c.as_ptr(), c.len(), l.as_ptr(), l.len(), found, t.as_ptr(), t.len(), &mut amount) };
+    decode(answer, amount)
+}
+
+fn decode(answer: u64, amount: i64) -> Reason {
+    let (number, place) = (answer & 0xff, (answer >> 8) as usize);
+    assert!(number == 121 || amount == HELD, "an amount is written for 121 alone, not for {number}");
     match number {
         120 => Reason::Zero,
         121 => Reason::Off(place, amount),
@@ -94,7 +76,8 @@ pub fn reason(m: &System, list: &[u32], found: usize, tuple: &[u32]) -> Reason {
 }
 
 pub fn decompose(m: &System, list: &[u32], found: usize, tuple: &[u32], times: &mut [u32]) -> Parts {
-    let number = unsafe {
+    let mut amount = HELD;
+    let answer = unsafe {
         dezgula_raw_decompose(
             m.p,
             m.q,
@@ -107,17 +90,14 @@ pub fn decompose(m: &System, list: &[u32], found: usize, tuple: &[u32], times: &
             tuple.len(),
             times.as_mut_ptr(),
             times.len(),
+            &mut amount,
         )
     };
-    match number {
+    match answer {
         125 => Parts::Made,
         124 => Parts::Unlisted,
         29 => Parts::NoSpace,
-        _ => {
-            let why = reason(m, list, found, tuple);
-            assert!(matches!(why, Reason::Off(..) if number == 121) || matches!(why, Reason::Refused(n, _) if n == number), "{number} and {why:?}");
-            Parts::Not(why)
-        }
+        _ => Parts::Not(decode(answer, amount)),
     }
 }
 

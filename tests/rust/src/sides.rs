@@ -1,10 +1,10 @@
-//! Maps with right sides: the library's calls (include/dezgula_sides.h) in safe functions, and the same in plain Rust straight from document 02, Job 1.
+//! Maps with right sides: the library's calls in safe functions, and the same in plain Rust straight from document 02, Job 1.
 
 use crate::draw::{self, Draw};
 use crate::{Answer, Shown, System, DEEPEST, FOUND, HEIGHT, KIND, SECOND, STEPS, WORDS};
 
 extern "C" {
-    fn dezgula_raw_start_capped(
+    fn dezgula_raw_start_rights(
         p: usize,
         q: usize,
         coefs: *const i32,
@@ -21,7 +21,7 @@ extern "C" {
         record_len: usize,
     ) -> u64;
 
-    fn dezgula_raw_resume_capped(
+    fn dezgula_raw_resume_rights(
         p: usize,
         q: usize,
         coefs: *const i32,
@@ -102,7 +102,7 @@ fn decode(answer: u64) -> Answer {
 pub fn start(m: &Sided, s: &mut Lent) -> Answer {
     let [list, second] = &mut s.lists;
     decode(unsafe {
-        dezgula_raw_start_capped(
+        dezgula_raw_start_rights(
             m.map.p,
             m.map.q,
             m.map.coefs.as_ptr(),
@@ -124,7 +124,7 @@ pub fn start(m: &Sided, s: &mut Lent) -> Answer {
 pub fn resume(m: &Sided, s: &mut Lent, budget: u64) -> Answer {
     let [list, second] = &mut s.lists;
     decode(unsafe {
-        dezgula_raw_resume_capped(
+        dezgula_raw_resume_rights(
             m.map.p,
             m.map.q,
             m.map.coefs.as_ptr(),

@@ -1,4 +1,4 @@
-//! The training seat: the library's calls (include/dezgula_training.h) in safe functions; and what document 02, Job 9 says of them, in terms of the
+//! The training seat: the library's calls in safe functions; and what document 02, Job 9 says of them, in terms of the
 //! office's calls.
 
 use crate::lower::{self, Bounded};

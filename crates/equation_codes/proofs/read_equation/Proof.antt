@@ -1,11 +1,7 @@
 -- `equation_codes::read_equation` meets its contract: each answer as its number. Assumes nothing.
-use native.Mathlib.Omega.{arith}
 use denote.Ref.{now}
-use mir.Facts.{toZ-ofZ}
-use mir.Syntax.{w32}
 use borrow.Author.Needs.{needs}
-use Rattle.linear.specs.Integers.{sfits-natAbs}
-use Rattle.equation_codes.specs.CodeLaws.{read-refusal-fits, read-side-small, read-refused-told, read-told}
+use Rattle.equation_codes.specs.CodeLaws.{read-refusal-fits, read-refused-told, read-told}
 use Rattle.equation_codes.proofs.read_equation.Statement.{statement}
 use Rattle.equation_codes.proofs.read_equation.Tie as tie
 
@@ -15,12 +11,8 @@ read-equation-requires c κs = search needs
 enum-known-right : tie.Need-enum-known-right
 enum-known-right c = search needs
 
-read-code-requires : tie.Need-read-code-requires
-read-code-requires c κs =
-    let w = c .before .before .before .before in
-    let s = w .before .before .before in
-    let l = read-side-small (s .args .q) (now (s .args .text)) (now (s .args .row)) _ _ (w .read-equation .ensures) (c .before .right .given .1) in
-    rw (toZ-ofZ {w = w32} {z = c .before .right .given .0 .0} (sfits-natAbs (omega (arith, l)))) l
+element-set-from-right : tie.Need-element-set-from-right
+element-set-from-right c = search needs
 
 enum-known-why : tie.Need-enum-known-why
 enum-known-why c = search needs
@@ -36,12 +28,9 @@ same-length c = search needs
 
 returns : tie.Need-returns
 returns c =
-    let w = c .before .before .before .before .before in
+    let w = c .before .before .before .before in
     let s = w .before .before .before in
-    let l = read-side-small (s .args .q) (now (s .args .text)) (now (s .args .row)) _ _ (w .read-equation .ensures) (c .before .before .right .given .1) in
-    let z = toZ-ofZ {w = w32} {z = c .before .before .right .given .0 .0} (sfits-natAbs (omega (arith, l))) in
-    read-told (s .args .q) (now (s .args .text)) (now (s .args .row)) _ _ (w .read-equation .ensures) (c .before .before .right .given .1)
-    (rw z at (c .read-code .ensures))
+    read-told (s .args .q) (now (s .args .text)) (now (s .args .row)) _ _ (w .read-equation .ensures) (now (s .args .side)) (c .before .right .given .1)
 
 same-length-2 : tie.Need-same-length-2
 same-length-2 c = search needs
@@ -50,7 +39,7 @@ returns-2 : tie.Need-returns-2
 returns-2 c =
     let w = c .before .before .before .before .before in
     let s = w .before .before .before in
-    read-refused-told (s .args .q) (now (s .args .text)) (now (s .args .row)) _ _ (w .read-equation .ensures)
+    read-refused-told (s .args .q) (now (s .args .text)) (now (s .args .row)) _ _ (w .read-equation .ensures) (now (s .args .side))
     (c .before .before .why .given .1) (c .refusal .ensures)
 
 pub read-equation-spec : {M : Type 1} → statement M
@@ -59,7 +48,7 @@ read-equation-spec =
     (tie.spec
     read-equation-requires
     enum-known-right
-    read-code-requires
+    element-set-from-right
     enum-known-why
     refusal-requires
     same-length

@@ -1,7 +1,7 @@
 -- `list_codes::read_list` meets its contract: each answer as its number. Assumes nothing.
 use denote.Ref.{now}
 use borrow.Author.Needs.{needs}
-use Rattle.list_codes.specs.CodeLaws.{read-refusal-fits, read-list-fits, read-refused-told, read-list-told}
+use Rattle.list_codes.specs.CodeLaws.{read-refusal-fits, read-refused-told, read-list-told}
 use Rattle.list_codes.proofs.read_list.Statement.{statement}
 use Rattle.list_codes.proofs.read_list.Tie as tie
 
@@ -20,11 +20,20 @@ refusal-requires c κs =
 enum-known-p : tie.Need-enum-known-p
 enum-known-p c = search needs
 
-counts-requires : tie.Need-counts-requires
-counts-requires c κs =
-    let r = c .before .before .before .before .before .before in
-    let a = r .before .before .before .before .before .args in
-    read-list-fits (now (a .file)) (now (a .coefs)) (now (a .list)) (r .read-list .ensures) (c .before .p .given .1)
+element-write-words : tie.Need-element-write-words
+element-write-words c = search needs
+
+element-write-words-2 : tie.Need-element-write-words-2
+element-write-words-2 c = search needs
+
+element-write-words-3 : tie.Need-element-write-words-3
+element-write-words-3 c = search needs
+
+cast-words : tie.Need-cast-words
+cast-words c = search needs
+
+element-write-words-4 : tie.Need-element-write-words-4
+element-write-words-4 c = search needs
 
 same-length : tie.Need-same-length
 same-length c = search needs
@@ -36,7 +45,8 @@ returns : tie.Need-returns
 returns c =
     let r = c .before .before .before .before .before .before .before in
     let a = r .before .before .before .before .before .args in
-    read-refused-told (now (a .file)) (now (a .coefs)) (now (a .list)) (r .read-list .ensures) (c .before .before .why .given .1) (c .refusal .ensures)
+    read-refused-told (now (a .file)) (now (a .coefs)) (now (a .list)) (r .read-list .ensures) (now (a .words)) (c .before .before .why .given .1)
+    (c .refusal .ensures)
 
 same-length-3 : tie.Need-same-length-3
 same-length-3 c = search needs
@@ -46,9 +56,9 @@ same-length-4 c = search needs
 
 returns-2 : tie.Need-returns-2
 returns-2 c =
-    let r = c .before .before .before .before .before .before .before in
+    let r = c .before .before .before .before .before .before in
     let a = r .before .before .before .before .before .args in
-    read-list-told (now (a .file)) (now (a .coefs)) (now (a .list)) (r .read-list .ensures) (c .before .before .p .given .1) (c .counts .ensures)
+    read-list-told (now (a .file)) (now (a .coefs)) (now (a .list)) (r .read-list .ensures) (now (a .words)) (c .before .p .given .1)
 
 pub read-list-spec : {M : Type 1} → statement M
 read-list-spec =
@@ -58,7 +68,11 @@ read-list-spec =
     enum-known-why
     refusal-requires
     enum-known-p
-    counts-requires
+    element-write-words
+    element-write-words-2
+    element-write-words-3
+    cast-words
+    element-write-words-4
     same-length
     same-length-2
     returns

@@ -20,12 +20,18 @@ read-code-requires c κs =
 enum-known-why : tie.Need-enum-known-why
 enum-known-why c = search needs
 
+place-requires : tie.Need-place-requires
+place-requires c κs = search needs
+
+element-write-within : tie.Need-element-write-within
+element-write-within c = search needs
+
 refusal-requires : tie.Need-refusal-requires
 refusal-requires c κs =
-    let r = c .before .before .before .before .before in
+    let w = c .before .before in
+    let r = w .before .before .before .before in
     let a = r .before .before .before .before .args in
-    system-refusal-fits (a .q) (now (a .text)) (now (a .coefs)) (now (a .rights)) (r .read-system .result) _ _ (r .read-system .ensures)
-    (c .before .why .given .1)
+    system-refusal-fits (a .q) (now (a .text)) (now (a .coefs)) (now (a .rights)) (r .read-system .result) _ _ (r .read-system .ensures) (w .why .given .1)
 
 same-length : tie.Need-same-length
 same-length c = search needs
@@ -37,7 +43,7 @@ returns : tie.Need-returns
 returns c =
     let r = c .before .before .before .before .before .before in
     let a = r .before .before .before .before .args in
-    system-told (a .q) (now (a .text)) (now (a .coefs)) (now (a .rights)) (r .read-system .result) _ _ (r .read-system .ensures)
+    system-told (a .q) (now (a .text)) (now (a .coefs)) (now (a .rights)) (r .read-system .result) _ _ (r .read-system .ensures) (now (a .within))
     (c .before .before .p .given .1) (c .read-code .ensures)
 
 same-length-3 : tie.Need-same-length-3
@@ -48,10 +54,11 @@ same-length-4 c = search needs
 
 returns-2 : tie.Need-returns-2
 returns-2 c =
-    let r = c .before .before .before .before .before .before in
+    let w = c .before .before .before in
+    let r = w .before .before .before .before in
     let a = r .before .before .before .before .args in
-    system-refused-told (a .q) (now (a .text)) (now (a .coefs)) (now (a .rights)) (r .read-system .result) _ _ (r .read-system .ensures)
-    (c .before .before .why .given .1) (c .refusal .ensures)
+    system-refused-told (a .q) (now (a .text)) (now (a .coefs)) (now (a .rights)) (r .read-system .result) _ _ (r .read-system .ensures) (now (a .within))
+    (w .why .given .1) (c .refusal .ensures) (c .before .place .ensures)
 
 pub read-system-spec : {M : Type 1} → statement M
 read-system-spec =
@@ -61,6 +68,8 @@ read-system-spec =
     enum-known-p
     read-code-requires
     enum-known-why
+    place-requires
+    element-write-within
     refusal-requires
     same-length
     same-length-2

@@ -1,0 +1,52 @@
+/* Two threads, each with runs of its own on the same system: the calls keep nothing between them, so that each gets what it gets alone. tests/run builds it
+ * with ThreadSanitizer. Exits with 1 at the first surprise. */
+#include "dezgula_text.h"
+
+#include <pthread.h>
+#include <stdio.h>
+#include <string.h>
+
+enum { ROUNDS = 200, ROWS = 64 };
+
+static const int32_t coefs[] = {-1, 1, 2, -3, -1, 3, -2, -1}, rights[] = {4, -1};
+static const dezgula_system example = {2, 4, coefs, 8};
+
+/* A plain run, one with right sides, and questions about its list. NULL, or what surprised. */
+static const char *rounds(uint64_t budget)
+{
+    uint32_t stack[DEZGULA_RIGHTS_STACK_LENGTH(4)], list[ROWS * 4], second[ROWS * 4], times[ROWS];
+    dezgula_run run = {stack, sizeof stack / sizeof *stack, list, ROWS * 4, second, ROWS * 4, {0}};
+    for (unsigned i = 0; i < ROUNDS; i++) {
+        uint64_t answer = dezgula_start(&example, &run);
+        while (answer == DEZGULA_STARTED || answer == DEZGULA_PAUSED) answer = dezgula_resume(&example, &run, budget);
+        if (answer != DEZGULA_COMPLETE || run.record.found.count != 2 || run.record.steps.count != 16) return dezgula_sentence(answer);
+        dezgula_list rows = dezgula_listed(&run);
+        if (dezgula_decompose(&example, &rows, (uint32_t[]){8, 7, 5, 3}, 4, times, ROWS, NULL) != DEZGULA_MADE) return "a plan is not made of the rows";
+        if (times[0] != 3 || times[1] != 2) return "a plan is made of other rows";
+        answer = dezgula_start_rights(&example, rights, 2, &run);
+        while (answer == DEZGULA_STARTED || answer == DEZGULA_PAUSED) answer = dezgula_resume_rights(&example, rights, 2, &run, budget);
+        if (answer != DEZGULA_COMPLETE) return dezgula_sentence(answer);
+        int32_t row[4], right;
+        if (dezgula_read_equation("x1 = x2 + 3", 11, 4, row, 4, &right) != DEZGULA_EQUATION_READ || right != 3) return "an equation is read otherwise";
+    }
+    return NULL;
+}
+
+static void *thread(void *budget)
+{
+    return (void *)(uintptr_t)rounds(*(uint64_t *)budget);
+}
+
+int main(void)
+{
+    pthread_t threads[2];
+    uint64_t budgets[2] = {3, 1000};
+    void *said[2];
+    for (size_t i = 0; i < 2; i++)
+        if (pthread_create(&threads[i], NULL, thread, &budgets[i]) != 0) return fprintf(stderr, "no thread\n"), 1;
+    for (size_t i = 0; i < 2; i++) pthread_join(threads[i], &said[i]);
+    for (size_t i = 0; i < 2; i++)
+        if (said[i] != NULL) return printf("SURPRISE: %s\n", (const char *)said[i]), 1;
+    printf("two threads, %d rounds each: as alone\n", ROUNDS);
+    return 0;
+}
