@@ -3,8 +3,8 @@
  * In order: types of net; arcs, how many documents they move and which kinds are taken; the grammar, as a table of which element stands in which; elements
  * that begin; text and elements that end; the parse.
  *
- * An element counts where its namespace is that of the file's first element, has "pnml" in it, or is none; all else is a tool's own and is passed over, and so
- * is what stands in <toolspecific>. */
+ * An element counts where its namespace is that of the net, has "pnml" in it, or is none; all else is a tool's own and is passed over, and so is what stands in
+ * <toolspecific>. */
 #include "net.h"
 
 #ifndef NO_EXPAT
@@ -84,7 +84,8 @@ static void check_net_type(reading *r, const char *written)
 /* ---- arcs: how many documents they move, and which kinds of arc are taken */
 
 static const char *const NORMAL_ARCS[] = {"normal", "ordinary", "regular", "standard", "default", "arc", "timed", "transport", "weighted"};
-static const char *const TEST_ARCS[] = {"test", "testarc", "test-arc", "test arc", "read", "readarc", "read-arc", "read arc", "both"};
+static const char *const TEST_ARCS[] = {"test", "testarc", "test-arc", "test arc", "read", "readarc", "read-arc", "read arc", "both", "double", "biflow",
+                                          "bidirectional"};
 
 enum { NORMAL_WORDS = sizeof NORMAL_ARCS / sizeof *NORMAL_ARCS, TEST_WORDS = sizeof TEST_ARCS / sizeof *TEST_ARCS };
 
@@ -245,7 +246,7 @@ static const char *local_name(const char *full)
 static bool is_pnml(const reading *r, const char *full)
 {
     const char *local = local_name(full);
-    if (local == full || r->depth == 0) return true;
+    if (local == full || r->depth == 0 || (innermost(r) == PNML && strcmp(local, "net") == 0)) return true;
     size_t len = (size_t)(local - full) - 1;
     if (r->grammar != NULL && strlen(r->grammar) == len && memcmp(r->grammar, full, len) == 0) return true;
     const char *word = strstr(full, "pnml");
@@ -273,14 +274,10 @@ static const char *attribute(const char **attributes, const char *name)
     return NULL;
 }
 
-static void begin_file(reading *r, const char *full)
+/* The namespace of an element is the grammar's. */
+static void take_grammar(reading *r, const char *full)
 {
     const char *local = local_name(full);
-    shown said = net_quote(local);
-    if (strcmp(local, "pnml") != 0) {
-        net_refuse(r, net_line(r), FORM, "the file begins with <%s>, not with <pnml>: it is no PNML file; export the net as PNML", said.text);
-        return;
-    }
     if (local == full) return;
     size_t len = (size_t)(local - full) - 1;
     r->grammar = net_room(r, len);
@@ -289,9 +286,18 @@ static void begin_file(reading *r, const char *full)
     r->grammar[len] = 0;
 }
 
-static void begin_net(reading *r, const char **attributes)
+static void begin_file(reading *r, const char *full)
+{
+    const char *local = local_name(full);
+    shown said = net_quote(local);
+    if (strcmp(local, "pnml") == 0) take_grammar(r, full);
+    else net_refuse(r, net_line(r), FORM, "the file begins with <%s>, not with <pnml>: it is no PNML file; export the net as PNML", said.text);
+}
+
+static void begin_net(reading *r, const char *full, const char **attributes)
 {
     shown id = net_quote(attribute(attributes, "id"));
+    take_grammar(r, full);
     if (r->net) net_refuse(r, net_line(r), FORM, "a second net (\"%s\") in the file; save each net in a file of its own", id.text);
     else check_net_type(r, attribute(attributes, "type"));
     r->net = true;
@@ -366,7 +372,7 @@ static void begin_label(reading *r, kind is, const char **attributes)
 static void begin_kind(reading *r, kind is, const char *full, const char **attributes)
 {
     if (is == PNML) begin_file(r, full);
-    else if (is == NET) begin_net(r, attributes);
+    else if (is == NET) begin_net(r, full, attributes);
     else if (is == PAGE) begin_page(r, attributes);
     else if (is == ARC) begin_arc(r, attributes);
     else if (is == POSITION) place(&r->entries[r->current], attribute(attributes, "x"), attribute(attributes, "y"));

@@ -357,11 +357,26 @@ static bool is_on(const drawing *d, const uint32_t *loop, size_t n)
     return false;
 }
 
+/* What a reader of the screen says of the picture. */
+static void write_title(FILE *out, const map *m, const uint32_t *loop)
+{
+    const char *between = ": ";
+    fputs(loop == NULL ? "<title>The net" : "<title>A loop in the net", out);
+    for (size_t j = 0; loop != NULL && j < m->q; j++) {
+        if (loop[j] == 0) continue;
+        fprintf(out, "%s%" PRIu32 " \xC3\x97 ", between, loop[j]);
+        escaped_write(out, m->activities[j].name);
+        between = ", ";
+    }
+    fputs("</title>\n", out);
+}
+
 static void write_svg(FILE *out, const drawing *d, const uint32_t *loop)
 {
     fprintf(out, "<svg xmlns=\"http://www.w3.org/2000/svg\" class=\"net%s\" viewBox=\"0 0 %.0f %.0f\" width=\"%.0f\" height=\"%.0f\" role=\"img\">\n",
             loop == NULL ? "" : " shows", d->width, d->height, d->width, d->height);
-    fprintf(out, "<title>%s</title>\n<style>%s</style>\n", loop == NULL ? "The net" : "A loop in the net", STYLE);
+    write_title(out, d->of, loop);
+    fprintf(out, "<style>%s</style>\n", STYLE);
     write_desks(out, d);
     for (size_t i = 0; i < d->arcs_len; i++) write_arc(out, d, &d->arcs[i], is_on(d, loop, activity_of(d, &d->arcs[i])));
     for (size_t i = d->nodes_len; i-- > 0;) write_node(out, d, i, loop == NULL || d->nodes[i].tray ? 0 : loop[i], is_on(d, loop, i));
