@@ -15,4 +15,5 @@ pub mod Marks
 pub mod Words
 pub mod Fresh
 pub mod Found
+pub mod Beside
 pub mod Examples
