@@ -31,7 +31,7 @@ use Rattle.engine_spec.specs.Stage.{Stage, row}
 unfoldable pub putAt : (f x : ℕ) → (ℕ → ℕ) → ℕ → ℕ
 putAt f x t j = cond (eqb j f) x (t j)
 
-put-same : (f x : ℕ) (t : ℕ → ℕ) → putAt f x t f ≡ x
+pub put-same : (f x : ℕ) (t : ℕ → ℕ) → putAt f x t f ≡ x
 unfolding putAt
 put-same f x t = go (eqb f f) (eqb-refl f)
   where
@@ -39,7 +39,7 @@ put-same f x t = go (eqb f f) (eqb-refl f)
     go true h = refl
     go false h = absurd h
 
-put-other : (f x : ℕ) (t : ℕ → ℕ) (j : ℕ) → j ≢ f → putAt f x t j ≡ t j
+pub put-other : (f x : ℕ) (t : ℕ → ℕ) (j : ℕ) → j ≢ f → putAt f x t j ≡ t j
 unfolding putAt
 put-other f x t j ne = go (eqb j f) (eqb→eq j f)
   where

@@ -16,4 +16,8 @@ pub mod Words
 pub mod Fresh
 pub mod Found
 pub mod Beside
+pub mod Engine
+pub mod Operations
+pub mod Whole
+pub mod Calls
 pub mod Examples
