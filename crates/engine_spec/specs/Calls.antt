@@ -1,7 +1,7 @@
 -- The engine's calls: the start, a row operation, the begin of a stage, and the continuing call with a budget of turns. What is lent: the working system, the
 -- basis and the stage's table, the tables beside them, and the record of the run. Assumes nothing.
 use Prim.Native.Nat.{ℕ, _+_, _*_, _-_, _^_, _/_, min}
-use mathlib.Core.Bool.{Bool, not, cond, _&&_, _||_}
+use mathlib.Core.Bool.{Bool, false, not, cond, _&&_, _||_}
 use mathlib.Core.List.{List}
 use lib.Dec.{eqb, leb, ltb}
 use lib.IntN.{ℤ, pos, negsuc, natAbs}
