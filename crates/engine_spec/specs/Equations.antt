@@ -48,7 +48,7 @@ zeroRow q c row i = isZero (value c q (row i))
 
 -- ---- small laws
 
-is-zero : (z : ℤ) → T (isZero z) → z ≡ pos 0
+pub is-zero : (z : ℤ) → T (isZero z) → z ≡ pos 0
 is-zero (pos n) h = ap pos (eqb→eq n 0 h)
 is-zero (negsuc n) h = absurd h
 

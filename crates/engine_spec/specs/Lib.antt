@@ -20,4 +20,5 @@ pub mod Engine
 pub mod Operations
 pub mod Whole
 pub mod Calls
+pub mod Promise
 pub mod Examples
