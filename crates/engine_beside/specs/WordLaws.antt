@@ -96,9 +96,10 @@ pub first-word : (q : ℕ) (x : ℕ → ℕ) → digits 0 (fieldAt q x) ≡ 0
 unfolding digits
 first-word q x = refl
 
-pub next-word : (q : ℕ) (x : ℕ → ℕ) (j : ℕ) {w f r : ℕ} → w ≡ digits j (fieldAt q x) → f ≡ fieldAt q x j → r ≡ f * 16 ^ j
+-- y is the sum of the two components, f that as far as 7, and r the same in its place
+pub next-word : (q : ℕ) (x : ℕ → ℕ) (j : ℕ) {w y f r : ℕ} → w ≡ digits j (fieldAt q x) → y ≡ folded q x j → f ≡ capped y → r ≡ f * 16 ^ j
     → w + r ≡ digits (j + 1) (fieldAt q x)
-next-word q x j e g h = rw (e, h, g) (sym (digits-next j (fieldAt q x)))
+next-word q x j e s g h = rw (e, h, g, s) (sym (digits-next j (fieldAt q x)))
 
 digits-more : (n m : ℕ) (f : ℕ → ℕ) → n ≤ m → ((j : ℕ) → n ≤ j → f j ≡ 0) → digits m f ≡ digits n f
 digits-more n zero f l none = let e : n ≡ 0 = omega arith in rw e refl

@@ -31,7 +31,13 @@ shared-slice-read-sum : tie.Need-shared-slice-read-sum Inv-loop μ-loop
 shared-slice-read-sum c = search needs
 
 add-sum-2 : tie.Need-add-sum-2 Inv-loop μ-loop
-add-sum-2 c = search needsA
+add-sum-2 c =
+    let a = c .before .before in
+    let s = a .before in
+    omega (
+      arith,
+      total-room (s .args .q) (rowAt (now (s .args .table)) (s .args .base)) (a .loop .j) (s .pre .0) (s .pre .1 .small) (c .before .loop-test .taken) (a .loop .inv .1),
+    )
 
 add-j : tie.Need-add-j Inv-loop μ-loop
 add-j c = search needs
@@ -40,7 +46,10 @@ loop-less : tie.Need-loop-less Inv-loop μ-loop
 loop-less c = search needs
 
 loop-again : tie.Need-loop-again Inv-loop μ-loop
-loop-again c = search needsB
+loop-again c =
+    let a = c .before .before in
+    let s = a .before in
+    (search needs, total-next (rowAt (now (s .args .table)) (s .args .base)) (a .loop .j) (a .loop .inv .1))
 
 returns : tie.Need-returns Inv-loop μ-loop
 returns c = let a = c .before in rw (le-antisymm (a .loop .inv .0) (c .loop-test .left)) at (a .loop .inv .1)

@@ -32,7 +32,10 @@ shared-slice-read-if1 c = search needs
 
 returns : tie.Need-returns Inv-loop μ-loop
 unfolding isRising
-returns c = search needsA
+returns c =
+    let l = c .before .before in
+    let a = l .before in
+    sym (all-fails _ _ (a .loop .i) (l .loop-test .taken) (lt-leb _ _ (rw (a .loop .inv .1) at (c .if1 .taken))))
 
 mul-before : tie.Need-mul-before Inv-loop μ-loop
 mul-before c = search needs
@@ -47,7 +50,9 @@ loop-less : tie.Need-loop-less Inv-loop μ-loop
 loop-less c = search needs
 
 loop-again : tie.Need-loop-again Inv-loop μ-loop
-loop-again c = search needsB
+loop-again c =
+    let a = c .before .before .before .before in
+    (search needs, sym (before-next _ (a .loop .i)), all-next _ _ (a .loop .inv .2) (le-leb _ _ (rw (a .loop .inv .1) at (c .before .if1 .left))))
 
 returns-2 : tie.Need-returns-2 Inv-loop μ-loop
 unfolding isRising
