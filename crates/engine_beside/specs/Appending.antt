@@ -1,0 +1,1 @@
+-- One row more in the table and one entry more in each table beside it. Assumes nothing.
