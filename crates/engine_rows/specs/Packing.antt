@@ -49,3 +49,15 @@ module _ (q : ℕ) (stay : ℕ → Bool) (row : ℕ → ℕ → ℕ) (table₀ :
     pub packed-fits : (n : ℕ) → i < n → stay i ≡ true → countTo n stay * q ≤ length table₀ → count * q + q ≤ length table
     packed-fits n l e room =
         omega (arith, packed-length, row-fits q count (countTo n stay) (omega (arith, k .counted, count-step stay i n l (rw e tt))))
+
+-- ---- every row written
+
+all-counted : (i : ℕ) → countTo i always ≡ i
+unfolding countTo
+all-counted zero = refl
+all-counted (suc i) = omega (arith, all-counted i)
+
+pub all-more : (q i : ℕ) (table₀ : List ℕ) (row : ℕ → ℕ → ℕ) {table after : List ℕ} → table ≡ packTo i q table₀ 0 always row
+    → after ≡ writeTo q table (i * q) (row i) → after ≡ packTo (i + 1) q table₀ 0 always row
+unfolding packTo
+all-more q i table₀ row e h = let place : 0 + countTo i always ≡ i = omega (arith, all-counted i) in rw (add-one i, place, ← e) h
