@@ -1,0 +1,67 @@
+// What is remembered of rows that dropped sums, for the time of one call: for each sign of a sum up to 256 of them with their words, those that dropped
+// more ahead; and by the remainder of a word the row that was last appended or found with it. None of it is trusted.
+//   held        the words of the droppers, 256 for each sign
+//   places      their rows, 256 for each sign; from 768 on how many there are of each sign; from 1024 on the rows by remainder
+ghost use Prim.Native.Nat.{_+_, _*_, _≤_, _<_};
+
+// the fields of a word, without their guards
+pub const FIELDS: u64 = 0x7777777777777777;
+
+// How many rows dropped sums of this sign.
+pub fn count(places: &[u32; 17408], sign: usize) -> usize
+    requires { ⌜ sign < 3 ⌝ }
+    ensures { λ r. ⌜ r ≤ 256 ⌝ }
+{
+    let n = places[768 + sign] as usize;
+    if n < 256 { n } else { 256 }
+}
+
+// The row remembered at place k.
+pub fn place(places: &[u32; 17408], k: usize) -> usize
+    requires { ⌜ k < 17408 ⌝ }
+{
+    places[k] as usize
+}
+
+// The place of the row that is remembered by the remainder of a word.
+pub fn slot(word: u64) -> usize
+    ensures { λ r. ⌜ r < 17408 ⌝ }
+{
+    1024 + (word % 16381) as usize
+}
+
+// The dropper at place k changes places with the one ahead of it, where there is one.
+pub fn advance(held: &mut [u64; 768], places: &mut [u32; 17408], from: usize, k: usize)
+    requires { ⌜ (from ≤ k) × (k < 768) ⌝ }
+{
+    if from < k {
+        let word = held[k];
+        held[k] = held[k - 1];
+        held[k - 1] = word;
+        let row = places[k];
+        places[k] = places[k - 1];
+        places[k - 1] = row;
+    }
+}
+
+// A row that dropped a sum: it comes last, in the place of the last one where there are 256.
+pub fn remember(held: &mut [u64; 768], places: &mut [u32; 17408], sign: usize, row: usize, word: u64)
+    requires { ⌜ (sign < 3) × (row < 4294967296) ⌝ }
+{
+    let n = count(places, sign);
+    let mut last = 255;
+    if n < 256 {
+        last = n;
+        places[768 + sign] = n as u32 + 1;
+    }
+    held[sign * 256 + last] = word;
+    places[sign * 256 + last] = row as u32;
+    places[slot(word)] = row as u32;
+}
+
+// A row appended: remembered by the remainder of its word.
+pub fn appended(places: &mut [u32; 17408], row: usize, word: u64)
+    requires { ⌜ row < 4294967296 ⌝ }
+{
+    places[slot(word)] = row as u32;
+}
