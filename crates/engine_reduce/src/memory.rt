@@ -2,17 +2,19 @@
 // more ahead; and by the remainder of a word the row that was last appended or found with it. None of it is trusted.
 //   held        the words of the droppers, 256 for each sign
 //   places      their rows, 256 for each sign; from 768 on how many there are of each sign; from 1024 on the rows by remainder
+ghost use mathlib.Core.Path.{_≡_};
 ghost use Prim.Native.Nat.{_+_, _*_, _≤_, _<_};
+use engine_beside::words as fields;
 
-// the fields of a word, without their guards
-pub const FIELDS: u64 = 0x7777777777777777;
+
+
 
 // How many rows dropped sums of this sign.
 pub fn count(places: &[u32; 17408], sign: usize) -> usize
     requires { ⌜ sign < 3 ⌝ }
     ensures { λ r. ⌜ r ≤ 256 ⌝ }
 {
-    let n = places[768 + sign] as usize;
+    let n = number(places[768 + sign]);
     if n < 256 { n } else { 256 }
 }
 
@@ -20,7 +22,7 @@ pub fn count(places: &[u32; 17408], sign: usize) -> usize
 pub fn place(places: &[u32; 17408], k: usize) -> usize
     requires { ⌜ k < 17408 ⌝ }
 {
-    places[k] as usize
+    number(places[k])
 }
 
 // The place of the row that is remembered by the remainder of a word.
@@ -49,14 +51,15 @@ pub fn remember(held: &mut [u64; 768], places: &mut [u32; 17408], sign: usize, r
     requires { ⌜ (sign < 3) × (row < 4294967296) ⌝ }
 {
     let n = count(places, sign);
-    let mut last = 255;
-    if n < 256 {
-        last = n;
-        places[768 + sign] = n as u32 + 1;
-    }
-    held[sign * 256 + last] = word;
-    places[sign * 256 + last] = row as u32;
     places[slot(word)] = row as u32;
+    if n < 256 {
+        places[768 + sign] = n as u32 + 1;
+        held[sign * 256 + n] = word;
+        places[sign * 256 + n] = row as u32;
+        return;
+    }
+    held[sign * 256 + 255] = word;
+    places[sign * 256 + 255] = row as u32;
 }
 
 // A row appended: remembered by the remainder of its word.
@@ -64,4 +67,15 @@ pub fn appended(places: &mut [u32; 17408], row: usize, word: u64)
     requires { ⌜ row < 4294967296 ⌝ }
 {
     places[slot(word)] = row as u32;
+}
+
+fn number(x: u32) -> usize
+    ensures { λ r. ⌜ r ≡ x ⌝ }
+{
+    x as usize
+}
+
+// Whether the row of a word that is held may lie at or below a sum of another word.
+pub fn may_drop(held: u64, word: u64) -> bool {
+    fields::fits(held & 0x7777777777777777, word)
 }
