@@ -1,9 +1,10 @@
 -- `small::small_rows` meets its contract: the rows passed are within the limit. Assumes nothing.
-use mathlib.Core.Path.{_≡_, sym}
+use mathlib.Core.Path.{_≡_, sym, _∙_}
 use mathlib.Core.Bool.{true}
 use Prim.Native.Nat.{_-_, _≤_}
 use native.Mathlib.Nat.{le-antisymm}
 use native.Mathlib.Omega.{arith}
+use borrow.Author.Tests.{not-false, not-true}
 use Rattle.linear.specs.LoopLaws.{all-fails, all-next}
 use Rattle.linear.specs.Tests.{allTo}
 use Rattle.definitions.specs.Tables.{at}
@@ -37,7 +38,9 @@ small-at-requires c κs =
 
 returns : tie.Need-returns Inv-loop μ-loop
 unfolding areSmall
-returns c = search needs
+returns c =
+    let l = c .before .before in
+    sym (all-fails _ _ (l .before .loop .i) (l .loop-test .taken) (sym (c .before .small-at .ensures) ∙ not-true _ (c .if1 .taken)))
 
 add-i : tie.Need-add-i Inv-loop μ-loop
 add-i c = search needs
@@ -46,7 +49,9 @@ loop-less : tie.Need-loop-less Inv-loop μ-loop
 loop-less c = search needs
 
 loop-again : tie.Need-loop-again Inv-loop μ-loop
-loop-again c = search needs
+loop-again c =
+    let a = c .before .before .before in
+    (search needs, all-next _ _ (a .loop .inv .1) (sym (c .before .small-at .ensures) ∙ not-false _ (c .if1 .left)))
 
 returns-2 : tie.Need-returns-2 Inv-loop μ-loop
 unfolding areSmall
