@@ -1,5 +1,4 @@
 -- `values::write_values` meets its contract. The rows passed have their values written. Assumes nothing.
-use mathlib.Core.Path.{_≡_}
 use Prim.Native.Nat.{_-_, _≤_}
 use native.Mathlib.Nat.{le-antisymm}
 use native.Mathlib.Omega.{arith}
@@ -49,10 +48,11 @@ loop-again : tie.Need-loop-again Inv-loop μ-loop
 loop-again c =
     let a = c .before .before in
     let s = a .before .before in
-    let r = table-row (s .pre .1) (a .loop .i) (c .before .loop-test .taken) in (
+    let l = c .before .loop-test .taken in
+    let r = table-row (s .pre .1) (a .loop .i) l in (
       search needs,
-      valued-more (omega (arith, a .loop .inv .2 .long, s .pre .2, c .before .loop-test .taken)) (a .loop .inv .1) _ (value-back (s .pre .0) r (c .value-at .ensures)),
-      kept-more (a .loop .i) _ (c .before .loop-test .taken) (a .loop .inv .2),
+      valued-more (omega (arith, a .loop .inv .2 .long, s .pre .2, l)) (a .loop .inv .1) _ (value-back (s .pre .0) r (c .value-at .ensures)),
+      kept-more (a .loop .i) _ l (a .loop .inv .2),
     )
 
 same-length : tie.Need-same-length Inv-loop μ-loop
