@@ -1,14 +1,12 @@
 -- Degrees within the limits, and one turn of the loop that adds one up. Assumes nothing.
-use mathlib.Core.Path.{_≡_, refl}
-use mathlib.Core.List.{List}
-use Prim.Native.Nat.{ℕ, zero, suc, _+_, _*_, _≤_, _<_}
-use native.Mathlib.Nat.{mul-le-mul-right}
+use mathlib.Core.Path.{_≡_}
+use Prim.Native.Nat.{ℕ, _+_, _*_, _≤_, _<_}
 use native.Mathlib.Numerals.{add-one}
 use native.Mathlib.Omega.{arith}
 use Rattle.linear.specs.TupleLaws.{total-most}
 use Rattle.linear.specs.Tuples.{total}
 use Rattle.definitions.specs.System.{mostComponent}
-use Rattle.engine_spec.specs.Beside.{SmallRow, mostColumns, rowAt}
+use Rattle.engine_spec.specs.Beside.{mostColumns}
 
 -- "32 · 1,000,000"
 abbrev pub degreeLimit : ℕ

@@ -1,14 +1,14 @@
 -- Degrees in order: each is at least 1, and none is below the one before. The test computes. Assumes nothing.
-use mathlib.Core.Path.{_≡_, refl}
+use mathlib.Core.Path.{_≡_}
 use mathlib.Core.Logic.{inl, inr}
-use mathlib.Core.Bool.{Bool, true, false}
+use mathlib.Core.Bool.{Bool}
 use mathlib.Core.List.{List}
 use Prim.Native.Nat.{ℕ, zero, suc, _+_, _≤_, _<_}
 use native.Mathlib.Numerals.{add-one}
 use native.Mathlib.Omega.{arith}
 use lib.Dec.{T, le→leb, leb, leb→le}
 use lib.ListN.{getD}
-use Rattle.linear.specs.Cases.{below-suc}
+use Rattle.linear.specs.Cases.{split}
 use Rattle.linear.specs.TestLaws.{all-at, all-from}
 use Rattle.linear.specs.Tests.{allTo}
 
@@ -41,7 +41,7 @@ module _ (n : ℕ) (f : ℕ → ℕ) where
   unfolding before
   order h i zero l kn = let e : i ≡ 0 = omega arith in rw e (omega arith)
   order h i (suc k) l kn =
-      elim (Rattle.linear.specs.Cases.split i (suc k)) [
+      elim (split i (suc k)) [
         | inl m ↦ omega (arith, order h i k (omega arith) (omega arith), step h (suc k) kn)
         | inr m ↦ let e : i ≡ suc k = omega arith in rw e (omega arith)
       ]

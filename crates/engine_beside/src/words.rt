@@ -7,6 +7,7 @@ ghost use Rattle.engine_spec.specs.Words.{fits as fitsWord, joined as joinedWor
 ghost use Rattle.engine_beside.specs.Writing.{Kept};
 
 const GUARDS: u64 = 0x8888888888888888;
+
 const OTHERS: u64 = 0x7777777777777777;
 
 // The word of the row that stands in the table from place `base`.

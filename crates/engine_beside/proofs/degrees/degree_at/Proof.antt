@@ -34,10 +34,8 @@ add-sum-2 : tie.Need-add-sum-2 Inv-loop μ-loop
 add-sum-2 c =
     let a = c .before .before in
     let s = a .before in
-    omega (
-      arith,
-      total-room (s .args .q) (rowAt (now (s .args .table)) (s .args .base)) (a .loop .j) (s .pre .0) (s .pre .1 .small) (c .before .loop-test .taken) (a .loop .inv .1),
-    )
+    let row = rowAt (now (s .args .table)) (s .args .base) in
+    omega (arith, total-room (s .args .q) row (a .loop .j) (s .pre .0) (s .pre .1 .small) (c .before .loop-test .taken) (a .loop .inv .1))
 
 add-j : tie.Need-add-j Inv-loop μ-loop
 add-j c = search needs

@@ -3,7 +3,6 @@ use mathlib.Core.Path.{_≡_, refl, sym}
 use mathlib.Core.Bool.{true}
 use Prim.Native.Nat.{_-_, _≤_}
 use native.Mathlib.Nat.{le-antisymm}
-use native.Mathlib.Omega.{arith}
 use lib.Dec.{leb}
 use borrow.Author.Tests.{le-leb, lt-leb}
 use Rattle.linear.specs.LoopLaws.{all-fails, all-next}
@@ -15,7 +14,8 @@ use Rattle.engine_beside.proofs.degrees.rising.Statement.{statement}
 use Rattle.engine_beside.proofs.degrees.rising.Tie as tie
 
 abbrev Inv-loop : tie.InvT-loop
-Inv-loop degrees n before₀ i₀ before i = (i ≤ n) × (before ≡ earlier (degreeAt degrees) i) × (allTo i (λ k. leb (earlier (degreeAt degrees) k) (degreeAt degrees k)) ≡ true)
+Inv-loop degrees n before₀ i₀ before i =
+    (i ≤ n) × (before ≡ earlier (degreeAt degrees) i) × (allTo i (λ k. leb (earlier (degreeAt degrees) k) (degreeAt degrees k)) ≡ true)
 
 abbrev μ-loop : tie.MeasureT-loop
 μ-loop degrees n before₀ i₀ before i = n - i

@@ -3,7 +3,6 @@ use mathlib.Core.Path.{refl}
 use native.Mathlib.Omega.{arith}
 use lib.Bits.{and-le-l, or-add-and}
 use Rattle.engine_spec.specs.Words.{digits, fits as fitsWord, guards}
-use borrow.Author.Needs.{needs}
 use Rattle.engine_beside.proofs.words.fits.Statement.{statement}
 use Rattle.engine_beside.proofs.words.fits.Tie as tie
 
