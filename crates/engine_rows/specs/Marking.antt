@@ -2,10 +2,10 @@
 use mathlib.Core.Path.{_≡_, refl, sym, _∙_, ap}
 use mathlib.Core.Logic.{_≢_, _⊎_, inl, inr}
 use mathlib.Core.List.{List}
-use mathlib.Core.Bool.{Bool, true, false, _&&_, _||_}
+use mathlib.Core.Bool.{Bool, true, false, not, _&&_, _||_}
 use Prim.Native.Nat.{ℕ, _+_, _*_, _≤_, _<_}
 use native.Mathlib.Omega.{arith}
-use borrow.Author.Tests.{ltb-true}
+use borrow.Author.Tests.{ltb-true, not-false}
 use lib.Dec.{T}
 use lib.IntN.{ℤ, pos, negsuc, natAbs, _-ℤ_}
 use lib.ListN.{length, length-set, getD, set}
@@ -21,8 +21,9 @@ use Rattle.linear.specs.SystemLaws.{inner-bound}
 use Rattle.linear.specs.Systems.{value}
 use Rattle.linear.specs.TestLaws.{and-parts, or-cases}
 use Rattle.linear.specs.Tuples.{AtOrBelow}
-use Rattle.definitions.specs.System.{mostComponent}
+use Rattle.definitions.specs.System.{isAtOrBelow, mostComponent}
 use Rattle.definitions.specs.Tables.{at}
+use Rattle.laws.specs.SystemLaws.{below-from}
 use Rattle.engine_spec.specs.Beside.{AllMarked, SmallEquation, SmallTable, Valued, coefficientLimit, equationAt, noMark, valueLimit}
 use Rattle.engine_spec.specs.Marks.{Marked, Opposed, size}
 use Rattle.engine_spec.specs.ReductionLaws.{Against}
@@ -126,9 +127,40 @@ size-is (negsuc n) = omega arith
 pub size-fits : (v : ℤ) → natAbs v ≤ valueLimit → SFits w64 (pos (size v))
 size-fits v l = sfits-natAbs (omega (arith, size-is v))
 
--- a value as it is read back
-pub value-read : {n : ℕ} {values : List ℤ} → BoundedValues n values → (i : ℕ) → i < n → toZ w64 (ofZ w64 (valueAt values i)) ≡ valueAt values i
+-- a value as the code reads it
+abbrev pub readAt : List ℤ → ℕ → ℤ
+readAt values i = toZ w64 (ofZ w64 (valueAt values i))
+
+pub value-read : {n : ℕ} {values : List ℤ} → BoundedValues n values → (i : ℕ) → i < n → readAt values i ≡ valueAt values i
 value-read b i l = toZ-ofZ (sfits-natAbs (omega (arith, b .each i l)))
+
+-- ---- the mark that row m gives to row i, from what the code finds of them
+
+module _ {n : ℕ} {values : List ℤ} (b : BoundedValues n values) {i m : ℕ} (il : i < n) (ml : m < n) {s t : ℕ} (sized : s ≡ size (readAt values i))
+    (sized′ : t ≡ size (readAt values m)) where
+  pub mark-small : s + t ≤ 2 * valueLimit
+  mark-small =
+      omega (
+        arith,
+        rw (value-read b i il) at sized,
+        rw (value-read b m ml) at sized′,
+        size-is (valueAt values i),
+        size-is (valueAt values m),
+        b .each i il,
+        b .each m ml,
+      )
+
+  pub marked-by : (q : ℕ) (table : List ℕ) {o u : Bool} → o ≡ isOpposed (readAt values i) (readAt values m) → not o ≡ false
+      → u ≡ isAtOrBelow q (at table q m) (at table q i) → not u ≡ false
+      → ValueMarked q n table values i (s + t)
+  marked-by q table {o} {u} signs on under un =
+      record {
+        by = m;
+        low = ml;
+        under = below-from q (at table q m) (at table q i) (rw (sym under ∙ not-false u un) tt);
+        signs = opposed-from (valueAt values i) (valueAt values m) (rw (value-read b i il, value-read b m ml) at (sym signs ∙ not-false o on));
+        sizes = omega (arith, rw (value-read b i il) at sized, rw (value-read b m ml) at sized′);
+      }
 
 -- ---- the loop
 
