@@ -1,6 +1,6 @@
 -- The least degree of a pair, row after row: for each upper row the first row below 0 among those whose degree is enough. Assumes nothing.
-use mathlib.Core.Path.{_≡_, refl, sym, _∙_}
-use mathlib.Core.Logic.{_≢_, _⊎_, inl, inr}
+use mathlib.Core.Path.{_≡_, refl, _∙_}
+use mathlib.Core.Logic.{_≢_, inl, inr}
 use mathlib.Core.Bool.{Bool, true, false, cond, _&&_}
 use mathlib.Core.List.{List}
 use Prim.Native.Nat.{ℕ, _+_, _-_, _≤_, _<_}
@@ -9,9 +9,9 @@ use lib.Dec.{T}
 use lib.IntN.{ℤ, pos}
 use lib.Signed.{ltZ}
 use Rattle.linear.specs.Cases.{split}
-use Rattle.linear.specs.TestLaws.{T-dec, and-both, and-parts}
+use Rattle.linear.specs.TestLaws.{and-both, and-parts}
 use Rattle.engine_spec.specs.Search.{leastTo, lesser}
-use Rattle.engine_search.specs.Falls.{Back, Fallen, Low, back-early, falling-back, isBelow}
+use Rattle.engine_search.specs.Falls.{Fallen, back-early, falling-back, isBelow}
 use Rattle.engine_search.specs.Firsts.{least-is, least-next, least-none, lesser-zero}
 use Rattle.engine_search.specs.Places.{Falling, Ranked, degreeOf, leastPair, pairDegreeBy, valueOf}
 use Rattle.engine_search.specs.Rows.{isAbove}

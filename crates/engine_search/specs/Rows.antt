@@ -1,9 +1,9 @@
 -- The search for the next pair, row after row. Assumes nothing.
-use mathlib.Core.Path.{_≡_, refl, sym, _∙_}
-use mathlib.Core.Logic.{_≢_, _⊎_, inl, inr}
+use mathlib.Core.Path.{_≡_, refl, sym}
+use mathlib.Core.Logic.{_≢_, inl, inr}
 use mathlib.Core.Bool.{Bool, true, false, cond, _&&_}
 use mathlib.Core.List.{List}
-use Prim.Native.Nat.{ℕ, max, _+_, _-_, _≤_, _<_}
+use Prim.Native.Nat.{ℕ, max, _+_, _≤_, _<_}
 use native.Mathlib.Decide.{ℕ-discrete}
 use native.Mathlib.Omega.{arith}
 use lib.Dec.{T, eqb, eqb→eq, eqb-refl}
@@ -122,8 +122,8 @@ module _ {n : ℕ} {values : List ℤ} {degrees : List ℕ} {d u l upper lower :
     row-found kn f =
         let (under, g) = w .here kn in
         let found = pair-unique n (due values degrees d) u l upper k un kn (due-shown values degrees d upper k over under (omega arith))
-            (lower-late k (omega (arith, w .passed .since)))
-            (λ i j hn jn early late. first-one i j hn jn early late) in
+        (lower-late k (omega (arith, w .passed .since)))
+        (λ i j hn jn early late. first-one i j hn jn early late) in
         record { upper-is = sym (found .0); lower-is = sym (found .1); falling = falling-back f b (omega arith) }
       where
         first-one : (i j : ℕ) → i < n → j < n → Before upper k i j → ¬ (Before u l i j) → ¬ (T (due values degrees d i j))

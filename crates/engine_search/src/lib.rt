@@ -46,7 +46,11 @@ pub fn next_pair(values: &[i64], degrees: &[u32], n: usize, d: u64, at: Place) -
         let from = lower;
         let x = wide(degrees[h]);
         if d <= x {
-            return Place { upper: n, lower: 0, first: n };
+            return Place {
+                upper: n,
+                lower: 0,
+                first: n,
+            };
         }
         upper += 1;
         lower = 0;
@@ -57,14 +61,29 @@ pub fn next_pair(values: &[i64], degrees: &[u32], n: usize, d: u64, at: Place) -
         first = back(degrees, first, e);
         let k = next_below(values, degrees, n, greatest(from, first), e);
         if k < n {
-            return Place { upper: h, lower: k, first: first };
+            return Place {
+                upper: h,
+                lower: k,
+                first: first,
+            };
         }
     }
-    Place { upper: n, lower: 0, first: n }
+    Place {
+        upper: n,
+        lower: 0,
+        first: n,
+    }
 }
 
 // The least degree above d of a row of the basis or of a pair; 0 where there is none.
-pub fn next_degree(values: &[i64], degrees: &[u32], n: usize, sizes: &[u32], m: usize, d: u64) -> u64
+pub fn next_degree(
+    values: &[i64],
+    degrees: &[u32],
+    n: usize,
+    sizes: &[u32],
+    m: usize,
+    d: u64,
+) -> u64
     requires { ⌜ Ranked n (now values) (now degrees) × (m ≤ length (now sizes)) ⌝ }
     ensures { λ r. ⌜ r ≡ nextDegreeBy d m (degreeOf (now (sizes .entry))) n (valueOf (now (values .entry))) (degreeOf (now (degrees .entry))) ⌝ }
 {
@@ -103,7 +122,16 @@ fn least_pair(values: &[i64], degrees: &[u32], n: usize, d: u64) -> u64
             continue;
         }
         let x = wide(degrees[i]);
-        let f = fall(values, degrees, n, missing(d, x), Edge { first: first, low: low });
+        let f = fall(
+            values,
+            degrees,
+            n,
+            missing(d, x),
+            Edge {
+                first: first,
+                low: low,
+            },
+        );
         first = f.first;
         low = f.low;
         if low < n {
@@ -129,14 +157,20 @@ fn fall(values: &[i64], degrees: &[u32], n: usize, e: u64, at: Edge) -> Edge
     while 0 < first {
         let k = first - 1;
         if wide(degrees[k]) < e {
-            return Edge { first: first, low: low };
+            return Edge {
+                first: first,
+                low: low,
+            };
         }
         first = k;
         if is_below(values[k]) {
             low = k;
         }
     }
-    Edge { first: first, low: low }
+    Edge {
+        first: first,
+        low: low,
+    }
 }
 
 // The first row of degree e or more, where that holds from `from` on.
@@ -162,8 +196,8 @@ fn next_below(values: &[i64], degrees: &[u32], n: usize, from: usize, e: u64) ->
 {
     let mut k = from;
     while k < n {
-        let i = k;
-        let x = wide(degrees[i]);
+        let j = k;
+        let x = wide(degrees[j]);
         if e < x {
             return n;
         }
@@ -171,8 +205,8 @@ fn next_below(values: &[i64], degrees: &[u32], n: usize, from: usize, e: u64) ->
         if x < e {
             continue;
         }
-        if is_below(values[i]) {
-            return i;
+        if is_below(values[j]) {
+            return j;
         }
     }
     k

@@ -1,14 +1,11 @@
-use denote.Ref.{now}
+-- `due_row` meets its contract: the first row from the loop's place on is the first from `from` on. Assumes nothing.
 use mathlib.Core.Path.{_≡_}
 use Prim.Native.Nat.{_-_}
-use Rattle.engine_search.specs.Firsts.{firstOf, size-here, size-next, size-none}
+use denote.Ref.{now}
 use borrow.Author.Needs.{needs}
-use native.Mathlib.Omega.{arith}
+use Rattle.engine_search.specs.Firsts.{firstOf, size-here, size-next, size-none}
 use Rattle.engine_search.proofs.due_row.Statement.{statement}
 use Rattle.engine_search.proofs.due_row.Tie as tie
-use Rattle.engine_search.proofs.due_row.Reads as reads
-use Rattle.engine_search.proofs.due_row.Lts as lts
-use Rattle.engine_search.proofs.wide.Reads as wide-reads
 
 abbrev Inv-loop : tie.InvT-loop
 Inv-loop sizes m from d i₀ i = firstOf sizes m from d ≡ firstOf sizes m i d
@@ -16,43 +13,34 @@ Inv-loop sizes m from d i₀ i = firstOf sizes m from d ≡ firstOf sizes m i d
 abbrev μ-loop : tie.MeasureT-loop
 μ-loop sizes m from d i₀ i = m - i
 
--- src/lib.rt:27:5
 loop-holds : tie.Need-loop-holds Inv-loop μ-loop
 loop-holds c = search needs
 
--- src/lib.rt:28:17
 mul-wide : tie.Need-mul-wide Inv-loop μ-loop
 mul-wide c = search needs
 
--- src/lib.rt:28:17
 shared-slice-read-wide : tie.Need-shared-slice-read-wide Inv-loop μ-loop
 shared-slice-read-wide c = search needs
 
--- src/lib.rt:28:12
 wide-requires : tie.Need-wide-requires Inv-loop μ-loop
 wide-requires c κs = search needs
 
--- src/lib.rt:29:13
 returns : tie.Need-returns Inv-loop μ-loop
 returns c =
     let l = c .before .before .before in
     size-here (now (l .before .before .before .args .sizes)) _ _ _ _ _ (l .before .loop .inv) (l .loop-test .taken) (c .before .wide .ensures) (c .if1 .taken)
 
--- src/lib.rt:31:9
 add-i : tie.Need-add-i Inv-loop μ-loop
 add-i c = search needs
 
--- src/lib.rt:27:5
 loop-less : tie.Need-loop-less Inv-loop μ-loop
 loop-less c = search needs
 
--- src/lib.rt:27:5
 loop-again : tie.Need-loop-again Inv-loop μ-loop
 loop-again c =
     let l = c .before .before .before in
     size-next (now (l .before .before .before .args .sizes)) _ _ _ _ _ (l .before .loop .inv) (l .loop-test .taken) (c .before .wide .ensures) (c .if1 .left)
 
--- src/lib.rt:22:1
 returns-2 : tie.Need-returns-2 Inv-loop μ-loop
 returns-2 c =
     let s = c .before .before .before in

@@ -1,9 +1,11 @@
-use mathlib.Core.Path.{_≡_, sym, _∙_}
+-- `least_pair` meets its contract: the least of the rows passed, and for the next row a pointer that has not fallen too far. Assumes nothing.
+use mathlib.Core.Path.{_∙_, _≡_, sym}
 use Prim.Native.Nat.{_+_, _-_, _≤_}
 use native.Mathlib.Nat.{le-antisymm}
-use borrow.Author.Needs.{sfits-of}
-use borrow.Author.Tests.{not-false, not-true}
+use native.Mathlib.Omega.{arith}
 use denote.Ref.{now}
+use borrow.Author.Needs.{needs, sfits-of}
+use borrow.Author.Tests.{not-false, not-true}
 use mir.Facts.{toZ-ofZ}
 use mir.Syntax.{w64}
 use Rattle.engine_search.specs.Falls.{Low, falling-next, falling-start, low-start}
@@ -11,17 +13,8 @@ use Rattle.engine_search.specs.Firsts.{least-start, told, untold}
 use Rattle.engine_search.specs.Leasts.{best-lesser, best-same, bestTo, fallen-falling, row-least, row-least-none, skipped-least}
 use Rattle.engine_search.specs.Places.{Falling, degreeOf, valueOf}
 use Rattle.engine_search.specs.Rows.{isAbove}
-use borrow.Author.Needs.{needs}
-use native.Mathlib.Omega.{arith}
 use Rattle.engine_search.proofs.least_pair.Statement.{statement}
 use Rattle.engine_search.proofs.least_pair.Tie as tie
-use Rattle.engine_search.proofs.least_pair.Reads as reads
-use Rattle.engine_search.proofs.least_pair.Lts as lts
-use Rattle.engine_search.proofs.fall.Reads as fall-reads
-use Rattle.engine_search.proofs.is_above.Reads as is-above-reads
-use Rattle.engine_search.proofs.lesser.Reads as lesser-reads
-use Rattle.engine_search.proofs.missing.Reads as missing-reads
-use Rattle.engine_search.proofs.wide.Reads as wide-reads
 
 abbrev Inv-loop : tie.InvT-loop
 Inv-loop values degrees n d best₀ first₀ low₀ h₀ best first low h =
@@ -54,31 +47,24 @@ module _ (f : tie.After-fall Inv-loop μ-loop) where
       falling-next (start .pre)
       (fallen-falling (start .pre) (start .args .d) (turn .loop-test .taken) sum (turn .before .loop .inv .2) (f .fall .ensures))
 
--- src/lib.rt:96:5
 loop-holds : tie.Need-loop-holds Inv-loop μ-loop
 loop-holds c = (search needs, sym (least-start _ _), falling-start _ _ _ _, low-start _ _)
 
--- src/lib.rt:98:9
 add-h : tie.Need-add-h Inv-loop μ-loop
 add-h c = search needs
 
--- src/lib.rt:99:22
 mul-is-above : tie.Need-mul-is-above Inv-loop μ-loop
 mul-is-above c = search needs
 
--- src/lib.rt:99:22
 shared-slice-copy-out-is-above : tie.Need-shared-slice-copy-out-is-above Inv-loop μ-loop
 shared-slice-copy-out-is-above c = search needs
 
--- src/lib.rt:99:13
 is-above-requires : tie.Need-is-above-requires Inv-loop μ-loop
 is-above-requires c κs = search needs
 
--- src/lib.rt:96:5
 loop-less : tie.Need-loop-less Inv-loop μ-loop
 loop-less c = search needs
 
--- src/lib.rt:96:5
 loop-again : tie.Need-loop-again Inv-loop μ-loop
 loop-again c =
     let l = c .before .before .before in
@@ -93,42 +79,33 @@ loop-again c =
       a .loop .inv .3,
     )
 
--- src/lib.rt:102:22
 mul-wide : tie.Need-mul-wide Inv-loop μ-loop
 mul-wide c = search needs
 
--- src/lib.rt:102:22
 shared-slice-read-wide : tie.Need-shared-slice-read-wide Inv-loop μ-loop
 shared-slice-read-wide c = search needs
 
--- src/lib.rt:102:13
 wide-requires : tie.Need-wide-requires Inv-loop μ-loop
 wide-requires c κs = search needs
 
--- src/lib.rt:103:42
 missing-requires : tie.Need-missing-requires Inv-loop μ-loop
 missing-requires c κs =
     let l = c .before .before .before .before .before in
     let a = l .before in
     omega (arith, c .wide .ensures, a .before .before .pre .some (a .loop .h) (l .loop-test .taken))
 
--- src/lib.rt:103:13
 fall-requires : tie.Need-fall-requires Inv-loop μ-loop
 fall-requires c κs = search needs
 
--- src/lib.rt:107:39
 mul-wide-2 : tie.Need-mul-wide-2 Inv-loop μ-loop
 mul-wide-2 c = search needs
 
--- src/lib.rt:107:39
 shared-slice-read-wide-2 : tie.Need-shared-slice-read-wide-2 Inv-loop μ-loop
 shared-slice-read-wide-2 c = search needs
 
--- src/lib.rt:107:34
 wide-requires-2 : tie.Need-wide-requires-2 Inv-loop μ-loop
 wide-requires-2 c κs = search needs
 
--- src/lib.rt:107:30
 add-lesser : tie.Need-add-lesser Inv-loop μ-loop
 add-lesser c =
     let f = c .before .before .before in
@@ -141,22 +118,18 @@ add-lesser c =
       s .pre .low (f .fall .result .low) (c .before .before .if2 .taken),
     )
 
--- src/lib.rt:107:13
 lesser-requires : tie.Need-lesser-requires Inv-loop μ-loop
 lesser-requires c κs = search needs
 
--- src/lib.rt:96:5
 loop-less-2 : tie.Need-loop-less-2 Inv-loop μ-loop
 loop-less-2 c = search needs
 
--- src/lib.rt:96:5
 loop-again-2 : tie.Need-loop-again-2 Inv-loop μ-loop
 loop-again-2 c =
     let f = c .before .before .before .before in
     let s = start f in
     let a = turn f .before in
-    let least = row-least (s .pre) (s .args .d) (turn f .loop-test .taken) (sum f) (a .loop .inv .2) (f .fall .ensures) (above f) (c .before .before .before .if2 .taken) in
-    (
+    let least = row-least (s .pre) (s .args .d) (turn f .loop-test .taken) (sum f) (a .loop .inv .2) (f .fall .ensures) (above f) (c .before .before .before .if2 .taken) in (
       omega (arith, turn f .loop-test .taken),
       c .lesser .ensures ∙ best-lesser _ (now (s .args .values)) (now (s .args .degrees)) _ _ _ (a .loop .inv .1) _
           (rw (← c .before .wide2 .ensures, ← f .before .before .wide .ensures) at least),
@@ -164,11 +137,9 @@ loop-again-2 c =
       f .fall .ensures .lowest,
     )
 
--- src/lib.rt:96:5
 loop-less-3 : tie.Need-loop-less-3 Inv-loop μ-loop
 loop-less-3 c = search needs
 
--- src/lib.rt:96:5
 loop-again-3 : tie.Need-loop-again-3 Inv-loop μ-loop
 loop-again-3 c =
     let f = c .before in
@@ -181,7 +152,6 @@ loop-again-3 c =
       f .fall .ensures .lowest,
     )
 
--- src/lib.rt:88:1
 returns : tie.Need-returns Inv-loop μ-loop
 returns c = rw (le-antisymm (c .before .loop .inv .0) (c .loop-test .left)) at (c .before .loop .inv .1)
 

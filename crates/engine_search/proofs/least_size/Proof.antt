@@ -1,18 +1,14 @@
-use denote.Ref.{now}
+-- `least_size` meets its contract: the least of the rows passed. Assumes nothing.
 use mathlib.Core.Path.{_≡_, sym}
 use Prim.Native.Nat.{_-_, _≤_}
 use native.Mathlib.Nat.{le-antisymm}
+use denote.Ref.{now}
+use borrow.Author.Needs.{needs}
 use Rattle.engine_spec.specs.Search.{leastTo}
 use Rattle.engine_search.specs.Firsts.{least-start, size-lesser}
 use Rattle.engine_search.specs.Places.{degreeOf}
-use borrow.Author.Needs.{needs}
-use native.Mathlib.Omega.{arith}
 use Rattle.engine_search.proofs.least_size.Statement.{statement}
 use Rattle.engine_search.proofs.least_size.Tie as tie
-use Rattle.engine_search.proofs.least_size.Reads as reads
-use Rattle.engine_search.proofs.least_size.Lts as lts
-use Rattle.engine_search.proofs.lesser.Reads as lesser-reads
-use Rattle.engine_search.proofs.wide.Reads as wide-reads
 
 abbrev Inv-loop : tie.InvT-loop
 Inv-loop sizes m d best₀ i₀ best i = (i ≤ m) × (best ≡ leastTo d i (degreeOf sizes))
@@ -20,41 +16,32 @@ Inv-loop sizes m d best₀ i₀ best i = (i ≤ m) × (best ≡ leastTo d i (deg
 abbrev μ-loop : tie.MeasureT-loop
 μ-loop sizes m d best₀ i₀ best i = m - i
 
--- src/lib.rt:79:5
 loop-holds : tie.Need-loop-holds Inv-loop μ-loop
 loop-holds c = (search needs, sym (least-start _ _))
 
--- src/lib.rt:80:31
 mul-wide : tie.Need-mul-wide Inv-loop μ-loop
 mul-wide c = search needs
 
--- src/lib.rt:80:31
 shared-slice-read-wide : tie.Need-shared-slice-read-wide Inv-loop μ-loop
 shared-slice-read-wide c = search needs
 
--- src/lib.rt:80:26
 wide-requires : tie.Need-wide-requires Inv-loop μ-loop
 wide-requires c κs = search needs
 
--- src/lib.rt:80:9
 lesser-requires : tie.Need-lesser-requires Inv-loop μ-loop
 lesser-requires c κs = search needs
 
--- src/lib.rt:81:9
 add-i : tie.Need-add-i Inv-loop μ-loop
 add-i c = search needs
 
--- src/lib.rt:79:5
 loop-less : tie.Need-loop-less Inv-loop μ-loop
 loop-less c = search needs
 
--- src/lib.rt:79:5
 loop-again : tie.Need-loop-again Inv-loop μ-loop
 loop-again c =
     let a = c .before .before .before .before in
     (search needs, size-lesser (now (a .before .before .args .sizes)) _ _ _ (a .loop .inv .1) _ (c .before .wide .ensures) (c .lesser .ensures))
 
--- src/lib.rt:73:1
 returns : tie.Need-returns Inv-loop μ-loop
 returns c = rw (le-antisymm (c .before .loop .inv .0) (c .loop-test .left)) at (c .before .loop .inv .1)
 

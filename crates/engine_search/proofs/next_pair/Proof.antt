@@ -1,8 +1,10 @@
-use mathlib.Core.Path.{_≡_, sym, _∙_}
-use Prim.Native.Nat.{max, _+_, _-_, _≤_}
-use borrow.Author.Needs.{sfits-of}
-use borrow.Author.Tests.{not-false, not-true}
+-- `next_pair` meets its contract: the rows passed have no pair that is left, and for the next one the pointer has not fallen too far. Assumes nothing.
+use mathlib.Core.Path.{_≡_}
+use Prim.Native.Nat.{_+_, _-_, _≤_, max}
+use native.Mathlib.Omega.{arith}
 use denote.Ref.{now}
+use borrow.Author.Needs.{needs, sfits-of}
+use borrow.Author.Tests.{not-false, not-true}
 use mir.Facts.{toZ-ofZ}
 use mir.Syntax.{w64}
 use Rattle.engine_search.specs.Falls.{falling-back, falling-least, falling-next}
@@ -10,18 +12,8 @@ use Rattle.engine_search.specs.Firsts.{told, untold}
 use Rattle.engine_search.specs.Places.{Falling, degreeOf, valueOf}
 use Rattle.engine_search.specs.Rows.{Searched, found-next, found-none, isAbove, row-found, row-passed, searched-end, searched-past, searched-skip, searched-start}
 use Rattle.engine_search.specs.Scans.{Below}
-use borrow.Author.Needs.{needs}
-use native.Mathlib.Omega.{arith}
 use Rattle.engine_search.proofs.next_pair.Statement.{statement}
 use Rattle.engine_search.proofs.next_pair.Tie as tie
-use Rattle.engine_search.proofs.next_pair.Reads as reads
-use Rattle.engine_search.proofs.next_pair.Lts as lts
-use Rattle.engine_search.proofs.back.Reads as back-reads
-use Rattle.engine_search.proofs.greatest.Reads as greatest-reads
-use Rattle.engine_search.proofs.is_above.Reads as is-above-reads
-use Rattle.engine_search.proofs.least.Reads as least-reads
-use Rattle.engine_search.proofs.next_below.Reads as next-below-reads
-use Rattle.engine_search.proofs.wide.Reads as wide-reads
 
 abbrev Inv-loop : tie.InvT-loop
 Inv-loop values degrees n d upper₀ lower₀ first₀ upper lower first =
@@ -30,7 +22,6 @@ Inv-loop values degrees n d upper₀ lower₀ first₀ upper lower first =
 abbrev μ-loop : tie.MeasureT-loop
 μ-loop values degrees n d upper₀ lower₀ first₀ upper lower first = n - upper
 
--- src/lib.rt:43:9
 -- a turn whose row has a value above 0
 module _ (b : tie.After-next-below Inv-loop μ-loop) where
   abbrev test : tie.After-is-above Inv-loop μ-loop
@@ -63,50 +54,39 @@ module _ (b : tie.After-next-below Inv-loop μ-loop) where
 least-requires : tie.Need-least-requires Inv-loop μ-loop
 least-requires c κs = search needs
 
--- src/lib.rt:44:5
 loop-holds : tie.Need-loop-holds Inv-loop μ-loop
 loop-holds c = (omega (arith, c .least .ensures), searched-start _ _ _ _ _ _, falling-least (c .before .before .pre .1) (c .least .ensures))
 
--- src/lib.rt:47:22
 mul-wide : tie.Need-mul-wide Inv-loop μ-loop
 mul-wide c = search needs
 
--- src/lib.rt:47:22
 shared-slice-read-wide : tie.Need-shared-slice-read-wide Inv-loop μ-loop
 shared-slice-read-wide c = search needs
 
--- src/lib.rt:47:13
 wide-requires : tie.Need-wide-requires Inv-loop μ-loop
 wide-requires c κs = search needs
 
--- src/lib.rt:49:13
 returns : tie.Need-returns Inv-loop μ-loop
 returns c =
     let a = c .before .before .before .before in
     let s = a .before .before .before in
     found-none 0 _ (searched-past (a .loop .inv .1) (s .pre .0) (omega (arith, c .before .wide .ensures, c .if1 .taken)))
 
--- src/lib.rt:51:9
 add-upper : tie.Need-add-upper Inv-loop μ-loop
 add-upper c = search needs
 
--- src/lib.rt:53:22
 mul-is-above : tie.Need-mul-is-above Inv-loop μ-loop
 mul-is-above c = search needs
 
--- src/lib.rt:53:22
 shared-slice-copy-out-is-above : tie.Need-shared-slice-copy-out-is-above Inv-loop μ-loop
 shared-slice-copy-out-is-above c = search needs
 
--- src/lib.rt:53:13
 is-above-requires : tie.Need-is-above-requires Inv-loop μ-loop
 is-above-requires c κs = search needs
 
--- src/lib.rt:44:5
 loop-less : tie.Need-loop-less Inv-loop μ-loop
 loop-less c = search needs
 
--- src/lib.rt:44:5
 loop-again : tie.Need-loop-again Inv-loop μ-loop
 loop-again c =
     let a = c .before .before .before .before .before .before .before in
@@ -115,23 +95,18 @@ loop-again c =
     let not-above = rw known at (untold (c .before .is-above .ensures) (not-true _ (c .if2 .taken))) in
     (a .loop .inv .0, searched-skip (a .loop .inv .1) not-above, falling-next (s .pre .0) (a .loop .inv .2))
 
--- src/lib.rt:56:17
 sub-e : tie.Need-sub-e Inv-loop μ-loop
 sub-e c = search needs
 
--- src/lib.rt:57:9
 back-requires : tie.Need-back-requires Inv-loop μ-loop
 back-requires c κs = search needs
 
--- src/lib.rt:58:48
 greatest-requires : tie.Need-greatest-requires Inv-loop μ-loop
 greatest-requires c κs = search needs
 
--- src/lib.rt:58:13
 next-below-requires : tie.Need-next-below-requires Inv-loop μ-loop
 next-below-requires c κs = search needs
 
--- src/lib.rt:60:13
 returns-2 : tie.Need-returns-2 Inv-loop μ-loop
 returns-2 c =
     let b = c .before in
@@ -140,11 +115,9 @@ returns-2 c =
     (row-found (a .loop .inv .1) (start b .pre .0) (turn b .loop-test .taken) (above b) (sum b) (fallen b) (b .before .before .back .ensures) (scanned b)
     (c .if3 .taken) (a .loop .inv .2))
 
--- src/lib.rt:44:5
 loop-less-2 : tie.Need-loop-less-2 Inv-loop μ-loop
 loop-less-2 c = search needs
 
--- src/lib.rt:44:5
 loop-again-2 : tie.Need-loop-again-2 Inv-loop μ-loop
 loop-again-2 c =
     let b = c .before in
@@ -155,7 +128,6 @@ loop-again-2 c =
       falling-next (start b .pre .0) (falling-back (a .loop .inv .2) (b .before .before .back .ensures) (omega (arith, sum b))),
     )
 
--- src/lib.rt:37:1
 returns-3 : tie.Need-returns-3 Inv-loop μ-loop
 returns-3 c = found-none 0 _ (searched-end (c .before .loop .inv .1) (c .loop-test .left))
 
