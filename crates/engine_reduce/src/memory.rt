@@ -1,7 +1,8 @@
 // What is remembered of rows that dropped sums, for the time of one call: for each sign of a sum up to 256 of them with their words, those that dropped
 // more ahead; and by the remainder of a word the row that was last appended or found with it. None of it is trusted.
 //   held        the words of the droppers, 256 for each sign
-//   places      their rows, 256 for each sign; from 768 on how many there are of each sign; from 1024 on the rows by remainder
+//   places      their rows, 256 for each sign; from 768 on how many there are of each sign, from 772 on whose turn it is to go; from 1024 on the rows
+//               by remainder
 ghost use mathlib.Core.Path.{_≡_};
 ghost use Prim.Native.Nat.{_+_, _*_, _≤_, _<_};
 use engine_beside::words as fields;
@@ -10,7 +11,7 @@ use engine_beside::words as fields;
 
 
 // How many rows dropped sums of this sign.
-pub fn count(places: &[u32; 17408], sign: usize) -> usize
+pub fn count(places: &[u32; 66560], sign: usize) -> usize
     requires { ⌜ sign < 3 ⌝ }
     ensures { λ r. ⌜ r ≤ 256 ⌝ }
 {
@@ -19,21 +20,21 @@ pub fn count(places: &[u32; 17408], sign: usize) -> usize
 }
 
 // The row remembered at place k.
-pub fn place(places: &[u32; 17408], k: usize) -> usize
-    requires { ⌜ k < 17408 ⌝ }
+pub fn place(places: &[u32; 66560], k: usize) -> usize
+    requires { ⌜ k < 66560 ⌝ }
 {
     number(places[k])
 }
 
 // The place of the row that is remembered by the remainder of a word.
 pub fn slot(word: u64) -> usize
-    ensures { λ r. ⌜ r < 17408 ⌝ }
+    ensures { λ r. ⌜ r < 66560 ⌝ }
 {
-    1024 + (word % 16381) as usize
+    1024 + (word % 65521) as usize
 }
 
 // The dropper at place k changes places with the one ahead of it, where there is one.
-pub fn advance(held: &mut [u64; 768], places: &mut [u32; 17408], from: usize, k: usize)
+pub fn advance(held: &mut [u64; 768], places: &mut [u32; 66560], from: usize, k: usize)
     requires { ⌜ (from ≤ k) × (k < 768) ⌝ }
 {
     if from < k {
@@ -46,8 +47,8 @@ pub fn advance(held: &mut [u64; 768], places: &mut [u32; 17408], from: usize, k:
     }
 }
 
-// A row that dropped a sum: it comes last, in the place of the last one where there are 256.
-pub fn remember(held: &mut [u64; 768], places: &mut [u32; 17408], sign: usize, row: usize, word: u64)
+// A row that dropped a sum: it comes last; where there are 256, in the place of one of the later half, each in its turn.
+pub fn remember(held: &mut [u64; 768], places: &mut [u32; 66560], sign: usize, row: usize, word: u64)
     requires { ⌜ (sign < 3) × (row < 4294967296) ⌝ }
 {
     let n = count(places, sign);
@@ -58,12 +59,15 @@ pub fn remember(held: &mut [u64; 768], places: &mut [u32; 17408], sign: usize, r
         places[sign * 256 + n] = row as u32;
         return;
     }
-    held[sign * 256 + 255] = word;
-    places[sign * 256 + 255] = row as u32;
+    let turn = places[772 + sign] % 128;
+    let k = sign * 256 + 128 + number(turn);
+    places[772 + sign] = turn + 1;
+    held[k] = word;
+    places[k] = row as u32;
 }
 
 // A row appended: remembered by the remainder of its word.
-pub fn appended(places: &mut [u32; 17408], row: usize, word: u64)
+pub fn appended(places: &mut [u32; 66560], row: usize, word: u64)
     requires { ⌜ row < 4294967296 ⌝ }
 {
     places[slot(word)] = row as u32;

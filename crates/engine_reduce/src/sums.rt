@@ -24,7 +24,7 @@ pub fn reducible(
     sum: i64,
     word: u64,
     held: &mut [u64; 768],
-    places: &mut [u32; 17408],
+    places: &mut [u32; 66560],
 ) -> bool
     requires { ⌜ Looked q n (now table) (now values) (now words) upper lower word ⌝ }
     ensures { λ r. ⌜ r ≡ reducibleBy q n (at (now (table .entry)) q) (integerAt (now (values .entry))) (sumOf q (now (table .entry)) upper lower) sum ⌝ }
@@ -66,7 +66,7 @@ fn dropped(
     word: u64,
     sign: usize,
     held: &mut [u64; 768],
-    places: &mut [u32; 17408],
+    places: &mut [u32; 66560],
 ) -> bool
     requires { ⌜ Handed q n (now table) (now values) upper lower × (sign < 3) ⌝ }
     ensures { λ r. ⌜ Yes q n (now (table .entry)) (now (values .entry)) upper lower sum r ⌝ }
@@ -97,7 +97,7 @@ fn known(
     lower: usize,
     sum: i64,
     word: u64,
-    places: &[u32; 17408],
+    places: &[u32; 66560],
 ) -> bool
     requires { ⌜ Handed q n (now table) (now values) upper lower ⌝ }
     ensures { λ r. ⌜ Yes q n (now (table .entry)) (now (values .entry)) upper lower sum r ⌝ }

@@ -1,2 +1,4 @@
 pub mod Standing
 pub mod Marked
+pub mod Appended
+pub mod Turning

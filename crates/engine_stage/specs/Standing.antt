@@ -134,14 +134,15 @@ Left f l t table x Ends table′ x′ = Still t ends table table′ x x′
 
 -- ---- rows appended and passed
 
-beyond-none : {n : ℕ} {x : Sides} → Beyond n x x
+pub beyond-none : {n : ℕ} {x : Sides} → Beyond n x x
 beyond-none = record { values = kept-none; words = kept-none; degrees = kept-none; marks = kept-none; mothers = kept-none }
 
 module _ {f : Frame} {l : Lent} {table : List ℕ} {x : Sides} {s : Next} (r : Ready f l table x s) where
-  -- nothing appended, in the same degree: another place, one step more
-  pub passed-ready : (upper lower steps first : ℕ) → steps ≤ stepLimit → Falling (s .rows) (x .degrees) (s .degree) upper first
-      → Ready f l table x (nextOf (s .rows) (s .taken) (s .degree) upper lower steps first (s .more))
-  passed-ready upper lower steps first early falling =
+  -- nothing appended, in the same degree, of which no row of the basis is left: another place, one step more
+  pub passed-ready : f .m ≤ dueRow (f .q) (f .m) (at (l .basis) (f .q)) (stageOf table s) → (upper lower steps first : ℕ) → steps ≤ stepLimit
+      → Falling (s .rows) (x .degrees) (s .degree) upper first
+      → Ready f l table x (nextOf (s .rows) (s .taken) (s .degree) upper lower steps first false)
+  passed-ready none upper lower steps first early falling =
       record {
         given = r .given;
         roomy = r .roomy;
@@ -155,26 +156,6 @@ module _ {f : Frame} {l : Lent} {table : List ℕ} {x : Sides} {s : Next} (r : R
         low = r .low;
         early = early;
         falling = falling;
-        spent = r .spent;
-      }
-
-  -- the same while no row of the basis of this degree is left
-  pub spent-ready : f .m ≤ dueRow (f .q) (f .m) (at (l .basis) (f .q)) (stageOf table s)
-      → Ready f l table x (nextOf (s .rows) (s .taken) (s .degree) (s .upper) (s .lower) (s .steps) (s .first) false)
-  spent-ready none =
-      record {
-        given = r .given;
-        roomy = r .roomy;
-        few = r .few;
-        rows = r .rows;
-        valued = r .valued;
-        worded = r .worded;
-        measured = r .measured;
-        marked = r .marked;
-        ranked = r .ranked;
-        low = r .low;
-        early = r .early;
-        falling = r .falling;
         spent = λ e. none;
       }
 

@@ -6,16 +6,12 @@ ghost use lib.ListN.{length};
 ghost use mir.Syntax.{w64};
 ghost use mir.Val.{SFits};
 ghost use Rattle.definitions.specs.Tables.{at};
-ghost use Rattle.engine_spec.specs.Beside.{equationAt, valueLimit};
-ghost use Rattle.engine_stage.specs.Standing.{Left, Ready, lentOf, nextOf, sidesOf};
-ghost use Rattle.engine_stage.specs.Marked.{isMarked, markOf, motherOf, testOf};
-use engine_beside::values as numbers;
-use engine_beside::words as fields;
-use engine_reduce::memory;
-use engine_reduce::sums;
-use engine_rows::marks as sizes_of;
-use engine_rows::rows;
-use engine_search::Place;
+ghost use Rattle.engine_spec.specs.Beside.{equationAt, valueLimit, wordOf};
+ghost use Rattle.engine_reduce.specs.Sums.{sumOf};
+ghost use Rattle.engine_stage.specs.Marked.{Paired, isMarked, markOf, testOf};
+ghost use Rattle.engine_stage.specs.Standing.{Left, Ready, lentOf, sidesOf, stageOf, turnOf};
+ghost use Rattle.engine_stage.specs.Turning.{PairDue, RowDue};
+
 
 // What a stage has: q unknowns, m rows of the basis, room for so many rows, and its equation from place `from` of the coefficients on.
 pub struct Frame {
@@ -46,3 +42,4 @@ pub enum Turned {
     Full,
     Ends,
 }
+

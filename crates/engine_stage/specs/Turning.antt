@@ -1,0 +1,210 @@
+-- What each way through a turn leaves. Assumes nothing.
+use mathlib.Core.Path.{_≡_, refl, sym, _∙_, ap}
+use mathlib.Core.Bool.{Bool, true, false, cond}
+use mathlib.Core.List.{List}
+use Prim.Native.Nat.{ℕ, _+_, _*_, _≤_, _<_}
+use native.Mathlib.Omega.{arith}
+use lib.Dec.{T, eqb, ltb}
+use lib.IntN.{ℤ}
+use lib.ListN.{set}
+use Rattle.linear.specs.Systems.{value}
+use Rattle.linear.specs.TupleLaws.{total-sum}
+use Rattle.linear.specs.Tuples.{total}
+use Rattle.definitions.specs.Refusals.{stepLimit}
+use Rattle.definitions.specs.System.{mostComponent}
+use Rattle.definitions.specs.Tables.{at, writeTo}
+use Rattle.engine_spec.specs.Beside.{noMark, wordOf}
+use Rattle.engine_spec.specs.Marks.{Marked}
+use Rattle.engine_spec.specs.Reduction.{isSmall}
+use Rattle.engine_spec.specs.ReductionLaws.{Against, small-from}
+use Rattle.engine_spec.specs.Stage.{
+  Stage,
+  Turned,
+  above,
+  below,
+  degreeTurn,
+  dueRow,
+  ends,
+  goes,
+  grown,
+  nextDegree,
+  pairTurn,
+  paired,
+  passed,
+  raised,
+  row,
+  rowTurn,
+  stops,
+  sumOf,
+  turn,
+}
+use Rattle.engine_reduce.specs.Sums.{never}
+use Rattle.engine_search.specs.Falls.{falling-start}
+use Rattle.engine_search.specs.Places.{Falling}
+use Rattle.engine_stage.specs.Marked.{testOf, true-is}
+use Rattle.engine_stage.specs.Standing.{
+  Beyond,
+  Gone,
+  Left,
+  Lent,
+  Ready,
+  Sides,
+  Still,
+  beyond-none,
+  equation,
+  grown-beyond,
+  grown-falling,
+  grown-ready,
+  nextOf,
+  passed-ready,
+  raised-ready,
+  sidesOf,
+  stageOf,
+  turnOf,
+}
+use Rattle.engine_stage.specs.declared.turns.Frame.{Frame}
+use Rattle.engine_stage.specs.declared.turns.Next.{Next}
+use Rattle.engine_stage.specs.declared.turns.Turned.the-variants.{Ends, Full, Goes, Large, Late}
+
+-- ---- what is due
+
+-- row i of the basis, of the degree under way
+pub record RowDue (f : Frame) (l : Lent) (s : Next) (i : ℕ) : Type 0 where
+  pub early : s .steps < stepLimit
+  pub low : i < f .m
+  pub exact : total (at (l .basis) (f .q) i) (f .q) ≡ s .degree
+
+-- a pair of the degree under way, of which no row of the basis is left
+pub record PairDue (f : Frame) (l : Lent) (table degrees : List ℕ) (s : Next) (h k first : ℕ) : Type 0 where
+  pub early : s .steps < stepLimit
+  pub upper : h < s .rows
+  pub lower : k < s .rows
+  pub signs : Against (value (equation f l) (f .q) (at table (f .q) h)) (value (equation f l) (f .q) (at table (f .q) k))
+  pub exact : total (at table (f .q) h) (f .q) + total (at table (f .q) k) (f .q) ≡ s .degree
+  pub falling : Falling (s .rows) degrees (s .degree) h first
+  pub spent : f .m ≤ dueRow (f .q) (f .m) (at (l .basis) (f .q)) (stageOf table s)
+
+module _ {f : Frame} {l : Lent} {table : List ℕ} {x : Sides} {s : Next} (r : Ready f l table x s) where
+  -- ---- a pair
+
+  module _ {h k first : ℕ} (due : PairDue f l table (x .degrees) s h k first) where
+    abbrev pairOf : Turned
+    pairOf = pairTurn (f .q) (equation f l) (f .room) (stageOf table s) h k
+
+    pub pair-passed : testOf (f .q) (equation f l) (s .rows) table h k ≡ true
+        → Gone f l pairOf x (nextOf (s .rows) (s .taken) (s .degree) h (k + 1) (s .steps + 1) first false) table x
+    unfolding pairTurn paired passed
+    pair-passed e =
+        record {
+          is = rw e;
+          ready = passed-ready r (due .spent) h (k + 1) (s .steps + 1) first (omega (arith, due .early)) (due .falling);
+          beyond = beyond-none;
+        }
+
+    pub pair-large : testOf (f .q) (equation f l) (s .rows) table h k ≡ false → isSmall (f .q) (sumOf (f .q) (stageOf table s) h k) ≡ false
+        → Still pairOf (stops 12) table table x x
+    unfolding pairTurn paired
+    pair-large e g = record { is = rw (e, g); same = refl; aside = refl }
+
+    pub pair-full : testOf (f .q) (equation f l) (s .rows) table h k ≡ false → isSmall (f .q) (sumOf (f .q) (stageOf table s) h k) ≡ true
+        → ltb (s .rows) (f .room) ≡ false → Still pairOf (stops 31) table table x x
+    unfolding pairTurn paired
+    pair-full e g i = record { is = rw (e, g, i); same = refl; aside = refl }
+
+    -- the sum appended
+    abbrev sum : ℕ → ℕ
+    sum = sumOf (f .q) (stageOf table s) h k
+
+    sum-degree : total sum (f .q) ≡ s .degree
+    sum-degree = total-sum sum (at table (f .q) h) (at table (f .q) k) (f .q) (λ j jq. refl) ∙ due .exact
+
+    sum-some : 0 < s .degree
+    sum-some = omega (arith, due .exact, r .ranked .some h (due .upper), r .measured .each h (due .upper))
+
+    pub pair-grown : (v : ℤ) (w mark mother : ℕ) → s .rows < f .room → v ≡ value (equation f l) (f .q) sum → w ≡ wordOf (f .q) sum
+        → (mark < noMark → Marked (f .q) (equation f l) (s .rows) (at table (f .q)) sum mark) → testOf (f .q) (equation f l) (s .rows) table h k ≡ false
+        → isSmall (f .q) sum ≡ true → ltb (s .rows) (f .room) ≡ true
+        → Gone f l pairOf x (nextOf (s .rows + 1) (s .taken) (s .degree) h (k + 1) (s .steps + 1) first false) (writeTo (f .q) table (s .rows * f .q) sum)
+        (sidesOf (set (x .values) (s .rows) v) (set (x .words) (s .rows) w) (set (x .degrees) (s .rows) (s .degree)) (set (x .marks) (s .rows) mark)
+        (set (x .mothers) (s .rows) mother))
+    unfolding pairTurn paired grown
+    pair-grown v w mark mother room value-is word-is mark-is e g i =
+        let small = small-from (f .q) sum (true-is (isSmall (f .q) sum) g) in
+        record {
+          is = rw (e, g, i);
+          ready =
+              grown-ready r sum v w mark mother room value-is word-is sum-degree sum-some small mark-is (s .taken) h (k + 1) (s .steps + 1) first false
+              (omega (arith, due .early)) (grown-falling r sum v w mark mother room value-is word-is sum-degree sum-some small mark-is (due .falling))
+              (λ e. due .spent);
+          beyond = grown-beyond r sum v w mark mother room value-is word-is sum-degree sum-some small mark-is;
+        }
+
+  -- ---- a row of the basis
+
+  module _ {i : ℕ} (due : RowDue f l s i) where
+    abbrev rowOf : Turned
+    rowOf = rowTurn (f .q) (at (l .basis) (f .q)) (f .room) (stageOf table s) i
+
+    pub row-full : ltb (s .rows) (f .room) ≡ false → Still rowOf (stops 31) table table x x
+    unfolding rowTurn
+    row-full e = record { is = rw e; same = refl; aside = refl }
+
+    pub row-grown : (v : ℤ) (w mark mother : ℕ) → s .rows < f .room → v ≡ value (equation f l) (f .q) (at (l .basis) (f .q) i)
+        → w ≡ wordOf (f .q) (at (l .basis) (f .q) i) → noMark ≤ mark → ltb (s .rows) (f .room) ≡ true
+        → Gone f l rowOf x (nextOf (s .rows + 1) (i + 1) (s .degree) (s .upper) (s .lower) (s .steps + 1) (s .rows + 1) true)
+        (writeTo (f .q) table (s .rows * f .q) (at (l .basis) (f .q) i))
+        (sidesOf (set (x .values) (s .rows) v) (set (x .words) (s .rows) w) (set (x .degrees) (s .rows) (s .degree)) (set (x .marks) (s .rows) mark)
+        (set (x .mothers) (s .rows) mother))
+    unfolding rowTurn grown
+    row-grown v w mark mother room value-is word-is unmarked e =
+        let y = at (l .basis) (f .q) i in
+        let some : 0 < s .degree = omega (arith, r .given .positive i (due .low), due .exact) in
+        let small : (j : ℕ) → j < f .q → y j ≤ mostComponent = λ j jq. r .given .rows .small i j (due .low) jq in
+        let none : mark < noMark → Marked (f .q) (equation f l) (s .rows) (at table (f .q)) y mark = λ less. absurd (omega arith) in
+        record {
+          is = rw e;
+          ready =
+              grown-ready r y v w mark mother room value-is word-is (due .exact) some small none (i + 1) (s .upper) (s .lower) (s .steps + 1) (s .rows + 1) true
+              (omega (arith, due .early)) (falling-start (s .rows + 1) _ (s .degree) (s .upper)) (λ g. never (sym g));
+          beyond = grown-beyond r y v w mark mother room value-is word-is (due .exact) some small none;
+        }
+
+  -- ---- the next degree, or the end
+
+  abbrev degreeOfTurn : ℕ → Turned
+  degreeOfTurn d = degreeTurn d (stageOf table s)
+
+  pub degree-ends : (d : ℕ) → d ≡ 0 → Still (degreeOfTurn d) ends table table x x
+  unfolding degreeTurn
+  degree-ends d e = record { is = rw e; same = refl; aside = refl }
+
+  pub degree-raised : s .steps < stepLimit → (d : ℕ) → eqb d 0 ≡ false → s .degree < d → Gone f l (degreeOfTurn d) x (nextOf (s .rows) 0 d 0 0 (s .steps + 1) (s .rows) true) table x
+  unfolding degreeTurn raised
+  degree-raised early d e more = record { is = rw e; ready = raised-ready r d (s .steps + 1) (omega arith) (omega arith); beyond = beyond-none }
+
+-- ---- which way a turn goes
+
+module _ (f : Frame) (l : Lent) (table : List ℕ) (s : Next) where
+  abbrev stage : Stage
+  stage = stageOf table s
+
+  pub turn-late : s .steps ≡ stepLimit → turnOf f l table s ≡ stops 14
+  unfolding turn
+  turn-late e = rw e
+
+  pub turn-row : eqb (s .steps) stepLimit ≡ false → (i : ℕ) → dueRow (f .q) (f .m) (at (l .basis) (f .q)) stage ≡ i → ltb i (f .m) ≡ true
+      → turnOf f l table s ≡ rowTurn (f .q) (at (l .basis) (f .q)) (f .room) stage i
+  unfolding turn
+  turn-row e i d g = rw (e, d, g)
+
+  pub turn-pair : eqb (s .steps) stepLimit ≡ false → ltb (dueRow (f .q) (f .m) (at (l .basis) (f .q)) stage) (f .m) ≡ false → (h k : ℕ)
+      → above (f .q) (equation f l) stage ≡ h → below (f .q) (equation f l) stage ≡ k → ltb h (s .rows) ≡ true
+      → turnOf f l table s ≡ pairTurn (f .q) (equation f l) (f .room) stage h k
+  unfolding turn
+  turn-pair e d h k a b g = rw (e, d, b, a, g)
+
+  pub turn-degree : eqb (s .steps) stepLimit ≡ false → ltb (dueRow (f .q) (f .m) (at (l .basis) (f .q)) stage) (f .m) ≡ false
+      → ltb (above (f .q) (equation f l) stage) (s .rows) ≡ false → (d : ℕ) → nextDegree (f .q) (equation f l) (f .m) (at (l .basis) (f .q)) stage ≡ d
+      → turnOf f l table s ≡ degreeTurn d stage
+  unfolding turn
+  turn-degree e g a d n = rw (e, g, a, n)
