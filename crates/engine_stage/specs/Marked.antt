@@ -55,9 +55,13 @@ or-cases : (b d : Bool) → (b || d) ≡ true → (b ≡ true) ⊎ (d ≡ true)
 or-cases true d e = inl refl
 or-cases false d e = inr e
 
-holds : (b : Bool) → T b → b ≡ true
+pub holds : (b : Bool) → T b → b ≡ true
 holds true h = refl
 holds false h = absurd h
+
+pub fails : (b : Bool) → ¬ (T b) → b ≡ false
+fails true n = absurd (n tt)
+fails false n = refl
 
 pub true-is : (b : Bool) → b ≡ true → T b
 true-is b e = rw e tt

@@ -4,9 +4,10 @@ use mathlib.Core.Bool.{Bool, true, false, cond}
 use mathlib.Core.List.{List}
 use Prim.Native.Nat.{ℕ, _+_, _*_, _≤_, _<_}
 use native.Mathlib.Omega.{arith}
-use lib.Dec.{T, eqb, ltb}
-use lib.IntN.{ℤ}
-use lib.ListN.{set}
+use mathlib.Core.Logic.{_≢_}
+use lib.Dec.{T, eqb, eqb→eq, ltb, ltb→lt, lt→ltb}
+use lib.IntN.{ℤ, _+ℤ_}
+use lib.ListN.{getD, set}
 use Rattle.linear.specs.Systems.{value}
 use Rattle.linear.specs.TupleLaws.{total-sum}
 use Rattle.linear.specs.Tuples.{total}
@@ -38,10 +39,13 @@ use Rattle.engine_spec.specs.Stage.{
   sumOf,
   turn,
 }
-use Rattle.engine_reduce.specs.Sums.{never}
+use Rattle.engine_reduce.specs.Sums.{integerAt, never}
 use Rattle.engine_search.specs.Falls.{falling-start}
 use Rattle.engine_search.specs.Places.{Falling}
-use Rattle.engine_stage.specs.Marked.{testOf, true-is}
+use Rattle.laws.specs.TableLaws.{row-fits}
+use Rattle.engine_rows.specs.Marking.{valued-bounded}
+use Rattle.engine_stage.specs.Appended.{PairAppended, PairFits, Room, RowAppended}
+use Rattle.engine_stage.specs.Marked.{Paired, fails, holds, mark-is, markOf, sum-is, testOf, true-is}
 use Rattle.engine_stage.specs.Standing.{
   Beyond,
   Gone,
@@ -65,6 +69,17 @@ use Rattle.engine_stage.specs.Standing.{
 use Rattle.engine_stage.specs.declared.turns.Frame.{Frame}
 use Rattle.engine_stage.specs.declared.turns.Next.{Next}
 use Rattle.engine_stage.specs.declared.turns.Turned.the-variants.{Ends, Full, Goes, Large, Late}
+
+-- ---- tests
+
+pub ltb-yes : (a b : ℕ) → a < b → ltb a b ≡ true
+ltb-yes a b l = holds (ltb a b) (lt→ltb a b l)
+
+pub ltb-no : (a b : ℕ) → b ≤ a → ltb a b ≡ false
+ltb-no a b l = fails (ltb a b) (λ h. omega (arith, ltb→lt a b h))
+
+pub eqb-no : (a b : ℕ) → a ≢ b → eqb a b ≡ false
+eqb-no a b ne = fails (eqb a b) (λ h. ne (eqb→eq a b h))
 
 -- ---- what is due
 
@@ -208,3 +223,72 @@ module _ (f : Frame) (l : Lent) (table : List ℕ) (s : Next) where
       → turnOf f l table s ≡ degreeTurn d stage
   unfolding turn
   turn-degree e g a d n = rw (e, g, a, n)
+
+-- ---- rows as code appends them
+
+module _ {f : Frame} {l : Lent} {table : List ℕ} {values : List ℤ} {words degrees marks mothers : List ℕ} {s : Next}
+    (r : Ready f l table (sidesOf values words degrees marks mothers) s) where
+  -- room for row n
+  pub room-left : s .rows < f .room → Room (f .q) (s .rows) table values words degrees marks mothers
+  room-left l =
+      record {
+        fits = omega (arith, r .roomy .fits, row-fits (f .q) (s .rows) (f .room) l);
+        valued = omega (arith, r .roomy .valued);
+        worded = omega (arith, r .roomy .worded);
+        measured = omega (arith, r .roomy .measured);
+        marked = omega (arith, r .roomy .marked);
+        mothered = omega (arith, r .roomy .mothered);
+      }
+
+  pub row-appended : {i word degree : ℕ} {table′ : List ℕ} {values′ : List ℤ} {words′ degrees′ marks′ mothers′ : List ℕ} → RowDue f l s i → s .rows < f .room → word ≡ wordOf (f .q) (at (l .basis) (f .q) i)
+      → degree ≡ getD (l .sizes) i 0
+      → RowAppended (f .q) (s .rows) (equation f l) (at (l .basis) (f .q) i) word degree table values words degrees marks mothers table′ values′ words′ degrees′
+      marks′ mothers′
+      → Gone f l (rowTurn (f .q) (at (l .basis) (f .q)) (f .room) (stageOf table s) i) (sidesOf values words degrees marks mothers)
+      (nextOf (s .rows + 1) (i + 1) (s .degree) (s .upper) (s .lower) (s .steps + 1) (s .rows + 1) true) table′
+      (sidesOf values′ words′ degrees′ marks′ mothers′)
+  row-appended {i} {word} {degree} due room word-is degree-is a =
+      let exact : degree ≡ s .degree = degree-is ∙ (r .given .sized .each i (due .low) ∙ due .exact) in
+      rw (a .row-is, a .value-is, a .word-is, a .degree-is, exact, a .mark-is, a .mother-is)
+      (row-grown r due (value (equation f l) (f .q) (at (l .basis) (f .q) i)) word (a .mark) (a .mother) room refl word-is (a .unmarked)
+      (ltb-yes (s .rows) (f .room) room))
+
+  module _ {h k first : ℕ} (due : PairDue f l table degrees s h k first) where
+    pub pair-paired : Paired (f .q) (equation f l) (s .rows) table values words marks h k
+    pair-paired =
+        record {
+          rows = r .rows;
+          valued = r .valued;
+          worded = r .worded;
+          marked = r .marked;
+          bounded = valued-bounded (r .given .small) (r .rows) (r .valued) .each;
+          upper = due .upper;
+          lower = due .lower;
+          signs = due .signs;
+          few = omega (arith, r .few, r .roomy .few);
+        }
+
+    pub pair-fits : s .rows < f .room → PairFits (f .q) (s .rows) table values words degrees marks mothers h k
+    pair-fits room =
+        record {
+          room = room-left room;
+          rows = r .rows;
+          upper = due .upper;
+          lower = due .lower;
+          first = pair-paired .bounded h (due .upper);
+          second = pair-paired .bounded k (due .lower);
+          low = r .ranked .low;
+          few = omega (arith, r .few, r .roomy .few);
+        }
+
+    pub pair-appended : {word : ℕ} {table′ : List ℕ} {values′ : List ℤ} {words′ degrees′ marks′ mothers′ : List ℕ} → s .rows < f .room → word ≡ wordOf (f .q) (sumOf (f .q) (stageOf table s) h k)
+        → testOf (f .q) (equation f l) (s .rows) table h k ≡ false → isSmall (f .q) (sumOf (f .q) (stageOf table s) h k) ≡ true
+        → PairAppended (f .q) (s .rows) h k word table values words degrees marks mothers table′ values′ words′ degrees′ marks′ mothers′
+        → Gone f l (pairTurn (f .q) (equation f l) (f .room) (stageOf table s) h k) (sidesOf values words degrees marks mothers)
+        (nextOf (s .rows + 1) (s .taken) (s .degree) h (k + 1) (s .steps + 1) first false) table′ (sidesOf values′ words′ degrees′ marks′ mothers′)
+    pair-appended {word} room word-is new small a =
+        let exact : getD degrees h 0 + getD degrees k 0 ≡ s .degree =
+        omega (arith, r .measured .each h (due .upper), r .measured .each k (due .lower), due .exact) in
+        rw (a .row-is, a .value-is, a .word-is, a .degree-is, exact, a .mark-is, a .mother-is)
+        (pair-grown r due (integerAt values h +ℤ integerAt values k) word (markOf (integerAt values h) (integerAt values k)) (a .mother) room
+        (sum-is pair-paired) word-is (mark-is pair-paired) new small (ltb-yes (s .rows) (f .room) room))
