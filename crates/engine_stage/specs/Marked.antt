@@ -1,7 +1,7 @@
 -- The test of a pair of rows: by their marks, and else by the rows. Assumes nothing.
 use mathlib.Core.Path.{_≡_, refl, sym, _∙_}
 use mathlib.Core.Logic.{_⊎_, inl, inr}
-use mathlib.Core.Bool.{Bool, true, false, cond, _||_}
+use mathlib.Core.Bool.{Bool, true, false, not, cond, _||_}
 use mathlib.Core.List.{List}
 use Prim.Native.Nat.{ℕ, _+_, _*_, _≤_, _<_}
 use native.Mathlib.Omega.{arith}
@@ -149,3 +149,17 @@ by-upper x y mark other e = rw e
 pub by-lower : (x y : ℤ) (mark other : ℕ) → leb mark (size y) ≡ false → isMarked x y mark other ≡ leb other (size x)
 unfolding isMarked
 by-lower x y mark other e = rw e
+
+pub was-false : {b : Bool} → not b ≡ true → b ≡ false
+was-false {b} e = elim-false b e
+  where
+    elim-false : (b : Bool) → not b ≡ true → b ≡ false
+    elim-false true e = sym e
+    elim-false false e = refl
+
+pub was-true : {b : Bool} → not b ≡ false → b ≡ true
+was-true {b} e = elim-true b e
+  where
+    elim-true : (b : Bool) → not b ≡ false → b ≡ true
+    elim-true true e = refl
+    elim-true false e = sym e

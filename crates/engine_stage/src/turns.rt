@@ -8,10 +8,17 @@ ghost use mir.Val.{SFits};
 ghost use Rattle.definitions.specs.Tables.{at};
 ghost use Rattle.engine_spec.specs.Beside.{equationAt, valueLimit, wordOf};
 ghost use Rattle.engine_reduce.specs.Sums.{sumOf};
+ghost use Rattle.engine_spec.specs.Stage.{pairTurn, rowTurn};
 ghost use Rattle.engine_stage.specs.Marked.{Paired, isMarked, markOf, testOf};
 ghost use Rattle.engine_stage.specs.Standing.{Left, Ready, lentOf, sidesOf, stageOf, turnOf};
 ghost use Rattle.engine_stage.specs.Turning.{PairDue, RowDue};
 
+use crate::append;
+use crate::tests;
+use engine_beside::words as fields;
+use engine_reduce::memory;
+use engine_rows::rows;
+use engine_search::Place;
 
 // What a stage has: q unknowns, m rows of the basis, room for so many rows, and its equation from place `from` of the coefficients on.
 pub struct Frame {
@@ -43,3 +50,123 @@ pub enum Turned {
     Ends,
 }
 
+// Row i of the basis is appended.
+pub fn row_turn(
+    f: Frame,
+    coefs: &[i32],
+    basis: &[u32],
+    sizes: &[u32],
+    table: &mut [u32],
+    values: &mut [i64],
+    words: &mut [u64],
+    degrees: &mut [u32],
+    marks: &mut [u64],
+    mothers: &mut [u32],
+    places: &mut [u32; 66560],
+    s: Next,
+    i: usize,
+) -> Turned
+    requires { ⌜ Ready f (lentOf (now coefs) (now basis) (now sizes)) (now table)
+        (sidesOf (now values) (now words) (now degrees) (now marks) (now mothers)) s × RowDue f (lentOf (now coefs) (now basis) (now sizes)) s i ⌝ }
+    ensures { λ r. ⌜ Left f (lentOf (now (coefs .entry)) (now (basis .entry)) (now (sizes .entry)))
+        (rowTurn (f .q) (at (now (basis .entry)) (f .q)) (f .room) (stageOf (now (table .entry)) s) i) (now (table .entry))
+        (sidesOf (now (values .entry)) (now (words .entry)) (now (degrees .entry)) (now (marks .entry)) (now (mothers .entry))) r (now (table .exit))
+        (sidesOf (now (values .exit)) (now (words .exit)) (now (degrees .exit)) (now (marks .exit)) (now (mothers .exit))) ⌝ }
+{
+    let q = f.q;
+    let n = s.rows;
+    let d = s.degree;
+    if f.room <= n {
+        return Turned::Full;
+    }
+    let word = fields::word_at(basis, i * q, q);
+    append::append_row(
+        coefs,
+        f.from,
+        basis,
+        table,
+        values,
+        words,
+        degrees,
+        marks,
+        mothers,
+        n,
+        q,
+        i,
+        word,
+        sizes[i],
+    );
+    memory::appended(places, n, word);
+    Turned::Goes(Next {
+        rows: n + 1,
+        taken: i + 1,
+        degree: d,
+        upper: s.upper,
+        lower: s.lower,
+        steps: s.steps + 1,
+        first: n + 1,
+        more: true,
+    })
+}
+
+// The pair found: its sum is appended unless some row reduces it.
+pub fn pair_turn(
+    f: Frame,
+    coefs: &[i32],
+    basis: &[u32],
+    sizes: &[u32],
+    table: &mut [u32],
+    values: &mut [i64],
+    words: &mut [u64],
+    degrees: &mut [u32],
+    marks: &mut [u64],
+    mothers: &mut [u32],
+    held: &mut [u64; 768],
+    places: &mut [u32; 66560],
+    s: Next,
+    at: Place,
+) -> Turned
+    requires { ⌜ Ready f (lentOf (now coefs) (now basis) (now sizes)) (now table)
+        (sidesOf (now values) (now words) (now degrees) (now marks) (now mothers)) s
+        × PairDue f (lentOf (now coefs) (now basis) (now sizes)) (now table) (now degrees) s (at .upper) (at .lower) (at .first) ⌝ }
+    ensures { λ r. ⌜ Left f (lentOf (now (coefs .entry)) (now (basis .entry)) (now (sizes .entry)))
+        (pairTurn (f .q) (equationAt (now (coefs .entry)) (f .from)) (f .room) (stageOf (now (table .entry)) s) (at .upper) (at .lower)) (now (table .entry))
+        (sidesOf (now (values .entry)) (now (words .entry)) (now (degrees .entry)) (now (marks .entry)) (now (mothers .entry))) r (now (table .exit))
+        (sidesOf (now (values .exit)) (now (words .exit)) (now (degrees .exit)) (now (marks .exit)) (now (mothers .exit))) ⌝ }
+{
+    let q = f.q;
+    let n = s.rows;
+    let h = at.upper;
+    let k = at.lower;
+    let word = fields::joined(words[h], words[k]);
+    if tests::reduced(coefs, f.from, table, values, words, marks, n, q, h, k, word, held, places) {
+        return Turned::Goes(Next {
+            rows: n,
+            taken: s.taken,
+            degree: s.degree,
+            upper: h,
+            lower: k + 1,
+            steps: s.steps + 1,
+            first: at.first,
+            more: false,
+        });
+    }
+    if !rows::small_sum(table, h * q, k * q, q) {
+        return Turned::Large;
+    }
+    if f.room <= n {
+        return Turned::Full;
+    }
+    append::append_pair(table, values, words, degrees, marks, mothers, n, q, h, k, word);
+    memory::appended(places, n, word);
+    Turned::Goes(Next {
+        rows: n + 1,
+        taken: s.taken,
+        degree: s.degree,
+        upper: h,
+        lower: k + 1,
+        steps: s.steps + 1,
+        first: at.first,
+        more: false,
+    })
+}
