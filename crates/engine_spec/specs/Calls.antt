@@ -75,6 +75,10 @@ marksInOrder p done equation = leb equation p && not (ltb equation p && frozen d
 unfoldable pub coefficientsSmall : (n : ℕ) → List ℤ → Bool
 coefficientsSmall n equations = allTo n (λ k. leb (natAbs (getD equations k (pos 0))) coefficientLimit)
 
+-- a row within the component limit that is not all zero
+unfoldable pub isRow : (q : ℕ) → (ℕ → ℕ) → Bool
+isRow q x = isSmall q x && ltb 0 (total x q)
+
 -- none of the n degrees is 0, none is below the one before it, and none is above d
 unfoldable pub isRising : (n : ℕ) (f : ℕ → ℕ) (d : ℕ) → Bool
 isRising n f d = allTo n (λ i. ltb 0 (f i) && (leb (f (i - 1)) (f i) && leb (f i) d))
@@ -85,7 +89,7 @@ inOrder p q most room w =
     && ((leb (w .stage .steps) stepLimit && ltb (w .done) (2 ^ p))
     && (marksInOrder p (w .done) (w .equation)
     && (coefficientsSmall (p * q) (w .equations)
-    && (allTo (w .count) (λ i. isSmall q (basisRow q w i))
+    && (allTo (w .count) (λ i. isRow q (basisRow q w i))
     && (allTo (w .stage .rows) (λ i. isSmall q (row q (w .stage) i))
     && isRising (w .stage .rows) (λ i. total (row q (w .stage) i) q) (w .stage .degree))))))
 

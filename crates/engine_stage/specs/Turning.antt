@@ -18,6 +18,7 @@ use Rattle.engine_spec.specs.Beside.{noMark, wordOf}
 use Rattle.engine_spec.specs.Marks.{Marked}
 use Rattle.engine_spec.specs.Reduction.{isSmall}
 use Rattle.engine_spec.specs.ReductionLaws.{Against, small-from}
+use Rattle.engine_spec.specs.Search.{firstIn, found-holds, pair-found}
 use Rattle.engine_spec.specs.Stage.{
   Stage,
   Turned,
@@ -28,6 +29,7 @@ use Rattle.engine_spec.specs.Stage.{
   ends,
   goes,
   grown,
+  isDue,
   nextDegree,
   pairTurn,
   paired,
@@ -39,9 +41,11 @@ use Rattle.engine_spec.specs.Stage.{
   sumOf,
   turn,
 }
+use Rattle.engine_spec.specs.Tests.{due-pair, is-due, next-above}
 use Rattle.engine_reduce.specs.Sums.{integerAt, never}
+use Rattle.engine_search.specs.Agree.{due-row-by, next-degree-by, none-by, pair-by}
 use Rattle.engine_search.specs.Falls.{falling-start}
-use Rattle.engine_search.specs.Places.{Falling}
+use Rattle.engine_search.specs.Places.{Falling, Found, degreeOf, nextDegreeBy, valueOf}
 use Rattle.laws.specs.TableLaws.{row-fits}
 use Rattle.engine_rows.specs.Marking.{valued-bounded}
 use Rattle.engine_stage.specs.Appended.{PairAppended, PairFits, Room, RowAppended}
@@ -107,11 +111,12 @@ module _ {f : Frame} {l : Lent} {table : List ℕ} {x : Sides} {s : Next} (r : R
     pairOf = pairTurn (f .q) (equation f l) (f .room) (stageOf table s) h k
 
     pub pair-passed : testOf (f .q) (equation f l) (s .rows) table h k ≡ true
-        → Gone f l pairOf x (nextOf (s .rows) (s .taken) (s .degree) h (k + 1) (s .steps + 1) first false) table x
+        → Gone f l pairOf (s .rows) x (nextOf (s .rows) (s .taken) (s .degree) h (k + 1) (s .steps + 1) first false) table x
     unfolding pairTurn paired passed
     pair-passed e =
         record {
           is = rw e;
+          rises = omega arith;
           ready = passed-ready r (due .spent) h (k + 1) (s .steps + 1) first (omega (arith, due .early)) (due .falling);
           beyond = beyond-none;
         }
@@ -139,7 +144,7 @@ module _ {f : Frame} {l : Lent} {table : List ℕ} {x : Sides} {s : Next} (r : R
     pub pair-grown : (v : ℤ) (w mark mother : ℕ) → s .rows < f .room → v ≡ value (equation f l) (f .q) sum → w ≡ wordOf (f .q) sum
         → (mark < noMark → Marked (f .q) (equation f l) (s .rows) (at table (f .q)) sum mark) → testOf (f .q) (equation f l) (s .rows) table h k ≡ false
         → isSmall (f .q) sum ≡ true → ltb (s .rows) (f .room) ≡ true
-        → Gone f l pairOf x (nextOf (s .rows + 1) (s .taken) (s .degree) h (k + 1) (s .steps + 1) first false) (writeTo (f .q) table (s .rows * f .q) sum)
+        → Gone f l pairOf (s .rows) x (nextOf (s .rows + 1) (s .taken) (s .degree) h (k + 1) (s .steps + 1) first false) (writeTo (f .q) table (s .rows * f .q) sum)
         (sidesOf (set (x .values) (s .rows) v) (set (x .words) (s .rows) w) (set (x .degrees) (s .rows) (s .degree)) (set (x .marks) (s .rows) mark)
         (set (x .mothers) (s .rows) mother))
     unfolding pairTurn paired grown
@@ -147,6 +152,7 @@ module _ {f : Frame} {l : Lent} {table : List ℕ} {x : Sides} {s : Next} (r : R
         let small = small-from (f .q) sum (true-is (isSmall (f .q) sum) g) in
         record {
           is = rw (e, g, i);
+          rises = omega arith;
           ready =
               grown-ready r sum v w mark mother room value-is word-is sum-degree sum-some small mark-is (s .taken) h (k + 1) (s .steps + 1) first false
               (omega (arith, due .early)) (grown-falling r sum v w mark mother room value-is word-is sum-degree sum-some small mark-is (due .falling))
@@ -166,7 +172,7 @@ module _ {f : Frame} {l : Lent} {table : List ℕ} {x : Sides} {s : Next} (r : R
 
     pub row-grown : (v : ℤ) (w mark mother : ℕ) → s .rows < f .room → v ≡ value (equation f l) (f .q) (at (l .basis) (f .q) i)
         → w ≡ wordOf (f .q) (at (l .basis) (f .q) i) → noMark ≤ mark → ltb (s .rows) (f .room) ≡ true
-        → Gone f l rowOf x (nextOf (s .rows + 1) (i + 1) (s .degree) (s .upper) (s .lower) (s .steps + 1) (s .rows + 1) true)
+        → Gone f l rowOf (s .rows) x (nextOf (s .rows + 1) (i + 1) (s .degree) (s .upper) (s .lower) (s .steps + 1) (s .rows + 1) true)
         (writeTo (f .q) table (s .rows * f .q) (at (l .basis) (f .q) i))
         (sidesOf (set (x .values) (s .rows) v) (set (x .words) (s .rows) w) (set (x .degrees) (s .rows) (s .degree)) (set (x .marks) (s .rows) mark)
         (set (x .mothers) (s .rows) mother))
@@ -178,6 +184,7 @@ module _ {f : Frame} {l : Lent} {table : List ℕ} {x : Sides} {s : Next} (r : R
         let none : mark < noMark → Marked (f .q) (equation f l) (s .rows) (at table (f .q)) y mark = λ less. absurd (omega arith) in
         record {
           is = rw e;
+          rises = omega arith;
           ready =
               grown-ready r y v w mark mother room value-is word-is (due .exact) some small none (i + 1) (s .upper) (s .lower) (s .steps + 1) (s .rows + 1) true
               (omega (arith, due .early)) (falling-start (s .rows + 1) _ (s .degree) (s .upper)) (λ g. never (sym g));
@@ -193,9 +200,9 @@ module _ {f : Frame} {l : Lent} {table : List ℕ} {x : Sides} {s : Next} (r : R
   unfolding degreeTurn
   degree-ends d e = record { is = rw e; same = refl; aside = refl }
 
-  pub degree-raised : s .steps < stepLimit → (d : ℕ) → eqb d 0 ≡ false → s .degree < d → Gone f l (degreeOfTurn d) x (nextOf (s .rows) 0 d 0 0 (s .steps + 1) (s .rows) true) table x
+  pub degree-raised : s .steps < stepLimit → (d : ℕ) → eqb d 0 ≡ false → s .degree < d → Gone f l (degreeOfTurn d) (s .rows) x (nextOf (s .rows) 0 d 0 0 (s .steps + 1) (s .rows) true) table x
   unfolding degreeTurn raised
-  degree-raised early d e more = record { is = rw e; ready = raised-ready r d (s .steps + 1) (omega arith) (omega arith); beyond = beyond-none }
+  degree-raised early d e more = record { is = rw e; rises = omega arith; ready = raised-ready r d (s .steps + 1) (omega arith) (omega arith); beyond = beyond-none }
 
 -- ---- which way a turn goes
 
@@ -244,7 +251,7 @@ module _ {f : Frame} {l : Lent} {table : List ℕ} {values : List ℤ} {words de
       → degree ≡ getD (l .sizes) i 0
       → RowAppended (f .q) (s .rows) (equation f l) (at (l .basis) (f .q) i) word degree table values words degrees marks mothers table′ values′ words′ degrees′
       marks′ mothers′
-      → Gone f l (rowTurn (f .q) (at (l .basis) (f .q)) (f .room) (stageOf table s) i) (sidesOf values words degrees marks mothers)
+      → Gone f l (rowTurn (f .q) (at (l .basis) (f .q)) (f .room) (stageOf table s) i) (s .rows) (sidesOf values words degrees marks mothers)
       (nextOf (s .rows + 1) (i + 1) (s .degree) (s .upper) (s .lower) (s .steps + 1) (s .rows + 1) true) table′
       (sidesOf values′ words′ degrees′ marks′ mothers′)
   row-appended {i} {word} {degree} due room word-is degree-is a =
@@ -284,7 +291,7 @@ module _ {f : Frame} {l : Lent} {table : List ℕ} {values : List ℤ} {words de
     pub pair-appended : {word : ℕ} {table′ : List ℕ} {values′ : List ℤ} {words′ degrees′ marks′ mothers′ : List ℕ} → s .rows < f .room → word ≡ wordOf (f .q) (sumOf (f .q) (stageOf table s) h k)
         → testOf (f .q) (equation f l) (s .rows) table h k ≡ false → isSmall (f .q) (sumOf (f .q) (stageOf table s) h k) ≡ true
         → PairAppended (f .q) (s .rows) h k word table values words degrees marks mothers table′ values′ words′ degrees′ marks′ mothers′
-        → Gone f l (pairTurn (f .q) (equation f l) (f .room) (stageOf table s) h k) (sidesOf values words degrees marks mothers)
+        → Gone f l (pairTurn (f .q) (equation f l) (f .room) (stageOf table s) h k) (s .rows) (sidesOf values words degrees marks mothers)
         (nextOf (s .rows + 1) (s .taken) (s .degree) h (k + 1) (s .steps + 1) first false) table′ (sidesOf values′ words′ degrees′ marks′ mothers′)
     pair-appended {word} room word-is new small a =
         let exact : getD degrees h 0 + getD degrees k 0 ≡ s .degree =
@@ -292,3 +299,80 @@ module _ {f : Frame} {l : Lent} {table : List ℕ} {values : List ℤ} {words de
         rw (a .row-is, a .value-is, a .word-is, a .degree-is, exact, a .mark-is, a .mother-is)
         (pair-grown r due (integerAt values h +ℤ integerAt values k) word (markOf (integerAt values h) (integerAt values k)) (a .mother) room
         (sum-is pair-paired) word-is (mark-is pair-paired) new small (ltb-yes (s .rows) (f .room) room))
+
+-- ---- what is found is due
+
+-- the row of the basis that is next, or none
+pub record RowFound (m first r : ℕ) : Type 0 where
+  pub here : r < m → r ≡ first
+  pub none : m ≤ r → m ≤ first
+
+module _ {f : Frame} {l : Lent} {table : List ℕ} {x : Sides} {s : Next} (r : Ready f l table x s) where
+  abbrev due-at : ℕ
+  due-at = firstIn (f .m) (s .taken) (λ i. eqb (degreeOf (l .sizes) i) (s .degree))
+
+  pub row-is : due-at ≡ dueRow (f .q) (f .m) (at (l .basis) (f .q)) (stageOf table s)
+  row-is = due-row-by (f .q) (stageOf table s) (r .given .sized)
+
+  pub row-due : {i : ℕ} → s .steps ≢ stepLimit → i ≡ due-at → i < f .m → RowDue f l s i
+  row-due {i} ne e low =
+      let holds : T (eqb (degreeOf (l .sizes) due-at) (s .degree)) =
+      found-holds (f .m) (s .taken) (λ i. eqb (degreeOf (l .sizes) i) (s .degree)) (omega arith) in
+      let exact = eqb→eq (degreeOf (l .sizes) due-at) (s .degree) holds in
+      record { early = omega (arith, r .early, ne); low = low; exact = rw (← e) at (sym (r .given .sized .each due-at (omega arith)) ∙ exact) }
+
+  pub pair-due : {h k first : ℕ} → s .steps ≢ stepLimit → f .m ≤ dueRow (f .q) (f .m) (at (l .basis) (f .q)) (stageOf table s)
+      → Found (s .rows) (x .values) (x .degrees) (s .degree) (s .upper) (s .lower) h k first → h < s .rows
+      → PairDue f l table (x .degrees) s h k first
+  pair-due {h} {k} {first} ne spent found less =
+      let c = equation f l in
+      let (up, low) = pair-by (stageOf table s) (r .valued) (r .measured) found less in
+      let (inside, due) =
+      pair-found (s .rows) (isDue (f .q) c (at table (f .q)) (s .degree)) (s .upper) (s .lower) (rw (← up) at less) in
+      record {
+        early = omega (arith, r .early, ne);
+        upper = less;
+        lower = rw low at inside;
+        signs = rw (low, up) at (due-pair (f .q) c (at table (f .q)) (above (f .q) c (stageOf table s)) (below (f .q) c (stageOf table s)) (s .degree) due);
+        exact = rw (low, up) at (is-due (f .q) c (at table (f .q)) (above (f .q) c (stageOf table s)) (below (f .q) c (stageOf table s)) (s .degree) due);
+        falling = found .pair less .falling;
+        spent = spent;
+      }
+
+  -- ---- a turn, by what is found
+
+  pub spent-by : {r′ : ℕ} → RowFound (f .m) due-at r′ → f .m ≤ r′ → f .m ≤ dueRow (f .q) (f .m) (at (l .basis) (f .q)) (stageOf table s)
+  spent-by g past = rw row-is at (g .none past)
+
+  pub by-row : {i : ℕ} → s .steps ≢ stepLimit → RowFound (f .m) due-at i → i < f .m
+      → turnOf f l table s ≡ rowTurn (f .q) (at (l .basis) (f .q)) (f .room) (stageOf table s) i
+  by-row {i} ne g low = turn-row f l table s (eqb-no (s .steps) stepLimit ne) i (sym (g .here low ∙ row-is)) (ltb-yes i (f .m) low)
+
+  module _ (ne : s .steps ≢ stepLimit) (spent : f .m ≤ dueRow (f .q) (f .m) (at (l .basis) (f .q)) (stageOf table s)) where
+    abbrev no-row : ltb (dueRow (f .q) (f .m) (at (l .basis) (f .q)) (stageOf table s)) (f .m) ≡ false
+    no-row = ltb-no (dueRow (f .q) (f .m) (at (l .basis) (f .q)) (stageOf table s)) (f .m) spent
+
+    pub by-pair : {h k first : ℕ} → Found (s .rows) (x .values) (x .degrees) (s .degree) (s .upper) (s .lower) h k first → h < s .rows
+        → turnOf f l table s ≡ pairTurn (f .q) (equation f l) (f .room) (stageOf table s) h k
+    by-pair {h} {k} found less =
+        let (up, low) = pair-by (stageOf table s) (r .valued) (r .measured) found less in
+        turn-pair f l table s (eqb-no (s .steps) stepLimit ne) no-row h k up low (ltb-yes h (s .rows) less)
+
+    module _ {h k first d : ℕ} (found : Found (s .rows) (x .values) (x .degrees) (s .degree) (s .upper) (s .lower) h k first) (past : s .rows ≤ h)
+        (d-is : d ≡ nextDegreeBy (s .degree) (f .m) (degreeOf (l .sizes)) (s .rows) (valueOf (x .values)) (degreeOf (x .degrees))) where
+      next-is : nextDegree (f .q) (equation f l) (f .m) (at (l .basis) (f .q)) (stageOf table s) ≡ d
+      next-is = sym (d-is ∙ next-degree-by (stageOf table s) (r .valued) (r .measured) (r .given .sized))
+
+      by-degree : turnOf f l table s ≡ degreeTurn d (stageOf table s)
+      by-degree =
+          turn-degree f l table s (eqb-no (s .steps) stepLimit ne) no-row
+          (ltb-no _ (s .rows) (none-by (stageOf table s) (r .valued) (r .measured) found past)) d next-is
+
+      pub by-end : d ≡ 0 → Still (turnOf f l table s) ends table table x x
+      by-end e = rw by-degree (degree-ends r d e)
+
+      pub by-raise : d ≢ 0 → Gone f l (turnOf f l table s) (s .rows) x (nextOf (s .rows) 0 d 0 0 (s .steps + 1) (s .rows) true) table x
+      by-raise some =
+          rw by-degree
+          (degree-raised r (omega (arith, r .early, ne)) d (eqb-no d 0 some)
+          (rw next-is at (next-above (f .q) (equation f l) (f .m) (at (l .basis) (f .q)) (stageOf table s) (λ z. some (sym next-is ∙ z)))))

@@ -8,10 +8,14 @@ ghost use mir.Val.{SFits};
 ghost use Rattle.definitions.specs.Tables.{at};
 ghost use Rattle.engine_spec.specs.Beside.{equationAt, valueLimit, wordOf};
 ghost use Rattle.engine_reduce.specs.Sums.{sumOf};
+ghost use lib.Dec.{eqb};
+ghost use mathlib.Core.Bool.{false};
+ghost use Rattle.engine_spec.specs.Search.{firstIn};
 ghost use Rattle.engine_spec.specs.Stage.{pairTurn, rowTurn};
+ghost use Rattle.engine_search.specs.Places.{degreeOf};
 ghost use Rattle.engine_stage.specs.Marked.{Paired, isMarked, markOf, testOf};
 ghost use Rattle.engine_stage.specs.Standing.{Left, Ready, lentOf, sidesOf, stageOf, turnOf};
-ghost use Rattle.engine_stage.specs.Turning.{PairDue, RowDue};
+ghost use Rattle.engine_stage.specs.Turning.{PairDue, RowDue, RowFound};
 
 use crate::append;
 use crate::tests;
@@ -50,8 +54,82 @@ pub enum Turned {
     Ends,
 }
 
+// One turn.
+pub fn turn(
+    f: Frame,
+    coefs: &[i32],
+    basis: &[u32],
+    sizes: &[u32],
+    table: &mut [u32],
+    values: &mut [i64],
+    words: &mut [u64],
+    degrees: &mut [u32],
+    marks: &mut [u64],
+    mothers: &mut [u32],
+    held: &mut [u64; 768],
+    places: &mut [u32; 66560],
+    s: Next,
+) -> Turned
+    requires { ⌜ Ready f (lentOf (now coefs) (now basis) (now sizes)) (now table)
+        (sidesOf (now values) (now words) (now degrees) (now marks) (now mothers)) s ⌝ }
+    ensures { λ r. ⌜ Left f (lentOf (now (coefs .entry)) (now (basis .entry)) (now (sizes .entry)))
+        (turnOf f (lentOf (now (coefs .entry)) (now (basis .entry)) (now (sizes .entry))) (now (table .entry)) s) (s .rows) (now (table .entry))
+        (sidesOf (now (values .entry)) (now (words .entry)) (now (degrees .entry)) (now (marks .entry)) (now (mothers .entry))) r (now (table .exit))
+        (sidesOf (now (values .exit)) (now (words .exit)) (now (degrees .exit)) (now (marks .exit)) (now (mothers .exit))) ⌝ }
+{
+    let m = f.m;
+    let n = s.rows;
+    let d = s.degree;
+    if s.steps == 1000000000000 {
+        return Turned::Late;
+    }
+    let i = due(sizes, m, s.taken, d, s.more);
+    if i < m {
+        return row_turn(f, coefs, basis, sizes, table, values, words, degrees, marks, mothers, places, s, i);
+    }
+    let at = engine_search::next_pair(
+        values,
+        degrees,
+        n,
+        d,
+        Place {
+            upper: s.upper,
+            lower: s.lower,
+            first: s.first,
+        },
+    );
+    if at.upper < n {
+        return pair_turn(f, coefs, basis, sizes, table, values, words, degrees, marks, mothers, held, places, s, at);
+    }
+    let next = engine_search::next_degree(values, degrees, n, sizes, m, d);
+    if next == 0 {
+        return Turned::Ends;
+    }
+    Turned::Goes(Next {
+        rows: n,
+        taken: 0,
+        degree: next,
+        upper: 0,
+        lower: 0,
+        steps: s.steps + 1,
+        first: n,
+        more: true,
+    })
+}
+
+// The row of the basis that is due; at least m where there is none. `more` says that there may be one.
+fn due(sizes: &[u32], m: usize, from: usize, d: u64, more: bool) -> usize
+    requires { ⌜ (m ≤ length (now sizes)) × (more ≡ false → m ≤ firstIn m from (λ i. eqb (degreeOf (now sizes) i) d)) ⌝ }
+    ensures { λ r. ⌜ RowFound m (firstIn m from (λ i. eqb (degreeOf (now (sizes .entry)) i) d)) r ⌝ }
+{
+    if !more {
+        return m;
+    }
+    engine_search::due_row(sizes, m, from, d)
+}
+
 // Row i of the basis is appended.
-pub fn row_turn(
+fn row_turn(
     f: Frame,
     coefs: &[i32],
     basis: &[u32],
@@ -69,7 +147,7 @@ pub fn row_turn(
     requires { ⌜ Ready f (lentOf (now coefs) (now basis) (now sizes)) (now table)
         (sidesOf (now values) (now words) (now degrees) (now marks) (now mothers)) s × RowDue f (lentOf (now coefs) (now basis) (now sizes)) s i ⌝ }
     ensures { λ r. ⌜ Left f (lentOf (now (coefs .entry)) (now (basis .entry)) (now (sizes .entry)))
-        (rowTurn (f .q) (at (now (basis .entry)) (f .q)) (f .room) (stageOf (now (table .entry)) s) i) (now (table .entry))
+        (rowTurn (f .q) (at (now (basis .entry)) (f .q)) (f .room) (stageOf (now (table .entry)) s) i) (s .rows) (now (table .entry))
         (sidesOf (now (values .entry)) (now (words .entry)) (now (degrees .entry)) (now (marks .entry)) (now (mothers .entry))) r (now (table .exit))
         (sidesOf (now (values .exit)) (now (words .exit)) (now (degrees .exit)) (now (marks .exit)) (now (mothers .exit))) ⌝ }
 {
@@ -110,7 +188,7 @@ pub fn row_turn(
 }
 
 // The pair found: its sum is appended unless some row reduces it.
-pub fn pair_turn(
+fn pair_turn(
     f: Frame,
     coefs: &[i32],
     basis: &[u32],
@@ -130,7 +208,7 @@ pub fn pair_turn(
         (sidesOf (now values) (now words) (now degrees) (now marks) (now mothers)) s
         × PairDue f (lentOf (now coefs) (now basis) (now sizes)) (now table) (now degrees) s (at .upper) (at .lower) (at .first) ⌝ }
     ensures { λ r. ⌜ Left f (lentOf (now (coefs .entry)) (now (basis .entry)) (now (sizes .entry)))
-        (pairTurn (f .q) (equationAt (now (coefs .entry)) (f .from)) (f .room) (stageOf (now (table .entry)) s) (at .upper) (at .lower)) (now (table .entry))
+        (pairTurn (f .q) (equationAt (now (coefs .entry)) (f .from)) (f .room) (stageOf (now (table .entry)) s) (at .upper) (at .lower)) (s .rows) (now (table .entry))
         (sidesOf (now (values .entry)) (now (words .entry)) (now (degrees .entry)) (now (marks .entry)) (now (mothers .entry))) r (now (table .exit))
         (sidesOf (now (values .exit)) (now (words .exit)) (now (degrees .exit)) (now (marks .exit)) (now (mothers .exit))) ⌝ }
 {
