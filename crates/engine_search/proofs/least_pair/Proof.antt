@@ -40,7 +40,7 @@ module _ (f : tie.After-fall Inv-loop μ-loop) where
       rw known at (told (test .is-above .ensures) (not-false _ (f .before .before .before .before .if1 .left)))
 
   sum : f .before .missing .result ≡ start .args .d + 1 - degreeOf (now (start .args .degrees)) (turn .before .loop .h)
-  sum = rw (f .before .before .wide .ensures) at (f .before .missing .ensures)
+  sum = omega (arith, f .before .before .wide .ensures, f .before .missing .ensures)
 
   falling : Falling (start .args .n) (now (start .args .degrees)) (start .args .d + 1) (turn .before .loop .h + 1) (f .fall .result .first)
   falling =

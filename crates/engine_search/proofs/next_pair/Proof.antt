@@ -118,7 +118,7 @@ returns c =
     let a = turn b .before in
     found-next (turn b .loop-test .taken)
     (row-found (a .loop .inv .1) (start b .pre .0) (turn b .loop-test .taken) (above b) (sum b) (fallen b) (b .before .before .back .ensures) (scanned b)
-    (c .if3 .taken) (a .loop .inv .2))
+    (omega (arith, c .if3 .taken, turn b .loop-test .taken)) (a .loop .inv .2))
 
 loop-less-2 : tie.Need-loop-less-2 Inv-loop μ-loop
 loop-less-2 c = search needs
@@ -129,7 +129,7 @@ loop-again-2 c =
     let a = turn b .before in (
       fallen b,
       row-passed (a .loop .inv .1) (start b .pre .0) (turn b .loop-test .taken) (above b) (sum b) (fallen b) (b .before .before .back .ensures) (scanned b)
-          (c .if3 .left),
+          (omega (arith, c .if3 .left)),
       falling-next (start b .pre .0) (falling-back (a .loop .inv .2) (b .before .before .back .ensures) (omega (arith, sum b))),
     )
 
