@@ -5,3 +5,4 @@ pub mod Scans
 pub mod Rows
 pub mod Leasts
 pub mod Agree
+pub mod Examples

@@ -46,11 +46,7 @@ pub fn next_pair(values: &[i64], degrees: &[u32], n: usize, d: u64, at: Place) -
         let from = lower;
         let x = wide(degrees[h]);
         if d <= x {
-            return Place {
-                upper: n,
-                lower: 0,
-                first: n,
-            };
+            break;
         }
         upper += 1;
         lower = 0;

@@ -40,7 +40,7 @@ module _ (f : tie.After-fall Inv-loop μ-loop) where
       rw known at (told (test .is-above .ensures) (not-false _ (f .before .before .before .before .if1 .left)))
 
   sum : f .before .missing .result ≡ start .args .d + 1 - degreeOf (now (start .args .degrees)) (turn .before .loop .h)
-  sum = rw (f .before .before .wide .ensures) at (f .before .missing .ensures)
+  sum = omega (arith, f .before .before .wide .ensures, f .before .missing .ensures)
 
   falling : Falling (start .args .n) (now (start .args .degrees)) (start .args .d + 1) (turn .before .loop .h + 1) (f .fall .result .first)
   falling =
@@ -129,7 +129,8 @@ loop-again-2 c =
     let f = c .before .before .before .before in
     let s = start f in
     let a = turn f .before in
-    let least = row-least (s .pre) (s .args .d) (turn f .loop-test .taken) (sum f) (a .loop .inv .2) (f .fall .ensures) (above f) (c .before .before .before .if2 .taken) in (
+    let least = row-least (s .pre) (s .args .d) (turn f .loop-test .taken) (sum f) (a .loop .inv .2) (f .fall .ensures) (above f)
+    (c .before .before .before .if2 .taken) in (
       omega (arith, turn f .loop-test .taken),
       c .lesser .ensures ∙ best-lesser _ (now (s .args .values)) (now (s .args .degrees)) _ _ _ (a .loop .inv .1) _
           (rw (← c .before .wide2 .ensures, ← f .before .before .wide .ensures) at least),

@@ -15,7 +15,7 @@ lesser-requires c κs = search needs
 
 returns : tie.Need-returns
 unfolding nextDegreeBy
-returns c = rw (c .before .least-size .ensures, c .before .before .least-pair .ensures) at (c .lesser .ensures)
+returns c = cc (c .lesser .ensures, c .before .least-size .ensures, c .before .before .least-pair .ensures)
 
 pub next-degree-spec : {M : Type 1} → statement M
 next-degree-spec =

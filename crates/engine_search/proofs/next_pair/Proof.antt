@@ -10,7 +10,18 @@ use mir.Syntax.{w64}
 use Rattle.engine_search.specs.Falls.{falling-back, falling-least, falling-next}
 use Rattle.engine_search.specs.Firsts.{told, untold}
 use Rattle.engine_search.specs.Places.{Falling, degreeOf, valueOf}
-use Rattle.engine_search.specs.Rows.{Searched, found-next, found-none, isAbove, row-found, row-passed, searched-end, searched-past, searched-skip, searched-start}
+use Rattle.engine_search.specs.Rows.{
+  Searched,
+  found-next,
+  found-none,
+  isAbove,
+  row-found,
+  row-passed,
+  searched-end,
+  searched-past,
+  searched-skip,
+  searched-start,
+}
 use Rattle.engine_search.specs.Scans.{Below}
 use Rattle.engine_search.proofs.next_pair.Statement.{statement}
 use Rattle.engine_search.proofs.next_pair.Tie as tie
@@ -66,12 +77,6 @@ shared-slice-read-wide c = search needs
 wide-requires : tie.Need-wide-requires Inv-loop μ-loop
 wide-requires c κs = search needs
 
-returns : tie.Need-returns Inv-loop μ-loop
-returns c =
-    let a = c .before .before .before .before in
-    let s = a .before .before .before in
-    found-none 0 _ (searched-past (a .loop .inv .1) (s .pre .0) (omega (arith, c .before .wide .ensures, c .if1 .taken)))
-
 add-upper : tie.Need-add-upper Inv-loop μ-loop
 add-upper c = search needs
 
@@ -107,13 +112,13 @@ greatest-requires c κs = search needs
 next-below-requires : tie.Need-next-below-requires Inv-loop μ-loop
 next-below-requires c κs = search needs
 
-returns-2 : tie.Need-returns-2 Inv-loop μ-loop
-returns-2 c =
+returns : tie.Need-returns Inv-loop μ-loop
+returns c =
     let b = c .before in
     let a = turn b .before in
     found-next (turn b .loop-test .taken)
     (row-found (a .loop .inv .1) (start b .pre .0) (turn b .loop-test .taken) (above b) (sum b) (fallen b) (b .before .before .back .ensures) (scanned b)
-    (c .if3 .taken) (a .loop .inv .2))
+    (omega (arith, c .if3 .taken, turn b .loop-test .taken)) (a .loop .inv .2))
 
 loop-less-2 : tie.Need-loop-less-2 Inv-loop μ-loop
 loop-less-2 c = search needs
@@ -124,12 +129,18 @@ loop-again-2 c =
     let a = turn b .before in (
       fallen b,
       row-passed (a .loop .inv .1) (start b .pre .0) (turn b .loop-test .taken) (above b) (sum b) (fallen b) (b .before .before .back .ensures) (scanned b)
-          (c .if3 .left),
+          (omega (arith, c .if3 .left)),
       falling-next (start b .pre .0) (falling-back (a .loop .inv .2) (b .before .before .back .ensures) (omega (arith, sum b))),
     )
 
+returns-2 : tie.Need-returns-2 Inv-loop μ-loop
+returns-2 c = found-none 0 _ (searched-end (c .before .loop .inv .1) (c .loop-test .left))
+
 returns-3 : tie.Need-returns-3 Inv-loop μ-loop
-returns-3 c = found-none 0 _ (searched-end (c .before .loop .inv .1) (c .loop-test .left))
+returns-3 c =
+    let a = c .before .before .before .before in
+    let s = a .before .before .before in
+    found-none 0 _ (searched-past (a .loop .inv .1) (s .pre .0) (omega (arith, c .before .wide .ensures, c .if1 .taken)))
 
 pub next-pair-spec : {M : Type 1} → statement M
 next-pair-spec =
@@ -142,7 +153,6 @@ next-pair-spec =
     mul-wide
     shared-slice-read-wide
     wide-requires
-    returns
     add-upper
     mul-is-above
     shared-slice-copy-out-is-above
@@ -153,7 +163,8 @@ next-pair-spec =
     back-requires
     greatest-requires
     next-below-requires
-    returns-2
+    returns
     loop-less-2
     loop-again-2
+    returns-2
     returns-3)
