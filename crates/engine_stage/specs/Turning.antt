@@ -341,6 +341,9 @@ module _ {f : Frame} {l : Lent} {table : List ℕ} {x : Sides} {s : Next} (r : R
 
   -- ---- a turn, by what is found
 
+  pub by-late : s .steps ≡ stepLimit → Still (turnOf f l table s) (stops 14) table table x x
+  by-late e = record { is = turn-late f l table s e; same = refl; aside = refl }
+
   pub spent-by : {r′ : ℕ} → RowFound (f .m) due-at r′ → f .m ≤ r′ → f .m ≤ dueRow (f .q) (f .m) (at (l .basis) (f .q)) (stageOf table s)
   spent-by g past = rw row-is at (g .none past)
 

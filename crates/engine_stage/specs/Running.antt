@@ -1,0 +1,123 @@
+-- The loop over turns, and what it leaves. Assumes nothing.
+use mathlib.Core.Path.{_≡_, refl, sym, _∙_}
+use mathlib.Core.List.{List, []}
+use Prim.Native.Nat.{ℕ, zero, suc, _+_, _-_, _≤_, _<_}
+use native.Mathlib.Numerals.{add-one}
+use native.Mathlib.Omega.{arith}
+use lib.IntN.{ℤ, pos}
+use Rattle.definitions.specs.Answers.{Answer, complete, paused, refused}
+use Rattle.definitions.specs.Tables.{at}
+use Rattle.engine_spec.specs.Stage.{Outcome, Stage, Turned, after, ends, goes, outcome, run, stops, turn}
+use Rattle.engine_beside.specs.Writing.{Kept}
+use Rattle.engine_stage.specs.Standing.{Beyond, Gone, Left, Lent, Ready, Sides, Still, beyond-none, equation, stageOf, turnOf}
+use Rattle.engine_stage.specs.declared.stages.Ending.{Ending}
+use Rattle.engine_stage.specs.declared.stages.Ending.the-variants as ending
+use Rattle.engine_stage.specs.declared.stages.Ran.{Ran}
+use Rattle.engine_stage.specs.declared.turns.Frame.{Frame}
+use Rattle.engine_stage.specs.declared.turns.Next.{Next}
+use Rattle.engine_stage.specs.declared.turns.Turned as code
+use Rattle.engine_stage.specs.declared.turns.Turned.the-variants.{Ends, Full, Goes, Large, Late}
+
+abbrev pub ranOf : Ending → Next → Ran
+ranOf e s = record { ending = e; next = s }
+
+abbrev pub answerOf : Ending → Answer
+answerOf ending.Paused = paused
+answerOf ending.Late = refused 14 []
+answerOf ending.Large = refused 12 []
+answerOf ending.Full = refused 31 []
+answerOf ending.Ends = complete
+
+-- the stage's own turns
+abbrev pub runOf : Frame → Lent → ℕ → List ℕ → Next → Outcome
+runOf f l budget table s = run (f .q) (equation f l) (f .m) (at (l .basis) (f .q)) (f .room) budget (stageOf table s)
+
+pub record RunLeft (f : Frame) (l : Lent) (budget : ℕ) (table : List ℕ) (x : Sides) (s : Next) (r : Ran) (table′ : List ℕ) (x′ : Sides) : Type 0 where
+  pub is : runOf f l budget table s ≡ outcome (answerOf (r .ending)) (stageOf table′ (r .next))
+  pub ready : Ready f l table′ x′ (r .next)
+  pub rises : s .rows ≤ r .next .rows
+  pub beyond : Beyond (r .next .rows) x x′
+
+-- ---- the loop
+
+-- after some turns: what is left to do comes to the same
+pub record Going (f : Frame) (l : Lent) (budget : ℕ) (table : List ℕ) (x : Sides) (s : Next) (left : ℕ) (table′ : List ℕ) (x′ : Sides) (s′ : Next) : Type 0 where
+  pub same : runOf f l budget table s ≡ runOf f l left table′ s′
+  pub ready : Ready f l table′ x′ s′
+  pub rises : s .rows ≤ s′ .rows
+  pub beyond : Beyond (s′ .rows) x x′
+
+pub going-start : {f : Frame} {l : Lent} {table : List ℕ} {x : Sides} {s : Next} (budget : ℕ) → Ready f l table x s → Going f l budget table x s budget table x s
+going-start budget r = record { same = refl; ready = r; rises = omega arith; beyond = beyond-none }
+
+kept-then : {A : Type 0} {z : A} {n m : ℕ} {a b c : List A} → n ≤ m → Kept z n a b → Kept z m b c → Kept z m a c
+kept-then l p q = record { long = q .long ∙ p .long; rest = λ i h. q .rest i h ∙ p .rest i (omega arith) }
+
+beyond-then : {n m : ℕ} {a b c : Sides} → n ≤ m → Beyond n a b → Beyond m b c → Beyond m a c
+beyond-then l p q =
+    record {
+      values = kept-then l (p .values) (q .values);
+      words = kept-then l (p .words) (q .words);
+      degrees = kept-then l (p .degrees) (q .degrees);
+      marks = kept-then l (p .marks) (q .marks);
+      mothers = kept-then l (p .mothers) (q .mothers);
+    }
+
+module _ {f : Frame} {l : Lent} {budget : ℕ} {table : List ℕ} {x : Sides} {s : Next} {left : ℕ} {table′ : List ℕ} {x′ : Sides} {s′ : Next}
+    (g : Going f l budget table x s left table′ x′ s′) where
+  one-more : (k : ℕ) → left ≡ suc k → runOf f l left table′ s′ ≡ after (turnOf f l table′ s′) (run (f .q) (equation f l) (f .m) (at (l .basis) (f .q)) (f .room) k) (stageOf table′ s′)
+  unfolding run
+  one-more k e = rw e
+
+  pub going-on : {table″ : List ℕ} {x″ : Sides} {s″ : Next} → 0 < left → Gone f l (turnOf f l table′ s′) (s′ .rows) x′ s″ table″ x″
+      → Going f l budget table x s (left - 1) table″ x″ s″
+  unfolding after
+  going-on some t =
+      record {
+        same = g .same ∙ (one-more (left - 1) (omega arith) ∙ rw (t .is));
+        ready = t .ready;
+        rises = omega (arith, g .rises, t .rises);
+        beyond = beyond-then (t .rises) (g .beyond) (t .beyond);
+      }
+
+  stopped : {table″ : List ℕ} {x″ : Sides} {n : ℕ} (e : Ending) → answerOf e ≡ refused n [] → 0 < left → Still (turnOf f l table′ s′) (stops n) table′ table″ x′ x″
+      → RunLeft f l budget table x s (ranOf e s′) table″ x″
+  unfolding after
+  stopped e name some t =
+      rw (t .same, t .aside)
+      (record {
+        is = g .same ∙ (one-more (left - 1) (omega arith) ∙ rw (t .is, name));
+        ready = g .ready;
+        rises = g .rises;
+        beyond = g .beyond;
+      })
+
+  pub late-left : {table″ : List ℕ} {x″ : Sides} → 0 < left → Still (turnOf f l table′ s′) (stops 14) table′ table″ x′ x″
+      → RunLeft f l budget table x s (ranOf ending.Late s′) table″ x″
+  late-left some t = stopped ending.Late refl some t
+
+  pub large-left : {table″ : List ℕ} {x″ : Sides} → 0 < left → Still (turnOf f l table′ s′) (stops 12) table′ table″ x′ x″
+      → RunLeft f l budget table x s (ranOf ending.Large s′) table″ x″
+  large-left some t = stopped ending.Large refl some t
+
+  pub full-left : {table″ : List ℕ} {x″ : Sides} → 0 < left → Still (turnOf f l table′ s′) (stops 31) table′ table″ x′ x″
+      → RunLeft f l budget table x s (ranOf ending.Full s′) table″ x″
+  full-left some t = stopped ending.Full refl some t
+
+  pub ends-left : {table″ : List ℕ} {x″ : Sides} → 0 < left → Still (turnOf f l table′ s′) ends table′ table″ x′ x″
+      → RunLeft f l budget table x s (ranOf ending.Ends s′) table″ x″
+  unfolding after
+  ends-left some t =
+      rw (t .same, t .aside)
+      (record {
+        is = g .same ∙ (one-more (left - 1) (omega arith) ∙ rw (t .is));
+        ready = g .ready;
+        rises = g .rises;
+        beyond = g .beyond;
+      })
+
+  pub paused-left : left ≡ 0 → RunLeft f l budget table x s (ranOf ending.Paused s′) table′ x′
+  paused-left e = record { is = g .same ∙ none e; ready = g .ready; rises = g .rises; beyond = g .beyond }
+    where
+      none : left ≡ 0 → runOf f l left table′ s′ ≡ outcome paused (stageOf table′ s′)
+      none e = rw e (unfold run in refl)
