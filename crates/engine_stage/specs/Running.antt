@@ -5,6 +5,7 @@ use Prim.Native.Nat.{ℕ, zero, suc, _+_, _-_, _≤_, _<_}
 use native.Mathlib.Numerals.{add-one}
 use native.Mathlib.Omega.{arith}
 use lib.IntN.{ℤ, pos}
+use lib.ListN.{length}
 use Rattle.definitions.specs.Answers.{Answer, complete, paused, refused}
 use Rattle.definitions.specs.Tables.{at}
 use Rattle.engine_spec.specs.Stage.{Outcome, Stage, Turned, after, ends, goes, outcome, run, stops, turn}
@@ -69,7 +70,7 @@ module _ {f : Frame} {l : Lent} {budget : ℕ} {table : List ℕ} {x : Sides} {s
   unfolding run
   one-more k e = rw e
 
-  pub going-on : {table″ : List ℕ} {x″ : Sides} {s″ : Next} → 0 < left → Gone f l (turnOf f l table′ s′) (s′ .rows) x′ s″ table″ x″
+  pub going-on : {table″ : List ℕ} {x″ : Sides} {s″ : Next} → 0 < left → Gone f l (turnOf f l table′ s′) (s′ .rows) table′ x′ s″ table″ x″
       → Going f l budget table x s (left - 1) table″ x″ s″
   unfolding after
   going-on some t =
@@ -121,3 +122,58 @@ module _ {f : Frame} {l : Lent} {budget : ℕ} {table : List ℕ} {x : Sides} {s
     where
       none : left ≡ 0 → runOf f l left table′ s′ ≡ outcome paused (stageOf table′ s′)
       none e = rw e (unfold run in refl)
+
+-- ---- lengths
+
+-- the tables are as long as they were
+pub record Long (table : List ℕ) (x : Sides) (table′ : List ℕ) (x′ : Sides) : Type 0 where
+  pub rows : length table′ ≡ length table
+  pub values : length (x′ .values) ≡ length (x .values)
+  pub words : length (x′ .words) ≡ length (x .words)
+  pub degrees : length (x′ .degrees) ≡ length (x .degrees)
+  pub marks : length (x′ .marks) ≡ length (x .marks)
+  pub mothers : length (x′ .mothers) ≡ length (x .mothers)
+
+pub long-start : (table : List ℕ) (x : Sides) → Long table x table x
+long-start table x = record { rows = refl; values = refl; words = refl; degrees = refl; marks = refl; mothers = refl }
+
+module _ {f : Frame} {l : Lent} {budget : ℕ} {table : List ℕ} {x : Sides} {s : Next} {left : ℕ} {table′ : List ℕ} {x′ : Sides} {s′ : Next}
+    (g : Going f l budget table x s left table′ x′ s′) where
+  module _ (long : Long table x table′ x′) (r : code.Turned) {table″ : List ℕ} {x″ : Sides} where
+    pub left-long : Left f l (turnOf f l table′ s′) (s′ .rows) table′ x′ r table″ x″ → Long table x table″ x″
+    left-long = by r
+      where
+        kept : table″ ≡ table′ → x″ ≡ x′ → Long table x table″ x″
+        kept e h = rw (e, h) long
+
+        by : (r : code.Turned) → Left f l (turnOf f l table′ s′) (s′ .rows) table′ x′ r table″ x″ → Long table x table″ x″
+        by (Goes s″) t =
+            record {
+              rows = t .long ∙ long .rows;
+              values = t .beyond .values .long ∙ long .values;
+              words = t .beyond .words .long ∙ long .words;
+              degrees = t .beyond .degrees .long ∙ long .degrees;
+              marks = t .beyond .marks .long ∙ long .marks;
+              mothers = t .beyond .mothers .long ∙ long .mothers;
+            }
+        by Late t = kept (t .same) (t .aside)
+        by Large t = kept (t .same) (t .aside)
+        by Full t = kept (t .same) (t .aside)
+        by Ends t = kept (t .same) (t .aside)
+
+    pub goes-again : {s″ : Next} → 0 < left → Left f l (turnOf f l table′ s′) (s′ .rows) table′ x′ r table″ x″ → r ≡ Goes s″
+        → Going f l budget table x s (left - 1) table″ x″ s″ × Long table x table″ x″
+    goes-again some t e = (going-on g some (rw e at t), left-long t)
+
+  module _ {r : code.Turned} {table″ : List ℕ} {x″ : Sides} (some : 0 < left) (t : Left f l (turnOf f l table′ s′) (s′ .rows) table′ x′ r table″ x″) where
+    pub stops-late : r ≡ Late → RunLeft f l budget table x s (ranOf ending.Late s′) table″ x″
+    stops-late e = late-left g some (rw e at t)
+
+    pub stops-large : r ≡ Large → RunLeft f l budget table x s (ranOf ending.Large s′) table″ x″
+    stops-large e = large-left g some (rw e at t)
+
+    pub stops-full : r ≡ Full → RunLeft f l budget table x s (ranOf ending.Full s′) table″ x″
+    stops-full e = full-left g some (rw e at t)
+
+    pub stops-ends : r ≡ Ends → RunLeft f l budget table x s (ranOf ending.Ends s′) table″ x″
+    stops-ends e = ends-left g some (rw e at t)
