@@ -1,13 +1,12 @@
 -- The tests by which rows are kept, and one turn of the loops that keep and count them. Assumes nothing.
 use mathlib.Core.Path.{_≡_, refl, sym, _∙_, ap}
-use mathlib.Core.Logic.{_≢_}
 use mathlib.Core.List.{List}
 use mathlib.Core.Bool.{Bool, true, false, not, true≢false}
 use Prim.Native.Nat.{ℕ, _+_, _*_, _≤_, _<_}
 use native.Mathlib.Nat.{mul-le-mul-right}
 use native.Mathlib.Numerals.{add-one}
 use native.Mathlib.Omega.{arith}
-use borrow.Author.Tests.{eq-eqb, leb-true, ne-eqb}
+use borrow.Author.Tests.{leb-true}
 use lib.Dec.{T, eqb, eqb→eq}
 use lib.IntN.{ℤ, pos, negsuc, natAbs}
 use lib.ListN.{length, getD}
@@ -17,7 +16,7 @@ use mir.Syntax.{w32, w64}
 use mir.Val.{Fits, SFits, ofZ, toZ}
 use Rattle.linear.specs.Differences.{up}
 use Rattle.linear.specs.TestLaws.{all-at, count-le}
-use Rattle.linear.specs.Tests.{allTo, countTo, number}
+use Rattle.linear.specs.Tests.{allTo, countTo}
 use Rattle.definitions.specs.System.{isZero}
 use Rattle.definitions.specs.Tables.{at, writeTo}
 use Rattle.laws.specs.TableLaws.{row-fits, write-same}
@@ -25,7 +24,7 @@ use Rattle.sweeps.specs.SweepLaws.{T-same}
 use Rattle.sweeps.specs.SweepTable.{swept-ahead}
 use Rattle.engine_spec.specs.Beside.{rowAt}
 use Rattle.engine_spec.specs.Fresh.{putAt}
-use Rattle.engine_rows.specs.Packing.{Packed, packed-few, packed-length, packed-more, packed-skip}
+use Rattle.engine_rows.specs.Packing.{Packed, packed-more}
 
 -- value i is 0; it is not below 0; it is at most 1,000,000
 abbrev pub zeroValue : List ℤ → ℕ → Bool

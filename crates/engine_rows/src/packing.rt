@@ -15,13 +15,7 @@ ghost use Rattle.engine_rows.specs.Keeping.{filledRow, lacks, notBelowVa
 use crate::rows;
 
 // Writes those of the first n rows that have value 0 into `basis`, and says how many.
-pub fn keep_zeros(
-    basis: &mut [u32],
-    table: &[u32],
-    values: &[i64],
-    n: usize,
-    q: usize,
-) -> usize
+pub fn keep_zeros(basis: &mut [u32], table: &[u32], values: &[i64], n: usize, q: usize) -> usize
     requires { ⌜ (n * q ≤ length (now table)) × (n ≤ length (now values)) × (countTo n (zeroValue (now values)) * q ≤ length (now basis)) ⌝ }
     ensures { λ r. ⌜ (now (basis .exit) ≡ packTo n q (now (basis .entry)) 0 (zeroValue (now (values .entry))) (at (now (table .entry)) q))
         × (r ≡ countTo n (zeroValue (now (values .entry)))) ⌝ }

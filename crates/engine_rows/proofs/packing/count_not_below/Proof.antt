@@ -5,7 +5,6 @@ use Prim.Native.Nat.{_-_, _≤_}
 use native.Mathlib.Nat.{le-antisymm}
 use native.Mathlib.Omega.{arith}
 use borrow.Author.Needs.{needs, sfits-of}
-use borrow.Author.Tests.{not-false, not-true}
 use lib.IntN.{pos}
 use lib.ListN.{getD}
 use denote.Ref.{now}
@@ -27,7 +26,7 @@ loop-holds : tie.Need-loop-holds Inv-loop μ-loop
 loop-holds c = (search needs, none-counted _)
 
 loop-again : tie.Need-loop-again Inv-loop μ-loop
-loop-again c = 
+loop-again c =
     let e = c .before in
     let a = e .before .before .before in
     let s = a .before in
@@ -35,12 +34,12 @@ loop-again c =
     (search needs, counted-same _ (a .loop .i) (a .loop .inv .1) (ap not (rw known at (sym (e .is-below .ensures) ∙ c .if1 .taken))))
 
 add-count : tie.Need-add-count Inv-loop μ-loop
-add-count c = 
+add-count c =
     let a = c .before .before .before .before in
     omega (arith, a .loop .inv .0, a .loop .inv .1, count-le (notBelowValue (now (a .before .args .values))) (a .loop .i))
 
 loop-again-2 : tie.Need-loop-again-2 Inv-loop μ-loop
-loop-again-2 c = 
+loop-again-2 c =
     let e = c .before in
     let a = e .before .before .before in
     let s = a .before in

@@ -1,6 +1,5 @@
 -- `packing::count_zeros` meets its contract. The values passed have been counted. Assumes nothing.
-use mathlib.Core.Path.{_≡_, sym, _∙_, ap}
-use mathlib.Core.Bool.{not}
+use mathlib.Core.Path.{_≡_, sym, _∙_}
 use Prim.Native.Nat.{_-_, _≤_}
 use native.Mathlib.Nat.{le-antisymm}
 use native.Mathlib.Omega.{arith}
@@ -27,7 +26,7 @@ loop-holds : tie.Need-loop-holds Inv-loop μ-loop
 loop-holds c = (search needs, none-counted _)
 
 loop-again : tie.Need-loop-again Inv-loop μ-loop
-loop-again c = 
+loop-again c =
     let e = c .before in
     let a = e .before .before .before in
     let s = a .before in
@@ -35,12 +34,12 @@ loop-again c =
     (search needs, counted-same _ (a .loop .i) (a .loop .inv .1) (rw known at (sym (e .is-zero .ensures) ∙ not-true _ (c .if1 .taken))))
 
 add-count : tie.Need-add-count Inv-loop μ-loop
-add-count c = 
+add-count c =
     let a = c .before .before .before .before in
     omega (arith, a .loop .inv .0, a .loop .inv .1, count-le (zeroValue (now (a .before .args .values))) (a .loop .i))
 
 loop-again-2 : tie.Need-loop-again-2 Inv-loop μ-loop
-loop-again-2 c = 
+loop-again-2 c =
     let e = c .before in
     let a = e .before .before .before in
     let s = a .before in

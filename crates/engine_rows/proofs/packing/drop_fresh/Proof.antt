@@ -1,17 +1,11 @@
 -- `packing::drop_fresh` meets its contract. Of the rows passed, those with 0 at place f have been kept; those ahead are as they were. Assumes nothing.
-use mathlib.Core.Path.{_≡_, refl, sym, _∙_, ap}
-use mathlib.Core.Bool.{not, true, false}
-use Prim.Native.Nat.{_+_, _*_, _-_, _≤_}
+use mathlib.Core.Path.{_≡_, refl, sym, _∙_}
+use Prim.Native.Nat.{_-_, _≤_}
 use native.Mathlib.Nat.{le-antisymm}
 use native.Mathlib.Omega.{arith}
-use borrow.Author.Tests.{not-false, not-true}
-use borrow.Author.Needs.{needs, sfits-of}
+use borrow.Author.Needs.{needs}
 use lib.ListN.{length}
-use lib.IntN.{pos}
-use lib.ListN.{getD}
 use denote.Ref.{now}
-use mir.Facts.{toZ-ofZ}
-use mir.Syntax.{w64}
 use Rattle.definitions.specs.Tables.{at}
 use Rattle.laws.specs.TableLaws.{row-fits}
 use borrow.Author.Tests.{eq-eqb, ne-eqb}
@@ -30,38 +24,38 @@ loop-holds : tie.Need-loop-holds Inv-loop μ-loop
 loop-holds c = (search needs, refl, packed-none _ _ _ _)
 
 mul-base : tie.Need-mul-base Inv-loop μ-loop
-mul-base c = 
+mul-base c =
     let a = c .before in
     let s = a .before .before in
     omega (arith, s .pre .0, row-fits (s .args .q) (a .loop .i) (s .args .m) (c .loop-test .taken))
 
 add-if1 : tie.Need-add-if1 Inv-loop μ-loop
-add-if1 c = 
+add-if1 c =
     let a = c .before in
     let s = a .before .before in
     omega (arith, s .pre .0, s .pre .1, row-fits (s .args .q) (a .loop .i) (s .args .m) (c .loop-test .taken))
 
 mul-if1 : tie.Need-mul-if1 Inv-loop μ-loop
-mul-if1 c = 
+mul-if1 c =
     let a = c .before in
     let s = a .before .before in
     omega (arith, s .pre .0, s .pre .1, row-fits (s .args .q) (a .loop .i) (s .args .m) (c .loop-test .taken))
 
 slice-read-if1 : tie.Need-slice-read-if1 Inv-loop μ-loop
-slice-read-if1 c = 
+slice-read-if1 c =
     let a = c .before .before in
     let s = a .before .before in
     omega (arith, a .loop .inv .1, s .pre .0, s .pre .1, row-fits (s .args .q) (a .loop .i) (s .args .m) (c .before .loop-test .taken))
 
 loop-again : tie.Need-loop-again Inv-loop μ-loop
-loop-again c = 
+loop-again c =
     let a = c .before .before .before in
     let s = a .before .before in
     let e = ne-eqb _ 0 (rw (packed-ahead _ _ _ (a .loop .inv .2) (s .args .f) (s .pre .1)) at (c .if1 .taken)) in
     (search needs, a .loop .inv .1, packed-skip _ _ _ _ (a .loop .inv .2) e)
 
 mul-copy : tie.Need-mul-copy Inv-loop μ-loop
-mul-copy c = 
+mul-copy c =
     let a = c .before .before .before .before in
     let s = a .before .before in
     let l = c .before .before .before .loop-test .taken in
@@ -71,7 +65,7 @@ mul-copy c =
     )
 
 copy-requires : tie.Need-copy-requires Inv-loop μ-loop
-copy-requires c κs = 
+copy-requires c κs =
     let a = c .before .before .before .before in
     let s = a .before .before in
     let l = c .before .before .before .loop-test .taken in
@@ -79,12 +73,12 @@ copy-requires c κs =
     (packed-few _ _ _ _ (a .loop .inv .2))
 
 add-kept : tie.Need-add-kept Inv-loop μ-loop
-add-kept c = 
+add-kept c =
     let a = c .before .before .before .before .before .before .before in
     omega (arith, packed-few _ _ _ _ (a .loop .inv .2))
 
 loop-again-2 : tie.Need-loop-again-2 Inv-loop μ-loop
-loop-again-2 c = 
+loop-again-2 c =
     let g = c .before .before in
     let a = g .before .before .before .before .before in
     let s = a .before .before in

@@ -1,10 +1,9 @@
 -- `packing::keep_filled` meets its contract. Of the rows passed, those with a value not below 0 have been written, filled. Assumes nothing.
 use mathlib.Core.Path.{_≡_, refl, sym, _∙_, ap}
-use mathlib.Core.Bool.{not, true, false}
-use Prim.Native.Nat.{_+_, _*_, _-_, _≤_}
+use mathlib.Core.Bool.{not}
+use Prim.Native.Nat.{_-_, _≤_}
 use native.Mathlib.Nat.{le-antisymm}
 use native.Mathlib.Omega.{arith}
-use borrow.Author.Tests.{not-false, not-true}
 use borrow.Author.Needs.{needs, sfits-of}
 use lib.ListN.{length}
 use lib.IntN.{pos}
@@ -29,7 +28,7 @@ loop-holds : tie.Need-loop-holds Inv-loop μ-loop
 loop-holds c = (search needs, refl, packed-none _ _ _ _)
 
 loop-again : tie.Need-loop-again Inv-loop μ-loop
-loop-again c = 
+loop-again c =
     let e = c .before in
     let a = e .before .before .before in
     let s = a .before .before .before in
@@ -37,13 +36,13 @@ loop-again c =
     (search needs, a .loop .inv .1, packed-skip _ _ _ _ (a .loop .inv .2) (ap not (rw known at (sym (e .is-below .ensures) ∙ c .if1 .taken))))
 
 mul-append-filled : tie.Need-mul-append-filled Inv-loop μ-loop
-mul-append-filled c = 
+mul-append-filled c =
     let a = c .before .before .before .before in
     let s = a .before .before .before in
     omega (arith, s .pre .0, row-fits (s .args .q) (a .loop .i) (s .args .n) (c .before .before .before .loop-test .taken))
 
 mul-append-filled-2 : tie.Need-mul-append-filled-2 Inv-loop μ-loop
-mul-append-filled-2 c = 
+mul-append-filled-2 c =
     let e = c .before .before in
     let a = e .before .before .before in
     let s = a .before .before .before in
@@ -52,7 +51,7 @@ mul-append-filled-2 c =
     omega (arith, a .loop .inv .1, packed-fits _ _ _ _ (a .loop .inv .2) (s .args .n) (e .before .before .loop-test .taken) stays (s .pre .3))
 
 natural-requires : tie.Need-natural-requires Inv-loop μ-loop
-natural-requires c κs = 
+natural-requires c κs =
     let e = c .before .before .before in
     let a = e .before .before .before in
     let s = a .before .before .before in
@@ -61,7 +60,7 @@ natural-requires c κs =
     (rw known at (sym (e .is-below .ensures) ∙ c .before .before .if1 .left), all-true (s .args .n) _ (s .pre .2) (a .loop .i) (e .before .before .loop-test .taken))
 
 append-filled-requires : tie.Need-append-filled-requires Inv-loop μ-loop
-append-filled-requires c κs = 
+append-filled-requires c κs =
     let e = c .before .before .before .before in
     let a = e .before .before .before in
     let s = a .before .before .before in
@@ -72,12 +71,12 @@ append-filled-requires c κs =
     )
 
 add-kept : tie.Need-add-kept Inv-loop μ-loop
-add-kept c = 
+add-kept c =
     let a = c .before .before .before .before .before .before .before .before .before .before in
     omega (arith, packed-few _ _ _ _ (a .loop .inv .2))
 
 loop-again-2 : tie.Need-loop-again-2 Inv-loop μ-loop
-loop-again-2 c = 
+loop-again-2 c =
     let g = c .before .before in
     let e = g .before .before .before .before .before in
     let a = e .before .before .before in

@@ -1,7 +1,6 @@
 -- `packing::keep_zeros` meets its contract. Of the rows passed, those of value 0 have been written. Assumes nothing.
-use mathlib.Core.Path.{_≡_, refl, sym, _∙_, ap}
-use mathlib.Core.Bool.{not, true, false}
-use Prim.Native.Nat.{_+_, _*_, _-_, _≤_}
+use mathlib.Core.Path.{_≡_, refl, sym, _∙_}
+use Prim.Native.Nat.{_-_, _≤_}
 use native.Mathlib.Nat.{le-antisymm}
 use native.Mathlib.Omega.{arith}
 use borrow.Author.Tests.{not-false, not-true}
@@ -29,7 +28,7 @@ loop-holds : tie.Need-loop-holds Inv-loop μ-loop
 loop-holds c = (search needs, refl, packed-none _ _ _ _)
 
 loop-again : tie.Need-loop-again Inv-loop μ-loop
-loop-again c = 
+loop-again c =
     let e = c .before in
     let a = e .before .before .before in
     let s = a .before .before .before in
@@ -37,13 +36,13 @@ loop-again c =
     (search needs, a .loop .inv .1, packed-skip _ _ _ _ (a .loop .inv .2) (rw known at (sym (e .is-zero .ensures) ∙ not-true _ (c .if1 .taken))))
 
 mul-append-row : tie.Need-mul-append-row Inv-loop μ-loop
-mul-append-row c = 
+mul-append-row c =
     let a = c .before .before .before .before in
     let s = a .before .before .before in
     omega (arith, s .pre .0, row-fits (s .args .q) (a .loop .i) (s .args .n) (c .before .before .before .loop-test .taken))
 
 mul-append-row-2 : tie.Need-mul-append-row-2 Inv-loop μ-loop
-mul-append-row-2 c = 
+mul-append-row-2 c =
     let e = c .before .before in
     let a = e .before .before .before in
     let s = a .before .before .before in
@@ -52,7 +51,7 @@ mul-append-row-2 c =
     omega (arith, a .loop .inv .1, packed-fits _ _ _ _ (a .loop .inv .2) (s .args .n) (e .before .before .loop-test .taken) stays (s .pre .2))
 
 append-row-requires : tie.Need-append-row-requires Inv-loop μ-loop
-append-row-requires c κs = 
+append-row-requires c κs =
     let e = c .before .before in
     let a = e .before .before .before in
     let s = a .before .before .before in
@@ -63,12 +62,12 @@ append-row-requires c κs =
     )
 
 add-kept : tie.Need-add-kept Inv-loop μ-loop
-add-kept c = 
+add-kept c =
     let a = c .before .before .before .before .before .before .before .before in
     omega (arith, packed-few _ _ _ _ (a .loop .inv .2))
 
 loop-again-2 : tie.Need-loop-again-2 Inv-loop μ-loop
-loop-again-2 c = 
+loop-again-2 c =
     let g = c .before .before in
     let e = g .before .before .before in
     let a = e .before .before .before in

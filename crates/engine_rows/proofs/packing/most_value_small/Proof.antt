@@ -26,7 +26,7 @@ loop-holds : tie.Need-loop-holds Inv-loop μ-loop
 loop-holds c = (search needs, none-below _)
 
 returns : tie.Need-returns Inv-loop μ-loop
-returns c = 
+returns c =
     let e = c .before in
     let a = e .before .before .before in
     let s = a .before in
@@ -34,7 +34,7 @@ returns c =
     sym (all-fails _ _ (a .loop .i) (e .before .before .loop-test .taken) (large-small (getD (now (s .args .values)) (a .loop .i) (pos 0)) (rw known at (sym (e .is-large .ensures) ∙ c .if1 .taken))))
 
 loop-again : tie.Need-loop-again Inv-loop μ-loop
-loop-again c = 
+loop-again c =
     let e = c .before in
     let a = e .before .before .before in
     let s = a .before in
