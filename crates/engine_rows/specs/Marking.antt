@@ -67,7 +67,7 @@ valued-bounded {q} {n} {coefs} {from} {table} {values} e t v =
           (omega (
             arith,
             e .unknowns,
-            inner-bound q coefficientLimit mostComponent (equationAt coefs from) (λ j. pos (at table q i j)) (λ j jq. e .small j jq) (λ j jq. t .small i j l jq),
+            inner-bound q coefficientLimit mostComponent (equationAt coefs from) (λ j. pos (at table q i j)) (e .small) (λ j jq. t .small i j l jq),
           ));
     }
 

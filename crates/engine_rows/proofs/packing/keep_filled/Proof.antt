@@ -19,7 +19,8 @@ use Rattle.engine_rows.proofs.packing.keep_filled.Statement.{statement}
 use Rattle.engine_rows.proofs.packing.keep_filled.Tie as tie
 
 abbrev Inv-loop : tie.InvT-loop
-Inv-loop basis₀ table values n q f kept₀ i₀ basis kept i = (i ≤ n) × (length basis ≡ length basis₀) × Packed q i (notBelowValue values) (filledRow f values (at table q)) basis₀ basis kept
+Inv-loop basis₀ table values n q f kept₀ i₀ basis kept i =
+    (i ≤ n) × (length basis ≡ length basis₀) × Packed q i (notBelowValue values) (filledRow f values (at table q)) basis₀ basis kept
 
 abbrev μ-loop : tie.MeasureT-loop
 μ-loop basis₀ table values n q f kept₀ i₀ basis kept i = n - i
@@ -56,8 +57,8 @@ natural-requires c κs =
     let a = e .before .before .before in
     let s = a .before .before .before in
     let known = toZ-ofZ {w = w64} {z = getD (now (s .args .values)) (a .loop .i) (pos 0)} (sfits-of (e .before .is-below-arg .given)) in
-    rw known
-    (rw known at (sym (e .is-below .ensures) ∙ c .before .before .if1 .left), all-true (s .args .n) _ (s .pre .2) (a .loop .i) (e .before .before .loop-test .taken))
+    let stays = rw known at (sym (e .is-below .ensures) ∙ c .before .before .if1 .left) in
+    rw known (stays, all-true (s .args .n) _ (s .pre .2) (a .loop .i) (e .before .before .loop-test .taken))
 
 append-filled-requires : tie.Need-append-filled-requires Inv-loop μ-loop
 append-filled-requires c κs =

@@ -30,16 +30,18 @@ returns c =
     let e = c .before in
     let a = e .before .before .before in
     let s = a .before in
-    let known = toZ-ofZ {w = w64} {z = getD (now (s .args .values)) (a .loop .i) (pos 0)} (sfits-of (e .before .is-large-arg .given)) in
-    sym (all-fails _ _ (a .loop .i) (e .before .before .loop-test .taken) (large-small (getD (now (s .args .values)) (a .loop .i) (pos 0)) (rw known at (sym (e .is-large .ensures) ∙ c .if1 .taken))))
+    let v = getD (now (s .args .values)) (a .loop .i) (pos 0) in
+    let known = toZ-ofZ {w = w64} {z = v} (sfits-of (e .before .is-large-arg .given)) in
+    sym (all-fails _ _ (a .loop .i) (e .before .before .loop-test .taken) (large-small v (rw known at (sym (e .is-large .ensures) ∙ c .if1 .taken))))
 
 loop-again : tie.Need-loop-again Inv-loop μ-loop
 loop-again c =
     let e = c .before in
     let a = e .before .before .before in
     let s = a .before in
-    let known = toZ-ofZ {w = w64} {z = getD (now (s .args .values)) (a .loop .i) (pos 0)} (sfits-of (e .before .is-large-arg .given)) in
-    (search needs, all-next _ _ (a .loop .inv .1) (small-large (getD (now (s .args .values)) (a .loop .i) (pos 0)) (rw known at (sym (e .is-large .ensures) ∙ c .if1 .left))))
+    let v = getD (now (s .args .values)) (a .loop .i) (pos 0) in
+    let known = toZ-ofZ {w = w64} {z = v} (sfits-of (e .before .is-large-arg .given)) in
+    (search needs, all-next _ _ (a .loop .inv .1) (small-large v (rw known at (sym (e .is-large .ensures) ∙ c .if1 .left))))
 
 returns-2 : tie.Need-returns-2 Inv-loop μ-loop
 returns-2 c = let a = c .before in sym (rw (le-antisymm (a .loop .inv .0) (c .loop-test .left)) at (a .loop .inv .1))
