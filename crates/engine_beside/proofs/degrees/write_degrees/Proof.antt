@@ -1,0 +1,75 @@
+-- `degrees::write_degrees` meets its contract. The rows passed have their degrees written. Assumes nothing.
+use Prim.Native.Nat.{_-_, _≤_}
+use native.Mathlib.Nat.{le-antisymm}
+use native.Mathlib.Omega.{arith}
+use Rattle.laws.specs.TableLaws.{row-fits}
+use Rattle.engine_spec.specs.Beside.{Measured}
+use Rattle.engine_beside.specs.Writing.{Kept, kept-more, kept-none, measured-more, measured-none, table-row}
+use borrow.Author.Needs.{needs}
+use Rattle.engine_beside.proofs.degrees.write_degrees.Statement.{statement}
+use Rattle.engine_beside.proofs.degrees.write_degrees.Tie as tie
+
+abbrev Inv-loop : tie.InvT-loop
+Inv-loop table n q degrees₀ i₀ degrees i = (i ≤ n) × Measured q i table degrees × Kept 0 n degrees₀ degrees
+
+abbrev μ-loop : tie.MeasureT-loop
+μ-loop table n q degrees₀ i₀ degrees i = n - i
+
+loop-holds : tie.Need-loop-holds Inv-loop μ-loop
+loop-holds c = (search needs, measured-none, kept-none)
+
+mul-degree-at : tie.Need-mul-degree-at Inv-loop μ-loop
+mul-degree-at c =
+    let a = c .before in
+    let s = a .before .before .before in
+    omega (arith, s .pre .0 .whole, row-fits (s .args .q) (a .loop .i) (s .args .n) (c .loop-test .taken))
+
+degree-at-requires : tie.Need-degree-at-requires Inv-loop μ-loop
+degree-at-requires c κs =
+    let a = c .before in
+    let s = a .before .before .before in
+    (s .pre .0 .few, table-row (s .pre .0) (a .loop .i) (c .loop-test .taken))
+
+mul-degrees : tie.Need-mul-degrees Inv-loop μ-loop
+mul-degrees c = search needs
+
+slice-write-degrees : tie.Need-slice-write-degrees Inv-loop μ-loop
+slice-write-degrees c = search needs
+
+add-i : tie.Need-add-i Inv-loop μ-loop
+add-i c = search needs
+
+loop-less : tie.Need-loop-less Inv-loop μ-loop
+loop-less c = search needs
+
+loop-again : tie.Need-loop-again Inv-loop μ-loop
+loop-again c =
+    let a = c .before .before in
+    let s = a .before .before .before in (
+      search needs,
+      measured-more (omega (arith, a .loop .inv .2 .long, s .pre .1, c .before .loop-test .taken)) (a .loop .inv .1) _ (c .degree-at .ensures),
+      kept-more (a .loop .i) _ (c .before .loop-test .taken) (a .loop .inv .2),
+    )
+
+same-length : tie.Need-same-length Inv-loop μ-loop
+same-length c = c .before .loop .inv .2 .long
+
+returns : tie.Need-returns Inv-loop μ-loop
+returns c = let a = c .before in (rw (le-antisymm (a .loop .inv .0) (c .loop-test .left)) at (a .loop .inv .1), a .loop .inv .2)
+
+pub write-degrees-spec : {M : Type 1} → statement M
+write-degrees-spec =
+    tie.close
+    (tie.spec
+    Inv-loop
+    μ-loop
+    loop-holds
+    mul-degree-at
+    degree-at-requires
+    mul-degrees
+    slice-write-degrees
+    add-i
+    loop-less
+    loop-again
+    same-length
+    returns)

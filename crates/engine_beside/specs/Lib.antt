@@ -1,0 +1,7 @@
+pub mod Writing
+pub mod Small
+pub mod WordLaws
+pub mod Degrees
+pub mod Rising
+pub mod SmallRows
+pub mod Appending

@@ -1,0 +1,5 @@
+pub mod Standing
+pub mod Marked
+pub mod Appended
+pub mod Turning
+pub mod Running
