@@ -1,3 +1,4 @@
 pub mod Summing
 pub mod Packing
 pub mod Marking
+pub mod Keeping

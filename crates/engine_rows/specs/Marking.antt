@@ -1,6 +1,6 @@
 -- What the contracts on marks cite, and one turn of their loop. Assumes nothing.
 use mathlib.Core.Path.{_≡_, refl, sym, _∙_, ap}
-use mathlib.Core.Logic.{_≢_, _⊎_, inl, inr}
+use mathlib.Core.Logic.{inl, inr}
 use mathlib.Core.List.{List}
 use mathlib.Core.Bool.{Bool, true, false, not, _&&_, _||_}
 use Prim.Native.Nat.{ℕ, _+_, _*_, _≤_, _<_}
@@ -15,7 +15,7 @@ use mir.Facts.{toZ-ofZ}
 use mir.Syntax.{w64}
 use mir.Val.{SFits, ofZ, toZ}
 use Rattle.linear.specs.Cases.{split}
-use Rattle.linear.specs.Differences.{down, one-side, up, up-lt}
+use Rattle.linear.specs.Differences.{one-side, up-lt}
 use Rattle.linear.specs.Integers.{sfits-natAbs}
 use Rattle.linear.specs.SystemLaws.{inner-bound}
 use Rattle.linear.specs.Systems.{value}
@@ -25,7 +25,7 @@ use Rattle.definitions.specs.System.{isAtOrBelow, mostComponent}
 use Rattle.definitions.specs.Tables.{at}
 use Rattle.laws.specs.SystemLaws.{below-from}
 use Rattle.engine_spec.specs.Beside.{AllMarked, SmallEquation, SmallTable, Valued, coefficientLimit, equationAt, noMark, valueLimit}
-use Rattle.engine_spec.specs.Marks.{Marked, Opposed, size}
+use Rattle.engine_spec.specs.Marks.{Opposed, size}
 use Rattle.engine_spec.specs.ReductionLaws.{Against}
 
 -- n integers as large as values can be
@@ -67,7 +67,7 @@ valued-bounded {q} {n} {coefs} {from} {table} {values} e t v =
           (omega (
             arith,
             e .unknowns,
-            inner-bound q coefficientLimit mostComponent (equationAt coefs from) (λ j. pos (at table q i j)) (λ j jq. e .small j jq) (λ j jq. t .small i j l jq),
+            inner-bound q coefficientLimit mostComponent (equationAt coefs from) (λ j. pos (at table q i j)) (e .small) (λ j jq. t .small i j l jq),
           ));
     }
 

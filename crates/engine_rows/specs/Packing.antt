@@ -1,15 +1,15 @@
 -- What the contracts on the rows kept cite, and one turn of their loops. Assumes nothing.
-use mathlib.Core.Path.{_≡_, refl, sym, _∙_, ap}
+use mathlib.Core.Path.{_≡_, refl, _∙_, ap}
 use mathlib.Core.List.{List}
-use mathlib.Core.Bool.{Bool, true, false, not}
+use mathlib.Core.Bool.{Bool, true, false}
 use Prim.Native.Nat.{ℕ, zero, suc, _+_, _*_, _≤_, _<_}
 use native.Mathlib.Numerals.{add-one}
 use native.Mathlib.Omega.{arith}
-use lib.ListN.{length, getD}
-use Rattle.linear.specs.TestLaws.{count-le, count-mono, count-step}
-use Rattle.linear.specs.Tests.{countTo, number}
-use Rattle.definitions.specs.Tables.{at, writeTo}
-use Rattle.laws.specs.TableLaws.{row-fits, write-same}
+use lib.ListN.{length}
+use Rattle.linear.specs.TestLaws.{count-le, count-step}
+use Rattle.linear.specs.Tests.{countTo}
+use Rattle.definitions.specs.Tables.{writeTo}
+use Rattle.laws.specs.TableLaws.{row-fits}
 use Rattle.sweeps.specs.Pack.{pack-length, packTo}
 
 -- every row

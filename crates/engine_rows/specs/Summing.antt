@@ -1,5 +1,5 @@
 -- One turn of the loops over the components of rows and of their sums. Assumes nothing.
-use mathlib.Core.Path.{_≡_, refl, _∙_, sym}
+use mathlib.Core.Path.{_≡_, refl}
 use mathlib.Core.Logic.{inl, inr}
 use mathlib.Core.Bool.{Bool, true, false, _&&_, _||_}
 use mathlib.Core.List.{List}
@@ -9,13 +9,13 @@ use native.Mathlib.Omega.{arith}
 use borrow.Author.Tests.{le-leb, le-ltb, lt-leb, lt-ltb}
 use lib.Bits.{bitOr}
 use lib.Dec.{eqb, leb, ltb}
-use lib.ListN.{length, getD}
+use lib.ListN.{getD}
 use Rattle.linear.specs.Cases.{split}
 use Rattle.linear.specs.Tests.{allTo, anyTo, number}
 use Rattle.definitions.specs.System.{isAtOrBelow}
 use Rattle.definitions.specs.Tables.{writeTo}
 use Rattle.laws.specs.TableLaws.{row-fits, write-outside}
-use Rattle.engine_spec.specs.Beside.{SmallRow, SmallTable, rowAt}
+use Rattle.engine_spec.specs.Beside.{SmallRow, SmallTable}
 
 -- x j is above z j
 abbrev pub exceedsAt : (x z : ℕ → ℕ) → ℕ → Bool

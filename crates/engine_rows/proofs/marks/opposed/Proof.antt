@@ -5,18 +5,18 @@ use Rattle.engine_rows.proofs.marks.opposed.Statement.{statement}
 use Rattle.engine_rows.proofs.marks.opposed.Tie as tie
 
 returns : tie.Need-returns
-returns c = 
+returns c =
     let s = c .before in
     rw (toZ-ofZ (s .fits .y)) (opposed-below (s .args .x) (s .args .y) (rw (toZ-ofZ (s .fits .x)) at (c .if1 .taken)))
 
 returns-2 : tie.Need-returns-2
-returns-2 c = 
+returns-2 c =
     let s = c .before .before in
     let e = toZ-ofZ (s .fits .x) in
     rw (toZ-ofZ (s .fits .y)) (opposed-above (s .args .x) (s .args .y) (rw e at (c .before .if1 .left)) (rw e at (c .if2 .taken)))
 
 returns-3 : tie.Need-returns-3
-returns-3 c = 
+returns-3 c =
     let s = c .before .before in
     let e = toZ-ofZ (s .fits .x) in
     opposed-none (s .args .x) (s .args .y) (rw e at (c .before .if1 .left)) (rw e at (c .if2 .left))

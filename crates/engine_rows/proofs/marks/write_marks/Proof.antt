@@ -22,17 +22,17 @@ cast-mother : tie.Need-cast-mother Inv-loop μ-loop
 cast-mother c = omega (arith, c .shared-slice-known3 .given (c .before .before .loop .i))
 
 mark-by-requires : tie.Need-mark-by-requires Inv-loop μ-loop
-mark-by-requires c κs = 
+mark-by-requires c κs =
     let s = c .before .before .before .before .before .before in
     (s .pre .0, s .pre .1, c .before .loop-test .taken)
 
 loop-again : tie.Need-loop-again Inv-loop μ-loop
-loop-again c = 
+loop-again c =
     let a = c .before .before .before in
     (search needs, rw length-set (a .loop .inv .1), marks-next (a .loop .inv .2) (omega arith) _ (c .mark-by .ensures))
 
 returns : tie.Need-returns Inv-loop μ-loop
-returns c = 
+returns c =
     let a = c .before in
     marks-all (rw (le-antisymm (a .loop .inv .0) (c .loop-test .left)) at (a .loop .inv .2)) (a .before .before .before .before .pre .3)
 

@@ -25,7 +25,7 @@ unfolding writeTo
 loop-holds c = (search needs, refl, refl)
 
 add-table-3 : tie.Need-add-table-3 Inv-loop μ-loop
-add-table-3 c = 
+add-table-3 c =
     let a = c .before .before .before in
     let s = a .before in
     let j = a .loop .j in
@@ -40,7 +40,7 @@ add-table-3 c =
     (omega (arith, s .pre .0 .small j l, s .pre .1 .small j l))
 
 loop-again : tie.Need-loop-again Inv-loop μ-loop
-loop-again c = 
+loop-again c =
     let a = c .before .before .before in
     let s = a .before in
     let j = a .loop .j in

@@ -1,5 +1,5 @@
 -- `rows::below_sum` meets its contract. `over` says whether a component passed is above its fellow. Assumes nothing.
-use mathlib.Core.Path.{_≡_, sym, _∙_}
+use mathlib.Core.Path.{_≡_}
 use Prim.Native.Nat.{_-_, _≤_}
 use native.Mathlib.Nat.{le-antisymm}
 use native.Mathlib.Omega.{arith}
@@ -22,7 +22,7 @@ loop-holds : tie.Need-loop-holds Inv-loop μ-loop
 loop-holds c = (search needs, none-exceeds _)
 
 add-exceeds-4 : tie.Need-add-exceeds-4 Inv-loop μ-loop
-add-exceeds-4 c = 
+add-exceeds-4 c =
     let a = c .before .before .before .before in
     let s = a .before .before in
     let l = c .before .before .before .loop-test .taken in
@@ -32,7 +32,7 @@ loop-again : tie.Need-loop-again Inv-loop μ-loop
 loop-again c = let a = c .before .before .before .before .before in (search needs, exceeds-next _ (a .loop .j) (a .loop .inv .1) (c .exceeds .ensures))
 
 returns : tie.Need-returns Inv-loop μ-loop
-returns c = 
+returns c =
     let a = c .before in
     let s = a .before .before in
     let t = now (s .args .table) in

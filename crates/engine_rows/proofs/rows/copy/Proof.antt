@@ -23,7 +23,7 @@ unfolding writeTo
 loop-holds c = (search needs, refl, refl)
 
 loop-again : tie.Need-loop-again Inv-loop μ-loop
-loop-again c = 
+loop-again c =
     let a = c .before .before in
     let s = a .before in (
       search needs,

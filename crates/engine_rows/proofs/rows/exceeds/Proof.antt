@@ -1,5 +1,4 @@
 -- `rows::exceeds` meets its contract. Assumes nothing.
-use mathlib.Core.Path.{refl}
 use borrow.Author.Tests.{le-ltb, lt-ltb}
 use Rattle.engine_rows.proofs.rows.exceeds.Statement.{statement}
 use Rattle.engine_rows.proofs.rows.exceeds.Tie as tie

@@ -1,5 +1,4 @@
 -- `rows::put` meets its contract. Assumes nothing.
-use mathlib.Core.Path.{refl}
 use borrow.Author.Tests.{eq-eqb, ne-eqb}
 use Rattle.engine_spec.specs.Fresh.{putAt}
 use Rattle.engine_rows.proofs.rows.put.Statement.{statement}

@@ -24,19 +24,19 @@ unfolding packTo
 loop-holds c = (search needs, refl, refl)
 
 mul-write-unit : tie.Need-mul-write-unit Inv-loop μ-loop
-mul-write-unit c = 
+mul-write-unit c =
     let a = c .before .before in
     let s = a .before .before in
     omega (arith, s .pre, row-fits (s .args .q) (a .loop .i) (s .args .q) (c .before .loop-test .taken))
 
 write-unit-requires : tie.Need-write-unit-requires Inv-loop μ-loop
-write-unit-requires c κs = 
+write-unit-requires c κs =
     let a = c .before .before in
     let s = a .before .before in
     omega (arith, s .pre, a .loop .inv .1, row-fits (s .args .q) (a .loop .i) (s .args .q) (c .before .loop-test .taken))
 
 loop-again : tie.Need-loop-again Inv-loop μ-loop
-loop-again c = 
+loop-again c =
     let a = c .before .before .before .before .before in
     let s = a .before .before .args in
     let e = all-more (s .q) (a .loop .i) (now (s .table)) unit (a .loop .inv .2) (c .before .before .write-unit .ensures) in
