@@ -17,6 +17,7 @@ pub mod Fresh
 pub mod Found
 pub mod Beside
 pub mod Engine
+pub mod EngineLaws
 pub mod Operations
 pub mod Whole
 pub mod Calls
