@@ -2,3 +2,4 @@ pub mod Standing
 pub mod Marked
 pub mod Appended
 pub mod Turning
+pub mod Running

@@ -115,8 +115,9 @@ abbrev pub turnOf : Frame → Lent → List ℕ → Next → Turned
 turnOf f l table s = turn (f .q) (equation f l) (f .m) (at (l .basis) (f .q)) (f .room) (stageOf table s)
 
 -- A turn that goes on leaves what the stage's turn leaves; one that stops or ends leaves everything as it was.
-pub record Gone (f : Frame) (l : Lent) (t : Turned) (n : ℕ) (x : Sides) (s′ : Next) (table′ : List ℕ) (x′ : Sides) : Type 0 where
+pub record Gone (f : Frame) (l : Lent) (t : Turned) (n : ℕ) (table : List ℕ) (x : Sides) (s′ : Next) (table′ : List ℕ) (x′ : Sides) : Type 0 where
   pub is : t ≡ goes (stageOf table′ s′)
+  pub long : length table′ ≡ length table
   pub rises : n ≤ s′ .rows
   pub ready : Ready f l table′ x′ s′
   pub beyond : Beyond (s′ .rows) x x′
@@ -127,7 +128,7 @@ pub record Still (t u : Turned) (table table′ : List ℕ) (x x′ : Sides) : T
   pub aside : x′ ≡ x
 
 abbrev pub Left : (f : Frame) (l : Lent) (t : Turned) (n : ℕ) (table : List ℕ) (x : Sides) → code.Turned → (table′ : List ℕ) (x′ : Sides) → Type 0
-Left f l t n table x (Goes s′) table′ x′ = Gone f l t n x s′ table′ x′
+Left f l t n table x (Goes s′) table′ x′ = Gone f l t n table x s′ table′ x′
 Left f l t n table x Late table′ x′ = Still t (stops 14) table table′ x x′
 Left f l t n table x Large table′ x′ = Still t (stops 12) table table′ x x′
 Left f l t n table x Full table′ x′ = Still t (stops 31) table table′ x x′

@@ -46,7 +46,7 @@ use Rattle.engine_reduce.specs.Sums.{integerAt, never}
 use Rattle.engine_search.specs.Agree.{due-row-by, next-degree-by, none-by, pair-by}
 use Rattle.engine_search.specs.Falls.{falling-start}
 use Rattle.engine_search.specs.Places.{Falling, Found, degreeOf, nextDegreeBy, valueOf}
-use Rattle.laws.specs.TableLaws.{row-fits}
+use Rattle.laws.specs.TableLaws.{row-fits, write-length}
 use Rattle.engine_rows.specs.Marking.{valued-bounded}
 use Rattle.engine_stage.specs.Appended.{PairAppended, PairFits, Room, RowAppended}
 use Rattle.engine_stage.specs.Marked.{Paired, fails, holds, mark-is, markOf, sum-is, testOf, true-is}
@@ -111,11 +111,12 @@ module _ {f : Frame} {l : Lent} {table : List ℕ} {x : Sides} {s : Next} (r : R
     pairOf = pairTurn (f .q) (equation f l) (f .room) (stageOf table s) h k
 
     pub pair-passed : testOf (f .q) (equation f l) (s .rows) table h k ≡ true
-        → Gone f l pairOf (s .rows) x (nextOf (s .rows) (s .taken) (s .degree) h (k + 1) (s .steps + 1) first false) table x
+        → Gone f l pairOf (s .rows) table x (nextOf (s .rows) (s .taken) (s .degree) h (k + 1) (s .steps + 1) first false) table x
     unfolding pairTurn paired passed
     pair-passed e =
         record {
           is = rw e;
+          long = refl;
           rises = omega arith;
           ready = passed-ready r (due .spent) h (k + 1) (s .steps + 1) first (omega (arith, due .early)) (due .falling);
           beyond = beyond-none;
@@ -144,7 +145,7 @@ module _ {f : Frame} {l : Lent} {table : List ℕ} {x : Sides} {s : Next} (r : R
     pub pair-grown : (v : ℤ) (w mark mother : ℕ) → s .rows < f .room → v ≡ value (equation f l) (f .q) sum → w ≡ wordOf (f .q) sum
         → (mark < noMark → Marked (f .q) (equation f l) (s .rows) (at table (f .q)) sum mark) → testOf (f .q) (equation f l) (s .rows) table h k ≡ false
         → isSmall (f .q) sum ≡ true → ltb (s .rows) (f .room) ≡ true
-        → Gone f l pairOf (s .rows) x (nextOf (s .rows + 1) (s .taken) (s .degree) h (k + 1) (s .steps + 1) first false) (writeTo (f .q) table (s .rows * f .q) sum)
+        → Gone f l pairOf (s .rows) table x (nextOf (s .rows + 1) (s .taken) (s .degree) h (k + 1) (s .steps + 1) first false) (writeTo (f .q) table (s .rows * f .q) sum)
         (sidesOf (set (x .values) (s .rows) v) (set (x .words) (s .rows) w) (set (x .degrees) (s .rows) (s .degree)) (set (x .marks) (s .rows) mark)
         (set (x .mothers) (s .rows) mother))
     unfolding pairTurn paired grown
@@ -152,6 +153,7 @@ module _ {f : Frame} {l : Lent} {table : List ℕ} {x : Sides} {s : Next} (r : R
         let small = small-from (f .q) sum (true-is (isSmall (f .q) sum) g) in
         record {
           is = rw (e, g, i);
+          long = write-length sum table (s .rows * f .q) (f .q);
           rises = omega arith;
           ready =
               grown-ready r sum v w mark mother room value-is word-is sum-degree sum-some small mark-is (s .taken) h (k + 1) (s .steps + 1) first false
@@ -172,7 +174,7 @@ module _ {f : Frame} {l : Lent} {table : List ℕ} {x : Sides} {s : Next} (r : R
 
     pub row-grown : (v : ℤ) (w mark mother : ℕ) → s .rows < f .room → v ≡ value (equation f l) (f .q) (at (l .basis) (f .q) i)
         → w ≡ wordOf (f .q) (at (l .basis) (f .q) i) → noMark ≤ mark → ltb (s .rows) (f .room) ≡ true
-        → Gone f l rowOf (s .rows) x (nextOf (s .rows + 1) (i + 1) (s .degree) (s .upper) (s .lower) (s .steps + 1) (s .rows + 1) true)
+        → Gone f l rowOf (s .rows) table x (nextOf (s .rows + 1) (i + 1) (s .degree) (s .upper) (s .lower) (s .steps + 1) (s .rows + 1) true)
         (writeTo (f .q) table (s .rows * f .q) (at (l .basis) (f .q) i))
         (sidesOf (set (x .values) (s .rows) v) (set (x .words) (s .rows) w) (set (x .degrees) (s .rows) (s .degree)) (set (x .marks) (s .rows) mark)
         (set (x .mothers) (s .rows) mother))
@@ -184,6 +186,7 @@ module _ {f : Frame} {l : Lent} {table : List ℕ} {x : Sides} {s : Next} (r : R
         let none : mark < noMark → Marked (f .q) (equation f l) (s .rows) (at table (f .q)) y mark = λ less. absurd (omega arith) in
         record {
           is = rw e;
+          long = write-length y table (s .rows * f .q) (f .q);
           rises = omega arith;
           ready =
               grown-ready r y v w mark mother room value-is word-is (due .exact) some small none (i + 1) (s .upper) (s .lower) (s .steps + 1) (s .rows + 1) true
@@ -200,9 +203,9 @@ module _ {f : Frame} {l : Lent} {table : List ℕ} {x : Sides} {s : Next} (r : R
   unfolding degreeTurn
   degree-ends d e = record { is = rw e; same = refl; aside = refl }
 
-  pub degree-raised : s .steps < stepLimit → (d : ℕ) → eqb d 0 ≡ false → s .degree < d → Gone f l (degreeOfTurn d) (s .rows) x (nextOf (s .rows) 0 d 0 0 (s .steps + 1) (s .rows) true) table x
+  pub degree-raised : s .steps < stepLimit → (d : ℕ) → eqb d 0 ≡ false → s .degree < d → Gone f l (degreeOfTurn d) (s .rows) table x (nextOf (s .rows) 0 d 0 0 (s .steps + 1) (s .rows) true) table x
   unfolding degreeTurn raised
-  degree-raised early d e more = record { is = rw e; rises = omega arith; ready = raised-ready r d (s .steps + 1) (omega arith) (omega arith); beyond = beyond-none }
+  degree-raised early d e more = record { is = rw e; long = refl; rises = omega arith; ready = raised-ready r d (s .steps + 1) (omega arith) (omega arith); beyond = beyond-none }
 
 -- ---- which way a turn goes
 
@@ -251,7 +254,7 @@ module _ {f : Frame} {l : Lent} {table : List ℕ} {values : List ℤ} {words de
       → degree ≡ getD (l .sizes) i 0
       → RowAppended (f .q) (s .rows) (equation f l) (at (l .basis) (f .q) i) word degree table values words degrees marks mothers table′ values′ words′ degrees′
       marks′ mothers′
-      → Gone f l (rowTurn (f .q) (at (l .basis) (f .q)) (f .room) (stageOf table s) i) (s .rows) (sidesOf values words degrees marks mothers)
+      → Gone f l (rowTurn (f .q) (at (l .basis) (f .q)) (f .room) (stageOf table s) i) (s .rows) table (sidesOf values words degrees marks mothers)
       (nextOf (s .rows + 1) (i + 1) (s .degree) (s .upper) (s .lower) (s .steps + 1) (s .rows + 1) true) table′
       (sidesOf values′ words′ degrees′ marks′ mothers′)
   row-appended {i} {word} {degree} due room word-is degree-is a =
@@ -291,7 +294,7 @@ module _ {f : Frame} {l : Lent} {table : List ℕ} {values : List ℤ} {words de
     pub pair-appended : {word : ℕ} {table′ : List ℕ} {values′ : List ℤ} {words′ degrees′ marks′ mothers′ : List ℕ} → s .rows < f .room → word ≡ wordOf (f .q) (sumOf (f .q) (stageOf table s) h k)
         → testOf (f .q) (equation f l) (s .rows) table h k ≡ false → isSmall (f .q) (sumOf (f .q) (stageOf table s) h k) ≡ true
         → PairAppended (f .q) (s .rows) h k word table values words degrees marks mothers table′ values′ words′ degrees′ marks′ mothers′
-        → Gone f l (pairTurn (f .q) (equation f l) (f .room) (stageOf table s) h k) (s .rows) (sidesOf values words degrees marks mothers)
+        → Gone f l (pairTurn (f .q) (equation f l) (f .room) (stageOf table s) h k) (s .rows) table (sidesOf values words degrees marks mothers)
         (nextOf (s .rows + 1) (s .taken) (s .degree) h (k + 1) (s .steps + 1) first false) table′ (sidesOf values′ words′ degrees′ marks′ mothers′)
     pair-appended {word} room word-is new small a =
         let exact : getD degrees h 0 + getD degrees k 0 ≡ s .degree =
@@ -341,6 +344,9 @@ module _ {f : Frame} {l : Lent} {table : List ℕ} {x : Sides} {s : Next} (r : R
 
   -- ---- a turn, by what is found
 
+  pub by-late : s .steps ≡ stepLimit → Still (turnOf f l table s) (stops 14) table table x x
+  by-late e = record { is = turn-late f l table s e; same = refl; aside = refl }
+
   pub spent-by : {r′ : ℕ} → RowFound (f .m) due-at r′ → f .m ≤ r′ → f .m ≤ dueRow (f .q) (f .m) (at (l .basis) (f .q)) (stageOf table s)
   spent-by g past = rw row-is at (g .none past)
 
@@ -371,7 +377,7 @@ module _ {f : Frame} {l : Lent} {table : List ℕ} {x : Sides} {s : Next} (r : R
       pub by-end : d ≡ 0 → Still (turnOf f l table s) ends table table x x
       by-end e = rw by-degree (degree-ends r d e)
 
-      pub by-raise : d ≢ 0 → Gone f l (turnOf f l table s) (s .rows) x (nextOf (s .rows) 0 d 0 0 (s .steps + 1) (s .rows) true) table x
+      pub by-raise : d ≢ 0 → Gone f l (turnOf f l table s) (s .rows) table x (nextOf (s .rows) 0 d 0 0 (s .steps + 1) (s .rows) true) table x
       by-raise some =
           rw by-degree
           (degree-raised r (omega (arith, r .early, ne)) d (eqb-no d 0 some)
