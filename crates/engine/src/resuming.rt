@@ -1,16 +1,19 @@
 // The continuing call after its checks: what stands beside the rows is written anew, whatever it was; then the stage's turns.
 ghost use mathlib.Core.Path.{_≡_};
+ghost use mathlib.Core.Bool.{cond};
+ghost use Prim.Native.Nat.{_^_, _-_, _≤_};
+ghost use lib.Dec.{eqb};
 ghost use lib.ListN.{length};
+ghost use Rattle.definitions.specs.Answers.{complete, paused as pausedAnswer};
 ghost use Rattle.engine_spec.specs.Engine.{run as runOf};
 ghost use Rattle.engine_calls.specs.Records.{answerOf, leaves, outcomeOf, recordOf, workOf};
 ghost use Rattle.engine_calls.specs.declared.Answer.the-variants.{Paused};
 ghost use Rattle.engine_stage.specs.Running.{answerOf as endingOf};
 ghost use Rattle.engine_stage.specs.Standing.{lentOf, nextOf, sidesOf};
-ghost use Rattle.engine.specs.Closing.{Closing};
+ghost use Rattle.engine_ends.specs.Closing.{Closing};
 ghost use Rattle.engine.specs.EngineLaws.{ended};
 ghost use Rattle.engine.specs.Resuming.{Advanced, Entered, ResumedTo, Writable, Written, frameOf, recordAt, startOf};
 use calls::Steps;
-use crate::finishing;
 use engine_beside::degrees as measures;
 use engine_beside::values as numbers;
 use engine_beside::words as fields;
@@ -189,7 +192,7 @@ fn close(
         Ending::Late => engine_calls::refused(Refusal::StepLimit, r),
         Ending::Large => engine_calls::refused(Refusal::ComponentLimit, r),
         Ending::Full => engine_calls::refused(Refusal::Full, r),
-        Ending::Ends => finishing::finish(p, q, most, equations, basis, table, values, r),
+        Ending::Ends => engine_ends::finish(p, q, most, equations, basis, table, values, r),
     }
 }
 
@@ -200,4 +203,13 @@ fn paused(r: Record) -> Outcome
         answer: Answer::Paused,
         run: r,
     }
+}
+
+// What a call answers that finds no stage under way.
+pub fn rested(p: usize, r: Record) -> Outcome
+    requires { ⌜ p ≤ 32 ⌝ }
+    ensures { λ o. ⌜ (o .run ≡ r) × (answerOf (o .answer) ≡ cond (eqb (r .done) (2 ^ p - 1)) complete pausedAnswer) ⌝ }
+{
+    let answer = engine_ends::answer_for(p, r.done);
+    Outcome { answer, run: r }
 }

@@ -64,10 +64,10 @@ widened f e = let w : SFits w64 _ = sfits-widen tt f in rw (e, toZ-ofZ f) (toZ-o
 module _ {u x t y : ℤ} (fu : SFits w32 u) (fx : SFits w32 x) (ft : SFits w32 t) (fy : SFits w32 y) {a b d e : ℤ} (ea : a ≡ read32 u) (eb : b ≡ read32 x)
     (ed : d ≡ read32 t) (ee : e ≡ read32 y) where
   module _ (sx : natAbs x ≤ coefficientLimit) (sy : natAbs y ≤ coefficientLimit) where
-    pub wide-products : SFits w64 (read64 a *ℤ read64 b) × SFits w64 (read64 d *ℤ read64 e) × SFits w64 ((read64 a *ℤ read64 b) +ℤ (read64 d *ℤ read64 e))
+    pub wide-products : SFits w64 (read64 a *ℤ read64 b) × (SFits w64 (read64 d *ℤ read64 e) × SFits w64 ((read64 a *ℤ read64 b) +ℤ (read64 d *ℤ read64 e)))
     wide-products =
         let k = products-fit u x t y (fit-small u fu) sx (fit-small t ft) sy in
-        rw (widened fu ea, widened fx eb, widened ft ed, widened fy ee) (k .left, k .right, k .sum)
+        rw (widened fu ea, widened fx eb, widened ft ed, widened fy ee) (k .left, (k .right, k .sum))
 
     pub wide-is : {v : ℤ} → v ≡ (read64 a *ℤ read64 b) +ℤ (read64 d *ℤ read64 e) → read64 v ≡ (u *ℤ x) +ℤ (t *ℤ y)
     wide-is h =

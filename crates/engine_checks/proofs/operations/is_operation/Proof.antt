@@ -2,7 +2,6 @@
 use mathlib.Core.Path.{sym, _∙_}
 use native.Mathlib.Omega.{arith}
 use borrow.Author.Tests.{not-false, not-true}
-use mathlib.Core.Bool.{and-false}
 use mir.Facts.{toZ-ofZ}
 use borrow.Author.Needs.{needs}
 use Rattle.engine_checks.proofs.operations.is_operation.Statement.{statement}
@@ -18,7 +17,9 @@ is-apart-requires : tie.Need-is-apart-requires
 is-apart-requires c κs = search needs
 
 returns-2 : tie.Need-returns-2
-returns-2 c = let s = c .before .before .before .before in rw (sym (rw (toZ-ofZ (s .fits .t)) at (c .before .is-apart .ensures)) ∙ not-true _ (c .if2 .taken), and-false)
+returns-2 c =
+    let s = c .before .before .before .before in
+    rw (sym (rw (toZ-ofZ (s .fits .u)) at (c .before .before .before .is-zero .ensures)) ∙ c .before .before .if1 .left, sym (rw (toZ-ofZ (s .fits .t)) at (c .before .is-apart .ensures)) ∙ not-true _ (c .if2 .taken))
 
 mul-combines-small : tie.Need-mul-combines-small
 mul-combines-small c = let s = c .before .before .before .before in omega (arith, s .pre .0 .whole)

@@ -6,7 +6,9 @@ use denote.Ref.{now}
 use Rattle.engine_calls.specs.Records.{checkOf, workOf}
 use mir.Facts.{toZ-ofZ}
 use Rattle.engine_spec.specs.Calls.{combineChecks, isLeft, isOperation}
+use lib.Dec.{ltb}
 use Rattle.engine_checks.specs.Operating.{combinesSmall}
+use Rattle.engine_checks.specs.Taking.{leftBy}
 use Rattle.engine_checks.specs.Standing.{equation-small, first-passes, first-refuses, last-passes, last-refuses, left-below, left-none, left-other, left-past, standing-passed, standing-refused, stands}
 use borrow.Author.Needs.{needs}
 use Rattle.engine_checks.proofs.standing.check_combine.Statement.{statement}
@@ -32,7 +34,8 @@ returns c = let s = c .before .before .before .before .before .before .before in
 returns-2 : tie.Need-returns-2
 unfolding combineChecks isLeft
 returns-2 c = let s = c .before .before .before .before .before .before .before .before in standing-passed (s .args .p) (s .args .q) (s .args .most) (s .args .room) (workOf (now (s .args .equations)) (now (s .args .basis)) (now (s .args .table)) (s .args .run)) (c .before .before .before .before .before .check-standing .ensures) _ (c .before .before .before .enum-told .given .1)
-    (first-refuses _ 32 _ (left-past _ _ (le-ltb _ _ (c .if2 .taken))))
+    (first-refuses _ 32 _ (left-past (leftBy (s .args .p) (s .args .r) (s .args .run .equation) (s .args .run .done)) (ltb (s .args .s) (s .args .p))
+    (le-ltb (s .args .s) (s .args .p) (c .if2 .taken))))
 
 is-operation-requires : tie.Need-is-operation-requires
 is-operation-requires c κs = let s = c .before .before .before .before .before .before .before .before in

@@ -22,7 +22,7 @@ use Rattle.engine_calls.specs.Records.{leaves, outcomeOf, recordOf, workOf}
 use Rattle.engine_calls.specs.declared.Answer.the-variants.{Started}
 use Rattle.engine_calls.specs.declared.Outcome.{Outcome}
 use Rattle.engine_calls.specs.declared.Record.{Record}
-use Rattle.engine.specs.Writing.{combinedAt}
+use Rattle.engine_begins.specs.Writing.{combinedAt}
 
 -- a map that fits the working system, and a basis with room for the unit tuples
 pub record Fitting (p q coefs equations basis : ℕ) : Type 0 where

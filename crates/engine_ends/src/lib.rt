@@ -6,7 +6,7 @@ ghost use lib.Dec.{eqb};
 ghost use Rattle.definitions.specs.Answers.{complete, paused};
 ghost use Rattle.engine_spec.specs.Engine.{finish as finishOf};
 ghost use Rattle.engine_calls.specs.Records.{answerOf, outcomeOf, workOf};
-ghost use Rattle.engine.specs.Closing.{Closing, Ends, RestsLeft};
+ghost use Rattle.engine_ends.specs.Closing.{Closing, Ends, RestsLeft};
 use calls::Steps;
 use engine_calls::Answer;
 use engine_calls::Outcome;

@@ -5,7 +5,7 @@ ghost use lib.IntN.{natAbs, pos};
 ghost use lib.ListN.{getD, length};
 ghost use Rattle.engine_spec.specs.Beside.{coefficientLimit};
 ghost use Rattle.engine_spec.specs.Engine.{fillTo};
-ghost use Rattle.engine.specs.Writing.{Combines, combinedAt};
+ghost use Rattle.engine_begins.specs.Writing.{Combines, combinedAt};
 use engine_checks::operations;
 
 // The first n coefficients of a map.
