@@ -6,20 +6,20 @@ use mathlib.Core.List.{List}
 use Prim.Native.Nat.{ℕ, _+_, _*_, _≤_, _<_}
 use native.Mathlib.Numerals.{add-one}
 use native.Mathlib.Omega.{arith}
-use borrow.Author.Tests.{leb-true}
-use lib.Dec.{T, leb}
+use lib.Dec.{T, leb, leb→le}
 use lib.IntN.{ℤ, pos, natAbs, _+ℤ_, _*ℤ_}
 use lib.ListN.{getD, length, set}
 use mir.Facts.{toZ-ofZ}
 use mir.Syntax.{w32, w64}
-use mir.Val.{ofZ, toZ}
+use mir.Val.{SFits, ofZ, toZ}
 use Rattle.linear.specs.Integers.{sfits-natAbs}
 use Rattle.linear.specs.TestLaws.{all-at}
 use Rattle.linear.specs.Tests.{allTo}
 use Rattle.engine_spec.specs.Beside.{SmallEquation, coefficientLimit, equationAt}
 use Rattle.engine_spec.specs.Engine.{fillTo}
 use Rattle.engine_spec.specs.Operations.{fill-length, fill-outside}
-use Rattle.engine_checks.specs.Operating.{combinesSmall}
+use Rattle.engine_beside.specs.Small.{coefficient-fits}
+use Rattle.engine_checks.specs.Operating.{combined-read, combinesSmall, read32, read64}
 
 pub fill-none : (table : List ℤ) (base : ℕ) (f : ℕ → ℤ) → table ≡ fillTo 0 table base f
 unfolding fillTo
@@ -48,11 +48,9 @@ pub record Combines (q x y : ℕ) (u t : ℤ) (equations : List ℤ) : Type 0 wh
 module _ {q x y : ℕ} {u t : ℤ} {equations : List ℤ} (c : Combines q x y u t equations) where
   pub combined-small : (j : ℕ) → j < q → natAbs (combinedAt x y u t equations j) ≤ coefficientLimit
   unfolding combinesSmall
-  combined-small j l = leb-true (natAbs (combinedAt x y u t equations j)) coefficientLimit (holds _ (all-at q _ (rw (c .small) tt) j l))
-    where
-      holds : (b : Bool) → T b → b ≡ true
-      holds true h = refl
-      holds false h = absurd h
+  combined-small j l =
+      let h : T (combinesSmall q x y u t equations) = rw (c .small) tt in
+      leb→le (natAbs (combinedAt x y u t equations j)) coefficientLimit (all-at q _ h j l)
 
   module _ (j : ℕ) {table : List ℤ} (e : table ≡ fillTo j equations x (combinedAt x y u t equations)) (l : j < q) where
     -- the numbers that are next are as they were
@@ -66,3 +64,26 @@ module _ {q x y : ℕ} {u t : ℤ} {equations : List ℤ} (c : Combines q x y u 
         elsewhere (inl same) = inr (omega arith)
         elsewhere (inr (inl later)) = inr (omega arith)
         elsewhere (inr (inr earlier)) = inl (omega arith)
+
+    module _ (fu : SFits w32 u) (ft : SFits w32 t) where
+      pub next-small : (natAbs (read32 (equationAt table x j)) ≤ coefficientLimit) × (natAbs (read32 (equationAt table y j)) ≤ coefficientLimit)
+      next-small = (
+        rw (first-ahead, toZ-ofZ (coefficient-fits (c .first) j l)) (c .first .small j l),
+        rw (second-ahead, toZ-ofZ (coefficient-fits (c .second) j l)) (c .second .small j l),
+      )
+
+      module _ {v : ℤ} (h : v ≡ (read32 u *ℤ read32 (equationAt table x j)) +ℤ (read32 t *ℤ read32 (equationAt table y j))) where
+        next-read : read64 v ≡ combinedAt x y u t equations j
+        next-read = combined-read (c .first) (c .second) fu ft j l (rw (first-ahead, second-ahead) at h)
+
+        pub next-fits : natAbs (read64 v) ≤ coefficientLimit
+        next-fits = rw next-read (combined-small j l)
+
+        pub next-written : {z : ℤ} → z ≡ read64 v → read32 z ≡ combinedAt x y u t equations j
+        next-written g = rw (g, next-read) (toZ-ofZ {w = w32} (sfits-natAbs (omega (arith, combined-small j l))))
+
+-- ---- the coefficients copied
+
+pub copy-more : (i : ℕ) (coefs table₀ : List ℤ) {table : List ℤ} {v : ℤ} → table ≡ fillTo i table₀ 0 (λ k. getD coefs k (pos 0)) → v ≡ getD coefs i (pos 0)
+    → set table i v ≡ fillTo (i + 1) table₀ 0 (λ k. getD coefs k (pos 0))
+copy-more i coefs table₀ e g = let place : 0 + i ≡ i = omega arith in rw place at (fill-more i table₀ 0 (λ k. getD coefs k (pos 0)) e g)
