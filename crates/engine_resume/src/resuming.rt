@@ -11,8 +11,8 @@ ghost use Rattle.engine_calls.specs.declared.Answer.the-variants.{Paused};
 ghost use Rattle.engine_stage.specs.Running.{answerOf as endingOf};
 ghost use Rattle.engine_stage.specs.Standing.{lentOf, nextOf, sidesOf};
 ghost use Rattle.engine_ends.specs.Closing.{Closing};
-ghost use Rattle.engine.specs.EngineLaws.{ended};
-ghost use Rattle.engine.specs.Resuming.{Advanced, Entered, ResumedTo, Writable, Written, frameOf, recordAt, startOf};
+ghost use Rattle.engine_resume.specs.EngineLaws.{ended};
+ghost use Rattle.engine_resume.specs.Resuming.{Advanced, Entered, ResumedTo, Writable, Written, frameOf, recordAt, startOf};
 use calls::Steps;
 use engine_beside::degrees as measures;
 use engine_beside::values as numbers;
@@ -71,7 +71,8 @@ pub fn go_on(
         budget,
     );
     let next = ran.next;
-    close(p, q, most, equations, basis, table, values, stand(r, next), ran.ending)
+    let ending = ran.ending;
+    close(p, q, most, equations, basis, table, values, stand(r, next), ending)
 }
 
 // The tables beside the rows written, then the turns.

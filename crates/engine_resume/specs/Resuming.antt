@@ -40,7 +40,7 @@ use Rattle.engine_calls.specs.declared.Record.{Record}
 use Rattle.engine_checks.specs.Room.{StageFits}
 use Rattle.engine_checks.specs.Sizes.{Sized}
 use Rattle.engine_ends.specs.Closing.{Closing, Ends}
-use Rattle.engine.specs.EngineLaws.{ended, run-by-stage, stageRun}
+use Rattle.engine_resume.specs.EngineLaws.{ended, run-by-stage, stageRun}
 
 -- ---- the record and the stage
 
@@ -120,7 +120,7 @@ pub record Writable (coefs : List ℤ) (from : ℕ) (basis : List ℕ) (m sizes 
 
 pub record Written (coefs : List ℤ) (from : ℕ) (basis : List ℕ) (m : ℕ) (table : List ℕ) (n q : ℕ) (sizes : List ℕ) (x : Sides) (sizes′ : List ℕ) (x′ : Sides) : Type 0 where
   pub size : Measured q m basis sizes′
-  pub sizes : Kept 0 m sizes sizes′
+  pub kept : Kept 0 m sizes sizes′
   pub valued : Valued (equationAt coefs from) q n table (x′ .values)
   pub values : Kept (pos 0) n (x .values) (x′ .values)
   pub worded : Worded q n table (x′ .words)
@@ -143,7 +143,7 @@ pub record Advanced (q room budget : ℕ) (equations : List ℤ) (basis sizes ta
   pub ready : Ready (frameOf q room r) (lentOf equations basis sizes′) table′ x′ (a .next)
   pub rises : r .rows ≤ a .next .rows
   pub beyond : Beyond (a .next .rows) x x′
-  pub sizes : Kept 0 (r .count) sizes sizes′
+  pub kept : Kept 0 (r .count) sizes sizes′
 
 -- The outcome is that of the definition. The tables beside the rows are as long as before, and from the number of rows that the stage had on as they were.
 pub record ResumedTo (p q most room budget : ℕ) (equations : List ℤ) (basis sizes table : List ℕ) (x : Sides) (r : Record) (o : made.Outcome)
@@ -152,7 +152,7 @@ pub record ResumedTo (p q most room budget : ℕ) (equations : List ℤ) (basis 
   pub had : ℕ
   pub few : had ≤ room
   pub beyond : Beyond had x x′
-  pub sizes : Kept 0 (r .count) sizes sizes′
+  pub kept : Kept 0 (r .count) sizes sizes′
 
 module _ {p q most room : ℕ} {equations : List ℤ} {basis sizes table : List ℕ} {x : Sides} {r : Record} (e : Entered p q most room equations basis sizes table x r) where
   equation-small : SmallEquation q equations (r .equation * q)
@@ -279,7 +279,7 @@ module _ {p q most room : ℕ} {equations : List ℤ} {basis sizes table : List 
           ready = h .ready;
           rises = h .rises;
           beyond = after (h .rises) (h .beyond);
-          sizes = w .sizes;
+          kept = w .kept;
         }
       where
         kept-then : {A : Type 0} {z : A} {n m : ℕ} {a b c : List A} → n ≤ m → Kept z n a b → Kept z m b c → Kept z m a c
@@ -324,5 +324,5 @@ module _ {p q most room : ℕ} {equations : List ℤ} {basis sizes table : List 
           had = a .next .rows;
           few = h .ready .few;
           beyond = h .beyond;
-          sizes = h .sizes;
+          kept = h .kept;
         }
