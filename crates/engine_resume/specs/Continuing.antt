@@ -36,6 +36,17 @@ lentLengths basis sizes table x =
     lengthsOf basis table
     (besideOf (length sizes) (length (x .values)) (length (x .words)) (length (x .degrees)) (length (x .marks)) (length (x .mothers)))
 
+pub resume-roomed : (q : ℕ) (basis sizes table : List ℕ) (x : Sides) {most room : ℕ} → most ≡ spec.basisRoom q (lentLengths basis sizes table x)
+    → room ≡ spec.stageRoom q (lentLengths basis sizes table x)
+    → Roomed q most room (length basis) (length table)
+resume-roomed q basis sizes table x m n =
+    rw (m, n)
+    (record {
+      long = basis-fits q (length basis) (length sizes);
+      wide =
+          stage-fits q (length table) (length (x .values)) (length (x .words)) (length (x .degrees)) (length (x .marks)) (length (x .mothers)) .rows;
+    })
+
 -- ---- the continuing call
 
 -- The outcome is that of the definition. A call that is refused before its work has changed nothing lent. The tables beside the rows are as long as before, and

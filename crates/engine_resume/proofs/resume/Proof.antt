@@ -1,105 +1,93 @@
+-- `resume` meets its contract: the check decides, and the turns do the rest. Assumes nothing.
+use denote.Ref.{now}
+use Rattle.engine_calls.specs.Records.{besideOf}
+use Rattle.engine_stage.specs.Standing.{sidesOf}
+use lib.ListN.{length}
+use Rattle.engine_resume.specs.Continuing.{resume-enters, resume-ran, resume-refused, resume-rested, resume-roomed, resume-stands}
+use borrow.Author.Needs.{needs}
 use Rattle.engine_resume.proofs.resume.Statement.{statement}
 use Rattle.engine_resume.proofs.resume.Tie as tie
-use Rattle.engine_resume.proofs.resume.Reads as reads
-use Rattle.engine_resume.proofs.resume.Lts as lts
-use Rattle.engine_calls.proofs.refused.Reads as refused-reads
-use Rattle.engine_checks.proofs.room.basis_room.Reads as basis-room-reads
-use Rattle.engine_checks.proofs.room.stage_room.Reads as stage-room-reads
-use Rattle.engine_checks.proofs.standing.check_standing.Reads as check-standing-reads
-use Rattle.engine_resume.proofs.resuming.go_on.Reads as go-on-reads
-use Rattle.engine_resume.proofs.resuming.rested.Reads as rested-reads
 
--- src/lib.rt:33:9
 basis-room-requires : tie.Need-basis-room-requires
-basis-room-requires c κs = ?
+basis-room-requires c κs = search needs
 
--- src/lib.rt:34:9
 stage-room-requires : tie.Need-stage-room-requires
-stage-room-requires c κs = ?
+stage-room-requires c κs = search needs
 
--- src/lib.rt:43:11
 check-standing-requires : tie.Need-check-standing-requires
-check-standing-requires c κs = ?
+check-standing-requires c κs = let s = c .before .before .before .before .before .before .before .before .before .before .before .args in
+    resume-roomed (s .q) (now (s .basis)) (now (s .sizes)) (now (s .table)) (sidesOf (now (s .values)) (now (s .words)) (now (s .degrees)) (now (s .marks)) (now (s .mothers)))
+    (c .before .before .before .basis-room .ensures) (c .before .before .stage-room .ensures)
 
--- src/lib.rt:44:23
 enum-known-why : tie.Need-enum-known-why
-enum-known-why c = ?
+enum-known-why c = search needs
 
--- src/lib.rt:44:31
 refused-requires : tie.Need-refused-requires
-refused-requires c κs = ?
+refused-requires c κs = search needs
 
--- src/lib.rt:46:16
 enum-told : tie.Need-enum-told
-enum-told c = ?
+enum-told c = search needs
 
--- src/lib.rt:47:17
 rested-requires : tie.Need-rested-requires
-rested-requires c κs = ?
+rested-requires c κs = let s = c .before .before .before .before .before .before .before .before .before .before .before .before .before .before .before .before .args in resume-stands (s .p) (s .q) (s .budget) (now (s .equations)) (now (s .basis)) (now (s .sizes)) (now (s .table))
+    (sidesOf (now (s .values)) (now (s .words)) (now (s .degrees)) (now (s .marks)) (now (s .mothers))) (s .r) (c .before .before .before .before .before .before .before .before .basis-room .ensures)
+    (c .before .before .before .before .before .before .before .stage-room .ensures) (c .before .before .before .before .check-standing .ensures) (c .before .before .enum-told .given .1) .size .equations
 
--- src/lib.rt:47:17
 same-length : tie.Need-same-length
-same-length c = ?
+same-length c = search needs
 
--- src/lib.rt:47:17
 same-length-2 : tie.Need-same-length-2
-same-length-2 c = ?
+same-length-2 c = search needs
 
--- src/lib.rt:47:17
 returns : tie.Need-returns
-returns c = ?
+returns c = let s = c .before .before .before .before .before .before .before .before .before .before .before .before .before .before .before .before .before .args in resume-rested (s .p) (s .q) (s .budget) (now (s .equations)) (now (s .basis)) (now (s .sizes)) (now (s .table))
+    (sidesOf (now (s .values)) (now (s .words)) (now (s .degrees)) (now (s .marks)) (now (s .mothers))) (s .r) (c .before .before .before .before .before .before .before .before .before .basis-room .ensures)
+    (c .before .before .before .before .before .before .before .before .stage-room .ensures) (c .before .before .before .before .before .check-standing .ensures) (c .before .before .before .enum-told .given .1) (c .before .if1 .taken) (c .rested .ensures .0) (c .rested .ensures .1)
 
--- src/lib.rt:49:13
 go-on-requires : tie.Need-go-on-requires
-go-on-requires c κs = ?
+go-on-requires c κs = let s = c .before .before .before .before .before .before .before .before .before .before .before .before .before .before .before .before .before .before .before .before .before .before .before .before .args in resume-enters (s .p) (s .q) (s .budget) (now (s .equations)) (now (s .basis)) (now (s .sizes)) (now (s .table))
+    (sidesOf (now (s .values)) (now (s .words)) (now (s .degrees)) (now (s .marks)) (now (s .mothers))) (s .r) (c .before .before .before .before .before .before .before .before .before .before .before .before .before .before .before .before .basis-room .ensures)
+    (c .before .before .before .before .before .before .before .before .before .before .before .before .before .before .before .stage-room .ensures) (c .before .before .before .before .before .before .before .before .before .before .before .before .check-standing .ensures) (c .before .before .before .before .before .before .before .before .before .before .enum-told .given .1) (c .before .before .before .before .before .before .before .before .if1 .left)
 
--- src/lib.rt:13:1
 same-length-3 : tie.Need-same-length-3
-same-length-3 c = ?
+same-length-3 c = search needs
 
--- src/lib.rt:13:1
 same-length-4 : tie.Need-same-length-4
-same-length-4 c = ?
+same-length-4 c = search needs
 
--- src/lib.rt:13:1
 returns-2 : tie.Need-returns-2
-returns-2 c = ?
+returns-2 c = let s = c .before .before .before .before .before .before .before .before .before .before .before .before .before .before .before .before .args in rw (c .refused .ensures) (resume-refused (s .p) (s .q) (s .budget) (now (s .equations)) (now (s .basis)) (now (s .sizes)) (now (s .table))
+    (sidesOf (now (s .values)) (now (s .words)) (now (s .degrees)) (now (s .marks)) (now (s .mothers))) (s .r) (c .before .before .before .before .before .before .before .before .basis-room .ensures)
+    (c .before .before .before .before .before .before .before .stage-room .ensures) (c .before .before .before .before .check-standing .ensures) (c .before .before .why .given .1))
 
--- src/lib.rt:13:1
 same-length-5 : tie.Need-same-length-5
-same-length-5 c = ?
+same-length-5 c = search needs
 
--- src/lib.rt:13:1
 same-length-6 : tie.Need-same-length-6
-same-length-6 c = ?
+same-length-6 c = search needs
 
--- src/lib.rt:13:1
 same-length-7 : tie.Need-same-length-7
-same-length-7 c = ?
+same-length-7 c = search needs
 
--- src/lib.rt:13:1
 same-length-8 : tie.Need-same-length-8
-same-length-8 c = ?
+same-length-8 c = search needs
 
--- src/lib.rt:13:1
 same-length-9 : tie.Need-same-length-9
-same-length-9 c = ?
+same-length-9 c = search needs
 
--- src/lib.rt:13:1
 same-length-10 : tie.Need-same-length-10
-same-length-10 c = ?
+same-length-10 c = search needs
 
--- src/lib.rt:13:1
 same-length-11 : tie.Need-same-length-11
-same-length-11 c = ?
+same-length-11 c = search needs
 
--- src/lib.rt:13:1
 same-length-12 : tie.Need-same-length-12
-same-length-12 c = ?
+same-length-12 c = search needs
 
--- src/lib.rt:13:1
 returns-3 : tie.Need-returns-3
-returns-3 c = ?
+returns-3 c = let s = c .before .before .before .before .before .before .before .before .before .before .before .before .before .before .before .before .before .before .before .before .before .before .before .before .before .before .before .before .before .before .before .before .before .before .before .before .before .before .before .before .args in resume-ran (s .p) (s .q) (s .budget) (now (s .equations)) (now (s .basis)) (now (s .sizes)) (now (s .table))
+    (sidesOf (now (s .values)) (now (s .words)) (now (s .degrees)) (now (s .marks)) (now (s .mothers))) (s .r) (c .before .before .before .before .before .before .before .before .before .before .before .before .before .before .before .before .before .before .before .before .before .before .before .before .before .before .before .before .before .before .before .before .basis-room .ensures)
+    (c .before .before .before .before .before .before .before .before .before .before .before .before .before .before .before .before .before .before .before .before .before .before .before .before .before .before .before .before .before .before .before .stage-room .ensures) (c .before .before .before .before .before .before .before .before .before .before .before .before .before .before .before .before .before .before .before .before .before .before .before .before .before .before .before .before .check-standing .ensures) (c .before .before .before .before .before .before .before .before .before .before .before .before .before .before .before .before .before .before .before .before .before .before .before .before .before .before .enum-told .given .1) (c .before .before .before .before .before .before .before .before .before .before .before .before .before .before .before .before .before .before .before .before .before .before .before .before .if1 .left) (c .before .before .before .before .before .before .before .before .before .before .before .before .before .before .before .go-on .ensures)
 
 pub resume-spec : {M : Type 1} → statement M
 resume-spec =

@@ -1,58 +1,44 @@
+-- `resuming::go_on` meets its contract: the turns, and then what their end asks for. Assumes nothing.
+use Rattle.engine_resume.specs.Resuming.{closing, resumed}
+use borrow.Author.Needs.{needs}
 use Rattle.engine_resume.proofs.resuming.go_on.Statement.{statement}
 use Rattle.engine_resume.proofs.resuming.go_on.Tie as tie
-use Rattle.engine_resume.proofs.resuming.go_on.Reads as reads
-use Rattle.engine_resume.proofs.resuming.go_on.Lts as lts
-use Rattle.engine_resume.proofs.resuming.advance.Reads as advance-reads
-use Rattle.engine_resume.proofs.resuming.close.Reads as close-reads
-use Rattle.engine_resume.proofs.resuming.stand.Reads as stand-reads
 
--- src/resuming.rt:56:9
 advance-requires : tie.Need-advance-requires
-advance-requires c κs = ?
+advance-requires c κs = c .before .before .before .before .before .before .before .before .before .before .before .before .before .before .before .pre
 
--- src/resuming.rt:75:56
 stand-requires : tie.Need-stand-requires
-stand-requires c κs = ?
+stand-requires c κs = search needs
 
--- src/resuming.rt:75:5
 close-requires : tie.Need-close-requires
-close-requires c κs = ?
+close-requires c κs = rw (c .stand .ensures) (closing (c .before .before .before .before .before .before .before .before .before .before .before .before .before .before .before .before .before .before .before .before .before .before .before .before .before .before .before .before .before .before .before .before .before .before .pre) (c .before .before .before .before .before .before .before .before .before .before .before .before .before .before .before .before .before .before .advance .ensures))
 
--- src/resuming.rt:32:1
 same-length : tie.Need-same-length
-same-length c = ?
+same-length c = search needs
 
--- src/resuming.rt:32:1
 same-length-2 : tie.Need-same-length-2
-same-length-2 c = ?
+same-length-2 c = c .before .before .before .before .before .before .before .before .before .before .before .before .before .before .before .before .before .before .before .before .before .advance .ensures .kept .long
 
--- src/resuming.rt:32:1
 same-length-3 : tie.Need-same-length-3
-same-length-3 c = ?
+same-length-3 c = c .before .before .before .before .before .before .before .before .before .before .before .before .before .before .before .before .before .before .before .before .before .advance .kept .1 .1 .1 .1 .1 .1 .1 .0
 
--- src/resuming.rt:32:1
 same-length-4 : tie.Need-same-length-4
-same-length-4 c = ?
+same-length-4 c = search needs
 
--- src/resuming.rt:32:1
 same-length-5 : tie.Need-same-length-5
-same-length-5 c = ?
+same-length-5 c = search needs
 
--- src/resuming.rt:32:1
 same-length-6 : tie.Need-same-length-6
-same-length-6 c = ?
+same-length-6 c = search needs
 
--- src/resuming.rt:32:1
 same-length-7 : tie.Need-same-length-7
-same-length-7 c = ?
+same-length-7 c = search needs
 
--- src/resuming.rt:32:1
 same-length-8 : tie.Need-same-length-8
-same-length-8 c = ?
+same-length-8 c = search needs
 
--- src/resuming.rt:32:1
 returns : tie.Need-returns
-returns c = ?
+returns c = resumed (c .before .before .before .before .before .before .before .before .before .before .before .before .before .before .before .before .before .before .before .before .before .before .before .before .before .before .before .before .before .before .before .before .before .before .before .before .before .pre) (c .before .before .before .before .before .before .before .before .before .before .before .before .before .before .before .before .before .before .before .before .before .advance .ensures) (rw (c .before .before .before .stand .ensures) at (c .before .before .close .ensures))
 
 pub go-on-spec : {M : Type 1} → statement M
 go-on-spec =
