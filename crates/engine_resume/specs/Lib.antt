@@ -1,3 +1,0 @@
-pub mod EngineLaws
-pub mod Resuming
-pub mod Continuing
