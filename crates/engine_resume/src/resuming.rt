@@ -72,7 +72,17 @@ pub fn go_on(
     );
     let next = ran.next;
     let ending = ran.ending;
-    close(p, q, most, equations, basis, table, values, stand(r, next), ending)
+    close(
+        p,
+        q,
+        most,
+        equations,
+        basis,
+        table,
+        values,
+        stand(r, next),
+        ending,
+    )
 }
 
 // The tables beside the rows written, then the turns.
@@ -103,10 +113,37 @@ fn advance(
     let m = r.count;
     let n = r.rows;
     let from = r.equation * q;
-    write_beside(equations, from, basis, m, sizes, table, n, q, values, words, degrees, marks, mothers);
+    write_beside(
+        equations,
+        from,
+        basis,
+        m,
+        sizes,
+        table,
+        n,
+        q,
+        values,
+        words,
+        degrees,
+        marks,
+        mothers,
+    );
     let f = Frame { q, m, room, from };
     let s = begin(r);
-    stages::run(f, equations, basis, sizes, table, values, words, degrees, marks, mothers, s, budget)
+    stages::run(
+        f,
+        equations,
+        basis,
+        sizes,
+        table,
+        values,
+        words,
+        degrees,
+        marks,
+        mothers,
+        s,
+        budget,
+    )
 }
 
 fn begin(r: Record) -> Next
