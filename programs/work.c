@@ -49,11 +49,10 @@ static void progress_line(const run *r, double seconds, char *line, size_t room)
     else snprintf(line + at, room - at, "equation %zu of %zu, %" PRIu64 " rows, %.0f s", p.done < p.of ? p.done + 1 : p.of, p.of, p.rows, seconds);
 }
 
-/* One write that may fail: nobody waits for progress. */
+/* Nobody waits for progress. */
 static void tell(const char *text)
 {
-    ssize_t n = write(STDERR_FILENO, text, strlen(text));
-    (void)n;
+    io_tell(text, strlen(text), 0);
 }
 
 static void tell_progress(const run *r, double seconds, bool terminal)
@@ -79,9 +78,11 @@ static void keep(const problem *what, const run *r, const char *file, clocks *c)
     if (least > MOST_KEPT) least = MOST_KEPT;
     if (before - c->kept < least) return;
     fault why;
-    if (!checkpoint_write(file, what, r, &why)) io_say("%s", why.text);
+    bool written = checkpoint_write(file, what, r, &why);
+    if (!written) io_say("%s", why.text);
     c->kept = now();
-    c->cost = c->kept - before;
+    /* what cannot be written is tried again later */
+    c->cost = written ? c->kept - before : MOST_KEPT;
 }
 
 static void look_up(const problem *what, const run *r, const char *file, clocks *c)
@@ -138,24 +139,28 @@ uint64_t size_of_row(const uint32_t *row, size_t q)
     return sum;
 }
 
-/* the width of the rows that are compared, as qsort hands nothing over */
-static size_t compared_q;
-
-static int compare_rows(const void *a, const void *b)
+int compare_rows(const uint32_t *x, const uint32_t *y, size_t q)
 {
-    const uint32_t *x = a, *y = b;
-    uint64_t m = size_of_row(x, compared_q), n = size_of_row(y, compared_q);
+    uint64_t m = size_of_row(x, q), n = size_of_row(y, q);
     if (m != n) return m < n ? -1 : 1;
-    for (size_t j = 0; j < compared_q; j++)
+    for (size_t j = 0; j < q; j++)
         if (x[j] != y[j]) return x[j] > y[j] ? -1 : 1;
     return 0;
 }
 
+/* the width of the rows that are sorted, as qsort hands nothing over */
+static size_t sorted_q;
+
+static int compare_sorted(const void *x, const void *y)
+{
+    return compare_rows(x, y, sorted_q);
+}
+
 void solved_sort(solved *s)
 {
-    compared_q = s->q;
-    if (s->loops_len > 1) qsort(s->loops, s->loops_len, s->q * sizeof *s->loops, compare_rows);
-    if (s->wanted_len > 1) qsort(s->wanted, s->wanted_len, s->q * sizeof *s->wanted, compare_rows);
+    sorted_q = s->q;
+    if (s->loops_len > 1) qsort(s->loops, s->loops_len, s->q * sizeof *s->loops, compare_sorted);
+    if (s->wanted_len > 1) qsort(s->wanted, s->wanted_len, s->q * sizeof *s->wanted, compare_sorted);
 }
 
 /* ---- from a problem to its lists */

@@ -7,9 +7,6 @@ ghost use mathlib.Core.Path.{_≡_};
 ghost use Prim.Native.Nat.{_+_, _*_, _≤_, _<_};
 use engine_beside::words as fields;
 
-
-
-
 // How many rows dropped sums of this sign.
 pub fn count(places: &[u32; 66560], sign: usize) -> usize
     requires { ⌜ sign < 3 ⌝ }
@@ -48,7 +45,13 @@ pub fn advance(held: &mut [u64; 768], places: &mut [u32; 66560], from: usize, k:
 }
 
 // A row that dropped a sum: it comes last; where there are 256, in the place of one of the later half, each in its turn.
-pub fn remember(held: &mut [u64; 768], places: &mut [u32; 66560], sign: usize, row: usize, word: u64)
+pub fn remember(
+    held: &mut [u64; 768],
+    places: &mut [u32; 66560],
+    sign: usize,
+    row: usize,
+    word: u64,
+)
     requires { ⌜ (sign < 3) × (row < 4294967296) ⌝ }
 {
     let n = count(places, sign);

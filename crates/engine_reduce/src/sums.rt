@@ -30,7 +30,19 @@ pub fn reducible(
     ensures { λ r. ⌜ r ≡ reducibleBy q n (at (now (table .entry)) q) (integerAt (now (values .entry))) (sumOf q (now (table .entry)) upper lower) sum ⌝ }
 {
     let sign = sign_of(sum);
-    if dropped(table, values, n, q, upper, lower, sum, word, sign, held, places) {
+    if dropped(
+        table,
+        values,
+        n,
+        q,
+        upper,
+        lower,
+        sum,
+        word,
+        sign,
+        held,
+        places,
+    ) {
         return true;
     }
     if known(table, values, n, q, upper, lower, sum, word, places) {
@@ -78,7 +90,16 @@ fn dropped(
         let k = from + i;
         i += 1;
         if memory::may_drop(held[k], word) {
-            if reduces(table, values, n, q, memory::place(places, k), upper, lower, sum) {
+            if reduces(
+                table,
+                values,
+                n,
+                q,
+                memory::place(places, k),
+                upper,
+                lower,
+                sum,
+            ) {
                 memory::advance(held, places, from, k);
                 return true;
             }
@@ -102,11 +123,29 @@ fn known(
     requires { ⌜ Handed q n (now table) (now values) upper lower ⌝ }
     ensures { λ r. ⌜ Yes q n (now (table .entry)) (now (values .entry)) upper lower sum r ⌝ }
 {
-    reduces(table, values, n, q, memory::place(places, memory::slot(word)), upper, lower, sum)
+    reduces(
+        table,
+        values,
+        n,
+        q,
+        memory::place(places, memory::slot(word)),
+        upper,
+        lower,
+        sum,
+    )
 }
 
 // Whether there is a row i, and it reduces the sum.
-fn reduces(table: &[u32], values: &[i64], n: usize, q: usize, i: usize, upper: usize, lower: usize, sum: i64) -> bool
+fn reduces(
+    table: &[u32],
+    values: &[i64],
+    n: usize,
+    q: usize,
+    i: usize,
+    upper: usize,
+    lower: usize,
+    sum: i64,
+) -> bool
     requires { ⌜ Handed q n (now table) (now values) upper lower ⌝ }
     ensures { λ r. ⌜ Yes q n (now (table .entry)) (now (values .entry)) upper lower sum r ⌝ }
 {
@@ -117,7 +156,16 @@ fn reduces(table: &[u32], values: &[i64], n: usize, q: usize, i: usize, upper: u
 }
 
 // Whether row i is at or below the sum and has a value between 0 and the sum's.
-fn reduces_at(table: &[u32], values: &[i64], n: usize, q: usize, i: usize, upper: usize, lower: usize, sum: i64) -> bool
+fn reduces_at(
+    table: &[u32],
+    values: &[i64],
+    n: usize,
+    q: usize,
+    i: usize,
+    upper: usize,
+    lower: usize,
+    sum: i64,
+) -> bool
     requires { ⌜ Handed q n (now table) (now values) upper lower × (i < n) ⌝ }
     ensures { λ r. ⌜ r ≡ fitsBy q (at (now (table .entry)) q) (integerAt (now (values .entry))) (sumOf q (now (table .entry)) upper lower) sum i ⌝ }
 {

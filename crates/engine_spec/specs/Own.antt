@@ -142,7 +142,7 @@ module _ (p q : ℕ) (a : ℕ → ℕ → ℤ) (most room : ℕ) (w : Work) (who
         silent-not (between 1 mostColumns q) 2 (and-both (leb 1 q) _ (le→leb 1 q q1) (le→leb q mostColumns q32)),
         silent-if (ltb (length (w .equations)) (p * q) || ltb most q) 4
             (either (ltb (length (w .equations)) (p * q)) (ltb most q) (λ h. omega (arith, ltb→lt (length (w .equations)) (p * q) h, whole .numbers))
-                (λ h. omega (arith, ltb→lt most q h))),
+            (λ h. omega (arith, ltb→lt most q h))),
         silent-not (inOrder p q most room w) 6 whole-order,
       )
     where

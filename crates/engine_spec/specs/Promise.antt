@@ -437,8 +437,11 @@ module _ (p q : ℕ) (coefs : List ℤ) where
       rw all
       (begun-whole p q coefs most room w (nltb→le (length (w .equations)) (p * q) (not-T (ltb (length (w .equations)) (p * q)) (false-not (ltb (length (w .equations)) (p * q)) short)))
       (nltb→le most q (not-T (ltb most q) (false-not (ltb most q) less))) long wide
-      (λ k kl. omega (arith, nltb→le coefLimit (natAbs (getD coefs k (pos 0)))
-      (not-T (ltb coefLimit (natAbs (getD coefs k (pos 0)))) (false-not (ltb coefLimit (natAbs (getD coefs k (pos 0)))) (first-silent 7 (p * q) _ y₄ k kl))))))
+      (λ k kl. omega (
+        arith,
+        nltb→le coefLimit (natAbs (getD coefs k (pos 0)))
+            (not-T (ltb coefLimit (natAbs (getD coefs k (pos 0)))) (false-not (ltb coefLimit (natAbs (getD coefs k (pos 0)))) (first-silent 7 (p * q) _ y₄ k kl))),
+      )))
 
   pub runs-whole : {most room : ℕ} {w : Work} → Runs p q coefs most room w → Whole p q (systemOf q coefs) most room w
   runs-whole (afterStart most room w long wide e) = start-whole most room w long wide e

@@ -16,6 +16,7 @@ use engine_rows::rows;
 
 // No mark, and no row that gives one.
 const NO_MARK: u64 = 18446744073709551615;
+
 const NO_MOTHER: u32 = 4294967295;
 
 // The sum of rows h and k, whose word is handed over, becomes row n.

@@ -33,7 +33,19 @@ pub fn reduced(
     if is_marked(values[h], values[k], marks[h], marks[k]) {
         return true;
     }
-    sums::reducible(table, values, words, n, q, h, k, both(values[h], values[k]), word, held, places)
+    sums::reducible(
+        table,
+        values,
+        words,
+        n,
+        q,
+        h,
+        k,
+        both(values[h], values[k]),
+        word,
+        held,
+        places,
+    )
 }
 
 // Whether the size of one row's value is at least the other row's mark.

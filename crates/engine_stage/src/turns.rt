@@ -16,7 +16,6 @@ ghost use Rattle.engine_search.specs.Places.{degreeOf};
 ghost use Rattle.engine_stage.specs.Marked.{Paired, isMarked, markOf, testOf};
 ghost use Rattle.engine_stage.specs.Standing.{Left, Ready, lentOf, sidesOf, stageOf, turnOf};
 ghost use Rattle.engine_stage.specs.Turning.{PairDue, RowDue, RowFound};
-
 use crate::append;
 use crate::tests;
 use engine_beside::words as fields;
@@ -85,7 +84,21 @@ pub fn turn(
     }
     let i = due(sizes, m, s.taken, d, s.more);
     if i < m {
-        return row_turn(f, coefs, basis, sizes, table, values, words, degrees, marks, mothers, places, s, i);
+        return row_turn(
+            f,
+            coefs,
+            basis,
+            sizes,
+            table,
+            values,
+            words,
+            degrees,
+            marks,
+            mothers,
+            places,
+            s,
+            i,
+        );
     }
     let at = engine_search::next_pair(
         values,
@@ -99,7 +112,22 @@ pub fn turn(
         },
     );
     if at.upper < n {
-        return pair_turn(f, coefs, basis, sizes, table, values, words, degrees, marks, mothers, held, places, s, at);
+        return pair_turn(
+            f,
+            coefs,
+            basis,
+            sizes,
+            table,
+            values,
+            words,
+            degrees,
+            marks,
+            mothers,
+            held,
+            places,
+            s,
+            at,
+        );
     }
     let next = engine_search::next_degree(values, degrees, n, sizes, m, d);
     if next == 0 {
@@ -217,7 +245,21 @@ fn pair_turn(
     let h = at.upper;
     let k = at.lower;
     let word = fields::joined(words[h], words[k]);
-    if tests::reduced(coefs, f.from, table, values, words, marks, n, q, h, k, word, held, places) {
+    if tests::reduced(
+        coefs,
+        f.from,
+        table,
+        values,
+        words,
+        marks,
+        n,
+        q,
+        h,
+        k,
+        word,
+        held,
+        places,
+    ) {
         return Turned::Goes(Next {
             rows: n,
             taken: s.taken,
@@ -235,7 +277,19 @@ fn pair_turn(
     if f.room <= n {
         return Turned::Full;
     }
-    append::append_pair(table, values, words, degrees, marks, mothers, n, q, h, k, word);
+    append::append_pair(
+        table,
+        values,
+        words,
+        degrees,
+        marks,
+        mothers,
+        n,
+        q,
+        h,
+        k,
+        word,
+    );
     memory::appended(places, n, word);
     Turned::Goes(Next {
         rows: n + 1,

@@ -1,14 +1,13 @@
 -- Reading the text form of a map, for callers in other languages (include/dezgula_pairs.h): the answer as one number, and two words beside it. Assumes nothing.
-use Prim.Native.Nat.{ℕ, _+_, _*_, _^_, _<_}
+use Prim.Native.Nat.{ℕ, _^_, _<_}
 use mathlib.Core.List.{List, []}
 use mathlib.Core.Logic.{inl, inr}
-use mathlib.Core.Path.{_≡_, refl, ap}
+use mathlib.Core.Path.{_≡_, ap}
 use native.Mathlib.Omega.{arith}
 use lib.IntN.{ℤ}
 use lib.ListN.{set}
 use Rattle.definitions.specs.Answers.{refuse}
 use Rattle.laws.specs.CheckLaws.{FirstDue}
-use Rattle.calls.specs.Paper.{value}
 use Rattle.map_form.specs.Reading as reading
 use Rattle.map_form.specs.Reading.{Reading, readMap}
 use Rattle.map_text.specs.Answer.{Answer, Outcome, answered, mapRead, numberOf, outcome, refused, valuesOf}

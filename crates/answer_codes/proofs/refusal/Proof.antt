@@ -1,6 +1,6 @@
 -- `answer_codes::refusal` meets its contract: a refusal's number has 8 bits. Assumes nothing.
 use borrow.Author.Needs.{needs}
-use Rattle.answer_codes.specs.CodeLaws.{number-small}
+use Rattle.answer_codes.specs.CodeLaws.{number-small, refusal-told}
 use Rattle.answer_codes.proofs.refusal.Statement.{statement}
 use Rattle.answer_codes.proofs.refusal.Tie as tie
 
@@ -14,7 +14,7 @@ coded-requires : tie.Need-coded-requires
 coded-requires c κs = rw (c .before .number-of .ensures) (number-small (c .before .before .args .why))
 
 returns : tie.Need-returns
-returns c = rw (← c .before .value-of .ensures, ← c .before .before .number-of .ensures) (c .coded .ensures)
+returns c = refusal-told (c .before .before .before .args .why) (c .coded .ensures) (c .before .before .number-of .ensures) (c .before .value-of .ensures)
 
 pub refusal-spec : {M : Type 1} → statement M
 refusal-spec = tie.close (tie.spec number-of-requires value-of-requires coded-requires returns)

@@ -54,7 +54,7 @@ advance-requires : tie.Need-advance-requires Inv-loop μ-loop
 advance-requires c κs = search needs
 
 returns : tie.Need-returns Inv-loop μ-loop
-returns c = 
+returns c =
     let t = c .before .before .before in
     let r = t .before in
     let s = r .before .before .before .before .before .before .before .before .before .before .before in

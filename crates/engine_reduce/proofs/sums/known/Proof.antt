@@ -19,7 +19,7 @@ reduces-requires : tie.Need-reduces-requires
 reduces-requires c κs = search needs
 
 returns : tie.Need-returns
-returns c = 
+returns c =
     let s = c .before .before .before .before in
     record { named = λ e. rw (toZ-ofZ (s .fits .sum)) at (c .reduces .ensures .named e) }
 

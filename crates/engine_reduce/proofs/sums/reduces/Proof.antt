@@ -16,7 +16,7 @@ reduces-at-requires : tie.Need-reduces-at-requires
 reduces-at-requires c κs = search needs
 
 returns-2 : tie.Need-returns-2
-returns-2 c = 
+returns-2 c =
     let s = c .before .before .before in
     record { named = λ e. found _ _ _ _ _ (s .args .n) (s .args .i) (c .before .if1 .left) (sym (rw (toZ-ofZ (s .fits .sum)) at (c .reduces-at .ensures)) ∙ e) }
 

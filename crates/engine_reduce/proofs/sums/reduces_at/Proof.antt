@@ -26,28 +26,28 @@ within-requires : tie.Need-within-requires
 within-requires c κs = search needs
 
 returns : tie.Need-returns
-returns c = 
+returns c =
     let s = c .before .before .before .before in
     let known = toZ-ofZ {w = w64} {z = integerAt (now (s .args .values)) (s .args .i)} (sfits-of (c .before .before .within-arg .given)) in
     fails-first _ _ _ (rw (known, toZ-ofZ (s .fits .sum)) at (c .before .within .ensures)) (c .if1 .taken)
 
 mul-below-sum : tie.Need-mul-below-sum
-mul-below-sum c = 
+mul-below-sum c =
     let s = c .before .before .before .before in
     omega (arith, s .pre .0 .rows .whole, row-fits (s .args .q) (s .args .i) (s .args .n) (s .pre .1))
 
 mul-below-sum-2 : tie.Need-mul-below-sum-2
-mul-below-sum-2 c = 
+mul-below-sum-2 c =
     let s = c .before .before .before .before in
     omega (arith, s .pre .0 .rows .whole, row-fits (s .args .q) (s .args .upper) (s .args .n) (s .pre .0 .first))
 
 mul-below-sum-3 : tie.Need-mul-below-sum-3
-mul-below-sum-3 c = 
+mul-below-sum-3 c =
     let s = c .before .before .before .before in
     omega (arith, s .pre .0 .rows .whole, row-fits (s .args .q) (s .args .lower) (s .args .n) (s .pre .0 .second))
 
 below-sum-requires : tie.Need-below-sum-requires
-below-sum-requires c κs = 
+below-sum-requires c κs =
     let s = c .before .before .before .before in
     let h = s .pre .0 in (
       table-row (h .rows) (s .args .upper) (h .first),
@@ -56,7 +56,7 @@ below-sum-requires c κs =
     )
 
 returns-2 : tie.Need-returns-2
-returns-2 c = 
+returns-2 c =
     let s = c .before .before .before .before .before in
     let known = toZ-ofZ {w = w64} {z = integerAt (now (s .args .values)) (s .args .i)} (sfits-of (c .before .before .before .within-arg .given)) in
     passes-first _ _ _ _ (rw (known, toZ-ofZ (s .fits .sum)) at (c .before .before .within .ensures)) (c .before .if1 .left) (c .below-sum .ensures)

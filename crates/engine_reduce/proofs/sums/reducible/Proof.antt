@@ -20,7 +20,7 @@ dropped-requires : tie.Need-dropped-requires
 dropped-requires c κs = search needs
 
 returns : tie.Need-returns
-returns c = 
+returns c =
     let d = c .before in
     let s = d .before .before .before .before .before .before in
     sym (rw (toZ-ofZ (s .fits .sum)) at (d .dropped .ensures .named (c .if1 .taken)))
@@ -29,7 +29,7 @@ known-requires : tie.Need-known-requires
 known-requires c κs = search needs
 
 returns-2 : tie.Need-returns-2
-returns-2 c = 
+returns-2 c =
     let k = c .before in
     let s = k .before .before .before .before .before .before .before .before .before in
     sym (rw (toZ-ofZ (s .fits .sum)) at (k .known .ensures .named (c .if2 .taken)))
@@ -47,14 +47,14 @@ remember-requires : tie.Need-remember-requires
 remember-requires c κs = search needs
 
 returns-3 : tie.Need-returns-3
-returns-3 c = 
+returns-3 c =
     let t = c .before .before .before .before in
     let f = t .before in
     let s = f .before .before .before .before .before .before .before .before .before .before .before in
     sym (rw (toZ-ofZ (s .fits .sum)) at (f .search .ensures .named (t .if3 .taken)))
 
 returns-4 : tie.Need-returns-4
-returns-4 c = 
+returns-4 c =
     let f = c .before in
     let s = f .before .before .before .before .before .before .before .before .before .before .before in
     sym (rw (toZ-ofZ (s .fits .sum)) at (f .search .ensures .none (c .if3 .left)))

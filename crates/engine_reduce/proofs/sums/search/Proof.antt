@@ -38,7 +38,7 @@ shared-slice-read-fits : tie.Need-shared-slice-read-fits Inv-loop μ-loop
 shared-slice-read-fits c = search needs
 
 fits-requires : tie.Need-fits-requires Inv-loop μ-loop
-fits-requires c κs = 
+fits-requires c κs =
     let l = c .before .before in
     let s = l .before .before .before in
     omega (arith, s .pre .worded .each (l .loop .i) (c .before .loop-test .taken), word-low (s .args .q) (at (now (s .args .table)) (s .args .q) (l .loop .i)))
@@ -47,7 +47,7 @@ reduces-at-requires : tie.Need-reduces-at-requires Inv-loop μ-loop
 reduces-at-requires c κs = search needs
 
 returns : tie.Need-returns Inv-loop μ-loop
-returns c = 
+returns c =
     let a = c .before in
     let il = a .before .before .before .before in
     let l = il .before in
@@ -62,7 +62,7 @@ loop-less : tie.Need-loop-less Inv-loop μ-loop
 loop-less c = search needs
 
 loop-again : tie.Need-loop-again Inv-loop μ-loop
-loop-again c = 
+loop-again c =
     let a = c .before in
     let l = a .before .before .before .before .before in
     (search needs, passed _ _ _ _ _ (l .loop .i) (l .loop .inv .1) (sym (a .reduces-at .ensures) ∙ c .if2 .left))
@@ -71,7 +71,7 @@ loop-less-2 : tie.Need-loop-less-2 Inv-loop μ-loop
 loop-less-2 c = search needs
 
 loop-again-2 : tie.Need-loop-again-2 Inv-loop μ-loop
-loop-again-2 c = 
+loop-again-2 c =
     let f = c .before in
     let il = f .before .before in
     let l = il .before in
@@ -80,7 +80,7 @@ loop-again-2 c =
     (search needs, passed-row _ _ _ _ _ (l .loop .i) (l .loop .inv .1) (not-fits _ _ _ no))
 
 returns-2 : tie.Need-returns-2 Inv-loop μ-loop
-returns-2 c = 
+returns-2 c =
     let l = c .before in
     let s = l .before .before .before in
     record {

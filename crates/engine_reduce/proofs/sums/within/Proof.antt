@@ -13,7 +13,7 @@ between-requires : tie.Need-between-requires
 between-requires c κs = search needs
 
 returns : tie.Need-returns
-returns c = 
+returns c =
     let s = c .before .before in
     rw (toZ-ofZ (s .fits .y), toZ-ofZ (s .fits .x)) at (c .between .ensures)
     ∙ sym (within-below (s .args .y) (s .args .x) (rw (toZ-ofZ (s .fits .x)) at (c .before .if1 .taken)))
@@ -22,7 +22,7 @@ between-requires-2 : tie.Need-between-requires-2
 between-requires-2 c κs = search needs
 
 returns-2 : tie.Need-returns-2
-returns-2 c = 
+returns-2 c =
     let s = c .before .before in
     rw (toZ-ofZ (s .fits .y), toZ-ofZ (s .fits .x)) at (c .between2 .ensures)
     ∙ sym (within-else (s .args .y) (s .args .x) (rw (toZ-ofZ (s .fits .x)) at (c .before .if1 .left)))

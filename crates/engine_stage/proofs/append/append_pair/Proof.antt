@@ -20,12 +20,12 @@ use Rattle.engine_stage.proofs.append.mother_of.Reads as mother-of-read
 use Rattle.engine_stage.proofs.tests.both.Reads as both-reads
 
 mul-append-sum : tie.Need-mul-append-sum
-mul-append-sum c = 
+mul-append-sum c =
     let s = c .before .before .before .before .before .before in
     omega (arith, s .pre .rows .whole, row-fits (s .args .q) (s .args .h) (s .args .n) (s .pre .upper))
 
 mul-append-sum-2 : tie.Need-mul-append-sum-2
-mul-append-sum-2 c = 
+mul-append-sum-2 c =
     let s = c .before .before .before .before .before .before in
     omega (arith, s .pre .rows .whole, row-fits (s .args .q) (s .args .k) (s .args .n) (s .pre .lower))
 
@@ -33,7 +33,7 @@ mul-append-sum-3 : tie.Need-mul-append-sum-3
 mul-append-sum-3 c = search needs
 
 append-sum-requires : tie.Need-append-sum-requires
-append-sum-requires c κs = 
+append-sum-requires c κs =
     let s = c .before .before .before .before .before .before in
     let p = s .pre in (
       table-row (p .rows) (s .args .h) (p .upper),
@@ -56,7 +56,7 @@ slice-copy-out-y : tie.Need-slice-copy-out-y
 slice-copy-out-y c = search needs
 
 both-requires : tie.Need-both-requires
-both-requires c κs = 
+both-requires c κs =
     let s = c .before .before .before .before .before .before .before .before .before .before .before in
     let p = s .pre in
     let x = integerAt (now (s .args .values)) (s .args .h) in
@@ -88,7 +88,7 @@ slice-read-degrees-2 : tie.Need-slice-read-degrees-2
 slice-read-degrees-2 c = search needs
 
 add-degrees : tie.Need-add-degrees
-add-degrees c = 
+add-degrees c =
     let s = c .before .before .before .before .before .before .before .before .before .before .before .before .before .before in
     omega (arith, s .pre .low (s .args .h) (s .pre .upper), s .pre .low (s .args .k) (s .pre .lower))
 
@@ -99,14 +99,14 @@ slice-write-degrees : tie.Need-slice-write-degrees
 slice-write-degrees c = search needs
 
 mark-of-requires : tie.Need-mark-of-requires
-mark-of-requires c κs = 
+mark-of-requires c κs =
     let s = c .before .before .before .before .before .before .before .before .before .before .before .before .before .before in
     let p = s .pre in (
       rw (back _ (p .first)) (p .first),
       rw (back _ (p .second)) (p .second),
       let x = integerAt (now (s .args .values)) (s .args .h) in
-    let y = integerAt (now (s .args .values)) (s .args .k) in
-    rw (back x (p .first), back y (p .second)) (sum-fits x y (p .first) (p .second)),
+          let y = integerAt (now (s .args .values)) (s .args .k) in
+          rw (back x (p .first), back y (p .second)) (sum-fits x y (p .first) (p .second)),
     )
 
 mul-marks : tie.Need-mul-marks
@@ -116,7 +116,7 @@ slice-write-marks : tie.Need-slice-write-marks
 slice-write-marks c = search needs
 
 mother-of-requires : tie.Need-mother-of-requires
-mother-of-requires c κs = 
+mother-of-requires c κs =
     let s = c .before .before .before .before .before .before .before .before .before .before .before .before .before .before .before in
     let p = s .pre in
     let x = integerAt (now (s .args .values)) (s .args .h) in
@@ -148,7 +148,7 @@ same-length-6 : tie.Need-same-length-6
 same-length-6 c = search needs
 
 returns : tie.Need-returns
-returns c = 
+returns c =
     let s = c .before .before .before .before .before .before .before .before .before .before .before .before .before .before .before .before in
     let p = s .pre in
     let x = integerAt (now (s .args .values)) (s .args .h) in

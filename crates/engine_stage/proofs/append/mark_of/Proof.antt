@@ -17,7 +17,7 @@ size-requires : tie.Need-size-requires
 size-requires c κs = search needs
 
 returns : tie.Need-returns
-returns c = 
+returns c =
     let s = c .before .before in
     let e = rw (toZ-ofZ (s .fits .x), toZ-ofZ (s .fits .y), toZ-ofZ (s .pre .2)) at (c .before .if1 .taken) in
     rw (toZ-ofZ (s .fits .y)) at (c .size .ensures) ∙ sym (mark-below (s .args .x) (s .args .y) e)
@@ -26,14 +26,14 @@ size-requires-2 : tie.Need-size-requires-2
 size-requires-2 c κs = search needs
 
 returns-2 : tie.Need-returns-2
-returns-2 c = 
+returns-2 c =
     let s = c .before .before .before in
     let e = rw (toZ-ofZ (s .fits .x), toZ-ofZ (s .fits .y), toZ-ofZ (s .pre .2)) at (c .before .before .if1 .left) in
     let g = rw (toZ-ofZ (s .fits .x), toZ-ofZ (s .fits .y), toZ-ofZ (s .pre .2)) at (c .before .if2 .taken) in
     rw (toZ-ofZ (s .fits .x)) at (c .size2 .ensures) ∙ sym (mark-above (s .args .x) (s .args .y) e g)
 
 returns-3 : tie.Need-returns-3
-returns-3 c = 
+returns-3 c =
     let s = c .before .before in
     let e = rw (toZ-ofZ (s .fits .x), toZ-ofZ (s .fits .y), toZ-ofZ (s .pre .2)) at (c .before .if1 .left) in
     let g = rw (toZ-ofZ (s .fits .x), toZ-ofZ (s .fits .y), toZ-ofZ (s .pre .2)) at (c .if2 .left) in

@@ -16,7 +16,7 @@ abbrev μ-loop : tie.MeasureT-loop
 μ-loop f coefs basis sizes table₀ values₀ words₀ degrees₀ marks₀ mothers₀ budget held₀ places₀ at₀ left₀ table values words degrees marks mothers held places at left = left
 
 loop-holds : tie.Need-loop-holds Inv-loop μ-loop
-loop-holds c = 
+loop-holds c =
     let s = c .before .before .before .before .before .before .before in
     (going-start (s .args .budget) (s .pre), long-start _ _)
 
@@ -33,7 +33,7 @@ loop-less : tie.Need-loop-less Inv-loop μ-loop
 loop-less c = omega (arith, c .before .before .before .before .before .before .before .before .before .before .before .before .before .before .before .before .before .before .before .before .before .before .before .loop-test .taken)
 
 loop-again : tie.Need-loop-again Inv-loop μ-loop
-loop-again c = 
+loop-again c =
     let u = c .before .before .before .before .before .before .before .before .before .before .before .before .before .before in
     let i = u .before .before .before .before .before .before .before .before .before in
     let a = i .before in
@@ -46,43 +46,43 @@ ended-requires : tie.Need-ended-requires Inv-loop μ-loop
 ended-requires c κs = search needs
 
 same-length : tie.Need-same-length Inv-loop μ-loop
-same-length c = 
+same-length c =
     let u = c .before .before .before .before .before .before .before .before .before .before .before .before .before .before in
     let a = u .before .before .before .before .before .before .before .before .before .before in
     left-long (a .loop .inv .0) (a .loop .inv .1) (u .turn .result) (u .turn .ensures) .rows
 
 same-length-2 : tie.Need-same-length-2 Inv-loop μ-loop
-same-length-2 c = 
+same-length-2 c =
     let u = c .before .before .before .before .before .before .before .before .before .before .before .before .before .before in
     let a = u .before .before .before .before .before .before .before .before .before .before in
     left-long (a .loop .inv .0) (a .loop .inv .1) (u .turn .result) (u .turn .ensures) .values
 
 same-length-3 : tie.Need-same-length-3 Inv-loop μ-loop
-same-length-3 c = 
+same-length-3 c =
     let u = c .before .before .before .before .before .before .before .before .before .before .before .before .before .before in
     let a = u .before .before .before .before .before .before .before .before .before .before in
     left-long (a .loop .inv .0) (a .loop .inv .1) (u .turn .result) (u .turn .ensures) .words
 
 same-length-4 : tie.Need-same-length-4 Inv-loop μ-loop
-same-length-4 c = 
+same-length-4 c =
     let u = c .before .before .before .before .before .before .before .before .before .before .before .before .before .before in
     let a = u .before .before .before .before .before .before .before .before .before .before in
     left-long (a .loop .inv .0) (a .loop .inv .1) (u .turn .result) (u .turn .ensures) .degrees
 
 same-length-5 : tie.Need-same-length-5 Inv-loop μ-loop
-same-length-5 c = 
+same-length-5 c =
     let u = c .before .before .before .before .before .before .before .before .before .before .before .before .before .before in
     let a = u .before .before .before .before .before .before .before .before .before .before in
     left-long (a .loop .inv .0) (a .loop .inv .1) (u .turn .result) (u .turn .ensures) .marks
 
 same-length-6 : tie.Need-same-length-6 Inv-loop μ-loop
-same-length-6 c = 
+same-length-6 c =
     let u = c .before .before .before .before .before .before .before .before .before .before .before .before .before .before in
     let a = u .before .before .before .before .before .before .before .before .before .before in
     left-long (a .loop .inv .0) (a .loop .inv .1) (u .turn .result) (u .turn .ensures) .mothers
 
 returns : tie.Need-returns Inv-loop μ-loop
-returns c = 
+returns c =
     let u = c .before .before .before .before .before .before .before .before .before .before .before .before .before .before in
     let i = u .before .before .before .before .before .before .before .before .before in
     let a = i .before in
@@ -95,43 +95,43 @@ ended-requires-2 : tie.Need-ended-requires-2 Inv-loop μ-loop
 ended-requires-2 c κs = search needs
 
 same-length-7 : tie.Need-same-length-7 Inv-loop μ-loop
-same-length-7 c = 
+same-length-7 c =
     let u = c .before .before .before .before .before .before .before .before .before .before .before .before .before .before in
     let a = u .before .before .before .before .before .before .before .before .before .before in
     left-long (a .loop .inv .0) (a .loop .inv .1) (u .turn .result) (u .turn .ensures) .rows
 
 same-length-8 : tie.Need-same-length-8 Inv-loop μ-loop
-same-length-8 c = 
+same-length-8 c =
     let u = c .before .before .before .before .before .before .before .before .before .before .before .before .before .before in
     let a = u .before .before .before .before .before .before .before .before .before .before in
     left-long (a .loop .inv .0) (a .loop .inv .1) (u .turn .result) (u .turn .ensures) .values
 
 same-length-9 : tie.Need-same-length-9 Inv-loop μ-loop
-same-length-9 c = 
+same-length-9 c =
     let u = c .before .before .before .before .before .before .before .before .before .before .before .before .before .before in
     let a = u .before .before .before .before .before .before .before .before .before .before in
     left-long (a .loop .inv .0) (a .loop .inv .1) (u .turn .result) (u .turn .ensures) .words
 
 same-length-10 : tie.Need-same-length-10 Inv-loop μ-loop
-same-length-10 c = 
+same-length-10 c =
     let u = c .before .before .before .before .before .before .before .before .before .before .before .before .before .before in
     let a = u .before .before .before .before .before .before .before .before .before .before in
     left-long (a .loop .inv .0) (a .loop .inv .1) (u .turn .result) (u .turn .ensures) .degrees
 
 same-length-11 : tie.Need-same-length-11 Inv-loop μ-loop
-same-length-11 c = 
+same-length-11 c =
     let u = c .before .before .before .before .before .before .before .before .before .before .before .before .before .before in
     let a = u .before .before .before .before .before .before .before .before .before .before in
     left-long (a .loop .inv .0) (a .loop .inv .1) (u .turn .result) (u .turn .ensures) .marks
 
 same-length-12 : tie.Need-same-length-12 Inv-loop μ-loop
-same-length-12 c = 
+same-length-12 c =
     let u = c .before .before .before .before .before .before .before .before .before .before .before .before .before .before in
     let a = u .before .before .before .before .before .before .before .before .before .before in
     left-long (a .loop .inv .0) (a .loop .inv .1) (u .turn .result) (u .turn .ensures) .mothers
 
 returns-2 : tie.Need-returns-2 Inv-loop μ-loop
-returns-2 c = 
+returns-2 c =
     let u = c .before .before .before .before .before .before .before .before .before .before .before .before .before .before in
     let i = u .before .before .before .before .before .before .before .before .before in
     let a = i .before in
@@ -144,43 +144,43 @@ ended-requires-3 : tie.Need-ended-requires-3 Inv-loop μ-loop
 ended-requires-3 c κs = search needs
 
 same-length-13 : tie.Need-same-length-13 Inv-loop μ-loop
-same-length-13 c = 
+same-length-13 c =
     let u = c .before .before .before .before .before .before .before .before .before .before .before .before .before .before in
     let a = u .before .before .before .before .before .before .before .before .before .before in
     left-long (a .loop .inv .0) (a .loop .inv .1) (u .turn .result) (u .turn .ensures) .rows
 
 same-length-14 : tie.Need-same-length-14 Inv-loop μ-loop
-same-length-14 c = 
+same-length-14 c =
     let u = c .before .before .before .before .before .before .before .before .before .before .before .before .before .before in
     let a = u .before .before .before .before .before .before .before .before .before .before in
     left-long (a .loop .inv .0) (a .loop .inv .1) (u .turn .result) (u .turn .ensures) .values
 
 same-length-15 : tie.Need-same-length-15 Inv-loop μ-loop
-same-length-15 c = 
+same-length-15 c =
     let u = c .before .before .before .before .before .before .before .before .before .before .before .before .before .before in
     let a = u .before .before .before .before .before .before .before .before .before .before in
     left-long (a .loop .inv .0) (a .loop .inv .1) (u .turn .result) (u .turn .ensures) .words
 
 same-length-16 : tie.Need-same-length-16 Inv-loop μ-loop
-same-length-16 c = 
+same-length-16 c =
     let u = c .before .before .before .before .before .before .before .before .before .before .before .before .before .before in
     let a = u .before .before .before .before .before .before .before .before .before .before in
     left-long (a .loop .inv .0) (a .loop .inv .1) (u .turn .result) (u .turn .ensures) .degrees
 
 same-length-17 : tie.Need-same-length-17 Inv-loop μ-loop
-same-length-17 c = 
+same-length-17 c =
     let u = c .before .before .before .before .before .before .before .before .before .before .before .before .before .before in
     let a = u .before .before .before .before .before .before .before .before .before .before in
     left-long (a .loop .inv .0) (a .loop .inv .1) (u .turn .result) (u .turn .ensures) .marks
 
 same-length-18 : tie.Need-same-length-18 Inv-loop μ-loop
-same-length-18 c = 
+same-length-18 c =
     let u = c .before .before .before .before .before .before .before .before .before .before .before .before .before .before in
     let a = u .before .before .before .before .before .before .before .before .before .before in
     left-long (a .loop .inv .0) (a .loop .inv .1) (u .turn .result) (u .turn .ensures) .mothers
 
 returns-3 : tie.Need-returns-3 Inv-loop μ-loop
-returns-3 c = 
+returns-3 c =
     let u = c .before .before .before .before .before .before .before .before .before .before .before .before .before .before in
     let i = u .before .before .before .before .before .before .before .before .before in
     let a = i .before in
@@ -193,43 +193,43 @@ ended-requires-4 : tie.Need-ended-requires-4 Inv-loop μ-loop
 ended-requires-4 c κs = search needs
 
 same-length-19 : tie.Need-same-length-19 Inv-loop μ-loop
-same-length-19 c = 
+same-length-19 c =
     let u = c .before .before .before .before .before .before .before .before .before .before .before .before .before .before in
     let a = u .before .before .before .before .before .before .before .before .before .before in
     left-long (a .loop .inv .0) (a .loop .inv .1) (u .turn .result) (u .turn .ensures) .rows
 
 same-length-20 : tie.Need-same-length-20 Inv-loop μ-loop
-same-length-20 c = 
+same-length-20 c =
     let u = c .before .before .before .before .before .before .before .before .before .before .before .before .before .before in
     let a = u .before .before .before .before .before .before .before .before .before .before in
     left-long (a .loop .inv .0) (a .loop .inv .1) (u .turn .result) (u .turn .ensures) .values
 
 same-length-21 : tie.Need-same-length-21 Inv-loop μ-loop
-same-length-21 c = 
+same-length-21 c =
     let u = c .before .before .before .before .before .before .before .before .before .before .before .before .before .before in
     let a = u .before .before .before .before .before .before .before .before .before .before in
     left-long (a .loop .inv .0) (a .loop .inv .1) (u .turn .result) (u .turn .ensures) .words
 
 same-length-22 : tie.Need-same-length-22 Inv-loop μ-loop
-same-length-22 c = 
+same-length-22 c =
     let u = c .before .before .before .before .before .before .before .before .before .before .before .before .before .before in
     let a = u .before .before .before .before .before .before .before .before .before .before in
     left-long (a .loop .inv .0) (a .loop .inv .1) (u .turn .result) (u .turn .ensures) .degrees
 
 same-length-23 : tie.Need-same-length-23 Inv-loop μ-loop
-same-length-23 c = 
+same-length-23 c =
     let u = c .before .before .before .before .before .before .before .before .before .before .before .before .before .before in
     let a = u .before .before .before .before .before .before .before .before .before .before in
     left-long (a .loop .inv .0) (a .loop .inv .1) (u .turn .result) (u .turn .ensures) .marks
 
 same-length-24 : tie.Need-same-length-24 Inv-loop μ-loop
-same-length-24 c = 
+same-length-24 c =
     let u = c .before .before .before .before .before .before .before .before .before .before .before .before .before .before in
     let a = u .before .before .before .before .before .before .before .before .before .before in
     left-long (a .loop .inv .0) (a .loop .inv .1) (u .turn .result) (u .turn .ensures) .mothers
 
 returns-4 : tie.Need-returns-4 Inv-loop μ-loop
-returns-4 c = 
+returns-4 c =
     let u = c .before .before .before .before .before .before .before .before .before .before .before .before .before .before in
     let i = u .before .before .before .before .before .before .before .before .before in
     let a = i .before in
@@ -257,7 +257,7 @@ same-length-30 : tie.Need-same-length-30 Inv-loop μ-loop
 same-length-30 c = c .before .before .loop .inv .1 .mothers
 
 returns-5 : tie.Need-returns-5 Inv-loop μ-loop
-returns-5 c = 
+returns-5 c =
     let l = c .before in
     let a = l .before in
     rw (c .ended5 .ensures) (paused-left (a .loop .inv .0) (omega (arith, l .loop-test .left)))

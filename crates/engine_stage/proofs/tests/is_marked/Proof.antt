@@ -14,7 +14,7 @@ size-requires : tie.Need-size-requires
 size-requires c κs = search needs
 
 returns : tie.Need-returns
-returns c = 
+returns c =
     let s = c .before .before in
     let size-is = rw (toZ-ofZ (s .fits .y)) at (c .before .size .ensures) in
     sym (by-upper (s .args .x) (s .args .y) (s .args .mark) (s .args .other) (rw (← size-is) (le-leb _ _ (c .if1 .taken))))
@@ -23,7 +23,7 @@ size-requires-2 : tie.Need-size-requires-2
 size-requires-2 c κs = search needs
 
 returns-2 : tie.Need-returns-2
-returns-2 c = 
+returns-2 c =
     let s = c .before .before .before in
     let size-is = rw (toZ-ofZ (s .fits .y)) at (c .before .before .size .ensures) in
     let other-is = rw (toZ-ofZ (s .fits .x)) at (c .size2 .ensures) in

@@ -40,7 +40,7 @@ shared-slice-read-is-marked-2 : tie.Need-shared-slice-read-is-marked-2
 shared-slice-read-is-marked-2 c = search needs
 
 is-marked-requires : tie.Need-is-marked-requires
-is-marked-requires c κs = 
+is-marked-requires c κs =
     let s = c .before .before .before .before .before .before .before in
     let p = s .pre .0 in (
       rw (back _ (p .bounded (s .args .h) (p .upper))) (p .bounded (s .args .h) (p .upper)),
@@ -48,7 +48,7 @@ is-marked-requires c κs =
     )
 
 returns : tie.Need-returns
-returns c = 
+returns c =
     let s = c .before .before .before .before .before .before .before .before .before in
     let p = s .pre .0 in
     let e = rw (back _ (p .bounded (s .args .h) (p .upper)), back _ (p .bounded (s .args .k) (p .lower))) at (c .before .is-marked .ensures) in
@@ -67,7 +67,7 @@ shared-slice-copy-out-both-2 : tie.Need-shared-slice-copy-out-both-2
 shared-slice-copy-out-both-2 c = search needs
 
 both-requires : tie.Need-both-requires
-both-requires c κs = 
+both-requires c κs =
     let s = c .before .before .before .before .before .before .before .before .before .before .before in
     let p = s .pre .0 in
     let x = integerAt (now (s .args .values)) (s .args .h) in
@@ -76,7 +76,7 @@ both-requires c κs =
     (sum-fits x y (p .bounded (s .args .h) (p .upper)) (p .bounded (s .args .k) (p .lower)))
 
 reducible-requires : tie.Need-reducible-requires
-reducible-requires c κs = 
+reducible-requires c κs =
     let s = c .before .before .before .before .before .before .before .before .before .before .before .before .before .before in
     let p = s .pre .0 in
     record {
@@ -87,7 +87,7 @@ reducible-requires c κs =
     }
 
 returns-2 : tie.Need-returns-2
-returns-2 c = 
+returns-2 c =
     let b = c .before .before .before in
     let s = b .before .before .before .before .before .before .before .before .before .before .before .before in
     let p = s .pre .0 in

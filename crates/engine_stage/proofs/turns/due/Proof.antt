@@ -5,7 +5,7 @@ use Rattle.engine_stage.proofs.turns.due.Statement.{statement}
 use Rattle.engine_stage.proofs.turns.due.Tie as tie
 
 returns : tie.Need-returns
-returns c = 
+returns c =
     let s = c .before .before in
     record { here = λ l. absurd (omega arith); none = λ l. s .pre .1 (was-false (c .if1 .taken)) }
 
@@ -13,7 +13,7 @@ due-row-requires : tie.Need-due-row-requires
 due-row-requires c κs = search needs
 
 returns-2 : tie.Need-returns-2
-returns-2 c = 
+returns-2 c =
     let e = c .due-row .ensures in
     record { here = λ l. e; none = λ l. rw (← e) l }
 

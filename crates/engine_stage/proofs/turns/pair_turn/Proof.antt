@@ -25,7 +25,7 @@ slice-read-joined-2 : tie.Need-slice-read-joined-2
 slice-read-joined-2 c = search needs
 
 joined-requires : tie.Need-joined-requires
-joined-requires c κs = 
+joined-requires c κs =
     let s = c .before .before .before .before .before .before .before .before .before in
     let p = pair-paired (s .pre .0) (s .pre .1) in (
       omega (arith, p .worded .each (s .args .at .upper) (p .upper), word-low (s .args .f .q) (at (now (s .args .table)) (s .args .f .q) (s .args .at .upper))),
@@ -33,7 +33,7 @@ joined-requires c κs =
     )
 
 reduced-requires : tie.Need-reduced-requires
-reduced-requires c κs = 
+reduced-requires c κs =
     let j = c .before .before .before .before .before .before in
     let s = j .before .before .before .before .before .before .before .before .before .before in
     let p = pair-paired (s .pre .0) (s .pre .1) in
@@ -58,23 +58,23 @@ same-length-4 : tie.Need-same-length-4
 same-length-4 c = search needs
 
 returns : tie.Need-returns
-returns c = 
+returns c =
     let t = c .before in
     let s = t .before .before .before .before .before .before .before .before .before .before .before .before .before .before .before .before .before .before in
     pair-passed (s .pre .0) (s .pre .1) (sym (t .before .reduced .ensures) ∙ t .if1 .taken)
 
 mul-small-sum : tie.Need-mul-small-sum
-mul-small-sum c = 
+mul-small-sum c =
     let s = c .before .before .before .before .before .before .before .before .before .before .before .before .before .before .before .before .before .before .before in
     omega (arith, s .pre .0 .rows .whole, row-fits (s .args .f .q) (s .args .at .upper) (s .args .s .rows) (s .pre .1 .upper))
 
 mul-small-sum-2 : tie.Need-mul-small-sum-2
-mul-small-sum-2 c = 
+mul-small-sum-2 c =
     let s = c .before .before .before .before .before .before .before .before .before .before .before .before .before .before .before .before .before .before .before in
     omega (arith, s .pre .0 .rows .whole, row-fits (s .args .f .q) (s .args .at .lower) (s .args .s .rows) (s .pre .1 .lower))
 
 small-sum-requires : tie.Need-small-sum-requires
-small-sum-requires c κs = 
+small-sum-requires c κs =
     let s = c .before .before .before .before .before .before .before .before .before .before .before .before .before .before .before .before .before .before .before in
     (table-row (s .pre .0 .rows) (s .args .at .upper) (s .pre .1 .upper), table-row (s .pre .0 .rows) (s .args .at .lower) (s .pre .1 .lower))
 
@@ -91,7 +91,7 @@ same-length-8 : tie.Need-same-length-8
 same-length-8 c = search needs
 
 returns-2 : tie.Need-returns-2
-returns-2 c = 
+returns-2 c =
     let m = c .before in
     let e = m .before .before in
     let s = e .before .before .before .before .before .before .before .before .before .before .before .before .before .before .before .before .before .before in
@@ -110,7 +110,7 @@ same-length-12 : tie.Need-same-length-12
 same-length-12 c = search needs
 
 returns-3 : tie.Need-returns-3
-returns-3 c = 
+returns-3 c =
     let f = c .before .before in
     let m = f .before in
     let e = m .before .before in
@@ -119,13 +119,13 @@ returns-3 c =
     (ltb-no (s .args .s .rows) (s .args .f .room) (c .if3 .taken))
 
 append-pair-requires : tie.Need-append-pair-requires
-append-pair-requires c κs = 
+append-pair-requires c κs =
     let e = c .before .before .before .before .before .before in
     let s = e .before .before .before .before .before .before .before .before .before .before .before .before .before .before .before .before .before .before .before .before .before .before .before in
     pair-fits (s .pre .0) (s .pre .1) (e .if3 .left)
 
 appended-requires : tie.Need-appended-requires
-appended-requires c κs = 
+appended-requires c κs =
     let s = c .before .before .before .before .before .before .before .before .before .before .before .before .before .before .before .before .before .before .before .before .before .before .before .before .before .before .before .before .before .before .before .before .before .before .before .before .before .before .before .before .before .before in
     omega (arith, s .pre .0 .few, s .pre .0 .roomy .few)
 
@@ -157,7 +157,7 @@ same-length-18 : tie.Need-same-length-18
 same-length-18 c = search needs
 
 returns-4 : tie.Need-returns-4
-returns-4 c = 
+returns-4 c =
     let a = c .before .before .before .before .before .before .before .before .before .before .before .before .before .before in
     let t = a .before .before .before .before .before .before .before in
     let f = t .before .before in

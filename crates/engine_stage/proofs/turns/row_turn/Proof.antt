@@ -9,17 +9,17 @@ use Rattle.engine_stage.proofs.turns.row_turn.Statement.{statement}
 use Rattle.engine_stage.proofs.turns.row_turn.Tie as tie
 
 returns : tie.Need-returns
-returns c = 
+returns c =
     let s = c .before .before .before .before .before .before .before .before .before in
     row-full (s .pre .0) (s .pre .1) (ltb-no (s .args .s .rows) (s .args .f .room) (c .if1 .taken))
 
 mul-word-at : tie.Need-mul-word-at
-mul-word-at c = 
+mul-word-at c =
     let s = c .before .before .before .before .before .before .before .before .before in
     omega (arith, s .pre .0 .given .rows .whole, row-fits (s .args .f .q) (s .args .i) (s .args .f .m) (s .pre .1 .low))
 
 word-at-requires : tie.Need-word-at-requires
-word-at-requires c κs = 
+word-at-requires c κs =
     let s = c .before .before .before .before .before .before .before .before .before in
     (s .pre .0 .given .rows .few, table-row (s .pre .0 .given .rows) (s .args .i) (s .pre .1 .low))
 
@@ -30,7 +30,7 @@ shared-slice-read-append-row : tie.Need-shared-slice-read-append-row
 shared-slice-read-append-row c = search needs
 
 append-row-requires : tie.Need-append-row-requires
-append-row-requires c κs = 
+append-row-requires c κs =
     let e = c .before .before .before .before .before .before .before .before in
     let s = e .before .before .before .before .before .before .before .before .before in
     record {
@@ -40,7 +40,7 @@ append-row-requires c κs =
     }
 
 appended-requires : tie.Need-appended-requires
-appended-requires c κs = 
+appended-requires c κs =
     let s = c .before .before .before .before .before .before .before .before .before .before .before .before .before .before .before .before .before .before .before .before .before .before .before .before .before .before .before .before .before .before in
     omega (arith, s .pre .0 .few, s .pre .0 .roomy .few)
 
@@ -75,7 +75,7 @@ same-length-6 : tie.Need-same-length-6
 same-length-6 c = search needs
 
 returns-2 : tie.Need-returns-2
-returns-2 c = 
+returns-2 c =
     let a = c .before .before .before .before .before .before .before .before .before .before .before .before .before .before in
     let w = a .before .before .before .before .before .before .before .before in
     let s = w .before .before .before .before .before .before .before .before .before .before in

@@ -6,17 +6,17 @@ use Rattle.engine_stage.proofs.turns.turn.Statement.{statement}
 use Rattle.engine_stage.proofs.turns.turn.Tie as tie
 
 returns : tie.Need-returns
-returns c = 
+returns c =
     let s = c .before .before .before .before .before .before .before .before .before in
     by-late (s .pre) (c .if1 .taken)
 
 due-requires : tie.Need-due-requires
-due-requires c κs = 
+due-requires c κs =
     let s = c .before .before .before .before .before .before .before .before .before in
     (s .pre .given .sized .long, λ e. rw (← row-is (s .pre)) at (s .pre .spent e))
 
 row-turn-requires : tie.Need-row-turn-requires
-row-turn-requires c κs = 
+row-turn-requires c κs =
     let t = c .before .before .before .before .before .before .before in
     let u = t .before in
     let s = u .before .before .before .before .before .before .before .before .before .before in
@@ -41,7 +41,7 @@ same-length-6 : tie.Need-same-length-6
 same-length-6 c = search needs
 
 returns-2 : tie.Need-returns-2
-returns-2 c = 
+returns-2 c =
     let a = c .before .before .before .before .before .before .before .before .before .before .before in
     let t = a .before .before .before .before .before .before .before .before in
     let u = t .before in
@@ -49,12 +49,12 @@ returns-2 c =
     rw (by-row (s .pre) (u .before .if1 .left) (u .due .ensures) (t .if2 .taken)) (a .row-turn .ensures)
 
 next-pair-requires : tie.Need-next-pair-requires
-next-pair-requires c κs = 
+next-pair-requires c κs =
     let s = c .before .before .before .before .before .before .before .before .before .before .before .before .before in
     (s .pre .ranked, s .pre .falling)
 
 pair-turn-requires : tie.Need-pair-turn-requires
-pair-turn-requires c κs = 
+pair-turn-requires c κs =
     let t = c .before .before .before .before .before .before .before .before in
     let n = t .before .before in
     let e = n .before .before .before in
@@ -81,7 +81,7 @@ same-length-12 : tie.Need-same-length-12
 same-length-12 c = search needs
 
 returns-3 : tie.Need-returns-3
-returns-3 c = 
+returns-3 c =
     let a = c .before .before .before .before .before .before .before .before .before .before .before in
     let t = a .before .before .before .before .before .before .before .before .before in
     let n = t .before .before in
@@ -91,7 +91,7 @@ returns-3 c =
     rw (by-pair (s .pre) (u .before .if1 .left) (spent-by (s .pre) (u .due .ensures) (e .if2 .left)) (n .next-pair .ensures) (t .if3 .taken)) (a .pair-turn .ensures)
 
 next-degree-requires : tie.Need-next-degree-requires
-next-degree-requires c κs = 
+next-degree-requires c κs =
     let s = c .before .before .before .before .before .before .before .before .before .before .before .before .before .before .before .before .before .before in
     (s .pre .ranked, s .pre .given .sized .long)
 
@@ -102,7 +102,7 @@ same-length-14 : tie.Need-same-length-14
 same-length-14 c = search needs
 
 returns-4 : tie.Need-returns-4
-returns-4 c = 
+returns-4 c =
     let g = c .before in
     let f = g .before .before .before in
     let n = f .before .before in
@@ -113,7 +113,7 @@ returns-4 c =
     (c .if4 .taken)
 
 add-t57 : tie.Need-add-t57
-add-t57 c = 
+add-t57 c =
     let s = c .before .before .before .before .before .before .before .before .before .before .before .before .before .before .before .before .before .before .before .before .before in
     let l = c .before .before .before .before .before .before .before .before .before .before .before .before in
     omega (arith, s .pre .early, l .if1 .left)
@@ -125,7 +125,7 @@ same-length-16 : tie.Need-same-length-16
 same-length-16 c = search needs
 
 returns-5 : tie.Need-returns-5
-returns-5 c = 
+returns-5 c =
     let h = c .before in
     let g = h .before in
     let f = g .before .before .before in
