@@ -52,7 +52,7 @@ pub is-zero : (z : ℤ) → T (isZero z) → z ≡ pos 0
 is-zero (pos n) h = ap pos (eqb→eq n 0 h)
 is-zero (negsuc n) h = absurd h
 
-zero-is : (z : ℤ) → z ≡ pos 0 → T (isZero z)
+pub zero-is : (z : ℤ) → z ≡ pos 0 → T (isZero z)
 zero-is z e = rw e tt
 
 pub wanted-alike : (p q : ℕ) (a : ℕ → ℕ → ℤ) {s t : ℕ → ℕ} → Same q s t → Wanted p q a s → Wanted p q a t
