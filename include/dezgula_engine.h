@@ -19,8 +19,8 @@
  *   values, words, degrees, marks    one number a row of the table: the calls' own space. What they held before a call does not matter
  *   record     below
  *
- * There is room for the least of basis_len / q and sizes_len rows in the basis, and for the least of table_len / q and the other lengths in the table; of more
- * than 2^32 - 2 rows no use is made. A table may be lent longer with each call, with the same rows. NULL is an empty table. Tables and record lie apart. */
+ * There is room for the least of basis_len / q and sizes_len rows in the basis, and for the least of table_len / q and the other lengths in the table; for
+ * no more than 1,000,000,000 in either. A table may be lent longer with each call, with the same rows. NULL is an empty table. Tables and record lie apart. */
 #ifndef DEZGULA_ENGINE_H
 #define DEZGULA_ENGINE_H
 
@@ -32,18 +32,17 @@ extern "C" {
 
 #define DEZGULA_ENGINE_MOST 32 /* equations, and unknowns */
 #define DEZGULA_ENGINE_COEFFICIENTS (DEZGULA_ENGINE_MOST * DEZGULA_ENGINE_MOST)
-#define DEZGULA_ENGINE_COEFFICIENT_LIMIT 1000000
 
-/* Refused, with nothing changed: 1, p is outside 1 to 32; 2, q is outside 1 to 32; 3, the coefficients are not p * q; 4, room for fewer than q rows in the
- * basis; 6, the record or the rows are out of order; 7, a coefficient is out of range, or would be (with its place); 32; 33. Refused by a turn, with all as
- * after the last whole turn: 12, a row that is needed has a component above 1,000,000; 14, the steps are at their limit; 31. */
+/* The answers are those of dezgula.h: a start, a row operation and a taken equation answer DEZGULA_STARTED; a resume answers DEZGULA_COMPLETE, or DEZGULA_PAUSED:
+ * the budget is used up, or the stage is at its end and record.equation is p, so that the next equation can be taken. Refused, with nothing changed: 1, p is
+ * outside 1 to 32; 2, q is outside 1 to 32; 3, the coefficients are not p * q; 4, the working system has room for fewer than p * q numbers, or the basis
+ * for fewer than q rows; 6, the record or the rows are out of order; 7, a coefficient of the map is outside -10,000 to 10,000 (with its place); 32; 33; 34.
+ * Refused by a turn, with all as after the last whole turn: 12, a row that is needed has a component above 1,000,000; 14, the steps are at their limit; 31. */
 enum {
-    DEZGULA_ENGINE_FULL = 31,      /* there is no room for a row that is needed: with longer tables and the same rows the run goes on */
-    DEZGULA_ENGINE_EQUATION = 32,  /* no such equation, or it is done, or a stage is under way; or a row operation that could lose the equation */
-    DEZGULA_ENGINE_FRESH = 33,     /* no such unknown, or an equation done mentions it, or its coefficient is not -1 */
-    DEZGULA_ENGINE_COMBINED = 111, /* the row operation is done */
-    DEZGULA_ENGINE_TAKEN = 112,    /* the stage of the equation has begun */
-    DEZGULA_ENGINE_STAGE = 113     /* the stage is at its end, or none was under way, and there are equations left: take the next */
+    DEZGULA_ENGINE_FULL = 31,     /* there is no room for a row that is needed: with longer tables and the same rows the run goes on */
+    DEZGULA_ENGINE_EQUATION = 32, /* no such equation is left, or a stage is under way */
+    DEZGULA_ENGINE_FRESH = 33,    /* the unknown is neither q, which is none, nor one that no equation done mentions, with the coefficient -1 */
+    DEZGULA_ENGINE_OPERATION = 34 /* 0 times the equation itself, or itself added, or a coefficient would be outside -1,000,000 to 1,000,000 */
 };
 
 static inline const char *dezgula_engine_sentence(uint64_t answer)
@@ -51,15 +50,12 @@ static inline const char *dezgula_engine_sentence(uint64_t answer)
     switch (dezgula_number(answer)) {
     case DEZGULA_EQUATIONS: return "The number of equations is not 1 to 32.";
     case DEZGULA_UNKNOWNS: return "The number of unknowns is not 1 to 32.";
-    case DEZGULA_STACK_SHORT: return "The basis has room for fewer rows than there are unknowns.";
+    case DEZGULA_STACK_SHORT: return "The table for the equations is too short, or the basis has room for fewer rows than there are unknowns.";
     case DEZGULA_OUT_OF_ORDER: return "The record or the rows are out of order.";
-    case DEZGULA_COEFFICIENT: return "A coefficient is outside -1,000,000 to 1,000,000.";
     case DEZGULA_ENGINE_FULL: return "The tables have no room for a row that is needed.";
     case DEZGULA_ENGINE_EQUATION: return "The equation cannot be taken or changed now.";
     case DEZGULA_ENGINE_FRESH: return "The unknown cannot be left out of this stage.";
-    case DEZGULA_ENGINE_COMBINED: return "The equation was combined with another.";
-    case DEZGULA_ENGINE_TAKEN: return "The stage of the equation has begun.";
-    case DEZGULA_ENGINE_STAGE: return "The stage is at its end, and there are equations left.";
+    case DEZGULA_ENGINE_OPERATION: return "This is no row operation, or a coefficient would pass 1,000,000.";
     default: return dezgula_sentence(answer);
     }
 }
@@ -108,13 +104,17 @@ enum { DEZGULA_ENGINE_RECORD_LENGTH = 10 };
 uint64_t dezgula_raw_engine_start(size_t p, size_t q, const int32_t *coefs, size_t coefs_len, int32_t *equations, size_t equations_len, uint32_t *basis,
                                   size_t basis_len, uint32_t *sizes, size_t sizes_len, uint64_t *record, size_t record_len) DEZGULA_LOOK_AT_IT;
 
-uint64_t dezgula_raw_engine_combine(size_t p, size_t q, int32_t *equations, size_t equations_len, uint64_t *record, size_t record_len, size_t r, int32_t u,
-                                    size_t s, int32_t t) DEZGULA_LOOK_AT_IT;
+uint64_t dezgula_raw_engine_combine(size_t p, size_t q, int32_t *equations, size_t equations_len, uint32_t *basis, size_t basis_len, uint32_t *sizes,
+                                    size_t sizes_len, uint32_t *table, size_t table_len, int64_t *values, size_t values_len, uint64_t *words, size_t words_len,
+                                    uint32_t *degrees, size_t degrees_len, uint64_t *marks, size_t marks_len, uint32_t *mothers, size_t mothers_len,
+                                    uint64_t *record, size_t record_len, size_t r, int64_t u, size_t s, int64_t t) DEZGULA_LOOK_AT_IT;
 
-uint64_t dezgula_raw_engine_take(size_t p, size_t q, const int32_t *equations, size_t equations_len, uint32_t *basis, size_t basis_len, uint64_t *record,
-                                 size_t record_len, size_t e, size_t f) DEZGULA_LOOK_AT_IT;
+uint64_t dezgula_raw_engine_take(size_t p, size_t q, int32_t *equations, size_t equations_len, uint32_t *basis, size_t basis_len, uint32_t *sizes,
+                                 size_t sizes_len, uint32_t *table, size_t table_len, int64_t *values, size_t values_len, uint64_t *words, size_t words_len,
+                                 uint32_t *degrees, size_t degrees_len, uint64_t *marks, size_t marks_len, uint32_t *mothers, size_t mothers_len,
+                                 uint64_t *record, size_t record_len, size_t e, size_t f) DEZGULA_LOOK_AT_IT;
 
-uint64_t dezgula_raw_engine_resume(size_t p, size_t q, const int32_t *equations, size_t equations_len, uint32_t *basis, size_t basis_len, uint32_t *sizes,
+uint64_t dezgula_raw_engine_resume(size_t p, size_t q, int32_t *equations, size_t equations_len, uint32_t *basis, size_t basis_len, uint32_t *sizes,
                                    size_t sizes_len, uint32_t *table, size_t table_len, int64_t *values, size_t values_len, uint64_t *words, size_t words_len,
                                    uint32_t *degrees, size_t degrees_len, uint64_t *marks, size_t marks_len, uint32_t *mothers, size_t mothers_len,
                                    uint64_t *record, size_t record_len, uint64_t budget) DEZGULA_LOOK_AT_IT;
@@ -166,40 +166,43 @@ DEZGULA_LOOK_AT_IT static inline uint64_t dezgula_engine_start(const dezgula_sys
     return answer;
 }
 
-/* A row operation: equation r becomes u times itself plus t times equation s, all from 0. Equation r is not done, no stage is under way, u is not 0, and r is
- * not s unless t is 0. Answers DEZGULA_ENGINE_COMBINED, or refuses with 1, 2, 3, 6, 7 or 32. Writes nothing but equation r. */
-DEZGULA_LOOK_AT_IT static inline uint64_t dezgula_engine_combine(size_t p, size_t q, dezgula_engine_run *run, size_t r, int32_t u, size_t s, int32_t t)
-{
-    uint64_t words[DEZGULA_ENGINE_RECORD_LENGTH];
-    dezgula_engine_pack(run->record, words);
-    return dezgula_raw_engine_combine(p, q, DEZGULA_ENGINE_TABLE(int32_t, run, equations), words, (size_t)DEZGULA_ENGINE_RECORD_LENGTH, r, u, s, t);
-}
+/* The parameters that every call on a run begins with. */
+#define DEZGULA_ENGINE_LENT(p, q, run, record_words) \
+    (p), (q), DEZGULA_ENGINE_TABLE(int32_t, run, equations), DEZGULA_ENGINE_TABLE(uint32_t, run, basis), DEZGULA_ENGINE_TABLE(uint32_t, run, sizes), \
+        DEZGULA_ENGINE_TABLE(uint32_t, run, table), DEZGULA_ENGINE_TABLE(int64_t, run, values), DEZGULA_ENGINE_TABLE(uint64_t, run, words), \
+        DEZGULA_ENGINE_TABLE(uint32_t, run, degrees), DEZGULA_ENGINE_TABLE(uint64_t, run, marks), DEZGULA_ENGINE_TABLE(uint32_t, run, mothers), (record_words), \
+        (size_t)DEZGULA_ENGINE_RECORD_LENGTH
 
-/* Begins the stage of equation e, from 0, without the unknown f, from 0; with f = q, with all unknowns. Answers DEZGULA_ENGINE_TAKEN, or refuses with 1, 2, 3, 6,
- * 7, 32 or 33. Taken: the record has the equation and the unknown, and the rows of the basis that have the unknown are taken out of it. */
-DEZGULA_LOOK_AT_IT static inline uint64_t dezgula_engine_take(size_t p, size_t q, dezgula_engine_run *run, size_t e, size_t f)
+/* A row operation: equation r becomes u times itself plus t times equation s, both from 0. Equation r is not done, no stage is under way, u is not 0, and r is
+ * not s unless t is 0. Answers DEZGULA_STARTED, or refuses with 1, 2, 4, 6, 32 or 34. Writes nothing but equation r. */
+DEZGULA_LOOK_AT_IT static inline uint64_t dezgula_engine_combine(size_t p, size_t q, dezgula_engine_run *run, size_t r, int64_t u, size_t s, int64_t t)
 {
-    uint64_t words[DEZGULA_ENGINE_RECORD_LENGTH];
-    dezgula_engine_pack(run->record, words);
-    uint64_t answer = dezgula_raw_engine_take(p, q, DEZGULA_ENGINE_TABLE(const int32_t, run, equations), DEZGULA_ENGINE_TABLE(uint32_t, run, basis), words,
-                                              (size_t)DEZGULA_ENGINE_RECORD_LENGTH, e, f);
-    run->record = dezgula_engine_unpack(words);
+    uint64_t record[DEZGULA_ENGINE_RECORD_LENGTH];
+    dezgula_engine_pack(run->record, record);
+    uint64_t answer = dezgula_raw_engine_combine(DEZGULA_ENGINE_LENT(p, q, run, record), r, u, s, t);
+    run->record = dezgula_engine_unpack(record);
     return answer;
 }
 
-/* Goes on with the stage under way for at most `budget` turns. Answers DEZGULA_PAUSED; DEZGULA_ENGINE_STAGE; DEZGULA_COMPLETE: all equations are done, and the
- * first `count` rows of the basis are exactly the minimal solutions of the map, each once; or a refusal: before the first turn 1, 2, 3, 6 or 7, by a turn 12,
- * 14 or 31. */
+/* Begins the stage of equation e, from 0, without the unknown f, from 0; with f = q, with all unknowns. Answers DEZGULA_STARTED, or refuses with 1, 2, 4, 6,
+ * 32 or 33. Started: the record has the equation and the unknown, and the rows of the basis that have the unknown are taken out of it. */
+DEZGULA_LOOK_AT_IT static inline uint64_t dezgula_engine_take(size_t p, size_t q, dezgula_engine_run *run, size_t e, size_t f)
+{
+    uint64_t record[DEZGULA_ENGINE_RECORD_LENGTH];
+    dezgula_engine_pack(run->record, record);
+    uint64_t answer = dezgula_raw_engine_take(DEZGULA_ENGINE_LENT(p, q, run, record), e, f);
+    run->record = dezgula_engine_unpack(record);
+    return answer;
+}
+
+/* Goes on with the stage under way for at most `budget` turns. Answers DEZGULA_PAUSED; DEZGULA_COMPLETE: all equations are done, and the first `count` rows of
+ * the basis are exactly the minimal solutions of the map, each once; or a refusal: before the first turn 1, 2, 4 or 6, by a turn 12, 14 or 31. */
 DEZGULA_LOOK_AT_IT static inline uint64_t dezgula_engine_resume(size_t p, size_t q, dezgula_engine_run *run, uint64_t budget)
 {
-    uint64_t words[DEZGULA_ENGINE_RECORD_LENGTH];
-    dezgula_engine_pack(run->record, words);
-    uint64_t answer = dezgula_raw_engine_resume(
-        p, q, DEZGULA_ENGINE_TABLE(const int32_t, run, equations), DEZGULA_ENGINE_TABLE(uint32_t, run, basis), DEZGULA_ENGINE_TABLE(uint32_t, run, sizes),
-        DEZGULA_ENGINE_TABLE(uint32_t, run, table), DEZGULA_ENGINE_TABLE(int64_t, run, values), DEZGULA_ENGINE_TABLE(uint64_t, run, words),
-        DEZGULA_ENGINE_TABLE(uint32_t, run, degrees), DEZGULA_ENGINE_TABLE(uint64_t, run, marks), DEZGULA_ENGINE_TABLE(uint32_t, run, mothers), words,
-        (size_t)DEZGULA_ENGINE_RECORD_LENGTH, budget);
-    run->record = dezgula_engine_unpack(words);
+    uint64_t record[DEZGULA_ENGINE_RECORD_LENGTH];
+    dezgula_engine_pack(run->record, record);
+    uint64_t answer = dezgula_raw_engine_resume(DEZGULA_ENGINE_LENT(p, q, run, record), budget);
+    run->record = dezgula_engine_unpack(record);
     return answer;
 }
 

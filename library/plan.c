@@ -35,7 +35,7 @@ struct dezgula_solver {
 /* an equation to take: with the equations by then, and what was done to get them */
 typedef struct {
     size_t row, by;
-    int32_t times;
+    int64_t times;
 } operation;
 typedef struct {
     size_t n, id[MOST];
@@ -112,11 +112,11 @@ static bool reduce(int64_t *row, const int64_t *pivot, size_t at, size_t n)
 /* sum of by[i] * equation i is 0 and by[e] is not: makes equation e zero by row operations */
 static bool vanish(dezgula_solver *s, size_t e, const int64_t *by)
 {
-    int32_t own = (int32_t)by[e];
+    int64_t own = by[e];
     bool all = true;
     for (size_t i = 0; all && i < s->p; i++) {
         if (i == e || by[i] == 0) continue;
-        all = dezgula_engine_combine(s->p, s->q, &s->run, e, own, i, (int32_t)by[i]) == DEZGULA_ENGINE_COMBINED;
+        all = dezgula_engine_combine(s->p, s->q, &s->run, e, own, i, by[i]) == DEZGULA_STARTED;
         own = 1;
     }
     return all;
@@ -202,7 +202,7 @@ static size_t clear(system_left *l, size_t q, uint32_t used)
             int64_t times = k == r ? 0 : -l->m[k][f] * l->m[r][f];
             if (times == 0) continue;
             for (size_t i = 0; i < q; i++) l->m[k][i] += times * l->m[r][i];
-            l->done[l->operations++] = (operation){l->id[k], l->id[r], (int32_t)times};
+            l->done[l->operations++] = (operation){l->id[k], l->id[r], times};
         }
     }
     return l->n - turn;
@@ -343,17 +343,17 @@ static uint64_t take(dezgula_solver *s, size_t e, size_t f)
 {
     if (f < s->q && s->equations[e * s->q + f] == 1) {
         uint64_t answer = dezgula_engine_combine(s->p, s->q, &s->run, e, -1, e, 0);
-        if (answer != DEZGULA_ENGINE_COMBINED) return answer;
+        if (answer != DEZGULA_STARTED) return answer;
     }
     uint64_t answer = dezgula_engine_take(s->p, s->q, &s->run, e, f);
-    return answer == DEZGULA_ENGINE_TAKEN ? 0 : answer;
+    return answer == DEZGULA_STARTED ? 0 : answer;
 }
 static uint64_t take_choice(dezgula_solver *s, const choice *c)
 {
     for (size_t i = 0; i < c->left.operations; i++) {
         const operation *o = &c->left.done[i];
         uint64_t answer = dezgula_engine_combine(s->p, s->q, &s->run, o->row, 1, o->by, o->times);
-        if (answer != DEZGULA_ENGINE_COMBINED) return answer;
+        if (answer != DEZGULA_STARTED) return answer;
     }
     return take(s, c->left.id[c->e], c->fresh);
 }
@@ -429,7 +429,6 @@ static uint64_t step(dezgula_solver *s, uint64_t budget)
     }
     if (s->phase == TRYING && budget > s->limit - r->steps.count) budget = s->limit - r->steps.count;
     answer = dezgula_engine_resume(s->p, s->q, &s->run, budget);
-    if (answer == DEZGULA_ENGINE_STAGE) return DEZGULA_PAUSED;
     if (answer == DEZGULA_COMPLETE) s->phase = COMPLETE;
     if (answer == DEZGULA_ENGINE_FULL && (r->rows == s->run.words_len ? grow_table(s) : grow_basis(s, 0))) return DEZGULA_PAUSED;
     if (answer == DEZGULA_COMPONENT || answer == DEZGULA_STEPS_AT_LIMIT) {

@@ -7,17 +7,18 @@
 #include <stdbool.h>
 #include <string.h>
 
-enum { MOST = 32, DROPPERS = 256, SLOTS = 1 << 14, WORDS = 10 };
-enum { COMPLETE = 0, EQUATIONS = 1, UNKNOWNS = 2, COUNT = 3, SHORT = 4, ORDER = 6, COEFFICIENT = 7, COMPONENT = 12, STEPS = 14, FULL = 31, OPERATION = 32, FRESH = 33 };
-enum { STARTED = 100, PAUSED = 101, COMBINED = 111, TAKEN = 112, STAGE_DONE = 113 };
-#define LIMIT 1000000
+enum { MOST = 32, DROPPERS = 256, SLOT_BITS = 16, SLOTS = 1 << SLOT_BITS, CHUNK = 8 };
+enum { COMPLETE = 0, EQUATIONS = 1, UNKNOWNS = 2, COUNT = 3, SHORT = 4, ORDER = 6, COEFFICIENT = 7, COMPONENT = 12, STEPS = 14, FULL = 31 };
+enum { EQUATION_LEFT = 32, FRESH = 33, OPERATION = 34, STARTED = 100, PAUSED = 101 };
+enum { MAP_LIMIT = 10000, LIMIT = 1000000, MOST_ROWS = 1000000000 };
 #define STEP_LIMIT UINT64_C(1000000000000)
 #define GUARD UINT64_C(0x8888888888888888)
 #define NO_MARK UINT64_MAX
 #define NO_MOTHER UINT32_MAX
+#define NO_DEGREE UINT64_MAX
 
 /* the words of a record */
-enum { DONE, EQUATION, FRESH_UNKNOWN, BASIS_COUNT, ROWS, NEXT, DEGREE, UPPER, LOWER, STEP_COUNT };
+enum { DONE, EQUATION, UNKNOWN, BASIS_COUNT, ROWS, NEXT, DEGREE, UPPER, LOWER, STEP_COUNT, WORDS };
 
 typedef struct {
     size_t q, room, rows;
@@ -28,8 +29,8 @@ typedef struct {
     struct {
         uint64_t word[DROPPERS];
         uint32_t place[DROPPERS];
-        size_t n;
-    } droppers[3];
+        size_t n, turn;
+    } droppers[3]; /* by the sign of a sum: 0, above, below */
     uint32_t slots[SLOTS];
 } stage;
 
@@ -47,6 +48,7 @@ static uint32_t degree_of(const uint32_t *x, size_t q)
     for (size_t j = 0; j < q; j++) sum += x[j];
     return sum;
 }
+/* sixteen fields of four bits: the sum of components j and j + 16, at most 7 */
 static uint64_t word_of(const uint32_t *x, size_t q)
 {
     uint64_t word = 0;
@@ -56,27 +58,30 @@ static uint64_t word_of(const uint32_t *x, size_t q)
     }
     return word;
 }
+/* the word of the sum of two rows */
 static uint64_t joined(uint64_t a, uint64_t b)
 {
     uint64_t t = a + b, over = t & GUARD;
     return (t & ~GUARD) | (over - (over >> 3));
 }
+/* no field is above that of the word that `guarded` has with its guard bits set */
+static bool fits(uint64_t word, uint64_t guarded) { return ((guarded - word) & GUARD) == GUARD; }
 static bool below(const uint32_t *x, const uint32_t *y, size_t q)
 {
-    uint32_t bad = 0;
-    for (size_t j = 0; j < q; j++) bad |= x[j] > y[j];
-    return !bad;
+    uint32_t over = 0;
+    for (size_t j = 0; j < q; j++) over |= x[j] > y[j];
+    return over == 0;
 }
 static bool below_sum(const uint32_t *x, const uint32_t *s, const uint32_t *t, size_t q)
 {
-    uint32_t bad = 0;
-    for (size_t j = 0; j < q; j++) bad |= x[j] > s[j] + t[j];
-    return !bad;
+    uint32_t over = 0;
+    for (size_t j = 0; j < q; j++) over |= x[j] > s[j] + t[j];
+    return over == 0;
 }
 static uint64_t size_of(int64_t v) { return v < 0 ? (uint64_t)-v : (uint64_t)v; }
 static bool between(int64_t v, int64_t sum) { return sum < 0 ? sum <= v && v <= 0 : 0 <= v && v <= sum; }
 
-/* ---- is the sum of rows h and k reduced */
+/* ---- is a sum reduced */
 
 typedef struct {
     const uint32_t *s, *t;
@@ -85,81 +90,96 @@ typedef struct {
     unsigned sign;
 } pair;
 
+static bool reduces(const stage *g, const pair *z, size_t i) { return between(g->values[i], z->value) && below_sum(g->table + i * g->q, z->s, z->t, g->q); }
+
+/* a row that dropped a sum lately drops this one, and moves one place ahead */
 static bool dropped(stage *g, const pair *z)
 {
     const uint64_t guarded = z->word | GUARD;
     uint64_t *word = g->droppers[z->sign].word;
     uint32_t *place = g->droppers[z->sign].place;
     for (size_t i = 0, n = g->droppers[z->sign].n; i < n; i++) {
-        if (((guarded - word[i]) & GUARD) != GUARD) continue;
-        size_t at = place[i];
-        if (!between(g->values[at], z->value) || !below_sum(g->table + at * g->q, z->s, z->t, g->q)) continue;
-        if (i > 0) {
-            uint64_t w = word[i];
-            word[i] = word[i - 1], word[i - 1] = w;
-            place[i] = place[i - 1], place[i - 1] = (uint32_t)at;
-        }
+        const size_t at = place[i];
+        if (!fits(word[i], guarded) || !reduces(g, z, at)) continue;
+        if (i == 0) return true;
+        uint64_t w = word[i];
+        word[i] = word[i - 1], word[i - 1] = w;
+        place[i] = place[i - 1], place[i - 1] = (uint32_t)at;
         return true;
     }
     return false;
 }
-static size_t slot(uint64_t word) { return (size_t)(word * UINT64_C(0x9E3779B97F4A7C15) >> 50); }
-static bool known(stage *g, const pair *z)
+/* a new one comes last, and where there is no more room in the second half in turn: there it does not push out the one before it */
+static void remember(stage *g, unsigned sign, size_t i)
 {
-    size_t at = g->slots[slot(z->word)];
-    return at < g->rows && g->words[at] == z->word && between(g->values[at], z->value) && below_sum(g->table + at * g->q, z->s, z->t, g->q);
+    size_t at = g->droppers[sign].n;
+    if (at < DROPPERS) g->droppers[sign].n++;
+    else at = DROPPERS / 2 + g->droppers[sign].turn++ % (DROPPERS / 2);
+    g->droppers[sign].word[at] = g->words[i];
+    g->droppers[sign].place[at] = (uint32_t)i;
 }
+static size_t slot(uint64_t word, int64_t value)
+{
+    return (size_t)((word * UINT64_C(0x9E3779B97F4A7C15) ^ (uint64_t)value * UINT64_C(0xC2B2AE3D27D4EB4F)) >> (64 - SLOT_BITS));
+}
+/* the last row with that hash: most often the same sum, found before */
+static bool known(const stage *g, const pair *z)
+{
+    size_t i = g->slots[slot(z->word, z->value)];
+    return i < g->rows && g->words[i] == z->word && reduces(g, z, i);
+}
+/* only this says no; chunks have no branch for each word */
 static bool scanned(stage *g, const pair *z)
 {
     const uint64_t guarded = z->word | GUARD, *words = g->words;
-    for (size_t i = 0, n = g->rows; i < n; i++) {
-        if (((guarded - words[i]) & GUARD) != GUARD) continue;
-        if (!between(g->values[i], z->value) || !below_sum(g->table + i * g->q, z->s, z->t, g->q)) continue;
-        size_t *many = &g->droppers[z->sign].n;
-        if (*many < DROPPERS) ++*many;
-        g->droppers[z->sign].word[*many - 1] = words[i];
-        g->droppers[z->sign].place[*many - 1] = (uint32_t)i;
-        return true;
+    const size_t n = g->rows;
+    for (size_t i = 0, end; i < n; i = end) {
+        bool any = n - i < CHUNK;
+        end = any ? n : i + CHUNK;
+        if (!any)
+            for (size_t k = 0; k < CHUNK; k++) any |= fits(words[i + k], guarded);
+        for (size_t k = i; any && k < end; k++) {
+            if (!fits(words[k], guarded) || !reduces(g, z, k)) continue;
+            remember(g, z->sign, k);
+            return true;
+        }
     }
     return false;
 }
 
-/* ---- one turn */
+/* ---- a row more: 0, or the refusal */
 
-static void put(stage *g, uint32_t degree, int64_t value, uint64_t word, uint64_t mark, uint32_t mother)
+static void put(stage *g, uint64_t degree, int64_t value, uint64_t word, uint64_t mark, uint32_t mother)
 {
     g->values[g->rows] = value;
     g->words[g->rows] = word;
-    g->degrees[g->rows] = degree;
+    g->degrees[g->rows] = (uint32_t)degree;
     g->marks[g->rows] = mark;
     g->mothers[g->rows] = mother;
-    g->slots[slot(word)] = (uint32_t)g->rows;
+    g->slots[slot(word, value)] = (uint32_t)g->rows;
     g->rows++;
 }
-/* 0, or the refusal */
-static uint64_t add_row(stage *g, const uint32_t *x, uint32_t degree)
+static uint64_t add_row(stage *g, const uint32_t *x, uint64_t degree)
 {
     if (g->rows == g->room) return FULL;
     memcpy(g->table + g->rows * g->q, x, g->q * sizeof *x);
     put(g, degree, value_of(g->c, x, g->q), word_of(x, g->q), NO_MARK, NO_MOTHER);
     return 0;
 }
-static uint64_t add_sum(stage *g, size_t h, size_t k, uint32_t degree, const pair *z)
+static uint64_t add_sum(stage *g, size_t h, size_t k, uint64_t degree, const pair *z)
 {
-    uint32_t most = 0;
-    for (size_t j = 0; j < g->q; j++) {
-        uint32_t sum = z->s[j] + z->t[j];
-        most = sum > most ? sum : most;
-    }
-    if (most > LIMIT) return COMPONENT;
+    uint32_t over = 0;
+    for (size_t j = 0; j < g->q; j++) over |= z->s[j] + z->t[j] > LIMIT;
+    if (over != 0) return COMPONENT;
     if (g->rows == g->room) return FULL;
     uint32_t *to = g->table + g->rows * g->q;
     for (size_t j = 0; j < g->q; j++) to[j] = z->s[j] + z->t[j];
-    uint64_t mark = z->value == 0 ? NO_MARK : z->value > 0 ? size_of(g->values[h]) : size_of(g->values[k]);
-    put(g, degree, z->value, z->word, mark, z->value == 0 ? NO_MOTHER : z->value > 0 ? (uint32_t)k : (uint32_t)h);
+    if (z->value == 0) put(g, degree, 0, z->word, NO_MARK, NO_MOTHER);
+    else if (z->value > 0) put(g, degree, z->value, z->word, size_of(g->values[h]), (uint32_t)k);
+    else put(g, degree, z->value, z->word, size_of(g->values[k]), (uint32_t)h);
     return 0;
 }
-static uint64_t look(stage *g, size_t h, size_t k, uint32_t degree)
+static uint64_t look(stage *g, size_t h, size_t k, uint64_t degree)
 {
     pair z = {g->table + h * g->q, g->table + k * g->q, joined(g->words[h], g->words[k]), g->values[h] + g->values[k], 0};
     z.sign = z.value == 0 ? 0 : z.value > 0 ? 1 : 2;
@@ -167,93 +187,99 @@ static uint64_t look(stage *g, size_t h, size_t k, uint32_t degree)
     return add_sum(g, h, k, degree, &z);
 }
 
-/* ---- turns until the budget is used up or the stage ends */
+/* ---- turns: COMPLETE where there are no more of a kind, PAUSED where the budget is used up, or the refusal */
 
 typedef struct {
-    const uint32_t *basis, *sizes;
+    uint32_t *basis, *sizes;
     uint64_t *record;
     uint64_t budget;
+    size_t room;
 } walk;
 
-/* PAUSED: the budget is used up; COMPLETE: there are no more rows of the basis of this degree */
+static uint64_t stop(const walk *w) { return w->budget == 0 ? PAUSED : w->record[STEP_COUNT] == STEP_LIMIT ? STEPS : 0; }
+static void turned(const stage *g, walk *w)
+{
+    w->record[ROWS] = g->rows;
+    w->record[STEP_COUNT]++;
+    w->budget--;
+}
 static uint64_t rows_of_degree(stage *g, walk *w)
 {
-    uint64_t *r = w->record;
+    uint64_t *r = w->record, answer = 0;
     for (size_t i = r[NEXT]; i < r[BASIS_COUNT]; i++) {
         if (w->sizes[i] != r[DEGREE]) continue;
-        if (w->budget == 0) return PAUSED;
-        if (r[STEP_COUNT] == STEP_LIMIT) return STEPS;
-        uint64_t refused = add_row(g, w->basis + i * g->q, (uint32_t)r[DEGREE]);
-        if (refused) return refused;
-        r[NEXT] = i + 1, r[ROWS] = g->rows, r[STEP_COUNT]++, w->budget--;
+        answer = stop(w);
+        if (answer == 0) answer = add_row(g, w->basis + i * g->q, r[DEGREE]);
+        if (answer != 0) return answer;
+        r[NEXT] = i + 1;
+        turned(g, w);
+    }
+    return COMPLETE;
+}
+/* row h with rows first .. past - 1 of the other degree */
+static uint64_t pairs_of_row(stage *g, walk *w, size_t h, size_t first, size_t past)
+{
+    uint64_t *r = w->record, answer;
+    const uint64_t up = (uint64_t)g->values[h], mark = g->marks[h];
+    for (size_t k = first; k < past; k++) {
+        if (g->values[k] >= 0) continue;
+        answer = stop(w);
+        if (answer == 0 && (uint64_t)-g->values[k] < mark && up < g->marks[k]) answer = look(g, h, k, r[DEGREE]);
+        if (answer != 0) return answer;
+        r[UPPER] = h, r[LOWER] = k + 1;
+        turned(g, w);
     }
     return COMPLETE;
 }
 static uint64_t pairs_of_degree(stage *g, walk *w)
 {
-    uint64_t *r = w->record;
-    const uint32_t degree = (uint32_t)r[DEGREE];
+    uint64_t *r = w->record, answer = COMPLETE, last = NO_DEGREE;
     const size_t rows = g->rows; /* rows of this degree are in no pair of it */
     size_t past = rows, first = rows;
-    uint32_t last = UINT32_MAX;
-    for (size_t h = r[UPPER], k = r[LOWER]; h < rows && g->degrees[h] < degree; h++, k = 0) {
+    for (size_t h = r[UPPER], from = r[LOWER]; answer == COMPLETE && h < rows && g->degrees[h] < r[DEGREE]; h++, from = 0) {
         if (g->values[h] <= 0) continue;
-        uint32_t other = degree - g->degrees[h];
+        const uint64_t other = r[DEGREE] - g->degrees[h];
         if (other != last) {
             while (past > 0 && g->degrees[past - 1] > other) past--;
             for (first = past; first > 0 && g->degrees[first - 1] == other;) first--;
             last = other;
         }
-        const int64_t up = g->values[h];
-        const uint64_t mark = g->marks[h];
-        for (k = k > first ? k : first; k < past; k++) {
-            const int64_t down = g->values[k];
-            if (down >= 0) continue;
-            if (w->budget == 0) return PAUSED;
-            if (r[STEP_COUNT] == STEP_LIMIT) return STEPS;
-            if ((uint64_t)-down < mark && (uint64_t)up < g->marks[k]) {
-                uint64_t refused = look(g, h, k, degree);
-                if (refused) return refused;
-            }
-            r[UPPER] = h, r[LOWER] = k + 1, r[ROWS] = g->rows, r[STEP_COUNT]++, w->budget--;
-        }
+        answer = pairs_of_row(g, w, h, from > first ? from : first, past);
     }
-    return COMPLETE;
+    return answer;
 }
-/* the least degree above the present one of a row of the basis or of a pair; 0 where there is none */
-static uint32_t next_degree(const stage *g, const walk *w)
+/* the least degree above the present one of a row of the basis or of a pair */
+static uint64_t next_degree(const stage *g, const walk *w)
 {
-    const uint32_t degree = (uint32_t)w->record[DEGREE];
-    uint32_t least = UINT32_MAX;
+    const uint64_t degree = w->record[DEGREE];
+    uint64_t least = NO_DEGREE;
     for (size_t i = 0; i < w->record[BASIS_COUNT]; i++)
         if (w->sizes[i] > degree && w->sizes[i] < least) least = w->sizes[i];
-    size_t past = g->rows, low = g->rows;
-    for (size_t h = 0; h < g->rows; h++) {
+    for (size_t h = 0, past = g->rows, low = g->rows; h < g->rows; h++) {
         if (g->values[h] <= 0) continue;
-        /* low: the first row of value < 0 at which the degrees add up to more than the present one */
-        while (past > 0 && g->degrees[h] + g->degrees[past - 1] > degree) {
-            past--;
-            if (g->values[past] < 0) low = past;
-        }
-        if (low < g->rows && g->degrees[h] + g->degrees[low] < least) least = g->degrees[h] + g->degrees[low];
+        /* low: the first row of a value below 0 from which on the degrees add up to more than the present one */
+        for (; past > 0 && (uint64_t)g->degrees[h] + g->degrees[past - 1] > degree; past--)
+            if (g->values[past - 1] < 0) low = past - 1;
+        if (low < g->rows && (uint64_t)g->degrees[h] + g->degrees[low] < least) least = (uint64_t)g->degrees[h] + g->degrees[low];
     }
-    return least == UINT32_MAX ? 0 : least;
+    return least;
 }
-static uint64_t end_stage(stage *g, walk *w, uint32_t *basis, size_t room)
+static bool stays(const stage *g, size_t i, size_t f) { return f < g->q ? g->values[i] >= 0 : g->values[i] == 0; }
+static uint64_t end_stage(const stage *g, walk *w)
 {
     uint64_t *r = w->record;
-    const size_t q = g->q, f = r[FRESH_UNKNOWN];
+    const size_t q = g->q, f = r[UNKNOWN];
     size_t many = 0;
     for (size_t i = 0; i < g->rows; i++) {
         if (f < q && g->values[i] > LIMIT) return COMPONENT;
-        many += f < q ? g->values[i] >= 0 : g->values[i] == 0;
+        many += stays(g, i, f);
     }
-    if (many > room) return FULL;
+    if (many > w->room) return FULL;
     many = 0;
     for (size_t i = 0; i < g->rows; i++) {
-        if (f < q ? g->values[i] < 0 : g->values[i] != 0) continue;
-        memcpy(basis + many * q, g->table + i * q, q * sizeof *basis);
-        if (f < q) basis[many * q + f] = (uint32_t)g->values[i];
+        if (!stays(g, i, f)) continue;
+        memcpy(w->basis + many * q, g->table + i * q, q * sizeof *w->basis);
+        if (f < q) w->basis[many * q + f] = (uint32_t)g->values[i];
         many++;
     }
     r[DONE] |= UINT64_C(1) << r[EQUATION];
@@ -261,162 +287,168 @@ static uint64_t end_stage(stage *g, walk *w, uint32_t *basis, size_t room)
     return COMPLETE;
 }
 
-/* ---- the calls */
+/* ---- what is lent */
 
-static uint64_t checked_size(size_t p, size_t q, size_t equations_len)
-{
-    if (p < 1 || p > MOST) return EQUATIONS;
-    if (q < 1 || q > MOST) return UNKNOWNS;
-    if (equations_len != p * q) return COUNT;
-    return 0;
-}
-static uint64_t checked_coefficients(const int32_t *c, size_t n)
-{
-    for (size_t i = 0; i < n; i++)
-        if (c[i] < -LIMIT || c[i] > LIMIT) return COEFFICIENT + 256 * (uint64_t)(i + 1);
-    return 0;
-}
-static bool in_order(size_t p, size_t q, const uint64_t *r)
-{
-    if (r[DONE] >> p != 0 || r[EQUATION] > p || r[FRESH_UNKNOWN] > q) return false;
-    if (r[EQUATION] < p && r[DONE] >> r[EQUATION] & 1) return false;
-    if (r[NEXT] > r[BASIS_COUNT] || r[UPPER] > r[ROWS] || r[LOWER] > r[ROWS] || r[DEGREE] > 2 * MOST * LIMIT || r[STEP_COUNT] > STEP_LIMIT) return false;
-    return r[EQUATION] < p || (r[FRESH_UNKNOWN] == q && r[ROWS] == 0 && r[NEXT] == 0 && r[DEGREE] == 0 && r[UPPER] == 0 && r[LOWER] == 0);
-}
+typedef struct {
+    size_t p, q, most, room; /* room in the basis and in the table */
+    int32_t *equations;
+    uint32_t *basis, *sizes, *table, *degrees, *mothers;
+    int64_t *values;
+    uint64_t *words, *marks, *record;
+} lent;
+
+static size_t least(size_t a, size_t b) { return a < b ? a : b; }
 static bool small(const uint32_t *x, size_t n)
 {
-    uint32_t bad = 0;
-    for (size_t i = 0; i < n; i++) bad |= x[i] > LIMIT;
-    return !bad;
+    uint32_t over = 0;
+    for (size_t i = 0; i < n; i++) over |= x[i] > LIMIT;
+    return over == 0;
 }
+/* no degree is 0, or below the one before, or above the present one */
+static bool rising(const lent *l)
+{
+    uint32_t last = 1;
+    for (size_t i = 0; i < l->record[ROWS]; i++) {
+        uint32_t degree = degree_of(l->table + i * l->q, l->q);
+        if (degree < last || degree > l->record[DEGREE]) return false;
+        last = degree;
+    }
+    return true;
+}
+static bool in_order(const lent *l)
+{
+    const uint64_t *r = l->record;
+    if (r[BASIS_COUNT] > l->most || r[ROWS] > l->room || r[STEP_COUNT] > STEP_LIMIT || r[DONE] >> l->p != 0 || r[EQUATION] > l->p) return false;
+    if (r[EQUATION] < l->p && r[DONE] >> r[EQUATION] & 1) return false;
+    for (size_t i = 0; i < l->p * l->q; i++)
+        if (l->equations[i] < -LIMIT || l->equations[i] > LIMIT) return false;
+    return small(l->basis, r[BASIS_COUNT] * l->q) && small(l->table, r[ROWS] * l->q) && rising(l);
+}
+static uint64_t checked_size(size_t p, size_t q) { return p < 1 || p > MOST ? EQUATIONS : q < 1 || q > MOST ? UNKNOWNS : 0; }
 
 uint64_t twin_engine_start(size_t p, size_t q, const int32_t *coefs, size_t coefs_len, int32_t *equations, size_t equations_len, uint32_t *basis,
                            size_t basis_len, uint32_t *sizes, size_t sizes_len, uint64_t *record, size_t record_len)
 {
     (void)sizes;
-    uint64_t refused = checked_size(p, q, coefs_len);
+    uint64_t refused = checked_size(p, q);
     if (refused) return refused;
-    if (equations_len != p * q) return COUNT;
-    if (basis_len / q < q || sizes_len < q) return SHORT;
+    if (coefs_len != p * q) return COUNT;
+    if (equations_len < p * q || basis_len / q < q || sizes_len < q) return SHORT;
     if (record_len != WORDS) return ORDER;
-    refused = checked_coefficients(coefs, p * q);
-    if (refused) return refused;
+    for (size_t i = 0; i < p * q; i++)
+        if (coefs[i] < -MAP_LIMIT || coefs[i] > MAP_LIMIT) return COEFFICIENT + 256 * (uint64_t)(i + 1);
     memcpy(equations, coefs, p * q * sizeof *coefs);
     memset(basis, 0, q * q * sizeof *basis);
     for (size_t i = 0; i < q; i++) basis[i * q + i] = 1;
     memset(record, 0, WORDS * sizeof *record);
-    record[EQUATION] = p, record[FRESH_UNKNOWN] = q, record[BASIS_COUNT] = q;
+    record[EQUATION] = p, record[UNKNOWN] = q, record[BASIS_COUNT] = q;
     return STARTED;
 }
 
-uint64_t twin_engine_combine(size_t p, size_t q, int32_t *equations, size_t equations_len, uint64_t *record, size_t record_len, size_t r, int32_t u, size_t s,
-                             int32_t t)
+#define LENT \
+    size_t p, size_t q, int32_t *equations, size_t equations_len, uint32_t *basis, size_t basis_len, uint32_t *sizes, size_t sizes_len, uint32_t *table, \
+        size_t table_len, int64_t *values, size_t values_len, uint64_t *words, size_t words_len, uint32_t *degrees, size_t degrees_len, uint64_t *marks, \
+        size_t marks_len, uint32_t *mothers, size_t mothers_len, uint64_t *record, size_t record_len
+
+/* what every call on a run begins with: the checks, in their order, and what is lent */
+#define CHECKED(l) \
+    uint64_t refused = checked_size(p, q); \
+    if (refused) return refused; \
+    const lent l = {p, q, least(least(basis_len / q, sizes_len), MOST_ROWS), \
+                    least(least(least(least(table_len / q, values_len), least(words_len, degrees_len)), least(marks_len, mothers_len)), MOST_ROWS), \
+                    equations, basis, sizes, table, degrees, mothers, values, words, marks, record}; \
+    if (equations_len < p * q || l.most < q) return SHORT; \
+    if (record_len != WORDS || !in_order(&l)) return ORDER
+
+static bool is_left(const lent *l, size_t e) { return l->record[EQUATION] == l->p && e < l->p && !(l->record[DONE] >> e & 1); }
+static void begin(uint64_t *r, size_t e, size_t f)
 {
-    uint64_t refused = checked_size(p, q, equations_len);
-    if (refused) return refused;
-    if (record_len != WORDS || !in_order(p, q, record)) return ORDER;
-    refused = checked_coefficients(equations, p * q);
-    if (refused) return refused;
-    if (r >= p || s >= p || u == 0 || (r == s && t != 0) || record[EQUATION] != p || record[DONE] >> r & 1) return OPERATION;
+    r[EQUATION] = e, r[UNKNOWN] = f;
+    r[ROWS] = r[NEXT] = r[DEGREE] = r[UPPER] = r[LOWER] = 0;
+}
+
+uint64_t twin_engine_combine(LENT, size_t r, int64_t u, size_t s, int64_t t)
+{
+    CHECKED(l);
+    if (!is_left(&l, r) || s >= p) return EQUATION_LEFT;
+    if (u == 0 || (r == s && t != 0)) return OPERATION;
+    int64_t sums[MOST];
     for (size_t j = 0; j < q; j++) {
-        int64_t c = (int64_t)u * equations[r * q + j] + (int64_t)t * equations[s * q + j];
-        if (c < -LIMIT || c > LIMIT) return COEFFICIENT + 256 * (uint64_t)(r * q + j + 1);
+        int64_t a, b;
+        bool over = __builtin_mul_overflow(u, (int64_t)equations[r * q + j], &a) | __builtin_mul_overflow(t, (int64_t)equations[s * q + j], &b);
+        over |= __builtin_add_overflow(a, b, &sums[j]);
+        if (over || sums[j] < -LIMIT || sums[j] > LIMIT) return OPERATION;
     }
-    for (size_t j = 0; j < q; j++) equations[r * q + j] = (int32_t)((int64_t)u * equations[r * q + j] + (int64_t)t * equations[s * q + j]);
-    return COMBINED;
+    for (size_t j = 0; j < q; j++) equations[r * q + j] = (int32_t)sums[j];
+    return STARTED;
 }
 
-uint64_t twin_engine_take(size_t p, size_t q, const int32_t *equations, size_t equations_len, uint32_t *basis, size_t basis_len, uint64_t *record,
-                          size_t record_len, size_t e, size_t f)
+static bool is_fresh(const lent *l, size_t e, size_t f)
 {
-    uint64_t refused = checked_size(p, q, equations_len);
-    if (refused) return refused;
-    if (record_len != WORDS || !in_order(p, q, record) || record[BASIS_COUNT] > basis_len / q) return ORDER;
-    refused = checked_coefficients(equations, p * q);
-    if (refused) return refused;
-    if (e >= p || record[EQUATION] != p || record[DONE] >> e & 1) return OPERATION;
-    if (f > q) return FRESH;
-    if (f < q) {
-        if (equations[e * q + f] != -1) return FRESH;
-        for (size_t i = 0; i < p; i++)
-            if (record[DONE] >> i & 1 && equations[i * q + f] != 0) return FRESH;
-        size_t many = 0;
-        for (size_t i = 0; i < record[BASIS_COUNT]; i++)
-            if (basis[i * q + f] == 0) memmove(basis + many++ * q, basis + i * q, q * sizeof *basis);
-        record[BASIS_COUNT] = many;
-    }
-    record[EQUATION] = e, record[FRESH_UNKNOWN] = f;
-    return TAKEN;
+    if (f >= l->q || l->equations[e * l->q + f] != -1) return false;
+    for (size_t i = 0; i < l->p; i++)
+        if (l->record[DONE] >> i & 1 && l->equations[i * l->q + f] != 0) return false;
+    return true;
+}
+uint64_t twin_engine_take(LENT, size_t e, size_t f)
+{
+    CHECKED(l);
+    if (!is_left(&l, e)) return EQUATION_LEFT;
+    if (f != q && !is_fresh(&l, e, f)) return FRESH;
+    size_t many = 0;
+    for (size_t i = 0; f < q && i < record[BASIS_COUNT]; i++)
+        if (basis[i * q + f] == 0) memmove(basis + many++ * q, basis + i * q, q * sizeof *basis);
+    if (f < q) record[BASIS_COUNT] = many;
+    begin(record, e, f);
+    return STARTED;
 }
 
-/* what is kept beside the rows, written anew; false where the rows are out of order */
-static bool prepare(stage *g, const walk *w, uint32_t *sizes)
+/* what is kept beside the rows, written anew */
+static void prepare(stage *g, const lent *l)
 {
-    const uint64_t *r = w->record;
-    const size_t q = g->q;
-    if (!small(w->basis, r[BASIS_COUNT] * q) || !small(g->table, r[ROWS] * q)) return false;
-    for (size_t i = 0; i < r[BASIS_COUNT]; i++) sizes[i] = degree_of(w->basis + i * q, q);
-    uint32_t last = 0;
-    for (size_t i = 0; i < r[ROWS]; i++) {
+    const size_t q = l->q, rows = l->record[ROWS];
+    *g = (stage){.q = q, .room = l->room, .rows = rows, .c = l->equations + l->record[EQUATION] * q, .table = l->table, .degrees = l->degrees,
+                 .mothers = l->mothers, .values = l->values, .words = l->words, .marks = l->marks};
+    memset(g->slots, 0xff, sizeof g->slots);
+    for (size_t i = 0; i < l->record[BASIS_COUNT]; i++) l->sizes[i] = degree_of(l->basis + i * q, q);
+    for (size_t i = 0; i < rows; i++) {
         const uint32_t *x = g->table + i * q;
         g->values[i] = value_of(g->c, x, q);
         g->words[i] = word_of(x, q);
         g->degrees[i] = degree_of(x, q);
-        if (g->degrees[i] < last) return false;
-        last = g->degrees[i];
+        g->slots[slot(g->words[i], g->values[i])] = (uint32_t)i;
     }
-    if (last > r[DEGREE]) return false;
-    memset(g->slots, 0xff, sizeof g->slots);
-    for (size_t i = 0; i < r[ROWS]; i++) {
-        size_t m = g->mothers[i];
+    for (size_t i = 0; i < rows; i++) {
+        const size_t m = g->mothers[i];
         g->marks[i] = NO_MARK;
-        g->slots[slot(g->words[i])] = (uint32_t)i;
-        if (m >= r[ROWS]) continue;
-        int64_t v = g->values[i], o = g->values[m];
-        bool opposite = (v > 0 && o < 0) || (v < 0 && o > 0);
-        if (opposite && below(g->table + m * q, g->table + i * q, q)) g->marks[i] = size_of(v) + size_of(o);
+        if (m >= rows) continue;
+        const int64_t v = g->values[i], o = g->values[m];
+        if (((v > 0 && o < 0) || (v < 0 && o > 0)) && below(g->table + m * q, g->table + i * q, q)) g->marks[i] = size_of(v) + size_of(o);
     }
-    g->rows = r[ROWS];
-    for (int s = 0; s < 3; s++) g->droppers[s].n = 0;
-    return true;
 }
-static size_t least(size_t a, size_t b) { return a < b ? a : b; }
+static uint64_t rested(size_t p, const uint64_t *r) { return r[DONE] == (UINT64_C(1) << p) - 1 ? COMPLETE : PAUSED; }
 
-uint64_t twin_engine_resume(size_t p, size_t q, const int32_t *equations, size_t equations_len, uint32_t *basis, size_t basis_len, uint32_t *sizes,
-                            size_t sizes_len, uint32_t *table, size_t table_len, int64_t *values, size_t values_len, uint64_t *words, size_t words_len,
-                            uint32_t *degrees, size_t degrees_len, uint64_t *marks, size_t marks_len, uint32_t *mothers, size_t mothers_len,
-                            uint64_t *record, size_t record_len, uint64_t budget)
+uint64_t twin_engine_resume(LENT, uint64_t budget)
 {
-    uint64_t refused = checked_size(p, q, equations_len);
-    if (refused) return refused;
-    size_t room = least(least(least(table_len / q, values_len), least(words_len, degrees_len)), least(marks_len, mothers_len));
-    size_t basis_room = least(basis_len / q, sizes_len);
-    room = least(room, UINT32_MAX - 1), basis_room = least(basis_room, UINT32_MAX - 1);
-    if (record_len != WORDS || !in_order(p, q, record) || record[BASIS_COUNT] > basis_room || record[ROWS] > room) return ORDER;
-    refused = checked_coefficients(equations, p * q);
-    if (refused) return refused;
-    if (record[EQUATION] == p) return record[DONE] == (UINT64_C(1) << p) - 1 ? COMPLETE : STAGE_DONE;
-    static stage g;
-    g.q = q, g.room = room, g.c = equations + record[EQUATION] * q;
-    g.table = table, g.values = values, g.words = words, g.degrees = degrees, g.marks = marks, g.mothers = mothers;
-    walk w = {basis, sizes, record, budget};
-    if (!prepare(&g, &w, sizes)) return ORDER;
+    CHECKED(l);
+    if (record[EQUATION] == p) return rested(p, record);
+    static _Thread_local stage g;
+    walk w = {basis, sizes, record, budget, l.most};
+    prepare(&g, &l);
     for (;;) {
         uint64_t answer = rows_of_degree(&g, &w);
         if (answer == COMPLETE) answer = pairs_of_degree(&g, &w);
-        if (answer != COMPLETE) return answer;
-        if (w.budget == 0) return PAUSED;
-        if (record[STEP_COUNT] == STEP_LIMIT) return STEPS;
-        uint32_t next = next_degree(&g, &w);
-        if (next == 0) break;
+        if (answer == COMPLETE) answer = stop(&w);
+        if (answer != 0) return answer;
+        uint64_t next = next_degree(&g, &w);
+        if (next == NO_DEGREE) break;
         record[DEGREE] = next;
         record[NEXT] = record[UPPER] = record[LOWER] = 0;
-        record[STEP_COUNT]++, w.budget--;
+        turned(&g, &w);
     }
-    refused = end_stage(&g, &w, basis, basis_room);
+    refused = end_stage(&g, &w);
     if (refused) return refused;
     record[STEP_COUNT]++;
-    record[EQUATION] = p, record[FRESH_UNKNOWN] = q;
-    record[ROWS] = record[NEXT] = record[DEGREE] = record[UPPER] = record[LOWER] = 0;
-    return record[DONE] == (UINT64_C(1) << p) - 1 ? COMPLETE : STAGE_DONE;
+    begin(record, p, q);
+    return rested(p, record);
 }
