@@ -7,7 +7,7 @@
 #include <stdbool.h>
 #include <string.h>
 
-enum { MOST = 32, DROPPERS = 256, SLOT_BITS = 16, SLOTS = 1 << SLOT_BITS, CHUNK = 8 };
+enum { MOST = 32, DROPPERS = 512, SLOT_BITS = 16, SLOTS = 1 << SLOT_BITS, CHUNK = 8, AHEAD = 32 };
 enum { COMPLETE = 0, EQUATIONS = 1, UNKNOWNS = 2, COUNT = 3, SHORT = 4, ORDER = 6, COEFFICIENT = 7, COMPONENT = 12, STEPS = 14, FULL = 31 };
 enum { EQUATION_LEFT = 32, FRESH = 33, OPERATION = 34, STARTED = 100, PAUSED = 101 };
 enum { MAP_LIMIT = 10000, LIMIT = 1000000, MOST_ROWS = 1000000000 };
@@ -30,7 +30,7 @@ typedef struct {
         uint64_t word[DROPPERS];
         uint32_t place[DROPPERS];
         size_t n, turn;
-    } droppers[3]; /* by the sign of a sum: 0, above, below */
+    } droppers[3]; /* by the sign of a sum: 0, above, below; words past the n-th hold anything */
     uint32_t slots[SLOTS];
 } stage;
 
@@ -92,19 +92,29 @@ typedef struct {
 
 static bool reduces(const stage *g, const pair *z, size_t i) { return between(g->values[i], z->value) && below_sum(g->table + i * g->q, z->s, z->t, g->q); }
 
-/* a row that dropped a sum lately drops this one, and moves one place ahead */
+/* whether one of a chunk of words may be below: no branch for each */
+static bool some_fit(const uint64_t *words, uint64_t guarded)
+{
+    bool any = false;
+    for (size_t k = 0; k < CHUNK; k++) any |= fits(words[k], guarded);
+    return any;
+}
+/* a row that dropped a sum lately drops this one, and moves half the way ahead; past the first ones, chunks are looked at as a whole */
 static bool dropped(stage *g, const pair *z)
 {
     const uint64_t guarded = z->word | GUARD;
     uint64_t *word = g->droppers[z->sign].word;
     uint32_t *place = g->droppers[z->sign].place;
     for (size_t i = 0, n = g->droppers[z->sign].n; i < n; i++) {
-        const size_t at = place[i];
+        if (i >= AHEAD && i % CHUNK == 0 && !some_fit(word + i, guarded)) {
+            i += CHUNK - 1;
+            continue;
+        }
+        const size_t at = place[i], to = i / 2;
         if (!fits(word[i], guarded) || !reduces(g, z, at)) continue;
-        if (i == 0) return true;
         uint64_t w = word[i];
-        word[i] = word[i - 1], word[i - 1] = w;
-        place[i] = place[i - 1], place[i - 1] = (uint32_t)at;
+        word[i] = word[to], word[to] = w;
+        place[i] = place[to], place[to] = (uint32_t)at;
         return true;
     }
     return false;
@@ -136,8 +146,7 @@ static bool scanned(stage *g, const pair *z)
     for (size_t i = 0, end; i < n; i = end) {
         bool any = n - i < CHUNK;
         end = any ? n : i + CHUNK;
-        if (!any)
-            for (size_t k = 0; k < CHUNK; k++) any |= fits(words[i + k], guarded);
+        if (!any) any = some_fit(words + i, guarded);
         for (size_t k = i; any && k < end; k++) {
             if (!fits(words[k], guarded) || !reduces(g, z, k)) continue;
             remember(g, z->sign, k);
@@ -216,20 +225,26 @@ static uint64_t rows_of_degree(stage *g, walk *w)
     }
     return COMPLETE;
 }
-/* row h with rows first .. past - 1 of the other degree */
+/* row h with rows first .. past - 1 of the other degree; the record is written when the row is done with, or the call stops */
 static uint64_t pairs_of_row(stage *g, walk *w, size_t h, size_t first, size_t past)
 {
-    uint64_t *r = w->record, answer;
-    const uint64_t up = (uint64_t)g->values[h], mark = g->marks[h];
+    uint64_t *r = w->record, answer = COMPLETE;
+    const uint64_t up = (uint64_t)g->values[h], mark = g->marks[h], most = STEP_LIMIT - r[STEP_COUNT];
+    const uint64_t all = w->budget < most ? w->budget : most;
+    uint64_t left = all;
     for (size_t k = first; k < past; k++) {
         if (g->values[k] >= 0) continue;
-        answer = stop(w);
-        if (answer == 0 && (uint64_t)-g->values[k] < mark && up < g->marks[k]) answer = look(g, h, k, r[DEGREE]);
-        if (answer != 0) return answer;
-        r[UPPER] = h, r[LOWER] = k + 1;
-        turned(g, w);
+        if (left == 0) answer = w->budget == all ? PAUSED : STEPS;
+        else if ((uint64_t)-g->values[k] < mark && up < g->marks[k]) answer = look(g, h, k, r[DEGREE]);
+        if (answer != COMPLETE) break;
+        left--;
+        r[LOWER] = k + 1;
     }
-    return COMPLETE;
+    if (left < all) r[UPPER] = h;
+    r[ROWS] = g->rows;
+    r[STEP_COUNT] += all - left;
+    w->budget -= all - left;
+    return answer;
 }
 static uint64_t pairs_of_degree(stage *g, walk *w)
 {
@@ -407,8 +422,9 @@ uint64_t twin_engine_take(LENT, size_t e, size_t f)
 static void prepare(stage *g, const lent *l)
 {
     const size_t q = l->q, rows = l->record[ROWS];
-    *g = (stage){.q = q, .room = l->room, .rows = rows, .c = l->equations + l->record[EQUATION] * q, .table = l->table, .degrees = l->degrees,
-                 .mothers = l->mothers, .values = l->values, .words = l->words, .marks = l->marks};
+    g->q = q, g->room = l->room, g->rows = rows, g->c = l->equations + l->record[EQUATION] * q;
+    g->table = l->table, g->degrees = l->degrees, g->mothers = l->mothers, g->values = l->values, g->words = l->words, g->marks = l->marks;
+    for (size_t i = 0; i < 3; i++) g->droppers[i].n = g->droppers[i].turn = 0;
     memset(g->slots, 0xff, sizeof g->slots);
     for (size_t i = 0; i < l->record[BASIS_COUNT]; i++) l->sizes[i] = degree_of(l->basis + i * q, q);
     for (size_t i = 0; i < rows; i++) {
