@@ -1,22 +1,25 @@
 /* The solver over the engine's calls: which equation is next, which row operations and which fresh unknown, and tables that grow. See dezgula_engine.h.
  *
- * The order of the equations decides how long a map takes, and no rule is best for all. So one rule is followed up to the last equation, then the other, as far
- * as it promises to be cheaper, and the last stage is done after the better one. Neither may take more turns than the round allows; where both would, the next
- * round allows more. Row operations make each equation, as far as it goes, the only one with some unknown of coefficient 1 or -1.
+ * The order of the equations decides how long a map takes, and no rule is best for all. So one rule after the other is followed up to the last equation, as far
+ * as it promises to be cheaper, and the last stage is done after the best one. None may take more turns than the round allows; where all would, the next
+ * round allows more.
  *
  * Decided here: an equation that is a combination of others is made zero at the start by the row operations that tell it, and taken while the basis is small; where
  * the coefficients on the way would be too large, it is taken last, when all rows have the value 0 in it. Tables are grown twofold by realloc, and never before
- * the engine has said that they are full. A try that is refused (a component above 1,000,000) does not end the run where the other rule is left. */
+ * the engine has said that they are full. A try that is refused (a component above 1,000,000) does not end the run where another rule is left. */
 #include "dezgula_engine.h"
 
+#include <math.h>
 #include <stdbool.h>
 #include <stdlib.h>
 #include <string.h>
 #include <time.h>
 
 enum { MOST = DEZGULA_ENGINE_MOST, COEFFICIENTS = DEZGULA_ENGINE_COEFFICIENTS, RECORD = DEZGULA_ENGINE_RECORD_LENGTH };
-enum { FIRST_ROWS = 64, FIRST_ROUND = 100000, ROUND_TIMES = 8, SOON = 20000, FIRST_PACE = 20000, CLEAR_LIMIT = 100000 };
-enum { EQUAL = 2, LAST_EQUAL = 3, LAST_STAGE = 8, WEIGHT = 16 }; /* measured: a stage without a fresh unknown, and the last one, cost so many times their first pairs */
+enum { AS_IS, UNITS, RULES };
+enum { FIRST_ROWS = 64, FIRST_ROUND = 30000, ROUND_TIMES = 8, SOON = 20000, FIRST_PACE = 20000, CLEAR_LIMIT = 100000, ABOVE_TURNS = 300, ABOVE_MOST = 200 };
+/* measured: a stage without a fresh unknown, and the last one, cost so many times their first pairs */
+enum { EQUAL = 2, LAST_EQUAL = 3, LAST_STAGE = 8, WEIGHT = 16 };
 enum { TRYING, LAST, COMPLETE };
 static const double NEVER = 1e300;
 
@@ -27,16 +30,17 @@ struct dezgula_solver {
     uint32_t *kept; /* the basis of the try that is kept while the other goes on */
     size_t kept_len, most;
     dezgula_engine_record kept_record;
-    uint64_t phase, rule, failed, late; /* failed: bit by rule; late: bit by equation, combinations that are taken last */
-    uint64_t round, limit, promised;    /* turns: of this round; that this try may take; that the kept one promises to take, UINT64_MAX where none is kept */
-    uint64_t past, pace;                /* turns of tries given up; those that take about 50 ms */
+    uint64_t phase, rule, kept_rule, over, late; /* over: bit by rule, it got to the last stage or was refused; late: bit by equation, taken last */
+    uint64_t round, limit, promised; /* turns: of this round; that this try may take; that the kept one promises to take, UINT64_MAX where none is kept */
+    uint64_t tried[RULES];           /* the turns that each rule was given */
+    uint64_t past, pace;             /* turns of tries given up; those that take about 50 ms */
 };
 
 /* an equation to take: with the equations by then, and what was done to get them */
 typedef struct {
     size_t row, by;
     int64_t times;
-} operation;
+} operation; /* equation `row` and `times` equation `by` in its place */
 typedef struct {
     size_t n, id[MOST];
     int64_t m[MOST][MOST];
@@ -109,8 +113,8 @@ static bool reduce(int64_t *row, const int64_t *pivot, size_t at, size_t n)
     for (size_t j = 0; all > 1 && j < n; j++) row[j] /= all;
     return true;
 }
-/* sum of by[i] * equation i is 0 and by[e] is not: makes equation e zero by row operations */
-static bool vanish(dezgula_solver *s, size_t e, const int64_t *by)
+/* the sum of by[i] * equation i in the place of equation e, where by[e] is not 0; false where a coefficient on the way is too large */
+static bool replace(dezgula_solver *s, size_t e, const int64_t *by)
 {
     int64_t own = by[e];
     bool all = true;
@@ -137,8 +141,61 @@ static void find_combinations(dezgula_solver *s)
         while (j < s->q && m[e][j] == 0) j++;
         if (!small) continue;
         if (j < s->q) pivot[pivots] = e, at[pivots++] = j;
-        else if (!vanish(s, e, m[e] + MOST)) s->late |= UINT64_C(1) << e;
+        else if (!replace(s, e, m[e] + MOST)) s->late |= UINT64_C(1) << e;
     }
+}
+
+/* ---- maps without a solution */
+
+/* whether all coefficients of the sum of by[i] * equation i are above 0: then 0 is the only solution */
+static bool all_above(const dezgula_solver *s, const int64_t *by)
+{
+    for (size_t j = 0; j < s->q; j++) {
+        int64_t sum = 0;
+        for (size_t i = 0; i < s->p; i++) sum += by[i] * s->equations[i * s->q + j];
+        if (sum <= 0) return false;
+    }
+    return true;
+}
+/* the column that the sum of y[i] * equation i is furthest below in, by its size; q where it is above 0 in all */
+static size_t furthest(const dezgula_solver *s, const double *y, const double *sizes)
+{
+    size_t at = s->q;
+    double low = 1e-9;
+    for (size_t j = 0; j < s->q; j++) {
+        double sum = 0;
+        for (size_t i = 0; i < s->p; i++) sum += y[i] * s->equations[i * s->q + j];
+        if (sum / sizes[j] < low) low = sum / sizes[j], at = j;
+    }
+    return at;
+}
+/* looks for such a sum: adds that column as long as there is one, and tries the multipliers in small whole numbers */
+static bool find_above(const dezgula_solver *s, int64_t *by)
+{
+    double y[MOST] = {0}, sizes[MOST] = {0}, most = 0;
+    for (size_t k = 0; k < s->p * s->q; k++) sizes[k % s->q] += fabs((double)s->equations[k]);
+    for (size_t j = 0; j < s->q; j++)
+        if (sizes[j] == 0) return false; /* an unknown that no equation mentions is a solution */
+    for (int turn = 0; turn < ABOVE_TURNS; turn++) {
+        size_t at = furthest(s, y, sizes);
+        if (at == s->q) break;
+        for (size_t i = 0; i < s->p; i++) y[i] += s->equations[i * s->q + at] / sizes[at];
+    }
+    for (size_t i = 0; i < s->p; i++) most = fabs(y[i]) > most ? fabs(y[i]) : most;
+    for (int k = 1; most > 0 && k <= ABOVE_MOST; k++) {
+        for (size_t i = 0; i < s->p; i++) by[i] = (int64_t)(y[i] * k / most + (y[i] < 0 ? -0.5 : 0.5));
+        if (all_above(s, by)) return true;
+    }
+    return false;
+}
+/* puts the sum in the place of an equation that is in it: its stage leaves no row */
+static void find_infeasible(dezgula_solver *s)
+{
+    int64_t by[MOST];
+    size_t e = 0;
+    if (!find_above(s, by)) return;
+    while (by[e] == 0) e++;
+    (void)!replace(s, e, by);
 }
 
 /* ---- which equation is next */
@@ -263,14 +320,14 @@ static void choose_of(const dezgula_solver *s, const system_left *l, uint32_t us
         if (l != &best->left) best->left = *l;
     }
 }
-/* rule 0: the equations as they are, the fewest pairs. Rule 1: as they are or cleared, and each later equation that would have no fresh unknown counts */
+/* Rule AS_IS: the equations as they are, the fewest pairs. Rule UNITS: as they are or cleared, and each later equation that would have no fresh unknown counts */
 static void choose(const dezgula_solver *s, choice *best)
 {
     const uint32_t used = mentioned(s);
     best->shown = best->cost = NEVER;
     best->e = 0, best->fresh = s->q;
     find_left(s, &best->left);
-    if (s->rule == 0 || best->left.n < 2) {
+    if (s->rule == AS_IS || best->left.n < 2) {
         choose_of(s, &best->left, used, 1, best);
         return;
     }
@@ -288,7 +345,7 @@ static uint64_t begin(dezgula_solver *s, uint64_t rule, uint64_t limit)
     s->past += s->run.record.steps.count;
     s->rule = rule, s->limit = limit, s->phase = TRYING;
     uint64_t answer = dezgula_engine_start(&map, &s->run);
-    if (answer == DEZGULA_STARTED) find_combinations(s);
+    if (answer == DEZGULA_STARTED) find_combinations(s), find_infeasible(s);
     return answer;
 }
 static bool keep(dezgula_solver *s, uint64_t promised)
@@ -298,7 +355,7 @@ static bool keep(dezgula_solver *s, uint64_t promised)
     if (kept == NULL) return false;
     memcpy(kept, s->run.basis, n * sizeof *kept);
     free(s->kept);
-    s->kept = kept, s->kept_len = n, s->promised = promised;
+    s->kept = kept, s->kept_len = n, s->promised = promised, s->kept_rule = s->rule;
     s->kept_record = s->run.record;
     memcpy(s->kept_equations, s->equations, sizeof s->equations);
     return true;
@@ -311,30 +368,42 @@ static void give_back(dezgula_solver *s)
     memcpy(s->equations, s->kept_equations, sizeof s->equations);
     s->past -= s->kept_record.steps.count;
     s->run.record = s->kept_record;
-    s->rule = 1 - s->rule, s->phase = LAST;
+    s->rule = s->kept_rule, s->phase = LAST;
 }
-/* this try takes too long, or was refused: 0, or the answer where no try is left */
+/* the next try: a rule that is left and has had fewer turns than are allowed now; or back to the kept one. 0, or the answer where nothing is left */
+static uint64_t next_try(dezgula_solver *s, uint64_t refusal)
+{
+    for (;;) {
+        const uint64_t allowed = s->promised != UINT64_MAX ? s->promised : s->round;
+        for (uint64_t i = 1; i <= RULES; i++) {
+            uint64_t rule = (s->rule + i) % RULES;
+            if (s->over >> rule & 1 || s->tried[rule] >= allowed) continue;
+            s->tried[rule] = allowed;
+            return begin(s, rule, allowed) == DEZGULA_STARTED ? 0 : DEZGULA_ENGINE_FULL;
+        }
+        if (s->promised != UINT64_MAX) return give_back(s), 0;
+        if (s->over == (UINT64_C(1) << RULES) - 1) return refusal;
+        s->round = s->round > UINT64_MAX / ROUND_TIMES ? UINT64_MAX - 1 : s->round * ROUND_TIMES;
+    }
+}
+/* this try was refused (a component above 1,000,000, or steps at their limit): the rule is over */
 static uint64_t give_up(dezgula_solver *s, uint64_t refusal)
 {
-    if (refusal != 0) s->failed |= UINT64_C(1) << s->rule;
-    if (s->promised != UINT64_MAX && s->phase == TRYING) return give_back(s), 0;
-    if (s->failed == 3) return refusal;
-    uint64_t other = 1 - s->rule;
-    bool over = s->failed >> other & 1;
-    if (refusal == 0 && (other == 0 || over)) s->round *= ROUND_TIMES;
-    s->promised = UINT64_MAX;
-    return begin(s, over ? s->rule : other, s->failed != 0 ? UINT64_MAX : s->round) == DEZGULA_STARTED ? 0 : DEZGULA_ENGINE_FULL;
+    s->over |= UINT64_C(1) << s->rule;
+    if (s->phase == LAST) s->promised = UINT64_MAX;
+    return next_try(s, refusal);
 }
-/* all but the last equation are done: tries the other rule first, where that may pay. true where this order is gone on with */
-static bool settled(dezgula_solver *s, double cost)
+/* all but the last equation are done: true where this order is gone on with, and not kept while others are tried; *answer is then 0 */
+static bool settled(dezgula_solver *s, double cost, uint64_t *answer)
 {
     double all = (double)s->run.record.steps.count + LAST_STAGE * cost;
     uint64_t promised = all < 1e18 ? (uint64_t)all : UINT64_C(1000000000000000000);
-    bool other = s->promised != UINT64_MAX || s->failed != 0 || promised <= SOON || (s->limit == s->round && s->rule == 1 && promised <= s->round);
-    if (other && promised <= s->promised) return true;
-    if (s->promised != UINT64_MAX) return give_back(s), false;
-    if (!keep(s, promised)) return true;
-    return begin(s, 1 - s->rule, promised) != DEZGULA_STARTED;
+    *answer = 0;
+    s->over |= UINT64_C(1) << s->rule;
+    if (promised <= SOON && promised <= s->promised) return true;
+    if (promised < s->promised && !keep(s, promised)) return true;
+    *answer = next_try(s, 0);
+    return false;
 }
 
 /* ---- the next stage */
@@ -377,10 +446,11 @@ static uint64_t next_stage(dezgula_solver *s)
     choice c;
     choose(s, &c);
     if (s->phase == TRYING && c.left.n == 1) {
-        if (!settled(s, c.cost)) return 0;
+        uint64_t answer;
+        if (!settled(s, c.cost, &answer)) return answer;
         s->phase = LAST;
     }
-    if (s->phase == TRYING && (double)s->run.record.steps.count + c.cost > (double)s->limit) return give_up(s, 0);
+    if (s->phase == TRYING && (double)s->run.record.steps.count + c.cost > (double)s->limit) return next_try(s, 0);
     return take_choice(s, &c);
 }
 
@@ -407,7 +477,8 @@ dezgula_solver *dezgula_solver_new(const dezgula_system *system, uint64_t *answe
     *answer = DEZGULA_ENGINE_FULL;
     if (s != NULL && grow_basis(s, q) && grow_table(s)) {
         memcpy(s->coefs, system->coefs, p * q * sizeof *s->coefs);
-        *answer = begin(s, 0, s->round);
+        s->tried[AS_IS] = s->round;
+        *answer = begin(s, AS_IS, s->round);
     }
     if (*answer == DEZGULA_STARTED) return s;
     dezgula_solver_free(s);
@@ -424,7 +495,7 @@ static uint64_t step(dezgula_solver *s, uint64_t budget)
         return answer == 0 ? (uint64_t)DEZGULA_PAUSED : answer;
     }
     if (s->phase == TRYING && r->steps.count >= s->limit) {
-        answer = give_up(s, 0);
+        answer = next_try(s, 0);
         return answer == 0 ? (uint64_t)DEZGULA_PAUSED : answer;
     }
     if (s->phase == TRYING && budget > s->limit - r->steps.count) budget = s->limit - r->steps.count;
@@ -485,20 +556,23 @@ void dezgula_solver_free(dezgula_solver *s)
 
 /* ---- a solver as words: a sign, the sizes, the numbers, the three systems, and the rows of the tables */
 
-enum { SIGN = 0x445A4731, NUMBERS = 9 + 2 * RECORD };
+enum { SIGN = 0x445A4731, OWN = 10 + RULES, NUMBERS = OWN + 2 * RECORD };
 
 static void numbers_of(const dezgula_solver *s, uint64_t n[NUMBERS])
 {
-    const uint64_t own[9] = {s->phase, s->rule, s->failed, s->late, s->round, s->limit, s->promised, s->past, s->pace};
+    const uint64_t own[10] = {s->phase, s->rule, s->kept_rule, s->over, s->late, s->round, s->limit, s->promised, s->past, s->pace};
     memcpy(n, own, sizeof own);
-    dezgula_engine_pack(s->run.record, n + 9);
-    dezgula_engine_pack(s->kept_record, n + 9 + RECORD);
+    memcpy(n + 10, s->tried, sizeof s->tried);
+    dezgula_engine_pack(s->run.record, n + OWN);
+    dezgula_engine_pack(s->kept_record, n + OWN + RECORD);
 }
 static void set_numbers(dezgula_solver *s, const uint64_t n[NUMBERS])
 {
-    s->phase = n[0], s->rule = n[1], s->failed = n[2], s->late = n[3], s->round = n[4], s->limit = n[5], s->promised = n[6], s->past = n[7], s->pace = n[8];
-    s->run.record = dezgula_engine_unpack(n + 9);
-    s->kept_record = dezgula_engine_unpack(n + 9 + RECORD);
+    s->phase = n[0], s->rule = n[1], s->kept_rule = n[2], s->over = n[3], s->late = n[4];
+    s->round = n[5], s->limit = n[6], s->promised = n[7], s->past = n[8], s->pace = n[9];
+    memcpy(s->tried, n + 10, sizeof s->tried);
+    s->run.record = dezgula_engine_unpack(n + OWN);
+    s->kept_record = dezgula_engine_unpack(n + OWN + RECORD);
 }
 static size_t fixed_words(size_t p, size_t q) { return 3 + 2 * NUMBERS + 3 * p * q; }
 
@@ -531,7 +605,7 @@ static bool right_numbers(const dezgula_solver *s, size_t length)
 {
     const dezgula_engine_record *r = &s->run.record, *k = &s->kept_record;
     const size_t most = length / s->q;
-    if (s->phase > COMPLETE || s->rule > 1 || s->failed > 3 || s->late >> s->p != 0 || s->round == 0 || s->pace == 0) return false;
+    if (s->phase > COMPLETE || s->rule >= RULES || s->kept_rule >= RULES || s->over >> RULES != 0 || s->late >> s->p != 0 || s->round == 0 || s->pace == 0) return false;
     if (r->count > most || r->rows > most || r->equation > s->p || (s->promised != UINT64_MAX && k->count > most)) return false;
     return s->phase != COMPLETE || (r->equation == s->p && r->done == (s->p < 32 ? (UINT32_C(1) << s->p) - 1 : UINT32_MAX));
 }
