@@ -1,8 +1,8 @@
 /* Dezgula: the whole basis of a map of up to 32 equations and 32 unknowns, one stage an equation, each stage by rising degree.
  *
- * Two ways to use it. The solver (dezgula_solver_new and the calls after it) does everything by itself: it chooses the order of the equations, grows its tables,
- * and works as long as it is let. The engine's own calls (dezgula_engine_start, _combine, _take, _resume) are what it goes by: they are proved, work in lent
- * tables, and trust nothing that they are lent. No promise depends on the solver: it only says which of these calls is next.
+ * Two ways to use it. The solver (dezgula_solver_new and the calls after it) does everything by itself: it chooses the order of the equations, grows its
+ * tables, and works as long as it is let. The engine's own calls (dezgula_engine_start, _combine, _take, _resume) are what it goes by: they are proved, work
+ * in lent tables, and trust nothing that they are lent. No promise depends on the solver: it only says which of these calls is next.
  *
  * The degree of a row is the sum of its components. Between two stages the basis has exactly the minimal solutions of the equations done; at first none is
  * done and its rows are the unit tuples. A stage takes one equation more. Its table gets, by rising degree, the rows of the basis and the sums of pairs of rows
@@ -33,11 +33,12 @@ extern "C" {
 #define DEZGULA_ENGINE_MOST 32 /* equations, and unknowns */
 #define DEZGULA_ENGINE_COEFFICIENTS (DEZGULA_ENGINE_MOST * DEZGULA_ENGINE_MOST)
 
-/* The answers are those of dezgula.h: a start, a row operation and a taken equation answer DEZGULA_STARTED; a resume answers DEZGULA_COMPLETE, or DEZGULA_PAUSED:
- * the budget is used up, or the stage is at its end and record.equation is p, so that the next equation can be taken. Refused, with nothing changed: 1, p is
- * outside 1 to 32; 2, q is outside 1 to 32; 3, the coefficients are not p * q; 4, the working system has room for fewer than p * q numbers, or the basis
- * for fewer than q rows; 6, the record or the rows are out of order; 7, a coefficient of the map is outside -10,000 to 10,000 (with its place); 32; 33; 34.
- * Refused by a turn, with all as after the last whole turn: 12, a row that is needed has a component above 1,000,000; 14, the steps are at their limit; 31. */
+/* The answers are those of dezgula.h: a start, a row operation and a taken equation answer DEZGULA_STARTED; a resume answers DEZGULA_COMPLETE, or
+ * DEZGULA_PAUSED: the budget is used up, or the stage is at its end and record.equation is p, so that the next equation can be taken.
+ * Refused, with nothing changed: 1, p is outside 1 to 32; 2, q is outside 1 to 32; 3, the coefficients are not p * q; 4, the working system has room for fewer
+ * than p * q numbers, or the basis for fewer than q rows; 6, the record or the rows are out of order; 7, a coefficient of the map is outside -10,000 to
+ * 10,000 (with its place); 32; 33; 34. Refused by a turn, with all as after the last whole turn: 12, a row that is needed has a component above
+ * 1,000,000; 14, the steps are at their limit; 31. */
 enum {
     DEZGULA_ENGINE_FULL = 31,     /* there is no room for a row that is needed: with longer tables and the same rows the run goes on */
     DEZGULA_ENGINE_EQUATION = 32, /* no such equation is left, or a stage is under way */
@@ -96,8 +97,8 @@ typedef struct {
     dezgula_engine_record record;
 } dezgula_engine_run;
 
-/* ---- the exported functions. The record is its words, in the order of its fields; another number of words is refused with 6. A pointer is never NULL, not even
- * with length 0, and is aligned for what it points to. */
+/* ---- the exported functions. The record is its words, in the order of its fields; another number of words is refused with 6, by a start after 4 and before 7.
+ * A pointer is never NULL, not even with length 0, and is aligned for what it points to. */
 
 enum { DEZGULA_ENGINE_RECORD_LENGTH = 10 };
 
@@ -170,8 +171,8 @@ DEZGULA_LOOK_AT_IT static inline uint64_t dezgula_engine_start(const dezgula_sys
 #define DEZGULA_ENGINE_LENT(p, q, run, record_words) \
     (p), (q), DEZGULA_ENGINE_TABLE(int32_t, run, equations), DEZGULA_ENGINE_TABLE(uint32_t, run, basis), DEZGULA_ENGINE_TABLE(uint32_t, run, sizes), \
         DEZGULA_ENGINE_TABLE(uint32_t, run, table), DEZGULA_ENGINE_TABLE(int64_t, run, values), DEZGULA_ENGINE_TABLE(uint64_t, run, words), \
-        DEZGULA_ENGINE_TABLE(uint32_t, run, degrees), DEZGULA_ENGINE_TABLE(uint64_t, run, marks), DEZGULA_ENGINE_TABLE(uint32_t, run, mothers), (record_words), \
-        (size_t)DEZGULA_ENGINE_RECORD_LENGTH
+        DEZGULA_ENGINE_TABLE(uint32_t, run, degrees), DEZGULA_ENGINE_TABLE(uint64_t, run, marks), DEZGULA_ENGINE_TABLE(uint32_t, run, mothers), \
+        (record_words), (size_t)DEZGULA_ENGINE_RECORD_LENGTH
 
 /* A row operation: equation r becomes u times itself plus t times equation s, both from 0. Equation r is not done, no stage is under way, u is not 0, and r is
  * not s unless t is 0. Answers DEZGULA_STARTED, or refuses with 1, 2, 4, 6, 32 or 34. Writes nothing but equation r. */

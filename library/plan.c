@@ -4,9 +4,10 @@
  * as it promises to be cheaper, and the last stage is done after the best one. None may take more turns than the round allows; where all would, the next
  * round allows more.
  *
- * Decided here: an equation that is a combination of others is made zero at the start by the row operations that tell it, and taken while the basis is small; where
- * the coefficients on the way would be too large, it is taken last, when all rows have the value 0 in it. Tables are grown twofold by realloc, and never before
- * the engine has said that they are full. A try that is refused (a component above 1,000,000) does not end the run where another rule is left. */
+ * Decided here: an equation that is a combination of others is made zero at the start by the row operations that tell it, and taken while the basis is small;
+ * where the coefficients on the way would be too large, it is taken last, when all rows have the value 0 in it. Where a sum of equations has only
+ * coefficients above 0, it is taken first: there is no solution but 0. Tables are grown twofold by realloc, and never before the engine has said that
+ * they are full. A try that is refused (a component above 1,000,000) does not end the run where another rule is left. */
 #include "dezgula_engine.h"
 
 #include <math.h>
@@ -17,7 +18,8 @@
 
 enum { MOST = DEZGULA_ENGINE_MOST, COEFFICIENTS = DEZGULA_ENGINE_COEFFICIENTS, RECORD = DEZGULA_ENGINE_RECORD_LENGTH };
 enum { AS_IS, UNITS, RULES };
-enum { FIRST_ROWS = 64, FIRST_ROUND = 30000, ROUND_TIMES = 8, SOON = 20000, FIRST_PACE = 20000, CLEAR_LIMIT = 100000, ABOVE_TURNS = 300, ABOVE_MOST = 200 };
+enum { FIRST_ROWS = 64, FIRST_ROUND = 30000, ROUND_TIMES = 8, SOON = 20000, FIRST_PACE = 20000, CLEAR_LIMIT = 100000 };
+enum { ABOVE_WORK = 300000, ABOVE_TURNS = 5000, ABOVE_MOST = 200 }; /* how long a sum of equations above 0 is looked for, and its largest multiplier */
 /* measured: a stage without a fresh unknown, and the last one, cost so many times their first pairs */
 enum { EQUAL = 2, LAST_EQUAL = 3, LAST_STAGE = 8, WEIGHT = 16 };
 enum { TRYING, LAST, COMPLETE };
@@ -176,7 +178,7 @@ static bool find_above(const dezgula_solver *s, int64_t *by)
     for (size_t k = 0; k < s->p * s->q; k++) sizes[k % s->q] += fabs((double)s->equations[k]);
     for (size_t j = 0; j < s->q; j++)
         if (sizes[j] == 0) return false; /* an unknown that no equation mentions is a solution */
-    for (int turn = 0; turn < ABOVE_TURNS; turn++) {
+    for (size_t turn = 0; turn < ABOVE_TURNS && turn * s->p * s->q < ABOVE_WORK; turn++) {
         size_t at = furthest(s, y, sizes);
         if (at == s->q) break;
         for (size_t i = 0; i < s->p; i++) y[i] += s->equations[i * s->q + at] / sizes[at];
@@ -320,7 +322,8 @@ static void choose_of(const dezgula_solver *s, const system_left *l, uint32_t us
         if (l != &best->left) best->left = *l;
     }
 }
-/* Rule AS_IS: the equations as they are, the fewest pairs. Rule UNITS: as they are or cleared, and each later equation that would have no fresh unknown counts */
+/* Rule AS_IS: the equations as they are, the fewest pairs. Rule UNITS: as they are or cleared, and each later equation that would have no fresh unknown
+ * counts */
 static void choose(const dezgula_solver *s, choice *best)
 {
     const uint32_t used = mentioned(s);
@@ -605,7 +608,8 @@ static bool right_numbers(const dezgula_solver *s, size_t length)
 {
     const dezgula_engine_record *r = &s->run.record, *k = &s->kept_record;
     const size_t most = length / s->q;
-    if (s->phase > COMPLETE || s->rule >= RULES || s->kept_rule >= RULES || s->over >> RULES != 0 || s->late >> s->p != 0 || s->round == 0 || s->pace == 0) return false;
+    if (s->phase > COMPLETE || s->rule >= RULES || s->kept_rule >= RULES || s->over >> RULES != 0 || s->late >> s->p != 0) return false;
+    if (s->round == 0 || s->pace == 0) return false;
     if (r->count > most || r->rows > most || r->equation > s->p || (s->promised != UINT64_MAX && k->count > most)) return false;
     return s->phase != COMPLETE || (r->equation == s->p && r->done == (s->p < 32 ? (UINT32_C(1) << s->p) - 1 : UINT32_MAX));
 }

@@ -99,7 +99,8 @@ static uint64_t both(lent *w, const call *c)
     calls++;
     answers[dezgula_number(answer)]++;
     if (same) return answer;
-    fprintf(stderr, "compare: call %" PRIu64 " of kind %d, %zu x %zu: answers %" PRIu64 " and %" PRIu64 ", or other rows\n", calls, c->kind, w->p, w->q, answer, other);
+    fprintf(stderr, "compare: call %" PRIu64 " of kind %d, %zu x %zu: answers %" PRIu64 " and %" PRIu64 ", or other rows\n", calls, c->kind, w->p, w->q, answer,
+            other);
     exit(1);
 }
 
@@ -146,7 +147,8 @@ static void damage(lent *w)
 static void draw_call(const lent *w, call *c)
 {
     static const int64_t times[8] = {0, 1, -1, 2, -3, INT64_MAX, INT64_MIN, 1000000};
-    *c = (call){.kind = 1 + (int)draw(3), .r = draw(w->p + 2), .s = draw((w->p > w->q ? w->p : w->q) + 2), .u = times[draw(8)], .t = times[draw(8)], .budget = draw(30)};
+    const size_t most = w->p > w->q ? w->p : w->q;
+    *c = (call){.kind = 1 + (int)draw(3), .r = draw(w->p + 2), .s = draw(most + 2), .u = times[draw(8)], .t = times[draw(8)], .budget = draw(30)};
 }
 /* the next equation that is left, with a fresh unknown where there is one and the draw says so */
 static void draw_take(const lent *w, call *c)
@@ -228,7 +230,8 @@ static void one_run(void)
     for (size_t turns = 0; turns < 200; turns++) {
         if (draw(3) == 0) aside(&mine);
         if (mine.record[P_EQUATION] < mine.p) c = (call){.kind = 3, .budget = budget};
-        else if (draw(4) == 0) c = (call){.kind = 1, .r = draw(mine.p), .s = draw(mine.p), .u = draw(2) ? -1 : 1 + (int64_t)draw(2), .t = (int64_t)draw(5) - 2};
+        else if (draw(4) == 0)
+            c = (call){.kind = 1, .r = draw(mine.p), .s = draw(mine.p), .u = draw(2) ? -1 : 1 + (int64_t)draw(2), .t = (int64_t)draw(5) - 2};
         else draw_take(&mine, &c);
         uint64_t answer = both(&mine, &c);
         if (answer == DEZGULA_COMPLETE) {

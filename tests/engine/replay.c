@@ -1,5 +1,6 @@
 /* Replays vectors of calls (model.py) through the engine's functions: replay < VECTORS. Each call gets tables of exactly the lengths given, each in an
- * allocation of its own, so that a sanitizer sees a step past the end; the calls' own space is filled with what can mislead. Status 1 at the first difference. */
+ * allocation of its own, so that a sanitizer sees a step past the end; the calls' own space is filled with what can mislead. Status 1 at the first
+ * difference. */
 #include "dezgula_engine.h"
 
 #include <inttypes.h>
@@ -84,7 +85,8 @@ static bool replay(const vector *v, int fill)
 #define LENT \
     c[1], c[2], equations, l[EQUATIONS].n, basis, l[BASIS].n, sizes, b[0], rows, l[TABLE].n, values, b[1], words, b[2], degrees, b[3], marks, b[4], mothers, \
         l[MOTHERS].n, record, l[RECORD].n
-    if (c[0] == 0) answer = dezgula_raw_engine_start(c[1], c[2], coefs, v->coefs.n, equations, l[EQUATIONS].n, basis, l[BASIS].n, sizes, b[0], record, l[RECORD].n);
+    if (c[0] == 0)
+        answer = dezgula_raw_engine_start(c[1], c[2], coefs, v->coefs.n, equations, l[EQUATIONS].n, basis, l[BASIS].n, sizes, b[0], record, l[RECORD].n);
     else if (c[0] == 1) answer = dezgula_raw_engine_combine(LENT, c[3], (int64_t)c[4], c[5], (int64_t)c[6]);
     else if (c[0] == 2) answer = dezgula_raw_engine_take(LENT, c[3], c[4]);
     else answer = dezgula_raw_engine_resume(LENT, c[3]);
