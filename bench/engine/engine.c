@@ -17,6 +17,8 @@ enum { MAP_LIMIT = 10000, LIMIT = 1000000, MOST_ROWS = 1000000000 };
 #define NO_MOTHER UINT32_MAX
 #define NO_DEGREE UINT64_MAX
 
+__extension__ typedef __int128 wide;
+
 /* the words of a record */
 enum { DONE, EQUATION, UNKNOWN, BASIS_COUNT, ROWS, NEXT, DEGREE, UPPER, LOWER, STEP_COUNT, WORDS };
 
@@ -387,14 +389,13 @@ uint64_t twin_engine_combine(LENT, size_t r, int64_t u, size_t s, int64_t t)
     CHECKED(l);
     if (!is_left(&l, r) || s >= p) return EQUATION_LEFT;
     if (u == 0 || (r == s && t != 0)) return OPERATION;
-    int64_t sums[MOST];
+    int32_t sums[MOST];
     for (size_t j = 0; j < q; j++) {
-        int64_t a, b;
-        bool over = __builtin_mul_overflow(u, (int64_t)equations[r * q + j], &a) | __builtin_mul_overflow(t, (int64_t)equations[s * q + j], &b);
-        over |= __builtin_add_overflow(a, b, &sums[j]);
-        if (over || sums[j] < -LIMIT || sums[j] > LIMIT) return OPERATION;
+        wide sum = (wide)u * equations[r * q + j] + (wide)t * equations[s * q + j];
+        if (sum < -LIMIT || sum > LIMIT) return OPERATION;
+        sums[j] = (int32_t)sum;
     }
-    for (size_t j = 0; j < q; j++) equations[r * q + j] = (int32_t)sums[j];
+    memcpy(equations + r * q, sums, q * sizeof *sums);
     return STARTED;
 }
 

@@ -361,6 +361,10 @@ class Drawn:
             for e, f in ((0, 1), (1, 2)):
                 self.call(2, 2, 3, w, [e, f])
                 self.call(3, 2, 3, w, [100])
+        for u, t in ((2**63 - 1, -(2**63) + 1), (-(2**63), -(2**63)), (2**62, -(2**62) + 1), (2**63 - 1, 1)):
+            w = self.lent(2, 2, 6)
+            self.call(0, 2, 2, w, [], [3, -3, 3, -3])
+            self.call(1, 2, 2, w, [0, u, 1, t])
         for before in range(4):
             w = self.lent(1, 2, 6)
             self.call(0, 1, 2, w, [], [1, -1])

@@ -19,24 +19,24 @@ enum { P_DONE, P_EQUATION, P_FRESH, P_COUNT, P_ROWS, P_TAKEN, P_DEGREE, P_UPPER,
 enum { P_LIMIT = 1000000, P_PAUSED = 101, P_STARTED = 100 };
 #define P_STEP_LIMIT UINT64_C(1000000000000)
 
-static int64_t plain_value(const plain *w, const uint32_t *x)
+static inline int64_t plain_value(const plain *w, const uint32_t *x)
 {
     int64_t sum = 0;
     for (size_t j = 0; j < w->q; j++) sum += (int64_t)w->equations[w->record[P_EQUATION] * w->q + j] * x[j];
     return sum;
 }
-static uint64_t plain_degree(const plain *w, const uint32_t *x)
+static inline uint64_t plain_degree(const plain *w, const uint32_t *x)
 {
     uint64_t sum = 0;
     for (size_t j = 0; j < w->q; j++) sum += x[j];
     return sum;
 }
-static const uint32_t *plain_row(const plain *w, size_t i) { return w->table + i * w->q; }
+static inline const uint32_t *plain_row(const plain *w, size_t i) { return w->table + i * w->q; }
 
 /* ---- refusals */
 
-static uint64_t plain_size(size_t p, size_t q) { return p < 1 || p > 32 ? 1 : q < 1 || q > 32 ? 2 : 0; }
-static bool plain_in_order(const plain *w)
+static inline uint64_t plain_size(size_t p, size_t q) { return p < 1 || p > 32 ? 1 : q < 1 || q > 32 ? 2 : 0; }
+static inline bool plain_in_order(const plain *w)
 {
     const uint64_t *r = w->record;
     if (r[P_COUNT] > w->most || r[P_ROWS] > w->room || r[P_STEPS] > P_STEP_LIMIT || r[P_DONE] >= UINT64_C(1) << w->p || r[P_EQUATION] > w->p) return false;
@@ -53,18 +53,18 @@ static bool plain_in_order(const plain *w)
     }
     return true;
 }
-static uint64_t plain_standing(const plain *w)
+static inline uint64_t plain_standing(const plain *w)
 {
     uint64_t refused = plain_size(w->p, w->q);
     if (refused) return refused;
     if (w->equations_len < w->p * w->q || w->most < w->q) return 4;
     return w->record_len != P_WORDS || !plain_in_order(w) ? 6 : 0;
 }
-static bool plain_left(const plain *w, size_t e) { return w->record[P_EQUATION] == w->p && e < w->p && !(w->record[P_DONE] >> e & 1); }
+static inline bool plain_left(const plain *w, size_t e) { return w->record[P_EQUATION] == w->p && e < w->p && !(w->record[P_DONE] >> e & 1); }
 
 /* ---- turns */
 
-static bool plain_reduced(const plain *w, const uint32_t *z)
+static inline bool plain_reduced(const plain *w, const uint32_t *z)
 {
     int64_t v = plain_value(w, z);
     for (size_t i = 0; i < w->record[P_ROWS]; i++) {
@@ -75,19 +75,19 @@ static bool plain_reduced(const plain *w, const uint32_t *z)
     }
     return false;
 }
-static uint64_t plain_append(const plain *w, const uint32_t *x)
+static inline uint64_t plain_append(const plain *w, const uint32_t *x)
 {
     if (w->record[P_ROWS] == w->room) return 31;
     memcpy(w->table + w->record[P_ROWS]++ * w->q, x, w->q * sizeof *x);
     return 0;
 }
-static bool plain_due(const plain *w, size_t h, size_t k)
+static inline bool plain_due(const plain *w, size_t h, size_t k)
 {
     return plain_value(w, plain_row(w, h)) > 0 && plain_value(w, plain_row(w, k)) < 0
         && plain_degree(w, plain_row(w, h)) + plain_degree(w, plain_row(w, k)) == w->record[P_DEGREE];
 }
 /* the next pair of the degree; false where there is none */
-static bool plain_pair(const plain *w, size_t *h, size_t *k)
+static inline bool plain_pair(const plain *w, size_t *h, size_t *k)
 {
     const uint64_t *r = w->record;
     for (*h = r[P_UPPER]; *h < r[P_ROWS]; ++*h) {
@@ -97,7 +97,7 @@ static bool plain_pair(const plain *w, size_t *h, size_t *k)
     }
     return false;
 }
-static uint64_t plain_look(const plain *w, size_t h, size_t k)
+static inline uint64_t plain_look(const plain *w, size_t h, size_t k)
 {
     uint32_t z[32];
     bool large = false;
@@ -110,7 +110,7 @@ static uint64_t plain_look(const plain *w, size_t h, size_t k)
     return 0;
 }
 /* 0 where there is none */
-static uint64_t plain_next(const plain *w)
+static inline uint64_t plain_next(const plain *w)
 {
     const uint64_t *r = w->record;
     uint64_t least = 0;
@@ -125,8 +125,8 @@ static uint64_t plain_next(const plain *w)
         }
     return least;
 }
-static uint64_t plain_rested(const plain *w) { return w->record[P_DONE] == (UINT64_C(1) << w->p) - 1 ? 0 : P_PAUSED; }
-static uint64_t plain_end(const plain *w)
+static inline uint64_t plain_rested(const plain *w) { return w->record[P_DONE] == (UINT64_C(1) << w->p) - 1 ? 0 : P_PAUSED; }
+static inline uint64_t plain_end(const plain *w)
 {
     uint64_t *r = w->record;
     const size_t q = w->q, f = r[P_FRESH];
@@ -150,7 +150,7 @@ static uint64_t plain_end(const plain *w)
     return plain_rested(w);
 }
 /* one turn: false where it ends the call, with its answer */
-static bool plain_turn(const plain *w, uint64_t *answer)
+static inline bool plain_turn(const plain *w, uint64_t *answer)
 {
     uint64_t *r = w->record;
     size_t i = r[P_TAKEN], h, k;
@@ -174,7 +174,7 @@ static bool plain_turn(const plain *w, uint64_t *answer)
 
 /* ---- the calls */
 
-static uint64_t plain_start(const plain *w, const int32_t *coefs, size_t coefs_len)
+static inline uint64_t plain_start(const plain *w, const int32_t *coefs, size_t coefs_len)
 {
     uint64_t refused = plain_size(w->p, w->q);
     if (refused) return refused;
@@ -189,7 +189,7 @@ static uint64_t plain_start(const plain *w, const int32_t *coefs, size_t coefs_l
     memcpy(w->record, first, sizeof first);
     return P_STARTED;
 }
-static uint64_t plain_combine(const plain *w, size_t r, int64_t u, size_t s, int64_t t)
+static inline uint64_t plain_combine(const plain *w, size_t r, int64_t u, size_t s, int64_t t)
 {
     uint64_t refused = plain_standing(w);
     if (refused) return refused;
@@ -200,10 +200,10 @@ static uint64_t plain_combine(const plain *w, size_t r, int64_t u, size_t s, int
         __int128 sum = (__int128)u * to[j] + (__int128)t * w->equations[s * w->q + j];
         if (sum > P_LIMIT || sum < -P_LIMIT) return 34;
     }
-    for (size_t j = 0; j < w->q; j++) to[j] = (int32_t)(u * to[j] + t * w->equations[s * w->q + j]);
+    for (size_t j = 0; j < w->q; j++) to[j] = (int32_t)((__int128)u * to[j] + (__int128)t * w->equations[s * w->q + j]);
     return P_STARTED;
 }
-static uint64_t plain_take(const plain *w, size_t e, size_t f)
+static inline uint64_t plain_take(const plain *w, size_t e, size_t f)
 {
     uint64_t refused = plain_standing(w), *r = w->record;
     const size_t q = w->q;
@@ -219,7 +219,7 @@ static uint64_t plain_take(const plain *w, size_t e, size_t f)
     memcpy(r, after, sizeof after);
     return P_STARTED;
 }
-static uint64_t plain_resume(const plain *w, uint64_t budget)
+static inline uint64_t plain_resume(const plain *w, uint64_t budget)
 {
     uint64_t answer = plain_standing(w);
     if (answer) return answer;
