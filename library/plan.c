@@ -32,7 +32,8 @@ struct dezgula_solver {
     uint32_t *kept; /* the basis of the try that is kept while the other goes on */
     size_t kept_len, most;
     dezgula_engine_record kept_record;
-    uint64_t phase, rule, kept_rule, over, late; /* over: bit by rule, it got to the last stage or was refused; late: bit by equation, taken last */
+    uint64_t phase, rule, kept_rule;
+    uint64_t over, failed, late;     /* over: bit by rule, it got to the last stage; or failed: it was refused. late: bit by equation, taken last */
     uint64_t round, limit, promised; /* turns: of this round; that this try may take; that the kept one promises to take, UINT64_MAX where none is kept */
     uint64_t tried[RULES];           /* the turns that each rule was given */
     uint64_t past, pace;             /* turns of tries given up; those that take about 50 ms */
@@ -385,15 +386,19 @@ static uint64_t next_try(dezgula_solver *s, uint64_t refusal)
             return begin(s, rule, allowed) == DEZGULA_STARTED ? 0 : DEZGULA_ENGINE_FULL;
         }
         if (s->promised != UINT64_MAX) return give_back(s), 0;
-        if (s->over == (UINT64_C(1) << RULES) - 1) return refusal;
+        if (s->over == (UINT64_C(1) << RULES) - 1 || s->round == UINT64_MAX - 1) return refusal != 0 ? refusal : (uint64_t)DEZGULA_STEPS_AT_LIMIT;
         s->round = s->round > UINT64_MAX / ROUND_TIMES ? UINT64_MAX - 1 : s->round * ROUND_TIMES;
     }
 }
-/* this try was refused (a component above 1,000,000, or steps at their limit): the rule is over */
+/* this try was refused (a component above 1,000,000, or steps at their limit): its rule is over. In the last stage the others are due again, without a limit */
 static uint64_t give_up(dezgula_solver *s, uint64_t refusal)
 {
-    s->over |= UINT64_C(1) << s->rule;
-    if (s->phase == LAST) s->promised = UINT64_MAX;
+    s->failed |= UINT64_C(1) << s->rule;
+    s->over |= s->failed;
+    if (s->phase == LAST) {
+        s->over = s->failed, s->promised = UINT64_MAX, s->round = UINT64_MAX - 1;
+        memset(s->tried, 0, sizeof s->tried);
+    }
     return next_try(s, refusal);
 }
 /* all but the last equation are done: true where this order is gone on with, and not kept while others are tried; *answer is then 0 */
@@ -559,21 +564,21 @@ void dezgula_solver_free(dezgula_solver *s)
 
 /* ---- a solver as words: a sign, the sizes, the numbers, the three systems, and the rows of the tables */
 
-enum { SIGN = 0x445A4731, OWN = 10 + RULES, NUMBERS = OWN + 2 * RECORD };
+enum { SIGN = 0x445A4731, OWN = 11 + RULES, NUMBERS = OWN + 2 * RECORD };
 
 static void numbers_of(const dezgula_solver *s, uint64_t n[NUMBERS])
 {
-    const uint64_t own[10] = {s->phase, s->rule, s->kept_rule, s->over, s->late, s->round, s->limit, s->promised, s->past, s->pace};
+    const uint64_t own[11] = {s->phase, s->rule, s->kept_rule, s->over, s->late, s->round, s->limit, s->promised, s->past, s->pace, s->failed};
     memcpy(n, own, sizeof own);
-    memcpy(n + 10, s->tried, sizeof s->tried);
+    memcpy(n + 11, s->tried, sizeof s->tried);
     dezgula_engine_pack(s->run.record, n + OWN);
     dezgula_engine_pack(s->kept_record, n + OWN + RECORD);
 }
 static void set_numbers(dezgula_solver *s, const uint64_t n[NUMBERS])
 {
     s->phase = n[0], s->rule = n[1], s->kept_rule = n[2], s->over = n[3], s->late = n[4];
-    s->round = n[5], s->limit = n[6], s->promised = n[7], s->past = n[8], s->pace = n[9];
-    memcpy(s->tried, n + 10, sizeof s->tried);
+    s->round = n[5], s->limit = n[6], s->promised = n[7], s->past = n[8], s->pace = n[9], s->failed = n[10];
+    memcpy(s->tried, n + 11, sizeof s->tried);
     s->run.record = dezgula_engine_unpack(n + OWN);
     s->kept_record = dezgula_engine_unpack(n + OWN + RECORD);
 }
@@ -608,8 +613,8 @@ static bool right_numbers(const dezgula_solver *s, size_t length)
 {
     const dezgula_engine_record *r = &s->run.record, *k = &s->kept_record;
     const size_t most = length / s->q;
-    if (s->phase > COMPLETE || s->rule >= RULES || s->kept_rule >= RULES || s->over >> RULES != 0 || s->late >> s->p != 0) return false;
-    if (s->round == 0 || s->pace == 0) return false;
+    if (s->phase > COMPLETE || s->rule >= RULES || s->kept_rule >= RULES || s->over >> RULES != 0 || s->failed >> RULES != 0) return false;
+    if (s->late >> s->p != 0 || s->round == 0 || s->pace == 0) return false;
     if (r->count > most || r->rows > most || r->equation > s->p || (s->promised != UINT64_MAX && k->count > most)) return false;
     return s->phase != COMPLETE || (r->equation == s->p && r->done == (s->p < 32 ? (UINT32_C(1) << s->p) - 1 : UINT32_MAX));
 }

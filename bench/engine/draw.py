@@ -59,7 +59,7 @@ FAMILIES = {
     "sparse6x16": lambda r, n: columns(r, 6, 16, 1, 3, 2),
     "dense6x16": lambda r, n: columns(r, 6, 16, 3, 5, 2),
     "sparse8x16": lambda r, n: columns(r, 8, 16, 1, 3, 2),
-    "dense8x16": lambda r, n: columns(r, 8, 16, 4, 6, 2),
+    "dense8x16": lambda r, n: columns(r, 8, 16, 3, 5, 2),
     "net1": lambda r, n: net(r, *NETS[n % 5], 1),
     "net2": lambda r, n: net(r, *NETS[n % 5], 2),
     "one": lambda r, n: dense(r, 1, r.randint(4, 8), r.choice([20, 50, 100])),
