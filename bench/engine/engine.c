@@ -54,10 +54,10 @@ static uint32_t degree_of(const uint32_t *x, size_t q)
 static uint64_t word_of(const uint32_t *x, size_t q)
 {
     uint64_t word = 0;
-    for (size_t j = 0; j < q && j < 16; j++) {
-        uint32_t sum = x[j] + (j + 16 < q ? x[j + 16] : 0);
-        word |= (uint64_t)(sum > 7 ? 7 : sum) << 4 * j;
-    }
+    uint32_t sums[16] = {0};
+    for (size_t j = 0; j < q && j < 16; j++) sums[j] = x[j];
+    for (size_t j = 16; j < q; j++) sums[j - 16] += x[j];
+    for (size_t j = 0; j < 16; j++) word |= (uint64_t)(sums[j] > 7 ? 7 : sums[j]) << 4 * j;
     return word;
 }
 /* the word of the sum of two rows */
