@@ -1,0 +1,253 @@
+/* Dezgula: the whole basis of a map of up to 32 equations and 32 unknowns, one stage an equation, each stage by rising degree.
+ *
+ * Two ways to use it. The solver (dezgula_solver_new and the calls after it) does everything by itself: it chooses the order of the equations, grows its
+ * tables, and works as long as it is let. The engine's own calls (dezgula_engine_start, _combine, _take, _resume) are what it goes by: they are proved, work
+ * in lent tables, and trust nothing that they are lent. No promise depends on the solver: it only says which of these calls is next.
+ *
+ * The degree of a row is the sum of its components. Between two stages the basis has exactly the minimal solutions of the equations done; at first none is
+ * done and its rows are the unit tuples. A stage takes one equation more. Its table gets, by rising degree, the rows of the basis and the sums of pairs of rows
+ * with values of opposite sign, unless some row of the table lies at or below the sum with a value between 0 and the sum's own. At the end of the stage the
+ * rows of value 0 become the basis. An unknown f that no equation done mentions, with the coefficient -1 in the equation taken, may be named: then the
+ * stage goes without it, and the rows of value 0 or more become the basis, each with its value as the component of f.
+ *
+ *   equations  the working system, p * q coefficients from -1,000,000 to 1,000,000: at first the map's; row operations change it, and not its solutions
+ *   basis      rows of q numbers: the first `count` are the basis
+ *   table      rows of q numbers: the first `rows` are those of the stage under way, by rising degree
+ *   mothers    one number a row of the table: where a row of the other sign lies that is below this one, or 2^32 - 1. It only saves time: where it is not
+ *              true it is not used
+ *   sizes      one number a row of the basis, and
+ *   values, words, degrees, marks    one number a row of the table: the calls' own space. What they held before a call does not matter
+ *   record     below
+ *
+ * There is room for the least of basis_len / q and sizes_len rows in the basis, and for the least of table_len / q and the other lengths in the table; for
+ * no more than 1,000,000,000 in either. A table may be lent longer with each call, with the same rows. NULL is an empty table. Tables and record lie apart. */
+#ifndef DEZGULA_ENGINE_H
+#define DEZGULA_ENGINE_H
+
+#include "dezgula.h"
+
+#ifdef __cplusplus
+extern "C" {
+#endif
+
+#define DEZGULA_ENGINE_MOST 32 /* equations, and unknowns */
+#define DEZGULA_ENGINE_COEFFICIENTS (DEZGULA_ENGINE_MOST * DEZGULA_ENGINE_MOST)
+
+/* The answers are those of dezgula.h: a start, a row operation and a taken equation answer DEZGULA_STARTED; a resume answers DEZGULA_COMPLETE, or
+ * DEZGULA_PAUSED: the budget is used up, or the stage is at its end and record.equation is p, so that the next equation can be taken.
+ * Refused, with nothing changed: 1, p is outside 1 to 32; 2, q is outside 1 to 32; 3, the coefficients are not p * q; 4, the working system has room for fewer
+ * than p * q numbers, or the basis for fewer than q rows; 6, the record or the rows are out of order; 7, a coefficient of the map is outside -10,000 to
+ * 10,000 (with its place); 32; 33; 34. Refused by a turn, with all as after the last whole turn: 12, a row that is needed has a component above
+ * 1,000,000; 14, the steps are at their limit; 31. */
+enum {
+    DEZGULA_ENGINE_FULL = 31,     /* there is no room for a row that is needed: with longer tables and the same rows the run goes on */
+    DEZGULA_ENGINE_EQUATION = 32, /* no such equation is left, or a stage is under way */
+    DEZGULA_ENGINE_FRESH = 33,    /* the unknown is neither q, which is none, nor one that no equation done mentions, with the coefficient -1 */
+    DEZGULA_ENGINE_OPERATION = 34 /* 0 times the equation itself, or itself added, or a coefficient would be outside -1,000,000 to 1,000,000 */
+};
+
+static inline const char *dezgula_engine_sentence(uint64_t answer)
+{
+    switch (dezgula_number(answer)) {
+    case DEZGULA_EQUATIONS: return "The number of equations is not 1 to 32.";
+    case DEZGULA_UNKNOWNS: return "The number of unknowns is not 1 to 32.";
+    case DEZGULA_STACK_SHORT: return "The table for the equations is too short, or the basis has room for fewer rows than there are unknowns.";
+    case DEZGULA_OUT_OF_ORDER: return "The record or the rows are out of order.";
+    case DEZGULA_ENGINE_FULL: return "The tables have no room for a row that is needed.";
+    case DEZGULA_ENGINE_EQUATION: return "The equation cannot be taken or changed now.";
+    case DEZGULA_ENGINE_FRESH: return "The unknown cannot be left out of this stage.";
+    case DEZGULA_ENGINE_OPERATION: return "This is no row operation, or a coefficient would pass 1,000,000.";
+    default: return dezgula_sentence(answer);
+    }
+}
+
+/* The record of a run. */
+typedef struct {
+    uint32_t done;         /* the equations done: bit i is equation i, from 0 */
+    uint64_t equation;     /* the equation under way, from 0; p where none is */
+    uint64_t fresh;        /* the unknown that the stage goes without, from 0; q where there is none */
+    uint64_t count;        /* rows of the basis */
+    uint64_t rows;         /* rows of the stage */
+    uint64_t taken;        /* the first row of the basis that may still be of the present degree and not in the table */
+    uint64_t degree;       /* the present degree */
+    uint64_t upper, lower; /* the pair of rows to go on from */
+    dezgula_steps steps;   /* turns taken since the start */
+} dezgula_engine_record;
+
+/* What a run is lent, and its record. A start sets the record; until then it may hold anything. */
+typedef struct {
+    int32_t *equations;
+    size_t equations_len;
+    uint32_t *basis;
+    size_t basis_len;
+    uint32_t *sizes;
+    size_t sizes_len;
+    uint32_t *table;
+    size_t table_len;
+    int64_t *values;
+    size_t values_len;
+    uint64_t *words;
+    size_t words_len;
+    uint32_t *degrees;
+    size_t degrees_len;
+    uint64_t *marks;
+    size_t marks_len;
+    uint32_t *mothers;
+    size_t mothers_len;
+    dezgula_engine_record record;
+} dezgula_engine_run;
+
+/* ---- the exported functions. The record is its words, in the order of its fields; another number of words is refused with 6, by a start after 4 and before 7.
+ * A pointer is never NULL, not even with length 0, and is aligned for what it points to. */
+
+enum { DEZGULA_ENGINE_RECORD_LENGTH = 10 };
+
+uint64_t dezgula_raw_engine_start(size_t p, size_t q, const int32_t *coefs, size_t coefs_len, int32_t *equations, size_t equations_len, uint32_t *basis,
+                                  size_t basis_len, uint32_t *sizes, size_t sizes_len, uint64_t *record, size_t record_len) DEZGULA_LOOK_AT_IT;
+
+uint64_t dezgula_raw_engine_combine(size_t p, size_t q, int32_t *equations, size_t equations_len, uint32_t *basis, size_t basis_len, uint32_t *sizes,
+                                    size_t sizes_len, uint32_t *table, size_t table_len, int64_t *values, size_t values_len, uint64_t *words, size_t words_len,
+                                    uint32_t *degrees, size_t degrees_len, uint64_t *marks, size_t marks_len, uint32_t *mothers, size_t mothers_len,
+                                    uint64_t *record, size_t record_len, size_t r, int64_t u, size_t s, int64_t t) DEZGULA_LOOK_AT_IT;
+
+uint64_t dezgula_raw_engine_take(size_t p, size_t q, int32_t *equations, size_t equations_len, uint32_t *basis, size_t basis_len, uint32_t *sizes,
+                                 size_t sizes_len, uint32_t *table, size_t table_len, int64_t *values, size_t values_len, uint64_t *words, size_t words_len,
+                                 uint32_t *degrees, size_t degrees_len, uint64_t *marks, size_t marks_len, uint32_t *mothers, size_t mothers_len,
+                                 uint64_t *record, size_t record_len, size_t e, size_t f) DEZGULA_LOOK_AT_IT;
+
+uint64_t dezgula_raw_engine_resume(size_t p, size_t q, int32_t *equations, size_t equations_len, uint32_t *basis, size_t basis_len, uint32_t *sizes,
+                                   size_t sizes_len, uint32_t *table, size_t table_len, int64_t *values, size_t values_len, uint64_t *words, size_t words_len,
+                                   uint32_t *degrees, size_t degrees_len, uint64_t *marks, size_t marks_len, uint32_t *mothers, size_t mothers_len,
+                                   uint64_t *record, size_t record_len, uint64_t budget) DEZGULA_LOOK_AT_IT;
+
+/* ---- the engine's calls */
+
+static inline void dezgula_engine_pack(dezgula_engine_record record, uint64_t words[DEZGULA_ENGINE_RECORD_LENGTH])
+{
+    words[0] = record.done;
+    words[1] = record.equation;
+    words[2] = record.fresh;
+    words[3] = record.count;
+    words[4] = record.rows;
+    words[5] = record.taken;
+    words[6] = record.degree;
+    words[7] = record.upper;
+    words[8] = record.lower;
+    words[9] = record.steps.count;
+}
+
+static inline dezgula_engine_record dezgula_engine_unpack(const uint64_t words[DEZGULA_ENGINE_RECORD_LENGTH])
+{
+    dezgula_engine_record record;
+    record.done = (uint32_t)words[0];
+    record.equation = words[1];
+    record.fresh = words[2];
+    record.count = words[3];
+    record.rows = words[4];
+    record.taken = words[5];
+    record.degree = words[6];
+    record.upper = words[7];
+    record.lower = words[8];
+    record.steps.count = words[9];
+    return record;
+}
+
+#define DEZGULA_ENGINE_TABLE(type, run, name) (type *)dezgula_lent((run)->name), dezgula_lent_length((run)->name, (run)->name##_len)
+
+/* The start: copies the map's coefficients to the working system. Answers DEZGULA_STARTED, or refuses with 1, 2, 3, 4, 6 or 7.
+ * Started: the first q rows of the basis are the unit tuples, the record says so, and nothing else is written. Refused: changes nothing. */
+DEZGULA_LOOK_AT_IT static inline uint64_t dezgula_engine_start(const dezgula_system *system, dezgula_engine_run *run)
+{
+    uint64_t words[DEZGULA_ENGINE_RECORD_LENGTH];
+    dezgula_engine_pack(run->record, words);
+    uint64_t answer = dezgula_raw_engine_start(system->p, system->q, DEZGULA_ENGINE_TABLE(const int32_t, system, coefs),
+                                               DEZGULA_ENGINE_TABLE(int32_t, run, equations), DEZGULA_ENGINE_TABLE(uint32_t, run, basis),
+                                               DEZGULA_ENGINE_TABLE(uint32_t, run, sizes), words, (size_t)DEZGULA_ENGINE_RECORD_LENGTH);
+    run->record = dezgula_engine_unpack(words);
+    return answer;
+}
+
+/* The parameters that every call on a run begins with. */
+#define DEZGULA_ENGINE_LENT(p, q, run, record_words) \
+    (p), (q), DEZGULA_ENGINE_TABLE(int32_t, run, equations), DEZGULA_ENGINE_TABLE(uint32_t, run, basis), DEZGULA_ENGINE_TABLE(uint32_t, run, sizes), \
+        DEZGULA_ENGINE_TABLE(uint32_t, run, table), DEZGULA_ENGINE_TABLE(int64_t, run, values), DEZGULA_ENGINE_TABLE(uint64_t, run, words), \
+        DEZGULA_ENGINE_TABLE(uint32_t, run, degrees), DEZGULA_ENGINE_TABLE(uint64_t, run, marks), DEZGULA_ENGINE_TABLE(uint32_t, run, mothers), \
+        (record_words), (size_t)DEZGULA_ENGINE_RECORD_LENGTH
+
+/* A row operation: equation r becomes u times itself plus t times equation s, both from 0. Equation r is not done, no stage is under way, u is not 0, and r is
+ * not s unless t is 0. Answers DEZGULA_STARTED, or refuses with 1, 2, 4, 6, 32 or 34. Writes nothing but equation r. */
+DEZGULA_LOOK_AT_IT static inline uint64_t dezgula_engine_combine(size_t p, size_t q, dezgula_engine_run *run, size_t r, int64_t u, size_t s, int64_t t)
+{
+    uint64_t record[DEZGULA_ENGINE_RECORD_LENGTH];
+    dezgula_engine_pack(run->record, record);
+    uint64_t answer = dezgula_raw_engine_combine(DEZGULA_ENGINE_LENT(p, q, run, record), r, u, s, t);
+    run->record = dezgula_engine_unpack(record);
+    return answer;
+}
+
+/* Begins the stage of equation e, from 0, without the unknown f, from 0; with f = q, with all unknowns. Answers DEZGULA_STARTED, or refuses with 1, 2, 4, 6,
+ * 32 or 33. Started: the record has the equation and the unknown, and the rows of the basis that have the unknown are taken out of it. */
+DEZGULA_LOOK_AT_IT static inline uint64_t dezgula_engine_take(size_t p, size_t q, dezgula_engine_run *run, size_t e, size_t f)
+{
+    uint64_t record[DEZGULA_ENGINE_RECORD_LENGTH];
+    dezgula_engine_pack(run->record, record);
+    uint64_t answer = dezgula_raw_engine_take(DEZGULA_ENGINE_LENT(p, q, run, record), e, f);
+    run->record = dezgula_engine_unpack(record);
+    return answer;
+}
+
+/* Goes on with the stage under way for at most `budget` turns. Answers DEZGULA_PAUSED; DEZGULA_COMPLETE: all equations are done, and the first `count` rows of
+ * the basis are exactly the minimal solutions of the map, each once; or a refusal: before the first turn 1, 2, 4 or 6, by a turn 12, 14 or 31. */
+DEZGULA_LOOK_AT_IT static inline uint64_t dezgula_engine_resume(size_t p, size_t q, dezgula_engine_run *run, uint64_t budget)
+{
+    uint64_t record[DEZGULA_ENGINE_RECORD_LENGTH];
+    dezgula_engine_pack(run->record, record);
+    uint64_t answer = dezgula_raw_engine_resume(DEZGULA_ENGINE_LENT(p, q, run, record), budget);
+    run->record = dezgula_engine_unpack(record);
+    return answer;
+}
+
+/* ---- the solver: library/plan.c, to be compiled and linked beside the archive. It allocates with malloc what it needs, as it needs it: some kilobytes at
+ * first, then twice as much each time, up to the limit that it is given. A solver is plain numbers and tables; several may go on in several threads, each in
+ * one at a time. */
+
+typedef struct dezgula_solver dezgula_solver;
+
+/* How far a solver is. It may try one order of the equations up to the last and then another, so that `done` can fall; `steps` never does. */
+typedef struct {
+    size_t done, equations; /* equations done, of so many */
+    uint64_t rows;          /* of the stage under way, or else of the basis */
+    dezgula_steps steps;    /* turns taken, those of orders that were given up included */
+} dezgula_solver_progress;
+
+/* A solver for a map, of which it keeps a copy. NULL where the map is refused, or there is no memory: *answer then has 1, 2, 3, 7 or 31, and else
+ * DEZGULA_STARTED. */
+dezgula_solver *dezgula_solver_new(const dezgula_system *system, uint64_t *answer);
+
+/* Works for about `budget` turns; 0 is as many as take about 50 ms. Answers DEZGULA_PAUSED, DEZGULA_COMPLETE, or a refusal: 12, 14, or 31 where no more rows
+ * fit into memory or into the limit. After 31 it may be called again, when there is more memory or a higher limit. */
+DEZGULA_LOOK_AT_IT uint64_t dezgula_solver_work(dezgula_solver *solver, uint64_t budget);
+
+/* The most bytes of all tables together. At first SIZE_MAX, which is no limit. */
+void dezgula_solver_limit(dezgula_solver *solver, size_t bytes);
+
+dezgula_solver_progress dezgula_solver_told(const dezgula_solver *solver);
+
+/* The rows of the complete list, of q numbers each, and how many there are; NULL and 0 before it is complete. They are valid until the solver is freed. */
+const uint32_t *dezgula_solver_rows(const dezgula_solver *solver, size_t *count);
+
+/* A solver as words, to be kept in a file and gone on from elsewhere: how many, and the words. */
+size_t dezgula_solver_saved_length(const dezgula_solver *solver);
+void dezgula_solver_save(const dezgula_solver *solver, uint32_t *words);
+
+/* A solver from such words; NULL where they are none, with 6 in *answer, or there is no memory, with 31. The list is right where the words are those saved:
+ * of words that were changed on the way the engine's calls refuse what is out of order, but a row that is missing cannot be told. */
+dezgula_solver *dezgula_solver_load(const uint32_t *words, size_t length, uint64_t *answer);
+
+void dezgula_solver_free(dezgula_solver *solver);
+
+#ifdef __cplusplus
+}
+#endif
+
+#endif

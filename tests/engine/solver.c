@@ -1,0 +1,197 @@
+/* Tries the solver of dezgula_engine.h: refused maps, equations that are zero, repeated or combinations, pauses after every few turns, saved and loaded at each
+ * of them, words that were damaged, a limit of memory, and drawn maps against a walk through all tuples of a box. Status 1 at the first thing wrong. */
+#include "dezgula_engine.h"
+
+#include <inttypes.h>
+#include <stdbool.h>
+#include <stdio.h>
+#include <stdlib.h>
+#include <string.h>
+
+static void is(bool right, const char *what)
+{
+    if (right) return;
+    fprintf(stderr, "solver: %s\n", what);
+    exit(1);
+}
+
+static uint64_t seed = 1;
+static uint64_t draw(uint64_t n)
+{
+    seed = seed * UINT64_C(6364136223846793005) + UINT64_C(1442695040888963407);
+    return (seed >> 33) % n;
+}
+
+static dezgula_solver *solver_of(size_t p, size_t q, const int32_t *coefs, uint64_t *answer)
+{
+    dezgula_system map = {p, q, coefs, p * q};
+    return dezgula_solver_new(&map, answer);
+}
+
+/* ---- to the end, in calls of so many turns; with `carried` each call is on a solver loaded from what the last one saved */
+
+static dezgula_solver *carry(dezgula_solver *solver)
+{
+    uint64_t answer;
+    size_t n = dezgula_solver_saved_length(solver);
+    uint32_t *words = malloc(n * sizeof *words);
+    is(words != NULL, "no memory");
+    dezgula_solver_save(solver, words);
+    dezgula_solver_free(solver);
+    solver = dezgula_solver_load(words, n, &answer);
+    is(solver != NULL && answer == DEZGULA_STARTED, "what was saved is not loaded");
+    is(dezgula_solver_load(words, n - 1, &answer) == NULL && answer == DEZGULA_OUT_OF_ORDER, "words that are cut off are loaded");
+    words[0] ^= 1;
+    is(dezgula_solver_load(words, n, &answer) == NULL && answer == DEZGULA_OUT_OF_ORDER, "other words are loaded");
+    free(words);
+    return solver;
+}
+static dezgula_solver *finish(dezgula_solver *solver, uint64_t budget, bool carried)
+{
+    uint64_t answer = DEZGULA_PAUSED, last = 0;
+    while (answer == DEZGULA_PAUSED) {
+        size_t count;
+        is(dezgula_solver_rows(solver, &count) == NULL && count == 0, "rows before the end");
+        if (carried) solver = carry(solver);
+        answer = dezgula_solver_work(solver, budget);
+        dezgula_solver_progress told = dezgula_solver_told(solver);
+        is(told.steps.count >= last && told.done <= told.equations, "steps that fall");
+        is(budget == 0 || told.steps.count <= last + budget, "more turns than the budget");
+        last = told.steps.count;
+    }
+    is(answer == DEZGULA_COMPLETE, dezgula_engine_sentence(answer));
+    return solver;
+}
+
+/* ---- lists */
+
+static size_t width;
+static int by_row(const void *a, const void *b) { return memcmp(a, b, width * sizeof(uint32_t)); }
+static uint32_t *sorted(const dezgula_solver *solver, size_t q, size_t *count)
+{
+    const uint32_t *rows = dezgula_solver_rows(solver, count);
+    uint32_t *copy = malloc((*count * q + 1) * sizeof *copy);
+    is(rows != NULL && copy != NULL, "no rows at the end");
+    memcpy(copy, rows, *count * q * sizeof *copy);
+    width = q;
+    qsort(copy, *count, q * sizeof *copy, by_row);
+    return copy;
+}
+static void same_lists(const dezgula_solver *a, const dezgula_solver *b, size_t q)
+{
+    size_t n, m;
+    uint32_t *x = sorted(a, q, &n), *y = sorted(b, q, &m);
+    is(n == m && memcmp(x, y, n * q * sizeof *x) == 0, "two ways to the end with two lists");
+    free(x), free(y);
+}
+
+/* ---- what is tried */
+
+static void refused_maps(void)
+{
+    static const int32_t coefs[33 * 33] = {10001};
+    uint64_t answer;
+    is(solver_of(0, 1, coefs, &answer) == NULL && answer == DEZGULA_EQUATIONS, "0 equations");
+    is(solver_of(33, 1, coefs, &answer) == NULL && answer == DEZGULA_EQUATIONS, "33 equations");
+    is(solver_of(1, 0, coefs, &answer) == NULL && answer == DEZGULA_UNKNOWNS, "0 unknowns");
+    is(solver_of(1, 33, coefs, &answer) == NULL && answer == DEZGULA_UNKNOWNS, "33 unknowns");
+    is(solver_of(1, 1, coefs, &answer) == NULL && answer == DEZGULA_COEFFICIENT + 256, "a coefficient out of range");
+    is(solver_of(1, 1, NULL, &answer) == NULL && answer == DEZGULA_COEFFICIENT_COUNT, "no coefficients");
+    dezgula_solver_free(NULL);
+}
+static void largest_map(void)
+{
+    static int32_t coefs[32 * 32];
+    uint64_t answer;
+    for (size_t i = 0; i < 32; i++) coefs[i * 32 + i] = 1, coefs[i * 32 + (i + 1) % 32] = -1;
+    dezgula_solver *ring = finish(solver_of(32, 32, coefs, &answer), 0, false);
+    size_t count;
+    const uint32_t *rows = dezgula_solver_rows(ring, &count);
+    is(count == 1, "a ring of 32 has one loop");
+    for (size_t j = 0; j < 32; j++) is(rows[j] == 1, "which goes round once");
+    dezgula_solver_free(ring);
+    memset(coefs, 0, sizeof coefs);
+    dezgula_solver *none = finish(solver_of(32, 32, coefs, &answer), 0, false);
+    (void)dezgula_solver_rows(none, &count);
+    is(count == 32 && dezgula_solver_told(none).steps.count <= 32 * 35, "equations that are zero cost nothing");
+    dezgula_solver_free(none);
+}
+/* equations added that say nothing new: the same list, and hardly more turns */
+static void combinations(void)
+{
+    int32_t coefs[8 * 6];
+    for (int n = 0; n < 200; n++) {
+        uint64_t answer;
+        for (size_t i = 0; i < 12; i++) coefs[i] = (int32_t)draw(7) - 3;
+        for (size_t e = 2; e < 8; e++) {
+            int32_t a = (int32_t)draw(9) - 4, b = (int32_t)draw(9) - 4;
+            for (size_t j = 0; j < 6; j++) coefs[e * 6 + j] = a * coefs[j] + b * coefs[6 + j];
+        }
+        dezgula_solver *two = finish(solver_of(2, 6, coefs, &answer), 0, false), *eight = finish(solver_of(8, 6, coefs, &answer), 0, false);
+        same_lists(two, eight, 6);
+        is(dezgula_solver_told(eight).steps.count <= 20 * dezgula_solver_told(two).steps.count + 1000, "combinations cost more than nothing");
+        dezgula_solver_free(two), dezgula_solver_free(eight);
+    }
+}
+static void pauses(void)
+{
+    static const uint64_t budgets[4] = {1, 7, 1000, 0};
+    int32_t coefs[3 * 6];
+    for (int n = 0; n < 60; n++) {
+        uint64_t answer;
+        for (size_t i = 0; i < 18; i++) coefs[i] = (int32_t)draw(5) - 2;
+        dezgula_solver *whole = finish(solver_of(3, 6, coefs, &answer), UINT64_MAX, false);
+        for (int i = 0; i < 8; i++) {
+            dezgula_solver *parts = finish(solver_of(3, 6, coefs, &answer), budgets[i % 4], i >= 4);
+            same_lists(whole, parts, 6);
+            dezgula_solver_free(parts);
+        }
+        dezgula_solver_free(whole);
+    }
+}
+static void damaged_words(void)
+{
+    const int32_t coefs[12] = {2, -3, 1, 5, -4, -1, 1, 1, -2, 3, -5, 2};
+    for (int n = 0; n < 3000; n++) {
+        uint64_t answer;
+        dezgula_solver *solver = solver_of(2, 6, coefs, &answer);
+        (void)!dezgula_solver_work(solver, 1 + draw(400));
+        size_t length = dezgula_solver_saved_length(solver);
+        uint32_t *words = malloc(length * sizeof *words);
+        is(words != NULL, "no memory");
+        dezgula_solver_save(solver, words);
+        dezgula_solver_free(solver);
+        uint32_t *at = &words[draw(draw(2) ? length : 70)];
+        *at = draw(3) == 0 ? (uint32_t)draw(10) : draw(2) ? *at ^ UINT32_C(1) << draw(32) : UINT32_MAX;
+        solver = dezgula_solver_load(words, length, &answer);
+        if (solver != NULL) (void)!dezgula_solver_work(solver, 2000); /* any answer, and no step past a table */
+        dezgula_solver_free(solver);
+        free(words);
+    }
+}
+static void memory(void)
+{
+    const int32_t coefs[8] = {97, 89, 83, 79, -73, -71, -67, -61};
+    uint64_t answer;
+    dezgula_solver *solver = solver_of(1, 8, coefs, &answer), *other = finish(solver_of(1, 8, coefs, &answer), 0, false);
+    dezgula_solver_limit(solver, 100000);
+    do answer = dezgula_solver_work(solver, 0);
+    while (answer == DEZGULA_PAUSED);
+    is(answer == DEZGULA_ENGINE_FULL && dezgula_solver_work(solver, 0) == DEZGULA_ENGINE_FULL, "a limit of memory");
+    dezgula_solver_limit(solver, SIZE_MAX);
+    solver = finish(solver, 0, false);
+    same_lists(solver, other, 8);
+    dezgula_solver_free(solver), dezgula_solver_free(other);
+}
+
+int main(void)
+{
+    refused_maps();
+    largest_map();
+    combinations();
+    pauses();
+    damaged_words();
+    memory();
+    puts("the solver: refused maps, combinations, pauses, saved and loaded, damaged words, memory");
+    return 0;
+}
