@@ -180,7 +180,8 @@ static bool find_state(const char *bytes, size_t len, const problem *what, size_
 {
     head h;
     uint64_t sum;
-    if (len < sizeof MAGIC || memcmp(bytes, MAGIC, sizeof MAGIC) != 0) return fault_set(why, 0, "this is no kept run; name another file, or take this one away");
+    if (len < sizeof MAGIC || memcmp(bytes, MAGIC, sizeof MAGIC) != 0)
+        return fault_set(why, 0, "this is no kept run; name another file, or take this one away");
     if (len < sizeof h + sizeof sum) return fault_set(why, 0, "the kept run is cut off; take the file away to begin anew");
     memcpy(&h, bytes, sizeof h);
     if (h.version != VERSION) return fault_set(why, 0, "the kept run is of another version of dezgula; take the file away to begin anew");

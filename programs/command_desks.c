@@ -203,7 +203,9 @@ static int desks(const options *o)
     return status;
 }
 
-const command command_desks = {"desks", "desks FILE FILE .. | NET", "one map, and the same map built one desk after the other: the same loops?",
-                               "Each FILE is a desk: its trays over the same activities (in nets, those of the same name). Or one net whose pages are the desks. Both lists are shown, then\n"
-                               "\"the same N loops\", or which loop is on one side only. --checkpoint FILE keeps two runs, in FILE.whole and FILE.desks.\n",
-                               TAKES_WALK | TAKES_CHECKPOINT | TAKES_STRICT, 1, MOST_TRAYS, desks};
+const command command_desks = {
+    "desks", "desks FILE FILE .. | NET", "one map, and the same map built one desk after the other: the same loops?",
+    "Each FILE is a desk: its trays over the same activities (in nets, those of the same name). Or one net whose pages are the desks. Both lists are shown,\n"
+    "then \"the same N loops\", or which loop is on one side only. --checkpoint FILE keeps two runs, in FILE.whole and FILE.desks.\n",
+    TAKES_WALK | TAKES_CHECKPOINT | TAKES_STRICT, 1, MOST_TRAYS, desks
+};

@@ -42,6 +42,8 @@ static int picture(const options *o)
     return status;
 }
 
-const command command_picture = {"picture", "picture FILE [LOOP] > net.svg", "the net as a picture, with the counts of a loop",
-                                 "LOOP is the number of a loop, as dezgula loops counts them. The net is drawn where its file says, and else by Graphviz' dot, where that is installed.\n",
-                                 TAKES_CHECKPOINT | TAKES_STRICT, 1, 2, picture};
+const command command_picture = {
+    "picture", "picture FILE [LOOP] > net.svg", "the net as a picture, with the counts of a loop",
+    "LOOP is the number of a loop, as dezgula loops counts them. The net is drawn where its file says, and else by Graphviz' dot, where that is installed.\n",
+    TAKES_CHECKPOINT | TAKES_STRICT, 1, 2, picture
+};

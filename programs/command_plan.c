@@ -54,7 +54,9 @@ static int plan(const options *o)
     return status;
 }
 
-const command command_plan = {"plan", "plan FILE COUNTS", "which loops make up these counts, and how often",
-                              "COUNTS is a number for each activity, or NAME=N for those that are done: \"write=2 send=1\". Where the counts leave the trays as they were,\n"
-                              "they are made of loops; else it says which trays would hold more or less, and the status is 1.\n",
-                              TAKES_WALK | TAKES_STEPS | TAKES_DELIVER | TAKES_CHECKPOINT | TAKES_STRICT, 2, (size_t)-1, plan};
+const command command_plan = {
+    "plan", "plan FILE COUNTS", "which loops make up these counts, and how often",
+    "COUNTS is a number for each activity, or NAME=N for those that are done: \"write=2 send=1\". Where the counts leave the trays as they were,\n"
+    "they are made of loops; else it says which trays would hold more or less, and the status is 1.\n",
+    TAKES_WALK | TAKES_STEPS | TAKES_DELIVER | TAKES_CHECKPOINT | TAKES_STRICT, 2, (size_t)-1, plan
+};

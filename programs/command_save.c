@@ -91,7 +91,9 @@ static int save(const options *o)
     return status;
 }
 
-const command command_save = {"save", "save MAP [LIST]", "solve a map and save its list as a file that can be sent",
-                              "The file goes to LIST, or to standard output; dezgula show reads it. It holds at most 8 trays, 16 activities and 4,096 loops. A list that is cut short\n"
-                              "(--walk --steps N, or an interrupt) is saved as such, and the status is 3.\n",
-                              TAKES_WALK | TAKES_STEPS | TAKES_CHECKPOINT | TAKES_STRICT, 0, 2, save};
+const command command_save = {
+    "save", "save MAP [LIST]", "solve a map and save its list as a file that can be sent",
+    "The file goes to LIST, or to standard output; dezgula show reads it. It holds at most 8 trays, 16 activities and 4,096 loops. A list that is cut short\n"
+    "(--walk --steps N, or an interrupt) is saved as such, and the status is 3.\n",
+    TAKES_WALK | TAKES_STEPS | TAKES_CHECKPOINT | TAKES_STRICT, 0, 2, save
+};

@@ -177,7 +177,9 @@ static int several(const options *o)
     return status;
 }
 
-const command command_several = {"several", "several FILE ..", "up to eight maps at a time, in fair turns of the walk",
-                                 "A file has one map or more, blank lines between two; each has at most 8 trays and 16 activities. Each is allowed 1,000,000 steps, and told of as ./basis\n"
-                                 "tells of it.\n",
-                                 TAKES_STRICT, 0, MOST, several};
+const command command_several = {
+    "several", "several FILE ..", "up to eight maps at a time, in fair turns of the walk",
+    "A file has one map or more, blank lines between two; each has at most 8 trays and 16 activities. Each is allowed 1,000,000 steps, and told of as ./basis\n"
+    "tells of it.\n",
+    TAKES_STRICT, 0, MOST, several
+};

@@ -69,5 +69,7 @@ static int show(const options *o)
     return status;
 }
 
-const command command_show = {"show", "show LIST", "check a saved list and show it",
-                              "LIST is a file that dezgula save wrote. It is refused where it is damaged; the status is 3 where the list in it is cut short.\n", TAKES_FORMAT, 0, 1, show};
+const command command_show = {
+    "show", "show LIST", "check a saved list and show it",
+    "LIST is a file that dezgula save wrote. It is refused where it is damaged; the status is 3 where the list in it is cut short.\n", TAKES_FORMAT, 0, 1, show
+};

@@ -15,7 +15,8 @@ static int refuse(const options *o, const map *m, uint64_t answer)
     fault why;
     unsigned number = dezgula_number(answer);
     if (number == DEZGULA_COLUMN)
-        fault_set(&why, number, "activity %s (column %" PRIu64 ") does not move one document from one tray to another; dezgula loops lists the loops of any map",
+        fault_set(&why, number,
+                  "activity %s (column %" PRIu64 ") does not move one document from one tray to another; dezgula loops lists the loops of any map",
                   m->activities[dezgula_place(answer) - 1].name, dezgula_place(answer));
     else fault_set(&why, number, "%s", dezgula_sentence(answer));
     return io_refuse(file_of(o), &why);
@@ -98,7 +99,9 @@ static int single(const options *o)
     return status;
 }
 
-const command command_single = {"single", "single FILE", "loops of a single-file map, each with the order of its activities",
-                                "In a single-file map each activity moves one document from one tray to another. A line a loop, as \"1 2 3 order 1 3 2\": its activities rising, then in\n"
-                                "the order in which each puts the document where the next takes it. At most 8 trays and 16 activities.\n",
-                                TAKES_STRICT, 0, 1, single};
+const command command_single = {
+    "single", "single FILE", "loops of a single-file map, each with the order of its activities",
+    "In a single-file map each activity moves one document from one tray to another. A line a loop, as \"1 2 3 order 1 3 2\": its activities rising, then in\n"
+    "the order in which each puts the document where the next takes it. At most 8 trays and 16 activities.\n",
+    TAKES_STRICT, 0, 1, single
+};

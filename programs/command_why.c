@@ -44,7 +44,9 @@ static int why(const options *o)
     return status;
 }
 
-const command command_why = {"why", "why FILE COUNTS", "why these counts are not in the list of loops",
-                             "COUNTS is a number for each activity, or NAME=N for those that are done: \"write=2 send=1\". It says which trays would hold more or less\n"
-                             "than before, or else which loop the counts contain, or which they are.\n",
-                             TAKES_WALK | TAKES_STEPS | TAKES_DELIVER | TAKES_CHECKPOINT | TAKES_STRICT, 2, (size_t)-1, why};
+const command command_why = {
+    "why", "why FILE COUNTS", "why these counts are not in the list of loops",
+    "COUNTS is a number for each activity, or NAME=N for those that are done: \"write=2 send=1\". It says which trays would hold more or less\n"
+    "than before, or else which loop the counts contain, or which they are.\n",
+    TAKES_WALK | TAKES_STEPS | TAKES_DELIVER | TAKES_CHECKPOINT | TAKES_STRICT, 2, (size_t)-1, why
+};

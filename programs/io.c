@@ -2,12 +2,16 @@
 
 #include <errno.h>
 #include <fcntl.h>
+#include <poll.h>
 #include <signal.h>
 #include <stdarg.h>
 #include <stdlib.h>
 #include <string.h>
 #include <sys/stat.h>
 #include <unistd.h>
+
+/* how long a sentence waits for its reader, in milliseconds */
+enum { PATIENCE = 2000 };
 
 bool io_begin(void)
 {
@@ -17,7 +21,16 @@ bool io_begin(void)
         if (open("/dev/null", descriptor == 0 ? O_WRONLY : O_RDONLY) != descriptor) return false;
     }
     struct sigaction ignore = {.sa_handler = SIG_IGN};
-    return sigaction(SIGPIPE, &ignore, NULL) == 0;
+    return sigaction(SIGPIPE, &ignore, NULL) == 0 && sigaction(SIGXFSZ, &ignore, NULL) == 0;
+}
+
+void io_tell(const char *text, size_t len, int milliseconds)
+{
+    struct pollfd to = {.fd = STDERR_FILENO, .events = POLLOUT};
+    if (poll(&to, 1, milliseconds) != 1 || (to.revents & POLLOUT) == 0) return;
+    /* where it cannot be written there is nobody left to tell */
+    ssize_t n = write(STDERR_FILENO, text, len);
+    (void)n;
 }
 
 void io_say(const char *format, ...)
@@ -30,8 +43,7 @@ void io_say(const char *format, ...)
     va_end(words);
     size_t len = strlen(text);
     text[len++] = '\n';
-    /* where standard error cannot be written either there is nobody left to tell */
-    (void)io_write(STDERR_FILENO, text, len);
+    io_tell(text, len, PATIENCE);
 }
 
 int io_refuse(const char *name, const fault *why)

@@ -8,8 +8,11 @@
 enum { STATUS_COMPLETE = 0, STATUS_REFUSED = 1, STATUS_NOTHING = 2, STATUS_CUT_SHORT = 3 };
 
 /* To be called first: a standard descriptor that is closed is held by one on which reading and writing fail, so that no file that is opened later takes its
- * place; a write into a closed pipe is an error and no signal. */
+ * place; a write into a closed pipe, or past the size that a file may have, is an error and no signal. */
 bool io_begin(void);
+
+/* Writes a short text to standard error where that takes it within so many milliseconds: nobody is waited for who does not read. */
+void io_tell(const char *text, size_t len, int milliseconds);
 
 /* Says a sentence on standard error, after "dezgula: ". */
 void io_say(const char *format, ...)

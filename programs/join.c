@@ -67,7 +67,8 @@ static bool join_trays(joint *j, const map *m, size_t k, size_t *brought, fault 
 {
     *brought = 0;
     for (size_t i = 0; i < m->p; i++) {
-        if (m->rights != NULL && m->rights[i] != 0) return fault_set(why, 0, "desk %zu: right sides; desks are compared by their loops, with right sides 0", k + 1);
+        if (m->rights != NULL && m->rights[i] != 0)
+            return fault_set(why, 0, "desk %zu: right sides; desks are compared by their loops, with right sides 0", k + 1);
         size_t at = j->named ? find_node(j->all.trays, j->all.p, m->trays[i].name) : j->all.p;
         if (at >= MOST_TRAYS) return fault_set(why, 1, "desk %zu: more than %d trays in all", k + 1, MOST_TRAYS);
         if (at == j->all.p) {

@@ -62,7 +62,7 @@ typedef struct {
     kind open[MOST_OPEN]; /* the elements that are open and count */
     size_t depth;
     size_t ignored; /* how many are open inside one that does not count, itself included */
-    char *grammar;  /* the namespace of the first element, or NULL */
+    char *grammar;  /* the namespace of the net, or until it begins of the file, or NULL */
     bool net;       /* whether a net has begun */
     size_t page, current;
     char *words; /* the text of the label that is open */

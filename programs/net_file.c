@@ -3,8 +3,8 @@
  * In order: types of net; arcs, how many documents they move and which kinds are taken; the grammar, as a table of which element stands in which; elements
  * that begin; text and elements that end; the parse.
  *
- * An element counts where its namespace is that of the file's first element, has "pnml" in it, or is none; all else is a tool's own and is passed over, and so
- * is what stands in <toolspecific>. */
+ * An element counts where its namespace is that of the net, has "pnml" in it, or is none; all else is a tool's own and is passed over, and so is what stands in
+ * <toolspecific>. */
 #include "net.h"
 
 #ifndef NO_EXPAT
@@ -16,7 +16,7 @@
 #include <string.h>
 
 /* The most digits of a weight, so that sums of weights are small. */
-enum { MOST_DIGITS = 9 };
+enum { MOST_DIGITS = 9, MOST_WEIGHT = 999999999 };
 
 /* ---- types of net */
 
@@ -44,8 +44,8 @@ static bool has_word(const char *text, const char *word)
 /* What a type of net is called, after the last slash and without the ending of a schema's file: ISO's P/T nets and core model, and what the standard's older
  * forms, WoPeD, PIPE, TAPAAL, Yasper and TINA write. The delays of TINA's time nets change no count and are passed over. */
 static const char *const PLACE_TRANSITION_TYPES[] = {
-    "ptnet", "ptnetb", "pnmlcoremodel", "basicpnml", "pt", "pt-net", "pt net", "p/t net", "p/t-net", "p/t nets", "place/transition net",
-    "place/transition-net", "pnml_1.1", "epnml", "epnml-1.1", "tpn",
+    "ptnet", "ptnetb", "pnmlcoremodel", "basicpnml", "pnml", "pt", "pt-net", "pt net", "p/t net", "p/t-net", "p/t nets", "petri net", "petrinet",
+    "place/transition net", "place/transition-net", "pnml_1.1", "epnml", "epnml-1.1", "tpn",
 };
 
 static const char *const SCHEMA_ENDINGS[] = {".pntd", ".rng", ".dtd", ".rnc", ".xsd"};
@@ -84,7 +84,8 @@ static void check_net_type(reading *r, const char *written)
 /* ---- arcs: how many documents they move, and which kinds of arc are taken */
 
 static const char *const NORMAL_ARCS[] = {"normal", "ordinary", "regular", "standard", "default", "arc", "timed", "transport", "weighted"};
-static const char *const TEST_ARCS[] = {"test", "testarc", "test-arc", "test arc", "read", "readarc", "read-arc", "read arc", "both"};
+static const char *const TEST_ARCS[] = {"test", "testarc", "test-arc", "test arc", "read", "readarc", "read-arc", "read arc", "both", "double", "biflow",
+                                          "bidirectional"};
 
 enum { NORMAL_WORDS = sizeof NORMAL_ARCS / sizeof *NORMAL_ARCS, TEST_WORDS = sizeof TEST_ARCS / sizeof *TEST_ARCS };
 
@@ -127,6 +128,8 @@ static const char *whole_number(const char *text, uint32_t *number)
 /* Whether `colour`, of `len` letters, is the colour that the net's documents have; the first one named is. */
 static bool is_the_colour(reading *r, const char *colour, size_t len)
 {
+    while (len > 0 && *colour == ' ') colour++, len--;
+    while (len > 0 && colour[len - 1] == ' ') len--;
     if (r->colour == NULL) {
         r->colour = net_room(r, len);
         if (r->colour == NULL) return false;
@@ -136,29 +139,28 @@ static bool is_the_colour(reading *r, const char *colour, size_t len)
     return strlen(r->colour) == len && memcmp(r->colour, colour, len) == 0;
 }
 
-static void refuse_weight(reading *r, const entry *e)
+/* Refuses a weight that is no number, or one that is out of range. */
+static void refuse_weight(reading *r, const entry *e, bool number)
 {
     shown name = net_arc(e), weight = net_quote(e->weight);
-    bool digits = e->weight[strspn(e->weight, "0123456789")] == 0;
-    if (digits) net_refuse(r, e->line, COEFFICIENT, "%s has the weight %s; a weight is from 1 to 10,000", name.text, weight.text);
+    if (number) net_refuse(r, e->line, COEFFICIENT, "%s has the weight %s; a weight is from 1 and has at most %d digits", name.text, weight.text, MOST_DIGITS);
     else net_refuse(r, e->line, FORM, "%s has the inscription \"%s\", which is no whole number: a coloured arc, or a slip", name.text, weight.text);
 }
 
 /* PIPE's form, "Default,1" or "Default,1,Red,0": a colour and its number, again and again. Documents of two colours are a coloured net. */
 static void weigh_colours(reading *r, entry *e)
 {
-    for (const char *s = e->weight; *s != 0; s += *s == ',') {
+    for (const char *s = e->weight; *s != 0 && !r->refused; s += *s == ',') {
         const char *comma = strchr(s, ',');
         uint32_t number = 0;
         const char *after = comma == NULL ? NULL : whole_number(comma + 1, &number);
-        if (after == NULL) {
-            refuse_weight(r, e);
+        if (after == NULL || number > MOST_WEIGHT - e->moves) {
+            refuse_weight(r, e, after != NULL);
             return;
         }
         if (number > 0 && !is_the_colour(r, s, (size_t)(comma - s))) {
-            shown name = net_arc(e), first = net_quote(r->colour);
-            net_refuse(r, e->line, FORM, "%s is a coloured arc: \"%.60s\" beside documents of the colour %s", name.text, e->weight, first.text);
-            return;
+            shown name = net_arc(e), first = net_quote(r->colour), weight = net_quote(e->weight);
+            net_refuse(r, e->line, FORM, "%s is a coloured arc: \"%s\" beside documents of the colour %s", name.text, weight.text, first.text);
         }
         e->moves += number;
         s = after;
@@ -167,10 +169,11 @@ static void weigh_colours(reading *r, entry *e)
 
 static void weigh(reading *r, entry *e)
 {
-    if (e->weight == NULL) e->moves = 1;
-    else if (strchr(e->weight, ',') != NULL) weigh_colours(r, e);
-    else if (whole_number(e->weight, &e->moves) == NULL) refuse_weight(r, e);
-    if (!r->refused && e->moves == 0) refuse_weight(r, e);
+    e->moves = e->weight == NULL;
+    if (e->weight == NULL) return;
+    if (strchr(e->weight, ',') != NULL) weigh_colours(r, e);
+    else if (whole_number(e->weight, &e->moves) == NULL) refuse_weight(r, e, e->weight[strspn(e->weight, "0123456789")] == 0);
+    if (!r->refused && e->moves == 0) refuse_weight(r, e, true);
 }
 
 /* ---- the grammar: which element stands in which */
@@ -243,7 +246,7 @@ static const char *local_name(const char *full)
 static bool is_pnml(const reading *r, const char *full)
 {
     const char *local = local_name(full);
-    if (local == full || r->depth == 0) return true;
+    if (local == full || r->depth == 0 || (innermost(r) == PNML && strcmp(local, "net") == 0)) return true;
     size_t len = (size_t)(local - full) - 1;
     if (r->grammar != NULL && strlen(r->grammar) == len && memcmp(r->grammar, full, len) == 0) return true;
     const char *word = strstr(full, "pnml");
@@ -271,14 +274,10 @@ static const char *attribute(const char **attributes, const char *name)
     return NULL;
 }
 
-static void begin_file(reading *r, const char *full)
+/* The namespace of an element is the grammar's. */
+static void take_grammar(reading *r, const char *full)
 {
     const char *local = local_name(full);
-    shown said = net_quote(local);
-    if (strcmp(local, "pnml") != 0) {
-        net_refuse(r, net_line(r), FORM, "the file begins with <%s>, not with <pnml>: it is no PNML file; export the net as PNML", said.text);
-        return;
-    }
     if (local == full) return;
     size_t len = (size_t)(local - full) - 1;
     r->grammar = net_room(r, len);
@@ -287,9 +286,18 @@ static void begin_file(reading *r, const char *full)
     r->grammar[len] = 0;
 }
 
-static void begin_net(reading *r, const char **attributes)
+static void begin_file(reading *r, const char *full)
+{
+    const char *local = local_name(full);
+    shown said = net_quote(local);
+    if (strcmp(local, "pnml") == 0) take_grammar(r, full);
+    else net_refuse(r, net_line(r), FORM, "the file begins with <%s>, not with <pnml>: it is no PNML file; export the net as PNML", said.text);
+}
+
+static void begin_net(reading *r, const char *full, const char **attributes)
 {
     shown id = net_quote(attribute(attributes, "id"));
+    take_grammar(r, full);
     if (r->net) net_refuse(r, net_line(r), FORM, "a second net (\"%s\") in the file; save each net in a file of its own", id.text);
     else check_net_type(r, attribute(attributes, "type"));
     r->net = true;
@@ -364,7 +372,7 @@ static void begin_label(reading *r, kind is, const char **attributes)
 static void begin_kind(reading *r, kind is, const char *full, const char **attributes)
 {
     if (is == PNML) begin_file(r, full);
-    else if (is == NET) begin_net(r, attributes);
+    else if (is == NET) begin_net(r, full, attributes);
     else if (is == PAGE) begin_page(r, attributes);
     else if (is == ARC) begin_arc(r, attributes);
     else if (is == POSITION) place(&r->entries[r->current], attribute(attributes, "x"), attribute(attributes, "y"));

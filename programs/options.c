@@ -115,7 +115,8 @@ static bool together(const command *own, const options *o)
 {
     bool waits = own->least_words == 0 && o->words_len == 0 && isatty(STDIN_FILENO) == 1;
     if (o->steps != 0 && !o->walk) io_say("--steps goes with --walk");
-    else if (waits || o->words_len < own->least_words || o->words_len > own->most_words) io_say("usage: dezgula %s; dezgula %s --help says more", own->usage, own->name);
+    else if (waits || o->words_len < own->least_words || o->words_len > own->most_words)
+        io_say("usage: dezgula %s; dezgula %s --help says more", own->usage, own->name);
     else return true;
     return false;
 }

@@ -204,8 +204,8 @@ static bool drawing_make(drawing *d, const map *m)
 static const char STYLE[] =
     ".net{font:13px 'Segoe UI',Roboto,'Helvetica Neue',Arial,sans-serif;background:#fff}"
     ".net text{text-anchor:middle;fill:#22303c}"
-    ".net .desk rect{fill:#f6f8fa;stroke:#d5dce3}"
-    ".net .desk text{text-anchor:start;fill:#5a6875;font-size:12px}"
+    ".net .desk{fill:#f6f8fa;stroke:#d5dce3}"
+    ".net .of-desk{text-anchor:start;fill:#5a6875;font-size:12px;stroke:#f6f8fa;stroke-width:4px;paint-order:stroke}"
     ".net .activity>rect{fill:#eaf0f6;stroke:#5b7690;stroke-width:1.3}"
     ".net .tray>rect{fill:#fff;stroke:#8b939c;stroke-width:1.3}"
     ".net .unchanged>rect{stroke-dasharray:4 3}"
@@ -227,10 +227,18 @@ static void write_desks(FILE *out, const drawing *d)
 {
     for (size_t i = 0; i < d->desks_len; i++) {
         const drawn_desk *k = &d->desks[i];
-        fprintf(out, "<g class=\"desk\"><rect x=\"%.1f\" y=\"%.1f\" width=\"%.1f\" height=\"%.1f\" rx=\"8\"/><text x=\"%.1f\" y=\"%.1f\">", k->left, k->top,
-                k->right - k->left, k->bottom - k->top, k->left + 10, k->top + 17);
-        escaped_write(out, k->name);
-        fputs("</text></g>\n", out);
+        fprintf(out, "<rect class=\"desk\" x=\"%.1f\" y=\"%.1f\" width=\"%.1f\" height=\"%.1f\" rx=\"8\"/>\n", k->left, k->top, k->right - k->left,
+                k->bottom - k->top);
+    }
+}
+
+/* Above the arcs, which may cross a desk's upper edge. */
+static void write_desk_names(FILE *out, const drawing *d)
+{
+    for (size_t i = 0; i < d->desks_len; i++) {
+        fprintf(out, "<text class=\"of-desk\" x=\"%.1f\" y=\"%.1f\">", d->desks[i].left + 10, d->desks[i].top + 17);
+        escaped_write(out, d->desks[i].name);
+        fputs("</text>\n", out);
     }
 }
 
@@ -357,13 +365,29 @@ static bool is_on(const drawing *d, const uint32_t *loop, size_t n)
     return false;
 }
 
+/* What a reader of the screen says of the picture. */
+static void write_title(FILE *out, const map *m, const uint32_t *loop)
+{
+    const char *between = ": ";
+    fputs(loop == NULL ? "<title>The net" : "<title>A loop in the net", out);
+    for (size_t j = 0; loop != NULL && j < m->q; j++) {
+        if (loop[j] == 0) continue;
+        fprintf(out, "%s%" PRIu32 " \xC3\x97 ", between, loop[j]);
+        escaped_write(out, m->activities[j].name);
+        between = ", ";
+    }
+    fputs("</title>\n", out);
+}
+
 static void write_svg(FILE *out, const drawing *d, const uint32_t *loop)
 {
     fprintf(out, "<svg xmlns=\"http://www.w3.org/2000/svg\" class=\"net%s\" viewBox=\"0 0 %.0f %.0f\" width=\"%.0f\" height=\"%.0f\" role=\"img\">\n",
             loop == NULL ? "" : " shows", d->width, d->height, d->width, d->height);
-    fprintf(out, "<title>%s</title>\n<style>%s</style>\n", loop == NULL ? "The net" : "A loop in the net", STYLE);
+    write_title(out, d->of, loop);
+    fprintf(out, "<style>%s</style>\n", STYLE);
     write_desks(out, d);
     for (size_t i = 0; i < d->arcs_len; i++) write_arc(out, d, &d->arcs[i], is_on(d, loop, activity_of(d, &d->arcs[i])));
+    write_desk_names(out, d);
     for (size_t i = d->nodes_len; i-- > 0;) write_node(out, d, i, loop == NULL || d->nodes[i].tray ? 0 : loop[i], is_on(d, loop, i));
     fputs("</svg>\n", out);
 }

@@ -22,7 +22,7 @@ enum { FEW = 18, MOST_FOR_DOT = 300 };
 #define DOT_SECONDS 10
 #endif
 
-/* Sheets at which the file's places are given up: what is drawn would be far apart, or on top of each other. */
+/* How much the file's distances are stretched at most; nodes that are on top of each other then still are not told apart by them. */
 static const double MOST_SCALE = 6.0;
 
 static double larger(double a, double b)

@@ -49,7 +49,8 @@ static bool read_sizes(const lines *text, size_t *p, size_t *q, fault *why)
         return fault_set(why, 9, "line 1: missing; a map begins with a line of two numbers, how many trays and how many activities it has");
     if (!read_numbers(text, 0, 2, sizes, &count, why)) return false;
     size_t line = text->lines[0].number;
-    if (count != 2) return fault_set(why, 9, "line %zu: %zu number%s; the first line has two, the trays and the activities", line, count, count == 1 ? "" : "s");
+    if (count != 2)
+        return fault_set(why, 9, "line %zu: %zu number%s; the first line has two, the trays and the activities", line, count, count == 1 ? "" : "s");
     if (sizes[0] < 1 || sizes[0] > MOST_TRAYS) return fault_set(why, 1, "line %zu: %d trays; 1 to %d", line, (int)sizes[0], MOST_TRAYS);
     if (sizes[1] < 1 || sizes[1] > MOST_ACTIVITIES) return fault_set(why, 2, "line %zu: %d activities; 1 to %d", line, (int)sizes[1], MOST_ACTIVITIES);
     *p = (size_t)sizes[0];

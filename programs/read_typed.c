@@ -46,7 +46,9 @@ static bool read_unknowns(const lines *text, bool strict, size_t *q, size_t *fir
     *first = counted ? 1 : 0;
     *q = counted && x > 0 ? (size_t)x : counted ? 0 : highest_unknown(text);
     if (*q >= 1 && *q <= MOST_TYPED) return true;
-    if (counted) return fault_set(why, 2, "line %zu: %d unknowns; typed equations have 1 to %d (a larger map has the matrix form, or is a net)", own->number, (int)x, MOST_TYPED);
+    if (counted)
+        return fault_set(why, 2, "line %zu: %d unknowns; typed equations have 1 to %d (a larger map has the matrix form, or is a net)", own->number, (int)x,
+                         MOST_TYPED);
     if (*q == 0) return fault_set(why, 2, "line %zu: no unknown, as x1; typed equations have 1 to %d", own->number, MOST_TYPED);
     return fault_set(why, 2, "an unknown above x%d; typed equations have x1 to x%d (a larger map has the matrix form, or is a net)", MOST_TYPED, MOST_TYPED);
 }

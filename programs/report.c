@@ -11,7 +11,7 @@
 
 /* Up to FEW_LOOPS the staffing table has a column for each loop, and beyond a line; it ends after MOST_LINES loops, which it says. Of more than MANY_LOOPS the
  * browser lays out only those of the list that are to be seen. */
-enum { FEW_LOOPS = 12, MOST_LINES = 2000, MANY_LOOPS = 400 };
+enum { FEW_LOOPS = 24, MOST_LINES = 2000, MANY_LOOPS = 400 };
 
 /* ---- style and script */
 

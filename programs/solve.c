@@ -334,10 +334,12 @@ static unsigned machine_of(const problem *what, size_t group)
 
 static bool say_size(const problem *what, unsigned machine, unsigned number, fault *why)
 {
+    static const char *const takes[MACHINES] = {[WALK] = "the walk takes", [RIGHTS] = "with deliveries there are", [LOWER] = "from a lower bound there are"};
+    const char *how = takes[machine] != NULL ? takes[machine] : "there are";
     bool engine = machine == ENGINE || machine == STAGES;
+    int most_p = engine ? MOST_TRAYS : DEZGULA_MOST_EQUATIONS;
     size_t most_q = engine ? MOST_ACTIVITIES : machine == RIGHTS ? DEZGULA_MOST_UNKNOWNS_WITH_RIGHTS : DEZGULA_MOST_UNKNOWNS;
-    const char *how = machine == WALK ? "the walk takes" : machine == RIGHTS ? "with deliveries there are" : machine == LOWER ? "from a lower bound there are" : "there are";
-    if (number == DEZGULA_EQUATIONS) return fault_set(why, number, "%zu trays change; %s 1 to %d", what->p, how, engine ? MOST_TRAYS : DEZGULA_MOST_EQUATIONS);
+    if (number == DEZGULA_EQUATIONS) return fault_set(why, number, "%zu trays change; %s 1 to %d", what->p, how, most_p);
     return fault_set(why, number, "%zu activities; %s 1 to %zu", what->q, how, most_q);
 }
 
@@ -348,7 +350,8 @@ static bool say(const run *r, uint64_t answer, fault *why)
     case DEZGULA_EQUATIONS:
     case DEZGULA_UNKNOWNS: return say_size(&r->what, r->machine, number, why);
     case DEZGULA_OUT_OF_ORDER: return fault_set(why, number, "the state of the run is not in order");
-    case DEZGULA_COEFFICIENT: return fault_set(why, number, "coefficient %" PRIu64 " is outside -%d to %d", dezgula_place(answer), MOST_COEFFICIENT, MOST_COEFFICIENT);
+    case DEZGULA_COEFFICIENT:
+        return fault_set(why, number, "coefficient %" PRIu64 " is outside -%d to %d", dezgula_place(answer), MOST_COEFFICIENT, MOST_COEFFICIENT);
     case DEZGULA_TUPLE_RANGE: return fault_set(why, number, "a count to begin from is above %d", MOST_COUNT);
     case DEZGULA_RIGHT_SIDE: return fault_set(why, number, "a right side is outside -%d to %d", MOST_COEFFICIENT, MOST_COEFFICIENT);
     case DEZGULA_COMPONENT: return fault_set(why, number, "a count would be above %d", MOST_COUNT);
@@ -411,7 +414,8 @@ void solve_end(run *r)
     free(r->list.at);
     free(r->second.at);
     dezgula_solver_free(r->engine);
-    void *const lent[] = {r->lent.equations, r->lent.basis, r->lent.sizes, r->lent.table, r->lent.values, r->lent.words, r->lent.degrees, r->lent.marks, r->lent.mothers};
+    void *const lent[] = {r->lent.equations, r->lent.basis,   r->lent.sizes, r->lent.table,  r->lent.values,
+                          r->lent.words,     r->lent.degrees, r->lent.marks, r->lent.mothers};
     for (size_t i = 0; i < sizeof lent / sizeof *lent; i++) free(lent[i]);
     free(r);
 }
@@ -526,8 +530,8 @@ lists solve_lists(const run *r)
     return shown;
 }
 
-/* ---- the state of a run: first these words, then the tables one after the other. Of the engine the solver's own words are the table; of its stages the tables are
- * the list of the groups before, the equations, the basis and the rows of the stage. */
+/* ---- the state of a run: first these words, then the tables one after the other. Of the engine the solver's own words are the table; of its stages the tables
+ * are the equations, the basis and the rows of the stage. */
 
 enum { TABLES = 4 };
 

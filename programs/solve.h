@@ -1,8 +1,8 @@
 /* Everything that is solved is solved behind this: a map to its lists, by proved calls, in tables that grow, in calls of about 50 ms each, so that it can be
  * interrupted, told of and saved between any two.
  *
- * The loops are the minimal solutions with all right sides zero. With right sides or a lower bound there is a second list, of what is wanted: the smallest tuples that
- * meet the right sides, or the smallest solutions at or above the bound. Every tuple that is wanted is one of the second list and loops.
+ * The loops are the minimal solutions with all right sides zero. With right sides or a lower bound there is a second list, of what is wanted: the smallest
+ * tuples that meet the right sides, or the smallest solutions at or above the bound. Every tuple that is wanted is one of the second list and loops.
  * Only a walk has lists before its end; what the other method holds until then says nothing of the map. */
 #ifndef SOLVE_H
 #define SOLVE_H

@@ -49,11 +49,10 @@ static void progress_line(const run *r, double seconds, char *line, size_t room)
     else snprintf(line + at, room - at, "equation %zu of %zu, %" PRIu64 " rows, %.0f s", p.done < p.of ? p.done + 1 : p.of, p.of, p.rows, seconds);
 }
 
-/* One write that may fail: nobody waits for progress. */
+/* Nobody waits for progress. */
 static void tell(const char *text)
 {
-    ssize_t n = write(STDERR_FILENO, text, strlen(text));
-    (void)n;
+    io_tell(text, strlen(text), 0);
 }
 
 static void tell_progress(const run *r, double seconds, bool terminal)
@@ -79,9 +78,11 @@ static void keep(const problem *what, const run *r, const char *file, clocks *c)
     if (least > MOST_KEPT) least = MOST_KEPT;
     if (before - c->kept < least) return;
     fault why;
-    if (!checkpoint_write(file, what, r, &why)) io_say("%s", why.text);
+    bool written = checkpoint_write(file, what, r, &why);
+    if (!written) io_say("%s", why.text);
     c->kept = now();
-    c->cost = c->kept - before;
+    /* what cannot be written is tried again later */
+    c->cost = written ? c->kept - before : MOST_KEPT;
 }
 
 static void look_up(const problem *what, const run *r, const char *file, clocks *c)

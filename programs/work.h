@@ -22,7 +22,8 @@ void solved_free(solved *s);
  * until checkpoint_remove. */
 int work(const problem *what, const char *name, const char *kept, solved *out);
 
-/* Puts both lists in the order in which they are shown: by size, which is the sum of the counts, and among equals those with more of the first activities first. */
+/* Puts both lists in the order in which they are shown: by size, which is the sum of the counts, and among equals those with more of the first activities
+ * first. */
 void solved_sort(solved *s);
 
 /* The sum of the counts of a row. */

@@ -1,6 +1,6 @@
 #!/usr/bin/env python3
-"""Gives the command damaged files: of each format, copies of a good file in which bytes, lines or numbers were changed, lost, doubled or added. No run may crash or
-hang; each that is not complete says a sentence; list files and kept runs that are not as they were written are refused.
+"""Gives the command damaged files: of each format, copies of a good file in which bytes, lines or numbers were changed, lost, doubled or added. No run may
+crash or hang; each that is not complete says a sentence; list files and kept runs that are not as they were written are refused.
 
   tests/command/damage.py PROGRAM [COUNT]     COUNT damaged files of each format, 100 if not given"""
 import glob
@@ -33,7 +33,8 @@ def lose(r, b):
 
 def add(r, b):
     at = r.randrange(len(b) + 1)
-    junk = r.choice([b"\0", b"-", b" ", b"\n", b"9" * 40, b"<", b"&x;", b"]]>", b"\xff\xfe", b"\xe2\x88\x92", b"(" * 50, b"=", b"<!DOCTYPE a [<!ENTITY x 'y'>]>", bytes(r.randrange(256) for _ in range(8))])
+    junk = r.choice([b"\0", b"-", b" ", b"\n", b"9" * 40, b"<", b"&x;", b"]]>", b"\xff\xfe", b"\xe2\x88\x92", b"(" * 50, b"=",
+                     b"<!DOCTYPE a [<!ENTITY x 'y'>]>", bytes(r.randrange(256) for _ in range(8))])
     return b[:at] + junk + b[at:]
 
 
@@ -92,7 +93,8 @@ def samples(program, tmp):
     kept = os.path.join(tmp, "kept")
     saved = os.path.join(tmp, "saved")
     subprocess.run([program, "save", os.path.join(ROOT, "maps", "review.map"), saved], check=True)
-    subprocess.run([program, "loops", "--walk", "--steps", "1000", "--checkpoint", kept, os.path.join(ROOT, "maps", "pauses.map")], stdout=subprocess.DEVNULL, stderr=subprocess.DEVNULL)
+    subprocess.run([program, "loops", "--walk", "--steps", "1000", "--checkpoint", kept, os.path.join(ROOT, "maps", "pauses.map")],
+                   stdout=subprocess.DEVNULL, stderr=subprocess.DEVNULL)
     maps = sorted(glob.glob(os.path.join(ROOT, "maps", "*.map")))
     typed = sorted(glob.glob(os.path.join(ROOT, "maps", "*.eqs")))
     nets = sorted(glob.glob(os.path.join(ROOT, "maps", "*.pnml")) + glob.glob(os.path.join(ROOT, "tests", "nets", "**", "*.pnml"), recursive=True))

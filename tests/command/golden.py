@@ -2,6 +2,7 @@
 """Runs the cases of tests/command/cases and compares status, standard output and standard error with what is kept in golden/.
 
   tests/command/golden.py PROGRAM [--write]     --write: keep what is printed now"""
+import json
 import os
 import shlex
 import subprocess
@@ -40,7 +41,10 @@ def main():
             if not os.path.exists(os.path.join(HERE, name)) or (name == "net-cases" and os.environ.get("NETS") == "0"):
                 continue
             for status, case, words in cases(name):
-                done = subprocess.run([program] + [w.replace("TMP", tmp) for w in words], cwd=ROOT, stdin=subprocess.DEVNULL, capture_output=True, text=True, timeout=120)
+                done = subprocess.run([program] + [w.replace("TMP", tmp) for w in words], cwd=ROOT, stdin=subprocess.DEVNULL, capture_output=True, text=True,
+                                      timeout=120)
+                if "json" in case:
+                    json.loads(done.stdout)
                 said = [text.replace(tmp, "TMP") for text in (done.stdout, done.stderr)]
                 base = os.path.join(HERE, "golden", case)
                 same = [kept(base + ".out", said[0], write), kept(base + ".err", said[1], write)]

@@ -1,6 +1,6 @@
 #!/usr/bin/env python3
-"""Kills a run that is kept in a file at random moments, by SIGKILL, and begins it again, until it ends by itself: its list must be that of a run which nobody killed.
-This is done again and again until there were so many kills.
+"""Kills a run that is kept in a file at random moments, by SIGKILL, and begins it again, until it ends by itself: its list must be that of a run which nobody
+killed. This is done again and again until there were so many kills.
 
   tests/command/kill.py PROGRAM MAP KILLS [WORD ..]     WORDs go before MAP"""
 import os
