@@ -27,7 +27,7 @@ typedef struct {
     unsigned full;
 } machine;
 
-enum { ENGINE, STAGES, WALK, RIGHTS, LOWER, DESK, MACHINES };
+enum { ENGINE, WANTED, STAGES, WALK, RIGHTS, LOWER, DESK, MACHINES };
 
 struct run {
     problem what;
@@ -120,6 +120,67 @@ static bool lengthen_engine(run *r)
 {
     (void)r;
     return false;
+}
+
+/* ---- by the engine, with right sides or a lower bound: one more unknown, placed first, whose column is the negated right sides. Of the minimal solutions of that
+ * system those with 0 there are the loops, those with 1 are the smallest that meet the right sides, and the others lie above no tuple that is wanted. From
+ * a lower bound, what exceeds it meets the right sides less what the bound itself makes of them. */
+
+/* What tray i is still to gain where the lower bound is done. */
+static int64_t still_to_gain(const problem *what, size_t i)
+{
+    int64_t right = what->rights != NULL ? what->rights[i] : 0;
+    for (size_t j = 0; what->lower != NULL && j < what->q; j++) right -= (int64_t)what->coefs[i * what->q + j] * what->lower[j];
+    return right;
+}
+
+static uint64_t start_wanted(run *r)
+{
+    const problem *w = &r->what;
+    uint64_t answer = DEZGULA_STARTED;
+    int32_t *coefs = malloc(w->p * (w->q + 1) * sizeof *coefs);
+    if (coefs == NULL) return DEZGULA_ENGINE_FULL;
+    for (size_t i = 0; i < w->p && answer == DEZGULA_STARTED; i++) {
+        int64_t right = still_to_gain(w, i);
+        if (right < -MOST_COEFFICIENT || right > MOST_COEFFICIENT) answer = DEZGULA_RIGHT_SIDE;
+        coefs[i * (w->q + 1)] = (int32_t)-right;
+        memcpy(coefs + i * (w->q + 1) + 1, w->coefs + i * w->q, w->q * sizeof *coefs);
+    }
+    dezgula_system system = {w->p, w->q + 1, coefs, w->p * (w->q + 1)};
+    if (answer == DEZGULA_STARTED) r->engine = dezgula_solver_new(&system, &answer);
+    if (r->engine != NULL) dezgula_solver_limit(r->engine, most_bytes());
+    free(coefs);
+    return answer;
+}
+
+/* Copies the rows whose first unknown is `first` to a table, without it and, where they are wanted, with the lower bound added. Gives how many there are; false:
+ * no memory, or a count that is too large. */
+static uint64_t take_rows(const run *r, uint32_t first, table *out, uint64_t *count)
+{
+    const problem *w = &r->what;
+    size_t rows = 0, q = w->q;
+    const uint32_t *row = dezgula_solver_rows(r->engine, &rows);
+    *count = 0;
+    for (size_t i = 0; i < rows; i++) *count += row[i * (q + 1)] == first;
+    if (!set_length(out, (size_t)*count * q)) return DEZGULA_ENGINE_FULL;
+    uint32_t *to = out->at;
+    for (size_t i = 0; i < rows; i++, row += q + 1) {
+        if (row[0] != first) continue;
+        for (size_t j = 0; j < q; j++, to++) {
+            *to = row[j + 1] + (first == 1 && w->lower != NULL ? w->lower[j] : 0);
+            if (*to > MOST_COUNT) return DEZGULA_COMPONENT;
+        }
+    }
+    return DEZGULA_COMPLETE;
+}
+
+static uint64_t go_on_wanted(run *r, uint64_t budget)
+{
+    (void)budget;
+    uint64_t answer = dezgula_solver_work(r->engine, 0);
+    if (answer == DEZGULA_COMPLETE) answer = take_rows(r, 0, &r->list, &r->record.found.count);
+    if (answer == DEZGULA_COMPLETE) answer = take_rows(r, 1, &r->second, &r->record.second.count);
+    return answer;
 }
 
 /* ---- by the engine's stages, from the list of the groups before */
@@ -315,6 +376,7 @@ static uint64_t go_on_desk(run *r, uint64_t budget)
 
 static const machine machines[MACHINES] = {
     {start_engine, go_on_engine, lengthen_engine, DEZGULA_ENGINE_FULL},
+    {start_wanted, go_on_wanted, lengthen_engine, DEZGULA_ENGINE_FULL},
     {start_stages, go_on_stages, lengthen_stages, DEZGULA_ENGINE_FULL},
     {start_walk, go_on_walk, lengthen_walk, DEZGULA_LIST_FULL},
     {start_rights, go_on_rights, lengthen_walk, DEZGULA_LIST_FULL},
@@ -325,20 +387,19 @@ static const machine machines[MACHINES] = {
 static unsigned machine_of(const problem *what, size_t group)
 {
     if (group > 0) return what->how == BY_WALK ? DESK : STAGES;
-    if (what->lower != NULL) return LOWER;
-    if (what->rights != NULL) return RIGHTS;
-    return what->how == BY_WALK ? WALK : ENGINE;
+    bool wanted = what->lower != NULL || what->rights != NULL;
+    if (what->how != BY_WALK) return wanted ? WANTED : ENGINE;
+    return what->lower != NULL ? LOWER : what->rights != NULL ? RIGHTS : WALK;
 }
 
 /* ---- what is said of an answer */
 
 static bool say_size(const problem *what, unsigned machine, unsigned number, fault *why)
 {
-    static const char *const takes[MACHINES] = {[WALK] = "the walk takes", [RIGHTS] = "with deliveries there are", [LOWER] = "from a lower bound there are"};
-    const char *how = takes[machine] != NULL ? takes[machine] : "there are";
-    bool engine = machine == ENGINE || machine == STAGES;
+    bool engine = machine == ENGINE || machine == WANTED || machine == STAGES, fewer = machine == WANTED || machine == RIGHTS;
+    const char *how = machine == WANTED ? "with deliveries or a lower bound there are" : engine ? "there are" : "the walk takes";
     int most_p = engine ? MOST_TRAYS : DEZGULA_MOST_EQUATIONS;
-    size_t most_q = engine ? MOST_ACTIVITIES : machine == RIGHTS ? DEZGULA_MOST_UNKNOWNS_WITH_RIGHTS : DEZGULA_MOST_UNKNOWNS;
+    size_t most_q = (engine ? MOST_ACTIVITIES : DEZGULA_MOST_UNKNOWNS) - (fewer ? 1 : 0);
     if (number == DEZGULA_EQUATIONS) return fault_set(why, number, "%zu trays change; %s 1 to %d", what->p, how, most_p);
     return fault_set(why, number, "%zu activities; %s 1 to %zu", what->q, how, most_q);
 }
@@ -353,7 +414,8 @@ static bool say(const run *r, uint64_t answer, fault *why)
     case DEZGULA_COEFFICIENT:
         return fault_set(why, number, "coefficient %" PRIu64 " is outside -%d to %d", dezgula_place(answer), MOST_COEFFICIENT, MOST_COEFFICIENT);
     case DEZGULA_TUPLE_RANGE: return fault_set(why, number, "a count to begin from is above %d", MOST_COUNT);
-    case DEZGULA_RIGHT_SIDE: return fault_set(why, number, "a right side is outside -%d to %d", MOST_COEFFICIENT, MOST_COEFFICIENT);
+    case DEZGULA_RIGHT_SIDE:
+        return fault_set(why, number, "a tray would have to gain or lose more than %d%s", MOST_COEFFICIENT, r->what.lower != NULL ? ", given the lower bound" : "");
     case DEZGULA_COMPONENT: return fault_set(why, number, "a count would be above %d", MOST_COUNT);
     case DEZGULA_STEPS_AT_LIMIT: return fault_set(why, number, "1,000,000,000,000 steps are taken");
     case DEZGULA_LIST_FULL:
@@ -376,8 +438,10 @@ static double now(void)
 
 static bool fits(const problem *what, fault *why)
 {
-    bool two = (what->rights != NULL) + (what->lower != NULL) + (what->groups_len > 1) > 1;
-    if (two) return fault_set(why, 0, "deliveries, a lower bound and desks are asked for one at a time");
+    bool wanted = what->rights != NULL || what->lower != NULL;
+    if (wanted && what->groups_len > 1) return fault_set(why, 0, "with desks there are neither deliveries nor a lower bound");
+    if (what->how == BY_WALK && what->rights != NULL && what->lower != NULL)
+        return fault_set(why, 0, "the walk takes deliveries or a lower bound, not both");
     return true;
 }
 
@@ -460,7 +524,7 @@ static bool steps_left(const run *r, uint64_t *budget)
 {
     uint64_t taken = r->record.steps.count + r->record.before.count;
     *budget = r->budget;
-    if (r->what.most_steps == 0 || r->machine == ENGINE || r->machine == STAGES) return true;
+    if (r->what.most_steps == 0 || r->what.how != BY_WALK) return true;
     if (taken >= r->what.most_steps) return false;
     if (*budget > r->what.most_steps - taken) *budget = r->what.most_steps - taken;
     return true;
@@ -491,7 +555,7 @@ state solve_go_on(run *r, fault *why)
 progress solve_progress(const run *r)
 {
     progress told = {.walking = true, .desk = r->group + 1, .desks = r->what.groups_len > 1 ? r->what.groups_len : 1, .of = system_of(r).p};
-    if (r->machine == ENGINE) {
+    if (r->machine == ENGINE || r->machine == WANTED) {
         dezgula_solver_progress p = r->engine != NULL ? dezgula_solver_told(r->engine) : (dezgula_solver_progress){0, 0, 0, {0}};
         told.walking = false;
         told.done = p.done;
@@ -514,11 +578,11 @@ progress solve_progress(const run *r)
 lists solve_lists(const run *r)
 {
     lists shown = {NULL, NULL, 0, 0};
-    if (!r->complete && (r->machine == ENGINE || r->machine == STAGES || r->machine == DESK || r->what.groups_len > 1)) return shown;
+    if (!r->complete && (r->what.how != BY_WALK || r->what.groups_len > 1)) return shown;
     table list = list_of(r);
     shown.loops = list.at;
     shown.loops_len = list.len / r->what.q;
-    if (r->machine == RIGHTS) {
+    if (r->machine == RIGHTS || r->machine == WANTED) {
         shown.wanted = r->second.at;
         shown.wanted_len = (size_t)r->record.second.count;
     } else if (r->machine == LOWER) {
@@ -551,7 +615,7 @@ static void tables_of(const run *r, const uint32_t *saved, table out[TABLES])
     const table stages[TABLES] = {{NULL, 0}, {(uint32_t *)r->lent.equations, r->lent.equations_len}, {r->lent.basis, (size_t)at->count * q},
                                   {r->lent.table, (size_t)at->rows * q}};
     const table engine[TABLES] = {{(uint32_t *)(uintptr_t)saved, saved != NULL ? dezgula_solver_saved_length(r->engine) : 0}};
-    memcpy(out, r->machine == ENGINE ? engine : r->machine == STAGES ? stages : walk, sizeof walk);
+    memcpy(out, saved != NULL ? engine : r->machine == STAGES ? stages : walk, sizeof walk);
 }
 
 static void *packed(const run *r, const table tables[TABLES], size_t *len)
@@ -579,7 +643,7 @@ void *solve_state(const run *r, size_t *len)
 {
     table tables[TABLES];
     uint32_t *saved = NULL;
-    if (r->machine == ENGINE) {
+    if (r->engine != NULL) {
         saved = malloc(dezgula_solver_saved_length(r->engine) * sizeof *saved);
         if (saved == NULL) return NULL;
         dezgula_solver_save(r->engine, saved);
@@ -601,7 +665,7 @@ static bool in_order(const problem *what, const words *head, size_t len)
         if (head->lengths[i] > numbers) return false;
         numbers -= head->lengths[i];
     }
-    if (numbers != 0 || head->machine == ENGINE) return numbers == 0;
+    if (numbers != 0 || head->machine == ENGINE || head->machine == WANTED) return numbers == 0;
     uint64_t p = before + (what->groups_len > 1 ? what->groups[head->group] : what->p), q = what->q;
     if (head->machine == STAGES) return head->lengths[1] == p * q && head->lengths[2] / q == head->stages[3] && head->lengths[3] / q == head->stages[4];
     if (head->record.found.count > head->lengths[2] / q || head->lengths[2] % q != 0) return false;
@@ -650,7 +714,8 @@ static bool take_tables(run *r, const words *head, const char *bytes, size_t len
     uint32_t *copy = malloc(len + sizeof *copy);
     if (copy == NULL) return false;
     memcpy(copy, bytes, len);
-    bool taken = r->machine == ENGINE ? take_engine(r, head, copy) : r->machine == STAGES ? take_stages(r, head, copy) : take_walk(r, head, copy);
+    bool engine = r->machine == ENGINE || r->machine == WANTED;
+    bool taken = engine ? take_engine(r, head, copy) : r->machine == STAGES ? take_stages(r, head, copy) : take_walk(r, head, copy);
     free(copy);
     return taken;
 }
