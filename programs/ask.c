@@ -70,6 +70,11 @@ static reply reply_of(uint64_t answer, fault *why)
     case DEZGULA_ABOVE: r.kind = ANSWER_ABOVE; break;
     case DEZGULA_UNLISTED: r.kind = ANSWER_UNLISTED; break;
     case DEZGULA_MADE: r.kind = ANSWER_MADE; break;
+    case DEZGULA_EQUATIONS:
+    case DEZGULA_UNKNOWNS:
+        fault_set(why, dezgula_number(answer), "questions are about maps of at most %d trays and %d activities, of which a delivery counts as one",
+                  DEZGULA_MOST_EQUATIONS, DEZGULA_MOST_UNKNOWNS);
+        break;
     default: fault_set(why, dezgula_number(answer), "%s", dezgula_sentence(answer));
     }
     return r;

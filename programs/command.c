@@ -16,7 +16,7 @@ const char *file_of(const options *o)
 
 const char *wanted_word(const options *o)
 {
-    return o->at_least_len > 0 ? "plan" : "delivery";
+    return o->at_least_len > 0 && o->deliver_len == 0 ? "plan" : "delivery";
 }
 
 int set_deliveries(map *m, const options *o)
