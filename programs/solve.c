@@ -399,7 +399,7 @@ static bool say_size(const problem *what, unsigned machine, unsigned number, fau
     bool engine = machine == ENGINE || machine == WANTED || machine == STAGES, fewer = machine == WANTED || machine == RIGHTS;
     const char *how = machine == WANTED ? "with deliveries or a lower bound there are" : engine ? "there are" : "the walk takes";
     int most_p = engine ? MOST_TRAYS : DEZGULA_MOST_EQUATIONS;
-    size_t most_q = (engine ? MOST_ACTIVITIES : DEZGULA_MOST_UNKNOWNS) - (fewer ? 1 : 0);
+    size_t most_q = (engine ? (size_t)MOST_ACTIVITIES : (size_t)DEZGULA_MOST_UNKNOWNS) - (fewer ? 1 : 0);
     if (number == DEZGULA_EQUATIONS) return fault_set(why, number, "%zu trays change; %s 1 to %d", what->p, how, most_p);
     return fault_set(why, number, "%zu activities; %s 1 to %zu", what->q, how, most_q);
 }
