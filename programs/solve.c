@@ -122,9 +122,9 @@ static bool lengthen_engine(run *r)
     return false;
 }
 
-/* ---- by the engine, with right sides or a lower bound: one more unknown, placed first, whose column is the negated right sides. Of the minimal solutions of that
- * system those with 0 there are the loops, those with 1 are the smallest that meet the right sides, and the others lie above no tuple that is wanted. From
- * a lower bound, what exceeds it meets the right sides less what the bound itself makes of them. */
+/* ---- by the engine, with right sides or a lower bound: one more unknown, placed first, whose column is the negated right sides. Of the minimal solutions of
+ * that system those with 0 there are the loops, those with 1 are the smallest that meet the right sides (a loop below one could be taken from it), and the
+ * others are left out. From a lower bound, what exceeds it meets the right sides less what the bound itself makes of them. */
 
 /* What tray i is still to gain where the lower bound is done. */
 static int64_t still_to_gain(const problem *what, size_t i)
@@ -153,8 +153,8 @@ static uint64_t start_wanted(run *r)
     return answer;
 }
 
-/* Copies the rows whose first unknown is `first` to a table, without it and, where they are wanted, with the lower bound added. Gives how many there are; false:
- * no memory, or a count that is too large. */
+/* Copies the rows whose first unknown is `first` to a table, without it and, where they are wanted, with the lower bound added. Answers DEZGULA_COMPLETE and how
+ * many there are; or 31, no memory, or 12, a count that is too large. */
 static uint64_t take_rows(const run *r, uint32_t first, table *out, uint64_t *count)
 {
     const problem *w = &r->what;
@@ -415,7 +415,8 @@ static bool say(const run *r, uint64_t answer, fault *why)
         return fault_set(why, number, "coefficient %" PRIu64 " is outside -%d to %d", dezgula_place(answer), MOST_COEFFICIENT, MOST_COEFFICIENT);
     case DEZGULA_TUPLE_RANGE: return fault_set(why, number, "a count to begin from is above %d", MOST_COUNT);
     case DEZGULA_RIGHT_SIDE:
-        return fault_set(why, number, "a tray would have to gain or lose more than %d%s", MOST_COEFFICIENT, r->what.lower != NULL ? ", given the lower bound" : "");
+        return fault_set(why, number, "a tray would have to gain or lose more than %d%s", MOST_COEFFICIENT,
+                         r->what.lower != NULL ? ", given the lower bound" : "");
     case DEZGULA_COMPONENT: return fault_set(why, number, "a count would be above %d", MOST_COUNT);
     case DEZGULA_STEPS_AT_LIMIT: return fault_set(why, number, "1,000,000,000,000 steps are taken");
     case DEZGULA_LIST_FULL:
