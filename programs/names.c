@@ -274,6 +274,12 @@ int rights_read(const map *m, char *const *words, size_t words_len, int32_t *out
             if (!set_named(&n, words[i], strlen(words[i]), x, &why)) return io_refuse("--deliver", &why);
             continue;
         }
+        size_t k;
+        fault unnamed;
+        if (find_name(&n, words[i], strlen(words[i]), &k, &unnamed)) {
+            fault_set(&why, 0, "by how many documents is the tray %.80s to grow? say %.80s=N", words[i], words[i]);
+            return io_refuse("--deliver", &why);
+        }
         int status = rights_of_file(m, words[i], x);
         if (status != STATUS_COMPLETE) return status;
     }
