@@ -153,8 +153,8 @@ static uint64_t start_wanted(run *r)
     return answer;
 }
 
-/* Copies the rows whose first unknown is `first` to a table, without it and, where they are wanted, with the lower bound added. Answers DEZGULA_COMPLETE and how
- * many there are; or 31, no memory, or 12, a count that is too large. */
+/* Copies the rows whose first unknown is `first` to a table, without it and, where they are wanted, with the lower bound added. Answers DEZGULA_COMPLETE and
+ * how many there are; or 31, no memory, or 12, a count that is too large. */
 static uint64_t take_rows(const run *r, uint32_t first, table *out, uint64_t *count)
 {
     const problem *w = &r->what;
