@@ -8,8 +8,9 @@
 #include <unistd.h>
 
 #include "io.h"
+#include "replace.h"
 
-enum { VERSION = 1, MOST_NAME = 4096 };
+enum { VERSION = 1 };
 static const char MAGIC[16] = "dezgula run\n";
 /* more than the tables of any run take */
 static const size_t MOST_KEPT = (size_t)1 << 34;
@@ -85,24 +86,13 @@ static block whole_block(const problem *what, const run *r)
     return b;
 }
 
-/* ---- names */
-
-/* Where a file is, through links; and the temporary file beside it. False: the name is too long. */
-static bool places(const char *file, char place[MOST_NAME], char temporary[MOST_NAME])
-{
-    char *through = realpath(file, NULL);
-    int n = snprintf(place, MOST_NAME, "%s", through != NULL ? through : file);
-    free(through);
-    if (n < 0 || n >= MOST_NAME) return false;
-    n = snprintf(temporary, MOST_NAME, "%s.new", place);
-    return n >= 0 && n < MOST_NAME;
-}
+/* ---- writing */
 
 bool checkpoint_possible(const char *file)
 {
     char place[MOST_NAME], temporary[MOST_NAME];
     struct stat about;
-    if (!places(file, place, temporary)) {
+    if (!replace_places(file, place, temporary)) {
         io_say("the name of the checkpoint is too long");
         return false;
     }
@@ -120,55 +110,20 @@ bool checkpoint_possible(const char *file)
     return true;
 }
 
-/* ---- writing */
-
-/* Puts a rename on the disk, where the file system can. */
-static void sync_directory(const char *place)
-{
-    char directory[MOST_NAME];
-    snprintf(directory, sizeof directory, "%s", place);
-    char *slash = strrchr(directory, '/');
-    if (slash == NULL) strcpy(directory, ".");
-    else if (slash == directory) slash[1] = 0;
-    else *slash = 0;
-    int descriptor = open(directory, O_RDONLY | O_DIRECTORY | O_CLOEXEC);
-    if (descriptor < 0) return;
-    (void)fsync(descriptor);
-    close(descriptor);
-}
-
-/* Writes a whole file that is on the disk when this returns. */
-static bool write_file(const char *name, const block *b)
-{
-    int descriptor = open(name, O_WRONLY | O_CREAT | O_TRUNC | O_CLOEXEC, 0666);
-    if (descriptor < 0) return false;
-    bool written = io_write(descriptor, b->bytes, b->len) && fsync(descriptor) == 0;
-    int why = errno;
-    if (close(descriptor) != 0 && written) return false;
-    errno = why;
-    return written;
-}
-
 bool checkpoint_write(const char *file, const problem *what, const run *r, fault *why)
 {
-    char place[MOST_NAME], temporary[MOST_NAME];
-    if (!places(file, place, temporary)) return fault_set(why, 0, "the name of the checkpoint is too long");
     block b = whole_block(what, r);
     if (b.bytes == NULL) return fault_set(why, 0, "the run cannot be kept in %s: there is no memory", file);
-    bool written = write_file(temporary, &b) && rename(temporary, place) == 0;
-    if (!written) {
-        fault_set(why, 0, "the run cannot be kept in %s: %s", file, strerror(errno));
-        unlink(temporary);
-    }
+    bool written = replace_file(file, b.bytes, b.len);
+    if (!written) fault_set(why, 0, "the run cannot be kept in %s: %s", file, strerror(errno));
     free(b.bytes);
-    if (written) sync_directory(place);
     return written;
 }
 
 void checkpoint_remove(const char *file)
 {
     char place[MOST_NAME], temporary[MOST_NAME];
-    if (!places(file, place, temporary)) return;
+    if (!replace_places(file, place, temporary)) return;
     unlink(place);
     unlink(temporary);
 }

@@ -121,22 +121,13 @@ static void tell_list(const char *how, const office *of, const solved *s)
     rows_in_words(stdout, &of->m, s->loops, s->loops_len);
 }
 
-static int compare(const uint32_t *x, const uint32_t *y, size_t q)
-{
-    uint64_t m = size_of_row(x, q), n = size_of_row(y, q);
-    if (m != n) return m < n ? -1 : 1;
-    for (size_t j = 0; j < q; j++)
-        if (x[j] != y[j]) return x[j] > y[j] ? -1 : 1;
-    return 0;
-}
-
 /* Says which loops are on one side only; gives how many. Both lists are sorted. */
 static size_t differences(const office *of, const solved *whole, const solved *built)
 {
     size_t i = 0, k = 0, count = 0, q = of->m.q;
     while (i < whole->loops_len || k < built->loops_len) {
         const uint32_t *x = whole->loops + i * q, *y = built->loops + k * q;
-        int order = i == whole->loops_len ? 1 : k == built->loops_len ? -1 : compare(x, y, q);
+        int order = i == whole->loops_len ? 1 : k == built->loops_len ? -1 : compare_rows(x, y, q);
         if (order == 0) {
             i++;
             k++;

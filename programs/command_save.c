@@ -1,5 +1,4 @@
 #include <errno.h>
-#include <fcntl.h>
 #include <stdlib.h>
 #include <string.h>
 #include <unistd.h>
@@ -8,8 +7,7 @@
 #include "dezgula_text.h"
 #include "io.h"
 #include "read.h"
-
-enum { MOST_NAME = 4096 };
+#include "replace.h"
 
 /* The bytes of the file of a list; NULL: refused, and `why` says why. */
 static uint8_t *file_of_list(const map *m, const solved *s, size_t *len, fault *why)
@@ -33,27 +31,6 @@ static uint8_t *file_of_list(const map *m, const solved *s, size_t *len, fault *
     return NULL;
 }
 
-/* Writes a new file, whole or not at all. */
-static bool write_file(const char *name, const void *bytes, size_t len)
-{
-    char temporary[MOST_NAME];
-    int n = snprintf(temporary, sizeof temporary, "%s.new", name);
-    errno = ENAMETOOLONG;
-    int descriptor = n > 0 && n < MOST_NAME ? open(temporary, O_WRONLY | O_CREAT | O_TRUNC | O_CLOEXEC, 0666) : -1;
-    if (descriptor < 0) return false;
-    bool written = io_write(descriptor, bytes, len) && fsync(descriptor) == 0;
-    int why = errno;
-    if (close(descriptor) != 0 && written) {
-        why = errno;
-        written = false;
-    }
-    if (written && rename(temporary, name) == 0) return true;
-    if (written) why = errno;
-    unlink(temporary);
-    errno = why;
-    return false;
-}
-
 static int write_list(const options *o, const map *m, const solved *s, int status)
 {
     fault why = {0, ""};
@@ -65,11 +42,12 @@ static int write_list(const options *o, const map *m, const solved *s, int statu
     uint8_t *bytes = file_of_list(m, s, &len, &why);
     if (bytes == NULL) return io_refuse(file_of(o), &why);
     if (o->words_len < 2) fwrite(bytes, 1, len, stdout);
-    else if (!write_file(o->words[1], bytes, len)) {
+    else if (!replace_file(o->words[1], bytes, len)) {
         io_say("cannot write %s: %s", o->words[1], strerror(errno));
         status = STATUS_NOTHING;
     }
     free(bytes);
+    if (s->has_wanted) io_say("a list file holds loops; what meets the right sides is not in it");
     if (status == STATUS_CUT_SHORT) io_say("the list is saved as one that is cut short, with %zu loop%s", s->loops_len, s->loops_len == 1 ? "" : "s");
     return finish(o, status);
 }

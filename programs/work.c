@@ -139,24 +139,28 @@ uint64_t size_of_row(const uint32_t *row, size_t q)
     return sum;
 }
 
-/* the width of the rows that are compared, as qsort hands nothing over */
-static size_t compared_q;
-
-static int compare_rows(const void *a, const void *b)
+int compare_rows(const uint32_t *x, const uint32_t *y, size_t q)
 {
-    const uint32_t *x = a, *y = b;
-    uint64_t m = size_of_row(x, compared_q), n = size_of_row(y, compared_q);
+    uint64_t m = size_of_row(x, q), n = size_of_row(y, q);
     if (m != n) return m < n ? -1 : 1;
-    for (size_t j = 0; j < compared_q; j++)
+    for (size_t j = 0; j < q; j++)
         if (x[j] != y[j]) return x[j] > y[j] ? -1 : 1;
     return 0;
 }
 
+/* the width of the rows that are sorted, as qsort hands nothing over */
+static size_t sorted_q;
+
+static int compare_sorted(const void *x, const void *y)
+{
+    return compare_rows(x, y, sorted_q);
+}
+
 void solved_sort(solved *s)
 {
-    compared_q = s->q;
-    if (s->loops_len > 1) qsort(s->loops, s->loops_len, s->q * sizeof *s->loops, compare_rows);
-    if (s->wanted_len > 1) qsort(s->wanted, s->wanted_len, s->q * sizeof *s->wanted, compare_rows);
+    sorted_q = s->q;
+    if (s->loops_len > 1) qsort(s->loops, s->loops_len, s->q * sizeof *s->loops, compare_sorted);
+    if (s->wanted_len > 1) qsort(s->wanted, s->wanted_len, s->q * sizeof *s->wanted, compare_sorted);
 }
 
 /* ---- from a problem to its lists */

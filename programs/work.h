@@ -26,6 +26,9 @@ int work(const problem *what, const char *name, const char *kept, solved *out);
  * first. */
 void solved_sort(solved *s);
 
+/* That order: below 0 where x comes before y, 0 where they are the same. */
+int compare_rows(const uint32_t *x, const uint32_t *y, size_t q);
+
 /* The sum of the counts of a row. */
 uint64_t size_of_row(const uint32_t *row, size_t q);
 
