@@ -2,14 +2,14 @@
 #ifndef LIMITS_H
 #define LIMITS_H
 
-#include "dezgula.h"
+#include "dezgula_engine.h"
 
 /* The most trays (equations) and activities (unknowns) of a map that the command takes. */
 #ifndef MOST_TRAYS
-#define MOST_TRAYS DEZGULA_MOST_EQUATIONS
+#define MOST_TRAYS DEZGULA_ENGINE_MOST
 #endif
 #ifndef MOST_ACTIVITIES
-#define MOST_ACTIVITIES DEZGULA_MOST_UNKNOWNS
+#define MOST_ACTIVITIES DEZGULA_ENGINE_MOST
 #endif
 
 /* What a tray may gain or lose by one activity, and a right side, in size. */
