@@ -16,9 +16,12 @@ pub mod Words
 pub mod Fresh
 pub mod Found
 pub mod Beside
+pub mod Counts
 pub mod Engine
+pub mod EngineLaws
 pub mod Operations
 pub mod Whole
 pub mod Calls
 pub mod Promise
+pub mod Own
 pub mod Examples

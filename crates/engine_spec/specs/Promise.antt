@@ -3,28 +3,30 @@
 use mathlib.Core.Path.{_≡_, refl, sym, _∙_, ap}
 use mathlib.Core.Logic.{_≢_, _⊎_, inl, inr}
 use mathlib.Core.Bool.{Bool, true, false, not, cond, _&&_, _||_}
-use mathlib.Core.List.{List, []}
+use mathlib.Core.List.{List, [], _∷_}
 use Prim.Native.Nat.{ℕ, zero, suc, _+_, _*_, _^_, _-_, _≤_, _<_}
 use native.Mathlib.Nat.{mul-le-mul-right}
 use native.Mathlib.Omega.{arith}
-use lib.Dec.{T, T-not, eqb, eqb→eq, leb, ltb, ltb→lt, lt→ltb, nltb→le, not-T}
-use lib.IntN.{ℤ, pos, negsuc}
+use lib.Dec.{T, T-not, eqb, eqb→eq, leb, leb→le, ltb, ltb→lt, lt→ltb, nltb→le, not-T}
+use lib.IntN.{ℤ, pos, negsuc, natAbs}
 use lib.ListN.{getD, length}
 use lib.Pow.{pow-pos}
+use Rattle.linear.specs.Cases.{below-suc, split}
 use Rattle.linear.specs.Combinations.{Enumerates}
 use Rattle.linear.specs.TestLaws.{T-dec, all-at, and-parts, count-le}
 use Rattle.linear.specs.Tests.{allTo, countTo}
 use Rattle.linear.specs.TupleLaws.{term-le-total, total-same, total-unit}
 use Rattle.linear.specs.Tuples.{Same, total, unit}
-use Rattle.definitions.specs.Answers.{Answer, Check, _then_, complete, go, paused, refuse, refuseFirst, refuseIf, refused, started}
-use Rattle.definitions.specs.System.{isZero}
+use Rattle.definitions.specs.Answers.{Answer, Check, _then_, complete, go, paused, refuse, refuseFirst, refuseIf, refuseWith, refused, started}
+use Rattle.definitions.specs.System.{coefLimit, isZero}
 use Rattle.definitions.specs.Tables.{at, frozen}
 use Rattle.laws.specs.AnswerLaws.{refuse-if-go, then-go}
 use Rattle.laws.specs.MarkLaws.{ones-frozen}
-use Rattle.laws.specs.TableLaws.{row-before}
+use Rattle.laws.specs.TableLaws.{row-before, row-fits}
 use Rattle.decomposition.specs.Loops.{Loop}
 use Rattle.sweeps.specs.Pack.{pack-length, pack-row, packTo}
 use Rattle.sweeps.specs.Sweep.{sweptTo}
+use Rattle.engine_spec.specs.Beside.{coefficientLimit}
 use Rattle.engine_spec.specs.Calls.{
   check1,
   check2,
@@ -57,6 +59,7 @@ use Rattle.engine_spec.specs.Engine.{
   combination,
   combined,
   equationOf,
+  fillTo,
   lacks,
   rested,
   result,
@@ -69,7 +72,7 @@ use Rattle.engine_spec.specs.Engine.{
 use Rattle.engine_spec.specs.Equations.{Picked, is-zero, units-enumerate}
 use Rattle.engine_spec.specs.Fresh.{without-at, without-given, withoutAt}
 use Rattle.engine_spec.specs.Moved.{moved-given, moved-sound, withTable}
-use Rattle.engine_spec.specs.Operations.{Alike, Apart, alike-enumerates, alike-given, alike-then, combined-alike, done-alike, fill-inside, fill-length, value-alike}
+use Rattle.engine_spec.specs.Operations.{Alike, Apart, alike-enumerates, alike-given, alike-then, combined-alike, done-alike, fill-inside, fill-length, fill-outside, value-alike}
 use Rattle.engine_spec.specs.ReductionLaws.{SameRows}
 use Rattle.engine_spec.specs.Sound.{Given}
 use Rattle.engine_spec.specs.Stage.{Stage, begin}
@@ -80,7 +83,7 @@ use Rattle.engine_spec.specs.Whole.{Good, Standing, Whole, between, done
 false-not : (b : Bool) → b ≡ false → ¬ (T b)
 false-not b e h = rw e at h
 
-not-false : (b : Bool) → not b ≡ false → T b
+pub not-false : (b : Bool) → not b ≡ false → T b
 not-false b e = elim (T-dec b) [ inl h ↦ h | inr n ↦ absurd (false-not (not b) e (not-T b n)) ]
 
 or-false : (b c : Bool) → (b || c) ≡ false → (b ≡ false) × (c ≡ false)
@@ -90,6 +93,19 @@ or-false false c e = (refl, e)
 -- a test passed: the check lets go on
 passes : (b : Bool) (n : ℕ) → refuseIf (not b) n ≡ go → T b
 passes b n e = not-false b (refuse-if-go (not b) n e)
+
+with-silent : (b : Bool) (n : ℕ) (values : List ℕ) → refuseWith b n values ≡ go → b ≡ false
+unfolding refuseWith
+with-silent true n values e = cc
+with-silent false n values e = refl
+
+-- a search for the first place that finds none
+first-silent : (n k : ℕ) (f : ℕ → Bool) → refuseFirst n k f ≡ go → (i : ℕ) → i < k → f i ≡ false
+unfolding refuseFirst
+first-silent n zero f e i l = absurd (omega arith)
+first-silent n (suc k) f e i l =
+    let (a, b) = then-go (refuseFirst n k f) _ e in
+    elim (below-suc l) [ inl m ↦ first-silent n k f a i m | inr g ↦ rw g (with-silent (f k) n (suc k ∷ []) b) ]
 
 module _ (p q most room : ℕ) (w : Work) (own : Check) where
   -- what is its own lets the call go on too
@@ -108,7 +124,8 @@ count-always zero = refl
 count-always (suc n) = omega (arith, count-always n)
 
 module _ (p q : ℕ) (coefs : List ℤ) (most room : ℕ) (w : Work) (numbers : p * q ≤ length (w .equations)) (some : q ≤ most)
-    (long : most * q ≤ length (w .basis)) (wide : room * q ≤ length (w .stage .table)) where
+    (long : most * q ≤ length (w .basis)) (wide : room * q ≤ length (w .stage .table))
+    (range : (k : ℕ) → k < p * q → natAbs (getD coefs k (pos 0)) ≤ coefficientLimit) where
   abbrev units : List ℕ
   units = packTo q q (w .basis) 0 always unit
 
@@ -132,12 +149,16 @@ module _ (p q : ℕ) (coefs : List ℤ) (most room : ℕ) (w : Work) (numbers : 
         few = unfold begun in some;
         fits = unfold begun in omega arith;
         marks = unfold begun in pow-pos p;
+        early = unfold begun in omega arith;
+        range = unfold begun in λ k kl.
+            let place : 0 + k ≡ k = omega arith in
+            rw (rw place at (fill-inside (p * q) (w .equations) 0 (λ k. getD coefs k (pos 0)) (omega arith) k kl)) (range k kl);
         alike =
             record {
               there = λ t h i l. value-alike q t (λ j jq. copied i j l jq) ∙ h i l;
               back = λ t h i l. sym (value-alike q t (λ j jq. copied i j l jq)) ∙ h i l;
             };
-        standing = between (unfold begun in refl) (unfold begun in given (system q (begun p q coefs w)));
+        standing = between (unfold begun in refl) (unfold begun in refl) (unfold begun in given (system q (begun p q coefs w)));
       }
     where
       one : (i : ℕ) → i < q → total (at units q i) q ≡ 1
@@ -154,16 +175,22 @@ module _ (p q : ℕ) (coefs : List ℤ) (most room : ℕ) (w : Work) (numbers : 
 
 -- where no stage is under way, the basis is that of the equations done
 resting-given : (p q : ℕ) (w : Work) → Standing p q w → w .equation ≡ p → Given p q (doneOf q w) (w .count) (basisRow q w)
-resting-given p q w (between e given) none = given
+resting-given p q w (between e z given) none = given
 resting-given p q w (underWay l n f given sound) none = given
 resting-given p q w (withFresh l n f m r given sound) none = absurd (omega arith)
+
+resting-rows : (p q : ℕ) (w : Work) → Standing p q w → w .equation ≡ p → w .stage .rows ≡ 0
+resting-rows p q w (between e z given) none = z
+resting-rows p q w (underWay l n f given sound) none = absurd (omega arith)
+resting-rows p q w (withFresh l n f m r given sound) none = absurd (omega arith)
 
 module _ (p q : ℕ) (a : ℕ → ℕ → ℤ) (most room : ℕ) (w : Work) (whole : Whole p q a most room w) (rests : w .equation ≡ p) where
   abbrev given : Given p q (doneOf q w) (w .count) (basisRow q w)
   given = resting-given p q w (whole .standing) rests
 
-  combined-whole : (r s : ℕ) (u t : ℤ) → r < p → ¬ (T (frozen (w .done) r)) → s < p → u ≢ pos 0 → Apart r s t → Whole p q a most room (combined q r s u t w)
-  combined-whole r s u t rp not-done sp some apart =
+  combined-whole : (r s : ℕ) (u t : ℤ) → r < p → ¬ (T (frozen (w .done) r)) → s < p → u ≢ pos 0 → Apart r s t
+      → ((j : ℕ) → j < q → natAbs (combination q (system q w) r s u t j) ≤ coefficientLimit) → Whole p q a most room (combined q r s u t w)
+  combined-whole r s u t rp not-done sp some apart within =
       record {
         numbers = unfold combined in omega (arith, whole .numbers, fill-length q (w .equations) (r * q) (combination q (system q w) r s u t));
         long = unfold combined in whole .long;
@@ -171,9 +198,23 @@ module _ (p q : ℕ) (a : ℕ → ℕ → ℤ) (most room : ℕ) (w : Work) (who
         few = unfold combined in whole .few;
         fits = unfold combined in whole .fits;
         marks = unfold combined in whole .marks;
+        early = unfold combined in whole .early;
+        range = unfold combined in λ k kl. elim (split k (r * q)) [
+          | inl l ↦ rw (fill-outside q (w .equations) (r * q) (combination q (system q w) r s u t) k (inl l)) (whole .range k kl)
+          | inr l ↦ elim (split k (r * q + q)) [
+            | inl m ↦ let place : k ≡ r * q + (k - r * q) = omega arith in rw place (new-row (k - r * q) (omega arith))
+            | inr m ↦ rw (fill-outside q (w .equations) (r * q) (combination q (system q w) r s u t) k (inr m)) (whole .range k kl)
+          ]
+        ];
         alike = alike-then (whole .alike) (combined-alike p q w r s u t (whole .numbers) rp sp some apart);
-        standing = between (unfold combined in rests) (unfold combined in alike-given (done-alike p q w r s u t (whole .numbers) rp not-done) given);
+        standing = between (unfold combined in rests) (unfold combined in resting-rows p q w (whole .standing) rests)
+            (unfold combined in alike-given (done-alike p q w r s u t (whole .numbers) rp not-done) given);
       }
+    where
+      new-row : (j : ℕ) → j < q
+          → natAbs (getD (fillTo q (w .equations) (r * q) (combination q (system q w) r s u t)) (r * q + j) (pos 0)) ≤ coefficientLimit
+      new-row j jq =
+          rw (fill-inside q (w .equations) (r * q) (combination q (system q w) r s u t) (omega (arith, whole .numbers, row-fits q r p rp)) j jq) (within j jq)
 
   taken-whole : (e : ℕ) → e < p → ¬ (T (frozen (w .done) e)) → Whole p q a most room (taken q e w)
   unfolding taken
@@ -185,6 +226,8 @@ module _ (p q : ℕ) (a : ℕ → ℕ → ℤ) (most room : ℕ) (w : Work) (who
         few = whole .few;
         fits = omega arith;
         marks = whole .marks;
+        early = whole .early;
+        range = whole .range;
         alike = whole .alike;
         standing = underWay ep not-done (omega arith) given
             (begin-sound p q (doneOf q w) (system q w e) (w .count) (basisRow q w) (w .stage .table) (w .stage .steps));
@@ -203,6 +246,8 @@ module _ (p q : ℕ) (a : ℕ → ℕ → ℤ) (most room : ℕ) (w : Work) (who
         few = few;
         fits = omega arith;
         marks = whole .marks;
+        early = whole .early;
+        range = whole .range;
         alike = whole .alike;
         standing = withFresh ep not-done fq minus free
             (without-given p q (doneOf q w) f fq (suc p) (withoutAt p (doneOf q w) f) (without-at p q (doneOf q w) f fq) (w .count) (basisRow q w) given
@@ -248,12 +293,13 @@ module _ (p q : ℕ) (w : Work) where
       go true same h = inr (is-zero t h)
       go false same h = inl (λ e. same e)
 
-  operation-from : (r s : ℕ) (u t : ℤ) → T (isOperation q r s u t w) → (u ≢ pos 0) × Apart r s t
+  operation-from : (r s : ℕ) (u t : ℤ) → T (isOperation q r s u t w)
+      → (u ≢ pos 0) × Apart r s t × ((j : ℕ) → j < q → natAbs (combination q (system q w) r s u t j) ≤ coefficientLimit)
   unfolding isOperation
   operation-from r s u t h =
       let (a, h₁) = and-parts (not (isZero u)) _ h in
       let (b, c) = and-parts (not (eqb r s) || isZero t) _ h₁ in
-      (not-zero u a, apart-from r s t b)
+      (not-zero u a, apart-from r s t b, λ j jq. leb→le (natAbs (combination q (system q w) r s u t j)) coefficientLimit (all-at q _ c j jq))
 
 -- ---- the calls
 
@@ -267,7 +313,7 @@ cond-holds : {A : Type 0} (P : A → Type 0) (b : Bool) (x y : A) → (T b → P
 cond-holds P true x y f g = f tt
 cond-holds P false x y f g = g tt
 
-started-goes : (c : Check) (w : Work) (work : Work → Result) → checked c w work .answer ≡ started → c ≡ go
+pub started-goes : (c : Check) (w : Work) (work : Work → Result) → checked c w work .answer ≡ started → c ≡ go
 unfolding checked
 started-goes (refuse n values) w work e = absurd (let z : _≡_ {A = ℕ} 0 1 = cc in omega arith)
 started-goes go w work e = refl
@@ -281,8 +327,8 @@ module _ (p q : ℕ) (a : ℕ → ℕ → ℤ) (most room : ℕ) (w : Work) (who
       let (x, y) = then-go _ _ (standing-own p q most room w _ e) in
       let (lr, sp) = and-parts (isLeft p r w) _ (passes (isLeft p r w && ltb s p) 32 x) in
       let (rests, rp, not-done) = left-from p q w r lr in
-      let (some, apart) = operation-from p q w r s u t (passes (isOperation q r s u t w) 34 y) in
-      combined-whole p q a most room w whole rests r s u t rp not-done (ltb→lt s p sp) some apart)
+      let (some, apart, within) = operation-from p q w r s u t (passes (isOperation q r s u t w) 34 y) in
+      combined-whole p q a most room w whole rests r s u t rp not-done (ltb→lt s p sp) some apart within)
 
   pub take-whole : (e f : ℕ) → Whole p q a most room (take p q most room e f w .work)
   unfolding take takeChecks
@@ -307,7 +353,7 @@ module _ (p q : ℕ) (a : ℕ → ℕ → ℤ) (most room : ℕ) (w : Work) (who
   resume-good budget = by (resumeChecks p q most room w)
     where
       rests : Standing p q w → p ≤ w .equation → Good p q a most room (rested p w)
-      rests (between e given) l = rested-good p q a most room w whole e
+      rests (between e z given) l = rested-good p q a most room w whole e
       rests (underWay l′ n f given sound) l = absurd (omega arith)
       rests (withFresh l′ n f m r given sound) l = absurd (omega arith)
 
@@ -346,12 +392,14 @@ module _ (p q : ℕ) (a : ℕ → ℕ → ℤ) (most room most′ room′ : ℕ)
         few = few;
         fits = fits;
         marks = whole .marks;
+        early = whole .early;
+        range = whole .range;
         alike = whole .alike;
         standing = by (whole .standing);
       }
     where
       by : Standing p q w → Standing p q (withTables w basis table)
-      by (between e given) = between e (moved-given p q (doneOf q w) (w .count) (basisRow q w) (at basis q) alike-rows given)
+      by (between e z given) = between e z (moved-given p q (doneOf q w) (w .count) (basisRow q w) (at basis q) alike-rows given)
       by (underWay l n f given sound) =
           underWay l n f (moved-given p q (doneOf q w) (w .count) (basisRow q w) (at basis q) alike-rows given)
           (moved-sound p q (doneOf q w) (w .count) (basisRow q w) (at basis q) alike-rows (equationOf q w) (w .stage) table same′ sound)
@@ -388,7 +436,9 @@ module _ (p q : ℕ) (coefs : List ℤ) where
       let (short, less) = or-false (ltb (length (w .equations)) (p * q)) (ltb most q) (refuse-if-go _ 4 x₄) in
       rw all
       (begun-whole p q coefs most room w (nltb→le (length (w .equations)) (p * q) (not-T (ltb (length (w .equations)) (p * q)) (false-not (ltb (length (w .equations)) (p * q)) short)))
-      (nltb→le most q (not-T (ltb most q) (false-not (ltb most q) less))) long wide)
+      (nltb→le most q (not-T (ltb most q) (false-not (ltb most q) less))) long wide
+      (λ k kl. omega (arith, nltb→le coefLimit (natAbs (getD coefs k (pos 0)))
+      (not-T (ltb coefLimit (natAbs (getD coefs k (pos 0)))) (false-not (ltb coefLimit (natAbs (getD coefs k (pos 0)))) (first-silent 7 (p * q) _ y₄ k kl))))))
 
   pub runs-whole : {most room : ℕ} {w : Work} → Runs p q coefs most room w → Whole p q (systemOf q coefs) most room w
   runs-whole (afterStart most room w long wide e) = start-whole most room w long wide e

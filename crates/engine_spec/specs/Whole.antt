@@ -8,7 +8,7 @@ use native.Mathlib.Decide.{ℕ-discrete}
 use native.Mathlib.Nat.{mul-le-mul-right}
 use native.Mathlib.Omega.{arith}
 use lib.Dec.{T, T-not, eqb, eqb→eq, ltb, ltb→lt, lt→ltb, nltb→le, not-T}
-use lib.IntN.{ℤ, pos, negsuc}
+use lib.IntN.{ℤ, pos, negsuc, natAbs}
 use lib.ListN.{getD, length}
 use lib.Signed.{leZ, leZ-yes}
 use Rattle.linear.specs.Differences.{one-side, up, up-le}
@@ -18,10 +18,13 @@ use Rattle.linear.specs.Tests.{countTo}
 use Rattle.linear.specs.TupleLaws.{term-le-total, total-same, total-unit}
 use Rattle.linear.specs.Tuples.{Same, total, unit}
 use Rattle.definitions.specs.Answers.{Answer, complete, paused, refused}
+use Rattle.definitions.specs.Refusals.{stepLimit}
 use Rattle.definitions.specs.System.{mostComponent}
 use Rattle.definitions.specs.Tables.{at, frozen}
 use Rattle.laws.specs.MarkLaws.{bit-add-fits, free-bit, ones-frozen}
 use Rattle.sweeps.specs.Pack.{pack-length, pack-row, packTo}
+use Rattle.engine_spec.specs.Beside.{coefficientLimit}
+use Rattle.engine_spec.specs.Counts.{Timed, turn-timed}
 use Rattle.engine_spec.specs.Done.{all-done, among, done-extends, none-asks}
 use Rattle.engine_spec.specs.Ends.{Ended, Fine, Fit, begin-sound, picked-from, stage-given, turn-fine}
 use Rattle.engine_spec.specs.Engine.{
@@ -72,7 +75,7 @@ doneOf q w = among (w .done) (system q w)
 
 -- Where a run stands: between two stages; in a stage without a fresh unknown; in one with a fresh unknown, whose basis lacks it.
 pub data Standing (p q : ℕ) (w : Work) : Type 0 where
-  between : w .equation ≡ p → Given p q (doneOf q w) (w .count) (basisRow q w) → Standing p q w
+  between : w .equation ≡ p → w .stage .rows ≡ 0 → Given p q (doneOf q w) (w .count) (basisRow q w) → Standing p q w
   underWay : w .equation < p → ¬ (T (frozen (w .done) (w .equation))) → q ≤ w .fresh → Given p q (doneOf q w) (w .count) (basisRow q w)
       → Sound p q (doneOf q w) (equationOf q w) (w .count) (basisRow q w) (w .stage) → Standing p q w
   withFresh : w .equation < p → ¬ (T (frozen (w .done) (w .equation))) → w .fresh < q → equationOf q w (w .fresh) ≡ negsuc 0
@@ -88,6 +91,9 @@ pub record Whole (p q : ℕ) (a : ℕ → ℕ → ℤ) (most room : ℕ) (w : Wo
   pub few : w .count ≤ most
   pub fits : w .stage .rows ≤ room
   pub marks : w .done < 2 ^ p
+  pub early : w .stage .steps ≤ stepLimit
+  -- no coefficient of the working system is out of its range
+  pub range : (k : ℕ) → k < p * q → natAbs (getD (w .equations) k (pos 0)) ≤ coefficientLimit
   pub alike : Alike p q a (system q w)
   pub standing : Standing p q w
 
@@ -101,7 +107,7 @@ small-else false s h e = absurd e
 -- ---- the end of a stage
 
 module _ (p q : ℕ) (a : ℕ → ℕ → ℤ) (most room : ℕ) (w : Work) (whole : Whole p q a most room w) (going : w .equation < p)
-    (not-done : ¬ (T (frozen (w .done) (w .equation)))) where
+    (not-done : ¬ (T (frozen (w .done) (w .equation)))) (some-left : w .stage .steps < stepLimit) where
   abbrev c : ℕ → ℤ
   c = equationOf q w
 
@@ -120,8 +126,10 @@ module _ (p q : ℕ) (a : ℕ → ℕ → ℤ) (most room : ℕ) (w : Work) (who
         few = low;
         fits = omega arith;
         marks = bit-add-fits (w .done) (w .equation) p (free-bit (w .done) (w .equation) not-done) going (whole .marks);
+        early = omega arith;
+        range = whole .range;
         alike = whole .alike;
-        standing = between refl given;
+        standing = between refl refl given;
       }
 
   plain-ended : q ≤ w .fresh → Sound p q (doneOf q w) c (w .count) (basisRow q w) (w .stage) → Ended p q (doneOf q w) c (w .stage)
@@ -220,9 +228,10 @@ module _ (p q : ℕ) (a : ℕ → ℕ → ℤ) (most room : ℕ) where
       go false f = paused-good w whole
 
   module _ (w : Work) (whole : Whole p q a most room w) (going : w .equation < p) where
-    onward-whole : (s : Stage) → length (s .table) ≡ length (w .stage .table) → s .rows ≤ room → Standing p q (onward s w) → Whole p q a most room (onward s w)
+    onward-whole : (s : Stage) → length (s .table) ≡ length (w .stage .table) → s .rows ≤ room → s .steps ≤ stepLimit → Standing p q (onward s w)
+        → Whole p q a most room (onward s w)
     unfolding onward
-    onward-whole s long few standing =
+    onward-whole s long few early standing =
         record {
           numbers = whole .numbers;
           long = whole .long;
@@ -230,6 +239,8 @@ module _ (p q : ℕ) (a : ℕ → ℕ → ℤ) (most room : ℕ) where
           few = whole .few;
           fits = few;
           marks = whole .marks;
+          early = early;
+          range = whole .range;
           alike = whole .alike;
           standing = standing;
         }
@@ -240,38 +251,47 @@ module _ (p q : ℕ) (a : ℕ → ℕ → ℤ) (most room : ℕ) where
     Left (stops n) = Unit {0}
     Left ends = countTo (w .stage .rows) (stays q w) ≤ most → (T (ltb (w .fresh) q) → T (valuesSmall q w)) → Whole p q a most room (finished p q w)
 
+    not-late : w .stage .steps ≢ stepLimit → w .stage .steps < stepLimit
+    not-late ne = omega (arith, whole .early, ne)
+
+    in-time : (s : Stage) → Timed (w .stage) (goes s) → s .steps ≤ stepLimit
+    in-time s (ne, e) = omega (arith, not-late ne, e)
+
     plain-left : (not-done : ¬ (T (frozen (w .done) (w .equation)))) (none : q ≤ w .fresh) → Given p q (doneOf q w) (w .count) (basisRow q w)
         → Sound p q (doneOf q w) (equationOf q w) (w .count) (basisRow q w) (w .stage) → (t : Turned)
-        → Fine p q (doneOf q w) (equationOf q w) (w .count) (basisRow q w) room (w .stage) t → Left t
+        → Fine p q (doneOf q w) (equationOf q w) (w .count) (basisRow q w) room (w .stage) t → Timed (w .stage) t → Left t
     unfolding onward
-    plain-left not-done none given sound (goes s) fit = onward-whole s (fit .long) (fit .few) (underWay going not-done none given (fit .sound))
-    plain-left not-done none given sound (stops n) fit = tt
-    plain-left not-done none given sound ends e = λ low small. plain-ended p q a most room w whole going not-done none sound e low
+    plain-left not-done none given sound (goes s) fit timed =
+        onward-whole s (fit .long) (fit .few) (in-time s timed) (underWay going not-done none given (fit .sound))
+    plain-left not-done none given sound (stops n) fit timed = tt
+    plain-left not-done none given sound ends e timed = λ low small. plain-ended p q a most room w whole going not-done (not-late timed) none sound e low
 
     fresh-left : (not-done : ¬ (T (frozen (w .done) (w .equation)))) (some : w .fresh < q) (minus : equationOf q w (w .fresh) ≡ negsuc 0)
         (free : (i : ℕ) → i < p → doneOf q w i (w .fresh) ≡ pos 0) → Given (suc p) q (withoutAt p (doneOf q w) (w .fresh)) (w .count) (basisRow q w)
         → Sound (suc p) q (withoutAt p (doneOf q w) (w .fresh)) (equationOf q w) (w .count) (basisRow q w) (w .stage) → (t : Turned)
-        → Fine (suc p) q (withoutAt p (doneOf q w) (w .fresh)) (equationOf q w) (w .count) (basisRow q w) room (w .stage) t → Left t
+        → Fine (suc p) q (withoutAt p (doneOf q w) (w .fresh)) (equationOf q w) (w .count) (basisRow q w) room (w .stage) t → Timed (w .stage) t → Left t
     unfolding onward
-    fresh-left not-done some minus free given sound (goes s) fit =
-        onward-whole s (fit .long) (fit .few) (withFresh going not-done some minus free given (fit .sound))
-    fresh-left not-done some minus free given sound (stops n) fit = tt
-    fresh-left not-done some minus free given sound ends e =
+    fresh-left not-done some minus free given sound (goes s) fit timed =
+        onward-whole s (fit .long) (fit .few) (in-time s timed) (withFresh going not-done some minus free given (fit .sound))
+    fresh-left not-done some minus free given sound (stops n) fit timed = tt
+    fresh-left not-done some minus free given sound ends e timed =
         λ low small.
-        fresh-ended p q a most room w whole going not-done some minus free sound e (small (lt→ltb (w .fresh) q some)) low
+        fresh-ended p q a most room w whole going not-done (not-late timed) some minus free sound e (small (lt→ltb (w .fresh) q some)) low
 
     turn-left : Left (turn q (equationOf q w) (w .count) (basisRow q w) room (w .stage))
     turn-left = by (whole .standing)
       where
         by : Standing p q w → Left (turn q (equationOf q w) (w .count) (basisRow q w) room (w .stage))
-        by (between e given) = absurd (omega arith)
+        by (between e none given) = absurd (omega arith)
         by (underWay l not-done none given sound) =
             plain-left not-done none given sound (turn q (equationOf q w) (w .count) (basisRow q w) room (w .stage))
             (turn-fine p q (doneOf q w) (equationOf q w) (w .count) (basisRow q w) given (w .stage) sound room (whole .wide) (whole .fits))
+            (turn-timed q (equationOf q w) (w .count) (basisRow q w) room (w .stage))
         by (withFresh l not-done some minus free given sound) =
             fresh-left not-done some minus free given sound (turn q (equationOf q w) (w .count) (basisRow q w) room (w .stage))
             (turn-fine (suc p) q (withoutAt p (doneOf q w) (w .fresh)) (equationOf q w) (w .count) (basisRow q w) given (w .stage) sound room
             (whole .wide) (whole .fits))
+            (turn-timed q (equationOf q w) (w .count) (basisRow q w) room (w .stage))
 
     finish-good : Left ends → Good (finish p q most w)
     unfolding finish finished

@@ -1,0 +1,1 @@
+// The promises of the engine: open specs/Promises.antt first. No code.
