@@ -1,12 +1,13 @@
 -- A number of 64 bits holds each answer of the engine's calls, as a place is one of at most 1024 coefficients. Assumes nothing.
 use Prim.Native.Nat.{ℕ, zero, suc, _+_, _*_, _≤_, _<_}
-use mathlib.Core.Bool.{Bool, true, false, cond, not}
+use mathlib.Core.Bool.{Bool, true, false, cond, not, _&&_}
 use mathlib.Core.List.{List, []}
 use mathlib.Core.Path.{_≡_}
 use native.Mathlib.Nat.{mul-le-mul}
 use native.Mathlib.Omega.{arith}
 use lib.Dec.{eqb, ltb}
 use lib.IntN.{ℤ}
+use Rattle.linear.specs.Tests.{countTo}
 use Rattle.definitions.specs.Answers.{Check, _then_, complete, go, paused, refuse, refuseIf, refused}
 use Rattle.definitions.specs.Refusals.{stepLimit}
 use Rattle.record_words.specs.CodeLaws.{Fits, Small, small-first, small-if, small-then, within}
@@ -118,7 +119,10 @@ module _ (p q most : ℕ) where
 
   fits-finish : (w : Work) → Fits (engine.finish p q most w .answer)
   unfolding engine.finish
-  fits-finish w = fits-cond _ (engine.result (refused 12 []) w) _ (omega arith) (fits-cond _ (engine.result (refused 31 []) w) _ (omega arith) (fits-rested (engine.finished p q w)))
+  fits-finish w =
+      let full = fits-cond (ltb most (countTo (w .stage .rows) (engine.stays q w))) (engine.result (refused 31 []) w) (engine.rested p (engine.finished p q w))
+          (omega arith) (fits-rested (engine.finished p q w)) in
+      fits-cond (ltb (w .fresh) q && not (engine.valuesSmall q w)) (engine.result (refused 12 []) w) _ (omega arith) full
 
   fits-after : (t : Turned) (f : Work → Result) (w : Work) → Few t → ((v : Work) → Fits (f v .answer)) → Fits (engine.after p q most t f w .answer)
   unfolding engine.after

@@ -1,1 +1,3 @@
+pub mod Words
 pub mod CodeLaws
+pub mod WordLaws
