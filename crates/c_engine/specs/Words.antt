@@ -11,7 +11,7 @@ use Rattle.definitions.specs.Refusals.{stepLimit}
 use Rattle.record_words.specs.Codes.{code}
 use Rattle.engine_spec.specs.Calls as calls
 use Rattle.engine_spec.specs.Engine.{Result, Work, result}
-use Rattle.engine_calls.specs.Records.{recordOf, workOf}
+use Rattle.engine_calls.specs.Records.{besideOf, lengthsOf, recordOf, workOf}
 use Rattle.engine_calls.specs.declared.Record.{Record}
 
 -- ---- the record
@@ -57,6 +57,16 @@ abbrev pub told : List ℕ → Result → ℕ × (List ℤ × (List ℕ × (List
 told words o =
     (code (o .answer), (o .work .equations, (o .work .basis, (o .work .stage .table, wordsLeft words (recordLeft (o .work))))))
 
+-- ---- room
+
+-- the rows that find room in the basis, and in the stage
+abbrev pub mostOf : ℕ → (basis sizes : List ℕ) → ℕ
+mostOf q basis sizes = calls.basisRoom q (lengthsOf basis [] (besideOf (length sizes) 0 0 0 0 0))
+
+abbrev pub roomOf : ℕ → (table : List ℕ) (values : List ℤ) (words degrees marks mothers : List ℕ) → ℕ
+roomOf q table values words degrees marks mothers =
+    calls.stageRoom q (lengthsOf [] table (besideOf 0 (length values) (length words) (length degrees) (length marks) (length mothers)))
+
 -- ---- the calls: each is handed the room of the basis and of the stage, the three tables and the words
 
 -- A start looks at no old content, but it cannot write its record into other words: it then answers with the first of 1 to 4 that is due, or with 6.
@@ -66,16 +76,16 @@ misfitChecks p q coefs most w = calls.check1 p then calls.check2 q then calls.ch
 unfoldable pub misfit : (p q : ℕ) (coefs : List ℤ) (most : ℕ) → Work → Result
 misfit p q coefs most w = calls.checked (misfitChecks p q coefs most w) w (result started)
 
--- it is lent no table of the stage
+-- a start is lent no table of the stage
 unfoldable pub startWords : (p q : ℕ) (coefs : List ℤ) (most : ℕ) (equations : List ℤ) (basis words : List ℕ) → Result
 startWords p q coefs most equations basis words =
     cond (isRecord words) (calls.start p q coefs most (workIn equations basis [] words)) (misfit p q coefs most (workIn equations basis [] words))
 
-abbrev pub combineWords : (p q most room r s : ℕ) (u t : ℤ) (equations : List ℤ) (basis table words : List ℕ) → Result
+unfoldable pub combineWords : (p q most room r s : ℕ) (u t : ℤ) (equations : List ℤ) (basis table words : List ℕ) → Result
 combineWords p q most room r s u t equations basis table words = calls.combine p q most room r s u t (workIn equations basis table words)
 
-abbrev pub takeWords : (p q most room e f : ℕ) (equations : List ℤ) (basis table words : List ℕ) → Result
+unfoldable pub takeWords : (p q most room e f : ℕ) (equations : List ℤ) (basis table words : List ℕ) → Result
 takeWords p q most room e f equations basis table words = calls.take p q most room e f (workIn equations basis table words)
 
-abbrev pub resumeWords : (p q most room budget : ℕ) (equations : List ℤ) (basis table words : List ℕ) → Result
+unfoldable pub resumeWords : (p q most room budget : ℕ) (equations : List ℤ) (basis table words : List ℕ) → Result
 resumeWords p q most room budget equations basis table words = calls.resume p q most room budget (workIn equations basis table words)

@@ -1,10 +1,10 @@
--- `words::write` meets its contract. Assumes nothing.
+-- `records::write` meets its contract. Assumes nothing.
 use borrow.Author.Needs.{needs}
 use lib.ListN.{length-set}
 use native.Mathlib.Omega.{arith}
 use Rattle.c_engine.specs.WordLaws.{long-by, unwritten, written}
-use Rattle.c_engine.proofs.words.write.Statement.{statement}
-use Rattle.c_engine.proofs.words.write.Tie as tie
+use Rattle.c_engine.proofs.records.write.Statement.{statement}
+use Rattle.c_engine.proofs.records.write.Tie as tie
 
 fits-requires : tie.Need-fits-requires
 fits-requires c κs = search needs

@@ -1,8 +1,8 @@
--- `words::read` meets its contract. Assumes nothing.
+-- `records::read` meets its contract. Assumes nothing.
 use borrow.Author.Needs.{needs}
 use Rattle.c_engine.specs.WordLaws.{record-in, record-large, record-short}
-use Rattle.c_engine.proofs.words.read.Statement.{statement}
-use Rattle.c_engine.proofs.words.read.Tie as tie
+use Rattle.c_engine.proofs.records.read.Statement.{statement}
+use Rattle.c_engine.proofs.records.read.Tie as tie
 
 returns : tie.Need-returns
 returns c =

@@ -1,9 +1,9 @@
--- `words::fits` meets its contract. Assumes nothing.
+-- `records::fits` meets its contract. Assumes nothing.
 use borrow.Author.Needs.{needs}
 use mathlib.Core.Path.{refl}
 use Rattle.c_engine.specs.WordLaws.{fits-by, fits-short}
-use Rattle.c_engine.proofs.words.fits.Statement.{statement}
-use Rattle.c_engine.proofs.words.fits.Tie as tie
+use Rattle.c_engine.proofs.records.fits.Statement.{statement}
+use Rattle.c_engine.proofs.records.fits.Tie as tie
 
 shared-slice-read-result : tie.Need-shared-slice-read-result
 shared-slice-read-result c = search needs
