@@ -6,18 +6,19 @@ use Prim.Native.Nat.{ℕ, zero, suc, _+_, _*_, _^_, _-_, _≤_, _<_}
 use native.Mathlib.Nat.{mul-le-mul-right}
 use native.Mathlib.Numerals.{add-one}
 use native.Mathlib.Omega.{arith}
-use borrow.Author.Tests.{eqb-false, eqb-true, le-leb, le-ltb, leb-true, lt-leb, lt-ltb, ne-eqb}
-use lib.Dec.{eqb, leb, ltb}
+use borrow.Author.Tests.{eqb-false, eqb-true, le-leb, le-ltb, leb-true, lt-leb, lt-ltb, ne-eqb, not-false}
+use lib.Dec.{T, eqb, leb, ltb}
 use lib.IntN.{ℤ}
 use lib.ListN.{length}
 use Rattle.linear.specs.Tests.{allTo}
 use Rattle.linear.specs.Tuples.{total}
 use Rattle.definitions.specs.Refusals.{stepLimit}
 use Rattle.definitions.specs.Tables.{at}
-use Rattle.engine_spec.specs.Beside.{SmallTable}
+use Rattle.engine_spec.specs.Beside.{SmallRow, SmallTable, rowAt}
 use Rattle.engine_spec.specs.Calls.{coefficientsSmall, inOrder, isRising, isRow, marksInOrder}
 use Rattle.engine_spec.specs.Engine.{Work, basisRow}
 use Rattle.engine_spec.specs.Reduction.{isSmall}
+use Rattle.engine_spec.specs.ReductionLaws.{small-from}
 use Rattle.engine_spec.specs.Stage.{row}
 use Rattle.engine_beside.specs.SmallRows.{areSmall, small-table}
 
@@ -75,7 +76,7 @@ module _ (p q most room : ℕ) (w : Work) where
     where
       both : (a b : Bool) → (a && b) ≡ true → (a ≡ true) × (b ≡ true)
       both true b h = (refl, h)
-      both false b h = cc
+      both false b h = (h, cc)
 
   module _ (e₁ : recordOf p most room w ≡ true) where
     pub by-coefficients : coefficientsSmall (p * q) (w .equations) ≡ false → false ≡ inOrder p q most room w
@@ -102,9 +103,8 @@ module _ (p q most room : ℕ) (w : Work) where
 pub tested-small : (q n : ℕ) (table : List ℕ) {b : Bool} → b ≡ areSmall q n (at table q) → not b ≡ false → q ≤ 32 → n * q ≤ length table → SmallTable q n table
 tested-small q n table {b} e h few whole = small-table q n table few whole (rw (← e) (holds b h))
   where
-    holds : (b : Bool) → not b ≡ false → lib.Dec.T b
-    holds true h = tt
-    holds false h = cc
+    holds : (b : Bool) → not b ≡ false → T b
+    holds b h = rw (not-false b h) tt
 
 -- ---- marks
 
@@ -136,3 +136,8 @@ pub rises-is : (f : ℕ → ℕ) (d i : ℕ) {before degree : ℕ} {b : Bool} �
 unfolding risesBy degreeBefore
 rises-is f d zero e g h = h ∙ rw (e, g, le-leb 0 (f 0) (omega arith), le-leb (f 0) (f 0) (omega arith))
 rises-is f d (suc i) e g h = let same : suc i - 1 ≡ i = omega arith in h ∙ rw (e, g, same)
+
+-- ---- one row
+
+pub row-small : (q base : ℕ) (table : List ℕ) {b : Bool} → b ≡ isSmall q (rowAt table base) → not b ≡ false → base + q ≤ length table → SmallRow q table base
+row-small q base table {b} e h whole = record { whole = whole; small = λ j l. small-from q (rowAt table base) (rw (← e, not-false b h) tt) j l }

@@ -39,11 +39,11 @@ pub stage-fits : (q table values words degrees marks mothers : ℕ)
 stage-fits q table values words degrees marks mothers =
     record {
       rows = rows-fit q table (stageRows q table values words degrees marks mothers) (low (rowsIn q table) values words degrees marks mothers .0);
-      valued = low (rowsIn q table) values words degrees marks mothers .1 .0;
-      worded = low (rowsIn q table) values words degrees marks mothers .1 .1 .0;
-      measured = low (rowsIn q table) values words degrees marks mothers .1 .1 .1 .0;
-      marked = low (rowsIn q table) values words degrees marks mothers .1 .1 .1 .1 .0;
-      mothered = low (rowsIn q table) values words degrees marks mothers .1 .1 .1 .1 .1;
+      valued = low (rowsIn q table) values words degrees marks mothers .1;
+      worded = low (rowsIn q table) values words degrees marks mothers .2;
+      measured = low (rowsIn q table) values words degrees marks mothers .3;
+      marked = low (rowsIn q table) values words degrees marks mothers .4;
+      mothered = low (rowsIn q table) values words degrees marks mothers .5;
       few = capped (table / q) values words degrees marks mothers;
     }
   where

@@ -2,14 +2,17 @@
 use mathlib.Core.Path.{_≡_, refl, sym, _∙_, ap}
 use mathlib.Core.Bool.{Bool, true, false, not, _&&_, _||_}
 use mathlib.Core.List.{List, [], _∷_}
-use Prim.Native.Nat.{ℕ, zero, suc, _*_, _≤_, _<_}
+use Prim.Native.Nat.{ℕ, zero, suc, _+_, _*_, _^_, _≤_, _<_}
 use native.Mathlib.Omega.{arith}
-use borrow.Author.Tests.{eqb-true, ltb-false}
-use lib.Dec.{eqb, leb, ltb}
+use borrow.Author.Tests.{eqb-true, ltb-false, not-false}
+use lib.Dec.{T, eqb, leb, leb→le, ltb, ltb→lt}
 use lib.IntN.{ℤ, pos, natAbs}
 use lib.ListN.{getD, length}
+use Rattle.linear.specs.TestLaws.{all-at, and-parts}
 use Rattle.definitions.specs.Answers.{Check, go, refuse, refuseFirst, refuseIf, refuseWith, _then_}
+use Rattle.definitions.specs.Refusals.{stepLimit}
 use Rattle.laws.specs.AnswerLaws.{refuse-if-go, then-assoc, then-go}
+use Rattle.laws.specs.TableLaws.{row-fits}
 use Rattle.calls.specs.Paper.{value}
 use Rattle.checks.specs.Coefficients.{coefficientChecks}
 use Rattle.engine_spec.specs.Calls.{
@@ -19,22 +22,26 @@ use Rattle.engine_spec.specs.Calls.{
   check4,
   check6,
   check7,
+  coefficientsSmall,
   combineChecks,
   inOrder,
   isFresh,
   isLeft,
   isOperation,
+  marksInOrder,
   resumeChecks,
   standingThen,
   startChecks,
   takeChecks,
 }
+use Rattle.engine_spec.specs.Beside.{SmallEquation, coefficientLimit}
 use Rattle.engine_spec.specs.Engine.{Work}
 use Rattle.engine_calls.specs.Records.{checkOf}
 use Rattle.engine_calls.specs.declared.Check as made
 use Rattle.engine_calls.specs.declared.Check.the-variants.{Pass, Refuse}
 use Rattle.engine_calls.specs.declared.Refusal.{Refusal}
 use Rattle.engine_checks.specs.Sizes.{Sized, sizeChecks, sized}
+use Rattle.engine_checks.specs.Taking.{leftBy}
 
 -- tables with room for these rows
 pub record Roomed (q most room basis table : ℕ) : Type 0 where
@@ -92,30 +99,29 @@ starts p q coefs most numbers e =
     let (s, m) = or-false (ltb numbers (p * q)) (ltb most q) (refuse-if-go _ 4 d) in
     record {
       size = sized p q (unfold sizeChecks in (ap (λ x. x then check2 q) a ∙ unfold _then_ in b));
-      count = eqb-true (length coefs) (p * q) (borrow.Author.Tests.not-false _ (refuse-if-go _ 3 c));
+      count = eqb-true (length coefs) (p * q) (not-false _ (refuse-if-go _ 3 c));
       whole = ltb-false numbers (p * q) s;
       some = ltb-false most q m;
     }
   where
     or-false : (b c : Bool) → (b || c) ≡ false → (b ≡ false) × (c ≡ false)
-    or-false true c e = cc
+    or-false true c e = (e, cc)
     or-false false c e = (refl, e)
 
 -- the place of the first coefficient refused
-first-place : (n k : ℕ) (f : ℕ → Bool) {m : ℕ} {values : List ℕ} → refuse m values ≡ refuseFirst n k f → refuse n (value values ∷ []) ≡ refuseFirst n k f
-unfolding refuseFirst
-first-place n zero f e = cc
-first-place n (suc k) f {m} {values} e = by (refuseFirst n k f) (f k) (suc k) (first-place n k f {m} {values}) e
+first-place : (n k : ℕ) (f : ℕ → Bool) (m : ℕ) (values : List ℕ) → refuse m values ≡ refuseFirst n k f → refuse n (value values ∷ []) ≡ refuseFirst n k f
+unfolding refuseFirst _then_ refuseWith
+first-place n zero f m values e = cc
+first-place n (suc k) f m values e = by (refuseFirst n k f) (f k) (suc k) (first-place n k f m values) e
   where
     by : (c : Check) (b : Bool) (v : ℕ) → (refuse m values ≡ c → refuse n (value values ∷ []) ≡ c) → refuse m values ≡ c then refuseWith b n (v ∷ [])
         → refuse n (value values ∷ []) ≡ c then refuseWith b n (v ∷ [])
-    unfolding _then_ refuseWith
     by (refuse a others) b v h e = h e
     by go true v h e = let g : values ≡ v ∷ [] = cc in rw g
     by go false v h e = cc
 
-pub place-is : (coefs : List ℤ) {m : ℕ} {values : List ℕ} → refuse m values ≡ coefficientChecks coefs → refuse 7 (value values ∷ []) ≡ coefficientChecks coefs
-place-is coefs e = first-place 7 (length coefs) _ e
+pub place-is : (coefs : List ℤ) (m : ℕ) (values : List ℕ) → refuse m values ≡ coefficientChecks coefs → refuse 7 (value values ∷ []) ≡ coefficientChecks coefs
+place-is coefs m values e = first-place 7 (length coefs) _ m values e
 
 -- ---- a call on a run
 
@@ -183,11 +189,11 @@ stands p q most room w e =
       size = sized p q (unfold sizeChecks in (ap (λ x. x then check2 q) a ∙ unfold _then_ in b));
       whole = ltb-false (length (w .equations)) (p * q) s;
       some = ltb-false most q m;
-      order = borrow.Author.Tests.not-false _ (refuse-if-go _ 6 d);
+      order = not-false _ (refuse-if-go _ 6 d);
     }
   where
     or-false : (b c : Bool) → (b || c) ≡ false → (b ≡ false) × (c ≡ false)
-    or-false true c e = cc
+    or-false true c e = (e, cc)
     or-false false c e = (refl, e)
 
 -- ---- what is a call's own
@@ -207,3 +213,50 @@ last-refuses b n e = rw e
 pub last-passes : (b : Bool) (n : ℕ) → b ≡ true → go ≡ refuseIf (not b) n
 unfolding refuseWith
 last-passes b n e = rw e
+
+-- ---- what the own checks need of a run that stands
+
+module _ {p q most room : ℕ} {w : Work} (s : Stands p q most room w) where
+  coefficient-small : (k : ℕ) → k < p * q → natAbs (getD (w .equations) k (pos 0)) ≤ coefficientLimit
+  unfolding inOrder coefficientsSmall
+  coefficient-small k l =
+      let t : T (inOrder p q most room w) = rw (s .order) tt in
+      let (_, e₁) = and-parts (leb (w .count) most && leb (w .stage .rows) room) _ t in
+      let (_, e₂) = and-parts (leb (w .stage .steps) stepLimit && ltb (w .done) (2 ^ p)) _ e₁ in
+      let (_, e₃) = and-parts (marksInOrder p (w .done) (w .equation)) _ e₂ in
+      let (d, _) = and-parts (coefficientsSmall (p * q) (w .equations)) _ e₃ in
+      leb→le (natAbs (getD (w .equations) k (pos 0))) coefficientLimit (all-at (p * q) _ d k l)
+
+  pub equation-small : (i : ℕ) → i < p → SmallEquation q (w .equations) (i * q)
+  equation-small i l =
+      record {
+        unknowns = s .size .unknowns;
+        whole = omega (arith, s .whole, row-fits q i p l);
+        small = λ j jq. coefficient-small (i * q + j) (omega (arith, row-fits q i p l));
+      }
+
+-- 32 of a row operation: the equation is left, and there is the other one
+pub left-other : (b d : Bool) → b ≡ true → d ≡ true → (b && d) ≡ true
+left-other b d e g = rw (e, g)
+
+pub left-none : (b d : Bool) → b ≡ false → (b && d) ≡ false
+left-none b d e = rw e
+
+pub left-past : (b d : Bool) → d ≡ false → (b && d) ≡ false
+left-past true d e = e
+left-past false d e = refl
+
+-- 33: no unknown, or a fresh one
+pub none-asked : (b d : Bool) → b ≡ true → (b || d) ≡ true
+none-asked b d e = rw e
+
+pub fresh-asked : (b d : Bool) {x : Bool} → b ≡ false → d ≡ x → (b || d) ≡ x
+fresh-asked b d e g = rw e g
+
+-- an equation that is left is one of p
+pub left-below : (p e equation done : ℕ) → leftBy p e equation done ≡ true → e < p
+left-below p e equation done h =
+    let t : T (leftBy p e equation done) = rw h tt in
+    let (_, a) = and-parts (eqb equation p) _ t in
+    let (b, _) = and-parts (ltb e p) _ a in
+    ltb→lt e p b

@@ -18,7 +18,6 @@ pub mod Found
 pub mod Beside
 pub mod Counts
 pub mod Engine
-pub mod EngineLaws
 pub mod Operations
 pub mod Whole
 pub mod Calls
