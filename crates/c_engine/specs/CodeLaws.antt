@@ -27,7 +27,8 @@ module _ (p q : ℕ) where
       omega (arith, bounds)
 
   -- the checks of the shape, and what comes after them
-  small-shape : (coefs : List ℤ) (most : ℕ) (w : Work) (d : Check) → (p * q ≤ 1024 → Small d) → Small (calls.check1 p then calls.check2 q then calls.check3 p q coefs then calls.check4 p q most w then d)
+  small-shape : (coefs : List ℤ) (most : ℕ) (w : Work) (d : Check) → (p * q ≤ 1024 → Small d)
+      → Small (calls.check1 p then calls.check2 q then calls.check3 p q coefs then calls.check4 p q most w then d)
   small-shape coefs most w d h =
       small-then (calls.check1 p) _ (small-if _ 1 (omega arith)) (λ a.
       small-then (calls.check2 q) _ (small-if _ 2 (omega arith)) (λ b.
@@ -121,7 +122,7 @@ module _ (p q most : ℕ) where
   unfolding engine.finish
   fits-finish w =
       let full = fits-cond (ltb most (countTo (w .stage .rows) (engine.stays q w))) (engine.result (refused 31 []) w) (engine.rested p (engine.finished p q w))
-          (omega arith) (fits-rested (engine.finished p q w)) in
+      (omega arith) (fits-rested (engine.finished p q w)) in
       fits-cond (ltb (w .fresh) q && not (engine.valuesSmall q w)) (engine.result (refused 12 []) w) _ (omega arith) full
 
   fits-after : (t : Turned) (f : Work → Result) (w : Work) → Few t → ((v : Work) → Fits (f v .answer)) → Fits (engine.after p q most t f w .answer)

@@ -72,8 +72,18 @@ module _ (words : List ℕ) {b : Bool} (e : b ≡ isRecord words) where
 own-words : (words : List ℕ) → length words ≡ 10 → wordsIf true words (recordIf true words) ≡ words
 own-words words e =
     let own : (i : ℕ) → i < 10 → set words i (getD words i 0) ≡ words = λ i h. set-own words i (rw e h) in
-    rw (own 0 (lit< tt), own 1 (lit< tt), own 2 (lit< tt), own 3 (lit< tt), own 4 (lit< tt), own 5 (lit< tt), own 6 (lit< tt), own 7 (lit< tt),
-    own 8 (lit< tt), own 9 (lit< tt))
+    rw (
+      own 0 (lit< tt),
+      own 1 (lit< tt),
+      own 2 (lit< tt),
+      own 3 (lit< tt),
+      own 4 (lit< tt),
+      own 5 (lit< tt),
+      own 6 (lit< tt),
+      own 7 (lit< tt),
+      own 8 (lit< tt),
+      own 9 (lit< tt),
+    )
 
 pub kept-words : (words : List ℕ) → wordsLeft words (recordIn words) ≡ words
 unfolding wordsLeft recordIn
@@ -89,7 +99,8 @@ pub answer-fits : (o : Outcome) {equations : List ℤ} {basis table : List ℕ} 
     → Fits (answerOf (o .answer))
 answer-fits o e h = rw (← e) at h
 
-pub call-told : (words : List ℕ) (o : Outcome) {equations : List ℤ} {basis table left : List ℕ} {whole : Result} {a : ℕ} → outcomeOf o equations basis table ≡ whole
+pub call-told : (words : List ℕ) (o : Outcome) {equations : List ℤ} {basis table left : List ℕ} {whole : Result} {a : ℕ}
+    → outcomeOf o equations basis table ≡ whole
     → a ≡ code (answerOf (o .answer)) → left ≡ wordsLeft words (o .run) → (a, (equations, (basis, (table, left)))) ≡ told words whole
 call-told words o e d l = rw (← e, d, l)
 
@@ -206,7 +217,8 @@ module _ (p q : ℕ) (coefs : List ℤ) (most : ℕ) (equations : List ℤ) (bas
   abbrev lentTable : Work
   lentTable = workOf equations basis table r
 
-  without : (c : Check) → withoutTable (calls.checked c lentTable (λ v. result started (begun p q coefs v))) ≡ calls.checked c lentNone (λ v. result started (begun p q coefs v))
+  without : (c : Check)
+      → withoutTable (calls.checked c lentTable (λ v. result started (begun p q coefs v))) ≡ calls.checked c lentNone (λ v. result started (begun p q coefs v))
   unfolding calls.checked begun
   without (refuse n values) = refl
   without go = refl

@@ -71,8 +71,16 @@ pub fn combine(
         (roomOf q (now (table .entry)) (now (values .entry)) (now (words .entry)) (now (degrees .entry)) (now (marks .entry)) (now (mothers .entry)))
         r s u t (now (equations .entry)) (now (basis .entry)) (now (table .entry)) (now (run .entry))) ⌝ }
 {
-    let l = lengths(sizes.len(), values.len(), words.len(), degrees.len(), marks.len(), mothers.len());
-    let o = engine::combine(p, q, equations, basis, table, l, records::read(run), r, s, u, t);
+    let l = lengths(
+        sizes.len(),
+        values.len(),
+        words.len(),
+        degrees.len(),
+        marks.len(),
+        mothers.len(),
+    );
+    let record = records::read(run);
+    let o = engine::combine(p, q, equations, basis, table, l, record, r, s, u, t);
     tell(o, run)
 }
 
@@ -99,8 +107,16 @@ pub fn take(
         (roomOf q (now (table .entry)) (now (values .entry)) (now (words .entry)) (now (degrees .entry)) (now (marks .entry)) (now (mothers .entry)))
         e f (now (equations .entry)) (now (basis .entry)) (now (table .entry)) (now (run .entry))) ⌝ }
 {
-    let l = lengths(sizes.len(), values.len(), words.len(), degrees.len(), marks.len(), mothers.len());
-    let o = engine::take(p, q, equations, basis, table, l, records::read(run), e, f);
+    let l = lengths(
+        sizes.len(),
+        values.len(),
+        words.len(),
+        degrees.len(),
+        marks.len(),
+        mothers.len(),
+    );
+    let record = records::read(run);
+    let o = engine::take(p, q, equations, basis, table, l, record, e, f);
     tell(o, run)
 }
 

@@ -51,7 +51,24 @@ pub extern "C" fn dezgula_raw_engine_combine(
         (roomOf q (now (table .entry)) (now (values .entry)) (now (words .entry)) (now (degrees .entry)) (now (marks .entry)) (now (mothers .entry)))
         r s u t (now (equations .entry)) (now (basis .entry)) (now (table .entry)) (now (run .entry))) ⌝ }
 {
-    c_engine::combine(p, q, equations, basis, sizes, table, values, words, degrees, marks, mothers, run, r, u, s, t)
+    c_engine::combine(
+        p,
+        q,
+        equations,
+        basis,
+        sizes,
+        table,
+        values,
+        words,
+        degrees,
+        marks,
+        mothers,
+        run,
+        r,
+        u,
+        s,
+        t,
+    )
 }
 
 // The begin of the stage of equation e, with the fresh unknown f, or with none where f is q.
@@ -78,7 +95,22 @@ pub extern "C" fn dezgula_raw_engine_take(
         (roomOf q (now (table .entry)) (now (values .entry)) (now (words .entry)) (now (degrees .entry)) (now (marks .entry)) (now (mothers .entry)))
         e f (now (equations .entry)) (now (basis .entry)) (now (table .entry)) (now (run .entry))) ⌝ }
 {
-    c_engine::take(p, q, equations, basis, sizes, table, values, words, degrees, marks, mothers, run, e, f)
+    c_engine::take(
+        p,
+        q,
+        equations,
+        basis,
+        sizes,
+        table,
+        values,
+        words,
+        degrees,
+        marks,
+        mothers,
+        run,
+        e,
+        f,
+    )
 }
 
 // The continuing call: at most `budget` turns of the stage under way.
@@ -108,5 +140,19 @@ pub extern "C" fn dezgula_raw_engine_resume(
         (recordIn (now (run .entry))) o (now (basis .exit)) (now (sizes .exit)) (now (table .exit))
         (sidesOf (now (values .exit)) (now (words .exit)) (now (degrees .exit)) (now (marks .exit)) (now (mothers .exit)))) ⌝ }
 {
-    c_engine::resume(p, q, equations, basis, sizes, table, values, words, degrees, marks, mothers, run, budget)
+    c_engine::resume(
+        p,
+        q,
+        equations,
+        basis,
+        sizes,
+        table,
+        values,
+        words,
+        degrees,
+        marks,
+        mothers,
+        run,
+        budget,
+    )
 }

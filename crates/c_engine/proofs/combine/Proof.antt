@@ -19,7 +19,7 @@ returns c =
     let k = t .before .before .before in
     let l = k .before .before .before .before in
     let s = l .before .before .before .before .before .before .before .before .before in
-    let e = rw (k .before .read .ensures, l .lengths .ensures, toZ-ofZ (s .fits .u), toZ-ofZ (s .fits .t)) at (k .combine .ensures) in
+    let e = rw (k .before .before .read .ensures, l .lengths .ensures, toZ-ofZ (s .fits .u), toZ-ofZ (s .fits .t)) at (k .combine .ensures) in
     call-told _ (k .combine .result) e (t .tell .ensures .0) (t .tell .ensures .1)
 
 pub combine-spec : {M : Type 1} → statement M

@@ -16,7 +16,7 @@ unfolding takeWords
 returns c =
     let t = c .before .before in
     let k = t .before .before .before .before in
-    let e = rw (k .before .read .ensures, k .before .before .before .before .lengths .ensures) at (k .take .ensures) in
+    let e = rw (k .before .before .read .ensures, k .before .before .before .before .lengths .ensures) at (k .take .ensures) in
     call-told _ (k .take .result) e (t .tell .ensures .0) (t .tell .ensures .1)
 
 pub take-spec : {M : Type 1} → statement M
