@@ -1,4 +1,4 @@
--- What the continuing call leaves, by what its checks find. Assumes nothing.
+-- The calls by what their checks find. Assumes nothing.
 use mathlib.Core.Path.{_≡_, refl, sym, _∙_, ap}
 use mathlib.Core.Logic.{_⊎_, inl, inr}
 use mathlib.Core.Bool.{Bool, true, false, cond, not, _&&_, _||_}
@@ -6,8 +6,8 @@ use mathlib.Core.List.{List, []}
 use Prim.Native.Nat.{ℕ, _+_, _*_, _^_, _-_, _≤_, _<_}
 use native.Mathlib.Nat.{mul-le-mul, mul-le-mul-right}
 use native.Mathlib.Omega.{arith}
-use borrow.Author.Tests.{le-ltb, lt-ltb, ltb-true, not-false}
-use lib.Dec.{eqb, ltb}
+use borrow.Author.Tests.{le-ltb, lt-ltb, leb-true, ltb-true, not-false}
+use lib.Dec.{eqb, leb, ltb}
 use lib.IntN.{ℤ, pos}
 use lib.ListN.{getD, length}
 use Rattle.linear.specs.Cases.{order}
@@ -18,8 +18,6 @@ use Rattle.laws.specs.AnswerLaws.{refuse-if-go, then-assoc, then-go}
 use Rattle.laws.specs.TableLaws.{row-fits}
 use Rattle.engine_spec.specs.Calls as spec
 use Rattle.engine_spec.specs.Engine.{Work, allDone, rested, run}
-use Rattle.engine_beside.specs.Writing.{Kept, kept-none}
-use Rattle.engine_stage.specs.Standing.{Beyond, Sides, beyond-none, sidesOf}
 use Rattle.engine_calls.specs.Records.{answerOf, besideOf, call-passed, call-refused, checkOf, lengthsOf, outcomeOf, passes, refusedWith, workOf}
 use Rattle.engine_calls.specs.declared.Beside.{Beside}
 use Rattle.engine_calls.specs.declared.Check.{Check}
@@ -32,14 +30,8 @@ use Rattle.engine_checks.specs.Room.{StageFits, basis-few, basis-fits, stage-fi
 use Rattle.engine_checks.specs.Standing.{Roomed, Stands, equation-small, left-below, resume-checks, standing, stands, start-checks, startChecksBy, starts}
 use Rattle.engine_begins.specs.Begins.{Begun, Fitting, Operated, Taken, begun-is, operated-is, taken-is}
 use Rattle.engine_begins.specs.Writing.{Combines}
-use Rattle.engine.specs.Resuming.{Entered, ResumedTo, ordered}
 
 -- ---- room
-
-abbrev pub lentLengths : List ℕ → List ℕ → List ℕ → Sides → spec.Lengths
-lentLengths basis sizes table x =
-    lengthsOf basis table
-    (besideOf (length sizes) (length (x .values)) (length (x .words)) (length (x .degrees)) (length (x .marks)) (length (x .mothers)))
 
 pub roomed : (q : ℕ) (basis table : List ℕ) (l : Beside)
     → Roomed q (spec.basisRoom q (lengthsOf basis table l)) (spec.stageRoom q (lengthsOf basis table l)) (length basis) (length table)
@@ -51,18 +43,12 @@ roomed q basis table l =
 
 -- ---- the start
 
-module _ {p q : ℕ} {coefs equations : List ℤ} {basis table : List ℕ} {l : Beside} {r : Record} {made : Check} {most : ℕ}
+module _ (p q : ℕ) (coefs equations : List ℤ) (basis table : List ℕ) (l : Beside) (r : Record) {made : Check} {most : ℕ}
     (m : most ≡ spec.basisRoom q (lengthsOf basis table l)) (e : checkOf made ≡ startChecksBy p q coefs most (length equations)) where
-  abbrev entry : Work
-  entry = workOf equations basis table r
-
-  start-check : checkOf made ≡ spec.startChecks p q coefs (spec.basisRoom q (lengthsOf basis table l)) entry
-  start-check = rw m at (e ∙ start-checks p q coefs most entry)
-
   pub start-refused : {why : Refusal} → made ≡ Refuse why
-      → outcomeOf (refusedWith why r) equations basis table ≡ spec.start p q coefs (spec.basisRoom q (lengthsOf basis table l)) entry
+      → outcomeOf (refusedWith why r) equations basis table ≡ spec.start p q coefs (spec.basisRoom q (lengthsOf basis table l)) (workOf equations basis table r)
   unfolding spec.start
-  start-refused g = call-refused start-check equations basis table r _ g
+  start-refused g = call-refused (rw m at (e ∙ start-checks p q coefs most (workOf equations basis table r))) equations basis table r _ g
 
   pub start-enters : made ≡ Pass → Fitting p q (length coefs) (length equations) (length basis)
   start-enters g =
@@ -75,9 +61,9 @@ module _ {p q : ℕ} {coefs equations : List ℤ} {basis table : List ℕ} {l : 
       }
 
   pub start-passed : made ≡ Pass → {o : Outcome} {equations′ : List ℤ} {basis′ : List ℕ} → Begun p q coefs equations basis o equations′ basis′
-      → outcomeOf o equations′ basis′ table ≡ spec.start p q coefs (spec.basisRoom q (lengthsOf basis table l)) entry
+      → outcomeOf o equations′ basis′ table ≡ spec.start p q coefs (spec.basisRoom q (lengthsOf basis table l)) (workOf equations basis table r)
   unfolding spec.start
-  start-passed g b = call-passed start-check equations basis table r _ g (begun-is table r b)
+  start-passed g b = call-passed (rw m at (e ∙ start-checks p q coefs most (workOf equations basis table r))) equations basis table r _ g (begun-is table r b)
 
 -- ---- a row operation, and the begin of a stage
 
@@ -98,6 +84,13 @@ both : (b d : Bool) → (b && d) ≡ true → (b ≡ true) × (d ≡ true)
 both true d h = (refl, h)
 both false d h = (h, cc)
 
+count-few : (p q most room : ℕ) (w : Work) → spec.inOrder p q most room w ≡ true → w .count ≤ most
+unfolding spec.inOrder
+count-few p q most room w e =
+    let (a, _) = both (leb (w .count) most && leb (w .stage .rows) room) _ e in
+    let (b, _) = both (leb (w .count) most) _ a in
+    leb-true (w .count) most b
+
 apart-rows : (q r s : ℕ) → (r * q ≡ s * q) ⊎ ((r * q + q ≤ s * q) ⊎ (s * q + q ≤ r * q))
 apart-rows q r s =
     elim (order r s) [
@@ -105,28 +98,25 @@ apart-rows q r s =
       | inr o ↦ elim o [ inl e ↦ inl (rw e) | inr l ↦ inr (inr (row-fits q s r l)) ]
     ]
 
-module _ {p q : ℕ} {equations : List ℤ} {basis table : List ℕ} {l : Beside} {run : Record} {made : Check} {most room : ℕ}
+module _ (p q : ℕ) (equations : List ℤ) (basis table : List ℕ) (l : Beside) (run : Record) {most room : ℕ}
     (m : most ≡ spec.basisRoom q (lengthsOf basis table l)) (n : room ≡ spec.stageRoom q (lengthsOf basis table l)) where
-  abbrev given : Work
-  given = workOf equations basis table run
-
   pub lent-roomed : Roomed q most room (length basis) (length table)
   lent-roomed = rw (m, n) (roomed q basis table l)
 
-  module _ {r s : ℕ} {u t : ℤ} (e : checkOf made ≡ spec.combineChecks p q most room r s u t given) where
+  module _ (r s : ℕ) (u t : ℤ) {made : Check} (e : checkOf made ≡ spec.combineChecks p q most room r s u t (workOf equations basis table run)) where
     pub combine-refused : {why : Refusal} → made ≡ Refuse why
         → outcomeOf (refusedWith why run) equations basis table
-        ≡ spec.combine p q (spec.basisRoom q (lengthsOf basis table l)) (spec.stageRoom q (lengthsOf basis table l)) r s u t given
+        ≡ spec.combine p q (spec.basisRoom q (lengthsOf basis table l)) (spec.stageRoom q (lengthsOf basis table l)) r s u t (workOf equations basis table run)
     unfolding spec.combine
     combine-refused g = rw (← m, ← n) (call-refused e equations basis table run _ g)
 
     pub combine-enters : made ≡ Pass → Combines q (r * q) (s * q) u t equations
     unfolding spec.combineChecks spec.isLeft spec.isOperation combinesSmall
     combine-enters g =
-        let (z, own) = standing-both p q most room given _ (passes e g) in
+        let (z, own) = standing-both p q most room (workOf equations basis table run) _ (passes e g) in
         let (x, y) = then-go _ _ own in
-        let (lr, sp) = both (spec.isLeft p r given) (ltb s p) (passed (spec.isLeft p r given && ltb s p) 32 x) in
-        let (_, o) = both (not (isZero u)) _ (passed (spec.isOperation q r s u t given) 34 y) in
+        let (lr, sp) = both (spec.isLeft p r (workOf equations basis table run)) (ltb s p) (passed (spec.isLeft p r (workOf equations basis table run) && ltb s p) 32 x) in
+        let (_, o) = both (not (isZero u)) _ (passed (spec.isOperation q r s u t (workOf equations basis table run)) 34 y) in
         let (_, small) = both (not (eqb r s) || isZero t) _ o in
         record {
           first = equation-small z r (left-below p r (run .equation) (run .done) lr);
@@ -137,118 +127,25 @@ module _ {p q : ℕ} {equations : List ℤ} {basis table : List ℕ} {l : Beside
 
     pub combine-passed : made ≡ Pass → {o : Outcome} {equations′ : List ℤ} → Operated q r s u t equations run o equations′
         → outcomeOf o equations′ basis table
-        ≡ spec.combine p q (spec.basisRoom q (lengthsOf basis table l)) (spec.stageRoom q (lengthsOf basis table l)) r s u t given
+        ≡ spec.combine p q (spec.basisRoom q (lengthsOf basis table l)) (spec.stageRoom q (lengthsOf basis table l)) r s u t (workOf equations basis table run)
     unfolding spec.combine
     combine-passed g b = rw (← m, ← n) (call-passed e equations basis table run _ g (operated-is basis table b))
 
-  module _ {a f : ℕ} (e : checkOf made ≡ spec.takeChecks p q most room a f given) where
+  module _ (a f : ℕ) {made : Check} (e : checkOf made ≡ spec.takeChecks p q most room a f (workOf equations basis table run)) where
     pub take-refused : {why : Refusal} → made ≡ Refuse why
         → outcomeOf (refusedWith why run) equations basis table
-        ≡ spec.take p q (spec.basisRoom q (lengthsOf basis table l)) (spec.stageRoom q (lengthsOf basis table l)) a f given
+        ≡ spec.take p q (spec.basisRoom q (lengthsOf basis table l)) (spec.stageRoom q (lengthsOf basis table l)) a f (workOf equations basis table run)
     unfolding spec.take
     take-refused g = rw (← m, ← n) (call-refused e equations basis table run _ g)
 
     pub take-enters : made ≡ Pass → run .count * q ≤ length basis
     unfolding spec.takeChecks
     take-enters g =
-        let (z, own) = standing-both p q most room given _ (passes e g) in
-        omega (arith, lent-roomed .long, mul-le-mul-right q (ordered p q most room given (z .order) .few))
+        let (z, own) = standing-both p q most room (workOf equations basis table run) _ (passes e g) in
+        omega (arith, lent-roomed .long, mul-le-mul-right q (count-few p q most room (workOf equations basis table run) (z .order)))
 
     pub take-passed : made ≡ Pass → {o : Outcome} {basis′ : List ℕ} → Taken q a f basis run o basis′
         → outcomeOf o equations basis′ table
-        ≡ spec.take p q (spec.basisRoom q (lengthsOf basis table l)) (spec.stageRoom q (lengthsOf basis table l)) a f given
+        ≡ spec.take p q (spec.basisRoom q (lengthsOf basis table l)) (spec.stageRoom q (lengthsOf basis table l)) a f (workOf equations basis table run)
     unfolding spec.take
     take-passed g b = rw (← m, ← n) (call-passed e equations basis table run _ g (taken-is equations table b))
-
--- ---- the continuing call
-
--- The outcome is that of the definition. A call that is refused before its work has changed nothing lent. The tables beside the rows are as long as before, and
--- from the number of rows that the stage had on, at most the room, as they were.
-pub record ResumeLeft (p q budget : ℕ) (equations : List ℤ) (basis sizes table : List ℕ) (x : Sides) (r : Record) (o : Outcome) (basis′ sizes′ table′ : List ℕ)
-    (x′ : Sides) : Type 0 where
-  pub outcome : outcomeOf o equations basis′ table′
-      ≡ spec.resume p q (spec.basisRoom q (lentLengths basis sizes table x)) (spec.stageRoom q (lentLengths basis sizes table x)) budget
-      (workOf equations basis table r)
-  pub refused : (n : ℕ) (values : List ℕ)
-      → spec.resumeChecks p q (spec.basisRoom q (lentLengths basis sizes table x)) (spec.stageRoom q (lentLengths basis sizes table x))
-      (workOf equations basis table r) ≡ paper.refuse n values
-      → (basis′ ≡ basis) × (sizes′ ≡ sizes) × (table′ ≡ table) × (x′ ≡ x)
-  pub had : ℕ
-  pub few : had ≤ spec.stageRoom q (lentLengths basis sizes table x)
-  pub beyond : Beyond had x x′
-  pub sizes : Kept 0 (r .count) sizes sizes′
-
-module _ {p q budget : ℕ} {equations : List ℤ} {basis sizes table : List ℕ} {x : Sides} {r : Record} {made : Check} where
-  abbrev most : ℕ
-  most = spec.basisRoom q (lentLengths basis sizes table x)
-
-  abbrev room : ℕ
-  room = spec.stageRoom q (lentLengths basis sizes table x)
-
-  abbrev w : Work
-  w = workOf equations basis table r
-
-  module _ (e : checkOf made ≡ standing p q most room w) where
-    checks : checkOf made ≡ spec.resumeChecks p q most room w
-    checks = e ∙ resume-checks p q most room w
-
-    pub resume-refused : {why : Refusal} → made ≡ Refuse why → ResumeLeft p q budget equations basis sizes table x r (refusedWith why r) basis sizes table x
-    unfolding spec.resume
-    resume-refused g =
-        record {
-          outcome = call-refused checks equations basis table r _ g;
-          refused = λ n values h. (refl, refl, refl, refl);
-          had = 0;
-          few = omega arith;
-          beyond = beyond-none;
-          sizes = kept-none;
-        }
-
-    module _ (g : made ≡ Pass) where
-      pub resume-stands : Stands p q most room w
-      resume-stands = stands p q most room w (passes e g)
-
-      not-refused : (n : ℕ) (values : List ℕ) → spec.resumeChecks p q most room w ≡ paper.refuse n values → ⊥
-      not-refused n values h = let k : paper.go ≡ paper.refuse n values = sym (ap checkOf g) ∙ (checks ∙ h) in let z : _≡_ {A = ℕ} 0 1 = cc in omega arith
-
-      pub resume-rested : p ≤ r .equation → {o : Outcome} → o .run ≡ r
-          → answerOf (o .answer) ≡ cond (eqb (r .done) (2 ^ p - 1)) paper.complete paper.paused
-          → ResumeLeft p q budget equations basis sizes table x r o basis sizes table x
-      unfolding spec.resume rested allDone
-      resume-rested l s a =
-          record {
-            outcome = call-passed checks equations basis table r _ g (rw (le-ltb (r .equation) p l, a, s));
-            refused = λ n values h. absurd (not-refused n values h);
-            had = 0;
-            few = omega arith;
-            beyond = beyond-none;
-            sizes = kept-none;
-          }
-
-      pub resume-enters : r .equation < p → Entered p q most room equations basis sizes table x r
-      resume-enters l =
-          let s = resume-stands in
-          record {
-            size = s .size;
-            whole = s .whole;
-            long = basis-fits q (length basis) (length sizes);
-            sized = basis-few q (length basis) (length sizes) .0;
-            capped = basis-few q (length basis) (length sizes) .1;
-            fits = stage-fits q (length table) (length (x .values)) (length (x .words)) (length (x .degrees)) (length (x .marks)) (length (x .mothers));
-            going = l;
-            order = ordered p q most room w (s .order);
-          }
-
-      pub resume-ran : r .equation < p → {o : Outcome} {basis′ sizes′ table′ : List ℕ} {x′ : Sides}
-          → ResumedTo p q most room budget equations basis sizes table x r o basis′ sizes′ table′ x′
-          → ResumeLeft p q budget equations basis sizes table x r o basis′ sizes′ table′ x′
-      unfolding spec.resume
-      resume-ran l t =
-          record {
-            outcome = call-passed checks equations basis table r _ g (rw (lt-ltb (r .equation) p l) (t .outcome));
-            refused = λ n values h. absurd (not-refused n values h);
-            had = t .had;
-            few = t .few;
-            beyond = t .beyond;
-            sizes = t .sizes;
-          }

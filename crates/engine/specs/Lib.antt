@@ -1,3 +1,1 @@
-pub mod EngineLaws
-pub mod Resuming
 pub mod Calling

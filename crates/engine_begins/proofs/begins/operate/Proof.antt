@@ -19,7 +19,7 @@ same-length c = search needs
 
 returns : tie.Need-returns
 returns c = let s = c .before .before .before in
-    record { outcome-is = refl; equations-is = simp (toZ-ofZ (s .fits .u), toZ-ofZ (s .fits .t)) at (c .before .before .combine .ensures) }
+    record { outcome-is = refl; equations-is = simp (toZ-ofZ (s .fits .u), toZ-ofZ (s .fits .t)) at (c .before .combine .ensures) }
 
 pub operate-spec : {M : Type 1} → statement M
 operate-spec = tie.close (tie.spec mul-combine mul-combine-2 combine-requires same-length returns)
