@@ -2,7 +2,7 @@
 ghost use mathlib.Core.Path.{_≡_};
 ghost use mathlib.Core.List.{[]};
 ghost use Prim.Native.Nat.{_^_, _<_};
-ghost use Rattle.engine.specs.Calling.{ResumeLeft};
+ghost use Rattle.engine_resume.specs.Continuing.{ResumeLeft};
 ghost use Rattle.engine_calls.specs.Records.{answerOf, besideOf, numberOf, valuesOf};
 ghost use Rattle.engine_calls.specs.declared.Outcome.{Outcome as Left};
 ghost use Rattle.engine_checks.specs.Standing.{startChecksBy};
@@ -147,7 +147,7 @@ pub fn resume(
         (sidesOf (now (values .exit)) (now (words .exit)) (now (degrees .exit)) (now (marks .exit)) (now (mothers .exit)))) ⌝ }
 {
     let r = records::read(run);
-    let o = engine::resume(
+    let o = engine_resume::resume(
         p,
         q,
         equations,

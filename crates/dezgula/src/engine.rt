@@ -2,7 +2,7 @@
 ghost use mathlib.Core.Path.{_≡_};
 ghost use mathlib.Core.List.{[]};
 ghost use Rattle.c_engine.specs.Words.{combineWords, mostOf, recordIn, resumeWords, roomOf, startWords, takeWords, told};
-ghost use Rattle.engine.specs.Calling.{ResumeLeft};
+ghost use Rattle.engine_resume.specs.Continuing.{ResumeLeft};
 ghost use Rattle.engine_calls.specs.declared.Outcome.{Outcome as Left};
 ghost use Rattle.engine_stage.specs.Standing.{sidesOf};
 

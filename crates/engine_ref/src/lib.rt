@@ -3,7 +3,7 @@ ghost use mathlib.Core.Path.{_≡_};
 ghost use Rattle.engine_spec.specs.Calls as spec;
 ghost use Rattle.engine_calls.specs.Records.{leaves, lengthsOf, outcomeOf, workOf};
 ghost use Rattle.engine_stage.specs.Standing.{sidesOf};
-ghost use Rattle.engine.specs.Calling.{ResumeLeft};
+ghost use Rattle.engine_resume.specs.Continuing.{ResumeLeft};
 use engine_calls::Answer;
 use engine_calls::Beside;
 use engine_calls::Record;
@@ -95,7 +95,7 @@ pub fn resume(
         (leaves a (now (r .exit))) (now (basis .exit)) (now (sizes .exit)) (now (table .exit))
         (sidesOf (now (values .exit)) (now (words .exit)) (now (degrees .exit)) (now (marks .exit)) (now (mothers .exit))) ⌝ }
 {
-    let o = engine::resume(
+    let o = engine_resume::resume(
         p,
         q,
         equations,

@@ -11,7 +11,9 @@ mul-result : tie.Need-mul-result
 mul-result c = omega (arith, c .before .before .pre, c .value-of .ensures ∙ place-value (valuesOf (c .before .before .args .why)))
 
 add-result : tie.Need-add-result
-add-result c = omega (arith, c .before .before .pre, c .before .number-of .ensures, c .value-of .ensures ∙ place-value (valuesOf (c .before .before .args .why)))
+add-result c =
+    omega
+    (arith, c .before .before .pre, c .before .number-of .ensures, c .value-of .ensures ∙ place-value (valuesOf (c .before .before .args .why)))
 
 returns : tie.Need-returns
 returns c = omega (arith, c .before .number-of .ensures, c .value-of .ensures ∙ place-value (valuesOf (c .before .before .args .why)))

@@ -67,4 +67,5 @@ pub write-spec : {M : Type 1} → statement M
 write-spec =
     tie.close
     (tie.spec fits-requires (λ c. search needs) slice-write-words slice-write-words-2 slice-write-words-3 slice-write-words-4 slice-write-words-5
-    slice-write-words-6 slice-write-words-7 slice-write-words-8 slice-write-words-9 slice-write-words-10 (λ c. search needs) returns (λ c. search needs) returns-2)
+    slice-write-words-6 slice-write-words-7 slice-write-words-8 slice-write-words-9 slice-write-words-10
+    (λ c. search needs) returns (λ c. search needs) returns-2)
