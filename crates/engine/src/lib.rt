@@ -52,7 +52,15 @@ pub fn combine(
         (workOf (now (equations .entry)) (now (basis .entry)) (now (table .entry)) run) ⌝ }
 {
     let most = capacity::basis_room(q, basis.len(), l.sizes);
-    let room = capacity::stage_room(q, table.len(), l.values, l.words, l.degrees, l.marks, l.mothers);
+    let room = capacity::stage_room(
+        q,
+        table.len(),
+        l.values,
+        l.words,
+        l.degrees,
+        l.marks,
+        l.mothers,
+    );
     match standing::check_combine(p, q, equations, basis, table, most, room, run, r, s, u, t) {
         Check::Refuse(why) => engine_calls::refused(why, run),
         Check::Pass => begins::operate(q, equations, run, r, s, u, t),
@@ -77,7 +85,15 @@ pub fn take(
         (workOf (now (equations .entry)) (now (basis .entry)) (now (table .entry)) r) ⌝ }
 {
     let most = capacity::basis_room(q, basis.len(), l.sizes);
-    let room = capacity::stage_room(q, table.len(), l.values, l.words, l.degrees, l.marks, l.mothers);
+    let room = capacity::stage_room(
+        q,
+        table.len(),
+        l.values,
+        l.words,
+        l.degrees,
+        l.marks,
+        l.mothers,
+    );
     match standing::check_take(p, q, equations, basis, table, most, room, r, e, f) {
         Check::Refuse(why) => engine_calls::refused(why, r),
         Check::Pass => begins::take(q, basis, r, e, f),

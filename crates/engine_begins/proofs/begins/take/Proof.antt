@@ -16,9 +16,9 @@ same-length c = search needs
 
 returns : tie.Need-returns
 returns c = record {
-      fresh = λ l. (c .before .before .before .drop-fresh .ensures .0, rw (c .before .before .before .drop-fresh .ensures .1) at (c .taken .ensures));
-      none = λ l. absurd (omega (arith, c .before .before .before .before .before .if1 .taken));
-    }
+  fresh = λ l. (c .before .before .before .drop-fresh .ensures .0, rw (c .before .before .before .drop-fresh .ensures .1) at (c .taken .ensures));
+  none = λ l. absurd (omega (arith, c .before .before .before .before .before .if1 .taken));
+}
 
 taken-requires-2 : tie.Need-taken-requires-2
 taken-requires-2 c κs = search needs

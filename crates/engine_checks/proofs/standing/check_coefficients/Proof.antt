@@ -21,7 +21,7 @@ enum-told c = search needs
 
 returns : tie.Need-returns
 returns c = let e = sym (ap checkOf (c .before .before .why .given .1)) ∙ c .before .before .before .before .check .ensures in
-    rw (c .value-of .ensures) (place-is (now (c .before .before .before .before .before .args .coefs)) 
+    rw (c .value-of .ensures) (place-is (now (c .before .before .before .before .before .args .coefs))
     (numberOf (c .before .before .why .given .0 .0)) (valuesOf (c .before .before .why .given .0 .0)) e)
 
 returns-2 : tie.Need-returns-2
