@@ -20,6 +20,7 @@ ghost use Rattle.multiples.specs.Answers.{partsTold};
 ghost use Rattle.single_file.specs.Listing.{listingCall};
 ghost use Rattle.single_words.specs.SingleFile.{singleStartWords, singleResumeWords, listingTold};
 
+mod engine; // engine.rt: the whole basis, by the engine
 mod equations; // equations.rt: typed equations
 mod files; // files.rt: lists as files
 mod lower; // lower.rt: runs from a lower bound

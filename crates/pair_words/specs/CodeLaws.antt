@@ -46,7 +46,7 @@ module _ (p q : ℕ) (coefs : List ℤ) (room : ℕ) where
 
   small-range : length coefs ≤ 128 → Small (check7 map)
   unfolding check7
-  small-range l = small-first 7 (length coefs) _ (omega arith) l
+  small-range l = small-first 7 (length coefs) _ (omega arith) (omega arith)
 
   small-start : Small (calls.startChecks p q coefs room)
   unfolding calls.startChecks

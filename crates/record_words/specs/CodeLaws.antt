@@ -1,4 +1,4 @@
--- A number of 64 bits holds each answer, as a place is one of at most 128 coefficients. Assumes nothing.
+-- A number of 64 bits holds each answer, as a place is one of at most 128 coefficients, and of no more than 1024 in any call. Assumes nothing.
 use Prim.Native.Nat.{ℕ, zero, suc, _*_, _^_, _≤_, _<_}
 use mathlib.Core.Bool.{Bool, true, false, not}
 use mathlib.Core.List.{List, [], _∷_}
@@ -41,7 +41,7 @@ unfolding _then_
 small-then (refuse n values) d a b = a
 small-then go d a b = b refl
 
-pub small-first : (n k : ℕ) (f : ℕ → Bool) → n < 256 → k ≤ 128 → Small (refuseFirst n k f)
+pub small-first : (n k : ℕ) (f : ℕ → Bool) → n < 256 → k ≤ 1024 → Small (refuseFirst n k f)
 unfolding refuseFirst
 small-first n zero f h l = tt
 small-first n (suc k) f h l =
@@ -84,7 +84,7 @@ small-shape m s d h =
 
 pub small-range : (m : Input) → length (m .coefs) ≤ 128 → Small (check7 m)
 unfolding check7
-small-range m l = small-first 7 (length (m .coefs)) _ (omega arith) l
+small-range m l = small-first 7 (length (m .coefs)) _ (omega arith) (omega arith)
 
 -- 7, and what comes after it
 small-ranges : (e : Extra) (m : Input) → length (m .coefs) ≤ 128 → Small (rangeChecks e m)

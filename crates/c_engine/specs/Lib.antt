@@ -1,0 +1,3 @@
+pub mod Words
+pub mod CodeLaws
+pub mod WordLaws

@@ -1,0 +1,229 @@
+-- The engine's calls on a record of words, as the code goes about them; a call that is refused leaves the words; and other words are refused with 6, after what
+-- is checked before it. Assumes nothing.
+use Prim.Native.Nat.{ℕ, zero, suc, _+_, _*_, _^_, _<_, _≤_}
+use mathlib.Core.Bool.{Bool, true, false, not, _&&_, cond}
+use mathlib.Core.Logic.{_≢_}
+use mathlib.Core.List.{List, [], _∷_}
+use mathlib.Core.Path.{_≡_, refl, sym, subst, ap, _∙_}
+use native.Mathlib.Decide.{ℕ-discrete}
+use native.Mathlib.Omega.{arith}
+use borrow.Author.Tests.{eq-eqb, le-ltb, lt-leb, lt-ltb, ne-eqb}
+use lib.Dec.{T, eqb, leb, lit<, ltb}
+use lib.IntN.{ℤ, pos, natAbs}
+use lib.ListN.{length, getD, set}
+use Rattle.definitions.specs.Answers.{Check, go, refuse, refuseFirst, refuseIf, refuseWith, started, _then_}
+use Rattle.definitions.specs.Refusals.{stepLimit}
+use Rattle.calls.specs.Paper.{value}
+use Rattle.record_words.specs.CodeLaws.{Fits}
+use Rattle.record_words.specs.Codes.{code, refusalCode}
+use Rattle.record_words.specs.WordLaws.{set-own, then-same}
+use Rattle.engine_spec.specs.Calls as calls
+use Rattle.engine_spec.specs.Engine.{Result, Work, begun, result}
+use Rattle.engine_calls.specs.Records.{answerOf, checkOf, numberOf, outcomeOf, placeOf, valuesOf, workOf}
+use Rattle.engine_calls.specs.declared.Check as made
+use Rattle.engine_calls.specs.declared.Check.the-variants.{Pass, Refuse}
+use Rattle.engine_calls.specs.declared.Outcome.{Outcome}
+use Rattle.engine_calls.specs.declared.Record.{Record}
+use Rattle.engine_calls.specs.declared.Refusal.{Refusal}
+use Rattle.engine_checks.specs.Standing.{start-checks, startChecksBy}
+use Rattle.c_engine.specs.Words.{isRecord, misfit, misfitChecks, recordIf, recordIn, recordLeft, startWords, told, wordsIf, wordsLeft, workIn}
+
+-- ---- which words are a record
+
+pub fits-short : (words : List ℕ) → length words ≢ 10 → false ≡ isRecord words
+unfolding isRecord
+fits-short words ne = rw (ne-eqb (length words) 10 ne)
+
+pub fits-by : (words : List ℕ) {b : Bool} → length words ≡ 10 → b ≡ ltb (getD words 0 0) (2 ^ 32) → b ≡ isRecord words
+unfolding isRecord
+fits-by words e f = rw (eq-eqb (length words) 10 e) f
+
+-- ---- reading and writing the words
+
+pub record-in : (words : List ℕ) → length words ≡ 10 → getD words 0 0 < 2 ^ 32 → recordIf true words ≡ recordIn words
+unfolding recordIn isRecord
+record-in words e l = rw (eq-eqb (length words) 10 e, lt-ltb (getD words 0 0) (2 ^ 32) l)
+
+pub record-large : (words : List ℕ) → length words ≡ 10 → 2 ^ 32 ≤ getD words 0 0 → recordIf false words ≡ recordIn words
+unfolding recordIn isRecord
+record-large words e l = rw (eq-eqb (length words) 10 e, le-ltb (getD words 0 0) (2 ^ 32) l)
+
+pub record-short : (words : List ℕ) → length words ≢ 10 → recordIf false words ≡ recordIn words
+unfolding recordIn isRecord
+record-short words ne = rw (ne-eqb (length words) 10 ne)
+
+record-long : (b : Bool) (n : ℕ) → (eqb n 10 && b) ≡ true → n ≡ 10
+record-long b n e = elim (ℕ-discrete n 10) [ yes h ↦ h | no ne ↦ absurd (subst T (sym e ∙ ap (λ x. x && b) (ne-eqb n 10 ne)) tt) ]
+
+module _ (words : List ℕ) {b : Bool} (e : b ≡ isRecord words) where
+  pub long-by : b ≡ true → length words ≡ 10
+  unfolding isRecord
+  long-by t = record-long (ltb (getD words 0 0) (2 ^ 32)) (length words) (sym e ∙ t)
+
+  pub written : (r : Record) → b ≡ true → wordsIf true words r ≡ wordsLeft words r
+  unfolding wordsLeft
+  written r t = rw (← e, t)
+
+  pub unwritten : (r : Record) → b ≡ false → words ≡ wordsLeft words r
+  unfolding wordsLeft
+  unwritten r t = rw (← e, t)
+
+-- a call that is refused before its work leaves the record that was read, and so the words
+own-words : (words : List ℕ) → length words ≡ 10 → wordsIf true words (recordIf true words) ≡ words
+own-words words e =
+    let own : (i : ℕ) → i < 10 → set words i (getD words i 0) ≡ words = λ i h. set-own words i (rw e h) in
+    rw (
+      own 0 (lit< tt),
+      own 1 (lit< tt),
+      own 2 (lit< tt),
+      own 3 (lit< tt),
+      own 4 (lit< tt),
+      own 5 (lit< tt),
+      own 6 (lit< tt),
+      own 7 (lit< tt),
+      own 8 (lit< tt),
+      own 9 (lit< tt),
+    )
+
+pub kept-words : (words : List ℕ) → wordsLeft words (recordIn words) ≡ words
+unfolding wordsLeft recordIn
+kept-words words = by (isRecord words) refl
+  where
+    by : (b : Bool) → b ≡ isRecord words → wordsIf b words (recordIf b words) ≡ words
+    by true e = own-words words (long-by words e refl)
+    by false e = refl
+
+-- ---- what a call by value answered and left
+
+pub answer-fits : (o : Outcome) {equations : List ℤ} {basis table : List ℕ} {whole : Result} → outcomeOf o equations basis table ≡ whole → Fits (whole .answer)
+    → Fits (answerOf (o .answer))
+answer-fits o e h = rw (← e) at h
+
+pub call-told : (words : List ℕ) (o : Outcome) {equations : List ℤ} {basis table left : List ℕ} {whole : Result} {a : ℕ}
+    → outcomeOf o equations basis table ≡ whole
+    → a ≡ code (answerOf (o .answer)) → left ≡ wordsLeft words (o .run) → (a, (equations, (basis, (table, left)))) ≡ told words whole
+call-told words o e d l = rw (← e, d, l)
+
+-- the value of a refusal
+pub place-value : (values : List ℕ) → placeOf values ≡ value values
+place-value [] = refl
+place-value (x ∷ others) = refl
+
+-- ---- other words: 6, after what is checked before it
+
+past-limit : (words : List ℕ) → isRecord words ≡ false → recordIn words .steps .0 ≡ stepLimit + 1
+unfolding recordIn
+past-limit words other = rw other
+
+and-false : (b c : Bool) → c ≡ false → (b && c) ≡ false
+and-false true c e = e
+and-false false c e = refl
+
+module _ (p q most room : ℕ) (equations : List ℤ) (basis table words : List ℕ) (other : isRecord words ≡ false) where
+  abbrev lent : Work
+  lent = workIn equations basis table words
+
+  disordered : calls.inOrder p q most room lent ≡ false
+  unfolding calls.inOrder
+  disordered =
+      let steps : leb (lent .stage .steps) stepLimit ≡ false = rw (past-limit words other) in
+      rw steps (and-false (leb (lent .count) most && leb (lent .stage .rows) room) false refl)
+
+  pub misfit-standing : (own : Check)
+      → calls.standingThen p q most room lent own ≡ calls.check1 p then calls.check2 q then calls.check4 p q most lent then refuse 6 []
+  unfolding refuseWith _then_
+  misfit-standing own = rw disordered
+
+-- ---- a start whose words are no record
+
+-- 7 and no refusal give way to 6
+unfoldable pub instead : Check → Check
+instead (refuse n values) = cond (eqb n 7) (refuse 6 []) (refuse n [])
+instead go = refuse 6 []
+
+-- the number that tells of a check
+abbrev pub checkCode : Check → ℕ
+checkCode (refuse n values) = refusalCode n values
+checkCode go = code started
+
+instead-then : (b : Bool) (n : ℕ) (c : Check) → eqb n 7 ≡ false → instead (refuseIf b n then c) ≡ refuseIf b n then instead c
+unfolding instead refuseWith _then_
+instead-then true n c e = rw e
+instead-then false n c e = refl
+
+instead-first : (k : ℕ) (f : ℕ → Bool) → instead (refuseFirst 7 k f) ≡ refuse 6 []
+unfolding refuseFirst instead refuseWith _then_
+instead-first zero f = refl
+instead-first (suc k) f = by (refuseFirst 7 k f) (f k) (instead-first k f)
+  where
+    by : (c : Check) (b : Bool) → instead c ≡ refuse 6 [] → instead (c then refuseWith b 7 (suc k ∷ [])) ≡ refuse 6 []
+    by (refuse n values) b h = h
+    by go true h = refl
+    by go false h = refl
+
+pub misfit-checks : (p q : ℕ) (coefs : List ℤ) (most : ℕ) (w : Work) → instead (calls.startChecks p q coefs most w) ≡ misfitChecks p q coefs most w
+unfolding calls.startChecks
+misfit-checks p q coefs most w =
+    instead-then _ 1 _ refl
+    ∙ ap (λ c. calls.check1 p then c)
+    (instead-then _ 2 _ refl
+    ∙ ap (λ c. calls.check2 q then c)
+    (instead-then _ 3 _ refl
+    ∙ ap (λ c. calls.check3 p q coefs then c)
+    (instead-then _ 4 _ refl ∙ ap (λ c. calls.check4 p q most w then c) (instead-first (p * q) _))))
+
+-- from the check of the code
+pub refused-first : {k : made.Check} {c : Check} {why : Refusal} → checkOf k ≡ c → k ≡ Refuse why → instead (refuse (numberOf why) (valuesOf why)) ≡ instead c
+refused-first e h = ap instead (sym (ap checkOf h) ∙ e)
+
+pub passed-first : {k : made.Check} {c : Check} → checkOf k ≡ c → k ≡ Pass → checkCode (instead c) ≡ 6
+unfolding instead
+passed-first e h = rw (← e, h)
+
+pub place-instead : (n : ℕ) (values : List ℕ) → n ≡ 7 → 6 ≡ checkCode (instead (refuse n values))
+unfolding instead
+place-instead n values e = rw (eq-eqb n 7 e)
+
+pub number-instead : (n : ℕ) (values : List ℕ) → n ≢ 7 → n ≡ checkCode (instead (refuse n values))
+unfolding instead
+number-instead n values ne = rw (ne-eqb n 7 ne) (omega arith)
+
+module _ (p q : ℕ) (coefs : List ℤ) (most : ℕ) (equations : List ℤ) (basis words : List ℕ) {b : Bool} (e : b ≡ isRecord words) where
+  misfit-by : (c : Check) → (checkCode c, (equations, (basis, ([], words)))) ≡ told words (calls.checked c (workIn equations basis [] words) (result started))
+  unfolding calls.checked
+  misfit-by (refuse n values) = rw (kept-words words)
+  misfit-by go = rw (kept-words words)
+
+  pub start-misfit : b ≡ false → {a : ℕ} → a ≡ checkCode (instead (startChecksBy p q coefs most (length equations)))
+      → (a, (equations, (basis, ([], words)))) ≡ told words (startWords p q coefs most equations basis words)
+  unfolding startWords misfit
+  start-misfit t h =
+      let w : Work = workIn equations basis [] words in
+      let checks = ap instead (start-checks p q coefs most w) ∙ misfit-checks p q coefs most w in
+      rw (← e, t) (ap (λ n. (n, (equations, (basis, ([], words))))) (h ∙ ap checkCode checks) ∙ misfit-by (misfitChecks p q coefs most w))
+
+  pub start-fitting : b ≡ true → calls.start p q coefs most (workIn equations basis [] words) ≡ startWords p q coefs most equations basis words
+  unfolding startWords
+  start-fitting t = rw (← e, t)
+
+-- a start looks at no table of the stage
+abbrev withoutTable : Result → Result
+withoutTable o = result (o .answer) (workOf (o .work .equations) (o .work .basis) [] (recordLeft (o .work)))
+
+module _ (p q : ℕ) (coefs : List ℤ) (most : ℕ) (equations : List ℤ) (basis table : List ℕ) (r : Record) where
+  abbrev lentNone : Work
+  lentNone = workOf equations basis [] r
+
+  abbrev lentTable : Work
+  lentTable = workOf equations basis table r
+
+  without : (c : Check)
+      → withoutTable (calls.checked c lentTable (λ v. result started (begun p q coefs v))) ≡ calls.checked c lentNone (λ v. result started (begun p q coefs v))
+  unfolding calls.checked begun
+  without (refuse n values) = refl
+  without go = refl
+
+  pub start-without : (o : Outcome) {equations′ : List ℤ} {basis′ : List ℕ} → outcomeOf o equations′ basis′ table ≡ calls.start p q coefs most lentTable
+      → outcomeOf o equations′ basis′ [] ≡ calls.start p q coefs most lentNone
+  unfolding calls.start calls.startChecks
+  start-without o e = ap withoutTable e ∙ without (calls.startChecks p q coefs most lentTable)

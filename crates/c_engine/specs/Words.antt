@@ -1,0 +1,91 @@
+-- The engine's calls as callers in other languages have them (include/dezgula_engine.h): the record as words of 64 bits, the answer as one number (`Codes`
+-- of record_words). Assumes nothing.
+use Prim.Native.Nat.{ℕ, _+_, _^_}
+use mathlib.Core.Bool.{Bool, true, false, _&&_, cond}
+use mathlib.Core.List.{List, []}
+use lib.Dec.{eqb, ltb}
+use lib.IntN.{ℤ}
+use lib.ListN.{length, getD, set}
+use Rattle.definitions.specs.Answers.{Check, _then_, refuse, started}
+use Rattle.definitions.specs.Refusals.{stepLimit}
+use Rattle.record_words.specs.Codes.{code}
+use Rattle.engine_spec.specs.Calls as calls
+use Rattle.engine_spec.specs.Engine.{Result, Work, result}
+use Rattle.engine_calls.specs.Records.{besideOf, lengthsOf, recordOf, workOf}
+use Rattle.engine_calls.specs.declared.Record.{Record}
+
+-- ---- the record
+
+-- A record is ten words: the marks of the equations done, which are a number of 32 bits; the equation under way and its fresh unknown; the rows of the basis
+-- and of the stage; the row of the basis, the degree and the two rows of the pair that are next; the steps taken.
+unfoldable pub isRecord : List ℕ → Bool
+isRecord words = eqb (length words) 10 && ltb (getD words 0 0) (2 ^ 32)
+
+-- 6, "the record or the tables out of order": other words read as a record that is, its steps being past their limit
+abbrev pub recordIf : Bool → List ℕ → Record
+recordIf true words =
+    recordOf (getD words 0 0) (getD words 1 0) (getD words 2 0) (getD words 3 0) (getD words 4 0) (getD words 5 0) (getD words 6 0) (getD words 7 0)
+    (getD words 8 0) (getD words 9 0)
+recordIf false words = recordOf 0 0 0 0 0 0 0 0 0 (stepLimit + 1)
+
+unfoldable pub recordIn : List ℕ → Record
+recordIn words = recordIf (isRecord words) words
+
+-- what is lent
+abbrev pub workIn : List ℤ → List ℕ → List ℕ → List ℕ → Work
+workIn equations basis table words = workOf equations basis table (recordIn words)
+
+-- what stands in the words after a call has left a record: other words are not written
+abbrev pub wordsIf : Bool → List ℕ → Record → List ℕ
+wordsIf true words r =
+    set
+    (set
+    (set (set (set (set (set (set (set (set words 0 (r .done)) 1 (r .equation)) 2 (r .fresh)) 3 (r .count)) 4 (r .rows)) 5 (r .taken)) 6 (r .degree))
+    7 (r .upper)) 8 (r .lower)) 9 (r .steps .0)
+wordsIf false words r = words
+
+abbrev pub recordLeft : Work → Record
+recordLeft w =
+    recordOf (w .done) (w .equation) (w .fresh) (w .count) (w .stage .rows) (w .stage .taken) (w .stage .degree) (w .stage .upper) (w .stage .lower)
+    (w .stage .steps)
+
+unfoldable pub wordsLeft : List ℕ → Record → List ℕ
+wordsLeft words r = wordsIf (isRecord words) words r
+
+-- what a call answers, as a number, and what it leaves in the working system, the basis, the stage's table and the words
+abbrev pub told : List ℕ → Result → ℕ × (List ℤ × (List ℕ × (List ℕ × List ℕ)))
+told words o =
+    (code (o .answer), (o .work .equations, (o .work .basis, (o .work .stage .table, wordsLeft words (recordLeft (o .work))))))
+
+-- ---- room
+
+-- the rows that find room in the basis, and in the stage
+abbrev pub mostOf : ℕ → (basis sizes : List ℕ) → ℕ
+mostOf q basis sizes = calls.basisRoom q (lengthsOf basis [] (besideOf (length sizes) 0 0 0 0 0))
+
+abbrev pub roomOf : ℕ → (table : List ℕ) (values : List ℤ) (words degrees marks mothers : List ℕ) → ℕ
+roomOf q table values words degrees marks mothers =
+    calls.stageRoom q (lengthsOf [] table (besideOf 0 (length values) (length words) (length degrees) (length marks) (length mothers)))
+
+-- ---- the calls: each is handed the room of the basis and of the stage, the three tables and the words
+
+-- A start looks at no old content, but it cannot write its record into other words: it then answers with the first of 1 to 4 that is due, or with 6.
+abbrev pub misfitChecks : (p q : ℕ) (coefs : List ℤ) (most : ℕ) → Work → Check
+misfitChecks p q coefs most w = calls.check1 p then calls.check2 q then calls.check3 p q coefs then calls.check4 p q most w then refuse 6 []
+
+unfoldable pub misfit : (p q : ℕ) (coefs : List ℤ) (most : ℕ) → Work → Result
+misfit p q coefs most w = calls.checked (misfitChecks p q coefs most w) w (result started)
+
+-- a start is lent no table of the stage
+unfoldable pub startWords : (p q : ℕ) (coefs : List ℤ) (most : ℕ) (equations : List ℤ) (basis words : List ℕ) → Result
+startWords p q coefs most equations basis words =
+    cond (isRecord words) (calls.start p q coefs most (workIn equations basis [] words)) (misfit p q coefs most (workIn equations basis [] words))
+
+unfoldable pub combineWords : (p q most room r s : ℕ) (u t : ℤ) (equations : List ℤ) (basis table words : List ℕ) → Result
+combineWords p q most room r s u t equations basis table words = calls.combine p q most room r s u t (workIn equations basis table words)
+
+unfoldable pub takeWords : (p q most room e f : ℕ) (equations : List ℤ) (basis table words : List ℕ) → Result
+takeWords p q most room e f equations basis table words = calls.take p q most room e f (workIn equations basis table words)
+
+unfoldable pub resumeWords : (p q most room budget : ℕ) (equations : List ℤ) (basis table words : List ℕ) → Result
+resumeWords p q most room budget equations basis table words = calls.resume p q most room budget (workIn equations basis table words)
