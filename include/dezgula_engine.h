@@ -46,21 +46,6 @@ enum {
     DEZGULA_ENGINE_OPERATION = 34 /* 0 times the equation itself, or itself added, or a coefficient would be outside -1,000,000 to 1,000,000 */
 };
 
-static inline const char *dezgula_engine_sentence(uint64_t answer)
-{
-    switch (dezgula_number(answer)) {
-    case DEZGULA_EQUATIONS: return "The number of equations is not 1 to 32.";
-    case DEZGULA_UNKNOWNS: return "The number of unknowns is not 1 to 32.";
-    case DEZGULA_STACK_SHORT: return "The table for the equations is too short, or the basis has room for fewer rows than there are unknowns.";
-    case DEZGULA_OUT_OF_ORDER: return "The record or the rows are out of order.";
-    case DEZGULA_ENGINE_FULL: return "The tables have no room for a row that is needed.";
-    case DEZGULA_ENGINE_EQUATION: return "The equation cannot be taken or changed now.";
-    case DEZGULA_ENGINE_FRESH: return "The unknown cannot be left out of this stage.";
-    case DEZGULA_ENGINE_OPERATION: return "This is no row operation, or a coefficient would pass 1,000,000.";
-    default: return dezgula_sentence(answer);
-    }
-}
-
 /* The record of a run. */
 typedef struct {
     uint32_t done;         /* the equations done: bit i is equation i, from 0 */
@@ -97,118 +82,30 @@ typedef struct {
     dezgula_engine_record record;
 } dezgula_engine_run;
 
-/* ---- the exported functions. The record is its words, in the order of its fields; another number of words is refused with 6, by a start after 4 and before 7.
- * A pointer is never NULL, not even with length 0, and is aligned for what it points to. */
-
-enum { DEZGULA_ENGINE_RECORD_LENGTH = 10 };
-
-uint64_t dezgula_raw_engine_start(size_t p, size_t q, const int32_t *coefs, size_t coefs_len, int32_t *equations, size_t equations_len, uint32_t *basis,
-                                  size_t basis_len, uint32_t *sizes, size_t sizes_len, uint64_t *record, size_t record_len) DEZGULA_LOOK_AT_IT;
-
-uint64_t dezgula_raw_engine_combine(size_t p, size_t q, int32_t *equations, size_t equations_len, uint32_t *basis, size_t basis_len, uint32_t *sizes,
-                                    size_t sizes_len, uint32_t *table, size_t table_len, int64_t *values, size_t values_len, uint64_t *words, size_t words_len,
-                                    uint32_t *degrees, size_t degrees_len, uint64_t *marks, size_t marks_len, uint32_t *mothers, size_t mothers_len,
-                                    uint64_t *record, size_t record_len, size_t r, int64_t u, size_t s, int64_t t) DEZGULA_LOOK_AT_IT;
-
-uint64_t dezgula_raw_engine_take(size_t p, size_t q, int32_t *equations, size_t equations_len, uint32_t *basis, size_t basis_len, uint32_t *sizes,
-                                 size_t sizes_len, uint32_t *table, size_t table_len, int64_t *values, size_t values_len, uint64_t *words, size_t words_len,
-                                 uint32_t *degrees, size_t degrees_len, uint64_t *marks, size_t marks_len, uint32_t *mothers, size_t mothers_len,
-                                 uint64_t *record, size_t record_len, size_t e, size_t f) DEZGULA_LOOK_AT_IT;
-
-uint64_t dezgula_raw_engine_resume(size_t p, size_t q, int32_t *equations, size_t equations_len, uint32_t *basis, size_t basis_len, uint32_t *sizes,
-                                   size_t sizes_len, uint32_t *table, size_t table_len, int64_t *values, size_t values_len, uint64_t *words, size_t words_len,
-                                   uint32_t *degrees, size_t degrees_len, uint64_t *marks, size_t marks_len, uint32_t *mothers, size_t mothers_len,
-                                   uint64_t *record, size_t record_len, uint64_t budget) DEZGULA_LOOK_AT_IT;
-
 /* ---- the engine's calls */
 
-static inline void dezgula_engine_pack(dezgula_engine_record record, uint64_t words[DEZGULA_ENGINE_RECORD_LENGTH])
-{
-    words[0] = record.done;
-    words[1] = record.equation;
-    words[2] = record.fresh;
-    words[3] = record.count;
-    words[4] = record.rows;
-    words[5] = record.taken;
-    words[6] = record.degree;
-    words[7] = record.upper;
-    words[8] = record.lower;
-    words[9] = record.steps.count;
-}
+/* The record as words, in the order of its fields, to be kept in a file; and the record of such words. */
+enum { DEZGULA_ENGINE_RECORD_LENGTH = 10 };
+void dezgula_engine_pack(dezgula_engine_record record, uint64_t words[DEZGULA_ENGINE_RECORD_LENGTH]);
+dezgula_engine_record dezgula_engine_unpack(const uint64_t words[DEZGULA_ENGINE_RECORD_LENGTH]);
 
-static inline dezgula_engine_record dezgula_engine_unpack(const uint64_t words[DEZGULA_ENGINE_RECORD_LENGTH])
-{
-    dezgula_engine_record record;
-    record.done = (uint32_t)words[0];
-    record.equation = words[1];
-    record.fresh = words[2];
-    record.count = words[3];
-    record.rows = words[4];
-    record.taken = words[5];
-    record.degree = words[6];
-    record.upper = words[7];
-    record.lower = words[8];
-    record.steps.count = words[9];
-    return record;
-}
-
-#define DEZGULA_ENGINE_TABLE(type, run, name) (type *)dezgula_lent((run)->name), dezgula_lent_length((run)->name, (run)->name##_len)
-
-/* The start: copies the map's coefficients to the working system. Answers DEZGULA_STARTED, or refuses with 1, 2, 3, 4, 6 or 7.
+/* The start: copies the map's coefficients to the working system. Answers DEZGULA_STARTED, or refuses with 1, 2, 3, 4 or 7.
  * Started: the first q rows of the basis are the unit tuples, the record says so, and nothing else is written. Refused: changes nothing. */
-DEZGULA_LOOK_AT_IT static inline uint64_t dezgula_engine_start(const dezgula_system *system, dezgula_engine_run *run)
-{
-    uint64_t words[DEZGULA_ENGINE_RECORD_LENGTH];
-    dezgula_engine_pack(run->record, words);
-    uint64_t answer = dezgula_raw_engine_start(system->p, system->q, DEZGULA_ENGINE_TABLE(const int32_t, system, coefs),
-                                               DEZGULA_ENGINE_TABLE(int32_t, run, equations), DEZGULA_ENGINE_TABLE(uint32_t, run, basis),
-                                               DEZGULA_ENGINE_TABLE(uint32_t, run, sizes), words, (size_t)DEZGULA_ENGINE_RECORD_LENGTH);
-    run->record = dezgula_engine_unpack(words);
-    return answer;
-}
-
-/* The parameters that every call on a run begins with. */
-#define DEZGULA_ENGINE_LENT(p, q, run, record_words) \
-    (p), (q), DEZGULA_ENGINE_TABLE(int32_t, run, equations), DEZGULA_ENGINE_TABLE(uint32_t, run, basis), DEZGULA_ENGINE_TABLE(uint32_t, run, sizes), \
-        DEZGULA_ENGINE_TABLE(uint32_t, run, table), DEZGULA_ENGINE_TABLE(int64_t, run, values), DEZGULA_ENGINE_TABLE(uint64_t, run, words), \
-        DEZGULA_ENGINE_TABLE(uint32_t, run, degrees), DEZGULA_ENGINE_TABLE(uint64_t, run, marks), DEZGULA_ENGINE_TABLE(uint32_t, run, mothers), \
-        (record_words), (size_t)DEZGULA_ENGINE_RECORD_LENGTH
+uint64_t dezgula_engine_start(const dezgula_system *system, dezgula_engine_run *run) DEZGULA_LOOK_AT_IT;
 
 /* A row operation: equation r becomes u times itself plus t times equation s, both from 0. Equation r is not done, no stage is under way, u is not 0, and r is
  * not s unless t is 0. Answers DEZGULA_STARTED, or refuses with 1, 2, 4, 6, 32 or 34. Writes nothing but equation r. */
-DEZGULA_LOOK_AT_IT static inline uint64_t dezgula_engine_combine(size_t p, size_t q, dezgula_engine_run *run, size_t r, int64_t u, size_t s, int64_t t)
-{
-    uint64_t record[DEZGULA_ENGINE_RECORD_LENGTH];
-    dezgula_engine_pack(run->record, record);
-    uint64_t answer = dezgula_raw_engine_combine(DEZGULA_ENGINE_LENT(p, q, run, record), r, u, s, t);
-    run->record = dezgula_engine_unpack(record);
-    return answer;
-}
+uint64_t dezgula_engine_combine(size_t p, size_t q, dezgula_engine_run *run, size_t r, int32_t u, size_t s, int32_t t) DEZGULA_LOOK_AT_IT;
 
 /* Begins the stage of equation e, from 0, without the unknown f, from 0; with f = q, with all unknowns. Answers DEZGULA_STARTED, or refuses with 1, 2, 4, 6,
  * 32 or 33. Started: the record has the equation and the unknown, and the rows of the basis that have the unknown are taken out of it. */
-DEZGULA_LOOK_AT_IT static inline uint64_t dezgula_engine_take(size_t p, size_t q, dezgula_engine_run *run, size_t e, size_t f)
-{
-    uint64_t record[DEZGULA_ENGINE_RECORD_LENGTH];
-    dezgula_engine_pack(run->record, record);
-    uint64_t answer = dezgula_raw_engine_take(DEZGULA_ENGINE_LENT(p, q, run, record), e, f);
-    run->record = dezgula_engine_unpack(record);
-    return answer;
-}
+uint64_t dezgula_engine_take(size_t p, size_t q, dezgula_engine_run *run, size_t e, size_t f) DEZGULA_LOOK_AT_IT;
 
 /* Goes on with the stage under way for at most `budget` turns. Answers DEZGULA_PAUSED; DEZGULA_COMPLETE: all equations are done, and the first `count` rows of
  * the basis are exactly the minimal solutions of the map, each once; or a refusal: before the first turn 1, 2, 4 or 6, by a turn 12, 14 or 31. */
-DEZGULA_LOOK_AT_IT static inline uint64_t dezgula_engine_resume(size_t p, size_t q, dezgula_engine_run *run, uint64_t budget)
-{
-    uint64_t record[DEZGULA_ENGINE_RECORD_LENGTH];
-    dezgula_engine_pack(run->record, record);
-    uint64_t answer = dezgula_raw_engine_resume(DEZGULA_ENGINE_LENT(p, q, run, record), budget);
-    run->record = dezgula_engine_unpack(record);
-    return answer;
-}
+uint64_t dezgula_engine_resume(size_t p, size_t q, dezgula_engine_run *run, uint64_t budget) DEZGULA_LOOK_AT_IT;
 
-/* ---- the solver: library/plan.c, to be compiled and linked beside the archive. It allocates with malloc what it needs, as it needs it: some kilobytes at
- * first, then twice as much each time, up to the limit that it is given. A solver is plain numbers and tables; several may go on in several threads, each in
+/* ---- the solver. It allocates with malloc what it needs, as it needs it: some kilobytes at first, then twice as much each time, up to the limit that it is given. A solver is plain numbers and tables; several may go on in several threads, each in
  * one at a time. */
 
 typedef struct dezgula_solver dezgula_solver;

@@ -116,6 +116,12 @@ static bool reduce(int64_t *row, const int64_t *pivot, size_t at, size_t n)
     for (size_t j = 0; all > 1 && j < n; j++) row[j] /= all;
     return true;
 }
+/* a row operation; a factor that is too large for the engine's call is refused as a coefficient would be */
+static uint64_t combine(dezgula_solver *s, size_t row, int64_t own, size_t other, int64_t times)
+{
+    if (own < INT32_MIN || own > INT32_MAX || times < INT32_MIN || times > INT32_MAX) return DEZGULA_ENGINE_OPERATION;
+    return dezgula_engine_combine(s->p, s->q, &s->run, row, (int32_t)own, other, (int32_t)times);
+}
 /* the sum of by[i] * equation i in the place of equation e, where by[e] is not 0; false where a coefficient on the way is too large */
 static bool replace(dezgula_solver *s, size_t e, const int64_t *by)
 {
@@ -123,7 +129,7 @@ static bool replace(dezgula_solver *s, size_t e, const int64_t *by)
     bool all = true;
     for (size_t i = 0; all && i < s->p; i++) {
         if (i == e || by[i] == 0) continue;
-        all = dezgula_engine_combine(s->p, s->q, &s->run, e, own, i, by[i]) == DEZGULA_STARTED;
+        all = combine(s, e, own, i, by[i]) == DEZGULA_STARTED;
         own = 1;
     }
     return all;
@@ -419,7 +425,7 @@ static bool settled(dezgula_solver *s, double cost, uint64_t *answer)
 static uint64_t take(dezgula_solver *s, size_t e, size_t f)
 {
     if (f < s->q && s->equations[e * s->q + f] == 1) {
-        uint64_t answer = dezgula_engine_combine(s->p, s->q, &s->run, e, -1, e, 0);
+        uint64_t answer = combine(s, e, -1, e, 0);
         if (answer != DEZGULA_STARTED) return answer;
     }
     uint64_t answer = dezgula_engine_take(s->p, s->q, &s->run, e, f);
@@ -429,7 +435,7 @@ static uint64_t take_choice(dezgula_solver *s, const choice *c)
 {
     for (size_t i = 0; i < c->left.operations; i++) {
         const operation *o = &c->left.done[i];
-        uint64_t answer = dezgula_engine_combine(s->p, s->q, &s->run, o->row, 1, o->by, o->times);
+        uint64_t answer = combine(s, o->row, 1, o->by, o->times);
         if (answer != DEZGULA_STARTED) return answer;
     }
     return take(s, c->left.id[c->e], c->fresh);
@@ -479,7 +485,7 @@ dezgula_solver *dezgula_solver_new(const dezgula_system *system, uint64_t *answe
     const size_t p = system->p, q = system->q;
     *answer = p < 1 || p > MOST ? (uint64_t)DEZGULA_EQUATIONS
             : q < 1 || q > MOST ? (uint64_t)DEZGULA_UNKNOWNS
-            : system->coefs == NULL || system->coefs_len != p * q ? (uint64_t)DEZGULA_COEFFICIENT_COUNT : 0;
+            : system->coefs == NULL || system->coefs_len != p * q ? (uint64_t)DEZGULA_COUNT : 0;
     if (*answer != 0) return NULL;
     dezgula_solver *s = blank(p, q);
     *answer = DEZGULA_ENGINE_FULL;

@@ -5,6 +5,7 @@
 #define DEZGULA_RAW_H
 
 #include "dezgula.h"
+#include "dezgula_engine.h"
 
 #ifdef __cplusplus
 extern "C" {
@@ -113,6 +114,26 @@ uint64_t dezgula_raw_write_list(size_t p, size_t q, const int32_t *coefs, size_t
 /* words: p, q, the row count and the ending of the file that was read. */
 uint64_t dezgula_raw_read_list(const uint8_t *file, size_t file_len, int32_t *coefs, size_t coefs_len, uint32_t *list, size_t list_len,
                                uint64_t words[4]) DEZGULA_LOOK_AT_IT;
+
+/* ---- the engine. The record is DEZGULA_ENGINE_RECORD_LENGTH words; another number of words is refused with 6, by a start after 4 and before 7. */
+
+uint64_t dezgula_raw_engine_start(size_t p, size_t q, const int32_t *coefs, size_t coefs_len, int32_t *equations, size_t equations_len, uint32_t *basis,
+                                  size_t basis_len, uint32_t *sizes, size_t sizes_len, uint64_t *record, size_t record_len) DEZGULA_LOOK_AT_IT;
+
+uint64_t dezgula_raw_engine_combine(size_t p, size_t q, int32_t *equations, size_t equations_len, uint32_t *basis, size_t basis_len, uint32_t *sizes,
+                                    size_t sizes_len, uint32_t *table, size_t table_len, int64_t *values, size_t values_len, uint64_t *words, size_t words_len,
+                                    uint32_t *degrees, size_t degrees_len, uint64_t *marks, size_t marks_len, uint32_t *mothers, size_t mothers_len,
+                                    uint64_t *record, size_t record_len, size_t r, int32_t u, size_t s, int32_t t) DEZGULA_LOOK_AT_IT;
+
+uint64_t dezgula_raw_engine_take(size_t p, size_t q, int32_t *equations, size_t equations_len, uint32_t *basis, size_t basis_len, uint32_t *sizes,
+                                 size_t sizes_len, uint32_t *table, size_t table_len, int64_t *values, size_t values_len, uint64_t *words, size_t words_len,
+                                 uint32_t *degrees, size_t degrees_len, uint64_t *marks, size_t marks_len, uint32_t *mothers, size_t mothers_len,
+                                 uint64_t *record, size_t record_len, size_t e, size_t f) DEZGULA_LOOK_AT_IT;
+
+uint64_t dezgula_raw_engine_resume(size_t p, size_t q, int32_t *equations, size_t equations_len, uint32_t *basis, size_t basis_len, uint32_t *sizes,
+                                   size_t sizes_len, uint32_t *table, size_t table_len, int64_t *values, size_t values_len, uint64_t *words, size_t words_len,
+                                   uint32_t *degrees, size_t degrees_len, uint64_t *marks, size_t marks_len, uint32_t *mothers, size_t mothers_len,
+                                   uint64_t *record, size_t record_len, uint64_t budget) DEZGULA_LOOK_AT_IT;
 
 #ifdef __cplusplus
 }

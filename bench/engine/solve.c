@@ -19,7 +19,7 @@ int main(int argc, char **argv)
     dezgula_solver *solver = dezgula_solver_new(&map, &answer);
     while (solver != NULL && (answer == DEZGULA_STARTED || answer == DEZGULA_PAUSED)) answer = dezgula_solver_work(solver, 0);
     if (answer != DEZGULA_COMPLETE) {
-        fprintf(stderr, "solve: %s\n", dezgula_engine_sentence(answer));
+        fprintf(stderr, "solve: %s\n", dezgula_sentence(answer));
         dezgula_solver_free(solver);
         return 1;
     }

@@ -4,7 +4,7 @@
  *
  * The other one is plain.h, the definition as it reads; with -DTWIN it is bench/engine/engine.c, on larger maps. A run that ends is also held against its box:
  * every tuple with components up to 3 decides by itself whether it is a minimal solution. Status 1 at the first difference. */
-#include "dezgula_engine.h"
+#include "raw.h"
 #ifdef TWIN
 #include "engine.h"
 #endif

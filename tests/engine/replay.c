@@ -1,7 +1,7 @@
 /* Replays vectors of calls (model.py) through the engine's functions: replay < VECTORS. Each call gets tables of exactly the lengths given, each in an
  * allocation of its own, so that a sanitizer sees a step past the end; the calls' own space is filled with what can mislead. Status 1 at the first
  * difference. */
-#include "dezgula_engine.h"
+#include "raw.h"
 
 #include <inttypes.h>
 #include <stdbool.h>

@@ -59,7 +59,7 @@ static dezgula_solver *finish(dezgula_solver *solver, uint64_t budget, bool carr
         is(budget == 0 || told.steps.count <= last + budget, "more turns than the budget");
         last = told.steps.count;
     }
-    is(answer == DEZGULA_COMPLETE, dezgula_engine_sentence(answer));
+    is(answer == DEZGULA_COMPLETE, dezgula_sentence(answer));
     return solver;
 }
 
@@ -96,7 +96,7 @@ static void refused_maps(void)
     is(solver_of(1, 0, coefs, &answer) == NULL && answer == DEZGULA_UNKNOWNS, "0 unknowns");
     is(solver_of(1, 33, coefs, &answer) == NULL && answer == DEZGULA_UNKNOWNS, "33 unknowns");
     is(solver_of(1, 1, coefs, &answer) == NULL && answer == DEZGULA_COEFFICIENT + 256, "a coefficient out of range");
-    is(solver_of(1, 1, NULL, &answer) == NULL && answer == DEZGULA_COEFFICIENT_COUNT, "no coefficients");
+    is(solver_of(1, 1, NULL, &answer) == NULL && answer == DEZGULA_COUNT, "no coefficients");
     dezgula_solver_free(NULL);
 }
 static void largest_map(void)
