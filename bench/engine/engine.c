@@ -384,7 +384,7 @@ static void begin(uint64_t *r, size_t e, size_t f)
     r[ROWS] = r[NEXT] = r[DEGREE] = r[UPPER] = r[LOWER] = 0;
 }
 
-uint64_t twin_engine_combine(LENT, size_t r, int64_t u, size_t s, int64_t t)
+uint64_t twin_engine_combine(LENT, size_t r, int32_t u, size_t s, int32_t t)
 {
     CHECKED(l);
     if (!is_left(&l, r) || s >= p) return EQUATION_LEFT;

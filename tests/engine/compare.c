@@ -28,7 +28,7 @@ typedef struct {
 typedef struct {
     int kind; /* 0 start, 1 combine, 2 take, 3 resume */
     size_t r, s;
-    int64_t u, t;
+    int32_t u, t;
     uint64_t budget;
     int32_t coefs[WIDE * WIDE];
     size_t coefs_len;
@@ -146,7 +146,7 @@ static void damage(lent *w)
 /* a call that may be out of turn */
 static void draw_call(const lent *w, call *c)
 {
-    static const int64_t times[8] = {0, 1, -1, 2, -3, INT64_MAX, INT64_MIN, 1000000};
+    static const int32_t times[8] = {0, 1, -1, 2, -3, INT32_MAX, INT32_MIN, 1000000};
     const size_t most = w->p > w->q ? w->p : w->q;
     *c = (call){.kind = 1 + (int)draw(3), .r = draw(w->p + 2), .s = draw(most + 2), .u = times[draw(8)], .t = times[draw(8)], .budget = draw(30)};
 }
@@ -231,7 +231,7 @@ static void one_run(void)
         if (draw(3) == 0) aside(&mine);
         if (mine.record[P_EQUATION] < mine.p) c = (call){.kind = 3, .budget = budget};
         else if (draw(4) == 0)
-            c = (call){.kind = 1, .r = draw(mine.p), .s = draw(mine.p), .u = draw(2) ? -1 : 1 + (int64_t)draw(2), .t = (int64_t)draw(5) - 2};
+            c = (call){.kind = 1, .r = draw(mine.p), .s = draw(mine.p), .u = draw(2) ? -1 : 1 + (int32_t)draw(2), .t = (int32_t)draw(5) - 2};
         else draw_take(&mine, &c);
         uint64_t answer = both(&mine, &c);
         if (answer == DEZGULA_COMPLETE) {

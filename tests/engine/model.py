@@ -301,7 +301,7 @@ class Drawn:
         if kind == 0 and r.randrange(8) == 0:
             self.call(0, p, q, w, [], [r.choice([1, -1, 0, 10001, -10001, 10000]) for _ in range(p * q if r.randrange(4) else 3)])
         elif kind == 1:
-            self.call(1, p, q, w, [place(p), r.choice([0, 1, -1, 2, 2**40, -(2**63)]), place(p), r.choice([0, 1, -1, 3, 2**63 - 1])])
+            self.call(1, p, q, w, [place(p), r.choice([0, 1, -1, 2, 2**30, -(2**31)]), place(p), r.choice([0, 1, -1, 3, 2**31 - 1])])
         elif kind == 2:
             self.call(2, p, q, w, [place(p), place(q)])
         else:
@@ -361,7 +361,7 @@ class Drawn:
             for e, f in ((0, 1), (1, 2)):
                 self.call(2, 2, 3, w, [e, f])
                 self.call(3, 2, 3, w, [100])
-        for u, t in ((2**63 - 1, -(2**63) + 1), (-(2**63), -(2**63)), (2**62, -(2**62) + 1), (2**63 - 1, 1)):
+        for u, t in ((2**31 - 1, -(2**31) + 1), (-(2**31), -(2**31)), (2**30, -(2**30) + 1), (2**31 - 1, 1)):
             w = self.lent(2, 2, 6)
             self.call(0, 2, 2, w, [], [3, -3, 3, -3])
             self.call(1, 2, 2, w, [0, u, 1, t])

@@ -189,7 +189,7 @@ static inline uint64_t plain_start(const plain *w, const int32_t *coefs, size_t 
     memcpy(w->record, first, sizeof first);
     return P_STARTED;
 }
-static inline uint64_t plain_combine(const plain *w, size_t r, int64_t u, size_t s, int64_t t)
+static inline uint64_t plain_combine(const plain *w, size_t r, int32_t u, size_t s, int32_t t)
 {
     uint64_t refused = plain_standing(w);
     if (refused) return refused;
