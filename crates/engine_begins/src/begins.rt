@@ -1,0 +1,99 @@
+// The start, a row operation and the begin of a stage, after their checks.
+ghost use mathlib.Core.Path.{_≡_};
+ghost use Prim.Native.Nat.{_*_, _≤_};
+ghost use lib.ListN.{length};
+ghost use Rattle.engine_calls.specs.Records.{leaves, recordOf};
+ghost use Rattle.engine_calls.specs.declared.Answer.the-variants.{Started};
+ghost use Rattle.engine_begins.specs.Begins.{Begun, Fitting, Operated, Taken};
+ghost use Rattle.engine_begins.specs.Writing.{Combines};
+use crate::writing;
+use calls::Steps;
+use engine_calls::Answer;
+use engine_calls::Outcome;
+use engine_calls::Record;
+use engine_rows::packing;
+use engine_rows::rows;
+
+pub fn begin(p: usize, q: usize, coefs: &[i32], equations: &mut [i32], basis: &mut [u32]) -> Outcome
+    requires { ⌜ Fitting p q (length (now coefs)) (length (now equations)) (length (now basis)) ⌝ }
+    ensures { λ o. ⌜ Begun p q (now (coefs .entry)) (now (equations .entry)) (now (basis .entry)) o (now (equations .exit)) (now (basis .exit)) ⌝ }
+{
+    writing::copy(coefs, p * q, equations);
+    rows::write_units(basis, q);
+    begun(p, q)
+}
+
+fn begun(p: usize, q: usize) -> Outcome
+    ensures { λ o. ⌜ o ≡ leaves Started (recordOf 0 p q q 0 0 0 0 0 0) ⌝ }
+{
+    let run = Record {
+        done: 0,
+        equation: p,
+        fresh: q,
+        count: q,
+        rows: 0,
+        taken: 0,
+        degree: 0,
+        upper: 0,
+        lower: 0,
+        steps: Steps(0),
+    };
+    Outcome {
+        answer: Answer::Started,
+        run,
+    }
+}
+
+pub fn operate(
+    q: usize,
+    equations: &mut [i32],
+    run: Record,
+    r: usize,
+    s: usize,
+    u: i32,
+    t: i32,
+) -> Outcome
+    requires { ⌜ Combines q (r * q) (s * q) u t (now equations) ⌝ }
+    ensures { λ o. ⌜ Operated q r s u t (now (equations .entry)) run o (now (equations .exit)) ⌝ }
+{
+    writing::combine(equations, q, r * q, s * q, u, t);
+    Outcome {
+        answer: Answer::Started,
+        run,
+    }
+}
+
+pub fn take(q: usize, basis: &mut [u32], r: Record, e: usize, f: usize) -> Outcome
+    requires { ⌜ r .count * q ≤ length (now basis) ⌝ }
+    ensures { λ o. ⌜ Taken q e f (now (basis .entry)) r o (now (basis .exit)) ⌝ }
+{
+    let m = r.count;
+    let done = r.done;
+    let steps = r.steps.0;
+    if f < q {
+        let count = packing::drop_fresh(basis, m, q, f);
+        return taken(done, e, f, count, steps);
+    }
+    taken(done, e, q, m, steps)
+}
+
+fn taken(done: u32, e: usize, f: usize, count: usize, steps: u64) -> Outcome
+    ensures { λ o. ⌜ o ≡ leaves Started (recordOf done e f count 0 0 0 0 0 steps) ⌝ }
+{
+    let run = Record {
+        done,
+        equation: e,
+        fresh: f,
+        count,
+        rows: 0,
+        taken: 0,
+        degree: 0,
+        upper: 0,
+        lower: 0,
+        steps: Steps(steps),
+    };
+    Outcome {
+        answer: Answer::Started,
+        run,
+    }
+}

@@ -1,0 +1,3 @@
+// The start, a row operation and the begin of a stage, after their checks.
+pub mod begins; // begins.rt: what each leaves
+mod writing; // writing.rt: numbers written into the working system

@@ -1,0 +1,262 @@
+-- What each call checks before its work, check by check, and what holds where they find nothing. Assumes nothing.
+use mathlib.Core.Path.{_≡_, refl, sym, _∙_, ap}
+use mathlib.Core.Bool.{Bool, true, false, not, _&&_, _||_}
+use mathlib.Core.List.{List, [], _∷_}
+use Prim.Native.Nat.{ℕ, zero, suc, _+_, _*_, _^_, _≤_, _<_}
+use native.Mathlib.Omega.{arith}
+use borrow.Author.Tests.{eqb-true, ltb-false, not-false}
+use lib.Dec.{T, eqb, leb, leb→le, ltb, ltb→lt}
+use lib.IntN.{ℤ, pos, natAbs}
+use lib.ListN.{getD, length}
+use Rattle.linear.specs.TestLaws.{all-at, and-parts}
+use Rattle.definitions.specs.Answers.{Check, go, refuse, refuseFirst, refuseIf, refuseWith, _then_}
+use Rattle.definitions.specs.Refusals.{stepLimit}
+use Rattle.laws.specs.AnswerLaws.{refuse-if-go, then-assoc, then-go}
+use Rattle.laws.specs.TableLaws.{row-fits}
+use Rattle.calls.specs.Paper.{value}
+use Rattle.checks.specs.Coefficients.{coefficientChecks}
+use Rattle.engine_spec.specs.Calls.{
+  check1,
+  check2,
+  check3,
+  check4,
+  check6,
+  check7,
+  coefficientsSmall,
+  combineChecks,
+  inOrder,
+  isFresh,
+  isLeft,
+  isOperation,
+  marksInOrder,
+  resumeChecks,
+  standingThen,
+  startChecks,
+  takeChecks,
+}
+use Rattle.engine_spec.specs.Beside.{SmallEquation, coefficientLimit}
+use Rattle.engine_spec.specs.Engine.{Work}
+use Rattle.engine_calls.specs.Records.{checkOf}
+use Rattle.engine_calls.specs.declared.Check as made
+use Rattle.engine_calls.specs.declared.Check.the-variants.{Pass, Refuse}
+use Rattle.engine_calls.specs.declared.Refusal.{Refusal}
+use Rattle.engine_checks.specs.Sizes.{Sized, sizeChecks, sized}
+use Rattle.engine_checks.specs.Taking.{leftBy}
+
+-- tables with room for these rows
+pub record Roomed (q most room basis table : ℕ) : Type 0 where
+  pub long : most * q ≤ basis
+  pub wide : room * q ≤ table
+
+-- ---- the start
+
+-- 4, from the length of the working system
+abbrev pub check4By : (p q most numbers : ℕ) → Check
+check4By p q most numbers = refuseIf (ltb numbers (p * q) || ltb most q) 4
+
+abbrev pub startRest : (p q : ℕ) (coefs : List ℤ) (most numbers : ℕ) → Check
+startRest p q coefs most numbers = check3 p q coefs then check4By p q most numbers then check7 p q coefs
+
+unfoldable pub startChecksBy : (p q : ℕ) (coefs : List ℤ) (most numbers : ℕ) → Check
+startChecksBy p q coefs most numbers = check1 p then check2 q then startRest p q coefs most numbers
+
+pub start-checks : (p q : ℕ) (coefs : List ℤ) (most : ℕ) (w : Work) → startChecksBy p q coefs most (length (w .equations)) ≡ startChecks p q coefs most w
+unfolding startChecksBy startChecks
+start-checks p q coefs most w = refl
+
+module _ (p q : ℕ) (coefs : List ℤ) (most numbers : ℕ) where
+  pub count-refuses : eqb (length coefs) (p * q) ≡ false → refuse 3 [] ≡ startRest p q coefs most numbers
+  unfolding refuseWith _then_
+  count-refuses e = rw e
+
+  pub short-refuses : eqb (length coefs) (p * q) ≡ true → ltb numbers (p * q) ≡ true → refuse 4 [] ≡ startRest p q coefs most numbers
+  unfolding refuseWith _then_
+  short-refuses e g = rw (e, g)
+
+  pub few-refuses : eqb (length coefs) (p * q) ≡ true → ltb numbers (p * q) ≡ false → ltb most q ≡ true → refuse 4 [] ≡ startRest p q coefs most numbers
+  unfolding refuseWith _then_
+  few-refuses e g h = rw (e, g, h)
+
+  pub rest-passes : eqb (length coefs) (p * q) ≡ true → ltb numbers (p * q) ≡ false → ltb most q ≡ false → {c : Check} → c ≡ coefficientChecks coefs
+      → c ≡ startRest p q coefs most numbers
+  unfolding refuseWith _then_
+  rest-passes e g h k = let n = eqb-true (length coefs) (p * q) e in rw (e, g, h) (rw n at k)
+
+-- what holds where a start is not refused
+pub record Starts (p q : ℕ) (coefs : List ℤ) (most numbers : ℕ) : Type 0 where
+  pub size : Sized p q
+  pub count : length coefs ≡ p * q
+  pub whole : p * q ≤ numbers
+  pub some : q ≤ most
+
+pub starts : (p q : ℕ) (coefs : List ℤ) (most numbers : ℕ) → startChecksBy p q coefs most numbers ≡ go → Starts p q coefs most numbers
+unfolding startChecksBy
+starts p q coefs most numbers e =
+    let (a, e₁) = then-go (check1 p) _ e in
+    let (b, e₂) = then-go (check2 q) _ e₁ in
+    let (c, e₃) = then-go (check3 p q coefs) _ e₂ in
+    let (d, e₄) = then-go (check4By p q most numbers) _ e₃ in
+    let (s, m) = or-false (ltb numbers (p * q)) (ltb most q) (refuse-if-go _ 4 d) in
+    record {
+      size = sized p q (unfold sizeChecks in (ap (λ x. x then check2 q) a ∙ unfold _then_ in b));
+      count = eqb-true (length coefs) (p * q) (not-false _ (refuse-if-go _ 3 c));
+      whole = ltb-false numbers (p * q) s;
+      some = ltb-false most q m;
+    }
+  where
+    or-false : (b c : Bool) → (b || c) ≡ false → (b ≡ false) × (c ≡ false)
+    or-false true c e = (e, cc)
+    or-false false c e = (refl, e)
+
+-- the place of the first coefficient refused
+first-place : (n k : ℕ) (f : ℕ → Bool) (m : ℕ) (values : List ℕ) → refuse m values ≡ refuseFirst n k f → refuse n (value values ∷ []) ≡ refuseFirst n k f
+unfolding refuseFirst _then_ refuseWith
+first-place n zero f m values e = cc
+first-place n (suc k) f m values e = by (refuseFirst n k f) (f k) (suc k) (first-place n k f m values) e
+  where
+    by : (c : Check) (b : Bool) (v : ℕ) → (refuse m values ≡ c → refuse n (value values ∷ []) ≡ c) → refuse m values ≡ c then refuseWith b n (v ∷ [])
+        → refuse n (value values ∷ []) ≡ c then refuseWith b n (v ∷ [])
+    by (refuse a others) b v h e = h e
+    by go true v h e = let g : values ≡ v ∷ [] = cc in rw g
+    by go false v h e = cc
+
+pub place-is : (coefs : List ℤ) (m : ℕ) (values : List ℕ) → refuse m values ≡ coefficientChecks coefs → refuse 7 (value values ∷ []) ≡ coefficientChecks coefs
+place-is coefs m values e = first-place 7 (length coefs) _ m values e
+
+-- ---- a call on a run
+
+abbrev pub standingRest : (p q most room : ℕ) → Work → Check
+standingRest p q most room w = check4 p q most w then check6 p q most room w
+
+unfoldable pub standing : (p q most room : ℕ) → Work → Check
+standing p q most room w = check1 p then check2 q then standingRest p q most room w
+
+module _ (p q most room : ℕ) (w : Work) where
+  pub system-short : ltb (length (w .equations)) (p * q) ≡ true → refuse 4 [] ≡ standingRest p q most room w
+  unfolding refuseWith _then_
+  system-short e = rw e
+
+  pub basis-short : ltb (length (w .equations)) (p * q) ≡ false → ltb most q ≡ true → refuse 4 [] ≡ standingRest p q most room w
+  unfolding refuseWith _then_
+  basis-short e g = rw (e, g)
+
+  module _ (e : ltb (length (w .equations)) (p * q) ≡ false) (g : ltb most q ≡ false) {b : Bool} (o : b ≡ inOrder p q most room w) where
+    pub order-refuses : not b ≡ true → refuse 6 [] ≡ standingRest p q most room w
+    unfolding refuseWith _then_
+    order-refuses h = rw (e, g, ← o, h)
+
+    pub order-passes : not b ≡ false → go ≡ standingRest p q most room w
+    unfolding refuseWith _then_
+    order-passes h = rw (e, g, ← o, h)
+
+  standing-then : (own : Check) → standing p q most room w then own ≡ standingThen p q most room w own
+  unfolding standing
+  standing-then own = simp then-assoc
+
+  then-none : (c : Check) → c then go ≡ c
+  unfolding _then_
+  then-none (refuse n values) = refl
+  then-none go = refl
+
+  pub resume-checks : standing p q most room w ≡ resumeChecks p q most room w
+  unfolding resumeChecks
+  resume-checks = sym (then-none (standing p q most room w)) ∙ standing-then go
+
+  module _ {r : made.Check} (e : checkOf r ≡ standing p q most room w) (own : Check) where
+    pub standing-refused : {why : Refusal} → r ≡ Refuse why → checkOf (Refuse why) ≡ standingThen p q most room w own
+    unfolding _then_
+    standing-refused g = rw (← standing-then own, ← e, g)
+
+    pub standing-passed : {c : Check} → r ≡ Pass → c ≡ own → c ≡ standingThen p q most room w own
+    unfolding _then_
+    standing-passed g h = rw (← standing-then own, ← e, g) h
+
+-- what holds where it is not refused
+pub record Stands (p q most room : ℕ) (w : Work) : Type 0 where
+  pub size : Sized p q
+  pub whole : p * q ≤ length (w .equations)
+  pub some : q ≤ most
+  pub order : inOrder p q most room w ≡ true
+
+pub stands : (p q most room : ℕ) (w : Work) → standing p q most room w ≡ go → Stands p q most room w
+unfolding standing
+stands p q most room w e =
+    let (a, e₁) = then-go (check1 p) _ e in
+    let (b, e₂) = then-go (check2 q) _ e₁ in
+    let (c, d) = then-go (check4 p q most w) _ e₂ in
+    let (s, m) = or-false (ltb (length (w .equations)) (p * q)) (ltb most q) (refuse-if-go _ 4 c) in
+    record {
+      size = sized p q (unfold sizeChecks in (ap (λ x. x then check2 q) a ∙ unfold _then_ in b));
+      whole = ltb-false (length (w .equations)) (p * q) s;
+      some = ltb-false most q m;
+      order = not-false _ (refuse-if-go _ 6 d);
+    }
+  where
+    or-false : (b c : Bool) → (b || c) ≡ false → (b ≡ false) × (c ≡ false)
+    or-false true c e = (e, cc)
+    or-false false c e = (refl, e)
+
+-- ---- what is a call's own
+
+pub first-refuses : (b : Bool) (n : ℕ) (own : Check) → b ≡ false → refuse n [] ≡ refuseIf (not b) n then own
+unfolding refuseWith _then_
+first-refuses b n own e = rw e
+
+pub first-passes : (b : Bool) (n : ℕ) (own : Check) {c : Check} → b ≡ true → c ≡ own → c ≡ refuseIf (not b) n then own
+unfolding refuseWith _then_
+first-passes b n own e h = rw e h
+
+pub last-refuses : (b : Bool) (n : ℕ) → b ≡ false → refuse n [] ≡ refuseIf (not b) n
+unfolding refuseWith
+last-refuses b n e = rw e
+
+pub last-passes : (b : Bool) (n : ℕ) → b ≡ true → go ≡ refuseIf (not b) n
+unfolding refuseWith
+last-passes b n e = rw e
+
+-- ---- what the own checks need of a run that stands
+
+module _ {p q most room : ℕ} {w : Work} (s : Stands p q most room w) where
+  coefficient-small : (k : ℕ) → k < p * q → natAbs (getD (w .equations) k (pos 0)) ≤ coefficientLimit
+  unfolding inOrder coefficientsSmall
+  coefficient-small k l =
+      let t : T (inOrder p q most room w) = rw (s .order) tt in
+      let (_, e₁) = and-parts (leb (w .count) most && leb (w .stage .rows) room) _ t in
+      let (_, e₂) = and-parts (leb (w .stage .steps) stepLimit && ltb (w .done) (2 ^ p)) _ e₁ in
+      let (_, e₃) = and-parts (marksInOrder p (w .done) (w .equation)) _ e₂ in
+      let (d, _) = and-parts (coefficientsSmall (p * q) (w .equations)) _ e₃ in
+      leb→le (natAbs (getD (w .equations) k (pos 0))) coefficientLimit (all-at (p * q) _ d k l)
+
+  pub equation-small : (i : ℕ) → i < p → SmallEquation q (w .equations) (i * q)
+  equation-small i l =
+      record {
+        unknowns = s .size .unknowns;
+        whole = omega (arith, s .whole, row-fits q i p l);
+        small = λ j jq. coefficient-small (i * q + j) (omega (arith, row-fits q i p l));
+      }
+
+-- 32 of a row operation: the equation is left, and there is the other one
+pub left-other : (b d : Bool) → b ≡ true → d ≡ true → (b && d) ≡ true
+left-other b d e g = rw (e, g)
+
+pub left-none : (b d : Bool) → b ≡ false → (b && d) ≡ false
+left-none b d e = rw e
+
+pub left-past : (b d : Bool) → d ≡ false → (b && d) ≡ false
+left-past true d e = e
+left-past false d e = refl
+
+-- 33: no unknown, or a fresh one
+pub none-asked : (b d : Bool) → b ≡ true → (b || d) ≡ true
+none-asked b d e = rw e
+
+pub fresh-asked : (b d : Bool) {x : Bool} → b ≡ false → d ≡ x → (b || d) ≡ x
+fresh-asked b d e g = rw e g
+
+-- an equation that is left is one of p
+pub left-below : (p e equation done : ℕ) → leftBy p e equation done ≡ true → e < p
+left-below p e equation done h =
+    let t : T (leftBy p e equation done) = rw h tt in
+    let (_, a) = and-parts (eqb equation p) _ t in
+    let (b, _) = and-parts (ltb e p) _ a in
+    ltb→lt e p b

@@ -1,0 +1,24 @@
+// Refusals 1 and 2: the numbers of equations and of unknowns.
+ghost use mathlib.Core.Path.{_≡_};
+ghost use Rattle.engine_calls.specs.Records.{checkOf};
+ghost use Rattle.engine_checks.specs.Sizes.{sizeChecks};
+use engine_calls::Check;
+use engine_calls::Refusal;
+
+pub fn check(p: usize, q: usize) -> Check
+    ensures { λ c. ⌜ checkOf c ≡ sizeChecks p q ⌝ }
+{
+    if p < 1 {
+        return Check::Refuse(Refusal::Equations);
+    }
+    if 32 < p {
+        return Check::Refuse(Refusal::Equations);
+    }
+    if q < 1 {
+        return Check::Refuse(Refusal::Unknowns);
+    }
+    if 32 < q {
+        return Check::Refuse(Refusal::Unknowns);
+    }
+    Check::Pass
+}

@@ -1,0 +1,146 @@
+// What each call checks before its work.
+ghost use mathlib.Core.Path.{_≡_};
+ghost use Prim.Native.Nat.{_*_, _≤_};
+ghost use lib.ListN.{length};
+ghost use Rattle.checks.specs.Coefficients.{coefficientChecks};
+ghost use Rattle.engine_spec.specs.Calls.{combineChecks, takeChecks};
+ghost use Rattle.engine_calls.specs.Records.{checkOf, workOf};
+ghost use Rattle.engine_checks.specs.Standing.{Roomed, standing, startChecksBy};
+use crate::operations;
+use crate::order;
+use crate::sizes;
+use crate::taking;
+use checks::coefficients;
+use engine_calls::Check;
+use engine_calls::Record;
+use engine_calls::Refusal;
+
+// A start, with room for `most` rows in the basis: refusals 1, 2, 3, 4 and 7.
+pub fn check_start(p: usize, q: usize, coefs: &[i32], equations: usize, most: usize) -> Check
+    ensures { λ c. ⌜ checkOf c ≡ startChecksBy p q (now (coefs .entry)) most equations ⌝ }
+{
+    match sizes::check(p, q) {
+        Check::Refuse(why) => Check::Refuse(why),
+        Check::Pass => {
+            if coefs.len() != p * q {
+                return Check::Refuse(Refusal::CoefficientCount);
+            }
+            if equations < p * q {
+                return Check::Refuse(Refusal::Room);
+            }
+            if most < q {
+                return Check::Refuse(Refusal::Room);
+            }
+            check_coefficients(coefs)
+        }
+    }
+}
+
+// The first coefficient out of range.
+fn check_coefficients(coefs: &[i32]) -> Check
+    ensures { λ c. ⌜ checkOf c ≡ coefficientChecks (now (coefs .entry)) ⌝ }
+{
+    match coefficients::check(coefs) {
+        calls::Check::Refuse(why) => Check::Refuse(Refusal::Coefficient(calls::value_of(why))),
+        calls::Check::Pass => Check::Pass,
+    }
+}
+
+// A call on a run: refusals 1, 2, 4 and 6.
+pub fn check_standing(
+    p: usize,
+    q: usize,
+    equations: &[i32],
+    basis: &[u32],
+    table: &[u32],
+    most: usize,
+    room: usize,
+    r: Record,
+) -> Check
+    requires { ⌜ Roomed q most room (length (now basis)) (length (now table)) ⌝ }
+    ensures { λ c. ⌜ checkOf c ≡ standing p q most room (workOf (now (equations .entry)) (now (basis .entry)) (now (table .entry)) r) ⌝ }
+{
+    match sizes::check(p, q) {
+        Check::Refuse(why) => Check::Refuse(why),
+        Check::Pass => {
+            if equations.len() < p * q {
+                return Check::Refuse(Refusal::Room);
+            }
+            if most < q {
+                return Check::Refuse(Refusal::Room);
+            }
+            if !order::in_order(p, q, equations, basis, table, most, room, r) {
+                return Check::Refuse(Refusal::OutOfOrder);
+            }
+            Check::Pass
+        }
+    }
+}
+
+// The begin of a stage: 32 and 33 besides.
+pub fn check_take(
+    p: usize,
+    q: usize,
+    equations: &[i32],
+    basis: &[u32],
+    table: &[u32],
+    most: usize,
+    room: usize,
+    r: Record,
+    e: usize,
+    f: usize,
+) -> Check
+    requires { ⌜ Roomed q most room (length (now basis)) (length (now table)) ⌝ }
+    ensures { λ c. ⌜ checkOf c ≡ takeChecks p q most room e f (workOf (now (equations .entry)) (now (basis .entry)) (now (table .entry)) r) ⌝ }
+{
+    match check_standing(p, q, equations, basis, table, most, room, r) {
+        Check::Refuse(why) => Check::Refuse(why),
+        Check::Pass => {
+            if !taking::is_left(p, e, r.equation, r.done) {
+                return Check::Refuse(Refusal::NotLeft);
+            }
+            if f == q {
+                return Check::Pass;
+            }
+            if !taking::is_fresh(equations, p, q, e, f, r.done) {
+                return Check::Refuse(Refusal::NotFresh);
+            }
+            Check::Pass
+        }
+    }
+}
+
+// A row operation: 32 and 34 besides.
+pub fn check_combine(
+    p: usize,
+    q: usize,
+    equations: &[i32],
+    basis: &[u32],
+    table: &[u32],
+    most: usize,
+    room: usize,
+    run: Record,
+    r: usize,
+    s: usize,
+    u: i32,
+    t: i32,
+) -> Check
+    requires { ⌜ Roomed q most room (length (now basis)) (length (now table)) ⌝ }
+    ensures { λ c. ⌜ checkOf c ≡ combineChecks p q most room r s u t (workOf (now (equations .entry)) (now (basis .entry)) (now (table .entry)) run) ⌝ }
+{
+    match check_standing(p, q, equations, basis, table, most, room, run) {
+        Check::Refuse(why) => Check::Refuse(why),
+        Check::Pass => {
+            if !taking::is_left(p, r, run.equation, run.done) {
+                return Check::Refuse(Refusal::NotLeft);
+            }
+            if p <= s {
+                return Check::Refuse(Refusal::NotLeft);
+            }
+            if !operations::is_operation(equations, q, r, s, u, t) {
+                return Check::Refuse(Refusal::NotOperation);
+            }
+            Check::Pass
+        }
+    }
+}
