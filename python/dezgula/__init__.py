@@ -1,7 +1,7 @@
 """The minimal natural solutions of systems of linear equations, listed by the proved calls of Dezgula.
 
 >>> import dezgula
->>> for row in dezgula.basis([[1, -1, 1, -1], [0, 1, -1, 0]]): print(row)
+>>> for row in sorted(dezgula.basis([[1, -1, 1, -1], [0, 1, -1, 0]])): print(row)
 (0, 1, 1, 0)
 (1, 0, 0, 1)
 

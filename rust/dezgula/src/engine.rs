@@ -73,7 +73,7 @@ impl Solver {
 
 #[cfg(dezgula_solver)]
 mod at_work {
-    use super::{Answer, System, Told};
+    use super::{numbers, Answer, System, Told};
     use crate::sys::dezgula_system;
     use std::os::raw::c_void;
 
@@ -99,6 +99,7 @@ mod at_work {
     pub struct Solver {
         own: *mut c_void,
         unknowns: usize,
+        complete: bool,
     }
 
     // Safety: a solver is plain numbers and tables of its own, and may go on in any thread, in one at a time, which `&mut` says.
@@ -114,13 +115,15 @@ mod at_work {
             if own.is_null() {
                 Err(Answer(answer))
             } else {
-                Ok(Solver { own, unknowns: m.q })
+                Ok(Solver { own, unknowns: m.q, complete: false })
             }
         }
 
         pub fn work(&mut self, budget: u64) -> Answer {
             // Safety: of this and the calls below: the solver is one that was made and not freed.
-            Answer(unsafe { dezgula_solver_work(self.own, budget) })
+            let answer = Answer(unsafe { dezgula_solver_work(self.own, budget) });
+            self.complete = answer.number() == numbers::COMPLETE;
+            answer
         }
 
         pub fn limit(&mut self, bytes: usize) {
@@ -135,11 +138,8 @@ mod at_work {
         pub fn rows(&self) -> Option<&[u32]> {
             let mut count = 0;
             let rows = unsafe { dezgula_solver_rows(self.own, &mut count) };
-            if self.told().done < self.told().equations || (rows.is_null() && count > 0) {
-                return None;
-            }
             // Safety: so many rows stand there, and stay until the solver works again or is freed, for which it has to be borrowed anew.
-            Some(if count == 0 { &[] } else { unsafe { std::slice::from_raw_parts(rows, count * self.unknowns) } })
+            self.complete.then(|| if rows.is_null() { &[][..] } else { unsafe { std::slice::from_raw_parts(rows, count * self.unknowns) } })
         }
     }
 
