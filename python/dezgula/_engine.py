@@ -21,8 +21,8 @@ class Solver:
         self._at_work = _AtWork(self._system)
 
     def work(self, budget: int = 0) -> bool:
-        """Works for about `budget` turns, 0 being as many as take about 50 ms, and says whether the list is complete. Refused with 31 where no more rows fit into
-        memory or into the limit: it may be called again when there is more of it."""
+        """Works for about `budget` turns, 0 being as many as take about 50 ms, and says whether the list is complete. Refused with 31 where no more rows fit
+        into memory or into the limit: it may be called again when there is more of it."""
         with self._one_at_a_time:
             answer = self._at_work.work(max(0, min(budget, 2**64 - 1)))
         if answer not in (COMPLETE, PAUSED):
@@ -126,13 +126,12 @@ class _Pairs:
         table = (ctypes.c_uint32 * (room * q))()
         if self._room:
             ctypes.memmove(table, self._table, 4 * self._room * q)
-        self._supports, self._values = (ctypes.c_uint32 * room)(), (ctypes.c_int64 * room)()
-        self._table, self._room = table, room
+        self._table, self._supports, self._values, self._room = table, (ctypes.c_uint32 * room)(), (ctypes.c_int64 * room)(), room
         return True
 
     def _lent(self) -> tuple:
-        s = self._system
-        return s.p, s.q, s.coefs, s.coefs_len, self._table, len(self._table), self._supports, len(self._supports), self._values, len(self._values), self._record, 6
+        s, room = self._system, self._room
+        return s.p, s.q, s.coefs, s.coefs_len, self._table, len(self._table), self._supports, room, self._values, room, self._record, 6
 
     def work(self, budget: int) -> int:
         begun, until = time.monotonic(), self._record[5] + budget if budget else 2**64

@@ -99,8 +99,8 @@ def _load() -> ctypes.CDLL:
         except OSError as error:
             tried.append(str(error))
     raise LibraryMissing(
-        "the shared library of Dezgula was not found. Build it with library/build in the project, or install it with ./install there, and set DEZGULA_LIBRARY to "
-        f"{NAME} where the system does not know it. Tried: " + "; ".join(tried)
+        "the shared library of Dezgula was not found. Build it with library/build in the project, or install it with ./install there, and set "
+        f"DEZGULA_LIBRARY to {NAME} where the system does not know it. Tried: " + "; ".join(tried)
     )
 
 

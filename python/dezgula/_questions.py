@@ -63,8 +63,8 @@ class Plan(NamedTuple):
 def basis(rows: Rows, *, progress: Progress = None, memory: int | None = None) -> list[Row]:
     """The minimal solutions of a system, all of them: at most 32 equations and 32 unknowns, an equation a row.
 
-    `progress` is told how far it is, about 20 times a second; KeyboardInterrupt, or an exception of the callback, ends the call. `memory` is the most bytes that
-    tables may take; where more are needed, Refused has the number 31.
+    `progress` is told how far it is, about 20 times a second; KeyboardInterrupt, or an exception of the callback, ends the call. `memory` is the most bytes
+    that tables may take; where more are needed, Refused has the number 31.
 
     >>> sorted(basis([[-1, 1, 2, -3], [-1, 3, -2, -1]]))
     [(0, 1, 1, 1), (4, 2, 1, 0)]
@@ -123,7 +123,7 @@ def desks(groups: Iterable[Rows], *, progress: Progress = None) -> list[Row]:
 
 
 def single_file(rows: Rows, *, progress: Progress = None) -> list[Order]:
-    """The minimal solutions of a single-file map, where each column has one 1, one -1 and otherwise zeros, or is all zeros: each with the order of its unknowns.
+    """The minimal solutions of a single-file map, where each column has one 1, one -1 and otherwise zeros, or is all zeros, with the order of each.
 
     >>> single_file([[1, 0, -1], [-1, 1, 0], [0, -1, 1]])
     [Order(unknowns=(1, 2, 3), order=(1, 3, 2))]

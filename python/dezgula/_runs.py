@@ -153,7 +153,7 @@ class Training(Run):
 
 
 class Rights(TwoLists):
-    """With a right side for each equation, and at most 15 unknowns: `list` has the minimal solutions without right sides, `second` the smallest tuples with them."""
+    """With a right side for each equation, and at most 15 unknowns: `list` has the minimal solutions without right sides, `second` the smallest with them."""
 
     _call = "_rights"
 

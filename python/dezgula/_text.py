@@ -82,7 +82,7 @@ def write_equation(row: Sequence[int], right: int) -> str:
 
 
 def read_system(text: str | bytes, unknowns: int) -> Typed:
-    """A system for so many unknowns, an equation a line, each line ended by a newline. Where a line is refused, `place` is the line and `within` the place there.
+    """A system for so many unknowns, an equation a line, each line ended by a newline. Of a line that is refused `place` is the line, `within` the place there.
 
     >>> read_system("2*(x1 + x3) - x2 = 3\\nx1 = x2\\n", 3)
     Typed(rows=[[2, -1, 2], [1, -1, 0]], rights=[3, 0])
