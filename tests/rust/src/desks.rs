@@ -1,39 +1,8 @@
-//! One desk after the other: the library's calls in safe functions, and a map solved desk by desk with them.
+//! One desk after the other: the calls, and a map solved desk by desk with them.
 
-use crate::{library, Answer, State, System};
-
-extern "C" {
-    fn dezgula_raw_start_desk(
-        p: usize,
-        q: usize,
-        coefs: *const i32,
-        coefs_len: usize,
-        generators: *const u32,
-        generators_len: usize,
-        stack: *mut u32,
-        stack_len: usize,
-        list: *mut u32,
-        list_len: usize,
-        record: *mut u64,
-        record_len: usize,
-    ) -> u64;
-
-    fn dezgula_raw_resume_desk(
-        p: usize,
-        q: usize,
-        coefs: *const i32,
-        coefs_len: usize,
-        generators: *const u32,
-        generators_len: usize,
-        stack: *mut u32,
-        stack_len: usize,
-        list: *mut u32,
-        list_len: usize,
-        record: *mut u64,
-        record_len: usize,
-        budget: u64,
-    ) -> u64;
-}
+use crate::library::{self, told, whole};
+use crate::{Answer, State, System};
+use dezgula::calls;
 
 /// The kind of these runs, as their record tells it.
 pub const DESKS: u64 = 4;
@@ -43,52 +12,14 @@ pub fn blank(q: usize, generators: usize, room: usize) -> State {
     State { stack: vec![0xa5a5_a5a5; generators * (q + 2) + 3], ..State::blank(q, room) }
 }
 
-fn answer(code: u64) -> Answer {
-    match code {
-        0 => Answer::Complete,
-        100 => Answer::Started,
-        101 => Answer::Paused,
-        _ => Answer::Refused { number: code as u8, value: (code >> 8) as usize },
-    }
-}
+const REFUSALS: [u8; 10] = [1, 2, 3, 4, 6, 7, 25, 11, 12, 14];
 
 pub fn start(m: &System, generators: &[u32], s: &mut State) -> Answer {
-    answer(unsafe {
-        dezgula_raw_start_desk(
-            m.p,
-            m.q,
-            m.coefs.as_ptr(),
-            m.coefs.len(),
-            generators.as_ptr(),
-            generators.len(),
-            s.stack.as_mut_ptr(),
-            s.stack.len(),
-            s.list.as_mut_ptr(),
-            s.list.len(),
-            s.record.as_mut_ptr(),
-            s.record.len(),
-        )
-    })
+    told(s.on(|lent| calls::start_desk(m.map(), whole(generators, m.q), lent)), &REFUSALS)
 }
 
 pub fn resume(m: &System, generators: &[u32], s: &mut State, budget: u64) -> Answer {
-    answer(unsafe {
-        dezgula_raw_resume_desk(
-            m.p,
-            m.q,
-            m.coefs.as_ptr(),
-            m.coefs.len(),
-            generators.as_ptr(),
-            generators.len(),
-            s.stack.as_mut_ptr(),
-            s.stack.len(),
-            s.list.as_mut_ptr(),
-            s.list.len(),
-            s.record.as_mut_ptr(),
-            s.record.len(),
-            budget,
-        )
-    })
+    told(s.on(|lent| calls::resume_desk(m.map(), whole(generators, m.q), lent, budget)), &REFUSALS)
 }
 
 /// The equations of a map from one to before another.

@@ -1,21 +1,6 @@
-//! Lists as files (document 02, Job 5): the library's calls in safe functions, and the same in plain Rust straight from the document.
+//! Lists as files (document 02, Job 5): the calls, and the same in plain Rust straight from the document.
 
-extern "C" {
-    fn dezgula_raw_write_list(
-        p: usize,
-        q: usize,
-        coefs: *const i32,
-        coefs_len: usize,
-        rows: *const u32,
-        rows_len: usize,
-        ending: u32,
-        out: *mut u8,
-        out_len: usize,
-    ) -> u64;
-
-    fn dezgula_raw_read_list(file: *const u8, file_len: usize, coefs: *mut i32, coefs_len: usize, list: *mut u32, list_len: usize, words: *mut u64)
-        -> u64;
-}
+use dezgula::calls::{self, FileHead, Found, Map};
 
 /// What is sent. Nothing here says that it is in order.
 #[derive(Clone, Debug, PartialEq, Eq)]
@@ -31,23 +16,22 @@ pub struct List {
 pub type Refused = (u8, usize);
 
 pub fn write(l: &List, out: &mut [u8]) -> Result<(), Refused> {
-    match unsafe { dezgula_raw_write_list(l.p, l.q, l.coefs.as_ptr(), l.coefs.len(), l.rows.as_ptr(), l.rows.len(), l.ending, out.as_mut_ptr(), out.len()) } {
+    // where the last row is not whole, there are more rows than the table has
+    let found = if l.q == 0 { 0 } else { l.rows.len().div_ceil(l.q) };
+    let answer = calls::write_list(Map { p: l.p, q: l.q, coefs: &l.coefs }, Found { rows: &l.rows, found }, l.ending, out);
+    match answer.number() {
         106 => Ok(()),
-        answer => Err((answer as u8, (answer >> 8) as usize)),
+        number => Err((number, answer.place() as usize)),
     }
 }
 
 /// p, q, the row count and the ending.
 pub fn read(file: &[u8], coefs: &mut [i32], list: &mut [u32]) -> Result<(usize, usize, usize, u32), Refused> {
-    let mut words = [u64::MAX; 4];
-    let answer =
-        unsafe { dezgula_raw_read_list(file.as_ptr(), file.len(), coefs.as_mut_ptr(), coefs.len(), list.as_mut_ptr(), list.len(), words.as_mut_ptr()) };
-    match answer & 0xff {
-        107 => Ok((words[0] as usize, words[1] as usize, words[2] as usize, words[3] as u32)),
-        number => {
-            assert_eq!(words, [u64::MAX; 4], "a refusal writes no words");
-            Err((number as u8, (answer >> 8) as usize))
-        }
+    let mut head = FileHead::default();
+    let answer = calls::read_list(file, coefs, list, &mut head);
+    match answer.number() {
+        107 => Ok((head.p, head.q, head.found, head.ending)),
+        number => Err((number, answer.place() as usize)),
     }
 }
 

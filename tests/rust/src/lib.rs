@@ -1,18 +1,18 @@
 //! Compares the library with document 01: what the tests share.
 
 pub mod boxes; // every tuple of a small box, by code that does not walk
-pub mod desks; // one desk after the other: the calls, wrapped
+pub mod desks; // one desk after the other: the calls
 pub mod draw; // drawn numbers, maps and states
-pub mod equations; // equations as people write them: the calls, wrapped
-pub mod files; // lists as files: the calls, wrapped, and the same in plain Rust
-pub mod library; // the library's calls, wrapped
-pub mod lower; // runs from a lower bound: the calls, wrapped, and the same in plain Rust
+pub mod equations; // equations as people write them: the calls
+pub mod files; // lists as files: the calls, and the same in plain Rust
+pub mod library; // the calls of the crate on the states of the tests
+pub mod lower; // runs from a lower bound: the calls, and the same in plain Rust
 pub mod model; // the same calls, in plain Rust straight from the document
-pub mod pairs; // the basis by sums of pairs: the calls, wrapped, and the same in plain Rust
-pub mod questions; // why a tuple is not listed, and what it is made of: the calls, wrapped, and the same in plain Rust
-pub mod sides; // maps with right sides: the calls, wrapped, and the same in plain Rust
+pub mod pairs; // the basis by sums of pairs: the calls, and the same in plain Rust
+pub mod questions; // why a tuple is not listed, and what it is made of: the calls, and the same in plain Rust
+pub mod sides; // maps with right sides: the calls, and the same in plain Rust
 pub mod tally; // how often each answer was given
-pub mod training; // the training seat: the calls, wrapped, and what they are in terms of the office's
+pub mod training; // the training seat: the calls, and what they are in terms of the office's
 
 /// A map. Nothing here says that it is in order: the calls have to find out.
 #[derive(Clone, Debug, PartialEq, Eq)]

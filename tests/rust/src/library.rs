@@ -1,218 +1,127 @@
-//! The proved functions (library/raw.h), wrapped in safe functions: a slice's pointer is never null, and `&mut` keeps what is lent apart.
+//! The calls of the crate `dezgula` on the states of the tests: the words of a record go in and come out, and an answer that the call cannot give is none.
 
-use crate::{Answer, Listed, Located, Shown, State, System};
+use crate::{Answer, Listed, Located, Shown, State, System, WORDS};
+use dezgula::calls::{self, Found, Lent, Map, Part, Record, Round, Share, Turn};
 
-extern "C" {
-    fn dezgula_raw_start(
-        p: usize,
-        q: usize,
-        coefs: *const i32,
-        coefs_len: usize,
-        stack: *mut u32,
-        stack_len: usize,
-        list: *mut u32,
-        list_len: usize,
-        record: *mut u64,
-        record_len: usize,
-    ) -> u64;
-
-    fn dezgula_raw_resume(
-        p: usize,
-        q: usize,
-        coefs: *const i32,
-        coefs_len: usize,
-        stack: *mut u32,
-        stack_len: usize,
-        list: *mut u32,
-        list_len: usize,
-        record: *mut u64,
-        record_len: usize,
-        budget: u64,
-    ) -> u64;
-
-    fn dezgula_raw_start_single_file(
-        p: usize,
-        q: usize,
-        coefs: *const i32,
-        coefs_len: usize,
-        stack: *mut u32,
-        stack_len: usize,
-        list: *mut u32,
-        list_len: usize,
-        record: *mut u64,
-        record_len: usize,
-    ) -> u64;
-
-    fn dezgula_raw_resume_single_file(
-        p: usize,
-        q: usize,
-        coefs: *const i32,
-        coefs_len: usize,
-        stack: *mut u32,
-        stack_len: usize,
-        list: *mut u32,
-        list_len: usize,
-        record: *mut u64,
-        record_len: usize,
-        budget: u64,
-    ) -> u64;
-
-    fn dezgula_raw_listing(
-        p: usize,
-        q: usize,
-        coefs: *const i32,
-        coefs_len: usize,
-        list: *const u32,
-        list_len: usize,
-        found: usize,
-        out: *mut u8,
-        out_len: usize,
-    ) -> u64;
-
-    fn dezgula_raw_dispatch(
-        count: usize,
-        quantum: u64,
-        turns: u64,
-        shares: *const u64,
-        shares_len: usize,
-        coefs: *const i32,
-        coefs_len: usize,
-        stack: *mut u32,
-        stack_len: usize,
-        list: *mut u32,
-        list_len: usize,
-        round: *mut u64,
-        round_len: usize,
-    ) -> u64;
-
-    fn dezgula_raw_row(list: *const u32, list_len: usize, q: usize, found: usize, n: usize, out: *mut u32, out_len: usize) -> u64;
-
-    fn dezgula_raw_locate(list: *const u32, list_len: usize, q: usize, found: usize, tuple: *const u32, tuple_len: usize) -> u64;
-}
-
-pub fn start(m: &System, s: &mut State) -> Answer {
-    decode(unsafe {
-        dezgula_raw_start(
-            m.p,
-            m.q,
-            m.coefs.as_ptr(),
-            m.coefs.len(),
-            s.stack.as_mut_ptr(),
-            s.stack.len(),
-            s.list.as_mut_ptr(),
-            s.list.len(),
-            s.record.as_mut_ptr(),
-            s.record.len(),
-        )
-    })
-}
-
-pub fn resume(m: &System, s: &mut State, budget: u64) -> Answer {
-    decode(unsafe {
-        dezgula_raw_resume(
-            m.p,
-            m.q,
-            m.coefs.as_ptr(),
-            m.coefs.len(),
-            s.stack.as_mut_ptr(),
-            s.stack.len(),
-            s.list.as_mut_ptr(),
-            s.list.len(),
-            s.record.as_mut_ptr(),
-            s.record.len(),
-            budget,
-        )
-    })
-}
-
-pub fn start_single_file(m: &System, s: &mut State) -> Answer {
-    decode(unsafe {
-        dezgula_raw_start_single_file(
-            m.p,
-            m.q,
-            m.coefs.as_ptr(),
-            m.coefs.len(),
-            s.stack.as_mut_ptr(),
-            s.stack.len(),
-            s.list.as_mut_ptr(),
-            s.list.len(),
-            s.record.as_mut_ptr(),
-            s.record.len(),
-        )
-    })
-}
-
-pub fn resume_single_file(m: &System, s: &mut State, budget: u64) -> Answer {
-    decode(unsafe {
-        dezgula_raw_resume_single_file(
-            m.p,
-            m.q,
-            m.coefs.as_ptr(),
-            m.coefs.len(),
-            s.stack.as_mut_ptr(),
-            s.stack.len(),
-            s.list.as_mut_ptr(),
-            s.list.len(),
-            s.record.as_mut_ptr(),
-            s.record.len(),
-            budget,
-        )
-    })
-}
-
-pub fn listing(m: &System, list: &[u32], found: usize, out: &mut [u8]) -> Listed {
-    let answer = unsafe { dezgula_raw_listing(m.p, m.q, m.coefs.as_ptr(), m.coefs.len(), list.as_ptr(), list.len(), found, out.as_mut_ptr(), out.len()) };
-    let value = (answer >> 8) as usize;
-    match answer & 0xff {
-        104 => Listed::Written(value),
-        number => Listed::Refused { number: number as u8, value },
+impl System {
+    pub fn map(&self) -> Map<'_> {
+        Map { p: self.p, q: self.q, coefs: &self.coefs }
     }
 }
 
-pub fn row(list: &[u32], q: usize, found: usize, n: usize, out: &mut [u32]) -> Shown {
-    match unsafe { dezgula_raw_row(list.as_ptr(), list.len(), q, found, n, out.as_mut_ptr(), out.len()) } {
-        102 => Shown::Row,
-        103 => Shown::None,
-        answer => Shown::Refused(u8::try_from(answer).expect("a reader's refusal has no place")),
+/// Rows of q numbers, all of a table that there are.
+pub fn whole(rows: &[u32], q: usize) -> Found<'_> {
+    Found { rows, found: rows.len().checked_div(q).unwrap_or(0) }
+}
+
+pub fn record(words: &[u64]) -> Record {
+    let &[height, found, steps, kind, second, before, deepest] = words else { panic!("a record has {WORDS} words") };
+    Record { height, found, steps, kind, second, before, deepest }
+}
+
+fn words(r: &Record) -> [u64; WORDS] {
+    [r.height, r.found, r.steps, r.kind, r.second, r.before, r.deepest]
+}
+
+/// A call on tables and on a record as words.
+pub fn on(stack: &mut [u32], [list, second]: [&mut [u32]; 2], own: &mut [u64], call: impl FnOnce(&mut Lent) -> dezgula::Answer) -> dezgula::Answer {
+    let mut record = record(own);
+    let answer = call(&mut Lent { stack, list, second, record: &mut record });
+    own.copy_from_slice(&words(&record));
+    answer
+}
+
+impl State {
+    pub fn on(&mut self, call: impl FnOnce(&mut Lent) -> dezgula::Answer) -> dezgula::Answer {
+        on(&mut self.stack, [&mut self.list, &mut []], &mut self.record, call)
     }
 }
 
-pub fn locate(list: &[u32], q: usize, found: usize, tuple: &[u32]) -> Located {
-    match unsafe { dezgula_raw_locate(list.as_ptr(), list.len(), q, found, tuple.as_ptr(), tuple.len()) } {
-        127 => Located::Nowhere,
-        answer if answer & 0xff == 126 => Located::At((answer >> 8) as usize),
-        answer => Located::Refused(u8::try_from(answer).expect("a refusal of this call has no place")),
-    }
-}
-
-/// Turns of `quantum` steps: the words of the runs' shares and of the dispatcher's record are those of library/raw.h. The number of the call.
-pub fn dispatch(count: usize, quantum: u64, turns: u64, shares: &[u64], coefs: &[i32], s: &mut State) -> u64 {
-    unsafe {
-        dezgula_raw_dispatch(
-            count,
-            quantum,
-            turns,
-            shares.as_ptr(),
-            shares.len(),
-            coefs.as_ptr(),
-            coefs.len(),
-            s.stack.as_mut_ptr(),
-            s.stack.len(),
-            s.list.as_mut_ptr(),
-            s.list.len(),
-            s.record.as_mut_ptr(),
-            s.record.len(),
-        )
-    }
-}
-
-fn decode(answer: u64) -> Answer {
-    let value = (answer >> 8) as usize;
-    match (answer & 0xff, value) {
+/// What a run's call answers; of the refusals only these.
+pub fn told(answer: dezgula::Answer, refusals: &[u8]) -> Answer {
+    match (answer.number(), answer.place() as usize) {
         (0, 0) => Answer::Complete,
         (100, 0) => Answer::Started,
         (101, 0) => Answer::Paused,
-        (number @ (1..=4 | 6 | 7 | 11 | 12 | 14 | 26), value) => Answer::Refused { number: number as u8, value },
-        _ => panic!("no such answer: {answer:#x}"),
+        (number, value) if refusals.contains(&number) => Answer::Refused { number, value },
+        _ => panic!("no such answer: {answer:?}"),
     }
+}
+
+pub fn shown(answer: dezgula::Answer) -> Shown {
+    match answer.number() {
+        102 => Shown::Row,
+        103 => Shown::None,
+        number => Shown::Refused(number),
+    }
+}
+
+const REFUSALS: [u8; 10] = [1, 2, 3, 4, 6, 7, 11, 12, 14, 26];
+
+pub fn start(m: &System, s: &mut State) -> Answer {
+    told(s.on(|lent| calls::start(m.map(), lent)), &REFUSALS)
+}
+
+pub fn resume(m: &System, s: &mut State, budget: u64) -> Answer {
+    told(s.on(|lent| calls::resume(m.map(), lent, budget)), &REFUSALS)
+}
+
+pub fn start_single_file(m: &System, s: &mut State) -> Answer {
+    told(s.on(|lent| calls::start_single_file(m.map(), lent)), &REFUSALS)
+}
+
+pub fn resume_single_file(m: &System, s: &mut State, budget: u64) -> Answer {
+    told(s.on(|lent| calls::resume_single_file(m.map(), lent, budget)), &REFUSALS)
+}
+
+pub fn listing(m: &System, list: &[u32], found: usize, out: &mut [u8]) -> Listed {
+    let answer = calls::listing(m.map(), Found { rows: list, found }, out);
+    match answer.number() {
+        104 => Listed::Written(answer.place() as usize),
+        number => Listed::Refused { number, value: answer.place() as usize },
+    }
+}
+
+/// Reads q, the list, its count and the kind only.
+pub fn row(list: &[u32], q: usize, found: usize, n: usize, out: &mut [u32]) -> Shown {
+    let mut record = Record { found: found as u64, ..Record::default() };
+    let mut lent = Lent { stack: &mut [], list: &mut list.to_vec(), second: &mut [], record: &mut record };
+    shown(calls::row(Map { p: 0, q, coefs: &[] }, &mut lent, n, out))
+}
+
+/// Of the system it reads q only.
+pub fn locate(list: &[u32], q: usize, found: usize, tuple: &[u32]) -> Located {
+    let answer = calls::locate(Map { p: 0, q, coefs: &[] }, Found { rows: list, found }, tuple);
+    match answer.number() {
+        127 => Located::Nowhere,
+        126 => Located::At(answer.place() as usize),
+        number => Located::Refused(number),
+    }
+}
+
+/// The words of a run's turn: those of its record, the number of its answer and its place.
+pub const TURN: usize = WORDS + 2;
+pub const ROUND: usize = 2 + 8 * TURN;
+
+fn round(own: &[u64]) -> Round {
+    let turn = |t: &[u64]| Turn { record: record(&t[..WORDS]), answer: t[WORDS] + 256 * t[WORDS + 1] };
+    let mut runs = [Turn::default(); 8];
+    runs.iter_mut().zip(own[2..].chunks(TURN)).for_each(|(run, t)| *run = turn(t));
+    Round { last: own[0], steps: own[1], runs }
+}
+
+fn round_words(r: &Round) -> Vec<u64> {
+    let turn = |t: &Turn| [&words(&t.record)[..], &[t.answer & 0xff, t.answer >> 8]].concat();
+    [r.last, r.steps].into_iter().chain(r.runs.iter().flat_map(turn)).collect()
+}
+
+/// Turns of `quantum` steps. A share is p, q and where its coefficients, stack and list begin and how long each is. The number of the call.
+pub fn dispatch(quantum: u64, turns: u64, shares: &[[usize; 8]], coefs: &[i32], s: &mut State) -> u8 {
+    let part = |start, size| Part { start, size };
+    let share = |w: &[usize; 8]| Share { p: w[0], q: w[1], coefs: part(w[2], w[3]), stack: part(w[4], w[5]), list: part(w[6], w[7]) };
+    let shares: Vec<Share> = shares.iter().map(share).collect();
+    let mut own = round(&s.record);
+    let answer = calls::dispatch(&shares, coefs, &mut s.stack, &mut s.list, &mut own, quantum, turns);
+    s.record = round_words(&own);
+    answer.number()
 }

@@ -1,45 +1,10 @@
-//! Runs from a lower bound: the library's calls in safe functions, and the same in plain Rust straight from document 02, Job 4.
+//! Runs from a lower bound: the calls, and the same in plain Rust straight from document 02, Job 4.
 
 use crate::draw::{self, Draw};
+use crate::library::told;
 use crate::sides::{Lent, COUNTS};
-use crate::{Answer, System, BEFORE, DEEPEST, HEIGHT, KIND, STEPS, WORDS};
-
-extern "C" {
-    fn dezgula_raw_start_from(
-        p: usize,
-        q: usize,
-        coefs: *const i32,
-        coefs_len: usize,
-        lower: *const u32,
-        lower_len: usize,
-        stack: *mut u32,
-        stack_len: usize,
-        list: *mut u32,
-        list_len: usize,
-        second: *mut u32,
-        second_len: usize,
-        record: *mut u64,
-        record_len: usize,
-    ) -> u64;
-
-    fn dezgula_raw_resume_from(
-        p: usize,
-        q: usize,
-        coefs: *const i32,
-        coefs_len: usize,
-        lower: *const u32,
-        lower_len: usize,
-        stack: *mut u32,
-        stack_len: usize,
-        list: *mut u32,
-        list_len: usize,
-        second: *mut u32,
-        second_len: usize,
-        record: *mut u64,
-        record_len: usize,
-        budget: u64,
-    ) -> u64;
-}
+use crate::{Answer, System, BEFORE, DEEPEST, HEIGHT, KIND, STEPS};
+use dezgula::calls;
 
 /// A map and a lower bound, as every call on a run is handed them. Nothing here says that they are in order.
 #[derive(Clone, Debug, PartialEq, Eq)]
@@ -63,59 +28,14 @@ pub fn blank(q: usize, rooms: [usize; 2]) -> Lent {
 
 // ---- the library's calls
 
-fn decode(answer: u64) -> Answer {
-    match (answer & 0xff, (answer >> 8) as usize) {
-        (0, 0) => Answer::Complete,
-        (100, 0) => Answer::Started,
-        (101, 0) => Answer::Paused,
-        (number @ (1..=8 | 11 | 12 | 14), value) => Answer::Refused { number: number as u8, value },
-        _ => panic!("no such answer: {answer:#x}"),
-    }
-}
+const REFUSALS: [u8; 11] = [1, 2, 3, 4, 5, 6, 7, 8, 11, 12, 14];
 
 pub fn start(m: &Bounded, s: &mut Lent) -> Answer {
-    let [list, second] = &mut s.lists;
-    decode(unsafe {
-        dezgula_raw_start_from(
-            m.map.p,
-            m.map.q,
-            m.map.coefs.as_ptr(),
-            m.map.coefs.len(),
-            m.lower.as_ptr(),
-            m.lower.len(),
-            s.stack.as_mut_ptr(),
-            s.stack.len(),
-            list.as_mut_ptr(),
-            list.len(),
-            second.as_mut_ptr(),
-            second.len(),
-            s.record.as_mut_ptr(),
-            s.record.len(),
-        )
-    })
+    told(s.on(|lent| calls::start_from(m.map.map(), &m.lower, lent)), &REFUSALS)
 }
 
 pub fn resume(m: &Bounded, s: &mut Lent, budget: u64) -> Answer {
-    let [list, second] = &mut s.lists;
-    decode(unsafe {
-        dezgula_raw_resume_from(
-            m.map.p,
-            m.map.q,
-            m.map.coefs.as_ptr(),
-            m.map.coefs.len(),
-            m.lower.as_ptr(),
-            m.lower.len(),
-            s.stack.as_mut_ptr(),
-            s.stack.len(),
-            list.as_mut_ptr(),
-            list.len(),
-            second.as_mut_ptr(),
-            second.len(),
-            s.record.as_mut_ptr(),
-            s.record.len(),
-            budget,
-        )
-    })
+    told(s.on(|lent| calls::resume_from(m.map.map(), &m.lower, lent, budget)), &REFUSALS)
 }
 
 // ---- the same in plain Rust
@@ -123,7 +43,7 @@ pub fn resume(m: &Bounded, s: &mut Lent, budget: u64) -> Answer {
 pub mod model {
     use super::{Bounded, LIST, PLAIN_WALK, SECOND_LIST, WALK_ABOVE};
     use crate::sides::{Lent, COUNTS};
-    use crate::{Answer, BEFORE, DEEPEST, HEIGHT, KIND, STEPS, WORDS};
+    use crate::{Answer, BEFORE, DEEPEST, HEIGHT, KIND, STEPS};
 
     const COMPONENT_LIMIT: u32 = 1_000_000;
     const STEP_LIMIT: u64 = 1_000_000_000_000;
@@ -151,10 +71,6 @@ pub mod model {
         refuse_if(m.lower.len() != q, 5)
     }
 
-    fn check_record(s: &Lent) -> Check {
-        refuse_if(s.record.len() != WORDS, 6)
-    }
-
     fn at_or_below(a: &[u32], b: &[u32]) -> bool {
         a.iter().zip(b).all(|(x, y)| x <= y)
     }
@@ -165,7 +81,6 @@ pub mod model {
 
     /// "6 covers each list's count and each walk's steps, a floor-walk row not at or above the floor, and a record of another kind."
     fn check_order(m: &Bounded, s: &Lent) -> Check {
-        check_record(s)?;
         let (q, r) = (m.map.q, &s.record);
         refuse_if(r[KIND] != PLAIN_WALK && r[KIND] != WALK_ABOVE, 6)?;
         refuse_if(r[HEIGHT] > q as u64 || r[STEPS] > STEP_LIMIT || r[BEFORE] > STEP_LIMIT || r[DEEPEST] > SUM_LIMIT, 6)?;
@@ -197,7 +112,6 @@ pub mod model {
     /// "The start writes as a plain one."
     fn try_start(m: &Bounded, s: &mut Lent) -> Check {
         check_shape(m, s)?;
-        check_record(s)?;
         check_ranges(m)?;
         for k in 0..m.map.q {
             let unit: Vec<u32> = (0..m.map.q).map(|j| u32::from(j == k)).collect();
@@ -356,16 +270,15 @@ pub fn state(d: &mut Draw, m: &Bounded) -> Lent {
 pub fn damage_state(d: &mut Draw, q: usize, s: &mut Lent) {
     let at = d.between(0, 1);
     let room = (s.lists[at].len() / q) as u64;
-    let (place, word) = match d.between(0, 9) {
+    let (place, word) = match d.between(0, 8) {
         0 => (HEIGHT, d.of(&[q as u64 + 1, q as u64 + 2, u64::MAX])),
         1 => (COUNTS[at], d.of(&[room + 1, room + 2, u64::MAX])),
         2 => (STEPS, d.of(&[1_000_000_000_001, u64::MAX])),
         3 => (BEFORE, d.of(&[1_000_000_000_001, u64::MAX])),
         4 => (KIND, d.of(&[0, 1, 2, 3, 4, 5, 258, 1 << 32, u64::MAX])),
         5 => (DEEPEST, d.of(&[16_000_001, 1 << 32, u64::MAX])),
-        6 => return s.record.resize(d.of(&[0, 1, 6, 8]), 0),
-        7 => return s.stack.truncate(d.between(0, q * (q + 1))),
-        8 => return s.lists[at].truncate(d.between(0, s.lists[at].len())),
+        6 => return s.stack.truncate(d.between(0, q * (q + 1))),
+        7 => return s.lists[at].truncate(d.between(0, s.lists[at].len())),
         _ => {
             let place = d.between(0, q * (q + 1));
             let wrong = d.of(&[0, 1, 1_000_001, 1 << 16, 1 << 31, u32::MAX]);
@@ -375,7 +288,5 @@ pub fn damage_state(d: &mut Draw, q: usize, s: &mut Lent) {
             return;
         }
     };
-    if s.record.len() == WORDS {
-        s.record[place] = word;
-    }
+    s.record[place] = word;
 }

@@ -1,36 +1,7 @@
-//! Why a tuple is not in a list, and what it is made of (document 02, Jobs 8 and 13): the library's calls, wrapped, and the same in plain Rust.
+//! Why a tuple is not in a list, and what it is made of (document 02, Jobs 8 and 13): the calls, and the same in plain Rust.
 
 use crate::System;
-
-extern "C" {
-    fn dezgula_raw_reason(
-        p: usize,
-        q: usize,
-        coefs: *const i32,
-        coefs_len: usize,
-        list: *const u32,
-        list_len: usize,
-        found: usize,
-        tuple: *const u32,
-        tuple_len: usize,
-        amount: *mut i64,
-    ) -> u64;
-
-    fn dezgula_raw_decompose(
-        p: usize,
-        q: usize,
-        coefs: *const i32,
-        coefs_len: usize,
-        list: *const u32,
-        list_len: usize,
-        found: usize,
-        tuple: *const u32,
-        tuple_len: usize,
-        times: *mut u32,
-        times_len: usize,
-        amount: *mut i64,
-    ) -> u64;
-}
+use dezgula::calls::{self, Found};
 
 /// The reasons, equations and places from 1; a refusal has its number, and 7 its place.
 #[derive(Clone, Copy, Debug, PartialEq, Eq, PartialOrd, Ord)]
@@ -56,14 +27,13 @@ pub enum Parts {
 const HELD: i64 = 77;
 
 pub fn reason(m: &System, list: &[u32], found: usize, tuple: &[u32]) -> Reason {
-    let (c, l, t) = (&m.coefs, list, tuple);
     let mut amount = HELD;
-    let answer = unsafe { dezgula_raw_reason(m.p, m.q, c.as_ptr(), c.len(), l.as_ptr(), l.len(), found, t.as_ptr(), t.len(), &mut amount) };
+    let answer = calls::reason(m.map(), Found { rows: list, found }, tuple, &mut amount);
     decode(answer, amount)
 }
 
-fn decode(answer: u64, amount: i64) -> Reason {
-    let (number, place) = (answer & 0xff, (answer >> 8) as usize);
+fn decode(answer: dezgula::Answer, amount: i64) -> Reason {
+    let (number, place) = (u64::from(answer.number()), answer.place() as usize);
     assert!(number == 121 || amount == HELD, "an amount is written for 121 alone, not for {number}");
     match number {
         120 => Reason::Zero,
@@ -77,23 +47,8 @@ fn decode(answer: u64, amount: i64) -> Reason {
 
 pub fn decompose(m: &System, list: &[u32], found: usize, tuple: &[u32], times: &mut [u32]) -> Parts {
     let mut amount = HELD;
-    let answer = unsafe {
-        dezgula_raw_decompose(
-            m.p,
-            m.q,
-            m.coefs.as_ptr(),
-            m.coefs.len(),
-            list.as_ptr(),
-            list.len(),
-            found,
-            tuple.as_ptr(),
-            tuple.len(),
-            times.as_mut_ptr(),
-            times.len(),
-            &mut amount,
-        )
-    };
-    match answer {
+    let answer = calls::decompose(m.map(), Found { rows: list, found }, tuple, times, &mut amount);
+    match answer.number() {
         125 => Parts::Made,
         124 => Parts::Unlisted,
         29 => Parts::NoSpace,

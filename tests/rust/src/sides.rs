@@ -1,57 +1,9 @@
-//! Maps with right sides: the library's calls in safe functions, and the same in plain Rust straight from document 02, Job 1.
+//! Maps with right sides: the calls, and the same in plain Rust straight from document 02, Job 1.
 
 use crate::draw::{self, Draw};
-use crate::{Answer, Shown, System, DEEPEST, FOUND, HEIGHT, KIND, SECOND, STEPS, WORDS};
-
-extern "C" {
-    fn dezgula_raw_start_rights(
-        p: usize,
-        q: usize,
-        coefs: *const i32,
-        coefs_len: usize,
-        rights: *const i32,
-        rights_len: usize,
-        stack: *mut u32,
-        stack_len: usize,
-        list: *mut u32,
-        list_len: usize,
-        second: *mut u32,
-        second_len: usize,
-        record: *mut u64,
-        record_len: usize,
-    ) -> u64;
-
-    fn dezgula_raw_resume_rights(
-        p: usize,
-        q: usize,
-        coefs: *const i32,
-        coefs_len: usize,
-        rights: *const i32,
-        rights_len: usize,
-        stack: *mut u32,
-        stack_len: usize,
-        list: *mut u32,
-        list_len: usize,
-        second: *mut u32,
-        second_len: usize,
-        record: *mut u64,
-        record_len: usize,
-        budget: u64,
-    ) -> u64;
-
-    fn dezgula_raw_row_of_either(
-        list: *const u32,
-        list_len: usize,
-        second: *const u32,
-        second_len: usize,
-        at: usize,
-        q: usize,
-        found: usize,
-        n: usize,
-        out: *mut u32,
-        out_len: usize,
-    ) -> u64;
-}
+use crate::library::{on, shown, told};
+use crate::{Answer, Shown, System, DEEPEST, FOUND, HEIGHT, KIND, SECOND, STEPS};
+use dezgula::calls::{self, Map, Record};
 
 /// A map with right sides. Nothing here says that it is in order.
 #[derive(Clone, Debug, PartialEq, Eq)]
@@ -89,77 +41,38 @@ impl Lent {
 
 // ---- the library's calls
 
-fn decode(answer: u64) -> Answer {
-    match (answer & 0xff, (answer >> 8) as usize) {
-        (0, 0) => Answer::Complete,
-        (100, 0) => Answer::Started,
-        (101, 0) => Answer::Paused,
-        (number @ (1..=4 | 6 | 7 | 11 | 12 | 14 | 15), value) => Answer::Refused { number: number as u8, value },
-        _ => panic!("no such answer: {answer:#x}"),
+impl Lent {
+    pub fn on(&mut self, call: impl FnOnce(&mut calls::Lent) -> dezgula::Answer) -> dezgula::Answer {
+        let [list, second] = &mut self.lists;
+        on(&mut self.stack, [list, second], &mut self.record, call)
     }
 }
 
+const REFUSALS: [u8; 10] = [1, 2, 3, 4, 6, 7, 11, 12, 14, 15];
+
 pub fn start(m: &Sided, s: &mut Lent) -> Answer {
-    let [list, second] = &mut s.lists;
-    decode(unsafe {
-        dezgula_raw_start_rights(
-            m.map.p,
-            m.map.q,
-            m.map.coefs.as_ptr(),
-            m.map.coefs.len(),
-            m.rights.as_ptr(),
-            m.rights.len(),
-            s.stack.as_mut_ptr(),
-            s.stack.len(),
-            list.as_mut_ptr(),
-            list.len(),
-            second.as_mut_ptr(),
-            second.len(),
-            s.record.as_mut_ptr(),
-            s.record.len(),
-        )
-    })
+    told(s.on(|lent| calls::start_rights(m.map.map(), &m.rights, lent)), &REFUSALS)
 }
 
 pub fn resume(m: &Sided, s: &mut Lent, budget: u64) -> Answer {
-    let [list, second] = &mut s.lists;
-    decode(unsafe {
-        dezgula_raw_resume_rights(
-            m.map.p,
-            m.map.q,
-            m.map.coefs.as_ptr(),
-            m.map.coefs.len(),
-            m.rights.as_ptr(),
-            m.rights.len(),
-            s.stack.as_mut_ptr(),
-            s.stack.len(),
-            list.as_mut_ptr(),
-            list.len(),
-            second.as_mut_ptr(),
-            second.len(),
-            s.record.as_mut_ptr(),
-            s.record.len(),
-            budget,
-        )
-    })
+    told(s.on(|lent| calls::resume_rights(m.map.map(), &m.rights, lent, budget)), &REFUSALS)
 }
 
 /// Row n of the list at 0 or at 1, which has `found` rows.
 pub fn row(lists: &[Vec<u32>; 2], at: usize, q: usize, found: usize, n: usize, out: &mut [u32]) -> Shown {
-    let [list, second] = lists;
-    let answer = unsafe { dezgula_raw_row_of_either(list.as_ptr(), list.len(), second.as_ptr(), second.len(), at, q, found, n, out.as_mut_ptr(), out.len()) };
-    match answer {
-        102 => Shown::Row,
-        103 => Shown::None,
-        answer => Shown::Refused(u8::try_from(answer).expect("a reader's refusal has no place")),
-    }
+    let [mut list, mut second] = lists.clone();
+    let count = |own| if at == own { found as u64 } else { 0 };
+    let mut record = Record { kind: CAPPED, found: count(0), second: count(1), ..Record::default() };
+    let mut lent = calls::Lent { stack: &mut [], list: &mut list, second: &mut second, record: &mut record };
+    let read = if at == 0 { calls::row } else { calls::second_row };
+    shown(read(Map { p: 0, q, coefs: &[] }, &mut lent, n, out))
 }
 
 // ---- the same in plain Rust
 
 pub mod model {
     use super::{Lent, Sided, CAPPED, COUNTS};
-    use crate::{Answer, Shown, DEEPEST, HEIGHT, KIND, STEPS, WORDS};
+    use crate::{Answer, Shown, DEEPEST, HEIGHT, KIND, STEPS};
 
     type Check = Result<(), Answer>;
 
@@ -184,10 +97,6 @@ pub mod model {
         refuse_if(s.stack.len() < (q + 1) * (q + 2), 4)
     }
 
-    fn check_record(s: &Lent) -> Check {
-        refuse_if(s.record.len() != WORDS, 6)
-    }
-
     /// "15, a right side out of range, comes after 7"
     fn check_ranges(m: &Sided) -> Check {
         if let Some(place) = m.map.coefs.iter().position(|c| !in_range(c)) {
@@ -201,7 +110,6 @@ pub mod model {
     }
 
     fn check_order(m: &Sided, s: &Lent) -> Check {
-        check_record(s)?;
         let r = &s.record;
         refuse_if(r[KIND] != CAPPED || r[HEIGHT] > m.map.q as u64 + 1 || r[STEPS] > 1_000_000_000_000 || r[DEEPEST] > 16_000_000, 6)?;
         refuse_if((0..2).any(|at| r[COUNTS[at]] > room(m, s, at)), 6)?;
@@ -225,7 +133,6 @@ pub mod model {
 
     fn try_start(m: &Sided, s: &mut Lent) -> Check {
         check_shape(m, s)?;
-        check_record(s)?;
         check_ranges(m)?;
         let width = m.map.q + 1;
         for k in 0..width {
@@ -387,15 +294,14 @@ pub fn state(d: &mut Draw, q: usize) -> Lent {
 pub fn damage_state(d: &mut Draw, q: usize, s: &mut Lent) {
     let rooms = [0, 1].map(|at| (s.lists[at].len() / q) as u64);
     let at = d.between(0, 1);
-    let (place, word) = match d.between(0, 8) {
+    let (place, word) = match d.between(0, 7) {
         0 => (HEIGHT, d.of(&[q as u64 + 2, q as u64 + 3, u64::MAX])),
         1 => (COUNTS[at], d.of(&[rooms[at] + 1, rooms[at] + 2, u64::MAX])),
         2 => (STEPS, d.of(&[1_000_000_000_001, u64::MAX])),
         3 => (KIND, d.of(&[0, 2, 3, 4, 5, 257, 1 << 32, u64::MAX])),
         4 => (DEEPEST, d.of(&[16_000_001, 1 << 32, u64::MAX])),
-        5 => return s.record.resize(d.of(&[0, 1, 6, 8]), 0),
-        6 => return s.stack.truncate(d.between(0, (q + 1) * (q + 2))),
-        7 => return s.lists[at].truncate(d.between(0, s.lists[at].len())),
+        5 => return s.stack.truncate(d.between(0, (q + 1) * (q + 2))),
+        6 => return s.lists[at].truncate(d.between(0, s.lists[at].len())),
         _ => {
             let (k, j) = (d.between(0, q), d.between(0, q + 1));
             let wrong = d.of(&[2, 3, 1_000_001, 1 << 16, 1 << 31, u32::MAX]);
@@ -405,7 +311,5 @@ pub fn damage_state(d: &mut Draw, q: usize, s: &mut Lent) {
             return;
         }
     };
-    if place < s.record.len() && s.record.len() == WORDS {
-        s.record[place] = word;
-    }
+    s.record[place] = word;
 }

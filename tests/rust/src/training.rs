@@ -1,166 +1,31 @@
-//! The training seat: the library's calls in safe functions; and what document 02, Job 9 says of them, in terms of the
-//! office's calls.
+//! The training seat: the calls, and what document 02, Job 9 says of them, in terms of the office's calls.
 
+use crate::library::told;
 use crate::lower::{self, Bounded};
 use crate::sides::Lent;
 use crate::{library, Answer, State, System, HEIGHT};
-
-extern "C" {
-    fn dezgula_raw_start_training(
-        p: usize,
-        q: usize,
-        coefs: *const i32,
-        coefs_len: usize,
-        stack: *mut u32,
-        stack_len: usize,
-        list: *mut u32,
-        list_len: usize,
-        record: *mut u64,
-        record_len: usize,
-    ) -> u64;
-
-    fn dezgula_raw_resume_training(
-        p: usize,
-        q: usize,
-        coefs: *const i32,
-        coefs_len: usize,
-        stack: *mut u32,
-        stack_len: usize,
-        list: *mut u32,
-        list_len: usize,
-        record: *mut u64,
-        record_len: usize,
-        budget: u64,
-    ) -> u64;
-
-    fn dezgula_raw_start_training_from(
-        p: usize,
-        q: usize,
-        coefs: *const i32,
-        coefs_len: usize,
-        lower: *const u32,
-        lower_len: usize,
-        stack: *mut u32,
-        stack_len: usize,
-        list: *mut u32,
-        list_len: usize,
-        second: *mut u32,
-        second_len: usize,
-        record: *mut u64,
-        record_len: usize,
-    ) -> u64;
-
-    fn dezgula_raw_resume_training_from(
-        p: usize,
-        q: usize,
-        coefs: *const i32,
-        coefs_len: usize,
-        lower: *const u32,
-        lower_len: usize,
-        stack: *mut u32,
-        stack_len: usize,
-        list: *mut u32,
-        list_len: usize,
-        second: *mut u32,
-        second_len: usize,
-        record: *mut u64,
-        record_len: usize,
-        budget: u64,
-    ) -> u64;
-}
+use dezgula::calls;
 
 /// "at most 6 unknowns and components up to 20"
 pub const SEAT_UNKNOWNS: usize = 6;
 pub const SEAT_LIMIT: u32 = 20;
 
-fn decode(answer: u64) -> Answer {
-    match (answer & 0xff, (answer >> 8) as usize) {
-        (0, 0) => Answer::Complete,
-        (100, 0) => Answer::Started,
-        (101, 0) => Answer::Paused,
-        (number @ (1..=8 | 11 | 14 | 23 | 24), value) => Answer::Refused { number: number as u8, value },
-        _ => panic!("no such answer: {answer:#x}"),
-    }
-}
+const REFUSALS: [u8; 12] = [1, 2, 3, 4, 5, 6, 7, 8, 11, 14, 23, 24];
 
 pub fn start(m: &System, s: &mut State) -> Answer {
-    decode(unsafe {
-        dezgula_raw_start_training(
-            m.p,
-            m.q,
-            m.coefs.as_ptr(),
-            m.coefs.len(),
-            s.stack.as_mut_ptr(),
-            s.stack.len(),
-            s.list.as_mut_ptr(),
-            s.list.len(),
-            s.record.as_mut_ptr(),
-            s.record.len(),
-        )
-    })
+    told(s.on(|lent| calls::start_training(m.map(), lent)), &REFUSALS)
 }
 
 pub fn resume(m: &System, s: &mut State, budget: u64) -> Answer {
-    decode(unsafe {
-        dezgula_raw_resume_training(
-            m.p,
-            m.q,
-            m.coefs.as_ptr(),
-            m.coefs.len(),
-            s.stack.as_mut_ptr(),
-            s.stack.len(),
-            s.list.as_mut_ptr(),
-            s.list.len(),
-            s.record.as_mut_ptr(),
-            s.record.len(),
-            budget,
-        )
-    })
+    told(s.on(|lent| calls::resume_training(m.map(), lent, budget)), &REFUSALS)
 }
 
 pub fn start_from(m: &Bounded, s: &mut Lent) -> Answer {
-    let [list, second] = &mut s.lists;
-    decode(unsafe {
-        dezgula_raw_start_training_from(
-            m.map.p,
-            m.map.q,
-            m.map.coefs.as_ptr(),
-            m.map.coefs.len(),
-            m.lower.as_ptr(),
-            m.lower.len(),
-            s.stack.as_mut_ptr(),
-            s.stack.len(),
-            list.as_mut_ptr(),
-            list.len(),
-            second.as_mut_ptr(),
-            second.len(),
-            s.record.as_mut_ptr(),
-            s.record.len(),
-        )
-    })
+    told(s.on(|lent| calls::start_training_from(m.map.map(), &m.lower, lent)), &REFUSALS)
 }
 
 pub fn resume_from(m: &Bounded, s: &mut Lent, budget: u64) -> Answer {
-    let [list, second] = &mut s.lists;
-    decode(unsafe {
-        dezgula_raw_resume_training_from(
-            m.map.p,
-            m.map.q,
-            m.map.coefs.as_ptr(),
-            m.map.coefs.len(),
-            m.lower.as_ptr(),
-            m.lower.len(),
-            s.stack.as_mut_ptr(),
-            s.stack.len(),
-            list.as_mut_ptr(),
-            list.len(),
-            second.as_mut_ptr(),
-            second.len(),
-            s.record.as_mut_ptr(),
-            s.record.len(),
-            budget,
-        )
-    })
+    told(s.on(|lent| calls::resume_training_from(m.map.map(), &m.lower, lent, budget)), &REFUSALS)
 }
 
 // ---- what the seat says, from what the office does

@@ -88,7 +88,7 @@ fn damaged_starts() {
         }
         start(&mut tally, &m, &mut s);
     }
-    tally.has_met(&[Answer::Started], &[1, 2, 3, 4, 6, 7]);
+    tally.has_met(&[Answer::Started], &[1, 2, 3, 4, 7]);
 }
 
 #[test]

@@ -1,11 +1,9 @@
 //! Several runs at a time against the same runs alone: drawn maps, in turns of a drawn length, call after call to the end.
 
-use dezgula_tests::{draw, draw::Draw, library, model, Answer, State, System, DEEPEST, KIND, STEPS, WORDS};
+use dezgula_tests::library::{self, ROUND, TURN};
+use dezgula_tests::{draw, draw::Draw, model, Answer, State, System, DEEPEST, KIND, STEPS, WORDS};
 
-const SERVED: u64 = 110;
-const ROUND: usize = 2 + 8 * TURN;
-/// The words of a run's record, the number of its answer and its place.
-const TURN: usize = WORDS + 2;
+const SERVED: u8 = 110;
 
 fn at(i: usize) -> usize {
     2 + TURN * i
@@ -42,9 +40,7 @@ fn each_run_as_alone() {
                 1 => s.record[DEEPEST] = d.of(&[16_000_000, 16_000_001, u64::MAX]),
                 _ => {}
             }
-            let parts = [(coefs.len(), m.coefs.len()), (whole.stack.len(), s.stack.len()), (whole.list.len(), s.list.len())];
-            shares.extend([m.p as u64, m.q as u64]);
-            shares.extend(parts.iter().flat_map(|&(start, size)| [start as u64, size as u64]));
+            shares.push([m.p, m.q, coefs.len(), m.coefs.len(), whole.stack.len(), s.stack.len(), whole.list.len(), s.list.len()]);
             coefs.extend(&m.coefs);
             whole.stack.extend(&s.stack);
             whole.list.extend(&s.list);
@@ -53,7 +49,7 @@ fn each_run_as_alone() {
         let quantum = d.of(&[1, 2, 3, 10, 100]);
         for _ in 0..40 {
             let before = whole.record.clone();
-            assert_eq!(library::dispatch(count, quantum, 1, &shares, &coefs, &mut whole), SERVED);
+            assert_eq!(library::dispatch(quantum, 1, &shares, &coefs, &mut whole), SERVED);
             let unfinished: Vec<usize> = (0..count).filter(|&i| before[at(i)] > 0).collect();
             let last = before[0] as usize;
             let next = unfinished.iter().find(|&&i| i >= last).or(unfinished.first());
