@@ -20,11 +20,11 @@ ghost use Rattle.multiples.specs.Answers.{partsTold};
 ghost use Rattle.single_file.specs.Listing.{listingCall};
 ghost use Rattle.single_words.specs.SingleFile.{singleStartWords, singleResumeWords, listingTold};
 
-mod engine; // engine.rt: the whole basis, by the engine
 mod equations; // equations.rt: typed equations
 mod files; // files.rt: lists as files
 mod lower; // lower.rt: runs from a lower bound
 mod rights; // rights.rt: maps with right sides
+mod stages; // stages.rt: the whole basis, stage by stage
 mod training; // training.rt: the training seat
 
 // The plain start.
