@@ -115,7 +115,8 @@ uint64_t dezgula_raw_write_list(size_t p, size_t q, const int32_t *coefs, size_t
 uint64_t dezgula_raw_read_list(const uint8_t *file, size_t file_len, int32_t *coefs, size_t coefs_len, uint32_t *list, size_t list_len,
                                uint64_t words[4]) DEZGULA_LOOK_AT_IT;
 
-/* ---- the engine. The record is DEZGULA_ENGINE_RECORD_LENGTH words; another number of words is refused with 6, by a start after 4 and before 7. */
+/* ---- the engine. The record is DEZGULA_ENGINE_RECORD_LENGTH words; another number of words, or a first word of 2^32 or more, is refused with 6,
+ * by a start after 4 and before 7. */
 
 uint64_t dezgula_raw_engine_start(size_t p, size_t q, const int32_t *coefs, size_t coefs_len, int32_t *equations, size_t equations_len, uint32_t *basis,
                                   size_t basis_len, uint32_t *sizes, size_t sizes_len, uint64_t *record, size_t record_len) DEZGULA_LOOK_AT_IT;

@@ -332,6 +332,16 @@ static bool rising(const lent *l)
     }
     return true;
 }
+/* no row of the basis is all zero */
+static bool above_zero(const lent *l)
+{
+    for (size_t i = 0; i < l->record[BASIS_COUNT]; i++) {
+        uint32_t any = 0;
+        for (size_t j = 0; j < l->q; j++) any |= l->basis[i * l->q + j];
+        if (any == 0) return false;
+    }
+    return true;
+}
 static bool in_order(const lent *l)
 {
     const uint64_t *r = l->record;
@@ -339,7 +349,7 @@ static bool in_order(const lent *l)
     if (r[EQUATION] < l->p && r[DONE] >> r[EQUATION] & 1) return false;
     for (size_t i = 0; i < l->p * l->q; i++)
         if (l->equations[i] < -LIMIT || l->equations[i] > LIMIT) return false;
-    return small(l->basis, r[BASIS_COUNT] * l->q) && small(l->table, r[ROWS] * l->q) && rising(l);
+    return small(l->basis, r[BASIS_COUNT] * l->q) && above_zero(l) && small(l->table, r[ROWS] * l->q) && rising(l);
 }
 static uint64_t checked_size(size_t p, size_t q) { return p < 1 || p > MOST ? EQUATIONS : q < 1 || q > MOST ? UNKNOWNS : 0; }
 
@@ -351,7 +361,7 @@ uint64_t twin_engine_start(size_t p, size_t q, const int32_t *coefs, size_t coef
     if (refused) return refused;
     if (coefs_len != p * q) return COUNT;
     if (equations_len < p * q || basis_len / q < q || sizes_len < q) return SHORT;
-    if (record_len != WORDS) return ORDER;
+    if (record_len != WORDS || record[DONE] > UINT32_MAX) return ORDER;
     for (size_t i = 0; i < p * q; i++)
         if (coefs[i] < -MAP_LIMIT || coefs[i] > MAP_LIMIT) return COEFFICIENT + 256 * (uint64_t)(i + 1);
     memcpy(equations, coefs, p * q * sizeof *coefs);

@@ -64,6 +64,8 @@ def in_order(p, q, w):
         return False
     if any(x > LIMIT for x in w.basis[: r[COUNT] * q]) or any(x > LIMIT for x in w.table[: r[ROWS] * q]):
         return False
+    if any(sum(w.basis_row(q, i)) == 0 for i in range(r[COUNT])):
+        return False
     degrees = [sum(w.row(q, i)) for i in range(r[ROWS])]
     return all(0 < d <= r[DEGREE] for d in degrees) and degrees == sorted(degrees)
 
@@ -88,7 +90,7 @@ def start(p, q, coefs, w):
         return 3
     if len(w.equations) < p * q or w.most(q) < q:
         return 4
-    if len(w.record) != WORDS:
+    if len(w.record) != WORDS or w.record[DONE] >= 2**32:
         return 6
     for place, c in enumerate(coefs, 1):
         if abs(c) > MAP_LIMIT:

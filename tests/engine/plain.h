@@ -45,6 +45,8 @@ static inline bool plain_in_order(const plain *w)
         if (w->equations[i] > P_LIMIT || w->equations[i] < -P_LIMIT) return false;
     for (size_t i = 0; i < r[P_COUNT] * w->q; i++)
         if (w->basis[i] > P_LIMIT) return false;
+    for (size_t i = 0; i < r[P_COUNT]; i++)
+        if (plain_degree(w, w->basis + i * w->q) == 0) return false;
     for (size_t i = 0; i < r[P_ROWS] * w->q; i++)
         if (w->table[i] > P_LIMIT) return false;
     for (size_t i = 0; i < r[P_ROWS]; i++) {
@@ -180,7 +182,7 @@ static inline uint64_t plain_start(const plain *w, const int32_t *coefs, size_t 
     if (refused) return refused;
     if (coefs_len != w->p * w->q) return 3;
     if (w->equations_len < coefs_len || w->most < w->q) return 4;
-    if (w->record_len != P_WORDS) return 6;
+    if (w->record_len != P_WORDS || w->record[P_DONE] > UINT32_MAX) return 6;
     for (size_t i = 0; i < coefs_len; i++)
         if (coefs[i] > 10000 || coefs[i] < -10000) return 7 + 256 * (uint64_t)(i + 1);
     memcpy(w->equations, coefs, coefs_len * sizeof *coefs);
