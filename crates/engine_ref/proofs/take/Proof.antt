@@ -38,23 +38,103 @@ take-spec 𝓤 H 𝓜 𝓖 𝓡 =
     let c : Clauses 𝓤 callee-of.ended = callee-of.clauses 𝓤 H (𝓖 .A) (𝓜 .mem) (𝓡 .run) in
     let callee : Contract 𝓤 = Met 𝓤 H (𝓖 .A) callee-of.ended c in
     proved 𝓤 H 𝓜 𝓖 𝓡 take.ended (take.clauses 𝓤 H (𝓖 .A) (𝓜 .mem) (𝓡 .run)) code.env #engine-ref·take code.function (code.unfolded 𝓤 H 𝓜 𝓡)
-    (λ κs. (number w64, (number w64, (shared-slice (named 0) (κs .0) i32, (lent-slice (named 1) (κs .1 .0) u32,
-      (shared-slice (named 2) (κs .1 .1 .0) u32, (struct Bes.the-type Bes′.the-laws, (lent (named 3) (κs .1 .1 .1 .0) Rec.the-row, (number w64,
-      (number w64, tt)))))))))) (λ κs a t. t)
+    (λ κs. (
+      number w64,
+      (
+        number w64,
+        (
+          shared-slice (named 0) (κs .0) i32,
+          (
+            lent-slice (named 1) (κs .1 .0) u32,
+            (
+              shared-slice (named 2) (κs .1 .1 .0) u32,
+              (
+                struct Bes.the-type Bes′.the-laws,
+                (
+                  lent (named 3) (κs .1 .1 .1 .0) Rec.the-row,
+                  (
+                    number w64,
+                    (number w64, tt),
+                  ),
+                ),
+              ),
+            ),
+          ),
+        ),
+      ),
+    )) (λ κs a t. t)
     (λ fm κs qs a g are leave bs.
     let r : RefT Record = a .1 .1 .1 .1 .1 .1 .0 in
-    let y : callee .Ghost = (((κs .0, (κs .1 .0, (κs .1 .1 .0, tt))), (qs .0, (qs .1 .0, (qs .1 .1 .0, tt))), tt, (a .0, (a .1 .0, (a .1 .1 .0,
-      (a .1 .1 .1 .0, (a .1 .1 .1 .1 .0, (a .1 .1 .1 .1 .1 .0, (now r, (a .1 .1 .1 .1 .1 .1 .1 .0, (a .1 .1 .1 .1 .1 .1 .1 .1 .0, tt))))))))),
-      (uint-vals w64 (a .0), (uint-vals w64 (a .1 .0), (slice-vals (a .1 .1 .0), (slice-vals (a .1 .1 .1 .0), (slice-vals (a .1 .1 .1 .1 .0),
-      (Bes′.lowered (a .1 .1 .1 .1 .1 .0) ∷ [], (Rec′.lowered (now r) ∷ [], (uint-vals w64 (a .1 .1 .1 .1 .1 .1 .1 .0),
-      (uint-vals w64 (a .1 .1 .1 .1 .1 .1 .1 .1 .0), tt)))))))))), tt) in
+    let y : callee .Ghost = (
+      (
+        (κs .0, (κs .1 .0, (κs .1 .1 .0, tt))),
+        (qs .0, (qs .1 .0, (qs .1 .1 .0, tt))),
+        tt,
+        (
+          a .0,
+          (
+            a .1 .0,
+            (
+              a .1 .1 .0,
+              (a .1 .1 .1 .0, (a .1 .1 .1 .1 .0, (a .1 .1 .1 .1 .1 .0, (now r, (a .1 .1 .1 .1 .1 .1 .1 .0, (a .1 .1 .1 .1 .1 .1 .1 .1 .0, tt)))))),
+            ),
+          ),
+        ),
+        (
+          uint-vals w64 (a .0),
+          (
+            uint-vals w64 (a .1 .0),
+            (
+              slice-vals (a .1 .1 .0),
+              (
+                slice-vals (a .1 .1 .1 .0),
+                (
+                  slice-vals (a .1 .1 .1 .1 .0),
+                  (
+                    Bes′.lowered (a .1 .1 .1 .1 .1 .0) ∷ [],
+                    (
+                      Rec′.lowered (now r) ∷ [],
+                      (
+                        uint-vals w64 (a .1 .1 .1 .1 .1 .1 .1 .0),
+                        (uint-vals w64 (a .1 .1 .1 .1 .1 .1 .1 .1 .0), tt),
+                      ),
+                    ),
+                  ),
+                ),
+              ),
+            ),
+          ),
+        ),
+      ),
+      tt,
+    ) in
     lends ! 4 11 12 (are .1 .1 .1 .0 .0 .1 .0) refl refl refl refl refl refl refl refl $
     copies (κs .1 .1 .1 .0) (qs .1 .1 .1 .0) r 3 6 ! _ _ _ _ 13 refl refl refl refl $
     calls-at ! fm callee (cited 𝓤 H callee 𝓜 𝓡 code.env #engine·take callee-def.routine code.calls-engine·take (callee-thm.met 𝓤 H 𝓜 𝓖 𝓡)) y
     -- [what the call is handed; the open borrow, four entries; the locals]: local n stands at place n + 5
     (and-then ! (here ! 6 refl) (and-then ! (here ! 7 refl) (and-then ! (here ! 8 refl) (and-then ! (here ! 17 refl) (and-then ! (here ! 10 refl)
-      (and-then ! (here ! 11 refl) (and-then ! (here ! 18 refl) (and-then ! (here ! 13 refl) (and-then ! (here ! 14 refl) (no-more !)))))))))) (λ w.
+    (and-then ! (here ! 11 refl) (and-then ! (here ! 18 refl) (and-then ! (here ! 13 refl) (and-then ! (here ! 14 refl) (no-more !)))))))))) (λ w.
     puts-back (κs .1 .1 .1 .0) (qs .1 .1 .1 .0) r 3 6 ! 3 (callee-of.signature .params) (callee-of.ended .kept) c y _ _ refl (λ ws. _)
     (λ ws. _) (λ ws. refl) w 10 refl refl refl refl (λ v. refl) (λ v. refl) (λ v. refl) (λ v ws.
-    ends ! tt _ $ by ! (leave _ (v .answer) (ws .0, (ws .1 .0, (ws .1 .1 .0, (ws .1 .1 .1 .0, (ws .1 .1 .1 .1 .0, (ws .1 .1 .1 .1 .1 .0, (v .run,
-      (ws .1 .1 .1 .1 .1 .1 .1 .0, (ws .1 .1 .1 .1 .1 .1 .1 .1 .0, tt)))))))))))))
+    ends ! tt _ $ by ! (leave _ (v .answer) (
+      ws .0,
+      (
+        ws .1 .0,
+        (
+          ws .1 .1 .0,
+          (
+            ws .1 .1 .1 .0,
+            (
+              ws .1 .1 .1 .1 .0,
+              (
+                ws .1 .1 .1 .1 .1 .0,
+                (
+                  v .run,
+                  (ws .1 .1 .1 .1 .1 .1 .1 .0, (ws .1 .1 .1 .1 .1 .1 .1 .1 .0, tt)),
+                ),
+              ),
+            ),
+          ),
+        ),
+      ),
+    )))))
