@@ -186,6 +186,8 @@ class Runs(unittest.TestCase):
         self.assertEqual(run.steps, steps + 10)
 
     def test_interrupt(self):
+        # a shell starts what it runs in the background with the interrupt ignored
+        self.addCleanup(signal.signal, signal.SIGINT, signal.signal(signal.SIGINT, signal.default_int_handler))
         run = dezgula.Plain(LONG)
         threading.Timer(0.5, os.kill, (os.getpid(), signal.SIGINT)).start()
         begun = time.monotonic()
