@@ -32,4 +32,5 @@ pub mod TwoWalks
 pub mod Frames
 pub mod Demands
 pub mod Reasons
+pub mod Newest
 pub mod Examples
