@@ -63,7 +63,7 @@ unfolding first lent first-left second group sumTo inner value total unit allTo 
     searchChecks checked start unlessDone walk call
 first-list = first-then-second second group (start first lent .state) (started-units lent refl) 100 refl refl
 
--- "the same map built one desk after the other": the map of document 01's "The program"
+-- the map of document 01's "The program", of which the desks have one equation each
 both : Input
 both = inputOf 2 4 (negsuc 0 ∷ pos 1 ∷ pos 2 ∷ negsuc 2 ∷ negsuc 0 ∷ pos 3 ∷ negsuc 1 ∷ negsuc 0 ∷ [])
 

@@ -252,7 +252,7 @@ no-more {q} {one = one} {other = other} {n = n} {m = m} x y =
 pub same-number : {q : ℕ} {W : (ℕ → ℕ) → Type 0} {one other : List ℕ} {n m : ℕ} → Exactly q W one n → Exactly q W other m → n ≡ m
 same-number x y = le-antisymm (no-more x y) (no-more y x)
 
--- "The two lists of loops should hold the same loops.": a complete plain run on the whole map lists what `SecondDemand` says of the run desk by desk
+-- "the list of the whole map": a complete plain run on it lists what `SecondDemand` says of the run desk by desk
 pub whole-run : (d : Desk) (g : FirstGroup d) (s : State) → Run (inputOf (g .p + d .p) (d .q) (wholeSystem d g .coefs)) nonzero s → (budget : ℕ)
     → resume budget (inputOf (g .p + d .p) (d .q) (wholeSystem d g .coefs)) s .answer ≡ complete
     → Exactly (d .q) (MinimalSolution (wholeSystem d g)) (resume budget (inputOf (g .p + d .p) (d .q) (wholeSystem d g .coefs)) s .state .list)
