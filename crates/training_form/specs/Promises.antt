@@ -1,22 +1,23 @@
 -- WHAT THE TRAINING SEAT PROMISES. Open this file first. Assumes nothing.
-use mathlib.Core.Path.{_≡_, refl, _∙_, ap}
+use mathlib.Core.Path.{_≡_, refl, sym, _∙_, ap}
 use mathlib.Core.Logic.{inl, inr}
 use mathlib.Core.List.{List, _∷_, []}
 use Prim.Native.Nat.{ℕ, zero, suc, _+_, _≤_, _<_}
 use native.Mathlib.Omega.{arith}
 use lib.IntN.{ℤ}
 use Rattle.definitions.specs.Answers.{Answer, complete, go, paused, refuse, refused, started}
-use Rattle.definitions.specs.Bound.{depth}
+use Rattle.definitions.specs.Bound.{depth, stepBound}
 use Rattle.definitions.specs.Calls.{machine, machineFrom, resume, settleFrom, start, startFrom, stepFrom}
 use Rattle.definitions.specs.Input.{Input, boundOf, inputOf, mapOf, systemOf}
 use Rattle.definitions.specs.Machine.{Outcome, after, checked, walk}
+use Rattle.definitions.specs.Refusals.{stepLimit}
 use Rattle.definitions.specs.Step.{step}
 use Rattle.definitions.specs.System.{MinimalFrom, MinimalSolution}
 use Rattle.definitions.specs.Tables.{State, capacity}
 use Rattle.laws.specs.CheckLaws.{check-cases}
 use Rattle.laws.specs.LimitLaws.{step-limit}
 use Rattle.laws.specs.MachineLaws.{call-refused}
-use Rattle.theorems.specs.CallAnswers.{CallAnswers, Paced, Ruled, StartAnswers, call-answers, call-paced, start-answers}
+use Rattle.theorems.specs.CallAnswers.{CallAnswers, Paced, Ruled, StartAnswers, call-answers, call-paced, start-answers, started-goes}
 use Rattle.theorems.specs.Counts.{after-counts}
 use Rattle.theorems.specs.Demands.{Lists, ListsFrom, ThirdDemand, never-above, third-demand, unchanged-leaves}
 use Rattle.theorems.specs.Listed.{Exactly}
@@ -237,6 +238,20 @@ module _ (p q : ℕ) (coefs : List ℤ) where
         never-above = λ single s r. never-above i s single (seat-run p q coefs r .1);
         one-equation = one;
       }
+
+-- "so there if D is at most 20": the demand of the seat's own calls, with the demand's own premises and this one; the start and each own call along the series
+-- are the seat's
+pub third-demand-at-the-seat : (q : ℕ) (coefs : List ℤ) (s₀ : State) → let i = seatInput 1 q coefs in
+    seatStart i s₀ .answer ≡ started → depth (mapOf i) ≤ 20 → stepBound (mapOf i) ≤ capacity q (s₀ .list) → stepBound (mapOf i) ≤ stepLimit
+    → (g : Log State) → Series i s₀ g
+    → ThirdDemand i s₀ g × (seatStart i s₀ ≡ start i s₀) × ((budget : ℕ) → seatResume budget i (g .state) ≡ resume budget i (g .state))
+third-demand-at-the-seat q coefs s₀ begins shallow roomy brief g r =
+    let i : Input = seatInput 1 q coefs in
+    let c : checked (seatFirst i) s₀ (start i) .answer ≡ started = rw (seat-starts 1 q coefs s₀) at begins in
+    let (f, w) = started-goes (seatFirst i) s₀ (start i) c in
+    let is : seatStart i s₀ ≡ start i s₀ = seat-starts 1 q coefs s₀ ∙ w in
+    training-promise 1 q coefs .one-equation s₀ f
+    (record { one = refl; begins = ap (λ o. o .answer) (sym is) ∙ begins; limited = shallow; roomy = roomy; roomy₂ = tt; brief = brief }) g r
 
 -- ---- foreign calls
 
