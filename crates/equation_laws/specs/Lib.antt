@@ -4,6 +4,7 @@ pub mod SoundLaws
 pub mod CompleteLaws
 pub mod Agreement
 pub mod WriteLaws
+pub mod WriteShape
 pub mod ScanBack
 pub mod ScanRun
 pub mod PlaceLaws
