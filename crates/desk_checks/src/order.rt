@@ -12,7 +12,7 @@ ghost use Rattle.desk_calls.specs.Calls.{deskOf};
 ghost use Rattle.desk_checks.specs.Shape.{RowsFit};
 use calls::Record;
 use desk_rows::marks;
-use pair_rows::rows;
+use table_rows::rows;
 
 // Whether no number is above 1,000,000.
 pub fn small(table: &[u32]) -> bool
