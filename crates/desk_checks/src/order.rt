@@ -18,14 +18,7 @@ use table_rows::rows;
 pub fn small(table: &[u32]) -> bool
     ensures { λ b. ⌜ b ≡ allTo (length (now (table .entry))) (λ i. leb (getD (now (table .entry)) i 0) mostComponent) ⌝ }
 {
-    let mut i = 0;
-    while i < table.len() {
-        if calls::COMPONENT_LIMIT < table[i] {
-            return false;
-        }
-        i += 1;
-    }
-    true
+    rows::small_at(table, 0, table.len())
 }
 
 // Whether record and tables are in order, which depends on q and the number of generators alone.
