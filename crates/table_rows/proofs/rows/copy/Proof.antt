@@ -1,3 +1,4 @@
+-- `rows::copy` meets its contract. The numbers passed have been written, and those ahead are as they were. Assumes nothing.
 use Rattle.table_rows.specs.Keeping.{copy-ahead}
 use Rattle.table_rows.specs.Small.{rowAt}
 use Rattle.laws.specs.TableLaws.{write-next}
@@ -8,7 +9,6 @@ use native.Mathlib.Nat.{le-antisymm}
 use Prim.Native.Nat.{_-_, _≤_}
 use mathlib.Core.Path.{_≡_, refl}
 use borrow.Author.Needs.{needs}
-use native.Mathlib.Omega.{arith}
 use Rattle.table_rows.proofs.rows.copy.Statement.{statement}
 use Rattle.table_rows.proofs.rows.copy.Tie as tie
 
@@ -22,30 +22,6 @@ loop-holds : tie.Need-loop-holds Inv-loop μ-loop
 unfolding writeTo
 loop-holds c = (search needs, refl, refl)
 
-add-table : tie.Need-add-table Inv-loop μ-loop
-add-table c = search needs
-
-mul-table : tie.Need-mul-table Inv-loop μ-loop
-mul-table c = search needs
-
-slice-read-table : tie.Need-slice-read-table Inv-loop μ-loop
-slice-read-table c = search needs
-
-add-table-2 : tie.Need-add-table-2 Inv-loop μ-loop
-add-table-2 c = search needs
-
-mul-table-2 : tie.Need-mul-table-2 Inv-loop μ-loop
-mul-table-2 c = search needs
-
-slice-write-table : tie.Need-slice-write-table Inv-loop μ-loop
-slice-write-table c = search needs
-
-add-j : tie.Need-add-j Inv-loop μ-loop
-add-j c = search needs
-
-loop-less : tie.Need-loop-less Inv-loop μ-loop
-loop-less c = search needs
-
 loop-again : tie.Need-loop-again Inv-loop μ-loop
 loop-again c = let a = c .before .before in
     let s = a .before in (
@@ -58,27 +34,11 @@ loop-again c = let a = c .before .before in
       ),
     )
 
-same-length : tie.Need-same-length Inv-loop μ-loop
-same-length c = search needs
-
 returns : tie.Need-returns Inv-loop μ-loop
 returns c = let a = c .before in rw (a .loop .inv .2, le-antisymm (a .loop .inv .0) (c .loop-test .left))
 
 pub copy-spec : {M : Type 1} → statement M
 copy-spec =
     tie.close
-    (tie.spec
-    Inv-loop
-    μ-loop
-    loop-holds
-    add-table
-    mul-table
-    slice-read-table
-    add-table-2
-    mul-table-2
-    slice-write-table
-    add-j
-    loop-less
-    loop-again
-    same-length
-    returns)
+    (tie.spec Inv-loop μ-loop loop-holds (λ c. search needs) (λ c. search needs) (λ c. search needs) (λ c. search needs) (λ c. search needs)
+    (λ c. search needs) (λ c. search needs) (λ c. search needs) loop-again (λ c. search needs) returns)

@@ -1,3 +1,4 @@
+-- `sweep::stays` meets its contract. No row passed, kept or later, spoils row i. Assumes nothing.
 use borrow.Author.Tests.{not-true, not-false}
 use Rattle.table_rows.specs.Keeping.{spoilsEarlier, spoilsLater, later-start, later-above, later-same, goes-earlier, goes-later, stays-both}
 use Rattle.laws.specs.TableLaws.{row-fits}
@@ -5,9 +6,8 @@ use Rattle.definitions.specs.Tables.{at}
 use Rattle.linear.specs.LoopLaws.{any-next}
 use Rattle.linear.specs.Tests.{anyTo}
 use lib.ListN.{length}
-use denote.Ref.{now}
 use native.Mathlib.Nat.{le-antisymm}
-use Prim.Native.Nat.{_+_, _*_, _-_, _≤_, _<_}
+use Prim.Native.Nat.{_+_, _-_, _≤_, _<_}
 use mathlib.Core.Bool.{false}
 use mathlib.Core.Path.{_≡_, refl, sym, _∙_}
 use borrow.Author.Needs.{needs}
@@ -51,18 +51,9 @@ returns : tie.Need-returns Inv-loop μ-loop Inv-loop2 μ-loop2
 returns c = let l = c .before .before in
     sym (goes-earlier _ _ _ _ _ (l .before .loop .m) (l .loop-test .taken) (sym (c .before .below .ensures) ∙ c .if1 .taken))
 
-add-m : tie.Need-add-m Inv-loop μ-loop Inv-loop2 μ-loop2
-add-m c = search needs
-
-loop-less : tie.Need-loop-less Inv-loop μ-loop Inv-loop2 μ-loop2
-loop-less c = search needs
-
 loop-again : tie.Need-loop-again Inv-loop μ-loop Inv-loop2 μ-loop2
 loop-again c = let a = c .before .before .before in
     (search needs, a .loop .inv .1, any-next _ _ (a .loop .inv .2) (sym (c .before .below .ensures) ∙ c .if1 .left))
-
-add-next : tie.Need-add-next Inv-loop μ-loop Inv-loop2 μ-loop2
-add-next c = search needs
 
 loop2-holds : tie.Need-loop2-holds Inv-loop μ-loop Inv-loop2 μ-loop2
 loop2-holds c = let a = c .before in (
@@ -73,9 +64,6 @@ loop2-holds c = let a = c .before in (
   later-start _ _ _,
 )
 
-add-next-2 : tie.Need-add-next-2 Inv-loop μ-loop Inv-loop2 μ-loop2
-add-next-2 c = search needs
-
 mul-below-2 : tie.Need-mul-below-2 Inv-loop μ-loop Inv-loop2 μ-loop2
 mul-below-2 c = let a = c .before in
     let s = a .before .before .before .before in
@@ -85,9 +73,6 @@ below-requires-2 : tie.Need-below-requires-2 Inv-loop μ-loop Inv-loop2 μ-loop2
 below-requires-2 c κs = let a = c .before in
     let s = a .before .before .before .before in
     (omega (arith, s .pre .0, row-fits (s .args .q) (a .loop2 .next) (s .args .n) (c .loop2-test .taken)), a .loop2 .inv .2)
-
-loop2-less : tie.Need-loop2-less Inv-loop μ-loop Inv-loop2 μ-loop2
-loop2-less c = search needs
 
 loop2-again : tie.Need-loop2-again Inv-loop μ-loop Inv-loop2 μ-loop2
 loop2-again c = let a = c .before .before .before in (
@@ -109,9 +94,6 @@ below-requires-3 c κs = let l = c .before .before in
     let a = l .before in
     let s = a .before .before .before .before in
     (a .loop2 .inv .2, omega (arith, s .pre .0, row-fits (s .args .q) (a .loop2 .next) (s .args .n) (l .loop2-test .taken)))
-
-loop2-less-2 : tie.Need-loop2-less-2 Inv-loop μ-loop Inv-loop2 μ-loop2
-loop2-less-2 c = search needs
 
 loop2-again-2 : tie.Need-loop2-again-2 Inv-loop μ-loop Inv-loop2 μ-loop2
 loop2-again-2 c = let a = c .before .before .before .before .before in (
@@ -136,29 +118,6 @@ returns-3 c = let a = c .before in
 pub stays-spec : {M : Type 1} → statement M
 stays-spec =
     tie.close
-    (tie.spec
-    Inv-loop
-    μ-loop
-    Inv-loop2
-    μ-loop2
-    mul-base
-    loop-holds
-    mul-below
-    below-requires
-    returns
-    add-m
-    loop-less
-    loop-again
-    add-next
-    loop2-holds
-    add-next-2
-    mul-below-2
-    below-requires-2
-    loop2-less
-    loop2-again
-    mul-below-3
-    below-requires-3
-    loop2-less-2
-    loop2-again-2
-    returns-2
-    returns-3)
+    (tie.spec Inv-loop μ-loop Inv-loop2 μ-loop2 mul-base loop-holds mul-below below-requires returns (λ c. search needs) (λ c. search needs) loop-again
+    (λ c. search needs) loop2-holds (λ c. search needs) mul-below-2 below-requires-2 (λ c. search needs) loop2-again mul-below-3 below-requires-3
+    (λ c. search needs) loop2-again-2 returns-2 returns-3)

@@ -1,10 +1,11 @@
+-- `sweep::sweep` meets its contract. Of the rows passed those that stay stand one behind the other. Assumes nothing.
 use Rattle.table_rows.specs.Keeping.{Kept, kept-none, kept-length, kept-few, kept-skip, kept-copied, kept-test, place-fits}
 use Rattle.sweeps.specs.Sweep.{keeps}
 use Rattle.definitions.specs.Tables.{at}
 use lib.ListN.{length}
 use denote.Ref.{now}
 use native.Mathlib.Nat.{le-antisymm}
-use Prim.Native.Nat.{_+_, _*_, _-_, _≤_}
+use Prim.Native.Nat.{_-_, _≤_}
 use mathlib.Core.Path.{_≡_, refl, sym, _∙_}
 use borrow.Author.Needs.{needs}
 use native.Mathlib.Omega.{arith}
@@ -19,9 +20,6 @@ abbrev μ-loop : tie.MeasureT-loop
 
 loop-holds : tie.Need-loop-holds Inv-loop μ-loop
 loop-holds c = (search needs, refl, kept-none _ _ _)
-
-add-i : tie.Need-add-i Inv-loop μ-loop
-add-i c = search needs
 
 stays-requires : tie.Need-stays-requires Inv-loop μ-loop
 stays-requires c κs = let a = c .before .before in
@@ -56,9 +54,6 @@ add-kept : tie.Need-add-kept Inv-loop μ-loop
 add-kept c = let a = c .before .before .before .before .before .before .before .before in
     omega (arith, kept-few _ _ _ (a .loop .inv .2))
 
-loop-less : tie.Need-loop-less Inv-loop μ-loop
-loop-less c = search needs
-
 loop-again : tie.Need-loop-again Inv-loop μ-loop
 loop-again c = let g = c .before .before in
     let l = g .before .before .before .before .before in
@@ -69,9 +64,6 @@ loop-again c = let g = c .before .before in
     (sym test ∙ sym (g .before .before .before .stays .ensures) ∙ g .before .before .if1 .taken) (g .copy .ensures) in
     (search needs, kept-length _ _ _ k, k)
 
-loop-less-2 : tie.Need-loop-less-2 Inv-loop μ-loop
-loop-less-2 c = search needs
-
 loop-again-2 : tie.Need-loop-again-2 Inv-loop μ-loop
 loop-again-2 c = let l = c .before .before .before in
     let a = l .before in
@@ -79,28 +71,11 @@ loop-again-2 c = let l = c .before .before .before in
     let test = kept-test (s .args .q) (s .args .n) (now (s .args .table)) (s .pre) (l .loop-test .taken) (a .loop .inv .2) in
     (search needs, a .loop .inv .1, kept-skip _ _ _ (a .loop .inv .2) (sym test ∙ sym (c .before .stays .ensures) ∙ c .if1 .left))
 
-same-length : tie.Need-same-length Inv-loop μ-loop
-same-length c = search needs
-
 returns : tie.Need-returns Inv-loop μ-loop
 returns c = let a = c .before in rw (le-antisymm (a .loop .inv .0) (c .loop-test .left)) at (a .loop .inv .2)
 
 pub sweep-spec : {M : Type 1} → statement M
 sweep-spec =
     tie.close
-    (tie.spec
-    Inv-loop
-    μ-loop
-    loop-holds
-    add-i
-    stays-requires
-    mul-copy
-    mul-copy-2
-    copy-requires
-    add-kept
-    loop-less
-    loop-again
-    loop-less-2
-    loop-again-2
-    same-length
-    returns)
+    (tie.spec Inv-loop μ-loop loop-holds (λ c. search needs) stays-requires mul-copy mul-copy-2 copy-requires add-kept (λ c. search needs) loop-again
+    (λ c. search needs) loop-again-2 (λ c. search needs) returns)
