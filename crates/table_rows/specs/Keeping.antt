@@ -1,5 +1,5 @@
 -- What the contracts on the rows kept cite, and one turn of their loops. Assumes nothing.
-use mathlib.Core.Path.{_≡_, refl, _∙_, ap}
+use mathlib.Core.Path.{_≡_, refl, sym, _∙_, ap, ap₂}
 use mathlib.Core.Logic.{inr}
 use mathlib.Core.List.{List}
 use mathlib.Core.Bool.{Bool, true, false, not, _&&_, and-false}
@@ -9,13 +9,13 @@ use native.Mathlib.Nat.{mul-le-mul-right}
 use native.Mathlib.Omega.{arith}
 use borrow.Author.Tests.{le-ltb, lt-ltb}
 use lib.Dec.{ltb}
-use lib.ListN.{length, getD}
+use lib.ListN.{length, set}
 use Rattle.linear.specs.LoopLaws.{any-holds, any-next}
 use Rattle.linear.specs.TestLaws.{count-le}
 use Rattle.linear.specs.Tests.{anyTo, countTo}
 use Rattle.definitions.specs.System.{isAtOrBelow}
 use Rattle.definitions.specs.Tables.{at, writeTo}
-use Rattle.laws.specs.TableLaws.{row-fits, write-outside, write-same}
+use Rattle.laws.specs.TableLaws.{row-fits, write-next, write-outside, write-same}
 use Rattle.sweeps.specs.Pack.{pack-length, packTo}
 use Rattle.sweeps.specs.Sweep.{keeps, sweptTo}
 use Rattle.sweeps.specs.SweepTable.{staysHere, swept-ahead, sweep-test}
@@ -58,9 +58,12 @@ pub kept-copied : (q : ℕ) (stay : ℕ → Bool) (table₀ : List ℕ) {i : ℕ
     → after ≡ writeTo q table (count * q) (rowAt table (i * q)) → Kept q (i + 1) stay table₀ after (count + 1)
 kept-copied q stay table₀ k e h = rw h (kept-more q stay table₀ k e)
 
--- what is ahead of the places written is as it was
-pub copy-ahead : (x : ℕ → ℕ) (table : List ℕ) (from to j : ℕ) → to ≤ from → getD (writeTo j table to x) (from + j) 0 ≡ getD table (from + j) 0
-copy-ahead x table from to j l = write-outside x table to j (from + j) (inr (omega arith))
+-- one number more of the row from place `from`, copied to an earlier place: what is ahead of the places written is as it was
+pub copied-more : (table₀ : List ℕ) (from to j : ℕ) {table : List ℕ} {v : ℕ} → to ≤ from → table ≡ writeTo j table₀ to (rowAt table₀ from)
+    → v ≡ rowAt table from j → set table (to + j) v ≡ writeTo (j + 1) table₀ to (rowAt table₀ from)
+copied-more table₀ from to j {table} {v} l e f =
+    let ahead = write-outside (rowAt table₀ from) table₀ to j (from + j) (inr (omega arith)) in
+    ap₂ (λ t x. set t (to + j) x) e (f ∙ ap (λ t. rowAt t from j) e ∙ ahead) ∙ sym (write-next j table₀ to (rowAt table₀ from))
 
 -- where row i of the first n rows goes, if it stays
 pub place-fits : (q i n count : ℕ) (table : List ℕ) → i < n → n * q ≤ length table → count ≤ i → (count * q ≤ i * q) × (i * q + q ≤ length table)

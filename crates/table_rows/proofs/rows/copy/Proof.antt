@@ -1,7 +1,6 @@
 -- `rows::copy` meets its contract. The numbers passed have been written, and those ahead are as they were. Assumes nothing.
-use Rattle.table_rows.specs.Keeping.{copy-ahead}
+use Rattle.table_rows.specs.Keeping.{copied-more}
 use Rattle.table_rows.specs.Small.{rowAt}
-use Rattle.laws.specs.TableLaws.{write-next}
 use Rattle.definitions.specs.Tables.{writeTo}
 use lib.ListN.{length, length-set}
 use denote.Ref.{now}
@@ -27,11 +26,7 @@ loop-again c = let a = c .before .before in
     let s = a .before in (
       search needs,
       rw length-set (a .loop .inv .1),
-      rw (
-        write-next,
-        a .loop .inv .2,
-        copy-ahead (rowAt (now (s .args .table)) (s .args .from)) (now (s .args .table)) (s .args .from) (s .args .to) (a .loop .j) (s .pre .0),
-      ),
+      copied-more (now (s .args .table)) (s .args .from) (s .args .to) (a .loop .j) (s .pre .0) (a .loop .inv .2) refl,
     )
 
 returns : tie.Need-returns Inv-loop μ-loop
