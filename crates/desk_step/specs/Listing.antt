@@ -11,7 +11,7 @@ use Rattle.definitions.specs.Tables.{at, capacity, writeTo}
 use Rattle.laws.specs.TableLaws.{row-fits}
 use Rattle.sweeps.specs.Again.{swept-length}
 use Rattle.sweeps.specs.Sweep.{keeps, sweptTo}
-use Rattle.pair_rows.specs.Keeping.{Kept}
+use Rattle.table_rows.specs.Keeping.{Kept}
 use Rattle.calls.specs.declared.Refusal.the-variants.{ListFull}
 use Rattle.desk_step.specs.declared.Stepped.{Stepped}
 use Rattle.desk_step.specs.declared.Stepped.the-variants.{Listed, Refused}

@@ -29,7 +29,6 @@ use Rattle.sweeps.specs.Pack.{packTo, writeIf}
 use Rattle.sweeps.specs.Sweep.{keeps}
 use Rattle.lists.specs.Rows.{tuple}
 use Rattle.products.specs.Marks.{marks-frozen, marks-same}
-use Rattle.pair_rows.specs.Valuing.{value-small}
 use Rattle.calls.specs.Paper.{numberOf, stateOf, valuesOf}
 use Rattle.calls.specs.declared.Record.{Record}
 use Rattle.calls.specs.declared.Refusal.the-variants.{ComponentLimit}
@@ -38,7 +37,7 @@ use Rattle.desk_form.specs.Desks.{deskTooLarge, deskTop, deskTopMarks, freed, g
 use Rattle.desk_form.specs.Records.{lentWith}
 use Rattle.desk_form.specs.Valid.{DeskShaped, DeskValid, children-few, free}
 use Rattle.desk_calls.specs.Calls.{deskOf, moved}
-use Rattle.desk_rows.specs.Images.{Factors, Images, SmallDesk, desk-equation, entry}
+use Rattle.desk_rows.specs.Images.{Factors, Images, SmallDesk, entry, map-value}
 use Rattle.desk_rows.specs.Rows.{SmallTuple, row-alike}
 use Rattle.desk_step.specs.Listing as listing
 use Rattle.desk_step.specs.Listing.{Enlisted, sweptCount, sweptList}
@@ -153,7 +152,7 @@ module _ {p q : ℕ} {coefs : List ℤ} {generators : List ℕ} {images : List �
         few = z .valid .shaped .p-few;
         low = (omega arith, omega (arith, z .valid .shaped .few));
         left = λ i ip. rw (z .image i ip)
-            (value-small (deskTop d s) (desk-equation small i ip) (λ k kq. z .valid .ordered .rows (deskLevel s) (omega (arith, z .high)) .small k kq));
+            (map-value (small .group) i (deskTop d s) (λ k kq. z .valid .ordered .rows (deskLevel s) (omega (arith, z .high)) .small k kq));
         right = λ i ip. rw (z .handed .each j i l ip) (z .valid .shaped .images j i l ip);
       }
 

@@ -15,7 +15,7 @@ use Rattle.definitions.specs.Refusals.{stepLimit}
 use Rattle.definitions.specs.Tables.{State, at}
 use Rattle.laws.specs.TableLaws.{row-fits}
 use Rattle.lists.specs.Rows.{Holds, tuple}
-use Rattle.pair_rows.specs.Small.{SmallRow}
+use Rattle.table_rows.specs.Small.{SmallRow}
 use Rattle.calls.specs.Paper.{numberOf, valuesOf}
 use Rattle.calls.specs.declared.Record.{Record}
 use Rattle.calls.specs.declared.Refusal.{Refusal}

@@ -13,8 +13,6 @@ ghost use Rattle.reasons.specs.Numbers.{reasonTold};
 ghost use Rattle.record_words.specs.Words.{told, startWords, resumeWords};
 ghost use Rattle.row_words.specs.Rows.{rowTold};
 ghost use Rattle.map_words.specs.Words.{readWords};
-ghost use Rattle.pair_lists.specs.Calling.{roomOf};
-ghost use Rattle.pair_words.specs.Words.{startWords as pairsStartWords, resumeWords as pairsResumeWords, told as pairsTold};
 ghost use Rattle.multiples_form.specs.Parts.{decomposed};
 ghost use Rattle.multiples.specs.Answers.{partsTold};
 ghost use Rattle.single_file.specs.Listing.{listingCall};
@@ -182,47 +180,6 @@ pub extern "C" fn dezgula_raw_decompose(
         (now (amount .entry)) ⌝ }
 {
     multiples::decompose_number(p, q, coefs, list, found, tuple, times, amount)
-}
-
-// ---- the basis by sums of pairs (crate pair_words)
-
-// The start.
-#[no_mangle]
-pub extern "C" fn dezgula_raw_pairs_start(
-    p: usize,
-    q: usize,
-    coefs: &[i32],
-    table: &mut [u32],
-    supports: &[u32],
-    values: &[i64],
-    run: &mut [u64],
-) -> u64
-    ensures { λ a. ⌜ (a, (now (table .exit), now (run .exit))) ≡
-        pairsTold (now (run .entry))
-        (pairsStartWords p q (now (coefs .entry)) (roomOf q (now (table .entry)) (now (supports .entry)) (now (values .entry))) (now (table .entry))
-        (now (run .entry))) ⌝ }
-{
-    pair_words::start(p, q, coefs, table, supports, values, run)
-}
-
-// The continuing call.
-#[no_mangle]
-pub extern "C" fn dezgula_raw_pairs_resume(
-    p: usize,
-    q: usize,
-    coefs: &[i32],
-    table: &mut [u32],
-    supports: &mut [u32],
-    values: &mut [i64],
-    run: &mut [u64],
-    budget: u64,
-) -> u64
-    ensures { λ a. ⌜ (a, (now (table .exit), now (run .exit))) ≡
-        pairsTold (now (run .entry))
-        (pairsResumeWords p q (now (coefs .entry)) (roomOf q (now (table .entry)) (now (supports .entry)) (now (values .entry))) budget
-        (now (table .entry)) (now (run .entry))) ⌝ }
-{
-    pair_words::resume(p, q, coefs, table, supports, values, run, budget)
 }
 
 // ---- one desk after the other (crate desk_words)

@@ -1,4 +1,4 @@
--- Reading the text form of a map, for callers in other languages (include/dezgula_pairs.h): the answer as one number, and two words beside it. Assumes nothing.
+-- Reading the text form of a map, for callers in other languages (library/raw.h): the answer as one number, and two words beside it. Assumes nothing.
 use Prim.Native.Nat.{ℕ, _^_, _<_}
 use mathlib.Core.List.{List, []}
 use mathlib.Core.Logic.{inl, inr}

@@ -8,7 +8,7 @@ use mathlib.Core.Path.{_≡_, refl, sym, _∙_}
 use native.Mathlib.Nat.{le-antisymm}
 use native.Mathlib.Omega.{arith}
 use Rattle.desk_step.specs.Trying.{Tries, generator-row, marks-room, tries-all, tries-closed, tries-covered, tries-large, tries-made, tries-none}
-use Rattle.pair_rows.specs.Small.{SmallRow}
+use Rattle.table_rows.specs.Small.{SmallRow}
 use Rattle.desk_step.proofs.children.Statement.{statement}
 use Rattle.desk_step.proofs.children.Tie as tie
 

@@ -9,7 +9,7 @@ use native.Mathlib.Omega.{arith}
 use Rattle.definitions.specs.Tables.{frozen}
 use Rattle.desk_step.specs.Pushing.{Pushed, pushed-low, pushed-none, pushed-one, pushed-place, pushed-room, pushed-skip}
 use Rattle.desk_step.specs.Trying.{generator-row}
-use Rattle.pair_rows.specs.Small.{SmallRow}
+use Rattle.table_rows.specs.Small.{SmallRow}
 use Rattle.desk_step.proofs.push.Statement.{statement}
 use Rattle.desk_step.proofs.push.Tie as tie
 

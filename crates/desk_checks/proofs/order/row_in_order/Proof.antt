@@ -3,7 +3,6 @@ use borrow.Author.Needs.{needs}
 use borrow.Author.Tests.{not-false, not-true}
 use mathlib.Core.Path.{sym, _∙_}
 use Rattle.desk_form.specs.Desks.{deskRowInOrder}
-use Rattle.pairs_form.specs.Method.{isSmall}
 use Rattle.desk_checks.proofs.order.row_in_order.Statement.{statement}
 use Rattle.desk_checks.proofs.order.row_in_order.Tie as tie
 
@@ -17,7 +16,7 @@ small-at-requires : tie.Need-small-at-requires
 small-at-requires c κs = search needs
 
 returns : tie.Need-returns
-unfolding deskRowInOrder isSmall
+unfolding deskRowInOrder
 returns c = rw (sym (c .before .small-at .ensures) ∙ not-true _ (c .if1 .taken))
 
 add-join : tie.Need-add-join
@@ -51,7 +50,7 @@ in-order-requires : tie.Need-in-order-requires
 in-order-requires c κs = search needs
 
 returns-2 : tie.Need-returns-2
-unfolding deskRowInOrder isSmall
+unfolding deskRowInOrder
 returns-2 c =
     let j = c .before in
     let e = j .before .before .before in
