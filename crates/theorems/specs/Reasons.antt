@@ -59,7 +59,8 @@ never-unlisted : (s : Sizes) (i : Input) (list : List ℕ) (found : ℕ) → Exa
     → reasonWithin s i list found t ≢ unlisted
 never-unlisted s i list found e t h =
     let m = mapOf i in
-    let (wanted, bare) = unlisted-means m found (at list (i .q)) (λ j. getD t j 0) (reason-given s i list found t (unlisted-asked s i list found t h) unlisted h) in
+    let given = reason-given s i list found t (unlisted-asked s i list found t h) unlisted h in
+    let (wanted, bare) = unlisted-means m found (at list (i .q)) (λ j. getD t j 0) given in
     basis-below (task m nonzero) (suc (total (λ j. getD t j 0) (i .q))) (λ j. getD t j 0) (omega arith) wanted
     (λ u basis b. let (k, l, same) = e .all u basis in bare k l (λ j n. omega (arith, same j n, b j n)))
 
@@ -75,7 +76,8 @@ reason-promise =
       };
       whole-list = never-unlisted;
       complete-list = λ p q coefs s r budget c. let i = inputOf p q coefs in
-          never-unlisted documentSizes i (resume budget i s .state .list) (resume budget i s .state .run .found) (second-demand .lists i s r .finished budget c);
+          never-unlisted documentSizes i (resume budget i s .state .list) (resume budget i s .state .run .found)
+          (second-demand .lists i s r .finished budget c);
       complete-at-0 = λ p q coefs b s r budget c. let i = inputWith (rights b) mostComponent p q coefs in
           never-unlisted documentSizes (inputOf p q coefs) (resume budget i s .state .list) (resume budget i s .state .run .found)
           (second-demand .lists i s r .finished budget c .0);
