@@ -122,8 +122,8 @@ six = 0 ∷ 0 ∷ 3 ∷ 2 ∷ 0 ∷ 1 ∷ 1 ∷ 1 ∷ 0 ∷ 3 ∷ 0 ∷ 1 ∷ 1 
 -- 4 5 4 3 is 0 0 3 2, 0 1 1 1, and four times 1 1 0 0
 plan : decomposed example4 six 6 (4 ∷ 5 ∷ 4 ∷ 3 ∷ []) (9 ∷ 9 ∷ 9 ∷ 9 ∷ 9 ∷ 9 ∷ []) ≡ record { answer = made; times = 1 ∷ 1 ∷ 0 ∷ 0 ∷ 0 ∷ 4 ∷ [] }
 unfolding example4 six lower oftenTo bounded leftOver writeTimes allTaken takenApart ifSpace unlessOff decomposedWithin sumTo inner value allTo anyTo elseIf
-    firstTo placeIf lastTo refuseWith _then_ refuseFirst isAtOrBelow why.isSame highest why.standing check7 why.reasonChecks vanishes why.firstOff why.zeroOr why.offOr
-    why.standsOr why.aboveOr why.inList why.firstTrue why.unlessRefused reasonWithin
+    firstTo placeIf lastTo refuseWith _then_ refuseFirst isAtOrBelow why.isSame highest why.standing check7 why.reasonChecks vanishes why.firstOff why.zeroOr
+    why.offOr why.standsOr why.aboveOr why.inList why.firstTrue why.unlessRefused reasonWithin
 plan = refl
 
 example : Input
