@@ -253,12 +253,15 @@ class Drawn:
     def call(self, kind, p, q, w, own, coefs=()):
         before = w.copy()
         answer = start(p, q, list(coefs), w) if kind == 0 else (combine, take, resume)[kind - 1](p, q, w, *own)
+        self.written(kind, p, q, own, coefs, before, answer, w)
+        self.calls += 1
+        return answer
+
+    def written(self, kind, p, q, own, coefs, before, answer, after):
         self.out.write(line("call", [kind, p, q, *own]) + line("coefs", coefs))
         for word in ("equations", "basis", "table", "mothers", "record", "beside"):
             self.out.write(line(word, getattr(before, word)))
-        self.out.write(line("answer", [answer]) + line("left", w.equations + w.basis + w.table + w.record))
-        self.calls += 1
-        return answer
+        self.out.write(line("answer", [answer]) + line("left", after.equations + after.basis + after.table + after.record))
 
     def lent(self, p, q, rows):
         junk = lambda n, most: [self.r.randint(0, most) for _ in range(n)]
@@ -367,6 +370,12 @@ class Drawn:
             w = self.lent(2, 2, 6)
             self.call(0, 2, 2, w, [], [3, -3, 3, -3])
             self.call(1, 2, 2, w, [0, u, 1, t])
+        w = self.lent(MOST, 5, 12)
+        self.call(0, MOST, 5, w, [], [1, 0, 0, -1, 0] + [0] * (30 * 5) + [0, 2, -1, 0, -1])
+        for e in range(MOST):
+            self.call(2, MOST, 5, w, [e, 5])
+            while self.call(3, MOST, 5, w, [9]) == PAUSED and w.record[EQUATION] == e:
+                pass
         for before in range(4):
             w = self.lent(1, 2, 6)
             self.call(0, 1, 2, w, [], [1, -1])
