@@ -6,7 +6,7 @@ ghost use lib.Dec.{leb};
 ghost use lib.ListN.{length, getD};
 ghost use Rattle.linear.specs.Tests.{allTo};
 ghost use Rattle.definitions.specs.System.{mostComponent};
-ghost use Rattle.desk_form.specs.Desks.{deskInOrder, deskRowInOrder};
+ghost use Rattle.desk_spec.specs.Desks.{deskInOrder, deskRowInOrder};
 ghost use Rattle.calls.specs.Paper.{stateOf};
 ghost use Rattle.desk_calls.specs.Calls.{deskOf};
 ghost use Rattle.desk_checks.specs.Shape.{RowsFit};

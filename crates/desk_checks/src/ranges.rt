@@ -6,7 +6,7 @@ ghost use lib.IntN.{natAbs};
 ghost use lib.ListN.{length};
 ghost use Rattle.linear.specs.Tests.{anyTo};
 ghost use Rattle.definitions.specs.System.{imageOf};
-ghost use Rattle.desk_form.specs.Desks.{generator, generatorCount, imageLimit, rangesChecks, secondGroup, wide};
+ghost use Rattle.desk_spec.specs.Desks.{generator, generatorCount, imageLimit, rangesChecks, secondGroup, wide};
 ghost use Rattle.desk_calls.specs.Calls.{checkOf, deskOf};
 ghost use Rattle.desk_rows.specs.Images.{SmallDesk};
 ghost use Rattle.desk_checks.specs.Shape.{Handed};

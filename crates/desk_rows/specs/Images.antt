@@ -18,7 +18,7 @@ use Rattle.linear.specs.Systems.{inner, value}
 use Rattle.definitions.specs.System.{coefLimit, mostComponent, mostEquations, mostUnknowns}
 use Rattle.laws.specs.TableLaws.{row-fits}
 use Rattle.table_rows.specs.Small.{SmallEquation, SmallRow, equationAt, rowAt, value-small}
-use Rattle.desk_form.specs.Desks.{imageLimit}
+use Rattle.desk_spec.specs.Desks.{imageLimit}
 
 -- "16 · 10,000 · 1,000,000": far below 2 ^ 63
 abbrev pub valueLimit : ℕ

@@ -9,7 +9,7 @@ ghost use Rattle.definitions.specs.System.{mostComponent};
 ghost use Rattle.definitions.specs.Tables.{writeTo};
 ghost use Rattle.lists.specs.Rows.{tuple};
 ghost use Rattle.table_rows.specs.Small.{SmallRow};
-ghost use Rattle.desk_form.specs.Desks.{deskRow};
+ghost use Rattle.desk_spec.specs.Desks.{deskRow};
 ghost use Rattle.desk_rows.specs.Rows.{Raised, SmallTuple};
 use crate::marks;
 use lists::rows;

@@ -19,8 +19,8 @@ use Rattle.table_rows.specs.Small.{SmallRow}
 use Rattle.calls.specs.Paper.{numberOf, valuesOf}
 use Rattle.calls.specs.declared.Record.{Record}
 use Rattle.calls.specs.declared.Refusal.{Refusal}
-use Rattle.desk_form.specs.Desks.{Desk, deskMachine}
-use Rattle.desk_form.specs.Valid.{DeskValid}
+use Rattle.desk_spec.specs.Desks.{Desk, deskMachine}
+use Rattle.desk_spec.specs.Valid.{DeskValid}
 use Rattle.desk_calls.specs.Calls.{deskOf}
 use Rattle.desk_rows.specs.Images.{ImageWritten, Images, imageAt}
 use Rattle.desk_rows.specs.Rows.{SmallTuple}

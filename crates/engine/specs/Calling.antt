@@ -1,15 +1,15 @@
 -- The calls by what their checks find. Assumes nothing.
-use mathlib.Core.Path.{_≡_, refl, sym, _∙_, ap}
+use mathlib.Core.Path.{_≡_, refl, _∙_}
 use mathlib.Core.Logic.{_⊎_, inl, inr}
-use mathlib.Core.Bool.{Bool, true, false, cond, not, _&&_, _||_}
-use mathlib.Core.List.{List, []}
-use Prim.Native.Nat.{ℕ, _+_, _*_, _^_, _-_, _≤_, _<_}
+use mathlib.Core.Bool.{Bool, true, false, not, _&&_, _||_}
+use mathlib.Core.List.{List}
+use Prim.Native.Nat.{ℕ, _+_, _*_, _≤_}
 use native.Mathlib.Nat.{mul-le-mul, mul-le-mul-right}
 use native.Mathlib.Omega.{arith}
-use borrow.Author.Tests.{le-ltb, lt-ltb, leb-true, ltb-true, not-false}
+use borrow.Author.Tests.{leb-true, ltb-true, not-false}
 use lib.Dec.{eqb, leb, ltb}
-use lib.IntN.{ℤ, pos}
-use lib.ListN.{getD, length}
+use lib.IntN.{ℤ}
+use lib.ListN.{length}
 use Rattle.linear.specs.Cases.{order}
 use Rattle.definitions.specs.Answers as paper
 use Rattle.definitions.specs.Answers.{_then_}
@@ -17,8 +17,8 @@ use Rattle.definitions.specs.System.{isZero}
 use Rattle.laws.specs.AnswerLaws.{refuse-if-go, then-assoc, then-go}
 use Rattle.laws.specs.TableLaws.{row-fits}
 use Rattle.engine_spec.specs.Calls as spec
-use Rattle.engine_spec.specs.Engine.{Work, allDone, rested, run}
-use Rattle.engine_calls.specs.Records.{answerOf, besideOf, call-passed, call-refused, checkOf, lengthsOf, outcomeOf, passes, refusedWith, workOf}
+use Rattle.engine_spec.specs.Engine.{Work, run}
+use Rattle.engine_calls.specs.Records.{call-passed, call-refused, checkOf, lengthsOf, outcomeOf, passes, refusedWith, workOf}
 use Rattle.engine_calls.specs.declared.Beside.{Beside}
 use Rattle.engine_calls.specs.declared.Check.{Check}
 use Rattle.engine_calls.specs.declared.Check.the-variants.{Pass, Refuse}
@@ -26,8 +26,8 @@ use Rattle.engine_calls.specs.declared.Outcome.{Outcome}
 use Rattle.engine_calls.specs.declared.Record.{Record}
 use Rattle.engine_calls.specs.declared.Refusal.{Refusal}
 use Rattle.engine_checks.specs.Operating.{combinesSmall}
-use Rattle.engine_checks.specs.Room.{StageFits, basis-few, basis-fits, stage-fits}
-use Rattle.engine_checks.specs.Standing.{Roomed, Stands, equation-small, left-below, resume-checks, standing, stands, start-checks, startChecksBy, starts}
+use Rattle.engine_checks.specs.Room.{basis-fits, stage-fits}
+use Rattle.engine_checks.specs.Standing.{Roomed, Stands, equation-small, left-below, standing, stands, start-checks, startChecksBy, starts}
 use Rattle.engine_begins.specs.Begins.{Begun, Fitting, Operated, Taken, begun-is, operated-is, taken-is}
 use Rattle.engine_begins.specs.Writing.{Combines}
 

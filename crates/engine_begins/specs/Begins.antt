@@ -1,6 +1,6 @@
 -- What the start, a row operation and the begin of a stage leave, and that it is what the definitions say. Assumes nothing.
-use mathlib.Core.Path.{_≡_, refl}
-use mathlib.Core.Bool.{Bool, true, false, cond}
+use mathlib.Core.Path.{_≡_}
+use mathlib.Core.Bool.{cond}
 use mathlib.Core.List.{List}
 use Prim.Native.Nat.{ℕ, _*_, _≤_, _<_}
 use borrow.Author.Tests.{le-ltb, lt-ltb}
@@ -8,13 +8,13 @@ use lib.Dec.{ltb}
 use mathlib.Core.Logic.{inl, inr}
 use Rattle.linear.specs.Cases.{split}
 use lib.IntN.{ℤ, pos}
-use lib.ListN.{getD, length}
+use lib.ListN.{getD}
 use Rattle.linear.specs.Tests.{countTo}
 use Rattle.linear.specs.Tuples.{unit}
 use Rattle.definitions.specs.Answers.{started}
 use Rattle.definitions.specs.Tables.{at}
-use Rattle.sweeps.specs.Pack.{packTo}
-use Rattle.sweeps.specs.Sweep.{sweptTo}
+use Rattle.laws.specs.Pack.{packTo}
+use Rattle.laws.specs.Sweep.{sweptTo}
 use Rattle.engine_spec.specs.Engine.{begun, combined, fillTo, result, taken, takenFresh}
 use Rattle.engine_rows.specs.Keeping.{lacks}
 use Rattle.engine_rows.specs.Packing.{always}

@@ -1,20 +1,19 @@
 -- Numbers written into the working system: what the contracts cite, and one turn of their loops. Assumes nothing.
-use mathlib.Core.Path.{_≡_, refl, sym, _∙_, ap}
+use mathlib.Core.Path.{_≡_, refl, _∙_, ap}
 use mathlib.Core.Logic.{_⊎_, inl, inr}
-use mathlib.Core.Bool.{Bool, true, false}
+use mathlib.Core.Bool.{true}
 use mathlib.Core.List.{List}
-use Prim.Native.Nat.{ℕ, _+_, _*_, _≤_, _<_}
+use Prim.Native.Nat.{ℕ, _+_, _≤_, _<_}
 use native.Mathlib.Numerals.{add-one}
 use native.Mathlib.Omega.{arith}
-use lib.Dec.{T, leb, leb→le}
+use lib.Dec.{T, leb→le}
 use lib.IntN.{ℤ, pos, natAbs, _+ℤ_, _*ℤ_}
 use lib.ListN.{getD, length, set}
 use mir.Facts.{toZ-ofZ}
-use mir.Syntax.{w32, w64}
-use mir.Val.{SFits, ofZ, toZ}
+use mir.Syntax.{w32}
+use mir.Val.{SFits}
 use Rattle.linear.specs.Integers.{sfits-natAbs}
 use Rattle.linear.specs.TestLaws.{all-at}
-use Rattle.linear.specs.Tests.{allTo}
 use Rattle.engine_spec.specs.Beside.{SmallEquation, coefficientLimit, equationAt}
 use Rattle.engine_spec.specs.Engine.{fillTo}
 use Rattle.engine_spec.specs.Operations.{fill-length, fill-outside}

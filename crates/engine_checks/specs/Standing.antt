@@ -23,16 +23,11 @@ use Rattle.engine_spec.specs.Calls.{
   check6,
   check7,
   coefficientsSmall,
-  combineChecks,
   inOrder,
-  isFresh,
-  isLeft,
-  isOperation,
   marksInOrder,
   resumeChecks,
   standingThen,
   startChecks,
-  takeChecks,
 }
 use Rattle.engine_spec.specs.Beside.{SmallEquation, coefficientLimit}
 use Rattle.engine_spec.specs.Engine.{Work}

@@ -1,7 +1,7 @@
 -- What the end of a stage needs, what it leaves, and that it is what the definitions say. Assumes nothing.
-use mathlib.Core.Path.{_≡_, refl, sym, _∙_, ap}
-use mathlib.Core.Bool.{Bool, true, false, cond, not, _&&_}
-use mathlib.Core.List.{List, []}
+use mathlib.Core.Path.{_≡_, sym, _∙_}
+use mathlib.Core.Bool.{true, false, cond, not, _&&_}
+use mathlib.Core.List.{List}
 use Prim.Native.Nat.{ℕ, _+_, _*_, _^_, _-_, _≤_, _<_}
 use native.Mathlib.Nat.{mul-le-mul-right}
 use native.Mathlib.Omega.{arith}
@@ -15,9 +15,9 @@ use Rattle.definitions.specs.Answers.{complete, paused}
 use Rattle.definitions.specs.Refusals.{stepLimit}
 use Rattle.definitions.specs.Tables.{at, frozen}
 use Rattle.laws.specs.MarkLaws.{bit-add-fits, free-bit}
-use Rattle.sweeps.specs.Pack.{packTo}
+use Rattle.laws.specs.Pack.{packTo}
 use Rattle.engine_spec.specs.Beside.{Valued}
-use Rattle.engine_spec.specs.Engine.{Result, Work, allDone, finish, rested, stays, systemOf, valuesSmall}
+use Rattle.engine_spec.specs.Engine.{Work, allDone, finish, rested, stays, systemOf, valuesSmall}
 use Rattle.engine_rows.specs.Keeping.{filledRow, notBelowValue, smallValue, zeroValue}
 use Rattle.engine_calls.specs.Records.{answerOf, leaves, outcomeOf, recordOf, refusedWith, workOf}
 use Rattle.engine_calls.specs.declared.Outcome.{Outcome}

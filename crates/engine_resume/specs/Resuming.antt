@@ -1,12 +1,11 @@
 -- What a continuing call has once its checks have let it go on, what it writes beside the rows, and what it leaves. Assumes nothing.
-use mathlib.Core.Path.{_≡_, refl, sym, _∙_, ap}
-use mathlib.Core.Logic.{_⊎_, inl, inr}
-use mathlib.Core.Bool.{Bool, true, false, not, _&&_}
+use mathlib.Core.Path.{_≡_, sym, _∙_, ap}
+use mathlib.Core.Logic.{inl, inr}
+use mathlib.Core.Bool.{Bool, true, false, _&&_}
 use mathlib.Core.List.{List}
 use Prim.Native.Nat.{ℕ, zero, suc, _+_, _*_, _^_, _-_, _≤_, _<_}
 use native.Mathlib.Nat.{mul-le-mul-right}
 use native.Mathlib.Omega.{arith}
-use borrow.Author.Tests.{leb-true, ltb-true}
 use lib.Dec.{T, T-not, leb, leb→le, lt→ltb, ltb, ltb→lt}
 use lib.IntN.{ℤ, pos, natAbs}
 use lib.ListN.{getD, length}
@@ -19,7 +18,7 @@ use Rattle.definitions.specs.Tables.{at, frozen}
 use Rattle.laws.specs.TableLaws.{row-fits}
 use Rattle.engine_spec.specs.Beside.{AllMarked, Measured, SmallEquation, SmallTable, Valued, Worded, coefficientLimit, equationAt}
 use Rattle.engine_spec.specs.Calls.{coefficientsSmall, inOrder, isRising, isRow, marksInOrder}
-use Rattle.engine_spec.specs.Engine.{Result, Work, equationOf, onward, run}
+use Rattle.engine_spec.specs.Engine.{Work, onward, run}
 use Rattle.engine_spec.specs.Reduction.{isSmall}
 use Rattle.engine_spec.specs.ReductionLaws.{small-from}
 use Rattle.engine_spec.specs.Stage.{Outcome, outcome, row}
@@ -27,10 +26,10 @@ use Rattle.engine_beside.specs.Degrees.{degree-small}
 use Rattle.engine_beside.specs.Writing.{Kept}
 use Rattle.engine_rows.specs.Marking.{MarksWritten}
 use Rattle.engine_search.specs.Falls.{falling-start}
-use Rattle.engine_search.specs.Places.{Falling, Ranked, degreeOf}
+use Rattle.engine_search.specs.Places.{Ranked}
 use Rattle.engine_reduce.specs.Sums.{never}
 use Rattle.engine_stage.specs.Running.{RunLeft, answerOf, runOf}
-use Rattle.engine_stage.specs.Standing.{Beyond, Given, Lent, Ready, Roomy, Sides, lentOf, nextOf, sidesOf, stageOf}
+use Rattle.engine_stage.specs.Standing.{Beyond, Given, Ready, Roomy, Sides, lentOf, nextOf, stageOf}
 use Rattle.engine_stage.specs.declared.stages.Ran.{Ran}
 use Rattle.engine_stage.specs.declared.turns.Frame.{Frame}
 use Rattle.engine_stage.specs.declared.turns.Next.{Next}
@@ -39,8 +38,8 @@ use Rattle.engine_calls.specs.declared.Outcome as made
 use Rattle.engine_calls.specs.declared.Record.{Record}
 use Rattle.engine_checks.specs.Room.{StageFits}
 use Rattle.engine_checks.specs.Sizes.{Sized}
-use Rattle.engine_ends.specs.Closing.{Closing, Ends}
-use Rattle.engine_resume.specs.EngineLaws.{ended, run-by-stage, stageRun}
+use Rattle.engine_ends.specs.Closing.{Closing}
+use Rattle.engine_resume.specs.EngineLaws.{ended, run-by-stage}
 
 -- ---- the record and the stage
 

@@ -1,12 +1,12 @@
 -- The engine's calls: the start, a row operation, the begin of a stage, and the continuing call with a budget of turns. What is lent: the working system, the
 -- basis and the stage's table, the tables beside them, and the record of the run. Assumes nothing.
-use Prim.Native.Nat.{ℕ, _+_, _*_, _-_, _^_, _/_, min}
+use Prim.Native.Nat.{ℕ, _*_, _-_, _^_, _/_, min}
 use mathlib.Core.Bool.{Bool, false, not, cond, _&&_, _||_}
 use mathlib.Core.List.{List}
 use lib.Dec.{eqb, leb, ltb}
 use lib.IntN.{ℤ, pos, negsuc, natAbs}
 use lib.ListN.{getD, length}
-use Rattle.linear.specs.Tests.{allTo, anyTo}
+use Rattle.linear.specs.Tests.{allTo}
 use Rattle.linear.specs.Tuples.{total}
 use Rattle.definitions.specs.Answers.{Check, _then_, go, refuse, refuseFirst, refuseIf, refused, started}
 use Rattle.definitions.specs.Refusals.{between, stepLimit}

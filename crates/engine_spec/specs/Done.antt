@@ -1,17 +1,17 @@
 -- The equations done, as marks: bit i says that equation i is. Their system has 0 = 0 in the place of each other equation. Assumes nothing.
 use mathlib.Core.Path.{_≡_, refl, _∙_}
-use mathlib.Core.Logic.{_⊎_, inl, inr}
+use mathlib.Core.Logic.{inl, inr}
 use mathlib.Core.Bool.{Bool, true, false, cond}
 use Prim.Native.Nat.{ℕ, _+_, _^_, _<_}
 use lib.Dec.{T}
 use lib.IntN.{ℤ, pos, zero-*ℤ}
 use Rattle.linear.specs.Combinations.{Enumerates}
-use Rattle.linear.specs.Sums.{sumTo, sum-cong, sum-zero}
+use Rattle.linear.specs.Sums.{sum-cong, sum-zero}
 use Rattle.linear.specs.Systems.{Solution, inner, value}
 use Rattle.linear.specs.TestLaws.{T-dec}
 use Rattle.definitions.specs.Tables.{frozen}
 use Rattle.laws.specs.MarkLaws.{frozen-add, frozen-added, frozen-new, frozen-none}
-use Rattle.decomposition.specs.Loops.{Loop}
+use Rattle.linear.specs.Loops.{Loop}
 use Rattle.engine_spec.specs.Equations.{Extends, Wanted}
 
 abbrev pub among : ℕ → (ℕ → ℕ → ℤ) → ℕ → ℕ → ℤ

@@ -22,9 +22,9 @@ use Rattle.definitions.specs.Answers.{complete, paused}
 use Rattle.definitions.specs.Refusals.{stepLimit}
 use Rattle.laws.specs.SystemLaws.{is-zero}
 use Rattle.laws.specs.TableLaws.{row-fits, write-length}
-use Rattle.decomposition.specs.Loops.{Loop}
-use Rattle.sweeps.specs.Sweep.{keeps}
-use Rattle.sweeps.specs.SweepLaws.{Swept, stays-keeps}
+use Rattle.linear.specs.Loops.{Loop}
+use Rattle.laws.specs.Sweep.{keeps}
+use Rattle.laws.specs.SweepLaws.{Swept, stays-keeps}
 use Rattle.engine_spec.specs.Equations.{Extends, Holding, Picked, next-equation, zeroRow}
 use Rattle.engine_spec.specs.Reduction.{isSmall, reducible}
 use Rattle.engine_spec.specs.ReductionLaws.{reducible-from, small-from}

@@ -4,7 +4,7 @@
 use Prim.Native.Nat.{ℕ, zero, suc, _+_, _*_, _^_, _-_}
 use mathlib.Core.Bool.{Bool, true, cond, not, _&&_}
 use mathlib.Core.List.{List, []}
-use lib.Dec.{eqb, leb, ltb}
+use lib.Dec.{eqb, ltb}
 use lib.IntN.{ℤ, pos, _+ℤ_, _*ℤ_}
 use lib.ListN.{getD, set}
 use lib.Signed.{leZ}
@@ -14,8 +14,8 @@ use Rattle.linear.specs.Tuples.{unit}
 use Rattle.definitions.specs.Answers.{Answer, complete, paused, refused}
 use Rattle.definitions.specs.System.{mostComponent}
 use Rattle.definitions.specs.Tables.{at}
-use Rattle.sweeps.specs.Pack.{packTo}
-use Rattle.sweeps.specs.Sweep.{sweptTo}
+use Rattle.laws.specs.Pack.{packTo}
+use Rattle.laws.specs.Sweep.{sweptTo}
 use Rattle.engine_spec.specs.Equations.{zeroRow}
 use Rattle.engine_spec.specs.Fresh.{filled, notBelow}
 use Rattle.engine_spec.specs.Stage.{Stage, Turned, begin, ends, goes, row, stops, turn}

@@ -20,7 +20,7 @@ use Rattle.linear.specs.TestLaws.{count-mono, count-step}
 use Rattle.linear.specs.Tests.{countTo}
 use Rattle.linear.specs.TupleLaws.{term-le-total, total-some, unit-other, unit-same}
 use Rattle.linear.specs.Tuples.{AtOrBelow, Nonzero, Same, total, unit}
-use Rattle.decomposition.specs.Loops.{Loop}
+use Rattle.linear.specs.Loops.{Loop}
 use Rattle.engine_spec.specs.Equations.{Extends, Holding, Picked, Wanted, holding-makes, sweep-enumerates, wanted-alike}
 use Rattle.engine_spec.specs.Signs.{Closed, consistent-rows, sign-consistent}
 use Rattle.engine_spec.specs.Ends.{Ended, irreducible, nothing-swept, picked-from}

@@ -24,3 +24,7 @@ pub mod Calls
 pub mod Promise
 pub mod Own
 pub mod Examples
+pub mod Promises
+pub mod CallRules
+pub mod Rules
+pub mod Questions

@@ -7,9 +7,9 @@ use native.Mathlib.Decide.{ℕ-discrete}
 use native.Mathlib.Omega.{arith}
 use lib.Dec.{T}
 use lib.IntN.{ℤ, pos, negsuc, _+ℤ_, _*ℤ_, *ℤ-zero, +ℤ-idr, +ℤ-idl, zero-*ℤ}
-use lib.ListN.{length, getD, set, length-set}
+use lib.ListN.{length, getD, length-set}
 use lib.Seq.{getD-set-same, getD-set-other}
-use Rattle.linear.specs.Cases.{below-suc, order, split}
+use Rattle.linear.specs.Cases.{below-suc, order}
 use Rattle.linear.specs.Combinations.{Enumerates}
 use Rattle.linear.specs.Differences.{integers, up-mul, down-mul}
 use Rattle.linear.specs.Integers.{*ℤ-assoc, +ℤ-*ℤ}
@@ -18,9 +18,9 @@ use Rattle.linear.specs.Systems.{Solution, inner, value}
 use Rattle.linear.specs.SystemLaws.{inner-cong}
 use Rattle.definitions.specs.Tables.{frozen}
 use Rattle.laws.specs.TableLaws.{row-before, row-fits}
-use Rattle.decomposition.specs.Loops.{Loop}
+use Rattle.linear.specs.Loops.{Loop}
 use Rattle.engine_spec.specs.Done.{among, done-solved, solved-done}
-use Rattle.engine_spec.specs.Engine.{Work, combination, combined, fillTo, system, systemOf}
+use Rattle.engine_spec.specs.Engine.{Work, combination, combined, fillTo, system}
 use Rattle.engine_spec.specs.Equations.{Wanted}
 use Rattle.engine_spec.specs.Sound.{Given}
 

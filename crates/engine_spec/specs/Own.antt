@@ -1,16 +1,16 @@
 -- A run's own calls are let go on: what its calls leave is in order, whatever was handed over before. Assumes nothing.
-use mathlib.Core.Path.{_≡_, refl, sym, _∙_}
-use mathlib.Core.Bool.{Bool, true, false, not, cond, _&&_, _||_}
+use mathlib.Core.Path.{_≡_, refl}
+use mathlib.Core.Bool.{Bool, true, false, not, _&&_, _||_}
 use mathlib.Core.List.{List}
-use Prim.Native.Nat.{ℕ, zero, suc, _+_, _*_, _^_, _-_, _≤_, _<_}
+use Prim.Native.Nat.{ℕ, suc, _*_, _^_, _-_, _≤_, _<_}
 use native.Mathlib.Omega.{arith}
-use lib.Dec.{T, eqb→eq, leb, leb→le, le→leb, ltb, lt→ltb, ltb→lt, nltb→le, not-T}
+use lib.Dec.{T, leb, leb→le, le→leb, ltb, lt→ltb, ltb→lt, not-T}
 use lib.IntN.{ℤ, pos, natAbs}
 use lib.ListN.{getD, length}
-use Rattle.linear.specs.TestLaws.{T-dec, all-from, and-both, and-parts}
+use Rattle.linear.specs.TestLaws.{all-from, and-both, and-parts}
 use Rattle.linear.specs.Tests.{allTo}
 use Rattle.linear.specs.Tuples.{total}
-use Rattle.definitions.specs.Answers.{Check, _then_, go, refuse, refuseIf, refuseWith, started}
+use Rattle.definitions.specs.Answers.{Check, _then_, go, refuseIf, refuseWith}
 use Rattle.definitions.specs.Refusals.{between, stepLimit}
 use Rattle.definitions.specs.System.{mostComponent}
 use Rattle.definitions.specs.Tables.{frozen}
@@ -19,9 +19,6 @@ use Rattle.engine_spec.specs.Beside.{coefficientLimit, mostColumns, most
 use Rattle.engine_spec.specs.Calls.{
   check1,
   check2,
-  check3,
-  check4,
-  check6,
   checked,
   coefficientsSmall,
   inOrder,
@@ -37,7 +34,7 @@ use Rattle.engine_spec.specs.Engine.{Work, basisRow, systemOf}
 use Rattle.engine_spec.specs.Promise.{Runs, afterCombine, afterResume, afterStart, afterTake, lentAnew, not-false, runs-whole, started-goes}
 use Rattle.engine_spec.specs.Reduction.{isSmall}
 use Rattle.engine_spec.specs.Sound.{Given, Sound, degree-some}
-use Rattle.engine_spec.specs.Stage.{Stage, begin, row}
+use Rattle.engine_spec.specs.Stage.{Stage, row}
 use Rattle.engine_spec.specs.Whole.{Standing, Whole, between as atRest, underWay, withFresh}
 
 -- ---- tests

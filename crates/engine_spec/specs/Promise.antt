@@ -1,31 +1,29 @@
 -- What the engine promises of a run that nobody else alters, whichever equations, row operations and fresh unknowns its caller hands over: when a call says
 -- "complete", the basis holds exactly the minimal solutions of the map, each once; between two stages, those of the equations done. Assumes nothing.
 use mathlib.Core.Path.{_≡_, refl, sym, _∙_, ap}
-use mathlib.Core.Logic.{_≢_, _⊎_, inl, inr}
+use mathlib.Core.Logic.{_≢_, inl, inr}
 use mathlib.Core.Bool.{Bool, true, false, not, cond, _&&_, _||_}
 use mathlib.Core.List.{List, [], _∷_}
-use Prim.Native.Nat.{ℕ, zero, suc, _+_, _*_, _^_, _-_, _≤_, _<_}
-use native.Mathlib.Nat.{mul-le-mul-right}
+use Prim.Native.Nat.{ℕ, zero, suc, _+_, _*_, _-_, _≤_, _<_}
 use native.Mathlib.Omega.{arith}
-use lib.Dec.{T, T-not, eqb, eqb→eq, leb, leb→le, ltb, ltb→lt, lt→ltb, nltb→le, not-T}
+use lib.Dec.{T, T-not, eqb, eqb→eq, leb→le, ltb, ltb→lt, nltb→le, not-T}
 use lib.IntN.{ℤ, pos, negsuc, natAbs}
 use lib.ListN.{getD, length}
 use lib.Pow.{pow-pos}
 use Rattle.linear.specs.Cases.{below-suc, split}
 use Rattle.linear.specs.Combinations.{Enumerates}
 use Rattle.linear.specs.TestLaws.{T-dec, all-at, and-parts, count-le}
-use Rattle.linear.specs.Tests.{allTo, countTo}
+use Rattle.linear.specs.Tests.{countTo}
 use Rattle.linear.specs.TupleLaws.{term-le-total, total-same, total-unit}
 use Rattle.linear.specs.Tuples.{Same, total, unit}
-use Rattle.definitions.specs.Answers.{Answer, Check, _then_, complete, go, paused, refuse, refuseFirst, refuseIf, refuseWith, refused, started}
+use Rattle.definitions.specs.Answers.{Check, _then_, complete, go, refuse, refuseFirst, refuseIf, refuseWith, refused, started}
 use Rattle.definitions.specs.System.{coefLimit, isZero}
 use Rattle.definitions.specs.Tables.{at, frozen}
 use Rattle.laws.specs.AnswerLaws.{refuse-if-go, then-go}
 use Rattle.laws.specs.MarkLaws.{ones-frozen}
 use Rattle.laws.specs.TableLaws.{row-before, row-fits}
-use Rattle.decomposition.specs.Loops.{Loop}
-use Rattle.sweeps.specs.Pack.{pack-length, pack-row, packTo}
-use Rattle.sweeps.specs.Sweep.{sweptTo}
+use Rattle.linear.specs.Loops.{Loop}
+use Rattle.laws.specs.Pack.{pack-length, pack-row, packTo}
 use Rattle.engine_spec.specs.Beside.{coefficientLimit}
 use Rattle.engine_spec.specs.Calls.{
   check1,
@@ -62,21 +60,19 @@ use Rattle.engine_spec.specs.Engine.{
   fillTo,
   lacks,
   rested,
-  result,
   run,
   system,
   systemOf,
   taken,
   takenFresh,
 }
-use Rattle.engine_spec.specs.Equations.{Picked, is-zero, units-enumerate}
+use Rattle.engine_spec.specs.Equations.{is-zero, units-enumerate}
 use Rattle.engine_spec.specs.Fresh.{without-at, without-given, withoutAt}
 use Rattle.engine_spec.specs.Moved.{moved-given, moved-sound, withTable}
 use Rattle.engine_spec.specs.Operations.{Alike, Apart, alike-enumerates, alike-given, alike-then, combined-alike, done-alike, fill-inside, fill-length, fill-outside, value-alike}
 use Rattle.engine_spec.specs.ReductionLaws.{SameRows}
 use Rattle.engine_spec.specs.Sound.{Given}
-use Rattle.engine_spec.specs.Stage.{Stage, begin}
-use Rattle.engine_spec.specs.Whole.{Good, Standing, Whole, between, doneOf, paused-good, picked-packed, rested-good, run-good, underWay, withFresh}
+use Rattle.engine_spec.specs.Whole.{Good, Standing, Whole, between, doneOf, picked-packed, rested-good, run-good, underWay, withFresh}
 
 -- ---- what the checks say
 

@@ -14,7 +14,7 @@ use Rattle.linear.specs.Tuples.{AtOrBelow, Nonzero, Same, total}
 use Rattle.definitions.specs.System.{mostComponent}
 use Rattle.definitions.specs.Tables.{at}
 use Rattle.laws.specs.TableLaws.{write-length}
-use Rattle.decomposition.specs.Loops.{Loop}
+use Rattle.linear.specs.Loops.{Loop}
 use Rattle.engine_spec.specs.Equations.{Wanted, wanted-alike}
 use Rattle.engine_spec.specs.ReductionLaws.{append-kept, append-new, reduced-more}
 use Rattle.engine_spec.specs.Signs.{Reduced, Within, plus}

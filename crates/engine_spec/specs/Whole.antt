@@ -1,41 +1,35 @@
 -- What holds of a run between two calls, whichever equations, operations and unknowns its caller chose, and that each call keeps it. Assumes nothing.
-use mathlib.Core.Path.{_≡_, refl, sym, _∙_, ap}
-use mathlib.Core.Logic.{_≢_, inl, inr}
+use mathlib.Core.Path.{_≡_, refl}
+use mathlib.Core.Logic.{_≢_}
 use mathlib.Core.Bool.{Bool, true, false, not, cond, _&&_}
 use mathlib.Core.List.{List, []}
 use Prim.Native.Nat.{ℕ, zero, suc, _+_, _*_, _^_, _-_, _≤_, _<_}
 use native.Mathlib.Decide.{ℕ-discrete}
-use native.Mathlib.Nat.{mul-le-mul-right}
 use native.Mathlib.Omega.{arith}
-use lib.Dec.{T, T-not, eqb, eqb→eq, ltb, ltb→lt, lt→ltb, nltb→le, not-T}
+use lib.Dec.{T, eqb, eqb→eq, ltb, ltb→lt, lt→ltb, nltb→le}
 use lib.IntN.{ℤ, pos, negsuc, natAbs}
 use lib.ListN.{getD, length}
-use lib.Signed.{leZ, leZ-yes}
+use lib.Signed.{leZ-yes}
 use Rattle.linear.specs.Differences.{one-side, up, up-le}
 use Rattle.linear.specs.Systems.{value}
-use Rattle.linear.specs.TestLaws.{T-dec, all-at, count-le}
+use Rattle.linear.specs.TestLaws.{all-at}
 use Rattle.linear.specs.Tests.{countTo}
-use Rattle.linear.specs.TupleLaws.{term-le-total, total-same, total-unit}
-use Rattle.linear.specs.Tuples.{Same, total, unit}
 use Rattle.definitions.specs.Answers.{Answer, complete, paused, refused}
 use Rattle.definitions.specs.Refusals.{stepLimit}
 use Rattle.definitions.specs.System.{mostComponent}
 use Rattle.definitions.specs.Tables.{at, frozen}
-use Rattle.laws.specs.MarkLaws.{bit-add-fits, free-bit, ones-frozen}
-use Rattle.sweeps.specs.Pack.{pack-length, pack-row, packTo}
+use Rattle.laws.specs.MarkLaws.{bit-add-fits, free-bit}
+use Rattle.laws.specs.Pack.{pack-length, pack-row, packTo}
 use Rattle.engine_spec.specs.Beside.{coefficientLimit}
 use Rattle.engine_spec.specs.Counts.{Timed, turn-timed}
-use Rattle.engine_spec.specs.Done.{all-done, among, done-extends, none-asks}
-use Rattle.engine_spec.specs.Ends.{Ended, Fine, Fit, begin-sound, picked-from, stage-given, turn-fine}
+use Rattle.engine_spec.specs.Done.{among, done-extends}
+use Rattle.engine_spec.specs.Ends.{Ended, Fine, picked-from, stage-given, turn-fine}
 use Rattle.engine_spec.specs.Engine.{
   Result,
   Work,
   after,
   allDone,
-  always,
   basisRow,
-  begun,
-  combined,
   equationOf,
   finish,
   finished,
@@ -43,20 +37,17 @@ use Rattle.engine_spec.specs.Engine.{
   left,
   onward,
   rested,
-  resting,
   result,
   run,
   stays,
   system,
-  taken,
-  takenFresh,
   valuesSmall,
 }
-use Rattle.engine_spec.specs.Equations.{Picked, units-enumerate, zeroRow}
-use Rattle.engine_spec.specs.Fresh.{filled, fresh-loops, notBelow, put-other, put-same, without-at, without-given, withoutAt}
-use Rattle.engine_spec.specs.Operations.{Alike, Apart, alike-enumerates, alike-given, alike-then, combined-alike, done-alike, fill-inside, fill-length}
+use Rattle.engine_spec.specs.Equations.{Picked, zeroRow}
+use Rattle.engine_spec.specs.Fresh.{filled, fresh-loops, notBelow, put-other, put-same, without-at, withoutAt}
+use Rattle.engine_spec.specs.Operations.{Alike}
 use Rattle.engine_spec.specs.Sound.{Given, Sound}
-use Rattle.engine_spec.specs.Stage.{Stage, Turned, begin, ends, goes, row, stops, turn}
+use Rattle.engine_spec.specs.Stage.{Stage, Turned, ends, goes, row, stops, turn}
 
 -- rows that a test picks, written one behind the other from the first on
 pub picked-packed : (q n most : ℕ) (table : List ℕ) (f : ℕ → Bool) (row : ℕ → ℕ → ℕ) → most * q ≤ length table → countTo n f ≤ most

@@ -1,14 +1,12 @@
 -- The loop over turns, and what it leaves. Assumes nothing.
-use mathlib.Core.Path.{_≡_, refl, sym, _∙_}
+use mathlib.Core.Path.{_≡_, refl, _∙_}
 use mathlib.Core.List.{List, []}
-use Prim.Native.Nat.{ℕ, zero, suc, _+_, _-_, _≤_, _<_}
-use native.Mathlib.Numerals.{add-one}
+use Prim.Native.Nat.{ℕ, suc, _-_, _≤_, _<_}
 use native.Mathlib.Omega.{arith}
-use lib.IntN.{ℤ, pos}
 use lib.ListN.{length}
 use Rattle.definitions.specs.Answers.{Answer, complete, paused, refused}
 use Rattle.definitions.specs.Tables.{at}
-use Rattle.engine_spec.specs.Stage.{Outcome, Stage, Turned, after, ends, goes, outcome, run, stops, turn}
+use Rattle.engine_spec.specs.Stage.{Outcome, Turned, after, ends, outcome, run, stops}
 use Rattle.engine_beside.specs.Writing.{Kept}
 use Rattle.engine_stage.specs.Standing.{Beyond, Gone, Left, Lent, Ready, Sides, Still, beyond-none, equation, stageOf, turnOf}
 use Rattle.engine_stage.specs.declared.stages.Ending.{Ending}

@@ -1,12 +1,11 @@
 -- What code has of a stage, and what a turn leaves. Assumes nothing.
-use mathlib.Core.Path.{_≡_, refl, sym, _∙_, ap}
+use mathlib.Core.Path.{_≡_, sym}
 use mathlib.Core.Logic.{inl, inr}
 use mathlib.Core.Bool.{Bool, true, false}
 use mathlib.Core.List.{List}
 use Prim.Native.Nat.{ℕ, _+_, _*_, _≤_, _<_}
 use native.Mathlib.Omega.{arith}
-use lib.Dec.{T}
-use lib.IntN.{ℤ, pos, natAbs}
+use lib.IntN.{ℤ, pos}
 use lib.ListN.{getD, length, length-set, set}
 use lib.Seq.{getD-set-other, getD-set-same}
 use Rattle.linear.specs.Cases.{split}
@@ -16,7 +15,7 @@ use Rattle.definitions.specs.Refusals.{stepLimit}
 use Rattle.definitions.specs.System.{mostComponent}
 use Rattle.definitions.specs.Tables.{at, writeTo}
 use Rattle.laws.specs.TableLaws.{row-fits, write-length}
-use Rattle.engine_spec.specs.Beside.{AllMarked, Measured, SmallEquation, SmallTable, Valued, Worded, equationAt, mostColumns, noMark, wordOf}
+use Rattle.engine_spec.specs.Beside.{AllMarked, Measured, SmallEquation, SmallTable, Valued, Worded, equationAt, noMark, wordOf}
 use Rattle.engine_spec.specs.Marks.{Marked, marked-more}
 use Rattle.engine_spec.specs.ReductionLaws.{append-kept, append-new}
 use Rattle.engine_spec.specs.Stage.{Stage, Turned, dueRow, ends, goes, stops, turn}

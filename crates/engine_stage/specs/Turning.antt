@@ -1,6 +1,6 @@
 -- What each way through a turn leaves. Assumes nothing.
-use mathlib.Core.Path.{_≡_, refl, sym, _∙_, ap}
-use mathlib.Core.Bool.{Bool, true, false, cond}
+use mathlib.Core.Path.{_≡_, refl, sym, _∙_}
+use mathlib.Core.Bool.{true, false}
 use mathlib.Core.List.{List}
 use Prim.Native.Nat.{ℕ, _+_, _*_, _≤_, _<_}
 use native.Mathlib.Omega.{arith}
@@ -51,9 +51,7 @@ use Rattle.engine_rows.specs.Marking.{valued-bounded}
 use Rattle.engine_stage.specs.Appended.{PairAppended, PairFits, Room, RowAppended}
 use Rattle.engine_stage.specs.Marked.{Paired, fails, holds, mark-is, markOf, sum-is, testOf, true-is}
 use Rattle.engine_stage.specs.Standing.{
-  Beyond,
   Gone,
-  Left,
   Lent,
   Ready,
   Sides,
@@ -72,7 +70,6 @@ use Rattle.engine_stage.specs.Standing.{
 }
 use Rattle.engine_stage.specs.declared.turns.Frame.{Frame}
 use Rattle.engine_stage.specs.declared.turns.Next.{Next}
-use Rattle.engine_stage.specs.declared.turns.Turned.the-variants.{Ends, Full, Goes, Large, Late}
 
 -- ---- tests
 

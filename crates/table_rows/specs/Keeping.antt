@@ -16,9 +16,9 @@ use Rattle.linear.specs.Tests.{anyTo, countTo}
 use Rattle.definitions.specs.System.{isAtOrBelow}
 use Rattle.definitions.specs.Tables.{at, writeTo}
 use Rattle.laws.specs.TableLaws.{row-fits, write-next, write-outside, write-same}
-use Rattle.sweeps.specs.Pack.{pack-length, packTo}
-use Rattle.sweeps.specs.Sweep.{keeps, sweptTo}
-use Rattle.sweeps.specs.SweepTable.{staysHere, swept-ahead, sweep-test}
+use Rattle.laws.specs.Pack.{pack-length, packTo}
+use Rattle.laws.specs.Sweep.{keeps, sweptTo}
+use Rattle.laws.specs.SweepTable.{staysHere, swept-ahead, sweep-test}
 use Rattle.table_rows.specs.Small.{rowAt}
 
 -- of the first n rows, those that `stay` picks stand one behind the other, and there are `count` of them

@@ -3,8 +3,8 @@ ghost use mathlib.Core.Path.{_≡_};
 ghost use Prim.Native.Nat.{_*_, _≤_, _<_};
 ghost use lib.ListN.{length};
 ghost use Rattle.definitions.specs.Tables.{at};
-ghost use Rattle.sweeps.specs.Sweep.{keeps};
-ghost use Rattle.sweeps.specs.SweepTable.{staysHere};
+ghost use Rattle.laws.specs.Sweep.{keeps};
+ghost use Rattle.laws.specs.SweepTable.{staysHere};
 ghost use Rattle.table_rows.specs.Keeping.{Kept};
 use crate::rows;
 

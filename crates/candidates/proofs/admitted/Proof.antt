@@ -1,14 +1,11 @@
 -- `admitted` meets its contract: of a plain walk all candidates are put to the first list. Assumes nothing.
-use mathlib.Core.Path.{_≡_, _∙_, ap}
+use mathlib.Core.Path.{_∙_, ap}
 use mathlib.Core.List.{[]}
-use native.Mathlib.Omega.{arith}
 use lib.ListN.{length}
 use denote.Ref.{now}
 use borrow.Author.Needs.{needs}
-use Rattle.definitions.specs.Input.{boundOf}
-use Rattle.definitions.specs.System.{above, capped, plain}
+use Rattle.definitions.specs.System.{plain}
 use Rattle.lists.specs.Rows.{rows-fit, tuple}
-use Rattle.candidates.specs.GrowLaws.{open-asked}
 use Rattle.candidates.specs.Kinds.{asked}
 use Rattle.candidates.specs.Open.{open-plain}
 use Rattle.candidates.specs.Tried.{tried-open}

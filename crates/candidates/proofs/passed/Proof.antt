@@ -1,5 +1,5 @@
 -- `passed` meets its contract. Assumes nothing.
-use mathlib.Core.Path.{_≡_, sym, _∙_, ap, subst}
+use mathlib.Core.Path.{sym, _∙_, ap, subst}
 use Prim.Native.Nat.{_^_, _<_}
 use lib.ListN.{length}
 use borrow.Author.Needs.{needs}

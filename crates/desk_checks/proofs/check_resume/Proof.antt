@@ -8,7 +8,7 @@ use Rattle.calls.specs.Paper as paper
 use Rattle.calls.specs.Paper.{stateOf}
 use Rattle.desk_calls.specs.Calls.{deskOf}
 use Rattle.desk_checks.specs.Shape.{handed-by, rows-fit, shape-fits, shape-passed, shape-refused, six-passed, six-refused}
-use Rattle.desk_form.specs.Desks.{deskInOrder, deskResumeChecks, deskRowInOrder, generatorsInOrder}
+use Rattle.desk_spec.specs.Desks.{deskInOrder, deskResumeChecks, deskRowInOrder, generatorsInOrder}
 use Rattle.desk_checks.proofs.check_resume.Statement.{statement}
 use Rattle.desk_checks.proofs.check_resume.Tie as tie
 

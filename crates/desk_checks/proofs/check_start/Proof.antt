@@ -7,7 +7,7 @@ use Rattle.calls.specs.Paper as paper
 use Rattle.calls.specs.Paper.{stateOf}
 use Rattle.desk_calls.specs.Calls.{deskOf}
 use Rattle.desk_checks.specs.Shape.{handed-by, shape-fits, shape-passed, shape-refused, six-passed, six-refused}
-use Rattle.desk_form.specs.Desks.{deskStartChecks, generatorsInOrder}
+use Rattle.desk_spec.specs.Desks.{deskStartChecks, generatorsInOrder}
 use Rattle.desk_checks.proofs.check_start.Statement.{statement}
 use Rattle.desk_checks.proofs.check_start.Tie as tie
 

@@ -1,6 +1,6 @@
 -- `walk` meets its contract. The walk from the first state is, at each turn, the walk from the state reached with the budget left. The measure is that budget.
 -- Assumes nothing.
-use Prim.Native.Nat.{ℕ, _-_, _<_}
+use Prim.Native.Nat.{ℕ, _<_}
 use borrow.Author.Needs.{needs}
 use denote.Ref.{now}
 use lib.ListN.{length}
@@ -10,7 +10,7 @@ use native.Mathlib.Nat.{div-mul-le-self}
 use native.Mathlib.Omega.{arith}
 use Rattle.definitions.specs.Answers.{complete}
 use Rattle.desk_calls.specs.Calls.{deskOf}
-use Rattle.desk_form.specs.Desks.{Desk}
+use Rattle.desk_spec.specs.Desks.{Desk}
 use Rattle.desk_rows.specs.Images.{Images}
 use Rattle.desk_walk.specs.Taking.{shaped-small, stateAt}
 use Rattle.desk_walk.specs.Turning.{deeper, found-place, held-small, images-stay, standing, top-row, turn-grown, turn-listed, turn-refused}

@@ -1,8 +1,6 @@
 -- `resume` meets its contract: the check decides, and the turns do the rest. Assumes nothing.
 use denote.Ref.{now}
-use Rattle.engine_calls.specs.Records.{besideOf}
 use Rattle.engine_stage.specs.Standing.{sidesOf}
-use lib.ListN.{length}
 use Rattle.engine_resume.specs.Continuing.{resume-enters, resume-ran, resume-refused, resume-rested, resume-roomed, resume-stands}
 use borrow.Author.Needs.{needs}
 use Rattle.engine_resume.proofs.resume.Statement.{statement}

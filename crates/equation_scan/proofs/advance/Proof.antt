@@ -4,7 +4,7 @@ use mathlib.Core.Path.{_≡_, sym, _∙_}
 use native.Mathlib.Omega.{arith}
 use borrow.Author.Tests.{ne-eqb}
 use Rattle.texts.specs.Reading.{digit}
-use Rattle.equation_form.specs.Scan.{step}
+use Rattle.equation_spec.specs.Scan.{step}
 use Rattle.equation_scan.specs.ScanSteps.{number-any}
 use borrow.Author.Needs.{needs}
 use Rattle.equation_scan.proofs.advance.Statement.{statement}

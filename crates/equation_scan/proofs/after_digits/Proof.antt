@@ -1,5 +1,5 @@
 -- `equation_scan::after_digits` meets its contract. Assumes nothing.
-use Rattle.equation_form.specs.Scan.{afterDigits}
+use Rattle.equation_spec.specs.Scan.{afterDigits}
 use borrow.Author.Tests.{ne-eqb}
 use borrow.Author.Needs.{needs}
 use Rattle.equation_scan.proofs.after_digits.Statement.{statement}

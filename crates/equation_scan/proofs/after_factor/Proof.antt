@@ -1,5 +1,5 @@
 -- `equation_scan::after_factor` meets its contract. Assumes nothing.
-use Rattle.equation_form.specs.Scan.{afterFactor}
+use Rattle.equation_spec.specs.Scan.{afterFactor}
 use borrow.Author.Tests.{ne-eqb}
 use borrow.Author.Needs.{needs}
 use Rattle.equation_scan.proofs.after_factor.Statement.{statement}

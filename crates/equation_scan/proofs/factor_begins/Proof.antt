@@ -1,6 +1,6 @@
 -- `equation_scan::factor_begins` meets its contract. Assumes nothing.
 use native.Mathlib.Numerals.{add-one}
-use Rattle.equation_form.specs.Scan.{factorBegins}
+use Rattle.equation_spec.specs.Scan.{factorBegins}
 use borrow.Author.Tests.{ne-eqb}
 use borrow.Author.Needs.{needs}
 use Rattle.equation_scan.proofs.factor_begins.Statement.{statement}

@@ -1,5 +1,5 @@
 -- `equation_scan::onward` meets its contract. Assumes nothing.
-use Rattle.equation_form.specs.Scan.{onward as onwardStep}
+use Rattle.equation_spec.specs.Scan.{onward as onwardStep}
 use Rattle.equation_scan.specs.ScanSteps.{close-none, close-some, onward-other, equals-open, equals-right, equals-first}
 use borrow.Author.Needs.{needs}
 use Rattle.equation_scan.proofs.onward.Statement.{statement}

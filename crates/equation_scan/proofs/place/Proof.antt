@@ -6,7 +6,7 @@ use native.Mathlib.Omega.{arith}
 use lib.ListN.{length, getD, drop}
 use denote.Ref.{now}
 use borrow.Author.Needs.{needs}
-use Rattle.equation_form.specs.Scan.{placeFrom, place}
+use Rattle.equation_spec.specs.Scan.{placeFrom, place}
 use Rattle.equation_scan.specs.Phases.{phaseOf}
 use Rattle.equation_scan.specs.ScanSteps.{at-fault, at-step, at-end, opened-most}
 use Rattle.equation_scan.proofs.place.Statement.{statement}

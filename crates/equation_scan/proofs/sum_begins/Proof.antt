@@ -1,5 +1,5 @@
 -- `equation_scan::sum_begins` meets its contract. Assumes nothing.
-use Rattle.equation_form.specs.Scan.{sumBegins}
+use Rattle.equation_spec.specs.Scan.{sumBegins}
 use borrow.Author.Tests.{ne-eqb}
 use borrow.Author.Needs.{needs}
 use Rattle.equation_scan.proofs.sum_begins.Statement.{statement}

@@ -1,6 +1,6 @@
 -- `equation_scan::term_begins` meets its contract. Assumes nothing.
 use mathlib.Core.Path.{sym, _∙_}
-use Rattle.equation_form.specs.Scan.{termBegins}
+use Rattle.equation_spec.specs.Scan.{termBegins}
 use borrow.Author.Tests.{not-true, not-false}
 use Rattle.equation_scan.specs.ScanSteps.{number-first}
 use borrow.Author.Needs.{needs}

@@ -4,7 +4,7 @@ use denote.Ref.{now}
 use mir.Facts.{toZ-ofZ}
 use borrow.Author.Needs.{needs}
 use Rattle.texts.specs.Put.{put-then}
-use Rattle.equation_form.specs.Writing.{written}
+use Rattle.equation_spec.specs.Writing.{written}
 use Rattle.equation_write.specs.CallLaws.{sides-short}
 use Rattle.equation_write.proofs.sides.Statement.{statement}
 use Rattle.equation_write.proofs.sides.Tie as tie

@@ -7,7 +7,7 @@ use mir.Syntax.{w32}
 use mir.Val.{ofZ, toZ}
 use mir.Facts.{toZ-ofZ}
 use Rattle.texts.specs.Put.{put-then}
-use Rattle.equation_laws.specs.WriteLaws.{multiple-short}
+use Rattle.equation_spec.specs.WriteLaws.{multiple-short}
 use Rattle.equation_write.specs.TextLaws.{lead-short, negative-is}
 use borrow.Author.Needs.{needs}
 use Rattle.equation_write.proofs.term.Statement.{statement}

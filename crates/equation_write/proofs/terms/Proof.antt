@@ -12,7 +12,7 @@ use native.Mathlib.Omega.{arith}
 use lib.ListN.{length, drop, getD}
 use denote.Ref.{now}
 use borrow.Author.Needs.{needs}
-use Rattle.equation_form.specs.Writing.{terms}
+use Rattle.equation_spec.specs.Writing.{terms}
 use Rattle.equation_write.specs.Texts.{restText}
 use Rattle.equation_write.proofs.terms.Statement.{statement}
 use Rattle.equation_write.proofs.terms.Tie as tie

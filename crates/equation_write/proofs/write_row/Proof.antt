@@ -10,7 +10,7 @@ use borrow.Author.Needs.{needs}
 use borrow.Author.Tests.{ltb-false}
 use Rattle.definitions.specs.System.{coefLimit}
 use Rattle.definitions.specs.Refusals.{outOfRange}
-use Rattle.equation_form.specs.Writing.{written}
+use Rattle.equation_spec.specs.Writing.{written}
 use Rattle.equation_write.specs.CallLaws.{right-out, right-in}
 use Rattle.equation_write.proofs.write_row.Statement.{statement}
 use Rattle.equation_write.proofs.write_row.Tie as tie

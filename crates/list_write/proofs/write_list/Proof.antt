@@ -1,7 +1,7 @@
 -- `list_write::write_list` meets its contract: refused with nothing written, or all written. Assumes nothing.
 use denote.Ref.{now}
 use borrow.Author.Needs.{needs}
-use Rattle.list_form.specs.Form.{ListFile}
+use Rattle.list_spec.specs.Form.{ListFile}
 use Rattle.list_write.specs.Answer.{listOf}
 use Rattle.list_write.specs.CallLaws.{write-refused, write-done, writable}
 use Rattle.list_write.proofs.write_list.Statement.{statement}

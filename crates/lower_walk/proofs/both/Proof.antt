@@ -8,13 +8,12 @@ use denote.Ref.{now}
 use borrow.Author.Needs.{needs}
 use Rattle.definitions.specs.Answers as paper
 use Rattle.definitions.specs.Calls.{machineFrom, machineOf}
-use Rattle.definitions.specs.Input.{Input, alone, boundOf, inputWith, limitOf}
+use Rattle.definitions.specs.Input.{Input, alone, inputWith, limitOf}
 use Rattle.definitions.specs.Machine.{Outcome, walk}
 use Rattle.definitions.specs.System.{plain}
-use Rattle.definitions.specs.Tables.{State, lowered, wholeOf}
+use Rattle.definitions.specs.Tables.{State, lowered}
 use Rattle.laws.specs.LowerLaws.{ValidFrom, plain-valid}
 use Rattle.calls.specs.Paper.{answerOf, kindOf, stateWith, systemWith}
-use Rattle.calls.specs.declared.Answer.{Answer}
 use Rattle.lower_walk.specs.Lower.{change-made, change-valid, changed-walk, ended-by, first-row, plainly, steps-more}
 use Rattle.lower_walk.proofs.both.Statement.{statement}
 use Rattle.lower_walk.proofs.both.Tie as tie

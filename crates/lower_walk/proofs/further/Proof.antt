@@ -1,5 +1,5 @@
 -- `lower_walk::further` meets its contract: the walk above the bound, under the limit that counts. Assumes nothing.
-use mathlib.Core.Path.{_≡_, sym, _∙_, ap}
+use mathlib.Core.Path.{sym, _∙_, ap}
 use native.Mathlib.Omega.{arith}
 use denote.Ref.{now}
 use borrow.Author.Needs.{needs}
@@ -11,7 +11,6 @@ use Rattle.definitions.specs.System.{above}
 use Rattle.definitions.specs.Tables.{State}
 use Rattle.laws.specs.LowerLaws.{above-valid}
 use Rattle.laws.specs.LowerWalk.{above-walks}
-use Rattle.laws.specs.RefusalLaws.{Valid}
 use Rattle.calls.specs.Paper.{stateWith, systemWith}
 use Rattle.lower_walk.proofs.further.Statement.{statement}
 use Rattle.lower_walk.proofs.further.Tie as tie

@@ -1,6 +1,5 @@
 -- `lower_walk::walks` meets its contract: the kind of the run says which walk is under way. Assumes nothing.
-use mathlib.Core.Path.{_≡_, sym, _∙_}
-use native.Mathlib.Omega.{arith}
+use mathlib.Core.Path.{sym, _∙_}
 use denote.Ref.{now}
 use borrow.Author.Needs.{needs}
 use Rattle.definitions.specs.Input.{alone, inputWith}

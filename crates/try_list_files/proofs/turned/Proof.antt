@@ -1,6 +1,5 @@
 -- `turned` is safe and ends: it passes over the bits, one a turn. Assumes nothing.
 use Prim.Native.Nat.{_≤_, _-_}
-use native.Mathlib.Omega.{arith}
 use borrow.Author.Needs.{needs}
 use Rattle.try_list_files.proofs.turned.Statement.{statement}
 use Rattle.try_list_files.proofs.turned.Tie as tie

@@ -1,7 +1,5 @@
 -- `resumed_capped` meets its contract: the walk goes through the extended system. Assumes nothing.
-use mathlib.Core.Path.{_≡_, refl, sym, subst, _∙_, ap}
-use Prim.Native.Nat.{_+_, _*_}
-use native.Mathlib.Nat.{mul-le-mul-right}
+use mathlib.Core.Path.{refl, sym, subst, _∙_, ap}
 use native.Mathlib.Omega.{arith}
 use borrow.Author.Needs.{needs}
 use lib.ListN.{length-take}

@@ -2,7 +2,7 @@
 use mathlib.Core.Path.{_∙_, sym, ap}
 use borrow.Author.Needs.{needs}
 use Rattle.engine_calls.specs.Records.{answerOf}
-use Rattle.record_words.specs.Codes.{code}
+use Rattle.c_record.specs.Codes.{code}
 use Rattle.c_engine.proofs.answers.number.Statement.{statement}
 use Rattle.c_engine.proofs.answers.number.Tie as tie
 

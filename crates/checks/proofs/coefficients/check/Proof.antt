@@ -1,5 +1,5 @@
 -- `checks::coefficients::check` meets its contract. Assumes nothing.
-use mathlib.Core.Path.{_≡_, sym}
+use mathlib.Core.Path.{sym}
 use native.Mathlib.Nat.{le-antisymm}
 use borrow.Author.Needs.{needs}
 use Rattle.laws.specs.AnswerLaws.{refuse-at}

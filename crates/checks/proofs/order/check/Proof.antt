@@ -8,7 +8,7 @@ use Rattle.definitions.specs.Input.{alone, inputWith, limitOf, systemOf}
 use Rattle.definitions.specs.Refusals.{inOrder, check7}
 use Rattle.definitions.specs.Tables.{plainRun}
 use Rattle.calls.specs.Paper.{runOf, stateOf}
-use Rattle.orders.specs.Order.{order-plain, recordFits}
+use Rattle.record_order.specs.Order.{order-plain, recordFits}
 use Rattle.checks.proofs.order.check.Statement.{statement}
 use Rattle.checks.proofs.order.check.Tie as tie
 

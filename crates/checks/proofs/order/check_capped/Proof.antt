@@ -9,7 +9,7 @@ use Rattle.definitions.specs.Input.{limitOf}
 use Rattle.definitions.specs.Refusals.{check7}
 use Rattle.definitions.specs.Tables.{cappedRun}
 use Rattle.calls.specs.Paper.{runOf, stateWith}
-use Rattle.orders.specs.Order.{capped-after, capped-first, capped-second, record-height, recordFits}
+use Rattle.record_order.specs.Order.{capped-after, capped-first, capped-second, record-height, recordFits}
 use Rattle.checks.proofs.order.check_capped.Statement.{statement}
 use Rattle.checks.proofs.order.check_capped.Tie as tie
 

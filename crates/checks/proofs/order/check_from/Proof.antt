@@ -7,7 +7,7 @@ use borrow.Author.Needs.{needs}
 use borrow.Author.Tests.{eq-eqb, ne-eqb}
 use Rattle.definitions.specs.Input.{limitOf}
 use Rattle.calls.specs.Paper.{kindOf, runOf, stateWith}
-use Rattle.orders.specs.Order.{lower-after, lower-first, lower-second, lowerFits}
+use Rattle.record_order.specs.Order.{lower-after, lower-first, lower-second, lowerFits}
 use Rattle.checks.proofs.order.check_from.Statement.{statement}
 use Rattle.checks.proofs.order.check_from.Tie as tie
 

@@ -5,7 +5,7 @@ use borrow.Author.Tests.{le-leb, lt-leb, not-false, not-true}
 use mathlib.Core.Path.{sym, _∙_}
 use native.Mathlib.Nat.{mul-le-mul-right}
 use native.Mathlib.Omega.{arith}
-use Rattle.desk_form.specs.Desks.{deskInOrder}
+use Rattle.desk_spec.specs.Desks.{deskInOrder}
 use Rattle.desk_checks.proofs.order.in_order.Statement.{statement}
 use Rattle.desk_checks.proofs.order.in_order.Tie as tie
 

@@ -2,7 +2,7 @@
 use borrow.Author.Needs.{needs}
 use borrow.Author.Tests.{not-false, not-true}
 use mathlib.Core.Path.{sym, _∙_}
-use Rattle.desk_form.specs.Desks.{deskRowInOrder}
+use Rattle.desk_spec.specs.Desks.{deskRowInOrder}
 use Rattle.desk_checks.proofs.order.row_in_order.Statement.{statement}
 use Rattle.desk_checks.proofs.order.row_in_order.Tie as tie
 

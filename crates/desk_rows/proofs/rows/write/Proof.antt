@@ -5,7 +5,7 @@ use denote.Ref.{now}
 use lib.ListN.{length, length-set, set}
 use mathlib.Core.Path.{_∙_, ap}
 use native.Mathlib.Omega.{arith}
-use Rattle.desk_form.specs.Desks.{word}
+use Rattle.desk_spec.specs.Desks.{word}
 use Rattle.desk_rows.specs.Rows.{row-numbers}
 use Rattle.laws.specs.TableLaws.{write-length}
 use Rattle.lists.specs.Rows.{tuple}

@@ -1,7 +1,6 @@
 -- `standing::check_combine` meets its contract: the first check that refuses decides. Assumes nothing.
 use mathlib.Core.Path.{sym, _∙_, ap}
-use native.Mathlib.Omega.{arith}
-use borrow.Author.Tests.{eq-eqb, le-ltb, lt-ltb, ne-eqb, not-false, not-true}
+use borrow.Author.Tests.{le-ltb, lt-ltb, not-false, not-true}
 use denote.Ref.{now}
 use Rattle.engine_calls.specs.Records.{checkOf, workOf}
 use mir.Facts.{toZ-ofZ}

@@ -1,11 +1,8 @@
 -- `standing::check_take` meets its contract: the first check that refuses decides. Assumes nothing.
 use mathlib.Core.Path.{sym, _∙_, ap}
-use native.Mathlib.Omega.{arith}
-use borrow.Author.Tests.{eq-eqb, le-ltb, lt-ltb, ne-eqb, not-false, not-true}
+use borrow.Author.Tests.{eq-eqb, ne-eqb, not-false, not-true}
 use denote.Ref.{now}
 use Rattle.engine_calls.specs.Records.{checkOf, workOf}
-use lib.Dec.{ltb, ltb→lt}
-use Rattle.linear.specs.TestLaws.{and-parts}
 use Rattle.engine_spec.specs.Calls.{isFresh, isLeft, takeChecks}
 use Rattle.engine_checks.specs.Standing.{first-passes, first-refuses, fresh-asked, last-passes, last-refuses, left-below, none-asked, standing-passed, standing-refused, stands}
 use Rattle.engine_checks.specs.Taking.{freeIn}

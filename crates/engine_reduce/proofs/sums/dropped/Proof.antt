@@ -2,7 +2,6 @@
 use Prim.Native.Nat.{_≤_, _-_}
 use mir.Facts.{toZ-ofZ}
 use Rattle.engine_reduce.specs.Sums.{never}
-use native.Mathlib.Omega.{arith}
 use borrow.Author.Needs.{needs}
 use Rattle.engine_reduce.proofs.sums.dropped.Statement.{statement}
 use Rattle.engine_reduce.proofs.sums.dropped.Tie as tie

@@ -1,5 +1,4 @@
 use mir.Facts.{toZ-ofZ}
-use native.Mathlib.Omega.{arith}
 use borrow.Author.Needs.{needs}
 use Rattle.engine_reduce.proofs.sums.known.Statement.{statement}
 use Rattle.engine_reduce.proofs.sums.known.Tie as tie

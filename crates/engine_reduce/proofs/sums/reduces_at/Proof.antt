@@ -1,5 +1,4 @@
 -- `reduces_at` is the test of one row. Assumes nothing.
-use mathlib.Core.Path.{sym, _∙_}
 use borrow.Author.Needs.{sfits-of}
 use denote.Ref.{now}
 use mir.Facts.{toZ-ofZ}

@@ -1,7 +1,6 @@
 -- `reducible` is the test: a yes by what is remembered names a row, and all rows are looked at before a no. Assumes nothing.
 use mathlib.Core.Path.{sym}
 use mir.Facts.{toZ-ofZ}
-use native.Mathlib.Omega.{arith}
 use borrow.Author.Needs.{needs}
 use Rattle.engine_reduce.proofs.sums.reducible.Statement.{statement}
 use Rattle.engine_reduce.proofs.sums.reducible.Tie as tie

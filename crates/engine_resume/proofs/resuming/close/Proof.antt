@@ -1,5 +1,5 @@
 -- `resuming::close` meets its contract: how the turns ended decides. Assumes nothing.
-use mathlib.Core.Path.{refl, _∙_}
+use mathlib.Core.Path.{refl}
 use Rattle.engine_resume.specs.EngineLaws.{ended}
 use borrow.Author.Needs.{needs}
 use Rattle.engine_resume.proofs.resuming.close.Statement.{statement}

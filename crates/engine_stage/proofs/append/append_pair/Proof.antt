@@ -2,7 +2,7 @@ use denote.Ref.{now}
 use lib.ListN.{set}
 use Rattle.engine_reduce.specs.Sums.{integerAt}
 -- `append_pair` writes row n and what stands beside it. Assumes nothing.
-use mathlib.Core.Path.{refl, sym, _∙_, ap}
+use mathlib.Core.Path.{refl, ap}
 use mir.Facts.{toZ-ofZ}
 use Rattle.laws.specs.TableLaws.{row-fits}
 use Rattle.engine_beside.specs.Small.{sum-fits}

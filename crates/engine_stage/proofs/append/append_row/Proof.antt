@@ -1,8 +1,7 @@
 use denote.Ref.{now}
 use lib.ListN.{set}
 -- `append_row` writes row n and what stands beside it. Assumes nothing.
-use mathlib.Core.Path.{refl, sym, _∙_, ap}
-use mir.Facts.{toZ-ofZ}
+use mathlib.Core.Path.{refl, ap}
 use Rattle.engine_beside.specs.Small.{value-back}
 use native.Mathlib.Omega.{arith}
 use borrow.Author.Needs.{needs}

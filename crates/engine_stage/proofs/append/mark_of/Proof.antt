@@ -2,7 +2,6 @@
 use mathlib.Core.Path.{sym, _∙_}
 use mir.Facts.{toZ-ofZ}
 use Rattle.engine_stage.specs.Marked.{mark-above, mark-below, mark-none}
-use native.Mathlib.Omega.{arith}
 use borrow.Author.Needs.{needs}
 use Rattle.engine_stage.proofs.append.mark_of.Statement.{statement}
 use Rattle.engine_stage.proofs.append.mark_of.Tie as tie

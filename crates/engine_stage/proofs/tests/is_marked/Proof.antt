@@ -1,8 +1,7 @@
 use borrow.Author.Tests.{le-leb, lt-leb}
-use mathlib.Core.Path.{sym, _∙_}
+use mathlib.Core.Path.{sym}
 use mir.Facts.{toZ-ofZ}
 use Rattle.engine_stage.specs.Marked.{by-lower, by-upper}
-use native.Mathlib.Omega.{arith}
 use borrow.Author.Needs.{needs}
 use Rattle.engine_stage.proofs.tests.is_marked.Statement.{statement}
 use Rattle.engine_stage.proofs.tests.is_marked.Tie as tie

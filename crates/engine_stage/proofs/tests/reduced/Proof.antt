@@ -5,7 +5,6 @@ use mathlib.Core.Path.{refl, sym, _∙_}
 use mir.Facts.{toZ-ofZ}
 use Rattle.engine_beside.specs.Small.{sum-fits}
 use Rattle.engine_stage.specs.Marked.{back, marked-yes, tested}
-use native.Mathlib.Omega.{arith}
 use borrow.Author.Needs.{needs}
 use Rattle.engine_stage.proofs.tests.reduced.Statement.{statement}
 use Rattle.engine_stage.proofs.tests.reduced.Tie as tie

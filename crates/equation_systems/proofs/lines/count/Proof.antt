@@ -5,7 +5,7 @@ use native.Mathlib.Omega.{arith}
 use lib.ListN.{length, drop}
 use denote.Ref.{now}
 use borrow.Author.Needs.{needs}
-use Rattle.equation_lines.specs.Lines.{lineCount}
+use Rattle.equation_spec.specs.Lines.{lineCount}
 use Rattle.equation_systems.specs.LineLaws.{count-end, next-newline, next-other}
 use Rattle.equation_systems.proofs.lines.count.Statement.{statement}
 use Rattle.equation_systems.proofs.lines.count.Tie as tie

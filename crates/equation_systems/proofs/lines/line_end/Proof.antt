@@ -5,7 +5,7 @@ use native.Mathlib.Omega.{arith}
 use lib.ListN.{length, drop}
 use denote.Ref.{now}
 use borrow.Author.Needs.{needs}
-use Rattle.equation_lines.specs.Lines.{lineLength}
+use Rattle.equation_spec.specs.Lines.{lineLength}
 use Rattle.equation_systems.specs.LineLaws.{at-newline, at-other, at-end}
 use Rattle.equation_systems.proofs.lines.line_end.Statement.{statement}
 use Rattle.equation_systems.proofs.lines.line_end.Tie as tie

@@ -8,7 +8,7 @@ use native.Mathlib.Omega.{arith}
 use lib.ListN.{length, drop, take}
 use denote.Ref.{now}
 use borrow.Author.Needs.{needs}
-use Rattle.equation_lines.specs.Systems.{readLines}
+use Rattle.equation_spec.specs.Systems.{readLines}
 use Rattle.equation_systems.specs.RowLaws.{row-inside, lines-unended, lines-refused, lines-read, lines-end}
 use Rattle.equation_systems.proofs.lines.read_lines.Statement.{statement}
 use Rattle.equation_systems.proofs.lines.read_lines.Tie as tie

@@ -9,7 +9,7 @@ use mir.Facts.{toZ-ofZ}
 use mir.Syntax.{w32}
 use borrow.Author.Needs.{needs}
 use Rattle.linear.specs.Integers.{sfits-natAbs}
-use Rattle.equation_text.specs.AnsweredLaws.{side-small}
+use Rattle.equation_read.specs.AnsweredLaws.{side-small}
 use Rattle.equation_systems.specs.RowLaws.{part-whole, row-refused, row-read}
 use Rattle.equation_systems.proofs.lines.read_row.Statement.{statement}
 use Rattle.equation_systems.proofs.lines.read_row.Tie as tie

@@ -2,8 +2,8 @@
 use mathlib.Core.Path.{_∙_}
 use denote.Ref.{now}
 use borrow.Author.Needs.{needs}
-use Rattle.list_laws.specs.RuleLaws.{file-in}
-use Rattle.list_words.specs.CheckLaws.{refused-first, passed-first, passes}
+use Rattle.list_spec.specs.RuleLaws.{file-in}
+use Rattle.list_blocks.specs.CheckLaws.{refused-first, passed-first, passes}
 use Rattle.list_read.specs.ReadLaws.{tableChecks, header-read, read-stages}
 use Rattle.list_read.proofs.checking.check.Statement.{statement}
 use Rattle.list_read.proofs.checking.check.Tie as tie

@@ -1,8 +1,8 @@
 -- `list_read::checking::check_blocks` meets its contract: the length, block 0, and what comes after it. Assumes nothing.
 use mathlib.Core.Path.{_∙_}
 use borrow.Author.Needs.{needs}
-use Rattle.list_laws.specs.RuleLaws.{header-in}
-use Rattle.list_words.specs.CheckLaws.{refused-first, passed-first, passes}
+use Rattle.list_spec.specs.RuleLaws.{header-in}
+use Rattle.list_blocks.specs.CheckLaws.{refused-first, passed-first, passes}
 use Rattle.list_read.specs.ReadLaws.{laterChecks, too-short, file-stages}
 use Rattle.list_read.proofs.checking.check_blocks.Statement.{statement}
 use Rattle.list_read.proofs.checking.check_blocks.Tie as tie

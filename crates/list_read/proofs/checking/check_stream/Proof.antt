@@ -5,8 +5,8 @@ use native.Mathlib.Nat.{le-antisymm}
 use native.Mathlib.Omega.{arith}
 use borrow.Author.Needs.{needs}
 use Rattle.definitions.specs.Answers.{go}
-use Rattle.list_form.specs.Reading.{streamChecks}
-use Rattle.list_words.specs.CheckLaws.{passes, refuses}
+use Rattle.list_spec.specs.Reading.{streamChecks}
+use Rattle.list_blocks.specs.CheckLaws.{passes, refuses}
 use Rattle.list_read.specs.ReadLaws.{stream-next, stream-at}
 use Rattle.list_read.proofs.checking.check_stream.Statement.{statement}
 use Rattle.list_read.proofs.checking.check_stream.Tie as tie

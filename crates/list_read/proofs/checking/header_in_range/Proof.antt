@@ -4,9 +4,9 @@ use mathlib.Core.Path.{_∙_}
 use native.Mathlib.Omega.{arith}
 use denote.Ref.{now}
 use borrow.Author.Needs.{needs}
-use Rattle.list_form.specs.Words.{wordAt}
-use Rattle.list_form.specs.Reading.{equationsOf, unknownsOf}
-use Rattle.list_words.specs.RangeLaws.{all-zero}
+use Rattle.list_spec.specs.Words.{wordAt}
+use Rattle.list_spec.specs.Reading.{equationsOf, unknownsOf}
+use Rattle.list_blocks.specs.RangeLaws.{all-zero}
 use Rattle.list_read.specs.ReadLaws.{p-below, p-above, q-below, q-above, rows-above, ending-above, zeros-decide}
 use Rattle.list_read.proofs.checking.header_in_range.Statement.{statement}
 use Rattle.list_read.proofs.checking.header_in_range.Tie as tie

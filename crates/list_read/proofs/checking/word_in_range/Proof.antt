@@ -2,7 +2,7 @@
 use mir.Facts.{toZ-ofZ}
 use mir.Syntax.{w32}
 use borrow.Author.Needs.{sfits-of}
-use Rattle.list_laws.specs.Ranges.{coefficient-word, component-word, filler-word}
+use Rattle.list_spec.specs.Ranges.{coefficient-word, component-word, filler-word}
 use Rattle.definitions.specs.Refusals.{outOfRange}
 use mathlib.Core.Path.{sym, ap, _∙_}
 use mathlib.Core.Bool.{not}

@@ -3,9 +3,9 @@ use denote.Ref.{now}
 use mir.Facts.{toZ-ofZ}
 use mir.Syntax.{w32}
 use borrow.Author.Needs.{sfits-of}
-use Rattle.list_laws.specs.ListLaws.{listed-next}
-use Rattle.list_form.specs.Reading.{streamAt, listed}
-use Rattle.list_form.specs.Words.{signed}
+use Rattle.list_spec.specs.ListLaws.{listed-next}
+use Rattle.list_spec.specs.Reading.{streamAt, listed}
+use Rattle.list_spec.specs.Words.{signed}
 use borrow.Author.Needs.{needs}
 use lib.ListN.{length, drop, length-set}
 use lib.IntN.{pos}

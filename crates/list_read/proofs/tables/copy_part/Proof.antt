@@ -7,7 +7,7 @@ use native.Mathlib.Omega.{arith}
 use lib.ListN.{length, length-set}
 use denote.Ref.{now}
 use borrow.Author.Needs.{needs}
-use Rattle.list_form.specs.Reading.{streamAt}
+use Rattle.list_spec.specs.Reading.{streamAt}
 use Rattle.list_read.specs.ReadLaws.{Filled, filled-next, stream-run}
 use Rattle.list_read.proofs.tables.copy_part.Statement.{statement}
 use Rattle.list_read.proofs.tables.copy_part.Tie as tie

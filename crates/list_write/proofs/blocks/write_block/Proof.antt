@@ -4,8 +4,8 @@ use mathlib.Core.Path.{_≡_}
 use native.Mathlib.Omega.{arith}
 use denote.Ref.{now}
 use borrow.Author.Needs.{needs}
-use Rattle.list_form.specs.Form.{ListFile}
-use Rattle.list_form.specs.Words.{wordLimit}
+use Rattle.list_spec.specs.Form.{ListFile}
+use Rattle.list_spec.specs.Words.{wordLimit}
 use Rattle.list_write.specs.Answer.{listOf}
 use Rattle.list_write.specs.BlockLaws.{begun-next, last-place}
 use Rattle.list_write.proofs.blocks.write_block.Statement.{statement}

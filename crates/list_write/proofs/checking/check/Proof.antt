@@ -6,7 +6,7 @@ use Rattle.definitions.specs.Answers.{_then_}
 use Rattle.calls.specs.CallLaws.{passes}
 use Rattle.checks.specs.CheckLaws.{refused-first, passed-first}
 use Rattle.checks.specs.Coefficients.{coefficientChecks}
-use Rattle.list_form.specs.Form.{ListFile}
+use Rattle.list_spec.specs.Form.{ListFile}
 use Rattle.list_write.specs.Answer.{listOf}
 use Rattle.list_write.specs.CheckLaws.{listChecks, counts-in, write-stages}
 use Rattle.list_write.proofs.checking.check.Statement.{statement}

@@ -4,8 +4,8 @@ use mathlib.Core.Path.{sym, _∙_}
 use denote.Ref.{now}
 use borrow.Author.Needs.{needs}
 use borrow.Author.Tests.{not-true, not-false}
-use Rattle.list_form.specs.Form.{ListFile}
-use Rattle.list_form.specs.Writing.{listInRange}
+use Rattle.list_spec.specs.Form.{ListFile}
+use Rattle.list_spec.specs.Writing.{listInRange}
 use Rattle.list_write.specs.Answer.{listOf}
 use Rattle.list_write.specs.CheckLaws.{out-of-range, wrong-length, all-passed}
 use Rattle.list_write.proofs.checking.check_rows.Statement.{statement}

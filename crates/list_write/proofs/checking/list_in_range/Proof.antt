@@ -3,7 +3,7 @@ use mathlib.Core.List.{[]}
 use mathlib.Core.Path.{_∙_}
 use denote.Ref.{now}
 use borrow.Author.Needs.{needs}
-use Rattle.list_form.specs.Form.{ListFile}
+use Rattle.list_spec.specs.Form.{ListFile}
 use Rattle.list_write.specs.Answer.{listOf}
 use Rattle.list_write.specs.CheckLaws.{not-whole, too-many, no-ending, rows-decide}
 use Rattle.list_write.proofs.checking.list_in_range.Statement.{statement}

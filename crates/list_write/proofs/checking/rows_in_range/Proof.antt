@@ -9,8 +9,8 @@ use denote.Ref.{now}
 use borrow.Author.Needs.{needs}
 use Rattle.linear.specs.Tests.{allTo}
 use Rattle.definitions.specs.System.{mostComponent}
-use Rattle.list_form.specs.Writing.{rowsInRange}
-use Rattle.list_words.specs.RangeLaws.{all-more}
+use Rattle.list_spec.specs.Writing.{rowsInRange}
+use Rattle.list_blocks.specs.RangeLaws.{all-more}
 use Rattle.list_write.proofs.checking.rows_in_range.Statement.{statement}
 use Rattle.list_write.proofs.checking.rows_in_range.Tie as tie
 

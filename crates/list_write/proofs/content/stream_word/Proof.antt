@@ -6,8 +6,8 @@ use lib.ListN.{length}
 use denote.Ref.{now}
 use mir.Facts.{toZ-ofZ}
 use borrow.Author.Needs.{sfits-of, needs}
-use Rattle.list_form.specs.Form.{ListFile}
-use Rattle.list_laws.specs.ContentLaws.{stream-coef, stream-row, stream-filler}
+use Rattle.list_spec.specs.Form.{ListFile}
+use Rattle.list_spec.specs.ContentLaws.{stream-coef, stream-row, stream-filler}
 use Rattle.list_write.specs.Answer.{listOf}
 use Rattle.list_write.proofs.content.stream_word.Statement.{statement}
 use Rattle.list_write.proofs.content.stream_word.Tie as tie

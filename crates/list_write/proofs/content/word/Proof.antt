@@ -2,7 +2,7 @@
 use mathlib.Core.Path.{_∙_}
 use denote.Ref.{now}
 use borrow.Author.Needs.{needs}
-use Rattle.list_form.specs.Form.{ListFile}
+use Rattle.list_spec.specs.Form.{ListFile}
 use Rattle.list_write.specs.Answer.{listOf}
 use Rattle.list_write.specs.BlockLaws.{content-header, content-carried}
 use Rattle.list_write.proofs.content.word.Statement.{statement}

@@ -4,7 +4,7 @@ use Prim.Native.Nat.{_-_, _≤_}
 use native.Mathlib.Nat.{le-antisymm}
 use borrow.Author.Needs.{needs}
 use Rattle.lists.specs.Rows.{tuple}
-use Rattle.multiples_form.specs.Parts.{bounded, oftenTo}
+use Rattle.multiples_spec.specs.Parts.{bounded, oftenTo}
 use Rattle.multiples.specs.Taking.{often-next, rowAt}
 use Rattle.multiples.proofs.rows.often.Statement.{statement}
 use Rattle.multiples.proofs.rows.often.Tie as tie

@@ -6,7 +6,7 @@ use borrow.Author.Needs.{needs}
 use lib.IntN.{pos}
 use lib.ListN.{length, drop}
 use Rattle.texts.specs.Put.{Rest, rest-begins, rest-next, rest-ends}
-use Rattle.map_form.specs.Form.{line}
+use Rattle.map_spec.specs.Form.{line}
 use Rattle.report.specs.Rows.{row-next, row-done}
 use Rattle.report.proofs.lines.row.Statement.{statement}
 use Rattle.report.proofs.lines.row.Tie as tie

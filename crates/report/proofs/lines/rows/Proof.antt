@@ -8,7 +8,7 @@ use lib.IntN.{pos}
 use lib.ListN.{drop}
 use Rattle.laws.specs.TableLaws.{row-fits}
 use Rattle.texts.specs.Put.{Rest, rest-begins, rest-next, rest-ends}
-use Rattle.map_form.specs.Form.{lines}
+use Rattle.map_spec.specs.Form.{lines}
 use Rattle.report.specs.Rows.{part-size, rows-next, rows-done}
 use Rattle.report.proofs.lines.rows.Statement.{statement}
 use Rattle.report.proofs.lines.rows.Tie as tie
