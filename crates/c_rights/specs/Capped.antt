@@ -19,7 +19,7 @@ unfoldable pub resumeCappedWords : ℕ → List ℕ → Input → List ℕ → L
 resumeCappedWords budget words i stack list second = resume budget i (stateWith stack list second (recordIn words))
 
 -- another number of words than a record has is answered as in a plain start: with the first of 1 to 4 that is due, or with 6 (`misfit-refused` in
--- record_words/specs/WordLaws)
+-- c_record/specs/WordLaws)
 unfoldable pub startCappedWords : List ℕ → Input → List ℕ → List ℕ → List ℕ → Outcome State
 startCappedWords words i stack list second =
     startOn words (start i (stateWith stack list second (recordIn words))) (resumeCappedWords 0 words i stack list second)

@@ -1,5 +1,5 @@
 -- THE PROMISES OF A RUN ONE DESK AFTER THE OTHER (document 02, Job 10), each under its words. Open this file first. They are about the definitions of
--- `desk_form` (Desks, Records), which the code's contracts equate with what the code does. The minimal solutions of the first group that are handed over (the
+-- `desk_spec` (Desks, Records), which the code's contracts equate with what the code does. The minimal solutions of the first group that are handed over (the
 -- trade's loops) are the generators of the second walk. Assumes nothing.
 use mathlib.Core.Path.{_≡_, refl, _∙_, ap}
 use mathlib.Core.Bool.{Bool, true, false, cond, not, _&&_}
@@ -97,7 +97,7 @@ pub record FirstDemand : Type 0 where
       → countTo (generatorCount d) (frozen (deskMarks (d .q) (deskStart d s .stack) k)) ≡ k
   pub marked : (budget : ℕ) (d : Desk) (s : State) → deskResumeChecks d s ≡ go → (k : ℕ) → k < left budget d s .run .height
       → countTo (generatorCount d) (frozen (deskMarks (d .q) (left budget d s .stack) k)) ≡ k
-  -- "a sweep removes each row that lies above another row or repeats an earlier one, and closes the gaps, order kept": `Swept` (sweeps/specs/SweepLaws) says
+  -- "a sweep removes each row that lies above another row or repeats an earlier one, and closes the gaps, order kept": `Swept` (laws/specs/SweepLaws) says
   -- which rows stay
   pub sweep : (q : ℕ) (s : State) → SweepLeaves q s (swept q s)
   -- "It runs before each "complete", and when a solution is due and the list is full.": then and at no other time

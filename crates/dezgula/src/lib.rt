@@ -1,6 +1,6 @@
 // The solver as other languages call it: library/raw.h says the same to C, and library/dezgula.c has the calls of include/ over it. Each function forwards to a
-// crate that holds its logic. The run record comes as words (record_words/specs/Words.antt), and an answer goes out as one
-// number (answer_codes/specs/Codes.antt, record_words/specs/Codes.antt).
+// crate that holds its logic. The run record comes as words (c_record/specs/Words.antt), and an answer goes out as one
+// number (c_answers/specs/Codes.antt, c_record/specs/Codes.antt).
 ghost use mathlib.Core.Path.{_≡_};
 ghost use Rattle.definitions.specs.Highest.{locate};
 ghost use Rattle.definitions.specs.Input.{inputOf};

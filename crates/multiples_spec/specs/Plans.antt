@@ -1,6 +1,6 @@
 -- EVERY PLAN IS MADE OF LOOPS (document 02, Job 13), under its words: "Trainers teach that any count that restores the trays is some listed loops, repeated." A
 -- count that restores the trays is a natural solution of the system, a loop a minimal one. The theorem first; then that the call which takes a plan apart
--- (`decomposed` of crate `multiples_form`, with which the code's contract equates its answer) finds the multiples. Assumes nothing.
+-- (`decomposed` of crate `multiples_spec`, with which the code's contract equates its answer) finds the multiples. Assumes nothing.
 use Prim.Native.Nat.{ℕ, _-_, _≤_, _<_}
 use mathlib.Core.Bool.{Bool, true, false}
 use mathlib.Core.List.{List}

@@ -76,7 +76,7 @@ graph m = record { arcs = m .q; head = headOf m; tail = tailOf m }
 
 -- ---- the minimal solutions (loops)
 
--- the row is a minimal solution of a map in the profile: the test (`test` of Promises in crate `single_file_laws`)
+-- the row is a minimal solution of a map in the profile: the test (`test` of Promises in crate `single_spec`)
 abbrev pub isCircuitOf : System → (ℕ → ℕ) → Bool
 isCircuitOf m x = isCircuit (graph m) x
 
