@@ -18,7 +18,19 @@ use Rattle.laws.specs.Pack.{pack-beyond, pack-length}
 use Rattle.theorems.specs.CallAnswers.{StartAnswers, call-later, goes-on, refused-again, refused-there, start-answers}
 use Rattle.theorems.specs.Run.{SameRows}
 use Rattle.theorems.specs.WholeSteps.{Goes, after-more, call-keeps, called, settled-after}
-use Rattle.desk_spec.specs.Desks.{Desk, always, deskBegin, deskGrown, deskLevel, deskListed, deskMachine, deskMakes, deskMarks, deskResume, deskResumeChecks}
+use Rattle.desk_spec.specs.Desks.{
+  Desk,
+  always,
+  deskBegin,
+  deskGrown,
+  deskLevel,
+  deskListed,
+  deskMachine,
+  deskMakes,
+  deskMarks,
+  deskResume,
+  deskResumeChecks,
+}
 use Rattle.desk_spec.specs.Desks.{deskResumeSteps, deskSearchChecks, deskStart, deskStartChecks, deskStep, deskTop, freed, generatorCount, settled, swept}
 use Rattle.desk_spec.specs.Rows.{all-counted}
 use Rattle.desk_spec.specs.Rules.{deskSearchRules, deskStartRules, search-renders, start-renders}

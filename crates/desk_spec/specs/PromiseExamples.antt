@@ -22,7 +22,18 @@ use Rattle.laws.specs.Sweep.{keeps, spoils}
 use Rattle.theorems.specs.Listed.{Exactly}
 use Rattle.theorems.specs.Run.{started-units}
 use Rattle.desk_spec.specs.Records.{recordOf, stateOf}
-use Rattle.desk_spec.specs.Desks.{Desk, deskBegin, deskGrown, deskInOrder, deskListed, deskResume, deskResumeChecks, deskRow, deskRowInOrder, deskSearchChecks}
+use Rattle.desk_spec.specs.Desks.{
+  Desk,
+  deskBegin,
+  deskGrown,
+  deskInOrder,
+  deskListed,
+  deskResume,
+  deskResumeChecks,
+  deskRow,
+  deskRowInOrder,
+  deskSearchChecks,
+}
 use Rattle.desk_spec.specs.Desks.{deskStart, deskStartChecks, deskStep, deskTooLarge, freed, generatorsInOrder, raises, settled, swept, wide}
 use Rattle.desk_spec.specs.Groups.{FirstGroup, bothGroups}
 use Rattle.desk_spec.specs.Promises.{WholeList, first-then-second, second-demand-desks, second-then-third}

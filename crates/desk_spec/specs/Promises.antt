@@ -32,7 +32,18 @@ use Rattle.theorems.specs.Run.{Run, SameRows, run-sound}
 use Rattle.theorems.specs.Series.{Lending, meanwhile}
 use Rattle.theorems.specs.StackRows.{each-step, rows-suffice}
 use Rattle.linear.specs.Loops.{MadeOfRows, made-of-loops}
-use Rattle.desk_spec.specs.Desks.{Desk, deepestLimit, deskBegin, deskLevel, deskMachine, deskMakes, deskMarks, deskResume, deskResumeChecks, deskResumeSteps}
+use Rattle.desk_spec.specs.Desks.{
+  Desk,
+  deepestLimit,
+  deskBegin,
+  deskLevel,
+  deskMachine,
+  deskMakes,
+  deskMarks,
+  deskResume,
+  deskResumeChecks,
+  deskResumeSteps,
+}
 use Rattle.desk_spec.specs.Desks.{deskGrown, deskListed, deskStart, deskStartChecks, deskStep, deskTop, deskTopMarks, freed, generator, generatorCount}
 use Rattle.desk_spec.specs.Desks.{deskInOrder, generatorsInOrder, secondGroup, settled, swept}
 use Rattle.desk_spec.specs.Rules.{DeskInOrder, deskResumeRules, deskSearchRules, deskStartRules, order-from, resume-renders}

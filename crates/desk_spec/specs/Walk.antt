@@ -21,10 +21,35 @@ use Rattle.theorems.specs.Run.{SameRows}
 use Rattle.theorems.specs.View.{Kept, View}
 use Rattle.linear.specs.Loops.{Solutions}
 use Rattle.desk_spec.specs.Records.{lentWith}
-use Rattle.desk_spec.specs.Desks.{Desk, deskGrown, deskLevel, deskListed, deskMakes, deskMarks, deskStart, deskStep, deskTop, deskTopMarks, deskTuple, freed}
+use Rattle.desk_spec.specs.Desks.{
+  Desk,
+  deskGrown,
+  deskLevel,
+  deskListed,
+  deskMakes,
+  deskMarks,
+  deskStart,
+  deskStep,
+  deskTop,
+  deskTopMarks,
+  deskTuple,
+  freed,
+}
 use Rattle.desk_spec.specs.Desks.{generator, generatorCount, secondGroup, settled, swept}
 use Rattle.desk_spec.specs.Rows.{child-is, marks-kept, raises-clear, raises-tried, rows-kept, start-row}
-use Rattle.desk_spec.specs.Valid.{DeskGoing, DeskShaped, DeskValid, children-few, free, freed-has, freed-of, freed-room, grown-valid, listed-valid, same-top}
+use Rattle.desk_spec.specs.Valid.{
+  DeskGoing,
+  DeskShaped,
+  DeskValid,
+  children-few,
+  free,
+  freed-has,
+  freed-of,
+  freed-room,
+  grown-valid,
+  listed-valid,
+  same-top,
+}
 use Rattle.desk_spec.specs.Valid.{settled-has, start-valid, step-has, sweep-leaves, sweep-valid, swept-of}
 use Rattle.desk_spec.specs.Second.{Walked, begun, byGenerators, first-onwards, growing, listing, relisting, sweeping}
 use Rattle.desk_spec.specs.Sweeping.{Sweeps}

@@ -115,7 +115,8 @@ module _ (p q : ℕ) (equations : List ℤ) (basis table : List ℕ) (l : Beside
     combine-enters g =
         let (z, own) = standing-both p q most room (workOf equations basis table run) _ (passes e g) in
         let (x, y) = then-go _ _ own in
-        let (lr, sp) = both (spec.isLeft p r (workOf equations basis table run)) (ltb s p) (passed (spec.isLeft p r (workOf equations basis table run) && ltb s p) 32 x) in
+        let (lr, sp) = both (spec.isLeft p r (workOf equations basis table run)) (ltb s p)
+        (passed (spec.isLeft p r (workOf equations basis table run) && ltb s p) 32 x) in
         let (_, o) = both (not (isZero u)) _ (passed (spec.isOperation q r s u t (workOf equations basis table run)) 34 y) in
         let (_, small) = both (not (eqb r s) || isZero t) _ o in
         record {

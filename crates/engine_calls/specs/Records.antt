@@ -16,7 +16,16 @@ use Rattle.engine_calls.specs.declared.Check.the-variants.{Pass, Refuse}
 use Rattle.engine_calls.specs.declared.Outcome.{Outcome}
 use Rattle.engine_calls.specs.declared.Record.{Record}
 use Rattle.engine_calls.specs.declared.Refusal.{Refusal}
-use Rattle.engine_calls.specs.declared.Refusal.the-variants.{Coefficient, CoefficientCount, ComponentLimit, Equations, Full, NotFresh, NotLeft, NotOperation}
+use Rattle.engine_calls.specs.declared.Refusal.the-variants.{
+  Coefficient,
+  CoefficientCount,
+  ComponentLimit,
+  Equations,
+  Full,
+  NotFresh,
+  NotLeft,
+  NotOperation,
+}
 use Rattle.engine_calls.specs.declared.Refusal.the-variants.{OutOfOrder, Room, StepLimit, Unknowns}
 
 -- ---- the record, and what is lent

@@ -23,7 +23,19 @@ use Rattle.engine_calls.specs.Records.{answerOf, leaves, outcomeOf, recordOf, r
 use Rattle.engine_calls.specs.declared.Outcome.{Outcome}
 use Rattle.engine_calls.specs.declared.Record.{Record}
 use Rattle.engine_calls.specs.declared.Refusal.the-variants.{ComponentLimit, Full}
-use Rattle.engine_ends.specs.Finishing.{count-fresh, count-plain, fillable-fresh, fillable-plain, pack-fresh, pack-plain, restingWith, too-large, too-many, values-small, written}
+use Rattle.engine_ends.specs.Finishing.{
+  count-fresh,
+  count-plain,
+  fillable-fresh,
+  fillable-plain,
+  pack-fresh,
+  pack-plain,
+  restingWith,
+  too-large,
+  too-many,
+  values-small,
+  written,
+}
 
 -- a stage is under way whose equation is not done
 pub record Ends (p : ℕ) (r : Record) : Type 0 where

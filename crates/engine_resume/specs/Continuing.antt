@@ -59,7 +59,8 @@ pub record ResumeLeft (p q budget : ℕ) (equations : List ℤ) (basis sizes tab
   pub kept : Kept 0 (r .count) sizes sizes′
 
 module _ (p q budget : ℕ) (equations : List ℤ) (basis sizes table : List ℕ) (x : Sides) (r : Record) where
-  module _ {made : Check} {most room : ℕ} (m : most ≡ spec.basisRoom q (lentLengths basis sizes table x)) (n : room ≡ spec.stageRoom q (lentLengths basis sizes table x))
+  module _ {made : Check} {most room : ℕ} (m : most ≡ spec.basisRoom q (lentLengths basis sizes table x))
+      (n : room ≡ spec.stageRoom q (lentLengths basis sizes table x))
       (e : checkOf made ≡ standing p q most room (workOf equations basis table r)) where
     pub resume-refused : {why : Refusal} → made ≡ Refuse why → ResumeLeft p q budget equations basis sizes table x r (refusedWith why r) basis sizes table x
     unfolding spec.resume
@@ -77,8 +78,10 @@ module _ (p q budget : ℕ) (equations : List ℤ) (basis sizes table : List ℕ
       pub resume-stands : Stands p q most room (workOf equations basis table r)
       resume-stands = stands p q most room (workOf equations basis table r) (passes e g)
 
-      not-refused : (k : ℕ) (values : List ℕ) → spec.resumeChecks p q (spec.basisRoom q (lentLengths basis sizes table x)) (spec.stageRoom q (lentLengths basis sizes table x)) (workOf equations basis table r) ≡ paper.refuse k values → ⊥
-      not-refused k values h = let no : paper.go ≡ paper.refuse k values = sym (ap checkOf g) ∙ ((rw (m, n) at (e ∙ resume-checks p q most room (workOf equations basis table r))) ∙ h) in let z : _≡_ {A = ℕ} 0 1 = cc in omega arith
+      not-refused : (k : ℕ) (values : List ℕ) → spec.resumeChecks p q (spec.basisRoom q (lentLengths basis sizes table x))
+          (spec.stageRoom q (lentLengths basis sizes table x)) (workOf equations basis table r) ≡ paper.refuse k values → ⊥
+      not-refused k values h = let no : paper.go ≡ paper.refuse k values = sym (ap checkOf g) ∙
+          ((rw (m, n) at (e ∙ resume-checks p q most room (workOf equations basis table r))) ∙ h) in let z : _≡_ {A = ℕ} 0 1 = cc in omega arith
 
       pub resume-rested : p ≤ r .equation → {o : Outcome} → o .run ≡ r
           → answerOf (o .answer) ≡ cond (eqb (r .done) (2 ^ p - 1)) paper.complete paper.paused
@@ -86,7 +89,8 @@ module _ (p q budget : ℕ) (equations : List ℤ) (basis sizes table : List ℕ
       unfolding spec.resume rested allDone
       resume-rested l s a =
           record {
-            outcome = call-passed (rw (m, n) at (e ∙ resume-checks p q most room (workOf equations basis table r))) equations basis table r _ g (rw (le-ltb (r .equation) p l, a, s));
+            outcome = call-passed (rw (m, n) at (e ∙ resume-checks p q most room (workOf equations basis table r))) equations basis table r _ g
+                (rw (le-ltb (r .equation) p l, a, s));
             refused = λ k values h. absurd (not-refused k values h);
             had = 0;
             few = omega arith;
@@ -114,7 +118,8 @@ module _ (p q budget : ℕ) (equations : List ℤ) (basis sizes table : List ℕ
       unfolding spec.resume
       resume-ran l t =
           record {
-            outcome = call-passed (rw (m, n) at (e ∙ resume-checks p q most room (workOf equations basis table r))) equations basis table r _ g (rw (lt-ltb (r .equation) p l) (rw (m, n) at (t .outcome)));
+            outcome = call-passed (rw (m, n) at (e ∙ resume-checks p q most room (workOf equations basis table r))) equations basis table r _ g
+                (rw (lt-ltb (r .equation) p l) (rw (m, n) at (t .outcome)));
             refused = λ k values h. absurd (not-refused k values h);
             had = t .had;
             few = rw n at (t .few);

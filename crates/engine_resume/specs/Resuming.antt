@@ -83,7 +83,8 @@ ordered p q most room w e =
       fits = leb→le (w .stage .rows) room a₁;
       early = leb→le (w .stage .steps) stepLimit b₀;
       marks = ltb→lt (w .done) (2 ^ p) b₁;
-      free = λ l x. T-not (ltb (w .equation) p && frozen (w .done) (w .equation)) c₁ (both (ltb (w .equation) p) (frozen (w .done) (w .equation)) (lt→ltb (w .equation) p l) x);
+      free = λ l x. T-not (ltb (w .equation) p && frozen (w .done) (w .equation)) c₁
+          (both (ltb (w .equation) p) (frozen (w .done) (w .equation)) (lt→ltb (w .equation) p l) x);
       coefs = λ k l. leb→le _ coefficientLimit (all-at (p * q) _ d k l);
       basis = λ i l. all-at (w .count) _ f i l;
       rows = λ i l. all-at (w .stage .rows) _ g i l;
@@ -117,7 +118,8 @@ pub record Writable (coefs : List ℤ) (from : ℕ) (basis : List ℕ) (m sizes 
   pub marked : n ≤ marks
   pub mothered : n ≤ mothers
 
-pub record Written (coefs : List ℤ) (from : ℕ) (basis : List ℕ) (m : ℕ) (table : List ℕ) (n q : ℕ) (sizes : List ℕ) (x : Sides) (sizes′ : List ℕ) (x′ : Sides) : Type 0 where
+pub record Written (coefs : List ℤ) (from : ℕ) (basis : List ℕ) (m : ℕ) (table : List ℕ) (n q : ℕ) (sizes : List ℕ) (x : Sides) (sizes′ : List ℕ) (x′ : Sides)
+    : Type 0 where
   pub size : Measured q m basis sizes′
   pub kept : Kept 0 m sizes sizes′
   pub valued : Valued (equationAt coefs from) q n table (x′ .values)
@@ -153,7 +155,8 @@ pub record ResumedTo (p q most room budget : ℕ) (equations : List ℤ) (basis 
   pub beyond : Beyond had x x′
   pub kept : Kept 0 (r .count) sizes sizes′
 
-module _ {p q most room : ℕ} {equations : List ℤ} {basis sizes table : List ℕ} {x : Sides} {r : Record} (e : Entered p q most room equations basis sizes table x r) where
+module _ {p q most room : ℕ} {equations : List ℤ} {basis sizes table : List ℕ} {x : Sides} {r : Record}
+    (e : Entered p q most room equations basis sizes table x r) where
   equation-small : SmallEquation q equations (r .equation * q)
   equation-small =
       record {
@@ -184,7 +187,8 @@ module _ {p q most room : ℕ} {equations : List ℤ} {basis sizes table : List 
         small = λ i j l jq. small-from q (at table q i) (e .order .rows i l) j jq;
       }
 
-  pub writable : Writable equations (r .equation * q) basis (r .count) (length sizes) table (r .rows) q (length (x .values)) (length (x .words)) (length (x .degrees))
+  pub writable : Writable equations (r .equation * q) basis (r .count) (length sizes) table (r .rows) q (length (x .values)) (length (x .words))
+      (length (x .degrees))
       (length (x .marks)) (length (x .mothers))
   writable =
       record {

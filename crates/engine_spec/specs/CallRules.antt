@@ -68,7 +68,8 @@ module _ (p q most room : ℕ) where
       by false false e = rested-goes (finished p q w) n e
 
   after-stuck : (w : Work) (n budget : ℕ) (t : Turned) → w .equation < p → turnOf w ≡ t
-      → ((v : Work) → v .equation < p → run p q most room budget v .answer ≡ refused n [] → Stuck n (run p q most room budget v .work)) → after p q most t (run p q most room budget) w .answer ≡ refused n []
+      → ((v : Work) → v .equation < p → run p q most room budget v .answer ≡ refused n [] → Stuck n (run p q most room budget v .work)) → after p q most t
+      (run p q most room budget) w .answer ≡ refused n []
       → Stuck n (after p q most t (run p q most room budget) w .work)
   unfolding after run onward
   after-stuck w n budget (goes s) going is step e = step (onward s w) going e

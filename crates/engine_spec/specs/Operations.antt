@@ -62,7 +62,8 @@ unfolding fillTo
 fill-length zero table base f = refl
 fill-length (suc n) table base f = length-set (fillTo n table base f) (base + n) (f n) ∙ fill-length n table base f
 
-pub fill-inside : (n : ℕ) (table : List ℤ) (base : ℕ) (f : ℕ → ℤ) → base + n ≤ length table → (j : ℕ) → j < n → getD (fillTo n table base f) (base + j) (pos 0) ≡ f j
+pub fill-inside : (n : ℕ) (table : List ℤ) (base : ℕ) (f : ℕ → ℤ) → base + n ≤ length table → (j : ℕ) → j < n → getD (fillTo n table base f) (base + j) (pos 0)
+    ≡ f j
 unfolding fillTo
 fill-inside zero table base f l j jn = absurd (omega arith)
 fill-inside (suc n) table base f l j jn =
@@ -71,7 +72,8 @@ fill-inside (suc n) table base f l j jn =
       | inr e ↦ rw e (getD-set-same (fillTo n table base f) (base + n) (f n) (pos 0) (omega (arith, fill-length n table base f)))
     ]
 
-pub fill-outside : (n : ℕ) (table : List ℤ) (base : ℕ) (f : ℕ → ℤ) (i : ℕ) → (i < base) ⊎ (base + n ≤ i) → getD (fillTo n table base f) i (pos 0) ≡ getD table i (pos 0)
+pub fill-outside : (n : ℕ) (table : List ℤ) (base : ℕ) (f : ℕ → ℤ) (i : ℕ) → (i < base) ⊎ (base + n ≤ i) → getD (fillTo n table base f) i (pos 0) ≡ getD table
+    i (pos 0)
 unfolding fillTo
 fill-outside zero table base f i o = refl
 fill-outside (suc n) table base f i o =

@@ -69,7 +69,19 @@ use Rattle.engine_spec.specs.Engine.{
 use Rattle.engine_spec.specs.Equations.{is-zero, units-enumerate}
 use Rattle.engine_spec.specs.Fresh.{without-at, without-given, withoutAt}
 use Rattle.engine_spec.specs.Moved.{moved-given, moved-sound, withTable}
-use Rattle.engine_spec.specs.Operations.{Alike, Apart, alike-enumerates, alike-given, alike-then, combined-alike, done-alike, fill-inside, fill-length, fill-outside, value-alike}
+use Rattle.engine_spec.specs.Operations.{
+  Alike,
+  Apart,
+  alike-enumerates,
+  alike-given,
+  alike-then,
+  combined-alike,
+  done-alike,
+  fill-inside,
+  fill-length,
+  fill-outside,
+  value-alike,
+}
 use Rattle.engine_spec.specs.ReductionLaws.{SameRows}
 use Rattle.engine_spec.specs.Sound.{Given}
 use Rattle.engine_spec.specs.Whole.{Good, Standing, Whole, between, doneOf, picked-packed, rested-good, run-good, underWay, withFresh}
@@ -412,7 +424,8 @@ module _ (p q : ℕ) (a : ℕ → ℕ → ℤ) (most room most′ room′ : ℕ)
 pub data Runs (p q : ℕ) (coefs : List ℤ) : ℕ → ℕ → Work → Type 0 where
   afterStart : (most room : ℕ) (w : Work) → most * q ≤ length (w .basis) → room * q ≤ length (w .stage .table) → start p q coefs most w .answer ≡ started
       → Runs p q coefs most room (start p q coefs most w .work)
-  afterCombine : {most room : ℕ} {w : Work} → Runs p q coefs most room w → (r s : ℕ) (u t : ℤ) → Runs p q coefs most room (combine p q most room r s u t w .work)
+  afterCombine : {most room : ℕ} {w : Work} → Runs p q coefs most room w → (r s : ℕ) (u t : ℤ) → Runs p q coefs most room
+      (combine p q most room r s u t w .work)
   afterTake : {most room : ℕ} {w : Work} → Runs p q coefs most room w → (e f : ℕ) → Runs p q coefs most room (take p q most room e f w .work)
   afterResume : {most room : ℕ} {w : Work} → Runs p q coefs most room w → (budget : ℕ) → Runs p q coefs most room (resume p q most room budget w .work)
   lentAnew : {most room : ℕ} {w : Work} → Runs p q coefs most room w → (most′ room′ : ℕ) (basis table : List ℕ) → SameRows q (w .count) (w .basis) basis
@@ -431,12 +444,14 @@ module _ (p q : ℕ) (coefs : List ℤ) where
       let (x₄, y₄) = then-go (check4 p q most w) _ y₃ in
       let (short, less) = or-false (ltb (length (w .equations)) (p * q)) (ltb most q) (refuse-if-go _ 4 x₄) in
       rw all
-      (begun-whole p q coefs most room w (nltb→le (length (w .equations)) (p * q) (not-T (ltb (length (w .equations)) (p * q)) (false-not (ltb (length (w .equations)) (p * q)) short)))
+      (begun-whole p q coefs most room w (nltb→le (length (w .equations)) (p * q)
+      (not-T (ltb (length (w .equations)) (p * q)) (false-not (ltb (length (w .equations)) (p * q)) short)))
       (nltb→le most q (not-T (ltb most q) (false-not (ltb most q) less))) long wide
       (λ k kl. omega (
         arith,
         nltb→le coefLimit (natAbs (getD coefs k (pos 0)))
-            (not-T (ltb coefLimit (natAbs (getD coefs k (pos 0)))) (false-not (ltb coefLimit (natAbs (getD coefs k (pos 0)))) (first-silent 7 (p * q) _ y₄ k kl))),
+            (not-T (ltb coefLimit (natAbs (getD coefs k (pos 0)))) (false-not (ltb coefLimit (natAbs (getD coefs k (pos 0))))
+            (first-silent 7 (p * q) _ y₄ k kl))),
       )))
 
   pub runs-whole : {most room : ℕ} {w : Work} → Runs p q coefs most room w → Whole p q (systemOf q coefs) most room w

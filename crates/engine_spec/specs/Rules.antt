@@ -14,7 +14,21 @@ use Rattle.definitions.specs.Answers.{Check, _then_, go}
 use Rattle.definitions.specs.Refusals.{stepLimit}
 use Rattle.definitions.specs.System.{coefLimit, isZero, mostComponent}
 use Rattle.definitions.specs.Tables.{frozen}
-use Rattle.laws.specs.CheckLaws.{Decides, Renders, Rules, _▹_, decides-first, decides-if, decides-not, end, placed, renders-end, renders-last, renders-then, rule}
+use Rattle.laws.specs.CheckLaws.{
+  Decides,
+  Renders,
+  Rules,
+  _▹_,
+  decides-first,
+  decides-if,
+  decides-not,
+  end,
+  placed,
+  renders-end,
+  renders-last,
+  renders-then,
+  rule,
+}
 use Rattle.laws.specs.RefusalLaws.{Outside, decides-outside, decides-unequal}
 use Rattle.engine_spec.specs.Beside.{coefficientLimit, mostColumns, mostRows}
 use Rattle.engine_spec.specs.Calls.{
@@ -188,9 +202,11 @@ module _ (p q most room : ℕ) (w : Work) where
         rows = λ i j l jq. small-from q (row q (w .stage) i) (all-at (w .stage .rows) _ f i l) j jq;
         positive = λ i l. ltb→lt 0 (degree i) (and-parts (ltb 0 (degree i)) _ (all-at (w .stage .rows) rises g i l) .0);
         rising = λ i l.
-            leb→le (degree (i - 1)) (degree i) (and-parts (leb (degree (i - 1)) (degree i)) _ (and-parts (ltb 0 (degree i)) _ (all-at (w .stage .rows) rises g i l) .1) .0);
+            leb→le (degree (i - 1)) (degree i) (and-parts (leb (degree (i - 1)) (degree i)) _
+            (and-parts (ltb 0 (degree i)) _ (all-at (w .stage .rows) rises g i l) .1) .0);
         low = λ i l.
-            leb→le (degree i) (w .stage .degree) (and-parts (leb (degree (i - 1)) (degree i)) _ (and-parts (ltb 0 (degree i)) _ (all-at (w .stage .rows) rises g i l) .1) .1);
+            leb→le (degree i) (w .stage .degree) (and-parts (leb (degree (i - 1)) (degree i)) _
+            (and-parts (ltb 0 (degree i)) _ (all-at (w .stage .rows) rises g i l) .1) .1);
       }
 
   order-to : InOrder p q most room w → T (inOrder p q most room w)
@@ -208,7 +224,8 @@ module _ (p q most room : ℕ) (w : Work) where
       (and-both (allTo (w .stage .rows) (λ i. isSmall q (row q (w .stage) i))) _
       (all-from (w .stage .rows) _ (λ i l. small-to q (row q (w .stage) i) (λ j jq. o .rows i j l jq)))
       (all-from (w .stage .rows) rises (λ i l. and-both (ltb 0 (degree i)) _ (lt→ltb 0 (degree i) (o .positive i l))
-      (and-both (leb (degree (i - 1)) (degree i)) _ (le→leb (degree (i - 1)) (degree i) (o .rising i l)) (le→leb (degree i) (w .stage .degree) (o .low i l))))))))))
+      (and-both (leb (degree (i - 1)) (degree i)) _ (le→leb (degree (i - 1)) (degree i) (o .rising i l))
+      (le→leb (degree i) (w .stage .degree) (o .low i l))))))))))
 
   standing-renders : (own : Check) (rules : Rules) → Renders own rules → Renders (standingThen p q most room w own) (standingRules p q most room w rules)
   standing-renders own rules r =

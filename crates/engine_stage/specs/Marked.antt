@@ -91,7 +91,8 @@ module _ {q : ℕ} {c : ℕ → ℤ} {n : ℕ} {table : List ℕ} {values : List
 
   -- the value of the sum
   pub sum-is : x +ℤ y ≡ value c q (sumOf q table h k)
-  sum-is = rw (p .valued .each h (p .upper), p .valued .each k (p .lower)) (sym (value-sum c q (at table q h) (at table q k) (sumOf q table h k) (λ j jq. refl)))
+  sum-is = rw (p .valued .each h (p .upper), p .valued .each k (p .lower)) (sym (value-sum c q (at table q h) (at table q k) (sumOf q table h k)
+      (λ j jq. refl)))
 
   -- the test that code makes is the stage's
   pub tested : {r : Bool} {v : ℤ} → v ≡ x +ℤ y → r ≡ reducibleBy q n (at table q) (integerAt values) (sumOf q table h k) v → r ≡ testOf q c n table h k

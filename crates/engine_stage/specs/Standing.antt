@@ -179,7 +179,8 @@ module _ {f : Frame} {l : Lent} {table : List ℕ} {x : Sides} {s : Next} (r : R
         spent = λ e. never (sym e);
       }
 
-  module _ (row : ℕ → ℕ) (v : ℤ) (w mark mother : ℕ) (room : s .rows < f .room) (value-is : v ≡ value (equation f l) (f .q) row) (word-is : w ≡ wordOf (f .q) row)
+  module _ (row : ℕ → ℕ) (v : ℤ) (w mark mother : ℕ) (room : s .rows < f .room) (value-is : v ≡ value (equation f l) (f .q) row)
+      (word-is : w ≡ wordOf (f .q) row)
       (degree-is : total row (f .q) ≡ s .degree) (some : 0 < s .degree) (small : (j : ℕ) → j < f .q → row j ≤ mostComponent)
       (mark-is : mark < noMark → Marked (f .q) (equation f l) (s .rows) (at table (f .q)) row mark) where
     abbrev pub grownTable : List ℕ
@@ -259,7 +260,8 @@ module _ {f : Frame} {l : Lent} {table : List ℕ} {x : Sides} {s : Next} (r : R
 
     pub grown-ready : (taken upper lower steps first : ℕ) (more : Bool) → steps ≤ stepLimit
         → Falling (s .rows + 1) (set (x .degrees) (s .rows) (s .degree)) (s .degree) upper first
-        → (more ≡ false → f .m ≤ dueRow (f .q) (f .m) (at (l .basis) (f .q)) (stageOf grownTable (nextOf (s .rows + 1) taken (s .degree) upper lower steps first more)))
+        → (more ≡ false → f .m ≤ dueRow (f .q) (f .m) (at (l .basis) (f .q)) (stageOf grownTable
+        (nextOf (s .rows + 1) taken (s .degree) upper lower steps first more)))
         → Ready f l grownTable grownSides (nextOf (s .rows + 1) taken (s .degree) upper lower steps first more)
     grown-ready taken upper lower steps first more early falling spent =
         record {

@@ -231,7 +231,8 @@ fn pair_turn(
         (sidesOf (now values) (now words) (now degrees) (now marks) (now mothers)) s
         × PairDue f (lentOf (now coefs) (now basis) (now sizes)) (now table) (now degrees) s (at .upper) (at .lower) (at .first) ⌝ }
     ensures { λ r. ⌜ Left f (lentOf (now (coefs .entry)) (now (basis .entry)) (now (sizes .entry)))
-        (pairTurn (f .q) (equationAt (now (coefs .entry)) (f .from)) (f .room) (stageOf (now (table .entry)) s) (at .upper) (at .lower)) (s .rows) (now (table .entry))
+        (pairTurn (f .q) (equationAt (now (coefs .entry)) (f .from)) (f .room) (stageOf (now (table .entry)) s) (at .upper) (at .lower)) (s .rows)
+        (now (table .entry))
         (sidesOf (now (values .entry)) (now (words .entry)) (now (degrees .entry)) (now (marks .entry)) (now (mothers .entry))) r (now (table .exit))
         (sidesOf (now (values .exit)) (now (words .exit)) (now (degrees .exit)) (now (marks .exit)) (now (mothers .exit))) ⌝ }
 {

@@ -10,8 +10,40 @@ use Rattle.texts.specs.Decimals.{zeroDigit, decimal}
 use Rattle.texts.specs.Reading.{Parse, parsed, andThen}
 use Rattle.texts.specs.DecimalLaws.{begins, by-first}
 use Rattle.texts.specs.WriteLaws.{digit-is}
-use Rattle.equation_spec.specs.Grammar.{Sign, plus, minus, bare, led, Sum, one, more, Term, number, plain, times, Factor, unknown, bracket, Equation, Part}
-use Rattle.equation_spec.specs.Grammar.{numeral, variable, sign, star, opening, closing, equals, sumParts, termParts, factorParts, parts, letter, starByte}
+use Rattle.equation_spec.specs.Grammar.{
+  Sign,
+  plus,
+  minus,
+  bare,
+  led,
+  Sum,
+  one,
+  more,
+  Term,
+  number,
+  plain,
+  times,
+  Factor,
+  unknown,
+  bracket,
+  Equation,
+  Part,
+}
+use Rattle.equation_spec.specs.Grammar.{
+  numeral,
+  variable,
+  sign,
+  star,
+  opening,
+  closing,
+  equals,
+  sumParts,
+  termParts,
+  factorParts,
+  parts,
+  letter,
+  starByte,
+}
 use Rattle.equation_spec.specs.Grammar.{openByte, signByte, bytes, Spells, done}
 use Rattle.equation_spec.specs.Meaning.{sumDepth, termDepth, factorDepth}
 use Rattle.equation_spec.specs.Reader.{skip, onByte, onSign, readNumeral, readFactor, afterNumeral, readTerm, moreTerms, firstTerm, readSum, closed}

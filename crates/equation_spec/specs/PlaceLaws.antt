@@ -7,7 +7,21 @@ use native.Mathlib.Omega.{arith}
 use lib.ListN.{length, take, replicate}
 use borrow.Author.Tests.{le-leb}
 use Rattle.equation_spec.specs.Grammar.{Equation, Reads, closeByte}
-use Rattle.equation_spec.specs.Scan.{Phase, nothing, sumDue, termDue, factorDue, indexDue, inNumber, afterNumber, inIndex, afterBracket, afterTerm, Step, to}
+use Rattle.equation_spec.specs.Scan.{
+  Phase,
+  nothing,
+  sumDue,
+  termDue,
+  factorDue,
+  indexDue,
+  inNumber,
+  afterNumber,
+  inIndex,
+  afterBracket,
+  afterTerm,
+  Step,
+  to,
+}
 use Rattle.equation_spec.specs.Scan.{fault, onward, factorBegins, termBegins, sumBegins, afterDigits, afterFactor, step, final, goOn, placeFrom, place}
 use Rattle.equation_spec.specs.ScanBack.{accepts, accepted-reads}
 use Rattle.equation_spec.specs.ScanRun.{Over, closes, equates, over-byte, reads-accepted}

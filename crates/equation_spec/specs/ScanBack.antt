@@ -14,7 +14,25 @@ use Rattle.texts.specs.Reading.{mayFollow, isDigit, digit}
 use Rattle.texts.specs.NumberLaws.{digit-range}
 use Rattle.texts.specs.ReadLaws.{digit-byte}
 use Rattle.texts.specs.DecimalLaws.{decimal-digit, decimal-next}
-use Rattle.equation_spec.specs.Grammar.{Sign, plus, minus, Lead, bare, led, Sum, one, more, Term, number, plain, times, Factor, unknown, bracket, Equation}
+use Rattle.equation_spec.specs.Grammar.{
+  Sign,
+  plus,
+  minus,
+  Lead,
+  bare,
+  led,
+  Sum,
+  one,
+  more,
+  Term,
+  number,
+  plain,
+  times,
+  Factor,
+  unknown,
+  bracket,
+  Equation,
+}
 use Rattle.equation_spec.specs.Grammar.{Part, numeral, variable, sign, star, opening, closing, equals, sumParts, termParts, factorParts, parts, letter}
 use Rattle.equation_spec.specs.Grammar.{starByte, openByte, closeByte, equalsByte, signByte, Spells, done, Reads}
 use Rattle.equation_spec.specs.Reader.{mostDigits}
@@ -22,7 +40,21 @@ use Rattle.equation_spec.specs.TextLaws.{NonEmpty, some, term-some, fact
 use Rattle.equation_spec.specs.SoundLaws.{here, few-digits}
 use Rattle.texts.specs.Places.{Room}
 use Rattle.texts.specs.NumberLaws.{room-small, room-digit, room-first}
-use Rattle.equation_spec.specs.Scan.{Phase, nothing, sumDue, termDue, factorDue, indexDue, inNumber, afterNumber, inIndex, afterBracket, afterTerm, Step, to}
+use Rattle.equation_spec.specs.Scan.{
+  Phase,
+  nothing,
+  sumDue,
+  termDue,
+  factorDue,
+  indexDue,
+  inNumber,
+  afterNumber,
+  inIndex,
+  afterBracket,
+  afterTerm,
+  Step,
+  to,
+}
 use Rattle.equation_spec.specs.Scan.{fault, equating, onward, factorBegins, termBegins, sumBegins, afterDigits, afterFactor, indexed, step, final, goOn}
 use Rattle.equation_spec.specs.Scan as scan
 

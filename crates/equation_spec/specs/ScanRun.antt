@@ -12,13 +12,45 @@ use Rattle.texts.specs.Decimals.{space, zeroDigit, decimal}
 use Rattle.texts.specs.Reading.{mayFollow, isDigit, digit}
 use Rattle.texts.specs.DecimalLaws.{decimal-digit, decimal-more, by-digits, Begins, begins, digits-most, by-first}
 use Rattle.texts.specs.WriteLaws.{digit-is, digit-of}
-use Rattle.equation_spec.specs.Grammar.{Sign, plus, minus, bare, led, Sum, one, more, Term, number, plain, times, Factor, unknown, bracket, Equation, Part}
+use Rattle.equation_spec.specs.Grammar.{
+  Sign,
+  plus,
+  minus,
+  bare,
+  led,
+  Sum,
+  one,
+  more,
+  Term,
+  number,
+  plain,
+  times,
+  Factor,
+  unknown,
+  bracket,
+  Equation,
+  Part,
+}
 use Rattle.equation_spec.specs.Grammar.{sign, star, closing, equals, sumParts, termParts, factorParts, parts, letter, starByte, openByte, closeByte}
 use Rattle.equation_spec.specs.Grammar.{equalsByte, signByte, Spells, done, next, Reads}
 use Rattle.equation_spec.specs.Reader.{skip, mostDigits}
 use Rattle.equation_spec.specs.PartLaws.{first}
 use Rattle.equation_spec.specs.Agreement.{no-space}
-use Rattle.equation_spec.specs.Scan.{Phase, nothing, sumDue, termDue, factorDue, indexDue, inNumber, afterNumber, inIndex, afterBracket, afterTerm, to, fault}
+use Rattle.equation_spec.specs.Scan.{
+  Phase,
+  nothing,
+  sumDue,
+  termDue,
+  factorDue,
+  indexDue,
+  inNumber,
+  afterNumber,
+  inIndex,
+  afterBracket,
+  afterTerm,
+  to,
+  fault,
+}
 use Rattle.equation_spec.specs.Scan.{onward, factorBegins, termBegins, sumBegins, afterDigits, afterFactor, step, termEnds, goOn}
 use Rattle.equation_spec.specs.Scan as scan
 use Rattle.equation_spec.specs.ScanBack.{accepts}

@@ -13,11 +13,55 @@ use Rattle.texts.specs.ParseLaws.{not-parsed, same, cond-cases, and-then}
 use Rattle.texts.specs.Places.{FewDigits}
 use Rattle.texts.specs.NumberLaws.{natural-below}
 use Rattle.texts.specs.ReadLaws.{natural-read}
-use Rattle.equation_spec.specs.Grammar.{Sign, Lead, bare, led, Sum, one, more, Term, number, plain, times, Factor, unknown, bracket, Equation, Part, numeral}
-use Rattle.equation_spec.specs.Grammar.{variable, sign, star, opening, closing, equals, sumParts, termParts, factorParts, parts, letter, starByte, openByte}
+use Rattle.equation_spec.specs.Grammar.{
+  Sign,
+  Lead,
+  bare,
+  led,
+  Sum,
+  one,
+  more,
+  Term,
+  number,
+  plain,
+  times,
+  Factor,
+  unknown,
+  bracket,
+  Equation,
+  Part,
+  numeral,
+}
+use Rattle.equation_spec.specs.Grammar.{
+  variable,
+  sign,
+  star,
+  opening,
+  closing,
+  equals,
+  sumParts,
+  termParts,
+  factorParts,
+  parts,
+  letter,
+  starByte,
+  openByte,
+}
 use Rattle.equation_spec.specs.Grammar.{closeByte, equalsByte, signByte, bytes, Allowed, Spells, done, next}
 use Rattle.equation_spec.specs.Meaning.{sumDepth, termDepth, factorDepth}
-use Rattle.equation_spec.specs.Reader.{skip, mostDigits, readNumeral, within, readIndex, readFactor, afterNumeral, readTerm, moreTerms, firstTerm, readSum}
+use Rattle.equation_spec.specs.Reader.{
+  skip,
+  mostDigits,
+  readNumeral,
+  within,
+  readIndex,
+  readFactor,
+  afterNumeral,
+  readTerm,
+  moreTerms,
+  firstTerm,
+  readSum,
+}
 use Rattle.equation_spec.specs.Reader.{closed, readBracket, ended, rightOf, readEquation}
 use Rattle.equation_spec.specs.TextLaws.{on-byte, on-sign, some, sum-some, term-some, factor-some, spaced}
 

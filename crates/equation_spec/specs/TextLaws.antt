@@ -7,7 +7,25 @@ use lib.Dec.{eqb}
 use borrow.Author.Tests.{eqb-true}
 use Rattle.texts.specs.Decimals.{space}
 use Rattle.texts.specs.ParseLaws.{cond-cases}
-use Rattle.equation_spec.specs.Grammar.{Sign, plus, minus, bare, led, Sum, one, more, Term, number, plain, times, Factor, unknown, bracket, Part, sumParts}
+use Rattle.equation_spec.specs.Grammar.{
+  Sign,
+  plus,
+  minus,
+  bare,
+  led,
+  Sum,
+  one,
+  more,
+  Term,
+  number,
+  plain,
+  times,
+  Factor,
+  unknown,
+  bracket,
+  Part,
+  sumParts,
+}
 use Rattle.equation_spec.specs.Grammar.{termParts, factorParts, bytes, signByte, Spells, next}
 use Rattle.equation_spec.specs.Reader.{skip, onByte, onSign}
 

@@ -13,7 +13,25 @@ use Rattle.texts.specs.Decimals.{space, decimal}
 use Rattle.texts.specs.DecimalLaws.{begins, digits-most, by-first}
 use Rattle.map_spec.specs.Form.{CoefsInRange}
 use Rattle.texts.specs.Decimals as texts
-use Rattle.equation_spec.specs.Grammar.{Sign, plus, minus, bare, led, Sum, one, more, Term, number, plain, times, unknown, bracket, Equation, Part, numeral}
+use Rattle.equation_spec.specs.Grammar.{
+  Sign,
+  plus,
+  minus,
+  bare,
+  led,
+  Sum,
+  one,
+  more,
+  Term,
+  number,
+  plain,
+  times,
+  unknown,
+  bracket,
+  Equation,
+  Part,
+  numeral,
+}
 use Rattle.equation_spec.specs.Grammar.{variable, sign, star, equals, sumParts, termParts, factorParts, parts, letter, starByte, signByte, bytes, Allowed}
 use Rattle.equation_spec.specs.Grammar.{Spells, done, next, Reads}
 use Rattle.equation_spec.specs.Meaning.{single, ofSum, ofTerm, ofFactor, coefficient, rightSide, sumDepth, termDepth, sumSteep, termSteep}

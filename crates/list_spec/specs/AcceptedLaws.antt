@@ -9,7 +9,19 @@ use lib.IntN.{pos}
 use lib.ListN.{length, getD}
 use Rattle.linear.specs.Cases.{split, below-suc}
 use Rattle.list_spec.specs.Words.{wordAt, unsigned, signed, total, wrappingSum}
-use Rattle.list_spec.specs.Form.{blockWords, streamWords, laterBlocks, blockCount, rowCount, stream, contentWord, blockWord, fileWord, fileBlocks, written}
+use Rattle.list_spec.specs.Form.{
+  blockWords,
+  streamWords,
+  laterBlocks,
+  blockCount,
+  rowCount,
+  stream,
+  contentWord,
+  blockWord,
+  fileWord,
+  fileBlocks,
+  written,
+}
 use Rattle.list_spec.specs.Reading.{unknownsOf, rowsOf, coefWords, rowWords, inBlock, streamAt, listIn}
 use Rattle.list_spec.specs.WordLaws.{Bytes, word-small, file-encoded, encoded-same}
 use Rattle.list_spec.specs.SumLaws.{total-same, last-word}

@@ -23,11 +23,20 @@ refused-requires-2 : tie.Need-refused-requires-2
 refused-requires-2 c κs = search needs
 
 returns-2 : tie.Need-returns-2
-returns-2 c = let s = c .before .before .before .before .before .before .before in rw (c .refused2 .ensures) (fresh-full (s .pre .0) (s .pre .1) (sym (c .before .before .before .before .most-value-small .ensures) ∙ not-false _ (c .before .before .before .if1 .left)) (c .before .before .count-not-below .ensures) (c .before .if2 .taken))
+returns-2 c = let s = c .before .before .before .before .before .before .before in rw (c .refused2 .ensures)
+    (fresh-full (s .pre .0) (s .pre .1) (sym (c .before .before .before .before .most-value-small .ensures) ∙ not-false _
+    (c .before .before .before .if1 .left)) (c .before .before .count-not-below .ensures) (c .before .if2 .taken))
 
 keep-filled-requires : tie.Need-keep-filled-requires
-keep-filled-requires c κs = let s = c .before .before .before .before .before .before .before in
-    (s .pre .0 .whole, s .pre .0 .valued .long, (sym (c .before .before .before .before .most-value-small .ensures) ∙ not-false _ (c .before .before .before .if1 .left)), fresh-room (s .pre .0) (s .pre .1) (sym (c .before .before .before .before .most-value-small .ensures) ∙ not-false _ (c .before .before .before .if1 .left)) (c .before .before .count-not-below .ensures) (c .before .if2 .left))
+keep-filled-requires c κs = let s = c .before .before .before .before .before .before .before in (
+  s .pre .0 .whole,
+  s .pre .0 .valued .long,
+  (sym (c .before .before .before .before .most-value-small .ensures) ∙ not-false _
+      (c .before .before .before .if1 .left)),
+  fresh-room (s .pre .0) (s .pre .1)
+      (sym (c .before .before .before .before .most-value-small .ensures) ∙ not-false _ (c .before .before .before .if1 .left))
+      (c .before .before .count-not-below .ensures) (c .before .if2 .left),
+)
 
 rests-requires : tie.Need-rests-requires
 rests-requires c κs = c .before .before .before .before .before .before .before .before .before .before .pre .0 .ends
@@ -37,7 +46,9 @@ same-length c = search needs
 
 returns-3 : tie.Need-returns-3
 returns-3 c = let s = c .before .before .before .before .before .before .before .before .before .before .before in
-    fresh-done (s .pre .0) (s .pre .1) (sym (c .before .before .before .before .before .before .before .before .most-value-small .ensures) ∙ not-false _ (c .before .before .before .before .before .before .before .if1 .left)) (c .before .before .before .before .before .before .count-not-below .ensures) (c .before .before .before .before .before .if2 .left) (c .before .before .before .keep-filled .ensures .0) (c .rests .ensures)
+    fresh-done (s .pre .0) (s .pre .1) (sym (c .before .before .before .before .before .before .before .before .most-value-small .ensures) ∙ not-false _
+    (c .before .before .before .before .before .before .before .if1 .left)) (c .before .before .before .before .before .before .count-not-below .ensures)
+    (c .before .before .before .before .before .if2 .left) (c .before .before .before .keep-filled .ensures .0) (c .rests .ensures)
 
 pub finish-fresh-spec : {M : Type 1} → statement M
 finish-fresh-spec =

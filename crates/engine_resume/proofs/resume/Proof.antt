@@ -14,7 +14,8 @@ stage-room-requires c κs = search needs
 
 check-standing-requires : tie.Need-check-standing-requires
 check-standing-requires c κs = let s = c .before .before .before .before .before .before .before .before .before .before .before .args in
-    resume-roomed (s .q) (now (s .basis)) (now (s .sizes)) (now (s .table)) (sidesOf (now (s .values)) (now (s .words)) (now (s .degrees)) (now (s .marks)) (now (s .mothers)))
+    resume-roomed (s .q) (now (s .basis)) (now (s .sizes)) (now (s .table)) (sidesOf (now (s .values)) (now (s .words)) (now (s .degrees)) (now (s .marks))
+    (now (s .mothers)))
     (c .before .before .before .basis-room .ensures) (c .before .before .stage-room .ensures)
 
 enum-known-why : tie.Need-enum-known-why
@@ -27,9 +28,12 @@ enum-told : tie.Need-enum-told
 enum-told c = search needs
 
 rested-requires : tie.Need-rested-requires
-rested-requires c κs = let s = c .before .before .before .before .before .before .before .before .before .before .before .before .before .before .before .before .args in resume-stands (s .p) (s .q) (s .budget) (now (s .equations)) (now (s .basis)) (now (s .sizes)) (now (s .table))
-    (sidesOf (now (s .values)) (now (s .words)) (now (s .degrees)) (now (s .marks)) (now (s .mothers))) (s .r) (c .before .before .before .before .before .before .before .before .basis-room .ensures)
-    (c .before .before .before .before .before .before .before .stage-room .ensures) (c .before .before .before .before .check-standing .ensures) (c .before .before .enum-told .given .1) .size .equations
+rested-requires c κs = let s = c .before .before .before .before .before .before .before .before .before .before .before .before .before .before .before
+    .before .args in resume-stands (s .p) (s .q) (s .budget) (now (s .equations)) (now (s .basis)) (now (s .sizes)) (now (s .table))
+    (sidesOf (now (s .values)) (now (s .words)) (now (s .degrees)) (now (s .marks)) (now (s .mothers))) (s .r)
+    (c .before .before .before .before .before .before .before .before .basis-room .ensures)
+    (c .before .before .before .before .before .before .before .stage-room .ensures) (c .before .before .before .before .check-standing .ensures)
+    (c .before .before .enum-told .given .1) .size .equations
 
 same-length : tie.Need-same-length
 same-length c = search needs
@@ -38,14 +42,24 @@ same-length-2 : tie.Need-same-length-2
 same-length-2 c = search needs
 
 returns : tie.Need-returns
-returns c = let s = c .before .before .before .before .before .before .before .before .before .before .before .before .before .before .before .before .before .args in resume-rested (s .p) (s .q) (s .budget) (now (s .equations)) (now (s .basis)) (now (s .sizes)) (now (s .table))
-    (sidesOf (now (s .values)) (now (s .words)) (now (s .degrees)) (now (s .marks)) (now (s .mothers))) (s .r) (c .before .before .before .before .before .before .before .before .before .basis-room .ensures)
-    (c .before .before .before .before .before .before .before .before .stage-room .ensures) (c .before .before .before .before .before .check-standing .ensures) (c .before .before .before .enum-told .given .1) (c .before .if1 .taken) (c .rested .ensures .0) (c .rested .ensures .1)
+returns c = let s = c .before .before .before .before .before .before .before .before .before .before .before .before .before .before .before .before .before
+    .args in resume-rested (s .p) (s .q) (s .budget) (now (s .equations)) (now (s .basis)) (now (s .sizes)) (now (s .table))
+    (sidesOf (now (s .values)) (now (s .words)) (now (s .degrees)) (now (s .marks)) (now (s .mothers))) (s .r)
+    (c .before .before .before .before .before .before .before .before .before .basis-room .ensures)
+    (c .before .before .before .before .before .before .before .before .stage-room .ensures)
+    (c .before .before .before .before .before .check-standing .ensures) (c .before .before .before .enum-told .given .1) (c .before .if1 .taken)
+    (c .rested .ensures .0) (c .rested .ensures .1)
 
 go-on-requires : tie.Need-go-on-requires
-go-on-requires c κs = let s = c .before .before .before .before .before .before .before .before .before .before .before .before .before .before .before .before .before .before .before .before .before .before .before .before .args in resume-enters (s .p) (s .q) (s .budget) (now (s .equations)) (now (s .basis)) (now (s .sizes)) (now (s .table))
-    (sidesOf (now (s .values)) (now (s .words)) (now (s .degrees)) (now (s .marks)) (now (s .mothers))) (s .r) (c .before .before .before .before .before .before .before .before .before .before .before .before .before .before .before .before .basis-room .ensures)
-    (c .before .before .before .before .before .before .before .before .before .before .before .before .before .before .before .stage-room .ensures) (c .before .before .before .before .before .before .before .before .before .before .before .before .check-standing .ensures) (c .before .before .before .before .before .before .before .before .before .before .enum-told .given .1) (c .before .before .before .before .before .before .before .before .if1 .left)
+go-on-requires c κs = let s = c .before .before .before .before .before .before .before .before .before .before .before .before .before .before .before .before
+    .before .before .before .before .before .before .before .before .args in resume-enters (s .p) (s .q) (s .budget) (now (s .equations)) (now (s .basis))
+    (now (s .sizes)) (now (s .table))
+    (sidesOf (now (s .values)) (now (s .words)) (now (s .degrees)) (now (s .marks)) (now (s .mothers))) (s .r)
+    (c .before .before .before .before .before .before .before .before .before .before .before .before .before .before .before .before .basis-room .ensures)
+    (c .before .before .before .before .before .before .before .before .before .before .before .before .before .before .before .stage-room .ensures)
+    (c .before .before .before .before .before .before .before .before .before .before .before .before .check-standing .ensures)
+    (c .before .before .before .before .before .before .before .before .before .before .enum-told .given .1)
+    (c .before .before .before .before .before .before .before .before .if1 .left)
 
 same-length-3 : tie.Need-same-length-3
 same-length-3 c = search needs
@@ -54,9 +68,12 @@ same-length-4 : tie.Need-same-length-4
 same-length-4 c = search needs
 
 returns-2 : tie.Need-returns-2
-returns-2 c = let s = c .before .before .before .before .before .before .before .before .before .before .before .before .before .before .before .before .args in rw (c .refused .ensures) (resume-refused (s .p) (s .q) (s .budget) (now (s .equations)) (now (s .basis)) (now (s .sizes)) (now (s .table))
-    (sidesOf (now (s .values)) (now (s .words)) (now (s .degrees)) (now (s .marks)) (now (s .mothers))) (s .r) (c .before .before .before .before .before .before .before .before .basis-room .ensures)
-    (c .before .before .before .before .before .before .before .stage-room .ensures) (c .before .before .before .before .check-standing .ensures) (c .before .before .why .given .1))
+returns-2 c = let s = c .before .before .before .before .before .before .before .before .before .before .before .before .before .before .before .before .args
+    in rw (c .refused .ensures) (resume-refused (s .p) (s .q) (s .budget) (now (s .equations)) (now (s .basis)) (now (s .sizes)) (now (s .table))
+    (sidesOf (now (s .values)) (now (s .words)) (now (s .degrees)) (now (s .marks)) (now (s .mothers))) (s .r)
+    (c .before .before .before .before .before .before .before .before .basis-room .ensures)
+    (c .before .before .before .before .before .before .before .stage-room .ensures) (c .before .before .before .before .check-standing .ensures)
+    (c .before .before .why .given .1))
 
 same-length-5 : tie.Need-same-length-5
 same-length-5 c = search needs
@@ -83,9 +100,22 @@ same-length-12 : tie.Need-same-length-12
 same-length-12 c = search needs
 
 returns-3 : tie.Need-returns-3
-returns-3 c = let s = c .before .before .before .before .before .before .before .before .before .before .before .before .before .before .before .before .before .before .before .before .before .before .before .before .before .before .before .before .before .before .before .before .before .before .before .before .before .before .before .before .args in resume-ran (s .p) (s .q) (s .budget) (now (s .equations)) (now (s .basis)) (now (s .sizes)) (now (s .table))
-    (sidesOf (now (s .values)) (now (s .words)) (now (s .degrees)) (now (s .marks)) (now (s .mothers))) (s .r) (c .before .before .before .before .before .before .before .before .before .before .before .before .before .before .before .before .before .before .before .before .before .before .before .before .before .before .before .before .before .before .before .before .basis-room .ensures)
-    (c .before .before .before .before .before .before .before .before .before .before .before .before .before .before .before .before .before .before .before .before .before .before .before .before .before .before .before .before .before .before .before .stage-room .ensures) (c .before .before .before .before .before .before .before .before .before .before .before .before .before .before .before .before .before .before .before .before .before .before .before .before .before .before .before .before .check-standing .ensures) (c .before .before .before .before .before .before .before .before .before .before .before .before .before .before .before .before .before .before .before .before .before .before .before .before .before .before .enum-told .given .1) (c .before .before .before .before .before .before .before .before .before .before .before .before .before .before .before .before .before .before .before .before .before .before .before .before .if1 .left) (c .before .before .before .before .before .before .before .before .before .before .before .before .before .before .before .go-on .ensures)
+returns-3 c = let s = c .before .before .before .before .before .before .before .before .before .before .before .before .before .before .before .before .before
+    .before .before .before .before .before .before .before .before .before .before .before .before .before .before .before .before .before .before .before
+    .before .before .before .before .args in resume-ran (s .p) (s .q) (s .budget) (now (s .equations)) (now (s .basis)) (now (s .sizes)) (now (s .table))
+    (sidesOf (now (s .values)) (now (s .words)) (now (s .degrees)) (now (s .marks)) (now (s .mothers))) (s .r)
+    (c .before .before .before .before .before .before .before .before .before .before .before .before .before .before .before .before .before .before
+    .before .before .before .before .before .before .before .before .before .before .before .before .before .before .basis-room .ensures)
+    (c .before .before .before .before .before .before .before .before .before .before .before .before .before .before .before .before .before .before .before
+    .before .before .before .before .before .before .before .before .before .before .before .before .stage-room .ensures)
+    (c .before .before .before .before .before .before .before .before .before .before .before .before .before .before .before .before .before .before
+    .before .before .before .before .before .before .before .before .before .before .check-standing .ensures)
+    (c .before .before .before .before .before .before .before .before .before .before .before .before .before .before .before .before .before
+    .before .before .before .before .before .before .before .before .before .enum-told .given .1)
+    (c .before .before .before .before .before .before .before .before .before .before .before .before .before .before .before .before
+    .before .before .before .before .before .before .before .before .if1 .left)
+    (c .before .before .before .before .before .before .before .before .before .before .before .before .before .before .before
+    .go-on .ensures)
 
 pub resume-spec : {M : Type 1} → statement M
 resume-spec =

@@ -20,7 +20,8 @@ use Rattle.engine_checks.proofs.operations.combines_small.Statement.{st
 use Rattle.engine_checks.proofs.operations.combines_small.Tie as tie
 
 abbrev Inv-loop : tie.InvT-loop
-Inv-loop equations q x y u t j₀ j = (j ≤ q) × (allTo j (λ k. leb (natAbs ((toZ w32 u *ℤ equationAt equations x k) +ℤ (toZ w32 t *ℤ equationAt equations y k))) coefficientLimit) ≡ true)
+Inv-loop equations q x y u t j₀ j = (j ≤ q) × (allTo j (λ k. leb (natAbs ((toZ w32 u *ℤ equationAt equations x k) +ℤ (toZ w32 t *ℤ equationAt equations y k)))
+    coefficientLimit) ≡ true)
 
 abbrev μ-loop : tie.MeasureT-loop
 μ-loop equations q x y u t j₀ j = q - j
@@ -47,7 +48,8 @@ shared-slice-copy-out-combined-2 : tie.Need-shared-slice-copy-out-combined-2 Inv
 shared-slice-copy-out-combined-2 c = search needs
 
 combined-requires : tie.Need-combined-requires Inv-loop μ-loop
-combined-requires c κs = let s = c .before .before .before .before in reads-small (s .pre .0) (s .pre .1) (s .fits .u) (s .fits .t) (c .before .before .before .loop .j) (c .before .before .loop-test .taken)
+combined-requires c κs = let s = c .before .before .before .before in reads-small (s .pre .0) (s .pre .1) (s .fits .u) (s .fits .t)
+    (c .before .before .before .loop .j) (c .before .before .loop-test .taken)
 
 will-be-small-requires : tie.Need-will-be-small-requires Inv-loop μ-loop
 will-be-small-requires c κs = search needs
@@ -76,8 +78,11 @@ loop-again : tie.Need-loop-again Inv-loop μ-loop
 loop-again c = let s = c .before .before .before .before .before .before .before in
     let e = tested (c .before) in
     let u = toZ-ofZ (s .fits .u) in
-    let t = toZ-ofZ (s .fits .t) in
-    (search needs, simp (u, t) (all-next _ _ (simp (u, t) at (c .before .before .before .before .before .before .loop .inv .1)) (sym e ∙ not-false _ (c .if1 .left))))
+    let t = toZ-ofZ (s .fits .t) in (
+      search needs,
+      simp (u, t) (all-next _ _ (simp (u, t) at (c .before .before .before .before .before .before .loop .inv .1))
+          (sym e ∙ not-false _ (c .if1 .left))),
+    )
 
 returns-2 : tie.Need-returns-2 Inv-loop μ-loop
 unfolding combinesSmall

@@ -42,7 +42,11 @@ loop-less : tie.Need-loop-less Inv-loop μ-loop
 loop-less c = search needs
 
 loop-again : tie.Need-loop-again Inv-loop μ-loop
-loop-again c = let a = c .before .before .before in (search needs, all-next _ _ (a .loop .inv .1) (sym (c .before .is-row .ensures) ∙ not-false _ (c .if1 .left)))
+loop-again c = let a = c .before .before .before in (
+  search needs,
+  all-next _ _ (a .loop .inv .1)
+      (sym (c .before .is-row .ensures) ∙ not-false _ (c .if1 .left)),
+)
 
 returns-2 : tie.Need-returns-2 Inv-loop μ-loop
 unfolding areRows

@@ -37,7 +37,8 @@ is-small-requires : tie.Need-is-small-requires Inv-loop μ-loop
 is-small-requires c κs = search needs
 
 tested : (c : tie.After-is-small Inv-loop μ-loop)
-    → c .is-small .result ≡ leb (natAbs (getD (now (c .before .before .before .before .args .equations)) (c .before .before .before .loop .i) (pos 0))) coefficientLimit
+    → c .is-small .result ≡ leb (natAbs (getD (now (c .before .before .before .before .args .equations)) (c .before .before .before .loop .i) (pos 0)))
+    coefficientLimit
 tested c = rw (toZ-ofZ (sfits-of (c .before .is-small-arg .given))) at (c .is-small .ensures)
 
 returns : tie.Need-returns Inv-loop μ-loop
@@ -51,7 +52,11 @@ loop-less : tie.Need-loop-less Inv-loop μ-loop
 loop-less c = search needs
 
 loop-again : tie.Need-loop-again Inv-loop μ-loop
-loop-again c = let a = c .before .before .before .before in (search needs, all-next _ _ (a .loop .inv .1) (sym (tested (c .before)) ∙ not-false _ (c .if1 .left)))
+loop-again c = let a = c .before .before .before .before in (
+  search needs,
+  all-next _ _ (a .loop .inv .1)
+      (sym (tested (c .before)) ∙ not-false _ (c .if1 .left)),
+)
 
 returns-2 : tie.Need-returns-2 Inv-loop μ-loop
 unfolding coefficientsSmall

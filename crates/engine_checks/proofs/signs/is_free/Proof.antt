@@ -16,7 +16,8 @@ is-zero-requires : tie.Need-is-zero-requires
 is-zero-requires c κs = search needs
 
 returns-2 : tie.Need-returns-2
-returns-2 c = rw (sym (c .before .before .is-done .ensures) ∙ not-false _ (c .before .if1 .left)) (rw (toZ-ofZ (c .before .before .before .fits .x)) at (c .is-zero .ensures))
+returns-2 c = rw (sym (c .before .before .is-done .ensures) ∙ not-false _ (c .before .if1 .left))
+    (rw (toZ-ofZ (c .before .before .before .fits .x)) at (c .is-zero .ensures))
 
 pub is-free-spec : {M : Type 1} → statement M
 is-free-spec = tie.close (tie.spec is-done-requires returns is-zero-requires returns-2)

@@ -28,12 +28,16 @@ mul-if1 c = let s = c .before .before .before .before .before in
 
 returns : tie.Need-returns
 unfolding standing
-returns c = let s = c .before .before .before .before .before .before in sizes-passed (s .args .p) (s .args .q) (c .before .before .before .check .ensures) _ (c .before .enum-told .given .1) (system-short (s .args .p) (s .args .q) (s .args .most) (s .args .room) (workOf (now (s .args .equations)) (now (s .args .basis)) (now (s .args .table)) (s .args .r)) (lt-ltb _ _ (c .if1 .taken)))
+returns c = let s = c .before .before .before .before .before .before in sizes-passed (s .args .p) (s .args .q) (c .before .before .before .check .ensures) _
+    (c .before .enum-told .given .1) (system-short (s .args .p) (s .args .q) (s .args .most) (s .args .room)
+    (workOf (now (s .args .equations)) (now (s .args .basis)) (now (s .args .table)) (s .args .r)) (lt-ltb _ _ (c .if1 .taken)))
 
 returns-2 : tie.Need-returns-2
 unfolding standing
-returns-2 c = let s = c .before .before .before .before .before .before .before in sizes-passed (s .args .p) (s .args .q) (c .before .before .before .before .check .ensures) _ (c .before .before .enum-told .given .1)
-    (basis-short (s .args .p) (s .args .q) (s .args .most) (s .args .room) (workOf (now (s .args .equations)) (now (s .args .basis)) (now (s .args .table)) (s .args .r)) (le-ltb _ _ (c .before .if1 .left)) (lt-ltb _ _ (c .if2 .taken)))
+returns-2 c = let s = c .before .before .before .before .before .before .before in sizes-passed (s .args .p) (s .args .q)
+    (c .before .before .before .before .check .ensures) _ (c .before .before .enum-told .given .1)
+    (basis-short (s .args .p) (s .args .q) (s .args .most) (s .args .room) (workOf (now (s .args .equations)) (now (s .args .basis)) (now (s .args .table))
+    (s .args .r)) (le-ltb _ _ (c .before .if1 .left)) (lt-ltb _ _ (c .if2 .taken)))
 
 in-order-requires : tie.Need-in-order-requires
 in-order-requires c κs = let s = c .before .before .before .before .before .before .before in
@@ -42,18 +46,23 @@ in-order-requires c κs = let s = c .before .before .before .before .before .bef
 
 returns-3 : tie.Need-returns-3
 unfolding standing
-returns-3 c = let s = c .before .before .before .before .before .before .before .before .before in sizes-passed (s .args .p) (s .args .q) (c .before .before .before .before .before .before .check .ensures) _ (c .before .before .before .before .enum-told .given .1)
-    (order-refuses (s .args .p) (s .args .q) (s .args .most) (s .args .room) (workOf (now (s .args .equations)) (now (s .args .basis)) (now (s .args .table)) (s .args .r)) (le-ltb _ _ (c .before .before .before .if1 .left)) (le-ltb _ _ (c .before .before .if2 .left)) (c .before .in-order .ensures)
+returns-3 c = let s = c .before .before .before .before .before .before .before .before .before in sizes-passed (s .args .p) (s .args .q)
+    (c .before .before .before .before .before .before .check .ensures) _ (c .before .before .before .before .enum-told .given .1)
+    (order-refuses (s .args .p) (s .args .q) (s .args .most) (s .args .room) (workOf (now (s .args .equations)) (now (s .args .basis)) (now (s .args .table))
+    (s .args .r)) (le-ltb _ _ (c .before .before .before .if1 .left)) (le-ltb _ _ (c .before .before .if2 .left)) (c .before .in-order .ensures)
     (c .if3 .taken))
 
 returns-4 : tie.Need-returns-4
 unfolding standing
-returns-4 c = let s = c .before .before .before .before .before .before in sizes-refused (s .args .p) (s .args .q) (c .before .before .before .check .ensures) _ (c .before .why .given .1)
+returns-4 c = let s = c .before .before .before .before .before .before in sizes-refused (s .args .p) (s .args .q) (c .before .before .before .check .ensures)
+    _ (c .before .why .given .1)
 
 returns-5 : tie.Need-returns-5
 unfolding standing
-returns-5 c = let s = c .before .before .before .before .before .before .before .before .before in sizes-passed (s .args .p) (s .args .q) (c .before .before .before .before .before .before .check .ensures) _ (c .before .before .before .before .enum-told .given .1)
-    (order-passes (s .args .p) (s .args .q) (s .args .most) (s .args .room) (workOf (now (s .args .equations)) (now (s .args .basis)) (now (s .args .table)) (s .args .r)) (le-ltb _ _ (c .before .before .before .if1 .left)) (le-ltb _ _ (c .before .before .if2 .left)) (c .before .in-order .ensures)
+returns-5 c = let s = c .before .before .before .before .before .before .before .before .before in sizes-passed (s .args .p) (s .args .q)
+    (c .before .before .before .before .before .before .check .ensures) _ (c .before .before .before .before .enum-told .given .1)
+    (order-passes (s .args .p) (s .args .q) (s .args .most) (s .args .room) (workOf (now (s .args .equations)) (now (s .args .basis)) (now (s .args .table))
+    (s .args .r)) (le-ltb _ _ (c .before .before .before .if1 .left)) (le-ltb _ _ (c .before .before .if2 .left)) (c .before .in-order .ensures)
     (c .if3 .left))
 
 pub check-standing-spec : {M : Type 1} → statement M

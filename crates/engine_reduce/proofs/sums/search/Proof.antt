@@ -20,7 +20,8 @@ use Rattle.engine_beside.proofs.words.fits.Reads as fits-reads
 use Rattle.engine_reduce.proofs.sums.reduces_at.Reads as reduces-at-reads
 
 abbrev Inv-loop : tie.InvT-loop
-Inv-loop table values words n q upper lower sum word i₀ i = (i ≤ n) × (reducibleBy q i (at table q) (integerAt values) (sumOf q table upper lower) (toZ w64 sum) ≡ false)
+Inv-loop table values words n q upper lower sum word i₀ i = (i ≤ n) × (reducibleBy q i (at table q) (integerAt values) (sumOf q table upper lower)
+    (toZ w64 sum) ≡ false)
 
 abbrev μ-loop : tie.MeasureT-loop
 μ-loop table values words n q upper lower sum word i₀ i = n - i

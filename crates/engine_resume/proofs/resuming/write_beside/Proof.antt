@@ -19,7 +19,14 @@ write-degrees-requires-2 : tie.Need-write-degrees-requires-2
 write-degrees-requires-2 c κs = search needs
 
 write-marks-requires : tie.Need-write-marks-requires
-write-marks-requires c κs = let p = c .before .before .before .before .before .before .before .before .before .before .before .before .before .before .before .before .before .before .before .before .before .before .before .before .pre in (p .rows, valued-bounded (p .small) (p .rows) (c .before .before .before .before .before .before .before .before .before .before .before .write-values .ensures .0), p .mothered, p .marked)
+write-marks-requires c κs = let p = c .before .before .before .before .before .before .before .before .before .before .before .before .before .before .before
+    .before .before .before .before .before .before .before .before .before .pre in (
+      p .rows,
+      valued-bounded (p .small) (p .rows) (c .before .before .before .before .before .before .before .before .before .before .before .write-values
+          .ensures .0),
+      p .mothered,
+      p .marked,
+    )
 
 same-length : tie.Need-same-length
 same-length c = search needs
@@ -37,7 +44,8 @@ same-length-5 : tie.Need-same-length-5
 same-length-5 c = search needs
 
 returns : tie.Need-returns
-returns c = let d = c .before .before .before .before .before .before .before .before .before .before .before .before .before .before .before .before .before .before .write-degrees .ensures in
+returns c = let d = c .before .before .before .before .before .before .before .before .before .before .before .before .before .before .before .before .before
+    .before .write-degrees .ensures in
     let v = c .before .before .before .before .before .before .before .before .before .before .before .before .before .before .write-values .ensures in
     let w = c .before .before .before .before .before .before .before .before .before .before .before .write-words .ensures in
     let g = c .before .before .before .before .before .before .before .write-degrees2 .ensures in

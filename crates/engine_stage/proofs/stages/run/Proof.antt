@@ -1,5 +1,17 @@
 -- `run` is the stage's turns: what is left of the budget, from where the loop stands, comes to what the whole call comes to. Assumes nothing.
-use Rattle.engine_stage.specs.Running.{Going, Long, goes-again, going-start, left-long, long-start, paused-left, stops-ends, stops-full, stops-large, stops-late}
+use Rattle.engine_stage.specs.Running.{
+  Going,
+  Long,
+  goes-again,
+  going-start,
+  left-long,
+  long-start,
+  paused-left,
+  stops-ends,
+  stops-full,
+  stops-large,
+  stops-late,
+}
 use Rattle.engine_stage.specs.Standing.{lentOf, sidesOf}
 use native.Mathlib.Omega.{arith}
 use borrow.Author.Needs.{needs}
@@ -7,13 +19,15 @@ use Rattle.engine_stage.proofs.stages.run.Statement.{statement}
 use Rattle.engine_stage.proofs.stages.run.Tie as tie
 
 abbrev Inv-loop : tie.InvT-loop
-Inv-loop f coefs basis sizes table₀ values₀ words₀ degrees₀ marks₀ mothers₀ budget held₀ places₀ at₀ left₀ table values words degrees marks mothers held places at left =
+Inv-loop f coefs basis sizes table₀ values₀ words₀ degrees₀ marks₀ mothers₀ budget held₀ places₀ at₀ left₀ table values words degrees marks mothers held places
+    at left =
     Going f (lentOf coefs basis sizes) budget table₀ (sidesOf values₀ words₀ degrees₀ marks₀ mothers₀) at₀ left table
     (sidesOf values words degrees marks mothers) at
     × Long table₀ (sidesOf values₀ words₀ degrees₀ marks₀ mothers₀) table (sidesOf values words degrees marks mothers)
 
 abbrev μ-loop : tie.MeasureT-loop
-μ-loop f coefs basis sizes table₀ values₀ words₀ degrees₀ marks₀ mothers₀ budget held₀ places₀ at₀ left₀ table values words degrees marks mothers held places at left = left
+μ-loop f coefs basis sizes table₀ values₀ words₀ degrees₀ marks₀ mothers₀ budget held₀ places₀ at₀ left₀ table values words degrees marks mothers held places
+    at left = left
 
 loop-holds : tie.Need-loop-holds Inv-loop μ-loop
 loop-holds c =
@@ -27,10 +41,18 @@ enum-known-next : tie.Need-enum-known-next Inv-loop μ-loop
 enum-known-next c = search needs
 
 sub-left : tie.Need-sub-left Inv-loop μ-loop
-sub-left c = omega (arith, c .before .before .before .before .before .before .before .before .before .before .before .before .before .before .before .before .before .before .before .before .before .before .before .loop-test .taken)
+sub-left c = omega (
+  arith,
+  c .before .before .before .before .before .before .before .before .before .before .before .before .before .before .before .before
+      .before .before .before .before .before .before .before .loop-test .taken,
+)
 
 loop-less : tie.Need-loop-less Inv-loop μ-loop
-loop-less c = omega (arith, c .before .before .before .before .before .before .before .before .before .before .before .before .before .before .before .before .before .before .before .before .before .before .before .loop-test .taken)
+loop-less c = omega (
+  arith,
+  c .before .before .before .before .before .before .before .before .before .before .before .before .before .before .before .before
+      .before .before .before .before .before .before .before .loop-test .taken,
+)
 
 loop-again : tie.Need-loop-again Inv-loop μ-loop
 loop-again c =

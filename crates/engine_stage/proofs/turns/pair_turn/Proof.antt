@@ -40,10 +40,12 @@ reduced-requires c κs =
     (p, word-is p (j .joined .ensures))
 
 add-t37 : tie.Need-add-t37
-add-t37 c = let s = c .before .before .before .before .before .before .before .before .before .before .before .before .before .before .before .before .before .before in omega (arith, s .pre .1 .lower, s .pre .0 .few, s .pre .0 .roomy .few)
+add-t37 c = let s = c .before .before .before .before .before .before .before .before .before .before .before .before .before .before .before .before .before
+    .before in omega (arith, s .pre .1 .lower, s .pre .0 .few, s .pre .0 .roomy .few)
 
 add-t38 : tie.Need-add-t38
-add-t38 c = let s = c .before .before .before .before .before .before .before .before .before .before .before .before .before .before .before .before .before .before .before in omega (arith, s .pre .1 .early)
+add-t38 c = let s = c .before .before .before .before .before .before .before .before .before .before .before .before .before .before .before .before .before
+    .before .before in omega (arith, s .pre .1 .early)
 
 same-length : tie.Need-same-length
 same-length c = search needs
@@ -65,17 +67,20 @@ returns c =
 
 mul-small-sum : tie.Need-mul-small-sum
 mul-small-sum c =
-    let s = c .before .before .before .before .before .before .before .before .before .before .before .before .before .before .before .before .before .before .before in
+    let s = c .before .before .before .before .before .before .before .before .before .before .before .before .before .before .before .before .before .before
+    .before in
     omega (arith, s .pre .0 .rows .whole, row-fits (s .args .f .q) (s .args .at .upper) (s .args .s .rows) (s .pre .1 .upper))
 
 mul-small-sum-2 : tie.Need-mul-small-sum-2
 mul-small-sum-2 c =
-    let s = c .before .before .before .before .before .before .before .before .before .before .before .before .before .before .before .before .before .before .before in
+    let s = c .before .before .before .before .before .before .before .before .before .before .before .before .before .before .before .before .before .before
+    .before in
     omega (arith, s .pre .0 .rows .whole, row-fits (s .args .f .q) (s .args .at .lower) (s .args .s .rows) (s .pre .1 .lower))
 
 small-sum-requires : tie.Need-small-sum-requires
 small-sum-requires c κs =
-    let s = c .before .before .before .before .before .before .before .before .before .before .before .before .before .before .before .before .before .before .before in
+    let s = c .before .before .before .before .before .before .before .before .before .before .before .before .before .before .before .before .before .before
+    .before in
     (table-row (s .pre .0 .rows) (s .args .at .upper) (s .pre .1 .upper), table-row (s .pre .0 .rows) (s .args .at .lower) (s .pre .1 .lower))
 
 same-length-5 : tie.Need-same-length-5
@@ -121,22 +126,31 @@ returns-3 c =
 append-pair-requires : tie.Need-append-pair-requires
 append-pair-requires c κs =
     let e = c .before .before .before .before .before .before in
-    let s = e .before .before .before .before .before .before .before .before .before .before .before .before .before .before .before .before .before .before .before .before .before .before .before in
+    let s = e .before .before .before .before .before .before .before .before .before .before .before .before .before .before .before .before .before .before
+    .before .before .before .before .before in
     pair-fits (s .pre .0) (s .pre .1) (e .if3 .left)
 
 appended-requires : tie.Need-appended-requires
 appended-requires c κs =
-    let s = c .before .before .before .before .before .before .before .before .before .before .before .before .before .before .before .before .before .before .before .before .before .before .before .before .before .before .before .before .before .before .before .before .before .before .before .before .before .before .before .before .before .before in
+    let s = c .before .before .before .before .before .before .before .before .before .before .before .before .before .before .before .before .before .before
+    .before .before .before .before .before .before .before .before .before .before .before .before .before .before .before .before .before .before .before
+    .before .before .before .before .before in
     omega (arith, s .pre .0 .few, s .pre .0 .roomy .few)
 
 add-t20 : tie.Need-add-t20
-add-t20 c = let s = c .before .before .before .before .before .before .before .before .before .before .before .before .before .before .before .before .before .before .before .before .before .before .before .before .before .before .before .before .before .before .before .before .before .before .before .before .before .before .before .before .before .before .before in omega (arith, s .pre .0 .few, s .pre .0 .roomy .few)
+add-t20 c = let s = c .before .before .before .before .before .before .before .before .before .before .before .before .before .before .before .before .before
+    .before .before .before .before .before .before .before .before .before .before .before .before .before .before .before .before .before .before .before
+    .before .before .before .before .before .before .before in omega (arith, s .pre .0 .few, s .pre .0 .roomy .few)
 
 add-t23 : tie.Need-add-t23
-add-t23 c = let s = c .before .before .before .before .before .before .before .before .before .before .before .before .before .before .before .before .before .before .before .before .before .before .before .before .before .before .before .before .before .before .before .before .before .before .before .before .before .before .before .before .before .before .before in omega (arith, s .pre .1 .lower, s .pre .0 .few, s .pre .0 .roomy .few)
+add-t23 c = let s = c .before .before .before .before .before .before .before .before .before .before .before .before .before .before .before .before .before
+    .before .before .before .before .before .before .before .before .before .before .before .before .before .before .before .before .before .before .before
+    .before .before .before .before .before .before .before in omega (arith, s .pre .1 .lower, s .pre .0 .few, s .pre .0 .roomy .few)
 
 add-t22 : tie.Need-add-t22
-add-t22 c = let s = c .before .before .before .before .before .before .before .before .before .before .before .before .before .before .before .before .before .before .before .before .before .before .before .before .before .before .before .before .before .before .before .before .before .before .before .before .before .before .before .before .before .before .before .before in omega (arith, s .pre .1 .early)
+add-t22 c = let s = c .before .before .before .before .before .before .before .before .before .before .before .before .before .before .before .before .before
+    .before .before .before .before .before .before .before .before .before .before .before .before .before .before .before .before .before .before .before
+    .before .before .before .before .before .before .before .before in omega (arith, s .pre .1 .early)
 
 same-length-13 : tie.Need-same-length-13
 same-length-13 c = search needs

@@ -41,20 +41,28 @@ append-row-requires c κs =
 
 appended-requires : tie.Need-appended-requires
 appended-requires c κs =
-    let s = c .before .before .before .before .before .before .before .before .before .before .before .before .before .before .before .before .before .before .before .before .before .before .before .before .before .before .before .before .before .before in
+    let s = c .before .before .before .before .before .before .before .before .before .before .before .before .before .before .before .before .before .before
+    .before .before .before .before .before .before .before .before .before .before .before .before in
     omega (arith, s .pre .0 .few, s .pre .0 .roomy .few)
 
 add-t19 : tie.Need-add-t19
-add-t19 c = let s = c .before .before .before .before .before .before .before .before .before .before .before .before .before .before .before .before .before .before .before .before .before .before .before .before .before .before .before .before .before .before .before in omega (arith, s .pre .0 .few, s .pre .0 .roomy .few)
+add-t19 c = let s = c .before .before .before .before .before .before .before .before .before .before .before .before .before .before .before .before .before
+    .before .before .before .before .before .before .before .before .before .before .before .before .before .before in omega
+    (arith, s .pre .0 .few, s .pre .0 .roomy .few)
 
 add-t36 : tie.Need-add-t36
-add-t36 c = let s = c .before .before .before .before .before .before .before .before .before .before .before .before .before .before .before .before .before .before .before .before .before .before .before .before .before .before .before .before .before .before .before in omega (arith, s .pre .1 .low, s .pre .0 .given .few)
+add-t36 c = let s = c .before .before .before .before .before .before .before .before .before .before .before .before .before .before .before .before .before
+    .before .before .before .before .before .before .before .before .before .before .before .before .before .before in omega
+    (arith, s .pre .1 .low, s .pre .0 .given .few)
 
 add-t37 : tie.Need-add-t37
-add-t37 c = let s = c .before .before .before .before .before .before .before .before .before .before .before .before .before .before .before .before .before .before .before .before .before .before .before .before .before .before .before .before .before .before .before .before in omega (arith, s .pre .1 .early)
+add-t37 c = let s = c .before .before .before .before .before .before .before .before .before .before .before .before .before .before .before .before .before
+    .before .before .before .before .before .before .before .before .before .before .before .before .before .before .before in omega (arith, s .pre .1 .early)
 
 add-t38 : tie.Need-add-t38
-add-t38 c = let s = c .before .before .before .before .before .before .before .before .before .before .before .before .before .before .before .before .before .before .before .before .before .before .before .before .before .before .before .before .before .before .before .before in omega (arith, s .pre .0 .few, s .pre .0 .roomy .few)
+add-t38 c = let s = c .before .before .before .before .before .before .before .before .before .before .before .before .before .before .before .before .before
+    .before .before .before .before .before .before .before .before .before .before .before .before .before .before .before in omega
+    (arith, s .pre .0 .few, s .pre .0 .roomy .few)
 
 same-length : tie.Need-same-length
 same-length c = search needs

@@ -88,7 +88,8 @@ returns-3 c =
     let e = n .before .before .before in
     let u = e .before in
     let s = u .before .before .before .before .before .before .before .before .before .before in
-    rw (by-pair (s .pre) (u .before .if1 .left) (spent-by (s .pre) (u .due .ensures) (e .if2 .left)) (n .next-pair .ensures) (t .if3 .taken)) (a .pair-turn .ensures)
+    rw (by-pair (s .pre) (u .before .if1 .left) (spent-by (s .pre) (u .due .ensures) (e .if2 .left)) (n .next-pair .ensures) (t .if3 .taken))
+    (a .pair-turn .ensures)
 
 next-degree-requires : tie.Need-next-degree-requires
 next-degree-requires c κs =
@@ -114,7 +115,8 @@ returns-4 c =
 
 add-t57 : tie.Need-add-t57
 add-t57 c =
-    let s = c .before .before .before .before .before .before .before .before .before .before .before .before .before .before .before .before .before .before .before .before .before in
+    let s = c .before .before .before .before .before .before .before .before .before .before .before .before .before .before .before .before .before .before
+    .before .before .before in
     let l = c .before .before .before .before .before .before .before .before .before .before .before .before in
     omega (arith, s .pre .early, l .if1 .left)
 
@@ -133,7 +135,8 @@ returns-5 c =
     let e = n .before .before .before in
     let u = e .before in
     let s = u .before .before .before .before .before .before .before .before .before .before in
-    by-raise (s .pre) (u .before .if1 .left) (spent-by (s .pre) (u .due .ensures) (e .if2 .left)) (n .next-pair .ensures) (f .if3 .left) (g .next-degree .ensures)
+    by-raise (s .pre) (u .before .if1 .left) (spent-by (s .pre) (u .due .ensures) (e .if2 .left)) (n .next-pair .ensures) (f .if3 .left)
+    (g .next-degree .ensures)
     (h .if4 .left)
 
 pub turn-spec : {M : Type 1} → statement M
