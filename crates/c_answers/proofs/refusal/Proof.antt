@@ -4,12 +4,6 @@ use Rattle.c_answers.specs.CodeLaws.{number-small, refusal-told}
 use Rattle.c_answers.proofs.refusal.Statement.{statement}
 use Rattle.c_answers.proofs.refusal.Tie as tie
 
-number-of-requires : tie.Need-number-of-requires
-number-of-requires c κs = search needs
-
-value-of-requires : tie.Need-value-of-requires
-value-of-requires c κs = search needs
-
 coded-requires : tie.Need-coded-requires
 coded-requires c κs = rw (c .before .number-of .ensures) (number-small (c .before .before .args .why))
 
@@ -17,4 +11,4 @@ returns : tie.Need-returns
 returns c = refusal-told (c .before .before .before .args .why) (c .coded .ensures) (c .before .before .number-of .ensures) (c .before .value-of .ensures)
 
 pub refusal-spec : {M : Type 1} → statement M
-refusal-spec = tie.close (tie.spec number-of-requires value-of-requires coded-requires returns)
+refusal-spec = tie.close (tie.spec (λ c κs. search needs) (λ c κs. search needs) coded-requires returns)

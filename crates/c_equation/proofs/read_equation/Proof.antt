@@ -5,35 +5,17 @@ use Rattle.c_equation.specs.CodeLaws.{read-refusal-fits, read-refused-to
 use Rattle.c_equation.proofs.read_equation.Statement.{statement}
 use Rattle.c_equation.proofs.read_equation.Tie as tie
 
-read-equation-requires : tie.Need-read-equation-requires
-read-equation-requires c κs = search needs
-
-enum-known-right : tie.Need-enum-known-right
-enum-known-right c = search needs
-
-element-set-from-right : tie.Need-element-set-from-right
-element-set-from-right c = search needs
-
-enum-known-why : tie.Need-enum-known-why
-enum-known-why c = search needs
-
 refusal-requires : tie.Need-refusal-requires
 refusal-requires c κs =
     let w = c .before .before .before .before in
     let s = w .before .before .before in
     read-refusal-fits (s .args .q) (now (s .args .text)) (now (s .args .row)) _ _ (w .read-equation .ensures) (c .before .why .given .1)
 
-same-length : tie.Need-same-length
-same-length c = search needs
-
 returns : tie.Need-returns
 returns c =
     let w = c .before .before .before .before in
     let s = w .before .before .before in
     read-told (s .args .q) (now (s .args .text)) (now (s .args .row)) _ _ (w .read-equation .ensures) (now (s .args .side)) (c .before .right .given .1)
-
-same-length-2 : tie.Need-same-length-2
-same-length-2 c = search needs
 
 returns-2 : tie.Need-returns-2
 returns-2 c =
@@ -46,12 +28,12 @@ pub read-equation-spec : {M : Type 1} → statement M
 read-equation-spec =
     tie.close
     (tie.spec
-    read-equation-requires
-    enum-known-right
-    element-set-from-right
-    enum-known-why
+    (λ c κs. search needs)
+    (λ c. search needs)
+    (λ c. search needs)
+    (λ c. search needs)
     refusal-requires
-    same-length
+    (λ c. search needs)
     returns
-    same-length-2
+    (λ c. search needs)
     returns-2)

@@ -7,15 +7,6 @@ use Rattle.c_list.specs.CodeLaws.{write-refusal-fits, write-refused-told
 use Rattle.c_list.proofs.write_list.Statement.{statement}
 use Rattle.c_list.proofs.write_list.Tie as tie
 
-write-list-requires : tie.Need-write-list-requires
-write-list-requires c κs = search needs
-
-enum-told : tie.Need-enum-told
-enum-told c = search needs
-
-enum-known-why : tie.Need-enum-known-why
-enum-known-why c = search needs
-
 abbrev list : tie.Start → ListFile
 list s = listOf (s .args .p) (s .args .q) (now (s .args .coefs)) (now (s .args .rows)) (s .args .ending)
 
@@ -25,17 +16,11 @@ refusal-requires c κs =
     let s = w .before .before .before .before in
     write-refusal-fits (list s) (now (s .args .out)) (w .write-list .ensures) (c .before .why .given .1)
 
-same-length : tie.Need-same-length
-same-length c = search needs
-
 returns : tie.Need-returns
 returns c =
     let w = c .before .before .before .before in
     let s = w .before .before .before .before in
     write-whole-told (list s) (now (s .args .out)) (w .write-list .ensures) (c .enum-told .given .1)
-
-same-length-2 : tie.Need-same-length-2
-same-length-2 c = search needs
 
 returns-2 : tie.Need-returns-2
 returns-2 c =
@@ -47,11 +32,11 @@ pub write-list-spec : {M : Type 1} → statement M
 write-list-spec =
     tie.close
     (tie.spec
-    write-list-requires
-    enum-told
-    enum-known-why
+    (λ c κs. search needs)
+    (λ c. search needs)
+    (λ c. search needs)
     refusal-requires
-    same-length
+    (λ c. search needs)
     returns
-    same-length-2
+    (λ c. search needs)
     returns-2)

@@ -4,21 +4,6 @@ use Rattle.c_map.specs.Words.{told-fits, told-map, told-refused}
 use Rattle.c_map.proofs.read_map.Statement.{statement}
 use Rattle.c_map.proofs.read_map.Tie as tie
 
-read-map-requires : tie.Need-read-map-requires
-read-map-requires c κs = search needs
-
-enum-known-p : tie.Need-enum-known-p
-enum-known-p c = search needs
-
-element-write-words : tie.Need-element-write-words
-element-write-words c = search needs
-
-element-write-words-2 : tie.Need-element-write-words-2
-element-write-words-2 c = search needs
-
-enum-known-why : tie.Need-enum-known-why
-enum-known-why c = search needs
-
 refusal-requires : tie.Need-refusal-requires
 refusal-requires c κs = let k = c .before in told-fits _ _ _ (k .before .before .read-map .ensures) (k .why .given .1)
 
@@ -33,4 +18,4 @@ returns-2 c =
 pub read-map-spec : {M : Type 1} → statement M
 read-map-spec =
     tie.close
-    (tie.spec read-map-requires enum-known-p element-write-words element-write-words-2 enum-known-why refusal-requires returns returns-2)
+    (tie.spec (λ c κs. search needs) (λ c. search needs) (λ c. search needs) (λ c. search needs) (λ c. search needs) refusal-requires returns returns-2)

@@ -6,32 +6,11 @@ use Rattle.c_rows.specs.RowLaws.{told-refused, told-shown}
 use Rattle.c_rows.proofs.tell.Statement.{statement}
 use Rattle.c_rows.proofs.tell.Tie as tie
 
-reader-answer-requires : tie.Need-reader-answer-requires
-reader-answer-requires c κs = search needs
-
-enum-known-why : tie.Need-enum-known-why
-enum-known-why c = search needs
-
-number-of-requires : tie.Need-number-of-requires
-number-of-requires c κs = search needs
-
-enum-told : tie.Need-enum-told
-enum-told c = search needs
-
-row-of-requires : tie.Need-row-of-requires
-row-of-requires c κs = search needs
-
-tell-part-requires : tie.Need-tell-part-requires
-tell-part-requires c κs = search needs
-
 returns : tie.Need-returns
 returns c =
     let y = c .before .before in
     let r = y .before .before in
     rw (c .number-of .ensures) (told-refused _ _ _ _ _ (sym (ap readableOf (y .why .given .1)) ∙ r .reader-answer .ensures))
-
-same-length : tie.Need-same-length
-same-length c = search needs
 
 returns-2 : tie.Need-returns-2
 returns-2 c =
@@ -45,12 +24,12 @@ pub tell-spec : {M : Type 1} → statement M
 tell-spec =
     tie.close
     (tie.spec
-    reader-answer-requires
-    enum-known-why
-    number-of-requires
-    enum-told
-    row-of-requires
-    tell-part-requires
+    (λ c κs. search needs)
+    (λ c. search needs)
+    (λ c κs. search needs)
+    (λ c. search needs)
+    (λ c κs. search needs)
+    (λ c κs. search needs)
     returns
-    same-length
+    (λ c. search needs)
     returns-2)

@@ -5,24 +5,6 @@ use Rattle.c_rows.specs.RowLaws.{either-refused, either-shown}
 use Rattle.c_rows.proofs.tell_either.Statement.{statement}
 use Rattle.c_rows.proofs.tell_either.Tie as tie
 
-has-two-lists-requires : tie.Need-has-two-lists-requires
-has-two-lists-requires c κs = search needs
-
-count-at-requires : tie.Need-count-at-requires
-count-at-requires c κs = search needs
-
-which-at-requires : tie.Need-which-at-requires
-which-at-requires c κs = search needs
-
-row-of-either-requires : tie.Need-row-of-either-requires
-row-of-either-requires c κs = search needs
-
-tell-part-requires : tie.Need-tell-part-requires
-tell-part-requires c κs = search needs
-
-same-length : tie.Need-same-length
-same-length c = search needs
-
 returns : tie.Need-returns
 returns c =
     let t = c .before .before in
@@ -41,11 +23,11 @@ pub tell-either-spec : {M : Type 1} → statement M
 tell-either-spec =
     tie.close
     (tie.spec
-    has-two-lists-requires
-    count-at-requires
-    which-at-requires
-    row-of-either-requires
-    tell-part-requires
-    same-length
+    (λ c κs. search needs)
+    (λ c κs. search needs)
+    (λ c κs. search needs)
+    (λ c κs. search needs)
+    (λ c κs. search needs)
+    (λ c. search needs)
     returns
     returns-2)

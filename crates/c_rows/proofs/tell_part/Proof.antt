@@ -10,12 +10,6 @@ returns c = told-none _ _ (c .if1 .taken)
 returns-2 : tie.Need-returns-2
 returns-2 c = told-short _ _ (c .before .if1 .left) (c .if2 .taken)
 
-copy-requires : tie.Need-copy-requires
-copy-requires c κs = search needs
-
-same-length : tie.Need-same-length
-same-length c = search needs
-
 returns-3 : tie.Need-returns-3
 returns-3 c =
     let w = c .before .before in
@@ -23,4 +17,4 @@ returns-3 c =
     told-copied _ _ (e .before .if1 .left) (e .if2 .left) (w .copy .ensures)
 
 pub tell-part-spec : {M : Type 1} → statement M
-tell-part-spec = tie.close (tie.spec returns returns-2 copy-requires same-length returns-3)
+tell-part-spec = tie.close (tie.spec returns returns-2 (λ c κs. search needs) (λ c. search needs) returns-3)

@@ -14,9 +14,6 @@ use Rattle.candidates.proofs.admitted.Tie as tie
 
 -- ---- a plain walk
 
-enum-told : tie.Need-enum-told
-enum-told c = search needs
-
 children-requires : tie.Need-children-requires
 children-requires c κs =
     let e = c .before in
@@ -55,4 +52,4 @@ returns-2 : tie.Need-returns-2
 returns-2 c = c .before .before .sifted .ensures
 
 pub admitted-spec : {M : Type 1} → statement M
-admitted-spec = tie.close (tie.spec enum-told children-requires sifted-requires same-length returns same-length-2 returns-2)
+admitted-spec = tie.close (tie.spec (λ c. search needs) children-requires sifted-requires same-length returns same-length-2 returns-2)

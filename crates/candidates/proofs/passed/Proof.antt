@@ -8,9 +8,6 @@ use Rattle.candidates.specs.Tried.{tried-marks}
 use Rattle.candidates.proofs.passed.Statement.{statement}
 use Rattle.candidates.proofs.passed.Tie as tie
 
-unstopped-requires : tie.Need-unstopped-requires
-unstopped-requires c κs = search needs
-
 limited-requires : tie.Need-limited-requires
 limited-requires c κs =
     let u = c .before .before .before in
@@ -30,4 +27,4 @@ returns c =
     )
 
 pub passed-spec : {M : Type 1} → statement M
-passed-spec = tie.close (tie.spec unstopped-requires limited-requires same-length returns)
+passed-spec = tie.close (tie.spec (λ c κs. search needs) limited-requires same-length returns)

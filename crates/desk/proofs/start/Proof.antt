@@ -12,24 +12,6 @@ use Rattle.desk_spec.specs.Valid.{start-shaped}
 use Rattle.desk.proofs.start.Statement.{statement}
 use Rattle.desk.proofs.start.Tie as tie
 
-check-start-requires : tie.Need-check-start-requires
-check-start-requires c κs = search needs
-
-enum-known-why : tie.Need-enum-known-why
-enum-known-why c = search needs
-
-refuse-requires : tie.Need-refuse-requires
-refuse-requires c κs = search needs
-
-enum-told : tie.Need-enum-told
-enum-told c = search needs
-
-refuse-wide-requires : tie.Need-refuse-wide-requires
-refuse-wide-requires c κs = search needs
-
-enum-told-2 : tie.Need-enum-told-2
-enum-told-2 c = search needs
-
 div-n : tie.Need-div-n
 div-n c =
     let k = c .before .before in
@@ -47,12 +29,6 @@ write-start-requires c κs =
     (passes (k .check-start .ensures) (t .enum-told2 .given .1)) in
     (g .q-few, g .few, div-mul-le-self (length (now (a .generators))) (a .q), g .stack)
 
-begin-requires : tie.Need-begin-requires
-begin-requires c κs = search needs
-
-same-length : tie.Need-same-length
-same-length c = search needs
-
 returns : tie.Need-returns
 unfolding deskBegin
 returns c =
@@ -60,18 +36,12 @@ returns c =
     let k = w .before .before in
     rw (c .refuse .ensures) (call-refused (k .check-start .ensures) _ _ (w .why .given .1))
 
-same-length-2 : tie.Need-same-length-2
-same-length-2 c = search needs
-
 returns-2 : tie.Need-returns-2
 unfolding deskBegin
 returns-2 c =
     let t = c .before in
     let k = t .before .before in
     rw (c .refuse-wide .ensures) (call-wide (k .check-start .ensures) _ _ (t .enum-told .given .1))
-
-same-length-3 : tie.Need-same-length-3
-same-length-3 c = search needs
 
 returns-3 : tie.Need-returns-3
 unfolding deskBegin deskStart
@@ -84,5 +54,6 @@ returns-3 c =
 pub start-spec : {M : Type 1} → statement M
 start-spec =
     tie.close
-    (tie.spec check-start-requires enum-known-why refuse-requires enum-told refuse-wide-requires enum-told-2 div-n write-start-requires begin-requires
-    same-length returns same-length-2 returns-2 same-length-3 returns-3)
+    (tie.spec (λ c κs. search needs) (λ c. search needs) (λ c κs. search needs) (λ c. search needs) (λ c κs. search needs) (λ c. search needs) div-n
+    write-start-requires (λ c κs. search needs)
+    (λ c. search needs) returns (λ c. search needs) returns-2 (λ c. search needs) returns-3)

@@ -32,18 +32,12 @@ loop-holds c =
 mul-read : tie.Need-mul-read Inv-loop μ-loop
 mul-read c = omega (arith, begun c .pre .2, row-fits (begun c .args .q) (c .before .loop .k) (begun c .args .n) (c .loop-test .taken))
 
-slice-aggregate-read : tie.Need-slice-aggregate-read Inv-loop μ-loop
-slice-aggregate-read c = search needs
-
 read-requires : tie.Need-read-requires Inv-loop μ-loop
 read-requires c κs =
     let l = c .before in (
       omega (arith, l .before .loop .inv .2, begun l .pre .0),
       omega (arith, begun l .pre .2, row-fits (begun l .args .q) (l .before .loop .k) (begun l .args .n) (l .loop-test .taken)),
     )
-
-slice-aggregate-write : tie.Need-slice-aggregate-write Inv-loop μ-loop
-slice-aggregate-write c = search needs
 
 write-requires : tie.Need-write-requires Inv-loop μ-loop
 write-requires c κs =
@@ -61,12 +55,6 @@ add-frozen : tie.Need-add-frozen Inv-loop μ-loop
 add-frozen c = let l = c .before .before .before .before .before .before .before .before in
     omega (arith, start-marks (l .before .loop .k) (low l) (l .before .loop .inv .3) .1)
 
-add-k : tie.Need-add-k Inv-loop μ-loop
-add-k c = search needs
-
-loop-less : tie.Need-loop-less Inv-loop μ-loop
-loop-less c = search needs
-
 loop-again : tie.Need-loop-again Inv-loop μ-loop
 loop-again c =
     let w = c .before .before in
@@ -83,14 +71,11 @@ loop-again c =
           (w .write .ensures),
     )
 
-same-length : tie.Need-same-length Inv-loop μ-loop
-same-length c = search needs
-
 returns : tie.Need-returns Inv-loop μ-loop
 returns c = let a = c .before in rw (le-antisymm (a .loop .inv .0) (c .loop-test .left)) at (a .loop .inv .4)
 
 pub write-start-spec : {M : Type 1} → statement M
 write-start-spec =
     tie.close
-    (tie.spec Inv-loop μ-loop loop-holds mul-read slice-aggregate-read read-requires slice-aggregate-write write-requires shl-frozen add-frozen add-k
-    loop-less loop-again same-length returns)
+    (tie.spec Inv-loop μ-loop loop-holds mul-read (λ c. search needs) read-requires (λ c. search needs) write-requires shl-frozen add-frozen (λ c. search needs)
+    (λ c. search needs) loop-again (λ c. search needs) returns)

@@ -11,21 +11,6 @@ use Rattle.dispatch.proofs.dispatch.Tie as tie
 records-long : (c : tie.Start) → length (c .args .records) ≡ 8
 records-long c = search needs
 
-check-requires : tie.Need-check-requires
-check-requires c κs = search needs
-
-enum-known-why : tie.Need-enum-known-why
-enum-known-why c = search needs
-
-refused-requires : tie.Need-refused-requires
-refused-requires c κs = search needs
-
-enum-told : tie.Need-enum-told
-enum-told c = search needs
-
-unserved-requires : tie.Need-unserved-requires
-unserved-requires c κs = search needs
-
 serve-requires : tie.Need-serve-requires
 serve-requires c κs =
     let u = c .before .before in
@@ -57,12 +42,6 @@ returns c =
     returns-refused (s .count) (s .shares) (now (s .coefs)) (s .quantum) (now (s .stack)) (now (s .list)) (s .records) (s .last) (s .turns)
     (k .check .ensures) (c .before .before .why .given .1) (c .refused .result) (c .refused .ensures)
 
-same-length : tie.Need-same-length
-same-length c = search needs
-
-same-length-2 : tie.Need-same-length-2
-same-length-2 c = search needs
-
 returns-2 : tie.Need-returns-2
 returns-2 c =
     let v = c .before .before .before .before .before .before .before .before .before .before in
@@ -78,14 +57,14 @@ pub dispatch-spec : {M : Type 1} → statement M
 dispatch-spec =
     tie.close
     (tie.spec
-    check-requires
-    enum-known-why
-    refused-requires
-    enum-told
-    unserved-requires
+    (λ c κs. search needs)
+    (λ c. search needs)
+    (λ c κs. search needs)
+    (λ c. search needs)
+    (λ c κs. search needs)
     serve-requires
     finish-requires
     returns
-    same-length
-    same-length-2
+    (λ c. search needs)
+    (λ c. search needs)
     returns-2)

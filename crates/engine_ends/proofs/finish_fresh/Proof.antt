@@ -9,18 +9,12 @@ use Rattle.engine_ends.proofs.finish_fresh.Tie as tie
 most-value-small-requires : tie.Need-most-value-small-requires
 most-value-small-requires c κs = c .before .before .pre .0 .valued .long
 
-refused-requires : tie.Need-refused-requires
-refused-requires c κs = search needs
-
 returns : tie.Need-returns
 returns c = let s = c .before .before .before .before .before in
     rw (c .refused .ensures) (fresh-large (s .pre .0) (s .pre .1) (sym (c .before .before .most-value-small .ensures) ∙ not-true _ (c .before .if1 .taken)))
 
 count-not-below-requires : tie.Need-count-not-below-requires
 count-not-below-requires c κs = c .before .before .before .before .pre .0 .valued .long
-
-refused-requires-2 : tie.Need-refused-requires-2
-refused-requires-2 c κs = search needs
 
 returns-2 : tie.Need-returns-2
 returns-2 c = let s = c .before .before .before .before .before .before .before in rw (c .refused2 .ensures)
@@ -41,9 +35,6 @@ keep-filled-requires c κs = let s = c .before .before .before .before .before .
 rests-requires : tie.Need-rests-requires
 rests-requires c κs = c .before .before .before .before .before .before .before .before .before .before .pre .0 .ends
 
-same-length : tie.Need-same-length
-same-length c = search needs
-
 returns-3 : tie.Need-returns-3
 returns-3 c = let s = c .before .before .before .before .before .before .before .before .before .before .before in
     fresh-done (s .pre .0) (s .pre .1) (sym (c .before .before .before .before .before .before .before .before .most-value-small .ensures) ∙ not-false _
@@ -55,12 +46,12 @@ finish-fresh-spec =
     tie.close
     (tie.spec
     most-value-small-requires
-    refused-requires
+    (λ c κs. search needs)
     returns
     count-not-below-requires
-    refused-requires-2
+    (λ c κs. search needs)
     returns-2
     keep-filled-requires
     rests-requires
-    same-length
+    (λ c. search needs)
     returns-3)

@@ -7,9 +7,6 @@ use Rattle.engine_ends.proofs.finish_plain.Tie as tie
 count-zeros-requires : tie.Need-count-zeros-requires
 count-zeros-requires c κs = c .before .before .pre .0 .valued .long
 
-refused-requires : tie.Need-refused-requires
-refused-requires c κs = search needs
-
 returns : tie.Need-returns
 returns c = let s = c .before .before .before .before .before in rw (c .refused .ensures)
     (plain-full (s .pre .0) (s .pre .1) (c .before .before .count-zeros .ensures) (c .before .if1 .taken))
@@ -25,9 +22,6 @@ keep-zeros-requires c κs = let s = c .before .before .before .before .before in
 rests-requires : tie.Need-rests-requires
 rests-requires c κs = c .before .before .before .before .before .before .before .before .pre .0 .ends
 
-same-length : tie.Need-same-length
-same-length c = search needs
-
 returns-2 : tie.Need-returns-2
 returns-2 c = let s = c .before .before .before .before .before .before .before .before .before in plain-done (s .pre .0) (s .pre .1)
     (c .before .before .before .before .before .before .count-zeros .ensures) (c .before .before .before .before .before .if1 .left)
@@ -38,9 +32,9 @@ finish-plain-spec =
     tie.close
     (tie.spec
     count-zeros-requires
-    refused-requires
+    (λ c κs. search needs)
     returns
     keep-zeros-requires
     rests-requires
-    same-length
+    (λ c. search needs)
     returns-2)

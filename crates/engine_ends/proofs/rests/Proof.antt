@@ -7,9 +7,6 @@ use borrow.Author.Needs.{needs}
 use Rattle.engine_ends.proofs.rests.Statement.{statement}
 use Rattle.engine_ends.proofs.rests.Tie as tie
 
-cast-bit : tie.Need-cast-bit
-cast-bit c = search needs
-
 shl-bit : tie.Need-shl-bit
 shl-bit c = omega (arith, c .pre .going, c .pre .few)
 
@@ -29,4 +26,4 @@ returns c = let s = c .before .before .before in record {
 }
 
 pub rests-spec : {M : Type 1} → statement M
-rests-spec = tie.close (tie.spec cast-bit shl-bit add-done add-steps answer-for-requires returns)
+rests-spec = tie.close (tie.spec (λ c. search needs) shl-bit add-done add-steps answer-for-requires returns)

@@ -13,12 +13,9 @@ returns-2 : tie.Need-returns-2
 unfolding sumBegins
 returns-2 c = rw (c .if2 .taken)
 
-term-begins-requires : tie.Need-term-begins-requires
-term-begins-requires c κs = search needs
-
 returns-3 : tie.Need-returns-3
 unfolding sumBegins
 returns-3 c = rw (ne-eqb _ 43 (c .before .before .if1 .left), ne-eqb _ 45 (c .before .if2 .left)) (c .term-begins .ensures)
 
 pub sum-begins-spec : {M : Type 1} → statement M
-sum-begins-spec = tie.close (tie.spec returns returns-2 term-begins-requires returns-3)
+sum-begins-spec = tie.close (tie.spec returns returns-2 (λ c κs. search needs) returns-3)

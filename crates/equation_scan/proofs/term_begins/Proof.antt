@@ -7,12 +7,6 @@ use borrow.Author.Needs.{needs}
 use Rattle.equation_scan.proofs.term_begins.Statement.{statement}
 use Rattle.equation_scan.proofs.term_begins.Tie as tie
 
-is-digit-requires : tie.Need-is-digit-requires
-is-digit-requires c κs = search needs
-
-factor-begins-requires : tie.Need-factor-begins-requires
-factor-begins-requires c κs = search needs
-
 returns : tie.Need-returns
 unfolding termBegins
 returns c = rw (sym (c .before .before .is-digit .ensures) ∙ not-true _ (c .before .if1 .taken)) (c .factor-begins .ensures)
@@ -26,4 +20,4 @@ returns-3 c = number-first _ _ _ (sym (c .before .before .is-digit .ensures) ∙
 
 pub term-begins-spec : {M : Type 1} → statement M
 term-begins-spec =
-    tie.close (tie.spec is-digit-requires factor-begins-requires returns returns-2 returns-3)
+    tie.close (tie.spec (λ c κs. search needs) (λ c κs. search needs) returns returns-2 returns-3)

@@ -7,26 +7,14 @@ use Rattle.list_blocks.specs.SignLaws.{natural-word, negative-fits, one-
 use Rattle.list_blocks.proofs.signed.Statement.{statement}
 use Rattle.list_blocks.proofs.signed.Tie as tie
 
-cast-result : tie.Need-cast-result
-cast-result c = search needs
-
-sub-below : tie.Need-sub-below
-sub-below c = search needs
-
-cast-below : tie.Need-cast-below
-cast-below c = search needs
-
 small : (c : tie.Else1) → 4294967295 - c .before .args .w < 2 ^ 31
 small c = omega arith
 
 sub-result : tie.Need-sub-result
 sub-result c = rw (natural-word _ (small c), one-less) (negative-fits _ (small c))
 
-returns : tie.Need-returns
-returns c = search needs
-
 returns-2 : tie.Need-returns-2
 returns-2 c = rw (natural-word _ (small c), one-less, toZ-ofZ (negative-fits _ (small c))) (negative-word _ (c .if1 .left))
 
 pub signed-spec : {M : Type 1} → statement M
-signed-spec = tie.close (tie.spec cast-result sub-below cast-below sub-result returns returns-2)
+signed-spec = tie.close (tie.spec (λ c. search needs) (λ c. search needs) (λ c. search needs) sub-result (λ c. search needs) returns-2)

@@ -8,9 +8,6 @@ use Rattle.record_order.specs.Order.{aboveWalkFits, record-height}
 use Rattle.record_order.proofs.above_walk_fits.Statement.{statement}
 use Rattle.record_order.proofs.above_walk_fits.Tie as tie
 
-in-order-requires : tie.Need-in-order-requires
-in-order-requires c κs = search needs
-
 returns : tie.Need-returns
 unfolding aboveWalkFits
 returns c = rw (sym (c .before .in-order .ensures) ∙ not-true _ (c .if1 .taken))
@@ -31,4 +28,4 @@ returns-3 c =
     rw (sym (f .before .before .in-order .ensures) ∙ not-false _ (f .before .if1 .left), sym (f .above-fits .ensures) ∙ not-false _ (c .if2 .left))
 
 pub above-walk-fits-spec : {M : Type 1} → statement M
-above-walk-fits-spec = tie.close (tie.spec in-order-requires returns above-fits-requires returns-2 returns-3)
+above-walk-fits-spec = tie.close (tie.spec (λ c κs. search needs) returns above-fits-requires returns-2 returns-3)

@@ -13,9 +13,6 @@ use Rattle.record_order.specs.Order.{cappedFits}
 use Rattle.record_order.proofs.capped_fits.Statement.{statement}
 use Rattle.record_order.proofs.capped_fits.Tie as tie
 
-div-if1 : tie.Need-div-if1
-div-if1 c = search needs
-
 returns : tie.Need-returns
 unfolding cappedFits
 returns c =
@@ -33,4 +30,4 @@ unfolding cappedFits
 returns-2 c = rw (le-leb _ _ (c .before .if1 .left)) (c .firsts-fit .ensures)
 
 pub capped-fits-spec : {M : Type 1} → statement M
-capped-fits-spec = tie.close (tie.spec div-if1 returns firsts-fit-requires returns-2)
+capped-fits-spec = tie.close (tie.spec (λ c. search needs) returns firsts-fit-requires returns-2)

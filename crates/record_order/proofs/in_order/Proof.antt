@@ -12,9 +12,6 @@ use Rattle.record_order.specs.Order.{recordFits}
 use Rattle.record_order.proofs.in_order.Statement.{statement}
 use Rattle.record_order.proofs.in_order.Tie as tie
 
-same-run-requires : tie.Need-same-run-requires
-same-run-requires c κs = search needs
-
 returns : tie.Need-returns
 unfolding recordFits
 returns c = let e = sym (c .before .same-run .ensures) ∙ not-true _ (c .if1 .taken) in rw e
@@ -36,9 +33,6 @@ returns-4 c =
     let a = c .before .before .before .before .before .before .before .args in
     let e : leb (a .r .deepest) deepestLimit ≡ false = lt-leb _ _ (c .if4 .taken) in
     rw (e, and-false, and-false, and-false, and-false)
-
-div-if5 : tie.Need-div-if5
-div-if5 c = search needs
 
 returns-5 : tie.Need-returns-5
 unfolding recordFits
@@ -67,12 +61,12 @@ pub in-order-spec : {M : Type 1} → statement M
 in-order-spec =
     tie.close
     (tie.spec
-    same-run-requires
+    (λ c κs. search needs)
     returns
     returns-2
     returns-3
     returns-4
-    div-if5
+    (λ c. search needs)
     returns-5
     rows-in-order-requires
     returns-6)

@@ -17,27 +17,6 @@ by-record s e =
     let a = s .args in
     ap (λ k. lowerFits (kindOf k) (a .q) (a .limit) (now (a .lower)) (now (a .stack)) (now (a .list)) (now (a .second)) (runOf (a .r))) (sym e)
 
-enum-told : tie.Need-enum-told
-enum-told c = search needs
-
-enum-told-2 : tie.Need-enum-told-2
-enum-told-2 c = search needs
-
-enum-told-3 : tie.Need-enum-told-3
-enum-told-3 c = search needs
-
-plain-walk-fits-requires : tie.Need-plain-walk-fits-requires
-plain-walk-fits-requires c κs = search needs
-
-enum-told-4 : tie.Need-enum-told-4
-enum-told-4 c = search needs
-
-above-walk-fits-requires : tie.Need-above-walk-fits-requires
-above-walk-fits-requires c κs = search needs
-
-enum-told-5 : tie.Need-enum-told-5
-enum-told-5 c = search needs
-
 returns : tie.Need-returns
 returns c = by-record (c .before .before .before .before .before .before) (c .enum-told .given .1)
 
@@ -59,13 +38,13 @@ pub lower-in-order-spec : {M : Type 1} → statement M
 lower-in-order-spec =
     tie.close
     (tie.spec
-    enum-told
-    enum-told-2
-    enum-told-3
-    plain-walk-fits-requires
-    enum-told-4
-    above-walk-fits-requires
-    enum-told-5
+    (λ c. search needs)
+    (λ c. search needs)
+    (λ c. search needs)
+    (λ c κs. search needs)
+    (λ c. search needs)
+    (λ c κs. search needs)
+    (λ c. search needs)
     returns
     returns-2
     returns-3

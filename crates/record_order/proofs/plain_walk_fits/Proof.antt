@@ -10,12 +10,6 @@ use Rattle.record_order.specs.Order.{plainWalkFits, recordFits}
 use Rattle.record_order.proofs.plain_walk_fits.Statement.{statement}
 use Rattle.record_order.proofs.plain_walk_fits.Tie as tie
 
-plain-part-requires : tie.Need-plain-part-requires
-plain-part-requires c κs = search needs
-
-in-order-requires : tie.Need-in-order-requires
-in-order-requires c κs = search needs
-
 abbrev startOf : tie.After-in-order → tie.Start
 startOf c = c .before .before .before .before .before
 
@@ -30,9 +24,6 @@ returns : tie.Need-returns
 unfolding plainWalkFits
 returns c = rw (sym (tested (c .before)) ∙ not-true _ (c .if1 .taken))
 
-div-if2 : tie.Need-div-if2
-div-if2 c = search needs
-
 returns-2 : tie.Need-returns-2
 unfolding plainWalkFits
 returns-2 c = rw (lt-leb _ _ (c .if2 .taken), and-false)
@@ -43,4 +34,4 @@ returns-3 c = rw (sym (tested (c .before .before)) ∙ not-false _ (c .before .i
 
 pub plain-walk-fits-spec : {M : Type 1} → statement M
 plain-walk-fits-spec =
-    tie.close (tie.spec plain-part-requires in-order-requires returns div-if2 returns-2 returns-3)
+    tie.close (tie.spec (λ c κs. search needs) (λ c κs. search needs) returns (λ c. search needs) returns-2 returns-3)

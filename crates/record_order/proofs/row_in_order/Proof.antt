@@ -28,24 +28,9 @@ Inv-loop q stack k limit base j₀ j = (j ≤ q) × (allTo j (small limit q stac
 abbrev μ-loop : tie.MeasureT-loop
 μ-loop q stack k limit base j₀ j = q - j
 
-add-base : tie.Need-add-base Inv-loop μ-loop
-add-base c = search needs
-
-mul-base : tie.Need-mul-base Inv-loop μ-loop
-mul-base c = search needs
-
 loop-holds : tie.Need-loop-holds Inv-loop μ-loop
 unfolding allTo
 loop-holds c = (search needs, refl)
-
-add-if1 : tie.Need-add-if1 Inv-loop μ-loop
-add-if1 c = search needs
-
-mul-if1 : tie.Need-mul-if1 Inv-loop μ-loop
-mul-if1 c = search needs
-
-shared-slice-read-if1 : tie.Need-shared-slice-read-if1 Inv-loop μ-loop
-shared-slice-read-if1 c = search needs
 
 returns : tie.Need-returns Inv-loop μ-loop
 unfolding rowFits
@@ -54,23 +39,8 @@ returns c =
     let s = l .before .before .before .args in
     rw (all-fails _ (small (s .limit) (s .q) (now (s .stack)) (s .k)) (l .before .loop .j) (l .loop-test .taken) (lt-leb _ _ (c .if1 .taken)))
 
-add-j : tie.Need-add-j Inv-loop μ-loop
-add-j c = search needs
-
-loop-less : tie.Need-loop-less Inv-loop μ-loop
-loop-less c = search needs
-
 loop-again : tie.Need-loop-again Inv-loop μ-loop
 loop-again c = (search needs, all-next _ _ (c .before .before .before .loop .inv .1) (le-leb _ _ (c .if1 .left)))
-
-add-marks : tie.Need-add-marks Inv-loop μ-loop
-add-marks c = search needs
-
-mul-marks : tie.Need-mul-marks Inv-loop μ-loop
-mul-marks c = search needs
-
-shared-slice-read-marks : tie.Need-shared-slice-read-marks Inv-loop μ-loop
-shared-slice-read-marks c = search needs
 
 cast-past : tie.Need-cast-past Inv-loop μ-loop
 cast-past c = omega arith
@@ -93,9 +63,6 @@ returns-2 c =
     let beyond = rw (shift-one (s .q) (omega arith)) at (c .if2 .taken) in
     rw (whole l, le-ltb (at (now (s .stack)) (s .q + 1) (s .k) (s .q)) (2 ^ s .q) (omega arith))
 
-count-marks-requires : tie.Need-count-marks-requires Inv-loop μ-loop
-count-marks-requires c κs = search needs
-
 returns-3 : tie.Need-returns-3 Inv-loop μ-loop
 unfolding rowFits
 returns-3 c =
@@ -110,21 +77,21 @@ row-in-order-spec =
     (tie.spec
     Inv-loop
     μ-loop
-    add-base
-    mul-base
+    (λ c. search needs)
+    (λ c. search needs)
     loop-holds
-    add-if1
-    mul-if1
-    shared-slice-read-if1
+    (λ c. search needs)
+    (λ c. search needs)
+    (λ c. search needs)
     returns
-    add-j
-    loop-less
+    (λ c. search needs)
+    (λ c. search needs)
     loop-again
-    add-marks
-    mul-marks
-    shared-slice-read-marks
+    (λ c. search needs)
+    (λ c. search needs)
+    (λ c. search needs)
     cast-past
     shl-past
     returns-2
-    count-marks-requires
+    (λ c κs. search needs)
     returns-3)

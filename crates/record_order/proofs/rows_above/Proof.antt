@@ -34,12 +34,6 @@ returns : tie.Need-returns Inv-loop μ-loop
 returns c =
     sym (all-fails _ _ _ (c .before .before .loop-test .taken) (sym (c .before .row-above .ensures) ∙ not-true _ (c .if1 .taken)))
 
-add-k : tie.Need-add-k Inv-loop μ-loop
-add-k c = search needs
-
-loop-less : tie.Need-loop-less Inv-loop μ-loop
-loop-less c = search needs
-
 loop-again : tie.Need-loop-again Inv-loop μ-loop
 loop-again c =
     let a = c .before .before .before in
@@ -50,4 +44,4 @@ returns-2 c = cc (le-antisymm (c .before .loop .inv .0) (c .loop-test .left))
 
 pub rows-above-spec : {M : Type 1} → statement M
 rows-above-spec =
-    tie.close (tie.spec Inv-loop μ-loop loop-holds row-above-requires returns add-k loop-less loop-again returns-2)
+    tie.close (tie.spec Inv-loop μ-loop loop-holds row-above-requires returns (λ c. search needs) (λ c. search needs) loop-again returns-2)

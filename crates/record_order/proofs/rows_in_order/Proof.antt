@@ -30,12 +30,6 @@ returns : tie.Need-returns Inv-loop μ-loop
 returns c =
     sym (all-fails _ _ _ (c .before .before .loop-test .taken) (sym (c .before .row-in-order .ensures) ∙ not-true _ (c .if1 .taken)))
 
-add-k : tie.Need-add-k Inv-loop μ-loop
-add-k c = search needs
-
-loop-less : tie.Need-loop-less Inv-loop μ-loop
-loop-less c = search needs
-
 loop-again : tie.Need-loop-again Inv-loop μ-loop
 loop-again c =
     let a = c .before .before .before in
@@ -53,7 +47,7 @@ rows-in-order-spec =
     loop-holds
     row-in-order-requires
     returns
-    add-k
-    loop-less
+    (λ c. search needs)
+    (λ c. search needs)
     loop-again
     returns-2)

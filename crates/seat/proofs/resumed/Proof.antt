@@ -4,34 +4,10 @@ use borrow.Author.Needs.{needs}
 use Rattle.seat.proofs.resumed.Statement.{statement}
 use Rattle.seat.proofs.resumed.Tie as tie
 
-check-requires : tie.Need-check-requires
-check-requires c κs = search needs
-
-enum-known-why : tie.Need-enum-known-why
-enum-known-why c = search needs
-
-refused-requires : tie.Need-refused-requires
-refused-requires c κs = search needs
-
-enum-told : tie.Need-enum-told
-enum-told c = search needs
-
-resumed-requires : tie.Need-resumed-requires
-resumed-requires c κs = search needs
-
-seat-outcome-requires : tie.Need-seat-outcome-requires
-seat-outcome-requires c κs = search needs
-
 returns : tie.Need-returns
 returns c =
     let w = c .before .before in
     rw (c .refused .ensures) (resume-refused _ _ _ _ (w .before .before .check .ensures) (w .why .given .1) _)
-
-same-length : tie.Need-same-length
-same-length c = search needs
-
-same-length-2 : tie.Need-same-length-2
-same-length-2 c = search needs
 
 returns-2 : tie.Need-returns-2
 returns-2 c =
@@ -43,13 +19,13 @@ pub resumed-spec : {M : Type 1} → statement M
 resumed-spec =
     tie.close
     (tie.spec
-    check-requires
-    enum-known-why
-    refused-requires
-    enum-told
-    resumed-requires
-    seat-outcome-requires
+    (λ c κs. search needs)
+    (λ c. search needs)
+    (λ c κs. search needs)
+    (λ c. search needs)
+    (λ c κs. search needs)
+    (λ c κs. search needs)
     returns
-    same-length
-    same-length-2
+    (λ c. search needs)
+    (λ c. search needs)
     returns-2)

@@ -4,37 +4,10 @@ use borrow.Author.Needs.{needs}
 use Rattle.seat.proofs.resumed_from.Statement.{statement}
 use Rattle.seat.proofs.resumed_from.Tie as tie
 
-check-requires : tie.Need-check-requires
-check-requires c κs = search needs
-
-enum-known-why : tie.Need-enum-known-why
-enum-known-why c = search needs
-
-refused-requires : tie.Need-refused-requires
-refused-requires c κs = search needs
-
-enum-told : tie.Need-enum-told
-enum-told c = search needs
-
-resumed-from-requires : tie.Need-resumed-from-requires
-resumed-from-requires c κs = search needs
-
-seat-outcome-requires : tie.Need-seat-outcome-requires
-seat-outcome-requires c κs = search needs
-
 returns : tie.Need-returns
 returns c =
     let w = c .before .before in
     rw (c .refused .ensures) (resume-from-refused _ _ _ _ (w .before .before .check .ensures) (w .why .given .1) _ _)
-
-same-length : tie.Need-same-length
-same-length c = search needs
-
-same-length-2 : tie.Need-same-length-2
-same-length-2 c = search needs
-
-same-length-3 : tie.Need-same-length-3
-same-length-3 c = search needs
 
 returns-2 : tie.Need-returns-2
 returns-2 c =
@@ -46,14 +19,14 @@ pub resumed-from-spec : {M : Type 1} → statement M
 resumed-from-spec =
     tie.close
     (tie.spec
-    check-requires
-    enum-known-why
-    refused-requires
-    enum-told
-    resumed-from-requires
-    seat-outcome-requires
+    (λ c κs. search needs)
+    (λ c. search needs)
+    (λ c κs. search needs)
+    (λ c. search needs)
+    (λ c κs. search needs)
+    (λ c κs. search needs)
     returns
-    same-length
-    same-length-2
-    same-length-3
+    (λ c. search needs)
+    (λ c. search needs)
+    (λ c. search needs)
     returns-2)

@@ -3,24 +3,6 @@ use borrow.Author.Needs.{needs}
 use Rattle.seat.proofs.seat_outcome.Statement.{statement}
 use Rattle.seat.proofs.seat_outcome.Tie as tie
 
-enum-told : tie.Need-enum-told
-enum-told c = search needs
-
-enum-told-2 : tie.Need-enum-told-2
-enum-told-2 c = search needs
-
-enum-told-3 : tie.Need-enum-told-3
-enum-told-3 c = search needs
-
-enum-known-answer : tie.Need-enum-known-answer
-enum-known-answer c = search needs
-
-seat-refusal-requires : tie.Need-seat-refusal-requires
-seat-refusal-requires c κs = search needs
-
-refused-requires : tie.Need-refused-requires
-refused-requires c κs = search needs
-
 returns : tie.Need-returns
 returns c stack list second = rw (c .enum-told .given .1)
 
@@ -37,12 +19,12 @@ pub seat-outcome-spec : {M : Type 1} → statement M
 seat-outcome-spec =
     tie.close
     (tie.spec
-    enum-told
-    enum-told-2
-    enum-told-3
-    enum-known-answer
-    seat-refusal-requires
-    refused-requires
+    (λ c. search needs)
+    (λ c. search needs)
+    (λ c. search needs)
+    (λ c. search needs)
+    (λ c κs. search needs)
+    (λ c κs. search needs)
     returns
     returns-2
     returns-3

@@ -4,9 +4,6 @@ use borrow.Author.Needs.{needs}
 use Rattle.seat.proofs.seat_refusal.Statement.{statement}
 use Rattle.seat.proofs.seat_refusal.Tie as tie
 
-number-of-requires : tie.Need-number-of-requires
-number-of-requires c κs = search needs
-
 returns : tie.Need-returns
 returns c = at-12 (c .before .before .args .why) (c .before .number-of .ensures) (c .if1 .taken)
 
@@ -17,6 +14,6 @@ pub seat-refusal-spec : {M : Type 1} → statement M
 seat-refusal-spec =
     tie.close
     (tie.spec
-    number-of-requires
+    (λ c κs. search needs)
     returns
     returns-2)

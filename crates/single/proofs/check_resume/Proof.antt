@@ -9,15 +9,6 @@ use borrow.Author.Needs.{needs}
 use Rattle.single.proofs.check_resume.Statement.{statement}
 use Rattle.single.proofs.check_resume.Tie as tie
 
-check-resume-requires : tie.Need-check-resume-requires
-check-resume-requires c κs = search needs
-
-enum-known-why : tie.Need-enum-known-why
-enum-known-why c = search needs
-
-enum-told : tie.Need-enum-told
-enum-told c = search needs
-
 check-requires : tie.Need-check-requires
 check-requires c κs =
     let g = resume-valid _ _ (passes (c .before .before .check-resume .ensures) (c .enum-told .given .1)) in
@@ -35,9 +26,9 @@ pub check-resume-spec : {M : Type 1} → statement M
 check-resume-spec =
     tie.close
     (tie.spec
-    check-resume-requires
-    enum-known-why
-    enum-told
+    (λ c κs. search needs)
+    (λ c. search needs)
+    (λ c. search needs)
     check-requires
     returns
     returns-2)

@@ -9,15 +9,6 @@ use borrow.Author.Needs.{needs}
 use Rattle.single.proofs.check_start.Statement.{statement}
 use Rattle.single.proofs.check_start.Tie as tie
 
-check-start-requires : tie.Need-check-start-requires
-check-start-requires c κs = search needs
-
-enum-known-why : tie.Need-enum-known-why
-enum-known-why c = search needs
-
-enum-told : tie.Need-enum-told
-enum-told c = search needs
-
 check-requires : tie.Need-check-requires
 check-requires c κs =
     let g = start-shaped _ _ (passes (c .before .before .check-start .ensures) (c .enum-told .given .1)) in
@@ -35,9 +26,9 @@ pub check-start-spec : {M : Type 1} → statement M
 check-start-spec =
     tie.close
     (tie.spec
-    check-start-requires
-    enum-known-why
-    enum-told
+    (λ c κs. search needs)
+    (λ c. search needs)
+    (λ c. search needs)
     check-requires
     returns
     returns-2)

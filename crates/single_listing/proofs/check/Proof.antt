@@ -9,15 +9,6 @@ use borrow.Author.Needs.{needs}
 use Rattle.single_listing.proofs.check.Statement.{statement}
 use Rattle.single_listing.proofs.check.Tie as tie
 
-check-requires : tie.Need-check-requires
-check-requires c κs = search needs
-
-enum-known-why : tie.Need-enum-known-why
-enum-known-why c = search needs
-
-enum-told : tie.Need-enum-told
-enum-told c = search needs
-
 check-rows-requires : tie.Need-check-rows-requires
 check-rows-requires c κs =
     let k = c .before .before in
@@ -36,9 +27,9 @@ pub check-spec : {M : Type 1} → statement M
 check-spec =
     tie.close
     (tie.spec
-    check-requires
-    enum-known-why
-    enum-told
+    (λ c κs. search needs)
+    (λ c. search needs)
+    (λ c. search needs)
     check-rows-requires
     returns
     returns-2)

@@ -28,27 +28,15 @@ measure-requires c κs =
     let inside = row-fits (s .args .q) (c .before .loop .i) (s .args .found) (c .loop-test .taken) in
     (s .pre .q-few, record { whole = s .pre .coefs; row = omega (arith, s .pre .rows, inside) })
 
-add-t13 : tie.Need-add-t13 Inv-loop μ-loop
-add-t13 c = search needs
-
 returns : tie.Need-returns Inv-loop μ-loop
 returns c =
     let t = c .before .before in
     checked-fails _ _ _ (t .before .loop .inv .1) _ (c .before .measure .ensures) _ (t .loop-test .taken) (c .if1 .taken)
 
-add-i : tie.Need-add-i Inv-loop μ-loop
-add-i c = search needs
-
-loop-less : tie.Need-loop-less Inv-loop μ-loop
-loop-less c = search needs
-
 loop-again : tie.Need-loop-again Inv-loop μ-loop
 loop-again c =
     let k = c .before .before in
     (search needs, checked-short _ _ _ (k .before .before .loop .inv .1) _ (k .measure .ensures) (c .before .if1 .left) (c .if2 .taken))
-
-loop-less-2 : tie.Need-loop-less-2 Inv-loop μ-loop
-loop-less-2 c = search needs
 
 loop-again-2 : tie.Need-loop-again-2 Inv-loop μ-loop
 loop-again-2 c =
@@ -74,12 +62,12 @@ check-rows-spec =
     loop-holds
     mul-measure
     measure-requires
-    add-t13
+    (λ c. search needs)
     returns
-    add-i
-    loop-less
+    (λ c. search needs)
+    (λ c. search needs)
     loop-again
-    loop-less-2
+    (λ c. search needs)
     loop-again-2
     returns-2
     returns-3)

@@ -8,15 +8,6 @@ use borrow.Author.Needs.{needs}
 use Rattle.single_listing.proofs.listed.Statement.{statement}
 use Rattle.single_listing.proofs.listed.Tie as tie
 
-check-requires : tie.Need-check-requires
-check-requires c κs = search needs
-
-enum-known-why : tie.Need-enum-known-why
-enum-known-why c = search needs
-
-enum-told : tie.Need-enum-told
-enum-told c = search needs
-
 write-requires : tie.Need-write-requires
 write-requires c κs =
     let k = c .before .before .before in
@@ -29,9 +20,6 @@ returns c =
     let k = c .before .before .before in
     call-refused _ _ _ _ _ _ (sym (ap checkOf (c .before .why .given .1)) ∙ k .check .ensures)
 
-same-length : tie.Need-same-length
-same-length c = search needs
-
 returns-2 : tie.Need-returns-2
 returns-2 c =
     let k = c .before .before .before .before .before .before in
@@ -41,10 +29,10 @@ pub listed-spec : {M : Type 1} → statement M
 listed-spec =
     tie.close
     (tie.spec
-    check-requires
-    enum-known-why
-    enum-told
+    (λ c κs. search needs)
+    (λ c. search needs)
+    (λ c. search needs)
     write-requires
     returns
-    same-length
+    (λ c. search needs)
     returns-2)

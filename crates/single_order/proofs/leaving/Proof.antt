@@ -15,38 +15,14 @@ abbrev μ-loop : tie.MeasureT-loop
 loop-holds : tie.Need-loop-holds Inv-loop μ-loop
 loop-holds c = (search needs, none-leaving-yet _ _ _)
 
-add-x : tie.Need-add-x Inv-loop μ-loop
-add-x c = search needs
-
-mul-x : tie.Need-mul-x Inv-loop μ-loop
-mul-x c = search needs
-
-shared-slice-read-x : tie.Need-shared-slice-read-x Inv-loop μ-loop
-shared-slice-read-x c = search needs
-
-add-k : tie.Need-add-k Inv-loop μ-loop
-add-k c = search needs
-
-loop-less : tie.Need-loop-less Inv-loop μ-loop
-loop-less c = search needs
-
 loop-again : tie.Need-loop-again Inv-loop μ-loop
 loop-again c = (search needs, leaving-skips (c .before .before .before .loop .inv .1) (c .if1 .taken))
-
-node-requires : tie.Need-node-requires Inv-loop μ-loop
-node-requires c κs = search needs
 
 returns : tie.Need-returns Inv-loop μ-loop
 returns c =
     let e = c .before .before in
     let l = e .before .before in
     leaving-here (l .before .loop .inv .1) _ (l .loop-test .taken) (e .if1 .left) (c .before .node .ensures) (c .if2 .taken)
-
-add-k-2 : tie.Need-add-k-2 Inv-loop μ-loop
-add-k-2 c = search needs
-
-loop-less-2 : tie.Need-loop-less-2 Inv-loop μ-loop
-loop-less-2 c = search needs
 
 loop-again-2 : tie.Need-loop-again-2 Inv-loop μ-loop
 loop-again-2 c =
@@ -63,15 +39,15 @@ leaving-spec =
     Inv-loop
     μ-loop
     loop-holds
-    add-x
-    mul-x
-    shared-slice-read-x
-    add-k
-    loop-less
+    (λ c. search needs)
+    (λ c. search needs)
+    (λ c. search needs)
+    (λ c. search needs)
+    (λ c. search needs)
     loop-again
-    node-requires
+    (λ c κs. search needs)
     returns
-    add-k-2
-    loop-less-2
+    (λ c. search needs)
+    (λ c. search needs)
     loop-again-2
     returns-2)

@@ -5,14 +5,8 @@ use borrow.Author.Needs.{needs}
 use Rattle.single_order.proofs.next.Statement.{statement}
 use Rattle.single_order.proofs.next.Tie as tie
 
-node-requires : tie.Need-node-requires
-node-requires c κs = search needs
-
-leaving-requires : tie.Need-leaving-requires
-leaving-requires c κs = search needs
-
 returns : tie.Need-returns
 returns c = c .leaving .ensures ∙ ap (leaving _ _) (c .before .node .ensures)
 
 pub next-spec : {M : Type 1} → statement M
-next-spec = tie.close (tie.spec node-requires leaving-requires returns)
+next-spec = tie.close (tie.spec (λ c κs. search needs) (λ c κs. search needs) returns)

@@ -23,25 +23,13 @@ Inv-loop p q coefs list base order₀ size first at₀ k₀ order at k = Followi
 abbrev μ-loop : tie.MeasureT-loop
 μ-loop p q coefs list base order₀ size first at₀ k₀ order at k = size - k
 
-ones-requires : tie.Need-ones-requires Inv-loop μ-loop
-ones-requires c κs = search needs
-
 returns : tie.Need-returns Inv-loop μ-loop
 returns c = ones-no-loop _ _ _ _ (c .before .ones .ensures) (c .if1 .taken) (c .before .before .before .pre .2)
-
-lowest-requires : tie.Need-lowest-requires Inv-loop μ-loop
-lowest-requires c κs = search needs
-
-element-write-order : tie.Need-element-write-order Inv-loop μ-loop
-element-write-order c = search needs
 
 loop-holds : tie.Need-loop-holds Inv-loop μ-loop
 loop-holds c =
     let s = c .before .before .before .before in
     following-first _ _ (now (s .args .order)) _ _ (c .before .before .ones .ensures) (c .before .if1 .left) (s .pre .2) (c .lowest .ensures)
-
-next-requires : tie.Need-next-requires Inv-loop μ-loop
-next-requires c κs = search needs
 
 returns-2 : tie.Need-returns-2 Inv-loop μ-loop
 returns-2 c =
@@ -54,27 +42,12 @@ returns-3 c =
     let l = n .before in
     following-early _ _ (l .before .loop .inv) _ (l .loop-test .taken) (n .next .ensures) (c .if3 .taken)
 
-mul-order : tie.Need-mul-order Inv-loop μ-loop
-mul-order c = search needs
-
-element-write-order-2 : tie.Need-element-write-order-2 Inv-loop μ-loop
-element-write-order-2 c = search needs
-
-add-k : tie.Need-add-k Inv-loop μ-loop
-add-k c = search needs
-
-loop-less : tie.Need-loop-less Inv-loop μ-loop
-loop-less c = search needs
-
 loop-again : tie.Need-loop-again Inv-loop μ-loop
 loop-again c =
     let n = c .before .before in
     let l = n .before in
     following-next _ _ (l .before .loop .inv) _ (l .before .before .before .before .before .before .pre .0) (l .loop-test .taken) (n .next .ensures)
     (c .before .if2 .left) (c .if3 .left)
-
-next-requires-2 : tie.Need-next-requires-2 Inv-loop μ-loop
-next-requires-2 c κs = search needs
 
 returns-4 : tie.Need-returns-4 Inv-loop μ-loop
 returns-4 c =
@@ -92,19 +65,19 @@ order-of-spec =
     (tie.spec
     Inv-loop
     μ-loop
-    ones-requires
+    (λ c κs. search needs)
     returns
-    lowest-requires
-    element-write-order
+    (λ c κs. search needs)
+    (λ c. search needs)
     loop-holds
-    next-requires
+    (λ c κs. search needs)
     returns-2
     returns-3
-    mul-order
-    element-write-order-2
-    add-k
-    loop-less
+    (λ c. search needs)
+    (λ c. search needs)
+    (λ c. search needs)
+    (λ c. search needs)
     loop-again
-    next-requires-2
+    (λ c κs. search needs)
     returns-4
     returns-5)

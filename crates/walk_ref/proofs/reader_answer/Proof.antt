@@ -4,9 +4,6 @@ use Rattle.definitions.specs.Answers.{refuseWith}
 use Rattle.walk_ref.proofs.reader_answer.Statement.{statement}
 use Rattle.walk_ref.proofs.reader_answer.Tie as tie
 
-in-range-requires : tie.Need-in-range-requires
-in-range-requires c κs = search needs
-
 returns : tie.Need-returns
 unfolding refuseWith
 returns c = rw (← c .before .in-range .ensures, c .if1 .taken)
@@ -16,4 +13,4 @@ unfolding refuseWith
 returns-2 c = rw (← c .before .in-range .ensures, c .if1 .left)
 
 pub reader-answer-spec : {M : Type 1} → statement M
-reader-answer-spec = tie.close (tie.spec in-range-requires returns returns-2)
+reader-answer-spec = tie.close (tie.spec (λ c κs. search needs) returns returns-2)

@@ -5,9 +5,6 @@ use Rattle.walk_ref.specs.Reading.{shown-in, part-shown, part-hidden}
 use Rattle.walk_ref.proofs.row_of.Statement.{statement}
 use Rattle.walk_ref.proofs.row_of.Tie as tie
 
-shows-row-requires : tie.Need-shows-row-requires
-shows-row-requires c κs = search needs
-
 sub-a : tie.Need-sub-a
 sub-a c = shown-in _ _ _ _ (c .before .shows-row .ensures) (c .if1 .taken) .counted
 
@@ -20,26 +17,11 @@ add-e c = omega (arith, shown-in _ _ _ _ (c .before .shows-row .ensures) (c .if1
 mul-result : tie.Need-mul-result
 mul-result c = omega (arith, shown-in _ _ _ _ (c .before .shows-row .ensures) (c .if1 .taken))
 
-sub-result : tie.Need-sub-result
-sub-result c = search needs
-
-part-result-start : tie.Need-part-result-start
-part-result-start c = search needs
-
 part-result-end : tie.Need-part-result-end
 part-result-end c = shown-in _ _ _ _ (c .before .shows-row .ensures) (c .if1 .taken) .inside
 
 returns : tie.Need-returns
 returns c = part-shown _ _ _ _ (c .before .before .shows-row .ensures) (c .before .if1 .taken)
-
-sub-result-2 : tie.Need-sub-result-2
-sub-result-2 c = search needs
-
-part-result-start-2 : tie.Need-part-result-start-2
-part-result-start-2 c = search needs
-
-part-result-end-2 : tie.Need-part-result-end-2
-part-result-end-2 c = search needs
 
 returns-2 : tie.Need-returns-2
 returns-2 c = part-hidden _ _ _ _ (c .before .before .shows-row .ensures) (c .before .if1 .left)
@@ -48,16 +30,16 @@ pub row-of-spec : {M : Type 1} → statement M
 row-of-spec =
     tie.close
     (tie.spec
-    shows-row-requires
+    (λ c κs. search needs)
     sub-a
     mul-a
     add-e
     mul-result
-    sub-result
-    part-result-start
+    (λ c. search needs)
+    (λ c. search needs)
     part-result-end
     returns
-    sub-result-2
-    part-result-start-2
-    part-result-end-2
+    (λ c. search needs)
+    (λ c. search needs)
+    (λ c. search needs)
     returns-2)

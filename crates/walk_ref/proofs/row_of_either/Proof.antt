@@ -7,18 +7,6 @@ use Rattle.walk_ref.specs.Reading.{either-part, whichOf}
 use Rattle.walk_ref.proofs.row_of_either.Statement.{statement}
 use Rattle.walk_ref.proofs.row_of_either.Tie as tie
 
-enum-told : tie.Need-enum-told
-enum-told c = search needs
-
-capped-row-requires : tie.Need-capped-row-requires
-capped-row-requires c κs = search needs
-
-enum-told-2 : tie.Need-enum-told-2
-enum-told-2 c = search needs
-
-capped-row-requires-2 : tie.Need-capped-row-requires-2
-capped-row-requires-2 c κs = search needs
-
 returns : tie.Need-returns
 returns c =
     let a = c .before .before .before .before .before .args in
@@ -35,4 +23,4 @@ returns-2 c =
 
 pub row-of-either-spec : {M : Type 1} → statement M
 row-of-either-spec =
-    tie.close (tie.spec enum-told capped-row-requires enum-told-2 capped-row-requires-2 returns returns-2)
+    tie.close (tie.spec (λ c. search needs) (λ c κs. search needs) (λ c. search needs) (λ c κs. search needs) returns returns-2)

@@ -6,9 +6,6 @@ use Rattle.walk_ref.specs.Reading.{shows, range-least}
 use Rattle.walk_ref.proofs.shows_row.Statement.{statement}
 use Rattle.walk_ref.proofs.shows_row.Tie as tie
 
-in-range-requires : tie.Need-in-range-requires
-in-range-requires c κs = search needs
-
 returns : tie.Need-returns
 unfolding shows
 returns c = rw (← c .before .in-range .ensures, not-true (c .before .in-range .result) (c .if1 .taken))
@@ -43,4 +40,4 @@ returns-4 c =
     )
 
 pub shows-row-spec : {M : Type 1} → statement M
-shows-row-spec = tie.close (tie.spec in-range-requires returns returns-2 returns-3 div-result returns-4)
+shows-row-spec = tie.close (tie.spec (λ c κs. search needs) returns returns-2 returns-3 div-result returns-4)

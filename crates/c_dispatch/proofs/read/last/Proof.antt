@@ -4,9 +4,6 @@ use borrow.Author.Needs.{needs}
 use Rattle.c_dispatch.proofs.read.last.Statement.{statement}
 use Rattle.c_dispatch.proofs.read.last.Tie as tie
 
-shared-slice-read-result : tie.Need-shared-slice-read-result
-shared-slice-read-result c = search needs
-
 returns : tie.Need-returns
 returns c = last-round _ (c .before .if1 .taken)
 
@@ -14,4 +11,4 @@ returns-2 : tie.Need-returns-2
 returns-2 c = last-other _ (c .if1 .left)
 
 pub last-spec : {M : Type 1} → statement M
-last-spec = tie.close (tie.spec shared-slice-read-result returns returns-2)
+last-spec = tie.close (tie.spec (λ c. search needs) returns returns-2)

@@ -13,32 +13,8 @@ Inv-loop words all₀ i₀ all i = Filled 8 (recordIn words) noRecord all i
 abbrev μ-loop : tie.MeasureT-loop
 μ-loop words all₀ i₀ all i = 8 - i
 
-record-requires : tie.Need-record-requires Inv-loop μ-loop
-record-requires c κs = search needs
-
 loop-holds : tie.Need-loop-holds Inv-loop μ-loop
 loop-holds c = filling-begins _ _ _ _ (search needs)
-
-mul-record : tie.Need-mul-record Inv-loop μ-loop
-mul-record c = search needs
-
-add-record : tie.Need-add-record Inv-loop μ-loop
-add-record c = search needs
-
-record-requires-2 : tie.Need-record-requires-2 Inv-loop μ-loop
-record-requires-2 c κs = search needs
-
-mul-all : tie.Need-mul-all Inv-loop μ-loop
-mul-all c = search needs
-
-array-set-from-all : tie.Need-array-set-from-all Inv-loop μ-loop
-array-set-from-all c = search needs
-
-add-i : tie.Need-add-i Inv-loop μ-loop
-add-i c = search needs
-
-loop-less : tie.Need-loop-less Inv-loop μ-loop
-loop-less c = search needs
 
 loop-again : tie.Need-loop-again Inv-loop μ-loop
 unfolding recordIn
@@ -53,14 +29,14 @@ records-spec =
     (tie.spec
     Inv-loop
     μ-loop
-    record-requires
+    (λ c κs. search needs)
     loop-holds
-    mul-record
-    add-record
-    record-requires-2
-    mul-all
-    array-set-from-all
-    add-i
-    loop-less
+    (λ c. search needs)
+    (λ c. search needs)
+    (λ c κs. search needs)
+    (λ c. search needs)
+    (λ c. search needs)
+    (λ c. search needs)
+    (λ c. search needs)
     loop-again
     returns)

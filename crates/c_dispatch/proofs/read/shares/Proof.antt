@@ -13,29 +13,8 @@ Inv-loop words all₀ i₀ all i = Filled 8 (shareIn words) noShare all i
 abbrev μ-loop : tie.MeasureT-loop
 μ-loop words all₀ i₀ all i = 8 - i
 
-share-requires : tie.Need-share-requires Inv-loop μ-loop
-share-requires c κs = search needs
-
 loop-holds : tie.Need-loop-holds Inv-loop μ-loop
 loop-holds c = filling-begins _ _ _ _ (search needs)
-
-mul-share : tie.Need-mul-share Inv-loop μ-loop
-mul-share c = search needs
-
-share-requires-2 : tie.Need-share-requires-2 Inv-loop μ-loop
-share-requires-2 c κs = search needs
-
-mul-all : tie.Need-mul-all Inv-loop μ-loop
-mul-all c = search needs
-
-array-set-from-all : tie.Need-array-set-from-all Inv-loop μ-loop
-array-set-from-all c = search needs
-
-add-i : tie.Need-add-i Inv-loop μ-loop
-add-i c = search needs
-
-loop-less : tie.Need-loop-less Inv-loop μ-loop
-loop-less c = search needs
 
 loop-again : tie.Need-loop-again Inv-loop μ-loop
 unfolding shareIn
@@ -50,13 +29,13 @@ shares-spec =
     (tie.spec
     Inv-loop
     μ-loop
-    share-requires
+    (λ c κs. search needs)
     loop-holds
-    mul-share
-    share-requires-2
-    mul-all
-    array-set-from-all
-    add-i
-    loop-less
+    (λ c. search needs)
+    (λ c κs. search needs)
+    (λ c. search needs)
+    (λ c. search needs)
+    (λ c. search needs)
+    (λ c. search needs)
     loop-again
     returns)

@@ -4,24 +4,6 @@ use Rattle.c_dispatch.specs.WordLaws.{record-left, record-written}
 use Rattle.c_dispatch.proofs.write.record.Statement.{statement}
 use Rattle.c_dispatch.proofs.write.record.Tie as tie
 
-add-if1 : tie.Need-add-if1
-add-if1 c = search needs
-
-mul-if1 : tie.Need-mul-if1
-mul-if1 c = search needs
-
-slice-read-if1 : tie.Need-slice-read-if1
-slice-read-if1 c = search needs
-
-counts-requires : tie.Need-counts-requires
-counts-requires c κs = search needs
-
-others-requires : tie.Need-others-requires
-others-requires c κs = search needs
-
-same-length : tie.Need-same-length
-same-length c = search needs
-
 returns : tie.Need-returns
 returns c =
     let o = c .before .before in
@@ -35,11 +17,11 @@ pub record-spec : {M : Type 1} → statement M
 record-spec =
     tie.close
     (tie.spec
-    add-if1
-    mul-if1
-    slice-read-if1
-    counts-requires
-    others-requires
-    same-length
+    (λ c. search needs)
+    (λ c. search needs)
+    (λ c. search needs)
+    (λ c κs. search needs)
+    (λ c κs. search needs)
+    (λ c. search needs)
     returns
     returns-2)

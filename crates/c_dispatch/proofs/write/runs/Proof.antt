@@ -15,32 +15,11 @@ abbrev μ-loop : tie.MeasureT-loop
 loop-holds : tie.Need-loop-holds Inv-loop μ-loop
 loop-holds c = writing-begins _ _ (c .before .pre)
 
-mul-run : tie.Need-mul-run Inv-loop μ-loop
-mul-run c = search needs
-
-add-run : tie.Need-add-run Inv-loop μ-loop
-add-run c = search needs
-
-mul-run-2 : tie.Need-mul-run-2 Inv-loop μ-loop
-mul-run-2 c = search needs
-
-array-copy-out-run : tie.Need-array-copy-out-run Inv-loop μ-loop
-array-copy-out-run c = search needs
-
 run-requires : tie.Need-run-requires Inv-loop μ-loop
 run-requires c κs = let w = c .before .before in omega (arith, w .loop-test .taken, w .before .loop .inv .long)
 
-add-i : tie.Need-add-i Inv-loop μ-loop
-add-i c = search needs
-
-loop-less : tie.Need-loop-less Inv-loop μ-loop
-loop-less c = search needs
-
 loop-again : tie.Need-loop-again Inv-loop μ-loop
 loop-again c = let k = c .before .before in let w = k .before .before .before in writing-more (w .before .loop .inv) (w .loop-test .taken) (k .run .ensures)
-
-same-length : tie.Need-same-length Inv-loop μ-loop
-same-length c = search needs
 
 returns : tie.Need-returns Inv-loop μ-loop
 returns c = writing-ends (c .before .loop .inv) (c .loop-test .left)
@@ -52,13 +31,13 @@ runs-spec =
     Inv-loop
     μ-loop
     loop-holds
-    mul-run
-    add-run
-    mul-run-2
-    array-copy-out-run
+    (λ c. search needs)
+    (λ c. search needs)
+    (λ c. search needs)
+    (λ c. search needs)
     run-requires
-    add-i
-    loop-less
+    (λ c. search needs)
+    (λ c. search needs)
     loop-again
-    same-length
+    (λ c. search needs)
     returns)

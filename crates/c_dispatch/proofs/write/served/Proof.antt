@@ -7,15 +7,6 @@ use Rattle.c_dispatch.specs.WordLaws.{served-length}
 use Rattle.c_dispatch.proofs.write.served.Statement.{statement}
 use Rattle.c_dispatch.proofs.write.served.Tie as tie
 
-slice-write-words : tie.Need-slice-write-words
-slice-write-words c = search needs
-
-slice-write-words-2 : tie.Need-slice-write-words-2
-slice-write-words-2 c = search needs
-
-runs-requires : tie.Need-runs-requires
-runs-requires c κs = search needs
-
 same-length : tie.Need-same-length
 same-length c =
     let k = c .before .before in
@@ -23,8 +14,5 @@ same-length c =
     let e = ap length (k .runs .ensures) ∙ served-length (now (s .words)) (s .d) in
     search needs
 
-returns : tie.Need-returns
-returns c = search needs
-
 pub served-spec : {M : Type 1} → statement M
-served-spec = tie.close (tie.spec slice-write-words slice-write-words-2 runs-requires same-length returns)
+served-spec = tie.close (tie.spec (λ c. search needs) (λ c. search needs) (λ c κs. search needs) same-length (λ c. search needs))

@@ -5,15 +5,6 @@ use Rattle.c_dispatch.specs.WordLaws.{fitting-pass, told-refused, told-s
 use Rattle.c_dispatch.proofs.write.told.Statement.{statement}
 use Rattle.c_dispatch.proofs.write.told.Tie as tie
 
-enum-known-verdict : tie.Need-enum-known-verdict
-enum-known-verdict c = search needs
-
-fault-requires : tie.Need-fault-requires
-fault-requires c κs = search needs
-
-enum-told : tie.Need-enum-told
-enum-told c = search needs
-
 served-requires : tie.Need-served-requires
 served-requires c κs =
     let t = c .before in
@@ -26,9 +17,6 @@ returns c =
     let s = t .before .before .before .args in
     told-refused (now (s .words)) (s .d) (t .verdict .given .1) (c .fault .ensures)
 
-same-length : tie.Need-same-length
-same-length c = search needs
-
 returns-2 : tie.Need-returns-2
 returns-2 c =
     let k = c .before .before in
@@ -37,4 +25,4 @@ returns-2 c =
     told-served (now (s .words)) (s .d) (t .enum-told .given .1) (k .served .ensures)
 
 pub told-spec : {M : Type 1} → statement M
-told-spec = tie.close (tie.spec enum-known-verdict fault-requires enum-told served-requires returns same-length returns-2)
+told-spec = tie.close (tie.spec (λ c. search needs) (λ c κs. search needs) (λ c. search needs) served-requires returns (λ c. search needs) returns-2)

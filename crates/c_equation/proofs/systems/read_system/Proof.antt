@@ -5,26 +5,11 @@ use Rattle.c_equation.specs.SystemLaws.{system-refusal-fits, system-few,
 use Rattle.c_equation.proofs.systems.read_system.Statement.{statement}
 use Rattle.c_equation.proofs.systems.read_system.Tie as tie
 
-read-system-requires : tie.Need-read-system-requires
-read-system-requires c κs = search needs
-
-enum-known-p : tie.Need-enum-known-p
-enum-known-p c = search needs
-
 read-code-requires : tie.Need-read-code-requires
 read-code-requires c κs =
     let r = c .before .before .before .before .before in
     let a = r .before .before .before .before .args in
     system-few (a .q) (now (a .text)) (now (a .coefs)) (now (a .rights)) (r .read-system .result) _ _ (r .read-system .ensures) (c .before .p .given .1)
-
-enum-known-why : tie.Need-enum-known-why
-enum-known-why c = search needs
-
-place-requires : tie.Need-place-requires
-place-requires c κs = search needs
-
-element-write-within : tie.Need-element-write-within
-element-write-within c = search needs
 
 refusal-requires : tie.Need-refusal-requires
 refusal-requires c κs =
@@ -33,24 +18,12 @@ refusal-requires c κs =
     let a = r .before .before .before .before .args in
     system-refusal-fits (a .q) (now (a .text)) (now (a .coefs)) (now (a .rights)) (r .read-system .result) _ _ (r .read-system .ensures) (w .why .given .1)
 
-same-length : tie.Need-same-length
-same-length c = search needs
-
-same-length-2 : tie.Need-same-length-2
-same-length-2 c = search needs
-
 returns : tie.Need-returns
 returns c =
     let r = c .before .before .before .before .before .before in
     let a = r .before .before .before .before .args in
     system-told (a .q) (now (a .text)) (now (a .coefs)) (now (a .rights)) (r .read-system .result) _ _ (r .read-system .ensures) (now (a .within))
     (c .before .before .p .given .1) (c .read-code .ensures)
-
-same-length-3 : tie.Need-same-length-3
-same-length-3 c = search needs
-
-same-length-4 : tie.Need-same-length-4
-same-length-4 c = search needs
 
 returns-2 : tie.Need-returns-2
 returns-2 c =
@@ -64,16 +37,16 @@ pub read-system-spec : {M : Type 1} → statement M
 read-system-spec =
     tie.close
     (tie.spec
-    read-system-requires
-    enum-known-p
+    (λ c κs. search needs)
+    (λ c. search needs)
     read-code-requires
-    enum-known-why
-    place-requires
-    element-write-within
+    (λ c. search needs)
+    (λ c κs. search needs)
+    (λ c. search needs)
     refusal-requires
-    same-length
-    same-length-2
+    (λ c. search needs)
+    (λ c. search needs)
     returns
-    same-length-3
-    same-length-4
+    (λ c. search needs)
+    (λ c. search needs)
     returns-2)

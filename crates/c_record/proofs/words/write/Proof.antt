@@ -7,18 +7,6 @@ use Rattle.c_record.proofs.words.write.Tie as tie
 returns : tie.Need-returns
 returns c = words-misfit _ _ (c .if1 .taken)
 
-write-counts-requires : tie.Need-write-counts-requires
-write-counts-requires c κs = search needs
-
-run-number-requires : tie.Need-run-number-requires
-run-number-requires c κs = search needs
-
-write-others-requires : tie.Need-write-others-requires
-write-others-requires c κs = search needs
-
-same-length : tie.Need-same-length
-same-length c = search needs
-
 returns-2 : tie.Need-returns-2
 returns-2 c =
     let others = c .before .before in
@@ -35,9 +23,9 @@ write-spec =
     tie.close
     (tie.spec
     returns
-    write-counts-requires
-    run-number-requires
-    write-others-requires
-    same-length
+    (λ c κs. search needs)
+    (λ c κs. search needs)
+    (λ c κs. search needs)
+    (λ c. search needs)
     returns-2
     returns-3)

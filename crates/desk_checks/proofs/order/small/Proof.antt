@@ -7,11 +7,8 @@ use Rattle.table_rows.specs.Limits.{small-whole}
 use Rattle.desk_checks.proofs.order.small.Statement.{statement}
 use Rattle.desk_checks.proofs.order.small.Tie as tie
 
-small-at-requires : tie.Need-small-at-requires
-small-at-requires c κs = search needs
-
 returns : tie.Need-returns
 returns c = let t = now (c .before .before .args .table) in c .small-at .ensures ∙ small-whole (length t) t
 
 pub small-spec : {M : Type 1} → statement M
-small-spec = tie.close (tie.spec small-at-requires returns)
+small-spec = tie.close (tie.spec (λ c κs. search needs) returns)

@@ -40,9 +40,6 @@ value-at-requires c κs =
     let s = c .before .before .before in
     (desk-equation (s .pre .0) (c .before .loop .i) (c .loop-test .taken), desk-row (s .pre .0) (s .args .k) (s .pre .1))
 
-is-large-requires : tie.Need-is-large-requires Inv-loop μ-loop
-is-large-requires c κs = search needs
-
 returns : tie.Need-returns Inv-loop μ-loop
 returns c =
     let l = c .before .before .before in
@@ -50,12 +47,6 @@ returns c =
     let v = value-back (desk-equation (s .pre .0) (l .before .loop .i) (l .loop-test .taken)) (desk-row (s .pre .0) (s .args .k) (s .pre .1))
     (c .before .before .value-at .ensures) in
     sym (any-holds _ _ _ (l .loop-test .taken) (rw v at (sym (c .before .is-large .ensures) ∙ c .if1 .taken)))
-
-add-i : tie.Need-add-i Inv-loop μ-loop
-add-i c = search needs
-
-loop-less : tie.Need-loop-less Inv-loop μ-loop
-loop-less c = search needs
 
 loop-again : tie.Need-loop-again Inv-loop μ-loop
 loop-again c =
@@ -70,4 +61,5 @@ returns-2 c = cc (le-antisymm (c .before .loop .inv .0) (c .loop-test .left))
 
 pub wide-image-spec : {M : Type 1} → statement M
 wide-image-spec =
-    tie.close (tie.spec Inv-loop μ-loop loop-holds mul-value-at mul-value-at-2 value-at-requires is-large-requires returns add-i loop-less loop-again returns-2)
+    tie.close (tie.spec Inv-loop μ-loop loop-holds mul-value-at mul-value-at-2 value-at-requires (λ c κs. search needs) returns (λ c. search needs)
+    (λ c. search needs) loop-again returns-2)

@@ -38,12 +38,6 @@ element-set-from-images c =
     let s = l .before .before .before in
     omega (arith, s .pre .2, s .pre .3, s .pre .0 .equations, l .loop-test .taken, l .before .loop .inv .1 .size)
 
-add-i : tie.Need-add-i Inv-loop μ-loop
-add-i c = search needs
-
-loop-less : tie.Need-loop-less Inv-loop μ-loop
-loop-less c = search needs
-
 loop-again : tie.Need-loop-again Inv-loop μ-loop
 loop-again c =
     let l = c .before in
@@ -61,4 +55,5 @@ returns c = let a = c .before in rw (le-antisymm (a .loop .inv .0) (c .loop-test
 pub write-spec : {M : Type 1} → statement M
 write-spec =
     tie.close
-    (tie.spec Inv-loop μ-loop loop-holds mul-value-at value-at-requires mul-t12 add-t13 mul-t14 element-set-from-images add-i loop-less loop-again returns)
+    (tie.spec Inv-loop μ-loop loop-holds mul-value-at value-at-requires mul-t12 add-t13 mul-t14 element-set-from-images (λ c. search needs) (λ c. search needs)
+    loop-again returns)

@@ -7,11 +7,8 @@ use Rattle.table_rows.specs.Limits.{large-whole}
 use Rattle.desk_rows.proofs.rows.is_large.Statement.{statement}
 use Rattle.desk_rows.proofs.rows.is_large.Tie as tie
 
-small-at-requires : tie.Need-small-at-requires
-small-at-requires c κs = search needs
-
 returns : tie.Need-returns
 returns c = let a = c .before .before .args in ap not (c .small-at .ensures) ∙ large-whole (a .q) (now (a .t))
 
 pub is-large-spec : {M : Type 1} → statement M
-is-large-spec = tie.close (tie.spec small-at-requires returns)
+is-large-spec = tie.close (tie.spec (λ c κs. search needs) returns)

@@ -18,17 +18,11 @@ returns-3 c = turn-empty _ _ _ _ _ _ (c .before .before .if1 .left) (c .before .
 returns-4 : tie.Need-returns-4
 returns-4 c = kept-large _ _ _ _ _ _ (c .before .before .before .if1 .left) (c .before .before .if2 .left) (c .before .if3 .left) (c .if4 .taken)
 
-parts-apart-requires : tie.Need-parts-apart-requires
-parts-apart-requires c κs = search needs
-
 returns-5 : tie.Need-returns-5
 returns-5 c =
     let k = c .before .before in
     stacks-clash _ _ _ _ _ _ (k .before .before .before .if1 .left) (k .before .before .if2 .left) (k .before .if3 .left) (k .if4 .left)
     (sym (c .before .parts-apart .ensures) ∙ not-true _ (c .if5 .taken))
-
-parts-apart-requires-2 : tie.Need-parts-apart-requires-2
-parts-apart-requires-2 c κs = search needs
 
 returns-6 : tie.Need-returns-6
 returns-6 c =
@@ -54,8 +48,8 @@ check-spec =
     returns-2
     returns-3
     returns-4
-    parts-apart-requires
+    (λ c κs. search needs)
     returns-5
-    parts-apart-requires-2
+    (λ c κs. search needs)
     returns-6
     returns-7)

@@ -19,15 +19,6 @@ abbrev μ-loop : tie.MeasureT-loop
 loop-holds : tie.Need-loop-holds Inv-loop μ-loop
 loop-holds c = passing-begins _ _
 
-mul-part-of : tie.Need-mul-part-of Inv-loop μ-loop
-mul-part-of c = search needs
-
-array-copy-out-part-of : tie.Need-array-copy-out-part-of Inv-loop μ-loop
-array-copy-out-part-of c = search needs
-
-part-of-requires : tie.Need-part-of-requires Inv-loop μ-loop
-part-of-requires c κs = search needs
-
 overlap-requires : tie.Need-overlap-requires Inv-loop μ-loop
 overlap-requires c κs =
     let w = c .before .before in
@@ -40,12 +31,6 @@ returns c =
     let w = k .before .before .before in
     passing-fails (w .before .loop .inv) (w .loop-test .taken)
     (ap not (sym (k .overlap .ensures ∙ ap (overlap _) (k .before .part-of .ensures)) ∙ c .if1 .taken))
-
-add-j : tie.Need-add-j Inv-loop μ-loop
-add-j c = search needs
-
-loop-less : tie.Need-loop-less Inv-loop μ-loop
-loop-less c = search needs
 
 loop-again : tie.Need-loop-again Inv-loop μ-loop
 loop-again c =
@@ -63,12 +48,12 @@ clear-spec =
     Inv-loop
     μ-loop
     loop-holds
-    mul-part-of
-    array-copy-out-part-of
-    part-of-requires
+    (λ c. search needs)
+    (λ c. search needs)
+    (λ c κs. search needs)
     overlap-requires
     returns
-    add-j
-    loop-less
+    (λ c. search needs)
+    (λ c. search needs)
     loop-again
     returns-2)

@@ -4,12 +4,6 @@ use borrow.Author.Needs.{needs}
 use Rattle.dispatch.proofs.check.overlap.Statement.{statement}
 use Rattle.dispatch.proofs.check.overlap.Tie as tie
 
-add-a-end : tie.Need-add-a-end
-add-a-end c = search needs
-
-add-b-end : tie.Need-add-b-end
-add-b-end c = search needs
-
 returns : tie.Need-returns
 returns c = overlap-last _ _ (c .before .before .before .before .before .if1 .taken) (c .before .before .before .if2 .taken) (c .before .if3 .taken)
 
@@ -23,4 +17,4 @@ returns-4 : tie.Need-returns-4
 returns-4 c = overlap-none₁ _ _ (c .if1 .left)
 
 pub overlap-spec : {M : Type 1} → statement M
-overlap-spec = tie.close (tie.spec add-a-end add-b-end returns returns-2 returns-3 returns-4)
+overlap-spec = tie.close (tie.spec (λ c. search needs) (λ c. search needs) returns returns-2 returns-3 returns-4)

@@ -5,9 +5,6 @@ use borrow.Author.Needs.{needs}
 use Rattle.dispatch.proofs.check.parts_apart.Statement.{statement}
 use Rattle.dispatch.proofs.check.parts_apart.Tie as tie
 
-all-fit-requires : tie.Need-all-fit-requires
-all-fit-requires c κs = search needs
-
 none-overlap-requires : tie.Need-none-overlap-requires
 none-overlap-requires c κs = (search needs, within-says _ _ _ (sym (c .before .all-fit .ensures) ∙ c .if1 .taken))
 
@@ -20,4 +17,4 @@ returns-2 : tie.Need-returns-2
 returns-2 c = apart-not _ _ _ (sym (c .before .all-fit .ensures) ∙ c .if1 .left)
 
 pub parts-apart-spec : {M : Type 1} → statement M
-parts-apart-spec = tie.close (tie.spec all-fit-requires none-overlap-requires returns returns-2)
+parts-apart-spec = tie.close (tie.spec (λ c κs. search needs) none-overlap-requires returns returns-2)

@@ -12,35 +12,14 @@ Inv-loop count coefs stack list shares records progress outcomes₀ steps₀ i�
 abbrev μ-loop : tie.MeasureT-loop
 μ-loop count coefs stack list shares records progress outcomes₀ steps₀ i₀ outcomes steps i = count - i
 
-kept-requires : tie.Need-kept-requires Inv-loop μ-loop
-kept-requires c κs = search needs
-
 loop-holds : tie.Need-loop-holds Inv-loop μ-loop
 loop-holds c = finishing-begins _ _ _ _ _ _ _ _ (c .kept .ensures)
-
-mul-outcome : tie.Need-mul-outcome Inv-loop μ-loop
-mul-outcome c = search needs
-
-array-copy-out-outcome : tie.Need-array-copy-out-outcome Inv-loop μ-loop
-array-copy-out-outcome c = search needs
-
-mul-outcome-2 : tie.Need-mul-outcome-2 Inv-loop μ-loop
-mul-outcome-2 c = search needs
-
-array-copy-out-outcome-2 : tie.Need-array-copy-out-outcome-2 Inv-loop μ-loop
-array-copy-out-outcome-2 c = search needs
 
 outcome-requires : tie.Need-outcome-requires Inv-loop μ-loop
 outcome-requires c κs =
     let w = c .before .before in
     let ready = w .before .before .before .before .before .pre .0 in
     (ready .stacks _ (w .loop-test .taken), ready .lists _ (w .loop-test .taken))
-
-mul-taken : tie.Need-mul-taken Inv-loop μ-loop
-mul-taken c = search needs
-
-array-copy-out-taken : tie.Need-array-copy-out-taken Inv-loop μ-loop
-array-copy-out-taken c = search needs
 
 taken-requires : tie.Need-taken-requires Inv-loop μ-loop
 taken-requires c κs =
@@ -56,18 +35,6 @@ add-steps c =
     let pre = w .before .before .before .before .before .pre in
     let small = finishing-small (w .before .loop .inv) (pre .0 .few) (w .loop-test .taken) (pre .1) (took-by _ (o .outcome .ensures) (c .taken .ensures)) in
     search needs
-
-mul-outcomes : tie.Need-mul-outcomes Inv-loop μ-loop
-mul-outcomes c = search needs
-
-array-set-from-outcomes : tie.Need-array-set-from-outcomes Inv-loop μ-loop
-array-set-from-outcomes c = search needs
-
-add-i : tie.Need-add-i Inv-loop μ-loop
-add-i c = search needs
-
-loop-less : tie.Need-loop-less Inv-loop μ-loop
-loop-less c = search needs
 
 loop-again : tie.Need-loop-again Inv-loop μ-loop
 loop-again c =
@@ -86,20 +53,20 @@ finish-spec =
     (tie.spec
     Inv-loop
     μ-loop
-    kept-requires
+    (λ c κs. search needs)
     loop-holds
-    mul-outcome
-    array-copy-out-outcome
-    mul-outcome-2
-    array-copy-out-outcome-2
+    (λ c. search needs)
+    (λ c. search needs)
+    (λ c. search needs)
+    (λ c. search needs)
     outcome-requires
-    mul-taken
-    array-copy-out-taken
+    (λ c. search needs)
+    (λ c. search needs)
     taken-requires
     add-steps
-    mul-outcomes
-    array-set-from-outcomes
-    add-i
-    loop-less
+    (λ c. search needs)
+    (λ c. search needs)
+    (λ c. search needs)
+    (λ c. search needs)
     loop-again
     returns)

@@ -14,29 +14,8 @@ Inv-loop records all₀ i₀ all i = Filled 8 (λ j. keptOf (getD records j noRe
 abbrev μ-loop : tie.MeasureT-loop
 μ-loop records all₀ i₀ all i = 8 - i
 
-array-copy-out-t8 : tie.Need-array-copy-out-t8 Inv-loop μ-loop
-array-copy-out-t8 c = search needs
-
 loop-holds : tie.Need-loop-holds Inv-loop μ-loop
 loop-holds c = filling-begins _ _ _ _ (search needs)
-
-mul-t12 : tie.Need-mul-t12 Inv-loop μ-loop
-mul-t12 c = search needs
-
-array-copy-out-t15 : tie.Need-array-copy-out-t15 Inv-loop μ-loop
-array-copy-out-t15 c = search needs
-
-mul-all : tie.Need-mul-all Inv-loop μ-loop
-mul-all c = search needs
-
-array-set-from-all : tie.Need-array-set-from-all Inv-loop μ-loop
-array-set-from-all c = search needs
-
-add-i : tie.Need-add-i Inv-loop μ-loop
-add-i c = search needs
-
-loop-less : tie.Need-loop-less Inv-loop μ-loop
-loop-less c = search needs
 
 loop-again : tie.Need-loop-again Inv-loop μ-loop
 loop-again c = filling-more (c .before .before .loop .inv) (c .before .loop-test .taken) _ refl
@@ -50,13 +29,13 @@ kept-spec =
     (tie.spec
     Inv-loop
     μ-loop
-    array-copy-out-t8
+    (λ c. search needs)
     loop-holds
-    mul-t12
-    array-copy-out-t15
-    mul-all
-    array-set-from-all
-    add-i
-    loop-less
+    (λ c. search needs)
+    (λ c. search needs)
+    (λ c. search needs)
+    (λ c. search needs)
+    (λ c. search needs)
+    (λ c. search needs)
     loop-again
     returns)

@@ -14,29 +14,8 @@ Inv-loop records all₀ i₀ all i = Filled 8 (λ j. unservedOf (getD records j 
 abbrev μ-loop : tie.MeasureT-loop
 μ-loop records all₀ i₀ all i = 8 - i
 
-array-copy-out-t7 : tie.Need-array-copy-out-t7 Inv-loop μ-loop
-array-copy-out-t7 c = search needs
-
 loop-holds : tie.Need-loop-holds Inv-loop μ-loop
 loop-holds c = filling-begins _ _ _ _ (search needs)
-
-mul-t11 : tie.Need-mul-t11 Inv-loop μ-loop
-mul-t11 c = search needs
-
-array-copy-out-t14 : tie.Need-array-copy-out-t14 Inv-loop μ-loop
-array-copy-out-t14 c = search needs
-
-mul-all : tie.Need-mul-all Inv-loop μ-loop
-mul-all c = search needs
-
-array-set-from-all : tie.Need-array-set-from-all Inv-loop μ-loop
-array-set-from-all c = search needs
-
-add-i : tie.Need-add-i Inv-loop μ-loop
-add-i c = search needs
-
-loop-less : tie.Need-loop-less Inv-loop μ-loop
-loop-less c = search needs
 
 loop-again : tie.Need-loop-again Inv-loop μ-loop
 loop-again c = filling-more (c .before .before .loop .inv) (c .before .loop-test .taken) _ refl
@@ -50,13 +29,13 @@ unserved-spec =
     (tie.spec
     Inv-loop
     μ-loop
-    array-copy-out-t7
+    (λ c. search needs)
     loop-holds
-    mul-t11
-    array-copy-out-t14
-    mul-all
-    array-set-from-all
-    add-i
-    loop-less
+    (λ c. search needs)
+    (λ c. search needs)
+    (λ c. search needs)
+    (λ c. search needs)
+    (λ c. search needs)
+    (λ c. search needs)
     loop-again
     returns)

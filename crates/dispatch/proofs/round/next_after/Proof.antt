@@ -13,34 +13,13 @@ Inv-loop count last progress start k₀ k = Asking count last (staysFor progress
 abbrev μ-loop : tie.MeasureT-loop
 μ-loop count last progress start k₀ k = count - k
 
-first-asked-requires : tie.Need-first-asked-requires Inv-loop μ-loop
-first-asked-requires c κs = search needs
-
 loop-holds : tie.Need-loop-holds Inv-loop μ-loop
 loop-holds c = asking-begins _ _ _ (search needs) (search needs) (search needs)
-
-further-requires : tie.Need-further-requires Inv-loop μ-loop
-further-requires c κs = search needs
-
-mul-stays : tie.Need-mul-stays Inv-loop μ-loop
-mul-stays c = search needs
-
-array-copy-out-stays : tie.Need-array-copy-out-stays Inv-loop μ-loop
-array-copy-out-stays c = search needs
-
-stays-requires : tie.Need-stays-requires Inv-loop μ-loop
-stays-requires c κs = search needs
 
 returns : tie.Need-returns Inv-loop μ-loop
 returns c =
     let k = c .before .before .before in
     asking-found (k .before .before .loop .inv) (k .before .loop-test .taken) (k .further .ensures .0) (sym (c .before .stays .ensures) ∙ c .if1 .taken)
-
-add-k : tie.Need-add-k Inv-loop μ-loop
-add-k c = search needs
-
-loop-less : tie.Need-loop-less Inv-loop μ-loop
-loop-less c = search needs
 
 loop-again : tie.Need-loop-again Inv-loop μ-loop
 loop-again c =
@@ -56,14 +35,14 @@ next-after-spec =
     (tie.spec
     Inv-loop
     μ-loop
-    first-asked-requires
+    (λ c κs. search needs)
     loop-holds
-    further-requires
-    mul-stays
-    array-copy-out-stays
-    stays-requires
+    (λ c κs. search needs)
+    (λ c. search needs)
+    (λ c. search needs)
+    (λ c κs. search needs)
     returns
-    add-k
-    loop-less
+    (λ c. search needs)
+    (λ c. search needs)
     loop-again
     returns-2)

@@ -18,21 +18,6 @@ abbrev μ-loop : tie.MeasureT-loop
 loop-holds : tie.Need-loop-holds Inv-loop μ-loop
 loop-holds c = turning-begins _ _ _ _ _ _ _ _ _ (search needs)
 
-next-after-requires : tie.Need-next-after-requires Inv-loop μ-loop
-next-after-requires c κs = search needs
-
-enum-known-i : tie.Need-enum-known-i Inv-loop μ-loop
-enum-known-i c = search needs
-
-enum-told : tie.Need-enum-told Inv-loop μ-loop
-enum-told c = search needs
-
-same-length : tie.Need-same-length Inv-loop μ-loop
-same-length c = search needs
-
-same-length-2 : tie.Need-same-length-2 Inv-loop μ-loop
-same-length-2 c = search needs
-
 returns : tie.Need-returns Inv-loop μ-loop
 returns c =
     let n = c .before .before in
@@ -72,9 +57,6 @@ serve-run-requires c κs =
     let inv = t .before .before .before .before .before .loop .inv in
     (omega (arith, ready .stacks _ (below t), inv .stacks), omega (arith, ready .lists _ (below t), inv .lists))
 
-after-turn-requires : tie.Need-after-turn-requires Inv-loop μ-loop
-after-turn-requires c κs = search needs
-
 -- the turn, from after it
 abbrev turn : tie.After-after-turn Inv-loop μ-loop → tie.After-known-told Inv-loop μ-loop
 turn c = c .before .before .before .before .before .before .before .before .before .before .before
@@ -109,12 +91,6 @@ loop-again c =
     (turning-more (w .before .loop .inv) (w .loop-test .taken) (below-eight t) (f .0) (k .serve-run .result) (k .serve-run .ensures)
     (k .serve-run .kept .1 .1 .0) (k .serve-run .kept .1 .1 .1 .0))
 
-same-length-3 : tie.Need-same-length-3 Inv-loop μ-loop
-same-length-3 c = search needs
-
-same-length-4 : tie.Need-same-length-4 Inv-loop μ-loop
-same-length-4 c = search needs
-
 returns-2 : tie.Need-returns-2 Inv-loop μ-loop
 returns-2 c = turning-ends (c .before .loop .inv) (c .loop-test .left)
 
@@ -125,24 +101,24 @@ serve-spec =
     Inv-loop
     μ-loop
     loop-holds
-    next-after-requires
-    enum-known-i
-    enum-told
-    same-length
-    same-length-2
+    (λ c κs. search needs)
+    (λ c. search needs)
+    (λ c. search needs)
+    (λ c. search needs)
+    (λ c. search needs)
     returns
     mul-share
     array-copy-out-share
     mul-before
     array-copy-out-before
     serve-run-requires
-    after-turn-requires
+    (λ c κs. search needs)
     mul-all
     array-set-from-all
     add-number
     add-k
     loop-less
     loop-again
-    same-length-3
-    same-length-4
+    (λ c. search needs)
+    (λ c. search needs)
     returns-2)

@@ -111,12 +111,6 @@ slice-set-from-equations c = let s = c .before .before .before .before .before .
       .taken,
 )
 
-add-j : tie.Need-add-j Inv-loop μ-loop
-add-j c = search needs
-
-loop-less : tie.Need-loop-less Inv-loop μ-loop
-loop-less c = search needs
-
 loop-again : tie.Need-loop-again Inv-loop μ-loop
 loop-again c = let a = c .before .before .before .before .before in
     let s = c .before .before .before .before .before .before in
@@ -154,8 +148,8 @@ combine-spec =
     add-t19
     mul-t20
     slice-set-from-equations
-    add-j
-    loop-less
+    (λ c. search needs)
+    (λ c. search needs)
     loop-again
     same-length
     returns)

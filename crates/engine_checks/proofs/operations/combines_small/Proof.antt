@@ -29,30 +29,9 @@ abbrev μ-loop : tie.MeasureT-loop
 loop-holds : tie.Need-loop-holds Inv-loop μ-loop
 loop-holds c = (search needs, none-yet _)
 
-add-combined : tie.Need-add-combined Inv-loop μ-loop
-add-combined c = search needs
-
-mul-combined : tie.Need-mul-combined Inv-loop μ-loop
-mul-combined c = search needs
-
-shared-slice-copy-out-combined : tie.Need-shared-slice-copy-out-combined Inv-loop μ-loop
-shared-slice-copy-out-combined c = search needs
-
-add-combined-2 : tie.Need-add-combined-2 Inv-loop μ-loop
-add-combined-2 c = search needs
-
-mul-combined-2 : tie.Need-mul-combined-2 Inv-loop μ-loop
-mul-combined-2 c = search needs
-
-shared-slice-copy-out-combined-2 : tie.Need-shared-slice-copy-out-combined-2 Inv-loop μ-loop
-shared-slice-copy-out-combined-2 c = search needs
-
 combined-requires : tie.Need-combined-requires Inv-loop μ-loop
 combined-requires c κs = let s = c .before .before .before .before in reads-small (s .pre .0) (s .pre .1) (s .fits .u) (s .fits .t)
     (c .before .before .before .loop .j) (c .before .before .loop-test .taken)
-
-will-be-small-requires : tie.Need-will-be-small-requires Inv-loop μ-loop
-will-be-small-requires c κs = search needs
 
 tested : (c : tie.After-will-be-small Inv-loop μ-loop)
     → let s = c .before .before .before .before .before .before in let j = c .before .before .before .before .before .loop .j in
@@ -67,12 +46,6 @@ tested c =
 returns : tie.Need-returns Inv-loop μ-loop
 unfolding combinesSmall
 returns c = sym (all-fails _ _ _ (c .before .before .before .before .before .loop-test .taken) (sym (tested (c .before)) ∙ not-true _ (c .if1 .taken)))
-
-add-j : tie.Need-add-j Inv-loop μ-loop
-add-j c = search needs
-
-loop-less : tie.Need-loop-less Inv-loop μ-loop
-loop-less c = search needs
 
 loop-again : tie.Need-loop-again Inv-loop μ-loop
 loop-again c = let s = c .before .before .before .before .before .before .before in
@@ -97,16 +70,16 @@ combines-small-spec =
     Inv-loop
     μ-loop
     loop-holds
-    add-combined
-    mul-combined
-    shared-slice-copy-out-combined
-    add-combined-2
-    mul-combined-2
-    shared-slice-copy-out-combined-2
+    (λ c. search needs)
+    (λ c. search needs)
+    (λ c. search needs)
+    (λ c. search needs)
+    (λ c. search needs)
+    (λ c. search needs)
     combined-requires
-    will-be-small-requires
+    (λ c κs. search needs)
     returns
-    add-j
-    loop-less
+    (λ c. search needs)
+    (λ c. search needs)
     loop-again
     returns-2)

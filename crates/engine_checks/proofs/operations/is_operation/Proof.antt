@@ -7,14 +7,8 @@ use borrow.Author.Needs.{needs}
 use Rattle.engine_checks.proofs.operations.is_operation.Statement.{statement}
 use Rattle.engine_checks.proofs.operations.is_operation.Tie as tie
 
-is-zero-requires : tie.Need-is-zero-requires
-is-zero-requires c κs = search needs
-
 returns : tie.Need-returns
 returns c = let s = c .before .before in rw (sym (rw (toZ-ofZ (s .fits .u)) at (c .before .is-zero .ensures)) ∙ c .if1 .taken)
-
-is-apart-requires : tie.Need-is-apart-requires
-is-apart-requires c κs = search needs
 
 returns-2 : tie.Need-returns-2
 returns-2 c =
@@ -47,9 +41,9 @@ pub is-operation-spec : {M : Type 1} → statement M
 is-operation-spec =
     tie.close
     (tie.spec
-    is-zero-requires
+    (λ c κs. search needs)
     returns
-    is-apart-requires
+    (λ c κs. search needs)
     returns-2
     mul-combines-small
     mul-combines-small-2

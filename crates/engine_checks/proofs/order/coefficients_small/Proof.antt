@@ -27,15 +27,6 @@ abbrev μ-loop : tie.MeasureT-loop
 loop-holds : tie.Need-loop-holds Inv-loop μ-loop
 loop-holds c = (search needs, none-yet _)
 
-mul-is-small : tie.Need-mul-is-small Inv-loop μ-loop
-mul-is-small c = search needs
-
-shared-slice-copy-out-is-small : tie.Need-shared-slice-copy-out-is-small Inv-loop μ-loop
-shared-slice-copy-out-is-small c = search needs
-
-is-small-requires : tie.Need-is-small-requires Inv-loop μ-loop
-is-small-requires c κs = search needs
-
 tested : (c : tie.After-is-small Inv-loop μ-loop)
     → c .is-small .result ≡ leb (natAbs (getD (now (c .before .before .before .before .args .equations)) (c .before .before .before .loop .i) (pos 0)))
     coefficientLimit
@@ -44,12 +35,6 @@ tested c = rw (toZ-ofZ (sfits-of (c .before .is-small-arg .given))) at (c .is-sm
 returns : tie.Need-returns Inv-loop μ-loop
 unfolding coefficientsSmall
 returns c = sym (all-fails _ _ _ (c .before .before .before .loop-test .taken) (sym (tested (c .before)) ∙ not-true _ (c .if1 .taken)))
-
-add-i : tie.Need-add-i Inv-loop μ-loop
-add-i c = search needs
-
-loop-less : tie.Need-loop-less Inv-loop μ-loop
-loop-less c = search needs
 
 loop-again : tie.Need-loop-again Inv-loop μ-loop
 loop-again c = let a = c .before .before .before .before in (
@@ -69,11 +54,11 @@ coefficients-small-spec =
     Inv-loop
     μ-loop
     loop-holds
-    mul-is-small
-    shared-slice-copy-out-is-small
-    is-small-requires
+    (λ c. search needs)
+    (λ c. search needs)
+    (λ c κs. search needs)
     returns
-    add-i
-    loop-less
+    (λ c. search needs)
+    (λ c. search needs)
     loop-again
     returns-2)

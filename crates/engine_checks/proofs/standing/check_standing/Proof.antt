@@ -12,15 +12,6 @@ use borrow.Author.Needs.{needs}
 use Rattle.engine_checks.proofs.standing.check_standing.Statement.{statement}
 use Rattle.engine_checks.proofs.standing.check_standing.Tie as tie
 
-check-requires : tie.Need-check-requires
-check-requires c κs = search needs
-
-enum-known-why : tie.Need-enum-known-why
-enum-known-why c = search needs
-
-enum-told : tie.Need-enum-told
-enum-told c = search needs
-
 mul-if1 : tie.Need-mul-if1
 mul-if1 c = let s = c .before .before .before .before .before in
     let z = sized (s .args .p) (s .args .q) (sym (c .before .before .check .ensures) ∙ ap checkOf (c .enum-told .given .1)) in
@@ -69,9 +60,9 @@ pub check-standing-spec : {M : Type 1} → statement M
 check-standing-spec =
     tie.close
     (tie.spec
-    check-requires
-    enum-known-why
-    enum-told
+    (λ c κs. search needs)
+    (λ c. search needs)
+    (λ c. search needs)
     mul-if1
     returns
     returns-2

@@ -11,15 +11,6 @@ use borrow.Author.Needs.{needs}
 use Rattle.engine_checks.proofs.standing.check_start.Statement.{statement}
 use Rattle.engine_checks.proofs.standing.check_start.Tie as tie
 
-check-requires : tie.Need-check-requires
-check-requires c κs = search needs
-
-enum-known-why : tie.Need-enum-known-why
-enum-known-why c = search needs
-
-enum-told : tie.Need-enum-told
-enum-told c = search needs
-
 mul-if1 : tie.Need-mul-if1
 mul-if1 c = let s = c .before .before .before in
     let z = sized (s .args .p) (s .args .q) (sym (c .before .before .check .ensures) ∙ ap checkOf (c .enum-told .given .1)) in
@@ -50,9 +41,6 @@ returns-3 c = let s = c .before .before .before .before .before .before in sizes
     (few-refuses (s .args .p) (s .args .q) (now (s .args .coefs)) (s .args .most) (s .args .equations) (eq-eqb _ _ (c .before .before .if1 .left))
     (le-ltb _ _ (c .before .if2 .left)) (lt-ltb _ _ (c .if3 .taken)))
 
-check-coefficients-requires : tie.Need-check-coefficients-requires
-check-coefficients-requires c κs = search needs
-
 returns-4 : tie.Need-returns-4
 unfolding startChecksBy
 returns-4 c = let s = c .before .before .before .before in sizes-refused (s .args .p) (s .args .q) (c .before .before .before .check .ensures) _
@@ -70,14 +58,14 @@ pub check-start-spec : {M : Type 1} → statement M
 check-start-spec =
     tie.close
     (tie.spec
-    check-requires
-    enum-known-why
-    enum-told
+    (λ c κs. search needs)
+    (λ c. search needs)
+    (λ c. search needs)
     mul-if1
     returns
     mul-if2
     returns-2
     returns-3
-    check-coefficients-requires
+    (λ c κs. search needs)
     returns-4
     returns-5)

@@ -31,9 +31,6 @@ shared-slice-copy-out-is-minus-one c = let s = c .before in omega (
       (s .pre .2),
 )
 
-is-minus-one-requires : tie.Need-is-minus-one-requires
-is-minus-one-requires c κs = search needs
-
 returns-2 : tie.Need-returns-2
 returns-2 c = rw (
   sym (rw (toZ-ofZ (sfits-of (c .before .before .is-minus-one-arg .given))) at (c .before .is-minus-one .ensures)) ∙ not-true _
@@ -60,7 +57,7 @@ is-fresh-spec =
     add-is-minus-one
     mul-is-minus-one-2
     shared-slice-copy-out-is-minus-one
-    is-minus-one-requires
+    (λ c κs. search needs)
     returns-2
     free-in-requires
     returns-3)

@@ -19,57 +19,12 @@ Inv-loop table values n q upper lower sum word sign held₀ places₀ from count
 abbrev μ-loop : tie.MeasureT-loop
 μ-loop table values n q upper lower sum word sign held₀ places₀ from count i₀ held places i = count - i
 
-mul-from : tie.Need-mul-from Inv-loop μ-loop
-mul-from c = search needs
-
-count-requires : tie.Need-count-requires Inv-loop μ-loop
-count-requires c κs = search needs
-
-loop-holds : tie.Need-loop-holds Inv-loop μ-loop
-loop-holds c = search needs
-
-add-k : tie.Need-add-k Inv-loop μ-loop
-add-k c = search needs
-
-add-i : tie.Need-add-i Inv-loop μ-loop
-add-i c = search needs
-
-mul-may-drop : tie.Need-mul-may-drop Inv-loop μ-loop
-mul-may-drop c = search needs
-
-element-copy-out-may-drop : tie.Need-element-copy-out-may-drop Inv-loop μ-loop
-element-copy-out-may-drop c = search needs
-
-may-drop-requires : tie.Need-may-drop-requires Inv-loop μ-loop
-may-drop-requires c κs = search needs
-
-place-requires : tie.Need-place-requires Inv-loop μ-loop
-place-requires c κs = search needs
-
-reduces-requires : tie.Need-reduces-requires Inv-loop μ-loop
-reduces-requires c κs = search needs
-
-advance-requires : tie.Need-advance-requires Inv-loop μ-loop
-advance-requires c κs = search needs
-
 returns : tie.Need-returns Inv-loop μ-loop
 returns c =
     let t = c .before .before .before in
     let r = t .before in
     let s = r .before .before .before .before .before .before .before .before .before .before .before in
     record { named = λ e. rw (toZ-ofZ (s .fits .sum)) at (r .reduces .ensures .named (t .if2 .taken)) }
-
-loop-less : tie.Need-loop-less Inv-loop μ-loop
-loop-less c = search needs
-
-loop-again : tie.Need-loop-again Inv-loop μ-loop
-loop-again c = search needs
-
-loop-less-2 : tie.Need-loop-less-2 Inv-loop μ-loop
-loop-less-2 c = search needs
-
-loop-again-2 : tie.Need-loop-again-2 Inv-loop μ-loop
-loop-again-2 c = search needs
 
 returns-2 : tie.Need-returns-2 Inv-loop μ-loop
 returns-2 c = record { named = λ e. never e }
@@ -80,20 +35,20 @@ dropped-spec =
     (tie.spec
     Inv-loop
     μ-loop
-    mul-from
-    count-requires
-    loop-holds
-    add-k
-    add-i
-    mul-may-drop
-    element-copy-out-may-drop
-    may-drop-requires
-    place-requires
-    reduces-requires
-    advance-requires
+    (λ c. search needs)
+    (λ c κs. search needs)
+    (λ c. search needs)
+    (λ c. search needs)
+    (λ c. search needs)
+    (λ c. search needs)
+    (λ c. search needs)
+    (λ c κs. search needs)
+    (λ c κs. search needs)
+    (λ c κs. search needs)
+    (λ c κs. search needs)
     returns
-    loop-less
-    loop-again
-    loop-less-2
-    loop-again-2
+    (λ c. search needs)
+    (λ c. search needs)
+    (λ c. search needs)
+    (λ c. search needs)
     returns-2)

@@ -29,23 +29,11 @@ abbrev μ-loop : tie.MeasureT-loop
 loop-holds : tie.Need-loop-holds Inv-loop μ-loop
 loop-holds c = (search needs, none-yet _ _ _ _ _)
 
-add-i : tie.Need-add-i Inv-loop μ-loop
-add-i c = search needs
-
-mul-fits : tie.Need-mul-fits Inv-loop μ-loop
-mul-fits c = search needs
-
-shared-slice-read-fits : tie.Need-shared-slice-read-fits Inv-loop μ-loop
-shared-slice-read-fits c = search needs
-
 fits-requires : tie.Need-fits-requires Inv-loop μ-loop
 fits-requires c κs =
     let l = c .before .before in
     let s = l .before .before .before in
     omega (arith, s .pre .worded .each (l .loop .i) (c .before .loop-test .taken), word-low (s .args .q) (at (now (s .args .table)) (s .args .q) (l .loop .i)))
-
-reduces-at-requires : tie.Need-reduces-at-requires Inv-loop μ-loop
-reduces-at-requires c κs = search needs
 
 returns : tie.Need-returns Inv-loop μ-loop
 returns c =
@@ -59,17 +47,11 @@ returns c =
       none = λ h. absurd (omega (arith, il .loop-test .taken));
     }
 
-loop-less : tie.Need-loop-less Inv-loop μ-loop
-loop-less c = search needs
-
 loop-again : tie.Need-loop-again Inv-loop μ-loop
 loop-again c =
     let a = c .before in
     let l = a .before .before .before .before .before in
     (search needs, passed _ _ _ _ _ (l .loop .i) (l .loop .inv .1) (sym (a .reduces-at .ensures) ∙ c .if2 .left))
-
-loop-less-2 : tie.Need-loop-less-2 Inv-loop μ-loop
-loop-less-2 c = search needs
 
 loop-again-2 : tie.Need-loop-again-2 Inv-loop μ-loop
 loop-again-2 c =
@@ -96,14 +78,14 @@ search-spec =
     Inv-loop
     μ-loop
     loop-holds
-    add-i
-    mul-fits
-    shared-slice-read-fits
+    (λ c. search needs)
+    (λ c. search needs)
+    (λ c. search needs)
     fits-requires
-    reduces-at-requires
+    (λ c κs. search needs)
     returns
-    loop-less
+    (λ c. search needs)
     loop-again
-    loop-less-2
+    (λ c. search needs)
     loop-again-2
     returns-2)

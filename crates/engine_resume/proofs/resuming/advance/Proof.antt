@@ -15,9 +15,6 @@ write-beside-requires : tie.Need-write-beside-requires
 write-beside-requires c κs = writable (c .before .before .before .before .before .before .before .before .before .before .before .before .before .before
     .before .pre)
 
-begin-requires : tie.Need-begin-requires
-begin-requires c κs = search needs
-
 run-requires : tie.Need-run-requires
 run-requires c κs = rw (c .before .before .before .before .before .before .before .begin .ensures)
     (entered-ready (c .before .before .before .before .before .before .before .before .before .before .before .before .before .before .before .before .before
@@ -28,9 +25,6 @@ run-requires c κs = rw (c .before .before .before .before .before .before .befo
 same-length : tie.Need-same-length
 same-length c = c .before .before .before .before .before .before .before .before .before .before .before .before .before .before .before .before .before
     .before .before .before .before .before .before .before .before .before .before .before .before .write-beside .ensures .kept .long
-
-same-length-2 : tie.Need-same-length-2
-same-length-2 c = search needs
 
 same-length-3 : tie.Need-same-length-3
 same-length-3 c = c .before .before .before .before .before .before .before .before .before .before .before .run .ensures .beyond .values .long ∙ c .before
@@ -52,9 +46,6 @@ same-length-6 c = c .before .before .before .before .before .before .before .bef
     .before .before .before .before .before .before .before .before .before .before .before .before .before .before .before .before .before .before .before
     .before .before .before .before .before .before .before .before .before .write-beside .ensures .marks .long
 
-same-length-7 : tie.Need-same-length-7
-same-length-7 c = search needs
-
 returns : tie.Need-returns
 returns c = advanced (c .before .before .before .before .before .before .before .before .before .before .before .before .before .before .before .before .before
     .before .before .before .before .before .before .before .before .before .before .before .before .before .before .before .before .before .before .before
@@ -71,13 +62,13 @@ advance-spec =
     (tie.spec
     mul-from
     write-beside-requires
-    begin-requires
+    (λ c κs. search needs)
     run-requires
     same-length
-    same-length-2
+    (λ c. search needs)
     same-length-3
     same-length-4
     same-length-5
     same-length-6
-    same-length-7
+    (λ c. search needs)
     returns)

@@ -37,9 +37,6 @@ loop-holds c =
 turn-requires : tie.Need-turn-requires Inv-loop μ-loop
 turn-requires c κs = c .before .before .before .before .before .before .before .before .before .loop .inv .0 .ready
 
-enum-known-next : tie.Need-enum-known-next Inv-loop μ-loop
-enum-known-next c = search needs
-
 sub-left : tie.Need-sub-left Inv-loop μ-loop
 sub-left c = omega (
   arith,
@@ -60,12 +57,6 @@ loop-again c =
     let i = u .before .before .before .before .before .before .before .before .before in
     let a = i .before in
     goes-again (a .loop .inv .0) (a .loop .inv .1) (u .turn .result) (i .loop-test .taken) (u .turn .ensures) (c .before .next .given .1)
-
-enum-told : tie.Need-enum-told Inv-loop μ-loop
-enum-told c = search needs
-
-ended-requires : tie.Need-ended-requires Inv-loop μ-loop
-ended-requires c κs = search needs
 
 same-length : tie.Need-same-length Inv-loop μ-loop
 same-length c =
@@ -110,12 +101,6 @@ returns c =
     let a = i .before in
     rw (c .ended .ensures) (stops-late (a .loop .inv .0) (i .loop-test .taken) (u .turn .ensures) (c .before .enum-told .given .1))
 
-enum-told-2 : tie.Need-enum-told-2 Inv-loop μ-loop
-enum-told-2 c = search needs
-
-ended-requires-2 : tie.Need-ended-requires-2 Inv-loop μ-loop
-ended-requires-2 c κs = search needs
-
 same-length-7 : tie.Need-same-length-7 Inv-loop μ-loop
 same-length-7 c =
     let u = c .before .before .before .before .before .before .before .before .before .before .before .before .before .before in
@@ -158,12 +143,6 @@ returns-2 c =
     let i = u .before .before .before .before .before .before .before .before .before in
     let a = i .before in
     rw (c .ended2 .ensures) (stops-large (a .loop .inv .0) (i .loop-test .taken) (u .turn .ensures) (c .before .enum-told2 .given .1))
-
-enum-told-3 : tie.Need-enum-told-3 Inv-loop μ-loop
-enum-told-3 c = search needs
-
-ended-requires-3 : tie.Need-ended-requires-3 Inv-loop μ-loop
-ended-requires-3 c κs = search needs
 
 same-length-13 : tie.Need-same-length-13 Inv-loop μ-loop
 same-length-13 c =
@@ -208,12 +187,6 @@ returns-3 c =
     let a = i .before in
     rw (c .ended3 .ensures) (stops-full (a .loop .inv .0) (i .loop-test .taken) (u .turn .ensures) (c .before .enum-told3 .given .1))
 
-enum-told-4 : tie.Need-enum-told-4 Inv-loop μ-loop
-enum-told-4 c = search needs
-
-ended-requires-4 : tie.Need-ended-requires-4 Inv-loop μ-loop
-ended-requires-4 c κs = search needs
-
 same-length-19 : tie.Need-same-length-19 Inv-loop μ-loop
 same-length-19 c =
     let u = c .before .before .before .before .before .before .before .before .before .before .before .before .before .before in
@@ -257,9 +230,6 @@ returns-4 c =
     let a = i .before in
     rw (c .ended4 .ensures) (stops-ends (a .loop .inv .0) (i .loop-test .taken) (u .turn .ensures) (c .before .enum-told4 .given .1))
 
-ended-requires-5 : tie.Need-ended-requires-5 Inv-loop μ-loop
-ended-requires-5 c κs = search needs
-
 same-length-25 : tie.Need-same-length-25 Inv-loop μ-loop
 same-length-25 c = c .before .before .loop .inv .1 .rows
 
@@ -292,12 +262,12 @@ run-spec =
     μ-loop
     loop-holds
     turn-requires
-    enum-known-next
+    (λ c. search needs)
     sub-left
     loop-less
     loop-again
-    enum-told
-    ended-requires
+    (λ c. search needs)
+    (λ c κs. search needs)
     same-length
     same-length-2
     same-length-3
@@ -305,8 +275,8 @@ run-spec =
     same-length-5
     same-length-6
     returns
-    enum-told-2
-    ended-requires-2
+    (λ c. search needs)
+    (λ c κs. search needs)
     same-length-7
     same-length-8
     same-length-9
@@ -314,8 +284,8 @@ run-spec =
     same-length-11
     same-length-12
     returns-2
-    enum-told-3
-    ended-requires-3
+    (λ c. search needs)
+    (λ c κs. search needs)
     same-length-13
     same-length-14
     same-length-15
@@ -323,8 +293,8 @@ run-spec =
     same-length-17
     same-length-18
     returns-3
-    enum-told-4
-    ended-requires-4
+    (λ c. search needs)
+    (λ c κs. search needs)
     same-length-19
     same-length-20
     same-length-21
@@ -332,7 +302,7 @@ run-spec =
     same-length-23
     same-length-24
     returns-4
-    ended-requires-5
+    (λ c κs. search needs)
     same-length-25
     same-length-26
     same-length-27

@@ -7,15 +7,9 @@ use borrow.Author.Needs.{needs}
 use Rattle.equation_read.proofs.bytes.after_sign.Statement.{statement}
 use Rattle.equation_read.proofs.bytes.after_sign.Tie as tie
 
-is-sign-requires : tie.Need-is-sign-requires
-is-sign-requires c κs = search needs
-
 add-skip : tie.Need-add-skip
 add-skip c = let s = c .before .before .before in
     omega (arith, sign-inside (now (s .args .text)) (s .args .at) (sym (c .before .is-sign .ensures) ∙ c .if1 .taken))
-
-skip-requires : tie.Need-skip-requires
-skip-requires c κs = search needs
 
 returns : tie.Need-returns
 returns c = let b = c .before in
@@ -26,4 +20,4 @@ returns-2 : tie.Need-returns-2
 returns-2 c = sym (lead-none _ (sym (c .before .is-sign .ensures) ∙ c .if1 .left))
 
 pub after-sign-spec : {M : Type 1} → statement M
-after-sign-spec = tie.close (tie.spec is-sign-requires add-skip skip-requires returns returns-2)
+after-sign-spec = tie.close (tie.spec (λ c κs. search needs) add-skip (λ c κs. search needs) returns returns-2)

@@ -5,11 +5,8 @@ use borrow.Author.Needs.{needs}
 use Rattle.equation_read.proofs.bytes.is_minus.Statement.{statement}
 use Rattle.equation_read.proofs.bytes.is_minus.Tie as tie
 
-stands-requires : tie.Need-stands-requires
-stands-requires c κs = search needs
-
 returns : tie.Need-returns
 returns c = c .stands .ensures ∙ minus-lead _
 
 pub is-minus-spec : {M : Type 1} → statement M
-is-minus-spec = tie.close (tie.spec stands-requires returns)
+is-minus-spec = tie.close (tie.spec (λ c κs. search needs) returns)

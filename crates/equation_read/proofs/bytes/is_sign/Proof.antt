@@ -5,17 +5,11 @@ use borrow.Author.Needs.{needs}
 use Rattle.equation_read.proofs.bytes.is_sign.Statement.{statement}
 use Rattle.equation_read.proofs.bytes.is_sign.Tie as tie
 
-stands-requires : tie.Need-stands-requires
-stands-requires c κs = search needs
-
 returns : tie.Need-returns
 returns c = sign-plus _ (sym (c .before .stands .ensures) ∙ c .if1 .taken)
-
-stands-requires-2 : tie.Need-stands-requires-2
-stands-requires-2 c κs = search needs
 
 returns-2 : tie.Need-returns-2
 returns-2 c = c .stands2 .ensures ∙ sign-minus _ (sym (c .before .before .stands .ensures) ∙ c .before .if1 .left)
 
 pub is-sign-spec : {M : Type 1} → statement M
-is-sign-spec = tie.close (tie.spec stands-requires returns stands-requires-2 returns-2)
+is-sign-spec = tie.close (tie.spec (λ c κs. search needs) returns (λ c κs. search needs) returns-2)

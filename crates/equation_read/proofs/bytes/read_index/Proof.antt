@@ -8,18 +8,9 @@ use Rattle.equation_read.proofs.bytes.read_index.Tie as tie
 read-natural-requires : tie.Need-read-natural-requires
 read-natural-requires c κs = few-digits
 
-enum-told : tie.Need-enum-told
-enum-told c = search needs
-
-enum-known-value : tie.Need-enum-known-value
-enum-known-value c = search needs
-
 returns : tie.Need-returns
 returns c = let v = c .before .before in
     index-none _ _ _ (rw (v .value .given .1) at (v .before .before .read-natural .ensures)) (c .if1 .taken)
-
-cast-if2 : tie.Need-cast-if2
-cast-if2 c = search needs
 
 returns-2 : tie.Need-returns-2
 returns-2 c = let v = c .before .before .before in
@@ -37,10 +28,10 @@ read-index-spec =
     tie.close
     (tie.spec
     read-natural-requires
-    enum-told
-    enum-known-value
+    (λ c. search needs)
+    (λ c. search needs)
     returns
-    cast-if2
+    (λ c. search needs)
     returns-2
     returns-3
     returns-4)

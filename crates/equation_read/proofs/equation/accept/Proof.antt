@@ -64,9 +64,6 @@ loop-again c = let p = c .before in
       ranged-next (now (s .args .totals)) (l .before .loop .i) (l .before .loop .inv .2) e,
     )
 
-element-copy-out-is-steep-2 : tie.Need-element-copy-out-is-steep-2 Inv-loop μ-loop
-element-copy-out-is-steep-2 c = search needs
-
 is-steep-requires-2 : tie.Need-is-steep-requires-2 Inv-loop μ-loop
 is-steep-requires-2 c κs = tt
 
@@ -83,9 +80,6 @@ write-row-requires c κs = let l = c .before .before .before .before .before in
     let s = l .before in
     let n : l .loop .i ≡ s .args .q = omega (arith, l .loop .inv .0, c .before .before .before .before .loop-test .left) in
     (s .pre .0, s .pre .1, rw n at (l .loop .inv .2))
-
-element-copy-out-negated : tie.Need-element-copy-out-negated Inv-loop μ-loop
-element-copy-out-negated c = search needs
 
 negated-requires : tie.Need-negated-requires Inv-loop μ-loop
 negated-requires c κs = let p = c .before .before .before .before .before in
@@ -128,11 +122,11 @@ accept-spec =
     add-i
     loop-less
     loop-again
-    element-copy-out-is-steep-2
+    (λ c. search needs)
     is-steep-requires-2
     returns-2
     write-row-requires
-    element-copy-out-negated
+    (λ c. search needs)
     negated-requires
     same-length
     returns-3)

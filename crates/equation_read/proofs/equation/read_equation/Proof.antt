@@ -19,9 +19,6 @@ returns-3 c = many-unknowns _ _ _ _ (c .before .before .if1 .left) (c .before .i
 returns-4 : tie.Need-returns-4
 returns-4 c = other-row _ _ _ _ (c .before .before .before .if1 .left) (c .before .before .if2 .left) (c .before .if3 .left) (c .if4 .taken)
 
-place-requires : tie.Need-place-requires
-place-requires c κs = search needs
-
 returns-5 : tie.Need-returns-5
 returns-5 c = let p = c .before in
     let e₄ = p .before in
@@ -31,12 +28,6 @@ returns-5 c = let p = c .before in
     rw (p .place .ensures)
     (at-fault (s .args .q) (length (now (s .args .row))) (now (s .args .text)) (now (s .args .row)) (e₂ .before .if1 .left) (e₂ .if2 .left) (e₃ .if3 .left)
     (e₄ .if4 .left) (rw (p .place .ensures) at (c .if5 .taken)))
-
-read-sides-requires : tie.Need-read-sides-requires
-read-sides-requires c κs = search needs
-
-same-length : tie.Need-same-length
-same-length c = search needs
 
 returns-6 : tie.Need-returns-6
 returns-6 c = let v = c .before in
@@ -56,8 +47,8 @@ read-equation-spec =
     returns-2
     returns-3
     returns-4
-    place-requires
+    (λ c κs. search needs)
     returns-5
-    read-sides-requires
-    same-length
+    (λ c κs. search needs)
+    (λ c. search needs)
     returns-6)

@@ -15,15 +15,6 @@ read-sum-requires : tie.Need-read-sum-requires
 read-sum-requires c κs = let s = c .before .before in
     record { few = s .pre .2; multiple = omega arith; room = zeros-small (length (now (s .args .text))) (s .pre .0) }
 
-enum-told : tie.Need-enum-told
-enum-told c = search needs
-
-enum-known-next : tie.Need-enum-known-next
-enum-known-next c = search needs
-
-skip-requires : tie.Need-skip-requires
-skip-requires c κs = search needs
-
 add-skip : tie.Need-add-skip
 add-skip c = let n = c .before .before in
     let r = n .before .before in
@@ -32,9 +23,6 @@ add-skip c = let n = c .before .before in
     let a = middle (s .args .q) (s .pre .2) e (now (s .args .text)) w (n .next .given .0 .0) (c .skip .result) zeros
     (rw (n .next .given .1) at (r .read-sum .ensures .0)) (c .skip .ensures) in
     omega (arith, a .inside, s .good)
-
-skip-requires-2 : tie.Need-skip-requires-2
-skip-requires-2 c κs = search needs
 
 read-sum-requires-2 : tie.Need-read-sum-requires-2
 read-sum-requires-2 c κs = let k₂ = c .before in
@@ -47,15 +35,6 @@ read-sum-requires-2 c κs = let k₂ = c .before in
     let x = skip-left text (n .next .given .0 .0) (k .skip .result) (k .skip .ensures) in
     let y = skip-left text (k .skip .result + 1) (k₂ .skip2 .result) (k₂ .skip2 .ensures) in
     record { few = s .pre .2; multiple = omega arith; room = less-left (omega arith) (a .room) }
-
-enum-told-2 : tie.Need-enum-told-2
-enum-told-2 c = search needs
-
-enum-known-more : tie.Need-enum-known-more
-enum-known-more c = search needs
-
-either-requires : tie.Need-either-requires
-either-requires c κs = search needs
 
 returns : tie.Need-returns
 returns c = let o = c .before in
@@ -73,9 +52,6 @@ returns c = let o = c .before in
     (rw (m .more .given .1) at (r₂ .read-sum2 .ensures .0)) in
     sides-steep (s .args .q) (s .pre .2) e (now (s .args .text)) w a (k₂ .skip2 .result) (k₂ .skip2 .ensures) b (now (s .args .row))
     (sym (o .either .ensures) ∙ c .if1 .taken)
-
-accept-requires : tie.Need-accept-requires
-accept-requires c κs = search needs
 
 returns-2 : tie.Need-returns-2
 returns-2 c = let r = c .before .before in
@@ -95,9 +71,6 @@ returns-3 c = let r₂ = c .before .before in
     (rw (n .next .given .1) at (r .read-sum .ensures .0)) (k .skip .ensures) in
     right-stopped (s .args .q) (s .pre .2) e (now (s .args .text)) w a (k₂ .skip2 .result) (k₂ .skip2 .ensures) (now (s .args .row))
     (rw (c .enum-told2 .given .1) at (r₂ .read-sum2 .ensures .0))
-
-same-length : tie.Need-same-length
-same-length c = search needs
 
 returns-4 : tie.Need-returns-4
 returns-4 c = let p = c .before in
@@ -123,18 +96,18 @@ read-sides-spec =
     tie.close
     (tie.spec
     read-sum-requires
-    enum-told
-    enum-known-next
-    skip-requires
+    (λ c. search needs)
+    (λ c. search needs)
+    (λ c κs. search needs)
     add-skip
-    skip-requires-2
+    (λ c κs. search needs)
     read-sum-requires-2
-    enum-told-2
-    enum-known-more
-    either-requires
+    (λ c. search needs)
+    (λ c. search needs)
+    (λ c κs. search needs)
     returns
-    accept-requires
+    (λ c κs. search needs)
     returns-2
     returns-3
-    same-length
+    (λ c. search needs)
     returns-4)

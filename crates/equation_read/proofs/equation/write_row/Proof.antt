@@ -67,9 +67,6 @@ loop-again c = let l = c .before .before in
           (toZ-ofZ {w = w32} (sfits-of (c .narrow .ok)) ∙ c .narrow .ensures ∙ e),
     )
 
-same-length : tie.Need-same-length Inv-loop μ-loop
-same-length c = search needs
-
 returns : tie.Need-returns Inv-loop μ-loop
 returns c = let l = c .before in
     let s = l .before in
@@ -92,5 +89,5 @@ write-row-spec =
     add-i
     loop-less
     loop-again
-    same-length
+    (λ c. search needs)
     returns)

@@ -11,21 +11,6 @@ use borrow.Author.Needs.{needs}
 use Rattle.equation_read.proofs.totals.add_at.Statement.{statement}
 use Rattle.equation_read.proofs.totals.add_at.Tie as tie
 
-mul-plus : tie.Need-mul-plus
-mul-plus c = search needs
-
-element-copy-out-plus : tie.Need-element-copy-out-plus
-element-copy-out-plus c = search needs
-
-plus-requires : tie.Need-plus-requires
-plus-requires c κs = search needs
-
-mul-sum : tie.Need-mul-sum
-mul-sum c = search needs
-
-element-set-from-sum : tie.Need-element-set-from-sum
-element-set-from-sum c = search needs
-
 returns : tie.Need-returns
 returns c = let s = c .before .before in
     let e = toZ-ofZ {w = w64} {z = getD (now (s .args .totals)) (s .args .k) (pos 0)} (sfits-natAbs (omega (arith, s .pre .1))) in
@@ -34,4 +19,4 @@ returns c = let s = c .before .before in
 pub add-at-spec : {M : Type 1} → statement M
 add-at-spec =
     tie.close
-    (tie.spec mul-plus element-copy-out-plus plus-requires mul-sum element-set-from-sum returns)
+    (tie.spec (λ c. search needs) (λ c. search needs) (λ c κs. search needs) (λ c. search needs) (λ c. search needs) returns)

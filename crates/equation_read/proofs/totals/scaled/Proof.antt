@@ -14,9 +14,6 @@ use Rattle.equation_read.proofs.totals.scaled.Tie as tie
 word : (c : tie.Start) → toZ w64 (c .args .n) ≡ pos (c .args .n)
 word c = toZ-ofZ {w = w64} {z = pos (c .args .n)} (sfits-natAbs (omega (arith, c .pre .1)))
 
-cast-result : tie.Need-cast-result
-cast-result c = search needs
-
 mul-result : tie.Need-mul-result
 mul-result c = rw (toZ-ofZ (c .fits .times), word c) (product-fits (c .args .times) (c .args .n) (c .pre .0) (c .pre .1))
 
@@ -24,4 +21,4 @@ returns : tie.Need-returns
 returns c = rw (toZ-ofZ (c .fits .times), word c) (toZ-ofZ {w = w64} (product-fits (c .args .times) (c .args .n) (c .pre .0) (c .pre .1)))
 
 pub scaled-spec : {M : Type 1} → statement M
-scaled-spec = tie.close (tie.spec cast-result mul-result returns)
+scaled-spec = tie.close (tie.spec (λ c. search needs) mul-result returns)

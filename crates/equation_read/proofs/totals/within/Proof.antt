@@ -7,9 +7,6 @@ use borrow.Author.Needs.{needs}
 use Rattle.equation_read.proofs.totals.within.Statement.{statement}
 use Rattle.equation_read.proofs.totals.within.Tie as tie
 
-is-steep-requires : tie.Need-is-steep-requires
-is-steep-requires c κs = search needs
-
 returns : tie.Need-returns
 returns c = let s = c .before .before in
     let e = rw (toZ-ofZ (s .fits .times)) at (sym (c .before .is-steep .ensures) ∙ c .if1 .taken) in
@@ -21,4 +18,4 @@ returns-2 c = let s = c .before .before in
     rw (toZ-ofZ (s .fits .times)) (ap (λ b. cond b (pos 0) (s .args .times)) (sym e))
 
 pub within-spec : {M : Type 1} → statement M
-within-spec = tie.close (tie.spec is-steep-requires returns returns-2)
+within-spec = tie.close (tie.spec (λ c κs. search needs) returns returns-2)

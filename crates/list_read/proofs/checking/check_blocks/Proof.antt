@@ -10,18 +10,6 @@ use Rattle.list_read.proofs.checking.check_blocks.Tie as tie
 returns : tie.Need-returns
 returns c = too-short _ (c .if1 .taken)
 
-header-in-range-requires : tie.Need-header-in-range-requires
-header-in-range-requires c κs = search needs
-
-check-block-requires : tie.Need-check-block-requires
-check-block-requires c κs = search needs
-
-enum-known-why : tie.Need-enum-known-why
-enum-known-why c = search needs
-
-enum-told : tie.Need-enum-told
-enum-told c = search needs
-
 check-later-requires : tie.Need-check-later-requires
 check-later-requires c κs =
     let k = c .before .before in
@@ -48,10 +36,10 @@ check-blocks-spec =
     tie.close
     (tie.spec
     returns
-    header-in-range-requires
-    check-block-requires
-    enum-known-why
-    enum-told
+    (λ c κs. search needs)
+    (λ c κs. search needs)
+    (λ c. search needs)
+    (λ c. search needs)
     check-later-requires
     returns-2
     returns-3)

@@ -30,15 +30,6 @@ loop-holds c = (omega arith, refl, refl)
 stream-word-requires : tie.Need-stream-word-requires Inv-loop μ-loop
 stream-word-requires c κs = omega arith
 
-signed-requires : tie.Need-signed-requires Inv-loop μ-loop
-signed-requires c κs = search needs
-
-mul-t8 : tie.Need-mul-t8 Inv-loop μ-loop
-mul-t8 c = search needs
-
-slice-set-from-coefs : tie.Need-slice-set-from-coefs Inv-loop μ-loop
-slice-set-from-coefs c = search needs
-
 add-i : tie.Need-add-i Inv-loop μ-loop
 add-i c = omega arith
 
@@ -69,9 +60,9 @@ copy-coefs-spec =
     μ-loop
     loop-holds
     stream-word-requires
-    signed-requires
-    mul-t8
-    slice-set-from-coefs
+    (λ c κs. search needs)
+    (λ c. search needs)
+    (λ c. search needs)
     add-i
     loop-less
     loop-again

@@ -24,21 +24,6 @@ loop-holds : tie.Need-loop-holds Inv-loop μ-loop
 unfolding allTo
 loop-holds c = (search needs, refl)
 
-mul-also-within : tie.Need-mul-also-within Inv-loop μ-loop
-mul-also-within c = search needs
-
-shared-slice-read-also-within : tie.Need-shared-slice-read-also-within Inv-loop μ-loop
-shared-slice-read-also-within c = search needs
-
-also-within-requires : tie.Need-also-within-requires Inv-loop μ-loop
-also-within-requires c κs = search needs
-
-add-i : tie.Need-add-i Inv-loop μ-loop
-add-i c = search needs
-
-loop-less : tie.Need-loop-less Inv-loop μ-loop
-loop-less c = search needs
-
 loop-again : tie.Need-loop-again Inv-loop μ-loop
 loop-again c =
     let l = c .before .before .before in
@@ -57,10 +42,10 @@ rows-in-range-spec =
     Inv-loop
     μ-loop
     loop-holds
-    mul-also-within
-    shared-slice-read-also-within
-    also-within-requires
-    add-i
-    loop-less
+    (λ c. search needs)
+    (λ c. search needs)
+    (λ c κs. search needs)
+    (λ c. search needs)
+    (λ c. search needs)
     loop-again
     returns)

@@ -6,20 +6,11 @@ use borrow.Author.Needs.{needs}
 use Rattle.single_listing.proofs.lines.after_space.Statement.{statement}
 use Rattle.single_listing.proofs.lines.after_space.Tie as tie
 
-byte-requires : tie.Need-byte-requires
-byte-requires c κs = search needs
-
-add-number : tie.Need-add-number
-add-number c = search needs
-
 number-requires : tie.Need-number-requires
 number-requires c κs =
     let p = c .before .before .before in
     let s = p .before .before .before in
     omega (arith, p .byte .ensures .place, p .byte .ensures .same, two-digits (s .args .j) (s .pre .0))
-
-same-length : tie.Need-same-length
-same-length c = search needs
 
 returns : tie.Need-returns
 returns c =
@@ -29,4 +20,4 @@ returns c =
     (put-then (p .byte .ensures) (n .number .ensures), omega (arith, p .byte .ensures .place, n .number .ensures .place, two-digits (s .args .j) (s .pre .0)))
 
 pub after-space-spec : {M : Type 1} → statement M
-after-space-spec = tie.close (tie.spec byte-requires add-number number-requires same-length returns)
+after-space-spec = tie.close (tie.spec (λ c κs. search needs) (λ c. search needs) number-requires (λ c. search needs) returns)

@@ -6,9 +6,6 @@ use borrow.Author.Needs.{needs}
 use Rattle.single_listing.proofs.lines.before_space.Statement.{statement}
 use Rattle.single_listing.proofs.lines.before_space.Tie as tie
 
-add-number : tie.Need-add-number
-add-number c = search needs
-
 number-requires : tie.Need-number-requires
 number-requires c κs =
     let s = c .before .before in
@@ -19,9 +16,6 @@ byte-requires c κs =
     let n = c .before .before .before in
     let s = n .before .before .before in
     omega (arith, n .number .ensures .place, n .number .ensures .same, two-digits (s .args .j) (s .pre .0))
-
-same-length : tie.Need-same-length
-same-length c = search needs
 
 returns : tie.Need-returns
 returns c =
@@ -34,8 +28,8 @@ pub before-space-spec : {M : Type 1} → statement M
 before-space-spec =
     tie.close
     (tie.spec
-    add-number
+    (λ c. search needs)
     number-requires
     byte-requires
-    same-length
+    (λ c. search needs)
     returns)

@@ -6,17 +6,8 @@ use borrow.Author.Needs.{needs}
 use Rattle.single_listing.proofs.lines.make.Statement.{statement}
 use Rattle.single_listing.proofs.lines.make.Tie as tie
 
-order-of-requires : tie.Need-order-of-requires
-order-of-requires c κs = search needs
-
 returns : tie.Need-returns
 returns c = no-line _ _ (c .before .order-of .ensures) _ (c .if1 .taken)
-
-rising-requires : tie.Need-rising-requires
-rising-requires c κs = search needs
-
-slice-aggregate-word : tie.Need-slice-aggregate-word
-slice-aggregate-word c = search needs
 
 word-requires : tie.Need-word-requires
 word-requires c κs =
@@ -54,9 +45,6 @@ byte-requires c κs =
       r .rising .ensures .0 .same,
     )
 
-same-length : tie.Need-same-length
-same-length c = search needs
-
 returns-2 : tie.Need-returns-2
 returns-2 c =
     let p = c .before .before in
@@ -74,12 +62,12 @@ pub make-spec : {M : Type 1} → statement M
 make-spec =
     tie.close
     (tie.spec
-    order-of-requires
+    (λ c κs. search needs)
     returns
-    rising-requires
-    slice-aggregate-word
+    (λ c κs. search needs)
+    (λ c. search needs)
     word-requires
     ordered-requires
     byte-requires
-    same-length
+    (λ c. search needs)
     returns-2)

@@ -20,12 +20,6 @@ loop-holds : tie.Need-loop-holds Inv-loop μ-loop
 unfolding orderTo
 loop-holds c = (search needs, search needs, put-none _ _)
 
-mul-after-space : tie.Need-mul-after-space Inv-loop μ-loop
-mul-after-space c = search needs
-
-element-copy-out-after-space : tie.Need-element-copy-out-after-space Inv-loop μ-loop
-element-copy-out-after-space c = search needs
-
 after-space-requires : tie.Need-after-space-requires Inv-loop μ-loop
 after-space-requires c κs =
     let l = c .before .before .before in
@@ -33,20 +27,11 @@ after-space-requires c κs =
     let s = l .before .before in
     (s .pre .2 (l .loop .k) (t .loop-test .taken), omega (arith, l .loop .inv .1, t .loop-test .taken, l .loop .inv .2 .same))
 
-add-k : tie.Need-add-k Inv-loop μ-loop
-add-k c = search needs
-
-loop-less : tie.Need-loop-less Inv-loop μ-loop
-loop-less c = search needs
-
 loop-again : tie.Need-loop-again Inv-loop μ-loop
 loop-again c =
     let p = c .before .before in
     let l = p .before .before .before .before .loop in
     (search needs, omega (arith, l .inv .1, p .after-space .ensures .1), rw (order-next _ (l .k)) (put-then (l .inv .2) (p .after-space .ensures .0)))
-
-same-length : tie.Need-same-length Inv-loop μ-loop
-same-length c = search needs
 
 returns : tie.Need-returns Inv-loop μ-loop
 returns c =
@@ -61,11 +46,11 @@ ordered-spec =
     Inv-loop
     μ-loop
     loop-holds
-    mul-after-space
-    element-copy-out-after-space
+    (λ c. search needs)
+    (λ c. search needs)
     after-space-requires
-    add-k
-    loop-less
+    (λ c. search needs)
+    (λ c. search needs)
     loop-again
-    same-length
+    (λ c. search needs)
     returns)

@@ -7,12 +7,6 @@ use borrow.Author.Needs.{needs}
 use Rattle.single_listing.proofs.lines.write.Statement.{statement}
 use Rattle.single_listing.proofs.lines.write.Tie as tie
 
-slice-aggregate-make : tie.Need-slice-aggregate-make
-slice-aggregate-make c = search needs
-
-make-requires : tie.Need-make-requires
-make-requires c κs = search needs
-
 array-share-prefix-line : tie.Need-array-share-prefix-line
 array-share-prefix-line c = omega (arith, c .before .before .make .ensures .few)
 
@@ -26,9 +20,6 @@ word-requires c κs =
     let (t, n) = line-copied (k .make .ensures) (s .pre .2 .minimal) in
     rw t (omega (arith, s .pre .2 .fits))
 
-same-length : tie.Need-same-length
-same-length c = search needs
-
 returns : tie.Need-returns
 returns c =
     let w = c .before .before in
@@ -41,10 +32,10 @@ pub write-spec : {M : Type 1} → statement M
 write-spec =
     tie.close
     (tie.spec
-    slice-aggregate-make
-    make-requires
+    (λ c. search needs)
+    (λ c κs. search needs)
     array-share-prefix-line
     slice-aggregate-word
     word-requires
-    same-length
+    (λ c. search needs)
     returns)

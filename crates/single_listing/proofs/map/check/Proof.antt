@@ -10,15 +10,6 @@ use borrow.Author.Needs.{needs}
 use Rattle.single_listing.proofs.map.check.Statement.{statement}
 use Rattle.single_listing.proofs.map.check.Tie as tie
 
-check-shape-requires : tie.Need-check-shape-requires
-check-shape-requires c κs = search needs
-
-enum-known-why : tie.Need-enum-known-why
-enum-known-why c = search needs
-
-enum-told : tie.Need-enum-told
-enum-told c = search needs
-
 check-columns-requires : tie.Need-check-columns-requires
 check-columns-requires c κs =
     let k = c .before .before in
@@ -39,9 +30,9 @@ pub check-spec : {M : Type 1} → statement M
 check-spec =
     tie.close
     (tie.spec
-    check-shape-requires
-    enum-known-why
-    enum-told
+    (λ c κs. search needs)
+    (λ c. search needs)
+    (λ c. search needs)
     check-columns-requires
     returns
     returns-2)

@@ -6,18 +6,6 @@ use borrow.Author.Needs.{needs}
 use Rattle.single_listing.proofs.map.check_columns.Statement.{statement}
 use Rattle.single_listing.proofs.map.check_columns.Tie as tie
 
-check-requires : tie.Need-check-requires
-check-requires c κs = search needs
-
-enum-known-why : tie.Need-enum-known-why
-enum-known-why c = search needs
-
-enum-told : tie.Need-enum-told
-enum-told c = search needs
-
-check-requires-2 : tie.Need-check-requires-2
-check-requires-2 c κs = search needs
-
 returns : tie.Need-returns
 unfolding check7
 returns c = refused-first _ (c .before .why .given .1) (c .before .before .before .check .ensures)
@@ -30,9 +18,9 @@ pub check-columns-spec : {M : Type 1} → statement M
 check-columns-spec =
     tie.close
     (tie.spec
-    check-requires
-    enum-known-why
-    enum-told
-    check-requires-2
+    (λ c κs. search needs)
+    (λ c. search needs)
+    (λ c. search needs)
+    (λ c κs. search needs)
     returns
     returns-2)

@@ -10,15 +10,6 @@ use Rattle.single_listing.specs.Passes.{shapeChecks}
 use Rattle.single_listing.proofs.map.check_shape.Statement.{statement}
 use Rattle.single_listing.proofs.map.check_shape.Tie as tie
 
-check-requires : tie.Need-check-requires
-check-requires c κs = search needs
-
-enum-known-why : tie.Need-enum-known-why
-enum-known-why c = search needs
-
-enum-told : tie.Need-enum-told
-enum-told c = search needs
-
 div-if1 : tie.Need-div-if1
 div-if1 c = omega (arith, counted _ _ _ _ (passes (c .before .before .check .ensures) (c .enum-told .given .1)) .some)
 
@@ -42,9 +33,9 @@ pub check-shape-spec : {M : Type 1} → statement M
 check-shape-spec =
     tie.close
     (tie.spec
-    check-requires
-    enum-known-why
-    enum-told
+    (λ c κs. search needs)
+    (λ c. search needs)
+    (λ c. search needs)
     div-if1
     returns
     returns-2

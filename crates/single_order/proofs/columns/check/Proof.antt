@@ -22,23 +22,11 @@ loop-holds : tie.Need-loop-holds Inv-loop μ-loop
 unfolding refuseFirst
 loop-holds c = (search needs, refl)
 
-in-profile-requires : tie.Need-in-profile-requires Inv-loop μ-loop
-in-profile-requires c κs = search needs
-
-add-t7 : tie.Need-add-t7 Inv-loop μ-loop
-add-t7 c = search needs
-
 returns : tie.Need-returns Inv-loop μ-loop
 unfolding check26
 returns c =
     let l = c .before .before in
     sym (refuse-at 26 _ _ _ (l .loop-test .taken) (l .before .loop .inv .1) (cc (c .before .in-profile .ensures, c .if1 .taken)))
-
-add-j : tie.Need-add-j Inv-loop μ-loop
-add-j c = search needs
-
-loop-less : tie.Need-loop-less Inv-loop μ-loop
-loop-less c = search needs
 
 loop-again : tie.Need-loop-again Inv-loop μ-loop
 loop-again c = (search needs, refuse-next 26 _ _ (c .before .before .before .loop .inv .1) (cc (c .before .in-profile .ensures, c .if1 .left)))
@@ -54,10 +42,10 @@ check-spec =
     Inv-loop
     μ-loop
     loop-holds
-    in-profile-requires
-    add-t7
+    (λ c κs. search needs)
+    (λ c. search needs)
     returns
-    add-j
-    loop-less
+    (λ c. search needs)
+    (λ c. search needs)
     loop-again
     returns-2)

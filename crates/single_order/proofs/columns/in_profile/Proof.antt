@@ -57,43 +57,16 @@ minus-tested c = rw (toZ-ofZ (sfits-of (c .before .before .before .c .given))) a
 zero-tested : (c : tie.After-is-zero Inv-loop μ-loop) → c .is-zero .result ≡ isZero (number-at (c .before .before .before .before .before))
 zero-tested c = rw (toZ-ofZ (sfits-of (c .before .before .before .before .before .c .given))) at (c .is-zero .ensures)
 
-add-i : tie.Need-add-i Inv-loop μ-loop
-add-i c = search needs
-
-is-unit-requires : tie.Need-is-unit-requires Inv-loop μ-loop
-is-unit-requires c κs = search needs
-
-add-ones : tie.Need-add-ones Inv-loop μ-loop
-add-ones c = search needs
-
-loop-less : tie.Need-loop-less Inv-loop μ-loop
-loop-less c = search needs
-
 loop-again : tie.Need-loop-again Inv-loop μ-loop
 loop-again c =
     let l = c .before .before .before in
     (search needs, counted-one (l .before .loop .inv .1) (sym (one-tested (c .before)) ∙ c .if1 .taken))
-
-is-unit-requires-2 : tie.Need-is-unit-requires-2 Inv-loop μ-loop
-is-unit-requires-2 c κs = search needs
-
-add-minus-ones : tie.Need-add-minus-ones Inv-loop μ-loop
-add-minus-ones c = search needs
-
-loop-less-2 : tie.Need-loop-less-2 Inv-loop μ-loop
-loop-less-2 c = search needs
 
 loop-again-2 : tie.Need-loop-again-2 Inv-loop μ-loop
 loop-again-2 c =
     let e = c .before .before in
     let l = e .before .before .before in
     (search needs, counted-minus (l .before .loop .inv .1) (sym (one-tested (e .before)) ∙ e .if1 .left) (sym (minus-tested (c .before)) ∙ c .if2 .taken))
-
-is-zero-requires : tie.Need-is-zero-requires Inv-loop μ-loop
-is-zero-requires c κs = search needs
-
-loop-less-3 : tie.Need-loop-less-3 Inv-loop μ-loop
-loop-less-3 c = search needs
 
 loop-again-3 : tie.Need-loop-again-3 Inv-loop μ-loop
 loop-again-3 c =
@@ -130,17 +103,17 @@ in-profile-spec =
     add-c
     mul-c-2
     shared-slice-copy-out-c
-    add-i
-    is-unit-requires
-    add-ones
-    loop-less
+    (λ c. search needs)
+    (λ c κs. search needs)
+    (λ c. search needs)
+    (λ c. search needs)
     loop-again
-    is-unit-requires-2
-    add-minus-ones
-    loop-less-2
+    (λ c κs. search needs)
+    (λ c. search needs)
+    (λ c. search needs)
     loop-again-2
-    is-zero-requires
-    loop-less-3
+    (λ c κs. search needs)
+    (λ c. search needs)
     loop-again-3
     returns
     returns-2

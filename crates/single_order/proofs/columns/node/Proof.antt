@@ -43,9 +43,6 @@ mul-is-unit-2 c = omega (arith, inside c)
 shared-slice-copy-out-is-unit : tie.Need-shared-slice-copy-out-is-unit Inv-loop μ-loop
 shared-slice-copy-out-is-unit c = inside c
 
-is-unit-requires : tie.Need-is-unit-requires Inv-loop μ-loop
-is-unit-requires c κs = search needs
-
 -- what the call tested is the coefficient
 tested : (c : tie.After-is-unit Inv-loop μ-loop)
     → c .is-unit .result ≡ isUnit (c .before .before .before .before .args .minus)
@@ -58,12 +55,6 @@ unfolding nodeOf
 returns c =
     let l = c .before .before .before in
     sym (first-here _ _ _ (l .loop-test .taken) (l .before .loop .inv .1) (sym (tested (c .before)) ∙ c .if1 .taken))
-
-add-i : tie.Need-add-i Inv-loop μ-loop
-add-i c = search needs
-
-loop-less : tie.Need-loop-less Inv-loop μ-loop
-loop-less c = search needs
 
 loop-again : tie.Need-loop-again Inv-loop μ-loop
 loop-again c =
@@ -85,9 +76,9 @@ node-spec =
     add-is-unit
     mul-is-unit-2
     shared-slice-copy-out-is-unit
-    is-unit-requires
+    (λ c κs. search needs)
     returns
-    add-i
-    loop-less
+    (λ c. search needs)
+    (λ c. search needs)
     loop-again
     returns-2)
