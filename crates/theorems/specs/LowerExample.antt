@@ -20,7 +20,7 @@ use Rattle.definitions.specs.Machine.{Machine, walk, walkSteps}
 use Rattle.definitions.specs.Refusals.{searchChecks, tooLarge}
 use Rattle.definitions.specs.Step.{grown, makes, marksTo, step, top, writeChildren}
 use Rattle.definitions.specs.System.{System, coef, covered, imageOf, isAtOrBelow, isZero, solves, towards}
-use Rattle.definitions.specs.Tables.{State, begun, bit, frozen, lowerAbove, lowerPlain, lowered, writeRow, writeTo}
+use Rattle.definitions.specs.Tables.{Record, State, begun, bit, frozen, lowerAbove, lowerPlain, lowered, writeRow, writeTo}
 use Rattle.laws.specs.MachineLaws.{walk-more, walk-refused}
 
 pub rows : List ℤ
@@ -255,6 +255,15 @@ module _ (others list rest : List ℕ) (plain : ℕ) where
         second = 1 ∷ 1 ∷ 0 ∷ rest;
         run = record { kind = lowerAbove; height = 1; found = 0; steps = n; found₂ = 1; steps₂ = plain; deepest = d };
       }
+
+  -- that is where the walk begins, once the plain walk is at its end and the bound's row is written
+  abbrev pub plainEnded : Record
+  plainEnded = record { kind = lowerPlain; height = 0; found = 0; steps = 0; found₂ = 1; steps₂ = plain; deepest = 0 }
+
+  pub steep-begins : (a b c d : ℕ)
+      → lowered (boundOf steepLower) 3 (record { stack = a ∷ b ∷ c ∷ d ∷ others; list = list; second = 1 ∷ 1 ∷ 0 ∷ rest; run = plainEnded }) ≡ rises 0 0 0
+  unfolding rises steepLower lowered writeRow writeTo
+  steep-begins a b c d = refl
 
   rises-same : {b n d b′ n′ d′ : ℕ} → b ≡ b′ → n ≡ n′ → d ≡ d′ → rises b n d ≡ rises b′ n′ d′
   rises-same e f g = rw (e, f, g)
