@@ -1,5 +1,5 @@
 -- Document 02, Job 4: "Rows 2 −2 1 and 0 0 1 from floor 0 0 1 have no solution, and our run goes round 2,000,000 steps until refusal 12." That the example ends
--- now: definitions/specs/LowerRuns (`runs-hold`); that the same rows from another bound do not: `not-ended`. Assumes nothing.
+-- now: definitions/specs/LowerRuns (`runs-hold`); that the same rows from another bound still come to 12: `not-ended`. Assumes nothing.
 use mathlib.Core.Path.{_≡_, refl, _∙_, ap}
 use mathlib.Core.Bool.{Bool, true, false, _&&_}
 use mathlib.Core.List.{List, [], _∷_}
