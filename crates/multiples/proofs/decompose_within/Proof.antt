@@ -23,21 +23,23 @@ apart-requires : tie.Need-apart-requires
 apart-requires c κs =
     let w = c .before .before .before in
     let a = w .before .before .before .before .args in
-    solves-fits (sizes (a .equations) (a .unknowns)) (a .p) (a .q) (a .coefs .now) (a .list .now) (a .found) (a .t .now) (w .before .before .before .before .pre)
-    (rw (c .before .enum-told .given .1) at (w .why-not .ensures))
+    solves-fits (sizes (a .equations) (a .unknowns)) (a .p) (a .q) (a .coefs .now) (a .list .now) (a .found) (a .t .now)
+    (w .before .before .before .before .pre) (rw (c .before .enum-told .given .1) at (w .why-not .ensures))
 
 returns : tie.Need-returns
 returns c =
     let w = c .before .before .before in
     let a = w .before .before .before .before .args in
-    refused-at (sizes (a .equations) (a .unknowns)) (a .p) (a .q) (a .coefs .now) (a .list .now) (a .found) (a .t .now) (a .times .now) (rw (c .before .why .given .1) at (w .why-not .ensures))
+    refused-at (sizes (a .equations) (a .unknowns)) (a .p) (a .q) (a .coefs .now) (a .list .now) (a .found) (a .t .now) (a .times .now)
+    (rw (c .before .why .given .1) at (w .why-not .ensures))
 
 returns-2 : tie.Need-returns-2
 returns-2 c =
     let w = c .before .before .before in
     let a = w .before .before .before .before .args in
     off-at (sizes (a .equations) (a .unknowns)) (a .p) (a .q) (a .coefs .now) (a .list .now) (a .found) (a .t .now) (a .times .now)
-    (off-told (w .before .before .before .before .pre) (a .p) (a .q) (a .coefs .now) (a .list .now) (a .found) (a .t .now) (sym (rw (c .before .k .given .1) at (w .why-not .ensures))))
+    (off-told (w .before .before .before .before .pre) (a .p) (a .q) (a .coefs .now) (a .list .now) (a .found) (a .t .now)
+    (sym (rw (c .before .k .given .1) at (w .why-not .ensures))))
 
 same-length : tie.Need-same-length
 same-length c = search needs

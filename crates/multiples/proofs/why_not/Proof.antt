@@ -31,7 +31,9 @@ returns : tie.Need-returns
 returns c = solves (c .before .before .explain-within .ensures) (c .enum-told .given .1) tt
 
 returns-2 : tie.Need-returns-2
-returns-2 c = off-told (c .before .before .before .before .before .before .pre) _ _ _ _ _ _ (sym (ap reasonOf (c .before .k .given .1)) ∙ c .before .before .before .explain-within .ensures)
+returns-2 c =
+    let x = c .before .before .before in
+    off-told (x .before .before .before .pre) _ _ _ _ _ _ (sym (ap reasonOf (c .before .k .given .1)) ∙ x .explain-within .ensures)
 
 returns-3 : tie.Need-returns-3
 returns-3 c = solves (c .before .before .explain-within .ensures) (c .enum-told2 .given .1) tt

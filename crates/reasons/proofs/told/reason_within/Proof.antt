@@ -49,7 +49,8 @@ returns c = told-as _ (c .before .before .explain-within .ensures) (c .enum-told
 returns-2 : tie.Need-returns-2
 returns-2 c =
     let k = c .before .before in
-    rw (c .coded .ensures) (told-off (k .before .before .before .before .before .pre) _ _ _ _ _ _ _ (sym (ap reasonOf (k .k .given .1)) ∙ k .before .before .explain-within .ensures))
+    let x = k .before .before in
+    rw (c .coded .ensures) (told-off (x .before .before .before .pre) _ _ _ _ _ _ _ (sym (ap reasonOf (k .k .given .1)) ∙ x .explain-within .ensures))
 
 returns-3 : tie.Need-returns-3
 returns-3 c = let n = c .before .before in rw (c .coded2 .ensures) (told-as _ (n .before .before .explain-within .ensures) (n .n .given .1))
