@@ -1,7 +1,6 @@
 #include <errno.h>
 #include <stdlib.h>
 #include <string.h>
-#include <unistd.h>
 
 #include "command.h"
 #include "dezgula_text.h"
@@ -56,14 +55,11 @@ static int save(const options *o)
 {
     map m;
     solved s;
-    if (o->words_len < 2 && isatty(STDOUT_FILENO)) {
-        io_say("standard output is a terminal; send the list to a file: dezgula save MAP > FILE");
-        return STATUS_NOTHING;
-    }
+    if (o->words_len < 2 && is_terminal("send the list to a file: dezgula save MAP > FILE")) return STATUS_NOTHING;
     int status = read_map(file_of(o), o->strict, &m);
     if (status != STATUS_COMPLETE) return status;
     status = solve_map(&m, o, file_of(o), &s);
-    if (status == STATUS_COMPLETE || status == STATUS_CUT_SHORT) status = write_list(o, &m, &s, status);
+    if (has_lists(status)) status = write_list(o, &m, &s, status);
     solved_free(&s);
     map_free(&m);
     return status;

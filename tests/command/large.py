@@ -1,5 +1,5 @@
 #!/usr/bin/env python3
-"""Texts of maps beyond the limits of the proved reader, and their refusals: tests/command/large.py PROGRAM, a command for maps up to 32 x 32."""
+"""Texts of maps beyond the limits of the proved readers, and their refusals: tests/command/large.py PROGRAM"""
 import subprocess
 import sys
 
