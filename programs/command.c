@@ -16,6 +16,12 @@ const char *file_of(const options *o)
     return o->words_len > 0 ? o->words[0] : "-";
 }
 
+const char *name_of(const options *o)
+{
+    const char *file = file_of(o), *slash = strrchr(file, '/');
+    return strcmp(file, "-") == 0 ? NULL : slash != NULL ? slash + 1 : file;
+}
+
 int set_deliveries(map *m, const options *o)
 {
     if (o->deliver_len == 0) return STATUS_COMPLETE;
@@ -153,7 +159,7 @@ int show_lists(const options *o, format how)
     if (status == STATUS_COMPLETE) status = solve_map(&m, o, file_of(o), &s);
     if (has_lists(status)) {
         wanted_kind kind = !s.has_wanted ? NO_WANTED : map_has_rights(&m) ? DELIVERIES : PLANS;
-        shown what = {&m, &s, kind};
+        shown what = {&m, &s, kind, name_of(o)};
         format_write(stdout, how, &what);
         status = finish(o, status);
     }

@@ -48,6 +48,9 @@ void options_print(FILE *out, unsigned takes);
 /* The file that the words begin with; "-" where there is none. */
 const char *file_of(const options *o);
 
+/* Its name without its folder; NULL where it is standard input. */
+const char *name_of(const options *o);
+
 /* Puts the right sides of --deliver into the map. */
 int set_deliveries(map *m, const options *o);
 

@@ -14,6 +14,7 @@ typedef struct {
     const map *m;
     const solved *s;
     wanted_kind kind; /* of the second list */
+    const char *name; /* of the file, or NULL where it has none */
 } shown;
 
 /* In any of the formats. */

@@ -64,6 +64,7 @@ typedef struct {
     wanted_kind kind;
     const uint32_t *wanted;
     size_t wanted_len;
+    const char *name; /* of the file that the map is from, or NULL */
 } listing;
 
 /* What the second list is, after its length: "ways to deliver what is asked"; and what it is for. Both without a stop. */

@@ -76,8 +76,8 @@ static bool refuse_equation(const line *own, const char *at, uint64_t answer, si
     }
 }
 
-/* ---- more unknowns than the proved reader knows: it reads the equation for sixteen of them at a time, with 0 in the place of the others. An equation is linear,
- * so that the coefficients of the sixteen and the right side are the same. The 0 stands in brackets, which count. */
+/* ---- more unknowns than the proved reader knows: it reads the equation for sixteen of them at a time, with 0 in the place of the others. An equation is
+ * linear, so that the coefficients of the sixteen and the right side are the same. The 0 stands in brackets, which count. */
 
 typedef struct {
     char *text;

@@ -227,7 +227,10 @@ static void write_start(FILE *out, const map *m, const listing *l)
           "<meta http-equiv=\"Content-Security-Policy\" content=\"default-src 'none'; style-src 'unsafe-inline'; script-src 'unsafe-inline'; img-src data:\">\n"
           "<link rel=\"icon\" href=\"data:,\">\n",
           out);
-    fprintf(out, "<title>%zu %s of a %s of %zu activities</title>\n<style>\n", l->n, plural(l->n, "loop", "loops"), sort_of(m), m->q);
+    fprintf(out, "<title>%zu %s of ", l->n, plural(l->n, "loop", "loops"));
+    if (l->name != NULL) escaped_write(out, l->name);
+    else fprintf(out, "a %s of %zu activities", sort_of(m), m->q);
+    fputs("</title>\n<style>\n", out);
     write_lines(out, STYLE);
     fputs("</style>\n</head>\n<body>\n", out);
 }
@@ -276,8 +279,12 @@ static bool has_right_sides(const map *m)
 static void write_head(FILE *out, const map *m, const listing *l)
 {
     fprintf(out, "<header>\n<h1>%zu %s</h1>\n", l->n, l->complete ? plural(l->n, "loop", "loops") : plural(l->n, "loop so far", "loops so far"));
-    fprintf(out, "<p class=\"soft\">Of a %s of %zu %s and %zu %s.</p>\n", sort_of(m), m->q, plural(m->q, "activity", "activities"), m->p,
-            plural(m->p, "tray", "trays"));
+    fputs("<p class=\"soft\">Of ", out);
+    if (l->name != NULL) {
+        escaped_write(out, l->name);
+        fputs(", ", out);
+    }
+    fprintf(out, "a %s of %zu %s and %zu %s.</p>\n", sort_of(m), m->q, plural(m->q, "activity", "activities"), m->p, plural(m->p, "tray", "trays"));
     write_completeness(out, m, l);
     if (has_right_sides(m)) fputs("<p>Loops are counted without the map's deliveries: after a loop each tray holds what it held before.</p>\n", out);
     write_in_no_loop(out, m, l);
