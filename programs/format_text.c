@@ -60,7 +60,7 @@ static void ending(FILE *out, const shown *what)
     } else {
         fprintf(out, "The list is NOT complete: %s.\n", s->why.text);
         if (s->loops_len > 0) fputs("The loops listed are right; others may be missing.\n", out);
-        else fputs("This says nothing of the map: no loop is sure before the end.\n", out);
+        else fprintf(out, "This says nothing of the map: %s.\n", s->walked ? "no loop is found so far" : "no loop is sure before the end");
     }
     if (s->walked) fprintf(out, "By Contejean and Devie's walk: %" PRIu64 " steps, greatest sum %" PRIu64 ".\n", s->last.steps, s->last.deepest);
 }

@@ -6,8 +6,7 @@
 #include "io.h"
 #include "limits.h"
 
-/* Whether the first byte that is no space begins an element: then the file is a net. */
-static bool is_net(const char *bytes, size_t len)
+bool is_net(const char *bytes, size_t len)
 {
     size_t at = len >= 3 && memcmp(bytes, "\xef\xbb\xbf", 3) == 0 ? 3 : 0;
     /* XML may come as UTF-16, which the reader of nets knows */

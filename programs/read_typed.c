@@ -61,7 +61,11 @@ static bool off_grammar(const line *own, const char *at, size_t place, size_t q,
     unsigned char next = (unsigned char)at[place - 1];
     if (next < 0x20 || next > 0x7e)
         return fault_set(why, 16, "line %zu: after \"%.*s\" stands a character that no equation has", own->number, (int)shown, at + from);
-    return fault_set(why, 16, "line %zu: after \"%.*s\" no equation in x1 to x%zu goes on with \"%c\"", own->number, (int)shown, at + from, q, next);
+    size_t before = place - 1;
+    while (before > 0 && at[before - 1] == ' ') before--;
+    bool product = before > 0 && is_digit(at[before - 1]) && (next == 'x' || next == '(');
+    return fault_set(why, 16, "line %zu: after \"%.*s\" no equation in x1 to x%zu goes on with \"%c\"%s", own->number, (int)shown, at + from, q, next,
+                     product ? "; a product has a *, as in 2*x1" : "");
 }
 
 /* Says a refusal of the proved reader for one equation. */
