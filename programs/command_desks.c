@@ -168,11 +168,6 @@ static int tell(const office *of, const solved *whole, const solved *built)
     return STATUS_COMPLETE;
 }
 
-static bool has_list(int status)
-{
-    return status == STATUS_COMPLETE || status == STATUS_CUT_SHORT;
-}
-
 static int desks(const options *o)
 {
     office of;
@@ -182,10 +177,10 @@ static int desks(const options *o)
     memset(&built, 0, sizeof built);
     int status = o->words_len == 1 ? read_pages(o, &of) : read_files(o, &of);
     if (status == STATUS_COMPLETE) status = solve_one(o, &of, true, &whole);
-    int second = has_list(status) ? solve_one(o, &of, false, &built) : status;
-    if (has_list(status) && has_list(second)) status = tell(&of, &whole, &built);
+    int second = has_lists(status) ? solve_one(o, &of, false, &built) : status;
+    if (has_lists(status) && has_lists(second)) status = tell(&of, &whole, &built);
     else status = second;
-    if (has_list(status)) status = fflush(stdout) == 0 ? status : STATUS_NOTHING;
+    if (has_lists(status)) status = fflush(stdout) == 0 ? status : STATUS_NOTHING;
     if (status == STATUS_COMPLETE) remove_kept(o);
     solved_free(&whole);
     solved_free(&built);
