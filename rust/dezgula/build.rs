@@ -7,7 +7,6 @@ use std::process::Command;
 fn main() {
     println!("cargo:rerun-if-changed=build.rs");
     println!("cargo:rerun-if-env-changed=DEZGULA_LIBRARY");
-    println!("cargo:rustc-check-cfg=cfg(dezgula_solver)");
     let target = std::env::var("TARGET").unwrap_or_default();
     if !(target.starts_with("x86_64") && target.contains("linux")) {
         missing(&format!("the library is for Linux on x86-64 only, and this is for {target}"));
@@ -69,11 +68,8 @@ fn installed() -> Option<PathBuf> {
 fn link(library: &Path) {
     let library = library.canonicalize().unwrap_or_else(|error| missing(&format!("{}: {error}", library.display())));
     let bytes = std::fs::read(&library).unwrap_or_else(|error| missing(&format!("{}: {error}", library.display())));
-    if !has(&bytes, b"dezgula_version") {
-        missing(&format!("{} is not the library, or not its version 2", library.display()));
-    }
-    if has(&bytes, b"dezgula_solver_new") {
-        println!("cargo:rustc-cfg=dezgula_solver");
+    if !has(&bytes, b"dezgula_version") || !has(&bytes, b"dezgula_solver_system") {
+        missing(&format!("{} is not the library, or one before its version 2", library.display()));
     }
     let folder = library.parent().expect("a file has a folder");
     let kind = if library.extension().is_some_and(|end| end == "a") { "static" } else { "dylib" };
