@@ -81,7 +81,7 @@ fn the_engine_pauses() {
 #[test]
 fn a_solver_is_saved_and_gone_on_with() {
     let whole = many().basis().unwrap();
-    for budget in [1, 40, 2000] {
+    for budget in [40, 500] {
         let mut solver = many().solver().unwrap();
         while solver.work(budget).unwrap() == Progress::Paused {
             let kept = solver.save();
