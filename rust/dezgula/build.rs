@@ -60,9 +60,12 @@ fn built(project: &Path) -> PathBuf {
     within(&project.join("target/library")).unwrap_or_else(|| missing("library/build left no library in target/library"))
 }
 
+/// The folder that pkg-config tells; it writes a backslash before a space.
 fn installed() -> Option<PathBuf> {
+    println!("cargo:rerun-if-env-changed=PKG_CONFIG_PATH");
     let said = Command::new("pkg-config").args(["--variable=libdir", "dezgula"]).output().ok()?;
-    within(Path::new(String::from_utf8(said.stdout).ok()?.trim()))
+    let said = String::from_utf8(said.stdout).ok()?;
+    within(Path::new(said.trim())).or_else(|| within(Path::new(&said.trim().replace('\\', ""))))
 }
 
 fn link(library: &Path) {
