@@ -42,7 +42,7 @@ same-length-2 c = search needs
 returns : tie.Need-returns
 returns c = let s = c .before .before .before .before .before .before .before .before .before .before .before .before .before .before .before .before .before .args in resume-rested (s .p) (s .q) (s .budget) (now (s .equations)) (now (s .basis)) (now (s .sizes)) (now (s .table))
     (sidesOf (now (s .values)) (now (s .words)) (now (s .degrees)) (now (s .marks)) (now (s .mothers))) (s .r) (c .before .before .before .before .before .before .before .before .before .basis-room .ensures)
-    (c .before .before .before .before .before .before .before .before .stage-room .ensures) (c .before .before .before .before .before .check-standing .ensures) (c .before .before .before .enum-told .given .1) (c .before .if1 .taken) (c .rested .ensures .0) (c .rested .ensures .1)
+    (c .before .before .before .before .before .before .before .before .stage-room .ensures) (c .before .before .before .before .before .check-standing .ensures) (c .before .before .before .enum-told .given .1) (c .before .if1 .taken) (c .rested .result) (c .rested .ensures .0) (c .rested .ensures .1)
 
 go-on-requires : tie.Need-go-on-requires
 go-on-requires c κs = let s = c .before .before .before .before .before .before .before .before .before .before .before .before .before .before .before .before .before .before .before .before .before .before .before .before .args in resume-enters (s .p) (s .q) (s .budget) (now (s .equations)) (now (s .basis)) (now (s .sizes)) (now (s .table))
