@@ -146,13 +146,26 @@ pub record Advanced (q room budget : ℕ) (equations : List ℤ) (basis sizes ta
   pub beyond : Beyond (a .next .rows) x x′
   pub kept : Kept 0 (r .count) sizes sizes′
 
--- The outcome is that of the definition. The tables beside the rows are as long as before, and from the number of rows that the stage had on as they were.
+-- What stands beside the first n rows of a table, under the equation c: their values, words and degrees, and marks that are marks. From row n on all of it is
+-- as it was.
+pub record Sided (c : ℕ → ℤ) (q n : ℕ) (table : List ℕ) (x x′ : Sides) : Type 0 where
+  pub valued : Valued c q n table (x′ .values)
+  pub worded : Worded q n table (x′ .words)
+  pub measured : Measured q n table (x′ .degrees)
+  pub marked : AllMarked q c n table (x′ .marks)
+  pub beyond : Beyond n x x′
+
+-- the rows that the stage under way has after its turns, before its end
+abbrev pub rowsAfter : (q room budget : ℕ) → Work → ℕ
+rowsAfter q room budget w = stageRun q room budget w .stage .rows
+
+-- The outcome is that of the definition; and what stands beside the rows that the stage had, and beside the basis that it was given.
 pub record ResumedTo (p q most room budget : ℕ) (equations : List ℤ) (basis sizes table : List ℕ) (x : Sides) (r : Record) (o : made.Outcome)
     (basis′ sizes′ table′ : List ℕ) (x′ : Sides) : Type 0 where
   pub outcome : outcomeOf o equations basis′ table′ ≡ run p q most room budget (workOf equations basis table r)
-  pub had : ℕ
-  pub few : had ≤ room
-  pub beyond : Beyond had x x′
+  pub few : rowsAfter q room budget (workOf equations basis table r) ≤ room
+  pub sided : Sided (equationAt equations (r .equation * q)) q (rowsAfter q room budget (workOf equations basis table r)) table′ x x′
+  pub sized : Measured q (r .count) basis sizes′
   pub kept : Kept 0 (r .count) sizes sizes′
 
 module _ {p q most room : ℕ} {equations : List ℤ} {basis sizes table : List ℕ} {x : Sides} {r : Record}
@@ -324,8 +337,13 @@ module _ {p q most room : ℕ} {equations : List ℤ} {basis sizes table : List 
         record {
           outcome = g ∙ sym (ap (λ y. ended p q most (y .answer) (onward (y .stage) (workOf equations basis table r))) (h .is))
               ∙ sym (run-by-stage p q most room budget (workOf equations basis table r));
-          had = a .next .rows;
-          few = h .ready .few;
-          beyond = h .beyond;
+          few = rw rows-are (h .ready .few);
+          sided =
+              rw rows-are
+              (record { valued = h .ready .valued; worded = h .ready .worded; measured = h .ready .measured; marked = h .ready .marked; beyond = h .beyond });
+          sized = h .ready .given .sized;
           kept = h .kept;
         }
+      where
+        rows-are : rowsAfter q room budget (workOf equations basis table r) ≡ a .next .rows
+        rows-are = ap (λ y. y .stage .rows) (h .is)

@@ -27,7 +27,7 @@ returns c = let s = c .before .before .before .before .before .before .before .b
     (c .before .before .before .before .before .before .before .before .before .basis-room .ensures)
     (c .before .before .before .before .before .before .before .before .stage-room .ensures)
     (c .before .before .before .before .before .check-standing .ensures) (c .before .before .before .enum-told .given .1) (c .before .if1 .taken)
-    (c .rested .ensures .0) (c .rested .ensures .1)
+    (c .rested .result) (c .rested .ensures .0) (c .rested .ensures .1)
 
 go-on-requires : tie.Need-go-on-requires
 go-on-requires c κs = let s = c .before .before .before .before .before .before .before .before .before .before .before .before .before .before .before .before
