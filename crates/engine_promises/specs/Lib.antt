@@ -1,3 +1,5 @@
 pub mod Promises
 pub mod CallRules
 pub mod Rules
+pub mod Sides
+pub mod Kinds
