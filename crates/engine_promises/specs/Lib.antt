@@ -3,3 +3,5 @@ pub mod CallRules
 pub mod Rules
 pub mod Sides
 pub mod Kinds
+pub mod KindExamples
+pub mod Groups

@@ -66,8 +66,11 @@ pub less-length : (n q : ℕ) (coefs rights : List ℤ) (lower : ℕ → ℕ) �
 unfolding lessTo
 less-length zero q coefs rights lower = refl
 less-length (suc n) q coefs rights lower =
-    omega (arith, less-length n q coefs rights lower,
-    length-append (lessTo n q coefs rights lower) ((getD rights n (pos 0) +ℤ negℤ (value (systemOf q coefs n) q lower)) ∷ []))
+    omega (
+      arith,
+      less-length n q coefs rights lower,
+      length-append (lessTo n q coefs rights lower) ((getD rights n (pos 0) +ℤ negℤ (value (systemOf q coefs n) q lower)) ∷ []),
+    )
 
 pub less-entry : (n q : ℕ) (coefs rights : List ℤ) (lower : ℕ → ℕ) (i : ℕ) → i < n
     → getD (lessTo n q coefs rights lower) i (pos 0) ≡ getD rights i (pos 0) +ℤ negℤ (value (systemOf q coefs i) q lower)
