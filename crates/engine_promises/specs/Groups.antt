@@ -11,7 +11,7 @@ use lib.ListN.{length, take}
 use Rattle.linear.specs.Combinations.{Enumerates}
 use Rattle.linear.specs.Systems.{Solution, SolutionIn}
 use Rattle.linear.specs.Tuples.{Minimal, Nonzero, Same}
-use Rattle.definitions.specs.Answers.{complete}
+use Rattle.definitions.specs.Answers.{complete, started}
 use Rattle.definitions.specs.Calls as walk
 use Rattle.definitions.specs.Input.{inputOf}
 use Rattle.definitions.specs.System.{MinimalSolution, System}
@@ -22,17 +22,17 @@ use Rattle.theorems.specs.Listed.{Exactly}
 use Rattle.theorems.specs.Run.{Run}
 use Rattle.decomposition.specs.Loops.{Loop}
 use Rattle.desk_form.specs.Desks.{Desk, deskResume}
-use Rattle.desk_promises.specs.Groups.{FirstGroup, groups-joined, handed-over}
+use Rattle.desk_promises.specs.Groups.{FirstGroup, handed-over}
 use Rattle.desk_promises.specs.Promises.{SameList, same-number, same-rows, second-demand-desks}
 use Rattle.desk_promises.specs.Runs.{DeskRun, left, run-valid}
-use Rattle.desk_promises.specs.Second.{both-whole, whole-first, whole-second}
-use Rattle.engine_spec.specs.Calls.{resume}
+use Rattle.engine_spec.specs.Calls.{resume, startFrom}
 use Rattle.engine_spec.specs.Done.{among, done-solved, solved-done}
 use Rattle.engine_spec.specs.Engine.{Work, basisRow, system, systemOf}
 use Rattle.engine_spec.specs.Operations.{value-alike}
-use Rattle.engine_spec.specs.Promise.{Runs, run-members}
+use Rattle.engine_spec.specs.Promise.{Runs, RunsOn, afterStartFrom, run-members}
+use Rattle.engine_promises.specs.Kinds.{before, both-groups, deskFrom, from-list, solution-alike}
 use Rattle.engine_promises.specs.Promises.{complete-exactly, mapOf}
-use Rattle.engine_promises.specs.Sides.{minimal-as}
+use Rattle.engine_promises.specs.Sides.{minimal-alike, minimal-as}
 
 -- ---- maps with the same solutions
 
@@ -40,25 +40,10 @@ pub record SameSolutions (q p : ℕ) (coefs : List ℤ) (p′ : ℕ) (coefs′ :
   pub there : (t : ℕ → ℕ) → Solution p q (systemOf q coefs) t → Solution p′ q (systemOf q coefs′) t
   pub back : (t : ℕ → ℕ) → Solution p′ q (systemOf q coefs′) t → Solution p q (systemOf q coefs) t
 
-wanted-as : {p p′ q : ℕ} {a a′ : ℕ → ℕ → ℤ} → ((t : ℕ → ℕ) → Solution p q a t → Solution p′ q a′ t) → (t : ℕ → ℕ) → SolutionIn p q a (Nonzero q) t
-    → SolutionIn p′ q a′ (Nonzero q) t
-wanted-as f t w = record { solution = f t (w .solution); admitted = w .admitted }
-
 loop-as : {p p′ q : ℕ} {a a′ : ℕ → ℕ → ℤ} → ((t : ℕ → ℕ) → Solution p q a t → Solution p′ q a′ t) → ((t : ℕ → ℕ) → Solution p′ q a′ t → Solution p q a t)
     → (t : ℕ → ℕ) → Loop p q a t → Loop p′ q a′ t
-loop-as f g t m = minimal-as (wanted-as f) (wanted-as g) m
-
--- Job 10's second desk, handed the first n rows of a list
-abbrev pub deskFrom : (p q : ℕ) (coefs : List ℤ) (n : ℕ) → List ℕ → Desk
-deskFrom p q coefs n list = record { p = p; q = q; coefs = coefs; generators = take (n * q) list }
-
--- A map in two groups asks what both ask: so the order of groups, and of the equations in them, is all the same.
-pub both-groups : (q p : ℕ) (coefs : List ℤ) (p′ : ℕ) (coefs′ : List ℤ) → length coefs ≡ p * q → (t : ℕ → ℕ)
-    → (Solution (p + p′) q (systemOf q (coefs ++ coefs′)) t → Solution p q (systemOf q coefs) t × Solution p′ q (systemOf q coefs′) t)
-    × (Solution p q (systemOf q coefs) t → Solution p′ q (systemOf q coefs′) t → Solution (p + p′) q (systemOf q (coefs ++ coefs′)) t)
-both-groups q p coefs p′ coefs′ numbers t =
-    let j = groups-joined (deskFrom p′ q coefs′ 0 []) (record { p = p; coefs = coefs; numbers = numbers }) in
-    (λ s. (whole-first j t s, whole-second j t s), λ s u. both-whole j t s u)
+loop-as f g t m =
+    minimal-as (λ t w. record { solution = f t (w .solution); admitted = w .admitted }) (λ t w. record { solution = g t (w .solution); admitted = w .admitted }) m
 
 pub exchanged : (q p : ℕ) (coefs : List ℤ) (p′ : ℕ) (coefs′ : List ℤ) → length coefs ≡ p * q → length coefs′ ≡ p′ * q
     → SameSolutions q (p + p′) (coefs ++ coefs′) (p′ + p) (coefs′ ++ coefs)
@@ -73,7 +58,7 @@ exchanged q p coefs p′ coefs′ n n′ =
 -- ---- however a list was made
 
 -- A list of the minimal solutions of a map of q unknowns: walked to the end (document 01); loaded as a whole by the engine; or one group of equations after the
--- other, each from the list of those before it, in any grouping: by Job 10's desk.
+-- other, each from the list of those before it, in any grouping: by Job 10's desk, or by the engine's start from a list.
 pub data Made (q : ℕ) : (p : ℕ) → List ℤ → List ℕ → ℕ → Type 0 where
   walked : (p : ℕ) (coefs : List ℤ) (s : State) → Run (inputOf p q coefs) nonzero s → (budget : ℕ) → walk.resume budget (inputOf p q coefs) s .answer ≡ complete
       → Made q p coefs (walk.resume budget (inputOf p q coefs) s .state .list) (walk.resume budget (inputOf p q coefs) s .state .run .found)
@@ -83,6 +68,9 @@ pub data Made (q : ℕ) : (p : ℕ) → List ℤ → List ℕ → ℕ → Type 0
   by-desk : {p : ℕ} {coefs : List ℤ} {list : List ℕ} {n : ℕ} → Made q p coefs list n → length coefs ≡ p * q → (p′ : ℕ) (coefs′ : List ℤ)
       → (s : State) → DeskRun (deskFrom p′ q coefs′ n list) s → (budget : ℕ) → deskResume budget (deskFrom p′ q coefs′ n list) s .answer ≡ complete
       → Made q (p + p′) (coefs ++ coefs′) (left budget (deskFrom p′ q coefs′ n list) s .list) (left budget (deskFrom p′ q coefs′ n list) s .run .found)
+  further : (p : ℕ) (coefs : List ℤ) → length coefs ≡ p * q → (p′ : ℕ) (coefs′ : List ℤ) {most room : ℕ} {w : Work}
+      → RunsOn (before p q coefs) p′ q coefs′ most room w → (budget : ℕ) → resume p′ q most room budget w .answer ≡ complete
+      → Made q (p + p′) (coefs ++ coefs′) (resume p′ q most room budget w .work .basis) (resume p′ q most room budget w .work .count)
 
 -- it is exactly the minimal solutions of the map, each once
 pub made-exactly : {q p : ℕ} {coefs : List ℤ} {list : List ℕ} {n : ℕ} → Made q p coefs list n → Exactly q (MinimalSolution (mapOf p q coefs)) list n
@@ -91,6 +79,20 @@ made-exactly {q} (loaded p coefs r budget a) = complete-exactly p q coefs r budg
 made-exactly {q} (by-desk {p} {coefs} {list} {n} m numbers p′ coefs′ s r budget a) =
     second-demand-desks (deskFrom p′ q coefs′ n list) (record { p = p; coefs = coefs; numbers = numbers }) s r .finished
     (handed-over (mapOf p q coefs) list n (run-valid r .shaped .q-some) (made-exactly m)) budget a
+made-exactly {q} (further p coefs numbers p′ coefs′ r budget a) = from-list p q coefs numbers p′ coefs′ r budget a
+
+-- The engine's start from a list made so, in any table that holds its rows: the run that it begins is one from the whole list of the equations before.
+pub handed-on : {q p : ℕ} {coefs : List ℤ} {list : List ℕ} {n : ℕ} → Made q p coefs list n → (rows : List ℕ)
+    → ((i : ℕ) → i < n → Same q (at rows q i) (at list q i)) → (p′ : ℕ) (coefs′ : List ℤ) (most room : ℕ) (w : Work) → most * q ≤ length (w .basis)
+    → room * q ≤ length (w .stage .table) → startFrom p′ q coefs′ n rows most w .answer ≡ started
+    → RunsOn (before p q coefs) p′ q coefs′ most room (startFrom p′ q coefs′ n rows most w .work)
+handed-on {q} {p} {coefs} {list} {n} m rows same p′ coefs′ most room w long wide e =
+    let x = made-exactly m in
+    afterStartFrom n rows most room w (record {
+      only = λ i l. minimal-alike q (solution-alike p q (systemOf q coefs)) (at list q i) (at rows q i) (λ j jq. sym (same i l j jq)) (x .part .only i l);
+      once = λ i j ij jn g. x .part .once i j ij jn (λ k kq. omega (arith, g k kq, same i (omega arith) k kq, same j jn k kq));
+      all = λ t b. let (i, l, g) = x .all t b in (i, l, λ j jq. same i l j jq ∙ g j jq);
+    }) long wide e
 
 -- "The two lists of loops should hold the same loops.": of two maps with the same solutions, however either list was made, the lists hold the same rows, as many,
 -- each row of either in the other.

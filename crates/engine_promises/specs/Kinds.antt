@@ -1,17 +1,18 @@
 -- The promises of the engine for every kind of map: right sides, lower bounds, and one group of equations after the other. Open this file after Promises.antt. They
 -- hold of every run that nobody else alters, on a system made from the map as Sides.antt has it; what is handed out of its list is defined there too. Assumes nothing.
 use mathlib.Core.Path.{_≡_, refl, sym, _∙_}
-use mathlib.Core.List.{List, []}
+use mathlib.Core.List.{List, [], _++_}
 use Prim.Native.Nat.{ℕ, zero, suc, _+_, _*_, _-_, _≤_, _<_}
+use native.Mathlib.Nat.{le-div-iff-mul-le, mul-le-mul-right}
 use native.Mathlib.Omega.{arith}
 use lib.IntN.{ℤ, pos, negℤ, _+ℤ_}
-use lib.ListN.{getD, length}
+use lib.ListN.{getD, length, take}
 use Rattle.linear.specs.Combinations.{Enumerates, minimal-below, solution-same}
 use Rattle.linear.specs.RightSides.{Extends}
 use Rattle.linear.specs.SystemLaws.{value-same}
 use Rattle.linear.specs.Systems.{Meets, Solution, SolutionIn, value}
 use Rattle.linear.specs.Tuples.{AtOrBelow, Minimal, Nonzero, Same, put, rest, total}
-use Rattle.definitions.specs.Answers.{complete}
+use Rattle.definitions.specs.Answers.{complete, go}
 use Rattle.definitions.specs.Input.{inputOf}
 use Rattle.definitions.specs.System.{MinimalFrom, MinimalMeeting, MinimalSolution, coef, extendTo}
 use Rattle.definitions.specs.Tables.{at}
@@ -19,9 +20,15 @@ use Rattle.laws.specs.Extended.{extends}
 use Rattle.theorems.specs.Held.{zero-sides}
 use Rattle.theorems.specs.Listed.{Exactly, only-one}
 use Rattle.decomposition.specs.Loops.{Loop}
-use Rattle.engine_spec.specs.Calls.{resume}
-use Rattle.engine_spec.specs.Engine.{Work, basisRow, systemOf}
-use Rattle.engine_spec.specs.Promise.{Runs, run-complete}
+use Rattle.desk_form.specs.Desks.{Desk}
+use Rattle.desk_promises.specs.Groups.{groups-joined}
+use Rattle.desk_promises.specs.Second.{both-whole, whole-first, whole-second}
+use Rattle.engine_spec.specs.Base.{Base, before-solved, behind-solved, both-solved, enumerates-as, onTop}
+use Rattle.engine_spec.specs.Calls.{resume, resumeChecks}
+use Rattle.engine_spec.specs.Done.{among}
+use Rattle.engine_spec.specs.Engine.{Work, basisRow, system, systemOf}
+use Rattle.engine_spec.specs.Own.{own-calls, runs-shape}
+use Rattle.engine_spec.specs.Promise.{Runs, RunsOn, afterResume, all-complete, all-members, run-complete, runs-whole}
 use Rattle.engine_promises.specs.Promises.{mapOf}
 use Rattle.engine_promises.specs.Sides.{
   MeetsFrom,
@@ -69,7 +76,7 @@ pub record BothLists (p q : ℕ) (coefs rights : List ℤ) (list : List ℕ) (n 
 
 -- ---- from the list of the extended system
 
-solution-alike : (p q : ℕ) (a : ℕ → ℕ → ℤ) (s t : ℕ → ℕ) → Same q s t → SolutionIn p q a (Nonzero q) s → SolutionIn p q a (Nonzero q) t
+pub solution-alike : (p q : ℕ) (a : ℕ → ℕ → ℤ) (s t : ℕ → ℕ) → Same q s t → SolutionIn p q a (Nonzero q) s → SolutionIn p q a (Nonzero q) t
 solution-alike p q a s t e w =
     let (j, jq, h) = w .admitted in
     record { solution = solution-same p q a e (w .solution); admitted = (j, jq, omega (arith, e j jq)) }
@@ -209,3 +216,63 @@ lower-bound p q some coefs numbers lower r budget e =
 
     back : (t : ℕ → ℕ) → SolutionIn p q (systemOf q coefs) (AtOrBelow q lower) t → MeetsFrom p q (systemOf q coefs) (λ i. pos 0) lower t
     back t w = record { meets = w .solution; above = w .admitted }
+
+-- ---- two groups of equations
+
+-- Job 10's second desk, handed the first n rows of a list
+abbrev pub deskFrom : (p q : ℕ) (coefs : List ℤ) (n : ℕ) → List ℕ → Desk
+deskFrom p q coefs n list = record { p = p; q = q; coefs = coefs; generators = take (n * q) list }
+
+-- A map in two groups asks what both ask: so the order of groups, and of the equations in them, is all the same.
+pub both-groups : (q p : ℕ) (coefs : List ℤ) (p′ : ℕ) (coefs′ : List ℤ) → length coefs ≡ p * q → (t : ℕ → ℕ)
+    → (Solution (p + p′) q (systemOf q (coefs ++ coefs′)) t → Solution p q (systemOf q coefs) t × Solution p′ q (systemOf q coefs′) t)
+    × (Solution p q (systemOf q coefs) t → Solution p′ q (systemOf q coefs′) t → Solution (p + p′) q (systemOf q (coefs ++ coefs′)) t)
+both-groups q p coefs p′ coefs′ numbers t =
+    let j = groups-joined (deskFrom p′ q coefs′ 0 []) (record { p = p; coefs = coefs; numbers = numbers }) in
+    (λ s. (whole-first j t s, whole-second j t s), λ s u. both-whole j t s u)
+
+-- ---- from a list
+
+-- the equations before, as p rows of coefficients
+abbrev pub before : (p q : ℕ) (coefs : List ℤ) → Base
+before p q coefs = record { p = p; a = systemOf q coefs }
+
+-- a run that started from the list of p₀ equations, with p further ones
+module _ (p₀ q : ℕ) (coefs₀ : List ℤ) (numbers : length coefs₀ ≡ p₀ * q) (p : ℕ) (coefs : List ℤ) {most room : ℕ} {w : Work}
+    (r : RunsOn (before p₀ q coefs₀) p q coefs most room w) where
+  -- no continuing call is refused before its first turn, where there is room for q rows in the basis
+  pub list-let-go-on : q ≤ most → resumeChecks p q most room w ≡ go
+  list-let-go-on = own-calls p q coefs r
+
+  -- "From the first group's whole list, a complete result is, as a set, the list of the whole map, each once" (Job 10)
+  pub from-list : (budget : ℕ) → resume p q most room budget w .answer ≡ complete
+      → let v = resume p q most room budget w .work in Exactly q (MinimalSolution (mapOf (p₀ + p) q (coefs₀ ++ coefs))) (v .basis) (v .count)
+  from-list budget e =
+      let v = resume p q most room budget w .work in
+      let whole = runs-whole (before p₀ q coefs₀) p q coefs (afterResume r budget) in
+      let fits : v .count * q ≤ length (v .basis) = omega (arith, whole .long, mul-le-mul-right q (whole .few)) in
+      let rows = enumerates-as there back (all-complete (before p₀ q coefs₀) p q coefs r budget e) in
+      record {
+        part =
+            record {
+              room = le-div-iff-mul-le {k = q} {x = v .count} {y = length (v .basis)} (runs-shape r .q-some) .1 fits;
+              only = rows .only;
+              once = rows .once;
+            };
+        all = rows .all;
+      }
+    where
+      there : (t : ℕ → ℕ) → Solution (p₀ + p) q (onTop (before p₀ q coefs₀) (systemOf q coefs)) t → Solution (p₀ + p) q (systemOf q (coefs₀ ++ coefs)) t
+      there t s =
+          both-groups q p₀ coefs₀ p coefs numbers t .1 (before-solved (before p₀ q coefs₀) p q (systemOf q coefs) t s)
+          (behind-solved (before p₀ q coefs₀) p q (systemOf q coefs) t s)
+
+      back : (t : ℕ → ℕ) → Solution (p₀ + p) q (systemOf q (coefs₀ ++ coefs)) t → Solution (p₀ + p) q (onTop (before p₀ q coefs₀) (systemOf q coefs)) t
+      back t s =
+          let (x, y) = both-groups q p₀ coefs₀ p coefs numbers t .0 s in
+          both-solved (before p₀ q coefs₀) p q (systemOf q coefs) t x y
+
+  -- cut short between two stages, the list of the equations before and of those done
+  pub list-cut-short : w .equation ≡ p
+      → Enumerates q (Loop (p₀ + p) q (onTop (before p₀ q coefs₀) (among (w .done) (system q w)))) (w .count) (basisRow q w)
+  list-cut-short rests = all-members (before p₀ q coefs₀) p q coefs r rests

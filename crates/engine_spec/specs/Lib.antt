@@ -21,6 +21,7 @@ pub mod Engine
 pub mod Operations
 pub mod Whole
 pub mod Calls
+pub mod Base
 pub mod Promise
 pub mod Own
 pub mod Examples
