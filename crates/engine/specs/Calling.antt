@@ -27,7 +27,21 @@ use Rattle.engine_calls.specs.declared.Record.{Record}
 use Rattle.engine_calls.specs.declared.Refusal.{Refusal}
 use Rattle.engine_checks.specs.Operating.{combinesSmall}
 use Rattle.engine_checks.specs.Room.{StageFits, basis-few, basis-fits, stage-fits}
-use Rattle.engine_checks.specs.Standing.{Roomed, Stands, equation-small, left-below, resume-checks, standing, stands, start-checks, start-from-checks, startChecksBy, startFromChecksBy, starts, starts-from}
+use Rattle.engine_checks.specs.Standing.{
+  Roomed,
+  Stands,
+  equation-small,
+  left-below,
+  resume-checks,
+  standing,
+  stands,
+  start-checks,
+  start-from-checks,
+  startChecksBy,
+  startFromChecksBy,
+  starts,
+  starts-from,
+}
 use Rattle.engine_begins.specs.Begins.{Begun, BegunFrom, Fitting, FittingList, Operated, Taken, begun-from-is, begun-is, operated-is, taken-is}
 use Rattle.engine_begins.specs.Writing.{Combines}
 
@@ -148,7 +162,8 @@ module _ (p q : ℕ) (equations : List ℤ) (basis table : List ℕ) (l : Beside
     combine-enters g =
         let (z, own) = standing-both p q most room (workOf equations basis table run) _ (passes e g) in
         let (x, y) = then-go _ _ own in
-        let (lr, sp) = both (spec.isLeft p r (workOf equations basis table run)) (ltb s p) (passed (spec.isLeft p r (workOf equations basis table run) && ltb s p) 32 x) in
+        let (lr, sp) = both (spec.isLeft p r (workOf equations basis table run)) (ltb s p) (passed (spec.isLeft p r
+        (workOf equations basis table run) && ltb s p) 32 x) in
         let (_, o) = both (not (isZero u)) _ (passed (spec.isOperation q r s u t (workOf equations basis table run)) 34 y) in
         let (_, small) = both (not (eqb r s) || isZero t) _ o in
         record {

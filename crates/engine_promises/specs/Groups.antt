@@ -1,5 +1,5 @@
--- The user's first sentence, for the engine: a map built one group of equations after the other, loaded as a whole, or walked to the end has one list. Open this file
--- after Kinds.antt. Assumes nothing.
+-- The user's first sentence, for the engine: a map built one group of equations after the other, loaded as a whole, or walked to the end has one list. Open this
+-- file after Kinds.antt. Assumes nothing.
 use mathlib.Core.Path.{_≡_, refl, sym, _∙_, ap}
 use mathlib.Core.Logic.{inl, inr}
 use mathlib.Core.List.{List, [], _++_}
@@ -43,7 +43,11 @@ pub record SameSolutions (q p : ℕ) (coefs : List ℤ) (p′ : ℕ) (coefs′ :
 loop-as : {p p′ q : ℕ} {a a′ : ℕ → ℕ → ℤ} → ((t : ℕ → ℕ) → Solution p q a t → Solution p′ q a′ t) → ((t : ℕ → ℕ) → Solution p′ q a′ t → Solution p q a t)
     → (t : ℕ → ℕ) → Loop p q a t → Loop p′ q a′ t
 loop-as f g t m =
-    minimal-as (λ t w. record { solution = f t (w .solution); admitted = w .admitted }) (λ t w. record { solution = g t (w .solution); admitted = w .admitted }) m
+    minimal-as (λ t w. record { solution = f t (w .solution); admitted = w .admitted }) (λ t w. record {
+      solution = g t
+          (w .solution);
+      admitted = w .admitted;
+    }) m
 
 pub exchanged : (q p : ℕ) (coefs : List ℤ) (p′ : ℕ) (coefs′ : List ℤ) → length coefs ≡ p * q → length coefs′ ≡ p′ * q
     → SameSolutions q (p + p′) (coefs ++ coefs′) (p′ + p) (coefs′ ++ coefs)
@@ -94,8 +98,8 @@ handed-on {q} {p} {coefs} {list} {n} m rows same p′ coefs′ most room w long 
       all = λ t b. let (i, l, g) = x .all t b in (i, l, λ j jq. same i l j jq ∙ g j jq);
     }) long wide e
 
--- "The two lists of loops should hold the same loops.": of two maps with the same solutions, however either list was made, the lists hold the same rows, as many,
--- each row of either in the other.
+-- "The two lists of loops should hold the same loops.": of two maps with the same solutions, however either list was made, the lists hold the same rows, as
+-- many, each row of either in the other.
 pub one-list : {q p p′ : ℕ} {coefs coefs′ : List ℤ} → SameSolutions q p coefs p′ coefs′ → {one other : List ℕ} {n m : ℕ} → Made q p coefs one n
     → Made q p′ coefs′ other m → SameList q one n other m
 one-list {q} {p} {p′} {coefs} {coefs′} same {other = other} {m = m} x y =

@@ -1,5 +1,6 @@
--- The promises of the engine for every kind of map: right sides, lower bounds, and one group of equations after the other. Open this file after Promises.antt. They
--- hold of every run that nobody else alters, on a system made from the map as Sides.antt has it; what is handed out of its list is defined there too. Assumes nothing.
+-- The promises of the engine for every kind of map: right sides, lower bounds, and one group of equations after the other. Open this file after Promises.antt.
+-- They hold of every run that nobody else alters, on a system made from the map as Sides.antt has it; what is handed out of its list is defined there too.
+-- Groups.antt has the user's first sentence: however a list was made, it is the same. Assumes nothing.
 use mathlib.Core.Path.{_≡_, refl, sym, _∙_}
 use mathlib.Core.List.{List, [], _++_}
 use Prim.Native.Nat.{ℕ, zero, suc, _+_, _*_, _-_, _≤_, _<_}
@@ -72,7 +73,8 @@ pub record BothLists (p q : ℕ) (coefs rights : List ℤ) (list : List ℕ) (n 
       → (handedCount 1 q list n ≡ 1) × Same q (at (handed 1 q nothing list n out) q 0) (λ j. 0)
   -- and of the others none is a solution of the map or meets the right sides: they are left out.
   pub others : (i : ℕ) → i < n → 1 < at list (suc q) i 0
-      → ¬ (Solution p q (systemOf q coefs) (rest (at list (suc q) i))) × ¬ (Meets p q (systemOf q coefs) (λ k. getD rights k (pos 0)) (rest (at list (suc q) i)))
+      → ¬ (Solution p q (systemOf q coefs) (rest (at list (suc q) i))) × ¬ (Meets p q (systemOf q coefs) (λ k. getD rights k (pos 0)) (rest (at list
+      (suc q) i)))
 
 -- ---- from the list of the extended system
 
@@ -173,8 +175,8 @@ right-sides p q some coefs rights numbers {most} {room} {w} r budget e =
     let v = resume p (suc q) most room budget w .work in
     both-lists p q some coefs rights numbers (v .basis) (v .count) (run-complete p (suc q) (extendTo p q coefs rights) r budget e)
 
--- What a complete list holds from a lower bound: the rows with 1 in the first unknown, with the bound added, are exactly the smallest at or above the bound, each
--- once; and where there are none, nothing at or above the bound is such. With right sides `rights`, without them where these are [].
+-- What a complete list holds from a lower bound: the rows with 1 in the first unknown, with the bound added, are exactly the smallest at or above the bound,
+-- each once; and where there are none, nothing at or above the bound is such. With right sides `rights`, without them where these are [].
 pub record FromBound (p q : ℕ) (coefs rights : List ℤ) (lower : ℕ → ℕ) (list : List ℕ) (n : ℕ) : Type 0 where
   pub smallest : (out : List ℕ) → handedCount 1 q list n * q ≤ length out
       → Exactly q (MinimalMeetingFrom p q coefs rights lower) (handed 1 q lower list n out) (handedCount 1 q list n)

@@ -37,7 +37,18 @@ use Rattle.engine_spec.specs.Calls.{
   startFromChecks,
 }
 use Rattle.engine_spec.specs.Engine.{Work, basisRow, systemOf}
-use Rattle.engine_spec.specs.Promise.{RunsOn, afterCombine, afterResume, afterStart, afterStartFrom, afterTake, lentAnew, not-false, runs-whole, started-goes}
+use Rattle.engine_spec.specs.Promise.{
+  RunsOn,
+  afterCombine,
+  afterResume,
+  afterStart,
+  afterStartFrom,
+  afterTake,
+  lentAnew,
+  not-false,
+  runs-whole,
+  started-goes,
+}
 use Rattle.engine_spec.specs.Reduction.{isSmall}
 use Rattle.engine_spec.specs.Sound.{Given, Sound, degree-some}
 use Rattle.engine_spec.specs.Stage.{Stage, begin, row}
@@ -67,7 +78,8 @@ row-to : (q : ℕ) (z : ℕ → ℕ) → ((j : ℕ) → j < q → z j ≤ mostCo
 unfolding isRow
 row-to q z h some = and-both (isSmall q z) _ (small-to q z h) (lt→ltb 0 (total z q) some)
 
-rising-to : (n : ℕ) (f : ℕ → ℕ) (d : ℕ) → ((i : ℕ) → i < n → 0 < f i) → ((i k : ℕ) → i ≤ k → k < n → f i ≤ f k) → ((i : ℕ) → i < n → f i ≤ d) → T (isRising n f d)
+rising-to : (n : ℕ) (f : ℕ → ℕ) (d : ℕ) → ((i : ℕ) → i < n → 0 < f i) → ((i k : ℕ) → i ≤ k → k < n → f i ≤ f k) → ((i : ℕ) → i < n → f i ≤ d) → T
+    (isRising n f d)
 unfolding isRising
 rising-to n f d some sorted low =
     all-from n _ (λ i l. and-both (ltb 0 (f i)) _ (lt→ltb 0 (f i) (some i l))

@@ -26,7 +26,21 @@ use Rattle.laws.specs.TableLaws.{row-before, row-fits, write-inside, write-leng
 use Rattle.decomposition.specs.Loops.{Loop}
 use Rattle.sweeps.specs.Pack.{pack-length, pack-row, packTo}
 use Rattle.sweeps.specs.Sweep.{sweptTo}
-use Rattle.engine_spec.specs.Base.{Base, alone-enumerates, alone-free, before-free, before-solved, both-solved, done-whole, enumerates-as, free-alone, nothing, onTop, top-alike, top-free}
+use Rattle.engine_spec.specs.Base.{
+  Base,
+  alone-enumerates,
+  alone-free,
+  before-free,
+  before-solved,
+  both-solved,
+  done-whole,
+  enumerates-as,
+  free-alone,
+  nothing,
+  onTop,
+  top-alike,
+  top-free,
+}
 use Rattle.engine_spec.specs.Beside.{coefficientLimit}
 use Rattle.engine_spec.specs.Calls.{
   check1,
@@ -82,7 +96,19 @@ use Rattle.engine_spec.specs.Engine.{
 use Rattle.engine_spec.specs.Equations.{Picked, is-zero, units-enumerate}
 use Rattle.engine_spec.specs.Fresh.{without-at, without-given, withoutAt}
 use Rattle.engine_spec.specs.Moved.{moved-given, moved-sound, withTable}
-use Rattle.engine_spec.specs.Operations.{Alike, Apart, alike-enumerates, alike-given, alike-then, combined-alike, done-alike, fill-inside, fill-length, fill-outside, value-alike}
+use Rattle.engine_spec.specs.Operations.{
+  Alike,
+  Apart,
+  alike-enumerates,
+  alike-given,
+  alike-then,
+  combined-alike,
+  done-alike,
+  fill-inside,
+  fill-length,
+  fill-outside,
+  value-alike,
+}
 use Rattle.engine_spec.specs.ReductionLaws.{SameRows}
 use Rattle.engine_spec.specs.Sound.{Given}
 use Rattle.engine_spec.specs.Stage.{Stage, begin}
@@ -323,7 +349,8 @@ module _ (base : Base) (p q : ℕ) (a : ℕ → ℕ → ℤ) (most room : ℕ) (
             (without-given (base .p + p) q (soFar base q w) f fq (suc (base .p + p)) (withoutAt (base .p + p) (soFar base q w) f)
             (without-at (base .p + p) q (soFar base q w) f fq) (w .count) (basisRow q w) given
             (countTo (w .count) stay) _ (picked-packed q (w .count) most (w .basis) stay (at (w .basis) q) (whole .long) few))
-            (begin-sound (suc (base .p + p)) q (withoutAt (base .p + p) (soFar base q w) f) (system q w e) (countTo (w .count) stay) _ (w .stage .table) (w .stage .steps));
+            (begin-sound (suc (base .p + p)) q (withoutAt (base .p + p) (soFar base q w) f) (system q w e) (countTo (w .count) stay) _ (w .stage .table)
+            (w .stage .steps));
       }
 
 -- ---- what the calls' own checks say
@@ -482,7 +509,8 @@ module _ (base : Base) (p q : ℕ) (a : ℕ → ℕ → ℤ) (most room most′ 
       by (withFresh l n f m r given sound) =
           withFresh l n f m r
           (moved-given (suc (base .p + p)) q (withoutAt (base .p + p) (soFar base q w) (w .fresh)) (w .count) (basisRow q w) (at basis q) alike-rows given)
-          (moved-sound (suc (base .p + p)) q (withoutAt (base .p + p) (soFar base q w) (w .fresh)) (w .count) (basisRow q w) (at basis q) alike-rows (equationOf q w) (w .stage) table
+          (moved-sound (suc (base .p + p)) q (withoutAt (base .p + p) (soFar base q w) (w .fresh)) (w .count) (basisRow q w) (at basis q) alike-rows
+          (equationOf q w) (w .stage) table
           same′ sound)
 
 -- ---- the promise
@@ -524,7 +552,8 @@ module _ (p q : ℕ) (coefs : List ℤ) (most : ℕ) (w : Work) where
       omega (
         arith,
         nltb→le coefLimit (natAbs (getD coefs k (pos 0)))
-            (not-T (ltb coefLimit (natAbs (getD coefs k (pos 0)))) (false-not (ltb coefLimit (natAbs (getD coefs k (pos 0)))) (first-silent 7 (p * q) _ e k kl))),
+            (not-T (ltb coefLimit (natAbs (getD coefs k (pos 0)))) (false-not (ltb coefLimit (natAbs (getD coefs k (pos 0)))) (first-silent 7 (p * q)
+            _ e k kl))),
       )
 
 -- a list that is let go on has no component above the limit

@@ -88,7 +88,8 @@ pub data Standing (b : Base) (p q : ℕ) (w : Work) : Type 0 where
       → Given (suc (b .p + p)) q (withoutAt (b .p + p) (soFar b q w) (w .fresh)) (w .count) (basisRow q w)
       → Sound (suc (b .p + p)) q (withoutAt (b .p + p) (soFar b q w) (w .fresh)) (equationOf q w) (w .count) (basisRow q w) (w .stage) → Standing b p q w
 
--- What holds between two calls of a run on the system a, from the equations before it, with room for `most` rows in the basis and `room` rows in the stage's table.
+-- What holds between two calls of a run on the system a, from the equations before it, with room for `most` rows in the basis and `room` rows in the
+-- stage's table.
 pub record Whole (b : Base) (p q : ℕ) (a : ℕ → ℕ → ℤ) (most room : ℕ) (w : Work) : Type 0 where
   pub numbers : p * q ≤ length (w .equations)
   pub long : most * q ≤ length (w .basis)
@@ -120,7 +121,8 @@ module _ (b : Base) (p q : ℕ) (a : ℕ → ℕ → ℤ) (most room : ℕ) (w :
   kept = stays q w
 
   -- a finished stage leaves a run between two stages, once its rows are the minimal solutions with the equation
-  finished-whole : countTo (w .stage .rows) kept ≤ most → Given (b .p + p) q (onTop b (among (w .done + 2 ^ w .equation) (system q w))) (countTo (w .stage .rows) kept)
+  finished-whole : countTo (w .stage .rows) kept ≤ most → Given (b .p + p) q (onTop b (among (w .done + 2 ^ w .equation) (system q w))) (countTo
+      (w .stage .rows) kept)
       (at (packTo (w .stage .rows) q (w .basis) 0 kept (left q w)) q) → Whole b p q a most room (finished p q w)
   unfolding finished
   finished-whole low given =
@@ -152,7 +154,8 @@ module _ (b : Base) (p q : ℕ) (a : ℕ → ℕ → ℤ) (most room : ℕ) (w :
       plain true never low = absurd (never tt)
       plain false never low =
           stage-given (b .p + p) q (soFar b q w) (onTop b (among (w .done + 2 ^ w .equation) (system q w))) c
-          (top-extends b p q (doneOf q w) _ c (done-extends p q (system q w) (w .done) (w .equation) going not-done)) (w .count) (basisRow q w) (w .stage) sound e
+          (top-extends b p q (doneOf q w) _ c (done-extends p q (system q w) (w .done) (w .equation) going not-done)) (w .count) (basisRow q w)
+          (w .stage) sound e
           (countTo (w .stage .rows) (zeroRow q c (row q (w .stage)))) _
           (picked-packed q (w .stage .rows) most (w .basis) (zeroRow q c (row q (w .stage))) (row q (w .stage)) (whole .long) low)
 
@@ -187,7 +190,8 @@ module _ (b : Base) (p q : ℕ) (a : ℕ → ℕ → ℤ) (most room : ℕ) (w :
           loops =
               fresh-loops (b .p + p) q (soFar b q w) (onTop b (among (w .done + 2 ^ w .equation) (system q w))) c
               (top-extends b p q (doneOf q w) _ c (done-extends p q (system q w) (w .done) (w .equation) going not-done)) f some minus free
-              (suc (b .p + p)) (withoutAt (b .p + p) (soFar b q w) f) (without-at (b .p + p) q (soFar b q w) f some) (w .count) (basisRow q w) (w .stage) sound e (countTo (w .stage .rows) g) _ picked;
+              (suc (b .p + p)) (withoutAt (b .p + p) (soFar b q w) f) (without-at (b .p + p) q (soFar b q w) f some) (w .count) (basisRow q w)
+              (w .stage) sound e (countTo (w .stage .rows) g) _ picked;
           small = λ x j xn jq.
               let (i, il, fi, ei, si) = picked-from q (w .stage .rows) filling g (countTo (w .stage .rows) g) _ picked x xn in
               omega (arith, filled-small i il j jq, si j jq);
@@ -197,7 +201,8 @@ module _ (b : Base) (p q : ℕ) (a : ℕ → ℕ → ℤ) (most room : ℕ) (w :
     fresh-ended low = finished-whole low (made (ltb (w .fresh) q) (lt→ltb (w .fresh) q some) low)
       where
         made : (x : Bool) → T x → countTo (w .stage .rows) (cond x g (zeroRow q c (row q (w .stage)))) ≤ most
-            → Given (b .p + p) q (onTop b (among (w .done + 2 ^ w .equation) (system q w))) (countTo (w .stage .rows) (cond x g (zeroRow q c (row q (w .stage)))))
+            → Given (b .p + p) q (onTop b (among (w .done + 2 ^ w .equation) (system q w))) (countTo (w .stage .rows) (cond x g (zeroRow q c (row q
+            (w .stage)))))
             (at (packTo (w .stage .rows) q (w .basis) 0 (cond x g (zeroRow q c (row q (w .stage))))
             (λ i. cond x (filling i) (row q (w .stage) i))) q)
         made true h low = fresh-given low
@@ -272,9 +277,11 @@ module _ (b : Base) (p q : ℕ) (a : ℕ → ℕ → ℤ) (most room : ℕ) wher
     plain-left not-done none given sound ends e timed = λ low small. plain-ended b p q a most room w whole going not-done (not-late timed) none sound e low
 
     fresh-left : (not-done : ¬ (T (frozen (w .done) (w .equation)))) (some : w .fresh < q) (minus : equationOf q w (w .fresh) ≡ negsuc 0)
-        (free : (i : ℕ) → i < b .p + p → soFar b q w i (w .fresh) ≡ pos 0) → Given (suc (b .p + p)) q (withoutAt (b .p + p) (soFar b q w) (w .fresh)) (w .count) (basisRow q w)
+        (free : (i : ℕ) → i < b .p + p → soFar b q w i (w .fresh) ≡ pos 0) → Given (suc (b .p + p)) q (withoutAt (b .p + p) (soFar b q w) (w .fresh))
+        (w .count) (basisRow q w)
         → Sound (suc (b .p + p)) q (withoutAt (b .p + p) (soFar b q w) (w .fresh)) (equationOf q w) (w .count) (basisRow q w) (w .stage) → (t : Turned)
-        → Fine (suc (b .p + p)) q (withoutAt (b .p + p) (soFar b q w) (w .fresh)) (equationOf q w) (w .count) (basisRow q w) room (w .stage) t → Timed (w .stage) t → Left t
+        → Fine (suc (b .p + p)) q (withoutAt (b .p + p) (soFar b q w) (w .fresh)) (equationOf q w) (w .count) (basisRow q w) room (w .stage) t → Timed
+        (w .stage) t → Left t
     unfolding onward
     fresh-left not-done some minus free given sound (goes s) fit timed =
         onward-whole s (fit .long) (fit .few) (in-time s timed) (withFresh going not-done some minus free given (fit .sound))

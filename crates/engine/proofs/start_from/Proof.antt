@@ -22,10 +22,16 @@ enum-told : tie.Need-enum-told
 enum-told c = search needs
 
 begin-from-requires : tie.Need-begin-from-requires
-begin-from-requires c κs = let s = c .before .before .before .before .before .before .before .before .before .args in start-from-enters (s .p) (s .q) (now (s .coefs)) (s .n) (now (s .rows)) (now (s .equations)) (now (s .basis)) (now (s .table)) (s .l) (s .r) (c .before .before .before .before .before .basis-room .ensures) (c .before .before .before .before .check-start-from .ensures) (c .before .before .enum-told .given .1)
+begin-from-requires c κs = let s = c .before .before .before .before .before .before .before .before .before .args in start-from-enters (s .p) (s .q) (now
+    (s .coefs)) (s .n) (now (s .rows)) (now (s .equations)) (now (s .basis)) (now (s .table)) (s .l) (s .r)
+    (c .before .before .before .before .before .basis-room .ensures) (c .before .before .before .before .check-start-from .ensures)
+    (c .before .before .enum-told .given .1)
 
 returns : tie.Need-returns
-returns c = let s = c .before .before .before .before .before .before .before .before .before .args in rw (c .refused .ensures) (start-from-refused (s .p) (s .q) (now (s .coefs)) (s .n) (now (s .rows)) (now (s .equations)) (now (s .basis)) (now (s .table)) (s .l) (s .r) (c .before .before .before .before .before .basis-room .ensures) (c .before .before .before .before .check-start-from .ensures) (c .before .before .why .given .1))
+returns c = let s = c .before .before .before .before .before .before .before .before .before .args in rw (c .refused .ensures) (start-from-refused (s .p)
+    (s .q) (now (s .coefs)) (s .n) (now (s .rows)) (now (s .equations)) (now (s .basis)) (now (s .table)) (s .l) (s .r)
+    (c .before .before .before .before .before .basis-room .ensures) (c .before .before .before .before .check-start-from .ensures)
+    (c .before .before .why .given .1))
 
 same-length : tie.Need-same-length
 same-length c = search needs
@@ -34,7 +40,11 @@ same-length-2 : tie.Need-same-length-2
 same-length-2 c = search needs
 
 returns-2 : tie.Need-returns-2
-returns-2 c = let s = c .before .before .before .before .before .before .before .before .before .before .before .before .before .args in start-from-passed (s .p) (s .q) (now (s .coefs)) (s .n) (now (s .rows)) (now (s .equations)) (now (s .basis)) (now (s .table)) (s .l) (s .r) (c .before .before .before .before .before .before .before .before .before .basis-room .ensures) (c .before .before .before .before .before .before .before .before .check-start-from .ensures) (c .before .before .before .before .before .before .enum-told .given .1) (c .before .before .before .begin-from .ensures)
+returns-2 c = let s = c .before .before .before .before .before .before .before .before .before .before .before .before .before .args in start-from-passed
+    (s .p) (s .q) (now (s .coefs)) (s .n) (now (s .rows)) (now (s .equations)) (now (s .basis)) (now (s .table)) (s .l) (s .r)
+    (c .before .before .before .before .before .before .before .before .before .basis-room .ensures)
+    (c .before .before .before .before .before .before .before .before .check-start-from .ensures)
+    (c .before .before .before .before .before .before .enum-told .given .1) (c .before .before .before .begin-from .ensures)
 
 pub start-from-spec : {M : Type 1} → statement M
 start-from-spec =

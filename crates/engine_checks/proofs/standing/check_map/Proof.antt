@@ -27,7 +27,9 @@ mul-if1 c = let s = c .before .before .before in
 
 returns : tie.Need-returns
 unfolding mapChecks
-returns c = let s = c .before .before .before .before in sizes-passed (s .args .p) (s .args .q) (c .before .before .before .check .ensures) _ (c .before .enum-told .given .1) (count-refuses (s .args .p) (s .args .q) (now (s .args .coefs)) (s .args .most) (s .args .equations) (ne-eqb _ _ (c .if1 .taken)))
+returns c = let s = c .before .before .before .before in sizes-passed (s .args .p) (s .args .q) (c .before .before .before .check .ensures) _
+    (c .before .enum-told .given .1) (count-refuses (s .args .p) (s .args .q) (now (s .args .coefs)) (s .args .most) (s .args .equations) (ne-eqb _ _
+    (c .if1 .taken)))
 
 mul-if2 : tie.Need-mul-if2
 mul-if2 c = let s = c .before .before .before .before in
@@ -36,22 +38,29 @@ mul-if2 c = let s = c .before .before .before .before in
 
 returns-2 : tie.Need-returns-2
 unfolding mapChecks
-returns-2 c = let s = c .before .before .before .before .before in sizes-passed (s .args .p) (s .args .q) (c .before .before .before .before .check .ensures) _ (c .before .before .enum-told .given .1)
-    (short-refuses (s .args .p) (s .args .q) (now (s .args .coefs)) (s .args .most) (s .args .equations) (eq-eqb _ _ (c .before .if1 .left)) (lt-ltb _ _ (c .if2 .taken)))
+returns-2 c = let s = c .before .before .before .before .before in sizes-passed (s .args .p) (s .args .q) (c .before .before .before .before .check .ensures)
+    _ (c .before .before .enum-told .given .1)
+    (short-refuses (s .args .p) (s .args .q) (now (s .args .coefs)) (s .args .most) (s .args .equations) (eq-eqb _ _ (c .before .if1 .left)) (lt-ltb _ _
+    (c .if2 .taken)))
 
 returns-3 : tie.Need-returns-3
 unfolding mapChecks
-returns-3 c = let s = c .before .before .before .before .before .before in sizes-passed (s .args .p) (s .args .q) (c .before .before .before .before .before .check .ensures) _ (c .before .before .before .enum-told .given .1)
-    (few-refuses (s .args .p) (s .args .q) (now (s .args .coefs)) (s .args .most) (s .args .equations) (eq-eqb _ _ (c .before .before .if1 .left)) (le-ltb _ _ (c .before .if2 .left)) (lt-ltb _ _ (c .if3 .taken)))
+returns-3 c = let s = c .before .before .before .before .before .before in sizes-passed (s .args .p) (s .args .q)
+    (c .before .before .before .before .before .check .ensures) _ (c .before .before .before .enum-told .given .1)
+    (few-refuses (s .args .p) (s .args .q) (now (s .args .coefs)) (s .args .most) (s .args .equations) (eq-eqb _ _ (c .before .before .if1 .left)) (le-ltb _
+    _ (c .before .if2 .left)) (lt-ltb _ _ (c .if3 .taken)))
 
 returns-4 : tie.Need-returns-4
 unfolding mapChecks
-returns-4 c = let s = c .before .before .before .before in sizes-refused (s .args .p) (s .args .q) (c .before .before .before .check .ensures) _ (c .before .why .given .1)
+returns-4 c = let s = c .before .before .before .before in sizes-refused (s .args .p) (s .args .q) (c .before .before .before .check .ensures) _
+    (c .before .why .given .1)
 
 returns-5 : tie.Need-returns-5
 unfolding mapChecks
-returns-5 c = let s = c .before .before .before .before .before .before in sizes-passed (s .args .p) (s .args .q) (c .before .before .before .before .before .check .ensures) _ (c .before .before .before .enum-told .given .1)
-    (rest-passes (s .args .p) (s .args .q) (now (s .args .coefs)) (s .args .most) (s .args .equations) (eq-eqb _ _ (c .before .before .if1 .left)) (le-ltb _ _ (c .before .if2 .left)) (le-ltb _ _ (c .if3 .left)))
+returns-5 c = let s = c .before .before .before .before .before .before in sizes-passed (s .args .p) (s .args .q)
+    (c .before .before .before .before .before .check .ensures) _ (c .before .before .before .enum-told .given .1)
+    (rest-passes (s .args .p) (s .args .q) (now (s .args .coefs)) (s .args .most) (s .args .equations) (eq-eqb _ _ (c .before .before .if1 .left)) (le-ltb _
+    _ (c .before .if2 .left)) (le-ltb _ _ (c .if3 .left)))
 
 pub check-map-spec : {M : Type 1} → statement M
 check-map-spec =
