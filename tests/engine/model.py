@@ -118,8 +118,16 @@ def combine(p, q, w, r, u, s, t):
     return STARTED
 
 
+def is_alone(q, w, f):
+    """Whether of the basis one row has the unknown f, and only rows of degree 1."""
+    having = [sum(row) for row in (w.basis_row(q, i) for i in range(w.record[COUNT])) if row[f] > 0]
+    return bool(having) and all(degree == 1 for degree in having)
+
+
 def is_fresh(p, q, w, e, f):
-    return f < q and w.equations[e * q + f] == -1 and all(w.equations[i * q + f] == 0 for i in range(p) if w.record[DONE] >> i & 1)
+    if f >= q or w.equations[e * q + f] != -1:
+        return False
+    return all(w.equations[i * q + f] == 0 for i in range(p) if w.record[DONE] >> i & 1) and is_alone(q, w, f)
 
 
 def take(p, q, w, e, f):
