@@ -324,6 +324,11 @@ class Drawn:
         if p > 1 and r.randrange(3) == 0:
             self.call(1, p, q, w, [e, r.choice([1, -1, 2]), (e + 1) % p, r.choice([1, -1, 2])])
         fresh = [f for f in range(q) if is_fresh(p, q, w, e, f)]
+        if fresh and w.record[COUNT] > 0 and r.randrange(3) == 0:
+            other, f = w.copy(), r.choice(fresh)
+            for i in range(w.record[COUNT]) if r.randrange(2) else [r.randrange(w.record[COUNT])]:
+                other.basis[i * q + f] = r.choice([0, 1, 2])
+            self.call(2, p, q, other, [e, f])
         self.call(2, p, q, w, [e, r.choice(fresh) if fresh and r.randrange(3) else q])
         for _ in range(400):
             if r.randrange(12) == 0:
