@@ -118,8 +118,16 @@ def combine(p, q, w, r, u, s, t):
     return STARTED
 
 
+def is_alone(q, w, f):
+    """Whether of the basis one row has the unknown f, and only rows of degree 1."""
+    having = [sum(row) for row in (w.basis_row(q, i) for i in range(w.record[COUNT])) if row[f] > 0]
+    return bool(having) and all(degree == 1 for degree in having)
+
+
 def is_fresh(p, q, w, e, f):
-    return f < q and w.equations[e * q + f] == -1 and all(w.equations[i * q + f] == 0 for i in range(p) if w.record[DONE] >> i & 1)
+    if f >= q or w.equations[e * q + f] != -1:
+        return False
+    return all(w.equations[i * q + f] == 0 for i in range(p) if w.record[DONE] >> i & 1) and is_alone(q, w, f)
 
 
 def take(p, q, w, e, f):
@@ -319,6 +327,11 @@ class Drawn:
         if p > 1 and r.randrange(3) == 0:
             self.call(1, p, q, w, [e, r.choice([1, -1, 2]), (e + 1) % p, r.choice([1, -1, 2])])
         fresh = [f for f in range(q) if is_fresh(p, q, w, e, f)]
+        if fresh and w.record[COUNT] > 0 and r.randrange(3) == 0:
+            other, f = w.copy(), r.choice(fresh)
+            for i in range(w.record[COUNT]) if r.randrange(2) else [r.randrange(w.record[COUNT])]:
+                other.basis[i * q + f] = r.choice([0, 1, 2])
+            self.call(2, p, q, other, [e, f])
         self.call(2, p, q, w, [e, r.choice(fresh) if fresh and r.randrange(3) else q])
         for _ in range(400):
             if r.randrange(12) == 0:

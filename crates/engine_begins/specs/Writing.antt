@@ -14,6 +14,7 @@ use mir.Syntax.{w32}
 use mir.Val.{SFits}
 use Rattle.linear.specs.Integers.{sfits-natAbs}
 use Rattle.linear.specs.TestLaws.{all-at}
+use Rattle.definitions.specs.Tables.{writeTo}
 use Rattle.engine_spec.specs.Beside.{SmallEquation, coefficientLimit, equationAt}
 use Rattle.engine_spec.specs.Engine.{fillTo}
 use Rattle.engine_spec.specs.Operations.{fill-length, fill-outside}
@@ -86,3 +87,14 @@ module _ {q x y : ℕ} {u t : ℤ} {equations : List ℤ} (c : Combines q x y u 
 pub copy-more : (i : ℕ) (coefs table₀ : List ℤ) {table : List ℤ} {v : ℤ} → table ≡ fillTo i table₀ 0 (λ k. getD coefs k (pos 0)) → v ≡ getD coefs i (pos 0)
     → set table i v ≡ fillTo (i + 1) table₀ 0 (λ k. getD coefs k (pos 0))
 copy-more i coefs table₀ e g = let place : 0 + i ≡ i = omega arith in rw place at (fill-more i table₀ 0 (λ k. getD coefs k (pos 0)) e g)
+
+-- ---- the rows of a list copied
+
+pub list-none : (table : List ℕ) (f : ℕ → ℕ) → table ≡ writeTo 0 table 0 f
+unfolding writeTo
+list-none table f = refl
+
+pub list-more : (i : ℕ) (rows table₀ : List ℕ) {table : List ℕ} {v : ℕ} → table ≡ writeTo i table₀ 0 (λ k. getD rows k 0) → v ≡ getD rows i 0
+    → set table i v ≡ writeTo (i + 1) table₀ 0 (λ k. getD rows k 0)
+unfolding writeTo
+list-more i rows table₀ e g = let place : 0 + i ≡ i = omega arith in rw (add-one i, e, g, place)

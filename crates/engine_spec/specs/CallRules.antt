@@ -8,6 +8,7 @@ use lib.Dec.{T, ltb, lt→ltb}
 use lib.IntN.{ℤ}
 use Rattle.linear.specs.Tests.{countTo}
 use Rattle.definitions.specs.Answers.{complete, paused, refused}
+use Rattle.engine_spec.specs.Base.{Base}
 use Rattle.engine_spec.specs.Calls.{checked, resume}
 use Rattle.engine_spec.specs.Engine.{
   Work,
@@ -25,7 +26,7 @@ use Rattle.engine_spec.specs.Engine.{
   valuesSmall,
 }
 use Rattle.engine_spec.specs.Own.{own-calls}
-use Rattle.engine_spec.specs.Promise.{Runs, afterResume}
+use Rattle.engine_spec.specs.Promise.{RunsOn, afterResume}
 use Rattle.engine_spec.specs.Stage.{Turned, ends, goes, stops, turn}
 
 -- ---- answers apart
@@ -121,13 +122,13 @@ module _ (p q most room : ℕ) where
 
 -- ---- of the calls
 
-module _ (p q : ℕ) (coefs : List ℤ) {most room : ℕ} {w : Work} (r : Runs p q coefs most room w) (roomy : q ≤ most) where
-  passes : {v : Work} → Runs p q coefs most room v → (budget : ℕ)
+module _ {base : Base} (p q : ℕ) (coefs : List ℤ) {most room : ℕ} {w : Work} (r : RunsOn base p q coefs most room w) (roomy : q ≤ most) where
+  passes : {v : Work} → RunsOn base p q coefs most room v → (budget : ℕ)
       → resume p q most room budget v ≡ cond (ltb (v .equation) p) (run p q most room budget v) (rested p v)
   unfolding resume checked
   passes {v} s budget = rw (own-calls p q coefs s roomy) refl
 
-  under-way : {v : Work} → Runs p q coefs most room v → v .equation < p → (budget : ℕ) → resume p q most room budget v ≡ run p q most room budget v
+  under-way : {v : Work} → RunsOn base p q coefs most room v → v .equation < p → (budget : ℕ) → resume p q most room budget v ≡ run p q most room budget v
   under-way {v} s going budget = passes s budget ∙ by (ltb (v .equation) p) (lt→ltb (v .equation) p going)
     where
       by : (b : Bool) → T b → cond b (run p q most room budget v) (rested p v) ≡ run p q most room budget v

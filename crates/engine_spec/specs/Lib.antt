@@ -21,6 +21,7 @@ pub mod Engine
 pub mod Operations
 pub mod Whole
 pub mod Calls
+pub mod Base
 pub mod Promise
 pub mod Own
 pub mod Examples
@@ -28,3 +29,7 @@ pub mod Promises
 pub mod CallRules
 pub mod Rules
 pub mod Questions
+pub mod Sides
+pub mod Kinds
+pub mod KindExamples
+pub mod Groups

@@ -18,6 +18,7 @@ use Rattle.definitions.specs.Input as map
 use Rattle.definitions.specs.System.{MinimalSolution, System}
 use Rattle.theorems.specs.Listed.{Exactly}
 use Rattle.linear.specs.Loops.{Loop, MadeOfRows, made-of-loops}
+use Rattle.engine_spec.specs.Base.{nothing}
 use Rattle.engine_spec.specs.Calls.{resume, resumeChecks}
 use Rattle.engine_spec.specs.Done.{among}
 use Rattle.engine_spec.specs.Engine.{Work, basisRow, system, systemOf}
@@ -48,7 +49,7 @@ module _ (p q : ℕ) (coefs : List ℤ) {most room : ℕ} {w : Work} (r : Runs p
   complete-exactly budget e =
       let v = left budget in
       let c = complete-lists budget e in
-      let whole = runs-whole p q coefs (afterResume r budget) in
+      let whole = runs-whole nothing p q coefs (afterResume r budget) in
       let fits : v .count * q ≤ length (v .basis) = omega (arith, whole .long, mul-le-mul-right q (whole .few)) in
       record {
         part =
@@ -66,7 +67,7 @@ module _ (p q : ℕ) (coefs : List ℤ) {most room : ℕ} {w : Work} (r : Runs p
 
   pub works-on-the-map : (t : ℕ → ℕ) → (Solution p q (systemOf q coefs) t → Solution p q (system q w) t)
       × (Solution p q (system q w) t → Solution p q (systemOf q coefs) t)
-  works-on-the-map t = let a = same-solutions p q coefs r in (a .there t, a .back t)
+  works-on-the-map t = let a = same-solutions nothing p q coefs r in (a .there t, a .back t)
 
   -- Every plan is made of the rows, and no shorter list of solutions does (document 02, Job 13).
   pub plans : (budget : ℕ) → resume p q most room budget w .answer ≡ complete

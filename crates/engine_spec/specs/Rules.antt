@@ -7,13 +7,13 @@ use Prim.Native.Nat.{ℕ, _*_, _-_, _^_, _≤_, _<_}
 use lib.Dec.{T, T-not, eqb, eqb→eq, eqb-refl, leb, leb→le, le→leb, ltb, ltb→lt, lt→ltb, not-T}
 use lib.IntN.{ℤ, pos, negsuc, natAbs}
 use lib.ListN.{getD, length}
-use Rattle.linear.specs.TestLaws.{all-at, all-from, and-both, and-parts}
-use Rattle.linear.specs.Tests.{allTo}
+use Rattle.linear.specs.TestLaws.{all-at, all-from, and-both, and-parts, any-at, any-from}
+use Rattle.linear.specs.Tests.{allTo, anyTo}
 use Rattle.linear.specs.Tuples.{total}
 use Rattle.definitions.specs.Answers.{Check, _then_, go}
 use Rattle.definitions.specs.Refusals.{stepLimit}
 use Rattle.definitions.specs.System.{coefLimit, isZero, mostComponent}
-use Rattle.definitions.specs.Tables.{frozen}
+use Rattle.definitions.specs.Tables.{at, frozen}
 use Rattle.laws.specs.CheckLaws.{
   Decides,
   Renders,
@@ -36,8 +36,11 @@ use Rattle.engine_spec.specs.Calls.{
   coefficientsSmall,
   combineChecks,
   inOrder,
+  isAlone,
+  isFree,
   isFresh,
   isLeft,
+  isList,
   isMinusOne,
   isOperation,
   isRising,
@@ -46,6 +49,7 @@ use Rattle.engine_spec.specs.Calls.{
   resumeChecks,
   standingThen,
   startChecks,
+  startFromChecks,
   takeChecks,
 }
 use Rattle.engine_spec.specs.Engine.{Work, basisRow, combination, system}
@@ -81,11 +85,19 @@ pub record Left (p e : ℕ) (w : Work) : Type 0 where
   pub low : e < p
   pub undone : ¬ (T (frozen (w .done) e))
 
--- The unknown f is fresh in equation e: it has the coefficient −1 there, and no equation done mentions it.
+-- The unknown f is fresh in equation e: it has the coefficient −1 there, no equation done mentions it, and of the basis only its unit tuple has it.
 pub record Fresh (p q e f : ℕ) (w : Work) : Type 0 where
   pub low : f < q
   pub minus : system q w e f ≡ negsuc 0
   pub free : (i : ℕ) → i < p → T (frozen (w .done) i) → system q w i f ≡ pos 0
+  pub there : (i : ℕ) × (i < w .count) × (0 < basisRow q w i f)
+  pub alone : (i : ℕ) → i < w .count → (basisRow q w i f ≡ 0) ⊎ (total (basisRow q w i) q ≡ 1)
+
+-- A list handed over: n rows of q numbers, each within the component limit and not all zero.
+pub record IsList (q n : ℕ) (rows : List ℕ) : Type 0 where
+  pub numbers : length rows ≡ n * q
+  pub small : (i j : ℕ) → i < n → j < q → at rows q i j ≤ mostComponent
+  pub some : (i : ℕ) → i < n → 0 < total (at rows q i) q
 
 -- u times equation r and t times equation s is a row operation that stays in the coefficients' range.
 pub record Operation (q r s : ℕ) (u t : ℤ) (w : Work) : Type 0 where
@@ -105,6 +117,18 @@ startRules p q coefs most w =
     ▹ rule 2 (Outside 1 mostColumns q)
     ▹ rule 3 (length coefs ≢ p * q)
     ▹ rule 4 (Short p q most w)
+    ▹ placed 7 (p * q) (λ k. coefLimit < natAbs (getD coefs k (pos 0)))
+    ▹ end
+
+-- the start from a list of n rows: 4 also where there is no room for these, and 6 of the list
+abbrev pub startFromRules : (p q : ℕ) (coefs : List ℤ) (n : ℕ) (rows : List ℕ) (most : ℕ) → Work → Rules
+startFromRules p q coefs n rows most w =
+    rule 1 (Outside 1 mostRows p)
+    ▹ rule 2 (Outside 1 mostColumns q)
+    ▹ rule 3 (length coefs ≢ p * q)
+    ▹ rule 4 (Short p q most w)
+    ▹ rule 4 (most < n)
+    ▹ rule 6 (¬ (IsList q n rows))
     ▹ placed 7 (p * q) (λ k. coefLimit < natAbs (getD coefs k (pos 0)))
     ▹ end
 
@@ -268,17 +292,37 @@ module _ (p q most room : ℕ) (w : Work) where
       by false h = tt
 
   fresh-from : (e f : ℕ) → T (isFresh p q e f w) → Fresh p q e f w
-  unfolding isFresh
+  unfolding isFresh isFree isAlone
   fresh-from e f h =
       let (a, h₁) = and-parts (ltb f q) _ h in
-      let (b, c) = and-parts (isMinusOne (system q w e f)) _ h₁ in
-      record { low = ltb→lt f q a; minus = minus-from (system q w e f) b; free = λ i l. free-from i f (all-at p _ c i l) }
+      let (b, h₂) = and-parts (isMinusOne (system q w e f)) _ h₁ in
+      let (c, h₃) = and-parts (allTo p (λ i. not (frozen (w .done) i) || isZero (system q w i f))) _ h₂ in
+      let (d, g) = and-parts (anyTo (w .count) (λ i. ltb 0 (basisRow q w i f))) _ h₃ in
+      let (k, kl, has) = any-at (w .count) (λ i. ltb 0 (basisRow q w i f)) d in
+      record {
+        low = ltb→lt f q a;
+        minus = minus-from (system q w e f) b;
+        free = λ i l. free-from i f (all-at p _ c i l);
+        there = (k, kl, ltb→lt 0 (basisRow q w k f) has);
+        alone = λ i l. elim (or-from (eqb (basisRow q w i f) 0) _ (all-at (w .count) _ g i l)) [
+          | inl x ↦ inl (eqb→eq (basisRow q w i f) 0 x)
+          | inr x ↦ inr (eqb→eq (total (basisRow q w i) q) 1 x)
+        ];
+      }
 
   fresh-to : (e f : ℕ) → Fresh p q e f w → T (isFresh p q e f w)
-  unfolding isFresh
+  unfolding isFresh isFree isAlone
   fresh-to e f r =
+      let (k, kl, has) = r .there in
       and-both (ltb f q) _ (lt→ltb f q (r .low))
-      (and-both (isMinusOne (system q w e f)) _ (minus-to (system q w e f) (r .minus)) (all-from p _ (λ i l. free-to i f (r .free i l))))
+      (and-both (isMinusOne (system q w e f)) _ (minus-to (system q w e f) (r .minus))
+      (and-both (allTo p (λ i. not (frozen (w .done) i) || isZero (system q w i f))) _ (all-from p _ (λ i l. free-to i f (r .free i l)))
+      (and-both (anyTo (w .count) (λ i. ltb 0 (basisRow q w i f))) _
+      (any-from (w .count) (λ i. ltb 0 (basisRow q w i f)) k kl (lt→ltb 0 (basisRow q w k f) has))
+      (all-from (w .count) _ (λ i l. or-to (eqb (basisRow q w i f) 0) _ (elim (r .alone i l) [
+        | inl x ↦ inl (rw x tt)
+        | inr x ↦ inr (rw x tt)
+      ]))))))
 
   pub take-renders : (e f : ℕ) → Renders (takeChecks p q most room e f w) (takeRules p q most room e f w)
   unfolding takeChecks
@@ -333,3 +377,32 @@ start-renders p q coefs most w =
     (renders-then (short-decides p q most w)
     (renders-last (decides-first 7 (p * q) (λ k. ltb coefLimit (natAbs (getD coefs k (pos 0)))) _
     (λ k l. ltb→lt coefLimit (natAbs (getD coefs k (pos 0)))) (λ k l. lt→ltb coefLimit (natAbs (getD coefs k (pos 0)))))))))
+
+list-from : (q n : ℕ) (rows : List ℕ) → T (isList q n rows) → IsList q n rows
+unfolding isList
+list-from q n rows h =
+    let (a, b) = and-parts (eqb (length rows) (n * q)) _ h in
+    record {
+      numbers = eqb→eq (length rows) (n * q) a;
+      small = λ i j l jq. small-from q (at rows q i) (row-from q (at rows q i) (all-at n _ b i l) .0) j jq;
+      some = λ i l. row-from q (at rows q i) (all-at n _ b i l) .1;
+    }
+
+list-to : (q n : ℕ) (rows : List ℕ) → IsList q n rows → T (isList q n rows)
+unfolding isList
+list-to q n rows o =
+    and-both (eqb (length rows) (n * q)) _ (rw (o .numbers) (eqb-refl (n * q)))
+    (all-from n _ (λ i l. row-to q (at rows q i) (small-to q (at rows q i) (λ j jq. o .small i j l jq)) (o .some i l)))
+
+pub start-from-renders : (p q : ℕ) (coefs : List ℤ) (n : ℕ) (rows : List ℕ) (most : ℕ) (w : Work)
+    → Renders (startFromChecks p q coefs n rows most w) (startFromRules p q coefs n rows most w)
+unfolding startFromChecks
+start-from-renders p q coefs n rows most w =
+    renders-then (decides-outside 1 1 mostRows p)
+    (renders-then (decides-outside 2 1 mostColumns q)
+    (renders-then (decides-unequal 3 (length coefs) (p * q))
+    (renders-then (short-decides p q most w)
+    (renders-then (decides-if (ltb most n) 4 (most < n) (ltb→lt most n) (lt→ltb most n))
+    (renders-then (decides-not (isList q n rows) 6 (IsList q n rows) (list-from q n rows) (list-to q n rows))
+    (renders-last (decides-first 7 (p * q) (λ k. ltb coefLimit (natAbs (getD coefs k (pos 0)))) _
+    (λ k l. ltb→lt coefLimit (natAbs (getD coefs k (pos 0)))) (λ k l. lt→ltb coefLimit (natAbs (getD coefs k (pos 0)))))))))))
