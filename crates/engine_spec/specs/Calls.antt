@@ -6,7 +6,7 @@ use mathlib.Core.List.{List}
 use lib.Dec.{eqb, leb, ltb}
 use lib.IntN.{ℤ, pos, negsuc, natAbs}
 use lib.ListN.{getD, length}
-use Rattle.linear.specs.Tests.{allTo}
+use Rattle.linear.specs.Tests.{allTo, anyTo}
 use Rattle.linear.specs.Tuples.{total}
 use Rattle.definitions.specs.Answers.{Check, _then_, go, refuse, refuseFirst, refuseIf, refused, started}
 use Rattle.definitions.specs.Refusals.{between, stepLimit}
