@@ -57,8 +57,7 @@ sizesHad p q most room w = cond (goesOn (spec.resumeChecks p q most room w) p (w
 
 -- What the call leaves of all that is lent, w being what it finds. The outcome is that of the definition. Refused before its work it has changed nothing. Where
 -- no stage is under way it has changed nothing beside the rows. Else the tables beside the rows hold what belongs to the rows that the stage had, the one
--- beside
--- the basis the degrees of the rows that it was given; past these, and so past the room, nothing is changed.
+-- beside the basis the degrees of the rows that it was given; past these, and so past the room, nothing is changed.
 pub record LeftBy (p q most room budget : ℕ) (w : Work) (sizes : List ℕ) (x : Sides) (o : Result) (sizes′ : List ℕ) (x′ : Sides) : Type 0 where
   pub outcome : o ≡ spec.resume p q most room budget w
   pub refused : (n : ℕ) (values : List ℕ) → spec.resumeChecks p q most room w ≡ paper.refuse n values

@@ -1,6 +1,5 @@
 -- The user's first sentence, for the engine: a map built one group of equations after the other, loaded as a whole, or walked to the end has one list. Open
--- this
--- file after Kinds.antt. Assumes nothing.
+-- this file after Kinds.antt. Assumes nothing.
 use mathlib.Core.Path.{_≡_, sym, _∙_}
 use mathlib.Core.List.{List, _++_}
 use Prim.Native.Nat.{ℕ, _+_, _*_, _≤_, _<_}

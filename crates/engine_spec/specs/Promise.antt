@@ -513,9 +513,8 @@ module _ (base : Base) (p q : ℕ) (a : ℕ → ℕ → ℤ) (most room most′ 
 -- ---- the promise
 
 -- The work of a run that nobody else alters, with room for so many rows in the basis and in the stage's table: a start that is let go on, plain or from the
--- whole
--- list of the equations before, then any calls, refused ones included, with any arguments, and tables lent anew with the rows that were in them. That the list
--- handed over is the whole list of the equations before cannot be checked: it is the premise.
+-- whole list of the equations before, then any calls, refused ones included, with any arguments, and tables lent anew with the rows that were in them. That
+-- the list handed over is the whole list of the equations before cannot be checked: it is the premise.
 pub data RunsOn (base : Base) (p q : ℕ) (coefs : List ℤ) : ℕ → ℕ → Work → Type 0 where
   afterStart : (most room : ℕ) (w : Work) → base .p ≡ 0 → most * q ≤ length (w .basis) → room * q ≤ length (w .stage .table)
       → start p q coefs most w .answer ≡ started → RunsOn base p q coefs most room (start p q coefs most w .work)
