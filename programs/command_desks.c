@@ -117,7 +117,7 @@ static void tell_list(const char *how, const office *of, const solved *s)
 {
     printf("\n%s: %zu loop%s", how, s->loops_len, s->loops_len == 1 ? "" : "s");
     if (s->walked) printf(", %" PRIu64 " steps", s->last.steps);
-    puts(s->complete ? "" : ", NOT complete");
+    puts(s->complete ? "" : s->q == 0 ? ", NOT begun" : ", NOT complete");
     rows_in_words(stdout, &of->m, s->loops, s->loops_len);
 }
 
@@ -177,7 +177,8 @@ static int desks(const options *o)
     memset(&built, 0, sizeof built);
     int status = o->words_len == 1 ? read_pages(o, &of) : read_files(o, &of);
     if (status == STATUS_COMPLETE) status = solve_one(o, &of, true, &whole);
-    int second = has_lists(status) ? solve_one(o, &of, false, &built) : status;
+    /* an interrupt ends both */
+    int second = has_lists(status) && !whole.interrupted ? solve_one(o, &of, false, &built) : status;
     if (has_lists(status) && has_lists(second)) status = tell(&of, &whole, &built);
     else status = second;
     if (has_lists(status)) status = fflush(stdout) == 0 ? status : STATUS_NOTHING;
