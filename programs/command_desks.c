@@ -115,9 +115,14 @@ static void remove_kept(const options *o)
 
 static void tell_list(const char *how, const office *of, const solved *s)
 {
+    if (!s->complete && s->loops_len == 0) {
+        /* none is not "no loops" */
+        printf("\n%s: %s\n", how, s->q == 0 ? "not begun" : "NOT complete; no loop is sure before the end");
+        return;
+    }
     printf("\n%s: %zu loop%s", how, s->loops_len, s->loops_len == 1 ? "" : "s");
     if (s->walked) printf(", %" PRIu64 " steps", s->last.steps);
-    puts(s->complete ? "" : s->q == 0 ? ", NOT begun" : ", NOT complete");
+    puts(s->complete ? "" : ", NOT complete");
     rows_in_words(stdout, &of->m, s->loops, s->loops_len);
 }
 
