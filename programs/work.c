@@ -224,6 +224,7 @@ int work(const problem *what, const char *name, const char *kept, solved *out)
     set_interrupts(SIG_DFL);
     out->q = what->q;
     out->complete = s == RUN_COMPLETE;
+    out->interrupted = !out->complete && interrupted;
     out->has_wanted = what->rights != NULL || what->lower != NULL;
     out->last = solve_progress(r);
     out->walked = what->how == BY_WALK;
