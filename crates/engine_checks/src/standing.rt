@@ -1,6 +1,6 @@
 // What each call checks before its work.
 ghost use mathlib.Core.Path.{_≡_};
-ghost use Prim.Native.Nat.{_*_};
+ghost use Prim.Native.Nat.{_*_, _≤_};
 ghost use lib.ListN.{length};
 ghost use Rattle.checks.specs.Coefficients.{coefficientChecks};
 ghost use Rattle.engine_spec.specs.Calls.{combineChecks, rowLimit, takeChecks};

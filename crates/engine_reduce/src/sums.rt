@@ -1,7 +1,7 @@
 // The test of a sum of two rows, `upper` and `lower`, whose value is `sum`.
 ghost use mathlib.Core.Path.{_≡_};
 ghost use mathlib.Core.Bool.{_&&_};
-ghost use Prim.Native.Nat.{_+_, _*_, _<_};
+ghost use Prim.Native.Nat.{_+_, _*_, _≤_, _<_};
 ghost use lib.Signed.{leZ};
 ghost use Rattle.definitions.specs.Tables.{at};
 ghost use Rattle.engine_spec.specs.Reduction.{isWithin};

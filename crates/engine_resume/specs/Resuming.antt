@@ -39,7 +39,7 @@ use Rattle.engine_calls.specs.declared.Record.{Record}
 use Rattle.engine_checks.specs.Room.{StageFits}
 use Rattle.engine_checks.specs.Sizes.{Sized}
 use Rattle.engine_ends.specs.Closing.{Closing}
-use Rattle.engine_resume.specs.EngineLaws.{ended, run-by-stage}
+use Rattle.engine_resume.specs.EngineLaws.{ended, run-by-stage, stageRun}
 
 -- ---- the record and the stage
 
