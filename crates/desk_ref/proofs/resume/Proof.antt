@@ -19,9 +19,9 @@ use Rattle.walk_ref.proofs.Behind.{copies, lends, less₁, with₁, values₁, 
 use Rattle.desk_ref.proofs.Behind.{puts-back}
 use Rattle.desk.proofs.resume as resumed
 use Rattle.desk.proofs.resume.Symbol as resumed-def
-use Rattle.desk.proofs.resume.Symbol.{name as #desks·resume}
+use Rattle.desk.proofs.resume.Symbol.{name as #desk·resume}
 use Rattle.desk.proofs.resume.Met as resumed-thm
-use Rattle.desk_ref.proofs.resume.Key.{name as #desk-solver·resume}
+use Rattle.desk_ref.proofs.resume.Key.{name as #desk-ref·resume}
 use Rattle.desk_ref.proofs.resume as resume
 use Rattle.desk_ref.proofs.resume.Statement as stated
 use Rattle.desk_ref.proofs.resume.Code as code
@@ -31,7 +31,7 @@ unfolding code.routine
 resume-spec 𝓤 H 𝓜 𝓖 𝓡 =
     let c : Clauses 𝓤 resumed.ended = resumed.clauses 𝓤 H (𝓖 .A) (𝓜 .mem) (𝓡 .run) in
     let callee : Contract 𝓤 = Met 𝓤 H (𝓖 .A) resumed.ended c in
-    proved 𝓤 H 𝓜 𝓖 𝓡 resume.ended (resume.clauses 𝓤 H (𝓖 .A) (𝓜 .mem) (𝓡 .run)) code.env #desk-solver·resume code.function (code.unfolded 𝓤 H 𝓜 𝓡)
+    proved 𝓤 H 𝓜 𝓖 𝓡 resume.ended (resume.clauses 𝓤 H (𝓖 .A) (𝓜 .mem) (𝓡 .run)) code.env #desk-ref·resume code.function (code.unfolded 𝓤 H 𝓜 𝓡)
     (λ κs. (
       number w64,
       (
@@ -54,7 +54,7 @@ resume-spec 𝓤 H 𝓜 𝓖 𝓡 =
     lends ! 5 10 11 (are .1 .1 .1 .1 .0 .0 .1 .0) refl refl refl refl refl refl refl refl $
     lends ! 6 12 13 (are .1 .1 .1 .1 .1 .0 .0 .1 .0) refl refl refl refl refl refl refl refl $
     copies 4 6 7 (κs .1 .1 .1 .1 .0) (qs .1 .1 .1 .1 .0) r ! _ _ _ _ 14 refl refl refl refl $
-    calls-at ! fm callee (cited 𝓤 H callee 𝓜 𝓡 code.env #desks·resume resumed-def.routine code.calls-desks·resume (resumed-thm.met 𝓤 H 𝓜 𝓖 𝓡)) y
+    calls-at ! fm callee (cited 𝓤 H callee 𝓜 𝓡 code.env #desk·resume resumed-def.routine code.calls-desk·resume (resumed-thm.met 𝓤 H 𝓜 𝓖 𝓡)) y
     -- [what the call is handed; the open borrow, four entries; the locals]: local n stands at place n + 5
     (and-then ! (here ! 6 refl)
     (and-then ! (here ! 7 refl)

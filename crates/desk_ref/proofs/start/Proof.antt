@@ -18,9 +18,9 @@ use Rattle.walk_ref.proofs.Behind.{copies, lends, less₁, with₁, values₁, 
 use Rattle.desk_ref.proofs.Behind.{puts-back}
 use Rattle.desk.proofs.start as started
 use Rattle.desk.proofs.start.Symbol as started-def
-use Rattle.desk.proofs.start.Symbol.{name as #desks·start}
+use Rattle.desk.proofs.start.Symbol.{name as #desk·start}
 use Rattle.desk.proofs.start.Met as started-thm
-use Rattle.desk_ref.proofs.start.Key.{name as #desk-solver·start}
+use Rattle.desk_ref.proofs.start.Key.{name as #desk-ref·start}
 use Rattle.desk_ref.proofs.start as start
 use Rattle.desk_ref.proofs.start.Statement as stated
 use Rattle.desk_ref.proofs.start.Code as code
@@ -30,7 +30,7 @@ unfolding code.routine
 start-spec 𝓤 H 𝓜 𝓖 𝓡 =
     let c : Clauses 𝓤 started.ended = started.clauses 𝓤 H (𝓖 .A) (𝓜 .mem) (𝓡 .run) in
     let callee : Contract 𝓤 = Met 𝓤 H (𝓖 .A) started.ended c in
-    proved 𝓤 H 𝓜 𝓖 𝓡 start.ended (start.clauses 𝓤 H (𝓖 .A) (𝓜 .mem) (𝓡 .run)) code.env #desk-solver·start code.function (code.unfolded 𝓤 H 𝓜 𝓡)
+    proved 𝓤 H 𝓜 𝓖 𝓡 start.ended (start.clauses 𝓤 H (𝓖 .A) (𝓜 .mem) (𝓡 .run)) code.env #desk-ref·start code.function (code.unfolded 𝓤 H 𝓜 𝓡)
     (λ κs. (
       number w64,
       (
@@ -52,7 +52,7 @@ start-spec 𝓤 H 𝓜 𝓖 𝓡 =
     let y : callee .Ghost = ((less₁ κs, less₁ qs, tt, with₁ a (now r), values₁ recordVal a tt), tt) in
     lends ! 5 9 10 (are .1 .1 .1 .1 .0 .0 .1 .0) refl refl refl refl refl refl refl refl $
     copies 4 6 7 (κs .1 .1 .1 .1 .0) (qs .1 .1 .1 .1 .0) r ! _ _ _ _ 11 refl refl refl refl $
-    calls-at ! fm callee (cited 𝓤 H callee 𝓜 𝓡 code.env #desks·start started-def.routine code.calls-desks·start (started-thm.met 𝓤 H 𝓜 𝓖 𝓡)) y
+    calls-at ! fm callee (cited 𝓤 H callee 𝓜 𝓡 code.env #desk·start started-def.routine code.calls-desk·start (started-thm.met 𝓤 H 𝓜 𝓖 𝓡)) y
     -- [what the call is handed; the open borrow, four entries; the locals]: local n stands at place n + 5
     (and-then ! (here ! 6 refl)
     (and-then ! (here ! 7 refl)

@@ -16,9 +16,9 @@ use Rattle.walk_ref.proofs.Walk.{Met, proved}
 use Rattle.walk_ref.proofs.Behind.{less, with, values, shared, lends, copies, puts-back}
 use Rattle.seat.proofs.started as started
 use Rattle.seat.proofs.started.Symbol as started-def
-use Rattle.seat.proofs.started.Symbol.{name as #training·started}
+use Rattle.seat.proofs.started.Symbol.{name as #seat·started}
 use Rattle.seat.proofs.started.Met as started-thm
-use Rattle.seat_ref.proofs.start.Key.{name as #training-solver·start}
+use Rattle.seat_ref.proofs.start.Key.{name as #seat-ref·start}
 use Rattle.seat_ref.proofs.start as start
 use Rattle.seat_ref.proofs.start.Statement as stated
 use Rattle.seat_ref.proofs.start.Code as code
@@ -28,7 +28,7 @@ unfolding code.routine
 start-spec 𝓤 H 𝓜 𝓖 𝓡 =
     let c : Clauses 𝓤 started.ended = started.clauses 𝓤 H (𝓖 .A) (𝓜 .mem) (𝓡 .run) in
     let callee : Contract 𝓤 = Met 𝓤 H (𝓖 .A) started.ended c in
-    proved 𝓤 H 𝓜 𝓖 𝓡 start.ended (start.clauses 𝓤 H (𝓖 .A) (𝓜 .mem) (𝓡 .run)) code.env #training-solver·start code.function (code.unfolded 𝓤 H 𝓜 𝓡)
+    proved 𝓤 H 𝓜 𝓖 𝓡 start.ended (start.clauses 𝓤 H (𝓖 .A) (𝓜 .mem) (𝓡 .run)) code.env #seat-ref·start code.function (code.unfolded 𝓤 H 𝓜 𝓡)
     (λ κs. shared κs [] tt) (λ κs a t. t)
     (λ fm κs qs a g are leave bs.
     let r : RefT Record = a .1 .1 .1 .1 .1 .0 in
@@ -36,7 +36,7 @@ start-spec 𝓤 H 𝓜 𝓖 𝓡 =
     lends ! 4 8 9 (are .1 .1 .1 .0 .0 .1 .0) refl refl refl refl refl refl refl refl $
     lends ! 5 10 11 (are .1 .1 .1 .1 .0 .0 .1 .0) refl refl refl refl refl refl refl refl $
     copies 3 5 6 (κs .1 .1 .1 .0) (qs .1 .1 .1 .0) r ! _ _ _ _ 12 refl refl refl refl $
-    calls-at ! fm callee (cited 𝓤 H callee 𝓜 𝓡 code.env #training·started started-def.routine code.calls-training·started (started-thm.met 𝓤 H 𝓜 𝓖 𝓡)) y
+    calls-at ! fm callee (cited 𝓤 H callee 𝓜 𝓡 code.env #seat·started started-def.routine code.calls-seat·started (started-thm.met 𝓤 H 𝓜 𝓖 𝓡)) y
     -- [what the call is handed; the open borrow, four entries; the locals]: local n stands at place n + 5
     (and-then ! (here ! 6 refl)
     (and-then ! (here ! 7 refl)

@@ -16,9 +16,9 @@ use Rattle.walk_ref.proofs.Walk.{Met, proved}
 use Rattle.walk_ref.proofs.Behind.{less, with, values, shared, lends, copies, puts-back}
 use Rattle.single.proofs.started as started
 use Rattle.single.proofs.started.Symbol as started-def
-use Rattle.single.proofs.started.Symbol.{name as #single-file-calls·started}
+use Rattle.single.proofs.started.Symbol.{name as #single·started}
 use Rattle.single.proofs.started.Met as started-thm
-use Rattle.single.proofs.start.Key.{name as #single-file-calls·start}
+use Rattle.single.proofs.start.Key.{name as #single·start}
 use Rattle.single.proofs.start as start
 use Rattle.single.proofs.start.Statement as stated
 use Rattle.single.proofs.start.Code as code
@@ -28,7 +28,7 @@ unfolding code.routine
 start-spec 𝓤 H 𝓜 𝓖 𝓡 =
     let c : Clauses 𝓤 started.ended = started.clauses 𝓤 H (𝓖 .A) (𝓜 .mem) (𝓡 .run) in
     let callee : Contract 𝓤 = Met 𝓤 H (𝓖 .A) started.ended c in
-    proved 𝓤 H 𝓜 𝓖 𝓡 start.ended (start.clauses 𝓤 H (𝓖 .A) (𝓜 .mem) (𝓡 .run)) code.env #single-file-calls·start code.function (code.unfolded 𝓤 H 𝓜 𝓡)
+    proved 𝓤 H 𝓜 𝓖 𝓡 start.ended (start.clauses 𝓤 H (𝓖 .A) (𝓜 .mem) (𝓡 .run)) code.env #single·start code.function (code.unfolded 𝓤 H 𝓜 𝓡)
     (λ κs. shared κs [] tt) (λ κs a t. t)
     (λ fm κs qs a g are leave bs.
     let r : RefT Record = a .1 .1 .1 .1 .1 .0 in
@@ -37,7 +37,7 @@ start-spec 𝓤 H 𝓜 𝓖 𝓡 =
     lends ! 5 10 11 (are .1 .1 .1 .1 .0 .0 .1 .0) refl refl refl refl refl refl refl refl $
     copies 3 5 6 (κs .1 .1 .1 .0) (qs .1 .1 .1 .0) r ! _ _ _ _ 12 refl refl refl refl $
     calls-at ! fm callee
-    (cited 𝓤 H callee 𝓜 𝓡 code.env #single-file-calls·started started-def.routine code.calls-single-file-calls·started (started-thm.met 𝓤 H 𝓜 𝓖 𝓡)) y
+    (cited 𝓤 H callee 𝓜 𝓡 code.env #single·started started-def.routine code.calls-single·started (started-thm.met 𝓤 H 𝓜 𝓖 𝓡)) y
     -- [what the call is handed; the open borrow, four entries; the locals]: local n stands at place n + 5
     (and-then ! (here ! 6 refl)
     (and-then ! (here ! 7 refl)

@@ -18,7 +18,7 @@ use Rattle.starts.proofs.started as started
 use Rattle.starts.proofs.started.Symbol as started-def
 use Rattle.starts.proofs.started.Symbol.{name as #starts·started}
 use Rattle.starts.proofs.started.Met as started-thm
-use Rattle.walk_ref.proofs.start.Key.{name as #solver·start}
+use Rattle.walk_ref.proofs.start.Key.{name as #walk-ref·start}
 use Rattle.walk_ref.proofs.start as start
 use Rattle.walk_ref.proofs.start.Statement as stated
 use Rattle.walk_ref.proofs.start.Code as code
@@ -28,7 +28,7 @@ unfolding code.routine
 start-spec 𝓤 H 𝓜 𝓖 𝓡 =
     let c : Clauses 𝓤 started.ended = started.clauses 𝓤 H (𝓖 .A) (𝓜 .mem) (𝓡 .run) in
     let callee : Contract 𝓤 = Met 𝓤 H (𝓖 .A) started.ended c in
-    proved 𝓤 H 𝓜 𝓖 𝓡 start.ended (start.clauses 𝓤 H (𝓖 .A) (𝓜 .mem) (𝓡 .run)) code.env #solver·start code.function (code.unfolded 𝓤 H 𝓜 𝓡)
+    proved 𝓤 H 𝓜 𝓖 𝓡 start.ended (start.clauses 𝓤 H (𝓖 .A) (𝓜 .mem) (𝓡 .run)) code.env #walk-ref·start code.function (code.unfolded 𝓤 H 𝓜 𝓡)
     (λ κs. shared κs [] tt) (λ κs a t. t)
     (λ fm κs qs a g are leave bs.
     let r : RefT Record = a .1 .1 .1 .1 .1 .0 in

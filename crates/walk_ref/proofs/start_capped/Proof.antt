@@ -19,7 +19,7 @@ use Rattle.starts.proofs.started_capped as started
 use Rattle.starts.proofs.started_capped.Symbol as started-def
 use Rattle.starts.proofs.started_capped.Symbol.{name as #starts·started-capped}
 use Rattle.starts.proofs.started_capped.Met as started-thm
-use Rattle.walk_ref.proofs.start_capped.Key.{name as #solver·start-capped}
+use Rattle.walk_ref.proofs.start_capped.Key.{name as #walk-ref·start-capped}
 use Rattle.walk_ref.proofs.start_capped as start
 use Rattle.walk_ref.proofs.start_capped.Statement as stated
 use Rattle.walk_ref.proofs.start_capped.Code as code
@@ -29,7 +29,7 @@ unfolding code.routine
 start-capped-spec 𝓤 H 𝓜 𝓖 𝓡 =
     let c : Clauses 𝓤 started.ended = started.clauses 𝓤 H (𝓖 .A) (𝓜 .mem) (𝓡 .run) in
     let callee : Contract 𝓤 = Met 𝓤 H (𝓖 .A) started.ended c in
-    proved 𝓤 H 𝓜 𝓖 𝓡 start.ended (start.clauses 𝓤 H (𝓖 .A) (𝓜 .mem) (𝓡 .run)) code.env #solver·start-capped code.function (code.unfolded 𝓤 H 𝓜 𝓡)
+    proved 𝓤 H 𝓜 𝓖 𝓡 start.ended (start.clauses 𝓤 H (𝓖 .A) (𝓜 .mem) (𝓡 .run)) code.env #walk-ref·start-capped code.function (code.unfolded 𝓤 H 𝓜 𝓡)
     (λ κs. shared₂ i32 κs [] tt) (λ κs a t. t)
     (λ fm κs qs a g are leave bs.
     let r : RefT Record = a .1 .1 .1 .1 .1 .1 .1 .0 in

@@ -27,10 +27,10 @@ use Rattle.walk_ref.proofs.Walk.{Met, number, proved}
 use Rattle.walk_ref.proofs.Behind.{with, shared, lends}
 use Rattle.walk_ref.proofs.resume as resume
 use Rattle.walk_ref.proofs.resume.Symbol as resume-def
-use Rattle.walk_ref.proofs.resume.Symbol.{name as #solver·resume}
+use Rattle.walk_ref.proofs.resume.Symbol.{name as #walk-ref·resume}
 use Rattle.walk_ref.proofs.resume.Met as resume-thm
 use Rattle.try_ref.proofs.Loan.{values, more, owned, lentAt, loans, gives-back}
-use Rattle.try_ref.proofs.lent.resumed.Key.{name as #try_solver·resumed}
+use Rattle.try_ref.proofs.lent.resumed.Key.{name as #try_walk-ref·resumed}
 use Rattle.try_ref.proofs.lent.resumed as resumed
 use Rattle.try_ref.proofs.lent.resumed.Statement as stated
 use Rattle.try_ref.proofs.lent.resumed.Code as code
@@ -40,7 +40,7 @@ unfolding code.routine
 resumed-spec 𝓤 H 𝓜 𝓖 𝓡 =
     let c : Clauses 𝓤 resume.ended = resume.clauses 𝓤 H (𝓖 .A) (𝓜 .mem) (𝓡 .run) in
     let callee : Contract 𝓤 = Met 𝓤 H (𝓖 .A) resume.ended c in
-    proved 𝓤 H 𝓜 𝓖 𝓡 resumed.ended (resumed.clauses 𝓤 H (𝓖 .A) (𝓜 .mem) (𝓡 .run)) code.env #try_solver·resumed code.function
+    proved 𝓤 H 𝓜 𝓖 𝓡 resumed.ended (resumed.clauses 𝓤 H (𝓖 .A) (𝓜 .mem) (𝓡 .run)) code.env #try_walk-ref·resumed code.function
     (code.unfolded 𝓤 H 𝓜 𝓡)
     (λ κs. owned κs (u64 ∷ []) (number w64, tt)) (λ κs a t. t)
     (λ fm κs qs a g are leave bs.
@@ -57,7 +57,7 @@ resumed-spec 𝓤 H 𝓜 𝓖 𝓡 =
     let x : Denots Rs = with a (lentAt b δ r) in
     let y : callee .Ghost = ((κs′, more qs fullShare, tt, x, values Rs (shared κs′ (u64 ∷ []) (number w64, tt)) x), tt) in
     calls-at ! fm callee
-    (cited 𝓤 H callee 𝓜 𝓡 code.env #solver·resume resume-def.routine code.calls-solver·resume (resume-thm.met 𝓤 H 𝓜 𝓖 𝓡)) y
+    (cited 𝓤 H callee 𝓜 𝓡 code.env #walk-ref·resume resume-def.routine code.calls-walk-ref·resume (resume-thm.met 𝓤 H 𝓜 𝓖 𝓡)) y
     -- [what the call is handed; the lender's part; locals 0 to 7; locals 9 on]
     (and-then ! (here ! 3 refl) (and-then ! (here ! 4 refl) (and-then ! (here ! 5 refl) (and-then ! (here ! 12 refl) (and-then ! (here ! 14 refl)
     (and-then ! (here ! 15 refl) (and-then ! (here ! 9 refl) (no-more !)))))))) (λ w.

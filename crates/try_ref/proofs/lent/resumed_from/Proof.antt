@@ -27,10 +27,10 @@ use Rattle.walk_ref.proofs.Walk.{Met, number, proved}
 use Rattle.walk_ref.proofs.Behind.{with₂, shared₂, lends}
 use Rattle.lower_ref.proofs.resume_from as resume-from
 use Rattle.lower_ref.proofs.resume_from.Symbol as resume-from-def
-use Rattle.lower_ref.proofs.resume_from.Symbol.{name as #lower-solver·resume-from}
+use Rattle.lower_ref.proofs.resume_from.Symbol.{name as #lower-ref·resume-from}
 use Rattle.lower_ref.proofs.resume_from.Met as resume-from-thm
 use Rattle.try_ref.proofs.Loan.{values, more₂, owned₂, lentAt, loans, gives-back}
-use Rattle.try_ref.proofs.lent.resumed_from.Key.{name as #try_solver·resumed-from}
+use Rattle.try_ref.proofs.lent.resumed_from.Key.{name as #try_walk-ref·resumed-from}
 use Rattle.try_ref.proofs.lent.resumed_from as resumed-from
 use Rattle.try_ref.proofs.lent.resumed_from.Statement as stated
 use Rattle.try_ref.proofs.lent.resumed_from.Code as code
@@ -40,7 +40,7 @@ unfolding code.routine
 resumed-from-spec 𝓤 H 𝓜 𝓖 𝓡 =
     let c : Clauses 𝓤 resume-from.ended = resume-from.clauses 𝓤 H (𝓖 .A) (𝓜 .mem) (𝓡 .run) in
     let callee : Contract 𝓤 = Met 𝓤 H (𝓖 .A) resume-from.ended c in
-    proved 𝓤 H 𝓜 𝓖 𝓡 resumed-from.ended (resumed-from.clauses 𝓤 H (𝓖 .A) (𝓜 .mem) (𝓡 .run)) code.env #try_solver·resumed-from code.function
+    proved 𝓤 H 𝓜 𝓖 𝓡 resumed-from.ended (resumed-from.clauses 𝓤 H (𝓖 .A) (𝓜 .mem) (𝓡 .run)) code.env #try_walk-ref·resumed-from code.function
     (code.unfolded 𝓤 H 𝓜 𝓡)
     (λ κs. owned₂ u32 κs (u64 ∷ []) (number w64, tt)) (λ κs a t. t)
     (λ fm κs qs a g are leave bs.
@@ -58,7 +58,7 @@ resumed-from-spec 𝓤 H 𝓜 𝓖 𝓡 =
     let x : Denots Rs = with₂ a (lentAt b δ r) in
     let y : callee .Ghost = ((κs′, more₂ qs fullShare, tt, x, values Rs (shared₂ u32 κs′ (u64 ∷ []) (number w64, tt)) x), tt) in
     calls-at ! fm callee
-    (cited 𝓤 H callee 𝓜 𝓡 code.env #lower-solver·resume-from resume-from-def.routine code.calls-lower-solver·resume-from (resume-from-thm.met 𝓤 H 𝓜 𝓖 𝓡)) y
+    (cited 𝓤 H callee 𝓜 𝓡 code.env #lower-ref·resume-from resume-from-def.routine code.calls-lower-ref·resume-from (resume-from-thm.met 𝓤 H 𝓜 𝓖 𝓡)) y
     -- [what the call is handed; the lender's part; locals 0 to 9; locals 11 on]
     (and-then ! (here ! 3 refl) (and-then ! (here ! 4 refl) (and-then ! (here ! 5 refl) (and-then ! (here ! 6 refl) (and-then ! (here ! 14 refl)
     (and-then ! (here ! 16 refl) (and-then ! (here ! 18 refl) (and-then ! (here ! 19 refl) (and-then ! (here ! 11 refl) (no-more !)))))))))) (λ w.

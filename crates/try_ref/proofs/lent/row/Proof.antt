@@ -30,13 +30,13 @@ use Rattle.walk_ref.proofs.Frame.{here, ends}
 use Rattle.walk_ref.proofs.Walk.{Met, proved, hands, returned, silent, number, shared-slice, struct}
 use Rattle.walk_ref.proofs.Reader.new as new
 use Rattle.walk_ref.proofs.Reader.new.Symbol as new-def
-use Rattle.walk_ref.proofs.Reader.new.Symbol.{name as #solver·new}
+use Rattle.walk_ref.proofs.Reader.new.Symbol.{name as #walk-ref·new}
 use Rattle.walk_ref.proofs.Reader.new.Met as new-thm
 use Rattle.walk_ref.proofs.Reader.row as shown
 use Rattle.walk_ref.proofs.Reader.row.Symbol as shown-def
-use Rattle.walk_ref.proofs.Reader.row.Symbol.{name as #solver·row}
+use Rattle.walk_ref.proofs.Reader.row.Symbol.{name as #walk-ref·row}
 use Rattle.walk_ref.proofs.Reader.row.Met as shown-thm
-use Rattle.try_ref.proofs.lent.row.Key.{name as #try_solver·row}
+use Rattle.try_ref.proofs.lent.row.Key.{name as #try_walk-ref·row}
 use Rattle.try_ref.proofs.lent.row as row
 use Rattle.try_ref.proofs.lent.row.Statement as stated
 use Rattle.try_ref.proofs.lent.row.Code as code
@@ -48,7 +48,7 @@ row-spec 𝓤 H 𝓜 𝓖 𝓡 =
     let d : Clauses 𝓤 shown.ended = shown.clauses 𝓤 H (𝓖 .A) (𝓜 .mem) (𝓡 .run) in
     let makes : Contract 𝓤 = Met 𝓤 H (𝓖 .A) new.ended c in
     let shows-row : Contract 𝓤 = Met 𝓤 H (𝓖 .A) shown.ended d in
-    proved 𝓤 H 𝓜 𝓖 𝓡 row.ended (row.clauses 𝓤 H (𝓖 .A) (𝓜 .mem) (𝓡 .run)) code.env #try_solver·row code.function (code.unfolded 𝓤 H 𝓜 𝓡)
+    proved 𝓤 H 𝓜 𝓖 𝓡 row.ended (row.clauses 𝓤 H (𝓖 .A) (𝓜 .mem) (𝓡 .run)) code.env #try_walk-ref·row code.function (code.unfolded 𝓤 H 𝓜 𝓡)
     (λ κs. (shared-slice (named 0) (κs .0) u32, (number w64, (struct S.the-type S′.the-laws, (number w64, tt))))) (λ κs a t. t)
     (λ fm κs qs a g are leave bs.
     let α : NamedLft = namedLft 1 0 tt κs in
@@ -59,7 +59,7 @@ row-spec 𝓤 H 𝓜 𝓖 𝓡 =
     -- [what list and q own; what the others own; the tokens; the locals]
     move ! (1 ∷ []) $ fsplit ! $ move ! (1 ∷ []) $ fsplit ! $ nothing ! $ move ! (1 ∷ 0 ∷ []) $ fjoin ! $ move ! (2 ∷ 0 ∷ []) $ fjoin ! $
     move ! (2 ∷ 0 ∷ []) $ hands ! $
-    calls-at ! fm makes (cited 𝓤 H makes 𝓜 𝓡 code.env #solver·new new-def.routine code.calls-solver·Reader·new (new-thm.met 𝓤 H 𝓜 𝓖 𝓡)) y
+    calls-at ! fm makes (cited 𝓤 H makes 𝓜 𝓡 code.env #walk-ref·new new-def.routine code.calls-walk-ref·Reader·new (new-thm.met 𝓤 H 𝓜 𝓖 𝓡)) y
     -- [what the call is handed; what the others own; the locals]
     (and-then ! (here ! 3 refl) (and-then ! (here ! 4 refl) (no-more !))) (λ w.
     returned ! tt new.ended c y w (λ v ws. peeks ! (T.the-row α) (Is (T.the-row α)) (shows 𝓤 H (𝓖 .A) (T.the-row α)) v (w ∷ []) (λ is.
@@ -72,7 +72,7 @@ row-spec 𝓤 H 𝓜 𝓖 𝓡 =
     -- [what the reader owns; the tokens; what is said of last values; what the others own; the locals]
     move ! (2 ∷ []) $ drop ! $ move ! (0 ∷ 2 ∷ []) $ fjoin ! $ move ! (1 ∷ 0 ∷ []) $ hands ! $
     let z : shows-row .Ghost = ((κs, qs, tt, (h, a .1 .1), (w ∷ [], (S′.lowered (a .1 .1 .0) ∷ [], (uint-vals w64 (a .1 .1 .1 .0), tt)))), tt) in
-    calls-at ! fm shows-row (cited 𝓤 H shows-row 𝓜 𝓡 code.env #solver·row shown-def.routine code.calls-solver·Reader·row (shown-thm.met 𝓤 H 𝓜 𝓖 𝓡)) z
+    calls-at ! fm shows-row (cited 𝓤 H shows-row 𝓜 𝓡 code.env #walk-ref·row shown-def.routine code.calls-walk-ref·Reader·row (shown-thm.met 𝓤 H 𝓜 𝓖 𝓡)) z
     -- [what the call is handed; the locals]
     (and-then ! (here ! 7 refl) (and-then ! (here ! 4 refl) (and-then ! (here ! 5 refl) (no-more !)))) (λ w₂.
     returned ! tt shown.ended d z w₂ (λ p us. peeks ! Part (Is Part) (shows 𝓤 H (𝓖 .A) Part) p (w₂ ∷ []) (λ is-p.

@@ -26,10 +26,10 @@ use Rattle.walk_ref.proofs.Walk.{Met, proved}
 use Rattle.walk_ref.proofs.Behind.{with, shared, lends}
 use Rattle.walk_ref.proofs.start as start
 use Rattle.walk_ref.proofs.start.Symbol as start-def
-use Rattle.walk_ref.proofs.start.Symbol.{name as #solver·start}
+use Rattle.walk_ref.proofs.start.Symbol.{name as #walk-ref·start}
 use Rattle.walk_ref.proofs.start.Met as start-thm
 use Rattle.try_ref.proofs.Loan.{values, more, owned, lentAt, loans, gives-back}
-use Rattle.try_ref.proofs.lent.started.Key.{name as #try_solver·started}
+use Rattle.try_ref.proofs.lent.started.Key.{name as #try_walk-ref·started}
 use Rattle.try_ref.proofs.lent.started as started
 use Rattle.try_ref.proofs.lent.started.Statement as stated
 use Rattle.try_ref.proofs.lent.started.Code as code
@@ -39,7 +39,7 @@ unfolding code.routine
 started-spec 𝓤 H 𝓜 𝓖 𝓡 =
     let c : Clauses 𝓤 start.ended = start.clauses 𝓤 H (𝓖 .A) (𝓜 .mem) (𝓡 .run) in
     let callee : Contract 𝓤 = Met 𝓤 H (𝓖 .A) start.ended c in
-    proved 𝓤 H 𝓜 𝓖 𝓡 started.ended (started.clauses 𝓤 H (𝓖 .A) (𝓜 .mem) (𝓡 .run)) code.env #try_solver·started code.function
+    proved 𝓤 H 𝓜 𝓖 𝓡 started.ended (started.clauses 𝓤 H (𝓖 .A) (𝓜 .mem) (𝓡 .run)) code.env #try_walk-ref·started code.function
     (code.unfolded 𝓤 H 𝓜 𝓡)
     (λ κs. owned κs [] tt) (λ κs a t. t)
     (λ fm κs qs a g are leave bs.
@@ -56,7 +56,7 @@ started-spec 𝓤 H 𝓜 𝓖 𝓡 =
     let x : Denots Rs = with a (lentAt b δ r) in
     let y : callee .Ghost = ((κs′, more qs fullShare, tt, x, values Rs (shared κs′ [] tt) x), tt) in
     calls-at ! fm callee
-    (cited 𝓤 H callee 𝓜 𝓡 code.env #solver·start start-def.routine code.calls-solver·start (start-thm.met 𝓤 H 𝓜 𝓖 𝓡)) y
+    (cited 𝓤 H callee 𝓜 𝓡 code.env #walk-ref·start start-def.routine code.calls-walk-ref·start (start-thm.met 𝓤 H 𝓜 𝓖 𝓡)) y
     -- [what the call is handed; the lender's part; locals 0 to 6; locals 8 on]
     (and-then ! (here ! 3 refl) (and-then ! (here ! 4 refl) (and-then ! (here ! 5 refl) (and-then ! (here ! 11 refl) (and-then ! (here ! 13 refl)
     (and-then ! (here ! 14 refl) (no-more !))))))) (λ w.

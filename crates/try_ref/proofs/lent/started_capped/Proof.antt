@@ -27,10 +27,10 @@ use Rattle.walk_ref.proofs.Walk.{Met, proved}
 use Rattle.walk_ref.proofs.Behind.{with₂, shared₂, lends}
 use Rattle.walk_ref.proofs.start_capped as start-capped
 use Rattle.walk_ref.proofs.start_capped.Symbol as start-capped-def
-use Rattle.walk_ref.proofs.start_capped.Symbol.{name as #solver·start-capped}
+use Rattle.walk_ref.proofs.start_capped.Symbol.{name as #walk-ref·start-capped}
 use Rattle.walk_ref.proofs.start_capped.Met as start-capped-thm
 use Rattle.try_ref.proofs.Loan.{values, more₂, owned₂, lentAt, loans, gives-back}
-use Rattle.try_ref.proofs.lent.started_capped.Key.{name as #try_solver·started-capped}
+use Rattle.try_ref.proofs.lent.started_capped.Key.{name as #try_walk-ref·started-capped}
 use Rattle.try_ref.proofs.lent.started_capped as started-capped
 use Rattle.try_ref.proofs.lent.started_capped.Statement as stated
 use Rattle.try_ref.proofs.lent.started_capped.Code as code
@@ -40,7 +40,7 @@ unfolding code.routine
 started-capped-spec 𝓤 H 𝓜 𝓖 𝓡 =
     let c : Clauses 𝓤 start-capped.ended = start-capped.clauses 𝓤 H (𝓖 .A) (𝓜 .mem) (𝓡 .run) in
     let callee : Contract 𝓤 = Met 𝓤 H (𝓖 .A) start-capped.ended c in
-    proved 𝓤 H 𝓜 𝓖 𝓡 started-capped.ended (started-capped.clauses 𝓤 H (𝓖 .A) (𝓜 .mem) (𝓡 .run)) code.env #try_solver·started-capped code.function
+    proved 𝓤 H 𝓜 𝓖 𝓡 started-capped.ended (started-capped.clauses 𝓤 H (𝓖 .A) (𝓜 .mem) (𝓡 .run)) code.env #try_walk-ref·started-capped code.function
     (code.unfolded 𝓤 H 𝓜 𝓡)
     (λ κs. owned₂ i32 κs [] tt) (λ κs a t. t)
     (λ fm κs qs a g are leave bs.
@@ -58,7 +58,7 @@ started-capped-spec 𝓤 H 𝓜 𝓖 𝓡 =
     let x : Denots Rs = with₂ a (lentAt b δ r) in
     let y : callee .Ghost = ((κs′, more₂ qs fullShare, tt, x, values Rs (shared₂ i32 κs′ [] tt) x), tt) in
     calls-at ! fm callee
-    (cited 𝓤 H callee 𝓜 𝓡 code.env #solver·start-capped start-capped-def.routine code.calls-solver·start-capped (start-capped-thm.met 𝓤 H 𝓜 𝓖 𝓡)) y
+    (cited 𝓤 H callee 𝓜 𝓡 code.env #walk-ref·start-capped start-capped-def.routine code.calls-walk-ref·start-capped (start-capped-thm.met 𝓤 H 𝓜 𝓖 𝓡)) y
     -- [what the call is handed; the lender's part; locals 0 to 8; locals 10 on]
     (and-then ! (here ! 3 refl) (and-then ! (here ! 4 refl) (and-then ! (here ! 5 refl) (and-then ! (here ! 6 refl) (and-then ! (here ! 13 refl)
     (and-then ! (here ! 15 refl) (and-then ! (here ! 17 refl) (and-then ! (here ! 18 refl) (no-more !))))))))) (λ w.

@@ -27,10 +27,10 @@ use Rattle.walk_ref.proofs.Walk.{Met, proved}
 use Rattle.walk_ref.proofs.Behind.{with₂, shared₂, lends}
 use Rattle.lower_ref.proofs.start_from as start-from
 use Rattle.lower_ref.proofs.start_from.Symbol as start-from-def
-use Rattle.lower_ref.proofs.start_from.Symbol.{name as #lower-solver·start-from}
+use Rattle.lower_ref.proofs.start_from.Symbol.{name as #lower-ref·start-from}
 use Rattle.lower_ref.proofs.start_from.Met as start-from-thm
 use Rattle.try_ref.proofs.Loan.{values, more₂, owned₂, lentAt, loans, gives-back}
-use Rattle.try_ref.proofs.lent.started_from.Key.{name as #try_solver·started-from}
+use Rattle.try_ref.proofs.lent.started_from.Key.{name as #try_walk-ref·started-from}
 use Rattle.try_ref.proofs.lent.started_from as started-from
 use Rattle.try_ref.proofs.lent.started_from.Statement as stated
 use Rattle.try_ref.proofs.lent.started_from.Code as code
@@ -40,7 +40,7 @@ unfolding code.routine
 started-from-spec 𝓤 H 𝓜 𝓖 𝓡 =
     let c : Clauses 𝓤 start-from.ended = start-from.clauses 𝓤 H (𝓖 .A) (𝓜 .mem) (𝓡 .run) in
     let callee : Contract 𝓤 = Met 𝓤 H (𝓖 .A) start-from.ended c in
-    proved 𝓤 H 𝓜 𝓖 𝓡 started-from.ended (started-from.clauses 𝓤 H (𝓖 .A) (𝓜 .mem) (𝓡 .run)) code.env #try_solver·started-from code.function
+    proved 𝓤 H 𝓜 𝓖 𝓡 started-from.ended (started-from.clauses 𝓤 H (𝓖 .A) (𝓜 .mem) (𝓡 .run)) code.env #try_walk-ref·started-from code.function
     (code.unfolded 𝓤 H 𝓜 𝓡)
     (λ κs. owned₂ u32 κs [] tt) (λ κs a t. t)
     (λ fm κs qs a g are leave bs.
@@ -58,7 +58,7 @@ started-from-spec 𝓤 H 𝓜 𝓖 𝓡 =
     let x : Denots Rs = with₂ a (lentAt b δ r) in
     let y : callee .Ghost = ((κs′, more₂ qs fullShare, tt, x, values Rs (shared₂ u32 κs′ [] tt) x), tt) in
     calls-at ! fm callee
-    (cited 𝓤 H callee 𝓜 𝓡 code.env #lower-solver·start-from start-from-def.routine code.calls-lower-solver·start-from (start-from-thm.met 𝓤 H 𝓜 𝓖 𝓡)) y
+    (cited 𝓤 H callee 𝓜 𝓡 code.env #lower-ref·start-from start-from-def.routine code.calls-lower-ref·start-from (start-from-thm.met 𝓤 H 𝓜 𝓖 𝓡)) y
     -- [what the call is handed; the lender's part; locals 0 to 8; locals 10 on]
     (and-then ! (here ! 3 refl) (and-then ! (here ! 4 refl) (and-then ! (here ! 5 refl) (and-then ! (here ! 6 refl) (and-then ! (here ! 13 refl)
     (and-then ! (here ! 15 refl) (and-then ! (here ! 17 refl) (and-then ! (here ! 18 refl) (no-more !))))))))) (λ w.

@@ -29,9 +29,9 @@ use Rattle.walk_ref.proofs.Readable as R
 use Rattle.walk_ref.proofs.Readable.Laws as R′
 use Rattle.walk_ref.proofs.reader_answer as reader-answer
 use Rattle.walk_ref.proofs.reader_answer.Symbol as reader-answer-def
-use Rattle.walk_ref.proofs.reader_answer.Symbol.{name as #solver·reader-answer}
+use Rattle.walk_ref.proofs.reader_answer.Symbol.{name as #walk-ref·reader-answer}
 use Rattle.walk_ref.proofs.reader_answer.Met as reader-answer-thm
-use Rattle.walk_ref.proofs.Reader.answer.Key.{name as #solver·answer}
+use Rattle.walk_ref.proofs.Reader.answer.Key.{name as #walk-ref·answer}
 use Rattle.walk_ref.proofs.Reader.answer as answer
 use Rattle.walk_ref.proofs.Reader.answer.Statement as stated
 use Rattle.walk_ref.proofs.Reader.answer.Code as code
@@ -41,7 +41,7 @@ unfolding code.routine
 answer-spec 𝓤 H 𝓜 𝓖 𝓡 =
     let c : Clauses 𝓤 reader-answer.ended = reader-answer.clauses 𝓤 H (𝓖 .A) (𝓜 .mem) (𝓡 .run) in
     let callee : Contract 𝓤 = Met 𝓤 H (𝓖 .A) reader-answer.ended c in
-    proved 𝓤 H 𝓜 𝓖 𝓡 answer.ended (answer.clauses 𝓤 H (𝓖 .A) (𝓜 .mem) (𝓡 .run)) code.env #solver·answer code.function (code.unfolded 𝓤 H 𝓜 𝓡)
+    proved 𝓤 H 𝓜 𝓖 𝓡 answer.ended (answer.clauses 𝓤 H (𝓖 .A) (𝓜 .mem) (𝓡 .run)) code.env #walk-ref·answer code.function (code.unfolded 𝓤 H 𝓜 𝓡)
     (λ κs. (struct (T.the-type (namedLft 1 0 tt κs)) (T′.the-laws (namedLft 1 0 tt κs)), tt)) (λ κs a t. t)
     (λ fm κs qs a g are leave bs.
     let α : NamedLft = namedLft 1 0 tt κs in
@@ -51,7 +51,7 @@ answer-spec 𝓤 H 𝓜 𝓖 𝓡 =
     assigns ! (of-opd ! (load ! (from ! (fld ! refl (stop !))) (look-in ! 3 (sub ! 1 refl (whole !))))) (from ! (stop !)) (init ! 4 refl (tt, wt .1 .1 .0)) $
     nothing ! $ owned ! usize (Is usize) (uint-makes 𝓤 H (𝓖 .A) (givenOf 𝓤 H 𝓜 𝓖) w64) (a .0 .q) _ (refl, wt .1 .1 .0 .fits) $ fjoin ! $ nothing ! $ hands ! $
     calls-at ! fm callee
-    (cited 𝓤 H callee 𝓜 𝓡 code.env #solver·reader-answer reader-answer-def.routine code.calls-solver·reader-answer (reader-answer-thm.met 𝓤 H 𝓜 𝓖 𝓡)) y
+    (cited 𝓤 H callee 𝓜 𝓡 code.env #walk-ref·reader-answer reader-answer-def.routine code.calls-walk-ref·reader-answer (reader-answer-thm.met 𝓤 H 𝓜 𝓖 𝓡)) y
     -- [what the call is handed; the token; what the reader owns; the locals]
     (and-then ! (here ! 5 refl) (no-more !))
     (λ w. returned ! tt reader-answer.ended c y w (λ r ws. peeks ! R.the-row (Is R.the-row) (shows 𝓤 H (𝓖 .A) R.the-row) r (w ∷ []) (λ is.

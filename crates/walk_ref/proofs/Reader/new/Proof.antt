@@ -16,7 +16,7 @@ use Rattle.walk_ref.proofs.Frame.{here, ends}
 use Rattle.walk_ref.proofs.Walk.{states, silent, number, shared-slice, proved}
 use Rattle.walk_ref.proofs.Reader as T
 use Rattle.walk_ref.proofs.Reader.Laws as T′
-use Rattle.walk_ref.proofs.Reader.new.Key.{name as #solver·new}
+use Rattle.walk_ref.proofs.Reader.new.Key.{name as #walk-ref·new}
 use Rattle.walk_ref.proofs.Reader.new as new
 use Rattle.walk_ref.proofs.Reader.new.Statement as stated
 use Rattle.walk_ref.proofs.Reader.new.Code as code
@@ -24,7 +24,7 @@ use Rattle.walk_ref.proofs.Reader.new.Code as code
 pub new-spec : {M : Type 1} → stated.statement M
 unfolding code.routine
 new-spec 𝓤 H 𝓜 𝓖 𝓡 =
-    proved 𝓤 H 𝓜 𝓖 𝓡 new.ended (new.clauses 𝓤 H (𝓖 .A) (𝓜 .mem) (𝓡 .run)) code.env #solver·new code.function (code.unfolded 𝓤 H 𝓜 𝓡)
+    proved 𝓤 H 𝓜 𝓖 𝓡 new.ended (new.clauses 𝓤 H (𝓖 .A) (𝓜 .mem) (𝓡 .run)) code.env #walk-ref·new code.function (code.unfolded 𝓤 H 𝓜 𝓡)
     (λ κs. (shared-slice (named 0) (κs .0) u32, (number w64, tt))) (λ κs a t. t)
     (λ fm κs qs a g are leave bs.
     let α : NamedLft = namedLft 1 0 tt κs in

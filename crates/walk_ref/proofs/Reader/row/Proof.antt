@@ -31,9 +31,9 @@ use Rattle.calls.proofs.Solutions as S
 use Rattle.calls.proofs.Solutions.Laws as S′
 use Rattle.walk_ref.proofs.row_of as row-of
 use Rattle.walk_ref.proofs.row_of.Symbol as row-of-def
-use Rattle.walk_ref.proofs.row_of.Symbol.{name as #solver·row-of}
+use Rattle.walk_ref.proofs.row_of.Symbol.{name as #walk-ref·row-of}
 use Rattle.walk_ref.proofs.row_of.Met as row-of-thm
-use Rattle.walk_ref.proofs.Reader.row.Key.{name as #solver·row}
+use Rattle.walk_ref.proofs.Reader.row.Key.{name as #walk-ref·row}
 use Rattle.walk_ref.proofs.Reader.row as row
 use Rattle.walk_ref.proofs.Reader.row.Statement as stated
 use Rattle.walk_ref.proofs.Reader.row.Code as code
@@ -43,7 +43,7 @@ unfolding code.routine
 row-spec 𝓤 H 𝓜 𝓖 𝓡 =
     let c : Clauses 𝓤 row-of.ended = row-of.clauses 𝓤 H (𝓖 .A) (𝓜 .mem) (𝓡 .run) in
     let callee : Contract 𝓤 = Met 𝓤 H (𝓖 .A) row-of.ended c in
-    proved 𝓤 H 𝓜 𝓖 𝓡 row.ended (row.clauses 𝓤 H (𝓖 .A) (𝓜 .mem) (𝓡 .run)) code.env #solver·row code.function (code.unfolded 𝓤 H 𝓜 𝓡)
+    proved 𝓤 H 𝓜 𝓖 𝓡 row.ended (row.clauses 𝓤 H (𝓖 .A) (𝓜 .mem) (𝓡 .run)) code.env #walk-ref·row code.function (code.unfolded 𝓤 H 𝓜 𝓡)
     (λ κs. (struct (T.the-type (namedLft 1 0 tt κs)) (T′.the-laws (namedLft 1 0 tt κs)), (struct S.the-type S′.the-laws, (number w64, tt)))) (λ κs a t. t)
     (λ fm κs qs a g are leave bs.
     let α : NamedLft = namedLft 1 0 tt κs in
@@ -68,7 +68,7 @@ row-spec 𝓤 H 𝓜 𝓖 𝓡 =
     -- [what the list and q own; what the others own; the token; the locals]
     fsplit ! $ move ! (1 ∷ []) $ fsplit ! $ move ! (1 ∷ []) $ drop ! $ move ! (0 ∷ 2 ∷ []) $ fjoin ! $ move ! (1 ∷ 0 ∷ []) $ fjoin ! $
     move ! (1 ∷ 0 ∷ []) $ hands ! $
-    calls-at ! fm callee (cited 𝓤 H callee 𝓜 𝓡 code.env #solver·row-of row-of-def.routine code.calls-solver·row-of (row-of-thm.met 𝓤 H 𝓜 𝓖 𝓡)) y
+    calls-at ! fm callee (cited 𝓤 H callee 𝓜 𝓡 code.env #walk-ref·row-of row-of-def.routine code.calls-walk-ref·row-of (row-of-thm.met 𝓤 H 𝓜 𝓖 𝓡)) y
     -- [what the call is handed; the locals]
     (and-then ! (here ! 5 refl) (and-then ! (here ! 6 refl) (and-then ! (here ! 3 refl) (and-then ! (here ! 4 refl) (no-more !))))) (λ w.
     returned ! tt row-of.ended c y w (λ r ws. peeks ! Part (Is Part) (shows 𝓤 H (𝓖 .A) Part) r (w ∷ []) (λ is.
