@@ -24,6 +24,7 @@ enum { ABOVE_WORK = 300000, ABOVE_TURNS = 5000, ABOVE_MOST = 200 }; /* how long 
 enum { EQUAL = 2, LAST_EQUAL = 3, LAST_STAGE = 8, WEIGHT = 16 };
 enum { TRYING, LAST, COMPLETE };
 static const double NEVER = 1e300;
+static const uint64_t MOST_PACE = UINT64_C(1) << 40;
 
 struct dezgula_solver {
     size_t p, q;
@@ -402,6 +403,8 @@ static uint64_t give_up(dezgula_solver *s, uint64_t refusal)
     s->failed |= UINT64_C(1) << s->rule;
     s->over |= s->failed;
     if (s->phase == LAST) {
+        free(s->kept);
+        s->kept = NULL, s->kept_len = 0;
         s->over = s->failed, s->promised = UINT64_MAX, s->round = UINT64_MAX - 1;
         memset(s->tried, 0, sizeof s->tried);
     }
@@ -539,13 +542,15 @@ uint64_t dezgula_solver_work(dezgula_solver *s, uint64_t budget)
     for (clock_t before = begun, after; answer == DEZGULA_PAUSED && before - begun < fifty / 2; before = after) {
         answer = work(s, s->pace);
         after = clock();
-        if (after - before < fifty / 2 && s->pace < UINT64_C(1) << 40) s->pace *= 2;
+        if (after - before < fifty / 2 && s->pace < MOST_PACE) s->pace *= 2;
         else if (after - before > fifty && s->pace > 1) s->pace /= 2;
     }
     return answer;
 }
 
 void dezgula_solver_limit(dezgula_solver *s, size_t most) { s->most = most; }
+
+dezgula_system dezgula_solver_system(const dezgula_solver *s) { return (dezgula_system){s->p, s->q, s->coefs, s->p * s->q}; }
 
 dezgula_solver_progress dezgula_solver_told(const dezgula_solver *s)
 {
@@ -619,11 +624,14 @@ static bool right_numbers(const dezgula_solver *s, size_t length)
 {
     const dezgula_engine_record *r = &s->run.record, *k = &s->kept_record;
     const size_t most = length / s->q;
+    const bool done = r->equation == s->p && r->done == (s->p < 32 ? (UINT32_C(1) << s->p) - 1 : UINT32_MAX);
     if (s->phase > COMPLETE || s->rule >= RULES || s->kept_rule >= RULES || s->over >> RULES != 0 || s->failed >> RULES != 0) return false;
-    if (s->late >> s->p != 0 || s->round == 0 || s->pace == 0) return false;
-    if (r->count > most || r->rows > most || r->equation > s->p || (s->promised != UINT64_MAX && k->count > most)) return false;
-    return s->phase != COMPLETE || (r->equation == s->p && r->done == (s->p < 32 ? (UINT32_C(1) << s->p) - 1 : UINT32_MAX));
+    if (s->late >> s->p != 0 || s->round == 0 || s->pace == 0 || s->pace > 2 * MOST_PACE || s->past > UINT64_MAX / 2) return false;
+    if (r->count > most || r->rows > most || done != (s->phase == COMPLETE)) return false;
+    return s->promised == UINT64_MAX || (k->count <= most && k->equation == s->p && k->rows == 0);
 }
+/* a basis as the engine is lent it has room for q rows at least */
+static size_t kept_room(const dezgula_solver *s) { return s->kept_len > s->q * s->q ? s->kept_len : s->q * s->q; }
 /* the tables from the words at `from`; the numbers are in place */
 static bool load_tables(dezgula_solver *s, const uint32_t *from)
 {
@@ -637,15 +645,29 @@ static bool load_tables(dezgula_solver *s, const uint32_t *from)
     memcpy(s->run.basis, from, count * q * sizeof *from), from += count * q;
     memcpy(s->run.table, from, rows * q * sizeof *from), from += rows * q;
     memcpy(s->run.mothers, from, rows * sizeof *from), from += rows;
-    s->kept = malloc(s->kept_len > 0 ? s->kept_len * sizeof *s->kept : 1);
+    s->kept = calloc(kept_room(s), sizeof *s->kept);
     if (s->kept == NULL) return false;
     memcpy(s->kept, from, s->kept_len * sizeof *from);
     return true;
 }
+/* The engine's call looks at everything before its first turn; a solver reads rows and equations before it makes the next call, so it is asked first. */
+static bool in_order(const dezgula_solver *s)
+{
+    dezgula_engine_run run = s->run, kept = s->run;
+    for (size_t k = 0; k < s->p * s->q; k++)
+        if (s->coefs[k] < -DEZGULA_COEFFICIENT_LIMIT || s->coefs[k] > DEZGULA_COEFFICIENT_LIMIT) return false;
+    uint64_t answer = dezgula_engine_resume(s->p, s->q, &run, 0);
+    if (answer != DEZGULA_PAUSED && answer != DEZGULA_COMPLETE) return false;
+    if (s->promised == UINT64_MAX) return true;
+    int32_t equations[COEFFICIENTS];
+    memcpy(equations, s->kept_equations, sizeof equations);
+    kept.equations = equations, kept.basis = s->kept, kept.basis_len = kept_room(s), kept.record = s->kept_record;
+    return dezgula_engine_resume(s->p, s->q, &kept, 0) == DEZGULA_PAUSED;
+}
 dezgula_solver *dezgula_solver_load(const uint32_t *words, size_t length, uint64_t *answer)
 {
     *answer = DEZGULA_OUT_OF_ORDER;
-    if (length < 3 || words[0] != SIGN || words[1] < 1 || words[1] > MOST || words[2] < 1 || words[2] > MOST) return NULL;
+    if (words == NULL || length < 3 || words[0] != SIGN || words[1] < 1 || words[1] > MOST || words[2] < 1 || words[2] > MOST) return NULL;
     const size_t p = words[1], q = words[2];
     if (length < fixed_words(p, q)) return NULL;
     uint64_t n[NUMBERS];
@@ -656,8 +678,9 @@ dezgula_solver *dezgula_solver_load(const uint32_t *words, size_t length, uint64
     bool right = right_numbers(s, length);
     if (right && s->promised != UINT64_MAX) s->kept_len = s->kept_record.count * q;
     right = right && dezgula_solver_saved_length(s) == length;
-    if (right && load_tables(s, words + 3 + 2 * NUMBERS)) return *answer = DEZGULA_STARTED, s;
-    if (right) *answer = DEZGULA_ENGINE_FULL;
+    *answer = right ? (uint64_t)DEZGULA_ENGINE_FULL : (uint64_t)DEZGULA_OUT_OF_ORDER;
+    if (right && load_tables(s, words + 3 + 2 * NUMBERS)) *answer = in_order(s) ? (uint64_t)DEZGULA_STARTED : (uint64_t)DEZGULA_OUT_OF_ORDER;
+    if (*answer == DEZGULA_STARTED) return s;
     dezgula_solver_free(s);
     return NULL;
 }

@@ -2,21 +2,24 @@
 
 #include <stdlib.h>
 #include <string.h>
+#include <unistd.h>
 
 #include "build_map.h"
 #include "checkpoint.h"
 #include "io.h"
 #include "limits.h"
 #include "names.h"
+#include "read.h"
 
 const char *file_of(const options *o)
 {
     return o->words_len > 0 ? o->words[0] : "-";
 }
 
-const char *wanted_word(const options *o)
+const char *name_of(const options *o)
 {
-    return o->at_least_len > 0 && o->deliver_len == 0 ? "plan" : "delivery";
+    const char *file = file_of(o), *slash = strrchr(file, '/');
+    return strcmp(file, "-") == 0 ? NULL : slash != NULL ? slash + 1 : file;
 }
 
 int set_deliveries(map *m, const options *o)
@@ -129,6 +132,39 @@ int solve_map(const map *m, const options *o, const char *name, solved *out)
     free(p.groups);
     free(p.grouped.coefs);
     if (!o->walk) solved_sort(out);
+    return status;
+}
+
+bool has_lists(int status)
+{
+    return status == STATUS_COMPLETE || status == STATUS_CUT_SHORT;
+}
+
+bool is_terminal(const char *advice)
+{
+    if (isatty(STDOUT_FILENO) != 1) return false;
+    io_say("standard output is a terminal; %s", advice);
+    return true;
+}
+
+int show_lists(const options *o, format how)
+{
+    map m;
+    solved s;
+    if (how == FORMAT_HTML && is_terminal("send the page to a file: dezgula report FILE > page.html")) return STATUS_NOTHING;
+    int status = read_map(file_of(o), o->strict, &m);
+    if (status != STATUS_COMPLETE) return status;
+    memset(&s, 0, sizeof s);
+    status = set_deliveries(&m, o);
+    if (status == STATUS_COMPLETE) status = solve_map(&m, o, file_of(o), &s);
+    if (has_lists(status)) {
+        wanted_kind kind = !s.has_wanted ? NO_WANTED : map_has_rights(&m) ? DELIVERIES : PLANS;
+        shown what = {&m, &s, kind, name_of(o)};
+        format_write(stdout, how, &what);
+        status = finish(o, status);
+    }
+    solved_free(&s);
+    map_free(&m);
     return status;
 }
 

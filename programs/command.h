@@ -48,14 +48,23 @@ void options_print(FILE *out, unsigned takes);
 /* The file that the words begin with; "-" where there is none. */
 const char *file_of(const options *o);
 
+/* Its name without its folder; NULL where it is standard input. */
+const char *name_of(const options *o);
+
 /* Puts the right sides of --deliver into the map. */
 int set_deliveries(map *m, const options *o);
 
 /* Solves a map as the options ask. The status and the lists are those of work(); the lists are in the order in which they are shown. */
 int solve_map(const map *m, const options *o, const char *name, solved *out);
 
-/* What one of a second list is called. */
-const char *wanted_word(const options *o);
+/* Whether a status comes with lists: those of a run that is complete, or cut short. */
+bool has_lists(int status);
+
+/* Whether standard output is a terminal, which is said together with what to do: `advice`. What is for a program or a browser is not shown there. */
+bool is_terminal(const char *advice);
+
+/* Reads the map of the first word, solves it and shows its lists. */
+int show_lists(const options *o, format how);
 
 /* Takes away what --checkpoint kept, where the run is complete and all that was printed has left. */
 int finish(const options *o, int status);

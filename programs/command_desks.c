@@ -115,6 +115,11 @@ static void remove_kept(const options *o)
 
 static void tell_list(const char *how, const office *of, const solved *s)
 {
+    if (!s->complete && s->loops_len == 0) {
+        /* none is not "no loops" */
+        printf("\n%s: %s\n", how, s->q == 0 ? "not begun" : "NOT complete; no loop is sure before the end");
+        return;
+    }
     printf("\n%s: %zu loop%s", how, s->loops_len, s->loops_len == 1 ? "" : "s");
     if (s->walked) printf(", %" PRIu64 " steps", s->last.steps);
     puts(s->complete ? "" : ", NOT complete");
@@ -168,11 +173,6 @@ static int tell(const office *of, const solved *whole, const solved *built)
     return STATUS_COMPLETE;
 }
 
-static bool has_list(int status)
-{
-    return status == STATUS_COMPLETE || status == STATUS_CUT_SHORT;
-}
-
 static int desks(const options *o)
 {
     office of;
@@ -182,10 +182,11 @@ static int desks(const options *o)
     memset(&built, 0, sizeof built);
     int status = o->words_len == 1 ? read_pages(o, &of) : read_files(o, &of);
     if (status == STATUS_COMPLETE) status = solve_one(o, &of, true, &whole);
-    int second = has_list(status) ? solve_one(o, &of, false, &built) : status;
-    if (has_list(status) && has_list(second)) status = tell(&of, &whole, &built);
+    /* an interrupt ends both */
+    int second = has_lists(status) && !whole.interrupted ? solve_one(o, &of, false, &built) : status;
+    if (has_lists(status) && has_lists(second)) status = tell(&of, &whole, &built);
     else status = second;
-    if (has_list(status)) status = fflush(stdout) == 0 ? status : STATUS_NOTHING;
+    if (has_lists(status)) status = fflush(stdout) == 0 ? status : STATUS_NOTHING;
     if (status == STATUS_COMPLETE) remove_kept(o);
     solved_free(&whole);
     solved_free(&built);

@@ -1,27 +1,8 @@
 #include "command.h"
-#include "io.h"
-#include "read.h"
 
 static int loops(const options *o)
 {
-    map m;
-    solved s;
-    int status = read_map(file_of(o), o->strict, &m);
-    if (status != STATUS_COMPLETE) return status;
-    status = set_deliveries(&m, o);
-    if (status != STATUS_COMPLETE) {
-        map_free(&m);
-        return status;
-    }
-    status = solve_map(&m, o, file_of(o), &s);
-    if (status == STATUS_COMPLETE || status == STATUS_CUT_SHORT) {
-        shown what = {&m, &s, wanted_word(o)};
-        format_write(stdout, o->how, &what);
-        status = finish(o, status);
-    }
-    solved_free(&s);
-    map_free(&m);
-    return status;
+    return show_lists(o, o->how);
 }
 
 const command command_loops = {

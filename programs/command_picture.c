@@ -20,10 +20,10 @@ static int picture_of_loop(const options *o, const map *m)
     fault why;
     size_t n = loop_number(o->words[1]);
     int status = solve_map(m, o, file_of(o), &s);
-    if ((status == STATUS_COMPLETE || status == STATUS_CUT_SHORT) && (n < 1 || n > s.loops_len)) {
+    if (has_lists(status) && (n < 1 || n > s.loops_len)) {
         fault_set(&why, 0, "there is no loop %.40s; the loops are 1 to %zu", o->words[1], s.loops_len);
         status = io_refuse(file_of(o), &why);
-    } else if (status == STATUS_COMPLETE || status == STATUS_CUT_SHORT) {
+    } else if (has_lists(status)) {
         (void)picture_write(stdout, m, s.loops + (n - 1) * s.q);
         status = finish(o, status);
     }
@@ -34,6 +34,7 @@ static int picture_of_loop(const options *o, const map *m)
 static int picture(const options *o)
 {
     map m;
+    if (is_terminal("send the picture to a file: dezgula picture FILE > net.svg")) return STATUS_NOTHING;
     int status = read_map(file_of(o), o->strict, &m);
     if (status != STATUS_COMPLETE) return status;
     if (o->words_len > 1) status = picture_of_loop(o, &m);

@@ -1,7 +1,6 @@
 #include <errno.h>
 #include <stdlib.h>
 #include <string.h>
-#include <unistd.h>
 
 #include "command.h"
 #include "dezgula_text.h"
@@ -15,7 +14,8 @@ static uint8_t *file_of_list(const map *m, const solved *s, size_t *len, fault *
     dezgula_system system = {m->p, m->q, m->coefs, m->p * m->q};
     dezgula_list list = {s->loops, s->loops_len * m->q, s->loops_len};
     if (s->loops_len > DEZGULA_FILE_MOST_ROWS) {
-        fault_set(why, DEZGULA_FILE_RANGE, "%zu loops; a list file has at most %d", s->loops_len, DEZGULA_FILE_MOST_ROWS);
+        fault_set(why, DEZGULA_FILE_RANGE, "%zu loops; a list file has at most %d, and dezgula loops --format csv any number", s->loops_len,
+                  DEZGULA_FILE_MOST_ROWS);
         return NULL;
     }
     *len = DEZGULA_FILE_LENGTH(m->p, m->q, s->loops_len);
@@ -52,18 +52,28 @@ static int write_list(const options *o, const map *m, const solved *s, int statu
     return finish(o, status);
 }
 
+/* Whether a list of the map fits a list file; a map that does not is refused before it is solved. */
+static bool fits(const map *m, fault *why)
+{
+    static const char other[] = "dezgula loops --format csv writes a table of any map";
+    if (m->p > DEZGULA_MOST_EQUATIONS)
+        return fault_set(why, DEZGULA_EQUATIONS, "%zu trays change; a list file has at most %d; %s", m->p, DEZGULA_MOST_EQUATIONS, other);
+    if (m->q > DEZGULA_MOST_UNKNOWNS)
+        return fault_set(why, DEZGULA_UNKNOWNS, "%zu activities; a list file has at most %d; %s", m->q, DEZGULA_MOST_UNKNOWNS, other);
+    return true;
+}
+
 static int save(const options *o)
 {
     map m;
     solved s;
-    if (o->words_len < 2 && isatty(STDOUT_FILENO)) {
-        io_say("standard output is a terminal; send the list to a file: dezgula save MAP > FILE");
-        return STATUS_NOTHING;
-    }
+    fault why = {0, ""};
+    if (o->words_len < 2 && is_terminal("send the list to a file: dezgula save MAP > FILE")) return STATUS_NOTHING;
     int status = read_map(file_of(o), o->strict, &m);
     if (status != STATUS_COMPLETE) return status;
-    status = solve_map(&m, o, file_of(o), &s);
-    if (status == STATUS_COMPLETE || status == STATUS_CUT_SHORT) status = write_list(o, &m, &s, status);
+    memset(&s, 0, sizeof s);
+    status = fits(&m, &why) ? solve_map(&m, o, file_of(o), &s) : io_refuse(file_of(o), &why);
+    if (has_lists(status)) status = write_list(o, &m, &s, status);
     solved_free(&s);
     map_free(&m);
     return status;

@@ -152,12 +152,11 @@ static int read_files(const options *o, office *of)
         const char *name = o->words_len > 0 ? o->words[k] : "-";
         char *bytes = io_read(name, MOST_TEXT, &len, &status);
         if (bytes == NULL) return status;
-        bool begun = begin_all(of, bytes, len, o->strict);
+        bool net = is_net(bytes, len), begun = !net && begin_all(of, bytes, len, o->strict);
         free(bytes);
-        if (!begun) {
-            fault_set(&why, DEZGULA_SCHEDULE, "more than %d maps; give them in two goes", MOST);
-            return io_refuse(name, &why);
-        }
+        if (net) fault_set(&why, DEZGULA_TEXT_LINE, "a net; several takes maps, as lines of numbers, and dezgula loops lists the loops of a net");
+        else if (!begun) fault_set(&why, DEZGULA_SCHEDULE, "more than %d maps; give them in two goes", MOST);
+        if (!begun) return io_refuse(name, &why);
     }
     if (of->count > 0) return STATUS_COMPLETE;
     fault_set(&why, DEZGULA_TEXT_LINE, "line 1: missing; there is no map");

@@ -56,7 +56,7 @@ static int show(const options *o)
     char *bytes = io_read(file_of(o), MOST_BYTES, &len, &status);
     if (bytes == NULL) return status;
     if (read_list(bytes, len, &m, &s, &why)) {
-        shown what = {&m, &s, ""};
+        shown what = {&m, &s, NO_WANTED, name_of(o)};
         format_write(stdout, o->how, &what);
         status = s.complete ? STATUS_COMPLETE : STATUS_CUT_SHORT;
         if (!s.complete) io_say("%s: not complete: %s", file_of(o), s.why.text);

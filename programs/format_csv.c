@@ -36,6 +36,6 @@ void format_csv(FILE *out, const shown *what)
         field(out, what->m->activities[j].name);
     }
     fputc('\n', out);
-    if (what->s->has_wanted) rows(out, what->wanted, what->s->wanted, what->s->wanted_len, what->s->q);
+    if (what->s->has_wanted) rows(out, what->kind == DELIVERIES ? "delivery" : "plan", what->s->wanted, what->s->wanted_len, what->s->q);
     rows(out, "loop", what->s->loops, what->s->loops_len, what->s->q);
 }

@@ -74,7 +74,7 @@ void format_json(FILE *out, const shown *what)
         fputs(",\n  \"why\": ", out);
         string(out, s->why.text);
     }
-    if (s->has_wanted) rows(out, what->wanted[0] == 'd' ? "deliveries" : "plans", s->wanted, s->wanted_len, s->q);
+    if (s->has_wanted) rows(out, what->kind == DELIVERIES ? "deliveries" : "plans", s->wanted, s->wanted_len, s->q);
     rows(out, "loops", s->loops, s->loops_len, s->q);
     fputs("\n}\n", out);
 }

@@ -43,14 +43,10 @@ static void head(FILE *out, const map *m)
 /* The second list, and what it means. */
 static void wanted(FILE *out, const shown *what)
 {
-    bool deliveries = what->wanted[0] == 'd';
     size_t n = what->s->wanted_len;
-    if (deliveries) fprintf(out, "\n%zu smallest %s to deliver what is asked\n", n, plural(n, "way", "ways"));
-    else fprintf(out, "\n%zu smallest %s with at least these counts\n", n, plural(n, "plan", "plans"));
+    fprintf(out, "\n%zu %s\n", n, wanted_title(what->kind, n));
     rows_in_words(out, what->m, what->s->wanted, n);
-    if (!what->s->complete) return;
-    if (n == 0) fprintf(out, "There is none.\n");
-    else fprintf(out, "Every %s is one of these, and loops besides.\n", deliveries ? "way to deliver it" : "such plan");
+    if (what->s->complete) fprintf(out, "%s.\n", wanted_sense(what->kind, n));
 }
 
 static void ending(FILE *out, const shown *what)
@@ -64,7 +60,7 @@ static void ending(FILE *out, const shown *what)
     } else {
         fprintf(out, "The list is NOT complete: %s.\n", s->why.text);
         if (s->loops_len > 0) fputs("The loops listed are right; others may be missing.\n", out);
-        else fputs("This says nothing of the map: no loop is sure before the end.\n", out);
+        else fprintf(out, "This says nothing of the map: %s.\n", s->walked ? "no loop is found so far" : "no loop is sure before the end");
     }
     if (s->walked) fprintf(out, "By Contejean and Devie's walk: %" PRIu64 " steps, greatest sum %" PRIu64 ".\n", s->last.steps, s->last.deepest);
 }

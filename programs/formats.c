@@ -18,7 +18,7 @@ void format_write(FILE *out, format how, const shown *what)
     /* a table with no row would read like a map with no loop */
     bool nothing_sure = !what->s->complete && what->s->loops_len == 0 && what->s->wanted_len == 0;
     if (nothing_sure && (how == FORMAT_MATRIX || how == FORMAT_CSV)) return;
-    listing l = {what->s->loops_len, what->s->q, what->s->loops, what->s->complete};
+    listing l = {what->s->loops_len, what->s->q, what->s->loops, what->s->complete, what->kind, what->s->wanted, what->s->wanted_len, what->name};
     switch (how) {
     case FORMAT_TEXT: format_text(out, what); break;
     case FORMAT_MATRIX: format_matrix(out, what); break;

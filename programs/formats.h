@@ -13,7 +13,8 @@ bool format_of(const char *name, format *out);
 typedef struct {
     const map *m;
     const solved *s;
-    const char *wanted; /* what one of the second list is: "delivery" or "plan" */
+    wanted_kind kind; /* of the second list */
+    const char *name; /* of the file, or NULL where it has none */
 } shown;
 
 /* In any of the formats. */

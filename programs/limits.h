@@ -5,12 +5,8 @@
 #include "dezgula_engine.h"
 
 /* The most trays (equations) and activities (unknowns) of a map that the command takes. */
-#ifndef MOST_TRAYS
 #define MOST_TRAYS DEZGULA_ENGINE_MOST
-#endif
-#ifndef MOST_ACTIVITIES
 #define MOST_ACTIVITIES DEZGULA_ENGINE_MOST
-#endif
 
 /* What a tray may gain or lose by one activity, and a right side, in size. */
 #define MOST_COEFFICIENT DEZGULA_COEFFICIENT_LIMIT

@@ -15,7 +15,10 @@ enum { COMMANDS_LEN = sizeof COMMANDS / sizeof *COMMANDS };
 static void print_help(FILE *out)
 {
     fputs("dezgula: the loops of a process map, complete and proved\n\n"
-          "  dezgula loops maps/review.map        a map in, its loops out\n\n",
+          "Two to begin with:\n"
+          "  dezgula loops net.pnml                      a net in, its loops in words out\n"
+          "  dezgula report net.pnml > page.html         the same as a page, with the net drawn and the staffing table\n\n"
+          "All commands:\n",
           out);
     for (size_t i = 0; i < COMMANDS_LEN; i++) fprintf(out, "  dezgula %-34s %s\n", COMMANDS[i]->usage, COMMANDS[i]->does);
     fprintf(out,

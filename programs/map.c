@@ -69,6 +69,18 @@ bool map_make(map *m, size_t p, size_t q, fault *why)
     return fault_set(why, 0, "there is no memory for the map");
 }
 
+const char *wanted_title(wanted_kind kind, size_t len)
+{
+    if (kind == DELIVERIES) return len == 1 ? "smallest way to deliver what is asked" : "smallest ways to deliver what is asked";
+    return len == 1 ? "smallest plan with at least these counts" : "smallest plans with at least these counts";
+}
+
+const char *wanted_sense(wanted_kind kind, size_t len)
+{
+    if (len == 0) return "There is none";
+    return kind == DELIVERIES ? "Every way to deliver it is one of these, and loops besides" : "Every such plan is one of these, and loops besides";
+}
+
 bool map_has_rights(const map *m)
 {
     for (size_t i = 0; m->rights != NULL && i < m->p; i++)

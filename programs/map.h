@@ -53,12 +53,23 @@ bool fault_set(fault *why, unsigned number, const char *format, ...)
 #endif
     ;
 
-/* The minimal solutions of a map, in rows of q numbers, in the order in which they are shown. */
+/* What a second list is of: nothing was asked for; the smallest ways to meet right sides; the smallest plans with at least some counts. */
+typedef enum { NO_WANTED, DELIVERIES, PLANS } wanted_kind;
+
+/* The minimal solutions of a map, in rows of q numbers, in the order in which they are shown, and the second list. */
 typedef struct {
     size_t n, q;
     const uint32_t *rows;
     bool complete;
+    wanted_kind kind;
+    const uint32_t *wanted;
+    size_t wanted_len;
+    const char *name; /* of the file that the map is from, or NULL */
 } listing;
+
+/* What the second list is, after its length: "ways to deliver what is asked"; and what it is for. Both without a stop. */
+const char *wanted_title(wanted_kind kind, size_t len);
+const char *wanted_sense(wanted_kind kind, size_t len);
 
 /* Gives back all that a map holds and leaves an empty one; an empty map (all zero) may be handed over too. */
 void map_free(map *m);

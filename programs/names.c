@@ -3,6 +3,7 @@
 #include <errno.h>
 #include <stdlib.h>
 #include <string.h>
+#include <unistd.h>
 
 #include "io.h"
 #include "limits.h"
@@ -72,11 +73,11 @@ static bool unknown_name(const names *n, const char *name, size_t len, fault *wh
     fault_set(why, 0, "no %s is named \"%.*s\"; there are", n->what, (int)(len > 80 ? 80 : len), name);
     for (size_t i = 0; i < n->count; i++) {
         size_t at = strlen(why->text);
-        if (at + strlen(n->nodes[i].name) + 8 > sizeof why->text) {
+        if (at + strlen(n->nodes[i].name) + 10 > sizeof why->text) {
             memcpy(why->text + at, " ..", 4);
             break;
         }
-        snprintf(why->text + at, sizeof why->text - at, "%s%s", i == 0 ? " " : ", ", n->nodes[i].name);
+        snprintf(why->text + at, sizeof why->text - at, "%s\"%s\"", i == 0 ? " " : ", ", n->nodes[i].name);
     }
     return false;
 }
@@ -257,10 +258,10 @@ static int rights_of_file(const map *m, const char *name, long *out)
     return read ? STATUS_COMPLETE : io_refuse(name, &why);
 }
 
-/* Whether a word is NAME=N: what follows its last "=" is a number. */
+/* Whether a word is NAME=N, or is meant to be: it has a "=", and no file is named so. */
 static bool is_named(const char *word)
 {
-    return ends_with_number(word, strlen(word));
+    return ends_with_number(word, strlen(word)) || (strchr(word, '=') != NULL && access(word, F_OK) != 0);
 }
 
 int rights_read(const map *m, char *const *words, size_t words_len, int32_t *out)

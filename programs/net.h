@@ -1,4 +1,5 @@
-/* A PNML file as it is read: what net_text.c (strings, sentences), net_file.c (expat's events) and net.c (the map) share. */
+/* A PNML file as it is read: what net_text.c (strings, sentences), net_kinds.c (nets and arcs that are taken), net_file.c (expat's events) and net.c (the map)
+ * share. */
 #ifndef NET_H
 #define NET_H
 
@@ -25,7 +26,7 @@ enum { MOST_OPEN = 256, SHOWN = 60 };
 
 typedef enum {
     NOTHING, PNML, NET, PAGE, PLACE, TRANSITION, REFERENCE_PLACE, REFERENCE_TRANSITION, ARC,
-    NAME, INSCRIPTION, ARC_TYPE, DECLARATION, WORDS, GRAPHICS, POSITION, IGNORED
+    NAME, INSCRIPTION, ARC_TYPE, DECLARATION, COLOURS, WORDS, GRAPHICS, POSITION, IGNORED
 } kind;
 
 /* A page, a node, a reference or an arc of the file. Strings are the reading's; NULL is one that the file has not. */
@@ -38,6 +39,7 @@ typedef struct {
     char *weight, *type;   /* of an arc, as written */
     size_t from, to;       /* the same as entries, references followed */
     uint32_t moves;        /* of an arc, how many documents */
+    uint32_t dots;         /* the same where they are written as ISO's dots; 0 where they are not */
     bool tests;            /* of an arc, whether it only looks */
     bool placed;
     double x, y;
@@ -68,6 +70,7 @@ typedef struct {
     char *words; /* the text of the label that is open */
     size_t words_len, words_room;
     bool worded;
+    unsigned long label; /* the line on which it begins */
     char *colour; /* the one colour of the documents, where arcs name it */
 } reading;
 
@@ -112,6 +115,20 @@ void net_refuse(reading *r, unsigned long line, unsigned number, const char *for
 
 /* The same without a line. */
 void net_refuse_all(reading *r, unsigned number, const char *format, ...) __attribute__((format(printf, 3, 4)));
+
+/* Whether `text` begins with `word`, which is in small letters; those of the text are of any size. */
+bool net_begins_with(const char *text, const char *word);
+
+/* ---- net_kinds.c */
+
+/* Refuses a net of a type that is not read. */
+void net_check_type(reading *r, const char *written);
+
+/* Finds how many documents an arc moves, and whether it only looks; refuses one of a kind that is not taken. */
+void net_check_arc(reading *r, entry *e);
+
+/* How many documents a sum of ISO's dots is, as "2'dot"; 0 where the text is no such sum. */
+uint32_t net_dots(const char *text);
 
 /* ---- net_file.c */
 

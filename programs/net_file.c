@@ -1,7 +1,6 @@
 /* The file of a net, by expat's events: its pages, nodes, references and arcs as entries (net_read).
  *
- * In order: types of net; arcs, how many documents they move and which kinds are taken; the grammar, as a table of which element stands in which; elements
- * that begin; text and elements that end; the parse.
+ * In order: the grammar, as a table of which element stands in which; elements that begin; text and elements that end; the parse.
  *
  * An element counts where its namespace is that of the net, has "pnml" in it, or is none; all else is a tool's own and is passed over, and so is what stands in
  * <toolspecific>. */
@@ -9,172 +8,10 @@
 
 #ifndef NO_EXPAT
 
-#include <ctype.h>
 #include <iconv.h>
 #include <math.h>
 #include <stdlib.h>
 #include <string.h>
-
-/* The most digits of a weight, so that sums of weights are small. */
-enum { MOST_DIGITS = 9, MOST_WEIGHT = 999999999 };
-
-/* ---- types of net */
-
-static bool is_same_word(const char *a, const char *b)
-{
-    while (*a != 0 && tolower((unsigned char)*a) == tolower((unsigned char)*b)) a++, b++;
-    return tolower((unsigned char)*a) == tolower((unsigned char)*b);
-}
-
-/* Whether `text` begins with `word`, which is in small letters. */
-static bool begins_with(const char *text, const char *word)
-{
-    while (*word != 0 && tolower((unsigned char)*text) == *word) text++, word++;
-    return *word == 0;
-}
-
-/* Whether `word`, in small letters, is somewhere in `text`, in letters of any size. */
-static bool has_word(const char *text, const char *word)
-{
-    for (; *text != 0; text++)
-        if (begins_with(text, word)) return true;
-    return false;
-}
-
-/* What a type of net is called, after the last slash and without the ending of a schema's file: ISO's P/T nets and core model, and what the standard's older
- * forms, WoPeD, PIPE, TAPAAL, Yasper and TINA write. The delays of TINA's time nets change no count and are passed over. */
-static const char *const PLACE_TRANSITION_TYPES[] = {
-    "ptnet", "ptnetb", "pnmlcoremodel", "basicpnml", "pnml", "pt", "pt-net", "pt net", "p/t net", "p/t-net", "p/t nets", "petri net", "petrinet",
-    "place/transition net", "place/transition-net", "pnml_1.1", "epnml", "epnml-1.1", "tpn",
-};
-
-static const char *const SCHEMA_ENDINGS[] = {".pntd", ".rng", ".dtd", ".rnc", ".xsd"};
-
-enum { TYPES = sizeof PLACE_TRANSITION_TYPES / sizeof *PLACE_TRANSITION_TYPES, ENDINGS = sizeof SCHEMA_ENDINGS / sizeof *SCHEMA_ENDINGS };
-
-static bool is_listed(const char *type)
-{
-    for (size_t i = 0; i < TYPES; i++)
-        if (is_same_word(type, PLACE_TRANSITION_TYPES[i])) return true;
-    return false;
-}
-
-static void cut_ending(char *type)
-{
-    size_t len = strlen(type);
-    for (size_t i = 0; i < ENDINGS; i++) {
-        size_t ending = strlen(SCHEMA_ENDINGS[i]);
-        if (len > ending && is_same_word(type + len - ending, SCHEMA_ENDINGS[i])) type[len - ending] = 0;
-    }
-}
-
-static void check_net_type(reading *r, const char *written)
-{
-    char *type = net_tidy(r, written);
-    if (r->refused || type == NULL || is_listed(type)) return;
-    shown said = net_quote(type);
-    while (type[strlen(type) - 1] == '/' && type[1] != 0) type[strlen(type) - 1] = 0;
-    cut_ending(type);
-    const char *slash = strrchr(type, '/'), *hash = strrchr(type, '#');
-    const char *last = slash == NULL ? type : slash + 1;
-    if (hash != NULL && hash > slash) last = hash + 1;
-    if (!is_listed(last)) net_refuse(r, net_line(r), FORM, "a net of the type \"%s\"; only place/transition nets (ptnet) are read", said.text);
-}
-
-/* ---- arcs: how many documents they move, and which kinds of arc are taken */
-
-static const char *const NORMAL_ARCS[] = {"normal", "ordinary", "regular", "standard", "default", "arc", "timed", "transport", "weighted"};
-static const char *const TEST_ARCS[] = {"test", "testarc", "test-arc", "test arc", "read", "readarc", "read-arc", "read arc", "both", "double", "biflow",
-                                          "bidirectional"};
-
-enum { NORMAL_WORDS = sizeof NORMAL_ARCS / sizeof *NORMAL_ARCS, TEST_WORDS = sizeof TEST_ARCS / sizeof *TEST_ARCS };
-
-static bool is_among(const char *word, const char *const *words, size_t len)
-{
-    for (size_t i = 0; i < len; i++)
-        if (is_same_word(word, words[i])) return true;
-    return false;
-}
-
-static void check_arc_type(reading *r, entry *e)
-{
-    if (e->type == NULL || is_among(e->type, NORMAL_ARCS, NORMAL_WORDS)) return;
-    if (is_among(e->type, TEST_ARCS, TEST_WORDS)) {
-        e->tests = true;
-        return;
-    }
-    shown name = net_arc(e), type = net_quote(e->type);
-    const char *advice = "the loops of a net go by normal arcs alone; take it out or make it a normal arc";
-    if (has_word(e->type, "inhib")) net_refuse(r, e->line, FORM, "%s is an inhibitor arc (%s); %s", name.text, type.text, advice);
-    else if (has_word(e->type, "reset") || has_word(e->type, "clear") || has_word(e->type, "flush"))
-        net_refuse(r, e->line, FORM, "%s is a reset arc (%s); %s", name.text, type.text, advice);
-    else if (has_word(e->type, "colo")) net_refuse(r, e->line, FORM, "%s is a coloured arc (%s); %s", name.text, type.text, advice);
-    else net_refuse(r, e->line, FORM, "%s is of the type \"%s\"; %s", name.text, type.text, advice);
-}
-
-/* The whole number that `text` is, up to the comma or the end, and where it ends; NULL where it is none, or is longer than MOST_DIGITS. */
-static const char *whole_number(const char *text, uint32_t *number)
-{
-    while (*text == ' ') text++;
-    const char *s = text;
-    *number = 0;
-    while (*s == '0' && isdigit((unsigned char)s[1])) s++, text++;
-    for (; isdigit((unsigned char)*s) && s - text < MOST_DIGITS; s++) *number = 10 * *number + (uint32_t)(*s - '0');
-    bool any = s != text;
-    while (*s == ' ') s++;
-    return any && (*s == 0 || *s == ',') ? s : NULL;
-}
-
-/* Whether `colour`, of `len` letters, is the colour that the net's documents have; the first one named is. */
-static bool is_the_colour(reading *r, const char *colour, size_t len)
-{
-    while (len > 0 && *colour == ' ') colour++, len--;
-    while (len > 0 && colour[len - 1] == ' ') len--;
-    if (r->colour == NULL) {
-        r->colour = net_room(r, len);
-        if (r->colour == NULL) return false;
-        memcpy(r->colour, colour, len);
-        r->colour[len] = 0;
-    }
-    return strlen(r->colour) == len && memcmp(r->colour, colour, len) == 0;
-}
-
-/* Refuses a weight that is no number, or one that is out of range. */
-static void refuse_weight(reading *r, const entry *e, bool number)
-{
-    shown name = net_arc(e), weight = net_quote(e->weight);
-    if (number) net_refuse(r, e->line, COEFFICIENT, "%s has the weight %s; a weight is from 1 and has at most %d digits", name.text, weight.text, MOST_DIGITS);
-    else net_refuse(r, e->line, FORM, "%s has the inscription \"%s\", which is no whole number: a coloured arc, or a slip", name.text, weight.text);
-}
-
-/* PIPE's form, "Default,1" or "Default,1,Red,0": a colour and its number, again and again. Documents of two colours are a coloured net. */
-static void weigh_colours(reading *r, entry *e)
-{
-    for (const char *s = e->weight; *s != 0 && !r->refused; s += *s == ',') {
-        const char *comma = strchr(s, ',');
-        uint32_t number = 0;
-        const char *after = comma == NULL ? NULL : whole_number(comma + 1, &number);
-        if (after == NULL || number > MOST_WEIGHT - e->moves) {
-            refuse_weight(r, e, after != NULL);
-            return;
-        }
-        if (number > 0 && !is_the_colour(r, s, (size_t)(comma - s))) {
-            shown name = net_arc(e), first = net_quote(r->colour), weight = net_quote(e->weight);
-            net_refuse(r, e->line, FORM, "%s is a coloured arc: \"%s\" beside documents of the colour %s", name.text, weight.text, first.text);
-        }
-        e->moves += number;
-        s = after;
-    }
-}
-
-static void weigh(reading *r, entry *e)
-{
-    e->moves = e->weight == NULL;
-    if (e->weight == NULL) return;
-    if (strchr(e->weight, ',') != NULL) weigh_colours(r, e);
-    else if (whole_number(e->weight, &e->moves) == NULL) refuse_weight(r, e, e->weight[strspn(e->weight, "0123456789")] == 0);
-    if (!r->refused && e->moves == 0) refuse_weight(r, e, true);
-}
 
 /* ---- the grammar: which element stands in which */
 
@@ -203,6 +40,8 @@ static const production GRAMMAR[] = {
     {ARC, "type", ARC_TYPE},
     {ARC, "arctype", ARC_TYPE},
     {ARC, "arcType", ARC_TYPE},
+    {ARC, "hlinscription", COLOURS},
+    {PLACE, "hlinitialMarking", COLOURS},
     {NAME, "text", WORDS},
     {NAME, "value", WORDS},
 };
@@ -213,17 +52,15 @@ static const struct {
     const char *name, *why;
 } REFUSED[] = {
     {NET, "net", "a net inside a page (a subprocess); put its activities on the page itself"},
-    {PLACE, "hlinitialMarking", "a coloured tray (hlinitialMarking); only place/transition nets are read"},
     {PLACE, "condition", "an activity with a condition: a coloured net; only place/transition nets are read"},
-    {ARC, "hlinscription", "a coloured arc (hlinscription); only place/transition nets are read"},
-    {NAME, "structure", "a declaration of colours: a coloured net; only place/transition nets are read"},
+    {DECLARATION, "structure", "a declaration of colours: a coloured net; only place/transition nets are read"},
 };
 
 enum { PRODUCTIONS = sizeof GRAMMAR / sizeof *GRAMMAR, REFUSALS = sizeof REFUSED / sizeof *REFUSED };
 
 static bool is_label(kind is)
 {
-    return is == NAME || is == INSCRIPTION || is == ARC_TYPE || is == DECLARATION;
+    return is == NAME || is == INSCRIPTION || is == ARC_TYPE || is == DECLARATION || is == COLOURS;
 }
 
 /* The kind under whose name the table has what stands in `is`. */
@@ -259,7 +96,7 @@ static kind kind_of(reading *r, const char *full)
     kind in = innermost(r);
     if (!is_pnml(r, full)) return IGNORED;
     for (size_t i = 0; i < REFUSALS; i++)
-        if (REFUSED[i].in == family(in) && strcmp(REFUSED[i].name, local) == 0) net_refuse(r, net_line(r), FORM, "%s", REFUSED[i].why);
+        if ((REFUSED[i].in == in || REFUSED[i].in == family(in)) && strcmp(REFUSED[i].name, local) == 0) net_refuse(r, net_line(r), FORM, "%s", REFUSED[i].why);
     for (size_t i = 0; i < PRODUCTIONS; i++)
         if (GRAMMAR[i].in == family(in) && strcmp(GRAMMAR[i].name, local) == 0) return GRAMMAR[i].is;
     return IGNORED;
@@ -299,7 +136,7 @@ static void begin_net(reading *r, const char *full, const char **attributes)
     shown id = net_quote(attribute(attributes, "id"));
     take_grammar(r, full);
     if (r->net) net_refuse(r, net_line(r), FORM, "a second net (\"%s\") in the file; save each net in a file of its own", id.text);
-    else check_net_type(r, attribute(attributes, "type"));
+    else net_check_type(r, attribute(attributes, "type"));
     r->net = true;
 }
 
@@ -366,6 +203,7 @@ static void begin_label(reading *r, kind is, const char **attributes)
 {
     r->words_len = 0;
     r->worded = false;
+    r->label = net_line(r);
     if (is == ARC_TYPE && attribute(attributes, "value") != NULL) r->entries[r->current].type = net_tidy(r, attribute(attributes, "value"));
 }
 
@@ -427,17 +265,32 @@ static char *label(reading *r)
     return r->words_len == 0 ? NULL : net_tidy(r, r->words);
 }
 
+/* Documents of one kind are no colours. */
+static void end_colours(reading *r, kind owner, const char *text)
+{
+    entry *e = &r->entries[r->current];
+    uint32_t dots = text == NULL ? 0 : net_dots(text);
+    shown by = net_arc(e), tray = net_quote(e->id), said = net_quote(text);
+    const char *colon = text == NULL ? "" : ": ";
+    if (owner == ARC && dots > 0) e->dots = dots;
+    else if (owner == ARC)
+        net_refuse(r, r->label, FORM, "%s is a coloured arc (hlinscription%s%s); only place/transition nets are read", by.text, colon, said.text);
+    else if (dots == 0)
+        net_refuse(r, r->label, FORM, "\"%s\" is a coloured tray (hlinitialMarking%s%s); only place/transition nets are read", tray.text, colon, said.text);
+}
+
 static void end_label(reading *r, kind is)
 {
     kind owner = innermost(r);
     char *text = label(r);
+    if (!r->refused && is == COLOURS) end_colours(r, owner, text);
     if (r->refused || text == NULL) return;
     shown said = net_quote(text);
     if (is == DECLARATION) net_refuse(r, net_line(r), FORM, "a declaration (\"%s\"): a coloured net; only place/transition nets are read", said.text);
     else if (is == INSCRIPTION) r->entries[r->current].weight = text;
     else if (is == ARC_TYPE) r->entries[r->current].type = text;
-    else if (owner == PAGE) r->entries[r->page].name = text;
-    else if (net_is_node(owner)) r->entries[r->current].name = text;
+    else if (is == NAME && owner == PAGE) r->entries[r->page].name = text;
+    else if (is == NAME && net_is_node(owner)) r->entries[r->current].name = text;
 }
 
 static void XMLCALL on_end(void *data, const XML_Char *full)
@@ -452,9 +305,8 @@ static void XMLCALL on_end(void *data, const XML_Char *full)
     kind is = r->open[--r->depth];
     if (is == PAGE) r->page = r->entries[r->page].page;
     else if (is == WORDS) r->worded = r->worded || label(r) != NULL;
-    else if (is == ARC) check_arc_type(r, &r->entries[r->current]);
+    else if (is == ARC) net_check_arc(r, &r->entries[r->current]);
     else if (is_label(is)) end_label(r, is);
-    if (is == ARC && !r->refused) weigh(r, &r->entries[r->current]);
 }
 
 static void XMLCALL on_doctype(void *data, const XML_Char *name, const XML_Char *system, const XML_Char *public, int internal)
@@ -483,7 +335,7 @@ enum { ONE_BYTES = sizeof ONE_BYTE / sizeof *ONE_BYTE };
 static bool is_one_byte(const char *encoding)
 {
     for (size_t i = 0; i < ONE_BYTES; i++)
-        if (begins_with(encoding, ONE_BYTE[i])) return true;
+        if (net_begins_with(encoding, ONE_BYTE[i])) return true;
     return false;
 }
 

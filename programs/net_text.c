@@ -3,6 +3,7 @@
 
 #ifndef NO_EXPAT
 
+#include <ctype.h>
 #include <stdarg.h>
 #include <stdlib.h>
 #include <string.h>
@@ -133,6 +134,12 @@ shown net_quote(const char *name)
     memcpy(out.text, name, len);
     memcpy(out.text + len, "...", 4);
     return out;
+}
+
+bool net_begins_with(const char *text, const char *word)
+{
+    while (*word != 0 && tolower((unsigned char)*text) == *word) text++, word++;
+    return *word == 0;
 }
 
 bool net_is_node(kind is)

@@ -6,12 +6,11 @@
 #include "io.h"
 #include "limits.h"
 
-/* Whether the first byte that is no space begins an element: then the file is a net. */
-static bool is_net(const char *bytes, size_t len)
+bool is_net(const char *bytes, size_t len)
 {
     size_t at = len >= 3 && memcmp(bytes, "\xef\xbb\xbf", 3) == 0 ? 3 : 0;
     /* XML may come as UTF-16, which the reader of nets knows */
-    if (len >= 4 && (memcmp(bytes, "\xff\xfe<\0", 4) == 0 || memcmp(bytes, "\xfe\xff\0<", 4) == 0)) return true;
+    if (len >= 4 && (memcmp(bytes, "\xff\xfe<\0", 4) == 0 || memcmp(bytes, "\xfe\xff\0<", 4) == 0 || memcmp(bytes, "\0<\0", 3) == 0)) return true;
     while (at < len && memchr(" \t\r\n", bytes[at], 4) != NULL) at++;
     return at < len && bytes[at] == '<';
 }

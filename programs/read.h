@@ -13,6 +13,9 @@ int read_map(const char *name, bool strict, map *out);
 bool read_matrix(const lines *text, bool strict, map *out, fault *why);
 bool read_typed(const lines *text, bool strict, map *out, fault *why);
 
+/* Whether a file is a net: the first byte that is no space begins an element. */
+bool is_net(const char *bytes, size_t len);
+
 /* Whether the text is of typed equations: a line has "=", or the first has one number only. */
 bool is_typed(const lines *text);
 

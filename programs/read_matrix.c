@@ -18,12 +18,14 @@ const char *read_number(const char *at, const char *end, int32_t *x)
     return p;
 }
 
-/* Refuses a word that is no number, with at most 40 of its bytes. */
-static bool no_number(size_t line, const char *word, const char *end, fault *why)
+/* Refuses a word that is no number, with at most 40 of its bytes. A file that begins with one is no map. */
+static bool no_number(size_t line, bool first, const char *word, const char *end, fault *why)
 {
+    const char *advice = first ? "a map begins with two numbers, its trays and its activities; typed equations have x1, x2 ..; a net is XML (PNML)"
+                               : "a number is an optional minus and 1 to 6 digits, without leading zeros";
     size_t len = 0;
     while (word + len < end && word[len] != ' ' && len < 40) len++;
-    return fault_set(why, 9, "line %zu: \"%.*s\" is no number; a number is an optional minus and 1 to 6 digits, without leading zeros", line, (int)len, word);
+    return fault_set(why, 9, "line %zu: \"%.*s\" is no number; %s", line, (int)len, word, advice);
 }
 
 /* Reads the numbers of a line, of which there are to be n; those past `room` are counted only. */
@@ -34,7 +36,7 @@ static bool read_numbers(const lines *text, size_t k, size_t n, int32_t *out, si
     for (*count = 0; at < end; (*count)++) {
         int32_t x;
         const char *after = read_number(at, end, &x);
-        if (after == NULL || (after < end && *after != ' ')) return no_number(own->number, at, end, why);
+        if (after == NULL || (after < end && *after != ' ')) return no_number(own->number, k == 0 && *count == 0, at, end, why);
         if (*count < n) out[*count] = x;
         at = after < end ? after + 1 : end;
     }
@@ -47,8 +49,8 @@ static bool read_sizes(const lines *text, size_t *p, size_t *q, fault *why)
     size_t count = 0;
     if (text->count == 0)
         return fault_set(why, 9, "line 1: missing; a map begins with a line of two numbers, how many trays and how many activities it has");
-    if (!read_numbers(text, 0, 2, sizes, &count, why)) return false;
     size_t line = text->lines[0].number;
+    if (!read_numbers(text, 0, 2, sizes, &count, why)) return false;
     if (count != 2)
         return fault_set(why, 9, "line %zu: %zu number%s; the first line has two, the trays and the activities", line, count, count == 1 ? "" : "s");
     if (sizes[0] < 1 || sizes[0] > MOST_TRAYS) return fault_set(why, 1, "line %zu: %d trays; 1 to %d", line, (int)sizes[0], MOST_TRAYS);

@@ -1,8 +1,8 @@
 /* The page of a map and its list, as HTML that needs nothing from elsewhere: report_write.
  *
- * In order: the page's style and script; small words; the head, which says whether the list is complete; the net; the loops; the staffing table; the map in
- * words; what is proved. Everything is in the page's text, so it can be read, printed and searched with scripts off; the script shows a loop in the net. Which
- * loop is shown stands in the page's address: page.html#loop=2 shows loop 2, so it can be sent to somebody. */
+ * In order: the page's style and script; small words; the head, which says whether the list is complete; what was asked for besides; the net; the loops; the
+ * staffing table; the map in words; what is proved. Everything is in the page's text, so it can be read, printed and searched with scripts off; the script
+ * shows a loop in the net. Which loop is shown stands in the page's address: page.html#loop=2 shows loop 2, so it can be sent to somebody. */
 #include "picture.h"
 
 #include <inttypes.h>
@@ -199,7 +199,7 @@ static void write_words(FILE *out, const map *m, const uint32_t *row)
         escaped_write(out, m->activities[j].name);
         before = ",</span> <span>";
     }
-    if (before[0] == ',') fputs("</span>", out);
+    fputs(before[0] == ',' ? "</span>" : "nothing: all counts are 0", out);
 }
 
 static size_t loops_with(const listing *l, size_t j)
@@ -227,7 +227,10 @@ static void write_start(FILE *out, const map *m, const listing *l)
           "<meta http-equiv=\"Content-Security-Policy\" content=\"default-src 'none'; style-src 'unsafe-inline'; script-src 'unsafe-inline'; img-src data:\">\n"
           "<link rel=\"icon\" href=\"data:,\">\n",
           out);
-    fprintf(out, "<title>%zu %s of a %s of %zu activities</title>\n<style>\n", l->n, plural(l->n, "loop", "loops"), sort_of(m), m->q);
+    fprintf(out, "<title>%zu %s of ", l->n, plural(l->n, "loop", "loops"));
+    if (l->name != NULL) escaped_write(out, l->name);
+    else fprintf(out, "a %s of %zu activities", sort_of(m), m->q);
+    fputs("</title>\n<style>\n", out);
     write_lines(out, STYLE);
     fputs("</style>\n</head>\n<body>\n", out);
 }
@@ -276,8 +279,12 @@ static bool has_right_sides(const map *m)
 static void write_head(FILE *out, const map *m, const listing *l)
 {
     fprintf(out, "<header>\n<h1>%zu %s</h1>\n", l->n, l->complete ? plural(l->n, "loop", "loops") : plural(l->n, "loop so far", "loops so far"));
-    fprintf(out, "<p class=\"soft\">Of a %s of %zu %s and %zu %s.</p>\n", sort_of(m), m->q, plural(m->q, "activity", "activities"), m->p,
-            plural(m->p, "tray", "trays"));
+    fputs("<p class=\"soft\">Of ", out);
+    if (l->name != NULL) {
+        escaped_write(out, l->name);
+        fputs(", ", out);
+    }
+    fprintf(out, "a %s of %zu %s and %zu %s.</p>\n", sort_of(m), m->q, plural(m->q, "activity", "activities"), m->p, plural(m->p, "tray", "trays"));
     write_completeness(out, m, l);
     if (has_right_sides(m)) fputs("<p>Loops are counted without the map's deliveries: after a loop each tray holds what it held before.</p>\n", out);
     write_in_no_loop(out, m, l);
@@ -333,6 +340,22 @@ static int write_net(FILE *out, const map *m)
     int status = picture_write(out, m, NULL);
     fputs("</div>\n</section>\n", out);
     return status;
+}
+
+/* ---- what was asked for besides */
+
+static void write_wanted(FILE *out, const map *m, const listing *l)
+{
+    if (l->kind == NO_WANTED || (!l->complete && l->wanted_len == 0)) return;
+    fprintf(out, "<section id=\"wanted\">\n<h2>%zu %s</h2>\n<ol>\n", l->wanted_len, wanted_title(l->kind, l->wanted_len));
+    for (size_t k = 0; k < l->wanted_len; k++) {
+        fputs("<li>", out);
+        write_words(out, m, l->wanted + k * l->q);
+        fputs("</li>\n", out);
+    }
+    fputs("</ol>\n", out);
+    if (l->complete) fprintf(out, "<p class=\"soft\">%s.</p>\n", wanted_sense(l->kind, l->wanted_len));
+    fputs("</section>\n", out);
 }
 
 /* ---- the staffing table: how often each activity is done in each loop */
@@ -461,7 +484,9 @@ int report_write(FILE *out, const map *m, const listing *l)
 {
     write_start(out, m, l);
     write_head(out, m, l);
-    fputs("<main>\n<div class=\"both\">\n", out);
+    fputs("<main>\n", out);
+    write_wanted(out, m, l);
+    fputs("<div class=\"both\">\n", out);
     int status = write_net(out, m);
     write_loops(out, m, l);
     fputs("</div>\n", out);

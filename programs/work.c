@@ -40,13 +40,21 @@ static double now(void)
     return (double)t.tv_sec + 1e-9 * (double)t.tv_nsec;
 }
 
-static void progress_line(const run *r, double seconds, char *line, size_t room)
+/* Where a run is: "equation 3 of 8, 1200 rows". */
+static void place_line(const run *r, char *line, size_t room)
 {
     progress p = solve_progress(r);
     int n = p.desks > 1 ? snprintf(line, room, "desk %zu of %zu, ", p.desk, p.desks) : 0;
     size_t at = n > 0 ? (size_t)n : 0;
-    if (p.walking) snprintf(line + at, room - at, "%" PRIu64 " steps, %" PRIu64 " rows, %.0f s", p.steps, p.rows, seconds);
-    else snprintf(line + at, room - at, "equation %zu of %zu, %" PRIu64 " rows, %.0f s", p.done < p.of ? p.done + 1 : p.of, p.of, p.rows, seconds);
+    if (p.walking) snprintf(line + at, room - at, "%" PRIu64 " steps, %" PRIu64 " rows", p.steps, p.rows);
+    else snprintf(line + at, room - at, "equation %zu of %zu, %" PRIu64 " rows", p.done < p.of ? p.done + 1 : p.of, p.of, p.rows);
+}
+
+static void say_goes_on(const run *r, const char *name, const char *kept)
+{
+    char line[128];
+    place_line(r, line, sizeof line);
+    io_say("%s: goes on from %s: %s", name, kept, line);
 }
 
 /* Nobody waits for progress. */
@@ -57,9 +65,9 @@ static void tell(const char *text)
 
 static void tell_progress(const run *r, double seconds, bool terminal)
 {
-    char line[128], text[160];
-    progress_line(r, seconds, line, sizeof line);
-    snprintf(text, sizeof text, terminal ? "\r%s\033[K" : "dezgula: %s\n", line);
+    char line[128], text[192];
+    place_line(r, line, sizeof line);
+    snprintf(text, sizeof text, terminal ? "\r%s, %.0f s\033[K" : "dezgula: %s, %.0f s\n", line, seconds);
     tell(text);
 }
 
@@ -190,6 +198,7 @@ static run *begin(const problem *what, const char *name, const char *kept, int *
     if (kept != NULL) {
         if (!checkpoint_possible(kept)) *status = STATUS_NOTHING;
         else r = checkpoint_read(kept, what, status);
+        if (r != NULL) say_goes_on(r, name, kept);
         if (r != NULL || *status != STATUS_COMPLETE) return r;
     }
     r = solve_begin(what, &why);
@@ -215,6 +224,7 @@ int work(const problem *what, const char *name, const char *kept, solved *out)
     set_interrupts(SIG_DFL);
     out->q = what->q;
     out->complete = s == RUN_COMPLETE;
+    out->interrupted = !out->complete && interrupted;
     out->has_wanted = what->rights != NULL || what->lower != NULL;
     out->last = solve_progress(r);
     out->walked = what->how == BY_WALK;

@@ -10,7 +10,7 @@ typedef struct {
     uint32_t *loops, *wanted;
     size_t loops_len, wanted_len;
     bool has_wanted; /* right sides or a lower bound were asked for */
-    bool walked, complete;
+    bool walked, complete, interrupted;
     progress last;
     fault why; /* where it is not complete */
 } solved;

@@ -2,8 +2,8 @@
 """Draws maps of 8 x 16 as offices have them, each activity taking documents from one tray and putting them into another: draw.py MAPS DIRECTORY.
 
 Of each column one coefficient is negative and one positive, 1 or 2 in size. In the maps called "near" they are at most two trays apart, as where trays
-stand in the order in which documents pass them; in those called "far" anywhere. In those called "mixed", which are drawn as in bench/pairs, a column has
-2 to 4 of any sign."""
+stand in the order in which documents pass them; in those called "far" anywhere. In those called "mixed", which are drawn as the standing maps of
+bench/engine, a column has 2 to 4 of any sign."""
 import os
 import random
 import sys

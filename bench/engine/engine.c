@@ -409,12 +409,23 @@ uint64_t twin_engine_combine(LENT, size_t r, int32_t u, size_t s, int32_t t)
     return STARTED;
 }
 
+/* of the basis one row has the unknown f, and only rows of degree 1 */
+static bool is_alone(const lent *l, size_t f)
+{
+    bool has = false;
+    for (size_t i = 0; i < l->record[BASIS_COUNT]; i++) {
+        if (l->basis[i * l->q + f] == 0) continue;
+        if (degree_of(l->basis + i * l->q, l->q) != 1) return false;
+        has = true;
+    }
+    return has;
+}
 static bool is_fresh(const lent *l, size_t e, size_t f)
 {
     if (f >= l->q || l->equations[e * l->q + f] != -1) return false;
     for (size_t i = 0; i < l->p; i++)
         if (l->record[DONE] >> i & 1 && l->equations[i * l->q + f] != 0) return false;
-    return true;
+    return is_alone(l, f);
 }
 uint64_t twin_engine_take(LENT, size_t e, size_t f)
 {

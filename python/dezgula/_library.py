@@ -8,7 +8,7 @@ import operator
 import os
 import pathlib
 import threading
-from typing import Iterable, Iterator, Sequence
+from typing import Any, Iterable, Iterator, Sequence
 
 VERSION = "2.0.0"
 NAME = "libdezgula.so.2"
@@ -68,6 +68,40 @@ class List(ctypes.Structure):
     _fields_ = [("rows", Numbers), ("rows_len", ctypes.c_size_t), ("found", ctypes.c_size_t)]
 
 
+class Part(ctypes.Structure):
+    _fields_ = [("start", ctypes.c_size_t), ("size", ctypes.c_size_t)]
+
+
+class Share(ctypes.Structure):
+    _fields_ = [("p", ctypes.c_size_t), ("q", ctypes.c_size_t), ("coefs", Part), ("stack", Part), ("list", Part)]
+
+
+class Tables(ctypes.Structure):
+    _fields_ = [
+        ("coefs", Integers),
+        ("coefs_len", ctypes.c_size_t),
+        ("stack", Numbers),
+        ("stack_len", ctypes.c_size_t),
+        ("list", Numbers),
+        ("list_len", ctypes.c_size_t),
+    ]
+
+
+class Turn(ctypes.Structure):
+    _fields_ = [("record", Record), ("answer", ctypes.c_uint64)]
+
+
+MOST_RUNS = 8
+
+
+class Round(ctypes.Structure):
+    _fields_ = [("last", ctypes.c_uint64), ("steps", ctypes.c_uint64), ("runs", Turn * MOST_RUNS)]
+
+
+class SolverProgress(ctypes.Structure):
+    _fields_ = [("done", ctypes.c_size_t), ("equations", ctypes.c_size_t), ("rows", ctypes.c_uint64), ("steps", ctypes.c_uint64)]
+
+
 # ---- finding and loading
 
 
@@ -106,6 +140,8 @@ def _load() -> ctypes.CDLL:
 
 _SYSTEM, _RUN, _LIST = ctypes.POINTER(System), ctypes.POINTER(RunTables), ctypes.POINTER(List)
 _SIZE, _TEXT, _BUDGET = ctypes.c_size_t, ctypes.c_char_p, ctypes.c_uint64
+_ANSWER, _SOLVER = ctypes.POINTER(ctypes.c_uint64), ctypes.c_void_p
+#: what the calls take that answer with a number; a call that begins with start has one beside it that goes on, with a budget
 _CALLS = {
     "start": [_SYSTEM, _RUN],
     "start_rights": [_SYSTEM, Integers, _SIZE, _RUN],
@@ -118,26 +154,46 @@ _CALLS = {
     "reason": [_SYSTEM, _LIST, Numbers, _SIZE, ctypes.POINTER(ctypes.c_int64)],
     "decompose": [_SYSTEM, _LIST, Numbers, _SIZE, Numbers, _SIZE, ctypes.POINTER(ctypes.c_int64)],
     "listing": [_SYSTEM, _LIST, _TEXT, _SIZE],
+    "dispatch": [ctypes.POINTER(Share), _SIZE, ctypes.POINTER(Tables), ctypes.POINTER(Round), _BUDGET, ctypes.c_uint64],
     "read_map": [_TEXT, _SIZE, Integers, _SYSTEM],
     "read_equation": [_TEXT, _SIZE, _SIZE, Integers, _SIZE, Integers],
     "write_equation": [_SIZE, Integers, _SIZE, ctypes.c_int32, _TEXT, _SIZE],
-    "read_system": [_TEXT, _SIZE, _SIZE, Integers, _SIZE, Integers, _SIZE, _SYSTEM, ctypes.POINTER(ctypes.c_uint64)],
+    "read_system": [_TEXT, _SIZE, _SIZE, Integers, _SIZE, Integers, _SIZE, _SYSTEM, _ANSWER],
     "write_list": [_SYSTEM, _LIST, ctypes.c_uint32, _TEXT, _SIZE],
     "read_list": [_TEXT, _SIZE, Integers, _SIZE, Numbers, _SIZE, _SYSTEM, _LIST, ctypes.POINTER(ctypes.c_uint32)],
+    "solver_work": [_SOLVER, _BUDGET],
 }
+#: what the others take, and what they give
+_OTHERS: dict[str, tuple[list[Any], Any]] = {
+    "version": ([], ctypes.c_char_p),
+    "sentence": ([ctypes.c_uint64], ctypes.c_char_p),
+    "full_list": ([_SYSTEM, _RUN], ctypes.c_uint),
+    "solver_new": ([_SYSTEM, _ANSWER], _SOLVER),
+    "solver_limit": ([_SOLVER, _SIZE], None),
+    "solver_told": ([_SOLVER], SolverProgress),
+    "solver_system": ([_SOLVER], System),
+    "solver_rows": ([_SOLVER, ctypes.POINTER(_SIZE)], Numbers),
+    "solver_saved_length": ([_SOLVER], _SIZE),
+    "solver_save": ([_SOLVER, Numbers], None),
+    "solver_load": ([Numbers, _SIZE, _ANSWER], _SOLVER),
+    "solver_free": ([_SOLVER], None),
+}
+
+
+def _signatures() -> Iterator[tuple[str, list[Any], Any]]:
+    for name, arguments in _CALLS.items():
+        yield name, arguments, ctypes.c_uint64
+        if name.startswith("start"):
+            yield "resume" + name[len("start") :], arguments + [_BUDGET], ctypes.c_uint64
+    for name, (arguments, result) in _OTHERS.items():
+        yield name, arguments, result
 
 
 def _declared(library: ctypes.CDLL) -> ctypes.CDLL:
     try:
-        library.dezgula_version.argtypes, library.dezgula_version.restype = [], ctypes.c_char_p
-        library.dezgula_sentence.argtypes, library.dezgula_sentence.restype = [ctypes.c_uint64], ctypes.c_char_p
-        library.dezgula_full_list.argtypes, library.dezgula_full_list.restype = [_SYSTEM, _RUN], ctypes.c_uint
-        for name, arguments in _CALLS.items():
+        for name, arguments, result in _signatures():
             call = getattr(library, "dezgula_" + name)
-            call.argtypes, call.restype = arguments, ctypes.c_uint64
-            if name.startswith("start"):
-                call = getattr(library, "dezgula_resume" + name[len("start") :])
-                call.argtypes, call.restype = arguments + [_BUDGET], ctypes.c_uint64
+            call.argtypes, call.restype = arguments, result
     except AttributeError as error:
         raise LibraryMissing(f"{library._name} is not the library of Dezgula, or an older one: {error}") from None
     version = library.dezgula_version().decode()

@@ -1,8 +1,10 @@
 """The module as a program uses it: lists against code that tries every tuple of a box, every kind of run, pauses, limits, interrupts, refusals, texts."""
 
 import doctest
+import inspect
 import itertools
 import os
+import pathlib
 import pickle
 import random
 import signal
@@ -13,7 +15,7 @@ import time
 import unittest
 
 import dezgula
-from dezgula import _engine, _questions, _text
+from dezgula import _engine, _library, _questions, _several, _text
 
 MANY = [[3, -2, 1, -4, 2, -1, 5, -3], [1, 1, -2, 1, -3, 2, -1, 1], [-1, 2, 1, -1, -1, 1, -2, 1]]
 #: far more solutions than are listed in a second
@@ -87,7 +89,6 @@ class Lists(unittest.TestCase):
         self.assertEqual(dezgula.basis([[1, 2]]), [])
         self.assertEqual(dezgula.walk([[1, 2]]), [])
 
-    @unittest.skipUnless(hasattr(_engine.LIBRARY, "dezgula_solver_new"), "the library has no solver yet")
     def test_as_large_as_the_engine_takes(self):
         ring = [[1 if j == i else -1 if j == (i + 1) % 32 else 0 for j in range(32)] for i in range(32)]
         self.assertEqual(dezgula.basis(ring), [(1,) * 32])
@@ -163,6 +164,39 @@ class Runs(unittest.TestCase):
         self.assertGreater(calls, 3)
         self.assertEqual(sorted(solver.rows), sorted(dezgula.walk(MANY)))
 
+    def test_a_solver_is_saved_and_gone_on_with(self):
+        whole = sorted(dezgula.basis(MANY))
+        for budget in (1, 40, 2000):
+            solver = dezgula.Solver(MANY)
+            while not solver.work(budget):
+                kept = solver.save()
+                loaded = dezgula.Solver.load(kept)
+                self.assertEqual((loaded.told, loaded.system, loaded.save()), (solver.told, MANY, kept))
+                solver = loaded
+            self.assertEqual(sorted(solver.rows), whole)
+            self.assertEqual(pickle.loads(pickle.dumps(solver)).rows, solver.rows)
+
+    def test_damaged_bytes_of_a_solver(self):
+        draw, solver, loaded = random.Random(3), dezgula.Solver(MANY), 0
+        self.assertFalse(solver.work(500))
+        kept = solver.save()
+        for length in (0, 1, 4, 11, len(kept) - 4, len(kept) - 1):
+            with self.assertRaises(dezgula.Refused) as refused:
+                dezgula.Solver.load(kept[:length])
+            self.assertEqual(refused.exception.number, 6)
+        for _ in range(300):
+            damaged = bytearray(kept)
+            for _ in range(draw.randint(1, 3)):
+                damaged[draw.randrange(draw.choice((len(kept), 280)))] ^= 1 << draw.randrange(8)
+            try:
+                solver = dezgula.Solver.load(damaged)
+                loaded += 1
+                solver.work(200)
+            except dezgula.Refused:
+                pass
+            self.assertEqual(len(solver.save()) % 4, 0)
+        self.assertGreater(loaded, 20)
+
     def test_progress_is_told_and_can_stop(self):
         class Enough(Exception):
             pass
@@ -223,6 +257,50 @@ class Runs(unittest.TestCase):
             with self.assertRaises(RuntimeError):
                 run.resume(1)
         thread.join()
+
+
+class SeveralRuns(unittest.TestCase):
+    def test_each_as_alone(self):
+        systems = [MANY, [[2, -3, 1]], [[1, 2]], [[97, -89, 83, -79]]] * 2
+        for quantum in (1, 50, 100_000):
+            several = dezgula.Several(systems, quantum=quantum)
+            self.assertEqual(several.serve(20), sum(not run.complete for run in several.runs))
+            told = []
+            several.complete(told.append)
+            self.assertEqual([now.steps for now in told], sorted(now.steps for now in told))
+            for run, rows in zip(several.runs, systems):
+                alone = dezgula.Plain(rows).complete()
+                self.assertEqual((run.complete, run.refused, run.steps, run.list), (True, None, alone.steps, alone.list))
+
+    def test_limits_refusals_and_later_runs(self):
+        several = dezgula.Several(quantum=10)
+        self.assertEqual((several.serve(5), len(several), several.runs), (0, 0, []))
+        with self.assertRaises(dezgula.Refused) as refused:
+            several.add([[1, 10_001]])
+        self.assertEqual((refused.exception.number, refused.exception.place, len(several)), (7, 2, 0))
+        self.assertEqual((several.add(MANY), several.serve(3), several.runs[0].steps), (0, 1, 30))
+        self.assertEqual(several.add([[2, -3]]), 1)
+        several.limit(5)
+        several.complete()
+        self.assertEqual([(run.complete, run.refused and run.refused.number, len(run.list)) for run in several.runs], [(False, 11, 5), (True, None, 1)])
+        self.assertEqual(several.serve(1), 0)
+        several.limit(10**6)
+        self.assertEqual(several.complete().runs[0].list, dezgula.walk(MANY))
+        for systems, quantum in (([[[1, -1]]] * 9, 1), ([], 0)):
+            with self.assertRaises(dezgula.Refused) as refused:
+                dezgula.Several(systems, quantum=quantum)
+            self.assertEqual(refused.exception.number, 27)
+
+    def test_interrupt(self):
+        self.addCleanup(signal.signal, signal.SIGINT, signal.signal(signal.SIGINT, signal.default_int_handler))
+        several = dezgula.Several([LONG, [[2, -3]]], quantum=100)
+        threading.Timer(0.3, os.kill, (os.getpid(), signal.SIGINT)).start()
+        with self.assertRaises(KeyboardInterrupt):
+            several.complete()
+        self.assertEqual([run.complete for run in several.runs], [False, True])
+        alone = dezgula.Plain(LONG)
+        alone.resume(several.runs[0].steps)
+        self.assertEqual(several.runs[0].list, alone.list)
 
 
 class Refusals(unittest.TestCase):
@@ -289,7 +367,33 @@ class Texts(unittest.TestCase):
             self.assertEqual(refused.exception.number, number)
 
 
+class Documented(unittest.TestCase):
+    def test_every_name_has_a_docstring_and_hints(self):
+        for name in dezgula.__all__:
+            item = getattr(dezgula, name)
+            own = [item] if not inspect.isclass(item) else [getattr(member, "fget", getattr(member, "__func__", member)) for member in vars(item).values()]
+            self.assertTrue(item.__doc__, name)
+            for call in filter(inspect.isfunction, own):
+                if call.__name__.startswith("_"):
+                    continue
+                self.assertTrue(call.__doc__, f"{name}.{call.__name__}")
+                given = [parameter for parameter in inspect.signature(call).parameters if parameter not in ("self", "cls")]
+                self.assertEqual([parameter for parameter in given + ["return"] if parameter not in call.__annotations__], [], f"{name}.{call.__name__}")
+
+
 class Finding(unittest.TestCase):
+    def test_what_is_declared_is_exported(self):
+        symbols = pathlib.Path(__file__).resolve().parents[2] / "library" / "symbols"
+        if not symbols.is_file():
+            self.skipTest("the module is not in its project")
+        exported = {line for line in symbols.read_text().splitlines() if line.startswith("dezgula_")}
+        declared = {"dezgula_" + name for name, _, _ in _library._signatures()}
+        self.assertEqual(declared - exported, set())
+        # what Python does by itself, and what is for tables that a program lends
+        own = {"number", "place", "lent", "lent_length", "listed", "second_listed", "row", "second_row"}
+        left = {name for name in exported - declared - {"dezgula_" + name for name in own} if not name.startswith(("dezgula_engine_", "dezgula_raw_"))}
+        self.assertEqual(left, set())
+
     def test_what_is_missing_is_said(self):
         asked = dict(os.environ, DEZGULA_LIBRARY="/nowhere/libdezgula.so.2", PYTHONPATH=os.pathsep.join(sys.path))
         said = subprocess.run([sys.executable, "-c", "import dezgula"], env=asked, capture_output=True, text=True)
@@ -303,7 +407,7 @@ class Finding(unittest.TestCase):
 
 
 def load_tests(loader, tests, pattern):
-    for module in (dezgula, _questions, _text):
+    for module in (dezgula, _engine, _questions, _several, _text):
         tests.addTests(doctest.DocTestSuite(module))
     return tests
 

@@ -7,7 +7,6 @@ use std::process::Command;
 fn main() {
     println!("cargo:rerun-if-changed=build.rs");
     println!("cargo:rerun-if-env-changed=DEZGULA_LIBRARY");
-    println!("cargo:rustc-check-cfg=cfg(dezgula_solver)");
     let target = std::env::var("TARGET").unwrap_or_default();
     if !(target.starts_with("x86_64") && target.contains("linux")) {
         missing(&format!("the library is for Linux on x86-64 only, and this is for {target}"));
@@ -61,19 +60,19 @@ fn built(project: &Path) -> PathBuf {
     within(&project.join("target/library")).unwrap_or_else(|| missing("library/build left no library in target/library"))
 }
 
+/// The folder that pkg-config tells; it writes a backslash before a space.
 fn installed() -> Option<PathBuf> {
+    println!("cargo:rerun-if-env-changed=PKG_CONFIG_PATH");
     let said = Command::new("pkg-config").args(["--variable=libdir", "dezgula"]).output().ok()?;
-    within(Path::new(String::from_utf8(said.stdout).ok()?.trim()))
+    let said = String::from_utf8(said.stdout).ok()?;
+    within(Path::new(said.trim())).or_else(|| within(Path::new(&said.trim().replace('\\', ""))))
 }
 
 fn link(library: &Path) {
     let library = library.canonicalize().unwrap_or_else(|error| missing(&format!("{}: {error}", library.display())));
     let bytes = std::fs::read(&library).unwrap_or_else(|error| missing(&format!("{}: {error}", library.display())));
-    if !has(&bytes, b"dezgula_version") {
-        missing(&format!("{} is not the library, or not its version 2", library.display()));
-    }
-    if has(&bytes, b"dezgula_solver_new") {
-        println!("cargo:rustc-cfg=dezgula_solver");
+    if !has(&bytes, b"dezgula_version") || !has(&bytes, b"dezgula_solver_system") {
+        missing(&format!("{} is not the library, or one before its version 2", library.display()));
     }
     let folder = library.parent().expect("a file has a folder");
     let kind = if library.extension().is_some_and(|end| end == "a") { "static" } else { "dylib" };

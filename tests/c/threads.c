@@ -1,5 +1,6 @@
-/* Two threads, each with runs of its own on the same system: the calls keep nothing between them, so that each gets what it gets alone. tests/run builds it
- * with ThreadSanitizer. Exits with 1 at the first surprise. */
+/* Two threads, each with runs and solvers of its own on the same system: the calls keep nothing between them, so that each gets what it gets alone. Both ask one
+ * solver that none works with. tests/run builds it with ThreadSanitizer. Exits with 1 at the first surprise. */
+#include "dezgula_engine.h"
 #include "dezgula_text.h"
 
 #include <pthread.h>
@@ -32,9 +33,39 @@ static const char *rounds(uint64_t budget)
     return NULL;
 }
 
+/* a complete solver, which is only asked */
+static dezgula_solver *shared;
+
+static const char *asked(const dezgula_solver *solver)
+{
+    uint32_t words[1000];
+    size_t count;
+    const uint32_t *rows = dezgula_solver_rows(solver, &count);
+    if (rows == NULL || count != 2 || dezgula_solver_system(solver).q != 4 || dezgula_solver_told(solver).done != 2) return "a solver tells otherwise";
+    if (dezgula_solver_saved_length(solver) > 1000) return "a solver is longer";
+    dezgula_solver_save(solver, words);
+    return NULL;
+}
+
+/* A solver of its own to the end, and the one that both ask. */
+static const char *solved(uint64_t budget)
+{
+    const char *said = NULL;
+    for (unsigned i = 0; said == NULL && i < ROUNDS; i++) {
+        uint64_t answer;
+        dezgula_solver *solver = dezgula_solver_new(&example, &answer);
+        while (solver != NULL && (answer == DEZGULA_STARTED || answer == DEZGULA_PAUSED)) answer = dezgula_solver_work(solver, budget);
+        said = answer != DEZGULA_COMPLETE ? dezgula_sentence(answer) : asked(solver);
+        if (said == NULL) said = asked(shared);
+        dezgula_solver_free(solver);
+    }
+    return said;
+}
+
 static void *thread(void *budget)
 {
-    return (void *)(uintptr_t)rounds(*(uint64_t *)budget);
+    const char *said = rounds(*(uint64_t *)budget);
+    return (void *)(uintptr_t)(said != NULL ? said : solved(*(uint64_t *)budget));
 }
 
 int main(void)
@@ -42,9 +73,13 @@ int main(void)
     pthread_t threads[2];
     uint64_t budgets[2] = {3, 1000};
     void *said[2];
+    uint64_t answer;
+    shared = dezgula_solver_new(&example, &answer);
+    if (shared == NULL || dezgula_solver_work(shared, 1000000) != DEZGULA_COMPLETE) return fprintf(stderr, "no solver\n"), 1;
     for (size_t i = 0; i < 2; i++)
         if (pthread_create(&threads[i], NULL, thread, &budgets[i]) != 0) return fprintf(stderr, "no thread\n"), 1;
     for (size_t i = 0; i < 2; i++) pthread_join(threads[i], &said[i]);
+    dezgula_solver_free(shared);
     for (size_t i = 0; i < 2; i++)
         if (said[i] != NULL) return printf("SURPRISE: %s\n", (const char *)said[i]), 1;
     printf("two threads, %d rounds each: as alone\n", ROUNDS);

@@ -118,8 +118,16 @@ def combine(p, q, w, r, u, s, t):
     return STARTED
 
 
+def is_alone(q, w, f):
+    """Whether of the basis one row has the unknown f, and only rows of degree 1."""
+    having = [sum(row) for row in (w.basis_row(q, i) for i in range(w.record[COUNT])) if row[f] > 0]
+    return bool(having) and all(degree == 1 for degree in having)
+
+
 def is_fresh(p, q, w, e, f):
-    return f < q and w.equations[e * q + f] == -1 and all(w.equations[i * q + f] == 0 for i in range(p) if w.record[DONE] >> i & 1)
+    if f >= q or w.equations[e * q + f] != -1:
+        return False
+    return all(w.equations[i * q + f] == 0 for i in range(p) if w.record[DONE] >> i & 1) and is_alone(q, w, f)
 
 
 def take(p, q, w, e, f):
@@ -253,12 +261,15 @@ class Drawn:
     def call(self, kind, p, q, w, own, coefs=()):
         before = w.copy()
         answer = start(p, q, list(coefs), w) if kind == 0 else (combine, take, resume)[kind - 1](p, q, w, *own)
+        self.written(kind, p, q, own, coefs, before, answer, w)
+        self.calls += 1
+        return answer
+
+    def written(self, kind, p, q, own, coefs, before, answer, after):
         self.out.write(line("call", [kind, p, q, *own]) + line("coefs", coefs))
         for word in ("equations", "basis", "table", "mothers", "record", "beside"):
             self.out.write(line(word, getattr(before, word)))
-        self.out.write(line("answer", [answer]) + line("left", w.equations + w.basis + w.table + w.record))
-        self.calls += 1
-        return answer
+        self.out.write(line("answer", [answer]) + line("left", after.equations + after.basis + after.table + after.record))
 
     def lent(self, p, q, rows):
         junk = lambda n, most: [self.r.randint(0, most) for _ in range(n)]
@@ -316,6 +327,11 @@ class Drawn:
         if p > 1 and r.randrange(3) == 0:
             self.call(1, p, q, w, [e, r.choice([1, -1, 2]), (e + 1) % p, r.choice([1, -1, 2])])
         fresh = [f for f in range(q) if is_fresh(p, q, w, e, f)]
+        if fresh and w.record[COUNT] > 0 and r.randrange(3) == 0:
+            other, f = w.copy(), r.choice(fresh)
+            for i in range(w.record[COUNT]) if r.randrange(2) else [r.randrange(w.record[COUNT])]:
+                other.basis[i * q + f] = r.choice([0, 1, 2])
+            self.call(2, p, q, other, [e, f])
         self.call(2, p, q, w, [e, r.choice(fresh) if fresh and r.randrange(3) else q])
         for _ in range(400):
             if r.randrange(12) == 0:
@@ -367,6 +383,12 @@ class Drawn:
             w = self.lent(2, 2, 6)
             self.call(0, 2, 2, w, [], [3, -3, 3, -3])
             self.call(1, 2, 2, w, [0, u, 1, t])
+        w = self.lent(MOST, 5, 12)
+        self.call(0, MOST, 5, w, [], [1, 0, 0, -1, 0] + [0] * (30 * 5) + [0, 2, -1, 0, -1])
+        for e in range(MOST):
+            self.call(2, MOST, 5, w, [e, 5])
+            while self.call(3, MOST, 5, w, [9]) == PAUSED and w.record[EQUATION] == e:
+                pass
         for before in range(4):
             w = self.lent(1, 2, 6)
             self.call(0, 1, 2, w, [], [1, -1])

@@ -205,6 +205,18 @@ static inline uint64_t plain_combine(const plain *w, size_t r, int32_t u, size_t
     for (size_t j = 0; j < w->q; j++) to[j] = (int32_t)((__int128)u * to[j] + (__int128)t * w->equations[s * w->q + j]);
     return P_STARTED;
 }
+/* of the basis one row has the unknown f, and only rows of degree 1 */
+static inline bool plain_alone(const plain *w, size_t f)
+{
+    bool has = false;
+    for (size_t i = 0; i < w->record[P_COUNT]; i++) {
+        uint64_t degree = 0;
+        for (size_t j = 0; j < w->q; j++) degree += w->basis[i * w->q + j];
+        if (w->basis[i * w->q + f] > 0 && degree != 1) return false;
+        has = has || w->basis[i * w->q + f] > 0;
+    }
+    return has;
+}
 static inline uint64_t plain_take(const plain *w, size_t e, size_t f)
 {
     uint64_t refused = plain_standing(w), *r = w->record;
@@ -213,7 +225,7 @@ static inline uint64_t plain_take(const plain *w, size_t e, size_t f)
     if (!plain_left(w, e)) return 32;
     bool fresh = f < q && w->equations[e * q + f] == -1;
     for (size_t i = 0; fresh && i < w->p; i++) fresh = !(r[P_DONE] >> i & 1) || w->equations[i * q + f] == 0;
-    if (f != q && !fresh) return 33;
+    if (f != q && !(fresh && plain_alone(w, f))) return 33;
     size_t many = 0;
     for (size_t i = 0; fresh && i < r[P_COUNT]; i++)
         if (w->basis[i * q + f] == 0) memmove(w->basis + many++ * q, w->basis + i * q, q * sizeof *w->basis);

@@ -149,25 +149,61 @@ static void pauses(void)
         dezgula_solver_free(whole);
     }
 }
+/* one word, or some, made another; mostly among the numbers that stand first */
+static void damage(uint32_t *words, size_t length)
+{
+    for (uint64_t n = draw(2) ? 1 : 1 + draw(4); n > 0; n--) {
+        uint32_t *at = &words[draw(draw(2) ? length : 70)];
+        *at = draw(3) == 0 ? (uint32_t)draw(10) : draw(2) ? *at ^ UINT32_C(1) << draw(32) : UINT32_MAX;
+    }
+}
+/* what a solver saved, of a length of its own so that a step past it shows */
+static uint32_t *saved(const dezgula_solver *solver, size_t *length)
+{
+    *length = dezgula_solver_saved_length(solver);
+    uint32_t *words = malloc(*length * sizeof *words);
+    is(words != NULL, "no memory");
+    dezgula_solver_save(solver, words);
+    return words;
+}
+/* any answer, and no step past a table: not by the work, and not by saving what it left. The second map has an order that is kept while another is tried. */
 static void damaged_words(void)
 {
     const int32_t coefs[12] = {2, -3, 1, 5, -4, -1, 1, 1, -2, 3, -5, 2};
+    const int32_t large[5 * 8] = {3,  -2, -2, -1, 3, 3, 2, -2, -3, 0, -1, -1, -3, -2, 2,  2,  -1, 0,  2, -1,
+                                  -3, 0,  0,  3,  0, 2, 3, 0,  3,  3, -3, 1,  0,  3,  -3, -1, -1, -3, -2, 1};
     for (int n = 0; n < 3000; n++) {
         uint64_t answer;
-        dezgula_solver *solver = solver_of(2, 6, coefs, &answer);
-        (void)!dezgula_solver_work(solver, 1 + draw(400));
-        size_t length = dezgula_solver_saved_length(solver);
-        uint32_t *words = malloc(length * sizeof *words);
-        is(words != NULL, "no memory");
-        dezgula_solver_save(solver, words);
+        size_t length;
+        dezgula_solver *solver = n % 4 ? solver_of(2, 6, coefs, &answer) : solver_of(5, 8, large, &answer);
+        (void)!dezgula_solver_work(solver, n % 4 ? 1 + draw(400) : 9000 + draw(3000));
+        uint32_t *words = saved(solver, &length);
         dezgula_solver_free(solver);
-        uint32_t *at = &words[draw(draw(2) ? length : 70)];
-        *at = draw(3) == 0 ? (uint32_t)draw(10) : draw(2) ? *at ^ UINT32_C(1) << draw(32) : UINT32_MAX;
+        damage(words, length);
         solver = dezgula_solver_load(words, length, &answer);
-        if (solver != NULL) (void)!dezgula_solver_work(solver, 2000); /* any answer, and no step past a table */
-        dezgula_solver_free(solver);
+        is((solver != NULL) == (answer == DEZGULA_STARTED) && (solver != NULL || answer == DEZGULA_OUT_OF_ORDER), "words are loaded, or are out of order");
         free(words);
+        if (solver == NULL) continue;
+        (void)!dezgula_solver_work(solver, n % 4 ? 2000 : 20000);
+        free(saved(solver, &length));
+        dezgula_solver_free(solver);
     }
+    uint64_t answer;
+    is(dezgula_solver_load(NULL, 100, &answer) == NULL && answer == DEZGULA_OUT_OF_ORDER, "NULL is no words");
+}
+static void what_it_is_for(void)
+{
+    const int32_t coefs[6] = {2, -3, 1, 5, -4, -1};
+    uint64_t answer;
+    size_t length;
+    dezgula_solver *solver = solver_of(2, 3, coefs, &answer);
+    uint32_t *words = saved(solver, &length);
+    dezgula_solver_free(solver);
+    solver = dezgula_solver_load(words, length, &answer);
+    free(words);
+    dezgula_system map = dezgula_solver_system(solver);
+    is(map.p == 2 && map.q == 3 && map.coefs_len == 6 && memcmp(map.coefs, coefs, sizeof coefs) == 0, "a solver is for its map");
+    dezgula_solver_free(solver);
 }
 static void memory(void)
 {
@@ -191,6 +227,7 @@ int main(void)
     combinations();
     pauses();
     damaged_words();
+    what_it_is_for();
     memory();
     puts("the solver: refused maps, combinations, pauses, saved and loaded, damaged words, memory");
     return 0;

@@ -1,7 +1,7 @@
 #!/usr/bin/env python3
 """Holds a page, as a browser shows it, against the list it was made of: check_page.py DOM ROWS LOOP
 DOM is what the browser has after the page's script ran at #loop=LOOP. With loop 0 no activity is marked; else those of the loop are, each with its count, the
-line of the list and the cells of the staffing table too. Prints nothing where all is well."""
+line of the list and the cells of the staffing table too. The table holds the list. Prints nothing where all is well."""
 import sys
 from html.parser import HTMLParser
 
@@ -12,7 +12,7 @@ class Page(HTMLParser):
     def __init__(self):
         super().__init__(convert_charrefs=True)
         self.open, self.counts, self.marked, self.current, self.said, self.scripts, self.cells, self.shows = [], {}, set(), [], '', 0, [], False
-        self.outside = []
+        self.outside, self.table, self.deep = [], [], False
 
     def handle_starttag(self, tag, attributes):
         a = dict(attributes)
@@ -27,6 +27,7 @@ class Page(HTMLParser):
             self.current.append(a['href'])
         if 'on' in classes and 'data-loop' in a:
             self.cells.append(int(a['data-loop']))
+        self.deep = self.deep or (tag == 'table' and 'deep' in classes)
         if tag not in ('meta', 'link', 'br', 'input'):
             self.open.append((tag, classes, a))
 
@@ -35,6 +36,8 @@ class Page(HTMLParser):
             pass
 
     def handle_data(self, data):
+        if self.open and self.open[-1][0] == 'td' and {'zero', 'some'} & set(self.open[-1][1]):
+            self.table.append(int(data))
         if any('id' in a and a['id'] == 'said' for _, _, a in self.open):
             self.said += data
         if any('count' in classes for _, classes, _ in self.open) and self.open[-1][0] == 'text':
@@ -47,7 +50,10 @@ def main():
     page.feed(open(sys.argv[1], encoding='utf-8').read())
     rows = [[int(x) for x in line.split()] for line in open(sys.argv[2])][1:]
     row = rows[loop - 1] if loop else []
+    shown = rows[:2000]
+    table = [c for line in (shown if page.deep else zip(*rows)) for c in line]
     wanted = {j + 1: f'{c} \u00d7' for j, c in enumerate(row) if c}
+    assert page.table == table, 'the staffing table is another list'
     assert page.scripts == 1, f'{page.scripts} scripts'
     assert page.outside == [], f'from elsewhere: {page.outside}'
     assert page.marked == set(wanted), f'marked {page.marked}, not {set(wanted)}'

@@ -10,7 +10,7 @@ use lib.IntN.{ℤ}
 use Rattle.linear.specs.Tests.{countTo}
 use Rattle.definitions.specs.Answers.{Check, _then_, complete, go, paused, refuse, refuseIf, refused}
 use Rattle.definitions.specs.Refusals.{stepLimit}
-use Rattle.record_words.specs.CodeLaws.{Fits, Small, small-first, small-if, small-then, within}
+use Rattle.c_record.specs.CodeLaws.{Fits, Small, small-first, small-if, small-then, within}
 use Rattle.engine_spec.specs.Beside.{mostColumns, mostRows}
 use Rattle.engine_spec.specs.Calls as calls
 use Rattle.engine_spec.specs.Engine as engine

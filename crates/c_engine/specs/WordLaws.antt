@@ -1,22 +1,22 @@
 -- The engine's calls on a record of words, as the code goes about them; a call that is refused leaves the words; and other words are refused with 6, after what
 -- is checked before it. Assumes nothing.
 use Prim.Native.Nat.{ℕ, zero, suc, _+_, _*_, _^_, _<_, _≤_}
-use mathlib.Core.Bool.{Bool, true, false, not, _&&_, cond}
+use mathlib.Core.Bool.{Bool, true, false, _&&_, cond}
 use mathlib.Core.Logic.{_≢_}
 use mathlib.Core.List.{List, [], _∷_}
 use mathlib.Core.Path.{_≡_, refl, sym, subst, ap, _∙_}
 use native.Mathlib.Decide.{ℕ-discrete}
 use native.Mathlib.Omega.{arith}
-use borrow.Author.Tests.{eq-eqb, le-ltb, lt-leb, lt-ltb, ne-eqb}
+use borrow.Author.Tests.{eq-eqb, le-ltb, lt-ltb, ne-eqb}
 use lib.Dec.{T, eqb, leb, lit<, ltb}
-use lib.IntN.{ℤ, pos, natAbs}
+use lib.IntN.{ℤ}
 use lib.ListN.{length, getD, set}
 use Rattle.definitions.specs.Answers.{Check, go, refuse, refuseFirst, refuseIf, refuseWith, started, _then_}
 use Rattle.definitions.specs.Refusals.{stepLimit}
 use Rattle.calls.specs.Paper.{value}
-use Rattle.record_words.specs.CodeLaws.{Fits}
-use Rattle.record_words.specs.Codes.{code, refusalCode}
-use Rattle.record_words.specs.WordLaws.{set-own, then-same}
+use Rattle.c_record.specs.CodeLaws.{Fits}
+use Rattle.c_record.specs.Codes.{code, refusalCode}
+use Rattle.c_record.specs.WordLaws.{set-own}
 use Rattle.engine_spec.specs.Calls as calls
 use Rattle.engine_spec.specs.Engine.{Result, Work, begun, result}
 use Rattle.engine_calls.specs.Records.{answerOf, checkOf, numberOf, outcomeOf, placeOf, valuesOf, workOf}

@@ -8,7 +8,7 @@ use lib.IntN.{ℤ}
 use lib.ListN.{length, getD, set}
 use Rattle.definitions.specs.Answers.{Check, _then_, refuse, started}
 use Rattle.definitions.specs.Refusals.{stepLimit}
-use Rattle.record_words.specs.Codes.{code}
+use Rattle.c_record.specs.Codes.{code}
 use Rattle.engine_spec.specs.Calls as calls
 use Rattle.engine_spec.specs.Engine.{Result, Work, result}
 use Rattle.engine_calls.specs.Records.{besideOf, lengthsOf, recordOf, workOf}

@@ -2,7 +2,7 @@
 ghost use mathlib.Core.Path.{_≡_};
 ghost use Prim.Native.Nat.{_^_, _<_};
 ghost use Rattle.engine_calls.specs.Records.{answerOf, numberOf, valuesOf};
-ghost use Rattle.record_words.specs.Codes.{code, refusalCode};
+ghost use Rattle.c_record.specs.Codes.{code, refusalCode};
 use engine_calls::Answer;
 use engine_calls::Refusal;
 

@@ -7,7 +7,7 @@ ghost use Rattle.engine_calls.specs.Records.{answerOf, besideOf, numberOf, valu
 ghost use Rattle.engine_calls.specs.declared.Outcome.{Outcome as Left};
 ghost use Rattle.engine_checks.specs.Standing.{startChecksBy};
 ghost use Rattle.engine_stage.specs.Standing.{sidesOf};
-ghost use Rattle.record_words.specs.Codes.{code};
+ghost use Rattle.c_record.specs.Codes.{code};
 ghost use Rattle.definitions.specs.Answers.{refuse};
 ghost use Rattle.c_engine.specs.WordLaws.{checkCode, instead};
 ghost use Rattle.c_engine.specs.Words.{combineWords, mostOf, recordIn, resumeWords, roomOf, startWords, takeWords, told, wordsLeft};

@@ -14,7 +14,7 @@ use Rattle.laws.specs.AnswerLaws.{then-assoc, then-go, refuse-if-go}
 use Rattle.definitions.specs.Input.{Extra, alone, inputWith, rights}
 use Rattle.definitions.specs.Tables.{State}
 use Rattle.definitions.specs.Refusals.{shapeThen}
-use Rattle.orders.specs.Order.{InShape}
+use Rattle.record_order.specs.Order.{InShape}
 use Rattle.checks.specs.Counts.{counted, countChecks, either-refuses, none-refuses}
 
 abbrev pub lowerAboveLimit : ℕ → List ℕ → Bool

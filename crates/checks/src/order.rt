@@ -6,7 +6,7 @@ ghost use Rattle.definitions.specs.Answers.{_then_};
 ghost use Rattle.definitions.specs.Refusals.{check5, check6, check6From, check7, check8, rangeChecks};
 ghost use Rattle.definitions.specs.Input.{alone, inputWith, systemOf, rights as sides};
 ghost use Rattle.calls.specs.Paper.{stateOf, stateWith, checkOf};
-ghost use Rattle.orders.specs.Order.{InShape};
+ghost use Rattle.record_order.specs.Order.{InShape};
 use crate::coefficients;
 use crate::shape;
 use calls::Check;
@@ -22,7 +22,7 @@ pub fn check(q: usize, coefs: &[i32], stack: &[u32], list: &[u32], r: Record, li
         then check7 (inputWith alone limit p q (now (coefs .entry))))) ⌝ }
 {
     let most = calls::limit_of(limit);
-    if !orders::in_order(Run::Plain, q, q, stack, list, r, most) {
+    if !record_order::in_order(Run::Plain, q, q, stack, list, r, most) {
         return Check::Refuse(Refusal::OutOfOrder);
     }
     coefficients::check(coefs)
@@ -47,10 +47,10 @@ pub fn check_capped(
 {
     let most = calls::limit_of(limit);
     let wide = q + 1;
-    if !orders::in_order(Run::Capped, wide, q, stack, list, r, most) {
+    if !record_order::in_order(Run::Capped, wide, q, stack, list, r, most) {
         return Check::Refuse(Refusal::OutOfOrder);
     }
-    if !orders::capped_fits(wide, q, stack, second, r) {
+    if !record_order::capped_fits(wide, q, stack, second, r) {
         return Check::Refuse(Refusal::OutOfOrder);
     }
     coefficients::check_both(coefs, rights)
@@ -78,7 +78,7 @@ pub fn check_from(
         return Check::Refuse(Refusal::BoundLength);
     }
     let most = calls::limit_of(limit);
-    if !orders::lower_in_order(q, lower, stack, list, second, r, most) {
+    if !record_order::lower_in_order(q, lower, stack, list, second, r, most) {
         return Check::Refuse(Refusal::OutOfOrder);
     }
     shape::check_lower(q, coefs, lower, limit)

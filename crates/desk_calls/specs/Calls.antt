@@ -10,7 +10,7 @@ use Rattle.calls.specs.Paper.{numberOf, recordOf, stateOf, valuesOf}
 use Rattle.calls.specs.declared.Record.{Record}
 use Rattle.calls.specs.declared.Refusal.{Refusal}
 use Rattle.calls.specs.declared.Run.the-variants.{Desks}
-use Rattle.desk_form.specs.Desks.{Desk}
+use Rattle.desk_spec.specs.Desks.{Desk}
 use Rattle.desk_calls.specs.declared.Answer.{Answer}
 use Rattle.desk_calls.specs.declared.Answer.the-variants.{Complete, Paused, Refused, Started, Wide}
 use Rattle.desk_calls.specs.declared.DeskCheck.{DeskCheck}

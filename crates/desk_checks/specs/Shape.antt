@@ -19,7 +19,7 @@ use Rattle.definitions.specs.System.{mostComponent, mostEquations, mostUnknowns
 use Rattle.definitions.specs.Tables.{State}
 use Rattle.laws.specs.AnswerLaws.{refuse-if-go, then-assoc, then-go}
 use Rattle.laws.specs.RefusalLaws.{at-most, decides-range}
-use Rattle.desk_form.specs.Desks.{Desk, deskChecks, groupInput, rangesChecks, wide}
+use Rattle.desk_spec.specs.Desks.{Desk, deskChecks, groupInput, rangesChecks, wide}
 use Rattle.calls.specs.Paper as paper
 use Rattle.calls.specs.declared.Check as made
 use Rattle.calls.specs.declared.Check.the-variants.{Pass, Refuse}

@@ -1,6 +1,6 @@
 // The refusals before the second walk: 1 to 4, then 6, then 7 and, last, 25.
 ghost use mathlib.Core.Path.{_≡_};
-ghost use Rattle.desk_form.specs.Desks.{deskResumeChecks, deskStartChecks};
+ghost use Rattle.desk_spec.specs.Desks.{deskResumeChecks, deskStartChecks};
 ghost use Rattle.calls.specs.Paper.{stateOf};
 ghost use Rattle.desk_calls.specs.Calls.{checkOf, deskOf};
 use calls::Record;

@@ -6,26 +6,19 @@ ghost use lib.Dec.{leb};
 ghost use lib.ListN.{length, getD};
 ghost use Rattle.linear.specs.Tests.{allTo};
 ghost use Rattle.definitions.specs.System.{mostComponent};
-ghost use Rattle.desk_form.specs.Desks.{deskInOrder, deskRowInOrder};
+ghost use Rattle.desk_spec.specs.Desks.{deskInOrder, deskRowInOrder};
 ghost use Rattle.calls.specs.Paper.{stateOf};
 ghost use Rattle.desk_calls.specs.Calls.{deskOf};
 ghost use Rattle.desk_checks.specs.Shape.{RowsFit};
 use calls::Record;
 use desk_rows::marks;
-use pair_rows::rows;
+use table_rows::rows;
 
 // Whether no number is above 1,000,000.
 pub fn small(table: &[u32]) -> bool
     ensures { λ b. ⌜ b ≡ allTo (length (now (table .entry))) (λ i. leb (getD (now (table .entry)) i 0) mostComponent) ⌝ }
 {
-    let mut i = 0;
-    while i < table.len() {
-        if calls::COMPONENT_LIMIT < table[i] {
-            return false;
-        }
-        i += 1;
-    }
-    true
+    rows::small_at(table, 0, table.len())
 }
 
 // Whether record and tables are in order, which depends on q and the number of generators alone.

@@ -6,14 +6,14 @@ ghost use lib.IntN.{natAbs};
 ghost use lib.ListN.{length};
 ghost use Rattle.linear.specs.Tests.{anyTo};
 ghost use Rattle.definitions.specs.System.{imageOf};
-ghost use Rattle.desk_form.specs.Desks.{generator, generatorCount, imageLimit, rangesChecks, secondGroup, wide};
+ghost use Rattle.desk_spec.specs.Desks.{generator, generatorCount, imageLimit, rangesChecks, secondGroup, wide};
 ghost use Rattle.desk_calls.specs.Calls.{checkOf, deskOf};
 ghost use Rattle.desk_rows.specs.Images.{SmallDesk};
 ghost use Rattle.desk_checks.specs.Shape.{Handed};
 use calls::Check;
 use checks::coefficients;
 use desk_calls::DeskCheck;
-use pair_rows::values;
+use table_rows::values;
 
 pub fn check(p: usize, q: usize, coefs: &[i32], generators: &[u32]) -> DeskCheck
     requires { ⌜ Handed p q (length (now coefs)) (now generators) ⌝ }
@@ -61,7 +61,7 @@ fn wide_image(p: usize, q: usize, coefs: &[i32], generators: &[u32], k: usize) -
 {
     let mut i = 0;
     while i < p {
-        if is_large(values::value_of(coefs, i * q, generators, k * q, q)) {
+        if is_large(values::value_at(coefs, i * q, generators, k * q, q)) {
             return true;
         }
         i += 1;

@@ -15,12 +15,36 @@ use Rattle.linear.specs.Cases.{split}
 use Rattle.linear.specs.Integers.{natAbs-*ℤ, sfits-natAbs}
 use Rattle.linear.specs.SystemLaws.{inner-bound, inner-next}
 use Rattle.linear.specs.Systems.{inner, value}
-use Rattle.definitions.specs.System.{mostComponent}
+use Rattle.definitions.specs.System.{coefLimit, mostComponent, mostEquations, mostUnknowns}
 use Rattle.laws.specs.TableLaws.{row-fits}
-use Rattle.pair_rows.specs.Choosing.{SmallMap, map-equation}
-use Rattle.pair_rows.specs.Small.{SmallRow, valueLimit}
-use Rattle.pair_rows.specs.Valuing.{SmallEquation, equationAt, rowAt}
-use Rattle.desk_form.specs.Desks.{imageLimit}
+use Rattle.table_rows.specs.Small.{SmallEquation, SmallRow, equationAt, rowAt, value-small}
+use Rattle.desk_spec.specs.Desks.{imageLimit}
+
+-- "16 · 10,000 · 1,000,000": far below 2 ^ 63
+abbrev pub valueLimit : ℕ
+valueLimit = mostUnknowns * (coefLimit * mostComponent)
+
+-- the second group
+pub record SmallMap (p q : ℕ) (coefs : List ℤ) : Type 0 where
+  pub some : 0 < q
+  pub equations : p ≤ mostEquations
+  pub unknowns : q ≤ mostUnknowns
+  pub whole : p * q ≤ length coefs
+  pub small : (n : ℕ) → natAbs (getD coefs n (pos 0)) ≤ coefLimit
+
+module _ {p q : ℕ} {coefs : List ℤ} (s : SmallMap p q coefs) where
+  pub map-equation : (e : ℕ) → e < p → SmallEquation q coefs (e * q)
+  map-equation e l =
+      record {
+        limit = coefLimit;
+        whole = omega (arith, s .whole, row-fits q e p l);
+        small = λ j jq. s .small (e * q + j);
+        narrow = omega arith;
+        low = omega (arith, s .unknowns);
+      }
+
+  pub map-value : (e : ℕ) (x : ℕ → ℕ) → ((j : ℕ) → j < q → x j ≤ mostComponent) → natAbs (value (equationAt coefs (e * q)) q x) ≤ valueLimit
+  map-value e x h = omega (arith, value-small coefLimit q (equationAt coefs (e * q)) x (λ j l. s .small (e * q + j)) h, s .unknowns)
 
 -- the second group and the generators
 pub record SmallDesk (p q : ℕ) (coefs : List ℤ) (generators : List ℕ) : Type 0 where

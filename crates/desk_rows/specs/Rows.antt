@@ -17,9 +17,9 @@ use Rattle.definitions.specs.System.{mostComponent}
 use Rattle.definitions.specs.Tables.{writeTo}
 use Rattle.laws.specs.TableLaws.{write-same}
 use Rattle.lists.specs.Rows.{tuple}
-use Rattle.pair_rows.specs.Valuing.{rowAt}
-use Rattle.desk_form.specs.Desks.{deskRow, word}
-use Rattle.desk_form.specs.Rows.{row-high, row-low, row-tuple}
+use Rattle.table_rows.specs.Small.{rowAt}
+use Rattle.desk_spec.specs.Desks.{deskRow, word}
+use Rattle.desk_spec.specs.Rows.{row-high, row-low, row-tuple}
 
 pub record SmallTuple (q : ℕ) (t : List ℕ) : Type 0 where
   pub whole : q ≤ length t

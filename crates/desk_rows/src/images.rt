@@ -7,10 +7,9 @@ ghost use lib.Signed.{ltZ};
 ghost use Rattle.linear.specs.Systems.{inner};
 ghost use Rattle.linear.specs.Tests.{allTo};
 ghost use Rattle.definitions.specs.System.{isZero};
-ghost use Rattle.pair_rows.specs.Choosing.{SmallMap};
-ghost use Rattle.pair_rows.specs.Small.{SmallRow};
-ghost use Rattle.desk_rows.specs.Images.{Factors, ImageWritten, Images, SmallDesk, entry, imageAt};
-use pair_rows::values;
+ghost use Rattle.table_rows.specs.Small.{SmallRow};
+ghost use Rattle.desk_rows.specs.Images.{Factors, ImageWritten, Images, SmallDesk, SmallMap, entry, imageAt};
+use table_rows::values;
 
 // Writes into row k the image of the tuple that stands in a table from place `base`.
 pub fn write(
@@ -27,7 +26,7 @@ pub fn write(
 {
     let mut i = 0;
     while i < p {
-        images[k * 8 + i] = values::value_of(coefs, i * q, table, base, q);
+        images[k * 8 + i] = values::value_at(coefs, i * q, table, base, q);
         i += 1;
     }
 }

@@ -5,7 +5,7 @@ ghost use Prim.Native.Nat.{_+_, _*_, _^_, _/_, _%_, _<_};
 ghost use lib.Dec.{eqb, ltb};
 ghost use Rattle.linear.specs.Tests.{countTo};
 ghost use Rattle.definitions.specs.Tables.{frozen};
-ghost use Rattle.desk_form.specs.Desks.{word};
+ghost use Rattle.desk_spec.specs.Desks.{word};
 
 // The number of 64 bits that the two numbers of a row are.
 pub fn join(low: u32, high: u32) -> u64

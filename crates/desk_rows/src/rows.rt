@@ -8,8 +8,8 @@ ghost use Rattle.linear.specs.Tuples.{total};
 ghost use Rattle.definitions.specs.System.{mostComponent};
 ghost use Rattle.definitions.specs.Tables.{writeTo};
 ghost use Rattle.lists.specs.Rows.{tuple};
-ghost use Rattle.pair_rows.specs.Small.{SmallRow};
-ghost use Rattle.desk_form.specs.Desks.{deskRow};
+ghost use Rattle.table_rows.specs.Small.{SmallRow};
+ghost use Rattle.desk_spec.specs.Desks.{deskRow};
 ghost use Rattle.desk_rows.specs.Rows.{Raised, SmallTuple};
 use crate::marks;
 use lists::rows;
@@ -42,14 +42,7 @@ pub fn is_large(t: &[u32], q: usize) -> bool
     requires { ⌜ q ≤ length (now t) ⌝ }
     ensures { λ b. ⌜ b ≡ anyTo q (λ i. ltb mostComponent (tuple (now (t .entry)) i)) ⌝ }
 {
-    let mut j = 0;
-    while j < q {
-        if calls::COMPONENT_LIMIT < t[j] {
-            return true;
-        }
-        j += 1;
-    }
-    false
+    !table_rows::rows::small_at(t, 0, q)
 }
 
 // The sum of the first q numbers.

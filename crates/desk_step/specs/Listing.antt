@@ -9,9 +9,9 @@ use Rattle.linear.specs.TestLaws.{count-le}
 use Rattle.linear.specs.Tests.{countTo}
 use Rattle.definitions.specs.Tables.{at, capacity, writeTo}
 use Rattle.laws.specs.TableLaws.{row-fits}
-use Rattle.sweeps.specs.Again.{swept-length}
-use Rattle.sweeps.specs.Sweep.{keeps, sweptTo}
-use Rattle.pair_rows.specs.Keeping.{Kept}
+use Rattle.laws.specs.Again.{swept-length}
+use Rattle.laws.specs.Sweep.{keeps, sweptTo}
+use Rattle.table_rows.specs.Keeping.{Kept}
 use Rattle.calls.specs.declared.Refusal.the-variants.{ListFull}
 use Rattle.desk_step.specs.declared.Stepped.{Stepped}
 use Rattle.desk_step.specs.declared.Stepped.the-variants.{Listed, Refused}

@@ -13,8 +13,8 @@ use Rattle.definitions.specs.Step.{marksTo}
 use Rattle.definitions.specs.System.{mostComponent}
 use Rattle.definitions.specs.Tables.{at, frozen, writeTo}
 use Rattle.laws.specs.TableLaws.{row-fits}
-use Rattle.sweeps.specs.Pack.{pack-length, packTo}
-use Rattle.desk_form.specs.Desks.{deskRow, plus}
+use Rattle.laws.specs.Pack.{pack-length, packTo}
+use Rattle.desk_spec.specs.Desks.{deskRow, plus}
 use Rattle.desk_rows.specs.Marks.{shift-one}
 use Rattle.desk_rows.specs.Rows.{Raised, SmallTuple, row-alike}
 use Rattle.lists.specs.Rows.{tuple}

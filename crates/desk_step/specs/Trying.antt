@@ -25,8 +25,8 @@ use Rattle.laws.specs.SystemLaws.{covered-same}
 use Rattle.laws.specs.TableLaws.{row-fits}
 use Rattle.lists.specs.Rows.{tuple}
 use Rattle.products.specs.Marks.{any-zero, marks-below, marks-skip, marks-zero}
-use Rattle.pair_rows.specs.Small.{SmallRow}
-use Rattle.desk_form.specs.Desks.{plus}
+use Rattle.table_rows.specs.Small.{SmallRow}
+use Rattle.desk_spec.specs.Desks.{plus}
 use Rattle.desk_rows.specs.Images.{Factors, entry, product-fits}
 use Rattle.desk_rows.specs.Marks.{shift-one}
 use Rattle.desk_rows.specs.Rows.{Raised, SmallTuple}

@@ -41,7 +41,7 @@ pub fn enlist(list: &mut [u32], found: usize, q: usize, top: &[u32]) -> Stepped
         lists::rows::write(list, found * q, q, top);
         return Stepped::Listed(found + 1);
     }
-    let left = pair_rows::sweep::sweep(list, found, q);
+    let left = table_rows::sweep::sweep(list, found, q);
     if capacity <= left {
         return Stepped::Refused(Refusal::ListFull);
     }

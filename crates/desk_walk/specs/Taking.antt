@@ -3,7 +3,7 @@ use mathlib.Core.Path.{_≡_, refl, sym, _∙_, ap, ap₂}
 use mathlib.Core.Logic.{_≢_, inl, inr}
 use mathlib.Core.Bool.{Bool, true, false, _&&_}
 use mathlib.Core.List.{List, []}
-use Prim.Native.Nat.{ℕ, zero, suc, _+_, _*_, _-_, _/_, _≤_, _<_}
+use Prim.Native.Nat.{ℕ, zero, suc, _+_, _*_, _/_, _≤_, _<_}
 use native.Mathlib.Nat.{le-div-iff-mul-le, mul-le-mul-right, pow-le-pow-right}
 use native.Mathlib.Omega.{arith}
 use borrow.Author.Tests.{le-leb, lt-leb, ne-eqb}
@@ -24,21 +24,20 @@ use Rattle.definitions.specs.Tables.{State, at, capacity, frozen, writeTo}
 use Rattle.laws.specs.MarkLaws.{marks-fit}
 use Rattle.laws.specs.SystemLaws.{covered-same}
 use Rattle.laws.specs.TableLaws.{row-fits, write-same}
-use Rattle.sweeps.specs.Again.{all-again}
-use Rattle.sweeps.specs.Pack.{packTo, writeIf}
-use Rattle.sweeps.specs.Sweep.{keeps}
+use Rattle.laws.specs.Again.{all-again}
+use Rattle.laws.specs.Pack.{packTo, writeIf}
+use Rattle.laws.specs.Sweep.{keeps}
 use Rattle.lists.specs.Rows.{tuple}
 use Rattle.products.specs.Marks.{marks-frozen, marks-same}
-use Rattle.pair_rows.specs.Valuing.{value-small}
 use Rattle.calls.specs.Paper.{numberOf, stateOf, valuesOf}
 use Rattle.calls.specs.declared.Record.{Record}
 use Rattle.calls.specs.declared.Refusal.the-variants.{ComponentLimit}
-use Rattle.desk_form.specs.Desks.{Desk, deskChildren, deskDeeper, deskFull, deskGrown, deskLevel, deskListed, deskMakes, deskRow, deskSearchChecks, deskStep}
-use Rattle.desk_form.specs.Desks.{deskTooLarge, deskTop, deskTopMarks, freed, generator, generatorCount, plus, raises, secondGroup, swept, towardsGenerator}
-use Rattle.desk_form.specs.Records.{lentWith}
-use Rattle.desk_form.specs.Valid.{DeskShaped, DeskValid, children-few, free}
+use Rattle.desk_spec.specs.Desks.{Desk, deskChildren, deskDeeper, deskFull, deskGrown, deskLevel, deskListed, deskMakes, deskRow, deskSearchChecks, deskStep}
+use Rattle.desk_spec.specs.Desks.{deskTooLarge, deskTop, deskTopMarks, freed, generator, generatorCount, plus, raises, secondGroup, swept, towardsGenerator}
+use Rattle.desk_spec.specs.Records.{lentWith}
+use Rattle.desk_spec.specs.Valid.{DeskShaped, DeskValid, children-few, free}
 use Rattle.desk_calls.specs.Calls.{deskOf, moved}
-use Rattle.desk_rows.specs.Images.{Factors, Images, SmallDesk, desk-equation, entry}
+use Rattle.desk_rows.specs.Images.{Factors, Images, SmallDesk, entry, map-value}
 use Rattle.desk_rows.specs.Rows.{SmallTuple, row-alike}
 use Rattle.desk_step.specs.Listing as listing
 use Rattle.desk_step.specs.Listing.{Enlisted, sweptCount, sweptList}
@@ -153,7 +152,7 @@ module _ {p q : ℕ} {coefs : List ℤ} {generators : List ℕ} {images : List �
         few = z .valid .shaped .p-few;
         low = (omega arith, omega (arith, z .valid .shaped .few));
         left = λ i ip. rw (z .image i ip)
-            (value-small (deskTop d s) (desk-equation small i ip) (λ k kq. z .valid .ordered .rows (deskLevel s) (omega (arith, z .high)) .small k kq));
+            (map-value (small .group) i (deskTop d s) (λ k kq. z .valid .ordered .rows (deskLevel s) (omega (arith, z .high)) .small k kq));
         right = λ i ip. rw (z .handed .each j i l ip) (z .valid .shaped .images j i l ip);
       }
 

@@ -9,10 +9,10 @@ use Rattle.definitions.specs.Machine.{walk}
 use Rattle.definitions.specs.Refusals.{stepLimit}
 use Rattle.definitions.specs.Tables.{State, at}
 use Rattle.laws.specs.MachineLaws.{walk-done, walk-more, walk-paused, walk-refused}
-use Rattle.sweeps.specs.Sweep.{keeps}
-use Rattle.pair_rows.specs.Keeping.{Kept}
-use Rattle.desk_form.specs.Desks.{Desk, deskMachine, deskSearchChecks, deskStep, settled, swept}
-use Rattle.desk_form.specs.Valid.{DeskValid, search-going, settled-done, settled-of, step-valid}
+use Rattle.laws.specs.Sweep.{keeps}
+use Rattle.table_rows.specs.Keeping.{Kept}
+use Rattle.desk_spec.specs.Desks.{Desk, deskMachine, deskSearchChecks, deskStep, settled, swept}
+use Rattle.desk_spec.specs.Valid.{DeskValid, search-going, settled-done, settled-of, step-valid}
 use Rattle.desk_walk.specs.Taking.{movedTo}
 
 module _ (d : Desk) where

@@ -4,13 +4,12 @@ ghost use Prim.Native.Nat.{_+_, _*_, _-_, _/_, _≤_, _<_, max};
 ghost use lib.ListN.{length};
 ghost use Rattle.definitions.specs.Machine as paper;
 ghost use Rattle.lists.specs.Rows.{Holds};
-ghost use Rattle.pair_rows.specs.Choosing.{SmallMap};
-ghost use Rattle.pair_rows.specs.Small.{SmallRow};
-ghost use Rattle.desk_form.specs.Desks.{deskMachine};
-ghost use Rattle.desk_form.specs.Valid.{DeskValid};
+ghost use Rattle.table_rows.specs.Small.{SmallRow};
+ghost use Rattle.desk_spec.specs.Desks.{deskMachine};
+ghost use Rattle.desk_spec.specs.Valid.{DeskValid};
 ghost use Rattle.calls.specs.Paper.{stateOf};
 ghost use Rattle.desk_calls.specs.Calls.{deskOf, outcomeOf};
-ghost use Rattle.desk_rows.specs.Images.{ImageWritten, imageAt};
+ghost use Rattle.desk_rows.specs.Images.{ImageWritten, SmallMap, imageAt};
 ghost use Rattle.desk_walk.specs.Taking.{Standing, Taken, stateAt};
 use calls::Record;
 use calls::Refusal;
@@ -105,7 +104,7 @@ pub fn walk(
         steps += 1;
         left -= 1;
     }
-    let kept = pair_rows::sweep::sweep(list, found, q);
+    let kept = table_rows::sweep::sweep(list, found, q);
     desk_calls::leave(Answer::Complete, r, height, kept, steps, deepest)
 }
 

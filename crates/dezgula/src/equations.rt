@@ -1,11 +1,11 @@
 // Equations as people write them (document 02, Job 3); library/raw.h says the same to C.
 ghost use mathlib.Core.Path.{_≡_};
 ghost use lib.ListN.{length};
-ghost use Rattle.equation_form.specs.Outcome.{outcome};
-ghost use Rattle.equation_form.specs.Writing.{write};
-ghost use Rattle.equation_text.specs.Answer.{answered};
-ghost use Rattle.equation_lines.specs.Systems.{readSystem};
-ghost use Rattle.equation_codes.specs.Codes.{readTold, writeTold, systemTold};
+ghost use Rattle.equation_spec.specs.Outcome.{outcome};
+ghost use Rattle.equation_spec.specs.Writing.{write};
+ghost use Rattle.equation_read.specs.Answer.{answered};
+ghost use Rattle.equation_spec.specs.Systems.{readSystem};
+ghost use Rattle.c_equation.specs.Codes.{readTold, writeTold, systemTold};
 
 // Reads the equation that `text` writes for `q` unknowns; its coefficients go to `row`, its right side to `side`.
 #[no_mangle]
@@ -18,7 +18,7 @@ pub extern "C" fn dezgula_raw_read_equation(
     ensures { λ a. ⌜ (a, (now (row .exit), now (side .exit))) ≡
         readTold (answered (outcome q (length (now (row .entry))) (now (text .entry))) (now (row .entry))) (now (side .entry)) ⌝ }
 {
-    equation_codes::read_equation(text, q, row, side)
+    c_equation::read_equation(text, q, row, side)
 }
 
 // Writes the equation of `row`, the coefficients of `q` unknowns, with the right side `right` to the beginning of `out`.
@@ -31,7 +31,7 @@ pub extern "C" fn dezgula_raw_write_equation(
 ) -> u64
     ensures { λ a. ⌜ (a, now (out .exit)) ≡ writeTold (write q (now (row .entry)) right (now (out .entry))) ⌝ }
 {
-    equation_codes::write_equation(q, row, right, out)
+    c_equation::write_equation(q, row, right, out)
 }
 
 // Reads the system that `text` writes for `q` unknowns, one equation a line; its coefficients go to the beginning of `coefs`, its right sides to that of
@@ -47,5 +47,5 @@ pub extern "C" fn dezgula_raw_read_system(
     ensures { λ a. ⌜ (a, (now (coefs .exit), (now (rights .exit), now (within .exit)))) ≡
         systemTold (readSystem q (now (text .entry)) (now (coefs .entry)) (now (rights .entry))) (now (within .entry)) ⌝ }
 {
-    equation_codes::systems::read_system(text, q, coefs, rights, within)
+    c_equation::systems::read_system(text, q, coefs, rights, within)
 }

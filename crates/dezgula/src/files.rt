@@ -1,9 +1,9 @@
 // Files of lists (document 02, Job 5); library/raw.h says the same to C.
 ghost use mathlib.Core.Path.{_≡_};
-ghost use Rattle.list_form.specs.Writing.{writeList};
-ghost use Rattle.list_form.specs.Reading.{readFile};
+ghost use Rattle.list_spec.specs.Writing.{writeList};
+ghost use Rattle.list_spec.specs.Reading.{readFile};
 ghost use Rattle.list_write.specs.Answer.{listOf};
-ghost use Rattle.list_codes.specs.Codes.{writeTold, readTold};
+ghost use Rattle.c_list.specs.Codes.{writeTold, readTold};
 
 // Writes a list into `out`, which has the exact length.
 #[no_mangle]
@@ -17,7 +17,7 @@ pub extern "C" fn dezgula_raw_write_list(
 ) -> u64
     ensures { λ a. ⌜ (a, now (out .exit)) ≡ writeTold (writeList (listOf p q (now (coefs .entry)) (now (rows .entry)) ending) (now (out .entry))) ⌝ }
 {
-    list_codes::write_list(p, q, coefs, rows, ending, out)
+    c_list::write_list(p, q, coefs, rows, ending, out)
 }
 
 // Reads a file: the coefficients go to the beginning of `coefs`, the rows to the beginning of `list`, and p, q, the row count and the ending to `words`.
@@ -31,5 +31,5 @@ pub extern "C" fn dezgula_raw_read_list(
     ensures { λ a. ⌜ (a, (now (coefs .exit), (now (list .exit), now (words .exit)))) ≡
         readTold (readFile (now (file .entry)) (now (coefs .entry)) (now (list .entry))) (now (words .entry)) ⌝ }
 {
-    list_codes::read_list(file, coefs, list, words)
+    c_list::read_list(file, coefs, list, words)
 }

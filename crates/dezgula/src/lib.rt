@@ -1,24 +1,22 @@
 // The solver as other languages call it: library/raw.h says the same to C, and library/dezgula.c has the calls of include/ over it. Each function forwards to a
-// crate that holds its logic. The run record comes as words (record_words/specs/Words.antt), and an answer goes out as one
-// number (answer_codes/specs/Codes.antt, record_words/specs/Codes.antt).
+// crate that holds its logic. The run record comes as words (c_record/specs/Words.antt), and an answer goes out as one
+// number (c_answers/specs/Codes.antt, c_record/specs/Codes.antt).
 ghost use mathlib.Core.Path.{_≡_};
 ghost use Rattle.definitions.specs.Highest.{locate};
 ghost use Rattle.definitions.specs.Input.{inputOf};
 ghost use Rattle.definitions.specs.Reasons.{reason};
 ghost use Rattle.desk_calls.specs.Calls.{deskOf};
-ghost use Rattle.desk_words.specs.Words.{deskResumeWords, deskStartWords};
-ghost use Rattle.dispatch_words.specs.Words.{dispatchWords};
+ghost use Rattle.c_desk.specs.Words.{deskResumeWords, deskStartWords};
+ghost use Rattle.c_dispatch.specs.Words.{dispatchWords};
 ghost use Rattle.lookups.specs.Answers.{locatedNumber};
 ghost use Rattle.reasons.specs.Numbers.{reasonTold};
-ghost use Rattle.record_words.specs.Words.{told, startWords, resumeWords};
-ghost use Rattle.row_words.specs.Rows.{rowTold};
-ghost use Rattle.map_words.specs.Words.{readWords};
-ghost use Rattle.pair_lists.specs.Calling.{roomOf};
-ghost use Rattle.pair_words.specs.Words.{startWords as pairsStartWords, resumeWords as pairsResumeWords, told as pairsTold};
-ghost use Rattle.multiples_form.specs.Parts.{decomposed};
+ghost use Rattle.c_record.specs.Words.{told, startWords, resumeWords};
+ghost use Rattle.c_rows.specs.Rows.{rowTold};
+ghost use Rattle.c_map.specs.Words.{readWords};
+ghost use Rattle.multiples_spec.specs.Parts.{decomposed};
 ghost use Rattle.multiples.specs.Answers.{partsTold};
-ghost use Rattle.single_file.specs.Listing.{listingCall};
-ghost use Rattle.single_words.specs.SingleFile.{singleStartWords, singleResumeWords, listingTold};
+ghost use Rattle.single_spec.specs.Listing.{listingCall};
+ghost use Rattle.c_single.specs.SingleFile.{singleStartWords, singleResumeWords, listingTold};
 
 mod equations; // equations.rt: typed equations
 mod files; // files.rt: lists as files
@@ -41,7 +39,7 @@ pub extern "C" fn dezgula_raw_start(
     ensures { λ a. ⌜ (a, (now (stack .exit), (now (list .exit), now (run .exit)))) ≡
         told (now (run .entry)) (startWords (now (run .entry)) (inputOf p q (now (coefs .entry))) (now (stack .entry)) (now (list .entry))) ⌝ }
 {
-    call_words::start(p, q, coefs, stack, list, run)
+    c_walk::start(p, q, coefs, stack, list, run)
 }
 
 // The continuing call.
@@ -58,7 +56,7 @@ pub extern "C" fn dezgula_raw_resume(
     ensures { λ a. ⌜ (a, (now (stack .exit), (now (list .exit), now (run .exit)))) ≡
         told (now (run .entry)) (resumeWords budget (now (run .entry)) (inputOf p q (now (coefs .entry))) (now (stack .entry)) (now (list .entry))) ⌝ }
 {
-    call_words::resume(p, q, coefs, stack, list, run, budget)
+    c_walk::resume(p, q, coefs, stack, list, run, budget)
 }
 
 // Row n of a finished list, copied to the beginning of `out`.
@@ -72,7 +70,7 @@ pub extern "C" fn dezgula_raw_row(
 ) -> u64
     ensures { λ a. ⌜ (a, now (out .exit)) ≡ rowTold q (now (list .entry)) found n (now (out .entry)) ⌝ }
 {
-    row_words::tell(list, q, found, n, out)
+    c_rows::tell(list, q, found, n, out)
 }
 
 // The plain start of a single-file map.
@@ -88,7 +86,7 @@ pub extern "C" fn dezgula_raw_start_single_file(
     ensures { λ a. ⌜ (a, (now (stack .exit), (now (list .exit), now (run .exit)))) ≡
         told (now (run .entry)) (singleStartWords (now (run .entry)) (inputOf p q (now (coefs .entry))) (now (stack .entry)) (now (list .entry))) ⌝ }
 {
-    single_words::start(p, q, coefs, stack, list, run)
+    c_single::start(p, q, coefs, stack, list, run)
 }
 
 // The continuing call of a single-file map.
@@ -105,7 +103,7 @@ pub extern "C" fn dezgula_raw_resume_single_file(
     ensures { λ a. ⌜ (a, (now (stack .exit), (now (list .exit), now (run .exit)))) ≡
         told (now (run .entry)) (singleResumeWords budget (now (run .entry)) (inputOf p q (now (coefs .entry))) (now (stack .entry)) (now (list .entry))) ⌝ }
 {
-    single_words::resume(p, q, coefs, stack, list, run, budget)
+    c_single::resume(p, q, coefs, stack, list, run, budget)
 }
 
 // The listing of a single-file map.
@@ -120,7 +118,7 @@ pub extern "C" fn dezgula_raw_listing(
 ) -> u64
     ensures { λ a. ⌜ (a, now (out .exit)) ≡ listingTold (listingCall (inputOf p q (now (coefs .entry))) (now (list .entry)) found (now (out .entry))) ⌝ }
 {
-    single_words::listed(p, q, coefs, list, found, out)
+    c_single::listed(p, q, coefs, list, found, out)
 }
 
 // Up to eight runs at a time.
@@ -138,7 +136,7 @@ pub extern "C" fn dezgula_raw_dispatch(
     ensures { λ a. ⌜ (a, (now (stack .exit), (now (list .exit), now (round .exit)))) ≡
         dispatchWords count quantum turns (now (shares .entry)) (now (coefs .entry)) (now (stack .entry)) (now (list .entry)) (now (round .entry)) ⌝ }
 {
-    dispatch_words::dispatch(count, quantum, turns, shares, coefs, stack, list, round)
+    c_dispatch::dispatch(count, quantum, turns, shares, coefs, stack, list, round)
 }
 
 // The highest place of a row of the list at or below a tuple.
@@ -185,47 +183,6 @@ pub extern "C" fn dezgula_raw_decompose(
     multiples::decompose_number(p, q, coefs, list, found, tuple, times, amount)
 }
 
-// ---- the basis by sums of pairs (crate pair_words)
-
-// The start.
-#[no_mangle]
-pub extern "C" fn dezgula_raw_pairs_start(
-    p: usize,
-    q: usize,
-    coefs: &[i32],
-    table: &mut [u32],
-    supports: &[u32],
-    values: &[i64],
-    run: &mut [u64],
-) -> u64
-    ensures { λ a. ⌜ (a, (now (table .exit), now (run .exit))) ≡
-        pairsTold (now (run .entry))
-        (pairsStartWords p q (now (coefs .entry)) (roomOf q (now (table .entry)) (now (supports .entry)) (now (values .entry))) (now (table .entry))
-        (now (run .entry))) ⌝ }
-{
-    pair_words::start(p, q, coefs, table, supports, values, run)
-}
-
-// The continuing call.
-#[no_mangle]
-pub extern "C" fn dezgula_raw_pairs_resume(
-    p: usize,
-    q: usize,
-    coefs: &[i32],
-    table: &mut [u32],
-    supports: &mut [u32],
-    values: &mut [i64],
-    run: &mut [u64],
-    budget: u64,
-) -> u64
-    ensures { λ a. ⌜ (a, (now (table .exit), now (run .exit))) ≡
-        pairsTold (now (run .entry))
-        (pairsResumeWords p q (now (coefs .entry)) (roomOf q (now (table .entry)) (now (supports .entry)) (now (values .entry))) budget
-        (now (table .entry)) (now (run .entry))) ⌝ }
-{
-    pair_words::resume(p, q, coefs, table, supports, values, run, budget)
-}
-
 // ---- one desk after the other (crate desk_words)
 
 // The start of the second of two desks.
@@ -243,7 +200,7 @@ pub extern "C" fn dezgula_raw_start_desk(
         told (now (run .entry))
         (deskStartWords (now (run .entry)) (deskOf p q (now (coefs .entry)) (now (generators .entry))) (now (stack .entry)) (now (list .entry))) ⌝ }
 {
-    desk_words::start(p, q, coefs, generators, stack, list, run)
+    c_desk::start(p, q, coefs, generators, stack, list, run)
 }
 
 // The continuing call.
@@ -262,7 +219,7 @@ pub extern "C" fn dezgula_raw_resume_desk(
         told (now (run .entry))
         (deskResumeWords budget (now (run .entry)) (deskOf p q (now (coefs .entry)) (now (generators .entry))) (now (stack .entry)) (now (list .entry))) ⌝ }
 {
-    desk_words::resume(p, q, coefs, generators, stack, list, run, budget)
+    c_desk::resume(p, q, coefs, generators, stack, list, run, budget)
 }
 
 // Reads the text form of a map (crate map_words).
@@ -274,5 +231,5 @@ pub extern "C" fn dezgula_raw_read_map(
 ) -> u64
     ensures { λ a. ⌜ (a, (now (coefs .exit), now (words .exit))) ≡ readWords (now (text .entry)) (now (coefs .entry)) (now (words .entry)) ⌝ }
 {
-    map_words::read_map(text, coefs, words)
+    c_map::read_map(text, coefs, words)
 }

@@ -6,7 +6,7 @@ ghost use Rattle.definitions.specs.Reasons.{reasonWithin};
 ghost use Rattle.definitions.specs.Refusals.{largeSizes};
 ghost use Rattle.lookups.specs.Answers.{locatedNumber};
 ghost use Rattle.reasons.specs.Numbers.{reasonTold};
-ghost use Rattle.multiples_form.specs.Parts.{decomposedWithin};
+ghost use Rattle.multiples_spec.specs.Parts.{decomposedWithin};
 ghost use Rattle.multiples.specs.Answers.{partsTold};
 
 // The highest place of a row of the list at or below a tuple.

@@ -1,8 +1,8 @@
 // The training seat; library/raw.h says the same to C.
 ghost use mathlib.Core.Path.{_≡_};
-ghost use Rattle.record_words.specs.Words.{told, toldBoth};
-ghost use Rattle.training_form.specs.Training.{seatInput};
-ghost use Rattle.training_words.specs.SeatWords.{seatResumeFromWords, seatResumeWords, seatStartFromWords, seatStartWords};
+ghost use Rattle.c_record.specs.Words.{told, toldBoth};
+ghost use Rattle.seat_spec.specs.Training.{seatInput};
+ghost use Rattle.c_seat.specs.SeatWords.{seatResumeFromWords, seatResumeWords, seatStartFromWords, seatStartWords};
 
 // The plain start.
 #[no_mangle]
@@ -17,7 +17,7 @@ pub extern "C" fn dezgula_raw_start_training(
     ensures { λ a. ⌜ (a, (now (stack .exit), (now (list .exit), now (run .exit)))) ≡
         told (now (run .entry)) (seatStartWords (now (run .entry)) (seatInput p q (now (coefs .entry))) (now (stack .entry)) (now (list .entry))) ⌝ }
 {
-    training_words::start(p, q, coefs, stack, list, run)
+    c_seat::start(p, q, coefs, stack, list, run)
 }
 
 // The start of a run from a lower bound.
@@ -37,7 +37,7 @@ pub extern "C" fn dezgula_raw_start_training_from(
         (seatStartFromWords (now (lower .entry)) (now (run .entry)) (seatInput p q (now (coefs .entry))) (now (stack .entry)) (now (list .entry))
         (now (second .entry))) ⌝ }
 {
-    training_words::start_from(p, q, coefs, lower, stack, list, second, run)
+    c_seat::start_from(p, q, coefs, lower, stack, list, second, run)
 }
 
 // The continuing call of a plain run.
@@ -54,7 +54,7 @@ pub extern "C" fn dezgula_raw_resume_training(
     ensures { λ a. ⌜ (a, (now (stack .exit), (now (list .exit), now (run .exit)))) ≡
         told (now (run .entry)) (seatResumeWords budget (now (run .entry)) (seatInput p q (now (coefs .entry))) (now (stack .entry)) (now (list .entry))) ⌝ }
 {
-    training_words::resume(p, q, coefs, stack, list, run, budget)
+    c_seat::resume(p, q, coefs, stack, list, run, budget)
 }
 
 // The continuing call of a run from a lower bound.
@@ -75,5 +75,5 @@ pub extern "C" fn dezgula_raw_resume_training_from(
         (seatResumeFromWords budget (now (lower .entry)) (now (run .entry)) (seatInput p q (now (coefs .entry))) (now (stack .entry)) (now (list .entry))
         (now (second .entry))) ⌝ }
 {
-    training_words::resume_from(p, q, coefs, lower, stack, list, second, run, budget)
+    c_seat::resume_from(p, q, coefs, lower, stack, list, second, run, budget)
 }

@@ -1,15 +1,15 @@
 -- The calls by what their checks find. Assumes nothing.
-use mathlib.Core.Path.{_≡_, refl, sym, _∙_, ap}
+use mathlib.Core.Path.{_≡_, refl, _∙_}
 use mathlib.Core.Logic.{_⊎_, inl, inr}
-use mathlib.Core.Bool.{Bool, true, false, cond, not, _&&_, _||_}
-use mathlib.Core.List.{List, []}
-use Prim.Native.Nat.{ℕ, _+_, _*_, _^_, _-_, _≤_, _<_}
+use mathlib.Core.Bool.{Bool, true, false, not, _&&_, _||_}
+use mathlib.Core.List.{List}
+use Prim.Native.Nat.{ℕ, _+_, _*_, _≤_}
 use native.Mathlib.Nat.{mul-le-mul, mul-le-mul-right}
 use native.Mathlib.Omega.{arith}
-use borrow.Author.Tests.{le-ltb, lt-ltb, leb-true, ltb-true, not-false}
+use borrow.Author.Tests.{leb-true, ltb-true, not-false}
 use lib.Dec.{eqb, leb, ltb}
-use lib.IntN.{ℤ, pos}
-use lib.ListN.{getD, length}
+use lib.IntN.{ℤ}
+use lib.ListN.{length}
 use Rattle.linear.specs.Cases.{order}
 use Rattle.definitions.specs.Answers as paper
 use Rattle.definitions.specs.Answers.{_then_}
@@ -17,8 +17,8 @@ use Rattle.definitions.specs.System.{isZero}
 use Rattle.laws.specs.AnswerLaws.{refuse-if-go, then-assoc, then-go}
 use Rattle.laws.specs.TableLaws.{row-fits}
 use Rattle.engine_spec.specs.Calls as spec
-use Rattle.engine_spec.specs.Engine.{Work, allDone, rested, run}
-use Rattle.engine_calls.specs.Records.{answerOf, besideOf, call-passed, call-refused, checkOf, lengthsOf, outcomeOf, passes, refusedWith, workOf}
+use Rattle.engine_spec.specs.Engine.{Work, run}
+use Rattle.engine_calls.specs.Records.{call-passed, call-refused, checkOf, lengthsOf, outcomeOf, passes, refusedWith, workOf}
 use Rattle.engine_calls.specs.declared.Beside.{Beside}
 use Rattle.engine_calls.specs.declared.Check.{Check}
 use Rattle.engine_calls.specs.declared.Check.the-variants.{Pass, Refuse}
@@ -26,9 +26,22 @@ use Rattle.engine_calls.specs.declared.Outcome.{Outcome}
 use Rattle.engine_calls.specs.declared.Record.{Record}
 use Rattle.engine_calls.specs.declared.Refusal.{Refusal}
 use Rattle.engine_checks.specs.Operating.{combinesSmall}
-use Rattle.engine_checks.specs.Room.{StageFits, basis-few, basis-fits, stage-fits}
-use Rattle.engine_checks.specs.Standing.{Roomed, Stands, equation-small, left-below, resume-checks, standing, stands, start-checks, startChecksBy, starts}
-use Rattle.engine_begins.specs.Begins.{Begun, Fitting, Operated, Taken, begun-is, operated-is, taken-is}
+use Rattle.engine_checks.specs.Room.{basis-few, basis-fits, stage-fits}
+use Rattle.engine_checks.specs.Standing.{
+  Roomed,
+  Stands,
+  equation-small,
+  left-below,
+  standing,
+  stands,
+  start-checks,
+  start-from-checks,
+  startChecksBy,
+  startFromChecksBy,
+  starts,
+  starts-from,
+}
+use Rattle.engine_begins.specs.Begins.{Begun, BegunFrom, Fitting, FittingList, Operated, Taken, begun-from-is, begun-is, operated-is, taken-is}
 use Rattle.engine_begins.specs.Writing.{Combines}
 
 -- ---- room
@@ -64,6 +77,39 @@ module _ (p q : ℕ) (coefs equations : List ℤ) (basis table : List ℕ) (l : 
       → outcomeOf o equations′ basis′ table ≡ spec.start p q coefs (spec.basisRoom q (lengthsOf basis table l)) (workOf equations basis table r)
   unfolding spec.start
   start-passed g b = call-passed (rw m at (e ∙ start-checks p q coefs most (workOf equations basis table r))) equations basis table r _ g (begun-is table r b)
+
+-- ---- the start from a list
+
+module _ (p q : ℕ) (coefs : List ℤ) (n : ℕ) (rows : List ℕ) (equations : List ℤ) (basis table : List ℕ) (l : Beside) (r : Record) {made : Check} {most : ℕ}
+    (m : most ≡ spec.basisRoom q (lengthsOf basis table l)) (e : checkOf made ≡ startFromChecksBy p q coefs n rows most (length equations)) where
+  pub start-from-refused : {why : Refusal} → made ≡ Refuse why
+      → outcomeOf (refusedWith why r) equations basis table
+      ≡ spec.startFrom p q coefs n rows (spec.basisRoom q (lengthsOf basis table l)) (workOf equations basis table r)
+  unfolding spec.startFrom
+  start-from-refused g =
+      call-refused (rw m at (e ∙ start-from-checks p q coefs n rows most (workOf equations basis table r))) equations basis table r _ g
+
+  pub start-from-enters : made ≡ Pass → FittingList p q (length coefs) n (length rows) (length equations) (length basis)
+  start-from-enters g =
+      let (s, some, list) = starts-from p q coefs n rows most (length equations) (passes e g) in
+      let few : n ≤ 1000000000 = omega (arith, rw m at some, basis-few q (length basis) (l .sizes) .1) in
+      record {
+        count = s .count;
+        whole = s .whole;
+        few = omega (arith, mul-le-mul {n₁ = p} {m₁ = q} {n₂ = 32} {m₂ = 32} (s .size .equations) (s .size .unknowns));
+        list = list;
+        long = omega (arith, basis-fits q (length basis) (l .sizes), mul-le-mul-right q (rw m at some));
+        some = omega (arith, mul-le-mul {n₁ = n} {m₁ = q} {n₂ = 1000000000} {m₂ = 32} few (s .size .unknowns));
+      }
+
+  pub start-from-passed : made ≡ Pass → {o : Outcome} {equations′ : List ℤ} {basis′ : List ℕ}
+      → BegunFrom p q coefs n rows equations basis o equations′ basis′
+      → outcomeOf o equations′ basis′ table
+      ≡ spec.startFrom p q coefs n rows (spec.basisRoom q (lengthsOf basis table l)) (workOf equations basis table r)
+  unfolding spec.startFrom
+  start-from-passed g b =
+      call-passed (rw m at (e ∙ start-from-checks p q coefs n rows most (workOf equations basis table r))) equations basis table r _ g
+      (begun-from-is table r b)
 
 -- ---- a row operation, and the begin of a stage
 
@@ -115,7 +161,8 @@ module _ (p q : ℕ) (equations : List ℤ) (basis table : List ℕ) (l : Beside
     combine-enters g =
         let (z, own) = standing-both p q most room (workOf equations basis table run) _ (passes e g) in
         let (x, y) = then-go _ _ own in
-        let (lr, sp) = both (spec.isLeft p r (workOf equations basis table run)) (ltb s p) (passed (spec.isLeft p r (workOf equations basis table run) && ltb s p) 32 x) in
+        let (lr, sp) = both (spec.isLeft p r (workOf equations basis table run)) (ltb s p) (passed (spec.isLeft p r
+        (workOf equations basis table run) && ltb s p) 32 x) in
         let (_, o) = both (not (isZero u)) _ (passed (spec.isOperation q r s u t (workOf equations basis table run)) 34 y) in
         let (_, small) = both (not (eqb r s) || isZero t) _ o in
         record {

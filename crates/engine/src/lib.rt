@@ -1,4 +1,4 @@
-// The engine's calls: the start, a row operation and the begin of a stage. Each takes the record by value and returns what it leaves.
+// The engine's calls: the start, plain or from a list, a row operation and the begin of a stage. Each takes the record by value and returns what it leaves.
 ghost use mathlib.Core.Path.{_≡_};
 ghost use Rattle.engine_spec.specs.Calls as spec;
 ghost use Rattle.engine_calls.specs.Records.{lengthsOf, outcomeOf, workOf};
@@ -29,6 +29,30 @@ pub fn start(
     match standing::check_start(p, q, coefs, equations.len(), most) {
         Check::Refuse(why) => engine_calls::refused(why, r),
         Check::Pass => begins::begin(p, q, coefs, equations, basis),
+    }
+}
+
+// The start from a list: further equations become the working system, the n rows handed over the basis.
+pub fn start_from(
+    p: usize,
+    q: usize,
+    coefs: &[i32],
+    n: usize,
+    rows: &[u32],
+    equations: &mut [i32],
+    basis: &mut [u32],
+    table: &[u32],
+    l: Beside,
+    r: Record,
+) -> Outcome
+    ensures { λ o. ⌜ outcomeOf o (now (equations .exit)) (now (basis .exit)) (now (table .entry))
+        ≡ spec.startFrom p q (now (coefs .entry)) n (now (rows .entry)) (spec.basisRoom q (lengthsOf (now (basis .entry)) (now (table .entry)) l))
+        (workOf (now (equations .entry)) (now (basis .entry)) (now (table .entry)) r) ⌝ }
+{
+    let most = capacity::basis_room(q, basis.len(), l.sizes);
+    match standing::check_start_from(p, q, coefs, n, rows, equations.len(), most) {
+        Check::Refuse(why) => engine_calls::refused(why, r),
+        Check::Pass => begins::begin_from(p, q, coefs, n, rows, equations, basis),
     }
 }
 

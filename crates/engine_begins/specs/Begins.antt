@@ -1,6 +1,6 @@
 -- What the start, a row operation and the begin of a stage leave, and that it is what the definitions say. Assumes nothing.
-use mathlib.Core.Path.{_≡_, refl}
-use mathlib.Core.Bool.{Bool, true, false, cond}
+use mathlib.Core.Path.{_≡_}
+use mathlib.Core.Bool.{cond}
 use mathlib.Core.List.{List}
 use Prim.Native.Nat.{ℕ, _*_, _≤_, _<_}
 use borrow.Author.Tests.{le-ltb, lt-ltb}
@@ -8,14 +8,14 @@ use lib.Dec.{ltb}
 use mathlib.Core.Logic.{inl, inr}
 use Rattle.linear.specs.Cases.{split}
 use lib.IntN.{ℤ, pos}
-use lib.ListN.{getD, length}
+use lib.ListN.{getD}
 use Rattle.linear.specs.Tests.{countTo}
 use Rattle.linear.specs.Tuples.{unit}
 use Rattle.definitions.specs.Answers.{started}
-use Rattle.definitions.specs.Tables.{at}
-use Rattle.sweeps.specs.Pack.{packTo}
-use Rattle.sweeps.specs.Sweep.{sweptTo}
-use Rattle.engine_spec.specs.Engine.{begun, combined, fillTo, result, taken, takenFresh}
+use Rattle.definitions.specs.Tables.{at, writeTo}
+use Rattle.laws.specs.Pack.{packTo}
+use Rattle.laws.specs.Sweep.{sweptTo}
+use Rattle.engine_spec.specs.Engine.{begun, begunFrom, combined, fillTo, result, taken, takenFresh}
 use Rattle.engine_rows.specs.Keeping.{lacks}
 use Rattle.engine_rows.specs.Packing.{always}
 use Rattle.engine_calls.specs.Records.{leaves, outcomeOf, recordOf, workOf}
@@ -41,6 +41,27 @@ pub begun-is : {p q : ℕ} {coefs equations : List ℤ} {basis : List ℕ} {o : 
     → outcomeOf o equations′ basis′ table ≡ result started (begun p q coefs (workOf equations basis table r))
 unfolding begun
 begun-is table r b = rw (b .outcome-is, b .equations-is, b .basis-is)
+
+-- a map that fits the working system, a list of n rows, and a basis with room for them
+pub record FittingList (p q coefs n rows equations basis : ℕ) : Type 0 where
+  pub count : coefs ≡ p * q
+  pub whole : p * q ≤ equations
+  pub few : p * q ≤ 1024
+  pub list : rows ≡ n * q
+  pub long : n * q ≤ basis
+  pub some : n * q ≤ 32000000000
+
+pub record BegunFrom (p q : ℕ) (coefs : List ℤ) (n : ℕ) (rows : List ℕ) (equations : List ℤ) (basis : List ℕ) (o : Outcome) (equations′ : List ℤ)
+    (basis′ : List ℕ) : Type 0 where
+  pub outcome-is : o ≡ leaves Started (recordOf 0 p q n 0 0 0 0 0 0)
+  pub equations-is : equations′ ≡ fillTo (p * q) equations 0 (λ k. getD coefs k (pos 0))
+  pub basis-is : basis′ ≡ writeTo (n * q) basis 0 (λ k. getD rows k 0)
+
+pub begun-from-is : {p q : ℕ} {coefs : List ℤ} {n : ℕ} {rows : List ℕ} {equations : List ℤ} {basis : List ℕ} {o : Outcome} {equations′ : List ℤ}
+    {basis′ : List ℕ} (table : List ℕ) (r : Record) → BegunFrom p q coefs n rows equations basis o equations′ basis′
+    → outcomeOf o equations′ basis′ table ≡ result started (begunFrom p q coefs n rows (workOf equations basis table r))
+unfolding begunFrom
+begun-from-is table r b = rw (b .outcome-is, b .equations-is, b .basis-is)
 
 pub record Operated (q r s : ℕ) (u t : ℤ) (equations : List ℤ) (run : Record) (o : Outcome) (equations′ : List ℤ) : Type 0 where
   pub outcome-is : o ≡ leaves Started run

@@ -1,20 +1,20 @@
 -- Numbers written into the working system: what the contracts cite, and one turn of their loops. Assumes nothing.
-use mathlib.Core.Path.{_≡_, refl, sym, _∙_, ap}
+use mathlib.Core.Path.{_≡_, refl, _∙_, ap}
 use mathlib.Core.Logic.{_⊎_, inl, inr}
-use mathlib.Core.Bool.{Bool, true, false}
+use mathlib.Core.Bool.{true}
 use mathlib.Core.List.{List}
-use Prim.Native.Nat.{ℕ, _+_, _*_, _≤_, _<_}
+use Prim.Native.Nat.{ℕ, _+_, _≤_, _<_}
 use native.Mathlib.Numerals.{add-one}
 use native.Mathlib.Omega.{arith}
-use lib.Dec.{T, leb, leb→le}
+use lib.Dec.{T, leb→le}
 use lib.IntN.{ℤ, pos, natAbs, _+ℤ_, _*ℤ_}
 use lib.ListN.{getD, length, set}
 use mir.Facts.{toZ-ofZ}
-use mir.Syntax.{w32, w64}
-use mir.Val.{SFits, ofZ, toZ}
+use mir.Syntax.{w32}
+use mir.Val.{SFits}
 use Rattle.linear.specs.Integers.{sfits-natAbs}
 use Rattle.linear.specs.TestLaws.{all-at}
-use Rattle.linear.specs.Tests.{allTo}
+use Rattle.definitions.specs.Tables.{writeTo}
 use Rattle.engine_spec.specs.Beside.{SmallEquation, coefficientLimit, equationAt}
 use Rattle.engine_spec.specs.Engine.{fillTo}
 use Rattle.engine_spec.specs.Operations.{fill-length, fill-outside}
@@ -87,3 +87,14 @@ module _ {q x y : ℕ} {u t : ℤ} {equations : List ℤ} (c : Combines q x y u 
 pub copy-more : (i : ℕ) (coefs table₀ : List ℤ) {table : List ℤ} {v : ℤ} → table ≡ fillTo i table₀ 0 (λ k. getD coefs k (pos 0)) → v ≡ getD coefs i (pos 0)
     → set table i v ≡ fillTo (i + 1) table₀ 0 (λ k. getD coefs k (pos 0))
 copy-more i coefs table₀ e g = let place : 0 + i ≡ i = omega arith in rw place at (fill-more i table₀ 0 (λ k. getD coefs k (pos 0)) e g)
+
+-- ---- the rows of a list copied
+
+pub list-none : (table : List ℕ) (f : ℕ → ℕ) → table ≡ writeTo 0 table 0 f
+unfolding writeTo
+list-none table f = refl
+
+pub list-more : (i : ℕ) (rows table₀ : List ℕ) {table : List ℕ} {v : ℕ} → table ≡ writeTo i table₀ 0 (λ k. getD rows k 0) → v ≡ getD rows i 0
+    → set table i v ≡ writeTo (i + 1) table₀ 0 (λ k. getD rows k 0)
+unfolding writeTo
+list-more i rows table₀ e g = let place : 0 + i ≡ i = omega arith in rw (add-one i, e, g, place)

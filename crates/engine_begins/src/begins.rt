@@ -4,7 +4,7 @@ ghost use Prim.Native.Nat.{_*_, _≤_};
 ghost use lib.ListN.{length};
 ghost use Rattle.engine_calls.specs.Records.{leaves, recordOf};
 ghost use Rattle.engine_calls.specs.declared.Answer.the-variants.{Started};
-ghost use Rattle.engine_begins.specs.Begins.{Begun, Fitting, Operated, Taken};
+ghost use Rattle.engine_begins.specs.Begins.{Begun, BegunFrom, Fitting, FittingList, Operated, Taken};
 ghost use Rattle.engine_begins.specs.Writing.{Combines};
 use crate::writing;
 use calls::Steps;
@@ -20,17 +20,36 @@ pub fn begin(p: usize, q: usize, coefs: &[i32], equations: &mut [i32], basis: &m
 {
     writing::copy(coefs, p * q, equations);
     rows::write_units(basis, q);
-    begun(p, q)
+    begun(p, q, q)
 }
 
-fn begun(p: usize, q: usize) -> Outcome
-    ensures { λ o. ⌜ o ≡ leaves Started (recordOf 0 p q q 0 0 0 0 0 0) ⌝ }
+// The n rows handed over are the basis.
+pub fn begin_from(
+    p: usize,
+    q: usize,
+    coefs: &[i32],
+    n: usize,
+    rows: &[u32],
+    equations: &mut [i32],
+    basis: &mut [u32],
+) -> Outcome
+    requires { ⌜ FittingList p q (length (now coefs)) n (length (now rows)) (length (now equations)) (length (now basis)) ⌝ }
+    ensures { λ o. ⌜ BegunFrom p q (now (coefs .entry)) n (now (rows .entry)) (now (equations .entry)) (now (basis .entry)) o (now (equations .exit))
+        (now (basis .exit)) ⌝ }
+{
+    writing::copy(coefs, p * q, equations);
+    writing::copy_rows(rows, n * q, basis);
+    begun(p, q, n)
+}
+
+fn begun(p: usize, q: usize, count: usize) -> Outcome
+    ensures { λ o. ⌜ o ≡ leaves Started (recordOf 0 p q count 0 0 0 0 0 0) ⌝ }
 {
     let run = Record {
         done: 0,
         equation: p,
         fresh: q,
-        count: q,
+        count,
         rows: 0,
         taken: 0,
         degree: 0,

@@ -3,6 +3,7 @@ ghost use mathlib.Core.Path.{_≡_};
 ghost use Prim.Native.Nat.{_≤_};
 ghost use lib.IntN.{natAbs, pos};
 ghost use lib.ListN.{getD, length};
+ghost use Rattle.definitions.specs.Tables.{writeTo};
 ghost use Rattle.engine_spec.specs.Beside.{coefficientLimit};
 ghost use Rattle.engine_spec.specs.Engine.{fillTo};
 ghost use Rattle.engine_begins.specs.Writing.{Combines, combinedAt};
@@ -16,6 +17,18 @@ pub fn copy(coefs: &[i32], n: usize, equations: &mut [i32])
     let mut i = 0;
     while i < n {
         equations[i] = coefs[i];
+        i += 1;
+    }
+}
+
+// The first n numbers of a list.
+pub fn copy_rows(rows: &[u32], n: usize, basis: &mut [u32])
+    requires { ⌜ (n ≤ length (now rows)) × (n ≤ length (now basis)) ⌝ }
+    ensures { λ _. ⌜ now (basis .exit) ≡ writeTo n (now (basis .entry)) 0 (λ k. getD (now (rows .entry)) k 0) ⌝ }
+{
+    let mut i = 0;
+    while i < n {
+        basis[i] = rows[i];
         i += 1;
     }
 }

@@ -14,7 +14,7 @@ use Rattle.linear.specs.Cases.{split}
 use Rattle.linear.specs.Tuples.{AtOrBelow, Same}
 use Rattle.definitions.specs.System.{isAtOrBelow}
 use Rattle.laws.specs.SystemLaws.{below-from}
-use Rattle.sweeps.specs.SweepLaws.{T-same}
+use Rattle.laws.specs.SweepLaws.{T-same}
 use Rattle.engine_spec.specs.Beside.{folded, wordOf}
 use Rattle.engine_spec.specs.Signs.{plus}
 use Rattle.engine_spec.specs.Words as words

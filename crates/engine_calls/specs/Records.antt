@@ -1,11 +1,10 @@
 -- The calls' types: the record and what is lent as the definitions have them, and for each case of an answer its number and values. Assumes nothing.
 use Prim.Native.Nat.{ℕ}
 use mathlib.Core.List.{List, [], _∷_}
-use mathlib.Core.Path.{_≡_, refl, sym, _∙_, ap}
+use mathlib.Core.Path.{_≡_, sym, _∙_, ap}
 use lib.IntN.{ℤ}
 use lib.ListN.{length}
 use Rattle.definitions.specs.Answers as paper
-use Rattle.calls.specs.declared.Steps.{Steps}
 use Rattle.engine_spec.specs.Calls.{Lengths, checked}
 use Rattle.engine_spec.specs.Engine.{Result, Work, result}
 use Rattle.engine_spec.specs.Stage.{Stage}
@@ -17,7 +16,16 @@ use Rattle.engine_calls.specs.declared.Check.the-variants.{Pass, Refuse}
 use Rattle.engine_calls.specs.declared.Outcome.{Outcome}
 use Rattle.engine_calls.specs.declared.Record.{Record}
 use Rattle.engine_calls.specs.declared.Refusal.{Refusal}
-use Rattle.engine_calls.specs.declared.Refusal.the-variants.{Coefficient, CoefficientCount, ComponentLimit, Equations, Full, NotFresh, NotLeft, NotOperation}
+use Rattle.engine_calls.specs.declared.Refusal.the-variants.{
+  Coefficient,
+  CoefficientCount,
+  ComponentLimit,
+  Equations,
+  Full,
+  NotFresh,
+  NotLeft,
+  NotOperation,
+}
 use Rattle.engine_calls.specs.declared.Refusal.the-variants.{OutOfOrder, Room, StepLimit, Unknowns}
 
 -- ---- the record, and what is lent

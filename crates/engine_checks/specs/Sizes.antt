@@ -1,11 +1,11 @@
 -- Refusals 1 and 2, what holds where they find nothing, and what comes after them. Assumes nothing.
-use mathlib.Core.Path.{_≡_, _∙_, ap}
-use mathlib.Core.Bool.{true, not}
+use mathlib.Core.Path.{_≡_}
+use mathlib.Core.Bool.{true}
 use Prim.Native.Nat.{ℕ, _≤_}
 use lib.Dec.{leb, leb→le}
 use borrow.Author.Tests.{le-leb, not-false}
 use Rattle.linear.specs.TestLaws.{and-parts}
-use Rattle.definitions.specs.Answers.{Check, go, _then_, refuseIf, refuseWith}
+use Rattle.definitions.specs.Answers.{Check, go, _then_}
 use Rattle.definitions.specs.Refusals.{between}
 use Rattle.laws.specs.AnswerLaws.{refuse-if-go, then-assoc, then-go}
 use Rattle.engine_spec.specs.Calls.{check1, check2}

@@ -2,11 +2,10 @@
 ghost use mathlib.Core.Path.{_≡_};
 ghost use Prim.Native.Nat.{_+_, _*_, _≤_, _<_};
 ghost use lib.ListN.{length};
-ghost use Rattle.linear.specs.Tests.{allTo};
 ghost use Rattle.linear.specs.Tuples.{total};
 ghost use Rattle.definitions.specs.Tables.{at};
 ghost use Rattle.engine_spec.specs.Beside.{SmallTable, rowAt};
-ghost use Rattle.engine_spec.specs.Calls.{coefficientsSmall, inOrder, isRising, isRow, marksInOrder};
+ghost use Rattle.engine_spec.specs.Calls.{coefficientsSmall, inOrder, isList, isRising, isRow, marksInOrder, rowLimit};
 ghost use Rattle.engine_calls.specs.Records.{workOf};
 ghost use Rattle.engine_checks.specs.Order.{Within, areRows, recordInOrder, risesBy};
 use crate::signs;
@@ -118,6 +117,17 @@ fn are_rows(table: &[u32], m: usize, q: usize) -> bool
         i += 1;
     }
     true
+}
+
+// Whether a list handed over is n rows of q numbers, each within the component limit and not all zero.
+pub fn is_list(rows: &[u32], n: usize, q: usize) -> bool
+    requires { ⌜ (q ≤ 32) × (n ≤ rowLimit) ⌝ }
+    ensures { λ b. ⌜ b ≡ isList q n (now (rows .entry)) ⌝ }
+{
+    if rows.len() != n * q {
+        return false;
+    }
+    are_rows(rows, n, q)
 }
 
 fn is_row(table: &[u32], base: usize, q: usize) -> bool

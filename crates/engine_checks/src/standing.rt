@@ -3,9 +3,9 @@ ghost use mathlib.Core.Path.{_≡_};
 ghost use Prim.Native.Nat.{_*_, _≤_};
 ghost use lib.ListN.{length};
 ghost use Rattle.checks.specs.Coefficients.{coefficientChecks};
-ghost use Rattle.engine_spec.specs.Calls.{combineChecks, takeChecks};
+ghost use Rattle.engine_spec.specs.Calls.{combineChecks, rowLimit, takeChecks};
 ghost use Rattle.engine_calls.specs.Records.{checkOf, workOf};
-ghost use Rattle.engine_checks.specs.Standing.{Roomed, standing, startChecksBy};
+ghost use Rattle.engine_checks.specs.Standing.{Roomed, mapChecks, standing, startChecksBy, startFromChecksBy};
 use crate::operations;
 use crate::order;
 use crate::sizes;
@@ -19,6 +19,43 @@ use engine_calls::Refusal;
 pub fn check_start(p: usize, q: usize, coefs: &[i32], equations: usize, most: usize) -> Check
     ensures { λ c. ⌜ checkOf c ≡ startChecksBy p q (now (coefs .entry)) most equations ⌝ }
 {
+    match check_map(p, q, coefs, equations, most) {
+        Check::Refuse(why) => Check::Refuse(why),
+        Check::Pass => check_coefficients(coefs),
+    }
+}
+
+// A start from n rows: 4 also of these, and 6 before 7.
+pub fn check_start_from(
+    p: usize,
+    q: usize,
+    coefs: &[i32],
+    n: usize,
+    rows: &[u32],
+    equations: usize,
+    most: usize,
+) -> Check
+    requires { ⌜ most ≤ rowLimit ⌝ }
+    ensures { λ c. ⌜ checkOf c ≡ startFromChecksBy p q (now (coefs .entry)) n (now (rows .entry)) most equations ⌝ }
+{
+    match check_map(p, q, coefs, equations, most) {
+        Check::Refuse(why) => Check::Refuse(why),
+        Check::Pass => {
+            if most < n {
+                return Check::Refuse(Refusal::Room);
+            }
+            if !order::is_list(rows, n, q) {
+                return Check::Refuse(Refusal::OutOfOrder);
+            }
+            check_coefficients(coefs)
+        }
+    }
+}
+
+// What every start checks of the map: refusals 1, 2, 3 and 4.
+fn check_map(p: usize, q: usize, coefs: &[i32], equations: usize, most: usize) -> Check
+    ensures { λ c. ⌜ checkOf c ≡ mapChecks p q (now (coefs .entry)) most equations ⌝ }
+{
     match sizes::check(p, q) {
         Check::Refuse(why) => Check::Refuse(why),
         Check::Pass => {
@@ -31,7 +68,7 @@ pub fn check_start(p: usize, q: usize, coefs: &[i32], equations: usize, most: us
             if most < q {
                 return Check::Refuse(Refusal::Room);
             }
-            check_coefficients(coefs)
+            Check::Pass
         }
     }
 }
@@ -103,6 +140,9 @@ pub fn check_take(
                 return Check::Pass;
             }
             if !taking::is_fresh(equations, p, q, e, f, r.done) {
+                return Check::Refuse(Refusal::NotFresh);
+            }
+            if !taking::is_alone(basis, r.count, q, f) {
                 return Check::Refuse(Refusal::NotFresh);
             }
             Check::Pass

@@ -1,7 +1,7 @@
 -- What the end of a stage needs, what it leaves, and that it is what the definitions say. Assumes nothing.
-use mathlib.Core.Path.{_≡_, refl, sym, _∙_, ap}
-use mathlib.Core.Bool.{Bool, true, false, cond, not, _&&_}
-use mathlib.Core.List.{List, []}
+use mathlib.Core.Path.{_≡_, sym, _∙_}
+use mathlib.Core.Bool.{true, false, cond, not, _&&_}
+use mathlib.Core.List.{List}
 use Prim.Native.Nat.{ℕ, _+_, _*_, _^_, _-_, _≤_, _<_}
 use native.Mathlib.Nat.{mul-le-mul-right}
 use native.Mathlib.Omega.{arith}
@@ -15,15 +15,27 @@ use Rattle.definitions.specs.Answers.{complete, paused}
 use Rattle.definitions.specs.Refusals.{stepLimit}
 use Rattle.definitions.specs.Tables.{at, frozen}
 use Rattle.laws.specs.MarkLaws.{bit-add-fits, free-bit}
-use Rattle.sweeps.specs.Pack.{packTo}
+use Rattle.laws.specs.Pack.{packTo}
 use Rattle.engine_spec.specs.Beside.{Valued}
-use Rattle.engine_spec.specs.Engine.{Result, Work, allDone, finish, rested, stays, systemOf, valuesSmall}
+use Rattle.engine_spec.specs.Engine.{Work, allDone, finish, rested, stays, systemOf, valuesSmall}
 use Rattle.engine_rows.specs.Keeping.{filledRow, notBelowValue, smallValue, zeroValue}
 use Rattle.engine_calls.specs.Records.{answerOf, leaves, outcomeOf, recordOf, refusedWith, workOf}
 use Rattle.engine_calls.specs.declared.Outcome.{Outcome}
 use Rattle.engine_calls.specs.declared.Record.{Record}
 use Rattle.engine_calls.specs.declared.Refusal.the-variants.{ComponentLimit, Full}
-use Rattle.engine_ends.specs.Finishing.{count-fresh, count-plain, fillable-fresh, fillable-plain, pack-fresh, pack-plain, restingWith, too-large, too-many, values-small, written}
+use Rattle.engine_ends.specs.Finishing.{
+  count-fresh,
+  count-plain,
+  fillable-fresh,
+  fillable-plain,
+  pack-fresh,
+  pack-plain,
+  restingWith,
+  too-large,
+  too-many,
+  values-small,
+  written,
+}
 
 -- a stage is under way whose equation is not done
 pub record Ends (p : ℕ) (r : Record) : Type 0 where

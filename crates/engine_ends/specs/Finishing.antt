@@ -1,24 +1,20 @@
 -- The end of a stage by the values that stand beside its rows. Assumes nothing.
-use mathlib.Core.Path.{_≡_, refl, sym, _∙_, ap}
+use mathlib.Core.Path.{_≡_, refl, sym, ap}
 use mathlib.Core.Bool.{Bool, true, false, cond, not, _&&_}
 use mathlib.Core.List.{List, []}
-use Prim.Native.Nat.{ℕ, zero, suc, _+_, _*_, _^_, _-_, _≤_, _<_}
+use Prim.Native.Nat.{ℕ, zero, suc, _+_, _^_, _-_, _<_}
 use native.Mathlib.Omega.{arith}
-use borrow.Author.Tests.{ltb-false}
-use lib.Dec.{T, eqb, ltb}
+use lib.Dec.{eqb, ltb}
 use lib.IntN.{ℤ, pos}
-use lib.ListN.{getD, length}
 use lib.Signed.{leZ, ltZ}
 use Rattle.linear.specs.Differences.{up}
-use Rattle.linear.specs.Systems.{value}
 use Rattle.linear.specs.TestLaws.{all-same, count-same}
 use Rattle.linear.specs.Tests.{allTo, countTo}
 use Rattle.definitions.specs.Answers.{complete, paused, refused}
 use Rattle.definitions.specs.System.{isZero}
-use Rattle.definitions.specs.Tables.{at, frozen}
-use Rattle.sweeps.specs.Pack.{packTo, writeIf}
+use Rattle.laws.specs.Pack.{packTo}
 use Rattle.engine_spec.specs.Beside.{Valued}
-use Rattle.engine_spec.specs.Engine.{Result, Work, allDone, equationOf, finish, finished, left, rested, resting, result, stays, valuesSmall}
+use Rattle.engine_spec.specs.Engine.{Work, allDone, equationOf, finish, finished, left, rested, resting, result, stays, valuesSmall}
 use Rattle.engine_spec.specs.Fresh.{putAt}
 use Rattle.engine_spec.specs.Stage.{row}
 use Rattle.engine_rows.specs.Keeping.{filledRow, notBelowValue, smallValue, zeroValue}

@@ -1,6 +1,6 @@
 // The end of a stage: what it leaves becomes the basis.
 ghost use mathlib.Core.Path.{_≡_};
-ghost use Prim.Native.Nat.{_+_, _*_, _^_, _-_, _≤_, _<_};
+ghost use Prim.Native.Nat.{_+_, _^_, _-_, _≤_, _<_};
 ghost use mathlib.Core.Bool.{cond};
 ghost use lib.Dec.{eqb};
 ghost use Rattle.definitions.specs.Answers.{complete, paused};

@@ -2,8 +2,7 @@
 use mathlib.Core.Path.{_≡_, refl, sym, ap}
 use mathlib.Core.Bool.{Bool, true, false, not, _&&_, and-false}
 use mathlib.Core.List.{List}
-use Prim.Native.Nat.{ℕ, _+_, _*_, _≤_, _<_}
-use native.Mathlib.Omega.{arith}
+use Prim.Native.Nat.{ℕ, _+_, _≤_, _<_}
 use lib.Dec.{T}
 use lib.IntN.{ℤ, pos}
 use lib.ListN.{getD, length}
@@ -12,7 +11,7 @@ use Rattle.linear.specs.LoopLaws.{any-holds, any-next}
 use Rattle.linear.specs.Systems.{value}
 use Rattle.linear.specs.TestLaws.{and-both, and-parts, any-same}
 use Rattle.linear.specs.Tests.{anyTo}
-use Rattle.sweeps.specs.SweepLaws.{T-same}
+use Rattle.laws.specs.SweepLaws.{T-same}
 use Rattle.definitions.specs.System.{isAtOrBelow}
 use Rattle.definitions.specs.Tables.{at}
 use Rattle.engine_spec.specs.Beside.{SmallTable, Worded, wordOf}

@@ -30,18 +30,32 @@ pub fn slot(word: u64) -> usize
     1024 + (word % 65521) as usize
 }
 
-// The dropper at place k changes places with the one ahead of it, where there is one.
+// The first of the droppers at places `from` to `past` - 1 whose word lets it drop a sum of this word; `past` where there is none.
+pub fn next_held(held: &[u64; 768], from: usize, past: usize, word: u64) -> usize
+    requires { ⌜ (from ≤ past) × (past ≤ 768) ⌝ }
+    ensures { λ r. ⌜ (from ≤ r) × (r ≤ past) ⌝ }
+{
+    let mut k = from;
+    while k < past {
+        if may_drop(held[k], word) {
+            return k;
+        }
+        k += 1;
+    }
+    k
+}
+
+// The dropper at place k changes places with the one halfway to the first.
 pub fn advance(held: &mut [u64; 768], places: &mut [u32; 66560], from: usize, k: usize)
     requires { ⌜ (from ≤ k) × (k < 768) ⌝ }
 {
-    if from < k {
-        let word = held[k];
-        held[k] = held[k - 1];
-        held[k - 1] = word;
-        let row = places[k];
-        places[k] = places[k - 1];
-        places[k - 1] = row;
-    }
+    let to = from + (k - from) / 2;
+    let word = held[k];
+    held[k] = held[to];
+    held[to] = word;
+    let row = places[k];
+    places[k] = places[to];
+    places[to] = row;
 }
 
 // A row that dropped a sum: it comes last; where there are 256, in the place of one of the later half, each in its turn.

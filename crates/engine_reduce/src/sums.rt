@@ -2,11 +2,10 @@
 ghost use mathlib.Core.Path.{_≡_};
 ghost use mathlib.Core.Bool.{_&&_};
 ghost use Prim.Native.Nat.{_+_, _*_, _≤_, _<_};
-ghost use lib.IntN.{pos};
-ghost use lib.ListN.{length};
 ghost use lib.Signed.{leZ};
 ghost use Rattle.definitions.specs.Tables.{at};
 ghost use Rattle.engine_spec.specs.Reduction.{isWithin};
+ghost use Rattle.engine_reduce.specs.Fits.{Low, Unfit, UnfitIf};
 ghost use Rattle.engine_reduce.specs.Sums.{Handed, Looked, Searched, Yes, fitsBy, integerAt, reducibleBy, sumOf};
 use crate::memory;
 use engine_beside::words as fields;
@@ -66,7 +65,7 @@ fn sign_of(sum: i64) -> usize
     if 0 < sum { 1 } else { 0 }
 }
 
-// Whether a row that dropped a sum of this sign lately drops this one. It moves one place ahead.
+// Whether a row that dropped a sum of this sign lately drops this one. It moves half the way ahead.
 fn dropped(
     table: &[u32],
     values: &[i64],
@@ -84,25 +83,26 @@ fn dropped(
     ensures { λ r. ⌜ Yes q n (now (table .entry)) (now (values .entry)) upper lower sum r ⌝ }
 {
     let from = sign * 256;
-    let count = memory::count(places, sign);
-    let mut i = 0;
-    while i < count {
-        let k = from + i;
-        i += 1;
-        if memory::may_drop(held[k], word) {
-            if reduces(
-                table,
-                values,
-                n,
-                q,
-                memory::place(places, k),
-                upper,
-                lower,
-                sum,
-            ) {
-                memory::advance(held, places, from, k);
-                return true;
-            }
+    let past = from + memory::count(places, sign);
+    let mut i = from;
+    while i < past {
+        let k = memory::next_held(held, i, past, word);
+        if past <= k {
+            return false;
+        }
+        i = k + 1;
+        if reduces(
+            table,
+            values,
+            n,
+            q,
+            memory::place(places, k),
+            upper,
+            lower,
+            sum,
+        ) {
+            memory::advance(held, places, from, k);
+            return true;
         }
     }
     false
@@ -212,13 +212,63 @@ fn search(
 {
     let mut i = 0;
     while i < n {
-        let k = i;
-        i += 1;
-        if fields::fits(words[k], word) {
-            if reduces_at(table, values, n, q, k, upper, lower, sum) {
-                return k;
-            }
+        let k = next_fit(words, i, n, word);
+        if n <= k {
+            return n;
+        }
+        i = k + 1;
+        if reduces_at(table, values, n, q, k, upper, lower, sum) {
+            return k;
         }
     }
     n
+}
+
+// The first of the words from place `from` to n - 1 that lets its row lie at or below the sum; n where there is none. Eight are looked at together.
+fn next_fit(words: &[u64], from: usize, n: usize, word: u64) -> usize
+    requires { ⌜ Low n (now words) × (from ≤ n) ⌝ }
+    ensures { λ r. ⌜ Unfit (now (words .entry)) word from r × (r ≤ n) ⌝ }
+{
+    let mut i = from;
+    while i < n {
+        if n - i < 8 {
+            return first_fit(words, i, n, word);
+        }
+        if some_fit(words, i, n, word) {
+            return first_fit(words, i, n, word);
+        }
+        i += 8;
+    }
+    i
+}
+
+// Whether one of the eight words from place `from` on does: no branch for each.
+fn some_fit(words: &[u64], from: usize, n: usize, word: u64) -> bool
+    requires { ⌜ Low n (now words) × (from + 8 ≤ n) ⌝ }
+    ensures { λ r. ⌜ UnfitIf r (now (words .entry)) word from (from + 8) ⌝ }
+{
+    let mut any = false;
+    let mut j = 0;
+    while j < 8 {
+        if fields::fits(words[from + j], word) {
+            any = true;
+        }
+        j += 1;
+    }
+    any
+}
+
+// The same, one by one.
+fn first_fit(words: &[u64], from: usize, n: usize, word: u64) -> usize
+    requires { ⌜ Low n (now words) × (from ≤ n) ⌝ }
+    ensures { λ r. ⌜ Unfit (now (words .entry)) word from r × (r ≤ n) ⌝ }
+{
+    let mut i = from;
+    while i < n {
+        if fields::fits(words[i], word) {
+            return i;
+        }
+        i += 1;
+    }
+    i
 }

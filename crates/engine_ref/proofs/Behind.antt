@@ -58,9 +58,9 @@ use denote.Triple.Clauses.{Ended, Clauses, Lasts, lasts, atExit}
 use Rattle.engine_calls.specs.declared.Record.{Record}
 use Rattle.engine_calls.specs.declared.Answer.{Answer}
 use Rattle.engine_calls.specs.declared.Outcome.{Outcome}
-use Rattle.solver.proofs.Frame.{Cells}
-use Rattle.solver.proofs.Walk.{Spelled, tokens, Met, Handed, hands, returned}
-use Rattle.solver.proofs.Behind.{Fmls, stars, takes, puts, found, reads-in, behind, room, cell}
+use Rattle.walk_ref.proofs.Frame.{Cells}
+use Rattle.walk_ref.proofs.Walk.{Spelled, tokens, Met, Handed, hands, returned}
+use Rattle.walk_ref.proofs.Behind.{Fmls, stars, takes, puts, found, reads-in, behind, room, cell}
 use Rattle.engine_calls.proofs.Record as Rec
 use Rattle.engine_calls.proofs.Record.Laws as Rec′
 use Rattle.engine_calls.proofs.Answer as Ans

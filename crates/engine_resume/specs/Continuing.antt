@@ -1,35 +1,29 @@
 -- What the continuing call leaves, by what its checks find. Assumes nothing.
 use mathlib.Core.Path.{_≡_, refl, sym, _∙_, ap}
-use mathlib.Core.Logic.{_⊎_, inl, inr}
-use mathlib.Core.Bool.{Bool, true, false, cond, not, _&&_, _||_}
-use mathlib.Core.List.{List, []}
-use Prim.Native.Nat.{ℕ, _+_, _*_, _^_, _-_, _≤_, _<_}
-use native.Mathlib.Nat.{mul-le-mul, mul-le-mul-right}
+use mathlib.Core.Bool.{Bool, true, false, cond}
+use mathlib.Core.List.{List}
+use Prim.Native.Nat.{ℕ, _^_, _-_, _≤_, _<_}
 use native.Mathlib.Omega.{arith}
-use borrow.Author.Tests.{le-ltb, lt-ltb, ltb-true, not-false}
+use borrow.Author.Tests.{le-ltb, lt-ltb}
 use lib.Dec.{eqb, ltb}
-use lib.IntN.{ℤ, pos}
-use lib.ListN.{getD, length}
+use lib.IntN.{ℤ}
+use lib.ListN.{length}
 use Rattle.linear.specs.Cases.{order}
 use Rattle.definitions.specs.Answers as paper
-use Rattle.definitions.specs.Answers.{_then_}
-use Rattle.definitions.specs.System.{isZero}
-use Rattle.laws.specs.AnswerLaws.{refuse-if-go, then-assoc, then-go}
-use Rattle.laws.specs.TableLaws.{row-fits}
 use Rattle.engine_spec.specs.Calls as spec
-use Rattle.engine_spec.specs.Engine.{Work, allDone, rested, run}
-use Rattle.engine_beside.specs.Writing.{Kept, kept-none}
-use Rattle.engine_stage.specs.Standing.{Beyond, Sides, beyond-none, sidesOf}
+use Rattle.engine_spec.specs.Beside.{Measured}
+use Rattle.engine_spec.specs.Engine.{Result, Work, allDone, equationOf, rested, run}
+use Rattle.engine_beside.specs.Writing.{Kept, kept-none, measured-none, valued-none, worded-none}
+use Rattle.engine_stage.specs.Standing.{Sides, beyond-none}
 use Rattle.engine_calls.specs.Records.{answerOf, besideOf, call-passed, call-refused, checkOf, lengthsOf, outcomeOf, passes, refusedWith, workOf}
-use Rattle.engine_calls.specs.declared.Beside.{Beside}
 use Rattle.engine_calls.specs.declared.Check.{Check}
 use Rattle.engine_calls.specs.declared.Check.the-variants.{Pass, Refuse}
 use Rattle.engine_calls.specs.declared.Outcome.{Outcome}
 use Rattle.engine_calls.specs.declared.Record.{Record}
 use Rattle.engine_calls.specs.declared.Refusal.{Refusal}
-use Rattle.engine_checks.specs.Room.{StageFits, basis-few, basis-fits, stage-fits}
-use Rattle.engine_checks.specs.Standing.{Roomed, Stands, equation-small, left-below, resume-checks, standing, stands, start-checks, startChecksBy, starts}
-use Rattle.engine_resume.specs.Resuming.{Entered, ResumedTo, ordered}
+use Rattle.engine_checks.specs.Room.{basis-few, basis-fits, stage-fits}
+use Rattle.engine_checks.specs.Standing.{Roomed, Stands, resume-checks, standing, stands}
+use Rattle.engine_resume.specs.Resuming.{Entered, ResumedTo, Sided, ordered, rowsAfter}
 
 abbrev pub lentLengths : List ℕ → List ℕ → List ℕ → Sides → spec.Lengths
 lentLengths basis sizes table x =
@@ -49,57 +43,89 @@ resume-roomed q basis sizes table x m n =
 
 -- ---- the continuing call
 
--- The outcome is that of the definition. A call that is refused before its work has changed nothing lent. The tables beside the rows are as long as before, and
--- from the number of rows that the stage had on, at most the room, as they were.
-pub record ResumeLeft (p q budget : ℕ) (equations : List ℤ) (basis sizes table : List ℕ) (x : Sides) (r : Record) (o : Outcome) (basis′ sizes′ table′ : List ℕ)
-    (x′ : Sides) : Type 0 where
-  pub outcome : outcomeOf o equations basis′ table′
-      ≡ spec.resume p q (spec.basisRoom q (lentLengths basis sizes table x)) (spec.stageRoom q (lentLengths basis sizes table x)) budget
-      (workOf equations basis table r)
-  pub refused : (n : ℕ) (values : List ℕ)
-      → spec.resumeChecks p q (spec.basisRoom q (lentLengths basis sizes table x)) (spec.stageRoom q (lentLengths basis sizes table x))
-      (workOf equations basis table r) ≡ paper.refuse n values
-      → (basis′ ≡ basis) × (sizes′ ≡ sizes) × (table′ ≡ table) × (x′ ≡ x)
-  pub had : ℕ
-  pub few : had ≤ spec.stageRoom q (lentLengths basis sizes table x)
-  pub beyond : Beyond had x x′
-  pub kept : Kept 0 (r .count) sizes sizes′
+-- the check lets the call go on, and a stage is under way
+unfoldable pub goesOn : paper.Check → (p equation : ℕ) → Bool
+goesOn (paper.refuse n values) p equation = false
+goesOn paper.go p equation = ltb equation p
+
+-- The rows beside which the call writes: all that the stage under way has after its turns, before its end; and the rows of the basis that it was given.
+abbrev pub rowsHad : (p q most room budget : ℕ) → Work → ℕ
+rowsHad p q most room budget w = cond (goesOn (spec.resumeChecks p q most room w) p (w .equation)) (rowsAfter q room budget w) 0
+
+abbrev pub sizesHad : (p q most room : ℕ) → Work → ℕ
+sizesHad p q most room w = cond (goesOn (spec.resumeChecks p q most room w) p (w .equation)) (w .count) 0
+
+-- What the call leaves of all that is lent, w being what it finds. The outcome is that of the definition. Refused before its work it has changed nothing. Where
+-- no stage is under way it has changed nothing beside the rows. Else the tables beside the rows hold what belongs to the rows that the stage had, the one
+-- beside the basis the degrees of the rows that it was given; past these, and so past the room, nothing is changed.
+pub record LeftBy (p q most room budget : ℕ) (w : Work) (sizes : List ℕ) (x : Sides) (o : Result) (sizes′ : List ℕ) (x′ : Sides) : Type 0 where
+  pub outcome : o ≡ spec.resume p q most room budget w
+  pub refused : (n : ℕ) (values : List ℕ) → spec.resumeChecks p q most room w ≡ paper.refuse n values
+      → (o .work ≡ w) × (sizes′ ≡ sizes) × (x′ ≡ x)
+  pub rested : p ≤ w .equation → (sizes′ ≡ sizes) × (x′ ≡ x)
+  pub few : rowsHad p q most room budget w ≤ room
+  pub sided : Sided (equationOf q w) q (rowsHad p q most room budget w) (o .work .stage .table) x x′
+  pub sized : Measured q (sizesHad p q most room w) (w .basis) sizes′
+  pub kept : Kept 0 (sizesHad p q most room w) sizes sizes′
+
+abbrev pub ResumeLeft : (p q budget : ℕ) (equations : List ℤ) (basis sizes table : List ℕ) (x : Sides) → Record → Outcome → (basis′ sizes′ table′ : List ℕ)
+    (x′ : Sides)
+    → Type 0
+ResumeLeft p q budget equations basis sizes table x r o basis′ sizes′ table′ x′ =
+    LeftBy p q (spec.basisRoom q (lentLengths basis sizes table x)) (spec.stageRoom q (lentLengths basis sizes table x)) budget (workOf equations basis table r)
+    sizes x (outcomeOf o equations basis′ table′) sizes′ x′
+
+-- ---- by what the checks find
+
+sided-none : {c : ℕ → ℤ} {q : ℕ} {table : List ℕ} {x : Sides} → Sided c q 0 table x x
+sided-none =
+    record {
+      valued = valued-none;
+      worded = worded-none;
+      measured = measured-none;
+      marked = record { long = omega arith; each = λ i l h. absurd (omega arith) };
+      beyond = beyond-none;
+    }
+
+module _ (p q most room budget : ℕ) (w : Work) (sizes : List ℕ) (x : Sides) where
+  -- nothing beside the rows is written
+  still : {o : Result} → goesOn (spec.resumeChecks p q most room w) p (w .equation) ≡ false → o ≡ spec.resume p q most room budget w → o .work ≡ w
+      → LeftBy p q most room budget w sizes x o sizes x
+  still e is same =
+      record {
+        outcome = is;
+        refused = λ n values h. (same, refl, refl);
+        rested = λ l. (refl, refl);
+        few = rw e (omega arith);
+        sided = rw e sided-none;
+        sized = rw e measured-none;
+        kept = kept-none;
+      }
 
 module _ (p q budget : ℕ) (equations : List ℤ) (basis sizes table : List ℕ) (x : Sides) (r : Record) where
-  module _ {made : Check} {most room : ℕ} (m : most ≡ spec.basisRoom q (lentLengths basis sizes table x)) (n : room ≡ spec.stageRoom q (lentLengths basis sizes table x))
+  abbrev w : Work
+  w = workOf equations basis table r
+
+  module _ {made : Check} {most room : ℕ} (m : most ≡ spec.basisRoom q (lentLengths basis sizes table x))
+      (n : room ≡ spec.stageRoom q (lentLengths basis sizes table x))
       (e : checkOf made ≡ standing p q most room (workOf equations basis table r)) where
     pub resume-refused : {why : Refusal} → made ≡ Refuse why → ResumeLeft p q budget equations basis sizes table x r (refusedWith why r) basis sizes table x
-    unfolding spec.resume
-    resume-refused g =
-        record {
-          outcome = call-refused (rw (m, n) at (e ∙ resume-checks p q most room (workOf equations basis table r))) equations basis table r _ g;
-          refused = λ k values h. (refl, refl, refl, refl);
-          had = 0;
-          few = omega arith;
-          beyond = beyond-none;
-          kept = kept-none;
-        }
+    unfolding spec.resume goesOn
+    resume-refused g = rw (← m, ← n) (still p q most room budget w sizes x (rw (← (e ∙ resume-checks p q most room w), g))
+        (call-refused (e ∙ resume-checks p q most room w) equations basis table r _ g) refl)
 
     module _ (g : made ≡ Pass) where
       pub resume-stands : Stands p q most room (workOf equations basis table r)
       resume-stands = stands p q most room (workOf equations basis table r) (passes e g)
 
-      not-refused : (k : ℕ) (values : List ℕ) → spec.resumeChecks p q (spec.basisRoom q (lentLengths basis sizes table x)) (spec.stageRoom q (lentLengths basis sizes table x)) (workOf equations basis table r) ≡ paper.refuse k values → ⊥
-      not-refused k values h = let no : paper.go ≡ paper.refuse k values = sym (ap checkOf g) ∙ ((rw (m, n) at (e ∙ resume-checks p q most room (workOf equations basis table r))) ∙ h) in let z : _≡_ {A = ℕ} 0 1 = cc in omega arith
-
-      pub resume-rested : p ≤ r .equation → {o : Outcome} → o .run ≡ r
+      pub resume-rested : p ≤ r .equation → (o : Outcome) → o .run ≡ r
           → answerOf (o .answer) ≡ cond (eqb (r .done) (2 ^ p - 1)) paper.complete paper.paused
           → ResumeLeft p q budget equations basis sizes table x r o basis sizes table x
-      unfolding spec.resume rested allDone
-      resume-rested l s a =
-          record {
-            outcome = call-passed (rw (m, n) at (e ∙ resume-checks p q most room (workOf equations basis table r))) equations basis table r _ g (rw (le-ltb (r .equation) p l, a, s));
-            refused = λ k values h. absurd (not-refused k values h);
-            had = 0;
-            few = omega arith;
-            beyond = beyond-none;
-            kept = kept-none;
-          }
+      unfolding spec.resume rested allDone goesOn
+      resume-rested l o s a =
+          rw (← m, ← n)
+          (still p q most room budget w sizes x (rw (← (e ∙ resume-checks p q most room w), g, le-ltb (r .equation) p l))
+          (call-passed (e ∙ resume-checks p q most room w) equations basis table r _ g (rw (le-ltb (r .equation) p l, a, s))) (rw s))
 
       pub resume-enters : r .equation < p → Entered p q most room equations basis sizes table x r
       resume-enters l =
@@ -118,13 +144,21 @@ module _ (p q budget : ℕ) (equations : List ℤ) (basis sizes table : List ℕ
       pub resume-ran : r .equation < p → {o : Outcome} {basis′ sizes′ table′ : List ℕ} {x′ : Sides}
           → ResumedTo p q most room budget equations basis sizes table x r o basis′ sizes′ table′ x′
           → ResumeLeft p q budget equations basis sizes table x r o basis′ sizes′ table′ x′
-      unfolding spec.resume
+      unfolding spec.resume goesOn
       resume-ran l t =
-          record {
-            outcome = call-passed (rw (m, n) at (e ∙ resume-checks p q most room (workOf equations basis table r))) equations basis table r _ g (rw (lt-ltb (r .equation) p l) (rw (m, n) at (t .outcome)));
+          let on : goesOn (spec.resumeChecks p q most room w) p (r .equation) ≡ true = rw (← (e ∙ resume-checks p q most room w), g, lt-ltb (r .equation) p l)
+          in
+          rw (← m, ← n)
+          (record {
+            outcome = call-passed (e ∙ resume-checks p q most room w) equations basis table r _ g (rw (lt-ltb (r .equation) p l) (t .outcome));
             refused = λ k values h. absurd (not-refused k values h);
-            had = t .had;
-            few = rw n at (t .few);
-            beyond = t .beyond;
-            kept = t .kept;
-          }
+            rested = λ h. absurd (omega arith);
+            few = rw on (t .few);
+            sided = rw on (t .sided);
+            sized = rw on (t .sized);
+            kept = rw on (t .kept);
+          })
+        where
+          not-refused : (k : ℕ) (values : List ℕ) → spec.resumeChecks p q most room w ≡ paper.refuse k values → ⊥
+          not-refused k values h = let no : paper.go ≡ paper.refuse k values = sym (ap checkOf g) ∙ ((e ∙ resume-checks p q most room w) ∙ h) in let z : _≡_
+              {A = ℕ} 0 1 = cc in omega arith

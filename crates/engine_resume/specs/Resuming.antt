@@ -1,12 +1,11 @@
 -- What a continuing call has once its checks have let it go on, what it writes beside the rows, and what it leaves. Assumes nothing.
-use mathlib.Core.Path.{_≡_, refl, sym, _∙_, ap}
-use mathlib.Core.Logic.{_⊎_, inl, inr}
-use mathlib.Core.Bool.{Bool, true, false, not, _&&_}
+use mathlib.Core.Path.{_≡_, sym, _∙_, ap}
+use mathlib.Core.Logic.{inl, inr}
+use mathlib.Core.Bool.{Bool, true, false, _&&_}
 use mathlib.Core.List.{List}
 use Prim.Native.Nat.{ℕ, zero, suc, _+_, _*_, _^_, _-_, _≤_, _<_}
 use native.Mathlib.Nat.{mul-le-mul-right}
 use native.Mathlib.Omega.{arith}
-use borrow.Author.Tests.{leb-true, ltb-true}
 use lib.Dec.{T, T-not, leb, leb→le, lt→ltb, ltb, ltb→lt}
 use lib.IntN.{ℤ, pos, natAbs}
 use lib.ListN.{getD, length}
@@ -19,7 +18,7 @@ use Rattle.definitions.specs.Tables.{at, frozen}
 use Rattle.laws.specs.TableLaws.{row-fits}
 use Rattle.engine_spec.specs.Beside.{AllMarked, Measured, SmallEquation, SmallTable, Valued, Worded, coefficientLimit, equationAt}
 use Rattle.engine_spec.specs.Calls.{coefficientsSmall, inOrder, isRising, isRow, marksInOrder}
-use Rattle.engine_spec.specs.Engine.{Result, Work, equationOf, onward, run}
+use Rattle.engine_spec.specs.Engine.{Work, onward, run}
 use Rattle.engine_spec.specs.Reduction.{isSmall}
 use Rattle.engine_spec.specs.ReductionLaws.{small-from}
 use Rattle.engine_spec.specs.Stage.{Outcome, outcome, row}
@@ -27,10 +26,10 @@ use Rattle.engine_beside.specs.Degrees.{degree-small}
 use Rattle.engine_beside.specs.Writing.{Kept}
 use Rattle.engine_rows.specs.Marking.{MarksWritten}
 use Rattle.engine_search.specs.Falls.{falling-start}
-use Rattle.engine_search.specs.Places.{Falling, Ranked, degreeOf}
+use Rattle.engine_search.specs.Places.{Ranked}
 use Rattle.engine_reduce.specs.Sums.{never}
 use Rattle.engine_stage.specs.Running.{RunLeft, answerOf, runOf}
-use Rattle.engine_stage.specs.Standing.{Beyond, Given, Lent, Ready, Roomy, Sides, lentOf, nextOf, sidesOf, stageOf}
+use Rattle.engine_stage.specs.Standing.{Beyond, Given, Ready, Roomy, Sides, lentOf, nextOf, stageOf}
 use Rattle.engine_stage.specs.declared.stages.Ran.{Ran}
 use Rattle.engine_stage.specs.declared.turns.Frame.{Frame}
 use Rattle.engine_stage.specs.declared.turns.Next.{Next}
@@ -39,7 +38,7 @@ use Rattle.engine_calls.specs.declared.Outcome as made
 use Rattle.engine_calls.specs.declared.Record.{Record}
 use Rattle.engine_checks.specs.Room.{StageFits}
 use Rattle.engine_checks.specs.Sizes.{Sized}
-use Rattle.engine_ends.specs.Closing.{Closing, Ends}
+use Rattle.engine_ends.specs.Closing.{Closing}
 use Rattle.engine_resume.specs.EngineLaws.{ended, run-by-stage, stageRun}
 
 -- ---- the record and the stage
@@ -84,7 +83,8 @@ ordered p q most room w e =
       fits = leb→le (w .stage .rows) room a₁;
       early = leb→le (w .stage .steps) stepLimit b₀;
       marks = ltb→lt (w .done) (2 ^ p) b₁;
-      free = λ l x. T-not (ltb (w .equation) p && frozen (w .done) (w .equation)) c₁ (both (ltb (w .equation) p) (frozen (w .done) (w .equation)) (lt→ltb (w .equation) p l) x);
+      free = λ l x. T-not (ltb (w .equation) p && frozen (w .done) (w .equation)) c₁
+          (both (ltb (w .equation) p) (frozen (w .done) (w .equation)) (lt→ltb (w .equation) p l) x);
       coefs = λ k l. leb→le _ coefficientLimit (all-at (p * q) _ d k l);
       basis = λ i l. all-at (w .count) _ f i l;
       rows = λ i l. all-at (w .stage .rows) _ g i l;
@@ -118,7 +118,8 @@ pub record Writable (coefs : List ℤ) (from : ℕ) (basis : List ℕ) (m sizes 
   pub marked : n ≤ marks
   pub mothered : n ≤ mothers
 
-pub record Written (coefs : List ℤ) (from : ℕ) (basis : List ℕ) (m : ℕ) (table : List ℕ) (n q : ℕ) (sizes : List ℕ) (x : Sides) (sizes′ : List ℕ) (x′ : Sides) : Type 0 where
+pub record Written (coefs : List ℤ) (from : ℕ) (basis : List ℕ) (m : ℕ) (table : List ℕ) (n q : ℕ) (sizes : List ℕ) (x : Sides) (sizes′ : List ℕ) (x′ : Sides)
+    : Type 0 where
   pub size : Measured q m basis sizes′
   pub kept : Kept 0 m sizes sizes′
   pub valued : Valued (equationAt coefs from) q n table (x′ .values)
@@ -145,16 +146,30 @@ pub record Advanced (q room budget : ℕ) (equations : List ℤ) (basis sizes ta
   pub beyond : Beyond (a .next .rows) x x′
   pub kept : Kept 0 (r .count) sizes sizes′
 
--- The outcome is that of the definition. The tables beside the rows are as long as before, and from the number of rows that the stage had on as they were.
+-- What stands beside the first n rows of a table, under the equation c: their values, words and degrees, and marks that are marks. From row n on all of it is
+-- as it was.
+pub record Sided (c : ℕ → ℤ) (q n : ℕ) (table : List ℕ) (x x′ : Sides) : Type 0 where
+  pub valued : Valued c q n table (x′ .values)
+  pub worded : Worded q n table (x′ .words)
+  pub measured : Measured q n table (x′ .degrees)
+  pub marked : AllMarked q c n table (x′ .marks)
+  pub beyond : Beyond n x x′
+
+-- the rows that the stage under way has after its turns, before its end
+abbrev pub rowsAfter : (q room budget : ℕ) → Work → ℕ
+rowsAfter q room budget w = stageRun q room budget w .stage .rows
+
+-- The outcome is that of the definition; and what stands beside the rows that the stage had, and beside the basis that it was given.
 pub record ResumedTo (p q most room budget : ℕ) (equations : List ℤ) (basis sizes table : List ℕ) (x : Sides) (r : Record) (o : made.Outcome)
     (basis′ sizes′ table′ : List ℕ) (x′ : Sides) : Type 0 where
   pub outcome : outcomeOf o equations basis′ table′ ≡ run p q most room budget (workOf equations basis table r)
-  pub had : ℕ
-  pub few : had ≤ room
-  pub beyond : Beyond had x x′
+  pub few : rowsAfter q room budget (workOf equations basis table r) ≤ room
+  pub sided : Sided (equationAt equations (r .equation * q)) q (rowsAfter q room budget (workOf equations basis table r)) table′ x x′
+  pub sized : Measured q (r .count) basis sizes′
   pub kept : Kept 0 (r .count) sizes sizes′
 
-module _ {p q most room : ℕ} {equations : List ℤ} {basis sizes table : List ℕ} {x : Sides} {r : Record} (e : Entered p q most room equations basis sizes table x r) where
+module _ {p q most room : ℕ} {equations : List ℤ} {basis sizes table : List ℕ} {x : Sides} {r : Record}
+    (e : Entered p q most room equations basis sizes table x r) where
   equation-small : SmallEquation q equations (r .equation * q)
   equation-small =
       record {
@@ -185,7 +200,8 @@ module _ {p q most room : ℕ} {equations : List ℤ} {basis sizes table : List 
         small = λ i j l jq. small-from q (at table q i) (e .order .rows i l) j jq;
       }
 
-  pub writable : Writable equations (r .equation * q) basis (r .count) (length sizes) table (r .rows) q (length (x .values)) (length (x .words)) (length (x .degrees))
+  pub writable : Writable equations (r .equation * q) basis (r .count) (length sizes) table (r .rows) q (length (x .values)) (length (x .words))
+      (length (x .degrees))
       (length (x .marks)) (length (x .mothers))
   writable =
       record {
@@ -321,8 +337,13 @@ module _ {p q most room : ℕ} {equations : List ℤ} {basis sizes table : List 
         record {
           outcome = g ∙ sym (ap (λ y. ended p q most (y .answer) (onward (y .stage) (workOf equations basis table r))) (h .is))
               ∙ sym (run-by-stage p q most room budget (workOf equations basis table r));
-          had = a .next .rows;
-          few = h .ready .few;
-          beyond = h .beyond;
+          few = rw rows-are (h .ready .few);
+          sided =
+              rw rows-are
+              (record { valued = h .ready .valued; worded = h .ready .worded; measured = h .ready .measured; marked = h .ready .marked; beyond = h .beyond });
+          sized = h .ready .given .sized;
           kept = h .kept;
         }
+      where
+        rows-are : rowsAfter q room budget (workOf equations basis table r) ≡ a .next .rows
+        rows-are = ap (λ y. y .stage .rows) (h .is)

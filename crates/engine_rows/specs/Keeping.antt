@@ -20,8 +20,8 @@ use Rattle.linear.specs.Tests.{allTo, countTo}
 use Rattle.definitions.specs.System.{isZero}
 use Rattle.definitions.specs.Tables.{at, writeTo}
 use Rattle.laws.specs.TableLaws.{row-fits, write-same}
-use Rattle.sweeps.specs.SweepLaws.{T-same}
-use Rattle.sweeps.specs.SweepTable.{swept-ahead}
+use Rattle.laws.specs.SweepLaws.{T-same}
+use Rattle.laws.specs.SweepTable.{swept-ahead}
 use Rattle.engine_spec.specs.Beside.{rowAt}
 use Rattle.engine_spec.specs.Fresh.{putAt}
 use Rattle.engine_rows.specs.Packing.{Packed, packed-more}

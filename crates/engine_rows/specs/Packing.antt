@@ -10,7 +10,7 @@ use Rattle.linear.specs.TestLaws.{count-le, count-step}
 use Rattle.linear.specs.Tests.{countTo}
 use Rattle.definitions.specs.Tables.{writeTo}
 use Rattle.laws.specs.TableLaws.{row-fits}
-use Rattle.sweeps.specs.Pack.{pack-length, packTo}
+use Rattle.laws.specs.Pack.{pack-length, packTo}
 
 -- every row
 abbrev pub always : ℕ → Bool

@@ -9,8 +9,8 @@ ghost use Rattle.linear.specs.Differences.{up};
 ghost use Rattle.linear.specs.Tests.{allTo, countTo};
 ghost use Rattle.definitions.specs.System.{isZero};
 ghost use Rattle.definitions.specs.Tables.{at};
-ghost use Rattle.sweeps.specs.Pack.{packTo};
-ghost use Rattle.sweeps.specs.Sweep.{sweptTo};
+ghost use Rattle.laws.specs.Pack.{packTo};
+ghost use Rattle.laws.specs.Sweep.{sweptTo};
 ghost use Rattle.engine_rows.specs.Keeping.{filledRow, lacks, notBelowValue, smallValue, zeroValue};
 use crate::rows;
 

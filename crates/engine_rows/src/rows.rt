@@ -7,7 +7,7 @@ ghost use Rattle.linear.specs.Tests.{number};
 ghost use Rattle.linear.specs.Tuples.{unit};
 ghost use Rattle.definitions.specs.System.{isAtOrBelow};
 ghost use Rattle.definitions.specs.Tables.{writeTo};
-ghost use Rattle.sweeps.specs.Pack.{packTo};
+ghost use Rattle.laws.specs.Pack.{packTo};
 ghost use Rattle.engine_spec.specs.Beside.{SmallRow, rowAt};
 ghost use Rattle.engine_spec.specs.Fresh.{putAt};
 ghost use Rattle.engine_spec.specs.Reduction.{isSmall};

@@ -1,6 +1,6 @@
 -- The engine's calls: the start, a row operation, the begin of a stage, and the continuing call with a budget of turns. What is lent: the working system, the
 -- basis and the stage's table, the tables beside them, and the record of the run. Assumes nothing.
-use Prim.Native.Nat.{ℕ, _+_, _*_, _-_, _^_, _/_, min}
+use Prim.Native.Nat.{ℕ, _*_, _-_, _^_, _/_, min}
 use mathlib.Core.Bool.{Bool, false, not, cond, _&&_, _||_}
 use mathlib.Core.List.{List}
 use lib.Dec.{eqb, leb, ltb}
@@ -11,9 +11,9 @@ use Rattle.linear.specs.Tuples.{total}
 use Rattle.definitions.specs.Answers.{Check, _then_, go, refuse, refuseFirst, refuseIf, refused, started}
 use Rattle.definitions.specs.Refusals.{between, stepLimit}
 use Rattle.definitions.specs.System.{coefLimit, isZero}
-use Rattle.definitions.specs.Tables.{frozen}
+use Rattle.definitions.specs.Tables.{at, frozen}
 use Rattle.engine_spec.specs.Beside.{coefficientLimit, mostColumns, mostRows}
-use Rattle.engine_spec.specs.Engine.{Result, Work, basisRow, begun, combination, combined, rested, result, run, system, taken, takenFresh}
+use Rattle.engine_spec.specs.Engine.{Result, Work, basisRow, begun, begunFrom, combination, combined, rested, result, run, system, taken, takenFresh}
 use Rattle.engine_spec.specs.Reduction.{isSmall}
 use Rattle.engine_spec.specs.Stage.{row}
 
@@ -101,6 +101,25 @@ check6 p q most room w = refuseIf (not (inOrder p q most room w)) 6
 abbrev pub standingThen : (p q most room : ℕ) → Work → Check → Check
 standingThen p q most room w own = check1 p then check2 q then check4 p q most w then check6 p q most room w then own
 
+-- n rows of q numbers, each within the component limit and not all zero
+unfoldable pub isList : (q n : ℕ) → List ℕ → Bool
+isList q n rows = eqb (length rows) (n * q) && allTo n (λ i. isRow q (at rows q i))
+
+-- 6, of a list handed over: it is not n rows of q numbers, or a row is out of order. Whether it is a whole list cannot be seen.
+abbrev pub check6List : (q n : ℕ) → List ℕ → Check
+check6List q n rows = refuseIf (not (isList q n rows)) 6
+
+-- 4 also where there is no room for the n rows
+unfoldable pub startFromChecks : (p q : ℕ) (coefs : List ℤ) (n : ℕ) (rows : List ℕ) (most : ℕ) → Work → Check
+startFromChecks p q coefs n rows most w =
+    check1 p
+    then check2 q
+    then check3 p q coefs
+    then check4 p q most w
+    then refuseIf (ltb most n) 4
+    then check6List q n rows
+    then check7 p q coefs
+
 unfoldable pub startChecks : (p q : ℕ) (coefs : List ℤ) (most : ℕ) → Work → Check
 startChecks p q coefs most w = check1 p then check2 q then check3 p q coefs then check4 p q most w then check7 p q coefs
 
@@ -112,9 +131,18 @@ abbrev pub isMinusOne : ℤ → Bool
 isMinusOne (pos n) = false
 isMinusOne (negsuc n) = eqb n 0
 
--- the unknown f is in no equation done, and equation e has the coefficient −1 there
+-- of n rows one has the unknown f, and only rows of degree 1: so only its unit tuple does
+unfoldable pub isAlone : (q f n : ℕ) (row : ℕ → ℕ → ℕ) → Bool
+isAlone q f n row = anyTo n (λ i. ltb 0 (row i f)) && allTo n (λ i. eqb (row i f) 0 || eqb (total (row i) q) 1)
+
+-- no equation done has the unknown f
+unfoldable pub isFree : (p q f : ℕ) → Work → Bool
+isFree p q f w = allTo p (λ i. not (frozen (w .done) i) || isZero (system q w i f))
+
+-- Equation e has the coefficient −1 at the unknown f, no equation done has it, and of the basis only its unit tuple: so no equation before these has it either,
+-- where the basis was handed over.
 unfoldable pub isFresh : (p q e f : ℕ) → Work → Bool
-isFresh p q e f w = ltb f q && (isMinusOne (system q w e f) && allTo p (λ i. not (frozen (w .done) i) || isZero (system q w i f)))
+isFresh p q e f w = ltb f q && (isMinusOne (system q w e f) && (isFree p q f w && isAlone q f (w .count) (basisRow q w)))
 
 -- 33: the unknown handed over is neither q, which is none, nor fresh
 unfoldable pub takeChecks : (p q most room e f : ℕ) → Work → Check
@@ -143,6 +171,11 @@ checked go w work = work w
 -- takes the map: its coefficients are the working system, the unit tuples are the basis
 unfoldable pub start : (p q : ℕ) (coefs : List ℤ) (most : ℕ) → Work → Result
 start p q coefs most w = checked (startChecks p q coefs most w) w (λ v. result started (begun p q coefs v))
+
+-- takes further equations and a list of those before: the n rows handed over are the basis
+unfoldable pub startFrom : (p q : ℕ) (coefs : List ℤ) (n : ℕ) (rows : List ℕ) (most : ℕ) → Work → Result
+startFrom p q coefs n rows most w =
+    checked (startFromChecks p q coefs n rows most w) w (λ v. result started (begunFrom p q coefs n rows v))
 
 -- u times equation r and t times equation s in the place of equation r
 unfoldable pub combine : (p q most room r s : ℕ) (u t : ℤ) → Work → Result

@@ -1,18 +1,16 @@
 -- The equations done, as marks: bit i says that equation i is. Their system has 0 = 0 in the place of each other equation. Assumes nothing.
 use mathlib.Core.Path.{_≡_, refl, _∙_}
-use mathlib.Core.Logic.{_⊎_, inl, inr}
+use mathlib.Core.Logic.{inl, inr}
 use mathlib.Core.Bool.{Bool, true, false, cond}
 use Prim.Native.Nat.{ℕ, _+_, _^_, _<_}
 use lib.Dec.{T}
 use lib.IntN.{ℤ, pos, zero-*ℤ}
-use Rattle.linear.specs.Combinations.{Enumerates}
-use Rattle.linear.specs.Sums.{sumTo, sum-cong, sum-zero}
+use Rattle.linear.specs.Sums.{sum-cong, sum-zero}
 use Rattle.linear.specs.Systems.{Solution, inner, value}
 use Rattle.linear.specs.TestLaws.{T-dec}
 use Rattle.definitions.specs.Tables.{frozen}
 use Rattle.laws.specs.MarkLaws.{frozen-add, frozen-added, frozen-new, frozen-none}
-use Rattle.decomposition.specs.Loops.{Loop}
-use Rattle.engine_spec.specs.Equations.{Extends, Wanted}
+use Rattle.engine_spec.specs.Equations.{Extends}
 
 abbrev pub among : ℕ → (ℕ → ℕ → ℤ) → ℕ → ℕ → ℤ
 among done a i j = cond (frozen done i) (a i j) (pos 0)
@@ -51,19 +49,3 @@ done-extends p q a done e l left =
         | inr g ↦ rw g z
       ]);
     }
-
--- all done: the minimal solutions are those of the system
-pub all-done : (p q : ℕ) (a : ℕ → ℕ → ℤ) (done : ℕ) → ((i : ℕ) → i < p → T (frozen done i)) → {n : ℕ} {row : ℕ → ℕ → ℕ}
-    → Enumerates q (Loop p q (among done a)) n row → Enumerates q (Loop p q a) n row
-all-done p q a done all {n} {row} e =
-    record {
-      only = λ i l. record { holds = there (row i) (e .only i l .holds); none-below = λ s w b. e .only i l .none-below s (back s w) b };
-      once = e .once;
-      all = λ t b. e .all t (record { holds = back t (b .holds); none-below = λ s w u. b .none-below s (there s w) u });
-    }
-  where
-    there : (t : ℕ → ℕ) → Wanted p q (among done a) t → Wanted p q a t
-    there t w = record { solution = λ i l. done-solved p q a done t (w .solution) i l (all i l); admitted = w .admitted }
-
-    back : (t : ℕ → ℕ) → Wanted p q a t → Wanted p q (among done a) t
-    back t w = record { solution = solved-done p q a done t (λ i l h. w .solution i l); admitted = w .admitted }

@@ -1,5 +1,6 @@
 -- What a stage promises. A turn keeps it sound, however often it is paused and gone on with; and a stage that says complete leaves rows that are closed under
--- the equation, none above another of its kind: those of value 0 are the minimal solutions of the system with the equation, each once. No sweep is needed. Assumes nothing.
+-- the equation, none above another of its kind: those of value 0 are the minimal solutions of the system with the equation, each once. No sweep is needed.
+-- Assumes nothing.
 use mathlib.Core.Path.{_≡_, refl, sym, _∙_, ap}
 use mathlib.Core.Logic.{_≢_, inl, inr}
 use mathlib.Core.Bool.{Bool, true, false, not, cond}
@@ -22,9 +23,9 @@ use Rattle.definitions.specs.Answers.{complete, paused}
 use Rattle.definitions.specs.Refusals.{stepLimit}
 use Rattle.laws.specs.SystemLaws.{is-zero}
 use Rattle.laws.specs.TableLaws.{row-fits, write-length}
-use Rattle.decomposition.specs.Loops.{Loop}
-use Rattle.sweeps.specs.Sweep.{keeps}
-use Rattle.sweeps.specs.SweepLaws.{Swept, stays-keeps}
+use Rattle.linear.specs.Loops.{Loop}
+use Rattle.laws.specs.Sweep.{keeps}
+use Rattle.laws.specs.SweepLaws.{Swept, stays-keeps}
 use Rattle.engine_spec.specs.Equations.{Extends, Holding, Picked, next-equation, zeroRow}
 use Rattle.engine_spec.specs.Reduction.{isSmall, reducible}
 use Rattle.engine_spec.specs.ReductionLaws.{reducible-from, small-from}
@@ -90,62 +91,63 @@ module _ (p q : ℕ) (a : ℕ → ℕ → ℤ) (c : ℕ → ℤ) (m : ℕ) (basi
   paired-fine room s false true false skip more f g = tt
   paired-fine room s false true true skip more f g = g tt tt tt
 
-  module _ (given : Given p q a m basis) (s : Stage) (sound : Sound p q a c m basis s) (room : ℕ) (long : room * q ≤ length (s .table)) (few : s .rows ≤ room) where
-    room-fits : T (ltb (s .rows) room) → s .rows * q + q ≤ length (s .table)
-    room-fits l = omega (arith, row-fits q (s .rows) room (ltb→lt (s .rows) room l))
+  module _ (given : Given p q a m basis) (s : Stage) (sound : Sound p q a c m basis s) (room : ℕ) (long : room * q ≤ length (s .table)) (few : s .rows ≤ room)
+    where
+      room-fits : T (ltb (s .rows) room) → s .rows * q + q ≤ length (s .table)
+      room-fits l = omega (arith, row-fits q (s .rows) room (ltb→lt (s .rows) room l))
 
-    row-fine : dueRow q m basis s < m → Fine room s (rowTurn q basis room s (dueRow q m basis s))
-    unfolding rowTurn grown
-    row-fine more =
-        let i = dueRow q m basis s in
-        cond-fine room s (ltb (s .rows) room) (goes (grown q (basis i) (i + 1) (s .upper) (s .lower) s)) (stops 31)
-        (λ l. record {
-          sound = row-sound p q a c m basis given s sound more (room-fits l);
-          long = write-length (basis i) (s .table) (s .rows * q) q;
-          few = omega (arith, ltb→lt (s .rows) room l);
-        })
-        (λ l. tt)
+      row-fine : dueRow q m basis s < m → Fine room s (rowTurn q basis room s (dueRow q m basis s))
+      unfolding rowTurn grown
+      row-fine more =
+          let i = dueRow q m basis s in
+          cond-fine room s (ltb (s .rows) room) (goes (grown q (basis i) (i + 1) (s .upper) (s .lower) s)) (stops 31)
+          (λ l. record {
+            sound = row-sound p q a c m basis given s sound more (room-fits l);
+            long = write-length (basis i) (s .table) (s .rows * q) q;
+            few = omega (arith, ltb→lt (s .rows) room l);
+          })
+          (λ l. tt)
 
-    pair-fine : above q c s < s .rows → m ≤ dueRow q m basis s → Fine room s (pairTurn q c room s (above q c s) (below q c s))
-    unfolding pairTurn passed grown
-    pair-fine found later =
-        let z = sumOf q s (above q c s) (below q c s) in
-        paired-fine room s (reducible q c (s .rows) (row q s) z (value c q z)) (isSmall q z) (ltb (s .rows) room) (passed (above q c s) (below q c s + 1) s)
-        (grown q z (s .taken) (above q c s) (below q c s + 1) s)
-        (λ r. record { sound = passed-sound p q a c m basis given s sound (reducible-from q c (s .rows) (row q s) z r); long = refl; few = few })
-        (λ more low l. record {
-          sound =
-              sum-sound p q a c m basis given s sound found (room-fits l) (small-from q z low)
-              (λ r. T-not (reducible q c (s .rows) (row q s) z (value c q z)) more (reducible-to q c (s .rows) (row q s) z r)) later;
-          long = write-length z (s .table) (s .rows * q) q;
-          few = omega (arith, ltb→lt (s .rows) room l);
-        })
+      pair-fine : above q c s < s .rows → m ≤ dueRow q m basis s → Fine room s (pairTurn q c room s (above q c s) (below q c s))
+      unfolding pairTurn passed grown
+      pair-fine found later =
+          let z = sumOf q s (above q c s) (below q c s) in
+          paired-fine room s (reducible q c (s .rows) (row q s) z (value c q z)) (isSmall q z) (ltb (s .rows) room) (passed (above q c s) (below q c s + 1) s)
+          (grown q z (s .taken) (above q c s) (below q c s + 1) s)
+          (λ r. record { sound = passed-sound p q a c m basis given s sound (reducible-from q c (s .rows) (row q s) z r); long = refl; few = few })
+          (λ more low l. record {
+            sound =
+                sum-sound p q a c m basis given s sound found (room-fits l) (small-from q z low)
+                (λ r. T-not (reducible q c (s .rows) (row q s) z (value c q z)) more (reducible-to q c (s .rows) (row q s) z r)) later;
+            long = write-length z (s .table) (s .rows * q) q;
+            few = omega (arith, ltb→lt (s .rows) room l);
+          })
 
-    degree-fine : s .rows ≤ above q c s → m ≤ dueRow q m basis s → Fine room s (degreeTurn (nextDegree q c m basis s) s)
-    unfolding degreeTurn raised
-    degree-fine none later =
-        let d = nextDegree q c m basis s in
-        cond-fine room s (eqb d 0) ends (goes (raised d s))
-        (λ e. record {
-          holding = end-holding p q a c m basis given s sound none later (eqb→eq d 0 e);
-          closed = end-closed p q a c m basis given s sound none later (eqb→eq d 0 e);
-        })
-        (λ ne. record {
-          sound = raised-sound p q a c m basis given s sound none later (λ e. T-not (eqb d 0) ne (rw e tt));
-          long = refl;
-          few = few;
-        })
+      degree-fine : s .rows ≤ above q c s → m ≤ dueRow q m basis s → Fine room s (degreeTurn (nextDegree q c m basis s) s)
+      unfolding degreeTurn raised
+      degree-fine none later =
+          let d = nextDegree q c m basis s in
+          cond-fine room s (eqb d 0) ends (goes (raised d s))
+          (λ e. record {
+            holding = end-holding p q a c m basis given s sound none later (eqb→eq d 0 e);
+            closed = end-closed p q a c m basis given s sound none later (eqb→eq d 0 e);
+          })
+          (λ ne. record {
+            sound = raised-sound p q a c m basis given s sound none later (λ e. T-not (eqb d 0) ne (rw e tt));
+            long = refl;
+            few = few;
+          })
 
-    pub turn-fine : Fine room s (turn q c m basis room s)
-    unfolding turn
-    turn-fine =
-        let i = dueRow q m basis s in
-        let h = above q c s in
-        let pairs = cond (ltb h (s .rows)) (pairTurn q c room s h (below q c s)) (degreeTurn (nextDegree q c m basis s) s) in
-        cond-fine room s (eqb (s .steps) stepLimit) (stops 14) (cond (ltb i m) (rowTurn q basis room s i) pairs) (λ e. tt)
-        (λ e. cond-fine room s (ltb i m) (rowTurn q basis room s i) pairs (λ due. row-fine (ltb→lt i m due))
-        (λ none. cond-fine room s (ltb h (s .rows)) (pairTurn q c room s h (below q c s)) (degreeTurn (nextDegree q c m basis s) s)
-        (λ found. pair-fine (ltb→lt h (s .rows) found) (nltb→le i m none)) (λ past. degree-fine (nltb→le h (s .rows) past) (nltb→le i m none))))
+      pub turn-fine : Fine room s (turn q c m basis room s)
+      unfolding turn
+      turn-fine =
+          let i = dueRow q m basis s in
+          let h = above q c s in
+          let pairs = cond (ltb h (s .rows)) (pairTurn q c room s h (below q c s)) (degreeTurn (nextDegree q c m basis s) s) in
+          cond-fine room s (eqb (s .steps) stepLimit) (stops 14) (cond (ltb i m) (rowTurn q basis room s i) pairs) (λ e. tt)
+          (λ e. cond-fine room s (ltb i m) (rowTurn q basis room s i) pairs (λ due. row-fine (ltb→lt i m due))
+          (λ none. cond-fine room s (ltb h (s .rows)) (pairTurn q c room s h (below q c s)) (degreeTurn (nextDegree q c m basis s) s)
+          (λ found. pair-fine (ltb→lt h (s .rows) found) (nltb→le i m none)) (λ past. degree-fine (nltb→le h (s .rows) past) (nltb→le i m none))))
 
   -- ---- turns
 
@@ -227,7 +229,8 @@ nothing-swept q n row none =
     }
 
 -- no row of a stage reduces another one
-pub irreducible : (p q : ℕ) (a : ℕ → ℕ → ℤ) (c : ℕ → ℤ) (m : ℕ) (basis : ℕ → ℕ → ℕ) (s : Stage) → Sound p q a c m basis s → (i k : ℕ) → i < s .rows → k < s .rows
+pub irreducible : (p q : ℕ) (a : ℕ → ℕ → ℤ) (c : ℕ → ℤ) (m : ℕ) (basis : ℕ → ℕ → ℕ) (s : Stage) → Sound p q a c m basis s → (i k : ℕ) → i < s .rows → k < s
+    .rows
     → i ≢ k → Within (value c q (row q s i)) (value c q (row q s k)) → ¬ (AtOrBelow q (row q s i) (row q s k))
 irreducible p q a c m basis s sound i k il kl ne w b =
     elim (split i k) [

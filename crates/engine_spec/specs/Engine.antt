@@ -4,7 +4,7 @@
 use Prim.Native.Nat.{ℕ, zero, suc, _+_, _*_, _^_, _-_}
 use mathlib.Core.Bool.{Bool, true, cond, not, _&&_}
 use mathlib.Core.List.{List, []}
-use lib.Dec.{eqb, leb, ltb}
+use lib.Dec.{eqb, ltb}
 use lib.IntN.{ℤ, pos, _+ℤ_, _*ℤ_}
 use lib.ListN.{getD, set}
 use lib.Signed.{leZ}
@@ -13,9 +13,9 @@ use Rattle.linear.specs.Tests.{allTo, countTo}
 use Rattle.linear.specs.Tuples.{unit}
 use Rattle.definitions.specs.Answers.{Answer, complete, paused, refused}
 use Rattle.definitions.specs.System.{mostComponent}
-use Rattle.definitions.specs.Tables.{at}
-use Rattle.sweeps.specs.Pack.{packTo}
-use Rattle.sweeps.specs.Sweep.{sweptTo}
+use Rattle.definitions.specs.Tables.{at, writeTo}
+use Rattle.laws.specs.Pack.{packTo}
+use Rattle.laws.specs.Sweep.{sweptTo}
 use Rattle.engine_spec.specs.Equations.{zeroRow}
 use Rattle.engine_spec.specs.Fresh.{filled, notBelow}
 use Rattle.engine_spec.specs.Stage.{Stage, Turned, begin, ends, goes, row, stops, turn}
@@ -60,6 +60,11 @@ fillTo (suc n) table base f = set (fillTo n table base f) (base + n) (f n)
 unfoldable pub begun : (p q : ℕ) (coefs : List ℤ) → Work → Work
 begun p q coefs w =
     resting p q (fillTo (p * q) (w .equations) 0 (λ k. getD coefs k (pos 0))) (packTo q q (w .basis) 0 always unit) q 0 (w .stage .table) 0
+
+-- the same with n rows handed over as the basis: the minimal solutions of equations before these
+unfoldable pub begunFrom : (p q : ℕ) (coefs : List ℤ) (n : ℕ) (rows : List ℕ) → Work → Work
+begunFrom p q coefs n rows w =
+    resting p q (fillTo (p * q) (w .equations) 0 (λ k. getD coefs k (pos 0))) (writeTo (n * q) (w .basis) 0 (λ k. getD rows k 0)) n 0 (w .stage .table) 0
 
 -- ---- a row operation
 

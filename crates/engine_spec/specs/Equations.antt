@@ -3,7 +3,7 @@
 use mathlib.Core.Path.{_≡_, sym, ap}
 use mathlib.Core.Logic.{inl, inr}
 use mathlib.Core.Bool.{Bool}
-use Prim.Native.Nat.{ℕ, _+_, _<_}
+use Prim.Native.Nat.{ℕ, _<_}
 use native.Mathlib.Decide.{ℕ-discrete}
 use native.Mathlib.Omega.{arith}
 use lib.Dec.{T, eqb→eq}
@@ -16,9 +16,9 @@ use Rattle.linear.specs.Tests.{countTo}
 use Rattle.linear.specs.TupleLaws.{least, minimal-from, unit-other, unit-same}
 use Rattle.linear.specs.Tuples.{AtOrBelow, Minimal, Nonzero, Same, unit}
 use Rattle.definitions.specs.System.{isZero}
-use Rattle.decomposition.specs.Loops.{Loop, MakesUp, Solutions, loops-within}
-use Rattle.sweeps.specs.Sweep.{keeps}
-use Rattle.sweeps.specs.SweepLaws.{Swept, comes-from, keeps-stays, left-below, none-earlier}
+use Rattle.linear.specs.Loops.{Loop, MakesUp, loops-within}
+use Rattle.laws.specs.Sweep.{keeps}
+use Rattle.laws.specs.SweepLaws.{Swept, comes-from, keeps-stays, left-below, none-earlier}
 use Rattle.engine_spec.specs.Signs.{Closed, zero-rows}
 
 -- a nonzero solution

@@ -20,7 +20,7 @@ use Rattle.linear.specs.TestLaws.{count-mono, count-step}
 use Rattle.linear.specs.Tests.{countTo}
 use Rattle.linear.specs.TupleLaws.{term-le-total, total-some, unit-other, unit-same}
 use Rattle.linear.specs.Tuples.{AtOrBelow, Nonzero, Same, total, unit}
-use Rattle.decomposition.specs.Loops.{Loop}
+use Rattle.linear.specs.Loops.{Loop}
 use Rattle.engine_spec.specs.Equations.{Extends, Holding, Picked, Wanted, holding-makes, sweep-enumerates, wanted-alike}
 use Rattle.engine_spec.specs.Signs.{Closed, consistent-rows, sign-consistent}
 use Rattle.engine_spec.specs.Ends.{Ended, irreducible, nothing-swept, picked-from}
@@ -217,7 +217,8 @@ module _ (p q : ℕ) (a a′ : ℕ → ℕ → ℤ) (c : ℕ → ℤ) (extends :
             absurd (omega (arith, put-other f 0 t j apart, term-le-total t₀ q j jq))
       ] in
       let (j, jq, h) = some in
-      let d = sign-consistent p₀ q a₀ c n row (λ i l. holding .wanted i l .solution) (λ i l. holding .wanted i l .admitted) (holding-makes holding) closed t₀ s₀ in
+      let d = sign-consistent p₀ q a₀ c n row (λ i l. holding .wanted i l .solution) (λ i l. holding .wanted i l .admitted) (holding-makes holding) closed t₀
+      s₀ in
       let (k, kn, taken, nz) = combined-some q n (d .sum .times) row (j, jq, omega (arith, d .sum .adds-up j jq)) in
       let b : AtOrBelow q (row k) t₀ = λ i iq. omega (arith, d .sum .adds-up i iq, combined-above n (d .sum .times) row k i kn taken) in
       let inside = consistent-rows q c n row d k kn taken in (

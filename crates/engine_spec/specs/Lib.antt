@@ -21,6 +21,15 @@ pub mod Engine
 pub mod Operations
 pub mod Whole
 pub mod Calls
+pub mod Base
 pub mod Promise
 pub mod Own
 pub mod Examples
+pub mod Promises
+pub mod CallRules
+pub mod Rules
+pub mod Questions
+pub mod Sides
+pub mod Kinds
+pub mod KindExamples
+pub mod Groups

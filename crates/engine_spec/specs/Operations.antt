@@ -7,9 +7,9 @@ use native.Mathlib.Decide.{ℕ-discrete}
 use native.Mathlib.Omega.{arith}
 use lib.Dec.{T}
 use lib.IntN.{ℤ, pos, negsuc, _+ℤ_, _*ℤ_, *ℤ-zero, +ℤ-idr, +ℤ-idl, zero-*ℤ}
-use lib.ListN.{length, getD, set, length-set}
+use lib.ListN.{length, getD, length-set}
 use lib.Seq.{getD-set-same, getD-set-other}
-use Rattle.linear.specs.Cases.{below-suc, order, split}
+use Rattle.linear.specs.Cases.{below-suc, order}
 use Rattle.linear.specs.Combinations.{Enumerates}
 use Rattle.linear.specs.Differences.{integers, up-mul, down-mul}
 use Rattle.linear.specs.Integers.{*ℤ-assoc, +ℤ-*ℤ}
@@ -18,9 +18,9 @@ use Rattle.linear.specs.Systems.{Solution, inner, value}
 use Rattle.linear.specs.SystemLaws.{inner-cong}
 use Rattle.definitions.specs.Tables.{frozen}
 use Rattle.laws.specs.TableLaws.{row-before, row-fits}
-use Rattle.decomposition.specs.Loops.{Loop}
+use Rattle.linear.specs.Loops.{Loop}
 use Rattle.engine_spec.specs.Done.{among, done-solved, solved-done}
-use Rattle.engine_spec.specs.Engine.{Work, combination, combined, fillTo, system, systemOf}
+use Rattle.engine_spec.specs.Engine.{Work, combination, combined, fillTo, system}
 use Rattle.engine_spec.specs.Equations.{Wanted}
 use Rattle.engine_spec.specs.Sound.{Given}
 
@@ -62,7 +62,8 @@ unfolding fillTo
 fill-length zero table base f = refl
 fill-length (suc n) table base f = length-set (fillTo n table base f) (base + n) (f n) ∙ fill-length n table base f
 
-pub fill-inside : (n : ℕ) (table : List ℤ) (base : ℕ) (f : ℕ → ℤ) → base + n ≤ length table → (j : ℕ) → j < n → getD (fillTo n table base f) (base + j) (pos 0) ≡ f j
+pub fill-inside : (n : ℕ) (table : List ℤ) (base : ℕ) (f : ℕ → ℤ) → base + n ≤ length table → (j : ℕ) → j < n → getD (fillTo n table base f) (base + j) (pos 0)
+    ≡ f j
 unfolding fillTo
 fill-inside zero table base f l j jn = absurd (omega arith)
 fill-inside (suc n) table base f l j jn =
@@ -71,7 +72,8 @@ fill-inside (suc n) table base f l j jn =
       | inr e ↦ rw e (getD-set-same (fillTo n table base f) (base + n) (f n) (pos 0) (omega (arith, fill-length n table base f)))
     ]
 
-pub fill-outside : (n : ℕ) (table : List ℤ) (base : ℕ) (f : ℕ → ℤ) (i : ℕ) → (i < base) ⊎ (base + n ≤ i) → getD (fillTo n table base f) i (pos 0) ≡ getD table i (pos 0)
+pub fill-outside : (n : ℕ) (table : List ℤ) (base : ℕ) (f : ℕ → ℤ) (i : ℕ) → (i < base) ⊎ (base + n ≤ i) → getD (fillTo n table base f) i (pos 0) ≡ getD table
+    i (pos 0)
 unfolding fillTo
 fill-outside zero table base f i o = refl
 fill-outside (suc n) table base f i o =

@@ -1,27 +1,25 @@
 -- A run's own calls are let go on: what its calls leave is in order, whatever was handed over before. Assumes nothing.
-use mathlib.Core.Path.{_≡_, refl, sym, _∙_}
-use mathlib.Core.Bool.{Bool, true, false, not, cond, _&&_, _||_}
+use mathlib.Core.Path.{_≡_, refl}
+use mathlib.Core.Bool.{Bool, true, false, not, _&&_, _||_}
 use mathlib.Core.List.{List}
-use Prim.Native.Nat.{ℕ, zero, suc, _+_, _*_, _^_, _-_, _≤_, _<_}
+use Prim.Native.Nat.{ℕ, suc, _+_, _*_, _^_, _-_, _≤_, _<_}
 use native.Mathlib.Omega.{arith}
-use lib.Dec.{T, eqb→eq, leb, leb→le, le→leb, ltb, lt→ltb, ltb→lt, nltb→le, not-T}
+use lib.Dec.{T, leb, leb→le, le→leb, ltb, lt→ltb, ltb→lt, not-T}
 use lib.IntN.{ℤ, pos, natAbs}
 use lib.ListN.{getD, length}
-use Rattle.linear.specs.TestLaws.{T-dec, all-from, and-both, and-parts}
+use Rattle.linear.specs.TestLaws.{all-from, and-both, and-parts}
 use Rattle.linear.specs.Tests.{allTo}
 use Rattle.linear.specs.Tuples.{total}
-use Rattle.definitions.specs.Answers.{Check, _then_, go, refuse, refuseIf, refuseWith, started}
+use Rattle.definitions.specs.Answers.{Check, _then_, go, refuseIf, refuseWith}
 use Rattle.definitions.specs.Refusals.{between, stepLimit}
 use Rattle.definitions.specs.System.{mostComponent}
 use Rattle.definitions.specs.Tables.{frozen}
 use Rattle.laws.specs.AnswerLaws.{refuse-if-go, then-go}
+use Rattle.engine_spec.specs.Base.{Base}
 use Rattle.engine_spec.specs.Beside.{coefficientLimit, mostColumns, mostRows}
 use Rattle.engine_spec.specs.Calls.{
   check1,
   check2,
-  check3,
-  check4,
-  check6,
   checked,
   coefficientsSmall,
   inOrder,
@@ -32,12 +30,25 @@ use Rattle.engine_spec.specs.Calls.{
   standingThen,
   start,
   startChecks,
+  startFrom,
+  startFromChecks,
 }
 use Rattle.engine_spec.specs.Engine.{Work, basisRow, systemOf}
-use Rattle.engine_spec.specs.Promise.{Runs, afterCombine, afterResume, afterStart, afterTake, lentAnew, not-false, runs-whole, started-goes}
+use Rattle.engine_spec.specs.Promise.{
+  RunsOn,
+  afterCombine,
+  afterResume,
+  afterStart,
+  afterStartFrom,
+  afterTake,
+  lentAnew,
+  not-false,
+  runs-whole,
+  started-goes,
+}
 use Rattle.engine_spec.specs.Reduction.{isSmall}
 use Rattle.engine_spec.specs.Sound.{Given, Sound, degree-some}
-use Rattle.engine_spec.specs.Stage.{Stage, begin, row}
+use Rattle.engine_spec.specs.Stage.{Stage, row}
 use Rattle.engine_spec.specs.Whole.{Standing, Whole, between as atRest, underWay, withFresh}
 
 -- ---- tests
@@ -64,7 +75,8 @@ row-to : (q : ℕ) (z : ℕ → ℕ) → ((j : ℕ) → j < q → z j ≤ mostCo
 unfolding isRow
 row-to q z h some = and-both (isSmall q z) _ (small-to q z h) (lt→ltb 0 (total z q) some)
 
-rising-to : (n : ℕ) (f : ℕ → ℕ) (d : ℕ) → ((i : ℕ) → i < n → 0 < f i) → ((i k : ℕ) → i ≤ k → k < n → f i ≤ f k) → ((i : ℕ) → i < n → f i ≤ d) → T (isRising n f d)
+rising-to : (n : ℕ) (f : ℕ → ℕ) (d : ℕ) → ((i : ℕ) → i < n → 0 < f i) → ((i k : ℕ) → i ≤ k → k < n → f i ≤ f k) → ((i : ℕ) → i < n → f i ≤ d) → T
+    (isRising n f d)
 unfolding isRising
 rising-to n f d some sorted low =
     all-from n _ (λ i l. and-both (ltb 0 (f i)) _ (lt→ltb 0 (f i) (some i l))
@@ -94,41 +106,41 @@ sound-small p q a c m basis s sound = (
   rising-to (s .rows) (λ i. total (row q s i) q) (s .degree) (λ i l. degree-some q (row q s i) (sound .wanted i l .admitted)) (sound .sorted) (sound .low),
 )
 
-standing-rows : (p q : ℕ) (w : Work) → Standing p q w → Rows q w
-standing-rows p q w (atRest e z given) =
+standing-rows : (b : Base) (p q : ℕ) (w : Work) → Standing b p q w → Rows q w
+standing-rows b p q w (atRest e z given) =
     record {
-      basis = given-rows p q _ (w .count) (basisRow q w) given;
+      basis = given-rows (b .p + p) q _ (w .count) (basisRow q w) given;
       small = λ i l. absurd (omega arith);
       rising =
           rising-to (w .stage .rows) (λ i. total (row q (w .stage) i) q) (w .stage .degree) (λ i l. absurd (omega arith)) (λ i k ik kn. absurd (omega arith))
           (λ i l. absurd (omega arith));
     }
-standing-rows p q w (underWay l n f given sound) =
-    let (small, rising) = sound-small p q _ _ (w .count) (basisRow q w) (w .stage) sound in
-    record { basis = given-rows p q _ (w .count) (basisRow q w) given; small = small; rising = rising }
-standing-rows p q w (withFresh l n f m r given sound) =
-    let (small, rising) = sound-small (suc p) q _ _ (w .count) (basisRow q w) (w .stage) sound in
-    record { basis = given-rows (suc p) q _ (w .count) (basisRow q w) given; small = small; rising = rising }
+standing-rows b p q w (underWay l n f given sound) =
+    let (small, rising) = sound-small (b .p + p) q _ _ (w .count) (basisRow q w) (w .stage) sound in
+    record { basis = given-rows (b .p + p) q _ (w .count) (basisRow q w) given; small = small; rising = rising }
+standing-rows b p q w (withFresh l n f m r given sound) =
+    let (small, rising) = sound-small (suc (b .p + p)) q _ _ (w .count) (basisRow q w) (w .stage) sound in
+    record { basis = given-rows (suc (b .p + p)) q _ (w .count) (basisRow q w) given; small = small; rising = rising }
 
-standing-marks : (p q : ℕ) (w : Work) → Standing p q w → T (marksInOrder p (w .done) (w .equation))
-standing-marks p q w (atRest e z given) = marks-to p (w .done) (w .equation) (omega arith) (λ l. absurd (omega arith))
-standing-marks p q w (underWay l n f given sound) = marks-to p (w .done) (w .equation) (omega arith) (λ k. n)
-standing-marks p q w (withFresh l n f m r given sound) = marks-to p (w .done) (w .equation) (omega arith) (λ k. n)
+standing-marks : (b : Base) (p q : ℕ) (w : Work) → Standing b p q w → T (marksInOrder p (w .done) (w .equation))
+standing-marks b p q w (atRest e z given) = marks-to p (w .done) (w .equation) (omega arith) (λ l. absurd (omega arith))
+standing-marks b p q w (underWay l n f given sound) = marks-to p (w .done) (w .equation) (omega arith) (λ k. n)
+standing-marks b p q w (withFresh l n f m r given sound) = marks-to p (w .done) (w .equation) (omega arith) (λ k. n)
 
 coefficients-to : (n : ℕ) (equations : List ℤ) → ((k : ℕ) → k < n → natAbs (getD equations k (pos 0)) ≤ coefficientLimit) → T (coefficientsSmall n equations)
 unfolding coefficientsSmall
 coefficients-to n equations h = all-from n _ (λ k l. le→leb (natAbs (getD equations k (pos 0))) coefficientLimit (h k l))
 
-module _ (p q : ℕ) (a : ℕ → ℕ → ℤ) (most room : ℕ) (w : Work) (whole : Whole p q a most room w) where
+module _ (b : Base) (p q : ℕ) (a : ℕ → ℕ → ℤ) (most room : ℕ) (w : Work) (whole : Whole b p q a most room w) where
   whole-order : T (inOrder p q most room w)
   unfolding inOrder
   whole-order =
-      let rows = standing-rows p q w (whole .standing) in
+      let rows = standing-rows b p q w (whole .standing) in
       and-both (leb (w .count) most && leb (w .stage .rows) room) _
       (and-both (leb (w .count) most) _ (le→leb (w .count) most (whole .few)) (le→leb (w .stage .rows) room (whole .fits)))
       (and-both (leb (w .stage .steps) stepLimit && ltb (w .done) (2 ^ p)) _
       (and-both (leb (w .stage .steps) stepLimit) _ (le→leb (w .stage .steps) stepLimit (whole .early)) (lt→ltb (w .done) (2 ^ p) (whole .marks)))
-      (and-both (marksInOrder p (w .done) (w .equation)) _ (standing-marks p q w (whole .standing))
+      (and-both (marksInOrder p (w .done) (w .equation)) _ (standing-marks b p q w (whole .standing))
       (and-both (coefficientsSmall (p * q) (w .equations)) _ (coefficients-to (p * q) (w .equations) (whole .range))
       (and-both (allTo (w .count) (λ i. isRow q (basisRow q w i))) _ (all-from (w .count) _ (rows .basis))
       (and-both (allTo (w .stage .rows) (λ i. isSmall q (row q (w .stage) i))) _ (all-from (w .stage .rows) _ (rows .small)) (rows .rising))))))
@@ -159,23 +171,29 @@ pub record Shape (p q : ℕ) : Type 0 where
   pub q-some : 1 ≤ q
   pub q-few : q ≤ mostColumns
 
-pub runs-shape : {p q : ℕ} {coefs : List ℤ} {most room : ℕ} {w : Work} → Runs p q coefs most room w → Shape p q
-unfolding start startChecks
-runs-shape {p} {q} {coefs} (afterStart most room w long wide e) =
-    let all = started-goes _ w _ e in
-    let (x₁, y₁) = then-go (check1 p) _ all in
-    let (x₂, y₂) = then-go (check2 q) _ y₁ in
+shape-from : (p q : ℕ) → check1 p ≡ go → check2 q ≡ go → Shape p q
+shape-from p q x₁ x₂ =
     let (a, b) = and-parts (leb 1 p) _ (not-false (between 1 mostRows p) (refuse-if-go (not (between 1 mostRows p)) 1 x₁)) in
     let (c, d) = and-parts (leb 1 q) _ (not-false (between 1 mostColumns q) (refuse-if-go (not (between 1 mostColumns q)) 2 x₂)) in
     record { p-some = leb→le 1 p a; p-few = leb→le p mostRows b; q-some = leb→le 1 q c; q-few = leb→le q mostColumns d }
+
+pub runs-shape : {base : Base} {p q : ℕ} {coefs : List ℤ} {most room : ℕ} {w : Work} → RunsOn base p q coefs most room w → Shape p q
+unfolding start startChecks startFrom startFromChecks
+runs-shape {base} {p} {q} {coefs} (afterStart most room w plain long wide e) =
+    let (x₁, y₁) = then-go (check1 p) _ (started-goes _ w _ e) in
+    shape-from p q x₁ (then-go (check2 q) _ y₁ .0)
+runs-shape {base} {p} {q} {coefs} (afterStartFrom n rows most room w list long wide e) =
+    let (x₁, y₁) = then-go (check1 p) _ (started-goes _ w _ e) in
+    shape-from p q x₁ (then-go (check2 q) _ y₁ .0)
 runs-shape (afterCombine r x y u t) = runs-shape r
 runs-shape (afterTake r e f) = runs-shape r
 runs-shape (afterResume r budget) = runs-shape r
 runs-shape (lentAnew r most′ room′ basis table same same′ few fits long wide) = runs-shape r
 
 -- No continuing call of a run is refused before its first turn, where there is room for q rows in the basis.
-pub own-calls : (p q : ℕ) (coefs : List ℤ) {most room : ℕ} {w : Work} → Runs p q coefs most room w → q ≤ most → resumeChecks p q most room w ≡ go
+pub own-calls : {base : Base} (p q : ℕ) (coefs : List ℤ) {most room : ℕ} {w : Work} → RunsOn base p q coefs most room w → q ≤ most
+    → resumeChecks p q most room w ≡ go
 unfolding resumeChecks
-own-calls p q coefs {most} {room} {w} r roomy =
+own-calls {base} p q coefs {most} {room} {w} r roomy =
     let s = runs-shape r in
-    standing-goes p q (systemOf q coefs) most room w (runs-whole p q coefs r) (s .p-some) (s .p-few) (s .q-some) (s .q-few) roomy go
+    standing-goes base p q (systemOf q coefs) most room w (runs-whole base p q coefs r) (s .p-some) (s .p-few) (s .q-some) (s .q-few) roomy go

@@ -1,13 +1,13 @@
 -- What the engine promises of a run that nobody else alters, whichever equations, row operations and fresh unknowns its caller hands over: when a call says
 -- "complete", the basis holds exactly the minimal solutions of the map, each once; between two stages, those of the equations done. Assumes nothing.
 use mathlib.Core.Path.{_≡_, refl, sym, _∙_, ap}
-use mathlib.Core.Logic.{_≢_, _⊎_, inl, inr}
+use mathlib.Core.Logic.{_≢_, inl, inr}
 use mathlib.Core.Bool.{Bool, true, false, not, cond, _&&_, _||_}
 use mathlib.Core.List.{List, [], _∷_}
-use Prim.Native.Nat.{ℕ, zero, suc, _+_, _*_, _^_, _-_, _≤_, _<_}
+use Prim.Native.Nat.{ℕ, zero, suc, _+_, _*_, _-_, _≤_, _<_}
 use native.Mathlib.Nat.{mul-le-mul-right}
 use native.Mathlib.Omega.{arith}
-use lib.Dec.{T, T-not, eqb, eqb→eq, leb, leb→le, ltb, ltb→lt, lt→ltb, nltb→le, not-T}
+use lib.Dec.{T, T-not, eqb, eqb→eq, leb, leb→le, ltb, ltb→lt, nltb→le, not-T}
 use lib.IntN.{ℤ, pos, negsuc, natAbs}
 use lib.ListN.{getD, length}
 use lib.Pow.{pow-pos}
@@ -17,15 +17,29 @@ use Rattle.linear.specs.TestLaws.{T-dec, all-at, and-parts, count-le}
 use Rattle.linear.specs.Tests.{allTo, countTo}
 use Rattle.linear.specs.TupleLaws.{term-le-total, total-same, total-unit}
 use Rattle.linear.specs.Tuples.{Same, total, unit}
-use Rattle.definitions.specs.Answers.{Answer, Check, _then_, complete, go, paused, refuse, refuseFirst, refuseIf, refuseWith, refused, started}
-use Rattle.definitions.specs.System.{coefLimit, isZero}
-use Rattle.definitions.specs.Tables.{at, frozen}
+use Rattle.definitions.specs.Answers.{Check, _then_, complete, go, refuse, refuseFirst, refuseIf, refuseWith, refused, started}
+use Rattle.definitions.specs.System.{coefLimit, isZero, mostComponent}
+use Rattle.definitions.specs.Tables.{at, frozen, writeTo}
 use Rattle.laws.specs.AnswerLaws.{refuse-if-go, then-go}
 use Rattle.laws.specs.MarkLaws.{ones-frozen}
-use Rattle.laws.specs.TableLaws.{row-before, row-fits}
-use Rattle.decomposition.specs.Loops.{Loop}
-use Rattle.sweeps.specs.Pack.{pack-length, pack-row, packTo}
-use Rattle.sweeps.specs.Sweep.{sweptTo}
+use Rattle.laws.specs.TableLaws.{row-before, row-fits, write-inside, write-length}
+use Rattle.linear.specs.Loops.{Loop}
+use Rattle.laws.specs.Pack.{pack-length, pack-row, packTo}
+use Rattle.engine_spec.specs.Base.{
+  Base,
+  alone-enumerates,
+  alone-free,
+  before-free,
+  before-solved,
+  both-solved,
+  done-whole,
+  enumerates-as,
+  free-alone,
+  nothing,
+  onTop,
+  top-alike,
+  top-free,
+}
 use Rattle.engine_spec.specs.Beside.{coefficientLimit}
 use Rattle.engine_spec.specs.Calls.{
   check1,
@@ -33,22 +47,30 @@ use Rattle.engine_spec.specs.Calls.{
   check3,
   check4,
   check6,
+  check6List,
+  check7,
   checked,
   combine,
   combineChecks,
+  isAlone,
+  isFree,
   isFresh,
   isLeft,
+  isList,
   isMinusOne,
   isOperation,
+  isRow,
   resume,
   resumeChecks,
   standingThen,
   start,
   startChecks,
+  startFrom,
+  startFromChecks,
   take,
   takeChecks,
 }
-use Rattle.engine_spec.specs.Done.{all-done, among, none-asks}
+use Rattle.engine_spec.specs.Done.{among, none-asks}
 use Rattle.engine_spec.specs.Ends.{begin-sound}
 use Rattle.engine_spec.specs.Engine.{
   Result,
@@ -56,27 +78,39 @@ use Rattle.engine_spec.specs.Engine.{
   always,
   basisRow,
   begun,
+  begunFrom,
   combination,
   combined,
   equationOf,
   fillTo,
   lacks,
   rested,
-  result,
   run,
   system,
   systemOf,
   taken,
   takenFresh,
 }
-use Rattle.engine_spec.specs.Equations.{Picked, is-zero, units-enumerate}
+use Rattle.engine_spec.specs.Equations.{is-zero, units-enumerate}
 use Rattle.engine_spec.specs.Fresh.{without-at, without-given, withoutAt}
 use Rattle.engine_spec.specs.Moved.{moved-given, moved-sound, withTable}
-use Rattle.engine_spec.specs.Operations.{Alike, Apart, alike-enumerates, alike-given, alike-then, combined-alike, done-alike, fill-inside, fill-length, fill-outside, value-alike}
+use Rattle.engine_spec.specs.Operations.{
+  Alike,
+  Apart,
+  alike-enumerates,
+  alike-given,
+  alike-then,
+  combined-alike,
+  done-alike,
+  fill-inside,
+  fill-length,
+  fill-outside,
+  value-alike,
+}
 use Rattle.engine_spec.specs.ReductionLaws.{SameRows}
 use Rattle.engine_spec.specs.Sound.{Given}
-use Rattle.engine_spec.specs.Stage.{Stage, begin}
-use Rattle.engine_spec.specs.Whole.{Good, Standing, Whole, between, doneOf, paused-good, picked-packed, rested-good, run-good, underWay, withFresh}
+use Rattle.engine_spec.specs.Reduction.{isSmall}
+use Rattle.engine_spec.specs.Whole.{Good, Standing, Whole, between, doneOf, soFar, picked-packed, rested-good, run-good, underWay, withFresh}
 
 -- ---- what the checks say
 
@@ -123,7 +157,33 @@ unfolding countTo
 count-always zero = refl
 count-always (suc n) = omega (arith, count-always n)
 
-module _ (p q : ℕ) (coefs : List ℤ) (most room : ℕ) (w : Work) (numbers : p * q ≤ length (w .equations)) (some : q ≤ most)
+-- what a start writes for the working system
+module _ (p q : ℕ) (coefs : List ℤ) (w : Work) (numbers : p * q ≤ length (w .equations)) where
+  abbrev written : List ℤ
+  written = fillTo (p * q) (w .equations) 0 (λ k. getD coefs k (pos 0))
+
+  written-long : p * q ≤ length written
+  written-long = omega (arith, fill-length (p * q) (w .equations) 0 (λ k. getD coefs k (pos 0)))
+
+  written-range : ((k : ℕ) → k < p * q → natAbs (getD coefs k (pos 0)) ≤ coefficientLimit) → (k : ℕ) → k < p * q
+      → natAbs (getD written k (pos 0)) ≤ coefficientLimit
+  written-range range k kl =
+      let place : 0 + k ≡ k = omega arith in
+      rw (rw place at (fill-inside (p * q) (w .equations) 0 (λ k. getD coefs k (pos 0)) (omega arith) k kl)) (range k kl)
+
+  copied : (i j : ℕ) → i < p → j < q → systemOf q written i j ≡ systemOf q coefs i j
+  copied i j l jq =
+      let place : 0 + (i * q + j) ≡ i * q + j = omega arith in
+      rw place at (fill-inside (p * q) (w .equations) 0 (λ k. getD coefs k (pos 0)) (omega arith) (i * q + j) (omega (arith, row-before q p i 0 j l jq)))
+
+  written-alike : Alike p q (systemOf q coefs) (systemOf q written)
+  written-alike =
+      record {
+        there = λ t h i l. value-alike q t (λ j jq. copied i j l jq) ∙ h i l;
+        back = λ t h i l. sym (value-alike q t (λ j jq. copied i j l jq)) ∙ h i l;
+      }
+
+module _ (base : Base) (plain : base .p ≡ 0) (p q : ℕ) (coefs : List ℤ) (most room : ℕ) (w : Work) (numbers : p * q ≤ length (w .equations)) (some : q ≤ most)
     (long : most * q ≤ length (w .basis)) (wide : room * q ≤ length (w .stage .table))
     (range : (k : ℕ) → k < p * q → natAbs (getD coefs k (pos 0)) ≤ coefficientLimit) where
   abbrev units : List ℕ
@@ -134,62 +194,95 @@ module _ (p q : ℕ) (coefs : List ℤ) (most room : ℕ) (w : Work) (numbers : 
       let place : 0 + countTo i always ≡ i = omega (arith, count-always i) in
       rw place at (pack-row q (w .basis) 0 always unit most long q (omega (arith, count-always q)) i l tt j jq)
 
-  copied : (i j : ℕ) → i < p → j < q → system q (begun p q coefs w) i j ≡ systemOf q coefs i j
+  pub begun-whole : Whole base p q (systemOf q coefs) most room (begun p q coefs w)
   unfolding begun
-  copied i j l jq =
-      let place : 0 + (i * q + j) ≡ i * q + j = omega arith in
-      rw place at (fill-inside (p * q) (w .equations) 0 (λ k. getD coefs k (pos 0)) (omega arith) (i * q + j) (omega (arith, row-before q p i 0 j l jq)))
-
-  pub begun-whole : Whole p q (systemOf q coefs) most room (begun p q coefs w)
   begun-whole =
       record {
-        numbers = unfold begun in omega (arith, fill-length (p * q) (w .equations) 0 (λ k. getD coefs k (pos 0)));
-        long = unfold begun in omega (arith, pack-length q (w .basis) 0 always unit q);
-        wide = unfold begun in wide;
-        few = unfold begun in some;
-        fits = unfold begun in omega arith;
-        marks = unfold begun in pow-pos p;
-        early = unfold begun in omega arith;
-        range = unfold begun in λ k kl.
-            let place : 0 + k ≡ k = omega arith in
-            rw (rw place at (fill-inside (p * q) (w .equations) 0 (λ k. getD coefs k (pos 0)) (omega arith) k kl)) (range k kl);
-        alike =
-            record {
-              there = λ t h i l. value-alike q t (λ j jq. copied i j l jq) ∙ h i l;
-              back = λ t h i l. sym (value-alike q t (λ j jq. copied i j l jq)) ∙ h i l;
-            };
-        standing = between (unfold begun in refl) (unfold begun in refl) (unfold begun in given (system q (begun p q coefs w)));
+        numbers = written-long p q coefs w numbers;
+        long = omega (arith, pack-length q (w .basis) 0 always unit q);
+        wide = wide;
+        few = some;
+        fits = omega arith;
+        marks = pow-pos p;
+        early = omega arith;
+        range = written-range p q coefs w numbers range;
+        alike = written-alike p q coefs w numbers;
+        standing = between refl refl (given (systemOf q (written p q coefs w numbers)));
       }
     where
       one : (i : ℕ) → i < q → total (at units q i) q ≡ 1
       one i l = total-same (at units q i) (unit i) q (unit-rows i l) ∙ total-unit i q l
 
-      given : (a : ℕ → ℕ → ℤ) → Given p q (among 0 a) q (at units q)
+      given : (a : ℕ → ℕ → ℤ) → Given (base .p + p) q (onTop base (among 0 a)) q (at units q)
       given a =
           record {
-            loops = units-enumerate p q (among 0 a) (none-asks p q a) (at units q) unit-rows;
+            loops =
+                units-enumerate (base .p + p) q (onTop base (among 0 a))
+                (λ t. both-solved base p q (among 0 a) t (λ i l. absurd (omega arith)) (none-asks p q a t)) (at units q) unit-rows;
             small = λ i j l jq. omega (arith, one i l, term-le-total (at units q i) q j jq);
+          }
+
+-- ---- the start from a list
+
+module _ (base : Base) (p q : ℕ) (coefs : List ℤ) (n : ℕ) (rows : List ℕ) (most room : ℕ) (w : Work) (numbers : p * q ≤ length (w .equations)) (some : n ≤ most)
+    (long : most * q ≤ length (w .basis)) (wide : room * q ≤ length (w .stage .table))
+    (range : (k : ℕ) → k < p * q → natAbs (getD coefs k (pos 0)) ≤ coefficientLimit)
+    (small : (i j : ℕ) → i < n → j < q → at rows q i j ≤ mostComponent) (whole-list : Enumerates q (Loop (base .p) q (base .a)) n (at rows q)) where
+  abbrev list : List ℕ
+  list = writeTo (n * q) (w .basis) 0 (λ k. getD rows k 0)
+
+  room-for : n * q ≤ length (w .basis)
+  room-for = omega (arith, mul-le-mul-right q some)
+
+  list-rows : (i : ℕ) → i < n → Same q (at list q i) (at rows q i)
+  list-rows i l j jq =
+      let place : 0 + (i * q + j) ≡ i * q + j = omega arith in
+      rw place at (write-inside (λ k. getD rows k 0) (w .basis) 0 (n * q) (i * q + j) (omega (arith, room-for)) (omega (arith, row-before q n i 0 j l jq)))
+
+  pub begun-from-whole : Whole base p q (systemOf q coefs) most room (begunFrom p q coefs n rows w)
+  unfolding begunFrom
+  begun-from-whole =
+      record {
+        numbers = written-long p q coefs w numbers;
+        long = omega (arith, write-length (λ k. getD rows k 0) (w .basis) 0 (n * q));
+        wide = wide;
+        few = some;
+        fits = omega arith;
+        marks = pow-pos p;
+        early = omega arith;
+        range = written-range p q coefs w numbers range;
+        alike = written-alike p q coefs w numbers;
+        standing = between refl refl (moved-given (base .p + p) q _ n (at rows q) (at list q) list-rows (given (systemOf q (written p q coefs w numbers))));
+      }
+    where
+      -- no equation of the run is done: the equations so far are those before
+      given : (a : ℕ → ℕ → ℤ) → Given (base .p + p) q (onTop base (among 0 a)) n (at rows q)
+      given a =
+          record {
+            loops =
+                enumerates-as (λ t x. both-solved base p q (among 0 a) t x (none-asks p q a t)) (λ t x. before-solved base p q (among 0 a) t x) whole-list;
+            small = small;
           }
 
 -- ---- between two stages
 
 -- where no stage is under way, the basis is that of the equations done
-resting-given : (p q : ℕ) (w : Work) → Standing p q w → w .equation ≡ p → Given p q (doneOf q w) (w .count) (basisRow q w)
-resting-given p q w (between e z given) none = given
-resting-given p q w (underWay l n f given sound) none = given
-resting-given p q w (withFresh l n f m r given sound) none = absurd (omega arith)
+resting-given : (base : Base) (p q : ℕ) (w : Work) → Standing base p q w → w .equation ≡ p → Given (base .p + p) q (soFar base q w) (w .count) (basisRow q w)
+resting-given base p q w (between e z given) none = given
+resting-given base p q w (underWay l n f given sound) none = given
+resting-given base p q w (withFresh l n f m r given sound) none = absurd (omega arith)
 
-resting-rows : (p q : ℕ) (w : Work) → Standing p q w → w .equation ≡ p → w .stage .rows ≡ 0
-resting-rows p q w (between e z given) none = z
-resting-rows p q w (underWay l n f given sound) none = absurd (omega arith)
-resting-rows p q w (withFresh l n f m r given sound) none = absurd (omega arith)
+resting-rows : (base : Base) (p q : ℕ) (w : Work) → Standing base p q w → w .equation ≡ p → w .stage .rows ≡ 0
+resting-rows base p q w (between e z given) none = z
+resting-rows base p q w (underWay l n f given sound) none = absurd (omega arith)
+resting-rows base p q w (withFresh l n f m r given sound) none = absurd (omega arith)
 
-module _ (p q : ℕ) (a : ℕ → ℕ → ℤ) (most room : ℕ) (w : Work) (whole : Whole p q a most room w) (rests : w .equation ≡ p) where
-  abbrev given : Given p q (doneOf q w) (w .count) (basisRow q w)
-  given = resting-given p q w (whole .standing) rests
+module _ (base : Base) (p q : ℕ) (a : ℕ → ℕ → ℤ) (most room : ℕ) (w : Work) (whole : Whole base p q a most room w) (rests : w .equation ≡ p) where
+  abbrev given : Given (base .p + p) q (soFar base q w) (w .count) (basisRow q w)
+  given = resting-given base p q w (whole .standing) rests
 
   combined-whole : (r s : ℕ) (u t : ℤ) → r < p → ¬ (T (frozen (w .done) r)) → s < p → u ≢ pos 0 → Apart r s t
-      → ((j : ℕ) → j < q → natAbs (combination q (system q w) r s u t j) ≤ coefficientLimit) → Whole p q a most room (combined q r s u t w)
+      → ((j : ℕ) → j < q → natAbs (combination q (system q w) r s u t j) ≤ coefficientLimit) → Whole base p q a most room (combined q r s u t w)
   combined-whole r s u t rp not-done sp some apart within =
       record {
         numbers = unfold combined in omega (arith, whole .numbers, fill-length q (w .equations) (r * q) (combination q (system q w) r s u t));
@@ -207,8 +300,8 @@ module _ (p q : ℕ) (a : ℕ → ℕ → ℤ) (most room : ℕ) (w : Work) (who
           ]
         ];
         alike = alike-then (whole .alike) (combined-alike p q w r s u t (whole .numbers) rp sp some apart);
-        standing = between (unfold combined in rests) (unfold combined in resting-rows p q w (whole .standing) rests)
-            (unfold combined in alike-given (done-alike p q w r s u t (whole .numbers) rp not-done) given);
+        standing = between (unfold combined in rests) (unfold combined in resting-rows base p q w (whole .standing) rests)
+            (unfold combined in alike-given (top-alike base (done-alike p q w r s u t (whole .numbers) rp not-done)) given);
       }
     where
       new-row : (j : ℕ) → j < q
@@ -216,7 +309,7 @@ module _ (p q : ℕ) (a : ℕ → ℕ → ℤ) (most room : ℕ) (w : Work) (who
       new-row j jq =
           rw (fill-inside q (w .equations) (r * q) (combination q (system q w) r s u t) (omega (arith, whole .numbers, row-fits q r p rp)) j jq) (within j jq)
 
-  taken-whole : (e : ℕ) → e < p → ¬ (T (frozen (w .done) e)) → Whole p q a most room (taken q e w)
+  taken-whole : (e : ℕ) → e < p → ¬ (T (frozen (w .done) e)) → Whole base p q a most room (taken q e w)
   unfolding taken
   taken-whole e ep not-done =
       record {
@@ -230,11 +323,11 @@ module _ (p q : ℕ) (a : ℕ → ℕ → ℤ) (most room : ℕ) (w : Work) (who
         range = whole .range;
         alike = whole .alike;
         standing = underWay ep not-done (omega arith) given
-            (begin-sound p q (doneOf q w) (system q w e) (w .count) (basisRow q w) (w .stage .table) (w .stage .steps));
+            (begin-sound (base .p + p) q (soFar base q w) (system q w e) (w .count) (basisRow q w) (w .stage .table) (w .stage .steps));
       }
 
-  fresh-whole : (e f : ℕ) → e < p → ¬ (T (frozen (w .done) e)) → f < q → system q w e f ≡ negsuc 0 → ((i : ℕ) → i < p → doneOf q w i f ≡ pos 0)
-      → Whole p q a most room (takenFresh q e f w)
+  fresh-whole : (e f : ℕ) → e < p → ¬ (T (frozen (w .done) e)) → f < q → system q w e f ≡ negsuc 0 → ((i : ℕ) → i < base .p + p → soFar base q w i f ≡ pos 0)
+      → Whole base p q a most room (takenFresh q e f w)
   unfolding takenFresh
   fresh-whole e f ep not-done fq minus free =
       let stay = lacks q f (w .basis) in
@@ -250,9 +343,11 @@ module _ (p q : ℕ) (a : ℕ → ℕ → ℤ) (most room : ℕ) (w : Work) (who
         range = whole .range;
         alike = whole .alike;
         standing = withFresh ep not-done fq minus free
-            (without-given p q (doneOf q w) f fq (suc p) (withoutAt p (doneOf q w) f) (without-at p q (doneOf q w) f fq) (w .count) (basisRow q w) given
+            (without-given (base .p + p) q (soFar base q w) f fq (suc (base .p + p)) (withoutAt (base .p + p) (soFar base q w) f)
+            (without-at (base .p + p) q (soFar base q w) f fq) (w .count) (basisRow q w) given
             (countTo (w .count) stay) _ (picked-packed q (w .count) most (w .basis) stay (at (w .basis) q) (whole .long) few))
-            (begin-sound (suc p) q (withoutAt p (doneOf q w) f) (system q w e) (countTo (w .count) stay) _ (w .stage .table) (w .stage .steps));
+            (begin-sound (suc (base .p + p)) q (withoutAt (base .p + p) (soFar base q w) f) (system q w e) (countTo (w .count) stay) _ (w .stage .table)
+            (w .stage .steps));
       }
 
 -- ---- what the calls' own checks say
@@ -276,12 +371,14 @@ module _ (p q : ℕ) (w : Work) where
       go true h = is-zero (b i f) h
       go false h = refl
 
-  fresh-from : (e f : ℕ) → T (isFresh p q e f w) → (f < q) × (system q w e f ≡ negsuc 0) × ((i : ℕ) → i < p → doneOf q w i f ≡ pos 0)
-  unfolding isFresh
+  fresh-from : (e f : ℕ) → T (isFresh p q e f w)
+      → (f < q) × (system q w e f ≡ negsuc 0) × ((i : ℕ) → i < p → doneOf q w i f ≡ pos 0) × T (isAlone q f (w .count) (basisRow q w))
+  unfolding isFresh isFree
   fresh-from e f h =
       let (a, h₁) = and-parts (ltb f q) _ h in
-      let (b, c) = and-parts (isMinusOne (system q w e f)) _ h₁ in
-      (ltb→lt f q a, minus-one (system q w e f) b, λ i l. free-at (w .done) (system q w) i f (all-at p _ c i l))
+      let (b, h₂) = and-parts (isMinusOne (system q w e f)) _ h₁ in
+      let (c, d) = and-parts (allTo p (λ i. not (frozen (w .done) i) || isZero (system q w i f))) _ h₂ in
+      (ltb→lt f q a, minus-one (system q w e f) b, λ i l. free-at (w .done) (system q w) i f (all-at p _ c i l), d)
 
   not-zero : (u : ℤ) → T (not (isZero u)) → u ≢ pos 0
   not-zero u h e = T-not (isZero u) h (rw e tt)
@@ -318,50 +415,53 @@ unfolding checked
 started-goes (refuse n values) w work e = absurd (let z : _≡_ {A = ℕ} 0 1 = cc in omega arith)
 started-goes go w work e = refl
 
-module _ (p q : ℕ) (a : ℕ → ℕ → ℤ) (most room : ℕ) (w : Work) (whole : Whole p q a most room w) where
-  pub combine-whole : (r s : ℕ) (u t : ℤ) → Whole p q a most room (combine p q most room r s u t w .work)
+module _ (base : Base) (p q : ℕ) (a : ℕ → ℕ → ℤ) (most room : ℕ) (w : Work) (whole : Whole base p q a most room w) where
+  pub combine-whole : (r s : ℕ) (u t : ℤ) → Whole base p q a most room (combine p q most room r s u t w .work)
   unfolding combine combineChecks
   combine-whole r s u t =
-      checked-keeps (Whole p q a most room) _ w _ whole
+      checked-keeps (Whole base p q a most room) _ w _ whole
       (λ e.
       let (x, y) = then-go _ _ (standing-own p q most room w _ e) in
       let (lr, sp) = and-parts (isLeft p r w) _ (passes (isLeft p r w && ltb s p) 32 x) in
       let (rests, rp, not-done) = left-from p q w r lr in
       let (some, apart, within) = operation-from p q w r s u t (passes (isOperation q r s u t w) 34 y) in
-      combined-whole p q a most room w whole rests r s u t rp not-done (ltb→lt s p sp) some apart within)
+      combined-whole base p q a most room w whole rests r s u t rp not-done (ltb→lt s p sp) some apart within)
 
-  pub take-whole : (e f : ℕ) → Whole p q a most room (take p q most room e f w .work)
+  pub take-whole : (e f : ℕ) → Whole base p q a most room (take p q most room e f w .work)
   unfolding take takeChecks
   take-whole e f =
-      checked-keeps (Whole p q a most room) _ w _ whole
+      checked-keeps (Whole base p q a most room) _ w _ whole
       (λ g.
       let (x, y) = then-go _ _ (standing-own p q most room w _ g) in
       let (rests, ep, not-done) = left-from p q w e (passes (isLeft p e w) 32 x) in
-      cond-holds (Whole p q a most room) (ltb f q) (takenFresh q e f w) (taken q e w)
+      cond-holds (Whole base p q a most room) (ltb f q) (takenFresh q e f w) (taken q e w)
       (λ l.
-      let (fq, minus, free) = fresh-from p q w e f (fresh-else (eqb f q) (isFresh p q e f w) (λ h. omega (arith, eqb→eq f q h, ltb→lt f q l))
+      let (fq, minus, free, alone) = fresh-from p q w e f (fresh-else (eqb f q) (isFresh p q e f w) (λ h. omega (arith, eqb→eq f q h, ltb→lt f q l))
       (passes (eqb f q || isFresh p q e f w) 33 y)) in
-      fresh-whole p q a most room w whole rests e f ep not-done fq minus free)
-      (λ l. taken-whole p q a most room w whole rests e ep not-done))
+      fresh-whole base p q a most room w whole rests e f ep not-done fq minus
+      (top-free base p (doneOf q w) f free
+      (before-free base p (doneOf q w) f
+      (alone-free (base .p + p) q (soFar base q w) f fq (w .count) (basisRow q w) (resting-given base p q w (whole .standing) rests .loops) alone))))
+      (λ l. taken-whole base p q a most room w whole rests e ep not-done))
     where
       fresh-else : (b c : Bool) → ¬ (T b) → T (b || c) → T c
       fresh-else true c n h = absurd (n tt)
       fresh-else false c n h = h
 
-  pub resume-good : (budget : ℕ) → Good p q a most room (resume p q most room budget w)
+  pub resume-good : (budget : ℕ) → Good base p q a most room (resume p q most room budget w)
   unfolding resume checked
   resume-good budget = by (resumeChecks p q most room w)
     where
-      rests : Standing p q w → p ≤ w .equation → Good p q a most room (rested p w)
-      rests (between e z given) l = rested-good p q a most room w whole e
+      rests : Standing base p q w → p ≤ w .equation → Good base p q a most room (rested p w)
+      rests (between e z given) l = rested-good base p q a most room w whole e
       rests (underWay l′ n f given sound) l = absurd (omega arith)
       rests (withFresh l′ n f m r given sound) l = absurd (omega arith)
 
-      by : (c : Check) → Good p q a most room (checked c w (λ v. cond (ltb (v .equation) p) (run p q most room budget v) (rested p v)))
+      by : (c : Check) → Good base p q a most room (checked c w (λ v. cond (ltb (v .equation) p) (run p q most room budget v) (rested p v)))
       by (refuse n values) = record { whole = whole; done = λ e. absurd (let z : _≡_ {A = ℕ} 0 1 = cc in omega arith) }
       by go =
-          cond-holds (Good p q a most room) (ltb (w .equation) p) (run p q most room budget w) (rested p w)
-          (λ l. run-good p q a most room budget w whole (ltb→lt (w .equation) p l)) (λ l. rests (whole .standing) (nltb→le (w .equation) p l))
+          cond-holds (Good base p q a most room) (ltb (w .equation) p) (run p q most room budget w) (rested p w)
+          (λ l. run-good base p q a most room budget w whole (ltb→lt (w .equation) p l)) (λ l. rests (whole .standing) (nltb→le (w .equation) p l))
 
 -- ---- tables lent anew
 
@@ -377,13 +477,13 @@ withTables w basis table =
       stage = withTable (w .stage) table;
     }
 
-module _ (p q : ℕ) (a : ℕ → ℕ → ℤ) (most room most′ room′ : ℕ) (w : Work) (whole : Whole p q a most room w) (basis table : List ℕ)
+module _ (base : Base) (p q : ℕ) (a : ℕ → ℕ → ℤ) (most room most′ room′ : ℕ) (w : Work) (whole : Whole base p q a most room w) (basis table : List ℕ)
     (same : SameRows q (w .count) (w .basis) basis) (same′ : SameRows q (w .stage .rows) (w .stage .table) table) (few : w .count ≤ most′)
     (fits : w .stage .rows ≤ room′) (long : most′ * q ≤ length basis) (wide : room′ * q ≤ length table) where
   alike-rows : (i : ℕ) → i < w .count → Same q (at basis q i) (basisRow q w i)
   alike-rows i l j jq = same .same (i * q + j) (omega (arith, row-before q (w .count) i 0 j l jq))
 
-  lent-whole : Whole p q a most′ room′ (withTables w basis table)
+  lent-whole : Whole base p q a most′ room′ (withTables w basis table)
   lent-whole =
       record {
         numbers = whole .numbers;
@@ -398,76 +498,148 @@ module _ (p q : ℕ) (a : ℕ → ℕ → ℤ) (most room most′ room′ : ℕ)
         standing = by (whole .standing);
       }
     where
-      by : Standing p q w → Standing p q (withTables w basis table)
-      by (between e z given) = between e z (moved-given p q (doneOf q w) (w .count) (basisRow q w) (at basis q) alike-rows given)
+      by : Standing base p q w → Standing base p q (withTables w basis table)
+      by (between e z given) = between e z (moved-given (base .p + p) q (soFar base q w) (w .count) (basisRow q w) (at basis q) alike-rows given)
       by (underWay l n f given sound) =
-          underWay l n f (moved-given p q (doneOf q w) (w .count) (basisRow q w) (at basis q) alike-rows given)
-          (moved-sound p q (doneOf q w) (w .count) (basisRow q w) (at basis q) alike-rows (equationOf q w) (w .stage) table same′ sound)
+          underWay l n f (moved-given (base .p + p) q (soFar base q w) (w .count) (basisRow q w) (at basis q) alike-rows given)
+          (moved-sound (base .p + p) q (soFar base q w) (w .count) (basisRow q w) (at basis q) alike-rows (equationOf q w) (w .stage) table same′ sound)
       by (withFresh l n f m r given sound) =
           withFresh l n f m r
-          (moved-given (suc p) q (withoutAt p (doneOf q w) (w .fresh)) (w .count) (basisRow q w) (at basis q) alike-rows given)
-          (moved-sound (suc p) q (withoutAt p (doneOf q w) (w .fresh)) (w .count) (basisRow q w) (at basis q) alike-rows (equationOf q w) (w .stage) table
+          (moved-given (suc (base .p + p)) q (withoutAt (base .p + p) (soFar base q w) (w .fresh)) (w .count) (basisRow q w) (at basis q) alike-rows given)
+          (moved-sound (suc (base .p + p)) q (withoutAt (base .p + p) (soFar base q w) (w .fresh)) (w .count) (basisRow q w) (at basis q) alike-rows
+          (equationOf q w) (w .stage) table
           same′ sound)
 
 -- ---- the promise
 
--- The work of a run that nobody else alters, with room for so many rows in the basis and in the stage's table: a start that is let go on, then any calls,
--- refused ones included, with any arguments, and tables lent anew with the rows that were in them.
-pub data Runs (p q : ℕ) (coefs : List ℤ) : ℕ → ℕ → Work → Type 0 where
-  afterStart : (most room : ℕ) (w : Work) → most * q ≤ length (w .basis) → room * q ≤ length (w .stage .table) → start p q coefs most w .answer ≡ started
-      → Runs p q coefs most room (start p q coefs most w .work)
-  afterCombine : {most room : ℕ} {w : Work} → Runs p q coefs most room w → (r s : ℕ) (u t : ℤ) → Runs p q coefs most room (combine p q most room r s u t w .work)
-  afterTake : {most room : ℕ} {w : Work} → Runs p q coefs most room w → (e f : ℕ) → Runs p q coefs most room (take p q most room e f w .work)
-  afterResume : {most room : ℕ} {w : Work} → Runs p q coefs most room w → (budget : ℕ) → Runs p q coefs most room (resume p q most room budget w .work)
-  lentAnew : {most room : ℕ} {w : Work} → Runs p q coefs most room w → (most′ room′ : ℕ) (basis table : List ℕ) → SameRows q (w .count) (w .basis) basis
-      → SameRows q (w .stage .rows) (w .stage .table) table → w .count ≤ most′ → w .stage .rows ≤ room′ → most′ * q ≤ length basis → room′ * q ≤ length table
-      → Runs p q coefs most′ room′ (withTables w basis table)
+-- The work of a run that nobody else alters, with room for so many rows in the basis and in the stage's table: a start that is let go on, plain or from the
+-- whole list of the equations before, then any calls, refused ones included, with any arguments, and tables lent anew with the rows that were in them. That
+-- the list handed over is the whole list of the equations before cannot be checked: it is the premise.
+pub data RunsOn (base : Base) (p q : ℕ) (coefs : List ℤ) : ℕ → ℕ → Work → Type 0 where
+  afterStart : (most room : ℕ) (w : Work) → base .p ≡ 0 → most * q ≤ length (w .basis) → room * q ≤ length (w .stage .table)
+      → start p q coefs most w .answer ≡ started → RunsOn base p q coefs most room (start p q coefs most w .work)
+  afterStartFrom : (n : ℕ) (rows : List ℕ) (most room : ℕ) (w : Work) → Enumerates q (Loop (base .p) q (base .a)) n (at rows q) → most * q ≤ length (w .basis)
+      → room * q ≤ length (w .stage .table) → startFrom p q coefs n rows most w .answer ≡ started
+      → RunsOn base p q coefs most room (startFrom p q coefs n rows most w .work)
+  afterCombine : {most room : ℕ} {w : Work} → RunsOn base p q coefs most room w → (r s : ℕ) (u t : ℤ)
+      → RunsOn base p q coefs most room (combine p q most room r s u t w .work)
+  afterTake : {most room : ℕ} {w : Work} → RunsOn base p q coefs most room w → (e f : ℕ) → RunsOn base p q coefs most room (take p q most room e f w .work)
+  afterResume : {most room : ℕ} {w : Work} → RunsOn base p q coefs most room w → (budget : ℕ)
+      → RunsOn base p q coefs most room (resume p q most room budget w .work)
+  lentAnew : {most room : ℕ} {w : Work} → RunsOn base p q coefs most room w → (most′ room′ : ℕ) (basis table : List ℕ)
+      → SameRows q (w .count) (w .basis) basis → SameRows q (w .stage .rows) (w .stage .table) table → w .count ≤ most′ → w .stage .rows ≤ room′
+      → most′ * q ≤ length basis → room′ * q ≤ length table → RunsOn base p q coefs most′ room′ (withTables w basis table)
 
-module _ (p q : ℕ) (coefs : List ℤ) where
-  start-whole : (most room : ℕ) (w : Work) → most * q ≤ length (w .basis) → room * q ≤ length (w .stage .table) → start p q coefs most w .answer ≡ started
-      → Whole p q (systemOf q coefs) most room (start p q coefs most w .work)
+-- from no equations: a run on the map alone
+abbrev pub Runs : (p q : ℕ) (coefs : List ℤ) → ℕ → ℕ → Work → Type 0
+Runs p q coefs = RunsOn nothing p q coefs
+
+-- what the checks that both starts share say
+module _ (p q : ℕ) (coefs : List ℤ) (most : ℕ) (w : Work) where
+  roomy : check4 p q most w ≡ go → (p * q ≤ length (w .equations)) × (q ≤ most)
+  roomy e =
+      let (short, less) = or-false (ltb (length (w .equations)) (p * q)) (ltb most q) (refuse-if-go _ 4 e) in (
+        nltb→le (length (w .equations)) (p * q)
+            (not-T (ltb (length (w .equations)) (p * q)) (false-not (ltb (length (w .equations)) (p * q)) short)),
+        nltb→le most q (not-T (ltb most q) (false-not (ltb most q) less)),
+      )
+
+  in-range : check7 p q coefs ≡ go → (k : ℕ) → k < p * q → natAbs (getD coefs k (pos 0)) ≤ coefficientLimit
+  in-range e k kl =
+      omega (
+        arith,
+        nltb→le coefLimit (natAbs (getD coefs k (pos 0)))
+            (not-T (ltb coefLimit (natAbs (getD coefs k (pos 0)))) (false-not (ltb coefLimit (natAbs (getD coefs k (pos 0)))) (first-silent 7 (p * q)
+            _ e k kl))),
+      )
+
+-- a list that is let go on has no component above the limit
+list-small : (q n : ℕ) (rows : List ℕ) → T (isList q n rows) → (i j : ℕ) → i < n → j < q → at rows q i j ≤ mostComponent
+unfolding isList isRow isSmall
+list-small q n rows h i j l jq =
+    let (a, b) = and-parts (eqb (length rows) (n * q)) _ h in
+    let (c, d) = and-parts (allTo q (λ j. leb (at rows q i j) mostComponent)) _ (all-at n _ b i l) in
+    leb→le (at rows q i j) mostComponent (all-at q _ c j jq)
+
+module _ (base : Base) (p q : ℕ) (coefs : List ℤ) where
+  start-whole : (most room : ℕ) (w : Work) → base .p ≡ 0 → most * q ≤ length (w .basis) → room * q ≤ length (w .stage .table)
+      → start p q coefs most w .answer ≡ started → Whole base p q (systemOf q coefs) most room (start p q coefs most w .work)
   unfolding start startChecks checked
-  start-whole most room w long wide e =
+  start-whole most room w plain long wide e =
       let all = started-goes _ w _ e in
       let (x₁, y₁) = then-go (check1 p) _ all in
       let (x₂, y₂) = then-go (check2 q) _ y₁ in
       let (x₃, y₃) = then-go (check3 p q coefs) _ y₂ in
       let (x₄, y₄) = then-go (check4 p q most w) _ y₃ in
-      let (short, less) = or-false (ltb (length (w .equations)) (p * q)) (ltb most q) (refuse-if-go _ 4 x₄) in
+      let (numbers, some) = roomy p q coefs most w x₄ in
+      rw all (begun-whole base plain p q coefs most room w numbers some long wide (in-range p q coefs most w y₄))
+
+  start-from-whole : (n : ℕ) (rows : List ℕ) (most room : ℕ) (w : Work) → Enumerates q (Loop (base .p) q (base .a)) n (at rows q)
+      → most * q ≤ length (w .basis) → room * q ≤ length (w .stage .table) → startFrom p q coefs n rows most w .answer ≡ started
+      → Whole base p q (systemOf q coefs) most room (startFrom p q coefs n rows most w .work)
+  unfolding startFrom startFromChecks checked
+  start-from-whole n rows most room w whole-list long wide e =
+      let all = started-goes _ w _ e in
+      let (x₁, y₁) = then-go (check1 p) _ all in
+      let (x₂, y₂) = then-go (check2 q) _ y₁ in
+      let (x₃, y₃) = then-go (check3 p q coefs) _ y₂ in
+      let (x₄, y₄) = then-go (check4 p q most w) _ y₃ in
+      let (x₅, y₅) = then-go (refuseIf (ltb most n) 4) _ y₄ in
+      let (x₆, y₆) = then-go (check6List q n rows) _ y₅ in
+      let (numbers, some) = roomy p q coefs most w x₄ in
       rw all
-      (begun-whole p q coefs most room w (nltb→le (length (w .equations)) (p * q) (not-T (ltb (length (w .equations)) (p * q)) (false-not (ltb (length (w .equations)) (p * q)) short)))
-      (nltb→le most q (not-T (ltb most q) (false-not (ltb most q) less))) long wide
-      (λ k kl. omega (
-        arith,
-        nltb→le coefLimit (natAbs (getD coefs k (pos 0)))
-            (not-T (ltb coefLimit (natAbs (getD coefs k (pos 0)))) (false-not (ltb coefLimit (natAbs (getD coefs k (pos 0)))) (first-silent 7 (p * q) _ y₄ k kl))),
-      )))
+      (begun-from-whole base p q coefs n rows most room w numbers
+      (nltb→le most n (not-T (ltb most n) (false-not (ltb most n) (refuse-if-go (ltb most n) 4 x₅)))) long wide (in-range p q coefs most w y₆)
+      (list-small q n rows (passes (isList q n rows) 6 x₆)) whole-list)
 
-  pub runs-whole : {most room : ℕ} {w : Work} → Runs p q coefs most room w → Whole p q (systemOf q coefs) most room w
-  runs-whole (afterStart most room w long wide e) = start-whole most room w long wide e
-  runs-whole (afterCombine {most} {room} {w} r x y u t) = combine-whole p q (systemOf q coefs) most room w (runs-whole r) x y u t
-  runs-whole (afterTake {most} {room} {w} r e f) = take-whole p q (systemOf q coefs) most room w (runs-whole r) e f
-  runs-whole (afterResume {most} {room} {w} r budget) = resume-good p q (systemOf q coefs) most room w (runs-whole r) budget .whole
+  pub runs-whole : {most room : ℕ} {w : Work} → RunsOn base p q coefs most room w → Whole base p q (systemOf q coefs) most room w
+  runs-whole (afterStart most room w plain long wide e) = start-whole most room w plain long wide e
+  runs-whole (afterStartFrom n rows most room w list long wide e) = start-from-whole n rows most room w list long wide e
+  runs-whole (afterCombine {most} {room} {w} r x y u t) = combine-whole base p q (systemOf q coefs) most room w (runs-whole r) x y u t
+  runs-whole (afterTake {most} {room} {w} r e f) = take-whole base p q (systemOf q coefs) most room w (runs-whole r) e f
+  runs-whole (afterResume {most} {room} {w} r budget) = resume-good base p q (systemOf q coefs) most room w (runs-whole r) budget .whole
   runs-whole (lentAnew {most} {room} {w} r most′ room′ basis table same same′ few fits long wide) =
-      lent-whole p q (systemOf q coefs) most room most′ room′ w (runs-whole r) basis table same same′ few fits long wide
+      lent-whole base p q (systemOf q coefs) most room most′ room′ w (runs-whole r) basis table same same′ few fits long wide
 
-  -- When a call says "complete", the rows of the basis are exactly the minimal solutions of the map, each once.
-  pub run-complete : {most room : ℕ} {w : Work} → Runs p q coefs most room w → (budget : ℕ) → resume p q most room budget w .answer ≡ complete
-      → Enumerates q (Loop p q (systemOf q coefs)) (resume p q most room budget w .work .count) (basisRow q (resume p q most room budget w .work))
-  run-complete {most} {room} {w} r budget e =
+  -- When a call says "complete", the rows of the basis are exactly the minimal solutions of the equations before and of the map together, each once.
+  pub all-complete : {most room : ℕ} {w : Work} → RunsOn base p q coefs most room w → (budget : ℕ) → resume p q most room budget w .answer ≡ complete
+      → Enumerates q (Loop (base .p + p) q (onTop base (systemOf q coefs))) (resume p q most room budget w .work .count)
+      (basisRow q (resume p q most room budget w .work))
+  all-complete {most} {room} {w} r budget e =
       let v = resume p q most room budget w .work in
-      let g = resume-good p q (systemOf q coefs) most room w (runs-whole r) budget in
+      let g = resume-good base p q (systemOf q coefs) most room w (runs-whole r) budget in
       let (rests, all) = g .done e in
-      alike-enumerates (turned (g .whole .alike))
-      (all-done p q (system q v) (v .done) (λ i l. rw all (ones-frozen p i l)) (resting-given p q v (g .whole .standing) rests .loops))
+      let done : (i : ℕ) → i < p → T (frozen (v .done) i) = λ i l. rw all (ones-frozen p i l) in
+      alike-enumerates (top-alike base (alike-then (done-whole p q (system q v) (v .done) done) (turned (g .whole .alike))))
+      (resting-given base p q v (g .whole .standing) rests .loops)
     where
       turned : {a b : ℕ → ℕ → ℤ} → Alike p q a b → Alike p q b a
       turned s = record { there = s .back; back = s .there }
 
+  -- Between two stages they are exactly those of the equations before and of the equations done, in the working system, which has the map's solutions.
+  pub all-members : {most room : ℕ} {w : Work} → RunsOn base p q coefs most room w → w .equation ≡ p
+      → Enumerates q (Loop (base .p + p) q (onTop base (among (w .done) (system q w)))) (w .count) (basisRow q w)
+  all-members {w = w} r rests = resting-given base p q w (runs-whole r .standing) rests .loops
+
+  pub same-solutions : {most room : ℕ} {w : Work} → RunsOn base p q coefs most room w → Alike p q (systemOf q coefs) (system q w)
+  same-solutions r = runs-whole r .alike
+
+-- ---- on the map alone
+
+module _ (p q : ℕ) (coefs : List ℤ) where
+  -- When a call says "complete", the rows of the basis are exactly the minimal solutions of the map, each once.
+  pub run-complete : {most room : ℕ} {w : Work} → Runs p q coefs most room w → (budget : ℕ) → resume p q most room budget w .answer ≡ complete
+      → Enumerates q (Loop p q (systemOf q coefs)) (resume p q most room budget w .work .count) (basisRow q (resume p q most room budget w .work))
+  run-complete r budget e = alone-enumerates p q (systemOf q coefs) (all-complete nothing p q coefs r budget e)
+
   -- Between two stages they are exactly the minimal solutions of the equations done, in the working system, which has the map's solutions.
   pub run-members : {most room : ℕ} {w : Work} → Runs p q coefs most room w → w .equation ≡ p
       → Enumerates q (Loop p q (among (w .done) (system q w))) (w .count) (basisRow q w)
-  run-members {w = w} r rests = resting-given p q w (runs-whole r .standing) rests .loops
+  run-members {w = w} r rests = alone-enumerates p q (among (w .done) (system q w)) (all-members nothing p q coefs r rests)
 
-  pub same-solutions : {most room : ℕ} {w : Work} → Runs p q coefs most room w → Alike p q (systemOf q coefs) (system q w)
-  same-solutions r = runs-whole r .alike
+  -- An unknown that no equation done has is had by its unit tuple only: of a run on the map alone, 33 asks no more than the equations.
+  pub fresh-alone : {most room : ℕ} {w : Work} → Runs p q coefs most room w → w .equation ≡ p → (f : ℕ) → f < q → T (isFree p q f w)
+      → T (isAlone q f (w .count) (basisRow q w))
+  unfolding isFree
+  fresh-alone {w = w} r rests f fq h =
+      free-alone p q (doneOf q w) f fq (w .count) (basisRow q w) (run-members r rests) (λ i l. free-at p q w (w .done) (system q w) i f (all-at p _ h i l))

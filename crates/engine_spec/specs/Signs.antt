@@ -1,21 +1,20 @@
 -- One equation more. A list of nonzero solutions of the equations so far that makes up every such solution, and in which the sum of any two rows
 -- whose values under the next equation have opposite signs lies at or above a row whose value lies between 0 and that of the sum: every
 -- solution of the equations so far is then a sum of rows whose values have its own sign or are 0. Assumes nothing.
-use mathlib.Core.Path.{_≡_, refl, sym, _∙_}
-use mathlib.Core.Logic.{_≢_, _⊎_, inl, inr}
+use mathlib.Core.Path.{_≡_, refl, _∙_}
+use mathlib.Core.Logic.{_≢_, inl, inr}
 use Prim.Native.Nat.{ℕ, zero, suc, _+_, _*_, _-_, _≤_, _<_}
-use native.Mathlib.Decide.{decLt, ℕ-discrete}
-use native.Mathlib.Nat.{mul-zero}
+use native.Mathlib.Decide.{ℕ-discrete}
 use native.Mathlib.Omega.{arith}
 use lib.IntN.{ℤ, pos, _+ℤ_, _*ℤ_, +ℤ-idl}
-use Rattle.linear.specs.Combinations.{SumOf, combined, combined-lower, combined-raise, combined-sum, combined-unit, rest-solves, value-combined}
+use Rattle.linear.specs.Combinations.{SumOf, combined-lower, combined-raise, combined-sum, combined-unit, rest-solves, value-combined}
 use Rattle.linear.specs.Differences.{down, integers, one-side, same-up, sum-is, up, up-mul, down-mul}
 use Rattle.linear.specs.Sums.{sumTo}
 use Rattle.linear.specs.SystemLaws.{value-same, value-sum}
 use Rattle.linear.specs.Systems.{Solution, value}
-use Rattle.linear.specs.TupleLaws.{differ, term-le-total, total-less, total-none, total-same, total-some, total-sum, unit-other, unit-same}
+use Rattle.linear.specs.TupleLaws.{differ, term-le-total, total-less, total-some, total-sum, unit-other}
 use Rattle.linear.specs.Tuples.{AtOrBelow, Nonzero, Same, raise, total, unit}
-use Rattle.decomposition.specs.Loops.{MakesUp, Solutions}
+use Rattle.linear.specs.Loops.{MakesUp, Solutions}
 
 -- y lies between 0 and x: it has the sign of x or is 0, and is no larger than x
 pub record Within (y x : ℤ) : Type 0 where

@@ -14,7 +14,7 @@ use Rattle.linear.specs.Tuples.{AtOrBelow, Nonzero, Same, total}
 use Rattle.definitions.specs.System.{mostComponent}
 use Rattle.definitions.specs.Tables.{at}
 use Rattle.laws.specs.TableLaws.{write-length}
-use Rattle.decomposition.specs.Loops.{Loop}
+use Rattle.linear.specs.Loops.{Loop}
 use Rattle.engine_spec.specs.Equations.{Wanted, wanted-alike}
 use Rattle.engine_spec.specs.ReductionLaws.{append-kept, append-new, reduced-more}
 use Rattle.engine_spec.specs.Signs.{Reduced, Within, plus}
@@ -83,7 +83,8 @@ module _ (p q : ℕ) (a : ℕ → ℕ → ℤ) (c : ℕ → ℤ) (m : ℕ) (basi
   new-degree = total-same (row q t (s .rows)) x q new ∙ exact
 
   -- a property of the rows, from the old ones and the new one
-  each : (P : (ℕ → ℕ) → Type 0) → ((y z : ℕ → ℕ) → Same q y z → P y → P z) → P x → ((i : ℕ) → i < s .rows → P (row q s i)) → (i : ℕ) → i < s .rows + 1 → P (row q t i)
+  each : (P : (ℕ → ℕ) → Type 0) → ((y z : ℕ → ℕ) → Same q y z → P y → P z) → P x → ((i : ℕ) → i < s .rows → P (row q s i)) → (i : ℕ) → i < s .rows + 1 → P
+      (row q t i)
   each P alike px old i l =
       elim (split i (s .rows)) [
         | inl u ↦ alike (row q s i) (row q t i) (λ j jq. sym (kept i u j jq)) (old i u)

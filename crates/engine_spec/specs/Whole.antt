@@ -1,41 +1,36 @@
 -- What holds of a run between two calls, whichever equations, operations and unknowns its caller chose, and that each call keeps it. Assumes nothing.
-use mathlib.Core.Path.{_≡_, refl, sym, _∙_, ap}
-use mathlib.Core.Logic.{_≢_, inl, inr}
+use mathlib.Core.Path.{_≡_, refl}
+use mathlib.Core.Logic.{_≢_}
 use mathlib.Core.Bool.{Bool, true, false, not, cond, _&&_}
 use mathlib.Core.List.{List, []}
 use Prim.Native.Nat.{ℕ, zero, suc, _+_, _*_, _^_, _-_, _≤_, _<_}
 use native.Mathlib.Decide.{ℕ-discrete}
-use native.Mathlib.Nat.{mul-le-mul-right}
 use native.Mathlib.Omega.{arith}
-use lib.Dec.{T, T-not, eqb, eqb→eq, ltb, ltb→lt, lt→ltb, nltb→le, not-T}
+use lib.Dec.{T, eqb, eqb→eq, ltb, ltb→lt, lt→ltb, nltb→le}
 use lib.IntN.{ℤ, pos, negsuc, natAbs}
 use lib.ListN.{getD, length}
-use lib.Signed.{leZ, leZ-yes}
+use lib.Signed.{leZ-yes}
 use Rattle.linear.specs.Differences.{one-side, up, up-le}
 use Rattle.linear.specs.Systems.{value}
-use Rattle.linear.specs.TestLaws.{T-dec, all-at, count-le}
+use Rattle.linear.specs.TestLaws.{all-at}
 use Rattle.linear.specs.Tests.{countTo}
-use Rattle.linear.specs.TupleLaws.{term-le-total, total-same, total-unit}
-use Rattle.linear.specs.Tuples.{Same, total, unit}
 use Rattle.definitions.specs.Answers.{Answer, complete, paused, refused}
 use Rattle.definitions.specs.Refusals.{stepLimit}
 use Rattle.definitions.specs.System.{mostComponent}
 use Rattle.definitions.specs.Tables.{at, frozen}
-use Rattle.laws.specs.MarkLaws.{bit-add-fits, free-bit, ones-frozen}
-use Rattle.sweeps.specs.Pack.{pack-length, pack-row, packTo}
+use Rattle.laws.specs.MarkLaws.{bit-add-fits, free-bit}
+use Rattle.laws.specs.Pack.{pack-length, pack-row, packTo}
+use Rattle.engine_spec.specs.Base.{Base, onTop, top-extends}
 use Rattle.engine_spec.specs.Beside.{coefficientLimit}
 use Rattle.engine_spec.specs.Counts.{Timed, turn-timed}
-use Rattle.engine_spec.specs.Done.{all-done, among, done-extends, none-asks}
-use Rattle.engine_spec.specs.Ends.{Ended, Fine, Fit, begin-sound, picked-from, stage-given, turn-fine}
+use Rattle.engine_spec.specs.Done.{among, done-extends}
+use Rattle.engine_spec.specs.Ends.{Ended, Fine, picked-from, stage-given, turn-fine}
 use Rattle.engine_spec.specs.Engine.{
   Result,
   Work,
   after,
   allDone,
-  always,
   basisRow,
-  begun,
-  combined,
   equationOf,
   finish,
   finished,
@@ -43,20 +38,17 @@ use Rattle.engine_spec.specs.Engine.{
   left,
   onward,
   rested,
-  resting,
   result,
   run,
   stays,
   system,
-  taken,
-  takenFresh,
   valuesSmall,
 }
-use Rattle.engine_spec.specs.Equations.{Picked, units-enumerate, zeroRow}
-use Rattle.engine_spec.specs.Fresh.{filled, fresh-loops, notBelow, put-other, put-same, without-at, without-given, withoutAt}
-use Rattle.engine_spec.specs.Operations.{Alike, Apart, alike-enumerates, alike-given, alike-then, combined-alike, done-alike, fill-inside, fill-length}
+use Rattle.engine_spec.specs.Equations.{Picked, zeroRow}
+use Rattle.engine_spec.specs.Fresh.{filled, fresh-loops, notBelow, put-other, put-same, without-at, withoutAt}
+use Rattle.engine_spec.specs.Operations.{Alike}
 use Rattle.engine_spec.specs.Sound.{Given, Sound}
-use Rattle.engine_spec.specs.Stage.{Stage, Turned, begin, ends, goes, row, stops, turn}
+use Rattle.engine_spec.specs.Stage.{Stage, Turned, ends, goes, row, stops, turn}
 
 -- rows that a test picks, written one behind the other from the first on
 pub picked-packed : (q n most : ℕ) (table : List ℕ) (f : ℕ → Bool) (row : ℕ → ℕ → ℕ) → most * q ≤ length table → countTo n f ≤ most
@@ -73,18 +65,23 @@ picked-packed q n most table f row long few =
 abbrev pub doneOf : ℕ → Work → ℕ → ℕ → ℤ
 doneOf q w = among (w .done) (system q w)
 
--- Where a run stands: between two stages; in a stage without a fresh unknown; in one with a fresh unknown, whose basis lacks it.
-pub data Standing (p q : ℕ) (w : Work) : Type 0 where
-  between : w .equation ≡ p → w .stage .rows ≡ 0 → Given p q (doneOf q w) (w .count) (basisRow q w) → Standing p q w
-  underWay : w .equation < p → ¬ (T (frozen (w .done) (w .equation))) → q ≤ w .fresh → Given p q (doneOf q w) (w .count) (basisRow q w)
-      → Sound p q (doneOf q w) (equationOf q w) (w .count) (basisRow q w) (w .stage) → Standing p q w
-  withFresh : w .equation < p → ¬ (T (frozen (w .done) (w .equation))) → w .fresh < q → equationOf q w (w .fresh) ≡ negsuc 0
-      → ((i : ℕ) → i < p → doneOf q w i (w .fresh) ≡ pos 0)
-      → Given (suc p) q (withoutAt p (doneOf q w) (w .fresh)) (w .count) (basisRow q w)
-      → Sound (suc p) q (withoutAt p (doneOf q w) (w .fresh)) (equationOf q w) (w .count) (basisRow q w) (w .stage) → Standing p q w
+-- the equations so far: those before the run's own, and those done
+abbrev pub soFar : Base → ℕ → Work → ℕ → ℕ → ℤ
+soFar b q w = onTop b (doneOf q w)
 
--- What holds between two calls of a run on the system a, with room for `most` rows in the basis and `room` rows in the stage's table.
-pub record Whole (p q : ℕ) (a : ℕ → ℕ → ℤ) (most room : ℕ) (w : Work) : Type 0 where
+-- Where a run stands: between two stages; in a stage without a fresh unknown; in one with a fresh unknown, whose basis lacks it.
+pub data Standing (b : Base) (p q : ℕ) (w : Work) : Type 0 where
+  between : w .equation ≡ p → w .stage .rows ≡ 0 → Given (b .p + p) q (soFar b q w) (w .count) (basisRow q w) → Standing b p q w
+  underWay : w .equation < p → ¬ (T (frozen (w .done) (w .equation))) → q ≤ w .fresh → Given (b .p + p) q (soFar b q w) (w .count) (basisRow q w)
+      → Sound (b .p + p) q (soFar b q w) (equationOf q w) (w .count) (basisRow q w) (w .stage) → Standing b p q w
+  withFresh : w .equation < p → ¬ (T (frozen (w .done) (w .equation))) → w .fresh < q → equationOf q w (w .fresh) ≡ negsuc 0
+      → ((i : ℕ) → i < b .p + p → soFar b q w i (w .fresh) ≡ pos 0)
+      → Given (suc (b .p + p)) q (withoutAt (b .p + p) (soFar b q w) (w .fresh)) (w .count) (basisRow q w)
+      → Sound (suc (b .p + p)) q (withoutAt (b .p + p) (soFar b q w) (w .fresh)) (equationOf q w) (w .count) (basisRow q w) (w .stage) → Standing b p q w
+
+-- What holds between two calls of a run on the system a, from the equations before it, with room for `most` rows in the basis and `room` rows in the
+-- stage's table.
+pub record Whole (b : Base) (p q : ℕ) (a : ℕ → ℕ → ℤ) (most room : ℕ) (w : Work) : Type 0 where
   pub numbers : p * q ≤ length (w .equations)
   pub long : most * q ≤ length (w .basis)
   pub wide : room * q ≤ length (w .stage .table)
@@ -95,7 +92,7 @@ pub record Whole (p q : ℕ) (a : ℕ → ℕ → ℤ) (most room : ℕ) (w : Wo
   -- no coefficient of the working system is out of its range
   pub range : (k : ℕ) → k < p * q → natAbs (getD (w .equations) k (pos 0)) ≤ coefficientLimit
   pub alike : Alike p q a (system q w)
-  pub standing : Standing p q w
+  pub standing : Standing b p q w
 
 -- ---- tests
 
@@ -106,7 +103,7 @@ small-else false s h e = absurd e
 
 -- ---- the end of a stage
 
-module _ (p q : ℕ) (a : ℕ → ℕ → ℤ) (most room : ℕ) (w : Work) (whole : Whole p q a most room w) (going : w .equation < p)
+module _ (b : Base) (p q : ℕ) (a : ℕ → ℕ → ℤ) (most room : ℕ) (w : Work) (whole : Whole b p q a most room w) (going : w .equation < p)
     (not-done : ¬ (T (frozen (w .done) (w .equation)))) (some-left : w .stage .steps < stepLimit) where
   abbrev c : ℕ → ℤ
   c = equationOf q w
@@ -115,8 +112,9 @@ module _ (p q : ℕ) (a : ℕ → ℕ → ℤ) (most room : ℕ) (w : Work) (who
   kept = stays q w
 
   -- a finished stage leaves a run between two stages, once its rows are the minimal solutions with the equation
-  finished-whole : countTo (w .stage .rows) kept ≤ most → Given p q (among (w .done + 2 ^ w .equation) (system q w)) (countTo (w .stage .rows) kept)
-      (at (packTo (w .stage .rows) q (w .basis) 0 kept (left q w)) q) → Whole p q a most room (finished p q w)
+  finished-whole : countTo (w .stage .rows) kept ≤ most → Given (b .p + p) q (onTop b (among (w .done + 2 ^ w .equation) (system q w))) (countTo
+      (w .stage .rows) kept)
+      (at (packTo (w .stage .rows) q (w .basis) 0 kept (left q w)) q) → Whole b p q a most room (finished p q w)
   unfolding finished
   finished-whole low given =
       record {
@@ -132,28 +130,29 @@ module _ (p q : ℕ) (a : ℕ → ℕ → ℤ) (most room : ℕ) (w : Work) (who
         standing = between refl refl given;
       }
 
-  plain-ended : q ≤ w .fresh → Sound p q (doneOf q w) c (w .count) (basisRow q w) (w .stage) → Ended p q (doneOf q w) c (w .stage)
-      → countTo (w .stage .rows) kept ≤ most → Whole p q a most room (finished p q w)
+  plain-ended : q ≤ w .fresh → Sound (b .p + p) q (soFar b q w) c (w .count) (basisRow q w) (w .stage) → Ended (b .p + p) q (soFar b q w) c (w .stage)
+      → countTo (w .stage .rows) kept ≤ most → Whole b p q a most room (finished p q w)
   plain-ended none sound e low =
       finished-whole low
       (plain (ltb (w .fresh) q) (λ h. omega (arith, ltb→lt (w .fresh) q h)) low)
     where
-      plain : (b : Bool) → (T b → ⊥)
-          → countTo (w .stage .rows) (cond b (notBelow q c (row q (w .stage))) (zeroRow q c (row q (w .stage)))) ≤ most
-          → Given p q (among (w .done + 2 ^ w .equation) (system q w))
-          (countTo (w .stage .rows) (cond b (notBelow q c (row q (w .stage))) (zeroRow q c (row q (w .stage)))))
-          (at (packTo (w .stage .rows) q (w .basis) 0 (cond b (notBelow q c (row q (w .stage))) (zeroRow q c (row q (w .stage))))
-          (λ i. cond b (filled q c (w .fresh) (row q (w .stage) i)) (row q (w .stage) i))) q)
+      plain : (x : Bool) → (T x → ⊥)
+          → countTo (w .stage .rows) (cond x (notBelow q c (row q (w .stage))) (zeroRow q c (row q (w .stage)))) ≤ most
+          → Given (b .p + p) q (onTop b (among (w .done + 2 ^ w .equation) (system q w)))
+          (countTo (w .stage .rows) (cond x (notBelow q c (row q (w .stage))) (zeroRow q c (row q (w .stage)))))
+          (at (packTo (w .stage .rows) q (w .basis) 0 (cond x (notBelow q c (row q (w .stage))) (zeroRow q c (row q (w .stage))))
+          (λ i. cond x (filled q c (w .fresh) (row q (w .stage) i)) (row q (w .stage) i))) q)
       plain true never low = absurd (never tt)
       plain false never low =
-          stage-given p q (doneOf q w) (among (w .done + 2 ^ w .equation) (system q w)) c
-          (done-extends p q (system q w) (w .done) (w .equation) going not-done) (w .count) (basisRow q w) (w .stage) sound e
+          stage-given (b .p + p) q (soFar b q w) (onTop b (among (w .done + 2 ^ w .equation) (system q w))) c
+          (top-extends b p q (doneOf q w) _ c (done-extends p q (system q w) (w .done) (w .equation) going not-done)) (w .count) (basisRow q w)
+          (w .stage) sound e
           (countTo (w .stage .rows) (zeroRow q c (row q (w .stage)))) _
           (picked-packed q (w .stage .rows) most (w .basis) (zeroRow q c (row q (w .stage))) (row q (w .stage)) (whole .long) low)
 
-  module _ (some : w .fresh < q) (minus : c (w .fresh) ≡ negsuc 0) (free : (i : ℕ) → i < p → doneOf q w i (w .fresh) ≡ pos 0)
-      (sound : Sound (suc p) q (withoutAt p (doneOf q w) (w .fresh)) c (w .count) (basisRow q w) (w .stage))
-      (e : Ended (suc p) q (withoutAt p (doneOf q w) (w .fresh)) c (w .stage)) (small : T (valuesSmall q w)) where
+  module _ (some : w .fresh < q) (minus : c (w .fresh) ≡ negsuc 0) (free : (i : ℕ) → i < b .p + p → soFar b q w i (w .fresh) ≡ pos 0)
+      (sound : Sound (suc (b .p + p)) q (withoutAt (b .p + p) (soFar b q w) (w .fresh)) c (w .count) (basisRow q w) (w .stage))
+      (e : Ended (suc (b .p + p)) q (withoutAt (b .p + p) (soFar b q w) (w .fresh)) c (w .stage)) (small : T (valuesSmall q w)) where
     abbrev f : ℕ
     f = w .fresh
 
@@ -174,52 +173,54 @@ module _ (p q : ℕ) (a : ℕ → ℕ → ℤ) (most room : ℕ) (w : Work) (who
           | no ne ↦ omega (arith, put-other f (up (value c q (row q (w .stage) i))) (row q (w .stage) i) j ne, sound .small i j l jq)
         ]
 
-    fresh-given : countTo (w .stage .rows) g ≤ most → Given p q (among (w .done + 2 ^ w .equation) (system q w)) (countTo (w .stage .rows) g)
+    fresh-given : countTo (w .stage .rows) g ≤ most → Given (b .p + p) q (onTop b (among (w .done + 2 ^ w .equation) (system q w))) (countTo (w .stage .rows) g)
         (at (packTo (w .stage .rows) q (w .basis) 0 g filling) q)
     fresh-given low =
         let picked = picked-packed q (w .stage .rows) most (w .basis) g filling (whole .long) low in
         record {
           loops =
-              fresh-loops p q (doneOf q w) (among (w .done + 2 ^ w .equation) (system q w)) c
-              (done-extends p q (system q w) (w .done) (w .equation) going not-done) f some minus free (suc p) (withoutAt p (doneOf q w) f)
-              (without-at p q (doneOf q w) f some) (w .count) (basisRow q w) (w .stage) sound e (countTo (w .stage .rows) g) _ picked;
+              fresh-loops (b .p + p) q (soFar b q w) (onTop b (among (w .done + 2 ^ w .equation) (system q w))) c
+              (top-extends b p q (doneOf q w) _ c (done-extends p q (system q w) (w .done) (w .equation) going not-done)) f some minus free
+              (suc (b .p + p)) (withoutAt (b .p + p) (soFar b q w) f) (without-at (b .p + p) q (soFar b q w) f some) (w .count) (basisRow q w)
+              (w .stage) sound e (countTo (w .stage .rows) g) _ picked;
           small = λ x j xn jq.
               let (i, il, fi, ei, si) = picked-from q (w .stage .rows) filling g (countTo (w .stage .rows) g) _ picked x xn in
               omega (arith, filled-small i il j jq, si j jq);
         }
 
-    fresh-ended : countTo (w .stage .rows) kept ≤ most → Whole p q a most room (finished p q w)
+    fresh-ended : countTo (w .stage .rows) kept ≤ most → Whole b p q a most room (finished p q w)
     fresh-ended low = finished-whole low (made (ltb (w .fresh) q) (lt→ltb (w .fresh) q some) low)
       where
-        made : (b : Bool) → T b → countTo (w .stage .rows) (cond b g (zeroRow q c (row q (w .stage)))) ≤ most
-            → Given p q (among (w .done + 2 ^ w .equation) (system q w)) (countTo (w .stage .rows) (cond b g (zeroRow q c (row q (w .stage)))))
-            (at (packTo (w .stage .rows) q (w .basis) 0 (cond b g (zeroRow q c (row q (w .stage))))
-            (λ i. cond b (filling i) (row q (w .stage) i))) q)
+        made : (x : Bool) → T x → countTo (w .stage .rows) (cond x g (zeroRow q c (row q (w .stage)))) ≤ most
+            → Given (b .p + p) q (onTop b (among (w .done + 2 ^ w .equation) (system q w))) (countTo (w .stage .rows) (cond x g (zeroRow q c (row q
+            (w .stage)))))
+            (at (packTo (w .stage .rows) q (w .basis) 0 (cond x g (zeroRow q c (row q (w .stage))))
+            (λ i. cond x (filling i) (row q (w .stage) i))) q)
         made true h low = fresh-given low
         made false h low = absurd h
 
 -- ---- turns
 
-module _ (p q : ℕ) (a : ℕ → ℕ → ℤ) (most room : ℕ) where
+module _ (b : Base) (p q : ℕ) (a : ℕ → ℕ → ℤ) (most room : ℕ) where
   -- what turns leave is whole, and a complete run has done all equations
   pub record Good (o : Result) : Type 0 where
-    pub whole : Whole p q a most room (o .work)
+    pub whole : Whole b p q a most room (o .work)
     pub done : o .answer ≡ complete → (o .work .equation ≡ p) × (o .work .done ≡ 2 ^ p - 1)
 
   cond-good : (b : Bool) (x y : Result) → (T b → Good x) → (T (not b) → Good y) → Good (cond b x y)
   cond-good true x y f g = f tt
   cond-good false x y f g = g tt
 
-  stopped-good : (w : Work) (x : Answer) → Whole p q a most room w → (x ≡ complete → ⊥) → Good (result x w)
+  stopped-good : (w : Work) (x : Answer) → Whole b p q a most room w → (x ≡ complete → ⊥) → Good (result x w)
   stopped-good w x whole no-end = record { whole = whole; done = λ e. absurd (no-end e) }
 
-  refused-good : (w : Work) (n : ℕ) → Whole p q a most room w → Good (result (refused n []) w)
+  refused-good : (w : Work) (n : ℕ) → Whole b p q a most room w → Good (result (refused n []) w)
   refused-good w n whole = stopped-good w (refused n []) whole (λ e. let z : _≡_ {A = ℕ} 0 1 = cc in omega arith)
 
-  pub paused-good : (w : Work) → Whole p q a most room w → Good (result paused w)
+  pub paused-good : (w : Work) → Whole b p q a most room w → Good (result paused w)
   paused-good w whole = stopped-good w paused whole (λ e. let z : _≡_ {A = ℕ} 0 1 = cc in omega arith)
 
-  pub rested-good : (w : Work) → Whole p q a most room w → w .equation ≡ p → Good (rested p w)
+  pub rested-good : (w : Work) → Whole b p q a most room w → w .equation ≡ p → Good (rested p w)
   unfolding rested allDone
   rested-good w whole none = go (eqb (w .done) (2 ^ p - 1)) (λ h. eqb→eq (w .done) (2 ^ p - 1) h)
     where
@@ -227,9 +228,9 @@ module _ (p q : ℕ) (a : ℕ → ℕ → ℤ) (most room : ℕ) where
       go true f = record { whole = whole; done = λ e. (none, f tt) }
       go false f = paused-good w whole
 
-  module _ (w : Work) (whole : Whole p q a most room w) (going : w .equation < p) where
-    onward-whole : (s : Stage) → length (s .table) ≡ length (w .stage .table) → s .rows ≤ room → s .steps ≤ stepLimit → Standing p q (onward s w)
-        → Whole p q a most room (onward s w)
+  module _ (w : Work) (whole : Whole b p q a most room w) (going : w .equation < p) where
+    onward-whole : (s : Stage) → length (s .table) ≡ length (w .stage .table) → s .rows ≤ room → s .steps ≤ stepLimit → Standing b p q (onward s w)
+        → Whole b p q a most room (onward s w)
     unfolding onward
     onward-whole s long few early standing =
         record {
@@ -247,9 +248,9 @@ module _ (p q : ℕ) (a : ℕ → ℕ → ℤ) (most room : ℕ) where
 
     -- what a turn leaves, by where the run stands
     abbrev Left : Turned → Type 0
-    Left (goes s) = Whole p q a most room (onward s w)
+    Left (goes s) = Whole b p q a most room (onward s w)
     Left (stops n) = Unit {0}
-    Left ends = countTo (w .stage .rows) (stays q w) ≤ most → (T (ltb (w .fresh) q) → T (valuesSmall q w)) → Whole p q a most room (finished p q w)
+    Left ends = countTo (w .stage .rows) (stays q w) ≤ most → (T (ltb (w .fresh) q) → T (valuesSmall q w)) → Whole b p q a most room (finished p q w)
 
     not-late : w .stage .steps ≢ stepLimit → w .stage .steps < stepLimit
     not-late ne = omega (arith, whole .early, ne)
@@ -257,39 +258,41 @@ module _ (p q : ℕ) (a : ℕ → ℕ → ℤ) (most room : ℕ) where
     in-time : (s : Stage) → Timed (w .stage) (goes s) → s .steps ≤ stepLimit
     in-time s (ne, e) = omega (arith, not-late ne, e)
 
-    plain-left : (not-done : ¬ (T (frozen (w .done) (w .equation)))) (none : q ≤ w .fresh) → Given p q (doneOf q w) (w .count) (basisRow q w)
-        → Sound p q (doneOf q w) (equationOf q w) (w .count) (basisRow q w) (w .stage) → (t : Turned)
-        → Fine p q (doneOf q w) (equationOf q w) (w .count) (basisRow q w) room (w .stage) t → Timed (w .stage) t → Left t
+    plain-left : (not-done : ¬ (T (frozen (w .done) (w .equation)))) (none : q ≤ w .fresh) → Given (b .p + p) q (soFar b q w) (w .count) (basisRow q w)
+        → Sound (b .p + p) q (soFar b q w) (equationOf q w) (w .count) (basisRow q w) (w .stage) → (t : Turned)
+        → Fine (b .p + p) q (soFar b q w) (equationOf q w) (w .count) (basisRow q w) room (w .stage) t → Timed (w .stage) t → Left t
     unfolding onward
     plain-left not-done none given sound (goes s) fit timed =
         onward-whole s (fit .long) (fit .few) (in-time s timed) (underWay going not-done none given (fit .sound))
     plain-left not-done none given sound (stops n) fit timed = tt
-    plain-left not-done none given sound ends e timed = λ low small. plain-ended p q a most room w whole going not-done (not-late timed) none sound e low
+    plain-left not-done none given sound ends e timed = λ low small. plain-ended b p q a most room w whole going not-done (not-late timed) none sound e low
 
     fresh-left : (not-done : ¬ (T (frozen (w .done) (w .equation)))) (some : w .fresh < q) (minus : equationOf q w (w .fresh) ≡ negsuc 0)
-        (free : (i : ℕ) → i < p → doneOf q w i (w .fresh) ≡ pos 0) → Given (suc p) q (withoutAt p (doneOf q w) (w .fresh)) (w .count) (basisRow q w)
-        → Sound (suc p) q (withoutAt p (doneOf q w) (w .fresh)) (equationOf q w) (w .count) (basisRow q w) (w .stage) → (t : Turned)
-        → Fine (suc p) q (withoutAt p (doneOf q w) (w .fresh)) (equationOf q w) (w .count) (basisRow q w) room (w .stage) t → Timed (w .stage) t → Left t
+        (free : (i : ℕ) → i < b .p + p → soFar b q w i (w .fresh) ≡ pos 0) → Given (suc (b .p + p)) q (withoutAt (b .p + p) (soFar b q w) (w .fresh))
+        (w .count) (basisRow q w)
+        → Sound (suc (b .p + p)) q (withoutAt (b .p + p) (soFar b q w) (w .fresh)) (equationOf q w) (w .count) (basisRow q w) (w .stage) → (t : Turned)
+        → Fine (suc (b .p + p)) q (withoutAt (b .p + p) (soFar b q w) (w .fresh)) (equationOf q w) (w .count) (basisRow q w) room (w .stage) t → Timed
+        (w .stage) t → Left t
     unfolding onward
     fresh-left not-done some minus free given sound (goes s) fit timed =
         onward-whole s (fit .long) (fit .few) (in-time s timed) (withFresh going not-done some minus free given (fit .sound))
     fresh-left not-done some minus free given sound (stops n) fit timed = tt
     fresh-left not-done some minus free given sound ends e timed =
         λ low small.
-        fresh-ended p q a most room w whole going not-done (not-late timed) some minus free sound e (small (lt→ltb (w .fresh) q some)) low
+        fresh-ended b p q a most room w whole going not-done (not-late timed) some minus free sound e (small (lt→ltb (w .fresh) q some)) low
 
     turn-left : Left (turn q (equationOf q w) (w .count) (basisRow q w) room (w .stage))
     turn-left = by (whole .standing)
       where
-        by : Standing p q w → Left (turn q (equationOf q w) (w .count) (basisRow q w) room (w .stage))
+        by : Standing b p q w → Left (turn q (equationOf q w) (w .count) (basisRow q w) room (w .stage))
         by (between e none given) = absurd (omega arith)
         by (underWay l not-done none given sound) =
             plain-left not-done none given sound (turn q (equationOf q w) (w .count) (basisRow q w) room (w .stage))
-            (turn-fine p q (doneOf q w) (equationOf q w) (w .count) (basisRow q w) given (w .stage) sound room (whole .wide) (whole .fits))
+            (turn-fine (b .p + p) q (soFar b q w) (equationOf q w) (w .count) (basisRow q w) given (w .stage) sound room (whole .wide) (whole .fits))
             (turn-timed q (equationOf q w) (w .count) (basisRow q w) room (w .stage))
         by (withFresh l not-done some minus free given sound) =
             fresh-left not-done some minus free given sound (turn q (equationOf q w) (w .count) (basisRow q w) room (w .stage))
-            (turn-fine (suc p) q (withoutAt p (doneOf q w) (w .fresh)) (equationOf q w) (w .count) (basisRow q w) given (w .stage) sound room
+            (turn-fine (suc (b .p + p)) q (withoutAt (b .p + p) (soFar b q w) (w .fresh)) (equationOf q w) (w .count) (basisRow q w) given (w .stage) sound room
             (whole .wide) (whole .fits))
             (turn-timed q (equationOf q w) (w .count) (basisRow q w) room (w .stage))
 
@@ -307,7 +310,7 @@ module _ (p q : ℕ) (a : ℕ → ℕ → ℤ) (most room : ℕ) where
     after-good (stops n) f fine g = refused-good w n whole
     after-good ends f fine g = finish-good fine
 
-  pub run-good : (budget : ℕ) (w : Work) → Whole p q a most room w → w .equation < p → Good (run p q most room budget w)
+  pub run-good : (budget : ℕ) (w : Work) → Whole b p q a most room w → w .equation < p → Good (run p q most room budget w)
   unfolding run onward
   run-good zero w whole going = paused-good w whole
   run-good (suc budget) w whole going =
@@ -315,5 +318,5 @@ module _ (p q : ℕ) (a : ℕ → ℕ → ℤ) (most room : ℕ) where
       after-good w whole going t (run p q most room budget) (turn-left w whole going)
       (λ s e. run-good budget (onward s w) (went t s e (turn-left w whole going)) going)
     where
-      went : (t : Turned) (s : Stage) → t ≡ goes s → Left w whole going t → Whole p q a most room (onward s w)
+      went : (t : Turned) (s : Stage) → t ≡ goes s → Left w whole going t → Whole b p q a most room (onward s w)
       went t s e l = rw e at l

@@ -3,11 +3,11 @@ use mathlib.Core.Path.{_≡_, refl, sym, _∙_}
 use mathlib.Core.Logic.{_⊎_, inl, inr}
 use mathlib.Core.Bool.{Bool, true, false, not, cond, _||_}
 use mathlib.Core.List.{List}
-use Prim.Native.Nat.{ℕ, _+_, _*_, _≤_, _<_}
+use Prim.Native.Nat.{ℕ, _≤_, _<_}
 use native.Mathlib.Omega.{arith}
 use lib.Dec.{T, leb, leb→le}
 use lib.IntN.{ℤ, pos, natAbs, _+ℤ_}
-use lib.ListN.{getD, length}
+use lib.ListN.{getD}
 use lib.Signed.{_<ℤ_, ltZ, ltZ-yes}
 use mir.Facts.{toZ-ofZ}
 use mir.Syntax.{w64}
@@ -17,7 +17,6 @@ use Rattle.linear.specs.Integers.{sfits-natAbs}
 use Rattle.linear.specs.SystemLaws.{value-sum}
 use Rattle.linear.specs.Systems.{value}
 use Rattle.definitions.specs.Tables.{at}
-use Rattle.sweeps.specs.SweepLaws.{T-same}
 use Rattle.engine_spec.specs.Beside.{AllMarked, SmallTable, Valued, Worded, noMark, valueLimit, wordOf}
 use Rattle.engine_spec.specs.Marks.{Marked, lower-mark, marked-above, marked-below, size, upper-mark}
 use Rattle.engine_spec.specs.Reduction.{reducible}
@@ -92,7 +91,8 @@ module _ {q : ℕ} {c : ℕ → ℤ} {n : ℕ} {table : List ℕ} {values : List
 
   -- the value of the sum
   pub sum-is : x +ℤ y ≡ value c q (sumOf q table h k)
-  sum-is = rw (p .valued .each h (p .upper), p .valued .each k (p .lower)) (sym (value-sum c q (at table q h) (at table q k) (sumOf q table h k) (λ j jq. refl)))
+  sum-is = rw (p .valued .each h (p .upper), p .valued .each k (p .lower)) (sym (value-sum c q (at table q h) (at table q k) (sumOf q table h k)
+      (λ j jq. refl)))
 
   -- the test that code makes is the stage's
   pub tested : {r : Bool} {v : ℤ} → v ≡ x +ℤ y → r ≡ reducibleBy q n (at table q) (integerAt values) (sumOf q table h k) v → r ≡ testOf q c n table h k

@@ -1,14 +1,12 @@
 -- The loop over turns, and what it leaves. Assumes nothing.
-use mathlib.Core.Path.{_≡_, refl, sym, _∙_}
+use mathlib.Core.Path.{_≡_, refl, _∙_}
 use mathlib.Core.List.{List, []}
-use Prim.Native.Nat.{ℕ, zero, suc, _+_, _-_, _≤_, _<_}
-use native.Mathlib.Numerals.{add-one}
+use Prim.Native.Nat.{ℕ, suc, _-_, _≤_, _<_}
 use native.Mathlib.Omega.{arith}
-use lib.IntN.{ℤ, pos}
 use lib.ListN.{length}
 use Rattle.definitions.specs.Answers.{Answer, complete, paused, refused}
 use Rattle.definitions.specs.Tables.{at}
-use Rattle.engine_spec.specs.Stage.{Outcome, Stage, Turned, after, ends, goes, outcome, run, stops, turn}
+use Rattle.engine_spec.specs.Stage.{Outcome, Turned, after, ends, outcome, run, stops}
 use Rattle.engine_beside.specs.Writing.{Kept}
 use Rattle.engine_stage.specs.Standing.{Beyond, Gone, Left, Lent, Ready, Sides, Still, beyond-none, equation, stageOf, turnOf}
 use Rattle.engine_stage.specs.declared.stages.Ending.{Ending}
@@ -42,13 +40,15 @@ pub record RunLeft (f : Frame) (l : Lent) (budget : ℕ) (table : List ℕ) (x :
 -- ---- the loop
 
 -- after some turns: what is left to do comes to the same
-pub record Going (f : Frame) (l : Lent) (budget : ℕ) (table : List ℕ) (x : Sides) (s : Next) (left : ℕ) (table′ : List ℕ) (x′ : Sides) (s′ : Next) : Type 0 where
-  pub same : runOf f l budget table s ≡ runOf f l left table′ s′
-  pub ready : Ready f l table′ x′ s′
-  pub rises : s .rows ≤ s′ .rows
-  pub beyond : Beyond (s′ .rows) x x′
+pub record Going (f : Frame) (l : Lent) (budget : ℕ) (table : List ℕ) (x : Sides) (s : Next) (left : ℕ) (table′ : List ℕ) (x′ : Sides) (s′ : Next) : Type 0
+  where
+    pub same : runOf f l budget table s ≡ runOf f l left table′ s′
+    pub ready : Ready f l table′ x′ s′
+    pub rises : s .rows ≤ s′ .rows
+    pub beyond : Beyond (s′ .rows) x x′
 
-pub going-start : {f : Frame} {l : Lent} {table : List ℕ} {x : Sides} {s : Next} (budget : ℕ) → Ready f l table x s → Going f l budget table x s budget table x s
+pub going-start : {f : Frame} {l : Lent} {table : List ℕ} {x : Sides} {s : Next} (budget : ℕ) → Ready f l table x s → Going f l budget table x s budget table x
+    s
 going-start budget r = record { same = refl; ready = r; rises = omega arith; beyond = beyond-none }
 
 kept-then : {A : Type 0} {z : A} {n m : ℕ} {a b c : List A} → n ≤ m → Kept z n a b → Kept z m b c → Kept z m a c
@@ -66,7 +66,8 @@ beyond-then l p q =
 
 module _ {f : Frame} {l : Lent} {budget : ℕ} {table : List ℕ} {x : Sides} {s : Next} {left : ℕ} {table′ : List ℕ} {x′ : Sides} {s′ : Next}
     (g : Going f l budget table x s left table′ x′ s′) where
-  one-more : (k : ℕ) → left ≡ suc k → runOf f l left table′ s′ ≡ after (turnOf f l table′ s′) (run (f .q) (equation f l) (f .m) (at (l .basis) (f .q)) (f .room) k) (stageOf table′ s′)
+  one-more : (k : ℕ) → left ≡ suc k → runOf f l left table′ s′ ≡ after (turnOf f l table′ s′)
+      (run (f .q) (equation f l) (f .m) (at (l .basis) (f .q)) (f .room) k) (stageOf table′ s′)
   unfolding run
   one-more k e = rw e
 
@@ -81,7 +82,8 @@ module _ {f : Frame} {l : Lent} {budget : ℕ} {table : List ℕ} {x : Sides} {s
         beyond = beyond-then (t .rises) (g .beyond) (t .beyond);
       }
 
-  stopped : {table″ : List ℕ} {x″ : Sides} {n : ℕ} (e : Ending) → answerOf e ≡ refused n [] → 0 < left → Still (turnOf f l table′ s′) (stops n) table′ table″ x′ x″
+  stopped : {table″ : List ℕ} {x″ : Sides} {n : ℕ} (e : Ending) → answerOf e ≡ refused n [] → 0 < left → Still (turnOf f l table′ s′) (stops n) table′ table″
+      x′ x″
       → RunLeft f l budget table x s (ranOf e s′) table″ x″
   unfolding after
   stopped e name some t =

@@ -1,12 +1,11 @@
 -- What code has of a stage, and what a turn leaves. Assumes nothing.
-use mathlib.Core.Path.{_≡_, refl, sym, _∙_, ap}
+use mathlib.Core.Path.{_≡_, sym}
 use mathlib.Core.Logic.{inl, inr}
 use mathlib.Core.Bool.{Bool, true, false}
 use mathlib.Core.List.{List}
 use Prim.Native.Nat.{ℕ, _+_, _*_, _≤_, _<_}
 use native.Mathlib.Omega.{arith}
-use lib.Dec.{T}
-use lib.IntN.{ℤ, pos, natAbs}
+use lib.IntN.{ℤ, pos}
 use lib.ListN.{getD, length, length-set, set}
 use lib.Seq.{getD-set-other, getD-set-same}
 use Rattle.linear.specs.Cases.{split}
@@ -16,7 +15,7 @@ use Rattle.definitions.specs.Refusals.{stepLimit}
 use Rattle.definitions.specs.System.{mostComponent}
 use Rattle.definitions.specs.Tables.{at, writeTo}
 use Rattle.laws.specs.TableLaws.{row-fits, write-length}
-use Rattle.engine_spec.specs.Beside.{AllMarked, Measured, SmallEquation, SmallTable, Valued, Worded, equationAt, mostColumns, noMark, wordOf}
+use Rattle.engine_spec.specs.Beside.{AllMarked, Measured, SmallEquation, SmallTable, Valued, Worded, equationAt, noMark, wordOf}
 use Rattle.engine_spec.specs.Marks.{Marked, marked-more}
 use Rattle.engine_spec.specs.ReductionLaws.{append-kept, append-new}
 use Rattle.engine_spec.specs.Stage.{Stage, Turned, dueRow, ends, goes, stops, turn}
@@ -180,7 +179,8 @@ module _ {f : Frame} {l : Lent} {table : List ℕ} {x : Sides} {s : Next} (r : R
         spent = λ e. never (sym e);
       }
 
-  module _ (row : ℕ → ℕ) (v : ℤ) (w mark mother : ℕ) (room : s .rows < f .room) (value-is : v ≡ value (equation f l) (f .q) row) (word-is : w ≡ wordOf (f .q) row)
+  module _ (row : ℕ → ℕ) (v : ℤ) (w mark mother : ℕ) (room : s .rows < f .room) (value-is : v ≡ value (equation f l) (f .q) row)
+      (word-is : w ≡ wordOf (f .q) row)
       (degree-is : total row (f .q) ≡ s .degree) (some : 0 < s .degree) (small : (j : ℕ) → j < f .q → row j ≤ mostComponent)
       (mark-is : mark < noMark → Marked (f .q) (equation f l) (s .rows) (at table (f .q)) row mark) where
     abbrev pub grownTable : List ℕ
@@ -260,7 +260,8 @@ module _ {f : Frame} {l : Lent} {table : List ℕ} {x : Sides} {s : Next} (r : R
 
     pub grown-ready : (taken upper lower steps first : ℕ) (more : Bool) → steps ≤ stepLimit
         → Falling (s .rows + 1) (set (x .degrees) (s .rows) (s .degree)) (s .degree) upper first
-        → (more ≡ false → f .m ≤ dueRow (f .q) (f .m) (at (l .basis) (f .q)) (stageOf grownTable (nextOf (s .rows + 1) taken (s .degree) upper lower steps first more)))
+        → (more ≡ false → f .m ≤ dueRow (f .q) (f .m) (at (l .basis) (f .q)) (stageOf grownTable
+        (nextOf (s .rows + 1) taken (s .degree) upper lower steps first more)))
         → Ready f l grownTable grownSides (nextOf (s .rows + 1) taken (s .degree) upper lower steps first more)
     grown-ready taken upper lower steps first more early falling spent =
         record {

@@ -1,6 +1,6 @@
 -- What each way through a turn leaves. Assumes nothing.
-use mathlib.Core.Path.{_≡_, refl, sym, _∙_, ap}
-use mathlib.Core.Bool.{Bool, true, false, cond}
+use mathlib.Core.Path.{_≡_, refl, sym, _∙_}
+use mathlib.Core.Bool.{true, false}
 use mathlib.Core.List.{List}
 use Prim.Native.Nat.{ℕ, _+_, _*_, _≤_, _<_}
 use native.Mathlib.Omega.{arith}
@@ -51,9 +51,7 @@ use Rattle.engine_rows.specs.Marking.{valued-bounded}
 use Rattle.engine_stage.specs.Appended.{PairAppended, PairFits, Room, RowAppended}
 use Rattle.engine_stage.specs.Marked.{Paired, fails, holds, mark-is, markOf, sum-is, testOf, true-is}
 use Rattle.engine_stage.specs.Standing.{
-  Beyond,
   Gone,
-  Left,
   Lent,
   Ready,
   Sides,
@@ -72,7 +70,6 @@ use Rattle.engine_stage.specs.Standing.{
 }
 use Rattle.engine_stage.specs.declared.turns.Frame.{Frame}
 use Rattle.engine_stage.specs.declared.turns.Next.{Next}
-use Rattle.engine_stage.specs.declared.turns.Turned.the-variants.{Ends, Full, Goes, Large, Late}
 
 -- ---- tests
 
@@ -145,7 +142,8 @@ module _ {f : Frame} {l : Lent} {table : List ℕ} {x : Sides} {s : Next} (r : R
     pub pair-grown : (v : ℤ) (w mark mother : ℕ) → s .rows < f .room → v ≡ value (equation f l) (f .q) sum → w ≡ wordOf (f .q) sum
         → (mark < noMark → Marked (f .q) (equation f l) (s .rows) (at table (f .q)) sum mark) → testOf (f .q) (equation f l) (s .rows) table h k ≡ false
         → isSmall (f .q) sum ≡ true → ltb (s .rows) (f .room) ≡ true
-        → Gone f l pairOf (s .rows) table x (nextOf (s .rows + 1) (s .taken) (s .degree) h (k + 1) (s .steps + 1) first false) (writeTo (f .q) table (s .rows * f .q) sum)
+        → Gone f l pairOf (s .rows) table x (nextOf (s .rows + 1) (s .taken) (s .degree) h (k + 1) (s .steps + 1) first false)
+        (writeTo (f .q) table (s .rows * f .q) sum)
         (sidesOf (set (x .values) (s .rows) v) (set (x .words) (s .rows) w) (set (x .degrees) (s .rows) (s .degree)) (set (x .marks) (s .rows) mark)
         (set (x .mothers) (s .rows) mother))
     unfolding pairTurn paired grown
@@ -203,9 +201,16 @@ module _ {f : Frame} {l : Lent} {table : List ℕ} {x : Sides} {s : Next} (r : R
   unfolding degreeTurn
   degree-ends d e = record { is = rw e; same = refl; aside = refl }
 
-  pub degree-raised : s .steps < stepLimit → (d : ℕ) → eqb d 0 ≡ false → s .degree < d → Gone f l (degreeOfTurn d) (s .rows) table x (nextOf (s .rows) 0 d 0 0 (s .steps + 1) (s .rows) true) table x
+  pub degree-raised : s .steps < stepLimit → (d : ℕ) → eqb d 0 ≡ false → s .degree < d → Gone f l (degreeOfTurn d) (s .rows) table x
+      (nextOf (s .rows) 0 d 0 0 (s .steps + 1) (s .rows) true) table x
   unfolding degreeTurn raised
-  degree-raised early d e more = record { is = rw e; long = refl; rises = omega arith; ready = raised-ready r d (s .steps + 1) (omega arith) (omega arith); beyond = beyond-none }
+  degree-raised early d e more = record {
+    is = rw e;
+    long = refl;
+    rises = omega arith;
+    ready = raised-ready r d (s .steps + 1) (omega arith) (omega arith);
+    beyond = beyond-none;
+  }
 
 -- ---- which way a turn goes
 
@@ -250,7 +255,8 @@ module _ {f : Frame} {l : Lent} {table : List ℕ} {values : List ℤ} {words de
         mothered = omega (arith, r .roomy .mothered);
       }
 
-  pub row-appended : {i word degree : ℕ} {table′ : List ℕ} {values′ : List ℤ} {words′ degrees′ marks′ mothers′ : List ℕ} → RowDue f l s i → s .rows < f .room → word ≡ wordOf (f .q) (at (l .basis) (f .q) i)
+  pub row-appended : {i word degree : ℕ} {table′ : List ℕ} {values′ : List ℤ} {words′ degrees′ marks′ mothers′ : List ℕ} → RowDue f l s i → s .rows < f .room →
+      word ≡ wordOf (f .q) (at (l .basis) (f .q) i)
       → degree ≡ getD (l .sizes) i 0
       → RowAppended (f .q) (s .rows) (equation f l) (at (l .basis) (f .q) i) word degree table values words degrees marks mothers table′ values′ words′ degrees′
       marks′ mothers′
@@ -291,7 +297,8 @@ module _ {f : Frame} {l : Lent} {table : List ℕ} {values : List ℤ} {words de
           few = omega (arith, r .few, r .roomy .few);
         }
 
-    pub pair-appended : {word : ℕ} {table′ : List ℕ} {values′ : List ℤ} {words′ degrees′ marks′ mothers′ : List ℕ} → s .rows < f .room → word ≡ wordOf (f .q) (sumOf (f .q) (stageOf table s) h k)
+    pub pair-appended : {word : ℕ} {table′ : List ℕ} {values′ : List ℤ} {words′ degrees′ marks′ mothers′ : List ℕ} → s .rows < f .room → word ≡ wordOf (f .q)
+        (sumOf (f .q) (stageOf table s) h k)
         → testOf (f .q) (equation f l) (s .rows) table h k ≡ false → isSmall (f .q) (sumOf (f .q) (stageOf table s) h k) ≡ true
         → PairAppended (f .q) (s .rows) h k word table values words degrees marks mothers table′ values′ words′ degrees′ marks′ mothers′
         → Gone f l (pairTurn (f .q) (equation f l) (f .room) (stageOf table s) h k) (s .rows) table (sidesOf values words degrees marks mothers)

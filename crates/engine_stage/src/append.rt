@@ -2,10 +2,9 @@
 ghost use mathlib.Core.Path.{_≡_};
 ghost use Prim.Native.Nat.{_+_, _*_, _≤_, _<_};
 ghost use lib.IntN.{natAbs, _+ℤ_};
-ghost use lib.ListN.{length};
 ghost use mir.Syntax.{w64};
 ghost use mir.Val.{SFits};
-ghost use Rattle.engine_spec.specs.Beside.{SmallEquation, equationAt, rowAt, valueLimit, wordOf};
+ghost use Rattle.engine_spec.specs.Beside.{equationAt, rowAt, valueLimit};
 ghost use Rattle.engine_stage.specs.Appended.{PairAppended, PairFits, RowAppended, RowFits};
 ghost use Rattle.engine_stage.specs.Marked.{markOf};
 use crate::tests;

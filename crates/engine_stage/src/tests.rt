@@ -1,8 +1,7 @@
 // The test of a pair: by the marks of its rows, and else by all rows.
 ghost use mathlib.Core.Path.{_≡_};
-ghost use Prim.Native.Nat.{_+_, _*_, _≤_, _<_};
+ghost use Prim.Native.Nat.{_+_, _≤_};
 ghost use lib.IntN.{natAbs, _+ℤ_};
-ghost use lib.ListN.{length};
 ghost use mir.Syntax.{w64};
 ghost use mir.Val.{SFits};
 ghost use Rattle.engine_spec.specs.Beside.{equationAt, valueLimit, wordOf};

@@ -1,19 +1,14 @@
 // One turn of a stage: a row of the basis, a pair of rows, the next degree, or the end. The rows' values, words, degrees, marks and mothers stand beside them.
 ghost use mathlib.Core.Path.{_≡_};
 ghost use Prim.Native.Nat.{_+_, _*_, _≤_, _<_};
-ghost use lib.IntN.{pos, natAbs, _+ℤ_};
 ghost use lib.ListN.{length};
-ghost use mir.Syntax.{w64};
-ghost use mir.Val.{SFits};
 ghost use Rattle.definitions.specs.Tables.{at};
-ghost use Rattle.engine_spec.specs.Beside.{equationAt, valueLimit, wordOf};
-ghost use Rattle.engine_reduce.specs.Sums.{sumOf};
+ghost use Rattle.engine_spec.specs.Beside.{equationAt};
 ghost use lib.Dec.{eqb};
 ghost use mathlib.Core.Bool.{false};
 ghost use Rattle.engine_spec.specs.Search.{firstIn};
 ghost use Rattle.engine_spec.specs.Stage.{pairTurn, rowTurn};
 ghost use Rattle.engine_search.specs.Places.{degreeOf};
-ghost use Rattle.engine_stage.specs.Marked.{Paired, isMarked, markOf, testOf};
 ghost use Rattle.engine_stage.specs.Standing.{Left, Ready, lentOf, sidesOf, stageOf, turnOf};
 ghost use Rattle.engine_stage.specs.Turning.{PairDue, RowDue, RowFound};
 use crate::append;
@@ -236,7 +231,8 @@ fn pair_turn(
         (sidesOf (now values) (now words) (now degrees) (now marks) (now mothers)) s
         × PairDue f (lentOf (now coefs) (now basis) (now sizes)) (now table) (now degrees) s (at .upper) (at .lower) (at .first) ⌝ }
     ensures { λ r. ⌜ Left f (lentOf (now (coefs .entry)) (now (basis .entry)) (now (sizes .entry)))
-        (pairTurn (f .q) (equationAt (now (coefs .entry)) (f .from)) (f .room) (stageOf (now (table .entry)) s) (at .upper) (at .lower)) (s .rows) (now (table .entry))
+        (pairTurn (f .q) (equationAt (now (coefs .entry)) (f .from)) (f .room) (stageOf (now (table .entry)) s) (at .upper) (at .lower)) (s .rows)
+        (now (table .entry))
         (sidesOf (now (values .entry)) (now (words .entry)) (now (degrees .entry)) (now (marks .entry)) (now (mothers .entry))) r (now (table .exit))
         (sidesOf (now (values .exit)) (now (words .exit)) (now (degrees .exit)) (now (marks .exit)) (now (mothers .exit))) ⌝ }
 {

@@ -1,5 +1,5 @@
 -- What the scan's functions answer. Assumes nothing.
-use Rattle.equation_form.specs.Scan as scan
+use Rattle.equation_spec.specs.Scan as scan
 use Rattle.equation_scan.specs.declared.Phase.{Phase}
 use Rattle.equation_scan.specs.declared.Phase.the-variants.{Nothing, SumDue, TermDue, FactorDue, IndexDue, InNumber, AfterNumber, InIndex}
 use Rattle.equation_scan.specs.declared.Phase.the-variants.{AfterBracket, AfterTerm}

@@ -10,9 +10,9 @@ use lib.ListN.{length, getD, drop, drop-of-length-le}
 use borrow.Author.Tests.{ne-eqb, le-leb, lt-leb}
 use Rattle.texts.specs.Reading.{mayFollow, isDigit, digit}
 use Rattle.texts.specs.NumberLaws.{byte-at, digit-range}
-use Rattle.equation_form.specs.Reader.{mostDigits}
-use Rattle.equation_form.specs.Scan.{Phase, nothing, sumDue, termDue, factorDue, indexDue, inNumber, afterNumber, inIndex, afterBracket, afterTerm, Step, to}
-use Rattle.equation_form.specs.Scan.{fault, onward, factorBegins, termBegins, sumBegins, afterDigits, afterFactor, indexed, step, termEnds, final, placeFrom}
+use Rattle.equation_spec.specs.Reader.{mostDigits}
+use Rattle.equation_spec.specs.Scan.{Phase, nothing, sumDue, termDue, factorDue, indexDue, inNumber, afterNumber, inIndex, afterBracket, afterTerm, Step, to}
+use Rattle.equation_spec.specs.Scan.{fault, onward, factorBegins, termBegins, sumBegins, afterDigits, afterFactor, indexed, step, termEnds, final, placeFrom}
 
 module _ (b d : ℕ) (r : Bool) where
   pub close-none : b ≡ 41 → d ≡ 0 → fault ≡ onward b d r
@@ -23,7 +23,7 @@ module _ (b d : ℕ) (r : Bool) where
   unfolding onward
   close-some e f = rw e (go d f)
     where
-      go : (d : ℕ) → (d ≡ 0 → ⊥) → to afterBracket (d - 1) r ≡ Rattle.equation_form.specs.Scan.closing d r
+      go : (d : ℕ) → (d ≡ 0 → ⊥) → to afterBracket (d - 1) r ≡ Rattle.equation_spec.specs.Scan.closing d r
       go zero f = absurd (f refl)
       go (suc d) f = let x : suc d - 1 ≡ d = omega arith in rw x
 
@@ -35,7 +35,7 @@ module _ (b d : ℕ) (r : Bool) where
   unfolding onward
   equals-open e l = rw e (go d l)
     where
-      go : (d : ℕ) → 0 < d → fault ≡ Rattle.equation_form.specs.Scan.equating d r
+      go : (d : ℕ) → 0 < d → fault ≡ Rattle.equation_spec.specs.Scan.equating d r
       go zero l = absurd (omega arith)
       go (suc d) l = refl
 
@@ -138,11 +138,11 @@ module _ (b d : ℕ) (r : Bool) where
       opens-if (eqb b 43) _ _ d same-opened
       (opens-if (eqb b 45) _ _ d same-opened (opens-if (eqb b 41) _ _ d (closing-opens d) (opens-if (eqb b 61) _ _ d (equating-opens d r) tt)))
     where
-      closing-opens : (d : ℕ) → Opens (Rattle.equation_form.specs.Scan.closing d r) d
+      closing-opens : (d : ℕ) → Opens (Rattle.equation_spec.specs.Scan.closing d r) d
       closing-opens zero = tt
       closing-opens (suc d) = omega arith
 
-      equating-opens : (d : ℕ) (r : Bool) → Opens (Rattle.equation_form.specs.Scan.equating d r) d
+      equating-opens : (d : ℕ) (r : Bool) → Opens (Rattle.equation_spec.specs.Scan.equating d r) d
       equating-opens zero false = omega arith
       equating-opens zero true = tt
       equating-opens (suc d) r = tt

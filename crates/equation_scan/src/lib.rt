@@ -4,7 +4,7 @@ ghost use Prim.Native.Nat.{_≤_, _+_, _*_};
 ghost use mathlib.Core.Bool.{true};
 ghost use Rattle.texts.specs.Reading.{isDigit, digit};
 ghost use lib.ListN.{length};
-ghost use Rattle.equation_form.specs.Scan.{
+ghost use Rattle.equation_spec.specs.Scan.{
   onward as onwardStep,
   factorBegins,
   termBegins,

@@ -2,9 +2,9 @@
 use Prim.Native.Nat.{ℕ, _≤_}
 use mathlib.Core.List.{List, [], _∷_}
 use lib.IntN.{ℤ}
-use Rattle.equation_lines.specs.Systems as form
-use Rattle.equation_lines.specs.Systems.{Rows, rows, refusedAt}
-use Rattle.equation_text.specs.Answer as equation
+use Rattle.equation_spec.specs.Systems as form
+use Rattle.equation_spec.specs.Systems.{Rows, rows, refusedAt}
+use Rattle.equation_read.specs.Answer as equation
 use Rattle.equation_systems.specs.declared.SystemRead.{SystemRead}
 use Rattle.equation_systems.specs.declared.SystemRead.the-variants.{System, Refused}
 use Rattle.equation_systems.specs.declared.SystemRefusal.{SystemRefusal}

@@ -7,10 +7,10 @@ use lib.ListN.{length, drop}
 use borrow.Author.Tests.{lt-ltb, le-ltb, lt-leb, le-leb}
 use Rattle.definitions.specs.Answers.{refuseWith, _then_}
 use Rattle.texts.specs.Reading.{mostBytes}
-use Rattle.equation_lines.specs.Lines.{lineCount}
-use Rattle.equation_lines.specs.Systems as form
-use Rattle.equation_lines.specs.Systems.{Rows, rows, refusedAt, readLines, accepted, ofRows}
-use Rattle.equation_lines.specs.Systems.{unless, systemChecks, systemOutcome, handOut, tableChecks, handedOut, readSystem}
+use Rattle.equation_spec.specs.Lines.{lineCount}
+use Rattle.equation_spec.specs.Systems as form
+use Rattle.equation_spec.specs.Systems.{Rows, rows, refusedAt, readLines, accepted, ofRows}
+use Rattle.equation_spec.specs.Systems.{unless, systemChecks, systemOutcome, handOut, tableChecks, handedOut, readSystem}
 
 -- ---- the tables
 

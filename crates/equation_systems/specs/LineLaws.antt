@@ -9,7 +9,7 @@ use lib.ListN.{length, getD, drop, drop-of-length-le, length-drop}
 use borrow.Author.Tests.{eq-eqb, ne-eqb}
 use Rattle.texts.specs.Decimals.{newline}
 use Rattle.texts.specs.NumberLaws.{byte-at}
-use Rattle.equation_lines.specs.Lines.{lineLength, lineCount}
+use Rattle.equation_spec.specs.Lines.{lineLength, lineCount}
 
 -- ---- the end of a line
 

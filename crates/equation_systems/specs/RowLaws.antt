@@ -11,12 +11,12 @@ use lib.ListN.{length, take, drop, set, length-append, length-drop}
 use lib.Seq.{take-at, take-suc-set, length-take-le, drop-drop}
 use borrow.Author.Tests.{lt-ltb, le-ltb}
 use Rattle.definitions.specs.Answers.{refuseWith}
-use Rattle.equation_form.specs.Outcome as equation
-use Rattle.equation_form.specs.Outcome.{checked, outcome}
-use Rattle.equation_text.specs.Answer.{answered, read, refused}
-use Rattle.equation_text.specs.AnsweredLaws.{answered-refused, answered-read}
-use Rattle.equation_lines.specs.Lines.{lineLength, lineOf}
-use Rattle.equation_lines.specs.Systems.{Rows, rows, refusedAt, atLine, lineOutcome, readLines}
+use Rattle.equation_spec.specs.Outcome as equation
+use Rattle.equation_spec.specs.Outcome.{checked, outcome}
+use Rattle.equation_read.specs.Answer.{answered, read, refused}
+use Rattle.equation_read.specs.AnsweredLaws.{answered-refused, answered-read}
+use Rattle.equation_spec.specs.Lines.{lineLength, lineOf}
+use Rattle.equation_spec.specs.Systems.{Rows, rows, refusedAt, atLine, lineOutcome, readLines}
 use Rattle.equation_systems.specs.Answer.{Shape}
 
 -- ---- one line

@@ -2,10 +2,10 @@
 ghost use mathlib.Core.Path.{_≡_};
 ghost use mathlib.Core.List.{[]};
 ghost use Prim.Native.Nat.{_≤_};
-ghost use Rattle.equation_lines.specs.Systems.{readLines, ofRows, accepted, handedOut, readSystem};
+ghost use Rattle.equation_spec.specs.Systems.{readLines, ofRows, accepted, handedOut, readSystem};
 ghost use Rattle.equation_systems.specs.Answer.{answerOf};
 use crate::lines::Lines;
-use equation_text::equation::EquationRefusal;
+use equation_read::equation::EquationRefusal;
 use map_text::copy;
 
 mod lines; // lines.rt: the lines in turn

@@ -3,13 +3,13 @@ ghost use mathlib.Core.Path.{_≡_};
 ghost use mathlib.Core.List.{[]};
 ghost use Prim.Native.Nat.{_+_, _*_, _≤_, _<_};
 ghost use lib.ListN.{length, take, drop};
-ghost use Rattle.equation_form.specs.Outcome.{outcome};
-ghost use Rattle.equation_lines.specs.Lines.{lineLength, lineCount};
-ghost use Rattle.equation_lines.specs.Systems.{rows, atLine, readLines};
+ghost use Rattle.equation_spec.specs.Outcome.{outcome};
+ghost use Rattle.equation_spec.specs.Lines.{lineLength, lineCount};
+ghost use Rattle.equation_spec.specs.Systems.{rows, atLine, readLines};
 ghost use Rattle.equation_systems.specs.Answer.{rowsBy, rowBy, Shape};
-use equation_text::equation::EquationRead;
-use equation_text::equation::EquationRefusal;
-use equation_text::equation::read_equation;
+use equation_read::equation::EquationRead;
+use equation_read::equation::EquationRefusal;
+use equation_read::equation::read_equation;
 
 // All lines; or the first that no newline ends, or that is refused, by its number from 1.
 pub enum Lines {

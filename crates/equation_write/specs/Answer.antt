@@ -2,7 +2,7 @@
 use Prim.Native.Nat.{ℕ}
 use mathlib.Core.List.{List, []}
 use Rattle.calls.specs.Paper.{numberOf, valuesOf}
-use Rattle.equation_form.specs.Writing.{Wrote, wrote, refused}
+use Rattle.equation_spec.specs.Writing.{Wrote, wrote, refused}
 use Rattle.equation_write.specs.declared.EquationWritten.{EquationWritten}
 use Rattle.equation_write.specs.declared.EquationWritten.the-variants.{Written, Refused, RightSide, Space}
 

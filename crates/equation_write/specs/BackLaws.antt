@@ -14,9 +14,9 @@ use Rattle.definitions.specs.Answers.{Check, refuse, go, refuseIf, refuseFirst}
 use Rattle.definitions.specs.System.{coefLimit, mostUnknowns}
 use Rattle.definitions.specs.Refusals.{outOfRange}
 use Rattle.laws.specs.AnswerLaws.{then-go, refuse-if-go}
-use Rattle.equation_form.specs.Outcome.{accepted, outcome}
-use Rattle.equation_form.specs.Writing.{written, writeChecks, wrote, putOut, write}
-use Rattle.equation_laws.specs.RoundTrip.{written-back}
+use Rattle.equation_spec.specs.Outcome.{accepted, outcome}
+use Rattle.equation_spec.specs.Writing.{written, writeChecks, wrote, putOut, write}
+use Rattle.equation_spec.specs.RoundTrip.{written-back}
 use Rattle.equation_write.specs.CallLaws.{passed}
 
 -- "and the reader gives that row again": what the writer wrote is read as the row that it was handed

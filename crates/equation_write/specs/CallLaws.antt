@@ -15,9 +15,9 @@ use Rattle.laws.specs.CheckLaws.{decides-first}
 use Rattle.checks.specs.Coefficients.{coefficientChecks}
 use Rattle.texts.specs.Decimals.{space, numeral}
 use Rattle.texts.specs.Put.{Put, put-whole}
-use Rattle.equation_form.specs.Grammar.{equalsByte}
-use Rattle.equation_laws.specs.WriteLaws.{written-short}
-use Rattle.equation_form.specs.Writing.{terms, written, wrote, refused, writeChecks, putOut, write}
+use Rattle.equation_spec.specs.Grammar.{equalsByte}
+use Rattle.equation_spec.specs.WriteLaws.{written-short}
+use Rattle.equation_spec.specs.Writing.{terms, written, wrote, refused, writeChecks, putOut, write}
 use Rattle.equation_write.specs.Texts.{InRange}
 
 module _ (q : ℕ) (row : List ℤ) (right : ℤ) (out : List ℕ) where

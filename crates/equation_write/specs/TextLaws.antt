@@ -15,8 +15,8 @@ use mir.Facts.{toZ-ofZ}
 use mir.Syntax.{w32}
 use mir.Val.{SFits, ofZ, toZ}
 use Rattle.linear.specs.Integers.{sfits-natAbs}
-use Rattle.equation_laws.specs.WriteLaws.{multiple-short}
-use Rattle.equation_form.specs.Writing.{multiple, laterTerms, terms}
+use Rattle.equation_spec.specs.WriteLaws.{multiple-short}
+use Rattle.equation_spec.specs.Writing.{multiple, laterTerms, terms}
 use Rattle.equation_write.specs.Texts.{leadText, isNegative, termText, restText}
 
 pub multiple-one : (m k : ℕ) → m ≡ 1 → multiple m k ≡ 120 ∷ decimal k

@@ -4,8 +4,8 @@ use mathlib.Core.Bool.{Bool, true, false}
 use mathlib.Core.List.{List, [], _∷_, _++_}
 use lib.IntN.{ℤ, pos, negsuc, natAbs}
 use lib.ListN.{length, getD}
-use Rattle.equation_form.specs.Grammar.{plus, minus, signByte}
-use Rattle.equation_form.specs.Writing.{multiple, spacedSign, laterTerms, terms}
+use Rattle.equation_spec.specs.Grammar.{plus, minus, signByte}
+use Rattle.equation_spec.specs.Writing.{multiple, spacedSign, laterTerms, terms}
 
 -- the sign of a term: first, and below zero
 abbrev pub leadText : Bool → Bool → List ℕ

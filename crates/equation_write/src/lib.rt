@@ -7,7 +7,7 @@ ghost use lib.ListN.{length};
 ghost use Rattle.texts.specs.Put.{Put};
 ghost use Rattle.definitions.specs.Answers.{_then_, refuseIf};
 ghost use Rattle.definitions.specs.Refusals.{outOfRange};
-ghost use Rattle.equation_form.specs.Writing.{multiple as multipleText, terms as termsText, written, putOut, write};
+ghost use Rattle.equation_spec.specs.Writing.{multiple as multipleText, terms as termsText, written, putOut, write};
 ghost use Rattle.equation_write.specs.Texts.{leadText, termText, InRange};
 ghost use Rattle.equation_write.specs.Answer.{wroteBy};
 use calls::Check;

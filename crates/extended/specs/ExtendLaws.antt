@@ -1,7 +1,7 @@
 -- The coefficients of a system with right sides as code writes them, place by place. Assumes nothing.
 use mathlib.Core.Path.{_≡_, refl, sym, _∙_, ap}
-use mathlib.Core.Logic.{_≢_, inl, inr}
-use mathlib.Core.List.{List, _∷_}
+use mathlib.Core.Logic.{inl, inr}
+use mathlib.Core.List.{List}
 use Prim.Native.Nat.{ℕ, zero, suc, _+_, _*_, _-_, _/_, _%_, _≤_, _<_}
 use native.Mathlib.Nat.{mul-le-mul-right, div-add-mod', mod-lt}
 use native.Mathlib.Decide.{ℕ-discrete}
@@ -9,8 +9,8 @@ use native.Mathlib.Omega.{arith}
 use lib.IntN.{ℤ, pos, negℤ, natAbs, _-ℤ_, +ℤ-idl}
 use mir.Syntax.{w32}
 use mir.Val.{SFits}
-use lib.ListN.{length, getD, set, take, drop, length-set, List·getD-eq-default}
-use lib.Seq.{ext-getD, getD-drop, getD-set-other, getD-set-same, getD-take, length-take-le}
+use lib.ListN.{length, getD, set, take, length-set, List·getD-eq-default}
+use lib.Seq.{ext-getD, getD-set-other, getD-set-same, getD-take, length-take-le}
 use Rattle.linear.specs.Cases.{split}
 use Rattle.linear.specs.Integers.{natAbs-negℤ, sfits-natAbs}
 use native.Mathlib.Numerals.{add-one}

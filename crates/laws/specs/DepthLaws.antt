@@ -1,7 +1,7 @@
 -- The greatest sum is only carried on: the refusals of the search do not depend on it, nor does what a step does besides. Assumes nothing.
 use mathlib.Core.Path.{_≡_, refl, ap, fun-ext}
 use mathlib.Core.Bool.{Bool, true, false, _&&_}
-use Prim.Native.Nat.{ℕ, _+_, _-_}
+use Prim.Native.Nat.{ℕ, _+_}
 use lib.Dec.{eqb}
 use Rattle.linear.specs.Tests.{anyTo, countTo}
 use Rattle.linear.specs.Tuples.{raise}

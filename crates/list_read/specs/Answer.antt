@@ -2,8 +2,8 @@
 use Prim.Native.Nat.{ℕ}
 use mathlib.Core.List.{List}
 use lib.IntN.{ℤ}
-use Rattle.list_form.specs.Reading as paper
-use Rattle.list_words.specs.Paper.{numberOf, valuesOf}
+use Rattle.list_spec.specs.Reading as paper
+use Rattle.list_blocks.specs.Paper.{numberOf, valuesOf}
 use Rattle.list_read.specs.declared.Read.{Read}
 use Rattle.list_read.specs.declared.Read.the-variants as read
 

@@ -5,13 +5,13 @@ use mathlib.Core.Path.{_≡_}
 use native.Mathlib.Omega.{arith}
 use lib.IntN.{ℤ}
 use lib.ListN.{length}
-use Rattle.list_form.specs.Reading.{ReadOutcome, listIn, readChecks, handedOut, readDecided, readFile}
-use Rattle.list_laws.specs.RuleLaws.{read-in}
-use Rattle.list_words.specs.Paper.{checkOf}
-use Rattle.list_words.specs.CheckLaws.{passes}
-use Rattle.list_words.specs.declared.FileRefusal.{FileRefusal}
-use Rattle.list_words.specs.declared.FileCheck.{FileCheck}
-use Rattle.list_words.specs.declared.FileCheck.the-variants.{Refuse, Pass}
+use Rattle.list_spec.specs.Reading.{ReadOutcome, listIn, readChecks, handedOut, readDecided, readFile}
+use Rattle.list_spec.specs.RuleLaws.{read-in}
+use Rattle.list_blocks.specs.Paper.{checkOf}
+use Rattle.list_blocks.specs.CheckLaws.{passes}
+use Rattle.list_blocks.specs.declared.FileRefusal.{FileRefusal}
+use Rattle.list_blocks.specs.declared.FileCheck.{FileCheck}
+use Rattle.list_blocks.specs.declared.FileCheck.the-variants.{Refuse, Pass}
 use Rattle.list_read.specs.Answer.{readOutcome}
 use Rattle.list_read.specs.ReadLaws.{Readable, coefs-few, numbers-few}
 use Rattle.list_read.specs.declared.Read.the-variants as read

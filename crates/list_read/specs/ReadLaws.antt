@@ -3,7 +3,7 @@ use Prim.Native.Nat.{ℕ, zero, suc, _+_, _*_, _/_, _%_, _≤_, _<_}
 use mathlib.Core.Bool.{Bool, true, false, not}
 use mathlib.Core.List.{List, [], _++_}
 use mathlib.Core.Logic.{inl, inr}
-use mathlib.Core.Path.{_≡_, refl, ap, _∙_}
+use mathlib.Core.Path.{_≡_, refl, ap}
 use native.Mathlib.Nat.{mul-le-mul, mul-div-cancel}
 use native.Mathlib.Numerals.{add-one}
 use native.Mathlib.Omega.{arith}
@@ -18,9 +18,9 @@ use Rattle.definitions.specs.Answers as paper
 use Rattle.definitions.specs.Answers.{_then_, refuseIf, refuseWith}
 use Rattle.definitions.specs.Refusals.{between}
 use Rattle.definitions.specs.System.{mostComponent}
-use Rattle.list_form.specs.Words.{wordAt, signed, wrappingSum}
-use Rattle.list_form.specs.Form.{blockBytes, blockWords, streamWords, laterBlocks, blockCount}
-use Rattle.list_form.specs.Reading.{
+use Rattle.list_spec.specs.Words.{wordAt, signed, wrappingSum}
+use Rattle.list_spec.specs.Form.{blockBytes, blockWords, streamWords, laterBlocks, blockCount}
+use Rattle.list_spec.specs.Reading.{
   equationsOf,
   unknownsOf,
   rowsOf,
@@ -42,9 +42,9 @@ use Rattle.list_form.specs.Reading.{
   read,
   handedOut,
 }
-use Rattle.list_laws.specs.ListLaws.{listed-length, listed-next}
-use Rattle.list_laws.specs.Ranges.{HeaderInRange, component-word}
-use Rattle.list_laws.specs.RuleLaws.{FileInOrder}
+use Rattle.list_spec.specs.ListLaws.{listed-length, listed-next}
+use Rattle.list_spec.specs.Ranges.{HeaderInRange, component-word}
+use Rattle.list_spec.specs.RuleLaws.{FileInOrder}
 
 -- ---- what is known of a file at each stage
 

@@ -2,8 +2,8 @@
 ghost use mathlib.Core.Path.{_≡_};
 ghost use Prim.Native.Nat.{_+_, _*_, _≤_, _<_};
 ghost use lib.ListN.{length};
-ghost use Rattle.list_form.specs.Words.{wordAt};
-ghost use Rattle.list_form.specs.Reading.{
+ghost use Rattle.list_spec.specs.Words.{wordAt};
+ghost use Rattle.list_spec.specs.Reading.{
   coefWords,
   rowWords,
   blockChecks,
@@ -14,14 +14,14 @@ ghost use Rattle.list_form.specs.Reading.{
   fileChecks,
   readChecks,
 };
-ghost use Rattle.list_words.specs.Paper.{checkOf};
+ghost use Rattle.list_blocks.specs.Paper.{checkOf};
 ghost use Rattle.list_read.specs.ReadLaws.{HeaderRead, StreamRead, laterChecks, tableChecks};
-use list_words::FileCheck;
-use list_words::FileRefusal;
-use list_words::all_within;
-use list_words::signed;
-use list_words::word_at;
-use list_words::wrapping_sum;
+use list_blocks::FileCheck;
+use list_blocks::FileRefusal;
+use list_blocks::all_within;
+use list_blocks::signed;
+use list_blocks::word_at;
+use list_blocks::wrapping_sum;
 
 // All that the reader looks at; `coefs` and `list` are the lengths of the tables.
 pub fn check(file: &[u8], coefs: usize, list: usize) -> FileCheck

@@ -1,10 +1,10 @@
 // Reading a list from a file (document 02, Job 5).
 ghost use mathlib.Core.Path.{_≡_};
-ghost use Rattle.list_form.specs.Reading.{readFile};
+ghost use Rattle.list_spec.specs.Reading.{readFile};
 ghost use Rattle.list_read.specs.Answer.{readOutcome};
 use calls::Solutions;
-use list_words::FileCheck;
-use list_words::FileRefusal;
+use list_blocks::FileCheck;
+use list_blocks::FileRefusal;
 
 mod checking; // checking.rt: what the reader looks at
 mod tables; // tables.rt: handing out what was read

@@ -3,16 +3,16 @@ ghost use mathlib.Core.Path.{_≡_};
 ghost use mathlib.Core.List.{List, _++_};
 ghost use Prim.Native.Nat.{ℕ, _+_, _*_, _/_, _%_, _≤_, _<_};
 ghost use lib.ListN.{length, drop};
-ghost use Rattle.list_form.specs.Words.{signed as signedWord};
-ghost use Rattle.list_form.specs.Reading.{streamAt, listed, listIn, handedOut};
+ghost use Rattle.list_spec.specs.Words.{signed as signedWord};
+ghost use Rattle.list_spec.specs.Reading.{streamAt, listed, listIn, handedOut};
 ghost use Rattle.list_read.specs.Answer.{readOutcome};
 ghost use Rattle.list_read.specs.ReadLaws.{Readable, InBlock, Filled};
 use crate::Read;
 use crate::checking::coef_words;
 use crate::checking::row_words;
 use calls::Solutions;
-use list_words::signed;
-use list_words::word_at;
+use list_blocks::signed;
+use list_blocks::word_at;
 
 // Copies the coefficients and the rows of a file in order to the beginning of the tables.
 pub fn hand_out(file: &[u8], coefs: &mut [i32], list: &mut [u32]) -> Read

@@ -2,9 +2,9 @@
 use Prim.Native.Nat.{ℕ}
 use mathlib.Core.List.{List}
 use lib.IntN.{ℤ}
-use Rattle.list_form.specs.Form.{ListFile}
-use Rattle.list_form.specs.Writing as paper
-use Rattle.list_words.specs.Paper.{numberOf, valuesOf}
+use Rattle.list_spec.specs.Form.{ListFile}
+use Rattle.list_spec.specs.Writing as paper
+use Rattle.list_blocks.specs.Paper.{numberOf, valuesOf}
 use Rattle.list_write.specs.declared.Write.{Write}
 use Rattle.list_write.specs.declared.Write.the-variants.{Whole, Refused}
 

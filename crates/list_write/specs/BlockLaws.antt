@@ -6,13 +6,13 @@ use native.Mathlib.Numerals.{add-one}
 use native.Mathlib.Omega.{arith}
 use lib.ListN.{length, getD, take}
 use lib.Seq.{take-length}
-use Rattle.list_form.specs.Words.{wordLimit, wordBytes, encoded, wordAt, wrappingSum, negation}
-use Rattle.list_form.specs.Form.{ListFile, blockBytes, blockWords, streamWords, header, stream, contentWord, blockWord, fileWord, fileBlocks, written}
-use Rattle.list_laws.specs.WordLaws.{word-take, word-encoded}
-use Rattle.list_laws.specs.SumLaws.{total-same, negation-is}
-use Rattle.list_laws.specs.RuleLaws.{ListInRange}
-use Rattle.list_laws.specs.ContentLaws.{stream-length, stream-row, content-stream, block-content, block-last, block-small}
-use Rattle.list_laws.specs.WrittenLaws.{stream-few}
+use Rattle.list_spec.specs.Words.{wordLimit, wordBytes, encoded, wordAt, wrappingSum, negation}
+use Rattle.list_spec.specs.Form.{ListFile, blockBytes, blockWords, streamWords, header, stream, contentWord, blockWord, fileWord, fileBlocks, written}
+use Rattle.list_spec.specs.WordLaws.{word-take, word-encoded}
+use Rattle.list_spec.specs.SumLaws.{total-same, negation-is}
+use Rattle.list_spec.specs.RuleLaws.{ListInRange}
+use Rattle.list_spec.specs.ContentLaws.{stream-length, stream-row, content-stream, block-content, block-last, block-small}
+use Rattle.list_spec.specs.WrittenLaws.{stream-few}
 
 -- the writer's checks found nothing
 pub record Writable (l : ListFile) (room : ℕ) : Type 0 where

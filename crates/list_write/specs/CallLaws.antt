@@ -3,14 +3,14 @@ use Prim.Native.Nat.{ℕ}
 use mathlib.Core.List.{List}
 use mathlib.Core.Path.{_≡_}
 use lib.ListN.{length}
-use Rattle.list_form.specs.Form.{ListFile, written}
-use Rattle.list_form.specs.Writing.{writeChecks, writeDecided, writeList}
-use Rattle.list_laws.specs.RuleLaws.{write-in}
-use Rattle.list_words.specs.Paper.{checkOf}
-use Rattle.list_words.specs.CheckLaws.{passes}
-use Rattle.list_words.specs.declared.FileRefusal.{FileRefusal}
-use Rattle.list_words.specs.declared.FileCheck.{FileCheck}
-use Rattle.list_words.specs.declared.FileCheck.the-variants.{Refuse, Pass}
+use Rattle.list_spec.specs.Form.{ListFile, written}
+use Rattle.list_spec.specs.Writing.{writeChecks, writeDecided, writeList}
+use Rattle.list_spec.specs.RuleLaws.{write-in}
+use Rattle.list_blocks.specs.Paper.{checkOf}
+use Rattle.list_blocks.specs.CheckLaws.{passes}
+use Rattle.list_blocks.specs.declared.FileRefusal.{FileRefusal}
+use Rattle.list_blocks.specs.declared.FileCheck.{FileCheck}
+use Rattle.list_blocks.specs.declared.FileCheck.the-variants.{Refuse, Pass}
 use Rattle.list_write.specs.Answer.{writeOutcome}
 use Rattle.list_write.specs.BlockLaws.{Writable}
 use Rattle.list_write.specs.declared.Write.the-variants as write

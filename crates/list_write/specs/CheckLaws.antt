@@ -14,9 +14,9 @@ use Rattle.definitions.specs.System.{mostUnknowns}
 use Rattle.laws.specs.AnswerLaws.{then-assoc}
 use Rattle.checks.specs.Coefficients.{coefficientChecks}
 use Rattle.checks.specs.Counts.{counted, countChecks}
-use Rattle.list_form.specs.Form.{ListFile, blockBytes, blockCount, rowCount, fileBlocks}
-use Rattle.list_form.specs.Writing.{mostRows, mostEnding, rowsInRange, listInRange, writeChecks}
-use Rattle.list_laws.specs.ContentLaws.{stream-length}
+use Rattle.list_spec.specs.Form.{ListFile, blockBytes, blockCount, rowCount, fileBlocks}
+use Rattle.list_spec.specs.Writing.{mostRows, mostEnding, rowsInRange, listInRange, writeChecks}
+use Rattle.list_spec.specs.ContentLaws.{stream-length}
 
 -- 22 and 19, which come after 1 to 3 and 7
 unfoldable pub listChecks : ListFile → ℕ → paper.Check

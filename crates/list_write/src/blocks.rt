@@ -2,12 +2,12 @@
 ghost use mathlib.Core.Path.{_≡_};
 ghost use Prim.Native.Nat.{_+_, _*_, _≤_, _<_};
 ghost use lib.ListN.{length};
-ghost use Rattle.list_form.specs.Form.{written};
+ghost use Rattle.list_spec.specs.Form.{written};
 ghost use Rattle.list_write.specs.Answer.{listOf};
 ghost use Rattle.list_write.specs.BlockLaws.{Writable, AtBlock, Begun, OfRows};
 use crate::content;
-use list_words::put_word;
-use list_words::wrapping_sum;
+use list_blocks::put_word;
+use list_blocks::wrapping_sum;
 
 // Writes the whole file.
 pub fn write(p: usize, q: usize, coefs: &[i32], rows: &[u32], ending: u32, out: &mut [u8])

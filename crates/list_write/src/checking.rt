@@ -3,14 +3,14 @@ ghost use mathlib.Core.Path.{_≡_};
 ghost use mathlib.Core.List.{[]};
 ghost use Prim.Native.Nat.{ℕ, _≤_};
 ghost use lib.ListN.{length};
-ghost use Rattle.list_form.specs.Writing.{rowsInRange, listInRange, writeChecks};
-ghost use Rattle.list_words.specs.Paper.{checkOf};
+ghost use Rattle.list_spec.specs.Writing.{rowsInRange, listInRange, writeChecks};
+ghost use Rattle.list_blocks.specs.Paper.{checkOf};
 ghost use Rattle.list_write.specs.Answer.{listOf};
 ghost use Rattle.list_write.specs.CheckLaws.{listChecks};
 use calls::Check;
-use list_words::FileCheck;
-use list_words::FileRefusal;
-use list_words::also_within;
+use list_blocks::FileCheck;
+use list_blocks::FileRefusal;
+use list_blocks::also_within;
 
 // All that the writer looks at; `room` is the length of the buffer.
 pub fn check(p: usize, q: usize, coefs: &[i32], rows: &[u32], ending: u32, room: usize) -> FileCheck

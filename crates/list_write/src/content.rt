@@ -3,10 +3,10 @@ ghost use mathlib.Core.Path.{_≡_};
 ghost use mathlib.Core.List.{[], _∷_};
 ghost use Prim.Native.Nat.{_≤_, _<_};
 ghost use lib.ListN.{getD};
-ghost use Rattle.list_form.specs.Form.{stream, contentWord};
+ghost use Rattle.list_spec.specs.Form.{stream, contentWord};
 ghost use Rattle.list_write.specs.Answer.{listOf};
 ghost use Rattle.list_write.specs.BlockLaws.{ContentPlace};
-use list_words::to_word;
+use list_blocks::to_word;
 
 // Word `j` of block `b`.
 pub fn word(p: usize, q: usize, coefs: &[i32], rows: &[u32], ending: u32, b: usize, j: usize) -> u32

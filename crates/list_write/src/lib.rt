@@ -1,9 +1,9 @@
 // Writing a list to a file (document 02, Job 5).
 ghost use mathlib.Core.Path.{_≡_};
-ghost use Rattle.list_form.specs.Writing.{writeList};
+ghost use Rattle.list_spec.specs.Writing.{writeList};
 ghost use Rattle.list_write.specs.Answer.{listOf, writeOutcome};
-use list_words::FileCheck;
-use list_words::FileRefusal;
+use list_blocks::FileCheck;
+use list_blocks::FileRefusal;
 
 mod blocks; // blocks.rt: writing the blocks
 mod checking; // checking.rt: what the writer looks at

@@ -1,7 +1,7 @@
 -- The answers in document 02's terms: for each case its values, or document 01's number and values of a refusal; and as one number. Assumes nothing.
 use Prim.Native.Nat.{ℕ}
 use Rattle.definitions.specs.Highest as paper
-use Rattle.answer_codes.specs.Codes.{code, refusalCode}
+use Rattle.c_answers.specs.Codes.{code, refusalCode}
 use Rattle.calls.specs.Paper.{numberOf, valuesOf}
 use Rattle.lookups.specs.declared.Located.{Located}
 use Rattle.lookups.specs.declared.Located.the-variants.{At, Nowhere, Refused}

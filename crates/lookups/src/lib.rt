@@ -68,8 +68,8 @@ fn number(l: Located) -> u64
     ensures { λ r. ⌜ r ≡ locatedNumber (locatedOf l) ⌝ }
 {
     match l {
-        Located::At(n) => answer_codes::coded(126, n),
+        Located::At(n) => c_answers::coded(126, n),
         Located::Nowhere => 127,
-        Located::Refused(why) => answer_codes::refusal(why),
+        Located::Refused(why) => c_answers::refusal(why),
     }
 }

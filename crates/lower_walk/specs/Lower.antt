@@ -1,23 +1,21 @@
 -- What the code of a run from a lower bound leaves between its two walks, and what is known there. Assumes nothing.
 use mathlib.Core.Path.{_≡_, refl, sym, _∙_, ap, subst}
 use mathlib.Core.List.{List}
-use Prim.Native.Nat.{ℕ, suc, _+_, _*_, _-_, _≤_, _<_}
+use Prim.Native.Nat.{ℕ, _+_, _-_, _≤_, _<_}
 use native.Mathlib.Nat.{mul-le-mul-right}
 use native.Mathlib.Omega.{arith}
-use lib.Dec.{T, eqb-refl}
-use lib.IntN.{ℤ}
 use lib.ListN.{length}
 use Rattle.definitions.specs.Answers as paper
 use Rattle.definitions.specs.Calls.{machineFrom, machineOf}
-use Rattle.definitions.specs.Input.{Input, aboveSystem, alone, boundOf, inputWith, mapOf}
+use Rattle.definitions.specs.Input.{Input, boundOf, mapOf}
 use Rattle.definitions.specs.Machine as machine
 use Rattle.definitions.specs.Machine.{walk, walkSteps}
 use Rattle.definitions.specs.Tables as tables
 use Rattle.definitions.specs.Tables.{State, cappedRun, deskByDesk, lowerAbove, lowerPlain, lowered, plainPart, plainRun, runNumber, wholeOf, writeRow}
-use Rattle.laws.specs.LowerLaws.{InOrderBy, ValidFrom, above-valid, lowered-valid, plain-valid}
+use Rattle.laws.specs.LowerLaws.{InOrderBy, ValidFrom, lowered-valid}
 use Rattle.laws.specs.LowerWalk.{above-walks, from-plain, plain-walk-valid, thenAbove, walk-counts, walk-steps-few}
-use Rattle.laws.specs.RefusalLaws.{Valid, run-from}
-use Rattle.calls.specs.Paper.{answerOf, kindOf, outcomeWith, plainPartOf, recordOf, stateWith}
+use Rattle.laws.specs.RefusalLaws.{run-from}
+use Rattle.calls.specs.Paper.{answerOf, outcomeWith, recordOf, stateWith}
 use Rattle.calls.specs.declared.Answer.{Answer}
 use Rattle.calls.specs.declared.Answer.the-variants.{Started, Complete, Paused, Refused}
 use Rattle.calls.specs.declared.Outcome.{Outcome}

@@ -1,12 +1,12 @@
 // The two walks of a run from a lower bound (document 02, Job 4), once its checks have let it go on:
 // the plain one into the second list, and then, with what is left of the budget, the one above the bound.
 ghost use mathlib.Core.Path.{_≡_};
-ghost use Prim.Native.Nat.{_+_, _*_, _-_, _≤_, _<_};
+ghost use Prim.Native.Nat.{_-_, _≤_, _<_};
 ghost use lib.ListN.{length};
 ghost use Rattle.definitions.specs.Calls.{machineFrom};
 ghost use Rattle.definitions.specs.Input.{alone, boundOf, inputWith};
 ghost use Rattle.definitions.specs.Machine as paper;
-ghost use Rattle.definitions.specs.Tables.{lowered, lowerAbove, lowerPlain, wholeOf, writeRow};
+ghost use Rattle.definitions.specs.Tables.{lowered, lowerAbove, lowerPlain, writeRow};
 ghost use Rattle.laws.specs.LowerLaws.{ValidFrom};
 ghost use Rattle.calls.specs.Paper.{kindOf, outcomeWith, stateWith};
 ghost use Rattle.lower_walk.specs.Lower.{loweredRecord, wholeOutcome};

@@ -13,8 +13,8 @@ use Rattle.texts.specs.Reading.{Parse, parsed, malformed, readNumber}
 use Rattle.texts.specs.ParseLaws.{not-parsed, same, cond-cases, and-then}
 use Rattle.texts.specs.NumberLaws.{number-below}
 use Rattle.texts.specs.ReadLaws.{number-read}
-use Rattle.map_form.specs.Form.{mostDigits, ShortNumbers, line, lines}
-use Rattle.map_form.specs.Reading.{endedBy, readField, readLine, Rows, rows, malformedAt, atLine, readRows}
+use Rattle.map_spec.specs.Form.{mostDigits, ShortNumbers, line, lines}
+use Rattle.map_spec.specs.Reading.{endedBy, readField, readLine, Rows, rows, malformedAt, atLine, readRows}
 
 -- ---- numbers
 

@@ -17,8 +17,8 @@ use Rattle.definitions.specs.Refusals.{check7}
 use Rattle.laws.specs.CheckLaws.{Rules, rule, placed, _▹_, end, Renders, check-cases, renders-due, renders-silent, renders-end}
 use Rattle.texts.specs.Reading.{mostBytes, Parse, parsed, malformed}
 use Rattle.texts.specs.ParseLaws.{same}
-use Rattle.map_form.specs.Form.{line, lines, written}
-use Rattle.map_form.specs.Reading.{
+use Rattle.map_spec.specs.Form.{line, lines, written}
+use Rattle.map_spec.specs.Reading.{
   Rows,
   rows,
   malformedAt,

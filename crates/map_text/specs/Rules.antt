@@ -11,7 +11,7 @@ use Rattle.definitions.specs.System.{mostEquations, mostUnknowns, coefLimit}
 use Rattle.laws.specs.CheckLaws.{Rules, _▹_, end, placed, rule}
 use Rattle.laws.specs.RefusalLaws.{Outside}
 use Rattle.texts.specs.Decimals.{newline}
-use Rattle.map_form.specs.Form.{ShortNumbers, line, written}
+use Rattle.map_spec.specs.Form.{ShortNumbers, line, written}
 
 -- ---- the lines of a text
 

@@ -12,8 +12,8 @@ use Rattle.texts.specs.Decimals.{newline, decimal, numeral}
 use Rattle.texts.specs.DecimalLaws.{decimal-digit, decimal-more, by-digits}
 use Rattle.texts.specs.Reading.{Parse, parsed, malformed}
 use Rattle.texts.specs.ParseLaws.{not-parsed}
-use Rattle.map_form.specs.Form.{line}
-use Rattle.map_form.specs.Reading.{readLine, rows, malformedAt, atLine, readRows}
+use Rattle.map_spec.specs.Form.{line}
+use Rattle.map_spec.specs.Reading.{readLine, rows, malformedAt, atLine, readRows}
 use Rattle.map_text.specs.Rules.{lineOf, afterLine, afterLines, Begins, InForm, RowInForm}
 use Rattle.map_text.specs.ReadLaws.{line-read, at-line, not-rows}
 use Rattle.map_text.specs.WriteLaws.{line-back}

@@ -12,8 +12,8 @@ use Rattle.texts.specs.Decimals.{numeral, separator}
 use Rattle.texts.specs.Reading.{parsed, andThen}
 use Rattle.texts.specs.DecimalLaws.{digits-most}
 use Rattle.texts.specs.WriteLaws.{number-back, separator-ends}
-use Rattle.map_form.specs.Form.{mostDigits, ShortNumbers, line, lines, CoefsInRange}
-use Rattle.map_form.specs.Reading.{readField, readLine, rows, readRows}
+use Rattle.map_spec.specs.Form.{mostDigits, ShortNumbers, line, lines, CoefsInRange}
+use Rattle.map_spec.specs.Reading.{readField, readLine, rows, readRows}
 
 -- ---- a number, and what separates it from the next
 

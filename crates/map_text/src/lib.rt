@@ -3,7 +3,7 @@ ghost use mathlib.Core.Path.{_≡_};
 ghost use mathlib.Core.List.{[], _++_};
 ghost use Prim.Native.Nat.{_≤_};
 ghost use lib.ListN.{length, drop};
-ghost use Rattle.map_form.specs.Reading.{rows, readRows, acceptRows, readBody, readMap};
+ghost use Rattle.map_spec.specs.Reading.{rows, readRows, acceptRows, readBody, readMap};
 ghost use Rattle.map_text.specs.Answer.{outcome, answered};
 ghost use Rattle.map_text.specs.Places.{Shape};
 use crate::lines::Line;

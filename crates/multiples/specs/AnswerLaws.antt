@@ -3,7 +3,7 @@ use mathlib.Core.Bool.{Bool, true, false}
 use mathlib.Core.List.{List}
 use mathlib.Core.Logic.{inl, inr}
 use mathlib.Core.Path.{_≡_, refl, sym, _∙_, ap}
-use Prim.Native.Nat.{ℕ, _+_, _*_, _≤_, _<_}
+use Prim.Native.Nat.{ℕ, _*_, _≤_, _<_}
 use native.Mathlib.Nat.{zero-add}
 use native.Mathlib.Omega.{arith}
 use lib.Dec.{leb}
@@ -23,13 +23,13 @@ use Rattle.definitions.specs.Tables.{at, writeTo}
 use Rattle.laws.specs.CheckLaws.{check-cases}
 use Rattle.laws.specs.ReasonLaws.{Askable, reason-askable}
 use Rattle.laws.specs.TableLaws.{write-inside, write-length}
-use Rattle.answer_codes.specs.Codes.{code}
+use Rattle.c_answers.specs.Codes.{code}
 use Rattle.lists.specs.Rows.{tuple}
 use Rattle.checks.specs.Counts.{Modest}
 use Rattle.reasons.specs.Amounts.{asked-rows, told-fits}
-use Rattle.multiples_form.specs.Parts.{Outcome, allTaken, decomposedWithin, ifSpace, leftOver, noSpace, off, refused, takenApart, unlessOff, writeTimes}
-use Rattle.multiples_form.specs.Parts as paper
-use Rattle.multiples_form.specs.PartsLaws.{left-same, times-same}
+use Rattle.multiples_spec.specs.Parts.{Outcome, allTaken, decomposedWithin, ifSpace, noSpace, off, refused, takenApart, unlessOff, writeTimes}
+use Rattle.multiples_spec.specs.Parts as paper
+use Rattle.multiples_spec.specs.PartsLaws.{left-same, times-same}
 use Rattle.multiples.specs.Answers.{Solves, outcomeOf, partsTold}
 use Rattle.multiples.specs.Taking.{Left}
 use Rattle.multiples.specs.declared.Parts.{Parts}

@@ -10,9 +10,9 @@ use mir.Val.{ofZ, toZ}
 use Rattle.definitions.specs.Input.{inputOf}
 use Rattle.definitions.specs.Refusals.{Sizes}
 use Rattle.definitions.specs.Reasons as why
-use Rattle.multiples_form.specs.Parts as paper
-use Rattle.multiples_form.specs.Parts.{partsNumber}
-use Rattle.answer_codes.specs.Codes.{code}
+use Rattle.multiples_spec.specs.Parts as paper
+use Rattle.multiples_spec.specs.Parts.{partsNumber}
+use Rattle.c_answers.specs.Codes.{code}
 use Rattle.calls.specs.Paper.{numberOf, value, valuesOf}
 use Rattle.checks.specs.Counts.{Modest}
 use Rattle.reasons.specs.Amounts.{told-fits}

@@ -1,13 +1,11 @@
 -- Rows taken off a tuple that a slice holds: what each way through the code comes to. Assumes nothing.
-use mathlib.Core.Bool.{true, false, cond}
 use mathlib.Core.List.{List}
 use mathlib.Core.Logic.{_≢_}
-use mathlib.Core.Path.{_≡_, refl, sym, _∙_}
+use mathlib.Core.Path.{_≡_, refl, _∙_}
 use Prim.Native.Nat.{ℕ, zero, suc, _+_, _*_, _-_, _/_, _≤_, _<_}
 use native.Mathlib.Decide.{ℕ-discrete}
 use native.Mathlib.Numerals.{add-one}
 use native.Mathlib.Omega.{arith}
-use lib.Dec.{eqb, eqb-refl, ltb}
 use lib.ListN.{length, length-set, getD, set}
 use lib.Seq.{getD-set-other, getD-set-same}
 use borrow.Author.Tests.{le-ltb, lt-ltb, ne-eqb}
@@ -15,8 +13,8 @@ use Rattle.linear.specs.Tuples.{Same}
 use Rattle.definitions.specs.System.{mostComponent}
 use Rattle.definitions.specs.Tables.{at}
 use Rattle.lists.specs.Rows.{tuple}
-use Rattle.multiples_form.specs.Parts.{bounded, leftOver, lower, often, oftenTo, without, writeTimes}
-use Rattle.multiples_form.specs.PartsLaws.{left-same, often-fits, times-same}
+use Rattle.multiples_spec.specs.Parts.{bounded, leftOver, lower, often, oftenTo, without, writeTimes}
+use Rattle.multiples_spec.specs.PartsLaws.{left-same, often-fits, times-same}
 
 -- the row that stands in a table from place base
 abbrev pub rowAt : List ℕ → ℕ → ℕ → ℕ

@@ -9,7 +9,7 @@ ghost use Rattle.definitions.specs.Refusals.{largeSizes, sizes};
 ghost use Rattle.definitions.specs.Tables.{at};
 ghost use Rattle.checks.specs.Counts.{Modest};
 ghost use Rattle.lists.specs.Rows.{tuple};
-ghost use Rattle.multiples_form.specs.Parts as paper;
+ghost use Rattle.multiples_spec.specs.Parts as paper;
 ghost use Rattle.multiples.specs.Answers.{ExcuseIs, outcomeOf, partsTold};
 use calls::Refusal;
 use calls::Solutions;
@@ -149,11 +149,11 @@ fn number_within(
         Parts::Made => 125,
         Parts::Off(k, by) => {
             amount[0] = by;
-            answer_codes::coded(121, k)
+            c_answers::coded(121, k)
         }
         Parts::Unlisted => 124,
         Parts::NoSpace => 29,
-        Parts::Refused(why) => answer_codes::refusal(why),
+        Parts::Refused(why) => c_answers::refusal(why),
     }
 }
 

@@ -1,10 +1,10 @@
 // Rows taken off a tuple, each as often as it goes.
 ghost use mathlib.Core.Path.{_≡_};
 ghost use Prim.Native.Nat.{_+_, _*_, _-_, _≤_};
-ghost use lib.ListN.{length, getD};
-ghost use Rattle.definitions.specs.Tables.{at, writeTo};
+ghost use lib.ListN.{length};
+ghost use Rattle.definitions.specs.Tables.{at};
 ghost use Rattle.lists.specs.Rows.{tuple};
-ghost use Rattle.multiples_form.specs.Parts as paper;
+ghost use Rattle.multiples_spec.specs.Parts as paper;
 ghost use Rattle.multiples.specs.Taking.{Goes, Left, Less, rowAt};
 
 // Takes the first `found` rows of a list off `rest`, the last first, and writes how often each was taken.

@@ -63,8 +63,8 @@ module _ (s : Sizes) (i : Input) (list : List ℕ) (found : ℕ) (t : List ℕ) 
   unfolding paper.reasonWithin paper.unlessRefused
   refused-at g = rw (← e, g)
 
-  pub passed-at : c ≡ Pass → {r : paper.Reason} → r ≡ paper.firstTrue (mapOf i) found (at list (i .q)) (λ j. getD t j 0)
-      → r ≡ paper.reasonWithin s i list found t
+  pub passed-at : c ≡ Pass → {r : paper.Reason} → r ≡ paper.firstTrue (mapOf i) found (at list (i .q)) (λ j. getD t j 0) → r ≡ paper.reasonWithin s i list
+      found t
   unfolding paper.reasonWithin paper.unlessRefused
   passed-at g h = rw (← e, g) h
 

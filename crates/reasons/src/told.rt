@@ -59,11 +59,11 @@ fn reason_within(
         Reason::Zero => 120,
         Reason::Off(k, by) => {
             amount[0] = by;
-            answer_codes::coded(121, k)
+            c_answers::coded(121, k)
         }
-        Reason::Stands(n) => answer_codes::coded(122, n),
-        Reason::Above(n) => answer_codes::coded(123, n),
+        Reason::Stands(n) => c_answers::coded(122, n),
+        Reason::Above(n) => c_answers::coded(123, n),
         Reason::Unlisted => 124,
-        Reason::Refused(why) => answer_codes::refusal(why),
+        Reason::Refused(why) => c_answers::refusal(why),
     }
 }

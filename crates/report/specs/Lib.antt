@@ -3,3 +3,5 @@ pub mod Examples
 pub mod Rows
 pub mod RunLaws
 pub mod ReportLaws
+pub mod Endings
+pub mod Complete

@@ -3,7 +3,7 @@ use Prim.Native.Nat.{ℕ}
 use mathlib.Core.Bool.{cond}
 use mathlib.Core.List.{List, [], _∷_, _++_, map}
 use lib.Dec.{eqb}
-use lib.IntN.{ℤ, pos}
+use lib.IntN.{pos}
 use lib.ListN.{replicate}
 use Rattle.definitions.specs.Answers.{Answer, started, complete, paused, refused}
 use Rattle.definitions.specs.Input.{Input, inputOf}
@@ -11,9 +11,9 @@ use Rattle.definitions.specs.Machine.{Outcome}
 use Rattle.definitions.specs.Tables.{State, begun, plainRun}
 use Rattle.definitions.specs.Calls.{start, resume}
 use Rattle.texts.specs.Decimals.{newline, bytes, decimal}
-use Rattle.map_form.specs.Form.{lines}
-use Rattle.map_form.specs.Reading as reading
-use Rattle.map_form.specs.Reading.{Reading, readMap}
+use Rattle.map_spec.specs.Form.{lines}
+use Rattle.map_spec.specs.Reading as reading
+use Rattle.map_spec.specs.Reading.{Reading, readMap}
 
 -- ---- words
 

@@ -8,9 +8,9 @@ use lib.IntN.{ℤ}
 use lib.ListN.{length, take, drop, length-append, length-take}
 use lib.Seq.{take-at}
 use Rattle.definitions.specs.Input.{inputOf}
-use Rattle.map_form.specs.Reading as reading
+use Rattle.map_spec.specs.Reading as reading
 use Rattle.texts.specs.Put.{Put}
-use Rattle.map_form.specs.Reading.{Reading, readMap}
+use Rattle.map_spec.specs.Reading.{Reading, readMap}
 use Rattle.map_text.specs.Answer.{Outcome, answered, outcome, numberOf, valuesOf}
 use Rattle.map_text.specs.MapLaws.{accepted-written}
 use Rattle.map_text.specs.declared.Read.{Read}

@@ -9,7 +9,7 @@ use lib.ListN.{length, getD, take, drop, length-map, length-take, length-drop, d
 use lib.Seq.{append-snoc, drop-cons, drop-drop}
 use Rattle.laws.specs.TableLaws.{row-fits}
 use Rattle.texts.specs.Decimals.{decimal, separator}
-use Rattle.map_form.specs.Form.{line, lines}
+use Rattle.map_spec.specs.Form.{line, lines}
 
 -- a number that left numbers of its line follow, and what separates it from them
 unfoldable pub fieldText : ℕ → ℕ → List ℕ

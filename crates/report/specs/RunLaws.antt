@@ -22,8 +22,8 @@ use Rattle.definitions.specs.Tables.{State, unitsStart}
 use Rattle.laws.specs.MachineLaws.{call-walks}
 use Rattle.laws.specs.RefusalLaws.{Valid, start-handed, start-renders, start-shaped, resume-valid, search-going, valid-resume}
 use Rattle.laws.specs.ValidLaws.{found-fits, step-valid, units-valid}
-use Rattle.map_form.specs.Form.{MapInRange}
-use Rattle.map_form.specs.Reading.{accepted, readMap}
+use Rattle.map_spec.specs.Form.{MapInRange}
+use Rattle.map_spec.specs.Reading.{accepted, readMap}
 use Rattle.map_text.specs.MapLaws.{accepted-written}
 use Rattle.report.specs.Printed.{blank, run, runText, readingText, printed}
 

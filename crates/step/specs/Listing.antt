@@ -2,13 +2,13 @@
 use mathlib.Core.Path.{_≡_, refl, ap, _∙_}
 use mathlib.Core.Bool.{Bool, true, false}
 use mathlib.Core.List.{List}
-use Prim.Native.Nat.{ℕ, _+_, _*_, _-_, _≤_, _<_}
+use Prim.Native.Nat.{ℕ, _*_, _-_, _≤_, _<_}
 use native.Mathlib.Nat.{zero-add}
 use native.Mathlib.Omega.{arith}
 use lib.Dec.{leb}
 use borrow.Author.Tests.{le-leb, lt-leb}
 use Rattle.linear.specs.Tuples.{rest}
-use Rattle.definitions.specs.Step.{enlistIn, fullFor, fullIn, rowOf, rowWidth, toSecond}
+use Rattle.definitions.specs.Step.{enlistIn, fullFor, rowOf, rowWidth, toSecond}
 use Rattle.definitions.specs.System.{Kind, above, capped, plain}
 use Rattle.definitions.specs.Tables.{State, capacity, writeTo}
 use Rattle.laws.specs.TableLaws.{write-same}

@@ -1,5 +1,4 @@
 // One step of a walk, the count of steps aside. Which unknowns make a child is found before anything is written.
-ghost use mathlib.Core.Path.{_≡_};
 ghost use mathlib.Core.List.{List, []};
 ghost use Prim.Native.Nat.{ℕ, _+_, _≤_, _<_};
 ghost use lib.ListN.{length};

@@ -32,4 +32,7 @@ pub mod TwoWalks
 pub mod Frames
 pub mod Demands
 pub mod Reasons
+pub mod BaseStep
+pub mod Newest
+pub mod LowerExample
 pub mod Examples

@@ -1,6 +1,6 @@
 -- Document 02, Job 11: "from any run record that passes the check for 6, no step needs a row beyond the last one, in plain, capped, floor and desk-by-desk
 -- walks". One theorem over marks and rows (`rows-suffice`), and its instances; that of the walk by groups of equations is `desk-rows` of
--- desk_promises/specs/Promises. Assumes nothing.
+-- desk_spec/specs/Promises. Assumes nothing.
 use mathlib.Core.Path.{_≡_, refl, ap}
 use mathlib.Core.Logic.{_⊎_, inl, inr}
 use mathlib.Core.Bool.{Bool, true, false}

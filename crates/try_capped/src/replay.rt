@@ -150,9 +150,9 @@ fn seat(l: Line, stack: &mut [u32], list: &mut [u32]) -> Outcome {
     let coefs = first_signed(&table, l.coefs_length);
     let r = record(l);
     if l.kind == b'b' {
-        return training::started(p, q, coefs, stack, list, r);
+        return seat::started(p, q, coefs, stack, list, r);
     }
-    training::resumed(p, q, coefs, stack, list, r, x[2])
+    seat::resumed(p, q, coefs, stack, list, r, x[2])
 }
 
 // The same from a lower bound, which is the tuple.
@@ -166,9 +166,9 @@ fn seat_lower(l: Line, stack: &mut [u32], list: &mut [u32], second: &mut [u32]) 
     let bound = first(&tuple, l.tuple_length);
     let r = record(l);
     if l.kind == b'a' {
-        return training::started_from(p, q, coefs, bound, stack, list, second, r);
+        return seat::started_from(p, q, coefs, bound, stack, list, second, r);
     }
-    training::resumed_from(p, q, coefs, bound, stack, list, second, r, x[2])
+    seat::resumed_from(p, q, coefs, bound, stack, list, second, r, x[2])
 }
 
 fn answers(l: Line, a: Answer) -> bool {

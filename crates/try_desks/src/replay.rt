@@ -58,7 +58,7 @@ fn made(l: Line, stack: &mut [u32], list: &mut [u32], record: &mut [u64]) -> u64
     let coefs = first_signed(&coefficients, l.coefs_length);
     let generators = first(&rows, l.generators_length);
     if l.kind == b's' {
-        return desk_words::start(p, q, coefs, generators, stack, list, record);
+        return c_desk::start(p, q, coefs, generators, stack, list, record);
     }
-    desk_words::resume(p, q, coefs, generators, stack, list, record, x[2])
+    c_desk::resume(p, q, coefs, generators, stack, list, record, x[2])
 }

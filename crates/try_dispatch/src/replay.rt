@@ -52,7 +52,7 @@ fn called(l: Line, stack: &mut [u32], list: &mut [u32], round: &mut [u64]) -> u6
     if round.len() < w {
         return 0;
     }
-    dispatch_words::dispatch(
+    c_dispatch::dispatch(
         x[0] as usize,
         x[1],
         x[2],

@@ -1,9 +1,9 @@
 // Equations read and written. Each line of the input is a number of unknowns in two digits, a space and a text. Below each text stands what reading it
 // answers: the refusal, or what the writer makes of the row that was read.
 ghost use Prim.Native.Nat.{_≤_};
-use equation_text::equation::EquationRead;
-use equation_text::equation::EquationRefusal;
-use equation_text::equation::read_equation;
+use equation_read::equation::EquationRead;
+use equation_read::equation::EquationRefusal;
+use equation_read::equation::read_equation;
 use equation_write::EquationWritten;
 use equation_write::write_equation;
 use try_common::print;

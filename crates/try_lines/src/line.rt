@@ -26,6 +26,9 @@ pub struct Line {
     pub answered: [u64; 8],
     pub coefs: [i32; COEFFICIENTS],
     pub coefs_length: usize,
+    pub equations: [i32; COEFFICIENTS],
+    pub equations_after: [i32; COEFFICIENTS],
+    pub equations_length: usize,
     pub list: [u32; ROOM],
     pub list_after: [u32; ROOM],
     pub list_length: usize,
@@ -70,6 +73,9 @@ pub fn empty() -> Line {
         shares_length: 0,
         coefs: [0; 160],
         coefs_length: 0,
+        equations: [0; 160],
+        equations_after: [0; 160],
+        equations_length: 0,
         rights: [0; 160],
         rights_length: 0,
         tuple: [0; 320],
@@ -173,6 +179,13 @@ fn entered(l: Line, w: Word) -> Line {
         b'c' => {
             put_signed(&mut m.coefs, at, signed(w));
             m.coefs_length = next;
+        }
+        b'e' => {
+            put_signed(&mut m.equations_after, at, signed(w));
+            if !l.after {
+                put_signed(&mut m.equations, at, signed(w));
+                m.equations_length = next;
+            }
         }
         b'b' => {
             put_signed(&mut m.rights, at, signed(w));

@@ -41,6 +41,10 @@ pub fn same_table(a: &[u32; ROOM], b: &[u32; ROOM]) -> bool {
     same(a, b)
 }
 
+pub fn same_equations(a: &[i32; COEFFICIENTS], b: &[i32; COEFFICIENTS]) -> bool {
+    same_signed(a, b)
+}
+
 pub fn same_record(a: &[u64; RECORD], b: &[u64; RECORD]) -> bool {
     same_words(a, b)
 }
@@ -60,6 +64,20 @@ pub fn same(a: &[u32], b: &[u32]) -> bool {
 }
 
 pub fn same_words(a: &[u64], b: &[u64]) -> bool {
+    if a.len() != b.len() {
+        return false;
+    }
+    let mut i = 0;
+    while i < a.len() {
+        if a[i] != b[i] {
+            return false;
+        }
+        i += 1;
+    }
+    true
+}
+
+pub fn same_signed(a: &[i32], b: &[i32]) -> bool {
     if a.len() != b.len() {
         return false;
     }

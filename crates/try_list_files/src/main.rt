@@ -170,7 +170,7 @@ fn show(file: &[u8], n: usize, rooms: Rooms) {
         list_part(&mut list, rooms.list),
     ) {
         Read::Refused(why) => {
-            print::line(b"refused", list_words::number_of(why));
+            print::line(b"refused", list_blocks::number_of(why));
             expect(coefs[0] == 77, b"a coefficient was written\n");
             expect(list[0] == BEFORE, b"a row was written\n");
         }
@@ -251,7 +251,7 @@ fn answer(file: &[u8], rooms: Rooms) -> u64 {
         coefs_part(&mut coefs, rooms.coefs),
         list_part(&mut list, rooms.list),
     ) {
-        Read::Refused(why) => list_words::number_of(why),
+        Read::Refused(why) => list_blocks::number_of(why),
         Read::List { .. } => 0,
     }
 }

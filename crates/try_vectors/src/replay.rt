@@ -6,8 +6,7 @@ use calls::Record;
 use calls::Refusal;
 use calls::Solutions;
 use calls::Steps;
-use listing::ListingAnswer;
-use solver::Readable;
+use single_listing::ListingAnswer;
 use try_lines::line::COEFFICIENTS;
 use try_lines::line::Line;
 use try_lines::line::ROOM;
@@ -15,6 +14,7 @@ use try_lines::tables::first;
 use try_lines::tables::first_signed;
 use try_lines::tables::same;
 use try_lines::tables::same_table;
+use walk_ref::Readable;
 
 // What stands in an output space before: a byte that no text has.
 const BEFORE: u8 = 170;
@@ -85,8 +85,8 @@ fn made(l: Line, coefs: &[i32], stack: &mut [u32], list: &mut [u32]) -> Outcome 
     let kind = l.kind;
     match kind {
         b's' => starts::started(p, q, coefs, stack, list, r),
-        b'b' => single_file_calls::started(p, q, coefs, stack, list, r),
-        b'g' => single_file_calls::resumed(p, q, coefs, stack, list, r, x[2]),
+        b'b' => single::started(p, q, coefs, stack, list, r),
+        b'g' => single::resumed(p, q, coefs, stack, list, r, x[2]),
         _ => walk::resumed(p, q, coefs, stack, list, r, x[2], calls::COMPONENT_LIMIT),
     }
 }
@@ -97,7 +97,7 @@ fn view(l: Line) -> bool {
     let q = x[0] as usize;
     let list = l.list;
     let tuple = l.tuple;
-    let row = solver::row_of(
+    let row = walk_ref::row_of(
         first(&list, l.list_length),
         q,
         Solutions(x[1] as usize),
@@ -106,7 +106,7 @@ fn view(l: Line) -> bool {
     if !same(row, first(&tuple, l.tuple_length)) {
         return false;
     }
-    match solver::reader_answer(q) {
+    match walk_ref::reader_answer(q) {
         Readable::Yes => l.answer == b'Y',
         Readable::Refused(why) => refuses(l, why),
     }
@@ -136,7 +136,7 @@ fn listed(l: Line, coefs: &[i32], list: &[u32], out: &mut [u8], room: usize) -> 
     if out.len() < room {
         return ListingAnswer::Written(0);
     }
-    listing::listed(
+    single_listing::listed(
         x[0] as usize,
         x[1] as usize,
         coefs,
@@ -152,8 +152,8 @@ fn says(l: Line, a: ListingAnswer) -> bool {
         ListingAnswer::Written(n) => l.answer == b'W' && n as u64 == x[0],
         ListingAnswer::Refused(why) => {
             l.answer == b'R'
-                && listing::number_of(why) == x[0]
-                && listing::value_of(why) as u64 == x[1]
+                && single_listing::number_of(why) == x[0]
+                && single_listing::value_of(why) as u64 == x[1]
         }
     }
 }

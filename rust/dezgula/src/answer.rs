@@ -1,46 +1,134 @@
 //! What a call answers, and refusals as errors.
+#![forbid(unsafe_code)]
 
-use crate::sys;
-use std::ffi::CStr;
+use crate::calls;
 use std::fmt;
 
-/// The numbers of the answers that the crate itself goes by, with the names of the headers.
+/// The numbers of the answers, with the names that the headers have for them.
 pub mod numbers {
-    pub const COMPLETE: u8 = 0;
-    pub const EQUATIONS: u8 = 1;
-    pub const UNKNOWNS: u8 = 2;
-    pub const COUNT: u8 = 3;
-    pub const TUPLE_LENGTH: u8 = 5;
-    pub const OUT_OF_ORDER: u8 = 6;
-    pub const COEFFICIENT: u8 = 7;
-    pub const LIST_FULL: u8 = 11;
-    pub const COMPONENT: u8 = 12;
-    pub const STEPS_AT_LIMIT: u8 = 14;
-    pub const GENERATORS: u8 = 25;
-    pub const ENGINE_FULL: u8 = 31;
-    pub const STARTED: u8 = 100;
-    pub const PAUSED: u8 = 101;
-    pub const ROW: u8 = 102;
-    pub const NO_ROW: u8 = 103;
-    pub const LISTING_WRITTEN: u8 = 104;
-    pub const LIST_WRITTEN: u8 = 106;
-    pub const LIST_READ: u8 = 107;
-    pub const MAP_READ: u8 = 108;
-    pub const SERVED: u8 = 110;
-    pub const ALL_ZERO: u8 = 120;
-    pub const OFF: u8 = 121;
-    pub const STANDS: u8 = 122;
-    pub const ABOVE: u8 = 123;
-    pub const UNLISTED: u8 = 124;
-    pub const MADE: u8 = 125;
-    pub const AT_OR_BELOW: u8 = 126;
-    pub const NOWHERE: u8 = 127;
-    pub const EQUATION_READ: u8 = 130;
-    pub const EQUATION_WRITTEN: u8 = 131;
-    pub const SYSTEM_READ: u8 = 132;
+    macro_rules! numbers {
+        ($($(#[$doc:meta])* $name:ident = $number:literal;)*) => {
+            $($(#[$doc])* pub const $name: u8 = $number;)*
+
+            /// All of them.
+            #[cfg(test)]
+            pub(crate) const ALL: &[(&str, u8)] = &[$((stringify!($name), $number)),*];
+        };
+    }
+
+    numbers! {
+        /// The run is at its end: what it lists is whole.
+        COMPLETE = 0;
+        /// The number of equations is out of range.
+        EQUATIONS = 1;
+        /// The number of unknowns is out of range.
+        UNKNOWNS = 2;
+        /// Coefficients or right sides are not as many as they have to be.
+        COUNT = 3;
+        /// The stack, or the table that the engine works in, is too short.
+        STACK_SHORT = 4;
+        /// The lower bound, or the tuple asked about, does not have a component for each unknown.
+        TUPLE_LENGTH = 5;
+        /// The record or the tables are out of order, or not those of this kind of run.
+        OUT_OF_ORDER = 6;
+        /// A coefficient is out of range; the place is that of the first such one, row by row.
+        COEFFICIENT = 7;
+        /// A component of the lower bound, or of the tuple asked about, is above the limit.
+        TUPLE_RANGE = 8;
+        /// A line is not in the form; the place is its number.
+        TEXT_LINE = 9;
+        /// The text has more than 4,096 bytes.
+        TEXT_LENGTH = 10;
+        /// The list has no room for the next solution.
+        LIST_FULL = 11;
+        /// A component would pass 1,000,000.
+        COMPONENT = 12;
+        /// 10^12 steps are taken.
+        STEPS_AT_LIMIT = 14;
+        /// A right side is out of range.
+        RIGHT_SIDE = 15;
+        /// An equation is outside the grammar; the place is that of a byte.
+        GRAMMAR = 16;
+        /// Brackets deeper than eight.
+        DEPTH = 17;
+        /// The product of the multipliers around a bracket is above 10,000.
+        STEEP = 18;
+        /// A list file, or the space for it, does not have its length.
+        FILE_SIZE = 19;
+        /// The words of a block of a list file do not add to zero.
+        FILE_SUM = 20;
+        /// A block of a list file has another number than its place.
+        FILE_NUMBER = 21;
+        /// A word of a list file is out of range.
+        FILE_RANGE = 22;
+        /// More than 6 unknowns at the training seat.
+        TRAINING_WIDE = 23;
+        /// A component would pass 20 at the training seat.
+        TRAINING_COMPONENT = 24;
+        /// The groups before a desk have more than 64 solutions, or one with too large an image.
+        GENERATORS = 25;
+        /// A column is not that of a single-file map; the place is the first such column.
+        COLUMN = 26;
+        /// Not 1 to 8 runs at a time, or turns of no steps.
+        SCHEDULE = 27;
+        /// Two parts of a table overlap, or one leaves it.
+        PARTS = 28;
+        /// What is to be written has no room.
+        OUTPUT_SHORT = 29;
+        /// A row is no minimal solution; the place is the first such row.
+        NOT_MINIMAL = 30;
+        /// No more rows of the engine fit into memory, or into the limit.
+        ENGINE_FULL = 31;
+        /// There is no such equation to take or to change, or one is under way.
+        ENGINE_EQUATION = 32;
+        /// The unknown cannot be left out of this stage.
+        ENGINE_FRESH = 33;
+        /// This is no row operation, or a coefficient would be too large.
+        ENGINE_OPERATION = 34;
+        /// A start has written its rows and its record.
+        STARTED = 100;
+        /// The budget is used up; a further call goes on from here.
+        PAUSED = 101;
+        /// The row was copied.
+        ROW = 102;
+        /// There is no such row.
+        NO_ROW = 103;
+        /// The listing was written; the place is the number of its bytes.
+        LISTING_WRITTEN = 104;
+        /// The file was written.
+        LIST_WRITTEN = 106;
+        /// The file was read.
+        LIST_READ = 107;
+        /// The map was read.
+        MAP_READ = 108;
+        /// Turns were handed out; each run has its own answer.
+        SERVED = 110;
+        /// The tuple is all zero.
+        ALL_ZERO = 120;
+        /// An equation is off; the place is the first such one.
+        OFF = 121;
+        /// The tuple is in the list; the place is the highest where it stands.
+        STANDS = 122;
+        /// A row of the list lies below the tuple; the place is the highest of such a row.
+        ABOVE = 123;
+        /// Nothing listed lies below the tuple, or below what is left of it.
+        UNLISTED = 124;
+        /// The tuple is made of rows of the list.
+        MADE = 125;
+        /// A row of the list is at or below the tuple; the place is the highest of such a row.
+        AT_OR_BELOW = 126;
+        /// No row of the list is at or below the tuple.
+        NOWHERE = 127;
+        /// The equation was read.
+        EQUATION_READ = 130;
+        /// The equation was written; the place is the number of its bytes.
+        EQUATION_WRITTEN = 131;
+        /// The system was read; the place is the number of its equations.
+        SYSTEM_READ = 132;
+    }
 }
 
-/// What a call answers: a number, and the place that it comes with.
+/// What a call of [`crate::calls`] answers: a number, and the place that it comes with.
 #[must_use = "a start that is refused writes nothing, so an answer has to be looked at"]
 #[derive(Clone, Copy, Debug, PartialEq, Eq, PartialOrd, Ord, Hash)]
 pub struct Answer(pub u64);
@@ -58,8 +146,7 @@ impl Answer {
 
     /// In English.
     pub fn sentence(self) -> &'static str {
-        // Safety: the call takes any number and returns a text that is part of the library and ends in 0.
-        unsafe { CStr::from_ptr(sys::dezgula_sentence(self.0)) }.to_str().unwrap_or("")
+        calls::sentence(self.0)
     }
 
     pub(crate) fn refusal(self) -> Error {
@@ -72,6 +159,15 @@ impl Answer {
             Ok(self.place() as usize)
         } else {
             Err(self.refusal())
+        }
+    }
+
+    /// What a call that goes on answers.
+    pub(crate) fn progress(self) -> Result<Progress, Error> {
+        match self.number() {
+            numbers::COMPLETE => Ok(Progress::Complete),
+            numbers::PAUSED => Ok(Progress::Paused),
+            _ => Err(self.refusal()),
         }
     }
 }
@@ -110,12 +206,12 @@ impl Error {
         Error { within, ..self }
     }
 
-    /// From 1 to 99; the headers have what each is, and [`numbers`] the ones most met.
+    /// From 1 to 99: one of [`numbers`].
     pub fn number(&self) -> u8 {
         self.answer.number()
     }
 
-    /// The coefficient, column, row, line or byte that is refused, from 1; the headers say at each number which it is.
+    /// The coefficient, column, row, line or byte that is refused, from 1; [`numbers`] says at each number which it is.
     pub fn place(&self) -> Option<u64> {
         Some(self.answer.place()).filter(|&place| place != 0)
     }
@@ -125,6 +221,7 @@ impl Error {
         Some(self.within).filter(|&place| place != 0)
     }
 
+    /// In English; the place is not in it.
     pub fn sentence(&self) -> &'static str {
         self.answer.sentence()
     }
@@ -140,3 +237,18 @@ impl fmt::Display for Error {
 }
 
 impl std::error::Error for Error {}
+
+#[cfg(test)]
+mod tests {
+    use super::{numbers, Answer};
+
+    /// Every number that has a sentence of its own has a name here, and the other way round.
+    #[test]
+    fn every_number_has_a_name() {
+        let none = Answer(255).sentence();
+        for number in 0..=255_u8 {
+            let named = numbers::ALL.iter().filter(|(_, own)| *own == number).count();
+            assert_eq!(named, usize::from(Answer(number.into()).sentence() != none), "{number}");
+        }
+    }
+}

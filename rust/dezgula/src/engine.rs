@@ -1,22 +1,26 @@
-//! The engine, for systems of at most 32 equations and 32 unknowns. Everything of the crate that depends on how the engine is called is in this file.
+//! The engine's solver, for systems of at most 32 equations and 32 unknowns.
 
 use crate::answer::{numbers, Answer, Error, Progress};
-use crate::list::List;
+use crate::list::{List, Rows};
+use crate::sys;
 use crate::system::System;
+use std::ptr::NonNull;
+use std::slice;
 
 /// How far a solver is.
 #[derive(Clone, Copy, Debug, Default, PartialEq, Eq)]
 pub struct Told {
-    /// Equations done, of so many. It may try one order of them and then another, so that this can fall.
+    /// Equations done. It may try one order of them and then another, so that this can fall.
     pub done: usize,
+    /// Of so many equations.
     pub equations: usize,
-    /// Rows of the stage under way.
+    /// Rows of the stage under way, or else of the basis.
     pub rows: u64,
-    /// Turns taken.
+    /// Turns taken; this never falls.
     pub steps: u64,
 }
 
-/// The engine at work on a system: it can be paused and gone on with, and sent to another thread. Its tables grow as they fill.
+/// The engine at work on a system: it can be paused and gone on with, sent to another thread, and kept in a file. Its tables grow as they fill.
 ///
 /// ```
 /// use dezgula::{Progress, System};
@@ -24,275 +28,126 @@ pub struct Told {
 /// while solver.work(0)? == Progress::Paused {
 ///     println!("{} of {} equations", solver.told().done, solver.told().equations);
 /// }
-/// assert_eq!(solver.rows().map(|list| list.len()), Some(6));
+/// assert_eq!(solver.rows().map(|rows| rows.len()), Some(6));
 /// # Ok::<(), dezgula::Error>(())
 /// ```
 #[derive(Debug)]
 pub struct Solver {
-    unknowns: usize,
-    at_work: at_work::Solver,
+    /// One that the library made, which is freed once, when this is dropped.
+    own: NonNull<sys::dezgula_solver>,
 }
+
+// SAFETY: a solver is plain numbers and tables of its own, from malloc, and may go on in any thread, in one at a time, which `&mut` says.
+unsafe impl Send for Solver {}
+// SAFETY: the calls that `&self` makes take the solver const, and those only read it.
+unsafe impl Sync for Solver {}
 
 impl Solver {
     pub(crate) fn new(system: &System) -> Result<Solver, Error> {
-        Ok(Solver { unknowns: system.unknowns(), at_work: at_work::Solver::new(system).map_err(Answer::refusal)? })
+        let mut answer = 0;
+        // SAFETY: the system's table is a slice with its length that lives as long as the call, which copies it; the answer is borrowed exclusively.
+        let own = unsafe { sys::dezgula_solver_new(&system.map().lent(), &mut answer) };
+        Solver::owning(own, answer)
+    }
+
+    fn owning(own: *mut sys::dezgula_solver, answer: u64) -> Result<Solver, Error> {
+        NonNull::new(own).map(|own| Solver { own }).ok_or(Answer(answer).refusal())
     }
 
     /// Works for about `budget` turns; 0 is as many as take about 50 ms. Refused with 31 where no more rows fit into memory or into the limit: it may be called
     /// again when there is more of it.
     pub fn work(&mut self, budget: u64) -> Result<Progress, Error> {
-        let answer = self.at_work.work(budget);
-        match answer.number() {
-            numbers::COMPLETE => Ok(Progress::Complete),
-            numbers::PAUSED => Ok(Progress::Paused),
-            _ => Err(answer.refusal()),
-        }
+        // SAFETY: the solver is one that was made and is not freed before this is dropped; it is borrowed exclusively.
+        Answer(unsafe { sys::dezgula_solver_work(self.own.as_ptr(), budget) }).progress()
     }
 
     /// Goes on to the end, however long that takes, and gives the whole list.
     pub fn complete(&mut self) -> Result<List, Error> {
         while self.work(0)? == Progress::Paused {}
-        Ok(self.rows().expect("the list of a complete solver"))
+        self.to_list().ok_or(Error::new(numbers::OUT_OF_ORDER, 0))
     }
 
     /// The most bytes of all tables together; at first there is no limit.
     pub fn limit(&mut self, bytes: usize) -> &mut Solver {
-        self.at_work.limit(bytes);
+        // SAFETY: as for the work.
+        unsafe { sys::dezgula_solver_limit(self.own.as_ptr(), bytes) }
         self
     }
 
+    /// How far it is.
     pub fn told(&self) -> Told {
-        self.at_work.told()
+        // SAFETY: the solver is one that was made and is not freed before this is dropped; the call only reads it.
+        let told = unsafe { sys::dezgula_solver_told(self.own.as_ptr()) };
+        Told { done: told.done, equations: told.equations, rows: told.rows, steps: told.steps }
+    }
+
+    fn lent(&self) -> sys::dezgula_system {
+        // SAFETY: as for what is told.
+        unsafe { sys::dezgula_solver_system(self.own.as_ptr()) }
+    }
+
+    /// The system that it is for.
+    pub fn system(&self) -> System {
+        let lent = self.lent();
+        // SAFETY: the library's copy of the coefficients has so many, and stays until the solver is freed, which this outlives.
+        System::of(lent.p, lent.q, unsafe { slice::from_raw_parts(lent.coefs, lent.coefs_len) })
+    }
+
+    /// The rows of the whole list where they stand; none before it is complete.
+    pub fn rows(&self) -> Option<Rows<'_>> {
+        let (mut count, unknowns) = (0, self.lent().q);
+        // SAFETY: as for what is told; the count is borrowed exclusively.
+        let rows = unsafe { sys::dezgula_solver_rows(self.own.as_ptr(), &mut count) };
+        if rows.is_null() {
+            return None;
+        }
+        // SAFETY: so many rows stand there, in one table of the library, and stay until the solver works or is freed: both need it when this borrow is over.
+        Some(Rows::of(unknowns, unsafe { slice::from_raw_parts(rows, count * unknowns) }))
     }
 
     /// A copy of the whole list; none before it is complete.
-    pub fn rows(&self) -> Option<List> {
-        self.at_work.rows().map(|numbers| List::of(self.unknowns, numbers))
+    pub fn to_list(&self) -> Option<List> {
+        self.rows().map(|rows| rows.to_list())
+    }
+
+    /// The solver as bytes, to be kept in a file and gone on from elsewhere: the words of `dezgula_solver_save`, lowest byte first, as the module in Python has
+    /// them too.
+    ///
+    /// ```
+    /// use dezgula::{Progress, Solver, System};
+    /// let mut solver = System::new([[30, -2, -1, 4, -7], [1, 1, -5, 0, 3]])?.solver()?;
+    /// assert_eq!(solver.work(10)?, Progress::Paused);
+    /// let kept = solver.save();
+    /// let mut elsewhere = Solver::load(&kept)?;
+    /// assert_eq!((elsewhere.system(), elsewhere.told()), (solver.system(), solver.told()));
+    /// assert_eq!(elsewhere.complete()?, solver.complete()?);
+    /// # Ok::<(), dezgula::Error>(())
+    /// ```
+    pub fn save(&self) -> Vec<u8> {
+        // SAFETY: as for what is told.
+        let mut words = vec![0_u32; unsafe { sys::dezgula_solver_saved_length(self.own.as_ptr()) }];
+        // SAFETY: the table has as many words as the call writes: nothing works with the solver between the two.
+        unsafe { sys::dezgula_solver_save(self.own.as_ptr(), words.as_mut_ptr()) }
+        words.iter().flat_map(|word| word.to_le_bytes()).collect()
+    }
+
+    /// The solver that was saved as these bytes. It has no limit of memory. Other bytes are refused with 6; the list is right where the bytes are those saved: a
+    /// row that is missing in them cannot be told.
+    pub fn load(bytes: &[u8]) -> Result<Solver, Error> {
+        let words: Vec<u32> = bytes.chunks_exact(4).map(|b| u32::from_le_bytes([b[0], b[1], b[2], b[3]])).collect();
+        if 4 * words.len() != bytes.len() {
+            return Err(Error::new(numbers::OUT_OF_ORDER, 0));
+        }
+        let mut answer = 0;
+        // SAFETY: the words are a slice with its length, which may hold anything, and live as long as the call, which copies them.
+        let own = unsafe { sys::dezgula_solver_load(words.as_ptr(), words.len(), &mut answer) };
+        Solver::owning(own, answer)
     }
 }
 
-#[cfg(dezgula_solver)]
-mod at_work {
-    use super::{numbers, Answer, System, Told};
-    use crate::sys::dezgula_system;
-    use std::os::raw::c_void;
-
-    #[repr(C)]
-    struct Progress {
-        done: usize,
-        equations: usize,
-        rows: u64,
-        steps: u64,
-    }
-
-    extern "C" {
-        fn dezgula_solver_new(system: *const dezgula_system, answer: *mut u64) -> *mut c_void;
-        fn dezgula_solver_work(solver: *mut c_void, budget: u64) -> u64;
-        fn dezgula_solver_limit(solver: *mut c_void, bytes: usize);
-        fn dezgula_solver_told(solver: *const c_void) -> Progress;
-        fn dezgula_solver_rows(solver: *const c_void, count: *mut usize) -> *const u32;
-        fn dezgula_solver_free(solver: *mut c_void);
-    }
-
-    /// A solver of the library, which is freed once. Never null.
-    #[derive(Debug)]
-    pub struct Solver {
-        own: *mut c_void,
-        unknowns: usize,
-        complete: bool,
-    }
-
-    // Safety: a solver is plain numbers and tables of its own, and may go on in any thread, in one at a time, which `&mut` says.
-    unsafe impl Send for Solver {}
-
-    impl Solver {
-        pub fn new(system: &System) -> Result<Solver, Answer> {
-            let m = system.map();
-            let lent = dezgula_system { p: m.p, q: m.q, coefs: m.coefs.as_ptr(), coefs_len: m.coefs.len() };
-            let mut answer = 0;
-            // Safety: the system's table is a slice that lives as long as the call, which copies it.
-            let own = unsafe { dezgula_solver_new(&lent, &mut answer) };
-            if own.is_null() {
-                Err(Answer(answer))
-            } else {
-                Ok(Solver { own, unknowns: m.q, complete: false })
-            }
-        }
-
-        pub fn work(&mut self, budget: u64) -> Answer {
-            // Safety: of this and the calls below: the solver is one that was made and not freed.
-            let answer = Answer(unsafe { dezgula_solver_work(self.own, budget) });
-            self.complete = answer.number() == numbers::COMPLETE;
-            answer
-        }
-
-        pub fn limit(&mut self, bytes: usize) {
-            unsafe { dezgula_solver_limit(self.own, bytes) }
-        }
-
-        pub fn told(&self) -> Told {
-            let told = unsafe { dezgula_solver_told(self.own) };
-            Told { done: told.done, equations: told.equations, rows: told.rows, steps: told.steps }
-        }
-
-        pub fn rows(&self) -> Option<&[u32]> {
-            let mut count = 0;
-            let rows = unsafe { dezgula_solver_rows(self.own, &mut count) };
-            // Safety: so many rows stand there, and stay until the solver works again or is freed, for which it has to be borrowed anew.
-            self.complete.then(|| if rows.is_null() { &[][..] } else { unsafe { std::slice::from_raw_parts(rows, count * self.unknowns) } })
-        }
-    }
-
-    impl Drop for Solver {
-        fn drop(&mut self) {
-            unsafe { dezgula_solver_free(self.own) }
-        }
-    }
-}
-
-/// Over the listing by sums of pairs, while the library has no solver: at most 8 equations and 16 unknowns.
-#[cfg(not(dezgula_solver))]
-mod at_work {
-    use super::{numbers, Answer, System, Told};
-    use std::time::{Duration, Instant};
-
-    extern "C" {
-        fn dezgula_raw_pairs_start(
-            p: usize,
-            q: usize,
-            coefs: *const i32,
-            coefs_len: usize,
-            table: *mut u32,
-            table_len: usize,
-            supports: *const u32,
-            supports_len: usize,
-            values: *const i64,
-            values_len: usize,
-            record: *mut u64,
-            record_len: usize,
-        ) -> u64;
-        fn dezgula_raw_pairs_resume(
-            p: usize,
-            q: usize,
-            coefs: *const i32,
-            coefs_len: usize,
-            table: *mut u32,
-            table_len: usize,
-            supports: *mut u32,
-            supports_len: usize,
-            values: *mut i64,
-            values_len: usize,
-            record: *mut u64,
-            record_len: usize,
-            budget: u64,
-        ) -> u64;
-    }
-
-    const DONE: usize = 0;
-    const ROWS: usize = 4;
-    const STEPS: usize = 5;
-
-    #[derive(Debug)]
-    pub struct Solver {
-        system: System,
-        table: Vec<u32>,
-        supports: Vec<u32>,
-        values: Vec<i64>,
-        record: [u64; 6],
-        most: usize,
-        complete: bool,
-    }
-
-    impl Solver {
-        pub fn new(system: &System) -> Result<Solver, Answer> {
-            let mut s = Solver { system: system.clone(), table: vec![], supports: vec![], values: vec![], record: [0; 6], most: usize::MAX, complete: false };
-            s.lengthen(64);
-            let m = s.system.map();
-            // Safety: every pointer is that of a slice, with its length, and lives as long as the call.
-            let answer = Answer(unsafe {
-                dezgula_raw_pairs_start(
-                    m.p,
-                    m.q,
-                    m.coefs.as_ptr(),
-                    m.coefs.len(),
-                    s.table.as_mut_ptr(),
-                    s.table.len(),
-                    s.supports.as_ptr(),
-                    s.supports.len(),
-                    s.values.as_ptr(),
-                    s.values.len(),
-                    s.record.as_mut_ptr(),
-                    6,
-                )
-            });
-            if answer.number() == numbers::STARTED {
-                Ok(s)
-            } else {
-                Err(answer)
-            }
-        }
-
-        fn lengthen(&mut self, rows: usize) -> bool {
-            let q = self.system.unknowns().min(16);
-            if rows.saturating_mul(4 * q + 12) > self.most {
-                return false;
-            }
-            let more = rows - self.values.len();
-            if self.table.try_reserve_exact(more * q).is_err() || self.supports.try_reserve_exact(more).is_err() || self.values.try_reserve_exact(more).is_err()
-            {
-                return false;
-            }
-            self.table.resize(rows * q, 0);
-            self.supports.resize(rows, 0);
-            self.values.resize(rows, 0);
-            true
-        }
-
-        fn resume(&mut self, budget: u64) -> Answer {
-            let m = self.system.map();
-            // Safety: as in the start.
-            Answer(unsafe {
-                dezgula_raw_pairs_resume(
-                    m.p,
-                    m.q,
-                    m.coefs.as_ptr(),
-                    m.coefs.len(),
-                    self.table.as_mut_ptr(),
-                    self.table.len(),
-                    self.supports.as_mut_ptr(),
-                    self.supports.len(),
-                    self.values.as_mut_ptr(),
-                    self.values.len(),
-                    self.record.as_mut_ptr(),
-                    6,
-                    budget,
-                )
-            })
-        }
-
-        pub fn work(&mut self, budget: u64) -> Answer {
-            let (begun, until) = (Instant::now(), if budget == 0 { u64::MAX } else { self.record[STEPS].saturating_add(budget) });
-            loop {
-                let answer = self.resume(if budget == 0 { 5000 } else { until - self.record[STEPS] });
-                let again = answer.number() == numbers::PAUSED && self.record[STEPS] < until && begun.elapsed() < Duration::from_millis(50);
-                let grown = answer.number() == numbers::ENGINE_FULL && self.lengthen(2 * self.values.len());
-                if !again && !grown {
-                    self.complete = answer.number() == numbers::COMPLETE;
-                    return answer;
-                }
-            }
-        }
-
-        pub fn limit(&mut self, bytes: usize) {
-            self.most = bytes;
-        }
-
-        pub fn told(&self) -> Told {
-            Told { done: self.record[DONE].count_ones() as usize, equations: self.system.equations(), rows: self.record[ROWS], steps: self.record[STEPS] }
-        }
-
-        pub fn rows(&self) -> Option<&[u32]> {
-            self.complete.then(|| &self.table[..self.record[ROWS] as usize * self.system.unknowns()])
-        }
+impl Drop for Solver {
+    fn drop(&mut self) {
+        // SAFETY: the solver was made by the library and is freed here alone; nothing borrowed from it is left.
+        unsafe { sys::dezgula_solver_free(self.own.as_ptr()) }
     }
 }

@@ -1,8 +1,10 @@
 //! Lists of tuples.
+#![forbid(unsafe_code)]
 
 use crate::answer::{numbers, Error};
 use crate::calls::Found;
 use std::iter::FusedIterator;
+use std::ops::Index;
 use std::slice::ChunksExact;
 
 /// A list of tuples, each with a component for each unknown.
@@ -10,7 +12,7 @@ use std::slice::ChunksExact;
 /// ```
 /// let list = dezgula::List::new(2, [[1, 2], [3, 4]])?;
 /// assert_eq!(list.iter().map(|row| row.iter().sum::<u32>()).collect::<Vec<_>>(), [3, 7]);
-/// assert_eq!(list.get(1), Some(&[3, 4][..]));
+/// assert_eq!((list.get(1), list.get(2), &list[0]), (Some(&[3, 4][..]), None, &[1, 2][..]));
 /// # Ok::<(), dezgula::Error>(())
 /// ```
 #[derive(Clone, Debug, PartialEq, Eq, Hash)]
@@ -40,18 +42,22 @@ impl List {
         List { unknowns, numbers: numbers.to_vec() }
     }
 
+    /// How many components a row has.
     pub fn unknowns(&self) -> usize {
         self.unknowns
     }
 
+    /// How many rows there are.
     pub fn len(&self) -> usize {
         self.numbers.len() / self.unknowns
     }
 
+    /// Whether there are none.
     pub fn is_empty(&self) -> bool {
         self.numbers.is_empty()
     }
 
+    /// The rows, one after the other.
     pub fn iter(&self) -> Rows<'_> {
         Rows::of(self.unknowns, &self.numbers)
     }
@@ -78,6 +84,15 @@ impl List {
     }
 }
 
+/// The row at a place, from 0; a place past the last panics.
+impl Index<usize> for List {
+    type Output = [u32];
+
+    fn index(&self, place: usize) -> &[u32] {
+        &self.numbers[place * self.unknowns..][..self.unknowns]
+    }
+}
+
 impl<'a> IntoIterator for &'a List {
     type Item = &'a [u32];
     type IntoIter = Rows<'a>;
@@ -89,11 +104,19 @@ impl<'a> IntoIterator for &'a List {
 
 /// The rows of a list, one after the other.
 #[derive(Clone, Debug)]
-pub struct Rows<'a>(ChunksExact<'a, u32>);
+pub struct Rows<'a> {
+    unknowns: usize,
+    rows: ChunksExact<'a, u32>,
+}
 
 impl<'a> Rows<'a> {
     pub(crate) fn of(unknowns: usize, numbers: &'a [u32]) -> Rows<'a> {
-        Rows(numbers.chunks_exact(unknowns))
+        Rows { unknowns, rows: numbers.chunks_exact(unknowns) }
+    }
+
+    /// A copy of the rows that are left.
+    pub fn to_list(&self) -> List {
+        List { unknowns: self.unknowns, numbers: self.clone().flatten().copied().collect() }
     }
 }
 
@@ -101,21 +124,21 @@ impl<'a> Iterator for Rows<'a> {
     type Item = &'a [u32];
 
     fn next(&mut self) -> Option<&'a [u32]> {
-        self.0.next()
+        self.rows.next()
     }
 
     fn size_hint(&self) -> (usize, Option<usize>) {
-        self.0.size_hint()
+        self.rows.size_hint()
     }
 
     fn nth(&mut self, n: usize) -> Option<&'a [u32]> {
-        self.0.nth(n)
+        self.rows.nth(n)
     }
 }
 
 impl DoubleEndedIterator for Rows<'_> {
     fn next_back(&mut self) -> Option<Self::Item> {
-        self.0.next_back()
+        self.rows.next_back()
     }
 }
 

@@ -1,4 +1,5 @@
 //! Runs that lend their own tables, and the kinds of them.
+#![forbid(unsafe_code)]
 
 use crate::answer::{numbers, Answer, Error, Progress};
 use crate::calls::{self, Full, Lent, Map, Record};
@@ -55,11 +56,12 @@ pub struct Training;
 pub struct TrainingLowerBound(pub Vec<u32>);
 
 /// A system with more unknowns is refused before its stack is looked at.
-fn plain_stack(q: usize) -> usize {
+pub(crate) fn plain_stack(q: usize) -> usize {
     let q = q.min(16);
     q * (q + 1)
 }
 
+/// What a kind's calls are, what they are handed besides the system, and how many numbers its stack takes.
 macro_rules! kind {
     ($kind:ty, $start:ident, $resume:ident, |$it:ident| ($($given:expr)?), |$q:ident| $length:expr) => {
         impl sealed::Calls for $kind {
@@ -140,11 +142,8 @@ impl<K: Kind> Run<K> {
             let before = self.steps();
             let answer = self.call(|kind, m, lent| kind.resume(m, lent, left));
             left = left.saturating_sub(self.steps() - before);
-            match answer.number() {
-                numbers::COMPLETE => return Ok(Progress::Complete),
-                numbers::PAUSED => return Ok(Progress::Paused),
-                numbers::LIST_FULL if self.grow() => {}
-                _ => return Err(answer.refusal()),
+            if answer.number() != numbers::LIST_FULL || !self.grow() {
+                return answer.progress();
             }
         }
     }
@@ -179,10 +178,12 @@ impl<K: Kind> Run<K> {
         self
     }
 
+    /// The system that it is a run of.
     pub fn system(&self) -> &System {
         &self.system
     }
 
+    /// Its kind, with what was given for it.
     pub fn kind(&self) -> &K {
         &self.kind
     }
@@ -205,8 +206,7 @@ impl<K: Kind> Run<K> {
 
     /// A copy of what is listed so far.
     pub fn to_list(&self) -> List {
-        let q = self.system.unknowns();
-        List::of(q, &self.list[..self.record.found as usize * q])
+        self.list().to_list()
     }
 }
 
@@ -219,7 +219,6 @@ impl<K: TwoLists> Run<K> {
 
     /// A copy of what the second list has so far.
     pub fn second_to_list(&self) -> List {
-        let q = self.system.unknowns();
-        List::of(q, &self.second[..self.record.second as usize * q])
+        self.second().to_list()
     }
 }

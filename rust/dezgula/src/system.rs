@@ -1,4 +1,5 @@
 //! Systems, and the questions about a list.
+#![forbid(unsafe_code)]
 
 use crate::answer::{numbers, Answer, Error};
 use crate::calls::{self, Map};
@@ -27,11 +28,22 @@ pub enum Reason {
     /// The tuple is all zero.
     AllZero,
     /// It does not bring this equation, the first such one, to zero, but to the amount.
-    Off { equation: usize, amount: i64 },
-    /// It is in the list, as this row.
-    Stands { row: usize },
-    /// This row lies below it.
-    Above { row: usize },
+    Off {
+        /// From 0.
+        equation: usize,
+        /// Its left side.
+        amount: i64,
+    },
+    /// It is in the list, as this row, the last such one.
+    Stands {
+        /// From 0.
+        row: usize,
+    },
+    /// This row, the last such one, lies below it.
+    Above {
+        /// From 0.
+        row: usize,
+    },
     /// Nothing listed lies below it: the list is not complete.
     Unlisted,
 }
@@ -41,8 +53,13 @@ pub enum Reason {
 pub enum Made {
     /// The rows of the list, each so many times, add up to it.
     Of(Vec<u32>),
-    /// It does not bring this equation to zero, but to the amount.
-    Off { equation: usize, amount: i64 },
+    /// It does not bring this equation, the first such one, to zero, but to the amount.
+    Off {
+        /// From 0.
+        equation: usize,
+        /// Its left side.
+        amount: i64,
+    },
     /// These rows add up to a part of it, and nothing listed lies below the rest: the list is not complete.
     Unlisted(Vec<u32>),
 }
@@ -83,10 +100,12 @@ impl System {
         Map { p: self.p, q: self.q, coefs: &self.coefs }
     }
 
+    /// How many equations it has.
     pub fn equations(&self) -> usize {
         self.p
     }
 
+    /// How many unknowns it has.
     pub fn unknowns(&self) -> usize {
         self.q
     }
@@ -168,6 +187,13 @@ impl System {
     // ---- questions
 
     /// Which row of the list is at or below a tuple: the last of such, from 0.
+    ///
+    /// ```
+    /// let system = dezgula::System::new([[1, 1, -1]])?;
+    /// let list = dezgula::List::new(3, [[0, 1, 1], [1, 0, 1]])?;
+    /// assert_eq!((system.locate(&list, &[5, 5, 5])?, system.locate(&list, &[0, 5, 5])?, system.locate(&list, &[5, 5, 0])?), (Some(1), Some(0), None));
+    /// # Ok::<(), dezgula::Error>(())
+    /// ```
     pub fn locate(&self, list: &List, tuple: &[u32]) -> Result<Option<usize>, Error> {
         self.same_unknowns(list)?;
         let answer = calls::locate(self.map(), list.found(), tuple);

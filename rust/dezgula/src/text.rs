@@ -10,6 +10,7 @@
 //! assert_eq!((refused.number(), refused.place(), refused.within()), (16, Some(2), Some(6)));
 //! # Ok::<(), dezgula::Error>(())
 //! ```
+#![forbid(unsafe_code)]
 
 use crate::answer::{numbers, Error};
 use crate::calls::{self, FileHead, MAP_COEFFICIENTS, MAP_RIGHTS};
@@ -19,7 +20,9 @@ use crate::system::System;
 /// How a run ended whose list is sent.
 #[derive(Clone, Copy, Debug, PartialEq, Eq)]
 pub enum Ending {
+    /// The list is whole.
     Complete,
+    /// It is what was listed when the run was paused.
     Paused,
 }
 

@@ -1,7 +1,9 @@
-//! The crate as a program uses it: every kind of run, pauses, lists that grow, limits, refusals, threads.
+//! The crate as a program uses it: every kind of run, pauses, lists that grow, limits, solvers kept in a file, several runs in turns, refusals, threads.
 
+use dezgula::calls::{self, EngineLent, EngineRecord};
 use dezgula::{
-    numbers, text, Desk, Error, Kind, List, LowerBound, Made, Plain, Progress, Reason, Rights, Run, SingleFile, System, Training, TrainingLowerBound,
+    numbers, text, Desk, Error, InTurn, Kind, List, LowerBound, Made, Plain, Progress, Reason, Rights, Rows, Run, Several, SingleFile, Solver, System,
+    Training, TrainingLowerBound,
 };
 
 /// Three equations with more than 64 minimal solutions, for which lists have to grow several times.
@@ -58,7 +60,7 @@ fn a_limit_is_kept_and_can_be_raised() {
 
     let mut solver = many().solver().unwrap();
     let refused = solver.limit(1).complete().unwrap_err();
-    assert_eq!((refused.number(), solver.rows()), (numbers::ENGINE_FULL, None));
+    assert_eq!((refused.number(), solver.to_list()), (numbers::ENGINE_FULL, None));
     assert_eq!(solver.limit(usize::MAX).complete().unwrap().sorted(), many().basis().unwrap().sorted());
 }
 
@@ -67,11 +69,139 @@ fn the_engine_pauses() {
     let mut solver = many().solver().unwrap();
     let mut calls = 0;
     while solver.work(50).unwrap() == Progress::Paused {
-        assert_eq!(solver.rows(), None);
+        assert!(solver.rows().is_none());
         calls += 1;
     }
     assert!(calls > 3 && solver.told().steps > 150, "{calls} {:?}", solver.told());
-    assert_eq!(solver.rows().unwrap().sorted(), many().basis().unwrap().sorted());
+    assert_eq!(solver.to_list().unwrap().sorted(), many().basis().unwrap().sorted());
+    assert_eq!(solver.rows().unwrap().collect::<Vec<_>>(), solver.to_list().unwrap().iter().collect::<Vec<_>>());
+}
+
+/// After every few turns the solver is kept, and what was kept goes on in its place.
+#[test]
+fn a_solver_is_saved_and_gone_on_with() {
+    let whole = many().basis().unwrap();
+    for budget in [40, 500] {
+        let mut solver = many().solver().unwrap();
+        while solver.work(budget).unwrap() == Progress::Paused {
+            let kept = solver.save();
+            let loaded = Solver::load(&kept).unwrap();
+            assert_eq!((loaded.told(), loaded.system(), loaded.save()), (solver.told(), many(), kept));
+            solver = loaded;
+        }
+        assert_eq!(solver.to_list().unwrap().sorted(), whole.sorted());
+        let mut complete = Solver::load(&solver.save()).unwrap();
+        assert_eq!(complete.work(1).unwrap(), Progress::Complete);
+        assert_eq!(complete.to_list(), solver.to_list());
+    }
+}
+
+/// Bytes may be any: they are refused, or a solver goes on with them and leaves no table, which valgrind sees.
+#[test]
+fn damaged_bytes_of_a_solver() {
+    let mut solver = many().solver().unwrap();
+    assert_eq!(solver.work(500).unwrap(), Progress::Paused);
+    let kept = solver.save();
+    for length in [0, 1, 4, 11, kept.len() - 4, kept.len() - 1] {
+        assert_eq!(Solver::load(&kept[..length]).unwrap_err().number(), numbers::OUT_OF_ORDER);
+    }
+    let (mut seed, mut loaded) = (7_u64, 0);
+    let mut draw = |n: usize| {
+        seed = seed.wrapping_mul(6_364_136_223_846_793_005).wrapping_add(1_442_695_040_888_963_407);
+        (seed >> 33) as usize % n
+    };
+    for _ in 0..300 {
+        let mut damaged = kept.clone();
+        for _ in 0..1 + draw(3) {
+            let among = [damaged.len(), 280][draw(2)];
+            let place = draw(among);
+            damaged[place] = if draw(2) == 0 { damaged[place] ^ 1 << draw(8) } else { 0xff };
+        }
+        let Ok(mut solver) = Solver::load(&damaged) else { continue };
+        loaded += 1;
+        let _ = solver.work(200);
+        drop((solver.save(), solver.system(), solver.to_list(), solver.told()));
+    }
+    assert!(loaded > 20, "{loaded}");
+}
+
+/// The engine's own calls in lent tables: one equation after the other, with room for so many rows.
+#[test]
+fn the_calls_of_the_engine() {
+    const ROOM: usize = 200;
+    let system = System::new([[-1, 1, 2, -3], [-1, 3, -2, -1]]).unwrap();
+    let coefs: Vec<i32> = system.rows().flatten().copied().collect();
+    let (mut equations, mut basis, mut sizes, mut table, mut values) = ([0; 8], [0; 4 * ROOM], [0; ROOM], [0; 4 * ROOM], [0; ROOM]);
+    let (mut words, mut degrees, mut marks, mut mothers, mut record) = ([0; ROOM], [0; ROOM], [0; ROOM], [0; ROOM], EngineRecord::default());
+    let mut run = EngineLent {
+        equations: &mut equations,
+        basis: &mut basis,
+        sizes: &mut sizes,
+        table: &mut table,
+        values: &mut values,
+        words: &mut words,
+        degrees: &mut degrees,
+        marks: &mut marks,
+        mothers: &mut mothers,
+        record: &mut record,
+    };
+    assert_eq!(calls::engine_start(calls::Map { p: 2, q: 4, coefs: &coefs }, &mut run).number(), numbers::STARTED);
+    assert_eq!((run.record.count, run.record.equation), (4, 2));
+    assert_eq!(calls::engine_take(2, 4, &mut run, 2, 4).number(), numbers::ENGINE_EQUATION);
+    assert_eq!(calls::engine_combine(2, 4, &mut run, 1, 0, 0, 1).number(), numbers::ENGINE_OPERATION);
+    assert_eq!(calls::engine_combine(2, 4, &mut run, 1, 1, 0, -1).number(), numbers::STARTED);
+    assert_eq!(run.equations[4..], [0, 2, -4, 2]);
+    for e in [0, 1] {
+        assert_eq!(calls::engine_take(2, 4, &mut run, e, 4).number(), numbers::STARTED);
+        while run.record.equation < 2 {
+            assert!([numbers::PAUSED, numbers::COMPLETE].contains(&calls::engine_resume(2, 4, &mut run, 3).number()));
+        }
+    }
+    assert_eq!(calls::engine_resume(2, 4, &mut run, 1).number(), numbers::COMPLETE);
+    let count = run.record.count as usize;
+    assert_eq!(List::new(4, basis.chunks(4).take(count)).unwrap().sorted(), system.basis().unwrap().sorted());
+}
+
+// ---- several runs in turns
+
+#[test]
+fn several_go_on_as_alone() {
+    let mut systems = vec![many(), System::new([[2, -3, 1]]).unwrap(), System::new([[1, 2]]).unwrap(), System::new([[97, -89, 83, -79]]).unwrap()];
+    systems.extend(systems.clone());
+    for quantum in [1, 50, 100_000] {
+        let mut several = Several::new(quantum).unwrap();
+        for (place, system) in systems.iter().enumerate() {
+            assert_eq!(several.add(system).unwrap(), place);
+        }
+        assert_eq!(several.add(&systems[0]).unwrap_err().number(), numbers::SCHEDULE);
+        assert_eq!(several.serve(20).unwrap(), several.runs().filter(|run| run.state == Ok(Progress::Paused)).count());
+        several.complete().unwrap();
+        for (run, system) in several.runs().zip(&systems) {
+            let mut alone = system.start(Plain).unwrap();
+            alone.complete().unwrap();
+            assert_eq!((run.state, run.steps, run.list.to_list()), (Ok(Progress::Complete), alone.steps(), alone.to_list()));
+            assert_eq!(run.system, system);
+        }
+    }
+}
+
+#[test]
+fn several_are_limited_refused_and_added_later() {
+    assert_eq!(Several::new(0).unwrap_err().number(), numbers::SCHEDULE);
+    let mut several = Several::new(10).unwrap();
+    assert_eq!((several.serve(5).unwrap(), several.is_empty(), several.run(0).is_none()), (0, true, true));
+    assert_eq!(several.add(&System::new([[1, 10_001]]).unwrap()).unwrap_err().place(), Some(2));
+    assert!(several.is_empty());
+    several.add(&many()).unwrap();
+    assert_eq!(several.serve(3).unwrap(), 1);
+    assert_eq!(several.run(0).unwrap().steps, 30);
+    several.add(&System::new([[2, -3]]).unwrap()).unwrap();
+    several.limit(5).complete().unwrap();
+    let states: Vec<_> = several.runs().map(|run| (run.state.map_err(|refused| refused.number()), run.list.len())).collect();
+    assert_eq!(states, [(Err(numbers::LIST_FULL), 5), (Ok(Progress::Complete), 1)]);
+    assert_eq!(several.serve(1).unwrap(), 0);
+    several.limit(usize::MAX).complete().unwrap();
+    assert_eq!(several.run(0).unwrap().list.to_list(), many().start(Plain).unwrap().complete().unwrap().to_list());
 }
 
 #[test]
@@ -146,6 +276,22 @@ fn refusals() {
     assert_eq!(refused(text::read_list(&[1; 512]).map(drop)), (20, None));
     let error: Box<dyn std::error::Error + Send + Sync> = Box::new(text::read_system("x1 = 1\nx1 + = 1\n", 1).unwrap_err());
     assert_eq!(error.to_string(), "The text is no equation, or it names an unknown that is not there. (refusal 16, place 2, there at 6)");
+}
+
+/// What is asked of a type that goes to other threads, and is shared with them.
+fn sent_and_shared<T: Send + Sync>() {}
+
+#[test]
+fn everything_may_be_sent_and_shared() {
+    sent_and_shared::<(System, List, Rows<'_>, Error, Solver, Several, InTurn<'_>)>();
+    sent_and_shared::<(Run<Plain>, Run<SingleFile>, Run<Rights>, Run<LowerBound>, Run<Desk>, Run<Training>, Run<TrainingLowerBound>)>();
+    let mut solver = many().solver().unwrap();
+    solver.complete().unwrap();
+    let asked = || (solver.rows().unwrap().count(), solver.told(), solver.save());
+    std::thread::scope(|threads| {
+        let other = threads.spawn(asked);
+        assert_eq!(asked(), other.join().unwrap());
+    });
 }
 
 #[test]

@@ -1,6 +1,7 @@
 //! One desk after the other: the calls, and a map solved desk by desk with them.
 
 use crate::library::{self, told, whole};
+use crate::words;
 use crate::{Answer, State, System};
 use dezgula::calls;
 
@@ -15,11 +16,12 @@ pub fn blank(q: usize, generators: usize, room: usize) -> State {
 const REFUSALS: [u8; 10] = [1, 2, 3, 4, 6, 7, 25, 11, 12, 14];
 
 pub fn start(m: &System, generators: &[u32], s: &mut State) -> Answer {
-    told(s.on(|lent| calls::start_desk(m.map(), whole(generators, m.q), lent)), &REFUSALS)
+    told(s.on(|lent| calls::start_desk(m.map(), whole(generators, m.q), lent), |w| words::start_desk(m.map(), generators, w)), &REFUSALS)
 }
 
 pub fn resume(m: &System, generators: &[u32], s: &mut State, budget: u64) -> Answer {
-    told(s.on(|lent| calls::resume_desk(m.map(), whole(generators, m.q), lent, budget)), &REFUSALS)
+    let given = whole(generators, m.q);
+    told(s.on(|lent| calls::resume_desk(m.map(), given, lent, budget), |w| words::resume_desk(m.map(), generators, w, budget)), &REFUSALS)
 }
 
 /// The equations of a map from one to before another.

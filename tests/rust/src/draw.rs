@@ -134,15 +134,23 @@ pub fn state(d: &mut Draw, q: usize) -> State {
     State { stack, list, record }
 }
 
+/// Sets a word of the record, where it has that word.
+fn set(s: &mut State, place: usize, word: u64) {
+    if let Some(x) = s.record.get_mut(place) {
+        *x = word;
+    }
+}
+
 /// Spoils a state in one way.
 pub fn damage_state(d: &mut Draw, q: usize, s: &mut State) {
     let room = (s.list.len() / q) as u64;
-    match d.between(0, 9) {
-        0 => s.record[HEIGHT] = d.of(&[q as u64 + 1, q as u64 + 2, u64::MAX]),
-        1 => s.record[FOUND] = d.of(&[room + 1, room + 2, u64::MAX]),
-        2 => s.record[STEPS] = d.of(&[1_000_000_000_001, u64::MAX]),
-        8 => s.record[KIND] = d.of(&[1, 2, 3, 4, 5, 6, 256, 1 << 32, u64::MAX]),
-        9 => s.record[DEEPEST] = d.of(&[16_000_001, 1 << 32, u64::MAX]),
+    match d.between(0, 10) {
+        0 => set(s, HEIGHT, d.of(&[q as u64 + 1, q as u64 + 2, u64::MAX])),
+        1 => set(s, FOUND, d.of(&[room + 1, room + 2, u64::MAX])),
+        2 => set(s, STEPS, d.of(&[1_000_000_000_001, u64::MAX])),
+        8 => set(s, KIND, d.of(&[1, 2, 3, 4, 5, 6, 256, 1 << 32, u64::MAX])),
+        9 => set(s, DEEPEST, d.of(&[16_000_001, 1 << 32, u64::MAX])),
+        10 => s.record.resize(d.of(&[0, 1, 3, 6, 8, 42]), 0),
         3 => s.stack.truncate(d.between(0, q * (q + 1))),
         4 => s.list.truncate(d.between(0, s.list.len())),
         kind => {

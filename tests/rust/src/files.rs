@@ -65,7 +65,7 @@ pub fn written(l: &List, room: usize) -> Result<Vec<u8>, Refused> {
         return Err((7, i + 1));
     }
     let count = l.rows.len() / l.q;
-    if l.rows.len() % l.q != 0 || count > 4096 || l.ending > 1 || l.rows.iter().any(|x| *x > 1_000_000) {
+    if count * l.q != l.rows.len() || count > 4096 || l.ending > 1 || l.rows.iter().any(|x| *x > 1_000_000) {
         return refuse(22);
     }
     if room != length(l) {

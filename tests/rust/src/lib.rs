@@ -8,11 +8,11 @@ pub mod files; // lists as files: the calls, and the same in plain Rust
 pub mod library; // the calls of the crate on the states of the tests
 pub mod lower; // runs from a lower bound: the calls, and the same in plain Rust
 pub mod model; // the same calls, in plain Rust straight from the document
-pub mod pairs; // the basis by sums of pairs: the calls, and the same in plain Rust
 pub mod questions; // why a tuple is not listed, and what it is made of: the calls, and the same in plain Rust
 pub mod sides; // maps with right sides: the calls, and the same in plain Rust
 pub mod tally; // how often each answer was given
 pub mod training; // the training seat: the calls, and what they are in terms of the office's
+pub mod words; // the proved functions on records of other lengths
 
 /// A map. Nothing here says that it is in order: the calls have to find out.
 #[derive(Clone, Debug, PartialEq, Eq)]

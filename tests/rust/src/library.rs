@@ -1,5 +1,7 @@
-//! The calls of the crate `dezgula` on the states of the tests: the words of a record go in and come out, and an answer that the call cannot give is none.
+//! The calls of the crate `dezgula` on the states of the tests: the words of a record go in and come out, and an answer that the call cannot give is none. A
+//! record of another length, which the crate cannot hand over, goes to the proved function under the call.
 
+use crate::words::{self, Words};
 use crate::{Answer, Listed, Located, Shown, State, System, WORDS};
 use dezgula::calls::{self, Found, Lent, Map, Part, Record, Round, Share, Turn};
 
@@ -19,21 +21,24 @@ pub fn record(words: &[u64]) -> Record {
     Record { height, found, steps, kind, second, before, deepest }
 }
 
-fn words(r: &Record) -> [u64; WORDS] {
+fn words_of(r: &Record) -> [u64; WORDS] {
     [r.height, r.found, r.steps, r.kind, r.second, r.before, r.deepest]
 }
 
-/// A call on tables and on a record as words.
-pub fn on(stack: &mut [u32], [list, second]: [&mut [u32]; 2], own: &mut [u64], call: impl FnOnce(&mut Lent) -> dezgula::Answer) -> dezgula::Answer {
-    let mut record = record(own);
-    let answer = call(&mut Lent { stack, list, second, record: &mut record });
-    own.copy_from_slice(&words(&record));
+/// A call on tables and on a record as words: that of the crate, or where the record is not as long as its own, the proved function.
+pub fn on(mut w: Words, call: impl FnOnce(&mut Lent) -> dezgula::Answer, raw: impl FnOnce(&mut Words) -> dezgula::Answer) -> dezgula::Answer {
+    if w.record.len() != WORDS {
+        return raw(&mut w);
+    }
+    let (mut record, [list, second]) = (record(w.record), w.lists);
+    let answer = call(&mut Lent { stack: w.stack, list, second, record: &mut record });
+    w.record.copy_from_slice(&words_of(&record));
     answer
 }
 
 impl State {
-    pub fn on(&mut self, call: impl FnOnce(&mut Lent) -> dezgula::Answer) -> dezgula::Answer {
-        on(&mut self.stack, [&mut self.list, &mut []], &mut self.record, call)
+    pub fn on(&mut self, call: impl FnOnce(&mut Lent) -> dezgula::Answer, raw: impl FnOnce(&mut Words) -> dezgula::Answer) -> dezgula::Answer {
+        on(Words { stack: &mut self.stack, lists: [&mut self.list, &mut []], record: &mut self.record }, call, raw)
     }
 }
 
@@ -59,19 +64,19 @@ pub fn shown(answer: dezgula::Answer) -> Shown {
 const REFUSALS: [u8; 10] = [1, 2, 3, 4, 6, 7, 11, 12, 14, 26];
 
 pub fn start(m: &System, s: &mut State) -> Answer {
-    told(s.on(|lent| calls::start(m.map(), lent)), &REFUSALS)
+    told(s.on(|lent| calls::start(m.map(), lent), |w| words::start(m.map(), w)), &REFUSALS)
 }
 
 pub fn resume(m: &System, s: &mut State, budget: u64) -> Answer {
-    told(s.on(|lent| calls::resume(m.map(), lent, budget)), &REFUSALS)
+    told(s.on(|lent| calls::resume(m.map(), lent, budget), |w| words::resume(m.map(), w, budget)), &REFUSALS)
 }
 
 pub fn start_single_file(m: &System, s: &mut State) -> Answer {
-    told(s.on(|lent| calls::start_single_file(m.map(), lent)), &REFUSALS)
+    told(s.on(|lent| calls::start_single_file(m.map(), lent), |w| words::start_single_file(m.map(), w)), &REFUSALS)
 }
 
 pub fn resume_single_file(m: &System, s: &mut State, budget: u64) -> Answer {
-    told(s.on(|lent| calls::resume_single_file(m.map(), lent, budget)), &REFUSALS)
+    told(s.on(|lent| calls::resume_single_file(m.map(), lent, budget), |w| words::resume_single_file(m.map(), w, budget)), &REFUSALS)
 }
 
 pub fn listing(m: &System, list: &[u32], found: usize, out: &mut [u8]) -> Listed {
@@ -111,7 +116,7 @@ fn round(own: &[u64]) -> Round {
 }
 
 fn round_words(r: &Round) -> Vec<u64> {
-    let turn = |t: &Turn| [&words(&t.record)[..], &[t.answer & 0xff, t.answer >> 8]].concat();
+    let turn = |t: &Turn| [&words_of(&t.record)[..], &[t.answer & 0xff, t.answer >> 8]].concat();
     [r.last, r.steps].into_iter().chain(r.runs.iter().flat_map(turn)).collect()
 }
 
@@ -119,6 +124,11 @@ fn round_words(r: &Round) -> Vec<u64> {
 pub fn dispatch(quantum: u64, turns: u64, shares: &[[usize; 8]], coefs: &[i32], s: &mut State) -> u8 {
     let part = |start, size| Part { start, size };
     let share = |w: &[usize; 8]| Share { p: w[0], q: w[1], coefs: part(w[2], w[3]), stack: part(w[4], w[5]), list: part(w[6], w[7]) };
+    if s.record.len() != ROUND {
+        let own: Vec<u64> = shares.iter().flatten().map(|&word| word as u64).collect();
+        let mut w = Words { stack: &mut s.stack, lists: [&mut s.list, &mut []], record: &mut s.record };
+        return words::dispatch(shares.len(), quantum, turns, &own, coefs, &mut w).number();
+    }
     let shares: Vec<Share> = shares.iter().map(share).collect();
     let mut own = round(&s.record);
     let answer = calls::dispatch(&shares, coefs, &mut s.stack, &mut s.list, &mut own, quantum, turns);

@@ -3,6 +3,7 @@
 use crate::draw::{self, Draw};
 use crate::library::told;
 use crate::sides::{Lent, COUNTS};
+use crate::words;
 use crate::{Answer, System, BEFORE, DEEPEST, HEIGHT, KIND, STEPS};
 use dezgula::calls;
 
@@ -31,11 +32,11 @@ pub fn blank(q: usize, rooms: [usize; 2]) -> Lent {
 const REFUSALS: [u8; 11] = [1, 2, 3, 4, 5, 6, 7, 8, 11, 12, 14];
 
 pub fn start(m: &Bounded, s: &mut Lent) -> Answer {
-    told(s.on(|lent| calls::start_from(m.map.map(), &m.lower, lent)), &REFUSALS)
+    told(s.on(|lent| calls::start_from(m.map.map(), &m.lower, lent), |w| words::start_from(m.map.map(), &m.lower, w)), &REFUSALS)
 }
 
 pub fn resume(m: &Bounded, s: &mut Lent, budget: u64) -> Answer {
-    told(s.on(|lent| calls::resume_from(m.map.map(), &m.lower, lent, budget)), &REFUSALS)
+    told(s.on(|lent| calls::resume_from(m.map.map(), &m.lower, lent, budget), |w| words::resume_from(m.map.map(), &m.lower, w, budget)), &REFUSALS)
 }
 
 // ---- the same in plain Rust
@@ -43,7 +44,7 @@ pub fn resume(m: &Bounded, s: &mut Lent, budget: u64) -> Answer {
 pub mod model {
     use super::{Bounded, LIST, PLAIN_WALK, SECOND_LIST, WALK_ABOVE};
     use crate::sides::{Lent, COUNTS};
-    use crate::{Answer, BEFORE, DEEPEST, HEIGHT, KIND, STEPS};
+    use crate::{Answer, BEFORE, DEEPEST, HEIGHT, KIND, STEPS, WORDS};
 
     const COMPONENT_LIMIT: u32 = 1_000_000;
     const STEP_LIMIT: u64 = 1_000_000_000_000;
@@ -71,6 +72,10 @@ pub mod model {
         refuse_if(m.lower.len() != q, 5)
     }
 
+    fn check_record(s: &Lent) -> Check {
+        refuse_if(s.record.len() != WORDS, 6)
+    }
+
     fn at_or_below(a: &[u32], b: &[u32]) -> bool {
         a.iter().zip(b).all(|(x, y)| x <= y)
     }
@@ -81,6 +86,7 @@ pub mod model {
 
     /// "6 covers each list's count and each walk's steps, a floor-walk row not at or above the floor, and a record of another kind."
     fn check_order(m: &Bounded, s: &Lent) -> Check {
+        check_record(s)?;
         let (q, r) = (m.map.q, &s.record);
         refuse_if(r[KIND] != PLAIN_WALK && r[KIND] != WALK_ABOVE, 6)?;
         refuse_if(r[HEIGHT] > q as u64 || r[STEPS] > STEP_LIMIT || r[BEFORE] > STEP_LIMIT || r[DEEPEST] > SUM_LIMIT, 6)?;
@@ -112,6 +118,7 @@ pub mod model {
     /// "The start writes as a plain one."
     fn try_start(m: &Bounded, s: &mut Lent) -> Check {
         check_shape(m, s)?;
+        check_record(s)?;
         check_ranges(m)?;
         for k in 0..m.map.q {
             let unit: Vec<u32> = (0..m.map.q).map(|j| u32::from(j == k)).collect();
@@ -270,7 +277,7 @@ pub fn state(d: &mut Draw, m: &Bounded) -> Lent {
 pub fn damage_state(d: &mut Draw, q: usize, s: &mut Lent) {
     let at = d.between(0, 1);
     let room = (s.lists[at].len() / q) as u64;
-    let (place, word) = match d.between(0, 8) {
+    let (place, word) = match d.between(0, 9) {
         0 => (HEIGHT, d.of(&[q as u64 + 1, q as u64 + 2, u64::MAX])),
         1 => (COUNTS[at], d.of(&[room + 1, room + 2, u64::MAX])),
         2 => (STEPS, d.of(&[1_000_000_000_001, u64::MAX])),
@@ -279,6 +286,7 @@ pub fn damage_state(d: &mut Draw, q: usize, s: &mut Lent) {
         5 => (DEEPEST, d.of(&[16_000_001, 1 << 32, u64::MAX])),
         6 => return s.stack.truncate(d.between(0, q * (q + 1))),
         7 => return s.lists[at].truncate(d.between(0, s.lists[at].len())),
+        8 => return s.record.resize(d.of(&[0, 1, 6, 8, 42]), 0),
         _ => {
             let place = d.between(0, q * (q + 1));
             let wrong = d.of(&[0, 1, 1_000_001, 1 << 16, 1 << 31, u32::MAX]);
@@ -288,5 +296,7 @@ pub fn damage_state(d: &mut Draw, q: usize, s: &mut Lent) {
             return;
         }
     };
-    s.record[place] = word;
+    if s.record.len() > place {
+        s.record[place] = word;
+    }
 }

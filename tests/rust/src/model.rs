@@ -1,6 +1,6 @@
 //! Document 01 in plain Rust, in its own order. Images are computed anew for each row, and nothing is shared with the library.
 
-use crate::{Answer, Listed, Located, Shown, State, System, DEEPEST, FOUND, HEIGHT, KIND, STEPS};
+use crate::{Answer, Listed, Located, Shown, State, System, DEEPEST, FOUND, HEIGHT, KIND, STEPS, WORDS};
 
 const COMPONENT_LIMIT: u32 = 1_000_000;
 const STEP_LIMIT: u64 = 1_000_000_000_000;
@@ -26,7 +26,13 @@ fn check_shape(m: &System, s: &State) -> Check {
     refuse_if(s.stack.len() < m.q * (m.q + 1), 4)
 }
 
+/// A record of another length than its seven words is out of order, for a start too.
+fn check_record(s: &State) -> Check {
+    refuse_if(s.record.len() != WORDS, 6)
+}
+
 fn check_order(m: &System, s: &State) -> Check {
+    check_record(s)?;
     refuse_if(s.record[KIND] != PLAIN, 6)?;
     refuse_if(s.height() > m.q || s.found() > room(m, s) || s.steps() > STEP_LIMIT || s.deepest() > SUM_LIMIT, 6)?;
     for (k, row) in s.stack.chunks(m.q + 1).take(s.height()).enumerate() {
@@ -60,6 +66,7 @@ fn write_row(q: usize, stack: &mut [u32], k: usize, tuple: &[u32], marks: u32) {
 
 fn try_start(m: &System, s: &mut State) -> Check {
     check_shape(m, s)?;
+    check_record(s)?;
     check_coefficients(m)?;
     for k in 0..m.q {
         let unit: Vec<u32> = (0..m.q).map(|j| u32::from(j == k)).collect();
@@ -193,7 +200,7 @@ fn check_profile(m: &System) -> Check {
 }
 
 pub fn start_single_file(m: &System, s: &mut State) -> Answer {
-    let checks = || check_shape(m, s).and_then(|()| check_coefficients(m)).and_then(|()| check_profile(m));
+    let checks = || check_shape(m, s).and_then(|()| check_record(s)).and_then(|()| check_coefficients(m)).and_then(|()| check_profile(m));
     match checks() {
         Err(refusal) => refusal,
         Ok(()) => start(m, s),

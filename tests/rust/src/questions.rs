@@ -106,9 +106,8 @@ pub fn expected_reason(m: &System, list: &[u32], found: usize, tuple: &[u32]) ->
 
 /// Each row is taken off one at a time, as long as it goes, the last row first; a row of zeros never goes.
 pub fn expected_parts(m: &System, list: &[u32], found: usize, tuple: &[u32], times: &mut [u32]) -> Parts {
-    match expected_reason(m, list, found, tuple) {
-        why @ (Reason::Refused(..) | Reason::Off(..)) => return Parts::Not(why),
-        _ => {}
+    if let why @ (Reason::Refused(..) | Reason::Off(..)) = expected_reason(m, list, found, tuple) {
+        return Parts::Not(why);
     }
     if times.len() < found {
         return Parts::NoSpace;

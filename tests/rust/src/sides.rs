@@ -2,6 +2,7 @@
 
 use crate::draw::{self, Draw};
 use crate::library::{on, shown, told};
+use crate::words::{self, Words};
 use crate::{Answer, Shown, System, DEEPEST, FOUND, HEIGHT, KIND, SECOND, STEPS};
 use dezgula::calls::{self, Map, Record};
 
@@ -42,20 +43,20 @@ impl Lent {
 // ---- the library's calls
 
 impl Lent {
-    pub fn on(&mut self, call: impl FnOnce(&mut calls::Lent) -> dezgula::Answer) -> dezgula::Answer {
+    pub fn on(&mut self, call: impl FnOnce(&mut calls::Lent) -> dezgula::Answer, raw: impl FnOnce(&mut Words) -> dezgula::Answer) -> dezgula::Answer {
         let [list, second] = &mut self.lists;
-        on(&mut self.stack, [list, second], &mut self.record, call)
+        on(Words { stack: &mut self.stack, lists: [list, second], record: &mut self.record }, call, raw)
     }
 }
 
 const REFUSALS: [u8; 10] = [1, 2, 3, 4, 6, 7, 11, 12, 14, 15];
 
 pub fn start(m: &Sided, s: &mut Lent) -> Answer {
-    told(s.on(|lent| calls::start_rights(m.map.map(), &m.rights, lent)), &REFUSALS)
+    told(s.on(|lent| calls::start_rights(m.map.map(), &m.rights, lent), |w| words::start_rights(m.map.map(), &m.rights, w)), &REFUSALS)
 }
 
 pub fn resume(m: &Sided, s: &mut Lent, budget: u64) -> Answer {
-    told(s.on(|lent| calls::resume_rights(m.map.map(), &m.rights, lent, budget)), &REFUSALS)
+    told(s.on(|lent| calls::resume_rights(m.map.map(), &m.rights, lent, budget), |w| words::resume_rights(m.map.map(), &m.rights, w, budget)), &REFUSALS)
 }
 
 /// Row n of the list at 0 or at 1, which has `found` rows.
@@ -72,7 +73,7 @@ pub fn row(lists: &[Vec<u32>; 2], at: usize, q: usize, found: usize, n: usize, o
 
 pub mod model {
     use super::{Lent, Sided, CAPPED, COUNTS};
-    use crate::{Answer, Shown, DEEPEST, HEIGHT, KIND, STEPS};
+    use crate::{Answer, Shown, DEEPEST, HEIGHT, KIND, STEPS, WORDS};
 
     type Check = Result<(), Answer>;
 
@@ -97,6 +98,10 @@ pub mod model {
         refuse_if(s.stack.len() < (q + 1) * (q + 2), 4)
     }
 
+    fn check_record(s: &Lent) -> Check {
+        refuse_if(s.record.len() != WORDS, 6)
+    }
+
     /// "15, a right side out of range, comes after 7"
     fn check_ranges(m: &Sided) -> Check {
         if let Some(place) = m.map.coefs.iter().position(|c| !in_range(c)) {
@@ -110,6 +115,7 @@ pub mod model {
     }
 
     fn check_order(m: &Sided, s: &Lent) -> Check {
+        check_record(s)?;
         let r = &s.record;
         refuse_if(r[KIND] != CAPPED || r[HEIGHT] > m.map.q as u64 + 1 || r[STEPS] > 1_000_000_000_000 || r[DEEPEST] > 16_000_000, 6)?;
         refuse_if((0..2).any(|at| r[COUNTS[at]] > room(m, s, at)), 6)?;
@@ -133,6 +139,7 @@ pub mod model {
 
     fn try_start(m: &Sided, s: &mut Lent) -> Check {
         check_shape(m, s)?;
+        check_record(s)?;
         check_ranges(m)?;
         let width = m.map.q + 1;
         for k in 0..width {
@@ -294,7 +301,7 @@ pub fn state(d: &mut Draw, q: usize) -> Lent {
 pub fn damage_state(d: &mut Draw, q: usize, s: &mut Lent) {
     let rooms = [0, 1].map(|at| (s.lists[at].len() / q) as u64);
     let at = d.between(0, 1);
-    let (place, word) = match d.between(0, 7) {
+    let (place, word) = match d.between(0, 8) {
         0 => (HEIGHT, d.of(&[q as u64 + 2, q as u64 + 3, u64::MAX])),
         1 => (COUNTS[at], d.of(&[rooms[at] + 1, rooms[at] + 2, u64::MAX])),
         2 => (STEPS, d.of(&[1_000_000_000_001, u64::MAX])),
@@ -302,6 +309,7 @@ pub fn damage_state(d: &mut Draw, q: usize, s: &mut Lent) {
         4 => (DEEPEST, d.of(&[16_000_001, 1 << 32, u64::MAX])),
         5 => return s.stack.truncate(d.between(0, (q + 1) * (q + 2))),
         6 => return s.lists[at].truncate(d.between(0, s.lists[at].len())),
+        7 => return s.record.resize(d.of(&[0, 1, 6, 8, 42]), 0),
         _ => {
             let (k, j) = (d.between(0, q), d.between(0, q + 1));
             let wrong = d.of(&[2, 3, 1_000_001, 1 << 16, 1 << 31, u32::MAX]);
@@ -311,5 +319,7 @@ pub fn damage_state(d: &mut Draw, q: usize, s: &mut Lent) {
             return;
         }
     };
-    s.record[place] = word;
+    if s.record.len() > place {
+        s.record[place] = word;
+    }
 }

@@ -3,6 +3,7 @@
 use crate::library::told;
 use crate::lower::{self, Bounded};
 use crate::sides::Lent;
+use crate::words;
 use crate::{library, Answer, State, System, HEIGHT};
 use dezgula::calls;
 
@@ -13,19 +14,21 @@ pub const SEAT_LIMIT: u32 = 20;
 const REFUSALS: [u8; 12] = [1, 2, 3, 4, 5, 6, 7, 8, 11, 14, 23, 24];
 
 pub fn start(m: &System, s: &mut State) -> Answer {
-    told(s.on(|lent| calls::start_training(m.map(), lent)), &REFUSALS)
+    told(s.on(|lent| calls::start_training(m.map(), lent), |w| words::start_training(m.map(), w)), &REFUSALS)
 }
 
 pub fn resume(m: &System, s: &mut State, budget: u64) -> Answer {
-    told(s.on(|lent| calls::resume_training(m.map(), lent, budget)), &REFUSALS)
+    told(s.on(|lent| calls::resume_training(m.map(), lent, budget), |w| words::resume_training(m.map(), w, budget)), &REFUSALS)
 }
 
 pub fn start_from(m: &Bounded, s: &mut Lent) -> Answer {
-    told(s.on(|lent| calls::start_training_from(m.map.map(), &m.lower, lent)), &REFUSALS)
+    let (map, lower) = (m.map.map(), &m.lower);
+    told(s.on(|lent| calls::start_training_from(map, lower, lent), |w| words::start_training_from(map, lower, w)), &REFUSALS)
 }
 
 pub fn resume_from(m: &Bounded, s: &mut Lent, budget: u64) -> Answer {
-    told(s.on(|lent| calls::resume_training_from(m.map.map(), &m.lower, lent, budget)), &REFUSALS)
+    let (map, lower) = (m.map.map(), &m.lower);
+    told(s.on(|lent| calls::resume_training_from(map, lower, lent, budget), |w| words::resume_training_from(map, lower, w, budget)), &REFUSALS)
 }
 
 // ---- what the seat says, from what the office does

@@ -82,6 +82,13 @@ fn records_of_other_runs_are_refused() {
     for kind in [0, 1, 2, 3, 5, 6, u64::MAX] {
         unlike(&|t| t.record[KIND] = kind, 6);
     }
+    for length in [0, 1, 6, 8, 42] {
+        unlike(&|t| t.record.resize(length, 0), 6);
+        let mut t = s.clone();
+        t.record.resize(length, 0);
+        let before = t.clone();
+        assert_eq!((start(&second, &rows, &mut t), &t), (Answer::refused(6), &before), "a start with a record of {length} words");
+    }
     unlike(&|t| t.stack.truncate(35), 4);
     unlike(&|t| t.record[HEIGHT] = 7, 6);
     let mut t = s.clone();

@@ -4,6 +4,7 @@ use dezgula_tests::library::{self, ROUND, TURN};
 use dezgula_tests::{draw, draw::Draw, model, Answer, State, System, DEEPEST, KIND, STEPS, WORDS};
 
 const SERVED: u8 = 110;
+const SCHEDULE: u8 = 27;
 
 fn at(i: usize) -> usize {
     2 + TURN * i
@@ -47,6 +48,10 @@ fn each_run_as_alone() {
             whole.record[at(i)..at(i) + WORDS].copy_from_slice(&s.record);
         }
         let quantum = d.of(&[1, 2, 3, 10, 100]);
+        let mut another = whole.clone();
+        another.record.resize(d.of(&[0, 1, ROUND - TURN, ROUND - 1, ROUND + 1, 100]), 0);
+        let before = another.clone();
+        assert_eq!((library::dispatch(quantum, 1, &shares, &coefs, &mut another), &another), (SCHEDULE, &before), "a dispatcher's record of another length");
         for _ in 0..40 {
             let before = whole.record.clone();
             assert_eq!(library::dispatch(quantum, 1, &shares, &coefs, &mut whole), SERVED);

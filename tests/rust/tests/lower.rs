@@ -35,8 +35,10 @@ fn started(m: &Bounded, rooms: [usize; 2]) -> Lent {
 
 // ---- by hand
 
+type Listed = Vec<Vec<u32>>;
+
 /// The answer, both lists, and the steps above the bound, the plain steps and the greatest sum.
-fn whole(rows: &[&[i32]], bound: &[u32]) -> (Answer, Vec<Vec<u32>>, Vec<Vec<u32>>, [u64; 3]) {
+fn whole(rows: &[&[i32]], bound: &[u32]) -> (Answer, Listed, Listed, [u64; 3]) {
     let m = bounded(rows, bound);
     let mut s = started(&m, [50, 50]);
     let answer = lower::resume(&m, &mut s, u64::MAX);

@@ -3,11 +3,8 @@ use borrow.Author.Needs.{needs}
 use Rattle.calls.proofs.left.Statement.{statement}
 use Rattle.calls.proofs.left.Tie as tie
 
-of-requires : tie.Need-of-requires
-of-requires c κs = search needs
-
 returns : tie.Need-returns
 returns c = rw (c .of .ensures)
 
 pub left-spec : {M : Type 1} → statement M
-left-spec = tie.close (tie.spec of-requires returns)
+left-spec = tie.close (tie.spec (λ c κs. search needs) returns)

@@ -1,14 +1,11 @@
 -- `admitted` meets its contract: of a plain walk all candidates are put to the first list. Assumes nothing.
-use mathlib.Core.Path.{_≡_, _∙_, ap}
+use mathlib.Core.Path.{_∙_, ap}
 use mathlib.Core.List.{[]}
-use native.Mathlib.Omega.{arith}
 use lib.ListN.{length}
 use denote.Ref.{now}
 use borrow.Author.Needs.{needs}
-use Rattle.definitions.specs.Input.{boundOf}
-use Rattle.definitions.specs.System.{above, capped, plain}
+use Rattle.definitions.specs.System.{plain}
 use Rattle.lists.specs.Rows.{rows-fit, tuple}
-use Rattle.candidates.specs.GrowLaws.{open-asked}
 use Rattle.candidates.specs.Kinds.{asked}
 use Rattle.candidates.specs.Open.{open-plain}
 use Rattle.candidates.specs.Tried.{tried-open}
@@ -16,9 +13,6 @@ use Rattle.candidates.proofs.admitted.Statement.{statement}
 use Rattle.candidates.proofs.admitted.Tie as tie
 
 -- ---- a plain walk
-
-enum-told : tie.Need-enum-told
-enum-told c = search needs
 
 children-requires : tie.Need-children-requires
 children-requires c κs =
@@ -58,4 +52,4 @@ returns-2 : tie.Need-returns-2
 returns-2 c = c .before .before .sifted .ensures
 
 pub admitted-spec : {M : Type 1} → statement M
-admitted-spec = tie.close (tie.spec enum-told children-requires sifted-requires same-length returns same-length-2 returns-2)
+admitted-spec = tie.close (tie.spec (λ c. search needs) children-requires sifted-requires same-length returns same-length-2 returns-2)

@@ -4,12 +4,6 @@ use Rattle.candidates.specs.Open.{apart-marked, differs-limited}
 use Rattle.candidates.proofs.apart.Statement.{statement}
 use Rattle.candidates.proofs.apart.Tie as tie
 
-subtract-requires : tie.Need-subtract-requires
-subtract-requires c κs = search needs
-
-slice-aggregate-unstopped : tie.Need-slice-aggregate-unstopped
-slice-aggregate-unstopped c = search needs
-
 unstopped-requires : tie.Need-unstopped-requires
 unstopped-requires c κs =
     let d = c .before in
@@ -25,4 +19,4 @@ returns c =
 
 pub apart-spec : {M : Type 1} → statement M
 apart-spec =
-    tie.close (tie.spec subtract-requires slice-aggregate-unstopped unstopped-requires returns)
+    tie.close (tie.spec (λ c κs. search needs) (λ c. search needs) unstopped-requires returns)

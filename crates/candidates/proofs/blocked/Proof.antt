@@ -29,37 +29,16 @@ module _ (s : tie.Start) where
       ∙ getD-drop (s .args .from) raised j 0
       ∙ set-raise (now (s .args .t)) (s .args .i) (s .pre .0) (s .args .from + j)
 
-mul-t : tie.Need-mul-t
-mul-t c = search needs
-
-slice-read-t : tie.Need-slice-read-t
-slice-read-t c = search needs
-
-add-t : tie.Need-add-t
-add-t c = search needs
-
-slice-write-t : tie.Need-slice-write-t
-slice-write-t c = search needs
-
-mul-covered : tie.Need-mul-covered
-mul-covered c = search needs
-
 sub-covered : tie.Need-sub-covered
 sub-covered c = let s = c .before .before .before in omega (arith, raised-long s, s .pre .2)
 
 part-covered-start : tie.Need-part-covered-start
 part-covered-start c = let s = c .before .before .before .before in omega (arith, raised-long s, s .pre .2)
 
-part-covered-end : tie.Need-part-covered-end
-part-covered-end c = search needs
-
 covered-requires : tie.Need-covered-requires
 covered-requires c κs =
     let s = c .before .before .before .before .before in
     (s .pre .1, simp (length-take, length-drop) (omega (arith, raised-long s, s .pre .2)), s .pre .3)
-
-mul-t-2 : tie.Need-mul-t-2
-mul-t-2 c = search needs
 
 slice-read-t-2 : tie.Need-slice-read-t-2
 slice-read-t-2 c = let s = c .before .before .before .before .before .before .before in omega (arith, raised-long s, s .pre .0)
@@ -87,16 +66,16 @@ pub blocked-spec : {M : Type 1} → statement M
 blocked-spec =
     tie.close
     (tie.spec
-    mul-t
-    slice-read-t
-    add-t
-    slice-write-t
-    mul-covered
+    (λ c. search needs)
+    (λ c. search needs)
+    (λ c. search needs)
+    (λ c. search needs)
+    (λ c. search needs)
     sub-covered
     part-covered-start
-    part-covered-end
+    (λ c. search needs)
     covered-requires
-    mul-t-2
+    (λ c. search needs)
     slice-read-t-2
     sub-t
     slice-write-t-2

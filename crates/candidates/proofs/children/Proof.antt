@@ -198,9 +198,6 @@ loop-again-2 c =
           (rw (ne-eqb (tuple (now (begun l .args .t)) (unknown l)) (begun l .args .limit) (below c), and-false)),
     )
 
-same-length-2 : tie.Need-same-length-2 Inv-loop μ-loop
-same-length-2 c = search needs
-
 returns-2 : tie.Need-returns-2 Inv-loop μ-loop
 returns-2 c =
     let a = c .before in
@@ -229,5 +226,5 @@ children-spec =
     add-made
     loop-less-2
     loop-again-2
-    same-length-2
+    (λ c. search needs)
     returns-2)

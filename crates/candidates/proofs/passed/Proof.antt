@@ -1,5 +1,5 @@
 -- `passed` meets its contract. Assumes nothing.
-use mathlib.Core.Path.{_≡_, sym, _∙_, ap, subst}
+use mathlib.Core.Path.{sym, _∙_, ap, subst}
 use Prim.Native.Nat.{_^_, _<_}
 use lib.ListN.{length}
 use borrow.Author.Needs.{needs}
@@ -7,9 +7,6 @@ use Rattle.products.specs.Marks.{marks-below}
 use Rattle.candidates.specs.Tried.{tried-marks}
 use Rattle.candidates.proofs.passed.Statement.{statement}
 use Rattle.candidates.proofs.passed.Tie as tie
-
-unstopped-requires : tie.Need-unstopped-requires
-unstopped-requires c κs = search needs
 
 limited-requires : tie.Need-limited-requires
 limited-requires c κs =
@@ -30,4 +27,4 @@ returns c =
     )
 
 pub passed-spec : {M : Type 1} → statement M
-passed-spec = tie.close (tie.spec unstopped-requires limited-requires same-length returns)
+passed-spec = tie.close (tie.spec (λ c κs. search needs) limited-requires same-length returns)

@@ -1,5 +1,5 @@
 -- `sifted` meets its contract: what the cap and the second list leave is put to the first list. Assumes nothing.
-use mathlib.Core.Path.{_≡_, _∙_, ap}
+use mathlib.Core.Path.{_∙_, ap}
 use mathlib.Core.List.{[]}
 use native.Mathlib.Omega.{arith}
 use lib.ListN.{length}
@@ -17,9 +17,6 @@ use Rattle.candidates.proofs.sifted.Tie as tie
 
 -- ---- a plain walk
 
-enum-told : tie.Need-enum-told
-enum-told c = search needs
-
 passed-requires : tie.Need-passed-requires
 passed-requires c κs =
     let e = c .before in
@@ -28,9 +25,6 @@ passed-requires c κs =
     (((p .0 .0 .0, omega arith), p .0 .0 .1, rows-fit _ _ (s .args .found) (p .0 .0 .2), p .1 .0 .1, p .1 .0 .2), (p .1 .1 .0, p .1 .1 .1))
 
 -- ---- a capped walk
-
-enum-told-2 : tie.Need-enum-told-2
-enum-told-2 c = search needs
 
 uncapped-requires : tie.Need-uncapped-requires
 uncapped-requires c κs =
@@ -57,9 +51,6 @@ passed-requires-2 c κs =
     )
 
 -- ---- a walk above a lower bound
-
-enum-told-3 : tie.Need-enum-told-3
-enum-told-3 c = search needs
 
 apart-requires : tie.Need-apart-requires
 apart-requires c κs =
@@ -141,13 +132,13 @@ pub sifted-spec : {M : Type 1} → statement M
 sifted-spec =
     tie.close
     (tie.spec
-    enum-told
+    (λ c. search needs)
     passed-requires
-    enum-told-2
+    (λ c. search needs)
     uncapped-requires
     sub-passed
     passed-requires-2
-    enum-told-3
+    (λ c. search needs)
     apart-requires
     passed-requires-3
     same-length

@@ -1,5 +1,4 @@
 -- `subtract` meets its contract. Assumes nothing.
-use mathlib.Core.Path.{_≡_}
 use Prim.Native.Nat.{_-_, _≤_}
 use native.Mathlib.Nat.{le-antisymm}
 use native.Mathlib.Omega.{arith}
@@ -19,32 +18,11 @@ abbrev μ-loop : tie.MeasureT-loop
 loop-holds : tie.Need-loop-holds Inv-loop μ-loop
 loop-holds c = (search needs, differs-none (c .pre .0 .3))
 
-mul-over : tie.Need-mul-over Inv-loop μ-loop
-mul-over c = search needs
-
-shared-slice-read-over : tie.Need-shared-slice-read-over Inv-loop μ-loop
-shared-slice-read-over c = search needs
-
-mul-over-2 : tie.Need-mul-over-2 Inv-loop μ-loop
-mul-over-2 c = search needs
-
-shared-slice-read-over-2 : tie.Need-shared-slice-read-over-2 Inv-loop μ-loop
-shared-slice-read-over-2 c = search needs
-
 sub-over : tie.Need-sub-over Inv-loop μ-loop
 sub-over c = let l = c .before .before in omega (arith, l .before .before .pre .1 (l .before .loop .j) (l .loop-test .taken))
 
-mul-over-3 : tie.Need-mul-over-3 Inv-loop μ-loop
-mul-over-3 c = search needs
-
 element-write-over : tie.Need-element-write-over Inv-loop μ-loop
 element-write-over c = let l = c .before .before in omega (arith, l .before .loop .inv .1 .size, l .before .before .pre .0 .0, l .loop-test .taken)
-
-add-j : tie.Need-add-j Inv-loop μ-loop
-add-j c = search needs
-
-loop-less : tie.Need-loop-less Inv-loop μ-loop
-loop-less c = search needs
 
 loop-again : tie.Need-loop-again Inv-loop μ-loop
 loop-again c =
@@ -61,14 +39,14 @@ subtract-spec =
     Inv-loop
     μ-loop
     loop-holds
-    mul-over
-    shared-slice-read-over
-    mul-over-2
-    shared-slice-read-over-2
+    (λ c. search needs)
+    (λ c. search needs)
+    (λ c. search needs)
+    (λ c. search needs)
     sub-over
-    mul-over-3
+    (λ c. search needs)
     element-write-over
-    add-j
-    loop-less
+    (λ c. search needs)
+    (λ c. search needs)
     loop-again
     returns)

@@ -75,15 +75,6 @@ returns-2 c =
 sub-unstopped-2 : tie.Need-sub-unstopped-2
 sub-unstopped-2 c = let s = c .before .before .before .before in omega (arith, s .pre .0 .0 .0)
 
-sub-unstopped-3 : tie.Need-sub-unstopped-3
-sub-unstopped-3 c = search needs
-
-unstopped-requires-2 : tie.Need-unstopped-requires-2
-unstopped-requires-2 c κs = search needs
-
-same-length-2 : tie.Need-same-length-2
-same-length-2 c = search needs
-
 returns-3 : tie.Need-returns-3
 returns-3 c =
     let u = c .before .before in
@@ -107,7 +98,7 @@ uncapped-spec =
     same-length
     returns-2
     sub-unstopped-2
-    sub-unstopped-3
-    unstopped-requires-2
-    same-length-2
+    (λ c. search needs)
+    (λ c κs. search needs)
+    (λ c. search needs)
     returns-3)

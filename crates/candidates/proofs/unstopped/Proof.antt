@@ -126,9 +126,6 @@ loop-again-2 c =
       next-add left few (some l) (child (begun l)) (closed (begun l)) (a .loop .inv .3) (free-one b (c .if1 .left)),
     )
 
-same-length : tie.Need-same-length Inv-loop μ-loop
-same-length c = search needs
-
 returns : tie.Need-returns Inv-loop μ-loop
 returns c =
     let a = c .before in
@@ -153,5 +150,5 @@ unstopped-spec =
     add-left
     loop-less-2
     loop-again-2
-    same-length
+    (λ c. search needs)
     returns)

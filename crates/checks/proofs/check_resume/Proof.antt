@@ -11,15 +11,6 @@ use Rattle.checks.specs.Shape.{alone-fits}
 use Rattle.checks.proofs.check_resume.Statement.{statement}
 use Rattle.checks.proofs.check_resume.Tie as tie
 
-check-requires : tie.Need-check-requires
-check-requires c κs = search needs
-
-enum-known-why : tie.Need-enum-known-why
-enum-known-why c = search needs
-
-enum-told : tie.Need-enum-told
-enum-told c = search needs
-
 check-requires-2 : tie.Need-check-requires-2
 check-requires-2 c κs =
     let a = c .before .before .before .before .before .args in
@@ -43,4 +34,4 @@ returns-2 c =
 
 pub check-resume-spec : {M : Type 1} → statement M
 check-resume-spec =
-    tie.close (tie.spec check-requires enum-known-why enum-told check-requires-2 returns returns-2)
+    tie.close (tie.spec (λ c κs. search needs) (λ c. search needs) (λ c. search needs) check-requires-2 returns returns-2)

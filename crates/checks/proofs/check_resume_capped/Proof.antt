@@ -13,15 +13,6 @@ use Rattle.checks.specs.Shape.{shape-fits}
 use Rattle.checks.proofs.check_resume_capped.Statement.{statement}
 use Rattle.checks.proofs.check_resume_capped.Tie as tie
 
-check-requires : tie.Need-check-requires
-check-requires c κs = search needs
-
-enum-known-why : tie.Need-enum-known-why
-enum-known-why c = search needs
-
-enum-told : tie.Need-enum-told
-enum-told c = search needs
-
 check-capped-requires : tie.Need-check-capped-requires
 check-capped-requires c κs =
     let a = c .before .before .before .before .before .before .args in
@@ -47,4 +38,4 @@ returns-2 c =
 
 pub check-resume-capped-spec : {M : Type 1} → statement M
 check-resume-capped-spec =
-    tie.close (tie.spec check-requires enum-known-why enum-told check-capped-requires returns returns-2)
+    tie.close (tie.spec (λ c κs. search needs) (λ c. search needs) (λ c. search needs) check-capped-requires returns returns-2)

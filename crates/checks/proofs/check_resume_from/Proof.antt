@@ -12,15 +12,6 @@ use Rattle.checks.specs.Shape.{alone-fits}
 use Rattle.checks.proofs.check_resume_from.Statement.{statement}
 use Rattle.checks.proofs.check_resume_from.Tie as tie
 
-check-requires : tie.Need-check-requires
-check-requires c κs = search needs
-
-enum-known-why : tie.Need-enum-known-why
-enum-known-why c = search needs
-
-enum-told : tie.Need-enum-told
-enum-told c = search needs
-
 check-from-requires : tie.Need-check-from-requires
 check-from-requires c κs =
     let a = c .before .before .before .before .before .before .before .args in
@@ -45,4 +36,4 @@ returns-2 c =
 
 pub check-resume-from-spec : {M : Type 1} → statement M
 check-resume-from-spec =
-    tie.close (tie.spec check-requires enum-known-why enum-told check-from-requires returns returns-2)
+    tie.close (tie.spec (λ c κs. search needs) (λ c. search needs) (λ c. search needs) check-from-requires returns returns-2)

@@ -68,9 +68,6 @@ push-others-requires c κs =
     let e = c .before .before .before .before in
     (s e .pre .0, (s e .pre .1 .0, s e .pre .1 .1, some e, refl))
 
-add-stack : tie.Need-add-stack
-add-stack c = search needs
-
 mul-stack : tie.Need-mul-stack
 mul-stack c = omega (arith, row-room (c .before .before .before .before .before))
 
@@ -129,12 +126,6 @@ element-write-sums c =
     let w = c .before .before .before .before .before in
     omega (arith, level-low w, start w .pre .0 .0 .few)
 
-same-length : tie.Need-same-length
-same-length c = search needs
-
-same-length-2 : tie.Need-same-length-2
-same-length-2 c = search needs
-
 returns-2 : tie.Need-returns-2
 returns-2 c =
     let w = c .before .before .before .before .before .before .before .before in
@@ -166,7 +157,7 @@ push-spec =
     element-copy-out-sums
     add-sums
     element-write-sums
-    add-stack
+    (λ c. search needs)
     mul-stack
     add-stack-2
     mul-stack-2
@@ -174,6 +165,6 @@ push-spec =
     add-stack-3
     slice-write-stack
     write-child-requires
-    same-length
-    same-length-2
+    (λ c. search needs)
+    (λ c. search needs)
     returns-2)

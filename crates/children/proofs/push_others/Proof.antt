@@ -128,9 +128,6 @@ returns c =
     (pushed-first _ _ _ _ _ _ _ (next-first left (few s) (s .pre .1 .2)) (next-holds left (few s) (s .pre .1 .2))
     (omega (arith, few s, next-inside left (few s) (s .pre .1 .2))) (s .pre .0 .0 .row)) rest (s .pre .0 .0 .cached) (s .pre .0 .0 .summed))
 
-add-read : tie.Need-add-read Inv-loop μ-loop
-add-read c = search needs
-
 mul-read : tie.Need-mul-read Inv-loop μ-loop
 mul-read c = omega (arith, row-room (c .before .before .before .before))
 
@@ -263,12 +260,6 @@ loop-again c =
       a .loop .inv .6,
     )
 
-same-length : tie.Need-same-length Inv-loop μ-loop
-same-length c = search needs
-
-same-length-2 : tie.Need-same-length-2 Inv-loop μ-loop
-same-length-2 c = search needs
-
 returns-2 : tie.Need-returns-2 Inv-loop μ-loop
 returns-2 c =
     let a = c .before in
@@ -286,7 +277,7 @@ push-others-spec =
     sub-rest
     add-h
     returns
-    add-read
+    (λ c. search needs)
     mul-read
     read-requires
     add-frozen
@@ -306,6 +297,6 @@ push-others-spec =
     add-h-2
     loop-less
     loop-again
-    same-length
-    same-length-2
+    (λ c. search needs)
+    (λ c. search needs)
     returns-2)

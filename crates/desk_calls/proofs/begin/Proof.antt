@@ -3,11 +3,8 @@ use borrow.Author.Needs.{needs}
 use Rattle.desk_calls.proofs.begin.Statement.{statement}
 use Rattle.desk_calls.proofs.begin.Tie as tie
 
-of-requires : tie.Need-of-requires
-of-requires c κs = search needs
-
 returns : tie.Need-returns
 returns c = rw (c .of .ensures)
 
 pub begin-spec : {M : Type 1} → statement M
-begin-spec = tie.close (tie.spec of-requires returns)
+begin-spec = tie.close (tie.spec (λ c κs. search needs) returns)

@@ -3,11 +3,8 @@ use borrow.Author.Needs.{needs}
 use Rattle.desk_calls.proofs.is_desks.Statement.{statement}
 use Rattle.desk_calls.proofs.is_desks.Tie as tie
 
-run-number-requires : tie.Need-run-number-requires
-run-number-requires c κs = search needs
-
 returns : tie.Need-returns
 returns c = rw (c .run-number .ensures)
 
 pub is-desks-spec : {M : Type 1} → statement M
-is-desks-spec = tie.close (tie.spec run-number-requires returns)
+is-desks-spec = tie.close (tie.spec (λ c κs. search needs) returns)

@@ -8,21 +8,9 @@ use Rattle.calls.specs.Paper as paper
 use Rattle.calls.specs.Paper.{stateOf}
 use Rattle.desk_calls.specs.Calls.{deskOf}
 use Rattle.desk_checks.specs.Shape.{handed-by, rows-fit, shape-fits, shape-passed, shape-refused, six-passed, six-refused}
-use Rattle.desk_form.specs.Desks.{deskInOrder, deskResumeChecks, deskRowInOrder, generatorsInOrder}
+use Rattle.desk_spec.specs.Desks.{deskInOrder, deskResumeChecks, deskRowInOrder, generatorsInOrder}
 use Rattle.desk_checks.proofs.check_resume.Statement.{statement}
 use Rattle.desk_checks.proofs.check_resume.Tie as tie
-
-check-requires : tie.Need-check-requires
-check-requires c κs = search needs
-
-enum-known-why : tie.Need-enum-known-why
-enum-known-why c = search needs
-
-enum-told : tie.Need-enum-told
-enum-told c = search needs
-
-small-requires : tie.Need-small-requires
-small-requires c κs = search needs
 
 returns : tie.Need-returns
 unfolding deskResumeChecks generatorsInOrder
@@ -87,4 +75,5 @@ returns-4 c =
 
 pub check-resume-spec : {M : Type 1} → statement M
 check-resume-spec =
-    tie.close (tie.spec check-requires enum-known-why enum-told small-requires returns in-order-requires returns-2 check-requires-2 returns-3 returns-4)
+    tie.close (tie.spec (λ c κs. search needs) (λ c. search needs) (λ c. search needs) (λ c κs. search needs) returns in-order-requires returns-2
+    check-requires-2 returns-3 returns-4)

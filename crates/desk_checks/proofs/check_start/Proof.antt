@@ -7,21 +7,9 @@ use Rattle.calls.specs.Paper as paper
 use Rattle.calls.specs.Paper.{stateOf}
 use Rattle.desk_calls.specs.Calls.{deskOf}
 use Rattle.desk_checks.specs.Shape.{handed-by, shape-fits, shape-passed, shape-refused, six-passed, six-refused}
-use Rattle.desk_form.specs.Desks.{deskStartChecks, generatorsInOrder}
+use Rattle.desk_spec.specs.Desks.{deskStartChecks, generatorsInOrder}
 use Rattle.desk_checks.proofs.check_start.Statement.{statement}
 use Rattle.desk_checks.proofs.check_start.Tie as tie
-
-check-requires : tie.Need-check-requires
-check-requires c κs = search needs
-
-enum-known-why : tie.Need-enum-known-why
-enum-known-why c = search needs
-
-enum-told : tie.Need-enum-told
-enum-told c = search needs
-
-small-requires : tie.Need-small-requires
-small-requires c κs = search needs
 
 returns : tie.Need-returns
 unfolding deskStartChecks generatorsInOrder
@@ -60,4 +48,5 @@ returns-3 c =
     (six-passed _ _ (sym (e .before .small .ensures) ∙ not-false _ (e .if1 .left)) (c .check2 .ensures))
 
 pub check-start-spec : {M : Type 1} → statement M
-check-start-spec = tie.close (tie.spec check-requires enum-known-why enum-told small-requires returns check-requires-2 returns-2 returns-3)
+check-start-spec = tie.close (tie.spec (λ c κs. search needs) (λ c. search needs) (λ c. search needs) (λ c κs. search needs) returns check-requires-2 returns-2
+    returns-3)

@@ -8,7 +8,7 @@ use mathlib.Core.Path.{_≡_, refl, sym, _∙_}
 use native.Mathlib.Nat.{le-antisymm}
 use native.Mathlib.Omega.{arith}
 use Rattle.desk_step.specs.Trying.{Tries, generator-row, marks-room, tries-all, tries-closed, tries-covered, tries-large, tries-made, tries-none}
-use Rattle.pair_rows.specs.Small.{SmallRow}
+use Rattle.table_rows.specs.Small.{SmallRow}
 use Rattle.desk_step.proofs.children.Statement.{statement}
 use Rattle.desk_step.proofs.children.Tie as tie
 
@@ -33,14 +33,8 @@ low l = omega (arith, l .loop-test .taken, begun l .pre .0 .few)
 loop-holds : tie.Need-loop-holds Inv-loop μ-loop
 loop-holds c = (search needs, refl, tries-none _ _ _ _ _ _ _ _)
 
-add-next : tie.Need-add-next Inv-loop μ-loop
-add-next c = search needs
-
 is-open-requires : tie.Need-is-open-requires Inv-loop μ-loop
 is-open-requires c κs = (begun c .pre .0 .factors (c .before .loop .next) (c .loop-test .taken), low c)
-
-loop-less : tie.Need-loop-less Inv-loop μ-loop
-loop-less c = search needs
 
 loop-again : tie.Need-loop-again Inv-loop μ-loop
 loop-again c =
@@ -61,9 +55,6 @@ covered-requires c κs =
     let x = c .before .before .before in
     let l = x .before .before .before .before in
     (begun l .pre .0 .some, omega (arith, x .add .kept .1 .1 .1 .1 .0, l .before .loop .inv .1, begun l .pre .1), begun l .pre .0 .listed)
-
-loop-less-2 : tie.Need-loop-less-2 Inv-loop μ-loop
-loop-less-2 c = search needs
 
 loop-again-2 : tie.Need-loop-again-2 Inv-loop μ-loop
 loop-again-2 c =
@@ -109,9 +100,6 @@ add-made c =
     let l = c .before .before .before .before .before .before .before .before .before .before .before .before in
     omega (arith, marks-room (l .before .loop .next) (l .before .loop .made) _ (l .before .loop .inv .2 .marked) (low l))
 
-loop-less-3 : tie.Need-loop-less-3 Inv-loop μ-loop
-loop-less-3 c = search needs
-
 loop-again-3 : tie.Need-loop-again-3 Inv-loop μ-loop
 loop-again-3 c =
     let g = c .before in
@@ -127,14 +115,12 @@ loop-again-3 c =
           (sym (k .covered .ensures) ∙ f .if2 .left) (sym (g .is-large .ensures) ∙ c .if3 .left),
     )
 
-same-length-2 : tie.Need-same-length-2 Inv-loop μ-loop
-same-length-2 c = search needs
-
 returns-2 : tie.Need-returns-2 Inv-loop μ-loop
 returns-2 c = let a = c .before in tries-all _ _ _ _ _ _ _ _ (rw (le-antisymm (a .loop .inv .0) (c .loop-test .left)) at (a .loop .inv .2))
 
 pub children-spec : {M : Type 1} → statement M
 children-spec =
     tie.close
-    (tie.spec Inv-loop μ-loop loop-holds add-next is-open-requires loop-less loop-again mul-add add-requires covered-requires loop-less-2 loop-again-2
-    is-large-requires same-length returns shl-made add-made loop-less-3 loop-again-3 same-length-2 returns-2)
+    (tie.spec Inv-loop μ-loop loop-holds (λ c. search needs) is-open-requires (λ c. search needs) loop-again mul-add add-requires covered-requires
+    (λ c. search needs) loop-again-2
+    is-large-requires same-length returns shl-made add-made (λ c. search needs) loop-again-3 (λ c. search needs) returns-2)

@@ -8,12 +8,6 @@ use Rattle.desk_step.specs.Listing.{capacity-small, freed-listed, kept-p
 use Rattle.desk_step.proofs.enlist.Statement.{statement}
 use Rattle.desk_step.proofs.enlist.Tie as tie
 
-div-capacity : tie.Need-div-capacity
-div-capacity c = search needs
-
-mul-write : tie.Need-mul-write
-mul-write c = search needs
-
 write-requires : tie.Need-write-requires
 write-requires c κs =
     let t = c .before in
@@ -26,20 +20,11 @@ add-t12 c =
     let s = t .before .before .before in
     omega (arith, t .if1 .taken, capacity-small (s .args .q) (now (s .args .list)) (s .pre .0), s .good .0)
 
-same-length : tie.Need-same-length
-same-length c = search needs
-
 returns : tie.Need-returns
 returns c =
     let w = c .before .before in
     let t = w .before .before in
     listing.roomy (t .if1 .taken) refl (w .write .ensures)
-
-sweep-requires : tie.Need-sweep-requires
-sweep-requires c κs = search needs
-
-same-length-2 : tie.Need-same-length-2
-same-length-2 c = search needs
 
 returns-2 : tie.Need-returns-2
 returns-2 c =
@@ -65,9 +50,6 @@ add-t7 c =
     let s = e .before .before .before .before .before .before .before .before in
     omega (arith, e .if2 .left, capacity-small (s .args .q) (now (s .args .list)) (s .pre .0), s .good .0)
 
-same-length-3 : tie.Need-same-length-3
-same-length-3 c = search needs
-
 returns-3 : tie.Need-returns-3
 returns-3 c =
     let u = c .before .before in
@@ -79,5 +61,6 @@ returns-3 c =
 pub enlist-spec : {M : Type 1} → statement M
 enlist-spec =
     tie.close
-    (tie.spec div-capacity mul-write write-requires add-t12 same-length returns sweep-requires same-length-2 returns-2 mul-write-2 write-requires-2 add-t7
-    same-length-3 returns-3)
+    (tie.spec (λ c. search needs) (λ c. search needs) write-requires add-t12 (λ c. search needs) returns (λ c κs. search needs) (λ c. search needs) returns-2
+    mul-write-2 write-requires-2 add-t7
+    (λ c. search needs) returns-3)

@@ -5,17 +5,8 @@ use Rattle.desk_step.specs.Trying.{product-back}
 use Rattle.desk_step.proofs.is_open.Statement.{statement}
 use Rattle.desk_step.proofs.is_open.Tie as tie
 
-is-marked-requires : tie.Need-is-marked-requires
-is-marked-requires c κs = search needs
-
 returns : tie.Need-returns
 returns c = rw (sym (c .before .is-marked .ensures) ∙ c .if1 .taken)
-
-product-requires : tie.Need-product-requires
-product-requires c κs = search needs
-
-is-below-zero-requires : tie.Need-is-below-zero-requires
-is-below-zero-requires c κs = search needs
 
 returns-2 : tie.Need-returns-2
 returns-2 c =
@@ -25,4 +16,4 @@ returns-2 c =
     rw (sym (e .before .is-marked .ensures) ∙ e .if1 .left) (rw v at (c .is-below-zero .ensures))
 
 pub is-open-spec : {M : Type 1} → statement M
-is-open-spec = tie.close (tie.spec is-marked-requires returns product-requires is-below-zero-requires returns-2)
+is-open-spec = tie.close (tie.spec (λ c κs. search needs) returns (λ c κs. search needs) (λ c κs. search needs) returns-2)

@@ -9,7 +9,7 @@ use native.Mathlib.Omega.{arith}
 use Rattle.definitions.specs.Tables.{frozen}
 use Rattle.desk_step.specs.Pushing.{Pushed, pushed-low, pushed-none, pushed-one, pushed-place, pushed-room, pushed-skip}
 use Rattle.desk_step.specs.Trying.{generator-row}
-use Rattle.pair_rows.specs.Small.{SmallRow}
+use Rattle.table_rows.specs.Small.{SmallRow}
 use Rattle.desk_step.proofs.push.Statement.{statement}
 use Rattle.desk_step.proofs.push.Tie as tie
 
@@ -33,9 +33,6 @@ low l = omega (arith, l .loop-test .taken, begun l .pre .0 .few)
 
 loop-holds : tie.Need-loop-holds Inv-loop μ-loop
 loop-holds c = (search needs, refl, refl, pushed-none _ _ _ _ _ _ _)
-
-add-next : tie.Need-add-next Inv-loop μ-loop
-add-next c = search needs
 
 is-marked-requires : tie.Need-is-marked-requires Inv-loop μ-loop
 is-marked-requires c κs = low c
@@ -81,9 +78,6 @@ add-h c =
           (begun l .pre .0 .low),
     )
 
-loop-less : tie.Need-loop-less Inv-loop μ-loop
-loop-less c = search needs
-
 loop-again : tie.Need-loop-again Inv-loop μ-loop
 loop-again c =
     let w = c .before .before in
@@ -98,9 +92,6 @@ loop-again c =
           (w .write .ensures),
     )
 
-loop-less-2 : tie.Need-loop-less-2 Inv-loop μ-loop
-loop-less-2 c = search needs
-
 loop-again-2 : tie.Need-loop-again-2 Inv-loop μ-loop
 loop-again-2 c =
     let l = c .before .before in (
@@ -109,12 +100,6 @@ loop-again-2 c =
       l .before .loop .inv .2,
       pushed-skip _ _ _ _ _ _ _ (l .before .loop .inv .3) (sym (c .before .is-marked .ensures) ∙ c .if1 .left),
     )
-
-same-length : tie.Need-same-length Inv-loop μ-loop
-same-length c = search needs
-
-same-length-2 : tie.Need-same-length-2 Inv-loop μ-loop
-same-length-2 c = search needs
 
 returns : tie.Need-returns Inv-loop μ-loop
 returns c =
@@ -125,5 +110,6 @@ returns c =
 pub push-spec : {M : Type 1} → statement M
 push-spec =
     tie.close
-    (tie.spec Inv-loop μ-loop loop-holds add-next is-marked-requires mul-add add-requires write-requires shl-frozen add-frozen add-h loop-less loop-again
-    loop-less-2 loop-again-2 same-length same-length-2 returns)
+    (tie.spec Inv-loop μ-loop loop-holds (λ c. search needs) is-marked-requires mul-add add-requires write-requires shl-frozen add-frozen add-h
+    (λ c. search needs) loop-again
+    (λ c. search needs) loop-again-2 (λ c. search needs) (λ c. search needs) returns)

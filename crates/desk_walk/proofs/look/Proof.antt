@@ -10,11 +10,8 @@ read-requires c κs = let s = c .before .before .before in (s .pre .3, s .pre .1
 write-requires : tie.Need-write-requires
 write-requires c κs = let s = c .before .before .before .before .before .before .before in (s .pre .0, s .pre .1, omega arith, s .pre .2)
 
-same-length : tie.Need-same-length
-same-length c = search needs
-
 returns : tie.Need-returns
 returns c = let r = c .before .before .before .before in (r .read .ensures, c .write .ensures)
 
 pub look-spec : {M : Type 1} → statement M
-look-spec = tie.close (tie.spec read-requires write-requires same-length returns)
+look-spec = tie.close (tie.spec read-requires write-requires (λ c. search needs) returns)

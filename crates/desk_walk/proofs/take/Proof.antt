@@ -7,7 +7,7 @@ use native.Mathlib.Omega.{arith}
 use Rattle.definitions.specs.System.{solves}
 use Rattle.definitions.specs.Tables.{State}
 use Rattle.desk_calls.specs.Calls.{deskOf}
-use Rattle.desk_form.specs.Desks.{deskTop, secondGroup}
+use Rattle.desk_spec.specs.Desks.{deskTop, secondGroup}
 use Rattle.desk_walk.specs.Taking.{came-listed, listed-whole, solved, stateAt, take-grown, take-large, take-pushing, top-place, trying}
 use Rattle.desk_walk.proofs.take.Statement.{statement}
 use Rattle.desk_walk.proofs.take.Tie as tie
@@ -33,9 +33,6 @@ vanishes-requires c κs = (begun c .pre .0 .valid .shaped .p-few, omega arith)
 
 enlist-requires : tie.Need-enlist-requires
 enlist-requires c κs = let s = begun (c .before .before .before) in (s .pre .0 .valid .shaped .q-some, s .pre .0 .long, listed-whole (state s) (s .pre .0))
-
-same-length : tie.Need-same-length
-same-length c = search needs
 
 returns : tie.Need-returns
 returns c =
@@ -71,18 +68,9 @@ mul-join-2 c = let s = begun (c .before .before .before) in omega (arith, top-pl
 slice-read-join-2 : tie.Need-slice-read-join-2
 slice-read-join-2 c = let s = begun (c .before .before .before .before) in omega (arith, top-place (state s) (s .pre .0))
 
-join-requires : tie.Need-join-requires
-join-requires c κs = search needs
-
 children-requires : tie.Need-children-requires
 children-requires c κs = let s = begun (c .before .before .before .before .before .before .before) in
     (rw (s .pre .1 .0) (trying (state s) (s .pre .0)), s .pre .1 .1)
-
-enum-told : tie.Need-enum-told
-enum-told c = search needs
-
-enum-known-made : tie.Need-enum-known-made
-enum-known-made c = search needs
 
 push-requires : tie.Need-push-requires
 push-requires c κs =
@@ -95,12 +83,6 @@ push-requires c κs =
       omega (arith, x .children .kept .1 .1 .1 .1 .1 .1 .1 .1 .0, s .pre .1 .1),
     )
 
-same-length-2 : tie.Need-same-length-2
-same-length-2 c = search needs
-
-same-length-3 : tie.Need-same-length-3
-same-length-3 c = search needs
-
 returns-2 : tie.Need-returns-2
 returns-2 c =
     let x = c .before .before .before .before in
@@ -108,15 +90,6 @@ returns-2 c =
     let e = j .before .before .before in
     let s = begun (e .before .before) in
     take-large (state s) (s .pre .0) (none e) (s .pre .1 .0) (j .join .ensures) (sym (c .enum-told .given .1) ∙ x .children .ensures)
-
-same-length-4 : tie.Need-same-length-4
-same-length-4 c = search needs
-
-same-length-5 : tie.Need-same-length-5
-same-length-5 c = search needs
-
-same-length-6 : tie.Need-same-length-6
-same-length-6 c = search needs
 
 returns-3 : tie.Need-returns-3
 returns-3 c =
@@ -132,6 +105,7 @@ returns-3 c =
 pub take-spec : {M : Type 1} → statement M
 take-spec =
     tie.close
-    (tie.spec sub-level vanishes-requires enlist-requires same-length returns add-base mul-base add-join mul-join slice-read-join add-join-2 add-join-3
-    mul-join-2 slice-read-join-2 join-requires children-requires enum-told enum-known-made push-requires same-length-2 same-length-3 returns-2
-    same-length-4 same-length-5 same-length-6 returns-3)
+    (tie.spec sub-level vanishes-requires enlist-requires (λ c. search needs) returns add-base mul-base add-join mul-join slice-read-join add-join-2 add-join-3
+    mul-join-2 slice-read-join-2 (λ c κs. search needs) children-requires (λ c. search needs) (λ c. search needs) push-requires (λ c. search needs)
+    (λ c. search needs) returns-2
+    (λ c. search needs) (λ c. search needs) (λ c. search needs) returns-3)

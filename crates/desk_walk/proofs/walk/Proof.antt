@@ -1,6 +1,6 @@
 -- `walk` meets its contract. The walk from the first state is, at each turn, the walk from the state reached with the budget left. The measure is that budget.
 -- Assumes nothing.
-use Prim.Native.Nat.{ℕ, _-_, _<_}
+use Prim.Native.Nat.{ℕ, _<_}
 use borrow.Author.Needs.{needs}
 use denote.Ref.{now}
 use lib.ListN.{length}
@@ -10,7 +10,7 @@ use native.Mathlib.Nat.{div-mul-le-self}
 use native.Mathlib.Omega.{arith}
 use Rattle.definitions.specs.Answers.{complete}
 use Rattle.desk_calls.specs.Calls.{deskOf}
-use Rattle.desk_form.specs.Desks.{Desk}
+use Rattle.desk_spec.specs.Desks.{Desk}
 use Rattle.desk_rows.specs.Images.{Images}
 use Rattle.desk_walk.specs.Taking.{shaped-small, stateAt}
 use Rattle.desk_walk.specs.Turning.{deeper, found-place, held-small, images-stay, standing, top-row, turn-grown, turn-listed, turn-refused}
@@ -63,29 +63,11 @@ loop-holds c =
     let s = c .before .before .before .before .before in
     (refl, refl, walking-none (desk s) (s .pre), (c .write-all .ensures .0, c .write-all .ensures .1, refl, refl))
 
-leave-requires : tie.Need-leave-requires Inv-loop μ-loop
-leave-requires c κs = search needs
-
-same-length : tie.Need-same-length Inv-loop μ-loop
-same-length c = search needs
-
-same-length-2 : tie.Need-same-length-2 Inv-loop μ-loop
-same-length-2 c = search needs
-
 returns : tie.Need-returns Inv-loop μ-loop
 returns c =
     let t = c .before in
     let a = t .before .before in
     rw (c .leave .ensures) (sym (ends-paused (desk (begun a)) (a .loop .inv .2) (t .before .loop-test .taken) (t .if1 .taken)))
-
-leave-requires-2 : tie.Need-leave-requires-2 Inv-loop μ-loop
-leave-requires-2 c κs = search needs
-
-same-length-3 : tie.Need-same-length-3 Inv-loop μ-loop
-same-length-3 c = search needs
-
-same-length-4 : tie.Need-same-length-4 Inv-loop μ-loop
-same-length-4 c = search needs
 
 returns-2 : tie.Need-returns-2 Inv-loop μ-loop
 returns-2 c =
@@ -93,9 +75,6 @@ returns-2 c =
     let e = t .before in
     let a = e .before .before in
     rw (c .leave2 .ensures) (sym (ends-late (desk (begun a)) (a .loop .inv .2) (e .before .loop-test .taken) (positive (e .if1 .left)) (t .if2 .taken)))
-
-sub-look : tie.Need-sub-look Inv-loop μ-loop
-sub-look c = search needs
 
 add-look : tie.Need-add-look Inv-loop μ-loop
 add-look c = let a = at-loop (c .before) in omega (arith, a .loop .inv .2 .valid .shaped .q-few)
@@ -105,9 +84,6 @@ mul-look c =
     let e = c .before in
     let a = at-loop e in
     omega (arith, top-row (begun a .args .r) (a .loop .inv .2 .valid) (high e) .whole, a .loop .inv .0, begun a .good .1 .1 .1 .1 .0)
-
-slice-aggregate-look : tie.Need-slice-aggregate-look Inv-loop μ-loop
-slice-aggregate-look c = search needs
 
 look-requires : tie.Need-look-requires Inv-loop μ-loop
 look-requires c κs =
@@ -120,12 +96,6 @@ look-requires c κs =
       omega (arith, a .loop .inv .3 .2, s .pre .shaped .q-few),
     )
 
-slice-aggregate-take : tie.Need-slice-aggregate-take Inv-loop μ-loop
-slice-aggregate-take c = search needs
-
-slice-aggregate-take-2 : tie.Need-slice-aggregate-take-2 Inv-loop μ-loop
-slice-aggregate-take-2 c = search needs
-
 take-requires : tie.Need-take-requires Inv-loop μ-loop
 take-requires c κs =
     let k = c .before .before .before .before .before .before in
@@ -136,21 +106,6 @@ take-requires c κs =
           (omega (arith, k .look .kept .1 .1 .1 .1 .1 .1 .0, a .loop .inv .3 .2, s .pre .shaped .q-few)),
       (refl, omega (arith, a .loop .inv .3 .3, s .pre .shaped .q-few)),
     )
-
-enum-known-k : tie.Need-enum-known-k Inv-loop μ-loop
-enum-known-k c = search needs
-
-sub-height : tie.Need-sub-height Inv-loop μ-loop
-sub-height c = search needs
-
-enum-known-h : tie.Need-enum-known-h Inv-loop μ-loop
-enum-known-h c = search needs
-
-enum-known-why : tie.Need-enum-known-why Inv-loop μ-loop
-enum-known-why c = search needs
-
-leave-requires-3 : tie.Need-leave-requires-3 Inv-loop μ-loop
-leave-requires-3 c κs = search needs
 
 same-length-5 : tie.Need-same-length-5 Inv-loop μ-loop
 same-length-5 c =
@@ -176,9 +131,6 @@ returns-3 c =
     (sym (turn-refused (begun a .args .r) (a .loop .inv .2) (high e) (positive (e .before .if1 .left)) (t .take .ensures)
     (c .before .before .why .given .1)))
 
-slice-aggregate-sum : tie.Need-slice-aggregate-sum Inv-loop μ-loop
-slice-aggregate-sum c = search needs
-
 sum-requires : tie.Need-sum-requires Inv-loop μ-loop
 sum-requires c κs =
     let t = c .before .before .before .before .before .before .before in
@@ -191,21 +143,12 @@ sum-requires c κs =
           (omega (arith, k .look .kept .1 .1 .1 .1 .1 .1 .0, a .loop .inv .3 .2, s .pre .shaped .q-few)),
     )
 
-larger-requires : tie.Need-larger-requires Inv-loop μ-loop
-larger-requires c κs = search needs
-
 add-steps : tie.Need-add-steps Inv-loop μ-loop
 add-steps c =
     let t = c .before .before .before .before .before .before .before .before .before in
     let k = t .before .before .before .before .before .before .before in
     let a = at-loop (k .before .before .before .before) in
     omega (arith, a .loop .inv .2 .valid .ordered .early)
-
-sub-left : tie.Need-sub-left Inv-loop μ-loop
-sub-left c = search needs
-
-loop-less : tie.Need-loop-less Inv-loop μ-loop
-loop-less c = search needs
 
 loop-again : tie.Need-loop-again Inv-loop μ-loop
 loop-again c =
@@ -234,15 +177,6 @@ loop-again c =
 sweep-requires : tie.Need-sweep-requires Inv-loop μ-loop
 sweep-requires c κs = let a = c .before .before in found-place (begun a .args .r) (a .loop .inv .2 .valid)
 
-leave-requires-4 : tie.Need-leave-requires-4 Inv-loop μ-loop
-leave-requires-4 c κs = search needs
-
-same-length-7 : tie.Need-same-length-7 Inv-loop μ-loop
-same-length-7 c = search needs
-
-same-length-8 : tie.Need-same-length-8 Inv-loop μ-loop
-same-length-8 c = search needs
-
 returns-4 : tie.Need-returns-4 Inv-loop μ-loop
 returns-4 c =
     let w = c .before .before .before in
@@ -254,7 +188,10 @@ returns-4 c =
 pub walk-spec : {M : Type 1} → statement M
 walk-spec =
     tie.close
-    (tie.spec Inv-loop μ-loop div-n write-all-requires loop-holds leave-requires same-length same-length-2 returns leave-requires-2 same-length-3
-    same-length-4 returns-2 sub-look add-look mul-look slice-aggregate-look look-requires slice-aggregate-take slice-aggregate-take-2 take-requires
-    enum-known-k sub-height enum-known-h enum-known-why leave-requires-3 same-length-5 same-length-6 returns-3 slice-aggregate-sum sum-requires
-    larger-requires add-steps sub-left loop-less loop-again sweep-requires leave-requires-4 same-length-7 same-length-8 returns-4)
+    (tie.spec Inv-loop μ-loop div-n write-all-requires loop-holds (λ c κs. search needs) (λ c. search needs) (λ c. search needs) returns (λ c κs. search needs)
+    (λ c. search needs)
+    (λ c. search needs) returns-2 (λ c. search needs) add-look mul-look (λ c. search needs) look-requires (λ c. search needs) (λ c. search needs) take-requires
+    (λ c. search needs) (λ c. search needs) (λ c. search needs) (λ c. search needs) (λ c κs. search needs) same-length-5 same-length-6 returns-3
+    (λ c. search needs) sum-requires
+    (λ c κs. search needs) add-steps (λ c. search needs) (λ c. search needs) loop-again sweep-requires (λ c κs. search needs) (λ c. search needs)
+    (λ c. search needs) returns-4)

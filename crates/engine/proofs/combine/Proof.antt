@@ -6,53 +6,46 @@ use borrow.Author.Needs.{needs}
 use Rattle.engine.proofs.combine.Statement.{statement}
 use Rattle.engine.proofs.combine.Tie as tie
 
-basis-room-requires : tie.Need-basis-room-requires
-basis-room-requires c κs = search needs
-
-stage-room-requires : tie.Need-stage-room-requires
-stage-room-requires c κs = search needs
-
 check-combine-requires : tie.Need-check-combine-requires
-check-combine-requires c κs = let s = c .before .before .before .before .before in lent-roomed (s .args .p) (s .args .q) (now (s .args .equations)) (now (s .args .basis)) (now (s .args .table)) (s .args .l) (s .args .run) (c .before .before .basis-room .ensures) (c .before .stage-room .ensures)
-
-enum-known-why : tie.Need-enum-known-why
-enum-known-why c = search needs
-
-refused-requires : tie.Need-refused-requires
-refused-requires c κs = search needs
-
-enum-told : tie.Need-enum-told
-enum-told c = search needs
+check-combine-requires c κs = let s = c .before .before .before .before .before in lent-roomed (s .args .p) (s .args .q) (now (s .args .equations))
+    (now (s .args .basis)) (now (s .args .table)) (s .args .l) (s .args .run) (c .before .before .basis-room .ensures) (c .before .stage-room .ensures)
 
 operate-requires : tie.Need-operate-requires
-operate-requires c κs = let s = c .before .before .before .before .before .before .before .before .before in simp (toZ-ofZ (s .fits .u), toZ-ofZ (s .fits .t)) (combine-enters (s .args .p) (s .args .q) (now (s .args .equations)) (now (s .args .basis)) (now (s .args .table)) (s .args .l) (s .args .run) (c .before .before .before .before .before .before .basis-room .ensures) (c .before .before .before .before .before .stage-room .ensures) (s .args .r) (s .args .s) (s .args .u) (s .args .t) (simp (toZ-ofZ (s .fits .u), toZ-ofZ (s .fits .t)) at (c .before .before .before .check-combine .ensures)) (c .before .enum-told .given .1))
-
-same-length : tie.Need-same-length
-same-length c = search needs
+operate-requires c κs = let s = c .before .before .before .before .before .before .before .before .before in simp (toZ-ofZ (s .fits .u), toZ-ofZ (s .fits .t))
+    (combine-enters (s .args .p) (s .args .q) (now (s .args .equations)) (now (s .args .basis)) (now (s .args .table)) (s .args .l) (s .args .run)
+    (c .before .before .before .before .before .before .basis-room .ensures) (c .before .before .before .before .before .stage-room .ensures) (s .args .r)
+    (s .args .s) (s .args .u) (s .args .t) (simp (toZ-ofZ (s .fits .u), toZ-ofZ (s .fits .t)) at (c .before .before .before .check-combine .ensures))
+    (c .before .enum-told .given .1))
 
 returns : tie.Need-returns
-returns c = let s = c .before .before .before .before .before .before .before .before .before .before in rw (c .refused .ensures) (combine-refused (s .args .p) (s .args .q) (now (s .args .equations)) (now (s .args .basis)) (now (s .args .table)) (s .args .l) (s .args .run) (c .before .before .before .before .before .before .before .basis-room .ensures) (c .before .before .before .before .before .before .stage-room .ensures) (s .args .r) (s .args .s) (s .args .u) (s .args .t) (simp (toZ-ofZ (s .fits .u), toZ-ofZ (s .fits .t)) at (c .before .before .before .before .check-combine .ensures)) (c .before .before .why .given .1))
-
-same-length-2 : tie.Need-same-length-2
-same-length-2 c = search needs
+returns c = let s = c .before .before .before .before .before .before .before .before .before .before in rw (c .refused .ensures)
+    (combine-refused (s .args .p) (s .args .q) (now (s .args .equations)) (now (s .args .basis)) (now (s .args .table)) (s .args .l) (s .args .run)
+    (c .before .before .before .before .before .before .before .basis-room .ensures)
+    (c .before .before .before .before .before .before .stage-room .ensures) (s .args .r) (s .args .s) (s .args .u) (s .args .t)
+    (simp (toZ-ofZ (s .fits .u), toZ-ofZ (s .fits .t)) at (c .before .before .before .before .check-combine .ensures))
+    (c .before .before .why .given .1))
 
 returns-2 : tie.Need-returns-2
 returns-2 c = let s = c .before .before .before .before .before .before .before .before .before .before .before in
-    combine-passed (s .args .p) (s .args .q) (now (s .args .equations)) (now (s .args .basis)) (now (s .args .table)) (s .args .l) (s .args .run) (c .before .before .before .before .before .before .before .before .basis-room .ensures) (c .before .before .before .before .before .before .before .stage-room .ensures) (s .args .r) (s .args .s) (s .args .u) (s .args .t) (simp (toZ-ofZ (s .fits .u), toZ-ofZ (s .fits .t)) at (c .before .before .before .before .before .check-combine .ensures)) (c .before .before .before .enum-told .given .1)
+    combine-passed (s .args .p) (s .args .q) (now (s .args .equations)) (now (s .args .basis)) (now (s .args .table)) (s .args .l) (s .args .run)
+    (c .before .before .before .before .before .before .before .before .basis-room .ensures)
+    (c .before .before .before .before .before .before .before .stage-room .ensures) (s .args .r) (s .args .s) (s .args .u) (s .args .t)
+    (simp (toZ-ofZ (s .fits .u), toZ-ofZ (s .fits .t)) at (c .before .before .before .before .before .check-combine .ensures))
+    (c .before .before .before .enum-told .given .1)
     (simp (toZ-ofZ (s .fits .u), toZ-ofZ (s .fits .t)) at (c .before .operate .ensures))
 
 pub combine-spec : {M : Type 1} → statement M
 combine-spec =
     tie.close
     (tie.spec
-    basis-room-requires
-    stage-room-requires
+    (λ c κs. search needs)
+    (λ c κs. search needs)
     check-combine-requires
-    enum-known-why
-    refused-requires
-    enum-told
+    (λ c. search needs)
+    (λ c κs. search needs)
+    (λ c. search needs)
     operate-requires
-    same-length
+    (λ c. search needs)
     returns
-    same-length-2
+    (λ c. search needs)
     returns-2)

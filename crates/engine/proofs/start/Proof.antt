@@ -5,47 +5,35 @@ use borrow.Author.Needs.{needs}
 use Rattle.engine.proofs.start.Statement.{statement}
 use Rattle.engine.proofs.start.Tie as tie
 
-basis-room-requires : tie.Need-basis-room-requires
-basis-room-requires c κs = search needs
-
-check-start-requires : tie.Need-check-start-requires
-check-start-requires c κs = search needs
-
-enum-known-why : tie.Need-enum-known-why
-enum-known-why c = search needs
-
-refused-requires : tie.Need-refused-requires
-refused-requires c κs = search needs
-
-enum-told : tie.Need-enum-told
-enum-told c = search needs
-
 begin-requires : tie.Need-begin-requires
-begin-requires c κs = let s = c .before .before .before .before .before .before .before .before .args in start-enters (s .p) (s .q) (now (s .coefs)) (now (s .equations)) (now (s .basis)) (now (s .table)) (s .l) (s .r) (c .before .before .before .before .before .basis-room .ensures) (c .before .before .before .before .check-start .ensures) (c .before .before .enum-told .given .1)
+begin-requires c κs = let s = c .before .before .before .before .before .before .before .before .args in start-enters (s .p) (s .q) (now (s .coefs))
+    (now (s .equations)) (now (s .basis)) (now (s .table)) (s .l) (s .r) (c .before .before .before .before .before .basis-room .ensures)
+    (c .before .before .before .before .check-start .ensures) (c .before .before .enum-told .given .1)
 
 returns : tie.Need-returns
-returns c = let s = c .before .before .before .before .before .before .before .before .args in rw (c .refused .ensures) (start-refused (s .p) (s .q) (now (s .coefs)) (now (s .equations)) (now (s .basis)) (now (s .table)) (s .l) (s .r) (c .before .before .before .before .before .basis-room .ensures) (c .before .before .before .before .check-start .ensures) (c .before .before .why .given .1))
-
-same-length : tie.Need-same-length
-same-length c = search needs
-
-same-length-2 : tie.Need-same-length-2
-same-length-2 c = search needs
+returns c = let s = c .before .before .before .before .before .before .before .before .args in rw (c .refused .ensures)
+    (start-refused (s .p) (s .q) (now (s .coefs)) (now (s .equations)) (now (s .basis)) (now (s .table)) (s .l) (s .r)
+    (c .before .before .before .before .before .basis-room .ensures) (c .before .before .before .before .check-start .ensures)
+    (c .before .before .why .given .1))
 
 returns-2 : tie.Need-returns-2
-returns-2 c = let s = c .before .before .before .before .before .before .before .before .before .before .before .before .args in start-passed (s .p) (s .q) (now (s .coefs)) (now (s .equations)) (now (s .basis)) (now (s .table)) (s .l) (s .r) (c .before .before .before .before .before .before .before .before .before .basis-room .ensures) (c .before .before .before .before .before .before .before .before .check-start .ensures) (c .before .before .before .before .before .before .enum-told .given .1) (c .before .before .before .begin .ensures)
+returns-2 c = let s = c .before .before .before .before .before .before .before .before .before .before .before .before .args in start-passed (s .p) (s .q)
+    (now (s .coefs)) (now (s .equations)) (now (s .basis)) (now (s .table)) (s .l) (s .r)
+    (c .before .before .before .before .before .before .before .before .before .basis-room .ensures)
+    (c .before .before .before .before .before .before .before .before .check-start .ensures)
+    (c .before .before .before .before .before .before .enum-told .given .1) (c .before .before .before .begin .ensures)
 
 pub start-spec : {M : Type 1} → statement M
 start-spec =
     tie.close
     (tie.spec
-    basis-room-requires
-    check-start-requires
-    enum-known-why
-    refused-requires
-    enum-told
+    (λ c κs. search needs)
+    (λ c κs. search needs)
+    (λ c. search needs)
+    (λ c κs. search needs)
+    (λ c. search needs)
     begin-requires
     returns
-    same-length
-    same-length-2
+    (λ c. search needs)
+    (λ c. search needs)
     returns-2)

@@ -8,9 +8,6 @@ use borrow.Author.Needs.{needs}
 use Rattle.engine_ends.proofs.answer_for.Statement.{statement}
 use Rattle.engine_ends.proofs.answer_for.Tie as tie
 
-shl-past : tie.Need-shl-past
-shl-past c = search needs
-
 sub-if1 : tie.Need-sub-if1
 sub-if1 c = let s = c in omega (arith, shift-one (s .args .p) (omega (arith, s .pre)), pow-pos (s .args .p))
 
@@ -21,4 +18,4 @@ returns-2 : tie.Need-returns-2
 returns-2 c = let s = c .before in rw (ne-eqb (s .args .done) (2 ^ s .args .p - 1) (rw (shift-one (s .args .p) (omega (arith, s .pre))) at (c .if1 .left)))
 
 pub answer-for-spec : {M : Type 1} → statement M
-answer-for-spec = tie.close (tie.spec shl-past sub-if1 returns returns-2)
+answer-for-spec = tie.close (tie.spec (λ c. search needs) sub-if1 returns returns-2)

@@ -9,9 +9,6 @@ use Rattle.engine_ends.proofs.finish_fresh.Tie as tie
 most-value-small-requires : tie.Need-most-value-small-requires
 most-value-small-requires c κs = c .before .before .pre .0 .valued .long
 
-refused-requires : tie.Need-refused-requires
-refused-requires c κs = search needs
-
 returns : tie.Need-returns
 returns c = let s = c .before .before .before .before .before in
     rw (c .refused .ensures) (fresh-large (s .pre .0) (s .pre .1) (sym (c .before .before .most-value-small .ensures) ∙ not-true _ (c .before .if1 .taken)))
@@ -19,37 +16,42 @@ returns c = let s = c .before .before .before .before .before in
 count-not-below-requires : tie.Need-count-not-below-requires
 count-not-below-requires c κs = c .before .before .before .before .pre .0 .valued .long
 
-refused-requires-2 : tie.Need-refused-requires-2
-refused-requires-2 c κs = search needs
-
 returns-2 : tie.Need-returns-2
-returns-2 c = let s = c .before .before .before .before .before .before .before in rw (c .refused2 .ensures) (fresh-full (s .pre .0) (s .pre .1) (sym (c .before .before .before .before .most-value-small .ensures) ∙ not-false _ (c .before .before .before .if1 .left)) (c .before .before .count-not-below .ensures) (c .before .if2 .taken))
+returns-2 c = let s = c .before .before .before .before .before .before .before in rw (c .refused2 .ensures)
+    (fresh-full (s .pre .0) (s .pre .1) (sym (c .before .before .before .before .most-value-small .ensures) ∙ not-false _
+    (c .before .before .before .if1 .left)) (c .before .before .count-not-below .ensures) (c .before .if2 .taken))
 
 keep-filled-requires : tie.Need-keep-filled-requires
-keep-filled-requires c κs = let s = c .before .before .before .before .before .before .before in
-    (s .pre .0 .whole, s .pre .0 .valued .long, (sym (c .before .before .before .before .most-value-small .ensures) ∙ not-false _ (c .before .before .before .if1 .left)), fresh-room (s .pre .0) (s .pre .1) (sym (c .before .before .before .before .most-value-small .ensures) ∙ not-false _ (c .before .before .before .if1 .left)) (c .before .before .count-not-below .ensures) (c .before .if2 .left))
+keep-filled-requires c κs = let s = c .before .before .before .before .before .before .before in (
+  s .pre .0 .whole,
+  s .pre .0 .valued .long,
+  (sym (c .before .before .before .before .most-value-small .ensures) ∙ not-false _
+      (c .before .before .before .if1 .left)),
+  fresh-room (s .pre .0) (s .pre .1)
+      (sym (c .before .before .before .before .most-value-small .ensures) ∙ not-false _ (c .before .before .before .if1 .left))
+      (c .before .before .count-not-below .ensures) (c .before .if2 .left),
+)
 
 rests-requires : tie.Need-rests-requires
 rests-requires c κs = c .before .before .before .before .before .before .before .before .before .before .pre .0 .ends
 
-same-length : tie.Need-same-length
-same-length c = search needs
-
 returns-3 : tie.Need-returns-3
 returns-3 c = let s = c .before .before .before .before .before .before .before .before .before .before .before in
-    fresh-done (s .pre .0) (s .pre .1) (sym (c .before .before .before .before .before .before .before .before .most-value-small .ensures) ∙ not-false _ (c .before .before .before .before .before .before .before .if1 .left)) (c .before .before .before .before .before .before .count-not-below .ensures) (c .before .before .before .before .before .if2 .left) (c .before .before .before .keep-filled .ensures .0) (c .rests .ensures)
+    fresh-done (s .pre .0) (s .pre .1) (sym (c .before .before .before .before .before .before .before .before .most-value-small .ensures) ∙ not-false _
+    (c .before .before .before .before .before .before .before .if1 .left)) (c .before .before .before .before .before .before .count-not-below .ensures)
+    (c .before .before .before .before .before .if2 .left) (c .before .before .before .keep-filled .ensures .0) (c .rests .ensures)
 
 pub finish-fresh-spec : {M : Type 1} → statement M
 finish-fresh-spec =
     tie.close
     (tie.spec
     most-value-small-requires
-    refused-requires
+    (λ c κs. search needs)
     returns
     count-not-below-requires
-    refused-requires-2
+    (λ c κs. search needs)
     returns-2
     keep-filled-requires
     rests-requires
-    same-length
+    (λ c. search needs)
     returns-3)

@@ -7,9 +7,6 @@ use borrow.Author.Needs.{needs}
 use Rattle.engine_ends.proofs.rests.Statement.{statement}
 use Rattle.engine_ends.proofs.rests.Tie as tie
 
-cast-bit : tie.Need-cast-bit
-cast-bit c = search needs
-
 shl-bit : tie.Need-shl-bit
 shl-bit c = omega (arith, c .pre .going, c .pre .few)
 
@@ -23,7 +20,10 @@ answer-for-requires : tie.Need-answer-for-requires
 answer-for-requires c κs = c .before .before .pre .few
 
 returns : tie.Need-returns
-returns c = let s = c .before .before .before in record { run-is = rw (shift-one (s .args .r .equation) (omega (arith, s .pre .going, s .pre .few))) refl; answer-is = rw (shift-one (s .args .r .equation) (omega (arith, s .pre .going, s .pre .few))) at (c .answer-for .ensures) }
+returns c = let s = c .before .before .before in record {
+  run-is = rw (shift-one (s .args .r .equation) (omega (arith, s .pre .going, s .pre .few))) refl;
+  answer-is = rw (shift-one (s .args .r .equation) (omega (arith, s .pre .going, s .pre .few))) at (c .answer-for .ensures);
+}
 
 pub rests-spec : {M : Type 1} → statement M
-rests-spec = tie.close (tie.spec cast-bit shl-bit add-done add-steps answer-for-requires returns)
+rests-spec = tie.close (tie.spec (λ c. search needs) shl-bit add-done add-steps answer-for-requires returns)

@@ -5,7 +5,7 @@ use mathlib.Core.List.{[], _∷_}
 use mir.Syntax.{named, w32, w64}
 use types.Kit.{_$_, !, by}
 use types.Run.{and-then, no-more}
-use denote.Builtin.{i32, i64, u32, u64}
+use denote.Builtin.{i32, u32}
 use denote.Plain.{uint-vals}
 use denote.Ref.{RefT, now}
 use denote.Signed.{sint-vals}
@@ -20,9 +20,9 @@ use Rattle.engine_calls.proofs.Record as Rec
 use Rattle.engine_calls.proofs.Record.Laws as Rec′
 use Rattle.engine_calls.proofs.Beside as Bes
 use Rattle.engine_calls.proofs.Beside.Laws as Bes′
-use Rattle.solver.proofs.Frame.{here, ends}
-use Rattle.solver.proofs.Walk.{Met, lent, lent-slice, number, proved, shared-slice, struct}
-use Rattle.solver.proofs.Behind.{lends}
+use Rattle.walk_ref.proofs.Frame.{here, ends}
+use Rattle.walk_ref.proofs.Walk.{Met, lent, lent-slice, number, proved, shared-slice, struct}
+use Rattle.walk_ref.proofs.Behind.{lends}
 use Rattle.engine_ref.proofs.Behind.{copies, puts-back, signed}
 use Rattle.engine.proofs.combine as callee-of
 use Rattle.engine.proofs.combine.Symbol as callee-def

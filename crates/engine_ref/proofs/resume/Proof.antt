@@ -2,7 +2,7 @@
 -- called on the copy, and the outcome's record is put back (`Behind`). All that the proof knows of the call is that it meets its contract. Assumes nothing.
 use mathlib.Core.Path.{refl}
 use mathlib.Core.List.{[], _∷_}
-use mir.Syntax.{named, w32, w64}
+use mir.Syntax.{named, w64}
 use types.Kit.{_$_, !, by}
 use types.Run.{and-then, no-more}
 use denote.Builtin.{i32, i64, u32, u64}
@@ -19,9 +19,9 @@ use Rattle.engine_calls.proofs.Record as Rec
 use Rattle.engine_calls.proofs.Record.Laws as Rec′
 use Rattle.engine_calls.proofs.Beside as Bes
 use Rattle.engine_calls.proofs.Beside.Laws as Bes′
-use Rattle.solver.proofs.Frame.{here, ends}
-use Rattle.solver.proofs.Walk.{Met, lent, lent-slice, number, proved, shared-slice, struct}
-use Rattle.solver.proofs.Behind.{lends}
+use Rattle.walk_ref.proofs.Frame.{here, ends}
+use Rattle.walk_ref.proofs.Walk.{Met, lent, lent-slice, number, proved, shared-slice}
+use Rattle.walk_ref.proofs.Behind.{lends}
 use Rattle.engine_ref.proofs.Behind.{copies, puts-back}
 use Rattle.engine_resume.proofs.resume as callee-of
 use Rattle.engine_resume.proofs.resume.Symbol as callee-def

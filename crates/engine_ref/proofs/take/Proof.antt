@@ -2,10 +2,10 @@
 -- copy, and the outcome's record is put back (`Behind`). All that the proof knows of the call is that it meets its contract. Assumes nothing.
 use mathlib.Core.Path.{refl}
 use mathlib.Core.List.{[], _∷_}
-use mir.Syntax.{named, w32, w64}
+use mir.Syntax.{named, w64}
 use types.Kit.{_$_, !, by}
 use types.Run.{and-then, no-more}
-use denote.Builtin.{i32, i64, u32, u64}
+use denote.Builtin.{i32, u32}
 use denote.Plain.{uint-vals}
 use denote.Ref.{RefT, now}
 use denote.Slice.{slice-vals}
@@ -19,9 +19,9 @@ use Rattle.engine_calls.proofs.Record as Rec
 use Rattle.engine_calls.proofs.Record.Laws as Rec′
 use Rattle.engine_calls.proofs.Beside as Bes
 use Rattle.engine_calls.proofs.Beside.Laws as Bes′
-use Rattle.solver.proofs.Frame.{here, ends}
-use Rattle.solver.proofs.Walk.{Met, lent, lent-slice, number, proved, shared-slice, struct}
-use Rattle.solver.proofs.Behind.{lends}
+use Rattle.walk_ref.proofs.Frame.{here, ends}
+use Rattle.walk_ref.proofs.Walk.{Met, lent, lent-slice, number, proved, shared-slice, struct}
+use Rattle.walk_ref.proofs.Behind.{lends}
 use Rattle.engine_ref.proofs.Behind.{copies, puts-back}
 use Rattle.engine.proofs.take as callee-of
 use Rattle.engine.proofs.take.Symbol as callee-def

@@ -50,21 +50,6 @@ module _ (f : tie.After-fall Inv-loop μ-loop) where
 loop-holds : tie.Need-loop-holds Inv-loop μ-loop
 loop-holds c = (search needs, sym (least-start _ _), falling-start _ _ _ _, low-start _ _)
 
-add-h : tie.Need-add-h Inv-loop μ-loop
-add-h c = search needs
-
-mul-is-above : tie.Need-mul-is-above Inv-loop μ-loop
-mul-is-above c = search needs
-
-shared-slice-copy-out-is-above : tie.Need-shared-slice-copy-out-is-above Inv-loop μ-loop
-shared-slice-copy-out-is-above c = search needs
-
-is-above-requires : tie.Need-is-above-requires Inv-loop μ-loop
-is-above-requires c κs = search needs
-
-loop-less : tie.Need-loop-less Inv-loop μ-loop
-loop-less c = search needs
-
 loop-again : tie.Need-loop-again Inv-loop μ-loop
 loop-again c =
     let l = c .before .before .before in
@@ -79,32 +64,11 @@ loop-again c =
       a .loop .inv .3,
     )
 
-mul-wide : tie.Need-mul-wide Inv-loop μ-loop
-mul-wide c = search needs
-
-shared-slice-read-wide : tie.Need-shared-slice-read-wide Inv-loop μ-loop
-shared-slice-read-wide c = search needs
-
-wide-requires : tie.Need-wide-requires Inv-loop μ-loop
-wide-requires c κs = search needs
-
 missing-requires : tie.Need-missing-requires Inv-loop μ-loop
 missing-requires c κs =
     let l = c .before .before .before .before .before in
     let a = l .before in
     omega (arith, c .wide .ensures, a .before .before .pre .some (a .loop .h) (l .loop-test .taken))
-
-fall-requires : tie.Need-fall-requires Inv-loop μ-loop
-fall-requires c κs = search needs
-
-mul-wide-2 : tie.Need-mul-wide-2 Inv-loop μ-loop
-mul-wide-2 c = search needs
-
-shared-slice-read-wide-2 : tie.Need-shared-slice-read-wide-2 Inv-loop μ-loop
-shared-slice-read-wide-2 c = search needs
-
-wide-requires-2 : tie.Need-wide-requires-2 Inv-loop μ-loop
-wide-requires-2 c κs = search needs
 
 add-lesser : tie.Need-add-lesser Inv-loop μ-loop
 add-lesser c =
@@ -117,12 +81,6 @@ add-lesser c =
       s .pre .low (turn f .before .loop .h) (turn f .loop-test .taken),
       s .pre .low (f .fall .result .low) (c .before .before .if2 .taken),
     )
-
-lesser-requires : tie.Need-lesser-requires Inv-loop μ-loop
-lesser-requires c κs = search needs
-
-loop-less-2 : tie.Need-loop-less-2 Inv-loop μ-loop
-loop-less-2 c = search needs
 
 loop-again-2 : tie.Need-loop-again-2 Inv-loop μ-loop
 loop-again-2 c =
@@ -137,9 +95,6 @@ loop-again-2 c =
       falling f,
       f .fall .ensures .lowest,
     )
-
-loop-less-3 : tie.Need-loop-less-3 Inv-loop μ-loop
-loop-less-3 c = search needs
 
 loop-again-3 : tie.Need-loop-again-3 Inv-loop μ-loop
 loop-again-3 c =
@@ -163,24 +118,24 @@ least-pair-spec =
     Inv-loop
     μ-loop
     loop-holds
-    add-h
-    mul-is-above
-    shared-slice-copy-out-is-above
-    is-above-requires
-    loop-less
+    (λ c. search needs)
+    (λ c. search needs)
+    (λ c. search needs)
+    (λ c κs. search needs)
+    (λ c. search needs)
     loop-again
-    mul-wide
-    shared-slice-read-wide
-    wide-requires
+    (λ c. search needs)
+    (λ c. search needs)
+    (λ c κs. search needs)
     missing-requires
-    fall-requires
-    mul-wide-2
-    shared-slice-read-wide-2
-    wide-requires-2
+    (λ c κs. search needs)
+    (λ c. search needs)
+    (λ c. search needs)
+    (λ c κs. search needs)
     add-lesser
-    lesser-requires
-    loop-less-2
+    (λ c κs. search needs)
+    (λ c. search needs)
     loop-again-2
-    loop-less-3
+    (λ c. search needs)
     loop-again-3
     returns)

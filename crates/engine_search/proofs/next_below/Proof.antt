@@ -20,40 +20,16 @@ abbrev μ-loop : tie.MeasureT-loop
 loop-holds : tie.Need-loop-holds Inv-loop μ-loop
 loop-holds c = passed-start _ _ _ _
 
-mul-wide : tie.Need-mul-wide Inv-loop μ-loop
-mul-wide c = search needs
-
-shared-slice-read-wide : tie.Need-shared-slice-read-wide Inv-loop μ-loop
-shared-slice-read-wide c = search needs
-
-wide-requires : tie.Need-wide-requires Inv-loop μ-loop
-wide-requires c κs = search needs
-
 returns : tie.Need-returns Inv-loop μ-loop
 returns c =
     let l = c .before .before .before in
     let s = l .before .before .before in
     below-past (l .before .loop .inv) (s .pre) (l .loop-test .taken) (omega (arith, c .before .wide .ensures, c .if1 .taken))
 
-add-k : tie.Need-add-k Inv-loop μ-loop
-add-k c = search needs
-
-loop-less : tie.Need-loop-less Inv-loop μ-loop
-loop-less c = search needs
-
 loop-again : tie.Need-loop-again Inv-loop μ-loop
 loop-again c =
     let a = c .before .before .before .before .before in
     passed-next (a .loop .inv) (λ b e. omega (arith, c .before .before .wide .ensures, c .if2 .taken))
-
-mul-is-below : tie.Need-mul-is-below Inv-loop μ-loop
-mul-is-below c = search needs
-
-shared-slice-copy-out-is-below : tie.Need-shared-slice-copy-out-is-below Inv-loop μ-loop
-shared-slice-copy-out-is-below c = search needs
-
-is-below-requires : tie.Need-is-below-requires Inv-loop μ-loop
-is-below-requires c κs = search needs
 
 returns-2 : tie.Need-returns-2 Inv-loop μ-loop
 returns-2 c =
@@ -63,9 +39,6 @@ returns-2 c =
     let known = toZ-ofZ {w = w64} {z = valueOf (now (s .args .values)) (a .loop .k)} (sfits-of (c .before .before .is-below-arg .given)) in
     below-here (a .loop .inv) _ (rw known at (told (c .before .is-below .ensures) (c .if3 .taken)))
     (omega (arith, w .wide .ensures, c .before .before .before .before .if1 .left, c .before .before .before .if2 .left))
-
-loop-less-2 : tie.Need-loop-less-2 Inv-loop μ-loop
-loop-less-2 c = search needs
 
 loop-again-2 : tie.Need-loop-again-2 Inv-loop μ-loop
 loop-again-2 c =
@@ -84,17 +57,17 @@ next-below-spec =
     Inv-loop
     μ-loop
     loop-holds
-    mul-wide
-    shared-slice-read-wide
-    wide-requires
+    (λ c. search needs)
+    (λ c. search needs)
+    (λ c κs. search needs)
     returns
-    add-k
-    loop-less
+    (λ c. search needs)
+    (λ c. search needs)
     loop-again
-    mul-is-below
-    shared-slice-copy-out-is-below
-    is-below-requires
+    (λ c. search needs)
+    (λ c. search needs)
+    (λ c κs. search needs)
     returns-2
-    loop-less-2
+    (λ c. search needs)
     loop-again-2
     returns-3)

@@ -4,19 +4,10 @@ use Rattle.engine_search.specs.Places.{nextDegreeBy}
 use Rattle.engine_search.proofs.next_degree.Statement.{statement}
 use Rattle.engine_search.proofs.next_degree.Tie as tie
 
-least-pair-requires : tie.Need-least-pair-requires
-least-pair-requires c κs = search needs
-
-least-size-requires : tie.Need-least-size-requires
-least-size-requires c κs = search needs
-
-lesser-requires : tie.Need-lesser-requires
-lesser-requires c κs = search needs
-
 returns : tie.Need-returns
 unfolding nextDegreeBy
 returns c = cc (c .lesser .ensures, c .before .least-size .ensures, c .before .before .least-pair .ensures)
 
 pub next-degree-spec : {M : Type 1} → statement M
 next-degree-spec =
-    tie.close (tie.spec least-pair-requires least-size-requires lesser-requires returns)
+    tie.close (tie.spec (λ c κs. search needs) (λ c κs. search needs) (λ c κs. search needs) returns)

@@ -62,35 +62,8 @@ module _ (b : tie.After-next-below Inv-loop μ-loop) where
       (max (turn .before .loop .lower) (b .before .before .back .result)) (b .next-below .result)
   scanned = rw (b .before .greatest .ensures) at (b .next-below .ensures)
 
-least-requires : tie.Need-least-requires Inv-loop μ-loop
-least-requires c κs = search needs
-
 loop-holds : tie.Need-loop-holds Inv-loop μ-loop
 loop-holds c = (omega (arith, c .least .ensures), searched-start _ _ _ _ _ _, falling-least (c .before .before .pre .1) (c .least .ensures))
-
-mul-wide : tie.Need-mul-wide Inv-loop μ-loop
-mul-wide c = search needs
-
-shared-slice-read-wide : tie.Need-shared-slice-read-wide Inv-loop μ-loop
-shared-slice-read-wide c = search needs
-
-wide-requires : tie.Need-wide-requires Inv-loop μ-loop
-wide-requires c κs = search needs
-
-add-upper : tie.Need-add-upper Inv-loop μ-loop
-add-upper c = search needs
-
-mul-is-above : tie.Need-mul-is-above Inv-loop μ-loop
-mul-is-above c = search needs
-
-shared-slice-copy-out-is-above : tie.Need-shared-slice-copy-out-is-above Inv-loop μ-loop
-shared-slice-copy-out-is-above c = search needs
-
-is-above-requires : tie.Need-is-above-requires Inv-loop μ-loop
-is-above-requires c κs = search needs
-
-loop-less : tie.Need-loop-less Inv-loop μ-loop
-loop-less c = search needs
 
 loop-again : tie.Need-loop-again Inv-loop μ-loop
 loop-again c =
@@ -100,18 +73,6 @@ loop-again c =
     let not-above = rw known at (untold (c .before .is-above .ensures) (not-true _ (c .if2 .taken))) in
     (a .loop .inv .0, searched-skip (a .loop .inv .1) not-above, falling-next (s .pre .0) (a .loop .inv .2))
 
-sub-e : tie.Need-sub-e Inv-loop μ-loop
-sub-e c = search needs
-
-back-requires : tie.Need-back-requires Inv-loop μ-loop
-back-requires c κs = search needs
-
-greatest-requires : tie.Need-greatest-requires Inv-loop μ-loop
-greatest-requires c κs = search needs
-
-next-below-requires : tie.Need-next-below-requires Inv-loop μ-loop
-next-below-requires c κs = search needs
-
 returns : tie.Need-returns Inv-loop μ-loop
 returns c =
     let b = c .before in
@@ -119,9 +80,6 @@ returns c =
     found-next (turn b .loop-test .taken)
     (row-found (a .loop .inv .1) (start b .pre .0) (turn b .loop-test .taken) (above b) (sum b) (fallen b) (b .before .before .back .ensures) (scanned b)
     (omega (arith, c .if3 .taken, turn b .loop-test .taken)) (a .loop .inv .2))
-
-loop-less-2 : tie.Need-loop-less-2 Inv-loop μ-loop
-loop-less-2 c = search needs
 
 loop-again-2 : tie.Need-loop-again-2 Inv-loop μ-loop
 loop-again-2 c =
@@ -148,23 +106,23 @@ next-pair-spec =
     (tie.spec
     Inv-loop
     μ-loop
-    least-requires
+    (λ c κs. search needs)
     loop-holds
-    mul-wide
-    shared-slice-read-wide
-    wide-requires
-    add-upper
-    mul-is-above
-    shared-slice-copy-out-is-above
-    is-above-requires
-    loop-less
+    (λ c. search needs)
+    (λ c. search needs)
+    (λ c κs. search needs)
+    (λ c. search needs)
+    (λ c. search needs)
+    (λ c. search needs)
+    (λ c κs. search needs)
+    (λ c. search needs)
     loop-again
-    sub-e
-    back-requires
-    greatest-requires
-    next-below-requires
+    (λ c. search needs)
+    (λ c κs. search needs)
+    (λ c κs. search needs)
+    (λ c κs. search needs)
     returns
-    loop-less-2
+    (λ c. search needs)
     loop-again-2
     returns-2
     returns-3)

@@ -4,53 +4,23 @@ use mathlib.Core.Path.{_≡_, sym, _∙_}
 use native.Mathlib.Omega.{arith}
 use borrow.Author.Tests.{ne-eqb}
 use Rattle.texts.specs.Reading.{digit}
-use Rattle.equation_form.specs.Scan.{step}
+use Rattle.equation_spec.specs.Scan.{step}
 use Rattle.equation_scan.specs.ScanSteps.{number-any}
 use borrow.Author.Needs.{needs}
 use Rattle.equation_scan.proofs.advance.Statement.{statement}
 use Rattle.equation_scan.proofs.advance.Tie as tie
 
-enum-told : tie.Need-enum-told
-enum-told c = search needs
-
-sum-begins-requires : tie.Need-sum-begins-requires
-sum-begins-requires c κs = search needs
-
-enum-told-2 : tie.Need-enum-told-2
-enum-told-2 c = search needs
-
 returns : tie.Need-returns
 unfolding step
 returns c = rw (c .before .enum-told2 .given .1, c .if1 .taken)
-
-sum-begins-requires-2 : tie.Need-sum-begins-requires-2
-sum-begins-requires-2 c κs = search needs
-
-enum-told-3 : tie.Need-enum-told-3
-enum-told-3 c = search needs
 
 returns-2 : tie.Need-returns-2
 unfolding step
 returns-2 c = rw (c .before .enum-told3 .given .1, c .if2 .taken)
 
-term-begins-requires : tie.Need-term-begins-requires
-term-begins-requires c κs = search needs
-
-enum-told-4 : tie.Need-enum-told-4
-enum-told-4 c = search needs
-
 returns-3 : tie.Need-returns-3
 unfolding step
 returns-3 c = rw (c .before .enum-told4 .given .1, c .if3 .taken)
-
-factor-begins-requires : tie.Need-factor-begins-requires
-factor-begins-requires c κs = search needs
-
-enum-told-5 : tie.Need-enum-told-5
-enum-told-5 c = search needs
-
-is-digit-requires : tie.Need-is-digit-requires
-is-digit-requires c κs = search needs
 
 indexed-requires : tie.Need-indexed-requires
 indexed-requires c κs = (c .before .before .before .before .pre .0, sym (c .before .is-digit .ensures) ∙ c .if4 .taken)
@@ -62,24 +32,6 @@ returns-4 c = let i = c .before .before in
     let e : 0 * 10 + digit (s .args .byte) ≡ digit (s .args .byte) = omega arith in
     rw (i .before .enum-told5 .given .1, sym (i .is-digit .ensures) ∙ c .before .if4 .taken) (rw e at (c .indexed .ensures))
 
-enum-known-phase : tie.Need-enum-known-phase
-enum-known-phase c = search needs
-
-in-number-requires : tie.Need-in-number-requires
-in-number-requires c κs = search needs
-
-enum-told-6 : tie.Need-enum-told-6
-enum-told-6 c = search needs
-
-after-digits-requires : tie.Need-after-digits-requires
-after-digits-requires c κs = search needs
-
-enum-known-phase-2 : tie.Need-enum-known-phase-2
-enum-known-phase-2 c = search needs
-
-is-digit-requires-2 : tie.Need-is-digit-requires-2
-is-digit-requires-2 c κs = search needs
-
 indexed-requires-2 : tie.Need-indexed-requires-2
 indexed-requires-2 c κs = (c .before .before .before .before .before .pre .0, sym (c .before .is-digit2 .ensures) ∙ c .if5 .taken)
 
@@ -87,21 +39,6 @@ returns-5 : tie.Need-returns-5
 unfolding step
 returns-5 c = let i = c .before .before in
     rw (i .before .before .phase2 .given .1, sym (i .is-digit2 .ensures) ∙ c .before .if5 .taken) (c .indexed2 .ensures)
-
-after-factor-requires : tie.Need-after-factor-requires
-after-factor-requires c κs = search needs
-
-enum-told-7 : tie.Need-enum-told-7
-enum-told-7 c = search needs
-
-after-factor-requires-2 : tie.Need-after-factor-requires-2
-after-factor-requires-2 c κs = search needs
-
-enum-told-8 : tie.Need-enum-told-8
-enum-told-8 c = search needs
-
-after-factor-requires-3 : tie.Need-after-factor-requires-3
-after-factor-requires-3 c κs = search needs
 
 returns-6 : tie.Need-returns-6
 unfolding step
@@ -147,34 +84,34 @@ pub advance-spec : {M : Type 1} → statement M
 advance-spec =
     tie.close
     (tie.spec
-    enum-told
-    sum-begins-requires
-    enum-told-2
+    (λ c. search needs)
+    (λ c κs. search needs)
+    (λ c. search needs)
     returns
-    sum-begins-requires-2
-    enum-told-3
+    (λ c κs. search needs)
+    (λ c. search needs)
     returns-2
-    term-begins-requires
-    enum-told-4
+    (λ c κs. search needs)
+    (λ c. search needs)
     returns-3
-    factor-begins-requires
-    enum-told-5
-    is-digit-requires
+    (λ c κs. search needs)
+    (λ c. search needs)
+    (λ c κs. search needs)
     indexed-requires
     returns-4
-    enum-known-phase
-    in-number-requires
-    enum-told-6
-    after-digits-requires
-    enum-known-phase-2
-    is-digit-requires-2
+    (λ c. search needs)
+    (λ c κs. search needs)
+    (λ c. search needs)
+    (λ c κs. search needs)
+    (λ c. search needs)
+    (λ c κs. search needs)
     indexed-requires-2
     returns-5
-    after-factor-requires
-    enum-told-7
-    after-factor-requires-2
-    enum-told-8
-    after-factor-requires-3
+    (λ c κs. search needs)
+    (λ c. search needs)
+    (λ c κs. search needs)
+    (λ c. search needs)
+    (λ c κs. search needs)
     returns-6
     returns-7
     returns-8

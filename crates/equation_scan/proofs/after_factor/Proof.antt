@@ -1,5 +1,5 @@
 -- `equation_scan::after_factor` meets its contract. Assumes nothing.
-use Rattle.equation_form.specs.Scan.{afterFactor}
+use Rattle.equation_spec.specs.Scan.{afterFactor}
 use borrow.Author.Tests.{ne-eqb}
 use borrow.Author.Needs.{needs}
 use Rattle.equation_scan.proofs.after_factor.Statement.{statement}
@@ -9,12 +9,9 @@ returns : tie.Need-returns
 unfolding afterFactor
 returns c = rw (c .if1 .taken)
 
-onward-requires : tie.Need-onward-requires
-onward-requires c κs = search needs
-
 returns-2 : tie.Need-returns-2
 unfolding afterFactor
 returns-2 c = rw (ne-eqb _ 32 (c .before .if1 .left)) (c .onward .ensures)
 
 pub after-factor-spec : {M : Type 1} → statement M
-after-factor-spec = tie.close (tie.spec returns onward-requires returns-2)
+after-factor-spec = tie.close (tie.spec returns (λ c κs. search needs) returns-2)

@@ -1,6 +1,6 @@
 -- `equation_scan::factor_begins` meets its contract. Assumes nothing.
 use native.Mathlib.Numerals.{add-one}
-use Rattle.equation_form.specs.Scan.{factorBegins}
+use Rattle.equation_spec.specs.Scan.{factorBegins}
 use borrow.Author.Tests.{ne-eqb}
 use borrow.Author.Needs.{needs}
 use Rattle.equation_scan.proofs.factor_begins.Statement.{statement}
@@ -9,9 +9,6 @@ use Rattle.equation_scan.proofs.factor_begins.Tie as tie
 returns : tie.Need-returns
 unfolding factorBegins
 returns c = rw (c .if1 .taken)
-
-add-t7 : tie.Need-add-t7
-add-t7 c = search needs
 
 returns-2 : tie.Need-returns-2
 unfolding factorBegins
@@ -22,4 +19,4 @@ unfolding factorBegins
 returns-3 c = rw (ne-eqb _ 120 (c .before .if1 .left), ne-eqb _ 40 (c .if2 .left))
 
 pub factor-begins-spec : {M : Type 1} → statement M
-factor-begins-spec = tie.close (tie.spec returns add-t7 returns-2 returns-3)
+factor-begins-spec = tie.close (tie.spec returns (λ c. search needs) returns-2 returns-3)

@@ -5,23 +5,11 @@ use borrow.Author.Needs.{needs}
 use Rattle.equation_scan.proofs.in_number.Statement.{statement}
 use Rattle.equation_scan.proofs.in_number.Tie as tie
 
-after-digits-requires : tie.Need-after-digits-requires
-after-digits-requires c κs = search needs
-
 returns : tie.Need-returns
 returns c = c .after-digits .ensures ∙ digit-last _ _ _ 0 _ (c .before .if1 .taken)
 
-is-digit-requires : tie.Need-is-digit-requires
-is-digit-requires c κs = search needs
-
-sub-t7 : tie.Need-sub-t7
-sub-t7 c = search needs
-
 returns-2 : tie.Need-returns-2
 returns-2 c = digit-next _ _ _ 0 _ (c .before .before .if1 .left) (sym (c .before .is-digit .ensures) ∙ c .if2 .taken)
-
-after-digits-requires-2 : tie.Need-after-digits-requires-2
-after-digits-requires-2 c κs = search needs
 
 returns-3 : tie.Need-returns-3
 returns-3 c = c .after-digits2 .ensures ∙ digit-none _ _ _ 0 _ (sym (c .before .before .is-digit .ensures) ∙ c .before .if2 .left)
@@ -30,10 +18,10 @@ pub in-number-spec : {M : Type 1} → statement M
 in-number-spec =
     tie.close
     (tie.spec
-    after-digits-requires
+    (λ c κs. search needs)
     returns
-    is-digit-requires
-    sub-t7
+    (λ c κs. search needs)
+    (λ c. search needs)
     returns-2
-    after-digits-requires-2
+    (λ c κs. search needs)
     returns-3)

@@ -12,17 +12,8 @@ returns : tie.Need-returns
 returns c = let s = c .before in
     index-above (s .args .q) (s .args .k * 10 + digit (s .args .byte)) _ _ (omega (arith, c .if1 .taken, s .pre .0))
 
-mul-n : tie.Need-mul-n
-mul-n c = search needs
-
 sub-n : tie.Need-sub-n
 sub-n c = digit-range _ (c .before .pre .1) .0
-
-cast-n : tie.Need-cast-n
-cast-n c = search needs
-
-add-n : tie.Need-add-n
-add-n c = search needs
 
 returns-2 : tie.Need-returns-2
 returns-2 c = index-none _ _ _ _ (c .if2 .taken)
@@ -34,4 +25,4 @@ returns-4 : tie.Need-returns-4
 returns-4 c = index-some _ _ _ _ (c .before .if2 .left) (c .if3 .left)
 
 pub indexed-spec : {M : Type 1} → statement M
-indexed-spec = tie.close (tie.spec returns mul-n sub-n cast-n add-n returns-2 returns-3 returns-4)
+indexed-spec = tie.close (tie.spec returns (λ c. search needs) sub-n (λ c. search needs) (λ c. search needs) returns-2 returns-3 returns-4)

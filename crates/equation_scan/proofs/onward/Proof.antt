@@ -1,5 +1,5 @@
 -- `equation_scan::onward` meets its contract. Assumes nothing.
-use Rattle.equation_form.specs.Scan.{onward as onwardStep}
+use Rattle.equation_spec.specs.Scan.{onward as onwardStep}
 use Rattle.equation_scan.specs.ScanSteps.{close-none, close-some, onward-other, equals-open, equals-right, equals-first}
 use borrow.Author.Needs.{needs}
 use Rattle.equation_scan.proofs.onward.Statement.{statement}
@@ -15,9 +15,6 @@ returns-2 c = rw (c .if2 .taken)
 
 returns-3 : tie.Need-returns-3
 returns-3 c = close-none _ _ _ (c .before .if3 .taken) (c .if4 .taken)
-
-sub-t9 : tie.Need-sub-t9
-sub-t9 c = search needs
 
 returns-4 : tie.Need-returns-4
 returns-4 c = close-some _ _ _ (c .before .if3 .taken) (c .if4 .left)
@@ -37,4 +34,4 @@ returns-8 c = equals-first _ _ _ (c .before .before .if5 .left) (c .before .if6 
 pub onward-spec : {M : Type 1} → statement M
 onward-spec =
     tie.close
-    (tie.spec returns returns-2 returns-3 sub-t9 returns-4 returns-5 returns-6 returns-7 returns-8)
+    (tie.spec returns returns-2 returns-3 (λ c. search needs) returns-4 returns-5 returns-6 returns-7 returns-8)

@@ -6,7 +6,7 @@ use native.Mathlib.Omega.{arith}
 use lib.ListN.{length, getD, drop}
 use denote.Ref.{now}
 use borrow.Author.Needs.{needs}
-use Rattle.equation_form.specs.Scan.{placeFrom, place}
+use Rattle.equation_spec.specs.Scan.{placeFrom, place}
 use Rattle.equation_scan.specs.Phases.{phaseOf}
 use Rattle.equation_scan.specs.ScanSteps.{at-fault, at-step, at-end, opened-most}
 use Rattle.equation_scan.proofs.place.Statement.{statement}
@@ -23,15 +23,9 @@ loop-holds : tie.Need-loop-holds Inv-loop μ-loop
 unfolding place
 loop-holds c = (omega arith, omega arith, refl)
 
-shared-slice-read-advance : tie.Need-shared-slice-read-advance Inv-loop μ-loop
-shared-slice-read-advance c = search needs
-
 advance-requires : tie.Need-advance-requires Inv-loop μ-loop
 advance-requires c κs = let l = c .before in
     (l .before .before .before .pre .1, omega (arith, l .before .loop .inv .0, l .loop-test .taken, l .before .before .before .pre .0))
-
-enum-told : tie.Need-enum-told Inv-loop μ-loop
-enum-told c = search needs
 
 add-result : tie.Need-add-result Inv-loop μ-loop
 add-result c = omega (arith, c .before .before .before .before .loop-test .taken)
@@ -43,9 +37,6 @@ returns c = let a = c .before .before in
     at-fault (s .args .q) (now (s .args .text)) (l .before .loop .i) (phaseOf (l .before .loop .phase)) (l .before .loop .opened) (l .before .loop .right)
     (l .loop-test .taken) (rw (c .enum-told .given .1) at (a .advance .ensures))
     ∙ l .before .loop .inv .2
-
-enum-known-p : tie.Need-enum-known-p Inv-loop μ-loop
-enum-known-p c = search needs
 
 add-i : tie.Need-add-i Inv-loop μ-loop
 add-i c = omega (arith, c .before .before .before .before .before .loop-test .taken)
@@ -99,12 +90,12 @@ place-spec =
     Inv-loop
     μ-loop
     loop-holds
-    shared-slice-read-advance
+    (λ c. search needs)
     advance-requires
-    enum-told
+    (λ c. search needs)
     add-result
     returns
-    enum-known-p
+    (λ c. search needs)
     add-i
     loop-less
     loop-again

@@ -1,5 +1,5 @@
 -- `equation_scan::sum_begins` meets its contract. Assumes nothing.
-use Rattle.equation_form.specs.Scan.{sumBegins}
+use Rattle.equation_spec.specs.Scan.{sumBegins}
 use borrow.Author.Tests.{ne-eqb}
 use borrow.Author.Needs.{needs}
 use Rattle.equation_scan.proofs.sum_begins.Statement.{statement}
@@ -13,12 +13,9 @@ returns-2 : tie.Need-returns-2
 unfolding sumBegins
 returns-2 c = rw (c .if2 .taken)
 
-term-begins-requires : tie.Need-term-begins-requires
-term-begins-requires c κs = search needs
-
 returns-3 : tie.Need-returns-3
 unfolding sumBegins
 returns-3 c = rw (ne-eqb _ 43 (c .before .before .if1 .left), ne-eqb _ 45 (c .before .if2 .left)) (c .term-begins .ensures)
 
 pub sum-begins-spec : {M : Type 1} → statement M
-sum-begins-spec = tie.close (tie.spec returns returns-2 term-begins-requires returns-3)
+sum-begins-spec = tie.close (tie.spec returns returns-2 (λ c κs. search needs) returns-3)

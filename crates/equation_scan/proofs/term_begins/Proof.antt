@@ -1,17 +1,11 @@
 -- `equation_scan::term_begins` meets its contract. Assumes nothing.
 use mathlib.Core.Path.{sym, _∙_}
-use Rattle.equation_form.specs.Scan.{termBegins}
+use Rattle.equation_spec.specs.Scan.{termBegins}
 use borrow.Author.Tests.{not-true, not-false}
 use Rattle.equation_scan.specs.ScanSteps.{number-first}
 use borrow.Author.Needs.{needs}
 use Rattle.equation_scan.proofs.term_begins.Statement.{statement}
 use Rattle.equation_scan.proofs.term_begins.Tie as tie
-
-is-digit-requires : tie.Need-is-digit-requires
-is-digit-requires c κs = search needs
-
-factor-begins-requires : tie.Need-factor-begins-requires
-factor-begins-requires c κs = search needs
 
 returns : tie.Need-returns
 unfolding termBegins
@@ -26,4 +20,4 @@ returns-3 c = number-first _ _ _ (sym (c .before .before .is-digit .ensures) ∙
 
 pub term-begins-spec : {M : Type 1} → statement M
 term-begins-spec =
-    tie.close (tie.spec is-digit-requires factor-begins-requires returns returns-2 returns-3)
+    tie.close (tie.spec (λ c κs. search needs) (λ c κs. search needs) returns returns-2 returns-3)

@@ -10,24 +10,6 @@ use Rattle.equation_systems.specs.CallLaws.{line-refused, lines-accepted
 use Rattle.equation_systems.proofs.read_equations.Statement.{statement}
 use Rattle.equation_systems.proofs.read_equations.Tie as tie
 
-slice-aggregate-read-lines : tie.Need-slice-aggregate-read-lines
-slice-aggregate-read-lines c = search needs
-
-slice-aggregate-read-lines-2 : tie.Need-slice-aggregate-read-lines-2
-slice-aggregate-read-lines-2 c = search needs
-
-read-lines-requires : tie.Need-read-lines-requires
-read-lines-requires c κs = search needs
-
-enum-known-line : tie.Need-enum-known-line
-enum-known-line c = search needs
-
-enum-known-line-2 : tie.Need-enum-known-line-2
-enum-known-line-2 c = search needs
-
-enum-told : tie.Need-enum-told
-enum-told c = search needs
-
 -- what was read is within the arrays
 inside : (c : tie.After-enum-told)
     → c .before .before .before .before .before .before .before .before .args .p * c .before .before .before .before .before .before .before .before .args .q
@@ -50,26 +32,14 @@ array-share-prefix-found c = inside c
 slice-aggregate-hand-out : tie.Need-slice-aggregate-hand-out
 slice-aggregate-hand-out c = sym (length-take-le _ _ (inside (c .before)))
 
-array-share-prefix-sides : tie.Need-array-share-prefix-sides
-array-share-prefix-sides c = search needs
-
 slice-aggregate-hand-out-2 : tie.Need-slice-aggregate-hand-out-2
 slice-aggregate-hand-out-2 c = sym (length-take-le _ _ (sides-inside (c .before .before)))
-
-hand-out-requires : tie.Need-hand-out-requires
-hand-out-requires c κs = search needs
 
 returns : tie.Need-returns
 returns c = line-refused _ _ _ _ (rw (c .before .line .given .1) at (c .before .before .before .before .before .read-lines .ensures))
 
 returns-2 : tie.Need-returns-2
 returns-2 c = line-refused _ _ _ _ (rw (c .before .line2 .given .1) at (c .before .before .before .before .before .read-lines .ensures))
-
-same-length : tie.Need-same-length
-same-length c = search needs
-
-same-length-2 : tie.Need-same-length-2
-same-length-2 c = search needs
 
 returns-3 : tie.Need-returns-3
 returns-3 c =
@@ -80,20 +50,20 @@ pub read-equations-spec : {M : Type 1} → statement M
 read-equations-spec =
     tie.close
     (tie.spec
-    slice-aggregate-read-lines
-    slice-aggregate-read-lines-2
-    read-lines-requires
-    enum-known-line
-    enum-known-line-2
-    enum-told
+    (λ c. search needs)
+    (λ c. search needs)
+    (λ c κs. search needs)
+    (λ c. search needs)
+    (λ c. search needs)
+    (λ c. search needs)
     mul-n
     array-share-prefix-found
     slice-aggregate-hand-out
-    array-share-prefix-sides
+    (λ c. search needs)
     slice-aggregate-hand-out-2
-    hand-out-requires
+    (λ c κs. search needs)
     returns
     returns-2
-    same-length
-    same-length-2
+    (λ c. search needs)
+    (λ c. search needs)
     returns-3)

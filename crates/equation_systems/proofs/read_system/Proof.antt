@@ -8,9 +8,6 @@ use Rattle.equation_systems.proofs.read_system.Tie as tie
 returns : tie.Need-returns
 returns c = too-long _ _ _ _ (c .if1 .taken)
 
-count-requires : tie.Need-count-requires
-count-requires c κs = search needs
-
 returns-2 : tie.Need-returns-2
 returns-2 c = let k = c .before in no-line _ _ _ _ _ (k .count .ensures) (k .before .if1 .left) (c .if2 .taken)
 
@@ -24,15 +21,6 @@ returns-4 c = let f = c .before in let e = f .before in let k = e .before in
 returns-5 : tie.Need-returns-5
 returns-5 c = let g = c .before in let f = g .before in let e = f .before in let k = e .before in
     many-unknowns _ _ _ _ _ (k .count .ensures) (k .before .if1 .left) (e .if2 .left) (f .if3 .left) (g .if4 .left) (c .if5 .taken)
-
-read-equations-requires : tie.Need-read-equations-requires
-read-equations-requires c κs = search needs
-
-same-length : tie.Need-same-length
-same-length c = search needs
-
-same-length-2 : tie.Need-same-length-2
-same-length-2 c = search needs
 
 returns-6 : tie.Need-returns-6
 returns-6 c =
@@ -49,12 +37,12 @@ read-system-spec =
     tie.close
     (tie.spec
     returns
-    count-requires
+    (λ c κs. search needs)
     returns-2
     returns-3
     returns-4
     returns-5
-    read-equations-requires
-    same-length
-    same-length-2
+    (λ c κs. search needs)
+    (λ c. search needs)
+    (λ c. search needs)
     returns-6)

@@ -8,12 +8,6 @@ use Rattle.equation_write.proofs.hand_out.Tie as tie
 returns : tie.Need-returns
 returns c = let s = c .before .before .before in no-space (now (s .args .text)) (now (s .args .out)) (c .if1 .taken)
 
-word-requires : tie.Need-word-requires
-word-requires c κs = search needs
-
-same-length : tie.Need-same-length
-same-length c = search needs
-
 returns-2 : tie.Need-returns-2
 returns-2 c =
     let w = c .before .before in
@@ -22,4 +16,4 @@ returns-2 c =
     handed-out (now (s .args .text)) (now (s .args .out)) (f .if1 .left) (w .word .ensures)
 
 pub hand-out-spec : {M : Type 1} → statement M
-hand-out-spec = tie.close (tie.spec returns word-requires same-length returns-2)
+hand-out-spec = tie.close (tie.spec returns (λ c κs. search needs) (λ c. search needs) returns-2)

@@ -20,9 +20,6 @@ number-requires c κs = let b = c .before .before .before in
     let s = f .before .before in
     omega (arith, b .byte .ensures .place, b .byte .ensures .same, ap length (multiple-one (s .args .m) (s .args .k) (f .if1 .taken)), s .pre .1)
 
-same-length : tie.Need-same-length
-same-length c = search needs
-
 returns : tie.Need-returns
 returns c = let n = c .before .before in
     let b = n .before .before .before .before in
@@ -34,9 +31,6 @@ number-requires-2 c κs = let f = c .before in
     let s = f .before .before in
     let x = ap length (multiple-many (s .args .m) (s .args .k) (s .pre .0) (f .if1 .left)) in
     omega (arith, x ∙ length-append (decimal (s .args .m)) _, s .pre .1)
-
-slice-aggregate-word : tie.Need-slice-aggregate-word
-slice-aggregate-word c = search needs
 
 word-requires : tie.Need-word-requires
 word-requires c κs = let n = c .before .before .before .before in
@@ -61,9 +55,6 @@ number-requires-3 c κs = let w = c .before .before .before in
       s .pre .1,
     )
 
-same-length-2 : tie.Need-same-length-2
-same-length-2 c = search needs
-
 returns-2 : tie.Need-returns-2
 returns-2 c = let o = c .before .before in
     let w = o .before .before .before .before in
@@ -78,11 +69,11 @@ multiple-spec =
     (tie.spec
     byte-requires
     number-requires
-    same-length
+    (λ c. search needs)
     returns
     number-requires-2
-    slice-aggregate-word
+    (λ c. search needs)
     word-requires
     number-requires-3
-    same-length-2
+    (λ c. search needs)
     returns-2)

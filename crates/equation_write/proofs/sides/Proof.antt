@@ -4,16 +4,10 @@ use denote.Ref.{now}
 use mir.Facts.{toZ-ofZ}
 use borrow.Author.Needs.{needs}
 use Rattle.texts.specs.Put.{put-then}
-use Rattle.equation_form.specs.Writing.{written}
+use Rattle.equation_spec.specs.Writing.{written}
 use Rattle.equation_write.specs.CallLaws.{sides-short}
 use Rattle.equation_write.proofs.sides.Statement.{statement}
 use Rattle.equation_write.proofs.sides.Tie as tie
-
-terms-requires : tie.Need-terms-requires
-terms-requires c κs = search needs
-
-slice-aggregate-word : tie.Need-slice-aggregate-word
-slice-aggregate-word c = search needs
 
 word-requires : tie.Need-word-requires
 word-requires c κs =
@@ -45,9 +39,6 @@ signed-requires c κs =
       ),
     )
 
-same-length : tie.Need-same-length
-same-length c = search needs
-
 returns : tie.Need-returns
 unfolding written
 returns c =
@@ -67,4 +58,4 @@ returns c =
     )
 
 pub sides-spec : {M : Type 1} → statement M
-sides-spec = tie.close (tie.spec terms-requires slice-aggregate-word word-requires signed-requires same-length returns)
+sides-spec = tie.close (tie.spec (λ c κs. search needs) (λ c. search needs) word-requires signed-requires (λ c. search needs) returns)

@@ -7,14 +7,11 @@ use mir.Syntax.{w32}
 use mir.Val.{ofZ, toZ}
 use mir.Facts.{toZ-ofZ}
 use Rattle.texts.specs.Put.{put-then}
-use Rattle.equation_laws.specs.WriteLaws.{multiple-short}
+use Rattle.equation_spec.specs.WriteLaws.{multiple-short}
 use Rattle.equation_write.specs.TextLaws.{lead-short, negative-is}
 use borrow.Author.Needs.{needs}
 use Rattle.equation_write.proofs.term.Statement.{statement}
 use Rattle.equation_write.proofs.term.Tie as tie
-
-lead-requires : tie.Need-lead-requires
-lead-requires c κs = search needs
 
 size-requires : tie.Need-size-requires
 size-requires c κs =
@@ -36,9 +33,6 @@ multiple-requires c κs = let l = c .before .before .before .before in
       )),
     )
 
-same-length : tie.Need-same-length
-same-length c = search needs
-
 returns : tie.Need-returns
 returns c = let m = c .before .before in
     let z = m .before in
@@ -48,4 +42,4 @@ returns c = let m = c .before .before in
     put-then (rw (toZ-ofZ (s .fits .c), negative-is (s .args .c)) at (l .lead .ensures)) (rw e at (m .multiple .ensures))
 
 pub term-spec : {M : Type 1} → statement M
-term-spec = tie.close (tie.spec lead-requires size-requires multiple-requires same-length returns)
+term-spec = tie.close (tie.spec (λ c κs. search needs) size-requires multiple-requires (λ c. search needs) returns)

@@ -12,7 +12,7 @@ use native.Mathlib.Omega.{arith}
 use lib.ListN.{length, drop, getD}
 use denote.Ref.{now}
 use borrow.Author.Needs.{needs}
-use Rattle.equation_form.specs.Writing.{terms}
+use Rattle.equation_spec.specs.Writing.{terms}
 use Rattle.equation_write.specs.Texts.{restText}
 use Rattle.equation_write.proofs.terms.Statement.{statement}
 use Rattle.equation_write.proofs.terms.Tie as tie
@@ -26,15 +26,6 @@ abbrev μ-loop : tie.MeasureT-loop
 
 loop-holds : tie.Need-loop-holds Inv-loop μ-loop
 loop-holds c = (rest-begins _ _ _, omega arith, omega arith)
-
-mul-c : tie.Need-mul-c Inv-loop μ-loop
-mul-c c = search needs
-
-shared-slice-copy-out-c : tie.Need-shared-slice-copy-out-c Inv-loop μ-loop
-shared-slice-copy-out-c c = search needs
-
-add-i : tie.Need-add-i Inv-loop μ-loop
-add-i c = search needs
 
 loop-less : tie.Need-loop-less Inv-loop μ-loop
 loop-less c = omega (arith, c .before .before .loop-test .taken)
@@ -116,9 +107,9 @@ terms-spec =
     Inv-loop
     μ-loop
     loop-holds
-    mul-c
-    shared-slice-copy-out-c
-    add-i
+    (λ c. search needs)
+    (λ c. search needs)
+    (λ c. search needs)
     loop-less
     loop-again
     term-requires

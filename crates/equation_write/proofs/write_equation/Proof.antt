@@ -16,15 +16,6 @@ returns-2 c = many-unknowns _ _ _ _ (c .before .if1 .left) (c .if2 .taken)
 returns-3 : tie.Need-returns-3
 returns-3 c = other-length _ _ _ _ (c .before .before .if1 .left) (c .before .if2 .left) (c .if3 .taken)
 
-check-requires : tie.Need-check-requires
-check-requires c κs = search needs
-
-enum-known-why : tie.Need-enum-known-why
-enum-known-why c = search needs
-
-enum-told : tie.Need-enum-told
-enum-told c = search needs
-
 write-row-requires : tie.Need-write-row-requires
 write-row-requires c κs =
     let t = c .before in
@@ -39,9 +30,6 @@ returns-4 c =
     let e₃ = k .before in
     let e₂ = e₃ .before in
     large _ _ _ _ (e₂ .before .if1 .left) (e₂ .if2 .left) (e₃ .if3 .left) (rw (v .why .given .1) at (k .check .ensures))
-
-same-length : tie.Need-same-length
-same-length c = search needs
 
 returns-5 : tie.Need-returns-5
 returns-5 c =
@@ -62,10 +50,10 @@ write-equation-spec =
     returns
     returns-2
     returns-3
-    check-requires
-    enum-known-why
-    enum-told
+    (λ c κs. search needs)
+    (λ c. search needs)
+    (λ c. search needs)
     write-row-requires
     returns-4
-    same-length
+    (λ c. search needs)
     returns-5)

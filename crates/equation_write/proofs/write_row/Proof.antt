@@ -10,13 +10,10 @@ use borrow.Author.Needs.{needs}
 use borrow.Author.Tests.{ltb-false}
 use Rattle.definitions.specs.System.{coefLimit}
 use Rattle.definitions.specs.Refusals.{outOfRange}
-use Rattle.equation_form.specs.Writing.{written}
+use Rattle.equation_spec.specs.Writing.{written}
 use Rattle.equation_write.specs.CallLaws.{right-out, right-in}
 use Rattle.equation_write.proofs.write_row.Statement.{statement}
 use Rattle.equation_write.proofs.write_row.Tie as tie
-
-out-of-range-requires : tie.Need-out-of-range-requires
-out-of-range-requires c κs = search needs
 
 returns : tie.Need-returns
 returns c =
@@ -24,9 +21,6 @@ returns c =
     let s = o .before .before in
     right-out (s .args .right) (written (now (s .args .row)) (s .args .right)) (now (s .args .out))
     (sym (rw (toZ-ofZ (s .fits .right)) at (o .out-of-range .ensures)) ∙ c .if1 .taken)
-
-slice-aggregate-sides : tie.Need-slice-aggregate-sides
-slice-aggregate-sides c = search needs
 
 -- the right side is in range
 in-range : (f : tie.Else1) → outOfRange (f .before .before .before .args .right) ≡ false
@@ -40,17 +34,8 @@ sides-requires c κs =
     let s = f .before .before .before in
     rw (toZ-ofZ (s .fits .right)) (s .pre .0, s .pre .1, ltb-false coefLimit (natAbs (s .args .right)) (in-range f), search needs)
 
-array-share-prefix-text : tie.Need-array-share-prefix-text
-array-share-prefix-text c = search needs
-
 slice-aggregate-hand-out : tie.Need-slice-aggregate-hand-out
 slice-aggregate-hand-out c = simp length-take (omega arith)
-
-hand-out-requires : tie.Need-hand-out-requires
-hand-out-requires c κs = search needs
-
-same-length : tie.Need-same-length
-same-length c = search needs
 
 returns-2 : tie.Need-returns-2
 returns-2 c =
@@ -65,12 +50,12 @@ pub write-row-spec : {M : Type 1} → statement M
 write-row-spec =
     tie.close
     (tie.spec
-    out-of-range-requires
+    (λ c κs. search needs)
     returns
-    slice-aggregate-sides
+    (λ c. search needs)
     sides-requires
-    array-share-prefix-text
+    (λ c. search needs)
     slice-aggregate-hand-out
-    hand-out-requires
-    same-length
+    (λ c κs. search needs)
+    (λ c. search needs)
     returns-2)

@@ -38,9 +38,6 @@ module _ (s : tie.Start Inv-loop μ-loop) where
 abbrev begun : tie.In-loop Inv-loop μ-loop → tie.Start Inv-loop μ-loop
 begun l = l .before .before .before .before
 
-mul-negated : tie.Need-mul-negated Inv-loop μ-loop
-mul-negated c = search needs
-
 shared-slice-copy-out-negated : tie.Need-shared-slice-copy-out-negated Inv-loop μ-loop
 shared-slice-copy-out-negated c = omega (arith, c .pre .0 .sides)
 
@@ -102,12 +99,6 @@ mul-t26 c = let l = c .before in omega (arith, next-place (begun l) (l .before .
 element-set-from-wide-2 : tie.Need-element-set-from-wide-2 Inv-loop μ-loop
 element-set-from-wide-2 c = let l = c .before in omega (arith, next-place (begun l) (l .before .loop .j) (l .loop-test .taken))
 
-add-j : tie.Need-add-j Inv-loop μ-loop
-add-j c = search needs
-
-loop-less : tie.Need-loop-less Inv-loop μ-loop
-loop-less c = search needs
-
 loop-again : tie.Need-loop-again Inv-loop μ-loop
 loop-again c =
     let l = c .before in
@@ -137,7 +128,7 @@ row-spec =
     (tie.spec
     Inv-loop
     μ-loop
-    mul-negated
+    (λ c. search needs)
     shared-slice-copy-out-negated
     negated-requires
     add-t11
@@ -155,7 +146,7 @@ row-spec =
     add-t25
     mul-t26
     element-set-from-wide-2
-    add-j
-    loop-less
+    (λ c. search needs)
+    (λ c. search needs)
     loop-again
     returns)

@@ -1,6 +1,5 @@
 -- `extended::write` meets its contract. Assumes nothing.
-use mathlib.Core.Path.{_≡_}
-use Prim.Native.Nat.{ℕ, _+_, _-_, _≤_, _<_}
+use Prim.Native.Nat.{_+_, _-_, _≤_}
 use native.Mathlib.Nat.{le-antisymm}
 use native.Mathlib.Omega.{arith}
 use borrow.Author.Needs.{needs}
@@ -23,12 +22,6 @@ row-requires c κs =
     let a = l .before in
     (sided-less (a .before .pre .0) (a .loop .i + 1) (omega (arith, l .loop-test .taken)), a .loop .inv .1 .size)
 
-add-i : tie.Need-add-i Inv-loop μ-loop
-add-i c = search needs
-
-loop-less : tie.Need-loop-less Inv-loop μ-loop
-loop-less c = search needs
-
 loop-again : tie.Need-loop-again Inv-loop μ-loop
 loop-again c = (search needs, extends-next (c .before .before .before .loop .inv .1) (c .row .ensures))
 
@@ -36,4 +29,4 @@ returns : tie.Need-returns Inv-loop μ-loop
 returns c = rw (le-antisymm (c .before .loop .inv .0) (c .loop-test .left)) at (c .before .loop .inv .1)
 
 pub write-spec : {M : Type 1} → statement M
-write-spec = tie.close (tie.spec Inv-loop μ-loop loop-holds row-requires add-i loop-less loop-again returns)
+write-spec = tie.close (tie.spec Inv-loop μ-loop loop-holds row-requires (λ c. search needs) (λ c. search needs) loop-again returns)

@@ -5,15 +5,6 @@ use Rattle.list_read.specs.CallLaws.{read-refused, read-done, readable}
 use Rattle.list_read.proofs.read_list.Statement.{statement}
 use Rattle.list_read.proofs.read_list.Tie as tie
 
-check-requires : tie.Need-check-requires
-check-requires c κs = search needs
-
-enum-known-why : tie.Need-enum-known-why
-enum-known-why c = search needs
-
-enum-told : tie.Need-enum-told
-enum-told c = search needs
-
 hand-out-requires : tie.Need-hand-out-requires
 hand-out-requires c κs =
     let told = c .before .before in
@@ -27,12 +18,6 @@ returns c =
     let a = k .before .before .before .args in
     read-refused (now (a .file)) (now (a .coefs)) (now (a .list)) (k .check .ensures) (c .before .why .given .1)
 
-same-length : tie.Need-same-length
-same-length c = search needs
-
-same-length-2 : tie.Need-same-length-2
-same-length-2 c = search needs
-
 returns-2 : tie.Need-returns-2
 returns-2 c =
     let done = c .before .before .before in
@@ -45,11 +30,11 @@ pub read-list-spec : {M : Type 1} → statement M
 read-list-spec =
     tie.close
     (tie.spec
-    check-requires
-    enum-known-why
-    enum-told
+    (λ c κs. search needs)
+    (λ c. search needs)
+    (λ c. search needs)
     hand-out-requires
     returns
-    same-length
-    same-length-2
+    (λ c. search needs)
+    (λ c. search needs)
     returns-2)

@@ -1,20 +1,11 @@
 -- `list_write::write_list` meets its contract: refused with nothing written, or all written. Assumes nothing.
 use denote.Ref.{now}
 use borrow.Author.Needs.{needs}
-use Rattle.list_form.specs.Form.{ListFile}
+use Rattle.list_spec.specs.Form.{ListFile}
 use Rattle.list_write.specs.Answer.{listOf}
 use Rattle.list_write.specs.CallLaws.{write-refused, write-done, writable}
 use Rattle.list_write.proofs.write_list.Statement.{statement}
 use Rattle.list_write.proofs.write_list.Tie as tie
-
-check-requires : tie.Need-check-requires
-check-requires c κs = search needs
-
-enum-known-why : tie.Need-enum-known-why
-enum-known-why c = search needs
-
-enum-told : tie.Need-enum-told
-enum-told c = search needs
 
 abbrev list : tie.Start → ListFile
 list s = listOf (s .args .p) (s .args .q) (now (s .args .coefs)) (now (s .args .rows)) (s .args .ending)
@@ -31,9 +22,6 @@ returns c =
     let s = k .before .before .before in
     write-refused (list s) (now (s .args .out)) (k .check .ensures) (c .before .why .given .1)
 
-same-length : tie.Need-same-length
-same-length c = search needs
-
 returns-2 : tie.Need-returns-2
 returns-2 c =
     let told = c .before .before .before .before in
@@ -44,4 +32,4 @@ returns-2 c =
 pub write-list-spec : {M : Type 1} → statement M
 write-list-spec =
     tie.close
-    (tie.spec check-requires enum-known-why enum-told write-requires returns same-length returns-2)
+    (tie.spec (λ c κs. search needs) (λ c. search needs) (λ c. search needs) write-requires returns (λ c. search needs) returns-2)

@@ -6,15 +6,6 @@ use Rattle.lists.specs.Places.{placeOf}
 use Rattle.lists.proofs.covered.Statement.{statement}
 use Rattle.lists.proofs.covered.Tie as tie
 
-highest-requires : tie.Need-highest-requires
-highest-requires c κs = search needs
-
-enum-told : tie.Need-enum-told
-enum-told c = search needs
-
-enum-told-2 : tie.Need-enum-told-2
-enum-told-2 c = search needs
-
 returns : tie.Need-returns
 returns c = sym (covered-some _ _ _ _ (sym (c .before .before .highest .ensures) ∙ ap placeOf (c .enum-told .given .1)))
 
@@ -22,4 +13,4 @@ returns-2 : tie.Need-returns-2
 returns-2 c = sym (covered-none _ _ _ _ (sym (c .before .before .highest .ensures) ∙ ap placeOf (c .enum-told2 .given .1)))
 
 pub covered-spec : {M : Type 1} → statement M
-covered-spec = tie.close (tie.spec highest-requires enum-told enum-told-2 returns returns-2)
+covered-spec = tie.close (tie.spec (λ c κs. search needs) (λ c. search needs) (λ c. search needs) returns returns-2)

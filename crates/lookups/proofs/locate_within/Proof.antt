@@ -17,9 +17,6 @@ returns-2 c = many-unknowns _ _ _ _ _ (le-leb _ _ (c .before .if1 .left)) (lt-le
 returns-3 : tie.Need-returns-3
 returns-3 c = let b = c .before in other-length _ _ _ _ _ (le-leb _ _ (b .before .if1 .left)) (le-leb _ _ (b .if2 .left)) (ne-eqb _ _ (c .if3 .taken))
 
-div-if4 : tie.Need-div-if4
-div-if4 c = search needs
-
 returns-4 : tie.Need-returns-4
 returns-4 c =
     let l = c .before .before in
@@ -30,12 +27,6 @@ highest-requires : tie.Need-highest-requires
 highest-requires c κs =
     let l = c .before .before in
     (l .before .before .if1 .left, omega (arith, l .if3 .left), rows-fit _ _ (c .if4 .left))
-
-enum-known-n : tie.Need-enum-known-n
-enum-known-n c = search needs
-
-enum-told : tie.Need-enum-told
-enum-told c = search needs
 
 returns-5 : tie.Need-returns-5
 returns-5 c =
@@ -62,10 +53,10 @@ locate-within-spec =
     returns
     returns-2
     returns-3
-    div-if4
+    (λ c. search needs)
     returns-4
     highest-requires
-    enum-known-n
-    enum-told
+    (λ c. search needs)
+    (λ c. search needs)
     returns-5
     returns-6)

@@ -8,13 +8,12 @@ use denote.Ref.{now}
 use borrow.Author.Needs.{needs}
 use Rattle.definitions.specs.Answers as paper
 use Rattle.definitions.specs.Calls.{machineFrom, machineOf}
-use Rattle.definitions.specs.Input.{Input, alone, boundOf, inputWith, limitOf}
+use Rattle.definitions.specs.Input.{Input, alone, inputWith, limitOf}
 use Rattle.definitions.specs.Machine.{Outcome, walk}
 use Rattle.definitions.specs.System.{plain}
-use Rattle.definitions.specs.Tables.{State, lowered, wholeOf}
+use Rattle.definitions.specs.Tables.{State, lowered}
 use Rattle.laws.specs.LowerLaws.{ValidFrom, plain-valid}
 use Rattle.calls.specs.Paper.{answerOf, kindOf, stateWith, systemWith}
-use Rattle.calls.specs.declared.Answer.{Answer}
 use Rattle.lower_walk.specs.Lower.{change-made, change-valid, changed-walk, ended-by, first-row, plainly, steps-more}
 use Rattle.lower_walk.proofs.both.Statement.{statement}
 use Rattle.lower_walk.proofs.both.Tie as tie
@@ -49,26 +48,11 @@ made w =
     (stateWith (now (a .stack)) (now (a .second)) (now (a .list)) r))
     (w .before .plain-part .ensures)
 
-limit-of-requires : tie.Need-limit-of-requires
-limit-of-requires c κs = search needs
-
-plain-part-requires : tie.Need-plain-part-requires
-plain-part-requires c κs = search needs
-
 walk-requires : tie.Need-walk-requires
 walk-requires c κs =
     let l = c .before .before .before .before in
     let s = l .before .before .before .before .before in
     (rw (c .plain-part .ensures, l .limit-of .ensures) (plain-valid (now (s .args .lower)) (inputAt s) (stateAt s) (s .pre .1) (s .pre .0)), tt)
-
-enum-told : tie.Need-enum-told
-enum-told c = search needs
-
-whole-requires : tie.Need-whole-requires
-whole-requires c κs = search needs
-
-enum-told-2 : tie.Need-enum-told-2
-enum-told-2 c = search needs
 
 -- the record has the steps of the plain walk more, and these are within the budget
 sub-left : tie.Need-sub-left
@@ -94,9 +78,6 @@ write-lower-requires c κs =
     let f = first-row (now (s .args .lower)) (inputAt s) (stateAt s) (s .pre .0) (s .pre .1) (s .args .budget) in
     (omega (arith, e, f .0), f .1)
 
-lowered-requires : tie.Need-lowered-requires
-lowered-requires c κs = search needs
-
 further-requires : tie.Need-further-requires
 further-requires c κs =
     let l = c .before .before .before .before .before .before in
@@ -107,27 +88,6 @@ further-requires c κs =
     (l .write-lower .ensures) (c .lowered .ensures) in
     let v = change-valid (now (s .args .lower)) (inputAt s) (stateAt s) (s .pre .0) (s .pre .1) (s .args .budget) in
     (subst (ValidFrom (now (s .args .lower)) (inputAt s)) (sym m) v, ap (λ r. kindOf (r .kind)) (c .lowered .ensures))
-
-enum-told-3 : tie.Need-enum-told-3
-enum-told-3 c = search needs
-
-whole-requires-2 : tie.Need-whole-requires-2
-whole-requires-2 c κs = search needs
-
-enum-known-answer : tie.Need-enum-known-answer
-enum-known-answer c = search needs
-
-whole-requires-3 : tie.Need-whole-requires-3
-whole-requires-3 c κs = search needs
-
-same-length : tie.Need-same-length
-same-length c = search needs
-
-same-length-2 : tie.Need-same-length-2
-same-length-2 c = search needs
-
-same-length-3 : tie.Need-same-length-3
-same-length-3 c = search needs
 
 returns : tie.Need-returns
 returns c =
@@ -177,15 +137,6 @@ returns-2 c =
     ∙ changed-walk (now (s .args .lower)) (inputAt s) (stateAt s) (s .pre .0) (s .pre .1) (s .args .budget)
     (sym (ap (λ o. o .answer) told) ∙ ap answerOf (t .enum-told2 .given .1)) left (omega (arith, counted, m .0, m .1))
 
-same-length-7 : tie.Need-same-length-7
-same-length-7 c = search needs
-
-same-length-8 : tie.Need-same-length-8
-same-length-8 c = search needs
-
-same-length-9 : tie.Need-same-length-9
-same-length-9 c = search needs
-
 returns-3 : tie.Need-returns-3
 returns-3 c =
     let w = walkOf (c .before .before .before) in
@@ -193,15 +144,6 @@ returns-3 c =
     rw (c .whole2 .ensures)
     (ended-by (now (s .args .lower)) (inputAt s) (stateAt s) (s .pre .0) (s .pre .1) (s .args .budget) _ (w .walk .ensures (λ t. paper.go) ∙ made w)
     (c .before .enum-told3 .given .1) refl (λ e. let z : _≡_ {A = ℕ} 0 1 = cc in omega arith))
-
-same-length-10 : tie.Need-same-length-10
-same-length-10 c = search needs
-
-same-length-11 : tie.Need-same-length-11
-same-length-11 c = search needs
-
-same-length-12 : tie.Need-same-length-12
-same-length-12 c = search needs
 
 returns-4 : tie.Need-returns-4
 returns-4 c =
@@ -215,34 +157,34 @@ pub both-spec : {M : Type 1} → statement M
 both-spec =
     tie.close
     (tie.spec
-    limit-of-requires
-    plain-part-requires
+    (λ c κs. search needs)
+    (λ c κs. search needs)
     walk-requires
-    enum-told
-    whole-requires
-    enum-told-2
+    (λ c. search needs)
+    (λ c κs. search needs)
+    (λ c. search needs)
     sub-left
     sub-left-2
     write-lower-requires
-    lowered-requires
+    (λ c κs. search needs)
     further-requires
-    enum-told-3
-    whole-requires-2
-    enum-known-answer
-    whole-requires-3
-    same-length
-    same-length-2
-    same-length-3
+    (λ c. search needs)
+    (λ c κs. search needs)
+    (λ c. search needs)
+    (λ c κs. search needs)
+    (λ c. search needs)
+    (λ c. search needs)
+    (λ c. search needs)
     returns
     same-length-4
     same-length-5
     same-length-6
     returns-2
-    same-length-7
-    same-length-8
-    same-length-9
+    (λ c. search needs)
+    (λ c. search needs)
+    (λ c. search needs)
     returns-3
-    same-length-10
-    same-length-11
-    same-length-12
+    (λ c. search needs)
+    (λ c. search needs)
+    (λ c. search needs)
     returns-4)

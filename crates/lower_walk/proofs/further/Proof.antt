@@ -1,5 +1,5 @@
 -- `lower_walk::further` meets its contract: the walk above the bound, under the limit that counts. Assumes nothing.
-use mathlib.Core.Path.{_≡_, sym, _∙_, ap}
+use mathlib.Core.Path.{sym, _∙_, ap}
 use native.Mathlib.Omega.{arith}
 use denote.Ref.{now}
 use borrow.Author.Needs.{needs}
@@ -11,7 +11,6 @@ use Rattle.definitions.specs.System.{above}
 use Rattle.definitions.specs.Tables.{State}
 use Rattle.laws.specs.LowerLaws.{above-valid}
 use Rattle.laws.specs.LowerWalk.{above-walks}
-use Rattle.laws.specs.RefusalLaws.{Valid}
 use Rattle.calls.specs.Paper.{stateWith, systemWith}
 use Rattle.lower_walk.proofs.further.Statement.{statement}
 use Rattle.lower_walk.proofs.further.Tie as tie
@@ -22,23 +21,11 @@ inputAt s = let a = s .args in inputWith alone (a .limit) (a .p) (a .q) (now (a 
 abbrev stateAt : tie.Start → State
 stateAt s = let a = s .args in stateWith (now (a .stack)) (now (a .list)) (now (a .second)) (a .r)
 
-limit-of-requires : tie.Need-limit-of-requires
-limit-of-requires c κs = search needs
-
 walk-requires : tie.Need-walk-requires
 walk-requires c κs =
     let l = c .before .before .before in
     let s = l .before .before .before .before .before in
     (rw (l .limit-of .ensures) (above-valid (now (s .args .lower)) (inputAt s) (stateAt s) (s .pre .1) (s .pre .0)), omega (arith, s .pre .0 .long))
-
-same-length : tie.Need-same-length
-same-length c = search needs
-
-same-length-2 : tie.Need-same-length-2
-same-length-2 c = search needs
-
-same-length-3 : tie.Need-same-length-3
-same-length-3 c = search needs
 
 unasked : State → Check
 unasked s = go
@@ -55,4 +42,4 @@ returns c =
     ∙ sym (above-walks unasked (now (a .lower)) (inputAt s) (a .budget) (stateAt s) (s .pre .1))
 
 pub further-spec : {M : Type 1} → statement M
-further-spec = tie.close (tie.spec limit-of-requires walk-requires same-length same-length-2 same-length-3 returns)
+further-spec = tie.close (tie.spec (λ c κs. search needs) walk-requires (λ c. search needs) (λ c. search needs) (λ c. search needs) returns)

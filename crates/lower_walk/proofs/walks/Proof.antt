@@ -1,6 +1,5 @@
 -- `lower_walk::walks` meets its contract: the kind of the run says which walk is under way. Assumes nothing.
-use mathlib.Core.Path.{_≡_, sym, _∙_}
-use native.Mathlib.Omega.{arith}
+use mathlib.Core.Path.{sym, _∙_}
 use denote.Ref.{now}
 use borrow.Author.Needs.{needs}
 use Rattle.definitions.specs.Input.{alone, inputWith}
@@ -8,9 +7,6 @@ use Rattle.calls.specs.Paper.{stateWith}
 use Rattle.lower_walk.specs.Lower.{names-above, names-plain}
 use Rattle.lower_walk.proofs.walks.Statement.{statement}
 use Rattle.lower_walk.proofs.walks.Tie as tie
-
-run-number-requires : tie.Need-run-number-requires
-run-number-requires c κs = search needs
 
 both-requires : tie.Need-both-requires
 both-requires c κs =
@@ -21,15 +17,6 @@ both-requires c κs =
       names-plain (now (a .lower)) (inputWith alone (a .limit) (a .p) (a .q) (now (a .coefs)))
           (stateWith (now (a .stack)) (now (a .list)) (now (a .second)) (a .r)) (s .pre) (sym (t .before .run-number .ensures) ∙ t .if1 .taken),
     )
-
-same-length : tie.Need-same-length
-same-length c = search needs
-
-same-length-2 : tie.Need-same-length-2
-same-length-2 c = search needs
-
-same-length-3 : tie.Need-same-length-3
-same-length-3 c = search needs
 
 returns : tie.Need-returns
 returns c = c .before .before .before .before .before .before .both .ensures
@@ -44,15 +31,6 @@ further-requires c κs =
           (stateWith (now (a .stack)) (now (a .list)) (now (a .second)) (a .r)) (s .pre) (λ e. t .if1 .left (t .before .run-number .ensures ∙ e)),
     )
 
-same-length-4 : tie.Need-same-length-4
-same-length-4 c = search needs
-
-same-length-5 : tie.Need-same-length-5
-same-length-5 c = search needs
-
-same-length-6 : tie.Need-same-length-6
-same-length-6 c = search needs
-
 returns-2 : tie.Need-returns-2
 returns-2 c = c .before .before .before .before .before .before .further .ensures
 
@@ -60,14 +38,14 @@ pub walks-spec : {M : Type 1} → statement M
 walks-spec =
     tie.close
     (tie.spec
-    run-number-requires
+    (λ c κs. search needs)
     both-requires
-    same-length
-    same-length-2
-    same-length-3
+    (λ c. search needs)
+    (λ c. search needs)
+    (λ c. search needs)
     returns
     further-requires
-    same-length-4
-    same-length-5
-    same-length-6
+    (λ c. search needs)
+    (λ c. search needs)
+    (λ c. search needs)
     returns-2)

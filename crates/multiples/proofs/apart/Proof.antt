@@ -9,23 +9,11 @@ use Rattle.multiples.proofs.apart.Tie as tie
 returns : tie.Need-returns
 returns c = let a = c .before .before .before .before .args in no-space-at (a .q) (a .found) (a .list .now) (a .t .now) (a .times .now) (c .if1 .taken)
 
-slice-aggregate-write : tie.Need-slice-aggregate-write
-slice-aggregate-write c = search needs
-
-write-requires : tie.Need-write-requires
-write-requires c κs = search needs
-
-slice-aggregate-take : tie.Need-slice-aggregate-take
-slice-aggregate-take c = search needs
-
 take-requires : tie.Need-take-requires
 take-requires c κs =
     let w = c .before .before .before in
     let s = w .before .before .before .before .before .before in
     (s .pre .2, rw (written-long (s .args .q) (replicate 32 0) (s .args .t .now) (w .write .ensures)) (s .pre .0), search needs)
-
-slice-aggregate-vanishes : tie.Need-slice-aggregate-vanishes
-slice-aggregate-vanishes c = search needs
 
 vanishes-requires : tie.Need-vanishes-requires
 vanishes-requires c κs =
@@ -33,9 +21,6 @@ vanishes-requires c κs =
     let w = k .before .before .before .before in
     let s = w .before .before .before .before .before .before in
     omega (arith, s .pre .0, k .take .kept .1 .1 .1 .0, written-long (s .args .q) (replicate 32 0) (s .args .t .now) (w .write .ensures))
-
-same-length : tie.Need-same-length
-same-length c = search needs
 
 returns-2 : tie.Need-returns-2
 returns-2 c =
@@ -45,9 +30,6 @@ returns-2 c =
     made-at (a .q) (a .found) (a .list .now) (a .t .now) (a .times .now) (search needs)
     (written-same (a .q) (replicate 32 0) (a .t .now) (search needs) (w .write .ensures))
     (k .take .ensures .0) (k .take .ensures .1) (c .before .vanishes .ensures) (c .if2 .taken)
-
-same-length-2 : tie.Need-same-length-2
-same-length-2 c = search needs
 
 returns-3 : tie.Need-returns-3
 returns-3 c =
@@ -63,13 +45,13 @@ apart-spec =
     tie.close
     (tie.spec
     returns
-    slice-aggregate-write
-    write-requires
-    slice-aggregate-take
+    (λ c. search needs)
+    (λ c κs. search needs)
+    (λ c. search needs)
     take-requires
-    slice-aggregate-vanishes
+    (λ c. search needs)
     vanishes-requires
-    same-length
+    (λ c. search needs)
     returns-2
-    same-length-2
+    (λ c. search needs)
     returns-3)

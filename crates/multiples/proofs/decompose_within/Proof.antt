@@ -7,24 +7,13 @@ use Rattle.multiples.specs.AnswerLaws.{off-at, refused-at, solved-at, so
 use Rattle.multiples.proofs.decompose_within.Statement.{statement}
 use Rattle.multiples.proofs.decompose_within.Tie as tie
 
-why-not-requires : tie.Need-why-not-requires
-why-not-requires c κs = search needs
-
-enum-known-why : tie.Need-enum-known-why
-enum-known-why c = search needs
-
-enum-known-k : tie.Need-enum-known-k
-enum-known-k c = search needs
-
-enum-told : tie.Need-enum-told
-enum-told c = search needs
-
 apart-requires : tie.Need-apart-requires
 apart-requires c κs =
     let w = c .before .before .before in
     let a = w .before .before .before .before .args in
     solves-fits (sizes (a .equations) (a .unknowns)) (a .p) (a .q) (a .coefs .now) (a .list .now) (a .found) (a .t .now)
-    (w .before .before .before .before .pre) (rw (c .before .enum-told .given .1) at (w .why-not .ensures))
+    (w .before .before .before .before .pre)
+    (rw (c .before .enum-told .given .1) at (w .why-not .ensures))
 
 returns : tie.Need-returns
 returns c =
@@ -41,9 +30,6 @@ returns-2 c =
     (off-told (w .before .before .before .before .pre) (a .p) (a .q) (a .coefs .now) (a .list .now) (a .found) (a .t .now)
     (sym (rw (c .before .k .given .1) at (w .why-not .ensures))))
 
-same-length : tie.Need-same-length
-same-length c = search needs
-
 returns-3 : tie.Need-returns-3
 returns-3 c =
     let k = c .before .before in
@@ -56,12 +42,12 @@ pub decompose-within-spec : {M : Type 1} → statement M
 decompose-within-spec =
     tie.close
     (tie.spec
-    why-not-requires
-    enum-known-why
-    enum-known-k
-    enum-told
+    (λ c κs. search needs)
+    (λ c. search needs)
+    (λ c. search needs)
+    (λ c. search needs)
     apart-requires
     returns
     returns-2
-    same-length
+    (λ c. search needs)
     returns-3)

@@ -1,5 +1,5 @@
 -- `add_coefficient` meets its contract. The row is written up to j; a place that is read is as it was. Assumes nothing.
-use mathlib.Core.Path.{_≡_, refl, ap, _∙_}
+use mathlib.Core.Path.{_≡_, ap, _∙_}
 use Prim.Native.Nat.{_+_, _*_, _-_, _≤_}
 use native.Mathlib.Nat.{le-antisymm}
 use native.Mathlib.Omega.{arith}
@@ -62,21 +62,6 @@ shared-slice-copy-out-x c = omega (arith, row c, c .pre .0 .3)
 loop-holds : tie.Need-loop-holds Inv-loop μ-loop
 loop-holds c = (search needs, written-none)
 
-mul-sum-and : tie.Need-mul-sum-and Inv-loop μ-loop
-mul-sum-and c = search needs
-
-add-sum-and : tie.Need-add-sum-and Inv-loop μ-loop
-add-sum-and c = search needs
-
-mul-sum-and-2 : tie.Need-mul-sum-and-2 Inv-loop μ-loop
-mul-sum-and-2 c = search needs
-
-element-copy-out-sum-and : tie.Need-element-copy-out-sum-and Inv-loop μ-loop
-element-copy-out-sum-and c = search needs
-
-wide-requires : tie.Need-wide-requires Inv-loop μ-loop
-wide-requires c κs = search needs
-
 mul-wide : tie.Need-mul-wide Inv-loop μ-loop
 mul-wide c = let l = c .before .before in omega (arith, row (s l), l .loop-test .taken)
 
@@ -89,9 +74,6 @@ mul-wide-2 c = let l = c .before .before in omega (arith, row (s l), l .loop-tes
 shared-slice-copy-out-wide : tie.Need-shared-slice-copy-out-wide Inv-loop μ-loop
 shared-slice-copy-out-wide c = let l = c .before .before in omega (arith, row (s l), l .loop-test .taken)
 
-wide-requires-2 : tie.Need-wide-requires-2 Inv-loop μ-loop
-wide-requires-2 c κs = search needs
-
 sum-and-requires : tie.Need-sum-and-requires Inv-loop μ-loop
 sum-and-requires c κs =
     let l = c .before .before .before .before in
@@ -99,24 +81,6 @@ sum-and-requires c κs =
     let x = c .before .before .wide .ensures ∙ toZ-ofZ (coef-fits small _) in
     let y = c .wide2 .ensures ∙ toZ-ofZ (coef-fits small _) in
     next-fits (terms l) (s l .args .e) (held l) (s l .pre .0 .2) x y
-
-mul-t29 : tie.Need-mul-t29 Inv-loop μ-loop
-mul-t29 c = search needs
-
-add-t30 : tie.Need-add-t30 Inv-loop μ-loop
-add-t30 c = search needs
-
-mul-t31 : tie.Need-mul-t31 Inv-loop μ-loop
-mul-t31 c = search needs
-
-element-set-from-g : tie.Need-element-set-from-g Inv-loop μ-loop
-element-set-from-g c = search needs
-
-add-j : tie.Need-add-j Inv-loop μ-loop
-add-j c = search needs
-
-loop-less : tie.Need-loop-less Inv-loop μ-loop
-loop-less c = search needs
 
 loop-again : tie.Need-loop-again Inv-loop μ-loop
 unfolding gram
@@ -143,22 +107,22 @@ add-coefficient-spec =
     mul-x-2
     shared-slice-copy-out-x
     loop-holds
-    mul-sum-and
-    add-sum-and
-    mul-sum-and-2
-    element-copy-out-sum-and
-    wide-requires
+    (λ c. search needs)
+    (λ c. search needs)
+    (λ c. search needs)
+    (λ c. search needs)
+    (λ c κs. search needs)
     mul-wide
     add-wide
     mul-wide-2
     shared-slice-copy-out-wide
-    wide-requires-2
+    (λ c κs. search needs)
     sum-and-requires
-    mul-t29
-    add-t30
-    mul-t31
-    element-set-from-g
-    add-j
-    loop-less
+    (λ c. search needs)
+    (λ c. search needs)
+    (λ c. search needs)
+    (λ c. search needs)
+    (λ c. search needs)
+    (λ c. search needs)
     loop-again
     returns)

@@ -37,21 +37,6 @@ module _ (l : tie.In-loop Inv-loop μ-loop) where
       ap (ofZ w64) (written-ahead (a .loop .inv .1) (omega arith) (omega (arith, l .loop-test .taken, s .pre .0 .0 .unknowns))
       ∙ s .pre .1 .sums (a .loop .j) (l .loop-test .taken))
 
-add-x : tie.Need-add-x Inv-loop μ-loop
-add-x c = search needs
-
-mul-x : tie.Need-mul-x Inv-loop μ-loop
-mul-x c = search needs
-
-add-x-2 : tie.Need-add-x-2 Inv-loop μ-loop
-add-x-2 c = search needs
-
-mul-x-2 : tie.Need-mul-x-2 Inv-loop μ-loop
-mul-x-2 c = search needs
-
-shared-slice-read-x : tie.Need-shared-slice-read-x Inv-loop μ-loop
-shared-slice-read-x c = search needs
-
 returns : tie.Need-returns Inv-loop μ-loop
 returns c =
     let s = c .before .before .before in
@@ -61,55 +46,10 @@ returns c =
 loop-holds : tie.Need-loop-holds Inv-loop μ-loop
 loop-holds c = (search needs, written-none)
 
-mul-sum-and : tie.Need-mul-sum-and Inv-loop μ-loop
-mul-sum-and c = search needs
-
-add-sum-and : tie.Need-add-sum-and Inv-loop μ-loop
-add-sum-and c = search needs
-
-mul-sum-and-2 : tie.Need-mul-sum-and-2 Inv-loop μ-loop
-mul-sum-and-2 c = search needs
-
-element-copy-out-sum-and : tie.Need-element-copy-out-sum-and Inv-loop μ-loop
-element-copy-out-sum-and c = search needs
-
-natural-requires : tie.Need-natural-requires Inv-loop μ-loop
-natural-requires c κs = search needs
-
-mul-sum-and-3 : tie.Need-mul-sum-and-3 Inv-loop μ-loop
-mul-sum-and-3 c = search needs
-
-add-sum-and-2 : tie.Need-add-sum-and-2 Inv-loop μ-loop
-add-sum-and-2 c = search needs
-
-mul-sum-and-4 : tie.Need-mul-sum-and-4 Inv-loop μ-loop
-mul-sum-and-4 c = search needs
-
-element-copy-out-sum-and-2 : tie.Need-element-copy-out-sum-and-2 Inv-loop μ-loop
-element-copy-out-sum-and-2 c = search needs
-
 sum-and-requires : tie.Need-sum-and-requires Inv-loop μ-loop
 sum-and-requires c κs =
     let l = c .before .before .before in
     next-fits (terms l) (s l .args .i) (held l) (s l .pre .0 .4) (c .before .natural .ensures) refl
-
-mul-t31 : tie.Need-mul-t31 Inv-loop μ-loop
-mul-t31 c = search needs
-
-add-t32 : tie.Need-add-t32 Inv-loop μ-loop
-add-t32 c = search needs
-
-mul-t33 : tie.Need-mul-t33 Inv-loop μ-loop
-mul-t33 c = search needs
-
-element-set-from-c : tie.Need-element-set-from-c Inv-loop μ-loop
-element-set-from-c c = search needs
-
-add-j : tie.Need-add-j Inv-loop μ-loop
-add-j c = search needs
-
-loop-less : tie.Need-loop-less Inv-loop μ-loop
-loop-less c = search needs
 
 loop-again : tie.Need-loop-again Inv-loop μ-loop
 loop-again c =
@@ -126,28 +66,28 @@ add-component-spec =
     (tie.spec
     Inv-loop
     μ-loop
-    add-x
-    mul-x
-    add-x-2
-    mul-x-2
-    shared-slice-read-x
+    (λ c. search needs)
+    (λ c. search needs)
+    (λ c. search needs)
+    (λ c. search needs)
+    (λ c. search needs)
     returns
     loop-holds
-    mul-sum-and
-    add-sum-and
-    mul-sum-and-2
-    element-copy-out-sum-and
-    natural-requires
-    mul-sum-and-3
-    add-sum-and-2
-    mul-sum-and-4
-    element-copy-out-sum-and-2
+    (λ c. search needs)
+    (λ c. search needs)
+    (λ c. search needs)
+    (λ c. search needs)
+    (λ c κs. search needs)
+    (λ c. search needs)
+    (λ c. search needs)
+    (λ c. search needs)
+    (λ c. search needs)
     sum-and-requires
-    mul-t31
-    add-t32
-    mul-t33
-    element-set-from-c
-    add-j
-    loop-less
+    (λ c. search needs)
+    (λ c. search needs)
+    (λ c. search needs)
+    (λ c. search needs)
+    (λ c. search needs)
+    (λ c. search needs)
     loop-again
     returns-2)

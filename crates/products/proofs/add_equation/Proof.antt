@@ -3,7 +3,6 @@ use mathlib.Core.Path.{_≡_, _∙_}
 use Prim.Native.Nat.{_+_, _-_, _≤_}
 use native.Mathlib.Nat.{le-antisymm}
 use native.Mathlib.Omega.{arith}
-use denote.Ref.{now}
 use borrow.Author.Needs.{needs}
 use lib.ListN.{length}
 use Rattle.linear.specs.Gram.{gram}
@@ -30,12 +29,6 @@ add-coefficient-requires c κs =
       record { holds = λ j k. a .loop .inv .3 .rows (a .loop .i) j (omega arith) (l .loop-test .taken) k },
     )
 
-add-i : tie.Need-add-i Inv-loop μ-loop
-add-i c = search needs
-
-loop-less : tie.Need-loop-less Inv-loop μ-loop
-loop-less c = search needs
-
 loop-again : tie.Need-loop-again Inv-loop μ-loop
 loop-again c =
     let a = c .before .before .before in
@@ -49,4 +42,4 @@ returns c = (record { entries = rw (le-antisymm (c .before .loop .inv .0) (c .lo
 pub add-equation-spec : {M : Type 1} → statement M
 add-equation-spec =
     tie.close
-    (tie.spec Inv-loop μ-loop loop-holds add-coefficient-requires add-i loop-less loop-again returns)
+    (tie.spec Inv-loop μ-loop loop-holds add-coefficient-requires (λ c. search needs) (λ c. search needs) loop-again returns)

@@ -23,26 +23,8 @@ abbrev μ-loop : tie.MeasureT-loop
 loop-holds : tie.Need-loop-holds Inv-loop μ-loop
 loop-holds c = (search needs, fold-none _ _)
 
-sub-j : tie.Need-sub-j Inv-loop μ-loop
-sub-j c = search needs
-
 add-below : tie.Need-add-below Inv-loop μ-loop
 add-below c = let a = c .before in omega (arith, fold-room _ _ _ (a .before .pre .1) (a .loop .inv .1))
-
-mul-sign : tie.Need-mul-sign Inv-loop μ-loop
-mul-sign c = search needs
-
-add-sign : tie.Need-add-sign Inv-loop μ-loop
-add-sign c = search needs
-
-mul-sign-2 : tie.Need-mul-sign-2 Inv-loop μ-loop
-mul-sign-2 c = search needs
-
-element-copy-out-sign : tie.Need-element-copy-out-sign Inv-loop μ-loop
-element-copy-out-sign c = search needs
-
-sign-requires : tie.Need-sign-requires Inv-loop μ-loop
-sign-requires c κs = search needs
 
 -- what `sign` gives, of the number that the table has
 signed : (c : tie.After-sign Inv-loop μ-loop)
@@ -56,9 +38,6 @@ add-below-2 c =
     let t = c .before .before in
     let a = t .before in
     omega (arith, fold-room _ _ _ (a .before .pre .1) (fold-next _ _ _ (a .loop .inv .1) (t .loop-test .taken) (signed c)))
-
-loop-less : tie.Need-loop-less Inv-loop μ-loop
-loop-less c = search needs
 
 loop-again : tie.Need-loop-again Inv-loop μ-loop
 loop-again c =
@@ -78,14 +57,14 @@ below-zero-spec =
     Inv-loop
     μ-loop
     loop-holds
-    sub-j
+    (λ c. search needs)
     add-below
-    mul-sign
-    add-sign
-    mul-sign-2
-    element-copy-out-sign
-    sign-requires
+    (λ c. search needs)
+    (λ c. search needs)
+    (λ c. search needs)
+    (λ c. search needs)
+    (λ c κs. search needs)
     add-below-2
-    loop-less
+    (λ c. search needs)
     loop-again
     returns)

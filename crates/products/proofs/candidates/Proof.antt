@@ -15,9 +15,6 @@ use Rattle.products.specs.Marks.{marks-below, marks-frozen}
 use Rattle.products.proofs.candidates.Statement.{statement}
 use Rattle.products.proofs.candidates.Tie as tie
 
-below-zero-requires : tie.Need-below-zero-requires
-below-zero-requires c κs = search needs
-
 returns : tie.Need-returns
 returns c =
     let s = c .before in
@@ -31,4 +28,4 @@ returns c =
     }
 
 pub candidates-spec : {M : Type 1} → statement M
-candidates-spec = tie.close (tie.spec below-zero-requires returns)
+candidates-spec = tie.close (tie.spec (λ c κs. search needs) returns)

@@ -6,11 +6,8 @@ use mir.Syntax.{w64}
 use Rattle.products.proofs.natural.Statement.{statement}
 use Rattle.products.proofs.natural.Tie as tie
 
-cast-result : tie.Need-cast-result
-cast-result c = search needs
-
 returns : tie.Need-returns
 returns c = toZ-ofZ {w = w64} {z = pos (c .args .x)} (search needs)
 
 pub natural-spec : {M : Type 1} → statement M
-natural-spec = tie.close (tie.spec cast-result returns)
+natural-spec = tie.close (tie.spec (λ c. search needs) returns)

@@ -36,9 +36,6 @@ loop-holds c =
     let s = c .before in
     (search needs, written-same (zeros-summed (now (s .args .gram)) (tuple s) (s .pre .4)), refl)
 
-add-sum : tie.Need-add-sum Inv-loop μ-loop
-add-sum c = search needs
-
 mul-sum : tie.Need-mul-sum Inv-loop μ-loop
 mul-sum c = omega (arith, place c)
 
@@ -75,12 +72,6 @@ add-component-requires c κs =
     let s = begun l in
     ((s .pre .0, s .pre .1, a .loop .inv .1 .size ∙ s .pre .2, s .pre .3, l .loop-test .taken), record { sums = a .loop .inv .1 .new })
 
-add-i : tie.Need-add-i Inv-loop μ-loop
-add-i c = search needs
-
-loop-less : tie.Need-loop-less Inv-loop μ-loop
-loop-less c = search needs
-
 loop-again : tie.Need-loop-again Inv-loop μ-loop
 loop-again c =
     let a = c .before .before .before .before in
@@ -99,7 +90,7 @@ products-row-spec =
     Inv-loop
     μ-loop
     loop-holds
-    add-sum
+    (λ c. search needs)
     mul-sum
     add-sum-2
     mul-sum-2
@@ -107,7 +98,7 @@ products-row-spec =
     cast-sum
     add-sum-3
     add-component-requires
-    add-i
-    loop-less
+    (λ c. search needs)
+    (λ c. search needs)
     loop-again
     returns)

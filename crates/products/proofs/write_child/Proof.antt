@@ -19,30 +19,6 @@ abbrev μ-loop : tie.MeasureT-loop
 loop-holds : tie.Need-loop-holds Inv-loop μ-loop
 loop-holds c = (search needs, written-none)
 
-mul-c : tie.Need-mul-c Inv-loop μ-loop
-mul-c c = search needs
-
-add-c : tie.Need-add-c Inv-loop μ-loop
-add-c c = search needs
-
-mul-c-2 : tie.Need-mul-c-2 Inv-loop μ-loop
-mul-c-2 c = search needs
-
-element-copy-out-c : tie.Need-element-copy-out-c Inv-loop μ-loop
-element-copy-out-c c = search needs
-
-mul-c-3 : tie.Need-mul-c-3 Inv-loop μ-loop
-mul-c-3 c = search needs
-
-add-c-2 : tie.Need-add-c-2 Inv-loop μ-loop
-add-c-2 c = search needs
-
-mul-c-4 : tie.Need-mul-c-4 Inv-loop μ-loop
-mul-c-4 c = search needs
-
-element-copy-out-c-2 : tie.Need-element-copy-out-c-2 Inv-loop μ-loop
-element-copy-out-c-2 c = search needs
-
 -- place j of the parent's row is as it was
 ahead : (c : tie.At-loop Inv-loop μ-loop) → c .loop .j < c .before .args .q
     → entry (c .loop .c) (c .before .args .from) (c .loop .j) ≡ entry (now (c .before .args .c)) (c .before .args .from) (c .loop .j)
@@ -53,24 +29,6 @@ add-c-3 c =
     let l = c .before .before in
     let s = l .before .before in
     child-fits (s .pre .gram-small) (s .pre .parent-small) _ _ (s .pre .unknown) (l .loop-test .taken) (ahead (l .before) (l .loop-test .taken))
-
-mul-t22 : tie.Need-mul-t22 Inv-loop μ-loop
-mul-t22 c = search needs
-
-add-t23 : tie.Need-add-t23 Inv-loop μ-loop
-add-t23 c = search needs
-
-mul-t24 : tie.Need-mul-t24 Inv-loop μ-loop
-mul-t24 c = search needs
-
-element-set-from-c : tie.Need-element-set-from-c Inv-loop μ-loop
-element-set-from-c c = search needs
-
-add-j : tie.Need-add-j Inv-loop μ-loop
-add-j c = search needs
-
-loop-less : tie.Need-loop-less Inv-loop μ-loop
-loop-less c = search needs
 
 loop-again : tie.Need-loop-again Inv-loop μ-loop
 loop-again c =
@@ -89,20 +47,20 @@ write-child-spec =
     Inv-loop
     μ-loop
     loop-holds
-    mul-c
-    add-c
-    mul-c-2
-    element-copy-out-c
-    mul-c-3
-    add-c-2
-    mul-c-4
-    element-copy-out-c-2
+    (λ c. search needs)
+    (λ c. search needs)
+    (λ c. search needs)
+    (λ c. search needs)
+    (λ c. search needs)
+    (λ c. search needs)
+    (λ c. search needs)
+    (λ c. search needs)
     add-c-3
-    mul-t22
-    add-t23
-    mul-t24
-    element-set-from-c
-    add-j
-    loop-less
+    (λ c. search needs)
+    (λ c. search needs)
+    (λ c. search needs)
+    (λ c. search needs)
+    (λ c. search needs)
+    (λ c. search needs)
     loop-again
     returns)

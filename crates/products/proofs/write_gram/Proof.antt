@@ -1,6 +1,6 @@
 -- `write_gram` meets its contract. The table holds the Gram matrix of the equations passed. Assumes nothing.
 use mathlib.Core.Path.{_≡_}
-use Prim.Native.Nat.{_+_, _-_, _≤_}
+use Prim.Native.Nat.{_-_, _≤_}
 use native.Mathlib.Nat.{le-antisymm}
 use borrow.Author.Needs.{needs}
 use lib.ListN.{length}
@@ -18,15 +18,6 @@ abbrev μ-loop : tie.MeasureT-loop
 loop-holds : tie.Need-loop-holds Inv-loop μ-loop
 loop-holds c = (search needs, c .pre .1, zeros-gram (c .pre .2))
 
-add-equation-requires : tie.Need-add-equation-requires Inv-loop μ-loop
-add-equation-requires c κs = search needs
-
-add-e : tie.Need-add-e Inv-loop μ-loop
-add-e c = search needs
-
-loop-less : tie.Need-loop-less Inv-loop μ-loop
-loop-less c = search needs
-
 loop-again : tie.Need-loop-again Inv-loop μ-loop
 loop-again c = (search needs, c .add-equation .ensures .1, c .add-equation .ensures .0)
 
@@ -36,4 +27,4 @@ returns c = rw (le-antisymm (c .before .loop .inv .0) (c .loop-test .left)) at (
 pub write-gram-spec : {M : Type 1} → statement M
 write-gram-spec =
     tie.close
-    (tie.spec Inv-loop μ-loop loop-holds add-equation-requires add-e loop-less loop-again returns)
+    (tie.spec Inv-loop μ-loop loop-holds (λ c κs. search needs) (λ c. search needs) (λ c. search needs) loop-again returns)

@@ -34,17 +34,8 @@ products-row-requires c κs =
     let s = a .before .before in
     (s .pre .0 .0, small-row (s .pre .1 .0) (a .loop .k) (l .loop-test .taken), a .loop .inv .1, omega arith, a .loop .inv .3)
 
-mul-sums : tie.Need-mul-sums Inv-loop μ-loop
-mul-sums c = search needs
-
 element-write-sums : tie.Need-element-write-sums Inv-loop μ-loop
 element-write-sums c = let l = c .before .before in omega (arith, l .before .loop .inv .4 .size, few l)
-
-add-k : tie.Need-add-k Inv-loop μ-loop
-add-k c = search needs
-
-loop-less : tie.Need-loop-less Inv-loop μ-loop
-loop-less c = search needs
 
 loop-again : tie.Need-loop-again Inv-loop μ-loop
 loop-again c =
@@ -73,9 +64,9 @@ write-products-spec =
     μ-loop
     loop-holds
     products-row-requires
-    mul-sums
+    (λ c. search needs)
     element-write-sums
-    add-k
-    loop-less
+    (λ c. search needs)
+    (λ c. search needs)
     loop-again
     returns)

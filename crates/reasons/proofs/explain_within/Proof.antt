@@ -7,15 +7,6 @@ use borrow.Author.Needs.{needs}
 use Rattle.reasons.proofs.explain_within.Statement.{statement}
 use Rattle.reasons.proofs.explain_within.Tie as tie
 
-check-requires : tie.Need-check-requires
-check-requires c κs = search needs
-
-enum-known-why : tie.Need-enum-known-why
-enum-known-why c = search needs
-
-enum-told : tie.Need-enum-told
-enum-told c = search needs
-
 first-true-requires : tie.Need-first-true-requires
 first-true-requires c κs =
     let k = c .before .before in
@@ -30,4 +21,4 @@ returns-2 c = passed-at _ _ _ _ _ (c .before .before .before .check .ensures) (c
 pub explain-within-spec : {M : Type 1} → statement M
 explain-within-spec =
     tie.close
-    (tie.spec check-requires enum-known-why enum-told first-true-requires returns returns-2)
+    (tie.spec (λ c κs. search needs) (λ c. search needs) (λ c. search needs) first-true-requires returns returns-2)

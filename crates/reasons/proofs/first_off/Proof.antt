@@ -28,9 +28,6 @@ loop-holds c = (search needs, refl)
 left-side-requires : tie.Need-left-side-requires Inv-loop μ-loop
 left-side-requires c κs = let p = c .before .before .before .pre in (equation-of (p .0) (p .1) (c .loop-test .taken), p .1)
 
-add-t8 : tie.Need-add-t8 Inv-loop μ-loop
-add-t8 c = search needs
-
 returns : tie.Need-returns Inv-loop μ-loop
 unfolding firstOff
 returns c =
@@ -40,12 +37,6 @@ returns c =
       first-here _ _ _ (l .loop-test .taken) (l .before .loop .inv .1) (amount-off (p .0) (p .1) (l .loop-test .taken) e (c .if1 .taken)),
       amount-kept (p .0) (p .1) (l .loop-test .taken) e,
     )
-
-add-i : tie.Need-add-i Inv-loop μ-loop
-add-i c = search needs
-
-loop-less : tie.Need-loop-less Inv-loop μ-loop
-loop-less c = search needs
 
 loop-again : tie.Need-loop-again Inv-loop μ-loop
 loop-again c =
@@ -65,9 +56,9 @@ first-off-spec =
     μ-loop
     loop-holds
     left-side-requires
-    add-t8
+    (λ c. search needs)
     returns
-    add-i
-    loop-less
+    (λ c. search needs)
+    (λ c. search needs)
     loop-again
     returns-2)

@@ -26,30 +26,6 @@ loop-holds : tie.Need-loop-holds Inv-loop μ-loop
 unfolding inner sumTo
 loop-holds c = (search needs, refl)
 
-mul-wide : tie.Need-mul-wide Inv-loop μ-loop
-mul-wide c = search needs
-
-add-wide : tie.Need-add-wide Inv-loop μ-loop
-add-wide c = search needs
-
-mul-wide-2 : tie.Need-mul-wide-2 Inv-loop μ-loop
-mul-wide-2 c = search needs
-
-shared-slice-copy-out-wide : tie.Need-shared-slice-copy-out-wide Inv-loop μ-loop
-shared-slice-copy-out-wide c = search needs
-
-wide-requires : tie.Need-wide-requires Inv-loop μ-loop
-wide-requires c κs = search needs
-
-mul-natural : tie.Need-mul-natural Inv-loop μ-loop
-mul-natural c = search needs
-
-shared-slice-read-natural : tie.Need-shared-slice-read-natural Inv-loop μ-loop
-shared-slice-read-natural c = search needs
-
-natural-requires : tie.Need-natural-requires Inv-loop μ-loop
-natural-requires c κs = search needs
-
 sum-and-requires : tie.Need-sum-and-requires Inv-loop μ-loop
 sum-and-requires c κs =
     let l = c .before .before .before .before in
@@ -57,12 +33,6 @@ sum-and-requires c κs =
     let s = a .before .before .pre in
     let x = c .before .before .wide .ensures ∙ toZ-ofZ (equation-fits (s .0) _) in
     next-fits (equation-terms (s .0) (s .1)) (a .loop .j) (a .loop .inv .1) (l .loop-test .taken) x (c .natural .ensures)
-
-add-j : tie.Need-add-j Inv-loop μ-loop
-add-j c = search needs
-
-loop-less : tie.Need-loop-less Inv-loop μ-loop
-loop-less c = search needs
 
 loop-again : tie.Need-loop-again Inv-loop μ-loop
 loop-again c =
@@ -89,16 +59,16 @@ left-side-spec =
     Inv-loop
     μ-loop
     loop-holds
-    mul-wide
-    add-wide
-    mul-wide-2
-    shared-slice-copy-out-wide
-    wide-requires
-    mul-natural
-    shared-slice-read-natural
-    natural-requires
+    (λ c. search needs)
+    (λ c. search needs)
+    (λ c. search needs)
+    (λ c. search needs)
+    (λ c κs. search needs)
+    (λ c. search needs)
+    (λ c. search needs)
+    (λ c κs. search needs)
     sum-and-requires
-    add-j
-    loop-less
+    (λ c. search needs)
+    (λ c. search needs)
     loop-again
     returns)

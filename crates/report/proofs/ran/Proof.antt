@@ -5,18 +5,6 @@ use Rattle.texts.specs.Put.{put-then}
 use Rattle.report.proofs.ran.Statement.{statement}
 use Rattle.report.proofs.ran.Tie as tie
 
-counts-requires : tie.Need-counts-requires
-counts-requires c κs = search needs
-
-rows-requires : tie.Need-rows-requires
-rows-requires c κs = search needs
-
-ending-requires : tie.Need-ending-requires
-ending-requires c κs = search needs
-
-same-length : tie.Need-same-length
-same-length c = search needs
-
 returns : tie.Need-returns
 unfolding paper.runText
 returns c =
@@ -26,4 +14,4 @@ returns c =
     put-then (k .counts .ensures .0) (put-then (r .rows .ensures .0) (e .ending .ensures))
 
 pub ran-spec : {M : Type 1} → statement M
-ran-spec = tie.close (tie.spec counts-requires rows-requires ending-requires same-length returns)
+ran-spec = tie.close (tie.spec (λ c κs. search needs) (λ c κs. search needs) (λ c κs. search needs) (λ c. search needs) returns)

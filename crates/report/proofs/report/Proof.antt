@@ -7,18 +7,6 @@ use Rattle.report.specs.ReportLaws.{put-first, refused-text, map-read}
 use Rattle.report.proofs.report.Statement.{statement}
 use Rattle.report.proofs.report.Tie as tie
 
-read-map-requires : tie.Need-read-map-requires
-read-map-requires c κs = search needs
-
-enum-known-why : tie.Need-enum-known-why
-enum-known-why c = search needs
-
-refused-requires : tie.Need-refused-requires
-refused-requires c κs = search needs
-
-enum-known-p : tie.Need-enum-known-p
-enum-known-p c = search needs
-
 mul-n : tie.Need-mul-n
 mul-n c =
     let k = c .before .before .before in
@@ -37,9 +25,6 @@ slice-aggregate-solved c =
     let a = k .before .before .before .args in
     sym (length-take-le _ _ (map-read (a .text .now) _ (k .read-map .ensures) (c .before .before .before .p .given .1) .fits))
 
-solved-requires : tie.Need-solved-requires
-solved-requires c κs = search needs
-
 returns : tie.Need-returns
 returns c =
     let k = c .before .before .before .before .before in
@@ -56,13 +41,13 @@ pub report-spec : {M : Type 1} → statement M
 report-spec =
     tie.close
     (tie.spec
-    read-map-requires
-    enum-known-why
-    refused-requires
-    enum-known-p
+    (λ c κs. search needs)
+    (λ c. search needs)
+    (λ c κs. search needs)
+    (λ c. search needs)
     mul-n
     array-share-prefix-coefs
     slice-aggregate-solved
-    solved-requires
+    (λ c κs. search needs)
     returns
     returns-2)

@@ -6,30 +6,6 @@ use Rattle.report.specs.RunLaws.{ran-is, ran-fits}
 use Rattle.report.proofs.solved.Statement.{statement}
 use Rattle.report.proofs.solved.Tie as tie
 
-new-requires : tie.Need-new-requires
-new-requires c κs = search needs
-
-slice-aggregate-started : tie.Need-slice-aggregate-started
-slice-aggregate-started c = search needs
-
-slice-aggregate-started-2 : tie.Need-slice-aggregate-started-2
-slice-aggregate-started-2 c = search needs
-
-started-requires : tie.Need-started-requires
-started-requires c κs = search needs
-
-slice-aggregate-resumed : tie.Need-slice-aggregate-resumed
-slice-aggregate-resumed c = search needs
-
-slice-aggregate-resumed-2 : tie.Need-slice-aggregate-resumed-2
-slice-aggregate-resumed-2 c = search needs
-
-resumed-requires : tie.Need-resumed-requires
-resumed-requires c κs = search needs
-
-slice-aggregate-ran : tie.Need-slice-aggregate-ran
-slice-aggregate-ran c = search needs
-
 ran-requires : tie.Need-ran-requires
 ran-requires c κs =
     let e = c .before .before .before .before in
@@ -38,9 +14,6 @@ ran-requires c κs =
     let a = n .before .before .args in
     let run = ran-is (a .p) (a .q) (a .coefs .now) _ (rw (n .new .ensures) at (b .started .ensures mostComponent)) (e .resumed .ensures) in
     (search needs, ran-fits (a .p) (a .q) (a .coefs .now) run, search needs)
-
-same-length : tie.Need-same-length
-same-length c = search needs
 
 returns : tie.Need-returns
 unfolding paper.runText
@@ -56,14 +29,14 @@ pub solved-spec : {M : Type 1} → statement M
 solved-spec =
     tie.close
     (tie.spec
-    new-requires
-    slice-aggregate-started
-    slice-aggregate-started-2
-    started-requires
-    slice-aggregate-resumed
-    slice-aggregate-resumed-2
-    resumed-requires
-    slice-aggregate-ran
+    (λ c κs. search needs)
+    (λ c. search needs)
+    (λ c. search needs)
+    (λ c κs. search needs)
+    (λ c. search needs)
+    (λ c. search needs)
+    (λ c κs. search needs)
+    (λ c. search needs)
     ran-requires
-    same-length
+    (λ c. search needs)
     returns)

@@ -9,18 +9,6 @@ use Rattle.calls.specs.CallLaws.{call-refused, call-passed, passes}
 use Rattle.starts.proofs.started_capped.Statement.{statement}
 use Rattle.starts.proofs.started_capped.Tie as tie
 
-check-start-capped-requires : tie.Need-check-start-capped-requires
-check-start-capped-requires c κs = search needs
-
-enum-known-why : tie.Need-enum-known-why
-enum-known-why c = search needs
-
-refused-requires : tie.Need-refused-requires
-refused-requires c κs = search needs
-
-enum-told : tie.Need-enum-told
-enum-told c = search needs
-
 add-wide : tie.Need-add-wide
 add-wide c =
     let k = c .before .before in
@@ -35,33 +23,12 @@ write-units-requires c κs =
     let g = start-shaped _ _ (passes (k .check-start-capped .ensures 0) (t .enum-told .given .1)) in
     rw (add-one (a .q)) (g .q-few, g .stack)
 
-begun-requires : tie.Need-begun-requires
-begun-requires c κs = search needs
-
-same-length : tie.Need-same-length
-same-length c = search needs
-
-same-length-2 : tie.Need-same-length-2
-same-length-2 c = search needs
-
-same-length-3 : tie.Need-same-length-3
-same-length-3 c = search needs
-
 returns : tie.Need-returns
 unfolding start
 returns c limit =
     let w = c .before .before in
     let k = w .before .before in
     rw (c .refused .ensures) (call-refused (k .check-start-capped .ensures limit) _ _ (w .why .given .1))
-
-same-length-4 : tie.Need-same-length-4
-same-length-4 c = search needs
-
-same-length-5 : tie.Need-same-length-5
-same-length-5 c = search needs
-
-same-length-6 : tie.Need-same-length-6
-same-length-6 c = search needs
 
 returns-2 : tie.Need-returns-2
 unfolding start unitsStart
@@ -76,18 +43,18 @@ pub started-capped-spec : {M : Type 1} → statement M
 started-capped-spec =
     tie.close
     (tie.spec
-    check-start-capped-requires
-    enum-known-why
-    refused-requires
-    enum-told
+    (λ c κs. search needs)
+    (λ c. search needs)
+    (λ c κs. search needs)
+    (λ c. search needs)
     add-wide
     write-units-requires
-    begun-requires
-    same-length
-    same-length-2
-    same-length-3
+    (λ c κs. search needs)
+    (λ c. search needs)
+    (λ c. search needs)
+    (λ c. search needs)
     returns
-    same-length-4
-    same-length-5
-    same-length-6
+    (λ c. search needs)
+    (λ c. search needs)
+    (λ c. search needs)
     returns-2)

@@ -19,17 +19,11 @@ part-is s j l =
     getD-take (length (now (s .args .t)) - s .args .from) (drop (s .args .from) (now (s .args .t))) j 0 (omega (arith, s .pre .1))
     ∙ getD-drop (s .args .from) (now (s .args .t)) j 0
 
-div-if1 : tie.Need-div-if1
-div-if1 c = search needs
-
 returns : tie.Need-returns
 returns c = appended-none _ _ _ _ _ (c .if1 .taken)
 
 mul-write : tie.Need-mul-write
 mul-write c = omega (arith, room-fits _ _ _ (c .before .if1 .left))
-
-mul-write-2 : tie.Need-mul-write-2
-mul-write-2 c = search needs
 
 sub-write : tie.Need-sub-write
 sub-write c = omega (arith, c .before .before .before .before .pre .1)
@@ -37,17 +31,11 @@ sub-write c = omega (arith, c .before .before .before .before .pre .1)
 part-write-start : tie.Need-part-write-start
 part-write-start c = omega (arith, c .before .before .before .before .pre .1)
 
-part-write-end : tie.Need-part-write-end
-part-write-end c = search needs
-
 write-requires : tie.Need-write-requires
 write-requires c κs =
     let e = c .before .before in
     let s = e .before .before .before in
     (simp (length-take, length-drop) (omega (arith, s .pre .1)), omega (arith, room-fits _ _ _ (e .if1 .left)))
-
-same-length : tie.Need-same-length
-same-length c = search needs
 
 returns-2 : tie.Need-returns-2
 returns-2 c =
@@ -60,13 +48,13 @@ pub append-spec : {M : Type 1} → statement M
 append-spec =
     tie.close
     (tie.spec
-    div-if1
+    (λ c. search needs)
     returns
     mul-write
-    mul-write-2
+    (λ c. search needs)
     sub-write
     part-write-start
-    part-write-end
+    (λ c. search needs)
     write-requires
-    same-length
+    (λ c. search needs)
     returns-2)

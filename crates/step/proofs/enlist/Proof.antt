@@ -5,17 +5,11 @@ use Rattle.step.specs.Listing.{enlisted-above, enlisted-plain, enlisted-
 use Rattle.step.proofs.enlist.Statement.{statement}
 use Rattle.step.proofs.enlist.Tie as tie
 
-enum-told : tie.Need-enum-told
-enum-told c = search needs
-
 append-requires : tie.Need-append-requires
 append-requires c κs =
     let e = c .before in
     let s = e .before .before .before .before .before in
     omega (arith, rw (e .enum-told .given .1) at (s .pre .0), s .pre .1)
-
-enum-told-2 : tie.Need-enum-told-2
-enum-told-2 c = search needs
 
 shared-slice-read-if1 : tie.Need-shared-slice-read-if1
 shared-slice-read-if1 c =
@@ -34,9 +28,6 @@ append-requires-2 c κs =
     let e = c .before .before .before in
     let s = e .before .before .before .before .before in
     omega (arith, rw (e .enum-told2 .given .1) at (s .pre .0), s .pre .1)
-
-same-length : tie.Need-same-length
-same-length c = search needs
 
 returns : tie.Need-returns
 returns c lower =
@@ -57,25 +48,16 @@ append-requires-3 c κs =
     let s = e .before .before .before .before .before in
     omega (arith, rw (e .enum-told2 .given .1) at (s .pre .0), s .pre .1)
 
-enum-told-3 : tie.Need-enum-told-3
-enum-told-3 c = search needs
-
 append-requires-4 : tie.Need-append-requires-4
 append-requires-4 c κs =
     let e = c .before in
     let s = e .before .before .before .before .before in
     omega (arith, rw (e .enum-told3 .given .1) at (s .pre .0), s .pre .1)
 
-same-length-2 : tie.Need-same-length-2
-same-length-2 c = search needs
-
 returns-2 : tie.Need-returns-2
 returns-2 c lower =
     let a = c .before .before in
     rw (a .before .before .enum-told .given .1) (enlisted-plain _ _ _ (a .append .ensures))
-
-same-length-3 : tie.Need-same-length-3
-same-length-3 c = search needs
 
 returns-3 : tie.Need-returns-3
 returns-3 c lower =
@@ -83,9 +65,6 @@ returns-3 c lower =
     let t = a .before .before in
     let e = t .before .before in
     rw (e .enum-told2 .given .1) (enlisted-one _ _ _ (omega (arith, t .if1 .left)) (a .append3 .ensures))
-
-same-length-4 : tie.Need-same-length-4
-same-length-4 c = search needs
 
 returns-4 : tie.Need-returns-4
 returns-4 c lower =
@@ -96,21 +75,21 @@ pub enlist-spec : {M : Type 1} → statement M
 enlist-spec =
     tie.close
     (tie.spec
-    enum-told
+    (λ c. search needs)
     append-requires
-    enum-told-2
+    (λ c. search needs)
     shared-slice-read-if1
     sub-append
     append-requires-2
-    same-length
+    (λ c. search needs)
     returns
     sub-append-2
     append-requires-3
-    enum-told-3
+    (λ c. search needs)
     append-requires-4
-    same-length-2
+    (λ c. search needs)
     returns-2
-    same-length-3
+    (λ c. search needs)
     returns-3
-    same-length-4
+    (λ c. search needs)
     returns-4)

@@ -93,17 +93,8 @@ module _ (x : tie.After-admitted) where
       (λ j l. child-asked (kind told) (told .args .q) (now (told .args .list)) (now (told .args .second)) (told .args .found) (told .args .other) _ _
       (now (told .args .stack)) (told .args .height) j)
 
-sub-level : tie.Need-sub-level
-sub-level c = search needs
-
-add-base : tie.Need-add-base
-add-base c = search needs
-
 mul-base : tie.Need-mul-base
 mul-base c = omega (arith, fits (c .before .before .before .before .before))
-
-vanish-requires : tie.Need-vanish-requires
-vanish-requires c κs = search needs
 
 read-requires : tie.Need-read-requires
 read-requires c κs =
@@ -117,18 +108,6 @@ enlist-requires c κs =
       subst (λ w. 0 < w) (width-any (s .args .walk) (now (s .args .lower)) [] (s .args .q)) (s .pre .0 .wide),
       omega (arith, s .pre .1 .1, r .read .kept .1 .1 .1 .0),
     )
-
-same-length : tie.Need-same-length
-same-length c = search needs
-
-same-length-2 : tie.Need-same-length-2
-same-length-2 c = search needs
-
-same-length-3 : tie.Need-same-length-3
-same-length-3 c = search needs
-
-same-length-4 : tie.Need-same-length-4
-same-length-4 c = search needs
 
 returns : tie.Need-returns
 returns c =
@@ -148,9 +127,6 @@ mul-marks c = omega (arith, fits (begun (c .before)))
 slice-read-marks : tie.Need-slice-read-marks
 slice-read-marks c = omega (arith, fits (begun (c .before .before)))
 
-candidates-requires : tie.Need-candidates-requires
-candidates-requires c κs = search needs
-
 returns-2 : tie.Need-returns-2
 returns-2 c =
     let d = c .before in
@@ -169,9 +145,6 @@ sub-admitted c = omega (arith, fits (s (tried c)))
 part-admitted-start : tie.Need-part-admitted-start
 part-admitted-start c = omega (arith, fits (s (tried c)))
 
-part-admitted-end : tie.Need-part-admitted-end
-part-admitted-end c = search needs
-
 admitted-requires : tie.Need-admitted-requires
 admitted-requires c κs =
     let d = tried (c .before) in
@@ -183,12 +156,6 @@ admitted-requires c κs =
         (top-limited v (held s), top-within v (held s), top-inside v (held s)),
       ),
     )
-
-enum-told : tie.Need-enum-told
-enum-told c = search needs
-
-enum-known-made : tie.Need-enum-known-made
-enum-known-made c = search needs
 
 push-requires : tie.Need-push-requires
 push-requires c κs =
@@ -204,33 +171,12 @@ push-requires c κs =
       ),
     )
 
-same-length-5 : tie.Need-same-length-5
-same-length-5 c = search needs
-
-same-length-6 : tie.Need-same-length-6
-same-length-6 c = search needs
-
-same-length-7 : tie.Need-same-length-7
-same-length-7 c = search needs
-
 returns-3 : tie.Need-returns-3
 returns-3 c =
     let x = c .before .before .before .before in
     let s = told x in
     let large = large-tried _ _ _ _ (sym (c .enum-told .given .1) ∙ tried-asked x) in
     rw (back x) (taken-large (s .pre .0) (held s) (no (d x)) refl (d x .candidates .ensures) refl large)
-
-same-length-8 : tie.Need-same-length-8
-same-length-8 c = search needs
-
-same-length-9 : tie.Need-same-length-9
-same-length-9 c = search needs
-
-same-length-10 : tie.Need-same-length-10
-same-length-10 c = search needs
-
-same-length-11 : tie.Need-same-length-11
-same-length-11 c = search needs
 
 returns-4 : tie.Need-returns-4
 returns-4 c =
@@ -247,36 +193,36 @@ pub take-spec : {M : Type 1} → statement M
 take-spec =
     tie.close
     (tie.spec
-    sub-level
-    add-base
+    (λ c. search needs)
+    (λ c. search needs)
     mul-base
-    vanish-requires
+    (λ c κs. search needs)
     read-requires
     enlist-requires
-    same-length
-    same-length-2
-    same-length-3
-    same-length-4
+    (λ c. search needs)
+    (λ c. search needs)
+    (λ c. search needs)
+    (λ c. search needs)
     returns
     add-marks
     mul-marks
     slice-read-marks
-    candidates-requires
+    (λ c κs. search needs)
     returns-2
     mul-admitted
     sub-admitted
     part-admitted-start
-    part-admitted-end
+    (λ c. search needs)
     admitted-requires
-    enum-told
-    enum-known-made
+    (λ c. search needs)
+    (λ c. search needs)
     push-requires
-    same-length-5
-    same-length-6
-    same-length-7
+    (λ c. search needs)
+    (λ c. search needs)
+    (λ c. search needs)
     returns-3
-    same-length-8
-    same-length-9
-    same-length-10
-    same-length-11
+    (λ c. search needs)
+    (λ c. search needs)
+    (λ c. search needs)
+    (λ c. search needs)
     returns-4)

@@ -10,11 +10,8 @@ between : (k : ℕ) → (k ≡ 0 → ⊥) → space ≡ separator k
 between zero h = absurd (h refl)
 between (suc k) h = refl
 
-returns : tie.Need-returns
-returns c = search needs
-
 returns-2 : tie.Need-returns-2
 returns-2 c = between _ (c .if1 .left)
 
 pub separator-after-spec : {M : Type 1} → statement M
-separator-after-spec = tie.close (tie.spec returns returns-2)
+separator-after-spec = tie.close (tie.spec (λ c. search needs) returns-2)

@@ -5,18 +5,9 @@ use borrow.Author.Needs.{needs}
 use Rattle.try_list_files.proofs.times.Statement.{statement}
 use Rattle.try_list_files.proofs.times.Tie as tie
 
-returns : tie.Need-returns
-returns c = search needs
-
-returns-2 : tie.Need-returns-2
-returns-2 c = search needs
-
 mul-result : tie.Need-mul-result
 mul-result c =
     let s = c .before .before .args in omega (arith, mul-le-mul {n₁ = s .a} {m₁ = s .b} {n₂ = 4096} {m₂ = 16} (omega arith) (omega arith))
 
-returns-3 : tie.Need-returns-3
-returns-3 c = search needs
-
 pub times-spec : {M : Type 1} → statement M
-times-spec = tie.close (tie.spec returns returns-2 mul-result returns-3)
+times-spec = tie.close (tie.spec (λ c. search needs) (λ c. search needs) mul-result (λ c. search needs))

@@ -1,7 +1,5 @@
 -- `resumed_capped` meets its contract: the walk goes through the extended system. Assumes nothing.
-use mathlib.Core.Path.{_≡_, refl, sym, subst, _∙_, ap}
-use Prim.Native.Nat.{_+_, _*_}
-use native.Mathlib.Nat.{mul-le-mul-right}
+use mathlib.Core.Path.{refl, sym, subst, _∙_, ap}
 use native.Mathlib.Omega.{arith}
 use borrow.Author.Needs.{needs}
 use lib.ListN.{length-take}
@@ -18,21 +16,6 @@ use Rattle.calls.specs.Paper.{stateWith}
 use Rattle.extended.specs.ExtendLaws.{Sided, extended-system, handed-sided, table-fits}
 use Rattle.walk.proofs.resumed_capped.Statement.{statement}
 use Rattle.walk.proofs.resumed_capped.Tie as tie
-
-check-resume-capped-requires : tie.Need-check-resume-capped-requires
-check-resume-capped-requires c κs = search needs
-
-enum-known-why : tie.Need-enum-known-why
-enum-known-why c = search needs
-
-refused-requires : tie.Need-refused-requires
-refused-requires c κs = search needs
-
-enum-told : tie.Need-enum-told
-enum-told c = search needs
-
-limit-of-requires : tie.Need-limit-of-requires
-limit-of-requires c κs = search needs
 
 -- what is known once the check has passed
 module _ (t : tie.After-enum-told) where
@@ -66,9 +49,6 @@ array-share-prefix-wide c = omega (arith, table-fits (sided (c .before .before .
 slice-aggregate-walk : tie.Need-slice-aggregate-walk
 slice-aggregate-walk c = let w = c .before in simp length-take (omega (arith, table-fits (sided (w .before .before .before)), w .write .ensures .size))
 
-slice-aggregate-walk-2 : tie.Need-slice-aggregate-walk-2
-slice-aggregate-walk-2 c = search needs
-
 walk-requires : tie.Need-walk-requires
 walk-requires c κs =
     let w = c .before .before .before .before .before in
@@ -81,30 +61,12 @@ walk-requires c κs =
       tt,
     )
 
-same-length : tie.Need-same-length
-same-length c = search needs
-
-same-length-2 : tie.Need-same-length-2
-same-length-2 c = search needs
-
-same-length-3 : tie.Need-same-length-3
-same-length-3 c = search needs
-
 returns : tie.Need-returns
 unfolding call
 returns c =
     let w = c .before .before in
     let k = w .before .before in
     rw (c .refused .ensures) (call-refused (k .check-resume-capped .ensures) _ _ (w .why .given .1))
-
-same-length-4 : tie.Need-same-length-4
-same-length-4 c = search needs
-
-same-length-5 : tie.Need-same-length-5
-same-length-5 c = search needs
-
-same-length-6 : tie.Need-same-length-6
-same-length-6 c = search needs
 
 returns-2 : tie.Need-returns-2
 unfolding call
@@ -123,24 +85,24 @@ pub resumed-capped-spec : {M : Type 1} → statement M
 resumed-capped-spec =
     tie.close
     (tie.spec
-    check-resume-capped-requires
-    enum-known-why
-    refused-requires
-    enum-told
-    limit-of-requires
+    (λ c κs. search needs)
+    (λ c. search needs)
+    (λ c κs. search needs)
+    (λ c. search needs)
+    (λ c κs. search needs)
     write-requires
     add-walk
     add-wide
     mul-wide
     array-share-prefix-wide
     slice-aggregate-walk
-    slice-aggregate-walk-2
+    (λ c. search needs)
     walk-requires
-    same-length
-    same-length-2
-    same-length-3
+    (λ c. search needs)
+    (λ c. search needs)
+    (λ c. search needs)
     returns
-    same-length-4
-    same-length-5
-    same-length-6
+    (λ c. search needs)
+    (λ c. search needs)
+    (λ c. search needs)
     returns-2)

@@ -2,7 +2,7 @@
 -- the number of steps until the call stops. Assumes nothing.
 use mathlib.Core.Path.{_≡_, refl, sym, _∙_, ap}
 use mathlib.Core.Logic.{inl, inr}
-use Prim.Native.Nat.{ℕ, suc, max, _+_, _-_, _≤_, _<_}
+use Prim.Native.Nat.{ℕ, suc, max, _+_, _-_, _≤_}
 use native.Mathlib.Omega.{arith}
 use lib.ListN.{length, getD}
 use denote.Ref.{now}
@@ -127,35 +127,11 @@ module _ (l : tie.In-loop Inv-loop μ-loop) where
 sub-if2 : tie.Need-sub-if2 Inv-loop μ-loop
 sub-if2 c = c .before .before .loop .inv .6
 
-left-requires : tie.Need-left-requires Inv-loop μ-loop
-left-requires c κs = search needs
-
-same-length : tie.Need-same-length Inv-loop μ-loop
-same-length c = search needs
-
-same-length-2 : tie.Need-same-length-2 Inv-loop μ-loop
-same-length-2 c = search needs
-
-same-length-3 : tie.Need-same-length-3 Inv-loop μ-loop
-same-length-3 c = search needs
-
 returns : tie.Need-returns Inv-loop μ-loop
 returns c checks =
     let t = c .before in
     let l = t .before .before in
     rw (c .left .ensures) (sym (ends-paused (a l .loop .inv .3) checks (l .loop-test .taken) (omega (arith, t .if2 .taken, a l .loop .inv .6))))
-
-left-requires-2 : tie.Need-left-requires-2 Inv-loop μ-loop
-left-requires-2 c κs = search needs
-
-same-length-4 : tie.Need-same-length-4 Inv-loop μ-loop
-same-length-4 c = search needs
-
-same-length-5 : tie.Need-same-length-5 Inv-loop μ-loop
-same-length-5 c = search needs
-
-same-length-6 : tie.Need-same-length-6 Inv-loop μ-loop
-same-length-6 c = search needs
 
 returns-2 : tie.Need-returns-2 Inv-loop μ-loop
 returns-2 c checks =
@@ -168,20 +144,11 @@ returns-2 c checks =
     (sym (ends-late (a l .loop .inv .3) checks (l .loop-test .taken) more
     (omega (arith, t .if2 .left, at-stop, stopped (grammed (a l)) .stop-at .ensures, a l .loop .inv .6))))
 
-sub-greater : tie.Need-sub-greater Inv-loop μ-loop
-sub-greater c = search needs
-
 mul-greater : tie.Need-mul-greater Inv-loop μ-loop
 mul-greater c = omega (arith, height-few (c .before))
 
 array-read-greater : tie.Need-array-read-greater Inv-loop μ-loop
 array-read-greater c = omega (arith, height-few (c .before), c .before .loop-test .taken)
-
-greater-requires : tie.Need-greater-requires Inv-loop μ-loop
-greater-requires c κs = search needs
-
-slice-aggregate-take : tie.Need-slice-aggregate-take Inv-loop μ-loop
-slice-aggregate-take c = search needs
 
 take-requires : tie.Need-take-requires Inv-loop μ-loop
 take-requires c κs =
@@ -217,12 +184,6 @@ module _ (t : tie.After-take Inv-loop μ-loop) where
       (told (a l)))
   deep = ap (max (a l .loop .deepest)) (a l .loop .inv .3 .summed .levels (a l .loop .height - 1) (omega (arith, l .loop-test .taken)))
 
-enum-told : tie.Need-enum-told Inv-loop μ-loop
-enum-told c = search needs
-
-sub-height : tie.Need-sub-height Inv-loop μ-loop
-sub-height c = search needs
-
 add-found : tie.Need-add-found Inv-loop μ-loop
 add-found c =
     let t = c .before .before .before .before .before .before .before .before .before in
@@ -232,12 +193,6 @@ add-found c =
     (grammed (a l) .write-gram .ensures) (l .loop-test .taken) (more t) (early t) (t .take .ensures) (c .enum-told .given .1) refl refl refl refl in
     omega (arith, found-small (next .valid), t .take .kept .1 .1 .1 .1 .0, a l .loop .inv .1, s l .good .1 .1 .1 .1 .1 .0)
 
-enum-told-2 : tie.Need-enum-told-2 Inv-loop μ-loop
-enum-told-2 c = search needs
-
-sub-height-2 : tie.Need-sub-height-2 Inv-loop μ-loop
-sub-height-2 c = search needs
-
 add-other : tie.Need-add-other Inv-loop μ-loop
 add-other c =
     let t = c .before .before .before .before .before .before .before .before .before in
@@ -246,15 +201,6 @@ add-other c =
     let small = second-small (told (a l)) (kindOf (r .kind)) (a l .loop .steps) (r .before .0) (a l .loop .deepest) (a l .loop .inv .3)
     (grammed (a l) .write-gram .ensures) (l .loop-test .taken) (more t) (early t) (t .take .ensures) (c .enum-told2 .given .1) in
     omega (arith, small, a l .loop .inv .2, s l .good .1 .1 .1 .1 .1 .1 .0)
-
-enum-known-h : tie.Need-enum-known-h Inv-loop μ-loop
-enum-known-h c = search needs
-
-enum-known-why : tie.Need-enum-known-why Inv-loop μ-loop
-enum-known-why c = search needs
-
-left-requires-3 : tie.Need-left-requires-3 Inv-loop μ-loop
-left-requires-3 c κs = search needs
 
 -- the step that was refused
 abbrev refused-at : tie.After-left3 Inv-loop μ-loop → tie.After-take Inv-loop μ-loop
@@ -317,18 +263,6 @@ loop-again c =
       omega (arith, a l .loop .inv .6),
     )
 
-left-requires-4 : tie.Need-left-requires-4 Inv-loop μ-loop
-left-requires-4 c κs = search needs
-
-same-length-10 : tie.Need-same-length-10 Inv-loop μ-loop
-same-length-10 c = search needs
-
-same-length-11 : tie.Need-same-length-11 Inv-loop μ-loop
-same-length-11 c = search needs
-
-same-length-12 : tie.Need-same-length-12 Inv-loop μ-loop
-same-length-12 c = search needs
-
 returns-4 : tie.Need-returns-4 Inv-loop μ-loop
 returns-4 c checks =
     let x = c .before in
@@ -345,31 +279,31 @@ walk-spec =
     write-products-requires
     loop-holds
     sub-if2
-    left-requires
-    same-length
-    same-length-2
-    same-length-3
+    (λ c κs. search needs)
+    (λ c. search needs)
+    (λ c. search needs)
+    (λ c. search needs)
     returns
-    left-requires-2
-    same-length-4
-    same-length-5
-    same-length-6
+    (λ c κs. search needs)
+    (λ c. search needs)
+    (λ c. search needs)
+    (λ c. search needs)
     returns-2
-    sub-greater
+    (λ c. search needs)
     mul-greater
     array-read-greater
-    greater-requires
-    slice-aggregate-take
+    (λ c κs. search needs)
+    (λ c. search needs)
     take-requires
-    enum-told
-    sub-height
+    (λ c. search needs)
+    (λ c. search needs)
     add-found
-    enum-told-2
-    sub-height-2
+    (λ c. search needs)
+    (λ c. search needs)
     add-other
-    enum-known-h
-    enum-known-why
-    left-requires-3
+    (λ c. search needs)
+    (λ c. search needs)
+    (λ c κs. search needs)
     same-length-7
     same-length-8
     same-length-9
@@ -377,8 +311,8 @@ walk-spec =
     add-steps
     loop-less
     loop-again
-    left-requires-4
-    same-length-10
-    same-length-11
-    same-length-12
+    (λ c κs. search needs)
+    (λ c. search needs)
+    (λ c. search needs)
+    (λ c. search needs)
     returns-4)

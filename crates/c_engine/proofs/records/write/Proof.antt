@@ -6,9 +6,6 @@ use Rattle.c_engine.specs.WordLaws.{long-by, unwritten, written}
 use Rattle.c_engine.proofs.records.write.Statement.{statement}
 use Rattle.c_engine.proofs.records.write.Tie as tie
 
-fits-requires : tie.Need-fits-requires
-fits-requires c κs = search needs
-
 slice-write-words : tie.Need-slice-write-words
 slice-write-words c = omega (arith, long-by _ (c .before .before .fits2 .ensures) (c .before .if1 .taken))
 
@@ -66,6 +63,6 @@ returns-2 c = unwritten _ (c .before .fits2 .ensures) _ (c .if1 .left)
 pub write-spec : {M : Type 1} → statement M
 write-spec =
     tie.close
-    (tie.spec fits-requires (λ c. search needs) slice-write-words slice-write-words-2 slice-write-words-3 slice-write-words-4 slice-write-words-5
+    (tie.spec (λ c κs. search needs) (λ c. search needs) slice-write-words slice-write-words-2 slice-write-words-3 slice-write-words-4 slice-write-words-5
     slice-write-words-6 slice-write-words-7 slice-write-words-8 slice-write-words-9 slice-write-words-10
     (λ c. search needs) returns (λ c. search needs) returns-2)

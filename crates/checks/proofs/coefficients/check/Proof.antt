@@ -1,16 +1,10 @@
 -- `checks::coefficients::check` meets its contract. Assumes nothing.
-use mathlib.Core.Path.{_≡_, sym}
+use mathlib.Core.Path.{sym}
 use native.Mathlib.Nat.{le-antisymm}
 use borrow.Author.Needs.{needs}
 use Rattle.laws.specs.AnswerLaws.{refuse-at}
 use Rattle.checks.proofs.coefficients.check.Statement.{statement}
 use Rattle.checks.proofs.coefficients.check.Tie as tie
-
-first-outside-requires : tie.Need-first-outside-requires
-first-outside-requires c κs = search needs
-
-add-t5 : tie.Need-add-t5
-add-t5 c = search needs
 
 returns : tie.Need-returns
 returns c =
@@ -23,4 +17,4 @@ returns-2 c =
     cc (f .before, le-antisymm (f .few) (c .if1 .left))
 
 pub check-spec : {M : Type 1} → statement M
-check-spec = tie.close (tie.spec first-outside-requires add-t5 returns returns-2)
+check-spec = tie.close (tie.spec (λ c κs. search needs) (λ c. search needs) returns returns-2)

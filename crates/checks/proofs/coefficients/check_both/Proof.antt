@@ -5,18 +5,6 @@ use Rattle.checks.specs.CheckLaws.{refused-first, passed-first}
 use Rattle.checks.proofs.coefficients.check_both.Statement.{statement}
 use Rattle.checks.proofs.coefficients.check_both.Tie as tie
 
-check-requires : tie.Need-check-requires
-check-requires c κs = search needs
-
-enum-known-why : tie.Need-enum-known-why
-enum-known-why c = search needs
-
-enum-told : tie.Need-enum-told
-enum-told c = search needs
-
-check-sides-requires : tie.Need-check-sides-requires
-check-sides-requires c κs = search needs
-
 returns : tie.Need-returns
 returns c = refused-first _ (c .before .why .given .1) (c .before .before .before .check .ensures)
 
@@ -24,4 +12,4 @@ returns-2 : tie.Need-returns-2
 returns-2 c = c .check-sides .ensures ∙ passed-first _ (c .before .enum-told .given .1) (c .before .before .before .check .ensures)
 
 pub check-both-spec : {M : Type 1} → statement M
-check-both-spec = tie.close (tie.spec check-requires enum-known-why enum-told check-sides-requires returns returns-2)
+check-both-spec = tie.close (tie.spec (λ c κs. search needs) (λ c. search needs) (λ c. search needs) (λ c κs. search needs) returns returns-2)

@@ -23,15 +23,6 @@ loop-holds : tie.Need-loop-holds Inv-loop μ-loop
 unfolding refuseFirst
 loop-holds c = (search needs, refl)
 
-mul-out-of-range : tie.Need-mul-out-of-range Inv-loop μ-loop
-mul-out-of-range c = search needs
-
-shared-slice-copy-out-out-of-range : tie.Need-shared-slice-copy-out-out-of-range Inv-loop μ-loop
-shared-slice-copy-out-out-of-range c = search needs
-
-out-of-range-requires : tie.Need-out-of-range-requires Inv-loop μ-loop
-out-of-range-requires c κs = search needs
-
 -- what the call tested is the coefficient
 tested : (c : tie.After-out-of-range Inv-loop μ-loop)
     → c .out-of-range .result ≡ outOfRange (getD (now (c .before .before .before .before .args .coefs)) (c .before .before .before .loop .i) (pos 0))
@@ -41,12 +32,6 @@ returns : tie.Need-returns Inv-loop μ-loop
 returns c =
     let l = c .before .before .before in
     record { few = l .before .loop .inv .0; before = l .before .loop .inv .1; there = λ _. sym (tested (c .before)) ∙ c .if1 .taken }
-
-add-i : tie.Need-add-i Inv-loop μ-loop
-add-i c = search needs
-
-loop-less : tie.Need-loop-less Inv-loop μ-loop
-loop-less c = search needs
 
 loop-again : tie.Need-loop-again Inv-loop μ-loop
 loop-again c =
@@ -65,11 +50,11 @@ first-outside-spec =
     Inv-loop
     μ-loop
     loop-holds
-    mul-out-of-range
-    shared-slice-copy-out-out-of-range
-    out-of-range-requires
+    (λ c. search needs)
+    (λ c. search needs)
+    (λ c κs. search needs)
     returns
-    add-i
-    loop-less
+    (λ c. search needs)
+    (λ c. search needs)
     loop-again
     returns-2)

@@ -8,7 +8,7 @@ use Rattle.definitions.specs.Input.{alone, inputWith, limitOf, systemOf}
 use Rattle.definitions.specs.Refusals.{inOrder, check7}
 use Rattle.definitions.specs.Tables.{plainRun}
 use Rattle.calls.specs.Paper.{runOf, stateOf}
-use Rattle.orders.specs.Order.{order-plain, recordFits}
+use Rattle.record_order.specs.Order.{order-plain, recordFits}
 use Rattle.checks.proofs.order.check.Statement.{statement}
 use Rattle.checks.proofs.order.check.Tie as tie
 
@@ -25,9 +25,6 @@ ordered c p =
     ∙ ap (λ l. recordFits plainRun (a .q) (a .q) l (now (a .stack)) (now (a .list)) (runOf (a .r))) (c .before .limit-of .ensures)
     ∙ sym (order-plain p (a .q) (now (a .coefs)) (limitOf (a .limit)) (stateOf (now (a .stack)) (now (a .list)) (a .r)))
 
-limit-of-requires : tie.Need-limit-of-requires
-limit-of-requires c κs = search needs
-
 in-order-requires : tie.Need-in-order-requires
 in-order-requires c κs = let a = c .before .before .before in (a .pre .least, a .pre)
 
@@ -35,12 +32,9 @@ returns : tie.Need-returns
 unfolding refuseWith _then_
 returns c p = rw (← ordered (c .before) p, c .if1 .taken)
 
-check-requires : tie.Need-check-requires
-check-requires c κs = search needs
-
 returns-2 : tie.Need-returns-2
 unfolding refuseWith _then_ check7
 returns-2 c p = rw (← ordered (c .before .before) p, c .before .if1 .left) (c .check .ensures)
 
 pub check-spec : {M : Type 1} → statement M
-check-spec = tie.close (tie.spec limit-of-requires in-order-requires returns check-requires returns-2)
+check-spec = tie.close (tie.spec (λ c κs. search needs) in-order-requires returns (λ c κs. search needs) returns-2)

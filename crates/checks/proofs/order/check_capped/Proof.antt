@@ -9,7 +9,7 @@ use Rattle.definitions.specs.Input.{limitOf}
 use Rattle.definitions.specs.Refusals.{check7}
 use Rattle.definitions.specs.Tables.{cappedRun}
 use Rattle.calls.specs.Paper.{runOf, stateWith}
-use Rattle.orders.specs.Order.{capped-after, capped-first, capped-second, record-height, recordFits}
+use Rattle.record_order.specs.Order.{capped-after, capped-first, capped-second, record-height, recordFits}
 use Rattle.checks.proofs.order.check_capped.Statement.{statement}
 use Rattle.checks.proofs.order.check_capped.Tie as tie
 
@@ -21,15 +21,6 @@ tested : (c : tie.After-in-order)
     → c .in-order .result ≡ recordFits cappedRun (startOf c .args .q + 1) (startOf c .args .q) (limitOf (startOf c .args .limit)) (now (startOf c .args .stack))
     (now (startOf c .args .list)) (runOf (startOf c .args .r))
 tested c = rw (c .before .limit-of .ensures) at (c .in-order .ensures)
-
-limit-of-requires : tie.Need-limit-of-requires
-limit-of-requires c κs = search needs
-
-add-wide : tie.Need-add-wide
-add-wide c = search needs
-
-in-order-requires : tie.Need-in-order-requires
-in-order-requires c κs = search needs
 
 returns : tie.Need-returns
 returns c p =
@@ -50,9 +41,6 @@ returns-2 c p =
     capped-second p (a .q) (a .q + 1) _ _ (stateWith (now (a .stack)) (now (a .list)) (now (a .second)) (a .r)) _ (omega arith) (tested t)
     (f .before .if1 .left) (f .capped-fits .ensures) (c .if2 .taken)
 
-check-both-requires : tie.Need-check-both-requires
-check-both-requires c κs = search needs
-
 returns-3 : tie.Need-returns-3
 unfolding check7
 returns-3 c p =
@@ -67,11 +55,11 @@ pub check-capped-spec : {M : Type 1} → statement M
 check-capped-spec =
     tie.close
     (tie.spec
-    limit-of-requires
-    add-wide
-    in-order-requires
+    (λ c κs. search needs)
+    (λ c. search needs)
+    (λ c κs. search needs)
     returns
     capped-fits-requires
     returns-2
-    check-both-requires
+    (λ c κs. search needs)
     returns-3)

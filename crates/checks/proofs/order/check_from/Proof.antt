@@ -7,7 +7,7 @@ use borrow.Author.Needs.{needs}
 use borrow.Author.Tests.{eq-eqb, ne-eqb}
 use Rattle.definitions.specs.Input.{limitOf}
 use Rattle.calls.specs.Paper.{kindOf, runOf, stateWith}
-use Rattle.orders.specs.Order.{lower-after, lower-first, lower-second, lowerFits}
+use Rattle.record_order.specs.Order.{lower-after, lower-first, lower-second, lowerFits}
 use Rattle.checks.proofs.order.check_from.Statement.{statement}
 use Rattle.checks.proofs.order.check_from.Tie as tie
 
@@ -16,12 +16,6 @@ returns c p =
     let a = c .before .before .before .before .before .args in
     lower-first (now (a .lower)) p (a .q) (a .limit) (now (a .coefs)) (stateWith (now (a .stack)) (now (a .list)) (now (a .second)) (a .r)) _
     (ne-eqb (length (now (a .lower))) (a .q) (λ e. omega arith))
-
-limit-of-requires : tie.Need-limit-of-requires
-limit-of-requires c κs = search needs
-
-lower-in-order-requires : tie.Need-lower-in-order-requires
-lower-in-order-requires c κs = search needs
 
 abbrev startOf : tie.After-lower-in-order → tie.Start
 startOf c = c .before .before .before .before .before .before .before
@@ -39,9 +33,6 @@ returns-2 c p =
     lower-second (now (a .lower)) p (a .q) (a .limit) (now (a .coefs)) (stateWith (now (a .stack)) (now (a .list)) (now (a .second)) (a .r)) _
     (eq-eqb (length (now (a .lower))) (a .q) (search needs)) (tested t) (c .if2 .taken)
 
-check-lower-requires : tie.Need-check-lower-requires
-check-lower-requires c κs = search needs
-
 returns-3 : tie.Need-returns-3
 returns-3 c p =
     let t = c .before .before in
@@ -52,4 +43,4 @@ returns-3 c p =
 
 pub check-from-spec : {M : Type 1} → statement M
 check-from-spec =
-    tie.close (tie.spec returns limit-of-requires lower-in-order-requires returns-2 check-lower-requires returns-3)
+    tie.close (tie.spec returns (λ c κs. search needs) (λ c κs. search needs) returns-2 (λ c κs. search needs) returns-3)

@@ -12,15 +12,6 @@ use Rattle.checks.specs.Shape.{shapeChecks}
 use Rattle.checks.proofs.shape.check.Statement.{statement}
 use Rattle.checks.proofs.shape.check.Tie as tie
 
-check-requires : tie.Need-check-requires
-check-requires c κs = search needs
-
-enum-known-why : tie.Need-enum-known-why
-enum-known-why c = search needs
-
-enum-told : tie.Need-enum-told
-enum-told c = search needs
-
 abbrev startOf : tie.After-enum-told → tie.Start
 startOf t = t .before .before .before
 
@@ -76,9 +67,9 @@ pub check-spec : {M : Type 1} → statement M
 check-spec =
     tie.close
     (tie.spec
-    check-requires
-    enum-known-why
-    enum-told
+    (λ c κs. search needs)
+    (λ c. search needs)
+    (λ c. search needs)
     returns
     add-wide
     add-if2

@@ -25,21 +25,6 @@ returns : tie.Need-returns
 unfolding refuseWith _then_
 returns c p = let s = c .before .before .args in rw (ne-eqb (length (now (s .lower))) (s .q) (λ e. omega arith))
 
-check-requires : tie.Need-check-requires
-check-requires c κs = search needs
-
-enum-known-why : tie.Need-enum-known-why
-enum-known-why c = search needs
-
-enum-told : tie.Need-enum-told
-enum-told c = search needs
-
-limit-of-requires : tie.Need-limit-of-requires
-limit-of-requires c κs = search needs
-
-lower-above-limit-requires : tie.Need-lower-above-limit-requires
-lower-above-limit-requires c κs = search needs
-
 returns-2 : tie.Need-returns-2
 unfolding check7
 returns-2 c p =
@@ -93,11 +78,11 @@ check-lower-spec =
     tie.close
     (tie.spec
     returns
-    check-requires
-    enum-known-why
-    enum-told
-    limit-of-requires
-    lower-above-limit-requires
+    (λ c κs. search needs)
+    (λ c. search needs)
+    (λ c. search needs)
+    (λ c κs. search needs)
+    (λ c κs. search needs)
     returns-2
     returns-3
     returns-4)

@@ -11,45 +11,6 @@ use Rattle.children.specs.RowLaws.{write-raise}
 use Rattle.children.proofs.rows.write_child.Statement.{statement}
 use Rattle.children.proofs.rows.write_child.Tie as tie
 
-add-base : tie.Need-add-base
-add-base c = search needs
-
-mul-base : tie.Need-mul-base
-mul-base c = search needs
-
-write-requires : tie.Need-write-requires
-write-requires c κs = search needs
-
-mul-stack : tie.Need-mul-stack
-mul-stack c = search needs
-
-shared-slice-read-stack : tie.Need-shared-slice-read-stack
-shared-slice-read-stack c = search needs
-
-add-stack : tie.Need-add-stack
-add-stack c = search needs
-
-add-stack-2 : tie.Need-add-stack-2
-add-stack-2 c = search needs
-
-mul-stack-2 : tie.Need-mul-stack-2
-mul-stack-2 c = search needs
-
-slice-write-stack : tie.Need-slice-write-stack
-slice-write-stack c = search needs
-
-add-stack-3 : tie.Need-add-stack-3
-add-stack-3 c = search needs
-
-mul-stack-3 : tie.Need-mul-stack-3
-mul-stack-3 c = search needs
-
-slice-write-stack-2 : tie.Need-slice-write-stack-2
-slice-write-stack-2 c = search needs
-
-same-length : tie.Need-same-length
-same-length c = search needs
-
 returns : tie.Need-returns
 unfolding writeRow
 returns c =
@@ -63,17 +24,17 @@ pub write-child-spec : {M : Type 1} → statement M
 write-child-spec =
     tie.close
     (tie.spec
-    add-base
-    mul-base
-    write-requires
-    mul-stack
-    shared-slice-read-stack
-    add-stack
-    add-stack-2
-    mul-stack-2
-    slice-write-stack
-    add-stack-3
-    mul-stack-3
-    slice-write-stack-2
-    same-length
+    (λ c. search needs)
+    (λ c. search needs)
+    (λ c κs. search needs)
+    (λ c. search needs)
+    (λ c. search needs)
+    (λ c. search needs)
+    (λ c. search needs)
+    (λ c. search needs)
+    (λ c. search needs)
+    (λ c. search needs)
+    (λ c. search needs)
+    (λ c. search needs)
+    (λ c. search needs)
     returns)

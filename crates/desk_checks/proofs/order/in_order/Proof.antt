@@ -5,28 +5,19 @@ use borrow.Author.Tests.{le-leb, lt-leb, not-false, not-true}
 use mathlib.Core.Path.{sym, _∙_}
 use native.Mathlib.Nat.{mul-le-mul-right}
 use native.Mathlib.Omega.{arith}
-use Rattle.desk_form.specs.Desks.{deskInOrder}
+use Rattle.desk_spec.specs.Desks.{deskInOrder}
 use Rattle.desk_checks.proofs.order.in_order.Statement.{statement}
 use Rattle.desk_checks.proofs.order.in_order.Tie as tie
-
-is-desks-requires : tie.Need-is-desks-requires
-is-desks-requires c κs = search needs
 
 returns : tie.Need-returns
 unfolding deskInOrder
 returns c = rw (sym (c .before .is-desks .ensures) ∙ not-true _ (c .if1 .taken))
-
-div-if2 : tie.Need-div-if2
-div-if2 c = search needs
 
 returns-2 : tie.Need-returns-2
 unfolding deskInOrder
 returns-2 c =
     let e1 = c .before in
     rw (sym (e1 .before .is-desks .ensures) ∙ not-false _ (e1 .if1 .left), lt-leb _ _ (c .if2 .taken))
-
-div-if3 : tie.Need-div-if3
-div-if3 c = search needs
 
 returns-3 : tie.Need-returns-3
 unfolding deskInOrder
@@ -84,4 +75,5 @@ returns-6 c =
     (c .rows-in-order .ensures)
 
 pub in-order-spec : {M : Type 1} → statement M
-in-order-spec = tie.close (tie.spec is-desks-requires returns div-if2 returns-2 div-if3 returns-3 returns-4 returns-5 rows-in-order-requires returns-6)
+in-order-spec = tie.close (tie.spec (λ c κs. search needs) returns (λ c. search needs) returns-2 (λ c. search needs) returns-3 returns-4 returns-5
+    rows-in-order-requires returns-6)

@@ -8,7 +8,7 @@ use mathlib.Core.Path.{_≡_, refl, sym, _∙_}
 use native.Mathlib.Nat.{le-antisymm}
 use native.Mathlib.Omega.{arith}
 use Rattle.desk_calls.specs.Calls.{deskOf}
-use Rattle.desk_form.specs.Desks.{deskRowInOrder}
+use Rattle.desk_spec.specs.Desks.{deskRowInOrder}
 use Rattle.laws.specs.TableLaws.{row-fits}
 use Rattle.linear.specs.LoopLaws.{all-next, all-fails}
 use Rattle.linear.specs.Tests.{allTo}
@@ -33,12 +33,6 @@ row-in-order-requires c κs =
 returns : tie.Need-returns Inv-loop μ-loop
 returns c = sym (all-fails _ _ _ (c .before .before .loop-test .taken) (sym (c .before .row-in-order .ensures) ∙ not-true _ (c .if1 .taken)))
 
-add-k : tie.Need-add-k Inv-loop μ-loop
-add-k c = search needs
-
-loop-less : tie.Need-loop-less Inv-loop μ-loop
-loop-less c = search needs
-
 loop-again : tie.Need-loop-again Inv-loop μ-loop
 loop-again c =
     let a = c .before .before .before in
@@ -48,4 +42,4 @@ returns-2 : tie.Need-returns-2 Inv-loop μ-loop
 returns-2 c = cc (le-antisymm (c .before .loop .inv .0) (c .loop-test .left))
 
 pub rows-in-order-spec : {M : Type 1} → statement M
-rows-in-order-spec = tie.close (tie.spec Inv-loop μ-loop loop-holds row-in-order-requires returns add-k loop-less loop-again returns-2)
+rows-in-order-spec = tie.close (tie.spec Inv-loop μ-loop loop-holds row-in-order-requires returns (λ c. search needs) (λ c. search needs) loop-again returns-2)

@@ -9,15 +9,6 @@ use Rattle.desk_checks.specs.Shape.{handed-small, range-passed, range-re
 use Rattle.desk_checks.proofs.ranges.check.Statement.{statement}
 use Rattle.desk_checks.proofs.ranges.check.Tie as tie
 
-check-requires : tie.Need-check-requires
-check-requires c κs = search needs
-
-enum-known-why : tie.Need-enum-known-why
-enum-known-why c = search needs
-
-enum-told : tie.Need-enum-told
-enum-told c = search needs
-
 is-wide-requires : tie.Need-is-wide-requires
 unfolding check7
 is-wide-requires c κs =
@@ -52,4 +43,4 @@ returns-3 c =
     (sym (c .before .is-wide .ensures) ∙ c .if1 .left)
 
 pub check-spec : {M : Type 1} → statement M
-check-spec = tie.close (tie.spec check-requires enum-known-why enum-told is-wide-requires returns returns-2 returns-3)
+check-spec = tie.close (tie.spec (λ c κs. search needs) (λ c. search needs) (λ c. search needs) is-wide-requires returns returns-2 returns-3)

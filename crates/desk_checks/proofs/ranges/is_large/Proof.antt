@@ -5,7 +5,7 @@ use lib.Signed.{ltZ}
 use mathlib.Core.Bool.{true, false}
 use mathlib.Core.Path.{_≡_, refl, sym, _∙_}
 use mir.Facts.{toZ-ofZ}
-use Rattle.desk_form.specs.Desks.{imageLimit}
+use Rattle.desk_spec.specs.Desks.{imageLimit}
 use Rattle.desk_checks.proofs.ranges.is_large.Statement.{statement}
 use Rattle.desk_checks.proofs.ranges.is_large.Tie as tie
 

@@ -9,7 +9,7 @@ use mathlib.Core.Path.{_≡_, refl, sym, _∙_}
 use native.Mathlib.Nat.{le-antisymm}
 use Rattle.definitions.specs.System.{imageOf}
 use Rattle.desk_calls.specs.Calls.{deskOf}
-use Rattle.desk_form.specs.Desks.{generator, imageLimit, mostGenerators, secondGroup, wide}
+use Rattle.desk_spec.specs.Desks.{generator, imageLimit, mostGenerators, secondGroup, wide}
 use Rattle.linear.specs.LoopLaws.{any-holds, any-next}
 use Rattle.linear.specs.Tests.{anyTo}
 use Rattle.desk_checks.proofs.ranges.is_wide.Statement.{statement}
@@ -24,9 +24,6 @@ Inv-loop p q coefs generators n k₀ k =
 
 abbrev μ-loop : tie.MeasureT-loop
 μ-loop p q coefs generators n k₀ k = n - k
-
-div-n : tie.Need-div-n Inv-loop μ-loop
-div-n c = search needs
 
 returns : tie.Need-returns Inv-loop μ-loop
 unfolding wide
@@ -46,12 +43,6 @@ returns-2 c =
     rw (le-ltb mostGenerators _ (l .before .before .if1 .left))
     (sym (any-holds _ _ _ (l .loop-test .taken) (sym (c .before .wide-image .ensures) ∙ c .if2 .taken)))
 
-add-k : tie.Need-add-k Inv-loop μ-loop
-add-k c = search needs
-
-loop-less : tie.Need-loop-less Inv-loop μ-loop
-loop-less c = search needs
-
 loop-again : tie.Need-loop-again Inv-loop μ-loop
 loop-again c =
     let l = c .before .before in
@@ -64,4 +55,5 @@ returns-3 c =
     rw (le-ltb mostGenerators _ (a .before .if1 .left)) (sym (rw (le-antisymm (a .loop .inv .0) (c .loop-test .left)) at (a .loop .inv .1)))
 
 pub is-wide-spec : {M : Type 1} → statement M
-is-wide-spec = tie.close (tie.spec Inv-loop μ-loop div-n returns loop-holds wide-image-requires returns-2 add-k loop-less loop-again returns-3)
+is-wide-spec = tie.close (tie.spec Inv-loop μ-loop (λ c. search needs) returns loop-holds wide-image-requires returns-2 (λ c. search needs) (λ c. search needs)
+    loop-again returns-3)

@@ -9,11 +9,11 @@ use native.Mathlib.Nat.{le-antisymm}
 use native.Mathlib.Omega.{arith}
 use Rattle.definitions.specs.System.{imageOf}
 use Rattle.desk_calls.specs.Calls.{deskOf}
-use Rattle.desk_form.specs.Desks.{generator, imageLimit, secondGroup}
+use Rattle.desk_spec.specs.Desks.{generator, imageLimit, secondGroup}
 use Rattle.desk_rows.specs.Images.{desk-equation, desk-row}
 use Rattle.linear.specs.LoopLaws.{any-holds, any-next}
 use Rattle.linear.specs.Tests.{anyTo}
-use Rattle.pair_rows.specs.Valuing.{value-back}
+use Rattle.table_rows.specs.Small.{value-back}
 use Rattle.desk_checks.proofs.ranges.wide_image.Statement.{statement}
 use Rattle.desk_checks.proofs.ranges.wide_image.Tie as tie
 
@@ -29,40 +29,31 @@ loop-holds : tie.Need-loop-holds Inv-loop μ-loop
 unfolding anyTo
 loop-holds c = (search needs, refl)
 
-mul-value-of : tie.Need-mul-value-of Inv-loop μ-loop
-mul-value-of c = let s = c .before .before .before in omega (arith, desk-equation (s .pre .0) (c .before .loop .i) (c .loop-test .taken) .whole)
+mul-value-at : tie.Need-mul-value-at Inv-loop μ-loop
+mul-value-at c = let s = c .before .before .before in omega (arith, desk-equation (s .pre .0) (c .before .loop .i) (c .loop-test .taken) .whole)
 
-mul-value-of-2 : tie.Need-mul-value-of-2 Inv-loop μ-loop
-mul-value-of-2 c = let s = c .before .before .before in omega (arith, desk-row (s .pre .0) (s .args .k) (s .pre .1) .whole)
+mul-value-at-2 : tie.Need-mul-value-at-2 Inv-loop μ-loop
+mul-value-at-2 c = let s = c .before .before .before in omega (arith, desk-row (s .pre .0) (s .args .k) (s .pre .1) .whole)
 
-value-of-requires : tie.Need-value-of-requires Inv-loop μ-loop
-value-of-requires c κs =
+value-at-requires : tie.Need-value-at-requires Inv-loop μ-loop
+value-at-requires c κs =
     let s = c .before .before .before in
     (desk-equation (s .pre .0) (c .before .loop .i) (c .loop-test .taken), desk-row (s .pre .0) (s .args .k) (s .pre .1))
-
-is-large-requires : tie.Need-is-large-requires Inv-loop μ-loop
-is-large-requires c κs = search needs
 
 returns : tie.Need-returns Inv-loop μ-loop
 returns c =
     let l = c .before .before .before in
     let s = l .before .before .before in
     let v = value-back (desk-equation (s .pre .0) (l .before .loop .i) (l .loop-test .taken)) (desk-row (s .pre .0) (s .args .k) (s .pre .1))
-    (c .before .before .value-of .ensures) in
+    (c .before .before .value-at .ensures) in
     sym (any-holds _ _ _ (l .loop-test .taken) (rw v at (sym (c .before .is-large .ensures) ∙ c .if1 .taken)))
-
-add-i : tie.Need-add-i Inv-loop μ-loop
-add-i c = search needs
-
-loop-less : tie.Need-loop-less Inv-loop μ-loop
-loop-less c = search needs
 
 loop-again : tie.Need-loop-again Inv-loop μ-loop
 loop-again c =
     let l = c .before .before .before in
     let s = l .before .before .before in
     let v = value-back (desk-equation (s .pre .0) (l .before .loop .i) (l .loop-test .taken)) (desk-row (s .pre .0) (s .args .k) (s .pre .1))
-    (c .before .before .value-of .ensures) in
+    (c .before .before .value-at .ensures) in
     (search needs, any-next _ _ (l .before .loop .inv .1) (rw v at (sym (c .before .is-large .ensures) ∙ c .if1 .left)))
 
 returns-2 : tie.Need-returns-2 Inv-loop μ-loop
@@ -70,4 +61,5 @@ returns-2 c = cc (le-antisymm (c .before .loop .inv .0) (c .loop-test .left))
 
 pub wide-image-spec : {M : Type 1} → statement M
 wide-image-spec =
-    tie.close (tie.spec Inv-loop μ-loop loop-holds mul-value-of mul-value-of-2 value-of-requires is-large-requires returns add-i loop-less loop-again returns-2)
+    tie.close (tie.spec Inv-loop μ-loop loop-holds mul-value-at mul-value-at-2 value-at-requires (λ c κs. search needs) returns (λ c. search needs)
+    (λ c. search needs) loop-again returns-2)

@@ -11,15 +11,6 @@ use Rattle.desk_checks.specs.Shape.{room-enough, room-short, shapeChecks
 use Rattle.desk_checks.proofs.shape.check.Statement.{statement}
 use Rattle.desk_checks.proofs.shape.check.Tie as tie
 
-check-requires : tie.Need-check-requires
-check-requires c κs = search needs
-
-enum-known-why : tie.Need-enum-known-why
-enum-known-why c = search needs
-
-enum-told : tie.Need-enum-told
-enum-told c = search needs
-
 abbrev startOf : tie.After-enum-told → tie.Start
 startOf t = t .before .before .before
 
@@ -38,9 +29,6 @@ returns c =
 
 add-if2 : tie.Need-add-if2
 add-if2 c = omega (arith, in-range (c .before) .unknowns)
-
-div-if2 : tie.Need-div-if2
-div-if2 c = search needs
 
 div-if2-2 : tie.Need-div-if2-2
 div-if2-2 c = omega (arith, in-range (c .before) .some)
@@ -75,13 +63,13 @@ pub check-spec : {M : Type 1} → statement M
 check-spec =
     tie.close
     (tie.spec
-    check-requires
-    enum-known-why
-    enum-told
+    (λ c κs. search needs)
+    (λ c. search needs)
+    (λ c. search needs)
     rem-if1
     returns
     add-if2
-    div-if2
+    (λ c. search needs)
     div-if2-2
     returns-2
     returns-3

@@ -52,12 +52,6 @@ sum-and-requires c κs =
     let a = l .before in
     next-fits (a .before .pre) (a .loop .i) (a .loop .inv .1) (l .loop-test .taken)
 
-add-i : tie.Need-add-i Inv-loop μ-loop
-add-i c = search needs
-
-loop-less : tie.Need-loop-less Inv-loop μ-loop
-loop-less c = search needs
-
 loop-again : tie.Need-loop-again Inv-loop μ-loop
 loop-again c =
     let l = c .before .before .before in
@@ -74,4 +68,4 @@ pub product-spec : {M : Type 1} → statement M
 product-spec =
     tie.close
     (tie.spec Inv-loop μ-loop loop-holds mul-sum-and add-sum-and mul-sum-and-2 element-copy-out-sum-and mul-sum-and-3 add-sum-and-2 mul-sum-and-4
-    element-copy-out-sum-and-2 sum-and-requires add-i loop-less loop-again returns)
+    element-copy-out-sum-and-2 sum-and-requires (λ c. search needs) (λ c. search needs) loop-again returns)

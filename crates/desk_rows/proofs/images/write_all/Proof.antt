@@ -33,12 +33,6 @@ write-requires c κs =
       a .loop .inv .1,
     )
 
-add-k : tie.Need-add-k Inv-loop μ-loop
-add-k c = search needs
-
-loop-less : tie.Need-loop-less Inv-loop μ-loop
-loop-less c = search needs
-
 loop-again : tie.Need-loop-again Inv-loop μ-loop
 loop-again c =
     let a = c .before .before .before in
@@ -49,4 +43,4 @@ returns : tie.Need-returns Inv-loop μ-loop
 returns c = let a = c .before in (rw (le-antisymm (a .loop .inv .0) (c .loop-test .left)) at (a .loop .inv .2), a .loop .inv .1)
 
 pub write-all-spec : {M : Type 1} → statement M
-write-all-spec = tie.close (tie.spec Inv-loop μ-loop loop-holds mul-write write-requires add-k loop-less loop-again returns)
+write-all-spec = tie.close (tie.spec Inv-loop μ-loop loop-holds mul-write write-requires (λ c. search needs) (λ c. search needs) loop-again returns)

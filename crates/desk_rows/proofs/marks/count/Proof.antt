@@ -1,7 +1,7 @@
 -- `marks::count` meets its contract: the machine's count is the count over 64 places. Assumes nothing.
 use lib.Count.{ones-le}
 use native.Mathlib.Omega.{arith}
-use Rattle.orders.specs.Order.{ones-marks}
+use Rattle.record_order.specs.Order.{ones-marks}
 use Rattle.desk_rows.proofs.marks.count.Statement.{statement}
 use Rattle.desk_rows.proofs.marks.count.Tie as tie
 

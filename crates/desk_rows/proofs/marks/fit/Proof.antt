@@ -7,11 +7,8 @@ use Rattle.desk_rows.proofs.marks.fit.Tie as tie
 returns : tie.Need-returns
 returns c = let a = c .before in fit-all (a .args .marks) (a .args .n) (a .fits .marks .fits) (c .if1 .taken)
 
-shl-past : tie.Need-shl-past
-shl-past c = search needs
-
 returns-2 : tie.Need-returns-2
 returns-2 c = rw (shift-one (c .before .args .n) (c .if1 .left))
 
 pub fit-spec : {M : Type 1} → statement M
-fit-spec = tie.close (tie.spec returns shl-past returns-2)
+fit-spec = tie.close (tie.spec returns (λ c. search needs) returns-2)

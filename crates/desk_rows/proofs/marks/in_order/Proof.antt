@@ -7,14 +7,8 @@ use Rattle.desk_rows.specs.Marks.{count-fit}
 use Rattle.desk_rows.proofs.marks.in_order.Statement.{statement}
 use Rattle.desk_rows.proofs.marks.in_order.Tie as tie
 
-fit-requires : tie.Need-fit-requires
-fit-requires c κs = search needs
-
 returns : tie.Need-returns
 returns c = rw (sym (c .before .fit .ensures) ∙ not-true _ (c .if1 .taken))
-
-count-requires : tie.Need-count-requires
-count-requires c κs = search needs
 
 returns-2 : tie.Need-returns-2
 returns-2 c =
@@ -24,4 +18,4 @@ returns-2 c =
     rw (fits, count-fit (a .args .marks) (a .args .n) (a .fits .marks .fits) (ltb→lt _ _ (rw fits tt)), c .count .ensures)
 
 pub in-order-spec : {M : Type 1} → statement M
-in-order-spec = tie.close (tie.spec fit-requires returns count-requires returns-2)
+in-order-spec = tie.close (tie.spec (λ c κs. search needs) returns (λ c κs. search needs) returns-2)

@@ -1,14 +1,11 @@
 -- `marks::is_marked` meets its contract: bit j. Assumes nothing.
 use borrow.Author.Needs.{needs}
-use Rattle.pair_rows.specs.Choosing.{mark-test}
+use Rattle.desk_rows.specs.Marks.{mark-test}
 use Rattle.desk_rows.proofs.marks.is_marked.Statement.{statement}
 use Rattle.desk_rows.proofs.marks.is_marked.Tie as tie
-
-shr-result : tie.Need-shr-result
-shr-result c = search needs
 
 returns : tie.Need-returns
 returns c = mark-test (c .args .marks) (c .args .j)
 
 pub is-marked-spec : {M : Type 1} → statement M
-is-marked-spec = tie.close (tie.spec shr-result returns)
+is-marked-spec = tie.close (tie.spec (λ c. search needs) returns)

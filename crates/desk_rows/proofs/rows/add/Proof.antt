@@ -18,9 +18,6 @@ abbrev μ-loop : tie.MeasureT-loop
 loop-holds : tie.Need-loop-holds Inv-loop μ-loop
 loop-holds c = (search needs, refl, record { sums = λ i l. absurd (omega arith) })
 
-mul-z : tie.Need-mul-z Inv-loop μ-loop
-mul-z c = search needs
-
 shared-slice-read-z : tie.Need-shared-slice-read-z Inv-loop μ-loop
 shared-slice-read-z c = let s = c .before .before .before in omega (arith, s .pre .1 .whole, c .before .loop-test .taken)
 
@@ -39,24 +36,9 @@ add-z-2 c =
     let s = l .before .before in
     omega (arith, s .pre .1 .small (l .before .loop .j) (l .loop-test .taken), s .pre .2 .small (l .before .loop .j) (l .loop-test .taken))
 
-mul-z-3 : tie.Need-mul-z-3 Inv-loop μ-loop
-mul-z-3 c = search needs
-
-slice-write-z : tie.Need-slice-write-z Inv-loop μ-loop
-slice-write-z c = search needs
-
-add-j : tie.Need-add-j Inv-loop μ-loop
-add-j c = search needs
-
-loop-less : tie.Need-loop-less Inv-loop μ-loop
-loop-less c = search needs
-
 loop-again : tie.Need-loop-again Inv-loop μ-loop
 loop-again c = let a = c .before .before .before in
     (search needs, simp length-set (a .loop .inv .1), raised-more (omega (arith, a .loop .inv .1, a .before .pre .0)) (a .loop .inv .2))
-
-same-length : tie.Need-same-length Inv-loop μ-loop
-same-length c = search needs
 
 returns : tie.Need-returns Inv-loop μ-loop
 returns c = let a = c .before in rw (le-antisymm (a .loop .inv .0) (c .loop-test .left)) at (a .loop .inv .2)
@@ -64,5 +46,6 @@ returns c = let a = c .before in rw (le-antisymm (a .loop .inv .0) (c .loop-test
 pub add-spec : {M : Type 1} → statement M
 add-spec =
     tie.close
-    (tie.spec Inv-loop μ-loop loop-holds mul-z shared-slice-read-z add-z mul-z-2 shared-slice-read-z-2 add-z-2 mul-z-3 slice-write-z add-j loop-less
-    loop-again same-length returns)
+    (tie.spec Inv-loop μ-loop loop-holds (λ c. search needs) shared-slice-read-z add-z mul-z-2 shared-slice-read-z-2 add-z-2 (λ c. search needs)
+    (λ c. search needs) (λ c. search needs) (λ c. search needs)
+    loop-again (λ c. search needs) returns)

@@ -4,14 +4,8 @@ use borrow.Author.Needs.{needs}
 use Rattle.dezgula.proofs.equations.dezgula_raw_write_equation.Statement.{statement}
 use Rattle.dezgula.proofs.equations.dezgula_raw_write_equation.Tie as tie
 
-write-equation-requires : tie.Need-write-equation-requires
-write-equation-requires c κs = search needs
-
-same-length : tie.Need-same-length
-same-length c = search needs
-
 returns : tie.Need-returns
 returns c = let w = c .before .before in rw (toZ-ofZ (w .before .before .before .fits .right)) at (w .write-equation .ensures)
 
 pub dezgula-raw-write-equation-spec : {M : Type 1} → statement M
-dezgula-raw-write-equation-spec = tie.close (tie.spec write-equation-requires same-length returns)
+dezgula-raw-write-equation-spec = tie.close (tie.spec (λ c κs. search needs) (λ c. search needs) returns)

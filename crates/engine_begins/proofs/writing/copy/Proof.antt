@@ -21,24 +21,6 @@ abbrev μ-loop : tie.MeasureT-loop
 loop-holds : tie.Need-loop-holds Inv-loop μ-loop
 loop-holds c = (search needs, refl, fill-none _ _ _)
 
-mul-equations : tie.Need-mul-equations Inv-loop μ-loop
-mul-equations c = search needs
-
-shared-slice-copy-out-equations : tie.Need-shared-slice-copy-out-equations Inv-loop μ-loop
-shared-slice-copy-out-equations c = search needs
-
-mul-t9 : tie.Need-mul-t9 Inv-loop μ-loop
-mul-t9 c = search needs
-
-slice-set-from-equations : tie.Need-slice-set-from-equations Inv-loop μ-loop
-slice-set-from-equations c = search needs
-
-add-i : tie.Need-add-i Inv-loop μ-loop
-add-i c = search needs
-
-loop-less : tie.Need-loop-less Inv-loop μ-loop
-loop-less c = search needs
-
 loop-again : tie.Need-loop-again Inv-loop μ-loop
 loop-again c = let a = c .before .before in
     let s = c .before .before .before .args in
@@ -58,12 +40,12 @@ copy-spec =
     Inv-loop
     μ-loop
     loop-holds
-    mul-equations
-    shared-slice-copy-out-equations
-    mul-t9
-    slice-set-from-equations
-    add-i
-    loop-less
+    (λ c. search needs)
+    (λ c. search needs)
+    (λ c. search needs)
+    (λ c. search needs)
+    (λ c. search needs)
+    (λ c. search needs)
     loop-again
     same-length
     returns)

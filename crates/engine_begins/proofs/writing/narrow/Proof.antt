@@ -4,7 +4,6 @@ use mir.Facts.{toZ-ofZ}
 use mir.Syntax.{w32}
 use mir.Val.{SFits}
 use Rattle.linear.specs.Integers.{sfits-natAbs}
-use borrow.Author.Needs.{needs}
 use Rattle.engine_begins.proofs.writing.narrow.Statement.{statement}
 use Rattle.engine_begins.proofs.writing.narrow.Tie as tie
 

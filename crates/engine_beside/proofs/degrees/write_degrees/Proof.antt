@@ -30,18 +30,6 @@ degree-at-requires c κs =
     let s = a .before .before .before in
     (s .pre .0 .few, table-row (s .pre .0) (a .loop .i) (c .loop-test .taken))
 
-mul-degrees : tie.Need-mul-degrees Inv-loop μ-loop
-mul-degrees c = search needs
-
-slice-write-degrees : tie.Need-slice-write-degrees Inv-loop μ-loop
-slice-write-degrees c = search needs
-
-add-i : tie.Need-add-i Inv-loop μ-loop
-add-i c = search needs
-
-loop-less : tie.Need-loop-less Inv-loop μ-loop
-loop-less c = search needs
-
 loop-again : tie.Need-loop-again Inv-loop μ-loop
 loop-again c =
     let a = c .before .before in
@@ -66,10 +54,10 @@ write-degrees-spec =
     loop-holds
     mul-degree-at
     degree-at-requires
-    mul-degrees
-    slice-write-degrees
-    add-i
-    loop-less
+    (λ c. search needs)
+    (λ c. search needs)
+    (λ c. search needs)
+    (λ c. search needs)
     loop-again
     same-length
     returns)

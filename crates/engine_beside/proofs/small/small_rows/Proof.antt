@@ -42,12 +42,6 @@ returns c =
     let l = c .before .before in
     sym (all-fails _ _ (l .before .loop .i) (l .loop-test .taken) (sym (c .before .small-at .ensures) ∙ not-true _ (c .if1 .taken)))
 
-add-i : tie.Need-add-i Inv-loop μ-loop
-add-i c = search needs
-
-loop-less : tie.Need-loop-less Inv-loop μ-loop
-loop-less c = search needs
-
 loop-again : tie.Need-loop-again Inv-loop μ-loop
 loop-again c =
     let a = c .before .before .before in
@@ -67,7 +61,7 @@ small-rows-spec =
     mul-small-at
     small-at-requires
     returns
-    add-i
-    loop-less
+    (λ c. search needs)
+    (λ c. search needs)
     loop-again
     returns-2)

@@ -6,11 +6,8 @@ use borrow.Author.Needs.{needs}
 use Rattle.engine_beside.proofs.values.natural.Statement.{statement}
 use Rattle.engine_beside.proofs.values.natural.Tie as tie
 
-cast-result : tie.Need-cast-result
-cast-result c = search needs
-
 returns : tie.Need-returns
 returns c = toZ-ofZ {w = w64} {z = pos (c .args .x)} (search needs)
 
 pub natural-spec : {M : Type 1} → statement M
-natural-spec = tie.close (tie.spec cast-result returns)
+natural-spec = tie.close (tie.spec (λ c. search needs) returns)

@@ -24,42 +24,12 @@ loop-holds : tie.Need-loop-holds Inv-loop μ-loop
 unfolding inner sumTo
 loop-holds c = (search needs, refl)
 
-add-wide : tie.Need-add-wide Inv-loop μ-loop
-add-wide c = search needs
-
-mul-wide : tie.Need-mul-wide Inv-loop μ-loop
-mul-wide c = search needs
-
-shared-slice-copy-out-wide : tie.Need-shared-slice-copy-out-wide Inv-loop μ-loop
-shared-slice-copy-out-wide c = search needs
-
-wide-requires : tie.Need-wide-requires Inv-loop μ-loop
-wide-requires c κs = search needs
-
-add-natural : tie.Need-add-natural Inv-loop μ-loop
-add-natural c = search needs
-
-mul-natural : tie.Need-mul-natural Inv-loop μ-loop
-mul-natural c = search needs
-
-shared-slice-read-natural : tie.Need-shared-slice-read-natural Inv-loop μ-loop
-shared-slice-read-natural c = search needs
-
-natural-requires : tie.Need-natural-requires Inv-loop μ-loop
-natural-requires c κs = search needs
-
 sum-and-requires : tie.Need-sum-and-requires Inv-loop μ-loop
 sum-and-requires c κs = let l = c .before .before .before .before in
     let a = l .before in
     let s = a .before .before in
     let x = c .before .before .wide .ensures ∙ toZ-ofZ (coefficient-fits (s .pre .0) (a .loop .j) (l .loop-test .taken)) in
     next-fits (value-terms (s .pre .0) (s .pre .1)) (a .loop .j) (a .loop .inv .1) (l .loop-test .taken) x (c .natural .ensures)
-
-add-j : tie.Need-add-j Inv-loop μ-loop
-add-j c = search needs
-
-loop-less : tie.Need-loop-less Inv-loop μ-loop
-loop-less c = search needs
 
 loop-again : tie.Need-loop-again Inv-loop μ-loop
 loop-again c = let l = c .before .before .before .before .before in
@@ -84,16 +54,16 @@ value-at-spec =
     Inv-loop
     μ-loop
     loop-holds
-    add-wide
-    mul-wide
-    shared-slice-copy-out-wide
-    wide-requires
-    add-natural
-    mul-natural
-    shared-slice-read-natural
-    natural-requires
+    (λ c. search needs)
+    (λ c. search needs)
+    (λ c. search needs)
+    (λ c κs. search needs)
+    (λ c. search needs)
+    (λ c. search needs)
+    (λ c. search needs)
+    (λ c κs. search needs)
     sum-and-requires
-    add-j
-    loop-less
+    (λ c. search needs)
+    (λ c. search needs)
     loop-again
     returns)

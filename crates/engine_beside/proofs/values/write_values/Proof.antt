@@ -32,18 +32,6 @@ value-at-requires c κs =
     let s = a .before .before in
     (s .pre .0, table-row (s .pre .1) (a .loop .i) (c .loop-test .taken))
 
-mul-t11 : tie.Need-mul-t11 Inv-loop μ-loop
-mul-t11 c = search needs
-
-slice-set-from-values : tie.Need-slice-set-from-values Inv-loop μ-loop
-slice-set-from-values c = search needs
-
-add-i : tie.Need-add-i Inv-loop μ-loop
-add-i c = search needs
-
-loop-less : tie.Need-loop-less Inv-loop μ-loop
-loop-less c = search needs
-
 loop-again : tie.Need-loop-again Inv-loop μ-loop
 loop-again c =
     let a = c .before .before in
@@ -70,10 +58,10 @@ write-values-spec =
     loop-holds
     mul-value-at
     value-at-requires
-    mul-t11
-    slice-set-from-values
-    add-i
-    loop-less
+    (λ c. search needs)
+    (λ c. search needs)
+    (λ c. search needs)
+    (λ c. search needs)
     loop-again
     same-length
     returns)

@@ -4,15 +4,9 @@ use borrow.Author.Needs.{needs}
 use Rattle.engine_beside.proofs.words.joined.Statement.{statement}
 use Rattle.engine_beside.proofs.words.joined.Tie as tie
 
-add-sum : tie.Need-add-sum
-add-sum c = search needs
-
-sub-result : tie.Need-sub-result
-sub-result c = search needs
-
 returns : tie.Need-returns
 unfolding joinedWord others guards digits
 returns c = search needs
 
 pub joined-spec : {M : Type 1} → statement M
-joined-spec = tie.close (tie.spec add-sum sub-result returns)
+joined-spec = tie.close (tie.spec (λ c. search needs) (λ c. search needs) returns)

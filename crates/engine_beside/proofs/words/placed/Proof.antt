@@ -4,14 +4,8 @@ use borrow.Author.Needs.{needs}
 use Rattle.engine_beside.proofs.words.placed.Statement.{statement}
 use Rattle.engine_beside.proofs.words.placed.Tie as tie
 
-mul-result : tie.Need-mul-result
-mul-result c = search needs
-
-shl-result : tie.Need-shl-result
-shl-result c = search needs
-
 returns : tie.Need-returns
 returns c = shifted (c .args .x) (c .args .j) (c .pre .0) (c .pre .1)
 
 pub placed-spec : {M : Type 1} → statement M
-placed-spec = tie.close (tie.spec mul-result shl-result returns)
+placed-spec = tie.close (tie.spec (λ c. search needs) (λ c. search needs) returns)

@@ -30,9 +30,6 @@ made c =
     let s = a .before .before .before in
     next-word (s .args .q) (row s) (a .loop .j) (a .loop .inv .1) (c .before .before .folded-at .ensures) (c .before .cut .ensures) (c .placed .ensures)
 
-least-requires : tie.Need-least-requires Inv-loop μ-loop
-least-requires c κs = search needs
-
 loop-holds : tie.Need-loop-holds Inv-loop μ-loop
 loop-holds c = (search needs, sym (first-word _ _))
 
@@ -40,9 +37,6 @@ folded-at-requires : tie.Need-folded-at-requires Inv-loop μ-loop
 folded-at-requires c κs =
     let a = c .before in
     (omega (arith, c .loop-test .taken, a .before .least .ensures), a .before .before .before .pre .1)
-
-cut-requires : tie.Need-cut-requires Inv-loop μ-loop
-cut-requires c κs = search needs
 
 placed-requires : tie.Need-placed-requires Inv-loop μ-loop
 placed-requires c κs =
@@ -54,12 +48,6 @@ add-word c =
     let l = c .before .before .before in
     let s = l .before .before .before .before in
     omega (arith, made c, word-room (s .args .q) (row s) (l .before .loop .j + 1) (omega (arith, l .loop-test .taken, l .before .before .least .ensures)))
-
-add-j : tie.Need-add-j Inv-loop μ-loop
-add-j c = search needs
-
-loop-less : tie.Need-loop-less Inv-loop μ-loop
-loop-less c = search needs
 
 loop-again : tie.Need-loop-again Inv-loop μ-loop
 loop-again c = (search needs, made c)
@@ -77,13 +65,13 @@ word-at-spec =
     (tie.spec
     Inv-loop
     μ-loop
-    least-requires
+    (λ c κs. search needs)
     loop-holds
     folded-at-requires
-    cut-requires
+    (λ c κs. search needs)
     placed-requires
     add-word
-    add-j
-    loop-less
+    (λ c. search needs)
+    (λ c. search needs)
     loop-again
     returns)

@@ -20,7 +20,8 @@ use Rattle.engine_checks.proofs.operations.combines_small.Statement.{st
 use Rattle.engine_checks.proofs.operations.combines_small.Tie as tie
 
 abbrev Inv-loop : tie.InvT-loop
-Inv-loop equations q x y u t j₀ j = (j ≤ q) × (allTo j (λ k. leb (natAbs ((toZ w32 u *ℤ equationAt equations x k) +ℤ (toZ w32 t *ℤ equationAt equations y k))) coefficientLimit) ≡ true)
+Inv-loop equations q x y u t j₀ j = (j ≤ q) × (allTo j (λ k. leb (natAbs ((toZ w32 u *ℤ equationAt equations x k) +ℤ (toZ w32 t *ℤ equationAt equations y k)))
+    coefficientLimit) ≡ true)
 
 abbrev μ-loop : tie.MeasureT-loop
 μ-loop equations q x y u t j₀ j = q - j
@@ -28,29 +29,9 @@ abbrev μ-loop : tie.MeasureT-loop
 loop-holds : tie.Need-loop-holds Inv-loop μ-loop
 loop-holds c = (search needs, none-yet _)
 
-add-combined : tie.Need-add-combined Inv-loop μ-loop
-add-combined c = search needs
-
-mul-combined : tie.Need-mul-combined Inv-loop μ-loop
-mul-combined c = search needs
-
-shared-slice-copy-out-combined : tie.Need-shared-slice-copy-out-combined Inv-loop μ-loop
-shared-slice-copy-out-combined c = search needs
-
-add-combined-2 : tie.Need-add-combined-2 Inv-loop μ-loop
-add-combined-2 c = search needs
-
-mul-combined-2 : tie.Need-mul-combined-2 Inv-loop μ-loop
-mul-combined-2 c = search needs
-
-shared-slice-copy-out-combined-2 : tie.Need-shared-slice-copy-out-combined-2 Inv-loop μ-loop
-shared-slice-copy-out-combined-2 c = search needs
-
 combined-requires : tie.Need-combined-requires Inv-loop μ-loop
-combined-requires c κs = let s = c .before .before .before .before in reads-small (s .pre .0) (s .pre .1) (s .fits .u) (s .fits .t) (c .before .before .before .loop .j) (c .before .before .loop-test .taken)
-
-will-be-small-requires : tie.Need-will-be-small-requires Inv-loop μ-loop
-will-be-small-requires c κs = search needs
+combined-requires c κs = let s = c .before .before .before .before in reads-small (s .pre .0) (s .pre .1) (s .fits .u) (s .fits .t)
+    (c .before .before .before .loop .j) (c .before .before .loop-test .taken)
 
 tested : (c : tie.After-will-be-small Inv-loop μ-loop)
     → let s = c .before .before .before .before .before .before in let j = c .before .before .before .before .before .loop .j in
@@ -66,18 +47,15 @@ returns : tie.Need-returns Inv-loop μ-loop
 unfolding combinesSmall
 returns c = sym (all-fails _ _ _ (c .before .before .before .before .before .loop-test .taken) (sym (tested (c .before)) ∙ not-true _ (c .if1 .taken)))
 
-add-j : tie.Need-add-j Inv-loop μ-loop
-add-j c = search needs
-
-loop-less : tie.Need-loop-less Inv-loop μ-loop
-loop-less c = search needs
-
 loop-again : tie.Need-loop-again Inv-loop μ-loop
 loop-again c = let s = c .before .before .before .before .before .before .before in
     let e = tested (c .before) in
     let u = toZ-ofZ (s .fits .u) in
-    let t = toZ-ofZ (s .fits .t) in
-    (search needs, simp (u, t) (all-next _ _ (simp (u, t) at (c .before .before .before .before .before .before .loop .inv .1)) (sym e ∙ not-false _ (c .if1 .left))))
+    let t = toZ-ofZ (s .fits .t) in (
+      search needs,
+      simp (u, t) (all-next _ _ (simp (u, t) at (c .before .before .before .before .before .before .loop .inv .1))
+          (sym e ∙ not-false _ (c .if1 .left))),
+    )
 
 returns-2 : tie.Need-returns-2 Inv-loop μ-loop
 unfolding combinesSmall
@@ -92,16 +70,16 @@ combines-small-spec =
     Inv-loop
     μ-loop
     loop-holds
-    add-combined
-    mul-combined
-    shared-slice-copy-out-combined
-    add-combined-2
-    mul-combined-2
-    shared-slice-copy-out-combined-2
+    (λ c. search needs)
+    (λ c. search needs)
+    (λ c. search needs)
+    (λ c. search needs)
+    (λ c. search needs)
+    (λ c. search needs)
     combined-requires
-    will-be-small-requires
+    (λ c κs. search needs)
     returns
-    add-j
-    loop-less
+    (λ c. search needs)
+    (λ c. search needs)
     loop-again
     returns-2)

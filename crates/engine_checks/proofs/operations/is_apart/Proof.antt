@@ -8,11 +8,8 @@ use Rattle.engine_checks.proofs.operations.is_apart.Tie as tie
 returns : tie.Need-returns
 returns c = rw (ne-eqb _ _ (c .if1 .taken))
 
-is-zero-requires : tie.Need-is-zero-requires
-is-zero-requires c κs = search needs
-
 returns-2 : tie.Need-returns-2
 returns-2 c = rw (eq-eqb _ _ (c .before .if1 .left)) (rw (toZ-ofZ (c .before .before .fits .t)) at (c .is-zero .ensures))
 
 pub is-apart-spec : {M : Type 1} → statement M
-is-apart-spec = tie.close (tie.spec returns is-zero-requires returns-2)
+is-apart-spec = tie.close (tie.spec returns (λ c κs. search needs) returns-2)

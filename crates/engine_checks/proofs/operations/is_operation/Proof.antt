@@ -7,19 +7,17 @@ use borrow.Author.Needs.{needs}
 use Rattle.engine_checks.proofs.operations.is_operation.Statement.{statement}
 use Rattle.engine_checks.proofs.operations.is_operation.Tie as tie
 
-is-zero-requires : tie.Need-is-zero-requires
-is-zero-requires c κs = search needs
-
 returns : tie.Need-returns
 returns c = let s = c .before .before in rw (sym (rw (toZ-ofZ (s .fits .u)) at (c .before .is-zero .ensures)) ∙ c .if1 .taken)
-
-is-apart-requires : tie.Need-is-apart-requires
-is-apart-requires c κs = search needs
 
 returns-2 : tie.Need-returns-2
 returns-2 c =
     let s = c .before .before .before .before in
-    rw (sym (rw (toZ-ofZ (s .fits .u)) at (c .before .before .before .is-zero .ensures)) ∙ c .before .before .if1 .left, sym (rw (toZ-ofZ (s .fits .t)) at (c .before .is-apart .ensures)) ∙ not-true _ (c .if2 .taken))
+    rw (
+      sym (rw (toZ-ofZ (s .fits .u)) at (c .before .before .before .is-zero .ensures)) ∙ c .before .before .if1 .left,
+      sym
+          (rw (toZ-ofZ (s .fits .t)) at (c .before .is-apart .ensures)) ∙ not-true _ (c .if2 .taken),
+    )
 
 mul-combines-small : tie.Need-mul-combines-small
 mul-combines-small c = let s = c .before .before .before .before in omega (arith, s .pre .0 .whole)
@@ -32,16 +30,20 @@ combines-small-requires c κs = let s = c .before .before .before .before in (s 
 
 returns-3 : tie.Need-returns-3
 returns-3 c = let s = c .before .before .before .before .before in
-    rw (sym (rw (toZ-ofZ (s .fits .u)) at (c .before .before .before .before .is-zero .ensures)) ∙ c .before .before .before .if1 .left, sym (rw (toZ-ofZ (s .fits .t)) at (c .before .before .is-apart .ensures)) ∙ not-false _ (c .before .if2 .left))
+    rw (
+      sym (rw (toZ-ofZ (s .fits .u)) at (c .before .before .before .before .is-zero .ensures)) ∙ c .before .before .before .if1 .left,
+      sym
+          (rw (toZ-ofZ (s .fits .t)) at (c .before .before .is-apart .ensures)) ∙ not-false _ (c .before .if2 .left),
+    )
     (rw (toZ-ofZ (s .fits .u), toZ-ofZ (s .fits .t)) at (c .combines-small .ensures))
 
 pub is-operation-spec : {M : Type 1} → statement M
 is-operation-spec =
     tie.close
     (tie.spec
-    is-zero-requires
+    (λ c κs. search needs)
     returns
-    is-apart-requires
+    (λ c κs. search needs)
     returns-2
     mul-combines-small
     mul-combines-small-2

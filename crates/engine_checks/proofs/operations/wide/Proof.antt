@@ -2,7 +2,6 @@
 use mir.Facts.{sfits-widen, toZ-ofZ}
 use mir.Syntax.{w64}
 use mir.Val.{SFits}
-use borrow.Author.Needs.{needs}
 use Rattle.engine_checks.proofs.operations.wide.Statement.{statement}
 use Rattle.engine_checks.proofs.operations.wide.Tie as tie
 

@@ -35,14 +35,12 @@ returns : tie.Need-returns Inv-loop μ-loop
 unfolding areRows
 returns c = sym (all-fails _ _ _ (c .before .before .loop-test .taken) (sym (c .before .is-row .ensures) ∙ not-true _ (c .if1 .taken)))
 
-add-i : tie.Need-add-i Inv-loop μ-loop
-add-i c = search needs
-
-loop-less : tie.Need-loop-less Inv-loop μ-loop
-loop-less c = search needs
-
 loop-again : tie.Need-loop-again Inv-loop μ-loop
-loop-again c = let a = c .before .before .before in (search needs, all-next _ _ (a .loop .inv .1) (sym (c .before .is-row .ensures) ∙ not-false _ (c .if1 .left)))
+loop-again c = let a = c .before .before .before in (
+  search needs,
+  all-next _ _ (a .loop .inv .1)
+      (sym (c .before .is-row .ensures) ∙ not-false _ (c .if1 .left)),
+)
 
 returns-2 : tie.Need-returns-2 Inv-loop μ-loop
 unfolding areRows
@@ -58,7 +56,7 @@ are-rows-spec =
     mul-is-row
     is-row-requires
     returns
-    add-i
-    loop-less
+    (λ c. search needs)
+    (λ c. search needs)
     loop-again
     returns-2)

@@ -27,31 +27,21 @@ abbrev μ-loop : tie.MeasureT-loop
 loop-holds : tie.Need-loop-holds Inv-loop μ-loop
 loop-holds c = (search needs, none-yet _)
 
-mul-is-small : tie.Need-mul-is-small Inv-loop μ-loop
-mul-is-small c = search needs
-
-shared-slice-copy-out-is-small : tie.Need-shared-slice-copy-out-is-small Inv-loop μ-loop
-shared-slice-copy-out-is-small c = search needs
-
-is-small-requires : tie.Need-is-small-requires Inv-loop μ-loop
-is-small-requires c κs = search needs
-
 tested : (c : tie.After-is-small Inv-loop μ-loop)
-    → c .is-small .result ≡ leb (natAbs (getD (now (c .before .before .before .before .args .equations)) (c .before .before .before .loop .i) (pos 0))) coefficientLimit
+    → c .is-small .result ≡ leb (natAbs (getD (now (c .before .before .before .before .args .equations)) (c .before .before .before .loop .i) (pos 0)))
+    coefficientLimit
 tested c = rw (toZ-ofZ (sfits-of (c .before .is-small-arg .given))) at (c .is-small .ensures)
 
 returns : tie.Need-returns Inv-loop μ-loop
 unfolding coefficientsSmall
 returns c = sym (all-fails _ _ _ (c .before .before .before .loop-test .taken) (sym (tested (c .before)) ∙ not-true _ (c .if1 .taken)))
 
-add-i : tie.Need-add-i Inv-loop μ-loop
-add-i c = search needs
-
-loop-less : tie.Need-loop-less Inv-loop μ-loop
-loop-less c = search needs
-
 loop-again : tie.Need-loop-again Inv-loop μ-loop
-loop-again c = let a = c .before .before .before .before in (search needs, all-next _ _ (a .loop .inv .1) (sym (tested (c .before)) ∙ not-false _ (c .if1 .left)))
+loop-again c = let a = c .before .before .before .before in (
+  search needs,
+  all-next _ _ (a .loop .inv .1)
+      (sym (tested (c .before)) ∙ not-false _ (c .if1 .left)),
+)
 
 returns-2 : tie.Need-returns-2 Inv-loop μ-loop
 unfolding coefficientsSmall
@@ -64,11 +54,11 @@ coefficients-small-spec =
     Inv-loop
     μ-loop
     loop-holds
-    mul-is-small
-    shared-slice-copy-out-is-small
-    is-small-requires
+    (λ c. search needs)
+    (λ c. search needs)
+    (λ c κs. search needs)
     returns
-    add-i
-    loop-less
+    (λ c. search needs)
+    (λ c. search needs)
     loop-again
     returns-2)

@@ -8,9 +8,6 @@ use borrow.Author.Needs.{needs}
 use Rattle.engine_checks.proofs.order.is_row.Statement.{statement}
 use Rattle.engine_checks.proofs.order.is_row.Tie as tie
 
-small-at-requires : tie.Need-small-at-requires
-small-at-requires c κs = search needs
-
 returns : tie.Need-returns
 unfolding isRow
 returns c = rw (sym (c .before .small-at .ensures) ∙ not-true _ (c .if1 .taken))
@@ -24,4 +21,4 @@ unfolding isRow
 returns-2 c = rw (sym (c .before .before .small-at .ensures) ∙ not-false _ (c .before .if1 .left), ← c .degree-at .ensures)
 
 pub is-row-spec : {M : Type 1} → statement M
-is-row-spec = tie.close (tie.spec small-at-requires returns degree-at-requires returns-2)
+is-row-spec = tie.close (tie.spec (λ c κs. search needs) returns degree-at-requires returns-2)

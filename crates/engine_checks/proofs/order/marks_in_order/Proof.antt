@@ -10,9 +10,6 @@ use Rattle.engine_checks.proofs.order.marks_in_order.Tie as tie
 returns : tie.Need-returns
 returns c = let a = c .before .args in past-equation (a .p) (a .done) (a .equation) (c .if1 .taken)
 
-is-done-requires : tie.Need-is-done-requires
-is-done-requires c κs = search needs
-
 returns-2 : tie.Need-returns-2
 unfolding marksInOrder
 returns-2 c = let a = c .before .before .before .args in
@@ -23,4 +20,4 @@ unfolding marksInOrder
 returns-3 c = let a = c .before .before .args in rw (le-leb (a .equation) (a .p) (c .before .if1 .left), le-ltb (a .equation) (a .p) (c .if2 .left))
 
 pub marks-in-order-spec : {M : Type 1} → statement M
-marks-in-order-spec = tie.close (tie.spec returns is-done-requires returns-2 returns-3)
+marks-in-order-spec = tie.close (tie.spec returns (λ c κs. search needs) returns-2 returns-3)

@@ -22,17 +22,11 @@ returns-3 : tie.Need-returns-3
 unfolding recordInOrder
 returns-3 c = let a = c .before .before .before .args in rw (lt-leb (a .steps) stepLimit (c .if3 .taken), and-false)
 
-shl-past : tie.Need-shl-past
-shl-past c = search needs
-
 returns-4 : tie.Need-returns-4
 unfolding recordInOrder
 returns-4 c = let s = c .before .before .before .before in
     let a = s .args in
     rw (le-ltb (a .done) (2 ^ a .p) (rw (shift-one (a .p) (omega (arith, s .pre))) at (c .if4 .taken)), and-false, and-false)
-
-marks-in-order-requires : tie.Need-marks-in-order-requires
-marks-in-order-requires c κs = search needs
 
 returns-5 : tie.Need-returns-5
 unfolding recordInOrder
@@ -52,4 +46,4 @@ returns-5 c = let e4 = c .before in
 pub record-in-order-spec : {M : Type 1} → statement M
 record-in-order-spec =
     tie.close
-    (tie.spec returns returns-2 returns-3 shl-past returns-4 marks-in-order-requires returns-5)
+    (tie.spec returns returns-2 returns-3 (λ c. search needs) returns-4 (λ c κs. search needs) returns-5)

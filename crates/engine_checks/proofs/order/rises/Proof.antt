@@ -3,7 +3,6 @@ use mathlib.Core.Bool.{and-false}
 use native.Mathlib.Omega.{arith}
 use borrow.Author.Tests.{le-leb, le-ltb, lt-leb, lt-ltb}
 use Rattle.engine_checks.specs.Order.{risesBy}
-use borrow.Author.Needs.{needs}
 use Rattle.engine_checks.proofs.order.rises.Statement.{statement}
 use Rattle.engine_checks.proofs.order.rises.Tie as tie
 

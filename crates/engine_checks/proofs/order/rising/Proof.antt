@@ -40,9 +40,6 @@ mul-degree-at c = let s = c .before .before .before in omega (arith, s .pre .who
 degree-at-requires : tie.Need-degree-at-requires Inv-loop μ-loop
 degree-at-requires c κs = let s = c .before .before .before in (s .pre .few, table-row (s .pre) _ (c .loop-test .taken))
 
-rises-requires : tie.Need-rises-requires Inv-loop μ-loop
-rises-requires c κs = search needs
-
 returns : tie.Need-returns Inv-loop μ-loop
 unfolding isRising
 returns c = let l = c .before .before .before in
@@ -50,12 +47,6 @@ returns c = let l = c .before .before .before in
     sym (all-fails _ _ _ (l .loop-test .taken)
     (sym (rises-is (degreesOf (now (s .table)) (s .q)) (s .d) (l .before .loop .i) (l .before .loop .inv .1) (c .before .before .degree-at .ensures)
     (c .before .rises .ensures)) ∙ not-true _ (c .if1 .taken)))
-
-add-i : tie.Need-add-i Inv-loop μ-loop
-add-i c = search needs
-
-loop-less : tie.Need-loop-less Inv-loop μ-loop
-loop-less c = search needs
 
 loop-again : tie.Need-loop-again Inv-loop μ-loop
 loop-again c = let l = c .before .before .before in
@@ -80,9 +71,9 @@ rising-spec =
     loop-holds
     mul-degree-at
     degree-at-requires
-    rises-requires
+    (λ c κs. search needs)
     returns
-    add-i
-    loop-less
+    (λ c. search needs)
+    (λ c. search needs)
     loop-again
     returns-2)

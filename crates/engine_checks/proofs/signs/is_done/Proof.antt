@@ -4,14 +4,8 @@ use borrow.Author.Needs.{needs}
 use Rattle.engine_checks.proofs.signs.is_done.Statement.{statement}
 use Rattle.engine_checks.proofs.signs.is_done.Tie as tie
 
-cast-result : tie.Need-cast-result
-cast-result c = search needs
-
-shr-result : tie.Need-shr-result
-shr-result c = search needs
-
 returns : tie.Need-returns
 returns c = mark-test (c .args .done) (c .args .k)
 
 pub is-done-spec : {M : Type 1} → statement M
-is-done-spec = tie.close (tie.spec cast-result shr-result returns)
+is-done-spec = tie.close (tie.spec (λ c. search needs) (λ c. search needs) returns)

@@ -2,7 +2,6 @@
 use mathlib.Core.Path.{sym}
 use mir.Facts.{toZ-ofZ}
 use Rattle.engine_checks.specs.Signs.{small-below, small-else}
-use borrow.Author.Needs.{needs}
 use Rattle.engine_checks.proofs.signs.will_be_small.Statement.{statement}
 use Rattle.engine_checks.proofs.signs.will_be_small.Tie as tie
 

@@ -3,7 +3,6 @@ use native.Mathlib.Omega.{arith}
 use borrow.Author.Tests.{le-leb, lt-leb}
 use Rattle.definitions.specs.Answers.{refuseWith, _then_}
 use Rattle.engine_checks.specs.Sizes.{in-range, sizeChecks}
-use borrow.Author.Needs.{needs}
 use Rattle.engine_checks.proofs.sizes.check.Statement.{statement}
 use Rattle.engine_checks.proofs.sizes.check.Tie as tie
 

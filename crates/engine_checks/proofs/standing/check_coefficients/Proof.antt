@@ -7,18 +7,6 @@ use borrow.Author.Needs.{needs}
 use Rattle.engine_checks.proofs.standing.check_coefficients.Statement.{statement}
 use Rattle.engine_checks.proofs.standing.check_coefficients.Tie as tie
 
-check-requires : tie.Need-check-requires
-check-requires c κs = search needs
-
-enum-known-why : tie.Need-enum-known-why
-enum-known-why c = search needs
-
-value-of-requires : tie.Need-value-of-requires
-value-of-requires c κs = search needs
-
-enum-told : tie.Need-enum-told
-enum-told c = search needs
-
 returns : tie.Need-returns
 returns c = let e = sym (ap checkOf (c .before .before .why .given .1)) ∙ c .before .before .before .before .check .ensures in
     rw (c .value-of .ensures) (place-is (now (c .before .before .before .before .before .args .coefs))
@@ -30,4 +18,4 @@ returns-2 c = sym (ap checkOf (c .enum-told .given .1)) ∙ c .before .before .c
 pub check-coefficients-spec : {M : Type 1} → statement M
 check-coefficients-spec =
     tie.close
-    (tie.spec check-requires enum-known-why value-of-requires enum-told returns returns-2)
+    (tie.spec (λ c κs. search needs) (λ c. search needs) (λ c κs. search needs) (λ c. search needs) returns returns-2)

@@ -2,7 +2,7 @@
 use mathlib.Core.Path.{sym, _∙_, ap}
 use native.Mathlib.Omega.{arith}
 use native.Mathlib.Nat.{mul-le-mul}
-use borrow.Author.Tests.{eq-eqb, le-ltb, lt-ltb, ne-eqb}
+use borrow.Author.Tests.{le-ltb, lt-ltb}
 use denote.Ref.{now}
 use Rattle.engine_calls.specs.Records.{checkOf}
 use Rattle.engine_checks.specs.Sizes.{sized, sizes-passed, sizes-refused}
@@ -12,15 +12,6 @@ use borrow.Author.Needs.{needs}
 use Rattle.engine_checks.proofs.standing.check_standing.Statement.{statement}
 use Rattle.engine_checks.proofs.standing.check_standing.Tie as tie
 
-check-requires : tie.Need-check-requires
-check-requires c κs = search needs
-
-enum-known-why : tie.Need-enum-known-why
-enum-known-why c = search needs
-
-enum-told : tie.Need-enum-told
-enum-told c = search needs
-
 mul-if1 : tie.Need-mul-if1
 mul-if1 c = let s = c .before .before .before .before .before in
     let z = sized (s .args .p) (s .args .q) (sym (c .before .before .check .ensures) ∙ ap checkOf (c .enum-told .given .1)) in
@@ -28,12 +19,16 @@ mul-if1 c = let s = c .before .before .before .before .before in
 
 returns : tie.Need-returns
 unfolding standing
-returns c = let s = c .before .before .before .before .before .before in sizes-passed (s .args .p) (s .args .q) (c .before .before .before .check .ensures) _ (c .before .enum-told .given .1) (system-short (s .args .p) (s .args .q) (s .args .most) (s .args .room) (workOf (now (s .args .equations)) (now (s .args .basis)) (now (s .args .table)) (s .args .r)) (lt-ltb _ _ (c .if1 .taken)))
+returns c = let s = c .before .before .before .before .before .before in sizes-passed (s .args .p) (s .args .q) (c .before .before .before .check .ensures) _
+    (c .before .enum-told .given .1) (system-short (s .args .p) (s .args .q) (s .args .most) (s .args .room)
+    (workOf (now (s .args .equations)) (now (s .args .basis)) (now (s .args .table)) (s .args .r)) (lt-ltb _ _ (c .if1 .taken)))
 
 returns-2 : tie.Need-returns-2
 unfolding standing
-returns-2 c = let s = c .before .before .before .before .before .before .before in sizes-passed (s .args .p) (s .args .q) (c .before .before .before .before .check .ensures) _ (c .before .before .enum-told .given .1)
-    (basis-short (s .args .p) (s .args .q) (s .args .most) (s .args .room) (workOf (now (s .args .equations)) (now (s .args .basis)) (now (s .args .table)) (s .args .r)) (le-ltb _ _ (c .before .if1 .left)) (lt-ltb _ _ (c .if2 .taken)))
+returns-2 c = let s = c .before .before .before .before .before .before .before in sizes-passed (s .args .p) (s .args .q)
+    (c .before .before .before .before .check .ensures) _ (c .before .before .enum-told .given .1)
+    (basis-short (s .args .p) (s .args .q) (s .args .most) (s .args .room) (workOf (now (s .args .equations)) (now (s .args .basis)) (now (s .args .table))
+    (s .args .r)) (le-ltb _ _ (c .before .if1 .left)) (lt-ltb _ _ (c .if2 .taken)))
 
 in-order-requires : tie.Need-in-order-requires
 in-order-requires c κs = let s = c .before .before .before .before .before .before .before in
@@ -42,27 +37,32 @@ in-order-requires c κs = let s = c .before .before .before .before .before .bef
 
 returns-3 : tie.Need-returns-3
 unfolding standing
-returns-3 c = let s = c .before .before .before .before .before .before .before .before .before in sizes-passed (s .args .p) (s .args .q) (c .before .before .before .before .before .before .check .ensures) _ (c .before .before .before .before .enum-told .given .1)
-    (order-refuses (s .args .p) (s .args .q) (s .args .most) (s .args .room) (workOf (now (s .args .equations)) (now (s .args .basis)) (now (s .args .table)) (s .args .r)) (le-ltb _ _ (c .before .before .before .if1 .left)) (le-ltb _ _ (c .before .before .if2 .left)) (c .before .in-order .ensures)
+returns-3 c = let s = c .before .before .before .before .before .before .before .before .before in sizes-passed (s .args .p) (s .args .q)
+    (c .before .before .before .before .before .before .check .ensures) _ (c .before .before .before .before .enum-told .given .1)
+    (order-refuses (s .args .p) (s .args .q) (s .args .most) (s .args .room) (workOf (now (s .args .equations)) (now (s .args .basis)) (now (s .args .table))
+    (s .args .r)) (le-ltb _ _ (c .before .before .before .if1 .left)) (le-ltb _ _ (c .before .before .if2 .left)) (c .before .in-order .ensures)
     (c .if3 .taken))
 
 returns-4 : tie.Need-returns-4
 unfolding standing
-returns-4 c = let s = c .before .before .before .before .before .before in sizes-refused (s .args .p) (s .args .q) (c .before .before .before .check .ensures) _ (c .before .why .given .1)
+returns-4 c = let s = c .before .before .before .before .before .before in sizes-refused (s .args .p) (s .args .q) (c .before .before .before .check .ensures)
+    _ (c .before .why .given .1)
 
 returns-5 : tie.Need-returns-5
 unfolding standing
-returns-5 c = let s = c .before .before .before .before .before .before .before .before .before in sizes-passed (s .args .p) (s .args .q) (c .before .before .before .before .before .before .check .ensures) _ (c .before .before .before .before .enum-told .given .1)
-    (order-passes (s .args .p) (s .args .q) (s .args .most) (s .args .room) (workOf (now (s .args .equations)) (now (s .args .basis)) (now (s .args .table)) (s .args .r)) (le-ltb _ _ (c .before .before .before .if1 .left)) (le-ltb _ _ (c .before .before .if2 .left)) (c .before .in-order .ensures)
+returns-5 c = let s = c .before .before .before .before .before .before .before .before .before in sizes-passed (s .args .p) (s .args .q)
+    (c .before .before .before .before .before .before .check .ensures) _ (c .before .before .before .before .enum-told .given .1)
+    (order-passes (s .args .p) (s .args .q) (s .args .most) (s .args .room) (workOf (now (s .args .equations)) (now (s .args .basis)) (now (s .args .table))
+    (s .args .r)) (le-ltb _ _ (c .before .before .before .if1 .left)) (le-ltb _ _ (c .before .before .if2 .left)) (c .before .in-order .ensures)
     (c .if3 .left))
 
 pub check-standing-spec : {M : Type 1} → statement M
 check-standing-spec =
     tie.close
     (tie.spec
-    check-requires
-    enum-known-why
-    enum-told
+    (λ c κs. search needs)
+    (λ c. search needs)
+    (λ c. search needs)
     mul-if1
     returns
     returns-2

@@ -1,74 +1,27 @@
--- `standing::check_start` meets its contract: the first check that refuses decides. Assumes nothing.
+-- `standing::check_start` meets its contract: what is found of the map decides, else the coefficients. Assumes nothing.
 use mathlib.Core.Path.{sym, _∙_, ap}
-use native.Mathlib.Omega.{arith}
-use native.Mathlib.Nat.{mul-le-mul}
-use borrow.Author.Tests.{eq-eqb, le-ltb, lt-ltb, ne-eqb}
 use denote.Ref.{now}
 use Rattle.engine_calls.specs.Records.{checkOf}
-use Rattle.engine_checks.specs.Sizes.{sized, sizes-passed, sizes-refused}
-use Rattle.engine_checks.specs.Standing.{count-refuses, few-refuses, rest-passes, short-refuses, startChecksBy}
+use Rattle.engine_checks.specs.Standing.{coefficients-are, map-passed, map-refused, map-starts, startChecksBy}
 use borrow.Author.Needs.{needs}
 use Rattle.engine_checks.proofs.standing.check_start.Statement.{statement}
 use Rattle.engine_checks.proofs.standing.check_start.Tie as tie
 
-check-requires : tie.Need-check-requires
-check-requires c κs = search needs
-
-enum-known-why : tie.Need-enum-known-why
-enum-known-why c = search needs
-
-enum-told : tie.Need-enum-told
-enum-told c = search needs
-
-mul-if1 : tie.Need-mul-if1
-mul-if1 c = let s = c .before .before .before in
-    let z = sized (s .args .p) (s .args .q) (sym (c .before .before .check .ensures) ∙ ap checkOf (c .enum-told .given .1)) in
-    omega (arith, mul-le-mul {n₁ = s .args .p} {m₁ = s .args .q} {n₂ = 32} {m₂ = 32} (z .equations) (z .unknowns))
-
 returns : tie.Need-returns
 unfolding startChecksBy
-returns c = let s = c .before .before .before .before in sizes-passed (s .args .p) (s .args .q) (c .before .before .before .check .ensures) _ (c .before .enum-told .given .1) (count-refuses (s .args .p) (s .args .q) (now (s .args .coefs)) (s .args .most) (s .args .equations) (ne-eqb _ _ (c .if1 .taken)))
-
-mul-if2 : tie.Need-mul-if2
-mul-if2 c = let s = c .before .before .before .before in
-    let z = sized (s .args .p) (s .args .q) (sym (c .before .before .before .check .ensures) ∙ ap checkOf (c .before .enum-told .given .1)) in
-    omega (arith, mul-le-mul {n₁ = s .args .p} {m₁ = s .args .q} {n₂ = 32} {m₂ = 32} (z .equations) (z .unknowns))
+returns c =
+    let s = c .before .before .before .before .args in
+    map-refused (s .p) (s .q) (now (s .coefs)) (s .most) (s .equations) (c .before .before .before .check-map .ensures) _ (c .before .why .given .1)
 
 returns-2 : tie.Need-returns-2
 unfolding startChecksBy
-returns-2 c = let s = c .before .before .before .before .before in sizes-passed (s .args .p) (s .args .q) (c .before .before .before .before .check .ensures) _ (c .before .before .enum-told .given .1)
-    (short-refuses (s .args .p) (s .args .q) (now (s .args .coefs)) (s .args .most) (s .args .equations) (eq-eqb _ _ (c .before .if1 .left)) (lt-ltb _ _ (c .if2 .taken)))
-
-returns-3 : tie.Need-returns-3
-unfolding startChecksBy
-returns-3 c = let s = c .before .before .before .before .before .before in sizes-passed (s .args .p) (s .args .q) (c .before .before .before .before .before .check .ensures) _ (c .before .before .before .enum-told .given .1)
-    (few-refuses (s .args .p) (s .args .q) (now (s .args .coefs)) (s .args .most) (s .args .equations) (eq-eqb _ _ (c .before .before .if1 .left)) (le-ltb _ _ (c .before .if2 .left)) (lt-ltb _ _ (c .if3 .taken)))
-
-check-coefficients-requires : tie.Need-check-coefficients-requires
-check-coefficients-requires c κs = search needs
-
-returns-4 : tie.Need-returns-4
-unfolding startChecksBy
-returns-4 c = let s = c .before .before .before .before in sizes-refused (s .args .p) (s .args .q) (c .before .before .before .check .ensures) _ (c .before .why .given .1)
-
-returns-5 : tie.Need-returns-5
-unfolding startChecksBy
-returns-5 c = let s = c .before .before .before .before .before .before .before in sizes-passed (s .args .p) (s .args .q) (c .before .before .before .before .before .before .check .ensures) _ (c .before .before .before .before .enum-told .given .1)
-    (rest-passes (s .args .p) (s .args .q) (now (s .args .coefs)) (s .args .most) (s .args .equations) (eq-eqb _ _ (c .before .before .before .if1 .left)) (le-ltb _ _ (c .before .before .if2 .left)) (le-ltb _ _ (c .before .if3 .left))
+returns-2 c =
+    let s = c .before .before .before .before .args in
+    let e = c .before .before .before .check-map .ensures in
+    let told = c .before .enum-told .given .1 in
+    map-passed (s .p) (s .q) (now (s .coefs)) (s .most) (s .equations) e _ told
+    (coefficients-are (s .p) (s .q) (now (s .coefs)) (map-starts (s .p) (s .q) (now (s .coefs)) (s .most) (s .equations) (sym e ∙ ap checkOf told) .count)
     (c .check-coefficients .ensures))
 
 pub check-start-spec : {M : Type 1} → statement M
-check-start-spec =
-    tie.close
-    (tie.spec
-    check-requires
-    enum-known-why
-    enum-told
-    mul-if1
-    returns
-    mul-if2
-    returns-2
-    returns-3
-    check-coefficients-requires
-    returns-4
-    returns-5)
+check-start-spec = tie.close (tie.spec (λ c κs. search needs) (λ c. search needs) (λ c. search needs) (λ c κs. search needs) returns returns-2)

@@ -40,9 +40,6 @@ mul-is-free-2 c = let s = c .before .before in omega (arith, s .pre .1, s .pre .
 shared-slice-copy-out-is-free : tie.Need-shared-slice-copy-out-is-free Inv-loop μ-loop
 shared-slice-copy-out-is-free c = let s = c .before .before in omega (arith, s .pre .1, s .pre .2, row-fits (s .args .q) _ _ (c .loop-test .taken))
 
-is-free-requires : tie.Need-is-free-requires Inv-loop μ-loop
-is-free-requires c κs = search needs
-
 tested : (c : tie.After-is-free Inv-loop μ-loop)
     → let s = c .before .before .before .before .args in let i = c .before .before .before .loop .i in
     c .is-free .result ≡ (not (frozen (s .done) i) || isZero (systemOf (s .q) (now (s .equations)) i (s .f)))
@@ -51,12 +48,6 @@ tested c = rw (toZ-ofZ (sfits-of (c .before .is-free-arg .given))) at (c .is-fre
 returns : tie.Need-returns Inv-loop μ-loop
 unfolding freeIn
 returns c = sym (all-fails _ _ _ (c .before .before .before .loop-test .taken) (sym (tested (c .before)) ∙ not-true _ (c .if1 .taken)))
-
-add-i : tie.Need-add-i Inv-loop μ-loop
-add-i c = search needs
-
-loop-less : tie.Need-loop-less Inv-loop μ-loop
-loop-less c = search needs
 
 loop-again : tie.Need-loop-again Inv-loop μ-loop
 loop-again c = (search needs, all-next _ _ (c .before .before .before .before .loop .inv .1) (sym (tested (c .before)) ∙ not-false _ (c .if1 .left)))
@@ -76,9 +67,9 @@ free-in-spec =
     add-is-free
     mul-is-free-2
     shared-slice-copy-out-is-free
-    is-free-requires
+    (λ c κs. search needs)
     returns
-    add-i
-    loop-less
+    (λ c. search needs)
+    (λ c. search needs)
     loop-again
     returns-2)

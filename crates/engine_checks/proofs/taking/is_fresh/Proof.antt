@@ -22,19 +22,31 @@ mul-is-minus-one-2 : tie.Need-mul-is-minus-one-2
 mul-is-minus-one-2 c = let s = c .before in omega (arith, s .pre .1, s .pre .2, c .if1 .left, row-fits (s .args .q) (s .args .e) (s .args .p) (s .pre .2))
 
 shared-slice-copy-out-is-minus-one : tie.Need-shared-slice-copy-out-is-minus-one
-shared-slice-copy-out-is-minus-one c = let s = c .before in omega (arith, s .pre .1, s .pre .2, c .if1 .left, row-fits (s .args .q) (s .args .e) (s .args .p) (s .pre .2))
-
-is-minus-one-requires : tie.Need-is-minus-one-requires
-is-minus-one-requires c κs = search needs
+shared-slice-copy-out-is-minus-one c = let s = c .before in omega (
+  arith,
+  s .pre .1,
+  s .pre .2,
+  c .if1 .left,
+  row-fits (s .args .q) (s .args .e) (s .args .p)
+      (s .pre .2),
+)
 
 returns-2 : tie.Need-returns-2
-returns-2 c = rw (sym (rw (toZ-ofZ (sfits-of (c .before .before .is-minus-one-arg .given))) at (c .before .is-minus-one .ensures)) ∙ not-true _ (c .if2 .taken), and-false)
+returns-2 c = rw (
+  sym (rw (toZ-ofZ (sfits-of (c .before .before .is-minus-one-arg .given))) at (c .before .is-minus-one .ensures)) ∙ not-true _
+      (c .if2 .taken),
+  and-false,
+)
 
 free-in-requires : tie.Need-free-in-requires
 free-in-requires c κs = let s = c .before .before .before .before in (s .pre .0, s .pre .1, c .before .before .before .if1 .left)
 
 returns-3 : tie.Need-returns-3
-returns-3 c = rw (lt-ltb _ _ (c .before .before .before .before .if1 .left), sym (rw (toZ-ofZ (sfits-of (c .before .before .before .is-minus-one-arg .given))) at (c .before .before .is-minus-one .ensures)) ∙ not-false _ (c .before .if2 .left)) (c .free-in .ensures)
+returns-3 c = rw (
+  lt-ltb _ _ (c .before .before .before .before .if1 .left),
+  sym (rw (toZ-ofZ (sfits-of (c .before .before .before .is-minus-one-arg .given)))
+      at (c .before .before .is-minus-one .ensures)) ∙ not-false _ (c .before .if2 .left),
+) (c .free-in .ensures)
 
 pub is-fresh-spec : {M : Type 1} → statement M
 is-fresh-spec =
@@ -45,7 +57,7 @@ is-fresh-spec =
     add-is-minus-one
     mul-is-minus-one-2
     shared-slice-copy-out-is-minus-one
-    is-minus-one-requires
+    (λ c κs. search needs)
     returns-2
     free-in-requires
     returns-3)

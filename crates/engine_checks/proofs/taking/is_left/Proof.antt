@@ -11,11 +11,8 @@ returns c = rw (ne-eqb _ _ (c .if1 .taken))
 returns-2 : tie.Need-returns-2
 returns-2 c = rw (eq-eqb _ _ (c .before .if1 .left), le-ltb _ _ (c .if2 .taken))
 
-is-done-requires : tie.Need-is-done-requires
-is-done-requires c κs = search needs
-
 returns-3 : tie.Need-returns-3
 returns-3 c = rw (eq-eqb _ _ (c .before .before .if1 .left), lt-ltb _ _ (c .before .if2 .left), c .is-done .ensures) refl
 
 pub is-left-spec : {M : Type 1} → statement M
-is-left-spec = tie.close (tie.spec returns returns-2 is-done-requires returns-3)
+is-left-spec = tie.close (tie.spec returns returns-2 (λ c κs. search needs) returns-3)

@@ -10,8 +10,5 @@ use Rattle.engine_beside.proofs.words.fits.Reads as fits-reads
 fits-requires : tie.Need-fits-requires
 fits-requires c κs = omega (arith, and-le-r (c .args .held) 8608480567731124087)
 
-returns : tie.Need-returns
-returns c = search needs
-
 pub may-drop-spec : {M : Type 1} → statement M
-may-drop-spec = tie.close (tie.spec fits-requires returns)
+may-drop-spec = tie.close (tie.spec fits-requires (λ c. search needs))

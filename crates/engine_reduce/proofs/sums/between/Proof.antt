@@ -1,8 +1,6 @@
 use Rattle.engine_reduce.specs.Sums.{between-below, between-rest}
 use mir.Facts.{toZ-ofZ}
 use mathlib.Core.Path.{sym}
-use borrow.Author.Needs.{needs}
-use native.Mathlib.Omega.{arith}
 use Rattle.engine_reduce.proofs.sums.between.Statement.{statement}
 use Rattle.engine_reduce.proofs.sums.between.Tie as tie
 

@@ -1,5 +1,4 @@
 use mir.Facts.{toZ-ofZ}
-use native.Mathlib.Omega.{arith}
 use borrow.Author.Needs.{needs}
 use Rattle.engine_reduce.proofs.sums.known.Statement.{statement}
 use Rattle.engine_reduce.proofs.sums.known.Tie as tie
@@ -9,19 +8,10 @@ use Rattle.engine_reduce.proofs.memory.place.Reads as place-reads
 use Rattle.engine_reduce.proofs.memory.slot.Reads as slot-reads
 use Rattle.engine_reduce.proofs.sums.reduces.Reads as reduces-reads
 
-slot-requires : tie.Need-slot-requires
-slot-requires c κs = search needs
-
-place-requires : tie.Need-place-requires
-place-requires c κs = search needs
-
-reduces-requires : tie.Need-reduces-requires
-reduces-requires c κs = search needs
-
 returns : tie.Need-returns
 returns c =
     let s = c .before .before .before .before in
     record { named = λ e. rw (toZ-ofZ (s .fits .sum)) at (c .reduces .ensures .named e) }
 
 pub known-spec : {M : Type 1} → statement M
-known-spec = tie.close (tie.spec slot-requires place-requires reduces-requires returns)
+known-spec = tie.close (tie.spec (λ c κs. search needs) (λ c κs. search needs) (λ c κs. search needs) returns)

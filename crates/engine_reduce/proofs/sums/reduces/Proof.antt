@@ -1,4 +1,3 @@
-use native.Mathlib.Omega.{arith}
 use mathlib.Core.Path.{sym, _∙_}
 use mir.Facts.{toZ-ofZ}
 use Rattle.engine_reduce.specs.Sums.{found, never}
@@ -12,13 +11,10 @@ use Rattle.engine_reduce.proofs.sums.reduces_at.Reads as reduces-at-rea
 returns : tie.Need-returns
 returns c = record { named = λ e. never e }
 
-reduces-at-requires : tie.Need-reduces-at-requires
-reduces-at-requires c κs = search needs
-
 returns-2 : tie.Need-returns-2
 returns-2 c =
     let s = c .before .before .before in
     record { named = λ e. found _ _ _ _ _ (s .args .n) (s .args .i) (c .before .if1 .left) (sym (rw (toZ-ofZ (s .fits .sum)) at (c .reduces-at .ensures)) ∙ e) }
 
 pub reduces-spec : {M : Type 1} → statement M
-reduces-spec = tie.close (tie.spec returns reduces-at-requires returns-2)
+reduces-spec = tie.close (tie.spec returns (λ c κs. search needs) returns-2)

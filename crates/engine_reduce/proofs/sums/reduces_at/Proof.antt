@@ -1,5 +1,4 @@
 -- `reduces_at` is the test of one row. Assumes nothing.
-use mathlib.Core.Path.{sym, _∙_}
 use borrow.Author.Needs.{sfits-of}
 use denote.Ref.{now}
 use mir.Facts.{toZ-ofZ}
@@ -15,15 +14,6 @@ use Rattle.engine_reduce.proofs.sums.reduces_at.Reads as reads
 use Rattle.engine_reduce.proofs.sums.reduces_at.Lts as lts
 use Rattle.engine_reduce.proofs.sums.within.Reads as within-reads
 use Rattle.engine_rows.proofs.rows.below_sum.Reads as below-sum-reads
-
-mul-within : tie.Need-mul-within
-mul-within c = search needs
-
-shared-slice-copy-out-within : tie.Need-shared-slice-copy-out-within
-shared-slice-copy-out-within c = search needs
-
-within-requires : tie.Need-within-requires
-within-requires c κs = search needs
 
 returns : tie.Need-returns
 returns c =
@@ -65,9 +55,9 @@ pub reduces-at-spec : {M : Type 1} → statement M
 reduces-at-spec =
     tie.close
     (tie.spec
-    mul-within
-    shared-slice-copy-out-within
-    within-requires
+    (λ c. search needs)
+    (λ c. search needs)
+    (λ c κs. search needs)
     returns
     mul-below-sum
     mul-below-sum-2

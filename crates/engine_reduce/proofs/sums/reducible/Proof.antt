@@ -1,7 +1,6 @@
 -- `reducible` is the test: a yes by what is remembered names a row, and all rows are looked at before a no. Assumes nothing.
 use mathlib.Core.Path.{sym}
 use mir.Facts.{toZ-ofZ}
-use native.Mathlib.Omega.{arith}
 use borrow.Author.Needs.{needs}
 use Rattle.engine_reduce.proofs.sums.reducible.Statement.{statement}
 use Rattle.engine_reduce.proofs.sums.reducible.Tie as tie
@@ -13,38 +12,17 @@ use Rattle.engine_reduce.proofs.sums.known.Reads as known-reads
 use Rattle.engine_reduce.proofs.sums.search.Reads as search-reads
 use Rattle.engine_reduce.proofs.sums.sign_of.Reads as sign-of-reads
 
-sign-of-requires : tie.Need-sign-of-requires
-sign-of-requires c κs = search needs
-
-dropped-requires : tie.Need-dropped-requires
-dropped-requires c κs = search needs
-
 returns : tie.Need-returns
 returns c =
     let d = c .before in
     let s = d .before .before .before .before .before .before in
     sym (rw (toZ-ofZ (s .fits .sum)) at (d .dropped .ensures .named (c .if1 .taken)))
 
-known-requires : tie.Need-known-requires
-known-requires c κs = search needs
-
 returns-2 : tie.Need-returns-2
 returns-2 c =
     let k = c .before in
     let s = k .before .before .before .before .before .before .before .before .before in
     sym (rw (toZ-ofZ (s .fits .sum)) at (k .known .ensures .named (c .if2 .taken)))
-
-search-requires : tie.Need-search-requires
-search-requires c κs = search needs
-
-mul-remember : tie.Need-mul-remember
-mul-remember c = search needs
-
-shared-slice-read-remember : tie.Need-shared-slice-read-remember
-shared-slice-read-remember c = search needs
-
-remember-requires : tie.Need-remember-requires
-remember-requires c κs = search needs
 
 returns-3 : tie.Need-returns-3
 returns-3 c =
@@ -63,14 +41,14 @@ pub reducible-spec : {M : Type 1} → statement M
 reducible-spec =
     tie.close
     (tie.spec
-    sign-of-requires
-    dropped-requires
+    (λ c κs. search needs)
+    (λ c κs. search needs)
     returns
-    known-requires
+    (λ c κs. search needs)
     returns-2
-    search-requires
-    mul-remember
-    shared-slice-read-remember
-    remember-requires
+    (λ c κs. search needs)
+    (λ c. search needs)
+    (λ c. search needs)
+    (λ c κs. search needs)
     returns-3
     returns-4)

@@ -1,26 +1,22 @@
-use denote.Ref.{now}
 -- `search` meets its contract: none of the rows passed reduces the sum. Assumes nothing.
 use mathlib.Core.Path.{_≡_, sym, _∙_}
 use mathlib.Core.Bool.{false}
 use Prim.Native.Nat.{_≤_, _-_}
 use native.Mathlib.Nat.{le-antisymm}
+use native.Mathlib.Omega.{arith}
 use mir.Facts.{toZ-ofZ}
 use mir.Syntax.{w64}
 use mir.Val.{toZ}
 use Rattle.definitions.specs.Tables.{at}
-use Rattle.engine_beside.specs.WordLaws.{not-fits, word-low}
-use Rattle.engine_reduce.specs.Sums.{found, integerAt, none-yet, passed, passed-row, reducibleBy, sumOf}
-use native.Mathlib.Omega.{arith}
+use Rattle.engine_reduce.specs.Fits.{looked-low, passed-unfit}
+use Rattle.engine_reduce.specs.Sums.{found, integerAt, none-yet, passed, reducibleBy, sumOf}
 use borrow.Author.Needs.{needs}
 use Rattle.engine_reduce.proofs.sums.search.Statement.{statement}
 use Rattle.engine_reduce.proofs.sums.search.Tie as tie
-use Rattle.engine_reduce.proofs.sums.search.Reads as reads
-use Rattle.engine_reduce.proofs.sums.search.Lts as lts
-use Rattle.engine_beside.proofs.words.fits.Reads as fits-reads
-use Rattle.engine_reduce.proofs.sums.reduces_at.Reads as reduces-at-reads
 
 abbrev Inv-loop : tie.InvT-loop
-Inv-loop table values words n q upper lower sum word i₀ i = (i ≤ n) × (reducibleBy q i (at table q) (integerAt values) (sumOf q table upper lower) (toZ w64 sum) ≡ false)
+Inv-loop table values words n q upper lower sum word i₀ i = (i ≤ n) × (reducibleBy q i (at table q) (integerAt values) (sumOf q table upper lower)
+    (toZ w64 sum) ≡ false)
 
 abbrev μ-loop : tie.MeasureT-loop
 μ-loop table values words n q upper lower sum word i₀ i = n - i
@@ -28,59 +24,50 @@ abbrev μ-loop : tie.MeasureT-loop
 loop-holds : tie.Need-loop-holds Inv-loop μ-loop
 loop-holds c = (search needs, none-yet _ _ _ _ _)
 
-add-i : tie.Need-add-i Inv-loop μ-loop
-add-i c = search needs
-
-mul-fits : tie.Need-mul-fits Inv-loop μ-loop
-mul-fits c = search needs
-
-shared-slice-read-fits : tie.Need-shared-slice-read-fits Inv-loop μ-loop
-shared-slice-read-fits c = search needs
-
-fits-requires : tie.Need-fits-requires Inv-loop μ-loop
-fits-requires c κs =
-    let l = c .before .before in
-    let s = l .before .before .before in
-    omega (arith, s .pre .worded .each (l .loop .i) (c .before .loop-test .taken), word-low (s .args .q) (at (now (s .args .table)) (s .args .q) (l .loop .i)))
-
-reduces-at-requires : tie.Need-reduces-at-requires Inv-loop μ-loop
-reduces-at-requires c κs = search needs
+next-fit-requires : tie.Need-next-fit-requires Inv-loop μ-loop
+next-fit-requires c κs =
+    let l = c .before in
+    (looked-low (l .before .before .before .pre), l .loop .inv .0)
 
 returns : tie.Need-returns Inv-loop μ-loop
 returns c =
-    let a = c .before in
-    let il = a .before .before .before .before in
-    let l = il .before in
+    let f = c .before in
+    let l = f .before .before in
     let s = l .before .before .before in
+    let none = passed-unfit (s .pre) _ (l .loop .i) (f .next-fit .result) (f .next-fit .ensures .1) (f .next-fit .ensures .0) (l .loop .inv .1) in
+    record {
+      named = λ h. absurd (omega arith);
+      none = λ h. rw (le-antisymm (f .next-fit .ensures .1) (c .if1 .taken), toZ-ofZ (s .fits .sum)) at none;
+    }
+
+returns-2 : tie.Need-returns-2 Inv-loop μ-loop
+returns-2 c =
+    let a = c .before in
+    let e = a .before in
+    let f = e .before in
+    let s = f .before .before .before .before .before in
     let yes = rw (toZ-ofZ (s .fits .sum)) at (sym (a .reduces-at .ensures) ∙ c .if2 .taken) in
     record {
-      named = λ h. found _ _ _ _ _ (s .args .n) (l .loop .i) (il .loop-test .taken) yes;
-      none = λ h. absurd (omega (arith, il .loop-test .taken));
+      named = λ h. found _ _ _ _ _ (s .args .n) (f .next-fit .result) (e .if1 .left) yes;
+      none = λ h. absurd (omega (arith, e .if1 .left));
     }
 
 loop-less : tie.Need-loop-less Inv-loop μ-loop
-loop-less c = search needs
+loop-less c =
+    let f = c .before .before .before in
+    omega (arith, f .before .loop-test .taken, f .next-fit .ensures .0 .behind, c .before .before .if1 .left)
 
 loop-again : tie.Need-loop-again Inv-loop μ-loop
 loop-again c =
     let a = c .before in
-    let l = a .before .before .before .before .before in
-    (search needs, passed _ _ _ _ _ (l .loop .i) (l .loop .inv .1) (sym (a .reduces-at .ensures) ∙ c .if2 .left))
-
-loop-less-2 : tie.Need-loop-less-2 Inv-loop μ-loop
-loop-less-2 c = search needs
-
-loop-again-2 : tie.Need-loop-again-2 Inv-loop μ-loop
-loop-again-2 c =
-    let f = c .before in
-    let il = f .before .before in
-    let l = il .before in
+    let f = a .before .before in
+    let l = f .before .before in
     let s = l .before .before .before in
-    let no = rw (s .pre .worded .each (l .loop .i) (il .loop-test .taken), s .pre .word-is) at (sym (f .fits2 .ensures) ∙ c .if1 .left) in
-    (search needs, passed-row _ _ _ _ _ (l .loop .i) (l .loop .inv .1) (not-fits _ _ _ no))
+    let none = passed-unfit (s .pre) _ (l .loop .i) (f .next-fit .result) (f .next-fit .ensures .1) (f .next-fit .ensures .0) (l .loop .inv .1) in
+    (search needs, passed _ _ _ _ _ (f .next-fit .result) none (sym (a .reduces-at .ensures) ∙ c .if2 .left))
 
-returns-2 : tie.Need-returns-2 Inv-loop μ-loop
-returns-2 c =
+returns-3 : tie.Need-returns-3 Inv-loop μ-loop
+returns-3 c =
     let l = c .before in
     let s = l .before .before .before in
     record {
@@ -91,18 +78,4 @@ returns-2 c =
 pub search-spec : {M : Type 1} → statement M
 search-spec =
     tie.close
-    (tie.spec
-    Inv-loop
-    μ-loop
-    loop-holds
-    add-i
-    mul-fits
-    shared-slice-read-fits
-    fits-requires
-    reduces-at-requires
-    returns
-    loop-less
-    loop-again
-    loop-less-2
-    loop-again-2
-    returns-2)
+    (tie.spec Inv-loop μ-loop loop-holds next-fit-requires returns (λ c. search needs) (λ c κs. search needs) returns-2 loop-less loop-again returns-3)

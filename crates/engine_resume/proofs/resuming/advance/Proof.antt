@@ -8,40 +8,53 @@ use Rattle.engine_resume.proofs.resuming.advance.Statement.{statement}
 use Rattle.engine_resume.proofs.resuming.advance.Tie as tie
 
 mul-from : tie.Need-mul-from
-mul-from c = let s = c .before .before .before .before .before .before .before .before in omega (arith, s .pre .whole, row-fits (s .args .q) (s .args .r .equation) (s .args .p) (s .pre .going))
+mul-from c = let s = c .before .before .before .before .before .before .before .before in omega
+    (arith, s .pre .whole, row-fits (s .args .q) (s .args .r .equation) (s .args .p) (s .pre .going))
 
 write-beside-requires : tie.Need-write-beside-requires
-write-beside-requires c κs = writable (c .before .before .before .before .before .before .before .before .before .before .before .before .before .before .before .pre)
-
-begin-requires : tie.Need-begin-requires
-begin-requires c κs = search needs
+write-beside-requires c κs = writable (c .before .before .before .before .before .before .before .before .before .before .before .before .before .before
+    .before .pre)
 
 run-requires : tie.Need-run-requires
-run-requires c κs = rw (c .before .before .before .before .before .before .before .begin .ensures) (entered-ready (c .before .before .before .before .before .before .before .before .before .before .before .before .before .before .before .before .before .before .before .before .before .before .before .before .before .before .before .before .before .before .before .before .before .pre) (c .before .before .before .before .before .before .before .before .before .before .before .before .before .before .before .before .before .write-beside .ensures))
+run-requires c κs = rw (c .before .before .before .before .before .before .before .begin .ensures)
+    (entered-ready (c .before .before .before .before .before .before .before .before .before .before .before .before .before .before .before .before .before
+    .before .before .before .before .before .before .before .before .before .before .before .before .before .before .before .before .pre)
+    (c .before .before .before .before .before .before .before .before .before .before .before .before .before .before .before .before .before
+    .write-beside .ensures))
 
 same-length : tie.Need-same-length
-same-length c = c .before .before .before .before .before .before .before .before .before .before .before .before .before .before .before .before .before .before .before .before .before .before .before .before .before .before .before .before .before .write-beside .ensures .kept .long
-
-same-length-2 : tie.Need-same-length-2
-same-length-2 c = search needs
+same-length c = c .before .before .before .before .before .before .before .before .before .before .before .before .before .before .before .before .before
+    .before .before .before .before .before .before .before .before .before .before .before .before .write-beside .ensures .kept .long
 
 same-length-3 : tie.Need-same-length-3
-same-length-3 c = c .before .before .before .before .before .before .before .before .before .before .before .run .ensures .beyond .values .long ∙ c .before .before .before .before .before .before .before .before .before .before .before .before .before .before .before .before .before .before .before .before .before .before .before .before .before .before .before .before .before .write-beside .ensures .values .long
+same-length-3 c = c .before .before .before .before .before .before .before .before .before .before .before .run .ensures .beyond .values .long ∙ c .before
+    .before .before .before .before .before .before .before .before .before .before .before .before .before .before .before .before .before .before .before
+    .before .before .before .before .before .before .before .before .before .write-beside .ensures .values .long
 
 same-length-4 : tie.Need-same-length-4
-same-length-4 c = c .before .before .before .before .before .before .before .before .before .before .before .run .ensures .beyond .words .long ∙ c .before .before .before .before .before .before .before .before .before .before .before .before .before .before .before .before .before .before .before .before .before .before .before .before .before .before .before .before .before .write-beside .ensures .words .long
+same-length-4 c = c .before .before .before .before .before .before .before .before .before .before .before .run .ensures .beyond .words .long ∙ c .before
+    .before .before .before .before .before .before .before .before .before .before .before .before .before .before .before .before .before .before .before
+    .before .before .before .before .before .before .before .before .before .write-beside .ensures .words .long
 
 same-length-5 : tie.Need-same-length-5
-same-length-5 c = c .before .before .before .before .before .before .before .before .before .before .before .run .ensures .beyond .degrees .long ∙ c .before .before .before .before .before .before .before .before .before .before .before .before .before .before .before .before .before .before .before .before .before .before .before .before .before .before .before .before .before .write-beside .ensures .degrees .long
+same-length-5 c = c .before .before .before .before .before .before .before .before .before .before .before .run .ensures .beyond .degrees .long ∙ c .before
+    .before .before .before .before .before .before .before .before .before .before .before .before .before .before .before .before .before .before .before
+    .before .before .before .before .before .before .before .before .before .write-beside .ensures .degrees .long
 
 same-length-6 : tie.Need-same-length-6
-same-length-6 c = c .before .before .before .before .before .before .before .before .before .before .before .run .ensures .beyond .marks .long ∙ c .before .before .before .before .before .before .before .before .before .before .before .before .before .before .before .before .before .before .before .before .before .before .before .before .before .before .before .before .before .write-beside .ensures .marks .long
-
-same-length-7 : tie.Need-same-length-7
-same-length-7 c = search needs
+same-length-6 c = c .before .before .before .before .before .before .before .before .before .before .before .run .ensures .beyond .marks .long ∙ c .before
+    .before .before .before .before .before .before .before .before .before .before .before .before .before .before .before .before .before .before .before
+    .before .before .before .before .before .before .before .before .before .write-beside .ensures .marks .long
 
 returns : tie.Need-returns
-returns c = advanced (c .before .before .before .before .before .before .before .before .before .before .before .before .before .before .before .before .before .before .before .before .before .before .before .before .before .before .before .before .before .before .before .before .before .before .before .before .before .before .before .before .before .before .before .before .before .pre) (c .before .before .before .before .before .before .before .before .before .before .before .before .before .before .before .before .before .before .before .before .before .before .before .before .before .before .before .before .before .write-beside .ensures) (rw (c .before .before .before .before .before .before .before .before .before .before .before .before .before .before .before .before .before .before .before .begin .ensures) at (c .before .before .before .before .before .before .before .before .before .before .before .run .ensures))
+returns c = advanced (c .before .before .before .before .before .before .before .before .before .before .before .before .before .before .before .before .before
+    .before .before .before .before .before .before .before .before .before .before .before .before .before .before .before .before .before .before .before
+    .before .before .before .before .before .before .before .before .before .pre)
+    (c .before .before .before .before .before .before .before .before .before .before .before .before .before .before .before .before .before .before
+    .before .before .before .before .before .before .before .before .before .before .before .write-beside .ensures)
+    (rw (c .before .before .before .before .before .before .before .before .before .before .before .before .before .before .before .before
+    .before .before .before .begin .ensures) at (c .before .before .before .before .before .before .before .before .before .before .before
+    .run .ensures))
 
 pub advance-spec : {M : Type 1} → statement M
 advance-spec =
@@ -49,13 +62,13 @@ advance-spec =
     (tie.spec
     mul-from
     write-beside-requires
-    begin-requires
+    (λ c κs. search needs)
     run-requires
     same-length
-    same-length-2
+    (λ c. search needs)
     same-length-3
     same-length-4
     same-length-5
     same-length-6
-    same-length-7
+    (λ c. search needs)
     returns)

@@ -1,36 +1,9 @@
 -- `resuming::close` meets its contract: how the turns ended decides. Assumes nothing.
-use mathlib.Core.Path.{refl, _∙_}
+use mathlib.Core.Path.{refl}
 use Rattle.engine_resume.specs.EngineLaws.{ended}
 use borrow.Author.Needs.{needs}
 use Rattle.engine_resume.proofs.resuming.close.Statement.{statement}
 use Rattle.engine_resume.proofs.resuming.close.Tie as tie
-
-enum-told : tie.Need-enum-told
-enum-told c = search needs
-
-paused-requires : tie.Need-paused-requires
-paused-requires c κs = search needs
-
-enum-told-2 : tie.Need-enum-told-2
-enum-told-2 c = search needs
-
-refused-requires : tie.Need-refused-requires
-refused-requires c κs = search needs
-
-enum-told-3 : tie.Need-enum-told-3
-enum-told-3 c = search needs
-
-refused-requires-2 : tie.Need-refused-requires-2
-refused-requires-2 c κs = search needs
-
-enum-told-4 : tie.Need-enum-told-4
-enum-told-4 c = search needs
-
-refused-requires-3 : tie.Need-refused-requires-3
-refused-requires-3 c κs = search needs
-
-enum-told-5 : tie.Need-enum-told-5
-enum-told-5 c = search needs
 
 finish-requires : tie.Need-finish-requires
 finish-requires c κs = c .before .before .before .before .before .pre
@@ -51,9 +24,6 @@ returns-4 : tie.Need-returns-4
 unfolding ended
 returns-4 c = rw (c .refused3 .ensures, c .before .enum-told4 .given .1) refl
 
-same-length : tie.Need-same-length
-same-length c = search needs
-
 returns-5 : tie.Need-returns-5
 unfolding ended
 returns-5 c = rw (c .before .before .before .before .enum-told5 .given .1) (c .before .before .finish .ensures)
@@ -62,19 +32,19 @@ pub close-spec : {M : Type 1} → statement M
 close-spec =
     tie.close
     (tie.spec
-    enum-told
-    paused-requires
-    enum-told-2
-    refused-requires
-    enum-told-3
-    refused-requires-2
-    enum-told-4
-    refused-requires-3
-    enum-told-5
+    (λ c. search needs)
+    (λ c κs. search needs)
+    (λ c. search needs)
+    (λ c κs. search needs)
+    (λ c. search needs)
+    (λ c κs. search needs)
+    (λ c. search needs)
+    (λ c κs. search needs)
+    (λ c. search needs)
     finish-requires
     returns
     returns-2
     returns-3
     returns-4
-    same-length
+    (λ c. search needs)
     returns-5)

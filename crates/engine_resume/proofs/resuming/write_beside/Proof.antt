@@ -6,38 +6,19 @@ use borrow.Author.Needs.{needs}
 use Rattle.engine_resume.proofs.resuming.write_beside.Statement.{statement}
 use Rattle.engine_resume.proofs.resuming.write_beside.Tie as tie
 
-write-degrees-requires : tie.Need-write-degrees-requires
-write-degrees-requires c κs = search needs
-
-write-values-requires : tie.Need-write-values-requires
-write-values-requires c κs = search needs
-
-write-words-requires : tie.Need-write-words-requires
-write-words-requires c κs = search needs
-
-write-degrees-requires-2 : tie.Need-write-degrees-requires-2
-write-degrees-requires-2 c κs = search needs
-
 write-marks-requires : tie.Need-write-marks-requires
-write-marks-requires c κs = let p = c .before .before .before .before .before .before .before .before .before .before .before .before .before .before .before .before .before .before .before .before .before .before .before .before .pre in (p .rows, valued-bounded (p .small) (p .rows) (c .before .before .before .before .before .before .before .before .before .before .before .write-values .ensures .0), p .mothered, p .marked)
-
-same-length : tie.Need-same-length
-same-length c = search needs
-
-same-length-2 : tie.Need-same-length-2
-same-length-2 c = search needs
-
-same-length-3 : tie.Need-same-length-3
-same-length-3 c = search needs
-
-same-length-4 : tie.Need-same-length-4
-same-length-4 c = search needs
-
-same-length-5 : tie.Need-same-length-5
-same-length-5 c = search needs
+write-marks-requires c κs = let p = c .before .before .before .before .before .before .before .before .before .before .before .before .before .before .before
+    .before .before .before .before .before .before .before .before .before .pre in (
+      p .rows,
+      valued-bounded (p .small) (p .rows) (c .before .before .before .before .before .before .before .before .before .before .before .write-values
+          .ensures .0),
+      p .mothered,
+      p .marked,
+    )
 
 returns : tie.Need-returns
-returns c = let d = c .before .before .before .before .before .before .before .before .before .before .before .before .before .before .before .before .before .before .write-degrees .ensures in
+returns c = let d = c .before .before .before .before .before .before .before .before .before .before .before .before .before .before .before .before .before
+    .before .write-degrees .ensures in
     let v = c .before .before .before .before .before .before .before .before .before .before .before .before .before .before .write-values .ensures in
     let w = c .before .before .before .before .before .before .before .before .before .before .before .write-words .ensures in
     let g = c .before .before .before .before .before .before .before .write-degrees2 .ensures in
@@ -60,14 +41,14 @@ pub write-beside-spec : {M : Type 1} → statement M
 write-beside-spec =
     tie.close
     (tie.spec
-    write-degrees-requires
-    write-values-requires
-    write-words-requires
-    write-degrees-requires-2
+    (λ c κs. search needs)
+    (λ c κs. search needs)
+    (λ c κs. search needs)
+    (λ c κs. search needs)
     write-marks-requires
-    same-length
-    same-length-2
-    same-length-3
-    same-length-4
-    same-length-5
+    (λ c. search needs)
+    (λ c. search needs)
+    (λ c. search needs)
+    (λ c. search needs)
+    (λ c. search needs)
     returns)

@@ -8,7 +8,7 @@ use borrow.Author.Needs.{needs}
 use denote.Ref.{now}
 use Rattle.linear.specs.Tuples.{unit}
 use Rattle.laws.specs.TableLaws.{row-fits}
-use Rattle.sweeps.specs.Pack.{pack-length, packTo}
+use Rattle.laws.specs.Pack.{pack-length, packTo}
 use Rattle.engine_rows.specs.Packing.{all-more, always}
 use Rattle.engine_rows.proofs.rows.write_units.Statement.{statement}
 use Rattle.engine_rows.proofs.rows.write_units.Tie as tie

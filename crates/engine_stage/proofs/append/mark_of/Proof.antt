@@ -2,7 +2,6 @@
 use mathlib.Core.Path.{sym, _∙_}
 use mir.Facts.{toZ-ofZ}
 use Rattle.engine_stage.specs.Marked.{mark-above, mark-below, mark-none}
-use native.Mathlib.Omega.{arith}
 use borrow.Author.Needs.{needs}
 use Rattle.engine_stage.proofs.append.mark_of.Statement.{statement}
 use Rattle.engine_stage.proofs.append.mark_of.Tie as tie
@@ -10,20 +9,11 @@ use Rattle.engine_stage.proofs.append.mark_of.Reads as reads
 use Rattle.engine_stage.proofs.append.mark_of.Lts as lts
 use Rattle.engine_rows.proofs.marks.size.Reads as size-reads
 
-add-sum : tie.Need-add-sum
-add-sum c = search needs
-
-size-requires : tie.Need-size-requires
-size-requires c κs = search needs
-
 returns : tie.Need-returns
 returns c =
     let s = c .before .before in
     let e = rw (toZ-ofZ (s .fits .x), toZ-ofZ (s .fits .y), toZ-ofZ (s .pre .2)) at (c .before .if1 .taken) in
     rw (toZ-ofZ (s .fits .y)) at (c .size .ensures) ∙ sym (mark-below (s .args .x) (s .args .y) e)
-
-size-requires-2 : tie.Need-size-requires-2
-size-requires-2 c κs = search needs
 
 returns-2 : tie.Need-returns-2
 returns-2 c =
@@ -41,4 +31,4 @@ returns-3 c =
 
 pub mark-of-spec : {M : Type 1} → statement M
 mark-of-spec =
-    tie.close (tie.spec add-sum size-requires returns size-requires-2 returns-2 returns-3)
+    tie.close (tie.spec (λ c. search needs) (λ c κs. search needs) returns (λ c κs. search needs) returns-2 returns-3)

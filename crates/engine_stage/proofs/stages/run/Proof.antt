@@ -1,5 +1,17 @@
 -- `run` is the stage's turns: what is left of the budget, from where the loop stands, comes to what the whole call comes to. Assumes nothing.
-use Rattle.engine_stage.specs.Running.{Going, Long, goes-again, going-start, left-long, long-start, paused-left, stops-ends, stops-full, stops-large, stops-late}
+use Rattle.engine_stage.specs.Running.{
+  Going,
+  Long,
+  goes-again,
+  going-start,
+  left-long,
+  long-start,
+  paused-left,
+  stops-ends,
+  stops-full,
+  stops-large,
+  stops-late,
+}
 use Rattle.engine_stage.specs.Standing.{lentOf, sidesOf}
 use native.Mathlib.Omega.{arith}
 use borrow.Author.Needs.{needs}
@@ -7,13 +19,15 @@ use Rattle.engine_stage.proofs.stages.run.Statement.{statement}
 use Rattle.engine_stage.proofs.stages.run.Tie as tie
 
 abbrev Inv-loop : tie.InvT-loop
-Inv-loop f coefs basis sizes table₀ values₀ words₀ degrees₀ marks₀ mothers₀ budget held₀ places₀ at₀ left₀ table values words degrees marks mothers held places at left =
+Inv-loop f coefs basis sizes table₀ values₀ words₀ degrees₀ marks₀ mothers₀ budget held₀ places₀ at₀ left₀ table values words degrees marks mothers held places
+    at left =
     Going f (lentOf coefs basis sizes) budget table₀ (sidesOf values₀ words₀ degrees₀ marks₀ mothers₀) at₀ left table
     (sidesOf values words degrees marks mothers) at
     × Long table₀ (sidesOf values₀ words₀ degrees₀ marks₀ mothers₀) table (sidesOf values words degrees marks mothers)
 
 abbrev μ-loop : tie.MeasureT-loop
-μ-loop f coefs basis sizes table₀ values₀ words₀ degrees₀ marks₀ mothers₀ budget held₀ places₀ at₀ left₀ table values words degrees marks mothers held places at left = left
+μ-loop f coefs basis sizes table₀ values₀ words₀ degrees₀ marks₀ mothers₀ budget held₀ places₀ at₀ left₀ table values words degrees marks mothers held places
+    at left = left
 
 loop-holds : tie.Need-loop-holds Inv-loop μ-loop
 loop-holds c =
@@ -23,14 +37,19 @@ loop-holds c =
 turn-requires : tie.Need-turn-requires Inv-loop μ-loop
 turn-requires c κs = c .before .before .before .before .before .before .before .before .before .loop .inv .0 .ready
 
-enum-known-next : tie.Need-enum-known-next Inv-loop μ-loop
-enum-known-next c = search needs
-
 sub-left : tie.Need-sub-left Inv-loop μ-loop
-sub-left c = omega (arith, c .before .before .before .before .before .before .before .before .before .before .before .before .before .before .before .before .before .before .before .before .before .before .before .loop-test .taken)
+sub-left c = omega (
+  arith,
+  c .before .before .before .before .before .before .before .before .before .before .before .before .before .before .before .before
+      .before .before .before .before .before .before .before .loop-test .taken,
+)
 
 loop-less : tie.Need-loop-less Inv-loop μ-loop
-loop-less c = omega (arith, c .before .before .before .before .before .before .before .before .before .before .before .before .before .before .before .before .before .before .before .before .before .before .before .loop-test .taken)
+loop-less c = omega (
+  arith,
+  c .before .before .before .before .before .before .before .before .before .before .before .before .before .before .before .before
+      .before .before .before .before .before .before .before .loop-test .taken,
+)
 
 loop-again : tie.Need-loop-again Inv-loop μ-loop
 loop-again c =
@@ -38,12 +57,6 @@ loop-again c =
     let i = u .before .before .before .before .before .before .before .before .before in
     let a = i .before in
     goes-again (a .loop .inv .0) (a .loop .inv .1) (u .turn .result) (i .loop-test .taken) (u .turn .ensures) (c .before .next .given .1)
-
-enum-told : tie.Need-enum-told Inv-loop μ-loop
-enum-told c = search needs
-
-ended-requires : tie.Need-ended-requires Inv-loop μ-loop
-ended-requires c κs = search needs
 
 same-length : tie.Need-same-length Inv-loop μ-loop
 same-length c =
@@ -88,12 +101,6 @@ returns c =
     let a = i .before in
     rw (c .ended .ensures) (stops-late (a .loop .inv .0) (i .loop-test .taken) (u .turn .ensures) (c .before .enum-told .given .1))
 
-enum-told-2 : tie.Need-enum-told-2 Inv-loop μ-loop
-enum-told-2 c = search needs
-
-ended-requires-2 : tie.Need-ended-requires-2 Inv-loop μ-loop
-ended-requires-2 c κs = search needs
-
 same-length-7 : tie.Need-same-length-7 Inv-loop μ-loop
 same-length-7 c =
     let u = c .before .before .before .before .before .before .before .before .before .before .before .before .before .before in
@@ -136,12 +143,6 @@ returns-2 c =
     let i = u .before .before .before .before .before .before .before .before .before in
     let a = i .before in
     rw (c .ended2 .ensures) (stops-large (a .loop .inv .0) (i .loop-test .taken) (u .turn .ensures) (c .before .enum-told2 .given .1))
-
-enum-told-3 : tie.Need-enum-told-3 Inv-loop μ-loop
-enum-told-3 c = search needs
-
-ended-requires-3 : tie.Need-ended-requires-3 Inv-loop μ-loop
-ended-requires-3 c κs = search needs
 
 same-length-13 : tie.Need-same-length-13 Inv-loop μ-loop
 same-length-13 c =
@@ -186,12 +187,6 @@ returns-3 c =
     let a = i .before in
     rw (c .ended3 .ensures) (stops-full (a .loop .inv .0) (i .loop-test .taken) (u .turn .ensures) (c .before .enum-told3 .given .1))
 
-enum-told-4 : tie.Need-enum-told-4 Inv-loop μ-loop
-enum-told-4 c = search needs
-
-ended-requires-4 : tie.Need-ended-requires-4 Inv-loop μ-loop
-ended-requires-4 c κs = search needs
-
 same-length-19 : tie.Need-same-length-19 Inv-loop μ-loop
 same-length-19 c =
     let u = c .before .before .before .before .before .before .before .before .before .before .before .before .before .before in
@@ -235,9 +230,6 @@ returns-4 c =
     let a = i .before in
     rw (c .ended4 .ensures) (stops-ends (a .loop .inv .0) (i .loop-test .taken) (u .turn .ensures) (c .before .enum-told4 .given .1))
 
-ended-requires-5 : tie.Need-ended-requires-5 Inv-loop μ-loop
-ended-requires-5 c κs = search needs
-
 same-length-25 : tie.Need-same-length-25 Inv-loop μ-loop
 same-length-25 c = c .before .before .loop .inv .1 .rows
 
@@ -270,12 +262,12 @@ run-spec =
     μ-loop
     loop-holds
     turn-requires
-    enum-known-next
+    (λ c. search needs)
     sub-left
     loop-less
     loop-again
-    enum-told
-    ended-requires
+    (λ c. search needs)
+    (λ c κs. search needs)
     same-length
     same-length-2
     same-length-3
@@ -283,8 +275,8 @@ run-spec =
     same-length-5
     same-length-6
     returns
-    enum-told-2
-    ended-requires-2
+    (λ c. search needs)
+    (λ c κs. search needs)
     same-length-7
     same-length-8
     same-length-9
@@ -292,8 +284,8 @@ run-spec =
     same-length-11
     same-length-12
     returns-2
-    enum-told-3
-    ended-requires-3
+    (λ c. search needs)
+    (λ c κs. search needs)
     same-length-13
     same-length-14
     same-length-15
@@ -301,8 +293,8 @@ run-spec =
     same-length-17
     same-length-18
     returns-3
-    enum-told-4
-    ended-requires-4
+    (λ c. search needs)
+    (λ c κs. search needs)
     same-length-19
     same-length-20
     same-length-21
@@ -310,7 +302,7 @@ run-spec =
     same-length-23
     same-length-24
     returns-4
-    ended-requires-5
+    (λ c κs. search needs)
     same-length-25
     same-length-26
     same-length-27

@@ -5,7 +5,6 @@ use mathlib.Core.Path.{refl, sym, _∙_}
 use mir.Facts.{toZ-ofZ}
 use Rattle.engine_beside.specs.Small.{sum-fits}
 use Rattle.engine_stage.specs.Marked.{back, marked-yes, tested}
-use native.Mathlib.Omega.{arith}
 use borrow.Author.Needs.{needs}
 use Rattle.engine_stage.proofs.tests.reduced.Statement.{statement}
 use Rattle.engine_stage.proofs.tests.reduced.Tie as tie
@@ -14,30 +13,6 @@ use Rattle.engine_stage.proofs.tests.reduced.Lts as lts
 use Rattle.engine_reduce.proofs.sums.reducible.Reads as reducible-reads
 use Rattle.engine_stage.proofs.tests.both.Reads as both-reads
 use Rattle.engine_stage.proofs.tests.is_marked.Reads as is-marked-reads
-
-mul-is-marked : tie.Need-mul-is-marked
-mul-is-marked c = search needs
-
-shared-slice-copy-out-is-marked : tie.Need-shared-slice-copy-out-is-marked
-shared-slice-copy-out-is-marked c = search needs
-
-mul-is-marked-2 : tie.Need-mul-is-marked-2
-mul-is-marked-2 c = search needs
-
-shared-slice-copy-out-is-marked-2 : tie.Need-shared-slice-copy-out-is-marked-2
-shared-slice-copy-out-is-marked-2 c = search needs
-
-mul-is-marked-3 : tie.Need-mul-is-marked-3
-mul-is-marked-3 c = search needs
-
-shared-slice-read-is-marked : tie.Need-shared-slice-read-is-marked
-shared-slice-read-is-marked c = search needs
-
-mul-is-marked-4 : tie.Need-mul-is-marked-4
-mul-is-marked-4 c = search needs
-
-shared-slice-read-is-marked-2 : tie.Need-shared-slice-read-is-marked-2
-shared-slice-read-is-marked-2 c = search needs
 
 is-marked-requires : tie.Need-is-marked-requires
 is-marked-requires c κs =
@@ -53,18 +28,6 @@ returns c =
     let p = s .pre .0 in
     let e = rw (back _ (p .bounded (s .args .h) (p .upper)), back _ (p .bounded (s .args .k) (p .lower))) at (c .before .is-marked .ensures) in
     sym (marked-yes p (sym e ∙ c .if1 .taken))
-
-mul-both : tie.Need-mul-both
-mul-both c = search needs
-
-shared-slice-copy-out-both : tie.Need-shared-slice-copy-out-both
-shared-slice-copy-out-both c = search needs
-
-mul-both-2 : tie.Need-mul-both-2
-mul-both-2 c = search needs
-
-shared-slice-copy-out-both-2 : tie.Need-shared-slice-copy-out-both-2
-shared-slice-copy-out-both-2 c = search needs
 
 both-requires : tie.Need-both-requires
 both-requires c κs =
@@ -102,20 +65,20 @@ pub reduced-spec : {M : Type 1} → statement M
 reduced-spec =
     tie.close
     (tie.spec
-    mul-is-marked
-    shared-slice-copy-out-is-marked
-    mul-is-marked-2
-    shared-slice-copy-out-is-marked-2
-    mul-is-marked-3
-    shared-slice-read-is-marked
-    mul-is-marked-4
-    shared-slice-read-is-marked-2
+    (λ c. search needs)
+    (λ c. search needs)
+    (λ c. search needs)
+    (λ c. search needs)
+    (λ c. search needs)
+    (λ c. search needs)
+    (λ c. search needs)
+    (λ c. search needs)
     is-marked-requires
     returns
-    mul-both
-    shared-slice-copy-out-both
-    mul-both-2
-    shared-slice-copy-out-both-2
+    (λ c. search needs)
+    (λ c. search needs)
+    (λ c. search needs)
+    (λ c. search needs)
     both-requires
     reducible-requires
     returns-2)

@@ -9,13 +9,10 @@ returns c =
     let s = c .before .before in
     record { here = λ l. absurd (omega arith); none = λ l. s .pre .1 (was-false (c .if1 .taken)) }
 
-due-row-requires : tie.Need-due-row-requires
-due-row-requires c κs = search needs
-
 returns-2 : tie.Need-returns-2
 returns-2 c =
     let e = c .due-row .ensures in
     record { here = λ l. e; none = λ l. rw (← e) l }
 
 pub due-spec : {M : Type 1} → statement M
-due-spec = tie.close (tie.spec returns due-row-requires returns-2)
+due-spec = tie.close (tie.spec returns (λ c κs. search needs) returns-2)

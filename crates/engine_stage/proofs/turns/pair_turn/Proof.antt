@@ -1,5 +1,5 @@
 -- `pair_turn` is the stage's turn at a pair. Assumes nothing.
-use mathlib.Core.Path.{refl, sym, _∙_}
+use mathlib.Core.Path.{sym, _∙_}
 use denote.Ref.{now}
 use Rattle.definitions.specs.Tables.{at}
 use Rattle.laws.specs.TableLaws.{row-fits}
@@ -11,18 +11,6 @@ use native.Mathlib.Omega.{arith}
 use borrow.Author.Needs.{needs}
 use Rattle.engine_stage.proofs.turns.pair_turn.Statement.{statement}
 use Rattle.engine_stage.proofs.turns.pair_turn.Tie as tie
-
-mul-joined : tie.Need-mul-joined
-mul-joined c = search needs
-
-slice-read-joined : tie.Need-slice-read-joined
-slice-read-joined c = search needs
-
-mul-joined-2 : tie.Need-mul-joined-2
-mul-joined-2 c = search needs
-
-slice-read-joined-2 : tie.Need-slice-read-joined-2
-slice-read-joined-2 c = search needs
 
 joined-requires : tie.Need-joined-requires
 joined-requires c κs =
@@ -40,22 +28,12 @@ reduced-requires c κs =
     (p, word-is p (j .joined .ensures))
 
 add-t37 : tie.Need-add-t37
-add-t37 c = let s = c .before .before .before .before .before .before .before .before .before .before .before .before .before .before .before .before .before .before in omega (arith, s .pre .1 .lower, s .pre .0 .few, s .pre .0 .roomy .few)
+add-t37 c = let s = c .before .before .before .before .before .before .before .before .before .before .before .before .before .before .before .before .before
+    .before in omega (arith, s .pre .1 .lower, s .pre .0 .few, s .pre .0 .roomy .few)
 
 add-t38 : tie.Need-add-t38
-add-t38 c = let s = c .before .before .before .before .before .before .before .before .before .before .before .before .before .before .before .before .before .before .before in omega (arith, s .pre .1 .early)
-
-same-length : tie.Need-same-length
-same-length c = search needs
-
-same-length-2 : tie.Need-same-length-2
-same-length-2 c = search needs
-
-same-length-3 : tie.Need-same-length-3
-same-length-3 c = search needs
-
-same-length-4 : tie.Need-same-length-4
-same-length-4 c = search needs
+add-t38 c = let s = c .before .before .before .before .before .before .before .before .before .before .before .before .before .before .before .before .before
+    .before .before in omega (arith, s .pre .1 .early)
 
 returns : tie.Need-returns
 returns c =
@@ -65,30 +43,21 @@ returns c =
 
 mul-small-sum : tie.Need-mul-small-sum
 mul-small-sum c =
-    let s = c .before .before .before .before .before .before .before .before .before .before .before .before .before .before .before .before .before .before .before in
+    let s = c .before .before .before .before .before .before .before .before .before .before .before .before .before .before .before .before .before .before
+    .before in
     omega (arith, s .pre .0 .rows .whole, row-fits (s .args .f .q) (s .args .at .upper) (s .args .s .rows) (s .pre .1 .upper))
 
 mul-small-sum-2 : tie.Need-mul-small-sum-2
 mul-small-sum-2 c =
-    let s = c .before .before .before .before .before .before .before .before .before .before .before .before .before .before .before .before .before .before .before in
+    let s = c .before .before .before .before .before .before .before .before .before .before .before .before .before .before .before .before .before .before
+    .before in
     omega (arith, s .pre .0 .rows .whole, row-fits (s .args .f .q) (s .args .at .lower) (s .args .s .rows) (s .pre .1 .lower))
 
 small-sum-requires : tie.Need-small-sum-requires
 small-sum-requires c κs =
-    let s = c .before .before .before .before .before .before .before .before .before .before .before .before .before .before .before .before .before .before .before in
+    let s = c .before .before .before .before .before .before .before .before .before .before .before .before .before .before .before .before .before .before
+    .before in
     (table-row (s .pre .0 .rows) (s .args .at .upper) (s .pre .1 .upper), table-row (s .pre .0 .rows) (s .args .at .lower) (s .pre .1 .lower))
-
-same-length-5 : tie.Need-same-length-5
-same-length-5 c = search needs
-
-same-length-6 : tie.Need-same-length-6
-same-length-6 c = search needs
-
-same-length-7 : tie.Need-same-length-7
-same-length-7 c = search needs
-
-same-length-8 : tie.Need-same-length-8
-same-length-8 c = search needs
 
 returns-2 : tie.Need-returns-2
 returns-2 c =
@@ -96,18 +65,6 @@ returns-2 c =
     let e = m .before .before in
     let s = e .before .before .before .before .before .before .before .before .before .before .before .before .before .before .before .before .before .before in
     pair-large (s .pre .0) (s .pre .1) (sym (e .before .reduced .ensures) ∙ e .if1 .left) (sym (m .small-sum .ensures) ∙ was-false (c .if2 .taken))
-
-same-length-9 : tie.Need-same-length-9
-same-length-9 c = search needs
-
-same-length-10 : tie.Need-same-length-10
-same-length-10 c = search needs
-
-same-length-11 : tie.Need-same-length-11
-same-length-11 c = search needs
-
-same-length-12 : tie.Need-same-length-12
-same-length-12 c = search needs
 
 returns-3 : tie.Need-returns-3
 returns-3 c =
@@ -121,40 +78,31 @@ returns-3 c =
 append-pair-requires : tie.Need-append-pair-requires
 append-pair-requires c κs =
     let e = c .before .before .before .before .before .before in
-    let s = e .before .before .before .before .before .before .before .before .before .before .before .before .before .before .before .before .before .before .before .before .before .before .before in
+    let s = e .before .before .before .before .before .before .before .before .before .before .before .before .before .before .before .before .before .before
+    .before .before .before .before .before in
     pair-fits (s .pre .0) (s .pre .1) (e .if3 .left)
 
 appended-requires : tie.Need-appended-requires
 appended-requires c κs =
-    let s = c .before .before .before .before .before .before .before .before .before .before .before .before .before .before .before .before .before .before .before .before .before .before .before .before .before .before .before .before .before .before .before .before .before .before .before .before .before .before .before .before .before .before in
+    let s = c .before .before .before .before .before .before .before .before .before .before .before .before .before .before .before .before .before .before
+    .before .before .before .before .before .before .before .before .before .before .before .before .before .before .before .before .before .before .before
+    .before .before .before .before .before in
     omega (arith, s .pre .0 .few, s .pre .0 .roomy .few)
 
 add-t20 : tie.Need-add-t20
-add-t20 c = let s = c .before .before .before .before .before .before .before .before .before .before .before .before .before .before .before .before .before .before .before .before .before .before .before .before .before .before .before .before .before .before .before .before .before .before .before .before .before .before .before .before .before .before .before in omega (arith, s .pre .0 .few, s .pre .0 .roomy .few)
+add-t20 c = let s = c .before .before .before .before .before .before .before .before .before .before .before .before .before .before .before .before .before
+    .before .before .before .before .before .before .before .before .before .before .before .before .before .before .before .before .before .before .before
+    .before .before .before .before .before .before .before in omega (arith, s .pre .0 .few, s .pre .0 .roomy .few)
 
 add-t23 : tie.Need-add-t23
-add-t23 c = let s = c .before .before .before .before .before .before .before .before .before .before .before .before .before .before .before .before .before .before .before .before .before .before .before .before .before .before .before .before .before .before .before .before .before .before .before .before .before .before .before .before .before .before .before in omega (arith, s .pre .1 .lower, s .pre .0 .few, s .pre .0 .roomy .few)
+add-t23 c = let s = c .before .before .before .before .before .before .before .before .before .before .before .before .before .before .before .before .before
+    .before .before .before .before .before .before .before .before .before .before .before .before .before .before .before .before .before .before .before
+    .before .before .before .before .before .before .before in omega (arith, s .pre .1 .lower, s .pre .0 .few, s .pre .0 .roomy .few)
 
 add-t22 : tie.Need-add-t22
-add-t22 c = let s = c .before .before .before .before .before .before .before .before .before .before .before .before .before .before .before .before .before .before .before .before .before .before .before .before .before .before .before .before .before .before .before .before .before .before .before .before .before .before .before .before .before .before .before .before in omega (arith, s .pre .1 .early)
-
-same-length-13 : tie.Need-same-length-13
-same-length-13 c = search needs
-
-same-length-14 : tie.Need-same-length-14
-same-length-14 c = search needs
-
-same-length-15 : tie.Need-same-length-15
-same-length-15 c = search needs
-
-same-length-16 : tie.Need-same-length-16
-same-length-16 c = search needs
-
-same-length-17 : tie.Need-same-length-17
-same-length-17 c = search needs
-
-same-length-18 : tie.Need-same-length-18
-same-length-18 c = search needs
+add-t22 c = let s = c .before .before .before .before .before .before .before .before .before .before .before .before .before .before .before .before .before
+    .before .before .before .before .before .before .before .before .before .before .before .before .before .before .before .before .before .before .before
+    .before .before .before .before .before .before .before .before in omega (arith, s .pre .1 .early)
 
 returns-4 : tie.Need-returns-4
 returns-4 c =
@@ -172,41 +120,41 @@ pub pair-turn-spec : {M : Type 1} → statement M
 pair-turn-spec =
     tie.close
     (tie.spec
-    mul-joined
-    slice-read-joined
-    mul-joined-2
-    slice-read-joined-2
+    (λ c. search needs)
+    (λ c. search needs)
+    (λ c. search needs)
+    (λ c. search needs)
     joined-requires
     reduced-requires
     add-t37
     add-t38
-    same-length
-    same-length-2
-    same-length-3
-    same-length-4
+    (λ c. search needs)
+    (λ c. search needs)
+    (λ c. search needs)
+    (λ c. search needs)
     returns
     mul-small-sum
     mul-small-sum-2
     small-sum-requires
-    same-length-5
-    same-length-6
-    same-length-7
-    same-length-8
+    (λ c. search needs)
+    (λ c. search needs)
+    (λ c. search needs)
+    (λ c. search needs)
     returns-2
-    same-length-9
-    same-length-10
-    same-length-11
-    same-length-12
+    (λ c. search needs)
+    (λ c. search needs)
+    (λ c. search needs)
+    (λ c. search needs)
     returns-3
     append-pair-requires
     appended-requires
     add-t20
     add-t23
     add-t22
-    same-length-13
-    same-length-14
-    same-length-15
-    same-length-16
-    same-length-17
-    same-length-18
+    (λ c. search needs)
+    (λ c. search needs)
+    (λ c. search needs)
+    (λ c. search needs)
+    (λ c. search needs)
+    (λ c. search needs)
     returns-4)

@@ -23,12 +23,6 @@ word-at-requires c κs =
     let s = c .before .before .before .before .before .before .before .before .before in
     (s .pre .0 .given .rows .few, table-row (s .pre .0 .given .rows) (s .args .i) (s .pre .1 .low))
 
-mul-append-row : tie.Need-mul-append-row
-mul-append-row c = search needs
-
-shared-slice-read-append-row : tie.Need-shared-slice-read-append-row
-shared-slice-read-append-row c = search needs
-
 append-row-requires : tie.Need-append-row-requires
 append-row-requires c κs =
     let e = c .before .before .before .before .before .before .before .before in
@@ -41,38 +35,28 @@ append-row-requires c κs =
 
 appended-requires : tie.Need-appended-requires
 appended-requires c κs =
-    let s = c .before .before .before .before .before .before .before .before .before .before .before .before .before .before .before .before .before .before .before .before .before .before .before .before .before .before .before .before .before .before in
+    let s = c .before .before .before .before .before .before .before .before .before .before .before .before .before .before .before .before .before .before
+    .before .before .before .before .before .before .before .before .before .before .before .before in
     omega (arith, s .pre .0 .few, s .pre .0 .roomy .few)
 
 add-t19 : tie.Need-add-t19
-add-t19 c = let s = c .before .before .before .before .before .before .before .before .before .before .before .before .before .before .before .before .before .before .before .before .before .before .before .before .before .before .before .before .before .before .before in omega (arith, s .pre .0 .few, s .pre .0 .roomy .few)
+add-t19 c = let s = c .before .before .before .before .before .before .before .before .before .before .before .before .before .before .before .before .before
+    .before .before .before .before .before .before .before .before .before .before .before .before .before .before in omega
+    (arith, s .pre .0 .few, s .pre .0 .roomy .few)
 
 add-t36 : tie.Need-add-t36
-add-t36 c = let s = c .before .before .before .before .before .before .before .before .before .before .before .before .before .before .before .before .before .before .before .before .before .before .before .before .before .before .before .before .before .before .before in omega (arith, s .pre .1 .low, s .pre .0 .given .few)
+add-t36 c = let s = c .before .before .before .before .before .before .before .before .before .before .before .before .before .before .before .before .before
+    .before .before .before .before .before .before .before .before .before .before .before .before .before .before in omega
+    (arith, s .pre .1 .low, s .pre .0 .given .few)
 
 add-t37 : tie.Need-add-t37
-add-t37 c = let s = c .before .before .before .before .before .before .before .before .before .before .before .before .before .before .before .before .before .before .before .before .before .before .before .before .before .before .before .before .before .before .before .before in omega (arith, s .pre .1 .early)
+add-t37 c = let s = c .before .before .before .before .before .before .before .before .before .before .before .before .before .before .before .before .before
+    .before .before .before .before .before .before .before .before .before .before .before .before .before .before .before in omega (arith, s .pre .1 .early)
 
 add-t38 : tie.Need-add-t38
-add-t38 c = let s = c .before .before .before .before .before .before .before .before .before .before .before .before .before .before .before .before .before .before .before .before .before .before .before .before .before .before .before .before .before .before .before .before in omega (arith, s .pre .0 .few, s .pre .0 .roomy .few)
-
-same-length : tie.Need-same-length
-same-length c = search needs
-
-same-length-2 : tie.Need-same-length-2
-same-length-2 c = search needs
-
-same-length-3 : tie.Need-same-length-3
-same-length-3 c = search needs
-
-same-length-4 : tie.Need-same-length-4
-same-length-4 c = search needs
-
-same-length-5 : tie.Need-same-length-5
-same-length-5 c = search needs
-
-same-length-6 : tie.Need-same-length-6
-same-length-6 c = search needs
+add-t38 c = let s = c .before .before .before .before .before .before .before .before .before .before .before .before .before .before .before .before .before
+    .before .before .before .before .before .before .before .before .before .before .before .before .before .before .before in omega
+    (arith, s .pre .0 .few, s .pre .0 .roomy .few)
 
 returns-2 : tie.Need-returns-2
 returns-2 c =
@@ -88,18 +72,18 @@ row-turn-spec =
     returns
     mul-word-at
     word-at-requires
-    mul-append-row
-    shared-slice-read-append-row
+    (λ c. search needs)
+    (λ c. search needs)
     append-row-requires
     appended-requires
     add-t19
     add-t36
     add-t37
     add-t38
-    same-length
-    same-length-2
-    same-length-3
-    same-length-4
-    same-length-5
-    same-length-6
+    (λ c. search needs)
+    (λ c. search needs)
+    (λ c. search needs)
+    (λ c. search needs)
+    (λ c. search needs)
+    (λ c. search needs)
     returns-2)

@@ -22,24 +22,6 @@ row-turn-requires c κs =
     let s = u .before .before .before .before .before .before .before .before .before .before in
     (s .pre, row-due (s .pre) (u .before .if1 .left) (u .due .ensures .here (t .if2 .taken)) (t .if2 .taken))
 
-same-length : tie.Need-same-length
-same-length c = search needs
-
-same-length-2 : tie.Need-same-length-2
-same-length-2 c = search needs
-
-same-length-3 : tie.Need-same-length-3
-same-length-3 c = search needs
-
-same-length-4 : tie.Need-same-length-4
-same-length-4 c = search needs
-
-same-length-5 : tie.Need-same-length-5
-same-length-5 c = search needs
-
-same-length-6 : tie.Need-same-length-6
-same-length-6 c = search needs
-
 returns-2 : tie.Need-returns-2
 returns-2 c =
     let a = c .before .before .before .before .before .before .before .before .before .before .before in
@@ -62,24 +44,6 @@ pair-turn-requires c κs =
     let s = u .before .before .before .before .before .before .before .before .before .before in
     (s .pre, pair-due (s .pre) (u .before .if1 .left) (spent-by (s .pre) (u .due .ensures) (e .if2 .left)) (n .next-pair .ensures) (t .if3 .taken))
 
-same-length-7 : tie.Need-same-length-7
-same-length-7 c = search needs
-
-same-length-8 : tie.Need-same-length-8
-same-length-8 c = search needs
-
-same-length-9 : tie.Need-same-length-9
-same-length-9 c = search needs
-
-same-length-10 : tie.Need-same-length-10
-same-length-10 c = search needs
-
-same-length-11 : tie.Need-same-length-11
-same-length-11 c = search needs
-
-same-length-12 : tie.Need-same-length-12
-same-length-12 c = search needs
-
 returns-3 : tie.Need-returns-3
 returns-3 c =
     let a = c .before .before .before .before .before .before .before .before .before .before .before in
@@ -88,18 +52,13 @@ returns-3 c =
     let e = n .before .before .before in
     let u = e .before in
     let s = u .before .before .before .before .before .before .before .before .before .before in
-    rw (by-pair (s .pre) (u .before .if1 .left) (spent-by (s .pre) (u .due .ensures) (e .if2 .left)) (n .next-pair .ensures) (t .if3 .taken)) (a .pair-turn .ensures)
+    rw (by-pair (s .pre) (u .before .if1 .left) (spent-by (s .pre) (u .due .ensures) (e .if2 .left)) (n .next-pair .ensures) (t .if3 .taken))
+    (a .pair-turn .ensures)
 
 next-degree-requires : tie.Need-next-degree-requires
 next-degree-requires c κs =
     let s = c .before .before .before .before .before .before .before .before .before .before .before .before .before .before .before .before .before .before in
     (s .pre .ranked, s .pre .given .sized .long)
-
-same-length-13 : tie.Need-same-length-13
-same-length-13 c = search needs
-
-same-length-14 : tie.Need-same-length-14
-same-length-14 c = search needs
 
 returns-4 : tie.Need-returns-4
 returns-4 c =
@@ -114,15 +73,10 @@ returns-4 c =
 
 add-t57 : tie.Need-add-t57
 add-t57 c =
-    let s = c .before .before .before .before .before .before .before .before .before .before .before .before .before .before .before .before .before .before .before .before .before in
+    let s = c .before .before .before .before .before .before .before .before .before .before .before .before .before .before .before .before .before .before
+    .before .before .before in
     let l = c .before .before .before .before .before .before .before .before .before .before .before .before in
     omega (arith, s .pre .early, l .if1 .left)
-
-same-length-15 : tie.Need-same-length-15
-same-length-15 c = search needs
-
-same-length-16 : tie.Need-same-length-16
-same-length-16 c = search needs
 
 returns-5 : tie.Need-returns-5
 returns-5 c =
@@ -133,7 +87,8 @@ returns-5 c =
     let e = n .before .before .before in
     let u = e .before in
     let s = u .before .before .before .before .before .before .before .before .before .before in
-    by-raise (s .pre) (u .before .if1 .left) (spent-by (s .pre) (u .due .ensures) (e .if2 .left)) (n .next-pair .ensures) (f .if3 .left) (g .next-degree .ensures)
+    by-raise (s .pre) (u .before .if1 .left) (spent-by (s .pre) (u .due .ensures) (e .if2 .left)) (n .next-pair .ensures) (f .if3 .left)
+    (g .next-degree .ensures)
     (h .if4 .left)
 
 pub turn-spec : {M : Type 1} → statement M
@@ -143,27 +98,27 @@ turn-spec =
     returns
     due-requires
     row-turn-requires
-    same-length
-    same-length-2
-    same-length-3
-    same-length-4
-    same-length-5
-    same-length-6
+    (λ c. search needs)
+    (λ c. search needs)
+    (λ c. search needs)
+    (λ c. search needs)
+    (λ c. search needs)
+    (λ c. search needs)
     returns-2
     next-pair-requires
     pair-turn-requires
-    same-length-7
-    same-length-8
-    same-length-9
-    same-length-10
-    same-length-11
-    same-length-12
+    (λ c. search needs)
+    (λ c. search needs)
+    (λ c. search needs)
+    (λ c. search needs)
+    (λ c. search needs)
+    (λ c. search needs)
     returns-3
     next-degree-requires
-    same-length-13
-    same-length-14
+    (λ c. search needs)
+    (λ c. search needs)
     returns-4
     add-t57
-    same-length-15
-    same-length-16
+    (λ c. search needs)
+    (λ c. search needs)
     returns-5)

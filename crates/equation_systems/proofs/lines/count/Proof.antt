@@ -5,7 +5,7 @@ use native.Mathlib.Omega.{arith}
 use lib.ListN.{length, drop}
 use denote.Ref.{now}
 use borrow.Author.Needs.{needs}
-use Rattle.equation_lines.specs.Lines.{lineCount}
+use Rattle.equation_spec.specs.Lines.{lineCount}
 use Rattle.equation_systems.specs.LineLaws.{count-end, next-newline, next-other}
 use Rattle.equation_systems.proofs.lines.count.Statement.{statement}
 use Rattle.equation_systems.proofs.lines.count.Tie as tie
@@ -19,26 +19,11 @@ abbrev μ-loop : tie.MeasureT-loop
 loop-holds : tie.Need-loop-holds Inv-loop μ-loop
 loop-holds c = let t = now (c .args .text) in (omega arith, sym (count-end t (length t) (omega arith)), omega arith)
 
-sub-i : tie.Need-sub-i Inv-loop μ-loop
-sub-i c = search needs
-
-shared-slice-read-if1 : tie.Need-shared-slice-read-if1 Inv-loop μ-loop
-shared-slice-read-if1 c = search needs
-
-add-n : tie.Need-add-n Inv-loop μ-loop
-add-n c = search needs
-
-loop-less : tie.Need-loop-less Inv-loop μ-loop
-loop-less c = search needs
-
 loop-again : tie.Need-loop-again Inv-loop μ-loop
 loop-again c =
     let l = c .before .before .before .loop in
     let t = now (c .before .before .before .before .args .text) in
     next-newline t (l .i) (l .n) (c .before .before .loop-test .taken) (l .inv .0) (l .inv .1) (c .if1 .taken)
-
-loop-less-2 : tie.Need-loop-less-2 Inv-loop μ-loop
-loop-less-2 c = search needs
 
 loop-again-2 : tie.Need-loop-again-2 Inv-loop μ-loop
 loop-again-2 c =
@@ -46,9 +31,6 @@ loop-again-2 c =
     let l = o .before .before .before .loop in
     let t = now (o .before .before .before .before .args .text) in
     next-other t (l .i) (l .n) (o .before .before .loop-test .taken) (l .inv .0) (l .inv .1) _ (omega (arith, c .if2 .taken)) (o .if1 .left)
-
-loop-less-3 : tie.Need-loop-less-3 Inv-loop μ-loop
-loop-less-3 c = search needs
 
 loop-again-3 : tie.Need-loop-again-3 Inv-loop μ-loop
 loop-again-3 c =
@@ -67,13 +49,13 @@ count-spec =
     Inv-loop
     μ-loop
     loop-holds
-    sub-i
-    shared-slice-read-if1
-    add-n
-    loop-less
+    (λ c. search needs)
+    (λ c. search needs)
+    (λ c. search needs)
+    (λ c. search needs)
     loop-again
-    loop-less-2
+    (λ c. search needs)
     loop-again-2
-    loop-less-3
+    (λ c. search needs)
     loop-again-3
     returns)

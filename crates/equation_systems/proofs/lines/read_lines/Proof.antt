@@ -8,7 +8,7 @@ use native.Mathlib.Omega.{arith}
 use lib.ListN.{length, drop, take}
 use denote.Ref.{now}
 use borrow.Author.Needs.{needs}
-use Rattle.equation_lines.specs.Systems.{readLines}
+use Rattle.equation_spec.specs.Systems.{readLines}
 use Rattle.equation_systems.specs.RowLaws.{row-inside, lines-unended, lines-refused, lines-read, lines-end}
 use Rattle.equation_systems.proofs.lines.read_lines.Statement.{statement}
 use Rattle.equation_systems.proofs.lines.read_lines.Tie as tie
@@ -36,21 +36,12 @@ fits-in c =
     let s = c .before .before .before in
     (rw (l .inv .0) (row-inside (l .i) (s .pre) (c .loop-test .taken)), omega (arith, l .inv .1, s .pre .sides, s .pre .equations, c .loop-test .taken))
 
-line-end-requires : tie.Need-line-end-requires Inv-loop μ-loop
-line-end-requires c κs = search needs
-
 add-t12 : tie.Need-add-t12 Inv-loop μ-loop
 add-t12 c =
     let w = c .before .before in
     let l = w .before .loop in
     let s = w .before .before .before in
     omega (arith, w .loop-test .taken, s .pre .equations)
-
-same-length : tie.Need-same-length Inv-loop μ-loop
-same-length c = search needs
-
-same-length-2 : tie.Need-same-length-2 Inv-loop μ-loop
-same-length-2 c = search needs
 
 returns : tie.Need-returns Inv-loop μ-loop
 returns c =
@@ -63,17 +54,8 @@ returns c =
 sub-read-row : tie.Need-sub-read-row Inv-loop μ-loop
 sub-read-row c = omega (arith, c .before .line-end .ensures .0)
 
-part-read-row-start : tie.Need-part-read-row-start Inv-loop μ-loop
-part-read-row-start c = search needs
-
-part-read-row-end : tie.Need-part-read-row-end Inv-loop μ-loop
-part-read-row-end c = search needs
-
 read-row-requires : tie.Need-read-row-requires Inv-loop μ-loop
 read-row-requires c κs = fits-in (c .before .before .before .before .before)
-
-enum-known-why : tie.Need-enum-known-why Inv-loop μ-loop
-enum-known-why c = search needs
 
 add-t21 : tie.Need-add-t21 Inv-loop μ-loop
 add-t21 c =
@@ -103,21 +85,12 @@ returns-2 c =
     (e .line-end .result) (w .loop-test .taken) (l .inv .3) (e .line-end .ensures .0) (f .if1 .left)
     (rw (c .before .why .given .1) at (c .before .before .before .before .before .read-row .ensures)) ∙ l .inv .4
 
-enum-told : tie.Need-enum-told Inv-loop μ-loop
-enum-told c = search needs
-
-add-at : tie.Need-add-at Inv-loop μ-loop
-add-at c = search needs
-
 add-i : tie.Need-add-i Inv-loop μ-loop
 add-i c =
     let w = c .before .before .before .before .before .before .before .before .before .before in
     let l = w .before .loop in
     let s = w .before .before .before in
     omega (arith, w .loop-test .taken, s .pre .equations)
-
-loop-less : tie.Need-loop-less Inv-loop μ-loop
-loop-less c = search needs
 
 loop-again : tie.Need-loop-again Inv-loop μ-loop
 loop-again c =
@@ -136,12 +109,6 @@ loop-again c =
           (rw (c .enum-told .given .1) at (r .read-row .ensures)) ∙ l .inv .4,
     )
 
-same-length-5 : tie.Need-same-length-5 Inv-loop μ-loop
-same-length-5 c = search needs
-
-same-length-6 : tie.Need-same-length-6 Inv-loop μ-loop
-same-length-6 c = search needs
-
 returns-3 : tie.Need-returns-3 Inv-loop μ-loop
 returns-3 c =
     let l = c .before .loop in
@@ -155,25 +122,25 @@ read-lines-spec =
     Inv-loop
     μ-loop
     loop-holds
-    line-end-requires
+    (λ c κs. search needs)
     add-t12
-    same-length
-    same-length-2
+    (λ c. search needs)
+    (λ c. search needs)
     returns
     sub-read-row
-    part-read-row-start
-    part-read-row-end
+    (λ c. search needs)
+    (λ c. search needs)
     read-row-requires
-    enum-known-why
+    (λ c. search needs)
     add-t21
     same-length-3
     same-length-4
     returns-2
-    enum-told
-    add-at
+    (λ c. search needs)
+    (λ c. search needs)
     add-i
-    loop-less
+    (λ c. search needs)
     loop-again
-    same-length-5
-    same-length-6
+    (λ c. search needs)
+    (λ c. search needs)
     returns-3)

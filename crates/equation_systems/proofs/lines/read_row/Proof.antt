@@ -9,7 +9,7 @@ use mir.Facts.{toZ-ofZ}
 use mir.Syntax.{w32}
 use borrow.Author.Needs.{needs}
 use Rattle.linear.specs.Integers.{sfits-natAbs}
-use Rattle.equation_text.specs.AnsweredLaws.{side-small}
+use Rattle.equation_read.specs.AnsweredLaws.{side-small}
 use Rattle.equation_systems.specs.RowLaws.{part-whole, row-refused, row-read}
 use Rattle.equation_systems.proofs.lines.read_row.Statement.{statement}
 use Rattle.equation_systems.proofs.lines.read_row.Tie as tie
@@ -18,42 +18,6 @@ use Rattle.equation_systems.proofs.lines.read_row.Tie as tie
 abbrev part : tie.Start → List ℤ
 part s = take (s .args .i * s .args .q + s .args .q - s .args .i * s .args .q) (drop (s .args .i * s .args .q) (now (s .args .coefs)))
 
-mul-base : tie.Need-mul-base
-mul-base c = search needs
-
-add-read-equation : tie.Need-add-read-equation
-add-read-equation c = search needs
-
-mul-read-equation : tie.Need-mul-read-equation
-mul-read-equation c = search needs
-
-sub-read-equation : tie.Need-sub-read-equation
-sub-read-equation c = search needs
-
-part-read-equation-start : tie.Need-part-read-equation-start
-part-read-equation-start c = search needs
-
-part-read-equation-end : tie.Need-part-read-equation-end
-part-read-equation-end c = search needs
-
-read-equation-requires : tie.Need-read-equation-requires
-read-equation-requires c κs = search needs
-
-enum-known-why : tie.Need-enum-known-why
-enum-known-why c = search needs
-
-enum-known-right : tie.Need-enum-known-right
-enum-known-right c = search needs
-
-mul-right : tie.Need-mul-right
-mul-right c = search needs
-
-slice-set-from-right : tie.Need-slice-set-from-right
-slice-set-from-right c = search needs
-
-same-length : tie.Need-same-length
-same-length c = search needs
-
 returns : tie.Need-returns
 returns c =
     let w = c .before .before .before .before in
@@ -61,12 +25,6 @@ returns c =
     row-refused (s .args .q) (s .args .i + 1) (take (s .args .i * s .args .q) (now (s .args .coefs))) (take (s .args .i) (now (s .args .rights)))
     (now (s .args .line)) (part s) (part-whole (s .args .i * s .args .q) (s .args .q) (now (s .args .coefs)) (s .pre .0))
     (rw (c .before .why .given .1) at (w .read-equation .ensures))
-
-same-length-2 : tie.Need-same-length-2
-same-length-2 c = search needs
-
-same-length-3 : tie.Need-same-length-3
-same-length-3 c = search needs
 
 returns-2 : tie.Need-returns-2
 returns-2 c =
@@ -83,19 +41,19 @@ pub read-row-spec : {M : Type 1} → statement M
 read-row-spec =
     tie.close
     (tie.spec
-    mul-base
-    add-read-equation
-    mul-read-equation
-    sub-read-equation
-    part-read-equation-start
-    part-read-equation-end
-    read-equation-requires
-    enum-known-why
-    enum-known-right
-    mul-right
-    slice-set-from-right
-    same-length
+    (λ c. search needs)
+    (λ c. search needs)
+    (λ c. search needs)
+    (λ c. search needs)
+    (λ c. search needs)
+    (λ c. search needs)
+    (λ c κs. search needs)
+    (λ c. search needs)
+    (λ c. search needs)
+    (λ c. search needs)
+    (λ c. search needs)
+    (λ c. search needs)
     returns
-    same-length-2
-    same-length-3
+    (λ c. search needs)
+    (λ c. search needs)
     returns-2)

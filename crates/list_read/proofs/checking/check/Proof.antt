@@ -2,20 +2,11 @@
 use mathlib.Core.Path.{_∙_}
 use denote.Ref.{now}
 use borrow.Author.Needs.{needs}
-use Rattle.list_laws.specs.RuleLaws.{file-in}
-use Rattle.list_words.specs.CheckLaws.{refused-first, passed-first, passes}
+use Rattle.list_spec.specs.RuleLaws.{file-in}
+use Rattle.list_blocks.specs.CheckLaws.{refused-first, passed-first, passes}
 use Rattle.list_read.specs.ReadLaws.{tableChecks, header-read, read-stages}
 use Rattle.list_read.proofs.checking.check.Statement.{statement}
 use Rattle.list_read.proofs.checking.check.Tie as tie
-
-check-blocks-requires : tie.Need-check-blocks-requires
-check-blocks-requires c κs = search needs
-
-enum-known-why : tie.Need-enum-known-why
-enum-known-why c = search needs
-
-enum-told : tie.Need-enum-told
-enum-told c = search needs
 
 check-tables-requires : tie.Need-check-tables-requires
 check-tables-requires c κs = header-read _ (file-in _ (passes (c .before .before .check-blocks .ensures) (c .enum-told .given .1)))
@@ -38,9 +29,9 @@ pub check-spec : {M : Type 1} → statement M
 check-spec =
     tie.close
     (tie.spec
-    check-blocks-requires
-    enum-known-why
-    enum-told
+    (λ c κs. search needs)
+    (λ c. search needs)
+    (λ c. search needs)
     check-tables-requires
     returns
     returns-2)

@@ -6,23 +6,8 @@ use Rattle.list_read.specs.ReadLaws.{bad-sum, bad-number, bad-range, blo
 use Rattle.list_read.proofs.checking.check_block.Statement.{statement}
 use Rattle.list_read.proofs.checking.check_block.Tie as tie
 
-mul-wrapping-sum : tie.Need-mul-wrapping-sum
-mul-wrapping-sum c = search needs
-
-wrapping-sum-requires : tie.Need-wrapping-sum-requires
-wrapping-sum-requires c κs = search needs
-
 returns : tie.Need-returns
 returns c = bad-sum _ _ _ (λ e. c .if1 .taken (c .before .wrapping-sum .ensures ∙ e))
-
-mul-word-at : tie.Need-mul-word-at
-mul-word-at c = search needs
-
-word-at-requires : tie.Need-word-at-requires
-word-at-requires c κs = search needs
-
-cast-if2 : tie.Need-cast-if2
-cast-if2 c = search needs
 
 returns-2 : tie.Need-returns-2
 returns-2 c =
@@ -45,12 +30,12 @@ pub check-block-spec : {M : Type 1} → statement M
 check-block-spec =
     tie.close
     (tie.spec
-    mul-wrapping-sum
-    wrapping-sum-requires
+    (λ c. search needs)
+    (λ c κs. search needs)
     returns
-    mul-word-at
-    word-at-requires
-    cast-if2
+    (λ c. search needs)
+    (λ c κs. search needs)
+    (λ c. search needs)
     returns-2
     returns-3
     returns-4)

@@ -1,26 +1,14 @@
 -- `list_read::checking::check_blocks` meets its contract: the length, block 0, and what comes after it. Assumes nothing.
 use mathlib.Core.Path.{_∙_}
 use borrow.Author.Needs.{needs}
-use Rattle.list_laws.specs.RuleLaws.{header-in}
-use Rattle.list_words.specs.CheckLaws.{refused-first, passed-first, passes}
+use Rattle.list_spec.specs.RuleLaws.{header-in}
+use Rattle.list_blocks.specs.CheckLaws.{refused-first, passed-first, passes}
 use Rattle.list_read.specs.ReadLaws.{laterChecks, too-short, file-stages}
 use Rattle.list_read.proofs.checking.check_blocks.Statement.{statement}
 use Rattle.list_read.proofs.checking.check_blocks.Tie as tie
 
 returns : tie.Need-returns
 returns c = too-short _ (c .if1 .taken)
-
-header-in-range-requires : tie.Need-header-in-range-requires
-header-in-range-requires c κs = search needs
-
-check-block-requires : tie.Need-check-block-requires
-check-block-requires c κs = search needs
-
-enum-known-why : tie.Need-enum-known-why
-enum-known-why c = search needs
-
-enum-told : tie.Need-enum-told
-enum-told c = search needs
 
 check-later-requires : tie.Need-check-later-requires
 check-later-requires c κs =
@@ -48,10 +36,10 @@ check-blocks-spec =
     tie.close
     (tie.spec
     returns
-    header-in-range-requires
-    check-block-requires
-    enum-known-why
-    enum-told
+    (λ c κs. search needs)
+    (λ c κs. search needs)
+    (λ c. search needs)
+    (λ c. search needs)
     check-later-requires
     returns-2
     returns-3)

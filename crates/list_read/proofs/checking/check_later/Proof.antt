@@ -6,12 +6,6 @@ use Rattle.list_read.specs.ReadLaws.{coefs-few, numbers-few, stream-read
 use Rattle.list_read.proofs.checking.check_later.Statement.{statement}
 use Rattle.list_read.proofs.checking.check_later.Tie as tie
 
-coef-words-requires : tie.Need-coef-words-requires
-coef-words-requires c κs = search needs
-
-row-words-requires : tie.Need-row-words-requires
-row-words-requires c κs = search needs
-
 add-later : tie.Need-add-later
 add-later c =
     let h = c .before .before .before .pre .range in omega (arith, c .before .coef-words .ensures, c .row-words .ensures, coefs-few h, numbers-few h)
@@ -19,9 +13,6 @@ add-later c =
 add-later-2 : tie.Need-add-later-2
 add-later-2 c =
     let h = c .before .before .before .pre .range in omega (arith, c .before .coef-words .ensures, c .row-words .ensures, coefs-few h, numbers-few h)
-
-add-if1 : tie.Need-add-if1
-add-if1 c = search needs
 
 mul-if1 : tie.Need-mul-if1
 mul-if1 c =
@@ -46,11 +37,11 @@ pub check-later-spec : {M : Type 1} → statement M
 check-later-spec =
     tie.close
     (tie.spec
-    coef-words-requires
-    row-words-requires
+    (λ c κs. search needs)
+    (λ c κs. search needs)
     add-later
     add-later-2
-    add-if1
+    (λ c. search needs)
     mul-if1
     returns
     check-stream-requires

@@ -5,8 +5,8 @@ use native.Mathlib.Nat.{le-antisymm}
 use native.Mathlib.Omega.{arith}
 use borrow.Author.Needs.{needs}
 use Rattle.definitions.specs.Answers.{go}
-use Rattle.list_form.specs.Reading.{streamChecks}
-use Rattle.list_words.specs.CheckLaws.{passes, refuses}
+use Rattle.list_spec.specs.Reading.{streamChecks}
+use Rattle.list_blocks.specs.CheckLaws.{passes, refuses}
 use Rattle.list_read.specs.ReadLaws.{stream-next, stream-at}
 use Rattle.list_read.proofs.checking.check_stream.Statement.{statement}
 use Rattle.list_read.proofs.checking.check_stream.Tie as tie
@@ -30,18 +30,12 @@ block-in-range-requires c κs = record { few = c .before .before .before .pre .f
 check-block-requires : tie.Need-check-block-requires Inv-loop μ-loop
 check-block-requires c κs = omega arith
 
-enum-known-why : tie.Need-enum-known-why Inv-loop μ-loop
-enum-known-why c = search needs
-
 returns : tie.Need-returns Inv-loop μ-loop
 returns c =
     let k = c .before .before .before in
     let l = k .before .before in
     stream-at _ _ _ _ _ (l .loop-test .taken) (l .before .loop .inv .1)
     (refuses (rw (k .before .block-in-range .ensures) at (k .check-block .ensures)) (c .before .why .given .1))
-
-enum-told : tie.Need-enum-told Inv-loop μ-loop
-enum-told c = search needs
 
 add-b : tie.Need-add-b Inv-loop μ-loop
 add-b c = omega arith
@@ -70,9 +64,9 @@ check-stream-spec =
     add-check-block
     block-in-range-requires
     check-block-requires
-    enum-known-why
+    (λ c. search needs)
     returns
-    enum-told
+    (λ c. search needs)
     add-b
     loop-less
     loop-again

@@ -5,14 +5,8 @@ use Rattle.list_read.specs.ReadLaws.{coefs-short, list-short, tables-lon
 use Rattle.list_read.proofs.checking.check_tables.Statement.{statement}
 use Rattle.list_read.proofs.checking.check_tables.Tie as tie
 
-coef-words-requires : tie.Need-coef-words-requires
-coef-words-requires c κs = search needs
-
 returns : tie.Need-returns
 returns c = coefs-short _ _ _ (omega (arith, c .before .coef-words .ensures))
-
-row-words-requires : tie.Need-row-words-requires
-row-words-requires c κs = search needs
 
 returns-2 : tie.Need-returns-2
 returns-2 c =
@@ -24,4 +18,4 @@ returns-3 c =
 
 pub check-tables-spec : {M : Type 1} → statement M
 check-tables-spec =
-    tie.close (tie.spec coef-words-requires returns row-words-requires returns-2 returns-3)
+    tie.close (tie.spec (λ c κs. search needs) returns (λ c κs. search needs) returns-2 returns-3)

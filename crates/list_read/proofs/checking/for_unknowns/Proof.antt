@@ -5,18 +5,6 @@ use borrow.Author.Needs.{needs}
 use Rattle.list_read.proofs.checking.for_unknowns.Statement.{statement}
 use Rattle.list_read.proofs.checking.for_unknowns.Tie as tie
 
-word-at-requires : tie.Need-word-at-requires
-word-at-requires c κs = search needs
-
-cast-result : tie.Need-cast-result
-cast-result c = search needs
-
-word-at-requires-2 : tie.Need-word-at-requires-2
-word-at-requires-2 c κs = search needs
-
-cast-result-2 : tie.Need-cast-result-2
-cast-result-2 c = search needs
-
 mul-result : tie.Need-mul-result
 mul-result c =
     let s = c .before .before .before .pre in
@@ -32,4 +20,4 @@ returns c = rw (c .before .word-at .ensures, c .word-at2 .ensures)
 pub for-unknowns-spec : {M : Type 1} → statement M
 for-unknowns-spec =
     tie.close
-    (tie.spec word-at-requires cast-result word-at-requires-2 cast-result-2 mul-result returns)
+    (tie.spec (λ c κs. search needs) (λ c. search needs) (λ c κs. search needs) (λ c. search needs) mul-result returns)

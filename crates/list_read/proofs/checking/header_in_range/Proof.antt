@@ -4,18 +4,12 @@ use mathlib.Core.Path.{_∙_}
 use native.Mathlib.Omega.{arith}
 use denote.Ref.{now}
 use borrow.Author.Needs.{needs}
-use Rattle.list_form.specs.Words.{wordAt}
-use Rattle.list_form.specs.Reading.{equationsOf, unknownsOf}
-use Rattle.list_words.specs.RangeLaws.{all-zero}
+use Rattle.list_spec.specs.Words.{wordAt}
+use Rattle.list_spec.specs.Reading.{equationsOf, unknownsOf}
+use Rattle.list_blocks.specs.RangeLaws.{all-zero}
 use Rattle.list_read.specs.ReadLaws.{p-below, p-above, q-below, q-above, rows-above, ending-above, zeros-decide}
 use Rattle.list_read.proofs.checking.header_in_range.Statement.{statement}
 use Rattle.list_read.proofs.checking.header_in_range.Tie as tie
-
-word-at-requires : tie.Need-word-at-requires
-word-at-requires c κs = search needs
-
-word-at-requires-2 : tie.Need-word-at-requires-2
-word-at-requires-2 c κs = search needs
 
 returns : tie.Need-returns
 returns c = p-below _ (omega (arith, c .before .before .word-at .ensures))
@@ -36,9 +30,6 @@ returns-4 c =
     let e = c .before .before .before .before .word-at2 .ensures in
     q-above _ p1 p2 (omega arith) (omega arith)
 
-word-at-requires-3 : tie.Need-word-at-requires-3
-word-at-requires-3 c κs = search needs
-
 -- q is in range
 q-within : (c : tie.Else4) → let f = now (c .before .before .before .before .before .before .before .args .file) in (1 ≤ unknownsOf f) × (unknownsOf f ≤ 16)
 q-within c = let e = c .before .before .before .before .word-at2 .ensures in (omega arith, omega arith)
@@ -49,18 +40,12 @@ returns-5 c =
     let (q1, q2) = q-within (c .before .before) in
     rows-above _ p1 p2 q1 q2 (omega (arith, c .before .word-at3 .ensures))
 
-word-at-requires-4 : tie.Need-word-at-requires-4
-word-at-requires-4 c κs = search needs
-
 returns-6 : tie.Need-returns-6
 returns-6 c =
     let r = c .before .before .before in
     let (p1, p2) = p-within (r .before .before .before) in
     let (q1, q2) = q-within (r .before) in
     ending-above _ p1 p2 q1 q2 (omega (arith, r .word-at3 .ensures)) (omega (arith, c .before .word-at4 .ensures))
-
-all-within-requires : tie.Need-all-within-requires
-all-within-requires c κs = search needs
 
 returns-7 : tie.Need-returns-7
 returns-7 c =
@@ -75,15 +60,15 @@ pub header-in-range-spec : {M : Type 1} → statement M
 header-in-range-spec =
     tie.close
     (tie.spec
-    word-at-requires
-    word-at-requires-2
+    (λ c κs. search needs)
+    (λ c κs. search needs)
     returns
     returns-2
     returns-3
     returns-4
-    word-at-requires-3
+    (λ c κs. search needs)
     returns-5
-    word-at-requires-4
+    (λ c κs. search needs)
     returns-6
-    all-within-requires
+    (λ c κs. search needs)
     returns-7)

@@ -7,7 +7,7 @@ use native.Mathlib.Omega.{arith}
 use borrow.Author.Tests.{not-true, not-false}
 use Rattle.linear.specs.LoopLaws.{all-next, all-fails}
 use Rattle.linear.specs.Tests.{allTo}
-use Rattle.list_form.specs.Reading.{inBlock, streamWordInRange, blockInRange}
+use Rattle.list_spec.specs.Reading.{inBlock, streamWordInRange, blockInRange}
 use Rattle.list_read.proofs.checking.words_in_range.Statement.{statement}
 use Rattle.list_read.proofs.checking.words_in_range.Tie as tie
 

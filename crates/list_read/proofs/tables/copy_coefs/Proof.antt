@@ -3,9 +3,9 @@ use denote.Ref.{now}
 use mir.Facts.{toZ-ofZ}
 use mir.Syntax.{w32}
 use borrow.Author.Needs.{sfits-of}
-use Rattle.list_laws.specs.ListLaws.{listed-next}
-use Rattle.list_form.specs.Reading.{streamAt, listed}
-use Rattle.list_form.specs.Words.{signed}
+use Rattle.list_spec.specs.ListLaws.{listed-next}
+use Rattle.list_spec.specs.Reading.{streamAt, listed}
+use Rattle.list_spec.specs.Words.{signed}
 use borrow.Author.Needs.{needs}
 use lib.ListN.{length, drop, length-set}
 use lib.IntN.{pos}
@@ -29,15 +29,6 @@ loop-holds c = (omega arith, refl, refl)
 
 stream-word-requires : tie.Need-stream-word-requires Inv-loop μ-loop
 stream-word-requires c κs = omega arith
-
-signed-requires : tie.Need-signed-requires Inv-loop μ-loop
-signed-requires c κs = search needs
-
-mul-t8 : tie.Need-mul-t8 Inv-loop μ-loop
-mul-t8 c = search needs
-
-slice-set-from-coefs : tie.Need-slice-set-from-coefs Inv-loop μ-loop
-slice-set-from-coefs c = search needs
 
 add-i : tie.Need-add-i Inv-loop μ-loop
 add-i c = omega arith
@@ -69,9 +60,9 @@ copy-coefs-spec =
     μ-loop
     loop-holds
     stream-word-requires
-    signed-requires
-    mul-t8
-    slice-set-from-coefs
+    (λ c κs. search needs)
+    (λ c. search needs)
+    (λ c. search needs)
     add-i
     loop-less
     loop-again

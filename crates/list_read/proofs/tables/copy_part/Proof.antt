@@ -7,7 +7,7 @@ use native.Mathlib.Omega.{arith}
 use lib.ListN.{length, length-set}
 use denote.Ref.{now}
 use borrow.Author.Needs.{needs}
-use Rattle.list_form.specs.Reading.{streamAt}
+use Rattle.list_spec.specs.Reading.{streamAt}
 use Rattle.list_read.specs.ReadLaws.{Filled, filled-next, stream-run}
 use Rattle.list_read.proofs.tables.copy_part.Statement.{statement}
 use Rattle.list_read.proofs.tables.copy_part.Tie as tie
@@ -39,9 +39,6 @@ word-at-requires c κs = omega arith
 
 add-list : tie.Need-add-list Inv-loop μ-loop
 add-list c = omega arith
-
-mul-list : tie.Need-mul-list Inv-loop μ-loop
-mul-list c = search needs
 
 slice-write-list : tie.Need-slice-write-list Inv-loop μ-loop
 slice-write-list c = omega arith
@@ -86,7 +83,7 @@ copy-part-spec =
     add-word-at
     word-at-requires
     add-list
-    mul-list
+    (λ c. search needs)
     slice-write-list
     add-j
     loop-less

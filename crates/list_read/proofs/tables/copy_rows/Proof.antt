@@ -4,7 +4,7 @@ use mathlib.Core.Path.{_≡_, refl, _∙_}
 use native.Mathlib.Nat.{le-antisymm}
 use native.Mathlib.Omega.{arith}
 use lib.ListN.{length}
-use Rattle.list_form.specs.Reading.{streamAt, listed}
+use Rattle.list_spec.specs.Reading.{streamAt, listed}
 use Rattle.list_read.specs.ReadLaws.{Filled}
 use Rattle.list_read.proofs.tables.copy_rows.Statement.{statement}
 use Rattle.list_read.proofs.tables.copy_rows.Tie as tie

@@ -4,7 +4,7 @@ use mathlib.Core.Path.{_≡_, refl, _∙_}
 use native.Mathlib.Omega.{arith}
 use lib.ListN.{length}
 use denote.Ref.{now}
-use Rattle.list_form.specs.Form.{ListFile, fileBlocks}
+use Rattle.list_spec.specs.Form.{ListFile, fileBlocks}
 use Rattle.list_write.specs.Answer.{listOf}
 use Rattle.list_write.specs.BlockLaws.{Begun, begun-none, begun-all}
 use Rattle.list_write.proofs.blocks.write.Statement.{statement}

@@ -4,36 +4,12 @@ use mathlib.Core.Path.{_≡_}
 use native.Mathlib.Omega.{arith}
 use denote.Ref.{now}
 use borrow.Author.Needs.{needs}
-use Rattle.list_form.specs.Form.{ListFile}
-use Rattle.list_form.specs.Words.{wordLimit}
+use Rattle.list_spec.specs.Form.{ListFile}
+use Rattle.list_spec.specs.Words.{wordLimit}
 use Rattle.list_write.specs.Answer.{listOf}
 use Rattle.list_write.specs.BlockLaws.{begun-next, last-place}
 use Rattle.list_write.proofs.blocks.write_block.Statement.{statement}
 use Rattle.list_write.proofs.blocks.write_block.Tie as tie
-
-write-words-requires : tie.Need-write-words-requires
-write-words-requires c κs = search needs
-
-mul-wrapping-sum : tie.Need-mul-wrapping-sum
-mul-wrapping-sum c = search needs
-
-wrapping-sum-requires : tie.Need-wrapping-sum-requires
-wrapping-sum-requires c κs = search needs
-
-mul-put-word : tie.Need-mul-put-word
-mul-put-word c = search needs
-
-add-put-word : tie.Need-add-put-word
-add-put-word c = search needs
-
-wrapping-sub-u32-requires : tie.Need-wrapping-sub-u32-requires
-wrapping-sub-u32-requires c κs = search needs
-
-put-word-requires : tie.Need-put-word-requires
-put-word-requires c κs = search needs
-
-same-length : tie.Need-same-length
-same-length c = search needs
 
 abbrev list : tie.Start → ListFile
 list s = listOf (s .args .p) (s .args .q) (now (s .args .coefs)) (now (s .args .rows)) (s .args .ending)
@@ -58,12 +34,12 @@ pub write-block-spec : {M : Type 1} → statement M
 write-block-spec =
     tie.close
     (tie.spec
-    write-words-requires
-    mul-wrapping-sum
-    wrapping-sum-requires
-    mul-put-word
-    add-put-word
-    wrapping-sub-u32-requires
-    put-word-requires
-    same-length
+    (λ c κs. search needs)
+    (λ c. search needs)
+    (λ c κs. search needs)
+    (λ c. search needs)
+    (λ c. search needs)
+    (λ c κs. search needs)
+    (λ c κs. search needs)
+    (λ c. search needs)
     returns)

@@ -5,7 +5,7 @@ use native.Mathlib.Omega.{arith}
 use lib.ListN.{length}
 use denote.Ref.{now}
 use borrow.Author.Needs.{needs}
-use Rattle.list_form.specs.Form.{ListFile}
+use Rattle.list_spec.specs.Form.{ListFile}
 use Rattle.list_write.specs.Answer.{listOf}
 use Rattle.list_write.specs.BlockLaws.{Begun, begun-next, number-place, component-place}
 use Rattle.list_write.proofs.blocks.write_components.Statement.{statement}
@@ -24,9 +24,6 @@ list s = listOf (s .args .p) (s .args .q) (now (s .args .coefs)) (now (s .args .
 mul-put-word : tie.Need-mul-put-word Inv-loop μ-loop
 mul-put-word c = omega arith
 
-cast-put-word : tie.Need-cast-put-word Inv-loop μ-loop
-cast-put-word c = search needs
-
 put-word-requires : tie.Need-put-word-requires Inv-loop μ-loop
 put-word-requires c κs = omega arith
 
@@ -42,9 +39,6 @@ loop-holds c =
 
 add-w : tie.Need-add-w Inv-loop μ-loop
 add-w c = omega arith
-
-mul-w : tie.Need-mul-w Inv-loop μ-loop
-mul-w c = search needs
 
 shared-slice-read-w : tie.Need-shared-slice-read-w Inv-loop μ-loop
 shared-slice-read-w c = omega arith
@@ -98,11 +92,11 @@ write-components-spec =
     Inv-loop
     μ-loop
     mul-put-word
-    cast-put-word
+    (λ c. search needs)
     put-word-requires
     loop-holds
     add-w
-    mul-w
+    (λ c. search needs)
     shared-slice-read-w
     mul-put-word-2
     add-put-word

@@ -6,29 +6,11 @@ use Rattle.definitions.specs.Answers.{_then_}
 use Rattle.calls.specs.CallLaws.{passes}
 use Rattle.checks.specs.CheckLaws.{refused-first, passed-first}
 use Rattle.checks.specs.Coefficients.{coefficientChecks}
-use Rattle.list_form.specs.Form.{ListFile}
+use Rattle.list_spec.specs.Form.{ListFile}
 use Rattle.list_write.specs.Answer.{listOf}
 use Rattle.list_write.specs.CheckLaws.{listChecks, counts-in, write-stages}
 use Rattle.list_write.proofs.checking.check.Statement.{statement}
 use Rattle.list_write.proofs.checking.check.Tie as tie
-
-check-requires : tie.Need-check-requires
-check-requires c κs = search needs
-
-enum-known-why : tie.Need-enum-known-why
-enum-known-why c = search needs
-
-enum-told : tie.Need-enum-told
-enum-told c = search needs
-
-check-requires-2 : tie.Need-check-requires-2
-check-requires-2 c κs = search needs
-
-enum-known-why-2 : tie.Need-enum-known-why-2
-enum-known-why-2 c = search needs
-
-enum-told-2 : tie.Need-enum-told-2
-enum-told-2 c = search needs
 
 abbrev list : tie.Start → ListFile
 list s = listOf (s .args .p) (s .args .q) (now (s .args .coefs)) (now (s .args .rows)) (s .args .ending)
@@ -69,12 +51,12 @@ pub check-spec : {M : Type 1} → statement M
 check-spec =
     tie.close
     (tie.spec
-    check-requires
-    enum-known-why
-    enum-told
-    check-requires-2
-    enum-known-why-2
-    enum-told-2
+    (λ c κs. search needs)
+    (λ c. search needs)
+    (λ c. search needs)
+    (λ c κs. search needs)
+    (λ c. search needs)
+    (λ c. search needs)
     check-rows-requires
     returns
     returns-2

@@ -4,15 +4,12 @@ use mathlib.Core.Path.{sym, _∙_}
 use denote.Ref.{now}
 use borrow.Author.Needs.{needs}
 use borrow.Author.Tests.{not-true, not-false}
-use Rattle.list_form.specs.Form.{ListFile}
-use Rattle.list_form.specs.Writing.{listInRange}
+use Rattle.list_spec.specs.Form.{ListFile}
+use Rattle.list_spec.specs.Writing.{listInRange}
 use Rattle.list_write.specs.Answer.{listOf}
 use Rattle.list_write.specs.CheckLaws.{out-of-range, wrong-length, all-passed}
 use Rattle.list_write.proofs.checking.check_rows.Statement.{statement}
 use Rattle.list_write.proofs.checking.check_rows.Tie as tie
-
-list-in-range-requires : tie.Need-list-in-range-requires
-list-in-range-requires c κs = search needs
 
 abbrev list : tie.Start → ℕ → ListFile
 list s p = listOf p (s .args .q) (now (s .args .coefs)) (now (s .args .rows)) (s .args .ending)
@@ -22,18 +19,6 @@ unfolding listInRange
 returns c p =
     let s = c .before .before .before in
     out-of-range (list s p) _ (sym (c .before .list-in-range .ensures) ∙ not-true _ (c .if1 .taken))
-
-add-later : tie.Need-add-later
-add-later c = search needs
-
-add-later-2 : tie.Need-add-later-2
-add-later-2 c = search needs
-
-add-if2 : tie.Need-add-if2
-add-if2 c = search needs
-
-mul-if2 : tie.Need-mul-if2
-mul-if2 c = search needs
 
 returns-2 : tie.Need-returns-2
 unfolding listInRange
@@ -51,11 +36,11 @@ pub check-rows-spec : {M : Type 1} → statement M
 check-rows-spec =
     tie.close
     (tie.spec
-    list-in-range-requires
+    (λ c κs. search needs)
     returns
-    add-later
-    add-later-2
-    add-if2
-    mul-if2
+    (λ c. search needs)
+    (λ c. search needs)
+    (λ c. search needs)
+    (λ c. search needs)
     returns-2
     returns-3)

@@ -3,14 +3,11 @@ use mathlib.Core.List.{[]}
 use mathlib.Core.Path.{_∙_}
 use denote.Ref.{now}
 use borrow.Author.Needs.{needs}
-use Rattle.list_form.specs.Form.{ListFile}
+use Rattle.list_spec.specs.Form.{ListFile}
 use Rattle.list_write.specs.Answer.{listOf}
 use Rattle.list_write.specs.CheckLaws.{not-whole, too-many, no-ending, rows-decide}
 use Rattle.list_write.proofs.checking.list_in_range.Statement.{statement}
 use Rattle.list_write.proofs.checking.list_in_range.Tie as tie
-
-rem-if1 : tie.Need-rem-if1
-rem-if1 c = search needs
 
 abbrev list : tie.Start → ListFile
 list s = listOf 0 (s .args .q) [] (now (s .args .rows)) (s .args .ending)
@@ -18,17 +15,11 @@ list s = listOf 0 (s .args .q) [] (now (s .args .rows)) (s .args .ending)
 returns : tie.Need-returns
 returns c = not-whole (list (c .before .before)) (c .if1 .taken)
 
-div-if2 : tie.Need-div-if2
-div-if2 c = search needs
-
 returns-2 : tie.Need-returns-2
 returns-2 c = too-many (list (c .before .before .before)) (c .before .if1 .left) (c .if2 .taken)
 
 returns-3 : tie.Need-returns-3
 returns-3 c = no-ending (list (c .before .before .before .before)) (c .before .before .if1 .left) (c .before .if2 .left) (c .if3 .taken)
-
-rows-in-range-requires : tie.Need-rows-in-range-requires
-rows-in-range-requires c κs = search needs
 
 returns-4 : tie.Need-returns-4
 returns-4 c =
@@ -39,4 +30,4 @@ returns-4 c =
 pub list-in-range-spec : {M : Type 1} → statement M
 list-in-range-spec =
     tie.close
-    (tie.spec rem-if1 returns div-if2 returns-2 returns-3 rows-in-range-requires returns-4)
+    (tie.spec (λ c. search needs) returns (λ c. search needs) returns-2 returns-3 (λ c κs. search needs) returns-4)

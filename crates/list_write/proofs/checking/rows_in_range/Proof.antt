@@ -9,8 +9,8 @@ use denote.Ref.{now}
 use borrow.Author.Needs.{needs}
 use Rattle.linear.specs.Tests.{allTo}
 use Rattle.definitions.specs.System.{mostComponent}
-use Rattle.list_form.specs.Writing.{rowsInRange}
-use Rattle.list_words.specs.RangeLaws.{all-more}
+use Rattle.list_spec.specs.Writing.{rowsInRange}
+use Rattle.list_blocks.specs.RangeLaws.{all-more}
 use Rattle.list_write.proofs.checking.rows_in_range.Statement.{statement}
 use Rattle.list_write.proofs.checking.rows_in_range.Tie as tie
 
@@ -23,21 +23,6 @@ abbrev μ-loop : tie.MeasureT-loop
 loop-holds : tie.Need-loop-holds Inv-loop μ-loop
 unfolding allTo
 loop-holds c = (search needs, refl)
-
-mul-also-within : tie.Need-mul-also-within Inv-loop μ-loop
-mul-also-within c = search needs
-
-shared-slice-read-also-within : tie.Need-shared-slice-read-also-within Inv-loop μ-loop
-shared-slice-read-also-within c = search needs
-
-also-within-requires : tie.Need-also-within-requires Inv-loop μ-loop
-also-within-requires c κs = search needs
-
-add-i : tie.Need-add-i Inv-loop μ-loop
-add-i c = search needs
-
-loop-less : tie.Need-loop-less Inv-loop μ-loop
-loop-less c = search needs
 
 loop-again : tie.Need-loop-again Inv-loop μ-loop
 loop-again c =
@@ -57,10 +42,10 @@ rows-in-range-spec =
     Inv-loop
     μ-loop
     loop-holds
-    mul-also-within
-    shared-slice-read-also-within
-    also-within-requires
-    add-i
-    loop-less
+    (λ c. search needs)
+    (λ c. search needs)
+    (λ c κs. search needs)
+    (λ c. search needs)
+    (λ c. search needs)
     loop-again
     returns)

@@ -6,20 +6,11 @@ use lib.ListN.{length}
 use denote.Ref.{now}
 use mir.Facts.{toZ-ofZ}
 use borrow.Author.Needs.{sfits-of, needs}
-use Rattle.list_form.specs.Form.{ListFile}
-use Rattle.list_laws.specs.ContentLaws.{stream-coef, stream-row, stream-filler}
+use Rattle.list_spec.specs.Form.{ListFile}
+use Rattle.list_spec.specs.ContentLaws.{stream-coef, stream-row, stream-filler}
 use Rattle.list_write.specs.Answer.{listOf}
 use Rattle.list_write.proofs.content.stream_word.Statement.{statement}
 use Rattle.list_write.proofs.content.stream_word.Tie as tie
-
-mul-to-word : tie.Need-mul-to-word
-mul-to-word c = search needs
-
-shared-slice-copy-out-to-word : tie.Need-shared-slice-copy-out-to-word
-shared-slice-copy-out-to-word c = search needs
-
-to-word-requires : tie.Need-to-word-requires
-to-word-requires c κs = search needs
 
 abbrev list : tie.Start → ListFile
 list s = listOf 0 0 (now (s .args .coefs)) (now (s .args .rows)) 0
@@ -28,15 +19,6 @@ returns : tie.Need-returns
 returns c =
     let s = c .before .before .before .before in
     (rw (toZ-ofZ (sfits-of (c .before .to-word-arg .given))) at (c .to-word .ensures)) ∙ sym (stream-coef (list s) (s .args .i) (omega arith))
-
-sub-k : tie.Need-sub-k
-sub-k c = search needs
-
-mul-result : tie.Need-mul-result
-mul-result c = search needs
-
-shared-slice-read-result : tie.Need-shared-slice-read-result
-shared-slice-read-result c = search needs
 
 returns-2 : tie.Need-returns-2
 returns-2 c =
@@ -52,12 +34,12 @@ pub stream-word-spec : {M : Type 1} → statement M
 stream-word-spec =
     tie.close
     (tie.spec
-    mul-to-word
-    shared-slice-copy-out-to-word
-    to-word-requires
+    (λ c. search needs)
+    (λ c. search needs)
+    (λ c κs. search needs)
     returns
-    sub-k
-    mul-result
-    shared-slice-read-result
+    (λ c. search needs)
+    (λ c. search needs)
+    (λ c. search needs)
     returns-2
     returns-3)

@@ -4,9 +4,6 @@ use Rattle.multiples.specs.Taking.{bounded-none, bounded-some}
 use Rattle.multiples.proofs.rows.bounded.Statement.{statement}
 use Rattle.multiples.proofs.rows.bounded.Tie as tie
 
-add-if1 : tie.Need-add-if1
-add-if1 c = search needs
-
 returns : tie.Need-returns
 returns c = bounded-none _ (c .if1 .taken)
 
@@ -14,4 +11,4 @@ returns-2 : tie.Need-returns-2
 returns-2 c = bounded-some _ (c .if1 .left)
 
 pub bounded-spec : {M : Type 1} → statement M
-bounded-spec = tie.close (tie.spec add-if1 returns returns-2)
+bounded-spec = tie.close (tie.spec (λ c. search needs) returns returns-2)

@@ -7,12 +7,6 @@ use Rattle.multiples.proofs.rows.lower.Tie as tie
 returns : tie.Need-returns
 returns c = lower-none _ _ _ (c .if1 .taken)
 
-div-if2 : tie.Need-div-if2
-div-if2 c = search needs
-
-div-result : tie.Need-div-result
-div-result c = search needs
-
 returns-2 : tie.Need-returns-2
 returns-2 c = lower-less _ _ _ (c .before .if1 .left) (c .if2 .taken)
 
@@ -20,4 +14,4 @@ returns-3 : tie.Need-returns-3
 returns-3 c = lower-more _ _ _ (c .before .if1 .left) (c .if2 .left)
 
 pub lower-spec : {M : Type 1} → statement M
-lower-spec = tie.close (tie.spec returns div-if2 div-result returns-2 returns-3)
+lower-spec = tie.close (tie.spec returns (λ c. search needs) (λ c. search needs) returns-2 returns-3)

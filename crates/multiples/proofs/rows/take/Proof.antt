@@ -2,7 +2,7 @@
 use mathlib.Core.Path.{_≡_, refl}
 use Prim.Native.Nat.{_*_, _-_, _≤_}
 use native.Mathlib.Omega.{arith}
-use lib.ListN.{length, length-set}
+use lib.ListN.{length}
 use borrow.Author.Needs.{needs}
 use Rattle.laws.specs.TableLaws.{row-fits}
 use Rattle.multiples.specs.Taking.{Taking, often-goes, taking-first, taking-last, taking-next}
@@ -18,9 +18,6 @@ abbrev μ-loop : tie.MeasureT-loop
 
 loop-holds : tie.Need-loop-holds Inv-loop μ-loop
 loop-holds c = (search needs, refl, refl, taking-first)
-
-sub-i : tie.Need-sub-i Inv-loop μ-loop
-sub-i c = search needs
 
 mul-often : tie.Need-mul-often Inv-loop μ-loop
 mul-often c = let s = c .before .before .before .before .before in omega (arith, row-fits (s .args .q) (c .before .loop .i - 1) (s .args .found) (search needs))
@@ -44,15 +41,6 @@ take-off-requires c κs =
       often-goes (s .args .q) (s .args .list .now) ((l .loop .i - 1) * s .args .q) (l .loop .rest) (c .before .often .ensures),
     )
 
-mul-times : tie.Need-mul-times Inv-loop μ-loop
-mul-times c = search needs
-
-slice-write-times : tie.Need-slice-write-times Inv-loop μ-loop
-slice-write-times c = search needs
-
-loop-less : tie.Need-loop-less Inv-loop μ-loop
-loop-less c = search needs
-
 loop-again : tie.Need-loop-again Inv-loop μ-loop
 loop-again c =
     let t = c .before .before in
@@ -60,12 +48,6 @@ loop-again c =
     let l = o .before .before .before in
     let e = taking-next (o .before .before .loop-test .taken) (l .loop .inv .3) (o .often .ensures) (t .take-off .ensures) in
     (search needs, e .long, e .many, e)
-
-same-length : tie.Need-same-length Inv-loop μ-loop
-same-length c = search needs
-
-same-length-2 : tie.Need-same-length-2 Inv-loop μ-loop
-same-length-2 c = search needs
 
 returns : tie.Need-returns Inv-loop μ-loop
 returns c = let i = c .before .loop .inv in taking-last (omega (arith, c .loop-test .left)) (i .3)
@@ -77,15 +59,15 @@ take-spec =
     Inv-loop
     μ-loop
     loop-holds
-    sub-i
+    (λ c. search needs)
     mul-often
     often-requires
     mul-take-off
     take-off-requires
-    mul-times
-    slice-write-times
-    loop-less
+    (λ c. search needs)
+    (λ c. search needs)
+    (λ c. search needs)
     loop-again
-    same-length
-    same-length-2
+    (λ c. search needs)
+    (λ c. search needs)
     returns)

@@ -18,21 +18,6 @@ abbrev μ-loop : tie.MeasureT-loop
 loop-holds : tie.Need-loop-holds Inv-loop μ-loop
 loop-holds c = (search needs, refl, less-none _ _ _ _)
 
-mul-x : tie.Need-mul-x Inv-loop μ-loop
-mul-x c = search needs
-
-slice-read-x : tie.Need-slice-read-x Inv-loop μ-loop
-slice-read-x c = search needs
-
-add-rest : tie.Need-add-rest Inv-loop μ-loop
-add-rest c = search needs
-
-mul-rest : tie.Need-mul-rest Inv-loop μ-loop
-mul-rest c = search needs
-
-shared-slice-read-rest : tie.Need-shared-slice-read-rest Inv-loop μ-loop
-shared-slice-read-rest c = search needs
-
 mul-rest-2 : tie.Need-mul-rest-2 Inv-loop μ-loop
 mul-rest-2 c =
     let l = c .before .before .before in
@@ -41,23 +26,8 @@ mul-rest-2 c =
 sub-rest : tie.Need-sub-rest Inv-loop μ-loop
 sub-rest c = let l = c .before .before .before in still-goes (c .before .before .loop-test .taken) (l .before .pre .2) (l .loop .inv .2)
 
-mul-rest-3 : tie.Need-mul-rest-3 Inv-loop μ-loop
-mul-rest-3 c = search needs
-
-slice-write-rest : tie.Need-slice-write-rest Inv-loop μ-loop
-slice-write-rest c = search needs
-
-add-j : tie.Need-add-j Inv-loop μ-loop
-add-j c = search needs
-
-loop-less : tie.Need-loop-less Inv-loop μ-loop
-loop-less c = search needs
-
 loop-again : tie.Need-loop-again Inv-loop μ-loop
 loop-again c = let i = c .before .before .before .loop .inv in (search needs, rw length-set (i .1), less-next (search needs) (i .2))
-
-same-length : tie.Need-same-length Inv-loop μ-loop
-same-length c = search needs
 
 returns : tie.Need-returns Inv-loop μ-loop
 returns c = let i = c .before .loop .inv in rw (← le-antisymm (i .0) (c .loop-test .left)) (i .2)
@@ -69,17 +39,17 @@ take-off-spec =
     Inv-loop
     μ-loop
     loop-holds
-    mul-x
-    slice-read-x
-    add-rest
-    mul-rest
-    shared-slice-read-rest
+    (λ c. search needs)
+    (λ c. search needs)
+    (λ c. search needs)
+    (λ c. search needs)
+    (λ c. search needs)
     mul-rest-2
     sub-rest
-    mul-rest-3
-    slice-write-rest
-    add-j
-    loop-less
+    (λ c. search needs)
+    (λ c. search needs)
+    (λ c. search needs)
+    (λ c. search needs)
     loop-again
-    same-length
+    (λ c. search needs)
     returns)

@@ -11,15 +11,6 @@ use Rattle.reasons.specs.Refusals.{counts-off, in-ranges, many-rows, oth
 use Rattle.reasons.proofs.asked.check.Statement.{statement}
 use Rattle.reasons.proofs.asked.check.Tie as tie
 
-check-within-requires : tie.Need-check-within-requires
-check-within-requires c κs = search needs
-
-enum-known-why : tie.Need-enum-known-why
-enum-known-why c = search needs
-
-enum-told : tie.Need-enum-told
-enum-told c = search needs
-
 returns : tie.Need-returns
 returns c =
     let t = c .before in
@@ -39,9 +30,6 @@ returns-2 c =
     let t = f .before in
     many-rows _ _ _ _ _ _ _ (t .before .before .check-within .ensures) (t .enum-told .given .1) (eq-eqb _ _ (f .if1 .left)) (lt-leb _ _ (c .if2 .taken))
 
-ranges-requires : tie.Need-ranges-requires
-ranges-requires c κs = search needs
-
 returns-3 : tie.Need-returns-3
 returns-3 c = counts-off _ _ _ _ _ _ _ (c .before .before .before .check-within .ensures) (c .before .why .given .1)
 
@@ -57,12 +45,12 @@ pub check-spec : {M : Type 1} → statement M
 check-spec =
     tie.close
     (tie.spec
-    check-within-requires
-    enum-known-why
-    enum-told
+    (λ c κs. search needs)
+    (λ c. search needs)
+    (λ c. search needs)
     returns
     div-if2
     returns-2
-    ranges-requires
+    (λ c κs. search needs)
     returns-3
     returns-4)

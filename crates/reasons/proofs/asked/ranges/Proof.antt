@@ -6,18 +6,6 @@ use Rattle.reasons.specs.Refusals.{all-small, coefficient-off, one-large
 use Rattle.reasons.proofs.asked.ranges.Statement.{statement}
 use Rattle.reasons.proofs.asked.ranges.Tie as tie
 
-check-requires : tie.Need-check-requires
-check-requires c κs = search needs
-
-enum-known-why : tie.Need-enum-known-why
-enum-known-why c = search needs
-
-enum-told : tie.Need-enum-told
-enum-told c = search needs
-
-above-limit-requires : tie.Need-above-limit-requires
-above-limit-requires c κs = search needs
-
 returns : tie.Need-returns
 returns c =
     let s = c .before .before .before .before .before .args in
@@ -40,4 +28,4 @@ returns-3 c =
 pub ranges-spec : {M : Type 1} → statement M
 ranges-spec =
     tie.close
-    (tie.spec check-requires enum-known-why enum-told above-limit-requires returns returns-2 returns-3)
+    (tie.spec (λ c κs. search needs) (λ c. search needs) (λ c. search needs) (λ c κs. search needs) returns returns-2 returns-3)

@@ -7,9 +7,6 @@ use Rattle.texts.specs.DecimalLaws.{digits-64}
 use Rattle.report.proofs.lines.counted.Statement.{statement}
 use Rattle.report.proofs.lines.counted.Tie as tie
 
-word-requires : tie.Need-word-requires
-word-requires c κs = search needs
-
 number-requires : tie.Need-number-requires
 number-requires c κs =
     let w = c .before .before .before in
@@ -30,9 +27,6 @@ byte-requires c κs =
       digits-64 (s .args .n) (s .fits .n .fits),
     )
 
-same-length : tie.Need-same-length
-same-length c = search needs
-
 returns : tie.Need-returns
 unfolding paper.counted
 returns c =
@@ -45,4 +39,4 @@ returns c =
     )
 
 pub counted-spec : {M : Type 1} → statement M
-counted-spec = tie.close (tie.spec word-requires number-requires byte-requires same-length returns)
+counted-spec = tie.close (tie.spec (λ c κs. search needs) number-requires byte-requires (λ c. search needs) returns)

@@ -10,17 +10,11 @@ use Rattle.report.proofs.lines.field.Tie as tie
 number-requires : tie.Need-number-requires
 number-requires c κs = let s = c .before .before in omega (arith, digits-32 (s .args .n) (s .fits .n .fits))
 
-separator-after-requires : tie.Need-separator-after-requires
-separator-after-requires c κs = search needs
-
 byte-requires : tie.Need-byte-requires
 byte-requires c κs =
     let n = c .before .before .before .before in
     let s = n .before .before .before in
     omega (arith, n .number .ensures .place, n .number .ensures .same, digits-32 (s .args .n) (s .fits .n .fits))
-
-same-length : tie.Need-same-length
-same-length c = search needs
 
 returns : tie.Need-returns
 unfolding fieldText
@@ -33,4 +27,4 @@ returns c =
     )
 
 pub field-spec : {M : Type 1} → statement M
-field-spec = tie.close (tie.spec number-requires separator-after-requires byte-requires same-length returns)
+field-spec = tie.close (tie.spec number-requires (λ c κs. search needs) byte-requires (λ c. search needs) returns)

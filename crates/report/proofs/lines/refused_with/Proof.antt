@@ -6,12 +6,6 @@ use Rattle.texts.specs.DecimalLaws.{digits-64}
 use Rattle.report.proofs.lines.refused_with.Statement.{statement}
 use Rattle.report.proofs.lines.refused_with.Tie as tie
 
-slice-aggregate-word : tie.Need-slice-aggregate-word
-slice-aggregate-word c = search needs
-
-word-requires : tie.Need-word-requires
-word-requires c κs = search needs
-
 number-requires : tie.Need-number-requires
 number-requires c κs =
     let w = c .before .before .before in
@@ -32,9 +26,6 @@ counted-requires c κs =
       digits-64 (s .args .n) (s .fits .n .fits),
     )
 
-same-length : tie.Need-same-length
-same-length c = search needs
-
 returns : tie.Need-returns
 returns c =
     let k = c .before .before in
@@ -46,9 +37,9 @@ pub refused-with-spec : {M : Type 1} → statement M
 refused-with-spec =
     tie.close
     (tie.spec
-    slice-aggregate-word
-    word-requires
+    (λ c. search needs)
+    (λ c κs. search needs)
     number-requires
     counted-requires
-    same-length
+    (λ c. search needs)
     returns)

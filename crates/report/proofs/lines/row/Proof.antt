@@ -6,7 +6,7 @@ use borrow.Author.Needs.{needs}
 use lib.IntN.{pos}
 use lib.ListN.{length, drop}
 use Rattle.texts.specs.Put.{Rest, rest-begins, rest-next, rest-ends}
-use Rattle.map_form.specs.Form.{line}
+use Rattle.map_spec.specs.Form.{line}
 use Rattle.report.specs.Rows.{row-next, row-done}
 use Rattle.report.proofs.lines.row.Statement.{statement}
 use Rattle.report.proofs.lines.row.Tie as tie
@@ -21,24 +21,6 @@ abbrev μ-loop : tie.MeasureT-loop
 loop-holds : tie.Need-loop-holds Inv-loop μ-loop
 loop-holds c = (search needs, search needs, rest-begins _ _ _)
 
-mul-n : tie.Need-mul-n Inv-loop μ-loop
-mul-n c = search needs
-
-shared-slice-read-n : tie.Need-shared-slice-read-n Inv-loop μ-loop
-shared-slice-read-n c = search needs
-
-add-i : tie.Need-add-i Inv-loop μ-loop
-add-i c = search needs
-
-sub-field : tie.Need-sub-field Inv-loop μ-loop
-sub-field c = search needs
-
-field-requires : tie.Need-field-requires Inv-loop μ-loop
-field-requires c κs = search needs
-
-loop-less : tie.Need-loop-less Inv-loop μ-loop
-loop-less c = search needs
-
 loop-again : tie.Need-loop-again Inv-loop μ-loop
 loop-again c =
     let f = c .before .before in
@@ -48,9 +30,6 @@ loop-again c =
       omega (arith, f .field .ensures .1),
       rest-next (rw (row-next (a .numbers .now) (l .loop .i) (search needs)) at (l .loop .inv .2)) (f .field .ensures .0),
     )
-
-same-length : tie.Need-same-length Inv-loop μ-loop
-same-length c = search needs
 
 returns : tie.Need-returns Inv-loop μ-loop
 returns c =
@@ -64,12 +43,12 @@ row-spec =
     Inv-loop
     μ-loop
     loop-holds
-    mul-n
-    shared-slice-read-n
-    add-i
-    sub-field
-    field-requires
-    loop-less
+    (λ c. search needs)
+    (λ c. search needs)
+    (λ c. search needs)
+    (λ c. search needs)
+    (λ c κs. search needs)
+    (λ c. search needs)
     loop-again
-    same-length
+    (λ c. search needs)
     returns)

@@ -8,7 +8,7 @@ use lib.IntN.{pos}
 use lib.ListN.{drop}
 use Rattle.laws.specs.TableLaws.{row-fits}
 use Rattle.texts.specs.Put.{Rest, rest-begins, rest-next, rest-ends}
-use Rattle.map_form.specs.Form.{lines}
+use Rattle.map_spec.specs.Form.{lines}
 use Rattle.report.specs.Rows.{part-size, rows-next, rows-done}
 use Rattle.report.proofs.lines.rows.Statement.{statement}
 use Rattle.report.proofs.lines.rows.Tie as tie
@@ -54,12 +54,6 @@ row-requires c κs =
       part-size (a .list .now) (a .q) (a .found) (l .loop .k) (c .before .before .loop-test .taken) (search needs),
     )
 
-add-k : tie.Need-add-k Inv-loop μ-loop
-add-k c = search needs
-
-loop-less : tie.Need-loop-less Inv-loop μ-loop
-loop-less c = search needs
-
 loop-again : tie.Need-loop-again Inv-loop μ-loop
 loop-again c =
     let r = c .before .before in
@@ -69,9 +63,6 @@ loop-again c =
       omega (arith, r .row .ensures .1, part-size (a .list .now) (a .q) (a .found) (l .loop .k) (search needs) (search needs)),
       rest-next (rw (rows-next (a .list .now) (a .q) (a .found) (l .loop .k) (search needs)) at (l .loop .inv .2)) (r .row .ensures .0),
     )
-
-same-length : tie.Need-same-length Inv-loop μ-loop
-same-length c = search needs
 
 returns : tie.Need-returns Inv-loop μ-loop
 returns c =
@@ -95,8 +86,8 @@ rows-spec =
     part-row-start
     part-row-end
     row-requires
-    add-k
-    loop-less
+    (λ c. search needs)
+    (λ c. search needs)
     loop-again
-    same-length
+    (λ c. search needs)
     returns)

@@ -15,11 +15,8 @@ others (suc k) (suc d) l h = omega arith
 sub-result : tie.Need-sub-result
 sub-result c = omega (arith, c .before .pre .some)
 
-returns : tie.Need-returns
-returns c = search needs
-
 returns-2 : tie.Need-returns-2
 returns-2 c = others _ _ (c .before .pre .some) (c .if1 .left)
 
 pub may-follow-spec : {M : Type 1} → statement M
-may-follow-spec = tie.close (tie.spec sub-result returns returns-2)
+may-follow-spec = tie.close (tie.spec sub-result (λ c. search needs) returns-2)

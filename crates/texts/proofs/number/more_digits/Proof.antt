@@ -29,12 +29,6 @@ returns c =
     let l = c .before .before .loop in
     more-end _ (l .next) (l .value) (l .left) (c .if1 .taken) ∙ l .inv .1
 
-shared-slice-read-byte : tie.Need-shared-slice-read-byte Inv-loop μ-loop
-shared-slice-read-byte c = search needs
-
-is-digit-requires : tie.Need-is-digit-requires Inv-loop μ-loop
-is-digit-requires c κs = search needs
-
 returns-2 : tie.Need-returns-2 Inv-loop μ-loop
 returns-2 c =
     let e = c .before .before .before in
@@ -74,15 +68,6 @@ cast-value c = omega (arith, size c)
 add-value : tie.Need-add-value Inv-loop μ-loop
 add-value c = omega (arith, size c, below c)
 
-add-next : tie.Need-add-next Inv-loop μ-loop
-add-next c = search needs
-
-sub-left : tie.Need-sub-left Inv-loop μ-loop
-sub-left c = search needs
-
-loop-less : tie.Need-loop-less Inv-loop μ-loop
-loop-less c = search needs
-
 loop-again : tie.Need-loop-again Inv-loop μ-loop
 loop-again c =
     let e = c .before .before .before in
@@ -105,15 +90,15 @@ more-digits-spec =
     μ-loop
     loop-holds
     returns
-    shared-slice-read-byte
-    is-digit-requires
+    (λ c. search needs)
+    (λ c κs. search needs)
     returns-2
     mul-value
     sub-value
     cast-value
     add-value
-    add-next
-    sub-left
-    loop-less
+    (λ c. search needs)
+    (λ c. search needs)
+    (λ c. search needs)
     loop-again
     returns-3)

@@ -15,12 +15,6 @@ use Rattle.texts.proofs.number.read_natural.Tie as tie
 returns : tie.Need-returns
 returns c = natural-end _ _ _ (c .if1 .taken)
 
-shared-slice-read-byte : tie.Need-shared-slice-read-byte
-shared-slice-read-byte c = search needs
-
-is-digit-requires : tie.Need-is-digit-requires
-is-digit-requires c κs = search needs
-
 returns-2 : tie.Need-returns-2
 returns-2 c = natural-stop _ _ _ (c .before .before .before .if1 .left) (sym (c .before .is-digit .ensures) ∙ not-true _ (c .if2 .taken))
 
@@ -38,12 +32,6 @@ sub-first c = digit-range _ (is-one c) .0
 cast-first : tie.Need-cast-first
 cast-first c = omega (arith, size c)
 
-add-more-digits : tie.Need-add-more-digits
-add-more-digits c = search needs
-
-may-follow-requires : tie.Need-may-follow-requires
-may-follow-requires c κs = search needs
-
 more-digits-requires : tie.Need-more-digits-requires
 more-digits-requires c κs =
     let d = c .before in
@@ -60,12 +48,12 @@ read-natural-spec =
     tie.close
     (tie.spec
     returns
-    shared-slice-read-byte
-    is-digit-requires
+    (λ c. search needs)
+    (λ c κs. search needs)
     returns-2
     sub-first
     cast-first
-    add-more-digits
-    may-follow-requires
+    (λ c. search needs)
+    (λ c κs. search needs)
     more-digits-requires
     returns-3)

@@ -10,15 +10,6 @@ use Rattle.texts.specs.SignLaws.{fits-word, word-value, fits-negated, ne
 use Rattle.texts.proofs.number.read_negative.Statement.{statement}
 use Rattle.texts.proofs.number.read_negative.Tie as tie
 
-read-natural-requires : tie.Need-read-natural-requires
-read-natural-requires c κs = search needs
-
-enum-told : tie.Need-enum-told
-enum-told c = search needs
-
-enum-known-value : tie.Need-enum-known-value
-enum-known-value c = search needs
-
 small : (c : tie.After-value) → c .value .given .0 .0 < 1000000000
 small c = natural-small _ (c .before .before .before .before .pre) (sym (rw (c .value .given .1) at (c .before .before .read-natural .ensures)))
 
@@ -48,9 +39,9 @@ pub read-negative-spec : {M : Type 1} → statement M
 read-negative-spec =
     tie.close
     (tie.spec
-    read-natural-requires
-    enum-told
-    enum-known-value
+    (λ c κs. search needs)
+    (λ c. search needs)
+    (λ c. search needs)
     cast-t10
     sub-t11
     returns

@@ -12,26 +12,8 @@ use Rattle.texts.proofs.number.read_number.Tie as tie
 returns : tie.Need-returns
 returns c = number-end _ _ _ (c .if1 .taken)
 
-shared-slice-read-if2 : tie.Need-shared-slice-read-if2
-shared-slice-read-if2 c = search needs
-
-add-read-negative : tie.Need-add-read-negative
-add-read-negative c = search needs
-
-read-negative-requires : tie.Need-read-negative-requires
-read-negative-requires c κs = search needs
-
 returns-2 : tie.Need-returns-2
 returns-2 c = c .read-negative .ensures ∙ number-minus _ _ _ (c .before .before .before .if1 .left) (c .before .if2 .taken)
-
-read-natural-requires : tie.Need-read-natural-requires
-read-natural-requires c κs = search needs
-
-enum-told : tie.Need-enum-told
-enum-told c = search needs
-
-enum-known-value : tie.Need-enum-known-value
-enum-known-value c = search needs
 
 small : (c : tie.After-value) → c .value .given .0 .0 < 1000000000
 small c =
@@ -60,13 +42,13 @@ read-number-spec =
     tie.close
     (tie.spec
     returns
-    shared-slice-read-if2
-    add-read-negative
-    read-negative-requires
+    (λ c. search needs)
+    (λ c. search needs)
+    (λ c κs. search needs)
     returns-2
-    read-natural-requires
-    enum-told
-    enum-known-value
+    (λ c κs. search needs)
+    (λ c. search needs)
+    (λ c. search needs)
     cast-t13
     returns-3
     returns-4)

@@ -16,9 +16,6 @@ byte-requires c κs =
     let s = f .before .before in
     omega (arith, ap length (numeral-negative (s .args .z) (rw (toZ-ofZ (s .fits .z)) at (f .if1 .taken))), s .pre .1)
 
-size-requires : tie.Need-size-requires
-size-requires c κs = search needs
-
 number-requires : tie.Need-number-requires
 number-requires c κs =
     let b = c .before .before .before .before in
@@ -34,9 +31,6 @@ number-requires c κs =
       s .pre .1,
     ))
 
-same-length : tie.Need-same-length
-same-length c = search needs
-
 returns : tie.Need-returns
 returns c =
     let n = c .before .before in
@@ -47,18 +41,12 @@ returns c =
     let e = z .size .ensures ∙ ap natAbs (toZ-ofZ (s .fits .z)) in
     rw (numeral-negative (s .args .z) (rw (toZ-ofZ (s .fits .z)) at (f .if1 .taken))) (put-then (b .byte .ensures) (rw e at (n .number .ensures)))
 
-size-requires-2 : tie.Need-size-requires-2
-size-requires-2 c κs = search needs
-
 number-requires-2 : tie.Need-number-requires-2
 number-requires-2 c κs =
     let f = c .before .before in
     let s = f .before .before in
     let e = c .size2 .ensures ∙ ap natAbs (toZ-ofZ (s .fits .z)) in
     rw e (omega (arith, ap length (numeral-natural (s .args .z) (rw (toZ-ofZ (s .fits .z)) at (f .if1 .left))), s .pre .1))
-
-same-length-2 : tie.Need-same-length-2
-same-length-2 c = search needs
 
 returns-2 : tie.Need-returns-2
 returns-2 c =
@@ -74,11 +62,11 @@ signed-spec =
     tie.close
     (tie.spec
     byte-requires
-    size-requires
+    (λ c κs. search needs)
     number-requires
-    same-length
+    (λ c. search needs)
     returns
-    size-requires-2
+    (λ c κs. search needs)
     number-requires-2
-    same-length-2
+    (λ c. search needs)
     returns-2)

@@ -30,8 +30,5 @@ cast-result-2 : tie.Need-cast-result-2
 cast-result-2 c = let s = c .before in
     rw (toZ-ofZ (s .fits .z)) (size-other (s .args .z) (rw (toZ-ofZ (s .fits .z)) at (c .if1 .left)), record { fits = omega (arith, s .pre) })
 
-returns-2 : tie.Need-returns-2
-returns-2 c = search needs
-
 pub size-spec : {M : Type 1} → statement M
-size-spec = tie.close (tie.spec sub-result cast-result returns cast-result-2 returns-2)
+size-spec = tie.close (tie.spec sub-result cast-result returns cast-result-2 (λ c. search needs))

@@ -1,0 +1,14 @@
+-- `answer_codes::coded` meets its contract. Assumes nothing.
+use borrow.Author.Needs.{needs}
+use Rattle.c_answers.specs.CodeLaws.{code-small, code-large}
+use Rattle.c_answers.proofs.coded.Statement.{statement}
+use Rattle.c_answers.proofs.coded.Tie as tie
+
+returns : tie.Need-returns
+returns c = code-small _ _ (c .if1 .taken)
+
+returns-2 : tie.Need-returns-2
+returns-2 c = code-large _ _ (c .if1 .left)
+
+pub coded-spec : {M : Type 1} → statement M
+coded-spec = tie.close (tie.spec (λ c. search needs) (λ c. search needs) returns (λ c. search needs) returns-2)

@@ -1,0 +1,60 @@
+// The plain start and the continuing call on a record of words, with an answer that is one number.
+ghost use mathlib.Core.Path.{_≡_};
+ghost use mathlib.Core.Logic.{_≢_};
+ghost use lib.ListN.{length};
+ghost use Rattle.definitions.specs.Input.{inputOf};
+ghost use Rattle.c_record.specs.Words.{told, startWords, resumeWords};
+use c_record::tell;
+use c_record::words;
+use calls::Check;
+
+// The plain start.
+pub fn start(
+    p: usize,
+    q: usize,
+    coefs: &[i32],
+    stack: &mut [u32],
+    list: &mut [u32],
+    run: &mut [u64],
+) -> u64
+    ensures { λ a. ⌜ (a, (now (stack .exit), (now (list .exit), now (run .exit)))) ≡
+        told (now (run .entry)) (startWords (now (run .entry)) (inputOf p q (now (coefs .entry))) (now (stack .entry)) (now (list .entry))) ⌝ }
+{
+    if run.len() == 7 {
+        let r = words::read(run);
+        let o = starts::started(p, q, coefs, stack, list, r);
+        return tell(o, run);
+    }
+    misfit(p, q, coefs, stack, list, run)
+}
+
+// The continuing call.
+pub fn resume(
+    p: usize,
+    q: usize,
+    coefs: &[i32],
+    stack: &mut [u32],
+    list: &mut [u32],
+    run: &mut [u64],
+    budget: u64,
+) -> u64
+    ensures { λ a. ⌜ (a, (now (stack .exit), (now (list .exit), now (run .exit)))) ≡
+        told (now (run .entry)) (resumeWords budget (now (run .entry)) (inputOf p q (now (coefs .entry))) (now (stack .entry)) (now (list .entry))) ⌝ }
+{
+    let r = words::read(run);
+    let o = walk::resumed(p, q, coefs, stack, list, r, budget, calls::COMPONENT_LIMIT);
+    tell(o, run)
+}
+
+// What a start is told whose words are no record: a continuing call's refusal. Nothing is written.
+pub fn misfit(p: usize, q: usize, coefs: &[i32], stack: &[u32], list: &[u32], run: &[u64]) -> u64
+    requires { ⌜ length (now run) ≢ 7 ⌝ }
+    ensures { λ a. ⌜ (a, (now (stack .entry), (now (list .entry), now (run .entry)))) ≡
+        told (now (run .entry)) (resumeWords 0 (now (run .entry)) (inputOf p q (now (coefs .entry))) (now (stack .entry)) (now (list .entry))) ⌝ }
+{
+    let r = words::read(run);
+    match checks::check_resume(p, q, coefs, stack, list, r, calls::COMPONENT_LIMIT) {
+        Check::Refuse(why) => c_record::answers::refusal(why),
+        Check::Pass => 6,
+    }
+}

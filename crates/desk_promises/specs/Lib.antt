@@ -1,9 +1,0 @@
-pub mod Sweeping
-pub mod Second
-pub mod Groups
-pub mod Walk
-pub mod Runs
-pub mod Frames
-pub mod First
-pub mod Promises
-pub mod Examples

@@ -1,0 +1,44 @@
+// The calls of the second of two desks as an editor uses them: the caller's own run record is advanced through a reference, over the calls by value.
+ghost use mathlib.Core.Path.{_≡_};
+ghost use Rattle.desk_spec.specs.Desks.{deskBegin, deskResume};
+ghost use Rattle.calls.specs.Paper.{stateOf};
+ghost use Rattle.desk_calls.specs.Calls.{deskOf, leaves, outcomeOf};
+use calls::Record;
+use desk_calls::Answer;
+
+// The start.
+pub fn start(
+    p: usize,
+    q: usize,
+    coefs: &[i32],
+    generators: &[u32],
+    stack: &mut [u32],
+    list: &[u32],
+    r: &mut Record,
+) -> Answer
+    ensures { λ a. ⌜ outcomeOf (leaves a (now (r .exit))) (now (stack .exit)) (now (list .entry)) ≡
+        deskBegin (deskOf p q (now (coefs .entry)) (now (generators .entry))) (stateOf (now (stack .entry)) (now (list .entry)) (now (r .entry))) ⌝ }
+{
+    let o = desk::start(p, q, coefs, generators, stack, list, *r);
+    *r = o.run;
+    o.answer
+}
+
+// The continuing call: at most `budget` steps.
+pub fn resume(
+    p: usize,
+    q: usize,
+    coefs: &[i32],
+    generators: &[u32],
+    stack: &mut [u32],
+    list: &mut [u32],
+    r: &mut Record,
+    budget: u64,
+) -> Answer
+    ensures { λ a. ⌜ outcomeOf (leaves a (now (r .exit))) (now (stack .exit)) (now (list .exit)) ≡
+        deskResume budget (deskOf p q (now (coefs .entry)) (now (generators .entry))) (stateOf (now (stack .entry)) (now (list .entry)) (now (r .entry))) ⌝ }
+{
+    let o = desk::resume(p, q, coefs, generators, stack, list, *r, budget);
+    *r = o.run;
+    o.answer
+}

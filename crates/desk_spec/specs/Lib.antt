@@ -1,0 +1,17 @@
+pub mod Records
+pub mod Desks
+pub mod Examples
+pub mod Rules
+pub mod Rows
+pub mod Words
+pub mod Valid
+pub mod Bounds
+pub mod Sweeping
+pub mod Second
+pub mod Groups
+pub mod Walk
+pub mod Runs
+pub mod Frames
+pub mod First
+pub mod Promises
+pub mod PromiseExamples

@@ -1,4 +1,0 @@
-pub mod Promises
-pub mod CallRules
-pub mod Rules
-pub mod Questions

@@ -1,1 +1,0 @@
-// The promises of the engine: open specs/Promises.antt first. No code.

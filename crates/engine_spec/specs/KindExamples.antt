@@ -1,0 +1,200 @@
+-- Right sides, lower bounds and starts from a list, computed from the start to what is handed out. Assumes nothing.
+use mathlib.Core.Path.{_≡_, refl}
+use mathlib.Core.List.{List, _∷_, []}
+use Prim.Native.Nat.{ℕ, suc, _*_}
+use lib.IntN.{ℤ, pos, negsuc}
+use lib.ListN.{getD, replicate, take}
+use Rattle.linear.specs.Sums.{sumTo}
+use Rattle.linear.specs.Systems.{inner, value}
+use Rattle.linear.specs.Tests.{allTo, anyTo, countTo}
+use Rattle.linear.specs.Tuples.{total, unit}
+use Rattle.definitions.specs.Answers.{Answer, _then_, complete, refuseFirst, refuseWith, refused}
+use Rattle.definitions.specs.System.{extendTo, isAtOrBelow}
+use Rattle.definitions.specs.Tables.{bit, frozen, writeTo}
+use Rattle.laws.specs.Pack.{packTo}
+use Rattle.engine_spec.specs.Calls as engine
+use Rattle.engine_spec.specs.Calls.{
+  checked,
+  coefficientsSmall,
+  inOrder,
+  isAlone,
+  isFree,
+  isFresh,
+  isLeft,
+  isList,
+  isRising,
+  isRow,
+  marksInOrder,
+  resume,
+  resumeChecks,
+  start,
+  startChecks,
+  startFrom,
+  startFromChecks,
+  takeChecks,
+}
+use Rattle.engine_spec.specs.Engine.{
+  Result,
+  Work,
+  after,
+  allDone,
+  begun,
+  begunFrom,
+  fillTo,
+  finish,
+  finished,
+  onward,
+  rested,
+  run,
+  taken,
+  takenFresh,
+  valuesSmall,
+}
+use Rattle.engine_spec.specs.Fresh.{putAt}
+use Rattle.engine_spec.specs.Reduction.{isSmall, isWithin, reducible}
+use Rattle.engine_spec.specs.Search.{firstFrom, leastTo, lesser}
+use Rattle.engine_spec.specs.Stage.{
+  begin,
+  degreeTurn,
+  grown,
+  isDue,
+  isPair,
+  nextDegree,
+  pairDegree,
+  pairTurn,
+  paired,
+  passed,
+  raised,
+  rowTurn,
+  turn,
+}
+use Rattle.engine_spec.specs.Sides.{handed, handedCount, lessTo}
+
+-- tables of 9s, with room for 16 rows of q + 1 numbers
+abbrev lent : ℕ → Work
+lent q =
+    record {
+      equations = replicate 6 (pos 9);
+      basis = replicate (16 * suc q) 9;
+      count = 9;
+      done = 9;
+      equation = 9;
+      fresh = 9;
+      stage = begin (replicate (16 * suc q) 9) 9;
+    }
+
+-- one equation in q unknowns besides the extra one: the start, the stage of the equation, and turns to its end
+abbrev ran : (q : ℕ) → List ℤ → Result
+ran q coefs = resume 1 (suc q) 16 16 100 (engine.take 1 (suc q) 16 16 0 (suc q) (start 1 (suc q) coefs 16 (lent q) .work) .work)
+
+pub record Shown : Type 0 where
+  pub answer : Answer
+  pub rows : List ℕ
+
+-- the answer, and the rows with c in the first unknown, with the bound added
+abbrev shown : (c q : ℕ) (lower : ℕ → ℕ) → Result → Shown
+shown c q lower o =
+    let w = o .work in
+    record {
+      answer = o .answer;
+      rows = take (handedCount c q (w .basis) (w .count) * q) (handed c q lower (w .basis) (w .count) (replicate (16 * q) 9));
+    }
+
+abbrev sees : List ℕ → Shown
+sees rows = record { answer = complete; rows = rows }
+
+abbrev none : ℕ → ℕ
+none j = 0
+
+abbrev two : ℕ → ℕ
+two j = getD (2 ∷ 0 ∷ []) j 0
+
+-- x = 2 y, and x = 2 y + 3
+abbrev double : List ℤ
+double = pos 1 ∷ negsuc 1 ∷ []
+
+pub record Kinds : Type 0 where
+  pub loops : shown 0 2 none (ran 2 (extendTo 1 2 double (pos 3 ∷ []))) ≡ sees (2 ∷ 1 ∷ [])
+  pub meeting : shown 1 2 none (ran 2 (extendTo 1 2 double (pos 3 ∷ []))) ≡ sees (3 ∷ 0 ∷ [])
+  -- 2 x = 3: no tuple meets it; the row (2, 3) of the extended system is handed out nowhere
+  pub without : shown 1 1 none (ran 1 (extendTo 1 1 (pos 2 ∷ []) (pos 3 ∷ []))) ≡ sees []
+  pub left-out : take 2 (ran 1 (extendTo 1 1 (pos 2 ∷ []) (pos 3 ∷ [])) .work .basis) ≡ 2 ∷ 3 ∷ []
+  -- "zero if all of them are zero"
+  pub zeros : shown 1 2 none (ran 2 (extendTo 1 2 double (pos 0 ∷ []))) ≡ sees (0 ∷ 0 ∷ [])
+  -- 3 x = 2 y with x at least 2; x + y = 0 with x at least 2
+  pub bound : shown 1 2 two (ran 2 (extendTo 1 2 (pos 3 ∷ negsuc 1 ∷ []) (lessTo 1 2 (pos 3 ∷ negsuc 1 ∷ []) [] two))) ≡ sees (2 ∷ 3 ∷ [])
+  pub nothing-above : shown 1 2 two (ran 2 (extendTo 1 2 (pos 1 ∷ pos 1 ∷ []) (lessTo 1 2 (pos 1 ∷ pos 1 ∷ []) [] two))) ≡ sees []
+
+kinds : Kinds
+unfolding start engine.take resume checked startChecks takeChecks resumeChecks begun taken run after finish finished rested allDone valuesSmall onward fillTo
+    inOrder marksInOrder coefficientsSmall isRow isRising isLeft refuseFirst refuseWith _then_ packTo extendTo lessTo turn rowTurn pairTurn degreeTurn
+    paired grown passed raised isPair isDue pairDegree nextDegree firstFrom lesser leastTo isWithin reducible isSmall isAtOrBelow value inner sumTo allTo
+    anyTo countTo total unit writeTo frozen bit
+kinds =
+    record { loops = refl; meeting = refl; without = refl; left-out = refl; zeros = refl; bound = refl; nothing-above = refl }
+
+-- ---- from a list
+
+-- one further equation in three unknowns from a list of n rows, with the fresh unknown f or none where f is 3
+abbrev begins : List ℤ → ℕ → List ℕ → Result
+begins coefs n rows = startFrom 1 3 coefs n rows 16 (lent 2)
+
+abbrev takes : List ℤ → ℕ → List ℕ → ℕ → Result
+takes coefs n rows f = engine.take 1 3 16 16 0 f (begins coefs n rows .work)
+
+abbrev listed : List ℤ → ℕ → List ℕ → ℕ → Shown
+listed coefs n rows f =
+    let o = resume 1 3 16 16 100 (takes coefs n rows f .work) in
+    record { answer = o .answer; rows = take (o .work .count * 3) (o .work .basis) }
+
+-- x = y, and its list in the unknowns x, y, z; x + y = 2 z, and its list
+abbrev same : List ℤ
+same = pos 1 ∷ negsuc 0 ∷ pos 0 ∷ []
+
+abbrev sameList : List ℕ
+sameList = 1 ∷ 1 ∷ 0 ∷ 0 ∷ 0 ∷ 1 ∷ []
+
+abbrev halfList : List ℕ
+halfList = 2 ∷ 0 ∷ 1 ∷ 1 ∷ 1 ∷ 1 ∷ 0 ∷ 2 ∷ 1 ∷ []
+
+-- x = z
+abbrev ends : List ℤ
+ends = pos 1 ∷ pos 0 ∷ negsuc 0 ∷ []
+
+pub record Lists : Type 0 where
+  pub both : listed same 3 halfList 3 ≡ sees (1 ∷ 1 ∷ 1 ∷ [])
+  pub other-way : listed (pos 1 ∷ pos 1 ∷ negsuc 1 ∷ []) 2 sameList 3 ≡ sees (1 ∷ 1 ∷ 1 ∷ [])
+  -- z is fresh in x = z where of the list only its unit tuple has it, and refused where it is not: rows would be lost
+  pub fresh : listed ends 2 sameList 2 ≡ sees (1 ∷ 1 ∷ 1 ∷ [])
+  pub not-fresh : takes ends 3 halfList 2 .answer ≡ refused 33 []
+  pub nowhere : takes ends 1 (1 ∷ 1 ∷ 0 ∷ []) 2 .answer ≡ refused 33 []
+  -- a list without rows is the whole list of equations with no solution but 0
+  pub none-left : listed same 0 [] 3 ≡ sees []
+  -- the list: rows that are not all zero, of so many numbers, and room for them
+  pub zero-row : begins same 2 (1 ∷ 1 ∷ 0 ∷ 0 ∷ 0 ∷ 0 ∷ []) .answer ≡ refused 6 []
+  pub large : begins same 1 (1000001 ∷ 1 ∷ 0 ∷ []) .answer ≡ refused 6 []
+  pub cut : begins same 2 (1 ∷ 1 ∷ 0 ∷ 0 ∷ 0 ∷ []) .answer ≡ refused 6 []
+  pub many : begins same 17 [] .answer ≡ refused 4 []
+  pub first-of-two : begins (pos 10001 ∷ pos 0 ∷ pos 0 ∷ []) 1 (0 ∷ 0 ∷ 0 ∷ []) .answer ≡ refused 6 []
+  pub range : begins (pos 0 ∷ pos 10001 ∷ pos 0 ∷ []) 2 sameList .answer ≡ refused 7 (2 ∷ [])
+
+lists : Lists
+unfolding startFrom engine.take resume checked startFromChecks takeChecks resumeChecks begunFrom taken takenFresh run after finish finished rested allDone
+    valuesSmall onward fillTo inOrder marksInOrder coefficientsSmall isRow isRising isLeft isList isFresh isFree isAlone refuseFirst refuseWith _then_
+    packTo turn rowTurn pairTurn degreeTurn paired grown passed raised isPair isDue pairDegree nextDegree firstFrom lesser leastTo isWithin reducible
+    isSmall isAtOrBelow value inner sumTo allTo anyTo countTo total unit writeTo frozen bit putAt
+lists =
+    record {
+      both = refl;
+      other-way = refl;
+      fresh = refl;
+      not-fresh = refl;
+      nowhere = refl;
+      none-left = refl;
+      zero-row = refl;
+      large = refl;
+      cut = refl;
+      many = refl;
+      first-of-two = refl;
+      range = refl;
+    }

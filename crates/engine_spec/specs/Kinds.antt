@@ -1,0 +1,280 @@
+-- The promises of the engine for every kind of map: right sides, lower bounds, and one group of equations after the other. Open this file after Promises.antt.
+-- They hold of every run that nobody else alters, on a system made from the map as Sides.antt has it; what is handed out of its list is defined there too.
+-- Groups.antt has the user's first sentence: however a list was made, it is the same. Assumes nothing.
+use mathlib.Core.Path.{_≡_, refl, sym, _∙_}
+use mathlib.Core.List.{List, [], _++_}
+use Prim.Native.Nat.{ℕ, zero, suc, _+_, _*_, _-_, _≤_, _<_}
+use native.Mathlib.Nat.{le-div-iff-mul-le, mul-le-mul-right}
+use native.Mathlib.Omega.{arith}
+use lib.IntN.{ℤ, pos, negℤ, _+ℤ_}
+use lib.ListN.{getD, length, take}
+use Rattle.linear.specs.Combinations.{Enumerates, minimal-below, solution-same}
+use Rattle.linear.specs.RightSides.{Extends}
+use Rattle.linear.specs.SystemLaws.{value-same}
+use Rattle.linear.specs.Systems.{Meets, Solution, SolutionIn, value}
+use Rattle.linear.specs.Tuples.{AtOrBelow, Minimal, Nonzero, Same, put, rest, total}
+use Rattle.definitions.specs.Answers.{complete, go}
+use Rattle.definitions.specs.Input.{inputOf}
+use Rattle.definitions.specs.System.{MinimalFrom, MinimalMeeting, MinimalSolution, extendTo}
+use Rattle.definitions.specs.Tables.{at}
+use Rattle.laws.specs.Extended.{extends}
+use Rattle.theorems.specs.Held.{zero-sides}
+use Rattle.theorems.specs.Listed.{Exactly, only-one}
+use Rattle.linear.specs.Loops.{Loop}
+use Rattle.desk_spec.specs.Desks.{Desk}
+use Rattle.desk_spec.specs.Groups.{groups-joined}
+use Rattle.desk_spec.specs.Second.{both-whole, whole-first, whole-second}
+use Rattle.engine_spec.specs.Base.{Base, before-solved, behind-solved, both-solved, enumerates-as, onTop}
+use Rattle.engine_spec.specs.Calls.{resume, resumeChecks}
+use Rattle.engine_spec.specs.Done.{among}
+use Rattle.engine_spec.specs.Engine.{Work, basisRow, system, systemOf}
+use Rattle.engine_spec.specs.Own.{own-calls, runs-shape}
+use Rattle.engine_spec.specs.Promise.{Runs, RunsOn, afterResume, all-complete, all-members, run-complete, runs-whole}
+use Rattle.engine_spec.specs.Promises.{mapOf}
+use Rattle.engine_spec.specs.Sides.{
+  MeetsFrom,
+  at-0-loop,
+  at-1-loop,
+  handed,
+  handed-exactly,
+  handedCount,
+  less-entry,
+  lessTo,
+  loop-at-0,
+  loop-at-1,
+  lowered-minimal,
+  minimal-alike,
+  minimal-as,
+  neither,
+  raised-minimal,
+}
+
+-- ---- what is listed, in words
+
+-- nothing is added to a row that is handed out
+abbrev pub nothing : ℕ → ℕ
+nothing j = 0
+
+-- "the smallest tuples that meet the right sides", of those at or above a bound
+abbrev pub MinimalMeetingFrom : (p q : ℕ) (coefs rights : List ℤ) (lower : ℕ → ℕ) → (ℕ → ℕ) → Type 0
+MinimalMeetingFrom p q coefs rights lower = Minimal q (MeetsFrom p q (systemOf q coefs) (λ i. getD rights i (pos 0)) lower)
+
+-- What a complete list of the extended system holds: "at 0 the loops of the plain map, at 1 the smallest tuples that meet the right sides" (`Whole` of
+-- theorems/specs/Held says the same of a capped run). The rows with c are written into any table with room for them.
+pub record BothLists (p q : ℕ) (coefs rights : List ℤ) (list : List ℕ) (n : ℕ) : Type 0 where
+  -- the rows with 0 are exactly the minimal solutions of the map, each once,
+  pub at-zero : (out : List ℕ) → handedCount 0 q list n * q ≤ length out
+      → Exactly q (MinimalSolution (mapOf p q coefs)) (handed 0 q nothing list n out) (handedCount 0 q list n)
+  -- those with 1 exactly the smallest tuples that meet the right sides, each once,
+  pub at-one : (out : List ℕ) → handedCount 1 q list n * q ≤ length out
+      → Exactly q (MinimalMeeting (mapOf p q coefs) rights) (handed 1 q nothing list n out) (handedCount 1 q list n)
+  -- "zero if all of them are zero",
+  pub zero-alone : ((i : ℕ) → i < p → getD rights i (pos 0) ≡ pos 0) → (out : List ℕ) → handedCount 1 q list n * q ≤ length out
+      → (handedCount 1 q list n ≡ 1) × Same q (at (handed 1 q nothing list n out) q 0) (λ j. 0)
+  -- and of the others none is a solution of the map or meets the right sides: they are left out.
+  pub others : (i : ℕ) → i < n → 1 < at list (suc q) i 0
+      → ¬ (Solution p q (systemOf q coefs) (rest (at list (suc q) i))) × ¬ (Meets p q (systemOf q coefs) (λ k. getD rights k (pos 0)) (rest (at list
+      (suc q) i)))
+
+-- ---- from the list of the extended system
+
+pub solution-alike : (p q : ℕ) (a : ℕ → ℕ → ℤ) (s t : ℕ → ℕ) → Same q s t → SolutionIn p q a (Nonzero q) s → SolutionIn p q a (Nonzero q) t
+solution-alike p q a s t e w =
+    let (j, jq, h) = w .admitted in
+    record { solution = solution-same p q a e (w .solution); admitted = (j, jq, omega (arith, e j jq)) }
+
+meets-alike : (p q : ℕ) (a : ℕ → ℕ → ℤ) (b : ℕ → ℤ) (s t : ℕ → ℕ) → Same q s t → Meets p q a b s → Meets p q a b t
+meets-alike p q a b s t e m i l = sym (value-same (a i) q e) ∙ m i l
+
+module _ (p q : ℕ) (some : 0 < q) (coefs rights : List ℤ) (numbers : length coefs ≡ p * q) (list : List ℕ) (n : ℕ)
+    (rows : Enumerates (suc q) (Loop p (suc q) (systemOf (suc q) (extendTo p q coefs rights))) n (at list (suc q))) where
+  abbrev a : ℕ → ℕ → ℤ
+  a = systemOf q coefs
+
+  abbrev b : ℕ → ℤ
+  b i = getD rights i (pos 0)
+
+  x : Extends p q a b (systemOf (suc q) (extendTo p q coefs rights))
+  x = extends (mapOf p q coefs) rights numbers
+
+  plain-alike : (s t : ℕ → ℕ) → Same q s t → Loop p q a s → Loop p q a t
+  plain-alike = minimal-alike q (solution-alike p q a)
+
+  meeting-alike : (s t : ℕ → ℕ) → Same q s t → Minimal q (Meets p q a b) s → Minimal q (Meets p q a b) t
+  meeting-alike = minimal-alike q (meets-alike p q a b)
+
+  ones : (out : List ℕ) → handedCount 1 q list n * q ≤ length out
+      → Exactly q (MinimalMeeting (mapOf p q coefs) rights) (handed 1 q nothing list n out) (handedCount 1 q list n)
+  ones out roomy =
+      handed-exactly q some (Loop p (suc q) (systemOf (suc q) (extendTo p q coefs rights))) (Minimal q (Meets p q a b)) meeting-alike 1 nothing
+      (λ t m z. meeting-alike (rest t) (λ j. rest t j + 0) (λ j l. omega arith) (loop-at-1 x t m z))
+      (λ s m. (put 1 s, at-1-loop x s m, refl, λ j l. omega arith)) list n rows out roomy
+
+  both-lists : BothLists p q coefs rights list n
+  both-lists =
+      record {
+        at-zero = λ out roomy.
+            handed-exactly q some (Loop p (suc q) (systemOf (suc q) (extendTo p q coefs rights))) (Loop p q a) plain-alike 0 nothing
+            (λ t m z. plain-alike (rest t) (λ j. rest t j + 0) (λ j l. omega arith) (loop-at-0 x t m z))
+            (λ s m. (put 0 s, at-0-loop x s m, refl, λ j l. omega arith)) list n rows out roomy;
+        at-one = ones;
+        zero-alone = λ zeros out roomy.
+            let (zero-is, least) = zero-sides (inputOf p q coefs) rights zeros in
+            only-one (ones out roomy) (λ j. 0) zero-is least;
+        others = λ i l more. neither x (at list (suc q) i) (rows .only i l) more;
+      }
+
+-- The smallest tuples at or above a bound, from the list of the system extended by the right sides less what the bound makes of them.
+module _ (p q : ℕ) (some : 0 < q) (coefs rights : List ℤ) (numbers : length coefs ≡ p * q) (lower : ℕ → ℕ) (list : List ℕ) (n : ℕ)
+    (rows : Enumerates (suc q) (Loop p (suc q) (systemOf (suc q) (extendTo p q coefs (lessTo p q coefs rights lower)))) n (at list (suc q))) where
+  abbrev b′ : ℕ → ℤ
+  b′ i = getD (lessTo p q coefs rights lower) i (pos 0)
+
+  x′ : Extends p q (systemOf q coefs) b′ (systemOf (suc q) (extendTo p q coefs (lessTo p q coefs rights lower)))
+  x′ = extends (mapOf p q coefs) (lessTo p q coefs rights lower) numbers
+
+  less : (i : ℕ) → i < p → b′ i ≡ getD rights i (pos 0) +ℤ negℤ (value (systemOf q coefs i) q lower)
+  less = less-entry p q coefs rights lower
+
+  abbrev From : (ℕ → ℕ) → Type 0
+  From = MeetsFrom p q (systemOf q coefs) (λ i. getD rights i (pos 0)) lower
+
+  from-alike : (s t : ℕ → ℕ) → Same q s t → From s → From t
+  from-alike s t e m =
+      record { meets = meets-alike p q (systemOf q coefs) _ s t e (m .meets); above = λ j l. omega (arith, m .above j l, e j l) }
+
+  from-bound : (out : List ℕ) → handedCount 1 q list n * q ≤ length out
+      → Exactly q (MinimalMeetingFrom p q coefs rights lower) (handed 1 q lower list n out) (handedCount 1 q list n)
+  from-bound out roomy =
+      handed-exactly q some (Loop p (suc q) (systemOf (suc q) (extendTo p q coefs (lessTo p q coefs rights lower)))) (Minimal q From)
+      (minimal-alike q from-alike) 1 lower
+      (λ t m z. raised-minimal p q (systemOf q coefs) _ b′ lower less (rest t) (loop-at-1 x′ t m z))
+      (λ s m. (
+        put 1 (λ j. s j - lower j),
+        at-1-loop x′ (λ j. s j - lower j) (lowered-minimal p q (systemOf q coefs) _ b′ lower less s m),
+        refl,
+        λ j l. omega (arith, m .holds .above j l),
+      ))
+      list n rows out roomy
+
+  -- where none is handed out, nothing at or above the bound meets the right sides
+  none-from : handedCount 1 q list n ≡ 0 → (t : ℕ → ℕ) → AtOrBelow q lower t → ¬ (Meets p q (systemOf q coefs) (λ i. getD rights i (pos 0)) t)
+  none-from none t above meets =
+      minimal-below q From (suc (total t q)) t (omega arith) (record { meets = meets; above = above })
+      (λ m low under.
+      let (i, l, e) = from-bound [] (rw none (omega arith)) .all m low in
+      omega arith)
+
+-- ---- the promises
+
+-- Right sides (document 02, Job 1): a run on the extended system gives both lists once a call says "complete".
+pub right-sides : (p q : ℕ) → 0 < q → (coefs rights : List ℤ) → length coefs ≡ p * q → {most room : ℕ} {w : Work}
+    → Runs p (suc q) (extendTo p q coefs rights) most room w → (budget : ℕ) → resume p (suc q) most room budget w .answer ≡ complete
+    → let v = resume p (suc q) most room budget w .work in BothLists p q coefs rights (v .basis) (v .count)
+right-sides p q some coefs rights numbers {most} {room} {w} r budget e =
+    let v = resume p (suc q) most room budget w .work in
+    both-lists p q some coefs rights numbers (v .basis) (v .count) (run-complete p (suc q) (extendTo p q coefs rights) r budget e)
+
+-- What a complete list holds from a lower bound: the rows with 1 in the first unknown, with the bound added, are exactly the smallest at or above the bound,
+-- each once; and where there are none, nothing at or above the bound is such. With right sides `rights`, without them where these are [].
+pub record FromBound (p q : ℕ) (coefs rights : List ℤ) (lower : ℕ → ℕ) (list : List ℕ) (n : ℕ) : Type 0 where
+  pub smallest : (out : List ℕ) → handedCount 1 q list n * q ≤ length out
+      → Exactly q (MinimalMeetingFrom p q coefs rights lower) (handed 1 q lower list n out) (handedCount 1 q list n)
+  pub empty : handedCount 1 q list n ≡ 0 → (t : ℕ → ℕ) → AtOrBelow q lower t → ¬ (Meets p q (systemOf q coefs) (λ i. getD rights i (pos 0)) t)
+
+pub lower-bound-with : (p q : ℕ) → 0 < q → (coefs rights : List ℤ) → length coefs ≡ p * q → (lower : ℕ → ℕ) → {most room : ℕ} {w : Work}
+    → Runs p (suc q) (extendTo p q coefs (lessTo p q coefs rights lower)) most room w → (budget : ℕ)
+    → resume p (suc q) most room budget w .answer ≡ complete
+    → let v = resume p (suc q) most room budget w .work in FromBound p q coefs rights lower (v .basis) (v .count)
+lower-bound-with p q some coefs rights numbers lower {most} {room} {w} r budget e =
+    let v = resume p (suc q) most room budget w .work in
+    let rows = run-complete p (suc q) (extendTo p q coefs (lessTo p q coefs rights lower)) r budget e in
+    record {
+      smallest = from-bound p q some coefs rights numbers lower (v .basis) (v .count) rows;
+      empty = none-from p q some coefs rights numbers lower (v .basis) (v .count) rows;
+    }
+
+-- Lower bounds (Job 4): "the minimal solutions at or above the floor are meant, and the zero tuple counts". An empty list means that nothing at or above the
+-- bound is a solution, which no floor walk promises.
+pub lower-bound : (p q : ℕ) → 0 < q → (coefs : List ℤ) → length coefs ≡ p * q → (lower : ℕ → ℕ) → {most room : ℕ} {w : Work}
+    → Runs p (suc q) (extendTo p q coefs (lessTo p q coefs [] lower)) most room w → (budget : ℕ) → resume p (suc q) most room budget w .answer ≡ complete
+    → let v = resume p (suc q) most room budget w .work in
+    ((out : List ℕ) → handedCount 1 q (v .basis) (v .count) * q ≤ length out
+    → Exactly q (MinimalFrom (mapOf p q coefs) lower) (handed 1 q lower (v .basis) (v .count) out) (handedCount 1 q (v .basis) (v .count)))
+    × (handedCount 1 q (v .basis) (v .count) ≡ 0 → (t : ℕ → ℕ) → AtOrBelow q lower t → ¬ (Solution p q (systemOf q coefs) t))
+lower-bound p q some coefs numbers lower r budget e =
+    let f = lower-bound-with p q some coefs [] numbers lower r budget e in (
+      λ out roomy.
+          let x = f .smallest out roomy in
+          record {
+            part = record { room = x .part .room; only = λ i l. minimal-as there back (x .part .only i l); once = x .part .once };
+            all = λ t m. x .all t (minimal-as back there m);
+          },
+      f .empty,
+    )
+  where
+    there : (t : ℕ → ℕ) → MeetsFrom p q (systemOf q coefs) (λ i. pos 0) lower t → SolutionIn p q (systemOf q coefs) (AtOrBelow q lower) t
+    there t m = record { solution = m .meets; admitted = m .above }
+
+    back : (t : ℕ → ℕ) → SolutionIn p q (systemOf q coefs) (AtOrBelow q lower) t → MeetsFrom p q (systemOf q coefs) (λ i. pos 0) lower t
+    back t w = record { meets = w .solution; above = w .admitted }
+
+-- ---- two groups of equations
+
+-- Job 10's second desk, handed the first n rows of a list
+abbrev pub deskFrom : (p q : ℕ) (coefs : List ℤ) (n : ℕ) → List ℕ → Desk
+deskFrom p q coefs n list = record { p = p; q = q; coefs = coefs; generators = take (n * q) list }
+
+-- A map in two groups asks what both ask: so the order of groups, and of the equations in them, is all the same.
+pub both-groups : (q p : ℕ) (coefs : List ℤ) (p′ : ℕ) (coefs′ : List ℤ) → length coefs ≡ p * q → (t : ℕ → ℕ)
+    → (Solution (p + p′) q (systemOf q (coefs ++ coefs′)) t → Solution p q (systemOf q coefs) t × Solution p′ q (systemOf q coefs′) t)
+    × (Solution p q (systemOf q coefs) t → Solution p′ q (systemOf q coefs′) t → Solution (p + p′) q (systemOf q (coefs ++ coefs′)) t)
+both-groups q p coefs p′ coefs′ numbers t =
+    let j = groups-joined (deskFrom p′ q coefs′ 0 []) (record { p = p; coefs = coefs; numbers = numbers }) in
+    (λ s. (whole-first j t s, whole-second j t s), λ s u. both-whole j t s u)
+
+-- ---- from a list
+
+-- the equations before, as p rows of coefficients
+abbrev pub before : (p q : ℕ) (coefs : List ℤ) → Base
+before p q coefs = record { p = p; a = systemOf q coefs }
+
+-- a run that started from the list of p₀ equations, with p further ones
+module _ (p₀ q : ℕ) (coefs₀ : List ℤ) (numbers : length coefs₀ ≡ p₀ * q) (p : ℕ) (coefs : List ℤ) {most room : ℕ} {w : Work}
+    (r : RunsOn (before p₀ q coefs₀) p q coefs most room w) where
+  -- no continuing call is refused before its first turn, where there is room for q rows in the basis
+  pub list-let-go-on : q ≤ most → resumeChecks p q most room w ≡ go
+  list-let-go-on = own-calls p q coefs r
+
+  -- "From the first group's whole list, a complete result is, as a set, the list of the whole map, each once" (Job 10)
+  pub from-list : (budget : ℕ) → resume p q most room budget w .answer ≡ complete
+      → let v = resume p q most room budget w .work in Exactly q (MinimalSolution (mapOf (p₀ + p) q (coefs₀ ++ coefs))) (v .basis) (v .count)
+  from-list budget e =
+      let v = resume p q most room budget w .work in
+      let whole = runs-whole (before p₀ q coefs₀) p q coefs (afterResume r budget) in
+      let fits : v .count * q ≤ length (v .basis) = omega (arith, whole .long, mul-le-mul-right q (whole .few)) in
+      let rows = enumerates-as there back (all-complete (before p₀ q coefs₀) p q coefs r budget e) in
+      record {
+        part =
+            record {
+              room = le-div-iff-mul-le {k = q} {x = v .count} {y = length (v .basis)} (runs-shape r .q-some) .1 fits;
+              only = rows .only;
+              once = rows .once;
+            };
+        all = rows .all;
+      }
+    where
+      there : (t : ℕ → ℕ) → Solution (p₀ + p) q (onTop (before p₀ q coefs₀) (systemOf q coefs)) t → Solution (p₀ + p) q (systemOf q (coefs₀ ++ coefs)) t
+      there t s =
+          both-groups q p₀ coefs₀ p coefs numbers t .1 (before-solved (before p₀ q coefs₀) p q (systemOf q coefs) t s)
+          (behind-solved (before p₀ q coefs₀) p q (systemOf q coefs) t s)
+
+      back : (t : ℕ → ℕ) → Solution (p₀ + p) q (systemOf q (coefs₀ ++ coefs)) t → Solution (p₀ + p) q (onTop (before p₀ q coefs₀) (systemOf q coefs)) t
+      back t s =
+          let (x, y) = both-groups q p₀ coefs₀ p coefs numbers t .0 s in
+          both-solved (before p₀ q coefs₀) p q (systemOf q coefs) t x y
+
+  -- cut short between two stages, the list of the equations before and of those done
+  pub list-cut-short : w .equation ≡ p
+      → Enumerates q (Loop (p₀ + p) q (onTop (before p₀ q coefs₀) (among (w .done) (system q w)))) (w .count) (basisRow q w)
+  list-cut-short rests = all-members (before p₀ q coefs₀) p q coefs r rests

@@ -1,1 +1,0 @@
-// Equations as people write them: see specs/. No code.

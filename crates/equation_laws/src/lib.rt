@@ -1,1 +1,0 @@
-// The laws of equations in text: see specs/. No code.

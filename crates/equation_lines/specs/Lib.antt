@@ -1,4 +1,0 @@
-pub mod Lines
-pub mod Systems
-pub mod Examples
-pub mod Rules

@@ -1,1 +1,0 @@
-// A system typed as several lines: definitions, their laws and rules. See specs/.

@@ -1,0 +1,2 @@
+// The file form of a list: see specs/. No code.
+// Laws about the file form of a list: see specs/. No code.

@@ -1,1 +1,0 @@
-// Every solution is made of the minimal ones (document 02, Job 13): see specs/Plans.antt. No code.

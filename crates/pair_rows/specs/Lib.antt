@@ -1,6 +1,0 @@
-pub mod Small
-pub mod Valuing
-pub mod Supporting
-pub mod Reducing
-pub mod Keeping
-pub mod Choosing

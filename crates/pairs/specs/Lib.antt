@@ -1,4 +1,0 @@
-pub mod Turning
-pub mod Pairing
-pub mod Ending
-pub mod Running

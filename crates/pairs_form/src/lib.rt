@@ -1,1 +1,0 @@
-// Pottier's method, one equation after the other by sums of pairs, as definitions, and what it promises: see specs/. No code.

@@ -1,1 +1,0 @@
-// What a printed "end complete" means: see specs/. No code.

@@ -1,9 +1,0 @@
-pub mod First
-pub mod FirstLaws
-pub mod Graph
-pub mod GraphLaws
-pub mod Profile
-pub mod Calls
-pub mod Listing
-pub mod ListingLaws
-pub mod Examples

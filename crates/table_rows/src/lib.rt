@@ -1,0 +1,4 @@
+// Rows of numbers in a lent table, of any width and under any limit of coefficients whose values fit 64 bits.
+pub mod rows; // rows.rt: rows compared, copied, and within the component limit
+pub mod sweep; // sweep.rt: the minimal ones of the rows kept, one behind the other
+pub mod values; // values.rt: the value of a row under one equation
