@@ -120,6 +120,17 @@ class Questions(unittest.TestCase):
         self.assertEqual(dezgula.locate(self.rows, self.listed, (0, 9, 9, 9)), self.listed.index((0, 1, 1, 1)))
         self.assertIsNone(dezgula.locate(self.rows, self.listed, (0, 9, 0, 9)))
 
+    def test_as_large_as_the_engine_takes(self):
+        ring = [[1 if j == i else -1 if j == (i + 1) % 32 else 0 for j in range(32)] for i in range(32)]
+        listed = dezgula.basis(ring)
+        self.assertEqual((dezgula.why(ring, listed, (2,) * 32).row, dezgula.locate(ring, listed, (1,) * 32)), (0, 0))
+        self.assertEqual(dezgula.plan(ring, listed, (7,) * 32).times, [7])
+        self.assertEqual(dezgula.why(ring, listed, (0,) * 31 + (1,)).equation, 30)
+        for rows, number in ([[0] * 33], 2), ([[0]] * 33, 1):
+            with self.assertRaises(dezgula.Refused) as refused:
+                dezgula.why(rows, [], [0] * len(rows[0]))
+            self.assertEqual(refused.exception.number, number)
+
 
 class Runs(unittest.TestCase):
     def kinds(self):

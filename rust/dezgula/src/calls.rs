@@ -193,6 +193,24 @@ pub fn decompose(m: Map, list: Found, tuple: &[u32], times: &mut [u32], amount: 
     Answer(unsafe { sys::dezgula_decompose(&m.lent(), &list.lent(), tuple.as_ptr(), tuple.len(), times.as_mut_ptr(), times.len(), amount) })
 }
 
+/// `dezgula_engine_locate`: as [`locate`], of maps of up to 32 equations and 32 unknowns.
+pub fn engine_locate(m: Map, list: Found, tuple: &[u32]) -> Answer {
+    // SAFETY: as above.
+    Answer(unsafe { sys::dezgula_engine_locate(&m.lent(), &list.lent(), tuple.as_ptr(), tuple.len()) })
+}
+
+/// `dezgula_engine_reason`: as [`reason`], of maps of up to 32 equations and 32 unknowns.
+pub fn engine_reason(m: Map, list: Found, tuple: &[u32], amount: &mut i64) -> Answer {
+    // SAFETY: as above.
+    Answer(unsafe { sys::dezgula_engine_reason(&m.lent(), &list.lent(), tuple.as_ptr(), tuple.len(), amount) })
+}
+
+/// `dezgula_engine_decompose`: as [`decompose`], of maps of up to 32 equations and 32 unknowns.
+pub fn engine_decompose(m: Map, list: Found, tuple: &[u32], times: &mut [u32], amount: &mut i64) -> Answer {
+    // SAFETY: as above.
+    Answer(unsafe { sys::dezgula_engine_decompose(&m.lent(), &list.lent(), tuple.as_ptr(), tuple.len(), times.as_mut_ptr(), times.len(), amount) })
+}
+
 /// `dezgula_listing`: the list of a single-file map as text.
 pub fn listing(m: Map, list: Found, out: &mut [u8]) -> Answer {
     // SAFETY: as above; a char of C has the size of a byte.

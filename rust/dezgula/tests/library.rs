@@ -213,6 +213,18 @@ fn no_solutions() {
     assert_eq!(system.plan(&list, &[0, 0]).unwrap(), Made::Of(vec![]));
 }
 
+#[test]
+fn questions_as_large_as_the_engine_takes() {
+    let coef = |i: usize, j: usize| i32::from(i == j) - i32::from((i + 1) % 32 == j);
+    let ring = System::new((0..32).map(|i| (0..32).map(|j| coef(i, j)).collect::<Vec<_>>()).collect::<Vec<_>>()).unwrap();
+    let list = ring.basis().unwrap();
+    assert_eq!(ring.why(&list, &[2; 32]).unwrap(), Reason::Above { row: 0 });
+    assert_eq!(ring.locate(&list, &[1; 32]).unwrap(), Some(0));
+    assert_eq!(ring.plan(&list, &[7; 32]).unwrap(), Made::Of(vec![7]));
+    let wide = System::new([[0; 33]]).unwrap();
+    assert_eq!(wide.why(&List::new(33, [[0; 33]]).unwrap(), &[0; 33]).unwrap_err().number(), numbers::UNKNOWNS);
+}
+
 fn goes_on<K: Kind + Clone>(system: &System, kind: K) -> Run<K> {
     let (mut at_once, mut often) = (system.start(kind.clone()).unwrap(), system.start(kind).unwrap());
     at_once.complete().unwrap();
