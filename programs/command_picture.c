@@ -21,7 +21,8 @@ static int picture_of_loop(const options *o, const map *m)
     size_t n = loop_number(o->words[1]);
     int status = solve_map(m, o, file_of(o), &s);
     if (has_lists(status) && (n < 1 || n > s.loops_len)) {
-        fault_set(&why, 0, "there is no loop %.40s; the loops are 1 to %zu", o->words[1], s.loops_len);
+        if (s.loops_len == 0) fault_set(&why, 0, "there is no loop %.40s: the list has none", o->words[1]);
+        else fault_set(&why, 0, "there is no loop %.40s; the loops are 1 to %zu", o->words[1], s.loops_len);
         status = io_refuse(file_of(o), &why);
     } else if (has_lists(status)) {
         (void)picture_write(stdout, m, s.loops + (n - 1) * s.q);

@@ -53,6 +53,7 @@ static int show(const options *o)
     int status;
     memset(&m, 0, sizeof m);
     memset(&s, 0, sizeof s);
+    if (o->how == FORMAT_HTML && is_terminal("send the page to a file: dezgula show --format html LIST > page.html")) return STATUS_NOTHING;
     char *bytes = io_read(file_of(o), MOST_BYTES, &len, &status);
     if (bytes == NULL) return status;
     if (read_list(bytes, len, &m, &s, &why)) {

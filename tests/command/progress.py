@@ -70,7 +70,7 @@ def main():
     program, path = os.path.abspath(sys.argv[1]), sys.argv[2]
     try_terminal([program, "loops", path])
     try_pipe([program, "loops", path])
-    for words in (["report", path], ["loops", "--format", "html", path], ["picture", path], ["save", path]):
+    for words in (["report", path], ["loops", "--format", "html", path], ["picture", path], ["save", path], ["show", "--format", "html", path]):
         try_refused(program, words)
     print("progress on a terminal and else")
 
