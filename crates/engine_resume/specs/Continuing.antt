@@ -20,7 +20,7 @@ use Rattle.engine_spec.specs.Calls as spec
 use Rattle.engine_spec.specs.Beside.{Measured}
 use Rattle.engine_spec.specs.Engine.{Result, Work, allDone, equationOf, rested, run}
 use Rattle.engine_beside.specs.Writing.{Kept, kept-none, measured-none, valued-none, worded-none}
-use Rattle.engine_stage.specs.Standing.{Beyond, Sides, beyond-none, sidesOf}
+use Rattle.engine_stage.specs.Standing.{Beyond, Sides, Unchanged, beyond-none, sidesOf, unchanged}
 use Rattle.engine_calls.specs.Records.{answerOf, besideOf, call-passed, call-refused, checkOf, lengthsOf, outcomeOf, passes, refusedWith, workOf}
 use Rattle.engine_calls.specs.declared.Beside.{Beside}
 use Rattle.engine_calls.specs.declared.Check.{Check}
@@ -64,7 +64,8 @@ sizesHad p q most room w = cond (goesOn (spec.resumeChecks p q most room w) p (w
 
 -- What the call leaves of all that is lent, w being what it finds. The outcome is that of the definition. Refused before its work it has changed nothing. Where
 -- no stage is under way it has changed nothing beside the rows. Else the tables beside the rows hold what belongs to the rows that the stage had, the one beside
--- the basis the degrees of the rows that it was given; past these, and so past the room, nothing is changed.
+-- the basis the degrees of the rows that it was given; past these, and so past the room, nothing is changed. The mothers of the rows that it found are as they
+-- were; those of later rows are proposals, which the next call does not trust.
 pub record LeftBy (p q most room budget : ℕ) (w : Work) (sizes : List ℕ) (x : Sides) (o : Result) (sizes′ : List ℕ) (x′ : Sides) : Type 0 where
   pub outcome : o ≡ spec.resume p q most room budget w
   pub refused : (n : ℕ) (values : List ℕ) → spec.resumeChecks p q most room w ≡ paper.refuse n values
@@ -72,6 +73,7 @@ pub record LeftBy (p q most room budget : ℕ) (w : Work) (sizes : List ℕ) (x 
   pub rested : p ≤ w .equation → (sizes′ ≡ sizes) × (x′ ≡ x)
   pub few : rowsHad p q most room budget w ≤ room
   pub sided : Sided (equationOf q w) q (rowsHad p q most room budget w) (o .work .stage .table) x x′
+  pub mothers : Unchanged (w .stage .rows) (x .mothers) (x′ .mothers)
   pub sized : Measured q (sizesHad p q most room w) (w .basis) sizes′
   pub kept : Kept 0 (sizesHad p q most room w) sizes sizes′
 
@@ -104,6 +106,7 @@ module _ (p q most room budget : ℕ) (w : Work) (sizes : List ℕ) (x : Sides) 
         rested = λ l. (refl, refl);
         few = rw e (omega arith);
         sided = rw e sided-none;
+        mothers = unchanged;
         sized = rw e measured-none;
         kept = kept-none;
       }
@@ -158,6 +161,7 @@ module _ (p q budget : ℕ) (equations : List ℤ) (basis sizes table : List ℕ
             rested = λ h. absurd (omega arith);
             few = rw on (t .few);
             sided = rw on (t .sided);
+            mothers = t .mothers;
             sized = rw on (t .sized);
             kept = rw on (t .kept);
           })
