@@ -1,6 +1,6 @@
 -- What the continuing call leaves, by what its checks find. Assumes nothing.
 use mathlib.Core.Path.{_≡_, refl, sym, _∙_, ap}
-use mathlib.Core.Bool.{Bool, true, false, cond}
+use mathlib.Core.Bool.{Bool, true, false, cond, not}
 use mathlib.Core.List.{List}
 use Prim.Native.Nat.{ℕ, _^_, _-_, _≤_, _<_}
 use native.Mathlib.Omega.{arith}
@@ -14,7 +14,7 @@ use Rattle.engine_spec.specs.Calls as spec
 use Rattle.engine_spec.specs.Beside.{Measured}
 use Rattle.engine_spec.specs.Engine.{Result, Work, allDone, equationOf, rested, run}
 use Rattle.engine_beside.specs.Writing.{Kept, kept-none, measured-none, valued-none, worded-none}
-use Rattle.engine_stage.specs.Standing.{Sides, beyond-none}
+use Rattle.engine_stage.specs.Standing.{Sides, Unchanged, beyond-none, unchanged}
 use Rattle.engine_calls.specs.Records.{answerOf, besideOf, call-passed, call-refused, checkOf, lengthsOf, outcomeOf, passes, refusedWith, workOf}
 use Rattle.engine_calls.specs.declared.Check.{Check}
 use Rattle.engine_calls.specs.declared.Check.the-variants.{Pass, Refuse}
@@ -57,7 +57,9 @@ sizesHad p q most room w = cond (goesOn (spec.resumeChecks p q most room w) p (w
 
 -- What the call leaves of all that is lent, w being what it finds. The outcome is that of the definition. Refused before its work it has changed nothing. Where
 -- no stage is under way it has changed nothing beside the rows. Else the tables beside the rows hold what belongs to the rows that the stage had, the one
--- beside the basis the degrees of the rows that it was given; past these, and so past the room, nothing is changed.
+-- beside
+-- the basis the degrees of the rows that it was given; past these, and so past the room, nothing is changed. The mothers of the rows that it found are as they
+-- were; those of later rows are proposals, which the next call does not trust.
 pub record LeftBy (p q most room budget : ℕ) (w : Work) (sizes : List ℕ) (x : Sides) (o : Result) (sizes′ : List ℕ) (x′ : Sides) : Type 0 where
   pub outcome : o ≡ spec.resume p q most room budget w
   pub refused : (n : ℕ) (values : List ℕ) → spec.resumeChecks p q most room w ≡ paper.refuse n values
@@ -65,6 +67,7 @@ pub record LeftBy (p q most room budget : ℕ) (w : Work) (sizes : List ℕ) (x 
   pub rested : p ≤ w .equation → (sizes′ ≡ sizes) × (x′ ≡ x)
   pub few : rowsHad p q most room budget w ≤ room
   pub sided : Sided (equationOf q w) q (rowsHad p q most room budget w) (o .work .stage .table) x x′
+  pub mothers : Unchanged (w .stage .rows) (x .mothers) (x′ .mothers)
   pub sized : Measured q (sizesHad p q most room w) (w .basis) sizes′
   pub kept : Kept 0 (sizesHad p q most room w) sizes sizes′
 
@@ -98,6 +101,7 @@ module _ (p q most room budget : ℕ) (w : Work) (sizes : List ℕ) (x : Sides) 
         rested = λ l. (refl, refl);
         few = rw e (omega arith);
         sided = rw e sided-none;
+        mothers = unchanged;
         sized = rw e measured-none;
         kept = kept-none;
       }
@@ -155,6 +159,7 @@ module _ (p q budget : ℕ) (equations : List ℤ) (basis sizes table : List ℕ
             rested = λ h. absurd (omega arith);
             few = rw on (t .few);
             sided = rw on (t .sided);
+            mothers = t .mothers;
             sized = rw on (t .sized);
             kept = rw on (t .kept);
           })

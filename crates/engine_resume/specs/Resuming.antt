@@ -29,7 +29,7 @@ use Rattle.engine_search.specs.Falls.{falling-start}
 use Rattle.engine_search.specs.Places.{Ranked}
 use Rattle.engine_reduce.specs.Sums.{never}
 use Rattle.engine_stage.specs.Running.{RunLeft, answerOf, runOf}
-use Rattle.engine_stage.specs.Standing.{Beyond, Given, Ready, Roomy, Sides, lentOf, nextOf, stageOf}
+use Rattle.engine_stage.specs.Standing.{Beyond, Given, Ready, Roomy, Sides, Unchanged, lentOf, nextOf, stageOf}
 use Rattle.engine_stage.specs.declared.stages.Ran.{Ran}
 use Rattle.engine_stage.specs.declared.turns.Frame.{Frame}
 use Rattle.engine_stage.specs.declared.turns.Next.{Next}
@@ -144,6 +144,7 @@ pub record Advanced (q room budget : ℕ) (equations : List ℤ) (basis sizes ta
   pub ready : Ready (frameOf q room r) (lentOf equations basis sizes′) table′ x′ (a .next)
   pub rises : r .rows ≤ a .next .rows
   pub beyond : Beyond (a .next .rows) x x′
+  pub mothers : Unchanged (r .rows) (x .mothers) (x′ .mothers)
   pub kept : Kept 0 (r .count) sizes sizes′
 
 -- What stands beside the first n rows of a table, under the equation c: their values, words and degrees, and marks that are marks. From row n on all of it is
@@ -165,6 +166,7 @@ pub record ResumedTo (p q most room budget : ℕ) (equations : List ℤ) (basis 
   pub outcome : outcomeOf o equations basis′ table′ ≡ run p q most room budget (workOf equations basis table r)
   pub few : rowsAfter q room budget (workOf equations basis table r) ≤ room
   pub sided : Sided (equationAt equations (r .equation * q)) q (rowsAfter q room budget (workOf equations basis table r)) table′ x x′
+  pub mothers : Unchanged (r .rows) (x .mothers) (x′ .mothers)
   pub sized : Measured q (r .count) basis sizes′
   pub kept : Kept 0 (r .count) sizes sizes′
 
@@ -295,6 +297,7 @@ module _ {p q most room : ℕ} {equations : List ℤ} {basis sizes table : List 
           ready = h .ready;
           rises = h .rises;
           beyond = after (h .rises) (h .beyond);
+          mothers = record { each = λ i l. h .mothers .each i l ∙ ap (λ y. getD y i 0) (w .mothers) };
           kept = w .kept;
         }
       where
@@ -341,6 +344,7 @@ module _ {p q most room : ℕ} {equations : List ℤ} {basis sizes table : List 
           sided =
               rw rows-are
               (record { valued = h .ready .valued; worded = h .ready .worded; measured = h .ready .measured; marked = h .ready .marked; beyond = h .beyond });
+          mothers = h .mothers;
           sized = h .ready .given .sized;
           kept = h .kept;
         }

@@ -8,7 +8,7 @@ use Rattle.definitions.specs.Answers.{Answer, complete, paused, refused}
 use Rattle.definitions.specs.Tables.{at}
 use Rattle.engine_spec.specs.Stage.{Outcome, Turned, after, ends, outcome, run, stops}
 use Rattle.engine_beside.specs.Writing.{Kept}
-use Rattle.engine_stage.specs.Standing.{Beyond, Gone, Left, Lent, Ready, Sides, Still, beyond-none, equation, stageOf, turnOf}
+use Rattle.engine_stage.specs.Standing.{Beyond, Gone, Left, Lent, Ready, Sides, Still, Unchanged, beyond-none, equation, stageOf, turnOf, unchanged}
 use Rattle.engine_stage.specs.declared.stages.Ending.{Ending}
 use Rattle.engine_stage.specs.declared.stages.Ending.the-variants as ending
 use Rattle.engine_stage.specs.declared.stages.Ran.{Ran}
@@ -36,6 +36,7 @@ pub record RunLeft (f : Frame) (l : Lent) (budget : ℕ) (table : List ℕ) (x :
   pub ready : Ready f l table′ x′ (r .next)
   pub rises : s .rows ≤ r .next .rows
   pub beyond : Beyond (r .next .rows) x x′
+  pub mothers : Unchanged (s .rows) (x .mothers) (x′ .mothers)
 
 -- ---- the loop
 
@@ -46,10 +47,11 @@ pub record Going (f : Frame) (l : Lent) (budget : ℕ) (table : List ℕ) (x : S
     pub ready : Ready f l table′ x′ s′
     pub rises : s .rows ≤ s′ .rows
     pub beyond : Beyond (s′ .rows) x x′
+    pub mothers : Unchanged (s .rows) (x .mothers) (x′ .mothers)
 
 pub going-start : {f : Frame} {l : Lent} {table : List ℕ} {x : Sides} {s : Next} (budget : ℕ) → Ready f l table x s → Going f l budget table x s budget table x
     s
-going-start budget r = record { same = refl; ready = r; rises = omega arith; beyond = beyond-none }
+going-start budget r = record { same = refl; ready = r; rises = omega arith; beyond = beyond-none; mothers = unchanged }
 
 kept-then : {A : Type 0} {z : A} {n m : ℕ} {a b c : List A} → n ≤ m → Kept z n a b → Kept z m b c → Kept z m a c
 kept-then l p q = record { long = q .long ∙ p .long; rest = λ i h. q .rest i h ∙ p .rest i (omega arith) }
@@ -80,6 +82,7 @@ module _ {f : Frame} {l : Lent} {budget : ℕ} {table : List ℕ} {x : Sides} {s
         ready = t .ready;
         rises = omega (arith, g .rises, t .rises);
         beyond = beyond-then (t .rises) (g .beyond) (t .beyond);
+        mothers = record { each = λ i h. t .mothers .each i (omega (arith, g .rises)) ∙ g .mothers .each i h };
       }
 
   stopped : {table″ : List ℕ} {x″ : Sides} {n : ℕ} (e : Ending) → answerOf e ≡ refused n [] → 0 < left → Still (turnOf f l table′ s′) (stops n) table′ table″
@@ -93,6 +96,7 @@ module _ {f : Frame} {l : Lent} {budget : ℕ} {table : List ℕ} {x : Sides} {s
         ready = g .ready;
         rises = g .rises;
         beyond = g .beyond;
+        mothers = g .mothers;
       })
 
   pub late-left : {table″ : List ℕ} {x″ : Sides} → 0 < left → Still (turnOf f l table′ s′) (stops 14) table′ table″ x′ x″
@@ -117,10 +121,11 @@ module _ {f : Frame} {l : Lent} {budget : ℕ} {table : List ℕ} {x : Sides} {s
         ready = g .ready;
         rises = g .rises;
         beyond = g .beyond;
+        mothers = g .mothers;
       })
 
   pub paused-left : left ≡ 0 → RunLeft f l budget table x s (ranOf ending.Paused s′) table′ x′
-  paused-left e = record { is = g .same ∙ none e; ready = g .ready; rises = g .rises; beyond = g .beyond }
+  paused-left e = record { is = g .same ∙ none e; ready = g .ready; rises = g .rises; beyond = g .beyond; mothers = g .mothers }
     where
       none : left ≡ 0 → runOf f l left table′ s′ ≡ outcome paused (stageOf table′ s′)
       none e = rw e (unfold run in refl)

@@ -109,6 +109,16 @@ pub record Beyond (n : ℕ) (old new : Sides) : Type 0 where
   pub marks : Kept 0 n (old .marks) (new .marks)
   pub mothers : Kept 0 n (old .mothers) (new .mothers)
 
+-- the first n numbers of a table are as they were
+pub record Unchanged (n : ℕ) (old new : List ℕ) : Type 0 where
+  pub each : (i : ℕ) → i < n → getD new i 0 ≡ getD old i 0
+
+pub unchanged : {n : ℕ} {table : List ℕ} → Unchanged n table table
+unchanged = record { each = λ i l. refl }
+
+pub unchanged-set : (table : List ℕ) (n v : ℕ) → Unchanged n table (set table n v)
+unchanged-set table n v = record { each = λ i l. getD-set-other table n i v 0 (omega arith) }
+
 -- the stage's own turn
 abbrev pub turnOf : Frame → Lent → List ℕ → Next → Turned
 turnOf f l table s = turn (f .q) (equation f l) (f .m) (at (l .basis) (f .q)) (f .room) (stageOf table s)
@@ -120,6 +130,7 @@ pub record Gone (f : Frame) (l : Lent) (t : Turned) (n : ℕ) (table : List ℕ)
   pub rises : n ≤ s′ .rows
   pub ready : Ready f l table′ x′ s′
   pub beyond : Beyond (s′ .rows) x x′
+  pub mothers : Unchanged n (x .mothers) (x′ .mothers)
 
 pub record Still (t u : Turned) (table table′ : List ℕ) (x x′ : Sides) : Type 0 where
   pub is : t ≡ u

@@ -67,6 +67,8 @@ use Rattle.engine_stage.specs.Standing.{
   sidesOf,
   stageOf,
   turnOf,
+  unchanged,
+  unchanged-set,
 }
 use Rattle.engine_stage.specs.declared.turns.Frame.{Frame}
 use Rattle.engine_stage.specs.declared.turns.Next.{Next}
@@ -117,6 +119,7 @@ module _ {f : Frame} {l : Lent} {table : List ℕ} {x : Sides} {s : Next} (r : R
           rises = omega arith;
           ready = passed-ready r (due .spent) h (k + 1) (s .steps + 1) first (omega (arith, due .early)) (due .falling);
           beyond = beyond-none;
+          mothers = unchanged;
         }
 
     pub pair-large : testOf (f .q) (equation f l) (s .rows) table h k ≡ false → isSmall (f .q) (sumOf (f .q) (stageOf table s) h k) ≡ false
@@ -158,6 +161,7 @@ module _ {f : Frame} {l : Lent} {table : List ℕ} {x : Sides} {s : Next} (r : R
               (omega (arith, due .early)) (grown-falling r sum v w mark mother room value-is word-is sum-degree sum-some small mark-is (due .falling))
               (λ e. due .spent);
           beyond = grown-beyond r sum v w mark mother room value-is word-is sum-degree sum-some small mark-is;
+          mothers = unchanged-set (x .mothers) (s .rows) mother;
         }
 
   -- ---- a row of the basis
@@ -190,6 +194,7 @@ module _ {f : Frame} {l : Lent} {table : List ℕ} {x : Sides} {s : Next} (r : R
               grown-ready r y v w mark mother room value-is word-is (due .exact) some small none (i + 1) (s .upper) (s .lower) (s .steps + 1) (s .rows + 1) true
               (omega (arith, due .early)) (falling-start (s .rows + 1) _ (s .degree) (s .upper)) (λ g. never (sym g));
           beyond = grown-beyond r y v w mark mother room value-is word-is (due .exact) some small none;
+          mothers = unchanged-set (x .mothers) (s .rows) mother;
         }
 
   -- ---- the next degree, or the end
@@ -210,6 +215,7 @@ module _ {f : Frame} {l : Lent} {table : List ℕ} {x : Sides} {s : Next} (r : R
     rises = omega arith;
     ready = raised-ready r d (s .steps + 1) (omega arith) (omega arith);
     beyond = beyond-none;
+    mothers = unchanged;
   }
 
 -- ---- which way a turn goes
