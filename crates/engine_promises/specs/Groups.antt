@@ -18,9 +18,9 @@ use Rattle.definitions.specs.System.{MinimalSolution, System}
 use Rattle.definitions.specs.Tables.{State, at, frozen}
 use Rattle.theorems.specs.Demands.{second-demand}
 use Rattle.theorems.specs.Link.{nonzero}
-use Rattle.theorems.specs.Listed.{Exactly}
+use Rattle.theorems.specs.Listed.{Exactly, enumerated}
 use Rattle.theorems.specs.Run.{Run}
-use Rattle.decomposition.specs.Loops.{Loop}
+use Rattle.decomposition.specs.Loops.{Loop, MadeOfRows, made-of-loops}
 use Rattle.desk_form.specs.Desks.{Desk, deskResume}
 use Rattle.desk_promises.specs.Groups.{FirstGroup, handed-over}
 use Rattle.desk_promises.specs.Promises.{SameList, same-number, same-rows, second-demand-desks}
@@ -114,6 +114,10 @@ one-list {q} {p} {p′} {coefs} {coefs′} same {other = other} {m = m} x y =
 -- of one map
 pub one-map : {q p : ℕ} {coefs : List ℤ} {one other : List ℕ} {n m : ℕ} → Made q p coefs one n → Made q p coefs other m → SameList q one n other m
 one-map x y = one-list (record { there = λ t s. s; back = λ t s. s }) x y
+
+-- Every plan is made of the rows, and no shorter list of solutions does (document 02, Job 13).
+pub made-plans : {q p : ℕ} {coefs : List ℤ} {list : List ℕ} {n : ℕ} → Made q p coefs list n → MadeOfRows p q (systemOf q coefs) n (at list q)
+made-plans {q} {p} {coefs} {list} {n} m = made-of-loops p q (systemOf q coefs) n (at list q) (enumerated (made-exactly m))
 
 -- ---- between two groups
 

@@ -8,9 +8,10 @@ use native.Mathlib.Nat.{le-div-iff-mul-le, mul-le-mul-right}
 use native.Mathlib.Omega.{arith}
 use lib.IntN.{ℤ, pos, negℤ, _+ℤ_}
 use lib.ListN.{getD, length, take}
-use Rattle.linear.specs.Combinations.{Enumerates, minimal-below, solution-same}
+use Rattle.linear.specs.Combinations.{Enumerates, SumOf, found-below, minimal-below, solution-same}
+use Rattle.linear.specs.Differences.{integers, sum-is}
 use Rattle.linear.specs.RightSides.{Extends}
-use Rattle.linear.specs.SystemLaws.{value-same}
+use Rattle.linear.specs.SystemLaws.{value-same, value-sum}
 use Rattle.linear.specs.Systems.{Meets, Solution, SolutionIn, value}
 use Rattle.linear.specs.Tuples.{AtOrBelow, Minimal, Nonzero, Same, put, rest, total}
 use Rattle.definitions.specs.Answers.{complete, go}
@@ -19,8 +20,8 @@ use Rattle.definitions.specs.System.{MinimalFrom, MinimalMeeting, MinimalSoluti
 use Rattle.definitions.specs.Tables.{at}
 use Rattle.laws.specs.Extended.{extends}
 use Rattle.theorems.specs.Held.{zero-sides}
-use Rattle.theorems.specs.Listed.{Exactly, only-one}
-use Rattle.decomposition.specs.Loops.{Loop}
+use Rattle.theorems.specs.Listed.{Exactly, enumerated, only-one}
+use Rattle.decomposition.specs.Loops.{Loop, loops-make-up}
 use Rattle.desk_form.specs.Desks.{Desk}
 use Rattle.desk_promises.specs.Groups.{groups-joined}
 use Rattle.desk_promises.specs.Second.{both-whole, whole-first, whole-second}
@@ -174,6 +175,27 @@ pub right-sides : (p q : ℕ) → 0 < q → (coefs rights : List ℤ) → length
 right-sides p q some coefs rights numbers {most} {room} {w} r budget e =
     let v = resume p (suc q) most room budget w .work in
     both-lists p q some coefs rights numbers (v .basis) (v .count) (run-complete p (suc q) (extendTo p q coefs rights) r budget e)
+
+-- What meets the right sides is one of the smallest such tuples and loops besides: from both lists, in whatever tables they lie (Job 13).
+pub sides-made : (p q : ℕ) (coefs rights : List ℤ) {loops smallest : List ℕ} {n m : ℕ} → Exactly q (MinimalSolution (mapOf p q coefs)) loops n
+    → Exactly q (MinimalMeeting (mapOf p q coefs) rights) smallest m → (t : ℕ → ℕ) → Meets p q (systemOf q coefs) (λ i. getD rights i (pos 0)) t
+    → (i : ℕ) × (i < m) × AtOrBelow q (at smallest q i) t × SumOf q n (at loops q) (λ j. t j - at smallest q i j)
+sides-made p q coefs rights {loops} {smallest} {n} {m} x y t meets =
+    let (i, l, under) = found-below q _ m (at smallest q) (y .all) t meets in
+    (i, l, under, loops-make-up p q (systemOf q coefs) n (at loops q) (enumerated x) (λ j. t j - at smallest q i j) (rest-is i (y .part .only i l .holds) under))
+  where
+    -- both meet them: their difference meets 0
+    rest-is : (i : ℕ) → Meets p q (systemOf q coefs) (λ k. getD rights k (pos 0)) (at smallest q i) → AtOrBelow q (at smallest q i) t
+        → Solution p q (systemOf q coefs) (λ j. t j - at smallest q i j)
+    rest-is i low under k kp =
+        let sum = value-sum (systemOf q coefs k) q (λ j. t j - at smallest q i j) (at smallest q i) t (λ j jq. omega (arith, under j jq)) in
+        omega (
+          integers,
+          sum,
+          meets k kp,
+          low k kp,
+          sum-is (value (systemOf q coefs k) q (λ j. t j - at smallest q i j)) (value (systemOf q coefs k) q (at smallest q i)),
+        )
 
 -- What a complete list holds from a lower bound: the rows with 1 in the first unknown, with the bound added, are exactly the smallest at or above the bound,
 -- each once; and where there are none, nothing at or above the bound is such. With right sides `rights`, without them where these are [].
