@@ -1,5 +1,5 @@
--- The user's first sentence, for the engine: a map built one group of equations after the other, loaded as a whole, or walked to the end has one list. Open this
--- file after Kinds.antt. Assumes nothing.
+-- The user's first sentence, for the engine: a map built one group of equations after the other, loaded as a whole, or walked to the end has one list. Open
+-- this file after Kinds.antt. Assumes nothing.
 use mathlib.Core.Path.{_≡_, refl, sym, _∙_, ap}
 use mathlib.Core.Logic.{inl, inr}
 use mathlib.Core.List.{List, [], _++_}

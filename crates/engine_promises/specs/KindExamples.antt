@@ -33,7 +33,24 @@ use Rattle.engine_spec.specs.Calls.{
   startFromChecks,
   takeChecks,
 }
-use Rattle.engine_spec.specs.Engine.{Result, Work, after, allDone, begun, begunFrom, fillTo, finish, finished, onward, rested, resting, run, taken, takenFresh, valuesSmall}
+use Rattle.engine_spec.specs.Engine.{
+  Result,
+  Work,
+  after,
+  allDone,
+  begun,
+  begunFrom,
+  fillTo,
+  finish,
+  finished,
+  onward,
+  rested,
+  resting,
+  run,
+  taken,
+  takenFresh,
+  valuesSmall,
+}
 use Rattle.engine_spec.specs.Fresh.{putAt}
 use Rattle.engine_spec.specs.Reduction.{isSmall, isWithin, reducible}
 use Rattle.engine_spec.specs.Search.{firstFrom, leastTo, lesser}

@@ -182,7 +182,8 @@ pub sides-made : (p q : ℕ) (coefs rights : List ℤ) {loops smallest : List �
     → (i : ℕ) × (i < m) × AtOrBelow q (at smallest q i) t × SumOf q n (at loops q) (λ j. t j - at smallest q i j)
 sides-made p q coefs rights {loops} {smallest} {n} {m} x y t meets =
     let (i, l, under) = found-below q _ m (at smallest q) (y .all) t meets in
-    (i, l, under, loops-make-up p q (systemOf q coefs) n (at loops q) (enumerated x) (λ j. t j - at smallest q i j) (rest-is i (y .part .only i l .holds) under))
+    let left = rest-is i (y .part .only i l .holds) under in
+    (i, l, under, loops-make-up p q (systemOf q coefs) n (at loops q) (enumerated x) (λ j. t j - at smallest q i j) left)
   where
     -- both meet them: their difference meets 0
     rest-is : (i : ℕ) → Meets p q (systemOf q coefs) (λ k. getD rights k (pos 0)) (at smallest q i) → AtOrBelow q (at smallest q i) t
