@@ -40,14 +40,13 @@ pub record SameSolutions (q p : ℕ) (coefs : List ℤ) (p′ : ℕ) (coefs′ :
   pub there : (t : ℕ → ℕ) → Solution p q (systemOf q coefs) t → Solution p′ q (systemOf q coefs′) t
   pub back : (t : ℕ → ℕ) → Solution p′ q (systemOf q coefs′) t → Solution p q (systemOf q coefs) t
 
+wanted-as : {p p′ q : ℕ} {a a′ : ℕ → ℕ → ℤ} → ((t : ℕ → ℕ) → Solution p q a t → Solution p′ q a′ t) → (t : ℕ → ℕ) → SolutionIn p q a (Nonzero q) t
+    → SolutionIn p′ q a′ (Nonzero q) t
+wanted-as f t w = record { solution = f t (w .solution); admitted = w .admitted }
+
 loop-as : {p p′ q : ℕ} {a a′ : ℕ → ℕ → ℤ} → ((t : ℕ → ℕ) → Solution p q a t → Solution p′ q a′ t) → ((t : ℕ → ℕ) → Solution p′ q a′ t → Solution p q a t)
     → (t : ℕ → ℕ) → Loop p q a t → Loop p′ q a′ t
-loop-as f g t m =
-    minimal-as (λ t w. record { solution = f t (w .solution); admitted = w .admitted }) (λ t w. record {
-      solution = g t
-          (w .solution);
-      admitted = w .admitted;
-    }) m
+loop-as f g t m = minimal-as (wanted-as f) (wanted-as g) m
 
 pub exchanged : (q p : ℕ) (coefs : List ℤ) (p′ : ℕ) (coefs′ : List ℤ) → length coefs ≡ p * q → length coefs′ ≡ p′ * q
     → SameSolutions q (p + p′) (coefs ++ coefs′) (p′ + p) (coefs′ ++ coefs)

@@ -74,8 +74,8 @@ pub record BothLists (p q : ℕ) (coefs rights : List ℤ) (list : List ℕ) (n 
       → (handedCount 1 q list n ≡ 1) × Same q (at (handed 1 q nothing list n out) q 0) (λ j. 0)
   -- and of the others none is a solution of the map or meets the right sides: they are left out.
   pub others : (i : ℕ) → i < n → 1 < at list (suc q) i 0
-      → ¬ (Solution p q (systemOf q coefs) (rest (at list (suc q) i))) × ¬ (Meets p q (systemOf q coefs) (λ k. getD rights k (pos 0)) (rest (at list
-      (suc q) i)))
+      → ¬ (Solution p q (systemOf q coefs) (rest (at list (suc q) i)))
+      × ¬ (Meets p q (systemOf q coefs) (λ k. getD rights k (pos 0)) (rest (at list (suc q) i)))
 
 -- ---- from the list of the extended system
 
