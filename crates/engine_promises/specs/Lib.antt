@@ -5,3 +5,4 @@ pub mod Sides
 pub mod Kinds
 pub mod KindExamples
 pub mod Groups
+pub mod GroupExamples
