@@ -106,10 +106,10 @@ abbrev first-left : Work
 first-left = resume 1 3 8 8 100 first-taken .work
 
 first-made : Made 3 1 first (first-left .basis) (first-left .count)
-unfolding start take resume checked startChecks takeChecks resumeChecks begun taken run after finish finished rested allDone valuesSmall onward fillTo inOrder
-    marksInOrder coefficientsSmall isRow isRising isLeft refuseFirst refuseWith _then_ packTo turn rowTurn pairTurn degreeTurn paired grown passed raised
-    isPair isDue pairDegree nextDegree firstFrom lesser leastTo isWithin reducible isSmall isAtOrBelow value inner sumTo allTo anyTo countTo total unit
-    writeTo frozen bit
+unfolding start take resume checked startChecks takeChecks resumeChecks begun taken run after finish finished rested allDone valuesSmall onward fillTo
+    inOrder marksInOrder coefficientsSmall isRow isRising isLeft refuseFirst refuseWith _then_ packTo turn rowTurn pairTurn degreeTurn paired grown
+    passed raised isPair isDue pairDegree nextDegree firstFrom lesser leastTo isWithin reducible isSmall isAtOrBelow value inner sumTo allTo anyTo
+    countTo total unit writeTo frozen bit
 first-made = loaded 1 first (afterTake (afterStart 8 8 lent refl roomy roomy refl) 0 3) 100 refl
 
 -- ---- the second from its list
@@ -130,8 +130,8 @@ second-left = resume 1 3 8 8 100 (take 1 3 8 8 0 2 second-begun .work) .work
 second-made : Made 3 2 (first ++ second) (second-left .basis) (second-left .count)
 unfolding start startFrom take resume checked startChecks startFromChecks takeChecks resumeChecks begun begunFrom taken takenFresh run after finish
     finished rested allDone valuesSmall onward fillTo inOrder marksInOrder coefficientsSmall isRow isRising isLeft isList isFresh isFree isAlone
-    refuseFirst refuseWith _then_ packTo turn rowTurn pairTurn degreeTurn paired grown passed raised isPair isDue pairDegree nextDegree firstFrom lesser
-    leastTo isWithin reducible isSmall isAtOrBelow value inner sumTo allTo anyTo countTo total unit writeTo frozen bit putAt
+    refuseFirst refuseWith _then_ packTo turn rowTurn pairTurn degreeTurn paired grown passed raised isPair isDue pairDegree nextDegree firstFrom
+    lesser leastTo isWithin reducible isSmall isAtOrBelow value inner sumTo allTo anyTo countTo total unit writeTo frozen bit putAt
 second-made =
     further 1 first refl 1 second
     (afterTake (handed-on first-made handed handed-same 1 second 8 8 lent roomy roomy refl) 0 2) 100 refl
@@ -148,10 +148,10 @@ abbrev both-left : Work
 both-left = resume 2 3 8 8 100 (take 2 3 8 8 1 2 both-one .work) .work
 
 both-made : Made 3 2 (first ++ second) (both-left .basis) (both-left .count)
-unfolding start take resume checked startChecks takeChecks resumeChecks begun taken takenFresh run after finish finished rested allDone valuesSmall onward fillTo
-    inOrder marksInOrder coefficientsSmall isRow isRising isLeft isFresh isFree isAlone refuseFirst refuseWith _then_ packTo turn rowTurn pairTurn degreeTurn
-    paired grown passed raised isPair isDue pairDegree nextDegree firstFrom lesser leastTo isWithin reducible isSmall isAtOrBelow value inner sumTo allTo
-    anyTo countTo total unit writeTo frozen bit putAt
+unfolding start take resume checked startChecks takeChecks resumeChecks begun taken takenFresh run after finish finished rested allDone valuesSmall
+    onward fillTo inOrder marksInOrder coefficientsSmall isRow isRising isLeft isFresh isFree isAlone refuseFirst refuseWith _then_ packTo turn
+    rowTurn pairTurn degreeTurn paired grown passed raised isPair isDue pairDegree nextDegree firstFrom lesser leastTo isWithin reducible isSmall
+    isAtOrBelow value inner sumTo allTo anyTo countTo total unit writeTo frozen bit putAt
 both-made =
     loaded 2 (first ++ second) (afterTake (afterResume (afterTake (afterStart 8 8 lent refl roomy roomy refl) 0 3) 100) 1 2) 100 refl
 
