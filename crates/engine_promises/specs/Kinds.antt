@@ -15,10 +15,12 @@ use Rattle.linear.specs.SystemLaws.{value-same, value-sum}
 use Rattle.linear.specs.Systems.{Meets, Solution, SolutionIn, value}
 use Rattle.linear.specs.Tuples.{AtOrBelow, Minimal, Nonzero, Same, put, rest, total}
 use Rattle.definitions.specs.Answers.{complete, go}
+use Rattle.definitions.specs.Input as map
 use Rattle.definitions.specs.Input.{inputOf}
 use Rattle.definitions.specs.System.{MinimalFrom, MinimalMeeting, MinimalSolution, coef, extendTo}
-use Rattle.definitions.specs.Tables.{at}
+use Rattle.definitions.specs.Tables.{State, at}
 use Rattle.laws.specs.Extended.{extends}
+use Rattle.theorems.specs.Held as Held
 use Rattle.theorems.specs.Held.{zero-sides}
 use Rattle.theorems.specs.Listed.{Exactly, enumerated, only-one}
 use Rattle.decomposition.specs.Loops.{Loop, loops-make-up}
@@ -175,6 +177,13 @@ pub right-sides : (p q : ℕ) → 0 < q → (coefs rights : List ℤ) → length
 right-sides p q some coefs rights numbers {most} {room} {w} r budget e =
     let v = resume p (suc q) most room budget w .work in
     both-lists p q some coefs rights numbers (v .basis) (v .count) (run-complete p (suc q) (extendTo p q coefs rights) r budget e)
+
+-- So a state whose two lists are those handed out holds what a complete run with right sides does, word for word.
+pub sides-held : (p q : ℕ) (coefs b : List ℤ) (list : List ℕ) (n : ℕ) → BothLists p q coefs b list n → (out out′ : List ℕ)
+    → handedCount 0 q list n * q ≤ length out → handedCount 1 q list n * q ≤ length out′ → (s : State)
+    → s .list ≡ handed 0 q nothing list n out → s .run .found ≡ handedCount 0 q list n
+    → s .second ≡ handed 1 q nothing list n out′ → s .run .found₂ ≡ handedCount 1 q list n → Held.Whole (map.rights b) (inputOf p q coefs) s
+sides-held p q coefs b list n x out out′ room room′ s e f e′ f′ = (rw (e, f) (x .at-zero out room), rw (e′, f′) (x .at-one out′ room′))
 
 -- What meets the right sides is one of the smallest such tuples and loops besides: from both lists, in whatever tables they lie (Job 13).
 pub sides-made : (p q : ℕ) (coefs rights : List ℤ) {loops smallest : List ℕ} {n m : ℕ} → Exactly q (MinimalSolution (mapOf p q coefs)) loops n
