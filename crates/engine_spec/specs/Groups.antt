@@ -8,8 +8,8 @@ use lib.Dec.{T}
 use lib.IntN.{ℤ}
 use lib.ListN.{length}
 use Rattle.linear.specs.Combinations.{Enumerates}
-use Rattle.linear.specs.Systems.{Solution}
-use Rattle.linear.specs.Tuples.{Same}
+use Rattle.linear.specs.Systems.{Solution, SolutionIn}
+use Rattle.linear.specs.Tuples.{Nonzero, Same}
 use Rattle.definitions.specs.Answers.{complete, started}
 use Rattle.definitions.specs.Calls as walk
 use Rattle.definitions.specs.Input.{inputOf}
@@ -17,9 +17,9 @@ use Rattle.definitions.specs.System.{MinimalSolution}
 use Rattle.definitions.specs.Tables.{State, at, frozen}
 use Rattle.theorems.specs.Demands.{second-demand}
 use Rattle.theorems.specs.Link.{nonzero}
-use Rattle.theorems.specs.Listed.{Exactly}
+use Rattle.theorems.specs.Listed.{Exactly, enumerated}
 use Rattle.theorems.specs.Run.{Run}
-use Rattle.linear.specs.Loops.{Loop}
+use Rattle.linear.specs.Loops.{Loop, MadeOfRows, made-of-loops}
 use Rattle.desk_spec.specs.Desks.{deskResume}
 use Rattle.desk_spec.specs.Groups.{handed-over}
 use Rattle.desk_spec.specs.Promises.{SameList, same-number, same-rows, second-demand-desks}
@@ -39,14 +39,13 @@ pub record SameSolutions (q p : ℕ) (coefs : List ℤ) (p′ : ℕ) (coefs′ :
   pub there : (t : ℕ → ℕ) → Solution p q (systemOf q coefs) t → Solution p′ q (systemOf q coefs′) t
   pub back : (t : ℕ → ℕ) → Solution p′ q (systemOf q coefs′) t → Solution p q (systemOf q coefs) t
 
+wanted-as : {p p′ q : ℕ} {a a′ : ℕ → ℕ → ℤ} → ((t : ℕ → ℕ) → Solution p q a t → Solution p′ q a′ t) → (t : ℕ → ℕ) → SolutionIn p q a (Nonzero q) t
+    → SolutionIn p′ q a′ (Nonzero q) t
+wanted-as f t w = record { solution = f t (w .solution); admitted = w .admitted }
+
 loop-as : {p p′ q : ℕ} {a a′ : ℕ → ℕ → ℤ} → ((t : ℕ → ℕ) → Solution p q a t → Solution p′ q a′ t) → ((t : ℕ → ℕ) → Solution p′ q a′ t → Solution p q a t)
     → (t : ℕ → ℕ) → Loop p q a t → Loop p′ q a′ t
-loop-as f g t m =
-    minimal-as (λ t w. record { solution = f t (w .solution); admitted = w .admitted }) (λ t w. record {
-      solution = g t
-          (w .solution);
-      admitted = w .admitted;
-    }) m
+loop-as f g t m = minimal-as (wanted-as f) (wanted-as g) m
 
 pub exchanged : (q p : ℕ) (coefs : List ℤ) (p′ : ℕ) (coefs′ : List ℤ) → length coefs ≡ p * q → length coefs′ ≡ p′ * q
     → SameSolutions q (p + p′) (coefs ++ coefs′) (p′ + p) (coefs′ ++ coefs)
@@ -113,6 +112,10 @@ one-list {q} {p} {p′} {coefs} {coefs′} same {other = other} {m = m} x y =
 -- of one map
 pub one-map : {q p : ℕ} {coefs : List ℤ} {one other : List ℕ} {n m : ℕ} → Made q p coefs one n → Made q p coefs other m → SameList q one n other m
 one-map x y = one-list (record { there = λ t s. s; back = λ t s. s }) x y
+
+-- Every plan is made of the rows, and no shorter list of solutions does (document 02, Job 13).
+pub made-plans : {q p : ℕ} {coefs : List ℤ} {list : List ℕ} {n : ℕ} → Made q p coefs list n → MadeOfRows p q (systemOf q coefs) n (at list q)
+made-plans {q} {p} {coefs} {list} {n} m = made-of-loops p q (systemOf q coefs) n (at list q) (enumerated (made-exactly m))
 
 -- ---- between two groups
 

@@ -8,19 +8,22 @@ use native.Mathlib.Nat.{le-div-iff-mul-le, mul-le-mul-right}
 use native.Mathlib.Omega.{arith}
 use lib.IntN.{ℤ, pos, negℤ, _+ℤ_}
 use lib.ListN.{getD, length, take}
-use Rattle.linear.specs.Combinations.{Enumerates, minimal-below, solution-same}
+use Rattle.linear.specs.Combinations.{Enumerates, SumOf, found-below, minimal-below, solution-same}
+use Rattle.linear.specs.Differences.{integers, sum-is}
 use Rattle.linear.specs.RightSides.{Extends}
-use Rattle.linear.specs.SystemLaws.{value-same}
+use Rattle.linear.specs.SystemLaws.{value-same, value-sum}
 use Rattle.linear.specs.Systems.{Meets, Solution, SolutionIn, value}
 use Rattle.linear.specs.Tuples.{AtOrBelow, Minimal, Nonzero, Same, put, rest, total}
 use Rattle.definitions.specs.Answers.{complete, go}
+use Rattle.definitions.specs.Input as map
 use Rattle.definitions.specs.Input.{inputOf}
 use Rattle.definitions.specs.System.{MinimalFrom, MinimalMeeting, MinimalSolution, extendTo}
-use Rattle.definitions.specs.Tables.{at}
+use Rattle.definitions.specs.Tables.{State, at}
 use Rattle.laws.specs.Extended.{extends}
+use Rattle.theorems.specs.Held as Held
 use Rattle.theorems.specs.Held.{zero-sides}
-use Rattle.theorems.specs.Listed.{Exactly, only-one}
-use Rattle.linear.specs.Loops.{Loop}
+use Rattle.theorems.specs.Listed.{Exactly, enumerated, only-one}
+use Rattle.linear.specs.Loops.{Loop, loops-make-up}
 use Rattle.desk_spec.specs.Desks.{Desk}
 use Rattle.desk_spec.specs.Groups.{groups-joined}
 use Rattle.desk_spec.specs.Second.{both-whole, whole-first, whole-second}
@@ -73,8 +76,8 @@ pub record BothLists (p q : ℕ) (coefs rights : List ℤ) (list : List ℕ) (n 
       → (handedCount 1 q list n ≡ 1) × Same q (at (handed 1 q nothing list n out) q 0) (λ j. 0)
   -- and of the others none is a solution of the map or meets the right sides: they are left out.
   pub others : (i : ℕ) → i < n → 1 < at list (suc q) i 0
-      → ¬ (Solution p q (systemOf q coefs) (rest (at list (suc q) i))) × ¬ (Meets p q (systemOf q coefs) (λ k. getD rights k (pos 0)) (rest (at list
-      (suc q) i)))
+      → ¬ (Solution p q (systemOf q coefs) (rest (at list (suc q) i)))
+      × ¬ (Meets p q (systemOf q coefs) (λ k. getD rights k (pos 0)) (rest (at list (suc q) i)))
 
 -- ---- from the list of the extended system
 
@@ -174,6 +177,35 @@ pub right-sides : (p q : ℕ) → 0 < q → (coefs rights : List ℤ) → length
 right-sides p q some coefs rights numbers {most} {room} {w} r budget e =
     let v = resume p (suc q) most room budget w .work in
     both-lists p q some coefs rights numbers (v .basis) (v .count) (run-complete p (suc q) (extendTo p q coefs rights) r budget e)
+
+-- So a state whose two lists are those handed out holds what a complete run with right sides does, word for word.
+pub sides-held : (p q : ℕ) (coefs b : List ℤ) (list : List ℕ) (n : ℕ) → BothLists p q coefs b list n → (out out′ : List ℕ)
+    → handedCount 0 q list n * q ≤ length out → handedCount 1 q list n * q ≤ length out′ → (s : State)
+    → s .list ≡ handed 0 q nothing list n out → s .run .found ≡ handedCount 0 q list n
+    → s .second ≡ handed 1 q nothing list n out′ → s .run .found₂ ≡ handedCount 1 q list n → Held.Whole (map.rights b) (inputOf p q coefs) s
+sides-held p q coefs b list n x out out′ room room′ s e f e′ f′ = (rw (e, f) (x .at-zero out room), rw (e′, f′) (x .at-one out′ room′))
+
+-- What meets the right sides is one of the smallest such tuples and loops besides: from both lists, in whatever tables they lie (Job 13).
+pub sides-made : (p q : ℕ) (coefs rights : List ℤ) {loops smallest : List ℕ} {n m : ℕ} → Exactly q (MinimalSolution (mapOf p q coefs)) loops n
+    → Exactly q (MinimalMeeting (mapOf p q coefs) rights) smallest m → (t : ℕ → ℕ) → Meets p q (systemOf q coefs) (λ i. getD rights i (pos 0)) t
+    → (i : ℕ) × (i < m) × AtOrBelow q (at smallest q i) t × SumOf q n (at loops q) (λ j. t j - at smallest q i j)
+sides-made p q coefs rights {loops} {smallest} {n} {m} x y t meets =
+    let (i, l, under) = found-below q _ m (at smallest q) (y .all) t meets in
+    let left = rest-is i (y .part .only i l .holds) under in
+    (i, l, under, loops-make-up p q (systemOf q coefs) n (at loops q) (enumerated x) (λ j. t j - at smallest q i j) left)
+  where
+    -- both meet them: their difference meets 0
+    rest-is : (i : ℕ) → Meets p q (systemOf q coefs) (λ k. getD rights k (pos 0)) (at smallest q i) → AtOrBelow q (at smallest q i) t
+        → Solution p q (systemOf q coefs) (λ j. t j - at smallest q i j)
+    rest-is i low under k kp =
+        let sum = value-sum (systemOf q coefs k) q (λ j. t j - at smallest q i j) (at smallest q i) t (λ j jq. omega (arith, under j jq)) in
+        omega (
+          integers,
+          sum,
+          meets k kp,
+          low k kp,
+          sum-is (value (systemOf q coefs k) q (λ j. t j - at smallest q i j)) (value (systemOf q coefs k) q (at smallest q i)),
+        )
 
 -- What a complete list holds from a lower bound: the rows with 1 in the first unknown, with the bound added, are exactly the smallest at or above the bound,
 -- each once; and where there are none, nothing at or above the bound is such. With right sides `rights`, without them where these are [].

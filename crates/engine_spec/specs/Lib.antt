@@ -33,3 +33,4 @@ pub mod Sides
 pub mod Kinds
 pub mod KindExamples
 pub mod Groups
+pub mod GroupExamples

@@ -1,7 +1,7 @@
 -- The promises of the engine, in one place: open this file first. They hold of every run that nobody else alters, whichever row operations, equations and fresh
--- unknowns its caller handed over, calls that were refused included. Rules.antt has the refusals before a call's work, each in its case and in no other;
--- CallRules.antt has calls one after the other: "the same call again refuses again", and a pause changes nothing. That a run ends is not promised. Assumes
--- nothing.
+-- unknowns its caller handed over, calls that were refused included. Kinds.antt has right sides, lower bounds and starts from a list, Groups.antt that a list
+-- is the same however it was made. Rules.antt has the refusals before a call's work, each in its case and in no other; CallRules.antt has calls one after the
+-- other: "the same call again refuses again", and a pause changes nothing. That a run ends is not promised. Assumes nothing.
 use mathlib.Core.Path.{_≡_}
 use mathlib.Core.List.{List}
 use Prim.Native.Nat.{ℕ, _*_, _≤_, _<_}
