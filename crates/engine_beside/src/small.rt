@@ -29,7 +29,7 @@ pub fn small_at(table: &[u32], base: usize, q: usize) -> bool
 {
     let mut j = 0;
     while j < q {
-        if 1000000 < table[base + j] {
+        if calls::COMPONENT_LIMIT < table[base + j] {
             return false;
         }
         j += 1;

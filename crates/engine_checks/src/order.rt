@@ -65,7 +65,7 @@ fn record_in_order(
     if room < rows {
         return false;
     }
-    if 1000000000000 < steps {
+    if calls::STEP_LIMIT < steps {
         return false;
     }
     let past: u64 = 1 << p;

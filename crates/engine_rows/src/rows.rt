@@ -58,7 +58,7 @@ pub fn small_sum(table: &[u32], x: usize, y: usize, q: usize) -> bool
 {
     let mut j = 0;
     while j < q {
-        if 1000000 < table[x + j] + table[y + j] {
+        if calls::COMPONENT_LIMIT < table[x + j] + table[y + j] {
             return false;
         }
         j += 1;

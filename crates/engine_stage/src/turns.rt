@@ -74,7 +74,7 @@ pub fn turn(
     let m = f.m;
     let n = s.rows;
     let d = s.degree;
-    if s.steps == 1000000000000 {
+    if s.steps == calls::STEP_LIMIT {
         return Turned::Late;
     }
     let i = due(sizes, m, s.taken, d, s.more);
