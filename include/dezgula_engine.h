@@ -105,6 +105,18 @@ uint64_t dezgula_engine_take(size_t p, size_t q, dezgula_engine_run *run, size_t
  * the basis are exactly the minimal solutions of the map, each once; or a refusal: before the first turn 1, 2, 4 or 6, by a turn 12, 14 or 31. */
 uint64_t dezgula_engine_resume(size_t p, size_t q, dezgula_engine_run *run, uint64_t budget) DEZGULA_LOOK_AT_IT;
 
+/* ---- questions about a list of such a map: those of dezgula.h, with the same answers, but that 1 and 2 are the engine's. A list may have any number of rows;
+ * that of a run is its basis, with `count` as found. Where a run was complete, DEZGULA_UNLISTED is never the answer, and dezgula_engine_decompose answers
+ * DEZGULA_MADE for every solution that is not refused and has a place of `times` for each row. */
+
+uint64_t dezgula_engine_locate(const dezgula_system *system, const dezgula_list *list, const uint32_t *tuple, size_t tuple_len) DEZGULA_LOOK_AT_IT;
+
+uint64_t dezgula_engine_reason(const dezgula_system *system, const dezgula_list *list, const uint32_t *tuple, size_t tuple_len,
+                               int64_t *amount) DEZGULA_LOOK_AT_IT;
+
+uint64_t dezgula_engine_decompose(const dezgula_system *system, const dezgula_list *list, const uint32_t *tuple, size_t tuple_len, uint32_t *times,
+                                  size_t times_len, int64_t *amount) DEZGULA_LOOK_AT_IT;
+
 /* ---- the solver. It allocates with malloc what it needs, as it needs it: some kilobytes at first, then twice as much each time, up to the limit that it is
  * given. A solver is plain numbers and tables; several may go on in several threads, each in one at a time. A call that takes a solver const only reads it,
  * so that several threads may ask one that none works with. A pointer to a solver is never NULL, but for that to be freed. */

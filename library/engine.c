@@ -67,3 +67,28 @@ uint64_t dezgula_engine_resume(size_t p, size_t q, dezgula_engine_run *run, uint
 {
     ON_WORDS(run, dezgula_raw_engine_resume(p, q, BASIS(run), STAGE(run), RECORD(record), budget));
 }
+
+/* ---- questions about a list */
+
+#define LENT(table, length) dezgula_lent(table), dezgula_lent_length(table, length)
+#define LIST(list) LENT((list)->rows, (list)->rows_len)
+
+uint64_t dezgula_engine_locate(const dezgula_system *system, const dezgula_list *list, const uint32_t *tuple, size_t tuple_len)
+{
+    return dezgula_raw_engine_locate(LIST(list), system->q, list->found, LENT(tuple, tuple_len));
+}
+
+uint64_t dezgula_engine_reason(const dezgula_system *system, const dezgula_list *list, const uint32_t *tuple, size_t tuple_len, int64_t *amount)
+{
+    int64_t unasked[1];
+    return dezgula_raw_engine_reason(system->p, system->q, TABLE(system, coefs), LIST(list), list->found, LENT(tuple, tuple_len),
+                                     amount != NULL ? amount : unasked);
+}
+
+uint64_t dezgula_engine_decompose(const dezgula_system *system, const dezgula_list *list, const uint32_t *tuple, size_t tuple_len, uint32_t *times,
+                                  size_t times_len, int64_t *amount)
+{
+    int64_t unasked[1];
+    return dezgula_raw_engine_decompose(system->p, system->q, TABLE(system, coefs), LIST(list), list->found, LENT(tuple, tuple_len), LENT(times, times_len),
+                                        amount != NULL ? amount : unasked);
+}

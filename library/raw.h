@@ -136,6 +136,14 @@ uint64_t dezgula_raw_engine_resume(size_t p, size_t q, int32_t *equations, size_
                                    uint32_t *degrees, size_t degrees_len, uint64_t *marks, size_t marks_len, uint32_t *mothers, size_t mothers_len,
                                    uint64_t *record, size_t record_len, uint64_t budget) DEZGULA_LOOK_AT_IT;
 
+uint64_t dezgula_raw_engine_locate(const uint32_t *list, size_t list_len, size_t q, size_t found, const uint32_t *tuple, size_t tuple_len) DEZGULA_LOOK_AT_IT;
+
+uint64_t dezgula_raw_engine_reason(size_t p, size_t q, const int32_t *coefs, size_t coefs_len, const uint32_t *list, size_t list_len, size_t found,
+                                   const uint32_t *tuple, size_t tuple_len, int64_t amount[1]) DEZGULA_LOOK_AT_IT;
+
+uint64_t dezgula_raw_engine_decompose(size_t p, size_t q, const int32_t *coefs, size_t coefs_len, const uint32_t *list, size_t list_len, size_t found,
+                                      const uint32_t *tuple, size_t tuple_len, uint32_t *times, size_t times_len, int64_t amount[1]) DEZGULA_LOOK_AT_IT;
+
 #ifdef __cplusplus
 }
 #endif

@@ -4,7 +4,7 @@
 #include <string.h>
 
 #include "build_map.h"
-#include "dezgula.h"
+#include "dezgula_engine.h"
 
 void question_free(question *asked)
 {
@@ -70,10 +70,8 @@ static reply reply_of(uint64_t answer, fault *why)
     case DEZGULA_ABOVE: r.kind = ANSWER_ABOVE; break;
     case DEZGULA_UNLISTED: r.kind = ANSWER_UNLISTED; break;
     case DEZGULA_MADE: r.kind = ANSWER_MADE; break;
-    case DEZGULA_EQUATIONS:
     case DEZGULA_UNKNOWNS:
-        fault_set(why, dezgula_number(answer), "questions are about maps of at most %d trays and %d activities, of which a delivery counts as one",
-                  DEZGULA_MOST_EQUATIONS, DEZGULA_MOST_UNKNOWNS);
+        fault_set(why, dezgula_number(answer), "questions are about at most %d activities, and a delivery counts as one more", DEZGULA_ENGINE_MOST);
         break;
     default: fault_set(why, dezgula_number(answer), "%s", dezgula_sentence(answer));
     }
@@ -85,19 +83,19 @@ bool ask_tray(const question *asked, size_t i, int64_t *amount, fault *why)
     dezgula_system tray = {1, asked->q, asked->coefs + i * asked->q, asked->q};
     dezgula_list none = {NULL, 0, 0};
     *amount = 0;
-    return reply_of(dezgula_reason(&tray, &none, asked->tuple, asked->q, amount), why).kind != ANSWER_REFUSED;
+    return reply_of(dezgula_engine_reason(&tray, &none, asked->tuple, asked->q, amount), why).kind != ANSWER_REFUSED;
 }
 
 reply ask_why(const question *asked, fault *why)
 {
     dezgula_system system = system_of(asked);
     dezgula_list list = list_of(asked);
-    return reply_of(dezgula_reason(&system, &list, asked->tuple, asked->q, NULL), why);
+    return reply_of(dezgula_engine_reason(&system, &list, asked->tuple, asked->q, NULL), why);
 }
 
 reply ask_plan(const question *asked, uint32_t *times, fault *why)
 {
     dezgula_system system = system_of(asked);
     dezgula_list list = list_of(asked);
-    return reply_of(dezgula_decompose(&system, &list, asked->tuple, asked->q, times, asked->rows_len, NULL), why);
+    return reply_of(dezgula_engine_decompose(&system, &list, asked->tuple, asked->q, times, asked->rows_len, NULL), why);
 }

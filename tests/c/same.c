@@ -178,6 +178,12 @@ static void questions(void)
             dezgula_raw_reason(RAW_SYSTEM, raw.list, raw_len, found, lower, lower_len, raw.amount));
     compare("decompose", dezgula_decompose(&system_, &rows, lower, lower_len, easy.out, out_len, easy.amount),
             dezgula_raw_decompose(RAW_SYSTEM, raw.list, raw_len, found, lower, lower_len, raw.out, out_len, raw.amount));
+    compare("engine_locate", dezgula_engine_locate(&system_, &rows, lower, lower_len),
+            dezgula_raw_engine_locate(raw.list, raw_len, system_.q, found, lower, lower_len));
+    compare("engine_reason", dezgula_engine_reason(&system_, &rows, lower, lower_len, easy.amount),
+            dezgula_raw_engine_reason(RAW_SYSTEM, raw.list, raw_len, found, lower, lower_len, raw.amount));
+    compare("engine_decompose", dezgula_engine_decompose(&system_, &rows, lower, lower_len, easy.out, out_len, easy.amount),
+            dezgula_raw_engine_decompose(RAW_SYSTEM, raw.list, raw_len, found, lower, lower_len, raw.out, out_len, raw.amount));
     compare("listing", dezgula_listing(&system_, &rows, (char *)easy.bytes, out_len * 16),
             dezgula_raw_listing(RAW_SYSTEM, raw.list, raw_len, found, raw.bytes, out_len * 16));
 }

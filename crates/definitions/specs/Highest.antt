@@ -25,10 +25,10 @@ pub data Located : Type 0 where
   nowhere : Located
   refused : ℕ → List ℕ → Located
 
--- q outside 1 to 16, a tuple not of length q, a count of rows above the capacity: in rising number, as everywhere
-unfoldable pub locateChecks : ℕ → List ℕ → ℕ → List ℕ → Check
-locateChecks q list found t =
-    refuseIf (not (between 1 mostUnknowns q)) 2
+-- q outside 1 to the most unknowns, a tuple not of length q, a count of rows above the capacity: in rising number, as everywhere
+unfoldable pub locateChecks : (most q : ℕ) → List ℕ → ℕ → List ℕ → Check
+locateChecks most q list found t =
+    refuseIf (not (between 1 most q)) 2
     then refuseIf (not (eqb (length t) q)) 5
     then refuseIf (not (leb found (capacity q list))) 6
 
@@ -40,8 +40,12 @@ unfoldable pub unlessRefused : Check → Located → Located
 unlessRefused (refuse n values) r = refused n values
 unlessRefused go r = r
 
-unfoldable pub locate : ℕ → List ℕ → ℕ → List ℕ → Located
-locate q list found t = unlessRefused (locateChecks q list found t) (placed (highest q found (at list q) (λ j. getD t j 0)))
+unfoldable pub locateWithin : (most q : ℕ) → List ℕ → ℕ → List ℕ → Located
+locateWithin most q list found t = unlessRefused (locateChecks most q list found t) (placed (highest q found (at list q) (λ j. getD t j 0)))
+
+-- document 02's call: q from 1 to 16
+abbrev pub locate : ℕ → List ℕ → ℕ → List ℕ → Located
+locate q list found t = locateWithin mostUnknowns q list found t
 
 -- ---- it computes: a list with 3 2 twice and 1 5 between them
 
@@ -58,8 +62,10 @@ answers =
     ∷ locate 17 rows 4 []
     ∷ locate 2 rows 4 (4 ∷ [])
     ∷ locate 2 rows 4 (4 ∷ 2 ∷ [])
+    ∷ locateWithin 17 17 rows 4 []
+    ∷ locateWithin 1 2 rows 4 []
     ∷ []
 
-places-hold : answers ≡ place 3 ∷ place 1 ∷ place 2 ∷ nowhere ∷ nowhere ∷ refused 2 [] ∷ refused 5 [] ∷ refused 6 [] ∷ []
-unfolding rows answers allTo lastTo placeIf isAtOrBelow highest refuseWith _then_ locateChecks unlessRefused locate
+places-hold : answers ≡ place 3 ∷ place 1 ∷ place 2 ∷ nowhere ∷ nowhere ∷ refused 2 [] ∷ refused 5 [] ∷ refused 6 [] ∷ refused 5 [] ∷ refused 2 [] ∷ []
+unfolding rows answers allTo lastTo placeIf isAtOrBelow highest refuseWith _then_ locateChecks unlessRefused locateWithin
 places-hold = refl

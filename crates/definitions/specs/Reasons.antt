@@ -17,7 +17,7 @@ use Rattle.definitions.specs.System.{System, imageOf, isAtOrBelow, isZer
 use Rattle.definitions.specs.Input.{Input, inputOf, mapOf}
 use Rattle.definitions.specs.Highest.{highest}
 use Rattle.definitions.specs.Tables.{at, capacity}
-use Rattle.definitions.specs.Refusals.{check1, check2, check3, check5, check7, check8}
+use Rattle.definitions.specs.Refusals.{Sizes, check1Within, check2Within, check3, check5, check7, check8, documentSizes, sizes}
 
 -- The reasons, equations and places counted from 1; or a refusal, with document 01's number and values.
 pub data Reason : Type 0 where
@@ -39,9 +39,11 @@ pub data Reason : Type 0 where
 abbrev pub checkCount : Input → List ℕ → ℕ → Check
 checkCount i list found = refuseIf (not (leb found (capacity (i .q) list))) 6
 
--- "(A longer or shorter tuple: 5; a component too large: 8.)", in rising number: the tuple takes the place of a floor
-unfoldable pub reasonChecks : Input → List ℕ → ℕ → List ℕ → Check
-reasonChecks i list found t = check1 i then check2 i then check3 i then check5 i t then checkCount i list found then check7 i then check8 i t
+-- "(A longer or shorter tuple: 5; a component too large: 8.)", in rising number: the tuple takes the place of a floor. The most equations and unknowns are a
+-- parameter, so that larger maps are asked about in the same words
+unfoldable pub reasonChecks : Sizes → Input → List ℕ → ℕ → List ℕ → Check
+reasonChecks s i list found t =
+    check1Within s i then check2Within s i then check3 i then check5 i t then checkCount i list found then check7 i then check8 i t
 
 -- ---- the first that is true
 
@@ -88,8 +90,12 @@ unfoldable pub unlessRefused : Check → Reason → Reason
 unlessRefused (refuse n values) r = refused n values
 unlessRefused go r = r
 
-unfoldable pub reason : Input → List ℕ → ℕ → List ℕ → Reason
-reason i list found t = unlessRefused (reasonChecks i list found t) (firstTrue (mapOf i) found (at list (i .q)) (λ j. getD t j 0))
+unfoldable pub reasonWithin : Sizes → Input → List ℕ → ℕ → List ℕ → Reason
+reasonWithin s i list found t = unlessRefused (reasonChecks s i list found t) (firstTrue (mapOf i) found (at list (i .q)) (λ j. getD t j 0))
+
+-- document 02's call: p from 1 to 8, q from 1 to 16
+abbrev pub reason : Input → List ℕ → ℕ → List ℕ → Reason
+reason i list found t = reasonWithin documentSizes i list found t
 
 -- ---- it computes: on 2 −3 with the list 3 2, 3 2, and on the program's map with both of its solutions; one answer of each kind, and each refusal
 -- ahead of those after it
@@ -132,11 +138,20 @@ refusals =
     ∷ reason (inputOf 1 2 (pos 0 ∷ pos 10001 ∷ [])) (0 ∷ 0 ∷ []) 1 (1000001 ∷ 0 ∷ [])
     ∷ reason (inputOf 1 2 (pos 0 ∷ pos 10000 ∷ [])) (0 ∷ 0 ∷ []) 1 (1000001 ∷ 0 ∷ [])
     ∷ reason (inputOf 1 2 (pos 0 ∷ pos 10000 ∷ [])) (0 ∷ 0 ∷ []) 1 (1000000 ∷ 1000000 ∷ [])
+    ∷ reason (inputOf 9 17 []) [] 1 []
+    ∷ reasonWithin (sizes 9 16) (inputOf 9 17 []) [] 1 []
+    ∷ reasonWithin (sizes 9 17) (inputOf 9 17 []) [] 1 []
+    ∷ reasonWithin (sizes 8 17) (inputOf 9 17 []) [] 1 []
     ∷ []
 
 reasons-hold : (answers ≡ zero ∷ off 1 (negsuc 2) ∷ off 1 (pos 5) ∷ stands 2 ∷ stands 1 ∷ above 2 ∷ unlisted ∷ unlisted ∷ off 1 (negsuc 0) ∷ off 2 (negsuc 7)
     ∷ above 2 ∷ unlisted ∷ [])
-    × (refusals ≡ refused 1 [] ∷ refused 2 [] ∷ refused 3 [] ∷ refused 5 [] ∷ refused 6 [] ∷ refused 7 (2 ∷ []) ∷ refused 8 [] ∷ off 1 (pos 10000000000) ∷ [])
+    × (refusals ≡ refused 1 [] ∷ refused 2 [] ∷ refused 3 [] ∷ refused 5 [] ∷ refused 6 [] ∷ refused 7 (2 ∷ []) ∷ refused 8 [] ∷ off 1 (pos 10000000000)
+    ∷ refused 1 []
+    ∷ refused 2 []
+    ∷ refused 3 []
+    ∷ refused 1 []
+    ∷ [])
 unfolding small twice example both answers refusals sumTo inner value allTo anyTo elseIf firstTo placeIf lastTo refuseWith _then_ refuseFirst isAtOrBelow isSame
-    highest standing check7 reasonChecks vanishes firstOff zeroOr offOr standsOr aboveOr inList firstTrue unlessRefused reason
+    highest standing check7 reasonChecks vanishes firstOff zeroOr offOr standsOr aboveOr inList firstTrue unlessRefused reasonWithin
 reasons-hold = (refl, refl)

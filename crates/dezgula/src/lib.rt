@@ -23,6 +23,7 @@ ghost use Rattle.single_words.specs.SingleFile.{singleStartWords, singleResumeW
 mod equations; // equations.rt: typed equations
 mod files; // files.rt: lists as files
 mod lower; // lower.rt: runs from a lower bound
+mod questions; // questions.rt: questions about the lists of larger maps
 mod rights; // rights.rt: maps with right sides
 mod stages; // stages.rt: the whole basis, stage by stage
 mod training; // training.rt: the training seat

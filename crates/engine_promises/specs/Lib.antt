@@ -1,3 +1,4 @@
 pub mod Promises
 pub mod CallRules
 pub mod Rules
+pub mod Questions

@@ -19,9 +19,10 @@ use Rattle.linear.specs.Tuples.{AtOrBelow, Below, Nonzero, Same}
 use Rattle.definitions.specs.Answers.{Check, go, refuse}
 use Rattle.definitions.specs.Highest.{highest}
 use Rattle.definitions.specs.Input.{Input, limitOf, mapOf}
-use Rattle.definitions.specs.Reasons.{Reason, above, aboveOr, checkCount, firstOff, firstTrue, inList, isSame, off, offOr, reason, reasonChecks, refused}
-use Rattle.definitions.specs.Reasons.{standing, stands, standsOr, unlessRefused, unlisted, vanishes, zero, zeroOr}
-use Rattle.definitions.specs.System.{System, coef, coefLimit, imageOf, isAtOrBelow, isZero, mostEquations, mostUnknowns}
+use Rattle.definitions.specs.Reasons.{Reason, above, aboveOr, checkCount, firstOff, firstTrue, inList, isSame, off, offOr, reasonChecks, reasonWithin}
+use Rattle.definitions.specs.Reasons.{refused, standing, stands, standsOr, unlessRefused, unlisted, vanishes, zero, zeroOr}
+use Rattle.definitions.specs.Refusals.{Sizes}
+use Rattle.definitions.specs.System.{System, coef, coefLimit, imageOf, isAtOrBelow, isZero}
 use Rattle.definitions.specs.Tables.{at, capacity}
 use Rattle.laws.specs.CheckLaws.{AllSilent, Decides, FirstDue, Renders, Rules, _▹_, check-cases, decides-if, end, renders-last, renders-then, rule}
 use Rattle.laws.specs.RefusalLaws.{Outside, at-most, decides-bound, decides-outside, decides-range, decides-unequal, equal, rangeRule}
@@ -29,10 +30,10 @@ use Rattle.laws.specs.SystemLaws.{below-from, below-to, is-zero, zero-is
 
 -- ---- the refusals as rules
 
-abbrev pub reasonRules : Input → List ℕ → ℕ → List ℕ → Rules
-reasonRules i list found t =
-    rule 1 (Outside 1 mostEquations (i .p))
-    ▹ rule 2 (Outside 1 mostUnknowns (i .q))
+abbrev pub reasonRules : Sizes → Input → List ℕ → ℕ → List ℕ → Rules
+reasonRules s i list found t =
+    rule 1 (Outside 1 (s .equations) (i .p))
+    ▹ rule 2 (Outside 1 (s .unknowns) (i .q))
     ▹ rule 3 (length (i .coefs) ≢ i .p * i .q)
     ▹ rule 5 (length t ≢ i .q)
     ▹ rule 6 (capacity (i .q) list < found)
@@ -48,35 +49,35 @@ decides-count i list found =
     (λ l. not-T (leb found room) (λ h. omega (arith, leb→le found room h)))
 
 -- what is known of a question that is not refused
-pub record Askable (i : Input) (list : List ℕ) (found : ℕ) (t : List ℕ) : Type 0 where
+pub record Askable (s : Sizes) (i : Input) (list : List ℕ) (found : ℕ) (t : List ℕ) : Type 0 where
   pub p-some : 0 < i .p
-  pub p-few : i .p ≤ mostEquations
+  pub p-few : i .p ≤ s .equations
   pub q-some : 0 < i .q
-  pub q-few : i .q ≤ mostUnknowns
+  pub q-few : i .q ≤ s .unknowns
   pub coefs : length (i .coefs) ≡ i .p * i .q
   pub tuple : length t ≡ i .q
   pub rows : found ≤ capacity (i .q) list
   pub range : (k : ℕ) → k < length (i .coefs) → natAbs (getD (i .coefs) k (pos 0)) ≤ coefLimit
   pub small : (j : ℕ) → j < length t → getD t j 0 ≤ limitOf (i .limit)
 
-module _ (i : Input) (list : List ℕ) (found : ℕ) (t : List ℕ) where
-  pub reason-renders : Renders (reasonChecks i list found t) (reasonRules i list found t)
+module _ (s : Sizes) (i : Input) (list : List ℕ) (found : ℕ) (t : List ℕ) where
+  pub reason-renders : Renders (reasonChecks s i list found t) (reasonRules s i list found t)
   unfolding reasonChecks
   reason-renders =
-      renders-then (decides-outside 1 1 mostEquations (i .p))
-      (renders-then (decides-outside 2 1 mostUnknowns (i .q))
+      renders-then (decides-outside 1 1 (s .equations) (i .p))
+      (renders-then (decides-outside 2 1 (s .unknowns) (i .q))
       (renders-then (decides-unequal 3 (length (i .coefs)) (i .p * i .q))
       (renders-then (decides-unequal 5 (length t) (i .q))
       (renders-then (decides-count i list found) (renders-then (decides-range i) (renders-last (decides-bound i t)))))))
 
-  pub reason-askable : reasonChecks i list found t ≡ go → Askable i list found t
+  pub reason-askable : reasonChecks s i list found t ≡ go → Askable s i list found t
   reason-askable e =
       let (p, (q, (c, (n, (k, (r, (b, u))))))) = reason-renders .goes e in
       record {
         p-some = at-most 1 (i .p) (λ l. p (inl l));
-        p-few = at-most (i .p) mostEquations (λ l. p (inr l));
+        p-few = at-most (i .p) (s .equations) (λ l. p (inr l));
         q-some = at-most 1 (i .q) (λ l. q (inl l));
-        q-few = at-most (i .q) mostUnknowns (λ l. q (inr l));
+        q-few = at-most (i .q) (s .unknowns) (λ l. q (inr l));
         coefs = equal (length (i .coefs)) (i .p * i .q) c;
         tuple = equal (length t) (i .q) n;
         rows = at-most found (capacity (i .q) list) k;
@@ -336,7 +337,7 @@ unfolding unlessRefused
 refused-by (refuse k vs) r n values other e = cc
 refused-by go r n values other e = absurd (other e)
 
-module _ (i : Input) (list : List ℕ) (found : ℕ) (t : List ℕ) where
+module _ (s : Sizes) (i : Input) (list : List ℕ) (found : ℕ) (t : List ℕ) where
   abbrev row : ℕ → ℕ → ℕ
   row = at list (i .q)
 
@@ -344,34 +345,34 @@ module _ (i : Input) (list : List ℕ) (found : ℕ) (t : List ℕ) where
   x j = getD t j 0
 
   -- a refusal is given exactly where it is due
-  pub reason-refused : (n : ℕ) (values : List ℕ) → reason i list found t ≡ refused n values → FirstDue (reasonRules i list found t) n values
-  unfolding reason
+  pub reason-refused : (n : ℕ) (values : List ℕ) → reasonWithin s i list found t ≡ refused n values → FirstDue (reasonRules s i list found t) n values
+  unfolding reasonWithin
   reason-refused n values e =
-      reason-renders i list found t .refuses n values
-      (refused-by (reasonChecks i list found t) (firstTrue (mapOf i) found row x) n values (λ f. rw f at (first-given (mapOf i) found row x .0)) e)
+      reason-renders s i list found t .refuses n values
+      (refused-by (reasonChecks s i list found t) (firstTrue (mapOf i) found row x) n values (λ f. rw f at (first-given (mapOf i) found row x .0)) e)
 
-  pub refused-reason : (n : ℕ) (values : List ℕ) → FirstDue (reasonRules i list found t) n values → reason i list found t ≡ refused n values
-  unfolding reason unlessRefused
-  refused-reason n values h = rw (reason-renders i list found t .due n values h)
+  pub refused-reason : (n : ℕ) (values : List ℕ) → FirstDue (reasonRules s i list found t) n values → reasonWithin s i list found t ≡ refused n values
+  unfolding reasonWithin unlessRefused
+  refused-reason n values h = rw (reason-renders s i list found t .due n values h)
 
   -- and where none is due, the first that is true
-  module _ (none-due : AllSilent (reasonRules i list found t)) where
-    asked : reason i list found t ≡ firstTrue (mapOf i) found row x
-    unfolding reason unlessRefused
-    asked = rw (reason-renders i list found t .silent none-due)
+  module _ (none-due : AllSilent (reasonRules s i list found t)) where
+    asked : reasonWithin s i list found t ≡ firstTrue (mapOf i) found row x
+    unfolding reasonWithin unlessRefused
+    asked = rw (reason-renders s i list found t .silent none-due)
 
-    pub reason-given : (r : Reason) → reason i list found t ≡ r → Claim (mapOf i) found row x r × NoneEarlier (mapOf i) found row x r
+    pub reason-given : (r : Reason) → reasonWithin s i list found t ≡ r → Claim (mapOf i) found row x r × NoneEarlier (mapOf i) found row x r
     reason-given r e = rw (sym asked ∙ e) at (first-given (mapOf i) found row x)
 
-    pub given-reason : (r : Reason) → Claim (mapOf i) found row x r × NoneEarlier (mapOf i) found row x r → reason i list found t ≡ r
+    pub given-reason : (r : Reason) → Claim (mapOf i) found row x r × NoneEarlier (mapOf i) found row x r → reasonWithin s i list found t ≡ r
     given-reason r h = asked ∙ only-given (mapOf i) found row x r h
 
   -- an answer that is no refusal comes where none is due
-  pub unlisted-asked : reason i list found t ≡ unlisted → AllSilent (reasonRules i list found t)
-  unfolding reason unlessRefused
+  pub unlisted-asked : reasonWithin s i list found t ≡ unlisted → AllSilent (reasonRules s i list found t)
+  unfolding reasonWithin unlessRefused
   unlisted-asked e =
-      elim (check-cases (reasonChecks i list found t)) [
-        | inl g ↦ reason-renders i list found t .goes g
+      elim (check-cases (reasonChecks s i list found t)) [
+        | inl g ↦ reason-renders s i list found t .goes g
         | inr (n, values, g) ↦ absurd (refused-unlisted (rw g at e))
       ]
     where
@@ -379,7 +380,7 @@ module _ (i : Input) (list : List ℕ) (found : ℕ) (t : List ℕ) where
       refused-unlisted f = let z : _≡_ {A = ℕ} 0 1 = cc in omega arith
 
   -- refusal 6 is about the count of rows alone
-  pub count-refused : (values : List ℕ) → reason i list found t ≡ refused 6 values → capacity (i .q) list < found
+  pub count-refused : (values : List ℕ) → reasonWithin s i list found t ≡ refused 6 values → capacity (i .q) list < found
   count-refused values e =
       elim (reason-refused 6 values e) [
         | inl d ↦ absurd (omega (arith, d .0))

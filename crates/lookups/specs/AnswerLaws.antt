@@ -12,29 +12,29 @@ use Rattle.definitions.specs.Answers.{_then_, refuseWith}
 use Rattle.definitions.specs.Highest as paper
 use Rattle.definitions.specs.Tables.{at, capacity}
 
-module _ (q : ℕ) (list : List ℕ) (found : ℕ) (t : List ℕ) where
-  pub no-unknowns : leb 1 q ≡ false → paper.refused 2 [] ≡ paper.locate q list found t
-  unfolding paper.locate paper.locateChecks paper.unlessRefused refuseWith _then_
+module _ (most q : ℕ) (list : List ℕ) (found : ℕ) (t : List ℕ) where
+  pub no-unknowns : leb 1 q ≡ false → paper.refused 2 [] ≡ paper.locateWithin most q list found t
+  unfolding paper.locateWithin paper.locateChecks paper.unlessRefused refuseWith _then_
   no-unknowns a = rw a
 
   module _ (a : leb 1 q ≡ true) where
-    pub many-unknowns : leb q 16 ≡ false → paper.refused 2 [] ≡ paper.locate q list found t
-    unfolding paper.locate paper.locateChecks paper.unlessRefused refuseWith _then_
+    pub many-unknowns : leb q most ≡ false → paper.refused 2 [] ≡ paper.locateWithin most q list found t
+    unfolding paper.locateWithin paper.locateChecks paper.unlessRefused refuseWith _then_
     many-unknowns b = rw (a, b)
 
-    module _ (b : leb q 16 ≡ true) where
-      pub other-length : eqb (length t) q ≡ false → paper.refused 5 [] ≡ paper.locate q list found t
-      unfolding paper.locate paper.locateChecks paper.unlessRefused refuseWith _then_
+    module _ (b : leb q most ≡ true) where
+      pub other-length : eqb (length t) q ≡ false → paper.refused 5 [] ≡ paper.locateWithin most q list found t
+      unfolding paper.locateWithin paper.locateChecks paper.unlessRefused refuseWith _then_
       other-length c = rw (a, b, c)
 
       module _ (c : eqb (length t) q ≡ true) where
-        pub many-rows : leb found (capacity q list) ≡ false → paper.refused 6 [] ≡ paper.locate q list found t
-        unfolding paper.locate paper.locateChecks paper.unlessRefused refuseWith _then_
+        pub many-rows : leb found (capacity q list) ≡ false → paper.refused 6 [] ≡ paper.locateWithin most q list found t
+        unfolding paper.locateWithin paper.locateChecks paper.unlessRefused refuseWith _then_
         many-rows d = rw (a, b, c, d)
 
         pub asked : leb found (capacity q list) ≡ true → {o : Option ℕ} → o ≡ paper.highest q found (at list q) (λ j. getD t j 0)
-            → paper.placed o ≡ paper.locate q list found t
-        unfolding paper.locate paper.locateChecks paper.unlessRefused refuseWith _then_
+            → paper.placed o ≡ paper.locateWithin most q list found t
+        unfolding paper.locateWithin paper.locateChecks paper.unlessRefused refuseWith _then_
         asked d e = rw (a, b, c, d, ← e)
 
 pub rows-fit : (n q : ℕ) {found : ℕ} → found ≤ n / q → found * q ≤ n

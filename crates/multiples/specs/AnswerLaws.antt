@@ -17,15 +17,17 @@ use Rattle.linear.specs.TestLaws.{all-same}
 use Rattle.linear.specs.Tuples.{Same}
 use Rattle.definitions.specs.Input.{inputOf}
 use Rattle.definitions.specs.Reasons as why
-use Rattle.definitions.specs.Reasons.{reason, reasonChecks, unlessRefused, vanishes}
+use Rattle.definitions.specs.Reasons.{reasonChecks, reasonWithin, unlessRefused, vanishes}
+use Rattle.definitions.specs.Refusals.{Sizes}
 use Rattle.definitions.specs.Tables.{at, writeTo}
 use Rattle.laws.specs.CheckLaws.{check-cases}
 use Rattle.laws.specs.ReasonLaws.{Askable, reason-askable}
 use Rattle.laws.specs.TableLaws.{write-inside, write-length}
 use Rattle.answer_codes.specs.Codes.{code}
 use Rattle.lists.specs.Rows.{tuple}
+use Rattle.checks.specs.Counts.{Modest}
 use Rattle.reasons.specs.Amounts.{asked-rows, told-fits}
-use Rattle.multiples_form.specs.Parts.{Outcome, allTaken, decomposed, ifSpace, leftOver, noSpace, off, refused, takenApart, unlessOff, writeTimes}
+use Rattle.multiples_form.specs.Parts.{Outcome, allTaken, decomposedWithin, ifSpace, leftOver, noSpace, off, refused, takenApart, unlessOff, writeTimes}
 use Rattle.multiples_form.specs.Parts as paper
 use Rattle.multiples_form.specs.PartsLaws.{left-same, times-same}
 use Rattle.multiples.specs.Answers.{Solves, outcomeOf, partsTold}
@@ -77,34 +79,34 @@ module _ (q found : ℕ) (list t times : List ℕ) where
 
 -- ---- the call
 
-module _ (p q : ℕ) (coefs : List ℤ) (list : List ℕ) (found : ℕ) (t : List ℕ) where
+module _ (s : Sizes) (p q : ℕ) (coefs : List ℤ) (list : List ℕ) (found : ℕ) (t : List ℕ) where
   abbrev r : why.Reason
-  r = reason (inputOf p q coefs) list found t
+  r = reasonWithin s (inputOf p q coefs) list found t
 
   -- a question about a solution is not refused
-  solves-asked : Solves r → Askable (inputOf p q coefs) list found t
-  unfolding reason unlessRefused
-  solves-asked s =
-      elim (check-cases (reasonChecks (inputOf p q coefs) list found t)) [
-        | inl g ↦ reason-askable (inputOf p q coefs) list found t g
-        | inr (n, values, g) ↦ absurd (rw g at s)
+  solves-asked : Solves r → Askable s (inputOf p q coefs) list found t
+  unfolding reasonWithin unlessRefused
+  solves-asked h =
+      elim (check-cases (reasonChecks s (inputOf p q coefs) list found t)) [
+        | inl g ↦ reason-askable s (inputOf p q coefs) list found t g
+        | inr (n, values, g) ↦ absurd (rw g at h)
       ]
 
-  pub solves-fits : Solves r → (q ≤ 16) × (q ≤ length t) × (found * q ≤ length list)
-  solves-fits s = let a = solves-asked s in (a .q-few, omega (arith, a .tuple), asked-rows a)
+  pub solves-fits : Modest s → Solves r → (q ≤ 32) × (q ≤ length t) × (found * q ≤ length list)
+  solves-fits m h = let a = solves-asked h in (omega (arith, a .q-few, m .unknowns), omega (arith, a .tuple), asked-rows m a)
 
   module _ (times : List ℕ) where
     pub refused-at : {n : ℕ} {values : List ℕ} → r ≡ why.refused n values
-        → record { answer = refused n values; times = times } ≡ decomposed (inputOf p q coefs) list found t times
-    unfolding decomposed unlessOff
+        → record { answer = refused n values; times = times } ≡ decomposedWithin s (inputOf p q coefs) list found t times
+    unfolding decomposedWithin unlessOff
     refused-at e = rw e
 
     pub off-at : {k : ℕ} {amount : ℤ} → r ≡ why.off k amount
-        → record { answer = off k amount; times = times } ≡ decomposed (inputOf p q coefs) list found t times
-    unfolding decomposed unlessOff
+        → record { answer = off k amount; times = times } ≡ decomposedWithin s (inputOf p q coefs) list found t times
+    unfolding decomposedWithin unlessOff
     off-at e = rw e
 
-    solving : (s : why.Reason) (o : Outcome) → Solves s → o ≡ unlessOff s times o
+    solving : (r : why.Reason) (o : Outcome) → Solves r → o ≡ unlessOff r times o
     unfolding unlessOff
     solving why.zero o h = refl
     solving (why.off k amount) o h = absurd h
@@ -114,9 +116,9 @@ module _ (p q : ℕ) (coefs : List ℤ) (list : List ℕ) (found : ℕ) (t : Lis
     solving (why.refused n values) o h = absurd h
 
     pub solved-at : {o : Outcome} → Solves r → o ≡ ifSpace (leb found (length times)) times (takenApart q found (at list q) (tuple t) times)
-        → o ≡ decomposed (inputOf p q coefs) list found t times
-    unfolding decomposed
-    solved-at {o} s e = e ∙ solving r _ s
+        → o ≡ decomposedWithin s (inputOf p q coefs) list found t times
+    unfolding decomposedWithin
+    solved-at {o} h e = e ∙ solving r _ h
 
 -- ---- as one number: an amount that is told is that of a reason, so that it fits 64 bits
 
@@ -143,12 +145,12 @@ off-reason (why.above n) times o h e = absurd (h (rw (← e) tt))
 off-reason why.unlisted times o h e = absurd (h (rw (← e) tt))
 off-reason (why.refused n values) times o h e = absurd (let z : _≡_ {A = ℕ} 0 1 = cc in omega arith)
 
-module _ (p q : ℕ) (coefs : List ℤ) (list : List ℕ) (found : ℕ) (t times : List ℕ) (held : List ℤ) {r : Parts} (after : List ℕ)
-    (e : outcomeOf r after ≡ decomposed (inputOf p q coefs) list found t times) where
-  by-reason : {k : ℕ} {amount : ℤ} → r ≡ Off k amount → why.off k amount ≡ reason (inputOf p q coefs) list found t
-  unfolding decomposed takenApart
-  by-reason f = off-reason (reason (inputOf p q coefs) list found t) times _ (apart-not-off _ _ times _) (ap (λ o. o .answer) (rw f at e))
+module _ {s : Sizes} (m : Modest s) (p q : ℕ) (coefs : List ℤ) (list : List ℕ) (found : ℕ) (t times : List ℕ) (held : List ℤ) {r : Parts}
+    (after : List ℕ) (e : outcomeOf r after ≡ decomposedWithin s (inputOf p q coefs) list found t times) where
+  by-reason : {k : ℕ} {amount : ℤ} → r ≡ Off k amount → why.off k amount ≡ reasonWithin s (inputOf p q coefs) list found t
+  unfolding decomposedWithin takenApart
+  by-reason f = off-reason (reasonWithin s (inputOf p q coefs) list found t) times _ (apart-not-off _ _ times _) (ap (λ o. o .answer) (rw f at e))
 
   pub told-off : {k : ℕ} {amount : ℤ} → r ≡ Off k amount
-      → (code 121 k, (after, set held 0 (toZ w64 (ofZ w64 amount)))) ≡ partsTold (decomposed (inputOf p q coefs) list found t times) held
-  told-off {k} {amount} f = rw (toZ-ofZ (told-fits p q coefs list found t k amount (by-reason f)), ← e, f)
+      → (code 121 k, (after, set held 0 (toZ w64 (ofZ w64 amount)))) ≡ partsTold (decomposedWithin s (inputOf p q coefs) list found t times) held
+  told-off {k} {amount} f = rw (toZ-ofZ (told-fits m p q coefs list found t k amount (by-reason f)), ← e, f)

@@ -8,11 +8,13 @@ use mir.Facts.{toZ-ofZ}
 use mir.Syntax.{w64}
 use mir.Val.{ofZ, toZ}
 use Rattle.definitions.specs.Input.{inputOf}
+use Rattle.definitions.specs.Refusals.{Sizes}
 use Rattle.definitions.specs.Reasons as why
 use Rattle.multiples_form.specs.Parts as paper
 use Rattle.multiples_form.specs.Parts.{partsNumber}
 use Rattle.answer_codes.specs.Codes.{code}
 use Rattle.calls.specs.Paper.{numberOf, value, valuesOf}
+use Rattle.checks.specs.Counts.{Modest}
 use Rattle.reasons.specs.Amounts.{told-fits}
 use Rattle.reasons.specs.Answers.{reasonOf}
 use Rattle.reasons.specs.declared.Reason as reasons
@@ -72,7 +74,7 @@ ExcuseIs r (excuses.Refused cause) = r ≡ why.refused (numberOf cause) (valuesO
 pub solves : {r s : reasons.Reason} {paper : why.Reason} → reasonOf r ≡ paper → r ≡ s → Solves (reasonOf s) → Solves paper
 solves e f h = rw (← e, f) h
 
-pub off-told : (p q : ℕ) (coefs : List ℤ) (list : List ℕ) (found : ℕ) (t : List ℕ) {k : ℕ} {amount : ℤ}
-    → why.off k amount ≡ why.reason (inputOf p q coefs) list found t
-    → why.reason (inputOf p q coefs) list found t ≡ why.off k (toZ w64 (ofZ w64 amount))
-off-told p q coefs list found t e = rw (toZ-ofZ (told-fits p q coefs list found t _ _ e)) (sym e)
+pub off-told : {s : Sizes} → Modest s → (p q : ℕ) (coefs : List ℤ) (list : List ℕ) (found : ℕ) (t : List ℕ) {k : ℕ} {amount : ℤ}
+    → why.off k amount ≡ why.reasonWithin s (inputOf p q coefs) list found t
+    → why.reasonWithin s (inputOf p q coefs) list found t ≡ why.off k (toZ w64 (ofZ w64 amount))
+off-told m p q coefs list found t e = rw (toZ-ofZ (told-fits m p q coefs list found t _ _ e)) (sym e)

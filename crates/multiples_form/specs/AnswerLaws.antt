@@ -17,13 +17,14 @@ use Rattle.linear.specs.TestLaws.{T-dec, all-at, all-from, first-at}
 use Rattle.linear.specs.Tuples.{AtOrBelow, Nonzero}
 use Rattle.definitions.specs.Input.{Input, limitOf, mapOf}
 use Rattle.definitions.specs.Reasons as why
-use Rattle.definitions.specs.Reasons.{Reason, reason, reasonChecks, vanishes}
+use Rattle.definitions.specs.Reasons.{Reason, reasonChecks, reasonWithin, vanishes}
+use Rattle.definitions.specs.Refusals.{Sizes}
 use Rattle.definitions.specs.System.{System, coef, imageOf, isZero, mostComponent}
 use Rattle.definitions.specs.Tables.{at}
 use Rattle.laws.specs.CheckLaws.{AllSilent, FirstDue, check-cases}
 use Rattle.laws.specs.ReasonLaws.{AllZero, Claim, NoneEarlier, Off, reason-askable, reason-given, reason-renders, reasonRules, refused-reason}
 use Rattle.laws.specs.SystemLaws.{is-zero, zero-is}
-use Rattle.multiples_form.specs.Parts.{Outcome, Parts, allTaken, decomposed, ifSpace, leftOver, made, noSpace, off, refused, takenApart, unlessOff}
+use Rattle.multiples_form.specs.Parts.{Outcome, Parts, allTaken, decomposedWithin, ifSpace, leftOver, made, noSpace, off, refused, takenApart, unlessOff}
 use Rattle.multiples_form.specs.Parts.{unlisted}
 use Rattle.multiples_form.specs.PartsLaws.{Small, none-left, times-add-up, times-length, times-outside}
 
@@ -58,10 +59,10 @@ module _ (m : System) (found : ℕ) (row : ℕ → ℕ → ℕ) (x : ℕ → ℕ
 
 -- ---- a question is refused or not
 
-pub never-due : (i : Input) (list : List ℕ) (found : ℕ) (t : List ℕ) {n : ℕ} {values : List ℕ} → AllSilent (reasonRules i list found t)
-    → ¬ (FirstDue (reasonRules i list found t) n values)
-never-due i list found t {n} {values} silent d =
-    reason-given i list found t silent (why.refused n values) (refused-reason i list found t n values d) .0
+pub never-due : (s : Sizes) (i : Input) (list : List ℕ) (found : ℕ) (t : List ℕ) {n : ℕ} {values : List ℕ} → AllSilent (reasonRules s i list found t)
+    → ¬ (FirstDue (reasonRules s i list found t) n values)
+never-due s i list found t {n} {values} silent d =
+    reason-given s i list found t silent (why.refused n values) (refused-reason s i list found t n values d) .0
 
 -- ---- a solution taken apart
 
@@ -113,7 +114,7 @@ apart q found row x times small space =
 
 -- ---- the call
 
-module _ (i : Input) (list : List ℕ) (found : ℕ) (t times : List ℕ) where
+module _ (s : Sizes) (i : Input) (list : List ℕ) (found : ℕ) (t times : List ℕ) where
   abbrev m : System
   m = mapOf i
 
@@ -124,33 +125,33 @@ module _ (i : Input) (list : List ℕ) (found : ℕ) (t times : List ℕ) where
   x j = getD t j 0
 
   abbrev o : Outcome
-  o = decomposed i list found t times
+  o = decomposedWithin s i list found t times
 
   abbrev rest : Outcome
   rest = ifSpace (leb found (length times)) times (takenApart (i .q) found row x times)
 
   -- the three ways that it goes: a refusal of Job 8's is due; or else an equation is off; or else the tuple is a solution
   pub data Way : Type 0 where
-    due : (n : ℕ) (values : List ℕ) → FirstDue (reasonRules i list found t) n values → o ≡ record { answer = refused n values; times = times } → Way
-    uneven : AllSilent (reasonRules i list found t) → (k : ℕ) (amount : ℤ) → Off m found row x k amount
+    due : (n : ℕ) (values : List ℕ) → FirstDue (reasonRules s i list found t) n values → o ≡ record { answer = refused n values; times = times } → Way
+    uneven : AllSilent (reasonRules s i list found t) → (k : ℕ) (amount : ℤ) → Off m found row x k amount
         → o ≡ record { answer = off k amount; times = times } → Way
-    solved : AllSilent (reasonRules i list found t) → Solution (m .p) (m .q) (coef m) x → o ≡ rest → Way
+    solved : AllSilent (reasonRules s i list found t) → Solution (m .p) (m .q) (coef m) x → o ≡ rest → Way
 
-  by-reason : AllSilent (reasonRules i list found t) → (r : Reason) → reason i list found t ≡ r → Way
-  unfolding decomposed unlessOff
-  by-reason silent why.zero e = solved silent (zero-solves m found row x (reason-given i list found t silent why.zero e .0)) (rw e)
-  by-reason silent (why.off k amount) e = uneven silent k amount (reason-given i list found t silent (why.off k amount) e .0) (rw e)
-  by-reason silent (why.stands n) e = solved silent (none-off-solves m found row x (reason-given i list found t silent (why.stands n) e .1 .1)) (rw e)
-  by-reason silent (why.above n) e = solved silent (none-off-solves m found row x (reason-given i list found t silent (why.above n) e .1 .1)) (rw e)
-  by-reason silent why.unlisted e = solved silent (none-off-solves m found row x (reason-given i list found t silent why.unlisted e .1 .1)) (rw e)
-  by-reason silent (why.refused n values) e = absurd (reason-given i list found t silent (why.refused n values) e .0)
+  by-reason : AllSilent (reasonRules s i list found t) → (r : Reason) → reasonWithin s i list found t ≡ r → Way
+  unfolding decomposedWithin unlessOff
+  by-reason silent why.zero e = solved silent (zero-solves m found row x (reason-given s i list found t silent why.zero e .0)) (rw e)
+  by-reason silent (why.off k amount) e = uneven silent k amount (reason-given s i list found t silent (why.off k amount) e .0) (rw e)
+  by-reason silent (why.stands n) e = solved silent (none-off-solves m found row x (reason-given s i list found t silent (why.stands n) e .1 .1)) (rw e)
+  by-reason silent (why.above n) e = solved silent (none-off-solves m found row x (reason-given s i list found t silent (why.above n) e .1 .1)) (rw e)
+  by-reason silent why.unlisted e = solved silent (none-off-solves m found row x (reason-given s i list found t silent why.unlisted e .1 .1)) (rw e)
+  by-reason silent (why.refused n values) e = absurd (reason-given s i list found t silent (why.refused n values) e .0)
 
   pub goes-one-way : Way
-  unfolding decomposed unlessOff
+  unfolding decomposedWithin unlessOff
   goes-one-way =
-      elim (check-cases (reasonChecks i list found t)) [
-        | inl g ↦ by-reason (reason-renders i list found t .goes g) (reason i list found t) refl
+      elim (check-cases (reasonChecks s i list found t)) [
+        | inl g ↦ by-reason (reason-renders s i list found t .goes g) (reasonWithin s i list found t) refl
         | inr (n, values, g) ↦
-            let d = reason-renders i list found t .refuses n values g in
-            due n values d (rw (refused-reason i list found t n values d))
+            let d = reason-renders s i list found t .refuses n values g in
+            due n values d (rw (refused-reason s i list found t n values d))
       ]

@@ -15,8 +15,8 @@ use Rattle.definitions.specs.Answers.{_then_, refuseFirst, refuseWith}
 use Rattle.definitions.specs.Highest.{highest}
 use Rattle.definitions.specs.Input.{Input, inputOf}
 use Rattle.definitions.specs.Reasons as why
-use Rattle.definitions.specs.Reasons.{Reason, reason, vanishes}
-use Rattle.definitions.specs.Refusals.{check7}
+use Rattle.definitions.specs.Reasons.{Reason, reasonWithin, vanishes}
+use Rattle.definitions.specs.Refusals.{Sizes, check7, documentSizes, sizes}
 use Rattle.definitions.specs.System.{isAtOrBelow, mostComponent}
 use Rattle.definitions.specs.Tables.{at}
 
@@ -100,10 +100,15 @@ unlessOff (why.stands n) times o = o
 unlessOff (why.above n) times o = o
 unlessOff why.unlisted times o = o
 
-unfoldable pub decomposed : Input → List ℕ → ℕ → List ℕ → List ℕ → Outcome
-decomposed i list found t times =
-    unlessOff (reason i list found t) times
+-- for the most equations and unknowns
+unfoldable pub decomposedWithin : Sizes → Input → List ℕ → ℕ → List ℕ → List ℕ → Outcome
+decomposedWithin s i list found t times =
+    unlessOff (reasonWithin s i list found t) times
     (ifSpace (leb found (length times)) times (takenApart (i .q) found (at list (i .q)) (λ j. getD t j 0) times))
+
+-- document 02's call: p from 1 to 8, q from 1 to 16
+abbrev pub decomposed : Input → List ℕ → ℕ → List ℕ → List ℕ → Outcome
+decomposed i list found t times = decomposedWithin documentSizes i list found t times
 
 -- ---- it computes: on the paper's example 4 with its six minimal solutions as a run lists them, on the program's map with both of its own, and on 2 −3
 -- with the list 3 2, 0 0
@@ -116,9 +121,9 @@ six = 0 ∷ 0 ∷ 3 ∷ 2 ∷ 0 ∷ 1 ∷ 1 ∷ 1 ∷ 0 ∷ 3 ∷ 0 ∷ 1 ∷ 1 
 
 -- 4 5 4 3 is 0 0 3 2, 0 1 1 1, and four times 1 1 0 0
 plan : decomposed example4 six 6 (4 ∷ 5 ∷ 4 ∷ 3 ∷ []) (9 ∷ 9 ∷ 9 ∷ 9 ∷ 9 ∷ 9 ∷ []) ≡ record { answer = made; times = 1 ∷ 1 ∷ 0 ∷ 0 ∷ 0 ∷ 4 ∷ [] }
-unfolding example4 six lower oftenTo bounded leftOver writeTimes allTaken takenApart ifSpace unlessOff decomposed sumTo inner value allTo anyTo elseIf firstTo
-    placeIf lastTo refuseWith _then_ refuseFirst isAtOrBelow why.isSame highest why.standing check7 why.reasonChecks vanishes why.firstOff why.zeroOr why.offOr
-    why.standsOr why.aboveOr why.inList why.firstTrue why.unlessRefused reason
+unfolding example4 six lower oftenTo bounded leftOver writeTimes allTaken takenApart ifSpace unlessOff decomposedWithin sumTo inner value allTo anyTo elseIf
+    firstTo placeIf lastTo refuseWith _then_ refuseFirst isAtOrBelow why.isSame highest why.standing check7 why.reasonChecks vanishes why.firstOff why.zeroOr
+    why.offOr why.standsOr why.aboveOr why.inList why.firstTrue why.unlessRefused reasonWithin
 plan = refl
 
 example : Input
@@ -153,15 +158,18 @@ answers =
 parts-hold : answers ≡ (made, 3 ∷ 2 ∷ 9 ∷ []) ∷ (made, 0 ∷ 0 ∷ 9 ∷ []) ∷ (made, 0 ∷ 1 ∷ 9 ∷ []) ∷ (unlisted, 3 ∷ 9 ∷ 9 ∷ []) ∷ (off 1 (negsuc 2), nine)
     ∷ (made, 333333 ∷ 0 ∷ 9 ∷ [])
     ∷ (noSpace, 9 ∷ []) ∷ (off 1 (negsuc 2), 9 ∷ []) ∷ (refused 8 [], 9 ∷ []) ∷ []
-unfolding example both small nine told answers lower oftenTo bounded leftOver writeTimes allTaken takenApart ifSpace unlessOff decomposed sumTo inner value
-    allTo anyTo elseIf firstTo placeIf lastTo refuseWith _then_ refuseFirst isAtOrBelow why.isSame highest why.standing check7 why.reasonChecks vanishes
-    why.firstOff why.zeroOr why.offOr why.standsOr why.aboveOr why.inList why.firstTrue why.unlessRefused reason
+unfolding example both small nine told answers lower oftenTo bounded leftOver writeTimes allTaken takenApart ifSpace unlessOff decomposedWithin sumTo inner
+    value allTo anyTo elseIf firstTo placeIf lastTo refuseWith _then_ refuseFirst isAtOrBelow why.isSame highest why.standing check7 why.reasonChecks vanishes
+    why.firstOff why.zeroOr why.offOr why.standsOr why.aboveOr why.inList why.firstTrue why.unlessRefused reasonWithin
 parts-hold = refl
 
--- their numbers
+-- their numbers, and 1 and 2 within other sizes
 numbers-hold : (partsNumber (decomposed small (3 ∷ 2 ∷ 0 ∷ 0 ∷ []) 2 (6 ∷ 4 ∷ []) (9 ∷ []) .answer) ≡ 29)
     × (partsNumber (decomposed small (3 ∷ 2 ∷ 0 ∷ 0 ∷ []) 2 (1000002 ∷ 666668 ∷ []) (9 ∷ []) .answer) ≡ 8)
-unfolding small lower oftenTo bounded leftOver writeTimes allTaken takenApart ifSpace unlessOff decomposed sumTo inner value
+    × (partsNumber (decomposed (inputOf 9 17 []) [] 0 [] [] .answer) ≡ 1)
+    × (partsNumber (decomposedWithin (sizes 9 16) (inputOf 9 17 []) [] 0 [] [] .answer) ≡ 2)
+    × (partsNumber (decomposedWithin (sizes 9 17) (inputOf 9 17 []) [] 0 [] [] .answer) ≡ 3)
+unfolding small lower oftenTo bounded leftOver writeTimes allTaken takenApart ifSpace unlessOff decomposedWithin sumTo inner value
     allTo anyTo elseIf firstTo placeIf lastTo refuseWith _then_ refuseFirst isAtOrBelow why.isSame highest why.standing check7 why.reasonChecks vanishes
-    why.firstOff why.zeroOr why.offOr why.standsOr why.aboveOr why.inList why.firstTrue why.unlessRefused reason
-numbers-hold = (refl, refl)
+    why.firstOff why.zeroOr why.offOr why.standsOr why.aboveOr why.inList why.firstTrue why.unlessRefused reasonWithin
+numbers-hold = (refl, refl, refl, refl, refl)

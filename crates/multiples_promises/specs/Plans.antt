@@ -19,6 +19,7 @@ use Rattle.linear.specs.Tuples.{Nonzero, total}
 use Rattle.definitions.specs.Answers.{complete}
 use Rattle.definitions.specs.Calls.{resume}
 use Rattle.definitions.specs.Input.{Input, alone, inputOf, inputWith, mapOf, rights, systemOf}
+use Rattle.definitions.specs.Refusals.{Sizes}
 use Rattle.definitions.specs.System.{MinimalSolution, System, coef}
 use Rattle.definitions.specs.Tables.{State, at}
 use Rattle.laws.specs.CheckLaws.{AllSilent}
@@ -32,7 +33,7 @@ use Rattle.training_form.specs.Promises.{training-promise}
 use Rattle.training_form.specs.SeatRuns.{SeatRun}
 use Rattle.training_form.specs.Training.{seatInput, seatResume}
 use Rattle.multiples_form.specs.AnswerLaws.{Apart, Way, apart, due, goes-one-way, never-due, off-fails, solved, uneven}
-use Rattle.multiples_form.specs.Parts.{Outcome, decomposed, ifSpace, made, noSpace, off, refused, takenApart, unlisted}
+use Rattle.multiples_form.specs.Parts.{Outcome, decomposedWithin, ifSpace, made, noSpace, off, refused, takenApart, unlisted}
 use Rattle.multiples_form.specs.PartsLaws.{Small}
 
 abbrev system : (p q : ℕ) (coefs : List ℤ) → System
@@ -94,7 +95,7 @@ unfolding ifSpace
 too-short true times o n = absurd (n tt)
 too-short false times o n = refl
 
-module _ (p q : ℕ) (coefs : List ℤ) (list : List ℕ) (found : ℕ) (t times : List ℕ) where
+module _ (most : Sizes) (p q : ℕ) (coefs : List ℤ) (list : List ℕ) (found : ℕ) (t times : List ℕ) where
   abbrev i : Input
   i = inputOf p q coefs
 
@@ -108,16 +109,16 @@ module _ (p q : ℕ) (coefs : List ℤ) (list : List ℕ) (found : ℕ) (t times
   x j = getD t j 0
 
   abbrev o : Outcome
-  o = decomposed i list found t times
+  o = decomposedWithin most i list found t times
 
-  small : AllSilent (reasonRules i list found t) → Small q x
+  small : AllSilent (reasonRules most i list found t) → Small q x
   small silent j l =
-      let a = reason-askable i list found t (reason-renders i list found t .silent silent) in
+      let a = reason-askable most i list found t (reason-renders most i list found t .silent silent) in
       a .small j (omega (arith, a .tuple))
 
   -- where there is a place for each row, a solution is taken apart
-  with-space : AllSilent (reasonRules i list found t) → o ≡ ifSpace (leb found (length times)) times (takenApart q found row x times) → found ≤ length times
-      → Apart q found row x times o
+  with-space : AllSilent (reasonRules most i list found t) → o ≡ ifSpace (leb found (length times)) times (takenApart q found row x times)
+      → found ≤ length times → Apart q found row x times o
   with-space silent e space =
       let same = e ∙ enough (leb found (length times)) times (takenApart q found row x times) (le→leb found (length times) space) in
       subst (Apart q found row x times) (sym same) (apart q found row x times (small silent) space)
@@ -145,9 +146,9 @@ module _ (p q : ℕ) (coefs : List ℤ) (list : List ℕ) (found : ℕ) (t times
   -- the way it went, where the answer is neither a refusal nor an equation that is off: the tuple is a solution
   went : {P : Type 0} → ((n : ℕ) (values : List ℕ) → o .answer ≢ refused n values) → ((k : ℕ) (amount : ℤ) → o .answer ≢ off k amount) → (o .answer ≢ noSpace)
       → (Solution p q (coef m) x → Apart q found row x times o → P) → P
-  went {P} not-refused not-off some then-so = of (goes-one-way i list found t times)
+  went {P} not-refused not-off some then-so = of (goes-one-way most i list found t times)
     where
-      of : Way i list found t times → P
+      of : Way most i list found t times → P
       of (due n values d e) = absurd (not-refused n values (ap (λ y. y .answer) e))
       of (uneven silent k amount d e) = absurd (not-off k amount (ap (λ y. y .answer) e))
       of (solved silent s e) =
@@ -173,10 +174,10 @@ module _ (p q : ℕ) (coefs : List ℤ) (list : List ℕ) (found : ℕ) (t times
 
   -- a solution that is not refused, and a table that has no place for each row
   abbrev pub NoPlace : Type 0
-  NoPlace = AllSilent (reasonRules i list found t) × Solution p q (coef m) x × (length times < found)
+  NoPlace = AllSilent (reasonRules most i list found t) × Solution p q (coef m) x × (length times < found)
 
   space-due : o .answer ≡ noSpace → NoPlace
-  space-due c = of (goes-one-way i list found t times)
+  space-due c = of (goes-one-way most i list found t times)
     where
       clash : {n : ℕ} {values : List ℕ} → noSpace ≡ refused n values → ⊥
       clash e = let z : _≡_ {A = ℕ} 0 1 = cc in omega arith
@@ -190,7 +191,7 @@ module _ (p q : ℕ) (coefs : List ℤ) (list : List ℕ) (found : ℕ) (t times
       clash-unlisted : noSpace ≡ unlisted → ⊥
       clash-unlisted e = let z : _≡_ {A = ℕ} 0 1 = cc in omega arith
 
-      of : Way i list found t times → NoPlace
+      of : Way most i list found t times → NoPlace
       of (due n values d e) = absurd (clash (sym c ∙ ap (λ y. y .answer) e))
       of (uneven silent k amount d e) = absurd (clash-off (sym c ∙ ap (λ y. y .answer) e))
       of (solved silent s e) =
@@ -200,21 +201,21 @@ module _ (p q : ℕ) (coefs : List ℤ) (list : List ℕ) (found : ℕ) (t times
           ]
 
   due-space : NoPlace → o ≡ record { answer = noSpace; times = times }
-  due-space (silent, s, l) = of (goes-one-way i list found t times)
+  due-space (silent, s, l) = of (goes-one-way most i list found t times)
     where
-      of : Way i list found t times → o ≡ record { answer = noSpace; times = times }
-      of (due n values d e) = absurd (never-due i list found t silent d)
+      of : Way most i list found t times → o ≡ record { answer = noSpace; times = times }
+      of (due n values d e) = absurd (never-due most i list found t silent d)
       of (uneven silent k amount d e) = absurd (off-fails m found row x d s)
       of (solved silent s e) =
           e ∙ too-short (leb found (length times)) times (takenApart q found row x times) (λ h. omega (arith, leb→le found (length times) h))
 
   module _ (e : Exactly q (MinimalSolution m) list found) where
     -- a solution that is not refused is taken apart
-    taken : AllSilent (reasonRules i list found t) → Solution p q (coef m) x → found ≤ length times → o .answer ≡ made
-    taken silent s space = of (goes-one-way i list found t times)
+    taken : AllSilent (reasonRules most i list found t) → Solution p q (coef m) x → found ≤ length times → o .answer ≡ made
+    taken silent s space = of (goes-one-way most i list found t times)
       where
-        of : Way i list found t times → o .answer ≡ made
-        of (due n values d f) = absurd (never-due i list found t silent d)
+        of : Way most i list found t times → o .answer ≡ made
+        of (due n values d f) = absurd (never-due most i list found t silent d)
         of (uneven silent k amount d f) = absurd (off-fails m found row x d s)
         of (solved silent s f) = let a = with-space silent f space in a .wholly (all-taken e s a)
 
@@ -235,25 +236,30 @@ module _ (p q : ℕ) (coefs : List ℤ) (list : List ℕ) (found : ℕ) (t times
         clash-made : unlisted ≡ made → ⊥
         clash-made e = let z : _≡_ {A = ℕ} 0 1 = cc in omega arith
 
--- the call that takes a plan apart, in the same order: a refusal of Job 8's, an equation that is off, and else the multiples
+-- the call that takes a plan apart, in the same order: a refusal of Job 8's, an equation that is off, and else the multiples; whatever the most
+-- equations and unknowns are, document 02's 8 and 16 among them
 pub record PlanPromise : Type 0 where
   -- every call goes one way of three: `Way` says which, and with what answer
-  pub ways : (i : Input) (list : List ℕ) (found : ℕ) (t times : List ℕ) → Way i list found t times
+  pub ways : (most : Sizes) (i : Input) (list : List ℕ) (found : ℕ) (t times : List ℕ) → Way most i list found t times
   -- "made" means that the rows, as often as the table says, add up to the tuple, whatever the list holds
-  pub sums : (p q : ℕ) (coefs : List ℤ) (list : List ℕ) (found : ℕ) (t times : List ℕ) → decomposed (inputOf p q coefs) list found t times .answer ≡ made
-      → AddUp q found list t (decomposed (inputOf p q coefs) list found t times .times)
+  pub sums : (most : Sizes) (p q : ℕ) (coefs : List ℤ) (list : List ℕ) (found : ℕ) (t times : List ℕ)
+      → decomposedWithin most (inputOf p q coefs) list found t times .answer ≡ made
+      → AddUp q found list t (decomposedWithin most (inputOf p q coefs) list found t times .times)
   -- 29, "output space too short", is given last: of a solution that is not refused, where there is no place for a multiple of each row
-  pub space : (p q : ℕ) (coefs : List ℤ) (list : List ℕ) (found : ℕ) (t times : List ℕ) → decomposed (inputOf p q coefs) list found t times .answer ≡ noSpace
-      → NoPlace p q coefs list found t times
-  pub no-space : (p q : ℕ) (coefs : List ℤ) (list : List ℕ) (found : ℕ) (t times : List ℕ) → NoPlace p q coefs list found t times
-      → decomposed (inputOf p q coefs) list found t times ≡ record { answer = noSpace; times = times }
+  pub space : (most : Sizes) (p q : ℕ) (coefs : List ℤ) (list : List ℕ) (found : ℕ) (t times : List ℕ)
+      → decomposedWithin most (inputOf p q coefs) list found t times .answer ≡ noSpace
+      → NoPlace most p q coefs list found t times
+  pub no-space : (most : Sizes) (p q : ℕ) (coefs : List ℤ) (list : List ℕ) (found : ℕ) (t times : List ℕ) → NoPlace most p q coefs list found t times
+      → decomposedWithin most (inputOf p q coefs) list found t times ≡ record { answer = noSpace; times = times }
   -- where the list is the basis, each solution that is not refused is answered so, if there is space for a multiple of each row
-  pub basis : (p q : ℕ) (coefs : List ℤ) (list : List ℕ) (found : ℕ) (t times : List ℕ) → Exactly q (MinimalSolution (system p q coefs)) list found
-      → AllSilent (reasonRules (inputOf p q coefs) list found t) → Solution p q (coef (system p q coefs)) (λ j. getD t j 0) → found ≤ length times
-      → decomposed (inputOf p q coefs) list found t times .answer ≡ made
+  pub basis : (most : Sizes) (p q : ℕ) (coefs : List ℤ) (list : List ℕ) (found : ℕ) (t times : List ℕ)
+      → Exactly q (MinimalSolution (system p q coefs)) list found
+      → AllSilent (reasonRules most (inputOf p q coefs) list found t) → Solution p q (coef (system p q coefs)) (λ j. getD t j 0) → found ≤ length times
+      → decomposedWithin most (inputOf p q coefs) list found t times .answer ≡ made
   -- and nothing is ever left of one
-  pub never-unlisted : (p q : ℕ) (coefs : List ℤ) (list : List ℕ) (found : ℕ) (t times : List ℕ) → Exactly q (MinimalSolution (system p q coefs)) list found
-      → decomposed (inputOf p q coefs) list found t times .answer ≢ unlisted
+  pub never-unlisted : (most : Sizes) (p q : ℕ) (coefs : List ℤ) (list : List ℕ) (found : ℕ) (t times : List ℕ)
+      → Exactly q (MinimalSolution (system p q coefs)) list found
+      → decomposedWithin most (inputOf p q coefs) list found t times .answer ≢ unlisted
   -- so after every plain run that answered "complete", under any limit of components
   pub complete-list : (limit p q : ℕ) (coefs : List ℤ) (s : State) → let i = inputWith alone limit p q coefs in Run i nonzero s → (budget : ℕ)
       → resume budget i s .answer ≡ complete
@@ -266,7 +272,7 @@ plan-promise =
       sums = made-adds-up;
       space = space-due;
       no-space = due-space;
-      basis = λ p q coefs list found t times e. taken p q coefs list found t times e;
-      never-unlisted = λ p q coefs list found t times e. never p q coefs list found t times e;
+      basis = λ most p q coefs list found t times e. taken most p q coefs list found t times e;
+      never-unlisted = λ most p q coefs list found t times e. never most p q coefs list found t times e;
       complete-list = λ limit p q coefs s r budget c. second-demand .lists (inputWith alone limit p q coefs) s r .finished budget c;
     }

@@ -30,7 +30,6 @@ use Rattle.products.specs.Products.{
   SmallRow,
   SmallRows,
   gramLimit,
-  productLimit,
   entry,
   Rows,
   Zeros,
@@ -43,9 +42,13 @@ use Rattle.products.specs.Products.{
 
 -- ---- sums of products
 
--- the factors of at most 16 products, of a component of a tuple and an entry of a Gram matrix, or of two coefficients
+-- the most products that are added up: the walk's rows have 16 places, rows of larger maps 32
+abbrev pub mostTerms : ℕ
+mostTerms = 32
+
+-- the factors of so many products, of a component of a tuple and an entry of a Gram matrix, of two coefficients, or of a coefficient and a component
 pub record SmallTerms (n : ℕ) (v w : ℕ → ℤ) : Type 0 where
-  pub few : n ≤ mostUnknowns
+  pub few : n ≤ mostTerms
   pub left : (i : ℕ) → i < n → natAbs (v i) ≤ mostComponent
   pub right : (i : ℕ) → i < n → natAbs (w i) ≤ gramLimit
 
@@ -63,7 +66,7 @@ module _ {n : ℕ} {v w : ℕ → ℤ} (s : SmallTerms n v w) where
   term-fits : (i : ℕ) → i < n → SFits w64 (v i *ℤ w i)
   term-fits i l = sfits-natAbs (omega (arith, natAbs-*ℤ (v i) (w i), mul-le-mul (s .left i l) (s .right i l)))
 
-  sum-small : (k : ℕ) → k ≤ n → natAbs (inner k v w) ≤ productLimit
+  sum-small : (k : ℕ) → k ≤ n → natAbs (inner k v w) ≤ mostTerms * (mostComponent * gramLimit)
   sum-small k l =
       omega
       (arith, s .few, inner-bound k mostComponent gramLimit v w (λ i m. s .left i (omega arith)) (λ i m. s .right i (omega arith)))
@@ -105,7 +108,7 @@ coef-fits s n = sfits-natAbs (omega (arith, s .small n))
 -- the terms of the product of the row at base with column j
 pub row-terms : {q : ℕ} {g : List ℤ} {stack : List ℕ} {base : ℕ} → SmallGram q g → SmallRow q stack base → (j : ℕ) → j < q
     → SmallTerms q (λ i. pos (getD stack (base + i) 0)) (λ i. entry g i j)
-row-terms a r j l = record { few = a .unknowns; left = r .small; right = λ i k. a .small i j k l }
+row-terms a r j l = record { few = omega (arith, a .unknowns); left = r .small; right = λ i k. a .small i j k l }
 
 pub small-row : {q : ℕ} {stack : List ℕ} {height : ℕ} → SmallRows q stack height → (k : ℕ) → k < height → SmallRow q stack (k * (q + 1))
 small-row {q} {height} r k l =

@@ -17,18 +17,19 @@ use Rattle.linear.specs.Cases.{split}
 use Rattle.linear.specs.Integers.{sfits-natAbs}
 use Rattle.linear.specs.PlaceLaws.{First, first-is}
 use Rattle.linear.specs.Systems.{value}
-use Rattle.definitions.specs.Reasons.{firstOff, off, reason, reasonChecks, refused, unlessRefused}
-use Rattle.definitions.specs.Input.{inputOf, mapOf}
-use Rattle.definitions.specs.System.{System, coefLimit, imageOf, isZero, mostComponent, mostUnknowns}
+use Rattle.definitions.specs.Reasons.{firstOff, off, reasonChecks, reasonWithin, refused, unlessRefused}
+use Rattle.definitions.specs.Refusals.{Sizes, largeSizes}
+use Rattle.definitions.specs.Input.{Input, inputOf, mapOf}
+use Rattle.definitions.specs.System.{System, coefLimit, imageOf, isZero, mostComponent}
 use Rattle.laws.specs.CheckLaws.{check-cases}
 use Rattle.laws.specs.ReasonLaws.{Askable, reason-askable, reason-given, reason-renders}
 use Rattle.laws.specs.SystemLaws.{is-zero}
 use Rattle.laws.specs.TableLaws.{row-fits}
 use Rattle.answer_codes.specs.Codes.{code}
+use Rattle.checks.specs.Counts.{Modest}
 use Rattle.lists.specs.Rows.{tuple}
 use Rattle.reasons.specs.Numbers.{reasonTold}
-use Rattle.products.specs.Products.{SmallCoefs}
-use Rattle.products.specs.Turns.{SmallTerms, sum-fits, zero-bits}
+use Rattle.products.specs.Turns.{SmallTerms, mostTerms, sum-fits, zero-bits}
 
 true-of : (b : Bool) → T b → not b ≡ false
 true-of true y = refl
@@ -40,9 +41,15 @@ false-of false n = refl
 
 -- ---- sizes
 
+-- the equations of a map that is not too large for sums of 64 bits
+pub record SmallSystem (p q : ℕ) (coefs : List ℤ) : Type 0 where
+  pub unknowns : q ≤ mostTerms
+  pub whole : p * q ≤ length coefs
+  pub small : (n : ℕ) → natAbs (getD coefs n (pos 0)) ≤ coefLimit
+
 -- one equation, i from 0
 pub record SmallEquation (q : ℕ) (coefs : List ℤ) (i : ℕ) : Type 0 where
-  pub unknowns : q ≤ mostUnknowns
+  pub unknowns : q ≤ mostTerms
   pub whole : i * q + q ≤ length coefs
   pub small : (n : ℕ) → natAbs (getD coefs n (pos 0)) ≤ coefLimit
 
@@ -60,13 +67,30 @@ module _ {q : ℕ} {coefs : List ℤ} {i : ℕ} (s : SmallEquation q coefs i) wh
   equation-terms r =
       record { few = s .unknowns; left = λ j l. omega (arith, s .small (i * q + j)); right = λ j l. omega (arith, r .small j l) }
 
+-- the largest sizes, and a question that is within smaller ones
+pub large : Modest largeSizes
+large = record { equations = omega arith; unknowns = omega arith }
+
+pub asked-largely : {s : Sizes} {i : Input} {list : List ℕ} {found : ℕ} {t : List ℕ} → Modest s → Askable s i list found t → Askable largeSizes i list found t
+asked-largely m a =
+    record {
+      p-some = a .p-some;
+      p-few = omega (arith, m .equations, a .p-few);
+      q-some = a .q-some;
+      q-few = omega (arith, m .unknowns, a .q-few);
+      coefs = a .coefs;
+      tuple = a .tuple;
+      rows = a .rows;
+      range = a .range;
+      small = a .small;
+    }
+
 -- what passed the checks is small
-module _ {p q : ℕ} {coefs : List ℤ} {list : List ℕ} {found : ℕ} {t : List ℕ} (a : Askable (inputOf p q coefs) list found t) where
-  pub asked-system : SmallCoefs p q coefs
+module _ {s : Sizes} {p q : ℕ} {coefs : List ℤ} {list : List ℕ} {found : ℕ} {t : List ℕ} (m : Modest s) (a : Askable s (inputOf p q coefs) list found t) where
+  pub asked-system : SmallSystem p q coefs
   asked-system =
       record {
-        equations = a .p-few;
-        unknowns = a .q-few;
+        unknowns = omega (arith, m .unknowns, a .q-few);
         whole = omega (arith, a .coefs);
         small = λ n. elim (split n (length coefs)) [ inl l ↦ a .range n l | inr l ↦ rw (List·getD-eq-default coefs (pos 0) l) (omega arith) ];
       }
@@ -79,7 +103,7 @@ module _ {p q : ℕ} {coefs : List ℤ} {list : List ℕ} {found : ℕ} {t : Lis
 
 -- ---- the amounts
 
-module _ {p q : ℕ} {coefs : List ℤ} {t : List ℕ} (s : SmallCoefs p q coefs) (r : SmallTuple q t) {i : ℕ} (l : i < p) where
+module _ {p q : ℕ} {coefs : List ℤ} {t : List ℕ} (s : SmallSystem p q coefs) (r : SmallTuple q t) {i : ℕ} (l : i < p) where
   abbrev m : System
   m = mapOf (inputOf p q coefs)
 
@@ -102,7 +126,7 @@ module _ {p q : ℕ} {coefs : List ℤ} {t : List ℕ} (s : SmallCoefs p q coefs
     amount-even h = true-of (isZero (imageOf m (tuple t) i)) (zero-bits (imageOf m (tuple t) i) amount-fits (rw e at h))
 
 -- the amount that is told of equation k, read from its bits
-module _ {p q : ℕ} {coefs : List ℤ} {t : List ℕ} (s : SmallCoefs p q coefs) (r : SmallTuple q t) where
+module _ {p q : ℕ} {coefs : List ℤ} {t : List ℕ} (s : SmallSystem p q coefs) (r : SmallTuple q t) where
   abbrev image : ℕ → ℤ
   image = imageOf (mapOf (inputOf p q coefs)) (tuple t)
 
@@ -117,20 +141,20 @@ module _ {p q : ℕ} {coefs : List ℤ} {t : List ℕ} (s : SmallCoefs p q coefs
 told-otherwise : {k n : ℕ} {amount : ℤ} {values : List ℕ} → off k amount ≡ refused n values → ⊥
 told-otherwise e = let z : _≡_ {A = ℕ} 0 1 = cc in omega arith
 
-pub told-fits : (p q : ℕ) (coefs : List ℤ) (list : List ℕ) (found : ℕ) (t : List ℕ) (k : ℕ) (amount : ℤ)
-    → off k amount ≡ reason (inputOf p q coefs) list found t → SFits w64 amount
-unfolding reason unlessRefused
-told-fits p q coefs list found t k amount e =
-    elim (check-cases (reasonChecks (inputOf p q coefs) list found t)) [
+pub told-fits : {s : Sizes} → Modest s → (p q : ℕ) (coefs : List ℤ) (list : List ℕ) (found : ℕ) (t : List ℕ) (k : ℕ) (amount : ℤ)
+    → off k amount ≡ reasonWithin s (inputOf p q coefs) list found t → SFits w64 amount
+unfolding reasonWithin unlessRefused
+told-fits {s} m p q coefs list found t k amount e =
+    elim (check-cases (reasonChecks s (inputOf p q coefs) list found t)) [
       | inl g ↦ let i = inputOf p q coefs in
-          let a = reason-askable i list found t g in
-          let claim = reason-given i list found t (reason-renders i list found t .goes g) (off k amount) (sym e) .0 in
-          rw (← claim .by) (amount-fits (asked-system a) (asked-tuple a) {i = k - 1} (omega (arith, claim .some, claim .few)))
+          let a = reason-askable s i list found t g in
+          let claim = reason-given s i list found t (reason-renders s i list found t .goes g) (off k amount) (sym e) .0 in
+          rw (← claim .by) (amount-fits (asked-system m a) (asked-tuple m a) {i = k - 1} (omega (arith, claim .some, claim .few)))
       | inr (n, values, g) ↦ absurd (told-otherwise (rw g at e))
     ]
 
 -- as it is told
-pub told-off : (p q : ℕ) (coefs : List ℤ) (list : List ℕ) (found : ℕ) (t : List ℕ) (held : List ℤ) {k : ℕ} {amount : ℤ}
-    → off k amount ≡ reason (inputOf p q coefs) list found t
-    → (code 121 k, set held 0 (toZ w64 (ofZ w64 amount))) ≡ reasonTold (reason (inputOf p q coefs) list found t) held
-told-off p q coefs list found t held e = rw (toZ-ofZ (told-fits p q coefs list found t _ _ e), ← e)
+pub told-off : {s : Sizes} → Modest s → (p q : ℕ) (coefs : List ℤ) (list : List ℕ) (found : ℕ) (t : List ℕ) (held : List ℤ) {k : ℕ} {amount : ℤ}
+    → off k amount ≡ reasonWithin s (inputOf p q coefs) list found t
+    → (code 121 k, set held 0 (toZ w64 (ofZ w64 amount))) ≡ reasonTold (reasonWithin s (inputOf p q coefs) list found t) held
+told-off m p q coefs list found t held e = rw (toZ-ofZ (told-fits m p q coefs list found t _ _ e), ← e)

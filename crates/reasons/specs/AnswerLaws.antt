@@ -10,6 +10,7 @@ use Rattle.definitions.specs.Reasons as paper
 use Rattle.definitions.specs.Highest.{highest}
 use Rattle.definitions.specs.Input.{Input, mapOf}
 use Rattle.definitions.specs.Reasons.{standing}
+use Rattle.definitions.specs.Refusals.{Sizes}
 use Rattle.definitions.specs.System.{System, imageOf}
 use Rattle.definitions.specs.Tables.{at}
 use Rattle.lists.specs.Places.{placeOf}
@@ -57,13 +58,14 @@ module _ (m : System) (found : ℕ) (row : ℕ → ℕ → ℕ) (x : ℕ → ℕ
 
 -- ---- refused or not
 
-module _ (i : Input) (list : List ℕ) (found : ℕ) (t : List ℕ) {c : Check} (e : checkOf c ≡ paper.reasonChecks i list found t) where
-  pub refused-at : {why : Refusal} → c ≡ Refuse why → paper.refused (numberOf why) (valuesOf why) ≡ paper.reason i list found t
-  unfolding paper.reason paper.unlessRefused
+module _ (s : Sizes) (i : Input) (list : List ℕ) (found : ℕ) (t : List ℕ) {c : Check} (e : checkOf c ≡ paper.reasonChecks s i list found t) where
+  pub refused-at : {why : Refusal} → c ≡ Refuse why → paper.refused (numberOf why) (valuesOf why) ≡ paper.reasonWithin s i list found t
+  unfolding paper.reasonWithin paper.unlessRefused
   refused-at g = rw (← e, g)
 
-  pub passed-at : c ≡ Pass → {r : paper.Reason} → r ≡ paper.firstTrue (mapOf i) found (at list (i .q)) (λ j. getD t j 0) → r ≡ paper.reason i list found t
-  unfolding paper.reason paper.unlessRefused
+  pub passed-at : c ≡ Pass → {r : paper.Reason} → r ≡ paper.firstTrue (mapOf i) found (at list (i .q)) (λ j. getD t j 0)
+      → r ≡ paper.reasonWithin s i list found t
+  unfolding paper.reasonWithin paper.unlessRefused
   passed-at g h = rw (← e, g) h
 
 -- ---- as one number

@@ -10,7 +10,7 @@ use Rattle.linear.specs.Tests.{anyTo}
 use Rattle.definitions.specs.Answers.{Check, _then_, go, refuse, refuseIf, refuseWith}
 use Rattle.definitions.specs.Input.{inputOf}
 use Rattle.definitions.specs.Reasons.{checkCount, reasonChecks}
-use Rattle.definitions.specs.Refusals.{check5, check7, check8}
+use Rattle.definitions.specs.Refusals.{Sizes, check5, check7, check8}
 use Rattle.definitions.specs.System.{mostComponent}
 use Rattle.definitions.specs.Tables.{capacity}
 use Rattle.laws.specs.AnswerLaws.{then-assoc}
@@ -19,7 +19,7 @@ use Rattle.calls.specs.declared.Check as declared
 use Rattle.calls.specs.declared.Check.the-variants.{Pass, Refuse}
 use Rattle.calls.specs.declared.Refusal.{Refusal}
 use Rattle.checks.specs.Coefficients.{coefficientChecks}
-use Rattle.checks.specs.Counts.{countChecks}
+use Rattle.checks.specs.Counts.{countsWithin}
 
 abbrev pub aboveLimit : ℕ → List ℕ → Bool
 aboveLimit limit t = anyTo (length t) (λ j. ltb limit (getD t j 0))
@@ -41,18 +41,18 @@ module _ (coefs : List ℤ) (t : List ℕ) {c : declared.Check} (e : checkOf c �
   unfolding _then_ refuseWith
   all-small g h = rw (← e, g, h)
 
-module _ (p q : ℕ) (coefs : List ℤ) (list : List ℕ) (found : ℕ) (t : List ℕ) where
+module _ (s : Sizes) (p q : ℕ) (coefs : List ℤ) (list : List ℕ) (found : ℕ) (t : List ℕ) where
   abbrev asked : Check
-  asked = reasonChecks (inputOf p q coefs) list found t
+  asked = reasonChecks s (inputOf p q coefs) list found t
 
   abbrev own : Check
   own = check5 (inputOf p q coefs) t then checkCount (inputOf p q coefs) list found then check7 (inputOf p q coefs) then check8 (inputOf p q coefs) t
 
-  counts-then : countChecks p q 0 (length coefs) then own ≡ asked
-  unfolding countChecks reasonChecks
+  counts-then : countsWithin s p q (length coefs) then own ≡ asked
+  unfolding reasonChecks
   counts-then = simp then-assoc
 
-  module _ {c : declared.Check} (k : checkOf c ≡ countChecks p q 0 (length coefs)) where
+  module _ {c : declared.Check} (k : checkOf c ≡ countsWithin s p q (length coefs)) where
     pub counts-off : {why : Refusal} → c ≡ Refuse why → checkOf (Refuse why) ≡ asked
     unfolding _then_
     counts-off g = rw (← counts-then, ← k, g)

@@ -2,15 +2,27 @@
 ghost use mathlib.Core.Path.{_≡_};
 ghost use Rattle.definitions.specs.Input.{inputOf};
 ghost use Rattle.definitions.specs.Reasons.{reasonChecks};
+ghost use Rattle.definitions.specs.Refusals.{sizes};
 ghost use Rattle.calls.specs.Paper.{checkOf};
+ghost use Rattle.checks.specs.Counts.{Modest};
 ghost use Rattle.reasons.specs.Refusals.{rangeChecks, aboveLimit};
 use calls::Check;
 use calls::Refusal;
 
-pub fn check(p: usize, q: usize, coefs: &[i32], list: &[u32], found: usize, t: &[u32]) -> Check
-    ensures { λ c. ⌜ checkOf c ≡ reasonChecks (inputOf p q (now (coefs .entry))) (now (list .entry)) found (now (t .entry)) ⌝ }
+pub fn check(
+    equations: usize,
+    unknowns: usize,
+    p: usize,
+    q: usize,
+    coefs: &[i32],
+    list: &[u32],
+    found: usize,
+    t: &[u32],
+) -> Check
+    requires { ⌜ Modest (sizes equations unknowns) ⌝ }
+    ensures { λ c. ⌜ checkOf c ≡ reasonChecks (sizes equations unknowns) (inputOf p q (now (coefs .entry))) (now (list .entry)) found (now (t .entry)) ⌝ }
 {
-    match checks::counts::check(p, q, 0, coefs.len()) {
+    match checks::counts::check_within(equations, unknowns, p, q, coefs.len()) {
         Check::Refuse(why) => Check::Refuse(why),
         Check::Pass => {
             if t.len() != q {

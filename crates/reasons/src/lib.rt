@@ -7,10 +7,11 @@ ghost use Rattle.linear.specs.Systems.{value};
 ghost use Rattle.definitions.specs.Tables.{at};
 ghost use Rattle.definitions.specs.Reasons as paper;
 ghost use Rattle.definitions.specs.Input.{inputOf, mapOf};
+ghost use Rattle.definitions.specs.Refusals.{largeSizes, sizes};
 ghost use Rattle.laws.specs.ReasonLaws.{Askable};
+ghost use Rattle.checks.specs.Counts.{Modest};
 ghost use Rattle.lists.specs.Rows.{tuple};
-ghost use Rattle.products.specs.Products.{SmallCoefs};
-ghost use Rattle.reasons.specs.Amounts.{SmallEquation, SmallTuple};
+ghost use Rattle.reasons.specs.Amounts.{SmallEquation, SmallSystem, SmallTuple};
 ghost use Rattle.reasons.specs.Answers.{reasonOf, OffIs};
 use calls::Check;
 use calls::Refusal;
@@ -47,15 +48,48 @@ pub fn explain(
 ) -> Reason
     ensures { λ r. ⌜ reasonOf r ≡ paper.reason (inputOf p q (now (coefs .entry))) (now (list .entry)) (found .0) (now (t .entry)) ⌝ }
 {
-    match asked::check(p, q, coefs, list, found.0, t) {
+    explain_within(8, 16, p, q, coefs, list, found.0, t)
+}
+
+// The same of a larger map and its list, as the engine takes them: up to 32 equations and 32 unknowns.
+pub fn explain_large(
+    p: usize,
+    q: usize,
+    coefs: &[i32],
+    list: &[u32],
+    found: Solutions,
+    t: &[u32],
+) -> Reason
+    ensures { λ r. ⌜ reasonOf r ≡
+        paper.reasonWithin largeSizes (inputOf p q (now (coefs .entry))) (now (list .entry)) (found .0) (now (t .entry)) ⌝ }
+{
+    explain_within(32, 32, p, q, coefs, list, found.0, t)
+}
+
+// Of maps of at most so many equations and unknowns.
+pub fn explain_within(
+    equations: usize,
+    unknowns: usize,
+    p: usize,
+    q: usize,
+    coefs: &[i32],
+    list: &[u32],
+    found: usize,
+    t: &[u32],
+) -> Reason
+    requires { ⌜ Modest (sizes equations unknowns) ⌝ }
+    ensures { λ r. ⌜ reasonOf r ≡
+        paper.reasonWithin (sizes equations unknowns) (inputOf p q (now (coefs .entry))) (now (list .entry)) found (now (t .entry)) ⌝ }
+{
+    match asked::check(equations, unknowns, p, q, coefs, list, found, t) {
         Check::Refuse(why) => Reason::Refused(why),
-        Check::Pass => first_true(p, q, coefs, list, found.0, t),
+        Check::Pass => first_true(p, q, coefs, list, found, t),
     }
 }
 
 // The first reason that is true, of a question that is not refused.
 fn first_true(p: usize, q: usize, coefs: &[i32], list: &[u32], found: usize, t: &[u32]) -> Reason
-    requires { ⌜ Askable (inputOf p q (now coefs)) (now list) found (now t) ⌝ }
+    requires { ⌜ Askable largeSizes (inputOf p q (now coefs)) (now list) found (now t) ⌝ }
     ensures { λ r. ⌜ reasonOf r ≡ paper.firstTrue (mapOf (inputOf p q (now (coefs .entry)))) found (at (now (list .entry)) q) (tuple (now (t .entry))) ⌝ }
 {
     if vanishes(q, t) {
@@ -98,7 +132,7 @@ pub fn vanishes(q: usize, t: &[u32]) -> bool
 
 // The first equation that is off.
 fn first_off(p: usize, q: usize, coefs: &[i32], t: &[u32]) -> Balance
-    requires { ⌜ SmallCoefs p q (now coefs) × SmallTuple q (now t) ⌝ }
+    requires { ⌜ SmallSystem p q (now coefs) × SmallTuple q (now t) ⌝ }
     ensures { λ r. ⌜ OffIs (mapOf (inputOf p q (now (coefs .entry)))) (tuple (now (t .entry))) r ⌝ }
 {
     let mut i = 0;

@@ -31,7 +31,8 @@ fn main() {
 }
 
 fn report(t: Tally) {
-    tally::report(b"questions", t);
+    tally::report_kind(b"questions", t, b'q');
+    tally::report_kind(b"engine", t, b'e');
 }
 
 // The next 65,536 bytes of the text, or what is left of it.

@@ -1,6 +1,6 @@
 // The questions of a line: they are asked as the line has them, and the answers held against what the line says. Its operands are p, q and the count of rows;
 // t is the tuple, n the table of multiples before and after; the answers are the reason, the highest place, the parts, and the amount with its sign. The
-// number lent for the amount holds 9 before.
+// number lent for the amount holds 9 before. A line of kind e is asked of the calls for larger maps, the others of document 02's.
 use try_lines::line::COEFFICIENTS;
 use try_lines::line::Line;
 use try_lines::line::ROOM;
@@ -27,15 +27,30 @@ fn reason(l: Line) -> bool {
     let x = l.operands;
     let e = l.answered;
     let mut amount = [9i64; 1];
-    let answer = reasons::told::reason(
-        x[0] as usize,
-        x[1] as usize,
-        first_signed(&coefs, l.coefs_length),
-        first(&list, l.list_length),
-        x[2] as usize,
-        first(&tuple, l.tuple_length),
-        &mut amount,
-    );
+    let c = first_signed(&coefs, l.coefs_length);
+    let rows = first(&list, l.list_length);
+    let t = first(&tuple, l.tuple_length);
+    let answer = if l.kind == b'e' {
+        reasons::told::reason_large(
+            x[0] as usize,
+            x[1] as usize,
+            c,
+            rows,
+            x[2] as usize,
+            t,
+            &mut amount,
+        )
+    } else {
+        reasons::told::reason(
+            x[0] as usize,
+            x[1] as usize,
+            c,
+            rows,
+            x[2] as usize,
+            t,
+            &mut amount,
+        )
+    };
     answer == e[0] && is_amount(&amount, e[3], e[4])
 }
 
@@ -45,13 +60,14 @@ fn located(l: Line) -> bool {
     let tuple = l.tuple;
     let x = l.operands;
     let e = l.answered;
-    lookups::locate_number(
-        first(&list, l.list_length),
-        x[1] as usize,
-        x[2] as usize,
-        first(&tuple, l.tuple_length),
-    )
-        == e[1]
+    let rows = first(&list, l.list_length);
+    let t = first(&tuple, l.tuple_length);
+    let answer = if l.kind == b'e' {
+        lookups::locate_large_number(rows, x[1] as usize, x[2] as usize, t)
+    } else {
+        lookups::locate_number(rows, x[1] as usize, x[2] as usize, t)
+    };
+    answer == e[1]
 }
 
 fn is_amount(amount: &[i64; 1], size: u64, minus: u64) -> bool {
@@ -85,13 +101,28 @@ fn called(l: Line, times: &mut [u32], amount: &mut [i64; 1]) -> u64 {
     if times.len() < n {
         return 0;
     }
+    let c = first_signed(&coefs, l.coefs_length);
+    let rows = first(&list, l.list_length);
+    let t = first(&tuple, l.tuple_length);
+    if l.kind == b'e' {
+        return multiples::decompose_large_number(
+            x[0] as usize,
+            x[1] as usize,
+            c,
+            rows,
+            x[2] as usize,
+            t,
+            &mut times[0..n],
+            amount,
+        );
+    }
     multiples::decompose_number(
         x[0] as usize,
         x[1] as usize,
-        first_signed(&coefs, l.coefs_length),
-        first(&list, l.list_length),
+        c,
+        rows,
         x[2] as usize,
-        first(&tuple, l.tuple_length),
+        t,
         &mut times[0..n],
         amount,
     )

@@ -22,7 +22,7 @@ take-requires : tie.Need-take-requires
 take-requires c κs =
     let w = c .before .before .before in
     let s = w .before .before .before .before .before .before in
-    (s .pre .2, rw (written-long (s .args .q) (replicate 16 0) (s .args .t .now) (w .write .ensures)) (s .pre .0), search needs)
+    (s .pre .2, rw (written-long (s .args .q) (replicate 32 0) (s .args .t .now) (w .write .ensures)) (s .pre .0), search needs)
 
 slice-aggregate-vanishes : tie.Need-slice-aggregate-vanishes
 slice-aggregate-vanishes c = search needs
@@ -32,7 +32,7 @@ vanishes-requires c κs =
     let k = c .before .before .before .before in
     let w = k .before .before .before .before in
     let s = w .before .before .before .before .before .before in
-    omega (arith, s .pre .0, k .take .kept .1 .1 .1 .0, written-long (s .args .q) (replicate 16 0) (s .args .t .now) (w .write .ensures))
+    omega (arith, s .pre .0, k .take .kept .1 .1 .1 .0, written-long (s .args .q) (replicate 32 0) (s .args .t .now) (w .write .ensures))
 
 same-length : tie.Need-same-length
 same-length c = search needs
@@ -43,7 +43,7 @@ returns-2 c =
     let w = k .before .before .before .before in
     let a = w .before .before .before .before .before .before .args in
     made-at (a .q) (a .found) (a .list .now) (a .t .now) (a .times .now) (search needs)
-    (written-same (a .q) (replicate 16 0) (a .t .now) (search needs) (w .write .ensures))
+    (written-same (a .q) (replicate 32 0) (a .t .now) (search needs) (w .write .ensures))
     (k .take .ensures .0) (k .take .ensures .1) (c .before .vanishes .ensures) (c .if2 .taken)
 
 same-length-2 : tie.Need-same-length-2
@@ -55,7 +55,7 @@ returns-3 c =
     let w = k .before .before .before .before in
     let a = w .before .before .before .before .before .before .args in
     unlisted-at (a .q) (a .found) (a .list .now) (a .t .now) (a .times .now) (search needs)
-    (written-same (a .q) (replicate 16 0) (a .t .now) (search needs) (w .write .ensures))
+    (written-same (a .q) (replicate 32 0) (a .t .now) (search needs) (w .write .ensures))
     (k .take .ensures .0) (k .take .ensures .1) (c .before .vanishes .ensures) (c .if2 .left)
 
 pub apart-spec : {M : Type 1} → statement M

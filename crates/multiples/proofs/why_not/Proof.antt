@@ -6,8 +6,8 @@ use Rattle.multiples.specs.Answers.{off-told, solves}
 use Rattle.multiples.proofs.why_not.Statement.{statement}
 use Rattle.multiples.proofs.why_not.Tie as tie
 
-explain-requires : tie.Need-explain-requires
-explain-requires c κs = search needs
+explain-within-requires : tie.Need-explain-within-requires
+explain-within-requires c κs = search needs
 
 enum-told : tie.Need-enum-told
 enum-told c = search needs
@@ -28,28 +28,30 @@ enum-known-why : tie.Need-enum-known-why
 enum-known-why c = search needs
 
 returns : tie.Need-returns
-returns c = solves (c .before .before .explain .ensures) (c .enum-told .given .1) tt
+returns c = solves (c .before .before .explain-within .ensures) (c .enum-told .given .1) tt
 
 returns-2 : tie.Need-returns-2
-returns-2 c = off-told _ _ _ _ _ _ (sym (ap reasonOf (c .before .k .given .1)) ∙ c .before .before .before .explain .ensures)
+returns-2 c =
+    let x = c .before .before .before in
+    off-told (x .before .before .before .pre) _ _ _ _ _ _ (sym (ap reasonOf (c .before .k .given .1)) ∙ x .explain-within .ensures)
 
 returns-3 : tie.Need-returns-3
-returns-3 c = solves (c .before .before .explain .ensures) (c .enum-told2 .given .1) tt
+returns-3 c = solves (c .before .before .explain-within .ensures) (c .enum-told2 .given .1) tt
 
 returns-4 : tie.Need-returns-4
-returns-4 c = solves (c .before .before .explain .ensures) (c .enum-told3 .given .1) tt
+returns-4 c = solves (c .before .before .explain-within .ensures) (c .enum-told3 .given .1) tt
 
 returns-5 : tie.Need-returns-5
-returns-5 c = solves (c .before .before .explain .ensures) (c .enum-told4 .given .1) tt
+returns-5 c = solves (c .before .before .explain-within .ensures) (c .enum-told4 .given .1) tt
 
 returns-6 : tie.Need-returns-6
-returns-6 c = sym (c .before .before .before .explain .ensures) ∙ ap reasonOf (c .before .why .given .1)
+returns-6 c = sym (c .before .before .before .explain-within .ensures) ∙ ap reasonOf (c .before .why .given .1)
 
 pub why-not-spec : {M : Type 1} → statement M
 why-not-spec =
     tie.close
     (tie.spec
-    explain-requires
+    explain-within-requires
     enum-told
     enum-known-k
     enum-told-2

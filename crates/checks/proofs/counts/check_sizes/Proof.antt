@@ -1,45 +1,18 @@
--- `checks::counts::check_sizes` meets its contract: each test decides the first check that refuses. Assumes nothing.
-use Prim.Native.Nat.{ℕ, _-_, _≤_}
-use mathlib.Core.Bool.{true}
-use mathlib.Core.Path.{_≡_}
-use native.Mathlib.Omega.{arith}
+-- `checks::counts::check_sizes` meets its contract: document 01's limits. Assumes nothing.
 use borrow.Author.Needs.{needs}
-use borrow.Author.Tests.{le-leb, lt-leb}
-use Rattle.definitions.specs.Answers.{refuseWith, _then_}
-use Rattle.definitions.specs.Refusals.{between}
 use Rattle.checks.specs.Counts.{sizeChecks}
 use Rattle.checks.proofs.counts.check_sizes.Statement.{statement}
 use Rattle.checks.proofs.counts.check_sizes.Tie as tie
 
-in-range : (b n : ℕ) → 1 ≤ n → n ≤ b → between 1 b n ≡ true
-in-range b n l m = rw (le-leb 1 n l, le-leb n b m)
+sub-sizes-within : tie.Need-sub-sizes-within
+sub-sizes-within c = search needs
+
+sizes-within-requires : tie.Need-sizes-within-requires
+sizes-within-requires c κs = search needs
 
 returns : tie.Need-returns
-unfolding sizeChecks refuseWith _then_
-returns c = rw (lt-leb 1 _ (c .if1 .taken))
-
-returns-2 : tie.Need-returns-2
-unfolding sizeChecks refuseWith _then_
-returns-2 c = rw (le-leb 1 _ (c .before .if1 .left), lt-leb _ 8 (c .if2 .taken))
-
-returns-3 : tie.Need-returns-3
-unfolding sizeChecks refuseWith _then_
-returns-3 c = let s = c .before .before .before .args in rw (in-range 8 (s .p) (omega arith) (omega arith), lt-leb 1 (s .q) (c .if3 .taken))
-
-sub-if4 : tie.Need-sub-if4
-sub-if4 c = search needs
-
-returns-4 : tie.Need-returns-4
-unfolding sizeChecks refuseWith _then_
-returns-4 c =
-    let s = c .before .before .before .before .args in
-    rw (in-range 8 (s .p) (omega arith) (omega arith), le-leb 1 (s .q) (omega arith), lt-leb (s .q) (16 - s .extra) (c .if4 .taken))
-
-returns-5 : tie.Need-returns-5
-unfolding sizeChecks refuseWith _then_
-returns-5 c =
-    let s = c .before .before .before .before .args in
-    rw (in-range 8 (s .p) (omega arith) (omega arith), in-range (16 - s .extra) (s .q) (omega arith) (omega arith))
+unfolding sizeChecks
+returns c = c .sizes-within .ensures
 
 pub check-sizes-spec : {M : Type 1} → statement M
-check-sizes-spec = tie.close (tie.spec returns returns-2 returns-3 sub-if4 returns-4 returns-5)
+check-sizes-spec = tie.close (tie.spec sub-sizes-within sizes-within-requires returns)

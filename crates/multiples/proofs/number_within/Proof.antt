@@ -1,12 +1,12 @@
--- `decompose_number` meets its contract: what is answered, as one number; an amount that is told fits 64 bits. Assumes nothing.
+-- `number_within` meets its contract: what is answered, as one number; an amount that is told fits 64 bits. Assumes nothing.
 use borrow.Author.Needs.{needs}
 use Rattle.multiples.specs.AnswerLaws.{told-off}
 use Rattle.multiples.specs.Answers.{told}
-use Rattle.multiples.proofs.decompose_number.Statement.{statement}
-use Rattle.multiples.proofs.decompose_number.Tie as tie
+use Rattle.multiples.proofs.number_within.Statement.{statement}
+use Rattle.multiples.proofs.number_within.Tie as tie
 
-decompose-requires : tie.Need-decompose-requires
-decompose-requires c κs = search needs
+decompose-within-requires : tie.Need-decompose-within-requires
+decompose-within-requires c κs = search needs
 
 enum-told : tie.Need-enum-told
 enum-told c = search needs
@@ -36,7 +36,7 @@ same-length : tie.Need-same-length
 same-length c = search needs
 
 returns : tie.Need-returns
-returns c = let d = c .before .before .before .before in told _ _ (d .decompose .ensures) (c .enum-told .given .1)
+returns c = let d = c .before .before .before .before in told _ _ (d .decompose-within .ensures) (c .enum-told .given .1)
 
 same-length-2 : tie.Need-same-length-2
 same-length-2 c = search needs
@@ -45,19 +45,19 @@ returns-2 : tie.Need-returns-2
 returns-2 c =
     let k = c .before .before in
     let d = k .before .before .before .before in
-    rw (c .coded .ensures) (told-off _ _ _ _ _ _ _ _ _ (d .decompose .ensures) (k .k .given .1))
+    rw (c .coded .ensures) (told-off (d .before .before .before .before .before .pre) _ _ _ _ _ _ _ _ _ (d .decompose-within .ensures) (k .k .given .1))
 
 same-length-3 : tie.Need-same-length-3
 same-length-3 c = search needs
 
 returns-3 : tie.Need-returns-3
-returns-3 c = let d = c .before .before .before .before in told _ _ (d .decompose .ensures) (c .enum-told2 .given .1)
+returns-3 c = let d = c .before .before .before .before in told _ _ (d .decompose-within .ensures) (c .enum-told2 .given .1)
 
 same-length-4 : tie.Need-same-length-4
 same-length-4 c = search needs
 
 returns-4 : tie.Need-returns-4
-returns-4 c = let d = c .before .before .before .before in told _ _ (d .decompose .ensures) (c .enum-told3 .given .1)
+returns-4 c = let d = c .before .before .before .before in told _ _ (d .decompose-within .ensures) (c .enum-told3 .given .1)
 
 same-length-5 : tie.Need-same-length-5
 same-length-5 c = search needs
@@ -66,13 +66,13 @@ returns-5 : tie.Need-returns-5
 returns-5 c =
     let w = c .before .before in
     let d = w .before .before .before .before in
-    rw (c .refusal .ensures) (told _ _ (d .decompose .ensures) (w .why .given .1))
+    rw (c .refusal .ensures) (told _ _ (d .decompose-within .ensures) (w .why .given .1))
 
-pub decompose-number-spec : {M : Type 1} → statement M
-decompose-number-spec =
+pub number-within-spec : {M : Type 1} → statement M
+number-within-spec =
     tie.close
     (tie.spec
-    decompose-requires
+    decompose-within-requires
     enum-told
     enum-known-k
     element-set-from-by

@@ -1,10 +1,11 @@
--- `decompose` meets its contract: the refusals decide first, then the equations. Assumes nothing.
+-- `decompose_within` meets its contract: the refusals decide first, then the equations. Assumes nothing.
 use mathlib.Core.Path.{sym}
 use borrow.Author.Needs.{needs}
+use Rattle.definitions.specs.Refusals.{sizes}
 use Rattle.multiples.specs.Answers.{off-told}
 use Rattle.multiples.specs.AnswerLaws.{off-at, refused-at, solved-at, solves-fits}
-use Rattle.multiples.proofs.decompose.Statement.{statement}
-use Rattle.multiples.proofs.decompose.Tie as tie
+use Rattle.multiples.proofs.decompose_within.Statement.{statement}
+use Rattle.multiples.proofs.decompose_within.Tie as tie
 
 why-not-requires : tie.Need-why-not-requires
 why-not-requires c κs = search needs
@@ -22,20 +23,23 @@ apart-requires : tie.Need-apart-requires
 apart-requires c κs =
     let w = c .before .before .before in
     let a = w .before .before .before .before .args in
-    solves-fits (a .p) (a .q) (a .coefs .now) (a .list .now) (a .found .0) (a .t .now) (rw (c .before .enum-told .given .1) at (w .why-not .ensures))
+    solves-fits (sizes (a .equations) (a .unknowns)) (a .p) (a .q) (a .coefs .now) (a .list .now) (a .found) (a .t .now)
+    (w .before .before .before .before .pre) (rw (c .before .enum-told .given .1) at (w .why-not .ensures))
 
 returns : tie.Need-returns
 returns c =
     let w = c .before .before .before in
     let a = w .before .before .before .before .args in
-    refused-at (a .p) (a .q) (a .coefs .now) (a .list .now) (a .found .0) (a .t .now) (a .times .now) (rw (c .before .why .given .1) at (w .why-not .ensures))
+    refused-at (sizes (a .equations) (a .unknowns)) (a .p) (a .q) (a .coefs .now) (a .list .now) (a .found) (a .t .now) (a .times .now)
+    (rw (c .before .why .given .1) at (w .why-not .ensures))
 
 returns-2 : tie.Need-returns-2
 returns-2 c =
     let w = c .before .before .before in
     let a = w .before .before .before .before .args in
-    off-at (a .p) (a .q) (a .coefs .now) (a .list .now) (a .found .0) (a .t .now) (a .times .now)
-    (off-told (a .p) (a .q) (a .coefs .now) (a .list .now) (a .found .0) (a .t .now) (sym (rw (c .before .k .given .1) at (w .why-not .ensures))))
+    off-at (sizes (a .equations) (a .unknowns)) (a .p) (a .q) (a .coefs .now) (a .list .now) (a .found) (a .t .now) (a .times .now)
+    (off-told (w .before .before .before .before .pre) (a .p) (a .q) (a .coefs .now) (a .list .now) (a .found) (a .t .now)
+    (sym (rw (c .before .k .given .1) at (w .why-not .ensures))))
 
 same-length : tie.Need-same-length
 same-length c = search needs
@@ -45,11 +49,11 @@ returns-3 c =
     let k = c .before .before in
     let w = k .before .before .before .before in
     let a = w .before .before .before .before .args in
-    solved-at (a .p) (a .q) (a .coefs .now) (a .list .now) (a .found .0) (a .t .now) (a .times .now)
+    solved-at (sizes (a .equations) (a .unknowns)) (a .p) (a .q) (a .coefs .now) (a .list .now) (a .found) (a .t .now) (a .times .now)
     (rw (k .before .before .enum-told .given .1) at (w .why-not .ensures)) (k .apart .ensures)
 
-pub decompose-spec : {M : Type 1} → statement M
-decompose-spec =
+pub decompose-within-spec : {M : Type 1} → statement M
+decompose-within-spec =
     tie.close
     (tie.spec
     why-not-requires
