@@ -138,13 +138,13 @@ def single_file(rows: Rows, *, progress: Progress = None) -> list[Order]:
     return [Order(*(tuple(map(int, half.split())) for half in line)) for line in halves]
 
 
-# ---- questions
+# ---- questions, of at most 32 equations and 32 unknowns, and of lists of any length
 
 
 def locate(rows: Rows, listed: Rows, tuple_: Sequence[int]) -> int | None:
     """Which row of a list is at or below a tuple: the last of such, from 0, or None."""
     system, asked = system_of(rows), naturals(tuple_)
-    answer = LIBRARY.dezgula_locate(system, list_of(listed, system.q), asked, len(asked))
+    answer = LIBRARY.dezgula_engine_locate(system, list_of(listed, system.q), asked, len(asked))
     if answer & 0xFF not in (AT_OR_BELOW, NOWHERE):
         raise Refused(answer)
     return (answer >> 8) - 1 if answer & 0xFF == AT_OR_BELOW else None
@@ -157,7 +157,7 @@ def why(rows: Rows, listed: Rows, tuple_: Sequence[int]) -> Reason:
     'A row of the list lies below the tuple.'
     """
     system, asked, amount = system_of(rows), naturals(tuple_), ctypes.c_int64()
-    answer = LIBRARY.dezgula_reason(system, list_of(listed, system.q), asked, len(asked), amount)
+    answer = LIBRARY.dezgula_engine_reason(system, list_of(listed, system.q), asked, len(asked), amount)
     number, place = answer & 0xFF, answer >> 8
     if number not in (ALL_ZERO, OFF, STANDS, ABOVE, UNLISTED):
         raise Refused(answer)
@@ -176,7 +176,7 @@ def plan(rows: Rows, listed: Rows, tuple_: Sequence[int]) -> Plan:
     system, asked, amount = system_of(rows), naturals(tuple_), ctypes.c_int64()
     handed = list_of(listed, system.q)
     times = (ctypes.c_uint32 * handed.found)()
-    answer = LIBRARY.dezgula_decompose(system, handed, asked, len(asked), times, len(times), amount)
+    answer = LIBRARY.dezgula_engine_decompose(system, handed, asked, len(asked), times, len(times), amount)
     number, sentence = answer & 0xFF, LIBRARY.dezgula_sentence(answer).decode()
     if number == OFF:
         return Plan(number, sentence, equation=(answer >> 8) - 1, amount=amount.value)

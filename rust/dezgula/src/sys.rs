@@ -245,6 +245,17 @@ extern "C" {
     pub fn dezgula_engine_combine(p: usize, q: usize, run: *mut dezgula_engine_run, r: usize, u: i32, s: usize, t: i32) -> u64;
     pub fn dezgula_engine_take(p: usize, q: usize, run: *mut dezgula_engine_run, e: usize, f: usize) -> u64;
     pub fn dezgula_engine_resume(p: usize, q: usize, run: *mut dezgula_engine_run, budget: u64) -> u64;
+    pub fn dezgula_engine_locate(system: *const dezgula_system, list: *const dezgula_list, tuple: *const u32, tuple_len: usize) -> u64;
+    pub fn dezgula_engine_reason(system: *const dezgula_system, list: *const dezgula_list, tuple: *const u32, tuple_len: usize, amount: *mut i64) -> u64;
+    pub fn dezgula_engine_decompose(
+        system: *const dezgula_system,
+        list: *const dezgula_list,
+        tuple: *const u32,
+        tuple_len: usize,
+        times: *mut u32,
+        times_len: usize,
+        amount: *mut i64,
+    ) -> u64;
 
     pub fn dezgula_solver_new(system: *const dezgula_system, answer: *mut u64) -> *mut dezgula_solver;
     pub fn dezgula_solver_work(solver: *mut dezgula_solver, budget: u64) -> u64;

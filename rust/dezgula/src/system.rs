@@ -184,7 +184,7 @@ impl System {
         listed.ok_or(Error::new(numbers::EQUATIONS, 0))
     }
 
-    // ---- questions
+    // ---- questions, of at most 32 equations and 32 unknowns, and of lists of any length
 
     /// Which row of the list is at or below a tuple: the last of such, from 0.
     ///
@@ -196,7 +196,7 @@ impl System {
     /// ```
     pub fn locate(&self, list: &List, tuple: &[u32]) -> Result<Option<usize>, Error> {
         self.same_unknowns(list)?;
-        let answer = calls::locate(self.map(), list.found(), tuple);
+        let answer = calls::engine_locate(self.map(), list.found(), tuple);
         match answer.number() {
             numbers::AT_OR_BELOW => Ok(Some(from_zero(answer))),
             numbers::NOWHERE => Ok(None),
@@ -217,7 +217,7 @@ impl System {
     pub fn why(&self, list: &List, tuple: &[u32]) -> Result<Reason, Error> {
         self.same_unknowns(list)?;
         let mut amount = 0;
-        let answer = calls::reason(self.map(), list.found(), tuple, &mut amount);
+        let answer = calls::engine_reason(self.map(), list.found(), tuple, &mut amount);
         match answer.number() {
             numbers::ALL_ZERO => Ok(Reason::AllZero),
             numbers::OFF => Ok(Reason::Off { equation: from_zero(answer), amount }),
@@ -239,7 +239,7 @@ impl System {
     pub fn plan(&self, list: &List, tuple: &[u32]) -> Result<Made, Error> {
         self.same_unknowns(list)?;
         let (mut times, mut amount) = (vec![0; list.len()], 0);
-        let answer = calls::decompose(self.map(), list.found(), tuple, &mut times, &mut amount);
+        let answer = calls::engine_decompose(self.map(), list.found(), tuple, &mut times, &mut amount);
         match answer.number() {
             numbers::MADE => Ok(Made::Of(times)),
             numbers::UNLISTED => Ok(Made::Unlisted(times)),
