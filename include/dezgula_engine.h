@@ -82,7 +82,8 @@ typedef struct {
     dezgula_engine_record record;
 } dezgula_engine_run;
 
-/* ---- the engine's calls */
+/* ---- the engine's calls. Each on a run looks first at the whole working system and at every number of the rows that the record counts. A turn compares one
+ * sum with up to `rows` rows; one that goes to the next degree, and the end of a stage, look at every row. */
 
 /* The record as words, in the order of its fields, to be kept in a file; and the record of such words. */
 enum { DEZGULA_ENGINE_RECORD_LENGTH = 10 };
@@ -131,12 +132,12 @@ typedef struct {
 } dezgula_solver_progress;
 
 /* A solver for a map, of which it keeps a copy. NULL where the map is refused, or there is no memory: *answer then has 1, 2, 3, 7 or 31, and else
- * DEZGULA_STARTED. */
-dezgula_solver *dezgula_solver_new(const dezgula_system *system, uint64_t *answer);
+ * DEZGULA_STARTED. It costs up to a million operations, as equations that follow from others, and sums that no solution meets, are looked for. */
+dezgula_solver *dezgula_solver_new(const dezgula_system *system, uint64_t *answer) DEZGULA_LOOK_AT_IT;
 
 /* Works for about `budget` turns; 0 is as many as take about 50 ms. Answers DEZGULA_PAUSED, DEZGULA_COMPLETE, or a refusal: 12, 14, or 31 where no more rows
  * fit into memory or into the limit. After 31 it may be called again, when there is more memory or a higher limit. */
-DEZGULA_LOOK_AT_IT uint64_t dezgula_solver_work(dezgula_solver *solver, uint64_t budget);
+uint64_t dezgula_solver_work(dezgula_solver *solver, uint64_t budget) DEZGULA_LOOK_AT_IT;
 
 /* The most bytes of all tables together. At first SIZE_MAX, which is no limit. */
 void dezgula_solver_limit(dezgula_solver *solver, size_t bytes);
@@ -149,14 +150,14 @@ dezgula_system dezgula_solver_system(const dezgula_solver *solver);
 /* The rows of the complete list, of q numbers each, and how many there are; NULL and 0 before it is complete. They are valid until the solver is freed. */
 const uint32_t *dezgula_solver_rows(const dezgula_solver *solver, size_t *count);
 
-/* A solver as words, to be kept in a file and gone on from elsewhere: how many, and the words. */
+/* A solver as words, to be kept in a file and gone on from elsewhere: how many, and the words. Saving and loading cost some operations for each word. */
 size_t dezgula_solver_saved_length(const dezgula_solver *solver);
 void dezgula_solver_save(const dezgula_solver *solver, uint32_t *words);
 
 /* A solver from such words; NULL where they are none, with 6 in *answer, or there is no memory, with 31, and else DEZGULA_STARTED. It has no limit of memory.
  * Words may be any: those that are out of order are refused, and no call on a solver that was loaded leaves its tables. The list is right where the words are
  * those saved; a row that is missing in them cannot be told. */
-dezgula_solver *dezgula_solver_load(const uint32_t *words, size_t length, uint64_t *answer);
+dezgula_solver *dezgula_solver_load(const uint32_t *words, size_t length, uint64_t *answer) DEZGULA_LOOK_AT_IT;
 
 void dezgula_solver_free(dezgula_solver *solver);
 
