@@ -54,6 +54,7 @@ class Plan(NamedTuple):
 
     @property
     def made(self) -> bool:
+        """Whether the rows add up to the tuple."""
         return self.number == MADE
 
 

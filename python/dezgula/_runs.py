@@ -5,7 +5,7 @@ from __future__ import annotations
 import ctypes
 import sys
 import time
-from typing import Any, Callable, NamedTuple, Optional, Sequence
+from typing import Any, Callable, NamedTuple, Optional, Sequence, TypeVar
 
 from ._library import LIBRARY, Integers, Listed, Numbers, OneAtATime, Record, Refused, Row, Rows, RunTables, integers, list_of, naturals, rows_of, system_of
 
@@ -24,6 +24,7 @@ class Told(NamedTuple):
 
 
 Progress = Optional[Callable[[Told], Any]]
+_Run = TypeVar("_Run", bound="Run")
 
 
 class Run:
@@ -67,7 +68,7 @@ class Run:
                 if answer != LIST_FULL or not self._grow():
                     raise Refused(answer)
 
-    def complete(self, progress: Progress = None) -> "Run":
+    def complete(self: _Run, progress: Progress = None) -> _Run:
         """Goes on to the end, in calls of about 50 ms; between two of them `progress` is told, and KeyboardInterrupt gets through."""
         budget = 1000
         while True:
@@ -116,6 +117,7 @@ class Run:
 
     @property
     def told(self) -> Told:
+        """How far it is."""
         record = self._tables.record
         return Told(self.steps, record.found + (record.second if self._two_lists else 0))
 

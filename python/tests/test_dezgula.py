@@ -1,6 +1,7 @@
 """The module as a program uses it: lists against code that tries every tuple of a box, every kind of run, pauses, limits, interrupts, refusals, texts."""
 
 import doctest
+import inspect
 import itertools
 import os
 import pathlib
@@ -372,6 +373,20 @@ class Texts(unittest.TestCase):
             with self.assertRaises(dezgula.Refused) as refused:
                 dezgula.read_list(content)
             self.assertEqual(refused.exception.number, number)
+
+
+class Documented(unittest.TestCase):
+    def test_every_name_has_a_docstring_and_hints(self):
+        for name in dezgula.__all__:
+            item = getattr(dezgula, name)
+            own = [item] if not inspect.isclass(item) else [getattr(member, "fget", getattr(member, "__func__", member)) for member in vars(item).values()]
+            self.assertTrue(item.__doc__, name)
+            for call in filter(inspect.isfunction, own):
+                if call.__name__.startswith("_"):
+                    continue
+                self.assertTrue(call.__doc__, f"{name}.{call.__name__}")
+                given = [parameter for parameter in inspect.signature(call).parameters if parameter not in ("self", "cls")]
+                self.assertEqual([parameter for parameter in given + ["return"] if parameter not in call.__annotations__], [], f"{name}.{call.__name__}")
 
 
 class Finding(unittest.TestCase):
