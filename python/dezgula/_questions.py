@@ -143,7 +143,11 @@ def single_file(rows: Rows, *, progress: Progress = None) -> list[Order]:
 
 
 def locate(rows: Rows, listed: Rows, tuple_: Sequence[int]) -> int | None:
-    """Which row of a list is at or below a tuple: the last of such, from 0, or None."""
+    """Which row of a list is at or below a tuple: the last of such, from 0, or None.
+
+    >>> locate([[1, 1, -1]], [(0, 1, 1), (1, 0, 1)], (0, 5, 5)), locate([[1, 1, -1]], [(0, 1, 1), (1, 0, 1)], (5, 5, 0))
+    (0, None)
+    """
     system, asked = system_of(rows), naturals(tuple_)
     answer = LIBRARY.dezgula_engine_locate(system, list_of(listed, system.q), asked, len(asked))
     if answer & 0xFF not in (AT_OR_BELOW, NOWHERE):
