@@ -139,7 +139,7 @@ def single_file(rows: Rows, *, progress: Progress = None) -> list[Order]:
     return [Order(*(tuple(map(int, half.split())) for half in line)) for line in halves]
 
 
-# ---- questions
+# ---- questions, of at most 32 equations and 32 unknowns, and of lists of any length
 
 
 def locate(rows: Rows, listed: Rows, tuple_: Sequence[int]) -> int | None:

@@ -71,7 +71,7 @@ fn installed() -> Option<PathBuf> {
 fn link(library: &Path) {
     let library = library.canonicalize().unwrap_or_else(|error| missing(&format!("{}: {error}", library.display())));
     let bytes = std::fs::read(&library).unwrap_or_else(|error| missing(&format!("{}: {error}", library.display())));
-    if !has(&bytes, b"dezgula_version") || !has(&bytes, b"dezgula_solver_system") {
+    if !has(&bytes, b"dezgula_version") || !has(&bytes, b"dezgula_engine_reason") {
         missing(&format!("{} is not the library, or one before its version 2", library.display()));
     }
     let folder = library.parent().expect("a file has a folder");

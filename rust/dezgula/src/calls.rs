@@ -175,45 +175,35 @@ pub fn full_list(m: Map, run: &mut Lent) -> Full {
 
 // ---- questions
 
-/// `dezgula_locate`: which row is at or below a tuple.
-pub fn locate(m: Map, list: Found, tuple: &[u32]) -> Answer {
-    // SAFETY: the pointers are those of slices, with their lengths, and live as long as the call, which only reads.
-    Answer(unsafe { sys::dezgula_locate(&m.lent(), &list.lent(), tuple.as_ptr(), tuple.len()) })
+/// The questions, for maps of at most 8 equations and 16 unknowns, and for those of the engine.
+macro_rules! questions {
+    ($($(#[$doc:meta])* $name:ident: $call:ident($($lent:ident: $type:ty => $($handed:expr),+);*);)*) => {$(
+        $(#[$doc])*
+        pub fn $name(m: Map, list: Found, tuple: &[u32] $(, $lent: $type)*) -> Answer {
+            // SAFETY: the pointers are those of slices, with their lengths, and live as long as the call; what it may write is borrowed exclusively.
+            Answer(unsafe { sys::$call(&m.lent(), &list.lent(), tuple.as_ptr(), tuple.len() $($(, $handed)+)*) })
+        }
+    )*};
 }
 
-/// `dezgula_reason`: why a tuple is not listed. `amount` is written where an equation is off.
-pub fn reason(m: Map, list: Found, tuple: &[u32], amount: &mut i64) -> Answer {
-    // SAFETY: as above, and the number that it may write is borrowed exclusively.
-    Answer(unsafe { sys::dezgula_reason(&m.lent(), &list.lent(), tuple.as_ptr(), tuple.len(), amount) })
-}
-
-/// `dezgula_decompose`: what a tuple is made of. `amount` is written where an equation is off, `times` where it is taken apart.
-pub fn decompose(m: Map, list: Found, tuple: &[u32], times: &mut [u32], amount: &mut i64) -> Answer {
-    // SAFETY: as above, also of the table that it may write.
-    Answer(unsafe { sys::dezgula_decompose(&m.lent(), &list.lent(), tuple.as_ptr(), tuple.len(), times.as_mut_ptr(), times.len(), amount) })
-}
-
-/// `dezgula_engine_locate`: as [`locate`], of maps of up to 32 equations and 32 unknowns.
-pub fn engine_locate(m: Map, list: Found, tuple: &[u32]) -> Answer {
-    // SAFETY: as above.
-    Answer(unsafe { sys::dezgula_engine_locate(&m.lent(), &list.lent(), tuple.as_ptr(), tuple.len()) })
-}
-
-/// `dezgula_engine_reason`: as [`reason`], of maps of up to 32 equations and 32 unknowns.
-pub fn engine_reason(m: Map, list: Found, tuple: &[u32], amount: &mut i64) -> Answer {
-    // SAFETY: as above.
-    Answer(unsafe { sys::dezgula_engine_reason(&m.lent(), &list.lent(), tuple.as_ptr(), tuple.len(), amount) })
-}
-
-/// `dezgula_engine_decompose`: as [`decompose`], of maps of up to 32 equations and 32 unknowns.
-pub fn engine_decompose(m: Map, list: Found, tuple: &[u32], times: &mut [u32], amount: &mut i64) -> Answer {
-    // SAFETY: as above.
-    Answer(unsafe { sys::dezgula_engine_decompose(&m.lent(), &list.lent(), tuple.as_ptr(), tuple.len(), times.as_mut_ptr(), times.len(), amount) })
+questions! {
+    /// `dezgula_locate`: which row is at or below a tuple.
+    locate: dezgula_locate();
+    /// `dezgula_reason`: why a tuple is not listed. `amount` is written where an equation is off.
+    reason: dezgula_reason(amount: &mut i64 => amount);
+    /// `dezgula_decompose`: what a tuple is made of. `amount` is written where an equation is off, `times` where it is taken apart.
+    decompose: dezgula_decompose(times: &mut [u32] => times.as_mut_ptr(), times.len(); amount: &mut i64 => amount);
+    /// `dezgula_engine_locate`.
+    engine_locate: dezgula_engine_locate();
+    /// `dezgula_engine_reason`.
+    engine_reason: dezgula_engine_reason(amount: &mut i64 => amount);
+    /// `dezgula_engine_decompose`.
+    engine_decompose: dezgula_engine_decompose(times: &mut [u32] => times.as_mut_ptr(), times.len(); amount: &mut i64 => amount);
 }
 
 /// `dezgula_listing`: the list of a single-file map as text.
 pub fn listing(m: Map, list: Found, out: &mut [u8]) -> Answer {
-    // SAFETY: as above; a char of C has the size of a byte.
+    // SAFETY: as for the questions; a char of C has the size of a byte.
     Answer(unsafe { sys::dezgula_listing(&m.lent(), &list.lent(), out.as_mut_ptr().cast::<c_char>(), out.len()) })
 }
 

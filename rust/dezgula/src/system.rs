@@ -184,7 +184,7 @@ impl System {
         listed.ok_or(Error::new(numbers::EQUATIONS, 0))
     }
 
-    // ---- questions
+    // ---- questions, of at most 32 equations and 32 unknowns, and of lists of any length
 
     /// Which row of the list is at or below a tuple: the last of such, from 0.
     ///

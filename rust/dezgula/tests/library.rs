@@ -213,16 +213,26 @@ fn no_solutions() {
     assert_eq!(system.plan(&list, &[0, 0]).unwrap(), Made::Of(vec![]));
 }
 
+/// A ring of 20 activities, which goes round once, and one beside it.
 #[test]
-fn questions_as_large_as_the_engine_takes() {
-    let coef = |i: usize, j: usize| i32::from(i == j) - i32::from((i + 1) % 32 == j);
-    let ring = System::new((0..32).map(|i| (0..32).map(|j| coef(i, j)).collect::<Vec<_>>()).collect::<Vec<_>>()).unwrap();
-    let list = ring.basis().unwrap();
-    assert_eq!(ring.why(&list, &[2; 32]).unwrap(), Reason::Above { row: 0 });
-    assert_eq!(ring.locate(&list, &[1; 32]).unwrap(), Some(0));
-    assert_eq!(ring.plan(&list, &[7; 32]).unwrap(), Made::Of(vec![7]));
-    let wide = System::new([[0; 33]]).unwrap();
-    assert_eq!(wide.why(&List::new(33, [[0; 33]]).unwrap(), &[0; 33]).unwrap_err().number(), numbers::UNKNOWNS);
+fn questions_about_large_maps() {
+    let mut rows: Vec<Vec<i32>> = (0..20).map(|i| (0..20).map(|j| i32::from(j == i) - i32::from(j == (i + 1) % 20)).collect()).collect();
+    rows.iter_mut().for_each(|row| row.push(0));
+    let system = System::new(rows).unwrap();
+    let list = system.basis().unwrap();
+    assert_eq!(list.len(), 2);
+    let (round, beside) = (list.iter().position(|row| row[0] == 1).unwrap(), list.iter().position(|row| row[20] == 1).unwrap());
+    let mut plan = [3; 21];
+    plan[20] = 5;
+    assert_eq!(system.locate(&list, &plan).unwrap(), Some(1));
+    assert_eq!(system.why(&list, &plan).unwrap(), Reason::Above { row: 1 });
+    assert_eq!(system.why(&list, &list[round]).unwrap(), Reason::Stands { row: round });
+    let mut times = vec![0; 2];
+    (times[round], times[beside]) = (3, 5);
+    assert_eq!(system.plan(&list, &plan).unwrap(), Made::Of(times));
+    plan[7] = 4;
+    assert_eq!(system.plan(&list, &plan).unwrap(), Made::Off { equation: 6, amount: -1 });
+    assert_eq!(System::new([[1; 33]]).unwrap().why(&List::new(33, [[1; 33]]).unwrap(), &[0; 33]).unwrap_err().number(), numbers::UNKNOWNS);
 }
 
 fn goes_on<K: Kind + Clone>(system: &System, kind: K) -> Run<K> {

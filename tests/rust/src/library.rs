@@ -94,9 +94,16 @@ pub fn row(list: &[u32], q: usize, found: usize, n: usize, out: &mut [u32]) -> S
     shown(calls::row(Map { p: 0, q, coefs: &[] }, &mut lent, n, out))
 }
 
-/// Of the system it reads q only.
+/// Of the system it reads q only. The call for at most 16 unknowns, or that of the engine for at most 32.
 pub fn locate(list: &[u32], q: usize, found: usize, tuple: &[u32]) -> Located {
-    let answer = calls::locate(Map { p: 0, q, coefs: &[] }, Found { rows: list, found }, tuple);
+    located(calls::locate(Map { p: 0, q, coefs: &[] }, Found { rows: list, found }, tuple))
+}
+
+pub fn engine_locate(list: &[u32], q: usize, found: usize, tuple: &[u32]) -> Located {
+    located(calls::engine_locate(Map { p: 0, q, coefs: &[] }, Found { rows: list, found }, tuple))
+}
+
+fn located(answer: dezgula::Answer) -> Located {
     match answer.number() {
         127 => Located::Nowhere,
         126 => Located::At(answer.place() as usize),

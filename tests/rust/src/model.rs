@@ -272,8 +272,8 @@ pub fn listing(m: &System, list: &[u32], found: usize, out: &mut [u8]) -> Listed
 // ---- document 02, Job 7: "The check says which row"
 
 /// The highest place, from 1, of a listed row that is at or below the tuple in every component.
-pub fn locate(list: &[u32], q: usize, found: usize, tuple: &[u32]) -> Located {
-    if !(1..=16).contains(&q) {
+pub fn locate(most: usize, list: &[u32], q: usize, found: usize, tuple: &[u32]) -> Located {
+    if !(1..=most).contains(&q) {
         return Located::Refused(2);
     }
     if tuple.len() != q {

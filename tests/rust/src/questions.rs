@@ -1,4 +1,5 @@
-//! Why a tuple is not in a list, and what it is made of (document 02, Jobs 8 and 13): the calls, and the same in plain Rust.
+//! Why a tuple is not in a list, and what it is made of (document 02, Jobs 8 and 13): the calls, and the same in plain Rust. Those for the engine's maps differ by
+//! the most equations and unknowns.
 
 use crate::System;
 use dezgula::calls::{self, Found};
@@ -26,9 +27,14 @@ pub enum Parts {
 /// What the number lent for an amount holds before a call.
 const HELD: i64 = 77;
 
-pub fn reason(m: &System, list: &[u32], found: usize, tuple: &[u32]) -> Reason {
-    let mut amount = HELD;
-    let answer = calls::reason(m.map(), Found { rows: list, found }, tuple, &mut amount);
+/// The most equations and unknowns that are asked about.
+pub type Most = (usize, usize);
+pub const WALK: Most = (8, 16);
+pub const ENGINE: Most = (32, 32);
+
+pub fn reason(most: Most, m: &System, list: &[u32], found: usize, tuple: &[u32]) -> Reason {
+    let (call, mut amount) = (if most == WALK { calls::reason } else { calls::engine_reason }, HELD);
+    let answer = call(m.map(), Found { rows: list, found }, tuple, &mut amount);
     decode(answer, amount)
 }
 
@@ -45,9 +51,9 @@ fn decode(answer: dezgula::Answer, amount: i64) -> Reason {
     }
 }
 
-pub fn decompose(m: &System, list: &[u32], found: usize, tuple: &[u32], times: &mut [u32]) -> Parts {
-    let mut amount = HELD;
-    let answer = calls::decompose(m.map(), Found { rows: list, found }, tuple, times, &mut amount);
+pub fn decompose(most: Most, m: &System, list: &[u32], found: usize, tuple: &[u32], times: &mut [u32]) -> Parts {
+    let (call, mut amount) = (if most == WALK { calls::decompose } else { calls::engine_decompose }, HELD);
+    let answer = call(m.map(), Found { rows: list, found }, tuple, times, &mut amount);
     match answer.number() {
         125 => Parts::Made,
         124 => Parts::Unlisted,
@@ -58,11 +64,11 @@ pub fn decompose(m: &System, list: &[u32], found: usize, tuple: &[u32], times: &
 
 // ---- the same from the document
 
-fn refusal(m: &System, list: &[u32], found: usize, tuple: &[u32]) -> Option<(u64, usize)> {
-    if !(1..=8).contains(&m.p) {
+fn refusal(most: Most, m: &System, list: &[u32], found: usize, tuple: &[u32]) -> Option<(u64, usize)> {
+    if !(1..=most.0).contains(&m.p) {
         return Some((1, 0));
     }
-    if !(1..=16).contains(&m.q) {
+    if !(1..=most.1).contains(&m.q) {
         return Some((2, 0));
     }
     if m.coefs.len() != m.p * m.q {
@@ -84,8 +90,8 @@ fn at_or_below(row: &[u32], tuple: &[u32]) -> bool {
     row.iter().zip(tuple).all(|(a, b)| a <= b)
 }
 
-pub fn expected_reason(m: &System, list: &[u32], found: usize, tuple: &[u32]) -> Reason {
-    if let Some((number, place)) = refusal(m, list, found, tuple) {
+pub fn expected_reason(most: Most, m: &System, list: &[u32], found: usize, tuple: &[u32]) -> Reason {
+    if let Some((number, place)) = refusal(most, m, list, found, tuple) {
         return Reason::Refused(number, place);
     }
     if tuple.iter().all(|&x| x == 0) {
@@ -105,8 +111,8 @@ pub fn expected_reason(m: &System, list: &[u32], found: usize, tuple: &[u32]) ->
 }
 
 /// Each row is taken off one at a time, as long as it goes, the last row first; a row of zeros never goes.
-pub fn expected_parts(m: &System, list: &[u32], found: usize, tuple: &[u32], times: &mut [u32]) -> Parts {
-    if let why @ (Reason::Refused(..) | Reason::Off(..)) = expected_reason(m, list, found, tuple) {
+pub fn expected_parts(most: Most, m: &System, list: &[u32], found: usize, tuple: &[u32], times: &mut [u32]) -> Parts {
+    if let why @ (Reason::Refused(..) | Reason::Off(..)) = expected_reason(most, m, list, found, tuple) {
         return Parts::Not(why);
     }
     if times.len() < found {

@@ -25,20 +25,23 @@ fn refusals_in_rising_number() {
     assert_eq!(library::locate(&list, 2, usize::MAX, &[4, 2]), Located::Refused(6));
 }
 
+type Call = fn(&[u32], usize, usize, &[u32]) -> Located;
+
 #[test]
 fn drawn_lists() {
     let mut d = Draw::new(7);
     let mut answers = BTreeMap::<(u8, bool), usize>::new();
-    for _ in 0..50_000 {
-        let q = if d.one_in(10) { d.between(0, 18) } else { d.between(1, 5) };
+    for i in 0..100_000 {
+        let (most, call) = if i % 2 == 0 { (16, library::locate as Call) } else { (32, library::engine_locate as Call) };
+        let q = if d.one_in(10) { d.of(&[0, 1, 16, 17, 18, 31, 32, 33]) } else { d.between(1, 5) };
         let room = d.of(&[0, 1, 2, 6, 30]);
-        let most = d.of(&[1, 2, 4, u32::MAX as usize]);
-        let list: Vec<u32> = (0..room * q + q / 2).map(|_| d.between(0, most) as u32).collect();
+        let largest = d.of(&[1, 2, 4, u32::MAX as usize]);
+        let list: Vec<u32> = (0..room * q + q / 2).map(|_| d.between(0, largest) as u32).collect();
         let length = if d.one_in(10) { d.between(0, 18) } else { q };
-        let tuple: Vec<u32> = (0..length).map(|_| d.between(0, most) as u32).collect();
+        let tuple: Vec<u32> = (0..length).map(|_| d.between(0, largest) as u32).collect();
         let found = if d.one_in(10) { d.between(0, room + 2) } else { room };
-        let wanted = model::locate(&list, q, found, &tuple);
-        assert_eq!(library::locate(&list, q, found, &tuple), wanted, "{found} of {list:?} for {q} and {tuple:?}");
+        let wanted = model::locate(most, &list, q, found, &tuple);
+        assert_eq!(call(&list, q, found, &tuple), wanted, "{found} of {list:?} for {q} and {tuple:?}");
         let kind = match wanted {
             Located::At(n) => (0, n > 1),
             Located::Nowhere => (1, false),

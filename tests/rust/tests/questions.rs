@@ -1,6 +1,6 @@
 //! Why a tuple is not in a list, and what it is made of: drawn questions, and every tuple of small boxes.
 
-use dezgula_tests::questions::{self, Parts, Reason};
+use dezgula_tests::questions::{self, Most, Parts, Reason, ENGINE, WALK};
 use dezgula_tests::{draw::Draw, library, Answer, State, System};
 use std::collections::BTreeMap;
 
@@ -12,8 +12,8 @@ fn kind(why: Reason) -> String {
 }
 
 /// A question: mostly a small map, with rows that often lie at or below the tuple; now and then something out of order.
-fn drawn(d: &mut Draw) -> (System, Vec<u32>, usize, Vec<u32>) {
-    let (p, q) = (d.of(&[0, 1, 1, 1, 2, 3, 8, 9]), d.of(&[0, 1, 2, 2, 3, 4, 16, 17]));
+fn drawn(d: &mut Draw, most: Most) -> (System, Vec<u32>, usize, Vec<u32>) {
+    let (p, q) = (d.of(&[0, 1, 1, 1, 2, 3, most.0, most.0 + 1]), d.of(&[0, 1, 2, 2, 3, 4, most.1, most.1 + 1]));
     let size = p * q + if d.one_in(20) { 1 } else { 0 };
     let mut coefs: Vec<i32> = (0..size).map(|_| d.of(&[0, 0, 0, 1, -1, 2, -3])).collect();
     if size > 0 && d.one_in(20) {
@@ -38,15 +38,16 @@ fn drawn(d: &mut Draw) -> (System, Vec<u32>, usize, Vec<u32>) {
 fn drawn_questions() {
     let mut d = Draw::new(13);
     let mut seen = BTreeMap::<String, usize>::new();
-    for _ in 0..50_000 {
-        let (m, list, found, tuple) = drawn(&mut d);
-        let why = questions::reason(&m, &list, found, &tuple);
-        assert_eq!(why, questions::expected_reason(&m, &list, found, &tuple), "{m:?} {list:?} {found} {tuple:?}");
+    for i in 0..100_000 {
+        let most = if i % 2 == 0 { WALK } else { ENGINE };
+        let (m, list, found, tuple) = drawn(&mut d, most);
+        let why = questions::reason(most, &m, &list, found, &tuple);
+        assert_eq!(why, questions::expected_reason(most, &m, &list, found, &tuple), "{m:?} {list:?} {found} {tuple:?}");
         *seen.entry(kind(why)).or_default() += 1;
         let mut times = vec![9; d.between(0, 5)];
         let mut expected = times.clone();
-        let wanted = questions::expected_parts(&m, &list, found, &tuple, &mut expected);
-        assert_eq!((questions::decompose(&m, &list, found, &tuple, &mut times), &times), (wanted, &expected), "{m:?} {list:?} {found} {tuple:?}");
+        let wanted = questions::expected_parts(most, &m, &list, found, &tuple, &mut expected);
+        assert_eq!((questions::decompose(most, &m, &list, found, &tuple, &mut times), &times), (wanted, &expected), "{m:?} {list:?} {found} {tuple:?}");
         *seen.entry(format!("parts {}", matches!(wanted, Parts::Made))).or_default() += 1;
     }
     println!("{seen:?}");
@@ -72,12 +73,12 @@ fn boxes() {
         let side = [0, 60, 20, 9, 6][q] + 1_u32;
         for code in 0..side.pow(q as u32) {
             let tuple: Vec<u32> = (0..q as u32).map(|j| code / side.pow(j) % side).collect();
-            let why = questions::reason(&m, &s.list, s.found(), &tuple);
-            assert_eq!(why, questions::expected_reason(&m, &s.list, s.found(), &tuple), "{m:?} {tuple:?}");
+            let why = questions::reason(WALK, &m, &s.list, s.found(), &tuple);
+            assert_eq!(why, questions::expected_reason(WALK, &m, &s.list, s.found(), &tuple), "{m:?} {tuple:?}");
             let mut times = vec![9; s.found()];
             let mut expected = times.clone();
-            let parts = questions::decompose(&m, &s.list, s.found(), &tuple, &mut times);
-            assert_eq!((parts, &times), (questions::expected_parts(&m, &s.list, s.found(), &tuple, &mut expected), &expected), "{m:?} {tuple:?}");
+            let parts = questions::decompose(WALK, &m, &s.list, s.found(), &tuple, &mut times);
+            assert_eq!((parts, &times), (questions::expected_parts(WALK, &m, &s.list, s.found(), &tuple, &mut expected), &expected), "{m:?} {tuple:?}");
             if whole {
                 assert!(why != Reason::Unlisted && parts != Parts::Unlisted, "{m:?} {tuple:?}");
             }
