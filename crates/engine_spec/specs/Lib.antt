@@ -27,6 +27,7 @@ pub mod Own
 pub mod Examples
 pub mod Promises
 pub mod CallRules
+pub mod CallAnswers
 pub mod Rules
 pub mod Questions
 pub mod Sides
