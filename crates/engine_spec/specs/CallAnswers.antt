@@ -7,18 +7,19 @@ use mathlib.Core.List.{List, []}
 use Prim.Native.Nat.{ℕ, zero, suc, _+_, _^_, _-_, _≤_, _<_}
 use native.Mathlib.Decide.{ℕ-discrete}
 use native.Mathlib.Omega.{arith}
-use lib.Dec.{T, T-not, eqb, eqb→eq, eqb-refl, leb, le→leb, not-T, ltb, ltb→lt, lt→ltb, nltb→le}
+use lib.Dec.{T, T-not, eqb, eqb→eq, eqb-refl, leb, leb→le, le→leb, not-T, ltb, ltb→lt, lt→ltb, nltb→le}
 use lib.IntN.{ℤ, pos}
 use lib.Signed.{_≤ℤ_, leZ, leZ-yes}
+use Rattle.linear.specs.Cases.{split}
 use Rattle.linear.specs.Systems.{value}
 use Rattle.linear.specs.TestLaws.{T-dec, all-at, all-not, and-both, and-parts, number-false, number-true, or-cases, or-left, or-right}
-use Rattle.linear.specs.Tests.{countTo, number}
+use Rattle.linear.specs.Tests.{allTo, countTo, number}
 use Rattle.definitions.specs.Answers.{Answer, Check, _then_, complete, go, paused, refuse, refuseIf, refuseWith, refused, started}
 use Rattle.definitions.specs.Machine as machine
 use Rattle.definitions.specs.Machine.{Machine, call, callSteps, unlessDone, walk, walkSteps}
 use Rattle.definitions.specs.Refusals.{stepLimit}
 use Rattle.definitions.specs.System.{mostComponent}
-use Rattle.laws.specs.CheckLaws.{AllSilent, FirstDue, Renders, Rules, _▹_, check-cases, decides-if, end, renders-last, renders-then, rule}
+use Rattle.laws.specs.CheckLaws.{AllSilent, Decides, FirstDue, Renders, Rules, _▹_, check-cases, decides-if, end, renders-last, renders-then, rule}
 use Rattle.laws.specs.LowerWalk.{walk-steps-few}
 use Rattle.laws.specs.MachineLaws.{call-refused, call-walks, walk-done, walk-more, walk-paused, walk-refused}
 use Rattle.theorems.specs.CallAnswers.{CallAnswers, Ruled, call-answers, call-paced}
@@ -88,7 +89,8 @@ NeedsSum q w = LooksAtPair q w × (¬ (Reduced q (equationOf q w) (w .stage .row
 -- or it finds that no degree is left, and ends the stage.
 abbrev pub EndsStage : ℕ → Work → Type 0
 EndsStage q w =
-    (¬ (TakesRow q w)) × (¬ (above q (equationOf q w) (w .stage) < w .stage .rows)) × (nextDegree q (equationOf q w) (w .count) (basisRow q w) (w .stage) ≡ 0)
+    (¬ (TakesRow q w))
+    × ((¬ (above q (equationOf q w) (w .stage) < w .stage .rows)) × (nextDegree q (equationOf q w) (w .count) (basisRow q w) (w .stage) ≡ 0))
 
 -- a value that would be a component of a fresh unknown is above 1,000,000
 abbrev pub LargeValue : ℕ → Work → Type 0
@@ -99,7 +101,7 @@ LargeValue q w = (i : ℕ) × (i < w .stage .rows) × (¬ (value (equationOf q w
 abbrev pub turnRules : (q most room : ℕ) → Work → Rules
 turnRules q most room w =
     rule 14 (w .stage .steps ≡ stepLimit)
-    ▹ rule 12 ((NeedsSum q w × (j : ℕ) × (j < q) × (mostComponent < nextSum q w j)) ⊎ (EndsStage q w × (w .fresh < q) × LargeValue q w))
+    ▹ rule 12 ((NeedsSum q w × ((j : ℕ) × (j < q) × (mostComponent < nextSum q w j))) ⊎ (EndsStage q w × ((w .fresh < q) × LargeValue q w)))
     ▹ rule 31 (((TakesRow q w ⊎ NeedsSum q w) × (room ≤ w .stage .rows)) ⊎ (EndsStage q w × (most < countTo (w .stage .rows) (stays q w))))
     ▹ end
 
@@ -129,10 +131,10 @@ turnOf q room w = turn q (equationOf q w) (w .count) (basisRow q w) room (w .sta
 abbrev endRefusal : (q most : ℕ) → Work → Check
 endRefusal q most w = refuseIf (ltb (w .fresh) q && not (valuesSmall q w)) 12 then refuseIf (ltb most (countTo (w .stage .rows) (stays q w))) 31
 
-abbrev refusalOf : (q most : ℕ) → Turned → Work → Check
-refusalOf q most (goes s) w = go
-refusalOf q most (stops n) w = refuse n []
-refusalOf q most ends w = endRefusal q most w
+abbrev refusalOf : Turned → Check → Check
+refusalOf (goes s) c = go
+refusalOf (stops n) c = refuse n []
+refusalOf ends c = c
 
 abbrev leftBy : (p q : ℕ) → Turned → Work → Work
 leftBy p q (goes s) w = onward s w
@@ -145,7 +147,7 @@ engineMachine p q most room =
       before = resumeChecks p q most room;
       settle = λ w. w;
       height = underWay p;
-      refusals = λ w. refusalOf q most (turnOf q room w) w;
+      refusals = λ w. refusalOf (turnOf q room w) (endRefusal q most w);
       step = λ w. leftBy p q (turnOf q room w) w;
     }
 
@@ -184,7 +186,7 @@ module _ (p q most room : ℕ) where
       by false false = rests (finished p q w) refl n
 
   turned-as : (t : Turned) (w : Work) (n : ℕ) → w .equation < p → ((v : Work) → v .equation < p → run p q most room n v ≡ ofMachine p (walk n k v))
-      → after p q most t (run p q most room n) w ≡ ofMachine p (machine.checked (refusalOf q most t w) w (λ u. walk n k (leftBy p q t u)))
+      → after p q most t (run p q most room n) w ≡ ofMachine p (machine.checked (refusalOf t (endRefusal q most w)) w (λ u. walk n k (leftBy p q t u)))
   unfolding after machine.checked onward
   turned-as (goes s) w n l h = h (onward s w) l
   turned-as (stops m) w n l h = refl
@@ -205,7 +207,7 @@ module _ (p q most room : ℕ) where
   run-as zero w l = ap (ofMachine p) (sym (unless-at (ltb (w .equation) p) w _ (lt→ltb (w .equation) p l)))
   run-as (suc budget) w l =
       turned-as (turnOf q room w) w budget l (run-as budget)
-      ∙ ap (ofMachine p) (checked-at (refusalOf q most (turnOf q room w) w) w _ _ refl
+      ∙ ap (ofMachine p) (checked-at (refusalOf (turnOf q room w) (endRefusal q most w)) w _ _ refl
       ∙ sym (unless-at (ltb (w .equation) p) w (λ t. machine.checked (k .refusals t) t (λ u. walk budget k (k .step u))) (lt→ltb (w .equation) p l)))
 
   work-as : (budget : ℕ) (w : Work) → cond (ltb (w .equation) p) (run p q most room budget w) (rested p w) ≡ ofMachine p (walk budget k w)
@@ -227,3 +229,271 @@ module _ (p q most room : ℕ) where
   resume-as : (budget : ℕ) (w : Work) → resume p q most room budget w ≡ ofMachine p (call budget k w)
   unfolding resume call
   resume-as budget w = calls-as (resumeChecks p q most room w) w _ _ (work-as budget w)
+
+-- ---- the refusals of a turn by rules
+
+-- the test b tells whether P holds
+abbrev Tells : Bool → Type 0 → Type 0
+Tells b P = (T b → P) × (P → T b)
+
+tells-not : (b : Bool) {P : Type 0} → Tells b P → Tells (not b) (¬ P)
+tells-not b (f, g) = (λ h p. T-not b h (g p), λ n. not-T b (λ h. n (f h)))
+
+tells-and : (b c : Bool) {P Q : Type 0} → Tells b P → Tells c Q → Tells (b && c) (P × Q)
+tells-and b c (f, g) (f′, g′) = (λ h. let (x, y) = and-parts b c h in (f x, f′ y), λ (x, y). and-both b c (g x) (g′ y))
+
+tells-or : (b c : Bool) {P Q : Type 0} → Tells b P → Tells c Q → Tells (b || c) (P ⊎ Q)
+tells-or b c (f, g) (f′, g′) =
+    (λ h. elim (or-cases b c h) [ inl x ↦ inl (f x) | inr y ↦ inr (f′ y) ], λ h. elim h [ inl x ↦ or-left b c (g x) | inr y ↦ or-right b c (g′ y) ])
+
+tells-below : (m n : ℕ) → Tells (ltb m n) (m < n)
+tells-below m n = (ltb→lt m n, lt→ltb m n)
+
+tells-least : (m n : ℕ) → Tells (not (ltb m n)) (n ≤ m)
+tells-least m n = (λ h. nltb→le m n h, λ l. not-T (ltb m n) (λ h. omega (arith, ltb→lt m n h)))
+
+tells-equal : (m n : ℕ) → Tells (eqb m n) (m ≡ n)
+tells-equal m n = (eqb→eq m n, λ e. rw e (eqb-refl n))
+
+tells-large : (q : ℕ) (z : ℕ → ℕ) → Tells (not (isSmall q z)) ((j : ℕ) × (j < q) × (mostComponent < z j))
+unfolding isSmall
+tells-large q z = (
+  λ h. let (j, jq, n) = all-not q (λ j. leb (z j) mostComponent) (T-not (allTo q (λ j. leb (z j) mostComponent)) h) in
+  (j, jq, elim (split mostComponent (z j)) [ inl l ↦ l | inr l ↦ absurd (n (le→leb (z j) mostComponent l)) ]),
+  λ (j, jq, l). not-T (allTo q (λ j. leb (z j) mostComponent)) (λ h. omega (arith, leb→le (z j) mostComponent (all-at q _ h j jq))),
+)
+
+tells-values : (q : ℕ) (w : Work) → Tells (not (valuesSmall q w)) (LargeValue q w)
+unfolding valuesSmall
+tells-values q w =
+    let f : ℕ → Bool = λ i. leZ (value (equationOf q w) q (row q (w .stage) i)) (pos mostComponent) in (
+      λ h. let (i, l, n) = all-not (w .stage .rows) f (T-not (allTo (w .stage .rows) f) h) in (i, l, λ y. n (y .le)),
+      λ (i, l, n). not-T (allTo (w .stage .rows) f) (λ h. n (leZ-yes {a = value (equationOf q w) q (row q (w .stage) i)} {b = pos mostComponent} (all-at (w .stage .rows) f h i l))),
+    )
+
+tells-reduced : (q : ℕ) (c : ℕ → ℤ) (n : ℕ) (row : ℕ → ℕ → ℕ) (z : ℕ → ℕ) → Tells (reducible q c n row z (value c q z)) (Reduced q c n row z)
+tells-reduced q c n row z = (reducible-from q c n row z, reducible-to q c n row z)
+
+-- the tests in the order of the turn: the limit, a row of the basis, a pair, its sum reduced, small, room for a row; no degree left, values large, no room in
+-- the basis
+search-is : (b r h reduced small fits last large full : Bool) (taken skip more next : Stage)
+    → refusalOf (cond b (stops 14) (cond r (cond fits (goes taken) (stops 31)) (cond h (paired reduced small fits skip more) (cond last ends (goes next)))))
+    (refuseIf large 12 then refuseIf full 31)
+    ≡ (refuseIf b 14
+    then refuseIf ((((not r && h) && not reduced) && not small) || ((not r && (not h && last)) && large)) 12
+    then refuseIf (((r || ((not r && h) && not reduced)) && not fits) || ((not r && (not h && last)) && full)) 31)
+unfolding refuseWith _then_ paired
+search-is true r h reduced small fits last large full taken skip more next = refl
+search-is false true h reduced small true last large full taken skip more next = refl
+search-is false true h reduced small false last large full taken skip more next = refl
+search-is false false true true small fits last large full taken skip more next = refl
+search-is false false true false false fits last large full taken skip more next = refl
+search-is false false true false true false last large full taken skip more next = refl
+search-is false false true false true true last large full taken skip more next = refl
+search-is false false false reduced small fits true true full taken skip more next = refl
+search-is false false false reduced small fits true false full taken skip more next = refl
+search-is false false false reduced small fits false large full taken skip more next = refl
+
+module _ (q most room : ℕ) (w : Work) where
+  abbrev s : Stage
+  s = w .stage
+
+  abbrev c : ℕ → ℤ
+  c = equationOf q w
+
+  abbrev isRow : Bool
+  isRow = ltb (dueRow q (w .count) (basisRow q w) s) (w .count)
+
+  abbrev isPair : Bool
+  isPair = ltb (above q c s) (s .rows)
+
+  abbrev isReduced : Bool
+  isReduced = reducible q c (s .rows) (row q s) (nextSum q w) (value c q (nextSum q w))
+
+  abbrev isLast : Bool
+  isLast = eqb (nextDegree q c (w .count) (basisRow q w) s) 0
+
+  abbrev isNeeded : Bool
+  isNeeded = (not isRow && isPair) && not isReduced
+
+  abbrev isEnd : Bool
+  isEnd = not isRow && (not isPair && isLast)
+
+  tells-row : Tells isRow (TakesRow q w)
+  tells-row = tells-below (dueRow q (w .count) (basisRow q w) s) (w .count)
+
+  tells-pair : Tells isPair (above q c s < s .rows)
+  tells-pair = tells-below (above q c s) (s .rows)
+
+  tells-needed : Tells isNeeded (NeedsSum q w)
+  tells-needed =
+      tells-and (not isRow && isPair) (not isReduced) (tells-and (not isRow) isPair (tells-not isRow tells-row) tells-pair)
+      (tells-not isReduced (tells-reduced q c (s .rows) (row q s) (nextSum q w)))
+
+  tells-end : Tells isEnd (EndsStage q w)
+  tells-end =
+      tells-and (not isRow) (not isPair && isLast) (tells-not isRow tells-row)
+      (tells-and (not isPair) isLast (tells-not isPair tells-pair) (tells-equal (nextDegree q c (w .count) (basisRow q w) s) 0))
+
+  decides : (b : Bool) (n : ℕ) {P : Type 0} → Tells b P → Decides (refuseIf b n) (rule n P)
+  decides b n {P} (f, g) = decides-if b n P f g
+
+  pub turn-renders : Renders (refusalOf (turnOf q room w) (endRefusal q most w)) (turnRules q most room w)
+  unfolding turn rowTurn pairTurn degreeTurn
+  turn-renders =
+      let b = eqb (s .steps) stepLimit in
+      let small = isSmall q (nextSum q w) in
+      let fits = ltb (s .rows) room in
+      let large = ltb (w .fresh) q && not (valuesSmall q w) in
+      let full = ltb most (countTo (s .rows) (stays q w)) in
+      subst (λ x. Renders x (turnRules q most room w)) (sym (search-is b isRow isPair isReduced small fits isLast large full _ _ _ _))
+      (renders-then (decides b 14 (tells-equal (s .steps) stepLimit))
+      (renders-then
+      (decides _ 12
+      (tells-or (isNeeded && not small) (isEnd && large) (tells-and isNeeded (not small) tells-needed (tells-large q (nextSum q w)))
+      (tells-and isEnd large tells-end (tells-and (ltb (w .fresh) q) (not (valuesSmall q w)) (tells-below (w .fresh) q) (tells-values q w)))))
+      (renders-last
+      (decides _ 31
+      (tells-or ((isRow || isNeeded) && not fits) (isEnd && full)
+      (tells-and (isRow || isNeeded) (not fits) (tells-or isRow isNeeded tells-row tells-needed) (tells-least (s .rows) room))
+      (tells-and isEnd full tells-end (tells-below most (countTo (s .rows) (stays q w)))))))))
+
+-- ---- the answers
+
+module _ (p : ℕ) (v : Work) where
+  resting-low : underWay p v ≡ 0 → p ≤ v .equation
+  resting-low e = elim (split (v .equation) p) [ inl l ↦ absurd (omega (arith, number-true (ltb (v .equation) p) (lt→ltb (v .equation) p l))) | inr l ↦ l ]
+
+  low-resting : p ≤ v .equation → underWay p v ≡ 0
+  low-resting l = number-false (ltb (v .equation) p) (λ h. omega (arith, ltb→lt (v .equation) p h))
+
+  going-high : 0 < underWay p v → v .equation < p
+  going-high h = elim (split (v .equation) p) [ inl l ↦ l | inr l ↦ absurd (omega (arith, low-resting l)) ]
+
+  high-going : v .equation < p → 0 < underWay p v
+  high-going l = omega (arith, number-true (ltb (v .equation) p) (lt→ltb (v .equation) p l))
+
+module _ (before within : Rules) (p budget taken : ℕ) (v : Work) where
+  abbrev Inner : Answer → Type 0
+  Inner a = CallAnswers before within budget taken (underWay p v) a
+
+  abbrev Outer : Answer → Type 0
+  Outer a = EngineAnswers before within p budget taken v a
+
+  refuses-as : {a : Answer} → Inner a → (n : ℕ) (values : List ℕ)
+      → (a ≡ refused n values) ↔ (FirstDue before n values ⊎ (AllSilent before × (v .equation < p) × (taken < budget) × FirstDue within n values))
+  refuses-as x n values = (
+    λ e. elim (x .refuses n values .0 e) [ inl d ↦ inl d | inr (q, h, l, d) ↦ inr (q, going-high p v h, l, d) ],
+    λ d. x .refuses n values .1 (elim d [ inl y ↦ inl y | inr (q, g, l, y) ↦ inr (q, high-going p v g, l, y) ]),
+  )
+
+  rested-as : (b : Bool) → Tells b (AllDone p v) → Inner complete → Outer (cond b complete paused)
+  rested-as true t x =
+      let (quiet, z) = x .completes .0 refl in
+      record {
+        completes = (λ e. (quiet, resting-low p v z, t .0 tt), λ d. refl);
+        pauses = (
+          λ e. absurd (let o : _≡_ {A = ℕ} 0 1 = cc in omega arith),
+          λ (s, d). absurd (elim d [ inl (l, n) ↦ n (t .0 tt) | inr (l, n) ↦ omega (arith, z, high-going p v l) ]),
+        );
+        refuses = refuses-as x;
+        never = x .never;
+      }
+  rested-as false t x =
+      let (quiet, z) = x .completes .0 refl in
+      record {
+        completes = (λ e. absurd (let o : _≡_ {A = ℕ} 0 1 = cc in omega arith), λ (s, l, d). absurd (t .1 d));
+        pauses = (λ e. (quiet, inl (resting-low p v z, t .1)), λ d. refl);
+        refuses = λ n values. (
+          λ e. absurd (let o : _≡_ {A = ℕ} 0 1 = cc in omega arith),
+          λ d. absurd (let f = refuses-as x n values .1 d in let o : _≡_ {A = ℕ} 0 1 = cc in omega arith),
+        );
+        never = λ e. let o : _≡_ {A = ℕ} 0 1 = cc in omega arith;
+      }
+
+  answers-as : (a : Answer) → Inner a → Outer (answerOf p a v)
+  unfolding allDone
+  answers-as complete x = rested-as (eqb (v .done) (2 ^ p - 1)) (tells-equal (v .done) (2 ^ p - 1)) x
+  answers-as paused x =
+      let (quiet, h, u) = x .pauses .0 refl in
+      record {
+        completes = (λ e. absurd (let o : _≡_ {A = ℕ} 0 1 = cc in omega arith), λ (s, l, d). absurd (omega (arith, low-resting p v l)));
+        pauses = (λ e. (quiet, inr (going-high p v h, u)), λ d. refl);
+        refuses = refuses-as x;
+        never = x .never;
+      }
+  answers-as started x = absurd (x .never refl)
+  answers-as (refused n values) x =
+      record {
+        completes = (λ e. absurd (let o : _≡_ {A = ℕ} 0 1 = cc in omega arith), λ (s, l, d). x .completes .1 (s, low-resting p v l));
+        pauses = (
+          λ e. absurd (let o : _≡_ {A = ℕ} 0 1 = cc in omega arith),
+          λ (s, d). elim d [
+            | inl (l, m) ↦ absurd (let f = x .completes .1 (s, low-resting p v l) in let o : _≡_ {A = ℕ} 0 1 = cc in omega arith)
+            | inr (l, m) ↦ x .pauses .1 (s, high-going p v l, m)
+          ],
+        );
+        refuses = refuses-as x;
+        never = x .never;
+      }
+
+module _ (p q most room : ℕ) where
+  ruled : Ruled (engineMachine p q most room) (resumeRules p q most room) (turnRules q most room)
+  ruled = record { before-renders = λ w. resume-renders p q most room w; within-renders = λ w. turn-renders q most room w }
+
+  -- Each answer in its case and in no other.
+  pub engine-answers : (budget : ℕ) (w : Work) → let o = resume p q most room budget w in
+      EngineAnswers (resumeRules p q most room w) (turnRules q most room (o .work)) p budget (turnsTaken p q most room budget w) (o .work) (o .answer)
+  engine-answers budget w =
+      let o = call budget (engineMachine p q most room) w in
+      rw (resume-as p q most room budget w)
+      (answers-as (resumeRules p q most room w) (turnRules q most room (o .state)) p budget (turnsTaken p q most room budget w) (o .state) (o .answer)
+      (call-answers ruled budget w))
+
+  -- ---- the record counts the turns
+
+  stepped : (t : Turned) (w : Work) → Timed (w .stage) t → refusalOf t (endRefusal q most w) ≡ go → leftBy p q t w .stage .steps ≡ w .stage .steps + 1
+  unfolding onward finished
+  stepped (goes s) w c e = c .1
+  stepped (stops n) w c e = absurd (let z : _≡_ {A = ℕ} 0 1 = cc in omega arith)
+  stepped ends w c e = refl
+
+  walk-counts : (n : ℕ) (w : Work) → let k = engineMachine p q most room in walk n k w .state .stage .steps ≡ w .stage .steps + walkSteps n k w
+  walk-counts zero w =
+      let k = engineMachine p q most room in
+      elim (ℕ-discrete (underWay p w) 0) [
+        | yes e ↦ let d = walk-done k w 0 e in rw (d .0, d .1) (omega arith)
+        | no ne ↦ let d = walk-paused k w (omega (arith, ne)) in rw (d .0, d .1) (omega arith)
+      ]
+  walk-counts (suc n) w =
+      let k = engineMachine p q most room in
+      elim (ℕ-discrete (underWay p w) 0) [
+        | yes e ↦ let d = walk-done k w (suc n) e in rw (d .0, d .1) (omega arith)
+        | no ne ↦
+            let h : 0 < underWay p w = omega (arith, ne) in
+            let t = turnOf q room w in
+            elim (check-cases (refusalOf t (endRefusal q most w))) [
+              | inl e ↦
+                  let d = walk-more k w n h e in
+                  rw (d .0, d .1)
+                  (omega (
+                    arith,
+                    walk-counts n (leftBy p q t w),
+                    stepped t w (turn-timed q (equationOf q w) (w .count) (basisRow q w) room (w .stage)) e,
+                  ))
+              | inr (r, values, e) ↦ let d = walk-refused k w n r values h e in rw (d .0, d .1) (omega arith)
+            ]
+      ]
+
+  -- the steps that the record shows grow by the turns that a call took, which are at most its budget
+  pub counted : (budget : ℕ) (w : Work) → resume p q most room budget w .work .stage .steps ≡ w .stage .steps + turnsTaken p q most room budget w
+  counted budget w =
+      let k = engineMachine p q most room in
+      ap (λ o. o .work .stage .steps) (resume-as p q most room budget w)
+      ∙ elim (check-cases (resumeChecks p q most room w)) [
+        | inl e ↦ let d = call-walks k w budget e in rw (d .0, d .1) (walk-counts budget w)
+        | inr (r, values, e) ↦ let d = call-refused k w budget r values e in rw (d .0, d .1) (omega arith)
+      ]
+
+  pub few-turns : (budget : ℕ) (w : Work) → turnsTaken p q most room budget w ≤ budget
+  few-turns budget w = call-paced ruled budget w .few
