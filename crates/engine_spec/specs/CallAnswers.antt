@@ -19,7 +19,21 @@ use Rattle.definitions.specs.Machine as machine
 use Rattle.definitions.specs.Machine.{Machine, call, callSteps, unlessDone, walk, walkSteps}
 use Rattle.definitions.specs.Refusals.{stepLimit}
 use Rattle.definitions.specs.System.{mostComponent}
-use Rattle.laws.specs.CheckLaws.{AllSilent, Decides, FirstDue, Renders, Rules, _▹_, check-cases, decides-if, end, renders-last, renders-then, rule}
+use Rattle.laws.specs.CheckLaws.{
+  AllSilent,
+  Decides,
+  FirstDue,
+  Renders,
+  Rules,
+  _▹_,
+  check-cases,
+  decides-if,
+  end,
+  refuse-not-go,
+  renders-last,
+  renders-then,
+  rule,
+}
 use Rattle.laws.specs.LowerWalk.{walk-steps-few}
 use Rattle.laws.specs.MachineLaws.{call-refused, call-walks, walk-done, walk-more, walk-paused, walk-refused}
 use Rattle.theorems.specs.CallAnswers.{CallAnswers, Ruled, call-answers, call-paced}
@@ -497,3 +511,74 @@ module _ (p q most room : ℕ) where
 
   pub few-turns : (budget : ℕ) (w : Work) → turnsTaken p q most room budget w ≤ budget
   few-turns budget w = call-paced ruled budget w .few
+
+-- ---- more room
+
+-- a turn that goes on is the same one with more room, and goes on
+abbrev tested : (b r h reduced small fits last : Bool) (taken skip more next : Stage) → Turned
+tested b r h reduced small fits last taken skip more next =
+    cond b (stops 14) (cond r (cond fits (goes taken) (stops 31)) (cond h (paired reduced small fits skip more) (cond last ends (goes next))))
+
+abbrev Same : (t u : Turned) (c : Check) → Type 0
+Same t u c = (u ≡ t) × (refusalOf u c ≡ go)
+
+tested-more : (b r h reduced small fits fits′ last large full full′ : Bool) (taken skip more next : Stage) → (T fits → T fits′) → (T full′ → T full)
+    → refusalOf (tested b r h reduced small fits last taken skip more next) (refuseIf large 12 then refuseIf full 31) ≡ go
+    → Same (tested b r h reduced small fits last taken skip more next) (tested b r h reduced small fits′ last taken skip more next)
+    (refuseIf large 12 then refuseIf full′ 31)
+unfolding refuseWith _then_ paired
+tested-more true r h reduced small fits fits′ last large full full′ taken skip more next f g e = absurd (refuse-not-go e)
+tested-more false true h reduced small false fits′ last large full full′ taken skip more next f g e = absurd (refuse-not-go e)
+tested-more false true h reduced small true true last large full full′ taken skip more next f g e = (refl, refl)
+tested-more false true h reduced small true false last large full full′ taken skip more next f g e = absurd (f tt)
+tested-more false false true true small fits fits′ last large full full′ taken skip more next f g e = (refl, refl)
+tested-more false false true false false fits fits′ last large full full′ taken skip more next f g e = absurd (refuse-not-go e)
+tested-more false false true false true false fits′ last large full full′ taken skip more next f g e = absurd (refuse-not-go e)
+tested-more false false true false true true true last large full full′ taken skip more next f g e = (refl, refl)
+tested-more false false true false true true false last large full full′ taken skip more next f g e = absurd (f tt)
+tested-more false false false reduced small fits fits′ false large full full′ taken skip more next f g e = (refl, refl)
+tested-more false false false reduced small fits fits′ true true full full′ taken skip more next f g e = absurd (refuse-not-go e)
+tested-more false false false reduced small fits fits′ true false full false taken skip more next f g e = (refl, refl)
+tested-more false false false reduced small fits fits′ true false true true taken skip more next f g e = absurd (refuse-not-go e)
+tested-more false false false reduced small fits fits′ true false false true taken skip more next f g e = absurd (g tt)
+
+module _ (p q most room most′ room′ : ℕ) (wider : most ≤ most′) (longer : room ≤ room′) where
+  abbrev short : Machine Work
+  short = engineMachine p q most room
+
+  abbrev long : Machine Work
+  long = engineMachine p q most′ room′
+
+  turn-more : (w : Work) → short .refusals w ≡ go → Same (turnOf q room w) (turnOf q room′ w) (endRefusal q most′ w)
+  unfolding turn rowTurn pairTurn degreeTurn
+  turn-more w =
+      let s = w .stage in
+      let n = countTo (s .rows) (stays q w) in
+      tested-more (eqb (s .steps) stepLimit) (isRow q most room w) (isPair q most room w) (isReduced q most room w) (isSmall q (nextSum q w))
+      (ltb (s .rows) room) (ltb (s .rows) room′) (isLast q most room w) (ltb (w .fresh) q && not (valuesSmall q w)) (ltb most n) (ltb most′ n) _ _ _ _
+      (λ h. lt→ltb (s .rows) room′ (omega (arith, ltb→lt (s .rows) room h))) (λ h. lt→ltb most n (omega (arith, ltb→lt most′ n h)))
+
+  walk-longer : (b c : ℕ) (w : Work) → walk c long (walk b short w .state) ≡ walk (walkSteps b short w + c) long w
+  walk-longer zero c w =
+      let none : 0 + c ≡ c = omega arith in
+      elim (ℕ-discrete (underWay p w) 0) [
+        | yes e ↦ let d = walk-done short w 0 e in rw (d .0, d .1, none) refl
+        | no ne ↦ let d = walk-paused short w (omega (arith, ne)) in rw (d .0, d .1, none) refl
+      ]
+  walk-longer (suc b) c w =
+      let none : 0 + c ≡ c = omega arith in
+      elim (ℕ-discrete (underWay p w) 0) [
+        | yes e ↦ let d = walk-done short w (suc b) e in rw (d .0, d .1, none) refl
+        | no ne ↦
+            let h : 0 < underWay p w = omega (arith, ne) in
+            elim (check-cases (short .refusals w)) [
+              | inl e ↦
+                  let d = walk-more short w b h e in
+                  let (same, g) = turn-more w e in
+                  let v : Work = leftBy p q (turnOf q room w) w in
+                  let one : suc (walkSteps b short v) + c ≡ suc (walkSteps b short v + c) = omega arith in
+                  rw (d .0, d .1, one)
+                  (walk-longer b c v ∙ sym (walk-more long w (walkSteps b short v + c) h g .0 ∙ ap (λ t. walk (walkSteps b short v + c) long (leftBy p q t w)) same))
+              | inr (r, values, e) ↦ let d = walk-refused short w b r values h e in rw (d .0, d .1, none) refl
+            ]
+      ]
