@@ -582,3 +582,69 @@ module _ (p q most room most′ room′ : ℕ) (wider : most ≤ most′) (longe
               | inr (r, values, e) ↦ let d = walk-refused short w b r values h e in rw (d .0, d .1, none) refl
             ]
       ]
+
+  -- ---- of the calls
+
+  resume-walks : (m n : ℕ) (w : Work) → resumeChecks p q m n w ≡ go → (budget : ℕ)
+      → resume p q m n budget w ≡ ofMachine p (walk budget (engineMachine p q m n) w)
+  resume-walks m n w e budget = resume-as p q m n budget w ∙ ap (ofMachine p) (call-walks (engineMachine p q m n) w budget e .0)
+
+  module _ (w : Work) (b : ℕ) (e : resumeChecks p q most room w ≡ go) (e′ : resumeChecks p q most′ room′ w ≡ go) where
+    abbrev turns : ℕ
+    turns = turnsTaken p q most room b w
+
+    left-walks : resume p q most room b w .work ≡ walk b short w .state
+    left-walks = ap (λ o. o .work) (resume-walks most room w e b)
+
+    stays-here : (v : Work) → walk 0 long v .state ≡ v
+    stays-here v =
+        elim (ℕ-discrete (underWay p v) 0) [
+          | yes z ↦ ap (λ o. o .state) (walk-done long v 0 z .0)
+          | no nz ↦ ap (λ o. o .state) (walk-paused long v (omega (arith, nz)) .0)
+        ]
+
+    -- what a call with less room leaves, one with more room and a budget of the turns that it took leaves too
+    pub longer-left : resume p q most room b w .work ≡ resume p q most′ room′ turns w .work
+    longer-left =
+        let t = call-walks short w b e .1 in
+        let none : walkSteps b short w + 0 ≡ walkSteps b short w = omega arith in
+        left-walks ∙ sym (stays-here (walk b short w .state)) ∙ ap (λ o. o .state) (walk-longer b 0 w)
+        ∙ (rw (none, t) (sym (ap (λ o. o .work) (resume-walks most′ room′ w e′ (walkSteps b short w)))))
+
+    -- and a later call with more room goes on as one call with it would have, with both budgets
+    pub longer-on : resumeChecks p q most′ room′ (resume p q most room b w .work) ≡ go → (c : ℕ)
+        → resume p q most′ room′ c (resume p q most room b w .work) ≡ resume p q most′ room′ (turns + c) w
+    longer-on f c =
+        let t = call-walks short w b e .1 in
+        resume-walks most′ room′ (resume p q most room b w .work) f c ∙ ap (λ v. ofMachine p (walk c long v)) left-walks ∙ ap (ofMachine p) (walk-longer b c w)
+        ∙ (rw t (sym (resume-walks most′ room′ w e′ (walkSteps b short w + c))))
+
+    -- a turn that was refused for want of room is taken where there is room for its row, or for what the stage leaves
+    pub taken-there : resume p q most room b w .answer ≡ refused 31 [] → let v = resume p q most room b w .work in
+        v .stage .rows < room′ → countTo (v .stage .rows) (stays q v) ≤ most′ → resumeChecks p q most′ room′ v ≡ go → (more : ℕ)
+        → 0 < turnsTaken p q most′ room′ (suc more) v
+    taken-there a fits few f more =
+        by (engine-answers p q most room b w .refuses 31 [] .0 a)
+      where
+        v₀ : Work
+        v₀ = resume p q most room b w .work
+
+        quiet : FirstDue (turnRules q most room v₀) 31 [] → AllSilent (turnRules q most′ room′ v₀)
+        quiet (inl (x, y, z)) = absurd (omega arith)
+        quiet (inr (late, inl (x, y, z))) = absurd (omega arith)
+        quiet (inr (late, inr (large, due))) =
+            (late, (large, (λ h. elim h [ inl (x, y) ↦ omega arith | inr (x, y) ↦ omega arith ], tt)))
+
+        goes-there : v₀ .equation < p → AllSilent (turnRules q most′ room′ v₀) → 0 < turnsTaken p q most′ room′ (suc more) v₀
+        goes-there l silent =
+            omega (
+              arith,
+              call-walks long v₀ (suc more) f .1,
+              walk-more long v₀ more (high-going p v₀ l) (turn-renders q most′ room′ v₀ .silent silent) .1,
+            )
+
+        by : FirstDue (resumeRules p q most room w) 31 []
+            ⊎ (AllSilent (resumeRules p q most room w) × (v₀ .equation < p) × (turnsTaken p q most room b w < b) × FirstDue (turnRules q most room v₀) 31 [])
+            → 0 < turnsTaken p q most′ room′ (suc more) v₀
+        by (inl d) = absurd (refuse-not-go {n = 31} {values = []} (sym (resume-renders p q most room w .due 31 [] d) ∙ e))
+        by (inr (y, l, t, d)) = goes-there l (quiet d)
