@@ -26,8 +26,8 @@ pub mod Promise
 pub mod Own
 pub mod Examples
 pub mod Promises
-pub mod CallRules
 pub mod CallAnswers
+pub mod CallRules
 pub mod Rules
 pub mod Questions
 pub mod Sides
