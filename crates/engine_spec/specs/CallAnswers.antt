@@ -1,5 +1,5 @@
--- In which case a continuing call of the engine gives each of its answers; that the record counts its turns. A call is that of a machine whose steps are the
--- turns, the last of which writes what the stage leaves. Assumes nothing.
+-- In which case a continuing call of the engine gives each of its answers; that the record counts its turns; and what more room changes. A call is that of a
+-- machine whose steps are the turns, the last of which writes what the stage leaves. Assumes nothing.
 use mathlib.Core.Path.{_≡_, refl, sym, _∙_, ap, subst}
 use mathlib.Core.Logic.{_≢_, _↔_, _⊎_, inl, inr}
 use mathlib.Core.Bool.{Bool, true, false, not, cond, _&&_, _||_}
@@ -12,7 +12,7 @@ use lib.IntN.{ℤ, pos}
 use lib.Signed.{_≤ℤ_, leZ, leZ-yes}
 use Rattle.linear.specs.Cases.{split}
 use Rattle.linear.specs.Systems.{value}
-use Rattle.linear.specs.TestLaws.{T-dec, all-at, all-not, and-both, and-parts, number-false, number-true, or-cases, or-left, or-right}
+use Rattle.linear.specs.TestLaws.{all-at, all-not, and-both, and-parts, number-false, number-true, or-cases, or-left, or-right}
 use Rattle.linear.specs.Tests.{allTo, countTo, number}
 use Rattle.definitions.specs.Answers.{Answer, Check, _then_, complete, go, paused, refuse, refuseIf, refuseWith, refused, started}
 use Rattle.definitions.specs.Machine as machine
@@ -34,7 +34,6 @@ use Rattle.laws.specs.CheckLaws.{
   renders-then,
   rule,
 }
-use Rattle.laws.specs.LowerWalk.{walk-steps-few}
 use Rattle.laws.specs.MachineLaws.{call-refused, call-walks, walk-done, walk-more, walk-paused, walk-refused}
 use Rattle.theorems.specs.CallAnswers.{CallAnswers, Ruled, call-answers, call-paced}
 use Rattle.engine_spec.specs.Calls as calls
@@ -58,7 +57,7 @@ use Rattle.engine_spec.specs.Engine.{
 }
 use Rattle.engine_spec.specs.Reducing.{reducible-to}
 use Rattle.engine_spec.specs.Reduction.{isSmall, reducible}
-use Rattle.engine_spec.specs.ReductionLaws.{reducible-from, small-from}
+use Rattle.engine_spec.specs.ReductionLaws.{reducible-from}
 use Rattle.engine_spec.specs.Rules.{resume-renders, resumeRules}
 use Rattle.engine_spec.specs.Signs.{Reduced}
 use Rattle.engine_spec.specs.Stage.{
@@ -70,12 +69,9 @@ use Rattle.engine_spec.specs.Stage.{
   dueRow,
   ends,
   goes,
-  grown,
   nextDegree,
   pairTurn,
   paired,
-  passed,
-  raised,
   row,
   rowTurn,
   stops,
@@ -282,7 +278,8 @@ unfolding valuesSmall
 tells-values q w =
     let f : ℕ → Bool = λ i. leZ (value (equationOf q w) q (row q (w .stage) i)) (pos mostComponent) in (
       λ h. let (i, l, n) = all-not (w .stage .rows) f (T-not (allTo (w .stage .rows) f) h) in (i, l, λ y. n (y .le)),
-      λ (i, l, n). not-T (allTo (w .stage .rows) f) (λ h. n (leZ-yes {a = value (equationOf q w) q (row q (w .stage) i)} {b = pos mostComponent} (all-at (w .stage .rows) f h i l))),
+      λ (i, l, n). not-T (allTo (w .stage .rows) f)
+          (λ h. n (leZ-yes {a = value (equationOf q w) q (row q (w .stage) i)} {b = pos mostComponent} (all-at (w .stage .rows) f h i l))),
     )
 
 tells-reduced : (q : ℕ) (c : ℕ → ℤ) (n : ℕ) (row : ℕ → ℕ → ℕ) (z : ℕ → ℕ) → Tells (reducible q c n row z (value c q z)) (Reduced q c n row z)
@@ -578,7 +575,8 @@ module _ (p q most room most′ room′ : ℕ) (wider : most ≤ most′) (longe
                   let v : Work = leftBy p q (turnOf q room w) w in
                   let one : suc (walkSteps b short v) + c ≡ suc (walkSteps b short v + c) = omega arith in
                   rw (d .0, d .1, one)
-                  (walk-longer b c v ∙ sym (walk-more long w (walkSteps b short v + c) h g .0 ∙ ap (λ t. walk (walkSteps b short v + c) long (leftBy p q t w)) same))
+                  (walk-longer b c v
+                  ∙ sym (walk-more long w (walkSteps b short v + c) h g .0 ∙ ap (λ t. walk (walkSteps b short v + c) long (leftBy p q t w)) same))
               | inr (r, values, e) ↦ let d = walk-refused short w b r values h e in rw (d .0, d .1, none) refl
             ]
       ]
