@@ -27,6 +27,7 @@ pub mod Own
 pub mod Examples
 pub mod Promises
 pub mod CallAnswers
+pub mod LentRows
 pub mod CallRules
 pub mod Rules
 pub mod Questions
