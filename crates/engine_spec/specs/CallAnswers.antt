@@ -509,6 +509,23 @@ module _ (p q most room : ℕ) where
   pub few-turns : (budget : ℕ) (w : Work) → turnsTaken p q most room budget w ≤ budget
   few-turns budget w = call-paced ruled budget w .few
 
+  -- a call that was let go on and refused was refused by the rules of a turn
+  pub refused-by : (budget : ℕ) (w : Work) → resumeChecks p q most room w ≡ go → (n : ℕ) (values : List ℕ)
+      → resume p q most room budget w .answer ≡ refused n values → let v = resume p q most room budget w .work in
+      (v .equation < p) × FirstDue (turnRules q most room v) n values
+  refused-by budget w e n values a =
+      elim (engine-answers budget w .refuses n values .0 a) [
+        | inl d ↦ absurd (refuse-not-go {n = n} {values = values} (sym (resume-renders p q most room w .due n values d) ∙ e))
+        | inr (quiet, going, left, d) ↦ (going, d)
+      ]
+
+  -- a turn that no rule refuses is taken
+  pub turn-taken : (w : Work) → resumeChecks p q most room w ≡ go → w .equation < p → AllSilent (turnRules q most room w) → (more : ℕ)
+      → 0 < turnsTaken p q most room (suc more) w
+  turn-taken w e going silent more =
+      let k = engineMachine p q most room in
+      omega (arith, call-walks k w (suc more) e .1, walk-more k w more (high-going p w going) (turn-renders q most room w .silent silent) .1)
+
 -- ---- more room
 
 -- a turn that goes on is the same one with more room, and goes on
@@ -616,33 +633,3 @@ module _ (p q most room most′ room′ : ℕ) (wider : most ≤ most′) (longe
         let t = call-walks short w b e .1 in
         resume-walks most′ room′ (resume p q most room b w .work) f c ∙ ap (λ v. ofMachine p (walk c long v)) left-walks ∙ ap (ofMachine p) (walk-longer b c w)
         ∙ (rw t (sym (resume-walks most′ room′ w e′ (walkSteps b short w + c))))
-
-    -- a turn that was refused for want of room is taken where there is room for its row, or for what the stage leaves
-    pub taken-there : resume p q most room b w .answer ≡ refused 31 [] → let v = resume p q most room b w .work in
-        v .stage .rows < room′ → countTo (v .stage .rows) (stays q v) ≤ most′ → resumeChecks p q most′ room′ v ≡ go → (more : ℕ)
-        → 0 < turnsTaken p q most′ room′ (suc more) v
-    taken-there a fits few f more =
-        by (engine-answers p q most room b w .refuses 31 [] .0 a)
-      where
-        v₀ : Work
-        v₀ = resume p q most room b w .work
-
-        quiet : FirstDue (turnRules q most room v₀) 31 [] → AllSilent (turnRules q most′ room′ v₀)
-        quiet (inl (x, y, z)) = absurd (omega arith)
-        quiet (inr (late, inl (x, y, z))) = absurd (omega arith)
-        quiet (inr (late, inr (large, due))) =
-            (late, (large, (λ h. elim h [ inl (x, y) ↦ omega arith | inr (x, y) ↦ omega arith ], tt)))
-
-        goes-there : v₀ .equation < p → AllSilent (turnRules q most′ room′ v₀) → 0 < turnsTaken p q most′ room′ (suc more) v₀
-        goes-there l silent =
-            omega (
-              arith,
-              call-walks long v₀ (suc more) f .1,
-              walk-more long v₀ more (high-going p v₀ l) (turn-renders q most′ room′ v₀ .silent silent) .1,
-            )
-
-        by : FirstDue (resumeRules p q most room w) 31 []
-            ⊎ (AllSilent (resumeRules p q most room w) × (v₀ .equation < p) × (turnsTaken p q most room b w < b) × FirstDue (turnRules q most room v₀) 31 [])
-            → 0 < turnsTaken p q most′ room′ (suc more) v₀
-        by (inl d) = absurd (refuse-not-go {n = 31} {values = []} (sym (resume-renders p q most room w .due 31 [] d) ∙ e))
-        by (inr (y, l, t, d)) = goes-there l (quiet d)

@@ -17,7 +17,7 @@ use Rattle.laws.specs.CheckLaws.{check-cases}
 use Rattle.theorems.specs.Demands.{unchanged-leaves}
 use Rattle.theorems.specs.Series.{Lending, meanwhile}
 use Rattle.engine_spec.specs.Base.{Base}
-use Rattle.engine_spec.specs.CallAnswers.{counted, engine-answers, longer-left, longer-on, taken-there, turnsTaken}
+use Rattle.engine_spec.specs.CallAnswers.{counted, engine-answers, longer-left, longer-on, refused-by, turn-taken, turnsTaken}
 use Rattle.engine_spec.specs.Calls.{
   checked,
   combine,
@@ -50,6 +50,7 @@ use Rattle.engine_spec.specs.Engine.{
   takenFresh,
   valuesSmall,
 }
+use Rattle.engine_spec.specs.LentRows.{lent-silent}
 use Rattle.engine_spec.specs.Own.{own-calls}
 use Rattle.engine_spec.specs.Promise.{RunsOn, afterCombine, afterResume, afterTake, lentAnew, runs-whole, withTables}
 use Rattle.engine_spec.specs.ReductionLaws.{SameRows}
@@ -186,16 +187,19 @@ module _ {base : Base} (p q : ℕ) (coefs : List ℤ) {most room : ℕ} {w : Wor
       let f = own-calls p q coefs (afterResume r′ (turnsTaken p q most room b w)) (omega arith) in
       longer-on p q most room most′ room′ wider higher w b e e′ (rw (← is) at f) c
 
-  -- And after 31 it does go on, where there is room for the row that was refused, or in the basis for what the stage leaves.
-  pub after-31 : {most′ room′ : ℕ} → RunsOn base p q coefs most′ room′ w → most ≤ most′ → room ≤ room′ → (b : ℕ)
-      → resume p q most room b w .answer ≡ refused 31 [] → let v = resume p q most room b w .work in
-      v .stage .rows < room′ → countTo (v .stage .rows) (stays q v) ≤ most′ → (more : ℕ) → 0 < turnsTaken p q most′ room′ (suc more) v
-  after-31 {most′} {room′} r′ wider higher b a fits few more =
-      let e = own-calls p q coefs r roomy in
-      let e′ = own-calls p q coefs r′ (omega arith) in
-      let is = longer-left p q most room most′ room′ wider higher w b e e′ in
-      let f = own-calls p q coefs (afterResume r′ (turnsTaken p q most room b w)) (omega arith) in
-      taken-there p q most room most′ room′ wider higher w b e e′ a fits few (rw (← is) at f) more
+  -- After 31 a call goes on in longer tables with the same rows: where there is room for the row that was refused, and in the basis for what the stage leaves,
+  -- it takes the turn that was refused.
+  pub after-31 : (b : ℕ) → resume p q most room b w .answer ≡ refused 31 [] → let v = resume p q most room b w .work in
+      (most′ room′ : ℕ) (basis table : List ℕ) → SameRows q (v .count) (v .basis) basis → SameRows q (v .stage .rows) (v .stage .table) table
+      → q ≤ most′ → v .count ≤ most′ → most′ * q ≤ length basis → room′ * q ≤ length table
+      → v .stage .rows < room′ → countTo (v .stage .rows) (stays q v) ≤ most′
+      → (more : ℕ) → 0 < turnsTaken p q most′ room′ (suc more) (withTables v basis table)
+  after-31 b a most′ room′ basis table same same′ roomy′ few long wide fits enough more =
+      let v : Work = resume p q most room b w .work in
+      let (going, due) = refused-by p q most room b w (own-calls p q coefs r roomy) 31 [] a in
+      let there = lentAnew (afterResume r b) most′ room′ basis table same same′ few (omega arith) long wide in
+      turn-taken p q most′ room′ (withTables v basis table) (own-calls p q coefs there roomy′) going
+      (lent-silent q v basis table same same′ most room most′ room′ due fits enough) more
 
 -- ---- calls do not pause for ever
 

@@ -1,8 +1,8 @@
--- What the next turn of a stage does is decided by the rows: in other tables with the same rows it takes the same row of the basis, looks at the same pair or ends
--- the stage too, and where it was refused for want of room it goes on with more. Assumes nothing.
+-- What the next turn of a stage does is decided by the rows: in other tables with the same rows it takes the same row of the basis, looks at the same pair or
+-- ends the stage too, and where it was refused for want of room it goes on with more. Assumes nothing.
 use mathlib.Core.Path.{_≡_, refl, sym, _∙_, ap, ap₂}
 use mathlib.Core.Logic.{inl, inr}
-use mathlib.Core.Bool.{Bool, true, false, cond, _&&_}
+use mathlib.Core.Bool.{Bool, true, false, cond, not, _&&_}
 use mathlib.Core.List.{List, []}
 use Prim.Native.Nat.{ℕ, zero, suc, _+_, _*_, _-_, _≤_, _<_}
 use native.Mathlib.Omega.{arith}
@@ -11,14 +11,17 @@ use lib.IntN.{ℤ, pos}
 use lib.Signed.{ltZ}
 use Rattle.linear.specs.SystemLaws.{value-same}
 use Rattle.linear.specs.Systems.{value}
+use Rattle.linear.specs.TestLaws.{count-same}
 use Rattle.linear.specs.Tests.{countTo}
 use Rattle.linear.specs.TupleLaws.{total-same}
 use Rattle.linear.specs.Tuples.{Same, total}
-use Rattle.definitions.specs.Tables.{at}
+use Rattle.definitions.specs.System.{isZero}
 use Rattle.laws.specs.CheckLaws.{AllSilent, FirstDue}
 use Rattle.laws.specs.TableLaws.{row-before}
 use Rattle.engine_spec.specs.CallAnswers.{EndsStage, LargeValue, LooksAtPair, NeedsSum, TakesRow, nextSum, turnRules}
 use Rattle.engine_spec.specs.Engine.{Work, basisRow, equationOf, stays}
+use Rattle.engine_spec.specs.Equations.{zeroRow}
+use Rattle.engine_spec.specs.Fresh.{notBelow}
 use Rattle.engine_spec.specs.Promise.{withTables}
 use Rattle.engine_spec.specs.ReductionLaws.{SameRows, reduced-more}
 use Rattle.engine_spec.specs.Search.{begins, firstFrom, holder, leastTo, lesser, pair-found, partner}
@@ -143,8 +146,16 @@ module _ (q : ℕ) (w : Work) (basis table : List ℕ) (sameBasis : SameRows q (
   large-there : LargeValue q v → LargeValue q w
   large-there (i, l, large) = (i, l, λ y. large (rw (row-value i l) y))
 
+  stays-same : countTo n (stays q v) ≡ countTo n (stays q w)
+  stays-same = by (ltb (w .fresh) q)
+    where
+      by : (b : Bool) → countTo n (cond b (notBelow q c (row q (v .stage))) (zeroRow q c (row q (v .stage))))
+          ≡ countTo n (cond b (notBelow q c (row q (w .stage))) (zeroRow q c (row q (w .stage))))
+      by true = count-same (notBelow q c (row q (v .stage))) (notBelow q c (row q (w .stage))) n (λ i l. ap (λ x. not (ltZ x (pos 0))) (row-value i l))
+      by false = count-same (zeroRow q c (row q (v .stage))) (zeroRow q c (row q (w .stage))) n (λ i l. ap isZero (row-value i l))
+
   -- a turn refused for want of room is refused by no rule in such tables with room for its row, or in the basis for what the stage leaves
-  pub lent-silent : (most room most′ room′ : ℕ) → FirstDue (turnRules q most room w) 31 [] → n < room′ → countTo n (stays q v) ≤ most′
+  pub lent-silent : (most room most′ room′ : ℕ) → FirstDue (turnRules q most room w) 31 [] → n < room′ → countTo n (stays q w) ≤ most′
       → AllSilent (turnRules q most′ room′ v)
   lent-silent most room most′ room′ (inl (x, y, z)) fits few = absurd (omega arith)
   lent-silent most room most′ room′ (inr (late, inl (x, y, z))) fits few = absurd (omega arith)
@@ -156,4 +167,4 @@ module _ (q : ℕ) (w : Work) (basis table : List ℕ) (sameBasis : SameRows q (
             inl (there, (j, jq, omega (arith, sum-same (there .0 .1) j jq)))
         | inr (last, (fresh, large)) ↦ inr (ends-there last, (fresh, large-there large))
       ])),
-      (λ h. elim h [ inl (x, y) ↦ omega arith | inr (x, y) ↦ omega arith ], tt)))
+      (λ h. elim h [ inl (x, y) ↦ omega arith | inr (x, y) ↦ omega (arith, stays-same) ], tt)))
