@@ -269,7 +269,7 @@ tells-large : (q : ℕ) (z : ℕ → ℕ) → Tells (not (isSmall q z)) ((j : �
 unfolding isSmall
 tells-large q z = (
   λ h. let (j, jq, n) = all-not q (λ j. leb (z j) mostComponent) (T-not (allTo q (λ j. leb (z j) mostComponent)) h) in
-  (j, jq, elim (split mostComponent (z j)) [ inl l ↦ l | inr l ↦ absurd (n (le→leb (z j) mostComponent l)) ]),
+      (j, jq, elim (split mostComponent (z j)) [ inl l ↦ l | inr l ↦ absurd (n (le→leb (z j) mostComponent l)) ]),
   λ (j, jq, l). not-T (allTo q (λ j. leb (z j) mostComponent)) (λ h. omega (arith, leb→le (z j) mostComponent (all-at q _ h j jq))),
 )
 

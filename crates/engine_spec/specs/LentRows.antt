@@ -121,9 +121,6 @@ module _ (q : ℕ) (w : Work) (basis table : List ℕ) (sameBasis : SameRows q (
 
   -- ---- what the turn does
 
-  takes-there : TakesRow q v → TakesRow q w
-  takes-there l = omega (arith, row-due)
-
   takes-here : TakesRow q w → TakesRow q v
   takes-here l = omega (arith, row-due)
 
@@ -159,12 +156,15 @@ module _ (q : ℕ) (w : Work) (basis table : List ℕ) (sameBasis : SameRows q (
       → AllSilent (turnRules q most′ room′ v)
   lent-silent most room most′ room′ (inl (x, y, z)) fits few = absurd (omega arith)
   lent-silent most room most′ room′ (inr (late, inl (x, y, z))) fits few = absurd (omega arith)
-  lent-silent most room most′ room′ (inr (late, inr (small, due))) fits few =
-      (late,
-      ((λ h. small (elim h [
+  lent-silent most room most′ room′ (inr (late, inr (small, due))) fits few = (
+    late,
+    (
+      (λ h. small (elim h [
         | inl (needs, (j, jq, large)) ↦
             let there = needs-there needs in
             inl (there, (j, jq, omega (arith, sum-same (there .0 .1) j jq)))
         | inr (last, (fresh, large)) ↦ inr (ends-there last, (fresh, large-there large))
       ])),
-      (λ h. elim h [ inl (x, y) ↦ omega arith | inr (x, y) ↦ omega (arith, stays-same) ], tt)))
+      (λ h. elim h [ inl (x, y) ↦ omega arith | inr (x, y) ↦ omega (arith, stays-same) ], tt),
+    ),
+  )
