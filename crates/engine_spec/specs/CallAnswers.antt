@@ -519,6 +519,17 @@ module _ (p q most room : ℕ) where
         | inr (quiet, going, left, d) ↦ (going, d)
       ]
 
+  -- and is refused so again, with any budget above 0
+  pub refuses-again : (budget : ℕ) (w : Work) → resumeChecks p q most room w ≡ go → let v = resume p q most room budget w .work in
+      resumeChecks p q most room v ≡ go → (n : ℕ) (values : List ℕ) → resume p q most room budget w .answer ≡ refused n values → (more : ℕ)
+      → resume p q most room (suc more) v ≡ result (refused n values) v
+  refuses-again budget w e f n values a more =
+      let v : Work = resume p q most room budget w .work in
+      let k = engineMachine p q most room in
+      let (going, d) = refused-by budget w e n values a in
+      let stops-there = walk-refused k v more n values (high-going p v going) (turn-renders q most room v .due n values d) .0 in
+      resume-as p q most room (suc more) v ∙ ap (ofMachine p) (call-walks k v (suc more) f .0 ∙ stops-there)
+
   -- a turn that no rule refuses is taken
   pub turn-taken : (w : Work) → resumeChecks p q most room w ≡ go → w .equation < p → AllSilent (turnRules q most room w) → (more : ℕ)
       → 0 < turnsTaken p q most room (suc more) w
