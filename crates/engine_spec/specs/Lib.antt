@@ -26,6 +26,8 @@ pub mod Promise
 pub mod Own
 pub mod Examples
 pub mod Promises
+pub mod CallAnswers
+pub mod LentRows
 pub mod CallRules
 pub mod Rules
 pub mod Questions
