@@ -7,8 +7,8 @@
  * The degree of a row is the sum of its components. Between two stages the basis has exactly the minimal solutions of the equations done; at first none is
  * done and its rows are the unit tuples. A stage takes one equation more. Its table gets, by rising degree, the rows of the basis and the sums of pairs of rows
  * with values of opposite sign, unless some row of the table lies at or below the sum with a value between 0 and the sum's own. At the end of the stage the
- * rows of value 0 become the basis. An unknown f that no equation done mentions, with the coefficient -1 in the equation taken, may be named: then the
- * stage goes without it, and the rows of value 0 or more become the basis, each with its value as the component of f.
+ * rows of value 0 become the basis. An unknown f that no equation done mentions and of the basis only its unit tuple has, with the coefficient -1 in the
+ * equation taken, may be named: then the stage goes without it, and the rows of value 0 or more become the basis, each with its value as the component of f.
  *
  *   equations  the working system, p * q coefficients from -1,000,000 to 1,000,000: at first the map's; row operations change it, and not its solutions
  *   basis      rows of q numbers: the first `count` are the basis
@@ -42,7 +42,7 @@ extern "C" {
 enum {
     DEZGULA_ENGINE_FULL = 31,     /* there is no room for a row that is needed: with longer tables and the same rows the run goes on */
     DEZGULA_ENGINE_EQUATION = 32, /* no such equation is left, or a stage is under way */
-    DEZGULA_ENGINE_FRESH = 33,    /* the unknown is neither q, which is none, nor one that no equation done mentions, with the coefficient -1 */
+    DEZGULA_ENGINE_FRESH = 33,    /* the unknown is neither q, which is none, nor one that no equation done mentions and of the basis only its unit tuple has, with -1 */
     DEZGULA_ENGINE_OPERATION = 34 /* 0 times the equation itself, or itself added, or a coefficient would be outside -1,000,000 to 1,000,000 */
 };
 
