@@ -16,12 +16,13 @@ pub fn agrees(l: Line) -> bool {
     let mut record = l.record;
     let record_after = l.record_after;
     let answered = l.answered;
-    on_equations(l, &mut record) == answered[0] && same_record(&record, &record_after)
+    let equations = l.equations;
+    on_equations(l, equations, &mut record) == answered[0] && same_record(&record, &record_after)
 }
 
 // The answer, where the working system is left as the line says.
-fn on_equations(l: Line, record: &mut [u64]) -> u64 {
-    let mut equations = l.equations;
+fn on_equations(l: Line, given: [i32; COEFFICIENTS], record: &mut [u64]) -> u64 {
+    let mut equations = given;
     let equations_after = l.equations_after;
     let answer = on_rows(l, &mut equations, record);
     if same_equations(&equations, &equations_after) {
