@@ -21,7 +21,7 @@ use Rattle.engine_calls.specs.declared.Record.{Record}
 unfoldable pub isRecord : List ℕ → Bool
 isRecord words = eqb (length words) 10 && ltb (getD words 0 0) (2 ^ 32)
 
--- 6, "the record or the tables out of order": other words read as a record that is, its steps being past their limit
+-- 6, "run record or tables out of order": other words read as a record that is, its steps being past their limit
 abbrev pub recordIf : Bool → List ℕ → Record
 recordIf true words =
     recordOf (getD words 0 0) (getD words 1 0) (getD words 2 0) (getD words 3 0) (getD words 4 0) (getD words 5 0) (getD words 6 0) (getD words 7 0)

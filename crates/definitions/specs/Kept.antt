@@ -1,7 +1,7 @@
 -- What the starred runs do not show of the definitions, by computation: that six rows listed stay as they are, and with them the count of a second list and the
 -- greatest sum; how many steps a call takes, and that a paused run goes on to the same end; five unknowns; a plain run to a component above 20; refusals 12
--- and 14 after
--- several steps; a lower bound of four zeros; rows out of order by their marks; and the reader of one list where there is no row. Assumes nothing.
+-- and 14 after several steps; a lower bound of four zeros; rows out of order by their marks; and the reader of one list where there is no row. Assumes
+-- nothing.
 use Prim.Native.Nat.{ℕ, _-_}
 use mathlib.Core.Path.{_≡_, refl}
 use mathlib.Core.List.{List, _∷_, [], map}

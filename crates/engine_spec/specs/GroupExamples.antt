@@ -155,6 +155,6 @@ unfolding start take resume checked startChecks takeChecks resumeChecks begun ta
 both-made =
     loaded 2 (first ++ second) (afterTake (afterResume (afterTake (afterStart 8 8 lent refl roomy roomy refl) 0 3) 100) 1 2) 100 refl
 
--- "The two lists of loops should hold the same loops."
+-- The two lists hold the same rows
 agree : SameList 3 (second-left .basis) (second-left .count) (both-left .basis) (both-left .count)
 agree = one-map second-made both-made

@@ -96,8 +96,8 @@ handed-on {q} {p} {coefs} {list} {n} m rows same p′ coefs′ most room w long 
       all = λ t b. let (i, l, g) = x .all t b in (i, l, λ j jq. same i l j jq ∙ g j jq);
     }) long wide e
 
--- "The two lists of loops should hold the same loops.": of two maps with the same solutions, however either list was made, the lists hold the same rows, as
--- many, each row of either in the other.
+-- The user's first sentence: of two maps with the same solutions, however either list was made, the lists hold the same rows, as many, each row of either in
+-- the other.
 pub one-list : {q p p′ : ℕ} {coefs coefs′ : List ℤ} → SameSolutions q p coefs p′ coefs′ → {one other : List ℕ} {n m : ℕ} → Made q p coefs one n
     → Made q p′ coefs′ other m → SameList q one n other m
 one-list {q} {p} {p′} {coefs} {coefs′} same {other = other} {m = m} x y =
