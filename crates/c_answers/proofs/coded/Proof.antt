@@ -1,4 +1,4 @@
--- `answer_codes::coded` meets its contract. Assumes nothing.
+-- `c_answers::coded` meets its contract. Assumes nothing.
 use borrow.Author.Needs.{needs}
 use Rattle.c_answers.specs.CodeLaws.{code-small, code-large}
 use Rattle.c_answers.proofs.coded.Statement.{statement}

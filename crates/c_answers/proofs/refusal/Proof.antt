@@ -1,4 +1,4 @@
--- `answer_codes::refusal` meets its contract: a refusal's number has 8 bits. Assumes nothing.
+-- `c_answers::refusal` meets its contract: a refusal's number has 8 bits. Assumes nothing.
 use borrow.Author.Needs.{needs}
 use Rattle.c_answers.specs.CodeLaws.{number-small, refusal-told}
 use Rattle.c_answers.proofs.refusal.Statement.{statement}

@@ -1,4 +1,4 @@
--- `dispatch_words::dispatch` meets its contract. Assumes nothing.
+-- `c_dispatch::dispatch` meets its contract. Assumes nothing.
 use denote.Ref.{now}
 use borrow.Author.Needs.{needs}
 use Rattle.c_dispatch.specs.WordLaws.{dispatched, fitting}

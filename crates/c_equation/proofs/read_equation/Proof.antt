@@ -1,4 +1,4 @@
--- `equation_codes::read_equation` meets its contract: each answer as its number. Assumes nothing.
+-- `c_equation::read_equation` meets its contract: each answer as its number. Assumes nothing.
 use denote.Ref.{now}
 use borrow.Author.Needs.{needs}
 use Rattle.c_equation.specs.CodeLaws.{read-refusal-fits, read-refused-told, read-told}

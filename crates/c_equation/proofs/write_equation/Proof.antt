@@ -1,4 +1,4 @@
--- `equation_codes::write_equation` meets its contract: each answer as its number. Assumes nothing.
+-- `c_equation::write_equation` meets its contract: each answer as its number. Assumes nothing.
 use denote.Ref.{now}
 use mir.Facts.{toZ-ofZ}
 use borrow.Author.Needs.{needs}

@@ -1,4 +1,4 @@
--- `list_codes::read_list` meets its contract: each answer as its number. Assumes nothing.
+-- `c_list::read_list` meets its contract: each answer as its number. Assumes nothing.
 use denote.Ref.{now}
 use borrow.Author.Needs.{needs}
 use Rattle.c_list.specs.CodeLaws.{read-refusal-fits, read-refused-told, read-list-told}

@@ -1,4 +1,4 @@
--- `list_codes::write_list` meets its contract: each answer as its number. Assumes nothing.
+-- `c_list::write_list` meets its contract: each answer as its number. Assumes nothing.
 use denote.Ref.{now}
 use borrow.Author.Needs.{needs}
 use Rattle.list_spec.specs.Form.{ListFile}

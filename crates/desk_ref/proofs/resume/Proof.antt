@@ -1,4 +1,4 @@
--- `resume` meets its contract: a walk of its MIR, by hand. The tables are lent on, the record is copied out of its reference, `desks::resume` is called on
+-- `resume` meets its contract: a walk of its MIR, by hand. The tables are lent on, the record is copied out of its reference, `desk::resume` is called on
 -- the copy, and the outcome's record is put back (`Behind`). All that the proof knows of the call is that it meets its contract. Assumes nothing.
 use mathlib.Core.Path.{refl}
 use mir.Syntax.{named, w64}

@@ -1,4 +1,4 @@
--- `start` meets its contract: a walk of its MIR, by hand. The stack table is lent on, the record is copied out of its reference, `desks::start` is called on
+-- `start` meets its contract: a walk of its MIR, by hand. The stack table is lent on, the record is copied out of its reference, `desk::start` is called on
 -- the copy, and the outcome's record is put back (`Behind`). All that the proof knows of the call is that it meets its contract. Assumes nothing.
 use mathlib.Core.Path.{refl}
 use mir.Syntax.{named, w64}

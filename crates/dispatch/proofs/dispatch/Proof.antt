@@ -1,4 +1,4 @@
--- `dispatcher::dispatch` meets its contract. Assumes nothing.
+-- `dispatch::dispatch` meets its contract. Assumes nothing.
 use denote.Ref.{now}
 use mathlib.Core.Path.{_≡_}
 use lib.ListN.{length}

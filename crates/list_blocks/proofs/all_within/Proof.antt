@@ -1,4 +1,4 @@
--- `list_words::all_within` meets its contract. The answer so far is that for the words passed. Assumes nothing.
+-- `list_blocks::all_within` meets its contract. The answer so far is that for the words passed. Assumes nothing.
 use Prim.Native.Nat.{ℕ, _+_, _-_, _≤_}
 use mathlib.Core.Bool.{Bool}
 use mathlib.Core.Path.{_≡_, refl}

@@ -1,4 +1,4 @@
--- `list_words::also_within` meets its contract. Assumes nothing.
+-- `list_blocks::also_within` meets its contract. Assumes nothing.
 use mathlib.Core.Bool.{and-false, and-true}
 use mathlib.Core.Path.{sym}
 use borrow.Author.Tests.{le-leb, lt-leb}

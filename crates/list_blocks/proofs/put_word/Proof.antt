@@ -1,4 +1,4 @@
--- `list_words::put_word` meets its contract: four bytes are stored, one after the other. Assumes nothing.
+-- `list_blocks::put_word` meets its contract: four bytes are stored, one after the other. Assumes nothing.
 use Prim.Native.Nat.{_*_}
 use denote.Ref.{now}
 use Rattle.list_blocks.specs.StoreLaws.{four-stored}

@@ -1,4 +1,4 @@
--- `list_words::signed` meets its contract: a word in the upper half is one less than the negation of what it lacks. Assumes nothing.
+-- `list_blocks::signed` meets its contract: a word in the upper half is one less than the negation of what it lacks. Assumes nothing.
 use Prim.Native.Nat.{_-_, _<_, _^_}
 use native.Mathlib.Omega.{arith}
 use mir.Facts.{toZ-ofZ}

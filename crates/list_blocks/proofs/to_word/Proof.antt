@@ -1,4 +1,4 @@
--- `list_words::to_word` meets its contract: -(n + 1) is n below the greatest word. Assumes nothing.
+-- `list_blocks::to_word` meets its contract: -(n + 1) is n below the greatest word. Assumes nothing.
 use native.Mathlib.Omega.{arith}
 use mir.Facts.{toZ-ofZ}
 use Rattle.list_blocks.specs.SignLaws.{Below, below-zero, NotBelow, not-below-zero, natural-fits}

@@ -1,4 +1,4 @@
--- `list_words::word_at` meets its contract: each byte is widened and weighed by its place. Assumes nothing.
+-- `list_blocks::word_at` meets its contract: each byte is widened and weighed by its place. Assumes nothing.
 use native.Mathlib.Omega.{arith}
 use borrow.Author.Needs.{needs}
 use Rattle.list_spec.specs.Words.{wordAt}

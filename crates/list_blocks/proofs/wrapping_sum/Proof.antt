@@ -1,4 +1,4 @@
--- `list_words::wrapping_sum` meets its contract. The sum is that of the words passed, modulo 2^32. Assumes nothing.
+-- `list_blocks::wrapping_sum` meets its contract. The sum is that of the words passed, modulo 2^32. Assumes nothing.
 use denote.Ref.{now}
 use Rattle.list_spec.specs.SumLaws.{sum-next}
 use Rattle.list_spec.specs.Words.{wordAt, total, wrappingSum}

@@ -1,4 +1,4 @@
--- `orders::above_fits` meets its contract: the room decides, else the rows do. Assumes nothing.
+-- `record_order::above_fits` meets its contract: the room decides, else the rows do. Assumes nothing.
 use Prim.Native.Nat.{_+_}
 use native.Mathlib.Nat.{mul-le-mul-right}
 use native.Mathlib.Omega.{arith}

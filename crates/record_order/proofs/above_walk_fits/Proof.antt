@@ -1,4 +1,4 @@
--- `orders::above_walk_fits` meets its contract: the walk decides, then what it is asked besides, then the other walk's steps. Assumes nothing.
+-- `record_order::above_walk_fits` meets its contract: the walk decides, then what it is asked besides, then the other walk's steps. Assumes nothing.
 use mathlib.Core.Bool.{and-false}
 use mathlib.Core.Path.{sym, _∙_}
 use borrow.Author.Needs.{needs}

@@ -1,4 +1,4 @@
--- `orders::capped_fits` meets its contract: the room decides, else the first components do. Assumes nothing.
+-- `record_order::capped_fits` meets its contract: the room decides, else the first components do. Assumes nothing.
 use Prim.Native.Nat.{_+_}
 use mathlib.Core.Bool.{false}
 use mathlib.Core.Path.{_≡_}

@@ -1,4 +1,4 @@
--- `orders::count_marks` meets its contract: the marks that are left and those counted are all marks. Assumes nothing.
+-- `record_order::count_marks` meets its contract: the marks that are left and those counted are all marks. Assumes nothing.
 use mathlib.Core.Path.{_≡_}
 use Prim.Native.Nat.{ℕ, _+_, _*_, _-_, _%_, _^_, _<_}
 use native.Mathlib.Omega.{arith}

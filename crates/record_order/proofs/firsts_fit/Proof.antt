@@ -1,4 +1,4 @@
--- `orders::firsts_fit` meets its contract. Every first component passed is at most 1. Assumes nothing.
+-- `record_order::firsts_fit` meets its contract. Every first component passed is at most 1. Assumes nothing.
 use Prim.Native.Nat.{ℕ, _+_, _-_, _≤_}
 use mathlib.Core.Bool.{Bool, true}
 use mathlib.Core.List.{List}

@@ -1,4 +1,4 @@
--- `orders::in_order` meets its contract: a test that fails decides. Assumes nothing.
+-- `record_order::in_order` meets its contract: a test that fails decides. Assumes nothing.
 use Prim.Native.Nat.{_+_}
 use mathlib.Core.Bool.{false, and-false}
 use mathlib.Core.Path.{_≡_, sym, _∙_}

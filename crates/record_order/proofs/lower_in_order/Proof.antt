@@ -1,4 +1,4 @@
--- `orders::lower_in_order` meets its contract: the kind of run decides which walk is looked at. Assumes nothing.
+-- `record_order::lower_in_order` meets its contract: the kind of run decides which walk is looked at. Assumes nothing.
 use mathlib.Core.Path.{_≡_, sym, _∙_, ap}
 use denote.Ref.{now}
 use borrow.Author.Needs.{needs}

@@ -1,4 +1,4 @@
--- `orders::plain_walk_fits` meets its contract: the plain walk decides, then the other walk's list, then its steps. Assumes nothing.
+-- `record_order::plain_walk_fits` meets its contract: the plain walk decides, then the other walk's list, then its steps. Assumes nothing.
 use mathlib.Core.Bool.{and-false}
 use mathlib.Core.Path.{_≡_, sym, _∙_, ap}
 use denote.Ref.{now}

@@ -1,4 +1,4 @@
--- `orders::row_above` meets its contract. No component passed is below the bound. Assumes nothing.
+-- `record_order::row_above` meets its contract. No component passed is below the bound. Assumes nothing.
 use Prim.Native.Nat.{ℕ, _+_, _-_, _≤_}
 use mathlib.Core.Bool.{Bool, true}
 use mathlib.Core.List.{List}

@@ -1,4 +1,4 @@
--- `orders::row_in_order` meets its contract. No component passed is above the limit. Assumes nothing.
+-- `record_order::row_in_order` meets its contract. No component passed is above the limit. Assumes nothing.
 use Prim.Native.Nat.{ℕ, _+_, _-_, _^_, _≤_}
 use mathlib.Core.Bool.{Bool, true}
 use mathlib.Core.List.{List}

@@ -1,4 +1,4 @@
--- `orders::rows_above` meets its contract. Every row passed is at or above the bound. Assumes nothing.
+-- `record_order::rows_above` meets its contract. Every row passed is at or above the bound. Assumes nothing.
 use Prim.Native.Nat.{_+_, _-_, _≤_}
 use mathlib.Core.Bool.{true}
 use mathlib.Core.Path.{_≡_, refl, sym, _∙_}

@@ -1,4 +1,4 @@
--- `orders::rows_in_order` meets its contract. Every row passed is in order. Assumes nothing.
+-- `record_order::rows_in_order` meets its contract. Every row passed is in order. Assumes nothing.
 use Prim.Native.Nat.{_+_, _-_, _≤_}
 use mathlib.Core.Bool.{true}
 use mathlib.Core.Path.{_≡_, refl, sym, _∙_}

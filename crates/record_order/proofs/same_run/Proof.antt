@@ -1,4 +1,4 @@
--- `orders::same_run` meets its contract. Assumes nothing.
+-- `record_order::same_run` meets its contract. Assumes nothing.
 use borrow.Author.Needs.{needs}
 use Rattle.record_order.proofs.same_run.Statement.{statement}
 use Rattle.record_order.proofs.same_run.Tie as tie

@@ -1,4 +1,4 @@
--- `solver::capped_row` meets its contract: above 15 unknowns the part is empty, else it is what `row_of` shows. Assumes nothing.
+-- `walk_ref::capped_row` meets its contract: above 15 unknowns the part is empty, else it is what `row_of` shows. Assumes nothing.
 use mathlib.Core.Path.{_∙_}
 use denote.Ref.{now}
 use borrow.Author.Needs.{needs}

@@ -1,4 +1,4 @@
--- `solver::in_range` meets its contract. Assumes nothing.
+-- `walk_ref::in_range` meets its contract. Assumes nothing.
 use borrow.Author.Tests.{le-leb, lt-leb}
 use Rattle.walk_ref.proofs.in_range.Statement.{statement}
 use Rattle.walk_ref.proofs.in_range.Tie as tie

@@ -1,4 +1,4 @@
--- `solver::reader_answer` meets its contract. Assumes nothing.
+-- `walk_ref::reader_answer` meets its contract. Assumes nothing.
 use borrow.Author.Needs.{needs}
 use Rattle.definitions.specs.Answers.{refuseWith}
 use Rattle.walk_ref.proofs.reader_answer.Statement.{statement}

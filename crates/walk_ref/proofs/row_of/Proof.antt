@@ -1,4 +1,4 @@
--- `solver::row_of` meets its contract. A row that is shown lies in the table (`RowIn`), so no product and no sum wraps. Assumes nothing.
+-- `walk_ref::row_of` meets its contract. A row that is shown lies in the table (`RowIn`), so no product and no sum wraps. Assumes nothing.
 use native.Mathlib.Omega.{arith}
 use borrow.Author.Needs.{needs}
 use Rattle.walk_ref.specs.Reading.{shown-in, part-shown, part-hidden}

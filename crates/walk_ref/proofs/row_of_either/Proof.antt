@@ -1,4 +1,4 @@
--- `solver::row_of_either` meets its contract: the part is one of the table that was asked. Assumes nothing.
+-- `walk_ref::row_of_either` meets its contract: the part is one of the table that was asked. Assumes nothing.
 use mathlib.Core.Path.{_∙_, sym, ap}
 use denote.Ref.{now}
 use borrow.Author.Needs.{needs}

@@ -1,4 +1,4 @@
--- `solver::shows_row` meets its contract. Assumes nothing.
+-- `walk_ref::shows_row` meets its contract. Assumes nothing.
 use borrow.Author.Needs.{needs}
 use borrow.Author.Tests.{le-leb, lt-leb, not-true, not-false}
 use Rattle.definitions.specs.Reader.{hasRow}

@@ -1,4 +1,4 @@
--- `dispatch_words::read::last` meets its contract. Assumes nothing.
+-- `c_dispatch::read::last` meets its contract. Assumes nothing.
 use Rattle.c_dispatch.specs.WordLaws.{last-round, last-other}
 use borrow.Author.Needs.{needs}
 use Rattle.c_dispatch.proofs.read.last.Statement.{statement}

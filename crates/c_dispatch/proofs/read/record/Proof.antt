@@ -1,4 +1,4 @@
--- `dispatch_words::read::record` meets its contract. Assumes nothing.
+-- `c_dispatch::read::record` meets its contract. Assumes nothing.
 use borrow.Author.Needs.{needs}
 use Rattle.c_dispatch.proofs.read.record.Statement.{statement}
 use Rattle.c_dispatch.proofs.read.record.Tie as tie

@@ -1,4 +1,4 @@
--- `dispatch_words::read::share` meets its contract. Assumes nothing.
+-- `c_dispatch::read::share` meets its contract. Assumes nothing.
 use borrow.Author.Needs.{needs}
 use Rattle.c_dispatch.proofs.read.share.Statement.{statement}
 use Rattle.c_dispatch.proofs.read.share.Tie as tie

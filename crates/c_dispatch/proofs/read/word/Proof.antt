@@ -1,4 +1,4 @@
--- `dispatch_words::read::word` meets its contract. Assumes nothing.
+-- `c_dispatch::read::word` meets its contract. Assumes nothing.
 use denote.Ref.{now}
 use mathlib.Core.Path.{sym}
 use lib.ListN.{List·getD-eq-default}

@@ -1,4 +1,4 @@
--- `dispatch_words::write::others` meets its contract. Assumes nothing.
+-- `c_dispatch::write::others` meets its contract. Assumes nothing.
 use native.Mathlib.Omega.{arith}
 use lib.ListN.{length-set}
 use borrow.Author.Needs.{needs}

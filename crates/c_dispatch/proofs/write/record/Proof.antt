@@ -1,4 +1,4 @@
--- `dispatch_words::write::record` meets its contract. Assumes nothing.
+-- `c_dispatch::write::record` meets its contract. Assumes nothing.
 use borrow.Author.Needs.{needs}
 use Rattle.c_dispatch.specs.WordLaws.{record-left, record-written}
 use Rattle.c_dispatch.proofs.write.record.Statement.{statement}

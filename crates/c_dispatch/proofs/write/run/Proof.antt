@@ -1,4 +1,4 @@
--- `dispatch_words::write::run` meets its contract. Assumes nothing.
+-- `c_dispatch::write::run` meets its contract. Assumes nothing.
 use mathlib.Core.Path.{_∙_, ap}
 use native.Mathlib.Omega.{arith}
 use lib.ListN.{length, length-set}

@@ -1,4 +1,4 @@
--- `dispatch_words::write::runs` meets its contract. Assumes nothing.
+-- `c_dispatch::write::runs` meets its contract. Assumes nothing.
 use Prim.Native.Nat.{_-_}
 use native.Mathlib.Omega.{arith}
 use Rattle.c_dispatch.specs.WordLaws.{Writing, writing-begins, writing-more, writing-ends}

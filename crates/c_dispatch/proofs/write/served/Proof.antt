@@ -1,4 +1,4 @@
--- `dispatch_words::write::served` meets its contract. Assumes nothing.
+-- `c_dispatch::write::served` meets its contract. Assumes nothing.
 use denote.Ref.{now}
 use mathlib.Core.Path.{_∙_, ap}
 use lib.ListN.{length}

@@ -1,4 +1,4 @@
--- `dispatch_words::write::told` meets its contract. Assumes nothing.
+-- `c_dispatch::write::told` meets its contract. Assumes nothing.
 use denote.Ref.{now}
 use borrow.Author.Needs.{needs}
 use Rattle.c_dispatch.specs.WordLaws.{fitting-pass, told-refused, told-served}

@@ -1,4 +1,4 @@
--- `equation_codes::systems::read_system` meets its contract: each answer as its number. Assumes nothing.
+-- `c_equation::systems::read_system` meets its contract: each answer as its number. Assumes nothing.
 use denote.Ref.{now}
 use borrow.Author.Needs.{needs}
 use Rattle.c_equation.specs.SystemLaws.{system-refusal-fits, system-few, system-refused-told, system-told}

@@ -1,4 +1,4 @@
--- `dispatcher::check::all_fit` meets its contract. Assumes nothing.
+-- `dispatch::check::all_fit` meets its contract. Assumes nothing.
 use borrow.Author.Tests.{not-true, not-false}
 use mathlib.Core.Path.{sym, _∙_, ap}
 use Prim.Native.Nat.{_-_}

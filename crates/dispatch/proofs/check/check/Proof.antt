@@ -1,4 +1,4 @@
--- `dispatcher::check::check` meets its contract. Assumes nothing.
+-- `dispatch::check::check` meets its contract. Assumes nothing.
 use mathlib.Core.Path.{sym, _∙_}
 use borrow.Author.Tests.{not-true, not-false}
 use Rattle.dispatch.specs.Verdicts.{runs-none, runs-many, turn-empty, kept-large, stacks-clash, lists-clash, passes}

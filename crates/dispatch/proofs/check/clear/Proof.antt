@@ -1,4 +1,4 @@
--- `dispatcher::check::clear` meets its contract. Assumes nothing.
+-- `dispatch::check::clear` meets its contract. Assumes nothing.
 use mathlib.Core.Path.{sym, _∙_, ap}
 use Rattle.dispatch.specs.Form.{part-fits}
 use Prim.Native.Nat.{_-_}

@@ -1,4 +1,4 @@
--- `dispatcher::check::fits` meets its contract. Assumes nothing.
+-- `dispatch::check::fits` meets its contract. Assumes nothing.
 use Rattle.dispatch.specs.Clear.{fits-not, fits-rest}
 use Rattle.dispatch.proofs.check.fits.Statement.{statement}
 use Rattle.dispatch.proofs.check.fits.Tie as tie

@@ -1,4 +1,4 @@
--- `dispatcher::check::none_overlap` meets its contract. Assumes nothing.
+-- `dispatch::check::none_overlap` meets its contract. Assumes nothing.
 use Prim.Native.Nat.{_-_}
 use mathlib.Core.Bool.{not}
 use mathlib.Core.Path.{sym, _∙_}

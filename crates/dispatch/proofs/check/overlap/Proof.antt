@@ -1,4 +1,4 @@
--- `dispatcher::check::overlap` meets its contract. Assumes nothing.
+-- `dispatch::check::overlap` meets its contract. Assumes nothing.
 use Rattle.dispatch.specs.Clear.{overlap-none₁, overlap-none₂, overlap-none₃, overlap-last}
 use borrow.Author.Needs.{needs}
 use Rattle.dispatch.proofs.check.overlap.Statement.{statement}

@@ -1,4 +1,4 @@
--- `dispatcher::check::part_of` meets its contract. Assumes nothing.
+-- `dispatch::check::part_of` meets its contract. Assumes nothing.
 use Rattle.dispatch.proofs.check.part_of.Statement.{statement}
 use Rattle.dispatch.proofs.check.part_of.Tie as tie
 

@@ -1,4 +1,4 @@
--- `dispatcher::check::parts_apart` meets its contract. Assumes nothing.
+-- `dispatch::check::parts_apart` meets its contract. Assumes nothing.
 use mathlib.Core.Path.{sym, _∙_}
 use Rattle.dispatch.specs.Clear.{within-says, apart-rest, apart-not}
 use borrow.Author.Needs.{needs}

@@ -1,4 +1,4 @@
--- `dispatcher::results::answer` meets its contract. Assumes nothing.
+-- `dispatch::results::answer` meets its contract. Assumes nothing.
 use borrow.Author.Needs.{needs}
 use Rattle.dispatch.proofs.results.answer.Statement.{statement}
 use Rattle.dispatch.proofs.results.answer.Tie as tie

@@ -1,4 +1,4 @@
--- `dispatcher::results::finish` meets its contract. Assumes nothing.
+-- `dispatch::results::finish` meets its contract. Assumes nothing.
 use Prim.Native.Nat.{_-_}
 use borrow.Author.Needs.{needs}
 use Rattle.dispatch.specs.Finish.{Finishing, took-by, finishing-begins, finishing-small, finishing-more, finishing-ends}

@@ -1,4 +1,4 @@
--- `dispatcher::results::idle` meets its contract. Assumes nothing.
+-- `dispatch::results::idle` meets its contract. Assumes nothing.
 use mathlib.Core.Path.{_∙_}
 use Rattle.dispatch.specs.Idle.{checks-back, idle-refused, idle-passed}
 use borrow.Author.Needs.{needs}

@@ -1,4 +1,4 @@
--- `dispatcher::results::rest` meets its contract. Assumes nothing.
+-- `dispatch::results::rest` meets its contract. Assumes nothing.
 use Rattle.dispatch.specs.Idle.{rest-done, rest-more}
 use Rattle.dispatch.proofs.results.rest.Statement.{statement}
 use Rattle.dispatch.proofs.results.rest.Tie as tie

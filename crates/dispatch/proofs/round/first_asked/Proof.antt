@@ -1,4 +1,4 @@
--- `dispatcher::round::first_asked` meets its contract. Assumes nothing.
+-- `dispatch::round::first_asked` meets its contract. Assumes nothing.
 use borrow.Author.Tests.{lt-ltb, le-ltb}
 use Rattle.dispatch.proofs.round.first_asked.Statement.{statement}
 use Rattle.dispatch.proofs.round.first_asked.Tie as tie

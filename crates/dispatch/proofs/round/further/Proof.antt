@@ -1,4 +1,4 @@
--- `dispatcher::round::further` meets its contract. Assumes nothing.
+-- `dispatch::round::further` meets its contract. Assumes nothing.
 use borrow.Author.Tests.{lt-ltb, le-ltb}
 use borrow.Author.Needs.{needs}
 use Rattle.dispatch.proofs.round.further.Statement.{statement}

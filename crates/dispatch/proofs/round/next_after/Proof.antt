@@ -1,4 +1,4 @@
--- `dispatcher::round::next_after` meets its contract. Assumes nothing.
+-- `dispatch::round::next_after` meets its contract. Assumes nothing.
 use mathlib.Core.Path.{sym, _∙_}
 use Prim.Native.Nat.{_-_}
 use borrow.Author.Needs.{needs}

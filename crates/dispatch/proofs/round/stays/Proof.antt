@@ -1,4 +1,4 @@
--- `dispatcher::round::stays` meets its contract. Assumes nothing.
+-- `dispatch::round::stays` meets its contract. Assumes nothing.
 use borrow.Author.Needs.{needs}
 use Rattle.dispatch.proofs.round.stays.Statement.{statement}
 use Rattle.dispatch.proofs.round.stays.Tie as tie

@@ -1,4 +1,4 @@
--- `dispatcher::turn::inside` meets its contract. Assumes nothing.
+-- `dispatch::turn::inside` meets its contract. Assumes nothing.
 use native.Mathlib.Omega.{arith}
 use Rattle.dispatch.specs.Cut.{inside-none, inside-whole}
 use Rattle.dispatch.proofs.turn.inside.Statement.{statement}

@@ -1,4 +1,4 @@
--- `dispatcher::turn::serve` meets its contract. Assumes nothing.
+-- `dispatch::turn::serve` meets its contract. Assumes nothing.
 use borrow.Author.Needs.{needs}
 use Rattle.dispatch.specs.TurnBack.{placed-back}
 use Rattle.dispatch.proofs.turn.serve.Statement.{statement}

@@ -1,4 +1,4 @@
--- `dispatcher::turn::serve_run` meets its contract. Assumes nothing.
+-- `dispatch::turn::serve_run` meets its contract. Assumes nothing.
 use Rattle.dispatch.specs.Cut.{cut-same}
 use borrow.Author.Needs.{needs}
 use Rattle.dispatch.proofs.turn.serve_run.Statement.{statement}

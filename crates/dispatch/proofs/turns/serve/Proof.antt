@@ -1,4 +1,4 @@
--- `dispatcher::turns::serve` meets its contract. Assumes nothing.
+-- `dispatch::turns::serve` meets its contract. Assumes nothing.
 use Prim.Native.Nat.{_-_, _<_}
 use borrow.Author.Needs.{needs}
 use native.Mathlib.Omega.{arith}

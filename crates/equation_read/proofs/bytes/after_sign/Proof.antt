@@ -1,4 +1,4 @@
--- `equation_text::bytes::after_sign` meets its contract. Assumes nothing.
+-- `equation_read::bytes::after_sign` meets its contract. Assumes nothing.
 use mathlib.Core.Path.{sym, _∙_}
 use native.Mathlib.Omega.{arith}
 use denote.Ref.{now}

@@ -1,4 +1,4 @@
--- `equation_text::bytes::is_minus` meets its contract. Assumes nothing.
+-- `equation_read::bytes::is_minus` meets its contract. Assumes nothing.
 use mathlib.Core.Path.{_∙_}
 use Rattle.equation_read.specs.ByteLaws.{minus-lead}
 use borrow.Author.Needs.{needs}

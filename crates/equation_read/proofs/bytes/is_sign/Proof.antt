@@ -1,4 +1,4 @@
--- `equation_text::bytes::is_sign` meets its contract. Assumes nothing.
+-- `equation_read::bytes::is_sign` meets its contract. Assumes nothing.
 use mathlib.Core.Path.{sym, _∙_}
 use Rattle.equation_read.specs.ByteLaws.{sign-plus, sign-minus}
 use borrow.Author.Needs.{needs}

@@ -1,4 +1,4 @@
--- `equation_text::bytes::read_index` meets its contract. Assumes nothing.
+-- `equation_read::bytes::read_index` meets its contract. Assumes nothing.
 use Rattle.equation_spec.specs.SoundLaws.{few-digits}
 use Rattle.equation_read.specs.ByteLaws.{index-none, index-above, index-within, index-malformed}
 use borrow.Author.Needs.{needs}

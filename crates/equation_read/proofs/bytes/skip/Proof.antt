@@ -1,4 +1,4 @@
--- `equation_text::bytes::skip` meets its contract. Assumes nothing.
+-- `equation_read::bytes::skip` meets its contract. Assumes nothing.
 use Prim.Native.Nat.{_-_}
 use mathlib.Core.Path.{_≡_, refl, _∙_}
 use lib.ListN.{length, drop}

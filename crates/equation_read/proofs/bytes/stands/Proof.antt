@@ -1,4 +1,4 @@
--- `equation_text::bytes::stands` meets its contract. Assumes nothing.
+-- `equation_read::bytes::stands` meets its contract. Assumes nothing.
 use Rattle.equation_read.specs.ByteLaws.{starts-end, starts-at}
 use borrow.Author.Needs.{needs}
 use Rattle.equation_read.proofs.bytes.stands.Statement.{statement}

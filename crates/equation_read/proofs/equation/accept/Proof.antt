@@ -1,4 +1,4 @@
--- `equation_text::equation::accept` meets its contract. Assumes nothing.
+-- `equation_read::equation::accept` meets its contract. Assumes nothing.
 use Prim.Native.Nat.{suc, _-_, _≤_}
 use mathlib.Core.Path.{_≡_, refl, sym, ap, _∙_}
 use borrow.Author.Tests.{ltb-false}

@@ -1,4 +1,4 @@
--- `equation_text::equation::narrow` meets its contract. Assumes nothing.
+-- `equation_read::equation::narrow` meets its contract. Assumes nothing.
 use native.Mathlib.Omega.{arith}
 use mir.Facts.{toZ-ofZ}
 use mir.Syntax.{w32}

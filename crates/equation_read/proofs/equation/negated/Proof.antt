@@ -1,4 +1,4 @@
--- `equation_text::equation::negated` meets its contract. Assumes nothing.
+-- `equation_read::equation::negated` meets its contract. Assumes nothing.
 use mathlib.Core.Path.{_∙_}
 use native.Mathlib.Omega.{arith}
 use lib.IntN.{pos, negℤ, _-ℤ_, +ℤ-idl}

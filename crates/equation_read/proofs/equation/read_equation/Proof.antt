@@ -1,4 +1,4 @@
--- `equation_text::equation::read_equation` meets its contract. Assumes nothing.
+-- `equation_read::equation::read_equation` meets its contract. Assumes nothing.
 use mathlib.Core.Path.{_∙_}
 use lib.ListN.{length}
 use denote.Ref.{now}

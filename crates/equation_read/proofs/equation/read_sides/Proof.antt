@@ -1,4 +1,4 @@
--- `equation_text::equation::read_sides` meets its contract. Assumes nothing.
+-- `equation_read::equation::read_sides` meets its contract. Assumes nothing.
 use Prim.Native.Nat.{_+_}
 use mathlib.Core.Path.{refl, sym, _∙_}
 use native.Mathlib.Omega.{arith}

@@ -1,4 +1,4 @@
--- `equation_text::equation::write_row` meets its contract. Assumes nothing.
+-- `equation_read::equation::write_row` meets its contract. Assumes nothing.
 use Prim.Native.Nat.{_+_}
 use native.Mathlib.Numerals.{add-one}
 use lib.ListN.{length-set}

@@ -1,4 +1,4 @@
--- `equation_text::totals::add_at` meets its contract. Assumes nothing.
+-- `equation_read::totals::add_at` meets its contract. Assumes nothing.
 use native.Mathlib.Omega.{arith}
 use denote.Ref.{now}
 use lib.IntN.{pos}

@@ -1,4 +1,4 @@
--- `equation_text::totals::is_steep` meets its contract. Assumes nothing.
+-- `equation_read::totals::is_steep` meets its contract. Assumes nothing.
 use mir.Facts.{toZ-ofZ}
 use Rattle.equation_read.specs.SizeLaws.{steep-above, steep-below}
 use Rattle.equation_read.proofs.totals.is_steep.Statement.{statement}

@@ -1,4 +1,4 @@
--- `equation_text::totals::plus` meets its contract. Assumes nothing.
+-- `equation_read::totals::plus` meets its contract. Assumes nothing.
 use mir.Facts.{toZ-ofZ}
 use mir.Syntax.{w64}
 use Rattle.equation_read.specs.SizeLaws.{sum-fits}

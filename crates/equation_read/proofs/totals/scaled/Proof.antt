@@ -1,4 +1,4 @@
--- `equation_text::totals::scaled` meets its contract. Assumes nothing.
+-- `equation_read::totals::scaled` meets its contract. Assumes nothing.
 use mathlib.Core.Path.{_≡_}
 use native.Mathlib.Omega.{arith}
 use lib.IntN.{pos}

@@ -1,4 +1,4 @@
--- `equation_text::totals::signed` meets its contract. Assumes nothing.
+-- `equation_read::totals::signed` meets its contract. Assumes nothing.
 use mathlib.Core.Path.{_∙_}
 use lib.IntN.{negℤ, +ℤ-idl}
 use mir.Facts.{toZ-ofZ}

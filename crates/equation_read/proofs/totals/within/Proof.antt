@@ -1,4 +1,4 @@
--- `equation_text::totals::within` meets its contract. Assumes nothing.
+-- `equation_read::totals::within` meets its contract. Assumes nothing.
 use mir.Facts.{toZ-ofZ}
 use mathlib.Core.Path.{sym, ap, _∙_}
 use mathlib.Core.Bool.{cond}

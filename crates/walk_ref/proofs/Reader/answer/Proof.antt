@@ -1,4 +1,4 @@
--- `solver::Reader::answer` meets its contract: a walk of its MIR, by hand. The number is read, and `reader_answer` is called on it.
+-- `walk_ref::Reader::answer` meets its contract: a walk of its MIR, by hand. The number is read, and `reader_answer` is called on it.
 -- All that the proof knows of `reader_answer` is that it meets its contract. Assumes nothing.
 use mathlib.Core.Path.{refl}
 use mathlib.Core.List.{[], _∷_}

@@ -1,4 +1,4 @@
--- `solver::Reader::new` meets its contract: a walk of its MIR, by hand. What the slice and the number own is what a reader of the two owns.
+-- `walk_ref::Reader::new` meets its contract: a walk of its MIR, by hand. What the slice and the number own is what a reader of the two owns.
 -- Assumes nothing.
 use mathlib.Core.Path.{_≡_, refl}
 use mathlib.Core.List.{[], _∷_}

@@ -1,4 +1,4 @@
--- `solver::Reader::row` meets its contract: a walk of its MIR, by hand. The reader is taken apart, and what its parts own goes to `row_of`.
+-- `walk_ref::Reader::row` meets its contract: a walk of its MIR, by hand. The reader is taken apart, and what its parts own goes to `row_of`.
 -- All that the proof knows of `row_of` is that it meets its contract. Assumes nothing.
 use mathlib.Core.Path.{_≡_, refl}
 use mathlib.Core.List.{[], _∷_}
