@@ -40,7 +40,7 @@ abbrev pub wordsIf : Bool → List ℕ → Record → List ℕ
 wordsIf true words r =
     set
     (set
-    (set (set (set (set (set (set (set (set words 0 (r .done)) 1 (r .equation)) 2 (r .fresh)) 3 (r .count)) 4 (r .rows)) 5 (r .taken)) 6 (r .degree))
+    (set (set (set (set (set (set (set (set words 0 (r .done)) 1 (r .equation)) 2 (r .fresh)) 3 (r .count .0)) 4 (r .rows)) 5 (r .taken)) 6 (r .degree))
     7 (r .upper)) 8 (r .lower)) 9 (r .steps .0)
 wordsIf false words r = words
 

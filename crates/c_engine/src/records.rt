@@ -1,8 +1,12 @@
 // The record as words of 64 bits, in the order of its fields.
 ghost use mathlib.Core.Path.{_≡_};
 ghost use Rattle.c_engine.specs.Words.{isRecord, recordIn, wordsLeft};
+use calls::Solutions;
 use calls::Steps;
 use engine_calls::Record;
+
+// More steps than any run has taken.
+const PAST_LIMIT: u64 = calls::STEP_LIMIT + 1;
 
 // Whether the words are a record.
 pub fn fits(words: &[u64]) -> bool
@@ -25,7 +29,7 @@ pub fn read(words: &[u64]) -> Record
                 done: done as u32,
                 equation: words[1] as usize,
                 fresh: words[2] as usize,
-                count: words[3] as usize,
+                count: Solutions(words[3] as usize),
                 rows: words[4] as usize,
                 taken: words[5] as usize,
                 degree: words[6],
@@ -39,13 +43,13 @@ pub fn read(words: &[u64]) -> Record
         done: 0,
         equation: 0,
         fresh: 0,
-        count: 0,
+        count: Solutions(0),
         rows: 0,
         taken: 0,
         degree: 0,
         upper: 0,
         lower: 0,
-        steps: Steps(1000000000001),
+        steps: Steps(PAST_LIMIT),
     }
 }
 
@@ -57,7 +61,7 @@ pub fn write(words: &mut [u64], r: Record)
         words[0] = r.done as u64;
         words[1] = r.equation as u64;
         words[2] = r.fresh as u64;
-        words[3] = r.count as u64;
+        words[3] = r.count.0 as u64;
         words[4] = r.rows as u64;
         words[5] = r.taken as u64;
         words[6] = r.degree;

@@ -185,7 +185,7 @@ module _ (p q : ℕ) (equations : List ℤ) (basis table : List ℕ) (l : Beside
     unfolding spec.take
     take-refused g = rw (← m, ← n) (call-refused e equations basis table run _ g)
 
-    pub take-enters : made ≡ Pass → run .count * q ≤ length basis
+    pub take-enters : made ≡ Pass → run .count .0 * q ≤ length basis
     unfolding spec.takeChecks
     take-enters g =
         let (z, own) = standing-both p q most room (workOf equations basis table run) _ (passes e g) in

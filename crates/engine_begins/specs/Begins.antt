@@ -75,9 +75,9 @@ operated-is basis table b = rw (b .outcome-is, b .equations-is)
 
 -- f below q is the fresh unknown; else there is none
 pub record Taken (q e f : ℕ) (basis : List ℕ) (r : Record) (o : Outcome) (basis′ : List ℕ) : Type 0 where
-  pub fresh : f < q → (basis′ ≡ sweptTo (r .count) q basis (lacks f (at basis q)))
-      × (o ≡ leaves Started (recordOf (r .done) e f (countTo (r .count) (lacks f (at basis q))) 0 0 0 0 0 (r .steps .0)))
-  pub none : q ≤ f → (basis′ ≡ basis) × (o ≡ leaves Started (recordOf (r .done) e q (r .count) 0 0 0 0 0 (r .steps .0)))
+  pub fresh : f < q → (basis′ ≡ sweptTo (r .count .0) q basis (lacks f (at basis q)))
+      × (o ≡ leaves Started (recordOf (r .done) e f (countTo (r .count .0) (lacks f (at basis q))) 0 0 0 0 0 (r .steps .0)))
+  pub none : q ≤ f → (basis′ ≡ basis) × (o ≡ leaves Started (recordOf (r .done) e q (r .count .0) 0 0 0 0 0 (r .steps .0)))
 
 pub taken-is : {q e f : ℕ} {basis : List ℕ} {r : Record} {o : Outcome} {basis′ : List ℕ} (equations : List ℤ) (table : List ℕ) → Taken q e f basis r o basis′
     → outcomeOf o equations basis′ table

@@ -7,6 +7,7 @@ ghost use Rattle.engine_calls.specs.declared.Answer.the-variants.{Started};
 ghost use Rattle.engine_begins.specs.Begins.{Begun, BegunFrom, Fitting, FittingList, Operated, Taken};
 ghost use Rattle.engine_begins.specs.Writing.{Combines};
 use crate::writing;
+use calls::Solutions;
 use calls::Steps;
 use engine_calls::Answer;
 use engine_calls::Outcome;
@@ -49,7 +50,7 @@ fn begun(p: usize, q: usize, count: usize) -> Outcome
         done: 0,
         equation: p,
         fresh: q,
-        count,
+        count: Solutions(count),
         rows: 0,
         taken: 0,
         degree: 0,
@@ -83,10 +84,10 @@ pub fn operate(
 }
 
 pub fn take(q: usize, basis: &mut [u32], r: Record, e: usize, f: usize) -> Outcome
-    requires { ⌜ r .count * q ≤ length (now basis) ⌝ }
+    requires { ⌜ r .count .0 * q ≤ length (now basis) ⌝ }
     ensures { λ o. ⌜ Taken q e f (now (basis .entry)) r o (now (basis .exit)) ⌝ }
 {
-    let m = r.count;
+    let m = r.count.0;
     let done = r.done;
     let steps = r.steps.0;
     if f < q {
@@ -103,7 +104,7 @@ fn taken(done: u32, e: usize, f: usize, count: usize, steps: u64) -> Outcome
         done,
         equation: e,
         fresh: f,
-        count,
+        count: Solutions(count),
         rows: 0,
         taken: 0,
         degree: 0,

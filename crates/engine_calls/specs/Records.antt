@@ -36,7 +36,7 @@ recordOf done equation fresh count rows taken degree upper lower steps =
       done = done;
       equation = equation;
       fresh = fresh;
-      count = count;
+      count = record { 0 = count };
       rows = rows;
       taken = taken;
       degree = degree;
@@ -54,7 +54,7 @@ workOf equations basis table r =
     record {
       equations = equations;
       basis = basis;
-      count = r .count;
+      count = r .count .0;
       done = r .done;
       equation = r .equation;
       fresh = r .fresh;

@@ -1,6 +1,7 @@
 // What the engine's calls hand over and get back.
 ghost use mathlib.Core.Path.{_≡_};
 ghost use Rattle.engine_calls.specs.Records.{numberOf, placeOf, refusedWith, valuesOf};
+use calls::Solutions;
 use calls::Steps;
 
 // The record of a run: the equations done, as marks; the equation of the stage under way, p where there is none; its fresh unknown, q where there is none; the
@@ -9,7 +10,7 @@ pub struct Record {
     pub done: u32,
     pub equation: usize,
     pub fresh: usize,
-    pub count: usize,
+    pub count: Solutions,
     pub rows: usize,
     pub taken: usize,
     pub degree: u64,

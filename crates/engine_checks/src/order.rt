@@ -26,7 +26,7 @@ pub fn in_order(
     requires { ⌜ Within p q most room (length (now equations)) (length (now basis)) (length (now table)) ⌝ }
     ensures { λ b. ⌜ b ≡ inOrder p q most room (workOf (now (equations .entry)) (now (basis .entry)) (now (table .entry)) r) ⌝ }
 {
-    let count = r.count;
+    let count = r.count.0;
     let n = r.rows;
     let steps = r.steps.0;
     let degree = r.degree;

@@ -9,6 +9,9 @@ ghost use Rattle.definitions.specs.Tables.{frozen};
 ghost use Rattle.engine_spec.specs.Beside.{coefficientLimit};
 ghost use Rattle.engine_spec.specs.Calls.{isMinusOne};
 
+// The most that a coefficient of the working system may be, above zero or below.
+const COEFFICIENT_LIMIT: i64 = 1000000;
+
 pub fn is_zero(x: i32) -> bool
     ensures { λ b. ⌜ b ≡ isZero x ⌝ }
 {
@@ -31,20 +34,17 @@ pub fn is_minus_one(x: i32) -> bool
 pub fn is_small(x: i32) -> bool
     ensures { λ b. ⌜ b ≡ leb (natAbs x) coefficientLimit ⌝ }
 {
-    if x < -1000000 {
-        return false;
-    }
-    !(1000000 < x)
+    will_be_small(x as i64)
 }
 
 // The same of one that is yet to be written.
 pub fn will_be_small(x: i64) -> bool
     ensures { λ b. ⌜ b ≡ leb (natAbs x) coefficientLimit ⌝ }
 {
-    if x < -1000000 {
+    if x < -COEFFICIENT_LIMIT {
         return false;
     }
-    !(1000000 < x)
+    !(COEFFICIENT_LIMIT < x)
 }
 
 // Whether equation k is done.

@@ -142,7 +142,7 @@ pub fn check_take(
             if !taking::is_fresh(equations, p, q, e, f, r.done) {
                 return Check::Refuse(Refusal::NotFresh);
             }
-            if !taking::is_alone(basis, r.count, q, f) {
+            if !taking::is_alone(basis, r.count.0, q, f) {
                 return Check::Refuse(Refusal::NotFresh);
             }
             Check::Pass

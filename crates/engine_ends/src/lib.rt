@@ -7,6 +7,7 @@ ghost use Rattle.definitions.specs.Answers.{complete, paused};
 ghost use Rattle.engine_spec.specs.Engine.{finish as finishOf};
 ghost use Rattle.engine_calls.specs.Records.{answerOf, outcomeOf, workOf};
 ghost use Rattle.engine_ends.specs.Closing.{Closing, Ends, RestsLeft};
+use calls::Solutions;
 use calls::Steps;
 use engine_calls::Answer;
 use engine_calls::Outcome;
@@ -100,7 +101,7 @@ fn rests(p: usize, q: usize, r: Record, count: usize) -> Outcome
         done,
         equation: p,
         fresh: q,
-        count,
+        count: Solutions(count),
         rows: 0,
         taken: 0,
         degree: 0,

@@ -47,10 +47,10 @@ abbrev pub startOf : Record → Next
 startOf r = nextOf (r .rows) (r .taken) (r .degree) (r .upper) (r .lower) (r .steps .0) (r .rows) true
 
 abbrev pub recordAt : Record → Next → Record
-recordAt r s = recordOf (r .done) (r .equation) (r .fresh) (r .count) (s .rows) (s .taken) (s .degree) (s .upper) (s .lower) (s .steps)
+recordAt r s = recordOf (r .done) (r .equation) (r .fresh) (r .count .0) (s .rows) (s .taken) (s .degree) (s .upper) (s .lower) (s .steps)
 
 abbrev pub frameOf : (q room : ℕ) → Record → Frame
-frameOf q room r = record { q = q; m = r .count; room = room; from = r .equation * q }
+frameOf q room r = record { q = q; m = r .count .0; room = room; from = r .equation * q }
 
 -- ---- what the checks say
 
@@ -145,7 +145,7 @@ pub record Advanced (q room budget : ℕ) (equations : List ℤ) (basis sizes ta
   pub rises : r .rows ≤ a .next .rows
   pub beyond : Beyond (a .next .rows) x x′
   pub mothers : Unchanged (r .rows) (x .mothers) (x′ .mothers)
-  pub kept : Kept 0 (r .count) sizes sizes′
+  pub kept : Kept 0 (r .count .0) sizes sizes′
 
 -- What stands beside the first n rows of a table, under the equation c: their values, words and degrees, and marks that are marks. From row n on all of it is
 -- as it was.
@@ -167,8 +167,8 @@ pub record ResumedTo (p q most room budget : ℕ) (equations : List ℤ) (basis 
   pub few : rowsAfter q room budget (workOf equations basis table r) ≤ room
   pub sided : Sided (equationAt equations (r .equation * q)) q (rowsAfter q room budget (workOf equations basis table r)) table′ x x′
   pub mothers : Unchanged (r .rows) (x .mothers) (x′ .mothers)
-  pub sized : Measured q (r .count) basis sizes′
-  pub kept : Kept 0 (r .count) sizes sizes′
+  pub sized : Measured q (r .count .0) basis sizes′
+  pub kept : Kept 0 (r .count .0) sizes sizes′
 
 module _ {p q most room : ℕ} {equations : List ℤ} {basis sizes table : List ℕ} {x : Sides} {r : Record}
     (e : Entered p q most room equations basis sizes table x r) where
@@ -180,7 +180,7 @@ module _ {p q most room : ℕ} {equations : List ℤ} {basis sizes table : List 
         small = λ j l. e .order .coefs (r .equation * q + j) (omega (arith, row-fits q (r .equation) p (e .going)));
       }
 
-  basis-small : SmallTable q (r .count) basis
+  basis-small : SmallTable q (r .count .0) basis
   basis-small =
       record {
         few = e .size .unknowns;
@@ -188,10 +188,10 @@ module _ {p q most room : ℕ} {equations : List ℤ} {basis sizes table : List 
         small = λ i j l jq. small-from q (at basis q i) (row-parts i l .0) j jq;
       }
     where
-      row-parts : (i : ℕ) → i < r .count → T (isSmall q (at basis q i)) × T (ltb 0 (total (at basis q i) q))
+      row-parts : (i : ℕ) → i < r .count .0 → T (isSmall q (at basis q i)) × T (ltb 0 (total (at basis q i) q))
       row-parts i l = unfold isRow in (and-parts (isSmall q (at basis q i)) _ (e .order .basis i l))
 
-  positive : (i : ℕ) → i < r .count → 0 < total (at basis q i) q
+  positive : (i : ℕ) → i < r .count .0 → 0 < total (at basis q i) q
   positive i l = ltb→lt 0 (total (at basis q i) q) (unfold isRow in (and-parts (isSmall q (at basis q i)) _ (e .order .basis i l) .1))
 
   rows-small : SmallTable q (r .rows) table
@@ -202,7 +202,7 @@ module _ {p q most room : ℕ} {equations : List ℤ} {basis sizes table : List 
         small = λ i j l jq. small-from q (at table q i) (e .order .rows i l) j jq;
       }
 
-  pub writable : Writable equations (r .equation * q) basis (r .count) (length sizes) table (r .rows) q (length (x .values)) (length (x .words))
+  pub writable : Writable equations (r .equation * q) basis (r .count .0) (length sizes) table (r .rows) q (length (x .values)) (length (x .words))
       (length (x .degrees))
       (length (x .marks)) (length (x .mothers))
   writable =
@@ -236,7 +236,7 @@ module _ {p q most room : ℕ} {equations : List ℤ} {basis sizes table : List 
         | inr m ↦ let s : i ≡ suc k = omega arith in rw s (omega arith)
       ]
 
-  module _ {sizes′ : List ℕ} {x′ : Sides} (w : Written equations (r .equation * q) basis (r .count) table (r .rows) q sizes x sizes′ x′) where
+  module _ {sizes′ : List ℕ} {x′ : Sides} (w : Written equations (r .equation * q) basis (r .count .0) table (r .rows) q sizes x sizes′ x′) where
     entered-given : Given (frameOf q room r) (lentOf equations basis sizes′)
     entered-given =
         record {

@@ -109,7 +109,7 @@ fn advance(
         (now (sizes .exit)) (now (table .exit))
         (sidesOf (now (values .exit)) (now (words .exit)) (now (degrees .exit)) (now (marks .exit)) (now (mothers .exit))) ⌝ }
 {
-    let m = r.count;
+    let m = r.count.0;
     let n = r.rows;
     let from = r.equation * q;
     write_beside(
@@ -194,11 +194,12 @@ fn stand(r: Record, s: Next) -> Record
     ensures { λ x. ⌜ x ≡ recordAt r s ⌝ }
 {
     let steps = Steps(s.steps);
+    let count = r.count;
     Record {
         done: r.done,
         equation: r.equation,
         fresh: r.fresh,
-        count: r.count,
+        count,
         rows: s.rows,
         taken: s.taken,
         degree: s.degree,

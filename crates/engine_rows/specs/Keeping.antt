@@ -17,7 +17,7 @@ use mir.Val.{Fits, SFits, ofZ, toZ}
 use Rattle.linear.specs.Differences.{up}
 use Rattle.linear.specs.TestLaws.{all-at, count-le}
 use Rattle.linear.specs.Tests.{allTo, countTo}
-use Rattle.definitions.specs.System.{isZero}
+use Rattle.definitions.specs.System.{isZero, mostComponent}
 use Rattle.definitions.specs.Tables.{at, writeTo}
 use Rattle.laws.specs.TableLaws.{row-fits, write-same}
 use Rattle.laws.specs.SweepLaws.{T-same}
@@ -34,7 +34,7 @@ abbrev pub notBelowValue : List ℤ → ℕ → Bool
 notBelowValue values i = not (ltZ (getD values i (pos 0)) (pos 0))
 
 abbrev pub smallValue : List ℤ → ℕ → Bool
-smallValue values i = leZ (getD values i (pos 0)) (pos 1000000)
+smallValue values i = leZ (getD values i (pos 0)) (pos mostComponent)
 
 -- row i with its value at place f
 abbrev pub filledRow : ℕ → List ℤ → (ℕ → ℕ → ℕ) → ℕ → ℕ → ℕ
@@ -56,15 +56,15 @@ zero-test x f = T-same (eqb (ofZ w64 x) 0) (isZero x) (λ h. back (eqb→eq (ofZ
     is-zero (pos n) h = ap pos (eqb→eq n 0 h)
     is-zero (negsuc n) h = absurd h
 
-pub large-small : (x : ℤ) → ltZ (pos 1000000) x ≡ true → leZ x (pos 1000000) ≡ false
-large-small x h = T-same (leZ x (pos 1000000)) false (λ y. clashℤ (ltZ-yes {a = pos 1000000} {b = x} (rw h tt)) (leZ-yes y)) (λ y. absurd y)
+pub large-small : (x : ℤ) → ltZ (pos mostComponent) x ≡ true → leZ x (pos mostComponent) ≡ false
+large-small x h = T-same (leZ x (pos mostComponent)) false (λ y. clashℤ (ltZ-yes {a = pos mostComponent} {b = x} (rw h tt)) (leZ-yes y)) (λ y. absurd y)
 
-pub small-large : (x : ℤ) → ltZ (pos 1000000) x ≡ false → leZ x (pos 1000000) ≡ true
-small-large x h = T-same (leZ x (pos 1000000)) true (λ y. tt) (λ y. ltZ-no {a = pos 1000000} {b = x} (rw h tt) .le)
+pub small-large : (x : ℤ) → ltZ (pos mostComponent) x ≡ false → leZ x (pos mostComponent) ≡ true
+small-large x h = T-same (leZ x (pos mostComponent)) true (λ y. tt) (λ y. ltZ-no {a = pos mostComponent} {b = x} (rw h tt) .le)
 
 -- a value that is not below 0 nor above 1,000,000
-pub natural-fits : (x : ℤ) → ltZ x (pos 0) ≡ false → leZ x (pos 1000000) ≡ true → T (nonNeg x) × Fits w32 (natAbs x)
-natural-fits (pos n) e g = (tt, record { fits = omega (arith, leb-true n 1000000 g) })
+pub natural-fits : (x : ℤ) → ltZ x (pos 0) ≡ false → leZ x (pos mostComponent) ≡ true → T (nonNeg x) × Fits w32 (natAbs x)
+natural-fits (pos n) e g = (tt, record { fits = omega (arith, leb-true n mostComponent g) })
 natural-fits (negsuc n) e g = absurd (true≢false e)
 
 pub natural-is : (x : ℤ) → ltZ x (pos 0) ≡ false → natAbs x ≡ up x

@@ -7,7 +7,7 @@ ghost use lib.ListN.{length};
 ghost use lib.Signed.{leZ, ltZ};
 ghost use Rattle.linear.specs.Differences.{up};
 ghost use Rattle.linear.specs.Tests.{allTo, countTo};
-ghost use Rattle.definitions.specs.System.{isZero};
+ghost use Rattle.definitions.specs.System.{isZero, mostComponent};
 ghost use Rattle.definitions.specs.Tables.{at};
 ghost use Rattle.laws.specs.Pack.{packTo};
 ghost use Rattle.laws.specs.Sweep.{sweptTo};
@@ -113,7 +113,7 @@ fn is_below(x: i64) -> bool
 
 // A value that is not below 0 nor above 1,000,000.
 fn natural(x: i64) -> u32
-    requires { ⌜ (ltZ x (pos 0) ≡ false) × (leZ x (pos 1000000) ≡ true) ⌝ }
+    requires { ⌜ (ltZ x (pos 0) ≡ false) × (leZ x (pos mostComponent) ≡ true) ⌝ }
     ensures { λ r. ⌜ r ≡ up x ⌝ }
 {
     x as u32
@@ -135,9 +135,9 @@ pub fn most_value_small(values: &[i64], n: usize) -> bool
 }
 
 fn is_large(x: i64) -> bool
-    ensures { λ r. ⌜ r ≡ ltZ (pos 1000000) x ⌝ }
+    ensures { λ r. ⌜ r ≡ ltZ (pos mostComponent) x ⌝ }
 {
-    1000000 < x
+    (calls::COMPONENT_LIMIT as i64) < x
 }
 
 // Keeps those of the first m rows that have 0 at place f, in place, and says how many.

@@ -1,15 +1,18 @@
--- `signs::is_small` meets its contract: the comparisons of signed numbers decide. Assumes nothing.
-use mathlib.Core.Path.{sym}
-use mir.Facts.{toZ-ofZ}
-use Rattle.engine_checks.specs.Signs.{small-below, small-else}
+-- `signs::is_small` meets its contract: a coefficient is the same number in 64 bits. Assumes nothing.
+use borrow.Author.Needs.{needs}
+use mir.Facts.{sfits-widen, toZ-ofZ}
+use mir.Syntax.{w64}
+use mir.Val.{SFits}
 use Rattle.engine_checks.proofs.signs.is_small.Statement.{statement}
 use Rattle.engine_checks.proofs.signs.is_small.Tie as tie
 
-returns : tie.Need-returns
-returns c = sym (small-below (c .before .args .x) (rw (toZ-ofZ (c .before .fits .x)) at (c .if1 .taken)))
+cast-will-be-small : tie.Need-cast-will-be-small
+cast-will-be-small c = rw (toZ-ofZ (c .fits .x)) (sfits-widen tt (c .fits .x))
 
-returns-2 : tie.Need-returns-2
-returns-2 c = let e = toZ-ofZ (c .before .fits .x) in rw e (small-else (c .before .args .x) (rw e at (c .if1 .left)))
+returns : tie.Need-returns
+returns c =
+    let wide : SFits w64 (c .before .args .x) = sfits-widen tt (c .before .fits .x) in
+    rw (toZ-ofZ (c .before .fits .x), toZ-ofZ wide) at (c .will-be-small .ensures)
 
 pub is-small-spec : {M : Type 1} → statement M
-is-small-spec = tie.close (tie.spec returns returns-2)
+is-small-spec = tie.close (tie.spec cast-will-be-small (λ c κs. search needs) returns)
