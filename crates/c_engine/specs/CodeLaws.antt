@@ -39,6 +39,13 @@ module _ (p q : ℕ) where
   unfolding calls.startChecks
   small-start coefs most w = small-shape coefs most w (calls.check7 p q coefs) (λ l. small-first 7 (p * q) _ (omega arith) l)
 
+  pub small-start-from : (coefs : List ℤ) (n : ℕ) (rows : List ℕ) (most : ℕ) (w : Work) → Small (calls.startFromChecks p q coefs n rows most w)
+  unfolding calls.startFromChecks
+  small-start-from coefs n rows most w =
+      small-shape coefs most w _ (λ l.
+      small-then (refuseIf (ltb most n) 4) _ (small-if _ 4 (omega arith)) (λ _.
+      small-then (calls.check6List q n rows) (calls.check7 p q coefs) (small-if _ 6 (omega arith)) (λ _. small-first 7 (p * q) _ (omega arith) l)))
+
   module _ (most room : ℕ) (w : Work) where
     small-standing : (own : Check) → Small own → Small (calls.standingThen p q most room w own)
     small-standing own h =
@@ -140,6 +147,11 @@ module _ (p q : ℕ) where
   pub start-fits : (coefs : List ℤ) (most : ℕ) (w : Work) → Fits (calls.start p q coefs most w .answer)
   unfolding calls.start
   start-fits coefs most w = fits-checked (calls.startChecks p q coefs most w) w _ (small-start p q coefs most w) (omega arith)
+
+  pub start-from-fits : (coefs : List ℤ) (n : ℕ) (rows : List ℕ) (most : ℕ) (w : Work) → Fits (calls.startFrom p q coefs n rows most w .answer)
+  unfolding calls.startFrom
+  start-from-fits coefs n rows most w =
+      fits-checked (calls.startFromChecks p q coefs n rows most w) w _ (small-start-from p q coefs n rows most w) (omega arith)
 
   module _ (most room : ℕ) (w : Work) where
     pub combine-fits : (r s : ℕ) (u t : ℤ) → Fits (calls.combine p q most room r s u t w .answer)

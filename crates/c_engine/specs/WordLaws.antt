@@ -1,7 +1,7 @@
 -- The engine's calls on a record of words, as the code goes about them; a call that is refused leaves the words; and other words are refused with 6, after what
 -- is checked before it. Assumes nothing.
 use Prim.Native.Nat.{ℕ, zero, suc, _+_, _*_, _^_, _<_, _≤_}
-use mathlib.Core.Bool.{Bool, true, false, _&&_, cond}
+use mathlib.Core.Bool.{Bool, true, false, not, _&&_, cond}
 use mathlib.Core.Logic.{_≢_}
 use mathlib.Core.List.{List, [], _∷_}
 use mathlib.Core.Path.{_≡_, refl, sym, subst, ap, _∙_}
@@ -18,15 +18,16 @@ use Rattle.c_record.specs.CodeLaws.{Fits}
 use Rattle.c_record.specs.Codes.{code, refusalCode}
 use Rattle.c_record.specs.WordLaws.{set-own}
 use Rattle.engine_spec.specs.Calls as calls
-use Rattle.engine_spec.specs.Engine.{Result, Work, begun, result}
+use Rattle.engine_spec.specs.Engine.{Result, Work, begun, begunFrom, result}
 use Rattle.engine_calls.specs.Records.{answerOf, checkOf, numberOf, outcomeOf, placeOf, valuesOf, workOf}
 use Rattle.engine_calls.specs.declared.Check as made
 use Rattle.engine_calls.specs.declared.Check.the-variants.{Pass, Refuse}
 use Rattle.engine_calls.specs.declared.Outcome.{Outcome}
 use Rattle.engine_calls.specs.declared.Record.{Record}
 use Rattle.engine_calls.specs.declared.Refusal.{Refusal}
-use Rattle.engine_checks.specs.Standing.{start-checks, startChecksBy}
-use Rattle.c_engine.specs.Words.{isRecord, misfit, misfitChecks, recordIf, recordIn, recordLeft, startWords, told, wordsIf, wordsLeft, workIn}
+use Rattle.engine_checks.specs.Standing.{start-checks, start-from-checks, startChecksBy, startFromChecksBy}
+use Rattle.c_engine.specs.Words.{isRecord, misfit, misfitChecks, misfitListChecks, recordIf, recordIn, recordLeft, startFromWords, startWords, told}
+use Rattle.c_engine.specs.Words.{wordsIf, wordsLeft, workIn}
 
 -- ---- which words are a record
 
@@ -172,6 +173,27 @@ misfit-checks p q coefs most w =
     ∙ ap (λ c. calls.check3 p q coefs then c)
     (instead-then _ 4 _ refl ∙ ap (λ c. calls.check4 p q most w then c) (instead-first (p * q) _))))
 
+instead-list : (b : Bool) (c : Check) → instead c ≡ refuse 6 [] → instead (refuseIf b 6 then c) ≡ refuse 6 []
+unfolding instead refuseWith _then_
+instead-list true c h = refl
+instead-list false c h = h
+
+-- of a start from a list: 6 is due of the words, whatever the rows are
+pub misfit-list-checks : (p q : ℕ) (coefs : List ℤ) (n : ℕ) (rows : List ℕ) (most : ℕ) (w : Work)
+    → instead (calls.startFromChecks p q coefs n rows most w) ≡ misfitListChecks p q coefs n most w
+unfolding calls.startFromChecks
+misfit-list-checks p q coefs n rows most w =
+    instead-then _ 1 _ refl
+    ∙ ap (λ c. calls.check1 p then c)
+    (instead-then _ 2 _ refl
+    ∙ ap (λ c. calls.check2 q then c)
+    (instead-then _ 3 _ refl
+    ∙ ap (λ c. calls.check3 p q coefs then c)
+    (instead-then _ 4 _ refl
+    ∙ ap (λ c. calls.check4 p q most w then c)
+    (instead-then _ 4 _ refl
+    ∙ ap (λ c. refuseIf (ltb most n) 4 then c) (instead-list (not (calls.isList q n rows)) (calls.check7 p q coefs) (instead-first (p * q) _))))))
+
 -- from the check of the code
 pub refused-first : {k : made.Check} {c : Check} {why : Refusal} → checkOf k ≡ c → k ≡ Refuse why → instead (refuse (numberOf why) (valuesOf why)) ≡ instead c
 refused-first e h = ap instead (sym (ap checkOf h) ∙ e)
@@ -188,23 +210,41 @@ pub number-instead : (n : ℕ) (values : List ℕ) → n ≢ 7 → n ≡ checkCo
 unfolding instead
 number-instead n values ne = rw (ne-eqb n 7 ne) (omega arith)
 
+misfit-by : (equations : List ℤ) (basis words : List ℕ) (c : Check)
+    → (checkCode c, (equations, (basis, ([], words)))) ≡ told words (misfit c (workIn equations basis [] words))
+unfolding misfit calls.checked
+misfit-by equations basis words (refuse n values) = rw (kept-words words)
+misfit-by equations basis words go = rw (kept-words words)
+
 module _ (p q : ℕ) (coefs : List ℤ) (most : ℕ) (equations : List ℤ) (basis words : List ℕ) {b : Bool} (e : b ≡ isRecord words) where
-  misfit-by : (c : Check) → (checkCode c, (equations, (basis, ([], words)))) ≡ told words (calls.checked c (workIn equations basis [] words) (result started))
-  unfolding calls.checked
-  misfit-by (refuse n values) = rw (kept-words words)
-  misfit-by go = rw (kept-words words)
+  abbrev fresh : Work
+  fresh = workIn equations basis [] words
 
   pub start-misfit : b ≡ false → {a : ℕ} → a ≡ checkCode (instead (startChecksBy p q coefs most (length equations)))
       → (a, (equations, (basis, ([], words)))) ≡ told words (startWords p q coefs most equations basis words)
-  unfolding startWords misfit
+  unfolding startWords
   start-misfit t h =
-      let w : Work = workIn equations basis [] words in
-      let checks = ap instead (start-checks p q coefs most w) ∙ misfit-checks p q coefs most w in
-      rw (← e, t) (ap (λ n. (n, (equations, (basis, ([], words))))) (h ∙ ap checkCode checks) ∙ misfit-by (misfitChecks p q coefs most w))
+      let checks = ap instead (start-checks p q coefs most fresh) ∙ misfit-checks p q coefs most fresh in
+      rw (← e, t) (ap (λ n. (n, (equations, (basis, ([], words))))) (h ∙ ap checkCode checks)
+      ∙ misfit-by equations basis words (misfitChecks p q coefs most fresh))
 
   pub start-fitting : b ≡ true → calls.start p q coefs most (workIn equations basis [] words) ≡ startWords p q coefs most equations basis words
   unfolding startWords
   start-fitting t = rw (← e, t)
+
+  module _ (n : ℕ) (rows : List ℕ) where
+    pub list-misfit : b ≡ false → {a : ℕ} → a ≡ checkCode (instead (startFromChecksBy p q coefs n rows most (length equations)))
+        → (a, (equations, (basis, ([], words)))) ≡ told words (startFromWords p q coefs n rows most equations basis words)
+    unfolding startFromWords
+    list-misfit t h =
+        let checks = ap instead (start-from-checks p q coefs n rows most fresh) ∙ misfit-list-checks p q coefs n rows most fresh in
+        rw (← e, t) (ap (λ a. (a, (equations, (basis, ([], words))))) (h ∙ ap checkCode checks)
+        ∙ misfit-by equations basis words (misfitListChecks p q coefs n most fresh))
+
+    pub list-fitting : b ≡ true
+        → calls.startFrom p q coefs n rows most (workIn equations basis [] words) ≡ startFromWords p q coefs n rows most equations basis words
+    unfolding startFromWords
+    list-fitting t = rw (← e, t)
 
 -- a start looks at no table of the stage
 abbrev withoutTable : Result → Result
@@ -217,13 +257,20 @@ module _ (p q : ℕ) (coefs : List ℤ) (most : ℕ) (equations : List ℤ) (bas
   abbrev lentTable : Work
   lentTable = workOf equations basis table r
 
-  without : (c : Check)
-      → withoutTable (calls.checked c lentTable (λ v. result started (begun p q coefs v))) ≡ calls.checked c lentNone (λ v. result started (begun p q coefs v))
-  unfolding calls.checked begun
-  without (refuse n values) = refl
-  without go = refl
+  without : (begins : Work → Work) → withoutTable (result started (begins lentTable)) ≡ result started (begins lentNone) → (c : Check)
+      → withoutTable (calls.checked c lentTable (λ v. result started (begins v))) ≡ calls.checked c lentNone (λ v. result started (begins v))
+  unfolding calls.checked
+  without begins h (refuse n values) = refl
+  without begins h go = h
 
   pub start-without : (o : Outcome) {equations′ : List ℤ} {basis′ : List ℕ} → outcomeOf o equations′ basis′ table ≡ calls.start p q coefs most lentTable
       → outcomeOf o equations′ basis′ [] ≡ calls.start p q coefs most lentNone
   unfolding calls.start calls.startChecks
-  start-without o e = ap withoutTable e ∙ without (calls.startChecks p q coefs most lentTable)
+  start-without o e = ap withoutTable e ∙ without (begun p q coefs) (unfold begun in refl) (calls.startChecks p q coefs most lentTable)
+
+  pub list-without : (n : ℕ) (rows : List ℕ) (o : Outcome) {equations′ : List ℤ} {basis′ : List ℕ}
+      → outcomeOf o equations′ basis′ table ≡ calls.startFrom p q coefs n rows most lentTable
+      → outcomeOf o equations′ basis′ [] ≡ calls.startFrom p q coefs n rows most lentNone
+  unfolding calls.startFrom calls.startFromChecks
+  list-without n rows o e =
+      ap withoutTable e ∙ without (begunFrom p q coefs n rows) (unfold begunFrom in refl) (calls.startFromChecks p q coefs n rows most lentTable)

@@ -6,7 +6,7 @@ use mathlib.Core.List.{List, []}
 use lib.Dec.{eqb, ltb}
 use lib.IntN.{ℤ}
 use lib.ListN.{length, getD, set}
-use Rattle.definitions.specs.Answers.{Check, _then_, refuse, started}
+use Rattle.definitions.specs.Answers.{Check, _then_, refuse, refuseIf, started}
 use Rattle.definitions.specs.Refusals.{stepLimit}
 use Rattle.c_record.specs.Codes.{code}
 use Rattle.engine_spec.specs.Calls as calls
@@ -73,13 +73,25 @@ roomOf q table values words degrees marks mothers =
 abbrev pub misfitChecks : (p q : ℕ) (coefs : List ℤ) (most : ℕ) → Work → Check
 misfitChecks p q coefs most w = calls.check1 p then calls.check2 q then calls.check3 p q coefs then calls.check4 p q most w then refuse 6 []
 
-unfoldable pub misfit : (p q : ℕ) (coefs : List ℤ) (most : ℕ) → Work → Result
-misfit p q coefs most w = calls.checked (misfitChecks p q coefs most w) w (result started)
+-- a start from a list checks also that there is room for the n rows
+abbrev pub misfitListChecks : (p q : ℕ) (coefs : List ℤ) (n most : ℕ) → Work → Check
+misfitListChecks p q coefs n most w =
+    calls.check1 p then calls.check2 q then calls.check3 p q coefs then calls.check4 p q most w then refuseIf (ltb most n) 4 then refuse 6 []
+
+-- what a start leaves that is refused after such checks
+unfoldable pub misfit : Check → Work → Result
+misfit checks w = calls.checked checks w (result started)
 
 -- a start is lent no table of the stage
 unfoldable pub startWords : (p q : ℕ) (coefs : List ℤ) (most : ℕ) (equations : List ℤ) (basis words : List ℕ) → Result
 startWords p q coefs most equations basis words =
-    cond (isRecord words) (calls.start p q coefs most (workIn equations basis [] words)) (misfit p q coefs most (workIn equations basis [] words))
+    let w : Work = workIn equations basis [] words in
+    cond (isRecord words) (calls.start p q coefs most w) (misfit (misfitChecks p q coefs most w) w)
+
+unfoldable pub startFromWords : (p q : ℕ) (coefs : List ℤ) (n : ℕ) (rows : List ℕ) (most : ℕ) (equations : List ℤ) (basis words : List ℕ) → Result
+startFromWords p q coefs n rows most equations basis words =
+    let w : Work = workIn equations basis [] words in
+    cond (isRecord words) (calls.startFrom p q coefs n rows most w) (misfit (misfitListChecks p q coefs n most w) w)
 
 unfoldable pub combineWords : (p q most room r s : ℕ) (u t : ℤ) (equations : List ℤ) (basis table words : List ℕ) → Result
 combineWords p q most room r s u t equations basis table words = calls.combine p q most room r s u t (workIn equations basis table words)

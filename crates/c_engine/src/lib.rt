@@ -1,16 +1,17 @@
 // The engine's calls on a record of words, each answer as one number: specs/Words.antt.
 ghost use mathlib.Core.Path.{_≡_};
 ghost use mathlib.Core.List.{[]};
-ghost use Prim.Native.Nat.{_^_, _<_};
+ghost use Prim.Native.Nat.{_^_, _<_, _≤_};
+ghost use Rattle.engine_spec.specs.Calls.{rowLimit};
 ghost use Rattle.engine_resume.specs.Continuing.{ResumeLeft};
 ghost use Rattle.engine_calls.specs.Records.{answerOf, besideOf, numberOf, valuesOf};
 ghost use Rattle.engine_calls.specs.declared.Outcome.{Outcome as Left};
-ghost use Rattle.engine_checks.specs.Standing.{startChecksBy};
+ghost use Rattle.engine_checks.specs.Standing.{startChecksBy, startFromChecksBy};
 ghost use Rattle.engine_stage.specs.Standing.{sidesOf};
 ghost use Rattle.c_record.specs.Codes.{code};
 ghost use Rattle.definitions.specs.Answers.{refuse};
 ghost use Rattle.c_engine.specs.WordLaws.{checkCode, instead};
-ghost use Rattle.c_engine.specs.Words.{combineWords, mostOf, recordIn, resumeWords, roomOf, startWords, takeWords, told, wordsLeft};
+ghost use Rattle.c_engine.specs.Words.{combineWords, mostOf, recordIn, resumeWords, roomOf, startFromWords, startWords, takeWords, told, wordsLeft};
 use engine_calls::Beside;
 use engine_calls::Check;
 use engine_calls::Outcome;
@@ -44,6 +45,33 @@ pub fn start(
     }
     let most = capacity::basis_room(q, basis.len(), sizes.len());
     misfit(p, q, coefs, equations.len(), most)
+}
+
+// The start from a list: further equations, and the n rows handed over.
+pub fn start_from(
+    p: usize,
+    q: usize,
+    coefs: &[i32],
+    n: usize,
+    rows: &[u32],
+    equations: &mut [i32],
+    basis: &mut [u32],
+    sizes: &[u32],
+    run: &mut [u64],
+) -> u64
+    ensures { λ a. ⌜ (a, (now (equations .exit), (now (basis .exit), ([], now (run .exit))))) ≡
+        told (now (run .entry))
+        (startFromWords p q (now (coefs .entry)) n (now (rows .entry)) (mostOf q (now (basis .entry)) (now (sizes .entry))) (now (equations .entry))
+        (now (basis .entry)) (now (run .entry))) ⌝ }
+{
+    if records::fits(run) {
+        let r = records::read(run);
+        let beside = lengths(sizes.len(), 0, 0, 0, 0, 0);
+        let o = engine::start_from(p, q, coefs, n, rows, equations, basis, sizes, beside, r);
+        return tell(o, run);
+    }
+    let most = capacity::basis_room(q, basis.len(), sizes.len());
+    misfit_list(p, q, coefs, n, rows, equations.len(), most)
 }
 
 // A row operation: u times equation r and t times equation s in the place of equation r.
@@ -191,6 +219,25 @@ fn misfit(p: usize, q: usize, coefs: &[i32], equations: usize, most: usize) -> u
     ensures { λ a. ⌜ a ≡ checkCode (instead (startChecksBy p q (now (coefs .entry)) most equations)) ⌝ }
 {
     match standing::check_start(p, q, coefs, equations, most) {
+        Check::Refuse(why) => first(why),
+        Check::Pass => 6,
+    }
+}
+
+// The same of a start from a list.
+fn misfit_list(
+    p: usize,
+    q: usize,
+    coefs: &[i32],
+    n: usize,
+    rows: &[u32],
+    equations: usize,
+    most: usize,
+) -> u64
+    requires { ⌜ most ≤ rowLimit ⌝ }
+    ensures { λ a. ⌜ a ≡ checkCode (instead (startFromChecksBy p q (now (coefs .entry)) n (now (rows .entry)) most equations)) ⌝ }
+{
+    match standing::check_start_from(p, q, coefs, n, rows, equations, most) {
         Check::Refuse(why) => first(why),
         Check::Pass => 6,
     }

@@ -1,7 +1,7 @@
 // The engine's calls (crate c_engine).
 ghost use mathlib.Core.Path.{_≡_};
 ghost use mathlib.Core.List.{[]};
-ghost use Rattle.c_engine.specs.Words.{combineWords, mostOf, recordIn, resumeWords, roomOf, startWords, takeWords, told};
+ghost use Rattle.c_engine.specs.Words.{combineWords, mostOf, recordIn, resumeWords, roomOf, startFromWords, startWords, takeWords, told};
 ghost use Rattle.engine_resume.specs.Continuing.{ResumeLeft};
 ghost use Rattle.engine_calls.specs.declared.Outcome.{Outcome as Left};
 ghost use Rattle.engine_stage.specs.Standing.{sidesOf};
@@ -23,6 +23,27 @@ pub extern "C" fn dezgula_raw_engine_start(
         (now (run .entry))) ⌝ }
 {
     c_engine::start(p, q, coefs, equations, basis, sizes, run)
+}
+
+// The start from a list: further equations, and the n rows handed over.
+#[no_mangle]
+pub extern "C" fn dezgula_raw_engine_start_from(
+    p: usize,
+    q: usize,
+    coefs: &[i32],
+    n: usize,
+    rows: &[u32],
+    equations: &mut [i32],
+    basis: &mut [u32],
+    sizes: &[u32],
+    run: &mut [u64],
+) -> u64
+    ensures { λ a. ⌜ (a, (now (equations .exit), (now (basis .exit), ([], now (run .exit))))) ≡
+        told (now (run .entry))
+        (startFromWords p q (now (coefs .entry)) n (now (rows .entry)) (mostOf q (now (basis .entry)) (now (sizes .entry))) (now (equations .entry))
+        (now (basis .entry)) (now (run .entry))) ⌝ }
+{
+    c_engine::start_from(p, q, coefs, n, rows, equations, basis, sizes, run)
 }
 
 // A row operation: u times equation r and t times equation s in the place of equation r.

@@ -28,6 +28,28 @@ pub fn start(
     o.answer
 }
 
+// The start from a list: further equations, and the n rows handed over.
+pub fn start_from(
+    p: usize,
+    q: usize,
+    coefs: &[i32],
+    n: usize,
+    rows: &[u32],
+    equations: &mut [i32],
+    basis: &mut [u32],
+    table: &[u32],
+    l: Beside,
+    own: &mut Record,
+) -> Answer
+    ensures { λ a. ⌜ outcomeOf (leaves a (now (own .exit))) (now (equations .exit)) (now (basis .exit)) (now (table .entry))
+        ≡ spec.startFrom p q (now (coefs .entry)) n (now (rows .entry)) (spec.basisRoom q (lengthsOf (now (basis .entry)) (now (table .entry)) l))
+        (workOf (now (equations .entry)) (now (basis .entry)) (now (table .entry)) (now (own .entry))) ⌝ }
+{
+    let o = engine::start_from(p, q, coefs, n, rows, equations, basis, table, l, *own);
+    *own = o.run;
+    o.answer
+}
+
 // A row operation: u times equation r and t times equation s in the place of equation r.
 pub fn combine(
     p: usize,
