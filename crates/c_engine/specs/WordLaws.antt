@@ -18,7 +18,7 @@ use Rattle.c_record.specs.CodeLaws.{Fits}
 use Rattle.c_record.specs.Codes.{code, refusalCode}
 use Rattle.c_record.specs.WordLaws.{set-own}
 use Rattle.engine_spec.specs.Calls as calls
-use Rattle.engine_spec.specs.Engine.{Result, Work, begun, result}
+use Rattle.engine_spec.specs.Engine.{Result, Work, begun, begunUnder, result}
 use Rattle.engine_calls.specs.Records.{answerOf, checkOf, numberOf, outcomeOf, placeOf, valuesOf, workOf}
 use Rattle.engine_calls.specs.declared.Check as made
 use Rattle.engine_calls.specs.declared.Check.the-variants.{Pass, Refuse}
@@ -219,11 +219,11 @@ module _ (p q : ℕ) (coefs : List ℤ) (most : ℕ) (equations : List ℤ) (bas
 
   without : (c : Check)
       → withoutTable (calls.checked c lentTable (λ v. result started (begun p q coefs v))) ≡ calls.checked c lentNone (λ v. result started (begun p q coefs v))
-  unfolding calls.checked begun
+  unfolding calls.checked begunUnder
   without (refuse n values) = refl
   without go = refl
 
   pub start-without : (o : Outcome) {equations′ : List ℤ} {basis′ : List ℕ} → outcomeOf o equations′ basis′ table ≡ calls.start p q coefs most lentTable
       → outcomeOf o equations′ basis′ [] ≡ calls.start p q coefs most lentNone
-  unfolding calls.start calls.startChecks
+  unfolding calls.startUnder calls.startChecks
   start-without o e = ap withoutTable e ∙ without (calls.startChecks p q coefs most lentTable)
