@@ -145,7 +145,7 @@ module _ (p q most : ℕ) where
 
 module _ (p q : ℕ) where
   pub start-fits : (coefs : List ℤ) (most : ℕ) (w : Work) → Fits (calls.start p q coefs most w .answer)
-  unfolding calls.start
+  unfolding calls.startUnder
   start-fits coefs most w = fits-checked (calls.startChecks p q coefs most w) w _ (small-start p q coefs most w) (omega arith)
 
   pub start-from-fits : (coefs : List ℤ) (n : ℕ) (rows : List ℕ) (most : ℕ) (w : Work) → Fits (calls.startFrom p q coefs n rows most w .answer)

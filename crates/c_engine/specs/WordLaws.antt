@@ -18,7 +18,7 @@ use Rattle.c_record.specs.CodeLaws.{Fits}
 use Rattle.c_record.specs.Codes.{code, refusalCode}
 use Rattle.c_record.specs.WordLaws.{set-own}
 use Rattle.engine_spec.specs.Calls as calls
-use Rattle.engine_spec.specs.Engine.{Result, Work, begun, begunFrom, result}
+use Rattle.engine_spec.specs.Engine.{Result, Work, begun, begunFrom, begunUnder, result}
 use Rattle.engine_calls.specs.Records.{answerOf, checkOf, numberOf, outcomeOf, placeOf, valuesOf, workOf}
 use Rattle.engine_calls.specs.declared.Check as made
 use Rattle.engine_calls.specs.declared.Check.the-variants.{Pass, Refuse}
@@ -265,8 +265,8 @@ module _ (p q : ℕ) (coefs : List ℤ) (most : ℕ) (equations : List ℤ) (bas
 
   pub start-without : (o : Outcome) {equations′ : List ℤ} {basis′ : List ℕ} → outcomeOf o equations′ basis′ table ≡ calls.start p q coefs most lentTable
       → outcomeOf o equations′ basis′ [] ≡ calls.start p q coefs most lentNone
-  unfolding calls.start calls.startChecks
-  start-without o e = ap withoutTable e ∙ without (begun p q coefs) (unfold begun in refl) (calls.startChecks p q coefs most lentTable)
+  unfolding calls.startUnder calls.startChecks
+  start-without o e = ap withoutTable e ∙ without (begun p q coefs) (unfold begunUnder in refl) (calls.startChecks p q coefs most lentTable)
 
   pub list-without : (n : ℕ) (rows : List ℕ) (o : Outcome) {equations′ : List ℤ} {basis′ : List ℕ}
       → outcomeOf o equations′ basis′ table ≡ calls.startFrom p q coefs n rows most lentTable

@@ -60,7 +60,7 @@ module _ (p q : ℕ) (coefs equations : List ℤ) (basis table : List ℕ) (l : 
     (m : most ≡ spec.basisRoom q (lengthsOf basis table l)) (e : checkOf made ≡ startChecksBy p q coefs most (length equations)) where
   pub start-refused : {why : Refusal} → made ≡ Refuse why
       → outcomeOf (refusedWith why r) equations basis table ≡ spec.start p q coefs (spec.basisRoom q (lengthsOf basis table l)) (workOf equations basis table r)
-  unfolding spec.start
+  unfolding spec.startUnder
   start-refused g = call-refused (rw m at (e ∙ start-checks p q coefs most (workOf equations basis table r))) equations basis table r _ g
 
   pub start-enters : made ≡ Pass → Fitting p q (length coefs) (length equations) (length basis)
@@ -75,7 +75,7 @@ module _ (p q : ℕ) (coefs equations : List ℤ) (basis table : List ℕ) (l : 
 
   pub start-passed : made ≡ Pass → {o : Outcome} {equations′ : List ℤ} {basis′ : List ℕ} → Begun p q coefs equations basis o equations′ basis′
       → outcomeOf o equations′ basis′ table ≡ spec.start p q coefs (spec.basisRoom q (lengthsOf basis table l)) (workOf equations basis table r)
-  unfolding spec.start
+  unfolding spec.startUnder
   start-passed g b = call-passed (rw m at (e ∙ start-checks p q coefs most (workOf equations basis table r))) equations basis table r _ g (begun-is table r b)
 
 -- ---- the start from a list
@@ -85,7 +85,7 @@ module _ (p q : ℕ) (coefs : List ℤ) (n : ℕ) (rows : List ℕ) (equations :
   pub start-from-refused : {why : Refusal} → made ≡ Refuse why
       → outcomeOf (refusedWith why r) equations basis table
       ≡ spec.startFrom p q coefs n rows (spec.basisRoom q (lengthsOf basis table l)) (workOf equations basis table r)
-  unfolding spec.startFrom
+  unfolding spec.startFromUnder
   start-from-refused g =
       call-refused (rw m at (e ∙ start-from-checks p q coefs n rows most (workOf equations basis table r))) equations basis table r _ g
 
@@ -106,7 +106,7 @@ module _ (p q : ℕ) (coefs : List ℤ) (n : ℕ) (rows : List ℕ) (equations :
       → BegunFrom p q coefs n rows equations basis o equations′ basis′
       → outcomeOf o equations′ basis′ table
       ≡ spec.startFrom p q coefs n rows (spec.basisRoom q (lengthsOf basis table l)) (workOf equations basis table r)
-  unfolding spec.startFrom
+  unfolding spec.startFromUnder
   start-from-passed g b =
       call-passed (rw m at (e ∙ start-from-checks p q coefs n rows most (workOf equations basis table r))) equations basis table r _ g
       (begun-from-is table r b)

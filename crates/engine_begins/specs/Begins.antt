@@ -15,7 +15,7 @@ use Rattle.definitions.specs.Answers.{started}
 use Rattle.definitions.specs.Tables.{at, writeTo}
 use Rattle.laws.specs.Pack.{packTo}
 use Rattle.laws.specs.Sweep.{sweptTo}
-use Rattle.engine_spec.specs.Engine.{begun, begunFrom, combined, fillTo, result, taken, takenFresh}
+use Rattle.engine_spec.specs.Engine.{begun, begunFrom, begunFromUnder, begunUnder, combined, fillTo, result, taken, takenFresh}
 use Rattle.engine_rows.specs.Keeping.{lacks}
 use Rattle.engine_rows.specs.Packing.{always}
 use Rattle.engine_calls.specs.Records.{leaves, outcomeOf, recordOf, workOf}
@@ -39,7 +39,7 @@ pub record Begun (p q : ℕ) (coefs equations : List ℤ) (basis : List ℕ) (o 
 pub begun-is : {p q : ℕ} {coefs equations : List ℤ} {basis : List ℕ} {o : Outcome} {equations′ : List ℤ} {basis′ : List ℕ} (table : List ℕ) (r : Record)
     → Begun p q coefs equations basis o equations′ basis′
     → outcomeOf o equations′ basis′ table ≡ result started (begun p q coefs (workOf equations basis table r))
-unfolding begun
+unfolding begunUnder
 begun-is table r b = rw (b .outcome-is, b .equations-is, b .basis-is)
 
 -- a map that fits the working system, a list of n rows, and a basis with room for them
@@ -60,7 +60,7 @@ pub record BegunFrom (p q : ℕ) (coefs : List ℤ) (n : ℕ) (rows : List ℕ) 
 pub begun-from-is : {p q : ℕ} {coefs : List ℤ} {n : ℕ} {rows : List ℕ} {equations : List ℤ} {basis : List ℕ} {o : Outcome} {equations′ : List ℤ}
     {basis′ : List ℕ} (table : List ℕ) (r : Record) → BegunFrom p q coefs n rows equations basis o equations′ basis′
     → outcomeOf o equations′ basis′ table ≡ result started (begunFrom p q coefs n rows (workOf equations basis table r))
-unfolding begunFrom
+unfolding begunFromUnder
 begun-from-is table r b = rw (b .outcome-is, b .equations-is, b .basis-is)
 
 pub record Operated (q r s : ℕ) (u t : ℤ) (equations : List ℤ) (run : Record) (o : Outcome) (equations′ : List ℤ) : Type 0 where

@@ -45,9 +45,10 @@ recordOf done equation fresh count rows taken degree upper lower steps =
       steps = record { 0 = steps };
     }
 
+-- a run of these calls has no cap
 abbrev pub stageOf : List ℕ → Record → Stage
 stageOf table r =
-    record { table = table; rows = r .rows; taken = r .taken; degree = r .degree; upper = r .upper; lower = r .lower; steps = r .steps .0 }
+    record { table = table; rows = r .rows; taken = r .taken; degree = r .degree; upper = r .upper; lower = r .lower; steps = r .steps .0; cap = 0 }
 
 abbrev pub workOf : List ℤ → List ℕ → List ℕ → Record → Work
 workOf equations basis table r =

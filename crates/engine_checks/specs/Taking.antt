@@ -40,10 +40,11 @@ pub alone-parts : (q f m : ℕ) (basis : List ℕ) → isAlone q f m (at basis q
 unfolding isAlone hasUnknown unitsOrLack unitOrLacks
 alone-parts q f m basis = refl
 
--- fresh by the equations, and of the basis only the unit tuple has it
-pub fresh-parts : (p q e f : ℕ) (w : Work) → isFresh p q e f w ≡ freshBy p q e f (w .equations) (w .done) && isAlone q f (w .count) (basisRow q w)
+-- where there is no cap: fresh by the equations, and of the basis only the unit tuple has it
+pub fresh-parts : (p q e f : ℕ) (w : Work) → w .stage .cap ≡ 0
+    → isFresh p q e f w ≡ freshBy p q e f (w .equations) (w .done) && isAlone q f (w .count) (basisRow q w)
 unfolding isFresh isFree freeIn
-fresh-parts p q e f w = regroup (ltb f q) (isMinusOne (systemOf q (w .equations) e f)) _ _
+fresh-parts p q e f w uncapped = rw uncapped (regroup (ltb f q) (isMinusOne (systemOf q (w .equations) e f)) _ _)
   where
     regroup : (a b c d : Bool) → a && (b && (c && d)) ≡ (a && (b && c)) && d
     regroup false b c d = refl
@@ -54,11 +55,12 @@ pub row-of : {q m : ℕ} {basis : List ℕ} → SmallTable q m basis → (i : �
 row-of {q} {m} s i l = record { whole = omega (arith, s .whole, row-fits q i m l); small = λ j jq. s .small i j l jq }
 
 module _ (p q e f : ℕ) (w : Work) where
-  pub fresh-fails : freshBy p q e f (w .equations) (w .done) ≡ false → isFresh p q e f w ≡ false
-  fresh-fails h = rw (fresh-parts p q e f w, h)
+  pub fresh-fails : w .stage .cap ≡ 0 → freshBy p q e f (w .equations) (w .done) ≡ false → isFresh p q e f w ≡ false
+  fresh-fails uncapped h = rw (fresh-parts p q e f w uncapped, h)
 
-  pub fresh-alone : freshBy p q e f (w .equations) (w .done) ≡ true → {b : Bool} → isAlone q f (w .count) (basisRow q w) ≡ b → isFresh p q e f w ≡ b
-  fresh-alone h g = rw (fresh-parts p q e f w, h) g
+  pub fresh-alone : w .stage .cap ≡ 0 → freshBy p q e f (w .equations) (w .done) ≡ true → {b : Bool} → isAlone q f (w .count) (basisRow q w) ≡ b
+      → isFresh p q e f w ≡ b
+  fresh-alone uncapped h g = rw (fresh-parts p q e f w uncapped, h) g
 
   pub fresh-low : freshBy p q e f (w .equations) (w .done) ≡ true → f < q
   fresh-low h =

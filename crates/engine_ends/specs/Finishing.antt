@@ -89,7 +89,7 @@ module _ (p q most : ℕ) (w : Work) where
 
   -- what is written as the stage ends
   abbrev pub restingWith : (basis : List ℕ) (count : ℕ) → Work
-  restingWith basis count = resting p q (w .equations) basis count (w .done + 2 ^ w .equation) (w .stage .table) (w .stage .steps + 1)
+  restingWith basis count = resting p q (w .equations) basis count (w .done + 2 ^ w .equation) (w .stage .cap) (w .stage .table) (w .stage .steps + 1)
 
   pub written : Fillable → {basis : List ℕ} {count : ℕ} → basis ≡ packTo (w .stage .rows) q (w .basis) 0 (stays q w) (left q w)
       → count ≡ countTo (w .stage .rows) (stays q w) → ltb most count ≡ false → rested p (restingWith basis count) ≡ finish p q most w

@@ -1,4 +1,5 @@
--- What a run starts from: the equations before its own, of which only the list of minimal solutions is handed over. A plain start has none. Assumes nothing.
+-- What a run starts from: the equations before its own, of which only the list of minimal solutions is handed over, and the cap that its rows stay inside. A
+-- plain start has none of both. Assumes nothing.
 use mathlib.Core.Path.{_≡_, refl, sym, _∙_}
 use mathlib.Core.Logic.{inl, inr}
 use mathlib.Core.Bool.{Bool, true, false, cond, _||_}
@@ -16,19 +17,24 @@ use Rattle.linear.specs.Tests.{anyTo}
 use Rattle.linear.specs.TupleLaws.{least, minimal-from, total-less, total-same, total-unit, unit-other, unit-same}
 use Rattle.linear.specs.Tuples.{AtOrBelow, Same, total, unit}
 use Rattle.definitions.specs.Tables.{frozen}
-use Rattle.linear.specs.Loops.{Loop}
 use Rattle.engine_spec.specs.Calls.{isAlone}
 use Rattle.engine_spec.specs.Done.{among, done-solved, solved-done}
-use Rattle.engine_spec.specs.Equations.{Extends, Wanted}
+use Rattle.engine_spec.specs.Caps.{inside-unit}
+use Rattle.engine_spec.specs.Equations.{Extends, LoopInside, Wanted, wanted-from, wanted-some}
 use Rattle.engine_spec.specs.Operations.{Alike}
 
--- the number of equations before, and their system
+-- the number of equations before, and their system; the cap, 0 where there is none
 pub record Base : Type 0 where
   pub p : ℕ
   pub a : ℕ → ℕ → ℤ
+  pub cap : ℕ
+
+-- no equations before, with a cap and without
+abbrev pub under : ℕ → Base
+under cap = record { p = 0; a = λ i j. pos 0; cap = cap }
 
 abbrev pub nothing : Base
-nothing = record { p = 0; a = λ i j. pos 0 }
+nothing = under 0
 
 -- the equations before, and those of a behind them
 unfoldable pub onTop : Base → (ℕ → ℕ → ℤ) → ℕ → ℕ → ℤ
@@ -100,15 +106,15 @@ before-free b p a f all i l = by (ltb i (b .p)) (lt→ltb i (b .p) l) (all i (om
 
 -- ---- an unknown that only its unit tuple has
 
-module _ (p q : ℕ) (a : ℕ → ℕ → ℤ) (f : ℕ) (fq : f < q) (n : ℕ) (row : ℕ → ℕ → ℕ) (rows : Enumerates q (Loop p q a) n row) where
-  under : (s : ℕ → ℕ) → 0 < s f → AtOrBelow q (unit f) s
-  under s more j jq = elim (ℕ-discrete j f) [ yes e ↦ rw e (omega (arith, unit-same f)) | no ne ↦ omega (arith, unit-other f j ne) ]
+module _ (cap p q : ℕ) (a : ℕ → ℕ → ℤ) (f : ℕ) (fq : f < q) (n : ℕ) (row : ℕ → ℕ → ℕ) (rows : Enumerates q (LoopInside cap p q a) n row) where
+  unit-under : (s : ℕ → ℕ) → 0 < s f → AtOrBelow q (unit f) s
+  unit-under s more j jq = elim (ℕ-discrete j f) [ yes e ↦ rw e (omega (arith, unit-same f)) | no ne ↦ omega (arith, unit-other f j ne) ]
 
   one-place : (x : ℕ → ℕ) → 0 < x f → total x q ≡ 1 → Same q x (unit f)
   one-place x some one j jq =
       elim (ℕ-discrete (unit f j) (x j)) [
         | yes e ↦ sym e
-        | no ne ↦ absurd (omega (arith, total-less q (under x some) j jq ne, total-unit f q fq))
+        | no ne ↦ absurd (omega (arith, total-less q (unit-under x some) j jq ne, total-unit f q fq))
       ]
 
   -- its unit tuple is a solution, so that no equation has it
@@ -136,15 +142,17 @@ module _ (p q : ℕ) (a : ℕ → ℕ → ℤ) (f : ℕ) (fq : f < q) (n : ℕ) 
       (let (k, kn, e) = rows .all (unit f) minimal in any-from n (λ k. ltb 0 (row k f)) k kn (lt→ltb 0 (row k f) (omega (arith, e f fq, unit-same f))))
       (all-from n _ (λ k kn. each k kn (eqb (row k f) 0) (λ never. some k never)))
     where
-      wanted : Wanted p q a (unit f)
-      wanted = record { solution = λ i l. value-unit (a i) f q fq ∙ free i l; admitted = (f, fq, omega (arith, unit-same f)) }
+      wanted : Wanted cap p q a (unit f)
+      wanted =
+          wanted-from cap p q a (λ i l. value-unit (a i) f q fq ∙ free i l) (f, fq, omega (arith, unit-same f))
+          (inside-unit cap q f (unit f) fq (λ j jq. refl))
 
-      minimal : Loop p q a (unit f)
+      minimal : LoopInside cap p q a (unit f)
       minimal =
           minimal-from wanted (λ s w b j jq.
-          let (x, xq, h) = w .admitted in
+          let (x, xq, h) = wanted-some cap p q a w in
           let is : x ≡ f = elim (ℕ-discrete x f) [ yes e ↦ e | no ne ↦ absurd (omega (arith, b x xq, unit-other f x ne)) ] in
-          omega (arith, b j jq, under s (rw is at h) j jq))
+          omega (arith, b j jq, unit-under s (rw is at h) j jq))
 
       some : (k : ℕ) → ¬ (T (eqb (row k f) 0)) → 0 < row k f
       some k never = elim (ℕ-discrete (row k f) 0) [ yes e ↦ absurd (never (rw e tt)) | no ne ↦ omega arith ]
@@ -152,22 +160,23 @@ module _ (p q : ℕ) (a : ℕ → ℕ → ℤ) (f : ℕ) (fq : f < q) (n : ℕ) 
       each : (k : ℕ) → k < n → (c : Bool) → (¬ (T c) → 0 < row k f) → T (c || eqb (total (row k) q) 1)
       each k kn true more = tt
       each k kn false more =
-          let e = least (rows .only k kn) (unit f) wanted (under (row k) (more (λ h. h))) in
+          let e = least (rows .only k kn) (unit f) wanted (unit-under (row k) (more (λ h. h))) in
           let d : total (row k) q ≡ 1 = sym (total-same (unit f) (row k) q e) ∙ total-unit f q fq in
           rw d tt
 
 -- ---- no equations before, and all done
 
 -- systems with the same solutions, of however many equations, have the same minimal solutions
-module _ {p p′ q : ℕ} {a a′ : ℕ → ℕ → ℤ} (there : (t : ℕ → ℕ) → Solution p q a t → Solution p′ q a′ t)
+module _ (cap : ℕ) {p p′ q : ℕ} {a a′ : ℕ → ℕ → ℤ} (there : (t : ℕ → ℕ) → Solution p q a t → Solution p′ q a′ t)
     (back : (t : ℕ → ℕ) → Solution p′ q a′ t → Solution p q a t) where
-  wanted-there : (t : ℕ → ℕ) → Wanted p q a t → Wanted p′ q a′ t
+  wanted-there : (t : ℕ → ℕ) → Wanted cap p q a t → Wanted cap p′ q a′ t
   wanted-there t w = record { solution = there t (w .solution); admitted = w .admitted }
 
-  wanted-back : (t : ℕ → ℕ) → Wanted p′ q a′ t → Wanted p q a t
+  wanted-back : (t : ℕ → ℕ) → Wanted cap p′ q a′ t → Wanted cap p q a t
   wanted-back t w = record { solution = back t (w .solution); admitted = w .admitted }
 
-  pub enumerates-as : {n : ℕ} {row : ℕ → ℕ → ℕ} → Enumerates q (Loop p q a) n row → Enumerates q (Loop p′ q a′) n row
+  pub enumerates-as : {n : ℕ} {row : ℕ → ℕ → ℕ} → Enumerates q (LoopInside cap p q a) n row
+      → Enumerates q (LoopInside cap p′ q a′) n row
   enumerates-as {n} {row} e =
       record {
         only = λ i l. record {
@@ -179,10 +188,10 @@ module _ {p p′ q : ℕ} {a a′ : ℕ → ℕ → ℤ} (there : (t : ℕ → �
       }
 
 -- where there are none before, the minimal solutions are those of the equations behind
-pub alone-enumerates : (p q : ℕ) (a : ℕ → ℕ → ℤ) {n : ℕ} {row : ℕ → ℕ → ℕ} → Enumerates q (Loop (nothing .p + p) q (onTop nothing a)) n row
-    → Enumerates q (Loop p q a) n row
-alone-enumerates p q a =
-    enumerates-as (λ t s. behind-solved nothing p q a t s) (λ t s. both-solved nothing p q a t (λ i l. absurd (omega arith)) s)
+pub alone-enumerates : (cap p q : ℕ) (a : ℕ → ℕ → ℤ) {n : ℕ} {row : ℕ → ℕ → ℕ}
+    → Enumerates q (LoopInside cap (under cap .p + p) q (onTop (under cap) a)) n row → Enumerates q (LoopInside cap p q a) n row
+alone-enumerates cap p q a =
+    enumerates-as cap (λ t s. behind-solved (under cap) p q a t s) (λ t s. both-solved (under cap) p q a t (λ i l. absurd (omega arith)) s)
 
 -- where all are done, the equations done ask what all ask
 pub done-whole : (p q : ℕ) (a : ℕ → ℕ → ℤ) (done : ℕ) → ((i : ℕ) → i < p → T (frozen done i)) → Alike p q (among done a) a

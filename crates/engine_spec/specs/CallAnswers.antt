@@ -38,6 +38,7 @@ use Rattle.laws.specs.MachineLaws.{call-refused, call-walks, walk-done, walk-mo
 use Rattle.theorems.specs.CallAnswers.{CallAnswers, Ruled, call-answers, call-paced}
 use Rattle.engine_spec.specs.Calls as calls
 use Rattle.engine_spec.specs.Calls.{resume, resumeChecks}
+use Rattle.engine_spec.specs.Caps.{Over, isOver, over-from, over-to}
 use Rattle.engine_spec.specs.Counts.{Timed, turn-timed}
 use Rattle.engine_spec.specs.Engine.{
   Result,
@@ -69,6 +70,7 @@ use Rattle.engine_spec.specs.Stage.{
   dueRow,
   ends,
   goes,
+  isNeedless,
   nextDegree,
   pairTurn,
   paired,
@@ -92,9 +94,10 @@ nextSum q w = sumOf q (w .stage) (above q (equationOf q w) (w .stage)) (below q 
 abbrev pub LooksAtPair : ℕ → Work → Type 0
 LooksAtPair q w = (¬ (TakesRow q w)) × (above q (equationOf q w) (w .stage) < w .stage .rows)
 
--- and needs the sum, which no row reduces;
+-- and needs the sum, which does not pass the cap and which no row reduces;
 abbrev pub NeedsSum : ℕ → Work → Type 0
-NeedsSum q w = LooksAtPair q w × (¬ (Reduced q (equationOf q w) (w .stage .rows) (row q (w .stage)) (nextSum q w)))
+NeedsSum q w =
+    LooksAtPair q w × (¬ (Over (w .stage .cap) (nextSum q w) ⊎ Reduced q (equationOf q w) (w .stage .rows) (row q (w .stage)) (nextSum q w)))
 
 -- or it finds that no degree is left, and ends the stage.
 abbrev pub EndsStage : ℕ → Work → Type 0
@@ -282,28 +285,31 @@ tells-values q w =
           (λ h. n (leZ-yes {a = value (equationOf q w) q (row q (w .stage) i)} {b = pos mostComponent} (all-at (w .stage .rows) f h i l))),
     )
 
+tells-over : (cap : ℕ) (z : ℕ → ℕ) → Tells (isOver cap z) (Over cap z)
+tells-over cap z = (over-from cap z, over-to cap z)
+
 tells-reduced : (q : ℕ) (c : ℕ → ℤ) (n : ℕ) (row : ℕ → ℕ → ℕ) (z : ℕ → ℕ) → Tells (reducible q c n row z (value c q z)) (Reduced q c n row z)
 tells-reduced q c n row z = (reducible-from q c n row z, reducible-to q c n row z)
 
--- the tests in the order of the turn: the limit, a row of the basis, a pair, its sum reduced, small, room for a row; no degree left, values large, no room in
+-- the tests in the order of the turn: the limit, a row of the basis, a pair, its sum needless, small, room for a row; no degree left, values large, no room in
 -- the basis
-search-is : (b r h reduced small fits last large full : Bool) (taken skip more next : Stage)
-    → refusalOf (cond b (stops 14) (cond r (cond fits (goes taken) (stops 31)) (cond h (paired reduced small fits skip more) (cond last ends (goes next)))))
+search-is : (b r h needless small fits last large full : Bool) (taken skip more next : Stage)
+    → refusalOf (cond b (stops 14) (cond r (cond fits (goes taken) (stops 31)) (cond h (paired needless small fits skip more) (cond last ends (goes next)))))
     (refuseIf large 12 then refuseIf full 31)
     ≡ (refuseIf b 14
-    then refuseIf ((((not r && h) && not reduced) && not small) || ((not r && (not h && last)) && large)) 12
-    then refuseIf (((r || ((not r && h) && not reduced)) && not fits) || ((not r && (not h && last)) && full)) 31)
+    then refuseIf ((((not r && h) && not needless) && not small) || ((not r && (not h && last)) && large)) 12
+    then refuseIf (((r || ((not r && h) && not needless)) && not fits) || ((not r && (not h && last)) && full)) 31)
 unfolding refuseWith _then_ paired
-search-is true r h reduced small fits last large full taken skip more next = refl
-search-is false true h reduced small true last large full taken skip more next = refl
-search-is false true h reduced small false last large full taken skip more next = refl
+search-is true r h needless small fits last large full taken skip more next = refl
+search-is false true h needless small true last large full taken skip more next = refl
+search-is false true h needless small false last large full taken skip more next = refl
 search-is false false true true small fits last large full taken skip more next = refl
 search-is false false true false false fits last large full taken skip more next = refl
 search-is false false true false true false last large full taken skip more next = refl
 search-is false false true false true true last large full taken skip more next = refl
-search-is false false false reduced small fits true true full taken skip more next = refl
-search-is false false false reduced small fits true false full taken skip more next = refl
-search-is false false false reduced small fits false large full taken skip more next = refl
+search-is false false false needless small fits true true full taken skip more next = refl
+search-is false false false needless small fits true false full taken skip more next = refl
+search-is false false false needless small fits false large full taken skip more next = refl
 
 module _ (q most room : ℕ) (w : Work) where
   abbrev s : Stage
@@ -318,14 +324,14 @@ module _ (q most room : ℕ) (w : Work) where
   abbrev isPair : Bool
   isPair = ltb (above q c s) (s .rows)
 
-  abbrev isReduced : Bool
-  isReduced = reducible q c (s .rows) (row q s) (nextSum q w) (value c q (nextSum q w))
+  abbrev isPassed : Bool
+  isPassed = isNeedless q c s (nextSum q w)
 
   abbrev isLast : Bool
   isLast = eqb (nextDegree q c (w .count) (basisRow q w) s) 0
 
   abbrev isNeeded : Bool
-  isNeeded = (not isRow && isPair) && not isReduced
+  isNeeded = (not isRow && isPair) && not isPassed
 
   abbrev isEnd : Bool
   isEnd = not isRow && (not isPair && isLast)
@@ -338,8 +344,9 @@ module _ (q most room : ℕ) (w : Work) where
 
   tells-needed : Tells isNeeded (NeedsSum q w)
   tells-needed =
-      tells-and (not isRow && isPair) (not isReduced) (tells-and (not isRow) isPair (tells-not isRow tells-row) tells-pair)
-      (tells-not isReduced (tells-reduced q c (s .rows) (row q s) (nextSum q w)))
+      tells-and (not isRow && isPair) (not isPassed) (tells-and (not isRow) isPair (tells-not isRow tells-row) tells-pair)
+      (tells-not isPassed
+      (tells-or (isOver (s .cap) (nextSum q w)) _ (tells-over (s .cap) (nextSum q w)) (tells-reduced q c (s .rows) (row q s) (nextSum q w))))
 
   tells-end : Tells isEnd (EndsStage q w)
   tells-end =
@@ -357,7 +364,7 @@ module _ (q most room : ℕ) (w : Work) where
       let fits = ltb (s .rows) room in
       let large = ltb (w .fresh) q && not (valuesSmall q w) in
       let full = ltb most (countTo (s .rows) (stays q w)) in
-      subst (λ x. Renders x (turnRules q most room w)) (sym (search-is b isRow isPair isReduced small fits isLast large full _ _ _ _))
+      subst (λ x. Renders x (turnRules q most room w)) (sym (search-is b isRow isPair isPassed small fits isLast large full _ _ _ _))
       (renders-then (decides b 14 (tells-equal (s .steps) stepLimit))
       (renders-then
       (decides _ 12
@@ -540,32 +547,32 @@ module _ (p q most room : ℕ) where
 -- ---- more room
 
 -- a turn that goes on is the same one with more room, and goes on
-abbrev tested : (b r h reduced small fits last : Bool) (taken skip more next : Stage) → Turned
-tested b r h reduced small fits last taken skip more next =
-    cond b (stops 14) (cond r (cond fits (goes taken) (stops 31)) (cond h (paired reduced small fits skip more) (cond last ends (goes next))))
+abbrev tested : (b r h needless small fits last : Bool) (taken skip more next : Stage) → Turned
+tested b r h needless small fits last taken skip more next =
+    cond b (stops 14) (cond r (cond fits (goes taken) (stops 31)) (cond h (paired needless small fits skip more) (cond last ends (goes next))))
 
 abbrev Same : (t u : Turned) (c : Check) → Type 0
 Same t u c = (u ≡ t) × (refusalOf u c ≡ go)
 
-tested-more : (b r h reduced small fits fits′ last large full full′ : Bool) (taken skip more next : Stage) → (T fits → T fits′) → (T full′ → T full)
-    → refusalOf (tested b r h reduced small fits last taken skip more next) (refuseIf large 12 then refuseIf full 31) ≡ go
-    → Same (tested b r h reduced small fits last taken skip more next) (tested b r h reduced small fits′ last taken skip more next)
+tested-more : (b r h needless small fits fits′ last large full full′ : Bool) (taken skip more next : Stage) → (T fits → T fits′) → (T full′ → T full)
+    → refusalOf (tested b r h needless small fits last taken skip more next) (refuseIf large 12 then refuseIf full 31) ≡ go
+    → Same (tested b r h needless small fits last taken skip more next) (tested b r h needless small fits′ last taken skip more next)
     (refuseIf large 12 then refuseIf full′ 31)
 unfolding refuseWith _then_ paired
-tested-more true r h reduced small fits fits′ last large full full′ taken skip more next f g e = absurd (refuse-not-go e)
-tested-more false true h reduced small false fits′ last large full full′ taken skip more next f g e = absurd (refuse-not-go e)
-tested-more false true h reduced small true true last large full full′ taken skip more next f g e = (refl, refl)
-tested-more false true h reduced small true false last large full full′ taken skip more next f g e = absurd (f tt)
+tested-more true r h needless small fits fits′ last large full full′ taken skip more next f g e = absurd (refuse-not-go e)
+tested-more false true h needless small false fits′ last large full full′ taken skip more next f g e = absurd (refuse-not-go e)
+tested-more false true h needless small true true last large full full′ taken skip more next f g e = (refl, refl)
+tested-more false true h needless small true false last large full full′ taken skip more next f g e = absurd (f tt)
 tested-more false false true true small fits fits′ last large full full′ taken skip more next f g e = (refl, refl)
 tested-more false false true false false fits fits′ last large full full′ taken skip more next f g e = absurd (refuse-not-go e)
 tested-more false false true false true false fits′ last large full full′ taken skip more next f g e = absurd (refuse-not-go e)
 tested-more false false true false true true true last large full full′ taken skip more next f g e = (refl, refl)
 tested-more false false true false true true false last large full full′ taken skip more next f g e = absurd (f tt)
-tested-more false false false reduced small fits fits′ false large full full′ taken skip more next f g e = (refl, refl)
-tested-more false false false reduced small fits fits′ true true full full′ taken skip more next f g e = absurd (refuse-not-go e)
-tested-more false false false reduced small fits fits′ true false full false taken skip more next f g e = (refl, refl)
-tested-more false false false reduced small fits fits′ true false true true taken skip more next f g e = absurd (refuse-not-go e)
-tested-more false false false reduced small fits fits′ true false false true taken skip more next f g e = absurd (g tt)
+tested-more false false false needless small fits fits′ false large full full′ taken skip more next f g e = (refl, refl)
+tested-more false false false needless small fits fits′ true true full full′ taken skip more next f g e = absurd (refuse-not-go e)
+tested-more false false false needless small fits fits′ true false full false taken skip more next f g e = (refl, refl)
+tested-more false false false needless small fits fits′ true false true true taken skip more next f g e = absurd (refuse-not-go e)
+tested-more false false false needless small fits fits′ true false false true taken skip more next f g e = absurd (g tt)
 
 module _ (p q most room most′ room′ : ℕ) (wider : most ≤ most′) (longer : room ≤ room′) where
   abbrev short : Machine Work
@@ -579,7 +586,7 @@ module _ (p q most room most′ room′ : ℕ) (wider : most ≤ most′) (longe
   turn-more w =
       let s = w .stage in
       let n = countTo (s .rows) (stays q w) in
-      tested-more (eqb (s .steps) stepLimit) (isRow q most room w) (isPair q most room w) (isReduced q most room w) (isSmall q (nextSum q w))
+      tested-more (eqb (s .steps) stepLimit) (isRow q most room w) (isPair q most room w) (isPassed q most room w) (isSmall q (nextSum q w))
       (ltb (s .rows) room) (ltb (s .rows) room′) (isLast q most room w) (ltb (w .fresh) q && not (valuesSmall q w)) (ltb most n) (ltb most′ n) _ _ _ _
       (λ h. lt→ltb (s .rows) room′ (omega (arith, ltb→lt (s .rows) room h))) (λ h. lt→ltb most n (omega (arith, ltb→lt most′ n h)))
 

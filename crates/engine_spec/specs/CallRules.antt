@@ -24,10 +24,10 @@ use Rattle.engine_spec.specs.Calls.{
   combineChecks,
   resume,
   resumeChecks,
-  start,
   startChecks,
-  startFrom,
   startFromChecks,
+  startFromUnder,
+  startUnder,
   take,
   takeChecks,
 }
@@ -146,16 +146,16 @@ module _ (l : Lending Work) (s : State) (p q : ℕ) (n : ℕ) (values : List ℕ
   abbrev handed : Work
   handed = l .handed s
 
-  pub start-leaves : (coefs : List ℤ) (most : ℕ) → startChecks p q coefs most handed ≡ refuse n values
-      → meanwhile (λ w. start p q coefs most w .work) l s ≡ s
-  unfolding start
-  start-leaves coefs most e = unchanged-leaves (λ w. start p q coefs most w .work) l s (refused-checked _ handed _ n values e)
+  pub start-leaves : (cap : ℕ) (coefs : List ℤ) (most : ℕ) → startChecks p q coefs most handed ≡ refuse n values
+      → meanwhile (λ w. startUnder cap p q coefs most w .work) l s ≡ s
+  unfolding startUnder
+  start-leaves cap coefs most e = unchanged-leaves (λ w. startUnder cap p q coefs most w .work) l s (refused-checked _ handed _ n values e)
 
-  pub start-from-leaves : (coefs : List ℤ) (m : ℕ) (rows : List ℕ) (most : ℕ) → startFromChecks p q coefs m rows most handed ≡ refuse n values
-      → meanwhile (λ w. startFrom p q coefs m rows most w .work) l s ≡ s
-  unfolding startFrom
-  start-from-leaves coefs m rows most e =
-      unchanged-leaves (λ w. startFrom p q coefs m rows most w .work) l s (refused-checked _ handed _ n values e)
+  pub start-from-leaves : (cap : ℕ) (coefs : List ℤ) (m : ℕ) (rows : List ℕ) (most : ℕ) → startFromChecks p q coefs m rows most handed ≡ refuse n values
+      → meanwhile (λ w. startFromUnder cap p q coefs m rows most w .work) l s ≡ s
+  unfolding startFromUnder
+  start-from-leaves cap coefs m rows most e =
+      unchanged-leaves (λ w. startFromUnder cap p q coefs m rows most w .work) l s (refused-checked _ handed _ n values e)
 
   pub combine-leaves : (most room i k : ℕ) (u t : ℤ) → combineChecks p q most room i k u t handed ≡ refuse n values
       → meanwhile (λ w. combine p q most room i k u t w .work) l s ≡ s

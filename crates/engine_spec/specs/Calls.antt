@@ -13,7 +13,22 @@ use Rattle.definitions.specs.Refusals.{between, stepLimit}
 use Rattle.definitions.specs.System.{coefLimit, isZero}
 use Rattle.definitions.specs.Tables.{at, frozen}
 use Rattle.engine_spec.specs.Beside.{coefficientLimit, mostColumns, mostRows}
-use Rattle.engine_spec.specs.Engine.{Result, Work, basisRow, begun, begunFrom, combination, combined, rested, result, run, system, taken, takenFresh}
+use Rattle.engine_spec.specs.Caps.{isCapped}
+use Rattle.engine_spec.specs.Engine.{
+  Result,
+  Work,
+  basisRow,
+  begunFromUnder,
+  begunUnder,
+  combination,
+  combined,
+  rested,
+  result,
+  run,
+  system,
+  taken,
+  takenFresh,
+}
 use Rattle.engine_spec.specs.Reduction.{isSmall}
 use Rattle.engine_spec.specs.Stage.{row}
 
@@ -140,9 +155,11 @@ unfoldable pub isFree : (p q f : ℕ) → Work → Bool
 isFree p q f w = allTo p (λ i. not (frozen (w .done) i) || isZero (system q w i f))
 
 -- Equation e has the coefficient −1 at the unknown f, no equation done has it, and of the basis only its unit tuple: so no equation before these has it either,
--- where the basis was handed over.
+-- where the basis was handed over. An unknown with a cap is never fresh: its value is written in at the end of the stage, past the cap as it may be.
 unfoldable pub isFresh : (p q e f : ℕ) → Work → Bool
-isFresh p q e f w = ltb f q && (isMinusOne (system q w e f) && (isFree p q f w && isAlone q f (w .count) (basisRow q w)))
+isFresh p q e f w =
+    not (isCapped (w .stage .cap) f)
+    && (ltb f q && (isMinusOne (system q w e f) && (isFree p q f w && isAlone q f (w .count) (basisRow q w))))
 
 -- 33: the unknown handed over is neither q, which is none, nor fresh
 unfoldable pub takeChecks : (p q most room e f : ℕ) → Work → Check
@@ -168,14 +185,21 @@ unfoldable pub checked : Check → Work → (Work → Result) → Result
 checked (refuse n values) w work = result (refused n values) w
 checked go w work = work w
 
--- takes the map: its coefficients are the working system, the unit tuples are the basis
-unfoldable pub start : (p q : ℕ) (coefs : List ℤ) (most : ℕ) → Work → Result
-start p q coefs most w = checked (startChecks p q coefs most w) w (λ v. result started (begun p q coefs v))
+-- takes the map: its coefficients are the working system, the unit tuples are the basis; the rows stay inside the cap
+unfoldable pub startUnder : (cap p q : ℕ) (coefs : List ℤ) (most : ℕ) → Work → Result
+startUnder cap p q coefs most w = checked (startChecks p q coefs most w) w (λ v. result started (begunUnder cap p q coefs v))
 
 -- takes further equations and a list of those before: the n rows handed over are the basis
-unfoldable pub startFrom : (p q : ℕ) (coefs : List ℤ) (n : ℕ) (rows : List ℕ) (most : ℕ) → Work → Result
-startFrom p q coefs n rows most w =
-    checked (startFromChecks p q coefs n rows most w) w (λ v. result started (begunFrom p q coefs n rows v))
+unfoldable pub startFromUnder : (cap p q : ℕ) (coefs : List ℤ) (n : ℕ) (rows : List ℕ) (most : ℕ) → Work → Result
+startFromUnder cap p q coefs n rows most w =
+    checked (startFromChecks p q coefs n rows most w) w (λ v. result started (begunFromUnder cap p q coefs n rows v))
+
+-- both without a cap
+abbrev pub start : (p q : ℕ) (coefs : List ℤ) (most : ℕ) → Work → Result
+start = startUnder 0
+
+abbrev pub startFrom : (p q : ℕ) (coefs : List ℤ) (n : ℕ) (rows : List ℕ) (most : ℕ) → Work → Result
+startFrom = startFromUnder 0
 
 -- u times equation r and t times equation s in the place of equation r
 unfoldable pub combine : (p q most room r s : ℕ) (u t : ℤ) → Work → Result

@@ -5,9 +5,8 @@ use mathlib.Core.Bool.{Bool, true, false, not, cond}
 use Prim.Native.Nat.{ℕ, _+_}
 use lib.Dec.{T, T-not, eqb, eqb-refl, ltb}
 use lib.IntN.{ℤ}
-use Rattle.linear.specs.Systems.{value}
 use Rattle.definitions.specs.Refusals.{stepLimit}
-use Rattle.engine_spec.specs.Reduction.{isSmall, reducible}
+use Rattle.engine_spec.specs.Reduction.{isSmall}
 use Rattle.engine_spec.specs.Stage.{
   Stage,
   Turned,
@@ -18,12 +17,12 @@ use Rattle.engine_spec.specs.Stage.{
   ends,
   goes,
   grown,
+  isNeedless,
   nextDegree,
   pairTurn,
   paired,
   passed,
   raised,
-  row,
   rowTurn,
   stops,
   sumOf,
@@ -57,7 +56,7 @@ module _ (q : ℕ) (c : ℕ → ℤ) (m : ℕ) (basis : ℕ → ℕ → ℕ) (ro
   pair-timed : (h k : ℕ) → Timed s (pairTurn q c room s h k)
   unfolding pairTurn passed grown
   pair-timed h k =
-      paired-timed s (reducible q c (s .rows) (row q s) (sumOf q s h k) (value c q (sumOf q s h k))) (isSmall q (sumOf q s h k)) (ltb (s .rows) room)
+      paired-timed s (isNeedless q c s (sumOf q s h k)) (isSmall q (sumOf q s h k)) (ltb (s .rows) room)
       (passed h (k + 1) s) (grown q (sumOf q s h k) (s .taken) h (k + 1) s) (ne, refl) (ne, refl)
 
   degree-timed : (d : ℕ) → Timed s (degreeTurn d s)

@@ -47,24 +47,31 @@ abbrev pub always : ℕ → Bool
 always i = true
 
 -- no stage is under way
-abbrev pub resting : (p q : ℕ) (equations : List ℤ) (basis : List ℕ) (count done : ℕ) → List ℕ → ℕ → Work
-resting p q equations basis count done table steps =
-    record { equations = equations; basis = basis; count = count; done = done; equation = p; fresh = q; stage = begin table steps }
+abbrev pub resting : (p q : ℕ) (equations : List ℤ) (basis : List ℕ) (count done cap : ℕ) → List ℕ → ℕ → Work
+resting p q equations basis count done cap table steps =
+    record { equations = equations; basis = basis; count = count; done = done; equation = p; fresh = q; stage = begin cap table steps }
 
 -- numbers 0 .. n - 1 of f, written from the beginning
 unfoldable pub fillTo : ℕ → List ℤ → ℕ → (ℕ → ℤ) → List ℤ
 fillTo zero table base f = table
 fillTo (suc n) table base f = set (fillTo n table base f) (base + n) (f n)
 
--- the map's coefficients are the working system, rows 0 .. q - 1 of the basis are the unit tuples, and no equation is done
-unfoldable pub begun : (p q : ℕ) (coefs : List ℤ) → Work → Work
-begun p q coefs w =
-    resting p q (fillTo (p * q) (w .equations) 0 (λ k. getD coefs k (pos 0))) (packTo q q (w .basis) 0 always unit) q 0 (w .stage .table) 0
+-- the map's coefficients are the working system, rows 0 .. q - 1 of the basis are the unit tuples, and no equation is done; the rows stay inside a cap
+unfoldable pub begunUnder : (cap p q : ℕ) (coefs : List ℤ) → Work → Work
+begunUnder cap p q coefs w =
+    resting p q (fillTo (p * q) (w .equations) 0 (λ k. getD coefs k (pos 0))) (packTo q q (w .basis) 0 always unit) q 0 cap (w .stage .table) 0
 
--- the same with n rows handed over as the basis: the minimal solutions of equations before these
-unfoldable pub begunFrom : (p q : ℕ) (coefs : List ℤ) (n : ℕ) (rows : List ℕ) → Work → Work
-begunFrom p q coefs n rows w =
-    resting p q (fillTo (p * q) (w .equations) 0 (λ k. getD coefs k (pos 0))) (writeTo (n * q) (w .basis) 0 (λ k. getD rows k 0)) n 0 (w .stage .table) 0
+-- the same with n rows handed over as the basis: the minimal solutions of equations before these that are inside the cap
+unfoldable pub begunFromUnder : (cap p q : ℕ) (coefs : List ℤ) (n : ℕ) (rows : List ℕ) → Work → Work
+begunFromUnder cap p q coefs n rows w =
+    resting p q (fillTo (p * q) (w .equations) 0 (λ k. getD coefs k (pos 0))) (writeTo (n * q) (w .basis) 0 (λ k. getD rows k 0)) n 0 cap (w .stage .table) 0
+
+-- both without a cap
+abbrev pub begun : (p q : ℕ) (coefs : List ℤ) → Work → Work
+begun = begunUnder 0
+
+abbrev pub begunFrom : (p q : ℕ) (coefs : List ℤ) (n : ℕ) (rows : List ℕ) → Work → Work
+begunFrom = begunFromUnder 0
 
 -- ---- a row operation
 
@@ -100,7 +107,7 @@ taken q e w =
       done = w .done;
       equation = e;
       fresh = q;
-      stage = begin (w .stage .table) (w .stage .steps);
+      stage = begin (w .stage .cap) (w .stage .table) (w .stage .steps);
     }
 
 unfoldable pub takenFresh : (q e f : ℕ) → Work → Work
@@ -112,7 +119,7 @@ takenFresh q e f w =
       done = w .done;
       equation = e;
       fresh = f;
-      stage = begin (w .stage .table) (w .stage .steps);
+      stage = begin (w .stage .cap) (w .stage .table) (w .stage .steps);
     }
 
 -- ---- the end of a stage
@@ -130,7 +137,7 @@ left q w i = cond (ltb (w .fresh) q) (filled q (equationOf q w) (w .fresh) (row 
 unfoldable pub finished : (p q : ℕ) → Work → Work
 finished p q w =
     resting p q (w .equations) (packTo (w .stage .rows) q (w .basis) 0 (stays q w) (left q w)) (countTo (w .stage .rows) (stays q w))
-    (w .done + 2 ^ w .equation) (w .stage .table) (w .stage .steps + 1)
+    (w .done + 2 ^ w .equation) (w .stage .cap) (w .stage .table) (w .stage .steps + 1)
 
 -- no value is above 1,000,000, where values become components
 unfoldable pub valuesSmall : ℕ → Work → Bool

@@ -9,33 +9,49 @@ use native.Mathlib.Omega.{arith}
 use lib.Dec.{T, eqb→eq}
 use lib.IntN.{ℤ, pos, negsuc}
 use Rattle.linear.specs.Cases.{order}
-use Rattle.linear.specs.Combinations.{Enumerates, combined-above, combined-some, solution-same}
+use Rattle.linear.specs.Combinations.{Enumerates, combined-above, combined-some, found-below, solution-same}
+use Rattle.linear.specs.Loops.{Loop}
 use Rattle.linear.specs.Systems.{Solution, SolutionIn, value}
 use Rattle.linear.specs.TestLaws.{count-at, count-mono, count-step}
 use Rattle.linear.specs.Tests.{countTo}
 use Rattle.linear.specs.TupleLaws.{least, minimal-from, unit-other, unit-same}
 use Rattle.linear.specs.Tuples.{AtOrBelow, Minimal, Nonzero, Same, unit}
 use Rattle.definitions.specs.System.{isZero}
-use Rattle.linear.specs.Loops.{Loop, MakesUp, loops-within}
 use Rattle.laws.specs.Sweep.{keeps}
 use Rattle.laws.specs.SweepLaws.{Swept, comes-from, keeps-stays, left-below, none-earlier}
+use Rattle.engine_spec.specs.Caps.{Admitted, Inside, admitted-from, admitted-inside, admitted-some, inside-below, inside-unit}
 use Rattle.engine_spec.specs.Signs.{Closed, zero-rows}
 
--- a nonzero solution
-abbrev pub Wanted : (p q : ℕ) (a : ℕ → ℕ → ℤ) → (ℕ → ℕ) → Type 0
-Wanted p q a = SolutionIn p q a (Nonzero q)
+-- a nonzero solution inside the cap
+abbrev pub Wanted : (cap p q : ℕ) (a : ℕ → ℕ → ℤ) → (ℕ → ℕ) → Type 0
+Wanted cap p q a = SolutionIn p q a (Admitted cap q)
 
--- The first n rows are nonzero solutions, and each minimal one is among them; there may be others, and repetitions.
-pub record Holding (p q : ℕ) (a : ℕ → ℕ → ℤ) (n : ℕ) (row : ℕ → ℕ → ℕ) : Type 0 where
-  pub wanted : (i : ℕ) → i < n → Wanted p q a (row i)
-  pub all : (t : ℕ → ℕ) → Loop p q a t → (i : ℕ) × (i < n) × Same q (row i) t
+-- a minimal solution inside the cap; without a cap, `Loop`
+abbrev pub LoopInside : (cap p q : ℕ) (a : ℕ → ℕ → ℤ) → (ℕ → ℕ) → Type 0
+LoopInside cap p q a = Minimal q (Wanted cap p q a)
 
-pub basis-holds : {p q : ℕ} {a : ℕ → ℕ → ℤ} {n : ℕ} {row : ℕ → ℕ → ℕ} → Enumerates q (Loop p q a) n row → Holding p q a n row
+-- The first n rows are nonzero solutions inside the cap, and each minimal one is among them; there may be others, and repetitions.
+pub record Holding (cap p q : ℕ) (a : ℕ → ℕ → ℤ) (n : ℕ) (row : ℕ → ℕ → ℕ) : Type 0 where
+  pub wanted : (i : ℕ) → i < n → Wanted cap p q a (row i)
+  pub all : (t : ℕ → ℕ) → LoopInside cap p q a t → (i : ℕ) × (i < n) × Same q (row i) t
+
+pub basis-holds : {cap p q : ℕ} {a : ℕ → ℕ → ℤ} {n : ℕ} {row : ℕ → ℕ → ℕ} → Enumerates q (LoopInside cap p q a) n row → Holding cap p q a n row
 basis-holds e = record { wanted = λ i l. e .only i l .holds; all = e .all }
 
--- each solution is a sum of the rows
-pub holding-makes : {p q : ℕ} {a : ℕ → ℕ → ℤ} {n : ℕ} {row : ℕ → ℕ → ℕ} → Holding p q a n row → MakesUp p q a n row
-holding-makes {p} {q} {a} {n} {row} h = loops-within p q a n row (λ i l. h .wanted i l .solution) (λ i l. h .wanted i l .admitted) (h .all)
+pub wanted-some : (cap p q : ℕ) (a : ℕ → ℕ → ℤ) {t : ℕ → ℕ} → Wanted cap p q a t → Nonzero q t
+wanted-some cap p q a {t} w = admitted-some cap q t (w .admitted)
+
+pub wanted-inside : (cap p q : ℕ) (a : ℕ → ℕ → ℤ) {t : ℕ → ℕ} → Wanted cap p q a t → Inside cap q t
+wanted-inside cap p q a {t} w = admitted-inside cap q t (w .admitted)
+
+pub wanted-from : (cap p q : ℕ) (a : ℕ → ℕ → ℤ) {t : ℕ → ℕ} → Solution p q a t → Nonzero q t → Inside cap q t → Wanted cap p q a t
+wanted-from cap p q a {t} s some inside = record { solution = s; admitted = admitted-from cap q t some inside }
+
+-- a row lies at or below each nonzero solution inside the cap
+pub holding-below : {cap p q : ℕ} {a : ℕ → ℕ → ℤ} {n : ℕ} {row : ℕ → ℕ → ℕ} → Holding cap p q a n row
+    → (t : ℕ → ℕ) → Solution p q a t → Nonzero q t → Inside cap q t → (i : ℕ) × (i < n) × AtOrBelow q (row i) t
+holding-below {cap} {p} {q} {a} {n} {row} h t s some inside =
+    found-below q (Wanted cap p q a) n row (h .all) t (wanted-from cap p q a s some inside)
 
 -- n′ rows are those of n rows that a test picks, in their order
 pub record Picked (q n : ℕ) (row : ℕ → ℕ → ℕ) (f : ℕ → Bool) (n′ : ℕ) (row′ : ℕ → ℕ → ℕ) : Type 0 where
@@ -55,10 +71,22 @@ is-zero (negsuc n) h = absurd h
 pub zero-is : (z : ℤ) → z ≡ pos 0 → T (isZero z)
 zero-is z e = rw e tt
 
-pub wanted-alike : (p q : ℕ) (a : ℕ → ℕ → ℤ) {s t : ℕ → ℕ} → Same q s t → Wanted p q a s → Wanted p q a t
-wanted-alike p q a {s} {t} e w =
-    let (j, jq, h) = w .admitted in
-    record { solution = solution-same p q a e (w .solution); admitted = (j, jq, omega (arith, e j jq)) }
+pub wanted-alike : (cap p q : ℕ) (a : ℕ → ℕ → ℤ) {s t : ℕ → ℕ} → Same q s t → Wanted cap p q a s → Wanted cap p q a t
+wanted-alike cap p q a {s} {t} e w =
+    let (j, jq, h) = wanted-some cap p q a w in
+    wanted-from cap p q a (solution-same p q a e (w .solution)) (j, jq, omega (arith, e j jq))
+    (inside-below cap q t s (λ j jq. omega (arith, e j jq)) (wanted-inside cap p q a w))
+
+-- a minimal solution inside the cap is a minimal solution: what is below it is inside too
+pub inside-loop : (cap p q : ℕ) (a : ℕ → ℕ → ℤ) (t : ℕ → ℕ) → LoopInside cap p q a t → Loop p q a t
+inside-loop cap p q a t m =
+    minimal-from (record { solution = m .holds .solution; admitted = wanted-some cap p q a (m .holds) })
+    (λ s w under. least m s (wanted-from cap p q a (w .solution) (w .admitted) (inside-below cap q s t under (wanted-inside cap p q a (m .holds)))) under)
+
+pub loop-inside : (cap p q : ℕ) (a : ℕ → ℕ → ℤ) (t : ℕ → ℕ) → Inside cap q t → Loop p q a t → LoopInside cap p q a t
+loop-inside cap p q a t inside m =
+    minimal-from (wanted-from cap p q a (m .holds .solution) (m .holds .admitted) inside)
+    (λ s w under. least m s (record { solution = w .solution; admitted = wanted-some cap p q a w }) under)
 
 -- ---- a sweep leaves the minimal tuples
 
@@ -114,27 +142,28 @@ pub record Extends (p q : ℕ) (a a′ : ℕ → ℕ → ℤ) (c : ℕ → ℤ) 
   pub more : (t : ℕ → ℕ) → Solution p q a t → value c q t ≡ pos 0 → Solution p q a′ t
 
 -- The rows with value 0 of a list that is closed under the equation c.
-module _ (p q : ℕ) (a a′ : ℕ → ℕ → ℤ) (c : ℕ → ℤ) (x : Extends p q a a′ c) (n : ℕ) (row : ℕ → ℕ → ℕ) (h : Holding p q a n row) (closed : Closed q c n row) where
-  -- a nonzero solution with value 0 is at or above a row with value 0
-  zero-below : (t : ℕ → ℕ) → Wanted p q a′ t → (i : ℕ) × (i < n) × (value c q (row i) ≡ pos 0) × AtOrBelow q (row i) t
+module _ (cap p q : ℕ) (a a′ : ℕ → ℕ → ℤ) (c : ℕ → ℤ) (x : Extends p q a a′ c) (n : ℕ) (row : ℕ → ℕ → ℕ) (h : Holding cap p q a n row)
+    (closed : Closed cap q c n row) where
+  -- a nonzero solution inside the cap with value 0 is at or above a row with value 0
+  zero-below : (t : ℕ → ℕ) → Wanted cap p q a′ t → (i : ℕ) × (i < n) × (value c q (row i) ≡ pos 0) × AtOrBelow q (row i) t
   zero-below t w =
       let (sum, zeros) =
-      zero-rows p q a c n row (λ i l. h .wanted i l .solution) (λ i l. h .wanted i l .admitted) (holding-makes h) closed t
-      (x .less t (w .solution)) (x .meets t (w .solution))
+      zero-rows cap p q a c n row (λ i l. h .wanted i l .solution) (λ i l. wanted-some cap p q a (h .wanted i l)) (holding-below h) closed t
+      (x .less t (w .solution)) (wanted-inside cap p q a′ w) (x .meets t (w .solution))
       in
-      let (j, jq, some) = w .admitted in
+      let (j, jq, some) = wanted-some cap p q a′ w in
       let (k, kn, taken, nz) = combined-some q n (sum .times) row (j, jq, omega (arith, sum .adds-up j jq)) in
       (k, kn, zeros k kn taken, λ y yq. omega (arith, sum .adds-up y yq, combined-above n (sum .times) row k y kn taken))
 
   module _ (n₁ : ℕ) (row₁ : ℕ → ℕ → ℕ) (picked : Picked q n row (zeroRow q c row) n₁ row₁) where
-    zeros-inside : (m : ℕ) → m < n₁ → Wanted p q a′ (row₁ m)
+    zeros-inside : (m : ℕ) → m < n₁ → Wanted cap p q a′ (row₁ m)
     zeros-inside m l =
         let (i, il, z, e) = count-at (zeroRow q c row) n m (omega (arith, picked .count)) in
         let same : Same q (row i) (row₁ m) = λ j jq. sym (rw e at (picked .rows i il z) j jq) in
-        wanted-alike p q a′ same
+        wanted-alike cap p q a′ same
         (record { solution = x .more (row i) (h .wanted i il .solution) (is-zero (value c q (row i)) z); admitted = h .wanted i il .admitted })
 
-    zeros-under : (t : ℕ → ℕ) → Wanted p q a′ t → (m : ℕ) × (m < n₁) × AtOrBelow q (row₁ m) t
+    zeros-under : (t : ℕ → ℕ) → Wanted cap p q a′ t → (m : ℕ) × (m < n₁) × AtOrBelow q (row₁ m) t
     zeros-under t w =
         let (i, il, e, b) = zero-below t w in
         let z = zero-is (value c q (row i)) e in (
@@ -143,19 +172,19 @@ module _ (p q : ℕ) (a a′ : ℕ → ℕ → ℤ) (c : ℕ → ℤ) (x : Exten
           λ j jq. omega (arith, b j jq, picked .rows i il z j jq),
         )
 
-    -- swept, the rows with value 0 are the minimal solutions of the system with the equation, each once
-    pub next-equation : (n₂ : ℕ) (row₂ : ℕ → ℕ → ℕ) → Swept q n₁ row₁ n₂ row₂ → Enumerates q (Loop p q a′) n₂ row₂
+    -- swept, the rows with value 0 are the minimal solutions of the system with the equation inside the cap, each once
+    pub next-equation : (n₂ : ℕ) (row₂ : ℕ → ℕ → ℕ) → Swept q n₁ row₁ n₂ row₂ → Enumerates q (LoopInside cap p q a′) n₂ row₂
     next-equation n₂ row₂ s =
-        sweep-enumerates q (Wanted p q a′) (λ s t e w. wanted-alike p q a′ e w) n₁ row₁ zeros-inside zeros-under n₂ row₂ s
+        sweep-enumerates q (Wanted cap p q a′) (λ s t e w. wanted-alike cap p q a′ e w) n₁ row₁ zeros-inside zeros-under n₂ row₂ s
 
 -- ---- before the first equation
 
 -- rows that are the q unit tuples, where every tuple is a solution
-pub units-enumerate : (p q : ℕ) (a : ℕ → ℕ → ℤ) (free : (t : ℕ → ℕ) → Solution p q a t) (row : ℕ → ℕ → ℕ) → ((i : ℕ) → i < q → Same q (row i) (unit i))
-    → Enumerates q (Loop p q a) q row
-units-enumerate p q a free row is =
+pub units-enumerate : (cap p q : ℕ) (a : ℕ → ℕ → ℤ) (free : (t : ℕ → ℕ) → Solution p q a t) (row : ℕ → ℕ → ℕ)
+    → ((i : ℕ) → i < q → Same q (row i) (unit i)) → Enumerates q (LoopInside cap p q a) q row
+units-enumerate cap p q a free row is =
     record {
-      only = λ i l. minimal-from (record { solution = free (row i); admitted = (i, l, omega (arith, is i l i l, unit-same i)) }) (λ s w b. whole i l s w b);
+      only = λ i l. minimal-from (wanted i l) (λ s w b. whole i l s w b);
       once = λ i j ij jn e. omega (
         arith,
         e i (omega arith),
@@ -165,10 +194,10 @@ units-enumerate p q a free row is =
         unit-other j i (omega arith),
       );
       all = λ t b.
-          let (j, jq, h) = b .holds .admitted in (
+          let (j, jq, h) = wanted-some cap p q a (b .holds) in (
             j,
             jq,
-            least b (row j) (record { solution = free (row j); admitted = (j, jq, omega (arith, is j jq j jq, unit-same j)) })
+            least b (row j) (wanted j jq)
                 (λ x xq. elim (ℕ-discrete x j) [
                   | yes e ↦ rw e (omega (arith, is j jq j jq, unit-same j))
                   | no ne ↦ omega (arith, is j jq x xq, unit-other j x ne)
@@ -176,9 +205,12 @@ units-enumerate p q a free row is =
           );
     }
   where
-    whole : (i : ℕ) → i < q → (s : ℕ → ℕ) → Wanted p q a s → AtOrBelow q s (row i) → Same q s (row i)
+    wanted : (i : ℕ) → i < q → Wanted cap p q a (row i)
+    wanted i l = wanted-from cap p q a (free (row i)) (i, l, omega (arith, is i l i l, unit-same i)) (inside-unit cap q i (row i) l (is i l))
+
+    whole : (i : ℕ) → i < q → (s : ℕ → ℕ) → Wanted cap p q a s → AtOrBelow q s (row i) → Same q s (row i)
     whole i l s w b j jq =
-        let (x, xq, h) = w .admitted in
+        let (x, xq, h) = wanted-some cap p q a w in
         let at-i : x ≡ i = elim (ℕ-discrete x i) [ yes e ↦ e | no ne ↦ absurd (omega (arith, b x xq, is i l x xq, unit-other i x ne)) ] in
         elim (ℕ-discrete j i) [
           | yes e ↦ rw e (omega (arith, b i l, is i l i l, unit-same i, rw at-i at h))

@@ -33,7 +33,7 @@ use Rattle.engine_spec.specs.Stage.{
 }
 
 abbrev ran : (q : ℕ) (c : List ℤ) (room budget : ℕ) → Outcome
-ran q c room budget = run q (λ j. getD c j (pos 0)) q unit room budget (begin (replicate (room * q) 0) 0)
+ran q c room budget = run q (λ j. getD c j (pos 0)) q unit room budget (begin 0 (replicate (room * q) 0) 0)
 
 -- what a stage has come to: the answer, the steps taken, and the rows
 pub record Shown : Type 0 where

@@ -1,6 +1,7 @@
 -- A fresh unknown: one that no equation so far mentions and that has the coefficient −1 in the next one. Among the minimal solutions so far only its unit tuple
 -- has it. The stage leaves that row out: it goes through the solutions in which the unknown is 0. At its end it keeps the rows of value 0 or more, and writes
--- the value of each into the unknown: these are the minimal solutions with the equation, and again no sweep is needed. Assumes nothing.
+-- the value of each into the unknown: these are the minimal solutions with the equation, and again no sweep is needed. Where there is a cap it is not on the
+-- fresh unknown. Assumes nothing.
 use mathlib.Core.Path.{_≡_, refl, sym, _∙_, ap}
 use mathlib.Core.Logic.{_≢_, inl, inr}
 use mathlib.Core.Bool.{Bool, true, false, not, cond}
@@ -20,8 +21,20 @@ use Rattle.linear.specs.TestLaws.{count-mono, count-step}
 use Rattle.linear.specs.Tests.{countTo}
 use Rattle.linear.specs.TupleLaws.{term-le-total, total-some, unit-other, unit-same}
 use Rattle.linear.specs.Tuples.{AtOrBelow, Nonzero, Same, total, unit}
-use Rattle.linear.specs.Loops.{Loop}
-use Rattle.engine_spec.specs.Equations.{Extends, Holding, Picked, Wanted, holding-makes, sweep-enumerates, wanted-alike}
+use Rattle.engine_spec.specs.Caps.{Inside}
+use Rattle.engine_spec.specs.Equations.{
+  Extends,
+  Holding,
+  LoopInside,
+  Picked,
+  Wanted,
+  holding-below,
+  sweep-enumerates,
+  wanted-alike,
+  wanted-from,
+  wanted-inside,
+  wanted-some,
+}
 use Rattle.engine_spec.specs.Signs.{Closed, consistent-rows, sign-consistent}
 use Rattle.engine_spec.specs.Ends.{Ended, irreducible, nothing-swept, picked-from}
 use Rattle.engine_spec.specs.Sound.{Given, Sound}
@@ -159,9 +172,9 @@ extends-turned p q a a′ c x =
 abbrev pub filled : (q : ℕ) (c : ℕ → ℤ) (f : ℕ) → (ℕ → ℕ) → ℕ → ℕ
 filled q c f t = putAt f (up (value c q t)) t
 
-module _ (p q : ℕ) (a a′ : ℕ → ℕ → ℤ) (c : ℕ → ℤ) (extends : Extends p q a a′ c) (f : ℕ) (fq : f < q) (minus : c f ≡ negsuc 0)
-    (free : (i : ℕ) → i < p → a i f ≡ pos 0) (p₀ : ℕ) (a₀ : ℕ → ℕ → ℤ) (without : Without p q a f p₀ a₀) (n : ℕ) (row : ℕ → ℕ → ℕ)
-    (holding : Holding p₀ q a₀ n row) (closed : Closed q c n row) where
+module _ (cap p q : ℕ) (a a′ : ℕ → ℕ → ℤ) (c : ℕ → ℤ) (extends : Extends p q a a′ c) (f : ℕ) (fq : f < q) (uncapped : 0 < cap → 0 < f)
+    (minus : c f ≡ negsuc 0) (free : (i : ℕ) → i < p → a i f ≡ pos 0) (p₀ : ℕ) (a₀ : ℕ → ℕ → ℤ) (without : Without p q a f p₀ a₀) (n : ℕ)
+    (row : ℕ → ℕ → ℕ) (holding : Holding cap p₀ q a₀ n row) (closed : Closed cap q c n row) where
   abbrev v : (ℕ → ℕ) → ℤ
   v = value c q
 
@@ -179,12 +192,16 @@ module _ (p q : ℕ) (a a′ : ℕ → ℕ → ℤ) (c : ℕ → ℤ) (extends :
         | no ne ↦ put-other f 0 (putAt f x (row i)) j ne ∙ put-other f x (row i) j ne
       ]
 
+  -- what is written into f leaves a tuple inside the cap
+  put-inside : (t : ℕ → ℕ) (x : ℕ) → Inside cap q t → Inside cap q (putAt f x t)
+  put-inside t x inside capped some = let more = uncapped capped in omega (arith, put-other f x t 0 (omega arith), inside capped some)
+
   -- a row of value 0 or more, filled, is a nonzero solution with the equation
-  pub filled-wanted : (i : ℕ) → i < n → down (v (row i)) ≡ 0 → Wanted p q a′ (filled q c f (row i))
+  pub filled-wanted : (i : ℕ) → i < n → down (v (row i)) ≡ 0 → Wanted cap p q a′ (filled q c f (row i))
   filled-wanted i l none =
       let t = filled q c f (row i) in
       let w = holding .wanted i l in
-      let (j, jq, h) = w .admitted in
+      let (j, jq, h) = wanted-some cap p₀ q a₀ w in
       let apart : j ≢ f = λ e. omega (arith, row-none i l, rw e at h) in
       let zero-value : v t ≡ pos 0 =
       same (omega (
@@ -194,13 +211,11 @@ module _ (p q : ℕ) (a a′ : ℕ → ℕ → ℤ) (c : ℕ → ℤ) (extends :
         ap up (value-same c q (emptied i (up (v (row i))) l)),
         ap down (value-same c q (emptied i (up (v (row i))) l)),
       )) in
-      record {
-        solution = extends .more t (put-solves (row i) (up (v (row i))) (without .less (row i) (w .solution))) zero-value;
-        admitted = (j, jq, omega (arith, put-other f (up (v (row i))) (row i) j apart));
-      }
+      wanted-from cap p q a′ (extends .more t (put-solves (row i) (up (v (row i))) (without .less (row i) (w .solution))) zero-value)
+      (j, jq, omega (arith, put-other f (up (v (row i))) (row i) j apart)) (put-inside (row i) (up (v (row i))) (wanted-inside cap p₀ q a₀ w))
 
   -- such a row lies at or below each nonzero solution with the equation
-  pub filled-under : (t : ℕ → ℕ) → Wanted p q a′ t → (i : ℕ) × (i < n) × (down (v (row i)) ≡ 0) × AtOrBelow q (filled q c f (row i)) t
+  pub filled-under : (t : ℕ → ℕ) → Wanted cap p q a′ t → (i : ℕ) × (i < n) × (down (v (row i)) ≡ 0) × AtOrBelow q (filled q c f (row i)) t
   filled-under t w =
       let t₀ = putAt f 0 t in
       let s₀ = without .more t₀ (put-solves t 0 (extends .less t (w .solution))) (put-same f 0 t) in
@@ -211,14 +226,15 @@ module _ (p q : ℕ) (a a′ : ℕ → ℕ → ℤ) (c : ℕ → ℤ) (extends :
         | yes e ↦
             let flat : v t₀ ≡ pos 0 =
             unfold value in inner-zero q c (λ j. pos (t₀ j)) (λ j jq. ap pos (omega (arith, term-le-total t₀ q j jq))) in
-            let (j, jq, h) = w .admitted in
+            let (j, jq, h) = wanted-some cap p q a′ w in
             let at-f : t f ≡ 0 = omega (arith, ap up flat, ap down flat, ap up meets, ap down meets) in
             let apart : j ≢ f = λ g. omega (arith, rw g at h) in
             absurd (omega (arith, put-other f 0 t j apart, term-le-total t₀ q j jq))
       ] in
       let (j, jq, h) = some in
-      let d = sign-consistent p₀ q a₀ c n row (λ i l. holding .wanted i l .solution) (λ i l. holding .wanted i l .admitted) (holding-makes holding) closed t₀
-      s₀ in
+      let d =
+      sign-consistent cap p₀ q a₀ c n row (λ i l. holding .wanted i l .solution) (λ i l. wanted-some cap p₀ q a₀ (holding .wanted i l)) (holding-below holding)
+      closed t₀ s₀ (put-inside t 0 (wanted-inside cap p q a′ w)) in
       let (k, kn, taken, nz) = combined-some q n (d .sum .times) row (j, jq, omega (arith, d .sum .adds-up j jq)) in
       let b : AtOrBelow q (row k) t₀ = λ i iq. omega (arith, d .sum .adds-up i iq, combined-above n (d .sum .times) row k i kn taken) in
       let inside = consistent-rows q c n row d k kn taken in (
@@ -233,18 +249,18 @@ module _ (p q : ℕ) (a a′ : ℕ → ℕ → ℤ) (c : ℕ → ℤ) (extends :
 
 -- ---- before the stage: the rows of the basis in which the unknown is 0
 
-module _ (p q : ℕ) (a : ℕ → ℕ → ℤ) (f : ℕ) (fq : f < q) (p₀ : ℕ) (a₀ : ℕ → ℕ → ℤ) (without : Without p q a f p₀ a₀) (m : ℕ) (basis : ℕ → ℕ → ℕ)
-    (given : Given p q a m basis) (m₀ : ℕ) (basis₀ : ℕ → ℕ → ℕ) (picked : Picked q m basis (λ i. eqb (basis i f) 0) m₀ basis₀) where
+module _ (cap p q : ℕ) (a : ℕ → ℕ → ℤ) (f : ℕ) (fq : f < q) (p₀ : ℕ) (a₀ : ℕ → ℕ → ℤ) (without : Without p q a f p₀ a₀) (m : ℕ) (basis : ℕ → ℕ → ℕ)
+    (given : Given cap p q a m basis) (m₀ : ℕ) (basis₀ : ℕ → ℕ → ℕ) (picked : Picked q m basis (λ i. eqb (basis i f) 0) m₀ basis₀) where
   abbrev from : (x : ℕ) → x < m₀ → (i : ℕ) × (i < m) × T (eqb (basis i f) 0) × (countTo i (λ i. eqb (basis i f) 0) ≡ x) × Same q (basis₀ x) (basis i)
   from = picked-from q m basis (λ i. eqb (basis i f) 0) m₀ basis₀ picked
 
-  there : (t : ℕ → ℕ) → Wanted p₀ q a₀ t → Wanted p q a t
+  there : (t : ℕ → ℕ) → Wanted cap p₀ q a₀ t → Wanted cap p q a t
   there t w = record { solution = without .less t (w .solution); admitted = w .admitted }
 
-  back : (t : ℕ → ℕ) → t f ≡ 0 → Wanted p q a t → Wanted p₀ q a₀ t
+  back : (t : ℕ → ℕ) → t f ≡ 0 → Wanted cap p q a t → Wanted cap p₀ q a₀ t
   back t e w = record { solution = without .more t (w .solution) e; admitted = w .admitted }
 
-  pub without-given : Given p₀ q a₀ m₀ basis₀
+  pub without-given : Given cap p₀ q a₀ m₀ basis₀
   without-given =
       record {
         loops =
@@ -253,7 +269,7 @@ module _ (p q : ℕ) (a : ℕ → ℕ → ℤ) (f : ℕ) (fq : f < q) (p₀ : �
                   let (i, im, z, e, is) = from x xn in
                   let loop = given .loops .only i im in
                   record {
-                    holds = wanted-alike p₀ q a₀ (λ j jq. sym (is j jq)) (back (basis i) (eqb→eq (basis i f) 0 z) (loop .holds));
+                    holds = wanted-alike cap p₀ q a₀ (λ j jq. sym (is j jq)) (back (basis i) (eqb→eq (basis i f) 0 z) (loop .holds));
                     none-below = λ t w b. loop .none-below t (there t w) (record {
                       at-most = λ j jq. omega (arith, is j jq, b .at-most j jq);
                       other = λ g. b .other (λ j jq. omega (arith, is j jq, g j jq));
@@ -269,7 +285,7 @@ module _ (p q : ℕ) (a : ℕ → ℕ → ℤ) (f : ℕ) (fq : f < q) (p₀ : �
                   given .loops .once i k ik km (λ j jq. omega (arith, g j jq, is j jq, is′ j jq));
               all = λ t b.
                   let none = without .none t (b .holds .solution) in
-                  let whole : Loop p q a t = record {
+                  let whole : LoopInside cap p q a t = record {
                     holds = there t (b .holds);
                     none-below = λ s w u. b .none-below s (back s (omega (arith, u .at-most f fq)) w) u;
                   } in
@@ -295,9 +311,9 @@ not-below z h = omega (arith, up-le (ltZ-no {a = z} {b = pos 0} h), one-side z)
 below-not : (z : ℤ) → down z ≡ 0 → T (not (ltZ z (pos 0)))
 below-not z e = not-T (ltZ z (pos 0)) (λ h. omega (arith, up-lt (ltZ-yes {a = z} {b = pos 0} h)))
 
-module _ (p q : ℕ) (a a′ : ℕ → ℕ → ℤ) (c : ℕ → ℤ) (extends : Extends p q a a′ c) (f : ℕ) (fq : f < q) (minus : c f ≡ negsuc 0)
-    (free : (i : ℕ) → i < p → a i f ≡ pos 0) (p₀ : ℕ) (a₀ : ℕ → ℕ → ℤ) (without : Without p q a f p₀ a₀) (m : ℕ) (basis : ℕ → ℕ → ℕ) (s : Stage)
-    (sound : Sound p₀ q a₀ c m basis s) (ended : Ended p₀ q a₀ c s) (n′ : ℕ) (row′ : ℕ → ℕ → ℕ)
+module _ (cap p q : ℕ) (a a′ : ℕ → ℕ → ℤ) (c : ℕ → ℤ) (extends : Extends p q a a′ c) (f : ℕ) (fq : f < q) (uncapped : 0 < cap → 0 < f)
+    (minus : c f ≡ negsuc 0) (free : (i : ℕ) → i < p → a i f ≡ pos 0) (p₀ : ℕ) (a₀ : ℕ → ℕ → ℤ) (without : Without p q a f p₀ a₀) (m : ℕ)
+    (basis : ℕ → ℕ → ℕ) (s : Stage) (sound : Sound cap p₀ q a₀ c m basis s) (ended : Ended cap p₀ q a₀ c s) (n′ : ℕ) (row′ : ℕ → ℕ → ℕ)
     (picked : Picked q (s .rows) (λ i. filled q c f (row q s i)) (notBelow q c (row q s)) n′ row′) where
   abbrev g : ℕ → Bool
   g = notBelow q c (row q s)
@@ -312,24 +328,24 @@ module _ (p q : ℕ) (a a′ : ℕ → ℕ → ℤ) (c : ℕ → ℤ) (extends :
       let vi = value c q (row q s i) in
       let vk = value c q (row q s k) in
       let less : up vi ≤ up vk = omega (arith, b f fq, si f fq, sk f fq, put-same f (up vi) (row q s i), put-same f (up vk) (row q s k)) in
-      irreducible p₀ q a₀ c m basis s sound i k il kl (λ e. ne (sym ei ∙ (ap (λ i. countTo i g) e ∙ ek)))
+      irreducible cap p₀ q a₀ c m basis s sound i k il kl (λ e. ne (sym ei ∙ (ap (λ i. countTo i g) e ∙ ek)))
       (record { ups = less; downs = omega (arith, not-below vi fi) })
       (λ j jq. elim (ℕ-discrete j f) [
         | yes e ↦ rw e (omega (arith, without .none (row q s i) (sound .wanted i il .solution)))
         | no other ↦ omega (arith, b j jq, si j jq, sk j jq, put-other f (up vi) (row q s i) j other, put-other f (up vk) (row q s k) j other)
       ])
 
-  -- they are the minimal solutions of the system with the equation, each once
-  pub fresh-loops : Enumerates q (Loop p q a′) n′ row′
+  -- they are the minimal solutions of the system with the equation inside the cap, each once
+  pub fresh-loops : Enumerates q (LoopInside cap p q a′) n′ row′
   fresh-loops =
-      sweep-enumerates q (Wanted p q a′) (λ s t e w. wanted-alike p q a′ e w) n′ row′
+      sweep-enumerates q (Wanted cap p q a′) (λ s t e w. wanted-alike cap p q a′ e w) n′ row′
       (λ x xn.
       let (i, il, fi, ei, si) = made x xn in
-      wanted-alike p q a′ (λ j jq. sym (si j jq))
-      (filled-wanted p q a a′ c extends f fq minus free p₀ a₀ without (s .rows) (row q s) (ended .holding) (ended .closed) i il
+      wanted-alike cap p q a′ (λ j jq. sym (si j jq))
+      (filled-wanted cap p q a a′ c extends f fq uncapped minus free p₀ a₀ without (s .rows) (row q s) (ended .holding) (ended .closed) i il
       (not-below (value c q (row q s i)) fi)))
       (λ t w.
-      let (i, il, e, b) = filled-under p q a a′ c extends f fq minus free p₀ a₀ without (s .rows) (row q s) (ended .holding) (ended .closed) t w in
+      let (i, il, e, b) = filled-under cap p q a a′ c extends f fq uncapped minus free p₀ a₀ without (s .rows) (row q s) (ended .holding) (ended .closed) t w in
       let fi = below-not (value c q (row q s i)) e in (
         countTo i g,
         omega (arith, picked .count, count-step g i (s .rows) il fi),

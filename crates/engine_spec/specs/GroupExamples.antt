@@ -35,6 +35,8 @@ use Rattle.engine_spec.specs.Calls.{
   startChecks,
   startFrom,
   startFromChecks,
+  startFromUnder,
+  startUnder,
   take,
   takeChecks,
 }
@@ -42,8 +44,8 @@ use Rattle.engine_spec.specs.Engine.{
   Work,
   after,
   allDone,
-  begun,
-  begunFrom,
+  begunFromUnder,
+  begunUnder,
   fillTo,
   finish,
   finished,
@@ -85,7 +87,7 @@ lent =
       done = 9;
       equation = 9;
       fresh = 9;
-      stage = begin (replicate 24 9) 9;
+      stage = begin 0 (replicate 24 9) 9;
     }
 
 roomy : 8 * 3 ≤ length (lent .basis)
@@ -106,7 +108,7 @@ abbrev first-left : Work
 first-left = resume 1 3 8 8 100 first-taken .work
 
 first-made : Made 3 1 first (first-left .basis) (first-left .count)
-unfolding start take resume checked startChecks takeChecks resumeChecks begun taken run after finish finished rested allDone valuesSmall onward fillTo
+unfolding startUnder take resume checked startChecks takeChecks resumeChecks begunUnder taken run after finish finished rested allDone valuesSmall onward fillTo
     inOrder marksInOrder coefficientsSmall isRow isRising isLeft refuseFirst refuseWith _then_ packTo turn rowTurn pairTurn degreeTurn paired grown
     passed raised isPair isDue pairDegree nextDegree firstFrom lesser leastTo isWithin reducible isSmall isAtOrBelow value inner sumTo allTo anyTo
     countTo total unit writeTo frozen bit
@@ -128,7 +130,8 @@ abbrev second-left : Work
 second-left = resume 1 3 8 8 100 (take 1 3 8 8 0 2 second-begun .work) .work
 
 second-made : Made 3 2 (first ++ second) (second-left .basis) (second-left .count)
-unfolding start startFrom take resume checked startChecks startFromChecks takeChecks resumeChecks begun begunFrom taken takenFresh run after finish
+unfolding startUnder startFromUnder take resume checked startChecks startFromChecks takeChecks resumeChecks begunUnder begunFromUnder taken takenFresh
+    run after finish
     finished rested allDone valuesSmall onward fillTo inOrder marksInOrder coefficientsSmall isRow isRising isLeft isList isFresh isFree isAlone
     refuseFirst refuseWith _then_ packTo turn rowTurn pairTurn degreeTurn paired grown passed raised isPair isDue pairDegree nextDegree firstFrom
     lesser leastTo isWithin reducible isSmall isAtOrBelow value inner sumTo allTo anyTo countTo total unit writeTo frozen bit putAt
@@ -148,7 +151,7 @@ abbrev both-left : Work
 both-left = resume 2 3 8 8 100 (take 2 3 8 8 1 2 both-one .work) .work
 
 both-made : Made 3 2 (first ++ second) (both-left .basis) (both-left .count)
-unfolding start take resume checked startChecks takeChecks resumeChecks begun taken takenFresh run after finish finished rested allDone valuesSmall
+unfolding startUnder take resume checked startChecks takeChecks resumeChecks begunUnder taken takenFresh run after finish finished rested allDone valuesSmall
     onward fillTo inOrder marksInOrder coefficientsSmall isRow isRising isLeft isFresh isFree isAlone refuseFirst refuseWith _then_ packTo turn
     rowTurn pairTurn degreeTurn paired grown passed raised isPair isDue pairDegree nextDegree firstFrom lesser leastTo isWithin reducible isSmall
     isAtOrBelow value inner sumTo allTo anyTo countTo total unit writeTo frozen bit putAt

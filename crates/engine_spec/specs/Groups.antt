@@ -22,14 +22,14 @@ use Rattle.theorems.specs.Run.{Run}
 use Rattle.linear.specs.Loops.{Loop, MadeOfRows, made-of-loops}
 use Rattle.desk_spec.specs.Desks.{deskResume}
 use Rattle.desk_spec.specs.Groups.{handed-over}
-use Rattle.desk_spec.specs.Promises.{SameList, same-number, same-rows, second-demand-desks}
+use Rattle.desk_spec.specs.Promises.{SameList, second-demand-desks}
 use Rattle.desk_spec.specs.Runs.{DeskRun, left, run-valid}
 use Rattle.engine_spec.specs.Calls.{resume, startFrom}
 use Rattle.engine_spec.specs.Done.{among, done-solved, solved-done}
 use Rattle.engine_spec.specs.Engine.{Work, basisRow, system, systemOf}
 use Rattle.engine_spec.specs.Operations.{value-alike}
 use Rattle.engine_spec.specs.Promise.{Runs, RunsOn, afterStartFrom, run-members}
-use Rattle.engine_spec.specs.Kinds.{before, both-groups, deskFrom, from-list, solution-alike}
+use Rattle.engine_spec.specs.Kinds.{before, both-groups, deskFrom, from-list, same-list, solution-alike}
 use Rattle.engine_spec.specs.Promises.{complete-exactly, mapOf}
 use Rattle.engine_spec.specs.Sides.{minimal-alike, minimal-as}
 
@@ -107,7 +107,7 @@ one-list {q} {p} {p′} {coefs} {coefs′} same {other = other} {m = m} x y =
       part = record { room = f .part .room; only = λ i l. loop-as (same .back) (same .there) _ (f .part .only i l); once = f .part .once };
       all = λ t b. f .all t (loop-as (same .there) (same .back) t b);
     } in
-    record { number = same-number e g; there = same-rows e g; back = same-rows g e }
+    same-list e g
 
 -- of one map
 pub one-map : {q p : ℕ} {coefs : List ℤ} {one other : List ℕ} {n m : ℕ} → Made q p coefs one n → Made q p coefs other m → SameList q one n other m

@@ -8,7 +8,7 @@ use Rattle.linear.specs.Sums.{sumTo}
 use Rattle.linear.specs.Systems.{inner, value}
 use Rattle.linear.specs.Tests.{allTo, anyTo, countTo}
 use Rattle.linear.specs.Tuples.{total, unit}
-use Rattle.definitions.specs.Answers.{Answer, _then_, complete, refuseFirst, refuseWith, refused}
+use Rattle.definitions.specs.Answers.{Answer, _then_, complete, refuseFirst, refuseWith, refused, started}
 use Rattle.definitions.specs.System.{extendTo, isAtOrBelow}
 use Rattle.definitions.specs.Tables.{bit, frozen, writeTo}
 use Rattle.laws.specs.Pack.{packTo}
@@ -31,6 +31,8 @@ use Rattle.engine_spec.specs.Calls.{
   startChecks,
   startFrom,
   startFromChecks,
+  startFromUnder,
+  startUnder,
   takeChecks,
 }
 use Rattle.engine_spec.specs.Engine.{
@@ -38,8 +40,8 @@ use Rattle.engine_spec.specs.Engine.{
   Work,
   after,
   allDone,
-  begun,
-  begunFrom,
+  begunFromUnder,
+  begunUnder,
   fillTo,
   finish,
   finished,
@@ -80,12 +82,18 @@ lent q =
       done = 9;
       equation = 9;
       fresh = 9;
-      stage = begin (replicate (16 * suc q) 9) 9;
+      stage = begin 0 (replicate (16 * suc q) 9) 9;
     }
 
--- one equation in q unknowns besides the extra one: the start, the stage of the equation, and turns to its end
+-- one equation in q unknowns besides the extra one: the start, the stage of the equation with the fresh unknown f, and turns to its end
+abbrev taking : (cap q f : ℕ) → List ℤ → Result
+taking cap q f coefs = engine.take 1 (suc q) 16 16 0 f (startUnder cap 1 (suc q) coefs 16 (lent q) .work)
+
+abbrev ranUnder : (cap q : ℕ) → List ℤ → Result
+ranUnder cap q coefs = resume 1 (suc q) 16 16 100 (taking cap q (suc q) coefs .work)
+
 abbrev ran : (q : ℕ) → List ℤ → Result
-ran q coefs = resume 1 (suc q) 16 16 100 (engine.take 1 (suc q) 16 16 0 (suc q) (start 1 (suc q) coefs 16 (lent q) .work) .work)
+ran = ranUnder 0
 
 pub record Shown : Type 0 where
   pub answer : Answer
@@ -119,6 +127,12 @@ pub record Kinds : Type 0 where
   -- 2 x = 3: no tuple meets it; the row (2, 3) of the extended system is handed out nowhere
   pub without : shown 1 1 none (ran 1 (extendTo 1 1 (pos 2 ∷ []) (pos 3 ∷ []))) ≡ sees []
   pub left-out : take 2 (ran 1 (extendTo 1 1 (pos 2 ∷ []) (pos 3 ∷ [])) .work .basis) ≡ 2 ∷ 3 ∷ []
+  -- with a cap of 1 on the first unknown it is no row at all, and no unknown with a cap is fresh: x = 1
+  pub dropped : ranUnder 1 1 (extendTo 1 1 (pos 2 ∷ []) (pos 3 ∷ [])) .work .count ≡ 0
+  pub capped-loops : shown 0 2 none (ranUnder 1 2 (extendTo 1 2 double (pos 3 ∷ []))) ≡ sees (2 ∷ 1 ∷ [])
+  pub capped-meeting : shown 1 2 none (ranUnder 1 2 (extendTo 1 2 double (pos 3 ∷ []))) ≡ sees (3 ∷ 0 ∷ [])
+  pub fresh : taking 0 1 0 (extendTo 1 1 (pos 1 ∷ []) (pos 1 ∷ [])) .answer ≡ started
+  pub capped-fresh : taking 1 1 0 (extendTo 1 1 (pos 1 ∷ []) (pos 1 ∷ [])) .answer ≡ refused 33 []
   -- "zero if all of them are zero"
   pub zeros : shown 1 2 none (ran 2 (extendTo 1 2 double (pos 0 ∷ []))) ≡ sees (0 ∷ 0 ∷ [])
   -- 3 x = 2 y with x at least 2; x + y = 0 with x at least 2
@@ -126,12 +140,26 @@ pub record Kinds : Type 0 where
   pub nothing-above : shown 1 2 two (ran 2 (extendTo 1 2 (pos 1 ∷ pos 1 ∷ []) (lessTo 1 2 (pos 1 ∷ pos 1 ∷ []) [] two))) ≡ sees []
 
 kinds : Kinds
-unfolding start engine.take resume checked startChecks takeChecks resumeChecks begun taken run after finish finished rested allDone valuesSmall onward fillTo
+unfolding startUnder engine.take resume checked startChecks takeChecks resumeChecks begunUnder taken run after finish finished rested allDone valuesSmall
+    onward fillTo
     inOrder marksInOrder coefficientsSmall isRow isRising isLeft refuseFirst refuseWith _then_ packTo extendTo lessTo turn rowTurn pairTurn degreeTurn
     paired grown passed raised isPair isDue pairDegree nextDegree firstFrom lesser leastTo isWithin reducible isSmall isAtOrBelow value inner sumTo allTo
-    anyTo countTo total unit writeTo frozen bit
+    anyTo countTo total unit writeTo frozen bit isFresh isFree isAlone
 kinds =
-    record { loops = refl; meeting = refl; without = refl; left-out = refl; zeros = refl; bound = refl; nothing-above = refl }
+    record {
+      loops = refl;
+      meeting = refl;
+      without = refl;
+      left-out = refl;
+      dropped = refl;
+      capped-loops = refl;
+      capped-meeting = refl;
+      fresh = refl;
+      capped-fresh = refl;
+      zeros = refl;
+      bound = refl;
+      nothing-above = refl;
+    }
 
 -- ---- from a list
 
@@ -179,7 +207,8 @@ pub record Lists : Type 0 where
   pub range : begins (pos 0 ∷ pos 10001 ∷ pos 0 ∷ []) 2 sameList .answer ≡ refused 7 (2 ∷ [])
 
 lists : Lists
-unfolding startFrom engine.take resume checked startFromChecks takeChecks resumeChecks begunFrom taken takenFresh run after finish finished rested allDone
+unfolding startFromUnder engine.take resume checked startFromChecks takeChecks resumeChecks begunFromUnder taken takenFresh run after finish finished
+    rested allDone
     valuesSmall onward fillTo inOrder marksInOrder coefficientsSmall isRow isRising isLeft isList isFresh isFree isAlone refuseFirst refuseWith _then_
     packTo turn rowTurn pairTurn degreeTurn paired grown passed raised isPair isDue pairDegree nextDegree firstFrom lesser leastTo isWithin reducible
     isSmall isAtOrBelow value inner sumTo allTo anyTo countTo total unit writeTo frozen bit putAt

@@ -1,13 +1,17 @@
 -- The promises of the engine for every kind of map: right sides, lower bounds, and one group of equations after the other. Open this file after Promises.antt.
--- They hold of every run that nobody else alters, on a system made from the map as Sides.antt has it; what is handed out of its list is defined there too.
--- Groups.antt has the user's first sentence: however a list was made, it is the same. Assumes nothing.
+-- They hold of every run that nobody else alters, on a system made from the map as Sides.antt has it; what is handed out of its list is defined there too. A
+-- run may have a cap on the extra unknown (Caps.antt), so that rows with more than 1 there are dropped as they come: the lists are the same. Groups.antt has
+-- the user's first sentence: however a list was made, it is the same. Assumes nothing.
 use mathlib.Core.Path.{_≡_, refl, sym, _∙_}
+use mathlib.Core.Logic.{inl, inr}
 use mathlib.Core.List.{List, [], _++_}
 use Prim.Native.Nat.{ℕ, zero, suc, _+_, _*_, _-_, _≤_, _<_}
 use native.Mathlib.Nat.{le-div-iff-mul-le, mul-le-mul-right}
 use native.Mathlib.Omega.{arith}
 use lib.IntN.{ℤ, pos, negℤ, _+ℤ_}
-use lib.ListN.{getD, length, take}
+use lib.ListN.{getD, length, length-append, List·getD-append, take}
+use lib.Seq.{getD-append-add}
+use Rattle.linear.specs.Cases.{split}
 use Rattle.linear.specs.Combinations.{Enumerates, SumOf, found-below, minimal-below, solution-same}
 use Rattle.linear.specs.Differences.{integers, sum-is}
 use Rattle.linear.specs.RightSides.{Extends}
@@ -26,14 +30,29 @@ use Rattle.theorems.specs.Listed.{Exactly, enumerated, only-one}
 use Rattle.linear.specs.Loops.{Loop, loops-make-up}
 use Rattle.desk_spec.specs.Desks.{Desk}
 use Rattle.desk_spec.specs.Groups.{groups-joined}
-use Rattle.desk_spec.specs.Second.{both-whole, whole-first, whole-second}
-use Rattle.engine_spec.specs.Base.{Base, before-solved, behind-solved, both-solved, enumerates-as, onTop}
+use Rattle.desk_spec.specs.Second.{Joined, both-whole, whole-first, whole-second}
+use Rattle.desk_spec.specs.Promises.{SameList, same-number, same-rows}
+use Rattle.engine_spec.specs.Base.{Base, before-solved, behind-solved, both-solved, enumerates-as, onTop, under}
 use Rattle.engine_spec.specs.Calls.{resume, resumeChecks}
+use Rattle.engine_spec.specs.Caps.{Inside}
 use Rattle.engine_spec.specs.Done.{among}
 use Rattle.engine_spec.specs.Engine.{Work, basisRow, system, systemOf}
+use Rattle.engine_spec.specs.Equations.{LoopInside, inside-loop, loop-inside}
+use Rattle.engine_spec.specs.Operations.{value-alike}
 use Rattle.engine_spec.specs.Own.{own-calls, runs-shape}
-use Rattle.engine_spec.specs.Promise.{Runs, RunsOn, afterResume, all-complete, all-members, run-complete, runs-whole}
+use Rattle.engine_spec.specs.Promise.{
+  Runs,
+  RunsOn,
+  RunsUnder,
+  afterResume,
+  all-complete,
+  all-members,
+  rows-inside,
+  runs-whole,
+  under-complete,
+}
 use Rattle.engine_spec.specs.Promises.{mapOf}
+use Rattle.engine_spec.specs.Stage.{row}
 use Rattle.engine_spec.specs.Sides.{
   MeetsFrom,
   at-0-loop,
@@ -50,6 +69,7 @@ use Rattle.engine_spec.specs.Sides.{
   minimal-as,
   neither,
   raised-minimal,
+  value-apart,
 }
 
 -- ---- what is listed, in words
@@ -62,8 +82,8 @@ nothing j = 0
 abbrev pub MinimalMeetingFrom : (p q : ℕ) (coefs rights : List ℤ) (lower : ℕ → ℕ) → (ℕ → ℕ) → Type 0
 MinimalMeetingFrom p q coefs rights lower = Minimal q (MeetsFrom p q (systemOf q coefs) (λ i. getD rights i (pos 0)) lower)
 
--- What a complete list of the extended system holds: "at 0 the loops of the plain map, at 1 the smallest tuples that meet the right sides" (`Whole` of
--- theorems/specs/Held says the same of a capped run). The rows with c are written into any table with room for them.
+-- What a complete list of the extended system holds, with a cap or without: "at 0 the loops of the plain map, at 1 the smallest tuples that meet the right
+-- sides" (`Whole` of theorems/specs/Held says the same of a capped run). The rows with c are written into any table with room for them.
 pub record BothLists (p q : ℕ) (coefs rights : List ℤ) (list : List ℕ) (n : ℕ) : Type 0 where
   -- the rows with 0 are exactly the minimal solutions of the map, each once,
   pub at-zero : (out : List ℕ) → handedCount 0 q list n * q ≤ length out
@@ -89,8 +109,18 @@ solution-alike p q a s t e w =
 meets-alike : (p q : ℕ) (a : ℕ → ℕ → ℤ) (b : ℕ → ℤ) (s t : ℕ → ℕ) → Same q s t → Meets p q a b s → Meets p q a b t
 meets-alike p q a b s t e m i l = sym (value-same (a i) q e) ∙ m i l
 
-module _ (p q : ℕ) (some : 0 < q) (coefs rights : List ℤ) (numbers : length coefs ≡ p * q) (list : List ℕ) (n : ℕ)
-    (rows : Enumerates (suc q) (Loop p (suc q) (systemOf (suc q) (extendTo p q coefs rights))) n (at list (suc q))) where
+-- a cap, where there is one, is 1 or more: the rows that stand for the tuples of both lists are inside it
+first-inside : (cap q c : ℕ) (s : ℕ → ℕ) → c ≤ 1 → Inside cap (suc q) (put c s)
+first-inside cap q c s low capped columns = omega arith
+
+module _ (cap p q : ℕ) (some : 0 < q) (coefs rights : List ℤ) (numbers : length coefs ≡ p * q) (list : List ℕ) (n : ℕ)
+    (rows : Enumerates (suc q) (LoopInside cap p (suc q) (systemOf (suc q) (extendTo p q coefs rights))) n (at list (suc q))) where
+  abbrev extended : ℕ → ℕ → ℤ
+  extended = systemOf (suc q) (extendTo p q coefs rights)
+
+  loop : (t : ℕ → ℕ) → LoopInside cap p (suc q) extended t → Loop p (suc q) extended t
+  loop = inside-loop cap p (suc q) extended
+
   abbrev a : ℕ → ℕ → ℤ
   a = systemOf q coefs
 
@@ -109,27 +139,38 @@ module _ (p q : ℕ) (some : 0 < q) (coefs rights : List ℤ) (numbers : length 
   ones : (out : List ℕ) → handedCount 1 q list n * q ≤ length out
       → Exactly q (MinimalMeeting (mapOf p q coefs) rights) (handed 1 q nothing list n out) (handedCount 1 q list n)
   ones out roomy =
-      handed-exactly q some (Loop p (suc q) (systemOf (suc q) (extendTo p q coefs rights))) (Minimal q (Meets p q a b)) meeting-alike 1 nothing
-      (λ t m z. meeting-alike (rest t) (λ j. rest t j + 0) (λ j l. omega arith) (loop-at-1 x t m z))
-      (λ s m. (put 1 s, at-1-loop x s m, refl, λ j l. omega arith)) list n rows out roomy
+      handed-exactly q some (LoopInside cap p (suc q) extended) (Minimal q (Meets p q a b)) meeting-alike 1 nothing
+      (λ t m z. meeting-alike (rest t) (λ j. rest t j + 0) (λ j l. omega arith) (loop-at-1 x t (loop t m) z))
+      (λ s m. (put 1 s, loop-inside cap p (suc q) extended (put 1 s) (first-inside cap q 1 s (omega arith)) (at-1-loop x s m), refl, λ j l. omega arith))
+      list n rows out roomy
 
   both-lists : BothLists p q coefs rights list n
   both-lists =
       record {
         at-zero = λ out roomy.
-            handed-exactly q some (Loop p (suc q) (systemOf (suc q) (extendTo p q coefs rights))) (Loop p q a) plain-alike 0 nothing
-            (λ t m z. plain-alike (rest t) (λ j. rest t j + 0) (λ j l. omega arith) (loop-at-0 x t m z))
-            (λ s m. (put 0 s, at-0-loop x s m, refl, λ j l. omega arith)) list n rows out roomy;
+            handed-exactly q some (LoopInside cap p (suc q) extended) (Loop p q a) plain-alike 0 nothing
+            (λ t m z. plain-alike (rest t) (λ j. rest t j + 0) (λ j l. omega arith) (loop-at-0 x t (loop t m) z))
+            (λ s m. (
+              put 0 s,
+              loop-inside cap p (suc q) extended (put 0 s) (first-inside cap q 0 s (omega arith)) (at-0-loop x s m),
+              refl,
+              λ j l. omega arith,
+            ))
+            list n rows out roomy;
         at-one = ones;
         zero-alone = λ zeros out roomy.
             let (zero-is, least) = zero-sides (inputOf p q coefs) rights zeros in
             only-one (ones out roomy) (λ j. 0) zero-is least;
-        others = λ i l more. neither x (at list (suc q) i) (rows .only i l) more;
+        others = λ i l more. neither x (at list (suc q) i) (loop (at list (suc q) i) (rows .only i l)) more;
       }
 
 -- The smallest tuples at or above a bound, from the list of the system extended by the right sides less what the bound makes of them.
-module _ (p q : ℕ) (some : 0 < q) (coefs rights : List ℤ) (numbers : length coefs ≡ p * q) (lower : ℕ → ℕ) (list : List ℕ) (n : ℕ)
-    (rows : Enumerates (suc q) (Loop p (suc q) (systemOf (suc q) (extendTo p q coefs (lessTo p q coefs rights lower)))) n (at list (suc q))) where
+module _ (cap p q : ℕ) (some : 0 < q) (coefs rights : List ℤ) (numbers : length coefs ≡ p * q) (lower : ℕ → ℕ) (list : List ℕ) (n : ℕ)
+    (rows : Enumerates (suc q) (LoopInside cap p (suc q) (systemOf (suc q) (extendTo p q coefs (lessTo p q coefs rights lower)))) n
+    (at list (suc q))) where
+  abbrev extended′ : ℕ → ℕ → ℤ
+  extended′ = systemOf (suc q) (extendTo p q coefs (lessTo p q coefs rights lower))
+
   abbrev b′ : ℕ → ℤ
   b′ i = getD (lessTo p q coefs rights lower) i (pos 0)
 
@@ -149,12 +190,12 @@ module _ (p q : ℕ) (some : 0 < q) (coefs rights : List ℤ) (numbers : length 
   from-bound : (out : List ℕ) → handedCount 1 q list n * q ≤ length out
       → Exactly q (MinimalMeetingFrom p q coefs rights lower) (handed 1 q lower list n out) (handedCount 1 q list n)
   from-bound out roomy =
-      handed-exactly q some (Loop p (suc q) (systemOf (suc q) (extendTo p q coefs (lessTo p q coefs rights lower)))) (Minimal q From)
-      (minimal-alike q from-alike) 1 lower
-      (λ t m z. raised-minimal p q (systemOf q coefs) _ b′ lower less (rest t) (loop-at-1 x′ t m z))
+      handed-exactly q some (LoopInside cap p (suc q) extended′) (Minimal q From) (minimal-alike q from-alike) 1 lower
+      (λ t m z. raised-minimal p q (systemOf q coefs) _ b′ lower less (rest t) (loop-at-1 x′ t (inside-loop cap p (suc q) extended′ t m) z))
       (λ s m. (
         put 1 (λ j. s j - lower j),
-        at-1-loop x′ (λ j. s j - lower j) (lowered-minimal p q (systemOf q coefs) _ b′ lower less s m),
+        loop-inside cap p (suc q) extended′ (put 1 (λ j. s j - lower j)) (first-inside cap q 1 (λ j. s j - lower j) (omega arith))
+            (at-1-loop x′ (λ j. s j - lower j) (lowered-minimal p q (systemOf q coefs) _ b′ lower less s m)),
         refl,
         λ j l. omega (arith, m .holds .above j l),
       ))
@@ -170,13 +211,42 @@ module _ (p q : ℕ) (some : 0 < q) (coefs rights : List ℤ) (numbers : length 
 
 -- ---- the promises
 
+pub same-list : {q : ℕ} {W : (ℕ → ℕ) → Type 0} {one other : List ℕ} {n m : ℕ} → Exactly q W one n → Exactly q W other m → SameList q one n other m
+same-list x y = record { number = same-number x y; there = same-rows x y; back = same-rows y x }
+
+-- a run on the extended system, with any cap on the first unknown
+pub right-sides-under : (cap p q : ℕ) → 0 < q → (coefs rights : List ℤ) → length coefs ≡ p * q → {most room : ℕ} {w : Work}
+    → RunsUnder cap p (suc q) (extendTo p q coefs rights) most room w → (budget : ℕ) → resume p (suc q) most room budget w .answer ≡ complete
+    → let v = resume p (suc q) most room budget w .work in BothLists p q coefs rights (v .basis) (v .count)
+right-sides-under cap p q some coefs rights numbers {most} {room} {w} r budget e =
+    let v = resume p (suc q) most room budget w .work in
+    both-lists cap p q some coefs rights numbers (v .basis) (v .count) (under-complete cap p (suc q) (extendTo p q coefs rights) r budget e)
+
 -- Right sides (document 02, Job 1): a run on the extended system gives both lists once a call says "complete".
 pub right-sides : (p q : ℕ) → 0 < q → (coefs rights : List ℤ) → length coefs ≡ p * q → {most room : ℕ} {w : Work}
     → Runs p (suc q) (extendTo p q coefs rights) most room w → (budget : ℕ) → resume p (suc q) most room budget w .answer ≡ complete
     → let v = resume p (suc q) most room budget w .work in BothLists p q coefs rights (v .basis) (v .count)
-right-sides p q some coefs rights numbers {most} {room} {w} r budget e =
-    let v = resume p (suc q) most room budget w .work in
-    both-lists p q some coefs rights numbers (v .basis) (v .count) (run-complete p (suc q) (extendTo p q coefs rights) r budget e)
+right-sides = right-sides-under 0
+
+-- The same with a cap of 1 on the first unknown: no row ever has more than 1 there, in the basis or in the stage's table, and none is left out at the end.
+pub right-sides-capped : (p q : ℕ) → 0 < q → (coefs rights : List ℤ) → length coefs ≡ p * q → {most room : ℕ} {w : Work}
+    → RunsUnder 1 p (suc q) (extendTo p q coefs rights) most room w
+    → (((i : ℕ) → i < w .count → basisRow (suc q) w i 0 ≤ 1) × ((i : ℕ) → i < w .stage .rows → row (suc q) (w .stage) i 0 ≤ 1))
+    × ((budget : ℕ) → resume p (suc q) most room budget w .answer ≡ complete
+    → let v = resume p (suc q) most room budget w .work in BothLists p q coefs rights (v .basis) (v .count))
+right-sides-capped p q some coefs rights numbers r =
+    let (listed, staged) = rows-inside (under 1) p (suc q) (extendTo p q coefs rights) r in (
+      (λ i l. listed i l (omega arith) (omega arith), λ i l. staged i l (omega arith) (omega arith)),
+      right-sides-under 1 p q some coefs rights numbers r,
+    )
+
+-- Both lists are the same, with whatever cap either run had: in any tables, the same rows, as many, each row of either in the other.
+pub same-sides : (p q : ℕ) (coefs rights : List ℤ) {one other : List ℕ} {n m : ℕ} → BothLists p q coefs rights one n → BothLists p q coefs rights other m
+    → (c : ℕ) → c ≤ 1 → (out out′ : List ℕ) → handedCount c q one n * q ≤ length out → handedCount c q other m * q ≤ length out′
+    → SameList q (handed c q nothing one n out) (handedCount c q one n) (handed c q nothing other m out′) (handedCount c q other m)
+same-sides p q coefs rights x y zero low out out′ l l′ = same-list (x .at-zero out l) (y .at-zero out′ l′)
+same-sides p q coefs rights x y (suc zero) low out out′ l l′ = same-list (x .at-one out l) (y .at-one out′ l′)
+same-sides p q coefs rights x y (suc (suc c)) low out out′ l l′ = absurd (omega arith)
 
 -- So a state whose two lists are those handed out holds what a complete run with right sides does, word for word.
 pub sides-held : (p q : ℕ) (coefs b : List ℤ) (list : List ℕ) (n : ℕ) → BothLists p q coefs b list n → (out out′ : List ℕ)
@@ -214,17 +284,23 @@ pub record FromBound (p q : ℕ) (coefs rights : List ℤ) (lower : ℕ → ℕ)
       → Exactly q (MinimalMeetingFrom p q coefs rights lower) (handed 1 q lower list n out) (handedCount 1 q list n)
   pub empty : handedCount 1 q list n ≡ 0 → (t : ℕ → ℕ) → AtOrBelow q lower t → ¬ (Meets p q (systemOf q coefs) (λ i. getD rights i (pos 0)) t)
 
+pub lower-bound-under : (cap p q : ℕ) → 0 < q → (coefs rights : List ℤ) → length coefs ≡ p * q → (lower : ℕ → ℕ) → {most room : ℕ} {w : Work}
+    → RunsUnder cap p (suc q) (extendTo p q coefs (lessTo p q coefs rights lower)) most room w → (budget : ℕ)
+    → resume p (suc q) most room budget w .answer ≡ complete
+    → let v = resume p (suc q) most room budget w .work in FromBound p q coefs rights lower (v .basis) (v .count)
+lower-bound-under cap p q some coefs rights numbers lower {most} {room} {w} r budget e =
+    let v = resume p (suc q) most room budget w .work in
+    let rows = under-complete cap p (suc q) (extendTo p q coefs (lessTo p q coefs rights lower)) r budget e in
+    record {
+      smallest = from-bound cap p q some coefs rights numbers lower (v .basis) (v .count) rows;
+      empty = none-from cap p q some coefs rights numbers lower (v .basis) (v .count) rows;
+    }
+
 pub lower-bound-with : (p q : ℕ) → 0 < q → (coefs rights : List ℤ) → length coefs ≡ p * q → (lower : ℕ → ℕ) → {most room : ℕ} {w : Work}
     → Runs p (suc q) (extendTo p q coefs (lessTo p q coefs rights lower)) most room w → (budget : ℕ)
     → resume p (suc q) most room budget w .answer ≡ complete
     → let v = resume p (suc q) most room budget w .work in FromBound p q coefs rights lower (v .basis) (v .count)
-lower-bound-with p q some coefs rights numbers lower {most} {room} {w} r budget e =
-    let v = resume p (suc q) most room budget w .work in
-    let rows = run-complete p (suc q) (extendTo p q coefs (lessTo p q coefs rights lower)) r budget e in
-    record {
-      smallest = from-bound p q some coefs rights numbers lower (v .basis) (v .count) rows;
-      empty = none-from p q some coefs rights numbers lower (v .basis) (v .count) rows;
-    }
+lower-bound-with = lower-bound-under 0
 
 -- Lower bounds (Job 4): "the minimal solutions at or above the floor are meant, and the zero tuple counts". An empty list means that nothing at or above the
 -- bound is a solution, which no floor walk promises.
@@ -267,9 +343,12 @@ both-groups q p coefs p′ coefs′ numbers t =
 
 -- ---- from a list
 
--- the equations before, as p rows of coefficients
+-- the equations before, as p rows of coefficients, with a cap and without
+abbrev pub beforeUnder : (cap p q : ℕ) (coefs : List ℤ) → Base
+beforeUnder cap p q coefs = record { p = p; a = systemOf q coefs; cap = cap }
+
 abbrev pub before : (p q : ℕ) (coefs : List ℤ) → Base
-before p q coefs = record { p = p; a = systemOf q coefs }
+before = beforeUnder 0
 
 -- a run that started from the list of p₀ equations, with p further ones
 module _ (p₀ q : ℕ) (coefs₀ : List ℤ) (numbers : length coefs₀ ≡ p₀ * q) (p : ℕ) (coefs : List ℤ) {most room : ℕ} {w : Work}
@@ -285,7 +364,7 @@ module _ (p₀ q : ℕ) (coefs₀ : List ℤ) (numbers : length coefs₀ ≡ p�
       let v = resume p q most room budget w .work in
       let whole = runs-whole (before p₀ q coefs₀) p q coefs (afterResume r budget) in
       let fits : v .count * q ≤ length (v .basis) = omega (arith, whole .long, mul-le-mul-right q (whole .few)) in
-      let rows = enumerates-as there back (all-complete (before p₀ q coefs₀) p q coefs r budget e) in
+      let rows = enumerates-as 0 there back (all-complete (before p₀ q coefs₀) p q coefs r budget e) in
       record {
         part =
             record {
@@ -310,3 +389,63 @@ module _ (p₀ q : ℕ) (coefs₀ : List ℤ) (numbers : length coefs₀ ≡ p�
   pub list-cut-short : w .equation ≡ p
       → Enumerates q (Loop (p₀ + p) q (onTop (before p₀ q coefs₀) (among (w .done) (system q w)))) (w .count) (basisRow q w)
   list-cut-short rests = all-members (before p₀ q coefs₀) p q coefs r rests
+
+-- ---- right sides, one group of equations after the other
+
+module _ (p₀ q : ℕ) (coefs₀ rights₀ : List ℤ) (numbers₀ : length coefs₀ ≡ p₀ * q) (sides₀ : length rights₀ ≡ p₀) (p : ℕ) (coefs rights : List ℤ)
+    (numbers : length coefs ≡ p * q) where
+  abbrev both : ℕ → ℕ → ℤ
+  both = systemOf (suc q) (extendTo (p₀ + p) q (coefs₀ ++ coefs) (rights₀ ++ rights))
+
+  abbrev first : ℕ → ℕ → ℤ
+  first = systemOf (suc q) (extendTo p₀ q coefs₀ rights₀)
+
+  abbrev second : ℕ → ℕ → ℤ
+  second = systemOf (suc q) (extendTo p q coefs rights)
+
+  all-numbers : length (coefs₀ ++ coefs) ≡ (p₀ + p) * q
+  all-numbers = length-append coefs₀ coefs ∙ rw (numbers₀, numbers) (omega arith)
+
+  joined : Joined p₀ p q (systemOf q coefs₀) (systemOf q coefs) (systemOf q (coefs₀ ++ coefs))
+  joined = groups-joined (deskFrom p q coefs 0 []) (record { p = p₀; coefs = coefs₀; numbers = numbers₀ })
+
+  -- the extended equations of both groups are those of the first, then those of the second
+  value-of-first : (i : ℕ) → i < p₀ → (t : ℕ → ℕ) → value (both i) (suc q) t ≡ value (first i) (suc q) t
+  value-of-first i l t =
+      value-apart (extends (mapOf (p₀ + p) q (coefs₀ ++ coefs)) (rights₀ ++ rights) all-numbers) i (omega arith) t
+      ∙ rw (List·getD-append rights₀ rights (pos 0) i (omega (arith, sides₀)), value-alike q (rest t) (λ j jq. joined .first i j l jq))
+      (sym (value-apart (extends (mapOf p₀ q coefs₀) rights₀ numbers₀) i l t))
+
+  value-of-second : (i : ℕ) → i < p → (t : ℕ → ℕ) → value (both (p₀ + i)) (suc q) t ≡ value (second i) (suc q) t
+  value-of-second i l t =
+      let side : getD (rights₀ ++ rights) (p₀ + i) (pos 0) ≡ getD rights i (pos 0) = rw sides₀ at (getD-append-add rights₀ rights i (pos 0)) in
+      value-apart (extends (mapOf (p₀ + p) q (coefs₀ ++ coefs)) (rights₀ ++ rights) all-numbers) (p₀ + i) (omega arith) t
+      ∙ rw (side, value-alike q (rest t) (λ j jq. joined .second i j l jq)) (sym (value-apart (extends (mapOf p q coefs) rights numbers) i l t))
+
+  -- A run that started from the whole list of the first group's extended equations, with those of the second: a complete result is both lists of the whole
+  -- map with all right sides, with a cap or without.
+  pub sides-from-list : (cap : ℕ) → 0 < q → {most room : ℕ} {w : Work}
+      → RunsOn (beforeUnder cap p₀ (suc q) (extendTo p₀ q coefs₀ rights₀)) p (suc q) (extendTo p q coefs rights) most room w → (budget : ℕ)
+      → resume p (suc q) most room budget w .answer ≡ complete
+      → let v = resume p (suc q) most room budget w .work in BothLists (p₀ + p) q (coefs₀ ++ coefs) (rights₀ ++ rights) (v .basis) (v .count)
+  sides-from-list cap some {most} {room} {w} r budget e =
+      let v = resume p (suc q) most room budget w .work in
+      both-lists cap (p₀ + p) q some (coefs₀ ++ coefs) (rights₀ ++ rights) all-numbers (v .basis) (v .count)
+      (enumerates-as cap there back (all-complete base p (suc q) (extendTo p q coefs rights) r budget e))
+    where
+      base : Base
+      base = beforeUnder cap p₀ (suc q) (extendTo p₀ q coefs₀ rights₀)
+
+      there : (t : ℕ → ℕ) → Solution (p₀ + p) (suc q) (onTop base second) t → Solution (p₀ + p) (suc q) both t
+      there t s i l =
+          elim (split i p₀) [
+            | inl low ↦ value-of-first i low t ∙ before-solved base p (suc q) second t s i low
+            | inr high ↦
+                let place : i ≡ p₀ + (i - p₀) = omega arith in
+                rw place (value-of-second (i - p₀) (omega arith) t ∙ behind-solved base p (suc q) second t s (i - p₀) (omega arith))
+          ]
+
+      back : (t : ℕ → ℕ) → Solution (p₀ + p) (suc q) both t → Solution (p₀ + p) (suc q) (onTop base second) t
+      back t s =
+          both-solved base p (suc q) second t (λ i l. sym (value-of-first i l t) ∙ s i (omega arith))
+          (λ i l. sym (value-of-second i l t) ∙ s (p₀ + i) (omega arith))

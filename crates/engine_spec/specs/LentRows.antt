@@ -25,6 +25,7 @@ use Rattle.engine_spec.specs.Fresh.{notBelow}
 use Rattle.engine_spec.specs.Promise.{withTables}
 use Rattle.engine_spec.specs.ReductionLaws.{SameRows, reduced-more}
 use Rattle.engine_spec.specs.Search.{begins, firstFrom, holder, leastTo, lesser, pair-found, partner}
+use Rattle.engine_spec.specs.Tests.{due-pair, pair-columns}
 use Rattle.engine_spec.specs.Stage.{above, below, dueRow, isDue, isPair, nextDegree, pairDegree, row}
 
 -- ---- searches by tests that agree
@@ -135,7 +136,14 @@ module _ (q : ℕ) (w : Work) (basis table : List ℕ) (sameBasis : SameRows q (
   needs-there : NeedsSum q v → NeedsSum q w
   needs-there (looks, none) =
       let (no-row, l) = looks-there looks in
-      ((no-row, l), λ r. none (reduced-more q c n n (row q (w .stage)) (row q (v .stage)) (nextSum q w) (nextSum q v) (omega arith) in-table (sum-same l) r))
+      let (kn, due) = pair-found n (isDue q c (row q (w .stage)) (w .stage .degree)) (w .stage .upper) (w .stage .lower) l in
+      let some = pair-columns q c (row q (w .stage)) _ _ (due-pair q c (row q (w .stage)) _ _ (w .stage .degree) due) in (
+        (no-row, l),
+        λ needless. none (elim needless [
+          | inl (capped, over) ↦ inl (capped, omega (arith, sum-same l 0 some))
+          | inr r ↦ inr (reduced-more q c n n (row q (w .stage)) (row q (v .stage)) (nextSum q w) (nextSum q v) (omega arith) in-table (sum-same l) r)
+        ]),
+      )
 
   ends-there : EndsStage q v → EndsStage q w
   ends-there (no-row, (no-pair, last)) = (λ h. no-row (takes-here h), (λ h. no-pair (omega (arith, above-same)), sym next-same ∙ last))

@@ -1,3 +1,4 @@
+pub mod Caps
 pub mod Signs
 pub mod Equations
 pub mod Done

@@ -18,10 +18,9 @@ use Rattle.linear.specs.Systems.{Solution, inner, value}
 use Rattle.linear.specs.SystemLaws.{inner-cong}
 use Rattle.definitions.specs.Tables.{frozen}
 use Rattle.laws.specs.TableLaws.{row-before, row-fits}
-use Rattle.linear.specs.Loops.{Loop}
 use Rattle.engine_spec.specs.Done.{among, done-solved, solved-done}
 use Rattle.engine_spec.specs.Engine.{Work, combination, combined, fillTo, system}
-use Rattle.engine_spec.specs.Equations.{Wanted}
+use Rattle.engine_spec.specs.Equations.{LoopInside, Wanted}
 use Rattle.engine_spec.specs.Sound.{Given}
 
 -- two systems of p equations have the same solutions
@@ -34,14 +33,14 @@ alike-then r s = record { there = λ t h. s .there t (r .there t h); back = λ t
 
 -- ---- so they have the same minimal solutions
 
-module _ {p q : ℕ} {a b : ℕ → ℕ → ℤ} (s : Alike p q a b) where
-  wanted-there : (t : ℕ → ℕ) → Wanted p q a t → Wanted p q b t
+module _ (cap : ℕ) {p q : ℕ} {a b : ℕ → ℕ → ℤ} (s : Alike p q a b) where
+  wanted-there : (t : ℕ → ℕ) → Wanted cap p q a t → Wanted cap p q b t
   wanted-there t w = record { solution = s .there t (w .solution); admitted = w .admitted }
 
-  wanted-back : (t : ℕ → ℕ) → Wanted p q b t → Wanted p q a t
+  wanted-back : (t : ℕ → ℕ) → Wanted cap p q b t → Wanted cap p q a t
   wanted-back t w = record { solution = s .back t (w .solution); admitted = w .admitted }
 
-  pub alike-enumerates : {n : ℕ} {row : ℕ → ℕ → ℕ} → Enumerates q (Loop p q a) n row → Enumerates q (Loop p q b) n row
+  pub alike-enumerates : {n : ℕ} {row : ℕ → ℕ → ℕ} → Enumerates q (LoopInside cap p q a) n row → Enumerates q (LoopInside cap p q b) n row
   alike-enumerates {n} {row} e =
       record {
         only = λ i l. record {
@@ -52,7 +51,7 @@ module _ {p q : ℕ} {a b : ℕ → ℕ → ℤ} (s : Alike p q a b) where
         all = λ t b. e .all t (record { holds = wanted-back t (b .holds); none-below = λ u w l. b .none-below u (wanted-there u w) l });
       }
 
-  pub alike-given : {m : ℕ} {basis : ℕ → ℕ → ℕ} → Given p q a m basis → Given p q b m basis
+  pub alike-given : {m : ℕ} {basis : ℕ → ℕ → ℕ} → Given cap p q a m basis → Given cap p q b m basis
   alike-given g = record { loops = alike-enumerates (g .loops); small = g .small }
 
 -- ---- numbers written

@@ -28,12 +28,13 @@ use Rattle.engine_spec.specs.Calls.{
   marksInOrder,
   resumeChecks,
   standingThen,
-  start,
   startChecks,
-  startFrom,
   startFromChecks,
+  startFromUnder,
+  startUnder,
 }
 use Rattle.engine_spec.specs.Engine.{Work, basisRow, systemOf}
+use Rattle.engine_spec.specs.Equations.{wanted-some}
 use Rattle.engine_spec.specs.Promise.{
   RunsOn,
   afterCombine,
@@ -95,37 +96,38 @@ pub record Rows (q : ℕ) (w : Work) : Type 0 where
   pub small : (i : ℕ) → i < w .stage .rows → T (isSmall q (row q (w .stage) i))
   pub rising : T (isRising (w .stage .rows) (λ i. total (row q (w .stage) i) q) (w .stage .degree))
 
-given-rows : (p q : ℕ) (a : ℕ → ℕ → ℤ) (m : ℕ) (basis : ℕ → ℕ → ℕ) → Given p q a m basis → (i : ℕ) → i < m → T (isRow q (basis i))
-given-rows p q a m basis g i l =
-    row-to q (basis i) (λ j jq. g .small i j l jq) (degree-some q (basis i) (g .loops .only i l .holds .admitted))
+given-rows : (cap p q : ℕ) (a : ℕ → ℕ → ℤ) (m : ℕ) (basis : ℕ → ℕ → ℕ) → Given cap p q a m basis → (i : ℕ) → i < m → T (isRow q (basis i))
+given-rows cap p q a m basis g i l =
+    row-to q (basis i) (λ j jq. g .small i j l jq) (degree-some q (basis i) (wanted-some cap p q a (g .loops .only i l .holds)))
 
-sound-small : (p q : ℕ) (a : ℕ → ℕ → ℤ) (c : ℕ → ℤ) (m : ℕ) (basis : ℕ → ℕ → ℕ) (s : Stage) → Sound p q a c m basis s
+sound-small : (cap p q : ℕ) (a : ℕ → ℕ → ℤ) (c : ℕ → ℤ) (m : ℕ) (basis : ℕ → ℕ → ℕ) (s : Stage) → Sound cap p q a c m basis s
     → ((i : ℕ) → i < s .rows → T (isSmall q (row q s i))) × T (isRising (s .rows) (λ i. total (row q s i) q) (s .degree))
-sound-small p q a c m basis s sound = (
+sound-small cap p q a c m basis s sound = (
   λ i l. small-to q (row q s i) (λ j jq. sound .small i j l jq),
-  rising-to (s .rows) (λ i. total (row q s i) q) (s .degree) (λ i l. degree-some q (row q s i) (sound .wanted i l .admitted)) (sound .sorted) (sound .low),
+  rising-to (s .rows) (λ i. total (row q s i) q) (s .degree) (λ i l. degree-some q (row q s i) (wanted-some cap p q a (sound .wanted i l)))
+      (sound .sorted) (sound .low),
 )
 
 standing-rows : (b : Base) (p q : ℕ) (w : Work) → Standing b p q w → Rows q w
 standing-rows b p q w (atRest e z given) =
     record {
-      basis = given-rows (b .p + p) q _ (w .count) (basisRow q w) given;
+      basis = given-rows (b .cap) (b .p + p) q _ (w .count) (basisRow q w) given;
       small = λ i l. absurd (omega arith);
       rising =
           rising-to (w .stage .rows) (λ i. total (row q (w .stage) i) q) (w .stage .degree) (λ i l. absurd (omega arith)) (λ i k ik kn. absurd (omega arith))
           (λ i l. absurd (omega arith));
     }
 standing-rows b p q w (underWay l n f given sound) =
-    let (small, rising) = sound-small (b .p + p) q _ _ (w .count) (basisRow q w) (w .stage) sound in
-    record { basis = given-rows (b .p + p) q _ (w .count) (basisRow q w) given; small = small; rising = rising }
-standing-rows b p q w (withFresh l n f m r given sound) =
-    let (small, rising) = sound-small (suc (b .p + p)) q _ _ (w .count) (basisRow q w) (w .stage) sound in
-    record { basis = given-rows (suc (b .p + p)) q _ (w .count) (basisRow q w) given; small = small; rising = rising }
+    let (small, rising) = sound-small (b .cap) (b .p + p) q _ _ (w .count) (basisRow q w) (w .stage) sound in
+    record { basis = given-rows (b .cap) (b .p + p) q _ (w .count) (basisRow q w) given; small = small; rising = rising }
+standing-rows b p q w (withFresh l n f o m r given sound) =
+    let (small, rising) = sound-small (b .cap) (suc (b .p + p)) q _ _ (w .count) (basisRow q w) (w .stage) sound in
+    record { basis = given-rows (b .cap) (suc (b .p + p)) q _ (w .count) (basisRow q w) given; small = small; rising = rising }
 
 standing-marks : (b : Base) (p q : ℕ) (w : Work) → Standing b p q w → T (marksInOrder p (w .done) (w .equation))
 standing-marks b p q w (atRest e z given) = marks-to p (w .done) (w .equation) (omega arith) (λ l. absurd (omega arith))
 standing-marks b p q w (underWay l n f given sound) = marks-to p (w .done) (w .equation) (omega arith) (λ k. n)
-standing-marks b p q w (withFresh l n f m r given sound) = marks-to p (w .done) (w .equation) (omega arith) (λ k. n)
+standing-marks b p q w (withFresh l n f o m r given sound) = marks-to p (w .done) (w .equation) (omega arith) (λ k. n)
 
 coefficients-to : (n : ℕ) (equations : List ℤ) → ((k : ℕ) → k < n → natAbs (getD equations k (pos 0)) ≤ coefficientLimit) → T (coefficientsSmall n equations)
 unfolding coefficientsSmall
@@ -178,7 +180,7 @@ shape-from p q x₁ x₂ =
     record { p-some = leb→le 1 p a; p-few = leb→le p mostRows b; q-some = leb→le 1 q c; q-few = leb→le q mostColumns d }
 
 pub runs-shape : {base : Base} {p q : ℕ} {coefs : List ℤ} {most room : ℕ} {w : Work} → RunsOn base p q coefs most room w → Shape p q
-unfolding start startChecks startFrom startFromChecks
+unfolding startUnder startChecks startFromUnder startFromChecks
 runs-shape {base} {p} {q} {coefs} (afterStart most room w plain long wide e) =
     let (x₁, y₁) = then-go (check1 p) _ (started-goes _ w _ e) in
     shape-from p q x₁ (then-go (check2 q) _ y₁ .0)

@@ -39,6 +39,7 @@ use Rattle.engine_spec.specs.Base.{
   onTop,
   top-alike,
   top-free,
+  under,
 }
 use Rattle.engine_spec.specs.Beside.{coefficientLimit}
 use Rattle.engine_spec.specs.Calls.{
@@ -63,13 +64,14 @@ use Rattle.engine_spec.specs.Calls.{
   resume,
   resumeChecks,
   standingThen,
-  start,
   startChecks,
-  startFrom,
   startFromChecks,
+  startFromUnder,
+  startUnder,
   take,
   takeChecks,
 }
+use Rattle.engine_spec.specs.Caps.{Inside, isCapped, not-capped}
 use Rattle.engine_spec.specs.Done.{among, none-asks}
 use Rattle.engine_spec.specs.Ends.{begin-sound}
 use Rattle.engine_spec.specs.Engine.{
@@ -77,8 +79,8 @@ use Rattle.engine_spec.specs.Engine.{
   Work,
   always,
   basisRow,
-  begun,
-  begunFrom,
+  begunFromUnder,
+  begunUnder,
   combination,
   combined,
   equationOf,
@@ -91,7 +93,7 @@ use Rattle.engine_spec.specs.Engine.{
   taken,
   takenFresh,
 }
-use Rattle.engine_spec.specs.Equations.{is-zero, units-enumerate}
+use Rattle.engine_spec.specs.Equations.{LoopInside, is-zero, units-enumerate, wanted-inside}
 use Rattle.engine_spec.specs.Fresh.{without-at, without-given, withoutAt}
 use Rattle.engine_spec.specs.Moved.{moved-given, moved-sound, withTable}
 use Rattle.engine_spec.specs.Operations.{
@@ -108,7 +110,8 @@ use Rattle.engine_spec.specs.Operations.{
   value-alike,
 }
 use Rattle.engine_spec.specs.ReductionLaws.{SameRows}
-use Rattle.engine_spec.specs.Sound.{Given}
+use Rattle.engine_spec.specs.Sound.{Given, Sound}
+use Rattle.engine_spec.specs.Stage.{Stage, row}
 use Rattle.engine_spec.specs.Reduction.{isSmall}
 use Rattle.engine_spec.specs.Whole.{Good, Standing, Whole, between, doneOf, soFar, picked-packed, rested-good, run-good, underWay, withFresh}
 
@@ -194,8 +197,8 @@ module _ (base : Base) (plain : base .p ≡ 0) (p q : ℕ) (coefs : List ℤ) (m
       let place : 0 + countTo i always ≡ i = omega (arith, count-always i) in
       rw place at (pack-row q (w .basis) 0 always unit most long q (omega (arith, count-always q)) i l tt j jq)
 
-  pub begun-whole : Whole base p q (systemOf q coefs) most room (begun p q coefs w)
-  unfolding begun
+  pub begun-whole : Whole base p q (systemOf q coefs) most room (begunUnder (base .cap) p q coefs w)
+  unfolding begunUnder
   begun-whole =
       record {
         numbers = written-long p q coefs w numbers;
@@ -205,6 +208,7 @@ module _ (base : Base) (plain : base .p ≡ 0) (p q : ℕ) (coefs : List ℤ) (m
         fits = omega arith;
         marks = pow-pos p;
         early = omega arith;
+        capped = refl;
         range = written-range p q coefs w numbers range;
         alike = written-alike p q coefs w numbers;
         standing = between refl refl (given (systemOf q (written p q coefs w numbers)));
@@ -213,11 +217,11 @@ module _ (base : Base) (plain : base .p ≡ 0) (p q : ℕ) (coefs : List ℤ) (m
       one : (i : ℕ) → i < q → total (at units q i) q ≡ 1
       one i l = total-same (at units q i) (unit i) q (unit-rows i l) ∙ total-unit i q l
 
-      given : (a : ℕ → ℕ → ℤ) → Given (base .p + p) q (onTop base (among 0 a)) q (at units q)
+      given : (a : ℕ → ℕ → ℤ) → Given (base .cap) (base .p + p) q (onTop base (among 0 a)) q (at units q)
       given a =
           record {
             loops =
-                units-enumerate (base .p + p) q (onTop base (among 0 a))
+                units-enumerate (base .cap) (base .p + p) q (onTop base (among 0 a))
                 (λ t. both-solved base p q (among 0 a) t (λ i l. absurd (omega arith)) (none-asks p q a t)) (at units q) unit-rows;
             small = λ i j l jq. omega (arith, one i l, term-le-total (at units q i) q j jq);
           }
@@ -227,7 +231,8 @@ module _ (base : Base) (plain : base .p ≡ 0) (p q : ℕ) (coefs : List ℤ) (m
 module _ (base : Base) (p q : ℕ) (coefs : List ℤ) (n : ℕ) (rows : List ℕ) (most room : ℕ) (w : Work) (numbers : p * q ≤ length (w .equations)) (some : n ≤ most)
     (long : most * q ≤ length (w .basis)) (wide : room * q ≤ length (w .stage .table))
     (range : (k : ℕ) → k < p * q → natAbs (getD coefs k (pos 0)) ≤ coefficientLimit)
-    (small : (i j : ℕ) → i < n → j < q → at rows q i j ≤ mostComponent) (whole-list : Enumerates q (Loop (base .p) q (base .a)) n (at rows q)) where
+    (small : (i j : ℕ) → i < n → j < q → at rows q i j ≤ mostComponent)
+    (whole-list : Enumerates q (LoopInside (base .cap) (base .p) q (base .a)) n (at rows q)) where
   abbrev list : List ℕ
   list = writeTo (n * q) (w .basis) 0 (λ k. getD rows k 0)
 
@@ -239,8 +244,8 @@ module _ (base : Base) (p q : ℕ) (coefs : List ℤ) (n : ℕ) (rows : List ℕ
       let place : 0 + (i * q + j) ≡ i * q + j = omega arith in
       rw place at (write-inside (λ k. getD rows k 0) (w .basis) 0 (n * q) (i * q + j) (omega (arith, room-for)) (omega (arith, row-before q n i 0 j l jq)))
 
-  pub begun-from-whole : Whole base p q (systemOf q coefs) most room (begunFrom p q coefs n rows w)
-  unfolding begunFrom
+  pub begun-from-whole : Whole base p q (systemOf q coefs) most room (begunFromUnder (base .cap) p q coefs n rows w)
+  unfolding begunFromUnder
   begun-from-whole =
       record {
         numbers = written-long p q coefs w numbers;
@@ -250,35 +255,39 @@ module _ (base : Base) (p q : ℕ) (coefs : List ℤ) (n : ℕ) (rows : List ℕ
         fits = omega arith;
         marks = pow-pos p;
         early = omega arith;
+        capped = refl;
         range = written-range p q coefs w numbers range;
         alike = written-alike p q coefs w numbers;
-        standing = between refl refl (moved-given (base .p + p) q _ n (at rows q) (at list q) list-rows (given (systemOf q (written p q coefs w numbers))));
+        standing = between refl refl
+            (moved-given (base .cap) (base .p + p) q _ n (at rows q) (at list q) list-rows (given (systemOf q (written p q coefs w numbers))));
       }
     where
       -- no equation of the run is done: the equations so far are those before
-      given : (a : ℕ → ℕ → ℤ) → Given (base .p + p) q (onTop base (among 0 a)) n (at rows q)
+      given : (a : ℕ → ℕ → ℤ) → Given (base .cap) (base .p + p) q (onTop base (among 0 a)) n (at rows q)
       given a =
           record {
             loops =
-                enumerates-as (λ t x. both-solved base p q (among 0 a) t x (none-asks p q a t)) (λ t x. before-solved base p q (among 0 a) t x) whole-list;
+                enumerates-as (base .cap) (λ t x. both-solved base p q (among 0 a) t x (none-asks p q a t))
+                (λ t x. before-solved base p q (among 0 a) t x) whole-list;
             small = small;
           }
 
 -- ---- between two stages
 
 -- where no stage is under way, the basis is that of the equations done
-resting-given : (base : Base) (p q : ℕ) (w : Work) → Standing base p q w → w .equation ≡ p → Given (base .p + p) q (soFar base q w) (w .count) (basisRow q w)
+resting-given : (base : Base) (p q : ℕ) (w : Work) → Standing base p q w → w .equation ≡ p
+    → Given (base .cap) (base .p + p) q (soFar base q w) (w .count) (basisRow q w)
 resting-given base p q w (between e z given) none = given
 resting-given base p q w (underWay l n f given sound) none = given
-resting-given base p q w (withFresh l n f m r given sound) none = absurd (omega arith)
+resting-given base p q w (withFresh l n f o m r given sound) none = absurd (omega arith)
 
 resting-rows : (base : Base) (p q : ℕ) (w : Work) → Standing base p q w → w .equation ≡ p → w .stage .rows ≡ 0
 resting-rows base p q w (between e z given) none = z
 resting-rows base p q w (underWay l n f given sound) none = absurd (omega arith)
-resting-rows base p q w (withFresh l n f m r given sound) none = absurd (omega arith)
+resting-rows base p q w (withFresh l n f o m r given sound) none = absurd (omega arith)
 
 module _ (base : Base) (p q : ℕ) (a : ℕ → ℕ → ℤ) (most room : ℕ) (w : Work) (whole : Whole base p q a most room w) (rests : w .equation ≡ p) where
-  abbrev given : Given (base .p + p) q (soFar base q w) (w .count) (basisRow q w)
+  abbrev given : Given (base .cap) (base .p + p) q (soFar base q w) (w .count) (basisRow q w)
   given = resting-given base p q w (whole .standing) rests
 
   combined-whole : (r s : ℕ) (u t : ℤ) → r < p → ¬ (T (frozen (w .done) r)) → s < p → u ≢ pos 0 → Apart r s t
@@ -292,6 +301,7 @@ module _ (base : Base) (p q : ℕ) (a : ℕ → ℕ → ℤ) (most room : ℕ) (
         fits = unfold combined in whole .fits;
         marks = unfold combined in whole .marks;
         early = unfold combined in whole .early;
+        capped = unfold combined in whole .capped;
         range = unfold combined in λ k kl. elim (split k (r * q)) [
           | inl l ↦ rw (fill-outside q (w .equations) (r * q) (combination q (system q w) r s u t) k (inl l)) (whole .range k kl)
           | inr l ↦ elim (split k (r * q + q)) [
@@ -301,7 +311,7 @@ module _ (base : Base) (p q : ℕ) (a : ℕ → ℕ → ℤ) (most room : ℕ) (
         ];
         alike = alike-then (whole .alike) (combined-alike p q w r s u t (whole .numbers) rp sp some apart);
         standing = between (unfold combined in rests) (unfold combined in resting-rows base p q w (whole .standing) rests)
-            (unfold combined in alike-given (top-alike base (done-alike p q w r s u t (whole .numbers) rp not-done)) given);
+            (unfold combined in alike-given (base .cap) (top-alike base (done-alike p q w r s u t (whole .numbers) rp not-done)) given);
       }
     where
       new-row : (j : ℕ) → j < q
@@ -320,16 +330,18 @@ module _ (base : Base) (p q : ℕ) (a : ℕ → ℕ → ℤ) (most room : ℕ) (
         fits = omega arith;
         marks = whole .marks;
         early = whole .early;
+        capped = whole .capped;
         range = whole .range;
         alike = whole .alike;
         standing = underWay ep not-done (omega arith) given
-            (begin-sound (base .p + p) q (soFar base q w) (system q w e) (w .count) (basisRow q w) (w .stage .table) (w .stage .steps));
+            (begin-sound (base .cap) (base .p + p) q (soFar base q w) (system q w e) (w .count) (basisRow q w) (whole .capped)
+            (w .stage .table) (w .stage .steps));
       }
 
-  fresh-whole : (e f : ℕ) → e < p → ¬ (T (frozen (w .done) e)) → f < q → system q w e f ≡ negsuc 0 → ((i : ℕ) → i < base .p + p → soFar base q w i f ≡ pos 0)
-      → Whole base p q a most room (takenFresh q e f w)
+  fresh-whole : (e f : ℕ) → e < p → ¬ (T (frozen (w .done) e)) → f < q → (0 < base .cap → 0 < f) → system q w e f ≡ negsuc 0
+      → ((i : ℕ) → i < base .p + p → soFar base q w i f ≡ pos 0) → Whole base p q a most room (takenFresh q e f w)
   unfolding takenFresh
-  fresh-whole e f ep not-done fq minus free =
+  fresh-whole e f ep not-done fq uncapped minus free =
       let stay = lacks q f (w .basis) in
       let few : countTo (w .count) stay ≤ most = omega (arith, count-le stay (w .count), whole .few) in
       record {
@@ -340,14 +352,16 @@ module _ (base : Base) (p q : ℕ) (a : ℕ → ℕ → ℤ) (most room : ℕ) (
         fits = omega arith;
         marks = whole .marks;
         early = whole .early;
+        capped = whole .capped;
         range = whole .range;
         alike = whole .alike;
-        standing = withFresh ep not-done fq minus free
-            (without-given (base .p + p) q (soFar base q w) f fq (suc (base .p + p)) (withoutAt (base .p + p) (soFar base q w) f)
+        standing = withFresh ep not-done fq uncapped minus free
+            (without-given (base .cap) (base .p + p) q (soFar base q w) f fq (suc (base .p + p)) (withoutAt (base .p + p) (soFar base q w) f)
             (without-at (base .p + p) q (soFar base q w) f fq) (w .count) (basisRow q w) given
             (countTo (w .count) stay) _ (picked-packed q (w .count) most (w .basis) stay (at (w .basis) q) (whole .long) few))
-            (begin-sound (suc (base .p + p)) q (withoutAt (base .p + p) (soFar base q w) f) (system q w e) (countTo (w .count) stay) _ (w .stage .table)
-            (w .stage .steps));
+            (begin-sound (base .cap) (suc (base .p + p)) q (withoutAt (base .p + p) (soFar base q w) f) (system q w e) (countTo (w .count) stay) _
+            (whole .capped)
+            (w .stage .table) (w .stage .steps));
       }
 
 -- ---- what the calls' own checks say
@@ -372,13 +386,20 @@ module _ (p q : ℕ) (w : Work) where
       go false h = refl
 
   fresh-from : (e f : ℕ) → T (isFresh p q e f w)
-      → (f < q) × (system q w e f ≡ negsuc 0) × ((i : ℕ) → i < p → doneOf q w i f ≡ pos 0) × T (isAlone q f (w .count) (basisRow q w))
+      → (0 < w .stage .cap → 0 < f) × (f < q) × (system q w e f ≡ negsuc 0) × ((i : ℕ) → i < p → doneOf q w i f ≡ pos 0)
+      × T (isAlone q f (w .count) (basisRow q w))
   unfolding isFresh isFree
   fresh-from e f h =
-      let (a, h₁) = and-parts (ltb f q) _ h in
+      let (o, h₀) = and-parts (not (isCapped (w .stage .cap) f)) _ h in
+      let (a, h₁) = and-parts (ltb f q) _ h₀ in
       let (b, h₂) = and-parts (isMinusOne (system q w e f)) _ h₁ in
-      let (c, d) = and-parts (allTo p (λ i. not (frozen (w .done) i) || isZero (system q w i f))) _ h₂ in
-      (ltb→lt f q a, minus-one (system q w e f) b, λ i l. free-at (w .done) (system q w) i f (all-at p _ c i l), d)
+      let (c, d) = and-parts (allTo p (λ i. not (frozen (w .done) i) || isZero (system q w i f))) _ h₂ in (
+        not-capped (w .stage .cap) f (T-not (isCapped (w .stage .cap) f) o),
+        ltb→lt f q a,
+        minus-one (system q w e f) b,
+        λ i l. free-at (w .done) (system q w) i f (all-at p _ c i l),
+        d,
+      )
 
   not-zero : (u : ℤ) → T (not (isZero u)) → u ≢ pos 0
   not-zero u h e = T-not (isZero u) h (rw e tt)
@@ -436,12 +457,13 @@ module _ (base : Base) (p q : ℕ) (a : ℕ → ℕ → ℤ) (most room : ℕ) (
       let (rests, ep, not-done) = left-from p q w e (passes (isLeft p e w) 32 x) in
       cond-holds (Whole base p q a most room) (ltb f q) (takenFresh q e f w) (taken q e w)
       (λ l.
-      let (fq, minus, free, alone) = fresh-from p q w e f (fresh-else (eqb f q) (isFresh p q e f w) (λ h. omega (arith, eqb→eq f q h, ltb→lt f q l))
+      let (uncapped, fq, minus, free, alone) = fresh-from p q w e f (fresh-else (eqb f q) (isFresh p q e f w) (λ h. omega (arith, eqb→eq f q h, ltb→lt f q l))
       (passes (eqb f q || isFresh p q e f w) 33 y)) in
-      fresh-whole base p q a most room w whole rests e f ep not-done fq minus
+      fresh-whole base p q a most room w whole rests e f ep not-done fq (rw (whole .capped) at uncapped) minus
       (top-free base p (doneOf q w) f free
       (before-free base p (doneOf q w) f
-      (alone-free (base .p + p) q (soFar base q w) f fq (w .count) (basisRow q w) (resting-given base p q w (whole .standing) rests .loops) alone))))
+      (alone-free (base .cap) (base .p + p) q (soFar base q w) f fq (w .count) (basisRow q w)
+      (resting-given base p q w (whole .standing) rests .loops) alone))))
       (λ l. taken-whole base p q a most room w whole rests e ep not-done))
     where
       fresh-else : (b c : Bool) → ¬ (T b) → T (b || c) → T c
@@ -455,7 +477,7 @@ module _ (base : Base) (p q : ℕ) (a : ℕ → ℕ → ℤ) (most room : ℕ) (
       rests : Standing base p q w → p ≤ w .equation → Good base p q a most room (rested p w)
       rests (between e z given) l = rested-good base p q a most room w whole e
       rests (underWay l′ n f given sound) l = absurd (omega arith)
-      rests (withFresh l′ n f m r given sound) l = absurd (omega arith)
+      rests (withFresh l′ n f o m r given sound) l = absurd (omega arith)
 
       by : (c : Check) → Good base p q a most room (checked c w (λ v. cond (ltb (v .equation) p) (run p q most room budget v) (rested p v)))
       by (refuse n values) = record { whole = whole; done = λ e. absurd (let z : _≡_ {A = ℕ} 0 1 = cc in omega arith) }
@@ -493,34 +515,38 @@ module _ (base : Base) (p q : ℕ) (a : ℕ → ℕ → ℤ) (most room most′ 
         fits = fits;
         marks = whole .marks;
         early = whole .early;
+        capped = whole .capped;
         range = whole .range;
         alike = whole .alike;
         standing = by (whole .standing);
       }
     where
       by : Standing base p q w → Standing base p q (withTables w basis table)
-      by (between e z given) = between e z (moved-given (base .p + p) q (soFar base q w) (w .count) (basisRow q w) (at basis q) alike-rows given)
+      by (between e z given) = between e z (moved-given (base .cap) (base .p + p) q (soFar base q w) (w .count) (basisRow q w) (at basis q) alike-rows given)
       by (underWay l n f given sound) =
-          underWay l n f (moved-given (base .p + p) q (soFar base q w) (w .count) (basisRow q w) (at basis q) alike-rows given)
-          (moved-sound (base .p + p) q (soFar base q w) (w .count) (basisRow q w) (at basis q) alike-rows (equationOf q w) (w .stage) table same′ sound)
-      by (withFresh l n f m r given sound) =
-          withFresh l n f m r
-          (moved-given (suc (base .p + p)) q (withoutAt (base .p + p) (soFar base q w) (w .fresh)) (w .count) (basisRow q w) (at basis q) alike-rows given)
-          (moved-sound (suc (base .p + p)) q (withoutAt (base .p + p) (soFar base q w) (w .fresh)) (w .count) (basisRow q w) (at basis q) alike-rows
+          underWay l n f (moved-given (base .cap) (base .p + p) q (soFar base q w) (w .count) (basisRow q w) (at basis q) alike-rows given)
+          (moved-sound (base .cap) (base .p + p) q (soFar base q w) (w .count) (basisRow q w) (at basis q) alike-rows
+          (equationOf q w) (w .stage) table same′ sound)
+      by (withFresh l n f o m r given sound) =
+          withFresh l n f o m r
+          (moved-given (base .cap) (suc (base .p + p)) q (withoutAt (base .p + p) (soFar base q w) (w .fresh)) (w .count) (basisRow q w) (at basis q)
+          alike-rows given)
+          (moved-sound (base .cap) (suc (base .p + p)) q (withoutAt (base .p + p) (soFar base q w) (w .fresh)) (w .count) (basisRow q w) (at basis q) alike-rows
           (equationOf q w) (w .stage) table
           same′ sound)
 
 -- ---- the promise
 
 -- The work of a run that nobody else alters, with room for so many rows in the basis and in the stage's table: a start that is let go on, plain or from the
--- whole list of the equations before, then any calls, refused ones included, with any arguments, and tables lent anew with the rows that were in them. That
--- the list handed over is the whole list of the equations before cannot be checked: it is the premise.
+-- whole list of the equations before, inside the cap, then any calls, refused ones included, with any arguments, and tables lent anew with the rows that were
+-- in them. That the list handed over is the whole list of the equations before cannot be checked: it is the premise.
 pub data RunsOn (base : Base) (p q : ℕ) (coefs : List ℤ) : ℕ → ℕ → Work → Type 0 where
   afterStart : (most room : ℕ) (w : Work) → base .p ≡ 0 → most * q ≤ length (w .basis) → room * q ≤ length (w .stage .table)
-      → start p q coefs most w .answer ≡ started → RunsOn base p q coefs most room (start p q coefs most w .work)
-  afterStartFrom : (n : ℕ) (rows : List ℕ) (most room : ℕ) (w : Work) → Enumerates q (Loop (base .p) q (base .a)) n (at rows q) → most * q ≤ length (w .basis)
-      → room * q ≤ length (w .stage .table) → startFrom p q coefs n rows most w .answer ≡ started
-      → RunsOn base p q coefs most room (startFrom p q coefs n rows most w .work)
+      → startUnder (base .cap) p q coefs most w .answer ≡ started → RunsOn base p q coefs most room (startUnder (base .cap) p q coefs most w .work)
+  afterStartFrom : (n : ℕ) (rows : List ℕ) (most room : ℕ) (w : Work)
+      → Enumerates q (LoopInside (base .cap) (base .p) q (base .a)) n (at rows q) → most * q ≤ length (w .basis)
+      → room * q ≤ length (w .stage .table) → startFromUnder (base .cap) p q coefs n rows most w .answer ≡ started
+      → RunsOn base p q coefs most room (startFromUnder (base .cap) p q coefs n rows most w .work)
   afterCombine : {most room : ℕ} {w : Work} → RunsOn base p q coefs most room w → (r s : ℕ) (u t : ℤ)
       → RunsOn base p q coefs most room (combine p q most room r s u t w .work)
   afterTake : {most room : ℕ} {w : Work} → RunsOn base p q coefs most room w → (e f : ℕ) → RunsOn base p q coefs most room (take p q most room e f w .work)
@@ -530,7 +556,10 @@ pub data RunsOn (base : Base) (p q : ℕ) (coefs : List ℤ) : ℕ → ℕ → W
       → SameRows q (w .count) (w .basis) basis → SameRows q (w .stage .rows) (w .stage .table) table → w .count ≤ most′ → w .stage .rows ≤ room′
       → most′ * q ≤ length basis → room′ * q ≤ length table → RunsOn base p q coefs most′ room′ (withTables w basis table)
 
--- from no equations: a run on the map alone
+-- from no equations: a run on the map alone, with a cap and without
+abbrev pub RunsUnder : (cap p q : ℕ) (coefs : List ℤ) → ℕ → ℕ → Work → Type 0
+RunsUnder cap p q coefs = RunsOn (under cap) p q coefs
+
 abbrev pub Runs : (p q : ℕ) (coefs : List ℤ) → ℕ → ℕ → Work → Type 0
 Runs p q coefs = RunsOn nothing p q coefs
 
@@ -563,8 +592,8 @@ list-small q n rows h i j l jq =
 
 module _ (base : Base) (p q : ℕ) (coefs : List ℤ) where
   start-whole : (most room : ℕ) (w : Work) → base .p ≡ 0 → most * q ≤ length (w .basis) → room * q ≤ length (w .stage .table)
-      → start p q coefs most w .answer ≡ started → Whole base p q (systemOf q coefs) most room (start p q coefs most w .work)
-  unfolding start startChecks checked
+      → startUnder (base .cap) p q coefs most w .answer ≡ started → Whole base p q (systemOf q coefs) most room (startUnder (base .cap) p q coefs most w .work)
+  unfolding startUnder startChecks checked
   start-whole most room w plain long wide e =
       let all = started-goes _ w _ e in
       let (x₁, y₁) = then-go (check1 p) _ all in
@@ -574,10 +603,10 @@ module _ (base : Base) (p q : ℕ) (coefs : List ℤ) where
       let (numbers, some) = roomy p q coefs most w x₄ in
       rw all (begun-whole base plain p q coefs most room w numbers some long wide (in-range p q coefs most w y₄))
 
-  start-from-whole : (n : ℕ) (rows : List ℕ) (most room : ℕ) (w : Work) → Enumerates q (Loop (base .p) q (base .a)) n (at rows q)
-      → most * q ≤ length (w .basis) → room * q ≤ length (w .stage .table) → startFrom p q coefs n rows most w .answer ≡ started
-      → Whole base p q (systemOf q coefs) most room (startFrom p q coefs n rows most w .work)
-  unfolding startFrom startFromChecks checked
+  start-from-whole : (n : ℕ) (rows : List ℕ) (most room : ℕ) (w : Work) → Enumerates q (LoopInside (base .cap) (base .p) q (base .a)) n (at rows q)
+      → most * q ≤ length (w .basis) → room * q ≤ length (w .stage .table) → startFromUnder (base .cap) p q coefs n rows most w .answer ≡ started
+      → Whole base p q (systemOf q coefs) most room (startFromUnder (base .cap) p q coefs n rows most w .work)
+  unfolding startFromUnder startFromChecks checked
   start-from-whole n rows most room w whole-list long wide e =
       let all = started-goes _ w _ e in
       let (x₁, y₁) = then-go (check1 p) _ all in
@@ -603,14 +632,14 @@ module _ (base : Base) (p q : ℕ) (coefs : List ℤ) where
 
   -- When a call says "complete", the rows of the basis are exactly the minimal solutions of the equations before and of the map together, each once.
   pub all-complete : {most room : ℕ} {w : Work} → RunsOn base p q coefs most room w → (budget : ℕ) → resume p q most room budget w .answer ≡ complete
-      → Enumerates q (Loop (base .p + p) q (onTop base (systemOf q coefs))) (resume p q most room budget w .work .count)
+      → Enumerates q (LoopInside (base .cap) (base .p + p) q (onTop base (systemOf q coefs))) (resume p q most room budget w .work .count)
       (basisRow q (resume p q most room budget w .work))
   all-complete {most} {room} {w} r budget e =
       let v = resume p q most room budget w .work in
       let g = resume-good base p q (systemOf q coefs) most room w (runs-whole r) budget in
       let (rests, all) = g .done e in
       let done : (i : ℕ) → i < p → T (frozen (v .done) i) = λ i l. rw all (ones-frozen p i l) in
-      alike-enumerates (top-alike base (alike-then (done-whole p q (system q v) (v .done) done) (turned (g .whole .alike))))
+      alike-enumerates (base .cap) (top-alike base (alike-then (done-whole p q (system q v) (v .done) done) (turned (g .whole .alike))))
       (resting-given base p q v (g .whole .standing) rests .loops)
     where
       turned : {a b : ℕ → ℕ → ℤ} → Alike p q a b → Alike p q b a
@@ -618,28 +647,61 @@ module _ (base : Base) (p q : ℕ) (coefs : List ℤ) where
 
   -- Between two stages they are exactly those of the equations before and of the equations done, in the working system, which has the map's solutions.
   pub all-members : {most room : ℕ} {w : Work} → RunsOn base p q coefs most room w → w .equation ≡ p
-      → Enumerates q (Loop (base .p + p) q (onTop base (among (w .done) (system q w)))) (w .count) (basisRow q w)
+      → Enumerates q (LoopInside (base .cap) (base .p + p) q (onTop base (among (w .done) (system q w)))) (w .count) (basisRow q w)
   all-members {w = w} r rests = resting-given base p q w (runs-whole r .standing) rests .loops
 
   pub same-solutions : {most room : ℕ} {w : Work} → RunsOn base p q coefs most room w → Alike p q (systemOf q coefs) (system q w)
   same-solutions r = runs-whole r .alike
 
+-- ---- rows stay inside the cap
+
+inside-given : (cap p q : ℕ) (a : ℕ → ℕ → ℤ) (m : ℕ) (basis : ℕ → ℕ → ℕ) → Given cap p q a m basis → (i : ℕ) → i < m → Inside cap q (basis i)
+inside-given cap p q a m basis given i l = wanted-inside cap p q a (given .loops .only i l .holds)
+
+inside-sound : (cap p q : ℕ) (a : ℕ → ℕ → ℤ) (c : ℕ → ℤ) (m : ℕ) (basis : ℕ → ℕ → ℕ) (s : Stage) → Sound cap p q a c m basis s → (i : ℕ) → i < s .rows
+    → Inside cap q (row q s i)
+inside-sound cap p q a c m basis s sound i l = wanted-inside cap p q a (sound .wanted i l)
+
+-- At any time, no row of the basis and none of the stage's table passes the cap: such sums are dropped as they come.
+pub rows-inside : (base : Base) (p q : ℕ) (coefs : List ℤ) {most room : ℕ} {w : Work} → RunsOn base p q coefs most room w
+    → ((i : ℕ) → i < w .count → Inside (base .cap) q (basisRow q w i)) × ((i : ℕ) → i < w .stage .rows → Inside (base .cap) q (row q (w .stage) i))
+rows-inside base p q coefs {w = w} r = by (runs-whole base p q coefs r .standing)
+  where
+    by : Standing base p q w
+        → ((i : ℕ) → i < w .count → Inside (base .cap) q (basisRow q w i)) × ((i : ℕ) → i < w .stage .rows → Inside (base .cap) q (row q (w .stage) i))
+    by (between e z given) = (inside-given (base .cap) (base .p + p) q _ _ _ given, λ i l. absurd (omega arith))
+    by (underWay l n f given sound) =
+        (inside-given (base .cap) (base .p + p) q _ _ _ given, inside-sound (base .cap) (base .p + p) q _ _ _ _ (w .stage) sound)
+    by (withFresh l n f o m z given sound) =
+        (inside-given (base .cap) (suc (base .p + p)) q _ _ _ given, inside-sound (base .cap) (suc (base .p + p)) q _ _ _ _ (w .stage) sound)
+
 -- ---- on the map alone
+
+-- with a cap: exactly those of the map, and of the equations done, that are inside it
+module _ (cap p q : ℕ) (coefs : List ℤ) where
+  pub under-complete : {most room : ℕ} {w : Work} → RunsUnder cap p q coefs most room w → (budget : ℕ) → resume p q most room budget w .answer ≡ complete
+      → Enumerates q (LoopInside cap p q (systemOf q coefs)) (resume p q most room budget w .work .count)
+      (basisRow q (resume p q most room budget w .work))
+  under-complete r budget e = alone-enumerates cap p q (systemOf q coefs) (all-complete (under cap) p q coefs r budget e)
+
+  pub under-members : {most room : ℕ} {w : Work} → RunsUnder cap p q coefs most room w → w .equation ≡ p
+      → Enumerates q (LoopInside cap p q (among (w .done) (system q w))) (w .count) (basisRow q w)
+  under-members {w = w} r rests = alone-enumerates cap p q (among (w .done) (system q w)) (all-members (under cap) p q coefs r rests)
 
 module _ (p q : ℕ) (coefs : List ℤ) where
   -- When a call says "complete", the rows of the basis are exactly the minimal solutions of the map, each once.
   pub run-complete : {most room : ℕ} {w : Work} → Runs p q coefs most room w → (budget : ℕ) → resume p q most room budget w .answer ≡ complete
       → Enumerates q (Loop p q (systemOf q coefs)) (resume p q most room budget w .work .count) (basisRow q (resume p q most room budget w .work))
-  run-complete r budget e = alone-enumerates p q (systemOf q coefs) (all-complete nothing p q coefs r budget e)
+  run-complete r budget e = under-complete 0 p q coefs r budget e
 
   -- Between two stages they are exactly the minimal solutions of the equations done, in the working system, which has the map's solutions.
   pub run-members : {most room : ℕ} {w : Work} → Runs p q coefs most room w → w .equation ≡ p
       → Enumerates q (Loop p q (among (w .done) (system q w))) (w .count) (basisRow q w)
-  run-members {w = w} r rests = alone-enumerates p q (among (w .done) (system q w)) (all-members nothing p q coefs r rests)
+  run-members r rests = under-members 0 p q coefs r rests
 
   -- An unknown that no equation done has is had by its unit tuple only: of a run on the map alone, 33 asks no more than the equations.
   pub fresh-alone : {most room : ℕ} {w : Work} → Runs p q coefs most room w → w .equation ≡ p → (f : ℕ) → f < q → T (isFree p q f w)
       → T (isAlone q f (w .count) (basisRow q w))
   unfolding isFree
   fresh-alone {w = w} r rests f fq h =
-      free-alone p q (doneOf q w) f fq (w .count) (basisRow q w) (run-members r rests) (λ i l. free-at p q w (w .done) (system q w) i f (all-at p _ h i l))
+      free-alone 0 p q (doneOf q w) f fq (w .count) (basisRow q w) (run-members r rests) (λ i l. free-at p q w (w .done) (system q w) i f (all-at p _ h i l))

@@ -18,7 +18,8 @@ use Rattle.definitions.specs.System.{mostComponent}
 use Rattle.definitions.specs.Tables.{at, writeTo}
 use Rattle.laws.specs.SystemLaws.{below-from}
 use Rattle.laws.specs.TableLaws.{row-before, write-inside, write-outside}
-use Rattle.engine_spec.specs.Equations.{Wanted}
+use Rattle.engine_spec.specs.Caps.{Inside}
+use Rattle.engine_spec.specs.Equations.{Wanted, wanted-from, wanted-some}
 use Rattle.engine_spec.specs.Reduction.{isSmall, isWithin, reduces, reducible}
 use Rattle.engine_spec.specs.Signs.{Reduced, Within, plus}
 
@@ -98,10 +99,9 @@ pub record SameRows (q n : ℕ) (old table : List ℕ) : Type 0 where
 
 -- ---- sums of solutions
 
-pub plus-wanted : (p q : ℕ) (a : ℕ → ℕ → ℤ) (x y : ℕ → ℕ) → Wanted p q a x → Wanted p q a y → Wanted p q a (plus x y)
-plus-wanted p q a x y u w =
-    let (j, jq, h) = u .admitted in
-    record {
-      solution = λ i l. value-sum (a i) q x y (plus x y) (λ j jq. refl) ∙ rw (u .solution i l, w .solution i l) (+ℤ-idl (pos 0));
-      admitted = (j, jq, omega arith);
-    }
+pub plus-wanted : (cap p q : ℕ) (a : ℕ → ℕ → ℤ) (x y : ℕ → ℕ) → Wanted cap p q a x → Wanted cap p q a y → Inside cap q (plus x y)
+    → Wanted cap p q a (plus x y)
+plus-wanted cap p q a x y u w inside =
+    let (j, jq, h) = wanted-some cap p q a u in
+    wanted-from cap p q a (λ i l. value-sum (a i) q x y (plus x y) (λ j jq. refl) ∙ rw (u .solution i l, w .solution i l) (+ℤ-idl (pos 0)))
+    (j, jq, omega arith) inside

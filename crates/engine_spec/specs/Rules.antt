@@ -52,6 +52,7 @@ use Rattle.engine_spec.specs.Calls.{
   startFromChecks,
   takeChecks,
 }
+use Rattle.engine_spec.specs.Caps.{capped-not, isCapped, not-capped}
 use Rattle.engine_spec.specs.Engine.{Work, basisRow, combination, system}
 use Rattle.engine_spec.specs.Equations.{is-zero, zero-is}
 use Rattle.engine_spec.specs.Reduction.{isSmall}
@@ -85,8 +86,9 @@ pub record Left (p e : ℕ) (w : Work) : Type 0 where
   pub low : e < p
   pub undone : ¬ (T (frozen (w .done) e))
 
--- The unknown f is fresh in equation e: it has the coefficient −1 there, no equation done mentions it, and of the basis only its unit tuple has it.
+-- The unknown f is fresh in equation e: it has no cap, the coefficient −1 there, no equation done mentions it, and of the basis only its unit tuple has it.
 pub record Fresh (p q e f : ℕ) (w : Work) : Type 0 where
+  pub uncapped : 0 < w .stage .cap → 0 < f
   pub low : f < q
   pub minus : system q w e f ≡ negsuc 0
   pub free : (i : ℕ) → i < p → T (frozen (w .done) i) → system q w i f ≡ pos 0
@@ -294,12 +296,14 @@ module _ (p q most room : ℕ) (w : Work) where
   fresh-from : (e f : ℕ) → T (isFresh p q e f w) → Fresh p q e f w
   unfolding isFresh isFree isAlone
   fresh-from e f h =
-      let (a, h₁) = and-parts (ltb f q) _ h in
+      let (o, h₀) = and-parts (not (isCapped (w .stage .cap) f)) _ h in
+      let (a, h₁) = and-parts (ltb f q) _ h₀ in
       let (b, h₂) = and-parts (isMinusOne (system q w e f)) _ h₁ in
       let (c, h₃) = and-parts (allTo p (λ i. not (frozen (w .done) i) || isZero (system q w i f))) _ h₂ in
       let (d, g) = and-parts (anyTo (w .count) (λ i. ltb 0 (basisRow q w i f))) _ h₃ in
       let (k, kl, has) = any-at (w .count) (λ i. ltb 0 (basisRow q w i f)) d in
       record {
+        uncapped = not-capped (w .stage .cap) f (T-not (isCapped (w .stage .cap) f) o);
         low = ltb→lt f q a;
         minus = minus-from (system q w e f) b;
         free = λ i l. free-from i f (all-at p _ c i l);
@@ -314,7 +318,8 @@ module _ (p q most room : ℕ) (w : Work) where
   unfolding isFresh isFree isAlone
   fresh-to e f r =
       let (k, kl, has) = r .there in
-      and-both (ltb f q) _ (lt→ltb f q (r .low))
+      and-both (not (isCapped (w .stage .cap) f)) _ (not-T (isCapped (w .stage .cap) f) (capped-not (w .stage .cap) f (r .uncapped)))
+      (and-both (ltb f q) _ (lt→ltb f q (r .low))
       (and-both (isMinusOne (system q w e f)) _ (minus-to (system q w e f) (r .minus))
       (and-both (allTo p (λ i. not (frozen (w .done) i) || isZero (system q w i f))) _ (all-from p _ (λ i l. free-to i f (r .free i l)))
       (and-both (anyTo (w .count) (λ i. ltb 0 (basisRow q w i f))) _
@@ -322,7 +327,7 @@ module _ (p q most room : ℕ) (w : Work) where
       (all-from (w .count) _ (λ i l. or-to (eqb (basisRow q w i f) 0) _ (elim (r .alone i l) [
         | inl x ↦ inl (rw x tt)
         | inr x ↦ inr (rw x tt)
-      ]))))))
+      ])))))))
 
   pub take-renders : (e f : ℕ) → Renders (takeChecks p q most room e f w) (takeRules p q most room e f w)
   unfolding takeChecks

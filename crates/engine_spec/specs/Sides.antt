@@ -256,11 +256,14 @@ side-zero (negsuc n) v (suc (suc c)) l e o =
       | inr z ↦ omega (arith, sum, same-up e, ups, downs, ap up z, ap down z)
     ])
 
+-- the value of an extended equation, with the first unknown apart
+pub value-apart : {p q : ℕ} {a : ℕ → ℕ → ℤ} {b : ℕ → ℤ} {e : ℕ → ℕ → ℤ} → Extends p q a b e → (i : ℕ) → i < p → (t : ℕ → ℕ)
+    → value (e i) (suc q) t ≡ negℤ (b i) *ℤ pos (t 0) +ℤ value (a i) q (rest t)
+value-apart {q = q} {e = e} x i l t = rw (x .first i l, value-alike q (rest t) (λ j jq. x .others i j l jq)) at (value-first (e i) q t)
+
 module _ {p q : ℕ} {a : ℕ → ℕ → ℤ} {b : ℕ → ℤ} {e : ℕ → ℕ → ℤ} (x : Extends p q a b e) (t : ℕ → ℕ) (m : Loop p (suc q) e t) (more : 1 < t 0) where
   first-apart : (i : ℕ) → i < p → negℤ (b i) *ℤ pos (t 0) +ℤ value (a i) q (rest t) ≡ pos 0
-  first-apart i l =
-      let head : e i 0 *ℤ pos (t 0) +ℤ value (λ j. e i (suc j)) q (rest t) ≡ pos 0 = sym (value-first (e i) q t) ∙ m .holds .solution i l in
-      rw (x .first i l, value-alike q (rest t) (λ j jq. x .others i j l jq)) at head
+  first-apart i l = sym (value-apart x i l t) ∙ m .holds .solution i l
 
   -- if all right sides were 0, the unit tuple of the first unknown would lie below
   sides-some : ((i : ℕ) → i < p → b i ≡ pos 0) → ⊥

@@ -1,20 +1,21 @@
--- One equation more. A list of nonzero solutions of the equations so far that makes up every such solution, and in which the sum of any two rows
--- whose values under the next equation have opposite signs lies at or above a row whose value lies between 0 and that of the sum: every
--- solution of the equations so far is then a sum of rows whose values have its own sign or are 0. Assumes nothing.
+-- One equation more. A list of nonzero solutions of the equations so far, one at or below each such solution inside the cap, and in which the sum of any two
+-- rows whose values under the next equation have opposite signs lies, where it is inside the cap, at or above a row whose value lies between 0 and that of the
+-- sum: every solution of the equations so far that is inside the cap is then a sum of rows whose values have its own sign or are 0. Assumes nothing.
 use mathlib.Core.Path.{_≡_, refl, _∙_}
 use mathlib.Core.Logic.{_≢_, inl, inr}
 use Prim.Native.Nat.{ℕ, zero, suc, _+_, _*_, _-_, _≤_, _<_}
 use native.Mathlib.Decide.{ℕ-discrete}
 use native.Mathlib.Omega.{arith}
 use lib.IntN.{ℤ, pos, _+ℤ_, _*ℤ_, +ℤ-idl}
-use Rattle.linear.specs.Combinations.{SumOf, combined-lower, combined-raise, combined-sum, combined-unit, rest-solves, value-combined}
+use Rattle.linear.specs.Combinations.{SumOf, combined-lower, combined-none, combined-raise, combined-sum, combined-unit, rest-solves, value-combined}
 use Rattle.linear.specs.Differences.{down, integers, one-side, same-up, sum-is, up, up-mul, down-mul}
 use Rattle.linear.specs.Sums.{sumTo}
 use Rattle.linear.specs.SystemLaws.{value-same, value-sum}
 use Rattle.linear.specs.Systems.{Solution, value}
 use Rattle.linear.specs.TupleLaws.{differ, term-le-total, total-less, total-some, total-sum, unit-other}
 use Rattle.linear.specs.Tuples.{AtOrBelow, Nonzero, Same, raise, total, unit}
-use Rattle.linear.specs.Loops.{MakesUp, Solutions}
+use Rattle.linear.specs.Loops.{Solutions}
+use Rattle.engine_spec.specs.Caps.{Inside, inside-below}
 
 -- y lies between 0 and x: it has the sign of x or is 0, and is no larger than x
 pub record Within (y x : ℤ) : Type 0 where
@@ -32,10 +33,11 @@ pub record Reduced (q : ℕ) (c : ℕ → ℤ) (n : ℕ) (row : ℕ → ℕ → 
   pub under : AtOrBelow q (row by) z
   pub within : Within (value c q (row by)) (value c q z)
 
--- the sum of any two rows with values of opposite signs is so reduced
-abbrev pub Closed : (q : ℕ) (c : ℕ → ℤ) (n : ℕ) (row : ℕ → ℕ → ℕ) → Type 0
-Closed q c n row =
-    (h k : ℕ) → h < n → k < n → 0 < up (value c q (row h)) → 0 < down (value c q (row k)) → Reduced q c n row (plus (row h) (row k))
+-- the sum of any two rows with values of opposite signs is so reduced, where it is inside the cap
+abbrev pub Closed : (cap q : ℕ) (c : ℕ → ℤ) (n : ℕ) (row : ℕ → ℕ → ℕ) → Type 0
+Closed cap q c n row =
+    (h k : ℕ) → h < n → k < n → 0 < up (value c q (row h)) → 0 < down (value c q (row k)) → Inside cap q (plus (row h) (row k))
+    → Reduced q c n row (plus (row h) (row k))
 
 -- the positive parts of the values of the rows, each taken so many times, added up
 abbrev pub upsOf : (q : ℕ) (c : ℕ → ℤ) (n : ℕ) (times : ℕ → ℕ) (row : ℕ → ℕ → ℕ) → ℕ
@@ -154,8 +156,8 @@ module _ (q n : ℕ) (row : ℕ → ℕ → ℕ) where
 
 -- ---- the theorem
 
-module _ (p q : ℕ) (a : ℕ → ℕ → ℤ) (c : ℕ → ℤ) (n : ℕ) (row : ℕ → ℕ → ℕ) (solves : Solutions p q a n row) (some : (i : ℕ) → i < n → Nonzero q (row i))
-    (makes : MakesUp p q a n row) (closed : Closed q c n row) where
+module _ (cap p q : ℕ) (a : ℕ → ℕ → ℤ) (c : ℕ → ℤ) (n : ℕ) (row : ℕ → ℕ → ℕ) (solves : Solutions p q a n row) (some : (i : ℕ) → i < n → Nonzero q (row i))
+    (found : (t : ℕ → ℕ) → Solution p q a t → Nonzero q t → Inside cap q t → (i : ℕ) × (i < n) × AtOrBelow q (row i) t) (closed : Closed cap q c n row) where
   abbrev v : (ℕ → ℕ) → ℤ
   v = value c q
 
@@ -166,30 +168,52 @@ module _ (p q : ℕ) (a : ℕ → ℕ → ℤ) (c : ℕ → ℤ) (n : ℕ) (row 
   plus-solves h k hn kn i l =
       value-sum (a i) q (row h) (row k) (plus (row h) (row k)) (λ j jq. refl) ∙ rw (solves h hn i l, solves k kn i l) (+ℤ-idl (pos 0))
 
-  -- every smaller solution has its sum
+  -- every smaller solution inside the cap has its sum
   abbrev Smaller : ℕ → Type 0
-  Smaller d = (y : ℕ → ℕ) → Solution p q a y → total y q < d → Consistent q c n row y
+  Smaller d = (y : ℕ → ℕ) → Solution p q a y → Inside cap q y → total y q < d → Consistent q c n row y
 
-  module _ (d : ℕ) (smaller : Smaller d) (x : ℕ → ℕ) (sx : Solution p q a x) (size : total x q ≤ d) where
+  module _ (d : ℕ) (smaller : Smaller d) (x : ℕ → ℕ) (sx : Solution p q a x) (inside : Inside cap q x) (size : total x q ≤ d) where
+    module _ (k : ℕ) (low : k < n) (under : AtOrBelow q (row k) x) where
+      abbrev y : ℕ → ℕ
+      y j = x j - row k j
+
+      adds : (j : ℕ) → j < q → x j ≡ row k j + y j
+      adds j jq = omega (arith, under j jq)
+
+      -- what is left of x without row k has its sum
+      less-row : Consistent q c n row y
+      less-row =
+          let (z, zq, more) = some k low in
+          smaller y (rest-solves p q a (row k) x under (solves k low) sx) (inside-below cap q y x (λ j jq. omega arith) inside)
+          (omega (arith, total-sum x (row k) y q adds, term-le-total (row k) q z zq))
+
+      -- and with the row it is one of x
+      abbrev with-row : SumOf q n row x
+      with-row =
+          record {
+            times = raise (less-row .sum .times) k;
+            adds-up = λ j jq. omega (arith, combined-raise n (less-row .sum .times) row k j low, less-row .sum .adds-up j jq, adds j jq);
+          }
+
+    -- x is a sum of rows
+    some-sum : SumOf q n row x
+    some-sum =
+        elim (ℕ-discrete (total x q) 0) [
+          | yes z ↦ record { times = λ i. 0; adds-up = λ j jq. omega (arith, combined-none n row j, term-le-total x q j jq) }
+          | no ne ↦ let (k, low, under) = found x sx (total-some x q ne) inside in with-row k low under
+        ]
+
     -- a row under x with a value between 0 and that of x is taken off
     taken-off : Reduced q c n row x → Consistent q c n row x
     taken-off r =
         let k = r .by in
-        let y : ℕ → ℕ = λ j. x j - row k j in
-        let adds : (j : ℕ) → j < q → x j ≡ row k j + y j = λ j jq. omega (arith, r .under j jq) in
-        let (z, zq, more) = some k (r .low) in
-        let less : total y q < d = omega (arith, total-sum x (row k) y q adds, term-le-total (row k) q z zq) in
-        let w = smaller y (rest-solves p q a (row k) x (r .under) (solves k (r .low)) sx) less in
-        from-ups
-        (record {
-          times = raise (w .sum .times) k;
-          adds-up = λ j jq. omega (arith, combined-raise n (w .sum .times) row k j (r .low), w .sum .adds-up j jq, adds j jq);
-        })
+        let w = less-row k (r .low) (r .under) in
+        from-ups (with-row k (r .low) (r .under))
         (omega (
           arith,
           weigh-raise n (w .sum .times) (λ i. up (v (row i))) k (r .low),
           w .ups,
-          within-rest (v x) (v (row k)) (v y) (value-sum c q (row k) y x adds) (r .within),
+          within-rest (v x) (v (row k)) (v (λ j. x j - row k j)) (value-sum c q (row k) _ x (adds k (r .low) (r .under))) (r .within),
         ))
 
     reduced-same : {z : ℕ → ℕ} → Same q z x → Reduced q c n row z → Reduced q c n row x
@@ -216,9 +240,9 @@ module _ (p q : ℕ) (a : ℕ → ℕ → ℤ) (c : ℕ → ℤ) (n : ℕ) (row 
               let adds = weigh-without q n row (s .times) h k hn kn apart th tk in
               let under : AtOrBelow q z x = λ j jq. omega (arith, s .adds-up j jq, adds (λ i. row i j)) in
               elim (differ q z x) [
-                | inl e ↦ taken-off (reduced-same e (closed h k hn kn uh dk))
+                | inl e ↦ taken-off (reduced-same e (closed h k hn kn uh dk (inside-below cap q z x under inside)))
                 | inr (j, jq, ne′) ↦
-                    let w = smaller z (plus-solves h k hn kn) (omega (arith, total-less q under j jq ne′)) in
+                    let w = smaller z (plus-solves h k hn kn) (inside-below cap q z x under inside) (omega (arith, total-less q under j jq ne′)) in
                     let (swap, weighs) = swapped q n row s h k hn kn apart th tk (w .sum) in
                     improve u swap
                     (omega (
@@ -231,15 +255,18 @@ module _ (p q : ℕ) (a : ℕ → ℕ → ℤ) (c : ℕ → ℤ) (n : ℕ) (row 
         ]
 
   by-size : (d : ℕ) → Smaller d
-  by-size zero x sx l = absurd (omega arith)
-  by-size (suc d) x sx l = improve d (by-size d) x sx (omega arith) (suc (upsOf q c n (makes x sx .times) row)) (makes x sx) (omega arith)
+  by-size zero x sx inside l = absurd (omega arith)
+  by-size (suc d) x sx inside l =
+      let sum = some-sum d (by-size d) x sx inside (omega arith) in
+      improve d (by-size d) x sx inside (omega arith) (suc (upsOf q c n (sum .times) row)) sum (omega arith)
 
-  -- every solution of the equations so far is a sum of rows whose values have its own sign or are 0
-  pub sign-consistent : (x : ℕ → ℕ) → Solution p q a x → Consistent q c n row x
-  sign-consistent x sx = by-size (suc (total x q)) x sx (omega arith)
+  -- every solution of the equations so far that is inside the cap is a sum of rows whose values have its own sign or are 0
+  pub sign-consistent : (x : ℕ → ℕ) → Solution p q a x → Inside cap q x → Consistent q c n row x
+  sign-consistent x sx inside = by-size (suc (total x q)) x sx inside (omega arith)
 
-  -- a solution with value 0 is a sum of rows with value 0
-  pub zero-rows : (x : ℕ → ℕ) → Solution p q a x → v x ≡ pos 0 → (s : SumOf q n row x) × ((i : ℕ) → i < n → 0 < s .times i → v (row i) ≡ pos 0)
-  zero-rows x sx e =
-      let d = sign-consistent x sx in
+  -- such a solution with value 0 is a sum of rows with value 0
+  pub zero-rows : (x : ℕ → ℕ) → Solution p q a x → Inside cap q x → v x ≡ pos 0
+      → (s : SumOf q n row x) × ((i : ℕ) → i < n → 0 < s .times i → v (row i) ≡ pos 0)
+  zero-rows x sx inside e =
+      let d = sign-consistent x sx inside in
       (d .sum, λ i l h. let w = consistent-rows q c n row d i l h in omega (integers, w .ups, w .downs, rw e at (w .ups), rw e at (w .downs)))

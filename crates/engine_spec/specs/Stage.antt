@@ -1,12 +1,12 @@
 -- One equation c more, by sums of pairs in the order of their degree (the sum of the components). The m rows of `basis` are what the equations so far left, in
--- any order. A stage appends rows to a table that is empty at first: for each degree d, rising, the rows of the basis of degree d, then the sums of
--- two rows with values above and below 0 whose degrees add up to d, unless a row reduces the sum. Appended rows have degree d too, so the table is
--- sorted, and no pair of degree d has a row of degree d: what is appended meets later degrees only. A turn does one of four things: it takes one row of
--- the basis; it looks at one pair; it goes to the next degree at which there is something to do; or it finds that there is none, and the stage ends. A
--- call may stop after any turn. The pairs of degree d come in the order (row above 0, row below 0), both in the order of the table: in code, two
--- lists of places by sign, and for each row above 0 the places below 0 of the degree that is left, which stand together. Assumes nothing.
+-- any order. A stage appends rows to a table that is empty at first: for each degree d, rising, the rows of the basis of degree d, then the sums of two rows
+-- with values above and below 0 whose degrees add up to d, unless the sum passes the cap or a row reduces it. Appended rows have degree d too, so the table is
+-- sorted, and no pair of degree d has a row of degree d: what is appended meets later degrees only. A turn does one of four things: it takes one row of the
+-- basis; it looks at one pair; it goes to the next degree at which there is something to do; or it finds that there is none, and the stage ends. A call may
+-- stop after any turn. The pairs of degree d come in the order (row above 0, row below 0), both in the order of the table: in code, two lists of places by
+-- sign, and for each row above 0 the places below 0 of the degree that is left, which stand together. Assumes nothing.
 use Prim.Native.Nat.{ℕ, zero, suc, _+_, _*_}
-use mathlib.Core.Bool.{Bool, true, false, cond, _&&_}
+use mathlib.Core.Bool.{Bool, true, false, cond, _&&_, _||_}
 use mathlib.Core.List.{List, []}
 use lib.Dec.{eqb, ltb}
 use lib.IntN.{ℤ, pos}
@@ -16,11 +16,12 @@ use Rattle.linear.specs.Tuples.{total}
 use Rattle.definitions.specs.Answers.{Answer, complete, paused, refused}
 use Rattle.definitions.specs.Refusals.{stepLimit}
 use Rattle.definitions.specs.Tables.{at, writeTo}
+use Rattle.engine_spec.specs.Caps.{isOver}
 use Rattle.engine_spec.specs.Reduction.{isSmall, reducible}
 use Rattle.engine_spec.specs.Signs.{plus}
 use Rattle.engine_spec.specs.Search.{firstIn, holder, leastTo, lesser, partner}
 
--- The table and its number of rows; the degree under way; the row of the basis and the pair from which on those of that degree are left; the steps.
+-- The table and its number of rows; the degree under way; the row of the basis and the pair from which on those of that degree are left; the steps; the cap.
 pub record Stage : Type 0 where
   pub table : List ℕ
   pub rows : ℕ
@@ -29,6 +30,7 @@ pub record Stage : Type 0 where
   pub upper : ℕ
   pub lower : ℕ
   pub steps : ℕ
+  pub cap : ℕ
 
 abbrev pub row : ℕ → Stage → ℕ → ℕ → ℕ
 row q s = at (s .table) q
@@ -83,6 +85,7 @@ grown q x taken upper lower s =
       upper = upper;
       lower = lower;
       steps = s .steps + 1;
+      cap = s .cap;
     }
 
 -- nothing appended
@@ -96,6 +99,7 @@ passed upper lower s =
       upper = upper;
       lower = lower;
       steps = s .steps + 1;
+      cap = s .cap;
     }
 
 -- the degree d begins
@@ -109,6 +113,7 @@ raised d s =
       upper = 0;
       lower = 0;
       steps = s .steps + 1;
+      cap = s .cap;
     }
 
 -- 31: there is no room for a row that is needed. Row i of the basis:
@@ -118,8 +123,12 @@ rowTurn q basis room s i = cond (ltb (s .rows) room) (goes (grown q (basis i) (i
 abbrev pub sumOf : ℕ → Stage → ℕ → ℕ → ℕ → ℕ
 sumOf q s h k = plus (row q s h) (row q s k)
 
+-- a sum that need not become a row: it passes the cap, so that it is below no wanted tuple, or a row reduces it
+abbrev pub isNeedless : (q : ℕ) (c : ℕ → ℤ) → Stage → (ℕ → ℕ) → Bool
+isNeedless q c s z = isOver (s .cap) z || reducible q c (s .rows) (row q s) z (value c q z)
+
 -- 12: a sum that is needed has a component above 1,000,000.
-unfoldable pub paired : (isReduced small fits : Bool) → Stage → Stage → Turned
+unfoldable pub paired : (needless small fits : Bool) → Stage → Stage → Turned
 paired true small fits skip more = goes skip
 paired false false fits skip more = stops 12
 paired false true false skip more = stops 31
@@ -128,8 +137,8 @@ paired false true true skip more = goes more
 -- the pair (h, k)
 unfoldable pub pairTurn : (q : ℕ) (c : ℕ → ℤ) (room : ℕ) → Stage → ℕ → ℕ → Turned
 pairTurn q c room s h k =
-    paired (reducible q c (s .rows) (row q s) (sumOf q s h k) (value c q (sumOf q s h k))) (isSmall q (sumOf q s h k)) (ltb (s .rows) room)
-    (passed h (k + 1) s) (grown q (sumOf q s h k) (s .taken) h (k + 1) s)
+    paired (isNeedless q c s (sumOf q s h k)) (isSmall q (sumOf q s h k)) (ltb (s .rows) room) (passed h (k + 1) s)
+    (grown q (sumOf q s h k) (s .taken) h (k + 1) s)
 
 unfoldable pub degreeTurn : ℕ → Stage → Turned
 degreeTurn d s = cond (eqb d 0) ends (goes (raised d s))
@@ -161,5 +170,5 @@ run q c m basis room zero s = outcome paused s
 run q c m basis room (suc budget) s = after (turn q c m basis room s) (run q c m basis room budget) s
 
 -- before the first turn, in any table
-abbrev pub begin : List ℕ → ℕ → Stage
-begin table steps = record { table = table; rows = 0; taken = 0; degree = 0; upper = 0; lower = 0; steps = steps }
+abbrev pub begin : (cap : ℕ) → List ℕ → ℕ → Stage
+begin cap table steps = record { table = table; rows = 0; taken = 0; degree = 0; upper = 0; lower = 0; steps = steps; cap = cap }

@@ -2,14 +2,15 @@
 use mathlib.Core.Path.{_≡_, refl, sym, _∙_}
 use mathlib.Core.Logic.{_≢_, inl, inr}
 use mathlib.Core.Bool.{Bool, true, false, cond}
-use Prim.Native.Nat.{ℕ, _+_, _≤_, _<_}
+use Prim.Native.Nat.{ℕ, zero, suc, _+_, _≤_, _<_}
 use native.Mathlib.Decide.{ℕ-discrete}
 use native.Mathlib.Omega.{arith}
 use lib.Dec.{T, eqb→eq, eqb-refl}
 use lib.IntN.{ℤ, pos}
 use lib.Signed.{_<ℤ_, ltZ, ltZ-yes}
-use Rattle.linear.specs.Differences.{lt-up, one-side, up-lt}
-use Rattle.linear.specs.Systems.{value}
+use Rattle.linear.specs.Differences.{lt-up, one-side, up, up-lt}
+use Rattle.linear.specs.Sums.{sumTo}
+use Rattle.linear.specs.Systems.{inner, value}
 use Rattle.linear.specs.TestLaws.{and-both, and-parts}
 use Rattle.linear.specs.Tuples.{total}
 use Rattle.engine_spec.specs.ReductionLaws.{Against}
@@ -33,6 +34,11 @@ Pair q c row h k = Against (value c q (row h)) (value c q (row k))
 
 -- ---- what the tests say
 
+value-columns : (q : ℕ) (c : ℕ → ℤ) (x : ℕ → ℕ) → 0 < up (value c q x) → 0 < q
+unfolding value inner sumTo
+value-columns zero c x h = absurd (omega arith)
+value-columns (suc q) c x h = omega arith
+
 module _ (q : ℕ) (c : ℕ → ℤ) (row : ℕ → ℕ → ℕ) (h k : ℕ) where
   pair-is : Pair q c row h k → T (isPair q c row h k)
   unfolding isPair
@@ -42,6 +48,10 @@ module _ (q : ℕ) (c : ℕ → ℤ) (row : ℕ → ℕ → ℕ) (h k : ℕ) whe
       let over : pos 0 <ℤ x = lt-up (omega (arith, o .above, one-side x)) in
       let under : y <ℤ pos 0 = lt-up (omega (arith, o .below, one-side y)) in
       and-both (ltZ (pos 0) x) (ltZ y (pos 0)) (over .lt) (under .lt)
+
+  -- there is no such pair where there are no unknowns
+  pub pair-columns : Pair q c row h k → 0 < q
+  pair-columns o = value-columns q c (row h) (o .above)
 
   pub due-is : (d : ℕ) → Pair q c row h k → total (row h) q + total (row k) q ≡ d → T (isDue q c row d h k)
   unfolding isDue

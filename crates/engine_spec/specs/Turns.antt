@@ -11,6 +11,7 @@ use Rattle.linear.specs.Cases.{split}
 use Rattle.linear.specs.TupleLaws.{least, total-same, total-sum}
 use Rattle.linear.specs.Tuples.{Same, total}
 use Rattle.definitions.specs.System.{mostComponent}
+use Rattle.engine_spec.specs.Caps.{Inside}
 use Rattle.engine_spec.specs.Equations.{Holding}
 use Rattle.engine_spec.specs.ReductionLaws.{plus-wanted}
 use Rattle.engine_spec.specs.ReductionLaws.{reduced-itself}
@@ -20,7 +21,8 @@ use Rattle.engine_spec.specs.Sound.{Given, Gone, Sound, grown-sound, kep
 use Rattle.engine_spec.specs.Tests.{Pair, due-is, is-due, next-above, next-pairs, next-rows}
 use Rattle.engine_spec.specs.Stage.{Stage, above, below, dueRow, grown, isDue, nextDegree, passed, raised, row, sumOf}
 
-module _ (p q : ℕ) (a : ℕ → ℕ → ℤ) (c : ℕ → ℤ) (m : ℕ) (basis : ℕ → ℕ → ℕ) (given : Given p q a m basis) (s : Stage) (sound : Sound p q a c m basis s) where
+module _ (cap p q : ℕ) (a : ℕ → ℕ → ℤ) (c : ℕ → ℤ) (m : ℕ) (basis : ℕ → ℕ → ℕ) (given : Given cap p q a m basis) (s : Stage)
+    (sound : Sound cap p q a c m basis s) where
   -- ---- the next row of the basis
 
   abbrev i₀ : ℕ
@@ -37,18 +39,20 @@ module _ (p q : ℕ) (a : ℕ → ℕ → ℤ) (c : ℕ → ℤ) (m : ℕ) (basi
         | inr u ↦ absurd (first-passes (m - s .taken) (s .taken) isDegree i u l (rw e (eqb-refl (s .degree))))
       ]
 
-  pub row-sound : i₀ < m → s .rows * q + q ≤ length (s .table) → Sound p q a c m basis (grown q (basis i₀) (i₀ + 1) (s .upper) (s .lower) s)
+  pub row-sound : i₀ < m → s .rows * q + q ≤ length (s .table) → Sound cap p q a c m basis (grown q (basis i₀) (i₀ + 1) (s .upper) (s .lower) s)
   row-sound more room =
       let x = basis i₀ in
       let exact : total x q ≡ s .degree = eqb→eq (total x q) (s .degree) (found-holds m (s .taken) isDegree more) in
       let late : s .taken ≤ i₀ = first-least (m - s .taken) (s .taken) isDegree in
-      let stays = kept p q a c m basis s sound x (i₀ + 1) (s .upper) (s .lower) room exact in
-      grown-sound p q a c m basis s sound x (i₀ + 1) (s .upper) (s .lower) room exact (given .loops .only i₀ more .holds) (λ j jq. given .small i₀ j more jq)
+      let stays = kept cap p q a c m basis s sound x (i₀ + 1) (s .upper) (s .lower) room exact in
+      grown-sound cap p q a c m basis s sound x (i₀ + 1) (s .upper) (s .lower) room exact (given .loops .only i₀ more .holds)
+      (λ j jq. given .small i₀ j more jq)
       (λ i l g. elim g [
         | inl u ↦ inl (inl u)
         | inr (e, u) ↦ elim (split i i₀) [ inl w ↦ inl (inr (e, row-passes i w e)) | inr w ↦ let is : i ≡ i₀ = omega arith in inr (rw is (λ j jq. refl)) ]
       ])
-      (λ h k hn kn o g. still-reduced p q a c m basis s sound x (i₀ + 1) (s .upper) (s .lower) room exact h k hn kn (sound .pairs h k hn kn o g))
+      (λ h k hn kn o g inside.
+      still-reduced cap p q a c m basis s sound x (i₀ + 1) (s .upper) (s .lower) room exact h k hn kn (sound .pairs h k hn kn o g inside))
       (λ i l w b.
       let e = least (given .loops .only i₀ more) (row q s i) (sound .wanted i l) b in
       let (i′, l′, e′) = sound .first i₀ late more exact i l (total-same (row q s i) x q e ∙ exact) in
@@ -59,7 +63,7 @@ module _ (p q : ℕ) (a : ℕ → ℕ → ℤ) (c : ℕ → ℤ) (m : ℕ) (basi
             (l, omega arith, λ j jq. stays k u j jq ∙ g j jq)
         | inr u ↦
             let g : k ≡ s .rows = omega arith in
-            (i₀, omega arith, rw g (new p q a c m basis s sound x (i₀ + 1) (s .upper) (s .lower) room exact))
+            (i₀, omega arith, rw g (new cap p q a c m basis s sound x (i₀ + 1) (s .upper) (s .lower) room exact))
       ])
 
   -- ---- the next pair of the present degree
@@ -81,35 +85,39 @@ module _ (p q : ℕ) (a : ℕ → ℕ → ℤ) (c : ℕ → ℤ) (m : ℕ) (basi
         | inr u ↦ inr u
       ]
 
-  pub passed-sound : Reduced q c (s .rows) (row q s) (sumOf q s h₀ k₀) → Sound p q a c m basis (passed h₀ (k₀ + 1) s)
+  pub passed-sound : (Inside cap q (sumOf q s h₀ k₀) → Reduced q c (s .rows) (row q s) (sumOf q s h₀ k₀)) → Sound cap p q a c m basis (passed h₀ (k₀ + 1) s)
   unfolding passed
   passed-sound r =
       record {
+        capped = sound .capped;
         fits = sound .fits;
         small = sound .small;
         wanted = sound .wanted;
         sorted = sound .sorted;
         low = sound .low;
         within = sound .within;
-        pairs = λ h k hn kn o g. elim (gone-next h k kn o g) [ inl u ↦ sound .pairs h k hn kn o u | inr (eh, ek) ↦ rw (eh, ek) r ];
+        pairs = λ h k hn kn o g inside. elim (gone-next h k kn o g) [
+          | inl u ↦ sound .pairs h k hn kn o u inside
+          | inr (eh, ek) ↦ rw (eh, ek) (r (rw (eh, ek) at inside))
+        ];
         apart = sound .apart;
         first = sound .first;
       }
 
   pub sum-sound : h₀ < s .rows → s .rows * q + q ≤ length (s .table) → ((j : ℕ) → j < q → sumOf q s h₀ k₀ j ≤ mostComponent)
-      → ¬ (Reduced q c (s .rows) (row q s) (sumOf q s h₀ k₀)) → m ≤ i₀
-      → Sound p q a c m basis (grown q (sumOf q s h₀ k₀) (s .taken) h₀ (k₀ + 1) s)
-  sum-sound found room small irreducible later =
+      → Inside cap q (sumOf q s h₀ k₀) → ¬ (Reduced q c (s .rows) (row q s) (sumOf q s h₀ k₀)) → m ≤ i₀
+      → Sound cap p q a c m basis (grown q (sumOf q s h₀ k₀) (s .taken) h₀ (k₀ + 1) s)
+  sum-sound found room small within irreducible later =
       let x = sumOf q s h₀ k₀ in
       let (kn₀, due) = pair-found (s .rows) (isDue q c (row q s) (s .degree)) (s .upper) (s .lower) found in
       let exact : total x q ≡ s .degree = total-sum x (row q s h₀) (row q s k₀) q (λ j jq. refl) ∙ is-due q c (row q s) h₀ k₀ (s .degree) due in
-      let stays = kept p q a c m basis s sound x (s .taken) h₀ (k₀ + 1) room exact in
-      let adds = new p q a c m basis s sound x (s .taken) h₀ (k₀ + 1) room exact in
+      let stays = kept cap p q a c m basis s sound x (s .taken) h₀ (k₀ + 1) room exact in
+      let adds = new cap p q a c m basis s sound x (s .taken) h₀ (k₀ + 1) room exact in
       let t = grown q x (s .taken) h₀ (k₀ + 1) s in
-      grown-sound p q a c m basis s sound x (s .taken) h₀ (k₀ + 1) room exact
-      (plus-wanted p q a (row q s h₀) (row q s k₀) (sound .wanted h₀ found) (sound .wanted k₀ kn₀)) small (λ i l g. inl g)
-      (λ h k hn kn o g. elim (gone-next h k kn o g) [
-        | inl u ↦ still-reduced p q a c m basis s sound x (s .taken) h₀ (k₀ + 1) room exact h k hn kn (sound .pairs h k hn kn o u)
+      grown-sound cap p q a c m basis s sound x (s .taken) h₀ (k₀ + 1) room exact
+      (plus-wanted cap p q a (row q s h₀) (row q s k₀) (sound .wanted h₀ found) (sound .wanted k₀ kn₀) within) small (λ i l g. inl g)
+      (λ h k hn kn o g inside. elim (gone-next h k kn o g) [
+        | inl u ↦ still-reduced cap p q a c m basis s sound x (s .taken) h₀ (k₀ + 1) room exact h k hn kn (sound .pairs h k hn kn o u inside)
         | inr (eh, ek) ↦
             reduced-itself q c (s .rows + 1) (row q t) (s .rows) (plus (row q t h) (row q t k)) (omega arith)
             (rw (eh, ek) (λ j jq. omega (arith, adds j jq, stays h₀ found j jq, stays k₀ kn₀ j jq)))
@@ -122,15 +130,15 @@ module _ (p q : ℕ) (a : ℕ → ℕ → ℤ) (c : ℕ → ℤ) (m : ℕ) (basi
   module _ (none : s .rows ≤ h₀) where
     -- every pair up to the present degree is gone through
     all-gone : (h k : ℕ) → h < s .rows → k < s .rows → Pair q c (row q s) h k → total (row q s h) q + total (row q s k) q ≤ s .degree
-        → Reduced q c (s .rows) (row q s) (plus (row q s h) (row q s k))
-    all-gone h k hn kn o l =
+        → Inside cap q (plus (row q s h) (row q s k)) → Reduced q c (s .rows) (row q s) (plus (row q s h) (row q s k))
+    all-gone h k hn kn o l inside =
         sound .pairs h k hn kn o
         (elim (split (total (row q s h) q + total (row q s k) q) (s .degree)) [
           | inl u ↦ inl u
           | inr u ↦
               let e : total (row q s h) q + total (row q s k) q ≡ s .degree = omega arith in
               inr (e, none-found (s .rows) (isDue q c (row q s) (s .degree)) (s .upper) (s .lower) none h k hn kn (due-is q c (row q s) h k (s .degree) o e))
-        ])
+        ]) inside
 
   abbrev d′ : ℕ
   d′ = nextDegree q c m basis s
@@ -144,11 +152,12 @@ module _ (p q : ℕ) (a : ℕ → ℕ → ℤ) (c : ℕ → ℤ) (m : ℕ) (basi
           | inr u ↦ let e : total (basis i) q ≡ s .degree = omega arith in inr (e, row-passes i (omega arith) e)
         ])
 
-    pub raised-sound : d′ ≢ 0 → Sound p q a c m basis (raised d′ s)
+    pub raised-sound : d′ ≢ 0 → Sound cap p q a c m basis (raised d′ s)
     unfolding raised
     raised-sound ne =
         let more : s .degree < d′ = next-above q c m basis s ne in
         record {
+          capped = sound .capped;
           fits = sound .fits;
           small = sound .small;
           wanted = sound .wanted;
@@ -161,28 +170,28 @@ module _ (p q : ℕ) (a : ℕ → ℕ → ℤ) (c : ℕ → ℤ) (m : ℕ) (basi
             ]
             | inr (e, l) ↦ absurd (omega arith)
           ]);
-          pairs = λ h k hn kn o g. all-gone none h k hn kn o (elim g [
+          pairs = λ h k hn kn o g inside. all-gone none h k hn kn o (elim g [
             | inl l ↦ elim (split (s .degree) (total (row q s h) q + total (row q s k) q)) [
               | inl u ↦ absurd (omega (arith, next-pairs q c m basis s h k hn kn o .clear u .1))
               | inr u ↦ u
             ]
             | inr (e, b) ↦ absurd (elim b [ inl u ↦ omega arith | inr (x, u) ↦ omega arith ])
-          ]);
+          ]) inside;
           apart = sound .apart;
           first = λ i il im e k kn g. absurd (omega (arith, sound .low k kn));
         }
 
     -- ---- the end
 
-    pub end-closed : d′ ≡ 0 → Closed q c (s .rows) (row q s)
-    end-closed e h k hn kn uh dk =
+    pub end-closed : d′ ≡ 0 → Closed cap q c (s .rows) (row q s)
+    end-closed e h k hn kn uh dk inside =
         let o : Pair q c (row q s) h k = record { above = uh; below = dk } in
         all-gone none h k hn kn o (elim (split (s .degree) (total (row q s h) q + total (row q s k) q)) [
           | inl u ↦ absurd (next-pairs q c m basis s h k hn kn o .clear u .0 e)
           | inr u ↦ u
-        ])
+        ]) inside
 
-    pub end-holding : d′ ≡ 0 → Holding p q a (s .rows) (row q s)
+    pub end-holding : d′ ≡ 0 → Holding cap p q a (s .rows) (row q s)
     end-holding e =
         record {
           wanted = sound .wanted;

@@ -71,13 +71,14 @@ soFar b q w = onTop b (doneOf q w)
 
 -- Where a run stands: between two stages; in a stage without a fresh unknown; in one with a fresh unknown, whose basis lacks it.
 pub data Standing (b : Base) (p q : ℕ) (w : Work) : Type 0 where
-  between : w .equation ≡ p → w .stage .rows ≡ 0 → Given (b .p + p) q (soFar b q w) (w .count) (basisRow q w) → Standing b p q w
-  underWay : w .equation < p → ¬ (T (frozen (w .done) (w .equation))) → q ≤ w .fresh → Given (b .p + p) q (soFar b q w) (w .count) (basisRow q w)
-      → Sound (b .p + p) q (soFar b q w) (equationOf q w) (w .count) (basisRow q w) (w .stage) → Standing b p q w
-  withFresh : w .equation < p → ¬ (T (frozen (w .done) (w .equation))) → w .fresh < q → equationOf q w (w .fresh) ≡ negsuc 0
-      → ((i : ℕ) → i < b .p + p → soFar b q w i (w .fresh) ≡ pos 0)
-      → Given (suc (b .p + p)) q (withoutAt (b .p + p) (soFar b q w) (w .fresh)) (w .count) (basisRow q w)
-      → Sound (suc (b .p + p)) q (withoutAt (b .p + p) (soFar b q w) (w .fresh)) (equationOf q w) (w .count) (basisRow q w) (w .stage) → Standing b p q w
+  between : w .equation ≡ p → w .stage .rows ≡ 0 → Given (b .cap) (b .p + p) q (soFar b q w) (w .count) (basisRow q w) → Standing b p q w
+  underWay : w .equation < p → ¬ (T (frozen (w .done) (w .equation))) → q ≤ w .fresh → Given (b .cap) (b .p + p) q (soFar b q w) (w .count) (basisRow q w)
+      → Sound (b .cap) (b .p + p) q (soFar b q w) (equationOf q w) (w .count) (basisRow q w) (w .stage) → Standing b p q w
+  withFresh : w .equation < p → ¬ (T (frozen (w .done) (w .equation))) → w .fresh < q → (0 < b .cap → 0 < w .fresh)
+      → equationOf q w (w .fresh) ≡ negsuc 0 → ((i : ℕ) → i < b .p + p → soFar b q w i (w .fresh) ≡ pos 0)
+      → Given (b .cap) (suc (b .p + p)) q (withoutAt (b .p + p) (soFar b q w) (w .fresh)) (w .count) (basisRow q w)
+      → Sound (b .cap) (suc (b .p + p)) q (withoutAt (b .p + p) (soFar b q w) (w .fresh)) (equationOf q w) (w .count) (basisRow q w) (w .stage)
+      → Standing b p q w
 
 -- What holds between two calls of a run on the system a, from the equations before it, with room for `most` rows in the basis and `room` rows in the
 -- stage's table.
@@ -89,6 +90,7 @@ pub record Whole (b : Base) (p q : ℕ) (a : ℕ → ℕ → ℤ) (most room : �
   pub fits : w .stage .rows ≤ room
   pub marks : w .done < 2 ^ p
   pub early : w .stage .steps ≤ stepLimit
+  pub capped : w .stage .cap ≡ b .cap
   -- no coefficient of the working system is out of its range
   pub range : (k : ℕ) → k < p * q → natAbs (getD (w .equations) k (pos 0)) ≤ coefficientLimit
   pub alike : Alike p q a (system q w)
@@ -112,7 +114,7 @@ module _ (b : Base) (p q : ℕ) (a : ℕ → ℕ → ℤ) (most room : ℕ) (w :
   kept = stays q w
 
   -- a finished stage leaves a run between two stages, once its rows are the minimal solutions with the equation
-  finished-whole : countTo (w .stage .rows) kept ≤ most → Given (b .p + p) q (onTop b (among (w .done + 2 ^ w .equation) (system q w))) (countTo
+  finished-whole : countTo (w .stage .rows) kept ≤ most → Given (b .cap) (b .p + p) q (onTop b (among (w .done + 2 ^ w .equation) (system q w))) (countTo
       (w .stage .rows) kept)
       (at (packTo (w .stage .rows) q (w .basis) 0 kept (left q w)) q) → Whole b p q a most room (finished p q w)
   unfolding finished
@@ -125,12 +127,14 @@ module _ (b : Base) (p q : ℕ) (a : ℕ → ℕ → ℤ) (most room : ℕ) (w :
         fits = omega arith;
         marks = bit-add-fits (w .done) (w .equation) p (free-bit (w .done) (w .equation) not-done) going (whole .marks);
         early = omega arith;
+        capped = whole .capped;
         range = whole .range;
         alike = whole .alike;
         standing = between refl refl given;
       }
 
-  plain-ended : q ≤ w .fresh → Sound (b .p + p) q (soFar b q w) c (w .count) (basisRow q w) (w .stage) → Ended (b .p + p) q (soFar b q w) c (w .stage)
+  plain-ended : q ≤ w .fresh → Sound (b .cap) (b .p + p) q (soFar b q w) c (w .count) (basisRow q w) (w .stage)
+      → Ended (b .cap) (b .p + p) q (soFar b q w) c (w .stage)
       → countTo (w .stage .rows) kept ≤ most → Whole b p q a most room (finished p q w)
   plain-ended none sound e low =
       finished-whole low
@@ -138,21 +142,22 @@ module _ (b : Base) (p q : ℕ) (a : ℕ → ℕ → ℤ) (most room : ℕ) (w :
     where
       plain : (x : Bool) → (T x → ⊥)
           → countTo (w .stage .rows) (cond x (notBelow q c (row q (w .stage))) (zeroRow q c (row q (w .stage)))) ≤ most
-          → Given (b .p + p) q (onTop b (among (w .done + 2 ^ w .equation) (system q w)))
+          → Given (b .cap) (b .p + p) q (onTop b (among (w .done + 2 ^ w .equation) (system q w)))
           (countTo (w .stage .rows) (cond x (notBelow q c (row q (w .stage))) (zeroRow q c (row q (w .stage)))))
           (at (packTo (w .stage .rows) q (w .basis) 0 (cond x (notBelow q c (row q (w .stage))) (zeroRow q c (row q (w .stage))))
           (λ i. cond x (filled q c (w .fresh) (row q (w .stage) i)) (row q (w .stage) i))) q)
       plain true never low = absurd (never tt)
       plain false never low =
-          stage-given (b .p + p) q (soFar b q w) (onTop b (among (w .done + 2 ^ w .equation) (system q w))) c
+          stage-given (b .cap) (b .p + p) q (soFar b q w) (onTop b (among (w .done + 2 ^ w .equation) (system q w))) c
           (top-extends b p q (doneOf q w) _ c (done-extends p q (system q w) (w .done) (w .equation) going not-done)) (w .count) (basisRow q w)
           (w .stage) sound e
           (countTo (w .stage .rows) (zeroRow q c (row q (w .stage)))) _
           (picked-packed q (w .stage .rows) most (w .basis) (zeroRow q c (row q (w .stage))) (row q (w .stage)) (whole .long) low)
 
-  module _ (some : w .fresh < q) (minus : c (w .fresh) ≡ negsuc 0) (free : (i : ℕ) → i < b .p + p → soFar b q w i (w .fresh) ≡ pos 0)
-      (sound : Sound (suc (b .p + p)) q (withoutAt (b .p + p) (soFar b q w) (w .fresh)) c (w .count) (basisRow q w) (w .stage))
-      (e : Ended (suc (b .p + p)) q (withoutAt (b .p + p) (soFar b q w) (w .fresh)) c (w .stage)) (small : T (valuesSmall q w)) where
+  module _ (some : w .fresh < q) (uncapped : 0 < b .cap → 0 < w .fresh) (minus : c (w .fresh) ≡ negsuc 0)
+      (free : (i : ℕ) → i < b .p + p → soFar b q w i (w .fresh) ≡ pos 0)
+      (sound : Sound (b .cap) (suc (b .p + p)) q (withoutAt (b .p + p) (soFar b q w) (w .fresh)) c (w .count) (basisRow q w) (w .stage))
+      (e : Ended (b .cap) (suc (b .p + p)) q (withoutAt (b .p + p) (soFar b q w) (w .fresh)) c (w .stage)) (small : T (valuesSmall q w)) where
     abbrev f : ℕ
     f = w .fresh
 
@@ -173,14 +178,15 @@ module _ (b : Base) (p q : ℕ) (a : ℕ → ℕ → ℤ) (most room : ℕ) (w :
           | no ne ↦ omega (arith, put-other f (up (value c q (row q (w .stage) i))) (row q (w .stage) i) j ne, sound .small i j l jq)
         ]
 
-    fresh-given : countTo (w .stage .rows) g ≤ most → Given (b .p + p) q (onTop b (among (w .done + 2 ^ w .equation) (system q w))) (countTo (w .stage .rows) g)
+    fresh-given : countTo (w .stage .rows) g ≤ most
+        → Given (b .cap) (b .p + p) q (onTop b (among (w .done + 2 ^ w .equation) (system q w))) (countTo (w .stage .rows) g)
         (at (packTo (w .stage .rows) q (w .basis) 0 g filling) q)
     fresh-given low =
         let picked = picked-packed q (w .stage .rows) most (w .basis) g filling (whole .long) low in
         record {
           loops =
-              fresh-loops (b .p + p) q (soFar b q w) (onTop b (among (w .done + 2 ^ w .equation) (system q w))) c
-              (top-extends b p q (doneOf q w) _ c (done-extends p q (system q w) (w .done) (w .equation) going not-done)) f some minus free
+              fresh-loops (b .cap) (b .p + p) q (soFar b q w) (onTop b (among (w .done + 2 ^ w .equation) (system q w))) c
+              (top-extends b p q (doneOf q w) _ c (done-extends p q (system q w) (w .done) (w .equation) going not-done)) f some uncapped minus free
               (suc (b .p + p)) (withoutAt (b .p + p) (soFar b q w) f) (without-at (b .p + p) q (soFar b q w) f some) (w .count) (basisRow q w)
               (w .stage) sound e (countTo (w .stage .rows) g) _ picked;
           small = λ x j xn jq.
@@ -192,7 +198,7 @@ module _ (b : Base) (p q : ℕ) (a : ℕ → ℕ → ℤ) (most room : ℕ) (w :
     fresh-ended low = finished-whole low (made (ltb (w .fresh) q) (lt→ltb (w .fresh) q some) low)
       where
         made : (x : Bool) → T x → countTo (w .stage .rows) (cond x g (zeroRow q c (row q (w .stage)))) ≤ most
-            → Given (b .p + p) q (onTop b (among (w .done + 2 ^ w .equation) (system q w))) (countTo (w .stage .rows) (cond x g (zeroRow q c (row q
+            → Given (b .cap) (b .p + p) q (onTop b (among (w .done + 2 ^ w .equation) (system q w))) (countTo (w .stage .rows) (cond x g (zeroRow q c (row q
             (w .stage)))))
             (at (packTo (w .stage .rows) q (w .basis) 0 (cond x g (zeroRow q c (row q (w .stage))))
             (λ i. cond x (filling i) (row q (w .stage) i))) q)
@@ -229,10 +235,11 @@ module _ (b : Base) (p q : ℕ) (a : ℕ → ℕ → ℤ) (most room : ℕ) wher
       go false f = paused-good w whole
 
   module _ (w : Work) (whole : Whole b p q a most room w) (going : w .equation < p) where
-    onward-whole : (s : Stage) → length (s .table) ≡ length (w .stage .table) → s .rows ≤ room → s .steps ≤ stepLimit → Standing b p q (onward s w)
+    onward-whole : (s : Stage) → length (s .table) ≡ length (w .stage .table) → s .rows ≤ room
+        → s .steps ≤ stepLimit → s .cap ≡ b .cap → Standing b p q (onward s w)
         → Whole b p q a most room (onward s w)
     unfolding onward
-    onward-whole s long few early standing =
+    onward-whole s long few early capped standing =
         record {
           numbers = whole .numbers;
           long = whole .long;
@@ -241,6 +248,7 @@ module _ (b : Base) (p q : ℕ) (a : ℕ → ℕ → ℤ) (most room : ℕ) wher
           fits = few;
           marks = whole .marks;
           early = early;
+          capped = capped;
           range = whole .range;
           alike = whole .alike;
           standing = standing;
@@ -258,28 +266,29 @@ module _ (b : Base) (p q : ℕ) (a : ℕ → ℕ → ℤ) (most room : ℕ) wher
     in-time : (s : Stage) → Timed (w .stage) (goes s) → s .steps ≤ stepLimit
     in-time s (ne, e) = omega (arith, not-late ne, e)
 
-    plain-left : (not-done : ¬ (T (frozen (w .done) (w .equation)))) (none : q ≤ w .fresh) → Given (b .p + p) q (soFar b q w) (w .count) (basisRow q w)
-        → Sound (b .p + p) q (soFar b q w) (equationOf q w) (w .count) (basisRow q w) (w .stage) → (t : Turned)
-        → Fine (b .p + p) q (soFar b q w) (equationOf q w) (w .count) (basisRow q w) room (w .stage) t → Timed (w .stage) t → Left t
+    plain-left : (not-done : ¬ (T (frozen (w .done) (w .equation)))) (none : q ≤ w .fresh) → Given (b .cap) (b .p + p) q (soFar b q w) (w .count) (basisRow q w)
+        → Sound (b .cap) (b .p + p) q (soFar b q w) (equationOf q w) (w .count) (basisRow q w) (w .stage) → (t : Turned)
+        → Fine (b .cap) (b .p + p) q (soFar b q w) (equationOf q w) (w .count) (basisRow q w) room (w .stage) t → Timed (w .stage) t → Left t
     unfolding onward
     plain-left not-done none given sound (goes s) fit timed =
-        onward-whole s (fit .long) (fit .few) (in-time s timed) (underWay going not-done none given (fit .sound))
+        onward-whole s (fit .long) (fit .few) (in-time s timed) (fit .sound .capped) (underWay going not-done none given (fit .sound))
     plain-left not-done none given sound (stops n) fit timed = tt
     plain-left not-done none given sound ends e timed = λ low small. plain-ended b p q a most room w whole going not-done (not-late timed) none sound e low
 
-    fresh-left : (not-done : ¬ (T (frozen (w .done) (w .equation)))) (some : w .fresh < q) (minus : equationOf q w (w .fresh) ≡ negsuc 0)
-        (free : (i : ℕ) → i < b .p + p → soFar b q w i (w .fresh) ≡ pos 0) → Given (suc (b .p + p)) q (withoutAt (b .p + p) (soFar b q w) (w .fresh))
+    fresh-left : (not-done : ¬ (T (frozen (w .done) (w .equation)))) (some : w .fresh < q) (uncapped : 0 < b .cap → 0 < w .fresh)
+        (minus : equationOf q w (w .fresh) ≡ negsuc 0)
+        (free : (i : ℕ) → i < b .p + p → soFar b q w i (w .fresh) ≡ pos 0) → Given (b .cap) (suc (b .p + p)) q (withoutAt (b .p + p) (soFar b q w) (w .fresh))
         (w .count) (basisRow q w)
-        → Sound (suc (b .p + p)) q (withoutAt (b .p + p) (soFar b q w) (w .fresh)) (equationOf q w) (w .count) (basisRow q w) (w .stage) → (t : Turned)
-        → Fine (suc (b .p + p)) q (withoutAt (b .p + p) (soFar b q w) (w .fresh)) (equationOf q w) (w .count) (basisRow q w) room (w .stage) t → Timed
+        → Sound (b .cap) (suc (b .p + p)) q (withoutAt (b .p + p) (soFar b q w) (w .fresh)) (equationOf q w) (w .count) (basisRow q w) (w .stage) → (t : Turned)
+        → Fine (b .cap) (suc (b .p + p)) q (withoutAt (b .p + p) (soFar b q w) (w .fresh)) (equationOf q w) (w .count) (basisRow q w) room (w .stage) t → Timed
         (w .stage) t → Left t
     unfolding onward
-    fresh-left not-done some minus free given sound (goes s) fit timed =
-        onward-whole s (fit .long) (fit .few) (in-time s timed) (withFresh going not-done some minus free given (fit .sound))
-    fresh-left not-done some minus free given sound (stops n) fit timed = tt
-    fresh-left not-done some minus free given sound ends e timed =
+    fresh-left not-done some uncapped minus free given sound (goes s) fit timed =
+        onward-whole s (fit .long) (fit .few) (in-time s timed) (fit .sound .capped) (withFresh going not-done some uncapped minus free given (fit .sound))
+    fresh-left not-done some uncapped minus free given sound (stops n) fit timed = tt
+    fresh-left not-done some uncapped minus free given sound ends e timed =
         λ low small.
-        fresh-ended b p q a most room w whole going not-done (not-late timed) some minus free sound e (small (lt→ltb (w .fresh) q some)) low
+        fresh-ended b p q a most room w whole going not-done (not-late timed) some uncapped minus free sound e (small (lt→ltb (w .fresh) q some)) low
 
     turn-left : Left (turn q (equationOf q w) (w .count) (basisRow q w) room (w .stage))
     turn-left = by (whole .standing)
@@ -288,11 +297,12 @@ module _ (b : Base) (p q : ℕ) (a : ℕ → ℕ → ℤ) (most room : ℕ) wher
         by (between e none given) = absurd (omega arith)
         by (underWay l not-done none given sound) =
             plain-left not-done none given sound (turn q (equationOf q w) (w .count) (basisRow q w) room (w .stage))
-            (turn-fine (b .p + p) q (soFar b q w) (equationOf q w) (w .count) (basisRow q w) given (w .stage) sound room (whole .wide) (whole .fits))
+            (turn-fine (b .cap) (b .p + p) q (soFar b q w) (equationOf q w) (w .count) (basisRow q w) given (w .stage) sound room (whole .wide) (whole .fits))
             (turn-timed q (equationOf q w) (w .count) (basisRow q w) room (w .stage))
-        by (withFresh l not-done some minus free given sound) =
-            fresh-left not-done some minus free given sound (turn q (equationOf q w) (w .count) (basisRow q w) room (w .stage))
-            (turn-fine (suc (b .p + p)) q (withoutAt (b .p + p) (soFar b q w) (w .fresh)) (equationOf q w) (w .count) (basisRow q w) given (w .stage) sound room
+        by (withFresh l not-done some uncapped minus free given sound) =
+            fresh-left not-done some uncapped minus free given sound (turn q (equationOf q w) (w .count) (basisRow q w) room (w .stage))
+            (turn-fine (b .cap) (suc (b .p + p)) q (withoutAt (b .p + p) (soFar b q w) (w .fresh)) (equationOf q w) (w .count) (basisRow q w)
+            given (w .stage) sound room
             (whole .wide) (whole .fits))
             (turn-timed q (equationOf q w) (w .count) (basisRow q w) room (w .stage))
 

@@ -56,7 +56,7 @@ equation f l = equationAt (l .coefs) (f .from)
 
 abbrev pub stageOf : List ℕ → Next → Stage
 stageOf table s =
-    record { table = table; rows = s .rows; taken = s .taken; degree = s .degree; upper = s .upper; lower = s .lower; steps = s .steps }
+    record { table = table; rows = s .rows; taken = s .taken; degree = s .degree; upper = s .upper; lower = s .lower; steps = s .steps; cap = 0 }
 
 abbrev pub nextOf : (rows taken degree upper lower steps first : ℕ) (more : Bool) → Next
 nextOf rows taken degree upper lower steps first more =
