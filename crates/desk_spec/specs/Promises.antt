@@ -25,11 +25,11 @@ use Rattle.laws.specs.CheckLaws.{FirstDue, refuse-not-go}
 use Rattle.laws.specs.MachineLaws.{call-refused, call-walks, walk-done}
 use Rattle.theorems.specs.CallAnswers.{CallAnswers, Paced, StartAnswers, call-paced}
 use Rattle.theorems.specs.Deepest.{greatest}
-use Rattle.theorems.specs.Demands.{second-demand, unchanged-leaves}
+use Rattle.theorems.specs.Proved.{second-demand}
 use Rattle.theorems.specs.Link.{nonzero}
 use Rattle.theorems.specs.Listed.{Exactly, Reads, enumerated, only-reads}
 use Rattle.theorems.specs.Run.{Run, SameRows, run-sound}
-use Rattle.theorems.specs.Series.{Lending, meanwhile}
+use Rattle.theorems.specs.Series.{Lending, meanwhile, unchanged-leaves}
 use Rattle.theorems.specs.StackRows.{each-step, rows-suffice}
 use Rattle.linear.specs.Loops.{MadeOfRows, made-of-loops}
 use Rattle.desk_spec.specs.Desks.{

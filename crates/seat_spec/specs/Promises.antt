@@ -19,12 +19,13 @@ use Rattle.laws.specs.LimitLaws.{step-limit}
 use Rattle.laws.specs.MachineLaws.{call-refused}
 use Rattle.theorems.specs.CallAnswers.{CallAnswers, Paced, Ruled, StartAnswers, call-answers, call-paced, start-answers, started-goes}
 use Rattle.theorems.specs.Counts.{after-counts}
-use Rattle.theorems.specs.Demands.{Lists, ListsFrom, ThirdDemand, never-above, third-demand, unchanged-leaves}
+use Rattle.theorems.specs.Demands.{Lists, ListsFrom, ThirdDemand}
+use Rattle.theorems.specs.Proved.{second-demand, third-demands}
 use Rattle.theorems.specs.Listed.{Exactly}
 use Rattle.theorems.specs.LowerFirst.{RoomBy}
 use Rattle.theorems.specs.OwnCalls.{Log, Orderly, Pausing, completed, more, none, pausing}
 use Rattle.theorems.specs.Run.{SameRows, withList, withLists}
-use Rattle.theorems.specs.Series.{Lending, Series, meanwhile, own}
+use Rattle.theorems.specs.Series.{Lending, Series, meanwhile, own, unchanged-leaves}
 use Rattle.theorems.specs.Third.{Premises}
 use Rattle.theorems.specs.Untouched.{Untouched}
 use Rattle.theorems.specs.WholeSteps.{called}
@@ -183,10 +184,10 @@ module _ (p q : ℕ) (coefs : List ℤ) where
   one : (s₀ : State) → seatFirst i ≡ go → Premises i s₀ → (g : Log State) → Series i s₀ g
       → ThirdDemand i s₀ g × (seatStart i s₀ ≡ start i s₀) × ((budget : ℕ) → seatResume budget i (g .state) ≡ resume budget i (g .state))
   one s₀ e given g r = (
-    third-demand i s₀ given g r,
+    third-demands .third-demand i s₀ given g r,
     seat-starts p q coefs s₀ ∙ passed s₀ (start i) e,
     λ budget.
-        let same = orderly-same (third-demand i s₀ given _ (own r budget) .answers) refl in
+        let same = orderly-same (third-demands .third-demand i s₀ given _ (own r budget) .answers) refl in
         seat-resumes p q coefs budget (g .state)
         ∙ passed (g .state) (λ t. renumbered (resume budget i t)) e
         ∙ ap (λ a. record { answer = a; state = resume budget i (g .state) .state }) same,
@@ -235,7 +236,7 @@ module _ (p q : ℕ) (coefs : List ℤ) where
         goes-from = seat-goes-from p q coefs;
         lists-from = seat-lists-from p q coefs;
         finished-from = seat-finished-from p q coefs;
-        never-above = λ single s r. never-above i s single (seat-run p q coefs r .1);
+        never-above = λ single s r. second-demand .never-above i s single (seat-run p q coefs r .1);
         one-equation = one;
       }
 

@@ -19,7 +19,8 @@ use Rattle.definitions.specs.Tables.{State, capacity}
 use Rattle.laws.specs.CheckLaws.{check-cases}
 use Rattle.laws.specs.LowerLaws.{settled-once}
 use Rattle.theorems.specs.CallAnswers.{Ruled, call-later, refused-again, started-goes}
-use Rattle.theorems.specs.Demands.{Lists, ListsFrom, first-demand, first-demand-from, second-demand}
+use Rattle.theorems.specs.Demands.{Lists, ListsFrom}
+use Rattle.theorems.specs.Proved.{first-demand, first-demand-from, second-demand}
 use Rattle.theorems.specs.Listed.{Exactly}
 use Rattle.theorems.specs.LowerFirst.{RoomBy}
 use Rattle.theorems.specs.LowerRun as from

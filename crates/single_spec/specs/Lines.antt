@@ -18,7 +18,7 @@ use Rattle.definitions.specs.Input.{Input, alone, mapOf}
 use Rattle.definitions.specs.System.{MinimalSolution, System, column}
 use Rattle.definitions.specs.Tables.{State, at}
 use Rattle.laws.specs.RefusalLaws.{at-most}
-use Rattle.theorems.specs.Demands.{second-demand}
+use Rattle.theorems.specs.Proved.{second-demand}
 use Rattle.theorems.specs.Held.{Whole}
 use Rattle.theorems.specs.Listed.{Exactly}
 use Rattle.theorems.specs.Run.{run-handed}

@@ -18,9 +18,9 @@ use Rattle.laws.specs.AnswerLaws.{then-go}
 use Rattle.laws.specs.CheckLaws.{Renders, Rules, _▹_, _▹▹_, decides-if, end, placed, renders-after, renders-last, renders-then, rule}
 use Rattle.laws.specs.RefusalLaws.{Outside, decides-outside, decides-range, decides-unequal, rangeRule, resume-renders, resumeRules, start-renders, startRules}
 use Rattle.theorems.specs.Listed.{Only}
-use Rattle.theorems.specs.Demands.{second-demand, unchanged-leaves}
+use Rattle.theorems.specs.Proved.{second-demand}
 use Rattle.theorems.specs.Run.{Run, aimOf, continued, started-units}
-use Rattle.theorems.specs.Series.{Lending, meanwhile}
+use Rattle.theorems.specs.Series.{Lending, meanwhile, unchanged-leaves}
 use Rattle.single_spec.specs.Calls.{singleResume, singleResumeChecks, singleStart, singleStartChecks}
 use Rattle.single_spec.specs.Graph.{size}
 use Rattle.single_spec.specs.Listing.{listedBy, listing, listingCall, listingChecks, refused, rowChecks}

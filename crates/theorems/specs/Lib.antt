@@ -31,6 +31,7 @@ pub mod LowerFirst
 pub mod TwoWalks
 pub mod Frames
 pub mod Demands
+pub mod Proved
 pub mod Reasons
 pub mod BaseStep
 pub mod Newest
