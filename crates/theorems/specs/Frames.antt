@@ -18,7 +18,7 @@ use Rattle.laws.specs.LowerLaws.{Aside, step-aside, step-kept}
 use Rattle.laws.specs.StepLaws.{children-keep}
 use Rattle.laws.specs.TableLaws.{write-outside}
 use Rattle.theorems.specs.LowerFirst.{next-from}
-use Rattle.theorems.specs.WholeSteps.{after-more, call-keeps}
+use Rattle.theorems.specs.WholeSteps.{after-next, call-keeps}
 
 -- ---- the rows listed
 
@@ -73,7 +73,7 @@ rows-stay budget i s =
 
 -- one step more
 next : (i : Input) (n : ℕ) (s : State) → after (n + 1) (machine i) s ≡ step (systemOf i) (after n (machine i) s)
-next i n s = after-more (machine i) (λ t. refl) n 1 s ∙ (unfold after in refl)
+next i = after-next (machine i) (λ t. refl)
 
 -- and each of its steps
 pub rows-each : (i : Input) (n : ℕ) (s : State) → RowsStay (width (systemOf i)) (after n (machine i) s) (after (n + 1) (machine i) s)

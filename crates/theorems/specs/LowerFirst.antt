@@ -1,5 +1,5 @@
--- What the continuing call of a run from a lower bound leaves and answers: in which case each refusal is given, that a refusal of the search is given again,
--- that a longer list table helps after refusal 11, that the record counts the steps of both walks, and what each step keeps. Assumes nothing.
+-- What the continuing call of a run from a lower bound leaves and answers: the rules that its refusals render, that the record counts the steps of both walks,
+-- what is let go on again, that a longer list table helps after refusal 11, and what each step keeps. Assumes nothing.
 use mathlib.Core.Path.{_≡_, refl, sym, _∙_, ap, subst}
 use mathlib.Core.Logic.{inl, inr}
 use mathlib.Core.Bool.{true}
@@ -7,7 +7,7 @@ use mathlib.Core.List.{List, []}
 use Prim.Native.Nat.{ℕ, zero, suc, _+_, _*_, _≤_, _<_}
 use native.Mathlib.Omega.{arith}
 use lib.ListN.{getD}
-use Rattle.definitions.specs.Answers.{go, paused, refused}
+use Rattle.definitions.specs.Answers.{go, refused}
 use Rattle.definitions.specs.Calls.{changed, machineFrom, resumeFrom, resumeFromSteps, searchFrom, settleFrom, stepFrom}
 use Rattle.definitions.specs.Input.{Input, aboveSystem, alone, boundOf, mapOf}
 use Rattle.definitions.specs.Machine.{after, walk}
@@ -22,12 +22,12 @@ use Rattle.laws.specs.MachineLaws.{call-refused}
 use Rattle.laws.specs.RefusalLaws.{searchRules}
 use Rattle.laws.specs.TableLaws.{row-outside}
 use Rattle.laws.specs.ValidLaws.{shaped-same}
-use Rattle.theorems.specs.CallAnswers.{CallAnswers, Paced, Ruled, call-answers, call-later, call-paced, goes-on, refused-again as again, refused-there}
+use Rattle.theorems.specs.CallAnswers.{CallAnswers, Ruled, call-answers, goes-on, refused-there}
 use Rattle.theorems.specs.Counts.{step-counts}
 use Rattle.theorems.specs.First.{full-only}
 use Rattle.theorems.specs.Run.{SameRows, relisted-valid, relisted-valid₂, same-fits, withList, withLists}
 use Rattle.theorems.specs.Untouched.{above-kept}
-use Rattle.theorems.specs.WholeSteps.{Goes, Steady, after-keeps, after-more, call-going, call-keeps, called, settled-after}
+use Rattle.theorems.specs.WholeSteps.{Goes, Steady, after-keeps, after-next, call-going, call-keeps, called, settled-after}
 
 -- the list of the walk under way has room for one row more of q numbers
 abbrev pub RoomBy : ℕ → Run → State → Type 0
@@ -36,6 +36,11 @@ RoomBy q cappedRun t = ⊥
 RoomBy q lowerPlain t = t .run .found₂ < capacity q (t .second)
 RoomBy q lowerAbove t = t .run .found < capacity q (t .list)
 RoomBy q deskByDesk t = ⊥
+
+-- from t: other list tables with the same rows, and room in that of the walk under way
+pub data LongerFrom (q : ℕ) (t : State) : State → Type 0 where
+  longer-lists : (list second : List ℕ) → SameRows q (t .run .found) (t .list) list → SameRows q (t .run .found₂) (t .second) second
+      → RoomBy q (t .run .kind) (withLists t list second) → LongerFrom q t (withLists t list second)
 
 module _ (lower : List ℕ) (i : Input) where
   steady : Steady (machineFrom lower i)
@@ -51,9 +56,6 @@ module _ (lower : List ℕ) (i : Input) where
       (resumeFrom budget lower i s .state .run .height) (resumeFrom budget lower i s .answer)
   resume-from-answers budget s = call-answers ruled-from budget s
 
-  pub paced-from : (budget : ℕ) (s : State) → Paced (machineFrom lower i) (searchFromRules lower i) budget s
-  paced-from budget s = call-paced ruled-from budget s
-
   -- ---- whole steps, and their number
 
   pub resume-from-after : (n : ℕ) (s : State) → resumeFromChecks lower i s ≡ go
@@ -68,18 +70,12 @@ module _ (lower : List ℕ) (i : Input) where
 
   -- one step more
   pub next-from : (n : ℕ) (s : State) → after (n + 1) (machineFrom lower i) s ≡ settleFrom lower i (stepFrom lower i (after n (machineFrom lower i) s))
-  next-from n s =
-      after-more (machineFrom lower i) steady n 1 s ∙ one
-      ∙ ap (λ t. settleFrom lower i (stepFrom lower i t)) (settled-after (machineFrom lower i) steady n s)
-    where
-      one : after 1 (machineFrom lower i) (after n (machineFrom lower i) s)
-          ≡ settleFrom lower i (stepFrom lower i (settleFrom lower i (after n (machineFrom lower i) s)))
-      one = unfold after in refl
+  next-from = after-next (machineFrom lower i) steady
 
   abbrev total : State → ℕ
   total s = s .run .steps + s .run .steps₂
 
-  settled-total : (s : State) → total (settleFrom lower i s) ≡ total s
+  pub settled-total : (s : State) → total (settleFrom lower i s) ≡ total s
   unfolding settleFrom lowered
   settled-total s = go (s .run .kind) (s .run .height)
     where
@@ -91,7 +87,7 @@ module _ (lower : List ℕ) (i : Input) where
       go lowerAbove h = refl
       go deskByDesk h = refl
 
-  stepped-total : (s : State) → total (stepFrom lower i s) ≡ total s + 1
+  pub stepped-total : (s : State) → total (stepFrom lower i s) ≡ total s + 1
   unfolding stepFrom
   stepped-total s = go (s .run .kind)
     where
@@ -132,17 +128,6 @@ module _ (lower : List ℕ) (i : Input) where
     pub left-goes-from : (budget : ℕ) (s : State) → resumeFromChecks lower i s ≡ go → resumeFromChecks lower i (resumeFrom budget lower i s .state) ≡ go
     left-goes-from budget s e =
         valid-resume-from lower i (resumeFrom budget lower i s .state) is (resume-from-valid lower i s is e .0) (left-valid-from budget s e)
-
-    pub paused-later-from : (budget more : ℕ) (s : State) → resumeFromChecks lower i s ≡ go → resumeFrom budget lower i s .answer ≡ paused
-        → resumeFrom more lower i (resumeFrom budget lower i s .state) ≡ resumeFrom (budget + more) lower i s
-    paused-later-from budget more s e = call-later (machineFrom lower i) steady budget more s e (left-goes-from budget s e)
-
-    -- "the same call again refuses again"
-    pub again-from : (budget : ℕ) (s : State) (n : ℕ) (values : List ℕ) → resumeFromChecks lower i s ≡ go
-        → resumeFrom budget lower i s .answer ≡ refused n values → (more : ℕ)
-        → resumeFrom (suc more) lower i (resumeFrom budget lower i s .state) ≡ record { answer = refused n values; state = resumeFrom budget lower i s .state }
-    again-from budget s n values e a more =
-        again ruled-from budget s steady n values e (left-goes-from budget s e) a more
 
     -- ---- after 11
 
@@ -190,19 +175,16 @@ module _ (lower : List ℕ) (i : Input) where
         by deskByDesk r d = absurd r
 
     -- "after 11 a longer list table with the same rows may be given": the call then takes the step that it had no room for
-    pub longer-from : (budget : ℕ) (s : State) → resumeFromChecks lower i s ≡ go → resumeFrom budget lower i s .answer ≡ refused 11 [] → let t =
-        resumeFrom budget lower i s .state in
-        (list second : List ℕ) → SameRows (i .q) (t .run .found) (t .list) list → SameRows (i .q) (t .run .found₂) (t .second) second
-        → RoomBy (i .q) (t .run .kind) (withLists t list second) → (more : ℕ)
-        → resumeFrom (suc more) lower i (withLists t list second) ≡ walk more (machineFrom lower i) (stepFrom lower i (withLists t list second))
-    longer-from budget s e a list second r r₂ roomy more =
+    pub longer-from : (budget : ℕ) (s : State) → resumeFromChecks lower i s ≡ go → resumeFrom budget lower i s .answer ≡ refused 11 [] → (u : State)
+        → LongerFrom (i .q) (resumeFrom budget lower i s .state) u → (more : ℕ)
+        → resumeFrom (suc more) lower i u ≡ walk more (machineFrom lower i) (stepFrom lower i u)
+    longer-from budget s e a u (longer-lists list second r r₂ roomy) more =
         let t : State = resumeFrom budget lower i s .state in
-        let u : State = withLists t list second in
         let (h, f) = refused-there ruled-from budget s 11 [] e a in
         let due = search-from-renders lower i t .refuses 11 [] f in
-        let same : settleFrom lower i u ≡ u = high-stays u h in
+        let same : settleFrom lower i (withLists t list second) ≡ withLists t list second = high-stays (withLists t list second) h in
         let v = relisted-from t list second r r₂ (left-valid-from budget s e) in
-        goes-on (machineFrom lower i) u (valid-resume-from lower i u is (resume-from-valid lower i s is e .0) v)
+        goes-on (machineFrom lower i) (withLists t list second) (valid-resume-from lower i (withLists t list second) is (resume-from-valid lower i s is e .0) v)
         (rw same (h, goes-by t list second roomy due)) more
         ∙ ap (λ x. walk more (machineFrom lower i) (stepFrom lower i x)) same
 

@@ -1,84 +1,118 @@
 -- The three demands of Demands.antt, proved: each field is a theorem of the files beside it. Assumes nothing.
-use mathlib.Core.Path.{_≡_, _∙_, ap}
+use mathlib.Core.Path.{_≡_, refl}
 use mathlib.Core.List.{List}
 use Prim.Native.Nat.{ℕ, suc, _-_}
 use native.Mathlib.Omega.{arith}
-use Rattle.definitions.specs.Calls.{resumeFromSteps, resumeSteps}
-use Rattle.definitions.specs.Input.{Input, alone, inputOf, inputWith, rights}
+use Rattle.definitions.specs.Calls.{machine, machineFrom, start, startFrom}
+use Rattle.definitions.specs.Input.{Input, alone, inputOf, inputWith, rights, systemOf}
 use Rattle.definitions.specs.Reader.{atOne, atZero}
 use Rattle.definitions.specs.System.{mostComponent}
 use Rattle.definitions.specs.Tables.{State}
+use Rattle.laws.specs.LowerLaws.{settled-once}
 use Rattle.laws.specs.ReaderLaws.{either-shows, reader-shows}
-use Rattle.theorems.specs.Counts.{after-counts}
-use Rattle.theorems.specs.Deepest.{deepest-from, deepest-is}
-use Rattle.theorems.specs.First.{left-goes, longer-list, longer-second, lower-answers, paused-later, plain-answers, refused-again, resume-after}
-use Rattle.theorems.specs.First.{resume-answers, resume-paced}
+use Rattle.laws.specs.RefusalLaws.{lower-renders, start-renders}
+use Rattle.theorems.specs.AnyRun.{Grounds, first-demand-of}
+use Rattle.theorems.specs.Counts.{step-counts}
+use Rattle.theorems.specs.Deepest.{settled-shows, step-deepest, stepped-shows}
+use Rattle.theorems.specs.First.{left-goes, longer-table, lower-answers, resume-after, ruled}
 use Rattle.theorems.specs.Frames.{aside-kept, record-kept, rows-below, rows-below-from, rows-each, rows-each-from, rows-stay, rows-stay-from}
 use Rattle.theorems.specs.Held.{sound-whole}
-use Rattle.theorems.specs.LowerFirst.{again-from, counted-from, left-goes-from, longer-from, paced-from, paused-later-from, resume-from-after}
-use Rattle.theorems.specs.LowerFirst.{resume-from-answers, steps-above-from}
+use Rattle.theorems.specs.LowerFirst.{left-goes-from, longer-from, ruled-from, settled-total, stepped-total, steps-above-from}
+use Rattle.theorems.specs.Maps.{Map, byItself}
 use Rattle.theorems.specs.OwnCalls.{Log}
-use Rattle.theorems.specs.Series.{Series, refused-outcome}
+use Rattle.theorems.specs.Series.{Series, continuing, continuing-from, starting, starting-from}
+use Rattle.theorems.specs.CallTerms.{fromTerms, plainTerms}
 use Rattle.theorems.specs.Third.{Premises, single-premises, series-answers, series-counted, series-deep, series-ends, series-few, series-handed}
 use Rattle.theorems.specs.Third.{series-low, series-sound, series-stays, series-stepped}
 use Rattle.theorems.specs.TwoWalks.{above-call, above-counted, above-follows, booked, plain-counted, plain-stops}
 use Rattle.theorems.specs.Untouched.{call-marked, call-untouched, steps-above}
-use Rattle.theorems.specs.Demands.{FirstDemand, FirstDemandFrom, ThirdDemand, ThirdDemands}
+use Rattle.theorems.specs.Demands.{FirstDemandFrom, FirstDemands, ThirdDemand, ThirdDemands}
 pub use Rattle.theorems.specs.Demands.{second-demand}
 
 -- ---- 1
 
-pub first-demand : FirstDemand
+plain-grounds : (i : Input) → Grounds (machine i) (plainTerms i)
+unfolding start
+plain-grounds i =
+    record {
+      start-is = λ s. refl;
+      start-renders = start-renders i;
+      ruled = ruled i;
+      steady = λ s. refl;
+      settles-steps = λ s. refl;
+      step-steps = step-counts (systemOf i);
+      settles-deepest = λ s. refl;
+      step-deepest = step-deepest (systemOf i);
+      goes-on = λ budget. left-goes budget i;
+      longer = λ budget. longer-table budget i;
+      start-untouched = call-untouched (starting i);
+      untouched = λ budget. call-untouched (continuing budget i);
+      start-marked = call-marked (starting i);
+      marked = λ budget. call-marked (continuing budget i);
+    }
+
+module _ (lower : List ℕ) (m : Map) where
+  abbrev i : Input
+  i = byItself m
+
+  from-grounds : Grounds (machineFrom lower i) (fromTerms lower m)
+  unfolding startFrom
+  from-grounds =
+      record {
+        start-is = λ s. refl;
+        start-renders = λ s. lower-renders i s lower;
+        ruled = ruled-from lower i;
+        steady = settled-once lower i;
+        settles-steps = settled-total lower i;
+        step-steps = stepped-total lower i;
+        settles-deepest = settled-shows lower i;
+        step-deepest = stepped-shows lower i;
+        goes-on = left-goes-from lower i refl;
+        longer = longer-from lower i refl;
+        start-untouched = call-untouched (starting-from lower i refl);
+        untouched = λ budget. call-untouched (continuing-from budget lower i refl);
+        start-marked = call-marked (starting-from lower i refl);
+        marked = λ budget. call-marked (continuing-from budget lower i refl);
+      }
+
+  from-demand : FirstDemandFrom lower m
+  from-demand =
+      record {
+        calls = first-demand-of (machineFrom lower i) (fromTerms lower m) from-grounds;
+        rows = record {
+          above-kept = steps-above-from lower i refl;
+          rows-stay = rows-stay-from lower i;
+          rows-each = rows-each-from lower i;
+          rows-below = rows-below-from lower i;
+        };
+        booked = booked lower i refl;
+        plain-stops = plain-stops lower i refl;
+        above-follows = above-follows lower i refl;
+        plain-counted = plain-counted lower i refl;
+        above-counted = above-counted lower i refl;
+        above-call = above-call lower i;
+      }
+
+pub first-demand : FirstDemands
 first-demand =
     record {
-      unchanged = refused-outcome;
-      whole-steps = resume-after;
-      counted = λ budget i s. ap (λ t. t .run .steps) (resume-after budget i s) ∙ after-counts i (resumeSteps budget i s) s;
-      paced = resume-paced;
-      goes-on = left-goes;
-      later = paused-later;
-      deepest = λ budget i s. ap (λ t. t .run .deepest) (resume-after budget i s) ∙ deepest-is i (resumeSteps budget i s) s;
-      plain-start = plain-answers;
+      plain = λ i. record {
+        calls = first-demand-of (machine i) (plainTerms i) (plain-grounds i);
+        rows = record {
+          above-kept = λ budget. steps-above budget i;
+          rows-stay = λ budget. rows-stay budget i;
+          rows-each = rows-each i;
+          rows-below = rows-below i;
+        };
+        always-whole = λ budget. resume-after budget i;
+        record-kept = λ budget. record-kept budget i;
+      };
+      from-lower = from-demand;
       lower-start = lower-answers;
-      continuing-call = resume-answers;
-      again = refused-again;
-      longer = longer-list;
-      longer-second = longer-second;
-      untouched = call-untouched;
-      above-kept = steps-above;
-      marked = call-marked;
-      rows-stay = rows-stay;
-      rows-each = rows-each;
-      rows-below = rows-below;
-      record-kept = record-kept;
-      aside-kept = aside-kept;
+      aside-kept = λ budget m. aside-kept budget (byItself m) refl;
       reader = reader-shows;
       reader-at-0 = either-shows atZero;
       reader-at-1 = either-shows atOne;
-    }
-
-pub first-demand-from : (lower : List ℕ) (i : Input) → i .extra ≡ alone → FirstDemandFrom lower i
-first-demand-from lower i is =
-    record {
-      whole-steps = resume-from-after lower i;
-      counted = counted-from lower i;
-      paced = paced-from lower i;
-      goes-on = left-goes-from lower i is;
-      later = paused-later-from lower i is;
-      deepest = λ budget s e. ap (λ t. t .run .deepest) (resume-from-after lower i budget s e) ∙ deepest-from lower i (resumeFromSteps budget lower i s) s;
-      continuing-call = resume-from-answers lower i;
-      again = again-from lower i is;
-      longer = longer-from lower i is;
-      above-kept = steps-above-from lower i is;
-      booked = booked lower i is;
-      plain-stops = plain-stops lower i is;
-      above-follows = above-follows lower i is;
-      plain-counted = plain-counted lower i is;
-      above-counted = above-counted lower i is;
-      above-call = above-call lower i;
-      rows-stay = rows-stay-from lower i;
-      rows-each = rows-each-from lower i;
-      rows-below = rows-below-from lower i;
     }
 
 -- ---- 3

@@ -27,7 +27,7 @@ use Rattle.laws.specs.StepLaws.{children-length, children-outside}
 use Rattle.laws.specs.TableLaws.{row-length, row-outside, units-length, units-outside, write-outside}
 use Rattle.laws.specs.ValidLaws.{children-few, enlists, step-valid, units-inside, units-valid}
 use Rattle.theorems.specs.Series.{Call, callChecks, continuing, continuing-from, perform, refused-outcome, starting, starting-from}
-use Rattle.theorems.specs.WholeSteps.{Goes, after-keeps, after-more, call-going, call-keeps}
+use Rattle.theorems.specs.WholeSteps.{Goes, after-keeps, after-next, call-going, call-keeps}
 
 -- What a call for q unknowns and list rows of w numbers leaves alone, that was lent s and leaves t.
 pub record Untouched (q w : ℕ) (s t : State) : Type 0 where
@@ -305,4 +305,4 @@ steps-above budget i s n l e h =
     kept t v (high, f) = step-valid (systemOf i) t v high (search-going (systemOf i) t (v .ordered) high f)
 
     next : (n : ℕ) (s : State) → after (n + 1) (machine i) s ≡ step (systemOf i) (after n (machine i) s)
-    next n s = after-more (machine i) (λ t. refl) n 1 s ∙ (unfold after in refl)
+    next = after-next (machine i) (λ t. refl)
