@@ -30,7 +30,7 @@ use Rattle.seat_spec.specs.Office.{AsOffice, call-office, call-office-fr
 use Rattle.seat_spec.specs.SeatRuns.{SeatRun, SeatRunFrom, seat-finished, seat-finished-from, seat-goes, seat-goes-from, seat-left-goes}
 use Rattle.seat_spec.specs.SeatRuns.{seat-left-goes-from, seat-lists, seat-lists-from, seat-longer, seat-longer-from, seat-marked, seat-marked-from}
 use Rattle.seat_spec.specs.SeatRuns.{seat-run, seat-start-marked, seat-start-marked-from, seat-start-untouched, seat-start-untouched-from, seat-untouched}
-use Rattle.seat_spec.specs.SeatRuns.{seat-untouched-from}
+use Rattle.seat_spec.specs.SeatRuns.{seat-untouched-from, seatMap}
 use Rattle.seat_spec.specs.Training.{seatInput, seatLowerChecks, seatMachine, seatMachineFrom, seatResume, seatResumeChecks, seatResumeFrom}
 use Rattle.seat_spec.specs.Training.{seatResumeFromChecks, seatStart, seatStartChecks, seatStartFrom, seatSteps, seatStepsFrom}
 use Rattle.seat_spec.specs.TrainingRules.{renumber, renumbered, seat-lower-renders, seat-resume-from-renders, seat-resume-renders, seat-resumes}
@@ -121,7 +121,7 @@ pub record TrainingPromise (p q : ℕ) (coefs : List ℤ) : Type 0 where
   pub finished : (s : State) → SeatRun p q coefs s → (budget : ℕ) → let o = seatResume budget (seatInput p q coefs) s in o .answer ≡ complete
       → Exactly q (MinimalSolution (mapOf (seatInput p q coefs))) (o .state .list) (o .state .run .found)
   pub goes-from : (lower : List ℕ) (s : State) → SeatRunFrom lower p q coefs s → seatResumeFromChecks lower (seatInput p q coefs) s ≡ go
-  pub lists-from : (lower : List ℕ) (s : State) → SeatRunFrom lower p q coefs s → ListsFrom lower (seatInput p q coefs) s
+  pub lists-from : (lower : List ℕ) (s : State) → SeatRunFrom lower p q coefs s → ListsFrom lower (seatMap p q coefs) s
   pub finished-from : (lower : List ℕ) (s : State) → SeatRunFrom lower p q coefs s → (budget : ℕ) → let o =
       seatResumeFrom budget lower (seatInput p q coefs) s in
       o .answer ≡ complete
@@ -193,8 +193,8 @@ module _ (p q : ℕ) (coefs : List ℤ) where
         start-renders = λ s. seat-lower-renders i s lower;
         ruled = record { before-renders = λ s. seat-resume-from-renders i s lower; within-renders = seat-search-from-renders lower i };
         steady = settled-once lower i;
-        settles-steps = settled-total lower i;
-        step-steps = stepped-total lower i;
+        settles-steps = settled-total lower (seatMap p q coefs);
+        step-steps = stepped-total lower (seatMap p q coefs);
         settles-deepest = settled-shows lower i;
         step-deepest = stepped-shows lower i;
         goes-on = seat-left-goes-from p q coefs lower;

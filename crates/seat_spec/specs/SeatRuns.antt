@@ -225,18 +225,18 @@ module _ (p q : ℕ) (coefs : List ℤ) where
     core-state-from : seatFirst i ≡ go → (n : ℕ) (s : State) → seatResumeFrom n lower i s .state ≡ resumeFrom n lower i s .state
     core-state-from e n s = ap (λ o. o .state) (is-core-from e n s)
 
-    pub seat-run-from : {s : State} → SeatRunFrom lower p q coefs s → (seatFirst i ≡ go) × RunFrom lower i s
+    pub seat-run-from : {s : State} → SeatRunFrom lower p q coefs s → (seatFirst i ≡ go) × RunFrom lower (seatMap p q coefs) s
     seat-run-from (begun-from s e) =
         let c : checked (seatFirst i) s (startFrom lower i) .answer ≡ started = rw (seat-starts-from p q coefs lower s) at e in
         let (f, w) = started-goes (seatFirst i) s (startFrom lower i) c in
         let is : seatStartFrom lower i s ≡ startFrom lower i s = seat-starts-from p q coefs lower s ∙ w in
-        (f, subst (λ o. RunFrom lower i (o .state)) (sym is) (from.started-from s (ap (λ o. o .answer) (sym is) ∙ e)))
+        (f, subst (λ o. RunFrom lower (seatMap p q coefs) (o .state)) (sym is) (from.started-from s (ap (λ o. o .answer) (sym is) ∙ e)))
     seat-run-from (resumed-from {s = s} r budget) =
-        let (f, c) = seat-run-from r in (f, subst (λ t. RunFrom lower i t) (sym (core-state-from f budget s)) (from.continued c budget))
+        let (f, c) = seat-run-from r in (f, subst (λ t. RunFrom lower (seatMap p q coefs) t) (sym (core-state-from f budget s)) (from.continued c budget))
     seat-run-from (lent-from {s = s} r list same) = let (f, c) = seat-run-from r in (f, from.relisted c list same)
     seat-run-from (lent-second {s = s} r second same) = let (f, c) = seat-run-from r in (f, from.relisted₂ c second same)
 
-    pub seat-lists-from : (s : State) → SeatRunFrom lower p q coefs s → ListsFrom lower i s
+    pub seat-lists-from : (s : State) → SeatRunFrom lower p q coefs s → ListsFrom lower (seatMap p q coefs) s
     seat-lists-from s r = second-demand .from-lower lower (seatMap p q coefs) s (seat-run-from r .1)
 
     pub seat-goes-from : (s : State) → SeatRunFrom lower p q coefs s → seatResumeFromChecks lower i s ≡ go

@@ -31,9 +31,9 @@ pub record CallTerms (S : Type 0) : Type 1 where
   pub steps : S → ℕ
   pub deepest : S → ℕ
   pub topSum : S → ℕ
-  pub untouched : S → S → Type 0
+  pub untouched : (lent left : S) → Type 0
   pub marked : S → Type 0
-  pub longer : S → S → Type 0
+  pub longer : (full longer : S) → Type 0
 
 -- what a continuing call leaves
 abbrev pub left : {S : Type 0} → ℕ → Machine S → S → S

@@ -1,7 +1,7 @@
 -- The three demands of Demands.antt, proved: each field is a theorem of the files beside it. Assumes nothing.
 use mathlib.Core.Path.{_≡_, refl}
 use mathlib.Core.List.{List}
-use Prim.Native.Nat.{ℕ, suc, _-_}
+use Prim.Native.Nat.{_-_, suc, ℕ}
 use native.Mathlib.Omega.{arith}
 use Rattle.definitions.specs.Calls.{machine, machineFrom, start, startFrom}
 use Rattle.definitions.specs.Input.{Input, alone, inputOf, inputWith, rights, systemOf}
@@ -22,8 +22,8 @@ use Rattle.theorems.specs.Maps.{Map, byItself}
 use Rattle.theorems.specs.OwnCalls.{Log}
 use Rattle.theorems.specs.Series.{Series, continuing, continuing-from, starting, starting-from}
 use Rattle.theorems.specs.CallTerms.{fromTerms, plainTerms}
-use Rattle.theorems.specs.Third.{Premises, single-premises, series-answers, series-counted, series-deep, series-ends, series-few, series-handed}
-use Rattle.theorems.specs.Third.{series-low, series-sound, series-stays, series-stepped}
+use Rattle.theorems.specs.Third.{Premises, series-answers, series-counted, series-deep, series-ends, series-few, series-handed, series-low, series-sound}
+use Rattle.theorems.specs.Third.{series-stays, series-stepped, single-premises}
 use Rattle.theorems.specs.TwoWalks.{above-call, above-counted, above-follows, booked, plain-counted, plain-stops}
 use Rattle.theorems.specs.Untouched.{call-marked, call-untouched, steps-above}
 use Rattle.theorems.specs.Demands.{FirstDemandFrom, FirstDemands, ThirdDemand, ThirdDemands}
@@ -61,18 +61,18 @@ module _ (lower : List ℕ) (m : Map) where
       record {
         start-is = λ s. refl;
         start-renders = λ s. lower-renders i s lower;
-        ruled = ruled-from lower i;
+        ruled = ruled-from lower m;
         steady = settled-once lower i;
-        settles-steps = settled-total lower i;
-        step-steps = stepped-total lower i;
+        settles-steps = settled-total lower m;
+        step-steps = stepped-total lower m;
         settles-deepest = settled-shows lower i;
         step-deepest = stepped-shows lower i;
-        goes-on = left-goes-from lower i refl;
-        longer = longer-from lower i refl;
-        start-untouched = call-untouched (starting-from lower i refl);
-        untouched = λ budget. call-untouched (continuing-from budget lower i refl);
-        start-marked = call-marked (starting-from lower i refl);
-        marked = λ budget. call-marked (continuing-from budget lower i refl);
+        goes-on = left-goes-from lower m;
+        longer = longer-from lower m;
+        start-untouched = call-untouched (starting-from lower m);
+        untouched = λ budget. call-untouched (continuing-from budget lower m);
+        start-marked = call-marked (starting-from lower m);
+        marked = λ budget. call-marked (continuing-from budget lower m);
       }
 
   from-demand : FirstDemandFrom lower m
@@ -80,17 +80,17 @@ module _ (lower : List ℕ) (m : Map) where
       record {
         calls = first-demand-of (machineFrom lower i) (fromTerms lower m) from-grounds;
         rows = record {
-          above-kept = steps-above-from lower i refl;
-          rows-stay = rows-stay-from lower i;
-          rows-each = rows-each-from lower i;
-          rows-below = rows-below-from lower i;
+          above-kept = steps-above-from lower m;
+          rows-stay = rows-stay-from lower m;
+          rows-each = rows-each-from lower m;
+          rows-below = rows-below-from lower m;
         };
-        booked = booked lower i refl;
-        plain-stops = plain-stops lower i refl;
-        above-follows = above-follows lower i refl;
-        plain-counted = plain-counted lower i refl;
-        above-counted = above-counted lower i refl;
-        above-call = above-call lower i;
+        booked = booked lower m;
+        plain-stops = plain-stops lower m;
+        above-follows = above-follows lower m;
+        plain-counted = plain-counted lower m;
+        above-counted = above-counted lower m;
+        above-call = above-call lower m;
       }
 
 pub first-demand : FirstDemands
@@ -109,7 +109,7 @@ first-demand =
       };
       from-lower = from-demand;
       lower-start = lower-answers;
-      aside-kept = λ budget m. aside-kept budget (byItself m) refl;
+      aside-kept = aside-kept;
       reader = reader-shows;
       reader-at-0 = either-shows atZero;
       reader-at-1 = either-shows atOne;
