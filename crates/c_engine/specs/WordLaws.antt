@@ -18,7 +18,7 @@ use Rattle.c_record.specs.CodeLaws.{Fits}
 use Rattle.c_record.specs.Codes.{code, refusalCode}
 use Rattle.c_record.specs.WordLaws.{set-own}
 use Rattle.engine_spec.specs.Calls as calls
-use Rattle.engine_spec.specs.Engine.{Result, Work, begun, begunFrom, begunUnder, result}
+use Rattle.engine_spec.specs.Engine.{Result, Work, begun, begunFrom, begunFromUnder, begunUnder, result}
 use Rattle.engine_calls.specs.Records.{answerOf, checkOf, numberOf, outcomeOf, placeOf, valuesOf, workOf}
 use Rattle.engine_calls.specs.declared.Check as made
 use Rattle.engine_calls.specs.declared.Check.the-variants.{Pass, Refuse}
@@ -271,6 +271,6 @@ module _ (p q : ℕ) (coefs : List ℤ) (most : ℕ) (equations : List ℤ) (bas
   pub list-without : (n : ℕ) (rows : List ℕ) (o : Outcome) {equations′ : List ℤ} {basis′ : List ℕ}
       → outcomeOf o equations′ basis′ table ≡ calls.startFrom p q coefs n rows most lentTable
       → outcomeOf o equations′ basis′ [] ≡ calls.startFrom p q coefs n rows most lentNone
-  unfolding calls.startFrom calls.startFromChecks
+  unfolding calls.startFromUnder calls.startFromChecks
   list-without n rows o e =
-      ap withoutTable e ∙ without (begunFrom p q coefs n rows) (unfold begunFrom in refl) (calls.startFromChecks p q coefs n rows most lentTable)
+      ap withoutTable e ∙ without (begunFrom p q coefs n rows) (unfold begunFromUnder in refl) (calls.startFromChecks p q coefs n rows most lentTable)

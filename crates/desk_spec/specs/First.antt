@@ -1,58 +1,43 @@
--- The first demand for the second walk's calls: what they leave and answer, in which case each refusal is given, that a refusal of the search is given again,
--- that a longer list table helps after refusal 11, and what each step, each sweep and each call leaves alone. Assumes nothing.
-use mathlib.Core.Path.{_≡_, refl, _∙_, ap}
+-- What the first demand rests on for the second walk's calls: that the record counts the steps, what is let go on again, that a longer list table helps after
+-- refusal 11, what each step, each sweep and each call leaves alone, and the marks of rows. Assumes nothing.
+use mathlib.Core.Path.{_∙_, _≡_, ap, refl}
 use mathlib.Core.Logic.{inl, inr}
 use mathlib.Core.List.{List, []}
-use Prim.Native.Nat.{ℕ, zero, suc, _+_, _*_, _≤_, _<_}
+use Prim.Native.Nat.{_*_, _+_, _<_, _≤_, suc, ℕ}
 use native.Mathlib.Nat.{mul-le-mul-right}
 use native.Mathlib.Omega.{arith}
-use lib.ListN.{length, getD}
+use lib.ListN.{getD, length}
 use Rattle.linear.specs.Tests.{countTo}
-use Rattle.definitions.specs.Answers.{go, paused, refuse, refused, started}
+use Rattle.definitions.specs.Answers.{go, refuse, refused, started}
 use Rattle.definitions.specs.Machine.{after, checked, walk}
 use Rattle.definitions.specs.Tables.{State, capacity, frozen}
 use Rattle.laws.specs.CheckLaws.{FirstDue, check-cases}
 use Rattle.laws.specs.MachineLaws.{call-refused}
 use Rattle.laws.specs.TableLaws.{write-length, write-outside}
 use Rattle.laws.specs.Pack.{pack-beyond, pack-length}
-use Rattle.theorems.specs.CallAnswers.{StartAnswers, call-later, goes-on, refused-again, refused-there, start-answers}
+use Rattle.theorems.specs.CallAnswers.{goes-on, refused-there}
 use Rattle.theorems.specs.Run.{SameRows}
-use Rattle.theorems.specs.WholeSteps.{Goes, after-more, call-keeps, called, settled-after}
-use Rattle.desk_spec.specs.Desks.{
-  Desk,
-  always,
-  deskBegin,
-  deskGrown,
-  deskLevel,
-  deskListed,
-  deskMachine,
-  deskMakes,
-  deskMarks,
-  deskResume,
-  deskResumeChecks,
-}
-use Rattle.desk_spec.specs.Desks.{deskResumeSteps, deskSearchChecks, deskStart, deskStartChecks, deskStep, deskTop, freed, generatorCount, settled, swept}
+use Rattle.theorems.specs.WholeSteps.{Goes, call-keeps}
+use Rattle.desk_spec.specs.Desks.{Desk, always, deskBegin, deskGrown, deskLevel, deskListed, deskMachine, deskMakes, deskMarks, deskResume}
+use Rattle.desk_spec.specs.Desks.{deskResumeChecks, deskSearchChecks, deskStart, deskStartChecks, deskStep, deskTop, freed, generatorCount, settled}
+use Rattle.desk_spec.specs.Desks.{swept}
 use Rattle.desk_spec.specs.Rows.{all-counted}
-use Rattle.desk_spec.specs.Rules.{deskSearchRules, deskStartRules, search-renders, start-renders}
-use Rattle.desk_spec.specs.Valid.{DeskValid, freed-has, freed-of, resume-valid, search-going, settled-again, settled-has, settled-of, settled-valid}
-use Rattle.desk_spec.specs.Valid.{start-shaped, start-valid, step-has, step-valid, sweep-leaves, swept-of, valid-resume}
+use Rattle.desk_spec.specs.Rules.{deskSearchRules, search-renders}
+use Rattle.desk_spec.specs.Valid.{DeskValid, freed-has, freed-of, resume-valid, search-going, settled-has, settled-valid, start-shaped, start-valid}
+use Rattle.desk_spec.specs.Valid.{step-has, step-valid, sweep-leaves, swept-of, valid-resume}
 use Rattle.desk_spec.specs.Frames.{freed-when, settled-when}
 use Rattle.desk_spec.specs.Runs.{desk-ruled, left}
 use Rattle.desk_spec.specs.Walk.{relisted-valid, withList}
 
 -- ---- the start
 
-pub begin-answers : (d : Desk) (s : State) → StartAnswers (deskStartRules d s) (deskBegin d s .answer)
-unfolding deskBegin
-begin-answers d s = start-answers (deskStartChecks d s) s _ refl (deskStartRules d s) (start-renders d s)
-
 -- "a refusal not given within a walk changes nothing lent"
-pub begin-refused : (d : Desk) (s : State) (n : ℕ) (values : List ℕ) → deskStartChecks d s ≡ refuse n values
+begin-refused : (d : Desk) (s : State) (n : ℕ) (values : List ℕ) → deskStartChecks d s ≡ refuse n values
     → deskBegin d s ≡ record { answer = refused n values; state = s }
 unfolding deskBegin checked
 begin-refused d s n values e = rw e
 
-pub begin-goes : (d : Desk) (s : State) → deskStartChecks d s ≡ go → deskBegin d s ≡ record { answer = started; state = deskStart d s }
+begin-goes : (d : Desk) (s : State) → deskStartChecks d s ≡ go → deskBegin d s ≡ record { answer = started; state = deskStart d s }
 unfolding deskBegin checked
 begin-goes d s e = rw e
 
@@ -67,25 +52,9 @@ module _ (d : Desk) where
   unfolding deskGrown
   grown-counts s = refl
 
-  step-counts : (s : State) → deskStep d s .run .steps ≡ s .run .steps + 1
+  pub step-counts : (s : State) → deskStep d s .run .steps ≡ s .run .steps + 1
   step-counts s =
       step-has (λ t. t .run .steps ≡ s .run .steps + 1) d s (λ y. listed-counts (freed d s) ∙ ap (λ n. n + 1) (freed-of d s .steps)) (λ n. grown-counts s)
-
-  pub after-counts : (k : ℕ) (s : State) → after k (deskMachine d) s .run .steps ≡ s .run .steps + k
-  unfolding after
-  after-counts zero s = omega (arith, settled-of d s .steps)
-  after-counts (suc k) s = omega (arith, after-counts k (deskStep d (settled d s)), step-counts (settled d s), settled-of d s .steps)
-
-  -- a call leaves the state after its whole steps
-  pub resume-after : (budget : ℕ) (s : State) → deskResumeChecks d s ≡ go → left budget d s ≡ after (deskResumeSteps budget d s) (deskMachine d) s
-  resume-after budget s e = called (deskMachine d) budget s e .state
-
-  pub resume-counts : (budget : ℕ) (s : State) → left budget d s .run .steps ≡ s .run .steps + deskResumeSteps budget d s
-  resume-counts budget s =
-      elim (check-cases (deskResumeChecks d s)) [
-        | inl e ↦ ap (λ t. t .run .steps) (resume-after budget s e) ∙ after-counts (deskResumeSteps budget d s) s
-        | inr (n, values, e) ↦ let w = call-refused (deskMachine d) s budget n values e in ap (λ o. o .state .run .steps) (w .0) ∙ (omega (arith, w .1))
-      ]
 
   -- ---- a call that goes on leaves record and tables in order
 
@@ -98,16 +67,6 @@ module _ (d : Desk) where
   pub left-goes : (budget : ℕ) (s : State) → deskResumeChecks d s ≡ go → deskResumeChecks d (left budget d s) ≡ go
   left-goes budget s e = valid-resume d (left budget d s) (left-valid budget s e)
 
-  -- "A paused run goes on in a later call."
-  pub paused-later : (budget more : ℕ) (s : State) → deskResumeChecks d s ≡ go → deskResume budget d s .answer ≡ paused
-      → deskResume more d (left budget d s) ≡ deskResume (budget + more) d s
-  paused-later budget more s e = call-later (deskMachine d) (settled-again d) budget more s e (left-goes budget s e)
-
-  -- "the same call again refuses again", with any budget above 0
-  pub again : (budget : ℕ) (s : State) (n : ℕ) (values : List ℕ) → deskResumeChecks d s ≡ go → deskResume budget d s .answer ≡ refused n values
-      → (more : ℕ) → deskResume (suc more) d (left budget d s) ≡ record { answer = refused n values; state = left budget d s }
-  again budget s n values e a more = refused-again (desk-ruled d) budget s (settled-again d) n values e (left-goes budget s e) a more
-
 -- ---- "after 11 a longer list table with the same rows may be given"
 
 full-only : (d : Desk) (t : State) (list : List ℕ) → FirstDue (deskSearchRules d t) 11 [] → t .run .found < capacity (d .q) list
@@ -119,18 +78,20 @@ full-only d t list (inr (before, inl (n, v, (sol, full)))) room =
 full-only d t list (inr (before, inr (full, inl (n, v, e)))) room = absurd (omega arith)
 full-only d t list (inr (before, inr (full, inr (over, y)))) room = absurd y
 
+-- from t: another list table with the same rows, and room for one row more
+pub data DeskLonger (d : Desk) (t : State) : State → Type 0 where
+  longer-table : (list : List ℕ) → SameRows (d .q) (t .run .found) (t .list) list → t .run .found < capacity (d .q) list → DeskLonger d t (withList t list)
+
 -- the call then takes the step that it had no room for
-pub longer-list : (budget : ℕ) (d : Desk) (s : State) → deskResumeChecks d s ≡ go → deskResume budget d s .answer ≡ refused 11 []
-    → (list : List ℕ) → SameRows (d .q) (left budget d s .run .found) (left budget d s .list) list → left budget d s .run .found < capacity (d .q) list
-    → (more : ℕ) → deskResume (suc more) d (withList (left budget d s) list) ≡ walk more (deskMachine d) (deskStep d (withList (left budget d s) list))
-longer-list budget d s e a list same room more =
+pub longer-list : (d : Desk) (budget : ℕ) (s : State) → deskResumeChecks d s ≡ go → deskResume budget d s .answer ≡ refused 11 [] → (u : State)
+    → DeskLonger d (left budget d s) u → (more : ℕ) → deskResume (suc more) d u ≡ walk more (deskMachine d) (deskStep d u)
+longer-list d budget s e a u (longer-table list same room) more =
     let t : State = left budget d s in
-    let u : State = withList t list in
     let (h, f) = refused-there (desk-ruled d) budget s 11 [] e a in
     let v = relisted-valid d t list same (left-valid d budget s e) in
-    let stays = settled-when d u .1 h in
-    let goes : Goes (deskMachine d) (settled d u) = rw stays (h, full-only d t list (search-renders d t .refuses 11 [] f) room) in
-    goes-on (deskMachine d) u (valid-resume d u v) goes more ∙ ap (λ x. walk more (deskMachine d) (deskStep d x)) stays
+    let stays = settled-when d (withList t list) .1 h in
+    let goes : Goes (deskMachine d) (settled d (withList t list)) = rw stays (h, full-only d t list (search-renders d t .refuses 11 [] f) room) in
+    goes-on (deskMachine d) (withList t list) (valid-resume d (withList t list) v) goes more ∙ ap (λ x. walk more (deskMachine d) (deskStep d x)) stays
 
 -- ---- what is left alone
 
@@ -195,11 +156,6 @@ listed-kept d s t same k =
 pub step-kept : (d : Desk) (s : State) → Kept (d .q) s (deskStep d s)
 step-kept d s = step-has (Kept (d .q) s) d s (λ y. listed-kept d s (freed d s) (freed-of d s .stack) (freed-kept d s)) (λ n. grown-kept d s)
 
--- the state after one step more: the step, and the sweep that is due where it was the last
-pub after-next : (d : Desk) (n : ℕ) (s : State) → after (n + 1) (deskMachine d) s ≡ settled d (deskStep d (after n (deskMachine d) s))
-unfolding after
-after-next d n s = after-more (deskMachine d) (settled-again d) n 1 s ∙ ap (λ t. settled d (deskStep d t)) (settled-after (deskMachine d) (settled-again d) n s)
-
 -- What a call leaves alone: of the stack table "entries beyond" a row for each generator "are never touched"; nor is what stands in the list table past its
 -- last whole row.
 pub record Untouched (d : Desk) (s t : State) : Type 0 where
@@ -235,8 +191,8 @@ record Leaves (d : Desk) (s t : State) : Type 0 where
   valid : DeskValid d t
   alone : Untouched d s t
 
-pub resume-untouched : (budget : ℕ) (d : Desk) (s : State) → Untouched d s (left budget d s)
-resume-untouched budget d s =
+pub resume-untouched : (d : Desk) (budget : ℕ) (s : State) → Untouched d s (left budget d s)
+resume-untouched d budget s =
     elim (check-cases (deskResumeChecks d s)) [
       | inl e ↦ call-keeps (deskMachine d) (Leaves d s) settles steps budget s (record { valid = resume-valid d s e; alone = untouched d s }) .alone
       | inr (n, values, e) ↦ rw (call-refused (deskMachine d) s budget n values e .0, left) (untouched d s)
@@ -250,11 +206,12 @@ resume-untouched budget d s =
 
 -- ---- the marks
 
--- "Row k of the stack always carries exactly k − 1 marks." (from 0 here), after each call that its checks let go on
-pub begin-marked : (d : Desk) (s : State) → deskStartChecks d s ≡ go → (k : ℕ) → k < deskStart d s .run .height
-    → countTo (generatorCount d) (frozen (deskMarks (d .q) (deskStart d s .stack) k)) ≡ k
-begin-marked d s e k l = start-valid d s (start-shaped d s e) .ordered .rows k l .marked
+-- "Row k of the stack always carries exactly k − 1 marks." (from 0 here)
+abbrev pub DeskMarked : Desk → State → Type 0
+DeskMarked d t = (k : ℕ) → k < t .run .height → countTo (generatorCount d) (frozen (deskMarks (d .q) (t .stack) k)) ≡ k
 
-pub resume-marked : (budget : ℕ) (d : Desk) (s : State) → deskResumeChecks d s ≡ go → (k : ℕ) → k < left budget d s .run .height
-    → countTo (generatorCount d) (frozen (deskMarks (d .q) (left budget d s .stack) k)) ≡ k
-resume-marked budget d s e k l = left-valid d budget s e .ordered .rows k l .marked
+pub begin-marked : (d : Desk) (s : State) → deskStartChecks d s ≡ go → DeskMarked d (deskBegin d s .state)
+begin-marked d s e = rw (begin-goes d s e) (λ k l. start-valid d s (start-shaped d s e) .ordered .rows k l .marked)
+
+pub resume-marked : (d : Desk) (budget : ℕ) (s : State) → deskResumeChecks d s ≡ go → DeskMarked d (left budget d s)
+resume-marked d budget s e k l = left-valid d budget s e .ordered .rows k l .marked

@@ -1,11 +1,11 @@
 -- THE PROMISES OF A RUN ONE DESK AFTER THE OTHER (document 02, Job 10), each under its words. Open this file first. They are about the definitions of
 -- `desk_spec` (Desks, Records), which the code's contracts equate with what the code does. The minimal solutions of the first group that are handed over (the
 -- trade's loops) are the generators of the second walk. Assumes nothing.
-use mathlib.Core.Path.{_≡_, refl, _∙_, ap}
-use mathlib.Core.Bool.{Bool, true, false, cond, not, _&&_}
+use mathlib.Core.Path.{_∙_, _≡_, ap, refl}
+use mathlib.Core.Bool.{Bool, _&&_, cond, false, not, true}
 use mathlib.Core.Logic.{_≢_, inl, inr}
 use mathlib.Core.List.{List, []}
-use Prim.Native.Nat.{ℕ, suc, _+_, _*_, _/_, _≤_, _<_, max}
+use Prim.Native.Nat.{_*_, _+_, _/_, _<_, _≤_, max, ℕ}
 use native.Mathlib.Nat.{le-antisymm}
 use native.Mathlib.Omega.{arith}
 use lib.Dec.{T}
@@ -13,143 +13,127 @@ use lib.ListN.{length, take}
 use Rattle.linear.specs.Combinations.{Enumerates, met-each}
 use Rattle.linear.specs.Systems.{SolutionIn}
 use Rattle.linear.specs.TestLaws.{and-parts}
-use Rattle.linear.specs.Tests.{countTo, maxTo}
+use Rattle.linear.specs.Tests.{countTo}
 use Rattle.linear.specs.Tuples.{Nonzero, Same, total}
-use Rattle.definitions.specs.Answers.{complete, go, paused, refuse, refuseIf, refuseWith, refused, started}
+use Rattle.definitions.specs.Answers.{complete, go, refuse, refuseIf, refuseWith, refused}
 use Rattle.definitions.specs.Calls.{resume}
 use Rattle.definitions.specs.Input.{Input, inputOf, systemOf}
 use Rattle.definitions.specs.Machine.{after, walk}
 use Rattle.definitions.specs.System.{MinimalSolution, System, coef, solves}
-use Rattle.definitions.specs.Tables.{State, at, capacity, frozen}
+use Rattle.definitions.specs.Tables.{State, at, capacity}
 use Rattle.laws.specs.CheckLaws.{FirstDue, refuse-not-go}
-use Rattle.laws.specs.MachineLaws.{call-refused, call-walks, walk-done}
-use Rattle.theorems.specs.CallAnswers.{CallAnswers, Paced, StartAnswers, call-paced}
-use Rattle.theorems.specs.Deepest.{greatest}
-use Rattle.theorems.specs.Demands.{second-demand, unchanged-leaves}
+use Rattle.laws.specs.MachineLaws.{call-walks, walk-done}
+use Rattle.theorems.specs.AnyRun.{Grounds, first-demand-of}
+use Rattle.theorems.specs.Demands.{FirstDemand}
+use Rattle.theorems.specs.Proved.{second-demand}
 use Rattle.theorems.specs.Link.{nonzero}
 use Rattle.theorems.specs.Listed.{Exactly, Reads, enumerated, only-reads}
-use Rattle.theorems.specs.Run.{Run, SameRows, run-sound}
-use Rattle.theorems.specs.Series.{Lending, meanwhile}
+use Rattle.theorems.specs.Run.{Run, run-sound}
+use Rattle.theorems.specs.Series.{Lending, meanwhile, unchanged-leaves}
+use Rattle.theorems.specs.CallTerms.{CallTerms}
 use Rattle.theorems.specs.StackRows.{each-step, rows-suffice}
 use Rattle.linear.specs.Loops.{MadeOfRows, made-of-loops}
-use Rattle.desk_spec.specs.Desks.{
-  Desk,
-  deepestLimit,
-  deskBegin,
-  deskLevel,
-  deskMachine,
-  deskMakes,
-  deskMarks,
-  deskResume,
-  deskResumeChecks,
-  deskResumeSteps,
-}
-use Rattle.desk_spec.specs.Desks.{deskGrown, deskListed, deskStart, deskStartChecks, deskStep, deskTop, deskTopMarks, freed, generator, generatorCount}
-use Rattle.desk_spec.specs.Desks.{deskInOrder, generatorsInOrder, secondGroup, settled, swept}
-use Rattle.desk_spec.specs.Rules.{DeskInOrder, deskResumeRules, deskSearchRules, deskStartRules, order-from, resume-renders}
+use Rattle.desk_spec.specs.Desks.{Desk, deepestLimit, deskBegin, deskGrown, deskInOrder, deskLevel, deskListed, deskMachine, deskMakes, deskResume}
+use Rattle.desk_spec.specs.Desks.{deskResumeChecks, deskResumeSteps, deskStart, deskStartChecks, deskStep, deskTop, deskTopMarks, freed, generator}
+use Rattle.desk_spec.specs.Desks.{generatorCount, generatorsInOrder, secondGroup, settled, swept}
+use Rattle.desk_spec.specs.Rules.{DeskInOrder, deskResumeRules, deskSearchRules, deskStartRules, order-from, resume-renders, start-renders}
 use Rattle.desk_spec.specs.Rows.{raises-free}
 use Rattle.desk_spec.specs.Valid.{DeskValid, SweepLeaves, freed-of, resume-valid, search-going, settled-again, settled-done, settled-of, settled-valid}
 use Rattle.desk_spec.specs.Valid.{step-valid, sweep-leaves, valid-resume}
-use Rattle.desk_spec.specs.First.{Kept, Untouched, after-next, again, begin-answers, begin-goes, begin-marked, begin-refused, begin-untouched}
-use Rattle.desk_spec.specs.First.{left-goes, longer-list, paused-later, resume-after, resume-counts, resume-marked, resume-untouched}
-use Rattle.desk_spec.specs.First.{settled-kept, start-kept, step-kept}
+use Rattle.desk_spec.specs.First.{DeskLonger, DeskMarked, Kept, Untouched, begin-marked, begin-untouched, left-goes, longer-list, resume-marked}
+use Rattle.desk_spec.specs.First.{resume-untouched, settled-kept, start-kept, step-counts, step-kept}
 use Rattle.desk_spec.specs.Frames.{Aside, TopTaken, aside-kept, freed-when, settled-when, step-takes}
 use Rattle.desk_spec.specs.Groups.{FirstGroup, bothGroups, firstSystem, handed-over, wholeSystem}
 use Rattle.desk_spec.specs.Runs.{DeskRun, continued, desk-answers, desk-ruled, left, left-swept, run-exactly, run-solutions, run-valid}
-use Rattle.desk_spec.specs.Walk.{withList}
 
 -- ---- 1
 
+-- the calls of a run one desk after the other, in the terms of the first demand (theorems/specs/Demands): "the greatest sum of components" is here of the q
+-- components; a list table of the same rows with room for one more takes the place of a full one
+abbrev pub deskTerms : Desk → CallTerms State
+deskTerms d =
+    record {
+      start = deskBegin d;
+      startChecks = deskStartChecks d;
+      startRules = deskStartRules d;
+      begun = deskStart d;
+      before = deskResumeRules d;
+      within = deskSearchRules d;
+      steps = λ s. s .run .steps;
+      deepest = λ s. s .run .deepest;
+      topSum = λ s. total (deskTop d s) (d .q);
+      untouched = Untouched d;
+      marked = DeskMarked d;
+      longer = DeskLonger d;
+    }
+
 -- "The tables and the run record lent to a call hold afterwards exactly what document 01 says, for every content and length they came with." What each call
 -- leaves is the definition `deskBegin` or `deskResume`. Of these:
-pub record FirstDemand : Type 0 where
-  -- "A refusal before the walk changes none of them"
-  pub start-unchanged : (d : Desk) (s : State) (n : ℕ) (values : List ℕ) → deskStartChecks d s ≡ refuse n values
-      → deskBegin d s ≡ record { answer = refused n values; state = s }
-  pub unchanged : (budget : ℕ) (d : Desk) (s : State) (n : ℕ) (values : List ℕ) → deskResumeChecks d s ≡ refuse n values
-      → deskResume budget d s ≡ record { answer = refused n values; state = s }
-  pub starts : (d : Desk) (s : State) → deskStartChecks d s ≡ go → deskBegin d s ≡ record { answer = started; state = deskStart d s }
-  -- "a refusal within it leaves the state after the last whole step": so does every continuing call that goes on; after each step comes the sweep that is due
-  -- before "complete", and the record counts the steps
-  pub whole-steps : (budget : ℕ) (d : Desk) (s : State) → deskResumeChecks d s ≡ go → left budget d s ≡ after (deskResumeSteps budget d s) (deskMachine d) s
-  pub next : (d : Desk) (n : ℕ) (s : State) → after (n + 1) (deskMachine d) s ≡ settled d (deskStep d (after n (deskMachine d) s))
-  pub counted : (budget : ℕ) (d : Desk) (s : State) → left budget d s .run .steps ≡ s .run .steps + deskResumeSteps budget d s
-  -- "Before each step, in this order: height 0 answers "complete"; allowance used up answers "paused"; then the refusals of the search.": of each step taken
-  pub paced : (budget : ℕ) (d : Desk) (s : State) → Paced (deskMachine d) (deskSearchRules d) budget s
-  -- "A paused run goes on in a later call.": what a call that was let go on leaves is let go on again; and a later call takes a paused one up where it stopped
-  pub goes-on : (budget : ℕ) (d : Desk) (s : State) → deskResumeChecks d s ≡ go → deskResumeChecks d (left budget d s) ≡ go
-  pub later : (budget more : ℕ) (d : Desk) (s : State) → deskResumeChecks d s ≡ go → deskResume budget d s .answer ≡ paused
-      → deskResume more d (left budget d s) ≡ deskResume (budget + more) d s
-  -- "Each is given in its case and in no other.", in the documents' order
-  pub starting-call : (d : Desk) (s : State) → StartAnswers (deskStartRules d s) (deskBegin d s .answer)
-  pub continuing-call : (budget : ℕ) (d : Desk) (s : State)
-      → CallAnswers (deskResumeRules d s) (deskSearchRules d (left budget d s)) budget (deskResumeSteps budget d s) (left budget d s .run .height)
-      (deskResume budget d s .answer)
-  -- "the same call again refuses again"
-  pub again : (budget : ℕ) (d : Desk) (s : State) (n : ℕ) (values : List ℕ) → deskResumeChecks d s ≡ go → deskResume budget d s .answer ≡ refused n values
-      → (more : ℕ) → deskResume (suc more) d (left budget d s) ≡ record { answer = refused n values; state = left budget d s }
-  -- "after 11 a longer list table with the same rows may be given"
-  pub longer : (budget : ℕ) (d : Desk) (s : State) → deskResumeChecks d s ≡ go → deskResume budget d s .answer ≡ refused 11 [] → (list : List ℕ)
-      → SameRows (d .q) (left budget d s .run .found) (left budget d s .list) list → left budget d s .run .found < capacity (d .q) list → (more : ℕ)
-      → deskResume (suc more) d (withList (left budget d s) list) ≡ walk more (deskMachine d) (deskStep d (withList (left budget d s) list))
+pub record FirstDemandDesks (d : Desk) : Type 0 where
+  -- after each step comes the sweep that is due before "complete"
+  pub calls : FirstDemand (deskMachine d) (deskTerms d)
   -- a start, each step and each sweep: "Table rows above the height keep what they last held.", and so do entries of the list table past the new count
-  pub start-kept : (d : Desk) (s : State) → Kept (d .q) s (deskStart d s)
-  pub step-kept : (d : Desk) (s : State) → Kept (d .q) s (deskStep d s)
-  pub settled-kept : (d : Desk) (s : State) → Kept (d .q) s (settled d s)
+  pub start-kept : (s : State) → Kept (d .q) s (deskStart d s)
+  pub step-kept : (s : State) → Kept (d .q) s (deskStep d s)
+  pub settled-kept : (s : State) → Kept (d .q) s (settled d s)
   -- frames: a step leaves the stack rows below the one taken off; the rows listed stay, but for the sweep of a full list, and the tuple is the next; the call
   -- keeps the kind of the run and what other runs have beside
-  pub takes : (d : Desk) (s : State) → TopTaken d s (deskStep d s)
-  pub aside-kept : (budget : ℕ) (d : Desk) (s : State) → Aside s (left budget d s)
-  -- of the stack table "entries beyond them are never touched", nor what stands in the list table past its last whole row
-  pub start-untouched : (d : Desk) (s : State) → Untouched d s (deskBegin d s .state)
-  pub untouched : (budget : ℕ) (d : Desk) (s : State) → Untouched d s (left budget d s)
-  -- "Row k of the stack always carries exactly k − 1 marks." (from 0 here)
-  pub start-marked : (d : Desk) (s : State) → deskStartChecks d s ≡ go → (k : ℕ) → k < deskStart d s .run .height
-      → countTo (generatorCount d) (frozen (deskMarks (d .q) (deskStart d s .stack) k)) ≡ k
-  pub marked : (budget : ℕ) (d : Desk) (s : State) → deskResumeChecks d s ≡ go → (k : ℕ) → k < left budget d s .run .height
-      → countTo (generatorCount d) (frozen (deskMarks (d .q) (left budget d s .stack) k)) ≡ k
+  pub takes : (s : State) → TopTaken d s (deskStep d s)
+  pub aside-kept : (budget : ℕ) (s : State) → Aside s (left budget d s)
   -- "a sweep removes each row that lies above another row or repeats an earlier one, and closes the gaps, order kept": `Swept` (laws/specs/SweepLaws) says
   -- which rows stay
   pub sweep : (q : ℕ) (s : State) → SweepLeaves q s (swept q s)
   -- "It runs before each "complete", and when a solution is due and the list is full.": then and at no other time
-  pub sweeps-done : (d : Desk) (s : State) → (s .run .height ≡ 0 → settled d s ≡ swept (d .q) s) × (0 < s .run .height → settled d s ≡ s)
-  pub sweeps-full : (d : Desk) (s : State)
+  pub sweeps-done : (s : State) → (s .run .height ≡ 0 → settled d s ≡ swept (d .q) s) × (0 < s .run .height → settled d s ≡ s)
+  pub sweeps-full : (s : State)
       → (capacity (d .q) (s .list) ≤ s .run .found → freed d s ≡ swept (d .q) s) × (s .run .found < capacity (d .q) (s .list) → freed d s ≡ s)
   -- also with allowance 0
-  pub swept-before : (budget : ℕ) (d : Desk) (s : State) → deskResume budget d s .answer ≡ complete → swept (d .q) (left budget d s) ≡ left budget d s
+  pub swept-before : (budget : ℕ) (s : State) → deskResume budget d s .answer ≡ complete → swept (d .q) (left budget d s) ≡ left budget d s
 
 silent-goes : (budget : ℕ) (d : Desk) (s : State) → deskResume budget d s .answer ≡ complete → deskResumeChecks d s ≡ go
 silent-goes budget d s a = resume-renders d s .silent (desk-answers budget d s .completes .0 a .0)
 
-pub first-demand : FirstDemand
-first-demand =
+step-shows : (d : Desk) (s : State) → deskStep d s .run .deepest ≡ max (s .run .deepest) (total (deskTop d s) (d .q))
+unfolding deskStep deskListed deskGrown
+step-shows d s = go (solves (secondGroup d) (deskTop d s))
+  where
+    go : (b : Bool) → cond b (deskListed d (freed d s)) (deskGrown d s) .run .deepest ≡ max (s .run .deepest) (total (deskTop d s) (d .q))
+    go true = let f = freed-of d s in rw (f .stack, f .height, f .deepest)
+    go false = refl
+
+grounds : (d : Desk) → Grounds (deskMachine d) (deskTerms d)
+unfolding deskBegin
+grounds d =
     record {
-      start-unchanged = begin-refused;
-      unchanged = λ budget d s n values e. call-refused (deskMachine d) s budget n values e .0;
-      starts = begin-goes;
-      whole-steps = λ budget d. resume-after d budget;
-      next = after-next;
-      counted = λ budget d. resume-counts d budget;
-      paced = λ budget d. call-paced (desk-ruled d) budget;
-      goes-on = λ budget d. left-goes d budget;
-      later = λ budget more d. paused-later d budget more;
-      starting-call = begin-answers;
-      continuing-call = desk-answers;
-      again = λ budget d. again d budget;
-      longer = longer-list;
-      start-kept = start-kept;
-      step-kept = step-kept;
-      settled-kept = settled-kept;
-      takes = step-takes;
-      aside-kept = aside-kept;
-      start-untouched = begin-untouched;
-      untouched = resume-untouched;
-      start-marked = begin-marked;
-      marked = resume-marked;
+      start-is = λ s. refl;
+      start-renders = start-renders d;
+      ruled = desk-ruled d;
+      steady = settled-again d;
+      settles-steps = λ s. settled-of d s .steps;
+      step-steps = step-counts d;
+      settles-deepest = λ s. settled-of d s .deepest;
+      step-deepest = step-shows d;
+      goes-on = left-goes d;
+      longer = longer-list d;
+      start-untouched = begin-untouched d;
+      untouched = resume-untouched d;
+      start-marked = begin-marked d;
+      marked = resume-marked d;
+    }
+
+pub first-demand-desks : (d : Desk) → FirstDemandDesks d
+first-demand-desks d =
+    record {
+      calls = first-demand-of (deskMachine d) (deskTerms d) (grounds d);
+      start-kept = start-kept d;
+      step-kept = step-kept d;
+      settled-kept = settled-kept d;
+      takes = step-takes d;
+      aside-kept = λ budget. aside-kept budget d;
       sweep = sweep-leaves;
-      sweeps-done = settled-when;
-      sweeps-full = freed-when;
-      swept-before = λ budget d s a. left-swept budget d s (silent-goes budget d s a) (desk-answers budget d s .completes .0 a .1);
+      sweeps-done = settled-when d;
+      sweeps-full = freed-when d;
+      swept-before = λ budget s a. left-swept budget d s (silent-goes budget d s a) (desk-answers budget d s .completes .0 a .1);
     }
 
 -- ---- 2
@@ -184,11 +168,12 @@ second-demand-desks d g s r =
 pub start-leaves : (l : Lending State) (d : Desk) (s : State) (n : ℕ) (values : List ℕ) → deskStartChecks d (l .handed s) ≡ refuse n values
     → meanwhile (λ t. deskBegin d t .state) l s ≡ s
 start-leaves l d s n values e =
-    unchanged-leaves (λ t. deskBegin d t .state) l s (ap (λ o. o .state) (first-demand .start-unchanged d (l .handed s) n values e))
+    unchanged-leaves (λ t. deskBegin d t .state) l s (ap (λ o. o .state) (first-demand-desks d .calls .start-unchanged (l .handed s) n values e))
 
 pub refused-leaves : (l : Lending State) (budget : ℕ) (d : Desk) (s : State) (n : ℕ) (values : List ℕ) → deskResumeChecks d (l .handed s) ≡ refuse n values
     → meanwhile (left budget d) l s ≡ s
-refused-leaves l budget d s n values e = unchanged-leaves (left budget d) l s (ap (λ o. o .state) (first-demand .unchanged budget d (l .handed s) n values e))
+refused-leaves l budget d s n values e =
+    unchanged-leaves (left budget d) l s (ap (λ o. o .state) (first-demand-desks d .calls .unchanged budget (l .handed s) n values e))
 
 -- no continuing call of a run is refused before its walk: not by 6, nor by another of these numbers
 pub own-calls : (d : Desk) (s : State) → DeskRun d s → deskResumeChecks d s ≡ go
@@ -326,21 +311,6 @@ desk-call-rows budget d s n l =
     (λ t v (h, f). step-valid d t v (search-going d t (v .ordered) h f)) budget s n l in
     order-rows d (after n (deskMachine d) s) (v .ordered) h
 
--- Job 6: "the greatest sum of components among the tuples taken off so far", here of the q components: of what was shown and the sums of the tuples that these
--- steps took off
-step-shows : (d : Desk) (s : State) → deskStep d s .run .deepest ≡ max (s .run .deepest) (total (deskTop d s) (d .q))
-unfolding deskStep deskListed deskGrown
-step-shows d s = go (solves (secondGroup d) (deskTop d s))
-  where
-    go : (b : Bool) → cond b (deskListed d (freed d s)) (deskGrown d s) .run .deepest ≡ max (s .run .deepest) (total (deskTop d s) (d .q))
-    go true = let f = freed-of d s in rw (f .stack, f .height, f .deepest)
-    go false = refl
-
-pub desk-deepest : (d : Desk) (n : ℕ) (s : State)
-    → after n (deskMachine d) s .run .deepest ≡ max (s .run .deepest) (maxTo n (λ j. total (deskTop d (after j (deskMachine d) s)) (d .q)))
-desk-deepest d =
-    greatest (deskMachine d) (settled-again d) (λ s. s .run .deepest) (λ s. total (deskTop d s) (d .q)) (λ s. settled-of d s .deepest) (step-shows d)
-
--- and it stays within what refusal 6 allows
+-- Job 6: the number shown stays within what refusal 6 allows
 pub deepest-fits : (d : Desk) (s : State) → DeskRun d s → s .run .deepest ≤ deepestLimit
 deepest-fits d s r = run-valid r .ordered .shallow

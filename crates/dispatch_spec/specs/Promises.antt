@@ -6,8 +6,7 @@ use lib.ListN.{length}
 use Rattle.definitions.specs.Answers.{go, paused, refuse}
 use Rattle.definitions.specs.Tables.{State}
 use Rattle.laws.specs.CheckLaws.{Renders}
-use Rattle.theorems.specs.Demands.{unchanged-leaves}
-use Rattle.theorems.specs.Series.{Lending, meanwhile}
+use Rattle.theorems.specs.Series.{Lending, meanwhile, unchanged-leaves}
 use Rattle.dispatch_spec.specs.CheckRules.{dispatchRules, dispatch-renders, accepted}
 use Rattle.dispatch_spec.specs.TurnLaws.{turn-fits, turn-other}
 use Rattle.dispatch_spec.specs.Dispatch.{Schedule, Round, own, leaveTurn, turnOf, dispatchChecks, dispatch, refusedWith}

@@ -24,7 +24,7 @@ use Rattle.definitions.specs.System.{MinimalSolution, System, coef}
 use Rattle.definitions.specs.Tables.{State, at}
 use Rattle.laws.specs.CheckLaws.{AllSilent}
 use Rattle.laws.specs.ReasonLaws.{reason-askable, reason-renders, reasonRules}
-use Rattle.theorems.specs.Demands.{second-demand}
+use Rattle.theorems.specs.Proved.{second-demand}
 use Rattle.theorems.specs.Link.{nonzero, upToOne}
 use Rattle.theorems.specs.Listed.{Exactly, enumerated}
 use Rattle.theorems.specs.Run.{Run}

@@ -10,7 +10,8 @@ use Rattle.definitions.specs.Answers.{Answer, started, complete, paused, refuse
 use Rattle.definitions.specs.Calls.{start}
 use Rattle.definitions.specs.Input.{Input, inputOf, mapOf}
 use Rattle.definitions.specs.System.{MinimalSolution}
-use Rattle.theorems.specs.Demands.{Lists, second-demand}
+use Rattle.theorems.specs.Demands.{Lists}
+use Rattle.theorems.specs.Proved.{second-demand}
 use Rattle.theorems.specs.Listed.{Exactly, Only}
 use Rattle.theorems.specs.Run.{continued, started-units}
 use Rattle.texts.specs.Decimals.{bytes, decimal}

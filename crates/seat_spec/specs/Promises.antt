@@ -1,8 +1,7 @@
 -- WHAT THE TRAINING SEAT PROMISES. Open this file first. Assumes nothing.
-use mathlib.Core.Path.{_≡_, refl, sym, _∙_, ap}
-use mathlib.Core.Logic.{inl, inr}
-use mathlib.Core.List.{List, _∷_, []}
-use Prim.Native.Nat.{ℕ, zero, suc, _+_, _≤_, _<_}
+use mathlib.Core.Path.{_∙_, _≡_, ap, refl, sym}
+use mathlib.Core.List.{List, _∷_}
+use Prim.Native.Nat.{_+_, _≤_, suc, zero, ℕ}
 use native.Mathlib.Omega.{arith}
 use lib.IntN.{ℤ}
 use Rattle.definitions.specs.Answers.{Answer, complete, go, paused, refuse, refused, started}
@@ -13,31 +12,34 @@ use Rattle.definitions.specs.Machine.{Outcome, after, checked, walk}
 use Rattle.definitions.specs.Refusals.{stepLimit}
 use Rattle.definitions.specs.Step.{step}
 use Rattle.definitions.specs.System.{MinimalFrom, MinimalSolution}
-use Rattle.definitions.specs.Tables.{State, capacity}
-use Rattle.laws.specs.CheckLaws.{check-cases}
+use Rattle.definitions.specs.Tables.{State, capacity, lowerStart, unitsStart}
 use Rattle.laws.specs.LimitLaws.{step-limit}
-use Rattle.laws.specs.MachineLaws.{call-refused}
-use Rattle.theorems.specs.CallAnswers.{CallAnswers, Paced, Ruled, StartAnswers, call-answers, call-paced, start-answers, started-goes}
-use Rattle.theorems.specs.Counts.{after-counts}
-use Rattle.theorems.specs.Demands.{Lists, ListsFrom, ThirdDemand, never-above, third-demand, unchanged-leaves}
+use Rattle.theorems.specs.CallAnswers.{started-goes}
+use Rattle.theorems.specs.Counts.{step-counts}
+use Rattle.theorems.specs.Demands.{FirstDemand, Lists, ListsFrom, ThirdDemand}
+use Rattle.theorems.specs.Proved.{second-demand, third-demands}
 use Rattle.theorems.specs.Listed.{Exactly}
-use Rattle.theorems.specs.LowerFirst.{RoomBy}
+use Rattle.theorems.specs.LowerFirst.{LongerFrom, settled-total, stepped-total}
 use Rattle.theorems.specs.OwnCalls.{Log, Orderly, Pausing, completed, more, none, pausing}
-use Rattle.theorems.specs.Run.{SameRows, withList, withLists}
-use Rattle.theorems.specs.Series.{Lending, Series, meanwhile, own}
+use Rattle.theorems.specs.Run.{Longer}
+use Rattle.theorems.specs.Series.{Lending, Series, meanwhile, own, unchanged-leaves}
 use Rattle.theorems.specs.Third.{Premises}
-use Rattle.theorems.specs.Untouched.{Untouched}
-use Rattle.theorems.specs.WholeSteps.{called}
+use Rattle.theorems.specs.Untouched.{Marked, Untouched}
+use Rattle.theorems.specs.WholeSteps.{call-after, called}
 use Rattle.seat_spec.specs.Office.{AsOffice, call-office, call-office-from, settle-office, start-office, start-office-from, step-from-office}
-use Rattle.seat_spec.specs.SeatRuns.{SeatRun, SeatRunFrom, seat-again, seat-again-from, seat-finished, seat-finished-from, seat-goes, seat-goes-from}
-use Rattle.seat_spec.specs.SeatRuns.{seat-later, seat-later-from, seat-left-goes, seat-left-goes-from, seat-lists, seat-lists-from, seat-longer}
-use Rattle.seat_spec.specs.SeatRuns.{seat-longer-from, seat-run, seat-start-refused, seat-start-refused-from, seat-start-untouched}
-use Rattle.seat_spec.specs.SeatRuns.{seat-start-untouched-from, seat-untouched, seat-untouched-from}
+use Rattle.seat_spec.specs.SeatRuns.{SeatRun, SeatRunFrom, seat-finished, seat-finished-from, seat-goes, seat-goes-from, seat-left-goes}
+use Rattle.seat_spec.specs.SeatRuns.{seat-left-goes-from, seat-lists, seat-lists-from, seat-longer, seat-longer-from, seat-marked, seat-marked-from}
+use Rattle.seat_spec.specs.SeatRuns.{seat-run, seat-start-marked, seat-start-marked-from, seat-start-untouched, seat-start-untouched-from, seat-untouched}
+use Rattle.seat_spec.specs.SeatRuns.{seat-untouched-from, seatMap}
 use Rattle.seat_spec.specs.Training.{seatInput, seatLowerChecks, seatMachine, seatMachineFrom, seatResume, seatResumeChecks, seatResumeFrom}
 use Rattle.seat_spec.specs.Training.{seatResumeFromChecks, seatStart, seatStartChecks, seatStartFrom, seatSteps, seatStepsFrom}
 use Rattle.seat_spec.specs.TrainingRules.{renumber, renumbered, seat-lower-renders, seat-resume-from-renders, seat-resume-renders, seat-resumes}
 use Rattle.seat_spec.specs.TrainingRules.{seat-search-from-renders, seat-search-renders, seat-start-renders, seat-starts, seatFirst, seatLowerRules}
 use Rattle.seat_spec.specs.TrainingRules.{seatResumeFromRules, seatResumeRules, seatSearchFromRules, seatSearchRules, seatStartRules}
+use Rattle.laws.specs.LowerLaws.{settled-once}
+use Rattle.theorems.specs.AnyRun.{Grounds, first-demand-of}
+use Rattle.theorems.specs.Deepest.{settled-shows, step-deepest, stepped-shows, topSum, topSumFrom}
+use Rattle.theorems.specs.CallTerms.{CallTerms}
 
 -- ---- the steps are the office's
 
@@ -58,41 +60,47 @@ after-office-from p q coefs lower (suc n) s =
     ∙ ap (after n (seatMachineFrom lower (seatInput p q coefs))) (step-from-office p q coefs lower t)
     ∙ after-office-from p q coefs lower n (stepFrom lower (inputOf p q coefs) t)
 
-seat-after : (i : Input) (n : ℕ) (s : State) → seatResume n i s .state ≡ after (seatSteps n i s) (seatMachine i) s
-unfolding after
-seat-after i n s =
-    elim (check-cases (seatResumeChecks i s)) [
-      | inl e ↦ called (seatMachine i) n s e .state
-      | inr (r, values, e) ↦ let d = call-refused (seatMachine i) s n r values e in rw (d .0, d .1)
-    ]
-
 -- ---- the promise
 
+-- the seat's calls in the terms of the first demand: the core's, with 23 straight after 2 and 24 in the place of 12
+abbrev pub seatTerms : Input → CallTerms State
+seatTerms i =
+    record {
+      start = seatStart i;
+      startChecks = seatStartChecks i;
+      startRules = seatStartRules i;
+      begun = unitsStart (systemOf i);
+      before = seatResumeRules i;
+      within = seatSearchRules (systemOf i);
+      steps = λ s. s .run .steps;
+      deepest = λ s. s .run .deepest;
+      topSum = topSum i;
+      untouched = Untouched (i .q) (i .q);
+      marked = Marked (i .q);
+      longer = Longer (systemOf i);
+    }
+
+abbrev pub seatTermsFrom : List ℕ → Input → CallTerms State
+seatTermsFrom lower i =
+    record {
+      start = seatStartFrom lower i;
+      startChecks = seatLowerChecks lower i;
+      startRules = seatLowerRules lower i;
+      begun = lowerStart (mapOf i);
+      before = seatResumeFromRules lower i;
+      within = seatSearchFromRules lower i;
+      steps = λ s. s .run .steps + s .run .steps₂;
+      deepest = λ s. s .run .deepest;
+      topSum = topSumFrom lower i;
+      untouched = Untouched (i .q) (i .q);
+      marked = Marked (i .q);
+      longer = LongerFrom (i .q);
+    }
+
 pub record TrainingPromise (p q : ℕ) (coefs : List ℤ) : Type 0 where
-  -- each refusal in its case and in no other, 23 straight after 2 and 24 in the place of 12
-  pub starts : (s : State) → StartAnswers (seatStartRules (seatInput p q coefs) s) (seatStart (seatInput p q coefs) s .answer)
-  pub starts-from : (lower : List ℕ) (s : State)
-      → StartAnswers (seatLowerRules lower (seatInput p q coefs) s) (seatStartFrom lower (seatInput p q coefs) s .answer)
-  pub continues : (budget : ℕ) (s : State) → let i = seatInput p q coefs in
-      CallAnswers (seatResumeRules i s) (seatSearchRules (systemOf i) (seatResume budget i s .state)) budget (seatSteps budget i s)
-      (seatResume budget i s .state .run .height) (seatResume budget i s .answer)
-  pub continues-from : (lower : List ℕ) (budget : ℕ) (s : State) → let i = seatInput p q coefs in let o = seatResumeFrom budget lower i s in
-      CallAnswers (seatResumeFromRules lower i s) (seatSearchFromRules lower i (o .state)) budget (seatStepsFrom budget lower i s)
-      (o .state .run .height) (o .answer)
-  -- the steps taken are at most the budget, each from a height above 0 where no refusal of the search is due, and the record counts them
-  pub paced : (budget : ℕ) (s : State) → let i = seatInput p q coefs in Paced (seatMachine i) (seatSearchRules (systemOf i)) budget s
-  pub paced-from : (lower : List ℕ) (budget : ℕ) (s : State) → let i = seatInput p q coefs in
-      Paced (seatMachineFrom lower i) (seatSearchFromRules lower i) budget s
-  pub counted : (budget : ℕ) (s : State) → let i = seatInput p q coefs in seatResume budget i s .state .run .steps ≡ s .run .steps + seatSteps budget i s
-  -- "A paused run goes on in a later call."
-  pub goes-on : (budget : ℕ) (s : State) → let i = seatInput p q coefs in seatResumeChecks i s ≡ go → seatResumeChecks i (seatResume budget i s .state) ≡ go
-  pub goes-on-from : (lower : List ℕ) (budget : ℕ) (s : State) → let i = seatInput p q coefs in seatResumeFromChecks lower i s ≡ go
-      → seatResumeFromChecks lower i (seatResumeFrom budget lower i s .state) ≡ go
-  pub later : (budget more : ℕ) (s : State) → let i = seatInput p q coefs in seatResumeChecks i s ≡ go → seatResume budget i s .answer ≡ paused
-      → seatResume more i (seatResume budget i s .state) ≡ seatResume (budget + more) i s
-  pub later-from : (lower : List ℕ) (budget more : ℕ) (s : State) → let i = seatInput p q coefs in seatResumeFromChecks lower i s ≡ go
-      → seatResumeFrom budget lower i s .answer ≡ paused
-      → seatResumeFrom more lower i (seatResumeFrom budget lower i s .state) ≡ seatResumeFrom (budget + more) lower i s
+  -- the first demand
+  pub calls : FirstDemand (seatMachine (seatInput p q coefs)) (seatTerms (seatInput p q coefs))
+  pub calls-from : (lower : List ℕ) → FirstDemand (seatMachineFrom lower (seatInput p q coefs)) (seatTermsFrom lower (seatInput p q coefs))
   -- "A training run that is not refused lists what the office run lists after as many steps.": its start is the office's, and each of its calls that is let go
   -- on is let go on by the office, whose call takes as many steps to the same tables and record, and gives the same answer unless that is 24
   pub as-started : (s : State) → seatStart (seatInput p q coefs) s .answer ≡ started → start (inputOf p q coefs) s ≡ seatStart (seatInput p q coefs) s
@@ -102,47 +110,18 @@ pub record TrainingPromise (p q : ℕ) (coefs : List ℤ) : Type 0 where
       → AsOffice budget (seatMachine (seatInput p q coefs)) (machine (inputOf p q coefs)) s
   pub as-office-from : (lower : List ℕ) (budget : ℕ) (s : State) → seatResumeFromChecks lower (seatInput p q coefs) s ≡ go
       → AsOffice budget (seatMachineFrom lower (seatInput p q coefs)) (machineFrom lower (inputOf p q coefs)) s
-  -- a refusal before the walk changes nothing lent, one within it leaves the state after the last whole step; the steps are the office's
-  pub start-unchanged : (s : State) (n : ℕ) (values : List ℕ) → seatStartChecks (seatInput p q coefs) s ≡ refuse n values
-      → seatStart (seatInput p q coefs) s ≡ record { answer = refused n values; state = s }
-  pub start-unchanged-from : (lower : List ℕ) (s : State) (n : ℕ) (values : List ℕ) → seatLowerChecks lower (seatInput p q coefs) s ≡ refuse n values
-      → seatStartFrom lower (seatInput p q coefs) s ≡ record { answer = refused n values; state = s }
-  pub unchanged : (budget : ℕ) (s : State) (n : ℕ) (values : List ℕ) → seatResumeChecks (seatInput p q coefs) s ≡ refuse n values
-      → seatResume budget (seatInput p q coefs) s ≡ record { answer = refused n values; state = s }
-  pub unchanged-from : (lower : List ℕ) (budget : ℕ) (s : State) (n : ℕ) (values : List ℕ)
-      → seatResumeFromChecks lower (seatInput p q coefs) s ≡ refuse n values
-      → seatResumeFrom budget lower (seatInput p q coefs) s ≡ record { answer = refused n values; state = s }
+  -- the steps are the office's
   pub whole-steps : (budget : ℕ) (s : State)
       → seatResume budget (seatInput p q coefs) s .state ≡ after (seatSteps budget (seatInput p q coefs) s) (machine (inputOf p q coefs)) s
   pub whole-steps-from : (lower : List ℕ) (budget : ℕ) (s : State) → let i = seatInput p q coefs in seatResumeFromChecks lower i s ≡ go
       → seatResumeFrom budget lower i s .state ≡ after (seatStepsFrom budget lower i s) (machineFrom lower (inputOf p q coefs)) s
-  -- "the same call again refuses again"; "after 11 a longer list table with the same rows may be given"
-  pub again : (budget : ℕ) (s : State) (n : ℕ) (values : List ℕ) → let i = seatInput p q coefs in let o = seatResume budget i s in seatResumeChecks i s ≡ go
-      → o .answer ≡ refused n values → (more : ℕ) → seatResume (suc more) i (o .state) ≡ record { answer = refused n values; state = o .state }
-  pub again-from : (lower : List ℕ) (budget : ℕ) (s : State) (n : ℕ) (values : List ℕ) → let i = seatInput p q coefs in let o =
-      seatResumeFrom budget lower i s in
-      seatResumeFromChecks lower i s ≡ go → o .answer ≡ refused n values → (more : ℕ)
-      → seatResumeFrom (suc more) lower i (o .state) ≡ record { answer = refused n values; state = o .state }
-  pub longer : (budget : ℕ) (s : State) → let i = seatInput p q coefs in let o = seatResume budget i s in let t = o .state in
-      seatResumeChecks i s ≡ go → o .answer ≡ refused 11 [] → (list : List ℕ) → SameRows q (t .run .found) (t .list) list → t .run .found < capacity q list
-      → (more : ℕ) → seatResume (suc more) i (withList t list) ≡ walk more (seatMachine i) (step (systemOf i) (withList t list))
-  pub longer-from : (lower : List ℕ) (budget : ℕ) (s : State) → let i = seatInput p q coefs in let o = seatResumeFrom budget lower i s in let t = o .state in
-      seatResumeFromChecks lower i s ≡ go → o .answer ≡ refused 11 [] → (list second : List ℕ)
-      → SameRows q (t .run .found) (t .list) list → SameRows q (t .run .found₂) (t .second) second → RoomBy q (t .run .kind) (withLists t list second)
-      → (more : ℕ)
-      → seatResumeFrom (suc more) lower i (withLists t list second) ≡ walk more (seatMachineFrom lower i) (stepFrom lower i (withLists t list second))
-  -- "entries beyond them are never touched", "List rows past the found count are not touched."
-  pub untouched : (s : State) → Untouched q q s (seatStart (seatInput p q coefs) s .state)
-      × ((lower : List ℕ) → Untouched q q s (seatStartFrom lower (seatInput p q coefs) s .state))
-      × ((budget : ℕ) → Untouched q q s (seatResume budget (seatInput p q coefs) s .state))
-      × ((lower : List ℕ) (budget : ℕ) → Untouched q q s (seatResumeFrom budget lower (seatInput p q coefs) s .state))
   -- the second demand, of the seat's own calls: they are let go on, and the lists hold what the core's hold; finished, all of it
   pub goes : (s : State) → SeatRun p q coefs s → seatResumeChecks (seatInput p q coefs) s ≡ go
   pub lists : (s : State) → SeatRun p q coefs s → Lists (seatInput p q coefs) s
   pub finished : (s : State) → SeatRun p q coefs s → (budget : ℕ) → let o = seatResume budget (seatInput p q coefs) s in o .answer ≡ complete
       → Exactly q (MinimalSolution (mapOf (seatInput p q coefs))) (o .state .list) (o .state .run .found)
   pub goes-from : (lower : List ℕ) (s : State) → SeatRunFrom lower p q coefs s → seatResumeFromChecks lower (seatInput p q coefs) s ≡ go
-  pub lists-from : (lower : List ℕ) (s : State) → SeatRunFrom lower p q coefs s → ListsFrom lower (seatInput p q coefs) s
+  pub lists-from : (lower : List ℕ) (s : State) → SeatRunFrom lower p q coefs s → ListsFrom lower (seatMap p q coefs) s
   pub finished-from : (lower : List ℕ) (s : State) → SeatRunFrom lower p q coefs s → (budget : ℕ) → let o =
       seatResumeFrom budget lower (seatInput p q coefs) s in
       o .answer ≡ complete
@@ -170,12 +149,6 @@ module _ (p q : ℕ) (coefs : List ℤ) where
   abbrev i : Input
   i = seatInput p q coefs
 
-  ruled : Ruled (seatMachine i) (seatResumeRules i) (seatSearchRules (systemOf i))
-  ruled = record { before-renders = seat-resume-renders i; within-renders = seat-search-renders (systemOf i) }
-
-  ruled-from : (lower : List ℕ) → Ruled (seatMachineFrom lower i) (seatResumeFromRules lower i) (seatSearchFromRules lower i)
-  ruled-from lower = record { before-renders = λ s. seat-resume-from-renders i s lower; within-renders = seat-search-from-renders lower i }
-
   passed : (s : State) (f : State → Outcome State) → seatFirst i ≡ go → checked (seatFirst i) s f ≡ f s
   unfolding checked
   passed s f e = rw e
@@ -183,59 +156,74 @@ module _ (p q : ℕ) (coefs : List ℤ) where
   one : (s₀ : State) → seatFirst i ≡ go → Premises i s₀ → (g : Log State) → Series i s₀ g
       → ThirdDemand i s₀ g × (seatStart i s₀ ≡ start i s₀) × ((budget : ℕ) → seatResume budget i (g .state) ≡ resume budget i (g .state))
   one s₀ e given g r = (
-    third-demand i s₀ given g r,
+    third-demands .third-demand i s₀ given g r,
     seat-starts p q coefs s₀ ∙ passed s₀ (start i) e,
     λ budget.
-        let same = orderly-same (third-demand i s₀ given _ (own r budget) .answers) refl in
+        let same = orderly-same (third-demands .third-demand i s₀ given _ (own r budget) .answers) refl in
         seat-resumes p q coefs budget (g .state)
         ∙ passed (g .state) (λ t. renumbered (resume budget i t)) e
         ∙ ap (λ a. record { answer = a; state = resume budget i (g .state) .state }) same,
   )
 
+  grounds : Grounds (seatMachine i) (seatTerms i)
+  unfolding seatStart
+  grounds =
+      record {
+        start-is = λ s. refl;
+        start-renders = seat-start-renders i;
+        ruled = record { before-renders = seat-resume-renders i; within-renders = seat-search-renders (systemOf i) };
+        steady = λ s. refl;
+        settles-steps = λ s. refl;
+        step-steps = step-counts (systemOf i);
+        settles-deepest = λ s. refl;
+        step-deepest = step-deepest (systemOf i);
+        goes-on = seat-left-goes p q coefs;
+        longer = seat-longer p q coefs;
+        start-untouched = seat-start-untouched p q coefs;
+        untouched = seat-untouched p q coefs;
+        start-marked = seat-start-marked p q coefs;
+        marked = seat-marked p q coefs;
+      }
+
+  grounds-from : (lower : List ℕ) → Grounds (seatMachineFrom lower i) (seatTermsFrom lower i)
+  unfolding seatStartFrom
+  grounds-from lower =
+      record {
+        start-is = λ s. refl;
+        start-renders = λ s. seat-lower-renders i s lower;
+        ruled = record { before-renders = λ s. seat-resume-from-renders i s lower; within-renders = seat-search-from-renders lower i };
+        steady = settled-once lower i;
+        settles-steps = settled-total lower (seatMap p q coefs);
+        step-steps = stepped-total lower (seatMap p q coefs);
+        settles-deepest = settled-shows lower i;
+        step-deepest = stepped-shows lower i;
+        goes-on = seat-left-goes-from p q coefs lower;
+        longer = seat-longer-from p q coefs lower;
+        start-untouched = seat-start-untouched-from p q coefs lower;
+        untouched = seat-untouched-from p q coefs lower;
+        start-marked = seat-start-marked-from p q coefs lower;
+        marked = seat-marked-from p q coefs lower;
+      }
+
   pub training-promise : TrainingPromise p q coefs
-  unfolding seatStart seatStartFrom
   training-promise =
       record {
-        starts = λ s. start-answers (seatStartChecks i s) s _ refl (seatStartRules i s) (seat-start-renders i s);
-        starts-from = λ lower s. start-answers (seatLowerChecks lower i s) s _ refl (seatLowerRules lower i s) (seat-lower-renders i s lower);
-        continues = λ budget s. call-answers ruled budget s;
-        continues-from = λ lower budget s. call-answers (ruled-from lower) budget s;
-        paced = λ budget s. call-paced ruled budget s;
-        paced-from = λ lower budget s. call-paced (ruled-from lower) budget s;
-        counted = λ budget s. ap (λ t. t .run .steps) (seat-after i budget s ∙ after-office p q coefs (seatSteps budget i s) s)
-            ∙ after-counts (inputOf p q coefs) (seatSteps budget i s) s;
-        goes-on = seat-left-goes p q coefs;
-        goes-on-from = seat-left-goes-from p q coefs;
-        later = seat-later p q coefs;
-        later-from = seat-later-from p q coefs;
+        calls = first-demand-of (seatMachine i) (seatTerms i) grounds;
+        calls-from = λ lower. first-demand-of (seatMachineFrom lower i) (seatTermsFrom lower i) (grounds-from lower);
         as-started = start-office p q coefs;
         as-started-from = start-office-from p q coefs;
         as-office = call-office p q coefs;
         as-office-from = call-office-from p q coefs;
-        start-unchanged = seat-start-refused p q coefs;
-        start-unchanged-from = seat-start-refused-from p q coefs;
-        unchanged = λ budget s n values e. call-refused (seatMachine i) s budget n values e .0;
-        unchanged-from = λ lower budget s n values e. call-refused (seatMachineFrom lower i) s budget n values e .0;
-        whole-steps = λ budget s. seat-after i budget s ∙ after-office p q coefs (seatSteps budget i s) s;
+        whole-steps = λ budget s. call-after (seatMachine i) (λ t. refl) budget s ∙ after-office p q coefs (seatSteps budget i s) s;
         whole-steps-from =
             λ lower budget s e. called (seatMachineFrom lower i) budget s e .state ∙ after-office-from p q coefs lower (seatStepsFrom budget lower i s) s;
-        again = seat-again p q coefs;
-        again-from = seat-again-from p q coefs;
-        longer = seat-longer p q coefs;
-        longer-from = seat-longer-from p q coefs;
-        untouched = λ s. (
-          seat-start-untouched p q coefs s,
-          λ lower. seat-start-untouched-from p q coefs lower s,
-          λ budget. seat-untouched p q coefs budget s,
-          λ lower budget. seat-untouched-from p q coefs lower budget s,
-        );
         goes = seat-goes p q coefs;
         lists = seat-lists p q coefs;
         finished = seat-finished p q coefs;
         goes-from = seat-goes-from p q coefs;
         lists-from = seat-lists-from p q coefs;
         finished-from = seat-finished-from p q coefs;
-        never-above = λ single s r. never-above i s single (seat-run p q coefs r .1);
+        never-above = λ single s r. second-demand .never-above i s single (seat-run p q coefs r .1);
         one-equation = one;
       }
 
@@ -262,21 +250,21 @@ module _ (p q : ℕ) (coefs : List ℤ) (l : Lending State) (s : State) (n : ℕ
 
   pub start-leaves : seatStartChecks given (l .handed s) ≡ refuse n values → meanwhile (λ t. seatStart given t .state) l s ≡ s
   start-leaves e =
-      unchanged-leaves (λ t. seatStart given t .state) l s (ap (λ o. o .state) (training-promise p q coefs .start-unchanged (l .handed s) n values e))
+      unchanged-leaves (λ t. seatStart given t .state) l s (ap (λ o. o .state) (training-promise p q coefs .calls .start-unchanged (l .handed s) n values e))
 
   pub start-leaves-from : (lower : List ℕ) → seatLowerChecks lower given (l .handed s) ≡ refuse n values
       → meanwhile (λ t. seatStartFrom lower given t .state) l s ≡ s
   start-leaves-from lower e =
       unchanged-leaves (λ t. seatStartFrom lower given t .state) l s
-      (ap (λ o. o .state) (training-promise p q coefs .start-unchanged-from lower (l .handed s) n values e))
+      (ap (λ o. o .state) (training-promise p q coefs .calls-from lower .start-unchanged (l .handed s) n values e))
 
   pub refused-leaves : (budget : ℕ) → seatResumeChecks given (l .handed s) ≡ refuse n values → meanwhile (λ t. seatResume budget given t .state) l s ≡ s
   refused-leaves budget e =
       unchanged-leaves (λ t. seatResume budget given t .state) l s
-      (ap (λ o. o .state) (training-promise p q coefs .unchanged budget (l .handed s) n values e))
+      (ap (λ o. o .state) (training-promise p q coefs .calls .unchanged budget (l .handed s) n values e))
 
   pub refused-leaves-from : (lower : List ℕ) (budget : ℕ) → seatResumeFromChecks lower given (l .handed s) ≡ refuse n values
       → meanwhile (λ t. seatResumeFrom budget lower given t .state) l s ≡ s
   refused-leaves-from lower budget e =
       unchanged-leaves (λ t. seatResumeFrom budget lower given t .state) l s
-      (ap (λ o. o .state) (training-promise p q coefs .unchanged-from lower budget (l .handed s) n values e))
+      (ap (λ o. o .state) (training-promise p q coefs .calls-from lower .unchanged budget (l .handed s) n values e))

@@ -1,10 +1,10 @@
--- The seat's own calls: its runs are the core's under its limit, so that what the demands say of those holds of them; a refusal is given again, and a longer
--- list helps after 11. Assumes nothing.
-use mathlib.Core.Path.{_≡_, refl, sym, _∙_, ap, subst}
+-- The seat's own calls: its runs are the core's under its limit, so that what the demands say of those holds of them: what is let go on again, a longer list
+-- after 11, what is left untouched, the marks of rows. Assumes nothing.
+use mathlib.Core.Path.{_∙_, _≡_, ap, refl, subst, sym}
 use mathlib.Core.Logic.{inl, inr}
-use mathlib.Core.Bool.{Bool, true, false}
+use mathlib.Core.Bool.{Bool, false, true}
 use mathlib.Core.List.{List, []}
-use Prim.Native.Nat.{ℕ, suc, _+_, _<_}
+use Prim.Native.Nat.{suc, ℕ}
 use native.Mathlib.Omega.{arith}
 use lib.Dec.{eqb}
 use lib.IntN.{ℤ}
@@ -12,28 +12,34 @@ use Rattle.definitions.specs.Answers.{Answer, Check, _then_, complete, go, paus
 use Rattle.definitions.specs.Calls.{machine, machineFrom, resume, resumeFrom, start, startFrom, stepFrom}
 use Rattle.definitions.specs.Input.{Input, alone, boundOf, mapOf, systemOf}
 use Rattle.definitions.specs.Machine.{Outcome, call, checked, walk}
-use Rattle.definitions.specs.Refusals.{resumeChecks, resumeFromChecks}
+use Rattle.definitions.specs.Refusals.{lowerChecks, resumeChecks, resumeFromChecks, startChecks}
 use Rattle.definitions.specs.Step.{step}
 use Rattle.definitions.specs.System.{MinimalFrom, MinimalSolution}
-use Rattle.definitions.specs.Tables.{State, capacity}
+use Rattle.definitions.specs.Tables.{State}
 use Rattle.laws.specs.CheckLaws.{check-cases}
-use Rattle.laws.specs.LowerLaws.{settled-once}
-use Rattle.theorems.specs.CallAnswers.{Ruled, call-later, refused-again, started-goes}
-use Rattle.theorems.specs.Demands.{Lists, ListsFrom, first-demand, first-demand-from, second-demand}
+use Rattle.laws.specs.RefusalLaws.{lower-renders, start-renders}
+use Rattle.theorems.specs.CallAnswers.{Ruled, started-goes}
+use Rattle.theorems.specs.Demands.{FirstDemand, Lists, ListsFrom}
+use Rattle.theorems.specs.Proved.{first-demand, second-demand}
 use Rattle.theorems.specs.Listed.{Exactly}
-use Rattle.theorems.specs.LowerFirst.{RoomBy}
+use Rattle.theorems.specs.Maps.{Map}
+use Rattle.theorems.specs.LowerFirst.{LongerFrom}
 use Rattle.theorems.specs.LowerRun as from
 use Rattle.theorems.specs.LowerRun.{RunFrom}
-use Rattle.theorems.specs.Run.{Run, SameRows, aimOf, continued, relisted, run-handed, run-sound, sound-resumes, started-units, withList, withLists, withSecond}
-use Rattle.theorems.specs.Untouched.{Untouched, untouched}
-use Rattle.theorems.specs.Series.{continuing, continuing-from, starting, starting-from}
+use Rattle.theorems.specs.Run.{Longer, Run, SameRows, aimOf, continued, relisted, run-handed, run-sound, sound-resumes, started-units, withList, withSecond}
+use Rattle.theorems.specs.CallTerms.{fromTerms, plainTerms}
+use Rattle.theorems.specs.Untouched.{Marked, Untouched, untouched}
 use Rattle.seat_spec.specs.Office.{goes-checked, seat-core, seat-core-from}
-use Rattle.seat_spec.specs.Training.{seatInput, seatLowerChecks, seatMachine, seatMachineFrom, seatResume, seatResumeChecks, seatResumeFrom}
+use Rattle.seat_spec.specs.Training.{seatInput, seatLimit, seatLowerChecks, seatMachine, seatMachineFrom, seatResume, seatResumeChecks, seatResumeFrom}
 use Rattle.seat_spec.specs.Training.{seatResumeFromChecks, seatStart, seatStartChecks, seatStartFrom}
-use Rattle.seat_spec.specs.TrainingRules.{renumber, renumbered, seat-resume-from-renders, seat-resume-renders, seat-resumes}
+use Rattle.seat_spec.specs.TrainingRules.{renumber, renumbered, seat-lower-renders, seat-resume-from-renders, seat-resume-renders, seat-resumes}
 use Rattle.seat_spec.specs.TrainingRules.{seat-resumes-from, seat-search, seat-search-from, seat-search-from-renders, seat-search-renders}
-use Rattle.seat_spec.specs.TrainingRules.{seat-starts, seat-starts-from, seatFirst, seatResumeFromRules, seatResumeRules, seatSearchFromRules}
-use Rattle.seat_spec.specs.TrainingRules.{seatSearchRules, walk-renumbered}
+use Rattle.seat_spec.specs.TrainingRules.{seat-start-renders, seat-starts, seat-starts-from, seatFirst, seatResumeFromRules, seatResumeRules}
+use Rattle.seat_spec.specs.TrainingRules.{seatSearchFromRules, seatSearchRules, walk-renumbered}
+
+-- a map at the seat, by itself
+abbrev pub seatMap : ℕ → ℕ → List ℤ → Map
+seatMap p q coefs = record { p = p; q = q; coefs = coefs; limit = seatLimit }
 
 -- ---- what a seat's run is
 
@@ -102,6 +108,10 @@ module _ (p q : ℕ) (coefs : List ℤ) where
   abbrev i : Input
   i = seatInput p q coefs
 
+  -- the first demand of the core's calls
+  first : FirstDemand (machine i) (plainTerms i)
+  first = first-demand .plain i .calls
+
   first-goes : (s : State) → seatResumeChecks i s ≡ go → seatFirst i ≡ go
   unfolding seatResumeChecks
   first-goes s e = split-goes _ _ _ _ e .0
@@ -150,57 +160,47 @@ module _ (p q : ℕ) (coefs : List ℤ) where
   pub seat-left-goes : (budget : ℕ) (s : State) → seatResumeChecks i s ≡ go → seatResumeChecks i (seatResume budget i s .state) ≡ go
   seat-left-goes budget s e =
       let f = first-goes s e in
-      rw (core-state f budget s) (both-go (resume budget i s .state) f (first-demand .goes-on budget i s (seat-core p q coefs s e)))
+      rw (core-state f budget s) (both-go (resume budget i s .state) f (first .goes-on budget s (seat-core p q coefs s e)))
 
-  pub seat-later : (budget more : ℕ) (s : State) → seatResumeChecks i s ≡ go → seatResume budget i s .answer ≡ paused
-      → seatResume more i (seatResume budget i s .state) ≡ seatResume (budget + more) i s
-  seat-later budget more s e = call-later (seatMachine i) (λ t. refl) budget more s e (seat-left-goes budget s e)
-
-  pub seat-again : (budget : ℕ) (s : State) (n : ℕ) (values : List ℕ) → seatResumeChecks i s ≡ go → seatResume budget i s .answer ≡ refused n values
-      → (more : ℕ) → seatResume (suc more) i (seatResume budget i s .state) ≡ record { answer = refused n values; state = seatResume budget i s .state }
-  seat-again budget s n values e a more = refused-again ruled budget s (λ t. refl) n values e (seat-left-goes budget s e) a more
-
-  pub seat-longer : (budget : ℕ) (s : State) → seatResumeChecks i s ≡ go → seatResume budget i s .answer ≡ refused 11 []
-      → let t = seatResume budget i s .state in
-      (list : List ℕ) → SameRows q (t .run .found) (t .list) list → t .run .found < capacity q list → (more : ℕ)
-      → seatResume (suc more) i (withList t list) ≡ walk more (seatMachine i) (step (systemOf i) (withList t list))
-  seat-longer budget s e a list same roomy more =
+  pub seat-longer : (budget : ℕ) (s : State) → seatResumeChecks i s ≡ go → seatResume budget i s .answer ≡ refused 11 [] → (u : State)
+      → Longer (systemOf i) (seatResume budget i s .state) u → (more : ℕ) → seatResume (suc more) i u ≡ walk more (seatMachine i) (step (systemOf i) u)
+  seat-longer budget s e a u l more =
       let f = first-goes s e in
-      let c = seat-core p q coefs s e in
       let is = is-core f budget s in
-      let t : State = seatResume budget i s .state in
-      let st : t ≡ resume budget i s .state = core-state f budget s in
       let b : resume budget i s .answer ≡ refused 11 [] = full-back (resume budget i s .answer) (ap (λ o. o .answer) (sym is) ∙ a) in
-      let l : resume (suc more) i (withList t list) ≡ walk more (machine i) (step (systemOf i) (withList t list)) =
-      subst (λ t. SameRows q (t .run .found) (t .list) list → t .run .found < capacity q list
-      → resume (suc more) i (withList t list) ≡ walk more (machine i) (step (systemOf i) (withList t list))) (sym st)
-      (λ x y. first-demand .longer budget i s c b list x y more) same roomy in
-      is-core f (suc more) (withList t list) ∙ ap renumbered l
-      ∙ sym (walk-renumbered (seatMachine i) (machine i) (λ t. refl) (λ t. refl) (seat-search (systemOf i)) (λ t. refl) more
-      (step (systemOf i) (withList t list)))
+      let lent : Longer (systemOf i) (resume budget i s .state) u = subst (λ t. Longer (systemOf i) t u) (core-state f budget s) l in
+      is-core f (suc more) u ∙ ap renumbered (first .longer budget s (seat-core p q coefs s e) b u lent more)
+      ∙ sym (walk-renumbered (seatMachine i) (machine i) (λ t. refl) (λ t. refl) (seat-search (systemOf i)) (λ t. refl) more (step (systemOf i) u))
+
+  -- each row carries its marks
+  pub seat-marked : (budget : ℕ) (s : State) → seatResumeChecks i s ≡ go → Marked q (seatResume budget i s .state)
+  seat-marked budget s e =
+      subst (Marked q) (sym (core-state (first-goes s e) budget s)) (first .marked budget s (seat-core p q coefs s e))
+
+  pub seat-start-marked : (s : State) → seatStartChecks i s ≡ go → Marked q (seatStart i s .state)
+  unfolding seatStart
+  seat-start-marked s e =
+      let (a, (b, (c, (d, (f, (h, u)))))) = seat-start-renders i s .goes e in
+      let goes : startChecks i s ≡ go = start-renders i s .silent (a, (b, (d, (f, (h, u))))) in
+      subst (λ o. Marked q (o .state)) (first .starts s goes ∙ sym (goes-checked (seatStartChecks i s) s _ e)) (first .start-marked s goes)
 
   -- "entries beyond them are never touched", "List rows past the found count are not touched."
   pub seat-untouched : (budget : ℕ) (s : State) → Untouched q q s (seatResume budget i s .state)
   seat-untouched budget s =
       elim (check-cases (seatFirst i)) [
-        | inl f ↦ subst (λ t. Untouched q q s t) (sym (core-state f budget s)) (first-demand .untouched (continuing budget i) s)
+        | inl f ↦ subst (λ t. Untouched q q s t) (sym (core-state f budget s)) (first .untouched budget s)
         | inr (n, values, e) ↦
             subst (λ t. Untouched q q s t) (sym (ap (λ o. o .state) (seat-resumes p q coefs budget s ∙ refused-state (seatFirst i) s _ n values e)))
             (untouched q q s)
       ]
 
   -- a refused start changes nothing lent
-  pub seat-start-refused : (s : State) (n : ℕ) (values : List ℕ) → seatStartChecks i s ≡ refuse n values
-      → seatStart i s ≡ record { answer = refused n values; state = s }
-  unfolding seatStart
-  seat-start-refused s n values e = refused-state (seatStartChecks i s) s _ n values e
-
   pub seat-start-untouched : (s : State) → Untouched q q s (seatStart i s .state)
   seat-start-untouched s =
       elim (check-cases (seatFirst i)) [
         | inl f ↦
             subst (λ o. Untouched q q s (o .state)) (sym (seat-starts p q coefs s ∙ goes-checked (seatFirst i) s _ f))
-            (first-demand .untouched (starting i) s)
+            (first .start-untouched s)
         | inr (n, values, e) ↦
             subst (λ o. Untouched q q s (o .state)) (sym (seat-starts p q coefs s ∙ refused-state (seatFirst i) s _ n values e)) (untouched q q s)
       ]
@@ -208,6 +208,9 @@ module _ (p q : ℕ) (coefs : List ℤ) where
   -- ---- runs from a lower bound
 
   module _ (lower : List ℕ) where
+    first-from : FirstDemand (machineFrom lower i) (fromTerms lower (seatMap p q coefs))
+    first-from = first-demand .from-lower lower (seatMap p q coefs) .calls
+
     first-goes-from : (s : State) → seatResumeFromChecks lower i s ≡ go → seatFirst i ≡ go
     unfolding seatResumeFromChecks
     first-goes-from s e = split-goes _ _ _ _ e .0
@@ -222,19 +225,19 @@ module _ (p q : ℕ) (coefs : List ℤ) where
     core-state-from : seatFirst i ≡ go → (n : ℕ) (s : State) → seatResumeFrom n lower i s .state ≡ resumeFrom n lower i s .state
     core-state-from e n s = ap (λ o. o .state) (is-core-from e n s)
 
-    pub seat-run-from : {s : State} → SeatRunFrom lower p q coefs s → (seatFirst i ≡ go) × RunFrom lower i s
+    pub seat-run-from : {s : State} → SeatRunFrom lower p q coefs s → (seatFirst i ≡ go) × RunFrom lower (seatMap p q coefs) s
     seat-run-from (begun-from s e) =
         let c : checked (seatFirst i) s (startFrom lower i) .answer ≡ started = rw (seat-starts-from p q coefs lower s) at e in
         let (f, w) = started-goes (seatFirst i) s (startFrom lower i) c in
         let is : seatStartFrom lower i s ≡ startFrom lower i s = seat-starts-from p q coefs lower s ∙ w in
-        (f, subst (λ o. RunFrom lower i (o .state)) (sym is) (from.started-from s (ap (λ o. o .answer) (sym is) ∙ e)))
+        (f, subst (λ o. RunFrom lower (seatMap p q coefs) (o .state)) (sym is) (from.started-from s (ap (λ o. o .answer) (sym is) ∙ e)))
     seat-run-from (resumed-from {s = s} r budget) =
-        let (f, c) = seat-run-from r in (f, subst (λ t. RunFrom lower i t) (sym (core-state-from f budget s)) (from.continued c budget))
+        let (f, c) = seat-run-from r in (f, subst (λ t. RunFrom lower (seatMap p q coefs) t) (sym (core-state-from f budget s)) (from.continued c budget))
     seat-run-from (lent-from {s = s} r list same) = let (f, c) = seat-run-from r in (f, from.relisted c list same)
     seat-run-from (lent-second {s = s} r second same) = let (f, c) = seat-run-from r in (f, from.relisted₂ c second same)
 
-    pub seat-lists-from : (s : State) → SeatRunFrom lower p q coefs s → ListsFrom lower i s
-    seat-lists-from s r = second-demand .from-lower lower i refl s (seat-run-from r .1)
+    pub seat-lists-from : (s : State) → SeatRunFrom lower p q coefs s → ListsFrom lower (seatMap p q coefs) s
+    seat-lists-from s r = second-demand .from-lower lower (seatMap p q coefs) s (seat-run-from r .1)
 
     pub seat-goes-from : (s : State) → SeatRunFrom lower p q coefs s → seatResumeFromChecks lower i s ≡ go
     seat-goes-from s r = both-go-from s (seat-run-from r .0) (seat-lists-from s r .goes)
@@ -256,51 +259,39 @@ module _ (p q : ℕ) (coefs : List ℤ) where
     seat-left-goes-from budget s e =
         let f = first-goes-from s e in
         rw (core-state-from f budget s)
-        (both-go-from (resumeFrom budget lower i s .state) f (first-demand-from lower i refl .goes-on budget s (seat-core-from p q coefs lower s e)))
-
-    pub seat-later-from : (budget more : ℕ) (s : State) → seatResumeFromChecks lower i s ≡ go → seatResumeFrom budget lower i s .answer ≡ paused
-        → seatResumeFrom more lower i (seatResumeFrom budget lower i s .state) ≡ seatResumeFrom (budget + more) lower i s
-    seat-later-from budget more s e = call-later (seatMachineFrom lower i) (settled-once lower i) budget more s e (seat-left-goes-from budget s e)
-
-    pub seat-again-from : (budget : ℕ) (s : State) (n : ℕ) (values : List ℕ) → seatResumeFromChecks lower i s ≡ go
-        → seatResumeFrom budget lower i s .answer ≡ refused n values → (more : ℕ) → let t = seatResumeFrom budget lower i s .state in
-        seatResumeFrom (suc more) lower i t ≡ record { answer = refused n values; state = t }
-    seat-again-from budget s n values e a more =
-        refused-again ruled-from budget s (settled-once lower i) n values e (seat-left-goes-from budget s e) a more
+        (both-go-from (resumeFrom budget lower i s .state) f (first-from .goes-on budget s (seat-core-from p q coefs lower s e)))
 
     pub seat-longer-from : (budget : ℕ) (s : State) → seatResumeFromChecks lower i s ≡ go → seatResumeFrom budget lower i s .answer ≡ refused 11 []
-        → let t = seatResumeFrom budget lower i s .state in (list second : List ℕ)
-        → SameRows q (t .run .found) (t .list) list → SameRows q (t .run .found₂) (t .second) second
-        → RoomBy q (t .run .kind) (withLists t list second)
-        → (more : ℕ)
-        → seatResumeFrom (suc more) lower i (withLists t list second) ≡ walk more (seatMachineFrom lower i) (stepFrom lower i (withLists t list second))
-    seat-longer-from budget s e a list second same same₂ roomy more =
+        → (u : State) → LongerFrom q (seatResumeFrom budget lower i s .state) u → (more : ℕ)
+        → seatResumeFrom (suc more) lower i u ≡ walk more (seatMachineFrom lower i) (stepFrom lower i u)
+    seat-longer-from budget s e a u l more =
         let f = first-goes-from s e in
-        let c = seat-core-from p q coefs lower s e in
         let is = is-core-from f budget s in
-        let t : State = seatResumeFrom budget lower i s .state in
-        let st : t ≡ resumeFrom budget lower i s .state = core-state-from f budget s in
         let b : resumeFrom budget lower i s .answer ≡ refused 11 [] = full-back (resumeFrom budget lower i s .answer) (ap (λ o. o .answer) (sym is) ∙ a) in
-        let l : resumeFrom (suc more) lower i (withLists t list second) ≡ walk more (machineFrom lower i) (stepFrom lower i (withLists t list second)) =
-        subst (λ t. SameRows q (t .run .found) (t .list) list → SameRows q (t .run .found₂) (t .second) second
-        → RoomBy q (t .run .kind) (withLists t list second)
-        → resumeFrom (suc more) lower i (withLists t list second) ≡ walk more (machineFrom lower i) (stepFrom lower i (withLists t list second))) (sym st)
-        (λ x x₂ y. first-demand-from lower i refl .longer budget s c b list second x x₂ y more) same same₂ roomy in
-        is-core-from f (suc more) (withLists t list second) ∙ ap renumbered l
+        let lent : LongerFrom q (resumeFrom budget lower i s .state) u = subst (λ t. LongerFrom q t u) (core-state-from f budget s) l in
+        is-core-from f (suc more) u
+        ∙ ap renumbered (first-from .longer budget s (seat-core-from p q coefs lower s e) b u lent more)
         ∙ sym (walk-renumbered (seatMachineFrom lower i) (machineFrom lower i) (λ t. refl) (λ t. refl) (seat-search-from lower i) (λ t. refl) more
-        (stepFrom lower i (withLists t list second)))
+        (stepFrom lower i u))
 
-    pub seat-start-refused-from : (s : State) (n : ℕ) (values : List ℕ) → seatLowerChecks lower i s ≡ refuse n values
-        → seatStartFrom lower i s ≡ record { answer = refused n values; state = s }
+    pub seat-marked-from : (budget : ℕ) (s : State) → seatResumeFromChecks lower i s ≡ go → Marked q (seatResumeFrom budget lower i s .state)
+    seat-marked-from budget s e =
+        subst (Marked q) (sym (core-state-from (first-goes-from s e) budget s))
+        (first-from .marked budget s (seat-core-from p q coefs lower s e))
+
+    pub seat-start-marked-from : (s : State) → seatLowerChecks lower i s ≡ go → Marked q (seatStartFrom lower i s .state)
     unfolding seatStartFrom
-    seat-start-refused-from s n values e = refused-state (seatLowerChecks lower i s) s _ n values e
+    seat-start-marked-from s e =
+        let (a, (b, (c, (d, (f, (h, (x, (y, u)))))))) = seat-lower-renders i s lower .goes e in
+        let goes : lowerChecks lower i s ≡ go = lower-renders i s lower .silent (a, (b, (d, (f, (h, (x, (y, u))))))) in
+        subst (λ o. Marked q (o .state)) (first-from .starts s goes ∙ sym (goes-checked (seatLowerChecks lower i s) s _ e)) (first-from .start-marked s goes)
 
     pub seat-start-untouched-from : (s : State) → Untouched q q s (seatStartFrom lower i s .state)
     seat-start-untouched-from s =
         elim (check-cases (seatFirst i)) [
           | inl f ↦
               subst (λ o. Untouched q q s (o .state)) (sym (seat-starts-from p q coefs lower s ∙ goes-checked (seatFirst i) s _ f))
-              (first-demand .untouched (starting-from lower i refl) s)
+              (first-from .start-untouched s)
           | inr (n, values, e) ↦
               subst (λ o. Untouched q q s (o .state)) (sym (seat-starts-from p q coefs lower s ∙ refused-state (seatFirst i) s _ n values e)) (untouched q q s)
         ]
@@ -308,7 +299,7 @@ module _ (p q : ℕ) (coefs : List ℤ) where
     pub seat-untouched-from : (budget : ℕ) (s : State) → Untouched q q s (seatResumeFrom budget lower i s .state)
     seat-untouched-from budget s =
         elim (check-cases (seatFirst i)) [
-          | inl f ↦ subst (λ t. Untouched q q s t) (sym (core-state-from f budget s)) (first-demand .untouched (continuing-from budget lower i refl) s)
+          | inl f ↦ subst (λ t. Untouched q q s t) (sym (core-state-from f budget s)) (first-from .untouched budget s)
           | inr (n, values, e) ↦
               subst (λ t. Untouched q q s t)
               (sym (ap (λ o. o .state) (seat-resumes-from p q coefs lower budget s ∙ refused-state (seatFirst i) s _ n values e)))

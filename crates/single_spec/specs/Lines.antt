@@ -1,10 +1,10 @@
 -- JOB 12 OF DOCUMENT 02, the listing that succeeds: what it answers and writes, line by line; the statements, each under its words, and then why they hold.
 -- Assumes nothing.
-use mathlib.Core.Path.{_≡_, refl, sym, _∙_, ap, ap₂, subst}
+use mathlib.Core.Path.{_∙_, _≡_, ap, ap₂, refl, subst, sym}
 use mathlib.Core.Logic.{inl, inr}
-use mathlib.Core.Bool.{Bool, true, false}
-use mathlib.Core.List.{List, [], _∷_, _++_, append-nil}
-use Prim.Native.Nat.{ℕ, zero, suc, _+_, _≤_, _<_}
+use mathlib.Core.Bool.{Bool, false, true}
+use mathlib.Core.List.{List, [], _++_, _∷_, append-nil}
+use Prim.Native.Nat.{_+_, _<_, _≤_, suc, zero, ℕ}
 use native.Mathlib.Omega.{arith}
 use borrow.Author.Tests.{le-ltb, lt-ltb}
 use lib.Dec.{T, ltb, ltb→lt, lt→ltb}
@@ -13,12 +13,12 @@ use Rattle.linear.specs.Cases.{below-suc}
 use Rattle.linear.specs.TestLaws.{T-dec}
 use Rattle.linear.specs.Tests.{countTo, number}
 use Rattle.definitions.specs.Answers.{complete, go}
-use Rattle.definitions.specs.Calls.{resume}
 use Rattle.definitions.specs.Input.{Input, alone, mapOf}
 use Rattle.definitions.specs.System.{MinimalSolution, System, column}
 use Rattle.definitions.specs.Tables.{State, at}
 use Rattle.laws.specs.RefusalLaws.{at-most}
-use Rattle.theorems.specs.Demands.{second-demand}
+use Rattle.theorems.specs.Maps.{Map, byItself}
+use Rattle.theorems.specs.Proved.{second-demand}
 use Rattle.theorems.specs.Held.{Whole}
 use Rattle.theorems.specs.Listed.{Exactly}
 use Rattle.theorems.specs.Run.{run-handed}
@@ -210,15 +210,15 @@ module _ (i : Input) (list : List ℕ) (found : ℕ) (out : List ℕ) (e : listi
 
 -- ---- a finished run
 
-pub finished-lists : (i : Input) (s : State) → SingleRun i s → (budget : ℕ) → singleResume budget i s .answer ≡ complete → let o = singleResume budget i s in
-    FinishedLists i (o .state .list) (o .state .run .found)
-finished-lists i s r budget e =
+pub finished-lists : (m : Map) (s : State) → SingleRun m s → (budget : ℕ) → let o = singleResume budget (byItself m) s in
+    o .answer ≡ complete → FinishedLists (byItself m) (o .state .list) (o .state .run .found)
+finished-lists m s r budget e =
+    let i : Input = byItself m in
     let is = single-calls i .resume-same (r .profile) budget s in
     let t : State = singleResume budget i s .state in
     let whole : Exactly (i .q) (MinimalSolution (mapOf i)) (t .list) (t .run .found) =
     subst (λ o. Whole alone i (o .state)) (sym is)
-    (subst (λ x. Whole x i (resume budget i s .state)) (r .nothing-else)
-    (second-demand .lists i s (r .run) .finished budget (ap (λ o. o .answer) (sym is) ∙ e))) in
+    (second-demand .lists i s (r .run) .finished budget (ap (λ o. o .answer) (sym is) ∙ e)) in
     let h = run-handed i (r .run) in
     record {
       whole = whole;
@@ -226,13 +226,13 @@ finished-lists i s r budget e =
           listing-refuses i (t .list) (t .run .found) out .refuses .silent (
             h .equations,
             (
-              rw (r .nothing-else) at (h .unknowns),
+              h .unknowns,
               (
-                rw (r .nothing-else) at (h .numbers),
+                h .numbers,
                 (
                   λ l. omega (arith, whole .part .room),
                   (
-                    (rw (r .nothing-else) at (h .ranges)) .0,
+                    h .ranges .0,
                     (λ j l none. none (r .profile j l), (λ k l none. none (whole .part .only k l), (λ l. omega arith, tt))),
                   ),
                 ),

@@ -1,15 +1,15 @@
 -- JOB 12 OF DOCUMENT 02, the calls: the statements, each under its words, and then why they hold. They are about the definitions of crate `single_file`
 -- (Calls, Listing), which the code's contracts equate with what the code does. Assumes nothing.
-use mathlib.Core.Path.{_≡_, refl, sym, _∙_, ap}
+use mathlib.Core.Path.{_∙_, _≡_, ap, refl, sym}
 use mathlib.Core.List.{List}
-use Prim.Native.Nat.{ℕ, _*_, _≤_, _<_}
+use Prim.Native.Nat.{_*_, _<_, _≤_, ℕ}
 use mathlib.Core.Logic.{_≢_}
 use lib.Dec.{ltb→lt, lt→ltb}
 use lib.ListN.{length}
 use Rattle.definitions.specs.Answers.{Check, _then_, go, refuse, started}
 use Rattle.definitions.specs.Answers as paper
 use Rattle.definitions.specs.Calls.{resume, start}
-use Rattle.definitions.specs.Input.{Input, alone, mapOf}
+use Rattle.definitions.specs.Input.{Input, mapOf}
 use Rattle.definitions.specs.Machine.{Outcome, call, checked}
 use Rattle.definitions.specs.Refusals.{resumeChecks, startChecks}
 use Rattle.definitions.specs.System.{MinimalSolution, System, column, mostEquations, mostUnknowns}
@@ -18,9 +18,11 @@ use Rattle.laws.specs.AnswerLaws.{then-go}
 use Rattle.laws.specs.CheckLaws.{Renders, Rules, _▹_, _▹▹_, decides-if, end, placed, renders-after, renders-last, renders-then, rule}
 use Rattle.laws.specs.RefusalLaws.{Outside, decides-outside, decides-range, decides-unequal, rangeRule, resume-renders, resumeRules, start-renders, startRules}
 use Rattle.theorems.specs.Listed.{Only}
-use Rattle.theorems.specs.Demands.{second-demand, unchanged-leaves}
-use Rattle.theorems.specs.Run.{Run, aimOf, continued, started-units}
-use Rattle.theorems.specs.Series.{Lending, meanwhile}
+use Rattle.theorems.specs.Proved.{second-demand}
+use Rattle.theorems.specs.Run.{Run, continued, started-units}
+use Rattle.theorems.specs.Link.{nonzero}
+use Rattle.theorems.specs.Maps.{Map, byItself}
+use Rattle.theorems.specs.Series.{Lending, meanwhile, unchanged-leaves}
 use Rattle.single_spec.specs.Calls.{singleResume, singleResumeChecks, singleStart, singleStartChecks}
 use Rattle.single_spec.specs.Graph.{size}
 use Rattle.single_spec.specs.Listing.{listedBy, listing, listingCall, listingChecks, refused, rowChecks}
@@ -49,11 +51,10 @@ pub record SingleCalls (i : Input) : Type 0 where
   -- and it is where the start answers "started"
   pub in-profile : (s : State) → singleStart i s .answer ≡ started → SingleFile (mapOf i)
 
--- a run of the profile: it is a plain run, of a map in the profile that nothing comes with
-pub record SingleRun (i : Input) (s : State) : Type 0 where
-  pub nothing-else : i .extra ≡ alone
-  pub profile : SingleFile (mapOf i)
-  pub run : Run i (aimOf (i .extra)) s
+-- a run of the profile: it is a plain run, of a map in the profile by itself
+pub record SingleRun (m : Map) (s : State) : Type 0 where
+  pub profile : SingleFile (mapOf (byItself m))
+  pub run : Run (byItself m) nonzero s
 
 -- what the run's list holds: minimal solutions of components 0 and 1, each in its order; and the listing of such a run never gives 30
 pub record ListsOrdered (m : System) (list : List ℕ) (found : ℕ) : Type 0 where
@@ -155,26 +156,29 @@ refused-leaves l budget i s n values e =
 -- ---- a run
 
 -- a start that answers "started", and continuing calls, make a run
-pub single-started : (i : Input) → i .extra ≡ alone → (s : State) → singleStart i s .answer ≡ started → SingleRun i (singleStart i s .state)
-single-started i none s e =
-    let f = single-calls i .in-profile s e in
-    let g = single-calls i .start-same f s in
-    record { nothing-else = none; profile = f; run = rw g (started-units s (rw g at e)) }
+module _ (m : Map) where
+  abbrev i : Input
+  i = byItself m
 
-pub single-continued : (i : Input) (s : State) → SingleRun i s → (budget : ℕ) → SingleRun i (singleResume budget i s .state)
-single-continued i s r budget =
-    record { nothing-else = r .nothing-else; profile = r .profile; run = rw (single-calls i .resume-same (r .profile) budget s) (continued (r .run) budget) }
+  pub single-started : (s : State) → singleStart i s .answer ≡ started → SingleRun m (singleStart i s .state)
+  single-started s e =
+      let f = single-calls i .in-profile s e in
+      let g = single-calls i .start-same f s in
+      record { profile = f; run = rw g (started-units s (rw g at e)) }
 
-pub single-lists : (i : Input) (s : State) → SingleRun i s → ListsOrdered (mapOf i) (s .list) (s .run .found)
-single-lists i s r =
-    let l = single-file-solutions (mapOf i) (r .profile) in
-    let o : Only (i .q) (MinimalSolution (mapOf i)) (s .list) (s .run .found) = rw (r .nothing-else) at (second-demand .lists i s (r .run) .cut-short) in
-    record {
-      only = o;
-      zero-or-one = λ k h. l .zero-or-one _ (o .only k h);
-      ordered = λ k h. l .ordered _ (o .only k h);
-      not-30 = listed-goes (mapOf i) (r .profile) (s .run .found) (at (s .list) (i .q)) (o .only);
-    }
+  pub single-continued : (s : State) → SingleRun m s → (budget : ℕ) → SingleRun m (singleResume budget i s .state)
+  single-continued s r budget = record { profile = r .profile; run = rw (single-calls i .resume-same (r .profile) budget s) (continued (r .run) budget) }
+
+  pub single-lists : (s : State) → SingleRun m s → ListsOrdered (mapOf i) (s .list) (s .run .found)
+  single-lists s r =
+      let l = single-file-solutions (mapOf i) (r .profile) in
+      let o : Only (i .q) (MinimalSolution (mapOf i)) (s .list) (s .run .found) = second-demand .lists i s (r .run) .cut-short in
+      record {
+        only = o;
+        zero-or-one = λ k h. l .zero-or-one _ (o .only k h);
+        ordered = λ k h. l .ordered _ (o .only k h);
+        not-30 = listed-goes (mapOf i) (r .profile) (s .run .found) (at (s .list) (i .q)) (o .only);
+      }
 
 -- ---- the listing
 

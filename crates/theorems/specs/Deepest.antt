@@ -6,37 +6,30 @@ use Prim.Native.Nat.{ℕ, zero, suc, _+_, max}
 use native.Mathlib.Omega.{arith}
 use Rattle.linear.specs.Tests.{maxTo}
 use Rattle.linear.specs.Tuples.{total}
-use Rattle.definitions.specs.Calls.{changed, machine, machineFrom, settleFrom, stepFrom}
+use Rattle.definitions.specs.Calls.{changed, machine, settleFrom, stepFrom}
 use Rattle.definitions.specs.Input.{Input, aboveSystem, mapOf, systemOf}
 use Rattle.definitions.specs.Machine.{Machine, after}
 use Rattle.definitions.specs.Step.{deeper, enlistIn, grown, listed, pick, rowOf, step, toSecond, top, width}
 use Rattle.definitions.specs.System.{System, solves}
 use Rattle.definitions.specs.Tables.{Run, State, byWalk, cappedRun, deskByDesk, lowerAbove, lowerPlain, lowered, plainPart, plainRun, wholeOf}
-use Rattle.laws.specs.LowerLaws.{settled-once}
-use Rattle.theorems.specs.WholeSteps.{Steady, after-more, settled-after}
+use Rattle.theorems.specs.WholeSteps.{Steady, after-next}
 
 -- ---- any machine whose step shows the greater of the number shown and a sum, and which shows as much when it is settled
 
 module _ {S : Type 0} (k : Machine S) (steady : Steady k) (shown sum : S → ℕ) (settles : (s : S) → shown (k .settle s) ≡ shown s)
     (steps : (s : S) → shown (k .step s) ≡ max (shown s) (sum s)) where
-  next : (n : ℕ) (s : S) → after (n + 1) k s ≡ k .settle (k .step (after n k s))
-  next n s = after-more k steady n 1 s ∙ one ∙ ap (λ t. k .settle (k .step t)) (settled-after k steady n s)
-    where
-      one : after 1 k (after n k s) ≡ k .settle (k .step (k .settle (after n k s)))
-      one = unfold after in refl
-
   -- after n steps: the greatest of what was shown and the sums at these steps
   pub greatest : (n : ℕ) (s : S) → shown (after n k s) ≡ max (shown s) (maxTo n (λ j. sum (after j k s)))
   unfolding maxTo
   greatest zero s = let e : shown (after 0 k s) ≡ shown s = unfold after in settles s in omega arith
   greatest (suc n) s =
       let one : suc n ≡ n + 1 = omega arith in
-      let e : shown (after (suc n) k s) ≡ shown (k .settle (k .step (after n k s))) = ap (λ x. shown (after x k s)) one ∙ ap shown (next n s) in
+      let e : shown (after (suc n) k s) ≡ shown (k .settle (k .step (after n k s))) = ap (λ x. shown (after x k s)) one ∙ ap shown (after-next k steady n s) in
       omega (arith, e, settles (k .step (after n k s)), steps (after n k s), greatest n s)
 
 -- ---- plain and capped runs
 
-step-deepest : (m : System) (s : State) → step m s .run .deepest ≡ max (s .run .deepest) (total (top m s) (m .q))
+pub step-deepest : (m : System) (s : State) → step m s .run .deepest ≡ max (s .run .deepest) (total (top m s) (m .q))
 unfolding step listed grown
 step-deepest m s = go (solves m (top m s))
   where
@@ -52,15 +45,12 @@ step-deepest m s = go (solves m (top m s))
 abbrev pub topSum : Input → State → ℕ
 topSum i s = total (top (systemOf i) s) (systemOf i .q)
 
-pub deepest-is : (i : Input) (n : ℕ) (s : State) → after n (machine i) s .run .deepest ≡ max (s .run .deepest) (maxTo n (λ j. topSum i (after j (machine i) s)))
-deepest-is i = greatest (machine i) (λ s. refl) (λ s. s .run .deepest) (topSum i) (λ s. refl) (step-deepest (systemOf i))
-
 -- ---- runs from a lower bound: "the floor's own components count, the plain run before it does not"
 
 abbrev pub topSumFrom : List ℕ → Input → State → ℕ
 topSumFrom lower i s = byWalk (s .run .kind) 0 (total (top (aboveSystem lower i) s) (i .q))
 
-settled-shows : (lower : List ℕ) (i : Input) (s : State) → settleFrom lower i s .run .deepest ≡ s .run .deepest
+pub settled-shows : (lower : List ℕ) (i : Input) (s : State) → settleFrom lower i s .run .deepest ≡ s .run .deepest
 unfolding settleFrom lowered
 settled-shows lower i s = go (s .run .kind) (s .run .height)
   where
@@ -72,7 +62,7 @@ settled-shows lower i s = go (s .run .kind) (s .run .height)
     go lowerAbove h = refl
     go deskByDesk h = refl
 
-stepped-shows : (lower : List ℕ) (i : Input) (s : State) → stepFrom lower i s .run .deepest ≡ max (s .run .deepest) (topSumFrom lower i s)
+pub stepped-shows : (lower : List ℕ) (i : Input) (s : State) → stepFrom lower i s .run .deepest ≡ max (s .run .deepest) (topSumFrom lower i s)
 unfolding stepFrom
 stepped-shows lower i s = go (s .run .kind)
   where
@@ -84,8 +74,3 @@ stepped-shows lower i s = go (s .run .kind)
     go lowerPlain = omega arith
     go lowerAbove = step-deepest (aboveSystem lower i) s
     go deskByDesk = step-deepest (aboveSystem lower i) s
-
-pub deepest-from : (lower : List ℕ) (i : Input) (n : ℕ) (s : State)
-    → after n (machineFrom lower i) s .run .deepest ≡ max (s .run .deepest) (maxTo n (λ j. topSumFrom lower i (after j (machineFrom lower i) s)))
-deepest-from lower i =
-    greatest (machineFrom lower i) (settled-once lower i) (λ s. s .run .deepest) (topSumFrom lower i) (settled-shows lower i) (stepped-shows lower i)

@@ -1,15 +1,15 @@
 -- What stays as it is while a run goes on: the rows listed before, the stack rows below the one taken off, and what a plain call keeps of the record.
 -- Assumes nothing.
-use mathlib.Core.Path.{_≡_, refl, _∙_, ap}
+use mathlib.Core.Path.{_∙_, _≡_, ap, refl}
 use mathlib.Core.Logic.{inl}
-use mathlib.Core.Bool.{Bool, true, false}
+use mathlib.Core.Bool.{Bool, false, true}
 use mathlib.Core.List.{List}
-use Prim.Native.Nat.{ℕ, zero, suc, _+_, _*_, _≤_, _<_}
+use Prim.Native.Nat.{_*_, _+_, _<_, _≤_, suc, zero, ℕ}
 use native.Mathlib.Nat.{mul-le-mul-right}
 use native.Mathlib.Omega.{arith}
 use lib.ListN.{getD}
 use Rattle.definitions.specs.Calls.{changed, machine, machineFrom, resume, resumeFrom, settleFrom, stepFrom}
-use Rattle.definitions.specs.Input.{Input, aboveSystem, alone, mapOf, systemOf, walkSystem}
+use Rattle.definitions.specs.Input.{Input, aboveSystem, mapOf, systemOf}
 use Rattle.definitions.specs.Machine.{after}
 use Rattle.definitions.specs.Step.{enlistIn, grown, level, listed, pick, rowOf, step, toSecond, top, width}
 use Rattle.definitions.specs.System.{System, solves}
@@ -17,8 +17,9 @@ use Rattle.definitions.specs.Tables.{Run, State, at, byWalk, cappedRun, deskByD
 use Rattle.laws.specs.LowerLaws.{Aside, step-aside, step-kept}
 use Rattle.laws.specs.StepLaws.{children-keep}
 use Rattle.laws.specs.TableLaws.{write-outside}
+use Rattle.theorems.specs.Maps.{Map, byItself}
 use Rattle.theorems.specs.LowerFirst.{next-from}
-use Rattle.theorems.specs.WholeSteps.{after-more, call-keeps}
+use Rattle.theorems.specs.WholeSteps.{after-next, call-keeps}
 
 -- ---- the rows listed
 
@@ -73,7 +74,7 @@ rows-stay budget i s =
 
 -- one step more
 next : (i : Input) (n : ℕ) (s : State) → after (n + 1) (machine i) s ≡ step (systemOf i) (after n (machine i) s)
-next i n s = after-more (machine i) (λ t. refl) n 1 s ∙ (unfold after in refl)
+next i = after-next (machine i) (λ t. refl)
 
 -- and each of its steps
 pub rows-each : (i : Input) (n : ℕ) (s : State) → RowsStay (width (systemOf i)) (after n (machine i) s) (after (n + 1) (machine i) s)
@@ -93,14 +94,11 @@ record-kept budget i s =
     (record { kind = refl; steps₂ = refl })
 
 -- and a plain one: the second list, and its count
-pub aside-kept : (budget : ℕ) (i : Input) → i .extra ≡ alone → (s : State) → Aside s (resume budget i s .state)
-aside-kept budget i is s =
-    call-keeps (machine i) (Aside s) (λ t r. r)
-    (λ t r g. let a = step-aside (systemOf i) first t in record { second = a .second ∙ r .second; found₂ = a .found₂ ∙ r .found₂ }) budget s
+pub aside-kept : (budget : ℕ) (m : Map) (s : State) → Aside s (resume budget (byItself m) s .state)
+aside-kept budget m s =
+    call-keeps (machine (byItself m)) (Aside s) (λ t r. r)
+    (λ t r g. let a = step-aside (mapOf (byItself m)) (λ x. refl) t in record { second = a .second ∙ r .second; found₂ = a .found₂ ∙ r .found₂ }) budget s
     (record { second = refl; found₂ = refl })
-  where
-    first : (x : ℕ → ℕ) → toSecond (systemOf i .kind) x ≡ false
-    first x = ap (λ e. toSecond (walkSystem e i .kind) x) is
 
 -- ---- the stack rows below the one taken off
 
@@ -139,7 +137,10 @@ rows-below i n s = rw (next i n s) (step-below (systemOf i) (after n (machine i)
 
 -- ---- runs from a lower bound
 
-module _ (lower : List ℕ) (i : Input) where
+module _ (lower : List ℕ) (m : Map) where
+  abbrev i : Input
+  i = byItself m
+
   settled-rows : (t : State) → RowsStay (i .q) t (settleFrom lower i t)
   unfolding settleFrom lowered
   settled-rows t = go (t .run .kind) (t .run .height)
@@ -184,7 +185,7 @@ module _ (lower : List ℕ) (i : Input) where
   pub rows-each-from : (n : ℕ) (s : State) → RowsStay (i .q) (after n (machineFrom lower i) s) (after (n + 1) (machineFrom lower i) s)
   rows-each-from n s =
       let t : State = after n (machineFrom lower i) s in
-      rw (next-from lower i n s) (rows-more (stepped-rows t) (settled-rows (stepFrom lower i t)))
+      rw (next-from lower m n s) (rows-more (stepped-rows t) (settled-rows (stepFrom lower i t)))
 
   -- the change of walk is made at height 0, where there is no row below
   settled-below : (h : ℕ) (t : State) → h ≤ t .run .height → RowsBelow (i .q) h t (settleFrom lower i t)
@@ -219,4 +220,4 @@ module _ (lower : List ℕ) (i : Input) where
   rows-below-from n s =
       let t : State = after n (machineFrom lower i) s in
       let (b, h) = stepped-below t in
-      rw (next-from lower i n s) (λ l j lh jq. settled-below (level t) (stepFrom lower i t) h l j lh jq ∙ b l j lh jq)
+      rw (next-from lower m n s) (λ l j lh jq. settled-below (level t) (stepFrom lower i t) h l j lh jq ∙ b l j lh jq)

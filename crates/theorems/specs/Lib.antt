@@ -30,7 +30,11 @@ pub mod StackRows
 pub mod LowerFirst
 pub mod TwoWalks
 pub mod Frames
+pub mod Maps
+pub mod CallTerms
 pub mod Demands
+pub mod AnyRun
+pub mod Proved
 pub mod Reasons
 pub mod BaseStep
 pub mod Newest

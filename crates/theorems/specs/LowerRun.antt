@@ -1,14 +1,14 @@
 -- The states of a run from a lower bound (document 02, Job 4), what its two lists hold, and what is kept through its calls and at the change of walk: the plain
 -- walk is a plain run into the second list, and a row of that list can be taken off any solution at or above a dropped child, so that none is missed. Assumes
 -- nothing.
-use mathlib.Core.Path.{_≡_, refl, sym, _∙_, ap, subst}
+use mathlib.Core.Path.{_∙_, _≡_, ap, refl, subst, sym}
 use mathlib.Core.List.{List}
-use Prim.Native.Nat.{ℕ, zero, suc, _<_}
+use Prim.Native.Nat.{_<_, suc, zero, ℕ}
 use native.Mathlib.Omega.{arith}
 use Rattle.linear.specs.Tuples.{Same}
 use Rattle.definitions.specs.Answers.{go, started}
 use Rattle.definitions.specs.Calls.{changed, machineFrom, resumeFrom, settleFrom, startFrom, stepFrom}
-use Rattle.definitions.specs.Input.{Input, aboveSystem, alone, boundOf, mapOf}
+use Rattle.definitions.specs.Input.{Input, aboveSystem, boundOf, mapOf}
 use Rattle.definitions.specs.Refusals.{lowerChecks}
 use Rattle.definitions.specs.Step.{step}
 use Rattle.definitions.specs.System.{MinimalFrom, MinimalSolution}
@@ -18,6 +18,7 @@ use Rattle.laws.specs.LowerLaws.{GoingFrom, InOrderBy, ValidFrom, above-valid, 
 use Rattle.laws.specs.LowerLaws.{step-aside, step-from-valid, step-kept}
 use Rattle.laws.specs.RefusalLaws.{Handed, lower-handed, lower-shaped}
 use Rattle.laws.specs.ValidLaws.{shaped-same}
+use Rattle.theorems.specs.Maps.{Map, byItself}
 use Rattle.theorems.specs.Basis.{basis-same}
 use Rattle.theorems.specs.CallAnswers.{started-goes}
 use Rattle.theorems.specs.Link.{atOrAbove, lower-invariant, nonzero, plain-invariant, task}
@@ -28,11 +29,11 @@ use Rattle.theorems.specs.WholeSteps.{call-keeps}
 
 -- A run that nobody else alters: a start that answered "started", continuing calls on what it left with the start's map and lower bound, and, between two
 -- calls, other list tables with the same rows.
-pub data RunFrom (lower : List ℕ) (i : Input) : State → Type 0 where
-  started-from : (s : State) → startFrom lower i s .answer ≡ started → RunFrom lower i (startFrom lower i s .state)
-  continued : {s : State} → RunFrom lower i s → (budget : ℕ) → RunFrom lower i (resumeFrom budget lower i s .state)
-  relisted : {s : State} → RunFrom lower i s → (list : List ℕ) → SameRows (i .q) (s .run .found) (s .list) list → RunFrom lower i (withList s list)
-  relisted₂ : {s : State} → RunFrom lower i s → (second : List ℕ) → SameRows (i .q) (s .run .found₂) (s .second) second → RunFrom lower i (withSecond s second)
+pub data RunFrom (lower : List ℕ) (m : Map) : State → Type 0 where
+  started-from : (s : State) → startFrom lower (byItself m) s .answer ≡ started → RunFrom lower m (startFrom lower (byItself m) s .state)
+  continued : {s : State} → RunFrom lower m s → (budget : ℕ) → RunFrom lower m (resumeFrom budget lower (byItself m) s .state)
+  relisted : {s : State} → RunFrom lower m s → (list : List ℕ) → SameRows (m .q) (s .run .found) (s .list) list → RunFrom lower m (withList s list)
+  relisted₂ : {s : State} → RunFrom lower m s → (second : List ℕ) → SameRows (m .q) (s .run .found₂) (s .second) second → RunFrom lower m (withSecond s second)
 
 -- ---- what is kept, by the walk under way
 
@@ -65,7 +66,10 @@ same-exactly i {n} {old} {table} some r e =
       all = λ t w. let (k, l, a) = e .all t w in (k, l, λ j jq. same k l j jq ∙ a j jq);
     }
 
-module _ (lower : List ℕ) (i : Input) where
+module _ (lower : List ℕ) (m : Map) where
+  abbrev i : Input
+  i = byItself m
+
   -- ---- the change of walk, and a step
 
   module _ (s : State) (o : SoundFrom lower i s) where
@@ -182,38 +186,37 @@ module _ (lower : List ℕ) (i : Input) where
 
   -- ---- the run
 
-  module _ (is : i .extra ≡ alone) where
-    start-from-sound : (s : State) → lowerChecks lower i s ≡ go → SoundFrom lower i (lowerStart (mapOf i) s)
-    unfolding lowerStart unitsStart
-    start-from-sound s e =
-        let v = start-from-valid lower i s is e in
-        let g = lower-shaped i s lower is e .0 in
-        record {
-          valid = v;
-          holds = (
-            record {
-              suits = tt;
-              valid = plain-valid lower i (lowerStart (mapOf i) s) refl v;
-              hand = tt;
-              inv = plain-invariant (mapOf i) (plainPart s) (shaped-same (rw is at g) refl);
-            },
-            refl,
-          );
-        }
+  start-from-sound : (s : State) → lowerChecks lower i s ≡ go → SoundFrom lower i (lowerStart (mapOf i) s)
+  unfolding lowerStart unitsStart
+  start-from-sound s e =
+      let v = start-from-valid lower i s refl e in
+      let g = lower-shaped i s lower refl e .0 in
+      record {
+        valid = v;
+        holds = (
+          record {
+            suits = tt;
+            valid = plain-valid lower i (lowerStart (mapOf i) s) refl v;
+            hand = tt;
+            inv = plain-invariant (mapOf i) (plainPart s) (shaped-same g refl);
+          },
+          refl,
+        );
+      }
 
-    pub run-from-sound : {s : State} → RunFrom lower i s → SoundFrom lower i s
-    unfolding startFrom
-    run-from-sound (started-from s e) = let (g, w) = started-goes (lowerChecks lower i s) s _ e in rw w (start-from-sound s g)
-    run-from-sound (continued {s = s} r budget) = resume-from-sound budget s (run-from-sound r)
-    run-from-sound (relisted {s = s} r list same) = relisted-from s (run-from-sound r) list same
-    run-from-sound (relisted₂ {s = s} r second same) = seconded-from s (run-from-sound r) second same
+  pub run-from-sound : {s : State} → RunFrom lower m s → SoundFrom lower i s
+  unfolding startFrom
+  run-from-sound (started-from s e) = let (g, w) = started-goes (lowerChecks lower i s) s _ e in rw w (start-from-sound s g)
+  run-from-sound (continued {s = s} r budget) = resume-from-sound budget s (run-from-sound r)
+  run-from-sound (relisted {s = s} r list same) = relisted-from s (run-from-sound r) list same
+  run-from-sound (relisted₂ {s = s} r second same) = seconded-from s (run-from-sound r) second same
 
-    pub run-from-handed : {s : State} → RunFrom lower i s → Handed i
-    unfolding startFrom
-    run-from-handed (started-from s e) = lower-handed i s lower is (started-goes (lowerChecks lower i s) s _ e .0)
-    run-from-handed (continued r budget) = run-from-handed r
-    run-from-handed (relisted r list same) = run-from-handed r
-    run-from-handed (relisted₂ r second same) = run-from-handed r
+  pub run-from-handed : {s : State} → RunFrom lower m s → Handed i
+  unfolding startFrom
+  run-from-handed (started-from s e) = lower-handed i s lower refl (started-goes (lowerChecks lower i s) s _ e .0)
+  run-from-handed (continued r budget) = run-from-handed r
+  run-from-handed (relisted r list same) = run-from-handed r
+  run-from-handed (relisted₂ r second same) = run-from-handed r
 
   -- ---- what it lists
 

@@ -20,7 +20,7 @@ use Rattle.laws.specs.CheckLaws.{AllSilent, FirstDue}
 use Rattle.laws.specs.ReasonLaws.{Claim, NoneEarlier, count-refused, given-reason, reason-given, reason-refused, reasonRules, refused-reason, unlisted-asked}
 use Rattle.laws.specs.ReasonLaws.{unlisted-means}
 use Rattle.theorems.specs.Basis.{basis-below}
-use Rattle.theorems.specs.Demands.{second-demand}
+use Rattle.theorems.specs.Proved.{second-demand}
 use Rattle.theorems.specs.Link.{nonzero, task, upToOne}
 use Rattle.theorems.specs.Listed.{Exactly, Only}
 use Rattle.theorems.specs.Run.{Run}

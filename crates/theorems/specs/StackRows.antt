@@ -1,11 +1,11 @@
 -- Document 02, Job 11: "from any run record that passes the check for 6, no step needs a row beyond the last one, in plain, capped, floor and desk-by-desk
 -- walks". One theorem over marks and rows (`rows-suffice`), and its instances; that of the walk by groups of equations is `desk-rows` of
 -- desk_spec/specs/Promises. Assumes nothing.
-use mathlib.Core.Path.{_≡_, refl, ap}
+use mathlib.Core.Path.{_≡_, ap, refl}
 use mathlib.Core.Logic.{_⊎_, inl, inr}
-use mathlib.Core.Bool.{Bool, true, false}
+use mathlib.Core.Bool.{Bool, false, true}
 use mathlib.Core.List.{List}
-use Prim.Native.Nat.{ℕ, _+_, _*_, _≤_, _<_}
+use Prim.Native.Nat.{_*_, _+_, _<_, _≤_, ℕ}
 use native.Mathlib.Nat.{mul-le-mul-right}
 use native.Mathlib.Omega.{arith}
 use lib.Dec.{T}
@@ -13,7 +13,7 @@ use lib.ListN.{getD}
 use Rattle.linear.specs.Tests.{countTo}
 use Rattle.definitions.specs.Answers.{go}
 use Rattle.definitions.specs.Calls.{machine, machineFrom, resumeFromSteps, resumeSteps}
-use Rattle.definitions.specs.Input.{Input, aboveSystem, alone, mapOf, systemOf}
+use Rattle.definitions.specs.Input.{Input, aboveSystem, mapOf, systemOf}
 use Rattle.definitions.specs.Machine.{Machine, after, callSteps}
 use Rattle.definitions.specs.Refusals.{check6, check6From}
 use Rattle.definitions.specs.Step.{enlistIn, grown, level, listed, makes, pick, rowOf, rowWidth, step, toSecond, top, topMarks}
@@ -26,6 +26,7 @@ use Rattle.laws.specs.MarkLaws.{marks-few}
 use Rattle.laws.specs.RefusalLaws.{InOrder, Valid, checked-order, resume-valid, search-going}
 use Rattle.laws.specs.StepLaws.{children-outside, makes-free}
 use Rattle.laws.specs.ValidLaws.{step-valid}
+use Rattle.theorems.specs.Maps.{Map, byItself}
 use Rattle.theorems.specs.WholeSteps.{Goes, after-keeps, call-going}
 
 -- The row at a level, from 0, carries as many marks as there are rows below it. So where every child raises an unknown that is not marked, the level and the
@@ -88,21 +89,26 @@ call-rows budget i s n l =
     walk-rows m (after n (machine i) s) (v .ordered) h
 
 -- runs from a lower bound, by the walk under way
-pub call-rows-from : (budget : ℕ) (lower : List ℕ) (i : Input) → i .extra ≡ alone → (s : State) (n : ℕ) → n < resumeFromSteps budget lower i s → let t =
-    after n (machineFrom lower i) s in
-    ((t .run .kind ≡ lowerPlain) × (level t + countTo (i .q) (makes (mapOf i) (plainPart t)) ≤ i .q))
-    ⊎ ((t .run .kind ≡ lowerAbove) × (level t + countTo (i .q) (makes (aboveSystem lower i) t) ≤ i .q))
-call-rows-from budget lower i is s n l =
-    let t : State = after n (machineFrom lower i) s in
-    let (v, (h, f)) = each-step (machineFrom lower i) (ValidFrom lower i) (λ t e. resume-from-valid lower i t is e .1) (settled-valid lower i)
-    (λ t v (h, f). step-from-valid lower i t v (search-going-from lower i t v h f)) budget s n l in
-    by (after n (machineFrom lower i) s) h (t .run .kind) refl (v .ordered)
-  where
-    by : (t : State) → 0 < t .run .height → (r : Run) → t .run .kind ≡ r → InOrderBy r lower i t
-        → ((t .run .kind ≡ lowerPlain) × (level t + countTo (i .q) (makes (mapOf i) (plainPart t)) ≤ i .q))
-        ⊎ ((t .run .kind ≡ lowerAbove) × (level t + countTo (i .q) (makes (aboveSystem lower i) t) ≤ i .q))
-    by t h plainRun e o = absurd o
-    by t h cappedRun e o = absurd o
-    by t h lowerPlain e (o, f, st) = inl (e, walk-rows (mapOf i) (plainPart t) o h)
-    by t h lowerAbove e (o, st) = inr (e, walk-rows (aboveSystem lower i) t o h)
-    by t h deskByDesk e o = absurd o
+module _ (lower : List ℕ) (m : Map) where
+  abbrev i : Input
+  i = byItself m
+
+  -- no row beyond the last is needed by the walk under way
+  abbrev pub Suffice : State → Type 0
+  Suffice t =
+      ((t .run .kind ≡ lowerPlain) × (level t + countTo (m .q) (makes (mapOf i) (plainPart t)) ≤ m .q))
+      ⊎ ((t .run .kind ≡ lowerAbove) × (level t + countTo (m .q) (makes (aboveSystem lower i) t) ≤ m .q))
+
+  by-walk : (t : State) → 0 < t .run .height → (r : Run) → t .run .kind ≡ r → InOrderBy r lower i t → Suffice t
+  by-walk t h plainRun e o = absurd o
+  by-walk t h cappedRun e o = absurd o
+  by-walk t h lowerPlain e (o, f, st) = inl (e, walk-rows (mapOf i) (plainPart t) o h)
+  by-walk t h lowerAbove e (o, st) = inr (e, walk-rows (aboveSystem lower i) t o h)
+  by-walk t h deskByDesk e o = absurd o
+
+  pub call-rows-from : (budget : ℕ) (s : State) (n : ℕ) → n < resumeFromSteps budget lower i s → Suffice (after n (machineFrom lower i) s)
+  call-rows-from budget s n l =
+      let t : State = after n (machineFrom lower i) s in
+      let (v, (h, f)) = each-step (machineFrom lower i) (ValidFrom lower i) (λ t e. resume-from-valid lower i t refl e .1) (settled-valid lower i)
+      (λ t v (h, f). step-from-valid lower i t v (search-going-from lower i t v h f)) budget s n l in
+      by-walk t h (t .run .kind) refl (v .ordered)

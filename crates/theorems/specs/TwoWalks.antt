@@ -1,13 +1,13 @@
 -- A run from a lower bound (document 02, Job 4): its plain walk and then its walk above the bound, each with its own steps, count and list. Assumes nothing.
-use mathlib.Core.Path.{_≡_, refl, sym, _∙_, ap, subst}
+use mathlib.Core.Path.{_∙_, _≡_, ap, refl, sym}
 use mathlib.Core.Logic.{_≢_, inl, inr}
 use mathlib.Core.List.{List}
-use Prim.Native.Nat.{ℕ, zero, suc, _+_, _-_, _<_}
+use Prim.Native.Nat.{_+_, _-_, _<_, suc, zero, ℕ}
 use native.Mathlib.Omega.{arith}
 use Rattle.definitions.specs.Answers.{Answer, complete, go, paused, refused, started}
 use Rattle.definitions.specs.Calls.{changed, machine, machineFrom, machineOf, resume, resumeFrom, resumeFromSteps, resumeSteps, settleFrom, stepFrom}
-use Rattle.definitions.specs.Input.{Input, aboveSystem, alone, boundOf, mapOf, walkSystem}
-use Rattle.definitions.specs.Machine.{Machine, Outcome, after, call, callSteps, walk, walkSteps}
+use Rattle.definitions.specs.Input.{Input, aboveSystem, boundOf, mapOf}
+use Rattle.definitions.specs.Machine.{Outcome, after, call, walk, walkSteps}
 use Rattle.definitions.specs.Refusals.{resumeChecks, resumeFromChecks}
 use Rattle.definitions.specs.Step.{step}
 use Rattle.definitions.specs.Tables.{Run, State, byWalk, cappedRun, deskByDesk, lowerAbove, lowerPlain, lowered, plainPart, plainRun, wholeOf}
@@ -15,7 +15,8 @@ use Rattle.laws.specs.CheckLaws.{check-cases}
 use Rattle.laws.specs.LowerLaws.{InOrderBy, ValidFrom, plain-valid, resume-from-valid, settled-valid, step-aside, step-kept}
 use Rattle.laws.specs.LowerWalk.{above-walks, from-plain, thenAbove, walk-counts}
 use Rattle.laws.specs.MachineLaws.{call-refused, call-walks}
-use Rattle.laws.specs.RefusalLaws.{Valid, valid-resume}
+use Rattle.laws.specs.RefusalLaws.{valid-resume}
+use Rattle.theorems.specs.Maps.{Map, byItself}
 use Rattle.theorems.specs.LowerFirst.{counted-from, kept-valid, next-from}
 use Rattle.theorems.specs.WholeSteps.{after-keeps, call-going, walk-keeps}
 
@@ -40,7 +41,10 @@ pub record PlainKept (s t : State) : Type 0 where
   pub found₂ : t .run .found₂ ≡ s .run .found₂
   pub second : t .second ≡ s .second
 
-module _ (lower : List ℕ) (i : Input) where
+module _ (lower : List ℕ) (m : Map) where
+  abbrev i : Input
+  i = byItself m
+
   -- the change of walk changes no count and no list
   settled-booked : (t u : State) (r : Run) → Booked r t u → u .run .kind ≡ r → Booked r t (settleFrom lower i u)
   unfolding settleFrom lowered
@@ -92,7 +96,7 @@ module _ (lower : List ℕ) (i : Input) where
   -- a call in that walk keeps the plain walk's, and counts its own steps
   pub above-call : (budget : ℕ) (s : State) → s .run .kind ≡ lowerAbove → let t = resumeFrom budget lower i s .state in
       PlainKept s t × (t .run .steps ≡ s .run .steps + resumeFromSteps budget lower i s)
-  above-call budget s e = (kept, omega (arith, counted-from lower i budget s, kept .steps₂))
+  above-call budget s e = (kept, omega (arith, counted-from lower m budget s, kept .steps₂))
     where
       kept : PlainKept s (resumeFrom budget lower i s .state)
       kept =
@@ -104,88 +108,77 @@ module _ (lower : List ℕ) (i : Input) where
 
   -- ---- the call from the plain walk
 
-  module _ (is : i .extra ≡ alone) where
-    pub booked : (budget : ℕ) (s : State) (n : ℕ) → n < resumeFromSteps budget lower i s → let t = after n (machineFrom lower i) s in
-        Booked (t .run .kind) t (after (n + 1) (machineFrom lower i) s)
-    booked budget s n l =
-        elim (check-cases (resumeFromChecks lower i s)) [
-          | inl c ↦
-              let v = after-keeps (machineFrom lower i) (ValidFrom lower i) (settled-valid lower i) (kept-valid lower i) n s
-              (resume-from-valid lower i s is c .1) (λ j jn. call-going (machineFrom lower i) budget s c j (omega arith)) in
-              rw (next-from lower i n s) (booked-step (after n (machineFrom lower i) s) (v .ordered))
-          | inr (r, values, c) ↦ absurd (omega (arith, call-refused (machineFrom lower i) s budget r values c .1))
-        ]
+  pub booked : (budget : ℕ) (s : State) (n : ℕ) → n < resumeFromSteps budget lower i s → let t = after n (machineFrom lower i) s in
+      Booked (t .run .kind) t (after (n + 1) (machineFrom lower i) s)
+  booked budget s n l =
+      elim (check-cases (resumeFromChecks lower i s)) [
+        | inl c ↦
+            let v = after-keeps (machineFrom lower i) (ValidFrom lower i) (settled-valid lower i) (kept-valid lower m) n s
+            (resume-from-valid lower i s refl c .1) (λ j jn. call-going (machineFrom lower i) budget s c j (omega arith)) in
+            rw (next-from lower m n s) (booked-step (after n (machineFrom lower i) s) (v .ordered))
+        | inr (r, values, c) ↦ absurd (omega (arith, call-refused (machineFrom lower i) s budget r values c .1))
+      ]
 
-    module _ (budget : ℕ) (s : State) (e : s .run .kind ≡ lowerPlain) (goes : resumeFromChecks lower i s ≡ go) where
-      -- the plain run, into the second list
-      abbrev plainly : Outcome State
-      plainly = resume budget i (plainPart s)
+  module _ (budget : ℕ) (s : State) (e : s .run .kind ≡ lowerPlain) (goes : resumeFromChecks lower i s ≡ go) where
+    -- the plain run, into the second list
+    abbrev plainly : Outcome State
+    plainly = resume budget i (plainPart s)
 
-      abbrev k : Machine State
-      k = machineOf (resumeChecks i) (mapOf i)
+    plain-goes : resumeChecks i (plainPart s) ≡ go
+    plain-goes = let (h, v) = resume-from-valid lower i s refl goes in valid-resume i (plainPart s) h (plain-valid lower i s e v)
 
-      same-machine : machine i ≡ k
-      same-machine = ap (λ x. machineOf (resumeChecks i) (walkSystem x i)) is
+    -- it is the walk
+    plain-walks : (plainly ≡ walk budget (machine i) (plainPart s)) × (resumeSteps budget i (plainPart s) ≡ walkSteps budget (machine i) (plainPart s))
+    plain-walks = call-walks (machine i) (plainPart s) budget plain-goes
 
-      plain-goes : resumeChecks i (plainPart s) ≡ go
-      plain-goes =
-          let (h, v) = resume-from-valid lower i s is goes in
-          valid-resume i (plainPart s) h (subst (λ x. Valid (walkSystem x i) (plainPart s)) (sym is) (plain-valid lower i s e v))
+    joined : resumeFrom budget lower i s
+        ≡ thenAbove (resumeChecks i) lower i (plainly .answer) (wholeOf (s .run .deepest) (plainly .state)) (budget - resumeSteps budget i (plainPart s))
+    joined =
+        let walked : Outcome State = walk budget (machine i) (plainPart s) in
+        call-walks (machineFrom lower i) s budget goes .0 ∙ from-plain (resumeChecks i) lower i budget s e
+        ∙ sym (ap (λ (x : Outcome State). thenAbove (resumeChecks i) lower i (x .answer) (wholeOf (s .run .deepest) (x .state))
+        (budget - resumeSteps budget i (plainPart s))) (plain-walks .0)
+        ∙ ap (λ n. thenAbove (resumeChecks i) lower i (walked .answer) (wholeOf (s .run .deepest) (walked .state)) (budget - n)) (plain-walks .1))
 
-      -- it is the walk
-      plain-walks : (plainly ≡ walk budget k (plainPart s)) × (resumeSteps budget i (plainPart s) ≡ walkSteps budget k (plainPart s))
-      plain-walks =
-          let w = call-walks k (plainPart s) budget plain-goes in
-          (ap (λ x. call budget x (plainPart s)) same-machine ∙ w .0, ap (λ x. callSteps budget x (plainPart s)) same-machine ∙ w .1)
+    -- "If the plain run pauses or is refused, that is the answer."
+    pub plain-stops : plainly .answer ≢ complete
+        → resumeFrom budget lower i s ≡ record { answer = plainly .answer; state = wholeOf (s .run .deepest) (plainly .state) }
+    plain-stops n = joined ∙ stops (plainly .answer) n _ _
+      where
+        stops : (a : Answer) → a ≢ complete → (t : State) (left : ℕ) → thenAbove (resumeChecks i) lower i a t left ≡ record { answer = a; state = t }
+        stops started n t left = refl
+        stops complete n t left = absurd (n refl)
+        stops paused n t left = refl
+        stops (refused r values) n t left = refl
 
-      joined : resumeFrom budget lower i s
-          ≡ thenAbove (resumeChecks i) lower i (plainly .answer) (wholeOf (s .run .deepest) (plainly .state)) (budget - resumeSteps budget i (plainPart s))
-      joined =
-          call-walks (machineFrom lower i) s budget goes .0 ∙ from-plain (resumeChecks i) lower i budget s e
-          ∙ sym (ap (λ (x : Outcome State). thenAbove (resumeChecks i) lower i (x .answer) (wholeOf (s .run .deepest) (x .state))
-          (budget - resumeSteps budget i (plainPart s))) (plain-walks .0)
-          ∙ ap (λ n. thenAbove (resumeChecks i) lower i (walk budget k (plainPart s) .answer) (wholeOf (s .run .deepest) (walk budget k (plainPart s) .state))
-          (budget - n)) (plain-walks .1))
+    -- "At its height 0, ahead of the allowance, the floor row is written and no count changed.": the walk above the bound has what is left of the budget
+    pub above-follows : plainly .answer ≡ complete
+        → resumeFrom budget lower i s
+        ≡ walk (budget - resumeSteps budget i (plainPart s)) (machineFrom lower i)
+        (lowered (boundOf lower) (i .q) (wholeOf (s .run .deepest) (plainly .state)))
+    unfolding lowered
+    above-follows a =
+        joined ∙ ap (λ x. thenAbove (resumeChecks i) lower i x (wholeOf (s .run .deepest) (plainly .state)) (budget - resumeSteps budget i (plainPart s))) a
+        ∙ sym (above-walks (resumeChecks i) lower i (budget - resumeSteps budget i (plainPart s)) _ refl)
 
-      -- "If the plain run pauses or is refused, that is the answer."
-      pub plain-stops : plainly .answer ≢ complete
-          → resumeFrom budget lower i s ≡ record { answer = plainly .answer; state = wholeOf (s .run .deepest) (plainly .state) }
-      plain-stops n = joined ∙ stops (plainly .answer) n _ _
-        where
-          stops : (a : Answer) → a ≢ complete → (t : State) (left : ℕ) → thenAbove (resumeChecks i) lower i a t left ≡ record { answer = a; state = t }
-          stops started n t left = refl
-          stops complete n t left = absurd (n refl)
-          stops paused n t left = refl
-          stops (refused r values) n t left = refl
+    -- each count by itself: the plain walk's steps
+    then-kept : (a : Answer) (t : State) (left : ℕ) → thenAbove (resumeChecks i) lower i a t left .state .run .steps₂ ≡ t .run .steps₂
+    unfolding lowered
+    then-kept started t left = refl
+    then-kept complete t left =
+        ap (λ o. o .state .run .steps₂) (sym (above-walks (resumeChecks i) lower i left (lowered (boundOf lower) (i .q) t) refl))
+        ∙ above-kept left (lowered (boundOf lower) (i .q) t) refl .steps₂
+    then-kept paused t left = refl
+    then-kept (refused r values) t left = refl
 
-      -- "At its height 0, ahead of the allowance, the floor row is written and no count changed.": the walk above the bound has what is left of the budget
-      pub above-follows : plainly .answer ≡ complete
-          → resumeFrom budget lower i s
-          ≡ walk (budget - resumeSteps budget i (plainPart s)) (machineFrom lower i)
-          (lowered (boundOf lower) (i .q) (wholeOf (s .run .deepest) (plainly .state)))
-      unfolding lowered
-      above-follows a =
-          joined ∙ ap (λ x. thenAbove (resumeChecks i) lower i x (wholeOf (s .run .deepest) (plainly .state)) (budget - resumeSteps budget i (plainPart s))) a
-          ∙ sym (above-walks (resumeChecks i) lower i (budget - resumeSteps budget i (plainPart s)) _ refl)
+    pub plain-counted : resumeFrom budget lower i s .state .run .steps₂ ≡ s .run .steps₂ + resumeSteps budget i (plainPart s)
+    plain-counted =
+        ap (λ o. o .state .run .steps₂) joined
+        ∙ then-kept (plainly .answer) (wholeOf (s .run .deepest) (plainly .state)) (budget - resumeSteps budget i (plainPart s))
+        ∙ ap (λ o. o .state .run .steps) (plain-walks .0) ∙ walk-counts (resumeChecks i) (mapOf i) budget (plainPart s) .0
+        ∙ ap (λ n. s .run .steps₂ + n) (sym (plain-walks .1))
 
-      -- each count by itself: the plain walk's steps
-      then-kept : (a : Answer) (t : State) (left : ℕ) → thenAbove (resumeChecks i) lower i a t left .state .run .steps₂ ≡ t .run .steps₂
-      unfolding lowered
-      then-kept started t left = refl
-      then-kept complete t left =
-          ap (λ o. o .state .run .steps₂) (sym (above-walks (resumeChecks i) lower i left (lowered (boundOf lower) (i .q) t) refl))
-          ∙ above-kept left (lowered (boundOf lower) (i .q) t) refl .steps₂
-      then-kept paused t left = refl
-      then-kept (refused r values) t left = refl
-
-      pub plain-counted : resumeFrom budget lower i s .state .run .steps₂ ≡ s .run .steps₂ + resumeSteps budget i (plainPart s)
-      plain-counted =
-          ap (λ o. o .state .run .steps₂) joined
-          ∙ then-kept (plainly .answer) (wholeOf (s .run .deepest) (plainly .state)) (budget - resumeSteps budget i (plainPart s))
-          ∙ ap (λ o. o .state .run .steps) (plain-walks .0) ∙ walk-counts (resumeChecks i) (mapOf i) budget (plainPart s) .0
-          ∙ ap (λ n. s .run .steps₂ + n) (sym (plain-walks .1))
-
-      -- and the other's
-      pub above-counted : resumeFrom budget lower i s .state .run .steps + resumeSteps budget i (plainPart s)
-          ≡ s .run .steps + resumeFromSteps budget lower i s
-      above-counted = omega (arith, counted-from lower i budget s, plain-counted)
+    -- and the other's
+    pub above-counted : resumeFrom budget lower i s .state .run .steps + resumeSteps budget i (plainPart s)
+        ≡ s .run .steps + resumeFromSteps budget lower i s
+    above-counted = omega (arith, counted-from lower m budget s, plain-counted)

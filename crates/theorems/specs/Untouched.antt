@@ -1,9 +1,9 @@
 -- What the calls of document 01 never touch, and the marks that rows carry after each. Assumes nothing.
-use mathlib.Core.Path.{_≡_, refl, sym, _∙_, ap, subst}
+use mathlib.Core.Path.{_∙_, _≡_, ap, refl}
 use mathlib.Core.Logic.{inl, inr}
-use mathlib.Core.Bool.{Bool, true, false}
+use mathlib.Core.Bool.{Bool, false, true}
 use mathlib.Core.List.{List}
-use Prim.Native.Nat.{ℕ, zero, suc, _+_, _*_, _≤_, _<_}
+use Prim.Native.Nat.{_*_, _+_, _<_, _≤_, suc, zero, ℕ}
 use native.Mathlib.Nat.{mul-le-mul-right}
 use native.Mathlib.Omega.{arith}
 use lib.Dec.{T}
@@ -11,7 +11,7 @@ use lib.ListN.{getD, length}
 use Rattle.linear.specs.Tests.{countTo}
 use Rattle.definitions.specs.Answers.{go}
 use Rattle.definitions.specs.Calls.{changed, machine, machineFrom, resume, resumeFrom, resumeSteps, settleFrom, start, startFrom, stepFrom}
-use Rattle.definitions.specs.Input.{Input, aboveSystem, alone, boundOf, mapOf, systemOf, walkSystem}
+use Rattle.definitions.specs.Input.{Input, aboveSystem, alone, boundOf, mapOf, systemOf}
 use Rattle.definitions.specs.Machine.{after, checked}
 use Rattle.definitions.specs.Refusals.{lowerChecks, resumeChecks, resumeFromChecks, startChecks}
 use Rattle.definitions.specs.Step.{deeper, enlist, enlistIn, grown, listed, pick, rowOf, rowWidth, step, toSecond, top, width}
@@ -26,8 +26,9 @@ use Rattle.laws.specs.RefusalLaws.{Going, Room, Valid, resume-valid, search-goi
 use Rattle.laws.specs.StepLaws.{children-length, children-outside}
 use Rattle.laws.specs.TableLaws.{row-length, row-outside, units-length, units-outside, write-outside}
 use Rattle.laws.specs.ValidLaws.{children-few, enlists, step-valid, units-inside, units-valid}
+use Rattle.theorems.specs.Maps.{Map, byItself}
 use Rattle.theorems.specs.Series.{Call, callChecks, continuing, continuing-from, perform, refused-outcome, starting, starting-from}
-use Rattle.theorems.specs.WholeSteps.{Goes, after-keeps, after-more, call-going, call-keeps}
+use Rattle.theorems.specs.WholeSteps.{Goes, after-keeps, after-next, call-going, call-keeps}
 
 -- What a call for q unknowns and list rows of w numbers leaves alone, that was lent s and leaves t.
 pub record Untouched (q w : ℕ) (s t : State) : Type 0 where
@@ -122,9 +123,9 @@ module _ (m : System) (s t : State) (v : Valid m t) (g : Going m t) (u : Untouch
 
 abbrev pub inputFor : Call → Input
 inputFor (starting i) = i
-inputFor (starting-from lower i is) = i
+inputFor (starting-from lower m) = byItself m
 inputFor (continuing budget i) = i
-inputFor (continuing-from budget lower i is) = i
+inputFor (continuing-from budget lower m) = byItself m
 
 -- "Row k of the stack always carries exactly k − 1 marks." (from 0 here)
 abbrev pub Marked : ℕ → State → Type 0
@@ -204,7 +205,10 @@ marked-by lower i t lowerPlain (o, f, l) = λ k h. o .rows k h .marked
 marked-by lower i t lowerAbove (o, l) = λ k h. o .rows k h .marked
 marked-by lower i t deskByDesk o = absurd o
 
-module _ (lower : List ℕ) (i : Input) (s : State) where
+module _ (lower : List ℕ) (m : Map) (s : State) where
+  abbrev i : Input
+  i = byItself m
+
   abbrev Standing : State → Type 0
   Standing t = ValidFrom lower i t × Untouched (i .q) (i .q) s t
 
@@ -249,32 +253,27 @@ module _ (lower : List ℕ) (i : Input) (s : State) where
   kept-standing t (v, u) (h, f) =
       let g = search-going-from lower i t v h f in (step-from-valid lower i t v g, stepped-untouched t (v, u) g)
 
-  module _ (is : i .extra ≡ alone) where
-    start-from-leaves : lowerChecks lower i s ≡ go → Leaves (i .q) (i .q) s (lowerStart (mapOf i) s)
-    unfolding lowerStart
-    start-from-leaves e =
-        record {
-          marked = marked-by lower i (lowerStart (mapOf i) s) lowerPlain (start-from-valid lower i s is e .ordered);
-          untouched = units-untouched (i .q) (i .q) s _;
-        }
+  start-from-leaves : lowerChecks lower i s ≡ go → Leaves (i .q) (i .q) s (lowerStart (mapOf i) s)
+  unfolding lowerStart
+  start-from-leaves e =
+      record {
+        marked = marked-by lower i (lowerStart (mapOf i) s) lowerPlain (start-from-valid lower i s refl e .ordered);
+        untouched = units-untouched (i .q) (i .q) s _;
+      }
 
-    resume-from-leaves : (budget : ℕ) → resumeFromChecks lower i s ≡ go → Leaves (i .q) (i .q) s (resumeFrom budget lower i s .state)
-    resume-from-leaves budget e =
-        let t : State = resumeFrom budget lower i s .state in
-        let (v, u) = call-keeps (machineFrom lower i) Standing (λ t (v, u). (settled-valid lower i t v, settled-untouched t (v, u))) kept-standing budget s
-        (resume-from-valid lower i s is e .1, untouched (i .q) (i .q) s) in
-        record { marked = marked-by lower i t (t .run .kind) (v .ordered); untouched = u }
-
--- a map alone is what the walk goes through
-as-map : (i : Input) → i .extra ≡ alone → {s t : State} → Leaves (i .q) (i .q) s t → Leaves (systemOf i .q) (width (systemOf i)) s t
-as-map i is {s} {t} l = subst (λ e. Leaves (walkSystem e i .q) (width (walkSystem e i)) s t) (sym is) l
+  resume-from-leaves : (budget : ℕ) → resumeFromChecks lower i s ≡ go → Leaves (i .q) (i .q) s (resumeFrom budget lower i s .state)
+  resume-from-leaves budget e =
+      let t : State = resumeFrom budget lower i s .state in
+      let (v, u) = call-keeps (machineFrom lower i) Standing (λ t (v, u). (settled-valid lower i t v, settled-untouched t (v, u))) kept-standing budget s
+      (resume-from-valid lower i s refl e .1, untouched (i .q) (i .q) s) in
+      record { marked = marked-by lower i t (t .run .kind) (v .ordered); untouched = u }
 
 pub call-leaves : (c : Call) (s : State) → callChecks c s ≡ go → Leaves (systemOf (inputFor c) .q) (width (systemOf (inputFor c))) s (perform c s .state)
 unfolding start startFrom checked
 call-leaves (starting i) s e = rw e (units-leaves i s e)
-call-leaves (starting-from lower i is) s e = rw e (as-map i is (start-from-leaves lower i s is e))
+call-leaves (starting-from lower m) s e = rw e (start-from-leaves lower m s e)
 call-leaves (continuing budget i) s e = resume-leaves i s budget e
-call-leaves (continuing-from budget lower i is) s e = as-map i is (resume-from-leaves lower i s is budget e)
+call-leaves (continuing-from budget lower m) s e = resume-from-leaves lower m s budget e
 
 pub call-untouched : (c : Call) (s : State) → Untouched (systemOf (inputFor c) .q) (width (systemOf (inputFor c))) s (perform c s .state)
 call-untouched c s =
@@ -305,4 +304,4 @@ steps-above budget i s n l e h =
     kept t v (high, f) = step-valid (systemOf i) t v high (search-going (systemOf i) t (v .ordered) high f)
 
     next : (n : ℕ) (s : State) → after (n + 1) (machine i) s ≡ step (systemOf i) (after n (machine i) s)
-    next n s = after-more (machine i) (λ t. refl) n 1 s ∙ (unfold after in refl)
+    next = after-next (machine i) (λ t. refl)

@@ -1,5 +1,5 @@
 -- A continuing call over any machine leaves the state after its whole steps, and its answer says how it stands then. Assumes nothing.
-use mathlib.Core.Path.{_≡_, refl, sym, ap}
+use mathlib.Core.Path.{_≡_, refl, sym, _∙_, ap}
 use mathlib.Core.Logic.{_⊎_, inl, inr}
 use mathlib.Core.List.{List}
 use Prim.Native.Nat.{ℕ, zero, suc, _+_, _<_}
@@ -73,6 +73,15 @@ module _ {S : Type 0} (k : Machine S) where
   pub called : (n : ℕ) (s : S) → k .before s ≡ go → Walked n k s (call n k s) (callSteps n k s)
   called n s e = let d = call-walks k s n e in rw (d .0, d .1) (walked n s)
 
+  -- and any, where nothing is done ahead of a step
+  pub call-after : ((s : S) → k .settle s ≡ s) → (n : ℕ) (s : S) → call n k s .state ≡ after (callSteps n k s) k s
+  unfolding after
+  call-after still n s =
+      elim (check-cases (k .before s)) [
+        | inl e ↦ called n s e .state
+        | inr (r, values, e) ↦ let d = call-refused k s n r values e in rw (d .0, d .1) (sym (still s))
+      ]
+
   -- each step that a walk takes is from a height above 0, and the search does not refuse it
   pub walk-going : (n : ℕ) (s : S) (i : ℕ) → i < walkSteps n k s → Goes k (after i k s)
   unfolding walkSteps after
@@ -126,3 +135,8 @@ module _ {S : Type 0} (k : Machine S) (steady : Steady k) where
   unfolding after
   settled-after zero s = steady s
   settled-after (suc n) s = settled-after n (k .step (k .settle s))
+
+  -- one step more
+  pub after-next : (n : ℕ) (s : S) → after (n + 1) k s ≡ k .settle (k .step (after n k s))
+  unfolding after
+  after-next n s = after-more n 1 s ∙ ap (λ t. k .settle (k .step t)) (settled-after n s)
