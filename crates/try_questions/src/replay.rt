@@ -63,9 +63,9 @@ fn located(l: Line) -> bool {
     let rows = first(&list, l.list_length);
     let t = first(&tuple, l.tuple_length);
     let answer = if l.kind == b'e' {
-        lookups::locate_large_number(rows, x[1] as usize, x[2] as usize, t)
+        reader::lookups::locate_large_number(rows, x[1] as usize, x[2] as usize, t)
     } else {
-        lookups::locate_number(rows, x[1] as usize, x[2] as usize, t)
+        reader::lookups::locate_number(rows, x[1] as usize, x[2] as usize, t)
     };
     answer == e[1]
 }

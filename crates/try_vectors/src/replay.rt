@@ -6,6 +6,7 @@ use calls::Record;
 use calls::Refusal;
 use calls::Solutions;
 use calls::Steps;
+use reader::Readable;
 use single_listing::ListingAnswer;
 use try_lines::line::COEFFICIENTS;
 use try_lines::line::Line;
@@ -14,7 +15,6 @@ use try_lines::tables::first;
 use try_lines::tables::first_signed;
 use try_lines::tables::same;
 use try_lines::tables::same_table;
-use walk_ref::Readable;
 
 // What stands in an output space before: a byte that no text has.
 const BEFORE: u8 = 170;
@@ -97,7 +97,7 @@ fn view(l: Line) -> bool {
     let q = x[0] as usize;
     let list = l.list;
     let tuple = l.tuple;
-    let row = walk_ref::row_of(
+    let row = reader::row_of(
         first(&list, l.list_length),
         q,
         Solutions(x[1] as usize),
@@ -106,7 +106,7 @@ fn view(l: Line) -> bool {
     if !same(row, first(&tuple, l.tuple_length)) {
         return false;
     }
-    match walk_ref::reader_answer(q) {
+    match reader::reader_answer(q) {
         Readable::Yes => l.answer == b'Y',
         Readable::Refused(why) => refuses(l, why),
     }
