@@ -11,7 +11,7 @@ use borrow.Author.Tests.{ne-eqb}
 use Rattle.linear.specs.Tests.{number}
 use Rattle.texts.specs.Decimals.{bytes, newline, zeroDigit, decimal}
 use Rattle.texts.specs.DecimalLaws.{by-digits, decimal-digit, decimal-more}
-use Rattle.report.specs.Printed.{counted, refusalText, valueWord}
+use Rattle.report_spec.specs.Printed.{counted, refusalText, valueWord}
 
 -- the text ends with the byte b and a newline
 pub record EndsWith (b : ℕ) (t : List ℕ) : Type 0 where

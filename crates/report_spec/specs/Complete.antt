@@ -18,9 +18,9 @@ use Rattle.map_spec.specs.Form.{lines, written, MapInRange}
 use Rattle.map_spec.specs.Reading as reading
 use Rattle.map_spec.specs.Reading.{Reading, readMap}
 use Rattle.map_text.specs.MapLaws.{accepted-written}
-use Rattle.report.specs.Printed.{refusalText, valueWord, counted, counts, ending, runText, blank, run, readingText, printed}
-use Rattle.report.specs.RunLaws.{run-starts, run-ends}
-use Rattle.report.specs.Endings.{EndsWith, ends-after, ends-once, EndsInDigit, digit-after, counted-ends, ds, ds-append, counted-ds, refusal-ds}
+use Rattle.report_spec.specs.Printed.{refusalText, valueWord, counted, counts, ending, runText, blank, run, readingText, printed}
+use Rattle.report_spec.specs.RunLaws.{run-starts, run-ends}
+use Rattle.report_spec.specs.Endings.{EndsWith, ends-after, ends-once, EndsInDigit, digit-after, counted-ends, ds, ds-append, counted-ds, refusal-ds}
 
 abbrev pub endComplete : List ℕ
 endComplete = bytes "end complete\n"

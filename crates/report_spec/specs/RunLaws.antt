@@ -25,7 +25,7 @@ use Rattle.laws.specs.ValidLaws.{found-fits, step-valid, units-valid}
 use Rattle.map_spec.specs.Form.{MapInRange}
 use Rattle.map_spec.specs.Reading.{accepted, readMap}
 use Rattle.map_text.specs.MapLaws.{accepted-written}
-use Rattle.report.specs.Printed.{blank, run, runText, readingText, printed}
+use Rattle.report_spec.specs.Printed.{blank, run, runText, readingText, printed}
 
 -- ---- how a walk ends
 

@@ -21,7 +21,7 @@ use Rattle.texts.specs.Decimals.{lastDigits, decimal, bytes}
 use Rattle.texts.specs.Reading.{andThen, moreDigits, readNatural, readNumber}
 use Rattle.map_spec.specs.Form.{line, lines}
 use Rattle.map_spec.specs.Reading.{readField, readLine, readRows, checked, acceptRows, readBody, readMap}
-use Rattle.report.specs.Printed.{blank, counted, refusalText, counts, ending, runText, run, readingText, printed}
+use Rattle.report_spec.specs.Printed.{blank, counted, refusalText, counts, ending, runText, run, readingText, printed}
 
 -- a text, and what is printed for it
 abbrev Case : Type 0
