@@ -6,8 +6,8 @@
 // What was read is written again, which must give the same bytes. After a refusal the tables must be as they were.
 use list_file::read::Read;
 use list_file::write::Write;
-use try_common::print;
-use try_common::up;
+use try_support::print;
+use try_support::up;
 
 // What stands in the tables before a call.
 const BEFORE: u32 = 77;

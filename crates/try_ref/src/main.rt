@@ -6,7 +6,7 @@ use calls::Record;
 use calls::Solutions;
 use calls::Steps;
 use reader::Which;
-use try_common::print;
+use try_support::print;
 
 mod lent; // lent.rt: each call with a record of its own
 
