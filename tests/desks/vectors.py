@@ -1,5 +1,5 @@
 #!/usr/bin/env python3
-"""Writes the calls that crates/try_desks replays: python3 tests/desks/vectors.py DIR puts stdin and stdout into DIR.
+"""Writes the calls that crates/try_vectors replays: python3 tests/desks/vectors.py DIR puts stdin and stdout into DIR.
 
 Whole runs with a pause after every step, full lists that a sweep frees and that it does not, 64 and 65 loops, each refusal on both sides of its edge,
 alone and by twos, and drawn calls with records and tables of any content."""

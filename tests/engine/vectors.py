@@ -1,5 +1,5 @@
 #!/usr/bin/env python3
-"""Writes the calls of the engine that crates/try_engine replays: python3 tests/engine/vectors.py DIR puts stdin and stdout into DIR. The calls are those that
+"""Writes the calls of the engine that crates/try_vectors replays: python3 tests/engine/vectors.py DIR puts stdin and stdout into DIR. The calls are those that
 model.py draws, in lines of another form."""
 import pathlib
 import sys

@@ -1,5 +1,5 @@
 """Document 02, job 14, as a model: the dispatcher on words. Written from the document and from what include/dezgula.h says of the words; a turn is the continuing
-call of calls.py on a copy of the run's parts. Run as a program it writes the vectors of crates/try_dispatch into a folder."""
+call of calls.py on a copy of the run's parts. Run as a program it writes the vectors of crates/try_vectors into a folder."""
 
 import sys
 from collections import Counter

@@ -1,4 +1,4 @@
-"""Run as a program it writes the vectors of crates/try_capped into a folder: the calls of plain and capped runs (capped.py), of runs from a lower bound
+"""Run as a program it writes the vectors of crates/try_vectors into a folder: the calls of plain and capped runs (capped.py), of runs from a lower bound
 (lower.py) and of the training seat (training.py), with limits of components, both lists and the greatest sum."""
 
 import sys

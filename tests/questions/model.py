@@ -1,6 +1,6 @@
 """Questions about a list, with the answers that documents 01 and 02 give, read anew here: some drawn, the others every tuple of small boxes. They are asked of
 document 02's calls, which take maps of up to 8 equations and 16 unknowns, and of the engine's, which take 32 of each. The first argument says how
-they are written: `words` as tests/questions/ask.c reads them, `lines` as crates/try_questions does, and `count` says how many there are. An answer is a number
+they are written: `words` as tests/questions/ask.c reads them, `lines` as crates/try_vectors does, and `count` says how many there are. An answer is a number
 and 256 times its place; where no amount is told, the number lent for it keeps the 9 that it held."""
 import itertools
 import random

@@ -18,14 +18,14 @@ use Rattle.list_spec.specs.Writing as writing
 use Rattle.list_spec.specs.Writing.{writeChecks, writeDecided, writeList}
 use Rattle.list_spec.specs.Reading.{blockChecks, streamChecks, fileChecks, readChecks, listIn, handedOut, readDecided, readFile, coefWords, rowWords}
 use Rattle.calls.specs.declared.Solutions.{Solutions}
-use Rattle.list_blocks.specs.Paper.{numberOf, valuesOf}
-use Rattle.list_blocks.specs.declared.FileRefusal.{FileRefusal}
-use Rattle.list_write.specs.Answer.{writeAnswer, writeOutcome}
-use Rattle.list_write.specs.declared.Write.{Write}
-use Rattle.list_write.specs.declared.Write.the-variants as write
-use Rattle.list_read.specs.Answer.{readAnswer, readOutcome}
-use Rattle.list_read.specs.declared.Read.{Read}
-use Rattle.list_read.specs.declared.Read.the-variants as read
+use Rattle.list_file.specs.Paper.{numberOf, valuesOf}
+use Rattle.list_file.specs.declared.words.FileRefusal.{FileRefusal}
+use Rattle.list_file.specs.WriteAnswer.{writeAnswer, writeOutcome}
+use Rattle.list_file.specs.declared.write.Write.{Write}
+use Rattle.list_file.specs.declared.write.Write.the-variants as write
+use Rattle.list_file.specs.ReadAnswer.{readAnswer, readOutcome}
+use Rattle.list_file.specs.declared.read.Read.{Read}
+use Rattle.list_file.specs.declared.read.Read.the-variants as read
 use Rattle.c_list.specs.Codes.{refusalCode, writeCode, readCode, writeTold, readTold}
 
 abbrev Small : Check → Type 0

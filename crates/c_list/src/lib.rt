@@ -3,12 +3,12 @@ ghost use mathlib.Core.Path.{_≡_};
 ghost use Prim.Native.Nat.{_^_, _<_};
 ghost use Rattle.list_spec.specs.Writing.{writeList};
 ghost use Rattle.list_spec.specs.Reading.{readFile};
-ghost use Rattle.list_blocks.specs.Paper.{numberOf, valuesOf};
-ghost use Rattle.list_write.specs.Answer.{listOf};
+ghost use Rattle.list_file.specs.Paper.{numberOf, valuesOf};
+ghost use Rattle.list_file.specs.WriteAnswer.{listOf};
 ghost use Rattle.c_list.specs.Codes.{refusalCode, writeTold, readTold};
-use list_blocks::FileRefusal;
-use list_read::Read;
-use list_write::Write;
+use list_file::read::Read;
+use list_file::words::FileRefusal;
+use list_file::write::Write;
 
 // Writes a list into `out`, which has the exact length.
 pub fn write_list(
@@ -21,7 +21,7 @@ pub fn write_list(
 ) -> u64
     ensures { λ a. ⌜ (a, now (out .exit)) ≡ writeTold (writeList (listOf p q (now (coefs .entry)) (now (rows .entry)) ending) (now (out .entry))) ⌝ }
 {
-    match list_write::write_list(p, q, coefs, rows, ending, out) {
+    match list_file::write::write_list(p, q, coefs, rows, ending, out) {
         Write::Whole => 106,
         Write::Refused(why) => refusal(why),
     }
@@ -32,7 +32,7 @@ pub fn read_list(file: &[u8], coefs: &mut [i32], list: &mut [u32], words: &mut [
     ensures { λ a. ⌜ (a, (now (coefs .exit), (now (list .exit), now (words .exit)))) ≡
         readTold (readFile (now (file .entry)) (now (coefs .entry)) (now (list .entry))) (now (words .entry)) ⌝ }
 {
-    match list_read::read_list(file, coefs, list) {
+    match list_file::read::read_list(file, coefs, list) {
         Read::Refused(why) => refusal(why),
         Read::List {
             p,
@@ -53,5 +53,5 @@ fn refusal(why: FileRefusal) -> u64
     requires { ⌜ refusalCode (numberOf why) (valuesOf why) < 2 ^ 64 ⌝ }
     ensures { λ a. ⌜ a ≡ refusalCode (numberOf why) (valuesOf why) ⌝ }
 {
-    list_blocks::number_of(why) + 256 * list_blocks::value_of(why) as u64
+    list_file::words::number_of(why) + 256 * list_file::words::value_of(why) as u64
 }

@@ -12,7 +12,7 @@ use Rattle.linear.specs.TestLaws.{and-parts}
 use Rattle.definitions.specs.Answers.{refuse, refuseWith, go}
 use Rattle.definitions.specs.Reader.{Which, readerCheck, rowOfEither, shown, shownAt, shownBy, tableAt, twoListsCheck}
 use Rattle.definitions.specs.Refusals.{between}
-use Rattle.walk_ref.specs.Reading.{capped-narrow, either-part, showPart, shown-is, shownPart}
+use Rattle.reader.specs.Reading.{capped-narrow, either-part, showPart, shown-is, shownPart}
 use Rattle.c_rows.specs.Rows.{copyTold, countAt, eitherTold, shownTold, rowTold, whichAt}
 
 -- ---- a part

@@ -4,19 +4,19 @@ ghost use mathlib.Core.List.{_++_};
 ghost use Prim.Native.Nat.{_≤_};
 ghost use lib.ListN.{length, drop};
 ghost use Rattle.definitions.specs.Refusals.{between};
-ghost use Rattle.walk_ref.specs.Reading.{whichOf};
+ghost use Rattle.reader.specs.Reading.{whichOf};
 ghost use Rattle.c_rows.specs.Rows.{rowTold, copyTold, eitherTold, whichAt, countAt};
 use calls::Solutions;
-use walk_ref::Readable;
-use walk_ref::Which;
+use reader::Readable;
+use reader::Which;
 
 // Whether the reader is refused, and then what it shows.
 pub fn tell(list: &[u32], q: usize, found: usize, n: usize, out: &mut [u32]) -> u64
     ensures { λ a. ⌜ (a, now (out .exit)) ≡ rowTold q (now (list .entry)) found n (now (out .entry)) ⌝ }
 {
-    match walk_ref::reader_answer(q) {
+    match reader::reader_answer(q) {
         Readable::Refused(why) => calls::number_of(why),
-        Readable::Yes => tell_part(walk_ref::row_of(list, q, Solutions(found), n), out),
+        Readable::Yes => tell_part(reader::row_of(list, q, Solutions(found), n), out),
     }
 }
 
@@ -35,7 +35,7 @@ pub fn tell_either<'a>(
     if has_two_lists(q) {
         let count = Solutions(count_at(at, found));
         return tell_part(
-            walk_ref::row_of_either(list, second, which_at(at), q, count, n),
+            reader::row_of_either(list, second, which_at(at), q, count, n),
             out,
         );
     }

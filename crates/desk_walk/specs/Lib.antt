@@ -1,3 +1,6 @@
 pub mod Taking
 pub mod Walking
 pub mod Turning
+pub mod Trying
+pub mod Pushing
+pub mod Listing

@@ -39,13 +39,13 @@ use Rattle.desk_spec.specs.Valid.{DeskShaped, DeskValid, children-few, free}
 use Rattle.desk_calls.specs.Calls.{deskOf, moved}
 use Rattle.desk_rows.specs.Images.{Factors, Images, SmallDesk, entry, map-value}
 use Rattle.desk_rows.specs.Rows.{SmallTuple, row-alike}
-use Rattle.desk_step.specs.Listing as listing
-use Rattle.desk_step.specs.Listing.{Enlisted, sweptCount, sweptList}
-use Rattle.desk_step.specs.Pushing.{Pushing, pushed}
-use Rattle.desk_step.specs.Trying.{Tries, Trying, large-tried, largeBy, made-tried, madeBy, triedBy}
-use Rattle.desk_step.specs.declared.Tried.the-variants.{Made, TooLarge}
-use Rattle.desk_step.specs.declared.Stepped.{Stepped}
-use Rattle.desk_step.specs.declared.Stepped.the-variants.{Grown, Listed, Refused}
+use Rattle.desk_walk.specs.Listing as listing
+use Rattle.desk_walk.specs.Listing.{Enlisted, sweptCount, sweptList}
+use Rattle.desk_walk.specs.Pushing.{Pushing, pushed}
+use Rattle.desk_walk.specs.Trying.{Tries, Trying, large-tried, largeBy, made-tried, madeBy, triedBy}
+use Rattle.desk_walk.specs.declared.step.Tried.the-variants.{Made, TooLarge}
+use Rattle.desk_walk.specs.declared.step.Stepped.{Stepped}
+use Rattle.desk_walk.specs.declared.step.Stepped.the-variants.{Grown, Listed, Refused}
 
 -- a state with other tables, counts and depth
 abbrev pub movedTo : State → List ℕ → List ℕ → ℕ → ℕ → ℕ → ℕ → State

@@ -24,8 +24,8 @@ use Rattle.desk_spec.specs.Valid.{DeskValid}
 use Rattle.desk_calls.specs.Calls.{deskOf}
 use Rattle.desk_rows.specs.Images.{ImageWritten, Images, imageAt}
 use Rattle.desk_rows.specs.Rows.{SmallTuple}
-use Rattle.desk_step.specs.declared.Stepped.{Stepped}
-use Rattle.desk_step.specs.declared.Stepped.the-variants.{Grown, Listed, Refused}
+use Rattle.desk_walk.specs.declared.step.Stepped.{Stepped}
+use Rattle.desk_walk.specs.declared.step.Stepped.the-variants.{Grown, Listed, Refused}
 use Rattle.desk_walk.specs.Taking.{Standing, Taken, stateAt}
 use Rattle.desk_walk.specs.Walking.{Walking, ends-refused, goes-on}
 

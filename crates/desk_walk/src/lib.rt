@@ -11,6 +11,8 @@ ghost use Rattle.calls.specs.Paper.{stateOf};
 ghost use Rattle.desk_calls.specs.Calls.{deskOf, outcomeOf};
 ghost use Rattle.desk_rows.specs.Images.{ImageWritten, SmallMap, imageAt};
 ghost use Rattle.desk_walk.specs.Taking.{Standing, Taken, stateAt};
+use crate::step::Stepped;
+use crate::step::Tried;
 use calls::Record;
 use calls::Refusal;
 use desk_calls::Answer;
@@ -18,8 +20,8 @@ use desk_calls::Outcome;
 use desk_rows::images;
 use desk_rows::marks;
 use desk_rows::rows;
-use desk_step::Stepped;
-use desk_step::Tried;
+
+pub mod step; // step.rt: one step
 
 // At most `budget` steps.
 pub fn walk(
@@ -158,14 +160,14 @@ fn take(
 {
     let level = height - 1;
     if images::vanishes(p, images, 64) {
-        return desk_step::enlist(list, found, q, top);
+        return step::enlist(list, found, q, top);
     }
     let base = level * (q + 2);
     let marks = marks::join(stack[base + q], stack[base + (q + 1)]);
-    match desk_step::children(p, q, generators, n, images, list, found, top, child, marks) {
+    match step::children(p, q, generators, n, images, list, found, top, child, marks) {
         Tried::TooLarge => Stepped::Refused(Refusal::ComponentLimit),
         Tried::Made(made) => {
-            Stepped::Grown(desk_step::push(q, generators, n, stack, level, top, child, marks, made))
+            Stepped::Grown(step::push(q, generators, n, stack, level, top, child, marks, made))
         }
     }
 }

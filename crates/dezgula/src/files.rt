@@ -2,7 +2,7 @@
 ghost use mathlib.Core.Path.{_≡_};
 ghost use Rattle.list_spec.specs.Writing.{writeList};
 ghost use Rattle.list_spec.specs.Reading.{readFile};
-ghost use Rattle.list_write.specs.Answer.{listOf};
+ghost use Rattle.list_file.specs.WriteAnswer.{listOf};
 ghost use Rattle.c_list.specs.Codes.{writeTold, readTold};
 
 // Writes a list into `out`, which has the exact length.

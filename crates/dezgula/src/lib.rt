@@ -8,7 +8,7 @@ ghost use Rattle.definitions.specs.Reasons.{reason};
 ghost use Rattle.desk_calls.specs.Calls.{deskOf};
 ghost use Rattle.c_desk.specs.Words.{deskResumeWords, deskStartWords};
 ghost use Rattle.c_dispatch.specs.Words.{dispatchWords};
-ghost use Rattle.lookups.specs.Answers.{locatedNumber};
+ghost use Rattle.reader.specs.Answers.{locatedNumber};
 ghost use Rattle.reasons.specs.Numbers.{reasonTold};
 ghost use Rattle.c_record.specs.Words.{told, startWords, resumeWords};
 ghost use Rattle.c_rows.specs.Rows.{rowTold};
@@ -144,7 +144,7 @@ pub extern "C" fn dezgula_raw_dispatch(
 pub extern "C" fn dezgula_raw_locate(list: &[u32], q: usize, found: usize, tuple: &[u32]) -> u64
     ensures { λ a. ⌜ a ≡ locatedNumber (locate q (now (list .entry)) found (now (tuple .entry))) ⌝ }
 {
-    lookups::locate_number(list, q, found, tuple)
+    reader::lookups::locate_number(list, q, found, tuple)
 }
 
 // Why a tuple is not in the list: the reason with its place. By how much an equation is off goes to `amount`.

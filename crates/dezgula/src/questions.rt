@@ -4,7 +4,7 @@ ghost use Rattle.definitions.specs.Highest.{locateWithin};
 ghost use Rattle.definitions.specs.Input.{inputOf};
 ghost use Rattle.definitions.specs.Reasons.{reasonWithin};
 ghost use Rattle.definitions.specs.Refusals.{largeSizes};
-ghost use Rattle.lookups.specs.Answers.{locatedNumber};
+ghost use Rattle.reader.specs.Answers.{locatedNumber};
 ghost use Rattle.reasons.specs.Numbers.{reasonTold};
 ghost use Rattle.multiples_spec.specs.Parts.{decomposedWithin};
 ghost use Rattle.multiples.specs.Answers.{partsTold};
@@ -19,7 +19,7 @@ pub extern "C" fn dezgula_raw_engine_locate(
 ) -> u64
     ensures { λ a. ⌜ a ≡ locatedNumber (locateWithin (largeSizes .unknowns) q (now (list .entry)) found (now (tuple .entry))) ⌝ }
 {
-    lookups::locate_large_number(list, q, found, tuple)
+    reader::lookups::locate_large_number(list, q, found, tuple)
 }
 
 // Why a tuple is not in the list: the reason with its place. By how much an equation is off goes to `amount`.

@@ -10,3 +10,5 @@ pub mod Answer
 pub mod EquationLaws
 pub mod SideLaws
 pub mod AnsweredLaws
+pub mod Phases
+pub mod ScanSteps

@@ -8,11 +8,11 @@ ghost use Rattle.equation_spec.specs.Reader.{readEquation};
 ghost use Rattle.equation_spec.specs.Outcome.{outcome, treeOutcome, list};
 ghost use Rattle.equation_read.specs.Answer.{answerOf, answered, totalsOutcome, Ranged};
 use crate::bytes::skip;
+use crate::scan::place;
 use crate::sums::After;
 use crate::sums::read_sum;
 use crate::totals::either;
 use crate::totals::is_steep;
-use equation_scan::place;
 
 // Why a text is refused; specs/Answer.antt has the papers' number for each.
 pub enum EquationRefusal {

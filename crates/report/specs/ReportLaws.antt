@@ -16,7 +16,7 @@ use Rattle.map_text.specs.MapLaws.{accepted-written}
 use Rattle.map_text.specs.declared.Read.{Read}
 use Rattle.map_text.specs.declared.Read.the-variants.{Map, Refused}
 use Rattle.map_text.specs.declared.TextRefusal.{TextRefusal}
-use Rattle.report.specs.Printed.{refusalText, runText, run, readingText, printed}
+use Rattle.report_spec.specs.Printed.{refusalText, runText, run, readingText, printed}
 
 -- a text at the beginning of a buffer
 pub put-first : {before text after : List ℕ} {next : ℕ} → Put before 0 text after next

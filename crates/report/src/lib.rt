@@ -6,7 +6,7 @@ ghost use lib.ListN.{length, take, drop};
 ghost use Rattle.map_text.specs.Answer as reading;
 ghost use Rattle.definitions.specs.Input.{inputOf};
 ghost use Rattle.calls.specs.Paper.{answerOf, numberOf, outcomeOf};
-ghost use Rattle.report.specs.Printed as paper;
+ghost use Rattle.report_spec.specs.Printed as paper;
 ghost use Rattle.texts.specs.Put.{Put};
 use calls::Answer;
 use calls::Outcome;

@@ -6,7 +6,7 @@ ghost use lib.ListN.{length};
 ghost use Rattle.texts.specs.Decimals.{bytes, decimal};
 ghost use Rattle.texts.specs.Put.{Put};
 ghost use Rattle.map_spec.specs.Form.{line, lines};
-ghost use Rattle.report.specs.Printed as paper;
+ghost use Rattle.report_spec.specs.Printed as paper;
 ghost use Rattle.report.specs.Rows.{fieldText};
 use texts::put;
 use texts::separator_after;

@@ -3,3 +3,7 @@ pub mod StateLaws
 pub mod Listing
 pub mod Taken
 pub mod TakeLaws
+pub mod RowLaws
+pub mod GrowLaws
+pub mod Totals
+pub mod Pushed

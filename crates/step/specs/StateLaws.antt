@@ -20,7 +20,7 @@ use Rattle.laws.specs.StepLaws.{firstOpen, makes-parts, secondOpen}
 use Rattle.calls.specs.Paper.{systemWith}
 use Rattle.candidates.specs.Grow.{childFor}
 use Rattle.candidates.specs.GrowLaws.{child-same}
-use Rattle.children.specs.GrowLaws.{grow-same}
+use Rattle.step.specs.GrowLaws.{grow-same}
 
 module _ (k : Kind) (p q : ℕ) (coefs : List ℤ) (limit : ℕ) (s : State) where
   abbrev m : System

@@ -35,7 +35,7 @@ use Rattle.candidates.specs.Kinds.{asked, beside}
 use Rattle.step.specs.Solved.{product-towards, vanish-solves}
 use Rattle.step.specs.StateLaws.{child-makes, count-by, grown-by, too-large-by}
 use Rattle.products.specs.Totals.{Totals, totals-less}
-use Rattle.children.specs.Pushed.{Parent, none-pushed}
+use Rattle.step.specs.Pushed.{Parent, none-pushed}
 use Rattle.step.specs.Listing.{Enlisted, listAnswer, listsAfter}
 use Rattle.step.specs.Taken.{Standing, Steps, Taken, heightBy, step-full, step-grown, step-large, step-listed, step-listed₂}
 

@@ -11,6 +11,8 @@ use calls::Refusal;
 use candidates::Tried;
 use candidates::Walk;
 
+pub mod children; // children.rt: the children of the row taken off
+
 // What a step came to: a solution listed in the first or the second list, children written up to a height, or a refusal.
 pub enum Stepped {
     Listed,

@@ -1,6 +1,6 @@
 // The minimal solutions of a box, found by trying its tuples one by one.
 use crate::sums;
-use try_common::tables;
+use try_support::tables;
 
 // How many numbers a component of the box may be: 0 to 6.
 const SIDE: u32 = 7;

@@ -1,8 +1,8 @@
 // A list held against the minimal solutions of a box.
 use crate::boxes;
 use crate::sums;
-use try_common::tables;
-use try_common::up;
+use try_support::tables;
+use try_support::up;
 
 // How many of the first `found` rows lie in the box.
 pub fn rows_inside(list: &[u32], found: usize, q: usize) -> u64 {

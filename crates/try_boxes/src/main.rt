@@ -5,9 +5,9 @@ use calls::Outcome;
 use calls::Record;
 use calls::Solutions;
 use calls::Steps;
-use try_common::print;
-use try_common::tables;
-use try_common::up;
+use try_support::print;
+use try_support::tables;
+use try_support::up;
 
 mod boxes; // boxes.rt: the minimal solutions of a box
 mod compare; // compare.rt: a list held against a box

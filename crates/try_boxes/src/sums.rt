@@ -1,5 +1,5 @@
 // Images of tuples, each a sum made anew.
-use try_common::tables;
+use try_support::tables;
 
 // The coefficient at i, and 0 past the end.
 pub fn coefficient(coefs: &[i32], i: usize) -> i64 {

@@ -6,8 +6,8 @@ use equation_read::equation::EquationRefusal;
 use equation_read::equation::read_equation;
 use equation_write::EquationWritten;
 use equation_write::write_equation;
-use try_common::print;
-use try_common::up;
+use try_support::print;
+use try_support::up;
 
 fn main() {
     let mut input = io::large_buffer();

@@ -4,10 +4,10 @@
 //   r N     the first N bytes are read
 //   v N     each bit of the first N bytes is turned in turn, and they are read
 // What was read is written again, which must give the same bytes. After a refusal the tables must be as they were.
-use list_read::Read;
-use list_write::Write;
-use try_common::print;
-use try_common::up;
+use list_file::read::Read;
+use list_file::write::Write;
+use try_support::print;
+use try_support::up;
 
 // What stands in the tables before a call.
 const BEFORE: u32 = 77;
@@ -164,13 +164,13 @@ fn set(file: &mut [u8], i: usize, v: usize) {
 fn show(file: &[u8], n: usize, rooms: Rooms) {
     let mut coefs = [77i32; 128];
     let mut list = [BEFORE; 2048];
-    match list_read::read_list(
+    match list_file::read::read_list(
         part(file, n),
         coefs_part(&mut coefs, rooms.coefs),
         list_part(&mut list, rooms.list),
     ) {
         Read::Refused(why) => {
-            print::line(b"refused", list_blocks::number_of(why));
+            print::line(b"refused", list_file::words::number_of(why));
             expect(coefs[0] == 77, b"a coefficient was written\n");
             expect(list[0] == BEFORE, b"a row was written\n");
         }
@@ -199,7 +199,7 @@ fn again(file: &[u8], p: usize, q: usize, coefs: &[i32], list: &[u32], rows: usi
     let n = file.len();
     let given = coefs_first(coefs, times(p, q));
     let listed = list_first(list, times(rows, q));
-    match list_write::write_list(p, q, given, listed, ending, space_part(&mut space, n)) {
+    match list_file::write::write_list(p, q, given, listed, ending, space_part(&mut space, n)) {
         Write::Whole => expect(
             check::same(part(&space, n), file),
             b"another file is written\n",
@@ -246,12 +246,12 @@ fn turned(file: &mut [u8; 8192], n: usize, rooms: Rooms) {
 fn answer(file: &[u8], rooms: Rooms) -> u64 {
     let mut coefs = [77i32; 128];
     let mut list = [BEFORE; 2048];
-    match list_read::read_list(
+    match list_file::read::read_list(
         file,
         coefs_part(&mut coefs, rooms.coefs),
         list_part(&mut list, rooms.list),
     ) {
-        Read::Refused(why) => list_blocks::number_of(why),
+        Read::Refused(why) => list_file::words::number_of(why),
         Read::List { .. } => 0,
     }
 }

@@ -5,11 +5,11 @@ ghost use Rattle.definitions.specs.Calls.{start, startFrom, resume, resumeFrom}
 ghost use Rattle.definitions.specs.System.{mostComponent};
 ghost use Rattle.definitions.specs.Input.{alone, inputOf, inputWith, rights as sides};
 ghost use Rattle.calls.specs.Paper.{stateOf, stateWith, outcomeOf, outcomeWith};
-ghost use Rattle.walk_ref.specs.Reading.{shownPart};
+ghost use Rattle.reader.specs.Reading.{shownPart};
 use calls::Outcome;
 use calls::Record;
 use calls::Solutions;
-use walk_ref::Reader;
+use reader::Reader;
 
 pub fn started(
     p: usize,
@@ -64,7 +64,7 @@ pub fn started_from(
         startFrom (now (lower .entry)) (inputOf p q (now (coefs .entry))) (stateWith (now (stack .entry)) (now (list .entry)) (now (second .entry)) r) ⌝ }
 {
     let mut run = r;
-    let answer = lower_ref::start_from(p, q, coefs, lower, stack, list, second, &mut run);
+    let answer = walk_ref::lower::start_from(p, q, coefs, lower, stack, list, second, &mut run);
     Outcome { answer, run }
 }
 
@@ -133,7 +133,17 @@ pub fn resumed_from(
         (stateWith (now (stack .entry)) (now (list .entry)) (now (second .entry)) r) ⌝ }
 {
     let mut run = r;
-    let answer = lower_ref::resume_from(p, q, coefs, lower, stack, list, second, &mut run, budget);
+    let answer = walk_ref::lower::resume_from(
+        p,
+        q,
+        coefs,
+        lower,
+        stack,
+        list,
+        second,
+        &mut run,
+        budget,
+    );
     Outcome { answer, run }
 }
 

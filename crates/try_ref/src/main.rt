@@ -5,8 +5,8 @@ use calls::Outcome;
 use calls::Record;
 use calls::Solutions;
 use calls::Steps;
-use try_common::print;
-use walk_ref::Which;
+use reader::Which;
+use try_support::print;
 
 mod lent; // lent.rt: each call with a record of its own
 
@@ -157,7 +157,7 @@ fn by_value() {
         calls::COMPONENT_LIMIT,
     );
     let r = o.run;
-    let row = walk_ref::row_of(&list, 4, r.found, 1);
+    let row = reader::row_of(&list, 4, r.found, 1);
     print::text(b"by value:");
     print::rows(row, 4);
     print::text(b"\n");
@@ -192,9 +192,9 @@ fn show(list: &[u32], q: usize, found: Solutions, n: usize) {
 
 // Prints the first row of the list at 0, and of the list at 1.
 fn show_both<'a>(list: &'a [u32], second: &'a [u32], q: usize, r: Record) {
-    let zero = walk_ref::row_of_either(list, second, Which::Zero, q, r.found, 1);
+    let zero = reader::row_of_either(list, second, Which::Zero, q, r.found, 1);
     shown(zero, q, 1);
-    let one = walk_ref::row_of_either(list, second, Which::One, q, r.second, 1);
+    let one = reader::row_of_either(list, second, Which::One, q, r.second, 1);
     shown(one, q, 1);
 }
 

@@ -5,8 +5,8 @@ use calls::Outcome;
 use calls::Record;
 use calls::Solutions;
 use calls::Steps;
-use try_common::print;
-use try_common::tables;
+use try_support::print;
+use try_support::tables;
 
 // A budget and a number of list entries that no run here uses up.
 const ALL: u64 = 18446744073709551615;

@@ -1,7 +1,7 @@
 // The text that an escaped line stands for. `\n`, `\r`, `\t`, `\0` and `\\` stand for a byte, and so does `\x` with two hexadecimal digits; `{3*0 }`
 // stands for `0 ` three times, and holds no other braces; each other byte stands for itself.
 use crate::slices;
-use try_common::tables;
+use try_support::tables;
 
 // What the next byte of the line is.
 enum Next {

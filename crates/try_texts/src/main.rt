@@ -1,8 +1,8 @@
 // Texts run through `report`. Each line of the input is a heading, which begins with `#`, or a text in an escaped form; what is printed for a text
 // is shown below it. At the end come the number of texts, of their bytes and of the bytes printed, the sum of the texts' bytes, which tells that
 // the escapes were read as they are meant, and the number of texts for which the space past the report kept what stood there.
-use try_common::print;
-use try_common::up;
+use try_support::print;
+use try_support::up;
 
 mod escaped; // escaped.rt: the text that an escaped line stands for
 mod slices; // slices.rt: bytes read and written within their slice

@@ -1,17 +1,23 @@
-// Replays calls that a model outside Rattle wrote down (tests/model), one a line, each with what must come of it; counts those that do; and names the
-// first lines that do not. The text begins with what its words mean.
-use try_lines::line;
-use try_lines::line::Line;
-use try_lines::line::Word;
-use try_lines::tally;
-use try_lines::tally::Tally;
+// Replays calls that models outside Rattle wrote down, one a line, each with what must come of it; counts those that do; and names the first lines that do not.
+// The text has a section for each family of calls: it begins with a line of the sign @ and the number of the family, and then says what its words mean.
+use try_support::line;
+use try_support::line::Line;
+use try_support::line::Word;
+use try_support::tally;
+use try_support::tally::Tally;
 
-mod replay; // replay.rt: the kinds of call
+mod capped; // capped.rt: plain and capped runs, runs from a lower bound and the training seat (tests/model/runs.py)
+mod desks; // desks.rt: the second of two groups of equations (tests/desks/vectors.py)
+mod dispatch; // dispatch.rt: several runs in turns (tests/model/dispatch.py)
+mod engine; // engine.rt: the engine (tests/engine/vectors.py)
+mod questions; // questions.rt: questions about lists (tests/questions/model.py)
+mod walk; // walk.rt: document 01's calls and single-file maps (tests/model)
 
-// What was read so far of the line and the word under way, and what the lines before came to.
+// What was read so far of the line and the word under way; the family of the section; and what its lines before came to.
 struct State {
     line: Line,
     word: Word,
+    family: u64,
     tally: Tally,
 }
 
@@ -19,25 +25,16 @@ fn main() {
     let mut s = State {
         line: line::empty(),
         word: line::no_word(),
+        family: 0,
         tally: tally::none(),
     };
-    let mut pieces: u64 = 64;
+    let mut pieces: u64 = 128;
     while 0 < pieces {
         s = piece(s);
         pieces -= 1;
     }
     let t = s.tally;
-    report(t);
-}
-
-fn report(t: Tally) {
-    tally::report_kind(b"start", t, b's');
-    tally::report_kind(b"resume", t, b'r');
-    tally::report_kind(b"view", t, b'v');
-    tally::report_kind(b"begin", t, b'b');
-    tally::report_kind(b"go", t, b'g');
-    tally::report_kind(b"order", t, b'o');
-    tally::report(b"calls", t);
+    report(s.family, t);
 }
 
 // The next 65,536 bytes of the text, or what is left of it.
@@ -50,6 +47,7 @@ fn piece(s: State) -> State {
 fn read(s: State, text: &[u8]) -> State {
     let mut line = s.line;
     let mut word = s.word;
+    let mut family = s.family;
     let mut tally = s.tally;
     let mut i = 0;
     while i < text.len() {
@@ -64,17 +62,68 @@ fn read(s: State, text: &[u8]) -> State {
         if b == b' ' {
             continue;
         }
-        tally = counted(tally::with_line(tally), line);
+        tally = counted(family, tally, line);
+        family = section(family, line);
         line = line::empty();
     }
-    State { line, word, tally }
+    State {
+        line,
+        word,
+        family,
+        tally,
+    }
 }
 
-// The call of a line, which an empty one and a comment do not have.
-fn counted(t: Tally, l: Line) -> Tally {
-    let kind = l.kind;
-    if kind == 0 || kind == b'#' {
-        return t;
+// The family after a line: another where the line begins a section.
+fn section(family: u64, l: Line) -> u64 {
+    let x = l.operands;
+    if l.kind == b'@' {
+        return x[0];
     }
-    tally::with_call(t, kind, replay::agrees(l))
+    family
+}
+
+// What is counted after a line. One that begins a section has no call, and what was counted in the section before is reported.
+fn counted(family: u64, t: Tally, l: Line) -> Tally {
+    let kind = l.kind;
+    if kind == b'@' {
+        report(family, t);
+        return tally::none();
+    }
+    let u = tally::with_line(t);
+    if kind == 0 || kind == b'#' {
+        return u;
+    }
+    tally::with_call(u, kind, agrees(family, l))
+}
+
+// Whether the call of a line comes to what the line says.
+fn agrees(family: u64, l: Line) -> bool {
+    match family {
+        1 => walk::agrees(l),
+        2 => capped::agrees(l),
+        3 => desks::agrees(l),
+        4 => dispatch::agrees(l),
+        5 => engine::agrees(l),
+        6 => questions::agrees(l),
+        _ => false,
+    }
+}
+
+// The name of the family, and what the lines of its section came to.
+fn report(family: u64, t: Tally) {
+    match family {
+        1 => walk::report(t),
+        2 => capped::report(t),
+        3 => named(b"desks\n", t),
+        4 => named(b"dispatch\n", t),
+        5 => named(b"engine\n", t),
+        6 => questions::report(t),
+        _ => {}
+    }
+}
+
+fn named(family: &[u8], t: Tally) {
+    io::write_all(1, family);
+    tally::report(b"calls", t);
 }

@@ -2,7 +2,7 @@
 use denote.Ref.{now}
 use borrow.Author.Needs.{needs}
 use Rattle.list_spec.specs.Form.{ListFile}
-use Rattle.list_write.specs.Answer.{listOf}
+use Rattle.list_file.specs.WriteAnswer.{listOf}
 use Rattle.c_list.specs.CodeLaws.{write-refusal-fits, write-refused-told, write-whole-told}
 use Rattle.c_list.proofs.write_list.Statement.{statement}
 use Rattle.c_list.proofs.write_list.Tie as tie

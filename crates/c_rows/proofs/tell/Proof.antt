@@ -1,7 +1,7 @@
 -- `tell` meets its contract. Assumes nothing.
 use mathlib.Core.Path.{_∙_, ap, sym}
 use borrow.Author.Needs.{needs}
-use Rattle.walk_ref.specs.Reading.{readableOf}
+use Rattle.reader.specs.Reading.{readableOf}
 use Rattle.c_rows.specs.RowLaws.{told-refused, told-shown}
 use Rattle.c_rows.proofs.tell.Statement.{statement}
 use Rattle.c_rows.proofs.tell.Tie as tie

@@ -1,6 +1,6 @@
 -- `ending` meets its contract. Assumes nothing.
 use borrow.Author.Needs.{needs}
-use Rattle.report.specs.Printed as paper
+use Rattle.report_spec.specs.Printed as paper
 use Rattle.texts.specs.Put.{put-none}
 use Rattle.report.proofs.ending.Statement.{statement}
 use Rattle.report.proofs.ending.Tie as tie

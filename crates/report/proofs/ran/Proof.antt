@@ -1,6 +1,6 @@
 -- `ran` meets its contract. Assumes nothing.
 use borrow.Author.Needs.{needs}
-use Rattle.report.specs.Printed as paper
+use Rattle.report_spec.specs.Printed as paper
 use Rattle.texts.specs.Put.{put-then}
 use Rattle.report.proofs.ran.Statement.{statement}
 use Rattle.report.proofs.ran.Tie as tie

@@ -1,6 +1,6 @@
 -- `refused` meets its contract. Assumes nothing.
 use borrow.Author.Needs.{needs}
-use Rattle.report.specs.Printed as paper
+use Rattle.report_spec.specs.Printed as paper
 use Rattle.report.proofs.refused.Statement.{statement}
 use Rattle.report.proofs.refused.Tie as tie
 

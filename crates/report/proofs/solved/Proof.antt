@@ -1,8 +1,8 @@
 -- `solved` meets its contract. Assumes nothing.
 use Rattle.definitions.specs.System.{mostComponent}
 use borrow.Author.Needs.{needs}
-use Rattle.report.specs.Printed as paper
-use Rattle.report.specs.RunLaws.{ran-is, ran-fits}
+use Rattle.report_spec.specs.Printed as paper
+use Rattle.report_spec.specs.RunLaws.{ran-is, ran-fits}
 use Rattle.report.proofs.solved.Statement.{statement}
 use Rattle.report.proofs.solved.Tie as tie
 

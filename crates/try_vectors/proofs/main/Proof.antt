@@ -5,7 +5,7 @@ use Rattle.try_vectors.proofs.main.Statement.{statement}
 use Rattle.try_vectors.proofs.main.Tie as tie
 
 abbrev Inv-loop : tie.InvT-loop
-Inv-loop s₀ pieces₀ s pieces = pieces ≤ 64
+Inv-loop s₀ pieces₀ s pieces = pieces ≤ 128
 
 abbrev μ-loop : tie.MeasureT-loop
 μ-loop s₀ pieces₀ s pieces = pieces

@@ -6,10 +6,10 @@ use Rattle.try_vectors.proofs.read.Statement.{statement}
 use Rattle.try_vectors.proofs.read.Tie as tie
 
 abbrev Inv-loop : tie.InvT-loop
-Inv-loop text line₀ word₀ tally₀ i₀ line word tally i = i ≤ length text
+Inv-loop text line₀ word₀ family₀ tally₀ i₀ line word family tally i = i ≤ length text
 
 abbrev μ-loop : tie.MeasureT-loop
-μ-loop text line₀ word₀ tally₀ i₀ line word tally i = length text - i
+μ-loop text line₀ word₀ family₀ tally₀ i₀ line word family tally i = length text - i
 
 pub read-spec : {M : Type 1} → statement M
 read-spec =

@@ -13,7 +13,7 @@ use Rattle.definitions.specs.Tables.{State}
 use Rattle.laws.specs.RefusalLaws.{Handed, Valid, resume-handed, resume-valid}
 use Rattle.calls.specs.CallLaws.{call-refused, call-passed, passes}
 use Rattle.calls.specs.Paper.{stateWith}
-use Rattle.extended.specs.ExtendLaws.{Sided, extended-system, handed-sided, table-fits}
+use Rattle.walk.specs.ExtendLaws.{Sided, extended-system, handed-sided, table-fits}
 use Rattle.walk.proofs.resumed_capped.Statement.{statement}
 use Rattle.walk.proofs.resumed_capped.Tie as tie
 

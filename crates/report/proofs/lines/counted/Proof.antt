@@ -1,7 +1,7 @@
 -- `lines::counted` meets its contract. A number of 64 bits has at most 20 digits. Assumes nothing.
 use native.Mathlib.Omega.{arith}
 use borrow.Author.Needs.{needs}
-use Rattle.report.specs.Printed as paper
+use Rattle.report_spec.specs.Printed as paper
 use Rattle.texts.specs.Put.{put-then}
 use Rattle.texts.specs.DecimalLaws.{digits-64}
 use Rattle.report.proofs.lines.counted.Statement.{statement}

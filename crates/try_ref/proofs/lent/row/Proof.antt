@@ -23,19 +23,19 @@ use denote.Triple.Statement.{Contract}
 use denote.Triple.Table.{cited}
 use Rattle.calls.proofs.Solutions as S
 use Rattle.calls.proofs.Solutions.Laws as S′
-use Rattle.walk_ref.specs.declared.Reader.{Reader}
-use Rattle.walk_ref.proofs.Reader as T
-use Rattle.walk_ref.proofs.Reader.Laws as T′
+use Rattle.reader.specs.declared.Reader.{Reader}
+use Rattle.reader.proofs.Reader as T
+use Rattle.reader.proofs.Reader.Laws as T′
 use Rattle.walk_ref.proofs.Frame.{here, ends}
 use Rattle.walk_ref.proofs.Walk.{Met, proved, hands, returned, silent, number, shared-slice, struct}
-use Rattle.walk_ref.proofs.Reader.new as new
-use Rattle.walk_ref.proofs.Reader.new.Symbol as new-def
-use Rattle.walk_ref.proofs.Reader.new.Symbol.{name as #walk-ref·new}
-use Rattle.walk_ref.proofs.Reader.new.Met as new-thm
-use Rattle.walk_ref.proofs.Reader.row as shown
-use Rattle.walk_ref.proofs.Reader.row.Symbol as shown-def
-use Rattle.walk_ref.proofs.Reader.row.Symbol.{name as #walk-ref·row}
-use Rattle.walk_ref.proofs.Reader.row.Met as shown-thm
+use Rattle.reader.proofs.Reader.new as new
+use Rattle.reader.proofs.Reader.new.Symbol as new-def
+use Rattle.reader.proofs.Reader.new.Symbol.{name as #walk-ref·new}
+use Rattle.reader.proofs.Reader.new.Met as new-thm
+use Rattle.reader.proofs.Reader.row as shown
+use Rattle.reader.proofs.Reader.row.Symbol as shown-def
+use Rattle.reader.proofs.Reader.row.Symbol.{name as #walk-ref·row}
+use Rattle.reader.proofs.Reader.row.Met as shown-thm
 use Rattle.try_ref.proofs.lent.row.Key.{name as #try_walk-ref·row}
 use Rattle.try_ref.proofs.lent.row as row
 use Rattle.try_ref.proofs.lent.row.Statement as stated
@@ -59,7 +59,7 @@ row-spec 𝓤 H 𝓜 𝓖 𝓡 =
     -- [what list and q own; what the others own; the tokens; the locals]
     move ! (1 ∷ []) $ fsplit ! $ move ! (1 ∷ []) $ fsplit ! $ nothing ! $ move ! (1 ∷ 0 ∷ []) $ fjoin ! $ move ! (2 ∷ 0 ∷ []) $ fjoin ! $
     move ! (2 ∷ 0 ∷ []) $ hands ! $
-    calls-at ! fm makes (cited 𝓤 H makes 𝓜 𝓡 code.env #walk-ref·new new-def.routine code.calls-walk-ref·Reader·new (new-thm.met 𝓤 H 𝓜 𝓖 𝓡)) y
+    calls-at ! fm makes (cited 𝓤 H makes 𝓜 𝓡 code.env #walk-ref·new new-def.routine code.calls-reader·Reader·new (new-thm.met 𝓤 H 𝓜 𝓖 𝓡)) y
     -- [what the call is handed; what the others own; the locals]
     (and-then ! (here ! 3 refl) (and-then ! (here ! 4 refl) (no-more !))) (λ w.
     returned ! tt new.ended c y w (λ v ws. peeks ! (T.the-row α) (Is (T.the-row α)) (shows 𝓤 H (𝓖 .A) (T.the-row α)) v (w ∷ []) (λ is.
@@ -72,7 +72,7 @@ row-spec 𝓤 H 𝓜 𝓖 𝓡 =
     -- [what the reader owns; the tokens; what is said of last values; what the others own; the locals]
     move ! (2 ∷ []) $ drop ! $ move ! (0 ∷ 2 ∷ []) $ fjoin ! $ move ! (1 ∷ 0 ∷ []) $ hands ! $
     let z : shows-row .Ghost = ((κs, qs, tt, (h, a .1 .1), (w ∷ [], (S′.lowered (a .1 .1 .0) ∷ [], (uint-vals w64 (a .1 .1 .1 .0), tt)))), tt) in
-    calls-at ! fm shows-row (cited 𝓤 H shows-row 𝓜 𝓡 code.env #walk-ref·row shown-def.routine code.calls-walk-ref·Reader·row (shown-thm.met 𝓤 H 𝓜 𝓖 𝓡)) z
+    calls-at ! fm shows-row (cited 𝓤 H shows-row 𝓜 𝓡 code.env #walk-ref·row shown-def.routine code.calls-reader·Reader·row (shown-thm.met 𝓤 H 𝓜 𝓖 𝓡)) z
     -- [what the call is handed; the locals]
     (and-then ! (here ! 7 refl) (and-then ! (here ! 4 refl) (and-then ! (here ! 5 refl) (no-more !)))) (λ w₂.
     returned ! tt shown.ended d z w₂ (λ p us. peeks ! Part (Is Part) (shows 𝓤 H (𝓖 .A) Part) p (w₂ ∷ []) (λ is-p.

@@ -1,6 +1,6 @@
 -- `lent::started_from` meets its contract: a walk of its MIR, by hand. The record is copied into a local, which is lent to the call
 -- for a lifetime (`Loan`).
--- All that the proof knows of `lower_ref::start_from` is that it meets its contract. Assumes nothing.
+-- All that the proof knows of `walk_ref::lower::start_from` is that it meets its contract. Assumes nothing.
 use Prim.Native.Nat.{ℕ}
 use mathlib.Core.List.{List, [], _∷_}
 use mathlib.Core.Path.{refl}
@@ -25,10 +25,10 @@ use Rattle.calls.proofs.Record.Laws as Rec′
 use Rattle.walk_ref.proofs.Frame.{here, ends}
 use Rattle.walk_ref.proofs.Walk.{Met, proved}
 use Rattle.walk_ref.proofs.Behind.{with₂, shared₂, lends}
-use Rattle.lower_ref.proofs.start_from as start-from
-use Rattle.lower_ref.proofs.start_from.Symbol as start-from-def
-use Rattle.lower_ref.proofs.start_from.Symbol.{name as #lower-ref·start-from}
-use Rattle.lower_ref.proofs.start_from.Met as start-from-thm
+use Rattle.walk_ref.proofs.lower.start_from as start-from
+use Rattle.walk_ref.proofs.lower.start_from.Symbol as start-from-def
+use Rattle.walk_ref.proofs.lower.start_from.Symbol.{name as #walk-ref·lower·start-from}
+use Rattle.walk_ref.proofs.lower.start_from.Met as start-from-thm
 use Rattle.try_ref.proofs.Loan.{values, more₂, owned₂, lentAt, loans, gives-back}
 use Rattle.try_ref.proofs.lent.started_from.Key.{name as #try_walk-ref·started-from}
 use Rattle.try_ref.proofs.lent.started_from as started-from
@@ -58,7 +58,7 @@ started-from-spec 𝓤 H 𝓜 𝓖 𝓡 =
     let x : Denots Rs = with₂ a (lentAt b δ r) in
     let y : callee .Ghost = ((κs′, more₂ qs fullShare, tt, x, values Rs (shared₂ u32 κs′ [] tt) x), tt) in
     calls-at ! fm callee
-    (cited 𝓤 H callee 𝓜 𝓡 code.env #lower-ref·start-from start-from-def.routine code.calls-lower-ref·start-from (start-from-thm.met 𝓤 H 𝓜 𝓖 𝓡)) y
+    (cited 𝓤 H callee 𝓜 𝓡 code.env #walk-ref·lower·start-from start-from-def.routine code.calls-walk-ref·lower·start-from (start-from-thm.met 𝓤 H 𝓜 𝓖 𝓡)) y
     -- [what the call is handed; the lender's part; locals 0 to 8; locals 10 on]
     (and-then ! (here ! 3 refl) (and-then ! (here ! 4 refl) (and-then ! (here ! 5 refl) (and-then ! (here ! 6 refl) (and-then ! (here ! 13 refl)
     (and-then ! (here ! 15 refl) (and-then ! (here ! 17 refl) (and-then ! (here ! 18 refl) (no-more !))))))))) (λ w.

@@ -1,4 +1,0 @@
-pub mod RowLaws
-pub mod GrowLaws
-pub mod Totals
-pub mod Pushed

@@ -1,0 +1,12 @@
+pub mod Paper
+pub mod WordCheckLaws
+pub mod StoreLaws
+pub mod SignLaws
+pub mod RangeLaws
+pub mod WriteAnswer
+pub mod WriteCheckLaws
+pub mod BlockLaws
+pub mod WriteCallLaws
+pub mod ReadAnswer
+pub mod ReadLaws
+pub mod ReadCallLaws

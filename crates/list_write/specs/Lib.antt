@@ -1,4 +1,0 @@
-pub mod Answer
-pub mod CheckLaws
-pub mod BlockLaws
-pub mod CallLaws

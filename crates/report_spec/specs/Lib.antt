@@ -1,0 +1,5 @@
+pub mod Printed
+pub mod Examples
+pub mod RunLaws
+pub mod Endings
+pub mod Complete

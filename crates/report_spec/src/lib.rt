@@ -1,0 +1,1 @@
+// What the program prints, and what a printed "end complete" means, is in specs/.

@@ -1,0 +1,2 @@
+pub mod ExtendLaws
+pub mod Lower
