@@ -10,7 +10,7 @@ use native.Mathlib.Omega.{arith}
 use lib.ListN.{getD}
 use Rattle.definitions.specs.Calls.{changed, machine, machineFrom, resume, resumeFrom, settleFrom, stepFrom}
 use Rattle.definitions.specs.Input.{Input, aboveSystem, mapOf, systemOf}
-use Rattle.definitions.specs.Machine.{after}
+use Rattle.definitions.specs.Machine.{Machine, after, call, callSteps}
 use Rattle.definitions.specs.Step.{enlistIn, grown, level, listed, pick, rowOf, step, toSecond, top, width}
 use Rattle.definitions.specs.System.{System, solves}
 use Rattle.definitions.specs.Tables.{Run, State, at, byWalk, cappedRun, deskByDesk, lowerAbove, lowerPlain, lowered, plainPart, plainRun, wholeOf}
@@ -134,6 +134,18 @@ step-high m s = go (solves m (top m s))
 -- of each step of a continuing call
 pub rows-below : (i : Input) (n : ℕ) (s : State) → let t = after n (machine i) s in RowsBelow (systemOf i .q) (level t) t (after (n + 1) (machine i) s)
 rows-below i n s = rw (next i n s) (step-below (systemOf i) (after n (machine i) s))
+
+-- ---- of runs whose lists only grow
+
+-- Of a machine on tables with rows of q unknowns, listed in rows of w numbers.
+pub record RowsKept (k : Machine State) (q w : ℕ) : Type 0 where
+  -- "Table rows above the height keep what they last held.": in each step, every entry of the stack table from there on
+  pub above-kept : (budget : ℕ) (s : State) (n : ℕ) → n < callSteps budget k s → (e : ℕ) → after (n + 1) k s .run .height * (q + 1) ≤ e
+      → getD (after (n + 1) k s .stack) e 0 ≡ getD (after n k s .stack) e 0
+  -- the rows listed before a call stay as they are, and in each step those and the stack rows below the one taken off
+  pub rows-stay : (budget : ℕ) (s : State) → RowsStay w s (call budget k s .state)
+  pub rows-each : (n : ℕ) (s : State) → RowsStay w (after n k s) (after (n + 1) k s)
+  pub rows-below : (n : ℕ) (s : State) → RowsBelow q (level (after n k s)) (after n k s) (after (n + 1) k s)
 
 -- ---- runs from a lower bound
 
