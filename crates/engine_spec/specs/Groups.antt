@@ -15,7 +15,7 @@ use Rattle.definitions.specs.Calls as walk
 use Rattle.definitions.specs.Input.{inputOf}
 use Rattle.definitions.specs.System.{MinimalSolution}
 use Rattle.definitions.specs.Tables.{State, at, frozen}
-use Rattle.theorems.specs.Demands.{second-demand}
+use Rattle.theorems.specs.Proved.{second-demand}
 use Rattle.theorems.specs.Link.{nonzero}
 use Rattle.theorems.specs.Listed.{Exactly, enumerated}
 use Rattle.theorems.specs.Run.{Run}

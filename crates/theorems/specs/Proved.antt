@@ -3,21 +3,22 @@ use mathlib.Core.Path.{_≡_, refl}
 use mathlib.Core.List.{List}
 use Prim.Native.Nat.{_-_, suc, ℕ}
 use native.Mathlib.Omega.{arith}
-use Rattle.definitions.specs.Calls.{machine, machineFrom, start, startFrom}
-use Rattle.definitions.specs.Input.{Input, alone, inputOf, inputWith, rights, systemOf}
+use Rattle.definitions.specs.Calls.{machine, machineFrom, start, startFrom, resume, resumeFrom}
+use Rattle.definitions.specs.Input.{Input, alone, inputOf, inputWith, rights, systemOf, boundOf, mapOf}
 use Rattle.definitions.specs.Reader.{atOne, atZero}
 use Rattle.definitions.specs.System.{mostComponent}
 use Rattle.definitions.specs.Tables.{State}
-use Rattle.laws.specs.LowerLaws.{settled-once}
+use Rattle.laws.specs.LowerLaws.{settled-once, valid-resume-from}
 use Rattle.laws.specs.ReaderLaws.{either-shows, reader-shows}
 use Rattle.laws.specs.RefusalLaws.{lower-renders, start-renders}
 use Rattle.theorems.specs.AnyRun.{Grounds, first-demand-of}
 use Rattle.theorems.specs.Counts.{step-counts}
 use Rattle.theorems.specs.Deepest.{settled-shows, step-deepest, stepped-shows}
-use Rattle.theorems.specs.First.{left-goes, longer-table, lower-answers, resume-after, ruled}
+use Rattle.theorems.specs.First.{left-goes, longer-table, lower-answers, resume-after, ruled, resume-answers}
 use Rattle.theorems.specs.Frames.{aside-kept, record-kept, rows-below, rows-below-from, rows-each, rows-each-from, rows-stay, rows-stay-from}
-use Rattle.theorems.specs.Held.{sound-whole}
-use Rattle.theorems.specs.LowerFirst.{left-goes-from, longer-from, ruled-from, settled-total, stepped-total, steps-above-from}
+use Rattle.theorems.specs.Held.{sound-whole, sound-part, sound-read, zero-bound, zero-sides}
+use Rattle.theorems.specs.LowerFirst.{left-goes-from, left-settled, longer-from, resume-from-answers, ruled-from, settled-total, stepped-total}
+use Rattle.theorems.specs.LowerFirst.{steps-above-from}
 use Rattle.theorems.specs.Maps.{Map, byItself}
 use Rattle.theorems.specs.OwnCalls.{Log}
 use Rattle.theorems.specs.Series.{Series, continuing, continuing-from, starting, starting-from}
@@ -26,8 +27,14 @@ use Rattle.theorems.specs.Third.{Premises, series-answers, series-counte
 use Rattle.theorems.specs.Third.{series-stays, series-stepped, single-premises}
 use Rattle.theorems.specs.TwoWalks.{above-call, above-counted, above-follows, booked, plain-counted, plain-stops}
 use Rattle.theorems.specs.Untouched.{call-marked, call-untouched, steps-above}
-use Rattle.theorems.specs.Demands.{FirstDemandFrom, FirstDemands, ThirdDemand, ThirdDemands}
-pub use Rattle.theorems.specs.Demands.{second-demand}
+use Rattle.theorems.specs.Listed.{only-one, only-reads}
+use Rattle.theorems.specs.Low.{run-deep}
+use Rattle.theorems.specs.LowerRun.{RunFrom, run-from-handed, run-from-sound, sound-from-exactly, sound-from-only}
+use Rattle.theorems.specs.Run.{aimOf, continued, run-handed, run-sound, sound-resumes}
+use Rattle.definitions.specs.Answers.{go}
+use Rattle.definitions.specs.Refusals.{resumeFromChecks}
+use Rattle.theorems.specs.LowerRun as from
+use Rattle.theorems.specs.Demands.{FirstDemandFrom, FirstDemands, ListsFrom, SecondDemand, ThirdDemand, ThirdDemands}
 
 -- ---- 1
 
@@ -113,6 +120,42 @@ first-demand =
       reader = reader-shows;
       reader-at-0 = either-shows atZero;
       reader-at-1 = either-shows atOne;
+    }
+
+-- ---- 2
+
+lists-from : (lower : List ℕ) (m : Map) (s : State) → RunFrom lower m s → ListsFrom lower m s
+lists-from lower m s r =
+    let i : Input = byItself m in
+    let o = run-from-sound lower m r in
+    let (only, only₂) = sound-from-only lower m s o in
+    let goes : resumeFromChecks lower i s ≡ go = valid-resume-from lower i s refl (run-from-handed lower m r) (o .valid) in
+    record {
+      cut-short = only;
+      cut-short₂ = only₂;
+      finished = λ budget a.
+          sound-from-exactly lower m (resumeFrom budget lower i s .state) (run-from-sound lower m (from.continued r budget))
+          (left-settled lower m budget s goes) (resume-from-answers lower m budget s .completes .0 a .1);
+      read = only-reads (o .valid .shaped .q-some) (o .valid .shaped .q-few) only;
+      read₂ = only-reads (o .valid .shaped .q-some) (o .valid .shaped .q-few) only₂;
+      goes = goes;
+    }
+
+pub second-demand : SecondDemand
+second-demand =
+    record {
+      lists = λ i s r. record {
+        cut-short = sound-part i (run-handed i r) s (run-sound i r);
+        finished = λ n a. sound-whole i (run-handed i r) (resume n i s .state) (run-sound i (continued r n)) (resume-answers n i s .completes .0 a .1);
+        read = sound-read i (run-handed i r) s (run-sound i r);
+        goes = sound-resumes i (aimOf (i .extra)) (run-handed i r) (run-sound i r);
+      };
+      zero = zero-sides;
+      from-lower = lists-from;
+      zero-lower = λ lower m zeros s r budget a.
+          let (w, least) = zero-bound (mapOf (byItself m)) (boundOf lower) zeros in
+          only-one (lists-from lower m s r .finished budget a .0) (λ j. 0) w least;
+      never-above = λ i s one r. run-deep i one r;
     }
 
 -- ---- 3
