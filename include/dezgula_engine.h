@@ -1,8 +1,8 @@
 /* Dezgula: the whole basis of a map of up to 32 equations and 32 unknowns, one stage an equation, each stage by rising degree.
  *
  * Two ways to use it. The solver (dezgula_solver_new and the calls after it) does everything by itself: it chooses the order of the equations, grows its
- * tables, and works as long as it is let. The engine's own calls (dezgula_engine_start, _combine, _take, _resume) are what it goes by: they are proved, work
- * in lent tables, and trust nothing that they are lent. No promise depends on the solver: it only says which of these calls is next.
+ * tables, and works as long as it is let. The engine's own calls (dezgula_engine_start, _start_from, _combine, _take, _resume) are what it goes by: they are
+ * proved, work in lent tables, and trust nothing that they are lent. No promise depends on the solver: it only says which of these calls is next.
  *
  * The degree of a row is the sum of its components. Between two stages the basis has exactly the minimal solutions of the equations done; at first none is
  * done and its rows are the unit tuples. A stage takes one equation more. Its table gets, by rising degree, the rows of the basis and the sums of pairs of rows
@@ -94,6 +94,14 @@ dezgula_engine_record dezgula_engine_unpack(const uint64_t words[DEZGULA_ENGINE_
  * Started: the first q rows of the basis are the unit tuples, the record says so, and nothing else is written. Refused: changes nothing. */
 uint64_t dezgula_engine_start(const dezgula_system *system, dezgula_engine_run *run) DEZGULA_LOOK_AT_IT;
 
+/* The start from a list, whoever made it, with further equations: those of `system`, over the same unknowns. The list is `found` rows of q numbers, and
+ * rows_len is found * q. Answers DEZGULA_STARTED, or refuses with 1, 2, 3, 4 (also where the basis has room for fewer rows than the list), 6 (the list is
+ * not so many rows, or a row has a component above 1,000,000 or is all zero) or 7.
+ * Started: the first rows of the basis are those of the list, the record says so, and nothing else is written. Refused: changes nothing.
+ * Where the list was exactly the minimal solutions of the equations before, each once, a complete run leaves exactly those of all equations, each once.
+ * That the list is whole cannot be seen: it is what the caller answers for. */
+uint64_t dezgula_engine_start_from(const dezgula_system *system, const dezgula_list *list, dezgula_engine_run *run) DEZGULA_LOOK_AT_IT;
+
 /* A row operation: equation r becomes u times itself plus t times equation s, both from 0. Equation r is not done, no stage is under way, u is not 0, and r is
  * not s unless t is 0. Answers DEZGULA_STARTED, or refuses with 1, 2, 4, 6, 32 or 34. Writes nothing but equation r. */
 uint64_t dezgula_engine_combine(size_t p, size_t q, dezgula_engine_run *run, size_t r, int32_t u, size_t s, int32_t t) DEZGULA_LOOK_AT_IT;
@@ -103,7 +111,8 @@ uint64_t dezgula_engine_combine(size_t p, size_t q, dezgula_engine_run *run, siz
 uint64_t dezgula_engine_take(size_t p, size_t q, dezgula_engine_run *run, size_t e, size_t f) DEZGULA_LOOK_AT_IT;
 
 /* Goes on with the stage under way for at most `budget` turns. Answers DEZGULA_PAUSED; DEZGULA_COMPLETE: all equations are done, and the first `count` rows of
- * the basis are exactly the minimal solutions of the map, each once; or a refusal: before the first turn 1, 2, 4 or 6, by a turn 12, 14 or 31. */
+ * the basis are exactly the minimal solutions of the map, each once (after a start from a list, of the equations before it as well); or a refusal: before the
+ * first turn 1, 2, 4 or 6, by a turn 12, 14 or 31. */
 uint64_t dezgula_engine_resume(size_t p, size_t q, dezgula_engine_run *run, uint64_t budget) DEZGULA_LOOK_AT_IT;
 
 /* ---- questions about a list of such a map: those of dezgula.h, with the same answers, but that 1 and 2 are the engine's. A list may have any number of rows;
@@ -135,6 +144,10 @@ typedef struct {
  * DEZGULA_STARTED. It costs up to a million operations, as equations that follow from others, and sums that no solution meets, are looked for. */
 dezgula_solver *dezgula_solver_new(const dezgula_system *system, uint64_t *answer) DEZGULA_LOOK_AT_IT;
 
+/* The same from a list, whoever made it, and further equations over the same unknowns (dezgula_engine_start_from, with the same premise): those of `system`. It
+ * keeps a copy of both. *answer may also have 6, the list is out of order. The complete list is that of the equations before and these together. */
+dezgula_solver *dezgula_solver_new_from(const dezgula_system *system, const dezgula_list *list, uint64_t *answer) DEZGULA_LOOK_AT_IT;
+
 /* Works for about `budget` turns; 0 is as many as take about 50 ms. Answers DEZGULA_PAUSED, DEZGULA_COMPLETE, or a refusal: 12, 14, or 31 where no more rows
  * fit into memory or into the limit. After 31 it may be called again, when there is more memory or a higher limit. */
 uint64_t dezgula_solver_work(dezgula_solver *solver, uint64_t budget) DEZGULA_LOOK_AT_IT;
@@ -144,7 +157,7 @@ void dezgula_solver_limit(dezgula_solver *solver, size_t bytes);
 
 dezgula_solver_progress dezgula_solver_told(const dezgula_solver *solver);
 
-/* The map that it is for: the copy of it, which is valid until the solver is freed. */
+/* The map that it is for, of one from a list the further equations: the copy of it, which is valid until the solver is freed. */
 dezgula_system dezgula_solver_system(const dezgula_solver *solver);
 
 /* The rows of the complete list, of q numbers each, and how many there are; NULL and 0 before it is complete. They are valid until the solver is freed. */

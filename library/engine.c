@@ -53,6 +53,11 @@ uint64_t dezgula_engine_start(const dezgula_system *system, dezgula_engine_run *
     ON_WORDS(run, dezgula_raw_engine_start(system->p, system->q, TABLE(system, coefs), BASIS(run), RECORD(record)));
 }
 
+uint64_t dezgula_engine_start_from(const dezgula_system *system, const dezgula_list *list, dezgula_engine_run *run)
+{
+    ON_WORDS(run, dezgula_raw_engine_start_from(system->p, system->q, TABLE(system, coefs), list->found, TABLE(list, rows), BASIS(run), RECORD(record)));
+}
+
 uint64_t dezgula_engine_combine(size_t p, size_t q, dezgula_engine_run *run, size_t r, int32_t u, size_t s, int32_t t)
 {
     ON_WORDS(run, dezgula_raw_engine_combine(p, q, BASIS(run), STAGE(run), RECORD(record), r, u, s, t));

@@ -30,6 +30,9 @@ struct dezgula_solver {
     size_t p, q;
     int32_t coefs[COEFFICIENTS], equations[COEFFICIENTS], kept_equations[COEFFICIENTS];
     dezgula_engine_run run;
+    uint32_t *list; /* the rows that it starts from, NULL where it starts from the unit tuples */
+    size_t list_len;
+    uint32_t tied;  /* bit by unknown: the list has not just its unit tuple, so that no stage can go without it */
     uint32_t *kept; /* the basis of the try that is kept while the other goes on */
     size_t kept_len, most;
     dezgula_engine_record kept_record;
@@ -56,7 +59,7 @@ typedef struct {
 
 static size_t bytes(const dezgula_solver *s, size_t rows, size_t count)
 {
-    return rows * (4 * s->q + 32) + count * (4 * s->q + 4) + s->kept_len * sizeof *s->kept;
+    return rows * (4 * s->q + 32) + count * (4 * s->q + 4) + (s->kept_len + s->list_len) * sizeof *s->kept;
 }
 static bool longer(void **table, size_t n, size_t size)
 {
@@ -219,7 +222,7 @@ static bool is_zero(const dezgula_solver *s, size_t e)
 static bool is_done(const dezgula_solver *s, size_t e) { return s->run.record.done >> e & 1; }
 static uint32_t mentioned(const dezgula_solver *s)
 {
-    uint32_t in = 0;
+    uint32_t in = s->tied;
     for (size_t e = 0; e < s->p; e++)
         for (size_t j = 0; is_done(s, e) && j < s->q; j++) in |= (uint32_t)(s->equations[e * s->q + j] != 0) << j;
     return in;
@@ -355,7 +358,8 @@ static uint64_t begin(dezgula_solver *s, uint64_t rule, uint64_t limit)
     dezgula_system map = {s->p, s->q, s->coefs, s->p * s->q};
     s->past += s->run.record.steps.count;
     s->rule = rule, s->limit = limit, s->phase = TRYING;
-    uint64_t answer = dezgula_engine_start(&map, &s->run);
+    dezgula_list list = {s->list, s->list_len, s->list_len / s->q};
+    uint64_t answer = s->list != NULL ? dezgula_engine_start_from(&map, &list, &s->run) : dezgula_engine_start(&map, &s->run);
     if (answer == DEZGULA_STARTED) find_combinations(s), find_infeasible(s);
     return answer;
 }
@@ -483,16 +487,53 @@ static dezgula_solver *blank(size_t p, size_t q)
     s->round = FIRST_ROUND, s->promised = UINT64_MAX, s->pace = FIRST_PACE;
     return s;
 }
-dezgula_solver *dezgula_solver_new(const dezgula_system *system, uint64_t *answer)
+static bool in_list(const uint32_t *rows, size_t len, size_t q)
+{
+    for (size_t i = 0; i < len; i += q) {
+        uint32_t any = 0;
+        for (size_t j = 0; j < q; j++) {
+            if (rows[i + j] > DEZGULA_COMPONENT_LIMIT) return false;
+            any |= rows[i + j];
+        }
+        if (any == 0) return false;
+    }
+    return true;
+}
+/* the unknowns that some row has with others, or no row has */
+static uint32_t find_tied(const uint32_t *rows, size_t len, size_t q)
+{
+    uint32_t alone = 0, tied = 0;
+    for (size_t i = 0; i < len; i += q) {
+        uint32_t in = 0;
+        uint64_t degree = 0;
+        for (size_t j = 0; j < q; j++) in |= (uint32_t)(rows[i + j] != 0) << j, degree += rows[i + j];
+        *(degree == 1 ? &alone : &tied) |= in;
+    }
+    return tied | ~alone;
+}
+/* a copy of the list; false where there is no memory */
+static bool set_list(dezgula_solver *s, const uint32_t *rows, size_t len)
+{
+    s->list = malloc((len > 0 ? len : 1) * sizeof *s->list);
+    if (s->list == NULL) return false;
+    if (len > 0) memcpy(s->list, rows, len * sizeof *s->list);
+    s->list_len = len, s->tied = find_tied(rows, len, s->q);
+    return true;
+}
+/* from the unit tuples, or from a list where it is not NULL */
+static dezgula_solver *new_solver(const dezgula_system *system, const dezgula_list *list, uint64_t *answer)
 {
     const size_t p = system->p, q = system->q;
     *answer = p < 1 || p > MOST ? (uint64_t)DEZGULA_EQUATIONS
             : q < 1 || q > MOST ? (uint64_t)DEZGULA_UNKNOWNS
             : system->coefs == NULL || system->coefs_len != p * q ? (uint64_t)DEZGULA_COUNT : 0;
     if (*answer != 0) return NULL;
+    const size_t rows = list != NULL ? list->found : q;
+    if (list != NULL && (rows > SIZE_MAX / q || list->rows_len != rows * q || (rows > 0 && list->rows == NULL) || !in_list(list->rows, list->rows_len, q)))
+        return *answer = DEZGULA_OUT_OF_ORDER, NULL;
     dezgula_solver *s = blank(p, q);
     *answer = DEZGULA_ENGINE_FULL;
-    if (s != NULL && grow_basis(s, q) && grow_table(s)) {
+    if (s != NULL && (list == NULL || set_list(s, list->rows, list->rows_len)) && grow_basis(s, rows > q ? rows : q) && grow_table(s)) {
         memcpy(s->coefs, system->coefs, p * q * sizeof *s->coefs);
         s->tried[AS_IS] = s->round;
         *answer = begin(s, AS_IS, s->round);
@@ -501,6 +542,8 @@ dezgula_solver *dezgula_solver_new(const dezgula_system *system, uint64_t *answe
     dezgula_solver_free(s);
     return NULL;
 }
+dezgula_solver *dezgula_solver_new(const dezgula_system *system, uint64_t *answer) { return new_solver(system, NULL, answer); }
+dezgula_solver *dezgula_solver_new_from(const dezgula_system *system, const dezgula_list *list, uint64_t *answer) { return new_solver(system, list, answer); }
 
 /* one call of the engine, or the choice of the next equation; DEZGULA_PAUSED where there is more to do */
 static uint64_t step(dezgula_solver *s, uint64_t budget)
@@ -568,14 +611,15 @@ const uint32_t *dezgula_solver_rows(const dezgula_solver *s, size_t *count)
 void dezgula_solver_free(dezgula_solver *s)
 {
     if (s == NULL) return;
-    void *tables[9] = {s->run.basis, s->run.sizes, s->run.table, s->run.values, s->run.words, s->run.degrees, s->run.marks, s->run.mothers, s->kept};
-    for (size_t i = 0; i < 9; i++) free(tables[i]);
+    void *tables[10] = {s->run.basis, s->run.sizes, s->run.table, s->run.values, s->run.words, s->run.degrees, s->run.marks, s->run.mothers, s->kept, s->list};
+    for (size_t i = 0; i < 10; i++) free(tables[i]);
     free(s);
 }
 
-/* ---- a solver as words: a sign, the sizes, the numbers, the three systems, and the rows of the tables */
+/* ---- a solver as words: a sign, the sizes, the numbers, the three systems, and the rows of the tables; and where it has another sign, those of the list that
+ * it starts from, which are the words left */
 
-enum { SIGN = 0x445A4731, OWN = 11 + RULES, NUMBERS = OWN + 2 * RECORD };
+enum { SIGN = 0x445A4731, LIST_SIGN = 0x445A4732, OWN = 11 + RULES, NUMBERS = OWN + 2 * RECORD };
 
 static void numbers_of(const dezgula_solver *s, uint64_t n[NUMBERS])
 {
@@ -597,7 +641,7 @@ static size_t fixed_words(size_t p, size_t q) { return 3 + 2 * NUMBERS + 3 * p *
 
 size_t dezgula_solver_saved_length(const dezgula_solver *s)
 {
-    return fixed_words(s->p, s->q) + s->run.record.count * s->q + s->run.record.rows * (s->q + 1) + s->kept_len;
+    return fixed_words(s->p, s->q) + s->run.record.count * s->q + s->run.record.rows * (s->q + 1) + s->kept_len + s->list_len;
 }
 static uint32_t *put(uint32_t *to, const void *from, size_t n)
 {
@@ -606,7 +650,7 @@ static uint32_t *put(uint32_t *to, const void *from, size_t n)
 }
 void dezgula_solver_save(const dezgula_solver *s, uint32_t *words)
 {
-    const uint32_t head[3] = {SIGN, (uint32_t)s->p, (uint32_t)s->q};
+    const uint32_t head[3] = {s->list != NULL ? LIST_SIGN : SIGN, (uint32_t)s->p, (uint32_t)s->q};
     uint64_t n[NUMBERS];
     numbers_of(s, n);
     uint32_t *to = put(words, head, 3);
@@ -617,7 +661,8 @@ void dezgula_solver_save(const dezgula_solver *s, uint32_t *words)
     to = put(to, s->run.basis, s->run.record.count * s->q);
     to = put(to, s->run.table, s->run.record.rows * s->q);
     to = put(to, s->run.mothers, s->run.record.rows);
-    put(to, s->kept, s->kept_len);
+    to = put(to, s->kept, s->kept_len);
+    put(to, s->list, s->list_len);
 }
 
 static bool right_numbers(const dezgula_solver *s, size_t length)
@@ -632,14 +677,15 @@ static bool right_numbers(const dezgula_solver *s, size_t length)
 }
 /* a basis as the engine is lent it has room for q rows at least */
 static size_t kept_room(const dezgula_solver *s) { return s->kept_len > s->q * s->q ? s->kept_len : s->q * s->q; }
-/* the tables from the words at `from`; the numbers are in place */
-static bool load_tables(dezgula_solver *s, const uint32_t *from)
+static size_t larger(size_t a, size_t b) { return a > b ? a : b; }
+/* the tables from the words at `from`, of which the last `listed` are the list's; the numbers are in place */
+static bool load_tables(dezgula_solver *s, const uint32_t *from, bool from_list, size_t listed)
 {
     const size_t count = s->run.record.count, rows = s->run.record.rows, q = s->q;
     memcpy(s->coefs, from, s->p * q * sizeof *from), from += s->p * q;
     memcpy(s->equations, from, s->p * q * sizeof *from), from += s->p * q;
     memcpy(s->kept_equations, from, s->p * q * sizeof *from), from += s->p * q;
-    if (!grow_basis(s, count > s->kept_len / q ? count : s->kept_len / q)) return false;
+    if (!grow_basis(s, larger(larger(count, s->kept_len / q), listed / q))) return false;
     while (s->run.words_len < rows || s->run.words_len == 0)
         if (!grow_table(s)) return false;
     memcpy(s->run.basis, from, count * q * sizeof *from), from += count * q;
@@ -647,13 +693,14 @@ static bool load_tables(dezgula_solver *s, const uint32_t *from)
     memcpy(s->run.mothers, from, rows * sizeof *from), from += rows;
     s->kept = calloc(kept_room(s), sizeof *s->kept);
     if (s->kept == NULL) return false;
-    memcpy(s->kept, from, s->kept_len * sizeof *from);
-    return true;
+    memcpy(s->kept, from, s->kept_len * sizeof *from), from += s->kept_len;
+    return !from_list || set_list(s, from, listed);
 }
 /* The engine's call looks at everything before its first turn; a solver reads rows and equations before it makes the next call, so it is asked first. */
 static bool in_order(const dezgula_solver *s)
 {
     dezgula_engine_run run = s->run, kept = s->run;
+    if (!in_list(s->list, s->list_len, s->q)) return false;
     for (size_t k = 0; k < s->p * s->q; k++)
         if (s->coefs[k] < -DEZGULA_COEFFICIENT_LIMIT || s->coefs[k] > DEZGULA_COEFFICIENT_LIMIT) return false;
     uint64_t answer = dezgula_engine_resume(s->p, s->q, &run, 0);
@@ -667,7 +714,8 @@ static bool in_order(const dezgula_solver *s)
 dezgula_solver *dezgula_solver_load(const uint32_t *words, size_t length, uint64_t *answer)
 {
     *answer = DEZGULA_OUT_OF_ORDER;
-    if (words == NULL || length < 3 || words[0] != SIGN || words[1] < 1 || words[1] > MOST || words[2] < 1 || words[2] > MOST) return NULL;
+    const bool from_list = words != NULL && length > 0 && words[0] == LIST_SIGN;
+    if (words == NULL || length < 3 || (words[0] != SIGN && !from_list) || words[1] < 1 || words[1] > MOST || words[2] < 1 || words[2] > MOST) return NULL;
     const size_t p = words[1], q = words[2];
     if (length < fixed_words(p, q)) return NULL;
     uint64_t n[NUMBERS];
@@ -677,9 +725,10 @@ dezgula_solver *dezgula_solver_load(const uint32_t *words, size_t length, uint64
     set_numbers(s, n);
     bool right = right_numbers(s, length);
     if (right && s->promised != UINT64_MAX) s->kept_len = s->kept_record.count * q;
-    right = right && dezgula_solver_saved_length(s) == length;
+    const size_t others = right ? dezgula_solver_saved_length(s) : 0, listed = right && others <= length ? length - others : 0;
+    right = right && others <= length && (from_list ? listed % q == 0 : listed == 0);
     *answer = right ? (uint64_t)DEZGULA_ENGINE_FULL : (uint64_t)DEZGULA_OUT_OF_ORDER;
-    if (right && load_tables(s, words + 3 + 2 * NUMBERS)) *answer = in_order(s) ? (uint64_t)DEZGULA_STARTED : (uint64_t)DEZGULA_OUT_OF_ORDER;
+    if (right && load_tables(s, words + 3 + 2 * NUMBERS, from_list, listed)) *answer = in_order(s) ? (uint64_t)DEZGULA_STARTED : (uint64_t)DEZGULA_OUT_OF_ORDER;
     if (*answer == DEZGULA_STARTED) return s;
     dezgula_solver_free(s);
     return NULL;

@@ -12,11 +12,11 @@
 enum { FIRST_BUDGET = 10000 };
 static const double CALL_SECONDS = 0.05;
 
-static const machine *const MACHINE_OF[MACHINES] = {&by_engine, &by_engine_wanted, &by_stages, &by_walk, &by_walk, &by_walk, &by_walk};
+static const machine *const MACHINE_OF[MACHINES] = {&by_engine, &by_engine_wanted, &by_engine_further, &by_walk, &by_walk, &by_walk, &by_walk};
 
 unsigned machine_of(const problem *what, size_t group)
 {
-    if (group > 0) return what->how == BY_WALK ? DESK : STAGES;
+    if (group > 0) return what->how == BY_WALK ? DESK : FURTHER;
     bool wanted = what->lower != NULL || what->rights != NULL;
     if (what->how != BY_WALK) return wanted ? WANTED : ENGINE;
     return what->lower != NULL ? LOWER : what->rights != NULL ? RIGHTS : WALK;
@@ -40,8 +40,8 @@ static size_t own_equations(const run *r)
 dezgula_system system_of(const run *r)
 {
     const problem *w = &r->what;
-    size_t first = r->machine == STAGES ? 0 : r->before, p = r->before + own_equations(r) - first;
-    dezgula_system system = {p, w->q, w->coefs + first * w->q, p * w->q};
+    size_t p = own_equations(r);
+    dezgula_system system = {p, w->q, w->coefs + r->before * w->q, p * w->q};
     return system;
 }
 
@@ -49,7 +49,7 @@ dezgula_system system_of(const run *r)
 
 static bool say_size(const problem *what, unsigned machine, unsigned number, fault *why)
 {
-    bool engine = machine == ENGINE || machine == WANTED || machine == STAGES, fewer = machine == WANTED || machine == RIGHTS;
+    bool engine = machine == ENGINE || machine == WANTED || machine == FURTHER, fewer = machine == WANTED || machine == RIGHTS;
     const char *how = machine == WANTED ? "with deliveries or a lower bound there are" : engine ? "there are" : "the walk takes";
     int most_p = engine ? MOST_TRAYS : DEZGULA_MOST_EQUATIONS;
     size_t most_q = (engine ? (size_t)MOST_ACTIVITIES : (size_t)DEZGULA_MOST_UNKNOWNS) - (fewer ? 1 : 0);
@@ -132,9 +132,6 @@ void solve_end(run *r)
     free(r->list.at);
     free(r->second.at);
     dezgula_solver_free(r->engine);
-    void *const lent[] = {r->lent.equations, r->lent.basis,   r->lent.sizes, r->lent.table,  r->lent.values,
-                          r->lent.words,     r->lent.degrees, r->lent.marks, r->lent.mothers};
-    for (size_t i = 0; i < sizeof lent / sizeof *lent; i++) free(lent[i]);
     free(r);
 }
 
@@ -143,11 +140,7 @@ static table list_of(const run *r)
 {
     size_t rows = (size_t)r->record.found.count;
     table list = {r->list.at, 0};
-    if (r->machine == ENGINE) list.at = (uint32_t *)(uintptr_t)dezgula_solver_rows(r->engine, &rows);
-    if (r->machine == STAGES) {
-        list.at = r->lent.basis;
-        rows = (size_t)r->lent.record.count;
-    }
+    if (r->machine == ENGINE || r->machine == FURTHER) list.at = (uint32_t *)(uintptr_t)dezgula_solver_rows(r->engine, &rows);
     list.len = rows * r->what.q;
     return list;
 }
@@ -209,18 +202,12 @@ state solve_go_on(run *r, fault *why)
 progress solve_progress(const run *r)
 {
     progress told = {.walking = true, .desk = r->group + 1, .desks = r->what.groups_len > 1 ? r->what.groups_len : 1, .of = system_of(r).p};
-    if (r->machine == ENGINE || r->machine == WANTED) {
+    if (r->machine == ENGINE || r->machine == WANTED || r->machine == FURTHER) {
         dezgula_solver_progress p = r->engine != NULL ? dezgula_solver_told(r->engine) : (dezgula_solver_progress){0, 0, 0, {0}};
         told.walking = false;
         told.done = p.done;
         told.rows = p.rows;
         told.steps = p.steps.count;
-    } else if (r->machine == STAGES) {
-        const dezgula_engine_record *at = &r->lent.record;
-        told.walking = false;
-        for (size_t i = 0; i < told.of; i++) told.done += at->done >> i & 1;
-        told.rows = at->equation < told.of ? at->rows : at->count;
-        told.steps = at->steps.count;
     } else {
         told.rows = r->record.found.count + r->record.second.count;
         told.steps = r->record.steps.count + r->record.before.count;

@@ -24,7 +24,7 @@ typedef struct {
 } machine;
 
 /* What is solved how: by the engine, also with right sides or a lower bound, and from the list of the groups before; the same by the walk. */
-enum { ENGINE, WANTED, STAGES, WALK, RIGHTS, LOWER, DESK, MACHINES };
+enum { ENGINE, WANTED, FURTHER, WALK, RIGHTS, LOWER, DESK, MACHINES };
 
 struct run {
     problem what;
@@ -33,9 +33,8 @@ struct run {
     bool complete;
     table generators; /* the list of the groups before */
     table stack, list, second;
-    dezgula_record record;   /* of the walks */
-    dezgula_solver *engine;  /* of the first group, where it is not walked */
-    dezgula_engine_run lent; /* of a further one */
+    dezgula_record record;  /* of the walks */
+    dezgula_solver *engine; /* of the group under way, where it is not walked */
     uint64_t budget;
 };
 
@@ -50,19 +49,15 @@ unsigned machine_of(const problem *what, size_t group);
 /* Room for so many numbers. */
 bool set_length(table *t, size_t len);
 
-/* The equations of the group under way by themselves; the engine's stages go on with those of the groups before, which are done. */
+/* The equations of the group under way by themselves. */
 dezgula_system system_of(const run *r);
 
 /* ---- solve_engine.c */
 
-extern const machine by_engine, by_engine_wanted, by_stages;
+extern const machine by_engine, by_engine_wanted, by_engine_further;
 
 /* Lets the solver of a run have half of the memory that there is. */
 void limit_engine(run *r);
-
-/* Room in the tables of the stages: for so many coefficients, and for so many rows in the basis and in the table of the stage. */
-bool set_equations(dezgula_engine_run *lent, size_t len);
-bool set_stage_rows(dezgula_engine_run *lent, size_t q, size_t rows);
 
 /* ---- solve_walk.c */
 

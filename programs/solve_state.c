@@ -4,8 +4,7 @@
 #include <stdlib.h>
 #include <string.h>
 
-/* ---- the state of a run: first these words, then the tables one after the other. Of the engine the solver's own words are the table; of its stages the tables
- * are the equations, the basis and the rows of the stage. */
+/* ---- the state of a run: first these words, then the tables one after the other. Of the engine the solver's own words are the table. */
 
 enum { TABLES = 4 };
 
@@ -13,25 +12,21 @@ typedef struct {
     uint64_t machine, group, before;
     uint64_t lengths[TABLES];
     dezgula_record record;
-    uint64_t stages[DEZGULA_ENGINE_RECORD_LENGTH];
+    uint64_t unused[DEZGULA_ENGINE_RECORD_LENGTH]; /* 0; runs of a version before had a record of the engine here, and the others are read as they were */
 } words;
 
 /* The tables as they are kept. */
 static void tables_of(const run *r, const uint32_t *saved, table out[TABLES])
 {
-    const dezgula_engine_record *at = &r->lent.record;
     size_t q = r->what.q, second = r->machine == RIGHTS || r->machine == LOWER ? (size_t)r->record.second.count * q : 0;
     const table walk[TABLES] = {r->generators, r->stack, {r->list.at, (size_t)r->record.found.count * q}, {r->second.at, second}};
-    const table stages[TABLES] = {{NULL, 0}, {(uint32_t *)r->lent.equations, r->lent.equations_len}, {r->lent.basis, (size_t)at->count * q},
-                                  {r->lent.table, (size_t)at->rows * q}};
     const table engine[TABLES] = {{(uint32_t *)(uintptr_t)saved, saved != NULL ? dezgula_solver_saved_length(r->engine) : 0}};
-    memcpy(out, saved != NULL ? engine : r->machine == STAGES ? stages : walk, sizeof walk);
+    memcpy(out, saved != NULL ? engine : walk, sizeof walk);
 }
 
 static void *packed(const run *r, const table tables[TABLES], size_t *len)
 {
     words head = {.machine = r->machine, .group = r->group, .before = r->before, .record = r->record};
-    dezgula_engine_pack(r->lent.record, head.stages);
     *len = sizeof head;
     for (size_t i = 0; i < TABLES; i++) {
         head.lengths[i] = tables[i].len;
@@ -64,6 +59,8 @@ void *solve_state(const run *r, size_t *len)
     return bytes;
 }
 
+static bool by_solver(uint64_t machine) { return machine == ENGINE || machine == WANTED || machine == FURTHER; }
+
 /* Whether the words are those of a run of this problem, with tables that are as long as the bytes that follow. */
 static bool in_order(const problem *what, const words *head, size_t len)
 {
@@ -75,24 +72,10 @@ static bool in_order(const problem *what, const words *head, size_t len)
         if (head->lengths[i] > numbers) return false;
         numbers -= head->lengths[i];
     }
-    if (numbers != 0 || head->machine == ENGINE || head->machine == WANTED) return numbers == 0;
-    uint64_t p = before + (what->groups_len > 1 ? what->groups[head->group] : what->p), q = what->q;
-    if (head->machine == STAGES) return head->lengths[1] == p * q && head->lengths[2] / q == head->stages[3] && head->lengths[3] / q == head->stages[4];
+    if (numbers != 0 || by_solver(head->machine)) return numbers == 0;
+    uint64_t q = what->q;
     if (head->record.found.count > head->lengths[2] / q || head->lengths[2] % q != 0) return false;
     return head->machine == WALK || head->machine == DESK || head->record.second.count <= head->lengths[3] / q;
-}
-
-static bool take_stages(run *r, const words *head, const uint32_t *at)
-{
-    dezgula_engine_run *lent = &r->lent;
-    size_t q = r->what.q, basis = (size_t)head->lengths[2], table = (size_t)head->lengths[3], most = basis > table ? basis : table;
-    if (!set_equations(lent, (size_t)head->lengths[1])) return false;
-    if (!set_stage_rows(lent, q, most / q + FIRST_ROWS)) return false;
-    memcpy(lent->equations, at, lent->equations_len * sizeof *at);
-    if (basis > 0) memcpy(lent->basis, at + lent->equations_len, basis * sizeof *at);
-    if (table > 0) memcpy(lent->table, at + lent->equations_len + basis, table * sizeof *at);
-    lent->record = dezgula_engine_unpack(head->stages);
-    return true;
 }
 
 static bool take_walk(run *r, const words *head, const uint32_t *at)
@@ -123,8 +106,7 @@ static bool take_tables(run *r, const words *head, const char *bytes, size_t len
     uint32_t *copy = malloc(len + sizeof *copy);
     if (copy == NULL) return false;
     memcpy(copy, bytes, len);
-    bool engine = r->machine == ENGINE || r->machine == WANTED;
-    bool taken = engine ? take_engine(r, head, copy) : r->machine == STAGES ? take_stages(r, head, copy) : take_walk(r, head, copy);
+    bool taken = by_solver(r->machine) ? take_engine(r, head, copy) : take_walk(r, head, copy);
     free(copy);
     return taken;
 }

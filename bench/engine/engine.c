@@ -372,6 +372,37 @@ uint64_t twin_engine_start(size_t p, size_t q, const int32_t *coefs, size_t coef
     return STARTED;
 }
 
+static bool is_list(size_t q, size_t n, const uint32_t *rows, size_t rows_len)
+{
+    if (rows_len != n * q) return false;
+    for (size_t i = 0; i < n; i++) {
+        uint32_t any = 0;
+        for (size_t j = 0; j < q; j++) any |= rows[i * q + j];
+        if (any == 0) return false;
+    }
+    return small(rows, rows_len);
+}
+
+uint64_t twin_engine_start_from(size_t p, size_t q, const int32_t *coefs, size_t coefs_len, size_t n, const uint32_t *rows, size_t rows_len,
+                                int32_t *equations, size_t equations_len, uint32_t *basis, size_t basis_len, uint32_t *sizes, size_t sizes_len,
+                                uint64_t *record, size_t record_len)
+{
+    (void)sizes;
+    uint64_t refused = checked_size(p, q);
+    if (refused) return refused;
+    if (coefs_len != p * q) return COUNT;
+    const size_t most = least(least(basis_len / q, sizes_len), MOST_ROWS);
+    if (equations_len < p * q || most < q || most < n) return SHORT;
+    if (record_len != WORDS || record[DONE] > UINT32_MAX || !is_list(q, n, rows, rows_len)) return ORDER;
+    for (size_t i = 0; i < p * q; i++)
+        if (coefs[i] < -MAP_LIMIT || coefs[i] > MAP_LIMIT) return COEFFICIENT + 256 * (uint64_t)(i + 1);
+    memcpy(equations, coefs, p * q * sizeof *coefs);
+    memcpy(basis, rows, rows_len * sizeof *rows);
+    memset(record, 0, WORDS * sizeof *record);
+    record[EQUATION] = p, record[UNKNOWN] = q, record[BASIS_COUNT] = n;
+    return STARTED;
+}
+
 #define LENT \
     size_t p, size_t q, int32_t *equations, size_t equations_len, uint32_t *basis, size_t basis_len, uint32_t *sizes, size_t sizes_len, uint32_t *table, \
         size_t table_len, int64_t *values, size_t values_len, uint64_t *words, size_t words_len, uint32_t *degrees, size_t degrees_len, uint64_t *marks, \

@@ -9,6 +9,10 @@
 uint64_t twin_engine_start(size_t p, size_t q, const int32_t *coefs, size_t coefs_len, int32_t *equations, size_t equations_len, uint32_t *basis,
                            size_t basis_len, uint32_t *sizes, size_t sizes_len, uint64_t *record, size_t record_len);
 
+uint64_t twin_engine_start_from(size_t p, size_t q, const int32_t *coefs, size_t coefs_len, size_t n, const uint32_t *rows, size_t rows_len,
+                                int32_t *equations, size_t equations_len, uint32_t *basis, size_t basis_len, uint32_t *sizes, size_t sizes_len,
+                                uint64_t *record, size_t record_len);
+
 uint64_t twin_engine_combine(size_t p, size_t q, int32_t *equations, size_t equations_len, uint32_t *basis, size_t basis_len, uint32_t *sizes,
                              size_t sizes_len, uint32_t *table, size_t table_len, int64_t *values, size_t values_len, uint64_t *words, size_t words_len,
                              uint32_t *degrees, size_t degrees_len, uint64_t *marks, size_t marks_len, uint32_t *mothers, size_t mothers_len,

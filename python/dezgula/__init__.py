@@ -7,8 +7,8 @@
 
 `basis` lists them by the engine, for at most 32 equations and 32 unknowns. `walk`, `with_rights`, `from_lower`, `desks` and `single_file` list by the walk,
 for at most 8 and 16. `why`, `plan` and `locate` are questions about a list. `Plain`, `SingleFile`, `Rights`, `LowerBound`, `Desk`, `Training`,
-`TrainingLowerBound` and, of the engine, `Solver` are runs that can be paused and gone on with; a solver can be saved and loaded, and `Several` are up to eight
-plain runs in turns. `read_map`, `read_equation`, `write_equation`, `read_system`,
+`TrainingLowerBound` and, of the engine, `Solver` are runs that can be paused and gone on with; a solver can be saved and loaded and can start
+from a list of other equations, and `Several` are up to eight plain runs in turns. `read_map`, `read_equation`, `write_equation`, `read_system`,
 `write_list` and `read_list` are texts and files. A refusal is the exception `Refused` with its number, its place and a sentence.
 
 The library is the file that DEZGULA_LIBRARY names, else the one beside this module, in the project around it, or of the system, in this order.

@@ -4,7 +4,7 @@ from __future__ import annotations
 
 import ctypes
 
-from ._library import LIBRARY, OneAtATime, Refused, Row, Rows, rows_of, system_of
+from ._library import LIBRARY, OneAtATime, Refused, Row, Rows, list_of, rows_of, system_of
 from ._runs import COMPLETE, MOST_BUDGET, PAUSED, Progress, Told
 
 OUT_OF_ORDER = 6
@@ -22,6 +22,21 @@ class Solver:
     def __init__(self, rows: Rows) -> None:
         system, answer = system_of(rows), ctypes.c_uint64()
         self._hold(LIBRARY.dezgula_solver_new(system, answer), answer.value)
+
+    @classmethod
+    def from_list(cls, listed: Rows, rows: Rows) -> Solver:
+        """The engine from a list of the equations before, whoever made it, with further equations: its list is that of both together, in any grouping and
+        however many rows a list has. That the list is whole is what the caller answers for. Refused with 6 where a row is all zero or has a component above
+        1,000,000.
+
+        >>> before = Solver([[1, -1, 1, -1, 0], [0, 1, -1, 0, 0]]).complete()
+        >>> Solver.from_list(before, [[0, 0, 0, 1, -2]]).complete() == [(0, 1, 1, 0, 0), (2, 0, 0, 2, 1)]
+        True
+        """
+        system, answer = system_of(rows), ctypes.c_uint64()
+        solver = cls.__new__(cls)
+        solver._hold(LIBRARY.dezgula_solver_new_from(system, list_of(listed, system.q), answer), answer.value)
+        return solver
 
     def _hold(self, own: int | None, answer: int) -> None:
         self._own = own
@@ -64,7 +79,7 @@ class Solver:
 
     @property
     def system(self) -> list[list[int]]:
-        """The rows of coefficients of the system that it is for."""
+        """The rows of coefficients of the system that it is for; of one from a list, of the further equations."""
         with self._one_at_a_time:
             system = LIBRARY.dezgula_solver_system(self._own)
             return [list(row) for row in rows_of(system.coefs, system.p, system.q)]

@@ -169,6 +169,7 @@ _OTHERS: dict[str, tuple[list[Any], Any]] = {
     "sentence": ([ctypes.c_uint64], ctypes.c_char_p),
     "full_list": ([_SYSTEM, _RUN], ctypes.c_uint),
     "solver_new": ([_SYSTEM, _ANSWER], _SOLVER),
+    "solver_new_from": ([_SYSTEM, _LIST, _ANSWER], _SOLVER),
     "solver_limit": ([_SOLVER, _SIZE], None),
     "solver_told": ([_SOLVER], SolverProgress),
     "solver_system": ([_SOLVER], System),

@@ -184,6 +184,23 @@ class Runs(unittest.TestCase):
             self.assertEqual(sorted(solver.rows), whole)
             self.assertEqual(pickle.loads(pickle.dumps(solver)).rows, solver.rows)
 
+    def test_a_solver_from_a_list(self):
+        whole = sorted(dezgula.basis(MANY))
+        for groups in ([MANY[:1], MANY[1:]], [MANY[:2], MANY[2:]], [[row] for row in MANY]):
+            listed = dezgula.basis(groups[0])
+            for group in groups[1:]:
+                solver = dezgula.Solver.from_list(listed, group)
+                while not solver.work(100):
+                    solver = dezgula.Solver.load(solver.save())
+                self.assertEqual(solver.system, group)
+                listed = solver.rows
+            self.assertEqual(sorted(listed), whole)
+        self.assertEqual(dezgula.Solver.from_list([], [[1, -1]]).complete(), [])
+        for listed, number in (([[0, 0]], 6), ([[1, 1_000_001]], 6), ([[1]], 5)):
+            with self.assertRaises(dezgula.Refused) as refused:
+                dezgula.Solver.from_list(listed, [[1, -1]])
+            self.assertEqual(refused.exception.number, number)
+
     def test_damaged_bytes_of_a_solver(self):
         draw, solver, loaded = random.Random(3), dezgula.Solver(MANY), 0
         self.assertFalse(solver.work(500))

@@ -1,5 +1,5 @@
 /* Tries the solver of dezgula_engine.h: refused maps, equations that are zero, repeated or combinations, pauses after every few turns, saved and loaded at each
- * of them, words that were damaged, a limit of memory, and drawn maps against a walk through all tuples of a box. Status 1 at the first thing wrong. */
+ * of them, lists handed over to further equations, words that were damaged, and a limit of memory. Status 1 at the first thing wrong. */
 #include "dezgula_engine.h"
 
 #include <inttypes.h>
@@ -149,6 +149,62 @@ static void pauses(void)
         dezgula_solver_free(whole);
     }
 }
+/* ---- from a list */
+
+/* a solver for the equations from `from` on, from the list of one that is complete */
+static dezgula_solver *solver_from(const dezgula_solver *before, size_t p, size_t q, const int32_t *coefs, uint64_t *answer)
+{
+    size_t count;
+    const uint32_t *rows = dezgula_solver_rows(before, &count);
+    dezgula_system map = {p, q, coefs, p * q};
+    dezgula_list list = {rows, count * q, count};
+    return dezgula_solver_new_from(&map, &list, answer);
+}
+/* any grouping of the equations gives the list of the whole map, in calls of any size, carried or not */
+static void groups(void)
+{
+    enum { P = 5, Q = 7 };
+    int32_t coefs[P * Q];
+    for (int n = 0; n < 120; n++) {
+        uint64_t answer;
+        for (size_t i = 0; i < P * Q; i++) coefs[i] = draw(2) ? 0 : (int32_t)draw(5) - 2;
+        dezgula_solver *whole = finish(solver_of(P, Q, coefs, &answer), 0, false);
+        size_t done = 1 + draw(P - 1);
+        dezgula_solver *grown = finish(solver_of(done, Q, coefs, &answer), 0, false);
+        while (done < P) {
+            size_t more = 1 + draw(P - done);
+            dezgula_solver *next = solver_from(grown, more, Q, coefs + done * Q, &answer);
+            is(next != NULL && answer == DEZGULA_STARTED, "a list is refused");
+            dezgula_solver_free(grown);
+            grown = finish(next, n % 3 == 0 ? 7 : 0, n % 3 == 0);
+            done += more;
+        }
+        same_lists(whole, grown, Q);
+        dezgula_solver_free(whole), dezgula_solver_free(grown);
+    }
+}
+static void refused_lists(void)
+{
+    const int32_t coefs[2] = {1, -1};
+    const uint32_t rows[4] = {1, 0, 0, 1}, zero[4] = {1, 0, 0, 0}, large[4] = {1, 0, 0, 1000001};
+    const dezgula_system map = {1, 2, coefs, 2}, none = {0, 2, coefs, 0}, wide = {1, 33, coefs, 33}, other = {1, 2, coefs, 1};
+    const dezgula_list list = {rows, 4, 2}, empty = {NULL, 0, 0}, wrong[5] = {{zero, 4, 2}, {large, 4, 2}, {rows, 4, 1}, {rows, 3, 2}, {rows, 4, SIZE_MAX}};
+    uint64_t answer;
+    is(dezgula_solver_new_from(&none, &list, &answer) == NULL && answer == DEZGULA_EQUATIONS, "0 equations and a list");
+    is(dezgula_solver_new_from(&wide, &list, &answer) == NULL && answer == DEZGULA_UNKNOWNS, "33 unknowns and a list");
+    is(dezgula_solver_new_from(&other, &list, &answer) == NULL && answer == DEZGULA_COUNT, "too few coefficients and a list");
+    for (size_t i = 0; i < 5; i++)
+        is(dezgula_solver_new_from(&map, &wrong[i], &answer) == NULL && answer == DEZGULA_OUT_OF_ORDER, "a list that is out of order");
+    size_t count;
+    dezgula_solver *solver = finish(dezgula_solver_new_from(&map, &list, &answer), 0, true);
+    is(dezgula_solver_rows(solver, &count)[0] == 1 && count == 1, "the unit tuples are a list");
+    dezgula_solver_free(solver);
+    solver = finish(dezgula_solver_new_from(&map, &empty, &answer), 0, true);
+    (void)dezgula_solver_rows(solver, &count);
+    is(count == 0, "from an empty list nothing comes");
+    dezgula_solver_free(solver);
+}
+
 /* one word, or some, made another; mostly among the numbers that stand first */
 static void damage(uint32_t *words, size_t length)
 {
@@ -176,6 +232,12 @@ static void damaged_words(void)
         uint64_t answer;
         size_t length;
         dezgula_solver *solver = n % 4 ? solver_of(2, 6, coefs, &answer) : solver_of(5, 8, large, &answer);
+        if (n % 4 == 3) {
+            dezgula_solver *before = finish(solver_of(1, 6, coefs, &answer), 0, false);
+            dezgula_solver_free(solver);
+            solver = solver_from(before, 1, 6, coefs + 6, &answer);
+            dezgula_solver_free(before);
+        }
         (void)!dezgula_solver_work(solver, n % 4 ? 1 + draw(400) : 9000 + draw(3000));
         uint32_t *words = saved(solver, &length);
         dezgula_solver_free(solver);
@@ -226,9 +288,11 @@ int main(void)
     largest_map();
     combinations();
     pauses();
+    groups();
+    refused_lists();
     damaged_words();
     what_it_is_for();
     memory();
-    puts("the solver: refused maps, combinations, pauses, saved and loaded, damaged words, memory");
+    puts("the solver: refused maps, combinations, pauses, saved and loaded, lists handed over, damaged words, memory");
     return 0;
 }

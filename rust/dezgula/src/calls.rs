@@ -84,7 +84,7 @@ impl Map<'_> {
 }
 
 impl Found<'_> {
-    fn lent(&self) -> sys::dezgula_list {
+    pub(crate) fn lent(&self) -> sys::dezgula_list {
         sys::dezgula_list { rows: self.rows.as_ptr(), rows_len: self.rows.len(), found: self.found }
     }
 }
@@ -358,7 +358,7 @@ macro_rules! on_engine {
         $(#[$doc])*
         pub fn $name($($($given: $lent,)+)? run: &mut EngineLent $(, $handed: $type)*) -> Answer {
             let mut lent = run.lent();
-            // SAFETY: the pointers of the run, and of a system, are those of slices, with their lengths, and live as long as the call; what the call may write
+            // SAFETY: the pointers of the run, of a system and of a list are those of slices, with their lengths, and live as long as the call; what it may write
             // is borrowed exclusively, so that it lies apart from all else.
             let answer = unsafe { sys::$call($($($first,)+)? &mut lent $(, $handed)*) };
             *run.record = lent.record;
@@ -370,6 +370,8 @@ macro_rules! on_engine {
 on_engine! {
     /// `dezgula_engine_start`.
     engine_start: dezgula_engine_start() after m: Map => &m.lent();
+    /// `dezgula_engine_start_from`: the rows of the list, and further equations.
+    engine_start_from: dezgula_engine_start_from() after m: Map => &m.lent(), list: Found => &list.lent();
     /// `dezgula_engine_combine`: equation r becomes u times itself plus t times equation s.
     engine_combine: dezgula_engine_combine(r: usize, u: i32, s: usize, t: i32) after p: usize => p, q: usize => q;
     /// `dezgula_engine_take`: begins the stage of equation e, without the unknown f; with f = q, with all.

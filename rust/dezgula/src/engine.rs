@@ -50,6 +50,14 @@ impl Solver {
         Solver::owning(own, answer)
     }
 
+    pub(crate) fn new_from(system: &System, list: &List) -> Result<Solver, Error> {
+        let mut answer = 0;
+        // SAFETY: the system's and the list's tables are slices with their lengths that live as long as the call, which copies them; the answer is borrowed
+        // exclusively.
+        let own = unsafe { sys::dezgula_solver_new_from(&system.map().lent(), &list.found().lent(), &mut answer) };
+        Solver::owning(own, answer)
+    }
+
     fn owning(own: *mut sys::dezgula_solver, answer: u64) -> Result<Solver, Error> {
         NonNull::new(own).map(|own| Solver { own }).ok_or(Answer(answer).refusal())
     }
@@ -86,7 +94,7 @@ impl Solver {
         unsafe { sys::dezgula_solver_system(self.own.as_ptr()) }
     }
 
-    /// The system that it is for.
+    /// The system that it is for; of one from a list, the further equations.
     pub fn system(&self) -> System {
         let lent = self.lent();
         // SAFETY: the library's copy of the coefficients has so many, and stays until the solver is freed, which this outlives.

@@ -9,11 +9,11 @@
 //! # Ok::<(), dezgula::Error>(())
 //! ```
 //!
-//! [`System::basis`] lists them by the engine, for at most 32 equations and 32 unknowns; [`System::solver`] is the same to be paused, limited and kept in a file.
-//! [`System::start`] begins a run of the walk, of one of the kinds [`Plain`], [`SingleFile`], [`Rights`], [`LowerBound`], [`Desk`], [`Training`] and
-//! [`TrainingLowerBound`], for at most 8 equations and 16 unknowns; a [`Run`] has budgets, can be paused, and grows its lists; [`Several`] are up to eight of them
-//! in turns. [`System::why`], [`System::plan`] and [`System::locate`] answer questions about a list. [`text`] has maps, equations and list files. A refusal is an
-//! [`Error`] with its number, its place and a sentence.
+//! [`System::basis`] lists them by the engine, for at most 32 equations and 32 unknowns; [`System::solver`] is the same to be paused, limited and kept in a file,
+//! and [`System::solver_from`] goes on from a list of other equations. [`System::start`] begins a run of the walk, of one of the kinds [`Plain`],
+//! [`SingleFile`], [`Rights`], [`LowerBound`], [`Desk`], [`Training`] and [`TrainingLowerBound`], for at most 8 equations and 16 unknowns; a [`Run`] has
+//! budgets, can be paused, and grows its lists; [`Several`] are up to eight of them in turns. [`System::why`], [`System::plan`] and [`System::locate`] answer
+//! questions about a list. [`text`] has maps, equations and list files. A refusal is an [`Error`] with its number, its place and a sentence.
 //!
 //! Three layers: [`sys`] has the exported calls, [`calls`] the same over slices, and the rest is over these. `unsafe` is in the first two, and in [`Solver`], which
 //! holds what the library has allocated. Nothing is kept between two calls, so that all types here may be sent to other threads and shared with them; what goes on

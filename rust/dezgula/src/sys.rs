@@ -242,6 +242,7 @@ extern "C" {
     pub fn dezgula_engine_pack(record: dezgula_engine_record, words: *mut u64);
     pub fn dezgula_engine_unpack(words: *const u64) -> dezgula_engine_record;
     pub fn dezgula_engine_start(system: *const dezgula_system, run: *mut dezgula_engine_run) -> u64;
+    pub fn dezgula_engine_start_from(system: *const dezgula_system, list: *const dezgula_list, run: *mut dezgula_engine_run) -> u64;
     pub fn dezgula_engine_combine(p: usize, q: usize, run: *mut dezgula_engine_run, r: usize, u: i32, s: usize, t: i32) -> u64;
     pub fn dezgula_engine_take(p: usize, q: usize, run: *mut dezgula_engine_run, e: usize, f: usize) -> u64;
     pub fn dezgula_engine_resume(p: usize, q: usize, run: *mut dezgula_engine_run, budget: u64) -> u64;
@@ -258,6 +259,7 @@ extern "C" {
     ) -> u64;
 
     pub fn dezgula_solver_new(system: *const dezgula_system, answer: *mut u64) -> *mut dezgula_solver;
+    pub fn dezgula_solver_new_from(system: *const dezgula_system, list: *const dezgula_list, answer: *mut u64) -> *mut dezgula_solver;
     pub fn dezgula_solver_work(solver: *mut dezgula_solver, budget: u64) -> u64;
     pub fn dezgula_solver_limit(solver: *mut dezgula_solver, bytes: usize);
     pub fn dezgula_solver_told(solver: *const dezgula_solver) -> dezgula_solver_progress;

@@ -128,6 +128,23 @@ impl System {
         Solver::new(self)
     }
 
+    /// The engine from a list of the equations before, whoever made it, with these as further equations: its list is that of both together, in any grouping
+    /// and however many rows a list has. That the list is whole is what the caller answers for. Refused with 6 where a row is all zero or has a component above
+    /// 1,000,000.
+    ///
+    /// ```
+    /// use dezgula::System;
+    /// let review = System::new([[1, -1, 1, -1, 0], [0, 1, -1, 0, 0]])?;
+    /// let signing = System::new([[0, 0, 0, 1, -2]])?;
+    /// let whole = System::new(review.rows().chain(signing.rows()))?;
+    /// assert_eq!(signing.solver_from(&review.basis()?)?.complete()?.sorted(), whole.basis()?.sorted());
+    /// # Ok::<(), dezgula::Error>(())
+    /// ```
+    pub fn solver_from(&self, list: &List) -> Result<Solver, Error> {
+        self.same_unknowns(list)?;
+        Solver::new_from(self, list)
+    }
+
     /// Starts a run of this kind.
     pub fn start<K: Kind>(&self, kind: K) -> Result<Run<K>, Error> {
         Run::new(self.clone(), kind)

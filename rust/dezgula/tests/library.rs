@@ -159,7 +159,31 @@ fn the_calls_of_the_engine() {
     }
     assert_eq!(calls::engine_resume(2, 4, &mut run, 1).number(), numbers::COMPLETE);
     let count = run.record.count as usize;
+    let (listed, map) = (run.basis[..4 * count].to_vec(), calls::Map { p: 2, q: 4, coefs: &coefs });
+    assert_eq!(calls::engine_start_from(map, calls::Found { rows: &listed[1..], found: count }, &mut run).number(), numbers::OUT_OF_ORDER);
+    assert_eq!(calls::engine_start_from(map, calls::Found { rows: &listed, found: count }, &mut run).number(), numbers::STARTED);
+    assert_eq!((run.record.count as usize, run.record.done, &run.basis[..4 * count]), (count, 0, &listed[..]));
     assert_eq!(List::new(4, basis.chunks(4).take(count)).unwrap().sorted(), system.basis().unwrap().sorted());
+}
+
+#[test]
+fn a_start_from_a_list() {
+    let (first, further) = (System::new([[-1, 1, 2, -3]]).unwrap(), System::new([[-1, 3, -2, -1]]).unwrap());
+    let whole = System::new([[-1, 1, 2, -3], [-1, 3, -2, -1]]).unwrap().basis().unwrap();
+    let list = first.basis().unwrap();
+    assert_eq!(further.solver_from(&list).unwrap().complete().unwrap().sorted(), whole.sorted());
+    let mut parts = further.solver_from(&list).unwrap();
+    while parts.work(1).unwrap() == Progress::Paused {
+        parts = Solver::load(&parts.save()).unwrap();
+    }
+    assert_eq!(parts.to_list().unwrap().sorted(), whole.sorted());
+    assert_eq!(parts.system(), further);
+    let number = |list: &List| further.solver_from(list).unwrap_err().number();
+    assert_eq!(number(&List::new(4, [[0, 0, 0, 0]]).unwrap()), numbers::OUT_OF_ORDER);
+    assert_eq!(number(&List::new(4, [[1, 0, 0, 1_000_001]]).unwrap()), numbers::OUT_OF_ORDER);
+    assert_eq!(number(&List::new(3, [[1, 0, 0]]).unwrap()), numbers::TUPLE_LENGTH);
+    let none: [[u32; 4]; 0] = [];
+    assert_eq!(further.solver_from(&List::new(4, none).unwrap()).unwrap().complete().unwrap().len(), 0);
 }
 
 // ---- several runs in turns
