@@ -6,11 +6,12 @@ import sys
 
 import model
 
-CALLS, SEED, COEFFICIENTS = 2000, 7, 160
-KINDS = ("start", "combine", "take", "resume")
-HEAD = """# start p q .. | combine p q r s .. | take p q e f .. | resume p q budget ..: a call of the engine. c: the map's coefficients; b: the factors of a row
-# operation, of equation r and of equation s; e, l, s and r: working system, basis, table of the stage and record before and after the call; t: mothers; h: the
-# lengths of sizes, values, words, degrees and marks. A letter with a number, as s4: what stands from that entry on after the call. A: the answer, a number.
+CALLS, FURTHER, SEED, COEFFICIENTS = 2000, 300, 7, 160
+KINDS = ("start", "combine", "take", "resume", "from")
+HEAD = """# start p q .. | from p q n .. | combine p q r s .. | take p q e f .. | resume p q budget ..: a call of the engine. c: the map's coefficients; b: the factors
+# of a row operation, of equation r and of equation s; e, l, s and r: working system, basis, table of the stage and record before and after the call; from is
+# handed the n rows of s; t: mothers; h: the lengths of sizes, values, words, degrees and marks. A letter with a number, as s4: what stands from that entry on
+# after the call. A: the answer, a number.
 """
 
 
@@ -50,6 +51,8 @@ def main():
     drawn.edges()
     while len(drawn.lines) < CALLS:
         drawn.run()
+    while len(drawn.lines) < CALLS + FURTHER:
+        drawn.group()
     (folder / "stdin").write_text(HEAD + "\n".join(drawn.lines) + "\n")
     (folder / "stdout").write_text(f"calls {len(drawn.lines)} agreed {len(drawn.lines)}\n")
 

@@ -112,8 +112,8 @@ fn made(
     )
 }
 
-// p and q; then of a row operation the two equations, whose factors are a table of their own, of a stage's begin the equation and the fresh unknown, and of
-// a continuing call the budget.
+// p and q; then of a start from a list the number of its rows, which are the line's table, of a row operation the two equations, whose factors are a table
+// of their own, of a stage's begin the equation and the fresh unknown, and of a continuing call the budget.
 fn beside(
     l: Line,
     equations: &mut [i32],
@@ -139,6 +139,11 @@ fn beside(
             let coefficients = l.coefs;
             let coefs = first_signed(&coefficients, l.coefs_length);
             c_engine::start(p, q, coefs, equations, basis, sizes, record)
+        }
+        b'f' => {
+            let coefficients = l.coefs;
+            let coefs = first_signed(&coefficients, l.coefs_length);
+            c_engine::start_from(p, q, coefs, r, table, equations, basis, sizes, record)
         }
         b'c' => c_engine::combine(
             p,
