@@ -65,6 +65,16 @@ fn called(
     if table.len() < t || mothers.len() < m || record.len() < w {
         return OTHER;
     }
+    let kind = l.kind;
+    if kind == b's' || kind == b'f' {
+        return started(
+            l,
+            &mut equations[0..e],
+            &mut basis[0..b],
+            &table[0..t],
+            &mut record[0..w],
+        );
+    }
     made(
         l,
         &mut equations[0..e],
@@ -72,6 +82,43 @@ fn called(
         &mut table[0..t],
         &mut mothers[0..m],
         &mut record[0..w],
+    )
+}
+
+// A start, plain or from a list: of the second the rows are the line's table.
+fn started(
+    l: Line,
+    equations: &mut [i32],
+    basis: &mut [u32],
+    rows: &[u32],
+    record: &mut [u64],
+) -> u64 {
+    let n = l.shares;
+    let s = n[0] as usize;
+    if ROOM < s {
+        return OTHER;
+    }
+    let sizes = [0u32; 320];
+    let x = l.operands;
+    let p = x[0] as usize;
+    let q = x[1] as usize;
+    let count = x[2] as usize;
+    let coefficients = l.coefs;
+    let coefs = first_signed(&coefficients, l.coefs_length);
+    let kind = l.kind;
+    if kind == b's' {
+        return c_engine::start(p, q, coefs, equations, basis, &sizes[0..s], record);
+    }
+    c_engine::start_from(
+        p,
+        q,
+        coefs,
+        count,
+        rows,
+        equations,
+        basis,
+        &sizes[0..s],
+        record,
     )
 }
 
@@ -112,8 +159,8 @@ fn made(
     )
 }
 
-// p and q; then of a start from a list the number of its rows, which are the line's table, of a row operation the two equations, whose factors are a table
-// of their own, of a stage's begin the equation and the fresh unknown, and of a continuing call the budget.
+// p and q; then of a row operation the two equations, whose factors are a table of their own, of a stage's begin the equation and the fresh unknown, and of
+// a continuing call the budget.
 fn beside(
     l: Line,
     equations: &mut [i32],
@@ -135,16 +182,6 @@ fn beside(
     let s = x[3] as usize;
     let kind = l.kind;
     match kind {
-        b's' => {
-            let coefficients = l.coefs;
-            let coefs = first_signed(&coefficients, l.coefs_length);
-            c_engine::start(p, q, coefs, equations, basis, sizes, record)
-        }
-        b'f' => {
-            let coefficients = l.coefs;
-            let coefs = first_signed(&coefficients, l.coefs_length);
-            c_engine::start_from(p, q, coefs, r, table, equations, basis, sizes, record)
-        }
         b'c' => c_engine::combine(
             p,
             q,
