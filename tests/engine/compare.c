@@ -26,15 +26,17 @@ typedef struct {
 } lent;
 
 typedef struct {
-    int kind; /* 0 start, 1 combine, 2 take, 3 resume */
+    int kind; /* 0 start, 1 combine, 2 take, 3 resume, 4 start from a list */
     size_t r, s;
     int32_t u, t;
     uint64_t budget;
     int32_t coefs[WIDE * WIDE];
-    size_t coefs_len;
+    size_t coefs_len, n, rows_len; /* the n rows handed over are in `handed` */
 } call;
 
-static uint64_t seed, calls, boxes, ended, answers[256];
+static uint32_t handed[ROOM * WIDE];
+
+static uint64_t seed, calls, boxes, ended, answers[256], lists[256];
 static uint64_t draw(uint64_t n)
 {
     seed = seed * UINT64_C(6364136223846793005) + UINT64_C(1442695040888963407);
@@ -51,9 +53,14 @@ static uint64_t draw(uint64_t n)
     (w)->p, (w)->q, (c)->coefs, (c)->coefs_len, (w)->equations, (w)->equations_len, (w)->basis, (w)->basis_len, (w)->sizes, (w)->beside[0], (w)->record, \
         (w)->record_len
 
+#define FROM(w, c) \
+    (w)->p, (w)->q, (c)->coefs, (c)->coefs_len, (c)->n, handed, (c)->rows_len, (w)->equations, (w)->equations_len, (w)->basis, (w)->basis_len, (w)->sizes, \
+        (w)->beside[0], (w)->record, (w)->record_len
+
 static uint64_t by_subject(lent *w, const call *c)
 {
     switch (c->kind) {
+    case 4: return dezgula_raw_engine_start_from(FROM(w, c));
     case 0: return dezgula_raw_engine_start(START(w, c));
     case 1: return dezgula_raw_engine_combine(LENT(w), c->r, c->u, c->s, c->t);
     case 2: return dezgula_raw_engine_take(LENT(w), c->r, c->s);
@@ -64,6 +71,7 @@ static uint64_t by_subject(lent *w, const call *c)
 static uint64_t by_other(lent *w, const call *c)
 {
     switch (c->kind) {
+    case 4: return twin_engine_start_from(FROM(w, c));
     case 0: return twin_engine_start(START(w, c));
     case 1: return twin_engine_combine(LENT(w), c->r, c->u, c->s, c->t);
     case 2: return twin_engine_take(LENT(w), c->r, c->s);
@@ -79,6 +87,7 @@ static uint64_t by_other(lent *w, const call *c)
                          least(least(least(w->table_len / q, b[1]), least(b[2], b[3])), least(b[4], b[5])),
                          w->equations_len, w->record_len, w->equations, w->basis, w->table, w->record};
     switch (c->kind) {
+    case 4: return plain_start_from(&other, c->coefs, c->coefs_len, c->n, handed, c->rows_len);
     case 0: return plain_start(&other, c->coefs, c->coefs_len);
     case 1: return plain_combine(&other, c->r, c->u, c->s, c->t);
     case 2: return plain_take(&other, c->r, c->s);
@@ -97,7 +106,7 @@ static uint64_t both(lent *w, const call *c)
     bool same = answer == other && memcmp(w->equations, theirs.equations, sizeof w->equations) == 0 && memcmp(w->basis, theirs.basis, sizeof w->basis) == 0
              && memcmp(w->table, theirs.table, sizeof w->table) == 0 && memcmp(w->record, theirs.record, sizeof w->record) == 0;
     calls++;
-    answers[dezgula_number(answer)]++;
+    (c->kind == 4 ? lists : answers)[dezgula_number(answer)]++;
     if (same) return answer;
     fprintf(stderr, "compare: call %" PRIu64 " of kind %d, %zu x %zu: answers %" PRIu64 " and %" PRIu64 ", or other rows\n", calls, c->kind, w->p, w->q, answer,
             other);
@@ -220,27 +229,85 @@ static void aside(const lent *w)
     draw_call(&copy, &c);
     (void)!both(&copy, &c);
 }
+/* stages to the end of the map, with calls aside; whether it came to its end */
+static bool to_the_end(lent *w)
+{
+    call c;
+    const uint64_t budget = draw(4) == 0 ? 1 : draw(3) == 0 ? 1 + draw(50) : 1000;
+    for (size_t turns = 0; turns < 200; turns++) {
+        if (draw(3) == 0) aside(w);
+        if (w->record[P_EQUATION] < w->p) c = (call){.kind = 3, .budget = budget};
+        else if (draw(4) == 0)
+            c = (call){.kind = 1, .r = draw(w->p), .s = draw(w->p), .u = draw(2) ? -1 : 1 + (int32_t)draw(2), .t = (int32_t)draw(5) - 2};
+        else draw_take(w, &c);
+        uint64_t answer = both(w, &c);
+        if (answer == DEZGULA_COMPLETE) return true;
+        if (answer == DEZGULA_COMPONENT || answer == DEZGULA_ENGINE_FULL) return false;
+    }
+    return false;
+}
+/* a start from a list with one fault or none */
+static void draw_fault(lent *w, call *c)
+{
+    static const size_t many[5] = {0, 1, 1000000001, SIZE_MAX / 2 + 1, SIZE_MAX};
+    const size_t at = c->rows_len > 0 ? draw(c->rows_len) : 0;
+    switch (draw(12)) {
+    case 0: w->p = draw(2) ? 0 : 33; break;
+    case 1: w->q = draw(2) ? 0 : 33; break;
+    case 2: c->coefs_len -= 1; break;
+    case 3: w->equations_len -= 1; break;
+    case 4: w->beside[0] = draw(c->n + 2); break;
+    case 5: w->basis_len = draw(c->rows_len + 2); break;
+    case 6: c->n = c->n + many[draw(5)] - draw(2); break;
+    case 7: c->rows_len += draw(2) ? 1 : c->rows_len > 0 ? (size_t)-1 : 0; break;
+    case 8: handed[at] = draw(2) ? P_LIMIT + 1 : P_LIMIT; break;
+    case 9: memset(handed + at / w->q * w->q, 0, w->q * sizeof *handed); break;
+    case 10: c->coefs[draw(c->coefs_len)] = draw(2) ? 10001 : -10001; break;
+    default: *(draw(2) ? &w->record_len : &w->record[P_DONE]) = draw(2) ? 9 : UINT64_C(1) << 32;
+    }
+    if (w->record_len > P_WORDS) w->record_len = P_WORDS - 1;
+}
+/* the list of the map handed over to further equations, which stand behind the map's own where they go to their end */
+static void from_list(call *map)
+{
+    static lent copy;
+    static call c, other;
+    static uint32_t rows[ROOM * WIDE];
+    const size_t p = mine.p, n = mine.record[P_COUNT], rows_len = n * mine.q;
+    if (rows_len > ROOM * WIDE - WIDE) return;
+    draw_map(&copy, &c);
+    copy.q = mine.q, copy.p = 1 + draw(2), c.coefs_len = copy.p * copy.q, copy.equations_len = c.coefs_len;
+    copy.basis_len = copy.table_len = ROOM * copy.q;
+    for (size_t i = 0; i < c.coefs_len; i++) c.coefs[i] = (int32_t)draw(5) - 2;
+    for (int i = 0; i < 6; i++) copy.beside[i] = ROOM;
+    c.kind = 4, c.n = n, c.rows_len = rows_len;
+    memcpy(copy.record, mine.record, sizeof copy.record);
+    memcpy(rows, mine.basis, sizeof rows);
+    mine = copy;
+    for (int i = 0; i < 4; i++) {
+        copy = mine, other = c;
+        memcpy(handed, rows, sizeof handed);
+        draw_fault(&copy, &other);
+        (void)!both(&copy, &other);
+    }
+    memcpy(handed, rows, sizeof handed);
+    if (both(&mine, &c) != DEZGULA_STARTED || !to_the_end(&mine)) return;
+    ended++;
+    if (p + mine.p > WIDE || mine.q > 5) return;
+    memcpy(map->coefs + p * mine.q, c.coefs, c.coefs_len * sizeof *c.coefs);
+    const size_t further = mine.p;
+    mine.p += p;
+    check_box(map, &mine);
+    mine.p = further;
+}
 static void one_run(void)
 {
     static call map;
-    call c;
     draw_map(&mine, &map);
-    if (both(&mine, &map) != DEZGULA_STARTED) return;
-    const uint64_t budget = draw(4) == 0 ? 1 : draw(3) == 0 ? 1 + draw(50) : 1000;
-    for (size_t turns = 0; turns < 200; turns++) {
-        if (draw(3) == 0) aside(&mine);
-        if (mine.record[P_EQUATION] < mine.p) c = (call){.kind = 3, .budget = budget};
-        else if (draw(4) == 0)
-            c = (call){.kind = 1, .r = draw(mine.p), .s = draw(mine.p), .u = draw(2) ? -1 : 1 + (int32_t)draw(2), .t = (int32_t)draw(5) - 2};
-        else draw_take(&mine, &c);
-        uint64_t answer = both(&mine, &c);
-        if (answer == DEZGULA_COMPLETE) {
-            ended++;
-            if (mine.q <= 5) check_box(&map, &mine);
-            return;
-        }
-        if (answer == DEZGULA_COMPONENT || answer == DEZGULA_ENGINE_FULL) return;
-    }
+    if (both(&mine, &map) != DEZGULA_STARTED || !to_the_end(&mine)) return;
+    ended++;
+    if (mine.q <= 5) check_box(&map, &mine);
+    if (draw(2)) from_list(&map);
 }
 
 int main(int argc, char **argv)
@@ -251,6 +318,9 @@ int main(int argc, char **argv)
     printf("%" PRIu64 " calls, the same; %" PRIu64 " runs ended, %" PRIu64 " as their box; answers", calls, ended, boxes);
     for (int i = 0; i < 256; i++)
         if (answers[i] > 0) printf(" %d: %" PRIu64, i, answers[i]);
+    printf("; starts from a list");
+    for (int i = 0; i < 256; i++)
+        if (lists[i] > 0) printf(" %d: %" PRIu64, i, lists[i]);
     puts("");
     return 0;
 }

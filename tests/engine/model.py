@@ -5,8 +5,9 @@
 
 A vector is ten lines, each a word, the number of its numbers, and the numbers:
 
-    call       0 start, 1 combine, 2 take, 3 resume; p; q; then the call's own arguments (combine: r u s t; take: e f; resume: budget)
-    coefs      start only, else none
+    call       0 start, 1 combine, 2 take, 3 resume, 4 start from a list; p; q; then the call's own arguments (combine: r u s t; take: e f; resume: budget;
+               start from a list: the number of rows, which are what the table holds)
+    coefs      the starts only, else none
     equations  basis  table  mothers  record     what is lent
     beside     the lengths of sizes, values, words, degrees and marks, which have nothing that matters
     answer     the answer, its place above its low 8 bits
@@ -98,6 +99,29 @@ def start(p, q, coefs, w):
     w.equations[: p * q] = coefs
     w.basis[: q * q] = [int(i == j) for i in range(q) for j in range(q)]
     w.record[:] = [0, p, q, q, 0, 0, 0, 0, 0, 0]
+    return STARTED
+
+
+def is_list(q, n, rows):
+    return len(rows) == n * q and all(x <= LIMIT for x in rows) and all(sum(rows[i * q : i * q + q]) > 0 for i in range(n))
+
+
+def start_from(p, q, coefs, n, rows, w):
+    refusal = size_refusal(p, q)
+    if refusal:
+        return refusal
+    if len(coefs) != p * q:
+        return 3
+    if len(w.equations) < p * q or w.most(q) < max(q, n):
+        return 4
+    if len(w.record) != WORDS or w.record[DONE] >= 2**32 or not is_list(q, n, rows):
+        return 6
+    for place, c in enumerate(coefs, 1):
+        if abs(c) > MAP_LIMIT:
+            return 7 + 256 * place
+    w.equations[: p * q] = coefs
+    w.basis[: n * q] = rows
+    w.record[:] = [0, p, q, n, 0, 0, 0, 0, 0, 0]
     return STARTED
 
 
@@ -260,7 +284,12 @@ class Drawn:
 
     def call(self, kind, p, q, w, own, coefs=()):
         before = w.copy()
-        answer = start(p, q, list(coefs), w) if kind == 0 else (combine, take, resume)[kind - 1](p, q, w, *own)
+        if kind == 0:
+            answer = start(p, q, list(coefs), w)
+        elif kind == 4:
+            answer = start_from(p, q, list(coefs), own[0], before.table, w)
+        else:
+            answer = (combine, take, resume)[kind - 1](p, q, w, *own)
         self.written(kind, p, q, own, coefs, before, answer, w)
         self.calls += 1
         return answer
@@ -360,6 +389,56 @@ class Drawn:
                 return
             self.stage(p, q, w, budget)
 
+    def spoiled(self, p, q, w, n, coefs):
+        """A start from a list with one or two faults."""
+        r, w, coefs, row = self.r, w.copy(), list(coefs), self.r.randrange(n) if n > 0 else 0
+        for kind in r.sample(range(12), r.randint(1, 2)):
+            if kind == 0:
+                p = r.choice([0, 33])
+            elif kind == 1:
+                q = r.choice([0, 33])
+            elif kind == 2:
+                del coefs[-1:]
+            elif kind == 3:
+                short = r.choice([w.equations, w.basis, w.table])
+                del short[r.randint(0, max(len(short) - 1, 0)) :]
+            elif kind == 4:
+                w.beside[0] = r.choice([max(n - 1, 0), n, n + 1])
+            elif kind < 7:
+                n = r.choice([n + 1, max(n - 1, 0), 10**9 + 1, 2**63, 2**64 - 1])
+            elif kind == 7 and w.table:
+                w.table[min(len(w.table) - 1, row * max(q, 1))] = r.choice([LIMIT, LIMIT + 1, 2**32 - 1])
+            elif kind == 8:
+                w.table[row * q : row * q + q] = [0] * len(w.table[row * q : row * q + q])
+            elif kind == 9 and coefs:
+                coefs[r.randrange(len(coefs))] = r.choice([10000, 10001, -10000, -10001])
+            elif kind == 10:
+                w.record[DONE] = r.choice([2**32 - 1, 2**32])
+            elif kind == 11:
+                del w.record[-1:]
+        self.call(4, p, q, w, [n], coefs)
+
+    def group(self):
+        """The list of a map handed over to further equations: the start with faults and as it is, and its stages to their end."""
+        p, q, coefs = self.system()
+        w = self.lent(p, q, 60)
+        start(p, q, coefs, w)
+        for e in range(p):
+            take(p, q, w, e, q)
+            if resume(p, q, w, 4000) not in (PAUSED, COMPLETE) or w.record[EQUATION] != p:
+                return
+        n, p = w.record[COUNT], self.r.randint(1, 3)
+        further = [self.r.choice([0, 1, 1]) * self.r.randint(-3, 3) for _ in range(p * q)]
+        v = self.lent(p, q, self.r.choice([max(q, n), max(q, n) + 1, 60]))
+        v.table[:] = w.basis[: n * q]
+        for _ in range(4):
+            self.spoiled(p, q, v, n, further)
+        if self.call(4, p, q, v, [n], further) != STARTED:
+            return
+        v.table[:] = [self.r.randint(0, 3) for _ in range(60 * q)]
+        v.mothers[:], v.beside[1:] = [self.r.randint(0, 120) for _ in range(60)], [60] * 4
+        while v.record[EQUATION] == p and v.record[DONE] != 2**p - 1:
+            self.stage(p, q, v, self.r.choice([5, 1000]))
 
     def edges(self):
         """Sums and values above the limit of a component, and steps at theirs."""
@@ -404,6 +483,8 @@ def main():
     drawn.edges()
     while drawn.calls < calls:
         drawn.run()
+    while drawn.calls < calls + calls // 2:
+        drawn.group()
 
 
 if __name__ == "__main__":

@@ -191,6 +191,30 @@ static inline uint64_t plain_start(const plain *w, const int32_t *coefs, size_t 
     memcpy(w->record, first, sizeof first);
     return P_STARTED;
 }
+static inline bool plain_list(const plain *w, size_t n, const uint32_t *rows, size_t rows_len)
+{
+    if (rows_len != n * w->q) return false;
+    for (size_t i = 0; i < rows_len; i++)
+        if (rows[i] > P_LIMIT) return false;
+    for (size_t i = 0; i < n; i++)
+        if (plain_degree(w, rows + i * w->q) == 0) return false;
+    return true;
+}
+static inline uint64_t plain_start_from(const plain *w, const int32_t *coefs, size_t coefs_len, size_t n, const uint32_t *rows, size_t rows_len)
+{
+    uint64_t refused = plain_size(w->p, w->q);
+    if (refused) return refused;
+    if (coefs_len != w->p * w->q) return 3;
+    if (w->equations_len < coefs_len || w->most < w->q || w->most < n) return 4;
+    if (w->record_len != P_WORDS || w->record[P_DONE] > UINT32_MAX || !plain_list(w, n, rows, rows_len)) return 6;
+    for (size_t i = 0; i < coefs_len; i++)
+        if (coefs[i] > 10000 || coefs[i] < -10000) return 7 + 256 * (uint64_t)(i + 1);
+    memcpy(w->equations, coefs, coefs_len * sizeof *coefs);
+    memcpy(w->basis, rows, rows_len * sizeof *rows);
+    const uint64_t first[P_WORDS] = {0, w->p, w->q, n, 0, 0, 0, 0, 0, 0};
+    memcpy(w->record, first, sizeof first);
+    return P_STARTED;
+}
 static inline uint64_t plain_combine(const plain *w, size_t r, int32_t u, size_t s, int32_t t)
 {
     uint64_t refused = plain_standing(w);
