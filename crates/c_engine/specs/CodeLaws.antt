@@ -149,7 +149,7 @@ module _ (p q : ℕ) where
   start-fits coefs most w = fits-checked (calls.startChecks p q coefs most w) w _ (small-start p q coefs most w) (omega arith)
 
   pub start-from-fits : (coefs : List ℤ) (n : ℕ) (rows : List ℕ) (most : ℕ) (w : Work) → Fits (calls.startFrom p q coefs n rows most w .answer)
-  unfolding calls.startFrom
+  unfolding calls.startFromUnder
   start-from-fits coefs n rows most w =
       fits-checked (calls.startFromChecks p q coefs n rows most w) w _ (small-start-from p q coefs n rows most w) (omega arith)
 
