@@ -23,7 +23,7 @@ enum { MOST = DEZGULA_ENGINE_MOST, COEFFICIENTS = DEZGULA_ENGINE_COEFFICIENTS, R
 enum { RACE_EQUATIONS = 3, RACE_COEFFICIENT = 12, FIRST_RACE = 2000, RACE_TIMES = 3, RACE_DOUBT = 16, RACE_ROWS = 16 };
 /* the rules: the equations as they are; the same, or cleared by units; of a race, a column kept for the last equation, and an equation that is the first */
 enum { AS_IS, UNITS, COLUMN, FIRST = COLUMN + MOST, RULES = FIRST + RACE_EQUATIONS };
-enum { SHORTEN_TURNS = 100, OPERATION_LIMIT = 1000000 };
+enum { SPREAD_EQUATIONS = 5, SHORTEN_TURNS = 100, OPERATION_LIMIT = 1000000 }; /* with fewer equations values tell nothing more, but in a race */
 static const uint64_t ALL_RULES = (UINT64_C(1) << RULES) - 1;
 enum { FIRST_ROWS = 64, FIRST_ROUND = 30000, ROUND_TIMES = 8, SOON = 20000, FIRST_PACE = 20000, CLEAR_LIMIT = 100000 };
 enum { ABOVE_WORK = 300000, ABOVE_TURNS = 5000, ABOVE_MOST = 200 }; /* how long a sum of equations above 0 is looked for, and its largest multiplier */
@@ -313,11 +313,19 @@ static double count_signs(const dezgula_solver *s, const int64_t *c, double *ups
     size_t shared = common > 0 ? bits((uint64_t)common) - 1 : 0;
     return spread(sum - shared * (up + down), up + down);
 }
+/* few equations with large coefficients: no rule tells how long their stages take */
+static bool races(const dezgula_solver *s)
+{
+    bool large = false;
+    for (size_t k = 0; s->p > 1 && s->p <= RACE_EQUATIONS && k < s->p * s->q; k++) large |= llabs(s->coefs[k]) >= RACE_COEFFICIENT;
+    return large;
+}
 /* what stage e of l costs first, and its fresh unknown, q where it has none */
 static double first_pairs(const dezgula_solver *s, const system_left *l, size_t e, uint32_t used, size_t *fresh)
 {
     const int64_t *c = l->m[e];
     double ups, downs, wide = count_signs(s, c, &ups, &downs);
+    if (s->p < SPREAD_EQUATIONS && !races(s)) wide = 1;
     size_t f = 0;
     while (f < s->q && (used >> f & 1 || (c[f] != 1 && c[f] != -1))) f++;
     *fresh = f;
@@ -477,13 +485,6 @@ static double column_size(const dezgula_solver *s, size_t j)
 
 /* ---- the rules of a race */
 
-/* few equations with large coefficients: no rule tells how long their stages take */
-static bool races(const dezgula_solver *s)
-{
-    bool large = false;
-    for (size_t k = 0; s->p > 1 && s->p <= RACE_EQUATIONS && k < s->p * s->q; k++) large |= llabs(s->coefs[k]) >= RACE_COEFFICIENT;
-    return large;
-}
 /* the columns in the order of these sizes: the place of each */
 static void find_places(dezgula_solver *s)
 {
