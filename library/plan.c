@@ -2,7 +2,8 @@
  *
  * The order of the equations decides how long a map takes, and no rule is best for all. So one rule after the other is followed up to the last equation, as far
  * as it promises to be cheaper, and the last stage is done after the best one. None may take more turns than the round allows; where all would, the next
- * round allows more.
+ * round allows more. Of two or three equations with large coefficients no first pairs tell how long a stage takes: there the rules race, each to its end within
+ * the turns and rows of the round. What a try may take is counted in turns and rows alone, so that the same map has the same list in the same order.
  *
  * Decided here: an equation that is a combination of others is made zero at the start by the row operations that tell it, and taken while the basis is small;
  * where the coefficients on the way would be too large, it is taken last, when all rows have the value 0 in it. Where a sum of equations has only
@@ -17,7 +18,13 @@
 #include <time.h>
 
 enum { MOST = DEZGULA_ENGINE_MOST, COEFFICIENTS = DEZGULA_ENGINE_COEFFICIENTS, RECORD = DEZGULA_ENGINE_RECORD_LENGTH };
-enum { AS_IS, UNITS, RULES };
+/* a race is for so many equations with a coefficient so large; its first round, and how each grows; a cost that was guessed may be so many times too high; the
+ * square of a try's rows is so many times its turns */
+enum { RACE_EQUATIONS = 3, RACE_COEFFICIENT = 12, FIRST_RACE = 2000, RACE_TIMES = 3, RACE_DOUBT = 16, RACE_ROWS = 16 };
+/* the rules: the equations as they are; the same, or cleared by units; of a race, a column kept for the last equation, and an equation that is the first */
+enum { AS_IS, UNITS, COLUMN, FIRST = COLUMN + MOST, RULES = FIRST + RACE_EQUATIONS };
+enum { SPREAD_EQUATIONS = 5, SHORTEN_TURNS = 100, OPERATION_LIMIT = 1000000 }; /* with fewer equations values tell nothing more, but in a race */
+static const uint64_t ALL_RULES = (UINT64_C(1) << RULES) - 1;
 enum { FIRST_ROWS = 64, FIRST_ROUND = 30000, ROUND_TIMES = 8, SOON = 20000, FIRST_PACE = 20000, CLEAR_LIMIT = 100000 };
 enum { ABOVE_WORK = 300000, ABOVE_TURNS = 5000, ABOVE_MOST = 200 }; /* how long a sum of equations above 0 is looked for, and its largest multiplier */
 /* measured: a stage without a fresh unknown, and the last one, cost so many times their first pairs */
@@ -40,6 +47,7 @@ struct dezgula_solver {
     uint64_t over, failed, late;     /* over: bit by rule, it got to the last stage; or failed: it was refused. late: bit by equation, taken last */
     uint64_t round, limit, promised; /* turns: of this round; that this try may take; that the kept one promises to take, UINT64_MAX where none is kept */
     uint64_t tried[RULES];           /* the turns that each rule was given */
+    size_t place[MOST];              /* of a column in a race, which it decides by the map alone */
     uint64_t past, pace;             /* turns of tries given up; those that take about 50 ms */
 };
 
@@ -277,30 +285,54 @@ static size_t clear(system_left *l, size_t q, uint32_t used)
     }
     return l->n - turn;
 }
-/* rows of the basis with a value above 0 and below 0 */
-static void count_signs(const dezgula_solver *s, const int64_t *c, double *ups, double *downs)
+static size_t bits(uint64_t v)
 {
-    size_t in[MOST], n = 0, up = 0, down = 0;
+    size_t n = 0;
+    for (; v > 0; v >>= 1) n++;
+    return n;
+}
+/* about 2^(5/6 (n - 1)), where the values have n bits in the mean: so many times its first pairs a stage costs that keeps the value 0 alone (measured) */
+static double spread(size_t all_bits, size_t values)
+{
+    double n = values == 0 || all_bits < values ? 0 : 5 * (double)(all_bits - values) / (6 * (double)values);
+    const unsigned whole = (unsigned)n;
+    return (1 + n - whole) * (double)(UINT64_C(1) << whole);
+}
+/* rows of the basis with a value above 0 and below 0, and the spread of these values without their common factor */
+static double count_signs(const dezgula_solver *s, const int64_t *c, double *ups, double *downs)
+{
+    size_t in[MOST], n = 0, up = 0, down = 0, sum = 0;
+    int64_t common = 0;
     for (size_t j = 0; j < s->q; j++)
         if (c[j] != 0) in[n++] = j;
     const uint32_t *x = s->run.basis;
     for (size_t i = 0; i < s->run.record.count; i++, x += s->q) {
         int64_t v = 0;
         for (size_t k = 0; k < n; k++) v += c[in[k]] * x[in[k]];
-        up += v > 0, down += v < 0;
+        up += v > 0, down += v < 0, sum += bits((uint64_t)llabs(v));
+        if (common != 1) common = gcd(common, v);
     }
     *ups = (double)up, *downs = (double)down;
+    size_t shared = common > 0 ? bits((uint64_t)common) - 1 : 0;
+    return spread(sum - shared * (up + down), up + down);
+}
+/* few equations with large coefficients, not from a list: no rule tells how long their stages take */
+static bool races(const dezgula_solver *s)
+{
+    bool large = false;
+    for (size_t k = 0; s->list == NULL && s->p > 1 && s->p <= RACE_EQUATIONS && k < s->p * s->q; k++) large |= llabs(s->coefs[k]) >= RACE_COEFFICIENT;
+    return large;
 }
 /* what stage e of l costs first, and its fresh unknown, q where it has none */
 static double first_pairs(const dezgula_solver *s, const system_left *l, size_t e, uint32_t used, size_t *fresh)
 {
     const int64_t *c = l->m[e];
-    double ups, downs;
-    count_signs(s, c, &ups, &downs);
+    double ups, downs, wide = count_signs(s, c, &ups, &downs);
+    if (s->p < SPREAD_EQUATIONS && !races(s)) wide = 1;
     size_t f = 0;
     while (f < s->q && (used >> f & 1 || (c[f] != 1 && c[f] != -1))) f++;
     *fresh = f;
-    return f == s->q ? EQUAL * ups * downs : c[f] > 0 ? (ups - 1) * downs : ups * (downs - 1);
+    return f == s->q ? EQUAL * ups * downs * wide : c[f] > 0 ? (ups - 1) * downs : ups * (downs - 1);
 }
 /* how many of the other equations would have no fresh unknown after equation e */
 static size_t stuck(const system_left *l, size_t e, size_t q, uint32_t used)
@@ -318,6 +350,7 @@ typedef struct {
     system_left left;
     size_t e, fresh;
     double shown, cost;
+    bool last; /* no other is left */
 } choice;
 
 static void choose_of(const dezgula_solver *s, const system_left *l, uint32_t used, double weight, choice *best)
@@ -333,15 +366,38 @@ static void choose_of(const dezgula_solver *s, const system_left *l, uint32_t us
         if (l != &best->left) best->left = *l;
     }
 }
-/* Rule AS_IS: the equations as they are, the fewest pairs. Rule UNITS: as they are or cleared, and each later equation that would have no fresh unknown
- * counts */
+/* the column that the rule keeps for the last equation, q where it keeps none */
+static size_t column_of(const dezgula_solver *s) { return s->rule >= COLUMN && s->rule < FIRST ? s->rule - COLUMN : s->q; }
+/* whether the rule takes equation e of l among the first: the one that it names, or all without the column that it keeps */
+static bool is_early(const dezgula_solver *s, const system_left *l, size_t e)
+{
+    const size_t j = column_of(s);
+    return s->rule >= FIRST && l->n == s->p ? l->id[e] == s->rule - FIRST : j < s->q && l->m[e][j] == 0;
+}
+/* of the equations left those that the rule takes first, where there are some */
+static void leave_early(const dezgula_solver *s, system_left *l)
+{
+    bool early[MOST], any = false;
+    size_t n = 0;
+    for (size_t e = 0; e < l->n; e++) any |= early[e] = is_early(s, l, e);
+    for (size_t e = 0; any && e < l->n; e++) {
+        if (!early[e]) continue;
+        if (n < e) l->id[n] = l->id[e], memcpy(l->m[n], l->m[e], sizeof *l->m);
+        n++;
+    }
+    if (any) l->n = n;
+}
+/* Rule UNITS: the equations as they are or cleared, and each later equation that would have no fresh unknown counts. The others: as they are, the fewest
+ * pairs */
 static void choose(const dezgula_solver *s, choice *best)
 {
     const uint32_t used = mentioned(s);
     best->shown = best->cost = NEVER;
     best->e = 0, best->fresh = s->q;
     find_left(s, &best->left);
-    if (s->rule == AS_IS || best->left.n < 2) {
+    best->last = best->left.n == 1;
+    leave_early(s, &best->left);
+    if (s->rule != UNITS || best->last) {
         choose_of(s, &best->left, used, 1, best);
         return;
     }
@@ -351,8 +407,134 @@ static void choose(const dezgula_solver *s, choice *best)
     choose_of(s, &cleared, used, WEIGHT, best);
 }
 
+/* ---- small equations, and a column kept for the last one */
+
+static int64_t dot(const int64_t *a, const int64_t *b, size_t q)
+{
+    int64_t sum = 0;
+    for (size_t j = 0; j < q; j++) sum += a[j] * b[j];
+    return sum;
+}
+static int64_t nearest(int64_t a, int64_t b) { return (2 * a + (a < 0 ? 1 - b : b - 1)) / (2 * b); } /* to a / b, b above 0 */
+/* equation k and `times` equation `by` in its place; false, with nothing changed, where a coefficient would be too large for the engine */
+static bool add_times(system_left *l, size_t q, size_t k, size_t by, int64_t times)
+{
+    if (times < -OPERATION_LIMIT || times > OPERATION_LIMIT || l->operations == MOST * MOST) return false;
+    for (size_t i = 0; i < q; i++)
+        if (llabs(l->m[k][i] + times * l->m[by][i]) > OPERATION_LIMIT) return false;
+    for (size_t i = 0; i < q; i++) l->m[k][i] += times * l->m[by][i];
+    l->done[l->operations++] = (operation){l->id[k], l->id[by], times};
+    return true;
+}
+/* multiples of one equation are added to another as long as that makes it smaller; among those without the unknown `but` */
+static void shorten(system_left *l, size_t q, size_t but)
+{
+    bool any = true;
+    for (size_t turn = 0; any && turn < SHORTEN_TURNS; turn++) {
+        any = false;
+        for (size_t k = 0; k < l->n * l->n; k++) {
+            const size_t e = k / l->n, by = k % l->n;
+            if (e == by || (but < q && (l->m[e][but] != 0 || l->m[by][but] != 0))) continue;
+            const int64_t size = dot(l->m[by], l->m[by], q), times = size == 0 ? 0 : nearest(dot(l->m[e], l->m[by], q), size);
+            any |= times != 0 && add_times(l, q, e, by, -times);
+        }
+    }
+}
+/* the equation with the least coefficient of unknown j that is not 0, n where there is none */
+static size_t least_in(const system_left *l, size_t j)
+{
+    size_t least = l->n;
+    for (size_t e = 0; e < l->n; e++)
+        if (l->m[e][j] != 0 && (least == l->n || llabs(l->m[e][j]) < llabs(l->m[least][j]))) least = e;
+    return least;
+}
+/* by Euclid's steps unknown j gets into one equation alone, as far as the coefficients stay small enough */
+static void keep_for_last(system_left *l, size_t q, size_t j)
+{
+    const size_t by = least_in(l, j);
+    bool any = false;
+    for (size_t e = 0; by < l->n && e < l->n; e++) {
+        if (e == by || l->m[e][j] == 0) continue;
+        any |= add_times(l, q, e, by, -nearest(l->m[by][j] > 0 ? l->m[e][j] : -l->m[e][j], llabs(l->m[by][j])));
+    }
+    if (any) keep_for_last(l, q, j);
+    else shorten(l, q, j);
+}
+/* how long the stage of an equation takes if it is the first, by its coefficients: about the logarithm of its turns (measured) */
+static double first_size(const int64_t *c, size_t q)
+{
+    size_t ups = 0, downs = 0, sum = 0;
+    int64_t common = 0;
+    for (size_t j = 0; j < q; j++) {
+        ups += c[j] > 0, downs += c[j] < 0, sum += bits((uint64_t)llabs(c[j]));
+        common = gcd(common, c[j]);
+    }
+    if (ups == 0 || downs == 0) return 0;
+    return (double)sum / (double)(ups + downs) - (double)bits((uint64_t)common) + (double)(2 * ups * downs);
+}
+/* that of the first equation where unknown j is kept for the last */
+static double column_size(const dezgula_solver *s, size_t j)
+{
+    double least = NEVER;
+    system_left l;
+    l.n = s->p, l.operations = 0;
+    for (size_t k = 0; k < s->p * s->q; k++) l.m[k / s->q][k % s->q] = s->coefs[k];
+    for (size_t e = 0; e < s->p; e++) l.id[e] = e;
+    keep_for_last(&l, s->q, j);
+    for (size_t e = 0; e < s->p; e++)
+        if (l.m[e][j] == 0 && first_size(l.m[e], s->q) < least) least = first_size(l.m[e], s->q);
+    return least;
+}
+
+/* ---- the rules of a race */
+
+/* the columns in the order of these sizes: the place of each */
+static void find_places(dezgula_solver *s)
+{
+    double sizes[MOST];
+    for (size_t j = 0; races(s) && j < s->q; j++) {
+        sizes[j] = column_size(s, j);
+        s->place[j] = 0;
+        for (size_t i = 0; i < j; i++) {
+            if (sizes[i] <= sizes[j]) s->place[j]++;
+            else s->place[i]++;
+        }
+    }
+}
+/* bit by rule, those that are never tried: in a race UNITS where there is no unit, and a column whose coefficients have a common factor; else all its own */
+static uint64_t left_out(const dezgula_solver *s)
+{
+    const uint64_t plain = UINT64_C(1) << AS_IS | UINT64_C(1) << UNITS;
+    uint64_t in = races(s) ? UINT64_C(1) << AS_IS : plain;
+    for (size_t j = 0; races(s) && j < s->q; j++) {
+        int64_t common = 0;
+        for (size_t e = 0; e < s->p; e++) {
+            common = gcd(common, s->coefs[e * s->q + j]);
+            if (llabs(s->coefs[e * s->q + j]) == 1) in |= plain;
+        }
+        if (common == 1) in |= UINT64_C(1) << (COLUMN + j);
+    }
+    for (size_t e = 0; races(s) && e < s->p; e++) in |= UINT64_C(1) << (FIRST + e);
+    return ALL_RULES & ~in;
+}
+/* the turns that a rule may take in this round. In a race the columns come in one after the other, and orders of the equations as they are a round later */
+static uint64_t allowed(const dezgula_solver *s, uint64_t rule)
+{
+    if (s->promised != UINT64_MAX) return s->promised;
+    uint64_t rounds = 0;
+    for (uint64_t n = FIRST_RACE; n < s->round && n < UINT64_MAX / RACE_TIMES; n *= RACE_TIMES) rounds++;
+    if (rule >= FIRST) return s->round / RACE_TIMES;
+    return rule >= COLUMN && s->place[rule - COLUMN] > rounds + 1 ? 0 : s->round;
+}
+
 /* ---- tries */
 
+static uint64_t operate(dezgula_solver *s, const system_left *l)
+{
+    uint64_t answer = DEZGULA_STARTED;
+    for (size_t i = 0; answer == DEZGULA_STARTED && i < l->operations; i++) answer = combine(s, l->done[i].row, 1, l->done[i].by, l->done[i].times);
+    return answer;
+}
 static uint64_t begin(dezgula_solver *s, uint64_t rule, uint64_t limit)
 {
     dezgula_system map = {s->p, s->q, s->coefs, s->p * s->q};
@@ -360,8 +542,15 @@ static uint64_t begin(dezgula_solver *s, uint64_t rule, uint64_t limit)
     s->rule = rule, s->limit = limit, s->phase = TRYING;
     dezgula_list list = {s->list, s->list_len, s->list_len / s->q};
     uint64_t answer = s->list != NULL ? dezgula_engine_start_from(&map, &list, &s->run) : dezgula_engine_start(&map, &s->run);
-    if (answer == DEZGULA_STARTED) find_combinations(s), find_infeasible(s);
-    return answer;
+    if (answer != DEZGULA_STARTED) return answer;
+    find_combinations(s);
+    if (rule == AS_IS) find_infeasible(s);
+    if (rule < COLUMN) return answer;
+    system_left l;
+    find_left(s, &l);
+    if (rule >= FIRST) shorten(&l, s->q, s->q);
+    else keep_for_last(&l, s->q, rule - COLUMN);
+    return operate(s, &l);
 }
 static bool keep(dezgula_solver *s, uint64_t promised)
 {
@@ -385,20 +574,32 @@ static void give_back(dezgula_solver *s)
     s->run.record = s->kept_record;
     s->rule = s->kept_rule, s->phase = LAST;
 }
+/* all rules that were not refused are due again, without a limit */
+static void start_over(dezgula_solver *s)
+{
+    s->over = s->failed, s->promised = UINT64_MAX, s->round = UINT64_MAX - 1;
+    memset(s->tried, 0, sizeof s->tried);
+}
 /* the next try: a rule that is left and has had fewer turns than are allowed now; or back to the kept one. 0, or the answer where nothing is left */
 static uint64_t next_try(dezgula_solver *s, uint64_t refusal)
 {
+    if (races(s) && s->rule == AS_IS) s->over |= UINT64_C(1) << AS_IS;
     for (;;) {
-        const uint64_t allowed = s->promised != UINT64_MAX ? s->promised : s->round;
         for (uint64_t i = 1; i <= RULES; i++) {
             uint64_t rule = (s->rule + i) % RULES;
-            if (s->over >> rule & 1 || s->tried[rule] >= allowed) continue;
-            s->tried[rule] = allowed;
-            return begin(s, rule, allowed) == DEZGULA_STARTED ? 0 : DEZGULA_ENGINE_FULL;
+            const uint64_t turns = allowed(s, rule);
+            if (s->over >> rule & 1 || s->tried[rule] >= turns) continue;
+            s->tried[rule] = turns;
+            return begin(s, rule, turns) == DEZGULA_STARTED ? 0 : DEZGULA_ENGINE_FULL;
         }
         if (s->promised != UINT64_MAX) return give_back(s), 0;
-        if (s->over == (UINT64_C(1) << RULES) - 1 || s->round == UINT64_MAX - 1) return refusal != 0 ? refusal : (uint64_t)DEZGULA_STEPS_AT_LIMIT;
-        s->round = s->round > UINT64_MAX / ROUND_TIMES ? UINT64_MAX - 1 : s->round * ROUND_TIMES;
+        if (s->failed == ALL_RULES || s->round == UINT64_MAX - 1) return refusal != 0 ? refusal : (uint64_t)DEZGULA_STEPS_AT_LIMIT;
+        if (s->over == ALL_RULES) {
+            start_over(s);
+            continue;
+        }
+        const uint64_t times = races(s) ? RACE_TIMES : ROUND_TIMES;
+        s->round = s->round > UINT64_MAX / times ? UINT64_MAX - 1 : s->round * times;
     }
 }
 /* this try was refused (a component above 1,000,000, or steps at their limit): its rule is over. In the last stage the others are due again, without a limit */
@@ -409,8 +610,7 @@ static uint64_t give_up(dezgula_solver *s, uint64_t refusal)
     if (s->phase == LAST) {
         free(s->kept);
         s->kept = NULL, s->kept_len = 0;
-        s->over = s->failed, s->promised = UINT64_MAX, s->round = UINT64_MAX - 1;
-        memset(s->tried, 0, sizeof s->tried);
+        start_over(s);
     }
     return next_try(s, refusal);
 }
@@ -440,12 +640,8 @@ static uint64_t take(dezgula_solver *s, size_t e, size_t f)
 }
 static uint64_t take_choice(dezgula_solver *s, const choice *c)
 {
-    for (size_t i = 0; i < c->left.operations; i++) {
-        const operation *o = &c->left.done[i];
-        uint64_t answer = combine(s, o->row, 1, o->by, o->times);
-        if (answer != DEZGULA_STARTED) return answer;
-    }
-    return take(s, c->left.id[c->e], c->fresh);
+    uint64_t answer = operate(s, &c->left);
+    return answer == DEZGULA_STARTED ? take(s, c->left.id[c->e], c->fresh) : answer;
 }
 /* an equation that costs nothing now, p where there is none: a zero one, or, where only such are left, a late one */
 static size_t find_free(const dezgula_solver *s)
@@ -466,12 +662,13 @@ static uint64_t next_stage(dezgula_solver *s)
     if (e < s->p) return take(s, e, s->q);
     choice c;
     choose(s, &c);
-    if (s->phase == TRYING && c.left.n == 1) {
+    if (s->phase == TRYING && c.last && !races(s)) {
         uint64_t answer;
         if (!settled(s, c.cost, &answer)) return answer;
         s->phase = LAST;
     }
-    if (s->phase == TRYING && (double)s->run.record.steps.count + c.cost > (double)s->limit) return next_try(s, 0);
+    const double cost = races(s) ? c.cost / RACE_DOUBT : c.cost;
+    if (s->phase == TRYING && (double)s->run.record.steps.count + cost > (double)s->limit) return next_try(s, 0);
     return take_choice(s, &c);
 }
 
@@ -535,16 +732,30 @@ static dezgula_solver *new_solver(const dezgula_system *system, const dezgula_li
     *answer = DEZGULA_ENGINE_FULL;
     if (s != NULL && (list == NULL || set_list(s, list->rows, list->rows_len)) && grow_basis(s, rows > q ? rows : q) && grow_table(s)) {
         memcpy(s->coefs, system->coefs, p * q * sizeof *s->coefs);
+        if (races(s)) s->round = FIRST_RACE;
         s->tried[AS_IS] = s->round;
+        s->over = s->failed = left_out(s);
         *answer = begin(s, AS_IS, s->round);
     }
-    if (*answer == DEZGULA_STARTED) return s;
+    if (*answer == DEZGULA_STARTED) {
+        find_places(s);
+        return s;
+    }
     dezgula_solver_free(s);
     return NULL;
 }
 dezgula_solver *dezgula_solver_new(const dezgula_system *system, uint64_t *answer) { return new_solver(system, NULL, answer); }
 dezgula_solver *dezgula_solver_new_from(const dezgula_system *system, const dezgula_list *list, uint64_t *answer) { return new_solver(system, list, answer); }
 
+/* the rows that a try of a race may have: a turn costs more the more there are */
+static size_t most_rows(const dezgula_solver *s)
+{
+    if (s->phase != TRYING || !races(s) || s->limit > MOST_PACE) return SIZE_MAX;
+    size_t rows = 0;
+    for (size_t bit = (size_t)1 << 24; bit > 0; bit /= 2)
+        if ((rows + bit) * (rows + bit) <= RACE_ROWS * s->limit) rows += bit;
+    return rows;
+}
 /* one call of the engine, or the choice of the next equation; DEZGULA_PAUSED where there is more to do */
 static uint64_t step(dezgula_solver *s, uint64_t budget)
 {
@@ -559,7 +770,14 @@ static uint64_t step(dezgula_solver *s, uint64_t budget)
         return answer == 0 ? (uint64_t)DEZGULA_PAUSED : answer;
     }
     if (s->phase == TRYING && budget > s->limit - r->steps.count) budget = s->limit - r->steps.count;
+    const size_t room = s->run.words_len, most = most_rows(s);
+    s->run.values_len = room < most ? room : most;
     answer = dezgula_engine_resume(s->p, s->q, &s->run, budget);
+    s->run.values_len = room;
+    if (answer == DEZGULA_ENGINE_FULL && r->rows >= most) {
+        answer = next_try(s, 0);
+        return answer == 0 ? (uint64_t)DEZGULA_PAUSED : answer;
+    }
     if (answer == DEZGULA_COMPLETE) s->phase = COMPLETE;
     if (answer == DEZGULA_ENGINE_FULL && (r->rows == s->run.words_len ? grow_table(s) : grow_basis(s, 0))) return DEZGULA_PAUSED;
     if (answer == DEZGULA_COMPONENT || answer == DEZGULA_STEPS_AT_LIMIT) {
@@ -619,7 +837,7 @@ void dezgula_solver_free(dezgula_solver *s)
 /* ---- a solver as words: a sign, the sizes, the numbers, the three systems, and the rows of the tables; and where it has another sign, those of the list that
  * it starts from, which are the words left */
 
-enum { SIGN = 0x445A4731, LIST_SIGN = 0x445A4732, OWN = 11 + RULES, NUMBERS = OWN + 2 * RECORD };
+enum { SIGN = 0x445A4733, LIST_SIGN = 0x445A4734, OWN = 11 + RULES, NUMBERS = OWN + 2 * RECORD };
 
 static void numbers_of(const dezgula_solver *s, uint64_t n[NUMBERS])
 {
@@ -670,7 +888,7 @@ static bool right_numbers(const dezgula_solver *s, size_t length)
     const dezgula_engine_record *r = &s->run.record, *k = &s->kept_record;
     const size_t most = length / s->q;
     const bool done = r->equation == s->p && r->done == (s->p < 32 ? (UINT32_C(1) << s->p) - 1 : UINT32_MAX);
-    if (s->phase > COMPLETE || s->rule >= RULES || s->kept_rule >= RULES || s->over >> RULES != 0 || s->failed >> RULES != 0) return false;
+    if (s->phase > COMPLETE || s->rule >= RULES || s->kept_rule >= RULES || s->over > ALL_RULES || s->failed > ALL_RULES) return false;
     if (s->late >> s->p != 0 || s->round == 0 || s->pace == 0 || s->pace > 2 * MOST_PACE || s->past > UINT64_MAX / 2) return false;
     if (r->count > most || r->rows > most || done != (s->phase == COMPLETE)) return false;
     return s->promised == UINT64_MAX || (k->count <= most && k->equation == s->p && k->rows == 0);
@@ -729,7 +947,10 @@ dezgula_solver *dezgula_solver_load(const uint32_t *words, size_t length, uint64
     right = right && others <= length && (from_list ? listed % q == 0 : listed == 0);
     *answer = right ? (uint64_t)DEZGULA_ENGINE_FULL : (uint64_t)DEZGULA_OUT_OF_ORDER;
     if (right && load_tables(s, words + 3 + 2 * NUMBERS, from_list, listed)) *answer = in_order(s) ? (uint64_t)DEZGULA_STARTED : (uint64_t)DEZGULA_OUT_OF_ORDER;
-    if (*answer == DEZGULA_STARTED) return s;
+    if (*answer == DEZGULA_STARTED) {
+        find_places(s);
+        return s;
+    }
     dezgula_solver_free(s);
     return NULL;
 }

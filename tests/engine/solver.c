@@ -1,5 +1,5 @@
 /* Tries the solver of dezgula_engine.h: refused maps, equations that are zero, repeated or combinations, pauses after every few turns, saved and loaded at each
- * of them, lists handed over to further equations, words that were damaged, and a limit of memory. Status 1 at the first thing wrong. */
+ * of them, rules that race, lists handed over to further equations, words that were damaged, and a limit of memory. Status 1 at the first thing wrong. */
 #include "dezgula_engine.h"
 
 #include <inttypes.h>
@@ -205,6 +205,26 @@ static void refused_lists(void)
     dezgula_solver_free(solver);
 }
 
+/* maps whose rules race: the same rows in the same order, however the run is cut and carried */
+static void races(void)
+{
+    static const uint64_t budgets[4] = {997, 20011, 0, 0};
+    int32_t coefs[3 * 5];
+    for (int n = 0; n < 40; n++) {
+        const size_t p = 2 + draw(2), q = p + 1 + draw(2);
+        uint64_t answer;
+        for (size_t i = 0; i < p * q; i++) coefs[i] = (int32_t)draw(81) - 40;
+        dezgula_solver *whole = finish(solver_of(p, q, coefs, &answer), UINT64_MAX, false);
+        for (int i = 0; i < 4; i++) {
+            dezgula_solver *parts = finish(solver_of(p, q, coefs, &answer), budgets[i], i < 3);
+            size_t count, other;
+            const uint32_t *rows = dezgula_solver_rows(whole, &count), *again = dezgula_solver_rows(parts, &other);
+            is(count == other && memcmp(rows, again, count * q * sizeof *rows) == 0, "a race that ends elsewhere");
+            dezgula_solver_free(parts);
+        }
+        dezgula_solver_free(whole);
+    }
+}
 /* one word, or some, made another; mostly among the numbers that stand first */
 static void damage(uint32_t *words, size_t length)
 {
@@ -288,11 +308,12 @@ int main(void)
     largest_map();
     combinations();
     pauses();
+    races();
     groups();
     refused_lists();
     damaged_words();
     what_it_is_for();
     memory();
-    puts("the solver: refused maps, combinations, pauses, saved and loaded, lists handed over, damaged words, memory");
+    puts("the solver: refused maps, combinations, pauses, races, saved and loaded, lists handed over, damaged words, memory");
     return 0;
 }
