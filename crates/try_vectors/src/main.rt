@@ -8,10 +8,10 @@ use try_support::tally::Tally;
 
 mod capped; // capped.rt: plain and capped runs, runs from a lower bound and the training seat (tests/model/runs.py)
 mod desks; // desks.rt: the second of two groups of equations (tests/desks/vectors.py)
-mod dispatch; // dispatch.rt: several runs in turns (tests/model/dispatch.py)
+mod several; // several.rt: several runs in turns (tests/model/dispatch.py)
 mod engine; // engine.rt: the engine (tests/engine/vectors.py)
 mod questions; // questions.rt: questions about lists (tests/questions/model.py)
-mod walk; // walk.rt: document 01's calls and single-file maps (tests/model)
+mod plain; // plain.rt: document 01's calls and single-file maps (tests/model)
 
 // What was read so far of the line and the word under way; the family of the section; and what its lines before came to.
 struct State {
@@ -100,10 +100,10 @@ fn counted(family: u64, t: Tally, l: Line) -> Tally {
 // Whether the call of a line comes to what the line says.
 fn agrees(family: u64, l: Line) -> bool {
     match family {
-        1 => walk::agrees(l),
+        1 => plain::agrees(l),
         2 => capped::agrees(l),
         3 => desks::agrees(l),
-        4 => dispatch::agrees(l),
+        4 => several::agrees(l),
         5 => engine::agrees(l),
         6 => questions::agrees(l),
         _ => false,
@@ -113,10 +113,10 @@ fn agrees(family: u64, l: Line) -> bool {
 // The name of the family, and what the lines of its section came to.
 fn report(family: u64, t: Tally) {
     match family {
-        1 => walk::report(t),
+        1 => plain::report(t),
         2 => capped::report(t),
         3 => named(b"desks\n", t),
-        4 => named(b"dispatch\n", t),
+        4 => named(b"several\n", t),
         5 => named(b"engine\n", t),
         6 => questions::report(t),
         _ => {}

@@ -1,8 +1,8 @@
--- `walk::same_text` is safe and ends. Assumes nothing.
+-- `plain::same_text` is safe and ends. Assumes nothing.
 use Prim.Native.Nat.{_≤_, _-_}
 use borrow.Author.Needs.{needs}
-use Rattle.try_vectors.proofs.walk.same_text.Statement.{statement}
-use Rattle.try_vectors.proofs.walk.same_text.Tie as tie
+use Rattle.try_vectors.proofs.plain.same_text.Statement.{statement}
+use Rattle.try_vectors.proofs.plain.same_text.Tie as tie
 
 abbrev Inv-loop : tie.InvT-loop
 Inv-loop out text i₀ i = i ≤ 320

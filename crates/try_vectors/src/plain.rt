@@ -206,7 +206,7 @@ fn records(l: Line, r: Record) -> bool {
 
 // What the lines of the section came to, kind by kind.
 pub fn report(t: Tally) {
-    io::write_all(1, b"walk\n");
+    io::write_all(1, b"plain\n");
     tally::report_kind(b"start", t, b's');
     tally::report_kind(b"resume", t, b'r');
     tally::report_kind(b"view", t, b'v');
