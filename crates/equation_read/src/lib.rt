@@ -2,5 +2,5 @@
 mod bytes; // bytes.rt: spaces, signs and numbers at a place
 mod totals; // totals.rt: numbers collected
 mod sums; // sums.rt: sums, terms and brackets
-pub mod scan; // scan.rt: where a text is at fault
+mod scan; // scan.rt: where a text is at fault
 pub mod equation; // equation.rt: a whole equation

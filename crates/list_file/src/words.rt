@@ -57,7 +57,7 @@ pub fn value_of(why: FileRefusal) -> usize
 }
 
 // Word `k` of these bytes.
-pub fn word_at(bytes: &[u8], k: usize) -> u32
+pub(crate) fn word_at(bytes: &[u8], k: usize) -> u32
     requires { ⌜ 4 * k + 4 ≤ length (now bytes) ⌝ }
     ensures { λ w. ⌜ w ≡ wordAt (now (bytes .entry)) k ⌝ }
 {
@@ -75,7 +75,7 @@ fn wide(byte: u8) -> u32
 }
 
 // Makes `w` word `k` of these bytes.
-pub fn put_word(bytes: &mut [u8], k: usize, w: u32)
+pub(crate) fn put_word(bytes: &mut [u8], k: usize, w: u32)
     requires { ⌜ 4 * k + 4 ≤ length (now bytes) ⌝ }
     ensures { λ r. ⌜ take (4 * k + 4) (now (bytes .exit)) ≡ take (4 * k) (now (bytes .entry)) ++ wordBytes w ⌝ }
 {
@@ -87,7 +87,7 @@ pub fn put_word(bytes: &mut [u8], k: usize, w: u32)
 }
 
 // The wrapping sum of the `n` words from word `first` on.
-pub fn wrapping_sum(bytes: &[u8], first: usize, n: usize) -> u32
+pub(crate) fn wrapping_sum(bytes: &[u8], first: usize, n: usize) -> u32
     requires { ⌜ 4 * (first + n) ≤ length (now bytes) ⌝ }
     ensures { λ s. ⌜ s ≡ wrappingSum n (λ j. wordAt (now (bytes .entry)) (first + j)) ⌝ }
 {
@@ -125,7 +125,7 @@ pub fn signed(w: u32) -> i32
 }
 
 // Whether the `n` words from word `first` on are at most `limit`. All are looked at, which is quicker than to stop at the first that is not.
-pub fn all_within(bytes: &[u8], first: usize, n: usize, limit: u32) -> bool
+pub(crate) fn all_within(bytes: &[u8], first: usize, n: usize, limit: u32) -> bool
     requires { ⌜ 4 * (first + n) ≤ length (now bytes) ⌝ }
     ensures { λ b. ⌜ b ≡ allTo n (λ j. leb (wordAt (now (bytes .entry)) (first + j)) limit) ⌝ }
 {

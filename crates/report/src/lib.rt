@@ -49,7 +49,7 @@ fn refused(out: &mut [u8], why: TextRefusal) -> usize
 }
 
 // The report on a map whose coefficients are given: a plain start, and one continuing call.
-pub fn solved(out: &mut [u8], p: usize, q: usize, coefs: &[i32]) -> usize
+fn solved(out: &mut [u8], p: usize, q: usize, coefs: &[i32]) -> usize
     requires { ⌜ 91000 ≤ length (now out) ⌝ }
     ensures { λ r. ⌜ Put (now (out .entry)) 0 (paper.runText p q (paper.run (inputOf p q (now (coefs .entry))))) (now (out .exit)) r ⌝ }
 {
