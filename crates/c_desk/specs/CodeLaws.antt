@@ -14,7 +14,6 @@ use Rattle.c_record.specs.CodeLaws.{Fits, Small, fits-checked, fits-unless, sma
 use Rattle.desk_spec.specs.Desks.{Desk, deskBegin, deskCheck3, deskCheck4, deskChecks, deskMachine, deskResume, deskResumeChecks, deskSearchChecks}
 use Rattle.desk_spec.specs.Desks.{deskStartChecks, deskStep, generatorsInOrder, groupInput, rangesChecks, settled, wide}
 use Rattle.desk_spec.specs.Rules.{numbers-go}
-use Rattle.desk_calls.specs.declared.Outcome as values
 
 -- ---- checks
 

@@ -15,7 +15,6 @@ use Rattle.c_record.specs.WordLaws.{then-same}
 use Rattle.c_record.specs.Words.{recordIn}
 use Rattle.desk_spec.specs.Desks.{Desk, deskCheck3, deskCheck4, deskInOrder, deskMachine, deskResumeChecks, generatorsInOrder, groupInput}
 use Rattle.desk_spec.specs.Desks.{rangesChecks}
-use Rattle.desk_calls.specs.declared.Outcome as values
 use Rattle.c_desk.specs.Words.{deskResumeWords}
 
 -- ---- another number of words: "6: run record or tables out of order"

@@ -1,5 +1,5 @@
 -- The calls of the second of two desks as callers in other languages have them (library/raw.h): the run record as words, those of every kind of run
--- (`Words` of record_words), and the answer as one number, 25 among them (`Codes` there). Assumes nothing.
+-- (`Words` of c_record), and the answer as one number (`Codes` there). Assumes nothing.
 use Prim.Native.Nat.{ℕ}
 use mathlib.Core.List.{List}
 use Rattle.definitions.specs.Machine.{Outcome}

@@ -1,5 +1,5 @@
 -- The calls on a record of words, as the code goes about them; and that another number of words is refused with 6, after 1 to 4. (With a lower bound it is
--- after 5: c_lower/specs/LowerLaws.) Assumes nothing.
+-- after 5: c_walk/specs/LowerLaws.) Assumes nothing.
 use Prim.Native.Nat.{ℕ, zero, suc, _^_, _≤_, _<_}
 use mathlib.Core.Logic.{_≢_, inl, inr}
 use mathlib.Core.List.{List, [], _∷_}

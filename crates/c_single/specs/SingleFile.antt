@@ -5,7 +5,7 @@ use mathlib.Core.List.{List}
 use Rattle.definitions.specs.Input.{Input}
 use Rattle.definitions.specs.Machine.{Outcome}
 use Rattle.definitions.specs.Tables.{State}
-use Rattle.c_answers.specs.Codes.{code, refusalCode}
+use Rattle.calls.specs.Codes.{code, refusalCode}
 use Rattle.calls.specs.Paper.{stateOf}
 use Rattle.single_spec.specs.Calls.{singleResume, singleStart}
 use Rattle.single_spec.specs.Listing.{Listed, Listing, refused, written}

@@ -9,8 +9,8 @@ use Rattle.definitions.specs.Input.{Extra, Input, alone, mapOf, rights, walkSys
 use Rattle.definitions.specs.Refusals.{resumeChecks, startChecks}
 use Rattle.definitions.specs.Tables.{State}
 use Rattle.laws.specs.RefusalLaws.{resume-valid, start-shaped}
-use Rattle.c_answers.specs.CodeLaws as answers
-use Rattle.c_answers.specs.Codes.{code}
+use Rattle.calls.specs.CodeLaws as answers
+use Rattle.calls.specs.Codes.{code}
 use Rattle.calls.specs.Paper.{value}
 use Rattle.single_listing.specs.Listed.{listedOf, numberOf, valuesOf}
 use Rattle.single_listing.specs.declared.ListingAnswer.{ListingAnswer}

@@ -52,9 +52,9 @@ pub fn listed(p: usize, q: usize, coefs: &[i32], list: &[u32], found: usize, out
     ensures { λ a. ⌜ (a, now (out .exit)) ≡ listingTold (listingCall (inputOf p q (now (coefs .entry))) (now (list .entry)) found (now (out .entry))) ⌝ }
 {
     match single_listing::listed(p, q, coefs, list, Solutions(found), out) {
-        ListingAnswer::Written(n) => c_answers::coded(104, n),
+        ListingAnswer::Written(n) => calls::codes::coded(104, n),
         ListingAnswer::Refused(why) => {
-            c_answers::coded(
+            calls::codes::coded(
                 single_listing::number_of(why),
                 single_listing::value_of(why),
             )

@@ -1,4 +1,4 @@
-// The plain start and the continuing call on a record of words, with an answer that is one number.
+// The plain start and the continuing call on a record of words, with an answer that is one number. The other calls of a walk are in modules.
 ghost use mathlib.Core.Path.{_≡_};
 ghost use mathlib.Core.Logic.{_≢_};
 ghost use lib.ListN.{length};
@@ -7,6 +7,10 @@ ghost use Rattle.c_record.specs.Words.{told, startWords, resumeWords};
 use c_record::tell;
 use c_record::words;
 use calls::Check;
+
+pub mod lower; // lower.rt: a run from a lower bound
+pub mod rights; // rights.rt: a map with right sides
+pub mod rows; // rows.rt: a row of a list
 
 // The plain start.
 pub fn start(

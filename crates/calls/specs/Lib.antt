@@ -1,2 +1,4 @@
 pub mod Paper
 pub mod CallLaws
+pub mod Codes
+pub mod CodeLaws

@@ -14,7 +14,8 @@ use Rattle.calls.specs.declared.Solutions.{Solutions}
 use Rattle.calls.specs.declared.Steps.{Steps}
 use Rattle.calls.specs.declared.Refusal.{Refusal}
 use Rattle.calls.specs.declared.Refusal.the-variants.{Equations, Unknowns, CoefficientCount, StackLength, BoundLength, OutOfOrder, Coefficient}
-use Rattle.calls.specs.declared.Refusal.the-variants.{BoundRange, ListFull, ComponentLimit, StepLimit, RightSide, SeatUnknowns, SeatComponent, Column}
+use Rattle.calls.specs.declared.Refusal.the-variants.{BoundRange, ListFull, ComponentLimit, StepLimit, RightSide, SeatUnknowns, SeatComponent}
+use Rattle.calls.specs.declared.Refusal.the-variants.{Generators, Column}
 use Rattle.calls.specs.declared.Answer.{Answer}
 use Rattle.calls.specs.declared.Answer.the-variants.{Started, Complete, Paused, Refused}
 use Rattle.calls.specs.declared.Outcome.{Outcome}
@@ -70,6 +71,7 @@ numberOf StepLimit = 14
 numberOf RightSide = 15
 numberOf SeatUnknowns = 23
 numberOf SeatComponent = 24
+numberOf Generators = 25
 numberOf (Column column) = 26
 
 -- the values that it comes with: 7 has the place, and 26 the column
@@ -88,6 +90,7 @@ valuesOf StepLimit = []
 valuesOf RightSide = []
 valuesOf SeatUnknowns = []
 valuesOf SeatComponent = []
+valuesOf Generators = []
 valuesOf (Column column) = column ∷ []
 
 -- the first of them, and 0 where there is none
@@ -136,6 +139,10 @@ outcomeOf o stack list = outcomeWith o stack list []
 abbrev pub leaves : Answer → Record → ℕ → ℕ → ℕ → ℕ → ℕ → Outcome
 leaves answer r height found steps second deepest =
     record { answer = answer; run = recordOf (r .kind) height (record { 0 = found }) (record { 0 = steps }) (record { 0 = second }) (r .before) deepest }
+
+-- begun
+abbrev pub begins : Run → ℕ → Outcome
+begins kind height = record { answer = Started; run = recordOf kind height (record { 0 = 0 }) (record { 0 = 0 }) (record { 0 = 0 }) (record { 0 = 0 }) 0 }
 
 -- refused before the walk
 abbrev pub refuses : Refusal → Record → Outcome

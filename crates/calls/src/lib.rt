@@ -1,14 +1,19 @@
 // What a caller hands over and gets back, and the number of each refusal in documents 01 and 02.
 ghost use mathlib.Core.Path.{_≡_};
 ghost use Rattle.definitions.specs.Input.{limitOf};
-ghost use Rattle.definitions.specs.Tables.{runNumber};
-ghost use Rattle.calls.specs.Paper.{numberOf, valuesOf, value, kindOf, recordOf, plainPartOf, plainRecord, refuses, leaves};
+ghost use Rattle.definitions.specs.Tables.{isRun, runNumber};
+ghost use Rattle.calls.specs.Paper.{numberOf, valuesOf, value, kindOf, recordOf, plainPartOf, plainRecord, begins, refuses, leaves};
+
+pub mod codes; // codes.rt: an answer as one number, for other languages
 
 // "A tuple gives each unknown a natural number, at most 1,000,000."
 pub const COMPONENT_LIMIT: u32 = 1000000;
 
 // "14: steps taken stand at 1,000,000,000,000."
 pub const STEP_LIMIT: u64 = 1000000000000;
+
+// "(Refusal 6 also covers a value above 16,000,000.)"
+pub const DEEPEST_LIMIT: u64 = 16000000;
 
 // Steps taken.
 pub struct Steps(pub u64);
@@ -36,6 +41,13 @@ pub fn run_number(kind: Run) -> u64
         Run::LowerAbove => 3,
         Run::Desks => 4,
     }
+}
+
+// Whether two kinds of run are one.
+pub fn same_run(a: Run, b: Run) -> bool
+    ensures { λ r. ⌜ r ≡ isRun (kindOf a) (kindOf b) ⌝ }
+{
+    run_number(a) == run_number(b)
 }
 
 // The run record. Where a run has two lists, `second` counts the rows of the second one; of a run from a lower bound `before` are the steps of its plain walk.
@@ -125,6 +137,7 @@ pub enum Refusal {
     RightSide,
     SeatUnknowns,
     SeatComponent,
+    Generators,
     Column(usize),
 }
 
@@ -146,6 +159,18 @@ pub struct Outcome {
 pub enum Check {
     Refuse(Refusal),
     Pass,
+}
+
+// What a start that is not refused answers.
+pub fn begun(kind: Run, height: usize) -> Outcome
+    ensures { λ o. ⌜ o ≡ begins kind height ⌝ }
+{
+    let found = Solutions(0);
+    let run = Record::of(kind, height, found, Steps(0), Solutions(0), Steps(0), 0);
+    Outcome {
+        answer: Answer::Started,
+        run,
+    }
 }
 
 // What a call that is refused before its walk answers: the record stays.
@@ -202,6 +227,7 @@ pub fn number_of(why: Refusal) -> u64
         Refusal::RightSide => 15,
         Refusal::SeatUnknowns => 23,
         Refusal::SeatComponent => 24,
+        Refusal::Generators => 25,
         Refusal::Column(_) => 26,
     }
 }
@@ -225,6 +251,7 @@ pub fn value_of(why: Refusal) -> usize
         Refusal::RightSide => 0,
         Refusal::SeatUnknowns => 0,
         Refusal::SeatComponent => 0,
+        Refusal::Generators => 0,
         Refusal::Column(column) => column,
     }
 }

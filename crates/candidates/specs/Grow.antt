@@ -6,7 +6,7 @@ use Rattle.linear.specs.Tuples.{raise}
 use Rattle.definitions.specs.System.{Kind, above, capped, covered, plain}
 use Rattle.definitions.specs.Tables.{State, frozen}
 use Rattle.laws.specs.StepLaws.{firstOpen, secondOpen}
-use Rattle.lists.specs.Rows.{part}
+use Rattle.table_rows.specs.Rows.{part}
 
 -- the candidates that the cap and the second list leave
 unfoldable pub openFor : Kind → ℕ → State → (ℕ → ℕ) → ℕ → ℕ → Bool

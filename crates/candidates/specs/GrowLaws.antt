@@ -13,7 +13,7 @@ use Rattle.laws.specs.StepLaws.{firstOpen, secondOpen}
 use Rattle.laws.specs.SystemLaws.{covered-same}
 use Rattle.definitions.specs.Tables.{Run, State, frozen, listRow, secondRow}
 use Rattle.definitions.specs.Step.{rowOf, rowWidth}
-use Rattle.lists.specs.Rows.{part}
+use Rattle.table_rows.specs.Rows.{part}
 use Rattle.candidates.specs.Kinds.{asked, beside}
 use Rattle.candidates.specs.Grow.{childBy, childFor, openFor, placeIn}
 

@@ -20,7 +20,7 @@ use Rattle.laws.specs.MarkLaws.{frozen-none}
 use Rattle.linear.specs.Tests.{number}
 use Rattle.linear.specs.TestLaws.{number-le}
 use Rattle.candidates.specs.Kinds.{asked}
-use Rattle.lists.specs.Rows.{Limited, part, tuple}
+use Rattle.table_rows.specs.Rows.{Limited, part, tuple}
 use Rattle.candidates.specs.Grow.{childBy, openFor}
 use Rattle.candidates.specs.GrowLaws.{closed-makes-none}
 

@@ -8,7 +8,7 @@ use lib.ListN.{length, set}
 use lib.Seq.{getD-set-same, getD-set-other, set-set, set-getD}
 use Rattle.linear.specs.Tuples.{raise}
 use Rattle.linear.specs.TupleLaws.{unit-same, unit-other}
-use Rattle.lists.specs.Rows.{tuple}
+use Rattle.table_rows.specs.Rows.{tuple}
 
 -- an array with component i raised by one
 pub set-raise : (t : List ℕ) (i : ℕ) → i < length t → (j : ℕ) → tuple (set t i (tuple t i + 1)) j ≡ raise (tuple t) i j

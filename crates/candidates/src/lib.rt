@@ -13,7 +13,7 @@ ghost use Rattle.definitions.specs.System.{above, capped, covered};
 ghost use Rattle.definitions.specs.Tables.{at, capacity, frozen};
 ghost use Rattle.definitions.specs.Step.{marksTo, rowWidth};
 ghost use Rattle.laws.specs.RefusalLaws.{Inside, SecondFits};
-ghost use Rattle.lists.specs.Rows.{Limited, Within, part, tuple};
+ghost use Rattle.table_rows.specs.Rows.{Limited, Within, part, tuple};
 ghost use Rattle.products.specs.Marks.{Marked};
 ghost use Rattle.candidates.specs.Kinds.{Bounds, asked, kindBy};
 ghost use Rattle.candidates.specs.Grow.{childBy, childFor, openFor};
@@ -252,7 +252,7 @@ fn blocked(list: &[u32], found: usize, w: usize, from: usize, t: &mut [u32], i: 
     ensures { λ _. ⌜ now (t .exit) ≡ now (t .entry) ⌝ }
 {
     t[i] += 1;
-    let r = lists::covered(list, found, w, &t[from..]);
+    let r = table_rows::lists::covered(list, found, w, &t[from..]);
     t[i] -= 1;
     r
 }

@@ -10,7 +10,7 @@ use lib.ListN.{length}
 use Rattle.linear.specs.Tests.{countTo}
 use Rattle.definitions.specs.Tables.{at, writeTo}
 use Rattle.laws.specs.Pack.{pack-length, packTo}
-use Rattle.lists.specs.Rows.{Holds, tuple}
+use Rattle.table_rows.specs.Rows.{Holds, tuple}
 use Rattle.desk_spec.specs.Desks.{always, deskRow}
 use Rattle.desk_spec.specs.Rows.{all-counted}
 use Rattle.desk_rows.specs.Marks.{shift-one}

@@ -2,16 +2,13 @@
 ghost use mathlib.Core.Path.{_≡_};
 ghost use Prim.Native.Nat.{_+_, _*_, _≤_, _<_};
 ghost use lib.ListN.{length};
-ghost use Rattle.desk_spec.specs.Desks.{deskBegin, deskResume};
-ghost use Rattle.calls.specs.Paper.{stateOf};
-ghost use Rattle.desk_calls.specs.Calls.{deskOf, leaves, outcomeOf};
-ghost use Rattle.desk_calls.specs.declared.Answer.the-variants as answers;
+ghost use Rattle.desk_spec.specs.Desks.{deskBegin, deskOf, deskResume};
+ghost use Rattle.calls.specs.Paper.{outcomeOf, stateOf};
 ghost use Rattle.desk.specs.Starting.{startTo};
+use calls::Check;
+use calls::Outcome;
 use calls::Record;
-use calls::Refusal;
-use desk_calls::Answer;
-use desk_calls::DeskCheck;
-use desk_calls::Outcome;
+use calls::Run;
 use desk_rows::rows;
 
 // The start: writes a row for each generator, takes no step.
@@ -28,12 +25,11 @@ pub fn start(
         ≡ deskBegin (deskOf p q (now (coefs .entry)) (now (generators .entry))) (stateOf (now (stack .entry)) (now (list .entry)) r) ⌝ }
 {
     match desk_checks::check_start(p, q, coefs, generators, stack, list, r) {
-        DeskCheck::Refuse(why) => refuse(why, r),
-        DeskCheck::Wide => refuse_wide(r),
-        DeskCheck::Pass => {
+        Check::Refuse(why) => calls::refused(why, r),
+        Check::Pass => {
             let n = generators.len() / q;
             write_start(q, generators, n, stack);
-            desk_calls::begin(n)
+            calls::begun(Run::Desks, n)
         }
     }
 }
@@ -53,28 +49,8 @@ pub fn resume(
         ≡ deskResume budget (deskOf p q (now (coefs .entry)) (now (generators .entry))) (stateOf (now (stack .entry)) (now (list .entry)) r) ⌝ }
 {
     match desk_checks::check_resume(p, q, coefs, generators, stack, list, r) {
-        DeskCheck::Refuse(why) => refuse(why, r),
-        DeskCheck::Wide => refuse_wide(r),
-        DeskCheck::Pass => desk_walk::walk(p, q, coefs, generators, stack, list, r, budget),
-    }
-}
-
-// What a call that is refused before its walk answers: the record stays.
-fn refuse(why: Refusal, r: Record) -> Outcome
-    ensures { λ o. ⌜ o ≡ leaves (answers.Refused why) r ⌝ }
-{
-    Outcome {
-        answer: Answer::Refused(why),
-        run: r,
-    }
-}
-
-fn refuse_wide(r: Record) -> Outcome
-    ensures { λ o. ⌜ o ≡ leaves answers.Wide r ⌝ }
-{
-    Outcome {
-        answer: Answer::Wide,
-        run: r,
+        Check::Refuse(why) => calls::refused(why, r),
+        Check::Pass => desk_walk::walk(p, q, coefs, generators, stack, list, r, budget),
     }
 }
 
@@ -87,7 +63,7 @@ fn write_start(q: usize, generators: &[u32], n: usize, stack: &mut [u32])
     let mut frozen: u64 = 0;
     let mut k = 0;
     while k < n {
-        lists::rows::read(generators, k * q, q, &mut t);
+        table_rows::rows::read(generators, k * q, q, &mut t);
         rows::write(stack, k, q, &t, frozen);
         frozen += 1 << k;
         k += 1;

@@ -19,14 +19,13 @@ use Rattle.definitions.specs.System.{mostComponent, mostEquations, mostUnknowns
 use Rattle.definitions.specs.Tables.{State}
 use Rattle.laws.specs.AnswerLaws.{refuse-if-go, then-assoc, then-go}
 use Rattle.laws.specs.RefusalLaws.{at-most, decides-range}
-use Rattle.desk_spec.specs.Desks.{Desk, deskChecks, groupInput, rangesChecks, wide}
-use Rattle.calls.specs.Paper as paper
+use Rattle.desk_spec.specs.Desks.{Desk, deskChecks, deskOf, groupInput, rangesChecks, wide}
+use Rattle.calls.specs.Paper.{checkOf}
 use Rattle.calls.specs.declared.Check as made
 use Rattle.calls.specs.declared.Check.the-variants.{Pass, Refuse}
 use Rattle.calls.specs.declared.Refusal.{Refusal}
+use Rattle.calls.specs.declared.Refusal.the-variants.{Generators}
 use Rattle.checks.specs.Counts.{counted, countChecks, either-refuses}
-use Rattle.desk_calls.specs.Calls.{checkOf, deskOf}
-use Rattle.desk_calls.specs.declared.DeskCheck.the-variants as found
 use Rattle.desk_rows.specs.Images.{SmallDesk}
 
 unfoldable pub shapeChecks : (p q coefs generators stack : ℕ) → Check
@@ -87,8 +86,8 @@ shape-then d s own =
     rw (← either-refuses (not (eqb (length (d .coefs)) (d .p * d .q))) (not (eqb (length (d .generators) % d .q) 0)) 3 _) (simp then-assoc)
 
 module _ (d : Desk) (s : State) (own : Check) {r : made.Check}
-    (e : paper.checkOf r ≡ shapeChecks (d .p) (d .q) (length (d .coefs)) (length (d .generators)) (length (s .stack))) where
-  pub shape-refused : {why : Refusal} → r ≡ Refuse why → checkOf (found.Refuse why) ≡ deskChecks d s own
+    (e : checkOf r ≡ shapeChecks (d .p) (d .q) (length (d .coefs)) (length (d .generators)) (length (s .stack))) where
+  pub shape-refused : {why : Refusal} → r ≡ Refuse why → checkOf (Refuse why) ≡ deskChecks d s own
   unfolding _then_
   shape-refused g = rw (← shape-then d s own, ← e, g)
 
@@ -141,15 +140,15 @@ handed-small p q coefs generators s e =
       handed = λ i. elim (split i (length generators)) [ inl l ↦ s .small i l | inr l ↦ rw (List·getD-eq-default generators 0 l) (omega arith) ];
     }
 
-module _ (d : Desk) {r : made.Check} (e : paper.checkOf r ≡ check7 (groupInput d)) where
-  pub range-refused : {why : Refusal} → r ≡ Refuse why → checkOf (found.Refuse why) ≡ rangesChecks d
+module _ (d : Desk) {r : made.Check} (e : checkOf r ≡ check7 (groupInput d)) where
+  pub range-refused : {why : Refusal} → r ≡ Refuse why → checkOf (Refuse why) ≡ rangesChecks d
   unfolding _then_
   range-refused g = rw (← e, g)
 
-  pub range-wide : r ≡ Pass → wide d ≡ true → checkOf found.Wide ≡ rangesChecks d
+  pub range-wide : r ≡ Pass → wide d ≡ true → checkOf (Refuse Generators) ≡ rangesChecks d
   unfolding _then_ refuseWith
   range-wide g h = rw (← e, g, h)
 
-  pub range-passed : r ≡ Pass → wide d ≡ false → checkOf found.Pass ≡ rangesChecks d
+  pub range-passed : r ≡ Pass → wide d ≡ false → checkOf Pass ≡ rangesChecks d
   unfolding _then_ refuseWith
   range-passed g h = rw (← e, g, h)

@@ -1,11 +1,10 @@
 // The refusals before the second walk: 1 to 4, then 6, then 7 and, last, 25.
 ghost use mathlib.Core.Path.{_≡_};
-ghost use Rattle.desk_spec.specs.Desks.{deskResumeChecks, deskStartChecks};
-ghost use Rattle.calls.specs.Paper.{stateOf};
-ghost use Rattle.desk_calls.specs.Calls.{checkOf, deskOf};
+ghost use Rattle.desk_spec.specs.Desks.{deskOf, deskResumeChecks, deskStartChecks};
+ghost use Rattle.calls.specs.Paper.{checkOf, stateOf};
+use calls::Check;
 use calls::Record;
 use calls::Refusal;
-use desk_calls::DeskCheck;
 
 mod order; // order.rt: generators, record and tables in order
 mod ranges; // ranges.rt: the coefficients, and the images of the generators
@@ -20,15 +19,15 @@ pub fn check_start(
     stack: &[u32],
     list: &[u32],
     r: Record,
-) -> DeskCheck
+) -> Check
     ensures { λ c. ⌜ checkOf c
         ≡ deskStartChecks (deskOf p q (now (coefs .entry)) (now (generators .entry))) (stateOf (now (stack .entry)) (now (list .entry)) r) ⌝ }
 {
     match shape::check(p, q, coefs.len(), generators.len(), stack.len()) {
-        calls::Check::Refuse(why) => DeskCheck::Refuse(why),
-        calls::Check::Pass => {
+        Check::Refuse(why) => Check::Refuse(why),
+        Check::Pass => {
             if !order::small(generators) {
-                return DeskCheck::Refuse(Refusal::OutOfOrder);
+                return Check::Refuse(Refusal::OutOfOrder);
             }
             ranges::check(p, q, coefs, generators)
         }
@@ -44,18 +43,18 @@ pub fn check_resume(
     stack: &[u32],
     list: &[u32],
     r: Record,
-) -> DeskCheck
+) -> Check
     ensures { λ c. ⌜ checkOf c
         ≡ deskResumeChecks (deskOf p q (now (coefs .entry)) (now (generators .entry))) (stateOf (now (stack .entry)) (now (list .entry)) r) ⌝ }
 {
     match shape::check(p, q, coefs.len(), generators.len(), stack.len()) {
-        calls::Check::Refuse(why) => DeskCheck::Refuse(why),
-        calls::Check::Pass => {
+        Check::Refuse(why) => Check::Refuse(why),
+        Check::Pass => {
             if !order::small(generators) {
-                return DeskCheck::Refuse(Refusal::OutOfOrder);
+                return Check::Refuse(Refusal::OutOfOrder);
             }
             if !order::in_order(q, generators, stack, list, r) {
-                return DeskCheck::Refuse(Refusal::OutOfOrder);
+                return Check::Refuse(Refusal::OutOfOrder);
             }
             ranges::check(p, q, coefs, generators)
         }

@@ -6,11 +6,11 @@ ghost use lib.Dec.{leb};
 ghost use lib.ListN.{length, getD};
 ghost use Rattle.linear.specs.Tests.{allTo};
 ghost use Rattle.definitions.specs.System.{mostComponent};
-ghost use Rattle.desk_spec.specs.Desks.{deskInOrder, deskRowInOrder};
+ghost use Rattle.desk_spec.specs.Desks.{deskInOrder, deskOf, deskRowInOrder};
 ghost use Rattle.calls.specs.Paper.{stateOf};
-ghost use Rattle.desk_calls.specs.Calls.{deskOf};
 ghost use Rattle.desk_checks.specs.Shape.{RowsFit};
 use calls::Record;
+use calls::Run;
 use desk_rows::marks;
 use table_rows::rows;
 
@@ -31,7 +31,7 @@ pub fn in_order(q: usize, generators: &[u32], stack: &[u32], list: &[u32], r: Re
     let found = r.found.0;
     let steps = r.steps.0;
     let deepest = r.deepest;
-    if !desk_calls::is_desks(kind) {
+    if !calls::same_run(kind, Run::Desks) {
         return false;
     }
     if generators.len() / q < height {
@@ -43,7 +43,7 @@ pub fn in_order(q: usize, generators: &[u32], stack: &[u32], list: &[u32], r: Re
     if calls::STEP_LIMIT < steps {
         return false;
     }
-    if 16000000 < deepest {
+    if calls::DEEPEST_LIMIT < deepest {
         return false;
     }
     rows_in_order(q, generators, stack, height)

@@ -6,26 +6,26 @@ ghost use lib.IntN.{natAbs};
 ghost use lib.ListN.{length};
 ghost use Rattle.linear.specs.Tests.{anyTo};
 ghost use Rattle.definitions.specs.System.{imageOf};
-ghost use Rattle.desk_spec.specs.Desks.{generator, generatorCount, imageLimit, rangesChecks, secondGroup, wide};
-ghost use Rattle.desk_calls.specs.Calls.{checkOf, deskOf};
+ghost use Rattle.desk_spec.specs.Desks.{deskOf, generator, generatorCount, imageLimit, rangesChecks, secondGroup, wide};
+ghost use Rattle.calls.specs.Paper.{checkOf};
 ghost use Rattle.desk_rows.specs.Images.{SmallDesk};
 ghost use Rattle.desk_checks.specs.Shape.{Handed};
 use calls::Check;
+use calls::Refusal;
 use checks::coefficients;
-use desk_calls::DeskCheck;
 use table_rows::values;
 
-pub fn check(p: usize, q: usize, coefs: &[i32], generators: &[u32]) -> DeskCheck
+pub fn check(p: usize, q: usize, coefs: &[i32], generators: &[u32]) -> Check
     requires { ⌜ Handed p q (length (now coefs)) (now generators) ⌝ }
     ensures { λ c. ⌜ checkOf c ≡ rangesChecks (deskOf p q (now (coefs .entry)) (now (generators .entry))) ⌝ }
 {
     match coefficients::check(coefs) {
-        Check::Refuse(why) => DeskCheck::Refuse(why),
+        Check::Refuse(why) => Check::Refuse(why),
         Check::Pass => {
             if is_wide(p, q, coefs, generators) {
-                DeskCheck::Wide
+                Check::Refuse(Refusal::Generators)
             } else {
-                DeskCheck::Pass
+                Check::Pass
             }
         }
     }

@@ -1,10 +1,9 @@
 // The calls of the second of two desks as an editor uses them: the caller's own run record is advanced through a reference, over the calls by value.
 ghost use mathlib.Core.Path.{_≡_};
-ghost use Rattle.desk_spec.specs.Desks.{deskBegin, deskResume};
-ghost use Rattle.calls.specs.Paper.{stateOf};
-ghost use Rattle.desk_calls.specs.Calls.{deskOf, leaves, outcomeOf};
+ghost use Rattle.desk_spec.specs.Desks.{deskBegin, deskOf, deskResume};
+ghost use Rattle.calls.specs.Paper.{leftBy, stateOf};
+use calls::Answer;
 use calls::Record;
-use desk_calls::Answer;
 
 // The start.
 pub fn start(
@@ -16,7 +15,7 @@ pub fn start(
     list: &[u32],
     r: &mut Record,
 ) -> Answer
-    ensures { λ a. ⌜ outcomeOf (leaves a (now (r .exit))) (now (stack .exit)) (now (list .entry)) ≡
+    ensures { λ a. ⌜ leftBy a (now (stack .exit)) (now (list .entry)) (now (r .exit)) ≡
         deskBegin (deskOf p q (now (coefs .entry)) (now (generators .entry))) (stateOf (now (stack .entry)) (now (list .entry)) (now (r .entry))) ⌝ }
 {
     let o = desk::start(p, q, coefs, generators, stack, list, *r);
@@ -35,7 +34,7 @@ pub fn resume(
     r: &mut Record,
     budget: u64,
 ) -> Answer
-    ensures { λ a. ⌜ outcomeOf (leaves a (now (r .exit))) (now (stack .exit)) (now (list .exit)) ≡
+    ensures { λ a. ⌜ leftBy a (now (stack .exit)) (now (list .exit)) (now (r .exit)) ≡
         deskResume budget (deskOf p q (now (coefs .entry)) (now (generators .entry))) (stateOf (now (stack .entry)) (now (list .entry)) (now (r .entry))) ⌝ }
 {
     let o = desk::resume(p, q, coefs, generators, stack, list, *r, budget);

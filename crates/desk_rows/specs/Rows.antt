@@ -16,7 +16,7 @@ use Rattle.linear.specs.Tuples.{Same, total}
 use Rattle.definitions.specs.System.{mostComponent}
 use Rattle.definitions.specs.Tables.{writeTo}
 use Rattle.laws.specs.TableLaws.{write-same}
-use Rattle.lists.specs.Rows.{tuple}
+use Rattle.table_rows.specs.Rows.{tuple}
 use Rattle.table_rows.specs.Small.{rowAt}
 use Rattle.desk_spec.specs.Desks.{deskRow, word}
 use Rattle.desk_spec.specs.Rows.{row-high, row-low, row-tuple}

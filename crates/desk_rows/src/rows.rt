@@ -7,12 +7,12 @@ ghost use Rattle.linear.specs.Tests.{anyTo};
 ghost use Rattle.linear.specs.Tuples.{total};
 ghost use Rattle.definitions.specs.System.{mostComponent};
 ghost use Rattle.definitions.specs.Tables.{writeTo};
-ghost use Rattle.lists.specs.Rows.{tuple};
+ghost use Rattle.table_rows.specs.Rows.{tuple};
 ghost use Rattle.table_rows.specs.Small.{SmallRow};
 ghost use Rattle.desk_spec.specs.Desks.{deskRow};
 ghost use Rattle.desk_rows.specs.Rows.{Raised, SmallTuple};
 use crate::marks;
-use lists::rows;
+use table_rows::rows;
 
 // Writes row k: the first q numbers of `t`, and the marks.
 pub fn write(stack: &mut [u32], k: usize, q: usize, t: &[u32], marks: u64)

@@ -31,6 +31,9 @@ pub record Desk : Type 0 where
   pub coefs : List ℤ
   pub generators : List ℕ
 
+abbrev pub deskOf : ℕ → ℕ → List ℤ → List ℕ → Desk
+deskOf p q coefs generators = record { p = p; q = q; coefs = coefs; generators = generators }
+
 -- the second group as a map alone, and as a system
 abbrev pub groupInput : Desk → Input
 groupInput d = inputOf (d .p) (d .q) (d .coefs)

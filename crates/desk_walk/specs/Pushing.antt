@@ -17,7 +17,7 @@ use Rattle.laws.specs.Pack.{pack-length, packTo}
 use Rattle.desk_spec.specs.Desks.{deskRow, plus}
 use Rattle.desk_rows.specs.Marks.{shift-one}
 use Rattle.desk_rows.specs.Rows.{Raised, SmallTuple, row-alike}
-use Rattle.lists.specs.Rows.{tuple}
+use Rattle.table_rows.specs.Rows.{tuple}
 
 -- the stack table after the first n generators: a row for each that f picks
 abbrev pub pushed : (n q : ℕ) (generators stack : List ℕ) (level : ℕ) (x : ℕ → ℕ) (marks : ℕ) (f : ℕ → Bool) → List ℕ

@@ -27,16 +27,16 @@ use Rattle.laws.specs.TableLaws.{row-fits, write-same}
 use Rattle.laws.specs.Again.{all-again}
 use Rattle.laws.specs.Pack.{packTo, writeIf}
 use Rattle.laws.specs.Sweep.{keeps}
-use Rattle.lists.specs.Rows.{tuple}
+use Rattle.table_rows.specs.Rows.{tuple}
 use Rattle.products.specs.Marks.{marks-frozen, marks-same}
-use Rattle.calls.specs.Paper.{numberOf, stateOf, valuesOf}
+use Rattle.calls.specs.Paper.{numberOf, recordOf, stateOf, valuesOf}
 use Rattle.calls.specs.declared.Record.{Record}
 use Rattle.calls.specs.declared.Refusal.the-variants.{ComponentLimit}
 use Rattle.desk_spec.specs.Desks.{Desk, deskChildren, deskDeeper, deskFull, deskGrown, deskLevel, deskListed, deskMakes, deskRow, deskSearchChecks, deskStep}
-use Rattle.desk_spec.specs.Desks.{deskTooLarge, deskTop, deskTopMarks, freed, generator, generatorCount, plus, raises, secondGroup, swept, towardsGenerator}
+use Rattle.desk_spec.specs.Desks.{deskOf, deskTooLarge, deskTop, deskTopMarks, freed, generator, generatorCount, plus, raises, secondGroup, swept}
+use Rattle.desk_spec.specs.Desks.{towardsGenerator}
 use Rattle.desk_spec.specs.Records.{lentWith}
 use Rattle.desk_spec.specs.Valid.{DeskShaped, DeskValid, children-few, free}
-use Rattle.desk_calls.specs.Calls.{deskOf, moved}
 use Rattle.desk_rows.specs.Images.{Factors, Images, SmallDesk, entry, map-value}
 use Rattle.desk_rows.specs.Rows.{SmallTuple, row-alike}
 use Rattle.desk_walk.specs.Listing as listing
@@ -53,9 +53,10 @@ movedTo s stack list height found steps deepest =
     lentWith s stack list
     (record { kind = s .run .kind; height = height; found = found; steps = steps; found₂ = s .run .found₂; steps₂ = s .run .steps₂; deepest = deepest })
 
--- the state of a walk that was handed the record r
+-- the state of a walk that was handed the record r, whose counts and depth have moved
 abbrev pub stateAt : Record → List ℕ → List ℕ → ℕ → ℕ → ℕ → ℕ → State
-stateAt r stack list height found steps deepest = stateOf stack list (moved r height found steps deepest)
+stateAt r stack list height found steps deepest =
+    stateOf stack list (recordOf (r .kind) height (record { 0 = found }) (record { 0 = steps }) (r .second) (r .before) deepest)
 
 -- ---- what is handed over
 

@@ -23,7 +23,7 @@ use Rattle.definitions.specs.System.{covered, mostComponent}
 use Rattle.definitions.specs.Tables.{at, frozen}
 use Rattle.laws.specs.SystemLaws.{covered-same}
 use Rattle.laws.specs.TableLaws.{row-fits}
-use Rattle.lists.specs.Rows.{tuple}
+use Rattle.table_rows.specs.Rows.{tuple}
 use Rattle.products.specs.Marks.{any-zero, marks-below, marks-skip, marks-zero}
 use Rattle.table_rows.specs.Small.{SmallRow}
 use Rattle.desk_spec.specs.Desks.{plus}

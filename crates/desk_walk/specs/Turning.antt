@@ -14,14 +14,13 @@ use Rattle.definitions.specs.Machine.{walk}
 use Rattle.definitions.specs.Refusals.{stepLimit}
 use Rattle.definitions.specs.Tables.{State, at}
 use Rattle.laws.specs.TableLaws.{row-fits}
-use Rattle.lists.specs.Rows.{Holds, tuple}
+use Rattle.table_rows.specs.Rows.{Holds, tuple}
 use Rattle.table_rows.specs.Small.{SmallRow}
 use Rattle.calls.specs.Paper.{numberOf, valuesOf}
 use Rattle.calls.specs.declared.Record.{Record}
 use Rattle.calls.specs.declared.Refusal.{Refusal}
-use Rattle.desk_spec.specs.Desks.{Desk, deskMachine}
+use Rattle.desk_spec.specs.Desks.{Desk, deskMachine, deskOf}
 use Rattle.desk_spec.specs.Valid.{DeskValid}
-use Rattle.desk_calls.specs.Calls.{deskOf}
 use Rattle.desk_rows.specs.Images.{ImageWritten, Images, imageAt}
 use Rattle.desk_rows.specs.Rows.{SmallTuple}
 use Rattle.desk_walk.specs.declared.step.Stepped.{Stepped}

@@ -3,20 +3,19 @@ ghost use mathlib.Core.Path.{_≡_};
 ghost use Prim.Native.Nat.{_+_, _*_, _-_, _/_, _≤_, _<_, max};
 ghost use lib.ListN.{length};
 ghost use Rattle.definitions.specs.Machine as paper;
-ghost use Rattle.lists.specs.Rows.{Holds};
+ghost use Rattle.table_rows.specs.Rows.{Holds};
 ghost use Rattle.table_rows.specs.Small.{SmallRow};
-ghost use Rattle.desk_spec.specs.Desks.{deskMachine};
+ghost use Rattle.desk_spec.specs.Desks.{deskMachine, deskOf};
 ghost use Rattle.desk_spec.specs.Valid.{DeskValid};
-ghost use Rattle.calls.specs.Paper.{stateOf};
-ghost use Rattle.desk_calls.specs.Calls.{deskOf, outcomeOf};
+ghost use Rattle.calls.specs.Paper.{outcomeOf, stateOf};
 ghost use Rattle.desk_rows.specs.Images.{ImageWritten, SmallMap, imageAt};
 ghost use Rattle.desk_walk.specs.Taking.{Standing, Taken, stateAt};
 use crate::step::Stepped;
 use crate::step::Tried;
+use calls::Answer;
+use calls::Outcome;
 use calls::Record;
 use calls::Refusal;
-use desk_calls::Answer;
-use desk_calls::Outcome;
 use desk_rows::images;
 use desk_rows::marks;
 use desk_rows::rows;
@@ -50,15 +49,16 @@ pub fn walk(
     let mut left = budget;
     while 0 < height {
         if left == 0 {
-            return desk_calls::leave(Answer::Paused, r, height, found, steps, deepest);
+            return calls::left(Answer::Paused, r, height, found, steps, r.second.0, deepest);
         }
         if steps == calls::STEP_LIMIT {
-            return desk_calls::leave(
+            return calls::left(
                 Answer::Refused(Refusal::StepLimit),
                 r,
                 height,
                 found,
                 steps,
+                r.second.0,
                 deepest,
             );
         }
@@ -93,12 +93,13 @@ pub fn walk(
                 found = k;
             }
             Stepped::Grown(h) => height = h,
-            Stepped::Refused(why) => return desk_calls::leave(
+            Stepped::Refused(why) => return calls::left(
                 Answer::Refused(why),
                 r,
                 height,
                 found,
                 steps,
+                r.second.0,
                 deepest,
             ),
         }
@@ -107,7 +108,7 @@ pub fn walk(
         left -= 1;
     }
     let kept = table_rows::sweep::sweep(list, found, q);
-    desk_calls::leave(Answer::Complete, r, height, kept, steps, deepest)
+    calls::left(Answer::Complete, r, height, kept, steps, r.second.0, deepest)
 }
 
 // Reads the tuple that stands in the stack table from place `base`, and writes its image into row 64.
@@ -124,7 +125,7 @@ fn look(
     ensures { λ _. ⌜ Holds q (now (top .exit)) (now (stack .entry)) base ⌝ }
     ensures { λ _. ⌜ ImageWritten 64 p (imageAt q (now (coefs .entry)) (now (stack .entry)) base) (now (images .entry)) (now (images .exit)) ⌝ }
 {
-    lists::rows::read(stack, base, q, top);
+    table_rows::rows::read(stack, base, q, top);
     images::write(p, q, coefs, stack, base, 64, images);
 }
 

@@ -8,7 +8,7 @@ ghost use lib.Signed.{ltZ};
 ghost use Rattle.linear.specs.Systems.{inner};
 ghost use Rattle.linear.specs.Tests.{countTo};
 ghost use Rattle.definitions.specs.Tables.{frozen};
-ghost use Rattle.lists.specs.Rows.{tuple};
+ghost use Rattle.table_rows.specs.Rows.{tuple};
 ghost use Rattle.desk_rows.specs.Images.{Factors, entry};
 ghost use Rattle.desk_walk.specs.Trying.{Trying, triedBy};
 ghost use Rattle.desk_walk.specs.Pushing.{Pushing, pushed};
@@ -38,14 +38,14 @@ pub fn enlist(list: &mut [u32], found: usize, q: usize, top: &[u32]) -> Stepped
 {
     let capacity = list.len() / q;
     if found < capacity {
-        lists::rows::write(list, found * q, q, top);
+        table_rows::rows::write(list, found * q, q, top);
         return Stepped::Listed(found + 1);
     }
     let left = table_rows::sweep::sweep(list, found, q);
     if capacity <= left {
         return Stepped::Refused(Refusal::ListFull);
     }
-    lists::rows::write(list, left * q, q, top);
+    table_rows::rows::write(list, left * q, q, top);
     Stepped::Listed(left + 1)
 }
 
@@ -74,7 +74,7 @@ pub fn children(
             continue;
         }
         rows::add(top, generators, j * q, q, child);
-        if lists::covered(list, found, q, child) {
+        if table_rows::lists::covered(list, found, q, child) {
             continue;
         }
         if rows::is_large(child, q) {

@@ -5,13 +5,13 @@ ghost use mathlib.Core.Path.{_≡_};
 ghost use Rattle.definitions.specs.Highest.{locate};
 ghost use Rattle.definitions.specs.Input.{inputOf};
 ghost use Rattle.definitions.specs.Reasons.{reason};
-ghost use Rattle.desk_calls.specs.Calls.{deskOf};
+ghost use Rattle.desk_spec.specs.Desks.{deskOf};
 ghost use Rattle.c_desk.specs.Words.{deskResumeWords, deskStartWords};
 ghost use Rattle.c_dispatch.specs.Words.{dispatchWords};
 ghost use Rattle.reader.specs.Answers.{locatedNumber};
 ghost use Rattle.reasons.specs.Numbers.{reasonTold};
 ghost use Rattle.c_record.specs.Words.{told, startWords, resumeWords};
-ghost use Rattle.c_rows.specs.Rows.{rowTold};
+ghost use Rattle.c_walk.specs.Rows.{rowTold};
 ghost use Rattle.c_map.specs.Words.{readWords};
 ghost use Rattle.multiples_spec.specs.Parts.{decomposed};
 ghost use Rattle.multiples.specs.Answers.{partsTold};
@@ -70,7 +70,7 @@ pub extern "C" fn dezgula_raw_row(
 ) -> u64
     ensures { λ a. ⌜ (a, now (out .exit)) ≡ rowTold q (now (list .entry)) found n (now (out .entry)) ⌝ }
 {
-    c_rows::tell(list, q, found, n, out)
+    c_walk::rows::tell(list, q, found, n, out)
 }
 
 // The plain start of a single-file map.

@@ -2,7 +2,7 @@
 ghost use mathlib.Core.Path.{_≡_};
 ghost use Rattle.definitions.specs.Input.{inputOf};
 ghost use Rattle.c_record.specs.Words.{toldBoth};
-ghost use Rattle.c_lower.specs.Lower.{startFromWords, resumeFromWords};
+ghost use Rattle.c_walk.specs.Lower.{startFromWords, resumeFromWords};
 
 // The start.
 #[no_mangle]
@@ -21,7 +21,7 @@ pub extern "C" fn dezgula_raw_start_from(
         (startFromWords (now (lower .entry)) (now (run .entry)) (inputOf p q (now (coefs .entry))) (now (stack .entry)) (now (list .entry))
         (now (second .entry))) ⌝ }
 {
-    c_lower::start_from(p, q, coefs, lower, stack, list, second, run)
+    c_walk::lower::start_from(p, q, coefs, lower, stack, list, second, run)
 }
 
 // The continuing call.
@@ -42,5 +42,5 @@ pub extern "C" fn dezgula_raw_resume_from(
         (resumeFromWords budget (now (lower .entry)) (now (run .entry)) (inputOf p q (now (coefs .entry))) (now (stack .entry)) (now (list .entry))
         (now (second .entry))) ⌝ }
 {
-    c_lower::resume_from(p, q, coefs, lower, stack, list, second, run, budget)
+    c_walk::lower::resume_from(p, q, coefs, lower, stack, list, second, run, budget)
 }

@@ -1,8 +1,8 @@
 // Maps with right sides; library/raw.h says the same to C.
 ghost use mathlib.Core.Path.{_≡_};
 ghost use Rattle.c_record.specs.Words.{toldBoth};
-ghost use Rattle.c_rights.specs.Capped.{inputSided, startCappedWords, resumeCappedWords};
-ghost use Rattle.c_rows.specs.Rows.{eitherTold};
+ghost use Rattle.c_walk.specs.Capped.{inputSided, startCappedWords, resumeCappedWords};
+ghost use Rattle.c_walk.specs.Rows.{eitherTold};
 
 // The start.
 #[no_mangle]
@@ -21,7 +21,7 @@ pub extern "C" fn dezgula_raw_start_rights(
         (startCappedWords (now (run .entry)) (inputSided p q (now (coefs .entry)) (now (rights .entry))) (now (stack .entry)) (now (list .entry))
         (now (second .entry))) ⌝ }
 {
-    c_rights::start(p, q, coefs, rights, stack, list, second, run)
+    c_walk::rights::start(p, q, coefs, rights, stack, list, second, run)
 }
 
 // The continuing call.
@@ -42,7 +42,7 @@ pub extern "C" fn dezgula_raw_resume_rights(
         (resumeCappedWords budget (now (run .entry)) (inputSided p q (now (coefs .entry)) (now (rights .entry))) (now (stack .entry)) (now (list .entry))
         (now (second .entry))) ⌝ }
 {
-    c_rights::resume(p, q, coefs, rights, stack, list, second, run, budget)
+    c_walk::rights::resume(p, q, coefs, rights, stack, list, second, run, budget)
 }
 
 // Row n of the list at 0 or at 1, copied to the beginning of `out`.
@@ -58,5 +58,5 @@ pub extern "C" fn dezgula_raw_row_of_either<'a>(
 ) -> u64
     ensures { λ a. ⌜ (a, now (out .exit)) ≡ eitherTold at q (now (list .entry)) (now (second .entry)) found n (now (out .entry)) ⌝ }
 {
-    c_rows::tell_either(list, second, at, q, found, n, out)
+    c_walk::rows::tell_either(list, second, at, q, found, n, out)
 }

@@ -23,8 +23,8 @@ use Rattle.definitions.specs.Tables.{at, writeTo}
 use Rattle.laws.specs.CheckLaws.{check-cases}
 use Rattle.laws.specs.ReasonLaws.{Askable, reason-askable}
 use Rattle.laws.specs.TableLaws.{write-inside, write-length}
-use Rattle.c_answers.specs.Codes.{code}
-use Rattle.lists.specs.Rows.{tuple}
+use Rattle.calls.specs.Codes.{code}
+use Rattle.table_rows.specs.Rows.{tuple}
 use Rattle.checks.specs.Counts.{Modest}
 use Rattle.reasons.specs.Amounts.{asked-rows, told-fits}
 use Rattle.multiples_spec.specs.Parts.{Outcome, allTaken, decomposedWithin, ifSpace, noSpace, off, refused, takenApart, unlessOff, writeTimes}

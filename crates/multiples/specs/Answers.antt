@@ -12,7 +12,7 @@ use Rattle.definitions.specs.Refusals.{Sizes}
 use Rattle.definitions.specs.Reasons as why
 use Rattle.multiples_spec.specs.Parts as paper
 use Rattle.multiples_spec.specs.Parts.{partsNumber}
-use Rattle.c_answers.specs.Codes.{code}
+use Rattle.calls.specs.Codes.{code}
 use Rattle.calls.specs.Paper.{numberOf, value, valuesOf}
 use Rattle.checks.specs.Counts.{Modest}
 use Rattle.reasons.specs.Amounts.{told-fits}

@@ -12,7 +12,7 @@ use borrow.Author.Tests.{le-ltb, lt-ltb, ne-eqb}
 use Rattle.linear.specs.Tuples.{Same}
 use Rattle.definitions.specs.System.{mostComponent}
 use Rattle.definitions.specs.Tables.{at}
-use Rattle.lists.specs.Rows.{tuple}
+use Rattle.table_rows.specs.Rows.{tuple}
 use Rattle.multiples_spec.specs.Parts.{bounded, leftOver, lower, often, oftenTo, without, writeTimes}
 use Rattle.multiples_spec.specs.PartsLaws.{left-same, often-fits, times-same}
 

@@ -8,7 +8,7 @@ ghost use Rattle.definitions.specs.Reasons.{reasonWithin};
 ghost use Rattle.definitions.specs.Refusals.{largeSizes, sizes};
 ghost use Rattle.definitions.specs.Tables.{at};
 ghost use Rattle.checks.specs.Counts.{Modest};
-ghost use Rattle.lists.specs.Rows.{tuple};
+ghost use Rattle.table_rows.specs.Rows.{tuple};
 ghost use Rattle.multiples_spec.specs.Parts as paper;
 ghost use Rattle.multiples.specs.Answers.{ExcuseIs, outcomeOf, partsTold};
 use calls::Refusal;
@@ -149,11 +149,11 @@ fn number_within(
         Parts::Made => 125,
         Parts::Off(k, by) => {
             amount[0] = by;
-            c_answers::coded(121, k)
+            calls::codes::coded(121, k)
         }
         Parts::Unlisted => 124,
         Parts::NoSpace => 29,
-        Parts::Refused(why) => c_answers::refusal(why),
+        Parts::Refused(why) => calls::codes::refusal(why),
     }
 }
 
@@ -192,7 +192,7 @@ fn apart(list: &[u32], found: usize, q: usize, t: &[u32], times: &mut [u32]) -> 
         return Parts::NoSpace;
     }
     let mut rest = [0u32; 32];
-    lists::rows::write(&mut rest, 0, q, t);
+    table_rows::rows::write(&mut rest, 0, q, t);
     rows::take(list, found, q, &mut rest, times);
     if reasons::vanishes(q, &rest) {
         return Parts::Made;

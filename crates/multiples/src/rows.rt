@@ -3,7 +3,7 @@ ghost use mathlib.Core.Path.{_≡_};
 ghost use Prim.Native.Nat.{_+_, _*_, _-_, _≤_};
 ghost use lib.ListN.{length};
 ghost use Rattle.definitions.specs.Tables.{at};
-ghost use Rattle.lists.specs.Rows.{tuple};
+ghost use Rattle.table_rows.specs.Rows.{tuple};
 ghost use Rattle.multiples_spec.specs.Parts as paper;
 ghost use Rattle.multiples.specs.Taking.{Goes, Left, Less, rowAt};
 

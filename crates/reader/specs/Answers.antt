@@ -1,7 +1,7 @@
 -- The answers in document 02's terms: for each case its values, or document 01's number and values of a refusal; and as one number. Assumes nothing.
 use Prim.Native.Nat.{ℕ}
 use Rattle.definitions.specs.Highest as paper
-use Rattle.c_answers.specs.Codes.{code, refusalCode}
+use Rattle.calls.specs.Codes.{code, refusalCode}
 use Rattle.calls.specs.Paper.{numberOf, valuesOf}
 use Rattle.reader.specs.declared.lookups.Located.{Located}
 use Rattle.reader.specs.declared.lookups.Located.the-variants.{At, Nowhere, Refused}

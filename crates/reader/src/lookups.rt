@@ -5,7 +5,7 @@ ghost use Rattle.definitions.specs.Refusals.{largeSizes};
 ghost use Rattle.reader.specs.Answers.{locatedOf, locatedNumber};
 use calls::Refusal;
 use calls::Solutions;
-use lists::Place;
+use table_rows::lists::Place;
 
 // Where the row is, its place from 1; specs/Answers.antt has the documents' values for each.
 pub enum Located {
@@ -44,7 +44,7 @@ fn locate_within(unknowns: usize, list: &[u32], q: usize, found: Solutions, t: &
     if list.len() / q < found.0 {
         return Located::Refused(Refusal::OutOfOrder);
     }
-    match lists::highest(list, found.0, q, t) {
+    match table_rows::lists::highest(list, found.0, q, t) {
         Place::At(n) => Located::At(n),
         Place::Nowhere => Located::Nowhere,
     }
@@ -68,8 +68,8 @@ fn number(l: Located) -> u64
     ensures { λ r. ⌜ r ≡ locatedNumber (locatedOf l) ⌝ }
 {
     match l {
-        Located::At(n) => c_answers::coded(126, n),
+        Located::At(n) => calls::codes::coded(126, n),
         Located::Nowhere => 127,
-        Located::Refused(why) => c_answers::refusal(why),
+        Located::Refused(why) => calls::codes::refusal(why),
     }
 }

@@ -25,9 +25,9 @@ use Rattle.laws.specs.CheckLaws.{check-cases}
 use Rattle.laws.specs.ReasonLaws.{Askable, reason-askable, reason-given, reason-renders}
 use Rattle.laws.specs.SystemLaws.{is-zero}
 use Rattle.laws.specs.TableLaws.{row-fits}
-use Rattle.c_answers.specs.Codes.{code}
+use Rattle.calls.specs.Codes.{code}
 use Rattle.checks.specs.Counts.{Modest}
-use Rattle.lists.specs.Rows.{tuple}
+use Rattle.table_rows.specs.Rows.{tuple}
 use Rattle.reasons.specs.Numbers.{reasonTold}
 use Rattle.products.specs.Turns.{SmallTerms, mostTerms, sum-fits, zero-bits}
 

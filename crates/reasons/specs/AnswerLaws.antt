@@ -13,9 +13,9 @@ use Rattle.definitions.specs.Reasons.{standing}
 use Rattle.definitions.specs.Refusals.{Sizes}
 use Rattle.definitions.specs.System.{System, imageOf}
 use Rattle.definitions.specs.Tables.{at}
-use Rattle.lists.specs.Places.{placeOf}
-use Rattle.lists.specs.declared.Place.{Place}
-use Rattle.lists.specs.declared.Place.the-variants.{At, Nowhere}
+use Rattle.table_rows.specs.Places.{placeOf}
+use Rattle.table_rows.specs.declared.lists.Place.{Place}
+use Rattle.table_rows.specs.declared.lists.Place.the-variants.{At, Nowhere}
 use Rattle.calls.specs.Paper.{checkOf, numberOf, valuesOf}
 use Rattle.calls.specs.declared.Check.{Check}
 use Rattle.calls.specs.declared.Check.the-variants.{Pass, Refuse}

@@ -4,7 +4,7 @@ use mathlib.Core.List.{List}
 use lib.IntN.{ℤ}
 use lib.ListN.{set}
 use Rattle.definitions.specs.Reasons.{Reason, above, off, refused, stands, unlisted, zero}
-use Rattle.c_answers.specs.Codes.{code, refusalCode}
+use Rattle.calls.specs.Codes.{code, refusalCode}
 
 -- refusals keep their own numbers
 abbrev pub reasonCode : Reason → ℕ

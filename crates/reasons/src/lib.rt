@@ -10,13 +10,13 @@ ghost use Rattle.definitions.specs.Input.{inputOf, mapOf};
 ghost use Rattle.definitions.specs.Refusals.{largeSizes, sizes};
 ghost use Rattle.laws.specs.ReasonLaws.{Askable};
 ghost use Rattle.checks.specs.Counts.{Modest};
-ghost use Rattle.lists.specs.Rows.{tuple};
+ghost use Rattle.table_rows.specs.Rows.{tuple};
 ghost use Rattle.reasons.specs.Amounts.{SmallEquation, SmallSystem, SmallTuple};
 ghost use Rattle.reasons.specs.Answers.{reasonOf, OffIs};
 use calls::Check;
 use calls::Refusal;
 use calls::Solutions;
-use lists::Place;
+use table_rows::lists::Place;
 
 mod asked; // asked.rt: what is refused
 pub mod told; // told.rt: a reason as numbers
@@ -106,9 +106,9 @@ fn in_list(list: &[u32], found: usize, q: usize, t: &[u32]) -> Reason
     requires { ⌜ (0 < q) × (q ≤ length (now t)) × (found * q ≤ length (now list)) ⌝ }
     ensures { λ r. ⌜ reasonOf r ≡ paper.inList q found (at (now (list .entry)) q) (tuple (now (t .entry))) ⌝ }
 {
-    match lists::same::standing(list, found, q, t) {
+    match table_rows::same::standing(list, found, q, t) {
         Place::At(n) => Reason::Stands(n),
-        Place::Nowhere => match lists::highest(list, found, q, t) {
+        Place::Nowhere => match table_rows::lists::highest(list, found, q, t) {
             Place::At(n) => Reason::Above(n),
             Place::Nowhere => Reason::Unlisted,
         },

@@ -59,11 +59,11 @@ fn reason_within(
         Reason::Zero => 120,
         Reason::Off(k, by) => {
             amount[0] = by;
-            c_answers::coded(121, k)
+            calls::codes::coded(121, k)
         }
-        Reason::Stands(n) => c_answers::coded(122, n),
-        Reason::Above(n) => c_answers::coded(123, n),
+        Reason::Stands(n) => calls::codes::coded(122, n),
+        Reason::Above(n) => calls::codes::coded(123, n),
         Reason::Unlisted => 124,
-        Reason::Refused(why) => c_answers::refusal(why),
+        Reason::Refused(why) => calls::codes::refusal(why),
     }
 }

@@ -7,14 +7,11 @@ ghost use Rattle.linear.specs.Tests.{allTo, countTo};
 ghost use Rattle.definitions.specs.Input.{boundOf};
 ghost use Rattle.definitions.specs.Refusals.{rowFits};
 ghost use Rattle.definitions.specs.System.{isAtOrBelow};
-ghost use Rattle.definitions.specs.Tables.{at, frozen, isRun};
+ghost use Rattle.definitions.specs.Tables.{at, frozen};
 ghost use Rattle.calls.specs.Paper.{kindOf, runOf};
 ghost use Rattle.record_order.specs.Order.{InShape, aboveFits, aboveWalkFits, cappedFits, lowerFits, plainWalkFits, recordFits};
 use calls::Record;
 use calls::Run;
-
-// "(Refusal 6 also covers a value above 16,000,000.)"
-const DEEPEST_LIMIT: u64 = 16000000;
 
 // Whether record and rows are in order for a run of a kind, on q unknowns and with rows of `width` numbers in the list.
 pub fn in_order(
@@ -34,7 +31,7 @@ pub fn in_order(
     let found = r.found.0;
     let steps = r.steps.0;
     let deepest = r.deepest;
-    if !same_run(own, kind) {
+    if !calls::same_run(own, kind) {
         return false;
     }
     if q < height {
@@ -43,20 +40,13 @@ pub fn in_order(
     if calls::STEP_LIMIT < steps {
         return false;
     }
-    if DEEPEST_LIMIT < deepest {
+    if calls::DEEPEST_LIMIT < deepest {
         return false;
     }
     if list.len() / width < found {
         return false;
     }
     rows_in_order(q, stack, height, limit)
-}
-
-// Whether two kinds of run are one.
-fn same_run(a: Run, b: Run) -> bool
-    ensures { λ r. ⌜ r ≡ isRun (kindOf a) (kindOf b) ⌝ }
-{
-    calls::run_number(a) == calls::run_number(b)
 }
 
 // What a capped run on q unknowns is asked besides: the count of the second list within its room, and every first component at most 1.

@@ -25,7 +25,8 @@ use Rattle.calls.specs.declared.Check.{Check}
 use Rattle.calls.specs.declared.Check.the-variants.{Refuse, Pass}
 use Rattle.calls.specs.declared.Refusal.{Refusal}
 use Rattle.calls.specs.declared.Refusal.the-variants.{Equations, Unknowns, CoefficientCount, StackLength, BoundLength, OutOfOrder, Coefficient, BoundRange}
-use Rattle.calls.specs.declared.Refusal.the-variants.{ListFull, ComponentLimit, StepLimit, RightSide, SeatUnknowns, SeatComponent, Column}
+use Rattle.calls.specs.declared.Refusal.the-variants.{ListFull, ComponentLimit, StepLimit, RightSide, SeatUnknowns, SeatComponent}
+use Rattle.calls.specs.declared.Refusal.the-variants.{Generators, Column}
 
 -- ---- 24 for 12
 
@@ -48,6 +49,7 @@ alone-at-12 StepLimit e = refl
 alone-at-12 RightSide e = refl
 alone-at-12 SeatUnknowns e = refl
 alone-at-12 SeatComponent e = refl
+alone-at-12 Generators e = refl
 alone-at-12 (Column column) e = absurd (omega arith)
 
 pub at-12 : (why : Refusal) {n : ℕ} → n ≡ numberOf why → n ≡ 12 → refusedFor SeatComponent ≡ renumber (refusedFor why)

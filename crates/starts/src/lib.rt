@@ -4,14 +4,10 @@ ghost use Prim.Native.Nat.{ℕ};
 ghost use Rattle.definitions.specs.Calls.{start, startFrom};
 ghost use Rattle.definitions.specs.Input.{alone, inputWith, rights as sides};
 ghost use Rattle.calls.specs.Paper.{stateOf, stateWith, outcomeOf, outcomeWith};
-ghost use Rattle.starts.specs.Begin.{begins};
-use calls::Answer;
 use calls::Check;
 use calls::Outcome;
 use calls::Record;
 use calls::Run;
-use calls::Solutions;
-use calls::Steps;
 
 mod rows; // rows.rt: the rows that the starts write
 
@@ -32,7 +28,7 @@ pub fn started(
         Check::Refuse(why) => calls::refused(why, r),
         Check::Pass => {
             rows::write_units(stack, q);
-            begun(Run::Plain, q)
+            calls::begun(Run::Plain, q)
         }
     }
 }
@@ -57,7 +53,7 @@ pub fn started_from(
         Check::Refuse(why) => calls::refused(why, r),
         Check::Pass => {
             rows::write_units(stack, q);
-            begun(Run::LowerPlain, q)
+            calls::begun(Run::LowerPlain, q)
         }
     }
 }
@@ -83,19 +79,7 @@ pub fn started_capped(
         Check::Pass => {
             let wide = q + 1;
             rows::write_units(stack, wide);
-            begun(Run::Capped, wide)
+            calls::begun(Run::Capped, wide)
         }
-    }
-}
-
-// What a start that is not refused answers.
-fn begun(kind: Run, height: usize) -> Outcome
-    ensures { λ o. ⌜ o ≡ begins kind height ⌝ }
-{
-    let found = Solutions(0);
-    let run = Record::of(kind, height, found, Steps(0), Solutions(0), Steps(0), 0);
-    Outcome {
-        answer: Answer::Started,
-        run,
     }
 }

@@ -13,7 +13,7 @@ use Rattle.definitions.specs.System.{Kind, above, capped, plain}
 use Rattle.definitions.specs.Tables.{State, capacity, writeTo}
 use Rattle.laws.specs.TableLaws.{write-same}
 use Rattle.calls.specs.declared.Refusal.the-variants.{ListFull}
-use Rattle.lists.specs.Rows.{part}
+use Rattle.table_rows.specs.Rows.{part}
 use Rattle.step.specs.declared.Stepped.{Stepped}
 use Rattle.step.specs.declared.Stepped.the-variants.{Listed, ListedSecond, Refused}
 

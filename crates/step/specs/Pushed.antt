@@ -18,7 +18,7 @@ use Rattle.definitions.specs.System.{mostUnknowns}
 use Rattle.definitions.specs.Tables.{at, writeRow, writeTo}
 use Rattle.definitions.specs.Step.{marksTo, writeChildren}
 use Rattle.laws.specs.TableLaws.{RowIs, row-other, row-row, row-same, write-again, write-outside}
-use Rattle.lists.specs.Rows.{Limited}
+use Rattle.table_rows.specs.Rows.{Limited}
 use Rattle.step.specs.RowLaws.{write-raise}
 use Rattle.products.specs.Marks.{count-over, marks-add, marks-over, marks-room}
 use Rattle.products.specs.Scan.{Left, next-first, next-holds, next-inside, next-later, left-none}

@@ -25,7 +25,7 @@ use Rattle.calls.specs.Paper.{systemWith}
 use Rattle.calls.specs.declared.Refusal.the-variants.{ComponentLimit}
 use Rattle.step.specs.declared.Stepped.{Stepped}
 use Rattle.step.specs.declared.Stepped.the-variants.{Grown, Refused}
-use Rattle.lists.specs.Rows.{tuple, Holds, Limited, Within}
+use Rattle.table_rows.specs.Rows.{tuple, Holds, Limited, Within}
 use Rattle.products.specs.Marks.{Marked, any-over, any-zero, is-false, marks-below, marks-zero, marks-counted, marks-frozen, marks-over}
 use Rattle.products.specs.Products.{Gram, Combined, Products, entry}
 use Rattle.products.specs.ProductLaws.{level-products, combined-less}

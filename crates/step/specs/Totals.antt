@@ -13,7 +13,7 @@ use Rattle.definitions.specs.System.{mostComponent, mostUnknowns}
 use Rattle.definitions.specs.Tables.{at, writeRow}
 use Rattle.laws.specs.TableLaws.{row-other, row-tuple}
 use Rattle.products.specs.Totals.{Totals}
-use Rattle.lists.specs.Rows.{Limited}
+use Rattle.table_rows.specs.Rows.{Limited}
 
 total-raise : (x : ℕ → ℕ) (i q : ℕ) → i < q → total (raise x i) q ≡ total x q + 1
 total-raise x i q l = omega (arith, total-sum (raise x i) x (unit i) q (λ j _. omega arith), total-unit i q l)

@@ -67,7 +67,7 @@ fn push_others(
     if rest == 0 {
         return h;
     }
-    lists::rows::read(stack, level * (q + 1), q, top);
+    table_rows::rows::read(stack, level * (q + 1), q, top);
     let mut frozen = marks + bit;
     let sum = sums[level];
     while rest != 0 {

@@ -3,7 +3,7 @@ ghost use mathlib.Core.List.{List, []};
 ghost use Prim.Native.Nat.{ℕ, _+_, _≤_, _<_};
 ghost use lib.ListN.{length};
 ghost use Rattle.definitions.specs.Step.{rowWidth};
-ghost use Rattle.lists.specs.Rows.{part, tuple};
+ghost use Rattle.table_rows.specs.Rows.{part, tuple};
 ghost use Rattle.candidates.specs.Kinds.{Bounds, asked, kindBy};
 ghost use Rattle.step.specs.Listing.{Appended, Enlisted};
 ghost use Rattle.step.specs.Taken.{Standing, Taken};
@@ -48,7 +48,7 @@ pub fn take(
     let level = height - 1;
     let base = level * (q + 1);
     if products::vanish(inner, level, q) {
-        lists::rows::read(stack, base, q, top);
+        table_rows::rows::read(stack, base, q, top);
         return enlist(walk, list, second, found, other, q, top);
     }
     let marks = stack[base + q];
@@ -118,6 +118,6 @@ fn append(
     if list.len() / w <= found {
         return Stepped::Refused(Refusal::ListFull);
     }
-    lists::rows::write(list, found * w, w, &t[from..]);
+    table_rows::rows::write(list, found * w, w, &t[from..]);
     done
 }

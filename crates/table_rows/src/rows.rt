@@ -1,4 +1,4 @@
-// Rows compared, copied, and within the component limit.
+// Rows compared, copied within a table, out of it and into it, and within the component limit.
 ghost use mathlib.Core.Path.{_≡_};
 ghost use Prim.Native.Nat.{_+_, _≤_};
 ghost use lib.Dec.{leb};
@@ -6,6 +6,7 @@ ghost use lib.ListN.{length};
 ghost use Rattle.linear.specs.Tests.{allTo};
 ghost use Rattle.definitions.specs.System.{isAtOrBelow, mostComponent};
 ghost use Rattle.definitions.specs.Tables.{writeTo};
+ghost use Rattle.table_rows.specs.Rows.{Holds, tuple};
 ghost use Rattle.table_rows.specs.Small.{rowAt};
 
 // Whether no number of the row that stands in the table from place `base` is above the component limit.
@@ -48,4 +49,28 @@ pub fn below(table: &[u32], x: usize, y: usize, q: usize) -> bool
         j += 1;
     }
     true
+}
+
+// Copies the tuple of w numbers that stands in a table from place `base`.
+pub fn read(table: &[u32], base: usize, w: usize, t: &mut [u32])
+    requires { ⌜ (w ≤ length (now t)) × (base + w ≤ length (now table)) ⌝ }
+    ensures { λ _. ⌜ Holds w (now (t .exit)) (now (table .entry)) base ⌝ }
+{
+    let mut j = 0;
+    while j < w {
+        t[j] = table[base + j];
+        j += 1;
+    }
+}
+
+// Writes the first w numbers of `t` into a table from place `base`.
+pub fn write(table: &mut [u32], base: usize, w: usize, t: &[u32])
+    requires { ⌜ (w ≤ length (now t)) × (base + w ≤ length (now table)) ⌝ }
+    ensures { λ _. ⌜ now (table .exit) ≡ writeTo w (now (table .entry)) base (tuple (now (t .entry))) ⌝ }
+{
+    let mut j = 0;
+    while j < w {
+        table[base + j] = t[j];
+        j += 1;
+    }
 }

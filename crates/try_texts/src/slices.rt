@@ -22,6 +22,23 @@ pub fn part(bytes: &[u8], start: usize, end: usize) -> &[u8] {
     &bytes[0..0]
 }
 
+// The place of the first sign @, or the end.
+pub fn next_sign(bytes: &[u8]) -> usize {
+    let mut i = 0;
+    while i < bytes.len() {
+        if bytes[i] == b'@' {
+            return i;
+        }
+        i += 1;
+    }
+    bytes.len()
+}
+
+// The bytes after the line of the sign that stands at i.
+pub fn after(bytes: &[u8], i: usize) -> &[u8] {
+    part(bytes, std::num::wrapping_add_usize(i, 2), bytes.len())
+}
+
 // Writes the bytes from `start` up to `end`, each the one that stands `period` bytes before.
 pub fn repeat(bytes: &mut [u8], start: usize, end: usize, period: usize) {
     let mut i = start;

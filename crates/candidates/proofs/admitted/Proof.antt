@@ -5,7 +5,7 @@ use lib.ListN.{length}
 use denote.Ref.{now}
 use borrow.Author.Needs.{needs}
 use Rattle.definitions.specs.System.{plain}
-use Rattle.lists.specs.Rows.{rows-fit, tuple}
+use Rattle.table_rows.specs.Rows.{rows-fit, tuple}
 use Rattle.candidates.specs.Kinds.{asked}
 use Rattle.candidates.specs.Open.{open-plain}
 use Rattle.candidates.specs.Tried.{tried-open}

@@ -9,7 +9,7 @@ use lib.ListN.{length, getD, set, take, drop, length-set, length-take, length-dr
 use lib.Seq.{getD-take, getD-drop, getD-set-same}
 use Rattle.linear.specs.Tuples.{raise}
 use Rattle.laws.specs.SystemLaws.{covered-same}
-use Rattle.lists.specs.Rows.{tuple}
+use Rattle.table_rows.specs.Rows.{tuple}
 use Rattle.candidates.specs.RowLaws.{raise-lower, set-raise}
 use Rattle.candidates.proofs.blocked.Statement.{statement}
 use Rattle.candidates.proofs.blocked.Tie as tie

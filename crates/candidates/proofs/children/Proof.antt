@@ -14,7 +14,7 @@ use Rattle.linear.specs.LoopLaws.{any-holds}
 use Rattle.linear.specs.Tests.{anyTo}
 use Rattle.definitions.specs.Tables.{at, frozen}
 use Rattle.definitions.specs.Step.{marksTo}
-use Rattle.lists.specs.Rows.{tuple}
+use Rattle.table_rows.specs.Rows.{tuple}
 use Rattle.products.specs.Scan.{
   Left,
   left-all,

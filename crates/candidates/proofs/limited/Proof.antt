@@ -11,7 +11,7 @@ use borrow.Author.Tests.{eq-eqb, ne-eqb}
 use Rattle.linear.specs.LoopLaws.{any-holds}
 use Rattle.linear.specs.Tests.{anyTo}
 use Rattle.definitions.specs.Tables.{frozen}
-use Rattle.lists.specs.Rows.{tuple}
+use Rattle.table_rows.specs.Rows.{tuple}
 use Rattle.products.specs.Marks.{any-zero}
 use Rattle.products.specs.Scan.{Left, left-all, left-next, next-holds, next-inside, next-le, next-less, none-end, none-next}
 use Rattle.candidates.proofs.limited.Statement.{statement}

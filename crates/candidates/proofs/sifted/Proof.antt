@@ -7,7 +7,7 @@ use denote.Ref.{now}
 use borrow.Author.Needs.{needs}
 use Rattle.definitions.specs.Input.{boundOf}
 use Rattle.definitions.specs.System.{above, capped, plain}
-use Rattle.lists.specs.Rows.{rows-fit, tuple}
+use Rattle.table_rows.specs.Rows.{rows-fit, tuple}
 use Rattle.candidates.specs.GrowLaws.{open-asked}
 use Rattle.candidates.specs.Kinds.{asked}
 use Rattle.candidates.specs.Open.{open-plain}

@@ -4,7 +4,7 @@ use native.Mathlib.Nat.{le-antisymm}
 use native.Mathlib.Omega.{arith}
 use borrow.Author.Needs.{needs}
 use Rattle.definitions.specs.Input.{boundOf}
-use Rattle.lists.specs.Rows.{tuple}
+use Rattle.table_rows.specs.Rows.{tuple}
 use Rattle.candidates.specs.Open.{Differs, differs-more, differs-none}
 use Rattle.candidates.proofs.subtract.Statement.{statement}
 use Rattle.candidates.proofs.subtract.Tie as tie

@@ -5,7 +5,7 @@ use native.Mathlib.Omega.{arith}
 use lib.ListN.{length}
 use denote.Ref.{now}
 use borrow.Author.Needs.{needs}
-use Rattle.lists.specs.Rows.{tuple}
+use Rattle.table_rows.specs.Rows.{tuple}
 use Rattle.candidates.specs.Open.{alone-room, open-alone, open-none, open-others}
 use Rattle.candidates.proofs.uncapped.Statement.{statement}
 use Rattle.candidates.proofs.uncapped.Tie as tie

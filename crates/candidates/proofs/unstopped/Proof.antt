@@ -8,7 +8,7 @@ use denote.Ref.{now}
 use borrow.Author.Needs.{needs}
 use Rattle.definitions.specs.Tables.{at, frozen}
 use Rattle.definitions.specs.Step.{marksTo}
-use Rattle.lists.specs.Rows.{tuple}
+use Rattle.table_rows.specs.Rows.{tuple}
 use Rattle.products.specs.Scan.{Left, left-all, left-next, left-end, next-inside, next-holds, next-le, next-less, next-skip, next-add, next-room}
 use Rattle.candidates.specs.Grow.{childBy}
 use Rattle.candidates.specs.GrowLaws.{closed-makes-none, covered-makes-none, makes-one}

@@ -4,11 +4,9 @@ use borrow.Author.Tests.{not-false, not-true}
 use denote.Ref.{now}
 use mathlib.Core.Bool.{_&&_, and-false}
 use mathlib.Core.Path.{sym, _∙_, ap}
-use Rattle.calls.specs.Paper as paper
-use Rattle.calls.specs.Paper.{stateOf}
-use Rattle.desk_calls.specs.Calls.{deskOf}
+use Rattle.calls.specs.Paper.{checkOf, stateOf}
 use Rattle.desk_checks.specs.Shape.{handed-by, rows-fit, shape-fits, shape-passed, shape-refused, six-passed, six-refused}
-use Rattle.desk_spec.specs.Desks.{deskInOrder, deskResumeChecks, deskRowInOrder, generatorsInOrder}
+use Rattle.desk_spec.specs.Desks.{deskInOrder, deskOf, deskResumeChecks, deskRowInOrder, generatorsInOrder}
 use Rattle.desk_checks.proofs.check_resume.Statement.{statement}
 use Rattle.desk_checks.proofs.check_resume.Tie as tie
 
@@ -27,7 +25,7 @@ in-order-requires : tie.Need-in-order-requires
 in-order-requires c κs =
     let t = c .before .before in
     let k = t .before .before in
-    rows-fit (shape-fits _ _ _ _ _ (sym (k .check .ensures) ∙ ap paper.checkOf (t .enum-told .given .1)))
+    rows-fit (shape-fits _ _ _ _ _ (sym (k .check .ensures) ∙ ap checkOf (t .enum-told .given .1)))
 
 returns-2 : tie.Need-returns-2
 unfolding deskResumeChecks generatorsInOrder deskInOrder deskRowInOrder
@@ -47,7 +45,7 @@ check-requires-2 c κs =
     let e = c .before .before in
     let t = e .before .before in
     let k = t .before .before in
-    handed-by (shape-fits _ _ _ _ _ (sym (k .check .ensures) ∙ ap paper.checkOf (t .enum-told .given .1)))
+    handed-by (shape-fits _ _ _ _ _ (sym (k .check .ensures) ∙ ap checkOf (t .enum-told .given .1)))
     (sym (e .before .small .ensures) ∙ not-false _ (e .if1 .left))
 
 returns-3 : tie.Need-returns-3

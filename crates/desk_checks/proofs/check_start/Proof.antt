@@ -3,11 +3,9 @@ use borrow.Author.Needs.{needs}
 use borrow.Author.Tests.{not-false, not-true}
 use denote.Ref.{now}
 use mathlib.Core.Path.{sym, _∙_, ap}
-use Rattle.calls.specs.Paper as paper
-use Rattle.calls.specs.Paper.{stateOf}
-use Rattle.desk_calls.specs.Calls.{deskOf}
+use Rattle.calls.specs.Paper.{checkOf, stateOf}
 use Rattle.desk_checks.specs.Shape.{handed-by, shape-fits, shape-passed, shape-refused, six-passed, six-refused}
-use Rattle.desk_spec.specs.Desks.{deskStartChecks, generatorsInOrder}
+use Rattle.desk_spec.specs.Desks.{deskOf, deskStartChecks, generatorsInOrder}
 use Rattle.desk_checks.proofs.check_start.Statement.{statement}
 use Rattle.desk_checks.proofs.check_start.Tie as tie
 
@@ -25,7 +23,7 @@ check-requires-2 : tie.Need-check-requires-2
 check-requires-2 c κs =
     let t = c .before .before in
     let k = t .before .before in
-    handed-by (shape-fits _ _ _ _ _ (sym (k .check .ensures) ∙ ap paper.checkOf (t .enum-told .given .1)))
+    handed-by (shape-fits _ _ _ _ _ (sym (k .check .ensures) ∙ ap checkOf (t .enum-told .given .1)))
     (sym (c .before .small .ensures) ∙ not-false _ (c .if1 .left))
 
 returns-2 : tie.Need-returns-2

@@ -6,8 +6,7 @@ use mathlib.Core.Path.{_≡_, sym, _∙_}
 use native.Mathlib.Omega.{arith}
 use Rattle.definitions.specs.System.{solves}
 use Rattle.definitions.specs.Tables.{State}
-use Rattle.desk_calls.specs.Calls.{deskOf}
-use Rattle.desk_spec.specs.Desks.{deskTop, secondGroup}
+use Rattle.desk_spec.specs.Desks.{deskOf, deskTop, secondGroup}
 use Rattle.desk_walk.specs.Taking.{came-listed, listed-whole, solved, stateAt, take-grown, take-large, take-pushing, top-place, trying}
 use Rattle.desk_walk.proofs.take.Statement.{statement}
 use Rattle.desk_walk.proofs.take.Tie as tie

@@ -9,8 +9,7 @@ use mathlib.Core.Path.{_≡_, refl, sym, _∙_, ap}
 use native.Mathlib.Nat.{div-mul-le-self}
 use native.Mathlib.Omega.{arith}
 use Rattle.definitions.specs.Answers.{complete}
-use Rattle.desk_calls.specs.Calls.{deskOf}
-use Rattle.desk_spec.specs.Desks.{Desk}
+use Rattle.desk_spec.specs.Desks.{Desk, deskOf}
 use Rattle.desk_rows.specs.Images.{Images}
 use Rattle.desk_walk.specs.Taking.{shaped-small, stateAt}
 use Rattle.desk_walk.specs.Turning.{deeper, found-place, held-small, images-stay, standing, top-row, turn-grown, turn-listed, turn-refused}
@@ -67,14 +66,14 @@ returns : tie.Need-returns Inv-loop μ-loop
 returns c =
     let t = c .before in
     let a = t .before .before in
-    rw (c .leave .ensures) (sym (ends-paused (desk (begun a)) (a .loop .inv .2) (t .before .loop-test .taken) (t .if1 .taken)))
+    rw (c .left .ensures) (sym (ends-paused (desk (begun a)) (a .loop .inv .2) (t .before .loop-test .taken) (t .if1 .taken)))
 
 returns-2 : tie.Need-returns-2 Inv-loop μ-loop
 returns-2 c =
     let t = c .before in
     let e = t .before in
     let a = e .before .before in
-    rw (c .leave2 .ensures) (sym (ends-late (desk (begun a)) (a .loop .inv .2) (e .before .loop-test .taken) (positive (e .if1 .left)) (t .if2 .taken)))
+    rw (c .left2 .ensures) (sym (ends-late (desk (begun a)) (a .loop .inv .2) (e .before .loop-test .taken) (positive (e .if1 .left)) (t .if2 .taken)))
 
 add-look : tie.Need-add-look Inv-loop μ-loop
 add-look c = let a = at-loop (c .before) in omega (arith, a .loop .inv .2 .valid .shaped .q-few)
@@ -127,7 +126,7 @@ returns-3 c =
     let k = t .before .before .before .before .before .before .before in
     let e = k .before .before .before .before in
     let a = at-loop e in
-    rw (c .leave3 .ensures)
+    rw (c .left3 .ensures)
     (sym (turn-refused (begun a .args .r) (a .loop .inv .2) (high e) (positive (e .before .if1 .left)) (t .take .ensures)
     (c .before .before .why .given .1)))
 
@@ -183,7 +182,7 @@ returns-4 c =
     let f = w .before .before in
     let a = f .before in
     let zero = ends-complete (desk (begun a)) (a .loop .inv .2) (omega (arith, f .loop-test .left)) in
-    rw (c .leave4 .ensures) (sym (zero ∙ ap (λ t. record { answer = complete; state = t }) (swept-is _ _ (w .sweep .ensures))))
+    rw (c .left4 .ensures) (sym (zero ∙ ap (λ t. record { answer = complete; state = t }) (swept-is _ _ (w .sweep .ensures))))
 
 pub walk-spec : {M : Type 1} → statement M
 walk-spec =

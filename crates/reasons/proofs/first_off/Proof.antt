@@ -8,7 +8,7 @@ use Rattle.linear.specs.Places.{firstTo}
 use Rattle.linear.specs.PlaceLaws.{first-next, first-here}
 use Rattle.definitions.specs.Reasons.{firstOff}
 use Rattle.definitions.specs.System.{imageOf, isZero}
-use Rattle.lists.specs.Rows.{tuple}
+use Rattle.table_rows.specs.Rows.{tuple}
 use Rattle.definitions.specs.Input.{inputOf, mapOf}
 use Rattle.reasons.specs.Amounts.{equation-of, amount-kept, amount-off, amount-even}
 use borrow.Author.Needs.{needs}

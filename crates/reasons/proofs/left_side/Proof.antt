@@ -9,7 +9,7 @@ use mir.Syntax.{w64}
 use mir.Val.{ofZ}
 use Rattle.linear.specs.Sums.{sumTo}
 use Rattle.linear.specs.Systems.{inner, value}
-use Rattle.lists.specs.Rows.{tuple}
+use Rattle.table_rows.specs.Rows.{tuple}
 use Rattle.products.specs.Turns.{next-fits, next-sum, sum-value}
 use Rattle.reasons.specs.Amounts.{equation-fits, equation-terms}
 use borrow.Author.Needs.{needs}

@@ -8,7 +8,7 @@ use borrow.Author.Tests.{eq-eqb, ne-eqb}
 use Rattle.linear.specs.Tests.{allTo}
 use Rattle.linear.specs.LoopLaws.{all-next, all-fails}
 use Rattle.definitions.specs.Reasons.{vanishes}
-use Rattle.lists.specs.Rows.{tuple}
+use Rattle.table_rows.specs.Rows.{tuple}
 use borrow.Author.Needs.{needs}
 use Rattle.reasons.proofs.vanishes.Statement.{statement}
 use Rattle.reasons.proofs.vanishes.Tie as tie

@@ -4,7 +4,7 @@ use Rattle.definitions.specs.Tables.{unitsStart}
 use Rattle.definitions.specs.Calls.{start}
 use Rattle.laws.specs.RefusalLaws.{start-shaped}
 use Rattle.calls.specs.CallLaws.{call-refused, call-passed, passes}
-use Rattle.starts.specs.Begin.{for-every}
+use Rattle.starts.specs.Limits.{for-every}
 use Rattle.starts.proofs.started.Statement.{statement}
 use Rattle.starts.proofs.started.Tie as tie
 

@@ -7,7 +7,7 @@ use borrow.Author.Needs.{needs}
 use lib.ListN.{length, getD, take, drop, length-take, length-drop}
 use lib.Seq.{getD-take, getD-drop}
 use Rattle.laws.specs.TableLaws.{write-same}
-use Rattle.lists.specs.Rows.{room-fits}
+use Rattle.table_rows.specs.Rows.{room-fits}
 use Rattle.step.specs.Listing.{appended-none, appended-next}
 use Rattle.step.proofs.append.Statement.{statement}
 use Rattle.step.proofs.append.Tie as tie

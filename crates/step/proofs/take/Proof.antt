@@ -9,7 +9,7 @@ use denote.Ref.{now}
 use Rattle.linear.specs.Tests.{allTo}
 use Rattle.definitions.specs.System.{Kind, isZero}
 use Rattle.definitions.specs.Tables.{State}
-use Rattle.lists.specs.Rows.{Holds, part-holds, tuple}
+use Rattle.table_rows.specs.Rows.{Holds, part-holds, tuple}
 use Rattle.products.specs.Products.{entry}
 use borrow.Author.Needs.{needs}
 use Rattle.candidates.specs.Grow.{childFor}

@@ -4,8 +4,8 @@ ghost use Prim.Native.Nat.{_+_, _*_, _^_, _≤_, _<_};
 ghost use lib.ListN.{length};
 ghost use Rattle.linear.specs.Tuples.{raise};
 ghost use Rattle.definitions.specs.Tables.{writeRow};
-ghost use Rattle.lists.specs.Rows.{tuple};
-use lists::rows;
+ghost use Rattle.table_rows.specs.Rows.{tuple};
+use table_rows::rows;
 
 // Writes row `k` of the stack: `t` with component `i` raised by one, and the marks.
 pub fn write_child(stack: &mut [u32], k: usize, q: usize, t: &[u32], i: usize, marks: u32)

@@ -11,20 +11,20 @@ use Rattle.desk_checks.proofs.order.in_order.Tie as tie
 
 returns : tie.Need-returns
 unfolding deskInOrder
-returns c = rw (sym (c .before .is-desks .ensures) ∙ not-true _ (c .if1 .taken))
+returns c = rw (sym (c .before .same-run .ensures) ∙ not-true _ (c .if1 .taken))
 
 returns-2 : tie.Need-returns-2
 unfolding deskInOrder
 returns-2 c =
     let e1 = c .before in
-    rw (sym (e1 .before .is-desks .ensures) ∙ not-false _ (e1 .if1 .left), lt-leb _ _ (c .if2 .taken))
+    rw (sym (e1 .before .same-run .ensures) ∙ not-false _ (e1 .if1 .left), lt-leb _ _ (c .if2 .taken))
 
 returns-3 : tie.Need-returns-3
 unfolding deskInOrder
 returns-3 c =
     let e2 = c .before in
     let e1 = e2 .before in
-    rw (sym (e1 .before .is-desks .ensures) ∙ not-false _ (e1 .if1 .left), le-leb _ _ (e2 .if2 .left), lt-leb _ _ (c .if3 .taken))
+    rw (sym (e1 .before .same-run .ensures) ∙ not-false _ (e1 .if1 .left), le-leb _ _ (e2 .if2 .left), lt-leb _ _ (c .if3 .taken))
 
 returns-4 : tie.Need-returns-4
 unfolding deskInOrder
@@ -32,7 +32,7 @@ returns-4 c =
     let e3 = c .before in
     let e2 = e3 .before in
     let e1 = e2 .before in
-    rw (sym (e1 .before .is-desks .ensures) ∙ not-false _ (e1 .if1 .left), le-leb _ _ (e2 .if2 .left), le-leb _ _ (e3 .if3 .left), lt-leb _ _ (c .if4 .taken))
+    rw (sym (e1 .before .same-run .ensures) ∙ not-false _ (e1 .if1 .left), le-leb _ _ (e2 .if2 .left), le-leb _ _ (e3 .if3 .left), lt-leb _ _ (c .if4 .taken))
 
 returns-5 : tie.Need-returns-5
 unfolding deskInOrder
@@ -42,7 +42,7 @@ returns-5 c =
     let e2 = e3 .before in
     let e1 = e2 .before in
     rw (
-      sym (e1 .before .is-desks .ensures)
+      sym (e1 .before .same-run .ensures)
           ∙ not-false _ (e1 .if1 .left),
       le-leb _ _ (e2 .if2 .left),
       le-leb _ _ (e3 .if3 .left),
@@ -65,7 +65,7 @@ returns-6 c =
     let e2 = e3 .before in
     let e1 = e2 .before in
     rw (
-      sym (e1 .before .is-desks .ensures)
+      sym (e1 .before .same-run .ensures)
           ∙ not-false _ (e1 .if1 .left),
       le-leb _ _ (e2 .if2 .left),
       le-leb _ _ (e3 .if3 .left),

@@ -7,8 +7,7 @@ use mathlib.Core.List.{[]}
 use mathlib.Core.Path.{_≡_, refl, sym, _∙_}
 use native.Mathlib.Nat.{le-antisymm}
 use native.Mathlib.Omega.{arith}
-use Rattle.desk_calls.specs.Calls.{deskOf}
-use Rattle.desk_spec.specs.Desks.{deskRowInOrder}
+use Rattle.desk_spec.specs.Desks.{deskOf, deskRowInOrder}
 use Rattle.laws.specs.TableLaws.{row-fits}
 use Rattle.linear.specs.LoopLaws.{all-next, all-fails}
 use Rattle.linear.specs.Tests.{allTo}

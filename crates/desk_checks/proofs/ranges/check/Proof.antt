@@ -2,9 +2,9 @@
 use borrow.Author.Needs.{needs}
 use denote.Ref.{now}
 use mathlib.Core.Path.{sym, _∙_, ap}
-use Rattle.calls.specs.Paper as paper
+use Rattle.calls.specs.Paper.{checkOf}
 use Rattle.definitions.specs.Refusals.{check7}
-use Rattle.desk_calls.specs.Calls.{deskOf}
+use Rattle.desk_spec.specs.Desks.{deskOf}
 use Rattle.desk_checks.specs.Shape.{handed-small, range-passed, range-refused, range-wide}
 use Rattle.desk_checks.proofs.ranges.check.Statement.{statement}
 use Rattle.desk_checks.proofs.ranges.check.Tie as tie
@@ -15,7 +15,7 @@ is-wide-requires c κs =
     let k = c .before .before in
     let s = k .before .before in
     handed-small (s .args .p) (s .args .q) (now (s .args .coefs)) (now (s .args .generators)) (s .pre)
-    (sym (k .check .ensures) ∙ ap paper.checkOf (c .enum-told .given .1))
+    (sym (k .check .ensures) ∙ ap checkOf (c .enum-told .given .1))
 
 returns : tie.Need-returns
 unfolding check7

@@ -8,8 +8,7 @@ use mathlib.Core.Bool.{false}
 use mathlib.Core.Path.{_≡_, refl, sym, _∙_}
 use native.Mathlib.Nat.{le-antisymm}
 use Rattle.definitions.specs.System.{imageOf}
-use Rattle.desk_calls.specs.Calls.{deskOf}
-use Rattle.desk_spec.specs.Desks.{generator, imageLimit, mostGenerators, secondGroup, wide}
+use Rattle.desk_spec.specs.Desks.{deskOf, generator, imageLimit, mostGenerators, secondGroup, wide}
 use Rattle.linear.specs.LoopLaws.{any-holds, any-next}
 use Rattle.linear.specs.Tests.{anyTo}
 use Rattle.desk_checks.proofs.ranges.is_wide.Statement.{statement}

@@ -8,8 +8,7 @@ use mathlib.Core.Path.{_≡_, refl, sym, _∙_}
 use native.Mathlib.Nat.{le-antisymm}
 use native.Mathlib.Omega.{arith}
 use Rattle.definitions.specs.System.{imageOf}
-use Rattle.desk_calls.specs.Calls.{deskOf}
-use Rattle.desk_spec.specs.Desks.{generator, imageLimit, secondGroup}
+use Rattle.desk_spec.specs.Desks.{deskOf, generator, imageLimit, secondGroup}
 use Rattle.desk_rows.specs.Images.{desk-equation, desk-row}
 use Rattle.linear.specs.LoopLaws.{any-holds, any-next}
 use Rattle.linear.specs.Tests.{anyTo}

@@ -7,7 +7,7 @@ use native.Mathlib.Nat.{le-antisymm}
 use native.Mathlib.Omega.{arith}
 use Rattle.desk_rows.specs.Rows.{total-next, total-room}
 use Rattle.linear.specs.Tuples.{total}
-use Rattle.lists.specs.Rows.{tuple}
+use Rattle.table_rows.specs.Rows.{tuple}
 use Rattle.desk_rows.proofs.rows.sum.Statement.{statement}
 use Rattle.desk_rows.proofs.rows.sum.Tie as tie
 

@@ -8,7 +8,7 @@ use native.Mathlib.Omega.{arith}
 use Rattle.desk_spec.specs.Desks.{word}
 use Rattle.desk_rows.specs.Rows.{row-numbers}
 use Rattle.laws.specs.TableLaws.{write-length}
-use Rattle.lists.specs.Rows.{tuple}
+use Rattle.table_rows.specs.Rows.{tuple}
 use Rattle.desk_rows.proofs.rows.write.Statement.{statement}
 use Rattle.desk_rows.proofs.rows.write.Tie as tie
 

@@ -3,7 +3,7 @@ use mathlib.Core.Path.{_≡_, refl, ap, _∙_}
 use Prim.Native.Nat.{_-_, _≤_}
 use native.Mathlib.Nat.{le-antisymm}
 use borrow.Author.Needs.{needs}
-use Rattle.lists.specs.Rows.{tuple}
+use Rattle.table_rows.specs.Rows.{tuple}
 use Rattle.multiples_spec.specs.Parts.{bounded, oftenTo}
 use Rattle.multiples.specs.Taking.{often-next, rowAt}
 use Rattle.multiples.proofs.rows.often.Statement.{statement}

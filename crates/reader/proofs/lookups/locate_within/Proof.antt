@@ -3,7 +3,7 @@ use mathlib.Core.Path.{sym, ap, _∙_}
 use native.Mathlib.Omega.{arith}
 use borrow.Author.Needs.{needs}
 use borrow.Author.Tests.{eq-eqb, le-leb, lt-leb, ne-eqb}
-use Rattle.lists.specs.Places.{placeOf}
+use Rattle.table_rows.specs.Places.{placeOf}
 use Rattle.reader.specs.AnswerLaws.{asked, many-rows, many-unknowns, no-unknowns, other-length, rows-fit}
 use Rattle.reader.proofs.lookups.locate_within.Statement.{statement}
 use Rattle.reader.proofs.lookups.locate_within.Tie as tie

@@ -14,7 +14,7 @@ use Rattle.linear.specs.TupleLaws.{total-same}
 use Rattle.definitions.specs.Tables.{at, frozen}
 use Rattle.laws.specs.MarkLaws.{shift-one}
 use Rattle.laws.specs.TableLaws.{row-fits}
-use Rattle.lists.specs.Rows.{tuple}
+use Rattle.table_rows.specs.Rows.{tuple}
 use Rattle.products.specs.Scan.{Left, left-all, left-next, next-first, next-holds, next-inside, next-le, next-less}
 use Rattle.products.specs.Products.{Combined}
 use Rattle.products.specs.ProductLaws.{combined-child, level-products, products-small}

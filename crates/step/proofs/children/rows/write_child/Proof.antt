@@ -6,7 +6,7 @@ use borrow.Author.Needs.{needs}
 use denote.Ref.{now}
 use lib.ListN.{set}
 use Rattle.definitions.specs.Tables.{writeRow}
-use Rattle.lists.specs.Rows.{tuple}
+use Rattle.table_rows.specs.Rows.{tuple}
 use Rattle.step.specs.RowLaws.{write-raise}
 use Rattle.step.proofs.children.rows.write_child.Statement.{statement}
 use Rattle.step.proofs.children.rows.write_child.Tie as tie

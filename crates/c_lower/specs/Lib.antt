@@ -1,2 +1,0 @@
-pub mod Lower
-pub mod LowerLaws
