@@ -13,9 +13,8 @@ use Rattle.definitions.specs.Tables.{State}
 use Rattle.calls.specs.Paper.{stateOf}
 use Rattle.c_record.specs.WordLaws.{then-same}
 use Rattle.c_record.specs.Words.{recordIn}
-use Rattle.desk_spec.specs.Desks.{Desk, deskCheck3, deskCheck4, deskInOrder, deskMachine, deskResumeChecks, generatorsInOrder, groupInput}
-use Rattle.desk_spec.specs.Desks.{rangesChecks}
-use Rattle.c_desk.specs.Words.{deskResumeWords}
+use Rattle.desk_spec.specs.Desks.{Desk, deskCheck3, deskCheck4, deskInOrder, deskMachine, deskResume, deskResumeChecks, generatorsInOrder}
+use Rattle.desk_spec.specs.Desks.{groupInput, rangesChecks}
 
 -- ---- another number of words: "6: run record or tables out of order"
 
@@ -43,8 +42,8 @@ module _ (words : List ℕ) (d : Desk) (stack list : List ℕ) (ne : length word
       then-same (check2 (groupInput d)) _ _ (λ _. then-same (deskCheck3 d) _ _ (λ _. then-same (deskCheck4 d lent) _ _ (λ _. six))))
 
   -- the first of 1 to 4 that is due, or else 6, and nothing lent is changed
-  pub misfit-refused : (budget : ℕ) → deskResumeWords budget words d stack list
+  pub misfit-refused : (budget : ℕ) → deskResume budget d lent
       ≡ checked (check1 (groupInput d) then check2 (groupInput d) then deskCheck3 d then deskCheck4 d lent then refuse 6 []) lent
       (walk budget (deskMachine d))
-  unfolding deskResumeWords call
+  unfolding call
   misfit-refused budget = ap (λ c. checked c lent (walk budget (deskMachine d))) misfit-checks

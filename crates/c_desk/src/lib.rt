@@ -1,7 +1,5 @@
 // The calls of the second of two desks on a record of words, with an answer that is one number: specs/Words.antt.
 ghost use mathlib.Core.Path.{_≡_};
-ghost use Rattle.c_record.specs.Words.{told};
-ghost use Rattle.desk_spec.specs.Desks.{deskOf};
 ghost use Rattle.c_desk.specs.Words.{deskResumeWords, deskStartWords};
 use c_record::tell;
 use c_record::words;
@@ -17,8 +15,7 @@ pub fn start(
     run: &mut [u64],
 ) -> u64
     ensures { λ a. ⌜ (a, (now (stack .exit), (now (list .exit), now (run .exit)))) ≡
-        told (now (run .entry))
-        (deskStartWords (now (run .entry)) (deskOf p q (now (coefs .entry)) (now (generators .entry))) (now (stack .entry)) (now (list .entry))) ⌝ }
+        deskStartWords p q (now (coefs .entry)) (now (generators .entry)) (now (stack .entry)) (now (list .entry)) (now (run .entry)) ⌝ }
 {
     if run.len() == 7 {
         let r = words::read(run);
@@ -40,8 +37,7 @@ pub fn resume(
     budget: u64,
 ) -> u64
     ensures { λ a. ⌜ (a, (now (stack .exit), (now (list .exit), now (run .exit)))) ≡
-        told (now (run .entry))
-        (deskResumeWords budget (now (run .entry)) (deskOf p q (now (coefs .entry)) (now (generators .entry))) (now (stack .entry)) (now (list .entry))) ⌝ }
+        deskResumeWords budget p q (now (coefs .entry)) (now (generators .entry)) (now (stack .entry)) (now (list .entry)) (now (run .entry)) ⌝ }
 {
     let r = words::read(run);
     let o = desk::resume(p, q, coefs, generators, stack, list, r, budget);

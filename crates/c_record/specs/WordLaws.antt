@@ -118,11 +118,20 @@ module _ (words : List ℕ) {answer : Answer} {r : Record} {stack list second le
 
 -- ---- a start, by the number of words: what it begins, or what the continuing call is told
 
-module _ (words : List ℕ) (begun misfit : Outcome State) where
-  pub begun-fitting : length words ≡ 7 → begun ≡ startOn words begun misfit
+module _ (words : List ℕ) {answer : Answer} {r : Record} {stack list second left : List ℕ} {begun : Outcome State} {a : ℕ}
+    (e : _≡_ {A = Outcome State} (record { answer = answer; state = record { stack = stack; list = list; second = second; run = r } }) begun)
+    (fits : length words ≡ 7) (d : a ≡ code answer) (l : left ≡ wordsLeft words r) (misfit : Outcome State) where
+  begun-fitting : begun ≡ startOn words begun misfit
   unfolding startOn
-  begun-fitting e = rw (eq-eqb (length words) 7 e)
+  begun-fitting = rw (eq-eqb (length words) 7 fits)
 
+  pub start-told : (a, (stack, (list, left))) ≡ told words (startOn words begun misfit)
+  start-told = call-told words (e ∙ begun-fitting) d l
+
+  pub start-both-told : (a, (stack, (list, (second, left)))) ≡ toldBoth words (startOn words begun misfit)
+  start-both-told = both-told words (e ∙ begun-fitting) d l
+
+module _ (words : List ℕ) (begun misfit : Outcome State) where
   -- in whatever form it is told
   pub told-misfit : {A : Type 0} (tell : Outcome State → A) {a : A} → a ≡ tell misfit → length words ≢ 7 → a ≡ tell (startOn words begun misfit)
   unfolding startOn

@@ -3,13 +3,14 @@ use Prim.Native.Nat.{ℕ}
 use mathlib.Core.Bool.{Bool, true, false, _&&_}
 use mathlib.Core.List.{List}
 use lib.Dec.{eqb, ltb}
+use lib.IntN.{ℤ}
 use lib.ListN.{length, getD, set}
-use Rattle.definitions.specs.Input.{Input}
+use Rattle.definitions.specs.Input.{inputOf}
 use Rattle.definitions.specs.Machine.{Outcome}
 use Rattle.definitions.specs.Calls.{start, resume}
 use Rattle.definitions.specs.Tables as tables
 use Rattle.definitions.specs.Tables.{State, runNumber}
-use Rattle.calls.specs.Paper.{recordOf, stateOf}
+use Rattle.calls.specs.Paper.{recordOf, stateOf, stateWith}
 use Rattle.calls.specs.declared.Record.{Record}
 use Rattle.calls.specs.declared.Run.{Run}
 use Rattle.calls.specs.declared.Run.the-variants.{Plain, Capped, LowerPlain, LowerAbove, Desks}
@@ -59,17 +60,26 @@ unfoldable pub wordsLeft : List ℕ → tables.Record → List ℕ
 wordsLeft words r = wordsIf (isRecord words && ltb (r .height) 65) words r
 
 -- what a call answers, as a number, and what it leaves in the two tables and in the words
-abbrev pub told : List ℕ → Outcome State → ℕ × (List ℕ × (List ℕ × List ℕ))
+abbrev pub Told : Type 0
+Told = ℕ × (List ℕ × (List ℕ × List ℕ))
+
+abbrev pub told : List ℕ → Outcome State → Told
 told words o = (code (o .answer), (o .state .stack, (o .state .list, wordsLeft words (o .state .run))))
 
 -- the same of a run with two lists
-abbrev pub toldBoth : List ℕ → Outcome State → ℕ × (List ℕ × (List ℕ × (List ℕ × List ℕ)))
+abbrev pub ToldBoth : Type 0
+ToldBoth = ℕ × (List ℕ × (List ℕ × (List ℕ × List ℕ)))
+
+abbrev pub toldBoth : List ℕ → Outcome State → ToldBoth
 toldBoth words o = (code (o .answer), (o .state .stack, (o .state .list, (o .state .second, wordsLeft words (o .state .run)))))
 
--- ---- the calls: each is handed the words of the record, a map, and the two tables
+-- ---- a call on words: all that is lent, with the words read as a record, is handed to the call, and what it answers and leaves is told
 
-unfoldable pub resumeWords : ℕ → List ℕ → Input → List ℕ → List ℕ → Outcome State
-resumeWords budget words i stack list = resume budget i (stateOf stack list (recordIn words))
+abbrev pub onWords : (State → Outcome State) → (stack list words : List ℕ) → Told
+onWords call stack list words = told words (call (stateOf stack list (recordIn words)))
+
+abbrev pub onBoth : (State → Outcome State) → (stack list second words : List ℕ) → ToldBoth
+onBoth call stack list second words = toldBoth words (call (stateWith stack list second (recordIn words)))
 
 abbrev pub startIf : Bool → Outcome State → Outcome State → Outcome State
 startIf true begun misfit = begun
@@ -80,5 +90,16 @@ startIf false begun misfit = misfit
 unfoldable pub startOn : List ℕ → Outcome State → Outcome State → Outcome State
 startOn words begun misfit = startIf (isRecord words) begun misfit
 
-unfoldable pub startWords : List ℕ → Input → List ℕ → List ℕ → Outcome State
-startWords words i stack list = startOn words (start i (stateOf stack list (recordIn words))) (resumeWords 0 words i stack list)
+abbrev pub startOnWords : (start resume : State → Outcome State) → (stack list words : List ℕ) → Told
+startOnWords start resume stack list words = onWords (λ s. startOn words (start s) (resume s)) stack list words
+
+abbrev pub startOnBoth : (start resume : State → Outcome State) → (stack list second words : List ℕ) → ToldBoth
+startOnBoth start resume stack list second words = onBoth (λ s. startOn words (start s) (resume s)) stack list second words
+
+-- ---- the calls of a plain run: each is handed a map, the two tables, and the words of the record
+
+unfoldable pub resumeWords : (budget p q : ℕ) (coefs : List ℤ) (stack list words : List ℕ) → Told
+resumeWords budget p q coefs stack list words = onWords (resume budget (inputOf p q coefs)) stack list words
+
+unfoldable pub startWords : (p q : ℕ) (coefs : List ℤ) (stack list words : List ℕ) → Told
+startWords p q coefs stack list words = startOnWords (start (inputOf p q coefs)) (resume 0 (inputOf p q coefs)) stack list words

@@ -1,8 +1,6 @@
 // The calls of the training seat on a record of words, with an answer that is one number.
 ghost use mathlib.Core.Path.{_≡_};
-ghost use Rattle.c_record.specs.Words.{told, toldBoth};
-ghost use Rattle.seat_spec.specs.Training.{seatInput};
-ghost use Rattle.c_seat.specs.SeatWords.{seatResumeFromWords, seatResumeWords, seatStartFromWords, seatStartWords};
+ghost use Rattle.c_seat.specs.SeatWords.{seatResumeBounded, seatResumeWords, seatStartBounded, seatStartWords};
 use c_record::tell;
 use c_record::words;
 
@@ -16,7 +14,7 @@ pub fn start(
     run: &mut [u64],
 ) -> u64
     ensures { λ a. ⌜ (a, (now (stack .exit), (now (list .exit), now (run .exit)))) ≡
-        told (now (run .entry)) (seatStartWords (now (run .entry)) (seatInput p q (now (coefs .entry))) (now (stack .entry)) (now (list .entry))) ⌝ }
+        seatStartWords p q (now (coefs .entry)) (now (stack .entry)) (now (list .entry)) (now (run .entry)) ⌝ }
 {
     if run.len() == 7 {
         let r = words::read(run);
@@ -38,9 +36,7 @@ pub fn start_from(
     run: &mut [u64],
 ) -> u64
     ensures { λ a. ⌜ (a, (now (stack .exit), (now (list .exit), (now (second .exit), now (run .exit))))) ≡
-        toldBoth (now (run .entry))
-        (seatStartFromWords (now (lower .entry)) (now (run .entry)) (seatInput p q (now (coefs .entry))) (now (stack .entry)) (now (list .entry))
-        (now (second .entry))) ⌝ }
+        seatStartBounded p q (now (coefs .entry)) (now (lower .entry)) (now (stack .entry)) (now (list .entry)) (now (second .entry)) (now (run .entry)) ⌝ }
 {
     if run.len() == 7 {
         let r = words::read(run);
@@ -61,7 +57,7 @@ pub fn resume(
     budget: u64,
 ) -> u64
     ensures { λ a. ⌜ (a, (now (stack .exit), (now (list .exit), now (run .exit)))) ≡
-        told (now (run .entry)) (seatResumeWords budget (now (run .entry)) (seatInput p q (now (coefs .entry))) (now (stack .entry)) (now (list .entry))) ⌝ }
+        seatResumeWords budget p q (now (coefs .entry)) (now (stack .entry)) (now (list .entry)) (now (run .entry)) ⌝ }
 {
     let r = words::read(run);
     let o = seat::resumed(p, q, coefs, stack, list, r, budget);
@@ -81,9 +77,8 @@ pub fn resume_from(
     budget: u64,
 ) -> u64
     ensures { λ a. ⌜ (a, (now (stack .exit), (now (list .exit), (now (second .exit), now (run .exit))))) ≡
-        toldBoth (now (run .entry))
-        (seatResumeFromWords budget (now (lower .entry)) (now (run .entry)) (seatInput p q (now (coefs .entry))) (now (stack .entry)) (now (list .entry))
-        (now (second .entry))) ⌝ }
+        seatResumeBounded budget p q (now (coefs .entry)) (now (lower .entry))
+        (now (stack .entry)) (now (list .entry)) (now (second .entry)) (now (run .entry)) ⌝ }
 {
     let r = words::read(run);
     let o = seat::resumed_from(p, q, coefs, lower, stack, list, second, r, budget);

@@ -2,21 +2,20 @@
 -- Assumes nothing.
 use Prim.Native.Nat.{ℕ}
 use mathlib.Core.List.{List}
-use Rattle.definitions.specs.Input.{Input}
-use Rattle.definitions.specs.Machine.{Outcome}
-use Rattle.definitions.specs.Tables.{State}
+use lib.IntN.{ℤ}
+use Rattle.definitions.specs.Calls.{resume}
+use Rattle.definitions.specs.Input.{inputOf}
 use Rattle.calls.specs.Codes.{code, refusalCode}
-use Rattle.calls.specs.Paper.{stateOf}
 use Rattle.single_spec.specs.Calls.{singleResume, singleStart}
 use Rattle.single_spec.specs.Listing.{Listed, Listing, refused, written}
-use Rattle.c_record.specs.Words.{recordIn, resumeWords, startOn}
+use Rattle.c_record.specs.Words.{Told, onWords, startOnWords}
 
-unfoldable pub singleResumeWords : ℕ → List ℕ → Input → List ℕ → List ℕ → Outcome State
-singleResumeWords budget words i stack list = singleResume budget i (stateOf stack list (recordIn words))
+unfoldable pub singleResumeWords : (budget p q : ℕ) (coefs : List ℤ) (stack list words : List ℕ) → Told
+singleResumeWords budget p q coefs stack list words = onWords (singleResume budget (inputOf p q coefs)) stack list words
 
 -- another number of words than a record has is answered as in a plain start
-unfoldable pub singleStartWords : List ℕ → Input → List ℕ → List ℕ → Outcome State
-singleStartWords words i stack list = startOn words (singleStart i (stateOf stack list (recordIn words))) (resumeWords 0 words i stack list)
+unfoldable pub singleStartWords : (p q : ℕ) (coefs : List ℤ) (stack list words : List ℕ) → Told
+singleStartWords p q coefs stack list words = startOnWords (singleStart (inputOf p q coefs)) (resume 0 (inputOf p q coefs)) stack list words
 
 -- 104 with the number of bytes written, or a refusal with its value
 abbrev pub listingCode : Listed → ℕ

@@ -2,7 +2,6 @@
 ghost use mathlib.Core.Path.{_≡_};
 ghost use Rattle.definitions.specs.Input.{inputOf};
 ghost use Rattle.single_spec.specs.Listing.{listingCall};
-ghost use Rattle.c_record.specs.Words.{told};
 ghost use Rattle.c_single.specs.SingleFile.{singleStartWords, singleResumeWords, listingTold};
 use c_record::tell;
 use c_record::words;
@@ -19,7 +18,7 @@ pub fn start(
     run: &mut [u64],
 ) -> u64
     ensures { λ a. ⌜ (a, (now (stack .exit), (now (list .exit), now (run .exit)))) ≡
-        told (now (run .entry)) (singleStartWords (now (run .entry)) (inputOf p q (now (coefs .entry))) (now (stack .entry)) (now (list .entry))) ⌝ }
+        singleStartWords p q (now (coefs .entry)) (now (stack .entry)) (now (list .entry)) (now (run .entry)) ⌝ }
 {
     if run.len() == 7 {
         let r = words::read(run);
@@ -40,7 +39,7 @@ pub fn resume(
     budget: u64,
 ) -> u64
     ensures { λ a. ⌜ (a, (now (stack .exit), (now (list .exit), now (run .exit)))) ≡
-        told (now (run .entry)) (singleResumeWords budget (now (run .entry)) (inputOf p q (now (coefs .entry))) (now (stack .entry)) (now (list .entry))) ⌝ }
+        singleResumeWords budget p q (now (coefs .entry)) (now (stack .entry)) (now (list .entry)) (now (run .entry)) ⌝ }
 {
     let r = words::read(run);
     let o = single::resumed(p, q, coefs, stack, list, r, budget);

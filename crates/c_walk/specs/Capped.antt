@@ -4,22 +4,19 @@ use mathlib.Core.List.{List}
 use lib.IntN.{ℤ}
 use Rattle.definitions.specs.Calls.{resume, start}
 use Rattle.definitions.specs.Input.{Input, inputWith, rights}
-use Rattle.definitions.specs.Machine.{Outcome}
 use Rattle.definitions.specs.System.{mostComponent}
-use Rattle.definitions.specs.Tables.{State}
-use Rattle.calls.specs.Paper.{stateWith}
-use Rattle.c_record.specs.Words.{recordIn, startOn}
+use Rattle.c_record.specs.Words.{ToldBoth, onBoth, startOnBoth}
 
 -- a map with right sides, with document 01's limit of components
 abbrev pub inputSided : ℕ → ℕ → List ℤ → List ℤ → Input
 inputSided p q coefs sides = inputWith (rights sides) mostComponent p q coefs
 
--- the calls: each is handed the words of the record, a map with right sides, the stack, and the lists at 0 and at 1
-unfoldable pub resumeCappedWords : ℕ → List ℕ → Input → List ℕ → List ℕ → List ℕ → Outcome State
-resumeCappedWords budget words i stack list second = resume budget i (stateWith stack list second (recordIn words))
+-- the calls: each is handed a map with right sides, the stack, the lists at 0 and at 1, and the words of the record
+unfoldable pub resumeSided : (budget p q : ℕ) (coefs sides : List ℤ) (stack list second words : List ℕ) → ToldBoth
+resumeSided budget p q coefs sides stack list second words = onBoth (resume budget (inputSided p q coefs sides)) stack list second words
 
 -- another number of words than a record has is answered as in a plain start: with the first of 1 to 4 that is due, or with 6 (`misfit-refused` in
 -- c_record/specs/WordLaws)
-unfoldable pub startCappedWords : List ℕ → Input → List ℕ → List ℕ → List ℕ → Outcome State
-startCappedWords words i stack list second =
-    startOn words (start i (stateWith stack list second (recordIn words))) (resumeCappedWords 0 words i stack list second)
+unfoldable pub startSided : (p q : ℕ) (coefs sides : List ℤ) (stack list second words : List ℕ) → ToldBoth
+startSided p q coefs sides stack list second words =
+    startOnBoth (start (inputSided p q coefs sides)) (resume 0 (inputSided p q coefs sides)) stack list second words

@@ -2,8 +2,7 @@
 ghost use mathlib.Core.Path.{_≡_};
 ghost use mathlib.Core.Logic.{_≢_};
 ghost use lib.ListN.{length};
-ghost use Rattle.definitions.specs.Input.{inputOf};
-ghost use Rattle.c_record.specs.Words.{told, startWords, resumeWords};
+ghost use Rattle.c_record.specs.Words.{startWords, resumeWords};
 use c_record::tell;
 use c_record::words;
 use calls::Check;
@@ -22,7 +21,7 @@ pub fn start(
     run: &mut [u64],
 ) -> u64
     ensures { λ a. ⌜ (a, (now (stack .exit), (now (list .exit), now (run .exit)))) ≡
-        told (now (run .entry)) (startWords (now (run .entry)) (inputOf p q (now (coefs .entry))) (now (stack .entry)) (now (list .entry))) ⌝ }
+        startWords p q (now (coefs .entry)) (now (stack .entry)) (now (list .entry)) (now (run .entry)) ⌝ }
 {
     if run.len() == 7 {
         let r = words::read(run);
@@ -43,7 +42,7 @@ pub fn resume(
     budget: u64,
 ) -> u64
     ensures { λ a. ⌜ (a, (now (stack .exit), (now (list .exit), now (run .exit)))) ≡
-        told (now (run .entry)) (resumeWords budget (now (run .entry)) (inputOf p q (now (coefs .entry))) (now (stack .entry)) (now (list .entry))) ⌝ }
+        resumeWords budget p q (now (coefs .entry)) (now (stack .entry)) (now (list .entry)) (now (run .entry)) ⌝ }
 {
     let r = words::read(run);
     let o = walk::resumed(p, q, coefs, stack, list, r, budget, calls::COMPONENT_LIMIT);
@@ -54,7 +53,7 @@ pub fn resume(
 pub fn misfit(p: usize, q: usize, coefs: &[i32], stack: &[u32], list: &[u32], run: &[u64]) -> u64
     requires { ⌜ length (now run) ≢ 7 ⌝ }
     ensures { λ a. ⌜ (a, (now (stack .entry), (now (list .entry), now (run .entry)))) ≡
-        told (now (run .entry)) (resumeWords 0 (now (run .entry)) (inputOf p q (now (coefs .entry))) (now (stack .entry)) (now (list .entry))) ⌝ }
+        resumeWords 0 p q (now (coefs .entry)) (now (stack .entry)) (now (list .entry)) (now (run .entry)) ⌝ }
 {
     let r = words::read(run);
     match checks::check_resume(p, q, coefs, stack, list, r, calls::COMPONENT_LIMIT) {

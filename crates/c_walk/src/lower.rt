@@ -1,8 +1,6 @@
 // A run from a lower bound: the start and the continuing call on a record of words, with an answer that is one number.
 ghost use mathlib.Core.Path.{_≡_};
-ghost use Rattle.definitions.specs.Input.{inputOf};
-ghost use Rattle.c_record.specs.Words.{toldBoth};
-ghost use Rattle.c_walk.specs.Lower.{startFromWords, resumeFromWords};
+ghost use Rattle.c_walk.specs.Lower.{startBounded, resumeBounded};
 use c_record::tell;
 use c_record::words;
 
@@ -18,9 +16,7 @@ pub fn start_from(
     run: &mut [u64],
 ) -> u64
     ensures { λ a. ⌜ (a, (now (stack .exit), (now (list .exit), (now (second .exit), now (run .exit))))) ≡
-        toldBoth (now (run .entry))
-        (startFromWords (now (lower .entry)) (now (run .entry)) (inputOf p q (now (coefs .entry))) (now (stack .entry)) (now (list .entry))
-        (now (second .entry))) ⌝ }
+        startBounded p q (now (coefs .entry)) (now (lower .entry)) (now (stack .entry)) (now (list .entry)) (now (second .entry)) (now (run .entry)) ⌝ }
 {
     if run.len() == 7 {
         let r = words::read(run);
@@ -44,9 +40,7 @@ pub fn resume_from(
     budget: u64,
 ) -> u64
     ensures { λ a. ⌜ (a, (now (stack .exit), (now (list .exit), (now (second .exit), now (run .exit))))) ≡
-        toldBoth (now (run .entry))
-        (resumeFromWords budget (now (lower .entry)) (now (run .entry)) (inputOf p q (now (coefs .entry))) (now (stack .entry)) (now (list .entry))
-        (now (second .entry))) ⌝ }
+        resumeBounded budget p q (now (coefs .entry)) (now (lower .entry)) (now (stack .entry)) (now (list .entry)) (now (second .entry)) (now (run .entry)) ⌝ }
 {
     let r = words::read(run);
     let most = calls::COMPONENT_LIMIT;

@@ -1,7 +1,6 @@
 // A map with right sides: the start and the continuing call on a record of words, with an answer that is one number.
 ghost use mathlib.Core.Path.{_≡_};
-ghost use Rattle.c_record.specs.Words.{toldBoth};
-ghost use Rattle.c_walk.specs.Capped.{inputSided, startCappedWords, resumeCappedWords};
+ghost use Rattle.c_walk.specs.Capped.{startSided, resumeSided};
 use c_record::tell;
 use c_record::words;
 
@@ -17,9 +16,7 @@ pub fn start(
     run: &mut [u64],
 ) -> u64
     ensures { λ a. ⌜ (a, (now (stack .exit), (now (list .exit), (now (second .exit), now (run .exit))))) ≡
-        toldBoth (now (run .entry))
-        (startCappedWords (now (run .entry)) (inputSided p q (now (coefs .entry)) (now (rights .entry))) (now (stack .entry)) (now (list .entry))
-        (now (second .entry))) ⌝ }
+        startSided p q (now (coefs .entry)) (now (rights .entry)) (now (stack .entry)) (now (list .entry)) (now (second .entry)) (now (run .entry)) ⌝ }
 {
     if run.len() == 7 {
         let r = words::read(run);
@@ -42,9 +39,7 @@ pub fn resume(
     budget: u64,
 ) -> u64
     ensures { λ a. ⌜ (a, (now (stack .exit), (now (list .exit), (now (second .exit), now (run .exit))))) ≡
-        toldBoth (now (run .entry))
-        (resumeCappedWords budget (now (run .entry)) (inputSided p q (now (coefs .entry)) (now (rights .entry))) (now (stack .entry)) (now (list .entry))
-        (now (second .entry))) ⌝ }
+        resumeSided budget p q (now (coefs .entry)) (now (rights .entry)) (now (stack .entry)) (now (list .entry)) (now (second .entry)) (now (run .entry)) ⌝ }
 {
     let r = words::read(run);
     let most = calls::COMPONENT_LIMIT;

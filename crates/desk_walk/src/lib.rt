@@ -108,7 +108,15 @@ pub fn walk(
         left -= 1;
     }
     let kept = table_rows::sweep::sweep(list, found, q);
-    calls::left(Answer::Complete, r, height, kept, steps, r.second.0, deepest)
+    calls::left(
+        Answer::Complete,
+        r,
+        height,
+        kept,
+        steps,
+        r.second.0,
+        deepest,
+    )
 }
 
 // Reads the tuple that stands in the stack table from place `base`, and writes its image into row 64.

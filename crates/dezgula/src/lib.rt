@@ -1,16 +1,15 @@
 // The solver as other languages call it: library/raw.h says the same to C, and library/dezgula.c has the calls of include/ over it. Each function forwards to a
 // crate that holds its logic. The run record comes as words (c_record/specs/Words.antt), and an answer goes out as one
-// number (c_answers/specs/Codes.antt, c_record/specs/Codes.antt).
+// number (calls/specs/Codes.antt, c_record/specs/Codes.antt).
 ghost use mathlib.Core.Path.{_≡_};
 ghost use Rattle.definitions.specs.Highest.{locate};
 ghost use Rattle.definitions.specs.Input.{inputOf};
 ghost use Rattle.definitions.specs.Reasons.{reason};
-ghost use Rattle.desk_spec.specs.Desks.{deskOf};
 ghost use Rattle.c_desk.specs.Words.{deskResumeWords, deskStartWords};
 ghost use Rattle.c_dispatch.specs.Words.{dispatchWords};
 ghost use Rattle.reader.specs.Answers.{locatedNumber};
 ghost use Rattle.reasons.specs.Numbers.{reasonTold};
-ghost use Rattle.c_record.specs.Words.{told, startWords, resumeWords};
+ghost use Rattle.c_record.specs.Words.{startWords, resumeWords};
 ghost use Rattle.c_walk.specs.Rows.{rowTold};
 ghost use Rattle.c_map.specs.Words.{readWords};
 ghost use Rattle.multiples_spec.specs.Parts.{decomposed};
@@ -37,7 +36,7 @@ pub extern "C" fn dezgula_raw_start(
     run: &mut [u64],
 ) -> u64
     ensures { λ a. ⌜ (a, (now (stack .exit), (now (list .exit), now (run .exit)))) ≡
-        told (now (run .entry)) (startWords (now (run .entry)) (inputOf p q (now (coefs .entry))) (now (stack .entry)) (now (list .entry))) ⌝ }
+        startWords p q (now (coefs .entry)) (now (stack .entry)) (now (list .entry)) (now (run .entry)) ⌝ }
 {
     c_walk::start(p, q, coefs, stack, list, run)
 }
@@ -54,7 +53,7 @@ pub extern "C" fn dezgula_raw_resume(
     budget: u64,
 ) -> u64
     ensures { λ a. ⌜ (a, (now (stack .exit), (now (list .exit), now (run .exit)))) ≡
-        told (now (run .entry)) (resumeWords budget (now (run .entry)) (inputOf p q (now (coefs .entry))) (now (stack .entry)) (now (list .entry))) ⌝ }
+        resumeWords budget p q (now (coefs .entry)) (now (stack .entry)) (now (list .entry)) (now (run .entry)) ⌝ }
 {
     c_walk::resume(p, q, coefs, stack, list, run, budget)
 }
@@ -84,7 +83,7 @@ pub extern "C" fn dezgula_raw_start_single_file(
     run: &mut [u64],
 ) -> u64
     ensures { λ a. ⌜ (a, (now (stack .exit), (now (list .exit), now (run .exit)))) ≡
-        told (now (run .entry)) (singleStartWords (now (run .entry)) (inputOf p q (now (coefs .entry))) (now (stack .entry)) (now (list .entry))) ⌝ }
+        singleStartWords p q (now (coefs .entry)) (now (stack .entry)) (now (list .entry)) (now (run .entry)) ⌝ }
 {
     c_single::start(p, q, coefs, stack, list, run)
 }
@@ -101,7 +100,7 @@ pub extern "C" fn dezgula_raw_resume_single_file(
     budget: u64,
 ) -> u64
     ensures { λ a. ⌜ (a, (now (stack .exit), (now (list .exit), now (run .exit)))) ≡
-        told (now (run .entry)) (singleResumeWords budget (now (run .entry)) (inputOf p q (now (coefs .entry))) (now (stack .entry)) (now (list .entry))) ⌝ }
+        singleResumeWords budget p q (now (coefs .entry)) (now (stack .entry)) (now (list .entry)) (now (run .entry)) ⌝ }
 {
     c_single::resume(p, q, coefs, stack, list, run, budget)
 }
@@ -183,7 +182,7 @@ pub extern "C" fn dezgula_raw_decompose(
     multiples::decompose_number(p, q, coefs, list, found, tuple, times, amount)
 }
 
-// ---- one desk after the other (crate desk_words)
+// ---- one desk after the other
 
 // The start of the second of two desks.
 #[no_mangle]
@@ -197,8 +196,7 @@ pub extern "C" fn dezgula_raw_start_desk(
     run: &mut [u64],
 ) -> u64
     ensures { λ a. ⌜ (a, (now (stack .exit), (now (list .exit), now (run .exit)))) ≡
-        told (now (run .entry))
-        (deskStartWords (now (run .entry)) (deskOf p q (now (coefs .entry)) (now (generators .entry))) (now (stack .entry)) (now (list .entry))) ⌝ }
+        deskStartWords p q (now (coefs .entry)) (now (generators .entry)) (now (stack .entry)) (now (list .entry)) (now (run .entry)) ⌝ }
 {
     c_desk::start(p, q, coefs, generators, stack, list, run)
 }
@@ -216,13 +214,12 @@ pub extern "C" fn dezgula_raw_resume_desk(
     budget: u64,
 ) -> u64
     ensures { λ a. ⌜ (a, (now (stack .exit), (now (list .exit), now (run .exit)))) ≡
-        told (now (run .entry))
-        (deskResumeWords budget (now (run .entry)) (deskOf p q (now (coefs .entry)) (now (generators .entry))) (now (stack .entry)) (now (list .entry))) ⌝ }
+        deskResumeWords budget p q (now (coefs .entry)) (now (generators .entry)) (now (stack .entry)) (now (list .entry)) (now (run .entry)) ⌝ }
 {
     c_desk::resume(p, q, coefs, generators, stack, list, run, budget)
 }
 
-// Reads the text form of a map (crate map_words).
+// Reads the text form of a map.
 #[no_mangle]
 pub extern "C" fn dezgula_raw_read_map(
     text: &[u8],

@@ -1,8 +1,6 @@
 // Runs from a lower bound; library/raw.h says the same to C.
 ghost use mathlib.Core.Path.{_≡_};
-ghost use Rattle.definitions.specs.Input.{inputOf};
-ghost use Rattle.c_record.specs.Words.{toldBoth};
-ghost use Rattle.c_walk.specs.Lower.{startFromWords, resumeFromWords};
+ghost use Rattle.c_walk.specs.Lower.{startBounded, resumeBounded};
 
 // The start.
 #[no_mangle]
@@ -17,9 +15,7 @@ pub extern "C" fn dezgula_raw_start_from(
     run: &mut [u64],
 ) -> u64
     ensures { λ a. ⌜ (a, (now (stack .exit), (now (list .exit), (now (second .exit), now (run .exit))))) ≡
-        toldBoth (now (run .entry))
-        (startFromWords (now (lower .entry)) (now (run .entry)) (inputOf p q (now (coefs .entry))) (now (stack .entry)) (now (list .entry))
-        (now (second .entry))) ⌝ }
+        startBounded p q (now (coefs .entry)) (now (lower .entry)) (now (stack .entry)) (now (list .entry)) (now (second .entry)) (now (run .entry)) ⌝ }
 {
     c_walk::lower::start_from(p, q, coefs, lower, stack, list, second, run)
 }
@@ -38,9 +34,7 @@ pub extern "C" fn dezgula_raw_resume_from(
     budget: u64,
 ) -> u64
     ensures { λ a. ⌜ (a, (now (stack .exit), (now (list .exit), (now (second .exit), now (run .exit))))) ≡
-        toldBoth (now (run .entry))
-        (resumeFromWords budget (now (lower .entry)) (now (run .entry)) (inputOf p q (now (coefs .entry))) (now (stack .entry)) (now (list .entry))
-        (now (second .entry))) ⌝ }
+        resumeBounded budget p q (now (coefs .entry)) (now (lower .entry)) (now (stack .entry)) (now (list .entry)) (now (second .entry)) (now (run .entry)) ⌝ }
 {
     c_walk::lower::resume_from(p, q, coefs, lower, stack, list, second, run, budget)
 }

@@ -1,7 +1,6 @@
 // Maps with right sides; library/raw.h says the same to C.
 ghost use mathlib.Core.Path.{_≡_};
-ghost use Rattle.c_record.specs.Words.{toldBoth};
-ghost use Rattle.c_walk.specs.Capped.{inputSided, startCappedWords, resumeCappedWords};
+ghost use Rattle.c_walk.specs.Capped.{startSided, resumeSided};
 ghost use Rattle.c_walk.specs.Rows.{eitherTold};
 
 // The start.
@@ -17,9 +16,7 @@ pub extern "C" fn dezgula_raw_start_rights(
     run: &mut [u64],
 ) -> u64
     ensures { λ a. ⌜ (a, (now (stack .exit), (now (list .exit), (now (second .exit), now (run .exit))))) ≡
-        toldBoth (now (run .entry))
-        (startCappedWords (now (run .entry)) (inputSided p q (now (coefs .entry)) (now (rights .entry))) (now (stack .entry)) (now (list .entry))
-        (now (second .entry))) ⌝ }
+        startSided p q (now (coefs .entry)) (now (rights .entry)) (now (stack .entry)) (now (list .entry)) (now (second .entry)) (now (run .entry)) ⌝ }
 {
     c_walk::rights::start(p, q, coefs, rights, stack, list, second, run)
 }
@@ -38,9 +35,7 @@ pub extern "C" fn dezgula_raw_resume_rights(
     budget: u64,
 ) -> u64
     ensures { λ a. ⌜ (a, (now (stack .exit), (now (list .exit), (now (second .exit), now (run .exit))))) ≡
-        toldBoth (now (run .entry))
-        (resumeCappedWords budget (now (run .entry)) (inputSided p q (now (coefs .entry)) (now (rights .entry))) (now (stack .entry)) (now (list .entry))
-        (now (second .entry))) ⌝ }
+        resumeSided budget p q (now (coefs .entry)) (now (rights .entry)) (now (stack .entry)) (now (list .entry)) (now (second .entry)) (now (run .entry)) ⌝ }
 {
     c_walk::rights::resume(p, q, coefs, rights, stack, list, second, run, budget)
 }

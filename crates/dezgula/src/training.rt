@@ -1,8 +1,6 @@
 // The training seat; library/raw.h says the same to C.
 ghost use mathlib.Core.Path.{_≡_};
-ghost use Rattle.c_record.specs.Words.{told, toldBoth};
-ghost use Rattle.seat_spec.specs.Training.{seatInput};
-ghost use Rattle.c_seat.specs.SeatWords.{seatResumeFromWords, seatResumeWords, seatStartFromWords, seatStartWords};
+ghost use Rattle.c_seat.specs.SeatWords.{seatResumeBounded, seatResumeWords, seatStartBounded, seatStartWords};
 
 // The plain start.
 #[no_mangle]
@@ -15,7 +13,7 @@ pub extern "C" fn dezgula_raw_start_training(
     run: &mut [u64],
 ) -> u64
     ensures { λ a. ⌜ (a, (now (stack .exit), (now (list .exit), now (run .exit)))) ≡
-        told (now (run .entry)) (seatStartWords (now (run .entry)) (seatInput p q (now (coefs .entry))) (now (stack .entry)) (now (list .entry))) ⌝ }
+        seatStartWords p q (now (coefs .entry)) (now (stack .entry)) (now (list .entry)) (now (run .entry)) ⌝ }
 {
     c_seat::start(p, q, coefs, stack, list, run)
 }
@@ -33,9 +31,7 @@ pub extern "C" fn dezgula_raw_start_training_from(
     run: &mut [u64],
 ) -> u64
     ensures { λ a. ⌜ (a, (now (stack .exit), (now (list .exit), (now (second .exit), now (run .exit))))) ≡
-        toldBoth (now (run .entry))
-        (seatStartFromWords (now (lower .entry)) (now (run .entry)) (seatInput p q (now (coefs .entry))) (now (stack .entry)) (now (list .entry))
-        (now (second .entry))) ⌝ }
+        seatStartBounded p q (now (coefs .entry)) (now (lower .entry)) (now (stack .entry)) (now (list .entry)) (now (second .entry)) (now (run .entry)) ⌝ }
 {
     c_seat::start_from(p, q, coefs, lower, stack, list, second, run)
 }
@@ -52,7 +48,7 @@ pub extern "C" fn dezgula_raw_resume_training(
     budget: u64,
 ) -> u64
     ensures { λ a. ⌜ (a, (now (stack .exit), (now (list .exit), now (run .exit)))) ≡
-        told (now (run .entry)) (seatResumeWords budget (now (run .entry)) (seatInput p q (now (coefs .entry))) (now (stack .entry)) (now (list .entry))) ⌝ }
+        seatResumeWords budget p q (now (coefs .entry)) (now (stack .entry)) (now (list .entry)) (now (run .entry)) ⌝ }
 {
     c_seat::resume(p, q, coefs, stack, list, run, budget)
 }
@@ -71,9 +67,8 @@ pub extern "C" fn dezgula_raw_resume_training_from(
     budget: u64,
 ) -> u64
     ensures { λ a. ⌜ (a, (now (stack .exit), (now (list .exit), (now (second .exit), now (run .exit))))) ≡
-        toldBoth (now (run .entry))
-        (seatResumeFromWords budget (now (lower .entry)) (now (run .entry)) (seatInput p q (now (coefs .entry))) (now (stack .entry)) (now (list .entry))
-        (now (second .entry))) ⌝ }
+        seatResumeBounded budget p q (now (coefs .entry)) (now (lower .entry))
+        (now (stack .entry)) (now (list .entry)) (now (second .entry)) (now (run .entry)) ⌝ }
 {
     c_seat::resume_from(p, q, coefs, lower, stack, list, second, run, budget)
 }

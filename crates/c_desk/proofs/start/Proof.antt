@@ -1,11 +1,10 @@
 -- `start` meets its contract: what the start by value answered and left is told on, or what a continuing call is told. Assumes nothing.
 use borrow.Author.Needs.{needs}
-use mathlib.Core.Path.{_∙_}
-use Rattle.c_record.specs.WordLaws.{begun-fitting, call-told, told-misfit}
+use Rattle.c_record.specs.WordLaws.{start-told, told-misfit}
 use Rattle.c_record.specs.Words.{told}
 use Rattle.c_record.specs.CodeLaws.{answer-fits}
 use Rattle.c_desk.specs.CodeLaws.{begin-fits}
-use Rattle.c_desk.specs.Words.{deskStartWords}
+use Rattle.c_desk.specs.Words.{deskResumeWords, deskStartWords}
 use Rattle.c_desk.proofs.start.Statement.{statement}
 use Rattle.c_desk.proofs.start.Tie as tie
 
@@ -19,10 +18,10 @@ returns c =
     let k = t .before .before .before .before in
     let r = k .before .before .before in
     let e = rw (r .read .ensures) at (k .start .ensures) in
-    call-told _ (e ∙ begun-fitting _ _ _ (r .before .before .if1 .taken)) (t .tell .ensures .0) (t .tell .ensures .1)
+    start-told _ e (r .before .before .if1 .taken) (t .tell .ensures .0) (t .tell .ensures .1) _
 
 returns-2 : tie.Need-returns-2
-unfolding deskStartWords
+unfolding deskStartWords deskResumeWords
 returns-2 c =
     let u = c .before .before .before .before .before .before in
     told-misfit _ _ _ (told _) (u .resume .ensures) (u .before .before .before .before .if1 .left)

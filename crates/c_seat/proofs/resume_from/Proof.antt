@@ -2,7 +2,7 @@
 use Rattle.c_record.specs.CodeLaws.{answer-fits}
 use Rattle.c_record.specs.WordLaws.{both-told}
 use Rattle.c_seat.specs.SeatWordLaws.{seat-resume-from-fits}
-use Rattle.c_seat.specs.SeatWords.{seatResumeFromWords}
+use Rattle.c_seat.specs.SeatWords.{seatResumeBounded}
 use borrow.Author.Needs.{needs}
 use Rattle.c_seat.proofs.resume_from.Statement.{statement}
 use Rattle.c_seat.proofs.resume_from.Tie as tie
@@ -13,7 +13,7 @@ tell-requires c κs =
     answer-fits (w .resumed-from .ensures) (seat-resume-from-fits _ _ _ _ _ _)
 
 returns : tie.Need-returns
-unfolding seatResumeFromWords
+unfolding seatResumeBounded
 returns c =
     let t = c .before .before in
     let w = t .before .before .before .before .before .before .before .before in

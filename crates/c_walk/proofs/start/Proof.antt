@@ -1,10 +1,9 @@
 -- `start` meets its contract: what the start by value answered and left is told on, or what the continuing call told. Assumes nothing.
 use Rattle.definitions.specs.System.{mostComponent}
-use mathlib.Core.Path.{_∙_}
 use borrow.Author.Needs.{needs}
 use Rattle.c_record.specs.CodeLaws.{answer-fits, start-fits}
-use Rattle.c_record.specs.WordLaws.{begun-fitting, call-told, told-misfit}
-use Rattle.c_record.specs.Words.{startWords, told}
+use Rattle.c_record.specs.WordLaws.{start-told, told-misfit}
+use Rattle.c_record.specs.Words.{resumeWords, startWords, told}
 use Rattle.c_walk.proofs.start.Statement.{statement}
 use Rattle.c_walk.proofs.start.Tie as tie
 
@@ -19,12 +18,10 @@ returns c =
     let t = c .before .before in
     let w = t .before .before .before .before .before .before in
     let r = w .before .before .before in
-    call-told _ (rw (r .read .ensures) at (w .started .ensures mostComponent) ∙ begun-fitting _ _ _ (r .before .before .if1 .taken))
-    (t .tell .ensures .0)
-    (t .tell .ensures .1)
+    start-told _ (rw (r .read .ensures) at (w .started .ensures mostComponent)) (r .before .before .if1 .taken) (t .tell .ensures .0) (t .tell .ensures .1) _
 
 returns-2 : tie.Need-returns-2
-unfolding startWords
+unfolding startWords resumeWords
 returns-2 c =
     told-misfit _ _ _ (told _) (c .misfit .ensures) (c .before .before .before .before .if1 .left)
 

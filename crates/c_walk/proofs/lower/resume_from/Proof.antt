@@ -2,7 +2,7 @@
 use borrow.Author.Needs.{needs}
 use Rattle.c_record.specs.CodeLaws.{answer-fits, resume-from-fits}
 use Rattle.c_record.specs.WordLaws.{both-told}
-use Rattle.c_walk.specs.Lower.{resumeFromWords}
+use Rattle.c_walk.specs.Lower.{resumeBounded}
 use Rattle.c_walk.proofs.lower.resume_from.Statement.{statement}
 use Rattle.c_walk.proofs.lower.resume_from.Tie as tie
 
@@ -12,7 +12,7 @@ tell-requires c κs =
     answer-fits (w .resumed-from .ensures) (resume-from-fits _ _ _ _)
 
 returns : tie.Need-returns
-unfolding resumeFromWords
+unfolding resumeBounded
 returns c =
     let t = c .before .before in
     let w = t .before .before .before .before .before .before .before .before in

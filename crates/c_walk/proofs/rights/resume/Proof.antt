@@ -2,7 +2,7 @@
 use borrow.Author.Needs.{needs}
 use Rattle.c_record.specs.CodeLaws.{answer-fits, resume-fits}
 use Rattle.c_record.specs.WordLaws.{both-told}
-use Rattle.c_walk.specs.Capped.{resumeCappedWords}
+use Rattle.c_walk.specs.Capped.{resumeSided}
 use Rattle.c_walk.proofs.rights.resume.Statement.{statement}
 use Rattle.c_walk.proofs.rights.resume.Tie as tie
 
@@ -12,7 +12,7 @@ tell-requires c κs =
     answer-fits (w .resumed-capped .ensures) (resume-fits _ _ _)
 
 returns : tie.Need-returns
-unfolding resumeCappedWords
+unfolding resumeSided
 returns c =
     let t = c .before .before in
     let w = t .before .before .before .before .before .before .before .before in
