@@ -8,23 +8,23 @@ use Rattle.definitions.specs.Input.{boundOf}
 use Rattle.definitions.specs.Step.{rowWidth}
 use Rattle.definitions.specs.System.{Kind, above, capped, plain}
 use Rattle.definitions.specs.Tables.{Run, State, plainRun}
-use Rattle.candidates.specs.declared.Walk.{Walk}
-use Rattle.candidates.specs.declared.Walk.the-variants.{Plain, Capped, Above}
+use Rattle.candidates.specs.declared.Kind as declared
+use Rattle.candidates.specs.declared.Kind.the-variants.{Plain, Capped, Above}
 
 -- the lower bound is that of a walk above one, and of no meaning in any other
-abbrev pub kindBy : Walk → List ℕ → Kind
+abbrev pub kindBy : declared.Kind → List ℕ → Kind
 kindBy Plain lower = plain
 kindBy Capped lower = capped
 kindBy Above lower = above (boundOf lower)
 
 -- of how many numbers a row of a list is does not depend on it
-pub width-any : (w : Walk) (lower bound : List ℕ) (q : ℕ) → rowWidth (kindBy w lower) q ≡ rowWidth (kindBy w bound) q
+pub width-any : (w : declared.Kind) (lower bound : List ℕ) (q : ℕ) → rowWidth (kindBy w lower) q ≡ rowWidth (kindBy w bound) q
 width-any Plain lower bound q = refl
 width-any Capped lower bound q = refl
 width-any Above lower bound q = refl
 
 -- it has q numbers there
-abbrev pub Bounds : Walk → ℕ → List ℕ → Type 0
+abbrev pub Bounds : declared.Kind → ℕ → List ℕ → Type 0
 Bounds Plain q lower = Unit
 Bounds Capped q lower = Unit
 Bounds Above q lower = q ≤ length lower

@@ -21,7 +21,7 @@ ghost use Rattle.candidates.specs.Open.{Differs};
 ghost use Rattle.candidates.specs.Tried.{triedBy, triedIf};
 
 // The kinds of walk: plain, with a first unknown that is never raised past 1, and above a lower bound. specs/Kinds.antt has what they are in the definitions.
-pub enum Walk {
+pub enum Kind {
     Plain,
     Capped,
     Above,
@@ -35,7 +35,7 @@ pub enum Tried {
 
 // Which of the candidates make a child of the tuple `t`: those that the cap and the second list leave open are put to the first list.
 pub fn admitted(
-    walk: Walk,
+    walk: Kind,
     list: &[u32],
     second: &[u32],
     lower: &[u32],
@@ -56,7 +56,7 @@ pub fn admitted(
     ensures { λ _. ⌜ now (t .exit) ≡ now (t .entry) ⌝ }
 {
     match walk {
-        Walk::Plain => children(list, found, q, t, candidates, limit),
+        Kind::Plain => children(list, found, q, t, candidates, limit),
         _ => sifted(
             walk,
             list,
@@ -74,7 +74,7 @@ pub fn admitted(
 
 // The same one list after the other, of any walk.
 fn sifted(
-    walk: Walk,
+    walk: Kind,
     list: &[u32],
     second: &[u32],
     lower: &[u32],
@@ -94,12 +94,12 @@ fn sifted(
     ensures { λ _. ⌜ now (t .exit) ≡ now (t .entry) ⌝ }
 {
     match walk {
-        Walk::Plain => passed(list, found, q, 0, q, t, candidates, limit),
-        Walk::Capped => {
+        Kind::Plain => passed(list, found, q, 0, q, t, candidates, limit),
+        Kind::Capped => {
             let left = uncapped(second, other, q, t, candidates);
             passed(list, found, q - 1, 1, q, t, left, limit)
         }
-        Walk::Above => {
+        Kind::Above => {
             let left = apart(second, lower, other, q, t, candidates);
             passed(list, found, q, 0, q, t, left, limit)
         }

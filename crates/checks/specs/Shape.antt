@@ -17,8 +17,8 @@ use Rattle.definitions.specs.Refusals.{shapeThen}
 use Rattle.record_order.specs.Order.{InShape}
 use Rattle.checks.specs.Counts.{counted, countChecks, either-refuses, none-refuses}
 
-abbrev pub lowerAboveLimit : ℕ → List ℕ → Bool
-lowerAboveLimit limit lower = anyTo (length lower) (λ j. ltb limit (getD lower j 0))
+abbrev pub aboveLimit : ℕ → List ℕ → Bool
+aboveLimit limit t = anyTo (length t) (λ j. ltb limit (getD t j 0))
 
 -- how many unknowns come to those of the map: with right sides "an extra unknown"
 abbrev pub extraUnknowns : Extra → ℕ

@@ -8,6 +8,7 @@ use calls::Check;
 use calls::Record;
 
 pub mod coefficients; // coefficients.rt: their range, and that of right sides
+pub mod components; // components.rt: those of a lower bound or a tuple above a limit
 pub mod counts; // counts.rt: refusals 1 to 3
 mod order; // order.rt: a run record and tables in order, and what comes after
 mod shape; // shape.rt: counts and lengths

@@ -5,8 +5,9 @@ ghost use Rattle.definitions.specs.Answers.{_then_};
 ghost use Rattle.definitions.specs.Refusals.{check5, check7, check8};
 ghost use Rattle.definitions.specs.Input.{alone, inputWith};
 ghost use Rattle.calls.specs.Paper.{checkOf};
-ghost use Rattle.checks.specs.Shape.{shapeChecks, lowerAboveLimit};
+ghost use Rattle.checks.specs.Shape.{shapeChecks};
 use crate::coefficients;
+use crate::components;
 use crate::counts;
 use calls::Check;
 use calls::Refusal;
@@ -44,25 +45,11 @@ pub fn check_lower(q: usize, coefs: &[i32], lower: &[u32], limit: u32) -> Check
         Check::Refuse(why) => Check::Refuse(why),
         Check::Pass => {
             let most = calls::limit_of(limit);
-            if lower_above_limit(lower, most) {
+            if components::above_limit(lower, most) {
                 Check::Refuse(Refusal::BoundRange)
             } else {
                 Check::Pass
             }
         }
     }
-}
-
-// Whether a component of the lower bound is above the limit.
-fn lower_above_limit(lower: &[u32], limit: u32) -> bool
-    ensures { λ b. ⌜ b ≡ lowerAboveLimit limit (now (lower .entry)) ⌝ }
-{
-    let mut j = 0;
-    while j < lower.len() {
-        if limit < lower[j] {
-            return true;
-        }
-        j += 1;
-    }
-    false
 }

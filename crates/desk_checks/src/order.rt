@@ -18,7 +18,7 @@ use table_rows::rows;
 pub fn small(table: &[u32]) -> bool
     ensures { λ b. ⌜ b ≡ allTo (length (now (table .entry))) (λ i. leb (getD (now (table .entry)) i 0) mostComponent) ⌝ }
 {
-    rows::small_at(table, 0, table.len())
+    rows::small_at(table, 0, table.len(), calls::COMPONENT_LIMIT)
 }
 
 // Whether record and tables are in order, which depends on q and the number of generators alone.
@@ -70,7 +70,7 @@ fn row_in_order(q: usize, generators: &[u32], stack: &[u32], k: usize) -> bool
     ensures { λ b. ⌜ b ≡ deskRowInOrder (deskOf 0 q [] (now (generators .entry))) (now (stack .entry)) k ⌝ }
 {
     let base = k * (q + 2);
-    if !rows::small_at(stack, base, q) {
+    if !rows::small_at(stack, base, q, calls::COMPONENT_LIMIT) {
         return false;
     }
     let marks = marks::join(stack[base + q], stack[base + (q + 1)]);

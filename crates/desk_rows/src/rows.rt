@@ -42,7 +42,7 @@ pub fn is_large(t: &[u32], q: usize) -> bool
     requires { ⌜ q ≤ length (now t) ⌝ }
     ensures { λ b. ⌜ b ≡ anyTo q (λ i. ltb mostComponent (tuple (now (t .entry)) i)) ⌝ }
 {
-    !table_rows::rows::small_at(t, 0, q)
+    !table_rows::rows::small_at(t, 0, q, calls::COMPONENT_LIMIT)
 }
 
 // The sum of the first q numbers.

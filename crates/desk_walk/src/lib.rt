@@ -41,6 +41,7 @@ pub fn walk(
     let mut found = r.found.0;
     let mut steps = r.steps.0;
     let mut deepest = r.deepest;
+    let second = r.second.0;
     let n = generators.len() / q;
     let mut images = [0i64; 520];
     images::write_all(p, q, coefs, generators, n, &mut images);
@@ -49,7 +50,7 @@ pub fn walk(
     let mut left = budget;
     while 0 < height {
         if left == 0 {
-            return calls::left(Answer::Paused, r, height, found, steps, r.second.0, deepest);
+            return calls::left(Answer::Paused, r, height, found, steps, second, deepest);
         }
         if steps == calls::STEP_LIMIT {
             return calls::left(
@@ -58,7 +59,7 @@ pub fn walk(
                 height,
                 found,
                 steps,
-                r.second.0,
+                second,
                 deepest,
             );
         }
@@ -99,7 +100,7 @@ pub fn walk(
                 height,
                 found,
                 steps,
-                r.second.0,
+                second,
                 deepest,
             ),
         }
@@ -108,15 +109,7 @@ pub fn walk(
         left -= 1;
     }
     let kept = table_rows::sweep::sweep(list, found, q);
-    calls::left(
-        Answer::Complete,
-        r,
-        height,
-        kept,
-        steps,
-        r.second.0,
-        deepest,
-    )
+    calls::left(Answer::Complete, r, height, kept, steps, second, deepest)
 }
 
 // Reads the tuple that stands in the stack table from place `base`, and writes its image into row 64.

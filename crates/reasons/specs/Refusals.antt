@@ -1,12 +1,11 @@
 -- The checks of a question, as code makes them: the tests that were made, and the refusal that they give. Assumes nothing.
 use mathlib.Core.Path.{_≡_}
-use mathlib.Core.Bool.{Bool, true, false}
+use mathlib.Core.Bool.{true, false}
 use mathlib.Core.List.{List, []}
 use Prim.Native.Nat.{ℕ}
-use lib.Dec.{leb, ltb, eqb}
+use lib.Dec.{leb, eqb}
 use lib.IntN.{ℤ}
-use lib.ListN.{length, getD}
-use Rattle.linear.specs.Tests.{anyTo}
+use lib.ListN.{length}
 use Rattle.definitions.specs.Answers.{Check, _then_, go, refuse, refuseIf, refuseWith}
 use Rattle.definitions.specs.Input.{inputOf}
 use Rattle.definitions.specs.Reasons.{checkCount, reasonChecks}
@@ -20,9 +19,7 @@ use Rattle.calls.specs.declared.Check.the-variants.{Pass, Refuse}
 use Rattle.calls.specs.declared.Refusal.{Refusal}
 use Rattle.checks.specs.Coefficients.{coefficientChecks}
 use Rattle.checks.specs.Counts.{countsWithin}
-
-abbrev pub aboveLimit : ℕ → List ℕ → Bool
-aboveLimit limit t = anyTo (length t) (λ j. ltb limit (getD t j 0))
+use Rattle.checks.specs.Shape.{aboveLimit}
 
 -- 7, then 8
 abbrev pub rangeChecks : List ℤ → List ℕ → Check

@@ -5,7 +5,7 @@ ghost use Rattle.definitions.specs.Reasons.{reasonChecks};
 ghost use Rattle.definitions.specs.Refusals.{sizes};
 ghost use Rattle.calls.specs.Paper.{checkOf};
 ghost use Rattle.checks.specs.Counts.{Modest};
-ghost use Rattle.reasons.specs.Refusals.{rangeChecks, aboveLimit};
+ghost use Rattle.reasons.specs.Refusals.{rangeChecks};
 use calls::Check;
 use calls::Refusal;
 
@@ -43,25 +43,11 @@ fn ranges(coefs: &[i32], t: &[u32]) -> Check
     match checks::coefficients::check(coefs) {
         Check::Refuse(why) => Check::Refuse(why),
         Check::Pass => {
-            if above_limit(t, calls::COMPONENT_LIMIT) {
+            if checks::components::above_limit(t, calls::COMPONENT_LIMIT) {
                 Check::Refuse(Refusal::BoundRange)
             } else {
                 Check::Pass
             }
         }
     }
-}
-
-// Whether a component is above the limit.
-fn above_limit(t: &[u32], limit: u32) -> bool
-    ensures { λ b. ⌜ b ≡ aboveLimit limit (now (t .entry)) ⌝ }
-{
-    let mut j = 0;
-    while j < t.len() {
-        if limit < t[j] {
-            return true;
-        }
-        j += 1;
-    }
-    false
 }

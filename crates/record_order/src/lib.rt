@@ -12,6 +12,7 @@ ghost use Rattle.calls.specs.Paper.{kindOf, runOf};
 ghost use Rattle.record_order.specs.Order.{InShape, aboveFits, aboveWalkFits, cappedFits, lowerFits, plainWalkFits, recordFits};
 use calls::Record;
 use calls::Run;
+use table_rows::rows;
 
 // Whether record and rows are in order for a run of a kind, on q unknowns and with rows of `width` numbers in the list.
 pub fn in_order(
@@ -98,12 +99,8 @@ fn row_in_order(q: usize, stack: &[u32], k: usize, limit: u32) -> bool
     ensures { λ b. ⌜ b ≡ rowFits limit q (now (stack .entry)) k ⌝ }
 {
     let base = k * (q + 1);
-    let mut j = 0;
-    while j < q {
-        if limit < stack[base + j] {
-            return false;
-        }
-        j += 1;
+    if !rows::small_at(stack, base, q, limit) {
+        return false;
     }
     let marks = stack[base + q];
     let past: u32 = 1 << q;

@@ -8,8 +8,8 @@ ghost use Rattle.candidates.specs.Kinds.{Bounds, asked, kindBy};
 ghost use Rattle.step.specs.Listing.{Appended, Enlisted};
 ghost use Rattle.step.specs.Taken.{Standing, Taken};
 use calls::Refusal;
+use candidates::Kind;
 use candidates::Tried;
-use candidates::Walk;
 
 pub mod children; // children.rt: the children of the row taken off
 
@@ -24,7 +24,7 @@ pub enum Stepped {
 // One step from a height above 0. `lower` is the bound of a walk above one, else of no meaning;
 // `inner` holds the inner products of the rows on the stack, `sums` their sums of components; what `top` holds is of no meaning.
 pub fn take(
-    walk: Walk,
+    walk: Kind,
     q: usize,
     gram: &[i64; 256],
     stack: &mut [u32],
@@ -78,7 +78,7 @@ pub fn take(
 
 // Lists a solution where its list has room: of a capped walk without the first component, which says which list it is.
 fn enlist(
-    walk: Walk,
+    walk: Kind,
     list: &mut [u32],
     second: &mut [u32],
     found: usize,
@@ -92,14 +92,14 @@ fn enlist(
         (now (second .exit)) r) ⌝ }
 {
     match walk {
-        Walk::Plain => append(list, found, q, 0, t, Stepped::Listed),
-        Walk::Capped => {
+        Kind::Plain => append(list, found, q, 0, t, Stepped::Listed),
+        Kind::Capped => {
             if t[0] == 0 {
                 return append(list, found, q - 1, 1, t, Stepped::Listed);
             }
             append(second, other, q - 1, 1, t, Stepped::ListedSecond)
         }
-        Walk::Above => append(list, found, q, 0, t, Stepped::Listed),
+        Kind::Above => append(list, found, q, 0, t, Stepped::Listed),
     }
 }
 

@@ -1,22 +1,22 @@
-// Rows compared, copied within a table, out of it and into it, and within the component limit.
+// Rows compared, copied within a table, out of it and into it, and within a limit.
 ghost use mathlib.Core.Path.{_≡_};
 ghost use Prim.Native.Nat.{_+_, _≤_};
 ghost use lib.Dec.{leb};
 ghost use lib.ListN.{length};
 ghost use Rattle.linear.specs.Tests.{allTo};
-ghost use Rattle.definitions.specs.System.{isAtOrBelow, mostComponent};
+ghost use Rattle.definitions.specs.System.{isAtOrBelow};
 ghost use Rattle.definitions.specs.Tables.{writeTo};
 ghost use Rattle.table_rows.specs.Rows.{Holds, tuple};
 ghost use Rattle.table_rows.specs.Small.{rowAt};
 
-// Whether no number of the row that stands in the table from place `base` is above the component limit.
-pub fn small_at(table: &[u32], base: usize, q: usize) -> bool
+// Whether no number of the row that stands in the table from place `base` is above the limit.
+pub fn small_at(table: &[u32], base: usize, q: usize, limit: u32) -> bool
     requires { ⌜ base + q ≤ length (now table) ⌝ }
-    ensures { λ r. ⌜ r ≡ allTo q (λ j. leb (rowAt (now (table .entry)) base j) mostComponent) ⌝ }
+    ensures { λ r. ⌜ r ≡ allTo q (λ j. leb (rowAt (now (table .entry)) base j) limit) ⌝ }
 {
     let mut j = 0;
     while j < q {
-        if calls::COMPONENT_LIMIT < table[base + j] {
+        if limit < table[base + j] {
             return false;
         }
         j += 1;

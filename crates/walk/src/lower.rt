@@ -14,7 +14,7 @@ use calls::Answer;
 use calls::Outcome;
 use calls::Record;
 use calls::Run;
-use candidates::Walk;
+use candidates::Kind;
 
 // By the walk that the record names.
 pub fn walks(
@@ -62,7 +62,7 @@ fn further(
 {
     let most = calls::limit_of(limit);
     walking::walk(
-        Walk::Above,
+        Kind::Above,
         p,
         q,
         coefs,
@@ -99,7 +99,7 @@ fn both(
     let first = r.before.0;
     let deepest = r.deepest;
     let o = walking::walk(
-        Walk::Plain,
+        Kind::Plain,
         p,
         q,
         coefs,

@@ -13,12 +13,12 @@ use calls::Answer;
 use calls::Outcome;
 use calls::Record;
 use calls::Refusal;
-use candidates::Walk;
+use candidates::Kind;
 use step::Stepped;
 
 // At most `budget` steps of a walk of a kind, with components up to the limit. `lower` is the bound of a walk above one, else of no meaning.
 pub fn walk(
-    kind: Walk,
+    kind: Kind,
     p: usize,
     q: usize,
     coefs: &[i32],

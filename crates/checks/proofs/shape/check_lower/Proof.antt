@@ -13,7 +13,7 @@ use Rattle.definitions.specs.Answers.{Check, refuseWith, refuseIf, _then_}
 use Rattle.definitions.specs.Refusals.{check5, check7, check8}
 use Rattle.definitions.specs.Input.{alone, inputWith, limitOf}
 use Rattle.checks.specs.CheckLaws.{refused-first, passed-first}
-use Rattle.checks.specs.Shape.{lowerAboveLimit}
+use Rattle.checks.specs.Shape.{aboveLimit}
 use Rattle.checks.proofs.shape.check_lower.Statement.{statement}
 use Rattle.checks.proofs.shape.check_lower.Tie as tie
 
@@ -33,11 +33,11 @@ returns-2 c p =
     refused-first _ (c .before .why .given .1) (c .before .before .before .check .ensures)
     ∙ right-length (now (s .lower)) (s .q) _ (e .if1 .left)
 
-abbrev startOf : tie.After-lower-above-limit → tie.Start
+abbrev startOf : tie.After-above-limit → tie.Start
 startOf c = c .before .before .before .before .before .before .before
 
 -- neither 5 nor 7 refuses, so that what comes last decides
-last-decides : (c : tie.After-lower-above-limit) (p : ℕ) (last : Check)
+last-decides : (c : tie.After-above-limit) (p : ℕ) (last : Check)
     → last
     ≡ check5 (inputWith alone (startOf c .args .limit) p (startOf c .args .q) (now (startOf c .args .coefs))) (now (startOf c .args .lower))
     then check7 (inputWith alone (startOf c .args .limit) p (startOf c .args .q) (now (startOf c .args .coefs)))
@@ -49,9 +49,9 @@ last-decides c p last =
     ∙ right-length (now (startOf c .args .lower)) (startOf c .args .q) _ (e .if1 .left)
 
 -- that is the test of 8
-last-tests : (b : tie.After-lower-above-limit)
-    → b .lower-above-limit .result ≡ lowerAboveLimit (limitOf (startOf b .args .limit)) (now (startOf b .args .lower))
-last-tests b = b .lower-above-limit .ensures ∙ ap (λ l. lowerAboveLimit l (now (startOf b .args .lower))) (b .before .limit-of .ensures)
+last-tests : (b : tie.After-above-limit)
+    → b .above-limit .result ≡ aboveLimit (limitOf (startOf b .args .limit)) (now (startOf b .args .lower))
+last-tests b = b .above-limit .ensures ∙ ap (λ l. aboveLimit l (now (startOf b .args .lower))) (b .before .limit-of .ensures)
 
 returns-3 : tie.Need-returns-3
 unfolding refuseWith

@@ -1,5 +1,4 @@
 -- `rows::small_at` meets its contract. No number passed is above the limit. Assumes nothing.
-use Rattle.definitions.specs.System.{mostComponent}
 use Rattle.linear.specs.LoopLaws.{all-fails, all-next}
 use Rattle.linear.specs.Tests.{allTo}
 use borrow.Author.Tests.{le-leb, lt-leb}
@@ -14,10 +13,10 @@ use Rattle.table_rows.proofs.rows.small_at.Statement.{statement}
 use Rattle.table_rows.proofs.rows.small_at.Tie as tie
 
 abbrev Inv-loop : tie.InvT-loop
-Inv-loop table base q j₀ j = (j ≤ q) × (allTo j (λ k. leb (getD table (base + k) 0) mostComponent) ≡ true)
+Inv-loop table base q limit j₀ j = (j ≤ q) × (allTo j (λ k. leb (getD table (base + k) 0) limit) ≡ true)
 
 abbrev μ-loop : tie.MeasureT-loop
-μ-loop table base q j₀ j = q - j
+μ-loop table base q limit j₀ j = q - j
 
 loop-holds : tie.Need-loop-holds Inv-loop μ-loop
 unfolding allTo

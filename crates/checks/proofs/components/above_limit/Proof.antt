@@ -1,4 +1,4 @@
--- `reasons::asked::above_limit` meets its contract. No component passed is above the limit. Assumes nothing.
+-- `checks::components::above_limit` meets its contract. No component passed is above the limit. Assumes nothing.
 use Prim.Native.Nat.{_-_, _≤_}
 use mathlib.Core.Bool.{false}
 use mathlib.Core.Path.{_≡_, refl, sym}
@@ -9,8 +9,8 @@ use borrow.Author.Needs.{needs}
 use borrow.Author.Tests.{lt-ltb, le-ltb}
 use Rattle.linear.specs.Tests.{anyTo}
 use Rattle.linear.specs.LoopLaws.{any-next, any-holds}
-use Rattle.reasons.proofs.asked.above_limit.Statement.{statement}
-use Rattle.reasons.proofs.asked.above_limit.Tie as tie
+use Rattle.checks.proofs.components.above_limit.Statement.{statement}
+use Rattle.checks.proofs.components.above_limit.Tie as tie
 
 abbrev Inv-loop : tie.InvT-loop
 Inv-loop t limit j₀ j = (j ≤ length t) × (anyTo j (λ k. ltb limit (getD t k 0)) ≡ false)
