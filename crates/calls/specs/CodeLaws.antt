@@ -4,8 +4,8 @@ use mathlib.Core.Path.{_≡_}
 use native.Mathlib.Omega.{arith}
 use Rattle.calls.specs.Paper.{numberOf, value, valuesOf}
 use Rattle.calls.specs.declared.Refusal.{Refusal}
-use Rattle.calls.specs.declared.Refusal.the-variants.{Equations, Unknowns, CoefficientCount, StackLength, BoundLength, OutOfOrder, Coefficient, BoundRange}
-use Rattle.calls.specs.declared.Refusal.the-variants.{ListFull, ComponentLimit, StepLimit, RightSide, SeatUnknowns, SeatComponent}
+use Rattle.calls.specs.declared.Refusal.the-variants.{Equations, Unknowns, CoefficientCount, StackLength, BoundLength, OutOfOrder, Coefficient}
+use Rattle.calls.specs.declared.Refusal.the-variants.{BoundRange, ListFull, ComponentLimit, StepLimit, RightSide, SeatUnknowns, SeatComponent}
 use Rattle.calls.specs.declared.Refusal.the-variants.{Generators, Column}
 use Rattle.calls.specs.Codes.{code, refusalCode}
 

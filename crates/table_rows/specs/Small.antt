@@ -3,7 +3,7 @@
 use mathlib.Core.Path.{_≡_, sym, _∙_, ap}
 use mathlib.Core.List.{List}
 use Prim.Native.Nat.{ℕ, _+_, _*_, _^_, _≤_, _<_}
-use native.Mathlib.Nat.{mul-le-mul, mul-le-mul-right}
+use native.Mathlib.Nat.{le-antisymm, mul-le-mul, mul-le-mul-right}
 use native.Mathlib.Omega.{arith}
 use lib.IntN.{ℤ, pos, natAbs, _+ℤ_, _*ℤ_}
 use lib.ListN.{length, getD}
@@ -105,3 +105,17 @@ module _ {limit n : ℕ} {v w : ℕ → ℤ} (s : SmallTerms limit n v w) where
 
       pub next-sum : {r : ℤ} → r ≡ added sum x y → ofZ w64 r ≡ ofZ w64 (inner (k + 1) v w)
       next-sum h = ap (ofZ w64) (h ∙ added-is)
+
+-- the same of the value of a row: sum is the bits of its first k products, and x and y are the next coefficient and component as code reads them
+module _ {q : ℕ} {coefs : List ℤ} {from : ℕ} {table : List ℕ} {base : ℕ} (e : SmallEquation q coefs from) (r : SmallRow q table base) (k : ℕ) {sum : ℕ}
+    (h : sum ≡ ofZ w64 (inner k (equationAt coefs from) (λ j. pos (rowAt table base j)))) where
+  module _ (l : k < q) {x y : ℤ} (f : x ≡ toZ w32 (ofZ w32 (equationAt coefs from k))) (g : y ≡ pos (rowAt table base k)) where
+    pub product-fits : SFits w64 (toZ w64 (ofZ w64 x) *ℤ toZ w64 (ofZ w64 y)) × SFits w64 (added sum x y)
+    product-fits = next-fits (value-terms e r) k h l (f ∙ toZ-ofZ (coefficient-fits e k l)) g
+
+    pub product-added : {v : ℤ} → v ≡ added sum x y → ofZ w64 v ≡ ofZ w64 (inner (k + 1) (equationAt coefs from) (λ j. pos (rowAt table base j)))
+    product-added = next-sum (value-terms e r) k h l (f ∙ toZ-ofZ (coefficient-fits e k l)) g
+
+  pub value-whole : k ≤ q → q ≤ k → toZ w64 sum ≡ value (equationAt coefs from) q (rowAt table base)
+  unfolding value
+  value-whole l m = let whole = sum-value (value-terms e r) k h l in rw (le-antisymm l m) at whole

@@ -18,16 +18,16 @@ use Rattle.desk_walk.proofs.walk.Statement.{statement}
 use Rattle.desk_walk.proofs.walk.Tie as tie
 
 abbrev Inv-loop : tie.InvT-loop
-Inv-loop p q coefs generators stack₀ list₀ r budget height₀ found₀ steps₀ deepest₀ second n images₀ top₀ child₀ left₀ stack list height found steps deepest images
-    top child left =
+Inv-loop p q coefs generators stack₀ list₀ r budget height₀ found₀ steps₀ deepest₀ second n images₀ top₀ child₀ left₀ stack list height found steps deepest
+    images top child left =
     (length stack ≡ length stack₀) × (length list ≡ length list₀)
     × Walking (deskOf p q coefs generators) budget (stateAt r stack₀ list₀ height₀ found₀ steps₀ deepest₀) left
     (stateAt r stack list height found steps deepest)
     × (Images p q coefs generators n images × (length images ≡ 520) × (length top ≡ 16) × (length child ≡ 16))
 
 abbrev μ-loop : tie.MeasureT-loop
-μ-loop p q coefs generators stack₀ list₀ r budget height₀ found₀ steps₀ deepest₀ second n images₀ top₀ child₀ left₀ stack list height found steps deepest images
-    top child left = left
+μ-loop p q coefs generators stack₀ list₀ r budget height₀ found₀ steps₀ deepest₀ second n images₀ top₀ child₀ left₀ stack list height found steps deepest
+    images top child left = left
 
 positive : {n : ℕ} → ¬ (n ≡ 0) → 0 < n
 positive {n} h = omega (arith, h)

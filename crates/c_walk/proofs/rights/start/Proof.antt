@@ -19,7 +19,8 @@ returns c =
     let t = c .before .before in
     let w = t .before .before .before .before .before .before .before .before in
     let r = w .before .before .before .before in
-    start-both-told _ (rw (r .read .ensures) at (w .started-capped .ensures mostComponent)) (r .before .before .if1 .taken) (t .tell .ensures .0) (t .tell .ensures .1) _
+    start-both-told _ (rw (r .read .ensures) at (w .started-capped .ensures mostComponent)) (r .before .before .if1 .taken)
+    (t .tell .ensures .0) (t .tell .ensures .1) _
 
 returns-2 : tie.Need-returns-2
 unfolding startSided resumeSided

@@ -1,14 +1,12 @@
 -- `values::value_at` meets its contract. The sum is that of the products passed. Assumes nothing.
-use Rattle.table_rows.specs.Small.{coefficient-fits, equationAt, next-fits, next-sum, rowAt, sum-value, value-terms}
-use Rattle.linear.specs.Systems.{inner, value}
+use Rattle.table_rows.specs.Small.{equationAt, product-added, product-fits, rowAt, value-whole}
+use Rattle.linear.specs.Systems.{inner}
 use Rattle.linear.specs.Sums.{sumTo}
 use mir.Val.{ofZ}
 use mir.Syntax.{w64}
-use mir.Facts.{toZ-ofZ}
 use lib.IntN.{pos}
-use native.Mathlib.Nat.{le-antisymm}
 use Prim.Native.Nat.{_-_, _≤_}
-use mathlib.Core.Path.{_≡_, refl, _∙_}
+use mathlib.Core.Path.{_≡_, refl}
 use borrow.Author.Needs.{needs}
 use Rattle.table_rows.proofs.values.value_at.Statement.{statement}
 use Rattle.table_rows.proofs.values.value_at.Tie as tie
@@ -23,28 +21,27 @@ loop-holds : tie.Need-loop-holds Inv-loop μ-loop
 unfolding inner sumTo
 loop-holds c = (search needs, refl)
 
+abbrev begun : tie.At-loop Inv-loop μ-loop → tie.Start Inv-loop μ-loop
+begun a = a .before .before
+
 sum-and-requires : tie.Need-sum-and-requires Inv-loop μ-loop
-sum-and-requires c κs = let l = c .before .before .before .before in
+sum-and-requires c κs =
+    let l = c .before .before .before .before in
     let a = l .before in
-    let s = a .before .before in
-    let x = c .before .before .wide .ensures ∙ toZ-ofZ (coefficient-fits (s .pre .0) (a .loop .j) (l .loop-test .taken)) in
-    next-fits (value-terms (s .pre .0) (s .pre .1)) (a .loop .j) (a .loop .inv .1) (l .loop-test .taken) x (c .natural .ensures)
+    product-fits (begun a .pre .0) (begun a .pre .1) (a .loop .j) (a .loop .inv .1) (l .loop-test .taken) (c .before .before .wide .ensures)
+    (c .natural .ensures)
 
 loop-again : tie.Need-loop-again Inv-loop μ-loop
-loop-again c = let l = c .before .before .before .before .before in
-    let a = l .before in
-    let s = a .before .before in
-    let x = c .before .before .before .wide .ensures ∙ toZ-ofZ (coefficient-fits (s .pre .0) (a .loop .j) (l .loop-test .taken)) in (
+loop-again c =
+    let l = c .before .before .before .before .before in
+    let a = l .before in (
       search needs,
-      next-sum (value-terms (s .pre .0) (s .pre .1)) (a .loop .j) (a .loop .inv .1) (l .loop-test .taken) x (c .before .natural .ensures) (c .sum-and .ensures),
+      product-added (begun a .pre .0) (begun a .pre .1) (a .loop .j) (a .loop .inv .1) (l .loop-test .taken) (c .before .before .before .wide .ensures)
+          (c .before .natural .ensures) (c .sum-and .ensures),
     )
 
 returns : tie.Need-returns Inv-loop μ-loop
-unfolding value
-returns c = let a = c .before in
-    let s = a .before .before in
-    let sum = sum-value (value-terms (s .pre .0) (s .pre .1)) (a .loop .j) (a .loop .inv .1) (a .loop .inv .0) in
-    rw (le-antisymm (a .loop .inv .0) (c .loop-test .left)) at sum
+returns c = let a = c .before in value-whole (begun a .pre .0) (begun a .pre .1) (a .loop .j) (a .loop .inv .1) (a .loop .inv .0) (c .loop-test .left)
 
 pub value-at-spec : {M : Type 1} → statement M
 value-at-spec =
