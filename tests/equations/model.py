@@ -1,7 +1,7 @@
 #!/usr/bin/env python3
 """A model of equations in text (document 02, job 3): what the reader and the writer answer, from the documents' words alone.
 
-Usage: model.py                 writes crates/try_equations/stdin and stdout
+Usage: model.py                 writes the second section of crates/try_texts/stdin and stdout
        model.py Q TEXT          says what TEXT comes to for Q unknowns
        model.py drawn N SEED    writes N drawn texts, most of them damaged, with what they come to, as tests/equations/ask.c reads them
 
@@ -328,6 +328,13 @@ def told(q, text):
     return again + "\n"
 
 
+def put_section(path, text):
+    """Puts the text into the place of the second section; a line of the sign @ stands between two."""
+    sections = path.read_text(encoding="ascii").split("@\n")
+    sections[1] = text
+    path.write_text("@\n".join(sections), encoding="ascii")
+
+
 def main():
     if len(sys.argv) == 4:
         drawn(int(sys.argv[2]), int(sys.argv[3]))
@@ -335,10 +342,10 @@ def main():
     if len(sys.argv) == 3:
         print(told(int(sys.argv[1]), sys.argv[2]), end="")
         return
-    there = pathlib.Path(__file__).resolve().parents[2] / "crates" / "try_equations"
+    there = pathlib.Path(__file__).resolve().parents[2] / "crates" / "try_texts"
     cases = texts()
-    (there / "stdin").write_text("".join("%02d %s\n" % c for c in cases), encoding="ascii")
-    (there / "stdout").write_text("".join("%s\n%s" % (t, told(q, t)) for q, t in cases) + "texts %d\n" % len(cases), encoding="ascii")
+    put_section(there / "stdin", "".join("%02d %s\n" % c for c in cases))
+    put_section(there / "stdout", "".join("%s\n%s" % (t, told(q, t)) for q, t in cases) + "texts %d\n" % len(cases))
 
 
 if __name__ == "__main__":

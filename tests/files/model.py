@@ -1,5 +1,5 @@
 #!/usr/bin/env python3
-"""A list as a file (document 02, Job 5), read and written by code of its own, and the cases of crates/try_list_files.
+"""A list as a file (document 02, Job 5), read and written by code of its own, and the cases of crates/try_texts, in its third section.
 
 model.py cases DIR              writes DIR/stdin, the cases, and DIR/stdout, what is to be answered
 model.py write < TEXT > FILE    the file of a list in the words of `basis`, after a line "p q" and the coefficients, as `basis` reads them
