@@ -1,5 +1,5 @@
 // The kinds of call: each is made as its line has it, and held against what the line says must come of it.
-use calls::Answer;
+use crate::answered;
 use calls::Outcome;
 use calls::Record;
 use calls::Refusal;
@@ -35,7 +35,7 @@ fn run(l: Line) -> bool {
     let stack_after = l.stack_after;
     let list_after = l.list_after;
     let second_after = l.second_after;
-    answers(l, a)
+    answered::answers(l, a)
         && records(l, r)
         && same_table(&stack, &stack_after)
         && same_table(&list, &list_after)
@@ -171,20 +171,6 @@ fn seat_lower(l: Line, stack: &mut [u32], list: &mut [u32], second: &mut [u32]) 
         return seat::started_from(p, q, coefs, bound, stack, list, second, r);
     }
     seat::resumed_from(p, q, coefs, bound, stack, list, second, r, x[2])
-}
-
-fn answers(l: Line, a: Answer) -> bool {
-    match a {
-        Answer::Started => l.answer == b'S',
-        Answer::Complete => l.answer == b'C',
-        Answer::Paused => l.answer == b'P',
-        Answer::Refused(why) => refuses(l, why),
-    }
-}
-
-fn refuses(l: Line, why: Refusal) -> bool {
-    let x = l.answered;
-    l.answer == b'R' && calls::number_of(why) == x[0] && calls::value_of(why) as u64 == x[1]
 }
 
 fn records(l: Line, r: Record) -> bool {

@@ -6,6 +6,7 @@ use try_support::line::Word;
 use try_support::tally;
 use try_support::tally::Tally;
 
+mod answered; // answered.rt: whether an answer is the one that a line says
 mod capped; // capped.rt: plain and capped runs, runs from a lower bound and the training seat (tests/model/runs.py)
 mod desks; // desks.rt: the second of two groups of equations (tests/desks/vectors.py)
 mod several; // several.rt: several runs in turns (tests/model/dispatch.py)

@@ -1,6 +1,6 @@
 // The kinds of call: each is made as its line has it, and held against what the line says must come of it. A further kind is one more arm of `agrees`
 // and one more function, which takes its operands and tables from the line and compares what comes of them by the functions below.
-use calls::Answer;
+use crate::answered;
 use calls::Outcome;
 use calls::Record;
 use calls::Refusal;
@@ -48,7 +48,7 @@ fn run(l: Line) -> bool {
     let r = o.run;
     let stack_after = l.stack_after;
     let list_after = l.list_after;
-    answers(l, a)
+    answered::answers(l, a)
         && records(l, r)
         && same_table(&stack, &stack_after)
         && same_table(&list, &list_after)
@@ -110,7 +110,7 @@ fn view(l: Line) -> bool {
     }
     match reader::reader_answer(q) {
         Readable::Yes => l.answer == b'Y',
-        Readable::Refused(why) => refuses(l, why),
+        Readable::Refused(why) => answered::refuses(l, why),
     }
 }
 
@@ -181,20 +181,6 @@ fn expected(text: &[u32], i: usize) -> u32 {
 
 fn wide(b: u8) -> u32 {
     b as u32
-}
-
-fn answers(l: Line, a: Answer) -> bool {
-    match a {
-        Answer::Started => l.answer == b'S',
-        Answer::Complete => l.answer == b'C',
-        Answer::Paused => l.answer == b'P',
-        Answer::Refused(why) => refuses(l, why),
-    }
-}
-
-fn refuses(l: Line, why: Refusal) -> bool {
-    let x = l.answered;
-    l.answer == b'R' && calls::number_of(why) == x[0] && calls::value_of(why) as u64 == x[1]
 }
 
 fn records(l: Line, r: Record) -> bool {
