@@ -73,7 +73,7 @@ pub record Shown (r : Reformulation) : Type 0 where
 abbrev anyOut : List ℤ → Bool
 anyOut table = anyTo (length table) (λ i. outOfRange (getD table i (pos 0)))
 
-range-from : (table : List ℤ) → T (inRange table) → Small coefLimit table
+pub range-from : (table : List ℤ) → T (inRange table) → Small coefLimit table
 range-from table h i l =
     elim (split coefLimit (natAbs (getD table i (pos 0)))) [
       | inl out ↦ absurd (T-not (anyOut table) h (any-from (length table) (λ n. outOfRange (getD table n (pos 0))) i l (lt→ltb coefLimit _ out)))
@@ -86,7 +86,7 @@ range-to table s =
     let (i, l, out) = any-at (length table) (λ n. outOfRange (getD table n (pos 0))) h in
     omega (arith, s i l, ltb→lt coefLimit (natAbs (getD table i (pos 0))) out))
 
-multiples-from : (by : List ℤ) → T (areMultiples by) → Small mostMultiple by
+pub multiples-from : (by : List ℤ) → T (areMultiples by) → Small mostMultiple by
 multiples-from by h i l = leb→le _ mostMultiple (all-at (length by) (λ n. _) h i l)
 
 multiples-to : (by : List ℤ) → Small mostMultiple by → T (areMultiples by)
