@@ -9,8 +9,8 @@
  * coefficients above 0, it is taken first: there is no solution but 0. Tables are grown twofold by realloc, and never before the engine has said that
  * they are full. A try that is refused (a component above 1,000,000) does not end the run where another rule is left.
  *
- * Several equations with large coefficients and few unknowns more than equations are listed by a reformulation (reformulate.c), where there is one; where
- * that is refused, as they are. */
+ * A map with large coefficients and few unknowns more than equations is listed by a reformulation (reformulate.c), where there is one; so is another such map
+ * that takes long. Where that is refused, the map is listed as it is. */
 #include "dezgula_engine.h"
 
 #include "reformulate.h"
@@ -22,7 +22,7 @@
 #include <time.h>
 
 enum { MOST = DEZGULA_ENGINE_MOST, COEFFICIENTS = DEZGULA_ENGINE_COEFFICIENTS, RECORD = DEZGULA_ENGINE_RECORD_LENGTH };
-enum { LARGE_COEFFICIENT = 12 }; /* a map with one so large is reformulated */
+enum { LARGE_COEFFICIENT = 12, LATE_TURNS = 1000000 }; /* a map with a coefficient so large is reformulated at once, others after so many turns */
 enum { AS_IS, UNITS, RULES }; /* the rules: the equations as they are; the same, or cleared by units */
 enum { SPREAD_EQUATIONS = 5, PAIRS_LOOKED_AT = 20000 }; /* with fewer equations, that are not reformulated, values tell nothing more */
 static const uint64_t ALL_RULES = (UINT64_C(1) << RULES) - 1;
@@ -37,6 +37,7 @@ static const uint64_t MOST_PACE = UINT64_C(1) << 40;
 struct dezgula_solver {
     size_t given_p, given_q;
     int32_t given[COEFFICIENTS]; /* the map that it is for; what follows is of the one that is listed: the same, or its reformulation */
+    uint64_t looked;             /* 1 where a reformulation was looked for */
     reformulation *form;         /* NULL where it is the same */
     uint32_t *projected;         /* the list of a reformulation, without its further unknowns */
     size_t p, q;
@@ -316,7 +317,7 @@ static double count_signs(const dezgula_solver *s, const int64_t *c, double *ups
     size_t shared = common > 0 ? bits((uint64_t)common) - 1 : 0;
     return spread(sum - shared * (up + down), up + down);
 }
-/* several equations with large coefficients, not from a list */
+/* a map with large coefficients, not from a list */
 static bool is_large(const dezgula_solver *s)
 {
     bool large = false;
@@ -564,7 +565,7 @@ static uint64_t next_stage(dezgula_solver *s)
 static void set_map(dezgula_solver *s, size_t p, size_t q, const int32_t *coefs)
 {
     s->p = p, s->q = q;
-    if (coefs != NULL) memcpy(s->coefs, coefs, p * q * sizeof *coefs);
+    memcpy(s->coefs, coefs, p * q * sizeof *coefs);
     s->run.equations = s->equations, s->run.equations_len = p * q;
     s->run.table_len = s->run.words_len * q, s->run.basis_len = s->run.sizes_len * q;
 }
@@ -580,20 +581,18 @@ static dezgula_solver *blank(size_t p, size_t q, const int32_t *coefs)
     s->promised = UINT64_MAX, s->pace = FIRST_PACE;
     return s;
 }
-/* its reformulation, where there is one; true where some minimal solution is known to have a component above the limit */
+/* looks for its reformulation; true where some minimal solution is seen to have a component above the limit */
 static bool find_form(dezgula_solver *s)
 {
     const dezgula_system map = given_map(s);
     bool beyond = false;
-    s->form = malloc(sizeof *s->form);
-    if (s->form != NULL && reformulation_find(&map, s->form, &beyond)) {
-        set_map(s, s->given_q, s->given_q + s->form->further, s->form->other);
-        return beyond;
-    }
+    s->looked = 1, s->form = malloc(sizeof *s->form);
+    if (s->form != NULL && reformulation_find(&map, s->form, &beyond)) return beyond;
     free(s->form);
     s->form = NULL;
     return beyond;
 }
+static void set_form(dezgula_solver *s) { set_map(s, s->given_q, s->given_q + s->form->further, s->form->other); }
 static uint64_t first_try(dezgula_solver *s)
 {
     s->round = FIRST_ROUND;
@@ -602,14 +601,46 @@ static uint64_t first_try(dezgula_solver *s)
     s->tried[AS_IS] = s->round;
     return begin(s, AS_IS, s->round);
 }
+static void forget_try(dezgula_solver *s)
+{
+    free(s->kept);
+    s->kept = NULL, s->kept_len = 0, s->promised = UINT64_MAX;
+}
 /* the map as it is, where its reformulation was refused */
 static uint64_t leave_form(dezgula_solver *s)
 {
     free(s->form);
-    free(s->kept);
-    s->form = NULL, s->kept = NULL, s->kept_len = 0, s->promised = UINT64_MAX;
+    s->form = NULL;
+    forget_try(s);
     set_map(s, s->given_p, s->given_q, s->given);
     return first_try(s);
+}
+/* the rows of the tables get longer; false where there is no memory */
+static bool widen(dezgula_solver *s, size_t q)
+{
+    dezgula_engine_run *r = &s->run;
+    void *tables[2] = {r->table, r->basis};
+    const size_t more = (r->words_len + r->sizes_len) * sizeof *r->table * (q - s->q);
+    bool all = bytes(s, r->words_len, r->sizes_len) + more <= s->most;
+    all = all && longer(&tables[0], r->words_len, q * sizeof *r->table) && longer(&tables[1], r->sizes_len, q * sizeof *r->basis);
+    r->table = tables[0], r->basis = tables[1];
+    return all;
+}
+/* a map that takes long: its reformulation, where there is one, from the beginning; DEZGULA_PAUSED, or a refusal */
+static uint64_t look_again(dezgula_solver *s)
+{
+    if (find_form(s)) return s->phase = BEYOND, DEZGULA_COMPONENT;
+    if (s->form == NULL) return DEZGULA_PAUSED;
+    if (!widen(s, s->given_q + s->form->further)) {
+        free(s->form);
+        s->form = NULL;
+        return DEZGULA_PAUSED;
+    }
+    forget_try(s);
+    set_form(s);
+    uint64_t answer = first_try(s);
+    if (answer != DEZGULA_STARTED) answer = leave_form(s);
+    return answer == DEZGULA_STARTED ? (uint64_t)DEZGULA_PAUSED : answer;
 }
 static bool in_list(const uint32_t *rows, size_t len, size_t q)
 {
@@ -659,6 +690,7 @@ static dezgula_solver *new_solver(const dezgula_system *system, const dezgula_li
     *answer = DEZGULA_ENGINE_FULL;
     if (s != NULL && (list == NULL || set_list(s, list->rows, list->rows_len))) {
         const bool beyond = is_large(s) && find_form(s);
+        if (s->form != NULL) set_form(s);
         if (grow_basis(s, rows > s->q ? rows : s->q) && grow_table(s)) *answer = first_try(s);
         if (s->form != NULL && *answer != DEZGULA_STARTED && *answer != DEZGULA_ENGINE_FULL) *answer = leave_form(s);
         if (beyond) s->phase = BEYOND;
@@ -682,11 +714,15 @@ static uint64_t hand_out(dezgula_solver *s)
     const uint64_t answer = dezgula_engine_project(s->given_q, s->form->further, &list, s->projected, len);
     return answer == DEZGULA_ENGINE_PROJECTED ? (uint64_t)DEZGULA_COMPLETE : answer;
 }
+static uint64_t turns(const dezgula_solver *s) { return s->past + s->run.record.steps.count; }
 /* one call of the engine, or the choice of the next equation; DEZGULA_PAUSED where there is more to do */
 static uint64_t step(dezgula_solver *s, uint64_t budget)
 {
     dezgula_engine_record *r = &s->run.record;
+    const bool may_look = !s->looked && s->list == NULL;
     uint64_t answer;
+    if (may_look && turns(s) >= LATE_TURNS) return look_again(s);
+    if (may_look && budget > LATE_TURNS - turns(s)) budget = LATE_TURNS - turns(s);
     if (r->equation == s->p) {
         answer = next_stage(s);
         return answer == 0 ? (uint64_t)DEZGULA_PAUSED : answer;
@@ -706,7 +742,6 @@ static uint64_t step(dezgula_solver *s, uint64_t budget)
     }
     return answer;
 }
-static uint64_t turns(const dezgula_solver *s) { return s->past + s->run.record.steps.count; }
 static uint64_t work(dezgula_solver *s, uint64_t budget)
 {
     const uint64_t end = turns(s) > UINT64_MAX - budget ? UINT64_MAX : turns(s) + budget;
@@ -760,21 +795,21 @@ void dezgula_solver_free(dezgula_solver *s)
 /* ---- a solver as words: a sign and the sizes of its map; where it has the sign of a reformulation, the map and the reformulation; the numbers, the three
  * systems, and the rows of the tables; and where it has the sign of a list, those of the list that it starts from, which are the words left */
 
-enum { SIGN = 0x445A4735, LIST_SIGN = 0x445A4736, FORM_SIGN = 0x445A4737, HEAD = 3, SIZES = 2, OWN = 11 + RULES, NUMBERS = OWN + 2 * RECORD };
+enum { SIGN = 0x445A4735, LIST_SIGN = 0x445A4736, FORM_SIGN = 0x445A4737, HEAD = 3, SIZES = 2, OWN = 12 + RULES, NUMBERS = OWN + 2 * RECORD };
 
 static void numbers_of(const dezgula_solver *s, uint64_t n[NUMBERS])
 {
-    const uint64_t own[11] = {s->phase, s->rule, s->kept_rule, s->over, s->late, s->round, s->limit, s->promised, s->past, s->pace, s->failed};
+    const uint64_t own[12] = {s->phase, s->rule, s->kept_rule, s->over, s->late, s->round, s->limit, s->promised, s->past, s->pace, s->failed, s->looked};
     memcpy(n, own, sizeof own);
-    memcpy(n + 11, s->tried, sizeof s->tried);
+    memcpy(n + 12, s->tried, sizeof s->tried);
     dezgula_engine_pack(s->run.record, n + OWN);
     dezgula_engine_pack(s->kept_record, n + OWN + RECORD);
 }
 static void set_numbers(dezgula_solver *s, const uint64_t n[NUMBERS])
 {
     s->phase = n[0], s->rule = n[1], s->kept_rule = n[2], s->over = n[3], s->late = n[4];
-    s->round = n[5], s->limit = n[6], s->promised = n[7], s->past = n[8], s->pace = n[9], s->failed = n[10];
-    memcpy(s->tried, n + 11, sizeof s->tried);
+    s->round = n[5], s->limit = n[6], s->promised = n[7], s->past = n[8], s->pace = n[9], s->failed = n[10], s->looked = n[11];
+    memcpy(s->tried, n + 12, sizeof s->tried);
     s->run.record = dezgula_engine_unpack(n + OWN);
     s->kept_record = dezgula_engine_unpack(n + OWN + RECORD);
 }
@@ -825,7 +860,7 @@ static bool right_numbers(const dezgula_solver *s, size_t length)
     const dezgula_engine_record *r = &s->run.record, *k = &s->kept_record;
     const size_t most = length / s->q;
     const bool done = r->equation == s->p && r->done == (s->p < 32 ? (UINT32_C(1) << s->p) - 1 : UINT32_MAX);
-    if (s->phase > BEYOND || s->rule >= RULES || s->kept_rule >= RULES || s->over > ALL_RULES || s->failed > ALL_RULES) return false;
+    if (s->phase > BEYOND || s->rule >= RULES || s->kept_rule >= RULES || s->over > ALL_RULES || s->failed > ALL_RULES || s->looked > 1) return false;
     if (s->late >> s->p != 0 || s->round == 0 || s->pace == 0 || s->pace > 2 * MOST_PACE || s->past > UINT64_MAX / 2) return false;
     if (r->count > most || r->rows > most || done != (s->phase == COMPLETE)) return false;
     return s->promised == UINT64_MAX || (k->count <= most && k->equation == s->p && k->rows == 0);
@@ -878,7 +913,7 @@ static bool load_form(dezgula_solver *s, const uint32_t *words, size_t length, u
     s->form->further = from[0], s->form->operations = from[1];
     memcpy(s->given, from + SIZES, map.coefs_len * sizeof *from);
     if (length < HEAD + form_words(s) || !reformulation_load(&map, from + SIZES + map.coefs_len, s->form)) return false;
-    set_map(s, s->given_q, s->given_q + s->form->further, NULL);
+    set_form(s);
     return true;
 }
 /* the numbers, and the tables; DEZGULA_STARTED, or what it is refused with */

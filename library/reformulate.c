@@ -12,7 +12,7 @@
 #include <stdlib.h>
 #include <string.h>
 
-enum { MOST = DEZGULA_ENGINE_MOST, WIDE = 2 * MOST, MOST_RAYS = 128, MOST_CHOICES = 100000, TURNS = 500 };
+enum { MOST = DEZGULA_ENGINE_MOST, WIDE = 2 * MOST, MOST_RAYS = 1024, MOST_CHOICES = 500000, TURNS = 500 };
 static const int64_t LARGE = INT64_C(1) << 31;                                                   /* numbers of a lattice stay below it */
 static const int64_t MULTIPLIER_LIMIT = INT64_C(1000000000000), WORKING_LIMIT = INT64_C(1000000); /* of the engine's calls */
 static const double SLIGHT = 1e-3; /* the weight of a coordinate's own numbers beside its values on the rays */
@@ -36,7 +36,7 @@ typedef struct {
     bool beyond; /* one of the rays has a component above the limit */
     size_t rays;
     int64_t ray[MOST_RAYS][REFORMULATED_FURTHER]; /* of the natural solutions, in these coordinates */
-    points measure;                           /* the rays, each by its degree */
+    points measure, units;                    /* the rays, each by its degree; and the unknowns */
     matrix inverse;                           /* column i as row i, of the matrix whose rows are the coordinates chosen */
     matrix by, back;                          /* B, q rows of n, and U, n rows of q */
 } search;
@@ -201,7 +201,6 @@ static void unit_points(points *by, size_t width, double weight)
 static bool find_lattice(search *s)
 {
     matrix m = {s->q, s->p + s->q, {{0}}};
-    points units = {0};
     for (size_t k = 0; k < s->p * s->q; k++) m.at[k % s->q][k / s->q] = s->coefs[k];
     for (size_t j = 0; j < s->q; j++) m.at[j][s->p + j] = 1;
     s->rank = 0;
@@ -212,8 +211,8 @@ static bool find_lattice(search *s)
     }
     s->n = s->lattice.rows = s->q - s->rank, s->lattice.width = s->q;
     for (size_t i = 0; i < s->n; i++) memcpy(s->lattice.at[i], m.at[s->rank + i] + s->p, s->q * sizeof *m.at[i]);
-    unit_points(&units, s->q, 1);
-    return s->n >= 1 && s->n <= REFORMULATED_FURTHER && reduce_lattice(&s->lattice, &units);
+    unit_points(&s->units, s->q, 1);
+    return s->n >= 1 && s->n <= REFORMULATED_FURTHER && reduce_lattice(&s->lattice, &s->units);
 }
 static size_t members(uint32_t set)
 {
@@ -302,38 +301,53 @@ static bool take_coordinate(search *s, size_t chosen, const int64_t *t)
     for (size_t i = 0; small && i < chosen; i++) small = add_row(m, i, chosen, -m->at[i][s->n]);
     return small;
 }
-/* how many sums of multiples from -reach to reach there are */
-static int64_t count_choices(const search *s, int64_t reach)
+/* a sum of multiples of the reduced ones, each from -reach to reach */
+typedef struct {
+    int64_t multiple[REFORMULATED_FURTHER], sum[REFORMULATED_FURTHER];
+} choice;
+
+/* the next one; false after the last, where it is the first again */
+static bool next_choice(const search *s, const matrix *reduced, int64_t reach, choice *c)
+{
+    for (size_t i = 0; i < s->n; i++) {
+        const int64_t step = c->multiple[i] < reach ? 1 : -2 * reach;
+        c->multiple[i] += step;
+        for (size_t j = 0; j < s->n; j++) c->sum[j] += step * reduced->at[i][j];
+        if (step == 1) return true;
+    }
+    return false;
+}
+/* the least that can be taken; false where there is none */
+static bool choose_among(const search *s, const matrix *reduced, size_t chosen, int64_t reach, choice *best)
+{
+    choice c = {{0}, {0}};
+    double least = -1;
+    for (size_t i = 0; i < s->n; i++)
+        for (size_t j = 0; j < s->n; j++) c.multiple[i] = -reach, c.sum[j] -= reach * reduced->at[i][j];
+    do {
+        const double size = size_on_rays(s, c.sum);
+        if (size < 0 || (least >= 0 && size >= least) || !extends(s, chosen, c.sum)) continue;
+        least = size, *best = c;
+    } while (next_choice(s, reduced, reach, &c));
+    return least >= 0;
+}
+/* whether there are not too many */
+static bool is_short(const search *s, int64_t reach)
 {
     int64_t choices = 1;
     for (size_t i = 0; i < s->n; i++) choices *= 2 * reach + 1;
-    return choices;
-}
-/* the least one among the sums of multiples up to `reach` of the reduced ones; false where none is there */
-static bool choose_among(const search *s, const matrix *reduced, size_t chosen, int64_t reach, int64_t *best)
-{
-    const int64_t each = 2 * reach + 1, choices = count_choices(s, reach);
-    double least = -1;
-    for (int64_t c = 0; c < choices; c++) {
-        int64_t t[REFORMULATED_FURTHER] = {0}, left = c;
-        for (size_t i = 0; i < s->n; i++, left /= each)
-            for (size_t j = 0; j < s->n; j++) t[j] += (left % each - reach) * reduced->at[i][j];
-        const double size = size_on_rays(s, t);
-        if (size < 0 || (least >= 0 && size >= least) || !extends(s, chosen, t)) continue;
-        least = size;
-        memcpy(best, t, sizeof t);
-    }
-    return least >= 0;
+    return choices <= MOST_CHOICES;
 }
 /* with a longer reach where there is none */
 static bool choose_coordinate(search *s, const matrix *reduced, size_t chosen)
 {
-    int64_t best[REFORMULATED_FURTHER], reach = s->n <= 3 ? 3 : s->n == 4 ? 2 : 1;
-    while (!choose_among(s, reduced, chosen, reach, best)) {
+    choice best;
+    int64_t reach = s->n <= 3 ? 3 : s->n == 4 ? 2 : 1;
+    while (!choose_among(s, reduced, chosen, reach, &best)) {
         reach *= 2;
-        if (count_choices(s, reach) > MOST_CHOICES) return false;
+        if (!is_short(s, reach)) return false;
     }
-    return take_coordinate(s, chosen, best);
+    return take_coordinate(s, chosen, best.sum);
 }
 static void set_unit(matrix *m, size_t n, size_t width)
 {
@@ -375,18 +389,16 @@ static bool invert(const search *s, matrix *m)
 static bool find_back(search *s)
 {
     matrix m, zero = {s->q - s->n, s->q, {{0}}};
-    points units = {0};
     orthogonal o;
     if (!invert(s, &m)) return false;
     for (size_t i = 0; i < zero.rows; i++) memcpy(zero.at[i], m.at[s->n + i] + s->n, s->q * sizeof *m.at[i]);
-    unit_points(&units, s->q, 1);
-    if (!reduce_lattice(&zero, &units)) return false;
+    if (!reduce_lattice(&zero, &s->units)) return false;
     for (size_t i = s->n; i-- > 0;) {
         for (size_t k = i + 1; k < s->n; k++)
             if (!add_row(&m, i, k, -m.at[i][k])) return false;
         int64_t *row = m.at[i] + s->n, *last = zero.at[zero.rows];
         memcpy(last, row, s->q * sizeof *row);
-        if (!reduce_row(&zero, &units, zero.rows, &o)) return false;
+        if (!reduce_row(&zero, &s->units, zero.rows, &o)) return false;
         memcpy(row, last, s->q * sizeof *row);
         memcpy(s->back.at[i], last, s->q * sizeof *row);
     }

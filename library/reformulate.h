@@ -12,7 +12,7 @@ typedef struct {
     int64_t times;
 } row_operation;
 
-enum { REFORMULATED_UNKNOWNS = 12, REFORMULATED_FURTHER = 6, REFORMULATED_OPERATIONS = 64 };
+enum { REFORMULATED_UNKNOWNS = 16, REFORMULATED_FURTHER = 8, REFORMULATED_OPERATIONS = 64 };
 
 /* The other map has one equation for each unknown of the map, and `further` unknowns more than it. When the operations are undone, each equation is the only
  * one to have its unknown, with the coefficient -1. */
