@@ -43,7 +43,12 @@ enum {
     DEZGULA_ENGINE_FULL = 31,     /* there is no room for a row that is needed: with longer tables and the same rows the run goes on */
     DEZGULA_ENGINE_EQUATION = 32, /* no such equation is left, or a stage is under way */
     DEZGULA_ENGINE_FRESH = 33,    /* the unknown is neither q, which is none, nor one that no equation done mentions and of the basis only its unit tuple has, with -1 */
-    DEZGULA_ENGINE_OPERATION = 34 /* 0 times the equation itself, or itself added, or a coefficient would be outside -1,000,000 to 1,000,000 */
+    DEZGULA_ENGINE_OPERATION = 34, /* 0 times the equation itself, or itself added, or a coefficient would be outside -1,000,000 to 1,000,000 */
+    DEZGULA_ENGINE_NOT_SHOWN = 35, /* the numbers do not show that both maps have the same minimal solutions */
+
+    /* Not refused. */
+    DEZGULA_ENGINE_SAME_LOOPS = 128, /* both maps have the same minimal solutions */
+    DEZGULA_ENGINE_PROJECTED = 129   /* the rows were written */
 };
 
 /* The record of a run. */
@@ -126,6 +131,44 @@ uint64_t dezgula_engine_reason(const dezgula_system *system, const dezgula_list 
 
 uint64_t dezgula_engine_decompose(const dezgula_system *system, const dezgula_list *list, const uint32_t *tuple, size_t tuple_len, uint32_t *times,
                                   size_t times_len, int64_t *amount) DEZGULA_LOOK_AT_IT;
+
+/* ---- a map in the place of another: the same minimal solutions, but for further unknowns that the others determine. Small maps with large coefficients may be
+ * slow to list where such a map is not; which one is found by whoever calls, and these calls check it.
+ *
+ * The map, `system`, has p equations in q unknowns. The extended one has `further` unknowns more, k of them, and as many equations: first the map's, with zeros
+ * beside them; then one for each further unknown, with -1 in the column of its own, zeros in those of the others, and any numbers in the first q columns, which
+ * say what it is. The other map has `equations` equations, m of them, in the same q + k unknowns. What shows that it may stand in the place of the first:
+ *
+ *   onto    for each equation of the other map a row of 1 + p + k numbers: how often it is taken, 1 or more, and then how often each equation of the extended
+ *           one is, so that all of it adds up to zero in every column
+ *   back    for each equation of the extended map a row of 1 + m numbers: the same with the equations of the other one
+ *   above   for each further unknown a row of 1 + p numbers: how often its equation is taken, 1 or more, and then how often each of the map's is, so that none
+ *           of the first q columns adds up to less than zero: then the unknown is never below zero */
+typedef struct {
+    size_t further;
+    const int32_t *extended; /* (p + k) * (q + k) coefficients */
+    size_t extended_len;
+    size_t equations;
+    const int32_t *other; /* m * (q + k) coefficients */
+    size_t other_len;
+    const int64_t *onto; /* m * (1 + p + k) numbers */
+    size_t onto_len;
+    const int64_t *back; /* (p + k) * (1 + m) numbers */
+    size_t back_len;
+    const int64_t *above; /* k * (1 + p) numbers */
+    size_t above_len;
+} dezgula_reformulation;
+
+/* Whether the numbers show it. Answers DEZGULA_ENGINE_SAME_LOOPS: a list of exactly the minimal solutions of the other map, each once, is without its further
+ * unknowns exactly that of the map, each once. Or refuses with 1 (p or m is outside 1 to 32), 2 (q is 0, or q + k above 32), 3 (a table has not as many numbers
+ * as it should), 7 (a coefficient of the map, with its place) or 35, also where a coefficient of the others is outside -10,000 to 10,000 or a multiple outside
+ * -10^12 to 10^12. Writes nothing. It costs up to 150,000 multiplications. */
+uint64_t dezgula_engine_reformulates(const dezgula_system *system, const dezgula_reformulation *by) DEZGULA_LOOK_AT_IT;
+
+/* Copies the first q numbers of each row of a list of rows of q + further to `out`, one row behind the other. Answers DEZGULA_ENGINE_PROJECTED, or refuses
+ * with 2 (q is 0, or q + further above 32), 6 (the list is not so many rows) or 29 (`out` has no room for so many rows of q numbers).
+ * Projected: writes the first found * q numbers of `out`, and what stood past them stays. Refused: writes nothing. */
+uint64_t dezgula_engine_project(size_t q, size_t further, const dezgula_list *list, uint32_t *out, size_t out_len) DEZGULA_LOOK_AT_IT;
 
 /* ---- the solver. It allocates with malloc what it needs, as it needs it: some kilobytes at first, then twice as much each time, up to the limit that it is
  * given. A solver is plain numbers and tables; several may go on in several threads, each in one at a time. A call that takes a solver const only reads it,

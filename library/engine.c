@@ -97,3 +97,16 @@ uint64_t dezgula_engine_decompose(const dezgula_system *system, const dezgula_li
     return dezgula_raw_engine_decompose(system->p, system->q, TABLE(system, coefs), LIST(list), list->found, LENT(tuple, tuple_len), LENT(times, times_len),
                                         amount != NULL ? amount : unasked);
 }
+
+/* ---- a map in the place of another */
+
+uint64_t dezgula_engine_reformulates(const dezgula_system *system, const dezgula_reformulation *by)
+{
+    return dezgula_raw_engine_reformulates(system->p, system->q, by->further, by->equations, TABLE(system, coefs), TABLE(by, extended), TABLE(by, other),
+                                           TABLE(by, onto), TABLE(by, back), TABLE(by, above));
+}
+
+uint64_t dezgula_engine_project(size_t q, size_t further, const dezgula_list *list, uint32_t *out, size_t out_len)
+{
+    return dezgula_raw_engine_project(q, further, list->found, LIST(list), LENT(out, out_len));
+}

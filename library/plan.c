@@ -2,14 +2,18 @@
  *
  * The order of the equations decides how long a map takes, and no rule is best for all. So one rule after the other is followed up to the last equation, as far
  * as it promises to be cheaper, and the last stage is done after the best one. None may take more turns than the round allows; where all would, the next
- * round allows more. Of two or three equations with large coefficients no first pairs tell how long a stage takes: there the rules race, each to its end within
- * the turns and rows of the round. What a try may take is counted in turns and rows alone, so that the same map has the same list in the same order.
+ * round allows more. What a try may take is counted in turns alone, so that the same map has the same list in the same order.
  *
  * Decided here: an equation that is a combination of others is made zero at the start by the row operations that tell it, and taken while the basis is small;
  * where the coefficients on the way would be too large, it is taken last, when all rows have the value 0 in it. Where a sum of equations has only
  * coefficients above 0, it is taken first: there is no solution but 0. Tables are grown twofold by realloc, and never before the engine has said that
- * they are full. A try that is refused (a component above 1,000,000) does not end the run where another rule is left. */
+ * they are full. A try that is refused (a component above 1,000,000) does not end the run where another rule is left.
+ *
+ * A map with large coefficients and few unknowns more than equations is listed by a reformulation (reformulate.c), where there is one; so is another such map
+ * that takes long. Where that is refused, the map is listed as it is. */
 #include "dezgula_engine.h"
+
+#include "reformulate.h"
 
 #include <math.h>
 #include <stdbool.h>
@@ -18,22 +22,24 @@
 #include <time.h>
 
 enum { MOST = DEZGULA_ENGINE_MOST, COEFFICIENTS = DEZGULA_ENGINE_COEFFICIENTS, RECORD = DEZGULA_ENGINE_RECORD_LENGTH };
-/* a race is for so many equations with a coefficient so large; its first round, and how each grows; a cost that was guessed may be so many times too high; the
- * square of a try's rows is so many times its turns */
-enum { RACE_EQUATIONS = 3, RACE_COEFFICIENT = 12, FIRST_RACE = 2000, RACE_TIMES = 3, RACE_DOUBT = 16, RACE_ROWS = 16 };
-/* the rules: the equations as they are; the same, or cleared by units; of a race, a column kept for the last equation, and an equation that is the first */
-enum { AS_IS, UNITS, COLUMN, FIRST = COLUMN + MOST, RULES = FIRST + RACE_EQUATIONS };
-enum { SPREAD_EQUATIONS = 5, SHORTEN_TURNS = 100, OPERATION_LIMIT = 1000000 }; /* with fewer equations values tell nothing more, but in a race */
+enum { LARGE_COEFFICIENT = 12, LATE_TURNS = 1000000 }; /* a map with a coefficient so large is reformulated at once, others after so many turns */
+enum { AS_IS, UNITS, RULES }; /* the rules: the equations as they are; the same, or cleared by units */
+enum { SPREAD_EQUATIONS = 5, PAIRS_LOOKED_AT = 20000 }; /* with fewer equations, that are not reformulated, values tell nothing more */
 static const uint64_t ALL_RULES = (UINT64_C(1) << RULES) - 1;
 enum { FIRST_ROWS = 64, FIRST_ROUND = 30000, ROUND_TIMES = 8, SOON = 20000, FIRST_PACE = 20000, CLEAR_LIMIT = 100000 };
 enum { ABOVE_WORK = 300000, ABOVE_TURNS = 5000, ABOVE_MOST = 200 }; /* how long a sum of equations above 0 is looked for, and its largest multiplier */
 /* measured: a stage without a fresh unknown, and the last one, cost so many times their first pairs */
 enum { EQUAL = 2, LAST_EQUAL = 3, LAST_STAGE = 8, WEIGHT = 16 };
-enum { TRYING, LAST, COMPLETE };
+enum { TRYING, LAST, COMPLETE, BEYOND }; /* beyond: some minimal solution has a component above 1,000,000, however it is listed */
 static const double NEVER = 1e300;
 static const uint64_t MOST_PACE = UINT64_C(1) << 40;
 
 struct dezgula_solver {
+    size_t given_p, given_q;
+    int32_t given[COEFFICIENTS]; /* the map that it is for; what follows is of the one that is listed: the same, or its reformulation */
+    uint64_t looked;             /* 1 where a reformulation was looked for */
+    reformulation *form;         /* NULL where it is the same */
+    uint32_t *projected;         /* the list of a reformulation, without its further unknowns */
     size_t p, q;
     int32_t coefs[COEFFICIENTS], equations[COEFFICIENTS], kept_equations[COEFFICIENTS];
     dezgula_engine_run run;
@@ -47,19 +53,14 @@ struct dezgula_solver {
     uint64_t over, failed, late;     /* over: bit by rule, it got to the last stage; or failed: it was refused. late: bit by equation, taken last */
     uint64_t round, limit, promised; /* turns: of this round; that this try may take; that the kept one promises to take, UINT64_MAX where none is kept */
     uint64_t tried[RULES];           /* the turns that each rule was given */
-    size_t place[MOST];              /* of a column in a race, which it decides by the map alone */
     uint64_t past, pace;             /* turns of tries given up; those that take about 50 ms */
 };
 
-/* an equation to take: with the equations by then, and what was done to get them */
-typedef struct {
-    size_t row, by;
-    int64_t times;
-} operation; /* equation `row` and `times` equation `by` in its place */
+/* the equations to take by then, and what was done to get them */
 typedef struct {
     size_t n, id[MOST];
     int64_t m[MOST][MOST];
-    operation done[MOST * MOST];
+    row_operation done[MOST * MOST];
     size_t operations;
 } system_left;
 
@@ -67,7 +68,7 @@ typedef struct {
 
 static size_t bytes(const dezgula_solver *s, size_t rows, size_t count)
 {
-    return rows * (4 * s->q + 32) + count * (4 * s->q + 4) + (s->kept_len + s->list_len) * sizeof *s->kept;
+    return rows * (4 * s->q + 32) + count * (4 * s->q + 4) + (s->kept_len + s->list_len) * sizeof *s->kept + (s->form != NULL ? sizeof *s->form : 0);
 }
 static bool longer(void **table, size_t n, size_t size)
 {
@@ -280,7 +281,7 @@ static size_t clear(system_left *l, size_t q, uint32_t used)
             int64_t times = k == r ? 0 : -l->m[k][f] * l->m[r][f];
             if (times == 0) continue;
             for (size_t i = 0; i < q; i++) l->m[k][i] += times * l->m[r][i];
-            l->done[l->operations++] = (operation){l->id[k], l->id[r], times};
+            l->done[l->operations++] = (row_operation){l->id[k], l->id[r], times};
         }
     }
     return l->n - turn;
@@ -316,22 +317,57 @@ static double count_signs(const dezgula_solver *s, const int64_t *c, double *ups
     size_t shared = common > 0 ? bits((uint64_t)common) - 1 : 0;
     return spread(sum - shared * (up + down), up + down);
 }
-/* few equations with large coefficients, not from a list: no rule tells how long their stages take */
-static bool races(const dezgula_solver *s)
+/* a map with large coefficients, not from a list */
+static bool is_large(const dezgula_solver *s)
 {
     bool large = false;
-    for (size_t k = 0; s->list == NULL && s->p > 1 && s->p <= RACE_EQUATIONS && k < s->p * s->q; k++) large |= llabs(s->coefs[k]) >= RACE_COEFFICIENT;
+    for (size_t k = 0; s->list == NULL && k < s->p * s->q; k++) large |= llabs(s->coefs[k]) >= LARGE_COEFFICIENT;
     return large;
+}
+/* how many sums of multiples of a row of value a and one of value -b have a value of 0 or more and are no sums of others: by the continued fraction of a / b */
+static uint64_t between(uint64_t a, uint64_t b)
+{
+    uint64_t sum = 0;
+    for (bool even = true; b != 0; even = !even) {
+        const uint64_t rest = a % b;
+        if (even) sum += a / b;
+        a = b, b = rest;
+    }
+    return sum;
+}
+/* the value of row i of the basis without unknown f */
+static int64_t value_without(const dezgula_solver *s, const int64_t *c, size_t i, size_t f)
+{
+    const uint32_t *x = s->run.basis + i * s->q;
+    int64_t v = -c[f] * x[f];
+    for (size_t j = 0; j < s->q; j++) v += c[j] * x[j];
+    return v;
+}
+/* so many, and one, over all pairs of rows of the basis, where f is fresh */
+static double count_between(const dezgula_solver *s, const int64_t *c, size_t f)
+{
+    const size_t n = s->run.record.count;
+    const int64_t sign = c[f] < 0 ? 1 : -1;
+    double sum = 0;
+    for (size_t i = 0; i < n; i++) {
+        const int64_t up = sign * value_without(s, c, i, f);
+        for (size_t k = 0; up > 0 && k < n; k++) {
+            const int64_t down = sign * value_without(s, c, k, f);
+            if (down < 0) sum += 1 + (double)between((uint64_t)up, (uint64_t)-down);
+        }
+    }
+    return sum;
 }
 /* what stage e of l costs first, and its fresh unknown, q where it has none */
 static double first_pairs(const dezgula_solver *s, const system_left *l, size_t e, uint32_t used, size_t *fresh)
 {
     const int64_t *c = l->m[e];
     double ups, downs, wide = count_signs(s, c, &ups, &downs);
-    if (s->p < SPREAD_EQUATIONS && !races(s)) wide = 1;
+    if (s->p < SPREAD_EQUATIONS && s->form == NULL) wide = 1;
     size_t f = 0;
     while (f < s->q && (used >> f & 1 || (c[f] != 1 && c[f] != -1))) f++;
     *fresh = f;
+    if (f < s->q && s->form != NULL && ups * downs <= PAIRS_LOOKED_AT) return count_between(s, c, f);
     return f == s->q ? EQUAL * ups * downs * wide : c[f] > 0 ? (ups - 1) * downs : ups * (downs - 1);
 }
 /* how many of the other equations would have no fresh unknown after equation e */
@@ -366,27 +402,6 @@ static void choose_of(const dezgula_solver *s, const system_left *l, uint32_t us
         if (l != &best->left) best->left = *l;
     }
 }
-/* the column that the rule keeps for the last equation, q where it keeps none */
-static size_t column_of(const dezgula_solver *s) { return s->rule >= COLUMN && s->rule < FIRST ? s->rule - COLUMN : s->q; }
-/* whether the rule takes equation e of l among the first: the one that it names, or all without the column that it keeps */
-static bool is_early(const dezgula_solver *s, const system_left *l, size_t e)
-{
-    const size_t j = column_of(s);
-    return s->rule >= FIRST && l->n == s->p ? l->id[e] == s->rule - FIRST : j < s->q && l->m[e][j] == 0;
-}
-/* of the equations left those that the rule takes first, where there are some */
-static void leave_early(const dezgula_solver *s, system_left *l)
-{
-    bool early[MOST], any = false;
-    size_t n = 0;
-    for (size_t e = 0; e < l->n; e++) any |= early[e] = is_early(s, l, e);
-    for (size_t e = 0; any && e < l->n; e++) {
-        if (!early[e]) continue;
-        if (n < e) l->id[n] = l->id[e], memcpy(l->m[n], l->m[e], sizeof *l->m);
-        n++;
-    }
-    if (any) l->n = n;
-}
 /* Rule UNITS: the equations as they are or cleared, and each later equation that would have no fresh unknown counts. The others: as they are, the fewest
  * pairs */
 static void choose(const dezgula_solver *s, choice *best)
@@ -396,7 +411,6 @@ static void choose(const dezgula_solver *s, choice *best)
     best->e = 0, best->fresh = s->q;
     find_left(s, &best->left);
     best->last = best->left.n == 1;
-    leave_early(s, &best->left);
     if (s->rule != UNITS || best->last) {
         choose_of(s, &best->left, used, 1, best);
         return;
@@ -407,150 +421,26 @@ static void choose(const dezgula_solver *s, choice *best)
     choose_of(s, &cleared, used, WEIGHT, best);
 }
 
-/* ---- small equations, and a column kept for the last one */
-
-static int64_t dot(const int64_t *a, const int64_t *b, size_t q)
-{
-    int64_t sum = 0;
-    for (size_t j = 0; j < q; j++) sum += a[j] * b[j];
-    return sum;
-}
-static int64_t nearest(int64_t a, int64_t b) { return (2 * a + (a < 0 ? 1 - b : b - 1)) / (2 * b); } /* to a / b, b above 0 */
-/* equation k and `times` equation `by` in its place; false, with nothing changed, where a coefficient would be too large for the engine */
-static bool add_times(system_left *l, size_t q, size_t k, size_t by, int64_t times)
-{
-    if (times < -OPERATION_LIMIT || times > OPERATION_LIMIT || l->operations == MOST * MOST) return false;
-    for (size_t i = 0; i < q; i++)
-        if (llabs(l->m[k][i] + times * l->m[by][i]) > OPERATION_LIMIT) return false;
-    for (size_t i = 0; i < q; i++) l->m[k][i] += times * l->m[by][i];
-    l->done[l->operations++] = (operation){l->id[k], l->id[by], times};
-    return true;
-}
-/* multiples of one equation are added to another as long as that makes it smaller; among those without the unknown `but` */
-static void shorten(system_left *l, size_t q, size_t but)
-{
-    bool any = true;
-    for (size_t turn = 0; any && turn < SHORTEN_TURNS; turn++) {
-        any = false;
-        for (size_t k = 0; k < l->n * l->n; k++) {
-            const size_t e = k / l->n, by = k % l->n;
-            if (e == by || (but < q && (l->m[e][but] != 0 || l->m[by][but] != 0))) continue;
-            const int64_t size = dot(l->m[by], l->m[by], q), times = size == 0 ? 0 : nearest(dot(l->m[e], l->m[by], q), size);
-            any |= times != 0 && add_times(l, q, e, by, -times);
-        }
-    }
-}
-/* the equation with the least coefficient of unknown j that is not 0, n where there is none */
-static size_t least_in(const system_left *l, size_t j)
-{
-    size_t least = l->n;
-    for (size_t e = 0; e < l->n; e++)
-        if (l->m[e][j] != 0 && (least == l->n || llabs(l->m[e][j]) < llabs(l->m[least][j]))) least = e;
-    return least;
-}
-/* by Euclid's steps unknown j gets into one equation alone, as far as the coefficients stay small enough */
-static void keep_for_last(system_left *l, size_t q, size_t j)
-{
-    const size_t by = least_in(l, j);
-    bool any = false;
-    for (size_t e = 0; by < l->n && e < l->n; e++) {
-        if (e == by || l->m[e][j] == 0) continue;
-        any |= add_times(l, q, e, by, -nearest(l->m[by][j] > 0 ? l->m[e][j] : -l->m[e][j], llabs(l->m[by][j])));
-    }
-    if (any) keep_for_last(l, q, j);
-    else shorten(l, q, j);
-}
-/* how long the stage of an equation takes if it is the first, by its coefficients: about the logarithm of its turns (measured) */
-static double first_size(const int64_t *c, size_t q)
-{
-    size_t ups = 0, downs = 0, sum = 0;
-    int64_t common = 0;
-    for (size_t j = 0; j < q; j++) {
-        ups += c[j] > 0, downs += c[j] < 0, sum += bits((uint64_t)llabs(c[j]));
-        common = gcd(common, c[j]);
-    }
-    if (ups == 0 || downs == 0) return 0;
-    return (double)sum / (double)(ups + downs) - (double)bits((uint64_t)common) + (double)(2 * ups * downs);
-}
-/* that of the first equation where unknown j is kept for the last */
-static double column_size(const dezgula_solver *s, size_t j)
-{
-    double least = NEVER;
-    system_left l;
-    l.n = s->p, l.operations = 0;
-    for (size_t k = 0; k < s->p * s->q; k++) l.m[k / s->q][k % s->q] = s->coefs[k];
-    for (size_t e = 0; e < s->p; e++) l.id[e] = e;
-    keep_for_last(&l, s->q, j);
-    for (size_t e = 0; e < s->p; e++)
-        if (l.m[e][j] == 0 && first_size(l.m[e], s->q) < least) least = first_size(l.m[e], s->q);
-    return least;
-}
-
-/* ---- the rules of a race */
-
-/* the columns in the order of these sizes: the place of each */
-static void find_places(dezgula_solver *s)
-{
-    double sizes[MOST];
-    for (size_t j = 0; races(s) && j < s->q; j++) {
-        sizes[j] = column_size(s, j);
-        s->place[j] = 0;
-        for (size_t i = 0; i < j; i++) {
-            if (sizes[i] <= sizes[j]) s->place[j]++;
-            else s->place[i]++;
-        }
-    }
-}
-/* bit by rule, those that are never tried: in a race UNITS where there is no unit, and a column whose coefficients have a common factor; else all its own */
-static uint64_t left_out(const dezgula_solver *s)
-{
-    const uint64_t plain = UINT64_C(1) << AS_IS | UINT64_C(1) << UNITS;
-    uint64_t in = races(s) ? UINT64_C(1) << AS_IS : plain;
-    for (size_t j = 0; races(s) && j < s->q; j++) {
-        int64_t common = 0;
-        for (size_t e = 0; e < s->p; e++) {
-            common = gcd(common, s->coefs[e * s->q + j]);
-            if (llabs(s->coefs[e * s->q + j]) == 1) in |= plain;
-        }
-        if (common == 1) in |= UINT64_C(1) << (COLUMN + j);
-    }
-    for (size_t e = 0; races(s) && e < s->p; e++) in |= UINT64_C(1) << (FIRST + e);
-    return ALL_RULES & ~in;
-}
-/* the turns that a rule may take in this round. In a race the columns come in one after the other, and orders of the equations as they are a round later */
-static uint64_t allowed(const dezgula_solver *s, uint64_t rule)
-{
-    if (s->promised != UINT64_MAX) return s->promised;
-    uint64_t rounds = 0;
-    for (uint64_t n = FIRST_RACE; n < s->round && n < UINT64_MAX / RACE_TIMES; n *= RACE_TIMES) rounds++;
-    if (rule >= FIRST) return s->round / RACE_TIMES;
-    return rule >= COLUMN && s->place[rule - COLUMN] > rounds + 1 ? 0 : s->round;
-}
-
 /* ---- tries */
 
-static uint64_t operate(dezgula_solver *s, const system_left *l)
+static uint64_t operate(dezgula_solver *s, const row_operation *o, size_t n)
 {
     uint64_t answer = DEZGULA_STARTED;
-    for (size_t i = 0; answer == DEZGULA_STARTED && i < l->operations; i++) answer = combine(s, l->done[i].row, 1, l->done[i].by, l->done[i].times);
+    for (size_t i = 0; answer == DEZGULA_STARTED && i < n; i++) answer = combine(s, o[i].row, 1, o[i].by, o[i].times);
     return answer;
 }
 static uint64_t begin(dezgula_solver *s, uint64_t rule, uint64_t limit)
 {
     dezgula_system map = {s->p, s->q, s->coefs, s->p * s->q};
     s->past += s->run.record.steps.count;
-    s->rule = rule, s->limit = limit, s->phase = TRYING;
+    s->rule = rule, s->limit = limit, s->phase = s->form != NULL ? LAST : TRYING;
     dezgula_list list = {s->list, s->list_len, s->list_len / s->q};
     uint64_t answer = s->list != NULL ? dezgula_engine_start_from(&map, &list, &s->run) : dezgula_engine_start(&map, &s->run);
+    if (answer == DEZGULA_STARTED && s->form != NULL) answer = operate(s, s->form->undo, s->form->operations);
     if (answer != DEZGULA_STARTED) return answer;
     find_combinations(s);
     if (rule == AS_IS) find_infeasible(s);
-    if (rule < COLUMN) return answer;
-    system_left l;
-    find_left(s, &l);
-    if (rule >= FIRST) shorten(&l, s->q, s->q);
-    else keep_for_last(&l, s->q, rule - COLUMN);
-    return operate(s, &l);
+    return answer;
 }
 static bool keep(dezgula_solver *s, uint64_t promised)
 {
@@ -583,11 +473,10 @@ static void start_over(dezgula_solver *s)
 /* the next try: a rule that is left and has had fewer turns than are allowed now; or back to the kept one. 0, or the answer where nothing is left */
 static uint64_t next_try(dezgula_solver *s, uint64_t refusal)
 {
-    if (races(s) && s->rule == AS_IS) s->over |= UINT64_C(1) << AS_IS;
     for (;;) {
         for (uint64_t i = 1; i <= RULES; i++) {
             uint64_t rule = (s->rule + i) % RULES;
-            const uint64_t turns = allowed(s, rule);
+            const uint64_t turns = s->promised != UINT64_MAX ? s->promised : s->round;
             if (s->over >> rule & 1 || s->tried[rule] >= turns) continue;
             s->tried[rule] = turns;
             return begin(s, rule, turns) == DEZGULA_STARTED ? 0 : DEZGULA_ENGINE_FULL;
@@ -598,8 +487,7 @@ static uint64_t next_try(dezgula_solver *s, uint64_t refusal)
             start_over(s);
             continue;
         }
-        const uint64_t times = races(s) ? RACE_TIMES : ROUND_TIMES;
-        s->round = s->round > UINT64_MAX / times ? UINT64_MAX - 1 : s->round * times;
+        s->round = s->round > UINT64_MAX / ROUND_TIMES ? UINT64_MAX - 1 : s->round * ROUND_TIMES;
     }
 }
 /* this try was refused (a component above 1,000,000, or steps at their limit): its rule is over. In the last stage the others are due again, without a limit */
@@ -640,7 +528,7 @@ static uint64_t take(dezgula_solver *s, size_t e, size_t f)
 }
 static uint64_t take_choice(dezgula_solver *s, const choice *c)
 {
-    uint64_t answer = operate(s, &c->left);
+    uint64_t answer = operate(s, c->left.done, c->left.operations);
     return answer == DEZGULA_STARTED ? take(s, c->left.id[c->e], c->fresh) : answer;
 }
 /* an equation that costs nothing now, p where there is none: a zero one, or, where only such are left, a late one */
@@ -662,27 +550,97 @@ static uint64_t next_stage(dezgula_solver *s)
     if (e < s->p) return take(s, e, s->q);
     choice c;
     choose(s, &c);
-    if (s->phase == TRYING && c.last && !races(s)) {
+    if (s->phase == TRYING && c.last) {
         uint64_t answer;
         if (!settled(s, c.cost, &answer)) return answer;
         s->phase = LAST;
     }
-    const double cost = races(s) ? c.cost / RACE_DOUBT : c.cost;
-    if (s->phase == TRYING && (double)s->run.record.steps.count + cost > (double)s->limit) return next_try(s, 0);
+    if (s->phase == TRYING && (double)s->run.record.steps.count + c.cost > (double)s->limit) return next_try(s, 0);
     return take_choice(s, &c);
 }
 
 /* ---- the calls */
 
-static dezgula_solver *blank(size_t p, size_t q)
+/* the map that is listed, with the tables as long as before */
+static void set_map(dezgula_solver *s, size_t p, size_t q, const int32_t *coefs)
+{
+    s->p = p, s->q = q;
+    memcpy(s->coefs, coefs, p * q * sizeof *coefs);
+    s->run.equations = s->equations, s->run.equations_len = p * q;
+    s->run.table_len = s->run.words_len * q, s->run.basis_len = s->run.sizes_len * q;
+}
+static dezgula_system given_map(const dezgula_solver *s) { return (dezgula_system){s->given_p, s->given_q, s->given, s->given_p * s->given_q}; }
+static dezgula_solver *blank(size_t p, size_t q, const int32_t *coefs)
 {
     dezgula_solver *s = calloc(1, sizeof *s);
     if (s == NULL) return NULL;
-    s->p = p, s->q = q;
-    s->run.equations = s->equations, s->run.equations_len = p * q;
+    s->given_p = p, s->given_q = q;
+    memcpy(s->given, coefs, p * q * sizeof *coefs);
+    set_map(s, p, q, coefs);
     s->most = SIZE_MAX;
-    s->round = FIRST_ROUND, s->promised = UINT64_MAX, s->pace = FIRST_PACE;
+    s->promised = UINT64_MAX, s->pace = FIRST_PACE;
     return s;
+}
+/* looks for its reformulation; true where some minimal solution is seen to have a component above the limit */
+static bool find_form(dezgula_solver *s)
+{
+    const dezgula_system map = given_map(s);
+    bool beyond = false;
+    s->looked = 1, s->form = malloc(sizeof *s->form);
+    if (s->form != NULL && reformulation_find(&map, s->form, &beyond)) return beyond;
+    free(s->form);
+    s->form = NULL;
+    return beyond;
+}
+static void set_form(dezgula_solver *s) { set_map(s, s->given_q, s->given_q + s->form->further, s->form->other); }
+static uint64_t first_try(dezgula_solver *s)
+{
+    s->round = FIRST_ROUND;
+    s->over = s->failed = s->form != NULL ? UINT64_C(1) << UNITS : 0; /* each equation of a reformulation has its unit already */
+    memset(s->tried, 0, sizeof s->tried);
+    s->tried[AS_IS] = s->round;
+    return begin(s, AS_IS, s->round);
+}
+static void forget_try(dezgula_solver *s)
+{
+    free(s->kept);
+    s->kept = NULL, s->kept_len = 0, s->promised = UINT64_MAX;
+}
+/* the map as it is, where its reformulation was refused */
+static uint64_t leave_form(dezgula_solver *s)
+{
+    free(s->form);
+    s->form = NULL;
+    forget_try(s);
+    set_map(s, s->given_p, s->given_q, s->given);
+    return first_try(s);
+}
+/* the rows of the tables get longer; false where there is no memory */
+static bool widen(dezgula_solver *s, size_t q)
+{
+    dezgula_engine_run *r = &s->run;
+    void *tables[2] = {r->table, r->basis};
+    const size_t more = (r->words_len + r->sizes_len) * sizeof *r->table * (q - s->q);
+    bool all = bytes(s, r->words_len, r->sizes_len) + more <= s->most;
+    all = all && longer(&tables[0], r->words_len, q * sizeof *r->table) && longer(&tables[1], r->sizes_len, q * sizeof *r->basis);
+    r->table = tables[0], r->basis = tables[1];
+    return all;
+}
+/* a map that takes long: its reformulation, where there is one, from the beginning; DEZGULA_PAUSED, or a refusal */
+static uint64_t look_again(dezgula_solver *s)
+{
+    if (find_form(s)) return s->phase = BEYOND, DEZGULA_COMPONENT;
+    if (s->form == NULL) return DEZGULA_PAUSED;
+    if (!widen(s, s->given_q + s->form->further)) {
+        free(s->form);
+        s->form = NULL;
+        return DEZGULA_PAUSED;
+    }
+    forget_try(s);
+    set_form(s);
+    uint64_t answer = first_try(s);
+    if (answer != DEZGULA_STARTED) answer = leave_form(s);
+    return answer == DEZGULA_STARTED ? (uint64_t)DEZGULA_PAUSED : answer;
 }
 static bool in_list(const uint32_t *rows, size_t len, size_t q)
 {
@@ -728,39 +686,43 @@ static dezgula_solver *new_solver(const dezgula_system *system, const dezgula_li
     const size_t rows = list != NULL ? list->found : q;
     if (list != NULL && (rows > SIZE_MAX / q || list->rows_len != rows * q || (rows > 0 && list->rows == NULL) || !in_list(list->rows, list->rows_len, q)))
         return *answer = DEZGULA_OUT_OF_ORDER, NULL;
-    dezgula_solver *s = blank(p, q);
+    dezgula_solver *s = blank(p, q, system->coefs);
     *answer = DEZGULA_ENGINE_FULL;
-    if (s != NULL && (list == NULL || set_list(s, list->rows, list->rows_len)) && grow_basis(s, rows > q ? rows : q) && grow_table(s)) {
-        memcpy(s->coefs, system->coefs, p * q * sizeof *s->coefs);
-        if (races(s)) s->round = FIRST_RACE;
-        s->tried[AS_IS] = s->round;
-        s->over = s->failed = left_out(s);
-        *answer = begin(s, AS_IS, s->round);
+    if (s != NULL && (list == NULL || set_list(s, list->rows, list->rows_len))) {
+        const bool beyond = is_large(s) && find_form(s);
+        if (s->form != NULL) set_form(s);
+        if (grow_basis(s, rows > s->q ? rows : s->q) && grow_table(s)) *answer = first_try(s);
+        if (s->form != NULL && *answer != DEZGULA_STARTED && *answer != DEZGULA_ENGINE_FULL) *answer = leave_form(s);
+        if (beyond) s->phase = BEYOND;
     }
-    if (*answer == DEZGULA_STARTED) {
-        find_places(s);
-        return s;
-    }
+    if (*answer == DEZGULA_STARTED) return s;
     dezgula_solver_free(s);
     return NULL;
 }
 dezgula_solver *dezgula_solver_new(const dezgula_system *system, uint64_t *answer) { return new_solver(system, NULL, answer); }
 dezgula_solver *dezgula_solver_new_from(const dezgula_system *system, const dezgula_list *list, uint64_t *answer) { return new_solver(system, list, answer); }
 
-/* the rows that a try of a race may have: a turn costs more the more there are */
-static size_t most_rows(const dezgula_solver *s)
+/* the complete list, without the further unknowns of a reformulation; DEZGULA_ENGINE_FULL where there is no memory for that */
+static uint64_t hand_out(dezgula_solver *s)
 {
-    if (s->phase != TRYING || !races(s) || s->limit > MOST_PACE) return SIZE_MAX;
-    size_t rows = 0;
-    for (size_t bit = (size_t)1 << 24; bit > 0; bit /= 2)
-        if ((rows + bit) * (rows + bit) <= RACE_ROWS * s->limit) rows += bit;
-    return rows;
+    const size_t count = s->run.record.count, len = count * s->given_q;
+    if (s->form == NULL || s->projected != NULL) return DEZGULA_COMPLETE;
+    if (bytes(s, s->run.words_len, s->run.sizes_len) + len * sizeof *s->projected > s->most) return DEZGULA_ENGINE_FULL;
+    s->projected = malloc((len > 0 ? len : 1) * sizeof *s->projected);
+    if (s->projected == NULL) return DEZGULA_ENGINE_FULL;
+    const dezgula_list list = {s->run.basis, count * s->q, count};
+    const uint64_t answer = dezgula_engine_project(s->given_q, s->form->further, &list, s->projected, len);
+    return answer == DEZGULA_ENGINE_PROJECTED ? (uint64_t)DEZGULA_COMPLETE : answer;
 }
+static uint64_t turns(const dezgula_solver *s) { return s->past + s->run.record.steps.count; }
 /* one call of the engine, or the choice of the next equation; DEZGULA_PAUSED where there is more to do */
 static uint64_t step(dezgula_solver *s, uint64_t budget)
 {
     dezgula_engine_record *r = &s->run.record;
+    const bool may_look = !s->looked && s->list == NULL;
     uint64_t answer;
+    if (may_look && turns(s) >= LATE_TURNS) return look_again(s);
+    if (may_look && budget > LATE_TURNS - turns(s)) budget = LATE_TURNS - turns(s);
     if (r->equation == s->p) {
         answer = next_stage(s);
         return answer == 0 ? (uint64_t)DEZGULA_PAUSED : answer;
@@ -770,23 +732,16 @@ static uint64_t step(dezgula_solver *s, uint64_t budget)
         return answer == 0 ? (uint64_t)DEZGULA_PAUSED : answer;
     }
     if (s->phase == TRYING && budget > s->limit - r->steps.count) budget = s->limit - r->steps.count;
-    const size_t room = s->run.words_len, most = most_rows(s);
-    s->run.values_len = room < most ? room : most;
     answer = dezgula_engine_resume(s->p, s->q, &s->run, budget);
-    s->run.values_len = room;
-    if (answer == DEZGULA_ENGINE_FULL && r->rows >= most) {
-        answer = next_try(s, 0);
-        return answer == 0 ? (uint64_t)DEZGULA_PAUSED : answer;
-    }
-    if (answer == DEZGULA_COMPLETE) s->phase = COMPLETE;
+    if (answer == DEZGULA_COMPLETE) s->phase = COMPLETE, answer = hand_out(s);
     if (answer == DEZGULA_ENGINE_FULL && (r->rows == s->run.words_len ? grow_table(s) : grow_basis(s, 0))) return DEZGULA_PAUSED;
     if (answer == DEZGULA_COMPONENT || answer == DEZGULA_STEPS_AT_LIMIT) {
         answer = give_up(s, answer);
+        if (answer != 0 && s->form != NULL) answer = leave_form(s) == DEZGULA_STARTED ? 0 : answer;
         return answer == 0 ? (uint64_t)DEZGULA_PAUSED : answer;
     }
     return answer;
 }
-static uint64_t turns(const dezgula_solver *s) { return s->past + s->run.record.steps.count; }
 static uint64_t work(dezgula_solver *s, uint64_t budget)
 {
     const uint64_t end = turns(s) > UINT64_MAX - budget ? UINT64_MAX : turns(s) + budget;
@@ -796,7 +751,8 @@ static uint64_t work(dezgula_solver *s, uint64_t budget)
 }
 uint64_t dezgula_solver_work(dezgula_solver *s, uint64_t budget)
 {
-    if (s->phase == COMPLETE) return DEZGULA_COMPLETE;
+    if (s->phase == COMPLETE) return hand_out(s);
+    if (s->phase == BEYOND) return DEZGULA_COMPONENT;
     if (budget != 0) return work(s, budget);
     const clock_t fifty = CLOCKS_PER_SEC / 20, begun = clock();
     uint64_t answer = DEZGULA_PAUSED;
@@ -811,7 +767,7 @@ uint64_t dezgula_solver_work(dezgula_solver *s, uint64_t budget)
 
 void dezgula_solver_limit(dezgula_solver *s, size_t most) { s->most = most; }
 
-dezgula_system dezgula_solver_system(const dezgula_solver *s) { return (dezgula_system){s->p, s->q, s->coefs, s->p * s->q}; }
+dezgula_system dezgula_solver_system(const dezgula_solver *s) { return given_map(s); }
 
 dezgula_solver_progress dezgula_solver_told(const dezgula_solver *s)
 {
@@ -822,56 +778,72 @@ dezgula_solver_progress dezgula_solver_told(const dezgula_solver *s)
 
 const uint32_t *dezgula_solver_rows(const dezgula_solver *s, size_t *count)
 {
-    *count = s->phase == COMPLETE ? s->run.record.count : 0;
-    return s->phase == COMPLETE ? s->run.basis : NULL;
+    const bool complete = s->phase == COMPLETE && (s->form == NULL || s->projected != NULL);
+    *count = complete ? s->run.record.count : 0;
+    return !complete ? NULL : s->form != NULL ? s->projected : s->run.basis;
 }
 
 void dezgula_solver_free(dezgula_solver *s)
 {
     if (s == NULL) return;
-    void *tables[10] = {s->run.basis, s->run.sizes, s->run.table, s->run.values, s->run.words, s->run.degrees, s->run.marks, s->run.mothers, s->kept, s->list};
-    for (size_t i = 0; i < 10; i++) free(tables[i]);
+    void *tables[12] = {s->run.basis, s->run.sizes, s->run.table, s->run.values, s->run.words, s->run.degrees, s->run.marks, s->run.mothers,
+                        s->kept,      s->list,      s->form,      s->projected};
+    for (size_t i = 0; i < 12; i++) free(tables[i]);
     free(s);
 }
 
-/* ---- a solver as words: a sign, the sizes, the numbers, the three systems, and the rows of the tables; and where it has another sign, those of the list that
- * it starts from, which are the words left */
+/* ---- a solver as words: a sign and the sizes of its map; where it has the sign of a reformulation, the map and the reformulation; the numbers, the three
+ * systems, and the rows of the tables; and where it has the sign of a list, those of the list that it starts from, which are the words left */
 
-enum { SIGN = 0x445A4733, LIST_SIGN = 0x445A4734, OWN = 11 + RULES, NUMBERS = OWN + 2 * RECORD };
+enum { SIGN = 0x445A4735, LIST_SIGN = 0x445A4736, FORM_SIGN = 0x445A4737, HEAD = 3, SIZES = 2, OWN = 12 + RULES, NUMBERS = OWN + 2 * RECORD };
 
 static void numbers_of(const dezgula_solver *s, uint64_t n[NUMBERS])
 {
-    const uint64_t own[11] = {s->phase, s->rule, s->kept_rule, s->over, s->late, s->round, s->limit, s->promised, s->past, s->pace, s->failed};
+    const uint64_t own[12] = {s->phase, s->rule, s->kept_rule, s->over, s->late, s->round, s->limit, s->promised, s->past, s->pace, s->failed, s->looked};
     memcpy(n, own, sizeof own);
-    memcpy(n + 11, s->tried, sizeof s->tried);
+    memcpy(n + 12, s->tried, sizeof s->tried);
     dezgula_engine_pack(s->run.record, n + OWN);
     dezgula_engine_pack(s->kept_record, n + OWN + RECORD);
 }
 static void set_numbers(dezgula_solver *s, const uint64_t n[NUMBERS])
 {
     s->phase = n[0], s->rule = n[1], s->kept_rule = n[2], s->over = n[3], s->late = n[4];
-    s->round = n[5], s->limit = n[6], s->promised = n[7], s->past = n[8], s->pace = n[9], s->failed = n[10];
-    memcpy(s->tried, n + 11, sizeof s->tried);
+    s->round = n[5], s->limit = n[6], s->promised = n[7], s->past = n[8], s->pace = n[9], s->failed = n[10], s->looked = n[11];
+    memcpy(s->tried, n + 12, sizeof s->tried);
     s->run.record = dezgula_engine_unpack(n + OWN);
     s->kept_record = dezgula_engine_unpack(n + OWN + RECORD);
 }
-static size_t fixed_words(size_t p, size_t q) { return 3 + 2 * NUMBERS + 3 * p * q; }
+static size_t form_words(const dezgula_solver *s)
+{
+    const dezgula_system map = given_map(s);
+    return s->form == NULL ? 0 : SIZES + map.coefs_len + reformulation_length(&map, s->form);
+}
+static size_t fixed_words(const dezgula_solver *s) { return HEAD + form_words(s) + 2 * NUMBERS + 3 * s->p * s->q; }
 
 size_t dezgula_solver_saved_length(const dezgula_solver *s)
 {
-    return fixed_words(s->p, s->q) + s->run.record.count * s->q + s->run.record.rows * (s->q + 1) + s->kept_len + s->list_len;
+    return fixed_words(s) + s->run.record.count * s->q + s->run.record.rows * (s->q + 1) + s->kept_len + s->list_len;
 }
 static uint32_t *put(uint32_t *to, const void *from, size_t n)
 {
     if (n > 0) memcpy(to, from, n * sizeof *to);
     return to + n;
 }
+static uint32_t *put_form(const dezgula_solver *s, uint32_t *to)
+{
+    if (s->form == NULL) return to;
+    const uint32_t sizes[SIZES] = {(uint32_t)s->form->further, (uint32_t)s->form->operations};
+    const dezgula_system map = given_map(s);
+    uint32_t *at = put(put(to, sizes, SIZES), map.coefs, map.coefs_len);
+    reformulation_save(&map, s->form, at);
+    return to + form_words(s);
+}
 void dezgula_solver_save(const dezgula_solver *s, uint32_t *words)
 {
-    const uint32_t head[3] = {s->list != NULL ? LIST_SIGN : SIGN, (uint32_t)s->p, (uint32_t)s->q};
+    const uint32_t head[HEAD] = {s->list != NULL ? LIST_SIGN : s->form != NULL ? FORM_SIGN : SIGN, (uint32_t)s->given_p, (uint32_t)s->given_q};
     uint64_t n[NUMBERS];
     numbers_of(s, n);
-    uint32_t *to = put(words, head, 3);
+    uint32_t *to = put_form(s, put(words, head, HEAD));
     for (size_t i = 0; i < NUMBERS; i++) *to++ = (uint32_t)n[i], *to++ = (uint32_t)(n[i] >> 32);
     to = put(to, s->coefs, s->p * s->q);
     to = put(to, s->equations, s->p * s->q);
@@ -888,7 +860,7 @@ static bool right_numbers(const dezgula_solver *s, size_t length)
     const dezgula_engine_record *r = &s->run.record, *k = &s->kept_record;
     const size_t most = length / s->q;
     const bool done = r->equation == s->p && r->done == (s->p < 32 ? (UINT32_C(1) << s->p) - 1 : UINT32_MAX);
-    if (s->phase > COMPLETE || s->rule >= RULES || s->kept_rule >= RULES || s->over > ALL_RULES || s->failed > ALL_RULES) return false;
+    if (s->phase > BEYOND || s->rule >= RULES || s->kept_rule >= RULES || s->over > ALL_RULES || s->failed > ALL_RULES || s->looked > 1) return false;
     if (s->late >> s->p != 0 || s->round == 0 || s->pace == 0 || s->pace > 2 * MOST_PACE || s->past > UINT64_MAX / 2) return false;
     if (r->count > most || r->rows > most || done != (s->phase == COMPLETE)) return false;
     return s->promised == UINT64_MAX || (k->count <= most && k->equation == s->p && k->rows == 0);
@@ -929,28 +901,50 @@ static bool in_order(const dezgula_solver *s)
     kept.equations = equations, kept.basis = s->kept, kept.basis_len = kept_room(s), kept.record = s->kept_record;
     return dezgula_engine_resume(s->p, s->q, &kept, 0) == DEZGULA_PAUSED;
 }
+/* the reformulation from the words after the head; false where they do not show it, or there is no memory, which *answer then tells */
+static bool load_form(dezgula_solver *s, const uint32_t *words, size_t length, uint64_t *answer)
+{
+    const dezgula_system map = given_map(s);
+    const uint32_t *from = words + HEAD;
+    if (length < HEAD + SIZES + map.coefs_len || s->given_q > REFORMULATED_UNKNOWNS) return false;
+    if (from[0] > REFORMULATED_FURTHER || from[1] > REFORMULATED_OPERATIONS) return false;
+    s->form = calloc(1, sizeof *s->form);
+    if (s->form == NULL) return *answer = DEZGULA_ENGINE_FULL, false;
+    s->form->further = from[0], s->form->operations = from[1];
+    memcpy(s->given, from + SIZES, map.coefs_len * sizeof *from);
+    if (length < HEAD + form_words(s) || !reformulation_load(&map, from + SIZES + map.coefs_len, s->form)) return false;
+    set_form(s);
+    return true;
+}
+/* the numbers, and the tables; DEZGULA_STARTED, or what it is refused with */
+static uint64_t load_run(dezgula_solver *s, const uint32_t *words, size_t length)
+{
+    const bool from_list = words[0] == LIST_SIGN;
+    const uint32_t *from = words + HEAD + form_words(s);
+    uint64_t n[NUMBERS];
+    if (length < fixed_words(s)) return DEZGULA_OUT_OF_ORDER;
+    for (size_t i = 0; i < NUMBERS; i++) n[i] = from[2 * i] | (uint64_t)from[2 * i + 1] << 32;
+    set_numbers(s, n);
+    if (!right_numbers(s, length)) return DEZGULA_OUT_OF_ORDER;
+    if (s->promised != UINT64_MAX) s->kept_len = s->kept_record.count * s->q;
+    const size_t others = dezgula_solver_saved_length(s), listed = others <= length ? length - others : 0;
+    if (others > length || (from_list ? listed % s->q != 0 : listed != 0)) return DEZGULA_OUT_OF_ORDER;
+    if (!load_tables(s, from + 2 * NUMBERS, from_list, listed)) return DEZGULA_ENGINE_FULL;
+    if (s->form == NULL) memcpy(s->given, s->coefs, s->p * s->q * sizeof *s->coefs);
+    else if (memcmp(s->form->other, s->coefs, s->p * s->q * sizeof *s->coefs) != 0) return DEZGULA_OUT_OF_ORDER;
+    if (!in_order(s)) return DEZGULA_OUT_OF_ORDER;
+    return s->phase == COMPLETE && hand_out(s) != DEZGULA_COMPLETE ? (uint64_t)DEZGULA_ENGINE_FULL : (uint64_t)DEZGULA_STARTED;
+}
 dezgula_solver *dezgula_solver_load(const uint32_t *words, size_t length, uint64_t *answer)
 {
+    static const int32_t none[COEFFICIENTS];
     *answer = DEZGULA_OUT_OF_ORDER;
-    const bool from_list = words != NULL && length > 0 && words[0] == LIST_SIGN;
-    if (words == NULL || length < 3 || (words[0] != SIGN && !from_list) || words[1] < 1 || words[1] > MOST || words[2] < 1 || words[2] > MOST) return NULL;
-    const size_t p = words[1], q = words[2];
-    if (length < fixed_words(p, q)) return NULL;
-    uint64_t n[NUMBERS];
-    for (size_t i = 0; i < NUMBERS; i++) n[i] = words[3 + 2 * i] | (uint64_t)words[4 + 2 * i] << 32;
-    dezgula_solver *s = blank(p, q);
+    if (words == NULL || length < HEAD || words[1] < 1 || words[1] > MOST || words[2] < 1 || words[2] > MOST) return NULL;
+    if (words[0] != SIGN && words[0] != LIST_SIGN && words[0] != FORM_SIGN) return NULL;
+    dezgula_solver *s = blank(words[1], words[2], none);
     if (s == NULL) return *answer = DEZGULA_ENGINE_FULL, NULL;
-    set_numbers(s, n);
-    bool right = right_numbers(s, length);
-    if (right && s->promised != UINT64_MAX) s->kept_len = s->kept_record.count * q;
-    const size_t others = right ? dezgula_solver_saved_length(s) : 0, listed = right && others <= length ? length - others : 0;
-    right = right && others <= length && (from_list ? listed % q == 0 : listed == 0);
-    *answer = right ? (uint64_t)DEZGULA_ENGINE_FULL : (uint64_t)DEZGULA_OUT_OF_ORDER;
-    if (right && load_tables(s, words + 3 + 2 * NUMBERS, from_list, listed)) *answer = in_order(s) ? (uint64_t)DEZGULA_STARTED : (uint64_t)DEZGULA_OUT_OF_ORDER;
-    if (*answer == DEZGULA_STARTED) {
-        find_places(s);
-        return s;
-    }
+    if (words[0] != FORM_SIGN || load_form(s, words, length, answer)) *answer = load_run(s, words, length);
+    if (*answer == DEZGULA_STARTED) return s;
     dezgula_solver_free(s);
     return NULL;
 }

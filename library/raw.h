@@ -148,6 +148,13 @@ uint64_t dezgula_raw_engine_reason(size_t p, size_t q, const int32_t *coefs, siz
 uint64_t dezgula_raw_engine_decompose(size_t p, size_t q, const int32_t *coefs, size_t coefs_len, const uint32_t *list, size_t list_len, size_t found,
                                       const uint32_t *tuple, size_t tuple_len, uint32_t *times, size_t times_len, int64_t amount[1]) DEZGULA_LOOK_AT_IT;
 
+uint64_t dezgula_raw_engine_reformulates(size_t p, size_t q, size_t k, size_t m, const int32_t *coefs, size_t coefs_len, const int32_t *extended,
+                                         size_t extended_len, const int32_t *other, size_t other_len, const int64_t *onto, size_t onto_len,
+                                         const int64_t *back, size_t back_len, const int64_t *above, size_t above_len) DEZGULA_LOOK_AT_IT;
+
+uint64_t dezgula_raw_engine_project(size_t q, size_t k, size_t found, const uint32_t *rows, size_t rows_len, uint32_t *out,
+                                    size_t out_len) DEZGULA_LOOK_AT_IT;
+
 #ifdef __cplusplus
 }
 #endif

@@ -205,25 +205,48 @@ static void refused_lists(void)
     dezgula_solver_free(solver);
 }
 
-/* maps whose rules race: the same rows in the same order, however the run is cut and carried */
-static void races(void)
+/* maps that are listed by a reformulation: the same rows in the same order, however the run is cut and carried */
+static void reformulations(void)
 {
-    static const uint64_t budgets[4] = {997, 20011, 0, 0};
-    int32_t coefs[3 * 5];
-    for (int n = 0; n < 40; n++) {
-        const size_t p = 2 + draw(2), q = p + 1 + draw(2);
+    static const uint64_t budgets[5] = {7, 97, 20011, 0, 0};
+    int32_t coefs[3 * 6];
+    for (int n = 0; n < 60; n++) {
+        const size_t p = 1 + draw(3), q = p + 1 + draw(3);
         uint64_t answer;
         for (size_t i = 0; i < p * q; i++) coefs[i] = (int32_t)draw(81) - 40;
         dezgula_solver *whole = finish(solver_of(p, q, coefs, &answer), UINT64_MAX, false);
-        for (int i = 0; i < 4; i++) {
-            dezgula_solver *parts = finish(solver_of(p, q, coefs, &answer), budgets[i], i < 3);
+        for (int i = 0; i < 5; i++) {
+            dezgula_solver *parts = finish(solver_of(p, q, coefs, &answer), budgets[i], i < 4);
             size_t count, other;
             const uint32_t *rows = dezgula_solver_rows(whole, &count), *again = dezgula_solver_rows(parts, &other);
-            is(count == other && memcmp(rows, again, count * q * sizeof *rows) == 0, "a race that ends elsewhere");
+            is(count == other && memcmp(rows, again, count * q * sizeof *rows) == 0, "a reformulation that ends elsewhere");
             dezgula_solver_free(parts);
         }
-        dezgula_solver_free(whole);
+        dezgula_solver_free(carry(whole));
     }
+}
+/* from the list of the first equation a map is listed as it is */
+static void as_it_is(void)
+{
+    int32_t coefs[3 * 5];
+    for (int n = 0; n < 60; n++) {
+        const size_t p = 2 + draw(2), q = p + 1 + draw(2);
+        uint64_t answer;
+        for (size_t i = 0; i < p * q; i++) coefs[i] = (int32_t)draw(33) - 16;
+        dezgula_solver *whole = finish(solver_of(p, q, coefs, &answer), 0, false), *first = finish(solver_of(1, q, coefs, &answer), 0, false);
+        dezgula_solver *grown = finish(solver_from(first, p - 1, q, coefs + q, &answer), 0, false);
+        same_lists(whole, grown, q);
+        dezgula_solver_free(whole), dezgula_solver_free(first), dezgula_solver_free(grown);
+    }
+}
+/* a solution with a component above 1,000,000 is told at once, and after the run was carried */
+static void too_large(void)
+{
+    const int32_t coefs[6] = {9973, -9967, 0, 0, 9949, -9941};
+    uint64_t answer;
+    dezgula_solver *solver = carry(solver_of(2, 3, coefs, &answer));
+    is(dezgula_solver_work(solver, 1) == DEZGULA_COMPONENT && dezgula_solver_work(solver, 0) == DEZGULA_COMPONENT, "a component above the limit");
+    dezgula_solver_free(carry(solver));
 }
 /* one word, or some, made another; mostly among the numbers that stand first */
 static void damage(uint32_t *words, size_t length)
@@ -245,13 +268,17 @@ static uint32_t *saved(const dezgula_solver *solver, size_t *length)
 /* any answer, and no step past a table: not by the work, and not by saving what it left. The second map has an order that is kept while another is tried. */
 static void damaged_words(void)
 {
-    const int32_t coefs[12] = {2, -3, 1, 5, -4, -1, 1, 1, -2, 3, -5, 2};
+    const int32_t coefs[12] = {2, -3, 1, 5, -4, -1, 1, 1, -2, 3, -5, 2}, reformulated[8] = {31, -17, 23, -29, -13, 19, 37, -41};
     const int32_t large[5 * 8] = {3,  -2, -2, -1, 3, 3, 2, -2, -3, 0, -1, -1, -3, -2, 2,  2,  -1, 0,  2, -1,
                                   -3, 0,  0,  3,  0, 2, 3, 0,  3,  3, -3, 1,  0,  3,  -3, -1, -1, -3, -2, 1};
     for (int n = 0; n < 3000; n++) {
         uint64_t answer;
         size_t length;
         dezgula_solver *solver = n % 4 ? solver_of(2, 6, coefs, &answer) : solver_of(5, 8, large, &answer);
+        if (n % 4 == 2) {
+            dezgula_solver_free(solver);
+            solver = solver_of(2, 4, reformulated, &answer);
+        }
         if (n % 4 == 3) {
             dezgula_solver *before = finish(solver_of(1, 6, coefs, &answer), 0, false);
             dezgula_solver_free(solver);
@@ -308,12 +335,14 @@ int main(void)
     largest_map();
     combinations();
     pauses();
-    races();
+    reformulations();
+    as_it_is();
+    too_large();
     groups();
     refused_lists();
     damaged_words();
     what_it_is_for();
     memory();
-    puts("the solver: refused maps, combinations, pauses, races, saved and loaded, lists handed over, damaged words, memory");
+    puts("the solver: refused maps, combinations, pauses, reformulations, saved and loaded, lists handed over, damaged words, memory");
     return 0;
 }

@@ -21,6 +21,7 @@ mod equations; // equations.rt: typed equations
 mod files; // files.rt: lists as files
 mod lower; // lower.rt: runs from a lower bound
 mod questions; // questions.rt: questions about the lists of larger maps
+mod reformulations; // reformulations.rt: a map in the place of another
 mod rights; // rights.rt: maps with right sides
 mod stages; // stages.rt: the whole basis, stage by stage
 mod training; // training.rt: the training seat
