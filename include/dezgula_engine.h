@@ -44,7 +44,7 @@ enum {
     DEZGULA_ENGINE_EQUATION = 32, /* no such equation is left, or a stage is under way */
     DEZGULA_ENGINE_FRESH = 33,    /* the unknown is neither q, which is none, nor one that no equation done mentions and of the basis only its unit tuple has, with -1 */
     DEZGULA_ENGINE_OPERATION = 34, /* 0 times the equation itself, or itself added, or a coefficient would be outside -1,000,000 to 1,000,000 */
-    DEZGULA_ENGINE_NOT_SHOWN = 35, /* the numbers do not show that both maps have the same minimal solutions */
+    DEZGULA_ENGINE_NOT_SHOWN = 36, /* the numbers do not show that both maps have the same minimal solutions */
 
     /* Not refused. */
     DEZGULA_ENGINE_SAME_LOOPS = 128, /* both maps have the same minimal solutions */
@@ -161,7 +161,7 @@ typedef struct {
 
 /* Whether the numbers show it. Answers DEZGULA_ENGINE_SAME_LOOPS: a list of exactly the minimal solutions of the other map, each once, is without its further
  * unknowns exactly that of the map, each once. Or refuses with 1 (p or m is outside 1 to 32), 2 (q is 0, or q + k above 32), 3 (a table has not as many numbers
- * as it should), 7 (a coefficient of the map, with its place) or 35, also where a coefficient of the others is outside -10,000 to 10,000 or a multiple outside
+ * as it should), 7 (a coefficient of the map, with its place) or 36, also where a coefficient of the others is outside -10,000 to 10,000 or a multiple outside
  * -10^12 to 10^12. Writes nothing. It costs up to 150,000 multiplications. */
 uint64_t dezgula_engine_reformulates(const dezgula_system *system, const dezgula_reformulation *by) DEZGULA_LOOK_AT_IT;
 

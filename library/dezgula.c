@@ -21,7 +21,7 @@ uint64_t dezgula_place(uint64_t answer)
     return answer >> 8;
 }
 
-/* A place in the table is the number. 31 to 35, 128 and 129 are the engine's. */
+/* A place in the table is the number. 31 to 36, 128 and 129 are the engine's. */
 static const char *const sentences[] = {
     [DEZGULA_COMPLETE] = "The run is complete: what it lists is whole.",
     [DEZGULA_EQUATIONS] = "The number of equations is out of range: 1 to 8, for the engine 1 to 32.",
@@ -57,7 +57,7 @@ static const char *const sentences[] = {
     [32] = "There is no such equation to take or to change, or one is under way.",
     [33] = "The unknown cannot be left out of this stage.",
     [34] = "This is no row operation, or a coefficient would pass 1,000,000.",
-    [35] = "The numbers do not show that both maps have the same minimal solutions.",
+    [36] = "The numbers do not show that both maps have the same minimal solutions.",
     [DEZGULA_STARTED] = "The run has started.",
     [DEZGULA_PAUSED] = "The run is paused, as its budget is used up.",
     [DEZGULA_ROW] = "The row was copied.",

@@ -184,6 +184,13 @@ static void questions(void)
             dezgula_raw_engine_reason(RAW_SYSTEM, raw.list, raw_len, found, lower, lower_len, raw.amount));
     compare("engine_decompose", dezgula_engine_decompose(&system_, &rows, lower, lower_len, easy.out, out_len, easy.amount),
             dezgula_raw_engine_decompose(RAW_SYSTEM, raw.list, raw_len, found, lower, lower_len, raw.out, out_len, raw.amount));
+    int64_t by[2] = {below(3), (int64_t)below(3) - 1};
+    dezgula_reformulation other = {below(2), coefs, below(5), below(4), rights, rights_len, by, below(3), below(20) ? by : NULL, below(3), by, below(3)};
+    compare("engine_reformulates", dezgula_engine_reformulates(&system_, &other),
+            dezgula_raw_engine_reformulates(system_.p, system_.q, other.further, other.equations, coefs, system_.coefs_len, coefs, other.extended_len, rights,
+                                            rights_len, by, other.onto_len, by, other.back != NULL ? other.back_len : 0, by, other.above_len));
+    compare("engine_project", dezgula_engine_project(system_.q, n, &rows, easy.out, out_len),
+            dezgula_raw_engine_project(system_.q, n, found, raw.list, raw_len, raw.out, out_len));
     compare("listing", dezgula_listing(&system_, &rows, (char *)easy.bytes, out_len * 16),
             dezgula_raw_listing(RAW_SYSTEM, raw.list, raw_len, found, raw.bytes, out_len * 16));
 }

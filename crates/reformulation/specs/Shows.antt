@@ -107,6 +107,6 @@ module _ (r : Reformulation) {c : Check} (e : checkOf c ≡ givenChecks r) where
     unfolding reformulates _then_ refuseWith
     told-shown s = rw (← e, g, s)
 
-    pub told-not : shows r ≡ false → 35 ≡ shownTold (reformulates r)
+    pub told-not : shows r ≡ false → 36 ≡ shownTold (reformulates r)
     unfolding reformulates _then_ refuseWith
     told-not s = rw (← e, g, s)

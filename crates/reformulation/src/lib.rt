@@ -36,7 +36,7 @@ pub fn reformulates(
             if shows(p, q, k, m, coefs, extended, other, onto, back, above) {
                 return 128;
             }
-            35
+            36
         }
     }
 }

@@ -52,23 +52,23 @@ defined e f = three (pos 2) (negsuc 2) e (three (pos 1) (negsuc 0) f [])
 pub record Computed : Type 0 where
   pub yes : asked further instead there again over ≡ go
   -- a row taken no times, or less: x = 3 z follows from everything
-  pub not-taken : asked further instead (three (pos 0) (pos 0) (pos 0) (three (pos 1) (pos 1) (negsuc 1) [])) again over ≡ refuse 35 []
-  pub taken-back : asked further instead (three (negsuc 0) (negsuc 0) (pos 3) (three (pos 1) (pos 1) (negsuc 1) [])) again over ≡ refuse 35 []
+  pub not-taken : asked further instead (three (pos 0) (pos 0) (pos 0) (three (pos 1) (pos 1) (negsuc 1) [])) again over ≡ refuse 36 []
+  pub taken-back : asked further instead (three (negsuc 0) (negsuc 0) (pos 3) (three (pos 1) (pos 1) (negsuc 1) [])) again over ≡ refuse 36 []
   -- the other map has an equation more than follows, or one less than is needed: z = 0; y = 2 z twice
-  pub more : asked further (three (pos 1) (pos 0) (negsuc 2) (three (pos 0) (pos 0) (pos 1) [])) there again over ≡ refuse 35 []
+  pub more : asked further (three (pos 1) (pos 0) (negsuc 2) (three (pos 0) (pos 0) (pos 1) [])) there again over ≡ refuse 36 []
   pub fewer : asked further (three (pos 0) (pos 1) (negsuc 1) (three (pos 0) (pos 1) (negsuc 1) []))
       (three (pos 1) (pos 1) (negsuc 1) (three (pos 1) (pos 1) (negsuc 1) [])) again over
-      ≡ refuse 35 []
+      ≡ refuse 36 []
   -- z may be below 0, as far as is shown: x − y is in the column of y, and 2 (x − y) + (3 y − 2 x) is not
-  pub below : asked further instead there again (pos 1 ∷ pos 0 ∷ []) ≡ refuse 35 []
-  pub below-not-taken : asked further instead there again (pos 0 ∷ pos 0 ∷ []) ≡ refuse 35 []
+  pub below : asked further instead there again (pos 1 ∷ pos 0 ∷ []) ≡ refuse 36 []
+  pub below-not-taken : asked further instead there again (pos 0 ∷ pos 0 ∷ []) ≡ refuse 36 []
   -- the extended map is another: with z in the map's own row; with z twice; with another map
-  pub inside : asked (defined (negsuc 0) (negsuc 0)) instead there again over ≡ refuse 35 []
-  pub twice : asked (defined (pos 0) (negsuc 1)) instead there again over ≡ refuse 35 []
-  pub another : asked (three (pos 4) (negsuc 5) (pos 0) (three (pos 1) (negsuc 0) (negsuc 0) [])) instead there again over ≡ refuse 35 []
+  pub inside : asked (defined (negsuc 0) (negsuc 0)) instead there again over ≡ refuse 36 []
+  pub twice : asked (defined (pos 0) (negsuc 1)) instead there again over ≡ refuse 36 []
+  pub another : asked (three (pos 4) (negsuc 5) (pos 0) (three (pos 1) (negsuc 0) (negsuc 0) [])) instead there again over ≡ refuse 36 []
   -- multiples as large as may be, and one more
   pub large : asked further instead (three (pos 1000000000000) (pos 1000000000000) (negsuc 2999999999999) (three (pos 1) (pos 1) (negsuc 1) [])) again over
-      ≡ refuse 35 []
+      ≡ refuse 36 []
   pub largest : asked further instead
       (three (pos 333333333333) (pos 333333333333) (negsuc 999999999998) (three (pos 1) (pos 1) (negsuc 1) [])) again over
       ≡ go

@@ -143,9 +143,9 @@ module _ (r : Reformulation) where
       then refuseIf (not areLengths) 3
       then check7 (inputOf (r .p) (r .q) (r .coefs))
 
-  -- 35, the numbers do not show that both maps have the same minimal solutions; else it is shown
+  -- 36, the numbers do not show that both maps have the same minimal solutions; else it is shown
   unfoldable pub reformulates : Check
-  reformulates = givenChecks then refuseIf (not shows) 35
+  reformulates = givenChecks then refuseIf (not shows) 36
 
 -- ---- rows of the other map's list, without the further unknowns
 

@@ -69,9 +69,9 @@ abbrev pub givenRules : Reformulation → Rules
 givenRules r =
     rule 1 (¬ (FewEquations r)) ▹ rule 2 (¬ (FewUnknowns (r .q) (r .k))) ▹ rule 3 (¬ (Lengths r)) ▹ rangeRule (inputOf (r .p) (r .q) (r .coefs)) ▹ end
 
--- 35 comes last
+-- 36 comes last
 abbrev pub reformulateRules : Reformulation → Rules
-reformulateRules r = givenRules r ▹▹ (rule 35 (¬ (Shown r)) ▹ end)
+reformulateRules r = givenRules r ▹▹ (rule 36 (¬ (Shown r)) ▹ end)
 
 abbrev pub projectRules : (q k found : ℕ) (rows out : List ℕ) → Rules
 projectRules q k found rows out =
@@ -150,8 +150,8 @@ module _ (r : Reformulation) where
   pub reformulate-renders : Renders (reformulates r) (reformulateRules r)
   unfolding reformulates
   reformulate-renders =
-      renders-after (givenChecks r) (refuseIf (not (shows r)) 35) (givenRules r) (rule 35 (¬ (Shown r)) ▹ end) given-renders
-      (λ _. renders-last (decides-not (shows r) 35 (Shown r) (shown-from r) (shown-to r)))
+      renders-after (givenChecks r) (refuseIf (not (shows r)) 36) (givenRules r) (rule 36 (¬ (Shown r)) ▹ end) given-renders
+      (λ _. renders-last (decides-not (shows r) 36 (Shown r) (shown-from r) (shown-to r)))
 
   -- what holds where it is not refused before the numbers are looked at
   pub given-sizes : givenChecks r ≡ go → FewEquations r × FewUnknowns (r .q) (r .k) × Lengths r
@@ -165,7 +165,7 @@ module _ (r : Reformulation) where
   -- where it says yes, the numbers show what they should
   pub says-yes : reformulates r ≡ go → Shown r
   unfolding reformulates
-  says-yes e = shown-from r (rw (not-false (shows r) (refuse-if-go _ 35 (then-go (givenChecks r) _ e .1))) tt)
+  says-yes e = shown-from r (rw (not-false (shows r) (refuse-if-go _ 36 (then-go (givenChecks r) _ e .1))) tt)
 
 -- ---- the call that projects
 

@@ -13,6 +13,7 @@ mod several; // several.rt: several runs in turns (tests/model/dispatch.py)
 mod engine; // engine.rt: the engine (tests/engine/vectors.py)
 mod questions; // questions.rt: questions about lists (tests/questions/model.py)
 mod plain; // plain.rt: document 01's calls and single-file maps (tests/model)
+mod reformulations; // reformulations.rt: a map in the place of another (tests/reformulation/model.py)
 
 // What was read so far of the line and the word under way; the family of the section; and what its lines before came to.
 struct State {
@@ -107,6 +108,7 @@ fn agrees(family: u64, l: Line) -> bool {
         4 => several::agrees(l),
         5 => engine::agrees(l),
         6 => questions::agrees(l),
+        7 => reformulations::agrees(l),
         _ => false,
     }
 }
@@ -120,6 +122,7 @@ fn report(family: u64, t: Tally) {
         4 => named(b"several\n", t),
         5 => named(b"engine\n", t),
         6 => questions::report(t),
+        7 => reformulations::report(t),
         _ => {}
     }
 }

@@ -85,6 +85,8 @@ pub mod numbers {
         ENGINE_FRESH = 33;
         /// This is no row operation, or a coefficient would be too large.
         ENGINE_OPERATION = 34;
+        /// The numbers do not show that both maps have the same minimal solutions.
+        ENGINE_NOT_SHOWN = 36;
         /// A start has written its rows and its record.
         STARTED = 100;
         /// The budget is used up; a further call goes on from here.
@@ -119,6 +121,10 @@ pub mod numbers {
         AT_OR_BELOW = 126;
         /// No row of the list is at or below the tuple.
         NOWHERE = 127;
+        /// Both maps have the same minimal solutions.
+        ENGINE_SAME_LOOPS = 128;
+        /// The rows were written.
+        ENGINE_PROJECTED = 129;
         /// The equation was read.
         EQUATION_READ = 130;
         /// The equation was written; the place is the number of its bytes.

@@ -201,6 +201,51 @@ questions! {
     engine_decompose: dezgula_engine_decompose(times: &mut [u32] => times.as_mut_ptr(), times.len(); amount: &mut i64 => amount);
 }
 
+/// A map in the place of another, and what shows that both have the same minimal solutions: see `dezgula_engine.h`.
+#[derive(Clone, Copy, Debug, Default)]
+pub struct Reformulation<'a> {
+    /// The further unknowns.
+    pub further: usize,
+    /// The map with them, each in an equation of its own.
+    pub extended: &'a [i32],
+    /// The equations of the other map.
+    pub equations: usize,
+    /// The other map.
+    pub other: &'a [i32],
+    /// For each of its equations how often it is taken, and each of the extended map.
+    pub onto: &'a [i64],
+    /// For each equation of the extended map how often it is taken, and each of the other one.
+    pub back: &'a [i64],
+    /// For each further unknown how often its equation is taken, and each of the map.
+    pub above: &'a [i64],
+}
+
+/// `dezgula_engine_reformulates`: whether the numbers show it.
+pub fn engine_reformulates(m: Map, by: Reformulation) -> Answer {
+    let lent = sys::dezgula_reformulation {
+        further: by.further,
+        extended: by.extended.as_ptr(),
+        extended_len: by.extended.len(),
+        equations: by.equations,
+        other: by.other.as_ptr(),
+        other_len: by.other.len(),
+        onto: by.onto.as_ptr(),
+        onto_len: by.onto.len(),
+        back: by.back.as_ptr(),
+        back_len: by.back.len(),
+        above: by.above.as_ptr(),
+        above_len: by.above.len(),
+    };
+    // SAFETY: the pointers are those of slices, with their lengths, and live as long as the call, which writes nothing.
+    Answer(unsafe { sys::dezgula_engine_reformulates(&m.lent(), &lent) })
+}
+
+/// `dezgula_engine_project`: the first q numbers of each row of q and `further` numbers.
+pub fn engine_project(q: usize, further: usize, list: Found, out: &mut [u32]) -> Answer {
+    // SAFETY: as for the questions.
+    Answer(unsafe { sys::dezgula_engine_project(q, further, &list.lent(), out.as_mut_ptr(), out.len()) })
+}
+
 /// `dezgula_listing`: the list of a single-file map as text.
 pub fn listing(m: Map, list: Found, out: &mut [u8]) -> Answer {
     // SAFETY: as for the questions; a char of C has the size of a byte.

@@ -150,6 +150,24 @@ pub struct dezgula_solver {
     _neither_sent_nor_shared: PhantomData<(*mut u8, PhantomPinned)>,
 }
 
+/// What shows that another map has the same minimal solutions.
+#[repr(C)]
+#[derive(Clone, Copy, Debug)]
+pub struct dezgula_reformulation {
+    pub further: usize,
+    pub extended: *const i32,
+    pub extended_len: usize,
+    pub equations: usize,
+    pub other: *const i32,
+    pub other_len: usize,
+    pub onto: *const i64,
+    pub onto_len: usize,
+    pub back: *const i64,
+    pub back_len: usize,
+    pub above: *const i64,
+    pub above_len: usize,
+}
+
 /// How far a solver is.
 #[repr(C)]
 #[derive(Clone, Copy, Debug, Default, PartialEq, Eq)]
@@ -257,6 +275,8 @@ extern "C" {
         times_len: usize,
         amount: *mut i64,
     ) -> u64;
+    pub fn dezgula_engine_reformulates(system: *const dezgula_system, by: *const dezgula_reformulation) -> u64;
+    pub fn dezgula_engine_project(q: usize, further: usize, list: *const dezgula_list, out: *mut u32, out_len: usize) -> u64;
 
     pub fn dezgula_solver_new(system: *const dezgula_system, answer: *mut u64) -> *mut dezgula_solver;
     pub fn dezgula_solver_new_from(system: *const dezgula_system, list: *const dezgula_list, answer: *mut u64) -> *mut dezgula_solver;
