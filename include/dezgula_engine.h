@@ -176,15 +176,17 @@ uint64_t dezgula_engine_project(size_t q, size_t further, const dezgula_list *li
 
 typedef struct dezgula_solver dezgula_solver;
 
-/* How far a solver is. It may try one order of the equations up to the last and then another, so that `done` can fall; `steps` never does. */
+/* How far a solver is. It may try one order of the equations up to the last and then another, or go over to another map with the same loops (a reformulation,
+ * as above), so that `done` can fall and `equations` can change; `steps` never falls. */
 typedef struct {
-    size_t done, equations; /* equations done, of so many */
+    size_t done, equations; /* equations done, of so many, of the map that is listed */
     uint64_t rows;          /* of the stage under way, or else of the basis */
     dezgula_steps steps;    /* turns taken, those of orders that were given up included */
 } dezgula_solver_progress;
 
 /* A solver for a map, of which it keeps a copy. NULL where the map is refused, or there is no memory: *answer then has 1, 2, 3, 7 or 31, and else
- * DEZGULA_STARTED. It costs up to a million operations, as equations that follow from others, and sums that no solution meets, are looked for. */
+ * DEZGULA_STARTED. It costs up to some million operations, as equations that follow from others, sums that no solution meets, and reformulations are looked
+ * for. */
 dezgula_solver *dezgula_solver_new(const dezgula_system *system, uint64_t *answer) DEZGULA_LOOK_AT_IT;
 
 /* The same from a list, whoever made it, and further equations over the same unknowns (dezgula_engine_start_from, with the same premise): those of `system`. It

@@ -1,5 +1,5 @@
 /* Tries the solver of dezgula_engine.h: refused maps, equations that are zero, repeated or combinations, pauses after every few turns, saved and loaded at each
- * of them, rules that race, lists handed over to further equations, words that were damaged, and a limit of memory. Status 1 at the first thing wrong. */
+ * of them, reformulations, lists handed over to further equations, words that were damaged, and a limit of memory. Status 1 at the first thing wrong. */
 #include "dezgula_engine.h"
 
 #include <inttypes.h>
