@@ -125,6 +125,30 @@ fn damaged_bytes_of_a_solver() {
     assert!(loaded > 20, "{loaded}");
 }
 
+/// 2 x = 3 y by x = 3 z and y = 2 z, where z = x - y: what shows it, one number changed, and the list without z.
+#[test]
+fn a_map_in_the_place_of_another() {
+    let (map, shown) = (
+        calls::Map { p: 1, q: 2, coefs: &[2, -3] },
+        calls::Reformulation {
+            further: 1,
+            extended: &[2, -3, 0, 1, -1, -1],
+            equations: 2,
+            other: &[1, 0, -3, 0, 1, -2],
+            onto: &[1, 1, -3, 1, 1, -2],
+            back: &[1, -2, 3, 1, -1, 1],
+            above: &[2, -1],
+        },
+    );
+    assert_eq!(calls::engine_reformulates(map, shown).number(), numbers::ENGINE_SAME_LOOPS);
+    assert_eq!(calls::engine_reformulates(map, calls::Reformulation { above: &[1, 0], ..shown }).number(), numbers::ENGINE_NOT_SHOWN);
+    assert_eq!(calls::engine_reformulates(map, calls::Reformulation { back: &[], ..shown }).number(), numbers::COUNT);
+    let (list, mut out) = (calls::Found { rows: &[3, 2, 1], found: 1 }, [9; 3]);
+    assert_eq!(calls::engine_project(2, 1, list, &mut out[..1]).number(), numbers::OUTPUT_SHORT);
+    assert_eq!(calls::engine_project(2, 1, list, &mut out).number(), numbers::ENGINE_PROJECTED);
+    assert_eq!(out, [3, 2, 9]);
+}
+
 /// The engine's own calls in lent tables: one equation after the other, with room for so many rows.
 #[test]
 fn the_calls_of_the_engine() {
