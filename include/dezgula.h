@@ -59,7 +59,7 @@ const char *dezgula_version(void);
 
 /* ---- answers */
 
-/* The numbers of the answers. dezgula_text.h names 9, 10, 16 to 22, 106 to 108 and 130 to 132, and dezgula_engine.h names 31 to 34. 13 is retired: it is
+/* The numbers of the answers. dezgula_text.h names 9, 10, 16 to 22, 106 to 108 and 130 to 132, and dezgula_engine.h names 31 to 35. 13 is retired: it is
  * given to nothing. Of the refusals before the walk the first, in rising number, is given, but for those whose place in the order is told here. */
 enum {
     DEZGULA_COMPLETE = 0, /* the run is at its end: what it lists is whole */

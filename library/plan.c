@@ -33,13 +33,21 @@ enum { TRYING, LAST, COMPLETE };
 static const double NEVER = 1e300;
 static const uint64_t MOST_PACE = UINT64_C(1) << 40;
 
+/* a map with right sides and a lower bound; and the rows handed out once the list is complete, `loops` and then `smallest` of them */
+typedef struct {
+    int32_t coefs[COEFFICIENTS], rights[MOST];
+    uint32_t lower[MOST], *rows;
+    size_t loops, smallest;
+} sides;
+
 struct dezgula_solver {
     size_t p, q;
     int32_t coefs[COEFFICIENTS], equations[COEFFICIENTS], kept_equations[COEFFICIENTS];
     dezgula_engine_run run;
     uint32_t *list; /* the rows that it starts from, NULL where it starts from the unit tuples */
     size_t list_len;
-    uint32_t tied;  /* bit by unknown: the list has not just its unit tuple, so that no stage can go without it */
+    uint32_t tied;  /* bit by unknown: the list has not just its unit tuple, or it has a cap, so that no stage can go without it */
+    sides *wanted;  /* what a solver for right sides and a lower bound was given, NULL of others: its first unknown is the extra one */
     uint32_t *kept; /* the basis of the try that is kept while the other goes on */
     size_t kept_len, most;
     dezgula_engine_record kept_record;
@@ -535,13 +543,24 @@ static uint64_t operate(dezgula_solver *s, const system_left *l)
     for (size_t i = 0; answer == DEZGULA_STARTED && i < l->operations; i++) answer = combine(s, l->done[i].row, 1, l->done[i].by, l->done[i].times);
     return answer;
 }
+/* what a solver is for, without the extra unknown where there is one */
+static dezgula_system map_of(const dezgula_solver *s)
+{
+    const size_t q = s->wanted != NULL ? s->q - 1 : s->q;
+    return (dezgula_system){s->p, q, s->wanted != NULL ? s->wanted->coefs : s->coefs, s->p * q};
+}
+static uint64_t start(const dezgula_solver *s, dezgula_engine_run *run)
+{
+    const dezgula_system map = map_of(s);
+    if (s->wanted != NULL) return dezgula_engine_start_sides(&map, s->wanted->rights, map.p, s->wanted->lower, map.q, run);
+    const dezgula_list list = {s->list, s->list_len, s->list_len / s->q};
+    return s->list != NULL ? dezgula_engine_start_from(&map, &list, run) : dezgula_engine_start(&map, run);
+}
 static uint64_t begin(dezgula_solver *s, uint64_t rule, uint64_t limit)
 {
-    dezgula_system map = {s->p, s->q, s->coefs, s->p * s->q};
     s->past += s->run.record.steps.count;
     s->rule = rule, s->limit = limit, s->phase = TRYING;
-    dezgula_list list = {s->list, s->list_len, s->list_len / s->q};
-    uint64_t answer = s->list != NULL ? dezgula_engine_start_from(&map, &list, &s->run) : dezgula_engine_start(&map, &s->run);
+    uint64_t answer = start(s, &s->run);
     if (answer != DEZGULA_STARTED) return answer;
     find_combinations(s);
     if (rule == AS_IS) find_infeasible(s);
@@ -717,6 +736,14 @@ static bool set_list(dezgula_solver *s, const uint32_t *rows, size_t len)
     s->list_len = len, s->tied = find_tied(rows, len, s->q);
     return true;
 }
+/* the first try, where the map's own system is in place */
+static uint64_t first_try(dezgula_solver *s)
+{
+    if (races(s)) s->round = FIRST_RACE;
+    s->tried[AS_IS] = s->round;
+    s->over = s->failed = left_out(s);
+    return begin(s, AS_IS, s->round);
+}
 /* from the unit tuples, or from a list where it is not NULL */
 static dezgula_solver *new_solver(const dezgula_system *system, const dezgula_list *list, uint64_t *answer)
 {
@@ -732,15 +759,40 @@ static dezgula_solver *new_solver(const dezgula_system *system, const dezgula_li
     *answer = DEZGULA_ENGINE_FULL;
     if (s != NULL && (list == NULL || set_list(s, list->rows, list->rows_len)) && grow_basis(s, rows > q ? rows : q) && grow_table(s)) {
         memcpy(s->coefs, system->coefs, p * q * sizeof *s->coefs);
-        if (races(s)) s->round = FIRST_RACE;
-        s->tried[AS_IS] = s->round;
-        s->over = s->failed = left_out(s);
-        *answer = begin(s, AS_IS, s->round);
+        *answer = first_try(s);
     }
     if (*answer == DEZGULA_STARTED) {
         find_places(s);
         return s;
     }
+    dezgula_solver_free(s);
+    return NULL;
+}
+/* room for what it is given; false where there is no memory. The extra unknown is never fresh */
+static bool set_sides(dezgula_solver *s)
+{
+    s->wanted = calloc(1, sizeof *s->wanted);
+    s->tied = 1;
+    return s->wanted != NULL;
+}
+dezgula_solver *dezgula_solver_new_sides(const dezgula_system *system, const int32_t *rights, const uint32_t *lower, uint64_t *answer)
+{
+    const size_t p = system->p, q = system->q;
+    *answer = p < 1 || p > MOST ? (uint64_t)DEZGULA_EQUATIONS
+            : q < 1 || q > MOST - 1 ? (uint64_t)DEZGULA_UNKNOWNS
+            : system->coefs == NULL || system->coefs_len != p * q ? (uint64_t)DEZGULA_COUNT : 0;
+    if (*answer != 0) return NULL;
+    dezgula_solver *s = blank(p, q + 1);
+    *answer = DEZGULA_ENGINE_FULL;
+    if (s != NULL && set_sides(s) && grow_basis(s, q + 1) && grow_table(s)) {
+        memcpy(s->wanted->coefs, system->coefs, p * q * sizeof *s->wanted->coefs);
+        if (rights != NULL) memcpy(s->wanted->rights, rights, p * sizeof *rights);
+        if (lower != NULL) memcpy(s->wanted->lower, lower, q * sizeof *lower);
+        *answer = start(s, &s->run);
+        memcpy(s->coefs, s->equations, sizeof s->coefs);
+    }
+    if (*answer == DEZGULA_STARTED) *answer = first_try(s);
+    if (*answer == DEZGULA_STARTED) return find_places(s), s;
     dezgula_solver_free(s);
     return NULL;
 }
@@ -755,6 +807,30 @@ static size_t most_rows(const dezgula_solver *s)
     for (size_t bit = (size_t)1 << 24; bit > 0; bit /= 2)
         if ((rows + bit) * (rows + bit) <= RACE_ROWS * s->limit) rows += bit;
     return rows;
+}
+/* the rows with `first` in the extra unknown, without it and with the bound added, from `to` on; how many */
+static size_t hand_rows(const dezgula_solver *s, uint32_t first, const uint32_t *bound, uint32_t *to)
+{
+    size_t n = 0, q = s->q - 1;
+    const uint32_t *row = s->run.basis;
+    for (size_t i = 0; i < s->run.record.count; i++, row += s->q) {
+        if (row[0] != first) continue;
+        for (size_t j = 0; j < q; j++) to[n * q + j] = row[1 + j] + (bound != NULL ? bound[j] : 0);
+        n++;
+    }
+    return n;
+}
+/* both lists of a complete solver for right sides or a lower bound; false where there is no memory for them */
+static bool hand_out(dezgula_solver *s)
+{
+    sides *w = s->wanted;
+    if (w == NULL || w->rows != NULL || s->phase != COMPLETE) return true;
+    const size_t count = s->run.record.count, q = s->q - 1;
+    w->rows = malloc((count > 0 ? count * q : 1) * sizeof *w->rows);
+    if (w->rows == NULL) return false;
+    w->loops = hand_rows(s, 0, NULL, w->rows);
+    w->smallest = hand_rows(s, 1, w->lower, w->rows + w->loops * q);
+    return true;
 }
 /* one call of the engine, or the choice of the next equation; DEZGULA_PAUSED where there is more to do */
 static uint64_t step(dezgula_solver *s, uint64_t budget)
@@ -779,6 +855,7 @@ static uint64_t step(dezgula_solver *s, uint64_t budget)
         return answer == 0 ? (uint64_t)DEZGULA_PAUSED : answer;
     }
     if (answer == DEZGULA_COMPLETE) s->phase = COMPLETE;
+    if (answer == DEZGULA_COMPLETE && !hand_out(s)) return DEZGULA_ENGINE_FULL;
     if (answer == DEZGULA_ENGINE_FULL && (r->rows == s->run.words_len ? grow_table(s) : grow_basis(s, 0))) return DEZGULA_PAUSED;
     if (answer == DEZGULA_COMPONENT || answer == DEZGULA_STEPS_AT_LIMIT) {
         answer = give_up(s, answer);
@@ -796,7 +873,7 @@ static uint64_t work(dezgula_solver *s, uint64_t budget)
 }
 uint64_t dezgula_solver_work(dezgula_solver *s, uint64_t budget)
 {
-    if (s->phase == COMPLETE) return DEZGULA_COMPLETE;
+    if (s->phase == COMPLETE) return hand_out(s) ? (uint64_t)DEZGULA_COMPLETE : (uint64_t)DEZGULA_ENGINE_FULL;
     if (budget != 0) return work(s, budget);
     const clock_t fifty = CLOCKS_PER_SEC / 20, begun = clock();
     uint64_t answer = DEZGULA_PAUSED;
@@ -811,7 +888,7 @@ uint64_t dezgula_solver_work(dezgula_solver *s, uint64_t budget)
 
 void dezgula_solver_limit(dezgula_solver *s, size_t most) { s->most = most; }
 
-dezgula_system dezgula_solver_system(const dezgula_solver *s) { return (dezgula_system){s->p, s->q, s->coefs, s->p * s->q}; }
+dezgula_system dezgula_solver_system(const dezgula_solver *s) { return map_of(s); }
 
 dezgula_solver_progress dezgula_solver_told(const dezgula_solver *s)
 {
@@ -822,8 +899,15 @@ dezgula_solver_progress dezgula_solver_told(const dezgula_solver *s)
 
 const uint32_t *dezgula_solver_rows(const dezgula_solver *s, size_t *count)
 {
-    *count = s->phase == COMPLETE ? s->run.record.count : 0;
-    return s->phase == COMPLETE ? s->run.basis : NULL;
+    const bool complete = s->phase == COMPLETE && (s->wanted == NULL || s->wanted->rows != NULL);
+    *count = !complete ? 0 : s->wanted != NULL ? s->wanted->loops : s->run.record.count;
+    return !complete ? NULL : s->wanted != NULL ? s->wanted->rows : s->run.basis;
+}
+const uint32_t *dezgula_solver_smallest(const dezgula_solver *s, size_t *count)
+{
+    const bool complete = s->wanted != NULL && s->wanted->rows != NULL;
+    *count = complete ? s->wanted->smallest : 0;
+    return complete ? s->wanted->rows + s->wanted->loops * (s->q - 1) : NULL;
 }
 
 void dezgula_solver_free(dezgula_solver *s)
@@ -831,13 +915,15 @@ void dezgula_solver_free(dezgula_solver *s)
     if (s == NULL) return;
     void *tables[10] = {s->run.basis, s->run.sizes, s->run.table, s->run.values, s->run.words, s->run.degrees, s->run.marks, s->run.mothers, s->kept, s->list};
     for (size_t i = 0; i < 10; i++) free(tables[i]);
+    if (s->wanted != NULL) free(s->wanted->rows);
+    free(s->wanted);
     free(s);
 }
 
 /* ---- a solver as words: a sign, the sizes, the numbers, the three systems, and the rows of the tables; and where it has another sign, those of the list that
- * it starts from, which are the words left */
+ * it starts from, which are the words left, or the map, the right sides and the bound */
 
-enum { SIGN = 0x445A4733, LIST_SIGN = 0x445A4734, OWN = 11 + RULES, NUMBERS = OWN + 2 * RECORD };
+enum { SIGN = 0x445A4735, LIST_SIGN = 0x445A4736, SIDES_SIGN = 0x445A4737, OWN = 11 + RULES, NUMBERS = OWN + 2 * RECORD };
 
 static void numbers_of(const dezgula_solver *s, uint64_t n[NUMBERS])
 {
@@ -856,10 +942,12 @@ static void set_numbers(dezgula_solver *s, const uint64_t n[NUMBERS])
     s->kept_record = dezgula_engine_unpack(n + OWN + RECORD);
 }
 static size_t fixed_words(size_t p, size_t q) { return 3 + 2 * NUMBERS + 3 * p * q; }
+static size_t sides_words(size_t p, size_t q) { return p * (q - 1) + p + q - 1; } /* of q unknowns, the extra one included */
 
 size_t dezgula_solver_saved_length(const dezgula_solver *s)
 {
-    return fixed_words(s->p, s->q) + s->run.record.count * s->q + s->run.record.rows * (s->q + 1) + s->kept_len + s->list_len;
+    return fixed_words(s->p, s->q) + s->run.record.count * s->q + s->run.record.rows * (s->q + 1) + s->kept_len + s->list_len +
+           (s->wanted != NULL ? sides_words(s->p, s->q) : 0);
 }
 static uint32_t *put(uint32_t *to, const void *from, size_t n)
 {
@@ -868,7 +956,7 @@ static uint32_t *put(uint32_t *to, const void *from, size_t n)
 }
 void dezgula_solver_save(const dezgula_solver *s, uint32_t *words)
 {
-    const uint32_t head[3] = {s->list != NULL ? LIST_SIGN : SIGN, (uint32_t)s->p, (uint32_t)s->q};
+    const uint32_t head[3] = {s->wanted != NULL ? SIDES_SIGN : s->list != NULL ? LIST_SIGN : SIGN, (uint32_t)s->p, (uint32_t)s->q};
     uint64_t n[NUMBERS];
     numbers_of(s, n);
     uint32_t *to = put(words, head, 3);
@@ -880,7 +968,11 @@ void dezgula_solver_save(const dezgula_solver *s, uint32_t *words)
     to = put(to, s->run.table, s->run.record.rows * s->q);
     to = put(to, s->run.mothers, s->run.record.rows);
     to = put(to, s->kept, s->kept_len);
-    put(to, s->list, s->list_len);
+    to = put(to, s->list, s->list_len);
+    if (s->wanted == NULL) return;
+    to = put(to, s->wanted->coefs, s->p * (s->q - 1));
+    to = put(to, s->wanted->rights, s->p);
+    put(to, s->wanted->lower, s->q - 1);
 }
 
 static bool right_numbers(const dezgula_solver *s, size_t length)
@@ -890,8 +982,9 @@ static bool right_numbers(const dezgula_solver *s, size_t length)
     const bool done = r->equation == s->p && r->done == (s->p < 32 ? (UINT32_C(1) << s->p) - 1 : UINT32_MAX);
     if (s->phase > COMPLETE || s->rule >= RULES || s->kept_rule >= RULES || s->over > ALL_RULES || s->failed > ALL_RULES) return false;
     if (s->late >> s->p != 0 || s->round == 0 || s->pace == 0 || s->pace > 2 * MOST_PACE || s->past > UINT64_MAX / 2) return false;
-    if (r->count > most || r->rows > most || done != (s->phase == COMPLETE)) return false;
-    return s->promised == UINT64_MAX || (k->count <= most && k->equation == s->p && k->rows == 0);
+    const uint64_t cap = s->wanted != NULL;
+    if (r->count > most || r->rows > most || done != (s->phase == COMPLETE) || r->cap != cap) return false;
+    return s->promised == UINT64_MAX || (k->count <= most && k->equation == s->p && k->rows == 0 && k->cap == cap);
 }
 /* a basis as the engine is lent it has room for q rows at least */
 static size_t kept_room(const dezgula_solver *s) { return s->kept_len > s->q * s->q ? s->kept_len : s->q * s->q; }
@@ -912,15 +1005,28 @@ static bool load_tables(dezgula_solver *s, const uint32_t *from, bool from_list,
     s->kept = calloc(kept_room(s), sizeof *s->kept);
     if (s->kept == NULL) return false;
     memcpy(s->kept, from, s->kept_len * sizeof *from), from += s->kept_len;
-    return !from_list || set_list(s, from, listed);
+    if (s->wanted == NULL) return !from_list || set_list(s, from, listed);
+    memcpy(s->wanted->coefs, from, s->p * (q - 1) * sizeof *from), from += s->p * (q - 1);
+    memcpy(s->wanted->rights, from, s->p * sizeof *from), from += s->p;
+    memcpy(s->wanted->lower, from, (q - 1) * sizeof *from);
+    return true;
+}
+/* whether the map's coefficients are in range, and with right sides the working system is the one that a start writes */
+static bool own_system(const dezgula_solver *s)
+{
+    for (size_t k = 0; s->wanted == NULL && k < s->p * s->q; k++)
+        if (s->coefs[k] < -DEZGULA_COEFFICIENT_LIMIT || s->coefs[k] > DEZGULA_COEFFICIENT_LIMIT) return false;
+    if (s->wanted == NULL) return true;
+    int32_t equations[COEFFICIENTS] = {0};
+    uint32_t basis[COEFFICIENTS], sizes[MOST];
+    dezgula_engine_run run = {.equations = equations, .equations_len = s->p * s->q, .basis = basis, .basis_len = COEFFICIENTS, .sizes = sizes, .sizes_len = MOST};
+    return start(s, &run) == DEZGULA_STARTED && memcmp(equations, s->coefs, s->p * s->q * sizeof *equations) == 0;
 }
 /* The engine's call looks at everything before its first turn; a solver reads rows and equations before it makes the next call, so it is asked first. */
 static bool in_order(const dezgula_solver *s)
 {
     dezgula_engine_run run = s->run, kept = s->run;
-    if (!in_list(s->list, s->list_len, s->q)) return false;
-    for (size_t k = 0; k < s->p * s->q; k++)
-        if (s->coefs[k] < -DEZGULA_COEFFICIENT_LIMIT || s->coefs[k] > DEZGULA_COEFFICIENT_LIMIT) return false;
+    if (!in_list(s->list, s->list_len, s->q) || !own_system(s)) return false;
     uint64_t answer = dezgula_engine_resume(s->p, s->q, &run, 0);
     if (answer != DEZGULA_PAUSED && answer != DEZGULA_COMPLETE) return false;
     if (s->promised == UINT64_MAX) return true;
@@ -932,14 +1038,15 @@ static bool in_order(const dezgula_solver *s)
 dezgula_solver *dezgula_solver_load(const uint32_t *words, size_t length, uint64_t *answer)
 {
     *answer = DEZGULA_OUT_OF_ORDER;
-    const bool from_list = words != NULL && length > 0 && words[0] == LIST_SIGN;
-    if (words == NULL || length < 3 || (words[0] != SIGN && !from_list) || words[1] < 1 || words[1] > MOST || words[2] < 1 || words[2] > MOST) return NULL;
+    const bool from_list = words != NULL && length > 0 && words[0] == LIST_SIGN, sided = words != NULL && length > 0 && words[0] == SIDES_SIGN;
+    if (words == NULL || length < 3 || (words[0] != SIGN && !from_list && !sided)) return NULL;
+    if (words[1] < 1 || words[1] > MOST || words[2] < (sided ? 2 : 1) || words[2] > MOST) return NULL;
     const size_t p = words[1], q = words[2];
     if (length < fixed_words(p, q)) return NULL;
     uint64_t n[NUMBERS];
     for (size_t i = 0; i < NUMBERS; i++) n[i] = words[3 + 2 * i] | (uint64_t)words[4 + 2 * i] << 32;
     dezgula_solver *s = blank(p, q);
-    if (s == NULL) return *answer = DEZGULA_ENGINE_FULL, NULL;
+    if (s == NULL || (sided && !set_sides(s))) return *answer = DEZGULA_ENGINE_FULL, dezgula_solver_free(s), NULL;
     set_numbers(s, n);
     bool right = right_numbers(s, length);
     if (right && s->promised != UINT64_MAX) s->kept_len = s->kept_record.count * q;
@@ -947,6 +1054,7 @@ dezgula_solver *dezgula_solver_load(const uint32_t *words, size_t length, uint64
     right = right && others <= length && (from_list ? listed % q == 0 : listed == 0);
     *answer = right ? (uint64_t)DEZGULA_ENGINE_FULL : (uint64_t)DEZGULA_OUT_OF_ORDER;
     if (right && load_tables(s, words + 3 + 2 * NUMBERS, from_list, listed)) *answer = in_order(s) ? (uint64_t)DEZGULA_STARTED : (uint64_t)DEZGULA_OUT_OF_ORDER;
+    if (*answer == DEZGULA_STARTED && !hand_out(s)) *answer = DEZGULA_ENGINE_FULL;
     if (*answer == DEZGULA_STARTED) {
         find_places(s);
         return s;
