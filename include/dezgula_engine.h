@@ -1,8 +1,8 @@
 /* Dezgula: the whole basis of a map of up to 32 equations and 32 unknowns, one stage an equation, each stage by rising degree.
  *
  * Two ways to use it. The solver (dezgula_solver_new and the calls after it) does everything by itself: it chooses the order of the equations, grows its
- * tables, and works as long as it is let. The engine's own calls (dezgula_engine_start, _start_from, _combine, _take, _resume) are what it goes by: they are
- * proved, work in lent tables, and trust nothing that they are lent. No promise depends on the solver: it only says which of these calls is next.
+ * tables, and works as long as it is let. The engine's own calls (dezgula_engine_start, _start_sides, _start_from, _combine, _take, _resume) are what it goes
+ * by: they are proved, work in lent tables, and trust nothing that they are lent. No promise depends on the solver: it only says which of these is next.
  *
  * The degree of a row is the sum of its components. Between two stages the basis has exactly the minimal solutions of the equations done; at first none is
  * done and its rows are the unit tuples. A stage takes one equation more. Its table gets, by rising degree, the rows of the basis and the sums of pairs of rows
@@ -37,13 +37,14 @@ extern "C" {
  * DEZGULA_PAUSED: the budget is used up, or the stage is at its end and record.equation is p, so that the next equation can be taken.
  * Refused, with nothing changed: 1, p is outside 1 to 32; 2, q is outside 1 to 32; 3, the coefficients are not p * q; 4, the working system has room for fewer
  * than p * q numbers, or the basis for fewer than q rows; 6, the record or the rows are out of order; 7, a coefficient of the map is outside -10,000 to
- * 10,000 (with its place); 32; 33; 34. Refused by a turn, with all as after the last whole turn: 12, a row that is needed has a component above
+ * 10,000 (with its place); 32; 33; 34; of a start for right sides and lower bounds also 5, 8, 15 and 35. Refused by a turn, with all as after the last whole turn: 12, a row that is needed has a component above
  * 1,000,000; 14, the steps are at their limit; 31. */
 enum {
     DEZGULA_ENGINE_FULL = 31,     /* there is no room for a row that is needed: with longer tables and the same rows the run goes on */
     DEZGULA_ENGINE_EQUATION = 32, /* no such equation is left, or a stage is under way */
     DEZGULA_ENGINE_FRESH = 33,    /* the unknown is neither q, which is none, nor one that no equation done mentions and of the basis only its unit tuple has, with -1 */
     DEZGULA_ENGINE_OPERATION = 34, /* 0 times the equation itself, or itself added, or a coefficient would be outside -1,000,000 to 1,000,000 */
+    DEZGULA_ENGINE_SIDE = 35,      /* a right side less what the bound makes of its equation is outside -1,000,000 to 1,000,000 (with its place) */
     DEZGULA_ENGINE_NOT_SHOWN = 36, /* the numbers do not show that both maps have the same minimal solutions */
 
     /* Not refused. */
@@ -62,6 +63,7 @@ typedef struct {
     uint64_t degree;       /* the present degree */
     uint64_t upper, lower; /* the pair of rows to go on from */
     dezgula_steps steps;   /* turns taken since the start */
+    uint64_t cap;          /* the most that the first unknown may be in any row; 0 where there is no such cap */
 } dezgula_engine_record;
 
 /* What a run is lent, and its record. A start sets the record; until then it may hold anything. */
@@ -91,13 +93,23 @@ typedef struct {
  * sum with up to `rows` rows; one that goes to the next degree, and the end of a stage, look at every row. */
 
 /* The record as words, in the order of its fields, to be kept in a file; and the record of such words. */
-enum { DEZGULA_ENGINE_RECORD_LENGTH = 10 };
+enum { DEZGULA_ENGINE_RECORD_LENGTH = 11 };
 void dezgula_engine_pack(dezgula_engine_record record, uint64_t words[DEZGULA_ENGINE_RECORD_LENGTH]);
 dezgula_engine_record dezgula_engine_unpack(const uint64_t words[DEZGULA_ENGINE_RECORD_LENGTH]);
 
 /* The start: copies the map's coefficients to the working system. Answers DEZGULA_STARTED, or refuses with 1, 2, 3, 4 or 7.
  * Started: the first q rows of the basis are the unit tuples, the record says so, and nothing else is written. Refused: changes nothing. */
 uint64_t dezgula_engine_start(const dezgula_system *system, dezgula_engine_run *run) DEZGULA_LOOK_AT_IT;
+
+/* The start for right sides and lower bounds, A x = b with x at or above a bound: p right sides, all 0 where there are none, and a bound of q numbers, all 0
+ * where there is none. An unknown more stands first in the working system and in every row, with the negated right sides, less what the bound makes of the
+ * equations, as its column; no row ever has more than 1 there. So q is at most 31, the calls after it take q + 1, and tables have room for so many numbers a
+ * row. Answers DEZGULA_STARTED, or refuses with 1, 2, 3 (also where the right sides are not p), 4, 5 (the bound is not q numbers), 7, 8 (a number of the bound
+ * is above 1,000,000), 15 (a right side is outside -10,000 to 10,000) or 35. Started: as dezgula_engine_start, with 1 as the cap. Refused: changes nothing.
+ * Of a complete run the rows with 0 first are the minimal solutions of A x = 0; those with 1 first, with the bound added, are the smallest tuples at or above
+ * the bound that meet the right sides; each once and no other. Where there are none of these, nothing at or above the bound meets the right sides. */
+uint64_t dezgula_engine_start_sides(const dezgula_system *system, const int32_t *rights, size_t rights_len, const uint32_t *lower, size_t lower_len,
+                                    dezgula_engine_run *run) DEZGULA_LOOK_AT_IT;
 
 /* The start from a list, whoever made it, with further equations: those of `system`, over the same unknowns. The list is `found` rows of q numbers, and
  * rows_len is found * q. Answers DEZGULA_STARTED, or refuses with 1, 2, 3, 4 (also where the basis has room for fewer rows than the list), 6 (the list is
@@ -193,6 +205,11 @@ dezgula_solver *dezgula_solver_new(const dezgula_system *system, uint64_t *answe
  * keeps a copy of both. *answer may also have 6, the list is out of order. The complete list is that of the equations before and these together. */
 dezgula_solver *dezgula_solver_new_from(const dezgula_system *system, const dezgula_list *list, uint64_t *answer) DEZGULA_LOOK_AT_IT;
 
+/* The same for right sides and a lower bound (dezgula_engine_start_sides), of which it keeps a copy: p right sides and q numbers; NULL is all 0. *answer may
+ * also have 5, 8, 15 or 35. dezgula_solver_rows has the minimal solutions without right sides, and dezgula_solver_smallest the smallest tuples at or above
+ * the bound that meet the right sides. */
+dezgula_solver *dezgula_solver_new_sides(const dezgula_system *system, const int32_t *rights, const uint32_t *lower, uint64_t *answer) DEZGULA_LOOK_AT_IT;
+
 /* Works for about `budget` turns; 0 is as many as take about 50 ms. Answers DEZGULA_PAUSED, DEZGULA_COMPLETE, or a refusal: 12, 14, or 31 where no more rows
  * fit into memory or into the limit. After 31 it may be called again, when there is more memory or a higher limit. */
 uint64_t dezgula_solver_work(dezgula_solver *solver, uint64_t budget) DEZGULA_LOOK_AT_IT;
@@ -207,6 +224,9 @@ dezgula_system dezgula_solver_system(const dezgula_solver *solver);
 
 /* The rows of the complete list, of q numbers each, and how many there are; NULL and 0 before it is complete. They are valid until the solver is freed. */
 const uint32_t *dezgula_solver_rows(const dezgula_solver *solver, size_t *count);
+
+/* The smallest tuples of a solver for right sides or a lower bound, with the bound added, as dezgula_solver_rows has its rows; NULL and 0 of any other. */
+const uint32_t *dezgula_solver_smallest(const dezgula_solver *solver, size_t *count);
 
 /* A solver as words, to be kept in a file and gone on from elsewhere: how many, and the words. Saving and loading cost some operations for each word. */
 size_t dezgula_solver_saved_length(const dezgula_solver *solver);

@@ -25,7 +25,7 @@ uint64_t dezgula_place(uint64_t answer)
 static const char *const sentences[] = {
     [DEZGULA_COMPLETE] = "The run is complete: what it lists is whole.",
     [DEZGULA_EQUATIONS] = "The number of equations is out of range: 1 to 8, for the engine 1 to 32.",
-    [DEZGULA_UNKNOWNS] = "The number of unknowns is out of range: 1 to 16, with right sides 1 to 15, for the engine 1 to 32.",
+    [DEZGULA_UNKNOWNS] = "The number of unknowns is out of range: 1 to 16, with right sides 1 to 15, for the engine 1 to 32, or 1 to 31.",
     [DEZGULA_COUNT] = "There is not a coefficient for each unknown of each equation, or not a right side for each equation.",
     [DEZGULA_STACK_SHORT] = "The stack, or the table that the engine works in, is too short.",
     [DEZGULA_TUPLE_LENGTH] = "The lower bound or the tuple does not have a component for each unknown.",
@@ -57,6 +57,7 @@ static const char *const sentences[] = {
     [32] = "There is no such equation to take or to change, or one is under way.",
     [33] = "The unknown cannot be left out of this stage.",
     [34] = "This is no row operation, or a coefficient would pass 1,000,000.",
+    [35] = "A right side less what the lower bound makes of its equation is outside -1,000,000 to 1,000,000.",
     [36] = "The numbers do not show that both maps have the same minimal solutions.",
     [DEZGULA_STARTED] = "The run has started.",
     [DEZGULA_PAUSED] = "The run is paused, as its budget is used up.",

@@ -14,6 +14,7 @@ void dezgula_engine_pack(dezgula_engine_record record, uint64_t words[DEZGULA_EN
     words[7] = record.upper;
     words[8] = record.lower;
     words[9] = record.steps.count;
+    words[10] = record.cap;
 }
 
 dezgula_engine_record dezgula_engine_unpack(const uint64_t words[DEZGULA_ENGINE_RECORD_LENGTH])
@@ -29,11 +30,13 @@ dezgula_engine_record dezgula_engine_unpack(const uint64_t words[DEZGULA_ENGINE_
     record.upper = words[7];
     record.lower = words[8];
     record.steps.count = words[9];
+    record.cap = words[10];
     return record;
 }
 
 /* A table and its length, as the proved functions take them. */
 #define TABLE(of, name) dezgula_lent((of)->name), dezgula_lent_length((of)->name, (of)->name##_len)
+#define LENT(table, length) dezgula_lent(table), dezgula_lent_length(table, length)
 #define BASIS(run) TABLE(run, equations), TABLE(run, basis), TABLE(run, sizes)
 #define STAGE(run) TABLE(run, table), TABLE(run, values), TABLE(run, words), TABLE(run, degrees), TABLE(run, marks), TABLE(run, mothers)
 #define RECORD(record) (record), (size_t)DEZGULA_ENGINE_RECORD_LENGTH
@@ -51,6 +54,13 @@ dezgula_engine_record dezgula_engine_unpack(const uint64_t words[DEZGULA_ENGINE_
 uint64_t dezgula_engine_start(const dezgula_system *system, dezgula_engine_run *run)
 {
     ON_WORDS(run, dezgula_raw_engine_start(system->p, system->q, TABLE(system, coefs), BASIS(run), RECORD(record)));
+}
+
+uint64_t dezgula_engine_start_sides(const dezgula_system *system, const int32_t *rights, size_t rights_len, const uint32_t *lower, size_t lower_len,
+                                    dezgula_engine_run *run)
+{
+    ON_WORDS(run, dezgula_raw_engine_start_sides(system->p, system->q, TABLE(system, coefs), LENT(rights, rights_len), LENT(lower, lower_len), BASIS(run),
+                                                 RECORD(record)));
 }
 
 uint64_t dezgula_engine_start_from(const dezgula_system *system, const dezgula_list *list, dezgula_engine_run *run)
@@ -75,7 +85,6 @@ uint64_t dezgula_engine_resume(size_t p, size_t q, dezgula_engine_run *run, uint
 
 /* ---- questions about a list */
 
-#define LENT(table, length) dezgula_lent(table), dezgula_lent_length(table, length)
 #define LIST(list) LENT((list)->rows, (list)->rows_len)
 
 uint64_t dezgula_engine_locate(const dezgula_system *system, const dezgula_list *list, const uint32_t *tuple, size_t tuple_len)

@@ -34,9 +34,17 @@ enum { TRYING, LAST, COMPLETE, BEYOND }; /* beyond: some minimal solution has a 
 static const double NEVER = 1e300;
 static const uint64_t MOST_PACE = UINT64_C(1) << 40;
 
+/* right sides and a lower bound; and the rows handed out once the list is complete, `loops` and then `smallest` of them */
+typedef struct {
+    int32_t rights[MOST];
+    uint32_t lower[MOST], *rows;
+    size_t loops, smallest;
+} sides;
+
 struct dezgula_solver {
     size_t given_p, given_q;
-    int32_t given[COEFFICIENTS]; /* the map that it is for; what follows is of the one that is listed: the same, or its reformulation */
+    int32_t given[COEFFICIENTS]; /* the map that it is for; what follows is of the one that is listed: the same, with an extra unknown, or its reformulation */
+    sides *wanted;               /* NULL where there are none */
     uint64_t looked;             /* 1 where a reformulation was looked for */
     reformulation *form;         /* NULL where it is the same */
     uint32_t *projected;         /* the list of a reformulation, without its further unknowns */
@@ -68,7 +76,8 @@ typedef struct {
 
 static size_t bytes(const dezgula_solver *s, size_t rows, size_t count)
 {
-    return rows * (4 * s->q + 32) + count * (4 * s->q + 4) + (s->kept_len + s->list_len) * sizeof *s->kept + (s->form != NULL ? sizeof *s->form : 0);
+    return rows * (4 * s->q + 32) + count * (4 * s->q + 4) + (s->kept_len + s->list_len) * sizeof *s->kept + (s->form != NULL ? sizeof *s->form : 0) +
+           (s->wanted != NULL ? sizeof *s->wanted : 0);
 }
 static bool longer(void **table, size_t n, size_t size)
 {
@@ -317,11 +326,11 @@ static double count_signs(const dezgula_solver *s, const int64_t *c, double *ups
     size_t shared = common > 0 ? bits((uint64_t)common) - 1 : 0;
     return spread(sum - shared * (up + down), up + down);
 }
-/* a map with large coefficients, not from a list */
+/* a map with large coefficients, alone */
 static bool is_large(const dezgula_solver *s)
 {
     bool large = false;
-    for (size_t k = 0; s->list == NULL && k < s->p * s->q; k++) large |= llabs(s->coefs[k]) >= LARGE_COEFFICIENT;
+    for (size_t k = 0; s->list == NULL && s->wanted == NULL && k < s->p * s->q; k++) large |= llabs(s->coefs[k]) >= LARGE_COEFFICIENT;
     return large;
 }
 /* how many sums of multiples of a row of value a and one of value -b have a value of 0 or more and are no sums of others: by the continued fraction of a / b */
@@ -429,13 +438,19 @@ static uint64_t operate(dezgula_solver *s, const row_operation *o, size_t n)
     for (size_t i = 0; answer == DEZGULA_STARTED && i < n; i++) answer = combine(s, o[i].row, 1, o[i].by, o[i].times);
     return answer;
 }
+static dezgula_system given_map(const dezgula_solver *s) { return (dezgula_system){s->given_p, s->given_q, s->given, s->given_p * s->given_q}; }
+static uint64_t start(const dezgula_solver *s, dezgula_engine_run *run)
+{
+    const dezgula_system given = given_map(s), map = {s->p, s->q, s->coefs, s->p * s->q};
+    if (s->wanted != NULL) return dezgula_engine_start_sides(&given, s->wanted->rights, given.p, s->wanted->lower, given.q, run);
+    const dezgula_list list = {s->list, s->list_len, s->list_len / s->q};
+    return s->list != NULL ? dezgula_engine_start_from(&map, &list, run) : dezgula_engine_start(&map, run);
+}
 static uint64_t begin(dezgula_solver *s, uint64_t rule, uint64_t limit)
 {
-    dezgula_system map = {s->p, s->q, s->coefs, s->p * s->q};
     s->past += s->run.record.steps.count;
     s->rule = rule, s->limit = limit, s->phase = s->form != NULL ? LAST : TRYING;
-    dezgula_list list = {s->list, s->list_len, s->list_len / s->q};
-    uint64_t answer = s->list != NULL ? dezgula_engine_start_from(&map, &list, &s->run) : dezgula_engine_start(&map, &s->run);
+    uint64_t answer = start(s, &s->run);
     if (answer == DEZGULA_STARTED && s->form != NULL) answer = operate(s, s->form->undo, s->form->operations);
     if (answer != DEZGULA_STARTED) return answer;
     find_combinations(s);
@@ -569,7 +584,6 @@ static void set_map(dezgula_solver *s, size_t p, size_t q, const int32_t *coefs)
     s->run.equations = s->equations, s->run.equations_len = p * q;
     s->run.table_len = s->run.words_len * q, s->run.basis_len = s->run.sizes_len * q;
 }
-static dezgula_system given_map(const dezgula_solver *s) { return (dezgula_system){s->given_p, s->given_q, s->given, s->given_p * s->given_q}; }
 static dezgula_solver *blank(size_t p, size_t q, const int32_t *coefs)
 {
     dezgula_solver *s = calloc(1, sizeof *s);
@@ -699,19 +713,71 @@ static dezgula_solver *new_solver(const dezgula_system *system, const dezgula_li
     dezgula_solver_free(s);
     return NULL;
 }
+/* room for what is wanted besides the loops; false where there is no memory. The extra unknown is never fresh */
+static bool set_sides(dezgula_solver *s)
+{
+    static const int32_t none[COEFFICIENTS];
+    s->wanted = calloc(1, sizeof *s->wanted);
+    s->tied = 1;
+    set_map(s, s->given_p, s->given_q + 1, none);
+    return s->wanted != NULL;
+}
+dezgula_solver *dezgula_solver_new_sides(const dezgula_system *system, const int32_t *rights, const uint32_t *lower, uint64_t *answer)
+{
+    const size_t p = system->p, q = system->q;
+    *answer = p < 1 || p > MOST ? (uint64_t)DEZGULA_EQUATIONS
+            : q < 1 || q > MOST - 1 ? (uint64_t)DEZGULA_UNKNOWNS
+            : system->coefs == NULL || system->coefs_len != p * q ? (uint64_t)DEZGULA_COUNT : 0;
+    if (*answer != 0) return NULL;
+    dezgula_solver *s = blank(p, q, system->coefs);
+    *answer = DEZGULA_ENGINE_FULL;
+    if (s != NULL && set_sides(s) && grow_basis(s, q + 1) && grow_table(s)) {
+        if (rights != NULL) memcpy(s->wanted->rights, rights, p * sizeof *rights);
+        if (lower != NULL) memcpy(s->wanted->lower, lower, q * sizeof *lower);
+        *answer = start(s, &s->run);
+        memcpy(s->coefs, s->equations, sizeof s->coefs);
+    }
+    if (*answer == DEZGULA_STARTED) *answer = first_try(s);
+    if (*answer == DEZGULA_STARTED) return s;
+    dezgula_solver_free(s);
+    return NULL;
+}
 dezgula_solver *dezgula_solver_new(const dezgula_system *system, uint64_t *answer) { return new_solver(system, NULL, answer); }
 dezgula_solver *dezgula_solver_new_from(const dezgula_system *system, const dezgula_list *list, uint64_t *answer) { return new_solver(system, list, answer); }
 
-/* the complete list, without the further unknowns of a reformulation; DEZGULA_ENGINE_FULL where there is no memory for that */
+/* the rows with `first` in the extra unknown, without it and with the bound added, from `to` on; how many */
+static size_t hand_rows(const dezgula_solver *s, uint32_t first, const uint32_t *bound, uint32_t *to)
+{
+    size_t n = 0, q = s->given_q;
+    const uint32_t *row = s->run.basis;
+    for (size_t i = 0; i < s->run.record.count; i++, row += s->q) {
+        if (row[0] != first) continue;
+        for (size_t j = 0; j < q; j++) to[n * q + j] = row[1 + j] + (bound != NULL ? bound[j] : 0);
+        n++;
+    }
+    return n;
+}
+/* room for the complete list as it is handed out; NULL where there is no memory */
+static uint32_t *room_for_list(const dezgula_solver *s)
+{
+    const size_t all = s->run.record.count * s->given_q * sizeof(uint32_t);
+    return bytes(s, s->run.words_len, s->run.sizes_len) + all > s->most ? NULL : malloc(all > 0 ? all : 1);
+}
+/* the complete list as it is handed out: without the further unknowns of a reformulation; with right sides or a lower bound both lists. DEZGULA_ENGINE_FULL
+ * where there is no memory for that */
 static uint64_t hand_out(dezgula_solver *s)
 {
-    const size_t count = s->run.record.count, len = count * s->given_q;
-    if (s->form == NULL || s->projected != NULL) return DEZGULA_COMPLETE;
-    if (bytes(s, s->run.words_len, s->run.sizes_len) + len * sizeof *s->projected > s->most) return DEZGULA_ENGINE_FULL;
-    s->projected = malloc((len > 0 ? len : 1) * sizeof *s->projected);
-    if (s->projected == NULL) return DEZGULA_ENGINE_FULL;
-    const dezgula_list list = {s->run.basis, count * s->q, count};
-    const uint64_t answer = dezgula_engine_project(s->given_q, s->form->further, &list, s->projected, len);
+    uint32_t **rows = s->wanted != NULL ? &s->wanted->rows : &s->projected;
+    if ((s->wanted == NULL && s->form == NULL) || *rows != NULL) return DEZGULA_COMPLETE;
+    *rows = room_for_list(s);
+    if (*rows == NULL) return DEZGULA_ENGINE_FULL;
+    if (s->wanted != NULL) {
+        s->wanted->loops = hand_rows(s, 0, NULL, *rows);
+        s->wanted->smallest = hand_rows(s, 1, s->wanted->lower, *rows + s->wanted->loops * s->given_q);
+        return DEZGULA_COMPLETE;
+    }
+    const dezgula_list list = {s->run.basis, s->run.record.count * s->q, s->run.record.count};
+    const uint64_t answer = dezgula_engine_project(s->given_q, s->form->further, &list, *rows, s->run.record.count * s->given_q);
     return answer == DEZGULA_ENGINE_PROJECTED ? (uint64_t)DEZGULA_COMPLETE : answer;
 }
 static uint64_t turns(const dezgula_solver *s) { return s->past + s->run.record.steps.count; }
@@ -719,7 +785,7 @@ static uint64_t turns(const dezgula_solver *s) { return s->past + s->run.record.
 static uint64_t step(dezgula_solver *s, uint64_t budget)
 {
     dezgula_engine_record *r = &s->run.record;
-    const bool may_look = !s->looked && s->list == NULL;
+    const bool may_look = !s->looked && s->list == NULL && s->wanted == NULL;
     uint64_t answer;
     if (may_look && turns(s) >= LATE_TURNS) return look_again(s);
     if (may_look && budget > LATE_TURNS - turns(s)) budget = LATE_TURNS - turns(s);
@@ -778,9 +844,15 @@ dezgula_solver_progress dezgula_solver_told(const dezgula_solver *s)
 
 const uint32_t *dezgula_solver_rows(const dezgula_solver *s, size_t *count)
 {
-    const bool complete = s->phase == COMPLETE && (s->form == NULL || s->projected != NULL);
-    *count = complete ? s->run.record.count : 0;
-    return !complete ? NULL : s->form != NULL ? s->projected : s->run.basis;
+    const uint32_t *rows = s->phase != COMPLETE ? NULL : s->wanted != NULL ? s->wanted->rows : s->form != NULL ? s->projected : s->run.basis;
+    *count = rows == NULL ? 0 : s->wanted != NULL ? s->wanted->loops : s->run.record.count;
+    return rows;
+}
+const uint32_t *dezgula_solver_smallest(const dezgula_solver *s, size_t *count)
+{
+    const bool complete = s->wanted != NULL && s->wanted->rows != NULL;
+    *count = complete ? s->wanted->smallest : 0;
+    return complete ? s->wanted->rows + s->wanted->loops * s->given_q : NULL;
 }
 
 void dezgula_solver_free(dezgula_solver *s)
@@ -789,13 +861,17 @@ void dezgula_solver_free(dezgula_solver *s)
     void *tables[12] = {s->run.basis, s->run.sizes, s->run.table, s->run.values, s->run.words, s->run.degrees, s->run.marks, s->run.mothers,
                         s->kept,      s->list,      s->form,      s->projected};
     for (size_t i = 0; i < 12; i++) free(tables[i]);
+    if (s->wanted != NULL) free(s->wanted->rows);
+    free(s->wanted);
     free(s);
 }
 
-/* ---- a solver as words: a sign and the sizes of its map; where it has the sign of a reformulation, the map and the reformulation; the numbers, the three
- * systems, and the rows of the tables; and where it has the sign of a list, those of the list that it starts from, which are the words left */
+/* ---- a solver as words: a sign and the sizes of its map; where it has the sign of a reformulation, or of right sides and a lower bound, the map and those;
+ * the numbers, the three systems, and the rows of the tables; and where it has the sign of a list, those of the list that it starts from, which are the words
+ * left */
 
-enum { SIGN = 0x445A4735, LIST_SIGN = 0x445A4736, FORM_SIGN = 0x445A4737, HEAD = 3, SIZES = 2, OWN = 12 + RULES, NUMBERS = OWN + 2 * RECORD };
+enum { SIGN = 0x445A4735, LIST_SIGN = 0x445A4736, SIDES_SIGN = 0x445A4737, FORM_SIGN = 0x445A4738 };
+enum { HEAD = 3, SIZES = 2, OWN = 12 + RULES, NUMBERS = OWN + 2 * RECORD };
 
 static void numbers_of(const dezgula_solver *s, uint64_t n[NUMBERS])
 {
@@ -813,12 +889,14 @@ static void set_numbers(dezgula_solver *s, const uint64_t n[NUMBERS])
     s->run.record = dezgula_engine_unpack(n + OWN);
     s->kept_record = dezgula_engine_unpack(n + OWN + RECORD);
 }
-static size_t form_words(const dezgula_solver *s)
+/* what stands between the head and the numbers */
+static size_t given_words(const dezgula_solver *s)
 {
     const dezgula_system map = given_map(s);
-    return s->form == NULL ? 0 : SIZES + map.coefs_len + reformulation_length(&map, s->form);
+    if (s->wanted != NULL) return map.coefs_len + map.p + map.q;
+    return s->form != NULL ? SIZES + map.coefs_len + reformulation_length(&map, s->form) : 0;
 }
-static size_t fixed_words(const dezgula_solver *s) { return HEAD + form_words(s) + 2 * NUMBERS + 3 * s->p * s->q; }
+static size_t fixed_words(const dezgula_solver *s) { return HEAD + given_words(s) + 2 * NUMBERS + 3 * s->p * s->q; }
 
 size_t dezgula_solver_saved_length(const dezgula_solver *s)
 {
@@ -829,21 +907,26 @@ static uint32_t *put(uint32_t *to, const void *from, size_t n)
     if (n > 0) memcpy(to, from, n * sizeof *to);
     return to + n;
 }
-static uint32_t *put_form(const dezgula_solver *s, uint32_t *to)
+static uint32_t *put_given(const dezgula_solver *s, uint32_t *to)
 {
+    const dezgula_system map = given_map(s);
+    if (s->wanted != NULL) return put(put(put(to, map.coefs, map.coefs_len), s->wanted->rights, map.p), s->wanted->lower, map.q);
     if (s->form == NULL) return to;
     const uint32_t sizes[SIZES] = {(uint32_t)s->form->further, (uint32_t)s->form->operations};
-    const dezgula_system map = given_map(s);
     uint32_t *at = put(put(to, sizes, SIZES), map.coefs, map.coefs_len);
     reformulation_save(&map, s->form, at);
-    return to + form_words(s);
+    return to + given_words(s);
+}
+static uint32_t sign_of(const dezgula_solver *s)
+{
+    return s->wanted != NULL ? SIDES_SIGN : s->list != NULL ? LIST_SIGN : s->form != NULL ? FORM_SIGN : SIGN;
 }
 void dezgula_solver_save(const dezgula_solver *s, uint32_t *words)
 {
-    const uint32_t head[HEAD] = {s->list != NULL ? LIST_SIGN : s->form != NULL ? FORM_SIGN : SIGN, (uint32_t)s->given_p, (uint32_t)s->given_q};
+    const uint32_t head[HEAD] = {sign_of(s), (uint32_t)s->given_p, (uint32_t)s->given_q};
     uint64_t n[NUMBERS];
     numbers_of(s, n);
-    uint32_t *to = put_form(s, put(words, head, HEAD));
+    uint32_t *to = put_given(s, put(words, head, HEAD));
     for (size_t i = 0; i < NUMBERS; i++) *to++ = (uint32_t)n[i], *to++ = (uint32_t)(n[i] >> 32);
     to = put(to, s->coefs, s->p * s->q);
     to = put(to, s->equations, s->p * s->q);
@@ -862,8 +945,9 @@ static bool right_numbers(const dezgula_solver *s, size_t length)
     const bool done = r->equation == s->p && r->done == (s->p < 32 ? (UINT32_C(1) << s->p) - 1 : UINT32_MAX);
     if (s->phase > BEYOND || s->rule >= RULES || s->kept_rule >= RULES || s->over > ALL_RULES || s->failed > ALL_RULES || s->looked > 1) return false;
     if (s->late >> s->p != 0 || s->round == 0 || s->pace == 0 || s->pace > 2 * MOST_PACE || s->past > UINT64_MAX / 2) return false;
-    if (r->count > most || r->rows > most || done != (s->phase == COMPLETE)) return false;
-    return s->promised == UINT64_MAX || (k->count <= most && k->equation == s->p && k->rows == 0);
+    const uint64_t cap = s->wanted != NULL;
+    if (r->count > most || r->rows > most || done != (s->phase == COMPLETE) || r->cap != cap) return false;
+    return s->promised == UINT64_MAX || (k->count <= most && k->equation == s->p && k->rows == 0 && k->cap == cap);
 }
 /* a basis as the engine is lent it has room for q rows at least */
 static size_t kept_room(const dezgula_solver *s) { return s->kept_len > s->q * s->q ? s->kept_len : s->q * s->q; }
@@ -886,13 +970,23 @@ static bool load_tables(dezgula_solver *s, const uint32_t *from, bool from_list,
     memcpy(s->kept, from, s->kept_len * sizeof *from), from += s->kept_len;
     return !from_list || set_list(s, from, listed);
 }
+/* whether the coefficients of the map that is listed are in range, and with right sides they are those that a start writes */
+static bool own_system(const dezgula_solver *s)
+{
+    for (size_t k = 0; s->wanted == NULL && k < s->p * s->q; k++)
+        if (s->coefs[k] < -DEZGULA_COEFFICIENT_LIMIT || s->coefs[k] > DEZGULA_COEFFICIENT_LIMIT) return false;
+    if (s->wanted == NULL) return true;
+    int32_t equations[COEFFICIENTS] = {0};
+    uint32_t basis[COEFFICIENTS], sizes[MOST];
+    dezgula_engine_run run = {.equations = equations, .equations_len = s->p * s->q, .basis = basis, .basis_len = COEFFICIENTS};
+    run.sizes = sizes, run.sizes_len = MOST;
+    return start(s, &run) == DEZGULA_STARTED && memcmp(equations, s->coefs, s->p * s->q * sizeof *equations) == 0;
+}
 /* The engine's call looks at everything before its first turn; a solver reads rows and equations before it makes the next call, so it is asked first. */
 static bool in_order(const dezgula_solver *s)
 {
     dezgula_engine_run run = s->run, kept = s->run;
-    if (!in_list(s->list, s->list_len, s->q)) return false;
-    for (size_t k = 0; k < s->p * s->q; k++)
-        if (s->coefs[k] < -DEZGULA_COEFFICIENT_LIMIT || s->coefs[k] > DEZGULA_COEFFICIENT_LIMIT) return false;
+    if (!in_list(s->list, s->list_len, s->q) || !own_system(s)) return false;
     uint64_t answer = dezgula_engine_resume(s->p, s->q, &run, 0);
     if (answer != DEZGULA_PAUSED && answer != DEZGULA_COMPLETE) return false;
     if (s->promised == UINT64_MAX) return true;
@@ -912,15 +1006,33 @@ static bool load_form(dezgula_solver *s, const uint32_t *words, size_t length, u
     if (s->form == NULL) return *answer = DEZGULA_ENGINE_FULL, false;
     s->form->further = from[0], s->form->operations = from[1];
     memcpy(s->given, from + SIZES, map.coefs_len * sizeof *from);
-    if (length < HEAD + form_words(s) || !reformulation_load(&map, from + SIZES + map.coefs_len, s->form)) return false;
+    if (length < HEAD + given_words(s) || !reformulation_load(&map, from + SIZES + map.coefs_len, s->form)) return false;
     set_form(s);
     return true;
+}
+/* right sides and a lower bound from the words after the head */
+static bool load_sides(dezgula_solver *s, const uint32_t *words, size_t length, uint64_t *answer)
+{
+    const uint32_t *from = words + HEAD;
+    const size_t p = s->given_p, q = s->given_q;
+    if (q == MOST) return false;
+    if (!set_sides(s)) return *answer = DEZGULA_ENGINE_FULL, false;
+    if (length < HEAD + given_words(s)) return false;
+    memcpy(s->given, from, p * q * sizeof *from);
+    memcpy(s->wanted->rights, from + p * q, p * sizeof *from);
+    memcpy(s->wanted->lower, from + p * q + p, q * sizeof *from);
+    return true;
+}
+static bool load_given(dezgula_solver *s, const uint32_t *words, size_t length, uint64_t *answer)
+{
+    if (words[0] == SIDES_SIGN) return load_sides(s, words, length, answer);
+    return words[0] != FORM_SIGN || load_form(s, words, length, answer);
 }
 /* the numbers, and the tables; DEZGULA_STARTED, or what it is refused with */
 static uint64_t load_run(dezgula_solver *s, const uint32_t *words, size_t length)
 {
     const bool from_list = words[0] == LIST_SIGN;
-    const uint32_t *from = words + HEAD + form_words(s);
+    const uint32_t *from = words + HEAD + given_words(s);
     uint64_t n[NUMBERS];
     if (length < fixed_words(s)) return DEZGULA_OUT_OF_ORDER;
     for (size_t i = 0; i < NUMBERS; i++) n[i] = from[2 * i] | (uint64_t)from[2 * i + 1] << 32;
@@ -930,8 +1042,8 @@ static uint64_t load_run(dezgula_solver *s, const uint32_t *words, size_t length
     const size_t others = dezgula_solver_saved_length(s), listed = others <= length ? length - others : 0;
     if (others > length || (from_list ? listed % s->q != 0 : listed != 0)) return DEZGULA_OUT_OF_ORDER;
     if (!load_tables(s, from + 2 * NUMBERS, from_list, listed)) return DEZGULA_ENGINE_FULL;
-    if (s->form == NULL) memcpy(s->given, s->coefs, s->p * s->q * sizeof *s->coefs);
-    else if (memcmp(s->form->other, s->coefs, s->p * s->q * sizeof *s->coefs) != 0) return DEZGULA_OUT_OF_ORDER;
+    if (s->form == NULL && s->wanted == NULL) memcpy(s->given, s->coefs, s->p * s->q * sizeof *s->coefs);
+    if (s->form != NULL && memcmp(s->form->other, s->coefs, s->p * s->q * sizeof *s->coefs) != 0) return DEZGULA_OUT_OF_ORDER;
     if (!in_order(s)) return DEZGULA_OUT_OF_ORDER;
     return s->phase == COMPLETE && hand_out(s) != DEZGULA_COMPLETE ? (uint64_t)DEZGULA_ENGINE_FULL : (uint64_t)DEZGULA_STARTED;
 }
@@ -940,10 +1052,10 @@ dezgula_solver *dezgula_solver_load(const uint32_t *words, size_t length, uint64
     static const int32_t none[COEFFICIENTS];
     *answer = DEZGULA_OUT_OF_ORDER;
     if (words == NULL || length < HEAD || words[1] < 1 || words[1] > MOST || words[2] < 1 || words[2] > MOST) return NULL;
-    if (words[0] != SIGN && words[0] != LIST_SIGN && words[0] != FORM_SIGN) return NULL;
+    if (words[0] < SIGN || words[0] > FORM_SIGN) return NULL;
     dezgula_solver *s = blank(words[1], words[2], none);
     if (s == NULL) return *answer = DEZGULA_ENGINE_FULL, NULL;
-    if (words[0] != FORM_SIGN || load_form(s, words, length, answer)) *answer = load_run(s, words, length);
+    if (load_given(s, words, length, answer)) *answer = load_run(s, words, length);
     if (*answer == DEZGULA_STARTED) return s;
     dezgula_solver_free(s);
     return NULL;

@@ -67,9 +67,9 @@ static bool say(const run *r, uint64_t answer, fault *why)
     case DEZGULA_COEFFICIENT:
         return fault_set(why, number, "coefficient %" PRIu64 " is outside -%d to %d", dezgula_place(answer), MOST_COEFFICIENT, MOST_COEFFICIENT);
     case DEZGULA_TUPLE_RANGE: return fault_set(why, number, "a count to begin from is above %d", MOST_COUNT);
-    case DEZGULA_RIGHT_SIDE:
-        return fault_set(why, number, "a tray would have to gain or lose more than %d%s", MOST_COEFFICIENT,
-                         r->what.lower != NULL ? ", given the lower bound" : "");
+    case DEZGULA_RIGHT_SIDE: return fault_set(why, number, "a tray would have to gain or lose more than %d", MOST_COEFFICIENT);
+    case DEZGULA_ENGINE_SIDE:
+        return fault_set(why, number, "tray %" PRIu64 " would have to gain or lose more than 1000000, given the lower bound", dezgula_place(answer));
     case DEZGULA_COMPONENT: return fault_set(why, number, "a count would be above %d", MOST_COUNT);
     case DEZGULA_STEPS_AT_LIMIT: return fault_set(why, number, "1,000,000,000,000 steps are taken");
     case DEZGULA_LIST_FULL:

@@ -1,8 +1,6 @@
 /* By the engine: a whole group of equations; with right sides or a lower bound; from the list of the groups before. */
 #include "solve_run.h"
 
-#include <stdlib.h>
-#include <string.h>
 #include <unistd.h>
 
 #include "limits.h"
@@ -43,54 +41,27 @@ static bool lengthen_engine(run *r)
     return false;
 }
 
-/* ---- by the engine, with right sides or a lower bound: one more unknown, placed first, whose column is the negated right sides. Of the minimal solutions of
- * that system those with 0 there are the loops, those with 1 are the smallest that meet the right sides (a loop below one could be taken from it), and the
- * others are left out. From a lower bound, what exceeds it meets the right sides less what the bound itself makes of them. */
-
-/* What tray i is still to gain where the lower bound is done. */
-static int64_t still_to_gain(const problem *what, size_t i)
-{
-    int64_t right = what->rights != NULL ? what->rights[i] : 0;
-    for (size_t j = 0; what->lower != NULL && j < what->q; j++) right -= (int64_t)what->coefs[i * what->q + j] * what->lower[j];
-    return right;
-}
+/* ---- by the engine, with right sides or a lower bound: the solver for these hands out both lists */
 
 static uint64_t start_wanted(run *r)
 {
     const problem *w = &r->what;
+    const dezgula_system system = {w->p, w->q, w->coefs, w->p * w->q};
     uint64_t answer = DEZGULA_STARTED;
-    int32_t *coefs = malloc(w->p * (w->q + 1) * sizeof *coefs);
-    if (coefs == NULL) return DEZGULA_ENGINE_FULL;
-    for (size_t i = 0; i < w->p && answer == DEZGULA_STARTED; i++) {
-        int64_t right = still_to_gain(w, i);
-        if (right < -MOST_COEFFICIENT || right > MOST_COEFFICIENT) answer = DEZGULA_RIGHT_SIDE;
-        coefs[i * (w->q + 1)] = (int32_t)-right;
-        memcpy(coefs + i * (w->q + 1) + 1, w->coefs + i * w->q, w->q * sizeof *coefs);
-    }
-    dezgula_system system = {w->p, w->q + 1, coefs, w->p * (w->q + 1)};
-    if (answer == DEZGULA_STARTED) r->engine = dezgula_solver_new(&system, &answer);
+    r->engine = dezgula_solver_new_sides(&system, w->rights, w->lower, &answer);
     limit_engine(r);
-    free(coefs);
     return answer;
 }
 
-/* Copies the rows whose first unknown is `first` to a table, without it and, where they are wanted, with the lower bound added. Answers DEZGULA_COMPLETE and
- * how many there are; or 31, no memory, or 12, a count that is too large. */
-static uint64_t take_rows(const run *r, uint32_t first, table *out, uint64_t *count)
+/* Copies rows to a table. Answers DEZGULA_COMPLETE; or 31, no memory, or 12, a count that is too large. */
+static uint64_t take_rows(const run *r, const uint32_t *rows, size_t count, table *out, uint64_t *kept)
 {
-    const problem *w = &r->what;
-    size_t rows = 0, q = w->q;
-    const uint32_t *row = dezgula_solver_rows(r->engine, &rows);
-    *count = 0;
-    for (size_t i = 0; i < rows; i++) *count += row[i * (q + 1)] == first;
-    if (!set_length(out, (size_t)*count * q)) return DEZGULA_ENGINE_FULL;
-    uint32_t *to = out->at;
-    for (size_t i = 0; i < rows; i++, row += q + 1) {
-        if (row[0] != first) continue;
-        for (size_t j = 0; j < q; j++, to++) {
-            *to = row[j + 1] + (first == 1 && w->lower != NULL ? w->lower[j] : 0);
-            if (*to > MOST_COUNT) return DEZGULA_COMPONENT;
-        }
+    const size_t numbers = count * r->what.q;
+    *kept = count;
+    if (!set_length(out, numbers)) return DEZGULA_ENGINE_FULL;
+    for (size_t i = 0; i < numbers; i++) {
+        if (rows[i] > MOST_COUNT) return DEZGULA_COMPONENT;
+        out->at[i] = rows[i];
     }
     return DEZGULA_COMPLETE;
 }
@@ -99,8 +70,10 @@ static uint64_t go_on_wanted(run *r, uint64_t budget)
 {
     (void)budget;
     uint64_t answer = dezgula_solver_work(r->engine, 0);
-    if (answer == DEZGULA_COMPLETE) answer = take_rows(r, 0, &r->list, &r->record.found.count);
-    if (answer == DEZGULA_COMPLETE) answer = take_rows(r, 1, &r->second, &r->record.second.count);
+    size_t loops = 0, smallest = 0;
+    const uint32_t *first = dezgula_solver_rows(r->engine, &loops), *second = dezgula_solver_smallest(r->engine, &smallest);
+    if (answer == DEZGULA_COMPLETE) answer = take_rows(r, first, loops, &r->list, &r->record.found.count);
+    if (answer == DEZGULA_COMPLETE) answer = take_rows(r, second, smallest, &r->second, &r->record.second.count);
     return answer;
 }
 

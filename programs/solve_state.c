@@ -12,7 +12,7 @@ typedef struct {
     uint64_t machine, group, before;
     uint64_t lengths[TABLES];
     dezgula_record record;
-    uint64_t unused[DEZGULA_ENGINE_RECORD_LENGTH]; /* 0; runs of a version before had a record of the engine here, and the others are read as they were */
+    uint64_t unused[10]; /* 0; runs of a version before had a record of the engine here, and the others are read as they were */
 } words;
 
 /* The tables as they are kept. */
@@ -97,7 +97,7 @@ static bool take_engine(run *r, const words *head, const uint32_t *at)
     uint64_t answer = 0;
     r->engine = dezgula_solver_load(at, (size_t)head->lengths[0], &answer);
     limit_engine(r);
-    return r->engine != NULL;
+    return r->engine != NULL && dezgula_solver_system(r->engine).q == r->what.q;
 }
 
 /* The tables from a copy of the bytes, which may stand at any place. */

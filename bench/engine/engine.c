@@ -8,8 +8,8 @@
 #include <string.h>
 
 enum { MOST = 32, DROPPERS = 512, SLOT_BITS = 16, SLOTS = 1 << SLOT_BITS, CHUNK = 8, AHEAD = 32 };
-enum { COMPLETE = 0, EQUATIONS = 1, UNKNOWNS = 2, COUNT = 3, SHORT = 4, ORDER = 6, COEFFICIENT = 7, COMPONENT = 12, STEPS = 14, FULL = 31 };
-enum { EQUATION_LEFT = 32, FRESH = 33, OPERATION = 34, STARTED = 100, PAUSED = 101 };
+enum { COMPLETE = 0, EQUATIONS = 1, UNKNOWNS = 2, COUNT = 3, SHORT = 4, BOUND = 5, ORDER = 6, COEFFICIENT = 7, LOW = 8, COMPONENT = 12, STEPS = 14 };
+enum { RIGHT = 15, FULL = 31, EQUATION_LEFT = 32, FRESH = 33, OPERATION = 34, SIDE = 35, STARTED = 100, PAUSED = 101 };
 enum { MAP_LIMIT = 10000, LIMIT = 1000000, MOST_ROWS = 1000000000 };
 #define STEP_LIMIT UINT64_C(1000000000000)
 #define GUARD UINT64_C(0x8888888888888888)
@@ -20,10 +20,11 @@ enum { MAP_LIMIT = 10000, LIMIT = 1000000, MOST_ROWS = 1000000000 };
 __extension__ typedef __int128 wide;
 
 /* the words of a record */
-enum { DONE, EQUATION, UNKNOWN, BASIS_COUNT, ROWS, NEXT, DEGREE, UPPER, LOWER, STEP_COUNT, WORDS };
+enum { DONE, EQUATION, UNKNOWN, BASIS_COUNT, ROWS, NEXT, DEGREE, UPPER, LOWER, STEP_COUNT, CAP, WORDS };
 
 typedef struct {
     size_t q, room, rows;
+    uint64_t cap; /* the most that a row may have first; 0 where there is none */
     const int32_t *c;
     uint32_t *table, *degrees, *mothers;
     int64_t *values;
@@ -193,6 +194,7 @@ static uint64_t add_sum(stage *g, size_t h, size_t k, uint64_t degree, const pai
 static uint64_t look(stage *g, size_t h, size_t k, uint64_t degree)
 {
     pair z = {g->table + h * g->q, g->table + k * g->q, joined(g->words[h], g->words[k]), g->values[h] + g->values[k], 0};
+    if (g->cap > 0 && (uint64_t)z.s[0] + z.t[0] > g->cap) return 0;
     z.sign = z.value == 0 ? 0 : z.value > 0 ? 1 : 2;
     if (dropped(g, &z) || known(g, &z) || scanned(g, &z)) return 0;
     return add_sum(g, h, k, degree, &z);
@@ -372,6 +374,49 @@ uint64_t twin_engine_start(size_t p, size_t q, const int32_t *coefs, size_t coef
     return STARTED;
 }
 
+/* the first column of an equation: what the bound makes of it, less its right side */
+static int64_t column(const int32_t *c, size_t q, int32_t right, const uint32_t *lower) { return value_of(c, lower, q) - right; }
+/* 7, 8, 15 and 35 */
+static uint64_t checked_numbers(size_t p, size_t q, const int32_t *coefs, const int32_t *rights, const uint32_t *lower)
+{
+    for (size_t i = 0; i < p * q; i++)
+        if (coefs[i] < -MAP_LIMIT || coefs[i] > MAP_LIMIT) return COEFFICIENT + 256 * (uint64_t)(i + 1);
+    for (size_t j = 0; j < q; j++)
+        if (lower[j] > LIMIT) return LOW;
+    for (size_t i = 0; i < p; i++)
+        if (rights[i] < -MAP_LIMIT || rights[i] > MAP_LIMIT) return RIGHT;
+    for (size_t i = 0; i < p; i++) {
+        int64_t v = column(coefs + i * q, q, rights[i], lower);
+        if (v < -LIMIT || v > LIMIT) return SIDE + 256 * (uint64_t)(i + 1);
+    }
+    return 0;
+}
+uint64_t twin_engine_start_sides(size_t p, size_t q, const int32_t *coefs, size_t coefs_len, const int32_t *rights, size_t rights_len, const uint32_t *lower,
+                                 size_t lower_len, int32_t *equations, size_t equations_len, uint32_t *basis, size_t basis_len, uint32_t *sizes,
+                                 size_t sizes_len, uint64_t *record, size_t record_len)
+{
+    (void)sizes;
+    uint64_t refused = checked_size(p, q);
+    if (refused) return refused;
+    if (q == MOST) return UNKNOWNS;
+    if (coefs_len != p * q || rights_len != p) return COUNT;
+    const size_t wide = q + 1;
+    if (equations_len < p * wide || basis_len / wide < wide || sizes_len < wide) return SHORT;
+    if (lower_len != q) return BOUND;
+    if (record_len != WORDS || record[DONE] > UINT32_MAX) return ORDER;
+    refused = checked_numbers(p, q, coefs, rights, lower);
+    if (refused) return refused;
+    for (size_t i = 0; i < p; i++) {
+        equations[i * wide] = (int32_t)column(coefs + i * q, q, rights[i], lower);
+        memcpy(equations + i * wide + 1, coefs + i * q, q * sizeof *coefs);
+    }
+    memset(basis, 0, wide * wide * sizeof *basis);
+    for (size_t i = 0; i < wide; i++) basis[i * wide + i] = 1;
+    memset(record, 0, WORDS * sizeof *record);
+    record[EQUATION] = p, record[UNKNOWN] = wide, record[BASIS_COUNT] = wide, record[CAP] = 1;
+    return STARTED;
+}
+
 static bool is_list(size_t q, size_t n, const uint32_t *rows, size_t rows_len)
 {
     if (rows_len != n * q) return false;
@@ -453,7 +498,7 @@ static bool is_alone(const lent *l, size_t f)
 }
 static bool is_fresh(const lent *l, size_t e, size_t f)
 {
-    if (f >= l->q || l->equations[e * l->q + f] != -1) return false;
+    if ((l->record[CAP] > 0 && f == 0) || f >= l->q || l->equations[e * l->q + f] != -1) return false;
     for (size_t i = 0; i < l->p; i++)
         if (l->record[DONE] >> i & 1 && l->equations[i * l->q + f] != 0) return false;
     return is_alone(l, f);
@@ -475,7 +520,7 @@ uint64_t twin_engine_take(LENT, size_t e, size_t f)
 static void prepare(stage *g, const lent *l)
 {
     const size_t q = l->q, rows = l->record[ROWS];
-    g->q = q, g->room = l->room, g->rows = rows, g->c = l->equations + l->record[EQUATION] * q;
+    g->q = q, g->room = l->room, g->rows = rows, g->cap = l->record[CAP], g->c = l->equations + l->record[EQUATION] * q;
     g->table = l->table, g->degrees = l->degrees, g->mothers = l->mothers, g->values = l->values, g->words = l->words, g->marks = l->marks;
     for (size_t i = 0; i < 3; i++) g->droppers[i].n = g->droppers[i].turn = 0;
     memset(g->slots, 0xff, sizeof g->slots);

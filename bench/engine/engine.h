@@ -9,6 +9,10 @@
 uint64_t twin_engine_start(size_t p, size_t q, const int32_t *coefs, size_t coefs_len, int32_t *equations, size_t equations_len, uint32_t *basis,
                            size_t basis_len, uint32_t *sizes, size_t sizes_len, uint64_t *record, size_t record_len);
 
+uint64_t twin_engine_start_sides(size_t p, size_t q, const int32_t *coefs, size_t coefs_len, const int32_t *rights, size_t rights_len, const uint32_t *lower,
+                                 size_t lower_len, int32_t *equations, size_t equations_len, uint32_t *basis, size_t basis_len, uint32_t *sizes,
+                                 size_t sizes_len, uint64_t *record, size_t record_len);
+
 uint64_t twin_engine_start_from(size_t p, size_t q, const int32_t *coefs, size_t coefs_len, size_t n, const uint32_t *rows, size_t rows_len,
                                 int32_t *equations, size_t equations_len, uint32_t *basis, size_t basis_len, uint32_t *sizes, size_t sizes_len,
                                 uint64_t *record, size_t record_len);

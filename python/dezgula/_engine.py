@@ -3,11 +3,12 @@
 from __future__ import annotations
 
 import ctypes
+from collections.abc import Iterable
 
-from ._library import LIBRARY, OneAtATime, Refused, Row, Rows, list_of, rows_of, system_of
+from ._library import LIBRARY, OneAtATime, Refused, Row, Rows, integers, list_of, naturals, rows_of, system_of
 from ._runs import COMPLETE, MOST_BUDGET, PAUSED, Progress, Told
 
-OUT_OF_ORDER = 6
+COUNT, TUPLE_LENGTH, OUT_OF_ORDER = 3, 5, 6
 
 
 class Solver:
@@ -36,6 +37,26 @@ class Solver:
         system, answer = system_of(rows), ctypes.c_uint64()
         solver = cls.__new__(cls)
         solver._hold(LIBRARY.dezgula_solver_new_from(system, list_of(listed, system.q), answer), answer.value)
+        return solver
+
+    @classmethod
+    def with_sides(cls, rows: Rows, rights: Iterable[int] | None = None, lower: Iterable[int] | None = None) -> Solver:
+        """The engine with right sides, a lower bound or both: `rows` has the minimal solutions without right sides, `smallest` the smallest tuples at or above the
+        bound that meet them; where there are none of these, nothing at or above the bound does. At most 31 unknowns, right sides from -10,000 to 10,000, components
+        of the bound up to 1,000,000.
+
+        >>> solver = Solver.with_sides([[1, -2]], rights=[3], lower=[4, 0])
+        >>> solver.complete(), solver.smallest
+        ([(2, 1)], [(5, 1)])
+        """
+        system, answer = system_of(rows), ctypes.c_uint64()
+        sides, bound = (None if rights is None else integers(rights)), (None if lower is None else naturals(lower))
+        if sides is not None and len(sides) != system.p:
+            raise Refused(COUNT)
+        if bound is not None and len(bound) != system.q:
+            raise Refused(TUPLE_LENGTH)
+        solver = cls.__new__(cls)
+        solver._hold(LIBRARY.dezgula_solver_new_sides(system, sides, bound, answer), answer.value)
         return solver
 
     def _hold(self, own: int | None, answer: int) -> None:
@@ -92,6 +113,17 @@ class Solver:
             rows = LIBRARY.dezgula_solver_rows(self._own, count)
             if not rows:
                 raise LookupError("the list is not complete yet")
+            return rows_of(rows, count.value, LIBRARY.dezgula_solver_system(self._own).q)
+
+    @property
+    def smallest(self) -> list[Row]:
+        """Of a solver with right sides or a lower bound, the smallest tuples that meet them. Before the list is complete, and of any other solver, LookupError is
+        raised."""
+        with self._one_at_a_time:
+            count = ctypes.c_size_t()
+            rows = LIBRARY.dezgula_solver_smallest(self._own, count)
+            if not rows:
+                raise LookupError("there is no such list, or it is not complete yet")
             return rows_of(rows, count.value, LIBRARY.dezgula_solver_system(self._own).q)
 
     def save(self) -> bytes:

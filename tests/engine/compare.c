@@ -26,17 +26,19 @@ typedef struct {
 } lent;
 
 typedef struct {
-    int kind; /* 0 start, 1 combine, 2 take, 3 resume, 4 start from a list */
+    int kind; /* 0 start, 1 combine, 2 take, 3 resume, 4 start from a list, 5 start for right sides and a bound */
     size_t r, s;
     int32_t u, t;
     uint64_t budget;
     int32_t coefs[WIDE * WIDE];
-    size_t coefs_len, n, rows_len; /* the n rows handed over are in `handed` */
+    size_t coefs_len, n, rows_len; /* the n rows handed over are in `handed`, or the bound of rows_len numbers */
+    int32_t rights[WIDE + 1];
+    size_t rights_len;
 } call;
 
 static uint32_t handed[ROOM * WIDE];
 
-static uint64_t seed, calls, boxes, ended, answers[256], lists[256];
+static uint64_t seed, calls, boxes, ended, answers[256], lists[256], wanted[256];
 static uint64_t draw(uint64_t n)
 {
     seed = seed * UINT64_C(6364136223846793005) + UINT64_C(1442695040888963407);
@@ -57,9 +59,14 @@ static uint64_t draw(uint64_t n)
     (w)->p, (w)->q, (c)->coefs, (c)->coefs_len, (c)->n, handed, (c)->rows_len, (w)->equations, (w)->equations_len, (w)->basis, (w)->basis_len, (w)->sizes, \
         (w)->beside[0], (w)->record, (w)->record_len
 
+#define SIDES(w, c) \
+    (w)->p, (w)->q, (c)->coefs, (c)->coefs_len, (c)->rights, (c)->rights_len, handed, (c)->rows_len, (w)->equations, (w)->equations_len, (w)->basis, \
+        (w)->basis_len, (w)->sizes, (w)->beside[0], (w)->record, (w)->record_len
+
 static uint64_t by_subject(lent *w, const call *c)
 {
     switch (c->kind) {
+    case 5: return dezgula_raw_engine_start_sides(SIDES(w, c));
     case 4: return dezgula_raw_engine_start_from(FROM(w, c));
     case 0: return dezgula_raw_engine_start(START(w, c));
     case 1: return dezgula_raw_engine_combine(LENT(w), c->r, c->u, c->s, c->t);
@@ -71,6 +78,7 @@ static uint64_t by_subject(lent *w, const call *c)
 static uint64_t by_other(lent *w, const call *c)
 {
     switch (c->kind) {
+    case 5: return twin_engine_start_sides(SIDES(w, c));
     case 4: return twin_engine_start_from(FROM(w, c));
     case 0: return twin_engine_start(START(w, c));
     case 1: return twin_engine_combine(LENT(w), c->r, c->u, c->s, c->t);
@@ -82,11 +90,12 @@ static uint64_t by_other(lent *w, const call *c)
 static size_t least(size_t a, size_t b) { return a < b ? a : b; }
 static uint64_t by_other(lent *w, const call *c)
 {
-    const size_t *b = w->beside, q = w->q > 0 ? w->q : 1;
-    const plain other = {w->p, w->q, least(w->basis_len / q, b[0]),
+    const size_t *b = w->beside, wide = w->q + (c->kind == 5), q = wide > 0 ? wide : 1;
+    const plain other = {w->p, wide, least(w->basis_len / q, b[0]),
                          least(least(least(w->table_len / q, b[1]), least(b[2], b[3])), least(b[4], b[5])),
                          w->equations_len, w->record_len, w->equations, w->basis, w->table, w->record};
     switch (c->kind) {
+    case 5: return plain_start_sides(&other, w->q, c->coefs, c->coefs_len, c->rights, c->rights_len, handed, c->rows_len);
     case 4: return plain_start_from(&other, c->coefs, c->coefs_len, c->n, handed, c->rows_len);
     case 0: return plain_start(&other, c->coefs, c->coefs_len);
     case 1: return plain_combine(&other, c->r, c->u, c->s, c->t);
@@ -106,7 +115,7 @@ static uint64_t both(lent *w, const call *c)
     bool same = answer == other && memcmp(w->equations, theirs.equations, sizeof w->equations) == 0 && memcmp(w->basis, theirs.basis, sizeof w->basis) == 0
              && memcmp(w->table, theirs.table, sizeof w->table) == 0 && memcmp(w->record, theirs.record, sizeof w->record) == 0;
     calls++;
-    (c->kind == 4 ? lists : answers)[dezgula_number(answer)]++;
+    (c->kind == 4 ? lists : c->kind == 5 ? wanted : answers)[dezgula_number(answer)]++;
     if (same) return answer;
     fprintf(stderr, "compare: call %" PRIu64 " of kind %d, %zu x %zu: answers %" PRIu64 " and %" PRIu64 ", or other rows\n", calls, c->kind, w->p, w->q, answer,
             other);
@@ -165,7 +174,7 @@ static void draw_take(const lent *w, call *c)
     size_t e = draw(w->p), f = draw(w->q), left = w->q;
     while (w->record[P_DONE] >> e & 1) e = (e + 1) % w->p;
     for (size_t j = 0; j < w->q && left == w->q && draw(8) > 0; j++, f = (f + 1) % w->q) {
-        bool fresh = w->equations[e * w->q + f] == -1;
+        bool fresh = w->equations[e * w->q + f] == -1 && (w->record[P_CAP] == 0 || f > 0);
         for (size_t i = 0; i < w->p; i++) fresh = fresh && (!(w->record[P_DONE] >> i & 1) || w->equations[i * w->q + f] == 0);
         if (fresh) left = f;
     }
@@ -205,12 +214,13 @@ static void check_box(const call *map, const lent *w)
 {
     uint32_t x[WIDE] = {0};
     const uint32_t most = w->q > 4 ? 2 : 3;
+    const uint64_t cap = w->record[P_CAP]; /* the box has no tuple past it */
     for (;;) {
         size_t j = 0;
         while (j < w->q && x[j] == most) x[j++] = 0;
         if (j == w->q) break;
         x[j]++;
-        if ((solves(map, w, x) && !has_below(map, w, x)) == listed(w, x)) continue;
+        if (((cap == 0 || x[0] <= cap) && solves(map, w, x) && !has_below(map, w, x)) == listed(w, x)) continue;
         fprintf(stderr, "compare: a tuple of the box of a %zu x %zu map is listed and not minimal, or minimal and not listed\n", w->p, w->q);
         exit(1);
     }
@@ -300,9 +310,58 @@ static void from_list(call *map)
     check_box(map, &mine);
     mine.p = further;
 }
+/* a start for right sides and a bound with one fault or none */
+static void draw_misgiven(lent *w, call *c)
+{
+    static const int32_t far[4] = {10000, 10001, -10000, -10001};
+    switch (draw(11)) {
+    case 0: w->p = draw(2) ? 0 : 33; break;
+    case 1: w->q = draw(3) ? 0 : draw(2) ? 32 : SIZE_MAX; break;
+    case 2: c->coefs_len -= 1; break;
+    case 3: c->rights_len += draw(2) ? 1 : (size_t)-1; break;
+    case 4: w->equations_len -= 1; break;
+    case 5: *(draw(2) ? &w->beside[0] : &w->basis_len) = w->q + draw(2); break;
+    case 6: c->rows_len += draw(2) ? 1 : (size_t)-1; break;
+    case 7: c->coefs[draw(c->coefs_len + 1)] = far[draw(4)]; break;
+    case 8: handed[draw(c->rows_len + 1)] = draw(2) ? P_LIMIT : P_LIMIT + 1; break;
+    case 9: c->rights[draw(c->rights_len + 1) % (WIDE + 1)] = far[draw(4)]; break;
+    default: *(draw(2) ? &w->record_len : &w->record[P_DONE]) = draw(2) ? 9 : UINT64_C(1) << 32;
+    }
+    if (w->record_len > P_WORDS) w->record_len = P_WORDS - 1;
+}
+/* a map with right sides, a lower bound or both, to its end */
+static void with_sides(void)
+{
+    static lent copy;
+    static call c, other;
+    draw_map(&mine, &c);
+    if (mine.q == WIDE) return;
+    const size_t wide = mine.q + 1, room = draw(8) == 0 ? wide + draw(10) : ROOM;
+    c.kind = 5, c.rights_len = mine.p, c.rows_len = mine.q;
+    mine.equations_len = mine.p * wide, mine.basis_len = mine.table_len = room * wide;
+    for (int i = 0; i < 6; i++) mine.beside[i] = room;
+    for (size_t i = 0; i < mine.p; i++) c.rights[i] = draw(2) ? 0 : (int32_t)draw(9) - 4;
+    uint32_t lower[WIDE] = {0};
+    for (size_t j = 0; draw(2) && j < mine.q; j++) lower[j] = (uint32_t)draw(3);
+    for (int i = 0; i < 4; i++) {
+        copy = mine, other = c;
+        memcpy(handed, lower, sizeof lower);
+        draw_misgiven(&copy, &other);
+        if (draw(3) == 0 && copy.p == mine.p && copy.q == mine.q) draw_misgiven(&copy, &other);
+        (void)!both(&copy, &other);
+    }
+    memcpy(handed, lower, sizeof lower);
+    if (both(&mine, &c) != DEZGULA_STARTED) return;
+    mine.q = wide;
+    memcpy(c.coefs, mine.equations, sizeof c.coefs);
+    if (!to_the_end(&mine)) return;
+    ended++;
+    if (wide <= 5) check_box(&c, &mine);
+}
 static void one_run(void)
 {
     static call map;
+    if (draw(4) == 0) with_sides();
     draw_map(&mine, &map);
     if (both(&mine, &map) != DEZGULA_STARTED || !to_the_end(&mine)) return;
     ended++;
@@ -321,6 +380,9 @@ int main(int argc, char **argv)
     printf("; starts from a list");
     for (int i = 0; i < 256; i++)
         if (lists[i] > 0) printf(" %d: %" PRIu64, i, lists[i]);
+    printf("; for right sides and bounds");
+    for (int i = 0; i < 256; i++)
+        if (wanted[i] > 0) printf(" %d: %" PRIu64, i, wanted[i]);
     puts("");
     return 0;
 }

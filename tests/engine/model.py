@@ -5,8 +5,9 @@
 
 A vector is ten lines, each a word, the number of its numbers, and the numbers:
 
-    call       0 start, 1 combine, 2 take, 3 resume, 4 start from a list; p; q; then the call's own arguments (combine: r u s t; take: e f; resume: budget;
-               start from a list: the number of rows, which are what the table holds)
+    call       0 start, 1 combine, 2 take, 3 resume, 4 start from a list, 5 start for right sides and a lower bound; p; q; then the call's own arguments
+               (combine: r u s t; take: e f; resume: budget; start from a list: the number of rows, which are what the table holds; for right sides: the
+               right sides, and the bound is what the table holds)
     coefs      the starts only, else none
     equations  basis  table  mothers  record     what is lent
     beside     the lengths of sizes, values, words, degrees and marks, which have nothing that matters
@@ -17,8 +18,8 @@ Runs are drawn: small maps, calls in and out of turn, pauses after every number 
 import random
 import sys
 
-MOST, LIMIT, MAP_LIMIT, STEP_LIMIT, MOST_ROWS, WORDS = 32, 10**6, 10**4, 10**12, 10**9, 10
-DONE, EQUATION, FRESH, COUNT, ROWS, TAKEN, DEGREE, UPPER, LOWER, STEPS = range(10)
+MOST, LIMIT, MAP_LIMIT, STEP_LIMIT, MOST_ROWS, WORDS = 32, 10**6, 10**4, 10**12, 10**9, 11
+DONE, EQUATION, FRESH, COUNT, ROWS, TAKEN, DEGREE, UPPER, LOWER, STEPS, CAP = range(11)
 COMPLETE, STARTED, PAUSED = 0, 100, 101
 
 
@@ -98,7 +99,38 @@ def start(p, q, coefs, w):
             return 7 + 256 * place
     w.equations[: p * q] = coefs
     w.basis[: q * q] = [int(i == j) for i in range(q) for j in range(q)]
-    w.record[:] = [0, p, q, q, 0, 0, 0, 0, 0, 0]
+    w.record[:] = [0, p, q, q, 0, 0, 0, 0, 0, 0, 0]
+    return STARTED
+
+
+def start_sides(p, q, coefs, rights, lower, w):
+    refusal = size_refusal(p, q)
+    if refusal:
+        return refusal
+    if q == MOST:
+        return 2
+    if len(coefs) != p * q or len(rights) != p:
+        return 3
+    if len(w.equations) < p * (q + 1) or w.most(q + 1) < q + 1:
+        return 4
+    if len(lower) != q:
+        return 5
+    if len(w.record) != WORDS or w.record[DONE] >= 2**32:
+        return 6
+    for place, c in enumerate(coefs, 1):
+        if abs(c) > MAP_LIMIT:
+            return 7 + 256 * place
+    if any(x > LIMIT for x in lower):
+        return 8
+    if any(abs(b) > MAP_LIMIT for b in rights):
+        return 15
+    sides = [rights[i] - value(coefs[i * q : i * q + q], lower) for i in range(p)]
+    for place, b in enumerate(sides, 1):
+        if abs(b) > LIMIT:
+            return 35 + 256 * place
+    w.equations[: p * (q + 1)] = [c for i in range(p) for c in [-sides[i], *coefs[i * q : i * q + q]]]
+    w.basis[: (q + 1) ** 2] = [int(i == j) for i in range(q + 1) for j in range(q + 1)]
+    w.record[:] = [0, p, q + 1, q + 1, 0, 0, 0, 0, 0, 0, 1]
     return STARTED
 
 
@@ -121,7 +153,7 @@ def start_from(p, q, coefs, n, rows, w):
             return 7 + 256 * place
     w.equations[: p * q] = coefs
     w.basis[: n * q] = rows
-    w.record[:] = [0, p, q, n, 0, 0, 0, 0, 0, 0]
+    w.record[:] = [0, p, q, n, 0, 0, 0, 0, 0, 0, 0]
     return STARTED
 
 
@@ -149,7 +181,7 @@ def is_alone(q, w, f):
 
 
 def is_fresh(p, q, w, e, f):
-    if f >= q or w.equations[e * q + f] != -1:
+    if (w.record[CAP] > 0 and f == 0) or f >= q or w.equations[e * q + f] != -1:
         return False
     return all(w.equations[i * q + f] == 0 for i in range(p) if w.record[DONE] >> i & 1) and is_alone(q, w, f)
 
@@ -220,7 +252,7 @@ def turn(p, q, w):
         if pair is not None:
             h, k = pair
             z = [a + b for a, b in zip(w.row(q, h), w.row(q, k))]
-            if not reduced(q, c, w, z):
+            if not (0 < r[CAP] < z[0]) and not reduced(q, c, w, z):
                 if max(z) > LIMIT:
                     return 12
                 if r[ROWS] == w.room(q):
@@ -248,7 +280,7 @@ def end(p, q, c, w):
     if len(left) > w.most(q):
         return 31
     w.basis[: len(left) * q] = [x for row in left for x in row]
-    w.record[:] = [r[DONE] | 1 << r[EQUATION], p, q, len(left), 0, 0, 0, 0, 0, r[STEPS] + 1]
+    w.record[:] = [r[DONE] | 1 << r[EQUATION], p, q, len(left), 0, 0, 0, 0, 0, r[STEPS] + 1, r[CAP]]
     return rested(p, w)
 
 
@@ -288,6 +320,8 @@ class Drawn:
             answer = start(p, q, list(coefs), w)
         elif kind == 4:
             answer = start_from(p, q, list(coefs), own[0], before.table, w)
+        elif kind == 5:
+            answer = start_sides(p, q, list(coefs), list(own), before.table, w)
         else:
             answer = (combine, take, resume)[kind - 1](p, q, w, *own)
         self.written(kind, p, q, own, coefs, before, answer, w)
@@ -440,12 +474,59 @@ class Drawn:
         while v.record[EQUATION] == p and v.record[DONE] != 2**p - 1:
             self.stage(p, q, v, self.r.choice([5, 1000]))
 
+    def misgiven(self, p, q, w, coefs, rights):
+        """A start for right sides and a bound with one or two faults."""
+        r, w, coefs, rights = self.r, w.copy(), list(coefs), list(rights)
+        for kind in r.sample(range(10), r.randint(1, 2)):
+            if kind == 0:
+                p = r.choice([0, 33])
+            elif kind == 1:
+                q = r.choice([0, 32, 33, 2**64 - 1])
+            elif kind == 2:
+                del r.choice([coefs, rights])[-1:]
+            elif kind == 3:
+                short = r.choice([w.equations, w.basis, w.table])
+                del short[r.randint(0, max(len(short) - 1, 0)) :]
+            elif kind == 4:
+                w.beside[0] = r.choice([q, q + 1])
+            elif kind == 5 and coefs:
+                coefs[r.randrange(len(coefs))] = r.choice([10000, 10001, -10000, -10001])
+            elif kind == 6 and w.table:
+                w.table[r.randrange(len(w.table))] = r.choice([LIMIT, LIMIT + 1, 2**32 - 1])
+            elif kind == 7 and rights:
+                rights[r.randrange(len(rights))] = r.choice([10000, 10001, -10000, -10001])
+            elif kind == 8:
+                w.record[DONE] = r.choice([2**32 - 1, 2**32])
+            elif kind == 9:
+                del w.record[-1:]
+        self.call(5, p, q, w, rights, coefs)
+
+    def sides(self):
+        """A map with right sides, a lower bound or both: the start with faults and as it is, and its stages to their end."""
+        r = self.r
+        p, q, coefs = self.system()
+        q = min(q, 4)
+        coefs = coefs[: p * q]
+        rights, lower = [r.choice([0, 1]) * r.randint(-4, 4) for _ in range(p)], [r.choice([0, 0, 1]) * r.randint(0, 3) for _ in range(q)]
+        w = self.lent(p, q + 1, r.choice([q + 1, q + 2, 12, 60]))
+        w.table[:] = lower
+        for _ in range(3):
+            self.misgiven(p, q, w, coefs, rights)
+        if len(coefs) != p * q or self.call(5, p, q, w, rights, coefs) != STARTED:
+            return
+        w.table[:] = [r.randint(0, 3) for _ in range(60 * (q + 1))]
+        w.mothers[:], w.beside[1:] = [r.randint(0, 120) for _ in range(60)], [60] * 4
+        other = w.copy()
+        self.call(2, p, q + 1, other, [r.randrange(p), 0])
+        while w.record[EQUATION] == p and w.record[DONE] != 2**p - 1:
+            self.stage(p, q + 1, w, r.choice([1, 5, 1000]))
+
     def edges(self):
         """Sums and values above the limit of a component, and steps at theirs."""
         for big in (LIMIT // 2, LIMIT // 2 + 1, LIMIT):
             w = self.lent(1, 3, 6)
             w.equations[:], w.basis[:6] = [0, 1, -1], [big, 1, 0, big, 0, 1]
-            w.record[:] = [0, 0, 3, 2, 0, 0, 0, 0, 0, 0]
+            w.record[:] = [0, 0, 3, 2, 0, 0, 0, 0, 0, 0, 0]
             while self.call(3, 1, 3, w, [2]) == PAUSED:
                 pass
         for times in (LIMIT // 2, LIMIT // 2 + 1):
@@ -468,6 +549,13 @@ class Drawn:
             self.call(2, MOST, 5, w, [e, 5])
             while self.call(3, MOST, 5, w, [9]) == PAUSED and w.record[EQUATION] == e:
                 pass
+        for times, above in ((100, 0), (100, 1), (-100, 0), (-100, 1)):
+            w = self.lent(2, 3, 6)
+            w.table[:] = [10000, above]
+            self.call(5, 2, 2, w, [0, 0], [1, 0, times, 1 if times > 0 else -1])
+        w = self.lent(1, 32, 40)
+        w.table[:] = [0] * 31
+        self.call(5, 1, 31, w, [10000], [-1] * 31)
         for before in range(4):
             w = self.lent(1, 2, 6)
             self.call(0, 1, 2, w, [], [1, -1])
@@ -485,6 +573,8 @@ def main():
         drawn.run()
     while drawn.calls < calls + calls // 2:
         drawn.group()
+    while drawn.calls < 2 * calls:
+        drawn.sides()
 
 
 if __name__ == "__main__":

@@ -15,7 +15,7 @@ typedef struct {
     uint64_t *record;
 } plain;
 
-enum { P_DONE, P_EQUATION, P_FRESH, P_COUNT, P_ROWS, P_TAKEN, P_DEGREE, P_UPPER, P_LOWER, P_STEPS, P_WORDS };
+enum { P_DONE, P_EQUATION, P_FRESH, P_COUNT, P_ROWS, P_TAKEN, P_DEGREE, P_UPPER, P_LOWER, P_STEPS, P_CAP, P_WORDS };
 enum { P_LIMIT = 1000000, P_PAUSED = 101, P_STARTED = 100 };
 #define P_STEP_LIMIT UINT64_C(1000000000000)
 
@@ -104,7 +104,7 @@ static inline uint64_t plain_look(const plain *w, size_t h, size_t k)
     uint32_t z[32];
     bool large = false;
     for (size_t j = 0; j < w->q; j++) z[j] = plain_row(w, h)[j] + plain_row(w, k)[j], large = large || z[j] > P_LIMIT;
-    if (!plain_reduced(w, z)) {
+    if ((w->record[P_CAP] == 0 || z[0] <= w->record[P_CAP]) && !plain_reduced(w, z)) {
         uint64_t refused = large ? 12 : plain_append(w, z);
         if (refused) return refused;
     }
@@ -147,7 +147,7 @@ static inline uint64_t plain_end(const plain *w)
         if (f < q) w->basis[many * q + f] = (uint32_t)v;
         many++;
     }
-    const uint64_t after[P_WORDS] = {r[P_DONE] | UINT64_C(1) << r[P_EQUATION], w->p, q, many, 0, 0, 0, 0, 0, r[P_STEPS] + 1};
+    const uint64_t after[P_WORDS] = {r[P_DONE] | UINT64_C(1) << r[P_EQUATION], w->p, q, many, 0, 0, 0, 0, 0, r[P_STEPS] + 1, r[P_CAP]};
     memcpy(r, after, sizeof after);
     return plain_rested(w);
 }
@@ -187,7 +187,39 @@ static inline uint64_t plain_start(const plain *w, const int32_t *coefs, size_t 
         if (coefs[i] > 10000 || coefs[i] < -10000) return 7 + 256 * (uint64_t)(i + 1);
     memcpy(w->equations, coefs, coefs_len * sizeof *coefs);
     for (size_t i = 0; i < w->q * w->q; i++) w->basis[i] = i / w->q == i % w->q;
-    const uint64_t first[P_WORDS] = {0, w->p, w->q, w->q, 0, 0, 0, 0, 0, 0};
+    const uint64_t first[P_WORDS] = {0, w->p, w->q, w->q, 0, 0, 0, 0, 0, 0, 0};
+    memcpy(w->record, first, sizeof first);
+    return P_STARTED;
+}
+/* w has the rows' length, q + 1 */
+static inline uint64_t plain_start_sides(const plain *w, size_t q, const int32_t *coefs, size_t coefs_len, const int32_t *rights, size_t rights_len,
+                                         const uint32_t *lower, size_t lower_len)
+{
+    uint64_t refused = plain_size(w->p, q);
+    if (refused) return refused;
+    if (q == 32) return 2;
+    if (coefs_len != w->p * q || rights_len != w->p) return 3;
+    if (w->equations_len < w->p * (q + 1) || w->most < q + 1) return 4;
+    if (lower_len != q) return 5;
+    if (w->record_len != P_WORDS || w->record[P_DONE] > UINT32_MAX) return 6;
+    for (size_t i = 0; i < coefs_len; i++)
+        if (coefs[i] > 10000 || coefs[i] < -10000) return 7 + 256 * (uint64_t)(i + 1);
+    for (size_t j = 0; j < q; j++)
+        if (lower[j] > P_LIMIT) return 8;
+    for (size_t i = 0; i < w->p; i++)
+        if (rights[i] > 10000 || rights[i] < -10000) return 15;
+    int64_t sides[32];
+    for (size_t i = 0; i < w->p; i++) {
+        sides[i] = rights[i];
+        for (size_t j = 0; j < q; j++) sides[i] -= (int64_t)coefs[i * q + j] * lower[j];
+        if (sides[i] > P_LIMIT || sides[i] < -P_LIMIT) return 35 + 256 * (uint64_t)(i + 1);
+    }
+    for (size_t k = 0; k < w->p * (q + 1); k++) {
+        size_t i = k / (q + 1), j = k % (q + 1);
+        w->equations[k] = j == 0 ? (int32_t)-sides[i] : coefs[i * q + j - 1];
+    }
+    for (size_t k = 0; k < (q + 1) * (q + 1); k++) w->basis[k] = k / (q + 1) == k % (q + 1);
+    const uint64_t first[P_WORDS] = {0, w->p, q + 1, q + 1, 0, 0, 0, 0, 0, 0, 1};
     memcpy(w->record, first, sizeof first);
     return P_STARTED;
 }
@@ -211,7 +243,7 @@ static inline uint64_t plain_start_from(const plain *w, const int32_t *coefs, si
         if (coefs[i] > 10000 || coefs[i] < -10000) return 7 + 256 * (uint64_t)(i + 1);
     memcpy(w->equations, coefs, coefs_len * sizeof *coefs);
     memcpy(w->basis, rows, rows_len * sizeof *rows);
-    const uint64_t first[P_WORDS] = {0, w->p, w->q, n, 0, 0, 0, 0, 0, 0};
+    const uint64_t first[P_WORDS] = {0, w->p, w->q, n, 0, 0, 0, 0, 0, 0, 0};
     memcpy(w->record, first, sizeof first);
     return P_STARTED;
 }
@@ -247,13 +279,13 @@ static inline uint64_t plain_take(const plain *w, size_t e, size_t f)
     const size_t q = w->q;
     if (refused) return refused;
     if (!plain_left(w, e)) return 32;
-    bool fresh = f < q && w->equations[e * q + f] == -1;
+    bool fresh = (r[P_CAP] == 0 || f > 0) && f < q && w->equations[e * q + f] == -1;
     for (size_t i = 0; fresh && i < w->p; i++) fresh = !(r[P_DONE] >> i & 1) || w->equations[i * q + f] == 0;
     if (f != q && !(fresh && plain_alone(w, f))) return 33;
     size_t many = 0;
     for (size_t i = 0; fresh && i < r[P_COUNT]; i++)
         if (w->basis[i * q + f] == 0) memmove(w->basis + many++ * q, w->basis + i * q, q * sizeof *w->basis);
-    const uint64_t after[P_WORDS] = {r[P_DONE], e, f, fresh ? many : r[P_COUNT], 0, 0, 0, 0, 0, r[P_STEPS]};
+    const uint64_t after[P_WORDS] = {r[P_DONE], e, f, fresh ? many : r[P_COUNT], 0, 0, 0, 0, 0, r[P_STEPS], r[P_CAP]};
     memcpy(r, after, sizeof after);
     return P_STARTED;
 }

@@ -90,7 +90,13 @@ static bool replay(const vector *v, int fill)
     else if (c[0] == 4)
         answer = dezgula_raw_engine_start_from(c[1], c[2], coefs, v->coefs.n, c[3], rows, l[TABLE].n, equations, l[EQUATIONS].n, basis, l[BASIS].n, sizes, b[0],
                                                record, l[RECORD].n);
-    else if (c[0] == 1) answer = dezgula_raw_engine_combine(LENT, c[3], (int32_t)c[4], c[5], (int32_t)c[6]);
+    else if (c[0] == 5) {
+        const numbers sides = {v->call.n - 3, v->call.x + 3};
+        int32_t *rights = table(sides.n, 4, &sides, 0);
+        answer = dezgula_raw_engine_start_sides(c[1], c[2], coefs, v->coefs.n, rights, sides.n, rows, l[TABLE].n, equations, l[EQUATIONS].n, basis, l[BASIS].n,
+                                                sizes, b[0], record, l[RECORD].n);
+        free(rights);
+    } else if (c[0] == 1) answer = dezgula_raw_engine_combine(LENT, c[3], (int32_t)c[4], c[5], (int32_t)c[6]);
     else if (c[0] == 2) answer = dezgula_raw_engine_take(LENT, c[3], c[4]);
     else answer = dezgula_raw_engine_resume(LENT, c[3]);
     size_t at = 0;

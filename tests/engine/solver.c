@@ -1,5 +1,6 @@
 /* Tries the solver of dezgula_engine.h: refused maps, equations that are zero, repeated or combinations, pauses after every few turns, saved and loaded at each
- * of them, reformulations, lists handed over to further equations, words that were damaged, and a limit of memory. Status 1 at the first thing wrong. */
+ * of them, reformulations, lists handed over to further equations, right sides and lower bounds, words that were damaged, and a limit of memory.
+ * Status 1 at the first thing wrong. */
 #include "dezgula_engine.h"
 
 #include <inttypes.h>
@@ -205,6 +206,90 @@ static void refused_lists(void)
     dezgula_solver_free(solver);
 }
 
+/* ---- right sides and lower bounds */
+
+/* the rows of a complete solver of the system with the extra unknown written out, that have `first` there: without it, and with the bound added */
+static uint32_t *written_out(const dezgula_solver *solver, size_t q, uint32_t first, const uint32_t *lower, size_t *count)
+{
+    size_t n;
+    const uint32_t *rows = dezgula_solver_rows(solver, &n);
+    uint32_t *out = malloc((n * q + 1) * sizeof *out);
+    is(rows != NULL && out != NULL, "no rows at the end");
+    *count = 0;
+    for (size_t i = 0; i < n; i++) {
+        if (rows[i * (q + 1)] != first) continue;
+        for (size_t j = 0; j < q; j++) out[*count * q + j] = rows[i * (q + 1) + 1 + j] + (first == 1 ? lower[j] : 0);
+        ++*count;
+    }
+    width = q;
+    qsort(out, *count, q * sizeof *out, by_row);
+    return out;
+}
+static void same_rows(const uint32_t *rows, size_t n, size_t q, const uint32_t *expected, size_t m)
+{
+    uint32_t *copy = malloc((n * q + 1) * sizeof *copy);
+    is(copy != NULL && rows != NULL, "no rows at the end");
+    memcpy(copy, rows, n * q * sizeof *copy);
+    width = q;
+    qsort(copy, n, q * sizeof *copy, by_row);
+    is(n == m && memcmp(copy, expected, n * q * sizeof *copy) == 0, "right sides with another list than the system written out");
+    free(copy);
+}
+/* both lists are those of the system with the extra unknown written out, without a cap, however the run is cut and carried */
+static void wanted(void)
+{
+    static const uint64_t budgets[4] = {1, 13, 0, 0};
+    for (int n = 0; n < 200; n++) {
+        const size_t p = 1 + draw(3), q = 1 + draw(5);
+        int32_t coefs[3 * 5], whole[3 * 6], rights[3];
+        uint32_t lower[5];
+        uint64_t answer;
+        for (size_t i = 0; i < p * q; i++) coefs[i] = (int32_t)draw(7) - 3;
+        for (size_t i = 0; i < p; i++) rights[i] = draw(3) ? (int32_t)draw(9) - 4 : 0;
+        for (size_t j = 0; j < q; j++) lower[j] = n % 2 ? (uint32_t)draw(3) : 0;
+        for (size_t i = 0; i < p; i++) {
+            whole[i * (q + 1)] = -rights[i];
+            for (size_t j = 0; j < q; j++) whole[i * (q + 1)] += coefs[i * q + j] * (int32_t)lower[j], whole[i * (q + 1) + 1 + j] = coefs[i * q + j];
+        }
+        dezgula_system map = {p, q, coefs, p * q};
+        dezgula_solver *other = finish(solver_of(p, q + 1, whole, &answer), 0, false);
+        size_t loops, smallest, count;
+        uint32_t *at_0 = written_out(other, q, 0, lower, &loops), *at_1 = written_out(other, q, 1, lower, &smallest);
+        for (int i = 0; i < 4; i++) {
+            dezgula_solver *s = finish(dezgula_solver_new_sides(&map, rights, n % 2 ? lower : NULL, &answer), budgets[i], i != 3);
+            if (i != 3) s = carry(s);
+            const uint32_t *rows = dezgula_solver_rows(s, &count);
+            same_rows(rows, count, q, at_0, loops);
+            rows = dezgula_solver_smallest(s, &count);
+            same_rows(rows, count, q, at_1, smallest);
+            dezgula_system told = dezgula_solver_system(s);
+            is(told.p == p && told.q == q && memcmp(told.coefs, coefs, p * q * sizeof *coefs) == 0, "a solver with right sides is for its map");
+            dezgula_solver_free(s);
+        }
+        free(at_0), free(at_1);
+        dezgula_solver_free(other);
+    }
+}
+static void refused_sides(void)
+{
+    static const int32_t coefs[32] = {1, 1}, far[1] = {10001}, none[1] = {0};
+    static const uint32_t high[2] = {1000001, 0}, far_off[2] = {1000000, 1}, zero[2] = {0, 0};
+    uint64_t answer;
+    dezgula_system map = {1, 2, coefs, 2}, wide = {1, 32, coefs, 32}, other = {1, 2, coefs, 1};
+    is(dezgula_solver_new_sides(&wide, none, NULL, &answer) == NULL && answer == DEZGULA_UNKNOWNS, "32 unknowns and right sides");
+    is(dezgula_solver_new_sides(&other, none, NULL, &answer) == NULL && answer == DEZGULA_COUNT, "too few coefficients and right sides");
+    is(dezgula_solver_new_sides(&map, far, zero, &answer) == NULL && answer == DEZGULA_RIGHT_SIDE, "a right side out of range");
+    is(dezgula_solver_new_sides(&map, none, high, &answer) == NULL && answer == DEZGULA_TUPLE_RANGE, "a bound out of range");
+    is(dezgula_solver_new_sides(&map, NULL, far_off, &answer) == NULL && answer == DEZGULA_ENGINE_SIDE + 256, "a bound that makes too much");
+    dezgula_solver *solver = finish(dezgula_solver_new_sides(&map, NULL, NULL, &answer), 0, true);
+    size_t count;
+    is(dezgula_solver_smallest(solver, &count) != NULL && count == 1, "right sides of zero are met by zero");
+    dezgula_solver_free(solver);
+    solver = finish(solver_of(1, 2, coefs, &answer), 0, false);
+    is(dezgula_solver_smallest(solver, &count) == NULL && count == 0, "a plain solver has no second list");
+    dezgula_solver_free(solver);
+}
+
 /* maps that are listed by a reformulation: the same rows in the same order, however the run is cut and carried */
 static void reformulations(void)
 {
@@ -285,6 +370,12 @@ static void damaged_words(void)
             solver = solver_from(before, 1, 6, coefs + 6, &answer);
             dezgula_solver_free(before);
         }
+        if (n % 8 == 6) {
+            const int32_t rights[2] = {3, -2};
+            dezgula_system map = {2, 6, coefs, 12};
+            dezgula_solver_free(solver);
+            solver = dezgula_solver_new_sides(&map, rights, NULL, &answer);
+        }
         (void)!dezgula_solver_work(solver, n % 4 ? 1 + draw(400) : 9000 + draw(3000));
         uint32_t *words = saved(solver, &length);
         dezgula_solver_free(solver);
@@ -340,9 +431,11 @@ int main(void)
     too_large();
     groups();
     refused_lists();
+    wanted();
+    refused_sides();
     damaged_words();
     what_it_is_for();
     memory();
-    puts("the solver: refused maps, combinations, pauses, reformulations, saved and loaded, lists handed over, damaged words, memory");
+    puts("the solver: refused maps, combinations, pauses, reformulations, saved and loaded, lists handed over, right sides, damaged words, memory");
     return 0;
 }

@@ -6,12 +6,12 @@ import sys
 
 import model
 
-CALLS, FURTHER, SEED, COEFFICIENTS = 2000, 300, 7, 160
-KINDS = ("start", "combine", "take", "resume", "from")
-HEAD = """# start p q .. | from p q n .. | combine p q r s .. | take p q e f .. | resume p q budget ..: a call of the engine. c: the map's coefficients; b: the factors
-# of a row operation, of equation r and of equation s; e, l, s and r: working system, basis, table of the stage and record before and after the call; from is
-# handed the n rows of s; t: mothers; h: the lengths of sizes, values, words, degrees and marks. A letter with a number, as s4: what stands from that entry on
-# after the call. A: the answer, a number.
+CALLS, FURTHER, WANTED, SEED, COEFFICIENTS, ROOM = 2000, 300, 300, 7, 160, 320
+KINDS = ("start", "combine", "take", "resume", "from", "wanted")
+HEAD = """# start p q .. | from p q n .. | wanted p q .. | combine p q r s .. | take p q e f .. | resume p q budget ..: a call of the engine. c: the map's coefficients;
+# b: the factors of a row operation, of equation r and of equation s, or the right sides of wanted; e, l, s and r: working system, basis, table of the stage and
+# record before and after the call; from is handed the n rows of s, wanted the bound s; t: mothers; h: the lengths of sizes, values, words, degrees and marks. A
+# letter with a number, as s4: what stands from that entry on after the call. A: the answer, a number.
 """
 
 
@@ -37,9 +37,9 @@ class Lines(model.Drawn):
         self.lines = []
 
     def written(self, kind, p, q, own, coefs, before, answer, after):
-        if len(coefs) > COEFFICIENTS:
+        if len(coefs) > COEFFICIENTS or len(before.basis) > ROOM:
             return
-        own, factors = ([own[0], own[2]], [own[1], own[3]]) if kind == 1 else (own, [])
+        own, factors = ([own[0], own[2]], [own[1], own[3]]) if kind == 1 else ([], own) if kind == 5 else (own, [])
         words = [KINDS[kind], p, q, *own, "c", *coefs, "b", *factors]
         for name, table in (("e", "equations"), ("l", "basis"), ("s", "table"), ("r", "record")):
             words += changed(name, getattr(before, table), getattr(after, table))
@@ -53,6 +53,8 @@ def main():
         drawn.run()
     while len(drawn.lines) < CALLS + FURTHER:
         drawn.group()
+    while len(drawn.lines) < CALLS + FURTHER + WANTED:
+        drawn.sides()
     (folder / "stdin").write_text(HEAD + "\n".join(drawn.lines) + "\n")
     (folder / "stdout").write_text(f"calls {len(drawn.lines)} agreed {len(drawn.lines)}\n")
 

@@ -7,16 +7,20 @@ use native.Mathlib.Nat.{mul-le-mul}
 use native.Mathlib.Omega.{arith}
 use lib.Dec.{eqb, ltb}
 use lib.IntN.{ℤ}
+use lib.ListN.{length}
 use Rattle.linear.specs.Tests.{countTo}
 use Rattle.definitions.specs.Answers.{Check, _then_, complete, go, paused, refuse, refuseIf, refused}
-use Rattle.definitions.specs.Refusals.{stepLimit}
+use Rattle.definitions.specs.Input.{boundOf}
+use Rattle.definitions.specs.Refusals.{check15, stepLimit}
 use Rattle.c_record.specs.CodeLaws.{Fits, Small, small-first, small-if, small-then, within}
 use Rattle.engine_spec.specs.Beside.{mostColumns, mostRows}
 use Rattle.engine_spec.specs.Calls as calls
 use Rattle.engine_spec.specs.Engine as engine
 use Rattle.engine_spec.specs.Engine.{Result, Work}
+use Rattle.engine_spec.specs.Reduction.{isSmall}
 use Rattle.engine_spec.specs.Stage as stage
 use Rattle.engine_spec.specs.Stage.{Turned, ends, goes, stops}
+use Rattle.engine_spec.specs.StartSides.{sidesChecks, startSides}
 
 -- ---- checks
 
@@ -45,6 +49,21 @@ module _ (p q : ℕ) where
       small-shape coefs most w _ (λ l.
       small-then (refuseIf (ltb most n) 4) _ (small-if _ 4 (omega arith)) (λ _.
       small-then (calls.check6List q n rows) (calls.check7 p q coefs) (small-if _ 6 (omega arith)) (λ _. small-first 7 (p * q) _ (omega arith) l)))
+
+  small-sides : (coefs rights : List ℤ) (lower : List ℕ) (most : ℕ) (w : Work) → Small (sidesChecks p q coefs rights lower most w)
+  unfolding sidesChecks
+  small-sides coefs rights lower most w =
+      small-then (calls.check1 p) _ (small-if _ 1 (omega arith)) (λ a.
+      small-then (calls.check2 q) _ (small-if _ 2 (omega arith)) (λ b.
+      small-then (refuseIf (eqb q mostColumns) 2) _ (small-if _ 2 (omega arith)) (λ _.
+      small-then (calls.check3 p q coefs) _ (small-if _ 3 (omega arith)) (λ _.
+      small-then (refuseIf (not (eqb (length rights) p)) 3) _ (small-if _ 3 (omega arith)) (λ _.
+      small-then (calls.check4 p (suc q) most w) _ (small-if _ 4 (omega arith)) (λ _.
+      small-then (refuseIf (not (eqb (length lower) q)) 5) _ (small-if _ 5 (omega arith)) (λ _.
+      small-then (calls.check7 p q coefs) _ (small-first 7 (p * q) _ (omega arith) (few a b)) (λ _.
+      small-then (refuseIf (not (isSmall q (boundOf lower))) 8) _ (small-if _ 8 (omega arith)) (λ _.
+      small-then (check15 rights) _ (small-if _ 15 (omega arith)) (λ _.
+      small-first 35 p _ (omega arith) (omega (arith, within 1 mostRows p 1 a))))))))))))
 
   module _ (most room : ℕ) (w : Work) where
     small-standing : (own : Check) → Small own → Small (calls.standingThen p q most room w own)
@@ -152,6 +171,11 @@ module _ (p q : ℕ) where
   unfolding calls.startFromUnder
   start-from-fits coefs n rows most w =
       fits-checked (calls.startFromChecks p q coefs n rows most w) w _ (small-start-from p q coefs n rows most w) (omega arith)
+
+  pub start-sides-fits : (coefs rights : List ℤ) (lower : List ℕ) (most : ℕ) (w : Work) → Fits (startSides p q coefs rights lower most w .answer)
+  unfolding startSides
+  start-sides-fits coefs rights lower most w =
+      fits-checked (sidesChecks p q coefs rights lower most w) w _ (small-sides p q coefs rights lower most w) (omega arith)
 
   module _ (most room : ℕ) (w : Work) where
     pub combine-fits : (r s : ℕ) (u t : ℤ) → Fits (calls.combine p q most room r s u t w .answer)

@@ -18,6 +18,9 @@ use Rattle.c_record.specs.CodeLaws.{Fits}
 use Rattle.c_record.specs.Codes.{code, refusalCode}
 use Rattle.c_record.specs.WordLaws.{set-own}
 use Rattle.engine_spec.specs.Calls as calls
+use Rattle.engine_spec.specs.StartSides.{sidesChecks, sidesSystem, startSides}
+use Rattle.laws.specs.AnswerLaws.{then-assoc}
+use Rattle.laws.specs.CheckLaws.{refuse-not-go}
 use Rattle.engine_spec.specs.Engine.{Result, Work, begun, begunFrom, begunFromUnder, begunUnder, result}
 use Rattle.engine_calls.specs.Records.{answerOf, checkOf, numberOf, outcomeOf, placeOf, valuesOf, workOf}
 use Rattle.engine_calls.specs.declared.Check as made
@@ -25,39 +28,41 @@ use Rattle.engine_calls.specs.declared.Check.the-variants.{Pass, Refuse}
 use Rattle.engine_calls.specs.declared.Outcome.{Outcome}
 use Rattle.engine_calls.specs.declared.Record.{Record}
 use Rattle.engine_calls.specs.declared.Refusal.{Refusal}
+use Rattle.engine_checks.specs.Room.{basisRows}
+use Rattle.engine_checks.specs.Sides.{shapeChecks}
 use Rattle.engine_checks.specs.Standing.{start-checks, start-from-checks, startChecksBy, startFromChecksBy}
 use Rattle.c_engine.specs.Words.{isRecord, misfit, misfitChecks, misfitListChecks, recordIf, recordIn, recordLeft, startFromWords, startWords, told}
-use Rattle.c_engine.specs.Words.{wordsIf, wordsLeft, workIn}
+use Rattle.c_engine.specs.Words.{misfitSidesChecks, startSidesWords, wordsIf, wordsLeft, workIn}
 
 -- ---- which words are a record
 
-pub fits-short : (words : List ℕ) → length words ≢ 10 → false ≡ isRecord words
+pub fits-short : (words : List ℕ) → length words ≢ 11 → false ≡ isRecord words
 unfolding isRecord
-fits-short words ne = rw (ne-eqb (length words) 10 ne)
+fits-short words ne = rw (ne-eqb (length words) 11 ne)
 
-pub fits-by : (words : List ℕ) {b : Bool} → length words ≡ 10 → b ≡ ltb (getD words 0 0) (2 ^ 32) → b ≡ isRecord words
+pub fits-by : (words : List ℕ) {b : Bool} → length words ≡ 11 → b ≡ ltb (getD words 0 0) (2 ^ 32) → b ≡ isRecord words
 unfolding isRecord
-fits-by words e f = rw (eq-eqb (length words) 10 e) f
+fits-by words e f = rw (eq-eqb (length words) 11 e) f
 
 -- ---- reading and writing the words
 
-pub record-in : (words : List ℕ) → length words ≡ 10 → getD words 0 0 < 2 ^ 32 → recordIf true words ≡ recordIn words
+pub record-in : (words : List ℕ) → length words ≡ 11 → getD words 0 0 < 2 ^ 32 → recordIf true words ≡ recordIn words
 unfolding recordIn isRecord
-record-in words e l = rw (eq-eqb (length words) 10 e, lt-ltb (getD words 0 0) (2 ^ 32) l)
+record-in words e l = rw (eq-eqb (length words) 11 e, lt-ltb (getD words 0 0) (2 ^ 32) l)
 
-pub record-large : (words : List ℕ) → length words ≡ 10 → 2 ^ 32 ≤ getD words 0 0 → recordIf false words ≡ recordIn words
+pub record-large : (words : List ℕ) → length words ≡ 11 → 2 ^ 32 ≤ getD words 0 0 → recordIf false words ≡ recordIn words
 unfolding recordIn isRecord
-record-large words e l = rw (eq-eqb (length words) 10 e, le-ltb (getD words 0 0) (2 ^ 32) l)
+record-large words e l = rw (eq-eqb (length words) 11 e, le-ltb (getD words 0 0) (2 ^ 32) l)
 
-pub record-short : (words : List ℕ) → length words ≢ 10 → recordIf false words ≡ recordIn words
+pub record-short : (words : List ℕ) → length words ≢ 11 → recordIf false words ≡ recordIn words
 unfolding recordIn isRecord
-record-short words ne = rw (ne-eqb (length words) 10 ne)
+record-short words ne = rw (ne-eqb (length words) 11 ne)
 
-record-long : (b : Bool) (n : ℕ) → (eqb n 10 && b) ≡ true → n ≡ 10
-record-long b n e = elim (ℕ-discrete n 10) [ yes h ↦ h | no ne ↦ absurd (subst T (sym e ∙ ap (λ x. x && b) (ne-eqb n 10 ne)) tt) ]
+record-long : (b : Bool) (n : ℕ) → (eqb n 11 && b) ≡ true → n ≡ 11
+record-long b n e = elim (ℕ-discrete n 11) [ yes h ↦ h | no ne ↦ absurd (subst T (sym e ∙ ap (λ x. x && b) (ne-eqb n 11 ne)) tt) ]
 
 module _ (words : List ℕ) {b : Bool} (e : b ≡ isRecord words) where
-  pub long-by : b ≡ true → length words ≡ 10
+  pub long-by : b ≡ true → length words ≡ 11
   unfolding isRecord
   long-by t = record-long (ltb (getD words 0 0) (2 ^ 32)) (length words) (sym e ∙ t)
 
@@ -70,9 +75,9 @@ module _ (words : List ℕ) {b : Bool} (e : b ≡ isRecord words) where
   unwritten r t = rw (← e, t)
 
 -- a call that is refused before its work leaves the record that was read, and so the words
-own-words : (words : List ℕ) → length words ≡ 10 → wordsIf true words (recordIf true words) ≡ words
+own-words : (words : List ℕ) → length words ≡ 11 → wordsIf true words (recordIf true words) ≡ words
 own-words words e =
-    let own : (i : ℕ) → i < 10 → set words i (getD words i 0) ≡ words = λ i h. set-own words i (rw e h) in
+    let own : (i : ℕ) → i < 11 → set words i (getD words i 0) ≡ words = λ i h. set-own words i (rw e h) in
     rw (
       own 0 (lit< tt),
       own 1 (lit< tt),
@@ -84,6 +89,7 @@ own-words words e =
       own 7 (lit< tt),
       own 8 (lit< tt),
       own 9 (lit< tt),
+      own 10 (lit< tt),
     )
 
 pub kept-words : (words : List ℕ) → wordsLeft words (recordIn words) ≡ words
@@ -246,6 +252,62 @@ module _ (p q : ℕ) (coefs : List ℤ) (most : ℕ) (equations : List ℤ) (bas
     unfolding startFromWords
     list-fitting t = rw (← e, t)
 
+-- ---- of a start for right sides and lower bounds
+
+-- a check whose refusals come with no value
+abbrev Bare : Check → Type 0
+Bare c = (n : ℕ) (values : List ℕ) → c ≡ refuse n values → values ≡ []
+
+bare-if : (b : Bool) (m : ℕ) → Bare (refuseIf b m)
+unfolding refuseWith
+bare-if true m n values e = cc
+bare-if false m n values e = absurd (refuse-not-go (sym e))
+
+bare-then : (c d : Check) → Bare c → Bare d → Bare (c then d)
+unfolding _then_
+bare-then (refuse n values) d x y = x
+bare-then go d x y = y
+
+shape-bare : (p q coefs rights lower numbers basis sizes : ℕ) → Bare (shapeChecks p q coefs rights lower numbers basis sizes)
+unfolding shapeChecks
+shape-bare p q coefs rights lower numbers basis sizes =
+    bare-then _ _ (bare-if _ 1)
+    (bare-then _ _ (bare-if _ 2)
+    (bare-then _ _ (bare-if _ 2) (bare-then _ _ (bare-if _ 3) (bare-then _ _ (bare-if _ 3) (bare-then _ _ (bare-if _ 4) (bare-if _ 5))))))
+
+pub shape-refused : (p q coefs rights lower numbers basis sizes : ℕ) {k : made.Check} {why : Refusal}
+    → checkOf k ≡ shapeChecks p q coefs rights lower numbers basis sizes → k ≡ Refuse why
+    → numberOf why ≡ checkCode (shapeChecks p q coefs rights lower numbers basis sizes then refuse 6 [])
+unfolding _then_
+shape-refused p q coefs rights lower numbers basis sizes {why = why} e h =
+    let none : valuesOf why ≡ [] = shape-bare p q coefs rights lower numbers basis sizes (numberOf why) (valuesOf why) (sym e ∙ ap checkOf h) in
+    rw (← e, h, none) (omega arith)
+
+pub shape-passed : {k : made.Check} {c : Check} → checkOf k ≡ c → k ≡ Pass → 6 ≡ checkCode (c then refuse 6 [])
+unfolding _then_
+shape-passed e h = rw (← e, h)
+
+module _ (p q : ℕ) (coefs rights : List ℤ) (lower : List ℕ) (equations : List ℤ) (basis words : List ℕ) (sizes : ℕ) {b : Bool} (e : b ≡ isRecord words) where
+  abbrev most : ℕ
+  most = basisRows (suc q) (length basis) sizes
+
+  pub sides-misfit : b ≡ false → {a : ℕ}
+      → a ≡ checkCode (shapeChecks p q (length coefs) (length rights) (length lower) (length equations) (length basis) sizes then refuse 6 [])
+      → (a, (equations, (basis, ([], words)))) ≡ told words (startSidesWords p q coefs rights lower most equations basis words)
+  unfolding startSidesWords shapeChecks
+  sides-misfit t h =
+      let w = workIn equations basis [] words in
+      let checks : shapeChecks p q (length coefs) (length rights) (length lower) (length equations) (length basis) sizes then refuse 6 []
+      ≡ misfitSidesChecks p q coefs rights lower most w = simp then-assoc in
+      rw (← e, t) (ap (λ n. (n, (equations, (basis, ([], words))))) (h ∙ ap checkCode checks)
+      ∙ misfit-by equations basis words (misfitSidesChecks p q coefs rights lower most w))
+
+pub sides-fitting : (p q : ℕ) (coefs rights : List ℤ) (lower : List ℕ) (most : ℕ) (equations : List ℤ) (basis words : List ℕ) {b : Bool}
+    → b ≡ isRecord words → b ≡ true
+    → startSides p q coefs rights lower most (workIn equations basis [] words) ≡ startSidesWords p q coefs rights lower most equations basis words
+unfolding startSidesWords
+sides-fitting p q coefs rights lower most equations basis words e t = rw (← e, t)
+
 -- a start looks at no table of the stage
 abbrev withoutTable : Result → Result
 withoutTable o = result (o .answer) (workOf (o .work .equations) (o .work .basis) [] (recordLeft (o .work)))
@@ -267,6 +329,14 @@ module _ (p q : ℕ) (coefs : List ℤ) (most : ℕ) (equations : List ℤ) (bas
       → outcomeOf o equations′ basis′ [] ≡ calls.start p q coefs most lentNone
   unfolding calls.startUnder calls.startChecks
   start-without o e = ap withoutTable e ∙ without (begun p q coefs) (unfold begunUnder in refl) (calls.startChecks p q coefs most lentTable)
+
+  pub sides-without : (rights : List ℤ) (lower : List ℕ) (o : Outcome) {equations′ : List ℤ} {basis′ : List ℕ}
+      → outcomeOf o equations′ basis′ table ≡ startSides p q coefs rights lower most lentTable
+      → outcomeOf o equations′ basis′ [] ≡ startSides p q coefs rights lower most lentNone
+  unfolding startSides sidesChecks
+  sides-without rights lower o e =
+      ap withoutTable e
+      ∙ without (begunUnder 1 p (suc q) (sidesSystem p q coefs rights lower)) (unfold begunUnder in refl) (sidesChecks p q coefs rights lower most lentTable)
 
   pub list-without : (n : ℕ) (rows : List ℕ) (o : Outcome) {equations′ : List ℤ} {basis′ : List ℕ}
       → outcomeOf o equations′ basis′ table ≡ calls.startFrom p q coefs n rows most lentTable

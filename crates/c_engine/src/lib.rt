@@ -1,7 +1,7 @@
 // The engine's calls on a record of words, each answer as one number: specs/Words.antt.
 ghost use mathlib.Core.Path.{_≡_};
 ghost use mathlib.Core.List.{[]};
-ghost use Prim.Native.Nat.{_^_, _<_, _≤_};
+ghost use Prim.Native.Nat.{suc, _^_, _<_, _≤_};
 ghost use Rattle.engine_spec.specs.Calls.{rowLimit};
 ghost use Rattle.engine_resume.specs.Continuing.{ResumeLeft};
 ghost use Rattle.engine_calls.specs.Records.{answerOf, besideOf, numberOf, valuesOf};
@@ -9,14 +9,17 @@ ghost use Rattle.engine_calls.specs.declared.Outcome.{Outcome as Left};
 ghost use Rattle.engine_checks.specs.Standing.{startChecksBy, startFromChecksBy};
 ghost use Rattle.engine_stage.specs.Standing.{sidesOf};
 ghost use Rattle.c_record.specs.Codes.{code};
-ghost use Rattle.definitions.specs.Answers.{refuse};
+ghost use Rattle.definitions.specs.Answers.{refuse, _then_};
+ghost use Rattle.engine_checks.specs.Sides.{shapeChecks};
 ghost use Rattle.c_engine.specs.WordLaws.{checkCode, instead};
-ghost use Rattle.c_engine.specs.Words.{combineWords, mostOf, recordIn, resumeWords, roomOf, startFromWords, startWords, takeWords, told, wordsLeft};
+ghost use Rattle.c_engine.specs.Words.{combineWords, mostOf, recordIn, resumeWords, roomOf, startFromWords, startSidesWords, startWords, takeWords};
+ghost use Rattle.c_engine.specs.Words.{told, wordsLeft};
 use engine_calls::Beside;
 use engine_calls::Check;
 use engine_calls::Outcome;
 use engine_calls::Refusal;
 use engine_checks::room as capacity;
+use engine_checks::sides;
 use engine_checks::standing;
 
 mod answers; // answers.rt: an answer as one number
@@ -45,6 +48,52 @@ pub fn start(
     }
     let most = capacity::basis_room(q, basis.len(), sizes.len());
     misfit(p, q, coefs, equations.len(), most)
+}
+
+// The start for right sides and lower bounds: the map, p right sides and a bound of q numbers.
+pub fn start_sides(
+    p: usize,
+    q: usize,
+    coefs: &[i32],
+    rights: &[i32],
+    lower: &[u32],
+    equations: &mut [i32],
+    basis: &mut [u32],
+    sizes: &[u32],
+    run: &mut [u64],
+) -> u64
+    ensures { λ a. ⌜ (a, (now (equations .exit), (now (basis .exit), ([], now (run .exit))))) ≡
+        told (now (run .entry))
+        (startSidesWords p q (now (coefs .entry)) (now (rights .entry)) (now (lower .entry)) (mostOf (suc q) (now (basis .entry)) (now (sizes .entry)))
+        (now (equations .entry)) (now (basis .entry)) (now (run .entry))) ⌝ }
+{
+    if records::fits(run) {
+        let r = records::read(run);
+        let beside = lengths(sizes.len(), 0, 0, 0, 0, 0);
+        let o = engine::start_sides(
+            p,
+            q,
+            coefs,
+            rights,
+            lower,
+            equations,
+            basis,
+            sizes,
+            beside,
+            r,
+        );
+        return tell(o, run);
+    }
+    misfit_sides(
+        p,
+        q,
+        coefs.len(),
+        rights.len(),
+        lower.len(),
+        equations.len(),
+        basis.len(),
+        sizes.len(),
+    )
 }
 
 // The start from a list: further equations, and the n rows handed over.
@@ -239,6 +288,25 @@ fn misfit_list(
 {
     match standing::check_start_from(p, q, coefs, n, rows, equations, most) {
         Check::Refuse(why) => first(why),
+        Check::Pass => 6,
+    }
+}
+
+// The same of a start for right sides and lower bounds: 5 too comes before 6.
+fn misfit_sides(
+    p: usize,
+    q: usize,
+    coefs: usize,
+    rights: usize,
+    lower: usize,
+    equations: usize,
+    basis: usize,
+    sizes: usize,
+) -> u64
+    ensures { λ a. ⌜ a ≡ checkCode (shapeChecks p q coefs rights lower equations basis sizes then refuse 6 []) ⌝ }
+{
+    match sides::check_shape(p, q, coefs, rights, lower, equations, basis, sizes) {
+        Check::Refuse(why) => engine_calls::number_of(why),
         Check::Pass => 6,
     }
 }

@@ -12,7 +12,7 @@ const PAST_LIMIT: u64 = calls::STEP_LIMIT + 1;
 pub fn fits(words: &[u64]) -> bool
     ensures { λ b. ⌜ b ≡ isRecord (now (words .entry)) ⌝ }
 {
-    if words.len() == 10 {
+    if words.len() == 11 {
         return words[0] < 4294967296;
     }
     false
@@ -22,7 +22,7 @@ pub fn fits(words: &[u64]) -> bool
 pub fn read(words: &[u64]) -> Record
     ensures { λ r. ⌜ r ≡ recordIn (now (words .entry)) ⌝ }
 {
-    if words.len() == 10 {
+    if words.len() == 11 {
         let done = words[0];
         if done < 4294967296 {
             return Record {
@@ -36,6 +36,7 @@ pub fn read(words: &[u64]) -> Record
                 upper: words[7] as usize,
                 lower: words[8] as usize,
                 steps: Steps(words[9]),
+                cap: words[10],
             };
         }
     }
@@ -50,6 +51,7 @@ pub fn read(words: &[u64]) -> Record
         upper: 0,
         lower: 0,
         steps: Steps(PAST_LIMIT),
+        cap: 0,
     }
 }
 
@@ -68,5 +70,6 @@ pub fn write(words: &mut [u64], r: Record)
         words[7] = r.upper as u64;
         words[8] = r.lower as u64;
         words[9] = r.steps.0;
+        words[10] = r.cap;
     }
 }

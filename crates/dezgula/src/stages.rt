@@ -1,7 +1,8 @@
 // The engine's calls (crate c_engine).
 ghost use mathlib.Core.Path.{_≡_};
 ghost use mathlib.Core.List.{[]};
-ghost use Rattle.c_engine.specs.Words.{combineWords, mostOf, recordIn, resumeWords, roomOf, startFromWords, startWords, takeWords, told};
+ghost use Prim.Native.Nat.{suc};
+ghost use Rattle.c_engine.specs.Words.{combineWords, mostOf, recordIn, resumeWords, roomOf, startFromWords, startSidesWords, startWords, takeWords, told};
 ghost use Rattle.engine_resume.specs.Continuing.{ResumeLeft};
 ghost use Rattle.engine_calls.specs.declared.Outcome.{Outcome as Left};
 ghost use Rattle.engine_stage.specs.Standing.{sidesOf};
@@ -23,6 +24,27 @@ pub extern "C" fn dezgula_raw_engine_start(
         (now (run .entry))) ⌝ }
 {
     c_engine::start(p, q, coefs, equations, basis, sizes, run)
+}
+
+// The start for right sides and lower bounds: the map, p right sides and a bound of q numbers.
+#[no_mangle]
+pub extern "C" fn dezgula_raw_engine_start_sides(
+    p: usize,
+    q: usize,
+    coefs: &[i32],
+    rights: &[i32],
+    lower: &[u32],
+    equations: &mut [i32],
+    basis: &mut [u32],
+    sizes: &[u32],
+    run: &mut [u64],
+) -> u64
+    ensures { λ a. ⌜ (a, (now (equations .exit), (now (basis .exit), ([], now (run .exit))))) ≡
+        told (now (run .entry))
+        (startSidesWords p q (now (coefs .entry)) (now (rights .entry)) (now (lower .entry)) (mostOf (suc q) (now (basis .entry)) (now (sizes .entry)))
+        (now (equations .entry)) (now (basis .entry)) (now (run .entry))) ⌝ }
+{
+    c_engine::start_sides(p, q, coefs, rights, lower, equations, basis, sizes, run)
 }
 
 // The start from a list: further equations, and the n rows handed over.

@@ -3,8 +3,9 @@ use mathlib.Core.Path.{_≡_, refl, _∙_}
 use mathlib.Core.Logic.{_⊎_, inl, inr}
 use mathlib.Core.Bool.{Bool, true, false, not, _&&_, _||_}
 use mathlib.Core.List.{List}
-use Prim.Native.Nat.{ℕ, _+_, _*_, _≤_}
+use Prim.Native.Nat.{ℕ, suc, _+_, _*_, _≤_}
 use native.Mathlib.Nat.{mul-le-mul, mul-le-mul-right}
+use native.Mathlib.Numerals.{add-one}
 use native.Mathlib.Omega.{arith}
 use borrow.Author.Tests.{leb-true, ltb-true, not-false}
 use lib.Dec.{eqb, leb, ltb}
@@ -18,6 +19,7 @@ use Rattle.laws.specs.AnswerLaws.{refuse-if-go, then-assoc, then-go}
 use Rattle.laws.specs.TableLaws.{row-fits}
 use Rattle.engine_spec.specs.Calls as spec
 use Rattle.engine_spec.specs.Engine.{Work, run}
+use Rattle.engine_spec.specs.StartSides.{startSides}
 use Rattle.engine_calls.specs.Records.{call-passed, call-refused, checkOf, lengthsOf, outcomeOf, passes, refusedWith, workOf}
 use Rattle.engine_calls.specs.declared.Beside.{Beside}
 use Rattle.engine_calls.specs.declared.Check.{Check}
@@ -27,6 +29,7 @@ use Rattle.engine_calls.specs.declared.Record.{Record}
 use Rattle.engine_calls.specs.declared.Refusal.{Refusal}
 use Rattle.engine_checks.specs.Operating.{combinesSmall}
 use Rattle.engine_checks.specs.Room.{basis-few, basis-fits, stage-fits}
+use Rattle.engine_checks.specs.Sides.{shaped, sides-checks, sidesChecksBy}
 use Rattle.engine_checks.specs.Standing.{
   Roomed,
   Stands,
@@ -41,7 +44,21 @@ use Rattle.engine_checks.specs.Standing.{
   starts,
   starts-from,
 }
-use Rattle.engine_begins.specs.Begins.{Begun, BegunFrom, Fitting, FittingList, Operated, Taken, begun-from-is, begun-is, operated-is, taken-is}
+use Rattle.engine_begins.specs.Begins.{
+  Begun,
+  BegunFrom,
+  BegunSides,
+  Fitting,
+  FittingList,
+  Operated,
+  Taken,
+  begun-from-is,
+  begun-is,
+  begun-sides-is,
+  operated-is,
+  taken-is,
+}
+use Rattle.engine_begins.specs.Extended.{Extending, extending}
 use Rattle.engine_begins.specs.Writing.{Combines}
 
 -- ---- room
@@ -110,6 +127,35 @@ module _ (p q : ℕ) (coefs : List ℤ) (n : ℕ) (rows : List ℕ) (equations :
   start-from-passed g b =
       call-passed (rw m at (e ∙ start-from-checks p q coefs n rows most (workOf equations basis table r))) equations basis table r _ g
       (begun-from-is table r b)
+
+-- ---- the start for right sides and lower bounds
+
+module _ (p q : ℕ) (coefs rights : List ℤ) (lower : List ℕ) (equations : List ℤ) (basis table : List ℕ) (l : Beside) (r : Record) {made : Check}
+    (e : checkOf made ≡ sidesChecksBy p q coefs rights lower (length equations) (length basis) (l .sizes)) where
+  pub sides-refused : {why : Refusal} → made ≡ Refuse why
+      → outcomeOf (refusedWith why r) equations basis table
+      ≡ startSides p q coefs rights lower (spec.basisRoom (suc q) (lengthsOf basis table l)) (workOf equations basis table r)
+  unfolding startSides
+  sides-refused g =
+      call-refused (e ∙ sides-checks p q coefs rights lower (length basis) (l .sizes) (workOf equations basis table r)) equations basis table r _ g
+
+  pub sides-enters : made ≡ Pass → Extending p q coefs rights lower (length equations) × ((q + 1) * (q + 1) ≤ length basis)
+  unfolding sidesChecksBy
+  sides-enters g =
+      let (a, b) = then-go _ _ (passes e g) in
+      let (s, whole, enough) = shaped p q (length coefs) (length rights) (length lower) (length equations) (length basis) (l .sizes) a in (
+        extending s whole b,
+        rw (add-one q) (omega (arith, basis-fits (suc q) (length basis) (l .sizes), mul-le-mul-right (suc q) enough)),
+      )
+
+  pub sides-passed : made ≡ Pass → {o : Outcome} {equations′ : List ℤ} {basis′ : List ℕ}
+      → BegunSides p q coefs rights lower equations basis o equations′ basis′
+      → outcomeOf o equations′ basis′ table
+      ≡ startSides p q coefs rights lower (spec.basisRoom (suc q) (lengthsOf basis table l)) (workOf equations basis table r)
+  unfolding startSides
+  sides-passed g b =
+      call-passed (e ∙ sides-checks p q coefs rights lower (length basis) (l .sizes) (workOf equations basis table r)) equations basis table r _ g
+      (begun-sides-is table r b)
 
 -- ---- a row operation, and the begin of a stage
 

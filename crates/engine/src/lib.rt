@@ -1,6 +1,9 @@
-// The engine's calls: the start, plain or from a list, a row operation and the begin of a stage. Each takes the record by value and returns what it leaves.
+// The engine's calls: the start, plain, for right sides and lower bounds, or from a list, a row operation and the begin of a stage. Each takes the record by
+// value and returns what it leaves.
 ghost use mathlib.Core.Path.{_≡_};
+ghost use Prim.Native.Nat.{suc};
 ghost use Rattle.engine_spec.specs.Calls as spec;
+ghost use Rattle.engine_spec.specs.StartSides.{startSides};
 ghost use Rattle.engine_calls.specs.Records.{lengthsOf, outcomeOf, workOf};
 use engine_begins::begins;
 use engine_calls::Beside;
@@ -8,6 +11,7 @@ use engine_calls::Check;
 use engine_calls::Outcome;
 use engine_calls::Record;
 use engine_checks::room as capacity;
+use engine_checks::sides;
 use engine_checks::standing;
 
 // The start: the map's coefficients become the working system, the unit tuples the basis. Of what is lent beside only the lengths count.
@@ -29,6 +33,40 @@ pub fn start(
     match standing::check_start(p, q, coefs, equations.len(), most) {
         Check::Refuse(why) => engine_calls::refused(why, r),
         Check::Pass => begins::begin(p, q, coefs, equations, basis),
+    }
+}
+
+// The start for right sides and lower bounds: the map, p right sides and a bound of q numbers. An extra unknown stands first, and no row has more than 1 there.
+pub fn start_sides(
+    p: usize,
+    q: usize,
+    coefs: &[i32],
+    rights: &[i32],
+    lower: &[u32],
+    equations: &mut [i32],
+    basis: &mut [u32],
+    table: &[u32],
+    l: Beside,
+    r: Record,
+) -> Outcome
+    ensures { λ o. ⌜ outcomeOf o (now (equations .exit)) (now (basis .exit)) (now (table .entry))
+        ≡ startSides p q (now (coefs .entry)) (now (rights .entry)) (now (lower .entry))
+        (spec.basisRoom (suc q) (lengthsOf (now (basis .entry)) (now (table .entry)) l))
+        (workOf (now (equations .entry)) (now (basis .entry)) (now (table .entry)) r) ⌝ }
+{
+    let sizes = l.sizes;
+    match sides::check(
+        p,
+        q,
+        coefs,
+        rights,
+        lower,
+        equations.len(),
+        basis.len(),
+        sizes,
+    ) {
+        Check::Refuse(why) => engine_calls::refused(why, r),
+        Check::Pass => begins::begin_sides(p, q, coefs, rights, lower, equations, basis),
     }
 }
 

@@ -1,11 +1,13 @@
 // The start, a row operation and the begin of a stage, after their checks.
 ghost use mathlib.Core.Path.{_≡_};
-ghost use Prim.Native.Nat.{_*_, _≤_};
+ghost use Prim.Native.Nat.{_+_, _*_, _≤_};
 ghost use lib.ListN.{length};
 ghost use Rattle.engine_calls.specs.Records.{leaves, recordOf};
 ghost use Rattle.engine_calls.specs.declared.Answer.the-variants.{Started};
-ghost use Rattle.engine_begins.specs.Begins.{Begun, BegunFrom, Fitting, FittingList, Operated, Taken};
+ghost use Rattle.engine_begins.specs.Begins.{Begun, BegunFrom, BegunSides, Fitting, FittingList, Operated, Taken};
+ghost use Rattle.engine_begins.specs.Extended.{Extending};
 ghost use Rattle.engine_begins.specs.Writing.{Combines};
+use crate::extended;
 use crate::writing;
 use calls::Solutions;
 use calls::Steps;
@@ -21,7 +23,7 @@ pub fn begin(p: usize, q: usize, coefs: &[i32], equations: &mut [i32], basis: &m
 {
     writing::copy(coefs, p * q, equations);
     rows::write_units(basis, q);
-    begun(p, q, q)
+    begun(p, q, q, 0)
 }
 
 // The n rows handed over are the basis.
@@ -40,11 +42,30 @@ pub fn begin_from(
 {
     writing::copy(coefs, p * q, equations);
     writing::copy_rows(rows, n * q, basis);
-    begun(p, q, n)
+    begun(p, q, n, 0)
 }
 
-fn begun(p: usize, q: usize, count: usize) -> Outcome
-    ensures { λ o. ⌜ o ≡ leaves Started (recordOf 0 p q count 0 0 0 0 0 0) ⌝ }
+// The working system has the extra unknown first, and no row more than 1 there.
+pub fn begin_sides(
+    p: usize,
+    q: usize,
+    coefs: &[i32],
+    rights: &[i32],
+    lower: &[u32],
+    equations: &mut [i32],
+    basis: &mut [u32],
+) -> Outcome
+    requires { ⌜ Extending p q (now coefs) (now rights) (now lower) (length (now equations)) × ((q + 1) * (q + 1) ≤ length (now basis)) ⌝ }
+    ensures { λ o. ⌜ BegunSides p q (now (coefs .entry)) (now (rights .entry)) (now (lower .entry)) (now (equations .entry)) (now (basis .entry)) o
+        (now (equations .exit)) (now (basis .exit)) ⌝ }
+{
+    extended::write_system(p, q, coefs, rights, lower, equations);
+    rows::write_units(basis, q + 1);
+    begun(p, q + 1, q + 1, 1)
+}
+
+fn begun(p: usize, q: usize, count: usize, cap: u64) -> Outcome
+    ensures { λ o. ⌜ o ≡ leaves Started (recordOf 0 p q count 0 0 0 0 0 0 cap) ⌝ }
 {
     let run = Record {
         done: 0,
@@ -57,6 +78,7 @@ fn begun(p: usize, q: usize, count: usize) -> Outcome
         upper: 0,
         lower: 0,
         steps: Steps(0),
+        cap,
     };
     Outcome {
         answer: Answer::Started,
@@ -92,13 +114,13 @@ pub fn take(q: usize, basis: &mut [u32], r: Record, e: usize, f: usize) -> Outco
     let steps = r.steps.0;
     if f < q {
         let count = packing::drop_fresh(basis, m, q, f);
-        return taken(done, e, f, count, steps);
+        return taken(done, e, f, count, steps, r.cap);
     }
-    taken(done, e, q, m, steps)
+    taken(done, e, q, m, steps, r.cap)
 }
 
-fn taken(done: u32, e: usize, f: usize, count: usize, steps: u64) -> Outcome
-    ensures { λ o. ⌜ o ≡ leaves Started (recordOf done e f count 0 0 0 0 0 steps) ⌝ }
+fn taken(done: u32, e: usize, f: usize, count: usize, steps: u64, cap: u64) -> Outcome
+    ensures { λ o. ⌜ o ≡ leaves Started (recordOf done e f count 0 0 0 0 0 steps cap) ⌝ }
 {
     let run = Record {
         done,
@@ -111,6 +133,7 @@ fn taken(done: u32, e: usize, f: usize, count: usize, steps: u64) -> Outcome
         upper: 0,
         lower: 0,
         steps: Steps(steps),
+        cap,
     };
     Outcome {
         answer: Answer::Started,

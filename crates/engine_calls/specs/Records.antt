@@ -17,6 +17,8 @@ use Rattle.engine_calls.specs.declared.Outcome.{Outcome}
 use Rattle.engine_calls.specs.declared.Record.{Record}
 use Rattle.engine_calls.specs.declared.Refusal.{Refusal}
 use Rattle.engine_calls.specs.declared.Refusal.the-variants.{
+  Bound,
+  BoundComponent,
   Coefficient,
   CoefficientCount,
   ComponentLimit,
@@ -26,12 +28,12 @@ use Rattle.engine_calls.specs.declared.Refusal.the-variants.{
   NotLeft,
   NotOperation,
 }
-use Rattle.engine_calls.specs.declared.Refusal.the-variants.{OutOfOrder, Room, StepLimit, Unknowns}
+use Rattle.engine_calls.specs.declared.Refusal.the-variants.{OutOfOrder, RightSide, Room, Side, StepLimit, Unknowns}
 
 -- ---- the record, and what is lent
 
-abbrev pub recordOf : (done equation fresh count rows taken degree upper lower steps : ℕ) → Record
-recordOf done equation fresh count rows taken degree upper lower steps =
+abbrev pub recordOf : (done equation fresh count rows taken degree upper lower steps cap : ℕ) → Record
+recordOf done equation fresh count rows taken degree upper lower steps cap =
     record {
       done = done;
       equation = equation;
@@ -43,12 +45,12 @@ recordOf done equation fresh count rows taken degree upper lower steps =
       upper = upper;
       lower = lower;
       steps = record { 0 = steps };
+      cap = cap;
     }
 
--- a run of these calls has no cap
 abbrev pub stageOf : List ℕ → Record → Stage
 stageOf table r =
-    record { table = table; rows = r .rows; taken = r .taken; degree = r .degree; upper = r .upper; lower = r .lower; steps = r .steps .0; cap = 0 }
+    record { table = table; rows = r .rows; taken = r .taken; degree = r .degree; upper = r .upper; lower = r .lower; steps = r .steps .0; cap = r .cap }
 
 abbrev pub workOf : List ℤ → List ℕ → List ℕ → Record → Work
 workOf equations basis table r =
@@ -87,29 +89,37 @@ numberOf Equations = 1
 numberOf Unknowns = 2
 numberOf CoefficientCount = 3
 numberOf Room = 4
+numberOf Bound = 5
 numberOf OutOfOrder = 6
 numberOf (Coefficient place) = 7
+numberOf BoundComponent = 8
 numberOf ComponentLimit = 12
 numberOf StepLimit = 14
+numberOf RightSide = 15
 numberOf Full = 31
 numberOf NotLeft = 32
 numberOf NotFresh = 33
 numberOf NotOperation = 34
+numberOf (Side place) = 35
 
--- the values that it comes with: 7 has the place
+-- the values that it comes with: 7 and 35 have the place
 abbrev pub valuesOf : Refusal → List ℕ
 valuesOf Equations = []
 valuesOf Unknowns = []
 valuesOf CoefficientCount = []
 valuesOf Room = []
+valuesOf Bound = []
 valuesOf OutOfOrder = []
 valuesOf (Coefficient place) = place ∷ []
+valuesOf BoundComponent = []
 valuesOf ComponentLimit = []
 valuesOf StepLimit = []
+valuesOf RightSide = []
 valuesOf Full = []
 valuesOf NotLeft = []
 valuesOf NotFresh = []
 valuesOf NotOperation = []
+valuesOf (Side place) = place ∷ []
 
 -- the first of them, and 0 where there is none
 abbrev pub placeOf : List ℕ → ℕ

@@ -5,7 +5,8 @@ use calls::Solutions;
 use calls::Steps;
 
 // The record of a run: the equations done, as marks; the equation of the stage under way, p where there is none; its fresh unknown, q where there is none; the
-// rows of the basis and of the stage; and where the stage stands: the row of the basis, the degree and the pair that are next. The steps taken.
+// rows of the basis and of the stage; and where the stage stands: the row of the basis, the degree and the pair that are next. The steps taken. The cap on the
+// first unknown, 0 where there is none.
 pub struct Record {
     pub done: u32,
     pub equation: usize,
@@ -17,6 +18,7 @@ pub struct Record {
     pub upper: usize,
     pub lower: usize,
     pub steps: Steps,
+    pub cap: u64,
 }
 
 // The lengths of the tables beside the basis and the stage.
@@ -35,14 +37,18 @@ pub enum Refusal {
     Unknowns,
     CoefficientCount,
     Room,
+    Bound,
     OutOfOrder,
     Coefficient(usize),
+    BoundComponent,
     ComponentLimit,
     StepLimit,
+    RightSide,
     Full,
     NotLeft,
     NotFresh,
     NotOperation,
+    Side(usize),
 }
 
 // What a call answers.
@@ -84,18 +90,22 @@ pub fn number_of(why: Refusal) -> u64
         Refusal::Unknowns => 2,
         Refusal::CoefficientCount => 3,
         Refusal::Room => 4,
+        Refusal::Bound => 5,
         Refusal::OutOfOrder => 6,
         Refusal::Coefficient(_) => 7,
+        Refusal::BoundComponent => 8,
         Refusal::ComponentLimit => 12,
         Refusal::StepLimit => 14,
+        Refusal::RightSide => 15,
         Refusal::Full => 31,
         Refusal::NotLeft => 32,
         Refusal::NotFresh => 33,
         Refusal::NotOperation => 34,
+        Refusal::Side(_) => 35,
     }
 }
 
-// The value that it comes with: the place for 7, and 0 for all others.
+// The value that it comes with: the place for 7 and 35, and 0 for all others.
 pub fn value_of(why: Refusal) -> usize
     ensures { λ n. ⌜ n ≡ placeOf (valuesOf why) ⌝ }
 {
@@ -104,13 +114,17 @@ pub fn value_of(why: Refusal) -> usize
         Refusal::Unknowns => 0,
         Refusal::CoefficientCount => 0,
         Refusal::Room => 0,
+        Refusal::Bound => 0,
         Refusal::OutOfOrder => 0,
         Refusal::Coefficient(place) => place,
+        Refusal::BoundComponent => 0,
         Refusal::ComponentLimit => 0,
         Refusal::StepLimit => 0,
+        Refusal::RightSide => 0,
         Refusal::Full => 0,
         Refusal::NotLeft => 0,
         Refusal::NotFresh => 0,
         Refusal::NotOperation => 0,
+        Refusal::Side(place) => place,
     }
 }

@@ -5,3 +5,4 @@ pub mod Order
 pub mod Taking
 pub mod Operating
 pub mod Standing
+pub mod Sides

@@ -74,7 +74,7 @@ fn check_map(p: usize, q: usize, coefs: &[i32], equations: usize, most: usize) -
 }
 
 // The first coefficient out of range.
-fn check_coefficients(coefs: &[i32]) -> Check
+pub fn check_coefficients(coefs: &[i32]) -> Check
     ensures { λ c. ⌜ checkOf c ≡ coefficientChecks (now (coefs .entry)) ⌝ }
 {
     match coefficients::check(coefs) {
@@ -139,7 +139,7 @@ pub fn check_take(
             if f == q {
                 return Check::Pass;
             }
-            if !taking::is_fresh(equations, p, q, e, f, r.done) {
+            if !taking::is_fresh(equations, p, q, e, f, r.done, r.cap) {
                 return Check::Refuse(Refusal::NotFresh);
             }
             if !taking::is_alone(basis, r.count.0, q, f) {

@@ -6,6 +6,7 @@ ghost use lib.ListN.{length};
 ghost use Rattle.definitions.specs.Tables.{at};
 ghost use Rattle.engine_spec.specs.Beside.{SmallRow, SmallTable, rowAt};
 ghost use Rattle.engine_spec.specs.Calls.{isAlone};
+ghost use Rattle.engine_spec.specs.Caps.{isCapped};
 ghost use Rattle.engine_checks.specs.Taking.{freeIn, freshBy, hasUnknown, leftBy, unitOrLacks, unitsOrLack};
 use crate::signs;
 use engine_beside::degrees;
@@ -24,11 +25,22 @@ pub fn is_left(p: usize, e: usize, equation: usize, done: u32) -> bool
     !signs::is_done(done, e)
 }
 
-// Whether the unknown f is in no equation done, and equation e has −1 there.
-pub fn is_fresh(equations: &[i32], p: usize, q: usize, e: usize, f: usize, done: u32) -> bool
+// Whether the unknown f has no cap, is in no equation done, and equation e has −1 there.
+pub fn is_fresh(
+    equations: &[i32],
+    p: usize,
+    q: usize,
+    e: usize,
+    f: usize,
+    done: u32,
+    cap: u64,
+) -> bool
     requires { ⌜ (p ≤ 32) × (p * q ≤ length (now equations)) × (e < p) ⌝ }
-    ensures { λ b. ⌜ b ≡ freshBy p q e f (now (equations .entry)) done ⌝ }
+    ensures { λ b. ⌜ b ≡ freshBy cap p q e f (now (equations .entry)) done ⌝ }
 {
+    if is_capped(cap, f) {
+        return false;
+    }
     if q <= f {
         return false;
     }
@@ -36,6 +48,16 @@ pub fn is_fresh(equations: &[i32], p: usize, q: usize, e: usize, f: usize, done:
         return false;
     }
     free_in(equations, p, q, f, done)
+}
+
+// Whether the unknown f is the one that a cap is on.
+fn is_capped(cap: u64, f: usize) -> bool
+    ensures { λ b. ⌜ b ≡ isCapped cap f ⌝ }
+{
+    if cap == 0 {
+        return false;
+    }
+    f == 0
 }
 
 fn free_in(equations: &[i32], p: usize, q: usize, f: usize, done: u32) -> bool

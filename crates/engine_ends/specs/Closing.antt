@@ -60,7 +60,7 @@ pub record Closing (p q most : ℕ) (equations : List ℤ) (basis table : List �
   pub ends : Ends p r
 
 pub record RestsLeft (p q : ℕ) (r : Record) (count : ℕ) (o : Outcome) : Type 0 where
-  pub run-is : o .run ≡ recordOf (r .done + 2 ^ r .equation) p q count 0 0 0 0 0 (r .steps .0 + 1)
+  pub run-is : o .run ≡ recordOf (r .done + 2 ^ r .equation) p q count 0 0 0 0 0 (r .steps .0 + 1) (r .cap)
   pub answer-is : answerOf (o .answer) ≡ cond (eqb (r .done + 2 ^ r .equation) (2 ^ p - 1)) complete paused
 
 module _ {p q most : ℕ} {equations : List ℤ} {basis table : List ℕ} {values : List ℤ} {r : Record} (c : Closing p q most equations basis table values r) where

@@ -108,6 +108,7 @@ fn rests(p: usize, q: usize, r: Record, count: usize) -> Outcome
         upper: 0,
         lower: 0,
         steps: Steps(steps),
+        cap: r.cap,
     };
     Outcome { answer, run }
 }

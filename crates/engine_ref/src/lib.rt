@@ -1,6 +1,8 @@
 // The engine's calls as an editor uses them: the caller's own record is advanced through a reference, over the calls by value.
 ghost use mathlib.Core.Path.{_≡_};
+ghost use Prim.Native.Nat.{suc};
 ghost use Rattle.engine_spec.specs.Calls as spec;
+ghost use Rattle.engine_spec.specs.StartSides.{startSides};
 ghost use Rattle.engine_calls.specs.Records.{leaves, lengthsOf, outcomeOf, workOf};
 ghost use Rattle.engine_stage.specs.Standing.{sidesOf};
 ghost use Rattle.engine_resume.specs.Continuing.{ResumeLeft};
@@ -25,6 +27,29 @@ pub fn start(
 {
     let o = engine::start(p, q, coefs, equations, basis, table, l, *r);
     *r = o.run;
+    o.answer
+}
+
+// The start for right sides and lower bounds: the map, p right sides and a bound of q numbers.
+pub fn start_sides(
+    p: usize,
+    q: usize,
+    coefs: &[i32],
+    rights: &[i32],
+    lower: &[u32],
+    equations: &mut [i32],
+    basis: &mut [u32],
+    table: &[u32],
+    l: Beside,
+    kept: &mut Record,
+) -> Answer
+    ensures { λ a. ⌜ outcomeOf (leaves a (now (kept .exit))) (now (equations .exit)) (now (basis .exit)) (now (table .entry))
+        ≡ startSides p q (now (coefs .entry)) (now (rights .entry)) (now (lower .entry))
+        (spec.basisRoom (suc q) (lengthsOf (now (basis .entry)) (now (table .entry)) l))
+        (workOf (now (equations .entry)) (now (basis .entry)) (now (table .entry)) (now (kept .entry))) ⌝ }
+{
+    let o = engine::start_sides(p, q, coefs, rights, lower, equations, basis, table, l, *kept);
+    *kept = o.run;
     o.answer
 }
 

@@ -47,10 +47,10 @@ abbrev pub startOf : Record → Next
 startOf r = nextOf (r .rows) (r .taken) (r .degree) (r .upper) (r .lower) (r .steps .0) (r .rows) true
 
 abbrev pub recordAt : Record → Next → Record
-recordAt r s = recordOf (r .done) (r .equation) (r .fresh) (r .count .0) (s .rows) (s .taken) (s .degree) (s .upper) (s .lower) (s .steps)
+recordAt r s = recordOf (r .done) (r .equation) (r .fresh) (r .count .0) (s .rows) (s .taken) (s .degree) (s .upper) (s .lower) (s .steps) (r .cap)
 
 abbrev pub frameOf : (q room : ℕ) → Record → Frame
-frameOf q room r = record { q = q; m = r .count .0; room = room; from = r .equation * q }
+frameOf q room r = record { q = q; m = r .count .0; room = room; from = r .equation * q; cap = r .cap }
 
 -- ---- what the checks say
 
@@ -140,7 +140,8 @@ marks-kept w = record { long = w .same-length; rest = w .beyond }
 -- The turns: what the stage's own run answers and leaves.
 pub record Advanced (q room budget : ℕ) (equations : List ℤ) (basis sizes table : List ℕ) (x : Sides) (r : Record) (a : Ran) (sizes′ table′ : List ℕ)
     (x′ : Sides) : Type 0 where
-  pub is : runOf (frameOf q room r) (lentOf equations basis sizes′) budget table (startOf r) ≡ outcome (answerOf (a .ending)) (stageOf table′ (a .next))
+  pub is : runOf (frameOf q room r) (lentOf equations basis sizes′) budget table (startOf r)
+      ≡ outcome (answerOf (a .ending)) (stageOf (frameOf q room r) table′ (a .next))
   pub ready : Ready (frameOf q room r) (lentOf equations basis sizes′) table′ x′ (a .next)
   pub rises : r .rows ≤ a .next .rows
   pub beyond : Beyond (a .next .rows) x x′

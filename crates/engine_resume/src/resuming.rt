@@ -127,7 +127,13 @@ fn advance(
         marks,
         mothers,
     );
-    let f = Frame { q, m, room, from };
+    let f = Frame {
+        q,
+        m,
+        room,
+        from,
+        cap: r.cap,
+    };
     let s = begin(r);
     stages::run(
         f,
@@ -206,6 +212,7 @@ fn stand(r: Record, s: Next) -> Record
         upper: s.upper,
         lower: s.lower,
         steps,
+        cap: r.cap,
     }
 }
 

@@ -137,7 +137,7 @@ module _ (base : Base) (p q : ℕ) (coefs : List ℤ) where
 
 -- ---- foreign calls of document 01's third demand
 
-refused-checked : (c : Check) (w : Work) (f : Work → Result) (n : ℕ) (values : List ℕ) → c ≡ refuse n values → checked c w f .work ≡ w
+pub refused-checked : (c : Check) (w : Work) (f : Work → Result) (n : ℕ) (values : List ℕ) → c ≡ refuse n values → checked c w f .work ≡ w
 unfolding checked
 refused-checked c w f n values e = rw e refl
 

@@ -1,6 +1,6 @@
--- Right sides, lower bounds and starts from a list, computed from the start to what is handed out. Assumes nothing.
+-- Right sides, lower bounds and starts from a list, computed from the start to what is handed out, and what the starts refuse. Assumes nothing.
 use mathlib.Core.Path.{_≡_, refl}
-use mathlib.Core.List.{List, _∷_, []}
+use mathlib.Core.List.{List, _∷_, [], _++_}
 use Prim.Native.Nat.{ℕ, suc, _*_}
 use lib.IntN.{ℤ, pos, negsuc}
 use lib.ListN.{getD, replicate, take}
@@ -71,6 +71,7 @@ use Rattle.engine_spec.specs.Stage.{
   turn,
 }
 use Rattle.engine_spec.specs.Sides.{handed, handedCount, lessTo}
+use Rattle.engine_spec.specs.StartSides.{sideAt, sidesChecks, sidesSystem, startSides}
 
 -- tables of 9s, with room for 16 rows of q + 1 numbers
 abbrev lent : ℕ → Work
@@ -226,4 +227,68 @@ lists =
       many = refl;
       first-of-two = refl;
       range = refl;
+    }
+
+-- ---- the start for right sides and lower bounds
+
+-- a map with right sides and a bound, in tables with room for 16 rows
+abbrev startsWith : (p q : ℕ) (coefs rights : List ℤ) (lower : List ℕ) → Result
+startsWith p q coefs rights lower = startSides p q coefs rights lower 16 (lent q)
+
+-- one equation in two unknowns, to its end
+abbrev ranWith : (coefs rights : List ℤ) (lower : List ℕ) → Result
+ranWith coefs rights lower = resume 1 3 16 16 100 (engine.take 1 3 16 16 0 3 (startsWith 1 2 coefs rights lower .work) .work)
+
+-- 3 x = 2 y, and x + y = 0
+abbrev thirds : List ℤ
+thirds = pos 3 ∷ negsuc 1 ∷ []
+
+abbrev sum : List ℤ
+sum = pos 1 ∷ pos 1 ∷ []
+
+pub record Starts : Type 0 where
+  -- the negated right side stands first; from a bound, less what the bound makes of the equation
+  pub column : take 3 (startsWith 1 2 double (pos 3 ∷ []) (0 ∷ 0 ∷ []) .work .equations) ≡ negsuc 2 ∷ pos 1 ∷ negsuc 1 ∷ []
+  pub lowered : take 3 (startsWith 1 2 thirds (pos 1 ∷ []) (2 ∷ 4 ∷ []) .work .equations) ≡ negsuc 2 ∷ pos 3 ∷ negsuc 1 ∷ []
+  pub cap : startsWith 1 2 double (pos 3 ∷ []) (0 ∷ 0 ∷ []) .work .stage .cap ≡ 1
+  pub rows : startsWith 1 2 double (pos 3 ∷ []) (0 ∷ 0 ∷ []) .work .count ≡ 3
+  pub loops : shown 0 2 none (ranWith double (pos 3 ∷ []) (0 ∷ 0 ∷ [])) ≡ sees (2 ∷ 1 ∷ [])
+  pub meeting : shown 1 2 none (ranWith double (pos 3 ∷ []) (0 ∷ 0 ∷ [])) ≡ sees (3 ∷ 0 ∷ [])
+  pub bound : shown 1 2 two (ranWith thirds (pos 0 ∷ []) (2 ∷ 0 ∷ [])) ≡ sees (2 ∷ 3 ∷ [])
+  pub nothing-above : shown 1 2 two (ranWith sum (pos 0 ∷ []) (2 ∷ 0 ∷ [])) ≡ sees []
+  -- refusals, each where all before it pass, and where the next is due too
+  pub unknowns : startsWith 1 32 [] (pos 0 ∷ []) [] .answer ≡ refused 2 []
+  pub numbers : startsWith 1 2 (pos 1 ∷ []) [] [] .answer ≡ refused 3 []
+  pub sides : startsWith 1 2 double [] [] .answer ≡ refused 3 []
+  pub short : startsWith 3 2 (double ++ double ++ double) (pos 0 ∷ pos 0 ∷ pos 0 ∷ []) [] .answer ≡ refused 4 []
+  pub length : startsWith 1 2 (pos 10001 ∷ pos 1 ∷ []) (pos 0 ∷ []) (0 ∷ []) .answer ≡ refused 5 []
+  pub range : startsWith 1 2 (pos 1 ∷ pos 10001 ∷ []) (pos 0 ∷ []) (1000001 ∷ 0 ∷ []) .answer ≡ refused 7 (2 ∷ [])
+  pub large : startsWith 1 2 double (pos 10001 ∷ []) (0 ∷ 1000001 ∷ []) .answer ≡ refused 8 []
+  pub outside : startsWith 1 2 double (negsuc 10000 ∷ []) (1000000 ∷ 0 ∷ []) .answer ≡ refused 15 []
+  pub beyond : startsWith 2 2 (pos 1 ∷ pos 0 ∷ pos 1 ∷ negsuc 0 ∷ []) (pos 0 ∷ negsuc 0 ∷ []) (1000000 ∷ 0 ∷ []) .answer ≡ refused 35 (2 ∷ [])
+
+starts : Starts
+unfolding startSides sidesChecks sidesSystem sideAt engine.take resume checked takeChecks resumeChecks begunUnder taken run after finish finished rested allDone
+    valuesSmall onward fillTo inOrder marksInOrder coefficientsSmall isRow isRising isLeft refuseFirst refuseWith _then_ packTo extendTo lessTo turn rowTurn
+    pairTurn degreeTurn paired grown passed raised isPair isDue pairDegree nextDegree firstFrom lesser leastTo isWithin reducible isSmall isAtOrBelow value
+    inner sumTo allTo anyTo countTo total unit writeTo frozen bit
+starts =
+    record {
+      column = refl;
+      lowered = refl;
+      cap = refl;
+      rows = refl;
+      loops = refl;
+      meeting = refl;
+      bound = refl;
+      nothing-above = refl;
+      unknowns = refl;
+      numbers = refl;
+      sides = refl;
+      short = refl;
+      length = refl;
+      range = refl;
+      large = refl;
+      outside = refl;
+      beyond = refl;
     }

@@ -37,3 +37,5 @@ pub mod Kinds
 pub mod KindExamples
 pub mod Groups
 pub mod GroupExamples
+pub mod StartSides
+pub mod SidesRuns

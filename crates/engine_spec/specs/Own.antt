@@ -37,6 +37,7 @@ use Rattle.engine_spec.specs.Engine.{Work, basisRow, systemOf}
 use Rattle.engine_spec.specs.Equations.{wanted-some}
 use Rattle.engine_spec.specs.Promise.{
   RunsOn,
+  afterBegin,
   afterCombine,
   afterResume,
   afterStart,
@@ -173,7 +174,7 @@ pub record Shape (p q : ℕ) : Type 0 where
   pub q-some : 1 ≤ q
   pub q-few : q ≤ mostColumns
 
-shape-from : (p q : ℕ) → check1 p ≡ go → check2 q ≡ go → Shape p q
+pub shape-from : (p q : ℕ) → check1 p ≡ go → check2 q ≡ go → Shape p q
 shape-from p q x₁ x₂ =
     let (a, b) = and-parts (leb 1 p) _ (not-false (between 1 mostRows p) (refuse-if-go (not (between 1 mostRows p)) 1 x₁)) in
     let (c, d) = and-parts (leb 1 q) _ (not-false (between 1 mostColumns q) (refuse-if-go (not (between 1 mostColumns q)) 2 x₂)) in
@@ -184,6 +185,8 @@ unfolding startUnder startChecks startFromUnder startFromChecks
 runs-shape {base} {p} {q} {coefs} (afterStart most room w plain long wide e) =
     let (x₁, y₁) = then-go (check1 p) _ (started-goes _ w _ e) in
     shape-from p q x₁ (then-go (check2 q) _ y₁ .0)
+runs-shape (afterBegin most room w plain s long wide) =
+    record { p-some = s .equations .0; p-few = s .equations .1; q-some = s .unknowns .0; q-few = s .unknowns .1 }
 runs-shape {base} {p} {q} {coefs} (afterStartFrom n rows most room w list long wide e) =
     let (x₁, y₁) = then-go (check1 p) _ (started-goes _ w _ e) in
     shape-from p q x₁ (then-go (check2 q) _ y₁ .0)

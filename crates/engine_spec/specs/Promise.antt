@@ -41,7 +41,7 @@ use Rattle.engine_spec.specs.Base.{
   top-free,
   under,
 }
-use Rattle.engine_spec.specs.Beside.{coefficientLimit}
+use Rattle.engine_spec.specs.Beside.{coefficientLimit, mostColumns, mostRows}
 use Rattle.engine_spec.specs.Calls.{
   check1,
   check2,
@@ -117,7 +117,7 @@ use Rattle.engine_spec.specs.Whole.{Good, Standing, Whole, between, done
 
 -- ---- what the checks say
 
-false-not : (b : Bool) → b ≡ false → ¬ (T b)
+pub false-not : (b : Bool) → b ≡ false → ¬ (T b)
 false-not b e h = rw e at h
 
 pub not-false : (b : Bool) → not b ≡ false → T b
@@ -128,7 +128,7 @@ or-false true c e = absurd (false-not true e tt)
 or-false false c e = (refl, e)
 
 -- a test passed: the check lets go on
-passes : (b : Bool) (n : ℕ) → refuseIf (not b) n ≡ go → T b
+pub passes : (b : Bool) (n : ℕ) → refuseIf (not b) n ≡ go → T b
 passes b n e = not-false b (refuse-if-go (not b) n e)
 
 with-silent : (b : Bool) (n : ℕ) (values : List ℕ) → refuseWith b n values ≡ go → b ≡ false
@@ -137,7 +137,7 @@ with-silent true n values e = cc
 with-silent false n values e = refl
 
 -- a search for the first place that finds none
-first-silent : (n k : ℕ) (f : ℕ → Bool) → refuseFirst n k f ≡ go → (i : ℕ) → i < k → f i ≡ false
+pub first-silent : (n k : ℕ) (f : ℕ → Bool) → refuseFirst n k f ≡ go → (i : ℕ) → i < k → f i ≡ false
 unfolding refuseFirst
 first-silent n zero f e i l = absurd (omega arith)
 first-silent n (suc k) f e i l =
@@ -537,12 +537,22 @@ module _ (base : Base) (p q : ℕ) (a : ℕ → ℕ → ℤ) (most room most′ 
 
 -- ---- the promise
 
--- The work of a run that nobody else alters, with room for so many rows in the basis and in the stage's table: a start that is let go on, plain or from the
--- whole list of the equations before, inside the cap, then any calls, refused ones included, with any arguments, and tables lent anew with the rows that were
--- in them. That the list handed over is the whole list of the equations before cannot be checked: it is the premise.
+-- What a start that has checks of its own comes to, once they let it go on: sizes and room within their limits, and working coefficients in their range.
+pub record Startable (p q : ℕ) (coefs : List ℤ) (most : ℕ) (w : Work) : Type 0 where
+  pub equations : (1 ≤ p) × (p ≤ mostRows)
+  pub unknowns : (1 ≤ q) × (q ≤ mostColumns)
+  pub numbers : p * q ≤ length (w .equations)
+  pub some : q ≤ most
+  pub range : (k : ℕ) → k < p * q → natAbs (getD coefs k (pos 0)) ≤ coefficientLimit
+
+-- The work of a run that nobody else alters, with room for so many rows in the basis and in the stage's table: a start that is let go on, plain, with checks
+-- of its own (StartSides.antt) or from the whole list of the equations before, inside the cap, then any calls, refused ones included, with any arguments, and
+-- tables lent anew with the rows that were in them. That the list handed over is the whole list of the equations before cannot be checked: it is the premise.
 pub data RunsOn (base : Base) (p q : ℕ) (coefs : List ℤ) : ℕ → ℕ → Work → Type 0 where
   afterStart : (most room : ℕ) (w : Work) → base .p ≡ 0 → most * q ≤ length (w .basis) → room * q ≤ length (w .stage .table)
       → startUnder (base .cap) p q coefs most w .answer ≡ started → RunsOn base p q coefs most room (startUnder (base .cap) p q coefs most w .work)
+  afterBegin : (most room : ℕ) (w : Work) → base .p ≡ 0 → Startable p q coefs most w → most * q ≤ length (w .basis) → room * q ≤ length (w .stage .table)
+      → RunsOn base p q coefs most room (begunUnder (base .cap) p q coefs w)
   afterStartFrom : (n : ℕ) (rows : List ℕ) (most room : ℕ) (w : Work)
       → Enumerates q (LoopInside (base .cap) (base .p) q (base .a)) n (at rows q) → most * q ≤ length (w .basis)
       → room * q ≤ length (w .stage .table) → startFromUnder (base .cap) p q coefs n rows most w .answer ≡ started
@@ -565,7 +575,7 @@ Runs p q coefs = RunsOn nothing p q coefs
 
 -- what the checks that both starts share say
 module _ (p q : ℕ) (coefs : List ℤ) (most : ℕ) (w : Work) where
-  roomy : check4 p q most w ≡ go → (p * q ≤ length (w .equations)) × (q ≤ most)
+  pub roomy : check4 p q most w ≡ go → (p * q ≤ length (w .equations)) × (q ≤ most)
   roomy e =
       let (short, less) = or-false (ltb (length (w .equations)) (p * q)) (ltb most q) (refuse-if-go _ 4 e) in (
         nltb→le (length (w .equations)) (p * q)
@@ -573,7 +583,7 @@ module _ (p q : ℕ) (coefs : List ℤ) (most : ℕ) (w : Work) where
         nltb→le most q (not-T (ltb most q) (false-not (ltb most q) less)),
       )
 
-  in-range : check7 p q coefs ≡ go → (k : ℕ) → k < p * q → natAbs (getD coefs k (pos 0)) ≤ coefficientLimit
+  pub in-range : check7 p q coefs ≡ go → (k : ℕ) → k < p * q → natAbs (getD coefs k (pos 0)) ≤ coefficientLimit
   in-range e k kl =
       omega (
         arith,
@@ -623,6 +633,7 @@ module _ (base : Base) (p q : ℕ) (coefs : List ℤ) where
 
   pub runs-whole : {most room : ℕ} {w : Work} → RunsOn base p q coefs most room w → Whole base p q (systemOf q coefs) most room w
   runs-whole (afterStart most room w plain long wide e) = start-whole most room w plain long wide e
+  runs-whole (afterBegin most room w plain s long wide) = begun-whole base plain p q coefs most room w (s .numbers) (s .some) long wide (s .range)
   runs-whole (afterStartFrom n rows most room w list long wide e) = start-from-whole n rows most room w list long wide e
   runs-whole (afterCombine {most} {room} {w} r x y u t) = combine-whole base p q (systemOf q coefs) most room w (runs-whole r) x y u t
   runs-whole (afterTake {most} {room} {w} r e f) = take-whole base p q (systemOf q coefs) most room w (runs-whole r) e f

@@ -160,7 +160,7 @@ or-to true c h = tt
 or-to false c (inl h) = absurd h
 or-to false c (inr h) = h
 
-short-decides : (p q most : ℕ) (w : Work) → Decides (check4 p q most w) (rule 4 (Short p q most w))
+pub short-decides : (p q most : ℕ) (w : Work) → Decides (check4 p q most w) (rule 4 (Short p q most w))
 short-decides p q most w =
     let a = ltb (length (w .equations)) (p * q) in
     let b = ltb most q in
@@ -168,11 +168,11 @@ short-decides p q most w =
     (λ h. elim (or-from a b h) [ inl x ↦ inl (ltb→lt (length (w .equations)) (p * q) x) | inr x ↦ inr (ltb→lt most q x) ])
     (λ h. or-to a b (elim h [ inl x ↦ inl (lt→ltb (length (w .equations)) (p * q) x) | inr x ↦ inr (lt→ltb most q x) ]))
 
-small-from : (q : ℕ) (z : ℕ → ℕ) → T (isSmall q z) → (j : ℕ) → j < q → z j ≤ mostComponent
+pub small-from : (q : ℕ) (z : ℕ → ℕ) → T (isSmall q z) → (j : ℕ) → j < q → z j ≤ mostComponent
 unfolding isSmall
 small-from q z h j l = leb→le (z j) mostComponent (all-at q _ h j l)
 
-small-to : (q : ℕ) (z : ℕ → ℕ) → ((j : ℕ) → j < q → z j ≤ mostComponent) → T (isSmall q z)
+pub small-to : (q : ℕ) (z : ℕ → ℕ) → ((j : ℕ) → j < q → z j ≤ mostComponent) → T (isSmall q z)
 unfolding isSmall
 small-to q z h = all-from q _ (λ j l. le→leb (z j) mostComponent (h j l))
 

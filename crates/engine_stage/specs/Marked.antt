@@ -1,11 +1,11 @@
 -- The test of a pair of rows: by their marks, and else by the rows. Assumes nothing.
-use mathlib.Core.Path.{_≡_, refl, sym, _∙_}
-use mathlib.Core.Logic.{_⊎_, inl, inr}
+use mathlib.Core.Path.{_≡_, refl, sym, _∙_, ap}
+use mathlib.Core.Logic.{_≢_, _⊎_, inl, inr}
 use mathlib.Core.Bool.{Bool, true, false, not, cond, _||_}
 use mathlib.Core.List.{List}
-use Prim.Native.Nat.{ℕ, _≤_, _<_}
+use Prim.Native.Nat.{ℕ, zero, suc, _+_, _*_, _≤_, _<_}
 use native.Mathlib.Omega.{arith}
-use lib.Dec.{T, leb, leb→le}
+use lib.Dec.{T, leb, leb→le, ltb}
 use lib.IntN.{ℤ, pos, natAbs, _+ℤ_}
 use lib.ListN.{getD}
 use lib.Signed.{_<ℤ_, ltZ, ltZ-yes}
@@ -18,6 +18,7 @@ use Rattle.linear.specs.SystemLaws.{value-sum}
 use Rattle.linear.specs.Systems.{value}
 use Rattle.definitions.specs.Tables.{at}
 use Rattle.engine_spec.specs.Beside.{AllMarked, SmallTable, Valued, Worded, noMark, valueLimit, wordOf}
+use Rattle.engine_spec.specs.Caps.{isOver}
 use Rattle.engine_spec.specs.Marks.{Marked, lower-mark, marked-above, marked-below, size, upper-mark}
 use Rattle.engine_spec.specs.Reduction.{reducible}
 use Rattle.engine_spec.specs.ReductionLaws.{Against}
@@ -49,6 +50,36 @@ pub record Paired (q : ℕ) (c : ℕ → ℤ) (n : ℕ) (table : List ℕ) (valu
 -- the stage's test of their sum
 abbrev pub testOf : (q : ℕ) (c : ℕ → ℤ) (n : ℕ) (table : List ℕ) (h k : ℕ) → Bool
 testOf q c n table h k = reducible q c n (at table q) (sumOf q table h k) (value c q (sumOf q table h k))
+
+-- the same of a sum that may pass the cap
+abbrev pub needlessOf : (cap q : ℕ) (c : ℕ → ℤ) (n : ℕ) (table : List ℕ) (h k : ℕ) → Bool
+needlessOf cap q c n table h k = isOver cap (sumOf q table h k) || testOf q c n table h k
+
+-- only the first component counts
+first-counts : (cap : ℕ) (y z : ℕ → ℕ) → y 0 ≡ z 0 → isOver cap y ≡ isOver cap z
+first-counts zero y z e = refl
+first-counts (suc c) y z e = rw e refl
+
+module _ (cap q : ℕ) (c : ℕ → ℤ) (n : ℕ) (table : List ℕ) (h k : ℕ) {b : Bool} (e : b ≡ isOver cap (λ _. getD table (h * q) 0 + getD table (k * q) 0)) where
+  over-is : b ≡ isOver cap (sumOf q table h k)
+  over-is =
+      let x : h * q ≡ h * q + 0 = omega arith in
+      let y : k * q ≡ k * q + 0 = omega arith in
+      e ∙ first-counts cap _ (sumOf q table h k) (ap (λ i. getD table i 0 + getD table (k * q) 0) x ∙ ap (λ i. getD table (h * q + 0) 0 + getD table i 0) y)
+
+  pub over-needless : b ≡ true → true ≡ needlessOf cap q c n table h k
+  over-needless t = rw (← over-is, t)
+
+  pub under-needless : b ≡ false → {r : Bool} → r ≡ testOf q c n table h k → r ≡ needlessOf cap q c n table h k
+  under-needless t g = rw (← over-is, t) g
+
+-- a cap that is none, and one that there is
+pub no-cap : (cap : ℕ) (z : ℕ → ℕ) → cap ≡ 0 → false ≡ isOver cap z
+no-cap cap z e = rw e
+
+pub some-cap : (cap : ℕ) (z : ℕ → ℕ) → cap ≢ 0 → ltb cap (z 0) ≡ isOver cap z
+some-cap zero z ne = absurd (ne refl)
+some-cap (suc c) z ne = refl
 
 or-cases : (b d : Bool) → (b || d) ≡ true → (b ≡ true) ⊎ (d ≡ true)
 or-cases true d e = inl refl

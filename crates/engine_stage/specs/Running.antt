@@ -29,10 +29,10 @@ answerOf ending.Ends = complete
 
 -- the stage's own turns
 abbrev pub runOf : Frame → Lent → ℕ → List ℕ → Next → Outcome
-runOf f l budget table s = run (f .q) (equation f l) (f .m) (at (l .basis) (f .q)) (f .room) budget (stageOf table s)
+runOf f l budget table s = run (f .q) (equation f l) (f .m) (at (l .basis) (f .q)) (f .room) budget (stageOf f table s)
 
 pub record RunLeft (f : Frame) (l : Lent) (budget : ℕ) (table : List ℕ) (x : Sides) (s : Next) (r : Ran) (table′ : List ℕ) (x′ : Sides) : Type 0 where
-  pub is : runOf f l budget table s ≡ outcome (answerOf (r .ending)) (stageOf table′ (r .next))
+  pub is : runOf f l budget table s ≡ outcome (answerOf (r .ending)) (stageOf f table′ (r .next))
   pub ready : Ready f l table′ x′ (r .next)
   pub rises : s .rows ≤ r .next .rows
   pub beyond : Beyond (r .next .rows) x x′
@@ -69,7 +69,7 @@ beyond-then l p q =
 module _ {f : Frame} {l : Lent} {budget : ℕ} {table : List ℕ} {x : Sides} {s : Next} {left : ℕ} {table′ : List ℕ} {x′ : Sides} {s′ : Next}
     (g : Going f l budget table x s left table′ x′ s′) where
   one-more : (k : ℕ) → left ≡ suc k → runOf f l left table′ s′ ≡ after (turnOf f l table′ s′)
-      (run (f .q) (equation f l) (f .m) (at (l .basis) (f .q)) (f .room) k) (stageOf table′ s′)
+      (run (f .q) (equation f l) (f .m) (at (l .basis) (f .q)) (f .room) k) (stageOf f table′ s′)
   unfolding run
   one-more k e = rw e
 
@@ -127,7 +127,7 @@ module _ {f : Frame} {l : Lent} {budget : ℕ} {table : List ℕ} {x : Sides} {s
   pub paused-left : left ≡ 0 → RunLeft f l budget table x s (ranOf ending.Paused s′) table′ x′
   paused-left e = record { is = g .same ∙ none e; ready = g .ready; rises = g .rises; beyond = g .beyond; mothers = g .mothers }
     where
-      none : left ≡ 0 → runOf f l left table′ s′ ≡ outcome paused (stageOf table′ s′)
+      none : left ≡ 0 → runOf f l left table′ s′ ≡ outcome paused (stageOf f table′ s′)
       none e = rw e (unfold run in refl)
 
 -- ---- lengths

@@ -54,9 +54,9 @@ lentOf coefs basis sizes = record { coefs = coefs; basis = basis; sizes = sizes 
 abbrev pub equation : Frame → Lent → ℕ → ℤ
 equation f l = equationAt (l .coefs) (f .from)
 
-abbrev pub stageOf : List ℕ → Next → Stage
-stageOf table s =
-    record { table = table; rows = s .rows; taken = s .taken; degree = s .degree; upper = s .upper; lower = s .lower; steps = s .steps; cap = 0 }
+abbrev pub stageOf : Frame → List ℕ → Next → Stage
+stageOf f table s =
+    record { table = table; rows = s .rows; taken = s .taken; degree = s .degree; upper = s .upper; lower = s .lower; steps = s .steps; cap = f .cap }
 
 abbrev pub nextOf : (rows taken degree upper lower steps first : ℕ) (more : Bool) → Next
 nextOf rows taken degree upper lower steps first more =
@@ -97,7 +97,7 @@ pub record Ready (f : Frame) (l : Lent) (table : List ℕ) (x : Sides) (s : Next
   pub early : s .steps ≤ stepLimit
   pub falling : Falling (s .rows) (x .degrees) (s .degree) (s .upper) (s .first)
   -- no row of the basis of this degree is left
-  pub spent : s .more ≡ false → f .m ≤ dueRow (f .q) (f .m) (at (l .basis) (f .q)) (stageOf table s)
+  pub spent : s .more ≡ false → f .m ≤ dueRow (f .q) (f .m) (at (l .basis) (f .q)) (stageOf f table s)
 
 -- ---- what a turn leaves
 
@@ -121,11 +121,11 @@ unchanged-set table n v = record { each = λ i l. getD-set-other table n i v 0 (
 
 -- the stage's own turn
 abbrev pub turnOf : Frame → Lent → List ℕ → Next → Turned
-turnOf f l table s = turn (f .q) (equation f l) (f .m) (at (l .basis) (f .q)) (f .room) (stageOf table s)
+turnOf f l table s = turn (f .q) (equation f l) (f .m) (at (l .basis) (f .q)) (f .room) (stageOf f table s)
 
 -- A turn that goes on leaves what the stage's turn leaves; one that stops or ends leaves everything as it was.
 pub record Gone (f : Frame) (l : Lent) (t : Turned) (n : ℕ) (table : List ℕ) (x : Sides) (s′ : Next) (table′ : List ℕ) (x′ : Sides) : Type 0 where
-  pub is : t ≡ goes (stageOf table′ s′)
+  pub is : t ≡ goes (stageOf f table′ s′)
   pub long : length table′ ≡ length table
   pub rises : n ≤ s′ .rows
   pub ready : Ready f l table′ x′ s′
@@ -151,7 +151,7 @@ beyond-none = record { values = kept-none; words = kept-none; degrees = kept-non
 
 module _ {f : Frame} {l : Lent} {table : List ℕ} {x : Sides} {s : Next} (r : Ready f l table x s) where
   -- nothing appended, in the same degree, of which no row of the basis is left: another place, one step more
-  pub passed-ready : f .m ≤ dueRow (f .q) (f .m) (at (l .basis) (f .q)) (stageOf table s) → (upper lower steps first : ℕ) → steps ≤ stepLimit
+  pub passed-ready : f .m ≤ dueRow (f .q) (f .m) (at (l .basis) (f .q)) (stageOf f table s) → (upper lower steps first : ℕ) → steps ≤ stepLimit
       → Falling (s .rows) (x .degrees) (s .degree) upper first
       → Ready f l table x (nextOf (s .rows) (s .taken) (s .degree) upper lower steps first false)
   passed-ready none upper lower steps first early falling =
@@ -271,7 +271,7 @@ module _ {f : Frame} {l : Lent} {table : List ℕ} {x : Sides} {s : Next} (r : R
 
     pub grown-ready : (taken upper lower steps first : ℕ) (more : Bool) → steps ≤ stepLimit
         → Falling (s .rows + 1) (set (x .degrees) (s .rows) (s .degree)) (s .degree) upper first
-        → (more ≡ false → f .m ≤ dueRow (f .q) (f .m) (at (l .basis) (f .q)) (stageOf grownTable
+        → (more ≡ false → f .m ≤ dueRow (f .q) (f .m) (at (l .basis) (f .q)) (stageOf f grownTable
         (nextOf (s .rows + 1) taken (s .degree) upper lower steps first more)))
         → Ready f l grownTable grownSides (nextOf (s .rows + 1) taken (s .degree) upper lower steps first more)
     grown-ready taken upper lower steps first more early falling spent =

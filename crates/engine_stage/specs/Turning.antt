@@ -49,7 +49,7 @@ use Rattle.engine_search.specs.Places.{Falling, Found, degreeOf, nextDegreeBy, 
 use Rattle.laws.specs.TableLaws.{row-fits, write-length}
 use Rattle.engine_rows.specs.Marking.{valued-bounded}
 use Rattle.engine_stage.specs.Appended.{PairAppended, PairFits, Room, RowAppended}
-use Rattle.engine_stage.specs.Marked.{Paired, fails, holds, mark-is, markOf, sum-is, testOf, true-is}
+use Rattle.engine_stage.specs.Marked.{Paired, fails, holds, mark-is, markOf, needlessOf, sum-is, true-is}
 use Rattle.engine_stage.specs.Standing.{
   Gone,
   Lent,
@@ -100,16 +100,16 @@ pub record PairDue (f : Frame) (l : Lent) (table degrees : List ℕ) (s : Next) 
   pub signs : Against (value (equation f l) (f .q) (at table (f .q) h)) (value (equation f l) (f .q) (at table (f .q) k))
   pub exact : total (at table (f .q) h) (f .q) + total (at table (f .q) k) (f .q) ≡ s .degree
   pub falling : Falling (s .rows) degrees (s .degree) h first
-  pub spent : f .m ≤ dueRow (f .q) (f .m) (at (l .basis) (f .q)) (stageOf table s)
+  pub spent : f .m ≤ dueRow (f .q) (f .m) (at (l .basis) (f .q)) (stageOf f table s)
 
 module _ {f : Frame} {l : Lent} {table : List ℕ} {x : Sides} {s : Next} (r : Ready f l table x s) where
   -- ---- a pair
 
   module _ {h k first : ℕ} (due : PairDue f l table (x .degrees) s h k first) where
     abbrev pairOf : Turned
-    pairOf = pairTurn (f .q) (equation f l) (f .room) (stageOf table s) h k
+    pairOf = pairTurn (f .q) (equation f l) (f .room) (stageOf f table s) h k
 
-    pub pair-passed : testOf (f .q) (equation f l) (s .rows) table h k ≡ true
+    pub pair-passed : needlessOf (f .cap) (f .q) (equation f l) (s .rows) table h k ≡ true
         → Gone f l pairOf (s .rows) table x (nextOf (s .rows) (s .taken) (s .degree) h (k + 1) (s .steps + 1) first false) table x
     unfolding pairTurn paired passed
     pair-passed e =
@@ -122,19 +122,19 @@ module _ {f : Frame} {l : Lent} {table : List ℕ} {x : Sides} {s : Next} (r : R
           mothers = unchanged;
         }
 
-    pub pair-large : testOf (f .q) (equation f l) (s .rows) table h k ≡ false → isSmall (f .q) (sumOf (f .q) (stageOf table s) h k) ≡ false
+    pub pair-large : needlessOf (f .cap) (f .q) (equation f l) (s .rows) table h k ≡ false → isSmall (f .q) (sumOf (f .q) (stageOf f table s) h k) ≡ false
         → Still pairOf (stops 12) table table x x
     unfolding pairTurn paired
     pair-large e g = record { is = rw (e, g); same = refl; aside = refl }
 
-    pub pair-full : testOf (f .q) (equation f l) (s .rows) table h k ≡ false → isSmall (f .q) (sumOf (f .q) (stageOf table s) h k) ≡ true
+    pub pair-full : needlessOf (f .cap) (f .q) (equation f l) (s .rows) table h k ≡ false → isSmall (f .q) (sumOf (f .q) (stageOf f table s) h k) ≡ true
         → ltb (s .rows) (f .room) ≡ false → Still pairOf (stops 31) table table x x
     unfolding pairTurn paired
     pair-full e g i = record { is = rw (e, g, i); same = refl; aside = refl }
 
     -- the sum appended
     abbrev sum : ℕ → ℕ
-    sum = sumOf (f .q) (stageOf table s) h k
+    sum = sumOf (f .q) (stageOf f table s) h k
 
     sum-degree : total sum (f .q) ≡ s .degree
     sum-degree = total-sum sum (at table (f .q) h) (at table (f .q) k) (f .q) (λ j jq. refl) ∙ due .exact
@@ -143,8 +143,8 @@ module _ {f : Frame} {l : Lent} {table : List ℕ} {x : Sides} {s : Next} (r : R
     sum-some = omega (arith, due .exact, r .ranked .some h (due .upper), r .measured .each h (due .upper))
 
     pub pair-grown : (v : ℤ) (w mark mother : ℕ) → s .rows < f .room → v ≡ value (equation f l) (f .q) sum → w ≡ wordOf (f .q) sum
-        → (mark < noMark → Marked (f .q) (equation f l) (s .rows) (at table (f .q)) sum mark) → testOf (f .q) (equation f l) (s .rows) table h k ≡ false
-        → isSmall (f .q) sum ≡ true → ltb (s .rows) (f .room) ≡ true
+        → (mark < noMark → Marked (f .q) (equation f l) (s .rows) (at table (f .q)) sum mark)
+        → needlessOf (f .cap) (f .q) (equation f l) (s .rows) table h k ≡ false → isSmall (f .q) sum ≡ true → ltb (s .rows) (f .room) ≡ true
         → Gone f l pairOf (s .rows) table x (nextOf (s .rows + 1) (s .taken) (s .degree) h (k + 1) (s .steps + 1) first false)
         (writeTo (f .q) table (s .rows * f .q) sum)
         (sidesOf (set (x .values) (s .rows) v) (set (x .words) (s .rows) w) (set (x .degrees) (s .rows) (s .degree)) (set (x .marks) (s .rows) mark)
@@ -168,7 +168,7 @@ module _ {f : Frame} {l : Lent} {table : List ℕ} {x : Sides} {s : Next} (r : R
 
   module _ {i : ℕ} (due : RowDue f l s i) where
     abbrev rowOf : Turned
-    rowOf = rowTurn (f .q) (at (l .basis) (f .q)) (f .room) (stageOf table s) i
+    rowOf = rowTurn (f .q) (at (l .basis) (f .q)) (f .room) (stageOf f table s) i
 
     pub row-full : ltb (s .rows) (f .room) ≡ false → Still rowOf (stops 31) table table x x
     unfolding rowTurn
@@ -200,7 +200,7 @@ module _ {f : Frame} {l : Lent} {table : List ℕ} {x : Sides} {s : Next} (r : R
   -- ---- the next degree, or the end
 
   abbrev degreeOfTurn : ℕ → Turned
-  degreeOfTurn d = degreeTurn d (stageOf table s)
+  degreeOfTurn d = degreeTurn d (stageOf f table s)
 
   pub degree-ends : (d : ℕ) → d ≡ 0 → Still (degreeOfTurn d) ends table table x x
   unfolding degreeTurn
@@ -222,7 +222,7 @@ module _ {f : Frame} {l : Lent} {table : List ℕ} {x : Sides} {s : Next} (r : R
 
 module _ (f : Frame) (l : Lent) (table : List ℕ) (s : Next) where
   abbrev stage : Stage
-  stage = stageOf table s
+  stage = stageOf f table s
 
   pub turn-late : s .steps ≡ stepLimit → turnOf f l table s ≡ stops 14
   unfolding turn
@@ -266,7 +266,7 @@ module _ {f : Frame} {l : Lent} {table : List ℕ} {values : List ℤ} {words de
       → degree ≡ getD (l .sizes) i 0
       → RowAppended (f .q) (s .rows) (equation f l) (at (l .basis) (f .q) i) word degree table values words degrees marks mothers table′ values′ words′ degrees′
       marks′ mothers′
-      → Gone f l (rowTurn (f .q) (at (l .basis) (f .q)) (f .room) (stageOf table s) i) (s .rows) table (sidesOf values words degrees marks mothers)
+      → Gone f l (rowTurn (f .q) (at (l .basis) (f .q)) (f .room) (stageOf f table s) i) (s .rows) table (sidesOf values words degrees marks mothers)
       (nextOf (s .rows + 1) (i + 1) (s .degree) (s .upper) (s .lower) (s .steps + 1) (s .rows + 1) true) table′
       (sidesOf values′ words′ degrees′ marks′ mothers′)
   row-appended {i} {word} {degree} due room word-is degree-is a =
@@ -304,10 +304,10 @@ module _ {f : Frame} {l : Lent} {table : List ℕ} {values : List ℤ} {words de
         }
 
     pub pair-appended : {word : ℕ} {table′ : List ℕ} {values′ : List ℤ} {words′ degrees′ marks′ mothers′ : List ℕ} → s .rows < f .room → word ≡ wordOf (f .q)
-        (sumOf (f .q) (stageOf table s) h k)
-        → testOf (f .q) (equation f l) (s .rows) table h k ≡ false → isSmall (f .q) (sumOf (f .q) (stageOf table s) h k) ≡ true
+        (sumOf (f .q) (stageOf f table s) h k)
+        → needlessOf (f .cap) (f .q) (equation f l) (s .rows) table h k ≡ false → isSmall (f .q) (sumOf (f .q) (stageOf f table s) h k) ≡ true
         → PairAppended (f .q) (s .rows) h k word table values words degrees marks mothers table′ values′ words′ degrees′ marks′ mothers′
-        → Gone f l (pairTurn (f .q) (equation f l) (f .room) (stageOf table s) h k) (s .rows) table (sidesOf values words degrees marks mothers)
+        → Gone f l (pairTurn (f .q) (equation f l) (f .room) (stageOf f table s) h k) (s .rows) table (sidesOf values words degrees marks mothers)
         (nextOf (s .rows + 1) (s .taken) (s .degree) h (k + 1) (s .steps + 1) first false) table′ (sidesOf values′ words′ degrees′ marks′ mothers′)
     pair-appended {word} room word-is new small a =
         let exact : getD degrees h 0 + getD degrees k 0 ≡ s .degree =
@@ -327,8 +327,8 @@ module _ {f : Frame} {l : Lent} {table : List ℕ} {x : Sides} {s : Next} (r : R
   abbrev due-at : ℕ
   due-at = firstIn (f .m) (s .taken) (λ i. eqb (degreeOf (l .sizes) i) (s .degree))
 
-  pub row-is : due-at ≡ dueRow (f .q) (f .m) (at (l .basis) (f .q)) (stageOf table s)
-  row-is = due-row-by (f .q) (stageOf table s) (r .given .sized)
+  pub row-is : due-at ≡ dueRow (f .q) (f .m) (at (l .basis) (f .q)) (stageOf f table s)
+  row-is = due-row-by (f .q) (stageOf f table s) (r .given .sized)
 
   pub row-due : {i : ℕ} → s .steps ≢ stepLimit → i ≡ due-at → i < f .m → RowDue f l s i
   row-due {i} ne e low =
@@ -337,20 +337,20 @@ module _ {f : Frame} {l : Lent} {table : List ℕ} {x : Sides} {s : Next} (r : R
       let exact = eqb→eq (degreeOf (l .sizes) due-at) (s .degree) holds in
       record { early = omega (arith, r .early, ne); low = low; exact = rw (← e) at (sym (r .given .sized .each due-at (omega arith)) ∙ exact) }
 
-  pub pair-due : {h k first : ℕ} → s .steps ≢ stepLimit → f .m ≤ dueRow (f .q) (f .m) (at (l .basis) (f .q)) (stageOf table s)
+  pub pair-due : {h k first : ℕ} → s .steps ≢ stepLimit → f .m ≤ dueRow (f .q) (f .m) (at (l .basis) (f .q)) (stageOf f table s)
       → Found (s .rows) (x .values) (x .degrees) (s .degree) (s .upper) (s .lower) h k first → h < s .rows
       → PairDue f l table (x .degrees) s h k first
   pair-due {h} {k} {first} ne spent found less =
       let c = equation f l in
-      let (up, low) = pair-by (stageOf table s) (r .valued) (r .measured) found less in
+      let (up, low) = pair-by (stageOf f table s) (r .valued) (r .measured) found less in
       let (inside, due) =
       pair-found (s .rows) (isDue (f .q) c (at table (f .q)) (s .degree)) (s .upper) (s .lower) (rw (← up) at less) in
       record {
         early = omega (arith, r .early, ne);
         upper = less;
         lower = rw low at inside;
-        signs = rw (low, up) at (due-pair (f .q) c (at table (f .q)) (above (f .q) c (stageOf table s)) (below (f .q) c (stageOf table s)) (s .degree) due);
-        exact = rw (low, up) at (is-due (f .q) c (at table (f .q)) (above (f .q) c (stageOf table s)) (below (f .q) c (stageOf table s)) (s .degree) due);
+        signs = rw (low, up) at (due-pair (f .q) c (at table (f .q)) (above (f .q) c (stageOf f table s)) (below (f .q) c (stageOf f table s)) (s .degree) due);
+        exact = rw (low, up) at (is-due (f .q) c (at table (f .q)) (above (f .q) c (stageOf f table s)) (below (f .q) c (stageOf f table s)) (s .degree) due);
         falling = found .pair less .falling;
         spent = spent;
       }
@@ -360,32 +360,32 @@ module _ {f : Frame} {l : Lent} {table : List ℕ} {x : Sides} {s : Next} (r : R
   pub by-late : s .steps ≡ stepLimit → Still (turnOf f l table s) (stops 14) table table x x
   by-late e = record { is = turn-late f l table s e; same = refl; aside = refl }
 
-  pub spent-by : {r′ : ℕ} → RowFound (f .m) due-at r′ → f .m ≤ r′ → f .m ≤ dueRow (f .q) (f .m) (at (l .basis) (f .q)) (stageOf table s)
+  pub spent-by : {r′ : ℕ} → RowFound (f .m) due-at r′ → f .m ≤ r′ → f .m ≤ dueRow (f .q) (f .m) (at (l .basis) (f .q)) (stageOf f table s)
   spent-by g past = rw row-is at (g .none past)
 
   pub by-row : {i : ℕ} → s .steps ≢ stepLimit → RowFound (f .m) due-at i → i < f .m
-      → turnOf f l table s ≡ rowTurn (f .q) (at (l .basis) (f .q)) (f .room) (stageOf table s) i
+      → turnOf f l table s ≡ rowTurn (f .q) (at (l .basis) (f .q)) (f .room) (stageOf f table s) i
   by-row {i} ne g low = turn-row f l table s (eqb-no (s .steps) stepLimit ne) i (sym (g .here low ∙ row-is)) (ltb-yes i (f .m) low)
 
-  module _ (ne : s .steps ≢ stepLimit) (spent : f .m ≤ dueRow (f .q) (f .m) (at (l .basis) (f .q)) (stageOf table s)) where
-    abbrev no-row : ltb (dueRow (f .q) (f .m) (at (l .basis) (f .q)) (stageOf table s)) (f .m) ≡ false
-    no-row = ltb-no (dueRow (f .q) (f .m) (at (l .basis) (f .q)) (stageOf table s)) (f .m) spent
+  module _ (ne : s .steps ≢ stepLimit) (spent : f .m ≤ dueRow (f .q) (f .m) (at (l .basis) (f .q)) (stageOf f table s)) where
+    abbrev no-row : ltb (dueRow (f .q) (f .m) (at (l .basis) (f .q)) (stageOf f table s)) (f .m) ≡ false
+    no-row = ltb-no (dueRow (f .q) (f .m) (at (l .basis) (f .q)) (stageOf f table s)) (f .m) spent
 
     pub by-pair : {h k first : ℕ} → Found (s .rows) (x .values) (x .degrees) (s .degree) (s .upper) (s .lower) h k first → h < s .rows
-        → turnOf f l table s ≡ pairTurn (f .q) (equation f l) (f .room) (stageOf table s) h k
+        → turnOf f l table s ≡ pairTurn (f .q) (equation f l) (f .room) (stageOf f table s) h k
     by-pair {h} {k} found less =
-        let (up, low) = pair-by (stageOf table s) (r .valued) (r .measured) found less in
+        let (up, low) = pair-by (stageOf f table s) (r .valued) (r .measured) found less in
         turn-pair f l table s (eqb-no (s .steps) stepLimit ne) no-row h k up low (ltb-yes h (s .rows) less)
 
     module _ {h k first d : ℕ} (found : Found (s .rows) (x .values) (x .degrees) (s .degree) (s .upper) (s .lower) h k first) (past : s .rows ≤ h)
         (d-is : d ≡ nextDegreeBy (s .degree) (f .m) (degreeOf (l .sizes)) (s .rows) (valueOf (x .values)) (degreeOf (x .degrees))) where
-      next-is : nextDegree (f .q) (equation f l) (f .m) (at (l .basis) (f .q)) (stageOf table s) ≡ d
-      next-is = sym (d-is ∙ next-degree-by (stageOf table s) (r .valued) (r .measured) (r .given .sized))
+      next-is : nextDegree (f .q) (equation f l) (f .m) (at (l .basis) (f .q)) (stageOf f table s) ≡ d
+      next-is = sym (d-is ∙ next-degree-by (stageOf f table s) (r .valued) (r .measured) (r .given .sized))
 
-      by-degree : turnOf f l table s ≡ degreeTurn d (stageOf table s)
+      by-degree : turnOf f l table s ≡ degreeTurn d (stageOf f table s)
       by-degree =
           turn-degree f l table s (eqb-no (s .steps) stepLimit ne) no-row
-          (ltb-no _ (s .rows) (none-by (stageOf table s) (r .valued) (r .measured) found past)) d next-is
+          (ltb-no _ (s .rows) (none-by (stageOf f table s) (r .valued) (r .measured) found past)) d next-is
 
       pub by-end : d ≡ 0 → Still (turnOf f l table s) ends table table x x
       by-end e = rw by-degree (degree-ends r d e)
@@ -394,4 +394,4 @@ module _ {f : Frame} {l : Lent} {table : List ℕ} {x : Sides} {s : Next} (r : R
       by-raise some =
           rw by-degree
           (degree-raised r (omega (arith, r .early, ne)) d (eqb-no d 0 some)
-          (rw next-is at (next-above (f .q) (equation f l) (f .m) (at (l .basis) (f .q)) (stageOf table s) (λ z. some (sym next-is ∙ z)))))
+          (rw next-is at (next-above (f .q) (equation f l) (f .m) (at (l .basis) (f .q)) (stageOf f table s) (λ z. some (sym next-is ∙ z)))))

@@ -18,12 +18,14 @@ use engine_reduce::memory;
 use engine_rows::rows;
 use engine_search::Place;
 
-// What a stage has: q unknowns, m rows of the basis, room for so many rows, and its equation from place `from` of the coefficients on.
+// What a stage has: q unknowns, m rows of the basis, room for so many rows, its equation from place `from` of the coefficients on, and the cap on the first
+// unknown, 0 where there is none.
 pub struct Frame {
     pub q: usize,
     pub m: usize,
     pub room: usize,
     pub from: usize,
+    pub cap: u64,
 }
 
 // Where a stage stands: its rows, the row of the basis that is next, the degree under way, the pair that is next, the steps; from row `first` on no degree is
@@ -170,7 +172,7 @@ fn row_turn(
     requires { ⌜ Ready f (lentOf (now coefs) (now basis) (now sizes)) (now table)
         (sidesOf (now values) (now words) (now degrees) (now marks) (now mothers)) s × RowDue f (lentOf (now coefs) (now basis) (now sizes)) s i ⌝ }
     ensures { λ r. ⌜ Left f (lentOf (now (coefs .entry)) (now (basis .entry)) (now (sizes .entry)))
-        (rowTurn (f .q) (at (now (basis .entry)) (f .q)) (f .room) (stageOf (now (table .entry)) s) i) (s .rows) (now (table .entry))
+        (rowTurn (f .q) (at (now (basis .entry)) (f .q)) (f .room) (stageOf f (now (table .entry)) s) i) (s .rows) (now (table .entry))
         (sidesOf (now (values .entry)) (now (words .entry)) (now (degrees .entry)) (now (marks .entry)) (now (mothers .entry))) r (now (table .exit))
         (sidesOf (now (values .exit)) (now (words .exit)) (now (degrees .exit)) (now (marks .exit)) (now (mothers .exit))) ⌝ }
 {
@@ -210,7 +212,7 @@ fn row_turn(
     })
 }
 
-// The pair found: its sum is appended unless some row reduces it.
+// The pair found: its sum is appended unless it passes the cap or some row reduces it.
 fn pair_turn(
     f: Frame,
     coefs: &[i32],
@@ -231,7 +233,7 @@ fn pair_turn(
         (sidesOf (now values) (now words) (now degrees) (now marks) (now mothers)) s
         × PairDue f (lentOf (now coefs) (now basis) (now sizes)) (now table) (now degrees) s (at .upper) (at .lower) (at .first) ⌝ }
     ensures { λ r. ⌜ Left f (lentOf (now (coefs .entry)) (now (basis .entry)) (now (sizes .entry)))
-        (pairTurn (f .q) (equationAt (now (coefs .entry)) (f .from)) (f .room) (stageOf (now (table .entry)) s) (at .upper) (at .lower)) (s .rows)
+        (pairTurn (f .q) (equationAt (now (coefs .entry)) (f .from)) (f .room) (stageOf f (now (table .entry)) s) (at .upper) (at .lower)) (s .rows)
         (now (table .entry))
         (sidesOf (now (values .entry)) (now (words .entry)) (now (degrees .entry)) (now (marks .entry)) (now (mothers .entry))) r (now (table .exit))
         (sidesOf (now (values .exit)) (now (words .exit)) (now (degrees .exit)) (now (marks .exit)) (now (mothers .exit))) ⌝ }
@@ -241,7 +243,8 @@ fn pair_turn(
     let h = at.upper;
     let k = at.lower;
     let word = fields::joined(words[h], words[k]);
-    if tests::reduced(
+    if tests::needless(
+        f.cap,
         coefs,
         f.from,
         table,

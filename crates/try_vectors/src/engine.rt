@@ -59,14 +59,14 @@ fn called(
     let t = l.stack_length;
     let m = l.tuple_length;
     let w = l.record_length;
-    if equations.len() < e || basis.len() < b || COEFFICIENTS < l.coefs_length {
+    if equations.len() < e || basis.len() < b || COEFFICIENTS < l.coefs_length || COEFFICIENTS < l.rights_length {
         return OTHER;
     }
     if table.len() < t || mothers.len() < m || record.len() < w {
         return OTHER;
     }
     let kind = l.kind;
-    if kind == b's' || kind == b'f' {
+    if kind == b's' || kind == b'f' || kind == b'w' {
         return started(
             l,
             &mut equations[0..e],
@@ -85,7 +85,7 @@ fn called(
     )
 }
 
-// A start, plain or from a list: of the second the rows are the line's table.
+// A start, plain, from a list or for right sides: of the second the rows, of the third the bound are the line's table.
 fn started(
     l: Line,
     equations: &mut [i32],
@@ -108,6 +108,21 @@ fn started(
     let kind = l.kind;
     if kind == b's' {
         return c_engine::start(p, q, coefs, equations, basis, &sizes[0..s], record);
+    }
+    if kind == b'w' {
+        let sides = l.rights;
+        let rights = first_signed(&sides, l.rights_length);
+        return c_engine::start_sides(
+            p,
+            q,
+            coefs,
+            rights,
+            rows,
+            equations,
+            basis,
+            &sizes[0..s],
+            record,
+        );
     }
     c_engine::start_from(
         p,

@@ -85,6 +85,8 @@ pub mod numbers {
         ENGINE_FRESH = 33;
         /// This is no row operation, or a coefficient would be too large.
         ENGINE_OPERATION = 34;
+        /// A right side less what the lower bound makes of its equation is too large; the place is the first such equation.
+        ENGINE_SIDE = 35;
         /// The numbers do not show that both maps have the same minimal solutions.
         ENGINE_NOT_SHOWN = 36;
         /// A start has written its rows and its record.

@@ -4,7 +4,7 @@ use crate::answer::{numbers, Answer, Error, Progress};
 use crate::list::{List, Rows};
 use crate::sys;
 use crate::system::System;
-use std::ptr::NonNull;
+use std::ptr::{self, NonNull};
 use std::slice;
 
 /// How far a solver is.
@@ -55,6 +55,21 @@ impl Solver {
         // SAFETY: the system's and the list's tables are slices with their lengths that live as long as the call, which copies them; the answer is borrowed
         // exclusively.
         let own = unsafe { sys::dezgula_solver_new_from(&system.map().lent(), &list.found().lent(), &mut answer) };
+        Solver::owning(own, answer)
+    }
+
+    pub(crate) fn new_sides(system: &System, rights: Option<&[i32]>, lower: Option<&[u32]>) -> Result<Solver, Error> {
+        let (map, mut answer) = (system.map().lent(), 0);
+        if rights.is_some_and(|rights| rights.len() != map.p) {
+            return Err(Error::new(numbers::COUNT, 0));
+        }
+        if lower.is_some_and(|lower| lower.len() != map.q) {
+            return Err(Error::new(numbers::TUPLE_LENGTH, 0));
+        }
+        let (rights, lower) = (rights.map_or(ptr::null(), <[i32]>::as_ptr), lower.map_or(ptr::null(), <[u32]>::as_ptr));
+        // SAFETY: the system's table is a slice with its length, the right sides are as many as its equations and the bound as its unknowns, or NULL; all live as
+        // long as the call, which copies them; the answer is borrowed exclusively.
+        let own = unsafe { sys::dezgula_solver_new_sides(&map, rights, lower, &mut answer) };
         Solver::owning(own, answer)
     }
 
@@ -110,6 +125,18 @@ impl Solver {
             return None;
         }
         // SAFETY: so many rows stand there, in one table of the library, and stay until the solver works or is freed: both need it when this borrow is over.
+        Some(Rows::of(unknowns, unsafe { slice::from_raw_parts(rows, count * unknowns) }))
+    }
+
+    /// Of a solver with right sides or a lower bound, the smallest tuples that meet them; none before it is complete, and of any other solver.
+    pub fn smallest(&self) -> Option<Rows<'_>> {
+        let (mut count, unknowns) = (0, self.lent().q);
+        // SAFETY: as for what is told; the count is borrowed exclusively.
+        let rows = unsafe { sys::dezgula_solver_smallest(self.own.as_ptr(), &mut count) };
+        if rows.is_null() {
+            return None;
+        }
+        // SAFETY: as for the rows.
         Some(Rows::of(unknowns, unsafe { slice::from_raw_parts(rows, count * unknowns) }))
     }
 

@@ -115,6 +115,7 @@ pub struct dezgula_engine_record {
     pub upper: u64,
     pub lower: u64,
     pub steps: u64,
+    pub cap: u64,
 }
 
 /// What a run of the engine is lent, and its record.
@@ -260,6 +261,14 @@ extern "C" {
     pub fn dezgula_engine_pack(record: dezgula_engine_record, words: *mut u64);
     pub fn dezgula_engine_unpack(words: *const u64) -> dezgula_engine_record;
     pub fn dezgula_engine_start(system: *const dezgula_system, run: *mut dezgula_engine_run) -> u64;
+    pub fn dezgula_engine_start_sides(
+        system: *const dezgula_system,
+        rights: *const i32,
+        rights_len: usize,
+        lower: *const u32,
+        lower_len: usize,
+        run: *mut dezgula_engine_run,
+    ) -> u64;
     pub fn dezgula_engine_start_from(system: *const dezgula_system, list: *const dezgula_list, run: *mut dezgula_engine_run) -> u64;
     pub fn dezgula_engine_combine(p: usize, q: usize, run: *mut dezgula_engine_run, r: usize, u: i32, s: usize, t: i32) -> u64;
     pub fn dezgula_engine_take(p: usize, q: usize, run: *mut dezgula_engine_run, e: usize, f: usize) -> u64;
@@ -280,11 +289,18 @@ extern "C" {
 
     pub fn dezgula_solver_new(system: *const dezgula_system, answer: *mut u64) -> *mut dezgula_solver;
     pub fn dezgula_solver_new_from(system: *const dezgula_system, list: *const dezgula_list, answer: *mut u64) -> *mut dezgula_solver;
+    pub fn dezgula_solver_new_sides(
+        system: *const dezgula_system,
+        rights: *const i32,
+        lower: *const u32,
+        answer: *mut u64,
+    ) -> *mut dezgula_solver;
     pub fn dezgula_solver_work(solver: *mut dezgula_solver, budget: u64) -> u64;
     pub fn dezgula_solver_limit(solver: *mut dezgula_solver, bytes: usize);
     pub fn dezgula_solver_told(solver: *const dezgula_solver) -> dezgula_solver_progress;
     pub fn dezgula_solver_system(solver: *const dezgula_solver) -> dezgula_system;
     pub fn dezgula_solver_rows(solver: *const dezgula_solver, count: *mut usize) -> *const u32;
+    pub fn dezgula_solver_smallest(solver: *const dezgula_solver, count: *mut usize) -> *const u32;
     pub fn dezgula_solver_saved_length(solver: *const dezgula_solver) -> usize;
     pub fn dezgula_solver_save(solver: *const dezgula_solver, words: *mut u32);
     pub fn dezgula_solver_load(words: *const u32, length: usize, answer: *mut u64) -> *mut dezgula_solver;

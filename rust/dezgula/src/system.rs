@@ -145,6 +145,21 @@ impl System {
         Solver::new_from(self, list)
     }
 
+    /// The engine with right sides, a lower bound or both: at most 31 unknowns, right sides from -10,000 to 10,000, and components of the bound up to 1,000,000.
+    /// [`Solver::rows`] has the minimal solutions without right sides, [`Solver::smallest`] the smallest tuples at or above the bound that meet them; where there
+    /// are none of these, nothing at or above the bound does.
+    ///
+    /// ```
+    /// use dezgula::System;
+    /// let mut solver = System::new([[1, -2]])?.solver_with(Some(&[3]), Some(&[4, 0]))?;
+    /// assert_eq!(solver.complete()?.len(), 1);
+    /// assert_eq!(solver.smallest().map(|rows| rows.to_list().len()), Some(1));
+    /// # Ok::<(), dezgula::Error>(())
+    /// ```
+    pub fn solver_with(&self, rights: Option<&[i32]>, lower: Option<&[u32]>) -> Result<Solver, Error> {
+        Solver::new_sides(self, rights, lower)
+    }
+
     /// Starts a run of this kind.
     pub fn start<K: Kind>(&self, kind: K) -> Result<Run<K>, Error> {
         Run::new(self.clone(), kind)

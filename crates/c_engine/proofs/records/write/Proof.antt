@@ -54,6 +54,15 @@ slice-write-words-10 c =
     let l = long-by _ (c .before .before .fits2 .ensures) (c .before .if1 .taken) in
     rw (length-set, length-set, length-set, length-set, length-set, length-set, length-set, length-set, length-set) (omega (arith, l))
 
+slice-write-words-11 : tie.Need-slice-write-words-11
+slice-write-words-11 c =
+    let l = long-by _ (c .before .before .fits2 .ensures) (c .before .if1 .taken) in
+    rw (length-set, length-set, length-set, length-set, length-set, length-set, length-set, length-set, length-set, length-set) (omega (arith, l))
+
+same-length : tie.Need-same-length
+same-length c =
+    rw (length-set, length-set, length-set, length-set, length-set, length-set, length-set, length-set, length-set, length-set, length-set)
+
 returns : tie.Need-returns
 returns c = written _ (c .before .before .fits2 .ensures) _ (c .before .if1 .taken)
 
@@ -64,5 +73,5 @@ pub write-spec : {M : Type 1} → statement M
 write-spec =
     tie.close
     (tie.spec (λ c κs. search needs) (λ c. search needs) slice-write-words slice-write-words-2 slice-write-words-3 slice-write-words-4 slice-write-words-5
-    slice-write-words-6 slice-write-words-7 slice-write-words-8 slice-write-words-9 slice-write-words-10
-    (λ c. search needs) returns (λ c. search needs) returns-2)
+    slice-write-words-6 slice-write-words-7 slice-write-words-8 slice-write-words-9 slice-write-words-10 slice-write-words-11
+    same-length returns (λ c. search needs) returns-2)

@@ -1,5 +1,5 @@
 -- `standing::check_take` meets its contract: the first check that refuses decides. Assumes nothing.
-use mathlib.Core.Path.{refl, sym, _∙_, ap}
+use mathlib.Core.Path.{sym, _∙_, ap}
 use borrow.Author.Tests.{eq-eqb, ne-eqb, not-false, not-true}
 use denote.Ref.{now}
 use Rattle.engine_calls.specs.Records.{checkOf, workOf}
@@ -64,7 +64,7 @@ returns-3 c = let s = c .before .before .before .before .before .before .before 
     (c .before .before .before .before .before .before .before .check-standing .ensures) _ (c .before .before .before .before .before .enum-told .given .1)
     (first-passes _ 32 _ (sym (c .before .before .before .before .is-left .ensures) ∙ not-false _ (c .before .before .before .if1 .left))
     (last-refuses _ 33 (fresh-asked _ _ (ne-eqb _ _ (c .before .before .if2 .left))
-    (fresh-fails (s .args .p) (s .args .q) (s .args .e) (s .args .f) w refl (sym (c .before .is-fresh .ensures) ∙ not-true _ (c .if3 .taken))))))
+    (fresh-fails (s .args .p) (s .args .q) (s .args .e) (s .args .f) w (sym (c .before .is-fresh .ensures) ∙ not-true _ (c .if3 .taken))))))
 
 is-alone-requires : tie.Need-is-alone-requires
 is-alone-requires c κs = let s = c .before .before .before .before .before .before .before .before .before .before in
@@ -87,7 +87,7 @@ returns-4 c = let s = c .before .before .before .before .before .before .before 
     (first-passes _ 32 _ (sym (c .before .before .before .before .before .before .is-left .ensures) ∙ not-false _
     (c .before .before .before .before .before .if1 .left))
     (last-refuses _ 33 (fresh-asked _ _ (ne-eqb _ _ (c .before .before .before .before .if2 .left))
-    (fresh-alone (s .args .p) (s .args .q) (s .args .e) (s .args .f) w refl (sym (c .before .before .before .is-fresh .ensures) ∙ not-false _
+    (fresh-alone (s .args .p) (s .args .q) (s .args .e) (s .args .f) w (sym (c .before .before .before .is-fresh .ensures) ∙ not-false _
     (c .before .before .if3 .left))
     (sym (c .before .is-alone .ensures) ∙ not-true _ (c .if4 .taken))))))
 
@@ -107,7 +107,7 @@ returns-6 c = let s = c .before .before .before .before .before .before .before 
     (first-passes _ 32 _ (sym (c .before .before .before .before .before .before .is-left .ensures) ∙ not-false _
     (c .before .before .before .before .before .if1 .left))
     (last-passes _ 33 (fresh-asked _ _ (ne-eqb _ _ (c .before .before .before .before .if2 .left))
-    (fresh-alone (s .args .p) (s .args .q) (s .args .e) (s .args .f) w refl (sym (c .before .before .before .is-fresh .ensures) ∙ not-false _
+    (fresh-alone (s .args .p) (s .args .q) (s .args .e) (s .args .f) w (sym (c .before .before .before .is-fresh .ensures) ∙ not-false _
     (c .before .before .if3 .left))
     (sym (c .before .is-alone .ensures) ∙ not-false _ (c .if4 .left))))))
 

@@ -20,12 +20,12 @@ joined-requires c κs =
       omega (arith, p .worded .each (s .args .at .lower) (p .lower), word-low (s .args .f .q) (at (now (s .args .table)) (s .args .f .q) (s .args .at .lower))),
     )
 
-reduced-requires : tie.Need-reduced-requires
-reduced-requires c κs =
+needless-requires : tie.Need-needless-requires
+needless-requires c κs =
     let j = c .before .before .before .before .before .before in
     let s = j .before .before .before .before .before .before .before .before .before .before in
     let p = pair-paired (s .pre .0) (s .pre .1) in
-    (p, word-is p (j .joined .ensures))
+    (p, word-is p (j .joined .ensures), s .pre .0 .given .some)
 
 add-t37 : tie.Need-add-t37
 add-t37 c = let s = c .before .before .before .before .before .before .before .before .before .before .before .before .before .before .before .before .before
@@ -39,7 +39,7 @@ returns : tie.Need-returns
 returns c =
     let t = c .before in
     let s = t .before .before .before .before .before .before .before .before .before .before .before .before .before .before .before .before .before .before in
-    pair-passed (s .pre .0) (s .pre .1) (sym (t .before .reduced .ensures) ∙ t .if1 .taken)
+    pair-passed (s .pre .0) (s .pre .1) (sym (t .before .needless .ensures) ∙ t .if1 .taken)
 
 mul-small-sum : tie.Need-mul-small-sum
 mul-small-sum c =
@@ -64,7 +64,7 @@ returns-2 c =
     let m = c .before in
     let e = m .before .before in
     let s = e .before .before .before .before .before .before .before .before .before .before .before .before .before .before .before .before .before .before in
-    pair-large (s .pre .0) (s .pre .1) (sym (e .before .reduced .ensures) ∙ e .if1 .left) (sym (m .small-sum .ensures) ∙ was-false (c .if2 .taken))
+    pair-large (s .pre .0) (s .pre .1) (sym (e .before .needless .ensures) ∙ e .if1 .left) (sym (m .small-sum .ensures) ∙ was-false (c .if2 .taken))
 
 returns-3 : tie.Need-returns-3
 returns-3 c =
@@ -72,7 +72,7 @@ returns-3 c =
     let m = f .before in
     let e = m .before .before in
     let s = e .before .before .before .before .before .before .before .before .before .before .before .before .before .before .before .before .before .before in
-    pair-full (s .pre .0) (s .pre .1) (sym (e .before .reduced .ensures) ∙ e .if1 .left) (sym (m .small-sum .ensures) ∙ was-true (f .if2 .left))
+    pair-full (s .pre .0) (s .pre .1) (sym (e .before .needless .ensures) ∙ e .if1 .left) (sym (m .small-sum .ensures) ∙ was-true (f .if2 .left))
     (ltb-no (s .args .s .rows) (s .args .f .room) (c .if3 .taken))
 
 append-pair-requires : tie.Need-append-pair-requires
@@ -114,7 +114,7 @@ returns-4 c =
     let j = e .before .before .before .before .before .before .before .before in
     let s = j .before .before .before .before .before .before .before .before .before .before in
     pair-appended (s .pre .0) (s .pre .1) (t .if3 .left) (word-is (pair-paired (s .pre .0) (s .pre .1)) (j .joined .ensures))
-    (sym (e .before .reduced .ensures) ∙ e .if1 .left) (sym (m .small-sum .ensures) ∙ was-true (f .if2 .left)) (a .append-pair .ensures)
+    (sym (e .before .needless .ensures) ∙ e .if1 .left) (sym (m .small-sum .ensures) ∙ was-true (f .if2 .left)) (a .append-pair .ensures)
 
 pub pair-turn-spec : {M : Type 1} → statement M
 pair-turn-spec =
@@ -125,7 +125,7 @@ pair-turn-spec =
     (λ c. search needs)
     (λ c. search needs)
     joined-requires
-    reduced-requires
+    needless-requires
     add-t37
     add-t38
     (λ c. search needs)
