@@ -293,8 +293,8 @@ uint64_t dezgula_start_desk(const dezgula_system *group, const dezgula_list *gen
  * found of the list are exactly the minimal solutions of all groups together, each once. */
 uint64_t dezgula_resume_desk(const dezgula_system *group, const dezgula_list *generators, dezgula_run *run, uint64_t budget) DEZGULA_LOOK_AT_IT;
 
-/* ---- questions about a list, whoever made it. They read only, but for what each says, and cost up to `found` comparisons of rows. dezgula_engine.h has the same
- * for maps of up to 32 equations and 32 unknowns. */
+/* ---- questions about a list, whoever made it. They read only, but for what each says, and cost up to `found` comparisons of rows. dezgula_engine.h has
+ * the same for maps of up to 32 equations and 32 unknowns. */
 
 /* Which row of the list is at or below a tuple: DEZGULA_AT_OR_BELOW with the highest place of one, or DEZGULA_NOWHERE; or refuses with 2, 5 or 6 (found is
  * above the capacity). Of the system it reads q only. */

@@ -37,12 +37,13 @@ extern "C" {
  * DEZGULA_PAUSED: the budget is used up, or the stage is at its end and record.equation is p, so that the next equation can be taken.
  * Refused, with nothing changed: 1, p is outside 1 to 32; 2, q is outside 1 to 32; 3, the coefficients are not p * q; 4, the working system has room for fewer
  * than p * q numbers, or the basis for fewer than q rows; 6, the record or the rows are out of order; 7, a coefficient of the map is outside -10,000 to
- * 10,000 (with its place); 32; 33; 34; of a start for right sides and lower bounds also 5, 8, 15 and 35. Refused by a turn, with all as after the last whole turn: 12, a row that is needed has a component above
- * 1,000,000; 14, the steps are at their limit; 31. */
+ * 10,000 (with its place); 32; 33; 34; of a start for right sides and lower bounds also 5, 8, 15 and 35. Refused by a turn, with all as after the last whole
+ * turn: 12, a row that is needed has a component above 1,000,000; 14, the steps are at their limit; 31. */
 enum {
-    DEZGULA_ENGINE_FULL = 31,     /* there is no room for a row that is needed: with longer tables and the same rows the run goes on */
-    DEZGULA_ENGINE_EQUATION = 32, /* no such equation is left, or a stage is under way */
-    DEZGULA_ENGINE_FRESH = 33,    /* the unknown is neither q, which is none, nor one that no equation done mentions and of the basis only its unit tuple has, with -1 */
+    DEZGULA_ENGINE_FULL = 31,      /* there is no room for a row that is needed: with longer tables and the same rows the run goes on */
+    DEZGULA_ENGINE_EQUATION = 32,  /* no such equation is left, or a stage is under way */
+    DEZGULA_ENGINE_FRESH = 33,     /* the unknown is neither q, which is none, nor one that no equation done mentions and of the basis only its unit tuple has,
+                                    * with -1; or there is a cap on it */
     DEZGULA_ENGINE_OPERATION = 34, /* 0 times the equation itself, or itself added, or a coefficient would be outside -1,000,000 to 1,000,000 */
     DEZGULA_ENGINE_SIDE = 35,      /* a right side less what the bound makes of its equation is outside -1,000,000 to 1,000,000 (with its place) */
     DEZGULA_ENGINE_NOT_SHOWN = 36, /* the numbers do not show that both maps have the same minimal solutions */

@@ -1,4 +1,5 @@
-/* A run from within: what solve.c (the run), solve_engine.c and solve_walk.c (ways to solve a group of equations) and solve_state.c (a run that is kept) share. */
+/* A run from within: what solve.c (the run), solve_engine.c and solve_walk.c (ways to solve a group of equations) and solve_state.c (a run that is kept)
+ * share. */
 #ifndef SOLVE_RUN_H
 #define SOLVE_RUN_H
 
