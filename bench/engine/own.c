@@ -1,7 +1,8 @@
 /* What a continuing call of the engine costs by itself: own < MAP
  *
  * Takes the equations as they come until a stage has 30,000 rows, then calls with a budget of 0: such a call checks and writes anew what is kept beside the
- * rows, and takes no turn. Prints the rows of table and basis and the best nanoseconds a row. Linked as solve.c is. The status is 1 where no stage gets so long. */
+ * rows, and takes no turn. Prints the rows of table and basis and the best nanoseconds a row. Linked as solve.c is. The status is 1 where no stage gets so
+ * long. */
 #include "dezgula_engine.h"
 
 #include <inttypes.h>
