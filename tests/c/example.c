@@ -356,8 +356,8 @@ static void read_rows(void)
 /* Every number of every call has a sentence of its own, and no other has one. */
 static bool is_given(unsigned number)
 {
-    return number != 13 && (number <= 35 || (number >= 100 && number <= 104) || (number >= 106 && number <= 108) || number == 110 ||
-                            (number >= 120 && number <= 127) || (number >= 130 && number <= 132));
+    return number != 13 && (number <= 36 || (number >= 100 && number <= 104) || (number >= 106 && number <= 108) || number == 110 ||
+                            (number >= 120 && number <= 129) || (number >= 130 && number <= 132));
 }
 
 static void say_sentences(void)
