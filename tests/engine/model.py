@@ -437,7 +437,7 @@ class Drawn:
                 short = r.choice([w.equations, w.basis, w.table])
                 del short[r.randint(0, max(len(short) - 1, 0)) :]
             elif kind == 4:
-                w.beside[0] = r.choice([max(n - 1, 0), n, n + 1])
+                w.beside[0] = min(r.choice([max(n - 1, 0), n, n + 1]), 200)
             elif kind < 7:
                 n = r.choice([n + 1, max(n - 1, 0), 10**9 + 1, 2**63, 2**64 - 1])
             elif kind == 7 and w.table:
@@ -488,7 +488,7 @@ class Drawn:
                 short = r.choice([w.equations, w.basis, w.table])
                 del short[r.randint(0, max(len(short) - 1, 0)) :]
             elif kind == 4:
-                w.beside[0] = r.choice([q, q + 1])
+                w.beside[0] = min(r.choice([q, q + 1]), 40)
             elif kind == 5 and coefs:
                 coefs[r.randrange(len(coefs))] = r.choice([10000, 10001, -10000, -10001])
             elif kind == 6 and w.table:
