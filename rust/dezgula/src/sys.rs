@@ -289,12 +289,7 @@ extern "C" {
 
     pub fn dezgula_solver_new(system: *const dezgula_system, answer: *mut u64) -> *mut dezgula_solver;
     pub fn dezgula_solver_new_from(system: *const dezgula_system, list: *const dezgula_list, answer: *mut u64) -> *mut dezgula_solver;
-    pub fn dezgula_solver_new_sides(
-        system: *const dezgula_system,
-        rights: *const i32,
-        lower: *const u32,
-        answer: *mut u64,
-    ) -> *mut dezgula_solver;
+    pub fn dezgula_solver_new_sides(system: *const dezgula_system, rights: *const i32, lower: *const u32, answer: *mut u64) -> *mut dezgula_solver;
     pub fn dezgula_solver_work(solver: *mut dezgula_solver, budget: u64) -> u64;
     pub fn dezgula_solver_limit(solver: *mut dezgula_solver, bytes: usize);
     pub fn dezgula_solver_told(solver: *const dezgula_solver) -> dezgula_solver_progress;
