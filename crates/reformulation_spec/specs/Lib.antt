@@ -5,4 +5,5 @@ pub mod Showing
 pub mod Rules
 pub mod Projection
 pub mod Promises
+pub mod Complete
 pub mod Examples

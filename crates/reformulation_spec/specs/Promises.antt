@@ -1,6 +1,7 @@
 -- The promises of a reformulation, in one place: open this file first. Nothing is assumed of the numbers but that the call said yes. Rules.antt has the
 -- refusals of both calls, each in its case and in no other (`reformulate-renders`, `project-renders`), Showing.antt what a yes says of the numbers (`Shown`),
--- and Projection.antt what the call that projects leaves (`projected-row`, `projected-behind`, `projected-not`). Assumes nothing.
+-- and Projection.antt what the call that projects leaves (`projected-row`, `projected-behind`, `projected-not`). Complete.antt has what a complete run of the
+-- engine on the other map is worth (`complete-projected`). Assumes nothing.
 use mathlib.Core.Path.{_≡_, sym, _∙_}
 use mathlib.Core.List.{List}
 use Prim.Native.Nat.{ℕ, _<_}
