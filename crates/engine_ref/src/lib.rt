@@ -48,7 +48,18 @@ pub fn start_sides(
         (spec.basisRoom (suc q) (lengthsOf (now (basis .entry)) (now (table .entry)) l))
         (workOf (now (equations .entry)) (now (basis .entry)) (now (table .entry)) (now (kept .entry))) ⌝ }
 {
-    let o = engine::start_sides(p, q, coefs, rights, lower, equations, basis, table, l, *kept);
+    let o = engine::start_sides(
+        p,
+        q,
+        coefs,
+        rights,
+        lower,
+        equations,
+        basis,
+        table,
+        l,
+        *kept,
+    );
     *kept = o.run;
     o.answer
 }

@@ -59,7 +59,11 @@ fn called(
     let t = l.stack_length;
     let m = l.tuple_length;
     let w = l.record_length;
-    if equations.len() < e || basis.len() < b || COEFFICIENTS < l.coefs_length || COEFFICIENTS < l.rights_length {
+    if equations.len() < e
+        || basis.len() < b
+        || COEFFICIENTS < l.coefs_length
+        || COEFFICIENTS < l.rights_length
+    {
         return OTHER;
     }
     if table.len() < t || mothers.len() < m || record.len() < w {
