@@ -13,7 +13,7 @@
 #include <string.h>
 
 enum { MOST = DEZGULA_ENGINE_MOST, WIDE = 2 * MOST, MOST_RAYS = 1024, MOST_CHOICES = 500000, TURNS = 500 };
-static const int64_t LARGE = INT64_C(1) << 31;                                                   /* numbers of a lattice stay below it */
+static const int64_t LARGE = INT64_C(1) << 29; /* numbers of a lattice stay below it, so that 16 products of them add up within 64 bits */
 static const int64_t MULTIPLIER_LIMIT = INT64_C(1000000000000), WORKING_LIMIT = INT64_C(1000000); /* of the engine's calls */
 static const double SLIGHT = 1e-3; /* the weight of a coordinate's own numbers beside its values on the rays */
 
@@ -198,10 +198,20 @@ static void unit_points(points *by, size_t width, double weight)
 
 /* ---- the lattice of whole solutions, and the rays of the natural ones */
 
+/* whether they may be coefficients of a map */
+static bool in_range(const int64_t *row, size_t n)
+{
+    for (size_t i = 0; i < n; i++)
+        if (llabs(row[i]) > DEZGULA_COEFFICIENT_LIMIT) return false;
+    return true;
+}
 static bool find_lattice(search *s)
 {
     matrix m = {s->q, s->p + s->q, {{0}}};
-    for (size_t k = 0; k < s->p * s->q; k++) m.at[k % s->q][k / s->q] = s->coefs[k];
+    for (size_t k = 0; k < s->p * s->q; k++) {
+        m.at[k % s->q][k / s->q] = s->coefs[k];
+        if (!in_range(&m.at[k % s->q][k / s->q], 1)) return false;
+    }
     for (size_t j = 0; j < s->q; j++) m.at[j][s->p + j] = 1;
     s->rank = 0;
     for (size_t e = 0; e < s->p; e++) {
@@ -221,31 +231,37 @@ static size_t members(uint32_t set)
     return n;
 }
 /* the solution with these coordinates is at or above 0 in every unknown; its degree, and its largest component */
-static bool is_natural(const search *s, const int64_t *y, int64_t *degree, int64_t *most)
+static bool is_natural(const search *s, const int64_t *y, double *degree, int64_t *most)
 {
-    *degree = *most = 0;
+    *degree = 0, *most = 0;
     for (size_t j = 0; j < s->q; j++) {
         int64_t x = 0;
         for (size_t i = 0; i < s->n; i++) x += y[i] * s->lattice.at[i][j];
         if (x < 0) return false;
-        *degree += x;
+        *degree += (double)x;
         if (x > *most) *most = x;
     }
+    return true;
+}
+static bool are_small(const int64_t *t, size_t n)
+{
+    for (size_t i = 0; i < n; i++)
+        if (llabs(t[i]) >= LARGE) return false;
     return true;
 }
 /* a ray that is not there yet is added, with its values by degree to the measure; false where there are too many, or a number is too large */
 static bool add_ray(search *s, const int64_t *y)
 {
-    int64_t degree, most;
-    for (size_t i = 0; i < s->n; i++)
-        if (llabs(y[i]) >= LARGE) return false;
+    double degree;
+    int64_t most;
+    if (!are_small(y, s->n)) return false;
     if (!is_natural(s, y, &degree, &most)) return true;
     s->beyond |= most > DEZGULA_COMPONENT_LIMIT;
     for (size_t k = 0; k < s->rays; k++)
         if (memcmp(s->ray[k], y, s->n * sizeof *y) == 0) return true;
     if (s->rays == MOST_RAYS) return false;
     memcpy(s->ray[s->rays], y, s->n * sizeof *y);
-    for (size_t i = 0; i < s->n; i++) s->measure.at[s->rays][i] = (double)y[i] / (double)degree;
+    for (size_t i = 0; i < s->n; i++) s->measure.at[s->rays][i] = (double)y[i] / degree;
     s->measure.count = ++s->rays;
     return true;
 }
@@ -272,10 +288,11 @@ static bool find_rays(search *s)
 
 /* ---- coordinates that are natural on every ray */
 
-/* its values on the rays by degree, all together; below 0 where one is */
+/* its values on the rays by degree, all together; below 0 where one is, or a number is too large */
 static double size_on_rays(const search *s, const int64_t *t)
 {
     double size = 0;
+    if (!are_small(t, s->n)) return -1;
     for (size_t k = 0; k < s->rays; k++) {
         double value = 0;
         if (dot(t, s->ray[k], s->n) < 0) return -1;
@@ -296,7 +313,10 @@ static bool take_coordinate(search *s, size_t chosen, const int64_t *t)
 {
     matrix *m = &s->inverse;
     bool any, small;
-    for (size_t i = 0; i < s->n; i++) m->at[i][s->n] = dot(t, m->at[i], s->n);
+    for (size_t i = 0; i < s->n; i++) {
+        m->at[i][s->n] = dot(t, m->at[i], s->n);
+        if (!are_small(&m->at[i][s->n], 1)) return false;
+    }
     small = clear_column(m, chosen, s->n, &any);
     for (size_t i = 0; small && i < chosen; i++) small = add_row(m, i, chosen, -m->at[i][s->n]);
     return small;
@@ -370,6 +390,7 @@ static bool find_coordinates(search *s)
         int64_t sum = 0;
         for (size_t i = 0; i < s->n; i++) sum += s->lattice.at[i][k / s->n] * s->inverse.at[k % s->n][i];
         s->by.at[k / s->n][k % s->n] = sum;
+        if (!are_small(&sum, 1)) return false;
     }
     return true;
 }
@@ -398,7 +419,7 @@ static bool find_back(search *s)
             if (!add_row(&m, i, k, -m.at[i][k])) return false;
         int64_t *row = m.at[i] + s->n, *last = zero.at[zero.rows];
         memcpy(last, row, s->q * sizeof *row);
-        if (!reduce_row(&zero, &s->units, zero.rows, &o)) return false;
+        if (!reduce_row(&zero, &s->units, zero.rows, &o) || !in_range(last, s->q)) return false;
         memcpy(row, last, s->q * sizeof *row);
         memcpy(s->back.at[i], last, s->q * sizeof *row);
     }
@@ -468,6 +489,7 @@ static bool share_first(int64_t *c, size_t rows, size_t width)
 {
     int64_t all = 1;
     for (size_t i = 0; i < rows; i++) {
+        if (c[i * width] > LARGE) return false;
         all = all / gcd(all, c[i * width]) * c[i * width];
         if (all > LARGE) return false;
     }
@@ -497,7 +519,7 @@ static int64_t largest(const matrix *m)
 static bool add_equation(const search *s, matrix *other, reformulation *r, row_operation o)
 {
     const size_t onto = 1 + s->p + s->n, back = 1 + s->q;
-    if (r->operations == REFORMULATED_OPERATIONS || !add_row(other, o.row, o.by, o.times)) return false;
+    if (r->operations == REFORMULATED_OPERATIONS || llabs(o.times) > WORKING_LIMIT || !add_row(other, o.row, o.by, o.times)) return false;
     for (size_t k = 1; k < onto; k++) r->onto[o.row * onto + k] += o.times * r->onto[o.by * onto + k];
     for (size_t i = 0; i < s->p + s->n; i++) r->back[i * back + 1 + o.by] -= o.times * r->back[i * back + 1 + o.row];
     memmove(r->undo + 1, r->undo, r->operations++ * sizeof *r->undo);
