@@ -10,10 +10,10 @@ use lib.ListN.{length}
 use Rattle.linear.specs.Tests.{countTo}
 use Rattle.definitions.specs.Tables.{at, writeTo}
 use Rattle.laws.specs.Pack.{pack-length, packTo}
+use Rattle.laws.specs.MarkLaws.{shift-one-wide}
 use Rattle.table_rows.specs.Rows.{Holds, tuple}
 use Rattle.desk_spec.specs.Desks.{always, deskRow}
 use Rattle.desk_spec.specs.Rows.{all-counted}
-use Rattle.desk_rows.specs.Marks.{shift-one}
 use Rattle.desk_rows.specs.Rows.{row-alike}
 
 abbrev pub startTo : (k q : ℕ) (generators stack : List ℕ) → List ℕ
@@ -43,7 +43,8 @@ start-next k q generators stack₀ {stack} {after} {t} {marks} e m h w =
 pub start-marks : (k : ℕ) {marks : ℕ} → k < 64 → marks ≡ 2 ^ k - 1
     → (marks + (1 * 2 ^ k) % 18446744073709551616 ≡ 2 ^ (k + 1) - 1) × (marks + (1 * 2 ^ k) % 18446744073709551616 < 18446744073709551616)
 start-marks k {marks} l e =
-    rw (shift-one k l, add-one k) (omega (arith, e, one-le-pow k 2 (lit< tt), two-pow-succ k), omega (arith, e, one-le-pow k 2 (lit< tt), two-pow-succ k, fits))
+    rw (shift-one-wide k l, add-one k)
+    (omega (arith, e, one-le-pow k 2 (lit< tt), two-pow-succ k), omega (arith, e, one-le-pow k 2 (lit< tt), two-pow-succ k, fits))
   where
     fits : 2 ^ suc k ≤ 18446744073709551616
     fits = pow-le-pow-right {n = 2} (lit< tt) {i = suc k} {j = 64} l

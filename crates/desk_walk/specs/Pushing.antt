@@ -14,8 +14,8 @@ use Rattle.definitions.specs.System.{mostComponent}
 use Rattle.definitions.specs.Tables.{at, frozen, writeTo}
 use Rattle.laws.specs.TableLaws.{row-fits}
 use Rattle.laws.specs.Pack.{pack-length, packTo}
+use Rattle.laws.specs.MarkLaws.{shift-one-wide}
 use Rattle.desk_spec.specs.Desks.{deskRow, plus}
-use Rattle.desk_rows.specs.Marks.{shift-one}
 use Rattle.desk_rows.specs.Rows.{Raised, SmallTuple, row-alike}
 use Rattle.table_rows.specs.Rows.{tuple}
 
@@ -75,7 +75,7 @@ module _ (q : ℕ) (generators stack₀ : List ℕ) (level : ℕ) (top : List �
 
     pub pushed-room : j < 64 → f j ≡ true → marks + marksTo (j + 1) f < 18446744073709551616
         → passed + (1 * 2 ^ j) % 18446744073709551616 < 18446744073709551616
-    pushed-room l e fits = rw (shift-one j l) (omega (arith, marks-one e))
+    pushed-room l e fits = rw (shift-one-wide j l) (omega (arith, marks-one e))
 
     pub pushed-one : j < 64 → f j ≡ true → {held : List ℕ} → Raised q held top generators (j * q) → {after : List ℕ}
         → after ≡ writeTo (q + 2) stack (h * (q + 2)) (deskRow q (tuple held) passed)
@@ -85,5 +85,5 @@ module _ (q : ℕ) (generators stack₀ : List ℕ) (level : ℕ) (top : List �
           rows = w ∙ row-alike q stack (h * (q + 2)) {x = tuple held} {y = plus x (at generators q j)} passed (r .sums)
               ∙ (unfold packTo in (rw (add-one j, e, ← s .rows, ← s .height, ← s .marked)));
           height = unfold countTo in (rw (add-one j, e) (omega (arith, s .height)));
-          marked = rw (shift-one j l) (marks-one e);
+          marked = rw (shift-one-wide j l) (marks-one e);
         }

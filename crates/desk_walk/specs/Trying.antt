@@ -23,12 +23,12 @@ use Rattle.definitions.specs.System.{covered, mostComponent}
 use Rattle.definitions.specs.Tables.{at, frozen}
 use Rattle.laws.specs.SystemLaws.{covered-same}
 use Rattle.laws.specs.TableLaws.{row-fits}
+use Rattle.laws.specs.MarkLaws.{shift-one-wide}
 use Rattle.table_rows.specs.Rows.{tuple}
 use Rattle.products.specs.Marks.{any-zero, marks-below, marks-skip, marks-zero}
 use Rattle.table_rows.specs.Small.{SmallRow}
 use Rattle.desk_spec.specs.Desks.{plus}
 use Rattle.desk_rows.specs.Images.{Factors, entry, product-fits}
-use Rattle.desk_rows.specs.Marks.{shift-one}
 use Rattle.desk_rows.specs.Rows.{Raised, SmallTuple}
 use Rattle.desk_walk.specs.declared.step.Tried.{Tried}
 use Rattle.desk_walk.specs.declared.step.Tried.the-variants.{Made, TooLarge}
@@ -76,10 +76,10 @@ unfolding marksTo
 marks-next n f m e h = rw add-one (omega (arith, h, e))
 
 marks-add : (n m : ℕ) (f : ℕ → Bool) → m ≡ marksTo n f → n < 64 → f n ≡ true → m + (1 * 2 ^ n) % 18446744073709551616 ≡ marksTo (n + 1) f
-marks-add n m f e l h = rw (shift-one n l) (marks-next n f m e (rw h (sym (one-mul (2 ^ n)))))
+marks-add n m f e l h = rw (shift-one-wide n l) (marks-next n f m e (rw h (sym (one-mul (2 ^ n)))))
 
 pub marks-room : (n m : ℕ) (f : ℕ → Bool) → m ≡ marksTo n f → n < 64 → m + (1 * 2 ^ n) % 18446744073709551616 < 18446744073709551616
-marks-room n m f e l = rw (shift-one n l) (omega (arith, e, marks-below n f, pow-le-pow-right {n = 2} (lit< tt) {i = suc n} {j = 64} l))
+marks-room n m f e l = rw (shift-one-wide n l) (omega (arith, e, marks-below n f, pow-le-pow-right {n = 2} (lit< tt) {i = suc n} {j = 64} l))
 
 -- ---- a turn
 

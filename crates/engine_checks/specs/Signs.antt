@@ -1,18 +1,15 @@
 -- Tests of one number as code makes them. Assumes nothing.
-use mathlib.Core.Path.{_≡_, refl, sym, _∙_, ap}
+use mathlib.Core.Path.{_≡_, refl, sym}
 use mathlib.Core.Logic.{inl, inr}
 use mathlib.Core.Bool.{Bool, true, false, not}
-use Prim.Native.Nat.{ℕ, zero, suc, _*_, _^_, _/_, _%_, _<_}
-use native.Mathlib.Nat.{div-div-eq-div-mul, mod-eq-of-lt, one-mul}
+use Prim.Native.Nat.{suc, _<_}
 use native.Mathlib.Omega.{arith}
 use borrow.Author.Tests.{eq-eqb, le-leb, le-ltb, leb-false, leb-true, lt-leb, lt-ltb, ltb-false, ltb-true, ne-eqb}
-use lib.Dec.{eqb, leb, ltb}
+use lib.Dec.{leb, ltb}
 use lib.IntN.{ℤ, pos, negsuc, natAbs}
-use lib.Pow.{pow-lt}
 use lib.Signed.{ltZ}
 use Rattle.linear.specs.Cases.{split}
 use Rattle.definitions.specs.System.{isZero}
-use Rattle.definitions.specs.Tables.{bit, frozen}
 use Rattle.engine_spec.specs.Beside.{coefficientLimit}
 use Rattle.engine_spec.specs.Calls.{isMinusOne}
 
@@ -51,18 +48,3 @@ small-else (pos n) e = go (leb n 1000000) (λ h. lt-ltb 1000000 n h) refl
     go true f h = rw (h, le-ltb 1000000 n (leb-true n 1000000 h))
     go false f h = rw (h, f (leb-false n 1000000 h))
 small-else (negsuc n) e = sym (le-leb (suc n) 1000000 (omega (arith, ltb-false 999999 n e)))
-
--- ---- marks
-
-mark-bit : (m k : ℕ) → (m / 2 ^ k) % 2 ≡ bit m k
-unfolding bit
-mark-bit m zero = omega arith
-mark-bit m (suc k) = let e : m / 2 ^ suc k ≡ m / 2 / 2 ^ k = sym (div-div-eq-div-mul m 2 (2 ^ k) ∙ ap (λ d. m / d) (omega arith)) in rw e (mark-bit (m / 2) k)
-
-pub mark-test : (m k : ℕ) → eqb ((m / 2 ^ k) % 2) 1 ≡ frozen m k
-unfolding frozen
-mark-test m k = rw (mark-bit m k)
-
--- `1 << k` at 64 bits
-pub shift-one : (k : ℕ) → k < 64 → (1 * 2 ^ k) % 18446744073709551616 ≡ 2 ^ k
-shift-one k h = rw one-mul (mod-eq-of-lt (pow-lt h))

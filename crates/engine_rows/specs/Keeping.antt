@@ -2,14 +2,13 @@
 use mathlib.Core.Path.{_≡_, refl, sym, _∙_, ap}
 use mathlib.Core.List.{List}
 use mathlib.Core.Bool.{Bool, true, false, not, true≢false}
-use Prim.Native.Nat.{ℕ, _+_, _*_, _≤_, _<_}
-use native.Mathlib.Nat.{mul-le-mul-right}
+use Prim.Native.Nat.{ℕ, _+_, _*_, _<_}
 use native.Mathlib.Numerals.{add-one}
 use native.Mathlib.Omega.{arith}
 use borrow.Author.Tests.{leb-true}
 use lib.Dec.{T, eqb, eqb→eq}
 use lib.IntN.{ℤ, pos, negsuc, natAbs}
-use lib.ListN.{length, getD}
+use lib.ListN.{getD}
 use lib.Signed.{clashℤ, leZ, leZ-yes, ltZ, ltZ-no, ltZ-yes, nonNeg}
 use mir.Facts.{toZ-ofZ}
 use mir.Syntax.{w32, w64}
@@ -19,7 +18,7 @@ use Rattle.linear.specs.TestLaws.{all-at, count-le}
 use Rattle.linear.specs.Tests.{allTo, countTo}
 use Rattle.definitions.specs.System.{isZero, mostComponent}
 use Rattle.definitions.specs.Tables.{at, writeTo}
-use Rattle.laws.specs.TableLaws.{row-fits, write-same}
+use Rattle.laws.specs.TableLaws.{write-same}
 use Rattle.laws.specs.SweepLaws.{T-same}
 use Rattle.laws.specs.SweepTable.{swept-ahead}
 use Rattle.engine_spec.specs.Beside.{rowAt}
@@ -89,10 +88,6 @@ unfolding countTo
 counted-same f i e g = rw (add-one i, g) (omega arith)
 
 -- ---- in place
-
--- where row i of the first n rows goes, if it stays
-pub place-fits : (q i n count : ℕ) (table : List ℕ) → i < n → n * q ≤ length table → count ≤ i → (count * q ≤ i * q) × (i * q + q ≤ length table)
-place-fits q i n count table l long few = (mul-le-mul-right q few, omega (arith, row-fits q i n l))
 
 module _ (q : ℕ) (stay : ℕ → Bool) (table₀ : List ℕ) {i : ℕ} {table : List ℕ} {count : ℕ} (k : Packed q i stay (at table₀ q) table₀ table count) where
   -- the row under way is as it was

@@ -1,13 +1,13 @@
 -- From the minimal solutions of a system to those of the system with one equation more: add rows until the list is closed under that equation, keep
 -- the rows with value 0, and sweep. Assumes nothing.
-use mathlib.Core.Path.{_≡_, sym, ap}
+use mathlib.Core.Path.{_≡_, sym}
 use mathlib.Core.Logic.{inl, inr}
 use mathlib.Core.Bool.{Bool}
 use Prim.Native.Nat.{ℕ, _<_}
 use native.Mathlib.Decide.{ℕ-discrete}
 use native.Mathlib.Omega.{arith}
-use lib.Dec.{T, eqb→eq}
-use lib.IntN.{ℤ, pos, negsuc}
+use lib.Dec.{T}
+use lib.IntN.{ℤ, pos}
 use Rattle.linear.specs.Cases.{order}
 use Rattle.linear.specs.Combinations.{Enumerates, combined-above, combined-some, found-below, solution-same}
 use Rattle.linear.specs.Loops.{Loop}
@@ -19,6 +19,7 @@ use Rattle.linear.specs.Tuples.{AtOrBelow, Minimal, Nonzero, Same, unit}
 use Rattle.definitions.specs.System.{isZero}
 use Rattle.laws.specs.Sweep.{keeps}
 use Rattle.laws.specs.SweepLaws.{Swept, comes-from, keeps-stays, left-below, none-earlier}
+use Rattle.laws.specs.SystemLaws.{is-zero, zero-is}
 use Rattle.engine_spec.specs.Caps.{Admitted, Inside, admitted-from, admitted-inside, admitted-some, inside-below, inside-unit}
 use Rattle.engine_spec.specs.Signs.{Closed, zero-rows}
 
@@ -63,13 +64,6 @@ abbrev pub zeroRow : (q : ℕ) (c : ℕ → ℤ) (row : ℕ → ℕ → ℕ) →
 zeroRow q c row i = isZero (value c q (row i))
 
 -- ---- small laws
-
-pub is-zero : (z : ℤ) → T (isZero z) → z ≡ pos 0
-is-zero (pos n) h = ap pos (eqb→eq n 0 h)
-is-zero (negsuc n) h = absurd h
-
-pub zero-is : (z : ℤ) → z ≡ pos 0 → T (isZero z)
-zero-is z e = rw e tt
 
 pub wanted-alike : (cap p q : ℕ) (a : ℕ → ℕ → ℤ) {s t : ℕ → ℕ} → Same q s t → Wanted cap p q a s → Wanted cap p q a t
 wanted-alike cap p q a {s} {t} e w =

@@ -25,6 +25,7 @@ use Rattle.laws.specs.MarkLaws.{ones-frozen}
 use Rattle.laws.specs.TableLaws.{row-before, row-fits, write-inside, write-length}
 use Rattle.linear.specs.Loops.{Loop}
 use Rattle.laws.specs.Pack.{pack-length, pack-row, packTo}
+use Rattle.laws.specs.SystemLaws.{is-zero}
 use Rattle.engine_spec.specs.Base.{
   Base,
   alone-enumerates,
@@ -93,7 +94,7 @@ use Rattle.engine_spec.specs.Engine.{
   taken,
   takenFresh,
 }
-use Rattle.engine_spec.specs.Equations.{LoopInside, is-zero, units-enumerate, wanted-inside}
+use Rattle.engine_spec.specs.Equations.{LoopInside, units-enumerate, wanted-inside}
 use Rattle.engine_spec.specs.Fresh.{without-at, without-given, withoutAt}
 use Rattle.engine_spec.specs.Moved.{moved-given, moved-sound, withTable}
 use Rattle.engine_spec.specs.Operations.{

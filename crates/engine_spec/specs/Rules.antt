@@ -30,6 +30,7 @@ use Rattle.laws.specs.CheckLaws.{
   rule,
 }
 use Rattle.laws.specs.RefusalLaws.{Outside, decides-outside, decides-unequal}
+use Rattle.laws.specs.SystemLaws.{is-zero, zero-is}
 use Rattle.engine_spec.specs.Beside.{coefficientLimit, mostColumns, mostRows}
 use Rattle.engine_spec.specs.Calls.{
   check4,
@@ -54,7 +55,6 @@ use Rattle.engine_spec.specs.Calls.{
 }
 use Rattle.engine_spec.specs.Caps.{capped-not, isCapped, not-capped}
 use Rattle.engine_spec.specs.Engine.{Work, basisRow, combination, system}
-use Rattle.engine_spec.specs.Equations.{is-zero, zero-is}
 use Rattle.engine_spec.specs.Reduction.{isSmall}
 use Rattle.engine_spec.specs.Stage.{row}
 

@@ -7,8 +7,8 @@ use Prim.Native.Nat.{ℕ, _+_, _*_, _≤_, _<_}
 use native.Mathlib.Nat.{mul-le-mul}
 use native.Mathlib.Omega.{arith}
 use borrow.Author.Count.{below-more}
-use lib.Dec.{T, eqb→eq}
-use lib.IntN.{ℤ, pos, negsuc, natAbs, _+ℤ_, _*ℤ_, zero-*ℤ, +ℤ-idr}
+use lib.Dec.{T}
+use lib.IntN.{ℤ, pos, natAbs, _+ℤ_, _*ℤ_, zero-*ℤ, +ℤ-idr}
 use lib.ListN.{length, getD, set, length-set}
 use lib.Seq.{getD-set-same, getD-set-other}
 use mir.Syntax.{w32, w64}
@@ -201,10 +201,6 @@ unfolding gram inner sumTo
 zeros-gram z = record { entries = λ i j _ _. z .zero (i * 16 + j) (omega arith) }
 
 -- ---- the test for 0, which is one of bits
-
-pub is-zero : (z : ℤ) → T (isZero z) → z ≡ pos 0
-is-zero (pos n) h = ap pos (eqb→eq n 0 h)
-is-zero (negsuc n) h = absurd h
 
 pub zero-bits : (z : ℤ) → SFits w64 z → ofZ w64 z ≡ 0 → T (isZero z)
 zero-bits z f e = let h = sym (toZ-ofZ f) ∙ ap (toZ w64) e in rw h tt

@@ -1,6 +1,5 @@
 -- 1 and -1 by their bits, and the place of a coefficient. Assumes nothing.
-use mathlib.Core.Path.{_≡_, refl, sym, _∙_, ap}
-use mathlib.Core.Bool.{Bool, true, false}
+use mathlib.Core.Path.{_≡_, sym, _∙_, ap}
 use Prim.Native.Nat.{ℕ, _+_, _*_, _≤_, _<_}
 use native.Mathlib.Omega.{arith}
 use lib.Dec.{T, eqb, eqb→eq}
@@ -10,16 +9,11 @@ use mir.Syntax.{w32}
 use mir.Val.{SFits, ofZ, toZ}
 use Rattle.definitions.specs.System.{isZero}
 use Rattle.laws.specs.TableLaws.{row-before}
+use Rattle.laws.specs.SweepLaws.{T-same}
 use Rattle.single_spec.specs.Profile.{isMinusOne, isOne}
 
-pub same-tests : (b c : Bool) → (T b → T c) → (T c → T b) → b ≡ c
-same-tests true true f g = refl
-same-tests true false f g = absurd (f tt)
-same-tests false true f g = absurd (g tt)
-same-tests false false f g = refl
-
 pub one-bits : (z : ℤ) → SFits w32 z → eqb (ofZ w32 z) 1 ≡ isOne z
-one-bits z s = same-tests _ _ (λ t. rw (to t) tt) (from z)
+one-bits z s = T-same _ _ (λ t. rw (to t) tt) (from z)
   where
     to : T (eqb (ofZ w32 z) 1) → z ≡ pos 1
     to t = sym (toZ-ofZ s) ∙ ap (toZ w32) (eqb→eq (ofZ w32 z) 1 t)
@@ -29,7 +23,7 @@ one-bits z s = same-tests _ _ (λ t. rw (to t) tt) (from z)
     from (negsuc n) t = absurd t
 
 pub minus-one-bits : (z : ℤ) → SFits w32 z → eqb (ofZ w32 z) 4294967295 ≡ isMinusOne z
-minus-one-bits z s = same-tests _ _ (λ t. rw (to t) tt) (from z)
+minus-one-bits z s = T-same _ _ (λ t. rw (to t) tt) (from z)
   where
     to : T (eqb (ofZ w32 z) 4294967295) → z ≡ negsuc 0
     to t = sym (toZ-ofZ s) ∙ ap (toZ w32) (eqb→eq (ofZ w32 z) 4294967295 t)
@@ -43,7 +37,7 @@ pub place-inside : (p q i j n : ℕ) → i < p → j < q → p * q ≤ n → i *
 place-inside p q i j n l u h = omega (arith, row-before q p i 0 j l u)
 
 pub zero-bits : (z : ℤ) → SFits w32 z → eqb (ofZ w32 z) 0 ≡ isZero z
-zero-bits z s = same-tests _ _ (λ t. rw (to t) tt) (from z)
+zero-bits z s = T-same _ _ (λ t. rw (to t) tt) (from z)
   where
     to : T (eqb (ofZ w32 z) 0) → z ≡ pos 0
     to t = sym (toZ-ofZ s) ∙ ap (toZ w32) (eqb→eq (ofZ w32 z) 0 t)

@@ -14,7 +14,7 @@ use Rattle.calls.specs.Paper.{systemWith}
 use Rattle.products.specs.Marks.{same-test}
 use Rattle.products.specs.Products.{Gram, Products}
 use Rattle.products.specs.ProductLaws.{combine-product}
-use Rattle.products.specs.Turns.{is-zero}
+use Rattle.laws.specs.SystemLaws.{is-zero}
 
 -- a tuple is a solution just where its image is orthogonal to every column
 solves-products : (m : System) (x : ℕ → ℕ) → solves m x ≡ allTo (m .q) (λ j. isZero (towards m x j))

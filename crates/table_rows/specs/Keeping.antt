@@ -5,7 +5,6 @@ use mathlib.Core.List.{List}
 use mathlib.Core.Bool.{Bool, true, false, not, _&&_, and-false}
 use Prim.Native.Nat.{ℕ, zero, suc, _+_, _*_, _≤_, _<_}
 use native.Mathlib.Numerals.{add-one}
-use native.Mathlib.Nat.{mul-le-mul-right}
 use native.Mathlib.Omega.{arith}
 use borrow.Author.Tests.{le-ltb, lt-ltb}
 use lib.Dec.{ltb}
@@ -15,7 +14,7 @@ use Rattle.linear.specs.TestLaws.{count-le}
 use Rattle.linear.specs.Tests.{anyTo, countTo}
 use Rattle.definitions.specs.System.{isAtOrBelow}
 use Rattle.definitions.specs.Tables.{at, writeTo}
-use Rattle.laws.specs.TableLaws.{row-fits, write-next, write-outside, write-same}
+use Rattle.laws.specs.TableLaws.{write-next, write-outside, write-same}
 use Rattle.laws.specs.Pack.{pack-length, packTo}
 use Rattle.laws.specs.Sweep.{keeps, sweptTo}
 use Rattle.laws.specs.SweepTable.{staysHere, swept-ahead, sweep-test}
@@ -64,10 +63,6 @@ pub copied-more : (table₀ : List ℕ) (from to j : ℕ) {table : List ℕ} {v 
 copied-more table₀ from to j {table} {v} l e f =
     let ahead = write-outside (rowAt table₀ from) table₀ to j (from + j) (inr (omega arith)) in
     ap₂ (λ t x. set t (to + j) x) e (f ∙ ap (λ t. rowAt t from j) e ∙ ahead) ∙ sym (write-next j table₀ to (rowAt table₀ from))
-
--- where row i of the first n rows goes, if it stays
-pub place-fits : (q i n count : ℕ) (table : List ℕ) → i < n → n * q ≤ length table → count ≤ i → (count * q ≤ i * q) × (i * q + q ≤ length table)
-place-fits q i n count table l long few = (mul-le-mul-right q few, omega (arith, row-fits q i n l))
 
 -- ---- the test of a sweep
 

@@ -12,7 +12,8 @@ use mir.Val.{ofZ}
 use Rattle.linear.specs.TestLaws.{all-at, all-from}
 use Rattle.definitions.specs.System.{isZero}
 use Rattle.products.specs.Products.{entry}
-use Rattle.products.specs.Turns.{is-zero, zero-bits}
+use Rattle.laws.specs.SystemLaws.{is-zero}
+use Rattle.products.specs.Turns.{zero-bits}
 use Rattle.products.specs.Marks.{same-test}
 use Rattle.products.proofs.vanish.Statement.{statement}
 use Rattle.products.proofs.vanish.Tie as tie

@@ -13,7 +13,8 @@ use Rattle.definitions.specs.System.{isZero}
 use Rattle.desk_rows.specs.Images.{entry}
 use Rattle.linear.specs.TestLaws.{all-at, all-from}
 use Rattle.products.specs.Marks.{same-test}
-use Rattle.products.specs.Turns.{is-zero, zero-bits}
+use Rattle.laws.specs.SystemLaws.{is-zero}
+use Rattle.products.specs.Turns.{zero-bits}
 use Rattle.desk_rows.proofs.images.vanishes.Statement.{statement}
 use Rattle.desk_rows.proofs.images.vanishes.Tie as tie
 

@@ -1,6 +1,6 @@
 -- `marks::is_marked` meets its contract: bit j. Assumes nothing.
 use borrow.Author.Needs.{needs}
-use Rattle.desk_rows.specs.Marks.{mark-test}
+use Rattle.laws.specs.MarkLaws.{mark-test}
 use Rattle.desk_rows.proofs.marks.is_marked.Statement.{statement}
 use Rattle.desk_rows.proofs.marks.is_marked.Tie as tie
 

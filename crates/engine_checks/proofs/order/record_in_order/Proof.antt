@@ -5,7 +5,7 @@ use native.Mathlib.Omega.{arith}
 use borrow.Author.Tests.{le-leb, le-ltb, lt-leb, lt-ltb}
 use Rattle.definitions.specs.Refusals.{stepLimit}
 use Rattle.engine_checks.specs.Order.{recordInOrder}
-use Rattle.engine_checks.specs.Signs.{shift-one}
+use Rattle.laws.specs.MarkLaws.{shift-one-wide}
 use borrow.Author.Needs.{needs}
 use Rattle.engine_checks.proofs.order.record_in_order.Statement.{statement}
 use Rattle.engine_checks.proofs.order.record_in_order.Tie as tie
@@ -26,7 +26,7 @@ returns-4 : tie.Need-returns-4
 unfolding recordInOrder
 returns-4 c = let s = c .before .before .before .before in
     let a = s .args in
-    rw (le-ltb (a .done) (2 ^ a .p) (rw (shift-one (a .p) (omega (arith, s .pre))) at (c .if4 .taken)), and-false, and-false)
+    rw (le-ltb (a .done) (2 ^ a .p) (rw (shift-one-wide (a .p) (omega (arith, s .pre))) at (c .if4 .taken)), and-false, and-false)
 
 returns-5 : tie.Need-returns-5
 unfolding recordInOrder
@@ -39,7 +39,7 @@ returns-5 c = let e4 = c .before in
       le-leb (a .count) (a .most) (e2 .before .if1 .left),
       le-leb (a .rows) (a .room) (e2 .if2 .left),
       le-leb (a .steps) stepLimit (e3 .if3 .left),
-      lt-ltb (a .done) (2 ^ a .p) (rw (shift-one (a .p) (omega (arith, s .pre))) at (e4 .if4 .left)),
+      lt-ltb (a .done) (2 ^ a .p) (rw (shift-one-wide (a .p) (omega (arith, s .pre))) at (e4 .if4 .left)),
     )
     (c .marks-in-order .ensures)
 

@@ -1,5 +1,5 @@
 -- `signs::is_done` meets its contract: bit k. Assumes nothing.
-use Rattle.engine_checks.specs.Signs.{mark-test}
+use Rattle.laws.specs.MarkLaws.{mark-test}
 use borrow.Author.Needs.{needs}
 use Rattle.engine_checks.proofs.signs.is_done.Statement.{statement}
 use Rattle.engine_checks.proofs.signs.is_done.Tie as tie

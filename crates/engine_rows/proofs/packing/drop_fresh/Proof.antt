@@ -9,7 +9,8 @@ use denote.Ref.{now}
 use Rattle.definitions.specs.Tables.{at}
 use Rattle.laws.specs.TableLaws.{row-fits}
 use borrow.Author.Tests.{eq-eqb, ne-eqb}
-use Rattle.engine_rows.specs.Keeping.{lacks, packed-ahead, packed-copied, place-fits}
+use Rattle.laws.specs.TableLaws.{place-fits}
+use Rattle.engine_rows.specs.Keeping.{lacks, packed-ahead, packed-copied}
 use Rattle.engine_rows.specs.Packing.{Packed, packed-few, packed-length, packed-none, packed-skip}
 use Rattle.engine_rows.proofs.packing.drop_fresh.Statement.{statement}
 use Rattle.engine_rows.proofs.packing.drop_fresh.Tie as tie

@@ -1,5 +1,6 @@
 -- `sweep::sweep` meets its contract. Of the rows passed those that stay stand one behind the other. Assumes nothing.
-use Rattle.table_rows.specs.Keeping.{Kept, kept-none, kept-length, kept-few, kept-skip, kept-copied, kept-test, place-fits}
+use Rattle.table_rows.specs.Keeping.{Kept, kept-none, kept-length, kept-few, kept-skip, kept-copied, kept-test}
+use Rattle.laws.specs.TableLaws.{place-fits}
 use Rattle.laws.specs.Sweep.{keeps}
 use Rattle.definitions.specs.Tables.{at}
 use lib.ListN.{length}
