@@ -1,4 +1,4 @@
--- A list written, and what is asked of a file, of a block and of a word, by computation. (Whole files read: list_spec/specs/Examples.antt.) Assumes nothing.
+-- A list written, and what is asked of a file, of a block and of a word, by computation. (Whole files read: try_texts/specs/WholeFiles.antt.) Assumes nothing.
 use Prim.Native.Nat.{ℕ}
 use mathlib.Core.Bool.{Bool, true, false, not}
 use mathlib.Core.List.{List, [], _∷_, _++_}

@@ -12,4 +12,3 @@ pub mod ContentLaws
 pub mod AcceptedLaws
 pub mod WrittenLaws
 pub mod FileLaws
-pub mod Examples
