@@ -15,10 +15,10 @@ use Rattle.definitions.specs.Step.{marksTo}
 use Rattle.definitions.specs.Tables.{State, at, bit, frozen}
 use Rattle.laws.specs.StepLaws.{open-capped, open-first, open-one, open-zero, secondOpen}
 use Rattle.laws.specs.SystemLaws.{covered-same}
-use Rattle.products.specs.Marks.{Marked, is-false, marks-below, marks-frozen, marks-over}
+use Rattle.products.specs.Marks.{Marked, marks-below, marks-frozen, marks-over}
 use Rattle.laws.specs.MarkLaws.{frozen-none}
 use Rattle.linear.specs.Tests.{number}
-use Rattle.linear.specs.TestLaws.{number-le}
+use Rattle.linear.specs.TestLaws.{is-false, number-le}
 use Rattle.candidates.specs.Kinds.{asked}
 use Rattle.table_rows.specs.Rows.{Limited, part, tuple}
 use Rattle.candidates.specs.Grow.{childBy, openFor}

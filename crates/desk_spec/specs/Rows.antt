@@ -1,7 +1,7 @@
 -- Rows of the second walk's stack table: what a start and the children of a step write, and when raising by a generator makes a child. Assumes nothing.
 use mathlib.Core.Path.{_≡_, refl, _∙_, ap₂}
 use mathlib.Core.Logic.{_⊎_, inl, inr}
-use mathlib.Core.Bool.{Bool, true, false, not}
+use mathlib.Core.Bool.{Bool, not}
 use mathlib.Core.List.{List}
 use Prim.Native.Nat.{ℕ, zero, suc, _+_, _*_, _-_, _^_, _/_, _%_, _≤_, _<_}
 use native.Mathlib.Omega.{arith}
@@ -9,7 +9,7 @@ use lib.Dec.{T, T-not, not-T, eqb, eqb-refl, eqb→eq, ltb, lt→ltb, ltb→lt}
 use lib.IntN.{pos}
 use lib.ListN.{length}
 use lib.Signed.{ltZ, _<ℤ_}
-use Rattle.linear.specs.TestLaws.{T-dec, and-both, and-parts, any-at, any-from}
+use Rattle.linear.specs.TestLaws.{T-dec, and-both, and-parts, any-at, any-from, is-false, is-true}
 use Rattle.linear.specs.Tests.{countTo}
 use Rattle.linear.specs.Tuples.{AtOrBelow}
 use Rattle.definitions.specs.Step.{marksTo}
@@ -20,14 +20,6 @@ use Rattle.laws.specs.Pack.{pack-outside, pack-row, packTo}
 use Rattle.desk_spec.specs.Desks.{Desk, always, deskChildren, deskMarks, deskRow, generator, generatorCount, plus, raises, towardsGenerator, word}
 
 -- ---- a row: its tuple, and its marks in two numbers
-
-is-true : (b : Bool) → T b → b ≡ true
-is-true true h = refl
-is-true false h = absurd h
-
-is-false : (b : Bool) → ¬ (T b) → b ≡ false
-is-false true h = absurd (h tt)
-is-false false h = refl
 
 module _ (q : ℕ) (x : ℕ → ℕ) (marks : ℕ) where
   pub row-tuple : (j : ℕ) → j < q → deskRow q x marks j ≡ x j

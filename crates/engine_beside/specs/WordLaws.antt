@@ -11,10 +11,10 @@ use lib.Dec.{T, ltb}
 use lib.Pow.{pow-add, shl-exact}
 use borrow.Author.Tests.{le-ltb, lt-ltb}
 use Rattle.linear.specs.Cases.{split}
+use Rattle.linear.specs.TestLaws.{T-same}
 use Rattle.linear.specs.Tuples.{AtOrBelow, Same}
 use Rattle.definitions.specs.System.{isAtOrBelow}
 use Rattle.laws.specs.SystemLaws.{below-from}
-use Rattle.laws.specs.SweepLaws.{T-same}
 use Rattle.engine_spec.specs.Beside.{folded, wordOf}
 use Rattle.engine_spec.specs.Signs.{plus}
 use Rattle.engine_spec.specs.Words as words

@@ -3,15 +3,13 @@ use mathlib.Core.Path.{_≡_, refl, sym, ap}
 use mathlib.Core.Bool.{Bool, true, false, not, _&&_, and-false}
 use mathlib.Core.List.{List}
 use Prim.Native.Nat.{ℕ, _+_, _≤_, _<_}
-use lib.Dec.{T}
 use lib.IntN.{ℤ, pos}
 use lib.ListN.{getD, length}
 use lib.Signed.{leZ, leZ-yes, ltZ, ltZ-no, ltZ-yes, clashℤ}
 use Rattle.linear.specs.LoopLaws.{any-holds, any-next}
 use Rattle.linear.specs.Systems.{value}
-use Rattle.linear.specs.TestLaws.{and-both, and-parts, any-same}
+use Rattle.linear.specs.TestLaws.{T-same, and-both, and-parts, any-same, true-is}
 use Rattle.linear.specs.Tests.{anyTo}
-use Rattle.laws.specs.SweepLaws.{T-same}
 use Rattle.definitions.specs.System.{isAtOrBelow}
 use Rattle.definitions.specs.Tables.{at}
 use Rattle.engine_spec.specs.Beside.{SmallTable, Worded, wordOf}
@@ -86,9 +84,6 @@ unfolding isWithin
 within-else y x h = rw h
 
 -- ---- answers
-
-true-is : (b : Bool) → b ≡ true → T b
-true-is b e = rw e tt
 
 pub never : {P : Type 0} → false ≡ true → P
 never e = absurd (true-is false e)

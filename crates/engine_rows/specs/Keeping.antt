@@ -14,12 +14,11 @@ use mir.Facts.{toZ-ofZ}
 use mir.Syntax.{w32, w64}
 use mir.Val.{Fits, SFits, ofZ, toZ}
 use Rattle.linear.specs.Differences.{up}
-use Rattle.linear.specs.TestLaws.{all-at, count-le}
+use Rattle.linear.specs.TestLaws.{T-same, all-at, count-le}
 use Rattle.linear.specs.Tests.{allTo, countTo}
 use Rattle.definitions.specs.System.{isZero, mostComponent}
 use Rattle.definitions.specs.Tables.{at, writeTo}
 use Rattle.laws.specs.TableLaws.{write-same}
-use Rattle.laws.specs.SweepLaws.{T-same}
 use Rattle.laws.specs.SweepTable.{swept-ahead}
 use Rattle.engine_spec.specs.Beside.{rowAt}
 use Rattle.engine_spec.specs.Fresh.{putAt}

@@ -12,6 +12,7 @@ use lib.Signed.{_<ℤ_, ltZ, ltZ-yes}
 use mir.Facts.{toZ-ofZ}
 use mir.Syntax.{w64}
 use mir.Val.{ofZ, toZ}
+use Rattle.linear.specs.TestLaws.{is-true, true-is}
 use Rattle.linear.specs.Differences.{one-side, up-lt}
 use Rattle.linear.specs.Integers.{sfits-natAbs}
 use Rattle.linear.specs.SystemLaws.{value-sum}
@@ -85,17 +86,6 @@ or-cases : (b d : Bool) → (b || d) ≡ true → (b ≡ true) ⊎ (d ≡ true)
 or-cases true d e = inl refl
 or-cases false d e = inr e
 
-pub holds : (b : Bool) → T b → b ≡ true
-holds true h = refl
-holds false h = absurd h
-
-pub fails : (b : Bool) → ¬ (T b) → b ≡ false
-fails true n = absurd (n tt)
-fails false n = refl
-
-pub true-is : (b : Bool) → b ≡ true → T b
-true-is b e = rw e tt
-
 module _ {q : ℕ} {c : ℕ → ℤ} {n : ℕ} {table : List ℕ} {values : List ℤ} {words marks : List ℕ} {h k : ℕ} (p : Paired q c n table values words marks h k) where
   abbrev x : ℤ
   x = integerAt values h
@@ -110,12 +100,12 @@ module _ {q : ℕ} {c : ℕ → ℤ} {n : ℕ} {table : List ℕ} {values : List
       elim (or-cases (leb (getD marks h 0) (size y)) _ e) [
         | inl u ↦
             let less = leb→le (getD marks h 0) (size y) (true-is _ u) in
-            holds (testOf q c n table h k)
+            is-true (testOf q c n table h k)
             (upper-mark q c n (at table q) h k (getD marks h 0) (p .signs) (p .marked .each h (p .upper) (omega (arith, p .bounded k (p .lower), size-is y)))
             (rw (p .valued .each k (p .lower)) at less))
         | inr u ↦
             let less = leb→le (getD marks k 0) (size x) (true-is _ u) in
-            holds (testOf q c n table h k)
+            is-true (testOf q c n table h k)
             (lower-mark q c n (at table q) h k (getD marks k 0) (p .signs) (p .marked .each k (p .lower) (omega (arith, p .bounded h (p .upper), size-is x)))
             (rw (p .valued .each h (p .upper)) at less))
       ]

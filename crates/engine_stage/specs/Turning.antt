@@ -9,6 +9,7 @@ use lib.Dec.{T, eqb, eqb→eq, ltb, ltb→lt, lt→ltb}
 use lib.IntN.{ℤ, _+ℤ_}
 use lib.ListN.{getD, set}
 use Rattle.linear.specs.Systems.{value}
+use Rattle.linear.specs.TestLaws.{is-false, is-true, true-is}
 use Rattle.linear.specs.TupleLaws.{total-sum}
 use Rattle.linear.specs.Tuples.{total}
 use Rattle.definitions.specs.Refusals.{stepLimit}
@@ -49,7 +50,7 @@ use Rattle.engine_search.specs.Places.{Falling, Found, degreeOf, nextDegreeBy, 
 use Rattle.laws.specs.TableLaws.{row-fits, write-length}
 use Rattle.engine_rows.specs.Marking.{valued-bounded}
 use Rattle.engine_stage.specs.Appended.{PairAppended, PairFits, Room, RowAppended}
-use Rattle.engine_stage.specs.Marked.{Paired, fails, holds, mark-is, markOf, needlessOf, sum-is, true-is}
+use Rattle.engine_stage.specs.Marked.{Paired, mark-is, markOf, needlessOf, sum-is}
 use Rattle.engine_stage.specs.Standing.{
   Gone,
   Lent,
@@ -76,13 +77,13 @@ use Rattle.engine_stage.specs.declared.turns.Next.{Next}
 -- ---- tests
 
 pub ltb-yes : (a b : ℕ) → a < b → ltb a b ≡ true
-ltb-yes a b l = holds (ltb a b) (lt→ltb a b l)
+ltb-yes a b l = is-true (ltb a b) (lt→ltb a b l)
 
 pub ltb-no : (a b : ℕ) → b ≤ a → ltb a b ≡ false
-ltb-no a b l = fails (ltb a b) (λ h. omega (arith, ltb→lt a b h))
+ltb-no a b l = is-false (ltb a b) (λ h. omega (arith, ltb→lt a b h))
 
 pub eqb-no : (a b : ℕ) → a ≢ b → eqb a b ≡ false
-eqb-no a b ne = fails (eqb a b) (λ h. ne (eqb→eq a b h))
+eqb-no a b ne = is-false (eqb a b) (λ h. ne (eqb→eq a b h))
 
 -- ---- what is due
 

@@ -1,8 +1,8 @@
 -- What a sweep keeps: the first occurrences of the rows that have no other row below them.
 -- Assumes nothing.
-use mathlib.Core.Path.{_≡_, refl}
+use mathlib.Core.Path.{_≡_}
 use mathlib.Core.Logic.{_⊎_, inl, inr}
-use mathlib.Core.Bool.{Bool, true, false, not}
+use mathlib.Core.Bool.{not}
 use Prim.Native.Nat.{ℕ, zero, suc, _+_, _*_, _<_}
 use native.Mathlib.Nat.{mul-le-mul-right}
 use native.Mathlib.Omega.{arith}
@@ -17,12 +17,6 @@ use Rattle.laws.specs.SystemLaws.{below-from, below-to}
 use Rattle.laws.specs.Sweep.{keeps, spoils}
 
 -- ---- what the tests say
-
-pub T-same : (b c : Bool) → (T b → T c) → (T c → T b) → b ≡ c
-T-same true true f g = refl
-T-same true false f g = absurd (f tt)
-T-same false true f g = absurd (g tt)
-T-same false false f g = refl
 
 module _ (q : ℕ) (row : ℕ → ℕ → ℕ) (i k : ℕ) where
   spoils-says : T (spoils q row i k) → AtOrBelow q (row k) (row i) × (Below q (row k) (row i) ⊎ (k < i))

@@ -9,7 +9,7 @@ use native.Mathlib.Omega.{arith}
 use lib.Dec.{T, T-not, not-T, ltb, ltb→lt, lt→ltb}
 use lib.ListN.{length}
 use Rattle.linear.specs.Cases.{order}
-use Rattle.linear.specs.TestLaws.{and-both, and-parts, any-at, any-from, count-at, count-le, count-step}
+use Rattle.linear.specs.TestLaws.{T-same, and-both, and-parts, any-at, any-from, count-at, count-le, count-step}
 use Rattle.linear.specs.Tests.{anyTo, countTo}
 use Rattle.linear.specs.TupleLaws.{differ}
 use Rattle.linear.specs.Tuples.{AtOrBelow, Below, Same}
@@ -18,7 +18,7 @@ use Rattle.definitions.specs.Tables.{at}
 use Rattle.laws.specs.SystemLaws.{below-from, below-to}
 use Rattle.laws.specs.Pack.{pack-outside, pack-row}
 use Rattle.laws.specs.Sweep.{keeps, sweptTo}
-use Rattle.laws.specs.SweepLaws.{T-same, keeps-stays, kept-below, none-earlier}
+use Rattle.laws.specs.SweepLaws.{keeps-stays, kept-below, none-earlier}
 
 -- ---- the table
 

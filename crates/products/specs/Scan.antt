@@ -9,11 +9,12 @@ use lib.Dec.{T}
 use lib.Pow.{pow-mono}
 use Rattle.linear.specs.Cases.{split}
 use Rattle.linear.specs.LoopLaws.{any-next}
+use Rattle.linear.specs.TestLaws.{is-false, is-true}
 use Rattle.linear.specs.Tests.{anyTo}
 use Rattle.definitions.specs.Tables.{frozen}
 use Rattle.definitions.specs.Step.{marksTo}
 use Rattle.laws.specs.MarkLaws.{free-beyond, frozen-gone, frozen-none, frozen-others, lowest-frozen, lowest-le, lowest-less, shift-one}
-use Rattle.products.specs.Marks.{any-over, is-false, is-true, marks-add, marks-over, marks-room, marks-skip}
+use Rattle.products.specs.Marks.{any-over, marks-add, marks-over, marks-room, marks-skip}
 
 -- of the first q unknowns at which f holds, `rest` marks those from n on
 pub record Left (q : ℕ) (f : ℕ → Bool) (n rest : ℕ) : Type 0 where

@@ -18,6 +18,9 @@ use map_text::TextRefusal;
 
 mod lines; // lines.rt: lines of the report
 
+// The budget of the program's one continuing call.
+const BUDGET: u64 = 1000000;
+
 // Writes the report on `text` to the beginning of `out`, and returns how many bytes it has.
 pub fn report(text: &[u8], out: &mut [u8; 91000]) -> usize
     ensures { λ r. ⌜ take r (now (out .exit)) ≡ paper.printed (now (text .entry)) ⌝ }
@@ -65,7 +68,7 @@ fn solved(out: &mut [u8], p: usize, q: usize, coefs: &[i32]) -> usize
         &mut stack,
         &mut list,
         run,
-        1000000,
+        BUDGET,
         calls::COMPONENT_LIMIT,
     );
     ran(out, p, q, ended, &list)

@@ -9,7 +9,7 @@ use mir.Syntax.{w32}
 use mir.Val.{SFits, ofZ, toZ}
 use Rattle.definitions.specs.System.{isZero}
 use Rattle.laws.specs.TableLaws.{row-before}
-use Rattle.laws.specs.SweepLaws.{T-same}
+use Rattle.linear.specs.TestLaws.{T-same}
 use Rattle.single_spec.specs.Profile.{isMinusOne, isOne}
 
 pub one-bits : (z : ℤ) → SFits w32 z → eqb (ofZ w32 z) 1 ≡ isOne z

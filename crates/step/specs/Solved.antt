@@ -6,19 +6,18 @@ use Prim.Native.Nat.{ℕ, _<_}
 use lib.Dec.{T}
 use lib.IntN.{ℤ}
 use Rattle.linear.specs.Tests.{allTo}
-use Rattle.linear.specs.TestLaws.{all-at, all-from, all-same, T-dec}
+use Rattle.linear.specs.TestLaws.{T-dec, T-same, all-at, all-from, all-same}
 use Rattle.linear.specs.Gram.{product-zero, zero-solution}
 use Rattle.definitions.specs.System.{Kind, System, coef, towards, isZero, solves}
 use Rattle.laws.specs.SystemLaws.{solves-solution, fails-fails}
 use Rattle.calls.specs.Paper.{systemWith}
-use Rattle.products.specs.Marks.{same-test}
 use Rattle.products.specs.Products.{Gram, Products}
 use Rattle.products.specs.ProductLaws.{combine-product}
 use Rattle.laws.specs.SystemLaws.{is-zero}
 
 -- a tuple is a solution just where its image is orthogonal to every column
 solves-products : (m : System) (x : ℕ → ℕ) → solves m x ≡ allTo (m .q) (λ j. isZero (towards m x j))
-solves-products m x = same-test (solves m x) _ to from
+solves-products m x = T-same (solves m x) _ to from
   where
     to : T (solves m x) → T (allTo (m .q) (λ j. isZero (towards m x j)))
     to h = all-from (m .q) _ (λ j l. rw (product-zero (m .p) (m .q) (coef m) x (solves-solution m x h) j) tt)

@@ -11,6 +11,7 @@ use lib.IntN.{ℤ, pos}
 use lib.ListN.{length, getD, take, drop, take-append-drop}
 use lib.Seq.{getD-drop}
 use lib.Signed.{ltZ}
+use Rattle.linear.specs.TestLaws.{is-false}
 use Rattle.linear.specs.Tests.{allTo, anyTo, countTo}
 use Rattle.linear.specs.Tuples.{Same}
 use Rattle.definitions.specs.System.{Kind, System, above, capped, isZero, plain, solves, towards}
@@ -26,7 +27,7 @@ use Rattle.calls.specs.declared.Refusal.the-variants.{ComponentLimit}
 use Rattle.step.specs.declared.Stepped.{Stepped}
 use Rattle.step.specs.declared.Stepped.the-variants.{Grown, Refused}
 use Rattle.table_rows.specs.Rows.{tuple, Holds, Limited, Within}
-use Rattle.products.specs.Marks.{Marked, any-over, any-zero, is-false, marks-below, marks-zero, marks-counted, marks-frozen, marks-over}
+use Rattle.products.specs.Marks.{Marked, any-over, any-zero, marks-below, marks-zero, marks-counted, marks-frozen, marks-over}
 use Rattle.products.specs.Products.{Gram, Combined, Products, entry}
 use Rattle.products.specs.ProductLaws.{level-products, combined-less}
 use Rattle.candidates.specs.Grow.{childFor}

@@ -8,7 +8,7 @@ use native.Mathlib.Omega.{arith}
 use lib.Dec.{T}
 use Rattle.linear.specs.Places.{lastTo, placeIf}
 use Rattle.linear.specs.Tests.{anyTo}
-use Rattle.linear.specs.TestLaws.{any-at}
+use Rattle.linear.specs.TestLaws.{any-at, is-false, is-true}
 use Rattle.linear.specs.Tuples.{AtOrBelow}
 use Rattle.definitions.specs.Highest.{highest}
 use Rattle.definitions.specs.System.{isAtOrBelow}
@@ -53,14 +53,6 @@ unfolding highest
 rows-looked w n row x = looked n (hit w row x)
 
 -- ---- "only the last at or below the tuple"
-
-is-false : (b : Bool) → ¬ (T b) → b ≡ false
-is-false true h = absurd (h tt)
-is-false false h = refl
-
-is-true : (b : Bool) → T b → b ≡ true
-is-true true h = refl
-is-true false h = absurd h
 
 all-looked : (n : ℕ) (f : ℕ → Bool) → ((i : ℕ) → i < n → ¬ (T (f i))) → looksUp n f ≡ n
 unfolding looksUp

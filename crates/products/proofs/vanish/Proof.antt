@@ -9,12 +9,11 @@ use borrow.Author.Count.{below-none, below-more}
 use lib.Dec.{T}
 use mir.Syntax.{w64}
 use mir.Val.{ofZ}
-use Rattle.linear.specs.TestLaws.{all-at, all-from}
+use Rattle.linear.specs.TestLaws.{T-same, all-at, all-from}
 use Rattle.definitions.specs.System.{isZero}
 use Rattle.products.specs.Products.{entry}
 use Rattle.laws.specs.SystemLaws.{is-zero}
 use Rattle.products.specs.Turns.{zero-bits}
-use Rattle.products.specs.Marks.{same-test}
 use Rattle.products.proofs.vanish.Statement.{statement}
 use Rattle.products.proofs.vanish.Tie as tie
 
@@ -31,7 +30,7 @@ returns : tie.Need-returns Inv-loop μ-loop
 returns c =
     let l = c .before .before in
     let z = entry (now (l .before .before .args .c)) (l .before .before .args .k) (l .before .loop .j) in
-    same-test false _ (λ h. absurd h) (λ h. c .if1 .taken (ap (ofZ w64) (is-zero z (all-at _ _ h _ (l .loop-test .taken)))))
+    T-same false _ (λ h. absurd h) (λ h. c .if1 .taken (ap (ofZ w64) (is-zero z (all-at _ _ h _ (l .loop-test .taken)))))
 
 loop-again : tie.Need-loop-again Inv-loop μ-loop
 loop-again c =
@@ -42,7 +41,7 @@ loop-again c =
 returns-2 : tie.Need-returns-2 Inv-loop μ-loop
 returns-2 c =
     let a = c .before in
-    same-test true _ (λ h. all-from _ _ (rw (le-antisymm (a .loop .inv .0) (c .loop-test .left)) at (a .loop .inv .1))) (λ h. tt)
+    T-same true _ (λ h. all-from _ _ (rw (le-antisymm (a .loop .inv .0) (c .loop-test .left)) at (a .loop .inv .1))) (λ h. tt)
 
 pub vanish-spec : {M : Type 1} → statement M
 vanish-spec =

@@ -7,12 +7,12 @@ use denote.Ref.{now}
 use lib.Count.{trailingZeros}
 use lib.ListN.{length, getD, set}
 use borrow.Author.Needs.{needs}
+use Rattle.linear.specs.TestLaws.{is-false}
 use Rattle.linear.specs.Tuples.{total}
 use Rattle.linear.specs.TupleLaws.{total-same}
 use Rattle.definitions.specs.Tables.{at, frozen}
 use Rattle.laws.specs.MarkLaws.{frozen-none}
 use Rattle.laws.specs.TableLaws.{row-fits}
-use Rattle.products.specs.Marks.{is-false}
 use Rattle.products.specs.Scan.{left-all, next-inside}
 use Rattle.products.specs.ProductLaws.{combined-less, combined-over, level-products, products-small}
 use Rattle.step.specs.Totals.{total-fits, totals-row}
