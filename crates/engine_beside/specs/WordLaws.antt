@@ -1,14 +1,13 @@
 -- The words of tuples of up to 32 places: that they are low, that the word of a sum comes from the words, that what lies at or below passes the test; and one
--- turn of the loop that makes one. Assumes nothing.
-use mathlib.Core.Path.{_≡_, refl, sym, _∙_}
+-- turn of the loops that make one. Assumes nothing.
+use mathlib.Core.Path.{_≡_, refl, _∙_}
 use mathlib.Core.Logic.{inl, inr}
 use mathlib.Core.Bool.{Bool, true, false, cond}
-use Prim.Native.Nat.{ℕ, zero, suc, _+_, _*_, _^_, _%_, _≤_, _<_, min}
-use native.Mathlib.Nat.{pow-suc}
+use Prim.Native.Nat.{ℕ, zero, suc, _+_, _*_, _-_, _^_, _≤_, _<_, min}
+use native.Mathlib.Nat.{mul-le-mul, one-le-pow, pow-suc}
 use native.Mathlib.Numerals.{add-one}
 use native.Mathlib.Omega.{arith}
 use lib.Dec.{T, ltb}
-use lib.Pow.{pow-add, shl-exact}
 use borrow.Author.Tests.{le-ltb, lt-ltb}
 use Rattle.linear.specs.Cases.{split}
 use Rattle.linear.specs.TestLaws.{T-same}
@@ -86,20 +85,15 @@ module _ (q : ℕ) (r z : ℕ → ℕ) where
   pub not-fits : fits 16 (wordOf q r) (wordOf q z) ≡ false → isAtOrBelow q r z ≡ false
   not-fits e = T-same (isAtOrBelow q r z) false (λ h. rw e at (below-fits (below-from q r z h))) (λ h. absurd h)
 
--- ---- the loop that makes a word
+-- ---- the loops that make a word, from its last field to its first
 
--- field j, and the word of the first n fields
+-- field j
 abbrev pub fieldAt : ℕ → (ℕ → ℕ) → ℕ → ℕ
 fieldAt q x j = capped (folded q x j)
 
-pub first-word : (q : ℕ) (x : ℕ → ℕ) → digits 0 (fieldAt q x) ≡ 0
-unfolding digits
-first-word q x = refl
-
--- y is the sum of the two components, f that as far as 7, and r the same in its place
-pub next-word : (q : ℕ) (x : ℕ → ℕ) (j : ℕ) {w y f r : ℕ} → w ≡ digits j (fieldAt q x) → y ≡ folded q x j → f ≡ capped y → r ≡ f * 16 ^ j
-    → w + r ≡ digits (j + 1) (fieldAt q x)
-next-word q x j e s g h = rw (e, h, g, s) (sym (digits-next j (fieldAt q x)))
+-- w is the fields of the word of x from field j on
+pub record MadeTo (q : ℕ) (x : ℕ → ℕ) (j w : ℕ) : Type 0 where
+  pub made : wordOf q x ≡ digits j (fieldAt q x) + w * 16 ^ j
 
 digits-more : (n m : ℕ) (f : ℕ → ℕ) → n ≤ m → ((j : ℕ) → n ≤ j → f j ≡ 0) → digits m f ≡ digits n f
 digits-more n zero f l none = let e : n ≡ 0 = omega arith in rw e refl
@@ -112,33 +106,38 @@ digits-more n (suc m) f l none =
 field-none : (q : ℕ) (x : ℕ → ℕ) (j : ℕ) → q ≤ j → fieldAt q x j ≡ 0
 field-none q x j l = rw (le-ltb j q l, le-ltb (16 + j) q (omega arith)) refl
 
--- the fields past q are 0
-pub all-words : (q : ℕ) (x : ℕ → ℕ) (n : ℕ) → n ≡ min q 16 → digits n (fieldAt q x) ≡ wordOf q x
-unfolding word
-all-words q x n e =
-    elim (split q 16) [
-      | inl l ↦ let s : n ≡ q = omega arith in rw s (sym (digits-more q 16 (fieldAt q x) (omega arith) (field-none q x)))
-      | inr l ↦ let s : n ≡ 16 = omega arith in rw s refl
-    ]
+-- a field of one component
+pub plain-field : (q : ℕ) (x : ℕ → ℕ) (j : ℕ) → q ≤ 16 → j < q → x j ≡ folded q x j
+plain-field q x j few l = rw (lt-ltb j q l, le-ltb (16 + j) q (omega arith)) (omega arith)
 
-digits-longer : (n m : ℕ) (f : ℕ → ℕ) → n ≤ m → digits n f ≤ digits m f
-digits-longer n zero f l = let e : n ≡ 0 = omega arith in rw e (omega arith)
-digits-longer n (suc m) f l =
-    elim (split n (suc m)) [
-      | inl k ↦ rw (← add-one m) (omega (arith, digits-next m f, digits-longer n m f (omega arith)))
-      | inr k ↦ let e : n ≡ suc m = omega arith in rw e (omega arith)
-    ]
+module _ (q : ℕ) (x : ℕ → ℕ) where
+  all-fields : (n : ℕ) → n ≡ min q 16 → wordOf q x ≡ digits n (fieldAt q x)
+  unfolding word
+  all-fields n e =
+      elim (split q 16) [
+        | inl l ↦ let s : n ≡ q = omega arith in rw s (digits-more q 16 (fieldAt q x) (omega arith) (field-none q x))
+        | inr l ↦ let s : n ≡ 16 = omega arith in rw s refl
+      ]
 
--- the first n fields are low
-pub word-room : (q : ℕ) (x : ℕ → ℕ) (n : ℕ) → n ≤ 16 → digits n (fieldAt q x) ≤ wordLimit
-unfolding others
-word-room q x n l =
-    omega (arith, digits-low n (fieldAt q x) (λ j. 7) (λ j l. omega arith), digits-longer n 16 (λ j. 7) l, others-are)
+  -- at first it is none: those past q are 0
+  pub made-none : (n : ℕ) → n ≡ min q 16 → MadeTo q x n 0
+  made-none n e = record { made = all-fields n e ∙ omega arith }
 
--- a field shifted to its place: the machine's `x << 4 * j`
-pow-four : (j : ℕ) → 2 ^ (4 * j) ≡ 16 ^ j
-pow-four zero = refl
-pow-four (suc j) = let e : 4 * suc j ≡ 4 * j + 4 = omega arith in rw (e, pow-add 2 (4 * j) 4, pow-suc 16 j, pow-four j) (omega arith)
+  made-suc : (j w : ℕ) → MadeTo q x (suc j) w → MadeTo q x j (16 * w + fieldAt q x j)
+  made-suc j w m = record { made = m .made ∙ rw (← add-one j, digits-next j (fieldAt q x)) (rw (add-one j, pow-suc 16 j) (omega arith)) }
 
-pub shifted : (x j : ℕ) → x ≤ 7 → j < 16 → (x * 2 ^ (4 * j)) % 18446744073709551616 ≡ x * 16 ^ j
-shifted x j h l = shl-exact 3 (4 * j) 64 (omega arith) (omega arith) ∙ rw (pow-four j) refl
+  -- one field more, in the place of the last: y is its component, or the sum of its two, and f that as far as 7
+  pub made-next : (j : ℕ) → 0 < j → {w y f : ℕ} → MadeTo q x j w → y ≡ folded q x (j - 1) → f ≡ capped y → MadeTo q x (j - 1) (16 * w + f)
+  made-next (suc j) l {w} m e g = let s : suc j - 1 ≡ j = omega arith in rw (g, e, s) (made-suc j w m)
+  made-next zero l m e g = absurd (omega arith)
+
+  -- it fits, and so it does moved up by a field
+  pub made-fits : {j w : ℕ} → MadeTo q x j w → w ≤ wordLimit
+  made-fits {j} {w} m = omega (arith, m .made, word-low q x, mul-le-mul {n₁ = w} {m₁ = 1} {n₂ = w} {m₂ = 16 ^ j} (omega arith) (one-le-pow j 16 (omega arith)))
+
+  pub made-moves : (j : ℕ) → 0 < j → {w : ℕ} → MadeTo q x j w → 16 * w ≤ wordLimit
+  made-moves j l m = omega (arith, made-fits (made-next j l m refl refl))
+
+  pub made-all : {w : ℕ} → MadeTo q x 0 w → w ≡ wordOf q x
+  unfolding digits
+  made-all m = omega (arith, m .made)

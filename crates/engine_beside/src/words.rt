@@ -1,6 +1,6 @@
 // The words of rows: 16 fields of four bits, of which the highest, the guard, is clear. Field j holds components j and 16 + j added up, as far as 7.
 ghost use mathlib.Core.Path.{_≡_};
-ghost use Prim.Native.Nat.{_*_, _^_, _≤_, _<_, min};
+ghost use Prim.Native.Nat.{_≤_, _<_, min};
 ghost use lib.ListN.{length};
 ghost use Rattle.engine_spec.specs.Beside.{SmallRow, SmallTable, Worded, folded, rowAt, wordOf};
 ghost use Rattle.engine_spec.specs.Words.{fits as fitsWord, joined as joinedWord};
@@ -15,12 +15,36 @@ pub fn word_at(table: &[u32], base: usize, q: usize) -> u64
     requires { ⌜ (q ≤ 32) × SmallRow q (now table) base ⌝ }
     ensures { λ r. ⌜ r ≡ wordOf q (rowAt (now (table .entry)) base) ⌝ }
 {
-    let fields = least(q, 16);
+    if q <= 16 {
+        return plain_word(table, base, q);
+    }
+    folded_word(table, base, q)
+}
+
+// That of a row whose fields hold one component each. A field moves those made before it up by four bits: the same shift in each turn.
+fn plain_word(table: &[u32], base: usize, q: usize) -> u64
+    requires { ⌜ (q ≤ 16) × SmallRow q (now table) base ⌝ }
+    ensures { λ r. ⌜ r ≡ wordOf q (rowAt (now (table .entry)) base) ⌝ }
+{
     let mut word: u64 = 0;
-    let mut j = 0;
-    while j < fields {
-        word += placed(cut(folded_at(table, base, q, j)), j);
-        j += 1;
+    let mut j = q;
+    while 0 < j {
+        j -= 1;
+        word = 16 * word + cut(table[base + j]);
+    }
+    word
+}
+
+// That of a row of more than 16 components.
+fn folded_word(table: &[u32], base: usize, q: usize) -> u64
+    requires { ⌜ (16 < q) × SmallRow q (now table) base ⌝ }
+    ensures { λ r. ⌜ r ≡ wordOf q (rowAt (now (table .entry)) base) ⌝ }
+{
+    let mut word: u64 = 0;
+    let mut j: usize = 16;
+    while 0 < j {
+        j -= 1;
+        word = 16 * word + cut(folded_at(table, base, q, j));
     }
     word
 }
@@ -72,18 +96,4 @@ fn cut(x: u32) -> u64
     ensures { λ r. ⌜ r ≡ min x 7 ⌝ }
 {
     if x < 7 { x as u64 } else { 7 }
-}
-
-// x as field j of a word.
-fn placed(x: u64, j: usize) -> u64
-    requires { ⌜ (x ≤ 7) × (j < 16) ⌝ }
-    ensures { λ r. ⌜ r ≡ x * 16 ^ j ⌝ }
-{
-    x << (4 * j)
-}
-
-fn least(x: usize, y: usize) -> usize
-    ensures { λ r. ⌜ r ≡ min x y ⌝ }
-{
-    if x < y { x } else { y }
 }

@@ -1,23 +1,25 @@
 -- The record and the tables in order, part by part. Assumes nothing.
 use mathlib.Core.Path.{_≡_, refl, sym, _∙_}
+use mathlib.Core.Logic.{_≢_}
 use mathlib.Core.Bool.{Bool, true, false, not, _&&_}
 use mathlib.Core.List.{List}
 use Prim.Native.Nat.{ℕ, zero, suc, _+_, _*_, _^_, _-_, _≤_, _<_}
 use native.Mathlib.Nat.{mul-le-mul-right}
 use native.Mathlib.Numerals.{add-one}
 use native.Mathlib.Omega.{arith}
-use borrow.Author.Tests.{le-leb, leb-true, lt-leb, not-false}
+use borrow.Author.Tests.{le-leb, le-ltb, leb-true, lt-leb, lt-ltb, not-false, not-true}
 use lib.Dec.{T, leb, ltb}
 use lib.ListN.{length}
+use Rattle.linear.specs.TestLaws.{all-at, all-from, and-both, and-parts}
 use Rattle.linear.specs.Tests.{allTo}
 use Rattle.linear.specs.Tuples.{total}
 use Rattle.definitions.specs.Refusals.{stepLimit}
 use Rattle.definitions.specs.Tables.{at}
-use Rattle.engine_spec.specs.Beside.{SmallRow, SmallTable, rowAt}
+use Rattle.laws.specs.SweepLaws.{T-same}
+use Rattle.engine_spec.specs.Beside.{SmallTable}
 use Rattle.engine_spec.specs.Calls.{coefficientsSmall, inOrder, isRising, isRow, marksInOrder}
 use Rattle.engine_spec.specs.Engine.{Work, basisRow}
 use Rattle.engine_spec.specs.Reduction.{isSmall}
-use Rattle.engine_spec.specs.ReductionLaws.{small-from}
 use Rattle.engine_spec.specs.Stage.{row}
 use Rattle.engine_beside.specs.SmallRows.{areSmall, small-table}
 
@@ -37,6 +39,10 @@ recordInOrder p most room count rows steps done equation =
 
 unfoldable pub areRows : (q m : ℕ) → (ℕ → ℕ → ℕ) → Bool
 areRows q m row = allTo m (λ i. isRow q (row i))
+
+-- no row is all zero
+unfoldable pub noneZero : (q m : ℕ) → (ℕ → ℕ → ℕ) → Bool
+noneZero q m row = allTo m (λ i. ltb 0 (total (row i) q))
 
 regroup : (a b c d e f : Bool) → (a && b) && ((c && d) && (e && f)) ≡ ((a && b) && ((c && d) && e)) && f
 regroup false b c d e f = refl
@@ -105,6 +111,34 @@ tested-small q n table {b} e h few whole = small-table q n table few whole (rw (
     holds : (b : Bool) → not b ≡ false → T b
     holds b h = rw (not-false b h) tt
 
+-- the two parts of each row, asked one after the other of all
+module _ (q m : ℕ) (row : ℕ → ℕ → ℕ) where
+  both-parts : areSmall q m row && noneZero q m row ≡ areRows q m row
+  unfolding areRows areSmall noneZero isRow
+  both-parts =
+      T-same _ _
+      (λ h.
+      let (small, above) = and-parts (allTo m (λ i. isSmall q (row i))) _ h in
+      all-from m _ (λ i l. and-both (isSmall q (row i)) _ (all-at m _ small i l) (all-at m _ above i l)))
+      (λ h.
+      and-both (allTo m (λ i. isSmall q (row i))) _
+      (all-from m _ (λ i l. and-parts (isSmall q (row i)) _ (all-at m _ h i l) .0))
+      (all-from m _ (λ i l. and-parts (isSmall q (row i)) _ (all-at m _ h i l) .1)))
+
+  module _ {b : Bool} (e : b ≡ areSmall q m row) where
+    pub rows-not-small : not b ≡ true → false ≡ areRows q m row
+    rows-not-small h = rw (← both-parts, ← e, not-true b h)
+
+    pub rows-small : not b ≡ false → {d : Bool} → d ≡ noneZero q m row → d ≡ areRows q m row
+    rows-small h g = rw (← both-parts, ← e, not-false b h) g
+
+-- one row, whose degree is d
+pub is-zero : {degree d : ℕ} → degree ≡ d → degree ≡ 0 → ltb 0 d ≡ false
+is-zero {degree} {d} e z = le-ltb 0 d (omega arith)
+
+pub is-above : {degree d : ℕ} → degree ≡ d → degree ≢ 0 → ltb 0 d ≡ true
+is-above {degree} {d} e z = lt-ltb 0 d (omega arith)
+
 -- ---- marks
 
 pub past-equation : (p done equation : ℕ) → p < equation → false ≡ marksInOrder p done equation
@@ -135,8 +169,3 @@ pub rises-is : (f : ℕ → ℕ) (d i : ℕ) {before degree : ℕ} {b : Bool} �
 unfolding risesBy degreeBefore
 rises-is f d zero e g h = h ∙ rw (e, g, le-leb 0 (f 0) (omega arith), le-leb (f 0) (f 0) (omega arith))
 rises-is f d (suc i) e g h = let same : suc i - 1 ≡ i = omega arith in h ∙ rw (e, g, same)
-
--- ---- one row
-
-pub row-small : (q base : ℕ) (table : List ℕ) {b : Bool} → b ≡ isSmall q (rowAt table base) → not b ≡ false → base + q ≤ length table → SmallRow q table base
-row-small q base table {b} e h whole = record { whole = whole; small = λ j l. small-from q (rowAt table base) (rw (← e, not-false b h) tt) j l }

@@ -1,13 +1,13 @@
 // Whether the record and the tables are in order. Nothing lent is changed.
 ghost use mathlib.Core.Path.{_≡_};
-ghost use Prim.Native.Nat.{_+_, _*_, _≤_, _<_};
+ghost use Prim.Native.Nat.{_*_, _≤_};
 ghost use lib.ListN.{length};
 ghost use Rattle.linear.specs.Tuples.{total};
 ghost use Rattle.definitions.specs.Tables.{at};
-ghost use Rattle.engine_spec.specs.Beside.{SmallTable, rowAt};
-ghost use Rattle.engine_spec.specs.Calls.{coefficientsSmall, inOrder, isList, isRising, isRow, marksInOrder, rowLimit};
+ghost use Rattle.engine_spec.specs.Beside.{SmallTable};
+ghost use Rattle.engine_spec.specs.Calls.{coefficientsSmall, inOrder, isList, isRising, marksInOrder, rowLimit};
 ghost use Rattle.engine_calls.specs.Records.{workOf};
-ghost use Rattle.engine_checks.specs.Order.{Within, areRows, recordInOrder, risesBy};
+ghost use Rattle.engine_checks.specs.Order.{Within, areRows, noneZero, recordInOrder, risesBy};
 use crate::signs;
 use engine_beside::degrees;
 use engine_beside::small;
@@ -109,14 +109,10 @@ fn are_rows(table: &[u32], m: usize, q: usize) -> bool
     requires { ⌜ (q ≤ 32) × (m * q ≤ length (now table)) ⌝ }
     ensures { λ b. ⌜ b ≡ areRows q m (at (now (table .entry)) q) ⌝ }
 {
-    let mut i = 0;
-    while i < m {
-        if !is_row(table, i * q, q) {
-            return false;
-        }
-        i += 1;
+    if !small::small_rows(table, m, q) {
+        return false;
     }
-    true
+    none_zero(table, m, q)
 }
 
 // Whether a list handed over is n rows of q numbers, each within the component limit and not all zero.
@@ -130,14 +126,19 @@ pub fn is_list(rows: &[u32], n: usize, q: usize) -> bool
     are_rows(rows, n, q)
 }
 
-fn is_row(table: &[u32], base: usize, q: usize) -> bool
-    requires { ⌜ (q ≤ 32) × (base + q ≤ length (now table)) ⌝ }
-    ensures { λ b. ⌜ b ≡ isRow q (rowAt (now (table .entry)) base) ⌝ }
+// Whether none of the first m rows is all zero.
+fn none_zero(table: &[u32], m: usize, q: usize) -> bool
+    requires { ⌜ SmallTable q m (now table) ⌝ }
+    ensures { λ b. ⌜ b ≡ noneZero q m (at (now (table .entry)) q) ⌝ }
 {
-    if !small::small_at(table, base, q) {
-        return false;
+    let mut i = 0;
+    while i < m {
+        if degrees::degree_at(table, i * q, q) == 0 {
+            return false;
+        }
+        i += 1;
     }
-    0 < degrees::degree_at(table, base, q)
+    true
 }
 
 // Whether no degree of the first n rows is 0, below the one before or above d.

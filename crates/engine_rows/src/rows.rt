@@ -36,19 +36,18 @@ fn exceeds(a: u32, b: u32) -> u32
     if b < a { 1 } else { 0 }
 }
 
-// Whether the row from place x is at or below the row from place y.
+// Whether the row from place x is at or below the row from place y. It looks at every component, as above.
 pub fn below(table: &[u32], x: usize, y: usize, q: usize) -> bool
     requires { ⌜ (x + q ≤ length (now table)) × (y + q ≤ length (now table)) ⌝ }
     ensures { λ r. ⌜ r ≡ isAtOrBelow q (rowAt (now (table .entry)) x) (rowAt (now (table .entry)) y) ⌝ }
 {
+    let mut above: u32 = 0;
     let mut j = 0;
     while j < q {
-        if table[y + j] < table[x + j] {
-            return false;
-        }
+        above |= exceeds(table[x + j], table[y + j]);
         j += 1;
     }
-    true
+    above == 0
 }
 
 // Whether no component of the sum of the rows from places x and y is above 1,000,000.

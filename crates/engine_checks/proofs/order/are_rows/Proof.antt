@@ -1,62 +1,25 @@
--- `order::are_rows` meets its contract: every row passed is one. Assumes nothing.
-use Prim.Native.Nat.{_-_, _≤_}
-use mathlib.Core.Bool.{true}
-use mathlib.Core.Path.{_≡_, sym, _∙_}
-use native.Mathlib.Nat.{le-antisymm}
-use native.Mathlib.Omega.{arith}
-use borrow.Author.Tests.{not-false, not-true}
-use Rattle.linear.specs.LoopLaws.{all-fails, all-next}
-use Rattle.linear.specs.Tests.{allTo}
+-- `order::are_rows` meets its contract: a component above the limit decides, else the degrees. Assumes nothing.
+use denote.Ref.{now}
 use Rattle.definitions.specs.Tables.{at}
-use Rattle.laws.specs.TableLaws.{row-fits}
-use Rattle.engine_spec.specs.Calls.{isRow}
-use Rattle.engine_beside.specs.SmallRows.{none-yet}
-use Rattle.engine_checks.specs.Order.{areRows}
-use borrow.Author.Needs.{needs}
+use Rattle.engine_checks.specs.Order.{rows-not-small, rows-small, tested-small}
 use Rattle.engine_checks.proofs.order.are_rows.Statement.{statement}
 use Rattle.engine_checks.proofs.order.are_rows.Tie as tie
 
-abbrev Inv-loop : tie.InvT-loop
-Inv-loop table m q i₀ i = (i ≤ m) × (allTo i (λ k. isRow q (at table q k)) ≡ true)
+small-rows-requires : tie.Need-small-rows-requires
+small-rows-requires c κs = c .before .pre .1
 
-abbrev μ-loop : tie.MeasureT-loop
-μ-loop table m q i₀ i = m - i
+returns : tie.Need-returns
+returns c = let s = c .before .before .before in
+    rows-not-small (s .args .q) (s .args .m) (at (now (s .args .table)) (s .args .q)) (c .before .small-rows .ensures) (c .if1 .taken)
 
-loop-holds : tie.Need-loop-holds Inv-loop μ-loop
-loop-holds c = (search needs, none-yet _)
+none-zero-requires : tie.Need-none-zero-requires
+none-zero-requires c κs = let s = c .before .before .before in
+    tested-small (s .args .q) (s .args .m) (now (s .args .table)) (c .before .small-rows .ensures) (c .if1 .left) (s .pre .0) (s .pre .1)
 
-mul-is-row : tie.Need-mul-is-row Inv-loop μ-loop
-mul-is-row c = let s = c .before .before .before in omega (arith, s .pre .1, row-fits (s .args .q) _ _ (c .loop-test .taken))
-
-is-row-requires : tie.Need-is-row-requires Inv-loop μ-loop
-is-row-requires c κs = let s = c .before .before .before in (s .pre .0, omega (arith, s .pre .1, row-fits (s .args .q) _ _ (c .loop-test .taken)))
-
-returns : tie.Need-returns Inv-loop μ-loop
-unfolding areRows
-returns c = sym (all-fails _ _ _ (c .before .before .loop-test .taken) (sym (c .before .is-row .ensures) ∙ not-true _ (c .if1 .taken)))
-
-loop-again : tie.Need-loop-again Inv-loop μ-loop
-loop-again c = let a = c .before .before .before in (
-  search needs,
-  all-next _ _ (a .loop .inv .1)
-      (sym (c .before .is-row .ensures) ∙ not-false _ (c .if1 .left)),
-)
-
-returns-2 : tie.Need-returns-2 Inv-loop μ-loop
-unfolding areRows
-returns-2 c = let a = c .before in sym (rw (le-antisymm (a .loop .inv .0) (c .loop-test .left)) at (a .loop .inv .1))
+returns-2 : tie.Need-returns-2
+returns-2 c = let s = c .before .before .before .before in
+    rows-small (s .args .q) (s .args .m) (at (now (s .args .table)) (s .args .q)) (c .before .before .small-rows .ensures) (c .before .if1 .left)
+    (c .none-zero .ensures)
 
 pub are-rows-spec : {M : Type 1} → statement M
-are-rows-spec =
-    tie.close
-    (tie.spec
-    Inv-loop
-    μ-loop
-    loop-holds
-    mul-is-row
-    is-row-requires
-    returns
-    (λ c. search needs)
-    (λ c. search needs)
-    loop-again
-    returns-2)
+are-rows-spec = tie.close (tie.spec small-rows-requires returns none-zero-requires returns-2)
