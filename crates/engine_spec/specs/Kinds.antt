@@ -99,6 +99,13 @@ pub record BothLists (p q : ℕ) (coefs rights : List ℤ) (list : List ℕ) (n 
       → ¬ (Solution p q (systemOf q coefs) (rest (at list (suc q) i)))
       × ¬ (Meets p q (systemOf q coefs) (λ k. getD rights k (pos 0)) (rest (at list (suc q) i)))
 
+-- What a complete list holds from a lower bound: the rows with 1 in the first unknown, with the bound added, are exactly the smallest at or above the bound,
+-- each once; and where there are none, nothing at or above the bound is such. With right sides `rights`, without them where these are [].
+pub record FromBound (p q : ℕ) (coefs rights : List ℤ) (lower : ℕ → ℕ) (list : List ℕ) (n : ℕ) : Type 0 where
+  pub smallest : (out : List ℕ) → handedCount 1 q list n * q ≤ length out
+      → Exactly q (MinimalMeetingFrom p q coefs rights lower) (handed 1 q lower list n out) (handedCount 1 q list n)
+  pub empty : handedCount 1 q list n ≡ 0 → (t : ℕ → ℕ) → AtOrBelow q lower t → ¬ (Meets p q (systemOf q coefs) (λ i. getD rights i (pos 0)) t)
+
 -- ---- from the list of the extended system
 
 pub solution-alike : (p q : ℕ) (a : ℕ → ℕ → ℤ) (s t : ℕ → ℕ) → Same q s t → SolutionIn p q a (Nonzero q) s → SolutionIn p q a (Nonzero q) t
@@ -144,7 +151,7 @@ module _ (cap p q : ℕ) (some : 0 < q) (coefs rights : List ℤ) (numbers : len
       (λ s m. (put 1 s, loop-inside cap p (suc q) extended (put 1 s) (first-inside cap q 1 s (omega arith)) (at-1-loop x s m), refl, λ j l. omega arith))
       list n rows out roomy
 
-  both-lists : BothLists p q coefs rights list n
+  pub both-lists : BothLists p q coefs rights list n
   both-lists =
       record {
         at-zero = λ out roomy.
@@ -209,6 +216,9 @@ module _ (cap p q : ℕ) (some : 0 < q) (coefs rights : List ℤ) (numbers : len
       let (i, l, e) = from-bound [] (rw none (omega arith)) .all m low in
       omega arith)
 
+  pub bound-list : FromBound p q coefs rights lower list n
+  bound-list = record { smallest = from-bound; empty = none-from }
+
 -- ---- the promises
 
 pub same-list : {q : ℕ} {W : (ℕ → ℕ) → Type 0} {one other : List ℕ} {n m : ℕ} → Exactly q W one n → Exactly q W other m → SameList q one n other m
@@ -235,15 +245,20 @@ pub right-sides-capped : (p q : ℕ) → 0 < q → (coefs rights : List ℤ) →
     × ((budget : ℕ) → resume p (suc q) most room budget w .answer ≡ complete
     → let v = resume p (suc q) most room budget w .work in BothLists p q coefs rights (v .basis) (v .count))
 right-sides-capped p q some coefs rights numbers r =
-    let (listed, staged) = rows-inside (under 1) p (suc q) (extendTo p q coefs rights) r in (
-      (λ i l. listed i l (omega arith) (omega arith), λ i l. staged i l (omega arith) (omega arith)),
+    let x = rows-inside (under 1) p (suc q) (extendTo p q coefs rights) r in (
+      (λ i l. x .listed i l (omega arith) (omega arith), λ i l. x .staged i l (omega arith) (omega arith)),
       right-sides-under 1 p q some coefs rights numbers r,
     )
 
--- Both lists are the same, with whatever cap either run had: in any tables, the same rows, as many, each row of either in the other.
-pub same-sides : (p q : ℕ) (coefs rights : List ℤ) {one other : List ℕ} {n m : ℕ} → BothLists p q coefs rights one n → BothLists p q coefs rights other m
-    → (c : ℕ) → c ≤ 1 → (out out′ : List ℕ) → handedCount c q one n * q ≤ length out → handedCount c q other m * q ≤ length out′
+-- both lists are the same: in any tables, as many rows, each row of either in the other
+abbrev pub SameSides : (q : ℕ) (one : List ℕ) (n : ℕ) (other : List ℕ) (m : ℕ) → Type 0
+SameSides q one n other m =
+    (c : ℕ) → c ≤ 1 → (out out′ : List ℕ) → handedCount c q one n * q ≤ length out → handedCount c q other m * q ≤ length out′
     → SameList q (handed c q nothing one n out) (handedCount c q one n) (handed c q nothing other m out′) (handedCount c q other m)
+
+-- So they are with whatever cap either run had.
+pub same-sides : (p q : ℕ) (coefs rights : List ℤ) {one other : List ℕ} {n m : ℕ} → BothLists p q coefs rights one n → BothLists p q coefs rights other m
+    → SameSides q one n other m
 same-sides p q coefs rights x y zero low out out′ l l′ = same-list (x .at-zero out l) (y .at-zero out′ l′)
 same-sides p q coefs rights x y (suc zero) low out out′ l l′ = same-list (x .at-one out l) (y .at-one out′ l′)
 same-sides p q coefs rights x y (suc (suc c)) low out out′ l l′ = absurd (omega arith)
@@ -277,24 +292,14 @@ sides-made p q coefs rights {loops} {smallest} {n} {m} x y t meets =
           sum-is (value (systemOf q coefs k) q (λ j. t j - at smallest q i j)) (value (systemOf q coefs k) q (at smallest q i)),
         )
 
--- What a complete list holds from a lower bound: the rows with 1 in the first unknown, with the bound added, are exactly the smallest at or above the bound,
--- each once; and where there are none, nothing at or above the bound is such. With right sides `rights`, without them where these are [].
-pub record FromBound (p q : ℕ) (coefs rights : List ℤ) (lower : ℕ → ℕ) (list : List ℕ) (n : ℕ) : Type 0 where
-  pub smallest : (out : List ℕ) → handedCount 1 q list n * q ≤ length out
-      → Exactly q (MinimalMeetingFrom p q coefs rights lower) (handed 1 q lower list n out) (handedCount 1 q list n)
-  pub empty : handedCount 1 q list n ≡ 0 → (t : ℕ → ℕ) → AtOrBelow q lower t → ¬ (Meets p q (systemOf q coefs) (λ i. getD rights i (pos 0)) t)
-
 pub lower-bound-under : (cap p q : ℕ) → 0 < q → (coefs rights : List ℤ) → length coefs ≡ p * q → (lower : ℕ → ℕ) → {most room : ℕ} {w : Work}
     → RunsUnder cap p (suc q) (extendTo p q coefs (lessTo p q coefs rights lower)) most room w → (budget : ℕ)
     → resume p (suc q) most room budget w .answer ≡ complete
     → let v = resume p (suc q) most room budget w .work in FromBound p q coefs rights lower (v .basis) (v .count)
 lower-bound-under cap p q some coefs rights numbers lower {most} {room} {w} r budget e =
     let v = resume p (suc q) most room budget w .work in
-    let rows = under-complete cap p (suc q) (extendTo p q coefs (lessTo p q coefs rights lower)) r budget e in
-    record {
-      smallest = from-bound cap p q some coefs rights numbers lower (v .basis) (v .count) rows;
-      empty = none-from cap p q some coefs rights numbers lower (v .basis) (v .count) rows;
-    }
+    bound-list cap p q some coefs rights numbers lower (v .basis) (v .count)
+    (under-complete cap p (suc q) (extendTo p q coefs (lessTo p q coefs rights lower)) r budget e)
 
 pub lower-bound-with : (p q : ℕ) → 0 < q → (coefs rights : List ℤ) → length coefs ≡ p * q → (lower : ℕ → ℕ) → {most room : ℕ} {w : Work}
     → Runs p (suc q) (extendTo p q coefs (lessTo p q coefs rights lower)) most room w → (budget : ℕ)

@@ -674,18 +674,27 @@ inside-sound : (cap p q : ℕ) (a : ℕ → ℕ → ℤ) (c : ℕ → ℤ) (m : 
     → Inside cap q (row q s i)
 inside-sound cap p q a c m basis s sound i l = wanted-inside cap p q a (sound .wanted i l)
 
--- At any time, no row of the basis and none of the stage's table passes the cap: such sums are dropped as they come.
-pub rows-inside : (base : Base) (p q : ℕ) (coefs : List ℤ) {most room : ℕ} {w : Work} → RunsOn base p q coefs most room w
-    → ((i : ℕ) → i < w .count → Inside (base .cap) q (basisRow q w i)) × ((i : ℕ) → i < w .stage .rows → Inside (base .cap) q (row q (w .stage) i))
+-- no row of the basis and none of the stage's table passes the cap
+pub record StaysInside (cap q : ℕ) (w : Work) : Type 0 where
+  pub listed : (i : ℕ) → i < w .count → Inside cap q (basisRow q w i)
+  pub staged : (i : ℕ) → i < w .stage .rows → Inside cap q (row q (w .stage) i)
+
+-- So it is at any time: sums that pass the cap are dropped as they come.
+pub rows-inside : (base : Base) (p q : ℕ) (coefs : List ℤ) {most room : ℕ} {w : Work} → RunsOn base p q coefs most room w → StaysInside (base .cap) q w
 rows-inside base p q coefs {w = w} r = by (runs-whole base p q coefs r .standing)
   where
-    by : Standing base p q w
-        → ((i : ℕ) → i < w .count → Inside (base .cap) q (basisRow q w i)) × ((i : ℕ) → i < w .stage .rows → Inside (base .cap) q (row q (w .stage) i))
-    by (between e z given) = (inside-given (base .cap) (base .p + p) q _ _ _ given, λ i l. absurd (omega arith))
+    by : Standing base p q w → StaysInside (base .cap) q w
+    by (between e z given) = record { listed = inside-given (base .cap) (base .p + p) q _ _ _ given; staged = λ i l. absurd (omega arith) }
     by (underWay l n f given sound) =
-        (inside-given (base .cap) (base .p + p) q _ _ _ given, inside-sound (base .cap) (base .p + p) q _ _ _ _ (w .stage) sound)
+        record {
+          listed = inside-given (base .cap) (base .p + p) q _ _ _ given;
+          staged = inside-sound (base .cap) (base .p + p) q _ _ _ _ (w .stage) sound;
+        }
     by (withFresh l n f o m z given sound) =
-        (inside-given (base .cap) (suc (base .p + p)) q _ _ _ given, inside-sound (base .cap) (suc (base .p + p)) q _ _ _ _ (w .stage) sound)
+        record {
+          listed = inside-given (base .cap) (suc (base .p + p)) q _ _ _ given;
+          staged = inside-sound (base .cap) (suc (base .p + p)) q _ _ _ _ (w .stage) sound;
+        }
 
 -- ---- on the map alone
 

@@ -12,6 +12,7 @@ use lib.Dec.{eqb, eqb→eq, eqb-refl, ltb, nltb→le, not-T}
 use lib.IntN.{ℤ, pos, negsuc, negℤ, natAbs}
 use lib.ListN.{getD, length}
 use Rattle.linear.specs.Cases.{split}
+use Rattle.linear.specs.Combinations.{Enumerates}
 use Rattle.linear.specs.Differences.{down-neg, integers, sum-is, up-neg}
 use Rattle.linear.specs.RightSides.{Extends}
 use Rattle.linear.specs.SystemLaws.{value-sum}
@@ -21,7 +22,7 @@ use Rattle.definitions.specs.Answers.{complete, go, refuse, refuseFirst, refuse
 use Rattle.definitions.specs.Input.{boundOf}
 use Rattle.definitions.specs.Refusals.{check15}
 use Rattle.definitions.specs.System.{MinimalFrom, MinimalSolution, extendTo}
-use Rattle.definitions.specs.Tables.{State}
+use Rattle.definitions.specs.Tables.{State, at}
 use Rattle.laws.specs.AnswerLaws.{refuse-if-go, then-go}
 use Rattle.laws.specs.Extended.{extends}
 use Rattle.laws.specs.TableLaws.{row-before}
@@ -32,9 +33,10 @@ use Rattle.engine_spec.specs.Beside.{coefficientLimit, mostColumns}
 use Rattle.engine_spec.specs.Calls.{check1, check2, check3, check4, check7, checked, resume, resumeChecks}
 use Rattle.engine_spec.specs.CallRules.{refused-checked}
 use Rattle.engine_spec.specs.Engine.{Work, basisRow, systemOf}
-use Rattle.engine_spec.specs.Kinds.{BothLists, FromBound, lower-bound-under, nothing, right-sides-capped}
+use Rattle.engine_spec.specs.Equations.{LoopInside}
+use Rattle.engine_spec.specs.Kinds.{BothLists, FromBound, both-lists, bound-list, nothing, right-sides-capped}
 use Rattle.engine_spec.specs.Own.{own-calls, shape-from}
-use Rattle.engine_spec.specs.Promise.{RunsUnder, Startable, afterBegin, false-not, first-silent, in-range, passes, roomy, started-goes}
+use Rattle.engine_spec.specs.Promise.{RunsUnder, Startable, afterBegin, false-not, first-silent, in-range, passes, roomy, started-goes, under-complete}
 use Rattle.engine_spec.specs.Promises.{mapOf}
 use Rattle.engine_spec.specs.Sides.{MeetsFrom, handed, handedCount, less-entry, lessTo, minimal-as}
 use Rattle.engine_spec.specs.Stage.{row}
@@ -152,6 +154,47 @@ module _ (p q : ℕ) (coefs rights : List ℤ) (lower : List ℕ) where
 -- ---- the promises
 
 module _ (p q : ℕ) (coefs rights : List ℤ) (lower : List ℕ) where
+  -- A whole list of the working system inside any cap, whoever made it, is both lists.
+  pub sides-listed : 0 < q → length coefs ≡ p * q → (cap : ℕ) (list : List ℕ) (n : ℕ)
+      → Enumerates (suc q) (LoopInside cap p (suc q) (systemOf (suc q) (sidesSystem p q coefs rights lower))) n (at list (suc q))
+      → SidesLists p q coefs rights lower list n
+  unfolding sidesSystem
+  sides-listed some numbers cap list n rows =
+      record {
+        loops = both-lists cap p q some coefs (lessTo p q coefs rights (boundOf lower)) numbers list n rows .at-zero;
+        smallest = bound-list cap p q some coefs rights numbers (boundOf lower) list n rows;
+      }
+
+  -- Where the bound is 0, they are both lists of Job 1;
+  pub both-listed : ((j : ℕ) → j < q → boundOf lower j ≡ 0) → 0 < q → length coefs ≡ p * q → (cap : ℕ) (list : List ℕ) (n : ℕ)
+      → Enumerates (suc q) (LoopInside cap p (suc q) (systemOf (suc q) (sidesSystem p q coefs rights lower))) n (at list (suc q))
+      → BothLists p q coefs rights list n
+  both-listed free some numbers cap list n rows =
+      both-lists cap p q some coefs rights numbers list n (rw (bound-zero p q coefs rights lower free) at rows)
+
+  -- where the right sides are 0, Job 4's list.
+  pub above-listed : ((i : ℕ) → i < p → getD rights i (pos 0) ≡ pos 0) → (list : List ℕ) (n : ℕ) → SidesLists p q coefs rights lower list n
+      → Above p q coefs lower list n
+  above-listed zeros list n lists =
+      let f = lists .smallest in
+      record {
+        smallest = λ out fits.
+            let x = f .smallest out fits in
+            record {
+              part = record { room = x .part .room; only = λ i l. minimal-as there back (x .part .only i l); once = x .part .once };
+              all = λ t m. x .all t (minimal-as back there m);
+            };
+        empty = λ none t above s. f .empty none t above (λ i l. s i l ∙ sym (zeros i l));
+      }
+    where
+      there : (t : ℕ → ℕ) → MeetsFrom p q (systemOf q coefs) (λ i. getD rights i (pos 0)) (boundOf lower) t
+          → SolutionIn p q (systemOf q coefs) (AtOrBelow q (boundOf lower)) t
+      there t m = record { solution = λ i l. m .meets i l ∙ zeros i l; admitted = m .above }
+
+      back : (t : ℕ → ℕ) → SolutionIn p q (systemOf q coefs) (AtOrBelow q (boundOf lower)) t
+          → MeetsFrom p q (systemOf q coefs) (λ i. getD rights i (pos 0)) (boundOf lower) t
+      back t w = record { meets = λ i l. w .solution i l ∙ sym (zeros i l); above = w .admitted }
+
   -- What a start that is let go on leaves is such a run.
   pub sides-started : (most room : ℕ) (w : Work) → most * suc q ≤ length (w .basis) → room * suc q ≤ length (w .stage .table)
       → startSides p q coefs rights lower most w .answer ≡ started
@@ -182,37 +225,19 @@ module _ (p q : ℕ) (coefs rights : List ℤ) (lower : List ℕ) where
     -- Complete: the loops, and the smallest tuples that meet the right sides at or above the bound.
     pub sides-complete : (budget : ℕ) → resume p (suc q) most room budget w .answer ≡ complete
         → let v = resume p (suc q) most room budget w .work in SidesLists p q coefs rights lower (v .basis) (v .count)
-    unfolding sidesSystem
     sides-complete budget e =
-        record {
-          loops = right-sides-capped p q some coefs (lessTo p q coefs rights (boundOf lower)) numbers r .1 budget e .at-zero;
-          smallest = lower-bound-under 1 p q some coefs rights numbers (boundOf lower) r budget e;
-        }
+        let v = resume p (suc q) most room budget w .work in
+        sides-listed some numbers 1 (v .basis) (v .count) (under-complete 1 p (suc q) (sidesSystem p q coefs rights lower) r budget e)
 
     -- Where the bound is 0, both lists of Job 1.
     pub sides-both : ((j : ℕ) → j < q → boundOf lower j ≡ 0) → (budget : ℕ) → resume p (suc q) most room budget w .answer ≡ complete
         → let v = resume p (suc q) most room budget w .work in BothLists p q coefs rights (v .basis) (v .count)
-    sides-both free budget e = right-sides-capped p q some coefs rights numbers (rw (bound-zero p q coefs rights lower free) at r) .1 budget e
+    sides-both free budget e =
+        let v = resume p (suc q) most room budget w .work in
+        both-listed free some numbers 1 (v .basis) (v .count) (under-complete 1 p (suc q) (sidesSystem p q coefs rights lower) r budget e)
 
     -- Where the right sides are 0, Job 4's list; an empty one means that nothing at or above the bound is a solution.
     pub sides-above : ((i : ℕ) → i < p → getD rights i (pos 0) ≡ pos 0) → (budget : ℕ) → resume p (suc q) most room budget w .answer ≡ complete
         → let v = resume p (suc q) most room budget w .work in Above p q coefs lower (v .basis) (v .count)
     sides-above zeros budget e =
-        let f = sides-complete budget e .smallest in
-        record {
-          smallest = λ out fits.
-              let x = f .smallest out fits in
-              record {
-                part = record { room = x .part .room; only = λ i l. minimal-as there back (x .part .only i l); once = x .part .once };
-                all = λ t m. x .all t (minimal-as back there m);
-              };
-          empty = λ none t above s. f .empty none t above (λ i l. s i l ∙ sym (zeros i l));
-        }
-      where
-        there : (t : ℕ → ℕ) → MeetsFrom p q (systemOf q coefs) (λ i. getD rights i (pos 0)) (boundOf lower) t
-            → SolutionIn p q (systemOf q coefs) (AtOrBelow q (boundOf lower)) t
-        there t m = record { solution = λ i l. m .meets i l ∙ zeros i l; admitted = m .above }
-
-        back : (t : ℕ → ℕ) → SolutionIn p q (systemOf q coefs) (AtOrBelow q (boundOf lower)) t
-            → MeetsFrom p q (systemOf q coefs) (λ i. getD rights i (pos 0)) (boundOf lower) t
-        back t w = record { meets = λ i l. w .solution i l ∙ sym (zeros i l); above = w .admitted }
+        let v = resume p (suc q) most room budget w .work in above-listed zeros (v .basis) (v .count) (sides-complete budget e)

@@ -11,7 +11,7 @@ use lib.Dec.{ltb}
 use lib.IntN.{ℤ, pos, negsuc, natAbs, _+ℤ_, _*ℤ_, +ℤ-assoc, +ℤ-idl, +ℤ-idr, zero-*ℤ}
 use lib.Signed.{_≤ℤ_, pos-natAbs, yes-nonNeg}
 use Rattle.linear.specs.Cases.{split}
-use Rattle.linear.specs.Combinations.{Enumerates, rest-solves, solution-same}
+use Rattle.linear.specs.Combinations.{rest-solves, solution-same}
 use Rattle.linear.specs.Differences.{down-mul, integers, sum-is, up-mul}
 use Rattle.linear.specs.Loops.{Loop}
 use Rattle.linear.specs.Sums.{sumTo, sum-change, sum-cong, sum-zero}
@@ -130,7 +130,7 @@ module _ {p q k : ℕ} {a v : ℕ → ℕ → ℤ} (e : Extends p q k a v) where
             omega (integers, rest, sum, x, y, sum-is (value (v (p + n)) q s) (value (v (p + n)) q (λ i. t i - s i)))
 
     -- so two that agree there are the same
-    same-all : (s t : ℕ → ℕ) → Solution (p + k) (q + k) v s → Solution (p + k) (q + k) v t → Same q s t → Same (q + k) s t
+    pub same-all : (s t : ℕ → ℕ) → Solution (p + k) (q + k) v s → Solution (p + k) (q + k) v t → Same q s t → Same (q + k) s t
     same-all s t hs ht e j l =
         let one = below-all s t hs ht (λ i h. omega (arith, e i h)) j l in
         let two = below-all t s ht hs (λ i h. omega (arith, e i h)) j l in
@@ -182,13 +182,3 @@ module _ {p q k : ℕ} {a v : ℕ → ℕ → ℤ} (e : Extends p q k a v) where
     -- a solution of the extended map has the further unknowns beside it
     pub with-same : (t : ℕ → ℕ) → Solution (p + k) (q + k) v t → Same (q + k) (with p q v t) t
     with-same t s = same-all (with p q v t) t (with-solution t (solution-map t s)) s (with-map t)
-
-    -- a list of the one, each once, is a list of the other, each once
-    pub extended-lists : {n : ℕ} {row : ℕ → ℕ → ℕ} → Enumerates (q + k) (Loop (p + k) (q + k) v) n row → Enumerates q (Loop p q a) n row
-    extended-lists {n} {row} list =
-        record {
-          only = λ i l. loop-map (row i) (list .only i l);
-          once = λ i j ij jn e. list .once i j ij jn
-              (same-all (row i) (row j) (list .only i (omega arith) .holds .solution) (list .only j jn .holds .solution) e);
-          all = λ t m. let (i, l, e) = list .all (with p q v t) (map-loop t m) in (i, l, λ j h. e j (omega arith) ∙ with-map t j h);
-        }

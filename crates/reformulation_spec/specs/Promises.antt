@@ -1,28 +1,29 @@
 -- The promises of a reformulation, in one place: open this file first. Nothing is assumed of the numbers but that the call said yes. Rules.antt has the
 -- refusals of both calls, each in its case and in no other (`reformulate-renders`, `project-renders`), Showing.antt what a yes says of the numbers (`Shown`),
 -- and Projection.antt what the call that projects leaves (`projected-row`, `projected-behind`, `projected-not`). Complete.antt has what a complete run of the
--- engine on the other map is worth (`complete-projected`). Assumes nothing.
+-- engine on the other map is worth (`complete-projected`), and one with right sides (`sides-projected`). Assumes nothing.
 use mathlib.Core.Path.{_≡_, sym, _∙_}
 use mathlib.Core.List.{List}
 use Prim.Native.Nat.{ℕ, _<_}
 use native.Mathlib.Omega.{arith}
 use lib.IntN.{ℤ}
-use Rattle.linear.specs.Combinations.{Enumerates, solution-same}
+use Rattle.linear.specs.Combinations.{Enumerates}
 use Rattle.linear.specs.Loops.{Loop}
 use Rattle.linear.specs.Systems.{Solution}
-use Rattle.linear.specs.TupleLaws.{least, minimal-from}
 use Rattle.linear.specs.Tuples.{Same}
 use Rattle.definitions.specs.Answers.{go}
 use Rattle.definitions.specs.Input.{inputOf}
 use Rattle.definitions.specs.Input as map
 use Rattle.definitions.specs.System.{MinimalSolution, System}
 use Rattle.definitions.specs.Tables.{at}
+use Rattle.engine_spec.specs.Equations.{LoopInside, inside-loop, loop-inside, wanted-alike, wanted-inside, wanted-some}
+use Rattle.engine_spec.specs.Sides.{minimal-alike}
 use Rattle.reformulation_spec.specs.Extension.{
   NeverBelow,
-  extended-lists,
   loop-map,
   map-loop,
   row-map,
+  same-all,
   with,
   with-map,
   with-same,
@@ -58,24 +59,17 @@ loop-there there back t l =
     }
 
 -- a list reads each row up to its width
-module _ {p q : ℕ} {a : ℕ → ℕ → ℤ} where
-  loop-same : {s t : ℕ → ℕ} → Same q s t → Loop p q a s → Loop p q a t
-  loop-same {s} {t} e l =
-      minimal-from
-      (record {
-        solution = solution-same p q a e (l .holds .solution);
-        admitted = let (j, h, some) = l .holds .admitted in (j, h, omega (arith, some, e j h));
-      })
-      (λ u w b j h. least l u w (λ i g. omega (arith, b i g, e i g)) j h ∙ e j h)
+loop-same : (cap p q : ℕ) (a : ℕ → ℕ → ℤ) (s t : ℕ → ℕ) → Same q s t → LoopInside cap p q a s → LoopInside cap p q a t
+loop-same cap p q a = minimal-alike q (λ s t e w. wanted-alike cap p q a e w)
 
-  rows-same : {n : ℕ} {one other : ℕ → ℕ → ℕ} → ((i : ℕ) → i < n → Same q (one i) (other i)) → Enumerates q (Loop p q a) n one
-      → Enumerates q (Loop p q a) n other
-  rows-same e list =
-      record {
-        only = λ i l. loop-same (e i l) (list .only i l);
-        once = λ i j ij jn s. list .once i j ij jn (λ x h. omega (arith, e i (omega arith) x h, s x h, e j jn x h));
-        all = λ t l. let (i, h, s) = list .all t l in (i, h, λ j g. sym (e i h j g) ∙ s j g);
-      }
+rows-same : {q : ℕ} {W : (ℕ → ℕ) → Type 0} → ((s t : ℕ → ℕ) → Same q s t → W s → W t) → {n : ℕ} {one other : ℕ → ℕ → ℕ}
+    → ((i : ℕ) → i < n → Same q (one i) (other i)) → Enumerates q W n one → Enumerates q W n other
+rows-same alike {one = one} {other = other} e list =
+    record {
+      only = λ i l. alike (one i) (other i) (e i l) (list .only i l);
+      once = λ i j ij jn s. list .once i j ij jn (λ x h. omega (arith, e i (omega arith) x h, s x h, e j jn x h));
+      all = λ t l. let (i, h, s) = list .all t l in (i, h, λ j g. sym (e i h j g) ∙ s j g);
+    }
 
 -- ---- the promises, of a call that says yes
 
@@ -114,21 +108,53 @@ module _ (r : Reformulation) (yes : reformulates r ≡ go) where
 
   -- and a tuple is one of the map only where it is one of the other with the further unknowns beside it.
   pub minimal-only : (x : ℕ → ℕ) → Other (beside x) → Given x
-  minimal-only x l = loop-same (with-map (shown .extends-map) never x) (minimal-other (beside x) l .0)
+  minimal-only x l = loop-same 0 (r .p) (r .q) (mapRow r) (beside x) x (with-map (shown .extends-map) never x) (minimal-other (beside x) l .0)
 
-  -- So a list of the other map's, each once, is a list of the map's, each once, read up to the further unknowns;
+  -- those inside a cap on the first unknown, which is the map's
+  abbrev GivenInside : ℕ → (ℕ → ℕ) → Type 0
+  GivenInside cap = LoopInside cap (r .p) (r .q) (mapRow r)
+
+  abbrev OtherInside : ℕ → (ℕ → ℕ) → Type 0
+  OtherInside cap = LoopInside cap (r .m) (unknowns r) (otherRow r)
+
+  inside-map : (cap : ℕ) (t : ℕ → ℕ) → OtherInside cap t → GivenInside cap t
+  inside-map cap t m =
+      loop-inside cap (r .p) (r .q) (mapRow r) t (λ capped some. wanted-inside cap (r .m) (unknowns r) (otherRow r) (m .holds) capped (omega arith))
+      (minimal-other t (inside-loop cap (r .m) (unknowns r) (otherRow r) t m) .0)
+
+  inside-beside : (cap : ℕ) (x : ℕ → ℕ) → GivenInside cap x → OtherInside cap (beside x)
+  inside-beside cap x m =
+      loop-inside cap (r .m) (unknowns r) (otherRow r) (beside x)
+      (λ capped some.
+      let (j, jq, h) = wanted-some cap (r .p) (r .q) (mapRow r) (m .holds) in
+      let inside = wanted-inside cap (r .p) (r .q) (mapRow r) (m .holds) capped (omega arith) in
+      omega (arith, inside, with-map (shown .extends-map) never x 0 (omega arith)))
+      (minimal-beside x (inside-loop cap (r .p) (r .q) (mapRow r) x m))
+
+  -- So a list of the other map's inside a cap, each once, is a list of the map's inside it, each once, read up to the further unknowns;
+  pub reformulated-under : (cap : ℕ) {n : ℕ} {row : ℕ → ℕ → ℕ} → Enumerates (unknowns r) (OtherInside cap) n row → Enumerates (r .q) (GivenInside cap) n row
+  reformulated-under cap {row = row} list =
+      record {
+        only = λ i l. inside-map cap (row i) (list .only i l);
+        once = λ i j ij jn e. list .once i j ij jn
+            (same-all (shown .extends-map) never (row i) (row j) (same-solutions (row i) .0 (list .only i (omega arith) .holds .solution))
+            (same-solutions (row j) .0 (list .only j jn .holds .solution)) e);
+        all = λ x m. let (i, l, e) = list .all (beside x) (inside-beside cap x m) in (i, l, λ j h. e j (omega arith) ∙ with-map (shown .extends-map) never x j h);
+      }
+
+  -- and as the call that projects leaves it in a table of its own;
+  pub projected-under : (cap found : ℕ) (rows out : List ℕ) → projectChecks (r .q) (r .k) found rows out ≡ go
+      → Enumerates (unknowns r) (OtherInside cap) found (at rows (unknowns r))
+      → Enumerates (r .q) (GivenInside cap) found (at (projected (r .q) (r .k) found rows out) (r .q))
+  projected-under cap found rows out fits list =
+      rows-same (loop-same cap (r .p) (r .q) (mapRow r)) (λ i l j h. sym (projected-row (r .q) (r .k) found rows out fits i j l h))
+      (reformulated-under cap list)
+
+  -- without a cap, of all.
   pub reformulated : {n : ℕ} {row : ℕ → ℕ → ℕ} → Enumerates (unknowns r) Other n row → Enumerates (r .q) Given n row
-  reformulated list =
-      extended-lists (shown .extends-map) never
-      (record {
-        only = λ i l. loop-there (λ t. same-solutions t .0) (λ t. same-solutions t .1) _ (list .only i l);
-        once = list .once;
-        all = λ t l. list .all t (loop-there (λ s. same-solutions s .1) (λ s. same-solutions s .0) t l);
-      })
+  reformulated = reformulated-under 0
 
-  -- and as the call that projects leaves it in a table of its own.
   pub projected-lists : (found : ℕ) (rows out : List ℕ) → projectChecks (r .q) (r .k) found rows out ≡ go
       → Enumerates (unknowns r) Other found (at rows (unknowns r))
       → Enumerates (r .q) Given found (at (projected (r .q) (r .k) found rows out) (r .q))
-  projected-lists found rows out fits list =
-      rows-same (λ i l j h. sym (projected-row (r .q) (r .k) found rows out fits i j l h)) (reformulated list)
+  projected-lists = projected-under 0
