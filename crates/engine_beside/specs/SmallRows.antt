@@ -1,12 +1,13 @@
 -- Rows within the component limit, as a test that computes. Assumes nothing.
 use mathlib.Core.Path.{_≡_, refl, sym, _∙_}
-use mathlib.Core.Bool.{Bool, true, _&&_, and-assoc, and-true}
+use mathlib.Core.Bool.{Bool, _&&_, and-assoc, and-true}
 use mathlib.Core.List.{List}
-use Prim.Native.Nat.{ℕ, zero, suc, _+_, _*_, _≤_, _<_}
+use Prim.Native.Nat.{ℕ, zero, suc, _+_, _*_, _≤_}
 use native.Mathlib.Numerals.{add-one}
 use native.Mathlib.Omega.{arith}
-use lib.Dec.{T, le→leb, leb}
+use lib.Dec.{T, leb}
 use lib.ListN.{getD, length}
+use Rattle.engine_spec.specs.Rules.{small-to}
 use Rattle.linear.specs.TestLaws.{all-at, all-from, all-same}
 use Rattle.linear.specs.Tests.{allTo}
 use Rattle.definitions.specs.System.{mostComponent}
@@ -17,14 +18,6 @@ use Rattle.engine_spec.specs.ReductionLaws.{small-from}
 
 unfoldable pub areSmall : (q n : ℕ) → (ℕ → ℕ → ℕ) → Bool
 areSmall q n row = allTo n (λ i. isSmall q (row i))
-
-pub none-yet : (f : ℕ → Bool) → allTo 0 f ≡ true
-unfolding allTo
-none-yet f = refl
-
-pub small-to : (q : ℕ) (z : ℕ → ℕ) → ((j : ℕ) → j < q → z j ≤ mostComponent) → T (isSmall q z)
-unfolding isSmall
-small-to q z h = all-from q _ (λ j l. le→leb (z j) mostComponent (h j l))
 
 module _ (q n : ℕ) (table : List ℕ) where
   pub small-table : q ≤ mostColumns → n * q ≤ length table → T (areSmall q n (at table q)) → SmallTable q n table

@@ -52,10 +52,6 @@ exceeds-below q x z = go q
     go zero = refl
     go (suc q) = both (anyTo q (exceedsAt x z)) _ (exceedsAt x z q) _ (go q) (one q)
 
-pub none-below : (f : ℕ → Bool) → allTo 0 f ≡ true
-unfolding allTo
-none-below f = refl
-
 -- ---- writing behind what is read, and ahead of it
 
 pub read-before : (x : ℕ → ℕ) (table : List ℕ) (from to j q : ℕ) → from + q ≤ to → j < q → getD (writeTo j table to x) (from + j) 0 ≡ getD table (from + j) 0

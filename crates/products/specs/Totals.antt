@@ -3,7 +3,6 @@ use mathlib.Core.Path.{_≡_, _∙_}
 use mathlib.Core.List.{List}
 use Prim.Native.Nat.{ℕ, _+_, _≤_, _<_}
 use native.Mathlib.Decide.{ℕ-discrete}
-use native.Mathlib.Numerals.{add-one}
 use native.Mathlib.Omega.{arith}
 use lib.ListN.{length, getD, set, length-set}
 use lib.Seq.{getD-set-same, getD-set-other}
@@ -35,11 +34,6 @@ totals-next {q} {stack} {sums} {k} {sum} l e t =
         | no ne ↦ getD-set-other sums k n sum 0 ne ∙ t .levels n (omega arith)
       ];
     }
-
--- the sum of the first j components, and one more
-pub total-more : (x : ℕ → ℕ) (j : ℕ) {sum : ℕ} → sum ≡ total x j → sum + x j ≡ total x (j + 1)
-unfolding total
-total-more x j e = rw add-one (omega (arith, e))
 
 pub total-room : (x : ℕ → ℕ) (j : ℕ) → j ≤ 16 → ((i : ℕ) → i < j → x i ≤ mostComponent) → total x j ≤ 16000000
 total-room x j few small = omega (arith, total-most x j mostComponent small)

@@ -6,10 +6,11 @@ use native.Mathlib.Omega.{arith}
 use lib.ListN.{length}
 use denote.Ref.{now}
 use borrow.Author.Needs.{needs}
+use Rattle.linear.specs.TupleLaws.{total-more}
 use Rattle.linear.specs.Tuples.{total}
 use Rattle.definitions.specs.Tables.{at}
 use Rattle.products.specs.Products.{Written, partial}
-use Rattle.products.specs.Totals.{total-more, total-room}
+use Rattle.products.specs.Totals.{total-room}
 use Rattle.products.specs.Turns.{written-again, written-same, zeros-summed}
 use Rattle.products.proofs.products_row.Statement.{statement}
 use Rattle.products.proofs.products_row.Tie as tie

@@ -4,9 +4,10 @@ use Prim.Native.Nat.{_-_, _≤_}
 use native.Mathlib.Nat.{le-antisymm}
 use native.Mathlib.Omega.{arith}
 use denote.Ref.{now}
+use Rattle.linear.specs.TupleLaws.{total-more}
 use Rattle.linear.specs.Tuples.{total}
 use Rattle.engine_spec.specs.Beside.{rowAt}
-use Rattle.engine_beside.specs.Degrees.{total-next, total-room}
+use Rattle.engine_beside.specs.Degrees.{total-room}
 use borrow.Author.Needs.{needs}
 use Rattle.engine_beside.proofs.degrees.degree_at.Statement.{statement}
 use Rattle.engine_beside.proofs.degrees.degree_at.Tie as tie
@@ -32,7 +33,7 @@ loop-again : tie.Need-loop-again Inv-loop μ-loop
 loop-again c =
     let a = c .before .before in
     let s = a .before in
-    (search needs, total-next (rowAt (now (s .args .table)) (s .args .base)) (a .loop .j) (a .loop .inv .1))
+    (search needs, total-more (rowAt (now (s .args .table)) (s .args .base)) (a .loop .j) (a .loop .inv .1))
 
 returns : tie.Need-returns Inv-loop μ-loop
 returns c = let a = c .before in rw (le-antisymm (a .loop .inv .0) (c .loop-test .left)) at (a .loop .inv .1)

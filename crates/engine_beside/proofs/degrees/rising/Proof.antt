@@ -5,10 +5,9 @@ use Prim.Native.Nat.{_-_, _≤_}
 use native.Mathlib.Nat.{le-antisymm}
 use lib.Dec.{leb}
 use borrow.Author.Tests.{le-leb, lt-leb}
-use Rattle.linear.specs.LoopLaws.{all-fails, all-next}
+use Rattle.linear.specs.LoopLaws.{all-fails, all-next, all-none}
 use Rattle.linear.specs.Tests.{allTo}
 use Rattle.engine_beside.specs.Rising.{before as earlier, before-next, degreeAt, isRising}
-use Rattle.engine_beside.specs.SmallRows.{none-yet}
 use borrow.Author.Needs.{needs}
 use Rattle.engine_beside.proofs.degrees.rising.Statement.{statement}
 use Rattle.engine_beside.proofs.degrees.rising.Tie as tie
@@ -22,7 +21,7 @@ abbrev μ-loop : tie.MeasureT-loop
 
 loop-holds : tie.Need-loop-holds Inv-loop μ-loop
 unfolding earlier
-loop-holds c = (search needs, refl, none-yet _)
+loop-holds c = (search needs, refl, all-none _)
 
 returns : tie.Need-returns Inv-loop μ-loop
 unfolding isRising

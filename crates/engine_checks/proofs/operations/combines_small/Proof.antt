@@ -10,10 +10,9 @@ use lib.IntN.{natAbs, _+ℤ_, _*ℤ_}
 use mir.Facts.{toZ-ofZ}
 use mir.Syntax.{w32}
 use mir.Val.{toZ}
-use Rattle.linear.specs.LoopLaws.{all-fails, all-next}
+use Rattle.linear.specs.LoopLaws.{all-fails, all-next, all-none}
 use Rattle.linear.specs.Tests.{allTo}
 use Rattle.engine_spec.specs.Beside.{coefficientLimit, equationAt}
-use Rattle.engine_beside.specs.SmallRows.{none-yet}
 use Rattle.engine_checks.specs.Operating.{combined-read, combinesSmall, reads-small}
 use borrow.Author.Needs.{needs}
 use Rattle.engine_checks.proofs.operations.combines_small.Statement.{statement}
@@ -27,7 +26,7 @@ abbrev μ-loop : tie.MeasureT-loop
 μ-loop equations q x y u t j₀ j = q - j
 
 loop-holds : tie.Need-loop-holds Inv-loop μ-loop
-loop-holds c = (search needs, none-yet _)
+loop-holds c = (search needs, all-none _)
 
 combined-requires : tie.Need-combined-requires Inv-loop μ-loop
 combined-requires c κs = let s = c .before .before .before .before in reads-small (s .pre .0) (s .pre .1) (s .fits .u) (s .fits .t)

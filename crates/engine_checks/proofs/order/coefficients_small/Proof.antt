@@ -10,11 +10,10 @@ use lib.Dec.{leb}
 use lib.IntN.{natAbs, pos}
 use lib.ListN.{getD}
 use mir.Facts.{toZ-ofZ}
-use Rattle.linear.specs.LoopLaws.{all-fails, all-next}
+use Rattle.linear.specs.LoopLaws.{all-fails, all-next, all-none}
 use Rattle.linear.specs.Tests.{allTo}
 use Rattle.engine_spec.specs.Beside.{coefficientLimit}
 use Rattle.engine_spec.specs.Calls.{coefficientsSmall}
-use Rattle.engine_beside.specs.SmallRows.{none-yet}
 use Rattle.engine_checks.proofs.order.coefficients_small.Statement.{statement}
 use Rattle.engine_checks.proofs.order.coefficients_small.Tie as tie
 
@@ -25,7 +24,7 @@ abbrev μ-loop : tie.MeasureT-loop
 μ-loop equations n i₀ i = n - i
 
 loop-holds : tie.Need-loop-holds Inv-loop μ-loop
-loop-holds c = (search needs, none-yet _)
+loop-holds c = (search needs, all-none _)
 
 tested : (c : tie.After-is-small Inv-loop μ-loop)
     → c .is-small .result ≡ leb (natAbs (getD (now (c .before .before .before .before .args .equations)) (c .before .before .before .loop .i) (pos 0)))

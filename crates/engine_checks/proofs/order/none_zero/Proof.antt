@@ -5,12 +5,11 @@ use mathlib.Core.Path.{_≡_, sym}
 use native.Mathlib.Nat.{le-antisymm}
 use native.Mathlib.Omega.{arith}
 use lib.Dec.{ltb}
-use Rattle.linear.specs.LoopLaws.{all-fails, all-next}
+use Rattle.linear.specs.LoopLaws.{all-fails, all-next, all-none}
 use Rattle.linear.specs.Tests.{allTo}
 use Rattle.linear.specs.Tuples.{total}
 use Rattle.definitions.specs.Tables.{at}
 use Rattle.laws.specs.TableLaws.{row-fits}
-use Rattle.engine_beside.specs.SmallRows.{none-yet}
 use Rattle.engine_beside.specs.Writing.{table-row}
 use Rattle.engine_checks.specs.Order.{is-above, is-zero, noneZero}
 use borrow.Author.Needs.{needs}
@@ -24,7 +23,7 @@ abbrev μ-loop : tie.MeasureT-loop
 μ-loop table m q i₀ i = m - i
 
 loop-holds : tie.Need-loop-holds Inv-loop μ-loop
-loop-holds c = (search needs, none-yet _)
+loop-holds c = (search needs, all-none _)
 
 mul-degree-at : tie.Need-mul-degree-at Inv-loop μ-loop
 mul-degree-at c = let s = c .before .before .before in omega (arith, s .pre .whole, row-fits (s .args .q) _ _ (c .loop-test .taken))

@@ -8,13 +8,12 @@ use native.Mathlib.Omega.{arith}
 use borrow.Author.Tests.{not-false, not-true}
 use denote.Ref.{now}
 use lib.Dec.{leb, ltb}
-use Rattle.linear.specs.LoopLaws.{all-fails, all-next}
+use Rattle.linear.specs.LoopLaws.{all-fails, all-next, all-none}
 use Rattle.linear.specs.Tests.{allTo}
 use Rattle.linear.specs.Tuples.{total}
 use Rattle.definitions.specs.Tables.{at}
 use Rattle.laws.specs.TableLaws.{row-fits}
 use Rattle.engine_spec.specs.Calls.{isRising}
-use Rattle.engine_beside.specs.SmallRows.{none-yet}
 use Rattle.engine_beside.specs.Writing.{table-row}
 use Rattle.engine_checks.specs.Order.{before-first, before-next, degreeBefore, rises-is}
 use borrow.Author.Needs.{needs}
@@ -32,7 +31,7 @@ abbrev μ-loop : tie.MeasureT-loop
 μ-loop table n q d before₀ i₀ before i = n - i
 
 loop-holds : tie.Need-loop-holds Inv-loop μ-loop
-loop-holds c = (search needs, before-first _, none-yet _)
+loop-holds c = (search needs, before-first _, all-none _)
 
 mul-degree-at : tie.Need-mul-degree-at Inv-loop μ-loop
 mul-degree-at c = let s = c .before .before .before in omega (arith, s .pre .whole, row-fits (s .args .q) _ _ (c .loop-test .taken))

@@ -8,13 +8,12 @@ use borrow.Author.Tests.{not-false, not-true}
 use borrow.Author.Needs.{needs, sfits-of}
 use denote.Ref.{now}
 use mir.Facts.{toZ-ofZ}
-use Rattle.linear.specs.LoopLaws.{all-fails, all-next}
+use Rattle.linear.specs.LoopLaws.{all-fails, all-next, all-none}
 use Rattle.linear.specs.Tests.{allTo}
 use Rattle.definitions.specs.System.{isZero}
 use Rattle.definitions.specs.Tables.{frozen}
 use Rattle.laws.specs.TableLaws.{row-fits}
 use Rattle.engine_spec.specs.Engine.{systemOf}
-use Rattle.engine_beside.specs.SmallRows.{none-yet}
 use Rattle.engine_checks.specs.Taking.{freeIn}
 use Rattle.engine_checks.proofs.taking.free_in.Statement.{statement}
 use Rattle.engine_checks.proofs.taking.free_in.Tie as tie
@@ -26,7 +25,7 @@ abbrev μ-loop : tie.MeasureT-loop
 μ-loop equations p q f done i₀ i = p - i
 
 loop-holds : tie.Need-loop-holds Inv-loop μ-loop
-loop-holds c = (search needs, none-yet _)
+loop-holds c = (search needs, all-none _)
 
 mul-is-free : tie.Need-mul-is-free Inv-loop μ-loop
 mul-is-free c = let s = c .before .before in omega (arith, s .pre .1, s .pre .2, row-fits (s .args .q) _ _ (c .loop-test .taken))

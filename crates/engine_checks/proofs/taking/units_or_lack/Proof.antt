@@ -6,11 +6,10 @@ use native.Mathlib.Nat.{le-antisymm}
 use native.Mathlib.Omega.{arith}
 use borrow.Author.Tests.{not-false, not-true}
 use borrow.Author.Needs.{needs}
-use Rattle.linear.specs.LoopLaws.{all-fails, all-next}
+use Rattle.linear.specs.LoopLaws.{all-fails, all-next, all-none}
 use Rattle.linear.specs.Tests.{allTo}
 use Rattle.definitions.specs.Tables.{at}
 use Rattle.laws.specs.TableLaws.{row-fits}
-use Rattle.engine_beside.specs.SmallRows.{none-yet}
 use Rattle.engine_checks.specs.Taking.{row-of, unitOrLacks, unitsOrLack}
 use Rattle.engine_checks.proofs.taking.units_or_lack.Statement.{statement}
 use Rattle.engine_checks.proofs.taking.units_or_lack.Tie as tie
@@ -22,7 +21,7 @@ abbrev μ-loop : tie.MeasureT-loop
 μ-loop basis m q f i₀ i = m - i
 
 loop-holds : tie.Need-loop-holds Inv-loop μ-loop
-loop-holds c = (search needs, none-yet _)
+loop-holds c = (search needs, all-none _)
 
 mul-unit-or-lacks : tie.Need-mul-unit-or-lacks Inv-loop μ-loop
 mul-unit-or-lacks c = let s = c .before .before .before in omega (arith, s .pre .0 .whole, row-fits (s .args .q) _ _ (c .loop-test .taken))

@@ -9,10 +9,9 @@ use lib.ListN.{getD}
 use denote.Ref.{now}
 use mir.Facts.{toZ-ofZ}
 use mir.Syntax.{w64}
-use Rattle.linear.specs.LoopLaws.{all-fails, all-next}
+use Rattle.linear.specs.LoopLaws.{all-fails, all-next, all-none}
 use Rattle.linear.specs.Tests.{allTo}
 use Rattle.engine_rows.specs.Keeping.{large-small, small-large, smallValue}
-use Rattle.engine_rows.specs.Summing.{none-below}
 use Rattle.engine_rows.proofs.packing.most_value_small.Statement.{statement}
 use Rattle.engine_rows.proofs.packing.most_value_small.Tie as tie
 
@@ -23,7 +22,7 @@ abbrev μ-loop : tie.MeasureT-loop
 μ-loop values n i₀ i = n - i
 
 loop-holds : tie.Need-loop-holds Inv-loop μ-loop
-loop-holds c = (search needs, none-below _)
+loop-holds c = (search needs, all-none _)
 
 returns : tie.Need-returns Inv-loop μ-loop
 returns c =

@@ -6,14 +6,13 @@ use native.Mathlib.Nat.{le-antisymm}
 use borrow.Author.Tests.{le-leb, lt-leb}
 use borrow.Author.Needs.{needs}
 use lib.Dec.{leb}
-use Rattle.linear.specs.LoopLaws.{all-fails, all-next}
+use Rattle.linear.specs.LoopLaws.{all-fails, all-next, all-none}
 use Rattle.linear.specs.Tests.{allTo}
 use native.Mathlib.Omega.{arith}
 use Rattle.definitions.specs.System.{mostComponent}
 use Rattle.engine_spec.specs.Beside.{rowAt}
 use Rattle.engine_spec.specs.Reduction.{isSmall}
 use Rattle.engine_spec.specs.Signs.{plus}
-use Rattle.engine_rows.specs.Summing.{none-below}
 use Rattle.engine_rows.proofs.rows.small_sum.Statement.{statement}
 use Rattle.engine_rows.proofs.rows.small_sum.Tie as tie
 
@@ -24,7 +23,7 @@ abbrev μ-loop : tie.MeasureT-loop
 μ-loop table x y q j₀ j = q - j
 
 loop-holds : tie.Need-loop-holds Inv-loop μ-loop
-loop-holds c = (search needs, none-below _)
+loop-holds c = (search needs, all-none _)
 
 add-if1-3 : tie.Need-add-if1-3 Inv-loop μ-loop
 add-if1-3 c =
