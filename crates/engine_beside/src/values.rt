@@ -1,10 +1,8 @@
 // The values of rows under one equation.
 ghost use mathlib.Core.Path.{_≡_};
 ghost use Prim.Native.Nat.{_≤_};
-ghost use lib.IntN.{pos, _+ℤ_, _*ℤ_};
+ghost use lib.IntN.{pos};
 ghost use lib.ListN.{length};
-ghost use mir.Syntax.{w64};
-ghost use mir.Val.{SFits};
 ghost use Rattle.linear.specs.Systems.{value};
 ghost use Rattle.engine_spec.specs.Beside.{SmallEquation, SmallRow, SmallTable, Valued, equationAt, rowAt};
 ghost use Rattle.engine_beside.specs.Writing.{Kept};
@@ -14,13 +12,7 @@ pub fn value_at(coefs: &[i32], from: usize, table: &[u32], base: usize, q: usize
     requires { ⌜ SmallEquation q (now coefs) from × SmallRow q (now table) base ⌝ }
     ensures { λ r. ⌜ r ≡ value (equationAt (now (coefs .entry)) from) q (rowAt (now (table .entry)) base) ⌝ }
 {
-    let mut sum: i64 = 0;
-    let mut j = 0;
-    while j < q {
-        sum = sum_and(sum, wide(coefs[from + j]), natural(table[base + j]));
-        j += 1;
-    }
-    sum
+    table_rows::values::value_at(coefs, from, table, base, q)
 }
 
 // Writes those of the first n rows.
@@ -41,25 +33,4 @@ pub fn write_values(
         values[i] = value_at(coefs, from, table, i * q, q);
         i += 1;
     }
-}
-
-// What a sum of products takes, as functions with contracts in ℤ: their callers' loops hold bits.
-fn sum_and(sum: i64, x: i64, y: i64) -> i64
-    requires { ⌜ SFits w64 (x *ℤ y) ⌝ }
-    requires { ⌜ SFits w64 (sum +ℤ x *ℤ y) ⌝ }
-    ensures { λ r. ⌜ r ≡ sum +ℤ x *ℤ y ⌝ }
-{
-    sum + x * y
-}
-
-fn wide(x: i32) -> i64
-    ensures { λ r. ⌜ r ≡ x ⌝ }
-{
-    x as i64
-}
-
-fn natural(x: u32) -> i64
-    ensures { λ r. ⌜ r ≡ pos x ⌝ }
-{
-    x as i64
 }

@@ -1,69 +1,11 @@
--- `values::value_at` meets its contract. The sum so far is that of the products passed, as its bits. Assumes nothing.
-use mathlib.Core.Path.{_≡_, refl, _∙_}
-use Prim.Native.Nat.{_-_, _≤_}
-use native.Mathlib.Nat.{le-antisymm}
-use lib.IntN.{pos}
-use mir.Facts.{toZ-ofZ}
-use mir.Syntax.{w64}
-use mir.Val.{ofZ}
-use Rattle.linear.specs.Sums.{sumTo}
-use Rattle.linear.specs.Systems.{inner, value}
-use Rattle.engine_spec.specs.Beside.{equationAt, rowAt}
-use Rattle.engine_beside.specs.Small.{coefficient-fits, next-fits, next-sum, sum-value, value-terms}
+-- `values::value_at` meets its contract: it is the value of a row of any walk, within the engine's limits. Assumes nothing.
 use borrow.Author.Needs.{needs}
+use Rattle.engine_beside.specs.Small.{equation-within, row-within}
 use Rattle.engine_beside.proofs.values.value_at.Statement.{statement}
 use Rattle.engine_beside.proofs.values.value_at.Tie as tie
 
-abbrev Inv-loop : tie.InvT-loop
-Inv-loop coefs from table base q sum₀ j₀ sum j = (j ≤ q) × (sum ≡ ofZ w64 (inner j (equationAt coefs from) (λ k. pos (rowAt table base k))))
-
-abbrev μ-loop : tie.MeasureT-loop
-μ-loop coefs from table base q sum₀ j₀ sum j = q - j
-
-loop-holds : tie.Need-loop-holds Inv-loop μ-loop
-unfolding inner sumTo
-loop-holds c = (search needs, refl)
-
-sum-and-requires : tie.Need-sum-and-requires Inv-loop μ-loop
-sum-and-requires c κs = let l = c .before .before .before .before in
-    let a = l .before in
-    let s = a .before .before in
-    let x = c .before .before .wide .ensures ∙ toZ-ofZ (coefficient-fits (s .pre .0) (a .loop .j) (l .loop-test .taken)) in
-    next-fits (value-terms (s .pre .0) (s .pre .1)) (a .loop .j) (a .loop .inv .1) (l .loop-test .taken) x (c .natural .ensures)
-
-loop-again : tie.Need-loop-again Inv-loop μ-loop
-loop-again c = let l = c .before .before .before .before .before in
-    let a = l .before in
-    let s = a .before .before in
-    let x = c .before .before .before .wide .ensures ∙ toZ-ofZ (coefficient-fits (s .pre .0) (a .loop .j) (l .loop-test .taken)) in (
-      search needs,
-      next-sum (value-terms (s .pre .0) (s .pre .1)) (a .loop .j) (a .loop .inv .1) (l .loop-test .taken) x (c .before .natural .ensures) (c .sum-and .ensures),
-    )
-
-returns : tie.Need-returns Inv-loop μ-loop
-unfolding value
-returns c = let a = c .before in
-    let s = a .before .before in
-    let sum = sum-value (value-terms (s .pre .0) (s .pre .1)) (a .loop .j) (a .loop .inv .1) (a .loop .inv .0) in
-    rw (le-antisymm (a .loop .inv .0) (c .loop-test .left)) at sum
+value-at-requires : tie.Need-value-at-requires
+value-at-requires c κs = let s = c .before in (equation-within (s .pre .0), row-within (s .pre .1))
 
 pub value-at-spec : {M : Type 1} → statement M
-value-at-spec =
-    tie.close
-    (tie.spec
-    Inv-loop
-    μ-loop
-    loop-holds
-    (λ c. search needs)
-    (λ c. search needs)
-    (λ c. search needs)
-    (λ c κs. search needs)
-    (λ c. search needs)
-    (λ c. search needs)
-    (λ c. search needs)
-    (λ c κs. search needs)
-    sum-and-requires
-    (λ c. search needs)
-    (λ c. search needs)
-    loop-again
-    returns)
+value-at-spec = tie.close (tie.spec value-at-requires (λ c. search needs))

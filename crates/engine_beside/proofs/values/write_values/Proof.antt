@@ -5,7 +5,7 @@ use native.Mathlib.Omega.{arith}
 use lib.IntN.{pos}
 use Rattle.laws.specs.TableLaws.{row-fits}
 use Rattle.engine_spec.specs.Beside.{Valued, equationAt}
-use Rattle.engine_beside.specs.Small.{value-back}
+use Rattle.engine_beside.specs.Small.{value-read}
 use Rattle.engine_beside.specs.Writing.{Kept, kept-more, kept-none, table-row, valued-more, valued-none}
 use borrow.Author.Needs.{needs}
 use Rattle.engine_beside.proofs.values.write_values.Statement.{statement}
@@ -39,7 +39,7 @@ loop-again c =
     let l = c .before .loop-test .taken in
     let r = table-row (s .pre .1) (a .loop .i) l in (
       search needs,
-      valued-more (omega (arith, a .loop .inv .2 .long, s .pre .2, l)) (a .loop .inv .1) _ (value-back (s .pre .0) r (c .value-at .ensures)),
+      valued-more (omega (arith, a .loop .inv .2 .long, s .pre .2, l)) (a .loop .inv .1) _ (value-read (s .pre .0) r (c .value-at .ensures)),
       kept-more (a .loop .i) _ l (a .loop .inv .2),
     )
 

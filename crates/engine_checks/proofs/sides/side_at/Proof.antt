@@ -6,7 +6,7 @@ use mir.Syntax.{w64}
 use mir.Val.{SFits}
 use Rattle.linear.specs.Systems.{value}
 use Rattle.engine_spec.specs.Beside.{equationAt, rowAt}
-use Rattle.engine_beside.specs.Small.{value-back, value-small}
+use Rattle.engine_beside.specs.Small.{value-read, value-small}
 use Rattle.engine_checks.specs.Sides.{less-fits}
 use Rattle.engine_checks.proofs.sides.side_at.Statement.{statement}
 use Rattle.engine_checks.proofs.sides.side_at.Tie as tie
@@ -24,12 +24,12 @@ module _ (s : tie.Start) where
 less-requires : tie.Need-less-requires
 less-requires c κs =
     let s = c .before .before in
-    rw (toZ-ofZ (s .fits .right), value-back (s .pre .0) (s .pre .1) (c .value-at .ensures)) (fits s)
+    rw (toZ-ofZ (s .fits .right), value-read (s .pre .0) (s .pre .1) (c .value-at .ensures)) (fits s)
 
 returns : tie.Need-returns
 returns c =
     let s = c .before .before .before in
-    let e = rw (toZ-ofZ (s .fits .right), value-back (s .pre .0) (s .pre .1) (c .before .value-at .ensures)) at (c .less .ensures) in
+    let e = rw (toZ-ofZ (s .fits .right), value-read (s .pre .0) (s .pre .1) (c .before .value-at .ensures)) at (c .less .ensures) in
     rw e (toZ-ofZ (fits s))
 
 pub side-at-spec : {M : Type 1} → statement M

@@ -2,7 +2,7 @@ use denote.Ref.{now}
 use lib.ListN.{set}
 -- `append_row` writes row n and what stands beside it. Assumes nothing.
 use mathlib.Core.Path.{refl, ap}
-use Rattle.engine_beside.specs.Small.{value-back}
+use Rattle.engine_beside.specs.Small.{value-read}
 use native.Mathlib.Omega.{arith}
 use borrow.Author.Needs.{needs}
 use Rattle.engine_stage.proofs.append.append_row.Statement.{statement}
@@ -19,7 +19,7 @@ returns c =
       mark = 18446744073709551615;
       mother = 4294967295;
       row-is = c .before .before .before .append-row .ensures;
-      value-is = ap (set (now (s .args .values)) (s .args .n)) (value-back (s .pre .equation) (s .pre .row) (c .value-at .ensures));
+      value-is = ap (set (now (s .args .values)) (s .args .n)) (value-read (s .pre .equation) (s .pre .row) (c .value-at .ensures));
       word-is = refl;
       degree-is = refl;
       mark-is = refl;
