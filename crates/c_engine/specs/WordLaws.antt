@@ -13,7 +13,10 @@ use lib.IntN.{ℤ}
 use lib.ListN.{length, getD, set}
 use Rattle.definitions.specs.Answers.{Check, go, refuse, refuseFirst, refuseIf, refuseWith, started, _then_}
 use Rattle.definitions.specs.Refusals.{stepLimit}
-use Rattle.calls.specs.Paper.{value}
+use Rattle.calls.specs.Paper.{answerOf, checkOf, numberOf, valuesOf}
+use Rattle.calls.specs.declared.Check as made
+use Rattle.calls.specs.declared.Check.the-variants.{Pass, Refuse}
+use Rattle.calls.specs.declared.Refusal.{Refusal}
 use Rattle.c_record.specs.CodeLaws.{Fits}
 use Rattle.c_record.specs.Codes.{code, refusalCode}
 use Rattle.c_record.specs.WordLaws.{set-own}
@@ -22,12 +25,9 @@ use Rattle.engine_spec.specs.StartSides.{sidesChecks, sidesSystem, startSides}
 use Rattle.laws.specs.AnswerLaws.{then-assoc}
 use Rattle.laws.specs.CheckLaws.{refuse-not-go}
 use Rattle.engine_spec.specs.Engine.{Result, Work, begun, begunFrom, begunFromUnder, begunUnder, result}
-use Rattle.engine_calls.specs.Records.{answerOf, checkOf, numberOf, outcomeOf, placeOf, valuesOf, workOf}
-use Rattle.engine_calls.specs.declared.Check as made
-use Rattle.engine_calls.specs.declared.Check.the-variants.{Pass, Refuse}
-use Rattle.engine_calls.specs.declared.Outcome.{Outcome}
-use Rattle.engine_calls.specs.declared.Record.{Record}
-use Rattle.engine_calls.specs.declared.Refusal.{Refusal}
+use Rattle.engine_beside.specs.Records.{outcomeOf, workOf}
+use Rattle.engine_beside.specs.declared.Outcome.{Outcome}
+use Rattle.engine_beside.specs.declared.Record.{Record}
 use Rattle.engine_checks.specs.Room.{basisRows}
 use Rattle.engine_checks.specs.Sides.{shapeChecks}
 use Rattle.engine_checks.specs.Standing.{start-checks, start-from-checks, startChecksBy, startFromChecksBy}
@@ -110,11 +110,6 @@ pub call-told : (words : List ℕ) (o : Outcome) {equations : List ℤ} {basis t
     → outcomeOf o equations basis table ≡ whole
     → a ≡ code (answerOf (o .answer)) → left ≡ wordsLeft words (o .run) → (a, (equations, (basis, (table, left)))) ≡ told words whole
 call-told words o e d l = rw (← e, d, l)
-
--- the value of a refusal
-pub place-value : (values : List ℕ) → placeOf values ≡ value values
-place-value [] = refl
-place-value (x ∷ others) = refl
 
 -- ---- other words: 6, after what is checked before it
 

@@ -13,8 +13,8 @@ use Rattle.engine_spec.specs.Beside.{mostColumns}
 use Rattle.engine_spec.specs.Calls as calls
 use Rattle.engine_spec.specs.StartSides.{startSides}
 use Rattle.engine_spec.specs.Engine.{Result, Work, result}
-use Rattle.engine_calls.specs.Records.{besideOf, lengthsOf, recordOf, workOf}
-use Rattle.engine_calls.specs.declared.Record.{Record}
+use Rattle.engine_beside.specs.Records.{besideOf, lengthsOf, recordOf, workOf}
+use Rattle.engine_beside.specs.declared.Record.{Record}
 
 -- ---- the record
 

@@ -4,8 +4,9 @@ ghost use mathlib.Core.List.{[]};
 ghost use Prim.Native.Nat.{suc, _^_, _<_, _≤_};
 ghost use Rattle.engine_spec.specs.Calls.{rowLimit};
 ghost use Rattle.engine_resume.specs.Continuing.{ResumeLeft};
-ghost use Rattle.engine_calls.specs.Records.{answerOf, besideOf, numberOf, valuesOf};
-ghost use Rattle.engine_calls.specs.declared.Outcome.{Outcome as Left};
+ghost use Rattle.calls.specs.Paper.{answerOf, numberOf, valuesOf};
+ghost use Rattle.engine_beside.specs.Records.{besideOf};
+ghost use Rattle.engine_beside.specs.declared.Outcome.{Outcome as Left};
 ghost use Rattle.engine_checks.specs.Standing.{startChecksBy, startFromChecksBy};
 ghost use Rattle.engine_stage.specs.Standing.{sidesOf};
 ghost use Rattle.c_record.specs.Codes.{code};
@@ -14,15 +15,15 @@ ghost use Rattle.engine_checks.specs.Sides.{shapeChecks};
 ghost use Rattle.c_engine.specs.WordLaws.{checkCode, instead};
 ghost use Rattle.c_engine.specs.Words.{combineWords, mostOf, recordIn, resumeWords, roomOf, startFromWords, startSidesWords, startWords, takeWords};
 ghost use Rattle.c_engine.specs.Words.{told, wordsLeft};
-use engine_calls::Beside;
-use engine_calls::Check;
-use engine_calls::Outcome;
-use engine_calls::Refusal;
+use c_record::answers;
+use calls::Check;
+use calls::Refusal;
+use engine_beside::Beside;
+use engine_beside::Outcome;
 use engine_checks::room as capacity;
 use engine_checks::sides;
 use engine_checks::standing;
 
-mod answers; // answers.rt: an answer as one number
 mod records; // records.rt: the record as words
 
 // The start. It looks at no table of the stage: any will do.
@@ -306,7 +307,7 @@ fn misfit_sides(
     ensures { λ a. ⌜ a ≡ checkCode (shapeChecks p q coefs rights lower equations basis sizes then refuse 6 []) ⌝ }
 {
     match sides::check_shape(p, q, coefs, rights, lower, equations, basis, sizes) {
-        Check::Refuse(why) => engine_calls::number_of(why),
+        Check::Refuse(why) => calls::number_of(why),
         Check::Pass => 6,
     }
 }
@@ -315,7 +316,7 @@ fn misfit_sides(
 fn first(why: Refusal) -> u64
     ensures { λ a. ⌜ a ≡ checkCode (instead (refuse (numberOf why) (valuesOf why))) ⌝ }
 {
-    let n = engine_calls::number_of(why);
+    let n = calls::number_of(why);
     if n == 7 {
         return 6;
     }

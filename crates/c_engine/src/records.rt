@@ -3,7 +3,7 @@ ghost use mathlib.Core.Path.{_≡_};
 ghost use Rattle.c_engine.specs.Words.{isRecord, recordIn, wordsLeft};
 use calls::Solutions;
 use calls::Steps;
-use engine_calls::Record;
+use engine_beside::Record;
 
 // More steps than any run has taken.
 const PAST_LIMIT: u64 = calls::STEP_LIMIT + 1;

@@ -13,9 +13,9 @@ use Rattle.calls.specs.declared.Run.the-variants.{Plain, Capped, LowerPl
 use Rattle.calls.specs.declared.Solutions.{Solutions}
 use Rattle.calls.specs.declared.Steps.{Steps}
 use Rattle.calls.specs.declared.Refusal.{Refusal}
-use Rattle.calls.specs.declared.Refusal.the-variants.{Equations, Unknowns, CoefficientCount, StackLength, BoundLength, OutOfOrder, Coefficient}
+use Rattle.calls.specs.declared.Refusal.the-variants.{Equations, Unknowns, CoefficientCount, TableLength, BoundLength, OutOfOrder, Coefficient}
 use Rattle.calls.specs.declared.Refusal.the-variants.{BoundRange, ListFull, ComponentLimit, StepLimit, RightSide, SeatUnknowns, SeatComponent}
-use Rattle.calls.specs.declared.Refusal.the-variants.{Generators, Column}
+use Rattle.calls.specs.declared.Refusal.the-variants.{Generators, Column, TablesFull, NotLeft, NotFresh, NotOperation, ShiftedSide}
 use Rattle.calls.specs.declared.Answer.{Answer}
 use Rattle.calls.specs.declared.Answer.the-variants.{Started, Complete, Paused, Refused}
 use Rattle.calls.specs.declared.Outcome.{Outcome}
@@ -60,7 +60,7 @@ abbrev pub numberOf : Refusal → ℕ
 numberOf Equations = 1
 numberOf Unknowns = 2
 numberOf CoefficientCount = 3
-numberOf StackLength = 4
+numberOf TableLength = 4
 numberOf BoundLength = 5
 numberOf OutOfOrder = 6
 numberOf (Coefficient place) = 7
@@ -73,13 +73,18 @@ numberOf SeatUnknowns = 23
 numberOf SeatComponent = 24
 numberOf Generators = 25
 numberOf (Column column) = 26
+numberOf TablesFull = 31
+numberOf NotLeft = 32
+numberOf NotFresh = 33
+numberOf NotOperation = 34
+numberOf (ShiftedSide place) = 35
 
--- the values that it comes with: 7 has the place, and 26 the column
+-- the values that it comes with: 7 and 35 have the place, and 26 the column
 abbrev pub valuesOf : Refusal → List ℕ
 valuesOf Equations = []
 valuesOf Unknowns = []
 valuesOf CoefficientCount = []
-valuesOf StackLength = []
+valuesOf TableLength = []
 valuesOf BoundLength = []
 valuesOf OutOfOrder = []
 valuesOf (Coefficient place) = place ∷ []
@@ -92,6 +97,11 @@ valuesOf SeatUnknowns = []
 valuesOf SeatComponent = []
 valuesOf Generators = []
 valuesOf (Column column) = column ∷ []
+valuesOf TablesFull = []
+valuesOf NotLeft = []
+valuesOf NotFresh = []
+valuesOf NotOperation = []
+valuesOf (ShiftedSide place) = place ∷ []
 
 -- the first of them, and 0 where there is none
 abbrev pub value : List ℕ → ℕ

@@ -126,7 +126,7 @@ pub enum Refusal {
     Equations,
     Unknowns,
     CoefficientCount,
-    StackLength,
+    TableLength,
     BoundLength,
     OutOfOrder,
     Coefficient(usize),
@@ -139,6 +139,11 @@ pub enum Refusal {
     SeatComponent,
     Generators,
     Column(usize),
+    TablesFull,
+    NotLeft,
+    NotFresh,
+    NotOperation,
+    ShiftedSide(usize),
 }
 
 // What a call answers.
@@ -216,7 +221,7 @@ pub fn number_of(why: Refusal) -> u64
         Refusal::Equations => 1,
         Refusal::Unknowns => 2,
         Refusal::CoefficientCount => 3,
-        Refusal::StackLength => 4,
+        Refusal::TableLength => 4,
         Refusal::BoundLength => 5,
         Refusal::OutOfOrder => 6,
         Refusal::Coefficient(_) => 7,
@@ -229,10 +234,15 @@ pub fn number_of(why: Refusal) -> u64
         Refusal::SeatComponent => 24,
         Refusal::Generators => 25,
         Refusal::Column(_) => 26,
+        Refusal::TablesFull => 31,
+        Refusal::NotLeft => 32,
+        Refusal::NotFresh => 33,
+        Refusal::NotOperation => 34,
+        Refusal::ShiftedSide(_) => 35,
     }
 }
 
-// The value that it comes with: the place for 7, the column for 26, and 0 for all others.
+// The value that it comes with: the place for 7 and 35, the column for 26, and 0 for all others.
 pub fn value_of(why: Refusal) -> usize
     ensures { λ n. ⌜ n ≡ value (valuesOf why) ⌝ }
 {
@@ -240,7 +250,7 @@ pub fn value_of(why: Refusal) -> usize
         Refusal::Equations => 0,
         Refusal::Unknowns => 0,
         Refusal::CoefficientCount => 0,
-        Refusal::StackLength => 0,
+        Refusal::TableLength => 0,
         Refusal::BoundLength => 0,
         Refusal::OutOfOrder => 0,
         Refusal::Coefficient(place) => place,
@@ -253,5 +263,10 @@ pub fn value_of(why: Refusal) -> usize
         Refusal::SeatComponent => 0,
         Refusal::Generators => 0,
         Refusal::Column(column) => column,
+        Refusal::TablesFull => 0,
+        Refusal::NotLeft => 0,
+        Refusal::NotFresh => 0,
+        Refusal::NotOperation => 0,
+        Refusal::ShiftedSide(place) => place,
     }
 }

@@ -25,7 +25,7 @@ pub fn check(p: usize, q: usize, extra: usize, coefs: usize, sides: usize, stack
             }
             let wide = q + extra;
             if stack < wide * (wide + 1) {
-                return Check::Refuse(Refusal::StackLength);
+                return Check::Refuse(Refusal::TableLength);
             }
             Check::Pass
         }

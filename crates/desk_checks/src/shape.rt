@@ -17,7 +17,7 @@ pub fn check(p: usize, q: usize, coefs: usize, generators: usize, stack: usize) 
                 return Check::Refuse(Refusal::CoefficientCount);
             }
             if stack / (q + 2) < generators / q {
-                return Check::Refuse(Refusal::StackLength);
+                return Check::Refuse(Refusal::TableLength);
             }
             Check::Pass
         }

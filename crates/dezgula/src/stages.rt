@@ -4,7 +4,7 @@ ghost use mathlib.Core.List.{[]};
 ghost use Prim.Native.Nat.{suc};
 ghost use Rattle.c_engine.specs.Words.{combineWords, mostOf, recordIn, resumeWords, roomOf, startFromWords, startSidesWords, startWords, takeWords, told};
 ghost use Rattle.engine_resume.specs.Continuing.{ResumeLeft};
-ghost use Rattle.engine_calls.specs.declared.Outcome.{Outcome as Left};
+ghost use Rattle.engine_beside.specs.declared.Outcome.{Outcome as Left};
 ghost use Rattle.engine_stage.specs.Standing.{sidesOf};
 
 // The start.

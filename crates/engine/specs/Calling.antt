@@ -20,13 +20,15 @@ use Rattle.laws.specs.TableLaws.{row-fits}
 use Rattle.engine_spec.specs.Calls as spec
 use Rattle.engine_spec.specs.Engine.{Work, run}
 use Rattle.engine_spec.specs.StartSides.{startSides}
-use Rattle.engine_calls.specs.Records.{call-passed, call-refused, checkOf, lengthsOf, outcomeOf, passes, refusedWith, workOf}
-use Rattle.engine_calls.specs.declared.Beside.{Beside}
-use Rattle.engine_calls.specs.declared.Check.{Check}
-use Rattle.engine_calls.specs.declared.Check.the-variants.{Pass, Refuse}
-use Rattle.engine_calls.specs.declared.Outcome.{Outcome}
-use Rattle.engine_calls.specs.declared.Record.{Record}
-use Rattle.engine_calls.specs.declared.Refusal.{Refusal}
+use Rattle.calls.specs.Paper.{checkOf}
+use Rattle.calls.specs.CallLaws.{passes}
+use Rattle.calls.specs.declared.Check.{Check}
+use Rattle.calls.specs.declared.Check.the-variants.{Pass, Refuse}
+use Rattle.calls.specs.declared.Refusal.{Refusal}
+use Rattle.engine_beside.specs.Records.{call-passed, call-refused, lengthsOf, outcomeOf, refusedWith, workOf}
+use Rattle.engine_beside.specs.declared.Beside.{Beside}
+use Rattle.engine_beside.specs.declared.Outcome.{Outcome}
+use Rattle.engine_beside.specs.declared.Record.{Record}
 use Rattle.engine_checks.specs.Operating.{combinesSmall}
 use Rattle.engine_checks.specs.Room.{basis-few, basis-fits, stage-fits}
 use Rattle.engine_checks.specs.Sides.{shaped, sides-checks, sidesChecksBy}

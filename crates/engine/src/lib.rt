@@ -4,12 +4,12 @@ ghost use mathlib.Core.Path.{_≡_};
 ghost use Prim.Native.Nat.{suc};
 ghost use Rattle.engine_spec.specs.Calls as spec;
 ghost use Rattle.engine_spec.specs.StartSides.{startSides};
-ghost use Rattle.engine_calls.specs.Records.{lengthsOf, outcomeOf, workOf};
+ghost use Rattle.engine_beside.specs.Records.{lengthsOf, outcomeOf, workOf};
+use calls::Check;
 use engine_begins::begins;
-use engine_calls::Beside;
-use engine_calls::Check;
-use engine_calls::Outcome;
-use engine_calls::Record;
+use engine_beside::Beside;
+use engine_beside::Outcome;
+use engine_beside::Record;
 use engine_checks::room as capacity;
 use engine_checks::sides;
 use engine_checks::standing;
@@ -31,7 +31,7 @@ pub fn start(
 {
     let most = capacity::basis_room(q, basis.len(), l.sizes);
     match standing::check_start(p, q, coefs, equations.len(), most) {
-        Check::Refuse(why) => engine_calls::refused(why, r),
+        Check::Refuse(why) => engine_beside::refused(why, r),
         Check::Pass => begins::begin(p, q, coefs, equations, basis),
     }
 }
@@ -65,7 +65,7 @@ pub fn start_sides(
         basis.len(),
         sizes,
     ) {
-        Check::Refuse(why) => engine_calls::refused(why, r),
+        Check::Refuse(why) => engine_beside::refused(why, r),
         Check::Pass => begins::begin_sides(p, q, coefs, rights, lower, equations, basis),
     }
 }
@@ -89,7 +89,7 @@ pub fn start_from(
 {
     let most = capacity::basis_room(q, basis.len(), l.sizes);
     match standing::check_start_from(p, q, coefs, n, rows, equations.len(), most) {
-        Check::Refuse(why) => engine_calls::refused(why, r),
+        Check::Refuse(why) => engine_beside::refused(why, r),
         Check::Pass => begins::begin_from(p, q, coefs, n, rows, equations, basis),
     }
 }
@@ -124,7 +124,7 @@ pub fn combine(
         l.mothers,
     );
     match standing::check_combine(p, q, equations, basis, table, most, room, run, r, s, u, t) {
-        Check::Refuse(why) => engine_calls::refused(why, run),
+        Check::Refuse(why) => engine_beside::refused(why, run),
         Check::Pass => begins::operate(q, equations, run, r, s, u, t),
     }
 }
@@ -157,7 +157,7 @@ pub fn take(
         l.mothers,
     );
     match standing::check_take(p, q, equations, basis, table, most, room, r, e, f) {
-        Check::Refuse(why) => engine_calls::refused(why, r),
+        Check::Refuse(why) => engine_beside::refused(why, r),
         Check::Pass => begins::take(q, basis, r, e, f),
     }
 }

@@ -20,10 +20,10 @@ use Rattle.engine_spec.specs.Engine.{begun, begunFrom, begunFromUnder, begunUnd
 use Rattle.engine_spec.specs.StartSides.{sidesSystem}
 use Rattle.engine_rows.specs.Keeping.{lacks}
 use Rattle.engine_rows.specs.Packing.{always}
-use Rattle.engine_calls.specs.Records.{leaves, outcomeOf, recordOf, workOf}
-use Rattle.engine_calls.specs.declared.Answer.the-variants.{Started}
-use Rattle.engine_calls.specs.declared.Outcome.{Outcome}
-use Rattle.engine_calls.specs.declared.Record.{Record}
+use Rattle.engine_beside.specs.Records.{leaves, outcomeOf, recordOf, workOf}
+use Rattle.calls.specs.declared.Answer.the-variants.{Started}
+use Rattle.engine_beside.specs.declared.Outcome.{Outcome}
+use Rattle.engine_beside.specs.declared.Record.{Record}
 use Rattle.engine_begins.specs.Writing.{combinedAt}
 
 -- a map that fits the working system, and a basis with room for the unit tuples

@@ -2,18 +2,18 @@
 ghost use mathlib.Core.Path.{_≡_};
 ghost use Prim.Native.Nat.{_+_, _*_, _≤_};
 ghost use lib.ListN.{length};
-ghost use Rattle.engine_calls.specs.Records.{leaves, recordOf};
-ghost use Rattle.engine_calls.specs.declared.Answer.the-variants.{Started};
+ghost use Rattle.engine_beside.specs.Records.{leaves, recordOf};
+ghost use Rattle.calls.specs.declared.Answer.the-variants.{Started};
 ghost use Rattle.engine_begins.specs.Begins.{Begun, BegunFrom, BegunSides, Fitting, FittingList, Operated, Taken};
 ghost use Rattle.engine_begins.specs.Extended.{Extending};
 ghost use Rattle.engine_begins.specs.Writing.{Combines};
 use crate::extended;
 use crate::writing;
+use calls::Answer;
 use calls::Solutions;
 use calls::Steps;
-use engine_calls::Answer;
-use engine_calls::Outcome;
-use engine_calls::Record;
+use engine_beside::Outcome;
+use engine_beside::Record;
 use engine_rows::packing;
 use engine_rows::rows;
 

@@ -1,3 +1,4 @@
+pub mod Records
 pub mod Writing
 pub mod Small
 pub mod WordLaws

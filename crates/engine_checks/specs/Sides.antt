@@ -21,10 +21,10 @@ use Rattle.definitions.specs.Refusals.{check15}
 use Rattle.definitions.specs.System.{coefLimit}
 use Rattle.laws.specs.AnswerLaws.{refuse-if-go, then-assoc, then-go}
 use Rattle.laws.specs.TableLaws.{row-fits}
-use Rattle.calls.specs.Paper as paper
-use Rattle.calls.specs.declared.Check as walk
-use Rattle.calls.specs.declared.Check.the-variants as walk-check
-use Rattle.calls.specs.declared.Refusal as walk-refusal
+use Rattle.calls.specs.Paper.{checkOf}
+use Rattle.calls.specs.declared.Check as made
+use Rattle.calls.specs.declared.Check.the-variants.{Pass, Refuse}
+use Rattle.calls.specs.declared.Refusal.{Refusal}
 use Rattle.checks.specs.Coefficients.{coefficientChecks, sides-checked}
 use Rattle.engine_spec.specs.Beside.{SmallEquation, SmallRow, coefficientLimit, equationAt, rowAt, valueLimit}
 use Rattle.engine_spec.specs.Calls.{check1, check2, check7}
@@ -34,10 +34,6 @@ use Rattle.engine_spec.specs.Reduction.{isSmall}
 use Rattle.engine_spec.specs.ReductionLaws.{small-from}
 use Rattle.engine_spec.specs.StartSides.{sideAt, sidesChecks}
 use Rattle.engine_beside.specs.Small.{value-small}
-use Rattle.engine_calls.specs.Records.{checkOf}
-use Rattle.engine_calls.specs.declared.Check as made
-use Rattle.engine_calls.specs.declared.Check.the-variants.{Pass, Refuse}
-use Rattle.engine_calls.specs.declared.Refusal.{Refusal}
 use Rattle.engine_checks.specs.Operating.{fit-small, read64}
 use Rattle.engine_checks.specs.Room.{basisRows}
 use Rattle.engine_checks.specs.Sizes.{Sized, sizeChecks, sized}
@@ -243,11 +239,11 @@ bound-large q lower e = rw (← bound-small q lower, e)
 pub bound-fine : (q : ℕ) (lower : List ℕ) → isSmall q (rowAt lower 0) ≡ true → not (isSmall q (boundOf lower)) ≡ false
 bound-fine q lower e = rw (← bound-small q lower, e)
 
-module _ (rights : List ℤ) {r : walk.Check} (e : paper.checkOf r ≡ coefficientChecks rights) (own : Check) where
-  pub sides-refused : {why : walk-refusal.Refusal} → r ≡ walk-check.Refuse why → refuse 15 [] ≡ check15 rights then own
+module _ (rights : List ℤ) {r : made.Check} (e : checkOf r ≡ coefficientChecks rights) (own : Check) where
+  pub sides-refused : {why : Refusal} → r ≡ Refuse why → refuse 15 [] ≡ check15 rights then own
   unfolding _then_
   sides-refused g = rw (← sides-checked rights, ← e, g)
 
-  pub sides-passed : {c : Check} → r ≡ walk-check.Pass → c ≡ own → c ≡ check15 rights then own
+  pub sides-passed : {c : Check} → r ≡ Pass → c ≡ own → c ≡ check15 rights then own
   unfolding _then_
   sides-passed g h = rw (← sides-checked rights, ← e, g) h

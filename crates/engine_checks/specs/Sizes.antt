@@ -9,10 +9,10 @@ use Rattle.definitions.specs.Answers.{Check, go, _then_}
 use Rattle.definitions.specs.Refusals.{between}
 use Rattle.laws.specs.AnswerLaws.{refuse-if-go, then-assoc, then-go}
 use Rattle.engine_spec.specs.Calls.{check1, check2}
-use Rattle.engine_calls.specs.Records.{checkOf}
-use Rattle.engine_calls.specs.declared.Check as made
-use Rattle.engine_calls.specs.declared.Check.the-variants.{Pass, Refuse}
-use Rattle.engine_calls.specs.declared.Refusal.{Refusal}
+use Rattle.calls.specs.Paper.{checkOf}
+use Rattle.calls.specs.declared.Check as made
+use Rattle.calls.specs.declared.Check.the-variants.{Pass, Refuse}
+use Rattle.calls.specs.declared.Refusal.{Refusal}
 
 unfoldable pub sizeChecks : (p q : ℕ) → Check
 sizeChecks p q = check1 p then check2 q

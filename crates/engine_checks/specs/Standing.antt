@@ -1,8 +1,8 @@
 -- What each call checks before its work, check by check, and what holds where they find nothing. Assumes nothing.
 use mathlib.Core.Path.{_≡_, refl, sym, _∙_, ap}
 use mathlib.Core.Bool.{Bool, true, false, not, _&&_, _||_}
-use mathlib.Core.List.{List, [], _∷_}
-use Prim.Native.Nat.{ℕ, zero, suc, _+_, _*_, _^_, _≤_, _<_}
+use mathlib.Core.List.{List, []}
+use Prim.Native.Nat.{ℕ, _+_, _*_, _^_, _≤_, _<_}
 use native.Mathlib.Nat.{mul-le-mul-right}
 use native.Mathlib.Omega.{arith}
 use borrow.Author.Tests.{eqb-true, ltb-false, not-false}
@@ -11,11 +11,14 @@ use lib.IntN.{ℤ, pos, natAbs}
 use lib.ListN.{getD, length}
 use Rattle.linear.specs.TestLaws.{all-at, and-parts}
 use Rattle.linear.specs.Tests.{allTo}
-use Rattle.definitions.specs.Answers.{Check, go, refuse, refuseFirst, refuseIf, refuseWith, _then_}
+use Rattle.definitions.specs.Answers.{Check, go, refuse, refuseIf, refuseWith, _then_}
 use Rattle.definitions.specs.Refusals.{stepLimit}
 use Rattle.laws.specs.AnswerLaws.{refuse-if-go, then-assoc, then-go}
 use Rattle.laws.specs.TableLaws.{row-fits}
-use Rattle.calls.specs.Paper.{value}
+use Rattle.calls.specs.Paper.{checkOf}
+use Rattle.calls.specs.declared.Check as made
+use Rattle.calls.specs.declared.Check.the-variants.{Pass, Refuse}
+use Rattle.calls.specs.declared.Refusal.{Refusal}
 use Rattle.checks.specs.Coefficients.{coefficientChecks}
 use Rattle.engine_spec.specs.Calls.{
   check1,
@@ -39,10 +42,6 @@ use Rattle.engine_spec.specs.Beside.{SmallEquation, SmallTable, coefficientLimi
 use Rattle.engine_spec.specs.Engine.{Work, basisRow}
 use Rattle.engine_spec.specs.Reduction.{isSmall}
 use Rattle.engine_spec.specs.ReductionLaws.{small-from}
-use Rattle.engine_calls.specs.Records.{checkOf}
-use Rattle.engine_calls.specs.declared.Check as made
-use Rattle.engine_calls.specs.declared.Check.the-variants.{Pass, Refuse}
-use Rattle.engine_calls.specs.declared.Refusal.{Refusal}
 use Rattle.engine_checks.specs.Sizes.{Sized, sizeChecks, sized}
 use Rattle.engine_checks.specs.Taking.{leftBy}
 
@@ -170,21 +169,6 @@ starts-from p q coefs n rows most numbers e =
     let h : T (isList q n rows) = rw (not-false (isList q n rows) (refuse-if-go _ 6 c)) tt in
     let (l, _) = and-parts (eqb (length rows) (n * q)) _ h in
     (map-starts p q coefs most numbers a, ltb-false most n (refuse-if-go _ 4 b), eqb→eq (length rows) (n * q) l)
-
--- the place of the first coefficient refused
-first-place : (n k : ℕ) (f : ℕ → Bool) (m : ℕ) (values : List ℕ) → refuse m values ≡ refuseFirst n k f → refuse n (value values ∷ []) ≡ refuseFirst n k f
-unfolding refuseFirst _then_ refuseWith
-first-place n zero f m values e = cc
-first-place n (suc k) f m values e = by (refuseFirst n k f) (f k) (suc k) (first-place n k f m values) e
-  where
-    by : (c : Check) (b : Bool) (v : ℕ) → (refuse m values ≡ c → refuse n (value values ∷ []) ≡ c) → refuse m values ≡ c then refuseWith b n (v ∷ [])
-        → refuse n (value values ∷ []) ≡ c then refuseWith b n (v ∷ [])
-    by (refuse a others) b v h e = h e
-    by go true v h e = let g : values ≡ v ∷ [] = cc in rw g
-    by go false v h e = cc
-
-pub place-is : (coefs : List ℤ) (m : ℕ) (values : List ℕ) → refuse m values ≡ coefficientChecks coefs → refuse 7 (value values ∷ []) ≡ coefficientChecks coefs
-place-is coefs m values e = first-place 7 (length coefs) _ m values e
 
 -- ---- a call on a run
 

@@ -6,12 +6,12 @@ ghost use Rattle.linear.specs.Tuples.{total};
 ghost use Rattle.definitions.specs.Tables.{at};
 ghost use Rattle.engine_spec.specs.Beside.{SmallTable};
 ghost use Rattle.engine_spec.specs.Calls.{coefficientsSmall, inOrder, isList, isRising, marksInOrder, rowLimit};
-ghost use Rattle.engine_calls.specs.Records.{workOf};
+ghost use Rattle.engine_beside.specs.Records.{workOf};
 ghost use Rattle.engine_checks.specs.Order.{Within, areRows, noneZero, recordInOrder, risesBy};
 use crate::signs;
+use engine_beside::Record;
 use engine_beside::degrees;
 use engine_beside::small;
-use engine_calls::Record;
 
 pub fn in_order(
     p: usize,

@@ -7,17 +7,16 @@ ghost use mir.Syntax.{w64};
 ghost use mir.Val.{SFits};
 ghost use Rattle.linear.specs.Systems.{value};
 ghost use Rattle.engine_spec.specs.Beside.{SmallEquation, SmallRow, equationAt, rowAt};
-ghost use Rattle.engine_calls.specs.Records.{checkOf};
+ghost use Rattle.calls.specs.Paper.{checkOf};
 ghost use Rattle.engine_checks.specs.Sides.{Ranged, Shaped, numberChecks, rangeChecks, shapeChecks, sideChecks, sidesChecksBy};
 use crate::room;
 use crate::signs;
 use crate::sizes as limits;
-use crate::standing;
+use calls::Check;
+use calls::Refusal;
 use checks::coefficients;
 use engine_beside::small;
 use engine_beside::values;
-use engine_calls::Check;
-use engine_calls::Refusal;
 
 pub fn check(
     p: usize,
@@ -72,13 +71,13 @@ pub fn check_shape(
                 return Check::Refuse(Refusal::CoefficientCount);
             }
             if equations < p * (q + 1) {
-                return Check::Refuse(Refusal::Room);
+                return Check::Refuse(Refusal::TableLength);
             }
             if room::basis_room(q + 1, basis, sizes) < q + 1 {
-                return Check::Refuse(Refusal::Room);
+                return Check::Refuse(Refusal::TableLength);
             }
             if lower != q {
-                return Check::Refuse(Refusal::Bound);
+                return Check::Refuse(Refusal::BoundLength);
             }
             Check::Pass
         }
@@ -90,7 +89,7 @@ fn check_range(p: usize, q: usize, coefs: &[i32], rights: &[i32], lower: &[u32])
     requires { ⌜ Shaped p q (length (now coefs)) (length (now rights)) (length (now lower)) ⌝ }
     ensures { λ c. ⌜ checkOf c ≡ rangeChecks p q (now (coefs .entry)) (now (rights .entry)) (now (lower .entry)) ⌝ }
 {
-    match standing::check_coefficients(coefs) {
+    match coefficients::check(coefs) {
         Check::Refuse(why) => Check::Refuse(why),
         Check::Pass => check_numbers(p, q, coefs, rights, lower),
     }
@@ -102,11 +101,11 @@ fn check_numbers(p: usize, q: usize, coefs: &[i32], rights: &[i32], lower: &[u32
     ensures { λ c. ⌜ checkOf c ≡ numberChecks p q (now (coefs .entry)) (now (rights .entry)) (now (lower .entry)) ⌝ }
 {
     if !small::small_at(lower, 0, q) {
-        return Check::Refuse(Refusal::BoundComponent);
+        return Check::Refuse(Refusal::BoundRange);
     }
     match coefficients::check(rights) {
-        calls::Check::Refuse(_) => Check::Refuse(Refusal::RightSide),
-        calls::Check::Pass => check_sides(p, q, coefs, rights, lower),
+        Check::Refuse(_) => Check::Refuse(Refusal::RightSide),
+        Check::Pass => check_sides(p, q, coefs, rights, lower),
     }
 }
 
@@ -118,7 +117,7 @@ fn check_sides(p: usize, q: usize, coefs: &[i32], rights: &[i32], lower: &[u32])
     let mut i = 0;
     while i < p {
         if !signs::will_be_small(side_at(coefs, i * q, q, rights[i], lower)) {
-            return Check::Refuse(Refusal::Side(i + 1));
+            return Check::Refuse(Refusal::ShiftedSide(i + 1));
         }
         i += 1;
     }

@@ -1,9 +1,9 @@
 // Refusals 1 and 2: the numbers of equations and of unknowns.
 ghost use mathlib.Core.Path.{_≡_};
-ghost use Rattle.engine_calls.specs.Records.{checkOf};
+ghost use Rattle.calls.specs.Paper.{checkOf};
 ghost use Rattle.engine_checks.specs.Sizes.{sizeChecks};
-use engine_calls::Check;
-use engine_calls::Refusal;
+use calls::Check;
+use calls::Refusal;
 
 pub fn check(p: usize, q: usize) -> Check
     ensures { λ c. ⌜ checkOf c ≡ sizeChecks p q ⌝ }

@@ -2,18 +2,18 @@
 ghost use mathlib.Core.Path.{_≡_};
 ghost use Prim.Native.Nat.{_*_, _≤_};
 ghost use lib.ListN.{length};
-ghost use Rattle.checks.specs.Coefficients.{coefficientChecks};
 ghost use Rattle.engine_spec.specs.Calls.{combineChecks, rowLimit, takeChecks};
-ghost use Rattle.engine_calls.specs.Records.{checkOf, workOf};
+ghost use Rattle.calls.specs.Paper.{checkOf};
+ghost use Rattle.engine_beside.specs.Records.{workOf};
 ghost use Rattle.engine_checks.specs.Standing.{Roomed, mapChecks, standing, startChecksBy, startFromChecksBy};
 use crate::operations;
 use crate::order;
 use crate::sizes;
 use crate::taking;
+use calls::Check;
+use calls::Refusal;
 use checks::coefficients;
-use engine_calls::Check;
-use engine_calls::Record;
-use engine_calls::Refusal;
+use engine_beside::Record;
 
 // A start, with room for `most` rows in the basis: refusals 1, 2, 3, 4 and 7.
 pub fn check_start(p: usize, q: usize, coefs: &[i32], equations: usize, most: usize) -> Check
@@ -21,7 +21,7 @@ pub fn check_start(p: usize, q: usize, coefs: &[i32], equations: usize, most: us
 {
     match check_map(p, q, coefs, equations, most) {
         Check::Refuse(why) => Check::Refuse(why),
-        Check::Pass => check_coefficients(coefs),
+        Check::Pass => coefficients::check(coefs),
     }
 }
 
@@ -42,12 +42,12 @@ pub fn check_start_from(
         Check::Refuse(why) => Check::Refuse(why),
         Check::Pass => {
             if most < n {
-                return Check::Refuse(Refusal::Room);
+                return Check::Refuse(Refusal::TableLength);
             }
             if !order::is_list(rows, n, q) {
                 return Check::Refuse(Refusal::OutOfOrder);
             }
-            check_coefficients(coefs)
+            coefficients::check(coefs)
         }
     }
 }
@@ -63,23 +63,13 @@ fn check_map(p: usize, q: usize, coefs: &[i32], equations: usize, most: usize) -
                 return Check::Refuse(Refusal::CoefficientCount);
             }
             if equations < p * q {
-                return Check::Refuse(Refusal::Room);
+                return Check::Refuse(Refusal::TableLength);
             }
             if most < q {
-                return Check::Refuse(Refusal::Room);
+                return Check::Refuse(Refusal::TableLength);
             }
             Check::Pass
         }
-    }
-}
-
-// The first coefficient out of range.
-pub fn check_coefficients(coefs: &[i32]) -> Check
-    ensures { λ c. ⌜ checkOf c ≡ coefficientChecks (now (coefs .entry)) ⌝ }
-{
-    match coefficients::check(coefs) {
-        calls::Check::Refuse(why) => Check::Refuse(Refusal::Coefficient(calls::value_of(why))),
-        calls::Check::Pass => Check::Pass,
     }
 }
 
@@ -101,10 +91,10 @@ pub fn check_standing(
         Check::Refuse(why) => Check::Refuse(why),
         Check::Pass => {
             if equations.len() < p * q {
-                return Check::Refuse(Refusal::Room);
+                return Check::Refuse(Refusal::TableLength);
             }
             if most < q {
-                return Check::Refuse(Refusal::Room);
+                return Check::Refuse(Refusal::TableLength);
             }
             if !order::in_order(p, q, equations, basis, table, most, room, r) {
                 return Check::Refuse(Refusal::OutOfOrder);

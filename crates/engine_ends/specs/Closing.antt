@@ -19,10 +19,11 @@ use Rattle.laws.specs.Pack.{packTo}
 use Rattle.engine_spec.specs.Beside.{Valued}
 use Rattle.engine_spec.specs.Engine.{Work, allDone, finish, rested, stays, systemOf, valuesSmall}
 use Rattle.engine_rows.specs.Keeping.{filledRow, notBelowValue, smallValue, zeroValue}
-use Rattle.engine_calls.specs.Records.{answerOf, leaves, outcomeOf, recordOf, refusedWith, workOf}
-use Rattle.engine_calls.specs.declared.Outcome.{Outcome}
-use Rattle.engine_calls.specs.declared.Record.{Record}
-use Rattle.engine_calls.specs.declared.Refusal.the-variants.{ComponentLimit, Full}
+use Rattle.calls.specs.Paper.{answerOf}
+use Rattle.calls.specs.declared.Refusal.the-variants.{ComponentLimit, TablesFull}
+use Rattle.engine_beside.specs.Records.{leaves, outcomeOf, recordOf, refusedWith, workOf}
+use Rattle.engine_beside.specs.declared.Outcome.{Outcome}
+use Rattle.engine_beside.specs.declared.Record.{Record}
 use Rattle.engine_ends.specs.Finishing.{
   count-fresh,
   count-plain,
@@ -79,7 +80,7 @@ module _ {p q most : ℕ} {equations : List ℤ} {basis table : List ℕ} {value
     counted : count ≡ countTo (r .rows) (stays q w)
     counted = e ∙ sym (count-plain q w values (c .valued) (le-ltb (r .fresh) q none))
 
-    pub plain-full : most < count → outcomeOf (refusedWith Full r) equations basis table ≡ finish p q most w
+    pub plain-full : most < count → outcomeOf (refusedWith TablesFull r) equations basis table ≡ finish p q most w
     plain-full l = too-many p q most w (fillable-plain p q most w (le-ltb (r .fresh) q none)) counted (lt-ltb most count l)
 
     pub plain-room : count ≤ most → countTo (r .rows) (zeroValue values) * q ≤ length basis
@@ -103,7 +104,7 @@ module _ {p q most : ℕ} {equations : List ℤ} {basis table : List ℕ} {value
       fillable : (ltb (r .fresh) q && not (valuesSmall q w)) ≡ false
       fillable = fillable-fresh p q most w (lt-ltb (r .fresh) q some) (values-small q w values (c .valued) ∙ small)
 
-      pub fresh-full : most < count → outcomeOf (refusedWith Full r) equations basis table ≡ finish p q most w
+      pub fresh-full : most < count → outcomeOf (refusedWith TablesFull r) equations basis table ≡ finish p q most w
       fresh-full l = too-many p q most w fillable counted′ (lt-ltb most count l)
 
       pub fresh-room : count ≤ most → countTo (r .rows) (notBelowValue values) * q ≤ length basis

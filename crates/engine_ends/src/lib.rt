@@ -5,14 +5,15 @@ ghost use mathlib.Core.Bool.{cond};
 ghost use lib.Dec.{eqb};
 ghost use Rattle.definitions.specs.Answers.{complete, paused};
 ghost use Rattle.engine_spec.specs.Engine.{finish as finishOf};
-ghost use Rattle.engine_calls.specs.Records.{answerOf, outcomeOf, workOf};
+ghost use Rattle.calls.specs.Paper.{answerOf};
+ghost use Rattle.engine_beside.specs.Records.{outcomeOf, workOf};
 ghost use Rattle.engine_ends.specs.Closing.{Closing, Ends, RestsLeft};
+use calls::Answer;
+use calls::Refusal;
 use calls::Solutions;
 use calls::Steps;
-use engine_calls::Answer;
-use engine_calls::Outcome;
-use engine_calls::Record;
-use engine_calls::Refusal;
+use engine_beside::Outcome;
+use engine_beside::Record;
 use engine_rows::packing;
 
 pub fn finish(
@@ -53,7 +54,7 @@ fn finish_plain(
     let n = r.rows;
     let count = packing::count_zeros(values, n);
     if most < count {
-        return engine_calls::refused(Refusal::Full, r);
+        return engine_beside::refused(Refusal::TablesFull, r);
     }
     packing::keep_zeros(basis, table, values, n, q);
     rests(p, q, r, count)
@@ -77,11 +78,11 @@ fn finish_fresh(
     let n = r.rows;
     let f = r.fresh;
     if !packing::most_value_small(values, n) {
-        return engine_calls::refused(Refusal::ComponentLimit, r);
+        return engine_beside::refused(Refusal::ComponentLimit, r);
     }
     let count = packing::count_not_below(values, n);
     if most < count {
-        return engine_calls::refused(Refusal::Full, r);
+        return engine_beside::refused(Refusal::TablesFull, r);
     }
     packing::keep_filled(basis, table, values, n, q, f);
     rests(p, q, r, count)

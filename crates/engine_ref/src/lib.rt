@@ -3,12 +3,12 @@ ghost use mathlib.Core.Path.{_≡_};
 ghost use Prim.Native.Nat.{suc};
 ghost use Rattle.engine_spec.specs.Calls as spec;
 ghost use Rattle.engine_spec.specs.StartSides.{startSides};
-ghost use Rattle.engine_calls.specs.Records.{leaves, lengthsOf, outcomeOf, workOf};
+ghost use Rattle.engine_beside.specs.Records.{leaves, lengthsOf, outcomeOf, workOf};
 ghost use Rattle.engine_stage.specs.Standing.{sidesOf};
 ghost use Rattle.engine_resume.specs.Continuing.{ResumeLeft};
-use engine_calls::Answer;
-use engine_calls::Beside;
-use engine_calls::Record;
+use calls::Answer;
+use engine_beside::Beside;
+use engine_beside::Record;
 
 // The start. Of what is lent beside only the lengths count.
 pub fn start(

@@ -15,12 +15,14 @@ use Rattle.engine_spec.specs.Beside.{Measured}
 use Rattle.engine_spec.specs.Engine.{Result, Work, allDone, equationOf, rested, run}
 use Rattle.engine_beside.specs.Writing.{Kept, kept-none, measured-none, valued-none, worded-none}
 use Rattle.engine_stage.specs.Standing.{Sides, Unchanged, beyond-none, unchanged}
-use Rattle.engine_calls.specs.Records.{answerOf, besideOf, call-passed, call-refused, checkOf, lengthsOf, outcomeOf, passes, refusedWith, workOf}
-use Rattle.engine_calls.specs.declared.Check.{Check}
-use Rattle.engine_calls.specs.declared.Check.the-variants.{Pass, Refuse}
-use Rattle.engine_calls.specs.declared.Outcome.{Outcome}
-use Rattle.engine_calls.specs.declared.Record.{Record}
-use Rattle.engine_calls.specs.declared.Refusal.{Refusal}
+use Rattle.calls.specs.Paper.{answerOf, checkOf}
+use Rattle.calls.specs.CallLaws.{passes}
+use Rattle.calls.specs.declared.Check.{Check}
+use Rattle.calls.specs.declared.Check.the-variants.{Pass, Refuse}
+use Rattle.calls.specs.declared.Refusal.{Refusal}
+use Rattle.engine_beside.specs.Records.{besideOf, call-passed, call-refused, lengthsOf, outcomeOf, refusedWith, workOf}
+use Rattle.engine_beside.specs.declared.Outcome.{Outcome}
+use Rattle.engine_beside.specs.declared.Record.{Record}
 use Rattle.engine_checks.specs.Room.{basis-few, basis-fits, stage-fits}
 use Rattle.engine_checks.specs.Standing.{Roomed, Stands, resume-checks, standing, stands}
 use Rattle.engine_resume.specs.Resuming.{Entered, ResumedTo, Sided, ordered, rowsAfter}

@@ -33,9 +33,9 @@ use Rattle.engine_stage.specs.Standing.{Beyond, Given, Ready, Roomy, Sides, Unc
 use Rattle.engine_stage.specs.declared.stages.Ran.{Ran}
 use Rattle.engine_stage.specs.declared.turns.Frame.{Frame}
 use Rattle.engine_stage.specs.declared.turns.Next.{Next}
-use Rattle.engine_calls.specs.Records.{outcomeOf, recordOf, workOf}
-use Rattle.engine_calls.specs.declared.Outcome as made
-use Rattle.engine_calls.specs.declared.Record.{Record}
+use Rattle.engine_beside.specs.Records.{outcomeOf, recordOf, workOf}
+use Rattle.engine_beside.specs.declared.Outcome as made
+use Rattle.engine_beside.specs.declared.Record.{Record}
 use Rattle.engine_checks.specs.Room.{StageFits}
 use Rattle.engine_checks.specs.Sizes.{Sized}
 use Rattle.engine_ends.specs.Closing.{Closing}

@@ -1,9 +1,9 @@
 // The engine's continuing call. It takes the record by value and returns what it leaves.
 ghost use Rattle.engine_stage.specs.Standing.{sidesOf};
 ghost use Rattle.engine_resume.specs.Continuing.{ResumeLeft};
-use engine_calls::Check;
-use engine_calls::Outcome;
-use engine_calls::Record;
+use calls::Check;
+use engine_beside::Outcome;
+use engine_beside::Record;
 use engine_checks::room as capacity;
 use engine_checks::standing;
 
@@ -41,7 +41,7 @@ pub fn resume(
         mothers.len(),
     );
     match standing::check_standing(p, q, equations, basis, table, most, room, r) {
-        Check::Refuse(why) => engine_calls::refused(why, r),
+        Check::Refuse(why) => engine_beside::refused(why, r),
         Check::Pass => {
             if p <= r.equation {
                 return resuming::rested(p, r);

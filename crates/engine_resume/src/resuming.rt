@@ -5,21 +5,22 @@ ghost use Prim.Native.Nat.{_^_, _-_, _≤_};
 ghost use lib.Dec.{eqb};
 ghost use lib.ListN.{length};
 ghost use Rattle.definitions.specs.Answers.{complete, paused as pausedAnswer};
-ghost use Rattle.engine_calls.specs.Records.{answerOf, leaves, outcomeOf, workOf};
-ghost use Rattle.engine_calls.specs.declared.Answer.the-variants.{Paused};
+ghost use Rattle.calls.specs.Paper.{answerOf};
+ghost use Rattle.calls.specs.declared.Answer.the-variants.{Paused};
+ghost use Rattle.engine_beside.specs.Records.{leaves, outcomeOf, workOf};
 ghost use Rattle.engine_stage.specs.Running.{answerOf as endingOf};
 ghost use Rattle.engine_stage.specs.Standing.{sidesOf};
 ghost use Rattle.engine_ends.specs.Closing.{Closing};
 ghost use Rattle.engine_resume.specs.EngineLaws.{ended};
 ghost use Rattle.engine_resume.specs.Resuming.{Advanced, Entered, ResumedTo, Writable, Written, recordAt, startOf};
+use calls::Answer;
+use calls::Refusal;
 use calls::Steps;
+use engine_beside::Outcome;
+use engine_beside::Record;
 use engine_beside::degrees as measures;
 use engine_beside::values as numbers;
 use engine_beside::words as fields;
-use engine_calls::Answer;
-use engine_calls::Outcome;
-use engine_calls::Record;
-use engine_calls::Refusal;
 use engine_rows::marks as magnitudes;
 use engine_stage::stages;
 use engine_stage::stages::Ending;
@@ -234,9 +235,9 @@ fn close(
 {
     match ending {
         Ending::Paused => paused(r),
-        Ending::Late => engine_calls::refused(Refusal::StepLimit, r),
-        Ending::Large => engine_calls::refused(Refusal::ComponentLimit, r),
-        Ending::Full => engine_calls::refused(Refusal::Full, r),
+        Ending::Late => engine_beside::refused(Refusal::StepLimit, r),
+        Ending::Large => engine_beside::refused(Refusal::ComponentLimit, r),
+        Ending::Full => engine_beside::refused(Refusal::TablesFull, r),
         Ending::Ends => engine_ends::finish(p, q, most, equations, basis, table, values, r),
     }
 }

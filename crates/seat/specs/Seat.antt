@@ -24,9 +24,9 @@ use Rattle.calls.specs.declared.Answer.the-variants.{Refused}
 use Rattle.calls.specs.declared.Check.{Check}
 use Rattle.calls.specs.declared.Check.the-variants.{Refuse, Pass}
 use Rattle.calls.specs.declared.Refusal.{Refusal}
-use Rattle.calls.specs.declared.Refusal.the-variants.{Equations, Unknowns, CoefficientCount, StackLength, BoundLength, OutOfOrder, Coefficient, BoundRange}
+use Rattle.calls.specs.declared.Refusal.the-variants.{Equations, Unknowns, CoefficientCount, TableLength, BoundLength, OutOfOrder, Coefficient, BoundRange}
 use Rattle.calls.specs.declared.Refusal.the-variants.{ListFull, ComponentLimit, StepLimit, RightSide, SeatUnknowns, SeatComponent}
-use Rattle.calls.specs.declared.Refusal.the-variants.{Generators, Column}
+use Rattle.calls.specs.declared.Refusal.the-variants.{Generators, Column, TablesFull, NotLeft, NotFresh, NotOperation, ShiftedSide}
 
 -- ---- 24 for 12
 
@@ -38,7 +38,7 @@ alone-at-12 : (why : Refusal) → numberOf why ≡ 12 → valuesOf why ≡ []
 alone-at-12 Equations e = refl
 alone-at-12 Unknowns e = refl
 alone-at-12 CoefficientCount e = refl
-alone-at-12 StackLength e = refl
+alone-at-12 TableLength e = refl
 alone-at-12 BoundLength e = refl
 alone-at-12 OutOfOrder e = refl
 alone-at-12 (Coefficient place) e = absurd (omega arith)
@@ -51,6 +51,11 @@ alone-at-12 SeatUnknowns e = refl
 alone-at-12 SeatComponent e = refl
 alone-at-12 Generators e = refl
 alone-at-12 (Column column) e = absurd (omega arith)
+alone-at-12 TablesFull e = refl
+alone-at-12 NotLeft e = refl
+alone-at-12 NotFresh e = refl
+alone-at-12 NotOperation e = refl
+alone-at-12 (ShiftedSide place) e = absurd (omega arith)
 
 pub at-12 : (why : Refusal) {n : ℕ} → n ≡ numberOf why → n ≡ 12 → refusedFor SeatComponent ≡ renumber (refusedFor why)
 at-12 why h e = rw (alone-at-12 why (sym h ∙ e), eq-eqb (numberOf why) 12 (sym h ∙ e))

@@ -1,7 +1,7 @@
 -- `first` meets its contract. Assumes nothing.
 use borrow.Author.Needs.{needs}
 use mathlib.Core.Path.{_∙_, sym}
-use Rattle.engine_calls.specs.Records.{valuesOf}
+use Rattle.calls.specs.Paper.{valuesOf}
 use Rattle.c_engine.specs.WordLaws.{number-instead, place-instead}
 use Rattle.c_engine.proofs.first.Statement.{statement}
 use Rattle.c_engine.proofs.first.Tie as tie

@@ -14,7 +14,7 @@ use Rattle.calls.specs.declared.Record.{Record}
 use Rattle.calls.proofs.Record as Rec
 use Rattle.walk_ref.proofs.Frame.{here, ends}
 use Rattle.walk_ref.proofs.Walk.{Met, lent, lent-slice, number, proved, shared-slice}
-use Rattle.walk_ref.proofs.Behind.{copies, lends, less₁, puts-back, recordVal, values₁, with₁}
+use Rattle.walk_ref.proofs.Behind.{copies, lends, less₁, puts-back, recordVal, values₁, with₁, walk-types}
 use Rattle.desk.proofs.start as started
 use Rattle.desk.proofs.start.Symbol as started-def
 use Rattle.desk.proofs.start.Symbol.{name as #desk·start}
@@ -50,13 +50,13 @@ start-spec 𝓤 H 𝓜 𝓖 𝓡 =
     let r : RefT Record = a .1 .1 .1 .1 .1 .1 .0 in
     let y : callee .Ghost = ((less₁ κs, less₁ qs, tt, with₁ a (now r), values₁ recordVal a tt), tt) in
     lends ! 5 9 10 (are .1 .1 .1 .1 .0 .0 .1 .0) refl refl refl refl refl refl refl refl $
-    copies 4 6 7 (κs .1 .1 .1 .1 .0) (qs .1 .1 .1 .1 .0) r ! _ _ _ _ 11 refl refl refl refl $
+    copies walk-types 4 6 (κs .1 .1 .1 .1 .0) (qs .1 .1 .1 .1 .0) r ! _ _ _ _ 11 refl refl refl refl $
     calls-at ! fm callee (cited 𝓤 H callee 𝓜 𝓡 code.env #desk·start started-def.routine code.calls-desk·start (started-thm.met 𝓤 H 𝓜 𝓖 𝓡)) y
     -- [what the call is handed; the open borrow, four entries; the locals]: local n stands at place n + 5
     (and-then ! (here ! 6 refl)
     (and-then ! (here ! 7 refl)
     (and-then ! (here ! 8 refl)
     (and-then ! (here ! 9 refl) (and-then ! (here ! 15 refl) (and-then ! (here ! 11 refl) (and-then ! (here ! 16 refl) (no-more !)))))))) (λ w.
-    puts-back 4 6 7 (κs .1 .1 .1 .1 .0) (qs .1 .1 .1 .1 .0) r ! 4 (started.signature .params) (started.ended .kept) c y _ _ refl (λ ws. _) (λ ws. _)
+    puts-back walk-types 4 6 (κs .1 .1 .1 .1 .0) (qs .1 .1 .1 .1 .0) r ! 4 (started.signature .params) (started.ended .kept) c y _ _ refl (λ ws. _) (λ ws. _)
     (λ ws. refl) w 8 refl refl refl refl (λ v. refl) (λ v. refl) (λ v. refl) (λ v ws.
     ends ! tt _ $ by ! (leave _ (v .answer) (with₁ ws (v .run))))))

@@ -14,15 +14,15 @@ use denote.Triple.Call.{calls-at}
 use denote.Triple.Clauses.{Clauses}
 use denote.Triple.Statement.{Contract}
 use denote.Triple.Table.{cited}
-use Rattle.engine_calls.specs.declared.Record.{Record}
-use Rattle.engine_calls.proofs.Record as Rec
-use Rattle.engine_calls.proofs.Record.Laws as Rec′
-use Rattle.engine_calls.proofs.Beside as Bes
-use Rattle.engine_calls.proofs.Beside.Laws as Bes′
+use Rattle.engine_beside.specs.declared.Record.{Record}
+use Rattle.engine_beside.proofs.Record as Rec
+use Rattle.engine_beside.proofs.Record.Laws as Rec′
+use Rattle.engine_beside.proofs.Beside as Bes
+use Rattle.engine_beside.proofs.Beside.Laws as Bes′
 use Rattle.walk_ref.proofs.Frame.{here, ends}
 use Rattle.walk_ref.proofs.Walk.{Met, lent, lent-slice, number, proved, shared-slice}
-use Rattle.walk_ref.proofs.Behind.{lends}
-use Rattle.engine_ref.proofs.Behind.{copies, puts-back}
+use Rattle.walk_ref.proofs.Behind.{copies, lends, puts-back}
+use Rattle.engine_ref.proofs.Behind.{engine-types}
 use Rattle.engine_resume.proofs.resume as callee-of
 use Rattle.engine_resume.proofs.resume.Symbol as callee-def
 use Rattle.engine_resume.proofs.resume.Symbol.{name as #engine-resume·resume}
@@ -209,14 +209,14 @@ resume-spec 𝓤 H 𝓜 𝓖 𝓡 =
     lends ! 9 25 26 (are .1 .1 .1 .1 .1 .1 .1 .1 .0 .0 .1 .0) refl refl refl refl refl refl refl refl $
     lends ! 10 27 28 (are .1 .1 .1 .1 .1 .1 .1 .1 .1 .0 .0 .1 .0) refl refl refl refl refl refl refl refl $
     lends ! 11 29 30 (are .1 .1 .1 .1 .1 .1 .1 .1 .1 .1 .0 .0 .1 .0) refl refl refl refl refl refl refl refl $
-    copies (κs .1 .1 .1 .1 .1 .1 .1 .1 .1 .0) (qs .1 .1 .1 .1 .1 .1 .1 .1 .1 .0) r 9 11 ! _ _ _ _ 31 refl refl refl refl $
+    copies engine-types 9 11 (κs .1 .1 .1 .1 .1 .1 .1 .1 .1 .0) (qs .1 .1 .1 .1 .1 .1 .1 .1 .1 .0) r ! _ _ _ _ 31 refl refl refl refl $
     calls-at ! fm callee (cited 𝓤 H callee 𝓜 𝓡 code.env #engine-resume·resume callee-def.routine code.calls-engine-resume·resume (callee-thm.met 𝓤 H 𝓜 𝓖 𝓡)) y
     -- [what the call is handed; the open borrow, four entries; the locals]: local n stands at place n + 5
     (and-then ! (here ! 6 refl) (and-then ! (here ! 7 refl) (and-then ! (here ! 8 refl) (and-then ! (here ! 21 refl) (and-then ! (here ! 23 refl)
     (and-then ! (here ! 25 refl) (and-then ! (here ! 27 refl) (and-then ! (here ! 29 refl) (and-then ! (here ! 31 refl) (and-then ! (here ! 33 refl)
     (and-then ! (here ! 35 refl) (and-then ! (here ! 36 refl) (and-then ! (here ! 18 refl) (no-more !)))))))))))))) (λ w.
-    puts-back (κs .1 .1 .1 .1 .1 .1 .1 .1 .1 .0) (qs .1 .1 .1 .1 .1 .1 .1 .1 .1 .0) r 9 11 ! 9 (callee-of.signature .params) (callee-of.ended .kept)
-    c y _ _ refl (λ ws. _)
+    puts-back engine-types 9 11 (κs .1 .1 .1 .1 .1 .1 .1 .1 .1 .0) (qs .1 .1 .1 .1 .1 .1 .1 .1 .1 .0) r ! 9 (callee-of.signature .params) (callee-of.ended
+    .kept) c y _ _ refl (λ ws. _)
     (λ ws. _) (λ ws. refl) w 14 refl refl refl refl (λ v. refl) (λ v. refl) (λ v. refl) (λ v ws.
     ends ! tt _ $ by ! (leave _ (v .answer) (
       ws .0,

@@ -14,15 +14,15 @@ use denote.Triple.Call.{calls-at}
 use denote.Triple.Clauses.{Clauses}
 use denote.Triple.Statement.{Contract}
 use denote.Triple.Table.{cited}
-use Rattle.engine_calls.specs.declared.Record.{Record}
-use Rattle.engine_calls.proofs.Record as Rec
-use Rattle.engine_calls.proofs.Record.Laws as Rec′
-use Rattle.engine_calls.proofs.Beside as Bes
-use Rattle.engine_calls.proofs.Beside.Laws as Bes′
+use Rattle.engine_beside.specs.declared.Record.{Record}
+use Rattle.engine_beside.proofs.Record as Rec
+use Rattle.engine_beside.proofs.Record.Laws as Rec′
+use Rattle.engine_beside.proofs.Beside as Bes
+use Rattle.engine_beside.proofs.Beside.Laws as Bes′
 use Rattle.walk_ref.proofs.Frame.{here, ends}
 use Rattle.walk_ref.proofs.Walk.{Met, lent, lent-slice, number, proved, shared-slice, struct}
-use Rattle.walk_ref.proofs.Behind.{lends}
-use Rattle.engine_ref.proofs.Behind.{copies, puts-back}
+use Rattle.walk_ref.proofs.Behind.{copies, lends, puts-back}
+use Rattle.engine_ref.proofs.Behind.{engine-types}
 use Rattle.engine.proofs.take as callee-of
 use Rattle.engine.proofs.take.Symbol as callee-def
 use Rattle.engine.proofs.take.Symbol.{name as #engine·take}
@@ -109,12 +109,12 @@ take-spec 𝓤 H 𝓜 𝓖 𝓡 =
       tt,
     ) in
     lends ! 4 11 12 (are .1 .1 .1 .0 .0 .1 .0) refl refl refl refl refl refl refl refl $
-    copies (κs .1 .1 .1 .0) (qs .1 .1 .1 .0) r 3 6 ! _ _ _ _ 13 refl refl refl refl $
+    copies engine-types 3 6 (κs .1 .1 .1 .0) (qs .1 .1 .1 .0) r ! _ _ _ _ 13 refl refl refl refl $
     calls-at ! fm callee (cited 𝓤 H callee 𝓜 𝓡 code.env #engine·take callee-def.routine code.calls-engine·take (callee-thm.met 𝓤 H 𝓜 𝓖 𝓡)) y
     -- [what the call is handed; the open borrow, four entries; the locals]: local n stands at place n + 5
     (and-then ! (here ! 6 refl) (and-then ! (here ! 7 refl) (and-then ! (here ! 8 refl) (and-then ! (here ! 17 refl) (and-then ! (here ! 10 refl)
     (and-then ! (here ! 11 refl) (and-then ! (here ! 18 refl) (and-then ! (here ! 13 refl) (and-then ! (here ! 14 refl) (no-more !)))))))))) (λ w.
-    puts-back (κs .1 .1 .1 .0) (qs .1 .1 .1 .0) r 3 6 ! 3 (callee-of.signature .params) (callee-of.ended .kept) c y _ _ refl (λ ws. _)
+    puts-back engine-types 3 6 (κs .1 .1 .1 .0) (qs .1 .1 .1 .0) r ! 3 (callee-of.signature .params) (callee-of.ended .kept) c y _ _ refl (λ ws. _)
     (λ ws. _) (λ ws. refl) w 10 refl refl refl refl (λ v. refl) (λ v. refl) (λ v. refl) (λ v ws.
     ends ! tt _ $ by ! (leave _ (v .answer) (
       ws .0,

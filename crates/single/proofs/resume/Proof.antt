@@ -16,7 +16,7 @@ use denote.Triple.Table.{cited}
 use Rattle.calls.specs.declared.Record.{Record}
 use Rattle.walk_ref.proofs.Frame.{here, ends}
 use Rattle.walk_ref.proofs.Walk.{Met, number, proved}
-use Rattle.walk_ref.proofs.Behind.{less, with, values, shared, lends, copies, puts-back}
+use Rattle.walk_ref.proofs.Behind.{less, with, values, shared, lends, copies, puts-back, walk-types}
 use Rattle.single.proofs.resumed as resumed
 use Rattle.single.proofs.resumed.Symbol as resumed-def
 use Rattle.single.proofs.resumed.Symbol.{name as #single·resumed}
@@ -38,7 +38,7 @@ resume-spec 𝓤 H 𝓜 𝓖 𝓡 =
     let y : callee .Ghost = ((less κs, less qs, tt, with a (now r), values a (uint-vals w64 (a .1 .1 .1 .1 .1 .1 .0), tt)), tt) in
     lends ! 4 9 10 (are .1 .1 .1 .0 .0 .1 .0) refl refl refl refl refl refl refl refl $
     lends ! 5 11 12 (are .1 .1 .1 .1 .0 .0 .1 .0) refl refl refl refl refl refl refl refl $
-    copies 3 5 6 (κs .1 .1 .1 .0) (qs .1 .1 .1 .0) r ! _ _ _ _ 13 refl refl refl refl $
+    copies walk-types 3 5 (κs .1 .1 .1 .0) (qs .1 .1 .1 .0) r ! _ _ _ _ 13 refl refl refl refl $
     calls-at ! fm callee
     (cited 𝓤 H callee 𝓜 𝓡 code.env #single·resumed resumed-def.routine code.calls-single·resumed (resumed-thm.met 𝓤 H 𝓜 𝓖 𝓡)) y
     -- [what the call is handed; the open borrow, four entries; the locals]: local n stands at place n + 5
@@ -46,6 +46,6 @@ resume-spec 𝓤 H 𝓜 𝓖 𝓡 =
     (and-then ! (here ! 7 refl)
     (and-then ! (here ! 8 refl)
     (and-then ! (here ! 15 refl) (and-then ! (here ! 17 refl) (and-then ! (here ! 18 refl) (and-then ! (here ! 12 refl) (no-more !)))))))) (λ w.
-    puts-back 3 5 6 (κs .1 .1 .1 .0) (qs .1 .1 .1 .0) r ! 3 (resumed.signature .params) (resumed.ended .kept) c y _ _ refl (λ ws. _) (λ ws. _)
+    puts-back walk-types 3 5 (κs .1 .1 .1 .0) (qs .1 .1 .1 .0) r ! 3 (resumed.signature .params) (resumed.ended .kept) c y _ _ refl (λ ws. _) (λ ws. _)
     (λ ws. refl) w 8 refl refl refl refl (λ v. refl) (λ v. refl) (λ v. refl) (λ v ws.
     ends ! tt _ $ by ! (leave _ (v .answer) (with ws (v .run))))))

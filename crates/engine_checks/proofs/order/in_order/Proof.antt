@@ -3,7 +3,7 @@ use mathlib.Core.Path.{sym, _∙_}
 use native.Mathlib.Omega.{arith}
 use borrow.Author.Tests.{not-false, not-true}
 use denote.Ref.{now}
-use Rattle.engine_calls.specs.Records.{workOf}
+use Rattle.engine_beside.specs.Records.{workOf}
 use Rattle.engine_checks.specs.Order.{by-basis, by-coefficients, by-degrees, by-record, by-rows, rows-room, tested-small}
 use Rattle.engine_checks.proofs.order.in_order.Statement.{statement}
 use Rattle.engine_checks.proofs.order.in_order.Tie as tie

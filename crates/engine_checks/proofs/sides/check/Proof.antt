@@ -1,7 +1,7 @@
 -- `sides::check` meets its contract: the shape decides, else the range. Assumes nothing.
 use mathlib.Core.Path.{sym, _∙_, ap}
 use borrow.Author.Needs.{needs}
-use Rattle.engine_calls.specs.Records.{checkOf}
+use Rattle.calls.specs.Paper.{checkOf}
 use Rattle.engine_checks.specs.Sides.{shaped, sidesChecksBy, then-passed, then-refused}
 use Rattle.engine_checks.proofs.sides.check.Statement.{statement}
 use Rattle.engine_checks.proofs.sides.check.Tie as tie

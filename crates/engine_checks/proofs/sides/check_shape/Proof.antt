@@ -5,7 +5,7 @@ use native.Mathlib.Numerals.{add-one}
 use native.Mathlib.Omega.{arith}
 use borrow.Author.Tests.{eq-eqb, le-ltb, lt-ltb, ne-eqb}
 use borrow.Author.Needs.{needs}
-use Rattle.engine_calls.specs.Records.{checkOf}
+use Rattle.calls.specs.Paper.{checkOf}
 use Rattle.engine_checks.specs.Sides.{
   equal,
   first-short,

@@ -2,7 +2,8 @@
 use mathlib.Core.Path.{sym, _∙_, ap}
 use borrow.Author.Tests.{le-ltb, lt-ltb, not-false, not-true}
 use denote.Ref.{now}
-use Rattle.engine_calls.specs.Records.{checkOf, workOf}
+use Rattle.calls.specs.Paper.{checkOf}
+use Rattle.engine_beside.specs.Records.{workOf}
 use mir.Facts.{toZ-ofZ}
 use Rattle.engine_spec.specs.Calls.{combineChecks, isLeft, isOperation}
 use lib.Dec.{ltb}

@@ -4,7 +4,7 @@ use native.Mathlib.Omega.{arith}
 use native.Mathlib.Nat.{mul-le-mul}
 use borrow.Author.Tests.{eq-eqb, le-ltb, lt-ltb, ne-eqb}
 use denote.Ref.{now}
-use Rattle.engine_calls.specs.Records.{checkOf}
+use Rattle.calls.specs.Paper.{checkOf}
 use Rattle.engine_checks.specs.Sizes.{sized, sizes-passed, sizes-refused}
 use Rattle.engine_checks.specs.Standing.{count-refuses, few-refuses, rest-passes, short-refuses, mapChecks}
 use borrow.Author.Needs.{needs}

@@ -4,9 +4,9 @@ use native.Mathlib.Omega.{arith}
 use native.Mathlib.Nat.{mul-le-mul}
 use borrow.Author.Tests.{le-ltb, lt-ltb}
 use denote.Ref.{now}
-use Rattle.engine_calls.specs.Records.{checkOf}
+use Rattle.calls.specs.Paper.{checkOf}
 use Rattle.engine_checks.specs.Sizes.{sized, sizes-passed, sizes-refused}
-use Rattle.engine_calls.specs.Records.{workOf}
+use Rattle.engine_beside.specs.Records.{workOf}
 use Rattle.engine_checks.specs.Standing.{basis-short, order-passes, order-refuses, standing, system-short}
 use borrow.Author.Needs.{needs}
 use Rattle.engine_checks.proofs.standing.check_standing.Statement.{statement}

@@ -4,7 +4,7 @@ use native.Mathlib.Omega.{arith}
 use borrow.Author.Tests.{le-ltb, lt-ltb, not-false, not-true}
 use borrow.Author.Needs.{needs}
 use denote.Ref.{now}
-use Rattle.engine_calls.specs.Records.{checkOf}
+use Rattle.calls.specs.Paper.{checkOf}
 use Rattle.engine_checks.specs.Standing.{coefficients-are, list-many, list-passes, list-refuses, map-passed, map-refused, map-starts, startFromChecksBy}
 use Rattle.engine_checks.proofs.standing.check_start_from.Statement.{statement}
 use Rattle.engine_checks.proofs.standing.check_start_from.Tie as tie
@@ -49,7 +49,7 @@ returns-4 c =
     (list-passes (s .p) (s .q) (now (s .coefs)) (s .n) (now (s .rows)) (s .most) (le-ltb _ _ (c .before .before .before .if1 .left))
     (sym (c .before .before .is-list .ensures) ∙ not-false _ (c .before .if2 .left))
     (coefficients-are (s .p) (s .q) (now (s .coefs)) (map-starts (s .p) (s .q) (now (s .coefs)) (s .most) (s .equations) (sym e ∙ ap checkOf told) .count)
-    (c .check-coefficients .ensures)))
+    (c .check .ensures)))
 
 pub check-start-from-spec : {M : Type 1} → statement M
 check-start-from-spec =
