@@ -188,30 +188,45 @@ static bool all_above(const dezgula_solver *s, const int64_t *by)
     }
     return true;
 }
-/* the column that the sum of y[i] * equation i is furthest below in, by its size; q where it is above 0 in all */
-static size_t furthest(const dezgula_solver *s, const double *y, const double *sizes)
+/* the products of the columns, two and two: whole numbers below 2^53 */
+static void multiply_columns(const dezgula_solver *s, double products[MOST][MOST])
 {
-    size_t at = s->q;
+    for (size_t j = 0; j < s->q; j++)
+        for (size_t k = 0; k <= j; k++) {
+            double sum = 0;
+            for (size_t i = 0; i < s->p; i++) sum += (double)s->equations[i * s->q + j] * s->equations[i * s->q + k];
+            products[j][k] = products[k][j] = sum;
+        }
+}
+/* the column that a sum of equations is furthest below in, by its size; q where it is above 0 in all */
+static size_t furthest(size_t q, const double *sum, const double *sizes)
+{
+    size_t at = q;
     double low = 1e-9;
-    for (size_t j = 0; j < s->q; j++) {
-        double sum = 0;
-        for (size_t i = 0; i < s->p; i++) sum += y[i] * s->equations[i * s->q + j];
-        if (sum / sizes[j] < low) low = sum / sizes[j], at = j;
-    }
+    for (size_t j = 0; j < q; j++)
+        if (sum[j] < low * sizes[j]) low = sum[j] / sizes[j], at = j;
     return at;
 }
-/* looks for such a sum: adds that column as long as there is one, and tries the multipliers in small whole numbers */
+/* the multipliers y of a sum that is above 0 in all columns, where there is one: adds the column furthest below as long as there is one */
+static void look_above(const dezgula_solver *s, const double *sizes, double *y)
+{
+    double sum[MOST] = {0}, products[MOST][MOST];
+    multiply_columns(s, products);
+    for (size_t turn = 0; turn < ABOVE_TURNS && turn * s->p * s->q < ABOVE_WORK; turn++) {
+        size_t at = furthest(s->q, sum, sizes);
+        if (at == s->q) break;
+        for (size_t i = 0; i < s->p; i++) y[i] += s->equations[i * s->q + at] / sizes[at];
+        for (size_t j = 0; j < s->q; j++) sum[j] += products[at][j] / sizes[at];
+    }
+}
+/* looks for such a sum, and tries its multipliers in small whole numbers */
 static bool find_above(const dezgula_solver *s, int64_t *by)
 {
     double y[MOST] = {0}, sizes[MOST] = {0}, most = 0;
     for (size_t k = 0; k < s->p * s->q; k++) sizes[k % s->q] += fabs((double)s->equations[k]);
     for (size_t j = 0; j < s->q; j++)
         if (sizes[j] == 0) return false; /* an unknown that no equation mentions is a solution */
-    for (size_t turn = 0; turn < ABOVE_TURNS && turn * s->p * s->q < ABOVE_WORK; turn++) {
-        size_t at = furthest(s, y, sizes);
-        if (at == s->q) break;
-        for (size_t i = 0; i < s->p; i++) y[i] += s->equations[i * s->q + at] / sizes[at];
-    }
+    look_above(s, sizes, y);
     for (size_t i = 0; i < s->p; i++) most = fabs(y[i]) > most ? fabs(y[i]) : most;
     for (int k = 1; most > 0 && k <= ABOVE_MOST; k++) {
         for (size_t i = 0; i < s->p; i++) by[i] = (int64_t)(y[i] * k / most + (y[i] < 0 ? -0.5 : 0.5));
