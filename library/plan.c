@@ -23,20 +23,23 @@
 
 enum { MOST = DEZGULA_ENGINE_MOST, COEFFICIENTS = DEZGULA_ENGINE_COEFFICIENTS, RECORD = DEZGULA_ENGINE_RECORD_LENGTH };
 enum { LARGE_COEFFICIENT = 12, LATE_TURNS = 1000000 }; /* a map with a coefficient so large is reformulated at once, others after so many turns */
-enum { AS_IS, UNITS, RULES }; /* the rules: the equations as they are; the same, or cleared by units */
+/* the rules: the equations as they are; the same, or cleared by units; and from a list as they are, but first the second or the third best */
+enum { AS_IS, UNITS, SECOND, THIRD, RULES };
 enum { SPREAD_EQUATIONS = 5, PAIRS_LOOKED_AT = 20000 }; /* with fewer equations, that are not reformulated, values tell nothing more */
 static const uint64_t ALL_RULES = (UINT64_C(1) << RULES) - 1;
 enum { FIRST_ROWS = 64, FIRST_ROUND = 30000, ROUND_TIMES = 8, SOON = 20000, FIRST_PACE = 20000, CLEAR_LIMIT = 100000 };
 enum { ABOVE_WORK = 300000, ABOVE_TURNS = 5000, ABOVE_MOST = 200 }; /* how long a sum of equations above 0 is looked for, and its largest multiplier */
+enum { CLEARLY = 4 }; /* from a list another order is followed for so small a part of the turns that the best one promises */
 /* measured: a stage without a fresh unknown, and the last one, cost so many times their first pairs */
 enum { EQUAL = 2, LAST_EQUAL = 3, LAST_STAGE = 8, WEIGHT = 16 };
 enum { TRYING, LAST, COMPLETE, BEYOND }; /* beyond: some minimal solution has a component above 1,000,000, however it is listed */
 static const double NEVER = 1e300;
 static const uint64_t MOST_PACE = UINT64_C(1) << 40;
 
-/* right sides and a lower bound; and the rows handed out once the list is complete, `loops` and then `smallest` of them */
+/* right sides and a lower bound; the system that the engine's start makes of them, with the extra unknown first; and the rows handed out once the list is
+ * complete, `loops` and then `smallest` of them */
 typedef struct {
-    int32_t rights[MOST];
+    int32_t rights[MOST], system[COEFFICIENTS];
     uint32_t lower[MOST], *rows;
     size_t loops, smallest;
 } sides;
@@ -341,11 +344,11 @@ static double count_signs(const dezgula_solver *s, const int64_t *c, double *ups
     size_t shared = common > 0 ? bits((uint64_t)common) - 1 : 0;
     return spread(sum - shared * (up + down), up + down);
 }
-/* a map with large coefficients, alone */
+/* a map with large coefficients, alone or with right sides */
 static bool is_large(const dezgula_solver *s)
 {
     bool large = false;
-    for (size_t k = 0; s->list == NULL && s->wanted == NULL && k < s->p * s->q; k++) large |= llabs(s->coefs[k]) >= LARGE_COEFFICIENT;
+    for (size_t k = 0; s->list == NULL && k < s->given_p * s->given_q; k++) large |= llabs(s->given[k]) >= LARGE_COEFFICIENT;
     return large;
 }
 /* how many sums of multiples of a row of value a and one of value -b have a value of 0 or more and are no sums of others: by the continued fraction of a / b */
@@ -413,10 +416,12 @@ typedef struct {
     bool last; /* no other is left */
 } choice;
 
-static void choose_of(const dezgula_solver *s, const system_left *l, uint32_t used, double weight, choice *best)
+/* of the equations that are not in `without` */
+static void choose_of(const dezgula_solver *s, const system_left *l, uint32_t used, double weight, uint32_t without, choice *best)
 {
     for (size_t e = 0; e < l->n; e++) {
         size_t fresh;
+        if (without >> e & 1) continue;
         double cost = first_pairs(s, l, e, used, &fresh), shown = cost;
         if (cost >= best->shown) continue;
         if (weight > 1)
@@ -424,6 +429,16 @@ static void choose_of(const dezgula_solver *s, const system_left *l, uint32_t us
         if (shown >= best->shown) continue;
         best->e = e, best->fresh = fresh, best->shown = shown, best->cost = fresh == s->q ? LAST_EQUAL * cost : cost;
         if (l != &best->left) best->left = *l;
+    }
+}
+static void choose_as_is(const dezgula_solver *s, uint32_t used, choice *best)
+{
+    uint32_t without = 0;
+    choose_of(s, &best->left, used, 1, 0, best);
+    for (uint64_t rule = SECOND; rule <= s->rule && rule <= THIRD && s->run.record.done == 0 && best->shown < NEVER; rule++) {
+        without |= UINT32_C(1) << best->e;
+        best->shown = NEVER;
+        choose_of(s, &best->left, used, 1, without, best);
     }
 }
 /* Rule UNITS: the equations as they are or cleared, and each later equation that would have no fresh unknown counts. The others: as they are, the fewest
@@ -436,13 +451,13 @@ static void choose(const dezgula_solver *s, choice *best)
     find_left(s, &best->left);
     best->last = best->left.n == 1;
     if (s->rule != UNITS || best->last) {
-        choose_of(s, &best->left, used, 1, best);
+        choose_as_is(s, used, best);
         return;
     }
     system_left cleared = best->left;
     clear(&cleared, s->q, used);
-    choose_of(s, &best->left, used, WEIGHT, best);
-    choose_of(s, &cleared, used, WEIGHT, best);
+    choose_of(s, &best->left, used, WEIGHT, 0, best);
+    choose_of(s, &cleared, used, WEIGHT, 0, best);
 }
 
 /* ---- tries */
@@ -454,9 +469,29 @@ static uint64_t operate(dezgula_solver *s, const row_operation *o, size_t n)
     return answer;
 }
 static dezgula_system given_map(const dezgula_solver *s) { return (dezgula_system){s->given_p, s->given_q, s->given, s->given_p * s->given_q}; }
+/* the map as it is: with right sides, the system that the start makes of them */
+static dezgula_system plain_map(const dezgula_solver *s)
+{
+    const dezgula_system given = given_map(s);
+    return s->wanted == NULL ? given : (dezgula_system){given.p, given.q + 1, s->wanted->system, given.p * (given.q + 1)};
+}
+/* starts the reformulation of a map with right sides: the capped unknown is its first, so that its column is the right sides of the others, negated */
+static uint64_t start_form_sides(const dezgula_solver *s, dezgula_engine_run *run)
+{
+    static const uint32_t nothing[MOST];
+    int32_t coefs[COEFFICIENTS], rights[MOST];
+    const size_t q = s->q - 1;
+    for (size_t i = 0; i < s->p; i++) {
+        rights[i] = -s->coefs[i * s->q];
+        memcpy(coefs + i * q, s->coefs + i * s->q + 1, q * sizeof *coefs);
+    }
+    const dezgula_system map = {s->p, q, coefs, s->p * q};
+    return dezgula_engine_start_sides(&map, rights, s->p, nothing, q, run);
+}
 static uint64_t start(const dezgula_solver *s, dezgula_engine_run *run)
 {
     const dezgula_system given = given_map(s), map = {s->p, s->q, s->coefs, s->p * s->q};
+    if (s->wanted != NULL && s->form != NULL) return start_form_sides(s, run);
     if (s->wanted != NULL) return dezgula_engine_start_sides(&given, s->wanted->rights, given.p, s->wanted->lower, given.q, run);
     const dezgula_list list = {s->list, s->list_len, s->list_len / s->q};
     return s->list != NULL ? dezgula_engine_start_from(&map, &list, run) : dezgula_engine_start(&map, run);
@@ -506,7 +541,7 @@ static uint64_t next_try(dezgula_solver *s, uint64_t refusal)
     for (;;) {
         for (uint64_t i = 1; i <= RULES; i++) {
             uint64_t rule = (s->rule + i) % RULES;
-            const uint64_t turns = s->promised != UINT64_MAX ? s->promised : s->round;
+            const uint64_t turns = s->promised == UINT64_MAX ? s->round : s->list == NULL ? s->promised : s->promised / CLEARLY;
             if (s->over >> rule & 1 || s->tried[rule] >= turns) continue;
             s->tried[rule] = turns;
             return begin(s, rule, turns) == DEZGULA_STARTED ? 0 : DEZGULA_ENGINE_FULL;
@@ -613,19 +648,30 @@ static dezgula_solver *blank(size_t p, size_t q, const int32_t *coefs)
 /* looks for its reformulation; true where some minimal solution is seen to have a component above the limit */
 static bool find_form(dezgula_solver *s)
 {
-    const dezgula_system map = given_map(s);
+    const dezgula_system map = plain_map(s);
     bool beyond = false;
     s->looked = 1, s->form = malloc(sizeof *s->form);
-    if (s->form != NULL && reformulation_find(&map, s->form, &beyond)) return beyond;
+    if (s->form != NULL && reformulation_find(&map, s->wanted != NULL, s->form, &beyond)) return beyond;
     free(s->form);
     s->form = NULL;
     return beyond;
 }
-static void set_form(dezgula_solver *s) { set_map(s, s->given_q, s->given_q + s->form->further, s->form->other); }
+static void set_form(dezgula_solver *s)
+{
+    const size_t q = plain_map(s).q;
+    set_map(s, q, q + s->form->further, s->form->other);
+}
+/* each equation of a reformulation has its unit already, and where a list ties all unknowns none can; other orders are tried from a list, where there are so
+ * many equations */
+static uint64_t rules_left_out(const dezgula_solver *s)
+{
+    const uint64_t units = s->form != NULL || s->tied == UINT32_MAX, second = s->list == NULL || s->p < 2, third = s->list == NULL || s->p < 3;
+    return units << UNITS | second << SECOND | third << THIRD;
+}
 static uint64_t first_try(dezgula_solver *s)
 {
     s->round = FIRST_ROUND;
-    s->over = s->failed = s->form != NULL ? UINT64_C(1) << UNITS : 0; /* each equation of a reformulation has its unit already */
+    s->over = s->failed = rules_left_out(s);
     memset(s->tried, 0, sizeof s->tried);
     s->tried[AS_IS] = s->round;
     return begin(s, AS_IS, s->round);
@@ -641,7 +687,8 @@ static uint64_t leave_form(dezgula_solver *s)
     free(s->form);
     s->form = NULL;
     forget_try(s);
-    set_map(s, s->given_p, s->given_q, s->given);
+    const dezgula_system map = plain_map(s);
+    set_map(s, map.p, map.q, map.coefs);
     return first_try(s);
 }
 /* the rows of the tables get longer; false where there is no memory */
@@ -660,7 +707,7 @@ static uint64_t look_again(dezgula_solver *s)
 {
     if (find_form(s)) return s->phase = BEYOND, DEZGULA_COMPONENT;
     if (s->form == NULL) return DEZGULA_PAUSED;
-    if (!widen(s, s->given_q + s->form->further)) {
+    if (!widen(s, s->q + s->form->further)) {
         free(s->form);
         s->form = NULL;
         return DEZGULA_PAUSED;
@@ -670,6 +717,12 @@ static uint64_t look_again(dezgula_solver *s)
     uint64_t answer = first_try(s);
     if (answer != DEZGULA_STARTED) answer = leave_form(s);
     return answer == DEZGULA_STARTED ? (uint64_t)DEZGULA_PAUSED : answer;
+}
+/* the same before the first turn; DEZGULA_STARTED, or a refusal */
+static uint64_t look_first(dezgula_solver *s)
+{
+    const uint64_t answer = look_again(s);
+    return answer == DEZGULA_PAUSED || s->phase == BEYOND ? (uint64_t)DEZGULA_STARTED : answer;
 }
 static bool in_list(const uint32_t *rows, size_t len, size_t q)
 {
@@ -718,11 +771,8 @@ static dezgula_solver *new_solver(const dezgula_system *system, const dezgula_li
     dezgula_solver *s = blank(p, q, system->coefs);
     *answer = DEZGULA_ENGINE_FULL;
     if (s != NULL && (list == NULL || set_list(s, list->rows, list->rows_len))) {
-        const bool beyond = is_large(s) && find_form(s);
-        if (s->form != NULL) set_form(s);
         if (grow_basis(s, rows > s->q ? rows : s->q) && grow_table(s)) *answer = first_try(s);
-        if (s->form != NULL && *answer != DEZGULA_STARTED && *answer != DEZGULA_ENGINE_FULL) *answer = leave_form(s);
-        if (beyond) s->phase = BEYOND;
+        if (*answer == DEZGULA_STARTED && is_large(s)) *answer = look_first(s);
     }
     if (*answer == DEZGULA_STARTED) return s;
     dezgula_solver_free(s);
@@ -751,8 +801,10 @@ dezgula_solver *dezgula_solver_new_sides(const dezgula_system *system, const int
         if (lower != NULL) memcpy(s->wanted->lower, lower, q * sizeof *lower);
         *answer = start(s, &s->run);
         memcpy(s->coefs, s->equations, sizeof s->coefs);
+        memcpy(s->wanted->system, s->equations, sizeof s->equations);
     }
     if (*answer == DEZGULA_STARTED) *answer = first_try(s);
+    if (*answer == DEZGULA_STARTED && is_large(s)) *answer = look_first(s);
     if (*answer == DEZGULA_STARTED) return s;
     dezgula_solver_free(s);
     return NULL;
@@ -760,47 +812,53 @@ dezgula_solver *dezgula_solver_new_sides(const dezgula_system *system, const int
 dezgula_solver *dezgula_solver_new(const dezgula_system *system, uint64_t *answer) { return new_solver(system, NULL, answer); }
 dezgula_solver *dezgula_solver_new_from(const dezgula_system *system, const dezgula_list *list, uint64_t *answer) { return new_solver(system, list, answer); }
 
-/* the rows with `first` in the extra unknown, without it and with the bound added, from `to` on; how many */
-static size_t hand_rows(const dezgula_solver *s, uint32_t first, const uint32_t *bound, uint32_t *to)
+/* of `count` rows those with `first` in the extra unknown, without it and with the bound added, from `to` on; how many */
+static size_t hand_rows(const dezgula_solver *s, const uint32_t *row, uint32_t first, const uint32_t *bound, uint32_t *to)
 {
     size_t n = 0, q = s->given_q;
-    const uint32_t *row = s->run.basis;
-    for (size_t i = 0; i < s->run.record.count; i++, row += s->q) {
+    for (size_t i = 0; i < s->run.record.count; i++, row += q + 1) {
         if (row[0] != first) continue;
         for (size_t j = 0; j < q; j++) to[n * q + j] = row[1 + j] + (bound != NULL ? bound[j] : 0);
         n++;
     }
     return n;
 }
-/* room for the complete list as it is handed out; NULL where there is no memory */
-static uint32_t *room_for_list(const dezgula_solver *s)
+/* room for as many rows of q numbers as the complete list has, beside those of `others`; NULL where there is no memory */
+static uint32_t *room_for_list(const dezgula_solver *s, size_t q, size_t others)
 {
-    const size_t all = s->run.record.count * s->given_q * sizeof(uint32_t);
-    return bytes(s, s->run.words_len, s->run.sizes_len) + all > s->most ? NULL : malloc(all > 0 ? all : 1);
+    const size_t each = s->run.record.count * sizeof(uint32_t), all = each * q;
+    return bytes(s, s->run.words_len, s->run.sizes_len) + all + each * others > s->most ? NULL : malloc(all > 0 ? all : 1);
+}
+/* the complete list of a reformulation, without its further unknowns; DEZGULA_ENGINE_FULL where there is no memory for that */
+static uint64_t project(dezgula_solver *s)
+{
+    const size_t q = plain_map(s).q, count = s->run.record.count;
+    if (s->projected != NULL) return DEZGULA_COMPLETE;
+    s->projected = room_for_list(s, q, 0);
+    if (s->projected == NULL) return DEZGULA_ENGINE_FULL;
+    const dezgula_list list = {s->run.basis, count * s->q, count};
+    const uint64_t answer = dezgula_engine_project(q, s->form->further, &list, s->projected, count * q);
+    return answer == DEZGULA_ENGINE_PROJECTED ? (uint64_t)DEZGULA_COMPLETE : answer;
 }
 /* the complete list as it is handed out: without the further unknowns of a reformulation; with right sides or a lower bound both lists. DEZGULA_ENGINE_FULL
  * where there is no memory for that */
 static uint64_t hand_out(dezgula_solver *s)
 {
-    uint32_t **rows = s->wanted != NULL ? &s->wanted->rows : &s->projected;
-    if ((s->wanted == NULL && s->form == NULL) || *rows != NULL) return DEZGULA_COMPLETE;
-    *rows = room_for_list(s);
-    if (*rows == NULL) return DEZGULA_ENGINE_FULL;
-    if (s->wanted != NULL) {
-        s->wanted->loops = hand_rows(s, 0, NULL, *rows);
-        s->wanted->smallest = hand_rows(s, 1, s->wanted->lower, *rows + s->wanted->loops * s->given_q);
-        return DEZGULA_COMPLETE;
-    }
-    const dezgula_list list = {s->run.basis, s->run.record.count * s->q, s->run.record.count};
-    const uint64_t answer = dezgula_engine_project(s->given_q, s->form->further, &list, *rows, s->run.record.count * s->given_q);
-    return answer == DEZGULA_ENGINE_PROJECTED ? (uint64_t)DEZGULA_COMPLETE : answer;
+    const uint64_t answer = s->form != NULL ? project(s) : (uint64_t)DEZGULA_COMPLETE;
+    if (s->wanted == NULL || s->wanted->rows != NULL || answer != DEZGULA_COMPLETE) return answer;
+    const uint32_t *list = s->form != NULL ? s->projected : s->run.basis;
+    s->wanted->rows = room_for_list(s, s->given_q, s->form != NULL ? s->given_q + 1 : 0);
+    if (s->wanted->rows == NULL) return DEZGULA_ENGINE_FULL;
+    s->wanted->loops = hand_rows(s, list, 0, NULL, s->wanted->rows);
+    s->wanted->smallest = hand_rows(s, list, 1, s->wanted->lower, s->wanted->rows + s->wanted->loops * s->given_q);
+    return DEZGULA_COMPLETE;
 }
 static uint64_t turns(const dezgula_solver *s) { return s->past + s->run.record.steps.count; }
 /* one call of the engine, or the choice of the next equation; DEZGULA_PAUSED where there is more to do */
 static uint64_t step(dezgula_solver *s, uint64_t budget)
 {
     dezgula_engine_record *r = &s->run.record;
-    const bool may_look = !s->looked && s->list == NULL && s->wanted == NULL;
+    const bool may_look = !s->looked && s->list == NULL;
     uint64_t answer;
     if (may_look && turns(s) >= LATE_TURNS) return look_again(s);
     if (may_look && budget > LATE_TURNS - turns(s)) budget = LATE_TURNS - turns(s);
@@ -881,11 +939,11 @@ void dezgula_solver_free(dezgula_solver *s)
     free(s);
 }
 
-/* ---- a solver as words: a sign and the sizes of its map; where it has the sign of a reformulation, or of right sides and a lower bound, the map and those;
- * the numbers, the three systems, and the rows of the tables; and where it has the sign of a list, those of the list that it starts from, which are the words
- * left */
+/* ---- a solver as words: a sign and the sizes of its map; where it has the sign of right sides and a lower bound, the map and those; where it has the sign of
+ * a reformulation, its sizes, the map without right sides, and its numbers; then the numbers, the three systems, and the rows of the tables; and where it has
+ * the sign of a list, those of the list that it starts from, which are the words left */
 
-enum { SIGN = 0x445A4735, LIST_SIGN = 0x445A4736, SIDES_SIGN = 0x445A4737, FORM_SIGN = 0x445A4738 };
+enum { SIGN = 0x445A4739, LIST_SIGN, SIDES_SIGN, FORM_SIGN, SIDES_FORM_SIGN };
 enum { HEAD = 3, SIZES = 2, OWN = 12 + RULES, NUMBERS = OWN + 2 * RECORD };
 
 static void numbers_of(const dezgula_solver *s, uint64_t n[NUMBERS])
@@ -904,13 +962,15 @@ static void set_numbers(dezgula_solver *s, const uint64_t n[NUMBERS])
     s->run.record = dezgula_engine_unpack(n + OWN);
     s->kept_record = dezgula_engine_unpack(n + OWN + RECORD);
 }
-/* what stands between the head and the numbers */
-static size_t given_words(const dezgula_solver *s)
+/* the words of right sides and a lower bound, with the map; and those of a reformulation */
+static size_t sides_words(const dezgula_solver *s) { return s->wanted != NULL ? s->given_p * s->given_q + s->given_p + s->given_q : 0; }
+static size_t form_words(const dezgula_solver *s)
 {
-    const dezgula_system map = given_map(s);
-    if (s->wanted != NULL) return map.coefs_len + map.p + map.q;
-    return s->form != NULL ? SIZES + map.coefs_len + reformulation_length(&map, s->form) : 0;
+    const dezgula_system map = plain_map(s);
+    return s->form != NULL ? SIZES + (s->wanted != NULL ? 0 : map.coefs_len) + reformulation_length(&map, s->form) : 0;
 }
+/* what stands between the head and the numbers */
+static size_t given_words(const dezgula_solver *s) { return sides_words(s) + form_words(s); }
 static size_t fixed_words(const dezgula_solver *s) { return HEAD + given_words(s) + 2 * NUMBERS + 3 * s->p * s->q; }
 
 size_t dezgula_solver_saved_length(const dezgula_solver *s)
@@ -924,17 +984,19 @@ static uint32_t *put(uint32_t *to, const void *from, size_t n)
 }
 static uint32_t *put_given(const dezgula_solver *s, uint32_t *to)
 {
-    const dezgula_system map = given_map(s);
-    if (s->wanted != NULL) return put(put(put(to, map.coefs, map.coefs_len), s->wanted->rights, map.p), s->wanted->lower, map.q);
+    const dezgula_system given = given_map(s), map = plain_map(s);
+    if (s->wanted != NULL) to = put(put(put(to, given.coefs, given.coefs_len), s->wanted->rights, given.p), s->wanted->lower, given.q);
     if (s->form == NULL) return to;
     const uint32_t sizes[SIZES] = {(uint32_t)s->form->further, (uint32_t)s->form->operations};
-    uint32_t *at = put(put(to, sizes, SIZES), map.coefs, map.coefs_len);
+    uint32_t *at = put(to, sizes, SIZES);
+    if (s->wanted == NULL) at = put(at, map.coefs, map.coefs_len);
     reformulation_save(&map, s->form, at);
-    return to + given_words(s);
+    return to + form_words(s);
 }
 static uint32_t sign_of(const dezgula_solver *s)
 {
-    return s->wanted != NULL ? SIDES_SIGN : s->list != NULL ? LIST_SIGN : s->form != NULL ? FORM_SIGN : SIGN;
+    if (s->wanted != NULL) return s->form != NULL ? SIDES_FORM_SIGN : SIDES_SIGN;
+    return s->list != NULL ? LIST_SIGN : s->form != NULL ? FORM_SIGN : SIGN;
 }
 void dezgula_solver_save(const dezgula_solver *s, uint32_t *words)
 {
@@ -985,17 +1047,13 @@ static bool load_tables(dezgula_solver *s, const uint32_t *from, bool from_list,
     memcpy(s->kept, from, s->kept_len * sizeof *from), from += s->kept_len;
     return !from_list || set_list(s, from, listed);
 }
-/* whether the coefficients of the map that is listed are in range, and with right sides they are those that a start writes */
+/* whether the coefficients of the map that is listed are in range, or they are those of the start for right sides, or of the reformulation */
 static bool own_system(const dezgula_solver *s)
 {
-    for (size_t k = 0; s->wanted == NULL && k < s->p * s->q; k++)
+    const int32_t *system = s->form != NULL ? s->form->other : s->wanted != NULL ? s->wanted->system : s->coefs;
+    for (size_t k = 0; system == s->coefs && k < s->p * s->q; k++)
         if (s->coefs[k] < -DEZGULA_COEFFICIENT_LIMIT || s->coefs[k] > DEZGULA_COEFFICIENT_LIMIT) return false;
-    if (s->wanted == NULL) return true;
-    int32_t equations[COEFFICIENTS] = {0};
-    uint32_t basis[COEFFICIENTS], sizes[MOST];
-    dezgula_engine_run run = {.equations = equations, .equations_len = s->p * s->q, .basis = basis, .basis_len = COEFFICIENTS};
-    run.sizes = sizes, run.sizes_len = MOST;
-    return start(s, &run) == DEZGULA_STARTED && memcmp(equations, s->coefs, s->p * s->q * sizeof *equations) == 0;
+    return memcmp(system, s->coefs, s->p * s->q * sizeof *system) == 0;
 }
 /* The engine's call looks at everything before its first turn; a solver reads rows and equations before it makes the next call, so it is asked first. */
 static bool in_order(const dezgula_solver *s)
@@ -1010,38 +1068,46 @@ static bool in_order(const dezgula_solver *s)
     kept.equations = equations, kept.basis = s->kept, kept.basis_len = kept_room(s), kept.record = s->kept_record;
     return dezgula_engine_resume(s->p, s->q, &kept, 0) == DEZGULA_PAUSED;
 }
-/* the reformulation from the words after the head; false where they do not show it, or there is no memory, which *answer then tells */
-static bool load_form(dezgula_solver *s, const uint32_t *words, size_t length, uint64_t *answer)
+/* the reformulation from the words left at `from`; false where they do not show it, or there is no memory, which *answer then tells */
+static bool load_form(dezgula_solver *s, const uint32_t *from, size_t left, uint64_t *answer)
 {
-    const dezgula_system map = given_map(s);
-    const uint32_t *from = words + HEAD;
-    if (length < HEAD + SIZES + map.coefs_len || s->given_q > REFORMULATED_UNKNOWNS) return false;
-    if (from[0] > REFORMULATED_FURTHER || from[1] > REFORMULATED_OPERATIONS) return false;
+    const dezgula_system map = plain_map(s);
+    const size_t more = s->wanted != NULL, own = s->wanted != NULL ? 0 : map.coefs_len;
+    if (left < SIZES + own || map.q > REFORMULATED_UNKNOWNS + more) return false;
+    if (from[0] > REFORMULATED_FURTHER + more || from[1] > REFORMULATED_OPERATIONS) return false;
     s->form = calloc(1, sizeof *s->form);
     if (s->form == NULL) return *answer = DEZGULA_ENGINE_FULL, false;
     s->form->further = from[0], s->form->operations = from[1];
-    memcpy(s->given, from + SIZES, map.coefs_len * sizeof *from);
-    if (length < HEAD + given_words(s) || !reformulation_load(&map, from + SIZES + map.coefs_len, s->form)) return false;
+    memcpy(s->given, from + SIZES, own * sizeof *from);
+    if (left < form_words(s) || !reformulation_load(&map, from + SIZES + own, s->form)) return false;
     set_form(s);
     return true;
 }
-/* right sides and a lower bound from the words after the head */
-static bool load_sides(dezgula_solver *s, const uint32_t *words, size_t length, uint64_t *answer)
+/* the system that the start for right sides makes of them; false where it refuses them */
+static bool find_system(dezgula_solver *s)
 {
-    const uint32_t *from = words + HEAD;
+    uint32_t basis[COEFFICIENTS], sizes[MOST];
+    dezgula_engine_run run = {.equations = s->wanted->system, .equations_len = s->p * s->q, .basis = basis, .basis_len = COEFFICIENTS};
+    run.sizes = sizes, run.sizes_len = MOST;
+    return start(s, &run) == DEZGULA_STARTED;
+}
+/* right sides and a lower bound from the words left at `from` */
+static bool load_sides(dezgula_solver *s, const uint32_t *from, size_t left, uint64_t *answer)
+{
     const size_t p = s->given_p, q = s->given_q;
     if (q == MOST) return false;
     if (!set_sides(s)) return *answer = DEZGULA_ENGINE_FULL, false;
-    if (length < HEAD + given_words(s)) return false;
+    if (left < sides_words(s)) return false;
     memcpy(s->given, from, p * q * sizeof *from);
     memcpy(s->wanted->rights, from + p * q, p * sizeof *from);
     memcpy(s->wanted->lower, from + p * q + p, q * sizeof *from);
-    return true;
+    return find_system(s);
 }
 static bool load_given(dezgula_solver *s, const uint32_t *words, size_t length, uint64_t *answer)
 {
-    if (words[0] == SIDES_SIGN) return load_sides(s, words, length, answer);
-    return words[0] != FORM_SIGN || load_form(s, words, length, answer);
+    const bool sides = words[0] == SIDES_SIGN || words[0] == SIDES_FORM_SIGN, form = words[0] == FORM_SIGN || words[0] == SIDES_FORM_SIGN;
+    if (sides && !load_sides(s, words + HEAD, length - HEAD, answer)) return false;
+    return !form || load_form(s, words + HEAD + sides_words(s), length - HEAD - sides_words(s), answer);
 }
 /* the numbers, and the tables; DEZGULA_STARTED, or what it is refused with */
 static uint64_t load_run(dezgula_solver *s, const uint32_t *words, size_t length)
@@ -1058,7 +1124,6 @@ static uint64_t load_run(dezgula_solver *s, const uint32_t *words, size_t length
     if (others > length || (from_list ? listed % s->q != 0 : listed != 0)) return DEZGULA_OUT_OF_ORDER;
     if (!load_tables(s, from + 2 * NUMBERS, from_list, listed)) return DEZGULA_ENGINE_FULL;
     if (s->form == NULL && s->wanted == NULL) memcpy(s->given, s->coefs, s->p * s->q * sizeof *s->coefs);
-    if (s->form != NULL && memcmp(s->form->other, s->coefs, s->p * s->q * sizeof *s->coefs) != 0) return DEZGULA_OUT_OF_ORDER;
     if (!in_order(s)) return DEZGULA_OUT_OF_ORDER;
     return s->phase == COMPLETE && hand_out(s) != DEZGULA_COMPLETE ? (uint64_t)DEZGULA_ENGINE_FULL : (uint64_t)DEZGULA_STARTED;
 }
@@ -1067,7 +1132,7 @@ dezgula_solver *dezgula_solver_load(const uint32_t *words, size_t length, uint64
     static const int32_t none[COEFFICIENTS];
     *answer = DEZGULA_OUT_OF_ORDER;
     if (words == NULL || length < HEAD || words[1] < 1 || words[1] > MOST || words[2] < 1 || words[2] > MOST) return NULL;
-    if (words[0] < SIGN || words[0] > FORM_SIGN) return NULL;
+    if (words[0] < SIGN || words[0] > SIDES_FORM_SIGN) return NULL;
     dezgula_solver *s = blank(words[1], words[2], none);
     if (s == NULL) return *answer = DEZGULA_ENGINE_FULL, NULL;
     if (load_given(s, words, length, answer)) *answer = load_run(s, words, length);

@@ -4,6 +4,9 @@
  * other map, -x + B y = 0, has the same minimal solutions, with y beside x. Each of its stages has a fresh unknown, and the first begins with as many rows
  * as there are coordinates.
  *
+ * Where only solutions with at most 1 in the first unknown are wanted, that unknown is itself the first coordinate, if whole coordinates can have it: then no
+ * row has more than 1 in it from the beginning.
+ *
  * Nothing here is trusted: the numbers that show it are looked at by dezgula_engine_reformulates, and where that does not say yes, or a number gets too large
  * on the way, there is no reformulation. So lattices are reduced in floating point. */
 #include "reformulate.h"
@@ -12,8 +15,9 @@
 #include <stdlib.h>
 #include <string.h>
 
-enum { MOST = DEZGULA_ENGINE_MOST, WIDE = 2 * MOST, MOST_RAYS = 1024, MOST_CHOICES = 500000, TURNS = 500 };
-static const int64_t LARGE = INT64_C(1) << 29; /* numbers of a lattice stay below it, so that 16 products of them add up within 64 bits */
+enum { MOST = DEZGULA_ENGINE_MOST, WIDE = 2 * MOST, MOST_RAYS = 1024, MOST_CHOICES = 2000000, TURNS = 500 };
+enum { COORDINATES = REFORMULATED_FURTHER + 1 }; /* at most */
+static const int64_t LARGE = INT64_C(1) << 29; /* numbers of a lattice stay below it, so that 17 products of them add up within 64 bits */
 static const int64_t MULTIPLIER_LIMIT = INT64_C(1000000000000), WORKING_LIMIT = INT64_C(1000000); /* of the engine's calls */
 static const double SLIGHT = 1e-3; /* the weight of a coordinate's own numbers beside its values on the rays */
 
@@ -30,12 +34,13 @@ typedef struct {
 
 typedef struct {
     size_t p, q, n; /* n coordinates */
+    bool capped;
     const int32_t *coefs;
     size_t rank, equations[MOST]; /* as many equations, of which all others are sums */
     matrix lattice;               /* n rows of q: the whole solutions, at first in any coordinates */
-    bool beyond; /* one of the rays has a component above the limit */
+    bool beyond; /* one of the rays that are wanted has a component above the limit */
     size_t rays;
-    int64_t ray[MOST_RAYS][REFORMULATED_FURTHER]; /* of the natural solutions, in these coordinates */
+    int64_t ray[MOST_RAYS][COORDINATES]; /* of the natural solutions, in these coordinates */
     points measure, units;                    /* the rays, each by its degree; and the unknowns */
     matrix inverse;                           /* column i as row i, of the matrix whose rows are the coordinates chosen */
     matrix by, back;                          /* B, q rows of n, and U, n rows of q */
@@ -222,7 +227,7 @@ static bool find_lattice(search *s)
     s->n = s->lattice.rows = s->q - s->rank, s->lattice.width = s->q;
     for (size_t i = 0; i < s->n; i++) memcpy(s->lattice.at[i], m.at[s->rank + i] + s->p, s->q * sizeof *m.at[i]);
     unit_points(&s->units, s->q, 1);
-    return s->n >= 1 && s->n <= REFORMULATED_FURTHER && reduce_lattice(&s->lattice, &s->units);
+    return s->n >= 1 && s->n <= REFORMULATED_FURTHER + (size_t)s->capped && reduce_lattice(&s->lattice, &s->units);
 }
 static size_t members(uint32_t set)
 {
@@ -230,14 +235,15 @@ static size_t members(uint32_t set)
     for (; set != 0; set &= set - 1) n++;
     return n;
 }
-/* the solution with these coordinates is at or above 0 in every unknown; its degree, and its largest component */
-static bool is_natural(const search *s, const int64_t *y, double *degree, int64_t *most)
+/* the solution with these coordinates is at or above 0 in every unknown; its degree, its first component and its largest one */
+static bool is_natural(const search *s, const int64_t *y, double *degree, int64_t *first, int64_t *most)
 {
     *degree = 0, *most = 0;
     for (size_t j = 0; j < s->q; j++) {
         int64_t x = 0;
         for (size_t i = 0; i < s->n; i++) x += y[i] * s->lattice.at[i][j];
         if (x < 0) return false;
+        if (j == 0) *first = x;
         *degree += (double)x;
         if (x > *most) *most = x;
     }
@@ -253,10 +259,10 @@ static bool are_small(const int64_t *t, size_t n)
 static bool add_ray(search *s, const int64_t *y)
 {
     double degree;
-    int64_t most;
+    int64_t first, most;
     if (!are_small(y, s->n)) return false;
-    if (!is_natural(s, y, &degree, &most)) return true;
-    s->beyond |= most > DEZGULA_COMPONENT_LIMIT;
+    if (!is_natural(s, y, &degree, &first, &most)) return true;
+    s->beyond |= most > DEZGULA_COMPONENT_LIMIT && (!s->capped || first <= 1);
     for (size_t k = 0; k < s->rays; k++)
         if (memcmp(s->ray[k], y, s->n * sizeof *y) == 0) return true;
     if (s->rays == MOST_RAYS) return false;
@@ -323,7 +329,7 @@ static bool take_coordinate(search *s, size_t chosen, const int64_t *t)
 }
 /* a sum of multiples of the reduced ones, each from -reach to reach */
 typedef struct {
-    int64_t multiple[REFORMULATED_FURTHER], sum[REFORMULATED_FURTHER];
+    int64_t multiple[COORDINATES], sum[COORDINATES];
 } choice;
 
 /* the next one; false after the last, where it is the first again */
@@ -375,6 +381,15 @@ static void set_unit(matrix *m, size_t n, size_t width)
     m->rows = n, m->width = width;
     for (size_t i = 0; i < n; i++) m->at[i][i] = 1;
 }
+/* the unknown with the cap is the first coordinate, where it can be; false where a number gets too large */
+static bool take_first(search *s, size_t *chosen)
+{
+    int64_t first[COORDINATES];
+    for (size_t i = 0; i < s->n; i++) first[i] = s->lattice.at[i][0];
+    if (!s->capped || !extends(s, 0, first)) return true;
+    *chosen = 1;
+    return take_coordinate(s, 0, first);
+}
 /* x by the coordinates chosen */
 static bool find_coordinates(search *s)
 {
@@ -383,7 +398,9 @@ static bool find_coordinates(search *s)
     set_unit(&s->inverse, s->n, s->n + 1);
     unit_points(&s->measure, s->n, SLIGHT);
     if (!reduce_lattice(&reduced, &s->measure)) return false;
-    for (size_t chosen = 0; chosen < s->n; chosen++)
+    size_t chosen = 0;
+    if (!take_first(s, &chosen)) return false;
+    for (; chosen < s->n; chosen++)
         if (!choose_coordinate(s, &reduced, chosen)) return false;
     s->by.rows = s->q, s->by.width = s->n;
     for (size_t k = 0; k < s->q * s->n; k++) {
@@ -590,13 +607,13 @@ static bool is_shown(const dezgula_system *system, const reformulation *r)
     const dezgula_reformulation by = numbers_of(system, r);
     return dezgula_engine_reformulates(system, &by) == DEZGULA_ENGINE_SAME_LOOPS;
 }
-bool reformulation_find(const dezgula_system *system, reformulation *r, bool *beyond)
+bool reformulation_find(const dezgula_system *system, bool capped, reformulation *r, bool *beyond)
 {
     search *s = calloc(1, sizeof *s);
     if (s == NULL) return false;
-    s->p = system->p, s->q = system->q, s->coefs = system->coefs;
+    s->p = system->p, s->q = system->q, s->coefs = system->coefs, s->capped = capped;
     memset(r, 0, sizeof *r);
-    const bool all = s->q <= REFORMULATED_UNKNOWNS && find_lattice(s) && find_rays(s) && find_coordinates(s) && find_back(s) && show(s, r);
+    const bool all = s->q <= REFORMULATED_UNKNOWNS + (size_t)capped && find_lattice(s) && find_rays(s) && find_coordinates(s) && find_back(s) && show(s, r);
     r->further = s->n, *beyond = s->beyond;
     free(s);
     return all && is_shown(system, r);

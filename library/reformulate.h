@@ -12,7 +12,7 @@ typedef struct {
     int64_t times;
 } row_operation;
 
-enum { REFORMULATED_UNKNOWNS = 16, REFORMULATED_FURTHER = 8, REFORMULATED_OPERATIONS = 64 };
+enum { REFORMULATED_UNKNOWNS = 16, REFORMULATED_FURTHER = 8, REFORMULATED_OPERATIONS = 64 }; /* one more of the first two with right sides */
 
 /* The other map has one equation for each unknown of the map, and `further` unknowns more than it. When the operations are undone, each equation is the only
  * one to have its unknown, with the coefficient -1. */
@@ -24,11 +24,11 @@ typedef struct {
     row_operation undo[REFORMULATED_OPERATIONS];
 } reformulation;
 
-/* Looks for one; false where there is none. That both maps have the same minimal solutions is then shown: the engine's call has said so. *beyond tells
- * whether some minimal solution is seen to have a component above the limit. */
-bool reformulation_find(const dezgula_system *system, reformulation *found, bool *beyond);
+/* Looks for one; false where there is none. That both maps have the same minimal solutions is then shown: the engine's call has said so. Where `capped`, only
+ * those with at most 1 in the first unknown are wanted. *beyond tells whether some wanted minimal solution is seen to have a component above the limit. */
+bool reformulation_find(const dezgula_system *system, bool capped, reformulation *found, bool *beyond);
 
-/* Its words, how many, and back; The two sizes are set by whoever loads it, within their limits. False where the words do not show it. */
+/* Its words, how many, and back; the two sizes are set by whoever loads it, within their limits. False where the words do not show it. */
 size_t reformulation_length(const dezgula_system *system, const reformulation *r);
 void reformulation_save(const dezgula_system *system, const reformulation *r, uint32_t *words);
 bool reformulation_load(const dezgula_system *system, const uint32_t *words, reformulation *r);

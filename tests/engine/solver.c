@@ -236,38 +236,45 @@ static void same_rows(const uint32_t *rows, size_t n, size_t q, const uint32_t *
     free(copy);
 }
 /* both lists are those of the system with the extra unknown written out, without a cap, however the run is cut and carried */
-static void wanted(void)
+static void both_lists(size_t p, size_t q, const int32_t *coefs, const int32_t *rights, const uint32_t *lower)
 {
     static const uint64_t budgets[4] = {1, 13, 0, 0};
-    for (int n = 0; n < 200; n++) {
+    int32_t whole[3 * 6];
+    uint64_t answer;
+    for (size_t i = 0; i < p; i++) {
+        whole[i * (q + 1)] = -rights[i];
+        for (size_t j = 0; j < q; j++) whole[i * (q + 1)] += coefs[i * q + j] * (int32_t)lower[j], whole[i * (q + 1) + 1 + j] = coefs[i * q + j];
+    }
+    dezgula_system map = {p, q, coefs, p * q};
+    dezgula_solver *other = finish(solver_of(p, q + 1, whole, &answer), 0, false);
+    size_t loops, smallest, count;
+    uint32_t *at_0 = written_out(other, q, 0, lower, &loops), *at_1 = written_out(other, q, 1, lower, &smallest);
+    for (int i = 0; i < 4; i++) {
+        dezgula_solver *s = finish(dezgula_solver_new_sides(&map, rights, lower, &answer), budgets[i], i != 3);
+        if (i != 3) s = carry(s);
+        const uint32_t *rows = dezgula_solver_rows(s, &count);
+        same_rows(rows, count, q, at_0, loops);
+        rows = dezgula_solver_smallest(s, &count);
+        same_rows(rows, count, q, at_1, smallest);
+        dezgula_system told = dezgula_solver_system(s);
+        is(told.p == p && told.q == q && memcmp(told.coefs, coefs, p * q * sizeof *coefs) == 0, "a solver with right sides is for its map");
+        dezgula_solver_free(s);
+    }
+    free(at_0), free(at_1);
+    dezgula_solver_free(other);
+}
+/* coefficients up to 3, and up to 20, where the map is listed by a reformulation */
+static void wanted(void)
+{
+    for (int n = 0; n < 300; n++) {
         const size_t p = 1 + draw(3), q = 1 + draw(5);
-        int32_t coefs[3 * 5], whole[3 * 6], rights[3];
+        const int32_t most = n % 3 == 2 ? 20 : 3;
+        int32_t coefs[3 * 5], rights[3];
         uint32_t lower[5];
-        uint64_t answer;
-        for (size_t i = 0; i < p * q; i++) coefs[i] = (int32_t)draw(7) - 3;
+        for (size_t i = 0; i < p * q; i++) coefs[i] = (int32_t)draw(2 * (uint64_t)most + 1) - most;
         for (size_t i = 0; i < p; i++) rights[i] = draw(3) ? (int32_t)draw(9) - 4 : 0;
         for (size_t j = 0; j < q; j++) lower[j] = n % 2 ? (uint32_t)draw(3) : 0;
-        for (size_t i = 0; i < p; i++) {
-            whole[i * (q + 1)] = -rights[i];
-            for (size_t j = 0; j < q; j++) whole[i * (q + 1)] += coefs[i * q + j] * (int32_t)lower[j], whole[i * (q + 1) + 1 + j] = coefs[i * q + j];
-        }
-        dezgula_system map = {p, q, coefs, p * q};
-        dezgula_solver *other = finish(solver_of(p, q + 1, whole, &answer), 0, false);
-        size_t loops, smallest, count;
-        uint32_t *at_0 = written_out(other, q, 0, lower, &loops), *at_1 = written_out(other, q, 1, lower, &smallest);
-        for (int i = 0; i < 4; i++) {
-            dezgula_solver *s = finish(dezgula_solver_new_sides(&map, rights, n % 2 ? lower : NULL, &answer), budgets[i], i != 3);
-            if (i != 3) s = carry(s);
-            const uint32_t *rows = dezgula_solver_rows(s, &count);
-            same_rows(rows, count, q, at_0, loops);
-            rows = dezgula_solver_smallest(s, &count);
-            same_rows(rows, count, q, at_1, smallest);
-            dezgula_system told = dezgula_solver_system(s);
-            is(told.p == p && told.q == q && memcmp(told.coefs, coefs, p * q * sizeof *coefs) == 0, "a solver with right sides is for its map");
-            dezgula_solver_free(s);
-        }
-        free(at_0), free(at_1);
-        dezgula_solver_free(other);
+        both_lists(p, q, coefs, rights, lower);
     }
 }
 static void refused_sides(void)
@@ -372,9 +379,9 @@ static void damaged_words(void)
         }
         if (n % 8 == 6) {
             const int32_t rights[2] = {3, -2};
-            dezgula_system map = {2, 6, coefs, 12};
+            dezgula_system map = {2, 6, coefs, 12}, other = {2, 4, reformulated, 8};
             dezgula_solver_free(solver);
-            solver = dezgula_solver_new_sides(&map, rights, NULL, &answer);
+            solver = dezgula_solver_new_sides(n % 16 == 6 ? &map : &other, rights, NULL, &answer);
         }
         (void)!dezgula_solver_work(solver, n % 4 ? 1 + draw(400) : 9000 + draw(3000));
         uint32_t *words = saved(solver, &length);
