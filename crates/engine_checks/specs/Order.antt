@@ -10,12 +10,11 @@ use native.Mathlib.Omega.{arith}
 use borrow.Author.Tests.{le-leb, le-ltb, leb-true, lt-leb, lt-ltb, not-false, not-true}
 use lib.Dec.{T, leb, ltb}
 use lib.ListN.{length}
-use Rattle.linear.specs.TestLaws.{all-at, all-from, and-both, and-parts}
+use Rattle.linear.specs.TestLaws.{T-same, all-at, all-from, and-both, and-parts}
 use Rattle.linear.specs.Tests.{allTo}
 use Rattle.linear.specs.Tuples.{total}
 use Rattle.definitions.specs.Refusals.{stepLimit}
 use Rattle.definitions.specs.Tables.{at}
-use Rattle.laws.specs.SweepLaws.{T-same}
 use Rattle.engine_spec.specs.Beside.{SmallTable}
 use Rattle.engine_spec.specs.Calls.{coefficientsSmall, inOrder, isRising, isRow, marksInOrder}
 use Rattle.engine_spec.specs.Engine.{Work, basisRow}
