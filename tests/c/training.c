@@ -84,7 +84,7 @@ static void at_twenty(void)
 /* From a lower bound: 1 -1 from 0 2 has 2 2; a bound of 20 and of 21; a child past 20 in the walk above the bound. */
 static void from_a_bound(void)
 {
-    static const int32_t coefs[] = {1, -1}, steep[] = {2, -1};
+    static const int32_t coefs[] = {1, -1}, doubled[] = {2, -1};
     static const uint32_t low[] = {0, 2}, edge[] = {20, 0}, past[] = {0, 21}, near[] = {20, 19};
     dezgula_system map = {1, 2, coefs, 2};
     dezgula_run run = lend(LIST);
@@ -102,7 +102,7 @@ static void from_a_bound(void)
     expect(answer == DEZGULA_TUPLE_RANGE && memcmp(&run.record, &before.record, sizeof run.record) == 0, "a bound of 21 is refused");
     expect(dezgula_start_from(&map, past, 2, &run) == DEZGULA_STARTED, "the office takes it");
     expect(dezgula_start_training_from(&map, low, 1, &run) == DEZGULA_TUPLE_LENGTH, "a bound of another length");
-    map.coefs = steep;
+    map.coefs = doubled;
     expect(dezgula_start_training_from(&map, near, 2, &run) == DEZGULA_STARTED, "2 -1 from 20 19");
     answer = dezgula_resume_training_from(&map, near, 2, &run, 1000);
     expect(answer == DEZGULA_TRAINING_COMPONENT && run.record.kind == DEZGULA_RUN_FROM_ABOVE, "would pass 20 above the bound");

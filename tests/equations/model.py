@@ -82,7 +82,7 @@ class Reading:
         self.parts = re.findall(r"x?[0-9]+|[-+*()=]", text)
         self.at = 0
         self.deepest = 0
-        self.steep = False
+        self.exceeds = False
 
     def sum(self, depth, product):
         total, sign = {}, 1
@@ -112,7 +112,7 @@ class Reading:
         if part[0] == "x":
             return {int(part[1:]): times}
         self.deepest = max(self.deepest, depth + 1)
-        self.steep = self.steep or product * times > LIMIT
+        self.exceeds = self.exceeds or product * times > LIMIT
         inner = self.sum(depth + 1, product * times)
         self.at += 1
         return {k: times * v for k, v in inner.items()}
@@ -135,7 +135,7 @@ def read(text, q, n=None):
     right = r.sum(0, 1)
     if r.deepest > 8:
         return ("refused", 17)
-    if r.steep:
+    if r.exceeds:
         return ("refused", 18)
     row = [left.get(k, 0) - right.get(k, 0) for k in range(1, q + 1)]
     for k, c in enumerate(row, 1):

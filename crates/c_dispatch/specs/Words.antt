@@ -92,7 +92,7 @@ abbrev pub writeCounts : List ℕ → ℕ → tables.Record → List ℕ
 writeCounts words at r = set (set (set words at (r .height)) (at + 1) (r .found)) (at + 2) (r .steps)
 
 abbrev pub writeOthers : List ℕ → ℕ → tables.Record → List ℕ
-writeOthers words at r = set (set (set (set words (at + 3) (runNumber (r .kind))) (at + 4) (r .found₂)) (at + 5) (r .steps₂)) (at + 6) (r .deepest)
+writeOthers words at r = set (set (set (set words (at + 3) (runNumber (r .kind))) (at + 4) (r .found2)) (at + 5) (r .steps2)) (at + 6) (r .deepest)
 
 abbrev pub writeIf : Bool → List ℕ → ℕ → tables.Record → List ℕ
 writeIf true words at r = writeOthers (writeCounts words at r) at r

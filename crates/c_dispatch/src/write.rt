@@ -73,8 +73,8 @@ fn others(words: &mut [u64], at: usize, r: Record)
 {
     let kind = r.kind;
     words[at + 3] = calls::run_number(kind);
-    words[at + 4] = r.second.0 as u64;
-    words[at + 5] = r.before.0;
+    words[at + 4] = r.found2.0 as u64;
+    words[at + 5] = r.steps2.0;
     words[at + 6] = r.deepest;
 }
 

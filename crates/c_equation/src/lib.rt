@@ -73,7 +73,7 @@ pub fn number_of(why: EquationRefusal) -> u64
         EquationRefusal::Row => 3,
         EquationRefusal::Grammar(_) => 16,
         EquationRefusal::Depth => 17,
-        EquationRefusal::Steep => 18,
+        EquationRefusal::Multiplier => 18,
         EquationRefusal::Coefficient(_) => 7,
         EquationRefusal::RightSide => 15,
     }
@@ -89,7 +89,7 @@ pub fn value_of(why: EquationRefusal) -> usize
         EquationRefusal::Row => 0,
         EquationRefusal::Grammar(place) => place,
         EquationRefusal::Depth => 0,
-        EquationRefusal::Steep => 0,
+        EquationRefusal::Multiplier => 0,
         EquationRefusal::Coefficient(place) => place,
         EquationRefusal::RightSide => 0,
     }

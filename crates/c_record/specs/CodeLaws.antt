@@ -14,7 +14,7 @@ use Rattle.definitions.specs.Answers.{Answer, Check, refuse, go, refuseWith, re
 use Rattle.definitions.specs.Input.{Extra, Input, aboveSystem, alone, mapOf, rights, systemOf}
 use Rattle.definitions.specs.Machine.{Machine, Outcome, call, checked, unlessDone, walk}
 use Rattle.definitions.specs.System.{System, mostEquations, mostUnknowns}
-use Rattle.definitions.specs.Tables.{Run, State, byWalk, cappedRun, deskByDesk, lowerAbove, lowerPlain, plainPart, plainRun}
+use Rattle.definitions.specs.Tables.{RunKind, State, byWalk, cappedRun, deskByDesk, lowerAbove, lowerPlain, plainPart, plainRun}
 use Rattle.definitions.specs.Refusals.{between, check1, check15, check4, check5, check6, check6From, check7, check8, numbersCheck, rangeChecks, unknownsCheck}
 use Rattle.definitions.specs.Refusals.{lowerChecks, misnumbered, mostFor, resumeChecks, resumeFromChecks, searchChecks, shapeThen, startChecks}
 use Rattle.definitions.specs.Calls.{machine, machineFrom, resume, resumeFrom, searchFrom, start, startFrom}
@@ -125,7 +125,7 @@ small-search m s =
     small-if _ 12 (omega arith)))
 
 -- the walk under way
-small-walk : (r : Run) (c d : Check) → Small c → Small d → Small (byWalk r c d)
+small-walk : (r : RunKind) (c d : Check) → Small c → Small d → Small (byWalk r c d)
 small-walk plainRun c d a b = b
 small-walk cappedRun c d a b = b
 small-walk lowerPlain c d a b = a

@@ -24,7 +24,7 @@ use Rattle.calls.specs.Paper.{checkOf, kindOf, numberOf, runOf, stateWith, valu
 use Rattle.calls.specs.declared.Check as values-check
 use Rattle.calls.specs.declared.Check.the-variants.{Refuse, Pass}
 use Rattle.calls.specs.declared.Refusal.{Refusal}
-use Rattle.calls.specs.declared.Run.the-variants.{LowerAbove}
+use Rattle.calls.specs.declared.RunKind.the-variants.{LowerAbove}
 use Rattle.c_record.specs.Codes.{code, refusalCode}
 use Rattle.c_record.specs.CodeLaws.{Small, small-resume, within}
 use Rattle.c_record.specs.Words.{heightIf, kindAt, recordAt, recordIn, startOn, told, toldBoth, wordsLeft, wordsOf}

@@ -12,8 +12,8 @@ use Rattle.definitions.specs.Tables as tables
 use Rattle.definitions.specs.Tables.{State, runNumber}
 use Rattle.calls.specs.Paper.{recordOf, stateOf, stateWith}
 use Rattle.calls.specs.declared.Record.{Record}
-use Rattle.calls.specs.declared.Run.{Run}
-use Rattle.calls.specs.declared.Run.the-variants.{Plain, Capped, LowerPlain, LowerAbove, Desks}
+use Rattle.calls.specs.declared.RunKind.{RunKind}
+use Rattle.calls.specs.declared.RunKind.the-variants.{Plain, Capped, LowerPlain, LowerAbove, Desks}
 use Rattle.c_record.specs.Codes.{code}
 
 -- A run record is seven words: height, solutions found, steps taken; the kind of the run by its number; the solutions in the second list, the steps of the
@@ -21,12 +21,12 @@ use Rattle.c_record.specs.Codes.{code}
 abbrev pub isRecord : List ℕ → Bool
 isRecord words = eqb (length words) 7
 
-abbrev pub ifRun : Bool → Run → Run → Run
+abbrev pub ifRun : Bool → RunKind → RunKind → RunKind
 ifRun true r s = r
 ifRun false r s = s
 
 -- the kind of run of a number; one that is no kind's must not read as a run desk by desk, which alone may have a height above 16
-abbrev pub kindAt : ℕ → Run
+abbrev pub kindAt : ℕ → RunKind
 kindAt n = ifRun (eqb n 0) Plain (ifRun (eqb n 1) Capped (ifRun (eqb n 2) LowerPlain (ifRun (eqb n 4) Desks LowerAbove)))
 
 -- "6: run record or tables out of order": a number that is no kind's, and another number of words, read as a record that is, its height being above any number
@@ -50,7 +50,7 @@ recordIn words = recordIf (isRecord words) words
 -- call goes on with it: so a call that is refused before its walk leaves the words (`kept-words` in WordLaws)
 abbrev pub wordsOf : List ℕ → tables.Record → List ℕ
 wordsOf words r =
-    set (set (set (set (set (set (set words 0 (r .height)) 1 (r .found)) 2 (r .steps)) 3 (runNumber (r .kind))) 4 (r .found₂)) 5 (r .steps₂)) 6 (r .deepest)
+    set (set (set (set (set (set (set words 0 (r .height)) 1 (r .found)) 2 (r .steps)) 3 (runNumber (r .kind))) 4 (r .found2)) 5 (r .steps2)) 6 (r .deepest)
 
 abbrev pub wordsIf : Bool → List ℕ → tables.Record → List ℕ
 wordsIf true words r = wordsOf words r

@@ -7,6 +7,7 @@ ghost use Rattle.c_record.specs.Words.{wordsLeft};
 use calls::Outcome;
 
 pub mod answers; // answers.rt: an answer as one number
+pub mod misfit; // misfit.rt: what a start is told whose words are no record
 pub mod words; // words.rt: the run record as words
 
 // Puts the run record back, and gives the answer as a number.

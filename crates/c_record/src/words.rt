@@ -5,7 +5,7 @@ ghost use Rattle.c_record.specs.Words.{heightIf, kindAt, recordIn, words
 ghost use lib.Dec.{ltb};
 ghost use lib.ListN.{length, set};
 use calls::Record;
-use calls::Run;
+use calls::RunKind;
 use calls::Solutions;
 use calls::Steps;
 
@@ -29,22 +29,22 @@ pub fn read(words: &[u64]) -> Record
 }
 
 // The kind of run of a number.
-pub fn kind_at(n: u64) -> Run
+pub fn kind_at(n: u64) -> RunKind
     ensures { λ r. ⌜ r ≡ kindAt n ⌝ }
 {
     if n == 0 {
-        return Run::Plain;
+        return RunKind::Plain;
     }
     if n == 1 {
-        return Run::Capped;
+        return RunKind::Capped;
     }
     if n == 2 {
-        return Run::LowerPlain;
+        return RunKind::LowerPlain;
     }
     if n == 4 {
-        return Run::Desks;
+        return RunKind::Desks;
     }
-    Run::LowerAbove
+    RunKind::LowerAbove
 }
 
 // The height, or one out of order where the number is no kind's.
@@ -70,8 +70,8 @@ pub fn write(words: &mut [u64], r: Record)
         write_others(
             words,
             calls::run_number(kind),
-            r.second.0 as u64,
-            r.before.0,
+            r.found2.0 as u64,
+            r.steps2.0,
             r.deepest,
         );
     }
@@ -86,12 +86,12 @@ fn write_counts(words: &mut [u64], height: u64, found: u64, steps: u64)
     words[2] = steps;
 }
 
-fn write_others(words: &mut [u64], kind: u64, second: u64, before: u64, deepest: u64)
+fn write_others(words: &mut [u64], kind: u64, found2: u64, steps2: u64, deepest: u64)
     requires { ⌜ length (now words) ≡ 7 ⌝ }
-    ensures { λ _. ⌜ now (words .exit) ≡ set (set (set (set (now (words .entry)) 3 kind) 4 second) 5 before) 6 deepest ⌝ }
+    ensures { λ _. ⌜ now (words .exit) ≡ set (set (set (set (now (words .entry)) 3 kind) 4 found2) 5 steps2) 6 deepest ⌝ }
 {
     words[3] = kind;
-    words[4] = second;
-    words[5] = before;
+    words[4] = found2;
+    words[5] = steps2;
     words[6] = deepest;
 }

@@ -25,7 +25,7 @@ pub fn start(
         let o = single::started(p, q, coefs, stack, list, r);
         return tell(o, run);
     }
-    c_walk::misfit(p, q, coefs, stack, list, run)
+    c_record::misfit::misfit(p, q, coefs, stack, list, run)
 }
 
 // The continuing call.

@@ -1,11 +1,9 @@
 // The plain start and the continuing call on a record of words, with an answer that is one number. The other calls of a walk are in modules.
 ghost use mathlib.Core.Path.{_≡_};
-ghost use mathlib.Core.Logic.{_≢_};
-ghost use lib.ListN.{length};
 ghost use Rattle.c_record.specs.Words.{startWords, resumeWords};
+use c_record::misfit::misfit;
 use c_record::tell;
 use c_record::words;
-use calls::Check;
 
 pub mod lower; // lower.rt: a run from a lower bound
 pub mod rights; // rights.rt: a map with right sides
@@ -47,17 +45,4 @@ pub fn resume(
     let r = words::read(run);
     let o = walk::resumed(p, q, coefs, stack, list, r, budget, calls::COMPONENT_LIMIT);
     tell(o, run)
-}
-
-// What a start is told whose words are no record: a continuing call's refusal. Nothing is written.
-pub fn misfit(p: usize, q: usize, coefs: &[i32], stack: &[u32], list: &[u32], run: &[u64]) -> u64
-    requires { ⌜ length (now run) ≢ 7 ⌝ }
-    ensures { λ a. ⌜ (a, (now (stack .entry), (now (list .entry), now (run .entry)))) ≡
-        resumeWords 0 p q (now (coefs .entry)) (now (stack .entry)) (now (list .entry)) (now (run .entry)) ⌝ }
-{
-    let r = words::read(run);
-    match checks::check_resume(p, q, coefs, stack, list, r, calls::COMPONENT_LIMIT) {
-        Check::Refuse(why) => c_record::answers::refusal(why),
-        Check::Pass => 6,
-    }
 }

@@ -8,8 +8,8 @@ use Rattle.definitions.specs.System.{Kind, System, plain}
 use Rattle.definitions.specs.Tables as tables
 use Rattle.definitions.specs.Tables.{State}
 use Rattle.calls.specs.declared.Record.{Record}
-use Rattle.calls.specs.declared.Run.{Run}
-use Rattle.calls.specs.declared.Run.the-variants.{Plain, Capped, LowerPlain, LowerAbove, Desks}
+use Rattle.calls.specs.declared.RunKind.{RunKind}
+use Rattle.calls.specs.declared.RunKind.the-variants.{Plain, Capped, LowerPlain, LowerAbove, Desks}
 use Rattle.calls.specs.declared.Solutions.{Solutions}
 use Rattle.calls.specs.declared.Steps.{Steps}
 use Rattle.calls.specs.declared.Refusal.{Refusal}
@@ -29,7 +29,7 @@ systemWith kind p q coefs limit = record { p = p; q = q; coefs = coefs; kind = k
 abbrev pub plainSystem : ℕ → ℕ → List ℤ → ℕ → System
 plainSystem p q coefs limit = systemWith plain p q coefs limit
 
-abbrev pub kindOf : Run → tables.Run
+abbrev pub kindOf : RunKind → tables.RunKind
 kindOf Plain = tables.plainRun
 kindOf Capped = tables.cappedRun
 kindOf LowerPlain = tables.lowerPlain
@@ -43,8 +43,8 @@ runOf r =
       height = r .height;
       found = r .found .0;
       steps = r .steps .0;
-      found₂ = r .second .0;
-      steps₂ = r .before .0;
+      found2 = r .found2 .0;
+      steps2 = r .steps2 .0;
       deepest = r .deepest;
     }
 
@@ -121,9 +121,9 @@ checkOf Pass = paper.go
 -- ---- what a call leaves
 
 -- a run record of its parts
-abbrev pub recordOf : Run → ℕ → Solutions → Steps → Solutions → Steps → ℕ → Record
-recordOf kind height found steps second before deepest =
-    record { kind = kind; height = height; found = found; steps = steps; second = second; before = before; deepest = deepest }
+abbrev pub recordOf : RunKind → ℕ → Solutions → Steps → Solutions → Steps → ℕ → Record
+recordOf kind height found steps found2 steps2 deepest =
+    record { kind = kind; height = height; found = found; steps = steps; found2 = found2; steps2 = steps2; deepest = deepest }
 
 -- that of a plain run that shows no depth yet
 abbrev pub plainRecord : ℕ → Solutions → Steps → Record
@@ -131,7 +131,7 @@ plainRecord height found steps = recordOf Plain height found steps (record { 0 =
 
 -- what the plain walk of a run from a lower bound sees of it (`plainPart` of the definitions)
 abbrev pub plainPartOf : Record → Record
-plainPartOf r = recordOf Plain (r .height) (r .second) (r .before) (r .found) (r .steps) (r .deepest)
+plainPartOf r = recordOf Plain (r .height) (r .found2) (r .steps2) (r .found) (r .steps) (r .deepest)
 
 abbrev pub leftWith : Answer → List ℕ → List ℕ → List ℕ → Record → machine.Outcome State
 leftWith a stack list second r = record { answer = answerOf a; state = stateWith stack list second r }
@@ -147,11 +147,11 @@ outcomeOf o stack list = outcomeWith o stack list []
 
 -- an answer with a record r whose counts and depth have moved
 abbrev pub leaves : Answer → Record → ℕ → ℕ → ℕ → ℕ → ℕ → Outcome
-leaves answer r height found steps second deepest =
-    record { answer = answer; run = recordOf (r .kind) height (record { 0 = found }) (record { 0 = steps }) (record { 0 = second }) (r .before) deepest }
+leaves answer r height found steps found2 deepest =
+    record { answer = answer; run = recordOf (r .kind) height (record { 0 = found }) (record { 0 = steps }) (record { 0 = found2 }) (r .steps2) deepest }
 
 -- begun
-abbrev pub begins : Run → ℕ → Outcome
+abbrev pub begins : RunKind → ℕ → Outcome
 begins kind height = record { answer = Started; run = recordOf kind height (record { 0 = 0 }) (record { 0 = 0 }) (record { 0 = 0 }) (record { 0 = 0 }) 0 }
 
 -- refused before the walk

@@ -22,7 +22,7 @@ pub struct Steps(pub u64);
 pub struct Solutions(pub usize);
 
 // The kinds of run, as the run record has them.
-pub enum Run {
+pub enum RunKind {
     Plain,
     Capped,
     LowerPlain,
@@ -31,33 +31,33 @@ pub enum Run {
 }
 
 // The number of a kind of run.
-pub fn run_number(kind: Run) -> u64
+pub fn run_number(kind: RunKind) -> u64
     ensures { λ n. ⌜ n ≡ runNumber (kindOf kind) ⌝ }
 {
     match kind {
-        Run::Plain => 0,
-        Run::Capped => 1,
-        Run::LowerPlain => 2,
-        Run::LowerAbove => 3,
-        Run::Desks => 4,
+        RunKind::Plain => 0,
+        RunKind::Capped => 1,
+        RunKind::LowerPlain => 2,
+        RunKind::LowerAbove => 3,
+        RunKind::Desks => 4,
     }
 }
 
 // Whether two kinds of run are one.
-pub fn same_run(a: Run, b: Run) -> bool
+pub fn same_run(a: RunKind, b: RunKind) -> bool
     ensures { λ r. ⌜ r ≡ isRun (kindOf a) (kindOf b) ⌝ }
 {
     run_number(a) == run_number(b)
 }
 
-// The run record. Where a run has two lists, `second` counts the rows of the second one; of a run from a lower bound `before` are the steps of its plain walk.
+// The run record. Where a run has two lists, `found2` counts the rows of the second one; of a run from a lower bound `steps2` are the steps of its plain walk.
 pub struct Record {
-    pub kind: Run,
+    pub kind: RunKind,
     pub height: usize,
     pub found: Solutions,
     pub steps: Steps,
-    pub second: Solutions,
-    pub before: Steps,
+    pub found2: Solutions,
+    pub steps2: Steps,
     pub deepest: u64,
 }
 
@@ -66,28 +66,36 @@ impl Record {
     pub fn new(height: usize, found: Solutions, steps: Steps) -> Record
         ensures { λ r. ⌜ r ≡ plainRecord height found steps ⌝ }
     {
-        Record::of(Run::Plain, height, found, steps, Solutions(0), Steps(0), 0)
+        Record::of(
+            RunKind::Plain,
+            height,
+            found,
+            steps,
+            Solutions(0),
+            Steps(0),
+            0,
+        )
     }
 
     // A run record of its parts.
     pub fn of(
-        kind: Run,
+        kind: RunKind,
         height: usize,
         found: Solutions,
         steps: Steps,
-        second: Solutions,
-        before: Steps,
+        found2: Solutions,
+        steps2: Steps,
         deepest: u64,
     ) -> Record
-        ensures { λ r. ⌜ r ≡ recordOf kind height found steps second before deepest ⌝ }
+        ensures { λ r. ⌜ r ≡ recordOf kind height found steps found2 steps2 deepest ⌝ }
     {
         Record {
             kind,
             height,
             found,
             steps,
-            second,
-            before,
+            found2,
+            steps2,
             deepest,
         }
     }
@@ -98,10 +106,10 @@ pub fn plain_part(r: Record) -> Record
     ensures { λ p. ⌜ p ≡ plainPartOf r ⌝ }
 {
     Record::of(
-        Run::Plain,
+        RunKind::Plain,
         r.height,
-        r.second,
-        r.before,
+        r.found2,
+        r.steps2,
         r.found,
         r.steps,
         r.deepest,
@@ -167,7 +175,7 @@ pub enum Check {
 }
 
 // What a start that is not refused answers.
-pub fn begun(kind: Run, height: usize) -> Outcome
+pub fn begun(kind: RunKind, height: usize) -> Outcome
     ensures { λ o. ⌜ o ≡ begins kind height ⌝ }
 {
     let found = Solutions(0);
@@ -195,10 +203,10 @@ pub fn left(
     height: usize,
     found: usize,
     steps: u64,
-    second: usize,
+    found2: usize,
     deepest: u64,
 ) -> Outcome
-    ensures { λ o. ⌜ o ≡ leaves answer r height found steps second deepest ⌝ }
+    ensures { λ o. ⌜ o ≡ leaves answer r height found steps found2 deepest ⌝ }
 {
     let kind = r.kind;
     let run = Record::of(
@@ -206,8 +214,8 @@ pub fn left(
         height,
         Solutions(found),
         Steps(steps),
-        Solutions(second),
-        r.before,
+        Solutions(found2),
+        r.steps2,
         deepest,
     );
     Outcome { answer, run }

@@ -11,7 +11,7 @@ use Rattle.linear.specs.Tuples.{Same, unit, raise, rest}
 use Rattle.definitions.specs.System.{Kind, above, capped, covered, plain}
 use Rattle.laws.specs.StepLaws.{firstOpen, secondOpen}
 use Rattle.laws.specs.SystemLaws.{covered-same}
-use Rattle.definitions.specs.Tables.{Run, State, frozen, listRow, secondRow}
+use Rattle.definitions.specs.Tables.{RunKind, State, frozen, listRow, secondRow}
 use Rattle.definitions.specs.Step.{rowOf, rowWidth}
 use Rattle.table_rows.specs.Rows.{part}
 use Rattle.candidates.specs.Kinds.{asked, beside}
@@ -64,16 +64,16 @@ module _ (k : Kind) (q : ℕ) (s : State) where
 second-same : (k : Kind) (q : ℕ) (s : State) {x y : ℕ → ℕ} → 0 < q → Same q x y → secondOpen k q s x ≡ secondOpen k q s y
 second-same plain q s some e = refl
 second-same capped q s {x} {y} some e =
-    rw (e 0 some, covered-same (q - 1) (s .run .found₂) (secondRow (q - 1) s) {x = rest x} {y = rest y} (row-agrees capped q e))
+    rw (e 0 some, covered-same (q - 1) (s .run .found2) (secondRow (q - 1) s) {x = rest x} {y = rest y} (row-agrees capped q e))
 second-same (above f) q s {x} {y} some e =
-    ap not (covered-same q (s .run .found₂) (secondRow q s) {x = λ j. x j - f j} {y = λ j. y j - f j} (λ j l. ap (λ z. z - f j) (e j l)))
+    ap not (covered-same q (s .run .found2) (secondRow q s) {x = λ j. x j - f j} {y = λ j. y j - f j} (λ j l. ap (λ z. z - f j) (e j l)))
 
-second-beside : (k : Kind) (q : ℕ) (s : State) (x : ℕ → ℕ) (kind : Run) (n n₂ d : ℕ) → secondOpen k q (beside s kind n n₂ d) x ≡ secondOpen k q s x
+second-beside : (k : Kind) (q : ℕ) (s : State) (x : ℕ → ℕ) (kind : RunKind) (n n₂ d : ℕ) → secondOpen k q (beside s kind n n₂ d) x ≡ secondOpen k q s x
 second-beside plain q s x kind n n₂ d = refl
 second-beside capped q s x kind n n₂ d = refl
 second-beside (above f) q s x kind n n₂ d = refl
 
-pub child-beside : (k : Kind) (q : ℕ) (s : State) (t : ℕ → ℕ) (candidates j : ℕ) (kind : Run) (n n₂ d : ℕ)
+pub child-beside : (k : Kind) (q : ℕ) (s : State) (t : ℕ → ℕ) (candidates j : ℕ) (kind : RunKind) (n n₂ d : ℕ)
     → childFor k q (beside s kind n n₂ d) t candidates j ≡ childFor k q s t candidates j
 unfolding childFor
 child-beside k q s t candidates j kind n n₂ d =
@@ -97,9 +97,9 @@ child-open k q s t candidates left j e =
     (λ i l. part-row k (raise t j) i))
 
 -- which are left depends on the second list and its count only
-pub open-asked : (k : Kind) (q : ℕ) (list second : List ℕ) (found found₂ : ℕ) (t : ℕ → ℕ) (candidates j : ℕ)
-    → openFor k q (asked [] [] second 0 0 found₂) t candidates j ≡ openFor k q (asked [] list second 0 found found₂) t candidates j
+pub open-asked : (k : Kind) (q : ℕ) (list second : List ℕ) (found found2 : ℕ) (t : ℕ → ℕ) (candidates j : ℕ)
+    → openFor k q (asked [] [] second 0 0 found2) t candidates j ≡ openFor k q (asked [] list second 0 found found2) t candidates j
 unfolding openFor
-open-asked plain q list second found found₂ t candidates j = refl
-open-asked capped q list second found found₂ t candidates j = refl
-open-asked (above f) q list second found found₂ t candidates j = refl
+open-asked plain q list second found found2 t candidates j = refl
+open-asked capped q list second found found2 t candidates j = refl
+open-asked (above f) q list second found found2 t candidates j = refl

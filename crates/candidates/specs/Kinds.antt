@@ -7,7 +7,7 @@ use lib.ListN.{length}
 use Rattle.definitions.specs.Input.{boundOf}
 use Rattle.definitions.specs.Step.{rowWidth}
 use Rattle.definitions.specs.System.{Kind, above, capped, plain}
-use Rattle.definitions.specs.Tables.{Run, State, plainRun}
+use Rattle.definitions.specs.Tables.{RunKind, State, plainRun}
 use Rattle.candidates.specs.declared.Kind as declared
 use Rattle.candidates.specs.declared.Kind.the-variants.{Plain, Capped, Above}
 
@@ -30,20 +30,20 @@ Bounds Capped q lower = Unit
 Bounds Above q lower = q ≤ length lower
 
 abbrev pub asked : List ℕ → List ℕ → List ℕ → ℕ → ℕ → ℕ → State
-asked stack list second height found found₂ =
+asked stack list second height found found2 =
     record {
       stack = stack;
       list = list;
       second = second;
-      run = record { kind = plainRun; height = height; found = found; steps = 0; found₂ = found₂; steps₂ = 0; deepest = 0 };
+      run = record { kind = plainRun; height = height; found = found; steps = 0; found2 = found2; steps2 = 0; deepest = 0 };
     }
 
 -- the state with the rest of its record
-abbrev pub beside : State → Run → ℕ → ℕ → ℕ → State
-beside s kind steps steps₂ deepest =
+abbrev pub beside : State → RunKind → ℕ → ℕ → ℕ → State
+beside s kind steps steps2 deepest =
     record {
       stack = s .stack;
       list = s .list;
       second = s .second;
-      run = record { kind = kind; height = s .run .height; found = s .run .found; steps = steps; found₂ = s .run .found₂; steps₂ = steps₂; deepest = deepest };
+      run = record { kind = kind; height = s .run .height; found = s .run .found; steps = steps; found2 = s .run .found2; steps2 = steps2; deepest = deepest };
     }

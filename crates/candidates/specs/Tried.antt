@@ -1,7 +1,7 @@
 -- What trying the candidates for a child comes to. Assumes nothing.
-use mathlib.Core.Path.{_≡_, refl, sym, ap, ap₂, subst}
-use mathlib.Core.Bool.{Bool, true, false, _&&_}
-use Prim.Native.Nat.{ℕ, _<_}
+use mathlib.Core.Path.{_≡_, refl, ap, ap₂}
+use mathlib.Core.Bool.{Bool, true, false, _&&_, cond}
+use Prim.Native.Nat.{ℕ, suc, _<_}
 use lib.Dec.{eqb}
 use Rattle.linear.specs.Tests.{anyTo}
 use Rattle.linear.specs.TestLaws.{any-same}
@@ -9,6 +9,7 @@ use Rattle.definitions.specs.Step.{marksTo, rowWidth}
 use Rattle.definitions.specs.System.{Kind}
 use Rattle.definitions.specs.Tables.{State, frozen, listRow}
 use Rattle.products.specs.Marks.{marks-frozen, marks-same}
+use Rattle.products.specs.Trials.{large-if, made-if}
 use Rattle.candidates.specs.Grow.{childBy, childFor, openFor, placeIn}
 use Rattle.candidates.specs.GrowLaws.{child-open}
 use Rattle.candidates.specs.declared.Tried.{Tried}
@@ -16,29 +17,16 @@ use Rattle.candidates.specs.declared.Tried.the-variants.{TooLarge, Made}
 
 -- a child that would have a component above the limit decides; else the unknowns that make one are told, as marks
 abbrev pub triedIf : Bool → ℕ → Tried
-triedIf true made = TooLarge
-triedIf false made = Made made
+triedIf b made = cond b TooLarge (Made made)
 
 unfoldable pub triedBy : ℕ → ℕ → (ℕ → Bool) → (ℕ → ℕ) → Tried
 triedBy limit q child t = triedIf (anyTo q (λ j. child j && eqb (t j) limit)) (marksTo q child)
 
 -- ---- the cases apart
 
-abbrev IsLarge : Tried → Type 0
-IsLarge TooLarge = Unit
-IsLarge (Made made) = ⊥
-
-abbrev madeOf : Tried → ℕ
-madeOf TooLarge = 0
-madeOf (Made made) = made
-
-large-if : (b : Bool) (m : ℕ) → TooLarge ≡ triedIf b m → b ≡ true
-large-if true m e = refl
-large-if false m e = absurd (subst IsLarge e tt)
-
-made-if : (b : Bool) (m : ℕ) {made : ℕ} → Made made ≡ triedIf b m → (b ≡ false) × (made ≡ m)
-made-if true m e = absurd (subst IsLarge (sym e) tt)
-made-if false m e = (refl, ap madeOf e)
+abbrev readOf : Tried → ℕ
+readOf TooLarge = 0
+readOf (Made made) = suc made
 
 -- tests that agree below q
 pub tried-same : (limit q : ℕ) (f g : ℕ → Bool) (t : ℕ → ℕ) → ((j : ℕ) → j < q → f j ≡ g j) → triedBy limit q f t ≡ triedBy limit q g t
@@ -56,11 +44,11 @@ module _ (limit q : ℕ) (child : ℕ → Bool) (t : ℕ → ℕ) where
 
   pub large-tried : TooLarge ≡ triedBy limit q child t → anyTo q (λ j. child j && eqb (t j) limit) ≡ true
   unfolding triedBy
-  large-tried e = large-if _ _ e
+  large-tried e = large-if TooLarge Made readOf refl (λ m. refl) _ _ e
 
   pub made-tried : {made : ℕ} → Made made ≡ triedBy limit q child t → (anyTo q (λ j. child j && eqb (t j) limit) ≡ false) × (made ≡ marksTo q child)
   unfolding triedBy
-  made-tried e = made-if _ _ e
+  made-tried e = made-if TooLarge Made readOf refl (λ m. refl) _ _ e
 
 -- the children's marks are tried one by one
 pub tried-marks : (limit q : ℕ) (child : ℕ → Bool) (t : ℕ → ℕ) {made : ℕ} → made ≡ marksTo q child

@@ -35,7 +35,7 @@ pub enum Tried {
 
 // Which of the candidates make a child of the tuple `t`: those that the cap and the second list leave open are put to the first list.
 pub fn admitted(
-    walk: Kind,
+    kind: Kind,
     list: &[u32],
     second: &[u32],
     lower: &[u32],
@@ -46,35 +46,48 @@ pub fn admitted(
     candidates: u32,
     limit: u32,
 ) -> Tried
-    requires { ⌜ ((0 < rowWidth (kindBy walk (now lower)) q) × (q ≤ 16) × (found ≤ capacity (rowWidth (kindBy walk (now lower)) q) (now list)))
-        × Bounds walk q (now lower) ⌝ }
-    requires { ⌜ SecondFits (kindBy walk (now lower)) q (asked [] (now list) (now second) 0 found other) × (q ≤ length (now t)) × (candidates < 2 ^ q) ⌝ }
-    requires { ⌜ Limited q (tuple (now t)) × Within limit q (tuple (now t)) × Inside (kindBy walk (now lower)) q (tuple (now t)) ⌝ }
+    requires { ⌜ ((0 < rowWidth (kindBy kind (now lower)) q) × (q ≤ 16) × (found ≤ capacity (rowWidth (kindBy kind (now lower)) q) (now list)))
+        × Bounds kind q (now lower) ⌝ }
+    requires { ⌜ SecondFits (kindBy kind (now lower)) q (asked [] (now list) (now second) 0 found other) × (q ≤ length (now t)) × (candidates < 2 ^ q) ⌝ }
+    requires { ⌜ Limited q (tuple (now t)) × Within limit q (tuple (now t)) × Inside (kindBy kind (now lower)) q (tuple (now t)) ⌝ }
     ensures { λ r. ⌜ r ≡ triedBy limit q
-        (childFor (kindBy walk (now (lower .entry))) q (asked [] (now (list .entry)) (now (second .entry)) 0 found other) (tuple (now (t .entry))) candidates)
+        (childFor (kindBy kind (now (lower .entry))) q (asked [] (now (list .entry)) (now (second .entry)) 0 found other) (tuple (now (t .entry))) candidates)
         (tuple (now (t .entry))) ⌝ }
     ensures { λ _. ⌜ now (t .exit) ≡ now (t .entry) ⌝ }
 {
-    match walk {
-        Kind::Plain => children(list, found, q, t, candidates, limit),
-        _ => sifted(
-            walk,
-            list,
-            second,
-            lower,
-            found,
-            other,
-            q,
-            t,
-            candidates,
-            limit,
-        ),
+    match kind {
+        Kind::Plain => admitted_plain(list, found, q, t, candidates, limit),
+        Kind::Capped => { admitted_capped(list, second, found, other, q, t, candidates, limit) }
+        Kind::Above => {
+            admitted_above(list, second, lower, found, other, q, t, candidates, limit)
+        }
     }
 }
 
-// The same one list after the other, of any walk.
-fn sifted(
-    walk: Kind,
+// Of a capped walk: those that the cap and the second list leave are put to the first list, without their first component.
+fn admitted_capped(
+    list: &[u32],
+    second: &[u32],
+    found: usize,
+    other: usize,
+    q: usize,
+    t: &mut [u32],
+    candidates: u32,
+    limit: u32,
+) -> Tried
+    requires { ⌜ ((0 < q - 1) × (q ≤ 16) × (found * (q - 1) ≤ length (now list)) × (other * (q - 1) ≤ length (now second))) × (q ≤ length (now t))
+        × (candidates < 2 ^ q) ⌝ }
+    requires { ⌜ Limited q (tuple (now t)) × Within limit q (tuple (now t)) × (tuple (now t) 0 ≤ 1) ⌝ }
+    ensures { λ r. ⌜ r ≡ triedBy limit q
+        (childFor capped q (asked [] (now (list .entry)) (now (second .entry)) 0 found other) (tuple (now (t .entry))) candidates) (tuple (now (t .entry))) ⌝ }
+    ensures { λ _. ⌜ now (t .exit) ≡ now (t .entry) ⌝ }
+{
+    let left = uncapped(second, other, q, t, candidates);
+    passed(list, found, q - 1, 1, q, t, left, limit)
+}
+
+// Of a walk above a lower bound: those that the second list leaves are put to the first list.
+fn admitted_above(
     list: &[u32],
     second: &[u32],
     lower: &[u32],
@@ -85,25 +98,16 @@ fn sifted(
     candidates: u32,
     limit: u32,
 ) -> Tried
-    requires { ⌜ ((0 < rowWidth (kindBy walk (now lower)) q) × (q ≤ 16) × (found ≤ capacity (rowWidth (kindBy walk (now lower)) q) (now list)))
-        × Bounds walk q (now lower) ⌝ }
-    requires { ⌜ SecondFits (kindBy walk (now lower)) q (asked [] (now list) (now second) 0 found other) × (q ≤ length (now t)) × (candidates < 2 ^ q) ⌝ }
-    requires { ⌜ Limited q (tuple (now t)) × Within limit q (tuple (now t)) × Inside (kindBy walk (now lower)) q (tuple (now t)) ⌝ }
-    ensures { λ r. ⌜ r ≡ triedBy limit q (childFor (kindBy walk (now (lower .entry))) q (asked [] (now (list .entry)) (now (second .entry)) 0 found other)
-        (tuple (now (t .entry))) candidates) (tuple (now (t .entry))) ⌝ }
+    requires { ⌜ ((0 < q) × (q ≤ 16) × (found * q ≤ length (now list)) × (other * q ≤ length (now second))) × (q ≤ length (now lower)) × (q ≤ length (now t))
+        × (candidates < 2 ^ q) ⌝ }
+    requires { ⌜ Limited q (tuple (now t)) × Within limit q (tuple (now t)) × AtOrBelow q (boundOf (now lower)) (tuple (now t)) ⌝ }
+    ensures { λ r. ⌜ r ≡ triedBy limit q
+        (childFor (above (boundOf (now (lower .entry)))) q (asked [] (now (list .entry)) (now (second .entry)) 0 found other) (tuple (now (t .entry)))
+        candidates) (tuple (now (t .entry))) ⌝ }
     ensures { λ _. ⌜ now (t .exit) ≡ now (t .entry) ⌝ }
 {
-    match walk {
-        Kind::Plain => passed(list, found, q, 0, q, t, candidates, limit),
-        Kind::Capped => {
-            let left = uncapped(second, other, q, t, candidates);
-            passed(list, found, q - 1, 1, q, t, left, limit)
-        }
-        Kind::Above => {
-            let left = apart(second, lower, other, q, t, candidates);
-            passed(list, found, q, 0, q, t, left, limit)
-        }
-    }
+    let left = apart(second, lower, other, q, t, candidates);
+    passed(list, found, q, 0, q, t, left, limit)
 }
 
 // Which of the candidates of a capped walk the cap and the second list leave open. The list stops only tuples with 1 at the first place.
@@ -215,7 +219,7 @@ fn limited(made: u32, q: usize, t: &[u32], limit: u32) -> Tried
 
 // Both at once, for a plain walk: most of its time goes into this loop, and with rows of q numbers and a single caller it is compiled into the loop over the
 // steps.
-fn children(
+fn admitted_plain(
     list: &[u32],
     found: usize,
     q: usize,

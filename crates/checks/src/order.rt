@@ -12,7 +12,7 @@ use crate::shape;
 use calls::Check;
 use calls::Record;
 use calls::Refusal;
-use calls::Run;
+use calls::RunKind;
 
 // Refusals 6 and 7 of a plain run, which do not depend on p.
 pub fn check(q: usize, coefs: &[i32], stack: &[u32], list: &[u32], r: Record, limit: u32) -> Check
@@ -22,7 +22,7 @@ pub fn check(q: usize, coefs: &[i32], stack: &[u32], list: &[u32], r: Record, li
         then check7 (inputWith alone limit p q (now (coefs .entry))))) ⌝ }
 {
     let most = calls::limit_of(limit);
-    if !record_order::in_order(Run::Plain, q, q, stack, list, r, most) {
+    if !record_order::in_order(RunKind::Plain, q, q, stack, list, r, most) {
         return Check::Refuse(Refusal::OutOfOrder);
     }
     coefficients::check(coefs)
@@ -47,7 +47,7 @@ pub fn check_capped(
 {
     let most = calls::limit_of(limit);
     let wide = q + 1;
-    if !record_order::in_order(Run::Capped, wide, q, stack, list, r, most) {
+    if !record_order::in_order(RunKind::Capped, wide, q, stack, list, r, most) {
         return Check::Refuse(Refusal::OutOfOrder);
     }
     if !record_order::capped_fits(wide, q, stack, second, r) {

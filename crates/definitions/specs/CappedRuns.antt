@@ -35,7 +35,7 @@ lent room room₂ =
       stack = replicate 31 9;
       list = replicate room 9;
       second = replicate room₂ 9;
-      run = record { kind = deskByDesk; height = 9; found = 9; steps = 9; found₂ = 9; steps₂ = 9; deepest = 9 };
+      run = record { kind = deskByDesk; height = 9; found = 9; steps = 9; found2 = 9; steps2 = 9; deepest = 9 };
     }
 
 unfoldable pub summed : ℕ → Outcome State → Summary
@@ -43,7 +43,7 @@ summed q o =
     record {
       answer = o .answer;
       zero = take (o .state .run .found * q) (o .state .list);
-      one = take (o .state .run .found₂ * q) (o .state .second);
+      one = take (o .state .run .found2 * q) (o .state .second);
       height = o .state .run .height;
       steps = o .state .run .steps;
       deepest = o .state .run .deepest;
@@ -99,7 +99,7 @@ halfway =
       stack = [];
       list = 2 ∷ 1 ∷ [];
       second = 1 ∷ 0 ∷ [];
-      run = record { kind = cappedRun; height = 1; found = 1; steps = 9; found₂ = 1; steps₂ = 0; deepest = 3 };
+      run = record { kind = cappedRun; height = 1; found = 1; steps = 9; found2 = 1; steps2 = 0; deepest = 3 };
     }
 
 -- a row of the list at 0 stops tuples with 0 and with 1 there, one of the list at 1 only those with 1

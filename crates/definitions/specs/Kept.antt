@@ -32,7 +32,7 @@ lent =
       stack = replicate 20 9;
       list = replicate 24 9;
       second = replicate 24 9;
-      run = record { kind = deskByDesk; height = 9; found = 9; steps = 9; found₂ = 9; steps₂ = 9; deepest = 9 };
+      run = record { kind = deskByDesk; height = 9; found = 9; steps = 9; found2 = 9; steps2 = 9; deepest = 9 };
     }
 
 -- −1 1 2 −3: "the six solutions of example 4", in 17 steps
@@ -53,7 +53,7 @@ late =
       stack = begun .stack;
       list = begun .list;
       second = begun .second;
-      run = record { kind = begun .run .kind; height = begun .run .height; found = 0; steps = stepLimit - 1; found₂ = 0; steps₂ = 0; deepest = 0 };
+      run = record { kind = begun .run .kind; height = begun .run .height; found = 0; steps = stepLimit - 1; found2 = 0; steps2 = 0; deepest = 0 };
     }
 
 -- from a lower bound, to its end
@@ -64,8 +64,8 @@ record Facts : Type 0 where
   -- the rows listed, and what is none of a plain run's: the count of a second list, and the steps of another walk
   answer : Answer
   list : List ℕ
-  found₂ : ℕ
-  steps₂ : ℕ
+  found2 : ℕ
+  steps2 : ℕ
   -- the greatest sum of the tuples taken off, which is D here
   deepest : ℕ
   -- the steps taken on allowances 7 and 1000
@@ -83,8 +83,8 @@ of o l u z =
     record {
       answer = o .answer;
       list = o .state .list;
-      found₂ = o .state .run .found₂;
-      steps₂ = o .state .run .steps₂;
+      found2 = o .state .run .found2;
+      steps2 = o .state .run .steps2;
       deepest = o .state .run .deepest;
       taken = resumeSteps 7 six begun ∷ resumeSteps 1000 six begun ∷ [];
       fourteen = l .answer;
@@ -99,8 +99,8 @@ facts-hold : of (resume 1000 six begun) (resume 5 six late) (above (one (pos 2 �
     ≡ record {
       answer = complete;
       list = rows;
-      found₂ = 0;
-      steps₂ = 0;
+      found2 = 0;
+      steps2 = 0;
       deepest = 5;
       taken = 7 ∷ 17 ∷ [];
       fourteen = refused 14 [];
@@ -163,7 +163,7 @@ marked a b =
       stack = 0 ∷ 1 ∷ a ∷ 1 ∷ 0 ∷ b ∷ [];
       list = [];
       second = [];
-      run = record { kind = plainRun; height = 2; found = 0; steps = 0; found₂ = 0; steps₂ = 0; deepest = 0 };
+      run = record { kind = plainRun; height = 2; found = 0; steps = 0; found2 = 0; steps2 = 0; deepest = 0 };
     }
 
 marks-hold : map (λ s. resumeChecks (one (pos 2 ∷ negsuc 2 ∷ [])) s) (marked 0 1 ∷ marked 0 2 ∷ marked 0 0 ∷ marked 0 3 ∷ marked 0 4 ∷ marked 1 1 ∷ [])

@@ -13,7 +13,7 @@ use Rattle.linear.specs.Systems.{inner, value}
 use Rattle.definitions.specs.Answers.{Answer, Check, _then_, complete, go, paused, refuse, refuseFirst, refuseWith, refused}
 use Rattle.definitions.specs.System.{covered, isAtOrBelow, solves}
 use Rattle.definitions.specs.Input.{Input, inputOf}
-use Rattle.definitions.specs.Tables.{Record, Run, State, bit, cappedRun, deskByDesk, frozen, lowerAbove, lowerPlain, lowerStart, lowered, plainRun}
+use Rattle.definitions.specs.Tables.{Record, RunKind, State, bit, cappedRun, deskByDesk, frozen, lowerAbove, lowerPlain, lowerStart, lowered, plainRun}
 use Rattle.definitions.specs.Tables.{unitsTo, writeRow, writeTo}
 use Rattle.definitions.specs.Step.{grown, listed, makes, marksTo, step, writeChildren}
 use Rattle.definitions.specs.Refusals.{check7, inOrder, inOrderFrom, lowerChecks, resumeChecks, resumeFromChecks, rowFits, searchChecks, tooLarge}
@@ -24,7 +24,7 @@ use Rattle.definitions.specs.Calls.{resumeFrom, searchFrom, settleFrom, 
 -- greatest sum
 record Summary : Type 0 where
   answer : Answer
-  walk : Run
+  walk : RunKind
   rows : List ℕ
   plain : List ℕ
   height : ℕ
@@ -38,7 +38,7 @@ lent room room₂ =
       stack = replicate 13 9;
       list = replicate room 9;
       second = replicate room₂ 9;
-      run = record { kind = deskByDesk; height = 9; found = 9; steps = 9; found₂ = 9; steps₂ = 9; deepest = 9 };
+      run = record { kind = deskByDesk; height = 9; found = 9; steps = 9; found2 = 9; steps2 = 9; deepest = 9 };
     }
 
 summed : ℕ → Outcome State → Summary
@@ -47,17 +47,17 @@ summed q o =
       answer = o .answer;
       walk = o .state .run .kind;
       rows = take (o .state .run .found * q) (o .state .list);
-      plain = take (o .state .run .found₂ * q) (o .state .second);
+      plain = take (o .state .run .found2 * q) (o .state .second);
       height = o .state .run .height;
       steps = o .state .run .steps;
-      before = o .state .run .steps₂;
+      before = o .state .run .steps2;
       deepest = o .state .run .deepest;
     }
 
 ran : ℕ → ℕ → ℕ → List ℕ → Input → Summary
 ran budget room room₂ lower i = summed (i .q) (resumeFrom budget lower i (startFrom lower i (lent room room₂) .state))
 
-comes : Answer → Run → List ℕ → List ℕ → ℕ → ℕ → ℕ → ℕ → Summary
+comes : Answer → RunKind → List ℕ → List ℕ → ℕ → ℕ → ℕ → ℕ → Summary
 comes answer walk rows plain height steps before deepest =
     record { answer = answer; walk = walk; rows = rows; plain = plain; height = height; steps = steps; before = before; deepest = deepest }
 
@@ -104,16 +104,16 @@ runs-hold = refl
 standing : ℕ → ℕ → Record → State
 standing a b r = record { stack = a ∷ b ∷ 0 ∷ 9 ∷ 9 ∷ 9 ∷ []; list = 9 ∷ 9 ∷ 9 ∷ []; second = 9 ∷ 9 ∷ 9 ∷ []; run = r }
 
-named : Run → ℕ → ℕ → ℕ → ℕ → Record
-named kind found steps found₂ steps₂ =
-    record { kind = kind; height = 1; found = found; steps = steps; found₂ = found₂; steps₂ = steps₂; deepest = 0 }
+named : RunKind → ℕ → ℕ → ℕ → ℕ → Record
+named kind found steps found2 steps2 =
+    record { kind = kind; height = 1; found = found; steps = steps; found2 = found2; steps2 = steps2; deepest = 0 }
 
 asked : State → Check
 asked = resumeFromChecks (0 ∷ 2 ∷ []) one-one
 
 -- "6 covers a floor-walk row not at or above the floor", each list's count and each walk's steps; "A record of one kind of run .. given to a continuing call
 -- of another kind"
-orders-hold : (asked (standing 0 2 (named lowerAbove 1 1000000000000 1 1000000000000)) ≡ go)
+in-order-holds : (asked (standing 0 2 (named lowerAbove 1 1000000000000 1 1000000000000)) ≡ go)
     × (asked (standing 0 1 (named lowerAbove 0 0 0 0)) ≡ refuse 6 [])
     × (asked (standing 0 1 (named lowerPlain 1 1000000000000 1 1000000000000)) ≡ go)
     × (asked (standing 0 2 (named lowerAbove 2 0 0 0)) ≡ refuse 6 [])
@@ -128,7 +128,7 @@ orders-hold : (asked (standing 0 2 (named lowerAbove 1 1000000000000 1 100000000
     × (resumeChecks one-one (standing 0 2 (named lowerAbove 0 0 0 0)) ≡ refuse 6 [])
 unfolding standing named asked one-one allTo anyTo countTo refuseWith _then_ refuseFirst isAtOrBelow bit frozen rowFits inOrder inOrderFrom check7 resumeChecks
     resumeFromChecks
-orders-hold = (refl, refl, refl, refl, refl, refl, refl, refl, refl, refl, refl, refl, refl)
+in-order-holds = (refl, refl, refl, refl, refl, refl, refl, refl, refl, refl, refl, refl, refl)
 
 -- "14 is about the walk under way": the steps of the other may stand at 1,000,000,000,000
 fourteen : Record → Answer

@@ -8,7 +8,7 @@ ghost use Rattle.desk.specs.Starting.{startTo};
 use calls::Check;
 use calls::Outcome;
 use calls::Record;
-use calls::Run;
+use calls::RunKind;
 use desk_rows::rows;
 
 // The start: writes a row for each generator, takes no step.
@@ -29,7 +29,7 @@ pub fn start(
         Check::Pass => {
             let n = generators.len() / q;
             write_start(q, generators, n, stack);
-            calls::begun(Run::Desks, n)
+            calls::begun(RunKind::Desks, n)
         }
     }
 }
@@ -50,7 +50,7 @@ pub fn resume(
 {
     match desk_checks::check_resume(p, q, coefs, generators, stack, list, r) {
         Check::Refuse(why) => calls::refused(why, r),
-        Check::Pass => desk_walk::walk(p, q, coefs, generators, stack, list, r, budget),
+        Check::Pass => desk_walk::walk_desk(p, q, coefs, generators, stack, list, r, budget),
     }
 }
 

@@ -10,7 +10,7 @@ ghost use Rattle.desk_spec.specs.Desks.{deskInOrder, deskOf, deskRowInOrder};
 ghost use Rattle.calls.specs.Paper.{stateOf};
 ghost use Rattle.desk_checks.specs.Shape.{RowsFit};
 use calls::Record;
-use calls::Run;
+use calls::RunKind;
 use desk_rows::marks;
 use table_rows::rows;
 
@@ -31,7 +31,7 @@ pub fn in_order(q: usize, generators: &[u32], stack: &[u32], list: &[u32], r: Re
     let found = r.found.0;
     let steps = r.steps.0;
     let deepest = r.deepest;
-    if !calls::same_run(kind, Run::Desks) {
+    if !calls::same_run(kind, RunKind::Desks) {
         return false;
     }
     if generators.len() / q < height {

@@ -13,7 +13,7 @@ use Rattle.definitions.specs.Machine.{Outcome, call, checked, unlessDone, walk}
 use Rattle.definitions.specs.Refusals.{check7}
 use Rattle.definitions.specs.Step.{marksTo}
 use Rattle.definitions.specs.System.{covered, isAtOrBelow, solves}
-use Rattle.definitions.specs.Tables.{Run, State, bit, cappedRun, deskByDesk, frozen, lowerAbove, lowerPlain, plainRun, writeTo}
+use Rattle.definitions.specs.Tables.{RunKind, State, bit, cappedRun, deskByDesk, frozen, lowerAbove, lowerPlain, plainRun, writeTo}
 use Rattle.laws.specs.Pack.{packTo}
 use Rattle.laws.specs.Sweep.{keeps, spoils}
 use Rattle.desk_spec.specs.Records.{recordOf, stateOf}
@@ -42,7 +42,7 @@ summed d o =
     }
 
 -- a stack table of 40 numbers and a list table, all 9, and a record of some kind
-lent : Run → ℕ → State
+lent : RunKind → ℕ → State
 lent k length = stateOf (replicate 40 9) (replicate length 9) (recordOf k 0 0 9 9)
 
 -- a start, and a continuing call, with a list table of `length` numbers
@@ -109,15 +109,15 @@ beside = let t = deskBegin units (lent plainRun 24) .state in
       stack = t .stack;
       list = t .list;
       second = 5 ∷ [];
-      run = record { kind = t .run .kind; height = 4; found = 0; steps = 0; found₂ = 8; steps₂ = 7; deepest = 0 };
+      run = record { kind = t .run .kind; height = 4; found = 0; steps = 0; found2 = 8; steps2 = 7; deepest = 0 };
     }
 
 record Facts : Type 0 where
   answer : Answer
   list : List ℕ
   second : List ℕ
-  found₂ : ℕ
-  steps₂ : ℕ
+  found2 : ℕ
+  steps2 : ℕ
   deepest : ℕ
 
 of : Outcome State → Facts
@@ -126,8 +126,8 @@ of o =
       answer = o .answer;
       list = o .state .list;
       second = o .state .second;
-      found₂ = o .state .run .found₂;
-      steps₂ = o .state .run .steps₂;
+      found2 = o .state .run .found2;
+      steps2 = o .state .run .steps2;
       deepest = o .state .run .deepest;
     }
 
@@ -146,8 +146,8 @@ all-facts =
       answer = complete;
       list = 1 ∷ 1 ∷ 0 ∷ 0 ∷ 2 ∷ 0 ∷ 1 ∷ 0 ∷ 0 ∷ 3 ∷ 0 ∷ 1 ∷ 0 ∷ 1 ∷ 1 ∷ 1 ∷ 1 ∷ 0 ∷ 2 ∷ 1 ∷ 0 ∷ 0 ∷ 3 ∷ 2 ∷ [];
       second = 5 ∷ [];
-      found₂ = 8;
-      steps₂ = 7;
+      found2 = 8;
+      steps2 = 7;
       deepest = 5;
     }
 
@@ -196,7 +196,7 @@ marks-hold = refl
 start-answer : Desk → Answer
 start-answer d = deskBegin d (stateOf (replicate 195 9) [] (recordOf plainRun 9 9 9 9)) .answer
 
-resume-answer : Run → Desk → Answer
+resume-answer : RunKind → Desk → Answer
 resume-answer k d = deskResume 1 d (stateOf (replicate 195 9) [] (recordOf k 0 0 9 9)) .answer
 
 refusals-hold :

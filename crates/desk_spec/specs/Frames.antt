@@ -90,10 +90,10 @@ next-row d s =
 
 pub step-takes : (d : Desk) (s : State) → TopTaken d s (deskStep d s)
 unfolding deskListed deskGrown
-step-takes d s = step-has (TopTaken d s) d s listing growing
+step-takes d s = step-has (TopTaken d s) d s enlisting growing
   where
-    listing : T (solves (secondGroup d) (deskTop d s)) → TopTaken d s (deskListed d (freed d s))
-    listing y =
+    enlisting : T (solves (secondGroup d) (deskTop d s)) → TopTaken d s (deskListed d (freed d s))
+    enlisting y =
         record {
           below = λ l j h jq. ap (λ stack. at stack (d .q + 2) l j) (freed-of d s .stack);
           lists = λ z. rw (← same-top d (freed-of d s)) (next-row d (freed d s));
@@ -114,18 +114,18 @@ step-takes d s = step-has (TopTaken d s) d s listing growing
 pub record Aside (s t : State) : Type 0 where
   pub kind : t .run .kind ≡ s .run .kind
   pub second : t .second ≡ s .second
-  pub found₂ : t .run .found₂ ≡ s .run .found₂
-  pub steps₂ : t .run .steps₂ ≡ s .run .steps₂
+  pub found2 : t .run .found2 ≡ s .run .found2
+  pub steps2 : t .run .steps2 ≡ s .run .steps2
 
 aside-same : (s : State) → Aside s s
-aside-same s = record { kind = refl; second = refl; found₂ = refl; steps₂ = refl }
+aside-same s = record { kind = refl; second = refl; found2 = refl; steps2 = refl }
 
 aside-more : {s t u : State} → Aside s t → Aside t u → Aside s u
-aside-more a b = record { kind = b .kind ∙ a .kind; second = b .second ∙ a .second; found₂ = b .found₂ ∙ a .found₂; steps₂ = b .steps₂ ∙ a .steps₂ }
+aside-more a b = record { kind = b .kind ∙ a .kind; second = b .second ∙ a .second; found2 = b .found2 ∙ a .found2; steps2 = b .steps2 ∙ a .steps2 }
 
 swept-aside : (q : ℕ) (s : State) → Aside s (swept q s)
 unfolding swept
-swept-aside q s = record { kind = refl; second = refl; found₂ = refl; steps₂ = refl }
+swept-aside q s = record { kind = refl; second = refl; found2 = refl; steps2 = refl }
 
 settled-aside : (d : Desk) (s : State) → Aside s (settled d s)
 settled-aside d s = settled-has (Aside s) d s (swept-aside (d .q) s) (aside-same s)
@@ -133,11 +133,11 @@ settled-aside d s = settled-has (Aside s) d s (swept-aside (d .q) s) (aside-same
 step-aside : (d : Desk) (s : State) → Aside s (deskStep d s)
 unfolding deskListed deskGrown
 step-aside d s =
-    step-has (Aside s) d s (λ y. listing (freed d s) (freed-has (Aside s) d s (swept-aside (d .q) s) (aside-same s)))
-    (λ n. record { kind = refl; second = refl; found₂ = refl; steps₂ = refl })
+    step-has (Aside s) d s (λ y. enlisting (freed d s) (freed-has (Aside s) d s (swept-aside (d .q) s) (aside-same s)))
+    (λ n. record { kind = refl; second = refl; found2 = refl; steps2 = refl })
   where
-    listing : (t : State) → Aside s t → Aside s (deskListed d t)
-    listing t a = record { kind = a .kind; second = a .second; found₂ = a .found₂; steps₂ = a .steps₂ }
+    enlisting : (t : State) → Aside s t → Aside s (deskListed d t)
+    enlisting t a = record { kind = a .kind; second = a .second; found2 = a .found2; steps2 = a .steps2 }
 
 pub aside-kept : (budget : ℕ) (d : Desk) (s : State) → Aside s (left budget d s)
 aside-kept budget d s =

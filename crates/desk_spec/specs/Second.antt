@@ -13,7 +13,7 @@ use Rattle.linear.specs.Systems.{Solution, SolutionIn, value}
 use Rattle.linear.specs.Tuples.{Minimal, Nonzero, Same}
 use Rattle.theorems.specs.View.{View}
 use Rattle.theorems.specs.Reaching.{Alike, Begins, Grows, Lists, Plus, Raising, Reaching, Sure, WantedBy, alike-reaches, alike-sure, begins-reaching}
-use Rattle.theorems.specs.Reaching.{begins-sure, growing-reaches, growing-sure, listing-reaches, listing-sure}
+use Rattle.theorems.specs.Reaching.{begins-sure, growing-reaches, growing-sure, enlisting-reaches, enlisting-sure}
 use Rattle.linear.specs.Loops.{Loop, Solutions, loops-make-up}
 use Rattle.desk_spec.specs.Sweeping.{Sweeps, sweeping-enumerates, sweeping-reaches, sweeping-sure}
 
@@ -90,7 +90,7 @@ minimal-of f g t m = record { holds = f t (m .holds); none-below = λ s v b. m .
 -- same rows.
 pub data Walked (r : Raising) : View → Type 0 where
   begun : {v : View} → Begins r v → Walked r v
-  listing : {v w : View} → Walked r v → Lists r v w 0 → Walked r w
+  enlisting : {v w : View} → Walked r v → Lists r v w 0 → Walked r w
   growing : {v w : View} {rest : ℕ} {makes : ℕ → Bool} → Walked r v → Grows r v w rest makes → Walked r w
   sweeping : {v w : View} → Walked r v → Sweeps r v w → Walked r w
   relisting : {v w : View} → Walked r v → Alike (r .q) (r .n) v w → Walked r w
@@ -98,14 +98,14 @@ pub data Walked (r : Raising) : View → Type 0 where
 module _ {r : Raising} where
   walked-sure : ((v : View) → Begins r v → Sure r v) → {v : View} → Walked r v → Sure r v
   walked-sure start (begun {v = v} b) = start v b
-  walked-sure start (listing w s) = listing-sure s (walked-sure start w)
+  walked-sure start (enlisting w s) = enlisting-sure s (walked-sure start w)
   walked-sure start (growing w s) = growing-sure s (walked-sure start w)
   walked-sure start (sweeping w s) = sweeping-sure s (walked-sure start w)
   walked-sure start (relisting w s) = alike-sure s (walked-sure start w)
 
   walked-reaches : ((v : View) → Begins r v → Reaching r v) → {v : View} → Walked r v → Reaching r v
   walked-reaches start (begun {v = v} b) = start v b
-  walked-reaches start (listing w s) = listing-reaches s (walked-reaches start w)
+  walked-reaches start (enlisting w s) = enlisting-reaches s (walked-reaches start w)
   walked-reaches start (growing w s) = growing-reaches s (walked-reaches start w)
   walked-reaches start (sweeping w s) = sweeping-reaches s (walked-reaches start w)
   walked-reaches start (relisting w s) = alike-reaches s (walked-reaches start w)

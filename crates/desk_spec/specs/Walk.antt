@@ -51,7 +51,7 @@ use Rattle.desk_spec.specs.Valid.{
   same-top,
 }
 use Rattle.desk_spec.specs.Valid.{settled-has, start-valid, step-has, sweep-leaves, sweep-valid, swept-of}
-use Rattle.desk_spec.specs.Second.{Walked, begun, byGenerators, first-onwards, growing, listing, relisting, sweeping}
+use Rattle.desk_spec.specs.Second.{Walked, begun, byGenerators, first-onwards, growing, enlisting, relisting, sweeping}
 use Rattle.desk_spec.specs.Sweeping.{Sweeps}
 
 -- there is one list
@@ -215,7 +215,7 @@ module _ (d : Desk) (p₁ : ℕ) (a₁ : ℕ → ℕ → ℤ) (solve : Solutions
       → T (solves (secondGroup d) (deskTop d s)) → Sound (deskListed d s)
   listed-sound s o high early room y =
       let fits = le-div-iff-mul-le {k = d .q} {x = suc (s .run .found)} {y = length (s .list)} (o .valid .shaped .q-some) .0 room in
-      record { valid = listed-valid d s (o .valid) high early room; walked = listing (o .walked) (lists s (o .valid) high (omega arith) y) }
+      record { valid = listed-valid d s (o .valid) high early room; walked = enlisting (o .walked) (lists s (o .valid) high (omega arith) y) }
 
   pub step-sound : (s : State) → Sound s → DeskGoing d s → Sound (deskStep d s)
   step-sound s o g =

@@ -3,4 +3,4 @@ pub mod Walking
 pub mod Turning
 pub mod Trying
 pub mod Pushing
-pub mod Listing
+pub mod Enlisting

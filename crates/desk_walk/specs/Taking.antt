@@ -39,24 +39,24 @@ use Rattle.desk_spec.specs.Records.{lentWith}
 use Rattle.desk_spec.specs.Valid.{DeskShaped, DeskValid, children-few, free}
 use Rattle.desk_rows.specs.Images.{Factors, Images, SmallDesk, entry, map-value}
 use Rattle.desk_rows.specs.Rows.{SmallTuple, row-alike}
-use Rattle.desk_walk.specs.Listing as listing
-use Rattle.desk_walk.specs.Listing.{Enlisted, sweptCount, sweptList}
+use Rattle.desk_walk.specs.Enlisting as enlisting
+use Rattle.desk_walk.specs.Enlisting.{Enlisted, sweptCount, sweptList}
 use Rattle.desk_walk.specs.Pushing.{Pushing, pushed}
-use Rattle.desk_walk.specs.Trying.{Tries, Trying, large-tried, largeBy, made-tried, madeBy, triedBy}
-use Rattle.desk_walk.specs.declared.step.Tried.the-variants.{Made, TooLarge}
-use Rattle.desk_walk.specs.declared.step.Stepped.{Stepped}
-use Rattle.desk_walk.specs.declared.step.Stepped.the-variants.{Grown, Listed, Refused}
+use Rattle.desk_walk.specs.Trying.{Tries, Trying, large-tried, largeBy, made-tried, madeBy, generatorsTried}
+use Rattle.desk_walk.specs.declared.step.TriedGenerators.the-variants.{Made, TooLarge}
+use Rattle.desk_walk.specs.declared.step.DeskStepped.{DeskStepped}
+use Rattle.desk_walk.specs.declared.step.DeskStepped.the-variants.{Grown, Listed, Refused}
 
 -- a state with other tables, counts and depth
 abbrev pub movedTo : State → List ℕ → List ℕ → ℕ → ℕ → ℕ → ℕ → State
 movedTo s stack list height found steps deepest =
     lentWith s stack list
-    (record { kind = s .run .kind; height = height; found = found; steps = steps; found₂ = s .run .found₂; steps₂ = s .run .steps₂; deepest = deepest })
+    (record { kind = s .run .kind; height = height; found = found; steps = steps; found2 = s .run .found2; steps2 = s .run .steps2; deepest = deepest })
 
 -- the state of a walk that was handed the record r, whose counts and depth have moved
 abbrev pub stateAt : Record → List ℕ → List ℕ → ℕ → ℕ → ℕ → ℕ → State
 stateAt r stack list height found steps deepest =
-    stateOf stack list (recordOf (r .kind) height (record { 0 = found }) (record { 0 = steps }) (r .second) (r .before) deepest)
+    stateOf stack list (recordOf (r .kind) height (record { 0 = found }) (record { 0 = steps }) (r .found2) (r .steps2) deepest)
 
 -- ---- what is handed over
 
@@ -87,12 +87,12 @@ pub record Standing (p q : ℕ) (coefs : List ℤ) (generators : List ℕ) (imag
   pub long : q ≤ length top
 
 -- what a step came to
-abbrev pub Came : Desk → State → List ℕ → List ℕ → Stepped → Type 0
+abbrev pub Came : Desk → State → List ℕ → List ℕ → DeskStepped → Type 0
 Came d s stack list (Listed k) = (deskSearchChecks d s ≡ go) × (movedTo s stack list (deskLevel s) k (s .run .steps + 1) (deskDeeper d s) ≡ deskStep d s)
 Came d s stack list (Grown h) = (deskSearchChecks d s ≡ go) × (movedTo s stack list h (s .run .found) (s .run .steps + 1) (deskDeeper d s) ≡ deskStep d s)
 Came d s stack list (Refused why) = (deskSearchChecks d s ≡ refuse (numberOf why) (valuesOf why)) × (stack ≡ s .stack) × (list ≡ s .list)
 
-pub record Taken (d : Desk) (s : State) (stack list : List ℕ) (r : Stepped) : Type 0 where
+pub record Taken (d : Desk) (s : State) (stack list : List ℕ) (r : DeskStepped) : Type 0 where
   pub came : Came d s stack list r
 
 -- ---- lists of rows that all stay
@@ -235,18 +235,18 @@ module _ {p q : ℕ} {coefs : List ℤ} {generators : List ℕ} {images : List �
     unfolding swept
     swept-found = refl
 
-    pub came-listed : {after : List ℕ} {r : Stepped} → Enlisted q (s .run .found) (tuple top) (s .list) after r → Taken d s (s .stack) after r
-    came-listed {after} (listing.roomy room e w) =
+    pub came-listed : {after : List ℕ} {r : DeskStepped} → Enlisted q (s .run .found) (tuple top) (s .list) after r → Taken d s (s .stack) after r
+    came-listed {after} (enlisting.roomy room e w) =
         let none = unfreed room in
         let f : deskFull d s ≡ false = ap (λ t. leb (capacity q (s .list)) (t .run .found)) none ∙ lt-leb (capacity q (s .list)) (s .run .found) room in
         rw e (record { came = (goes f, listed-now w ∙ sym (steps-listed ∙ ap (deskListed d) none)) })
-    came-listed {after} (listing.freed l room e w) =
+    came-listed {after} (enlisting.freed l room e w) =
         let swept-now = was-freed l in
         let f : deskFull d s ≡ false =
         ap (λ t. leb (capacity q (s .list)) (t .run .found)) swept-now ∙ ap (leb (capacity q (s .list))) swept-found
         ∙ lt-leb (capacity q (s .list)) (sweptCount q (s .run .found) (s .list)) room in
         rw e (record { came = (goes f, listed-swept w ∙ sym (steps-listed ∙ ap (deskListed d) swept-now)) })
-    came-listed {after} (listing.full l none e w) =
+    came-listed {after} (enlisting.full l none e w) =
         let swept-now = was-freed l in
         let f : deskFull d s ≡ true =
         ap (λ t. leb (capacity q (s .list)) (t .run .found)) swept-now ∙ ap (leb (capacity q (s .list))) swept-found
@@ -330,11 +330,11 @@ module _ {p q : ℕ} {coefs : List ℤ} {generators : List ℕ} {images : List �
     -- ---- as code has them: the number of generators and the marks of the top known by equations
 
     module _ {m marks′ : ℕ} (em : m ≡ n) (ek : marks′ ≡ marks) where
-      pub take-large : TooLarge ≡ triedBy p q generators m images (s .list) (s .run .found) (tuple top) marks′
+      pub take-large : TooLarge ≡ generatorsTried p q generators m images (s .list) (s .run .found) (tuple top) marks′
           → Taken d s (s .stack) (s .list) (Refused ComponentLimit)
       take-large e = came-large (large-tried p q generators n images (s .list) (s .run .found) top marks (rw (em, ek) at e))
 
-      module _ {made : ℕ} (e : Made made ≡ triedBy p q generators m images (s .list) (s .run .found) (tuple top) marks′) where
+      module _ {made : ℕ} (e : Made made ≡ generatorsTried p q generators m images (s .list) (s .run .found) (tuple top) marks′) where
         tries : Tries p q generators images (s .list) (s .run .found) top marks n made
         tries = made-tried p q generators n images (s .list) (s .run .found) top marks (rw (em, ek) at e)
 

@@ -1,6 +1,6 @@
 -- Which generators make a child, from the images kept beside the stack; and one turn of trying them. Assumes nothing.
-use mathlib.Core.Path.{_≡_, refl, sym, _∙_, ap, subst}
-use mathlib.Core.Bool.{Bool, true, false, not, _&&_, and-false}
+use mathlib.Core.Path.{_≡_, refl, sym, _∙_, ap}
+use mathlib.Core.Bool.{Bool, true, false, not, _&&_, and-false, cond}
 use mathlib.Core.List.{List}
 use Prim.Native.Nat.{ℕ, suc, _+_, _*_, _^_, _%_, _≤_, _<_}
 use native.Mathlib.Nat.{one-mul, pow-le-pow-right}
@@ -26,12 +26,13 @@ use Rattle.laws.specs.TableLaws.{row-fits}
 use Rattle.laws.specs.MarkLaws.{shift-one-wide}
 use Rattle.table_rows.specs.Rows.{tuple}
 use Rattle.products.specs.Marks.{any-zero, marks-below, marks-skip, marks-zero}
+use Rattle.products.specs.Trials.{large-if, made-if}
 use Rattle.table_rows.specs.Small.{SmallRow}
 use Rattle.desk_spec.specs.Desks.{plus}
 use Rattle.desk_rows.specs.Images.{Factors, entry, product-fits}
 use Rattle.desk_rows.specs.Rows.{Raised, SmallTuple}
-use Rattle.desk_walk.specs.declared.step.Tried.{Tried}
-use Rattle.desk_walk.specs.declared.step.Tried.the-variants.{Made, TooLarge}
+use Rattle.desk_walk.specs.declared.step.TriedGenerators.{TriedGenerators}
+use Rattle.desk_walk.specs.declared.step.TriedGenerators.the-variants.{Made, TooLarge}
 
 -- generator j is not marked, and the inner product of rows 64 and j is below zero
 abbrev pub openBy : ℕ → List ℤ → ℕ → ℕ → Bool
@@ -45,15 +46,11 @@ madeBy p q generators images list found x marks j =
 abbrev pub largeBy : ℕ → List ℕ → (ℕ → ℕ) → ℕ → Bool
 largeBy q generators x j = anyTo q (λ i. ltb mostComponent (plus x (at generators q j) i))
 
-abbrev pub triedIf : Bool → ℕ → Tried
-triedIf true made = TooLarge
-triedIf false made = Made made
-
 -- a child that would have a component above the limit decides; else the generators that make one are told, as marks
-unfoldable pub triedBy : (p q : ℕ) (generators : List ℕ) (n : ℕ) (images : List ℤ) (list : List ℕ) (found : ℕ) (x : ℕ → ℕ) (marks : ℕ) → Tried
-triedBy p q generators n images list found x marks =
-    triedIf (anyTo n (λ j. madeBy p q generators images list found x marks j && largeBy q generators x j))
-    (marksTo n (madeBy p q generators images list found x marks))
+unfoldable pub generatorsTried : (p q : ℕ) (generators : List ℕ) (n : ℕ) (images : List ℤ) (list : List ℕ) (found : ℕ) (x : ℕ → ℕ) (marks : ℕ) → TriedGenerators
+generatorsTried p q generators n images list found x marks =
+    cond (anyTo n (λ j. madeBy p q generators images list found x marks j && largeBy q generators x j)) TooLarge
+    (Made (marksTo n (madeBy p q generators images list found x marks)))
 
 -- what is known as they are tried on the tuple that `top` holds
 pub record Trying (p q : ℕ) (generators : List ℕ) (n : ℕ) (images : List ℤ) (list : List ℕ) (found : ℕ) (top : List ℕ) : Type 0 where
@@ -143,8 +140,8 @@ module _ (p q : ℕ) (generators : List ℕ) (images : List ℤ) (list : List �
     large-same = any-same q _ _ (λ i l. ap (ltb mostComponent) (same i l))
 
     pub tries-large : covered q found (at list q) z ≡ false → anyTo q (λ i. ltb mostComponent (z i)) ≡ true → (n : ℕ) → j < n
-        → TooLarge ≡ triedBy p q generators n images list found x marks
-    unfolding triedBy
+        → TooLarge ≡ generatorsTried p q generators n images list found x marks
+    unfolding generatorsTried
     tries-large e h n l = rw (any-holds n large j l (rw (makes-one e) (sym large-same ∙ h)))
 
     pub tries-made : j < 64 → covered q found (at list q) z ≡ false → anyTo q (λ i. ltb mostComponent (z i)) ≡ false
@@ -152,38 +149,26 @@ module _ (p q : ℕ) (generators : List ℕ) (images : List ℤ) (list : List �
     tries-made l e h =
         record { marked = marks-add j made makes (t .marked) l (makes-one e); none = any-next j large (t .none) (rw (makes-one e) (sym large-same ∙ h)) }
 
-  pub tries-all : {n made : ℕ} → Tries n made → Made made ≡ triedBy p q generators n images list found x marks
-  unfolding triedBy
+  pub tries-all : {n made : ℕ} → Tries n made → Made made ≡ generatorsTried p q generators n images list found x marks
+  unfolding generatorsTried
   tries-all t = rw (t .none, t .marked)
 
 -- ---- the cases apart
 
-abbrev IsLarge : Tried → Type 0
-IsLarge TooLarge = Unit
-IsLarge (Made made) = ⊥
-
-abbrev madeOf : Tried → ℕ
-madeOf TooLarge = 0
-madeOf (Made made) = made
-
-large-if : (b : Bool) (m : ℕ) → TooLarge ≡ triedIf b m → b ≡ true
-large-if true m e = refl
-large-if false m e = absurd (subst IsLarge e tt)
-
-made-if : (b : Bool) (m : ℕ) {made : ℕ} → Made made ≡ triedIf b m → (b ≡ false) × (made ≡ m)
-made-if true m e = absurd (subst IsLarge (sym e) tt)
-made-if false m e = (refl, ap madeOf e)
+abbrev readOf : TriedGenerators → ℕ
+readOf TooLarge = 0
+readOf (Made made) = suc made
 
 module _ (p q : ℕ) (generators : List ℕ) (n : ℕ) (images : List ℤ) (list : List ℕ) (found : ℕ) (top : List ℕ) (marks : ℕ) where
-  pub large-tried : TooLarge ≡ triedBy p q generators n images list found (tuple top) marks
+  pub large-tried : TooLarge ≡ generatorsTried p q generators n images list found (tuple top) marks
       → anyTo n (λ j. madeBy p q generators images list found (tuple top) marks j && largeBy q generators (tuple top) j) ≡ true
-  unfolding triedBy
-  large-tried e = large-if _ _ e
+  unfolding generatorsTried
+  large-tried e = large-if TooLarge Made readOf refl (λ m. refl) _ _ e
 
-  pub made-tried : {made : ℕ} → Made made ≡ triedBy p q generators n images list found (tuple top) marks
+  pub made-tried : {made : ℕ} → Made made ≡ generatorsTried p q generators n images list found (tuple top) marks
       → Tries p q generators images list found top marks n made
-  unfolding triedBy
-  made-tried e = let (a, b) = made-if _ _ e in record { marked = b; none = a }
+  unfolding generatorsTried
+  made-tried e = let (a, b) = made-if TooLarge Made readOf refl (λ m. refl) _ _ e in record { marked = b; none = a }
 
 -- an inner product as it is handed on and read back
 pub product-back : {p : ℕ} {images : List ℤ} {a b : ℕ} → Factors p images a b → {v : ℤ} → v ≡ inner p (entry images a) (entry images b)

@@ -23,8 +23,8 @@ use Rattle.desk_spec.specs.Desks.{Desk, deskMachine, deskOf}
 use Rattle.desk_spec.specs.Valid.{DeskValid}
 use Rattle.desk_rows.specs.Images.{ImageWritten, Images, imageAt}
 use Rattle.desk_rows.specs.Rows.{SmallTuple}
-use Rattle.desk_walk.specs.declared.step.Stepped.{Stepped}
-use Rattle.desk_walk.specs.declared.step.Stepped.the-variants.{Grown, Listed, Refused}
+use Rattle.desk_walk.specs.declared.step.DeskStepped.{DeskStepped}
+use Rattle.desk_walk.specs.declared.step.DeskStepped.the-variants.{Grown, Listed, Refused}
 use Rattle.desk_walk.specs.Taking.{Standing, Taken, stateAt}
 use Rattle.desk_walk.specs.Walking.{Walking, ends-refused, goes-on}
 
@@ -70,7 +70,7 @@ deeper {q} {top} {stack} {base} deepest h e m = m ∙ ap (max deepest) (e ∙ to
 
 module _ (r : Record) {d : Desk} {budget left : ℕ} {s₀ : State} {stack list : List ℕ} {height found steps deepest : ℕ}
     (w : Walking d budget s₀ left (stateAt r stack list height found steps deepest)) (h : 0 < height) (more : 0 < left)
-    {came : Stepped} {stack′ list′ : List ℕ} (t : Taken d (stateAt r stack list height found steps deepest) stack′ list′ came) where
+    {came : DeskStepped} {stack′ list′ : List ℕ} (t : Taken d (stateAt r stack list height found steps deepest) stack′ list′ came) where
   abbrev s : State
   s = stateAt r stack list height found steps deepest
 

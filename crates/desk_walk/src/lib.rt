@@ -10,8 +10,8 @@ ghost use Rattle.desk_spec.specs.Valid.{DeskValid};
 ghost use Rattle.calls.specs.Paper.{outcomeOf, stateOf};
 ghost use Rattle.desk_rows.specs.Images.{ImageWritten, SmallMap, imageAt};
 ghost use Rattle.desk_walk.specs.Taking.{Standing, Taken, stateAt};
-use crate::step::Stepped;
-use crate::step::Tried;
+use crate::step::DeskStepped;
+use crate::step::TriedGenerators;
 use calls::Answer;
 use calls::Outcome;
 use calls::Record;
@@ -23,7 +23,7 @@ use desk_rows::rows;
 pub mod step; // step.rt: one step
 
 // At most `budget` steps.
-pub fn walk(
+pub fn walk_desk(
     p: usize,
     q: usize,
     coefs: &[i32],
@@ -41,7 +41,7 @@ pub fn walk(
     let mut found = r.found.0;
     let mut steps = r.steps.0;
     let mut deepest = r.deepest;
-    let second = r.second.0;
+    let second = r.found2.0;
     let n = generators.len() / q;
     let mut images = [0i64; 520];
     images::write_all(p, q, coefs, generators, n, &mut images);
@@ -89,12 +89,12 @@ pub fn walk(
             steps,
             deepest,
         ) {
-            Stepped::Listed(k) => {
+            DeskStepped::Listed(k) => {
                 height -= 1;
                 found = k;
             }
-            Stepped::Grown(h) => height = h,
-            Stepped::Refused(why) => return calls::left(
+            DeskStepped::Grown(h) => height = h,
+            DeskStepped::Refused(why) => return calls::left(
                 Answer::Refused(why),
                 r,
                 height,
@@ -153,7 +153,7 @@ fn take(
     found: usize,
     steps: u64,
     deepest: u64,
-) -> Stepped
+) -> DeskStepped
     requires { ⌜ Standing p q (now coefs) (now generators) (now images) (now top) (stateAt r (now stack) (now list) height found steps deepest) ⌝ }
     requires { ⌜ (n ≡ length (now generators) / q) × (q ≤ length (now child)) ⌝ }
     ensures { λ t. ⌜ Taken (deskOf p q (now (coefs .entry)) (now (generators .entry)))
@@ -166,10 +166,10 @@ fn take(
     }
     let base = level * (q + 2);
     let marks = marks::join(stack[base + q], stack[base + (q + 1)]);
-    match step::children(p, q, generators, n, images, list, found, top, child, marks) {
-        Tried::TooLarge => Stepped::Refused(Refusal::ComponentLimit),
-        Tried::Made(made) => {
-            Stepped::Grown(step::push(q, generators, n, stack, level, top, child, marks, made))
+    match step::admitted_generators(p, q, generators, n, images, list, found, top, child, marks) {
+        TriedGenerators::TooLarge => DeskStepped::Refused(Refusal::ComponentLimit),
+        TriedGenerators::Made(made) => {
+            DeskStepped::Grown(step::push(q, generators, n, stack, level, top, child, marks, made))
         }
     }
 }

@@ -10,47 +10,47 @@ ghost use Rattle.linear.specs.Tests.{countTo};
 ghost use Rattle.definitions.specs.Tables.{frozen};
 ghost use Rattle.table_rows.specs.Rows.{tuple};
 ghost use Rattle.desk_rows.specs.Images.{Factors, entry};
-ghost use Rattle.desk_walk.specs.Trying.{Trying, triedBy};
+ghost use Rattle.desk_walk.specs.Trying.{Trying, generatorsTried};
 ghost use Rattle.desk_walk.specs.Pushing.{Pushing, pushed};
-ghost use Rattle.desk_walk.specs.Listing.{Enlisted};
+ghost use Rattle.desk_walk.specs.Enlisting.{Enlisted};
 use calls::Refusal;
 use desk_rows::images;
 use desk_rows::marks;
 use desk_rows::rows;
 
 // What a step came to: a solution listed, with the number of rows then listed; children written up to a height; or a refusal.
-pub enum Stepped {
+pub enum DeskStepped {
     Listed(usize),
     Grown(usize),
     Refused(Refusal),
 }
 
 // What trying the generators came to: a child would have a component above the limit, or those that make a child, as marks.
-pub enum Tried {
+pub enum TriedGenerators {
     TooLarge,
     Made(u64),
 }
 
 // Lists a solution where there is room, or where a sweep makes room.
-pub fn enlist(list: &mut [u32], found: usize, q: usize, top: &[u32]) -> Stepped
+pub fn enlist(list: &mut [u32], found: usize, q: usize, top: &[u32]) -> DeskStepped
     requires { ⌜ (0 < q) × (q ≤ length (now top)) × (found * q ≤ length (now list)) ⌝ }
     ensures { λ r. ⌜ Enlisted q found (tuple (now (top .entry))) (now (list .entry)) (now (list .exit)) r ⌝ }
 {
     let capacity = list.len() / q;
     if found < capacity {
         table_rows::rows::write(list, found * q, q, top);
-        return Stepped::Listed(found + 1);
+        return DeskStepped::Listed(found + 1);
     }
     let left = table_rows::sweep::sweep(list, found, q);
     if capacity <= left {
-        return Stepped::Refused(Refusal::ListFull);
+        return DeskStepped::Refused(Refusal::ListFull);
     }
     table_rows::rows::write(list, left * q, q, top);
-    Stepped::Listed(left + 1)
+    DeskStepped::Listed(left + 1)
 }
 
 // Which of the n generators make a child of the tuple `top`, whose image stands in row 64; what `child` holds is of no meaning.
-pub fn children(
+pub fn admitted_generators(
     p: usize,
     q: usize,
     generators: &[u32],
@@ -61,9 +61,9 @@ pub fn children(
     top: &[u32],
     child: &mut [u32],
     marks: u64,
-) -> Tried
+) -> TriedGenerators
     requires { ⌜ Trying p q (now generators) n (now images) (now list) found (now top) × (q ≤ length (now child)) ⌝ }
-    ensures { λ r. ⌜ r ≡ triedBy p q (now (generators .entry)) n (now (images .entry)) (now (list .entry)) found (tuple (now (top .entry))) marks ⌝ }
+    ensures { λ r. ⌜ r ≡ generatorsTried p q (now (generators .entry)) n (now (images .entry)) (now (list .entry)) found (tuple (now (top .entry))) marks ⌝ }
 {
     let mut made: u64 = 0;
     let mut next = 0;
@@ -78,11 +78,11 @@ pub fn children(
             continue;
         }
         if rows::is_large(child, q) {
-            return Tried::TooLarge;
+            return TriedGenerators::TooLarge;
         }
         made += 1 << j;
     }
-    Tried::Made(made)
+    TriedGenerators::Made(made)
 }
 
 // Whether generator j is not marked, and the inner product below zero.

@@ -267,7 +267,7 @@ same-sides p q coefs rights x y (suc (suc c)) low out out′ l l′ = absurd (om
 pub sides-held : (p q : ℕ) (coefs b : List ℤ) (list : List ℕ) (n : ℕ) → BothLists p q coefs b list n → (out out′ : List ℕ)
     → handedCount 0 q list n * q ≤ length out → handedCount 1 q list n * q ≤ length out′ → (s : State)
     → s .list ≡ handed 0 q nothing list n out → s .run .found ≡ handedCount 0 q list n
-    → s .second ≡ handed 1 q nothing list n out′ → s .run .found₂ ≡ handedCount 1 q list n → Held.Whole (map.rights b) (inputOf p q coefs) s
+    → s .second ≡ handed 1 q nothing list n out′ → s .run .found2 ≡ handedCount 1 q list n → Held.Whole (map.rights b) (inputOf p q coefs) s
 sides-held p q coefs b list n x out out′ room room′ s e f e′ f′ = (rw (e, f) (x .at-zero out room), rw (e′, f′) (x .at-one out′ room′))
 
 -- What meets the right sides is one of the smallest such tuples and loops besides: from both lists, in whatever tables they lie (Job 13).

@@ -10,7 +10,7 @@ use Rattle.equation_spec.specs.Outcome.{Outcome, accepted, checked, list}
 use Rattle.equation_read.specs.declared.equation.EquationRead.{EquationRead}
 use Rattle.equation_read.specs.declared.equation.EquationRead.the-variants.{Equation, Refused}
 use Rattle.equation_read.specs.declared.equation.EquationRefusal.{EquationRefusal}
-use Rattle.equation_read.specs.declared.equation.EquationRefusal.the-variants.{Length, Unknowns, Row, Grammar, Depth, Steep, Coefficient, RightSide}
+use Rattle.equation_read.specs.declared.equation.EquationRefusal.the-variants.{Length, Unknowns, Row, Grammar, Depth, Multiplier, Coefficient, RightSide}
 
 -- the right side read, or the refusal's number and values; and the row as it is left
 pub data Answer : Type 0 where
@@ -28,7 +28,7 @@ numberOf Unknowns = 2
 numberOf Row = 3
 numberOf (Grammar place) = 16
 numberOf Depth = 17
-numberOf Steep = 18
+numberOf Multiplier = 18
 numberOf (Coefficient place) = 7
 numberOf RightSide = 15
 
@@ -39,7 +39,7 @@ valuesOf Unknowns = []
 valuesOf Row = []
 valuesOf (Grammar place) = place ∷ []
 valuesOf Depth = []
-valuesOf Steep = []
+valuesOf Multiplier = []
 valuesOf (Coefficient place) = place ∷ []
 valuesOf RightSide = []
 

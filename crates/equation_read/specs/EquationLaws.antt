@@ -18,7 +18,7 @@ use Rattle.definitions.specs.Refusals.{outOfRange}
 use Rattle.laws.specs.AnswerLaws.{refuse-at, refuse-next}
 use Rattle.texts.specs.Reading.{mostBytes, Parse, parsed, malformed}
 use Rattle.equation_spec.specs.Grammar.{Equation, Reads}
-use Rattle.equation_spec.specs.Meaning.{ofSum, coefficient, rightSide, sumDepth, sumSteep}
+use Rattle.equation_spec.specs.Meaning.{ofSum, coefficient, rightSide, sumDepth, sumExceeds}
 use Rattle.equation_spec.specs.Reader.{readEquation}
 use Rattle.equation_spec.specs.Scan.{place}
 use Rattle.equation_spec.specs.Outcome.{Outcome, accepted, checked, list, mostDepth, limits, treeOutcome, outcome}
@@ -26,7 +26,6 @@ use Rattle.equation_spec.specs.Outcome as form
 use Rattle.equation_spec.specs.Agreement.{read-any, read-reads}
 use Rattle.equation_spec.specs.PlaceLaws.{reads-placed}
 use Rattle.equation_read.specs.Answer.{read, refused, answered, totalsOutcome, Ranged}
-use Rattle.equation_read.specs.Totals.{isSteep}
 use Rattle.equation_read.specs.MeaningLaws.{set-at}
 
 -- ---- the row
@@ -59,28 +58,28 @@ module _ (q : ℕ) (ts row : List ℤ) where
   abbrev pub outAt : ℕ → Bool
   outAt i = outOfRange (getD ts (suc i) (pos 0))
 
-  negated-range : (z : ℤ) → outOfRange (negℤ z) ≡ isSteep z
+  negated-range : (z : ℤ) → outOfRange (negℤ z) ≡ outOfRange z
   negated-range z = ap (ltb coefLimit) (natAbs-negℤ z)
 
-  pub coefficient-out : (i : ℕ) → i < q → refuseFirst 7 i outAt ≡ go → isSteep (getD ts (i + 1) (pos 0)) ≡ true
+  pub coefficient-out : (i : ℕ) → i < q → refuseFirst 7 i outAt ≡ go → outOfRange (getD ts (i + 1) (pos 0)) ≡ true
       → refused 7 ((i + 1) ∷ []) row ≡ answered (totalsOutcome q ts) row
   unfolding answered totalsOutcome checked _then_
-  coefficient-out i l h e = rw (refuse-at 7 q outAt i l h (ap (λ k. isSteep (getD ts k (pos 0))) (sym (add-one i)) ∙ e))
+  coefficient-out i l h e = rw (refuse-at 7 q outAt i l h (ap (λ k. outOfRange (getD ts k (pos 0))) (sym (add-one i)) ∙ e))
 
-  pub right-out : refuseFirst 7 q outAt ≡ go → isSteep (getD ts 0 (pos 0)) ≡ true → refused 15 [] row ≡ answered (totalsOutcome q ts) row
+  pub right-out : refuseFirst 7 q outAt ≡ go → outOfRange (getD ts 0 (pos 0)) ≡ true → refused 15 [] row ≡ answered (totalsOutcome q ts) row
   unfolding answered totalsOutcome checked _then_ refuseWith
   right-out h e = rw (h, negated-range (getD ts 0 (pos 0)), e)
 
-  pub all-in : refuseFirst 7 q outAt ≡ go → isSteep (getD ts 0 (pos 0)) ≡ false → {after : List ℤ} {right : ℤ} → after ≡ list q 1 (λ k. getD ts k (pos 0))
+  pub all-in : refuseFirst 7 q outAt ≡ go → outOfRange (getD ts 0 (pos 0)) ≡ false → {after : List ℤ} {right : ℤ} → after ≡ list q 1 (λ k. getD ts k (pos 0))
       → right ≡ negℤ (getD ts 0 (pos 0))
       → read right after ≡ answered (totalsOutcome q ts) row
   unfolding answered totalsOutcome checked _then_ refuseWith
   all-in h e x y = rw (h, negated-range (getD ts 0 (pos 0)), e, x, y)
 
-  pub range-next : (i : ℕ) → refuseFirst 7 i outAt ≡ go → isSteep (getD ts (i + 1) (pos 0)) ≡ false → refuseFirst 7 (i + 1) outAt ≡ go
-  range-next i h e = refuse-next 7 i outAt h (ap (λ k. isSteep (getD ts k (pos 0))) (sym (add-one i)) ∙ e)
+  pub range-next : (i : ℕ) → refuseFirst 7 i outAt ≡ go → outOfRange (getD ts (i + 1) (pos 0)) ≡ false → refuseFirst 7 (i + 1) outAt ≡ go
+  range-next i h e = refuse-next 7 i outAt h (ap (λ k. outOfRange (getD ts k (pos 0))) (sym (add-one i)) ∙ e)
 
-pub ranged-next : (ts : List ℤ) (i : ℕ) → Ranged i ts → isSteep (getD ts (i + 1) (pos 0)) ≡ false → Ranged (i + 1) ts
+pub ranged-next : (ts : List ℤ) (i : ℕ) → Ranged i ts → outOfRange (getD ts (i + 1) (pos 0)) ≡ false → Ranged (i + 1) ts
 ranged-next ts i r e =
     record {
       range = λ j l.
@@ -115,11 +114,11 @@ module _ (q : ℕ) (few : q ≤ 16) (e : Equation) (t : List ℕ) (reads : Reads
   too-deep l = rw (whole-is, lt-ltb mostDepth _ l)
 
   module _ (l : max (sumDepth (e .left)) (sumDepth (e .right)) ≤ mostDepth) where
-    pub too-steep : (sumSteep (e .left) 1 || sumSteep (e .right) 1) ≡ true → refused 18 [] row ≡ answered Whole row
+    pub exceeding : (sumExceeds (e .left) 1 || sumExceeds (e .right) 1) ≡ true → refused 18 [] row ≡ answered Whole row
     unfolding limits checked _then_ refuseWith answered
-    too-steep h = rw (whole-is, le-ltb mostDepth _ l, h)
+    exceeding h = rw (whole-is, le-ltb mostDepth _ l, h)
 
-    pub from-totals : (ts : List ℤ) → (sumSteep (e .left) 1 || sumSteep (e .right) 1) ≡ false
+    pub from-totals : (ts : List ℤ) → (sumExceeds (e .left) 1 || sumExceeds (e .right) 1) ≡ false
         → ((i : ℕ) → getD ts i (pos 0) ≡ ofSum (e .left) i -ℤ ofSum (e .right) i)
         → answered (totalsOutcome q ts) row ≡ answered Whole row
     unfolding limits checked _then_ refuseWith totalsOutcome coefficient rightSide

@@ -1,4 +1,4 @@
--- What was collected is the meaning of what was read, unless a bracket was too steep. Assumes nothing.
+-- What was collected is the meaning of what was read, unless the multipliers around a bracket exceed the limit. Assumes nothing.
 use Prim.Native.Nat.{ℕ, zero, suc, _<_}
 use mathlib.Core.Bool.{Bool, true, false, cond, _||_}
 use mathlib.Core.List.{List, [], _∷_}
@@ -11,12 +11,13 @@ use borrow.Author.Tests.{eqb-true, ne-eqb, eq-eqb}
 use Rattle.linear.specs.Integers.{natAbs-*ℤ, natAbs-negℤ}
 use Rattle.linear.specs.Terms.{ring, #_, _⊕_, _⊗_, ⊖_}
 use Rattle.definitions.specs.System.{coefLimit}
+use Rattle.definitions.specs.Refusals.{outOfRange}
 use Rattle.equation_spec.specs.Grammar.{Sign, plus, minus, Lead, bare, led, Sum, one, more, Term, number, plain, times, Factor, unknown, bracket}
-use Rattle.equation_spec.specs.Meaning.{signed, ledBy, single, ofSum, ofTerm, ofFactor, sumSteep, termSteep, factorSteep}
+use Rattle.equation_spec.specs.Meaning.{signed, ledBy, single, ofSum, ofTerm, ofFactor, sumExceeds, termExceeds, factorExceeds}
 use Rattle.equation_spec.specs.Unknowns.{SumUpTo, TermUpTo, FactorUpTo}
-use Rattle.equation_read.specs.Totals.{addAt, isSteep, bounded, addSum, addTerm, addFactor, steepSum, steepTerm, steepFactor}
+use Rattle.equation_read.specs.Totals.{addAt, bounded, addSum, addTerm, addFactor, exceedsSum, exceedsTerm, exceedsFactor}
 
--- ---- steepness goes by the size of the multiplier
+-- ---- whether the limit is exceeded goes by the size of the multiplier
 
 signed-size : (s : Sign) (z : ℤ) → natAbs (signed s z) ≡ natAbs z
 signed-size plus z = refl
@@ -34,28 +35,28 @@ or-false : (b : Bool) → (b || false) ≡ b
 or-false true = refl
 or-false false = refl
 
-bracket-steep : (z : ℤ) (x : ℤ → Bool) (y : Bool) → x z ≡ y → (x (bounded z) || isSteep z) ≡ (ltb coefLimit (natAbs z) || y)
-bracket-steep z x y h = go (isSteep z)
+bracket-exceeds : (z : ℤ) (x : ℤ → Bool) (y : Bool) → x z ≡ y → (x (bounded z) || outOfRange z) ≡ (ltb coefLimit (natAbs z) || y)
+bracket-exceeds z x y h = go (outOfRange z)
   where
     go : (b : Bool) → (x (cond b (pos 0) z) || b) ≡ (b || y)
     go true = or-true (x (pos 0))
     go false = or-false (x z) ∙ h
 
 mutual
-  unfolding steepSum sumSteep
+  unfolding exceedsSum sumExceeds
 
-  pub sum-steep : (e : Sum) (z : ℤ) → steepSum e z ≡ sumSteep e (natAbs z)
-  sum-steep (one l u) z = term-steep u (ledBy l z) ∙ ap (termSteep u) (led-size l z)
-  sum-steep (more e s u) z = ap₂ (λ a b. a || b) (sum-steep e z) (term-steep u (signed s z) ∙ ap (termSteep u) (signed-size s z))
+  pub sum-exceeds : (e : Sum) (z : ℤ) → exceedsSum e z ≡ sumExceeds e (natAbs z)
+  sum-exceeds (one l u) z = term-exceeds u (ledBy l z) ∙ ap (termExceeds u) (led-size l z)
+  sum-exceeds (more e s u) z = ap₂ (λ a b. a || b) (sum-exceeds e z) (term-exceeds u (signed s z) ∙ ap (termExceeds u) (signed-size s z))
 
-  pub term-steep : (u : Term) (z : ℤ) → steepTerm u z ≡ termSteep u (natAbs z)
-  term-steep (number n) z = refl
-  term-steep (plain f) z = factor-steep f z
-  term-steep (times n f) z = factor-steep f (z *ℤ pos n) ∙ ap (factorSteep f) (natAbs-*ℤ z (pos n))
+  pub term-exceeds : (u : Term) (z : ℤ) → exceedsTerm u z ≡ termExceeds u (natAbs z)
+  term-exceeds (number n) z = refl
+  term-exceeds (plain f) z = factor-exceeds f z
+  term-exceeds (times n f) z = factor-exceeds f (z *ℤ pos n) ∙ ap (factorExceeds f) (natAbs-*ℤ z (pos n))
 
-  pub factor-steep : (f : Factor) (z : ℤ) → steepFactor f z ≡ factorSteep f (natAbs z)
-  factor-steep (unknown k) z = refl
-  factor-steep (bracket e) z = bracket-steep z (steepSum e) (sumSteep e (natAbs z)) (sum-steep e z)
+  pub factor-exceeds : (f : Factor) (z : ℤ) → exceedsFactor f z ≡ factorExceeds f (natAbs z)
+  factor-exceeds (unknown k) z = refl
+  factor-exceeds (bracket e) z = bracket-exceeds z (exceedsSum e) (sumExceeds e (natAbs z)) (sum-exceeds e z)
 
 -- ---- totals
 
@@ -121,7 +122,7 @@ or-parts : (a b : Bool) → (a || b) ≡ false → (a ≡ false) × (b ≡ false
 or-parts true b e = absurd (let z : _≡_ {A = ℕ} 0 1 = cc in omega arith)
 or-parts false b e = (refl, e)
 
--- Of brackets that are not too steep, each total grows by z times the value.
+-- Where no bracket's multipliers exceed the limit, each total grows by z times the value.
 abbrev Adds : (ℤ → List ℤ → List ℤ) → (ℕ → ℤ) → ℤ → Type 0
 Adds add value z = (ts : List ℤ) (i : ℕ) → length ts ≡ 17 → getD (add z ts) i (pos 0) ≡ getD ts i (pos 0) +ℤ z *ℤ value i
 
@@ -135,24 +136,24 @@ more-adds e s u z f g ts i l =
     (# getD ts i (pos 0) ⊕ # z ⊗ (# ofSum e i ⊕ # signed s (ofTerm u i))) (omega arith)
 
 mutual
-  unfolding addSum ofSum steepSum SumUpTo
+  unfolding addSum ofSum exceedsSum SumUpTo
 
-  pub sum-adds : (e : Sum) (z : ℤ) → SumUpTo e 16 → steepSum e z ≡ false → Adds (addSum e) (ofSum e) z
+  pub sum-adds : (e : Sum) (z : ℤ) → SumUpTo e 16 → exceedsSum e z ≡ false → Adds (addSum e) (ofSum e) z
   sum-adds (one l u) z w h ts i n = term-adds u (ledBy l z) w h ts i n ∙ ap (λ x. getD ts i (pos 0) +ℤ x) (led-times l z (ofTerm u i))
   sum-adds (more e s u) z w h ts i n =
-      more-adds e s u z (λ us j m. sum-adds e z (w .0) (or-parts _ (steepTerm u (signed s z)) h .0) us j m)
-      (λ us j m. term-adds u (signed s z) (w .1) (or-parts (steepSum e z) _ h .1) us j m) ts i n
+      more-adds e s u z (λ us j m. sum-adds e z (w .0) (or-parts _ (exceedsTerm u (signed s z)) h .0) us j m)
+      (λ us j m. term-adds u (signed s z) (w .1) (or-parts (exceedsSum e z) _ h .1) us j m) ts i n
 
-  term-adds : (u : Term) (z : ℤ) → TermUpTo u 16 → steepTerm u z ≡ false → Adds (addTerm u) (ofTerm u) z
+  term-adds : (u : Term) (z : ℤ) → TermUpTo u 16 → exceedsTerm u z ≡ false → Adds (addTerm u) (ofTerm u) z
   term-adds (number n) z w h ts i l = add-at ts 0 i (z *ℤ pos n) (omega arith) ∙ ap (λ x. getD ts i (pos 0) +ℤ x) (times-single z (pos n) 0 i)
   term-adds (plain f) z w h ts i l = factor-adds f z w h ts i l
   term-adds (times n f) z w h ts i l =
       factor-adds f (z *ℤ pos n) w h ts i l
       ∙ ap (λ x. getD ts i (pos 0) +ℤ x) (ring (# z ⊗ # pos n ⊗ # ofFactor f i) (# z ⊗ (# pos n ⊗ # ofFactor f i)) (omega arith))
 
-  factor-adds : (f : Factor) (z : ℤ) → FactorUpTo f 16 → steepFactor f z ≡ false → Adds (addFactor f) (ofFactor f) z
+  factor-adds : (f : Factor) (z : ℤ) → FactorUpTo f 16 → exceedsFactor f z ≡ false → Adds (addFactor f) (ofFactor f) z
   factor-adds (unknown k) z w h ts i l = add-at ts k i z (omega arith) ∙ ap (λ x. getD ts i (pos 0) +ℤ x) (one-single z k i)
   factor-adds (bracket e) z w h ts i l =
-      let (a, b) = or-parts (steepSum e (bounded z)) (isSteep z) h in
+      let (a, b) = or-parts (exceedsSum e (bounded z)) (outOfRange z) h in
       let x : bounded z ≡ z = ap (λ c. cond c (pos 0) z) b in
       rw x (sum-adds e z w (rw x at a) ts i l)

@@ -74,5 +74,5 @@ signed-small false z l = l
 
 -- what was read from place j on was read from an earlier place on
 pub passed-from : (t : List ℕ) (i j : ℕ) (r : After) (us : List ℤ) → length t - j ≤ length t - i → Passed t j r us → Passed t i r us
-passed-from t i j (At next steep) us l a = record { less = omega (arith, a .less); room = a .room }
+passed-from t i j (At next exceeds) us l a = record { less = omega (arith, a .less); room = a .room }
 passed-from t i j Stopped us l a = tt

@@ -11,16 +11,16 @@ use Rattle.linear.specs.Terms.{ring, #_, _⊕_, _⊗_, ⊖_}
 use Rattle.texts.specs.Reading.{Parse}
 use Rattle.texts.specs.NumberLaws.{byte-at}
 use Rattle.equation_spec.specs.Grammar.{Sum, Equation, Reads, sumParts, Spells}
-use Rattle.equation_spec.specs.Meaning.{ofSum, sumDepth, sumSteep}
+use Rattle.equation_spec.specs.Meaning.{ofSum, sumDepth, sumExceeds}
 use Rattle.equation_spec.specs.Reader.{skip, readSum, readBracket, readEquation}
 use Rattle.equation_spec.specs.Outcome.{treeOutcome}
 use Rattle.equation_spec.specs.Unknowns.{reads-upto}
 use Rattle.equation_spec.specs.DepthLaws.{left-deeper, left-is, left-within, equals-after, right-deeper, right-is}
-use Rattle.equation_read.specs.Totals.{addSum, steepSum, collected, stopped, sumCollected, Small}
+use Rattle.equation_read.specs.Totals.{addSum, exceedsSum, collected, stopped, sumCollected, Small}
 use Rattle.equation_read.specs.SumLaws.{sum-parsed, sum-stopped}
-use Rattle.equation_read.specs.MeaningLaws.{sum-steep, sum-length, sum-adds}
+use Rattle.equation_read.specs.MeaningLaws.{sum-exceeds, sum-length, sum-adds}
 use Rattle.equation_read.specs.Answer.{Answer, refused, answered, totalsOutcome}
-use Rattle.equation_read.specs.EquationLaws.{too-deep, too-steep, from-totals}
+use Rattle.equation_read.specs.EquationLaws.{too-deep, exceeding, from-totals}
 
 abbrev pub eight : ℕ → List ℕ → Parse Sum
 eight q s = readSum (readBracket q 8) q s
@@ -43,13 +43,13 @@ pub record Middle (q : ℕ) (e : Equation) (t : List ℕ) (k : ℕ) (ts us : Lis
   pub spells : Spells q (sumParts (e .right) []) (drop (k + 1) t)
   pub within : sumDepth (e .left) ≤ 8
   pub totals : us ≡ addSum (e .left) (pos 1) ts
-  pub steep : st ≡ steepSum (e .left) (pos 1)
+  pub exceeds : st ≡ exceedsSum (e .left) (pos 1)
 
 -- after the right side
 pub record Both (e : Equation) (us vs : List ℤ) (st : Bool) : Type 0 where
   pub within : sumDepth (e .right) ≤ 8
   pub totals : vs ≡ addSum (e .right) (negsuc 0) us
-  pub steep : st ≡ steepSum (e .right) (negsuc 0)
+  pub exceeds : st ≡ exceedsSum (e .right) (negsuc 0)
 
 first-inside : (t : List ℕ) (k : ℕ) (b : ℕ) (s : List ℕ) → drop k t ≡ b ∷ s → (k < length t) × (drop (k + 1) t ≡ s)
 first-inside t k b s e =
@@ -76,7 +76,7 @@ module _ (q : ℕ) (few : q ≤ 16) (e : Equation) (t : List ℕ) (reads : Reads
         spells = rw u m;
         within = left-within q few e t reads 8 p;
         totals = x ∙ ap (λ g. addSum g (pos 1) ts) i;
-        steep = y ∙ ap (λ g. steepSum g (pos 1)) i;
+        exceeds = y ∙ ap (λ g. exceedsSum g (pos 1)) i;
       }
 
   module _ {k : ℕ} {ts us : List ℤ} {st : Bool} (a : Middle q e t k ts us st) (m : ℕ) (s : drop m t ≡ skip (drop (k + 1) t)) where
@@ -90,14 +90,14 @@ module _ (q : ℕ) (few : q ≤ 16) (e : Equation) (t : List ℕ) (reads : Reads
     both h =
         let (f, p, x, y) = sum-parsed (negsuc 0) us (eight q (drop m t)) h in
         let (i, d) = right-is q few e t reads 8 (drop (k + 1) t) (a .spells) (ap (eight q) (sym s) ∙ p) in
-        record { within = d; totals = x ∙ ap (λ g. addSum g (negsuc 0) us) i; steep = y ∙ ap (λ g. steepSum g (negsuc 0)) i }
+        record { within = d; totals = x ∙ ap (λ g. addSum g (negsuc 0) us) i; exceeds = y ∙ ap (λ g. exceedsSum g (negsuc 0)) i }
 
     module _ {vs : List ℤ} {sr : Bool} (b : Both e us vs sr) (row : List ℤ) where
-      steep-is : (st || sr) ≡ (sumSteep (e .left) 1 || sumSteep (e .right) 1)
-      steep-is = ap₂ (λ x y. x || y) (a .steep ∙ sum-steep (e .left) (pos 1)) (b .steep ∙ sum-steep (e .right) (negsuc 0))
+      exceeds-is : (st || sr) ≡ (sumExceeds (e .left) 1 || sumExceeds (e .right) 1)
+      exceeds-is = ap₂ (λ x y. x || y) (a .exceeds ∙ sum-exceeds (e .left) (pos 1)) (b .exceeds ∙ sum-exceeds (e .right) (negsuc 0))
 
-      pub sides-steep : (st || sr) ≡ true → refused 18 [] row ≡ answered (treeOutcome q t (readEquation q (length t) t)) row
-      sides-steep h = too-steep q few e t reads row (omega (arith, a .within, b .within)) (sym steep-is ∙ h)
+      pub sides-exceed : (st || sr) ≡ true → refused 18 [] row ≡ answered (treeOutcome q t (readEquation q (length t) t)) row
+      sides-exceed h = exceeding q few e t reads row (omega (arith, a .within, b .within)) (sym exceeds-is ∙ h)
 
       pub sides-taken : {x : Answer} → (st || sr) ≡ false → ts ≡ zeros → x ≡ answered (totalsOutcome q vs) row
           → x ≡ answered (treeOutcome q t (readEquation q (length t) t)) row
@@ -106,12 +106,13 @@ module _ (q : ℕ) (few : q ≤ 16) (e : Equation) (t : List ℕ) (reads : Reads
           let (l, r) = reads-upto q 16 few e t reads in
           let n : length ts ≡ 17 = ap length start in
           let z : (i : ℕ) → getD ts i (pos 0) ≡ pos 0 = λ i. ap (λ g. getD g i (pos 0)) start ∙ all-zero 17 i in
-          y ∙ from-totals q few e t reads row (omega (arith, a .within, b .within)) vs (sym steep-is ∙ h)
+          y ∙ from-totals q few e t reads row (omega (arith, a .within, b .within)) vs (sym exceeds-is ∙ h)
           (λ i.
           ap (λ g. getD g i (pos 0)) (b .totals)
-          ∙ sum-adds (e .right) (negsuc 0) r (sym (b .steep) ∙ sr) us i (ap length (a .totals) ∙ sum-length (e .left) (pos 1) ts ∙ n)
+          ∙ sum-adds (e .right) (negsuc 0) r (sym (b .exceeds) ∙ sr) us i (ap length (a .totals) ∙ sum-length (e .left) (pos 1) ts ∙ n)
           ∙ ap (λ g. g +ℤ negsuc 0 *ℤ ofSum (e .right) i)
-          (ap (λ g. getD g i (pos 0)) (a .totals) ∙ sum-adds (e .left) (pos 1) l (sym (a .steep) ∙ sl) ts i n ∙ ap (λ g. g +ℤ pos 1 *ℤ ofSum (e .left) i) (z i))
+          (ap (λ g. getD g i (pos 0)) (a .totals) ∙ sum-adds (e .left) (pos 1) l (sym (a .exceeds) ∙ sl) ts i n
+          ∙ ap (λ g. g +ℤ pos 1 *ℤ ofSum (e .left) i) (z i))
           ∙ ring (# pos 0 ⊕ # pos 1 ⊗ # ofSum (e .left) i ⊕ # negsuc 0 ⊗ # ofSum (e .right) i) (# ofSum (e .left) i ⊕ ⊖ (# ofSum (e .right) i)) (omega arith))
         where
           parts : (a b : Bool) → (a || b) ≡ false → (a ≡ false) × (b ≡ false)

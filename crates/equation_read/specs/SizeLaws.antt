@@ -11,7 +11,8 @@ use borrow.Author.Tests.{ltb-true, ltb-false, lt-ltb, le-ltb}
 use mir.Syntax.{w64}
 use mir.Val.{SFits}
 use Rattle.linear.specs.Integers.{natAbs-+ℤ, natAbs-*ℤ, natAbs-negℤ, sfits-natAbs}
-use Rattle.equation_read.specs.Totals.{isSteep, bounded}
+use Rattle.definitions.specs.Refusals.{outOfRange}
+use Rattle.equation_read.specs.Totals.{bounded}
 
 pub sum-fits : (a b : ℤ) → natAbs a ≤ 5000000000000 → natAbs b ≤ 1000000000 → SFits w64 (a +ℤ b)
 sum-fits a b l m = sfits-natAbs (omega (arith, natAbs-+ℤ a b))
@@ -25,21 +26,21 @@ product-fits z n l m = sfits-natAbs (omega (arith, product-small z n l m))
 pub negation-fits : (z : ℤ) → natAbs z ≤ 10000 → SFits w64 (pos 0 -ℤ z)
 negation-fits z l = rw (+ℤ-idl (negℤ z)) (sfits-natAbs (omega (arith, natAbs-negℤ z)))
 
-pub steep-above : (z : ℤ) → ltZ (pos 10000) z ≡ true → true ≡ isSteep z
-steep-above (pos n) e = sym (lt-ltb 10000 n (ltb-true 10000 n e))
-steep-above (negsuc n) e = absurd (let z : _≡_ {A = ℕ} 0 1 = cc in omega arith)
+pub exceeds-above : (z : ℤ) → ltZ (pos 10000) z ≡ true → true ≡ outOfRange z
+exceeds-above (pos n) e = sym (lt-ltb 10000 n (ltb-true 10000 n e))
+exceeds-above (negsuc n) e = absurd (let z : _≡_ {A = ℕ} 0 1 = cc in omega arith)
 
-pub steep-below : (z : ℤ) → ltZ (pos 10000) z ≡ false → ltZ z (negsuc 9999) ≡ isSteep z
-steep-below (pos n) e = sym (le-ltb 10000 n (ltb-false 10000 n e))
-steep-below (negsuc n) e =
+pub exceeds-below : (z : ℤ) → ltZ (pos 10000) z ≡ false → ltZ z (negsuc 9999) ≡ outOfRange z
+exceeds-below (pos n) e = sym (le-ltb 10000 n (ltb-false 10000 n e))
+exceeds-below (negsuc n) e =
     elim (decLt 9999 n) [
       | yes h ↦ lt-ltb 9999 n h ∙ sym (lt-ltb 10000 (suc n) (omega arith))
       | no h ↦ le-ltb 9999 n (omega arith) ∙ sym (le-ltb 10000 (suc n) (omega arith))
     ]
 
 pub bounded-small : (z : ℤ) → natAbs (bounded z) ≤ 10000
-bounded-small z = go (isSteep z) refl
+bounded-small z = go (outOfRange z) refl
   where
-    go : (d : mathlib.Core.Bool.Bool) → isSteep z ≡ d → natAbs (mathlib.Core.Bool.cond d (pos 0) z) ≤ 10000
+    go : (d : mathlib.Core.Bool.Bool) → outOfRange z ≡ d → natAbs (mathlib.Core.Bool.cond d (pos 0) z) ≤ 10000
     go true e = omega arith
     go false e = ltb-false 10000 (natAbs z) e

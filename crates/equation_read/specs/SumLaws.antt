@@ -7,6 +7,7 @@ use native.Mathlib.Omega.{arith}
 use lib.Dec.{eqb}
 use lib.IntN.{ℤ, pos, _*ℤ_}
 use lib.ListN.{length, getD, drop, length-drop, drop-of-length-le}
+use Rattle.definitions.specs.Refusals.{outOfRange}
 use Rattle.texts.specs.Reading.{Parse, parsed, malformed, andThen, isDigit}
 use Rattle.texts.specs.NumberLaws.{byte-at}
 use Rattle.equation_spec.specs.Grammar.{Sign, plus, minus, Lead, bare, led, Sum, one, more, Term, number, plain, times, Factor, bracket}
@@ -14,7 +15,7 @@ use Rattle.equation_spec.specs.Meaning.{signed, ledBy}
 use Rattle.equation_spec.specs.Reader.{skip, onByte, onSign, readNumeral, readIndex, readFactor, afterNumeral, readTerm, moreTerms, firstTerm, readSum}
 use Rattle.equation_spec.specs.Reader.{closed, readBracket}
 use Rattle.equation_read.specs.Places.{leadOf, afterLead, isLed, isMinus, starts}
-use Rattle.equation_read.specs.Totals.{addAt, signedBy, bounded, isSteep, addSum, addTerm, addFactor, steepSum, steepTerm, steepFactor, Collected}
+use Rattle.equation_read.specs.Totals.{addAt, signedBy, bounded, addSum, addTerm, addFactor, exceedsSum, exceedsTerm, exceedsFactor, Collected}
 use Rattle.equation_read.specs.Totals.{collected, stopped, sumCollected, termCollected, factorCollected, bracketCollected, Small}
 use Rattle.equation_read.specs.ByteLaws.{starts-byte, lead-none, after-shorter}
 use Rattle.equation_read.specs.RoomLaws.{less-left, skip-left}
@@ -28,14 +29,14 @@ other-byte b [] f a e = refl
 other-byte b (c ∷ s) f a e = rw e
 
 number-value : (z : ℤ) (ts : List ℤ) (n : ℕ) (r : List ℕ) → collected (addAt 0 (z *ℤ pos n) ts) false r ≡ termCollected z ts (parsed (number n) r)
-unfolding termCollected addTerm steepTerm
+unfolding termCollected addTerm exceedsTerm
 number-value z ts n r = refl
 
 -- ---- what was collected tells what was read
 
 module _ (z : ℤ) (ts : List ℤ) where
   pub sum-parsed : (p : Parse Sum) {us : List ℤ} {st : Bool} {r : List ℕ} → collected us st r ≡ sumCollected z ts p
-      → (e : Sum) × (p ≡ parsed e r) × (us ≡ addSum e z ts) × (st ≡ steepSum e z)
+      → (e : Sum) × (p ≡ parsed e r) × (us ≡ addSum e z ts) × (st ≡ exceedsSum e z)
   unfolding sumCollected
   sum-parsed (parsed e t) {us} {st} {r} h = let x : t ≡ r = cc in (e, ap (parsed e) x, cc, cc)
   sum-parsed malformed h = never cc
@@ -46,7 +47,7 @@ module _ (z : ℤ) (ts : List ℤ) where
   sum-stopped malformed h = refl
 
   pub term-parsed : (p : Parse Term) {us : List ℤ} {st : Bool} {r : List ℕ} → collected us st r ≡ termCollected z ts p
-      → (u : Term) × (p ≡ parsed u r) × (us ≡ addTerm u z ts) × (st ≡ steepTerm u z)
+      → (u : Term) × (p ≡ parsed u r) × (us ≡ addTerm u z ts) × (st ≡ exceedsTerm u z)
   unfolding termCollected
   term-parsed (parsed u t) {us} {st} {r} h = let x : t ≡ r = cc in (u, ap (parsed u) x, cc, cc)
   term-parsed malformed h = never cc
@@ -64,12 +65,12 @@ module _ (z : ℤ) (ts : List ℤ) where
   bracket-factor malformed = refl
 
   plain-factor : (p : Parse Factor) → factorCollected z ts p ≡ termCollected z ts (andThen p (λ f. parsed (plain f)))
-  unfolding factorCollected termCollected andThen addTerm steepTerm
+  unfolding factorCollected termCollected andThen addTerm exceedsTerm
   plain-factor (parsed f r) = refl
   plain-factor malformed = refl
 
   times-factor : (n : ℕ) (p : Parse Factor) → factorCollected (z *ℤ pos n) ts p ≡ termCollected z ts (andThen p (λ f. parsed (times n f)))
-  unfolding factorCollected termCollected andThen addTerm steepTerm
+  unfolding factorCollected termCollected andThen addTerm exceedsTerm
   times-factor n (parsed f r) = refl
   times-factor n malformed = refl
 
@@ -86,7 +87,7 @@ module _ (q d : ℕ) (z : ℤ) (ts : List ℤ) (t : List ℕ) (i : ℕ) where
 
   pub factor-unknown : (k : ℕ) {r : List ℕ} → starts 120 (drop i t) ≡ true → parsed k r ≡ readIndex q (drop (i + 1) t)
       → collected (addAt k z ts) false r ≡ factorCollected z ts (readFactor (readBracket q d) q (drop i t))
-  unfolding readFactor onByte andThen factorCollected addFactor steepFactor
+  unfolding readFactor onByte andThen factorCollected addFactor exceedsFactor
   factor-unknown k e h = rw (starts-byte t i 120 e, ← h)
 
 pub factor-none : (q d : ℕ) (z : ℤ) (ts : List ℤ) (s : List ℕ) → starts 40 s ≡ false → starts 120 s ≡ false
@@ -160,12 +161,12 @@ module _ (q d : ℕ) (z : ℤ) (ts : List ℤ) (t : List ℕ) (i j : ℕ) (some 
         let (e, a, b, c) = sum-parsed (bounded z) ts (readSum (readBracket q (d - 1)) q (drop j t)) h in
         rw (bracket-opened, a, ← v, other-byte 41 (drop k t) (parsed e) malformed x)
 
-    closed-with : (e : Sum) → readSum (readBracket q (d - 1)) q (drop j t) ≡ parsed e (drop n t) → us ≡ addSum e (bounded z) ts → st ≡ steepSum e (bounded z)
-        → starts 41 (drop k t) ≡ true → collected us (st || isSteep z) (drop (k + 1) t) ≡ bracketCollected z ts (readBracket q d (drop i t))
-    unfolding andThen closed onByte bracketCollected addFactor steepFactor
+    closed-with : (e : Sum) → readSum (readBracket q (d - 1)) q (drop j t) ≡ parsed e (drop n t) → us ≡ addSum e (bounded z) ts → st ≡ exceedsSum e (bounded z)
+        → starts 41 (drop k t) ≡ true → collected us (st || outOfRange z) (drop (k + 1) t) ≡ bracketCollected z ts (readBracket q d (drop i t))
+    unfolding andThen closed onByte bracketCollected addFactor exceedsFactor
     closed-with e a b c x = rw (bracket-opened, a, ← v, starts-byte t k 41 x, b, c)
 
-    pub bracket-closed : starts 41 (drop k t) ≡ true → collected us (st || isSteep z) (drop (k + 1) t) ≡ bracketCollected z ts (readBracket q d (drop i t))
+    pub bracket-closed : starts 41 (drop k t) ≡ true → collected us (st || outOfRange z) (drop (k + 1) t) ≡ bracketCollected z ts (readBracket q d (drop i t))
     bracket-closed x =
         let (e, a, b, c) = sum-parsed (bounded z) ts (readSum (readBracket q (d - 1)) q (drop j t)) h in
         closed-with e a b c x
@@ -236,13 +237,13 @@ fuel (suc m) l = (m, refl)
 -- ---- the terms of a sum
 
 -- Of a sum that began at place i, the terms before place `next` are in the totals ts, and one more is due there.
-pub record Due (q d : ℕ) (t : List ℕ) (i : ℕ) (z : ℤ) (ts₀ ts : List ℤ) (next : ℕ) (neg : Bool) (steep : Bool) : Type 0 where
+pub record Due (q d : ℕ) (t : List ℕ) (i : ℕ) (z : ℤ) (ts₀ ts : List ℤ) (next : ℕ) (neg : Bool) (exceeds : Bool) : Type 0 where
   pub sum : Term → Sum
   pub k : ℕ
   pub enough : length t - next ≤ k
   pub comes : andThen (readTerm (readBracket q d) q (drop next t)) (λ u. moreTerms (readBracket q d) q k (sum u)) ≡ readSum (readBracket q d) q (drop i t)
   pub adds : (u : Term) → addSum (sum u) z ts₀ ≡ addTerm u (signedBy neg z) ts
-  pub steeps : (u : Term) → steepSum (sum u) z ≡ (steep || steepTerm u (signedBy neg z))
+  pub exceed : (u : Term) → exceedsSum (sum u) z ≡ (exceeds || exceedsTerm u (signedBy neg z))
   pub onward : length t - next ≤ length t - i
   pub room : Small ts (length t - next)
 
@@ -251,7 +252,7 @@ after-left t i j e = omega (arith, ap length e, after-shorter (drop i t), length
 
 module _ (q d : ℕ) (t : List ℕ) (i : ℕ) (z : ℤ) (ts : List ℤ) where
   pub due-first : (next : ℕ) → drop next t ≡ afterLead (drop i t) → Small ts (length t - i) → Due q d t i z ts ts next (isMinus (leadOf (drop i t))) false
-  unfolding firstTerm addSum steepSum
+  unfolding firstTerm addSum exceedsSum
   due-first next e r =
       let l = leadOf (drop i t) in
       record {
@@ -260,12 +261,12 @@ module _ (q d : ℕ) (t : List ℕ) (i : ℕ) (z : ℤ) (ts : List ℤ) where
         enough = omega (arith, after-left t i next e, length-drop i t);
         comes = rw e (sym (sum-first (readBracket q d) q (drop i t)));
         adds = λ u. ap (λ x. addTerm u x ts) (lead-value l z);
-        steeps = λ u. ap (λ x. steepTerm u x) (lead-value l z);
+        exceed = λ u. ap (λ x. exceedsTerm u x) (lead-value l z);
         onward = after-left t i next e;
         room = less-left (after-left t i next e) r;
       }
 
-  module _ {us : List ℤ} {next : ℕ} {neg : Bool} {steep : Bool} (a : Due q d t i z ts us next neg steep) where
+  module _ {us : List ℤ} {next : ℕ} {neg : Bool} {exceeds : Bool} (a : Due q d t i z ts us next neg exceeds) where
     pub due-stopped : stopped ≡ termCollected (signedBy neg z) us (readTerm (readBracket q d) q (drop next t))
         → stopped ≡ sumCollected z ts (readSum (readBracket q d) q (drop i t))
     unfolding andThen sumCollected
@@ -279,30 +280,30 @@ module _ (q d : ℕ) (t : List ℕ) (i : ℕ) (z : ℤ) (ts : List ℤ) where
         (s : drop k t ≡ skip (drop j t)) where
       -- the sum with it, and what is left to read
       with-term : (e : Sum) × (moreTerms (readBracket q d) q (a .k) e (drop j t) ≡ readSum (readBracket q d) q (drop i t)) × (vs ≡ addSum e z ts)
-          × ((steep || more′) ≡ steepSum e z)
+          × ((exceeds || more′) ≡ exceedsSum e z)
       unfolding andThen
       with-term =
           let (u, x, y, w) = term-parsed (signedBy neg z) us (readTerm (readBracket q d) q (drop next t)) h in (
             a .sum u,
             sym (ap (λ p. andThen p (λ u. moreTerms (readBracket q d) q (a .k) (a .sum u))) x) ∙ a .comes,
             y ∙ sym (a .adds u),
-            ap (λ b. steep || b) w ∙ sym (a .steeps u),
+            ap (λ b. exceeds || b) w ∙ sym (a .exceed u),
           )
 
       over-with : (e : Sum) → moreTerms (readBracket q d) q (a .k) e (drop j t) ≡ readSum (readBracket q d) q (drop i t) → vs ≡ addSum e z ts
-          → (steep || more′) ≡ steepSum e z
-          → isLed (leadOf (drop k t)) ≡ false → collected vs (steep || more′) (drop j t) ≡ sumCollected z ts (readSum (readBracket q d) q (drop i t))
+          → (exceeds || more′) ≡ exceedsSum e z
+          → isLed (leadOf (drop k t)) ≡ false → collected vs (exceeds || more′) (drop j t) ≡ sumCollected z ts (readSum (readBracket q d) q (drop i t))
       unfolding sumCollected
       over-with e x y w l = rw (← x, more-none (readBracket q d) q (a .k) e (drop j t) (rw s at l), y, w)
 
-      pub due-over : isLed (leadOf (drop k t)) ≡ false → collected vs (steep || more′) (drop j t) ≡ sumCollected z ts (readSum (readBracket q d) q (drop i t))
+      pub due-over : isLed (leadOf (drop k t)) ≡ false → collected vs (exceeds || more′) (drop j t) ≡ sumCollected z ts (readSum (readBracket q d) q (drop i t))
       due-over l = let (e, x, y, w) = with-term in over-with e x y w l
 
       next-with : (e : Sum) (g : Sign) (k′ m : ℕ) → a .k ≡ suc k′ → leadOf (drop k t) ≡ led g
-          → moreTerms (readBracket q d) q (a .k) e (drop j t) ≡ readSum (readBracket q d) q (drop i t) → vs ≡ addSum e z ts → (steep || more′) ≡ steepSum e z
-          → drop m t ≡ afterLead (drop k t) → length t - j < length t - next → Small vs (length t - j)
-          → Due q d t i z ts vs m (isMinus (leadOf (drop k t))) (steep || more′)
-      unfolding addSum steepSum
+          → moreTerms (readBracket q d) q (a .k) e (drop j t) ≡ readSum (readBracket q d) q (drop i t) → vs ≡ addSum e z ts
+          → (exceeds || more′) ≡ exceedsSum e z → drop m t ≡ afterLead (drop k t) → length t - j < length t - next → Small vs (length t - j)
+          → Due q d t i z ts vs m (isMinus (leadOf (drop k t))) (exceeds || more′)
+      unfolding addSum exceedsSum
       next-with e g k′ m c led-by x y w v less r =
           let n = after-left t k m v in
           let o = skip-left t j k s in
@@ -312,13 +313,13 @@ module _ (q d : ℕ) (t : List ℕ) (i : ℕ) (z : ℤ) (ts : List ℤ) where
             enough = omega (arith, a .enough);
             comes = rw (v, s) (sym (more-led (readBracket q d) q k′ e (drop j t) g (rw s at led-by)) ∙ rw c at x);
             adds = λ u. rw (led-by, ← y) (ap (λ b. addTerm u b vs) (sign-value g z));
-            steeps = λ u. rw (led-by, ← w) (ap (λ b. (steep || more′) || steepTerm u b) (sign-value g z));
+            exceed = λ u. rw (led-by, ← w) (ap (λ b. (exceeds || more′) || exceedsTerm u b) (sign-value g z));
             onward = omega (arith, a .onward);
             room = less-left (omega arith) r;
           }
 
       pub due-next : (m : ℕ) → isLed (leadOf (drop k t)) ≡ true → drop m t ≡ afterLead (drop k t) → length t - j < length t - next → Small vs (length t - j)
-          → Due q d t i z ts vs m (isMinus (leadOf (drop k t))) (steep || more′)
+          → Due q d t i z ts vs m (isMinus (leadOf (drop k t))) (exceeds || more′)
       due-next m l v less r =
           let (e, x, y, w) = with-term in
           let (g, led-by) = led-some (leadOf (drop k t)) l in

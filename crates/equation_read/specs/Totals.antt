@@ -2,10 +2,9 @@
 use Prim.Native.Nat.{ℕ, _+_, _*_, _-_, _≤_}
 use mathlib.Core.Bool.{Bool, true, false, cond, _||_}
 use mathlib.Core.List.{List}
-use lib.Dec.{ltb}
 use lib.IntN.{ℤ, pos, natAbs, negℤ, _+ℤ_, _*ℤ_}
 use lib.ListN.{length, getD, set}
-use Rattle.definitions.specs.System.{coefLimit}
+use Rattle.definitions.specs.Refusals.{outOfRange}
 use Rattle.texts.specs.Reading.{Parse, parsed, malformed}
 use Rattle.equation_spec.specs.Grammar.{Sum, one, more, Term, number, plain, times, Factor, unknown, bracket}
 use Rattle.equation_spec.specs.Meaning.{signed, ledBy}
@@ -17,11 +16,8 @@ abbrev pub signedBy : Bool → ℤ → ℤ
 signedBy true z = negℤ z
 signedBy false z = z
 
-abbrev pub isSteep : ℤ → Bool
-isSteep z = ltb coefLimit (natAbs z)
-
 abbrev pub bounded : ℤ → ℤ
-bounded z = cond (isSteep z) (pos 0) z
+bounded z = cond (outOfRange z) (pos 0) z
 
 unfoldable mutual
   -- a sum's numbers, times z, added to ts
@@ -39,39 +35,39 @@ unfoldable mutual
   addFactor (bracket e) z ts = addSum e (bounded z) ts
 
 unfoldable mutual
-  -- a bracket in a sum, times z, is too steep
-  pub steepSum : Sum → ℤ → Bool
-  steepSum (one l u) z = steepTerm u (ledBy l z)
-  steepSum (more e s u) z = steepSum e z || steepTerm u (signed s z)
+  -- in a sum, times z, the multipliers around a bracket exceed the limit
+  pub exceedsSum : Sum → ℤ → Bool
+  exceedsSum (one l u) z = exceedsTerm u (ledBy l z)
+  exceedsSum (more e s u) z = exceedsSum e z || exceedsTerm u (signed s z)
 
-  pub steepTerm : Term → ℤ → Bool
-  steepTerm (number n) z = false
-  steepTerm (plain f) z = steepFactor f z
-  steepTerm (times n f) z = steepFactor f (z *ℤ pos n)
+  pub exceedsTerm : Term → ℤ → Bool
+  exceedsTerm (number n) z = false
+  exceedsTerm (plain f) z = exceedsFactor f z
+  exceedsTerm (times n f) z = exceedsFactor f (z *ℤ pos n)
 
-  pub steepFactor : Factor → ℤ → Bool
-  steepFactor (unknown k) z = false
-  steepFactor (bracket e) z = steepSum e (bounded z) || isSteep z
+  pub exceedsFactor : Factor → ℤ → Bool
+  exceedsFactor (unknown k) z = false
+  exceedsFactor (bracket e) z = exceedsSum e (bounded z) || outOfRange z
 
--- The totals, whether a bracket was too steep, and the text that is left; or nothing of the form.
+-- The totals, whether the multipliers around a bracket exceed the limit, and the text that is left; or nothing of the form.
 pub data Collected : Type 0 where
   collected : List ℤ → Bool → List ℕ → Collected
   stopped : Collected
 
 unfoldable pub sumCollected : ℤ → List ℤ → Parse Sum → Collected
-sumCollected z ts (parsed e r) = collected (addSum e z ts) (steepSum e z) r
+sumCollected z ts (parsed e r) = collected (addSum e z ts) (exceedsSum e z) r
 sumCollected z ts malformed = stopped
 
 unfoldable pub termCollected : ℤ → List ℤ → Parse Term → Collected
-termCollected z ts (parsed u r) = collected (addTerm u z ts) (steepTerm u z) r
+termCollected z ts (parsed u r) = collected (addTerm u z ts) (exceedsTerm u z) r
 termCollected z ts malformed = stopped
 
 unfoldable pub factorCollected : ℤ → List ℤ → Parse Factor → Collected
-factorCollected z ts (parsed f r) = collected (addFactor f z ts) (steepFactor f z) r
+factorCollected z ts (parsed f r) = collected (addFactor f z ts) (exceedsFactor f z) r
 factorCollected z ts malformed = stopped
 
 unfoldable pub bracketCollected : ℤ → List ℤ → Parse Sum → Collected
-bracketCollected z ts (parsed e r) = collected (addFactor (bracket e) z ts) (steepFactor (bracket e) z) r
+bracketCollected z ts (parsed e r) = collected (addFactor (bracket e) z ts) (exceedsFactor (bracket e) z) r
 bracketCollected z ts malformed = stopped
 
 -- ---- sizes: each term adds at most 1,000,000,000 and takes a byte, of 4,096

@@ -12,7 +12,7 @@ use crate::scan::place;
 use crate::sums::After;
 use crate::sums::read_sum;
 use crate::totals::either;
-use crate::totals::is_steep;
+use crate::totals::out_of_range;
 
 // Why a text is refused; specs/Answer.antt has the papers' number for each.
 pub enum EquationRefusal {
@@ -21,7 +21,7 @@ pub enum EquationRefusal {
     Row,
     Grammar(usize),
     Depth,
-    Steep,
+    Multiplier,
     Coefficient(usize),
     RightSide,
 }
@@ -64,16 +64,16 @@ fn read_sides(text: &[u8], q: usize, row: &mut [i32]) -> EquationRead
     let mut totals = [0i64; 17];
     match read_sum(text, 0, q, 8, 1, &mut totals) {
         After::Stopped => EquationRead::Refused(EquationRefusal::Depth),
-        After::At { next, steep } => {
+        After::At { next, exceeds } => {
             let sign = skip(text, next);
             match read_sum(text, skip(text, sign + 1), q, 8, -1, &mut totals) {
                 After::Stopped => EquationRead::Refused(EquationRefusal::Depth),
                 After::At {
                     next: _,
-                    steep: more,
+                    exceeds: more,
                 } => {
-                    if either(steep, more) {
-                        return EquationRead::Refused(EquationRefusal::Steep);
+                    if either(exceeds, more) {
+                        return EquationRead::Refused(EquationRefusal::Multiplier);
                     }
                     accept(q, &totals, row)
                 }
@@ -89,12 +89,12 @@ fn accept(q: usize, totals: &[i64; 17], row: &mut [i32]) -> EquationRead
 {
     let mut i = 0;
     while i < q {
-        if is_steep(totals[i + 1]) {
+        if out_of_range(totals[i + 1]) {
             return EquationRead::Refused(EquationRefusal::Coefficient(i + 1));
         }
         i += 1;
     }
-    if is_steep(totals[0]) {
+    if out_of_range(totals[0]) {
         return EquationRead::Refused(EquationRefusal::RightSide);
     }
     write_row(q, totals, row);

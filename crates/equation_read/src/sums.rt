@@ -13,7 +13,7 @@ use crate::bytes::skip;
 use crate::bytes::stands;
 use crate::totals::add_at;
 use crate::totals::either;
-use crate::totals::is_steep;
+use crate::totals::out_of_range;
 use crate::totals::scaled;
 use crate::totals::signed;
 use crate::totals::within;
@@ -21,9 +21,10 @@ use texts::number::Natural;
 use texts::number::is_digit;
 use texts::number::read_natural;
 
-// The place after what was read, and whether a bracket was too steep; or nothing of the form, of brackets at most `depth` deep, stands there.
+// The place after what was read, and whether the multipliers around a bracket exceed the limit; or nothing of the form, of brackets at most `depth` deep,
+// stands there.
 pub enum After {
-    At { next: usize, steep: bool },
+    At { next: usize, exceeds: bool },
     Stopped,
 }
 
@@ -43,7 +44,7 @@ pub fn read_sum(
 {
     let mut next = after_sign(text, at);
     let mut minus = is_minus(text, at);
-    let mut steep = false;
+    let mut exceeds = false;
     loop {
         match read_term(text, next, q, depth, signed(minus, times), totals) {
             After::Stopped => {
@@ -51,12 +52,12 @@ pub fn read_sum(
             }
             After::At {
                 next: end,
-                steep: more,
+                exceeds: more,
             } => {
-                steep = either(steep, more);
+                exceeds = either(exceeds, more);
                 let sign = skip(text, end);
                 if !is_sign(text, sign) {
-                    return After::At { next: end, steep };
+                    return After::At { next: end, exceeds };
                 }
                 minus = is_minus(text, sign);
                 next = after_sign(text, sign);
@@ -100,7 +101,10 @@ fn read_term(
                 );
             }
             add_at(totals, 0, scaled(times, value));
-            After::At { next, steep: false }
+            After::At {
+                next,
+                exceeds: false,
+            }
         }
     }
 }
@@ -129,7 +133,10 @@ fn read_factor(
         Natural::Malformed => After::Stopped,
         Natural::Parsed { value, next } => {
             add_at(totals, value as usize, times);
-            After::At { next, steep: false }
+            After::At {
+                next,
+                exceeds: false,
+            }
         }
     }
 }
@@ -153,14 +160,14 @@ fn read_bracket(
     }
     match read_sum(text, skip(text, at), q, depth - 1, within(times), totals) {
         After::Stopped => After::Stopped,
-        After::At { next, steep } => {
+        After::At { next, exceeds } => {
             let close = skip(text, next);
             if !stands(text, close, b')') {
                 return After::Stopped;
             }
             After::At {
                 next: close + 1,
-                steep: either(steep, is_steep(times)),
+                exceeds: either(exceeds, out_of_range(times)),
             }
         }
     }

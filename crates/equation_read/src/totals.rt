@@ -4,7 +4,8 @@ ghost use mathlib.Core.Bool.{_||_};
 ghost use Prim.Native.Nat.{_≤_};
 ghost use lib.IntN.{pos, natAbs, _+ℤ_, _*ℤ_};
 ghost use lib.ListN.{getD};
-ghost use Rattle.equation_read.specs.Totals.{addAt, signedBy, bounded, isSteep};
+ghost use Rattle.definitions.specs.Refusals.{outOfRange};
+ghost use Rattle.equation_read.specs.Totals.{addAt, signedBy, bounded};
 
 // Adds `v` at place `k`.
 pub fn add_at(totals: &mut [i64; 17], k: usize, v: i64)
@@ -40,9 +41,9 @@ pub fn scaled(times: i64, n: u32) -> i64
     times * (n as i64)
 }
 
-// Whether a bracket with this multiplier is too steep.
-pub fn is_steep(times: i64) -> bool
-    ensures { λ r. ⌜ r ≡ isSteep times ⌝ }
+// Whether a multiplier, a coefficient or a right side is out of range.
+pub fn out_of_range(times: i64) -> bool
+    ensures { λ r. ⌜ r ≡ outOfRange times ⌝ }
 {
     if 10000 < times {
         return true;
@@ -50,11 +51,11 @@ pub fn is_steep(times: i64) -> bool
     times < -10000
 }
 
-// The multiplier with which the sum in a bracket is read: 0 if it is too steep, as the sum then does not matter.
+// The multiplier with which the sum in a bracket is read: 0 if it is out of range, as the sum then does not matter.
 pub fn within(times: i64) -> i64
     ensures { λ r. ⌜ r ≡ bounded times ⌝ }
 {
-    if is_steep(times) {
+    if out_of_range(times) {
         return 0;
     }
     times

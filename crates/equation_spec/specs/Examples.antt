@@ -7,7 +7,7 @@ use lib.IntN.{ℤ, pos, negsuc}
 use Rattle.definitions.specs.Answers.{_then_, refuseWith, refuseFirst}
 use Rattle.texts.specs.Decimals.{bytes, lastDigits, decimal}
 use Rattle.texts.specs.Reading.{andThen, moreDigits, readNatural}
-use Rattle.equation_spec.specs.Meaning.{ofSum, coefficient, rightSide, sumDepth, sumSteep}
+use Rattle.equation_spec.specs.Meaning.{ofSum, coefficient, rightSide, sumDepth, sumExceeds}
 use Rattle.equation_spec.specs.Reader.{skip, onByte, onSign, readIndex, readFactor, afterNumeral, readTerm, moreTerms, firstTerm, readSum, closed}
 use Rattle.equation_spec.specs.Reader.{readBracket, rightOf, readEquation}
 use Rattle.equation_spec.specs.Scan.{onward, factorBegins, termBegins, sumBegins, afterDigits, afterFactor, step, placeFrom, place}
@@ -22,7 +22,7 @@ Case = ℕ × String × Outcome
 asRead : List Case → List Outcome
 unfolding skip onByte onSign andThen moreDigits readNatural readIndex readFactor afterNumeral readTerm moreTerms firstTerm readSum closed readBracket rightOf
     readEquation onward factorBegins termBegins sumBegins afterDigits afterFactor step placeFrom place _then_ refuseWith refuseFirst coefficient rightSide ofSum
-    sumDepth sumSteep checked list limits treeOutcome outcome
+    sumDepth sumExceeds checked list limits treeOutcome outcome
 asRead cases = map (λ (c : Case). outcome (c .0) (c .0) (bytes (c .1))) cases
 
 asSaid : List Case → List Outcome

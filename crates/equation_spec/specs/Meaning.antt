@@ -63,16 +63,16 @@ unfoldable mutual
 
 unfoldable mutual
   -- "product of the multipliers around a bracket above 10,000", somewhere in a sum around which the product is m
-  pub sumSteep : Sum → ℕ → Bool
-  sumSteep (one l u) m = termSteep u m
-  sumSteep (more e s u) m = sumSteep e m || termSteep u m
+  pub sumExceeds : Sum → ℕ → Bool
+  sumExceeds (one l u) m = termExceeds u m
+  sumExceeds (more e s u) m = sumExceeds e m || termExceeds u m
 
-  pub termSteep : Term → ℕ → Bool
-  termSteep (number n) m = false
-  termSteep (plain f) m = factorSteep f m
-  termSteep (times n f) m = factorSteep f (m * n)
+  pub termExceeds : Term → ℕ → Bool
+  termExceeds (number n) m = false
+  termExceeds (plain f) m = factorExceeds f m
+  termExceeds (times n f) m = factorExceeds f (m * n)
 
   -- a factor with the product m of the multipliers before it and around it
-  pub factorSteep : Factor → ℕ → Bool
-  factorSteep (unknown k) m = false
-  factorSteep (bracket e) m = ltb coefLimit m || sumSteep e m
+  pub factorExceeds : Factor → ℕ → Bool
+  factorExceeds (unknown k) m = false
+  factorExceeds (bracket e) m = ltb coefLimit m || sumExceeds e m

@@ -10,7 +10,7 @@ use Rattle.definitions.specs.System.{mostUnknowns}
 use Rattle.definitions.specs.Refusals.{between, outOfRange}
 use Rattle.texts.specs.Reading.{mostBytes, Parse, parsed, malformed}
 use Rattle.equation_spec.specs.Grammar.{Equation}
-use Rattle.equation_spec.specs.Meaning.{coefficient, rightSide, sumDepth, sumSteep}
+use Rattle.equation_spec.specs.Meaning.{coefficient, rightSide, sumDepth, sumExceeds}
 use Rattle.equation_spec.specs.Reader.{readEquation}
 use Rattle.equation_spec.specs.Scan.{place}
 use Prim.Native.Nat.{max}
@@ -41,7 +41,7 @@ row q e = list q 1 (coefficient e)
 unfoldable pub limits : ℕ → Equation → Check
 limits q e =
     refuseIf (ltb mostDepth (max (sumDepth (e .left)) (sumDepth (e .right)))) 17
-    then refuseIf (sumSteep (e .left) 1 || sumSteep (e .right) 1) 18
+    then refuseIf (sumExceeds (e .left) 1 || sumExceeds (e .right) 1) 18
     then refuseFirst 7 q (λ i. outOfRange (coefficient e (suc i)))
     then refuseIf (outOfRange (rightSide e)) 15
 

@@ -15,7 +15,7 @@ use Rattle.map_spec.specs.Form.{CoefsInRange}
 use Rattle.equation_spec.specs.Meaning.{coefficient}
 use Rattle.equation_spec.specs.Outcome.{accepted, checked, list, limits, treeOutcome, outcome}
 use Rattle.equation_spec.specs.Writing.{written}
-use Rattle.equation_spec.specs.WriteLaws.{treeOf, written-reads, written-coefficient, written-right, written-depth, written-steep, written-short}
+use Rattle.equation_spec.specs.WriteLaws.{treeOf, written-reads, written-coefficient, written-right, written-depth, written-exceeds, written-short}
 use Rattle.equation_spec.specs.Agreement.{read-any}
 
 list-is : (zs : List ℤ) (k : ℕ) (f : ℕ → ℤ) → ((j : ℕ) → f (k + j) ≡ getD zs j (pos 0)) → list (length zs) k f ≡ zs
@@ -33,7 +33,7 @@ module _ (row : List ℤ) (right : ℤ) (few : length row ≤ 16) (f : CoefsInRa
   unfolding limits refuseWith _then_
   within-limits =
       let (a, b) = written-depth row right in
-      let (c, d) = written-steep row right 1 in
+      let (c, d) = written-exceeds row right 1 in
       rw (a, b, c, d, first-goes 7 (length row) _ in-range, written-right row right, le-ltb coefLimit (natAbs right) l)
 
   -- What is written is read, and comes to the row that was written.

@@ -20,7 +20,7 @@ use Rattle.laws.specs.RefusalLaws.{Outside}
 use Rattle.texts.specs.Reading.{mostBytes, Parse, parsed, malformed}
 use Rattle.texts.specs.ParseLaws.{not-parsed}
 use Rattle.equation_spec.specs.Grammar.{Equation, Reads}
-use Rattle.equation_spec.specs.Meaning.{coefficient, rightSide, sumSteep}
+use Rattle.equation_spec.specs.Meaning.{coefficient, rightSide, sumExceeds}
 use Rattle.equation_spec.specs.Reader.{readEquation}
 use Rattle.equation_spec.specs.Scan.{place}
 use Rattle.equation_spec.specs.Outcome.{Outcome, accepted, refused, checked, mostDepth, row, limits, treeOutcome, outcome}
@@ -41,8 +41,8 @@ pub data Stuck (q : ℕ) (t : List ℕ) (i : ℕ) : Type 0 where
   at-end : i ≡ length t → ¬ ((e : Equation) × Reads q e t) → Stuck q t i
 
 -- "product of the multipliers around a bracket above 10,000"
-abbrev pub Steep : Equation → Type 0
-Steep e = T (sumSteep (e .left) 1 || sumSteep (e .right) 1)
+abbrev pub Exceeds : Equation → Type 0
+Exceeds e = T (sumExceeds (e .left) 1 || sumExceeds (e .right) 1)
 
 -- "10, 2 and 3 come first; 16, outside the grammar or an unknown above q, with the byte place; then 17, deeper than eight; then 18, product of the multipliers
 -- around a bracket above 10,000; then 7 and 15", for q unknowns and a row of n numbers
@@ -53,7 +53,7 @@ equationRules q n t =
     ▹ rule 3 (n ≢ q)
     ▹ placed 16 (suc (length t)) (Stuck q t)
     ▹ rule 17 (ReadSo q t (λ e. mostDepth < depth e))
-    ▹ rule 18 (ReadSo q t Steep)
+    ▹ rule 18 (ReadSo q t Exceeds)
     ▹ placed 7 q (λ i. ReadSo q t (λ e. coefLimit < natAbs (coefficient e (suc i))))
     ▹ rule 15 (ReadSo q t (λ e. coefLimit < natAbs (rightSide e)))
     ▹ end
@@ -69,7 +69,7 @@ module _ (q : ℕ) (t : List ℕ) (few : q ≤ 16) (e : Equation) (reads : Reads
   abbrev lastRules : Rules
   lastRules =
       rule 17 (ReadSo q t (λ e. mostDepth < depth e))
-      ▹ rule 18 (ReadSo q t Steep)
+      ▹ rule 18 (ReadSo q t Exceeds)
       ▹ placed 7 q (λ i. ReadSo q t (λ e. coefLimit < natAbs (coefficient e (suc i))))
       ▹ rule 15 (ReadSo q t (λ e. coefLimit < natAbs (rightSide e)))
       ▹ end
@@ -107,7 +107,7 @@ module _ (q : ℕ) (t : List ℕ) (few : q ≤ 16) (e : Equation) (reads : Reads
   unfolding limits
   limits-render =
       renders-then (decides-if _ 17 _ (λ h. (e, reads, ltb→lt mostDepth (depth e) h)) (λ x. lt→ltb mostDepth (depth e) (only {P = λ f. mostDepth < depth f} x)))
-      (renders-then (decides-if _ 18 _ (λ h. (e, reads, h)) (λ x. only {P = Steep} x))
+      (renders-then (decides-if _ 18 _ (λ h. (e, reads, h)) (λ x. only {P = Exceeds} x))
       (renders-then decides-range
       (renders-last (decides-if _ 15 _ (λ h. (e, reads, ltb→lt coefLimit (natAbs (rightSide e)) h))
       (λ x. lt→ltb coefLimit (natAbs (rightSide e)) (only {P = λ f. coefLimit < natAbs (rightSide f)} x))))))
@@ -158,7 +158,7 @@ abbrev grammarRules : ℕ → List ℕ → Rules
 grammarRules q t =
     placed 16 (suc (length t)) (Stuck q t)
     ▹ rule 17 (ReadSo q t (λ e. mostDepth < depth e))
-    ▹ rule 18 (ReadSo q t Steep)
+    ▹ rule 18 (ReadSo q t Exceeds)
     ▹ placed 7 q (λ i. ReadSo q t (λ e. coefLimit < natAbs (coefficient e (suc i))))
     ▹ rule 15 (ReadSo q t (λ e. coefLimit < natAbs (rightSide e)))
     ▹ end

@@ -17,7 +17,7 @@ use Rattle.laws.specs.AnswerLaws.{then-go, refuse-if-go}
 use Rattle.laws.specs.CheckLaws.{Decides, placed, decides-first}
 use Rattle.texts.specs.Reading.{mostBytes, Parse, parsed, malformed}
 use Rattle.equation_spec.specs.Grammar.{Equation, Reads}
-use Rattle.equation_spec.specs.Meaning.{coefficient, rightSide, sumSteep}
+use Rattle.equation_spec.specs.Meaning.{coefficient, rightSide, sumExceeds}
 use Rattle.equation_spec.specs.Reader.{readEquation}
 use Rattle.equation_spec.specs.Outcome.{Outcome, accepted, refused, checked, mostDepth, row, limits, treeOutcome, outcome}
 use Rattle.equation_spec.specs.Agreement.{depth, read-any, read-reads, unambiguous}
@@ -32,7 +32,7 @@ pub record Called (q n : ℕ) (t : List ℕ) : Type 0 where
 -- the limits: 17, 18, 7 and 15 are not due
 pub record Within (q : ℕ) (e : Equation) : Type 0 where
   pub shallow : depth e ≤ mostDepth
-  pub gentle : (sumSteep (e .left) 1 || sumSteep (e .right) 1) ≡ false
+  pub multipliers : (sumExceeds (e .left) 1 || sumExceeds (e .right) 1) ≡ false
   pub range : (i : ℕ) → i < q → natAbs (coefficient e (suc i)) ≤ coefLimit
   pub right : natAbs (rightSide e) ≤ coefLimit
 
@@ -60,11 +60,11 @@ limits-go : (q : ℕ) (e : Equation) → limits q e ≡ go → Within q e
 unfolding limits
 limits-go q e h =
     let (a, h₁) = then-go (refuseIf (ltb mostDepth (depth e)) 17) _ h in
-    let (b, h₂) = then-go (refuseIf (sumSteep (e .left) 1 || sumSteep (e .right) 1) 18) _ h₁ in
+    let (b, h₂) = then-go (refuseIf (sumExceeds (e .left) 1 || sumExceeds (e .right) 1) 18) _ h₁ in
     let (c, d) = then-go (refuseFirst 7 q (λ i. outOfRange (coefficient e (suc i)))) _ h₂ in
     record {
       shallow = ltb-false mostDepth (depth e) (refuse-if-go _ 17 a);
-      gentle = refuse-if-go _ 18 b;
+      multipliers = refuse-if-go _ 18 b;
       range = λ i l. omega (arith, range-decides q e .goes c i l);
       right = ltb-false coefLimit (natAbs (rightSide e)) (refuse-if-go _ 15 d);
     }
@@ -74,7 +74,7 @@ unfolding limits _then_ refuseWith
 within-go q e w =
     rw (
       le-ltb mostDepth (depth e) (w .shallow),
-      w .gentle,
+      w .multipliers,
       range-decides q e .silent (λ i l h. omega (arith, w .range i l)),
       le-ltb coefLimit (natAbs (rightSide e)) (w .right),
     )

@@ -34,7 +34,7 @@ use Rattle.equation_spec.specs.Grammar.{
 }
 use Rattle.equation_spec.specs.Grammar.{variable, sign, star, equals, sumParts, termParts, factorParts, parts, letter, starByte, signByte, bytes, Allowed}
 use Rattle.equation_spec.specs.Grammar.{Spells, done, next, Reads}
-use Rattle.equation_spec.specs.Meaning.{single, ofSum, ofTerm, ofFactor, coefficient, rightSide, sumDepth, termDepth, sumSteep, termSteep}
+use Rattle.equation_spec.specs.Meaning.{single, ofSum, ofTerm, ofFactor, coefficient, rightSide, sumDepth, termDepth, sumExceeds, termExceeds}
 use Rattle.equation_spec.specs.Writing.{multiple, spacedSign, laterTerms, terms, written}
 
 -- ---- the tree of a row
@@ -267,34 +267,34 @@ pub written-depth : (row : List ℤ) (right : ℤ) → (sumDepth (treeOf row rig
 unfolding treeOf
 written-depth row right = (tree-depth row 1, number-depth right)
 
-plain-steep : (m k p : ℕ) → termSteep (multipleTerm m k) p ≡ false
-unfolding termSteep
-plain-steep zero k p = refl
-plain-steep (suc zero) k p = refl
-plain-steep (suc (suc m)) k p = refl
+plain-exceeds : (m k p : ℕ) → termExceeds (multipleTerm m k) p ≡ false
+unfolding termExceeds
+plain-exceeds zero k p = refl
+plain-exceeds (suc zero) k p = refl
+plain-exceeds (suc (suc m)) k p = refl
 
-later-steep : (zs : List ℤ) (e : Sum) (k p : ℕ) → sumSteep e p ≡ false → sumSteep (laterTree e k zs) p ≡ false
-unfolding laterTree sumSteep
-later-steep [] e k p h = h
-later-steep (pos zero ∷ zs) e k p h = later-steep zs e (suc k) p h
-later-steep (pos (suc n) ∷ zs) e k p h = later-steep zs (more e plus (multipleTerm (suc n) k)) (suc k) p (rw (h, plain-steep (suc n) k p))
-later-steep (negsuc n ∷ zs) e k p h = later-steep zs (more e minus (multipleTerm (suc n) k)) (suc k) p (rw (h, plain-steep (suc n) k p))
+later-exceeds : (zs : List ℤ) (e : Sum) (k p : ℕ) → sumExceeds e p ≡ false → sumExceeds (laterTree e k zs) p ≡ false
+unfolding laterTree sumExceeds
+later-exceeds [] e k p h = h
+later-exceeds (pos zero ∷ zs) e k p h = later-exceeds zs e (suc k) p h
+later-exceeds (pos (suc n) ∷ zs) e k p h = later-exceeds zs (more e plus (multipleTerm (suc n) k)) (suc k) p (rw (h, plain-exceeds (suc n) k p))
+later-exceeds (negsuc n ∷ zs) e k p h = later-exceeds zs (more e minus (multipleTerm (suc n) k)) (suc k) p (rw (h, plain-exceeds (suc n) k p))
 
-tree-steep : (zs : List ℤ) (k p : ℕ) → sumSteep (tree k zs) p ≡ false
-unfolding tree sumSteep
-tree-steep [] k p = refl
-tree-steep (pos zero ∷ zs) k p = tree-steep zs (suc k) p
-tree-steep (pos (suc n) ∷ zs) k p = later-steep zs (one bare (multipleTerm (suc n) k)) (suc k) p (plain-steep (suc n) k p)
-tree-steep (negsuc n ∷ zs) k p = later-steep zs (one (led minus) (multipleTerm (suc n) k)) (suc k) p (plain-steep (suc n) k p)
+tree-exceeds : (zs : List ℤ) (k p : ℕ) → sumExceeds (tree k zs) p ≡ false
+unfolding tree sumExceeds
+tree-exceeds [] k p = refl
+tree-exceeds (pos zero ∷ zs) k p = tree-exceeds zs (suc k) p
+tree-exceeds (pos (suc n) ∷ zs) k p = later-exceeds zs (one bare (multipleTerm (suc n) k)) (suc k) p (plain-exceeds (suc n) k p)
+tree-exceeds (negsuc n ∷ zs) k p = later-exceeds zs (one (led minus) (multipleTerm (suc n) k)) (suc k) p (plain-exceeds (suc n) k p)
 
-number-steep : (z : ℤ) (p : ℕ) → sumSteep (numberTree z) p ≡ false
-unfolding sumSteep
-number-steep (pos n) p = refl
-number-steep (negsuc n) p = refl
+number-exceeds : (z : ℤ) (p : ℕ) → sumExceeds (numberTree z) p ≡ false
+unfolding sumExceeds
+number-exceeds (pos n) p = refl
+number-exceeds (negsuc n) p = refl
 
-pub written-steep : (row : List ℤ) (right : ℤ) (p : ℕ) → (sumSteep (treeOf row right .left) p ≡ false) × (sumSteep (treeOf row right .right) p ≡ false)
+pub written-exceeds : (row : List ℤ) (right : ℤ) (p : ℕ) → (sumExceeds (treeOf row right .left) p ≡ false) × (sumExceeds (treeOf row right .right) p ≡ false)
 unfolding treeOf
-written-steep row right p = (tree-steep row 1 p, number-steep right p)
+written-exceeds row right p = (tree-exceeds row 1 p, number-exceeds right p)
 
 -- ---- the length: at most fifteen bytes for each unknown
 

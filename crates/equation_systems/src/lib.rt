@@ -6,7 +6,7 @@ ghost use Rattle.equation_spec.specs.Systems.{readLines, ofRows, accepted, hand
 ghost use Rattle.equation_systems.specs.Answer.{answerOf};
 use crate::lines::Lines;
 use equation_read::equation::EquationRefusal;
-use map_text::copy;
+use texts::rows::copy;
 
 mod lines; // lines.rt: the lines in turn
 

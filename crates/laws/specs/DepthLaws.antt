@@ -23,8 +23,8 @@ withDepth d s =
             height = s .run .height;
             found = s .run .found;
             steps = s .run .steps;
-            found₂ = s .run .found₂;
-            steps₂ = s .run .steps₂;
+            found2 = s .run .found2;
+            steps2 = s .run .steps2;
             deepest = d;
           };
     }
@@ -66,7 +66,7 @@ module _ (m : System) (d : ℕ) (s : State) where
         stack = writeChildren (m .q) (m .q) (s .stack) (level s) (top m s) (topMarks m s) f;
         list = s .list;
         second = s .second;
-        run = stepped (s .run) (level s + countTo (m .q) f) (s .run .found) (s .run .found₂) e;
+        run = stepped (s .run) (level s + countTo (m .q) f) (s .run .found) (s .run .found2) e;
       }
 
   pub step-depth : (e : ℕ) → withDepth e (step m (withDepth d s)) ≡ withDepth e (step m s)

@@ -14,11 +14,11 @@ use Rattle.linear.specs.TestLaws.{T-dec, and-both, and-parts, count-none}
 use Rattle.definitions.specs.Answers.{Check, go}
 use Rattle.definitions.specs.Calls.{changed, searchFrom, settleFrom, stepFrom}
 use Rattle.definitions.specs.Input.{Input, aboveSystem, alone, boundOf, limitOf, mapOf}
-use Rattle.definitions.specs.Refusals.{check6From, inOrder, inOrderFrom, lowerChecks, ordersBy, resumeFromChecks, searchChecks, stepLimit}
+use Rattle.definitions.specs.Refusals.{check6From, inOrder, inOrderFrom, lowerChecks, inOrderBy, resumeFromChecks, searchChecks, stepLimit}
 use Rattle.definitions.specs.Step.{enlistIn, grown, listed, pick, step, toSecond, top, width}
 use Rattle.definitions.specs.System.{System, solves}
-use Rattle.definitions.specs.Tables.{Run, State, at, byWalk, capacity, cappedRun, deskByDesk, frozen, lowerAbove, lowerPlain, lowerStart, lowered, plainPart}
-use Rattle.definitions.specs.Tables.{plainRun, unitsStart, wholeOf}
+use Rattle.definitions.specs.Tables.{RunKind, State, at, byWalk, capacity, cappedRun, deskByDesk, frozen, lowerAbove, lowerPlain, lowerStart, lowered}
+use Rattle.definitions.specs.Tables.{plainPart, plainRun, unitsStart, wholeOf}
 use Rattle.laws.specs.CheckLaws.{Decides, Renders, Rules, _▹_, decides-if, end, renders-last, renders-then, rule}
 use Rattle.laws.specs.MarkLaws.{frozen-none}
 use Rattle.laws.specs.RefusalLaws.{Going, Handed, InOrder, OutOfOrder, Shaped, Valid, at-most, decides-bound, decides-range, decides-unequal, equal}
@@ -37,38 +37,38 @@ pub data OutOfOrderFrom (lower : List ℕ) (i : Input) (s : State) : Type 0 wher
   later-list : s .run .kind ≡ lowerPlain → capacity (i .q) (s .list) < s .run .found → OutOfOrderFrom lower i s
   later-steps : s .run .kind ≡ lowerPlain → stepLimit < s .run .steps → OutOfOrderFrom lower i s
   above-walk : s .run .kind ≡ lowerAbove → OutOfOrder (aboveSystem lower i) s → OutOfOrderFrom lower i s
-  earlier-steps : s .run .kind ≡ lowerAbove → stepLimit < s .run .steps₂ → OutOfOrderFrom lower i s
+  earlier-steps : s .run .kind ≡ lowerAbove → stepLimit < s .run .steps2 → OutOfOrderFrom lower i s
 
 -- in order, by the walk that the record names
-abbrev pub InOrderBy : Run → List ℕ → Input → State → Type 0
+abbrev pub InOrderBy : RunKind → List ℕ → Input → State → Type 0
 InOrderBy plainRun lower i s = ⊥
 InOrderBy cappedRun lower i s = ⊥
 InOrderBy lowerPlain lower i s = InOrder (mapOf i) (plainPart s) × (s .run .found ≤ capacity (i .q) (s .list)) × (s .run .steps ≤ stepLimit)
-InOrderBy lowerAbove lower i s = InOrder (aboveSystem lower i) s × (s .run .steps₂ ≤ stepLimit)
+InOrderBy lowerAbove lower i s = InOrder (aboveSystem lower i) s × (s .run .steps2 ≤ stepLimit)
 InOrderBy deskByDesk lower i s = ⊥
 
 module _ (lower : List ℕ) (i : Input) (s : State) where
-  orders-from : (r : Run) → T (ordersBy r lower i s) → InOrderBy r lower i s
-  orders-from plainRun h = h
-  orders-from cappedRun h = h
-  orders-from lowerPlain h =
+  in-order-from : (r : RunKind) → T (inOrderBy r lower i s) → InOrderBy r lower i s
+  in-order-from plainRun h = h
+  in-order-from cappedRun h = h
+  in-order-from lowerPlain h =
       let (a, b) = and-parts (inOrder (mapOf i) (plainPart s)) _ h in
       let (c, d) = and-parts (leb (s .run .found) (capacity (i .q) (s .list))) _ b in
       (order-from (mapOf i) (plainPart s) a, leb→le (s .run .found) (capacity (i .q) (s .list)) c, leb→le (s .run .steps) stepLimit d)
-  orders-from lowerAbove h =
-      let (a, b) = and-parts (inOrder (aboveSystem lower i) s) _ h in (order-from (aboveSystem lower i) s a, leb→le (s .run .steps₂) stepLimit b)
-  orders-from deskByDesk h = h
+  in-order-from lowerAbove h =
+      let (a, b) = and-parts (inOrder (aboveSystem lower i) s) _ h in (order-from (aboveSystem lower i) s a, leb→le (s .run .steps2) stepLimit b)
+  in-order-from deskByDesk h = h
 
-  orders-to : (r : Run) → InOrderBy r lower i s → T (ordersBy r lower i s)
-  orders-to plainRun h = h
-  orders-to cappedRun h = h
-  orders-to lowerPlain (a, b, c) =
+  in-order-to : (r : RunKind) → InOrderBy r lower i s → T (inOrderBy r lower i s)
+  in-order-to plainRun h = h
+  in-order-to cappedRun h = h
+  in-order-to lowerPlain (a, b, c) =
       and-both (inOrder (mapOf i) (plainPart s)) _ (order-to (mapOf i) (plainPart s) a)
       (and-both (leb (s .run .found) (capacity (i .q) (s .list))) _ (le→leb (s .run .found) (capacity (i .q) (s .list)) b) (le→leb (s .run .steps) stepLimit c))
-  orders-to lowerAbove (a, b) = and-both (inOrder (aboveSystem lower i) s) _ (order-to (aboveSystem lower i) s a) (le→leb (s .run .steps₂) stepLimit b)
-  orders-to deskByDesk h = h
+  in-order-to lowerAbove (a, b) = and-both (inOrder (aboveSystem lower i) s) _ (order-to (aboveSystem lower i) s a) (le→leb (s .run .steps2) stepLimit b)
+  in-order-to deskByDesk h = h
 
-  out-by : (r : Run) → s .run .kind ≡ r → ¬ (T (ordersBy r lower i s)) → OutOfOrderFrom lower i s
+  out-by : (r : RunKind) → s .run .kind ≡ r → ¬ (T (inOrderBy r lower i s)) → OutOfOrderFrom lower i s
   out-by plainRun e n = other (λ x. let z : _≡_ {A = ℕ} 0 1 = cc in omega arith) (λ x. let z : _≡_ {A = ℕ} 0 1 = cc in omega arith)
   out-by cappedRun e n = other (λ x. let z : _≡_ {A = ℕ} 0 1 = cc in omega arith) (λ x. let z : _≡_ {A = ℕ} 0 1 = cc in omega arith)
   out-by deskByDesk e n = other (λ x. let z : _≡_ {A = ℕ} 0 1 = cc in omega arith) (λ x. let z : _≡_ {A = ℕ} 0 1 = cc in omega arith)
@@ -79,27 +79,27 @@ module _ (lower : List ℕ) (i : Input) (s : State) where
           | inl x ↦ later-list e x
           | inr x ↦ elim (split stepLimit (s .run .steps)) [
             | inl y ↦ later-steps e y
-            | inr y ↦ absurd (n (orders-to lowerPlain (order-from (mapOf i) (plainPart s) o, x, y)))
+            | inr y ↦ absurd (n (in-order-to lowerPlain (order-from (mapOf i) (plainPart s) o, x, y)))
           ]
         ]
       ]
   out-by lowerAbove e n =
       elim (T-dec (inOrder (aboveSystem lower i) s)) [
         | inr x ↦ above-walk e (out-of (aboveSystem lower i) s x)
-        | inl o ↦ elim (split stepLimit (s .run .steps₂)) [
+        | inl o ↦ elim (split stepLimit (s .run .steps2)) [
           | inl y ↦ earlier-steps e y
-          | inr y ↦ absurd (n (orders-to lowerAbove (order-from (aboveSystem lower i) s o, y)))
+          | inr y ↦ absurd (n (in-order-to lowerAbove (order-from (aboveSystem lower i) s o, y)))
         ]
       ]
 
   -- what is in order by the record is so by the walk that it is known to name
-  pub named-order : {r : Run} → s .run .kind ≡ r → InOrderBy (s .run .kind) lower i s → InOrderBy r lower i s
+  pub named-order : {r : RunKind} → s .run .kind ≡ r → InOrderBy (s .run .kind) lower i s → InOrderBy r lower i s
   named-order e o = subst (λ r. InOrderBy r lower i s) e o
 
   pub not-from : OutOfOrderFrom lower i s → InOrderBy (s .run .kind) lower i s → ⊥
   not-from (other a b) o = none (s .run .kind) refl o
     where
-      none : (r : Run) → s .run .kind ≡ r → InOrderBy r lower i s → ⊥
+      none : (r : RunKind) → s .run .kind ≡ r → InOrderBy r lower i s → ⊥
       none plainRun e o = o
       none cappedRun e o = o
       none lowerPlain e o = a e
@@ -116,13 +116,13 @@ module _ (lower : List ℕ) (i : Input) (s : State) where
   decides-from =
       decides-if (not (inOrderFrom lower i s)) 6 (OutOfOrderFrom lower i s)
       (λ h. out-by (s .run .kind) refl (T-not (inOrderFrom lower i s) h))
-      (λ b. not-T (inOrderFrom lower i s) (λ h. not-from b (orders-from (s .run .kind) h)))
+      (λ b. not-T (inOrderFrom lower i s) (λ h. not-from b (in-order-from (s .run .kind) h)))
 
   -- a record and tables that pass the check for 6
   pub from-order : check6From lower i s ≡ go → InOrderBy (s .run .kind) lower i s
   from-order e =
-      elim (T-dec (ordersBy (s .run .kind) lower i s)) [
-        | inl y ↦ orders-from (s .run .kind) y
+      elim (T-dec (inOrderBy (s .run .kind) lower i s)) [
+        | inl y ↦ in-order-from (s .run .kind) y
         | inr n ↦ absurd (decides-from .goes e (out-by (s .run .kind) refl n))
       ]
 
@@ -146,7 +146,7 @@ resume-from-renders lower i s =
     (renders-then (decides-from lower i s) (renders-then (decides-range i) (renders-last (decides-bound i lower)))))
 
 -- the rules of the search are those of the walk under way
-abbrev pub rulesBy : Run → Rules → Rules → Rules
+abbrev pub rulesBy : RunKind → Rules → Rules → Rules
 rulesBy plainRun a b = b
 rulesBy cappedRun a b = b
 rulesBy lowerPlain a b = a
@@ -156,7 +156,7 @@ rulesBy deskByDesk a b = b
 abbrev pub searchFromRules : List ℕ → Input → State → Rules
 searchFromRules lower i s = rulesBy (s .run .kind) (searchRules (mapOf i) (plainPart s)) (searchRules (aboveSystem lower i) s)
 
-pub renders-by : {c d : Check} {a b : Rules} (r : Run) → Renders c a → Renders d b → Renders (byWalk r c d) (rulesBy r a b)
+pub renders-by : {c d : Check} {a b : Rules} (r : RunKind) → Renders c a → Renders d b → Renders (byWalk r c d) (rulesBy r a b)
 renders-by plainRun x y = y
 renders-by cappedRun x y = y
 renders-by lowerPlain x y = x
@@ -239,7 +239,7 @@ module _ (lower : List ℕ) (i : Input) (s : State) where
 -- of whichever walk: the kind of the run and the steps of the walk before; its own are one more
 pub record Kept (s t : State) : Type 0 where
   pub kind : t .run .kind ≡ s .run .kind
-  pub before : t .run .steps₂ ≡ s .run .steps₂
+  pub before : t .run .steps2 ≡ s .run .steps2
   pub counted : t .run .steps ≡ s .run .steps + 1
 
 pub step-kept : (m : System) (s : State) → Kept s (step m s)
@@ -257,26 +257,26 @@ step-kept m s = go (solves m (top m s))
 -- of a walk whose solutions all go to the first list: the second list too
 pub record Aside (s t : State) : Type 0 where
   pub second : t .second ≡ s .second
-  pub found₂ : t .run .found₂ ≡ s .run .found₂
+  pub found2 : t .run .found2 ≡ s .run .found2
 
 pub step-aside : (m : System) → ((x : ℕ → ℕ) → toSecond (m .kind) x ≡ false) → (s : State) → Aside s (step m s)
 unfolding step listed grown
 step-aside m first s = go (solves m (top m s))
   where
     enlisted : (b : Bool) (w : ℕ) (y : ℕ → ℕ) (d : ℕ) → b ≡ false → Aside s (enlistIn b w s y d)
-    enlisted false w y d e = record { second = refl; found₂ = refl }
+    enlisted false w y d e = record { second = refl; found2 = refl }
     enlisted true w y d e = absurd (let z : _≡_ {A = ℕ} 0 1 = cc in omega arith)
 
     go : (b : Bool) → Aside s (pick b (listed m s) (grown m s))
     go true = enlisted (toSecond (m .kind) (top m s)) (width m) _ _ (first (top m s))
-    go false = record { second = refl; found₂ = refl }
+    go false = record { second = refl; found2 = refl }
 
 -- the change of walk is made once
 pub settled-once : (lower : List ℕ) (i : Input) (s : State) → settleFrom lower i (settleFrom lower i s) ≡ settleFrom lower i s
 unfolding settleFrom lowered
 settled-once lower i s = go (s .run .kind) (s .run .height) refl refl
   where
-    go : (r : Run) (h : ℕ) → s .run .kind ≡ r → s .run .height ≡ h → let t = changed r h lower i s in changed (t .run .kind) (t .run .height) lower i t ≡ t
+    go : (r : RunKind) (h : ℕ) → s .run .kind ≡ r → s .run .height ≡ h → let t = changed r h lower i s in changed (t .run .kind) (t .run .height) lower i t ≡ t
     go plainRun h e z = rw (e, z)
     go cappedRun h e z = rw (e, z)
     go lowerPlain zero e z = refl
@@ -306,7 +306,7 @@ module _ (lower : List ℕ) (i : Input) (s : State) where
             found = f;
             early = l;
             shallow = o .shallow;
-            found₂ = o .found;
+            found2 = o .found;
             rows = λ k kh. let z : k ≡ 0 = omega arith in rw z (record {
               marked = rw (r .marks-are) (count-none (frozen 0) (i .q) frozen-none);
               fitting = rw (r .marks-are) (one-le-pow (i .q) 2 (lit< tt));
@@ -324,7 +324,7 @@ module _ (lower : List ℕ) (i : Input) (s : State) where
   unfolding settleFrom
   settled-valid v = go (s .run .kind) (s .run .height) refl
     where
-      go : (r : Run) (h : ℕ) → s .run .kind ≡ r → ValidFrom lower i (changed r h lower i s)
+      go : (r : RunKind) (h : ℕ) → s .run .kind ≡ r → ValidFrom lower i (changed r h lower i s)
       go plainRun h e = v
       go cappedRun h e = v
       go lowerPlain zero e = lowered-valid e v
@@ -348,10 +348,10 @@ module _ (lower : List ℕ) (i : Input) (s : State) where
             found = w .ordered .found;
             early = w .ordered .early;
             shallow = o .shallow;
-            found₂ = tt;
+            found2 = tt;
             rows = w .ordered .rows;
           },
-          rw (a .second, a .found₂) f,
+          rw (a .second, a .found2) f,
           rw (step-kept (mapOf i) (plainPart s) .before) l,
         );
         long = v .long;
@@ -383,7 +383,7 @@ module _ (lower : List ℕ) (i : Input) (s : State) where
   unfolding stepFrom
   step-from-valid v (p, a) = go (s .run .kind) refl (v .ordered)
     where
-      go : (r : Run) → s .run .kind ≡ r → InOrderBy r lower i s
+      go : (r : RunKind) → s .run .kind ≡ r → InOrderBy r lower i s
           → ValidFrom lower i (byWalk r (wholeOf (s .run .deepest) (step (mapOf i) (plainPart s))) (step (aboveSystem lower i) s))
       go plainRun e o = absurd o
       go cappedRun e o = absurd o

@@ -13,7 +13,7 @@ use Rattle.definitions.specs.Machine.{Machine, Outcome, walk, walkSteps}
 use Rattle.definitions.specs.Refusals.{searchChecks}
 use Rattle.definitions.specs.Step.{step}
 use Rattle.definitions.specs.System.{System}
-use Rattle.definitions.specs.Tables.{Run, State, byWalk, lowerAbove, lowerPlain, lowered, plainPart, plainRun, wholeOf}
+use Rattle.definitions.specs.Tables.{RunKind, State, byWalk, lowerAbove, lowerPlain, lowered, plainPart, plainRun, wholeOf}
 use Rattle.laws.specs.CheckLaws.{check-cases}
 use Rattle.laws.specs.DepthLaws.{search-depth, step-depth, withDepth}
 use Rattle.laws.specs.LowerLaws.{ValidFrom, search-going-from, step-from-valid, step-kept}
@@ -92,7 +92,7 @@ module _ (checks : State → Check) (lower : List ℕ) (i : Input) where
 
   plain-sees : (d : ℕ) (t : State) → t .run .kind ≡ plainRun → plainPart (wholeOf d t) ≡ withDepth d t
   plain-sees d t e =
-      ap (λ (r : Run). record {
+      ap (λ (r : RunKind). record {
         stack = t .stack;
         list = t .list;
         second = t .second;
@@ -102,8 +102,8 @@ module _ (checks : State → Check) (lower : List ℕ) (i : Input) where
               height = t .run .height;
               found = t .run .found;
               steps = t .run .steps;
-              found₂ = t .run .found₂;
-              steps₂ = t .run .steps₂;
+              found2 = t .run .found2;
+              steps2 = t .run .steps2;
               deepest = d;
             };
       }) (sym e)
@@ -191,7 +191,7 @@ module _ (checks : State → Check) (lower : List ℕ) (i : Input) where
     where
       back : (s : State) → s .run .kind ≡ lowerPlain → s ≡ wholeOf (s .run .deepest) (plainPart s)
       back s e =
-          ap (λ (r : Run). record {
+          ap (λ (r : RunKind). record {
             stack = s .stack;
             list = s .list;
             second = s .second;
@@ -201,8 +201,8 @@ module _ (checks : State → Check) (lower : List ℕ) (i : Input) where
                   height = s .run .height;
                   found = s .run .found;
                   steps = s .run .steps;
-                  found₂ = s .run .found₂;
-                  steps₂ = s .run .steps₂;
+                  found2 = s .run .found2;
+                  steps2 = s .run .steps2;
                   deepest = s .run .deepest;
                 };
           }) e

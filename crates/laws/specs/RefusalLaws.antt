@@ -23,7 +23,7 @@ use Rattle.definitions.specs.Refusals.{outOfRange, rangeChecks, resumeChecks, r
 use Rattle.definitions.specs.Refusals.{tooLarge}
 use Rattle.definitions.specs.Step.{fullFor, fullIn, level, makes, rowWidth, toSecond, top, width}
 use Rattle.definitions.specs.System.{Kind, System, above, capped, coef, coefLimit, mostComponent, mostEquations, mostUnknowns, plain, solves}
-use Rattle.definitions.specs.Tables.{Run, State, at, capacity, cappedRun, deskByDesk, frozen, isRun, lowerAbove, lowerPlain, plainRun, runFor, runNumber}
+use Rattle.definitions.specs.Tables.{RunKind, State, at, capacity, cappedRun, deskByDesk, frozen, isRun, lowerAbove, lowerPlain, plainRun, runFor, runNumber}
 use Rattle.laws.specs.CheckLaws.{AllSilent, Decides, Renders, Rule, Rules, Silent, _▹_, decides-first, decides-if, end, placed, renders-last}
 use Rattle.laws.specs.CheckLaws.{renders-then, rule}
 use Rattle.laws.specs.Extended.{extend-length, extend-range}
@@ -52,8 +52,8 @@ pub data BadRow (kind : Kind) (limit q : ℕ) (stack : List ℕ) (k : ℕ) : Typ
 -- where there are two lists, the count of the second is within its room
 abbrev pub SecondFits : Kind → ℕ → State → Type 0
 SecondFits plain q s = Unit {0}
-SecondFits capped q s = s .run .found₂ ≤ capacity (q - 1) (s .second)
-SecondFits (above f) q s = s .run .found₂ ≤ capacity q (s .second)
+SecondFits capped q s = s .run .found2 ≤ capacity (q - 1) (s .second)
+SecondFits (above f) q s = s .run .found2 ≤ capacity q (s .second)
 
 -- "height above q, found above the room, steps above 1,000,000,000,000; or" such a row; "A record of one kind of run .. given to a continuing call of another
 -- kind"; "a value above 16,000,000"
@@ -69,7 +69,7 @@ pub data OutOfOrder (m : System) (s : State) : Type 0 where
 -- 11: "the list has no room", the row's own list
 abbrev pub NoRoomIn : Bool → ℕ → State → Type 0
 NoRoomIn false w s = capacity w (s .list) ≤ s .run .found
-NoRoomIn true w s = capacity w (s .second) ≤ s .run .found₂
+NoRoomIn true w s = capacity w (s .second) ≤ s .run .found2
 
 abbrev pub NoRoom : Kind → ℕ → State → (ℕ → ℕ) → Type 0
 NoRoom k q s x = NoRoomIn (toSecond k x) (rowWidth k q) s
@@ -186,14 +186,14 @@ range-renders (rights b) i = renders-then (decides-range i) (renders-last (decid
 
 -- ---- the kind of a run by its number
 
-runAt : ℕ → Run
+runAt : ℕ → RunKind
 runAt zero = plainRun
 runAt (suc zero) = cappedRun
 runAt (suc (suc zero)) = lowerPlain
 runAt (suc (suc (suc zero))) = lowerAbove
 runAt (suc (suc (suc (suc n)))) = deskByDesk
 
-run-at : (r : Run) → runAt (runNumber r) ≡ r
+run-at : (r : RunKind) → runAt (runNumber r) ≡ r
 unfolding runAt
 run-at plainRun = refl
 run-at cappedRun = refl
@@ -201,10 +201,10 @@ run-at lowerPlain = refl
 run-at lowerAbove = refl
 run-at deskByDesk = refl
 
-pub run-from : (r k : Run) → T (isRun r k) → r ≡ k
+pub run-from : (r k : RunKind) → T (isRun r k) → r ≡ k
 run-from r k h = sym (run-at r) ∙ ap runAt (eqb→eq (runNumber r) (runNumber k) h) ∙ run-at k
 
-pub run-to : (r k : Run) → r ≡ k → T (isRun r k)
+pub run-to : (r k : RunKind) → r ≡ k → T (isRun r k)
 run-to r k e = rw e (eqb-refl (runNumber k))
 
 -- ---- a row and a record in order
@@ -221,7 +221,7 @@ pub record InOrder (m : System) (s : State) : Type 0 where
   pub found : s .run .found ≤ capacity (width m) (s .list)
   pub early : s .run .steps ≤ stepLimit
   pub shallow : s .run .deepest ≤ deepestLimit
-  pub found₂ : SecondFits (m .kind) (m .q) s
+  pub found2 : SecondFits (m .kind) (m .q) s
   pub rows : (k : ℕ) → k < s .run .height → RowInOrder (m .kind) (m .limit) (m .q) (s .stack) k
 
 pub inside-from : (k : Kind) (q : ℕ) (x : ℕ → ℕ) → T (inside k q x) → Inside k q x
@@ -236,13 +236,13 @@ inside-to (above f) q x h = below-to q f x h
 
 second-from : (k : Kind) (q : ℕ) (s : State) → T (secondFits k q s) → SecondFits k q s
 second-from plain q s h = tt
-second-from capped q s h = leb→le (s .run .found₂) (capacity (q - 1) (s .second)) h
-second-from (above f) q s h = leb→le (s .run .found₂) (capacity q (s .second)) h
+second-from capped q s h = leb→le (s .run .found2) (capacity (q - 1) (s .second)) h
+second-from (above f) q s h = leb→le (s .run .found2) (capacity q (s .second)) h
 
 second-to : (k : Kind) (q : ℕ) (s : State) → SecondFits k q s → T (secondFits k q s)
 second-to plain q s h = tt
-second-to capped q s h = le→leb (s .run .found₂) (capacity (q - 1) (s .second)) h
-second-to (above f) q s h = le→leb (s .run .found₂) (capacity q (s .second)) h
+second-to capped q s h = le→leb (s .run .found2) (capacity (q - 1) (s .second)) h
+second-to (above f) q s h = le→leb (s .run .found2) (capacity q (s .second)) h
 
 module _ (kind : Kind) (limit q : ℕ) (stack : List ℕ) (k : ℕ) where
   pub row-from : T (rowInOrder kind limit q stack k) → RowInOrder kind limit q stack k
@@ -307,7 +307,7 @@ module _ (m : System) (s : State) where
         found = leb→le (s .run .found) (capacity (width m) (s .list)) c;
         early = leb→le (s .run .steps) stepLimit e;
         shallow = leb→le (s .run .deepest) deepestLimit u;
-        found₂ = second-from (m .kind) (m .q) s w;
+        found2 = second-from (m .kind) (m .q) s w;
         rows = λ k l. row-from (m .kind) (m .limit) (m .q) (s .stack) k (all-at (s .run .height) _ y k l);
       }
 
@@ -319,7 +319,7 @@ module _ (m : System) (s : State) where
       (and-both (leb (s .run .found) (capacity (width m) (s .list))) _ (le→leb (s .run .found) (capacity (width m) (s .list)) (o .found))
       (and-both (leb (s .run .steps) stepLimit) _ (le→leb (s .run .steps) stepLimit (o .early))
       (and-both (leb (s .run .deepest) deepestLimit) _ (le→leb (s .run .deepest) deepestLimit (o .shallow))
-      (and-both (secondFits (m .kind) (m .q) s) _ (second-to (m .kind) (m .q) s (o .found₂))
+      (and-both (secondFits (m .kind) (m .q) s) _ (second-to (m .kind) (m .q) s (o .found2))
       (all-from (s .run .height) _ (λ k l. row-to (m .kind) (m .limit) (m .q) (s .stack) k (o .rows k l))))))))
 
   abbrev rowsTest : Bool
@@ -356,7 +356,7 @@ module _ (m : System) (s : State) where
                     → RowInOrder (m .kind) (m .limit) (m .q) (s .stack) k =
                     λ k l. row-from (m .kind) (m .limit) (m .q) (s .stack) k (all-at (s .run .height) _ a k l) in
                     absurd
-                    (h (order-to (record { kind = r; height = x; found = y; early = z; shallow = d; found₂ = second-from (m .kind) (m .q) s w; rows = rows })))
+                    (h (order-to (record { kind = r; height = x; found = y; early = z; shallow = d; found2 = second-from (m .kind) (m .q) s w; rows = rows })))
               ]
             ]
           ]
@@ -367,7 +367,7 @@ module _ (m : System) (s : State) where
   not-order (many h) o = omega (arith, o .found)
   not-order (late h) o = omega (arith, o .early)
   not-order (deep h) o = omega (arith, o .shallow)
-  not-order (many₂ h) o = h (o .found₂)
+  not-order (many₂ h) o = h (o .found2)
   not-order (row k l b) o = bad-row (m .kind) (m .limit) (m .q) (s .stack) k b (o .rows k l)
 
   pub decides-order : Decides (check6 m s) (rule 6 (OutOfOrder m s))
@@ -406,11 +406,11 @@ module _ (i : Input) (s : State) where
 
 full-from : (b : Bool) (w : ℕ) (s : State) → T (fullIn b w s) → NoRoomIn b w s
 full-from false w s h = leb→le (capacity w (s .list)) (s .run .found) h
-full-from true w s h = leb→le (capacity w (s .second)) (s .run .found₂) h
+full-from true w s h = leb→le (capacity w (s .second)) (s .run .found2) h
 
 full-to : (b : Bool) (w : ℕ) (s : State) → NoRoomIn b w s → T (fullIn b w s)
 full-to false w s h = le→leb (capacity w (s .list)) (s .run .found) h
-full-to true w s h = le→leb (capacity w (s .second)) (s .run .found₂) h
+full-to true w s h = le→leb (capacity w (s .second)) (s .run .found2) h
 
 module _ (m : System) (s : State) where
   abbrev sol : Bool
@@ -582,14 +582,14 @@ module _ (i : Input) (s : State) where
 -- the list that a solution goes into has room
 abbrev pub RoomIn : Bool → ℕ → State → Type 0
 RoomIn false w s = s .run .found < capacity w (s .list)
-RoomIn true w s = s .run .found₂ < capacity w (s .second)
+RoomIn true w s = s .run .found2 < capacity w (s .second)
 
 abbrev pub Room : Kind → ℕ → State → (ℕ → ℕ) → Type 0
 Room k q s x = RoomIn (toSecond k x) (rowWidth k q) s
 
 room-or : (b : Bool) (w : ℕ) (s : State) → ¬ (NoRoomIn b w s) → RoomIn b w s
 room-or false w s h = at-most (suc (s .run .found)) (capacity w (s .list)) (λ l. h (omega arith))
-room-or true w s h = at-most (suc (s .run .found₂)) (capacity w (s .second)) (λ l. h (omega arith))
+room-or true w s h = at-most (suc (s .run .found2)) (capacity w (s .second)) (λ l. h (omega arith))
 
 pub room-not : (b : Bool) (w : ℕ) (s : State) → RoomIn b w s → ¬ (NoRoomIn b w s)
 room-not false w s r h = omega arith

@@ -1,8 +1,8 @@
 // The text form of a map (document 01, "The program"): reading it.
 ghost use mathlib.Core.Path.{_≡_};
-ghost use mathlib.Core.List.{[], _++_};
+ghost use mathlib.Core.List.{[]};
 ghost use Prim.Native.Nat.{_≤_};
-ghost use lib.ListN.{length, drop};
+ghost use lib.ListN.{drop, length};
 ghost use Rattle.map_spec.specs.Reading.{rows, readRows, acceptRows, readBody, readMap};
 ghost use Rattle.map_text.specs.Answer.{outcome, answered};
 ghost use Rattle.map_text.specs.Places.{Shape};
@@ -91,18 +91,6 @@ fn accept(p: usize, q: usize, found: &[i32], coefs: &mut [i32]) -> Read
         }
         i += 1;
     }
-    copy(found, coefs);
+    texts::rows::copy(found, coefs);
     Read::Map { p, q }
-}
-
-// Writes `found` to the beginning of `coefs`.
-pub fn copy(found: &[i32], coefs: &mut [i32])
-    requires { ⌜ length (now found) ≤ length (now coefs) ⌝ }
-    ensures { λ r. ⌜ now (coefs .exit) ≡ now (found .entry) ++ drop (length (now (found .entry))) (now (coefs .entry)) ⌝ }
-{
-    let mut i = 0;
-    while i < found.len() {
-        coefs[i] = found[i];
-        i += 1;
-    }
 }

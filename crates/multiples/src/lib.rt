@@ -171,7 +171,7 @@ fn why_not(
     requires { ⌜ Modest (sizes equations unknowns) ⌝ }
     ensures { λ e. ⌜ ExcuseIs (reasonWithin (sizes equations unknowns) (inputOf p q (now (coefs .entry))) (now (list .entry)) found (now (t .entry))) e ⌝ }
 {
-    match reasons::explain_within(equations, unknowns, p, q, coefs, list, found, t) {
+    match reasons::explain_at_most(equations, unknowns, p, q, coefs, list, found, t) {
         Reason::Zero => Excuse::Solves,
         Reason::Off(k, amount) => Excuse::Off(k, amount),
         Reason::Stands(_) => Excuse::Solves,

@@ -4,3 +4,4 @@ pub mod Products
 pub mod Totals
 pub mod Turns
 pub mod ProductLaws
+pub mod Trials

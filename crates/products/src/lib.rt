@@ -164,7 +164,7 @@ pub fn vanish(c: &[i64; 256], k: usize, q: usize) -> bool
 }
 
 // The unknowns that are not frozen by `marks` and whose product at level k is below zero, as marks.
-pub fn candidates(c: &[i64; 256], k: usize, q: usize, marks: u32) -> u32
+pub fn candidate_marks(c: &[i64; 256], k: usize, q: usize, marks: u32) -> u32
     requires { ⌜ (k < 16) × (q ≤ 16) ⌝ }
     ensures { λ r. ⌜ Marked q (λ j. ltZ (entry (now (c .entry)) k j) (pos 0) && not (frozen marks j)) r ⌝ }
 {

@@ -4,7 +4,7 @@ use mathlib.Core.Logic.{inl, inr}
 use mathlib.Core.Bool.{Bool, true, false, not}
 use mathlib.Core.List.{List}
 use mathlib.Core.Option.{some}
-use Prim.Native.Nat.{ℕ, _+_, _*_, _-_, _≤_, _<_}
+use Prim.Native.Nat.{ℕ, min, _+_, _*_, _-_, _≤_, _<_}
 use native.Mathlib.Nat.{mul-le-mul-right, div-mul-le-self}
 use native.Mathlib.Omega.{arith}
 use lib.Dec.{T}
@@ -18,7 +18,7 @@ use Rattle.linear.specs.Integers.{sfits-natAbs}
 use Rattle.linear.specs.PlaceLaws.{First, first-is}
 use Rattle.linear.specs.Systems.{value}
 use Rattle.definitions.specs.Reasons.{firstOff, off, reasonChecks, reasonWithin, refused, unlessRefused}
-use Rattle.definitions.specs.Refusals.{Sizes, largeSizes}
+use Rattle.definitions.specs.Refusals.{Sizes, largeSizes, sizes}
 use Rattle.definitions.specs.Input.{Input, inputOf, mapOf}
 use Rattle.definitions.specs.System.{System, coefLimit, imageOf, isZero, mostComponent}
 use Rattle.laws.specs.CheckLaws.{check-cases}
@@ -70,6 +70,16 @@ module _ {q : ℕ} {coefs : List ℤ} {i : ℕ} (s : SmallEquation q coefs i) wh
 -- the largest sizes, and a question that is within smaller ones
 pub large : Modest largeSizes
 large = record { equations = omega arith; unknowns = omega arith }
+
+-- sizes of which no more than these count
+pub modest-min : (equations unknowns : ℕ) → Modest (sizes (min equations 32) (min unknowns 32))
+modest-min equations unknowns = record { equations = omega arith; unknowns = omega arith }
+
+pub modest-same : (equations unknowns : ℕ) → Modest (sizes equations unknowns) → sizes (min equations 32) (min unknowns 32) ≡ sizes equations unknowns
+modest-same equations unknowns m =
+    let e : min equations 32 ≡ equations = omega (arith, m .equations) in
+    let u : min unknowns 32 ≡ unknowns = omega (arith, m .unknowns) in
+    rw (e, u)
 
 pub asked-largely : {s : Sizes} {i : Input} {list : List ℕ} {found : ℕ} {t : List ℕ} → Modest s → Askable s i list found t → Askable largeSizes i list found t
 asked-largely m a =

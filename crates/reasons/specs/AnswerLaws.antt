@@ -1,11 +1,17 @@
 -- What each way through the code comes to: the tests that were made, and the reason that they give. Assumes nothing.
 use mathlib.Core.Path.{_≡_}
+use mathlib.Core.Logic.{inl, inr}
 use mathlib.Core.Bool.{true, false}
 use mathlib.Core.List.{List}
 use mathlib.Core.Option.{some, none}
-use Prim.Native.Nat.{ℕ, _-_}
+use Prim.Native.Nat.{ℕ, _-_, _≤_}
+use native.Mathlib.Omega.{arith}
+use lib.Dec.{eqb}
 use lib.IntN.{ℤ}
-use lib.ListN.{getD}
+use lib.ListN.{getD, length, List·getD-eq-default}
+use Rattle.linear.specs.Cases.{split}
+use Rattle.linear.specs.TestLaws.{all-at, all-from}
+use Rattle.linear.specs.Tests.{allTo}
 use Rattle.definitions.specs.Reasons as paper
 use Rattle.definitions.specs.Highest.{highest}
 use Rattle.definitions.specs.Input.{Input, mapOf}
@@ -20,6 +26,7 @@ use Rattle.calls.specs.Paper.{checkOf, numberOf, valuesOf}
 use Rattle.calls.specs.declared.Check.{Check}
 use Rattle.calls.specs.declared.Check.the-variants.{Pass, Refuse}
 use Rattle.calls.specs.declared.Refusal.{Refusal}
+use Rattle.products.specs.Marks.{is-true}
 use Rattle.reasons.specs.Answers.{reasonOf}
 use Rattle.reasons.specs.Numbers.{reasonTold}
 use Rattle.reasons.specs.declared.Reason.{Reason}
@@ -55,6 +62,16 @@ module _ (m : System) (found : ℕ) (row : ℕ → ℕ → ℕ) (x : ℕ → ℕ
     pub even-at : paper.firstOff m x ≡ none → {r : paper.Reason} → r ≡ paper.inList (m .q) found row x → r ≡ paper.firstTrue m found row x
     unfolding paper.firstTrue paper.zeroOr paper.offOr
     even-at f g = rw (e, f) g
+
+-- ---- a tuple of fewer components than asked for
+
+pub zeros-beyond : (q : ℕ) (t : List ℕ) (j : ℕ) → allTo j (λ k. eqb (getD t k 0) 0) ≡ true → length t ≤ j → allTo q (λ k. eqb (getD t k 0) 0) ≡ true
+zeros-beyond q t j e l =
+    is-true _ (all-from q (λ k. eqb (getD t k 0) 0)
+    (λ k kq. elim (split k j) [
+      | inl kj ↦ all-at j (λ k. eqb (getD t k 0) 0) (rw e tt) k kj
+      | inr jk ↦ rw (List·getD-eq-default t 0 {n = k} (omega arith)) tt
+    ]))
 
 -- ---- refused or not
 

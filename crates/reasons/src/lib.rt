@@ -1,6 +1,6 @@
 // Why a tuple is not in a list (document 02, Job 8): the first reason that is true.
 ghost use mathlib.Core.Path.{_≡_};
-ghost use Prim.Native.Nat.{_+_, _*_, _≤_, _<_};
+ghost use Prim.Native.Nat.{min, _+_, _*_, _≤_, _<_};
 ghost use lib.IntN.{pos};
 ghost use lib.ListN.{length, getD};
 ghost use Rattle.linear.specs.Systems.{value};
@@ -66,8 +66,41 @@ pub fn explain_large(
     explain_within(32, 32, p, q, coefs, list, found.0, t)
 }
 
+// Of maps of at most so many equations and unknowns, where no more than 32 count.
+pub fn explain_at_most(
+    equations: usize,
+    unknowns: usize,
+    p: usize,
+    q: usize,
+    coefs: &[i32],
+    list: &[u32],
+    found: usize,
+    t: &[u32],
+) -> Reason
+    ensures { λ r. ⌜ reasonOf r ≡ paper.reasonWithin (sizes (min equations 32) (min unknowns 32)) (inputOf p q (now (coefs .entry))) (now (list .entry)) found
+        (now (t .entry)) ⌝ }
+{
+    explain_within(
+        counted(equations),
+        counted(unknowns),
+        p,
+        q,
+        coefs,
+        list,
+        found,
+        t,
+    )
+}
+
+// As many of them as count.
+fn counted(n: usize) -> usize
+    ensures { λ m. ⌜ m ≡ min n 32 ⌝ }
+{
+    if n < 32 { n } else { 32 }
+}
+
 // Of maps of at most so many equations and unknowns.
-pub fn explain_within(
+fn explain_within(
     equations: usize,
     unknowns: usize,
     p: usize,
@@ -115,13 +148,15 @@ fn in_list(list: &[u32], found: usize, q: usize, t: &[u32]) -> Reason
     }
 }
 
-// Whether the tuple is all zero.
+// Whether the tuple is all zero; components past the slice count as 0.
 pub fn vanishes(q: usize, t: &[u32]) -> bool
-    requires { ⌜ q ≤ length (now t) ⌝ }
     ensures { λ b. ⌜ b ≡ paper.vanishes q (tuple (now (t .entry))) ⌝ }
 {
     let mut j = 0;
     while j < q {
+        if t.len() <= j {
+            return true;
+        }
         if t[j] != 0 {
             return false;
         }

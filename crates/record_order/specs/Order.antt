@@ -14,10 +14,10 @@ use Rattle.linear.specs.Tests.{allTo, countTo}
 use Rattle.linear.specs.TestLaws.{and-parts}
 use Rattle.definitions.specs.Answers.{Check, _then_, refuse, refuseWith}
 use Rattle.definitions.specs.Input.{Input, alone, boundOf, inputWith, limitOf}
-use Rattle.definitions.specs.Refusals.{check5, check6, check6From, deepestLimit, inOrder, inOrderFrom, inside, ordersBy, rowFits, secondFits, stepLimit}
+use Rattle.definitions.specs.Refusals.{check5, check6, check6From, deepestLimit, inOrder, inOrderFrom, inside, inOrderBy, rowFits, secondFits, stepLimit}
 use Rattle.definitions.specs.Step.{width}
 use Rattle.definitions.specs.System.{System, above, capped, isAtOrBelow, mostUnknowns, plain}
-use Rattle.definitions.specs.Tables.{Record, Run, State, at, capacity, cappedRun, deskByDesk, frozen, isRun, lowerAbove, lowerPlain, plainPart, plainRun}
+use Rattle.definitions.specs.Tables.{Record, RunKind, State, at, capacity, cappedRun, deskByDesk, frozen, isRun, lowerAbove, lowerPlain, plainPart, plainRun}
 use Rattle.definitions.specs.Tables.{runFor}
 use Rattle.calls.specs.Paper.{systemWith}
 use Rattle.laws.specs.MarkLaws.{count-frozen-half}
@@ -40,7 +40,7 @@ pub record InShape (q stack : ℕ) : Type 0 where
   pub rows : q * (q + 1) ≤ stack
 
 -- what is asked of every run: of a kind, on q unknowns, with rows of w numbers in the list
-unfoldable pub recordFits : Run → ℕ → ℕ → ℕ → List ℕ → List ℕ → Record → Bool
+unfoldable pub recordFits : RunKind → ℕ → ℕ → ℕ → List ℕ → List ℕ → Record → Bool
 recordFits kind q w limit stack list r =
     isRun (r .kind) kind
     && (leb (r .height) q
@@ -48,16 +48,16 @@ recordFits kind q w limit stack list r =
 
 -- what a capped run on q unknowns is asked besides, with rows of w numbers in the second list
 unfoldable pub cappedFits : ℕ → ℕ → List ℕ → List ℕ → Record → Bool
-cappedFits q w stack second r = leb (r .found₂) (capacity w second) && allTo (r .height) (λ k. leb (at stack (q + 1) k 0) 1)
+cappedFits q w stack second r = leb (r .found2) (capacity w second) && allTo (r .height) (λ k. leb (at stack (q + 1) k 0) 1)
 
 -- what a walk above a lower bound is asked besides
 unfoldable pub aboveFits : ℕ → List ℕ → List ℕ → List ℕ → Record → Bool
-aboveFits q lower stack second r = leb (r .found₂) (capacity q second) && allTo (r .height) (λ k. isAtOrBelow q (boundOf lower) (at stack (q + 1) k))
+aboveFits q lower stack second r = leb (r .found2) (capacity q second) && allTo (r .height) (λ k. isAtOrBelow q (boundOf lower) (at stack (q + 1) k))
 
 -- what the plain walk of a run from a lower bound sees of the record
 abbrev plainRecord : Record → Record
 plainRecord r =
-    record { kind = plainRun; height = r .height; found = r .found₂; steps = r .steps₂; found₂ = r .found; steps₂ = r .steps; deepest = r .deepest }
+    record { kind = plainRun; height = r .height; found = r .found2; steps = r .steps2; found2 = r .found; steps2 = r .steps; deepest = r .deepest }
 
 -- a run from a lower bound in its plain walk, in its walk above the bound, and by the walk that the record names
 unfoldable pub plainWalkFits : ℕ → ℕ → List ℕ → List ℕ → List ℕ → Record → Bool
@@ -66,9 +66,9 @@ plainWalkFits q limit stack list second r =
 
 unfoldable pub aboveWalkFits : ℕ → ℕ → List ℕ → List ℕ → List ℕ → List ℕ → Record → Bool
 aboveWalkFits q limit lower stack list second r =
-    recordFits lowerAbove q q limit stack list r && (aboveFits q lower stack second r && leb (r .steps₂) stepLimit)
+    recordFits lowerAbove q q limit stack list r && (aboveFits q lower stack second r && leb (r .steps2) stepLimit)
 
-abbrev pub lowerFits : Run → ℕ → ℕ → List ℕ → List ℕ → List ℕ → List ℕ → Record → Bool
+abbrev pub lowerFits : RunKind → ℕ → ℕ → List ℕ → List ℕ → List ℕ → List ℕ → Record → Bool
 lowerFits plainRun q limit lower stack list second r = false
 lowerFits cappedRun q limit lower stack list second r = false
 lowerFits lowerPlain q limit lower stack list second r = plainWalkFits q limit stack list second r
@@ -130,7 +130,7 @@ order-capped p q wide coefs limit s e =
     rw e
     (order-parts (systemWith capped p (suc q) coefs limit) s
     ∙ ap (λ w. recordFits cappedRun (suc q) w limit (s .stack) (s .list) (s .run)
-    && (leb (s .run .found₂) (capacity w (s .second)) && allTo (s .run .height) (λ k. leb (at (s .stack) (suc q + 1) k 0) 1))) (without-first q))
+    && (leb (s .run .found2) (capacity w (s .second)) && allTo (s .run .height) (λ k. leb (at (s .stack) (suc q + 1) k 0) 1))) (without-first q))
 
 -- a run from a lower bound
 order-above : (lower : List ℕ) (p q : ℕ) (coefs : List ℤ) (limit : ℕ) (s : State)
@@ -148,7 +148,7 @@ order-lower lower p q limit coefs s = go (s .run .kind)
     last true b c = refl
     last false b c = refl
 
-    go : (r : Run) → ordersBy r lower (inputWith alone limit p q coefs) s ≡ lowerFits r q (limitOf limit) lower (s .stack) (s .list) (s .second) (s .run)
+    go : (r : RunKind) → inOrderBy r lower (inputWith alone limit p q coefs) s ≡ lowerFits r q (limitOf limit) lower (s .stack) (s .list) (s .second) (s .run)
     go plainRun = refl
     go cappedRun = refl
     go lowerPlain = rw (order-plain p q coefs (limitOf limit) (plainPart s))
@@ -192,10 +192,10 @@ module _ (lower : List ℕ) (p q limit : ℕ) (coefs : List ℤ) (s : State) (af
     lower-after h = rw (e, order-lower lower p q limit coefs s, ← f, not-false a h)
 
 -- the rows of a record that fits lie in the stack table
-record-high : (kind : Run) (q w limit : ℕ) (stack list : List ℕ) (r : Record) → T (recordFits kind q w limit stack list r) → r .height ≤ q
+record-high : (kind : RunKind) (q w limit : ℕ) (stack list : List ℕ) (r : Record) → T (recordFits kind q w limit stack list r) → r .height ≤ q
 unfolding recordFits
 record-high kind q w limit stack list r h = leb→le (r .height) q (and-parts (leb (r .height) q) _ (and-parts (isRun (r .kind) kind) _ h .1) .0)
 
-pub record-height : {b : Bool} (kind : Run) (q w limit : ℕ) (stack list : List ℕ) (r : Record) → b ≡ recordFits kind q w limit stack list r → b ≡ true
+pub record-height : {b : Bool} (kind : RunKind) (q w limit : ℕ) (stack list : List ℕ) (r : Record) → b ≡ recordFits kind q w limit stack list r → b ≡ true
     → r .height ≤ q
 record-height kind q w limit stack list r e t = record-high kind q w limit stack list r (rw (← e, t) tt)

@@ -11,12 +11,12 @@ ghost use Rattle.definitions.specs.Tables.{at, frozen};
 ghost use Rattle.calls.specs.Paper.{kindOf, runOf};
 ghost use Rattle.record_order.specs.Order.{InShape, aboveFits, aboveWalkFits, cappedFits, lowerFits, plainWalkFits, recordFits};
 use calls::Record;
-use calls::Run;
+use calls::RunKind;
 use table_rows::rows;
 
 // Whether record and rows are in order for a run of a kind, on q unknowns and with rows of `width` numbers in the list.
 pub fn in_order(
-    kind: Run,
+    kind: RunKind,
     q: usize,
     width: usize,
     stack: &[u32],
@@ -56,7 +56,7 @@ pub fn capped_fits(q: usize, width: usize, stack: &[u32], second: &[u32], r: Rec
     ensures { λ b. ⌜ b ≡ cappedFits q width (now (stack .entry)) (now (second .entry)) (runOf r) ⌝ }
 {
     let height = r.height;
-    let count = r.second.0;
+    let count = r.found2.0;
     if second.len() / width < count {
         return false;
     }
@@ -139,11 +139,11 @@ pub fn lower_in_order(
 {
     let kind = r.kind;
     match kind {
-        Run::Plain => false,
-        Run::Capped => false,
-        Run::LowerPlain => plain_walk_fits(q, stack, list, second, r, limit),
-        Run::LowerAbove => above_walk_fits(q, lower, stack, list, second, r, limit),
-        Run::Desks => false,
+        RunKind::Plain => false,
+        RunKind::Capped => false,
+        RunKind::LowerPlain => plain_walk_fits(q, stack, list, second, r, limit),
+        RunKind::LowerAbove => above_walk_fits(q, lower, stack, list, second, r, limit),
+        RunKind::Desks => false,
     }
 }
 
@@ -162,7 +162,7 @@ fn plain_walk_fits(
     let found = r.found.0;
     let steps = r.steps.0;
     let part = calls::plain_part(r);
-    if !in_order(Run::Plain, q, q, stack, second, part, limit) {
+    if !in_order(RunKind::Plain, q, q, stack, second, part, limit) {
         return false;
     }
     if list.len() / q < found {
@@ -184,14 +184,14 @@ fn above_walk_fits(
     requires { ⌜ InShape q (length (now stack)) × (length (now lower) ≡ q) ⌝ }
     ensures { λ b. ⌜ b ≡ aboveWalkFits q limit (now (lower .entry)) (now (stack .entry)) (now (list .entry)) (now (second .entry)) (runOf r) ⌝ }
 {
-    let before = r.before.0;
-    if !in_order(Run::LowerAbove, q, q, stack, list, r, limit) {
+    let steps2 = r.steps2.0;
+    if !in_order(RunKind::LowerAbove, q, q, stack, list, r, limit) {
         return false;
     }
     if !above_fits(q, lower, stack, second, r) {
         return false;
     }
-    before <= calls::STEP_LIMIT
+    steps2 <= calls::STEP_LIMIT
 }
 
 // What a walk above a lower bound is asked besides: the count of the second list within its room, and every row at or above the bound.
@@ -200,7 +200,7 @@ fn above_fits(q: usize, lower: &[u32], stack: &[u32], second: &[u32], r: Record)
     ensures { λ b. ⌜ b ≡ aboveFits q (now (lower .entry)) (now (stack .entry)) (now (second .entry)) (runOf r) ⌝ }
 {
     let height = r.height;
-    let count = r.second.0;
+    let count = r.found2.0;
     if second.len() / q < count {
         return false;
     }

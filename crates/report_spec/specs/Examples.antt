@@ -62,7 +62,7 @@ cutShort a =
             stack = [];
             list = 3 ∷ 2 ∷ 0 ∷ 7 ∷ 9 ∷ 9 ∷ [];
             second = [];
-            run = record { kind = plainRun; height = 1; found = 2; steps = 5; found₂ = 0; steps₂ = 0; deepest = 5 };
+            run = record { kind = plainRun; height = 1; found = 2; steps = 5; found2 = 0; steps2 = 0; deepest = 5 };
           };
     }
 

@@ -14,7 +14,8 @@ use Rattle.definitions.specs.Machine.{Machine, Outcome, call, callSteps, checke
 use Rattle.definitions.specs.Refusals.{lowerChecks, resumeChecks, resumeFromChecks, searchChecks, startChecks}
 use Rattle.definitions.specs.Step.{step}
 use Rattle.definitions.specs.System.{System, mostComponent}
-use Rattle.definitions.specs.Tables.{Run, State, byWalk, cappedRun, deskByDesk, lowerAbove, lowerPlain, lowerStart, plainPart, plainRun, unitsStart, wholeOf}
+use Rattle.definitions.specs.Tables.{RunKind, State, byWalk, cappedRun, deskByDesk, lowerAbove, lowerPlain, lowerStart, plainPart, plainRun}
+use Rattle.definitions.specs.Tables.{unitsStart, wholeOf}
 use Rattle.laws.specs.CheckLaws.{check-cases, refuse-not-go}
 use Rattle.laws.specs.LimitLaws.{step-limit, withLimit}
 use Rattle.laws.specs.LowerLaws.{InOrderBy, ValidFrom, resume-from-renders, resume-from-valid, search-going-from, settled-valid, step-from-valid}
@@ -152,7 +153,7 @@ module _ (m : System) (n : ℕ) (more : m .limit ≤ n) where
         found = o .found;
         early = o .early;
         shallow = o .shallow;
-        found₂ = o .found₂;
+        found2 = o .found2;
         rows = λ k l. let r = o .rows k l in
             record { small = λ j jq. omega (arith, r .small j jq); fitting = r .fitting; marked = r .marked; is-inside = r .is-inside };
       }
@@ -261,7 +262,7 @@ module _ (p q : ℕ) (coefs : List ℤ) where
         further : step (aboveSystem lower i) s ≡ step (aboveSystem lower o) s
         further = step-limit (aboveSystem lower o) 20 s
 
-        by : (r : Run)
+        by : (r : RunKind)
             → byWalk r (wholeOf (s .run .deepest) (step (mapOf i) (plainPart s))) (step (aboveSystem lower i) s)
             ≡ byWalk r (wholeOf (s .run .deepest) (step (mapOf o) (plainPart s))) (step (aboveSystem lower o) s)
         by plainRun = further
@@ -274,7 +275,7 @@ module _ (p q : ℕ) (coefs : List ℤ) where
     unfolding settleFrom
     settle-office s = by (s .run .kind) (s .run .height)
       where
-        by : (r : Run) (h : ℕ) → changed r h lower i s ≡ changed r h lower o s
+        by : (r : RunKind) (h : ℕ) → changed r h lower i s ≡ changed r h lower o s
         by plainRun h = refl
         by cappedRun h = refl
         by lowerPlain zero = refl
@@ -286,7 +287,7 @@ module _ (p q : ℕ) (coefs : List ℤ) where
     unfolding seatSearchFrom searchFrom
     core-goes s = by (s .run .kind)
       where
-        by : (r : Run) → byWalk r (seatSearch (mapOf i) (plainPart s)) (seatSearch (aboveSystem lower i) s) ≡ go
+        by : (r : RunKind) → byWalk r (seatSearch (mapOf i) (plainPart s)) (seatSearch (aboveSystem lower i) s) ≡ go
             → byWalk r (searchChecks (mapOf i) (plainPart s)) (searchChecks (aboveSystem lower i) s) ≡ go
         by plainRun e = core-search (aboveSystem lower i) s e
         by cappedRun e = core-search (aboveSystem lower i) s e
@@ -302,7 +303,7 @@ module _ (p q : ℕ) (coefs : List ℤ) where
     unfolding seatSearchFrom searchFrom
     agree-from s v h = by (s .run .kind) (v .ordered)
       where
-        by : (r : Run) → InOrderBy r lower i s
+        by : (r : RunKind) → InOrderBy r lower i s
             → (byWalk r (seatSearch (mapOf i) (plainPart s)) (seatSearch (aboveSystem lower i) s)
             ≡ byWalk r (searchChecks (mapOf o) (plainPart s)) (searchChecks (aboveSystem lower o) s))
             ⊎ (byWalk r (seatSearch (mapOf i) (plainPart s)) (seatSearch (aboveSystem lower i) s) ≡ refuse 24 [])
@@ -312,7 +313,7 @@ module _ (p q : ℕ) (coefs : List ℤ) where
         by lowerAbove (x, y) = search-agree (aboveSystem lower i) mostComponent (omega arith) s x h
         by deskByDesk x = absurd x
 
-    order-office : (s : State) (r : Run) → InOrderBy r lower i s → InOrderBy r lower o s
+    order-office : (s : State) (r : RunKind) → InOrderBy r lower i s → InOrderBy r lower o s
     order-office s plainRun x = x
     order-office s cappedRun x = x
     order-office s lowerPlain (x, y, z) = (order-limit (mapOf i) mostComponent (omega arith) (plainPart s) x, y, z)

@@ -89,7 +89,7 @@ seatTermsFrom lower i =
       begun = lowerStart (mapOf i);
       before = seatResumeFromRules lower i;
       within = seatSearchFromRules lower i;
-      steps = λ s. s .run .steps + s .run .steps₂;
+      steps = λ s. s .run .steps + s .run .steps2;
       deepest = λ s. s .run .deepest;
       topSum = topSumFrom lower i;
       untouched = Untouched (i .q) (i .q);
@@ -126,7 +126,7 @@ pub record TrainingPromise (p q : ℕ) (coefs : List ℤ) : Type 0 where
       seatResumeFrom budget lower (seatInput p q coefs) s in
       o .answer ≡ complete
       → Exactly q (MinimalFrom (mapOf (seatInput p q coefs)) (boundOf lower)) (o .state .list) (o .state .run .found)
-      × Exactly q (MinimalSolution (mapOf (seatInput p q coefs))) (o .state .second) (o .state .run .found₂)
+      × Exactly q (MinimalSolution (mapOf (seatInput p q coefs))) (o .state .second) (o .state .run .found2)
   -- (Job 6) "the number shown is never above D"
   pub never-above : p ≡ 1 → (s : State) → SeatRun p q coefs s → s .run .deepest ≤ depth (mapOf (seatInput p q coefs))
   -- "The one-equation promise holds under any limit of at least D, so there if D is at most 20": the premises say so, and the seat's calls along such a series

@@ -56,7 +56,7 @@ pub data SeatRunFrom (lower : List ℕ) (p q : ℕ) (coefs : List ℤ) : State �
       → SeatRunFrom lower p q coefs (seatResumeFrom budget lower (seatInput p q coefs) s .state)
   lent-from : {s : State} → SeatRunFrom lower p q coefs s → (list : List ℕ) → SameRows q (s .run .found) (s .list) list
       → SeatRunFrom lower p q coefs (withList s list)
-  lent-second : {s : State} → SeatRunFrom lower p q coefs s → (second : List ℕ) → SameRows q (s .run .found₂) (s .second) second
+  lent-second : {s : State} → SeatRunFrom lower p q coefs s → (second : List ℕ) → SameRows q (s .run .found2) (s .second) second
       → SeatRunFrom lower p q coefs (withSecond s second)
 
 -- ---- 24 for 12, and back
@@ -244,11 +244,11 @@ module _ (p q : ℕ) (coefs : List ℤ) where
 
     pub seat-finished-from : (s : State) → SeatRunFrom lower p q coefs s → (budget : ℕ) → let o = seatResumeFrom budget lower i s in o .answer ≡ complete
         → Exactly q (MinimalFrom (mapOf i) (boundOf lower)) (o .state .list) (o .state .run .found)
-        × Exactly q (MinimalSolution (mapOf i)) (o .state .second) (o .state .run .found₂)
+        × Exactly q (MinimalSolution (mapOf i)) (o .state .second) (o .state .run .found2)
     seat-finished-from s r budget e =
         let is = is-core-from (seat-run-from r .0) budget s in
         subst (λ t. Exactly q (MinimalFrom (mapOf i) (boundOf lower)) (t .list) (t .run .found)
-        × Exactly q (MinimalSolution (mapOf i)) (t .second) (t .run .found₂)) (ap (λ o. o .state) (sym is))
+        × Exactly q (MinimalSolution (mapOf i)) (t .second) (t .run .found2)) (ap (λ o. o .state) (sym is))
         (seat-lists-from s r .finished budget (complete-back (resumeFrom budget lower i s .answer) (ap (λ o. o .answer) (sym is) ∙ e)))
 
     ruled-from : Ruled (seatMachineFrom lower i) (seatResumeFromRules lower i) (seatSearchFromRules lower i)

@@ -19,7 +19,7 @@ use Rattle.definitions.specs.Refusals.{check1, check4, lowerChecks, mostFor, nu
 use Rattle.definitions.specs.Refusals.{stepLimit, unknownsCheck}
 use Rattle.definitions.specs.Step.{makes, step, top}
 use Rattle.definitions.specs.System.{System, coef, mostEquations}
-use Rattle.definitions.specs.Tables.{Run, State, byWalk, cappedRun, deskByDesk, lowerAbove, lowerPlain, plainPart, plainRun}
+use Rattle.definitions.specs.Tables.{RunKind, State, byWalk, cappedRun, deskByDesk, lowerAbove, lowerPlain, plainPart, plainRun}
 use Rattle.laws.specs.CheckLaws.{Decides, Renders, Rules, _▹_, decides-if, end, renders-last, renders-then, rule}
 use Rattle.laws.specs.LowerLaws.{OutOfOrderFrom, decides-from, renders-by, resume-from-renders, rulesBy}
 use Rattle.laws.specs.RefusalLaws.{Misnumbered, NoRoom, OutOfOrder, Outside, decides-bound, decides-full, decides-large, decides-late, decides-number}
@@ -155,7 +155,7 @@ seat-search-from lower i s = go (s .run .kind)
     b : seatSearch (aboveSystem lower i) s ≡ renumberCheck (searchChecks (aboveSystem lower i) s)
     b = seat-search (aboveSystem lower i) s
 
-    go : (r : Run)
+    go : (r : RunKind)
         → byWalk r (seatSearch (mapOf i) (plainPart s)) (seatSearch (aboveSystem lower i) s)
         ≡ renumberCheck (byWalk r (searchChecks (mapOf i) (plainPart s)) (searchChecks (aboveSystem lower i) s))
     go plainRun = b

@@ -115,7 +115,7 @@ lent =
       stack = 1 ∷ 0 ∷ 0 ∷ 0 ∷ 1 ∷ 1 ∷ [];
       list = 9 ∷ 9 ∷ [];
       second = [];
-      run = record { kind = plainRun; height = 2; found = 0; steps = 3; found₂ = 4; steps₂ = 5; deepest = 6 };
+      run = record { kind = plainRun; height = 2; found = 0; steps = 3; found2 = 4; steps2 = 5; deepest = 6 };
     }
 
 -- 2 and -2 in column 2

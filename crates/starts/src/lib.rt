@@ -7,7 +7,7 @@ ghost use Rattle.calls.specs.Paper.{stateOf, stateWith, outcomeOf, outcomeWith}
 use calls::Check;
 use calls::Outcome;
 use calls::Record;
-use calls::Run;
+use calls::RunKind;
 
 mod rows; // rows.rt: the rows that the starts write
 
@@ -28,7 +28,7 @@ pub fn started(
         Check::Refuse(why) => calls::refused(why, r),
         Check::Pass => {
             rows::write_units(stack, q);
-            calls::begun(Run::Plain, q)
+            calls::begun(RunKind::Plain, q)
         }
     }
 }
@@ -53,7 +53,7 @@ pub fn started_from(
         Check::Refuse(why) => calls::refused(why, r),
         Check::Pass => {
             rows::write_units(stack, q);
-            calls::begun(Run::LowerPlain, q)
+            calls::begun(RunKind::LowerPlain, q)
         }
     }
 }
@@ -79,7 +79,7 @@ pub fn started_capped(
         Check::Pass => {
             let wide = q + 1;
             rows::write_units(stack, wide);
-            calls::begun(Run::Capped, wide)
+            calls::begun(RunKind::Capped, wide)
         }
     }
 }

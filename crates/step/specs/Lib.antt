@@ -1,6 +1,6 @@
 pub mod Solved
 pub mod StateLaws
-pub mod Listing
+pub mod Enlisting
 pub mod Taken
 pub mod TakeLaws
 pub mod RowLaws

@@ -15,7 +15,7 @@ use Rattle.linear.specs.TestLaws.{is-false}
 use Rattle.linear.specs.Tests.{allTo, anyTo, countTo}
 use Rattle.linear.specs.Tuples.{Same}
 use Rattle.definitions.specs.System.{Kind, System, above, capped, isZero, plain, solves, towards}
-use Rattle.definitions.specs.Tables.{Run, State, at, frozen}
+use Rattle.definitions.specs.Tables.{RunKind, State, at, frozen}
 use Rattle.definitions.specs.Step.{fullFor, fullIn, level, makes, marksTo, rowOf, rowWidth, toSecond, top, writeChildren}
 use Rattle.definitions.specs.Refusals.{stepLimit, tooLarge}
 use Rattle.laws.specs.MarkLaws.{frozen-none, marks-few}
@@ -37,7 +37,7 @@ use Rattle.step.specs.Solved.{product-towards, vanish-solves}
 use Rattle.step.specs.StateLaws.{child-makes, count-by, grown-by, too-large-by}
 use Rattle.products.specs.Totals.{Totals, totals-less}
 use Rattle.step.specs.Pushed.{Parent, none-pushed}
-use Rattle.step.specs.Listing.{Enlisted, listAnswer, listsAfter}
+use Rattle.step.specs.Enlisting.{Enlisted, listAnswer, listsAfter}
 use Rattle.step.specs.Taken.{Standing, Steps, Taken, heightBy, step-full, step-grown, step-large, step-listed, step-listed₂}
 
 -- which list a tuple goes to is read of tuples that agree below q
@@ -46,7 +46,7 @@ to-second-same plain some e = refl
 to-second-same capped some e = rw (e 0 some)
 to-second-same (above f) some e = refl
 
-full-beside : (b : Bool) (w : ℕ) (s : State) (run : Run) (n n₂ d : ℕ) → fullIn b w (beside s run n n₂ d) ≡ fullIn b w s
+full-beside : (b : Bool) (w : ℕ) (s : State) (run : RunKind) (n n₂ d : ℕ) → fullIn b w (beside s run n n₂ d) ≡ fullIn b w s
 full-beside true w s run n n₂ d = refl
 full-beside false w s run n n₂ d = refl
 
@@ -56,51 +56,51 @@ part-back table base k e = rw e (ap (λ (r : List ℕ). take base table ++ r) (t
 
 -- ---- the lists and their counts are all that the parts of a step are told
 
-pub second-asked : (k : Kind) (q : ℕ) (s : State) → SecondFits k q s → SecondFits k q (asked [] (s .list) (s .second) 0 (s .run .found) (s .run .found₂))
+pub second-asked : (k : Kind) (q : ℕ) (s : State) → SecondFits k q s → SecondFits k q (asked [] (s .list) (s .second) 0 (s .run .found) (s .run .found2))
 second-asked plain q s h = h
 second-asked capped q s h = h
 second-asked (above f) q s h = h
 
-pub enlisted-asked : (k : Kind) (q : ℕ) (stack : List ℕ) (height : ℕ) {list second : List ℕ} {found found₂ : ℕ} {x : ℕ → ℕ} {after after₂ : List ℕ}
-    {r : Stepped} → Enlisted k q (asked [] list second 0 found found₂) x after after₂ r
-    → Enlisted k q (asked stack list second height found found₂) x after after₂ r
-enlisted-asked k q stack height {list} {second} {found} {found₂} {x} e =
+pub enlisted-asked : (k : Kind) (q : ℕ) (stack : List ℕ) (height : ℕ) {list second : List ℕ} {found found2 : ℕ} {x : ℕ → ℕ} {after after₂ : List ℕ}
+    {r : Stepped} → Enlisted k q (asked [] list second 0 found found2) x after after₂ r
+    → Enlisted k q (asked stack list second height found found2) x after after₂ r
+enlisted-asked k q stack height {list} {second} {found} {found2} {x} e =
     let b = toSecond k x in
     record {
       answers = e .answers ∙ ap (listAnswer b) (full-asked b);
       first =
-          e .first ∙ first-asked b (fullIn b (rowWidth k q) (asked [] list second 0 found found₂))
-          ∙ ap (λ f. listsAfter b f (rowWidth k q) (asked stack list second height found found₂) (rowOf k x) .list) (full-asked b);
+          e .first ∙ first-asked b (fullIn b (rowWidth k q) (asked [] list second 0 found found2))
+          ∙ ap (λ f. listsAfter b f (rowWidth k q) (asked stack list second height found found2) (rowOf k x) .list) (full-asked b);
       other =
-          e .other ∙ second-asked₂ b (fullIn b (rowWidth k q) (asked [] list second 0 found found₂))
-          ∙ ap (λ f. listsAfter b f (rowWidth k q) (asked stack list second height found found₂) (rowOf k x) .second) (full-asked b);
+          e .other ∙ second-asked₂ b (fullIn b (rowWidth k q) (asked [] list second 0 found found2))
+          ∙ ap (λ f. listsAfter b f (rowWidth k q) (asked stack list second height found found2) (rowOf k x) .second) (full-asked b);
     }
   where
     full-asked : (b : Bool)
-        → fullIn b (rowWidth k q) (asked [] list second 0 found found₂) ≡ fullIn b (rowWidth k q) (asked stack list second height found found₂)
+        → fullIn b (rowWidth k q) (asked [] list second 0 found found2) ≡ fullIn b (rowWidth k q) (asked stack list second height found found2)
     full-asked true = refl
     full-asked false = refl
 
     first-asked : (b full : Bool)
-        → listsAfter b full (rowWidth k q) (asked [] list second 0 found found₂) (rowOf k x) .list
-        ≡ listsAfter b full (rowWidth k q) (asked stack list second height found found₂) (rowOf k x) .list
+        → listsAfter b full (rowWidth k q) (asked [] list second 0 found found2) (rowOf k x) .list
+        ≡ listsAfter b full (rowWidth k q) (asked stack list second height found found2) (rowOf k x) .list
     first-asked b true = refl
     first-asked false false = refl
     first-asked true false = refl
 
     second-asked₂ : (b full : Bool)
-        → listsAfter b full (rowWidth k q) (asked [] list second 0 found found₂) (rowOf k x) .second
-        ≡ listsAfter b full (rowWidth k q) (asked stack list second height found found₂) (rowOf k x) .second
+        → listsAfter b full (rowWidth k q) (asked [] list second 0 found found2) (rowOf k x) .second
+        ≡ listsAfter b full (rowWidth k q) (asked stack list second height found found2) (rowOf k x) .second
     second-asked₂ b true = refl
     second-asked₂ false false = refl
     second-asked₂ true false = refl
 
-pub child-asked : (k : Kind) (q : ℕ) (list second : List ℕ) (found found₂ : ℕ) (t : ℕ → ℕ) (candidates : ℕ) (stack : List ℕ) (height : ℕ) (j : ℕ)
-    → childFor k q (asked [] list second 0 found found₂) t candidates j ≡ childFor k q (asked stack list second height found found₂) t candidates j
+pub child-asked : (k : Kind) (q : ℕ) (list second : List ℕ) (found found2 : ℕ) (t : ℕ → ℕ) (candidates : ℕ) (stack : List ℕ) (height : ℕ) (j : ℕ)
+    → childFor k q (asked [] list second 0 found found2) t candidates j ≡ childFor k q (asked stack list second height found found2) t candidates j
 unfolding childFor
-child-asked plain q list second found found₂ t candidates stack height j = refl
-child-asked capped q list second found found₂ t candidates stack height j = refl
-child-asked (above f) q list second found found₂ t candidates stack height j = refl
+child-asked plain q list second found found2 t candidates stack height j = refl
+child-asked capped q list second found found2 t candidates stack height j = refl
+child-asked (above f) q list second found found2 t candidates stack height j = refl
 
 module _ {k : Kind} {limit q : ℕ} {g : List ℤ} {s : State} {c : List ℤ} {sums : List ℕ} (v : Standing k limit q g s c sums) where
   -- the top's row lies in the stack table
@@ -121,7 +121,7 @@ module _ {k : Kind} {limit q : ℕ} {g : List ℤ} {s : State} {c : List ℤ} {s
     top-inside = inside-same k q (v .some) (h .same) (top-row .is-inside)
 
     -- for any system with this Gram matrix, and the rest of any record
-    module _ (p : ℕ) (coefs : List ℤ) (gram : Gram p q coefs g) (run : Run) (n n₂ d : ℕ) where
+    module _ (p : ℕ) (coefs : List ℤ) (gram : Gram p q coefs g) (run : RunKind) (n n₂ d : ℕ) where
       abbrev m : System
       m = systemWith k p q coefs limit
 
@@ -137,15 +137,15 @@ module _ {k : Kind} {limit q : ℕ} {g : List ℤ} {s : State} {c : List ℤ} {s
       solved-by : allTo q (λ j. isZero (entry c (level s) j)) ≡ solves m (top m now)
       solved-by = vanish-solves gram top-products k limit
 
-      listing : n ≢ stepLimit → (b full : Bool) → toSecond k (tuple t) ≡ b → fullIn b (rowWidth k q) s ≡ full
+      enlisting : n ≢ stepLimit → (b full : Bool) → toSecond k (tuple t) ≡ b → fullIn b (rowWidth k q) s ≡ full
           → allTo q (λ j. isZero (entry c (level s) j)) ≡ true
           → Steps m now (listAnswer b full) (s .stack) (listsAfter b full (rowWidth k q) s (rowOf k (top m now)) .list)
           (listsAfter b full (rowWidth k q) s (rowOf k (top m now)) .second)
-      listing early b true e f y =
+      enlisting early b true e f y =
           step-full m now early (sym solved-by ∙ y)
           (ap (λ x. fullIn x (rowWidth k q) now) (sym (to-second-same k (v .some) (h .same)) ∙ e) ∙ full-beside b (rowWidth k q) s run n n₂ d ∙ f)
-      listing early false false e f y = step-listed m now early (sym solved-by ∙ y) (sym (to-second-same k (v .some) (h .same)) ∙ e) f refl
-      listing early true false e f y = step-listed₂ m now early (sym solved-by ∙ y) (sym (to-second-same k (v .some) (h .same)) ∙ e) f refl
+      enlisting early false false e f y = step-listed m now early (sym solved-by ∙ y) (sym (to-second-same k (v .some) (h .same)) ∙ e) f refl
+      enlisting early true false e f y = step-listed₂ m now early (sym solved-by ∙ y) (sym (to-second-same k (v .some) (h .same)) ∙ e) f refl
 
     -- the top is a solution
     pub taken-solution : allTo q (λ j. isZero (entry c (level s) j)) ≡ true → {r : Stepped} {list second : List ℕ} → Enlisted k q s (tuple t) list second r
@@ -157,7 +157,7 @@ module _ {k : Kind} {limit q : ℕ} {g : List ℤ} {s : State} {c : List ℤ} {s
           steps = λ p coefs gram run n n₂ d early.
               let b = toSecond k (tuple t) in
               let full = fullFor k q s (tuple t) in
-              rw (e .answers, e .first, e .other, after-same₁ b full, after-same₂ b full) (listing p coefs gram run n n₂ d early b full refl refl y);
+              rw (e .answers, e .first, e .other, after-same₁ b full, after-same₂ b full) (enlisting p coefs gram run n n₂ d early b full refl refl y);
         }
       where
         cached-by : (b full : Bool) → Combined q g (s .stack) (heightBy (listAnswer b full) s) c
@@ -182,7 +182,7 @@ module _ {k : Kind} {limit q : ℕ} {g : List ℤ} {s : State} {c : List ℤ} {s
             → listsAfter b full (rowWidth k q) s (rowOf k (tuple t)) .second ≡ listsAfter b full (rowWidth k q) s (rowOf k shown) .second
         after-same₂ b true = refl
         after-same₂ false false = refl
-        after-same₂ true false = write-same (rowWidth k q) (s .second) (s .run .found₂ * rowWidth k q) (row-agrees k q (h .same))
+        after-same₂ true false = write-same (rowWidth k q) (s .second) (s .run .found2 * rowWidth k q) (row-agrees k q (h .same))
 
     -- the top is none; `made` are the unknowns that make a child
     module _ (no : allTo q (λ j. isZero (entry c (level s) j)) ≡ false) {marks : ℕ} (row : marks ≡ getD (s .stack) (level s * (q + 1) + q) 0) {candidates : ℕ}
@@ -194,14 +194,14 @@ module _ {k : Kind} {limit q : ℕ} {g : List ℤ} {s : State} {c : List ℤ} {s
       abbrev child : ℕ → Bool
       child = childFor k q s (tuple t) candidates
 
-      child-is : (p : ℕ) (coefs : List ℤ) → Gram p q coefs g → (run : Run) (n n₂ d : ℕ) → (j : ℕ) → j < q
+      child-is : (p : ℕ) (coefs : List ℤ) → Gram p q coefs g → (run : RunKind) (n n₂ d : ℕ) → (j : ℕ) → j < q
           → child j ≡ makes (systemWith k p q coefs limit) (beside s run n n₂ d) j
       child-is p coefs gram run n n₂ d j l =
           sym (child-beside k q s (tuple t) candidates j run n n₂ d)
           ∙ child-makes k p q coefs limit (beside s run n n₂ d) (tuple t) candidates j (v .some) (h .same)
           (are .at j l ∙ rw (row, top-towards p coefs gram run n n₂ d j l))
 
-      made-is : (p : ℕ) (coefs : List ℤ) → Gram p q coefs g → (run : Run) (n n₂ d : ℕ) → (j : ℕ) → j < q
+      made-is : (p : ℕ) (coefs : List ℤ) → Gram p q coefs g → (run : RunKind) (n n₂ d : ℕ) → (j : ℕ) → j < q
           → frozen made j ≡ makes (systemWith k p q coefs limit) (beside s run n n₂ d) j
       made-is p coefs gram run n n₂ d j l = rw e (marks-frozen q child j l) ∙ child-is p coefs gram run n n₂ d j l
 
@@ -229,7 +229,7 @@ module _ {k : Kind} {limit q : ℕ} {g : List ℤ} {s : State} {c : List ℤ} {s
             summed = rw up (v .summed);
           }
 
-      large-by : (p : ℕ) (coefs : List ℤ) → Gram p q coefs g → (run : Run) (n n₂ d : ℕ)
+      large-by : (p : ℕ) (coefs : List ℤ) → Gram p q coefs g → (run : RunKind) (n n₂ d : ℕ)
           → anyTo q (λ j. child j && eqb (tuple t j) limit) ≡ tooLarge (systemWith k p q coefs limit) (beside s run n n₂ d)
       large-by p coefs gram run n n₂ d = too-large-by k p q coefs limit (beside s run n n₂ d) (h .same) (child-is p coefs gram run n n₂ d)
 

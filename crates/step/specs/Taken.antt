@@ -11,7 +11,7 @@ use lib.ListN.{length}
 use Rattle.linear.specs.Tests.{countTo}
 use Rattle.definitions.specs.Answers.{Check, refuse, go, refuseWith, _then_}
 use Rattle.definitions.specs.System.{Kind, System, mostComponent, mostUnknowns, solves}
-use Rattle.definitions.specs.Tables.{Run, State, capacity, stepped, writeTo}
+use Rattle.definitions.specs.Tables.{RunKind, State, capacity, stepped, writeTo}
 use Rattle.definitions.specs.Step.{childrenTo, deeper, fullFor, fullIn, grown, level, listed, makes, rowOf, rowWidth, step, toSecond, top, width}
 use Rattle.definitions.specs.Refusals.{searchChecks, stepLimit, tooLarge}
 use Rattle.laws.specs.RefusalLaws.{RowInOrder, SecondFits}
@@ -54,13 +54,13 @@ heightBy (Refused why) s = s .run .height
 
 -- a state with these tables, whose counts have moved
 abbrev pub moved : System → State → List ℕ → List ℕ → List ℕ → ℕ → ℕ → ℕ → State
-moved m s stack list second height found found₂ =
-    record { stack = stack; list = list; second = second; run = stepped (s .run) height found found₂ (deeper (m .q) s (top m s)) }
+moved m s stack list second height found found2 =
+    record { stack = stack; list = list; second = second; run = stepped (s .run) height found found2 (deeper (m .q) s (top m s)) }
 
 abbrev pub stateBy : Stepped → System → State → List ℕ → List ℕ → List ℕ → State
-stateBy Listed m s stack list second = moved m s stack list second (level s) (s .run .found + 1) (s .run .found₂)
-stateBy ListedSecond m s stack list second = moved m s stack list second (level s) (s .run .found) (s .run .found₂ + 1)
-stateBy (Grown h) m s stack list second = moved m s stack list second h (s .run .found) (s .run .found₂)
+stateBy Listed m s stack list second = moved m s stack list second (level s) (s .run .found + 1) (s .run .found2)
+stateBy ListedSecond m s stack list second = moved m s stack list second (level s) (s .run .found) (s .run .found2 + 1)
+stateBy (Grown h) m s stack list second = moved m s stack list second h (s .run .found) (s .run .found2)
 stateBy (Refused why) m s stack list second = record { stack = stack; list = list; second = second; run = s .run }
 
 abbrev pub stepBy : Check → System → State → State
@@ -76,7 +76,7 @@ pub record Steps (m : System) (s : State) (r : Stepped) (stack list second : Lis
 pub record Taken (k : Kind) (limit q : ℕ) (g : List ℤ) (s : State) (r : Stepped) (stack list second : List ℕ) (c : List ℤ) (sums : List ℕ) : Type 0 where
   pub cached : Combined q g stack (heightBy r s) c
   pub summed : Totals q stack (heightBy r s) sums
-  pub steps : (p : ℕ) (coefs : List ℤ) → Gram p q coefs g → (run : Run) (n n₂ d : ℕ) → n ≢ stepLimit
+  pub steps : (p : ℕ) (coefs : List ℤ) → Gram p q coefs g → (run : RunKind) (n n₂ d : ℕ) → n ≢ stepLimit
       → Steps (systemWith k p q coefs limit) (beside s run n n₂ d) r stack list second
 
 -- ---- the ways out
@@ -93,7 +93,7 @@ module _ (m : System) (s : State) (early : s .run .steps ≢ stepLimit) where
   step-listed y b f e = record { checks = rw (ne-eqb (s .run .steps) stepLimit early, y, b, f); leaves = rw (y, b, e) }
 
   pub step-listed₂ : {second : List ℕ} → solves m (top m s) ≡ true → toSecond (m .kind) (top m s) ≡ true → fullIn true (width m) s ≡ false
-      → second ≡ writeTo (width m) (s .second) (s .run .found₂ * width m) (rowOf (m .kind) (top m s)) → Steps m s ListedSecond (s .stack) (s .list) second
+      → second ≡ writeTo (width m) (s .second) (s .run .found2 * width m) (rowOf (m .kind) (top m s)) → Steps m s ListedSecond (s .stack) (s .list) second
   unfolding searchChecks refuseWith _then_ step listed
   step-listed₂ y b f e = record { checks = rw (ne-eqb (s .run .steps) stepLimit early, y, b, f); leaves = rw (y, b, e) }
 

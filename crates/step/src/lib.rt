@@ -5,7 +5,7 @@ ghost use lib.ListN.{length};
 ghost use Rattle.definitions.specs.Step.{rowWidth};
 ghost use Rattle.table_rows.specs.Rows.{part, tuple};
 ghost use Rattle.candidates.specs.Kinds.{Bounds, asked, kindBy};
-ghost use Rattle.step.specs.Listing.{Appended, Enlisted};
+ghost use Rattle.step.specs.Enlisting.{Appended, Enlisted};
 ghost use Rattle.step.specs.Taken.{Standing, Taken};
 use calls::Refusal;
 use candidates::Kind;
@@ -24,7 +24,7 @@ pub enum Stepped {
 // One step from a height above 0. `lower` is the bound of a walk above one, else of no meaning;
 // `inner` holds the inner products of the rows on the stack, `sums` their sums of components; what `top` holds is of no meaning.
 pub fn take(
-    walk: Kind,
+    kind: Kind,
     q: usize,
     gram: &[i64; 256],
     stack: &mut [u32],
@@ -39,9 +39,9 @@ pub fn take(
     other: usize,
     limit: u32,
 ) -> Stepped
-    requires { ⌜ Standing (kindBy walk (now lower)) limit q (now gram) (asked (now stack) (now list) (now second) height found other) (now inner) (now sums) ⌝ }
-    requires { ⌜ Bounds walk q (now lower) × (q ≤ length (now top)) ⌝ }
-    ensures { λ r. ⌜ Taken (kindBy walk (now (lower .entry))) limit q (now (gram .entry))
+    requires { ⌜ Standing (kindBy kind (now lower)) limit q (now gram) (asked (now stack) (now list) (now second) height found other) (now inner) (now sums) ⌝ }
+    requires { ⌜ Bounds kind q (now lower) × (q ≤ length (now top)) ⌝ }
+    ensures { λ r. ⌜ Taken (kindBy kind (now (lower .entry))) limit q (now (gram .entry))
         (asked (now (stack .entry)) (now (list .entry)) (now (second .entry)) height found other) r (now (stack .exit)) (now (list .exit)) (now (second .exit))
         (now (inner .exit)) (now (sums .exit)) ⌝ }
 {
@@ -49,15 +49,15 @@ pub fn take(
     let base = level * (q + 1);
     if products::vanish(inner, level, q) {
         table_rows::rows::read(stack, base, q, top);
-        return enlist(walk, list, second, found, other, q, top);
+        return enlist(kind, list, second, found, other, q, top);
     }
     let marks = stack[base + q];
-    let left = products::candidates(inner, level, q, marks);
+    let left = products::candidate_marks(inner, level, q, marks);
     if left == 0 {
         return Stepped::Grown(level);
     }
     match candidates::admitted(
-        walk,
+        kind,
         list,
         second,
         lower,
@@ -78,7 +78,7 @@ pub fn take(
 
 // Lists a solution where its list has room: of a capped walk without the first component, which says which list it is.
 fn enlist(
-    walk: Kind,
+    kind: Kind,
     list: &mut [u32],
     second: &mut [u32],
     found: usize,
@@ -86,12 +86,12 @@ fn enlist(
     q: usize,
     t: &[u32],
 ) -> Stepped
-    requires { ⌜ (0 < rowWidth (kindBy walk []) q) × (q ≤ length (now t)) ⌝ }
+    requires { ⌜ (0 < rowWidth (kindBy kind []) q) × (q ≤ length (now t)) ⌝ }
     ensures { λ r. ⌜ ((lower : List ℕ)
-        → Enlisted (kindBy walk lower) q (asked [] (now (list .entry)) (now (second .entry)) 0 found other) (tuple (now (t .entry))) (now (list .exit))
+        → Enlisted (kindBy kind lower) q (asked [] (now (list .entry)) (now (second .entry)) 0 found other) (tuple (now (t .entry))) (now (list .exit))
         (now (second .exit)) r) ⌝ }
 {
-    match walk {
+    match kind {
         Kind::Plain => append(list, found, q, 0, t, Stepped::Listed),
         Kind::Capped => {
             if t[0] == 0 {

@@ -11,7 +11,7 @@ use Rattle.definitions.specs.Input.{Input, aboveSystem, mapOf, systemOf}
 use Rattle.definitions.specs.Machine.{Machine, after}
 use Rattle.definitions.specs.Step.{deeper, enlistIn, grown, listed, pick, rowOf, step, toSecond, top, width}
 use Rattle.definitions.specs.System.{System, solves}
-use Rattle.definitions.specs.Tables.{Run, State, byWalk, cappedRun, deskByDesk, lowerAbove, lowerPlain, lowered, plainPart, plainRun, wholeOf}
+use Rattle.definitions.specs.Tables.{RunKind, State, byWalk, cappedRun, deskByDesk, lowerAbove, lowerPlain, lowered, plainPart, plainRun, wholeOf}
 use Rattle.theorems.specs.WholeSteps.{Steady, after-next}
 
 -- ---- any machine whose step shows the greater of the number shown and a sum, and which shows as much when it is settled
@@ -54,7 +54,7 @@ pub settled-shows : (lower : List ℕ) (i : Input) (s : State) → settleFrom lo
 unfolding settleFrom lowered
 settled-shows lower i s = go (s .run .kind) (s .run .height)
   where
-    go : (r : Run) (h : ℕ) → changed r h lower i s .run .deepest ≡ s .run .deepest
+    go : (r : RunKind) (h : ℕ) → changed r h lower i s .run .deepest ≡ s .run .deepest
     go plainRun h = refl
     go cappedRun h = refl
     go lowerPlain zero = refl
@@ -66,7 +66,7 @@ pub stepped-shows : (lower : List ℕ) (i : Input) (s : State) → stepFrom lowe
 unfolding stepFrom
 stepped-shows lower i s = go (s .run .kind)
   where
-    go : (r : Run)
+    go : (r : RunKind)
         → byWalk r (wholeOf (s .run .deepest) (step (mapOf i) (plainPart s))) (step (aboveSystem lower i) s) .run .deepest
         ≡ max (s .run .deepest) (byWalk r 0 (total (top (aboveSystem lower i) s) (i .q)))
     go plainRun = step-deepest (aboveSystem lower i) s

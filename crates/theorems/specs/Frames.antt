@@ -13,7 +13,7 @@ use Rattle.definitions.specs.Input.{Input, aboveSystem, mapOf, systemOf}
 use Rattle.definitions.specs.Machine.{Machine, after, call, callSteps}
 use Rattle.definitions.specs.Step.{enlistIn, grown, level, listed, pick, rowOf, step, toSecond, top, width}
 use Rattle.definitions.specs.System.{System, solves}
-use Rattle.definitions.specs.Tables.{Run, State, at, byWalk, cappedRun, deskByDesk, lowerAbove, lowerPlain, lowered, plainPart, plainRun, wholeOf}
+use Rattle.definitions.specs.Tables.{RunKind, State, at, byWalk, cappedRun, deskByDesk, lowerAbove, lowerPlain, lowered, plainPart, plainRun, wholeOf}
 use Rattle.laws.specs.LowerLaws.{Aside, step-aside, step-kept}
 use Rattle.laws.specs.StepLaws.{children-keep}
 use Rattle.laws.specs.TableLaws.{write-outside}
@@ -27,19 +27,19 @@ use Rattle.theorems.specs.WholeSteps.{after-next, call-keeps}
 pub record RowsStay (w : ℕ) (s t : State) : Type 0 where
   pub found : s .run .found ≤ t .run .found
   pub rows : (e : ℕ) → e < s .run .found * w → getD (t .list) e 0 ≡ getD (s .list) e 0
-  pub found₂ : s .run .found₂ ≤ t .run .found₂
-  pub rows₂ : (e : ℕ) → e < s .run .found₂ * w → getD (t .second) e 0 ≡ getD (s .second) e 0
+  pub found2 : s .run .found2 ≤ t .run .found2
+  pub rows₂ : (e : ℕ) → e < s .run .found2 * w → getD (t .second) e 0 ≡ getD (s .second) e 0
 
 rows-same : (w : ℕ) (s : State) → RowsStay w s s
-rows-same w s = record { found = omega arith; rows = λ e l. refl; found₂ = omega arith; rows₂ = λ e l. refl }
+rows-same w s = record { found = omega arith; rows = λ e l. refl; found2 = omega arith; rows₂ = λ e l. refl }
 
 rows-more : {w : ℕ} {s t u : State} → RowsStay w s t → RowsStay w t u → RowsStay w s u
 rows-more {w} a b =
     record {
       found = omega (arith, a .found, b .found);
       rows = λ e l. b .rows e (omega (arith, mul-le-mul-right w (a .found))) ∙ a .rows e l;
-      found₂ = omega (arith, a .found₂, b .found₂);
-      rows₂ = λ e l. b .rows₂ e (omega (arith, mul-le-mul-right w (a .found₂))) ∙ a .rows₂ e l;
+      found2 = omega (arith, a .found2, b .found2);
+      rows₂ = λ e l. b .rows₂ e (omega (arith, mul-le-mul-right w (a .found2))) ∙ a .rows₂ e l;
     }
 
 step-rows : (m : System) (s : State) → RowsStay (width m) s (step m s)
@@ -51,20 +51,20 @@ step-rows m s = go (solves m (top m s))
         record {
           found = omega arith;
           rows = λ e l. write-outside y (s .list) (s .run .found * w) w e (inl l);
-          found₂ = omega arith;
+          found2 = omega arith;
           rows₂ = λ e l. refl;
         }
     enlisted true w y d =
         record {
           found = omega arith;
           rows = λ e l. refl;
-          found₂ = omega arith;
-          rows₂ = λ e l. write-outside y (s .second) (s .run .found₂ * w) w e (inl l);
+          found2 = omega arith;
+          rows₂ = λ e l. write-outside y (s .second) (s .run .found2 * w) w e (inl l);
         }
 
     go : (b : Bool) → RowsStay (width m) s (pick b (listed m s) (grown m s))
     go true = enlisted (toSecond (m .kind) (top m s)) (width m) (rowOf (m .kind) (top m s)) _
-    go false = record { found = omega arith; rows = λ e l. refl; found₂ = omega arith; rows₂ = λ e l. refl }
+    go false = record { found = omega arith; rows = λ e l. refl; found2 = omega arith; rows₂ = λ e l. refl }
 
 -- a continuing call, plain or capped
 pub rows-stay : (budget : ℕ) (i : Input) (s : State) → RowsStay (width (systemOf i)) s (resume budget i s .state)
@@ -85,20 +85,20 @@ rows-each i n s = rw (next i n s) (step-rows (systemOf i) (after n (machine i) s
 -- what a continuing call keeps of the record: the kind of the run, and the steps of another walk
 pub record RecordKept (s t : State) : Type 0 where
   pub kind : t .run .kind ≡ s .run .kind
-  pub steps₂ : t .run .steps₂ ≡ s .run .steps₂
+  pub steps2 : t .run .steps2 ≡ s .run .steps2
 
 pub record-kept : (budget : ℕ) (i : Input) (s : State) → RecordKept s (resume budget i s .state)
 record-kept budget i s =
     call-keeps (machine i) (RecordKept s) (λ t r. r)
-    (λ t r g. let k = step-kept (systemOf i) t in record { kind = k .kind ∙ r .kind; steps₂ = k .before ∙ r .steps₂ }) budget s
-    (record { kind = refl; steps₂ = refl })
+    (λ t r g. let k = step-kept (systemOf i) t in record { kind = k .kind ∙ r .kind; steps2 = k .before ∙ r .steps2 }) budget s
+    (record { kind = refl; steps2 = refl })
 
 -- and a plain one: the second list, and its count
 pub aside-kept : (budget : ℕ) (m : Map) (s : State) → Aside s (resume budget (byItself m) s .state)
 aside-kept budget m s =
     call-keeps (machine (byItself m)) (Aside s) (λ t r. r)
-    (λ t r g. let a = step-aside (mapOf (byItself m)) (λ x. refl) t in record { second = a .second ∙ r .second; found₂ = a .found₂ ∙ r .found₂ }) budget s
-    (record { second = refl; found₂ = refl })
+    (λ t r g. let a = step-aside (mapOf (byItself m)) (λ x. refl) t in record { second = a .second ∙ r .second; found2 = a .found2 ∙ r .found2 }) budget s
+    (record { second = refl; found2 = refl })
 
 -- ---- the stack rows below the one taken off
 
@@ -157,16 +157,16 @@ module _ (lower : List ℕ) (m : Map) where
   unfolding settleFrom lowered
   settled-rows t = go (t .run .kind) (t .run .height)
     where
-      same : {u : State} → u .list ≡ t .list → u .second ≡ t .second → u .run .found ≡ t .run .found → u .run .found₂ ≡ t .run .found₂ → RowsStay (i .q) t u
+      same : {u : State} → u .list ≡ t .list → u .second ≡ t .second → u .run .found ≡ t .run .found → u .run .found2 ≡ t .run .found2 → RowsStay (i .q) t u
       same a b c d =
           record {
             found = omega (arith, c);
             rows = λ e l. ap (λ x. getD x e 0) a;
-            found₂ = omega (arith, d);
+            found2 = omega (arith, d);
             rows₂ = λ e l. ap (λ x. getD x e 0) b;
           }
 
-      go : (r : Run) (h : ℕ) → RowsStay (i .q) t (changed r h lower i t)
+      go : (r : RunKind) (h : ℕ) → RowsStay (i .q) t (changed r h lower i t)
       go plainRun h = rows-same (i .q) t
       go cappedRun h = rows-same (i .q) t
       go lowerPlain zero = same refl refl refl refl
@@ -181,11 +181,11 @@ module _ (lower : List ℕ) (m : Map) where
       above : RowsStay (i .q) t (step (aboveSystem lower i) t)
       above = step-rows (aboveSystem lower i) t
 
-      go : (r : Run) → RowsStay (i .q) t (byWalk r (wholeOf (t .run .deepest) (step (mapOf i) (plainPart t))) (step (aboveSystem lower i) t))
+      go : (r : RunKind) → RowsStay (i .q) t (byWalk r (wholeOf (t .run .deepest) (step (mapOf i) (plainPart t))) (step (aboveSystem lower i) t))
       go plainRun = above
       go cappedRun = above
       go lowerPlain =
-          let r = step-rows (mapOf i) (plainPart t) in record { found = r .found₂; rows = r .rows₂; found₂ = r .found; rows₂ = r .rows }
+          let r = step-rows (mapOf i) (plainPart t) in record { found = r .found2; rows = r .rows₂; found2 = r .found; rows₂ = r .rows }
       go lowerAbove = above
       go deskByDesk = above
 
@@ -204,7 +204,7 @@ module _ (lower : List ℕ) (m : Map) where
   unfolding settleFrom lowered
   settled-below h t low l j lh jq = go (t .run .kind) (t .run .height) refl
     where
-      go : (r : Run) (k : ℕ) → t .run .height ≡ k → at (changed r k lower i t .stack) (i .q + 1) l j ≡ at (t .stack) (i .q + 1) l j
+      go : (r : RunKind) (k : ℕ) → t .run .height ≡ k → at (changed r k lower i t .stack) (i .q + 1) l j ≡ at (t .stack) (i .q + 1) l j
       go plainRun k e = refl
       go cappedRun k e = refl
       go lowerPlain zero e = absurd (omega arith)
@@ -219,7 +219,7 @@ module _ (lower : List ℕ) (m : Map) where
       above : RowsBelow (i .q) (level t) t (step (aboveSystem lower i) t) × (level t ≤ step (aboveSystem lower i) t .run .height)
       above = (step-below (aboveSystem lower i) t, step-high (aboveSystem lower i) t)
 
-      go : (r : Run) → let u = byWalk r (wholeOf (t .run .deepest) (step (mapOf i) (plainPart t))) (step (aboveSystem lower i) t) in
+      go : (r : RunKind) → let u = byWalk r (wholeOf (t .run .deepest) (step (mapOf i) (plainPart t))) (step (aboveSystem lower i) t) in
           RowsBelow (i .q) (level t) t u × (level t ≤ u .run .height)
       go plainRun = above
       go cappedRun = above

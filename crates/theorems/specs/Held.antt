@@ -25,21 +25,21 @@ use Rattle.theorems.specs.Run.{Sound, aimOf, sound-exactly, sound-only, 
 -- "at 0 the loops of the plain map, at 1 the smallest tuples that meet the right sides": such tuples only
 abbrev pub Part : Extra → Input → State → Type 0
 Part alone i s = Only (i .q) (MinimalSolution (mapOf i)) (s .list) (s .run .found)
-Part (rights b) i s = Only (i .q) (MinimalSolution (mapOf i)) (s .list) (s .run .found) × Only (i .q) (MinimalMeeting (mapOf i) b) (s .second) (s .run .found₂)
+Part (rights b) i s = Only (i .q) (MinimalSolution (mapOf i)) (s .list) (s .run .found) × Only (i .q) (MinimalMeeting (mapOf i) b) (s .second) (s .run .found2)
 
 -- and all of them
 abbrev pub Whole : Extra → Input → State → Type 0
 Whole alone i s = Exactly (i .q) (MinimalSolution (mapOf i)) (s .list) (s .run .found)
 Whole (rights b) i s =
-    Exactly (i .q) (MinimalSolution (mapOf i)) (s .list) (s .run .found) × Exactly (i .q) (MinimalMeeting (mapOf i) b) (s .second) (s .run .found₂)
+    Exactly (i .q) (MinimalSolution (mapOf i)) (s .list) (s .run .found) × Exactly (i .q) (MinimalMeeting (mapOf i) b) (s .second) (s .run .found2)
 
 -- what a user reads of each list; of two, "A row asked for is handed out as a part of whichever table it was asked from"
 abbrev pub Read : Extra → Input → State → Type 0
 Read alone i s = (n : ℕ) → n < s .run .found → Reads (i .q) (s .list) (s .run .found) n
 Read (rights b) i s =
-    ((n : ℕ) → n < s .run .found → Reads (i .q) (s .list) (s .run .found) n) × ((n : ℕ) → n < s .run .found₂ → Reads (i .q) (s .second) (s .run .found₂) n)
+    ((n : ℕ) → n < s .run .found → Reads (i .q) (s .list) (s .run .found) n) × ((n : ℕ) → n < s .run .found2 → Reads (i .q) (s .second) (s .run .found2) n)
     × ((n : ℕ) → n < s .run .found → IsRow (i .q) (s .list) n (rowOfEither atZero (i .q) (s .list) (s .second) (s .run .found) (suc n)))
-    × ((n : ℕ) → n < s .run .found₂ → IsRow (i .q) (s .second) n (rowOfEither atOne (i .q) (s .list) (s .second) (s .run .found₂) (suc n)))
+    × ((n : ℕ) → n < s .run .found2 → IsRow (i .q) (s .second) n (rowOfEither atOne (i .q) (s .list) (s .second) (s .run .found2) (suc n)))
 
 -- rows of another set, and of as many numbers
 only-as : {q w n : ℕ} {U W : (ℕ → ℕ) → Type 0} {table : List ℕ} → w ≡ q → ((y : ℕ → ℕ) → U y → W y) → Only w U table n → Only q W table n

@@ -2,7 +2,7 @@ pub mod View
 pub mod Reaching
 pub mod Basis
 pub mod Invariant
-pub mod Listing
+pub mod Enlisting
 pub mod Growing
 pub mod Starts
 pub mod Lower

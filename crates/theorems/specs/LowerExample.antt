@@ -101,7 +101,7 @@ module _ (others list second : List ℕ) where
         stack = a ∷ b ∷ 1 ∷ 0 ∷ others;
         list = list;
         second = second;
-        run = record { kind = lowerAbove; height = 1; found = 0; steps = n; found₂ = 0; steps₂ = 0; deepest = d };
+        run = record { kind = lowerAbove; height = 1; found = 0; steps = n; found2 = 0; steps2 = 0; deepest = d };
       }
 
   shows-same : {a b n d a′ b′ n′ d′ : ℕ} → a ≡ a′ → b ≡ b′ → n ≡ n′ → d ≡ d′ → shows a b n d ≡ shows a′ b′ n′ d′
@@ -216,11 +216,11 @@ module _ (others list second : List ℕ) where
 
 -- ---- the same map from 1,000,000 0 1, which the second list does not end: x1 is never raised, so no child exceeds the bound by the row 1 1 0
 
-pub steepLower : List ℕ
-steepLower = 1000000 ∷ 0 ∷ 1 ∷ []
+pub limitLower : List ℕ
+limitLower = 1000000 ∷ 0 ∷ 1 ∷ []
 
-abbrev pub steep : System
-steep = aboveSystem steepLower example
+abbrev pub limitSystem : System
+limitSystem = aboveSystem limitLower example
 
 below-is : (z : ℤ) (n : ℕ) → z ≡ negsuc n → ltZ z (pos 0) ≡ true
 below-is z n e = rw e
@@ -253,17 +253,17 @@ module _ (others list rest : List ℕ) (plain : ℕ) where
         stack = 1000000 ∷ b ∷ 1 ∷ 0 ∷ others;
         list = list;
         second = 1 ∷ 1 ∷ 0 ∷ rest;
-        run = record { kind = lowerAbove; height = 1; found = 0; steps = n; found₂ = 1; steps₂ = plain; deepest = d };
+        run = record { kind = lowerAbove; height = 1; found = 0; steps = n; found2 = 1; steps2 = plain; deepest = d };
       }
 
   -- that is where the walk begins, once the plain walk is at its end and the bound's row is written
   abbrev pub plainEnded : Record
-  plainEnded = record { kind = lowerPlain; height = 0; found = 0; steps = 0; found₂ = 1; steps₂ = plain; deepest = 0 }
+  plainEnded = record { kind = lowerPlain; height = 0; found = 0; steps = 0; found2 = 1; steps2 = plain; deepest = 0 }
 
-  pub steep-begins : (a b c d : ℕ)
-      → lowered (boundOf steepLower) 3 (record { stack = a ∷ b ∷ c ∷ d ∷ others; list = list; second = 1 ∷ 1 ∷ 0 ∷ rest; run = plainEnded }) ≡ rises 0 0 0
-  unfolding rises steepLower lowered writeRow writeTo
-  steep-begins a b c d = refl
+  pub limit-begins : (a b c d : ℕ)
+      → lowered (boundOf limitLower) 3 (record { stack = a ∷ b ∷ c ∷ d ∷ others; list = list; second = 1 ∷ 1 ∷ 0 ∷ rest; run = plainEnded }) ≡ rises 0 0 0
+  unfolding rises limitLower lowered writeRow writeTo
+  limit-begins a b c d = refl
 
   rises-same : {b n d b′ n′ d′ : ℕ} → b ≡ b′ → n ≡ n′ → d ≡ d′ → rises b n d ≡ rises b′ n′ d′
   rises-same e f g = rw (e, f, g)
@@ -281,61 +281,61 @@ module _ (others list rest : List ℕ) (plain : ℕ) where
     abbrev here : State
     here = rises b n d
 
-    here-first : imageOf steep (top steep here) 0 ≡ pos (suc (c + c))
+    here-first : imageOf limitSystem (top limitSystem here) 0 ≡ pos (suc (c + c))
     unfolding rises
-    here-first = first-is (top steep here) (pos (suc (c + c))) (omega (integers, left, sum-is (pos (suc (c + c))) (pos (2 * b))))
+    here-first = first-is (top limitSystem here) (pos (suc (c + c))) (omega (integers, left, sum-is (pos (suc (c + c))) (pos (2 * b))))
 
-    here-second : imageOf steep (top steep here) 1 ≡ pos 1
+    here-second : imageOf limitSystem (top limitSystem here) 1 ≡ pos 1
     unfolding rises
-    here-second = second-is (top steep here)
+    here-second = second-is (top limitSystem here)
 
-    here-makes : (makes steep here 0 ≡ false) × (makes steep here 1 ≡ true) × (makes steep here 2 ≡ false)
-    unfolding rises makes frozen bit covered anyTo allTo isAtOrBelow unit rows steepLower
+    here-makes : (makes limitSystem here 0 ≡ false) × (makes limitSystem here 1 ≡ true) × (makes limitSystem here 2 ≡ false)
+    unfolding rises makes frozen bit covered anyTo allTo isAtOrBelow unit rows limitLower
     here-makes =
-        let x : ℕ → ℕ = top steep here in
-        let by : (j : ℕ) → towards steep x j ≡ (pos 0 +ℤ (pos (suc (c + c)) *ℤ coef walked 0 j)) +ℤ (pos 1 *ℤ coef walked 1 j) =
+        let x : ℕ → ℕ = top limitSystem here in
+        let by : (j : ℕ) → towards limitSystem x j ≡ (pos 0 +ℤ (pos (suc (c + c)) *ℤ coef walked 0 j)) +ℤ (pos 1 *ℤ coef walked 1 j) =
         λ j. towards-is x j (pos (suc (c + c))) (pos 1) here-first here-second in (
-          rw (not-below-is (towards steep x 0) (4 * c + 2) (by 0 ∙ towards-0 c)),
-          rw (below-is (towards steep x 1) (4 * c + 1) (by 1 ∙ towards-1 c)),
-          rw (not-below-is (towards steep x 2) (2 * c + 2) (by 2 ∙ towards-2 c)),
+          rw (not-below-is (towards limitSystem x 0) (4 * c + 2) (by 0 ∙ towards-0 c)),
+          rw (below-is (towards limitSystem x 1) (4 * c + 1) (by 1 ∙ towards-1 c)),
+          rw (not-below-is (towards limitSystem x 2) (2 * c + 2) (by 2 ∙ towards-2 c)),
         )
 
-    here-unsolved : solves steep (top steep here) ≡ false
+    here-unsolved : solves limitSystem (top limitSystem here) ≡ false
     unfolding rises solves allTo
-    here-unsolved = rw here-second (and-false (isZero (imageOf steep (top steep here) 0)))
+    here-unsolved = rw here-second (and-false (isZero (imageOf limitSystem (top limitSystem here) 0)))
 
-    here-goes : b < 1000000 → n < 1000000000000 → searchChecks steep here ≡ go
+    here-goes : b < 1000000 → n < 1000000000000 → searchChecks limitSystem here ≡ go
     unfolding rises searchChecks tooLarge anyTo refuseWith _then_ unit
     here-goes l few =
         let (x, y, z) = here-makes in
         rw (ne-eqb n 1000000000000 (λ e. omega arith), here-unsolved, x, y, z, ne-eqb (b + 1) 1000001 (λ e. omega arith))
 
-  rise : (b c n : ℕ) → b + c ≡ 1000000 → step steep (rises b n (sumAfter b)) ≡ rises (suc b) (suc n) (sumAfter (suc b))
+  rise : (b c n : ℕ) → b + c ≡ 1000000 → step limitSystem (rises b n (sumAfter b)) ≡ rises (suc b) (suc n) (sumAfter (suc b))
   unfolding rises step grown writeChildren writeRow writeTo countTo marksTo unit total
   rise b c n left =
       let (x, y, z) = here-makes b c n (sumAfter b) left in
       rw (here-unsolved b c n (sumAfter b) left, x, y, z)
       (rises-same {b = b + 1} {n = n + 1} {d = max (sumAfter b) (0 + 1000000 + b + 1)} (omega arith) (omega arith) (sum-next b))
 
-  abbrev pub steepWalk : Machine State
-  steepWalk = machineOf (λ s. go) steep
+  abbrev pub limitWalk : Machine State
+  limitWalk = machineOf (λ s. go) limitSystem
 
   up-to : (b budget : ℕ) → b ≤ 1000000
-      → (walk (b + budget) steepWalk (rises 0 0 0) ≡ walk budget steepWalk (rises b b (sumAfter b)))
-      × (walkSteps (b + budget) steepWalk (rises 0 0 0) ≡ b + walkSteps budget steepWalk (rises b b (sumAfter b)))
+      → (walk (b + budget) limitWalk (rises 0 0 0) ≡ walk budget limitWalk (rises b b (sumAfter b)))
+      × (walkSteps (b + budget) limitWalk (rises 0 0 0) ≡ b + walkSteps budget limitWalk (rises b b (sumAfter b)))
   up-to zero budget l = let z : 0 + budget ≡ budget = omega arith in (rw z, rw z (omega arith))
   up-to (suc b) budget l =
       let c : ℕ = 1000000 - b in
       let z : suc b + budget ≡ b + suc budget = omega arith in
       let left : b + c ≡ 1000000 = omega arith in
       let (e, f) = up-to b (suc budget) (omega arith) in
-      let (g, h) = walk-more steepWalk (rises b b (sumAfter b)) budget (unfold rises in omega arith)
+      let (g, h) = walk-more limitWalk (rises b b (sumAfter b)) budget (unfold rises in omega arith)
       (here-goes b c b (sumAfter b) left (omega arith) (omega arith)) in (
-        rw z (e ∙ g ∙ ap (walk budget steepWalk) (rise b c b left)),
-        rw z (f ∙ omega (arith, h, ap (walkSteps budget steepWalk) (rise b c b left))),
+        rw z (e ∙ g ∙ ap (walk budget limitWalk) (rise b c b left)),
+        rw z (f ∙ omega (arith, h, ap (walkSteps budget limitWalk) (rise b c b left))),
       )
 
-  at-the-limit : searchChecks steep (rises 1000000 1000000 (sumAfter 1000000)) ≡ refuse 12 []
+  at-the-limit : searchChecks limitSystem (rises 1000000 1000000 (sumAfter 1000000)) ≡ refuse 12 []
   unfolding rises searchChecks tooLarge anyTo refuseWith _then_ unit
   at-the-limit =
       let (x, y, z) = here-makes 1000000 0 1000000 (sumAfter 1000000) refl in
@@ -343,10 +343,10 @@ module _ (others list rest : List ℕ) (plain : ℕ) where
 
   -- that a run ends where nothing at or above the bound is a solution is not promised: this one ends in 12, after 1,000,000 steps above the bound
   pub not-ended : (budget : ℕ) → 1000000 < budget
-      → (walk budget steepWalk (rises 0 0 0) ≡ record { answer = refused 12 []; state = rises 1000000 1000000 2000000 })
-      × (walkSteps budget steepWalk (rises 0 0 0) ≡ 1000000)
+      → (walk budget limitWalk (rises 0 0 0) ≡ record { answer = refused 12 []; state = rises 1000000 1000000 2000000 })
+      × (walkSteps budget limitWalk (rises 0 0 0) ≡ 1000000)
   not-ended budget l =
       let is : budget ≡ 1000000 + suc (budget - 1000001) = omega arith in
       let (e, f) = up-to 1000000 (suc (budget - 1000001)) (omega arith) in
-      let (g, h) = walk-refused steepWalk (rises 1000000 1000000 (sumAfter 1000000)) (budget - 1000001) 12 [] (unfold rises in omega arith) at-the-limit in
+      let (g, h) = walk-refused limitWalk (rises 1000000 1000000 (sumAfter 1000000)) (budget - 1000001) 12 [] (unfold rises in omega arith) at-the-limit in
       (rw is (e ∙ g), rw is (f ∙ omega (arith, h)))

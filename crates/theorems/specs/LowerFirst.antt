@@ -13,7 +13,7 @@ use Rattle.definitions.specs.Input.{Input, aboveSystem, boundOf, mapOf}
 use Rattle.definitions.specs.Machine.{after, walk}
 use Rattle.definitions.specs.Refusals.{resumeFromChecks, searchChecks}
 use Rattle.definitions.specs.Step.{step}
-use Rattle.definitions.specs.Tables.{Run, State, byWalk, capacity, cappedRun, deskByDesk, lowerAbove, lowerPlain, lowered, plainPart, plainRun, wholeOf}
+use Rattle.definitions.specs.Tables.{RunKind, State, byWalk, capacity, cappedRun, deskByDesk, lowerAbove, lowerPlain, lowered, plainPart, plainRun, wholeOf}
 use Rattle.laws.specs.CheckLaws.{FirstDue, check-cases}
 use Rattle.laws.specs.LowerLaws.{GoingFrom, InOrderBy, ValidFrom, above-valid, plain-valid, resume-from-renders, resume-from-valid, resumeFromRules, rulesBy}
 use Rattle.laws.specs.LowerLaws.{search-from-renders, search-going-from, searchFromRules, settled-once, settled-valid, step-from-valid, step-kept}
@@ -31,16 +31,16 @@ use Rattle.theorems.specs.Untouched.{above-kept}
 use Rattle.theorems.specs.WholeSteps.{Goes, Steady, after-keeps, after-next, call-going, call-keeps, called, settled-after}
 
 -- the list of the walk under way has room for one row more of q numbers
-abbrev pub RoomBy : ℕ → Run → State → Type 0
+abbrev pub RoomBy : ℕ → RunKind → State → Type 0
 RoomBy q plainRun t = ⊥
 RoomBy q cappedRun t = ⊥
-RoomBy q lowerPlain t = t .run .found₂ < capacity q (t .second)
+RoomBy q lowerPlain t = t .run .found2 < capacity q (t .second)
 RoomBy q lowerAbove t = t .run .found < capacity q (t .list)
 RoomBy q deskByDesk t = ⊥
 
 -- from t: other list tables with the same rows, and room in that of the walk under way
 pub data LongerFrom (q : ℕ) (t : State) : State → Type 0 where
-  longer-lists : (list second : List ℕ) → SameRows q (t .run .found) (t .list) list → SameRows q (t .run .found₂) (t .second) second
+  longer-lists : (list second : List ℕ) → SameRows q (t .run .found) (t .list) list → SameRows q (t .run .found2) (t .second) second
       → RoomBy q (t .run .kind) (withLists t list second) → LongerFrom q t (withLists t list second)
 
 module _ (lower : List ℕ) (m : Map) where
@@ -77,13 +77,13 @@ module _ (lower : List ℕ) (m : Map) where
   next-from = after-next (machineFrom lower i) steady
 
   abbrev total : State → ℕ
-  total s = s .run .steps + s .run .steps₂
+  total s = s .run .steps + s .run .steps2
 
   pub settled-total : (s : State) → total (settleFrom lower i s) ≡ total s
   unfolding settleFrom lowered
   settled-total s = go (s .run .kind) (s .run .height)
     where
-      go : (r : Run) (h : ℕ) → total (changed r h lower i s) ≡ total s
+      go : (r : RunKind) (h : ℕ) → total (changed r h lower i s) ≡ total s
       go plainRun h = refl
       go cappedRun h = refl
       go lowerPlain zero = refl
@@ -98,7 +98,7 @@ module _ (lower : List ℕ) (m : Map) where
       above-total : total (step (aboveSystem lower i) s) ≡ total s + 1
       above-total = omega (arith, step-counts (aboveSystem lower i) s, step-kept (aboveSystem lower i) s .before)
 
-      go : (r : Run) → total (byWalk r (wholeOf (s .run .deepest) (step (mapOf i) (plainPart s))) (step (aboveSystem lower i) s)) ≡ total s + 1
+      go : (r : RunKind) → total (byWalk r (wholeOf (s .run .deepest) (step (mapOf i) (plainPart s))) (step (aboveSystem lower i) s)) ≡ total s + 1
       go plainRun = above-total
       go cappedRun = above-total
       go lowerPlain = omega (arith, step-counts (mapOf i) (plainPart s), step-kept (mapOf i) (plainPart s) .before)
@@ -138,7 +138,7 @@ module _ (lower : List ℕ) (m : Map) where
   unfolding settleFrom
   high-stays t l = go (t .run .kind) (t .run .height) l
     where
-      go : (r : Run) (h : ℕ) → 0 < h → changed r h lower i t ≡ t
+      go : (r : RunKind) (h : ℕ) → 0 < h → changed r h lower i t ≡ t
       go plainRun h l = refl
       go cappedRun h l = refl
       go lowerPlain zero l = absurd (omega arith)
@@ -146,11 +146,11 @@ module _ (lower : List ℕ) (m : Map) where
       go lowerAbove h l = refl
       go deskByDesk h l = refl
 
-  relisted-from : (t : State) (list second : List ℕ) → SameRows (i .q) (t .run .found) (t .list) list → SameRows (i .q) (t .run .found₂) (t .second) second
+  relisted-from : (t : State) (list second : List ℕ) → SameRows (i .q) (t .run .found) (t .list) list → SameRows (i .q) (t .run .found2) (t .second) second
       → ValidFrom lower i t → ValidFrom lower i (withLists t list second)
   relisted-from t list second r r₂ v = record { shaped = shaped-same (v .shaped) refl; ordered = go (t .run .kind) refl; long = v .long; small = v .small }
     where
-      go : (k : Run) → t .run .kind ≡ k → InOrderBy k lower i (withLists t list second)
+      go : (k : RunKind) → t .run .kind ≡ k → InOrderBy k lower i (withLists t list second)
       go plainRun e = absurd (subst (λ k. InOrderBy k lower i t) e (v .ordered))
       go cappedRun e = absurd (subst (λ k. InOrderBy k lower i t) e (v .ordered))
       go deskByDesk e = absurd (subst (λ k. InOrderBy k lower i t) e (v .ordered))
@@ -168,7 +168,7 @@ module _ (lower : List ℕ) (m : Map) where
   unfolding searchFrom
   goes-by t list second roomy due = by (t .run .kind) roomy due
     where
-      by : (k : Run) → RoomBy (i .q) k (withLists t list second)
+      by : (k : RunKind) → RoomBy (i .q) k (withLists t list second)
           → FirstDue (rulesBy k (searchRules (mapOf i) (plainPart t)) (searchRules (aboveSystem lower i) t)) 11 []
           → byWalk k (searchChecks (mapOf i) (plainPart (withLists t list second))) (searchChecks (aboveSystem lower i) (withLists t list second)) ≡ go
       by plainRun r d = absurd r
@@ -200,7 +200,7 @@ module _ (lower : List ℕ) (m : Map) where
   unfolding stepFrom
   step-above t v (p, a) e = go (t .run .kind) refl (v .ordered)
     where
-      go : (r : Run) → t .run .kind ≡ r → InOrderBy r lower i t → let u =
+      go : (r : RunKind) → t .run .kind ≡ r → InOrderBy r lower i t → let u =
           byWalk r (wholeOf (t .run .deepest) (step (mapOf i) (plainPart t))) (step (aboveSystem lower i) t) in
           u .run .height * (i .q + 1) ≤ e → getD (u .stack) e 0 ≡ getD (t .stack) e 0
       go plainRun k o l = absurd o
@@ -215,7 +215,7 @@ module _ (lower : List ℕ) (m : Map) where
   unfolding settleFrom lowered
   settle-above t e = go (t .run .kind) (t .run .height) refl
     where
-      go : (r : Run) (h : ℕ) → t .run .height ≡ h → changed r h lower i t .run .height * (i .q + 1) ≤ e
+      go : (r : RunKind) (h : ℕ) → t .run .height ≡ h → changed r h lower i t .run .height * (i .q + 1) ≤ e
           → (t .run .height * (i .q + 1) ≤ e) × (getD (changed r h lower i t .stack) e 0 ≡ getD (t .stack) e 0)
       go plainRun h z l = (l, refl)
       go cappedRun h z l = (l, refl)

@@ -12,7 +12,7 @@ use Rattle.definitions.specs.Input.{Input, aboveSystem, boundOf, mapOf}
 use Rattle.definitions.specs.Refusals.{lowerChecks}
 use Rattle.definitions.specs.Step.{step}
 use Rattle.definitions.specs.System.{MinimalFrom, MinimalSolution}
-use Rattle.definitions.specs.Tables.{Run, State, at, byWalk, cappedRun, deskByDesk, lowerAbove, lowerPlain, lowerStart, lowered, plainPart, plainRun}
+use Rattle.definitions.specs.Tables.{RunKind, State, at, byWalk, cappedRun, deskByDesk, lowerAbove, lowerPlain, lowerStart, lowered, plainPart, plainRun}
 use Rattle.definitions.specs.Tables.{unitsStart, wholeOf}
 use Rattle.laws.specs.LowerLaws.{GoingFrom, InOrderBy, ValidFrom, above-valid, lowered-valid, plain-valid, search-going-from, shaped-above, start-from-valid}
 use Rattle.laws.specs.LowerLaws.{step-aside, step-from-valid, step-kept}
@@ -33,18 +33,18 @@ pub data RunFrom (lower : List ℕ) (m : Map) : State → Type 0 where
   started-from : (s : State) → startFrom lower (byItself m) s .answer ≡ started → RunFrom lower m (startFrom lower (byItself m) s .state)
   continued : {s : State} → RunFrom lower m s → (budget : ℕ) → RunFrom lower m (resumeFrom budget lower (byItself m) s .state)
   relisted : {s : State} → RunFrom lower m s → (list : List ℕ) → SameRows (m .q) (s .run .found) (s .list) list → RunFrom lower m (withList s list)
-  relisted₂ : {s : State} → RunFrom lower m s → (second : List ℕ) → SameRows (m .q) (s .run .found₂) (s .second) second → RunFrom lower m (withSecond s second)
+  relisted₂ : {s : State} → RunFrom lower m s → (second : List ℕ) → SameRows (m .q) (s .run .found2) (s .second) second → RunFrom lower m (withSecond s second)
 
 -- ---- what is kept, by the walk under way
 
 -- of the plain walk: it is a plain run, and nothing is listed yet; of the walk above the bound: the second list holds the plain map's minimal solutions, all of
 -- them
-abbrev pub SoundBy : Run → List ℕ → Input → State → Type 0
+abbrev pub SoundBy : RunKind → List ℕ → Input → State → Type 0
 SoundBy plainRun lower i s = ⊥
 SoundBy cappedRun lower i s = ⊥
 SoundBy lowerPlain lower i s = Sound (mapOf i) nonzero (plainPart s) × (s .run .found ≡ 0)
 SoundBy lowerAbove lower i s =
-    Sound (aboveSystem lower i) (atOrAbove (boundOf lower)) s × Exactly (i .q) (MinimalSolution (mapOf i)) (s .second) (s .run .found₂)
+    Sound (aboveSystem lower i) (atOrAbove (boundOf lower)) s × Exactly (i .q) (MinimalSolution (mapOf i)) (s .second) (s .run .found2)
 SoundBy deskByDesk lower i s = ⊥
 
 pub record SoundFrom (lower : List ℕ) (i : Input) (s : State) : Type 0 where
@@ -73,7 +73,7 @@ module _ (lower : List ℕ) (m : Map) where
   -- ---- the change of walk, and a step
 
   module _ (s : State) (o : SoundFrom lower i s) where
-    named : {r : Run} → s .run .kind ≡ r → SoundBy r lower i s
+    named : {r : RunKind} → s .run .kind ≡ r → SoundBy r lower i s
     named e = subst (λ r. SoundBy r lower i s) e (o .holds)
 
     -- the plain walk has ended: its list is whole, so that what it stops is not missed
@@ -81,7 +81,7 @@ module _ (lower : List ℕ) (m : Map) where
     unfolding lowered
     lowered-sound e z =
         let (p, none) = named e in
-        let whole : Exactly (i .q) (MinimalSolution (mapOf i)) (s .second) (s .run .found₂) = sound-exactly (mapOf i) nonzero (plainPart s) p z in
+        let whole : Exactly (i .q) (MinimalSolution (mapOf i)) (s .second) (s .run .found2) = sound-exactly (mapOf i) nonzero (plainPart s) p z in
         let v = lowered-valid lower i s e (o .valid) in
         let t : State = lowered (boundOf lower) (i .q) s in
         record {
@@ -101,7 +101,7 @@ module _ (lower : List ℕ) (m : Map) where
     unfolding settleFrom
     settled-sound = go (s .run .kind) (s .run .height) refl refl
       where
-        go : (r : Run) (h : ℕ) → s .run .kind ≡ r → s .run .height ≡ h → SoundFrom lower i (changed r h lower i s)
+        go : (r : RunKind) (h : ℕ) → s .run .kind ≡ r → s .run .height ≡ h → SoundFrom lower i (changed r h lower i s)
         go plainRun h e z = o
         go cappedRun h e z = o
         go lowerPlain zero e z = lowered-sound e z
@@ -119,7 +119,7 @@ module _ (lower : List ℕ) (m : Map) where
           valid = v;
           holds = (
             record { suits = tt; valid = plain-valid lower i t refl v; hand = tt; inv = q .inv },
-            step-aside (mapOf i) (λ x. refl) (plainPart s) .found₂ ∙ none,
+            step-aside (mapOf i) (λ x. refl) (plainPart s) .found2 ∙ none,
           );
         }
 
@@ -133,14 +133,14 @@ module _ (lower : List ℕ) (m : Map) where
           valid = v;
           holds =
               subst (λ r. SoundBy r lower i t) (sym (step-kept (aboveSystem lower i) s .kind ∙ e))
-              (step-sound (aboveSystem lower i) (atOrAbove (boundOf lower)) s (g .1 e) p, rw (a .second, a .found₂) whole);
+              (step-sound (aboveSystem lower i) (atOrAbove (boundOf lower)) s (g .1 e) p, rw (a .second, a .found2) whole);
         }
 
     step-from-sound : GoingFrom lower i s → SoundFrom lower i (stepFrom lower i s)
     unfolding stepFrom
     step-from-sound g = go (s .run .kind) refl (o .holds) (step-from-valid lower i s (o .valid) g)
       where
-        go : (r : Run) → s .run .kind ≡ r → SoundBy r lower i s
+        go : (r : RunKind) → s .run .kind ≡ r → SoundBy r lower i s
             → ValidFrom lower i (byWalk r (wholeOf (s .run .deepest) (step (mapOf i) (plainPart s))) (step (aboveSystem lower i) s))
             → SoundFrom lower i (byWalk r (wholeOf (s .run .deepest) (step (mapOf i) (plainPart s))) (step (aboveSystem lower i) s))
         go plainRun e h v = absurd h
@@ -161,7 +161,7 @@ module _ (lower : List ℕ) (m : Map) where
         let (h, v) = go (s .run .kind) (o .holds) (o .valid .ordered) in
         record { valid = record { shaped = shaped-same (o .valid .shaped) refl; ordered = v; long = o .valid .long; small = o .valid .small }; holds = h }
       where
-        go : (k : Run) → SoundBy k lower i s → InOrderBy k lower i s → SoundBy k lower i (withList s list) × InOrderBy k lower i (withList s list)
+        go : (k : RunKind) → SoundBy k lower i s → InOrderBy k lower i s → SoundBy k lower i (withList s list) × InOrderBy k lower i (withList s list)
         go plainRun h v = absurd h
         go cappedRun h v = absurd h
         go lowerPlain (p, none) (a, f, l) =
@@ -170,12 +170,12 @@ module _ (lower : List ℕ) (m : Map) where
             let p′ = relisted-sound (aboveSystem lower i) (atOrAbove (boundOf lower)) s list r p in ((p′, whole), (p′ .valid .ordered, l))
         go deskByDesk h v = absurd h
 
-    seconded-from : (second : List ℕ) → SameRows (i .q) (s .run .found₂) (s .second) second → SoundFrom lower i (withSecond s second)
+    seconded-from : (second : List ℕ) → SameRows (i .q) (s .run .found2) (s .second) second → SoundFrom lower i (withSecond s second)
     seconded-from second r =
         let (h, v) = go (s .run .kind) (o .holds) (o .valid .ordered) in
         record { valid = record { shaped = shaped-same (o .valid .shaped) refl; ordered = v; long = o .valid .long; small = o .valid .small }; holds = h }
       where
-        go : (k : Run) → SoundBy k lower i s → InOrderBy k lower i s → SoundBy k lower i (withSecond s second) × InOrderBy k lower i (withSecond s second)
+        go : (k : RunKind) → SoundBy k lower i s → InOrderBy k lower i s → SoundBy k lower i (withSecond s second) × InOrderBy k lower i (withSecond s second)
         go plainRun h v = absurd h
         go cappedRun h v = absurd h
         go lowerPlain (p, none) (a, f, l) = let p′ = relisted-sound (mapOf i) nonzero (plainPart s) second r p in ((p′, none), (p′ .valid .ordered, f, l))
@@ -222,11 +222,11 @@ module _ (lower : List ℕ) (m : Map) where
 
   -- cut short, such tuples only, in either list
   pub sound-from-only : (s : State) → SoundFrom lower i s
-      → Only (i .q) (MinimalFrom (mapOf i) (boundOf lower)) (s .list) (s .run .found) × Only (i .q) (MinimalSolution (mapOf i)) (s .second) (s .run .found₂)
+      → Only (i .q) (MinimalFrom (mapOf i) (boundOf lower)) (s .list) (s .run .found) × Only (i .q) (MinimalSolution (mapOf i)) (s .second) (s .run .found2)
   sound-from-only s o = go (s .run .kind) (o .holds) (o .valid .ordered)
     where
-      go : (k : Run) → SoundBy k lower i s → InOrderBy k lower i s
-          → Only (i .q) (MinimalFrom (mapOf i) (boundOf lower)) (s .list) (s .run .found) × Only (i .q) (MinimalSolution (mapOf i)) (s .second) (s .run .found₂)
+      go : (k : RunKind) → SoundBy k lower i s → InOrderBy k lower i s
+          → Only (i .q) (MinimalFrom (mapOf i) (boundOf lower)) (s .list) (s .run .found) × Only (i .q) (MinimalSolution (mapOf i)) (s .second) (s .run .found2)
       go plainRun h v = absurd h
       go cappedRun h v = absurd h
       go lowerPlain (p, none) (a, f, l) =
@@ -237,13 +237,13 @@ module _ (lower : List ℕ) (m : Map) where
   -- at height 0 with no change of walk ahead, all of them
   pub sound-from-exactly : (s : State) → SoundFrom lower i s → settleFrom lower i s ≡ s → s .run .height ≡ 0
       → Exactly (i .q) (MinimalFrom (mapOf i) (boundOf lower)) (s .list) (s .run .found)
-      × Exactly (i .q) (MinimalSolution (mapOf i)) (s .second) (s .run .found₂)
+      × Exactly (i .q) (MinimalSolution (mapOf i)) (s .second) (s .run .found2)
   unfolding settleFrom lowered
   sound-from-exactly s o e z = go (s .run .kind) (s .run .height) z (ap (λ t. t .run .height) e) (o .holds)
     where
-      go : (k : Run) (h : ℕ) → h ≡ 0 → changed k h lower i s .run .height ≡ s .run .height → SoundBy k lower i s
+      go : (k : RunKind) (h : ℕ) → h ≡ 0 → changed k h lower i s .run .height ≡ s .run .height → SoundBy k lower i s
           → Exactly (i .q) (MinimalFrom (mapOf i) (boundOf lower)) (s .list) (s .run .found)
-          × Exactly (i .q) (MinimalSolution (mapOf i)) (s .second) (s .run .found₂)
+          × Exactly (i .q) (MinimalSolution (mapOf i)) (s .second) (s .run .found2)
       go plainRun h n c b = absurd b
       go cappedRun h n c b = absurd b
       go lowerPlain zero n c b = absurd (omega (arith, z))

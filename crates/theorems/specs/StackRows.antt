@@ -18,7 +18,7 @@ use Rattle.definitions.specs.Machine.{Machine, after, callSteps}
 use Rattle.definitions.specs.Refusals.{check6, check6From}
 use Rattle.definitions.specs.Step.{enlistIn, grown, level, listed, makes, pick, rowOf, rowWidth, step, toSecond, top, topMarks}
 use Rattle.definitions.specs.System.{System, solves}
-use Rattle.definitions.specs.Tables.{Run, State, cappedRun, deskByDesk, frozen, lowerAbove, lowerPlain, plainPart, plainRun}
+use Rattle.definitions.specs.Tables.{RunKind, State, cappedRun, deskByDesk, frozen, lowerAbove, lowerPlain, plainPart, plainRun}
 use Rattle.laws.specs.CheckLaws.{check-cases}
 use Rattle.laws.specs.LowerLaws.{InOrderBy, ValidFrom, from-order, named-order, resume-from-valid, search-going-from, settled-valid, step-from-valid}
 use Rattle.laws.specs.MachineLaws.{call-refused}
@@ -99,7 +99,7 @@ module _ (lower : List ℕ) (m : Map) where
       ((t .run .kind ≡ lowerPlain) × (level t + countTo (m .q) (makes (mapOf i) (plainPart t)) ≤ m .q))
       ⊎ ((t .run .kind ≡ lowerAbove) × (level t + countTo (m .q) (makes (aboveSystem lower i) t) ≤ m .q))
 
-  by-walk : (t : State) → 0 < t .run .height → (r : Run) → t .run .kind ≡ r → InOrderBy r lower i t → Suffice t
+  by-walk : (t : State) → 0 < t .run .height → (r : RunKind) → t .run .kind ≡ r → InOrderBy r lower i t → Suffice t
   by-walk t h plainRun e o = absurd o
   by-walk t h cappedRun e o = absurd o
   by-walk t h lowerPlain e (o, f, st) = inl (e, walk-rows (mapOf i) (plainPart t) o h)

@@ -10,7 +10,7 @@ use Rattle.definitions.specs.Input.{Input, aboveSystem, boundOf, mapOf}
 use Rattle.definitions.specs.Machine.{Outcome, after, call, walk, walkSteps}
 use Rattle.definitions.specs.Refusals.{resumeChecks, resumeFromChecks}
 use Rattle.definitions.specs.Step.{step}
-use Rattle.definitions.specs.Tables.{Run, State, byWalk, cappedRun, deskByDesk, lowerAbove, lowerPlain, lowered, plainPart, plainRun, wholeOf}
+use Rattle.definitions.specs.Tables.{RunKind, State, byWalk, cappedRun, deskByDesk, lowerAbove, lowerPlain, lowered, plainPart, plainRun, wholeOf}
 use Rattle.laws.specs.CheckLaws.{check-cases}
 use Rattle.laws.specs.LowerLaws.{InOrderBy, ValidFrom, plain-valid, resume-from-valid, settled-valid, step-aside, step-kept}
 use Rattle.laws.specs.LowerWalk.{above-walks, from-plain, thenAbove, walk-counts}
@@ -22,23 +22,23 @@ use Rattle.theorems.specs.WholeSteps.{after-keeps, call-going, walk-keep
 
 -- ---- each step
 
--- a step of the plain walk counts under steps₂ and leaves the list with its count and steps; a step of the walk above the bound counts under steps and leaves
+-- a step of the plain walk counts under steps2 and leaves the list with its count and steps; a step of the walk above the bound counts under steps and leaves
 -- the second list with its count and steps
-abbrev pub Booked : Run → State → State → Type 0
+abbrev pub Booked : RunKind → State → State → Type 0
 Booked plainRun t u = ⊥
 Booked cappedRun t u = ⊥
 Booked lowerPlain t u =
-    (u .run .steps₂ ≡ t .run .steps₂ + 1) × (u .run .steps ≡ t .run .steps) × (u .run .found ≡ t .run .found) × (u .list ≡ t .list)
+    (u .run .steps2 ≡ t .run .steps2 + 1) × (u .run .steps ≡ t .run .steps) × (u .run .found ≡ t .run .found) × (u .list ≡ t .list)
 Booked lowerAbove t u =
-    (u .run .steps ≡ t .run .steps + 1) × (u .run .steps₂ ≡ t .run .steps₂) × (u .run .found₂ ≡ t .run .found₂) × (u .second ≡ t .second)
+    (u .run .steps ≡ t .run .steps + 1) × (u .run .steps2 ≡ t .run .steps2) × (u .run .found2 ≡ t .run .found2) × (u .second ≡ t .second)
     × (u .run .kind ≡ lowerAbove)
 Booked deskByDesk t u = ⊥
 
 -- what the walk above the bound keeps of the plain walk's: its steps, its count and its list
 pub record PlainKept (s t : State) : Type 0 where
   pub kind : t .run .kind ≡ s .run .kind
-  pub steps₂ : t .run .steps₂ ≡ s .run .steps₂
-  pub found₂ : t .run .found₂ ≡ s .run .found₂
+  pub steps2 : t .run .steps2 ≡ s .run .steps2
+  pub found2 : t .run .found2 ≡ s .run .found2
   pub second : t .second ≡ s .second
 
 module _ (lower : List ℕ) (m : Map) where
@@ -46,11 +46,11 @@ module _ (lower : List ℕ) (m : Map) where
   i = byItself m
 
   -- the change of walk changes no count and no list
-  settled-booked : (t u : State) (r : Run) → Booked r t u → u .run .kind ≡ r → Booked r t (settleFrom lower i u)
+  settled-booked : (t u : State) (r : RunKind) → Booked r t u → u .run .kind ≡ r → Booked r t (settleFrom lower i u)
   unfolding settleFrom lowered
   settled-booked t u r b k = go r (u .run .kind) (u .run .height) b k
     where
-      go : (r k : Run) (h : ℕ) → Booked r t u → k ≡ r → Booked r t (changed k h lower i u)
+      go : (r k : RunKind) (h : ℕ) → Booked r t u → k ≡ r → Booked r t (changed k h lower i u)
       go r plainRun h b e = b
       go r cappedRun h b e = b
       go r lowerPlain (suc h) b e = b
@@ -67,7 +67,7 @@ module _ (lower : List ℕ) (m : Map) where
     unfolding stepFrom
     booked-step = go (t .run .kind) refl
       where
-        go : (r : Run) → t .run .kind ≡ r → InOrderBy r lower i t
+        go : (r : RunKind) → t .run .kind ≡ r → InOrderBy r lower i t
             → Booked r t (settleFrom lower i (byWalk r (wholeOf (t .run .deepest) (step (mapOf i) (plainPart t))) (step (aboveSystem lower i) t)))
         go plainRun e o = absurd o
         go cappedRun e o = absurd o
@@ -75,11 +75,11 @@ module _ (lower : List ℕ) (m : Map) where
         go lowerPlain e o =
             let k = step-kept (mapOf i) (plainPart t) in
             let a = step-aside (mapOf i) (λ x. refl) (plainPart t) in
-            settled-booked t _ lowerPlain (k .counted, k .before, a .found₂, a .second) refl
+            settled-booked t _ lowerPlain (k .counted, k .before, a .found2, a .second) refl
         go lowerAbove e o =
             let k = step-kept (aboveSystem lower i) t in
             let a = step-aside (aboveSystem lower i) (λ x. refl) t in
-            settled-booked t _ lowerAbove (k .counted, k .before, a .found₂, a .second, k .kind ∙ e) (k .kind ∙ e)
+            settled-booked t _ lowerAbove (k .counted, k .before, a .found2, a .second, k .kind ∙ e) (k .kind ∙ e)
 
   -- ---- the walk above the bound
 
@@ -90,20 +90,20 @@ module _ (lower : List ℕ) (m : Map) where
       (walk-keeps k (PlainKept s) (λ t p. p) (λ t p g.
       let b = step-kept (aboveSystem lower i) t in
       let a = step-aside (aboveSystem lower i) (λ x. refl) t in
-      record { kind = b .kind ∙ p .kind; steps₂ = b .before ∙ p .steps₂; found₂ = a .found₂ ∙ p .found₂; second = a .second ∙ p .second })
-      n s (record { kind = refl; steps₂ = refl; found₂ = refl; second = refl }))
+      record { kind = b .kind ∙ p .kind; steps2 = b .before ∙ p .steps2; found2 = a .found2 ∙ p .found2; second = a .second ∙ p .second })
+      n s (record { kind = refl; steps2 = refl; found2 = refl; second = refl }))
 
   -- a call in that walk keeps the plain walk's, and counts its own steps
   pub above-call : (budget : ℕ) (s : State) → s .run .kind ≡ lowerAbove → let t = resumeFrom budget lower i s .state in
       PlainKept s t × (t .run .steps ≡ s .run .steps + resumeFromSteps budget lower i s)
-  above-call budget s e = (kept, omega (arith, counted-from lower m budget s, kept .steps₂))
+  above-call budget s e = (kept, omega (arith, counted-from lower m budget s, kept .steps2))
     where
       kept : PlainKept s (resumeFrom budget lower i s .state)
       kept =
           elim (check-cases (resumeFromChecks lower i s)) [
             | inl g ↦ rw (call-walks (machineFrom lower i) s budget g .0) (above-kept budget s e)
             | inr (r, values, g) ↦ rw (call-refused (machineFrom lower i) s budget r values g .0)
-                (record { kind = refl; steps₂ = refl; found₂ = refl; second = refl })
+                (record { kind = refl; steps2 = refl; found2 = refl; second = refl })
           ]
 
   -- ---- the call from the plain walk
@@ -162,21 +162,21 @@ module _ (lower : List ℕ) (m : Map) where
         ∙ sym (above-walks (resumeChecks i) lower i (budget - resumeSteps budget i (plainPart s)) _ refl)
 
     -- each count by itself: the plain walk's steps
-    then-kept : (a : Answer) (t : State) (left : ℕ) → thenAbove (resumeChecks i) lower i a t left .state .run .steps₂ ≡ t .run .steps₂
+    then-kept : (a : Answer) (t : State) (left : ℕ) → thenAbove (resumeChecks i) lower i a t left .state .run .steps2 ≡ t .run .steps2
     unfolding lowered
     then-kept started t left = refl
     then-kept complete t left =
-        ap (λ o. o .state .run .steps₂) (sym (above-walks (resumeChecks i) lower i left (lowered (boundOf lower) (i .q) t) refl))
-        ∙ above-kept left (lowered (boundOf lower) (i .q) t) refl .steps₂
+        ap (λ o. o .state .run .steps2) (sym (above-walks (resumeChecks i) lower i left (lowered (boundOf lower) (i .q) t) refl))
+        ∙ above-kept left (lowered (boundOf lower) (i .q) t) refl .steps2
     then-kept paused t left = refl
     then-kept (refused r values) t left = refl
 
-    pub plain-counted : resumeFrom budget lower i s .state .run .steps₂ ≡ s .run .steps₂ + resumeSteps budget i (plainPart s)
+    pub plain-counted : resumeFrom budget lower i s .state .run .steps2 ≡ s .run .steps2 + resumeSteps budget i (plainPart s)
     plain-counted =
-        ap (λ o. o .state .run .steps₂) joined
+        ap (λ o. o .state .run .steps2) joined
         ∙ then-kept (plainly .answer) (wholeOf (s .run .deepest) (plainly .state)) (budget - resumeSteps budget i (plainPart s))
         ∙ ap (λ o. o .state .run .steps) (plain-walks .0) ∙ walk-counts (resumeChecks i) (mapOf i) budget (plainPart s) .0
-        ∙ ap (λ n. s .run .steps₂ + n) (sym (plain-walks .1))
+        ∙ ap (λ n. s .run .steps2 + n) (sym (plain-walks .1))
 
     -- and the other's
     pub above-counted : resumeFrom budget lower i s .state .run .steps + resumeSteps budget i (plainPart s)

@@ -16,7 +16,7 @@ use Rattle.definitions.specs.Machine.{after, checked}
 use Rattle.definitions.specs.Refusals.{lowerChecks, resumeChecks, resumeFromChecks, startChecks}
 use Rattle.definitions.specs.Step.{deeper, enlist, enlistIn, grown, listed, pick, rowOf, rowWidth, step, toSecond, top, width}
 use Rattle.definitions.specs.System.{Kind, System, solves}
-use Rattle.definitions.specs.Tables.{Record, Run, State, byWalk, cappedRun, deskByDesk, frozen, lowerAbove, lowerPlain, lowerStart, lowered, plainPart}
+use Rattle.definitions.specs.Tables.{Record, RunKind, State, byWalk, cappedRun, deskByDesk, frozen, lowerAbove, lowerPlain, lowerStart, lowered, plainPart}
 use Rattle.definitions.specs.Tables.{plainRun, stackMarks, unitsStart, unitsTo, wholeOf}
 use Rattle.laws.specs.CheckLaws.{check-cases}
 use Rattle.laws.specs.MachineLaws.{call-refused}
@@ -40,7 +40,7 @@ pub record Untouched (q w : ℕ) (s t : State) : Type 0 where
   pub past : (e : ℕ) → t .run .found * w ≤ e → getD (t .list) e 0 ≡ getD (s .list) e 0
   -- and of the second list
   pub second-length : length (t .second) ≡ length (s .second)
-  pub past₂ : (e : ℕ) → t .run .found₂ * w ≤ e → getD (t .second) e 0 ≡ getD (s .second) e 0
+  pub past₂ : (e : ℕ) → t .run .found2 * w ≤ e → getD (t .second) e 0 ≡ getD (s .second) e 0
 
 pub untouched : (q w : ℕ) (s : State) → Untouched q w s s
 untouched q w s = record { stack-length = refl; beyond = λ e l. refl; list-length = refl; past = λ e l. refl; second-length = refl; past₂ = λ e l. refl }
@@ -48,30 +48,30 @@ untouched q w s = record { stack-length = refl; beyond = λ e l. refl; list-leng
 -- ---- one step
 
 -- listing a solution writes its own row only
-pub record Listing (w : ℕ) (s t : State) : Type 0 where
+pub record Enlisting (w : ℕ) (s t : State) : Type 0 where
   pub grows : s .run .found ≤ t .run .found
   pub past : (e : ℕ) → t .run .found * w ≤ e → getD (t .list) e 0 ≡ getD (s .list) e 0
-  pub grows₂ : s .run .found₂ ≤ t .run .found₂
-  pub past₂ : (e : ℕ) → t .run .found₂ * w ≤ e → getD (t .second) e 0 ≡ getD (s .second) e 0
+  pub grows₂ : s .run .found2 ≤ t .run .found2
+  pub past₂ : (e : ℕ) → t .run .found2 * w ≤ e → getD (t .second) e 0 ≡ getD (s .second) e 0
 
-listing-in : (b : Bool) (w : ℕ) (s : State) (y : ℕ → ℕ) (deepest : ℕ) → Listing w s (enlistIn b w s y deepest)
-listing-in false w s y deepest =
+enlisting-in : (b : Bool) (w : ℕ) (s : State) (y : ℕ → ℕ) (deepest : ℕ) → Enlisting w s (enlistIn b w s y deepest)
+enlisting-in false w s y deepest =
     record {
       grows = omega arith;
       past = λ e l. write-outside y (s .list) (s .run .found * w) w e (inr (omega arith));
       grows₂ = omega arith;
       past₂ = λ e l. refl;
     }
-listing-in true w s y deepest =
+enlisting-in true w s y deepest =
     record {
       grows = omega arith;
       past = λ e l. refl;
       grows₂ = omega arith;
-      past₂ = λ e l. write-outside y (s .second) (s .run .found₂ * w) w e (inr (omega arith));
+      past₂ = λ e l. write-outside y (s .second) (s .run .found2 * w) w e (inr (omega arith));
     }
 
-listing : (k : Kind) (q : ℕ) (s : State) (x : ℕ → ℕ) → Listing (rowWidth k q) s (enlist k q s x)
-listing k q s x = listing-in (toSecond k x) (rowWidth k q) s (rowOf k x) (deeper q s x)
+enlisting : (k : Kind) (q : ℕ) (s : State) (x : ℕ → ℕ) → Enlisting (rowWidth k q) s (enlist k q s x)
+enlisting k q s x = enlisting-in (toSecond k x) (rowWidth k q) s (rowOf k x) (deeper q s x)
 
 -- "Table rows above the height keep what they last held.": every entry from there on
 pub above-kept : (m : System) (s : State) → Valid m s → Going m s → (e : ℕ) → step m s .run .height * (m .q + 1) ≤ e
@@ -89,7 +89,7 @@ module _ (m : System) (s t : State) (v : Valid m t) (g : Going m t) (u : Untouch
   unfolding listed
   listed-untouched room =
       let e = enlists (m .kind) (m .q) t (top m t) room in
-      let l = listing (m .kind) (m .q) t (top m t) in
+      let l = enlisting (m .kind) (m .q) t (top m t) in
       record {
         stack-length = ap length (e .stack) ∙ u .stack-length;
         beyond = λ p h. ap (λ stack. getD stack p 0) (e .stack) ∙ u .beyond p h;
@@ -198,7 +198,7 @@ whole-untouched u =
     }
 
 -- its rows carry their marks, in either walk
-marked-by : (lower : List ℕ) (i : Input) (t : State) (r : Run) → InOrderBy r lower i t → Marked (i .q) t
+marked-by : (lower : List ℕ) (i : Input) (t : State) (r : RunKind) → InOrderBy r lower i t → Marked (i .q) t
 marked-by lower i t plainRun o = absurd o
 marked-by lower i t cappedRun o = absurd o
 marked-by lower i t lowerPlain (o, f, l) = λ k h. o .rows k h .marked
@@ -228,7 +228,7 @@ module _ (lower : List ℕ) (m : Map) (s : State) where
             past₂ = u .past₂;
           }
 
-      go : (r : Run) (h : ℕ) → Untouched (i .q) (i .q) s (changed r h lower i t)
+      go : (r : RunKind) (h : ℕ) → Untouched (i .q) (i .q) s (changed r h lower i t)
       go plainRun h = u
       go cappedRun h = u
       go lowerPlain zero = lowers
@@ -240,7 +240,7 @@ module _ (lower : List ℕ) (m : Map) (s : State) where
   unfolding stepFrom
   stepped-untouched t (v, u) (p, a) = go (t .run .kind) refl (v .ordered)
     where
-      go : (r : Run) → t .run .kind ≡ r → InOrderBy r lower i t
+      go : (r : RunKind) → t .run .kind ≡ r → InOrderBy r lower i t
           → Untouched (i .q) (i .q) s (byWalk r (wholeOf (t .run .deepest) (step (mapOf i) (plainPart t))) (step (aboveSystem lower i) t))
       go plainRun e o = absurd o
       go cappedRun e o = absurd o

@@ -75,7 +75,7 @@ fn from_a_lower_bound() {
         ),
     );
     show(&list, 2, r.found, 1);
-    show(&second, 2, r.second, 1);
+    show(&second, 2, r.found2, 1);
     show(&list, 17, r.found, 1);
 }
 
@@ -194,7 +194,7 @@ fn show(list: &[u32], q: usize, found: Solutions, n: usize) {
 fn show_both<'a>(list: &'a [u32], second: &'a [u32], q: usize, r: Record) {
     let zero = reader::row_of_either(list, second, Which::Zero, q, r.found, 1);
     shown(zero, q, 1);
-    let one = reader::row_of_either(list, second, Which::One, q, r.second, 1);
+    let one = reader::row_of_either(list, second, Which::One, q, r.found2, 1);
     shown(one, q, 1);
 }
 

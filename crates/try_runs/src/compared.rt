@@ -89,8 +89,8 @@ fn from(name: &[u8], p: usize, q: usize, coefs: &[i32], lower: &[u32]) {
     let o = from_in_one_call(p, q, coefs, lower, &mut stack, &mut list, &mut second);
     report(name, o, q, &list);
     let r = o.run;
-    let steps = r.before;
-    let found = r.second;
+    let steps = r.steps2;
+    let found = r.found2;
     print::text(b"  its plain walk: steps ");
     print::number(steps.0);
     rows(found, q, &second);

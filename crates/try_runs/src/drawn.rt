@@ -152,7 +152,7 @@ fn raised(t: Tally, p: usize, q: usize, coefs: &[i32], lower: &[u32], second: bo
     let mut minimal = [0u32; 4096];
     if second {
         let n = boxes::minimal(p, q, coefs, &[], &[], &mut minimal);
-        return compared(t, p, q, coefs, &[], &[], a, r.second, &other, &minimal, n);
+        return compared(t, p, q, coefs, &[], &[], a, r.found2, &other, &minimal, n);
     }
     let n = boxes::minimal(p, q, coefs, &[], lower, &mut minimal);
     compared(t, p, q, coefs, &[], lower, a, r.found, &list, &minimal, n)
@@ -178,7 +178,7 @@ fn met(t: Tally, p: usize, q: usize, coefs: &[i32], rights: &[i32], second: bool
             rights,
             &zero,
             a,
-            r.second,
+            r.found2,
             &other,
             &minimal,
             n,

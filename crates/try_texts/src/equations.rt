@@ -75,7 +75,7 @@ fn refused(why: EquationRefusal) {
         EquationRefusal::Row => print::line(b"refused", 3),
         EquationRefusal::Grammar(place) => print::line(b"refused 16 place", place as u64),
         EquationRefusal::Depth => print::line(b"refused", 17),
-        EquationRefusal::Steep => print::line(b"refused", 18),
+        EquationRefusal::Multiplier => print::line(b"refused", 18),
         EquationRefusal::Coefficient(place) => print::line(b"refused 7 place", place as u64),
         EquationRefusal::RightSide => print::line(b"refused", 15),
     }

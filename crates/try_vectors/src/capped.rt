@@ -3,7 +3,7 @@ use crate::answered;
 use calls::Outcome;
 use calls::Record;
 use calls::Refusal;
-use calls::Run;
+use calls::RunKind;
 use calls::Solutions;
 use calls::Steps;
 use try_support::line::COEFFICIENTS;
@@ -73,13 +73,13 @@ fn record(l: Line) -> Record {
 }
 
 // The kind of run of a number.
-fn kind_of(n: u64) -> Run {
+fn kind_of(n: u64) -> RunKind {
     match n {
-        0 => Run::Plain,
-        1 => Run::Capped,
-        2 => Run::LowerPlain,
-        3 => Run::LowerAbove,
-        _ => Run::Desks,
+        0 => RunKind::Plain,
+        1 => RunKind::Capped,
+        2 => RunKind::LowerPlain,
+        3 => RunKind::LowerAbove,
+        _ => RunKind::Desks,
     }
 }
 
@@ -177,15 +177,15 @@ fn records(l: Line, r: Record) -> bool {
     let x = l.record_after;
     let found = r.found;
     let steps = r.steps;
-    let second = r.second;
-    let before = r.before;
+    let found2 = r.found2;
+    let steps2 = r.steps2;
     let kind = r.kind;
     calls::run_number(kind) == x[0]
         && r.height as u64 == x[1]
         && found.0 as u64 == x[2]
         && steps.0 == x[3]
-        && second.0 as u64 == x[4]
-        && before.0 == x[5]
+        && found2.0 as u64 == x[4]
+        && steps2.0 == x[5]
         && r.deepest == x[6]
 }
 

@@ -20,17 +20,17 @@ use Rattle.calls.specs.declared.Answer.{Answer}
 use Rattle.calls.specs.declared.Answer.the-variants.{Started, Complete, Paused, Refused}
 use Rattle.calls.specs.declared.Outcome.{Outcome}
 use Rattle.calls.specs.declared.Record.{Record}
-use Rattle.calls.specs.declared.Run.the-variants.{LowerPlain, LowerAbove}
+use Rattle.calls.specs.declared.RunKind.the-variants.{LowerPlain, LowerAbove}
 
 -- the record of the run, from that of its plain walk; and after the change of walk
 abbrev pub wholeRecord : Record → ℕ → Record
-wholeRecord part deepest = recordOf LowerPlain (part .height) (part .second) (part .before) (part .found) (part .steps) deepest
+wholeRecord part deepest = recordOf LowerPlain (part .height) (part .found2) (part .steps2) (part .found) (part .steps) deepest
 
 abbrev pub wholeOutcome : Answer → Record → ℕ → Outcome
 wholeOutcome answer part deepest = record { answer = answer; run = wholeRecord part deepest }
 
 abbrev pub loweredRecord : Record → ℕ → Record
-loweredRecord part deepest = recordOf LowerAbove 1 (part .second) (part .before) (part .found) (part .steps) deepest
+loweredRecord part deepest = recordOf LowerAbove 1 (part .found2) (part .steps2) (part .found) (part .steps) deepest
 
 -- ---- which walk the record names
 
@@ -41,7 +41,7 @@ module _ (lower : List ℕ) (i : Input) (s : State) (v : ValidFrom lower i s) wh
   pub names-above : ¬ (runNumber (s .run .kind) ≡ 2) → s .run .kind ≡ lowerAbove
   names-above n = go (s .run .kind) (v .ordered) n
     where
-      go : (r : tables.Run) → InOrderBy r lower i s → ¬ (runNumber r ≡ 2) → r ≡ lowerAbove
+      go : (r : tables.RunKind) → InOrderBy r lower i s → ¬ (runNumber r ≡ 2) → r ≡ lowerAbove
       go plainRun o n = absurd o
       go cappedRun o n = absurd o
       go lowerPlain o n = absurd (n refl)
@@ -65,7 +65,7 @@ module _ (lower : List ℕ) (i : Input) (s : State) (v : ValidFrom lower i s) (e
     where
       back : (s : State) → s .run .kind ≡ lowerPlain → s ≡ wholeOf (s .run .deepest) (plainPart s)
       back s e =
-          ap (λ (r : tables.Run). record {
+          ap (λ (r : tables.RunKind). record {
             stack = s .stack;
             list = s .list;
             second = s .second;
@@ -75,14 +75,14 @@ module _ (lower : List ℕ) (i : Input) (s : State) (v : ValidFrom lower i s) (e
                   height = s .run .height;
                   found = s .run .found;
                   steps = s .run .steps;
-                  found₂ = s .run .found₂;
-                  steps₂ = s .run .steps₂;
+                  found2 = s .run .found2;
+                  steps2 = s .run .steps2;
                   deepest = s .run .deepest;
                 };
           }) e
 
   -- its steps are those that the record has more than before, and no more than the budget
-  pub steps-more : (plainly .state .run .steps ≡ s .run .steps₂ + walkSteps n (machineOf checks (mapOf i)) (plainPart s))
+  pub steps-more : (plainly .state .run .steps ≡ s .run .steps2 + walkSteps n (machineOf checks (mapOf i)) (plainPart s))
       × (walkSteps n (machineOf checks (mapOf i)) (plainPart s) ≤ n)
   steps-more = (walk-counts checks (mapOf i) n (plainPart s) .0, walk-steps-few (machineOf checks (mapOf i)) n (plainPart s))
 

@@ -13,11 +13,11 @@ ghost use Rattle.walk.specs.Lower.{loweredRecord, wholeOutcome};
 use calls::Answer;
 use calls::Outcome;
 use calls::Record;
-use calls::Run;
+use calls::RunKind;
 use candidates::Kind;
 
 // By the walk that the record names.
-pub fn walks(
+pub fn walk_from(
     p: usize,
     q: usize,
     coefs: &[i32],
@@ -61,7 +61,7 @@ fn further(
         (stateWith (now (stack .entry)) (now (list .entry)) (now (second .entry)) r) ⌝ }
 {
     let most = calls::limit_of(limit);
-    walking::walk(
+    walking::walk_system(
         Kind::Above,
         p,
         q,
@@ -96,9 +96,9 @@ fn both(
         (stateWith (now (stack .entry)) (now (list .entry)) (now (second .entry)) r) ⌝ }
 {
     let most = calls::limit_of(limit);
-    let first = r.before.0;
+    let first = r.steps2.0;
     let deepest = r.deepest;
-    let o = walking::walk(
+    let o = walking::walk_system(
         Kind::Plain,
         p,
         q,
@@ -141,10 +141,10 @@ fn whole(answer: Answer, part: Record, deepest: u64) -> Outcome
     ensures { λ o. ⌜ o ≡ wholeOutcome answer part deepest ⌝ }
 {
     let run = Record::of(
-        Run::LowerPlain,
+        RunKind::LowerPlain,
         part.height,
-        part.second,
-        part.before,
+        part.found2,
+        part.steps2,
         part.found,
         part.steps,
         deepest,
@@ -157,10 +157,10 @@ fn lowered(part: Record, deepest: u64) -> Record
     ensures { λ r. ⌜ r ≡ loweredRecord part deepest ⌝ }
 {
     Record::of(
-        Run::LowerAbove,
+        RunKind::LowerAbove,
         1,
-        part.second,
-        part.before,
+        part.found2,
+        part.steps2,
         part.found,
         part.steps,
         deepest,

@@ -13,7 +13,7 @@ use borrow.Author.Tests.{eq-eqb}
 use Rattle.definitions.specs.Answers.{Check, complete, paused, refused, refuse, go, refuseWith, _then_}
 use Rattle.definitions.specs.Machine.{walk}
 use Rattle.definitions.specs.System.{Kind, System, above, capped, plain, solves}
-use Rattle.definitions.specs.Tables.{Run, State, capacity}
+use Rattle.definitions.specs.Tables.{RunKind, State, capacity}
 use Rattle.definitions.specs.Step.{deeper, grown, listed, pick, step, toSecond, top, width}
 use Rattle.definitions.specs.Refusals.{stepLimit, searchChecks}
 use Rattle.definitions.specs.Calls.{machineOf}
@@ -60,12 +60,12 @@ small-rows {m} {s} v =
       small = λ k i l h. omega (arith, v .ordered .rows k l .small i h, v .shaped .limit-few);
     }
 
-second-beside : (k : Kind) (q : ℕ) (s : State) (run : Run) (n n₂ d : ℕ) → SecondFits k q (beside s run n n₂ d) → SecondFits k q s
+second-beside : (k : Kind) (q : ℕ) (s : State) (run : RunKind) (n n₂ d : ℕ) → SecondFits k q (beside s run n n₂ d) → SecondFits k q s
 second-beside plain q s run n n₂ d h = h
 second-beside capped q s run n n₂ d h = h
 second-beside (above f) q s run n n₂ d h = h
 
-pub standing : {k : Kind} {p q : ℕ} {coefs : List ℤ} {limit : ℕ} (s : State) (run : Run) (n n₂ d : ℕ) {g c : List ℤ} {sums : List ℕ}
+pub standing : {k : Kind} {p q : ℕ} {coefs : List ℤ} {limit : ℕ} (s : State) (run : RunKind) (n n₂ d : ℕ) {g c : List ℤ} {sums : List ℕ}
     → Valid (systemWith k p q coefs limit) (beside s run n n₂ d) → SmallGram q g → Combined q g (s .stack) (s .run .height) c
     → Totals q (s .stack) (s .run .height) sums → 0 < s .run .height → Standing k limit q g s c sums
 standing {k} {p} {q} s run n n₂ d v a e t h =
@@ -79,7 +79,7 @@ standing {k} {p} {q} s run n n₂ d v a e t h =
       rows = v .ordered .rows;
       bounded = v .shaped .limit-few;
       listed = v .ordered .found;
-      listed₂ = second-beside k q s run n n₂ d (v .ordered .found₂);
+      listed₂ = second-beside k q s run n n₂ d (v .ordered .found2);
       gram = a;
       cached = e;
       summed = t;
@@ -140,19 +140,19 @@ pub found-small : {m : System} {s : State} → Valid m s → s .run .found ≤ l
 found-small {m} {s} v = count-fits (width m) (s .run .found) (s .list) (v .shaped .wide) (v .ordered .found)
 
 -- a step that counts one more row of the second list has had room there
-second-room : (m : System) (s : State) → Going m s → step m s .run .found₂ ≡ s .run .found₂ + 1 → s .run .found₂ < capacity (width m) (s .second)
+second-room : (m : System) (s : State) → Going m s → step m s .run .found2 ≡ s .run .found2 + 1 → s .run .found2 < capacity (width m) (s .second)
 unfolding step listed grown
 second-room m s g e = of (solves m (top m s)) (toSecond (m .kind) (top m s)) refl refl e
   where
     of : (solved b : Bool) → solves m (top m s) ≡ solved → toSecond (m .kind) (top m s) ≡ b
-        → pick (solves m (top m s)) (listed m s) (grown m s) .run .found₂ ≡ s .run .found₂ + 1 → s .run .found₂ < capacity (width m) (s .second)
+        → pick (solves m (top m s)) (listed m s) (grown m s) .run .found2 ≡ s .run .found2 + 1 → s .run .found2 < capacity (width m) (s .second)
     of false b y z h = absurd (omega (arith, rw y at h))
     of true false y z h = absurd (omega (arith, rw (y, z) at h))
     of true true y z h = rw z at (g .roomy (rw y tt))
 
 -- ---- a turn, from what `take` ensures
 
-module _ {k : Kind} {p q : ℕ} {coefs g : List ℤ} {limit budget left : ℕ} {s₀ : State} (s : State) (run : Run) (n n₂ d : ℕ) {c : List ℤ} {sums : List ℕ}
+module _ {k : Kind} {p q : ℕ} {coefs g : List ℤ} {limit budget left : ℕ} {s₀ : State} (s : State) (run : RunKind) (n n₂ d : ℕ) {c : List ℤ} {sums : List ℕ}
     (w : Walking (systemWith k p q coefs limit) g budget s₀ left (beside s run n n₂ d) c sums) (gram : Gram p q coefs g) (h : 0 < s .run .height) {less : ℕ}
     (more : left ≡ suc less) (early : n ≢ stepLimit) {r : Stepped} {stack list second : List ℕ} {c′ : List ℤ} {sums′ : List ℕ}
     (t : Taken k limit q g s r stack list second c′ sums′) where
@@ -167,46 +167,46 @@ module _ {k : Kind} {p q : ℕ} {coefs g : List ℤ} {limit budget left : ℕ} {
 
   -- the state that the step leaves, with these counts
   abbrev left-by : ℕ → ℕ → ℕ → ℕ → State
-  left-by height found found₂ depth = beside (asked stack list second height found found₂) run (n + 1) n₂ depth
+  left-by height found found2 depth = beside (asked stack list second height found found2) run (n + 1) n₂ depth
 
-  pub turn-listed : r ≡ Listed → {height found found₂ depth : ℕ} → height ≡ s .run .height - 1 → found ≡ s .run .found + 1 → found₂ ≡ s .run .found₂
-      → depth ≡ deep → Walking m g budget s₀ less (left-by height found found₂ depth) c′ sums′
+  pub turn-listed : r ≡ Listed → {height found found2 depth : ℕ} → height ≡ s .run .height - 1 → found ≡ s .run .found + 1 → found2 ≡ s .run .found2
+      → depth ≡ deep → Walking m g budget s₀ less (left-by height found found2 depth) c′ sums′
   turn-listed e eh ef e₂ ed =
       let st = rw e at (t .steps p coefs gram run n n₂ d early) in
       rw (eh, ef, e₂, ed)
-      (goes-on w h more {next = left-by (s .run .height - 1) (s .run .found + 1) (s .run .found₂) deep} (st .checks) (st .leaves)
+      (goes-on w h more {next = left-by (s .run .height - 1) (s .run .found + 1) (s .run .found2) deep} (st .checks) (st .leaves)
       (rw e at (t .cached)) (rw e at (t .summed)))
 
-  pub turn-listed₂ : r ≡ ListedSecond → {height found found₂ depth : ℕ} → height ≡ s .run .height - 1 → found ≡ s .run .found → found₂ ≡ s .run .found₂ + 1
-      → depth ≡ deep → Walking m g budget s₀ less (left-by height found found₂ depth) c′ sums′
+  pub turn-listed₂ : r ≡ ListedSecond → {height found found2 depth : ℕ} → height ≡ s .run .height - 1 → found ≡ s .run .found → found2 ≡ s .run .found2 + 1
+      → depth ≡ deep → Walking m g budget s₀ less (left-by height found found2 depth) c′ sums′
   turn-listed₂ e eh ef e₂ ed =
       let st = rw e at (t .steps p coefs gram run n n₂ d early) in
       rw (eh, ef, e₂, ed)
-      (goes-on w h more {next = left-by (s .run .height - 1) (s .run .found) (s .run .found₂ + 1) deep} (st .checks) (st .leaves)
+      (goes-on w h more {next = left-by (s .run .height - 1) (s .run .found) (s .run .found2 + 1) deep} (st .checks) (st .leaves)
       (rw e at (t .cached)) (rw e at (t .summed)))
 
-  pub turn-grown : {rise : ℕ} → r ≡ Grown rise → {height found found₂ depth : ℕ} → height ≡ rise → found ≡ s .run .found → found₂ ≡ s .run .found₂
-      → depth ≡ deep → Walking m g budget s₀ less (left-by height found found₂ depth) c′ sums′
+  pub turn-grown : {rise : ℕ} → r ≡ Grown rise → {height found found2 depth : ℕ} → height ≡ rise → found ≡ s .run .found → found2 ≡ s .run .found2
+      → depth ≡ deep → Walking m g budget s₀ less (left-by height found found2 depth) c′ sums′
   turn-grown {rise} e eh ef e₂ ed =
       let st = rw e at (t .steps p coefs gram run n n₂ d early) in
       rw (eh, ef, e₂, ed)
-      (goes-on w h more {next = left-by rise (s .run .found) (s .run .found₂) deep} (st .checks) (st .leaves) (rw e at (t .cached)) (rw e at (t .summed)))
+      (goes-on w h more {next = left-by rise (s .run .found) (s .run .found2) deep} (st .checks) (st .leaves) (rw e at (t .cached)) (rw e at (t .summed)))
 
   pub turn-refused : (checks : State → Check) → {why : Refusal} → r ≡ Refused why
       → walk budget (machineOf checks m) s₀ ≡ record {
         answer = refused (numberOf why) (valuesOf why);
-        state = beside (asked stack list second (s .run .height) (s .run .found) (s .run .found₂)) run n n₂ d;
+        state = beside (asked stack list second (s .run .height) (s .run .found) (s .run .found2)) run n n₂ d;
       }
   turn-refused checks {why} e =
       let st = rw e at (t .steps p coefs gram run n n₂ d early) in
       ends-refused w checks h more (st .checks) ∙ ap (λ x. record { answer = refused (numberOf why) (valuesOf why); state = x }) (sym (st .leaves))
 
   -- one row more in the second list is still a place of it
-  pub second-small : r ≡ ListedSecond → s .run .found₂ + 1 ≤ length (s .second)
+  pub second-small : r ≡ ListedSecond → s .run .found2 + 1 ≤ length (s .second)
   second-small e =
       let st = rw e at (t .steps p coefs gram run n n₂ d early) in
-      let room = second-room m now (search-going m now (w .valid .ordered) h (st .checks)) (sym (ap (λ x. x .run .found₂) (st .leaves))) in
-      count-fits (width m) (s .run .found₂ + 1) (s .second) (w .valid .shaped .wide) (omega (arith, room))
+      let room = second-room m now (search-going m now (w .valid .ordered) h (st .checks)) (sym (ap (λ x. x .run .found2) (st .leaves))) in
+      count-fits (width m) (s .run .found2 + 1) (s .second) (w .valid .shaped .wide) (omega (arith, room))
 
 -- ---- a slice without places stays one
 

@@ -17,7 +17,7 @@ use candidates::Kind;
 use step::Stepped;
 
 // At most `budget` steps of a walk of a kind, with components up to the limit. `lower` is the bound of a walk above one, else of no meaning.
-pub fn walk(
+pub fn walk_system(
     kind: Kind,
     p: usize,
     q: usize,
@@ -41,7 +41,7 @@ pub fn walk(
     let mut height = r.height;
     let mut found = r.found.0;
     let mut steps = first;
-    let mut other = r.second.0;
+    let mut other = r.found2.0;
     let mut deepest = r.deepest;
     let mut gram = [0i64; 256];
     products::write_gram(p, q, coefs, &mut gram);

@@ -9,8 +9,8 @@ use Rattle.desk_spec.specs.Valid.{resume-valid}
 use Rattle.desk.proofs.resume.Statement.{statement}
 use Rattle.desk.proofs.resume.Tie as tie
 
-walk-requires : tie.Need-walk-requires
-walk-requires c κs =
+walk-desk-requires : tie.Need-walk-desk-requires
+walk-desk-requires c κs =
     let t = c .before .before in
     let k = t .before .before in
     let a = k .before .before .before .before .before .before .args in
@@ -30,10 +30,10 @@ returns-2 c =
     let w = c .before .before .before .before in
     let t = w .before .before .before in
     let k = t .before .before in
-    call-passed (k .check-resume .ensures) _ _ (t .enum-told .given .1) (w .walk .ensures)
+    call-passed (k .check-resume .ensures) _ _ (t .enum-told .given .1) (w .walk-desk .ensures)
 
 pub resume-spec : {M : Type 1} → statement M
 resume-spec =
     tie.close
-    (tie.spec (λ c κs. search needs) (λ c. search needs) (λ c κs. search needs) (λ c. search needs) walk-requires (λ c. search needs) (λ c. search needs)
+    (tie.spec (λ c κs. search needs) (λ c. search needs) (λ c κs. search needs) (λ c. search needs) walk-desk-requires (λ c. search needs) (λ c. search needs)
     returns (λ c. search needs) (λ c. search needs) returns-2)

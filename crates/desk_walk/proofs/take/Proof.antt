@@ -67,8 +67,8 @@ mul-join-2 c = let s = begun (c .before .before .before) in omega (arith, top-pl
 slice-read-join-2 : tie.Need-slice-read-join-2
 slice-read-join-2 c = let s = begun (c .before .before .before .before) in omega (arith, top-place (state s) (s .pre .0))
 
-children-requires : tie.Need-children-requires
-children-requires c κs = let s = begun (c .before .before .before .before .before .before .before) in
+admitted-generators-requires : tie.Need-admitted-generators-requires
+admitted-generators-requires c κs = let s = begun (c .before .before .before .before .before .before .before) in
     (rw (s .pre .1 .0) (trying (state s) (s .pre .0)), s .pre .1 .1)
 
 push-requires : tie.Need-push-requires
@@ -78,8 +78,8 @@ push-requires c κs =
     let j = x .before .before .before in
     let e = j .before .before .before in
     let s = begun (e .before .before) in (
-      take-pushing (state s) (s .pre .0) (none e) (s .pre .1 .0) (j .join .ensures) (sym (m .made .given .1) ∙ x .children .ensures),
-      omega (arith, x .children .kept .1 .1 .1 .1 .1 .1 .1 .1 .0, s .pre .1 .1),
+      take-pushing (state s) (s .pre .0) (none e) (s .pre .1 .0) (j .join .ensures) (sym (m .made .given .1) ∙ x .admitted-generators .ensures),
+      omega (arith, x .admitted-generators .kept .1 .1 .1 .1 .1 .1 .1 .1 .0, s .pre .1 .1),
     )
 
 returns-2 : tie.Need-returns-2
@@ -88,7 +88,7 @@ returns-2 c =
     let j = x .before .before .before in
     let e = j .before .before .before in
     let s = begun (e .before .before) in
-    take-large (state s) (s .pre .0) (none e) (s .pre .1 .0) (j .join .ensures) (sym (c .enum-told .given .1) ∙ x .children .ensures)
+    take-large (state s) (s .pre .0) (none e) (s .pre .1 .0) (j .join .ensures) (sym (c .enum-told .given .1) ∙ x .admitted-generators .ensures)
 
 returns-3 : tie.Need-returns-3
 returns-3 c =
@@ -98,13 +98,14 @@ returns-3 c =
     let j = x .before .before .before in
     let e = j .before .before .before in
     let s = begun (e .before .before) in
-    take-grown (state s) (s .pre .0) (none e) (s .pre .1 .0) (j .join .ensures) (sym (m .made .given .1) ∙ x .children .ensures) (u .push .ensures .0)
+    take-grown (state s) (s .pre .0) (none e) (s .pre .1 .0) (j .join .ensures) (sym (m .made .given .1) ∙ x .admitted-generators .ensures)
+    (u .push .ensures .0)
     (u .push .ensures .1)
 
 pub take-spec : {M : Type 1} → statement M
 take-spec =
     tie.close
     (tie.spec sub-level vanishes-requires enlist-requires (λ c. search needs) returns add-base mul-base add-join mul-join slice-read-join add-join-2 add-join-3
-    mul-join-2 slice-read-join-2 (λ c κs. search needs) children-requires (λ c. search needs) (λ c. search needs) push-requires (λ c. search needs)
+    mul-join-2 slice-read-join-2 (λ c κs. search needs) admitted-generators-requires (λ c. search needs) (λ c. search needs) push-requires (λ c. search needs)
     (λ c. search needs) returns-2
     (λ c. search needs) (λ c. search needs) (λ c. search needs) returns-3)

@@ -1,5 +1,4 @@
 -- `apart` meets its contract: nothing is left, or something is. Assumes nothing.
-use native.Mathlib.Omega.{arith}
 use lib.ListN.{replicate}
 use borrow.Author.Needs.{needs}
 use Rattle.multiples.specs.AnswerLaws.{made-at, no-space-at, unlisted-at, written-long, written-same}
@@ -14,13 +13,6 @@ take-requires c κs =
     let w = c .before .before .before in
     let s = w .before .before .before .before .before .before in
     (s .pre .2, rw (written-long (s .args .q) (replicate 32 0) (s .args .t .now) (w .write .ensures)) (s .pre .0), search needs)
-
-vanishes-requires : tie.Need-vanishes-requires
-vanishes-requires c κs =
-    let k = c .before .before .before .before in
-    let w = k .before .before .before .before in
-    let s = w .before .before .before .before .before .before in
-    omega (arith, s .pre .0, k .take .kept .1 .1 .1 .0, written-long (s .args .q) (replicate 32 0) (s .args .t .now) (w .write .ensures))
 
 returns-2 : tie.Need-returns-2
 returns-2 c =
@@ -50,7 +42,7 @@ apart-spec =
     (λ c. search needs)
     take-requires
     (λ c. search needs)
-    vanishes-requires
+    (λ c κs. search needs)
     (λ c. search needs)
     returns-2
     (λ c. search needs)

@@ -17,7 +17,7 @@ returns : tie.Need-returns
 unfolding cappedFits
 returns c =
     let a = c .before .before .before .args in
-    let e : leb (a .r .second .0) (capacity (a .width) (now (a .second))) ≡ false = lt-leb _ _ (c .if1 .taken) in
+    let e : leb (a .r .found2 .0) (capacity (a .width) (now (a .second))) ≡ false = lt-leb _ _ (c .if1 .taken) in
     rw e
 
 firsts-fit-requires : tie.Need-firsts-fit-requires

@@ -2,15 +2,15 @@
 use mathlib.Core.Path.{_≡_, sym, _∙_, ap}
 use denote.Ref.{now}
 use borrow.Author.Needs.{needs}
-use Rattle.definitions.specs.Tables.{Run}
+use Rattle.definitions.specs.Tables.{RunKind}
 use Rattle.calls.specs.Paper.{kindOf, runOf}
-use Rattle.calls.specs.declared.Run as declared
+use Rattle.calls.specs.declared.RunKind as declared
 use Rattle.record_order.specs.Order.{lowerFits}
 use Rattle.record_order.proofs.lower_in_order.Statement.{statement}
 use Rattle.record_order.proofs.lower_in_order.Tie as tie
 
 -- what is asked by the kind that the record is known to name is what is asked by the record
-by-record : (s : tie.Start) {k : declared.Run} → s .args .r .kind ≡ k → let a = s .args in
+by-record : (s : tie.Start) {k : declared.RunKind} → s .args .r .kind ≡ k → let a = s .args in
     lowerFits (kindOf k) (a .q) (a .limit) (now (a .lower)) (now (a .stack)) (now (a .list)) (now (a .second)) (runOf (a .r))
     ≡ lowerFits (kindOf (a .r .kind)) (a .q) (a .limit) (now (a .lower)) (now (a .stack)) (now (a .list)) (now (a .second)) (runOf (a .r))
 by-record s e =

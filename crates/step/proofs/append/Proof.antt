@@ -8,7 +8,7 @@ use lib.ListN.{length, getD, take, drop, length-take, length-drop}
 use lib.Seq.{getD-take, getD-drop}
 use Rattle.laws.specs.TableLaws.{write-same}
 use Rattle.table_rows.specs.Rows.{room-fits}
-use Rattle.step.specs.Listing.{appended-none, appended-next}
+use Rattle.step.specs.Enlisting.{appended-none, appended-next}
 use Rattle.step.proofs.append.Statement.{statement}
 use Rattle.step.proofs.append.Tie as tie
 

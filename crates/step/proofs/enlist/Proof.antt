@@ -1,7 +1,7 @@
 -- `enlist` meets its contract: the kind of the walk and the first component say which list it is. Assumes nothing.
 use native.Mathlib.Omega.{arith}
 use borrow.Author.Needs.{needs}
-use Rattle.step.specs.Listing.{enlisted-above, enlisted-plain, enlisted-zero, enlisted-one}
+use Rattle.step.specs.Enlisting.{enlisted-above, enlisted-plain, enlisted-zero, enlisted-one}
 use Rattle.step.proofs.enlist.Statement.{statement}
 use Rattle.step.proofs.enlist.Tie as tie
 

@@ -41,7 +41,7 @@ begun v = v .before .before .before .before .before .before .before
 
 module _ (s : tie.Start) where
   abbrev kind : Kind
-  kind = kindBy (s .args .walk) (now (s .args .lower))
+  kind = kindBy (s .args .kind) (now (s .args .lower))
 
   abbrev state : State
   state = asked (now (s .args .stack)) (now (s .args .list)) (now (s .args .second)) (s .args .height) (s .args .found) (s .args .other)
@@ -63,7 +63,7 @@ module _ (s : tie.Start) where
   long = simp (length-take, length-drop) (omega (arith, fits))
 
 -- what is known where the top is no solution
-module _ (d : tie.After-candidates) where
+module _ (d : tie.After-candidate-marks) where
   abbrev e : tie.Else1
   e = d .before .before .before
 
@@ -75,7 +75,7 @@ module _ (d : tie.After-candidates) where
 
 -- and its children have been tried
 module _ (x : tie.After-admitted) where
-  abbrev d : tie.After-candidates
+  abbrev d : tie.After-candidate-marks
   d = x .before .before .before .before .before
 
   abbrev told : tie.Start
@@ -87,7 +87,7 @@ module _ (x : tie.After-admitted) where
   back = part-back (now (told .args .stack)) (base told) (length (now (told .args .stack)) - base told) (x .admitted .ensures .1)
 
   tried-asked : x .admitted .result ≡ triedBy (told .args .limit) (told .args .q)
-      (childFor (kind told) (told .args .q) (state told) (tuple (row told)) (d .candidates .result)) (tuple (row told))
+      (childFor (kind told) (told .args .q) (state told) (tuple (row told)) (d .candidate-marks .result)) (tuple (row told))
   tried-asked =
       x .admitted .ensures .0 ∙ tried-same (told .args .limit) (told .args .q) _ _ _
       (λ j l. child-asked (kind told) (told .args .q) (now (told .args .list)) (now (told .args .second)) (told .args .found) (told .args .other) _ _
@@ -105,7 +105,7 @@ enlist-requires : tie.Need-enlist-requires
 enlist-requires c κs =
     let r = c .before .before .before .before .before in
     let s = begun (r .before .before .before .before) in (
-      subst (λ w. 0 < w) (width-any (s .args .walk) (now (s .args .lower)) [] (s .args .q)) (s .pre .0 .wide),
+      subst (λ w. 0 < w) (width-any (s .args .kind) (now (s .args .lower)) [] (s .args .q)) (s .pre .0 .wide),
       omega (arith, s .pre .1 .1, r .read .kept .1 .1 .1 .0),
     )
 
@@ -130,10 +130,10 @@ slice-read-marks c = omega (arith, fits (begun (c .before .before)))
 returns-2 : tie.Need-returns-2
 returns-2 c =
     let d = c .before in
-    taken-none (s d .pre .0) (no d) refl (rw (c .if2 .taken) at (d .candidates .ensures))
+    taken-none (s d .pre .0) (no d) refl (rw (c .if2 .taken) at (d .candidate-marks .ensures))
 
 -- no solution, and some candidates
-abbrev tried : tie.After-admitted-arg2 → tie.After-candidates
+abbrev tried : tie.After-admitted-arg2 → tie.After-candidate-marks
 tried c = c .before .before .before
 
 mul-admitted : tie.Need-mul-admitted
@@ -152,7 +152,7 @@ admitted-requires c κs =
     let v = s .pre .0 in (
       ((v .wide, v .few, v .listed), s .pre .1 .0),
       (
-        (second-asked (kind s) (s .args .q) (state s) (v .listed₂), long s, d .candidates .ensures .below),
+        (second-asked (kind s) (s .args .q) (state s) (v .listed₂), long s, d .candidate-marks .ensures .below),
         (top-limited v (held s), top-within v (held s), top-inside v (held s)),
       ),
     )
@@ -164,10 +164,10 @@ push-requires c κs =
     let s = told x in
     let made = made-tried _ _ _ _ (sym (m .made .given .1) ∙ tried-asked x) .1 in
     rw (back x) (
-      (top-parent (s .pre .0) (held s) (no (d x)) refl (d x .candidates .ensures) made, s .pre .1 .1),
+      (top-parent (s .pre .0) (held s) (no (d x)) refl (d x .candidate-marks .ensures) made, s .pre .1 .1),
       (
-        made-few (s .pre .0) (held s) (no (d x)) refl (d x .candidates .ensures) made,
-        made-below (s .pre .0) (held s) (no (d x)) refl (d x .candidates .ensures) made,
+        made-few (s .pre .0) (held s) (no (d x)) refl (d x .candidate-marks .ensures) made,
+        made-below (s .pre .0) (held s) (no (d x)) refl (d x .candidate-marks .ensures) made,
       ),
     )
 
@@ -176,7 +176,7 @@ returns-3 c =
     let x = c .before .before .before .before in
     let s = told x in
     let large = large-tried _ _ _ _ (sym (c .enum-told .given .1) ∙ tried-asked x) in
-    rw (back x) (taken-large (s .pre .0) (held s) (no (d x)) refl (d x .candidates .ensures) refl large)
+    rw (back x) (taken-large (s .pre .0) (held s) (no (d x)) refl (d x .candidate-marks .ensures) refl large)
 
 returns-4 : tie.Need-returns-4
 returns-4 c =
@@ -186,7 +186,7 @@ returns-4 c =
     let s = told x in
     let (none, made) = made-tried _ _ _ _ (sym (m .made .given .1) ∙ tried-asked x) in
     let grown = rw (back x) at (p .push .ensures .1 .0) in
-    taken-grown (s .pre .0) (held s) (no (d x)) refl (d x .candidates .ensures) made none (p .push .ensures .0) grown (p .push .ensures .1 .1 .0)
+    taken-grown (s .pre .0) (held s) (no (d x)) refl (d x .candidate-marks .ensures) made none (p .push .ensures .0) grown (p .push .ensures .1 .1 .0)
     (p .push .ensures .1 .1 .1)
 
 pub take-spec : {M : Type 1} → statement M

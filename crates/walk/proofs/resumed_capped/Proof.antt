@@ -34,8 +34,8 @@ module _ (t : tie.After-enum-told) where
 write-requires : tie.Need-write-requires
 write-requires c κs = (sided (c .before .before), refl)
 
-add-walk : tie.Need-add-walk
-add-walk c = omega (arith, sided (c .before .before .before) .few)
+add-walk-system : tie.Need-add-walk-system
+add-walk-system c = omega (arith, sided (c .before .before .before) .few)
 
 add-wide : tie.Need-add-wide
 add-wide c = omega (arith, sided (c .before .before .before) .few)
@@ -46,11 +46,11 @@ mul-wide c = omega (arith, table-fits (sided (c .before .before .before)))
 array-share-prefix-wide : tie.Need-array-share-prefix-wide
 array-share-prefix-wide c = omega (arith, table-fits (sided (c .before .before .before)), c .write .ensures .size)
 
-slice-aggregate-walk : tie.Need-slice-aggregate-walk
-slice-aggregate-walk c = let w = c .before in simp length-take (omega (arith, table-fits (sided (w .before .before .before)), w .write .ensures .size))
+slice-aggregate-walk-system : tie.Need-slice-aggregate-walk-system
+slice-aggregate-walk-system c = let w = c .before in simp length-take (omega (arith, table-fits (sided (w .before .before .before)), w .write .ensures .size))
 
-walk-requires : tie.Need-walk-requires
-walk-requires c κs =
+walk-system-requires : tie.Need-walk-system-requires
+walk-system-requires c κs =
     let w = c .before .before .before .before .before in
     let m = w .before .before in
     let t = m .before in
@@ -79,7 +79,7 @@ returns-2 c =
     let checks = resumeChecks (inputWith (rights (now (a .rights))) (a .limit) (a .p) (a .q) (now (a .coefs))) in
     let go : System → Outcome State = λ n. walk (a .budget) (machineOf checks n) (stateWith (now (a .stack)) (now (a .list)) (now (a .second)) (a .r)) in
     call-passed (k t .check-resume-capped .ensures) _ _ (t .enum-told .given .1)
-    (x .walk .ensures checks ∙ ap go (sym (extended-system (handed t) (w .write .ensures) (m .limit-of .ensures))))
+    (x .walk-system .ensures checks ∙ ap go (sym (extended-system (handed t) (w .write .ensures) (m .limit-of .ensures))))
 
 pub resumed-capped-spec : {M : Type 1} → statement M
 resumed-capped-spec =
@@ -91,13 +91,13 @@ resumed-capped-spec =
     (λ c. search needs)
     (λ c κs. search needs)
     write-requires
-    add-walk
+    add-walk-system
     add-wide
     mul-wide
     array-share-prefix-wide
-    slice-aggregate-walk
+    slice-aggregate-walk-system
     (λ c. search needs)
-    walk-requires
+    walk-system-requires
     (λ c. search needs)
     (λ c. search needs)
     (λ c. search needs)

@@ -7,8 +7,8 @@ use Rattle.calls.specs.CallLaws.{call-refused, call-passed, passes}
 use Rattle.walk.proofs.resumed_from.Statement.{statement}
 use Rattle.walk.proofs.resumed_from.Tie as tie
 
-walks-requires : tie.Need-walks-requires
-walks-requires c κs =
+walk-from-requires : tie.Need-walk-from-requires
+walk-from-requires c κs =
     let t = c .before .before .before in
     let k = t .before .before in
     resume-from-valid _ _ _ refl (passes (k .check-resume-from .ensures) (t .enum-told .given .1)) .1
@@ -26,7 +26,7 @@ returns-2 c =
     let w = c .before .before .before .before .before .before in
     let t = w .before .before .before .before in
     let k = t .before .before in
-    call-passed (k .check-resume-from .ensures) _ _ (t .enum-told .given .1) (w .walks .ensures)
+    call-passed (k .check-resume-from .ensures) _ _ (t .enum-told .given .1) (w .walk-from .ensures)
 
 pub resumed-from-spec : {M : Type 1} → statement M
 resumed-from-spec =
@@ -36,7 +36,7 @@ resumed-from-spec =
     (λ c. search needs)
     (λ c κs. search needs)
     (λ c. search needs)
-    walks-requires
+    walk-from-requires
     (λ c. search needs)
     (λ c. search needs)
     (λ c. search needs)

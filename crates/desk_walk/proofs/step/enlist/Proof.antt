@@ -3,8 +3,8 @@ use borrow.Author.Needs.{needs}
 use denote.Ref.{now}
 use mathlib.Core.Path.{refl}
 use native.Mathlib.Omega.{arith}
-use Rattle.desk_walk.specs.Listing as listing
-use Rattle.desk_walk.specs.Listing.{capacity-small, freed-listed, kept-place, kept-size, next-fits}
+use Rattle.desk_walk.specs.Enlisting as enlisting
+use Rattle.desk_walk.specs.Enlisting.{capacity-small, freed-listed, kept-place, kept-size, next-fits}
 use Rattle.desk_walk.proofs.step.enlist.Statement.{statement}
 use Rattle.desk_walk.proofs.step.enlist.Tie as tie
 
@@ -24,13 +24,13 @@ returns : tie.Need-returns
 returns c =
     let w = c .before .before in
     let t = w .before .before in
-    listing.roomy (t .if1 .taken) refl (w .write .ensures)
+    enlisting.roomy (t .if1 .taken) refl (w .write .ensures)
 
 returns-2 : tie.Need-returns-2
 returns-2 c =
     let w = c .before .before .before in
     let e = w .before .before in
-    listing.full (e .if1 .left) (rw (w .sweep .ensures .counted) at (c .if2 .taken)) refl (w .sweep .ensures .rows)
+    enlisting.full (e .if1 .left) (rw (w .sweep .ensures .counted) at (c .if2 .taken)) refl (w .sweep .ensures .rows)
 
 mul-write-2 : tie.Need-mul-write-2
 mul-write-2 c =

@@ -6,7 +6,7 @@ use lib.ListN.{length}
 use denote.Ref.{now}
 use Rattle.equation_spec.specs.PlaceLaws.{unplaced-reads}
 use Rattle.equation_read.specs.RoomLaws.{skip-left, less-left}
-use Rattle.equation_read.specs.SideLaws.{zeros, zeros-small, left-stopped, middle, right-stopped, both, sides-steep, sides-taken}
+use Rattle.equation_read.specs.SideLaws.{zeros, zeros-small, left-stopped, middle, right-stopped, both, sides-exceed, sides-taken}
 use borrow.Author.Needs.{needs}
 use Rattle.equation_read.proofs.equation.read_sides.Statement.{statement}
 use Rattle.equation_read.proofs.equation.read_sides.Tie as tie
@@ -50,7 +50,7 @@ returns c = let o = c .before in
     (rw (n .next .given .1) at (r .read-sum .ensures .0)) (k .skip .ensures) in
     let b = both (s .args .q) (s .pre .2) e (now (s .args .text)) w a (k₂ .skip2 .result) (k₂ .skip2 .ensures)
     (rw (m .more .given .1) at (r₂ .read-sum2 .ensures .0)) in
-    sides-steep (s .args .q) (s .pre .2) e (now (s .args .text)) w a (k₂ .skip2 .result) (k₂ .skip2 .ensures) b (now (s .args .row))
+    sides-exceed (s .args .q) (s .pre .2) e (now (s .args .text)) w a (k₂ .skip2 .result) (k₂ .skip2 .ensures) b (now (s .args .row))
     (sym (o .either .ensures) ∙ c .if1 .taken)
 
 returns-2 : tie.Need-returns-2

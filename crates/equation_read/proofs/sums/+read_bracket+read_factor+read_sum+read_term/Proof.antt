@@ -45,7 +45,7 @@ use Rattle.equation_read.proofs.bytes.skip.Reads as skip-reads
 use Rattle.equation_read.proofs.bytes.stands.Reads as stands-reads
 use Rattle.equation_read.proofs.totals.add_at.Reads as add-at-reads
 use Rattle.equation_read.proofs.totals.either.Reads as either-reads
-use Rattle.equation_read.proofs.totals.is_steep.Reads as is-steep-reads
+use Rattle.equation_read.proofs.totals.out_of_range.Reads as out-of-range-reads
 use Rattle.equation_read.proofs.totals.scaled.Reads as scaled-reads
 use Rattle.equation_read.proofs.totals.signed.Reads as signed-reads
 use Rattle.equation_read.proofs.totals.within.Reads as within-reads
@@ -114,8 +114,8 @@ read-bracket-calls t = (
   read-sum.Post,
   stands-reads.Asked,
   stands-reads.Learnt,
-  is-steep-reads.Asked,
-  is-steep-reads.Learnt,
+  out-of-range-reads.Asked,
+  out-of-range-reads.Learnt,
   either-reads.Asked,
   either-reads.Learnt,
 )
@@ -229,8 +229,8 @@ read-bracket-add-t19 t c = let k₂ = c .before .before in
     let s = k₂ .before .before .before .before .before .before .before .before .before .before in
     omega (arith, starts-inside (now (s .args .text)) (k₂ .skip2 .result) 41 (sym (c .before .stands .ensures) ∙ not-false _ (c .if2 .left)), s .good)
 
-read-bracket-is-steep-requires : (t : ℕ) → read-bracket-lts.Need-is-steep-requires (read-bracket-calls t) (read-bracket-at t) read-bracket.Post
-read-bracket-is-steep-requires t c κs = tt
+read-bracket-out-of-range-requires : (t : ℕ) → read-bracket-lts.Need-out-of-range-requires (read-bracket-calls t) (read-bracket-at t) read-bracket.Post
+read-bracket-out-of-range-requires t c κs = tt
 
 read-bracket-either-requires : (t : ℕ) → read-bracket-lts.Need-either-requires (read-bracket-calls t) (read-bracket-at t) read-bracket.Post
 read-bracket-either-requires t c κs = tt
@@ -264,7 +264,7 @@ read-bracket-returns-4 t c = let p = c .before in
     let x = sym (l .before .stands .ensures) ∙ not-false _ (l .if2 .left) in
     let y = skip-left text (s .args .at) (k .skip .result) (k .skip .ensures) in
     let v = skip-left text (n .next .given .0 .0) (k₂ .skip2 .result) (k₂ .skip2 .ensures) in (
-      rw (c .either .ensures, p .is-steep .ensures, toZ-ofZ (s .fits .times))
+      rw (c .either .ensures, p .out-of-range .ensures, toZ-ofZ (s .fits .times))
           (bracket-closed
           (s .args .q) (s .args .depth) (s .args .times) (now (s .args .totals)) text (s .args .at) (k .skip .result) (k .before .if1 .left) (k .skip .ensures)
           (n .next .given .0 .0) (k₂ .skip2 .result) h (k₂ .skip2 .ensures) x),
@@ -357,11 +357,11 @@ read-factor-returns-4 t c = let v = c .before .before .before in
     )
 
 abbrev read-sum-Inv-loop : read-sum-lts.InvT-loop
-read-sum-Inv-loop text at q depth times totals₀ next₀ minus₀ steep₀ totals next minus steep =
-    Due q depth text at (toZ w64 times) totals₀ totals next minus steep
+read-sum-Inv-loop text at q depth times totals₀ next₀ minus₀ exceeds₀ totals next minus exceeds =
+    Due q depth text at (toZ w64 times) totals₀ totals next minus exceeds
 
 abbrev read-sum-μ-loop : read-sum-lts.MeasureT-loop
-read-sum-μ-loop text at q depth times totals₀ next₀ minus₀ steep₀ totals next minus steep = length text - next
+read-sum-μ-loop text at q depth times totals₀ next₀ minus₀ exceeds₀ totals next minus exceeds = length text - next
 
 read-sum-after-sign-requires : (t : ℕ)
     → read-sum-lts.Need-after-sign-requires (read-sum-calls t) (read-sum-at t) read-sum.Post read-sum-Inv-loop read-sum-μ-loop
@@ -656,7 +656,7 @@ pub +read-bracket+read-factor+read-sum+read-term-spec : {M : Type 1} → stateme
     (read-bracket-stands-requires t)
     (read-bracket-returns-2 t)
     (read-bracket-add-t19 t)
-    (read-bracket-is-steep-requires t)
+    (read-bracket-out-of-range-requires t)
     (read-bracket-either-requires t)
     (read-bracket-returns-3 t)
     (read-bracket-returns-4 t))

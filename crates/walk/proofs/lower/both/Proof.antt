@@ -18,10 +18,10 @@ use Rattle.walk.specs.Lower.{change-made, change-valid, changed-walk, en
 use Rattle.walk.proofs.lower.both.Statement.{statement}
 use Rattle.walk.proofs.lower.both.Tie as tie
 
-abbrev startOf : tie.After-walk → tie.Start
+abbrev startOf : tie.After-walk-system → tie.Start
 startOf w = w .before .before .before .before .before .before .before .before .before .before
 
-abbrev walkOf : tie.After-part → tie.After-walk
+abbrev walkOf : tie.After-part → tie.After-walk-system
 walkOf p = p .before .before .before .before .before .before .before
 
 abbrev inputAt : tie.Start → Input
@@ -31,11 +31,11 @@ abbrev stateAt : tie.Start → State
 stateAt s = let a = s .args in stateWith (now (a .stack)) (now (a .list)) (now (a .second)) (a .r)
 
 -- what the definitions say of the plain walk
-abbrev meant : tie.After-walk → Outcome State
+abbrev meant : tie.After-walk-system → Outcome State
 meant w = let s = startOf w in plainly (now (s .args .lower)) (inputAt s) (stateAt s) (s .pre .0) (s .pre .1) (s .args .budget)
 
 -- the walk that was made is that one
-made : (w : tie.After-walk) → let s = startOf w in let a = s .args in let l = w .before .before .before .before .before in
+made : (w : tie.After-walk-system) → let s = startOf w in let a = s .args in let l = w .before .before .before .before .before in
     walk (a .budget) (machineOf (λ t. paper.go) (systemWith plain (a .p) (a .q) (now (a .coefs)) (l .limit-of .result)))
     (stateWith (now (a .stack)) (now (a .second)) (now (a .list)) (w .before .plain-part .result))
     ≡ meant w
@@ -48,8 +48,8 @@ made w =
     (stateWith (now (a .stack)) (now (a .second)) (now (a .list)) r))
     (w .before .plain-part .ensures)
 
-walk-requires : tie.Need-walk-requires
-walk-requires c κs =
+walk-system-requires : tie.Need-walk-system-requires
+walk-system-requires c κs =
     let l = c .before .before .before .before in
     let s = l .before .before .before .before .before in
     (rw (c .plain-part .ensures, l .limit-of .ensures) (plain-valid (now (s .args .lower)) (inputAt s) (stateAt s) (s .pre .1) (s .pre .0)), tt)
@@ -59,14 +59,14 @@ sub-left : tie.Need-sub-left
 sub-left c =
     let w = walkOf (c .before .before .before) in
     let s = startOf w in
-    let e = ap (λ o. o .state .run .steps) (w .walk .ensures (λ t. paper.go) ∙ made w) in
+    let e = ap (λ o. o .state .run .steps) (w .walk-system .ensures (λ t. paper.go) ∙ made w) in
     omega (arith, e, steps-more (now (s .args .lower)) (inputAt s) (stateAt s) (s .pre .0) (s .pre .1) (s .args .budget) .0)
 
 sub-left-2 : tie.Need-sub-left-2
 sub-left-2 c =
     let w = walkOf (c .before .before .before) in
     let s = startOf w in
-    let e = ap (λ o. o .state .run .steps) (w .walk .ensures (λ t. paper.go) ∙ made w) in
+    let e = ap (λ o. o .state .run .steps) (w .walk-system .ensures (λ t. paper.go) ∙ made w) in
     let m = steps-more (now (s .args .lower)) (inputAt s) (stateAt s) (s .pre .0) (s .pre .1) (s .args .budget) in
     omega (arith, e, m .0, m .1)
 
@@ -74,7 +74,7 @@ write-lower-requires : tie.Need-write-lower-requires
 write-lower-requires c κs =
     let w = walkOf (c .before .before .before .before) in
     let s = startOf w in
-    let e = ap (λ o. length (o .state .stack)) (w .walk .ensures (λ t. paper.go) ∙ made w) in
+    let e = ap (λ o. length (o .state .stack)) (w .walk-system .ensures (λ t. paper.go) ∙ made w) in
     let f = first-row (now (s .args .lower)) (inputAt s) (stateAt s) (s .pre .0) (s .pre .1) (s .args .budget) in
     (omega (arith, e, f .0), f .1)
 
@@ -83,8 +83,8 @@ further-requires c κs =
     let l = c .before .before .before .before .before .before in
     let w = walkOf (l .before .before .before .before .before) in
     let s = startOf w in
-    let told = w .walk .ensures (λ t. paper.go) ∙ made w in
-    let m = change-made (now (s .args .lower)) (inputAt s) (stateAt s) (s .pre .0) (s .pre .1) (s .args .budget) (w .walk .result) told
+    let told = w .walk-system .ensures (λ t. paper.go) ∙ made w in
+    let m = change-made (now (s .args .lower)) (inputAt s) (stateAt s) (s .pre .0) (s .pre .1) (s .args .budget) (w .walk-system .result) told
     (l .write-lower .ensures) (c .lowered .ensures) in
     let v = change-valid (now (s .args .lower)) (inputAt s) (stateAt s) (s .pre .0) (s .pre .1) (s .args .budget) in
     (subst (ValidFrom (now (s .args .lower)) (inputAt s)) (sym m) v, ap (λ r. kindOf (r .kind)) (c .lowered .ensures))
@@ -94,7 +94,7 @@ returns c =
     let w = walkOf (c .before .before .before) in
     let s = startOf w in
     rw (c .whole .ensures)
-    (ended-by (now (s .args .lower)) (inputAt s) (stateAt s) (s .pre .0) (s .pre .1) (s .args .budget) _ (w .walk .ensures (λ t. paper.go) ∙ made w)
+    (ended-by (now (s .args .lower)) (inputAt s) (stateAt s) (s .pre .0) (s .pre .1) (s .args .budget) _ (w .walk-system .ensures (λ t. paper.go) ∙ made w)
     (c .before .enum-told .given .1) refl (λ e. let z : _≡_ {A = ℕ} 0 1 = cc in omega arith))
 
 same-length-4 : tie.Need-same-length-4
@@ -102,21 +102,21 @@ same-length-4 c =
     let f = c .before .before .before .before .before .before in
     let l = f .before .before .before .before .before .before .before in
     let w = walkOf (l .before .before .before .before .before) in
-    f .further .kept .1 .1 .1 .1 .0 ∙ l .write-lower .kept .0 ∙ w .walk .kept .1 .1 .1 .1 .0
+    f .further .kept .1 .1 .1 .1 .0 ∙ l .write-lower .kept .0 ∙ w .walk-system .kept .1 .1 .1 .1 .0
 
 same-length-5 : tie.Need-same-length-5
 same-length-5 c =
     let f = c .before .before .before .before .before .before in
     let l = f .before .before .before .before .before .before .before in
     let w = walkOf (l .before .before .before .before .before) in
-    f .further .kept .1 .1 .1 .1 .1 .0 ∙ w .walk .kept .1 .1 .1 .1 .1 .1 .0
+    f .further .kept .1 .1 .1 .1 .1 .0 ∙ w .walk-system .kept .1 .1 .1 .1 .1 .1 .0
 
 same-length-6 : tie.Need-same-length-6
 same-length-6 c =
     let f = c .before .before .before .before .before .before in
     let l = f .before .before .before .before .before .before .before in
     let w = walkOf (l .before .before .before .before .before) in
-    f .further .kept .1 .1 .1 .1 .1 .1 .0 ∙ w .walk .kept .1 .1 .1 .1 .1 .0
+    f .further .kept .1 .1 .1 .1 .1 .1 .0 ∙ w .walk-system .kept .1 .1 .1 .1 .1 .0
 
 returns-2 : tie.Need-returns-2
 returns-2 c =
@@ -126,13 +126,13 @@ returns-2 c =
     let t = l .before .before .before in
     let w = walkOf (t .before .before) in
     let s = startOf w in
-    let told = w .walk .ensures (λ t. paper.go) ∙ made w in
+    let told = w .walk-system .ensures (λ t. paper.go) ∙ made w in
     let m = steps-more (now (s .args .lower)) (inputAt s) (stateAt s) (s .pre .0) (s .pre .1) (s .args .budget) in
     let counted = ap (λ o. o .state .run .steps) told in
-    let left : ℕ = s .args .budget - (w .walk .result .run .steps .0 - s .args .r .before .0) in
+    let left : ℕ = s .args .budget - (w .walk-system .result .run .steps .0 - s .args .r .steps2 .0) in
     f .further .ensures
     ∙ ap (walk left (machineFrom (now (s .args .lower)) (inputAt s)))
-    (change-made (now (s .args .lower)) (inputAt s) (stateAt s) (s .pre .0) (s .pre .1) (s .args .budget) (w .walk .result) told
+    (change-made (now (s .args .lower)) (inputAt s) (stateAt s) (s .pre .0) (s .pre .1) (s .args .budget) (w .walk-system .result) told
     (l .write-lower .ensures) (k .lowered .ensures))
     ∙ changed-walk (now (s .args .lower)) (inputAt s) (stateAt s) (s .pre .0) (s .pre .1) (s .args .budget)
     (sym (ap (λ o. o .answer) told) ∙ ap answerOf (t .enum-told2 .given .1)) left (omega (arith, counted, m .0, m .1))
@@ -142,7 +142,7 @@ returns-3 c =
     let w = walkOf (c .before .before .before) in
     let s = startOf w in
     rw (c .whole2 .ensures)
-    (ended-by (now (s .args .lower)) (inputAt s) (stateAt s) (s .pre .0) (s .pre .1) (s .args .budget) _ (w .walk .ensures (λ t. paper.go) ∙ made w)
+    (ended-by (now (s .args .lower)) (inputAt s) (stateAt s) (s .pre .0) (s .pre .1) (s .args .budget) _ (w .walk-system .ensures (λ t. paper.go) ∙ made w)
     (c .before .enum-told3 .given .1) refl (λ e. let z : _≡_ {A = ℕ} 0 1 = cc in omega arith))
 
 returns-4 : tie.Need-returns-4
@@ -150,7 +150,7 @@ returns-4 c =
     let w = walkOf (c .before .before .before .before) in
     let s = startOf w in
     rw (c .whole3 .ensures)
-    (ended-by (now (s .args .lower)) (inputAt s) (stateAt s) (s .pre .0) (s .pre .1) (s .args .budget) _ (w .walk .ensures (λ t. paper.go) ∙ made w)
+    (ended-by (now (s .args .lower)) (inputAt s) (stateAt s) (s .pre .0) (s .pre .1) (s .args .budget) _ (w .walk-system .ensures (λ t. paper.go) ∙ made w)
     (c .before .before .answer .given .1) refl (λ e. let z : _≡_ {A = ℕ} 0 1 = cc in omega arith))
 
 pub both-spec : {M : Type 1} → statement M
@@ -159,7 +159,7 @@ both-spec =
     (tie.spec
     (λ c κs. search needs)
     (λ c κs. search needs)
-    walk-requires
+    walk-system-requires
     (λ c. search needs)
     (λ c κs. search needs)
     (λ c. search needs)

@@ -21,8 +21,8 @@ inputAt s = let a = s .args in inputWith alone (a .limit) (a .p) (a .q) (now (a 
 abbrev stateAt : tie.Start → State
 stateAt s = let a = s .args in stateWith (now (a .stack)) (now (a .list)) (now (a .second)) (a .r)
 
-walk-requires : tie.Need-walk-requires
-walk-requires c κs =
+walk-system-requires : tie.Need-walk-system-requires
+walk-system-requires c κs =
     let l = c .before .before .before in
     let s = l .before .before .before .before .before in
     (rw (l .limit-of .ensures) (above-valid (now (s .args .lower)) (inputAt s) (stateAt s) (s .pre .1) (s .pre .0)), omega (arith, s .pre .0 .long))
@@ -36,10 +36,10 @@ returns c =
     let l = w .before .before .before .before in
     let s = l .before .before .before .before .before in
     let a = s .args in
-    w .walk .ensures unasked
+    w .walk-system .ensures unasked
     ∙ ap (λ most. walk (a .budget) (machineOf unasked (systemWith (above (boundOf (now (a .lower)))) (a .p) (a .q) (now (a .coefs)) most)) (stateAt s))
     (l .limit-of .ensures)
     ∙ sym (above-walks unasked (now (a .lower)) (inputAt s) (a .budget) (stateAt s) (s .pre .1))
 
 pub further-spec : {M : Type 1} → statement M
-further-spec = tie.close (tie.spec (λ c κs. search needs) walk-requires (λ c. search needs) (λ c. search needs) (λ c. search needs) returns)
+further-spec = tie.close (tie.spec (λ c κs. search needs) walk-system-requires (λ c. search needs) (λ c. search needs) (λ c. search needs) returns)

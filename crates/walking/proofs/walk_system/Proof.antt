@@ -1,4 +1,4 @@
--- `walk` meets its contract. The walk from the first state is, at each turn, the walk from the state reached with the budget left. The measure is
+-- `walk_system` meets its contract. The walk from the first state is, at each turn, the walk from the state reached with the budget left. The measure is
 -- the number of steps until the call stops. Assumes nothing.
 use mathlib.Core.Path.{_≡_, refl, sym, _∙_, ap}
 use mathlib.Core.Logic.{inl, inr}
@@ -32,15 +32,15 @@ use Rattle.walking.specs.WalkLaws.{
   turn-listed₂,
   turn-refused,
 }
-use Rattle.walking.proofs.walk.Statement.{statement}
-use Rattle.walking.proofs.walk.Tie as tie
+use Rattle.walking.proofs.walk_system.Statement.{statement}
+use Rattle.walking.proofs.walk_system.Tie as tie
 
 abbrev Inv-loop : tie.InvT-loop
 Inv-loop kind p q coefs stack₀ list₀ second₀ lower r budget limit first stop height₀ found₀ steps₀ other₀ deepest₀ gram inner₀ sums₀ top₀ stack list second
     height found steps other deepest inner sums top =
     (length stack ≡ length stack₀) × (length list ≡ length list₀) × (length second ≡ length second₀)
     × Walking (systemWith (kindBy kind lower) p q coefs limit) gram budget (stateWith stack₀ list₀ second₀ r) (first + budget - steps)
-    (beside (asked stack list second height found other) (kindOf (r .kind)) steps (r .before .0) deepest) inner sums
+    (beside (asked stack list second height found other) (kindOf (r .kind)) steps (r .steps2 .0) deepest) inner sums
     × (length top ≡ 16)
     × (steps ≤ stop)
     × (first ≤ steps)
@@ -156,7 +156,7 @@ take-requires c κs =
     let w = a l .loop .inv .3 in
     let g = grammed (a l) in
     let r = s l .args .r in (
-      standing (told (a l)) (kindOf (r .kind)) (a l .loop .steps) (r .before .0) (a l .loop .deepest) (w .valid)
+      standing (told (a l)) (kindOf (r .kind)) (a l .loop .steps) (r .steps2 .0) (a l .loop .deepest) (w .valid)
           (gram-small (small-coefs (s l .pre .0)) (g .write-gram .ensures)) (w .cached) (w .summed) (l .loop-test .taken),
       (s l .pre .1, omega (arith, a l .loop .inv .4, s l .pre .0 .shaped .q-few)),
     )
@@ -179,7 +179,7 @@ module _ (t : tie.After-take Inv-loop μ-loop) where
   more = omega (arith, e .if1 .left, stop-is l, a l .loop .inv .5, a l .loop .inv .6)
 
   deep : max (a l .loop .deepest) (getD (a l .loop .sums) (a l .loop .height - 1) 0)
-      ≡ deeper (s l .args .q) (beside (told (a l)) (kindOf (r .kind)) (a l .loop .steps) (r .before .0) (a l .loop .deepest))
+      ≡ deeper (s l .args .q) (beside (told (a l)) (kindOf (r .kind)) (a l .loop .steps) (r .steps2 .0) (a l .loop .deepest))
       (top (systemWith (kindBy (s l .args .kind) (now (s l .args .lower))) (s l .args .p) (s l .args .q) (now (s l .args .coefs)) (s l .args .limit))
       (told (a l)))
   deep = ap (max (a l .loop .deepest)) (a l .loop .inv .3 .summed .levels (a l .loop .height - 1) (omega (arith, l .loop-test .taken)))
@@ -189,7 +189,7 @@ add-found c =
     let t = c .before .before .before .before .before .before .before .before .before in
     let l = l t in
     let r = s l .args .r in
-    let next = turn-listed (told (a l)) (kindOf (r .kind)) (a l .loop .steps) (r .before .0) (a l .loop .deepest) (a l .loop .inv .3)
+    let next = turn-listed (told (a l)) (kindOf (r .kind)) (a l .loop .steps) (r .steps2 .0) (a l .loop .deepest) (a l .loop .inv .3)
     (grammed (a l) .write-gram .ensures) (l .loop-test .taken) (more t) (early t) (t .take .ensures) (c .enum-told .given .1) refl refl refl refl in
     omega (arith, found-small (next .valid), t .take .kept .1 .1 .1 .1 .0, a l .loop .inv .1, s l .good .1 .1 .1 .1 .1 .0)
 
@@ -198,7 +198,7 @@ add-other c =
     let t = c .before .before .before .before .before .before .before .before .before in
     let l = l t in
     let r = s l .args .r in
-    let small = second-small (told (a l)) (kindOf (r .kind)) (a l .loop .steps) (r .before .0) (a l .loop .deepest) (a l .loop .inv .3)
+    let small = second-small (told (a l)) (kindOf (r .kind)) (a l .loop .steps) (r .steps2 .0) (a l .loop .deepest) (a l .loop .inv .3)
     (grammed (a l) .write-gram .ensures) (l .loop-test .taken) (more t) (early t) (t .take .ensures) (c .enum-told2 .given .1) in
     omega (arith, small, a l .loop .inv .2, s l .good .1 .1 .1 .1 .1 .1 .0)
 
@@ -222,7 +222,7 @@ returns-3 c checks =
     let l = l t in
     let r = s l .args .r in
     rw (c .left3 .ensures)
-    (sym (turn-refused (told (a l)) (kindOf (r .kind)) (a l .loop .steps) (r .before .0) (a l .loop .deepest) (a l .loop .inv .3)
+    (sym (turn-refused (told (a l)) (kindOf (r .kind)) (a l .loop .steps) (r .steps2 .0) (a l .loop .deepest) (a l .loop .inv .3)
     (grammed (a l) .write-gram .ensures) (l .loop-test .taken) (more t) (early t) (t .take .ensures) checks (y .why .given .1)))
 
 -- the turn of the end of a turn
@@ -249,12 +249,12 @@ loop-again c =
       t .take .kept .1 .1 .1 .1 .0 ∙ a l .loop .inv .1,
       t .take .kept .1 .1 .1 .1 .1 .0 ∙ a l .loop .inv .2,
       elim (c .match .came) [
-        | inl (match, known, eh, ef, e₂) ↦ turn-listed (told (a l)) (kindOf (r .kind)) (a l .loop .steps) (r .before .0) (a l .loop .deepest) w g
+        | inl (match, known, eh, ef, e₂) ↦ turn-listed (told (a l)) (kindOf (r .kind)) (a l .loop .steps) (r .steps2 .0) (a l .loop .deepest) w g
             (l .loop-test .taken) (more t) (early t) (t .take .ensures) (known .given .1) eh ef e₂ d
         | inr o ↦ elim o [
-          | inl (match, known, eh, ef, e₂) ↦ turn-listed₂ (told (a l)) (kindOf (r .kind)) (a l .loop .steps) (r .before .0) (a l .loop .deepest) w g
+          | inl (match, known, eh, ef, e₂) ↦ turn-listed₂ (told (a l)) (kindOf (r .kind)) (a l .loop .steps) (r .steps2 .0) (a l .loop .deepest) w g
               (l .loop-test .taken) (more t) (early t) (t .take .ensures) (known .given .1) eh ef e₂ d
-          | inr (match, n, known, eh, ef, e₂) ↦ turn-grown (told (a l)) (kindOf (r .kind)) (a l .loop .steps) (r .before .0) (a l .loop .deepest) w g
+          | inr (match, n, known, eh, ef, e₂) ↦ turn-grown (told (a l)) (kindOf (r .kind)) (a l .loop .steps) (r .steps2 .0) (a l .loop .deepest) w g
               (l .loop-test .taken) (more t) (early t) (t .take .ensures) (n .given .1) eh ef e₂ d
         ]
       ],
@@ -268,8 +268,8 @@ returns-4 c checks =
     let x = c .before in
     rw (c .left4 .ensures) (sym (ends-complete (x .before .loop .inv .3) checks (omega (arith, x .loop-test .left))))
 
-pub walk-spec : {M : Type 1} → statement M
-walk-spec =
+pub walk-system-spec : {M : Type 1} → statement M
+walk-system-spec =
     tie.close
     (tie.spec
     Inv-loop

@@ -1,5 +1,5 @@
--- `walk` meets its contract. The walk from the first state is, at each turn, the walk from the state reached with the budget left. The measure is that budget.
--- Assumes nothing.
+-- `walk_desk` meets its contract. The walk from the first state is, at each turn, the walk from the state reached with the budget left. The measure is
+-- that budget. Assumes nothing.
 use Prim.Native.Nat.{ℕ, _<_}
 use borrow.Author.Needs.{needs}
 use denote.Ref.{now}
@@ -14,8 +14,8 @@ use Rattle.desk_rows.specs.Images.{Images}
 use Rattle.desk_walk.specs.Taking.{shaped-small, stateAt}
 use Rattle.desk_walk.specs.Turning.{deeper, found-place, held-small, images-stay, standing, top-row, turn-grown, turn-listed, turn-refused}
 use Rattle.desk_walk.specs.Walking.{Walking, ends-complete, ends-late, ends-paused, swept-is, walking-none}
-use Rattle.desk_walk.proofs.walk.Statement.{statement}
-use Rattle.desk_walk.proofs.walk.Tie as tie
+use Rattle.desk_walk.proofs.walk_desk.Statement.{statement}
+use Rattle.desk_walk.proofs.walk_desk.Tie as tie
 
 abbrev Inv-loop : tie.InvT-loop
 Inv-loop p q coefs generators stack₀ list₀ r budget height₀ found₀ steps₀ deepest₀ second n images₀ top₀ child₀ left₀ stack list height found steps deepest
@@ -184,8 +184,8 @@ returns-4 c =
     let zero = ends-complete (desk (begun a)) (a .loop .inv .2) (omega (arith, f .loop-test .left)) in
     rw (c .left4 .ensures) (sym (zero ∙ ap (λ t. record { answer = complete; state = t }) (swept-is _ _ (w .sweep .ensures))))
 
-pub walk-spec : {M : Type 1} → statement M
-walk-spec =
+pub walk-desk-spec : {M : Type 1} → statement M
+walk-desk-spec =
     tie.close
     (tie.spec Inv-loop μ-loop div-n write-all-requires loop-holds (λ c κs. search needs) (λ c. search needs) (λ c. search needs) returns (λ c κs. search needs)
     (λ c. search needs)

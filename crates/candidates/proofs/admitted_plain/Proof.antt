@@ -1,4 +1,4 @@
--- `children` meets its contract. The marks so far are those of the unknowns passed. Assumes nothing.
+-- `admitted_plain` meets its contract. The marks so far are those of the unknowns passed. Assumes nothing.
 use mathlib.Core.Path.{_≡_, refl, sym, _∙_, ap}
 use mathlib.Core.Logic.{_≢_}
 use mathlib.Core.Bool.{Bool, true, false, _&&_, and-false}
@@ -34,8 +34,8 @@ use Rattle.products.specs.Marks.{any-zero}
 use Rattle.candidates.specs.Tried.{tried-large, tried-made}
 use Rattle.candidates.specs.Grow.{childBy}
 use Rattle.candidates.specs.GrowLaws.{closed-makes-none, covered-makes-none, makes-one}
-use Rattle.candidates.proofs.children.Statement.{statement}
-use Rattle.candidates.proofs.children.Tie as tie
+use Rattle.candidates.proofs.admitted_plain.Statement.{statement}
+use Rattle.candidates.proofs.admitted_plain.Tie as tie
 
 abbrev Inv-loop : tie.InvT-loop
 Inv-loop list found q t₀ candidates limit made₀ rest₀ t made rest =
@@ -183,8 +183,8 @@ returns-2 c =
     let left = rw (c .loop-test .left) at (a .loop .inv .2) in
     (tried-made _ _ _ _ (none-end left (large s) (closed-large s) (a .loop .inv .4)) (left-end left (child s) (closed s) (a .loop .inv .3)), a .loop .inv .0)
 
-pub children-spec : {M : Type 1} → statement M
-children-spec =
+pub admitted-plain-spec : {M : Type 1} → statement M
+admitted-plain-spec =
     tie.close
     (tie.spec Inv-loop μ-loop loop-holds (λ c. omega (arith, inside c, begun c .pre .0 .1)) (λ c. omega (arith, inside c, begun c .pre .0 .1))
     (λ c. omega (arith, inside c, begun c .pre .0 .1)) (λ c. next-le (c .before .loop .inv .2) (begun c .pre .0 .1) (some c)) blocked-requires

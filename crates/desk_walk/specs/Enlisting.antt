@@ -13,8 +13,8 @@ use Rattle.laws.specs.Again.{swept-length}
 use Rattle.laws.specs.Sweep.{keeps, sweptTo}
 use Rattle.table_rows.specs.Keeping.{Kept}
 use Rattle.calls.specs.declared.Refusal.the-variants.{ListFull}
-use Rattle.desk_walk.specs.declared.step.Stepped.{Stepped}
-use Rattle.desk_walk.specs.declared.step.Stepped.the-variants.{Listed, Refused}
+use Rattle.desk_walk.specs.declared.step.DeskStepped.{DeskStepped}
+use Rattle.desk_walk.specs.declared.step.DeskStepped.the-variants.{Listed, Refused}
 
 -- the rows that a sweep leaves, and their number
 abbrev pub sweptList : ℕ → ℕ → List ℕ → List ℕ
@@ -25,7 +25,7 @@ sweptCount q found list = countTo found (keeps q found (at list q))
 
 -- the answer and the list afterwards: a list with room takes x as its next row; of a full one the rows that a sweep leaves are counted, and then it takes x, or
 -- there is no room
-pub data Enlisted (q found : ℕ) (x : ℕ → ℕ) (list after : List ℕ) (answer : Stepped) : Type 0 where
+pub data Enlisted (q found : ℕ) (x : ℕ → ℕ) (list after : List ℕ) (answer : DeskStepped) : Type 0 where
   roomy : found < capacity q list → answer ≡ Listed (found + 1) → after ≡ writeTo q list (found * q) x → Enlisted q found x list after answer
   freed : capacity q list ≤ found → sweptCount q found list < capacity q list → answer ≡ Listed (sweptCount q found list + 1)
       → after ≡ writeTo q (sweptList q found list) (sweptCount q found list * q) x → Enlisted q found x list after answer

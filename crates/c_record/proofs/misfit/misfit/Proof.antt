@@ -1,9 +1,9 @@
--- `misfit` meets its contract: the check of a continuing call refuses, and its refusal is told. Assumes nothing.
+-- `c_record::misfit::misfit` meets its contract: the check of a continuing call refuses, and its refusal is told. Assumes nothing.
 use borrow.Author.Needs.{needs}
 use Rattle.c_record.specs.Words.{resumeWords}
 use Rattle.c_record.specs.WordLaws.{misfit-fits, misfit-never-passes, misfit-told}
-use Rattle.c_walk.proofs.misfit.Statement.{statement}
-use Rattle.c_walk.proofs.misfit.Tie as tie
+use Rattle.c_record.proofs.misfit.misfit.Statement.{statement}
+use Rattle.c_record.proofs.misfit.misfit.Tie as tie
 
 refusal-requires : tie.Need-refusal-requires
 refusal-requires c κs =

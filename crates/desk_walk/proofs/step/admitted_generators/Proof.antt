@@ -1,4 +1,4 @@
--- `children` meets its contract. The generators passed have been tried. Assumes nothing.
+-- `admitted_generators` meets its contract. The generators passed have been tried. Assumes nothing.
 use Prim.Native.Nat.{_*_, _≤_, _<_, _-_}
 use borrow.Author.Needs.{needs}
 use borrow.Author.Tests.{not-false, not-true}
@@ -9,8 +9,8 @@ use native.Mathlib.Nat.{le-antisymm}
 use native.Mathlib.Omega.{arith}
 use Rattle.desk_walk.specs.Trying.{Tries, generator-row, marks-room, tries-all, tries-closed, tries-covered, tries-large, tries-made, tries-none}
 use Rattle.table_rows.specs.Small.{SmallRow}
-use Rattle.desk_walk.proofs.step.children.Statement.{statement}
-use Rattle.desk_walk.proofs.step.children.Tie as tie
+use Rattle.desk_walk.proofs.step.admitted_generators.Statement.{statement}
+use Rattle.desk_walk.proofs.step.admitted_generators.Tie as tie
 
 abbrev Inv-loop : tie.InvT-loop
 Inv-loop p q generators n images list found top child₀ marks made₀ next₀ child made next =
@@ -118,8 +118,8 @@ loop-again-3 c =
 returns-2 : tie.Need-returns-2 Inv-loop μ-loop
 returns-2 c = let a = c .before in tries-all _ _ _ _ _ _ _ _ (rw (le-antisymm (a .loop .inv .0) (c .loop-test .left)) at (a .loop .inv .2))
 
-pub children-spec : {M : Type 1} → statement M
-children-spec =
+pub admitted-generators-spec : {M : Type 1} → statement M
+admitted-generators-spec =
     tie.close
     (tie.spec Inv-loop μ-loop loop-holds (λ c. search needs) is-open-requires (λ c. search needs) loop-again mul-add add-requires covered-requires
     (λ c. search needs) loop-again-2

@@ -76,7 +76,7 @@ module _ (w : ℕ) (s : State) (y : ℕ → ℕ) where
   second-answer true = refl
   second-answer false = refl
 
-  second-after : (full : Bool) → listAfter full w (s .run .found₂) y (s .second) ≡ listsAfter true full w s y .second
+  second-after : (full : Bool) → listAfter full w (s .run .found2) y (s .second) ≡ listsAfter true full w s y .second
   second-after true = refl
   second-after false = refl
 
@@ -115,13 +115,13 @@ module _ (q : ℕ) (s : State) (x : ℕ → ℕ) where
         other = rw z (first-other (q - 1) s (rest x) full);
       }
 
-  pub enlisted-one : 0 < x 0 → {after : List ℕ} {r : Stepped} → Appended (q - 1) (s .run .found₂) (part 1 x) (s .second) after ListedSecond r
+  pub enlisted-one : 0 < x 0 → {after : List ℕ} {r : Stepped} → Appended (q - 1) (s .run .found2) (part 1 x) (s .second) after ListedSecond r
       → Enlisted capped q s x (s .list) after r
   enlisted-one z {after} {r} a =
-      let full = isFull (q - 1) (s .run .found₂) (s .second) in
+      let full = isFull (q - 1) (s .run .found2) (s .second) in
       let one : leb 1 (x 0) ≡ true = le-leb 1 (x 0) (omega arith) in
       record {
         answers = rw one (a .answers ∙ second-answer (q - 1) s (rest x) full);
         first = rw one (second-other (q - 1) s (rest x) full);
-        other = rw one (a .leaves ∙ after-same full (q - 1) (s .run .found₂) (s .second) (λ j _. ap x (omega arith)) ∙ second-after (q - 1) s (rest x) full);
+        other = rw one (a .leaves ∙ after-same full (q - 1) (s .run .found2) (s .second) (λ j _. ap x (omega arith)) ∙ second-after (q - 1) s (rest x) full);
       }

@@ -1,4 +1,4 @@
--- `candidates` meets its contract: bit by bit. Assumes nothing.
+-- `candidate_marks` meets its contract: bit by bit. Assumes nothing.
 use mathlib.Core.Path.{_∙_, ap}
 use mathlib.Core.Bool.{Bool, not, _&&_}
 use Prim.Native.Nat.{ℕ, _-_}
@@ -12,8 +12,8 @@ use borrow.Author.Needs.{needs}
 use Rattle.definitions.specs.Tables.{frozen}
 use Rattle.laws.specs.MarkLaws.{frozen-free}
 use Rattle.products.specs.Marks.{marks-below, marks-frozen}
-use Rattle.products.proofs.candidates.Statement.{statement}
-use Rattle.products.proofs.candidates.Tie as tie
+use Rattle.products.proofs.candidate_marks.Statement.{statement}
+use Rattle.products.proofs.candidate_marks.Tie as tie
 
 returns : tie.Need-returns
 returns c =
@@ -27,5 +27,5 @@ returns c =
           ∙ ap (λ b. b && not (frozen (s .args .marks) j)) {x = frozen (c .below-zero .result) j} {y = f j} (rw e (marks-frozen (s .args .q) f j l));
     }
 
-pub candidates-spec : {M : Type 1} → statement M
-candidates-spec = tie.close (tie.spec (λ c κs. search needs) returns)
+pub candidate-marks-spec : {M : Type 1} → statement M
+candidate-marks-spec = tie.close (tie.spec (λ c κs. search needs) returns)

@@ -1,12 +1,12 @@
--- `walk::lower::walks` meets its contract: the kind of the run says which walk is under way. Assumes nothing.
+-- `walk::lower::walk_from` meets its contract: the kind of the run says which walk is under way. Assumes nothing.
 use mathlib.Core.Path.{sym, _∙_}
 use denote.Ref.{now}
 use borrow.Author.Needs.{needs}
 use Rattle.definitions.specs.Input.{alone, inputWith}
 use Rattle.calls.specs.Paper.{stateWith}
 use Rattle.walk.specs.Lower.{names-above, names-plain}
-use Rattle.walk.proofs.lower.walks.Statement.{statement}
-use Rattle.walk.proofs.lower.walks.Tie as tie
+use Rattle.walk.proofs.lower.walk_from.Statement.{statement}
+use Rattle.walk.proofs.lower.walk_from.Tie as tie
 
 both-requires : tie.Need-both-requires
 both-requires c κs =
@@ -34,8 +34,8 @@ further-requires c κs =
 returns-2 : tie.Need-returns-2
 returns-2 c = c .before .before .before .before .before .before .further .ensures
 
-pub walks-spec : {M : Type 1} → statement M
-walks-spec =
+pub walk-from-spec : {M : Type 1} → statement M
+walk-from-spec =
     tie.close
     (tie.spec
     (λ c κs. search needs)
