@@ -294,14 +294,14 @@ static bool find_rays(search *s)
 
 /* ---- coordinates that are natural on every ray */
 
-/* its values on the rays by degree, all together; below 0 where one is, or a number is too large */
-static double size_on_rays(const search *s, const int64_t *t)
+/* its values on the rays by degree, all together; below 0 where one is, which is then the first to be looked at again, or a number is too large */
+static double size_on_rays(const search *s, const int64_t *t, size_t *first)
 {
     double size = 0;
-    if (!are_small(t, s->n)) return -1;
+    if (!are_small(t, s->n) || (*first < s->rays && dot(t, s->ray[*first], s->n) < 0)) return -1;
     for (size_t k = 0; k < s->rays; k++) {
         double value = 0;
-        if (dot(t, s->ray[k], s->n) < 0) return -1;
+        if (dot(t, s->ray[k], s->n) < 0) return *first = k, -1;
         for (size_t i = 0; i < s->n; i++) value += (double)t[i] * s->measure.at[k][i];
         size += value;
     }
@@ -348,10 +348,11 @@ static bool choose_among(const search *s, const matrix *reduced, size_t chosen, 
 {
     choice c = {{0}, {0}};
     double least = -1;
+    size_t ray = 0;
     for (size_t i = 0; i < s->n; i++)
         for (size_t j = 0; j < s->n; j++) c.multiple[i] = -reach, c.sum[j] -= reach * reduced->at[i][j];
     do {
-        const double size = size_on_rays(s, c.sum);
+        const double size = size_on_rays(s, c.sum, &ray);
         if (size < 0 || (least >= 0 && size >= least) || !extends(s, chosen, c.sum)) continue;
         least = size, *best = c;
     } while (next_choice(s, reduced, reach, &c));

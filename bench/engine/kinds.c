@@ -1,7 +1,8 @@
-/* Lists other kinds of maps by the solver of dezgula_engine.h: kinds sides < TEXT, kinds desks N < MAP
+/* Lists other kinds of maps by the solver of dezgula_engine.h: kinds sides < TEXT, kinds desks N .. < MAP
  *
  * sides: TEXT is "p q", p lines of q coefficients and a right side, and q numbers, the lower bound. Prints the loops, and the smallest tuples that meet the right
- * sides at or above the bound, each row after 0 or 1. desks: first a solver for the first N equations, then one from its list for the others. Prints the rows.
+ * sides at or above the bound, each row after 0 or 1. desks: first a solver for the first N equations, then one from its list for the next N, and so on; the
+ * last is for the others. Prints the rows.
  * The status is 0 where the list is complete, 1 where the run is refused, 2 where the text is none. */
 #include "dezgula_engine.h"
 
@@ -53,28 +54,33 @@ static int list_sides(const dezgula_system *map)
     dezgula_solver_free(solver);
     return fflush(stdout) == 0 && !ferror(stdout) ? 0 : 1;
 }
-static int list_desks(const dezgula_system *map, size_t n)
+/* the groups' numbers of equations but for the last */
+static int list_desks(const dezgula_system *map, char **sizes, int groups)
 {
-    const dezgula_system first = {n, map->q, coefs, n * map->q}, others = {map->p - n, map->q, coefs + n * map->q, (map->p - n) * map->q};
     uint64_t answer;
-    size_t count;
-    dezgula_solver *solver = dezgula_solver_new(&first, &answer);
-    solver = to_the_end(solver, answer);
-    const uint32_t *rows = dezgula_solver_rows(solver, &count);
-    const dezgula_list list = {rows, count * map->q, count};
-    dezgula_solver *both = dezgula_solver_new_from(&others, &list, &answer);
-    both = to_the_end(both, answer);
-    rows = dezgula_solver_rows(both, &count);
+    size_t count = 0, done = 0;
+    const uint32_t *rows = NULL;
+    dezgula_solver *before = NULL;
+    for (int k = 0; k <= groups; k++) {
+        const size_t n = k < groups ? strtoul(sizes[k], NULL, 10) : map->p - done;
+        if (n < 1 || n > map->p - done) return 2;
+        const dezgula_system group = {n, map->q, coefs + done * map->q, n * map->q};
+        const dezgula_list list = {rows, count * map->q, count};
+        dezgula_solver *solver = k == 0 ? dezgula_solver_new(&group, &answer) : dezgula_solver_new_from(&group, &list, &answer);
+        solver = to_the_end(solver, answer);
+        rows = dezgula_solver_rows(solver, &count);
+        dezgula_solver_free(before);
+        before = solver, done += n;
+    }
     print("", rows, count, map->q);
-    dezgula_solver_free(solver), dezgula_solver_free(both);
+    dezgula_solver_free(before);
     return fflush(stdout) == 0 && !ferror(stdout) ? 0 : 1;
 }
 
 int main(int argc, char **argv)
 {
-    const int sided = argc == 2 && strcmp(argv[1], "sides") == 0;
-    const unsigned long n = argc == 3 && strcmp(argv[1], "desks") == 0 ? strtoul(argv[2], NULL, 10) : 0;
+    const int sided = argc == 2 && strcmp(argv[1], "sides") == 0, desks = argc > 2 && strcmp(argv[1], "desks") == 0;
     dezgula_system map = {0, 0, coefs, 0};
-    if ((!sided && n == 0) || !read_map(&map, sided) || (!sided && n >= map.p)) return 2;
-    return sided ? list_sides(&map) : list_desks(&map, n);
+    if ((!sided && !desks) || !read_map(&map, sided)) return 2;
+    return sided ? list_sides(&map) : list_desks(&map, argv + 2, argc - 2);
 }

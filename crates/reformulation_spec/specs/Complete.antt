@@ -60,8 +60,8 @@ module _ (p q : ℕ) (coefs rights : List ℤ) (lower : List ℕ) (some : 0 < q)
         let width : suc (q + k) ≡ suc q + k = omega arith in
         rw width (projected-inside sidesReformulation shown 1 (rw width at run) budget (rw width at e) out (rw width at fits))
 
-    -- The minimal solutions of the map, and the smallest tuples at or above the bound that meet the right sides, an empty list meaning that there is none. Where
-    -- the right sides are 0 the latter is Job 4's (`above-listed` of engine_spec/specs/SidesRuns),
+    -- The minimal solutions of the map, and the smallest tuples at or above the bound that meet the right sides, an empty list meaning that there is none.
+    -- Where the right sides are 0 the latter is Job 4's (`above-listed` of engine_spec/specs/SidesRuns),
     pub sides-projected : let v = resume m (suc (q + k)) most room budget w .work in
         SidesLists p q coefs rights lower (projected (suc q) k (v .count) (v .basis) out) (v .count)
     sides-projected = sides-listed p q coefs rights lower some numbers 1 _ _ rows-projected

@@ -139,7 +139,9 @@ module _ (r : Reformulation) (yes : reformulates r ≡ go) where
         once = λ i j ij jn e. list .once i j ij jn
             (same-all (shown .extends-map) never (row i) (row j) (same-solutions (row i) .0 (list .only i (omega arith) .holds .solution))
             (same-solutions (row j) .0 (list .only j jn .holds .solution)) e);
-        all = λ x m. let (i, l, e) = list .all (beside x) (inside-beside cap x m) in (i, l, λ j h. e j (omega arith) ∙ with-map (shown .extends-map) never x j h);
+        all = λ x m.
+            let (i, l, e) = list .all (beside x) (inside-beside cap x m) in
+            (i, l, λ j h. e j (omega arith) ∙ with-map (shown .extends-map) never x j h);
       }
 
   -- and as the call that projects leaves it in a table of its own;
