@@ -651,7 +651,7 @@ static bool find_form(dezgula_solver *s)
     const dezgula_system map = plain_map(s);
     bool beyond = false;
     s->looked = 1, s->form = malloc(sizeof *s->form);
-    if (s->form != NULL && reformulation_find(&map, s->wanted != NULL, s->form, &beyond)) return beyond;
+    if (s->form != NULL && reformulation_find(&map, s->wanted != NULL, s->form, &beyond) && !beyond) return false;
     free(s->form);
     s->form = NULL;
     return beyond;
