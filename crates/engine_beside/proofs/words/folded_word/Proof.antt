@@ -60,15 +60,5 @@ returns c =
 pub folded-word-spec : {M : Type 1} → statement M
 folded-word-spec =
     tie.close
-    (tie.spec
-    Inv-loop
-    μ-loop
-    loop-holds
-    (λ c. search needs)
-    mul-word
-    folded-at-requires
-    (λ c κs. search needs)
-    add-word
-    (λ c. search needs)
-    loop-again
+    (tie.spec Inv-loop μ-loop loop-holds (λ c. search needs) mul-word folded-at-requires (λ c κs. search needs) add-word (λ c. search needs) loop-again
     returns)

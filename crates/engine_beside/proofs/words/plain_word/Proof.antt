@@ -56,17 +56,5 @@ returns c =
 pub plain-word-spec : {M : Type 1} → statement M
 plain-word-spec =
     tie.close
-    (tie.spec
-    Inv-loop
-    μ-loop
-    loop-holds
-    (λ c. search needs)
-    mul-word
-    (λ c. search needs)
-    (λ c. search needs)
-    (λ c. search needs)
-    (λ c κs. search needs)
-    add-word
-    (λ c. search needs)
-    loop-again
-    returns)
+    (tie.spec Inv-loop μ-loop loop-holds (λ c. search needs) mul-word (λ c. search needs) (λ c. search needs) (λ c. search needs) (λ c κs. search needs)
+    add-word (λ c. search needs) loop-again returns)
