@@ -10,7 +10,7 @@ use lib.Dec.{eqb}
 use lib.IntN.{ℤ}
 use lib.ListN.{getD, length, List·getD-eq-default}
 use Rattle.linear.specs.Cases.{split}
-use Rattle.linear.specs.TestLaws.{all-at, all-from}
+use Rattle.linear.specs.TestLaws.{all-at, all-from, is-true}
 use Rattle.linear.specs.Tests.{allTo}
 use Rattle.definitions.specs.Reasons as paper
 use Rattle.definitions.specs.Highest.{highest}
@@ -26,7 +26,6 @@ use Rattle.calls.specs.Paper.{checkOf, numberOf, valuesOf}
 use Rattle.calls.specs.declared.Check.{Check}
 use Rattle.calls.specs.declared.Check.the-variants.{Pass, Refuse}
 use Rattle.calls.specs.declared.Refusal.{Refusal}
-use Rattle.products.specs.Marks.{is-true}
 use Rattle.reasons.specs.Answers.{reasonOf}
 use Rattle.reasons.specs.Numbers.{reasonTold}
 use Rattle.reasons.specs.declared.Reason.{Reason}
