@@ -52,10 +52,10 @@ static void refusals(const dezgula_system *second, const dezgula_list *first, de
     sixty_five.found = 64;
     expect(answered("64 rows", dezgula_start_desk(second, &sixty_five, &longer)) == DEZGULA_STARTED && longer.record.height == 64, "64 are taken");
     expect(answered("a component too large", dezgula_start_desk(second, &too_large, run)) == DEZGULA_OUT_OF_ORDER, "6 at a start");
-    int32_t large[] = {0, 10000, 0, 0};
-    dezgula_system other = {1, 4, large, 4};
+    int32_t greatest[] = {0, 10000, 0, 0};
+    dezgula_system other = {1, 4, greatest, 4};
     expect(answered("an image too large", dezgula_start_desk(&other, &too_wide, run)) == DEZGULA_GENERATORS, "25 for an image");
-    large[1] = 10001;
+    greatest[1] = 10001;
     expect(answered("a coefficient too large", dezgula_start_desk(&other, &too_wide, run)) == DEZGULA_COEFFICIENT + 256 * 2, "7 comes first");
     expect(answered("no rows", dezgula_start_desk(second, &none, run)) == DEZGULA_STARTED && run->record.height == 0, "none is a start too");
     expect(dezgula_resume_desk(second, &none, run, 0) == DEZGULA_COMPLETE && run->record.found.count == 0, "and complete at once");
