@@ -1,6 +1,6 @@
 // The calls of the second of two desks on a record of words, with an answer that is one number: specs/Words.antt.
 ghost use Rattle.std.specs.Prelude.{◌≡◌};
-ghost use Rattle.c_desk.specs.Words.{deskResumeWords, deskStartWords};
+ghost use Rattle.c_desk.specs.Words.{desk_resume_words, desk_start_words};
 
 use c_record::{tell, words};
 
@@ -15,7 +15,7 @@ pub fn start(
     run: &mut [u64],
 ) -> u64
     ensures { (result, (stack.new, (list.new, run.new))) ≡
-        deskStartWords p q coefs.now generators.now stack.old list.old run.old }
+        desk_start_words p q coefs.now generators.now stack.old list.old run.old }
 {
     if run.len() == 7 {
         let r = words::read(run);
@@ -37,7 +37,7 @@ pub fn resume(
     budget: u64,
 ) -> u64
     ensures { (result, (stack.new, (list.new, run.new))) ≡
-        deskResumeWords budget p q coefs.now generators.now stack.old list.old run.old }
+        desk_resume_words budget p q coefs.now generators.now stack.old list.old run.old }
 {
     let r = words::read(run);
     let o = desk::resume(p, q, coefs, generators, stack, list, r, budget);

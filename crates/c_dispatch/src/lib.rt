@@ -1,6 +1,6 @@
 // A call of the dispatcher on words of 64 bits (specs/Words.antt), for callers in other languages.
 ghost use Rattle.std.specs.Prelude.{◌≡◌};
-ghost use Rattle.c_dispatch.specs.Words.{dispatchWords};
+ghost use Rattle.c_dispatch.specs.Words.{dispatch_words};
 
 mod read; // read.rt: what the words hold
 mod write; // write.rt: what is told
@@ -17,7 +17,7 @@ pub fn dispatch(
     round: &mut [u64],
 ) -> u64
     ensures { (result, (stack.new, (list.new, round.new))) ≡
-        dispatchWords count quantum turns shares.now coefs.now stack.old list.old round.old }
+        dispatch_words count quantum turns shares.now coefs.now stack.old list.old round.old }
 {
     let all = read::shares(shares);
     let records = read::records(round);

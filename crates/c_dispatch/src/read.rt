@@ -1,8 +1,8 @@
 // What the words hold.
 ghost use Rattle.std.specs.Prelude.{◌≡◌, ◌<◌, ◌≤◌, get_or};
 ghost use Rattle.dispatch.specs.Filling.{Filled};
-ghost use Rattle.dispatch.specs.Form.{noRecord, noShare};
-ghost use Rattle.c_dispatch.specs.Words.{lastIn, recordIn, run_at, shareAt, shareIn};
+ghost use Rattle.dispatch.specs.Form.{no_record, no_share};
+ghost use Rattle.c_dispatch.specs.Words.{last_in, record_in, run_at, share_at, share_in};
 
 use c_record::words;
 use calls::{Record, Solutions, Steps};
@@ -21,7 +21,7 @@ fn word(words: &[u64], k: usize) -> u64
 // The share whose words begin at a place.
 fn share(words: &[u64], base: usize) -> Share
     requires { base ≤ 56 }
-    ensures { result ≡ shareAt words.now base }
+    ensures { result ≡ share_at words.now base }
 {
     let coefs = Part {
         start: word(words, base + 2) as usize,
@@ -46,7 +46,7 @@ fn share(words: &[u64], base: usize) -> Share
 
 // The shares of eight runs.
 pub fn shares(words: &[u64]) -> [Share; 8]
-    ensures { Filled 8 (shareIn words.now) noShare result 8 }
+    ensures { Filled 8 (share_in words.now) no_share result 8 }
 {
     let mut all = [share(words, 0); 8];
     let mut i = 0;
@@ -75,7 +75,7 @@ fn record(words: &[u64], base: usize) -> Record
 
 // The records of eight runs.
 pub fn records(words: &[u64]) -> [Record; 8]
-    ensures { Filled 8 (recordIn words.now) noRecord result 8 }
+    ensures { Filled 8 (record_in words.now) no_record result 8 }
 {
     let mut all = [record(words, 2); 8];
     let mut i = 0;
@@ -88,7 +88,7 @@ pub fn records(words: &[u64]) -> [Record; 8]
 
 // The number of the run served last.
 pub fn last(words: &[u64]) -> usize
-    ensures { result ≡ lastIn words.now }
+    ensures { result ≡ last_in words.now }
 {
     if words.len() == 74 {
         return words[0] as usize;

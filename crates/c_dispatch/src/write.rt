@@ -1,16 +1,16 @@
 // What is told.
 ghost use Rattle.std.specs.Prelude.{◌≡◌, ◌+◌, ◌*◌, ◌<◌, length};
 ghost use Rattle.calls.specs.Paper.{answer_of, run_of};
-ghost use Rattle.dispatch.specs.Form.{faultOf};
-ghost use Rattle.c_dispatch.specs.Words.{answerNumber, answerPlace, writeCounts, writeOthers, writeRecord, writeRun};
-ghost use Rattle.c_dispatch.specs.WordLaws.{Fitting, leftBy, servedBy, toldBy};
+ghost use Rattle.dispatch.specs.Form.{fault_of};
+ghost use Rattle.c_dispatch.specs.Words.{answer_number, answer_place, write_counts, write_others, write_record, write_run};
+ghost use Rattle.c_dispatch.specs.WordLaws.{Fitting, left_by, served_by, told_by};
 
 use calls::{Answer, Outcome, Record};
 use dispatch::types::{Dispatched, Fault, Verdict};
 
 // The number of an answer.
 fn number(answer: Answer) -> u64
-    ensures { result ≡ answerNumber (answer_of answer) }
+    ensures { result ≡ answer_number (answer_of answer) }
 {
     match answer {
         Answer::Started => 100,
@@ -22,7 +22,7 @@ fn number(answer: Answer) -> u64
 
 // The place that it comes with.
 fn place(answer: Answer) -> u64
-    ensures { result ≡ answerPlace (answer_of answer) }
+    ensures { result ≡ answer_place (answer_of answer) }
 {
     match answer {
         Answer::Started => 0,
@@ -34,7 +34,7 @@ fn place(answer: Answer) -> u64
 
 // The number of a refusal of the whole call.
 fn fault(why: Fault) -> u64
-    ensures { result ≡ faultOf why }
+    ensures { result ≡ fault_of why }
 {
     match why {
         Fault::Schedule => 27,
@@ -45,7 +45,7 @@ fn fault(why: Fault) -> u64
 // Writes the seven words of a run's record; words whose kind is no kind's number stay as they are.
 fn record(words: &mut [u64], at: usize, r: Record)
     requires { at + 6 < length words.old }
-    ensures { words.new ≡ writeRecord words.old at (run_of r) }
+    ensures { words.new ≡ write_record words.old at (run_of r) }
 {
     if words[at + 3] < 5 {
         counts(words, at, r);
@@ -55,7 +55,7 @@ fn record(words: &mut [u64], at: usize, r: Record)
 
 fn counts(words: &mut [u64], at: usize, r: Record)
     requires { at + 6 < length words.old }
-    ensures { words.new ≡ writeCounts words.old at (run_of r) }
+    ensures { words.new ≡ write_counts words.old at (run_of r) }
 {
     words[at] = r.height as u64;
     words[at + 1] = r.found.0 as u64;
@@ -64,7 +64,7 @@ fn counts(words: &mut [u64], at: usize, r: Record)
 
 fn others(words: &mut [u64], at: usize, r: Record)
     requires { at + 6 < length words.old }
-    ensures { words.new ≡ writeOthers words.old at (run_of r) }
+    ensures { words.new ≡ write_others words.old at (run_of r) }
 {
     let kind = r.kind;
     words[at + 3] = calls::run_number(kind);
@@ -76,7 +76,7 @@ fn others(words: &mut [u64], at: usize, r: Record)
 // Writes what a run answered and left.
 fn run(words: &mut [u64], at: usize, o: Outcome)
     requires { at + 8 < length words.old }
-    ensures { words.new ≡ writeRun words.old at (run_of o.run) (answer_of o.answer) }
+    ensures { words.new ≡ write_run words.old at (run_of o.run) (answer_of o.answer) }
 {
     let answer = o.answer;
     let r = o.run;
@@ -88,7 +88,7 @@ fn run(words: &mut [u64], at: usize, o: Outcome)
 // Writes what eight runs answered and left.
 fn runs(words: &mut [u64], outcomes: [Outcome; 8])
     requires { length words.old ≡ 74 }
-    ensures { words.new ≡ leftBy 8 words.old outcomes }
+    ensures { words.new ≡ left_by 8 words.old outcomes }
 {
     let mut i = 0;
     while i < 8 {
@@ -100,7 +100,7 @@ fn runs(words: &mut [u64], outcomes: [Outcome; 8])
 // Writes what a call that was not refused answered and left.
 fn served(words: &mut [u64], d: Dispatched)
     requires { length words.old ≡ 74 }
-    ensures { words.new ≡ servedBy words.old d }
+    ensures { words.new ≡ served_by words.old d }
 {
     let outcomes = d.outcomes;
     words[0] = d.last as u64;
@@ -111,7 +111,7 @@ fn served(words: &mut [u64], d: Dispatched)
 // The number of the call; the words are written where it was not refused.
 pub fn told(words: &mut [u64], d: Dispatched) -> u64
     requires { Fitting d.verdict words.old }
-    ensures { (result, words.new) ≡ toldBy d.verdict words.old d }
+    ensures { (result, words.new) ≡ told_by d.verdict words.old d }
 {
     let verdict = d.verdict;
     match verdict {

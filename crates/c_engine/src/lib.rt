@@ -1,18 +1,18 @@
 // The engine's calls on a record of words, each answer as one number: specs/Words.antt.
 ghost use Rattle.std.specs.Prelude.{◌≡◌, [], suc, ◌^◌, ◌<◌, ◌≤◌};
-ghost use Rattle.engine_spec.specs.Calls.{rowLimit};
+ghost use Rattle.engine_spec.specs.Calls.{row_limit};
 ghost use Rattle.engine_resume.specs.Continuing.{ResumeLeft};
 ghost use Rattle.calls.specs.Paper.{answer_of, number_of, values_of};
-ghost use Rattle.engine_beside.specs.Records.{besideOf};
+ghost use Rattle.engine_beside.specs.Records.{beside_of};
 ghost use Rattle.engine_beside.specs.declared.Outcome.{Outcome as Left};
-ghost use Rattle.engine_checks.specs.Standing.{startChecksBy, startFromChecksBy};
-ghost use Rattle.engine_stage.specs.Standing.{sidesOf};
+ghost use Rattle.engine_checks.specs.Standing.{start_checks_by, start_from_checks_by};
+ghost use Rattle.engine_stage.specs.Standing.{sides_of};
 ghost use Rattle.c_record.specs.Codes.{code};
 ghost use Rattle.definitions.specs.Answers.{refuse, ◌then◌};
-ghost use Rattle.engine_checks.specs.Sides.{shapeChecks};
-ghost use Rattle.c_engine.specs.WordLaws.{checkCode, instead};
-ghost use Rattle.c_engine.specs.Words.{combineWords, most_of, recordIn, resumeWords, roomOf, startFromWords, startSidesWords, startWords, takeWords};
-ghost use Rattle.c_engine.specs.Words.{told, wordsLeft};
+ghost use Rattle.engine_checks.specs.Sides.{shape_checks};
+ghost use Rattle.c_engine.specs.WordLaws.{check_code, instead};
+ghost use Rattle.c_engine.specs.Words.{combine_words, most_of, record_in, resume_words, room_of, start_from_words, start_sides_words, start_words, take_words};
+ghost use Rattle.c_engine.specs.Words.{told, words_left};
 
 use c_record::answers;
 use calls::{Check, Refusal};
@@ -33,7 +33,7 @@ pub fn start(
 ) -> u64
     ensures { (result, (equations.new, (basis.new, ([], run.new)))) ≡
         told run.old
-        (startWords p q coefs.now (most_of q basis.old sizes.now) equations.old basis.old
+        (start_words p q coefs.now (most_of q basis.old sizes.now) equations.old basis.old
         run.old) }
 {
     if records::fits(run) {
@@ -60,7 +60,7 @@ pub fn start_sides(
 ) -> u64
     ensures { (result, (equations.new, (basis.new, ([], run.new)))) ≡
         told run.old
-        (startSidesWords p q coefs.now rights.now lower.now (most_of (suc q) basis.old sizes.now)
+        (start_sides_words p q coefs.now rights.now lower.now (most_of (suc q) basis.old sizes.now)
         equations.old basis.old run.old) }
 {
     if records::fits(run) {
@@ -97,7 +97,7 @@ pub fn start_from(
 ) -> u64
     ensures { (result, (equations.new, (basis.new, ([], run.new)))) ≡
         told run.old
-        (startFromWords p q coefs.now n rows.now (most_of q basis.old sizes.now) equations.old
+        (start_from_words p q coefs.now n rows.now (most_of q basis.old sizes.now) equations.old
         basis.old run.old) }
 {
     if records::fits(run) {
@@ -131,8 +131,8 @@ pub fn combine(
 ) -> u64
     ensures { (result, (equations.new, (basis.now, (table.now, run.new)))) ≡
         told run.old
-        (combineWords p q (most_of q basis.now sizes.now)
-        (roomOf q table.now values.now words.now degrees.now marks.now mothers.now)
+        (combine_words p q (most_of q basis.now sizes.now)
+        (room_of q table.now values.now words.now degrees.now marks.now mothers.now)
         r s u t equations.old basis.now table.now run.old) }
 {
     let l = lengths(
@@ -167,8 +167,8 @@ pub fn take(
 ) -> u64
     ensures { (result, (equations.now, (basis.new, (table.now, run.new)))) ≡
         told run.old
-        (takeWords p q (most_of q basis.old sizes.now)
-        (roomOf q table.now values.now words.now degrees.now marks.now mothers.now)
+        (take_words p q (most_of q basis.old sizes.now)
+        (room_of q table.now values.now words.now degrees.now marks.now mothers.now)
         e f equations.now basis.old table.now run.old) }
 {
     let l = lengths(
@@ -202,13 +202,13 @@ pub fn resume(
 ) -> u64
     ensures run_after { (result, (equations.now, (basis.new, (table.new, run.new)))) ≡
         told run.old
-        (resumeWords p q (most_of q basis.old sizes.old)
-        (roomOf q table.old values.old words.old degrees.old marks.old mothers.old)
+        (resume_words p q (most_of q basis.old sizes.old)
+        (room_of q table.old values.old words.old degrees.old marks.old mothers.old)
         budget equations.now basis.old table.old run.old) }
     ensures resume_left { (o : Left) × ResumeLeft p q budget equations.now basis.old sizes.old table.old
-        (sidesOf values.old words.old degrees.old marks.old mothers.old)
-        (recordIn run.old) o basis.new sizes.new table.new
-        (sidesOf values.new words.new degrees.new marks.new mothers.new) }
+        (sides_of values.old words.old degrees.old marks.old mothers.old)
+        (record_in run.old) o basis.new sizes.new table.new
+        (sides_of values.new words.new degrees.new marks.new mothers.new) }
 {
     let r = records::read(run);
     let o = engine_resume::resume(
@@ -226,7 +226,7 @@ fn lengths(
     marks: usize,
     mothers: usize,
 ) -> Beside
-    ensures { result ≡ besideOf sizes values words degrees marks mothers }
+    ensures { result ≡ beside_of sizes values words degrees marks mothers }
 {
     Beside {
         sizes,
@@ -240,7 +240,7 @@ fn lengths(
 
 // What a start is told whose words are no record: the first of 1 to 4 that is due, or 6. Nothing is written.
 fn misfit(p: usize, q: usize, coefs: &[i32], equations: usize, most: usize) -> u64
-    ensures { result ≡ checkCode (instead (startChecksBy p q coefs.now most equations)) }
+    ensures { result ≡ check_code (instead (start_checks_by p q coefs.now most equations)) }
 {
     match standing::check_start(p, q, coefs, equations, most) {
         Check::Refuse(why) => first(why),
@@ -258,8 +258,8 @@ fn misfit_list(
     equations: usize,
     most: usize,
 ) -> u64
-    requires { most ≤ rowLimit }
-    ensures { result ≡ checkCode (instead (startFromChecksBy p q coefs.now n rows.now most equations)) }
+    requires { most ≤ row_limit }
+    ensures { result ≡ check_code (instead (start_from_checks_by p q coefs.now n rows.now most equations)) }
 {
     match standing::check_start_from(p, q, coefs, n, rows, equations, most) {
         Check::Refuse(why) => first(why),
@@ -278,7 +278,7 @@ fn misfit_sides(
     basis: usize,
     sizes: usize,
 ) -> u64
-    ensures { result ≡ checkCode (shapeChecks p q coefs rights lower equations basis sizes then refuse 6 []) }
+    ensures { result ≡ check_code (shape_checks p q coefs rights lower equations basis sizes then refuse 6 []) }
 {
     match sides::check_shape(p, q, coefs, rights, lower, equations, basis, sizes) {
         Check::Refuse(why) => calls::number_of(why),
@@ -288,7 +288,7 @@ fn misfit_sides(
 
 // 7 comes after 6.
 fn first(why: Refusal) -> u64
-    ensures { result ≡ checkCode (instead (refuse (number_of why) (values_of why))) }
+    ensures { result ≡ check_code (instead (refuse (number_of why) (values_of why))) }
 {
     let n = calls::number_of(why);
     if n == 7 {
@@ -301,7 +301,7 @@ fn first(why: Refusal) -> u64
 fn tell(o: Outcome, run: &mut [u64]) -> u64
     requires { code (answer_of o.answer) < 2 ^ 64 }
     ensures value { result ≡ code (answer_of o.answer) }
-    ensures run_after { run.new ≡ wordsLeft run.old o.run }
+    ensures run_after { run.new ≡ words_left run.old o.run }
 {
     let answer = o.answer;
     let left = o.run;

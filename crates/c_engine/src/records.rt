@@ -1,6 +1,6 @@
 // The record as words of 64 bits, in the order of its fields.
 ghost use Rattle.std.specs.Prelude.{◌≡◌};
-ghost use Rattle.c_engine.specs.Words.{isRecord, recordIn, wordsLeft};
+ghost use Rattle.c_engine.specs.Words.{is_record, record_in, words_left};
 
 use calls::{Solutions, Steps};
 use engine_beside::Record;
@@ -10,7 +10,7 @@ const PAST_LIMIT: u64 = calls::STEP_LIMIT + 1;
 
 // Whether the words are a record.
 pub fn fits(words: &[u64]) -> bool
-    ensures { result ≡ isRecord words.now }
+    ensures { result ≡ is_record words.now }
 {
     if words.len() == 11 {
         return words[0] < 4294967296;
@@ -20,7 +20,7 @@ pub fn fits(words: &[u64]) -> bool
 
 // The record that the words hold; others are a record out of order.
 pub fn read(words: &[u64]) -> Record
-    ensures { result ≡ recordIn words.now }
+    ensures { result ≡ record_in words.now }
 {
     if words.len() == 11 {
         let done = words[0];
@@ -57,7 +57,7 @@ pub fn read(words: &[u64]) -> Record
 
 // Puts a record back into its words; others stay as they are.
 pub fn write(words: &mut [u64], r: Record)
-    ensures { words.new ≡ wordsLeft words.old r }
+    ensures { words.new ≡ words_left words.old r }
 {
     if fits(words) {
         words[0] = r.done as u64;

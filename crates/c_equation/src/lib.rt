@@ -4,7 +4,7 @@ ghost use Rattle.calls.specs.Paper as paper;
 ghost use Rattle.equation_spec.specs.Outcome.{outcome};
 ghost use Rattle.equation_spec.specs.Writing.{write};
 ghost use Rattle.equation_read.specs.Answer.{answered, number_of, values_of};
-ghost use Rattle.c_equation.specs.Codes.{refusalCode, readTold, writeTold};
+ghost use Rattle.c_equation.specs.Codes.{refusal_code, read_told, write_told};
 
 use calls::Refusal;
 use equation_read::equation::{EquationRead, EquationRefusal};
@@ -15,7 +15,7 @@ pub mod systems; // systems.rt: a system of several lines
 // Reads the equation that `text` writes for `q` unknowns; its coefficients go to `row`, its right side to `side`.
 pub fn read_equation(text: &[u8], q: usize, row: &mut [i32], side: &mut [i32; 1]) -> u64
     ensures { (result, (row.new, side.new)) ≡
-        readTold (answered (outcome q (length row.old) text.now) row.old) side.old }
+        read_told (answered (outcome q (length row.old) text.now) row.old) side.old }
 {
     match equation_read::equation::read_equation(text, q, row) {
         EquationRead::Equation { right } => {
@@ -28,7 +28,7 @@ pub fn read_equation(text: &[u8], q: usize, row: &mut [i32], side: &mut [i32; 1]
 
 // Writes the equation of `row`, the coefficients of `q` unknowns, with the right side `right` to the beginning of `out`.
 pub fn write_equation(q: usize, row: &[i32], right: i32, out: &mut [u8]) -> u64
-    ensures { (result, out.new) ≡ writeTold (write q row.now right out.old) }
+    ensures { (result, out.new) ≡ write_told (write q row.now right out.old) }
 {
     match equation_write::write_equation(q, row, right, out) {
         EquationWritten::Written(n) => written_code(n),
@@ -47,16 +47,16 @@ fn written_code(n: usize) -> u64
 }
 
 fn refusal(why: EquationRefusal) -> u64
-    requires { refusalCode (number_of why) (values_of why) < 2 ^ 64 }
-    ensures { result ≡ refusalCode (number_of why) (values_of why) }
+    requires { refusal_code (number_of why) (values_of why) < 2 ^ 64 }
+    ensures { result ≡ refusal_code (number_of why) (values_of why) }
 {
     number_of(why) + 256 * value_of(why) as u64
 }
 
 // A refusal that the calls on maps give too.
 fn row_refusal(why: Refusal) -> u64
-    requires { refusalCode (paper.number_of why) (paper.values_of why) < 2 ^ 64 }
-    ensures { result ≡ refusalCode (paper.number_of why) (paper.values_of why) }
+    requires { refusal_code (paper.number_of why) (paper.values_of why) < 2 ^ 64 }
+    ensures { result ≡ refusal_code (paper.number_of why) (paper.values_of why) }
 {
     calls::number_of(why) + 256 * calls::value_of(why) as u64
 }

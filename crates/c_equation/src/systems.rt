@@ -1,9 +1,9 @@
 // A system of several lines, with an answer that is one number.
 ghost use Rattle.std.specs.Prelude.{◌≡◌, ◌+◌, ◌*◌, ◌^◌, ◌≤◌, ◌<◌};
 ghost use Rattle.calls.specs.Paper.{value};
-ghost use Rattle.equation_spec.specs.Systems.{readSystem};
+ghost use Rattle.equation_spec.specs.Systems.{read_system};
 ghost use Rattle.equation_systems.specs.Answer.{number_of, values_of};
-ghost use Rattle.c_equation.specs.Codes.{second, refusalCode, systemTold};
+ghost use Rattle.c_equation.specs.Codes.{second, refusal_code, system_told};
 
 use crate::{number_of, value_of};
 use equation_systems::{SystemRead, SystemRefusal};
@@ -18,7 +18,7 @@ pub fn read_system(
     within: &mut [u64; 1],
 ) -> u64
     ensures { (result, (coefs.new, (rights.new, within.new))) ≡
-        systemTold (readSystem q text.now coefs.old rights.old) within.old }
+        system_told (read_system q text.now coefs.old rights.old) within.old }
 {
     match equation_systems::read_system(text, q, coefs, rights) {
         SystemRead::System { p } => read_code(p),
@@ -38,8 +38,8 @@ fn read_code(p: usize) -> u64
 }
 
 fn refusal(why: SystemRefusal) -> u64
-    requires { refusalCode (number_of why) (values_of why) < 2 ^ 64 }
-    ensures { result ≡ refusalCode (number_of why) (values_of why) }
+    requires { refusal_code (number_of why) (values_of why) < 2 ^ 64 }
+    ensures { result ≡ refusal_code (number_of why) (values_of why) }
 {
     number(why) + 256 * line(why) as u64
 }

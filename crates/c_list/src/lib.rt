@@ -1,10 +1,10 @@
 // The calls on files with answers that are one number each, as C and Rust are told them: specs/Codes.antt.
 ghost use Rattle.std.specs.Prelude.{◌≡◌, ◌^◌, ◌<◌};
-ghost use Rattle.list_spec.specs.Writing.{writeList};
-ghost use Rattle.list_spec.specs.Reading.{readFile};
+ghost use Rattle.list_spec.specs.Writing.{write_list};
+ghost use Rattle.list_spec.specs.Reading.{read_file};
 ghost use Rattle.list_file.specs.Paper.{number_of, values_of};
 ghost use Rattle.list_file.specs.WriteAnswer.{list_of};
-ghost use Rattle.c_list.specs.Codes.{refusalCode, writeTold, readTold};
+ghost use Rattle.c_list.specs.Codes.{refusal_code, write_told, read_told};
 
 use list_file::read::Read;
 use list_file::words::FileRefusal;
@@ -19,7 +19,7 @@ pub fn write_list(
     ending: u32,
     out: &mut [u8],
 ) -> u64
-    ensures { (result, out.new) ≡ writeTold (writeList (list_of p q coefs.now rows.now ending) out.old) }
+    ensures { (result, out.new) ≡ write_told (write_list (list_of p q coefs.now rows.now ending) out.old) }
 {
     match list_file::write::write_list(p, q, coefs, rows, ending, out) {
         Write::Whole => 106,
@@ -30,7 +30,7 @@ pub fn write_list(
 // Reads a file: the coefficients go to the beginning of `coefs`, the rows to the beginning of `list`, and p, q, the row count and the ending to `words`.
 pub fn read_list(file: &[u8], coefs: &mut [i32], list: &mut [u32], words: &mut [u64; 4]) -> u64
     ensures { (result, (coefs.new, (list.new, words.new))) ≡
-        readTold (readFile file.now coefs.old list.old) words.old }
+        read_told (read_file file.now coefs.old list.old) words.old }
 {
     match list_file::read::read_list(file, coefs, list) {
         Read::Refused(why) => refusal(why),
@@ -50,8 +50,8 @@ pub fn read_list(file: &[u8], coefs: &mut [i32], list: &mut [u32], words: &mut [
 }
 
 fn refusal(why: FileRefusal) -> u64
-    requires { refusalCode (number_of why) (values_of why) < 2 ^ 64 }
-    ensures { result ≡ refusalCode (number_of why) (values_of why) }
+    requires { refusal_code (number_of why) (values_of why) < 2 ^ 64 }
+    ensures { result ≡ refusal_code (number_of why) (values_of why) }
 {
     list_file::words::number_of(why) + 256 * list_file::words::value_of(why) as u64
 }

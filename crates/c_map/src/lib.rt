@@ -2,14 +2,14 @@
 ghost use Rattle.std.specs.Prelude.{◌≡◌, ◌^◌, ◌<◌};
 ghost use Rattle.calls.specs.Paper.{value};
 ghost use Rattle.map_text.specs.Answer.{number_of, values_of};
-ghost use Rattle.c_map.specs.Words.{readWords};
-ghost use Rattle.c_record.specs.Codes.{refusalCode};
+ghost use Rattle.c_map.specs.Words.{read_words};
+ghost use Rattle.c_record.specs.Codes.{refusal_code};
 
 use map_text::{Read, TextRefusal};
 
 // Reads the map that `text` writes: its coefficients go to the beginning of `coefs`, row by row, p and q into the words. A refusal writes nothing.
 pub fn read_map(text: &[u8], coefs: &mut [i32; 128], words: &mut [u64; 2]) -> u64
-    ensures { (result, (coefs.new, words.new)) ≡ readWords text.now coefs.old words.old }
+    ensures { (result, (coefs.new, words.new)) ≡ read_words text.now coefs.old words.old }
 {
     match map_text::read_map(text, coefs) {
         Read::Map { p, q } => {
@@ -23,8 +23,8 @@ pub fn read_map(text: &[u8], coefs: &mut [i32; 128], words: &mut [u64; 2]) -> u6
 
 // A refusal as one number.
 fn refusal(why: TextRefusal) -> u64
-    requires { refusalCode (number_of why) (values_of why) < 2 ^ 64 }
-    ensures { result ≡ refusalCode (number_of why) (values_of why) }
+    requires { refusal_code (number_of why) (values_of why) < 2 ^ 64 }
+    ensures { result ≡ refusal_code (number_of why) (values_of why) }
 {
     number_of(why) + 256 * value_of(why) as u64
 }

@@ -3,17 +3,17 @@ use Rattle.std.specs.Prelude.{ℕ, zero, suc, ◌*◌, ◌^◌, ◌≤◌, ◌<�
 use Rattle.std.proofs.Common.{inl, subst, mul-le-mul, arith, leb→le}
 use Rattle.std.proofs.Math.Decide.{ℕ_discrete}
 use Rattle.linear.specs.TestLaws.{and_parts}
-use Rattle.definitions.specs.Answers.{Answer, Check, refuse, go, refuseWith, refuseIf, refuseFirst, ◌then◌}
-use Rattle.definitions.specs.Input.{Extra, Input, aboveSystem, alone, mapOf, rights, systemOf}
-use Rattle.definitions.specs.Machine.{Machine, Outcome, call, checked, unlessDone, walk}
-use Rattle.definitions.specs.System.{System, mostEquations, mostUnknowns}
-use Rattle.definitions.specs.Tables.{RunKind, State, byWalk, cappedRun, deskByDesk, lowerAbove, lowerPlain, plainPart, plainRun}
-use Rattle.definitions.specs.Refusals.{between, check1, check15, check4, check5, check6, check6From, check7, check8, numbersCheck, rangeChecks, unknownsCheck}
-use Rattle.definitions.specs.Refusals.{lowerChecks, misnumbered, mostFor, resumeChecks, resumeFromChecks, searchChecks, shapeThen, startChecks}
-use Rattle.definitions.specs.Calls.{machine, machineFrom, resume, resumeFrom, searchFrom, start, startFrom}
-use Rattle.laws.specs.AnswerLaws.{refuse-if-go}
-use Rattle.laws.specs.RefusalLaws.{Misnumbered, decides-number}
-use Rattle.c_record.specs.Codes.{refusalCode, code}
+use Rattle.definitions.specs.Answers.{Answer, Check, refuse, go, refuse_with, refuse_if, refuse_first, ◌then◌}
+use Rattle.definitions.specs.Input.{Extra, Input, above_system, alone, map_of, rights, system_of}
+use Rattle.definitions.specs.Machine.{Machine, Outcome, call, checked, unless_done, walk}
+use Rattle.definitions.specs.System.{System, most_equations, most_unknowns}
+use Rattle.definitions.specs.Tables.{RunKind, State, by_walk, capped_run, desk_by_desk, lower_above, lower_plain, plain_part, plain_run}
+use Rattle.definitions.specs.Refusals.{between, check1, check15, check4, check5, check6, check6_from, check7, check8, numbers_check, range_checks, unknowns_check}
+use Rattle.definitions.specs.Refusals.{lower_checks, misnumbered, most_for, resume_checks, resume_from_checks, search_checks, shape_then, start_checks}
+use Rattle.definitions.specs.Calls.{machine, machine_from, resume, resume_from, search_from, start, start_from}
+use Rattle.laws.specs.AnswerLaws.{refuse_if_go}
+use Rattle.laws.specs.RefusalLaws.{Misnumbered, decides_number}
+use Rattle.c_record.specs.Codes.{refusal_code, code}
 
 abbrev pub Fits : Answer → Type 0
 Fits a = code a < 2 ^ 64
@@ -21,153 +21,153 @@ Fits a = code a < 2 ^ 64
 -- ---- checks
 
 abbrev pub Small : Check → Type 0
-Small (refuse n values) = refusalCode n values < 2 ^ 64
+Small (refuse n values) = refusal_code n values < 2 ^ 64
 Small go = Unit
 
-small-with : (b : Bool) (n : ℕ) (values : List ℕ) → refusalCode n values < 2 ^ 64 → Small (refuseWith b n values)
-unfolding refuseWith
-small-with true n values h = h
-small-with false n values h = tt
+small_with : (b : Bool) (n : ℕ) (values : List ℕ) → refusal_code n values < 2 ^ 64 → Small (refuse_with b n values)
+unfolding refuse_with
+small_with true n values h = h
+small_with false n values h = tt
 
-pub small-then : (c d : Check) → Small c → (c ≡ go → Small d) → Small (c then d)
+pub small_then : (c d : Check) → Small c → (c ≡ go → Small d) → Small (c then d)
 unfolding ◌then◌
-small-then (refuse n values) d a b = a
-small-then go d a b = b refl
+small_then (refuse n values) d a b = a
+small_then go d a b = b refl
 
-pub small-first : (n k : ℕ) (f : ℕ → Bool) → n < 256 → k ≤ 1024 → Small (refuseFirst n k f)
-unfolding refuseFirst
-small-first n zero f h l = tt
-small-first n (suc k) f h l =
-    small-then (refuseFirst n k f) (refuseWith (f k) n (suc k ∷ [])) (small-first n k f h (omega arith)) (λ _. small-with (f k) n (suc k ∷ []) (omega arith))
+pub small_first : (n k : ℕ) (f : ℕ → Bool) → n < 256 → k ≤ 1024 → Small (refuse_first n k f)
+unfolding refuse_first
+small_first n zero f h l = tt
+small_first n (suc k) f h l =
+    small_then (refuse_first n k f) (refuse_with (f k) n (suc k ∷ [])) (small_first n k f h (omega arith)) (λ _. small_with (f k) n (suc k ∷ []) (omega arith))
 
-pub small-if : (b : Bool) (n : ℕ) → n < 256 → Small (refuseIf b n)
-small-if b n h = small-with b n [] (omega arith)
+pub small_if : (b : Bool) (n : ℕ) → n < 256 → Small (refuse_if b n)
+small_if b n h = small_with b n [] (omega arith)
 
-not-false : (b : Bool) → not b ≡ false → T b
-not-false true e = tt
-not-false false e = subst T e tt
+not_false : (b : Bool) → not b ≡ false → T b
+not_false true e = tt
+not_false false e = subst T e tt
 
-pub within : (a b n r : ℕ) → refuseIf (not (between a b n)) r ≡ go → n ≤ b
-within a b n r e = leb→le n b (and_parts (leb a n) (leb n b) (not-false (between a b n) (refuse-if-go (not (between a b n)) r e))).1
+pub within : (a b n r : ℕ) → refuse_if (not (between a b n)) r ≡ go → n ≤ b
+within a b n r e = leb→le n b (and_parts (leb a n) (leb n b) (not_false (between a b n) (refuse_if_go (not (between a b n)) r e))).1
 
 -- the most unknowns, and the number of coefficients, whatever comes with the map
-most-few : (e : Extra) → mostFor e ≤ mostUnknowns
-most-few alone = omega arith
-most-few (rights b) = omega arith
+most_few : (e : Extra) → most_for e ≤ most_unknowns
+most_few alone = omega arith
+most_few (rights b) = omega arith
 
-counted : (e : Extra) (m : Input) → refuseIf (misnumbered e m) 3 ≡ go → length m.coefs ≡ m.p * m.q
-counted e m c = elim (ℕ_discrete (length m.coefs) (m.p * m.q)) [ yes same ↦ same | no ne ↦ absurd ((decides-number e m).goes c (wrong e ne)) ]
+counted : (e : Extra) (m : Input) → refuse_if (misnumbered e m) 3 ≡ go → length m.coefs ≡ m.p * m.q
+counted e m c = elim (ℕ_discrete (length m.coefs) (m.p * m.q)) [ yes same ↦ same | no ne ↦ absurd ((decides_number e m).goes c (wrong e ne)) ]
   where
     wrong : (e : Extra) → length m.coefs ≢ m.p * m.q → Misnumbered e m
     wrong alone ne = ne
     wrong (rights b) ne = inl ne
 
-few : (m : Input) → check1 m ≡ go → unknownsCheck m ≡ go → numbersCheck m ≡ go → length m.coefs ≤ 128
+few : (m : Input) → check1 m ≡ go → unknowns_check m ≡ go → numbers_check m ≡ go → length m.coefs ≤ 128
 few m a b c =
-    let unknowns : m.q ≤ mostUnknowns = omega (arith, within 1 (mostFor m.extra) m.q 2 b, most-few m.extra) in
-    omega (arith, counted m.extra m c, mul-le-mul (within 1 mostEquations m.p 1 a) unknowns)
+    let unknowns : m.q ≤ most_unknowns = omega (arith, within 1 (most_for m.extra) m.q 2 b, most_few m.extra) in
+    omega (arith, counted m.extra m c, mul-le-mul (within 1 most_equations m.p 1 a) unknowns)
 
 -- what follows the checks of the shape
-small-shape : (m : Input) (s : State) (d : Check) → (length m.coefs ≤ 128 → Small d) → Small (shapeThen m s d)
-small-shape m s d h =
-    small-then (check1 m) _ (small-if _ 1 (omega arith)) (λ a.
-    small-then (unknownsCheck m) _ (small-if _ 2 (omega arith)) (λ b.
-    small-then (numbersCheck m) _ (small-if _ 3 (omega arith)) (λ c.
-    small-then (check4 (systemOf m) s) d (small-if _ 4 (omega arith)) (λ _. h (few m a b c)))))
+small_shape : (m : Input) (s : State) (d : Check) → (length m.coefs ≤ 128 → Small d) → Small (shape_then m s d)
+small_shape m s d h =
+    small_then (check1 m) _ (small_if _ 1 (omega arith)) (λ a.
+    small_then (unknowns_check m) _ (small_if _ 2 (omega arith)) (λ b.
+    small_then (numbers_check m) _ (small_if _ 3 (omega arith)) (λ c.
+    small_then (check4 (system_of m) s) d (small_if _ 4 (omega arith)) (λ _. h (few m a b c)))))
 
-pub small-range : (m : Input) → length m.coefs ≤ 128 → Small (check7 m)
+pub small_range : (m : Input) → length m.coefs ≤ 128 → Small (check7 m)
 unfolding check7
-small-range m l = small-first 7 (length m.coefs) _ (omega arith) (omega arith)
+small_range m l = small_first 7 (length m.coefs) _ (omega arith) (omega arith)
 
 -- 7, and what comes after it
-small-ranges : (e : Extra) (m : Input) → length m.coefs ≤ 128 → Small (rangeChecks e m)
-small-ranges alone m l = small-range m l
-small-ranges (rights b) m l = small-then (check7 m) (check15 b) (small-range m l) (λ _. small-if _ 15 (omega arith))
+small_ranges : (e : Extra) (m : Input) → length m.coefs ≤ 128 → Small (range_checks e m)
+small_ranges alone m l = small_range m l
+small_ranges (rights b) m l = small_then (check7 m) (check15 b) (small_range m l) (λ _. small_if _ 15 (omega arith))
 
 module _ (m : Input) (s : State) where
-  pub small-start : Small (startChecks m s)
-  unfolding startChecks
-  small-start = small-shape m s (rangeChecks m.extra m) (small-ranges m.extra m)
+  pub small_start : Small (start_checks m s)
+  unfolding start_checks
+  small_start = small_shape m s (range_checks m.extra m) (small_ranges m.extra m)
 
-  small-lower : (lower : List ℕ) → Small (lowerChecks lower m s)
-  unfolding lowerChecks
-  small-lower lower =
-      small-shape m s (check5 m lower then check7 m then check8 m lower) (λ l.
-      small-then (check5 m lower) (check7 m then check8 m lower) (small-if _ 5 (omega arith)) (λ _.
-      small-then (check7 m) (check8 m lower) (small-range m l) (λ _. small-if _ 8 (omega arith))))
+  small_lower : (lower : List ℕ) → Small (lower_checks lower m s)
+  unfolding lower_checks
+  small_lower lower =
+      small_shape m s (check5 m lower then check7 m then check8 m lower) (λ l.
+      small_then (check5 m lower) (check7 m then check8 m lower) (small_if _ 5 (omega arith)) (λ _.
+      small_then (check7 m) (check8 m lower) (small_range m l) (λ _. small_if _ 8 (omega arith))))
 
-  pub small-resume : Small (resumeChecks m s)
-  unfolding resumeChecks
-  small-resume =
-      small-shape m s (check6 (systemOf m) s then rangeChecks m.extra m) (λ l.
-      small-then (check6 (systemOf m) s) (rangeChecks m.extra m) (small-if _ 6 (omega arith)) (λ _. small-ranges m.extra m l))
+  pub small_resume : Small (resume_checks m s)
+  unfolding resume_checks
+  small_resume =
+      small_shape m s (check6 (system_of m) s then range_checks m.extra m) (λ l.
+      small_then (check6 (system_of m) s) (range_checks m.extra m) (small_if _ 6 (omega arith)) (λ _. small_ranges m.extra m l))
 
-  small-resume-from : (lower : List ℕ) → Small (resumeFromChecks lower m s)
-  unfolding resumeFromChecks
-  small-resume-from lower =
-      small-shape m s (check5 m lower then check6From lower m s then check7 m then check8 m lower) (λ l.
-      small-then (check5 m lower) (check6From lower m s then check7 m then check8 m lower) (small-if _ 5 (omega arith)) (λ _.
-      small-then (check6From lower m s) (check7 m then check8 m lower) (small-if _ 6 (omega arith)) (λ _.
-      small-then (check7 m) (check8 m lower) (small-range m l) (λ _. small-if _ 8 (omega arith)))))
+  small_resume_from : (lower : List ℕ) → Small (resume_from_checks lower m s)
+  unfolding resume_from_checks
+  small_resume_from lower =
+      small_shape m s (check5 m lower then check6_from lower m s then check7 m then check8 m lower) (λ l.
+      small_then (check5 m lower) (check6_from lower m s then check7 m then check8 m lower) (small_if _ 5 (omega arith)) (λ _.
+      small_then (check6_from lower m s) (check7 m then check8 m lower) (small_if _ 6 (omega arith)) (λ _.
+      small_then (check7 m) (check8 m lower) (small_range m l) (λ _. small_if _ 8 (omega arith)))))
 
-small-search : (m : System) (s : State) → Small (searchChecks m s)
-unfolding searchChecks
-small-search m s =
-    small-then (refuseIf _ 14) _ (small-if _ 14 (omega arith)) (λ _.
-    small-then (refuseIf _ 11) _ (small-if _ 11 (omega arith)) (λ _.
-    small-if _ 12 (omega arith)))
+small_search : (m : System) (s : State) → Small (search_checks m s)
+unfolding search_checks
+small_search m s =
+    small_then (refuse_if _ 14) _ (small_if _ 14 (omega arith)) (λ _.
+    small_then (refuse_if _ 11) _ (small_if _ 11 (omega arith)) (λ _.
+    small_if _ 12 (omega arith)))
 
 -- the walk under way
-small-walk : (r : RunKind) (c d : Check) → Small c → Small d → Small (byWalk r c d)
-small-walk plainRun c d a b = b
-small-walk cappedRun c d a b = b
-small-walk lowerPlain c d a b = a
-small-walk lowerAbove c d a b = b
-small-walk deskByDesk c d a b = b
+small_walk : (r : RunKind) (c d : Check) → Small c → Small d → Small (by_walk r c d)
+small_walk plain_run c d a b = b
+small_walk capped_run c d a b = b
+small_walk lower_plain c d a b = a
+small_walk lower_above c d a b = b
+small_walk desk_by_desk c d a b = b
 
-small-search-from : (lower : List ℕ) (m : Input) (s : State) → Small (searchFrom lower m s)
-unfolding searchFrom
-small-search-from lower m s = small-walk s.run.kind _ _ (small-search (mapOf m) (plainPart s)) (small-search (aboveSystem lower m) s)
+small_search_from : (lower : List ℕ) (m : Input) (s : State) → Small (search_from lower m s)
+unfolding search_from
+small_search_from lower m s = small_walk s.run.kind _ _ (small_search (map_of m) (plain_part s)) (small_search (above_system lower m) s)
 
 -- ---- calls
 
-pub fits-checked : (c : Check) (s : State) (work : State → Outcome State) → Small c → Fits (work s).answer → Fits (checked c s work).answer
+pub fits_checked : (c : Check) (s : State) (work : State → Outcome State) → Small c → Fits (work s).answer → Fits (checked c s work).answer
 unfolding checked
-fits-checked (refuse n values) s work h w = h
-fits-checked go s work h w = w
+fits_checked (refuse n values) s work h w = h
+fits_checked go s work h w = w
 
-pub fits-unless : (b : Bool) (s : State) (work : State → Outcome State) → Fits (work s).answer → Fits (unlessDone b s work).answer
-unfolding unlessDone
-fits-unless true s work w = omega arith
-fits-unless false s work w = w
+pub fits_unless : (b : Bool) (s : State) (work : State → Outcome State) → Fits (work s).answer → Fits (unless_done b s work).answer
+unfolding unless_done
+fits_unless true s work w = omega arith
+fits_unless false s work w = w
 
-fits-walk : (n : ℕ) (m : Machine State) → ((s : State) → Small (m.refusals s)) → (s : State) → Fits (walk n m s).answer
+fits_walk : (n : ℕ) (m : Machine State) → ((s : State) → Small (m.refusals s)) → (s : State) → Fits (walk n m s).answer
 unfolding walk
-fits-walk zero m small s = fits-unless _ (m.settle s) _ (omega arith)
-fits-walk (suc n) m small s =
+fits_walk zero m small s = fits_unless _ (m.settle s) _ (omega arith)
+fits_walk (suc n) m small s =
     let t : State = m.settle s in
-    fits-unless _ t _ (fits-checked (m.refusals t) t _ (small t) (fits-walk n m small (m.step t)))
+    fits_unless _ t _ (fits_checked (m.refusals t) t _ (small t) (fits_walk n m small (m.step t)))
 
 module _ (m : Input) (s : State) where
   pub start_fits : Fits (start m s).answer
   unfolding start
-  start_fits = fits-checked (startChecks m s) s _ (small-start m s) (omega arith)
+  start_fits = fits_checked (start_checks m s) s _ (small_start m s) (omega arith)
 
-  pub start-from-fits : (lower : List ℕ) → Fits (startFrom lower m s).answer
-  unfolding startFrom
-  start-from-fits lower = fits-checked (lowerChecks lower m s) s _ (small-lower m s lower) (omega arith)
+  pub start_from_fits : (lower : List ℕ) → Fits (start_from lower m s).answer
+  unfolding start_from
+  start_from_fits lower = fits_checked (lower_checks lower m s) s _ (small_lower m s lower) (omega arith)
 
-  pub resume-fits : (budget : ℕ) → Fits (resume budget m s).answer
+  pub resume_fits : (budget : ℕ) → Fits (resume budget m s).answer
   unfolding call
-  resume-fits budget = fits-checked (resumeChecks m s) s _ (small-resume m s) (fits-walk budget (machine m) (small-search (systemOf m)) s)
+  resume_fits budget = fits_checked (resume_checks m s) s _ (small_resume m s) (fits_walk budget (machine m) (small_search (system_of m)) s)
 
-  pub resume-from-fits : (budget : ℕ) (lower : List ℕ) → Fits (resumeFrom budget lower m s).answer
+  pub resume_from_fits : (budget : ℕ) (lower : List ℕ) → Fits (resume_from budget lower m s).answer
   unfolding call
-  resume-from-fits budget lower =
-      fits-checked (resumeFromChecks lower m s) s _ (small-resume-from m s lower) (fits-walk budget (machineFrom lower m) (small-search-from lower m) s)
+  resume_from_fits budget lower =
+      fits_checked (resume_from_checks lower m s) s _ (small_resume_from m s lower) (fits_walk budget (machine_from lower m) (small_search_from lower m) s)
 
 -- ---- what a call by value answered
 
-pub answer-fits : {S : Type 0} {a : Answer} {s : S} {left : Outcome S} → ◌≡◌ {A = Outcome S} (record { answer = a; state = s }) left → Fits left.answer
+pub answer_fits : {S : Type 0} {a : Answer} {s : S} {left : Outcome S} → ◌≡◌ {A = Outcome S} (record { answer = a; state = s }) left → Fits left.answer
     → Fits a
-answer-fits e h = rw (← e) at h
+answer_fits e h = rw (← e) at h

@@ -1,7 +1,7 @@
 // An answer as one number.
 ghost use Rattle.std.specs.Prelude.{◌≡◌, ◌^◌, ◌<◌};
 ghost use Rattle.calls.specs.Paper.{number_of, values_of, answer_of};
-ghost use Rattle.c_record.specs.Codes.{code, refusalCode};
+ghost use Rattle.c_record.specs.Codes.{code, refusal_code};
 
 use calls::{Answer, Refusal};
 
@@ -18,8 +18,8 @@ pub fn number(answer: Answer) -> u64
 }
 
 pub fn refusal(why: Refusal) -> u64
-    requires { refusalCode (number_of why) (values_of why) < 2 ^ 64 }
-    ensures { result ≡ refusalCode (number_of why) (values_of why) }
+    requires { refusal_code (number_of why) (values_of why) < 2 ^ 64 }
+    ensures { result ≡ refusal_code (number_of why) (values_of why) }
 {
     calls::number_of(why) + 256 * calls::value_of(why) as u64
 }

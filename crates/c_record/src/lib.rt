@@ -2,7 +2,7 @@
 ghost use Rattle.std.specs.Prelude.{◌≡◌, ◌^◌, ◌<◌};
 ghost use Rattle.calls.specs.Paper.{answer_of, run_of};
 ghost use Rattle.c_record.specs.Codes.{code};
-ghost use Rattle.c_record.specs.Words.{wordsLeft};
+ghost use Rattle.c_record.specs.Words.{words_left};
 
 use calls::Outcome;
 
@@ -14,7 +14,7 @@ pub mod words; // words.rt: the run record as words
 pub fn tell(o: Outcome, run: &mut [u64]) -> u64
     requires { code (answer_of o.answer) < 2 ^ 64 }
     ensures value { result ≡ code (answer_of o.answer) }
-    ensures run_after { run.new ≡ wordsLeft run.old (run_of o.run) }
+    ensures run_after { run.new ≡ words_left run.old (run_of o.run) }
 {
     let answer = o.answer;
     let left = o.run;

@@ -1,13 +1,13 @@
 // The run record as words of 64 bits: specs/Words.antt says which.
 ghost use Rattle.std.specs.Prelude.{◌≡◌, ltb, length, set};
 ghost use Rattle.calls.specs.Paper.{run_of};
-ghost use Rattle.c_record.specs.Words.{heightIf, kind_at, recordIn, wordsLeft};
+ghost use Rattle.c_record.specs.Words.{height_if, kind_at, record_in, words_left};
 
 use calls::{Record, RunKind, Solutions, Steps};
 
 // The record that the words hold; another number of them is a record out of order.
 pub fn read(words: &[u64]) -> Record
-    ensures { result ≡ recordIn words.now }
+    ensures { result ≡ record_in words.now }
 {
     if words.len() == 7 {
         let kind = words[3];
@@ -45,7 +45,7 @@ pub fn kind_at(n: u64) -> RunKind
 
 // The height, or one out of order where the number is no kind's.
 fn height_at(kind: u64, height: usize) -> usize
-    ensures { result ≡ heightIf (ltb kind 5) height }
+    ensures { result ≡ height_if (ltb kind 5) height }
 {
     if kind < 5 {
         return height;
@@ -55,7 +55,7 @@ fn height_at(kind: u64, height: usize) -> usize
 
 // Puts a record back into its words; another number of them stays as it is, and so do words that were read as out of order.
 pub fn write(words: &mut [u64], r: Record)
-    ensures { words.new ≡ wordsLeft words.old (run_of r) }
+    ensures { words.new ≡ words_left words.old (run_of r) }
 {
     if words.len() != 7 {
         return;

@@ -1,6 +1,6 @@
 // The calls of the training seat on a record of words, with an answer that is one number.
 ghost use Rattle.std.specs.Prelude.{◌≡◌};
-ghost use Rattle.c_seat.specs.SeatWords.{seatResumeBounded, seatResumeWords, seatStartBounded, seatStartWords};
+ghost use Rattle.c_seat.specs.SeatWords.{seat_resume_bounded, seat_resume_words, seat_start_bounded, seat_start_words};
 
 use c_record::{tell, words};
 
@@ -14,7 +14,7 @@ pub fn start(
     run: &mut [u64],
 ) -> u64
     ensures { (result, (stack.new, (list.new, run.new))) ≡
-        seatStartWords p q coefs.now stack.old list.old run.old }
+        seat_start_words p q coefs.now stack.old list.old run.old }
 {
     if run.len() == 7 {
         let r = words::read(run);
@@ -36,7 +36,7 @@ pub fn start_from(
     run: &mut [u64],
 ) -> u64
     ensures { (result, (stack.new, (list.new, (second.new, run.new)))) ≡
-        seatStartBounded p q coefs.now lower.now stack.old list.old second.old run.old }
+        seat_start_bounded p q coefs.now lower.now stack.old list.old second.old run.old }
 {
     if run.len() == 7 {
         let r = words::read(run);
@@ -57,7 +57,7 @@ pub fn resume(
     budget: u64,
 ) -> u64
     ensures { (result, (stack.new, (list.new, run.new))) ≡
-        seatResumeWords budget p q coefs.now stack.old list.old run.old }
+        seat_resume_words budget p q coefs.now stack.old list.old run.old }
 {
     let r = words::read(run);
     let o = seat::resumed(p, q, coefs, stack, list, r, budget);
@@ -77,7 +77,7 @@ pub fn resume_from(
     budget: u64,
 ) -> u64
     ensures { (result, (stack.new, (list.new, (second.new, run.new)))) ≡
-        seatResumeBounded budget p q coefs.now lower.now
+        seat_resume_bounded budget p q coefs.now lower.now
         stack.old list.old second.old run.old }
 {
     let r = words::read(run);

@@ -3,10 +3,10 @@ use Rattle.std.specs.Prelude.{ℕ, ◌≤◌, ◌<◌, List, ◌≡◌}
 use Rattle.std.proofs.Common.{arith}
 use Rattle.definitions.specs.Answers.{◌then◌}
 use Rattle.definitions.specs.Calls.{resume, start}
-use Rattle.definitions.specs.Input.{Extra, Input, alone, mapOf, rights, walkSystem}
-use Rattle.definitions.specs.Refusals.{resumeChecks, startChecks}
+use Rattle.definitions.specs.Input.{Extra, Input, alone, map_of, rights, walk_system}
+use Rattle.definitions.specs.Refusals.{resume_checks, start_checks}
 use Rattle.definitions.specs.Tables.{State}
-use Rattle.laws.specs.RefusalLaws.{resume-valid, start-shaped}
+use Rattle.laws.specs.RefusalLaws.{resume_valid, start_shaped}
 use Rattle.calls.specs.CodeLaws as answers
 use Rattle.calls.specs.Codes.{code}
 use Rattle.calls.specs.Paper.{value}
@@ -15,35 +15,35 @@ use Rattle.single_listing.specs.declared.ListingAnswer.{ListingAnswer}
 use Rattle.single_listing.specs.declared.ListingAnswer.TheVariants.{Written, Refused}
 use Rattle.single_listing.specs.declared.ListingRefusal.{ListingRefusal}
 use Rattle.single_listing.specs.declared.ListingRefusal.TheVariants.{Call, NotMinimal, OutputLength}
-use Rattle.single_spec.specs.Calls.{singleResume, singleResumeChecks, singleStart, singleStartChecks}
+use Rattle.single_spec.specs.Calls.{single_resume, single_resume_checks, single_start, single_start_checks}
 use Rattle.single_spec.specs.Listing.{Listing}
 use Rattle.single_spec.specs.Profile.{check26}
-use Rattle.c_record.specs.CodeLaws.{Fits, Small, fits-checked, resume-fits, small-first, small-resume, small-start, small-then, start_fits}
-use Rattle.c_single.specs.SingleFile.{listingTold}
+use Rattle.c_record.specs.CodeLaws.{Fits, Small, fits_checked, resume_fits, small_first, small_resume, small_start, small_then, start_fits}
+use Rattle.c_single.specs.SingleFile.{listing_told}
 
 -- the walk has at least the unknowns of the map
-map-few : (e : Extra) (i : Input) → (walkSystem e i).q ≤ 16 → i.q ≤ 16
-map-few alone i l = l
-map-few (rights b) i l = omega (arith, l)
+map_few : (e : Extra) (i : Input) → (walk_system e i).q ≤ 16 → i.q ≤ 16
+map_few alone i l = l
+map_few (rights b) i l = omega (arith, l)
 
 module _ (i : Input) (s : State) where
-  small-26 : i.q ≤ 16 → Small (check26 (mapOf i))
+  small_26 : i.q ≤ 16 → Small (check26 (map_of i))
   unfolding check26
-  small-26 l = small-first 26 i.q _ (omega arith) (omega arith)
+  small_26 l = small_first 26 i.q _ (omega arith) (omega arith)
 
-  pub single-start-fits : Fits (singleStart i s).answer
-  unfolding singleStart singleStartChecks
-  single-start-fits =
-      fits-checked (startChecks i s then check26 (mapOf i)) s (start i)
-      (small-then (startChecks i s) (check26 (mapOf i)) (small-start i s) (λ e. small-26 (map-few i.extra i (start-shaped i s e).q-few)))
+  pub single_start_fits : Fits (single_start i s).answer
+  unfolding single_start single_start_checks
+  single_start_fits =
+      fits_checked (start_checks i s then check26 (map_of i)) s (start i)
+      (small_then (start_checks i s) (check26 (map_of i)) (small_start i s) (λ e. small_26 (map_few i.extra i (start_shaped i s e).q_few)))
       (start_fits i s)
 
-  pub single-resume-fits : (budget : ℕ) → Fits (singleResume budget i s).answer
-  unfolding singleResume singleResumeChecks
-  single-resume-fits budget =
-      fits-checked (resumeChecks i s then check26 (mapOf i)) s (resume budget i)
-      (small-then (resumeChecks i s) (check26 (mapOf i)) (small-resume i s) (λ e. small-26 (map-few i.extra i (resume-valid i s e).shaped.q-few)))
-      (resume-fits i s budget)
+  pub single_resume_fits : (budget : ℕ) → Fits (single_resume budget i s).answer
+  unfolding single_resume single_resume_checks
+  single_resume_fits budget =
+      fits_checked (resume_checks i s then check26 (map_of i)) s (resume budget i)
+      (small_then (resume_checks i s) (check26 (map_of i)) (small_resume i s) (λ e. small_26 (map_few i.extra i (resume_valid i s e).shaped.q_few)))
+      (resume_fits i s budget)
 
 -- ---- the listing
 
@@ -52,13 +52,13 @@ number_small (Call why) = answers.number_small why
 number_small (NotMinimal row) = omega arith
 number_small OutputLength = omega arith
 
-pub refused-small : {r : ListingAnswer} {why : ListingRefusal} {n : ℕ} → r ≡ Refused why → n ≡ number_of why → n < 256
-refused-small {why = why} h e = rw e (number_small why)
+pub refused_small : {r : ListingAnswer} {why : ListingRefusal} {n : ℕ} → r ≡ Refused why → n ≡ number_of why → n < 256
+refused_small {why = why} h e = rw e (number_small why)
 
 module _ {r : ListingAnswer} {out : List ℕ} {l : Listing} (e : listed_of r out ≡ l) {a : ℕ} where
-  pub told-written : {n : ℕ} → r ≡ Written n → a ≡ code 104 n → (a, out) ≡ listingTold l
-  told-written h d = rw (← e, h, d)
+  pub told_written : {n : ℕ} → r ≡ Written n → a ≡ code 104 n → (a, out) ≡ listing_told l
+  told_written h d = rw (← e, h, d)
 
-  pub told-refused : {why : ListingRefusal} {n v : ℕ} → r ≡ Refused why → n ≡ number_of why → v ≡ value (values_of why) → a ≡ code n v
-      → (a, out) ≡ listingTold l
-  told-refused h x y d = rw (← e, h, d, x, y)
+  pub told_refused : {why : ListingRefusal} {n v : ℕ} → r ≡ Refused why → n ≡ number_of why → v ≡ value (values_of why) → a ≡ code n v
+      → (a, out) ≡ listing_told l
+  told_refused h x y d = rw (← e, h, d, x, y)

@@ -1,8 +1,8 @@
 // Single-file maps: the start and the continuing call on a record of words, and the listing with its answer as one number.
 ghost use Rattle.std.specs.Prelude.{◌≡◌};
 ghost use Rattle.definitions.specs.Input.{input_of};
-ghost use Rattle.single_spec.specs.Listing.{listingCall};
-ghost use Rattle.c_single.specs.SingleFile.{singleStartWords, singleResumeWords, listingTold};
+ghost use Rattle.single_spec.specs.Listing.{listing_call};
+ghost use Rattle.c_single.specs.SingleFile.{single_start_words, single_resume_words, listing_told};
 
 use c_record::{tell, words};
 use calls::Solutions;
@@ -18,7 +18,7 @@ pub fn start(
     run: &mut [u64],
 ) -> u64
     ensures { (result, (stack.new, (list.new, run.new))) ≡
-        singleStartWords p q coefs.now stack.old list.old run.old }
+        single_start_words p q coefs.now stack.old list.old run.old }
 {
     if run.len() == 7 {
         let r = words::read(run);
@@ -39,7 +39,7 @@ pub fn resume(
     budget: u64,
 ) -> u64
     ensures { (result, (stack.new, (list.new, run.new))) ≡
-        singleResumeWords budget p q coefs.now stack.old list.old run.old }
+        single_resume_words budget p q coefs.now stack.old list.old run.old }
 {
     let r = words::read(run);
     let o = single::resumed(p, q, coefs, stack, list, r, budget);
@@ -48,7 +48,7 @@ pub fn resume(
 
 // The listing.
 pub fn listed(p: usize, q: usize, coefs: &[i32], list: &[u32], found: usize, out: &mut [u8]) -> u64
-    ensures { (result, out.new) ≡ listingTold (listingCall (input_of p q coefs.now) list.now found out.old) }
+    ensures { (result, out.new) ≡ listing_told (listing_call (input_of p q coefs.now) list.now found out.old) }
 {
     match single_listing::listed(p, q, coefs, list, Solutions(found), out) {
         ListingAnswer::Written(n) => calls::codes::coded(104, n),

@@ -1,6 +1,6 @@
 // The plain start and the continuing call on a record of words, with an answer that is one number. The other calls of a walk are in modules.
 ghost use Rattle.std.specs.Prelude.{◌≡◌};
-ghost use Rattle.c_record.specs.Words.{startWords, resumeWords};
+ghost use Rattle.c_record.specs.Words.{start_words, resume_words};
 
 use c_record::misfit::misfit;
 use c_record::{tell, words};
@@ -19,7 +19,7 @@ pub fn start(
     run: &mut [u64],
 ) -> u64
     ensures { (result, (stack.new, (list.new, run.new))) ≡
-        startWords p q coefs.now stack.old list.old run.old }
+        start_words p q coefs.now stack.old list.old run.old }
 {
     if run.len() == 7 {
         let r = words::read(run);
@@ -40,7 +40,7 @@ pub fn resume(
     budget: u64,
 ) -> u64
     ensures { (result, (stack.new, (list.new, run.new))) ≡
-        resumeWords budget p q coefs.now stack.old list.old run.old }
+        resume_words budget p q coefs.now stack.old list.old run.old }
 {
     let r = words::read(run);
     let o = walk::resumed(p, q, coefs, stack, list, r, budget, calls::COMPONENT_LIMIT);

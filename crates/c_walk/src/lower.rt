@@ -1,6 +1,6 @@
 // A run from a lower bound: the start and the continuing call on a record of words, with an answer that is one number.
 ghost use Rattle.std.specs.Prelude.{◌≡◌};
-ghost use Rattle.c_walk.specs.Lower.{startBounded, resumeBounded};
+ghost use Rattle.c_walk.specs.Lower.{start_bounded, resume_bounded};
 
 use c_record::{tell, words};
 
@@ -16,7 +16,7 @@ pub fn start_from(
     run: &mut [u64],
 ) -> u64
     ensures { (result, (stack.new, (list.new, (second.new, run.new)))) ≡
-        startBounded p q coefs.now lower.now stack.old list.old second.old run.old }
+        start_bounded p q coefs.now lower.now stack.old list.old second.old run.old }
 {
     if run.len() == 7 {
         let r = words::read(run);
@@ -40,7 +40,7 @@ pub fn resume_from(
     budget: u64,
 ) -> u64
     ensures { (result, (stack.new, (list.new, (second.new, run.new)))) ≡
-        resumeBounded budget p q coefs.now lower.now stack.old list.old second.old run.old }
+        resume_bounded budget p q coefs.now lower.now stack.old list.old second.old run.old }
 {
     let r = words::read(run);
     let most = calls::COMPONENT_LIMIT;

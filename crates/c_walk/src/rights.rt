@@ -1,6 +1,6 @@
 // A map with right sides: the start and the continuing call on a record of words, with an answer that is one number.
 ghost use Rattle.std.specs.Prelude.{◌≡◌};
-ghost use Rattle.c_walk.specs.Capped.{startSided, resumeSided};
+ghost use Rattle.c_walk.specs.Capped.{start_sided, resume_sided};
 
 use c_record::{tell, words};
 
@@ -16,7 +16,7 @@ pub fn start(
     run: &mut [u64],
 ) -> u64
     ensures { (result, (stack.new, (list.new, (second.new, run.new)))) ≡
-        startSided p q coefs.now rights.now stack.old list.old second.old run.old }
+        start_sided p q coefs.now rights.now stack.old list.old second.old run.old }
 {
     if run.len() == 7 {
         let r = words::read(run);
@@ -39,7 +39,7 @@ pub fn resume(
     budget: u64,
 ) -> u64
     ensures { (result, (stack.new, (list.new, (second.new, run.new)))) ≡
-        resumeSided budget p q coefs.now rights.now stack.old list.old second.old run.old }
+        resume_sided budget p q coefs.now rights.now stack.old list.old second.old run.old }
 {
     let r = words::read(run);
     let most = calls::COMPONENT_LIMIT;

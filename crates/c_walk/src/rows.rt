@@ -1,15 +1,15 @@
 // A row of a finished list, or of either of two, for a caller that cannot hold a part of a table.
 ghost use Rattle.std.specs.Prelude.{◌≡◌, ◌++◌, ◌≤◌, length, drop};
 ghost use Rattle.definitions.specs.Refusals.{between};
-ghost use Rattle.reader.specs.Reading.{whichOf};
-ghost use Rattle.c_walk.specs.Rows.{rowTold, copyTold, eitherTold, whichAt, countAt};
+ghost use Rattle.reader.specs.Reading.{which_of};
+ghost use Rattle.c_walk.specs.Rows.{row_told, copy_told, either_told, which_at, count_at};
 
 use calls::Solutions;
 use reader::{Readable, Which};
 
 // Whether the reader is refused, and then what it shows.
 pub fn tell(list: &[u32], q: usize, found: usize, n: usize, out: &mut [u32]) -> u64
-    ensures { (result, out.new) ≡ rowTold q list.now found n out.old }
+    ensures { (result, out.new) ≡ row_told q list.now found n out.old }
 {
     match reader::reader_answer(q) {
         Readable::Refused(why) => calls::number_of(why),
@@ -27,7 +27,7 @@ pub fn tell_either<'a>(
     n: usize,
     out: &mut [u32],
 ) -> u64
-    ensures { (result, out.new) ≡ eitherTold at q list.now second.now found n out.old }
+    ensures { (result, out.new) ≡ either_told at q list.now second.now found n out.old }
 {
     if has_two_lists(q) {
         let count = Solutions(count_at(at, found));
@@ -50,7 +50,7 @@ fn has_two_lists(q: usize) -> bool
 }
 
 fn which_at(at: usize) -> Which
-    ensures { whichOf result ≡ whichAt at }
+    ensures { which_of result ≡ which_at at }
 {
     if at == 0 {
         return Which::Zero;
@@ -59,7 +59,7 @@ fn which_at(at: usize) -> Which
 }
 
 fn count_at(at: usize, found: usize) -> usize
-    ensures { result ≡ countAt at found }
+    ensures { result ≡ count_at at found }
 {
     if at < 2 {
         return found;
@@ -69,7 +69,7 @@ fn count_at(at: usize, found: usize) -> usize
 
 // A part of the list: no row where it is empty.
 fn tell_part(part: &[u32], out: &mut [u32]) -> u64
-    ensures { (result, out.new) ≡ copyTold part.now out.old }
+    ensures { (result, out.new) ≡ copy_told part.now out.old }
 {
     if part.len() == 0 {
         return 103;

@@ -6,13 +6,13 @@ use Rattle.calls.specs.declared.Refusal.{Refusal}
 use Rattle.calls.specs.declared.Refusal.TheVariants.{Equations, Unknowns, CoefficientCount, TableLength, BoundLength, OutOfOrder, Coefficient}
 use Rattle.calls.specs.declared.Refusal.TheVariants.{BoundRange, ListFull, ComponentLimit, StepLimit, RightSide, SeatUnknowns, SeatComponent}
 use Rattle.calls.specs.declared.Refusal.TheVariants.{Generators, Column, TablesFull, NotLeft, NotFresh, NotOperation, ShiftedSide}
-use Rattle.calls.specs.Codes.{code, refusalCode}
+use Rattle.calls.specs.Codes.{code, refusal_code}
 
-pub code-small : (n v : ℕ) → v < 72057594037927936 → n + 256 * v ≡ code n v
-code-small n v l = omega arith
+pub code_small : (n v : ℕ) → v < 72057594037927936 → n + 256 * v ≡ code n v
+code_small n v l = omega arith
 
-pub code-large : (n v : ℕ) → 72057594037927936 ≤ v → n + 18446744073709551360 ≡ code n v
-code-large n v l = omega arith
+pub code_large : (n v : ℕ) → 72057594037927936 ≤ v → n + 18446744073709551360 ≡ code n v
+code_large n v l = omega arith
 
 pub number_small : (why : Refusal) → number_of why < 256
 number_small Equations = omega arith
@@ -37,5 +37,5 @@ number_small NotFresh = omega arith
 number_small NotOperation = omega arith
 number_small (ShiftedSide place) = omega arith
 
-pub refusal-told : (why : Refusal) {a n v : ℕ} → a ≡ code n v → n ≡ number_of why → v ≡ value (values_of why) → a ≡ refusalCode (number_of why) (values_of why)
-refusal-told why d x y = rw (d, x, y)
+pub refusal_told : (why : Refusal) {a n v : ℕ} → a ≡ code n v → n ≡ number_of why → v ≡ value (values_of why) → a ≡ refusal_code (number_of why) (values_of why)
+refusal_told why d x y = rw (d, x, y)

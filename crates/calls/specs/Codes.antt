@@ -10,5 +10,5 @@ abbrev pub code : ℕ → ℕ → ℕ
 code number place = number + 256 * capped place
 
 -- the papers' number of a refusal, and the value that it comes with for the place
-abbrev pub refusalCode : ℕ → List ℕ → ℕ
-refusalCode n values = code n (value values)
+abbrev pub refusal_code : ℕ → List ℕ → ℕ
+refusal_code n values = code n (value values)

@@ -21,18 +21,18 @@ use Rattle.calls.specs.declared.Check.{Check}
 use Rattle.calls.specs.declared.Check.TheVariants.{Refuse, Pass}
 
 -- the system that a walk of a kind goes through
-abbrev pub systemWith : Kind → ℕ → ℕ → List ℤ → ℕ → System
-systemWith kind p q coefs limit = record { p = p; q = q; coefs = coefs; kind = kind; limit = limit }
+abbrev pub system_with : Kind → ℕ → ℕ → List ℤ → ℕ → System
+system_with kind p q coefs limit = record { p = p; q = q; coefs = coefs; kind = kind; limit = limit }
 
-abbrev pub plainSystem : ℕ → ℕ → List ℤ → ℕ → System
-plainSystem p q coefs limit = systemWith plain p q coefs limit
+abbrev pub plain_system : ℕ → ℕ → List ℤ → ℕ → System
+plain_system p q coefs limit = system_with plain p q coefs limit
 
 abbrev pub kind_of : RunKind → tables.RunKind
-kind_of Plain = tables.plainRun
-kind_of Capped = tables.cappedRun
-kind_of LowerPlain = tables.lowerPlain
-kind_of LowerAbove = tables.lowerAbove
-kind_of Desks = tables.deskByDesk
+kind_of Plain = tables.plain_run
+kind_of Capped = tables.capped_run
+kind_of LowerPlain = tables.lower_plain
+kind_of LowerAbove = tables.lower_above
+kind_of Desks = tables.desk_by_desk
 
 abbrev pub run_of : Record → tables.Record
 run_of r =
@@ -47,11 +47,11 @@ run_of r =
     }
 
 -- what is lent to a call with two lists; and to one with a single list, whose second one is empty
-abbrev pub stateWith : List ℕ → List ℕ → List ℕ → Record → State
-stateWith stack list second r = record { stack = stack; list = list; second = second; run = run_of r }
+abbrev pub state_with : List ℕ → List ℕ → List ℕ → Record → State
+state_with stack list second r = record { stack = stack; list = list; second = second; run = run_of r }
 
 abbrev pub state_of : List ℕ → List ℕ → Record → State
-state_of stack list r = stateWith stack list [] r
+state_of stack list r = state_with stack list [] r
 
 -- the number of a refusal
 abbrev pub number_of : Refusal → ℕ
@@ -112,45 +112,45 @@ answer_of Complete = paper.complete
 answer_of Paused = paper.paused
 answer_of (Refused why) = paper.refused (number_of why) (values_of why)
 
-abbrev pub checkOf : Check → paper.Check
-checkOf (Refuse why) = paper.refuse (number_of why) (values_of why)
-checkOf Pass = paper.go
+abbrev pub check_of : Check → paper.Check
+check_of (Refuse why) = paper.refuse (number_of why) (values_of why)
+check_of Pass = paper.go
 
 -- ---- what a call leaves
 
 -- a run record of its parts
-abbrev pub recordOf : RunKind → ℕ → Solutions → Steps → Solutions → Steps → ℕ → Record
-recordOf kind height found steps found2 steps2 deepest =
+abbrev pub record_of : RunKind → ℕ → Solutions → Steps → Solutions → Steps → ℕ → Record
+record_of kind height found steps found2 steps2 deepest =
     record { kind = kind; height = height; found = found; steps = steps; found2 = found2; steps2 = steps2; deepest = deepest }
 
 -- that of a plain run that shows no depth yet
-abbrev pub plainRecord : ℕ → Solutions → Steps → Record
-plainRecord height found steps = recordOf Plain height found steps (record { 0 = 0 }) (record { 0 = 0 }) 0
+abbrev pub plain_record : ℕ → Solutions → Steps → Record
+plain_record height found steps = record_of Plain height found steps (record { 0 = 0 }) (record { 0 = 0 }) 0
 
--- what the plain walk of a run from a lower bound sees of it (`plainPart` of the definitions)
-abbrev pub plainPartOf : Record → Record
-plainPartOf r = recordOf Plain r.height r.found2 r.steps2 r.found r.steps r.deepest
+-- what the plain walk of a run from a lower bound sees of it (`plain_part` of the definitions)
+abbrev pub plain_part_of : Record → Record
+plain_part_of r = record_of Plain r.height r.found2 r.steps2 r.found r.steps r.deepest
 
-abbrev pub leftWith : Answer → List ℕ → List ℕ → List ℕ → Record → machine.Outcome State
-leftWith a stack list second r = record { answer = answer_of a; state = stateWith stack list second r }
+abbrev pub left_with : Answer → List ℕ → List ℕ → List ℕ → Record → machine.Outcome State
+left_with a stack list second r = record { answer = answer_of a; state = state_with stack list second r }
 
-abbrev pub leftBy : Answer → List ℕ → List ℕ → Record → machine.Outcome State
-leftBy a stack list r = leftWith a stack list [] r
+abbrev pub left_by : Answer → List ℕ → List ℕ → Record → machine.Outcome State
+left_by a stack list r = left_with a stack list [] r
 
-abbrev pub outcomeWith : Outcome → List ℕ → List ℕ → List ℕ → machine.Outcome State
-outcomeWith o stack list second = leftWith o.answer stack list second o.run
+abbrev pub outcome_with : Outcome → List ℕ → List ℕ → List ℕ → machine.Outcome State
+outcome_with o stack list second = left_with o.answer stack list second o.run
 
-abbrev pub outcomeOf : Outcome → List ℕ → List ℕ → machine.Outcome State
-outcomeOf o stack list = outcomeWith o stack list []
+abbrev pub outcome_of : Outcome → List ℕ → List ℕ → machine.Outcome State
+outcome_of o stack list = outcome_with o stack list []
 
 -- an answer with a record r whose counts and depth have moved
 abbrev pub leaves : Answer → Record → ℕ → ℕ → ℕ → ℕ → ℕ → Outcome
 leaves answer r height found steps found2 deepest =
-    record { answer = answer; run = recordOf r.kind height (record { 0 = found }) (record { 0 = steps }) (record { 0 = found2 }) r.steps2 deepest }
+    record { answer = answer; run = record_of r.kind height (record { 0 = found }) (record { 0 = steps }) (record { 0 = found2 }) r.steps2 deepest }
 
 -- begun
 abbrev pub begins : RunKind → ℕ → Outcome
-begins kind height = record { answer = Started; run = recordOf kind height (record { 0 = 0 }) (record { 0 = 0 }) (record { 0 = 0 }) (record { 0 = 0 }) 0 }
+begins kind height = record { answer = Started; run = record_of kind height (record { 0 = 0 }) (record { 0 = 0 }) (record { 0 = 0 }) (record { 0 = 0 }) 0 }
 
 -- refused before the walk
 abbrev pub refuses : Refusal → Record → Outcome

@@ -1,7 +1,7 @@
 // An answer as one number, for callers in other languages: specs/Codes.antt.
 ghost use Rattle.std.specs.Prelude.{◌≡◌, ◌<◌};
 ghost use Rattle.calls.specs.Paper.{number_of, values_of};
-ghost use Rattle.calls.specs.Codes.{code, refusalCode};
+ghost use Rattle.calls.specs.Codes.{code, refusal_code};
 
 use crate::Refusal;
 
@@ -18,7 +18,7 @@ pub fn coded(number: u64, place: usize) -> u64
 
 // A refusal, with the place that it comes with.
 pub fn refusal(why: Refusal) -> u64
-    ensures { result ≡ refusalCode (number_of why) (values_of why) }
+    ensures { result ≡ refusal_code (number_of why) (values_of why) }
 {
     coded(crate::number_of(why), crate::value_of(why))
 }

@@ -1,8 +1,8 @@
 // What a caller hands over and gets back, and the number of each refusal in documents 01 and 02.
 ghost use Rattle.std.specs.Prelude.{◌≡◌};
-ghost use Rattle.definitions.specs.Input.{limitOf};
-ghost use Rattle.definitions.specs.Tables.{isRun, runNumber};
-ghost use Rattle.calls.specs.Paper.{number_of, values_of, value, kind_of, recordOf, plainPartOf, plainRecord, begins, refuses, leaves};
+ghost use Rattle.definitions.specs.Input.{limit_of};
+ghost use Rattle.definitions.specs.Tables.{is_run, run_number};
+ghost use Rattle.calls.specs.Paper.{number_of, values_of, value, kind_of, record_of, plain_part_of, plain_record, begins, refuses, leaves};
 
 pub mod codes; // codes.rt: an answer as one number, for other languages
 
@@ -35,7 +35,7 @@ pub enum RunKind {
 
 // The number of a kind of run.
 pub fn run_number(kind: RunKind) -> u64
-    ensures { result ≡ runNumber (kind_of kind) }
+    ensures { result ≡ run_number (kind_of kind) }
 {
     match kind {
         RunKind::Plain => 0,
@@ -48,7 +48,7 @@ pub fn run_number(kind: RunKind) -> u64
 
 // Whether two kinds of run are one.
 pub fn same_run(a: RunKind, b: RunKind) -> bool
-    ensures { result ≡ isRun (kind_of a) (kind_of b) }
+    ensures { result ≡ is_run (kind_of a) (kind_of b) }
 {
     run_number(a) == run_number(b)
 }
@@ -68,7 +68,7 @@ pub struct Record {
 impl Record {
     // The record of a plain run that shows no depth yet.
     pub fn new(height: usize, found: Solutions, steps: Steps) -> Record
-        ensures { result ≡ plainRecord height found steps }
+        ensures { result ≡ plain_record height found steps }
     {
         Record::of(
             RunKind::Plain,
@@ -91,7 +91,7 @@ impl Record {
         steps2: Steps,
         deepest: u64,
     ) -> Record
-        ensures { result ≡ recordOf kind height found steps found2 steps2 deepest }
+        ensures { result ≡ record_of kind height found steps found2 steps2 deepest }
     {
         Record {
             kind,
@@ -107,7 +107,7 @@ impl Record {
 
 // What the plain walk of a run from a lower bound sees of its record: that of a plain run, with the counts of the second list and of that walk.
 pub fn plain_part(r: Record) -> Record
-    ensures { result ≡ plainPartOf r }
+    ensures { result ≡ plain_part_of r }
 {
     Record::of(
         RunKind::Plain,
@@ -122,7 +122,7 @@ pub fn plain_part(r: Record) -> Record
 
 // The limit of components that counts.
 pub fn limit_of(limit: u32) -> u32
-    ensures { result ≡ limitOf limit }
+    ensures { result ≡ limit_of limit }
 {
     if limit < 1 {
         return 1;

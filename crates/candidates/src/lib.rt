@@ -1,19 +1,19 @@
 // Which unknowns make a child of the row that a step takes off. The kind of the walk decides which candidates the cap and the second list leave open,
 // and what of a tuple is compared with the first list.
 ghost use Rattle.std.specs.Prelude.{◌≡◌, ◌&&◌, [], ◌+◌, ◌*◌, ◌-◌, ◌^◌, ◌≤◌, ◌<◌, eqb, length};
-ghost use Rattle.linear.specs.Tests.{anyTo};
+ghost use Rattle.linear.specs.Tests.{any_to};
 ghost use Rattle.linear.specs.Tuples.{AtOrBelow, raise};
-ghost use Rattle.definitions.specs.Input.{boundOf};
+ghost use Rattle.definitions.specs.Input.{bound_of};
 ghost use Rattle.definitions.specs.System.{above, capped, covered};
 ghost use Rattle.definitions.specs.Tables.{at, capacity, frozen};
-ghost use Rattle.definitions.specs.Step.{marksTo, rowWidth};
+ghost use Rattle.definitions.specs.Step.{marks_to, row_width};
 ghost use Rattle.laws.specs.RefusalLaws.{Inside, SecondFits};
 ghost use Rattle.table_rows.specs.Rows.{Limited, Within, part, tuple};
 ghost use Rattle.products.specs.Marks.{Marked};
-ghost use Rattle.candidates.specs.Kinds.{Bounds, asked, kindBy};
-ghost use Rattle.candidates.specs.Grow.{childBy, childFor, openFor};
+ghost use Rattle.candidates.specs.Kinds.{Bounds, asked, kind_by};
+ghost use Rattle.candidates.specs.Grow.{child_by, child_for, open_for};
 ghost use Rattle.candidates.specs.Open.{Differs};
-ghost use Rattle.candidates.specs.Tried.{triedBy, triedIf};
+ghost use Rattle.candidates.specs.Tried.{tried_by, tried_if};
 
 // The kinds of walk: plain, with a first unknown that is never raised past 1, and above a lower bound. specs/Kinds.antt has what they are in the definitions.
 #[derive(Drop)]
@@ -43,12 +43,12 @@ pub fn admitted(
     candidates: u32,
     limit: u32,
 ) -> Tried
-    requires q_nonzero { ((0 < rowWidth (kindBy kind lower.now) q) × (q ≤ 16) × (found ≤ capacity (rowWidth (kindBy kind lower.now) q) list.now))
+    requires q_nonzero { ((0 < row_width (kind_by kind lower.now) q) × (q ≤ 16) × (found ≤ capacity (row_width (kind_by kind lower.now) q) list.now))
         × Bounds kind q lower.now }
-    requires second_fits { SecondFits (kindBy kind lower.now) q (asked [] list.now second.now 0 found other) × (q ≤ length t.old) × (candidates < 2 ^ q) }
-    requires limited { Limited q (tuple t.old) × Within limit q (tuple t.old) × Inside (kindBy kind lower.now) q (tuple t.old) }
-    ensures value { result ≡ triedBy limit q
-        (childFor (kindBy kind lower.now) q (asked [] list.now second.now 0 found other) (tuple t.old) candidates)
+    requires second_fits { SecondFits (kind_by kind lower.now) q (asked [] list.now second.now 0 found other) × (q ≤ length t.old) × (candidates < 2 ^ q) }
+    requires limited { Limited q (tuple t.old) × Within limit q (tuple t.old) × Inside (kind_by kind lower.now) q (tuple t.old) }
+    ensures value { result ≡ tried_by limit q
+        (child_for (kind_by kind lower.now) q (asked [] list.now second.now 0 found other) (tuple t.old) candidates)
         (tuple t.old) }
     ensures t_unchanged { t.new ≡ t.old }
 {
@@ -75,8 +75,8 @@ fn admitted_capped(
     requires nonzero { ((0 < q - 1) × (q ≤ 16) × (found * (q - 1) ≤ length list.now) × (other * (q - 1) ≤ length second.now)) × (q ≤ length t.old)
         × (candidates < 2 ^ q) }
     requires limited { Limited q (tuple t.old) × Within limit q (tuple t.old) × (tuple t.old 0 ≤ 1) }
-    ensures value { result ≡ triedBy limit q
-        (childFor capped q (asked [] list.now second.now 0 found other) (tuple t.old) candidates) (tuple t.old) }
+    ensures value { result ≡ tried_by limit q
+        (child_for capped q (asked [] list.now second.now 0 found other) (tuple t.old) candidates) (tuple t.old) }
     ensures t_unchanged { t.new ≡ t.old }
 {
     let left = uncapped(second, other, q, t, candidates);
@@ -97,9 +97,9 @@ fn admitted_above(
 ) -> Tried
     requires q_nonzero { ((0 < q) × (q ≤ 16) × (found * q ≤ length list.now) × (other * q ≤ length second.now)) × (q ≤ length lower.now) × (q ≤ length t.old)
         × (candidates < 2 ^ q) }
-    requires limited { Limited q (tuple t.old) × Within limit q (tuple t.old) × AtOrBelow q (boundOf lower.now) (tuple t.old) }
-    ensures value { result ≡ triedBy limit q
-        (childFor (above (boundOf lower.now)) q (asked [] list.now second.now 0 found other) (tuple t.old)
+    requires limited { Limited q (tuple t.old) × Within limit q (tuple t.old) × AtOrBelow q (bound_of lower.now) (tuple t.old) }
+    ensures value { result ≡ tried_by limit q
+        (child_for (above (bound_of lower.now)) q (asked [] list.now second.now 0 found other) (tuple t.old)
         candidates) (tuple t.old) }
     ensures t_unchanged { t.new ≡ t.old }
 {
@@ -111,7 +111,7 @@ fn admitted_above(
 fn uncapped(second: &[u32], found: usize, q: usize, t: &mut [u32], candidates: u32) -> u32
     requires nonzero { ((0 < q - 1) × (q ≤ 16) × (found * (q - 1) ≤ length second.now)) × (q ≤ length t.old) × (candidates < 2 ^ q) }
     requires limited { Limited q (tuple t.old) × (tuple t.old 0 ≤ 1) }
-    ensures marked { Marked q (openFor capped q (asked [] [] second.now 0 0 found) (tuple t.old) candidates) result }
+    ensures marked { Marked q (open_for capped q (asked [] [] second.now 0 0 found) (tuple t.old) candidates) result }
     ensures t_unchanged { t.new ≡ t.old }
 {
     let first = candidates % 2;
@@ -127,9 +127,9 @@ fn uncapped(second: &[u32], found: usize, q: usize, t: &mut [u32], candidates: u
 // Those of a walk above a lower bound: the second list is asked for the tuple less the bound.
 fn apart(second: &[u32], lower: &[u32], found: usize, q: usize, t: &[u32], candidates: u32) -> u32
     requires q_nonzero { ((0 < q) × (q ≤ 16) × (found * q ≤ length second.now)) × (q ≤ length lower.now) × (q ≤ length t.now) × (candidates < 2 ^ q) }
-    requires limited { Limited q (tuple t.now) × AtOrBelow q (boundOf lower.now) (tuple t.now) }
+    requires limited { Limited q (tuple t.now) × AtOrBelow q (bound_of lower.now) (tuple t.now) }
     ensures { Marked q
-        (openFor (above (boundOf lower.now)) q (asked [] [] second.now 0 0 found) (tuple t.now) candidates) result }
+        (open_for (above (bound_of lower.now)) q (asked [] [] second.now 0 0 found) (tuple t.now) candidates) result }
 {
     let mut over = [0u32; 16];
     subtract(t, lower, q, &mut over);
@@ -138,8 +138,8 @@ fn apart(second: &[u32], lower: &[u32], found: usize, q: usize, t: &[u32], candi
 
 // Writes the tuple less the bound.
 fn subtract(t: &[u32], lower: &[u32], q: usize, over: &mut [u32; 16])
-    requires { ((q ≤ 16) × (q ≤ length lower.now) × (q ≤ length t.now) × (length over.old ≡ 16)) × AtOrBelow q (boundOf lower.now) (tuple t.now) }
-    ensures { Differs q (tuple t.now) (boundOf lower.now) over.new }
+    requires { ((q ≤ 16) × (q ≤ length lower.now) × (q ≤ length t.now) × (length over.old ≡ 16)) × AtOrBelow q (bound_of lower.now) (tuple t.now) }
+    ensures { Differs q (tuple t.now) (bound_of lower.now) over.new }
 {
     let mut j = 0;
     while j < q {
@@ -160,7 +160,7 @@ fn unstopped(
 ) -> u32
     requires w_nonzero { ((0 < w) × (from + w ≤ q)) × (q ≤ 16) × (found * w ≤ length list.now) × (q ≤ length t.old) × (candidates < 2 ^ q) }
     requires limited { Limited q (tuple t.old) }
-    ensures value { result ≡ marksTo q (childBy w from found (at list.now w) (tuple t.old) candidates) }
+    ensures value { result ≡ marks_to q (child_by w from found (at list.now w) (tuple t.old) candidates) }
     ensures t_unchanged { t.new ≡ t.old }
 {
     let mut left: u32 = 0;
@@ -190,7 +190,7 @@ fn passed(
 ) -> Tried
     requires w_nonzero { ((0 < w) × (from + w ≤ q)) × (q ≤ 16) × (found * w ≤ length list.now) × (q ≤ length t.old) × (left < 2 ^ q) }
     requires limited { Limited q (tuple t.old) × Within limit q (tuple t.old) }
-    ensures value { result ≡ triedBy limit q (childBy w from found (at list.now w) (tuple t.old) left) (tuple t.old) }
+    ensures value { result ≡ tried_by limit q (child_by w from found (at list.now w) (tuple t.old) left) (tuple t.old) }
     ensures t_unchanged { t.new ≡ t.old }
 {
     let made = unstopped(list, found, w, from, q, t, left);
@@ -200,7 +200,7 @@ fn passed(
 // Whether one of the children would have a component above the limit.
 fn limited(made: u32, q: usize, t: &[u32], limit: u32) -> Tried
     requires { ((q ≤ 16) × (q ≤ length t.now) × (made < 2 ^ q)) × Within limit q (tuple t.now) }
-    ensures { result ≡ triedIf (anyTo q (λ j. frozen made j && eqb (tuple t.now j) limit)) made }
+    ensures { result ≡ tried_if (any_to q (λ j. frozen made j && eqb (tuple t.now j) limit)) made }
 {
     let mut rest = made;
     while rest != 0 {
@@ -226,7 +226,7 @@ fn admitted_plain(
 ) -> Tried
     requires q_nonzero { (0 < q) × (q ≤ 16) × (found * q ≤ length list.now) × (q ≤ length t.old) × (candidates < 2 ^ q) }
     requires limited { Limited q (tuple t.old) × Within limit q (tuple t.old) }
-    ensures value { result ≡ triedBy limit q (childBy q 0 found (at list.now q) (tuple t.old) candidates) (tuple t.old) }
+    ensures value { result ≡ tried_by limit q (child_by q 0 found (at list.now q) (tuple t.old) candidates) (tuple t.old) }
     ensures t_unchanged { t.new ≡ t.old }
 {
     let mut made: u32 = 0;

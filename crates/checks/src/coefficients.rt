@@ -1,15 +1,15 @@
 // The range of the coefficients and of the right sides: refusals 7 and 15.
 ghost use Rattle.std.specs.Prelude.{◌≡◌};
 ghost use Rattle.definitions.specs.Answers.{◌then◌};
-ghost use Rattle.definitions.specs.Refusals.{check15, outOfRange};
-ghost use Rattle.calls.specs.Paper.{checkOf};
-ghost use Rattle.checks.specs.Coefficients.{FirstOutside, coefficientChecks};
+ghost use Rattle.definitions.specs.Refusals.{check15, out_of_range};
+ghost use Rattle.calls.specs.Paper.{check_of};
+ghost use Rattle.checks.specs.Coefficients.{FirstOutside, coefficient_checks};
 
 use calls::{Check, Refusal};
 
 // The first coefficient that is out of range, by its place from 1.
 pub fn check(coefs: &[i32]) -> Check
-    ensures { checkOf result ≡ coefficientChecks coefs.now }
+    ensures { check_of result ≡ coefficient_checks coefs.now }
 {
     let i = first_outside(coefs);
     if i < coefs.len() {
@@ -34,7 +34,7 @@ fn first_outside(coefs: &[i32]) -> usize
 
 // The coefficients, and after them the right sides, whose places are not told.
 pub fn check_both(coefs: &[i32], rights: &[i32]) -> Check
-    ensures { checkOf result ≡ (coefficientChecks coefs.now then check15 rights.now) }
+    ensures { check_of result ≡ (coefficient_checks coefs.now then check15 rights.now) }
 {
     match check(coefs) {
         Check::Refuse(why) => Check::Refuse(why),
@@ -44,7 +44,7 @@ pub fn check_both(coefs: &[i32], rights: &[i32]) -> Check
 
 // Whether a right side is out of range.
 fn check_sides(rights: &[i32]) -> Check
-    ensures { checkOf result ≡ check15 rights.now }
+    ensures { check_of result ≡ check15 rights.now }
 {
     match check(rights) {
         Check::Refuse(_) => Check::Refuse(Refusal::RightSide),
@@ -53,7 +53,7 @@ fn check_sides(rights: &[i32]) -> Check
 }
 
 pub fn out_of_range(x: i32) -> bool
-    ensures { result ≡ outOfRange x }
+    ensures { result ≡ out_of_range x }
 {
     if x < -10000 {
         return true;

@@ -1,10 +1,10 @@
 // Components above a limit: refusal 8.
 ghost use Rattle.std.specs.Prelude.{◌≡◌};
-ghost use Rattle.checks.specs.Shape.{aboveLimit};
+ghost use Rattle.checks.specs.Shape.{above_limit};
 
 // Whether a component is above the limit.
 pub fn above_limit(t: &[u32], limit: u32) -> bool
-    ensures { result ≡ aboveLimit limit t.now }
+    ensures { result ≡ above_limit limit t.now }
 {
     let mut j = 0;
     while j < t.len() {

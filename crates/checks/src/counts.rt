@@ -1,15 +1,15 @@
 // Refusals 1 to 3: the counts of a map.
 ghost use Rattle.std.specs.Prelude.{◌≡◌, ◌≤◌};
 ghost use Rattle.definitions.specs.Refusals.{sizes};
-ghost use Rattle.calls.specs.Paper.{checkOf};
-ghost use Rattle.checks.specs.Counts.{Modest, countChecks, countsWithin, sizeChecks, sizesWithin};
+ghost use Rattle.calls.specs.Paper.{check_of};
+ghost use Rattle.checks.specs.Counts.{Modest, count_checks, counts_within, size_checks, sizes_within};
 
 use calls::{Check, Refusal};
 
 // From the number of coefficients, where `extra` unknowns come to those of the map.
 pub fn check(p: usize, q: usize, extra: usize, coefs: usize) -> Check
     requires { extra ≤ 1 }
-    ensures { checkOf result ≡ countChecks p q extra coefs }
+    ensures { check_of result ≡ count_checks p q extra coefs }
 {
     check_within(8, 16 - extra, p, q, coefs)
 }
@@ -17,7 +17,7 @@ pub fn check(p: usize, q: usize, extra: usize, coefs: usize) -> Check
 // 1 and 2.
 pub fn check_sizes(p: usize, q: usize, extra: usize) -> Check
     requires { extra ≤ 1 }
-    ensures { checkOf result ≡ sizeChecks p q extra }
+    ensures { check_of result ≡ size_checks p q extra }
 {
     sizes_within(8, 16 - extra, p, q)
 }
@@ -25,7 +25,7 @@ pub fn check_sizes(p: usize, q: usize, extra: usize) -> Check
 // From the number of coefficients, for maps of at most so many equations and unknowns.
 pub fn check_within(equations: usize, unknowns: usize, p: usize, q: usize, coefs: usize) -> Check
     requires { Modest (sizes equations unknowns) }
-    ensures { checkOf result ≡ countsWithin (sizes equations unknowns) p q coefs }
+    ensures { check_of result ≡ counts_within (sizes equations unknowns) p q coefs }
 {
     match sizes_within(equations, unknowns, p, q) {
         Check::Refuse(why) => Check::Refuse(why),
@@ -40,7 +40,7 @@ pub fn check_within(equations: usize, unknowns: usize, p: usize, q: usize, coefs
 
 // 1 and 2.
 fn sizes_within(equations: usize, unknowns: usize, p: usize, q: usize) -> Check
-    ensures { checkOf result ≡ sizesWithin (sizes equations unknowns) p q }
+    ensures { check_of result ≡ sizes_within (sizes equations unknowns) p q }
 {
     if p < 1 {
         return Check::Refuse(Refusal::Equations);

@@ -1,8 +1,8 @@
 // The refusals that come before the walk (document 01, "Refusals, by who causes them"; 15: document 02).
 ghost use Rattle.std.specs.Prelude.{◌≡◌, ℕ};
-ghost use Rattle.definitions.specs.Refusals.{startChecks, lowerChecks, resumeChecks, resumeFromChecks};
-ghost use Rattle.definitions.specs.Input.{alone, input_of, inputWith, rights as sides};
-ghost use Rattle.calls.specs.Paper.{state_of, stateWith, checkOf};
+ghost use Rattle.definitions.specs.Refusals.{start_checks, lower_checks, resume_checks, resume_from_checks};
+ghost use Rattle.definitions.specs.Input.{alone, input_of, input_with, rights as sides};
+ghost use Rattle.calls.specs.Paper.{state_of, state_with, check_of};
 
 use calls::{Check, Record};
 
@@ -21,7 +21,7 @@ pub fn check_start(
     list: &[u32],
     r: Record,
 ) -> Check
-    ensures { checkOf result ≡ startChecks (input_of p q coefs.now) (state_of stack.now list.now r) }
+    ensures { check_of result ≡ start_checks (input_of p q coefs.now) (state_of stack.now list.now r) }
 {
     match shape::check(p, q, 0, coefs.len(), p, stack.len()) {
         Check::Refuse(why) => Check::Refuse(why),
@@ -41,8 +41,8 @@ pub fn check_start_capped(
     r: Record,
 ) -> Check
     ensures { (limit : ℕ)
-        → checkOf result ≡ startChecks (inputWith (sides rights.now) limit p q coefs.now)
-        (stateWith stack.now list.now second.now r) }
+        → check_of result ≡ start_checks (input_with (sides rights.now) limit p q coefs.now)
+        (state_with stack.now list.now second.now r) }
 {
     match shape::check(p, q, 1, coefs.len(), rights.len(), stack.len()) {
         Check::Refuse(why) => Check::Refuse(why),
@@ -62,8 +62,8 @@ pub fn check_start_from(
     r: Record,
     limit: u32,
 ) -> Check
-    ensures { checkOf result ≡ lowerChecks lower.now (inputWith alone limit p q coefs.now)
-        (stateWith stack.now list.now second.now r) }
+    ensures { check_of result ≡ lower_checks lower.now (input_with alone limit p q coefs.now)
+        (state_with stack.now list.now second.now r) }
 {
     match shape::check(p, q, 0, coefs.len(), p, stack.len()) {
         Check::Refuse(why) => Check::Refuse(why),
@@ -81,7 +81,7 @@ pub fn check_resume(
     r: Record,
     limit: u32,
 ) -> Check
-    ensures { checkOf result ≡ resumeChecks (inputWith alone limit p q coefs.now) (state_of stack.now list.now r) }
+    ensures { check_of result ≡ resume_checks (input_with alone limit p q coefs.now) (state_of stack.now list.now r) }
 {
     match shape::check(p, q, 0, coefs.len(), p, stack.len()) {
         Check::Refuse(why) => Check::Refuse(why),
@@ -101,8 +101,8 @@ pub fn check_resume_capped(
     r: Record,
     limit: u32,
 ) -> Check
-    ensures { checkOf result ≡ resumeChecks (inputWith (sides rights.now) limit p q coefs.now)
-        (stateWith stack.now list.now second.now r) }
+    ensures { check_of result ≡ resume_checks (input_with (sides rights.now) limit p q coefs.now)
+        (state_with stack.now list.now second.now r) }
 {
     match shape::check(p, q, 1, coefs.len(), rights.len(), stack.len()) {
         Check::Refuse(why) => Check::Refuse(why),
@@ -122,8 +122,8 @@ pub fn check_resume_from(
     r: Record,
     limit: u32,
 ) -> Check
-    ensures { checkOf result ≡ resumeFromChecks lower.now (inputWith alone limit p q coefs.now)
-        (stateWith stack.now list.now second.now r) }
+    ensures { check_of result ≡ resume_from_checks lower.now (input_with alone limit p q coefs.now)
+        (state_with stack.now list.now second.now r) }
 {
     match shape::check(p, q, 0, coefs.len(), p, stack.len()) {
         Check::Refuse(why) => Check::Refuse(why),

@@ -1,9 +1,9 @@
 // Refusal 6, and what comes after it.
 ghost use Rattle.std.specs.Prelude.{◌≡◌, ℕ, ◌+◌, ◌≤◌, length};
 ghost use Rattle.definitions.specs.Answers.{◌then◌};
-ghost use Rattle.definitions.specs.Refusals.{check5, check6, check6From, check7, check8, rangeChecks};
-ghost use Rattle.definitions.specs.Input.{alone, inputWith, systemOf, rights as sides};
-ghost use Rattle.calls.specs.Paper.{state_of, stateWith, checkOf};
+ghost use Rattle.definitions.specs.Refusals.{check5, check6, check6_from, check7, check8, range_checks};
+ghost use Rattle.definitions.specs.Input.{alone, input_with, system_of, rights as sides};
+ghost use Rattle.calls.specs.Paper.{state_of, state_with, check_of};
 ghost use Rattle.record_order.specs.Order.{InShape};
 
 use crate::{coefficients, shape};
@@ -13,8 +13,8 @@ use calls::{Check, Record, Refusal, RunKind};
 pub fn check(q: usize, coefs: &[i32], stack: &[u32], list: &[u32], r: Record, limit: u32) -> Check
     requires { InShape q (length stack.now) }
     ensures { (p : ℕ)
-        → checkOf result ≡ (check6 (systemOf (inputWith alone limit p q coefs.now)) (state_of stack.now list.now r)
-        then check7 (inputWith alone limit p q coefs.now)) }
+        → check_of result ≡ (check6 (system_of (input_with alone limit p q coefs.now)) (state_of stack.now list.now r)
+        then check7 (input_with alone limit p q coefs.now)) }
 {
     let most = calls::limit_of(limit);
     if !record_order::in_order(RunKind::Plain, q, q, stack, list, r, most) {
@@ -36,9 +36,9 @@ pub fn check_capped(
 ) -> Check
     requires { (1 ≤ q) × InShape (q + 1) (length stack.now) }
     ensures { (p : ℕ)
-        → checkOf result ≡ (check6 (systemOf (inputWith (sides rights.now) limit p q coefs.now))
-        (stateWith stack.now list.now second.now r)
-        then rangeChecks (sides rights.now) (inputWith (sides rights.now) limit p q coefs.now)) }
+        → check_of result ≡ (check6 (system_of (input_with (sides rights.now) limit p q coefs.now))
+        (state_with stack.now list.now second.now r)
+        then range_checks (sides rights.now) (input_with (sides rights.now) limit p q coefs.now)) }
 {
     let most = calls::limit_of(limit);
     let wide = q + 1;
@@ -63,11 +63,11 @@ pub fn check_from(
     limit: u32,
 ) -> Check
     requires { InShape q (length stack.now) }
-    ensures { (p : ℕ) → checkOf result ≡ (check5 (inputWith alone limit p q coefs.now) lower.now
-        then check6From lower.now (inputWith alone limit p q coefs.now)
-        (stateWith stack.now list.now second.now r)
-        then check7 (inputWith alone limit p q coefs.now)
-        then check8 (inputWith alone limit p q coefs.now) lower.now) }
+    ensures { (p : ℕ) → check_of result ≡ (check5 (input_with alone limit p q coefs.now) lower.now
+        then check6_from lower.now (input_with alone limit p q coefs.now)
+        (state_with stack.now list.now second.now r)
+        then check7 (input_with alone limit p q coefs.now)
+        then check8 (input_with alone limit p q coefs.now) lower.now) }
 {
     if lower.len() != q {
         return Check::Refuse(Refusal::BoundLength);

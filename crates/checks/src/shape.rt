@@ -2,9 +2,9 @@
 ghost use Rattle.std.specs.Prelude.{◌≡◌, ℕ, ◌≤◌};
 ghost use Rattle.definitions.specs.Answers.{◌then◌};
 ghost use Rattle.definitions.specs.Refusals.{check5, check7, check8};
-ghost use Rattle.definitions.specs.Input.{alone, inputWith};
-ghost use Rattle.calls.specs.Paper.{checkOf};
-ghost use Rattle.checks.specs.Shape.{shapeChecks};
+ghost use Rattle.definitions.specs.Input.{alone, input_with};
+ghost use Rattle.calls.specs.Paper.{check_of};
+ghost use Rattle.checks.specs.Shape.{shape_checks};
 
 use crate::{coefficients, components, counts};
 use calls::{Check, Refusal};
@@ -12,7 +12,7 @@ use calls::{Check, Refusal};
 // Refusals 1 to 4, from the numbers of coefficients, of right sides and of entries of the stack table, where `extra` unknowns come to those of the map.
 pub fn check(p: usize, q: usize, extra: usize, coefs: usize, sides: usize, stack: usize) -> Check
     requires { extra ≤ 1 }
-    ensures { checkOf result ≡ shapeChecks p q extra coefs sides stack }
+    ensures { check_of result ≡ shape_checks p q extra coefs sides stack }
 {
     match counts::check(p, q, extra, coefs) {
         Check::Refuse(why) => Check::Refuse(why),
@@ -32,8 +32,8 @@ pub fn check(p: usize, q: usize, extra: usize, coefs: usize, sides: usize, stack
 // Refusals 5, 7 and 8, which do not depend on p.
 pub fn check_lower(q: usize, coefs: &[i32], lower: &[u32], limit: u32) -> Check
     ensures { (p : ℕ)
-        → checkOf result ≡ (check5 (inputWith alone limit p q coefs.now) lower.now then check7 (inputWith alone limit p q coefs.now)
-        then check8 (inputWith alone limit p q coefs.now) lower.now) }
+        → check_of result ≡ (check5 (input_with alone limit p q coefs.now) lower.now then check7 (input_with alone limit p q coefs.now)
+        then check8 (input_with alone limit p q coefs.now) lower.now) }
 {
     if lower.len() != q {
         return Check::Refuse(Refusal::BoundLength);

@@ -22,14 +22,14 @@ checked (refuse n values) s work = record { answer = refused n values; state = s
 checked go s work = work s
 
 -- "height 0 answers "complete"": else the work is done
-unfoldable pub unlessDone : {S : Type 0} → Bool → S → (S → Outcome S) → Outcome S
-unlessDone true s work = record { answer = complete; state = s }
-unlessDone false s work = work s
+unfoldable pub unless_done : {S : Type 0} → Bool → S → (S → Outcome S) → Outcome S
+unless_done true s work = record { answer = complete; state = s }
+unless_done false s work = work s
 
 -- one turn: "Before each step, in this order: height 0 answers "complete"; allowance used up answers "paused"; then the refusals of the search."
 unfoldable pub walk : {S : Type 0} → ℕ → Machine S → S → Outcome S
-walk zero k s = unlessDone (eqb (k.height (k.settle s)) 0) (k.settle s) (λ t. record { answer = paused; state = t })
-walk (suc n) k s = unlessDone (eqb (k.height (k.settle s)) 0) (k.settle s) (λ t. checked (k.refusals t) t (λ u. walk n k (k.step u)))
+walk zero k s = unless_done (eqb (k.height (k.settle s)) 0) (k.settle s) (λ t. record { answer = paused; state = t })
+walk (suc n) k s = unless_done (eqb (k.height (k.settle s)) 0) (k.settle s) (λ t. checked (k.refusals t) t (λ u. walk n k (k.step u)))
 
 -- the continuing call, with a step budget (document 01: its allowance)
 unfoldable pub call : {S : Type 0} → ℕ → Machine S → S → Outcome S
@@ -42,16 +42,16 @@ moved true c s more = 0
 moved false (refuse n values) s more = 0
 moved false go s more = suc (more s)
 
-unfoldable pub walkSteps : {S : Type 0} → ℕ → Machine S → S → ℕ
-walkSteps zero k s = 0
-walkSteps (suc n) k s = moved (eqb (k.height (k.settle s)) 0) (k.refusals (k.settle s)) (k.settle s) (λ t. walkSteps n k (k.step t))
+unfoldable pub walk_steps : {S : Type 0} → ℕ → Machine S → S → ℕ
+walk_steps zero k s = 0
+walk_steps (suc n) k s = moved (eqb (k.height (k.settle s)) 0) (k.refusals (k.settle s)) (k.settle s) (λ t. walk_steps n k (k.step t))
 
-unfoldable pub stepsIf : Check → ℕ → ℕ
-stepsIf (refuse n values) k = 0
-stepsIf go k = k
+unfoldable pub steps_if : Check → ℕ → ℕ
+steps_if (refuse n values) k = 0
+steps_if go k = k
 
-unfoldable pub callSteps : {S : Type 0} → ℕ → Machine S → S → ℕ
-callSteps budget k s = stepsIf (k.before s) (walkSteps budget k s)
+unfoldable pub call_steps : {S : Type 0} → ℕ → Machine S → S → ℕ
+call_steps budget k s = steps_if (k.before s) (walk_steps budget k s)
 
 -- the state after n whole steps
 unfoldable pub after : {S : Type 0} → ℕ → Machine S → S → S

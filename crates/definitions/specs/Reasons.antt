@@ -4,14 +4,14 @@ use Rattle.std.specs.Prelude.{ℕ, ◌-◌, Bool, true, false, not, List, ◌∷
 use Rattle.std.proofs.Math.Option.{Option, some, none}
 use Rattle.linear.specs.Sums.{sum_to}
 use Rattle.linear.specs.Systems.{inner, value}
-use Rattle.linear.specs.Places.{elseIf, firstTo, last_to, placeIf}
-use Rattle.linear.specs.Tests.{allTo, anyTo}
-use Rattle.definitions.specs.Answers.{Check, refuse, go, refuseWith, refuseIf, ◌then◌, refuseFirst}
-use Rattle.definitions.specs.System.{System, image_of, isAtOrBelow, is_zero}
-use Rattle.definitions.specs.Input.{Input, input_of, mapOf}
+use Rattle.linear.specs.Places.{else_if, first_to, last_to, place_if}
+use Rattle.linear.specs.Tests.{all_to, any_to}
+use Rattle.definitions.specs.Answers.{Check, refuse, go, refuse_with, refuse_if, ◌then◌, refuse_first}
+use Rattle.definitions.specs.System.{System, image_of, is_at_or_below, is_zero}
+use Rattle.definitions.specs.Input.{Input, input_of, map_of}
 use Rattle.definitions.specs.Highest.{highest}
 use Rattle.definitions.specs.Tables.{at, capacity}
-use Rattle.definitions.specs.Refusals.{Sizes, check1Within, check2Within, check3, check5, check7, check8, documentSizes, sizes}
+use Rattle.definitions.specs.Refusals.{Sizes, check1_within, check2_within, check3, check5, check7, check8, document_sizes, sizes}
 
 -- The reasons, equations and places counted from 1; or a refusal, with document 01's number and values.
 pub data Reason : Type 0 where
@@ -30,66 +30,66 @@ pub data Reason : Type 0 where
 -- ---- the refusals
 
 -- A list is a list table and a count of rows: "found above the room" is 6.
-abbrev pub checkCount : Input → List ℕ → ℕ → Check
-checkCount i list found = refuseIf (not (leb found (capacity i.q list))) 6
+abbrev pub check_count : Input → List ℕ → ℕ → Check
+check_count i list found = refuse_if (not (leb found (capacity i.q list))) 6
 
 -- "(A longer or shorter tuple: 5; a component too large: 8.)", in rising number: the tuple takes the place of a floor. The most equations and unknowns are a
 -- parameter, so that larger maps are asked about in the same words
-unfoldable pub reasonChecks : Sizes → Input → List ℕ → ℕ → List ℕ → Check
-reasonChecks s i list found t =
-    check1Within s i then check2Within s i then check3 i then check5 i t then checkCount i list found then check7 i then check8 i t
+unfoldable pub reason_checks : Sizes → Input → List ℕ → ℕ → List ℕ → Check
+reason_checks s i list found t =
+    check1_within s i then check2_within s i then check3 i then check5 i t then check_count i list found then check7 i then check8 i t
 
 -- ---- the first that is true
 
 -- the tests: all zero; and the first equation that is off
 unfoldable pub vanishes : ℕ → (ℕ → ℕ) → Bool
-vanishes q x = allTo q (λ j. eqb (x j) 0)
+vanishes q x = all_to q (λ j. eqb (x j) 0)
 
-unfoldable pub firstOff : System → (ℕ → ℕ) → Option ℕ
-firstOff m x = firstTo m.p (λ i. not (is_zero (image_of m x i)))
+unfoldable pub first_off : System → (ℕ → ℕ) → Option ℕ
+first_off m x = first_to m.p (λ i. not (is_zero (image_of m x i)))
 
-unfoldable pub zeroOr : Bool → Reason → Reason
-zeroOr true next = zero
-zeroOr false next = next
+unfoldable pub zero_or : Bool → Reason → Reason
+zero_or true next = zero
+zero_or false next = next
 
 -- the equation with its amount, v (k - 1)
-unfoldable pub offOr : (ℕ → ℤ) → Option ℕ → Reason → Reason
-offOr v (some k) next = off k (v (k - 1))
-offOr v none next = next
+unfoldable pub off_or : (ℕ → ℤ) → Option ℕ → Reason → Reason
+off_or v (some k) next = off k (v (k - 1))
+off_or v none next = next
 
-unfoldable pub standsOr : Option ℕ → Reason → Reason
-standsOr (some n) next = stands n
-standsOr none next = next
+unfoldable pub stands_or : Option ℕ → Reason → Reason
+stands_or (some n) next = stands n
+stands_or none next = next
 
-unfoldable pub aboveOr : Option ℕ → Reason → Reason
-aboveOr (some n) next = above n
-aboveOr none next = next
+unfoldable pub above_or : Option ℕ → Reason → Reason
+above_or (some n) next = above n
+above_or none next = next
 
 -- s and t agree at every place: the test
-unfoldable pub isSame : ℕ → (ℕ → ℕ) → (ℕ → ℕ) → Bool
-isSame q s t = allTo q (λ j. eqb (s j) (t j))
+unfoldable pub is_same : ℕ → (ℕ → ℕ) → (ℕ → ℕ) → Bool
+is_same q s t = all_to q (λ j. eqb (s j) (t j))
 
 -- the highest place of a row that is x itself
 unfoldable pub standing : ℕ → ℕ → (ℕ → ℕ → ℕ) → (ℕ → ℕ) → Option ℕ
-standing q n row x = last_to n (λ i. isSame q (row i) x)
+standing q n row x = last_to n (λ i. is_same q (row i) x)
 
 -- of a solution: the row that it is, or one that lies below it; a row at or below x that is not x lies below it
-unfoldable pub inList : ℕ → ℕ → (ℕ → ℕ → ℕ) → (ℕ → ℕ) → Reason
-inList q found row x = standsOr (standing q found row x) (aboveOr (highest q found row x) unlisted)
+unfoldable pub in_list : ℕ → ℕ → (ℕ → ℕ → ℕ) → (ℕ → ℕ) → Reason
+in_list q found row x = stands_or (standing q found row x) (above_or (highest q found row x) unlisted)
 
-unfoldable pub firstTrue : System → ℕ → (ℕ → ℕ → ℕ) → (ℕ → ℕ) → Reason
-firstTrue m found row x = zeroOr (vanishes m.q x) (offOr (image_of m x) (firstOff m x) (inList m.q found row x))
+unfoldable pub first_true : System → ℕ → (ℕ → ℕ → ℕ) → (ℕ → ℕ) → Reason
+first_true m found row x = zero_or (vanishes m.q x) (off_or (image_of m x) (first_off m x) (in_list m.q found row x))
 
-unfoldable pub unlessRefused : Check → Reason → Reason
-unlessRefused (refuse n values) r = refused n values
-unlessRefused go r = r
+unfoldable pub unless_refused : Check → Reason → Reason
+unless_refused (refuse n values) r = refused n values
+unless_refused go r = r
 
-unfoldable pub reasonWithin : Sizes → Input → List ℕ → ℕ → List ℕ → Reason
-reasonWithin s i list found t = unlessRefused (reasonChecks s i list found t) (firstTrue (mapOf i) found (at list i.q) (λ j. get_or t j 0))
+unfoldable pub reason_within : Sizes → Input → List ℕ → ℕ → List ℕ → Reason
+reason_within s i list found t = unless_refused (reason_checks s i list found t) (first_true (map_of i) found (at list i.q) (λ j. get_or t j 0))
 
 -- document 02's call: p from 1 to 8, q from 1 to 16
 abbrev pub reason : Input → List ℕ → ℕ → List ℕ → Reason
-reason i list found t = reasonWithin documentSizes i list found t
+reason i list found t = reason_within document_sizes i list found t
 
 -- ---- it computes: on 2 −3 with the list 3 2, 3 2, and on the program's map with both of its solutions; one answer of each kind, and each refusal
 -- ahead of those after it
@@ -133,12 +133,12 @@ refusals =
     ∷ reason (input_of 1 2 (pos 0 ∷ pos 10000 ∷ [])) (0 ∷ 0 ∷ []) 1 (1000001 ∷ 0 ∷ [])
     ∷ reason (input_of 1 2 (pos 0 ∷ pos 10000 ∷ [])) (0 ∷ 0 ∷ []) 1 (1000000 ∷ 1000000 ∷ [])
     ∷ reason (input_of 9 17 []) [] 1 []
-    ∷ reasonWithin (sizes 9 16) (input_of 9 17 []) [] 1 []
-    ∷ reasonWithin (sizes 9 17) (input_of 9 17 []) [] 1 []
-    ∷ reasonWithin (sizes 8 17) (input_of 9 17 []) [] 1 []
+    ∷ reason_within (sizes 9 16) (input_of 9 17 []) [] 1 []
+    ∷ reason_within (sizes 9 17) (input_of 9 17 []) [] 1 []
+    ∷ reason_within (sizes 8 17) (input_of 9 17 []) [] 1 []
     ∷ []
 
-reasons-hold : (answers ≡ zero ∷ off 1 (negsuc 2) ∷ off 1 (pos 5) ∷ stands 2 ∷ stands 1 ∷ above 2 ∷ unlisted ∷ unlisted ∷ off 1 (negsuc 0) ∷ off 2 (negsuc 7)
+reasons_hold : (answers ≡ zero ∷ off 1 (negsuc 2) ∷ off 1 (pos 5) ∷ stands 2 ∷ stands 1 ∷ above 2 ∷ unlisted ∷ unlisted ∷ off 1 (negsuc 0) ∷ off 2 (negsuc 7)
     ∷ above 2 ∷ unlisted ∷ [])
     × (refusals ≡ refused 1 [] ∷ refused 2 [] ∷ refused 3 [] ∷ refused 5 [] ∷ refused 6 [] ∷ refused 7 (2 ∷ []) ∷ refused 8 [] ∷ off 1 (pos 10000000000)
     ∷ refused 1 []
@@ -146,6 +146,6 @@ reasons-hold : (answers ≡ zero ∷ off 1 (negsuc 2) ∷ off 1 (pos 5) ∷ stan
     ∷ refused 3 []
     ∷ refused 1 []
     ∷ [])
-unfolding small twice example both answers refusals sum_to inner value allTo anyTo elseIf firstTo placeIf last_to refuseWith ◌then◌ refuseFirst isAtOrBelow isSame
-    highest standing check7 reasonChecks vanishes firstOff zeroOr offOr standsOr aboveOr inList firstTrue unlessRefused reasonWithin
-reasons-hold = (refl, refl)
+unfolding small twice example both answers refusals sum_to inner value all_to any_to else_if first_to place_if last_to refuse_with ◌then◌ refuse_first is_at_or_below is_same
+    highest standing check7 reason_checks vanishes first_off zero_or off_or stands_or above_or in_list first_true unless_refused reason_within
+reasons_hold = (refl, refl)

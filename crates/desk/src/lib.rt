@@ -1,8 +1,8 @@
 // The second walk's calls: the start, and the continuing call. Each takes the run record by value and returns what it leaves.
 ghost use Rattle.std.specs.Prelude.{◌≡◌, ◌+◌, ◌*◌, ◌≤◌, ◌<◌, length};
-ghost use Rattle.desk_spec.specs.Desks.{deskBegin, deskOf, deskResume};
-ghost use Rattle.calls.specs.Paper.{outcomeOf, state_of};
-ghost use Rattle.desk.specs.Starting.{startTo};
+ghost use Rattle.desk_spec.specs.Desks.{desk_begin, desk_of, desk_resume};
+ghost use Rattle.calls.specs.Paper.{outcome_of, state_of};
+ghost use Rattle.desk.specs.Starting.{start_to};
 
 use calls::{Check, Outcome, Record, RunKind};
 use desk_rows::rows;
@@ -17,8 +17,8 @@ pub fn start(
     list: &[u32],
     r: Record,
 ) -> Outcome
-    ensures { outcomeOf result stack.new list.now
-        ≡ deskBegin (deskOf p q coefs.now generators.now) (state_of stack.old list.now r) }
+    ensures { outcome_of result stack.new list.now
+        ≡ desk_begin (desk_of p q coefs.now generators.now) (state_of stack.old list.now r) }
 {
     match desk_checks::check_start(p, q, coefs, generators, stack, list, r) {
         Check::Refuse(why) => calls::refused(why, r),
@@ -41,8 +41,8 @@ pub fn resume(
     r: Record,
     budget: u64,
 ) -> Outcome
-    ensures { outcomeOf result stack.new list.new
-        ≡ deskResume budget (deskOf p q coefs.now generators.now) (state_of stack.old list.old r) }
+    ensures { outcome_of result stack.new list.new
+        ≡ desk_resume budget (desk_of p q coefs.now generators.now) (state_of stack.old list.old r) }
 {
     match desk_checks::check_resume(p, q, coefs, generators, stack, list, r) {
         Check::Refuse(why) => calls::refused(why, r),
@@ -53,7 +53,7 @@ pub fn resume(
 // Row k holds generator k, and the marks of those before it.
 fn write_start(q: usize, generators: &[u32], n: usize, stack: &mut [u32])
     requires { (q ≤ 16) × (n ≤ 64) × (n * q ≤ length generators.now) × (n * (q + 2) ≤ length stack.old) }
-    ensures { stack.new ≡ startTo n q generators.now stack.old }
+    ensures { stack.new ≡ start_to n q generators.now stack.old }
 {
     let mut t = [0u32; 16];
     let mut frozen: u64 = 0;

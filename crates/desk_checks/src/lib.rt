@@ -1,7 +1,7 @@
 // The refusals before the second walk: 1 to 4, then 6, then 7 and, last, 25.
 ghost use Rattle.std.specs.Prelude.{◌≡◌};
-ghost use Rattle.desk_spec.specs.Desks.{deskOf, deskResumeChecks, deskStartChecks};
-ghost use Rattle.calls.specs.Paper.{checkOf, state_of};
+ghost use Rattle.desk_spec.specs.Desks.{desk_of, desk_resume_checks, desk_start_checks};
+ghost use Rattle.calls.specs.Paper.{check_of, state_of};
 
 use calls::{Check, Record, Refusal};
 
@@ -19,8 +19,8 @@ pub fn check_start(
     list: &[u32],
     r: Record,
 ) -> Check
-    ensures { checkOf result
-        ≡ deskStartChecks (deskOf p q coefs.now generators.now) (state_of stack.now list.now r) }
+    ensures { check_of result
+        ≡ desk_start_checks (desk_of p q coefs.now generators.now) (state_of stack.now list.now r) }
 {
     match shape::check(p, q, coefs.len(), generators.len(), stack.len()) {
         Check::Refuse(why) => Check::Refuse(why),
@@ -43,8 +43,8 @@ pub fn check_resume(
     list: &[u32],
     r: Record,
 ) -> Check
-    ensures { checkOf result
-        ≡ deskResumeChecks (deskOf p q coefs.now generators.now) (state_of stack.now list.now r) }
+    ensures { check_of result
+        ≡ desk_resume_checks (desk_of p q coefs.now generators.now) (state_of stack.now list.now r) }
 {
     match shape::check(p, q, coefs.len(), generators.len(), stack.len()) {
         Check::Refuse(why) => Check::Refuse(why),

@@ -1,8 +1,8 @@
 // Generators, run record and tables in order: refusal 6.
 ghost use Rattle.std.specs.Prelude.{◌≡◌, [], ◌+◌, ◌*◌, ◌/◌, ◌≤◌, ◌<◌, leb, length, get_or};
-ghost use Rattle.linear.specs.Tests.{allTo};
-ghost use Rattle.definitions.specs.System.{mostComponent};
-ghost use Rattle.desk_spec.specs.Desks.{deskInOrder, deskOf, deskRowInOrder};
+ghost use Rattle.linear.specs.Tests.{all_to};
+ghost use Rattle.definitions.specs.System.{most_component};
+ghost use Rattle.desk_spec.specs.Desks.{desk_in_order, desk_of, desk_row_in_order};
 ghost use Rattle.calls.specs.Paper.{state_of};
 ghost use Rattle.desk_checks.specs.Shape.{RowsFit};
 
@@ -12,7 +12,7 @@ use table_rows::rows;
 
 // Whether no number is above 1,000,000.
 pub fn small(table: &[u32]) -> bool
-    ensures { result ≡ allTo (length table.now) (λ i. leb (get_or table.now i 0) mostComponent) }
+    ensures { result ≡ all_to (length table.now) (λ i. leb (get_or table.now i 0) most_component) }
 {
     rows::small_at(table, 0, table.len(), calls::COMPONENT_LIMIT)
 }
@@ -20,7 +20,7 @@ pub fn small(table: &[u32]) -> bool
 // Whether record and tables are in order, which depends on q and the number of generators alone.
 pub fn in_order(q: usize, generators: &[u32], stack: &[u32], list: &[u32], r: Record) -> bool
     requires { RowsFit q (length generators.now) (length stack.now) }
-    ensures { result ≡ deskInOrder (deskOf 0 q [] generators.now) (state_of stack.now list.now r) }
+    ensures { result ≡ desk_in_order (desk_of 0 q [] generators.now) (state_of stack.now list.now r) }
 {
     let kind = r.kind;
     let height = r.height;
@@ -48,7 +48,7 @@ pub fn in_order(q: usize, generators: &[u32], stack: &[u32], list: &[u32], r: Re
 // Whether the first `height` rows are in order.
 fn rows_in_order(q: usize, generators: &[u32], stack: &[u32], height: usize) -> bool
     requires { (0 < q) × (q ≤ 16) × (height * (q + 2) ≤ length stack.now) }
-    ensures { result ≡ allTo height (deskRowInOrder (deskOf 0 q [] generators.now) stack.now) }
+    ensures { result ≡ all_to height (desk_row_in_order (desk_of 0 q [] generators.now) stack.now) }
 {
     let mut k = 0;
     while k < height {
@@ -63,7 +63,7 @@ fn rows_in_order(q: usize, generators: &[u32], stack: &[u32], height: usize) -> 
 // Whether row k is in order: components, marks within the generators, and k marks.
 fn row_in_order(q: usize, generators: &[u32], stack: &[u32], k: usize) -> bool
     requires { (0 < q) × (q ≤ 16) × (k * (q + 2) + (q + 2) ≤ length stack.now) }
-    ensures { result ≡ deskRowInOrder (deskOf 0 q [] generators.now) stack.now k }
+    ensures { result ≡ desk_row_in_order (desk_of 0 q [] generators.now) stack.now k }
 {
     let base = k * (q + 2);
     if !rows::small_at(stack, base, q, calls::COMPONENT_LIMIT) {

@@ -1,9 +1,9 @@
 // The range of the coefficients: refusal 7; and, after it, of the generators' number and images: 25.
 ghost use Rattle.std.specs.Prelude.{◌≡◌, ◌<◌, ltb, nat_abs, length};
-ghost use Rattle.linear.specs.Tests.{anyTo};
+ghost use Rattle.linear.specs.Tests.{any_to};
 ghost use Rattle.definitions.specs.System.{image_of};
-ghost use Rattle.desk_spec.specs.Desks.{deskOf, generator, generatorCount, imageLimit, rangesChecks, secondGroup, wide};
-ghost use Rattle.calls.specs.Paper.{checkOf};
+ghost use Rattle.desk_spec.specs.Desks.{desk_of, generator, generator_count, image_limit, ranges_checks, second_group, wide};
+ghost use Rattle.calls.specs.Paper.{check_of};
 ghost use Rattle.desk_rows.specs.Images.{SmallDesk};
 ghost use Rattle.desk_checks.specs.Shape.{Handed};
 
@@ -13,7 +13,7 @@ use table_rows::values;
 
 pub fn check(p: usize, q: usize, coefs: &[i32], generators: &[u32]) -> Check
     requires { Handed p q (length coefs.now) generators.now }
-    ensures { checkOf result ≡ rangesChecks (deskOf p q coefs.now generators.now) }
+    ensures { check_of result ≡ ranges_checks (desk_of p q coefs.now generators.now) }
 {
     match coefficients::check(coefs) {
         Check::Refuse(why) => Check::Refuse(why),
@@ -30,7 +30,7 @@ pub fn check(p: usize, q: usize, coefs: &[i32], generators: &[u32]) -> Check
 // Whether there are more than 64 generators, or one has an image above 7,000,000 in size.
 fn is_wide(p: usize, q: usize, coefs: &[i32], generators: &[u32]) -> bool
     requires { SmallDesk p q coefs.now generators.now }
-    ensures { result ≡ wide (deskOf p q coefs.now generators.now) }
+    ensures { result ≡ wide (desk_of p q coefs.now generators.now) }
 {
     let n = generators.len() / q;
     if 64 < n {
@@ -48,12 +48,12 @@ fn is_wide(p: usize, q: usize, coefs: &[i32], generators: &[u32]) -> bool
 
 // Whether the image of generator k is.
 fn wide_image(p: usize, q: usize, coefs: &[i32], generators: &[u32], k: usize) -> bool
-    requires { SmallDesk p q coefs.now generators.now × (k < generatorCount (deskOf p q coefs.now generators.now)) }
+    requires { SmallDesk p q coefs.now generators.now × (k < generator_count (desk_of p q coefs.now generators.now)) }
     ensures { result
-        ≡ anyTo p
-        (λ i. ltb imageLimit
-        (nat_abs (image_of (secondGroup (deskOf p q coefs.now generators.now))
-        (generator (deskOf p q coefs.now generators.now) k) i))) }
+        ≡ any_to p
+        (λ i. ltb image_limit
+        (nat_abs (image_of (second_group (desk_of p q coefs.now generators.now))
+        (generator (desk_of p q coefs.now generators.now) k) i))) }
 {
     let mut i = 0;
     while i < p {
@@ -67,7 +67,7 @@ fn wide_image(p: usize, q: usize, coefs: &[i32], generators: &[u32], k: usize) -
 
 // Whether x is above 7,000,000 in size.
 fn is_large(x: i64) -> bool
-    ensures { result ≡ ltb imageLimit (nat_abs x) }
+    ensures { result ≡ ltb image_limit (nat_abs x) }
 {
     if x < -7000000 {
         return true;

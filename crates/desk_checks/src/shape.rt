@@ -1,14 +1,14 @@
 // Counts and lengths: refusals 1 to 4.
 ghost use Rattle.std.specs.Prelude.{◌≡◌};
-ghost use Rattle.calls.specs.Paper.{checkOf};
-ghost use Rattle.desk_checks.specs.Shape.{shapeChecks};
+ghost use Rattle.calls.specs.Paper.{check_of};
+ghost use Rattle.desk_checks.specs.Shape.{shape_checks};
 
 use calls::{Check, Refusal};
 use checks::counts;
 
 // From the numbers of coefficients, of numbers of the generators' table and of entries of the stack table.
 pub fn check(p: usize, q: usize, coefs: usize, generators: usize, stack: usize) -> Check
-    ensures { checkOf result ≡ shapeChecks p q coefs generators stack }
+    ensures { check_of result ≡ shape_checks p q coefs generators stack }
 {
     match counts::check(p, q, 0, coefs) {
         Check::Refuse(why) => Check::Refuse(why),

@@ -1,7 +1,7 @@
 // The calls of the second of two desks as an editor uses them: the caller's own run record is advanced through a reference, over the calls by value.
 ghost use Rattle.std.specs.Prelude.{◌≡◌};
-ghost use Rattle.desk_spec.specs.Desks.{deskBegin, deskOf, deskResume};
-ghost use Rattle.calls.specs.Paper.{leftBy, state_of};
+ghost use Rattle.desk_spec.specs.Desks.{desk_begin, desk_of, desk_resume};
+ghost use Rattle.calls.specs.Paper.{left_by, state_of};
 
 use calls::{Answer, Record};
 
@@ -15,8 +15,8 @@ pub fn start(
     list: &[u32],
     r: &mut Record,
 ) -> Answer
-    ensures { leftBy result stack.new list.now r.new ≡
-        deskBegin (deskOf p q coefs.now generators.now) (state_of stack.old list.now r.old) }
+    ensures { left_by result stack.new list.now r.new ≡
+        desk_begin (desk_of p q coefs.now generators.now) (state_of stack.old list.now r.old) }
 {
     let o = desk::start(p, q, coefs, generators, stack, list, *r);
     *r = o.run;
@@ -34,8 +34,8 @@ pub fn resume(
     r: &mut Record,
     budget: u64,
 ) -> Answer
-    ensures { leftBy result stack.new list.new r.new ≡
-        deskResume budget (deskOf p q coefs.now generators.now) (state_of stack.old list.old r.old) }
+    ensures { left_by result stack.new list.new r.new ≡
+        desk_resume budget (desk_of p q coefs.now generators.now) (state_of stack.old list.old r.old) }
 {
     let o = desk::resume(p, q, coefs, generators, stack, list, *r, budget);
     *r = o.run;

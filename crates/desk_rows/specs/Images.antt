@@ -3,55 +3,55 @@ use Rattle.std.specs.Prelude.{◌≡◌, refl, ◌≢◌, List, ℕ, ◌+◌, �
 use Rattle.std.proofs.Common.{sym, ◌∙◌, ap, inl, inr, div-mul-le_self, mul-le-mul, arith, length-set, get_or-set_other, get_or-set_same, to_z-of_z, SFits, of_z, to_z}
 use Rattle.std.specs.Int.{w64}
 use Rattle.linear.specs.Cases.{split}
-use Rattle.linear.specs.Integers.{natAbs-*ℤ, sfits-natAbs}
-use Rattle.linear.specs.SystemLaws.{inner_bound, inner-next}
+use Rattle.linear.specs.Integers.{nat_abs_*ℤ, sfits_nat_abs}
+use Rattle.linear.specs.SystemLaws.{inner_bound, inner_next}
 use Rattle.linear.specs.Systems.{inner, value}
-use Rattle.definitions.specs.System.{coefLimit, mostComponent, mostEquations, mostUnknowns}
+use Rattle.definitions.specs.System.{coef_limit, most_component, most_equations, most_unknowns}
 use Rattle.laws.specs.TableLaws.{row_fits}
-use Rattle.table_rows.specs.Small.{SmallEquation, SmallRow, equationAt, row_at, value-small}
-use Rattle.desk_spec.specs.Desks.{imageLimit}
+use Rattle.table_rows.specs.Small.{SmallEquation, SmallRow, equation_at, row_at, value_small}
+use Rattle.desk_spec.specs.Desks.{image_limit}
 
 -- "16 · 10,000 · 1,000,000": far below 2 ^ 63
-abbrev pub valueLimit : ℕ
-valueLimit = mostUnknowns * (coefLimit * mostComponent)
+abbrev pub value_limit : ℕ
+value_limit = most_unknowns * (coef_limit * most_component)
 
 -- the second group
 pub record SmallMap (p q : ℕ) (coefs : List ℤ) : Type 0 where
   pub some : 0 < q
-  pub equations : p ≤ mostEquations
-  pub unknowns : q ≤ mostUnknowns
+  pub equations : p ≤ most_equations
+  pub unknowns : q ≤ most_unknowns
   pub whole : p * q ≤ length coefs
-  pub small : (n : ℕ) → nat_abs (get_or coefs n (pos 0)) ≤ coefLimit
+  pub small : (n : ℕ) → nat_abs (get_or coefs n (pos 0)) ≤ coef_limit
 
 module _ {p q : ℕ} {coefs : List ℤ} (s : SmallMap p q coefs) where
-  pub map-equation : (e : ℕ) → e < p → SmallEquation q coefs (e * q)
-  map-equation e l =
+  pub map_equation : (e : ℕ) → e < p → SmallEquation q coefs (e * q)
+  map_equation e l =
       record {
-        limit = coefLimit;
+        limit = coef_limit;
         whole = omega (arith, s.whole, row_fits q e p l);
         small = λ j jq. s.small (e * q + j);
         narrow = omega arith;
         low = omega (arith, s.unknowns);
       }
 
-  pub map-value : (e : ℕ) (x : ℕ → ℕ) → ((j : ℕ) → j < q → x j ≤ mostComponent) → nat_abs (value (equationAt coefs (e * q)) q x) ≤ valueLimit
-  map-value e x h = omega (arith, value-small coefLimit q (equationAt coefs (e * q)) x (λ j l. s.small (e * q + j)) h, s.unknowns)
+  pub map_value : (e : ℕ) (x : ℕ → ℕ) → ((j : ℕ) → j < q → x j ≤ most_component) → nat_abs (value (equation_at coefs (e * q)) q x) ≤ value_limit
+  map_value e x h = omega (arith, value_small coef_limit q (equation_at coefs (e * q)) x (λ j l. s.small (e * q + j)) h, s.unknowns)
 
 -- the second group and the generators
 pub record SmallDesk (p q : ℕ) (coefs : List ℤ) (generators : List ℕ) : Type 0 where
   pub group : SmallMap p q coefs
-  pub handed : (i : ℕ) → get_or generators i 0 ≤ mostComponent
+  pub handed : (i : ℕ) → get_or generators i 0 ≤ most_component
 
 module _ {p q : ℕ} {coefs : List ℤ} {generators : List ℕ} (s : SmallDesk p q coefs generators) where
-  pub desk-equation : (i : ℕ) → i < p → SmallEquation q coefs (i * q)
-  desk-equation i l = map-equation s.group i l
+  pub desk_equation : (i : ℕ) → i < p → SmallEquation q coefs (i * q)
+  desk_equation i l = map_equation s.group i l
 
   -- n generators take n * q numbers of their table
-  pub desk-rows : (n : ℕ) → n * q ≤ length generators → (k : ℕ) → k < n → SmallRow q generators (k * q)
-  desk-rows n whole k l = record { whole = omega (arith, row_fits q k n l); small = λ j jq. s.handed _ }
+  pub desk_rows : (n : ℕ) → n * q ≤ length generators → (k : ℕ) → k < n → SmallRow q generators (k * q)
+  desk_rows n whole k l = record { whole = omega (arith, row_fits q k n l); small = λ j jq. s.handed _ }
 
-  pub desk-row : (k : ℕ) → k < length generators / q → SmallRow q generators (k * q)
-  desk-row k l = desk-rows (length generators / q) (div-mul-le_self (length generators) q) k l
+  pub desk_row : (k : ℕ) → k < length generators / q → SmallRow q generators (k * q)
+  desk_row k l = desk_rows (length generators / q) (div-mul-le_self (length generators) q) k l
 
 -- ---- images in a table
 
@@ -60,8 +60,8 @@ abbrev pub entry : List ℤ → ℕ → ℕ → ℤ
 entry images k i = get_or images (k * 8 + i) (pos 0)
 
 -- the image of the tuple that stands in a table from place base
-abbrev pub imageAt : ℕ → List ℤ → List ℕ → ℕ → ℕ → ℤ
-imageAt q coefs table base i = value (equationAt coefs (i * q)) q (row_at table base)
+abbrev pub image_at : ℕ → List ℤ → List ℕ → ℕ → ℕ → ℤ
+image_at q coefs table base i = value (equation_at coefs (i * q)) q (row_at table base)
 
 -- row k has been written, with f at its first n places, and no other row
 pub record ImageWritten (k n : ℕ) (f : ℕ → ℤ) (images₀ images : List ℤ) : Type 0 where
@@ -71,14 +71,14 @@ pub record ImageWritten (k n : ℕ) (f : ℕ → ℤ) (images₀ images : List �
 
 -- those of the first n generators
 pub record Images (p q : ℕ) (coefs : List ℤ) (generators : List ℕ) (n : ℕ) (images : List ℤ) : Type 0 where
-  pub each : (k i : ℕ) → k < n → i < p → entry images k i ≡ imageAt q coefs generators (k * q) i
+  pub each : (k i : ℕ) → k < n → i < p → entry images k i ≡ image_at q coefs generators (k * q) i
 
-pub image-none : {k : ℕ} {f : ℕ → ℤ} {images : List ℤ} → ImageWritten k 0 f images images
-image-none = record { new = λ i l. absurd (omega arith); other = λ m i ne l. refl; size = refl }
+pub image_none : {k : ℕ} {f : ℕ → ℤ} {images : List ℤ} → ImageWritten k 0 f images images
+image_none = record { new = λ i l. absurd (omega arith); other = λ m i ne l. refl; size = refl }
 
-pub image-next : {k n : ℕ} {f : ℕ → ℤ} {images₀ images : List ℤ} {x : ℤ} → ImageWritten k n f images₀ images → n < 8 → k * 8 + n < length images → x ≡ f n
+pub image_next : {k n : ℕ} {f : ℕ → ℤ} {images₀ images : List ℤ} {x : ℤ} → ImageWritten k n f images₀ images → n < 8 → k * 8 + n < length images → x ≡ f n
     → ImageWritten k (n + 1) f images₀ (set images (k * 8 + n) x)
-image-next {k} {n} {f} {images₀} {images} {x} w few h e =
+image_next {k} {n} {f} {images₀} {images} {x} w few h e =
     record {
       new = λ i l. elim (split i n) [
         | inl y ↦ get_or-set_other images (k * 8 + n) (k * 8 + i) x (pos 0) (omega arith) ∙ w.new i y
@@ -88,12 +88,12 @@ image-next {k} {n} {f} {images₀} {images} {x} w few h e =
       size = length-set images (k * 8 + n) x ∙ w.size;
     }
 
-pub images-none : {p q : ℕ} {coefs : List ℤ} {generators : List ℕ} {images : List ℤ} → Images p q coefs generators 0 images
-images-none = record { each = λ k i l ip. absurd (omega arith) }
+pub images_none : {p q : ℕ} {coefs : List ℤ} {generators : List ℕ} {images : List ℤ} → Images p q coefs generators 0 images
+images_none = record { each = λ k i l ip. absurd (omega arith) }
 
-pub images-next : {p q : ℕ} {coefs : List ℤ} {generators : List ℕ} {n : ℕ} {images images' : List ℤ} → p ≤ 8 → Images p q coefs generators n images
-    → ImageWritten n p (imageAt q coefs generators (n * q)) images images' → Images p q coefs generators (n + 1) images'
-images-next {n = n} few s w =
+pub images_next : {p q : ℕ} {coefs : List ℤ} {generators : List ℕ} {n : ℕ} {images images' : List ℤ} → p ≤ 8 → Images p q coefs generators n images
+    → ImageWritten n p (image_at q coefs generators (n * q)) images images' → Images p q coefs generators (n + 1) images'
+images_next {n = n} few s w =
     record {
       each = λ k i l ip. elim (split k n) [
         | inl y ↦ w.other k i (omega arith) (omega arith) ∙ s.each k i y ip
@@ -107,43 +107,43 @@ images-next {n = n} few s w =
 pub record Factors (p : ℕ) (images : List ℤ) (a b : ℕ) : Type 0 where
   pub few : p ≤ 8
   pub low : (a < 65) × (b < 65)
-  pub left : (i : ℕ) → i < p → nat_abs (entry images a i) ≤ valueLimit
-  pub right : (i : ℕ) → i < p → nat_abs (entry images b i) ≤ imageLimit
+  pub left : (i : ℕ) → i < p → nat_abs (entry images a i) ≤ value_limit
+  pub right : (i : ℕ) → i < p → nat_abs (entry images b i) ≤ image_limit
 
 -- the code's `sum + x * y`, each number read from its bits
 abbrev pub added : ℕ → ℤ → ℤ → ℤ
 added sum x y = to_z w64 sum +ℤ to_z w64 (of_z w64 x) *ℤ to_z w64 (of_z w64 y)
 
 module _ {p : ℕ} {images : List ℤ} {a b : ℕ} (s : Factors p images a b) where
-  left-fits : (i : ℕ) → i < p → SFits w64 (entry images a i)
-  left-fits i l = sfits-natAbs (omega (arith, s.left i l))
+  left_fits : (i : ℕ) → i < p → SFits w64 (entry images a i)
+  left_fits i l = sfits_nat_abs (omega (arith, s.left i l))
 
-  right-fits : (i : ℕ) → i < p → SFits w64 (entry images b i)
-  right-fits i l = sfits-natAbs (omega (arith, s.right i l))
+  right_fits : (i : ℕ) → i < p → SFits w64 (entry images b i)
+  right_fits i l = sfits_nat_abs (omega (arith, s.right i l))
 
   term_fits : (i : ℕ) → i < p → SFits w64 (entry images a i *ℤ entry images b i)
-  term_fits i l = sfits-natAbs (omega (arith, natAbs-*ℤ (entry images a i) (entry images b i), mul-le-mul (s.left i l) (s.right i l)))
+  term_fits i l = sfits_nat_abs (omega (arith, nat_abs_*ℤ (entry images a i) (entry images b i), mul-le-mul (s.left i l) (s.right i l)))
 
-  pub product-fits : (k : ℕ) → k ≤ p → SFits w64 (inner k (entry images a) (entry images b))
-  product-fits k l =
-      sfits-natAbs
+  pub product_fits : (k : ℕ) → k ≤ p → SFits w64 (inner k (entry images a) (entry images b))
+  product_fits k l =
+      sfits_nat_abs
       (omega (
         arith,
         s.few,
-        inner_bound k valueLimit imageLimit (entry images a) (entry images b) (λ i m. s.left i (omega arith)) (λ i m. s.right i (omega arith)),
+        inner_bound k value_limit image_limit (entry images a) (entry images b) (λ i m. s.left i (omega arith)) (λ i m. s.right i (omega arith)),
       ))
 
   module _ (k : ℕ) {sum : ℕ} (e : sum ≡ of_z w64 (inner k (entry images a) (entry images b))) where
-    pub sum-value : k ≤ p → to_z w64 sum ≡ inner k (entry images a) (entry images b)
-    sum-value l = rw e (to_z-of_z (product-fits k l))
+    pub sum_value : k ≤ p → to_z w64 sum ≡ inner k (entry images a) (entry images b)
+    sum_value l = rw e (to_z-of_z (product_fits k l))
 
     module _ (l : k < p) where
       added_is : added sum (entry images a k) (entry images b k) ≡ inner (k + 1) (entry images a) (entry images b)
-      added_is = rw (to_z-of_z (left-fits k l), to_z-of_z (right-fits k l), sum-value (omega arith)) (sym (inner-next k (entry images a) (entry images b)))
+      added_is = rw (to_z-of_z (left_fits k l), to_z-of_z (right_fits k l), sum_value (omega arith)) (sym (inner_next k (entry images a) (entry images b)))
 
       pub next_fits : SFits w64 (to_z w64 (of_z w64 (entry images a k)) *ℤ to_z w64 (of_z w64 (entry images b k)))
           × SFits w64 (added sum (entry images a k) (entry images b k))
-      next_fits = (rw (to_z-of_z (left-fits k l), to_z-of_z (right-fits k l)) (term_fits k l), rw added_is (product-fits (k + 1) (omega arith)))
+      next_fits = (rw (to_z-of_z (left_fits k l), to_z-of_z (right_fits k l)) (term_fits k l), rw added_is (product_fits (k + 1) (omega arith)))
 
-      pub next-sum : {r : ℤ} → r ≡ added sum (entry images a k) (entry images b k) → of_z w64 r ≡ of_z w64 (inner (k + 1) (entry images a) (entry images b))
-      next-sum h = ap (of_z w64) (h ∙ added_is)
+      pub next_sum : {r : ℤ} → r ≡ added sum (entry images a k) (entry images b k) → of_z w64 r ≡ of_z w64 (inner (k + 1) (entry images a) (entry images b))
+      next_sum h = ap (of_z w64) (h ∙ added_is)

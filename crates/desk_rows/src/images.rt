@@ -2,10 +2,10 @@
 ghost use Rattle.std.specs.Prelude.{◌≡◌, ◌+◌, ◌*◌, ◌≤◌, ◌<◌, pos, length};
 ghost use Rattle.std.specs.Int.Signed.{lt_z};
 ghost use Rattle.linear.specs.Systems.{inner};
-ghost use Rattle.linear.specs.Tests.{allTo};
+ghost use Rattle.linear.specs.Tests.{all_to};
 ghost use Rattle.definitions.specs.System.{is_zero};
 ghost use Rattle.table_rows.specs.Small.{SmallRow};
-ghost use Rattle.desk_rows.specs.Images.{Factors, ImageWritten, Images, SmallDesk, SmallMap, entry, imageAt};
+ghost use Rattle.desk_rows.specs.Images.{Factors, ImageWritten, Images, SmallDesk, SmallMap, entry, image_at};
 
 use table_rows::values;
 
@@ -20,7 +20,7 @@ pub fn write(
     images: &mut [i64; 520],
 )
     requires { SmallMap p q coefs.now × SmallRow q table.now base × (k < 65) × (length images.old ≡ 520) }
-    ensures { ImageWritten k p (imageAt q coefs.now table.now base) images.old images.new }
+    ensures { ImageWritten k p (image_at q coefs.now table.now base) images.old images.new }
 {
     let mut i = 0;
     while i < p {
@@ -51,7 +51,7 @@ pub fn write_all(
 // Whether row k is all 0.
 pub fn vanishes(p: usize, images: &[i64; 520], k: usize) -> bool
     requires { (p ≤ 8) × (k < 65) }
-    ensures { result ≡ allTo p (λ i. is_zero (entry images.now k i)) }
+    ensures { result ≡ all_to p (λ i. is_zero (entry images.now k i)) }
 {
     let mut i = 0;
     while i < p {

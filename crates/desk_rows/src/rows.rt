@@ -1,12 +1,12 @@
 // Rows of the stack table.
 ghost use Rattle.std.specs.Prelude.{◌≡◌, ◌+◌, ◌*◌, ◌≤◌, ◌<◌, ltb, length};
-ghost use Rattle.linear.specs.Tests.{anyTo};
+ghost use Rattle.linear.specs.Tests.{any_to};
 ghost use Rattle.linear.specs.Tuples.{total};
-ghost use Rattle.definitions.specs.System.{mostComponent};
-ghost use Rattle.definitions.specs.Tables.{writeTo};
+ghost use Rattle.definitions.specs.System.{most_component};
+ghost use Rattle.definitions.specs.Tables.{write_to};
 ghost use Rattle.table_rows.specs.Rows.{tuple};
 ghost use Rattle.table_rows.specs.Small.{SmallRow};
-ghost use Rattle.desk_spec.specs.Desks.{deskRow};
+ghost use Rattle.desk_spec.specs.Desks.{desk_row};
 ghost use Rattle.desk_rows.specs.Rows.{Raised, SmallTuple};
 
 use crate::marks;
@@ -15,7 +15,7 @@ use table_rows::rows;
 // Writes row k: the first q numbers of `t`, and the marks.
 pub fn write(stack: &mut [u32], k: usize, q: usize, t: &[u32], marks: u64)
     requires { (q ≤ length t.now) × (q ≤ 16) × (k * (q + 2) + (q + 2) ≤ length stack.old) }
-    ensures { stack.new ≡ writeTo (q + 2) stack.old (k * (q + 2)) (deskRow q (tuple t.now) marks) }
+    ensures { stack.new ≡ write_to (q + 2) stack.old (k * (q + 2)) (desk_row q (tuple t.now) marks) }
 {
     let base = k * (q + 2);
     rows::write(stack, base, q, t);
@@ -38,7 +38,7 @@ pub fn add(t: &[u32], table: &[u32], base: usize, q: usize, z: &mut [u32])
 // Whether one of the first q numbers is above the limit of components.
 pub fn is_large(t: &[u32], q: usize) -> bool
     requires { q ≤ length t.now }
-    ensures { result ≡ anyTo q (λ i. ltb mostComponent (tuple t.now i)) }
+    ensures { result ≡ any_to q (λ i. ltb most_component (tuple t.now i)) }
 {
     !table_rows::rows::small_at(t, 0, q, calls::COMPONENT_LIMIT)
 }

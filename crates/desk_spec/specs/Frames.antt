@@ -2,22 +2,22 @@
 -- each sweep and each call what is none of such a run's. And when a sweep is made. Assumes nothing.
 use Rattle.std.specs.Prelude.{◌≡◌, refl, Bool, true, false, cond, ℕ, ◌+◌, ◌*◌, ◌≤◌, ◌<◌, T, eqb, leb, get_or, length}
 use Rattle.std.proofs.Common.{◌∙◌, ap, inl, le-div_iff_mul-le, arith, eqb→eq, leb→le, le→leb}
-use Rattle.laws.specs.TableLaws.{write-inside, write-outside}
+use Rattle.laws.specs.TableLaws.{write_inside, write_outside}
 use Rattle.definitions.specs.System.{solves}
 use Rattle.definitions.specs.Tables.{State, at, capacity}
-use Rattle.laws.specs.Pack.{pack-outside}
-use Rattle.theorems.specs.WholeSteps.{call-keeps}
-use Rattle.desk_spec.specs.Desks.{Desk, deskGrown, deskLevel, deskListed, deskMachine, deskMakes, deskStep, deskTop, freed, generatorCount, secondGroup}
+use Rattle.laws.specs.Pack.{pack_outside}
+use Rattle.theorems.specs.WholeSteps.{call_keeps}
+use Rattle.desk_spec.specs.Desks.{Desk, desk_grown, desk_level, desk_listed, desk_machine, desk_makes, desk_step, desk_top, freed, generator_count, second_group}
 use Rattle.desk_spec.specs.Desks.{settled, swept}
-use Rattle.desk_spec.specs.Valid.{freed-has, freed-of, same-top, settled-done, settled-has, step-has}
+use Rattle.desk_spec.specs.Valid.{freed_has, freed_of, same_top, settled_done, settled_has, step_has}
 use Rattle.desk_spec.specs.Runs.{left}
 
 -- ---- when a sweep is made
 
 -- "It runs before each "complete"": at height 0, and above it nothing is done ahead of a step
-pub settled-when : (d : Desk) (s : State) → (s.run.height ≡ 0 → settled d s ≡ swept d.q s) × (0 < s.run.height → settled d s ≡ s)
+pub settled_when : (d : Desk) (s : State) → (s.run.height ≡ 0 → settled d s ≡ swept d.q s) × (0 < s.run.height → settled d s ≡ s)
 unfolding settled
-settled-when d s = (settled-done d s, above)
+settled_when d s = (settled_done d s, above)
   where
     above : 0 < s.run.height → settled d s ≡ s
     above l = by (eqb s.run.height 0) refl
@@ -27,10 +27,10 @@ settled-when d s = (settled-done d s, above)
         by false y = refl
 
 -- "and when a solution is due and the list is full": with room a step that lists begins with nothing else
-pub freed-when : (d : Desk) (s : State)
+pub freed_when : (d : Desk) (s : State)
     → (capacity d.q s.list ≤ s.run.found → freed d s ≡ swept d.q s) × (s.run.found < capacity d.q s.list → freed d s ≡ s)
 unfolding freed
-freed-when d s = (full, roomy)
+freed_when d s = (full, roomy)
   where
     full : capacity d.q s.list ≤ s.run.found → cond (leb (capacity d.q s.list) s.run.found) (swept d.q s) s ≡ swept d.q s
     full l = by (leb (capacity d.q s.list) s.run.found) (le→leb (capacity d.q s.list) s.run.found l)
@@ -66,38 +66,38 @@ pub record NextRow (q : ℕ) (x : ℕ → ℕ) (s t : State) : Type 0 where
 
 -- a step takes off the top: the stack rows below it stay; a solution becomes the next row, after the sweep if one is due, and else the list stays
 pub record TopTaken (d : Desk) (s t : State) : Type 0 where
-  pub below : RowsBelow d.q (deskLevel s) s t
-  pub lists : T (solves (secondGroup d) (deskTop d s)) → NextRow d.q (deskTop d s) (freed d s) t
-  pub grows : ¬ (T (solves (secondGroup d) (deskTop d s))) → ListKept s t
+  pub below : RowsBelow d.q (desk_level s) s t
+  pub lists : T (solves (second_group d) (desk_top d s)) → NextRow d.q (desk_top d s) (freed d s) t
+  pub grows : ¬ (T (solves (second_group d) (desk_top d s))) → ListKept s t
 
-next_row : (d : Desk) (s : State) → NextRow d.q (deskTop d s) s (deskListed d s)
-unfolding deskListed
+next_row : (d : Desk) (s : State) → NextRow d.q (desk_top d s) s (desk_listed d s)
+unfolding desk_listed
 next_row d s =
     record {
       found = refl;
-      rows = λ e l. write-outside (deskTop d s) s.list (s.run.found * d.q) d.q e (inl l);
-      row = λ room j jq. write-inside (deskTop d s) s.list (s.run.found * d.q) d.q j (row_fits room (omega arith)) jq;
+      rows = λ e l. write_outside (desk_top d s) s.list (s.run.found * d.q) d.q e (inl l);
+      row = λ room j jq. write_inside (desk_top d s) s.list (s.run.found * d.q) d.q j (row_fits room (omega arith)) jq;
     }
   where
     row_fits : s.run.found < capacity d.q s.list → 0 < d.q → s.run.found * d.q + d.q ≤ length s.list
     row_fits room some = omega (arith, (le-div_iff_mul-le {k = d.q} {x = s.run.found + 1} {y = length s.list} some).0 (omega arith))
 
-pub step-takes : (d : Desk) (s : State) → TopTaken d s (deskStep d s)
-unfolding deskListed deskGrown
-step-takes d s = step-has (TopTaken d s) d s enlisting growing
+pub step_takes : (d : Desk) (s : State) → TopTaken d s (desk_step d s)
+unfolding desk_listed desk_grown
+step_takes d s = step_has (TopTaken d s) d s enlisting growing
   where
-    enlisting : T (solves (secondGroup d) (deskTop d s)) → TopTaken d s (deskListed d (freed d s))
+    enlisting : T (solves (second_group d) (desk_top d s)) → TopTaken d s (desk_listed d (freed d s))
     enlisting y =
         record {
-          below = λ l j h jq. ap (λ stack. at stack (d.q + 2) l j) (freed-of d s).stack;
-          lists = λ z. rw (← same-top d (freed-of d s)) (next_row d (freed d s));
+          below = λ l j h jq. ap (λ stack. at stack (d.q + 2) l j) (freed_of d s).stack;
+          lists = λ z. rw (← same_top d (freed_of d s)) (next_row d (freed d s));
           grows = λ n. absurd (n y);
         }
 
-    growing : ¬ (T (solves (secondGroup d) (deskTop d s))) → TopTaken d s (deskGrown d s)
+    growing : ¬ (T (solves (second_group d) (desk_top d s))) → TopTaken d s (desk_grown d s)
     growing n =
         record {
-          below = λ l j h jq. pack-outside (d.q + 2) s.stack (deskLevel s) (deskMakes d s) _ (generatorCount d) l j (inl h) jq;
+          below = λ l j h jq. pack_outside (d.q + 2) s.stack (desk_level s) (desk_makes d s) _ (generator_count d) l j (inl h) jq;
           lists = λ y. absurd (n y);
           grows = λ z. record { list = refl; found = refl };
         }
@@ -114,25 +114,25 @@ pub record Aside (s t : State) : Type 0 where
 aside_same : (s : State) → Aside s s
 aside_same s = record { kind = refl; second = refl; found2 = refl; steps2 = refl }
 
-aside-more : {s t u : State} → Aside s t → Aside t u → Aside s u
-aside-more a b = record { kind = b.kind ∙ a.kind; second = b.second ∙ a.second; found2 = b.found2 ∙ a.found2; steps2 = b.steps2 ∙ a.steps2 }
+aside_more : {s t u : State} → Aside s t → Aside t u → Aside s u
+aside_more a b = record { kind = b.kind ∙ a.kind; second = b.second ∙ a.second; found2 = b.found2 ∙ a.found2; steps2 = b.steps2 ∙ a.steps2 }
 
-swept-aside : (q : ℕ) (s : State) → Aside s (swept q s)
+swept_aside : (q : ℕ) (s : State) → Aside s (swept q s)
 unfolding swept
-swept-aside q s = record { kind = refl; second = refl; found2 = refl; steps2 = refl }
+swept_aside q s = record { kind = refl; second = refl; found2 = refl; steps2 = refl }
 
-settled-aside : (d : Desk) (s : State) → Aside s (settled d s)
-settled-aside d s = settled-has (Aside s) d s (swept-aside d.q s) (aside_same s)
+settled_aside : (d : Desk) (s : State) → Aside s (settled d s)
+settled_aside d s = settled_has (Aside s) d s (swept_aside d.q s) (aside_same s)
 
-step-aside : (d : Desk) (s : State) → Aside s (deskStep d s)
-unfolding deskListed deskGrown
-step-aside d s =
-    step-has (Aside s) d s (λ y. enlisting (freed d s) (freed-has (Aside s) d s (swept-aside d.q s) (aside_same s)))
+step_aside : (d : Desk) (s : State) → Aside s (desk_step d s)
+unfolding desk_listed desk_grown
+step_aside d s =
+    step_has (Aside s) d s (λ y. enlisting (freed d s) (freed_has (Aside s) d s (swept_aside d.q s) (aside_same s)))
     (λ n. record { kind = refl; second = refl; found2 = refl; steps2 = refl })
   where
-    enlisting : (t : State) → Aside s t → Aside s (deskListed d t)
+    enlisting : (t : State) → Aside s t → Aside s (desk_listed d t)
     enlisting t a = record { kind = a.kind; second = a.second; found2 = a.found2; steps2 = a.steps2 }
 
-pub aside-kept : (budget : ℕ) (d : Desk) (s : State) → Aside s (left budget d s)
-aside-kept budget d s =
-    call-keeps (deskMachine d) (Aside s) (λ t a. aside-more a (settled-aside d t)) (λ t a g. aside-more a (step-aside d t)) budget s (aside_same s)
+pub aside_kept : (budget : ℕ) (d : Desk) (s : State) → Aside s (left budget d s)
+aside_kept budget d s =
+    call_keeps (desk_machine d) (Aside s) (λ t a. aside_more a (settled_aside d t)) (λ t a g. aside_more a (step_aside d t)) budget s (aside_same s)

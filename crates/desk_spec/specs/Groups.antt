@@ -4,12 +4,12 @@ use Rattle.std.proofs.Common.{sym, ◌∙◌, ap, le-div_iff_mul-le, mul-div_can
 use Rattle.std.proofs.Math.ListN.{get_or-append}
 use Rattle.linear.specs.Combinations.{Enumerates}
 use Rattle.linear.specs.Tuples.{Same}
-use Rattle.definitions.specs.Input.{input_of, systemOf}
+use Rattle.definitions.specs.Input.{input_of, system_of}
 use Rattle.definitions.specs.System.{MinimalSolution, System, coef}
 use Rattle.definitions.specs.Tables.{at}
 use Rattle.laws.specs.TableLaws.{row_before}
 use Rattle.theorems.specs.Listed.{Exactly}
-use Rattle.desk_spec.specs.Desks.{Desk, secondGroup}
+use Rattle.desk_spec.specs.Desks.{Desk, second_group}
 use Rattle.desk_spec.specs.Second.{Joined, first_alike}
 
 -- the first group: p equations in the unknowns of the second, with all its coefficients
@@ -19,15 +19,15 @@ pub record FirstGroup (d : Desk) : Type 0 where
   pub numbers : length coefs ≡ p * d.q
 
 -- as a system
-abbrev pub firstSystem : (d : Desk) → FirstGroup d → System
-firstSystem d g = systemOf (input_of g.p d.q g.coefs)
+abbrev pub first_system : (d : Desk) → FirstGroup d → System
+first_system d g = system_of (input_of g.p d.q g.coefs)
 
 -- the whole map: the equations of the first group, then those of the second
-abbrev pub wholeSystem : (d : Desk) → FirstGroup d → System
-wholeSystem d g = systemOf (input_of (g.p + d.p) d.q (g.coefs ++ d.coefs))
+abbrev pub whole_system : (d : Desk) → FirstGroup d → System
+whole_system d g = system_of (input_of (g.p + d.p) d.q (g.coefs ++ d.coefs))
 
-pub groups-joined : (d : Desk) (g : FirstGroup d) → Joined g.p d.p d.q (coef (firstSystem d g)) (coef (secondGroup d)) (coef (wholeSystem d g))
-groups-joined d g =
+pub groups_joined : (d : Desk) (g : FirstGroup d) → Joined g.p d.p d.q (coef (first_system d g)) (coef (second_group d)) (coef (whole_system d g))
+groups_joined d g =
     record {
       first = λ i j l jq. get_or-append g.coefs d.coefs (pos 0) (i * d.q + j) (omega (arith, g.numbers, row_before d.q g.p i 0 j l jq));
       second = λ i j l jq.
@@ -36,8 +36,8 @@ groups-joined d g =
     }
 
 -- the whole map as the first group of a further desk in the same unknowns
-abbrev pub bothGroups : (d : Desk) (g : FirstGroup d) → length d.coefs ≡ d.p * d.q → (e : Desk) → e.q ≡ d.q → FirstGroup e
-bothGroups d g all e same =
+abbrev pub both_groups : (d : Desk) (g : FirstGroup d) → length d.coefs ≡ d.p * d.q → (e : Desk) → e.q ≡ d.q → FirstGroup e
+both_groups d g all e same =
     record {
       p = g.p + d.p;
       coefs = g.coefs ++ d.coefs;
@@ -46,8 +46,8 @@ bothGroups d g all e same =
 
 -- ---- a list handed over
 
-minimal-alike : (m : System) {t u : ℕ → ℕ} → Same m.q t u → MinimalSolution m t → MinimalSolution m u
-minimal-alike m {t} {u} e b =
+minimal_alike : (m : System) {t u : ℕ → ℕ} → Same m.q t u → MinimalSolution m t → MinimalSolution m u
+minimal_alike m {t} {u} e b =
     record {
       holds = first_alike m.p m.q (coef m) t u e b.holds;
       none_below =
@@ -55,13 +55,13 @@ minimal-alike m {t} {u} e b =
     }
 
 -- the first n rows of a list table, as a table of their own
-pub handed-over : (m : System) (list : List ℕ) (n : ℕ) → 0 < m.q → Exactly m.q (MinimalSolution m) list n
+pub handed_over : (m : System) (list : List ℕ) (n : ℕ) → 0 < m.q → Exactly m.q (MinimalSolution m) list n
     → Enumerates m.q (MinimalSolution m) (length (take (n * m.q) list) / m.q) (at (take (n * m.q) list) m.q)
-handed-over m list n some e =
+handed_over m list n some e =
     let long : n * m.q ≤ length list = (le-div_iff_mul-le {k = m.q} {x = n} {y = length list} some).0 e.part.room in
     let size : length (take (n * m.q) list) / m.q ≡ n = ap (λ k. k / m.q) (length-take-le (n * m.q) list long) ∙ mul-div_cancel n some in
     rw size (record {
-      only = λ i l. minimal-alike m (λ j jq. sym (same i l j jq)) (e.part.only i l);
+      only = λ i l. minimal_alike m (λ j jq. sym (same i l j jq)) (e.part.only i l);
       once = λ i j ij jn h. e.part.once i j ij jn (λ x xq. sym (same i (omega arith) x xq) ∙ h x xq ∙ same j jn x xq);
       all = λ t b. let (i, l, h) = e.all t b in (i, l, λ j jq. same i l j jq ∙ h j jq);
     })

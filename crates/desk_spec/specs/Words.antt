@@ -16,11 +16,11 @@ lowest a b w = rw (two-pow-succ w) (omega (arith, doubled b (2 ^ w)))
 others : (a b w : ℕ) → (a + b * 2 ^ suc w) / 2 ≡ a / 2 + b * 2 ^ w
 others a b w = rw (two-pow-succ w) (omega (arith, doubled b (2 ^ w)))
 
-bit-low : (w a b j : ℕ) → j < w → bit (a + b * 2 ^ w) j ≡ bit a j
+bit_low : (w a b j : ℕ) → j < w → bit (a + b * 2 ^ w) j ≡ bit a j
 unfolding bit
-bit-low zero a b j l = absurd (omega arith)
-bit-low (suc w) a b zero l = lowest a b w
-bit-low (suc w) a b (suc j) l = rw (others a b w) (bit-low w (a / 2) b j (omega arith))
+bit_low zero a b j l = absurd (omega arith)
+bit_low (suc w) a b zero l = lowest a b w
+bit_low (suc w) a b (suc j) l = rw (others a b w) (bit_low w (a / 2) b j (omega arith))
 
 bit_high : (w a b j : ℕ) → a < 2 ^ w → bit (a + b * 2 ^ w) (w + j) ≡ bit b j
 unfolding bit
@@ -30,10 +30,10 @@ bit_high (suc w) a b j l = rw (suc-add w j) (next (bit_high w (a / 2) b j (omega
     next : bit (a / 2 + b * 2 ^ w) (w + j) ≡ bit b j → bit ((a + b * 2 ^ suc w) / 2) (w + j) ≡ bit b j
     next h = rw (others a b w) h
 
-pub frozen-low : (low high j : ℕ) → j < 32 → frozen (low + high * word) j ≡ frozen low j
+pub frozen_low : (low high j : ℕ) → j < 32 → frozen (low + high * word) j ≡ frozen low j
 unfolding frozen
-frozen-low low high j l = ap (λ x. eqb x 1) (bit-low 32 low high j l)
+frozen_low low high j l = ap (λ x. eqb x 1) (bit_low 32 low high j l)
 
-pub frozen-high : (low high j : ℕ) → low < word → frozen (low + high * word) (32 + j) ≡ frozen high j
+pub frozen_high : (low high j : ℕ) → low < word → frozen (low + high * word) (32 + j) ≡ frozen high j
 unfolding frozen
-frozen-high low high j l = ap (λ x. eqb x 1) (bit_high 32 low high j l)
+frozen_high low high j l = ap (λ x. eqb x 1) (bit_high 32 low high j l)

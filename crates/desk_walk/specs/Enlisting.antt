@@ -1,51 +1,51 @@
 -- What listing a solution comes to. Assumes nothing.
 use Rattle.std.specs.Prelude.{◌≡◌, List, ℕ, ◌+◌, ◌*◌, ◌/◌, ◌≤◌, ◌<◌, length}
 use Rattle.std.proofs.Common.{◌∙◌, ap, ap₂, div-mul-le_self, le-mul_of_pos_right, mul-le-mul_right, arith}
-use Rattle.linear.specs.TestLaws.{count-le}
+use Rattle.linear.specs.TestLaws.{count_le}
 use Rattle.linear.specs.Tests.{count_to}
-use Rattle.definitions.specs.Tables.{at, capacity, writeTo}
+use Rattle.definitions.specs.Tables.{at, capacity, write_to}
 use Rattle.laws.specs.TableLaws.{row_fits}
-use Rattle.laws.specs.Again.{swept-length}
-use Rattle.laws.specs.Sweep.{keeps, sweptTo}
+use Rattle.laws.specs.Again.{swept_length}
+use Rattle.laws.specs.Sweep.{keeps, swept_to}
 use Rattle.table_rows.specs.Keeping.{Kept}
 use Rattle.calls.specs.declared.Refusal.TheVariants.{ListFull}
 use Rattle.desk_walk.specs.declared.step.DeskStepped.{DeskStepped}
 use Rattle.desk_walk.specs.declared.step.DeskStepped.TheVariants.{Listed, Refused}
 
 -- the rows that a sweep leaves, and their number
-abbrev pub sweptList : ℕ → ℕ → List ℕ → List ℕ
-sweptList q found list = sweptTo found q list (keeps q found (at list q))
+abbrev pub swept_list : ℕ → ℕ → List ℕ → List ℕ
+swept_list q found list = swept_to found q list (keeps q found (at list q))
 
-abbrev pub sweptCount : ℕ → ℕ → List ℕ → ℕ
-sweptCount q found list = count_to found (keeps q found (at list q))
+abbrev pub swept_count : ℕ → ℕ → List ℕ → ℕ
+swept_count q found list = count_to found (keeps q found (at list q))
 
 -- the answer and the list afterwards: a list with room takes x as its next row; of a full one the rows that a sweep leaves are counted, and then it takes x, or
 -- there is no room
 pub data Enlisted (q found : ℕ) (x : ℕ → ℕ) (list after : List ℕ) (answer : DeskStepped) : Type 0 where
-  roomy : found < capacity q list → answer ≡ Listed (found + 1) → after ≡ writeTo q list (found * q) x → Enlisted q found x list after answer
-  freed : capacity q list ≤ found → sweptCount q found list < capacity q list → answer ≡ Listed (sweptCount q found list + 1)
-      → after ≡ writeTo q (sweptList q found list) (sweptCount q found list * q) x → Enlisted q found x list after answer
-  full : capacity q list ≤ found → capacity q list ≤ sweptCount q found list → answer ≡ Refused ListFull → after ≡ sweptList q found list
+  roomy : found < capacity q list → answer ≡ Listed (found + 1) → after ≡ write_to q list (found * q) x → Enlisted q found x list after answer
+  freed : capacity q list ≤ found → swept_count q found list < capacity q list → answer ≡ Listed (swept_count q found list + 1)
+      → after ≡ write_to q (swept_list q found list) (swept_count q found list * q) x → Enlisted q found x list after answer
+  full : capacity q list ≤ found → capacity q list ≤ swept_count q found list → answer ≡ Refused ListFull → after ≡ swept_list q found list
       → Enlisted q found x list after answer
 
 -- ---- places
 
-pub capacity-small : (q : ℕ) (list : List ℕ) → 0 < q → capacity q list ≤ length list
-capacity-small q list some = omega (arith, div-mul-le_self (length list) q, le-mul_of_pos_right (length list / q) some)
+pub capacity_small : (q : ℕ) (list : List ℕ) → 0 < q → capacity q list ≤ length list
+capacity_small q list some = omega (arith, div-mul-le_self (length list) q, le-mul_of_pos_right (length list / q) some)
 
 pub next_fits : (q k : ℕ) (list : List ℕ) → k < capacity q list → k * q + q ≤ length list
 next_fits q k list l = omega (arith, div-mul-le_self (length list) q, row_fits q k (length list / q) l)
 
 module _ {q found : ℕ} {list after : List ℕ} {left : ℕ} (k : Kept q found (keeps q found (at list q)) list after left) where
-  pub kept-size : length after ≡ length list
-  kept-size = ap length k.rows ∙ swept-length q found list
+  pub kept_size : length after ≡ length list
+  kept_size = ap length k.rows ∙ swept_length q found list
 
-  pub kept-place : found * q ≤ length list → left * q ≤ length list
-  kept-place l = rw k.counted (omega (arith, mul-le-mul_right q (count-le (keeps q found (at list q)) found)))
+  pub kept_place : found * q ≤ length list → left * q ≤ length list
+  kept_place l = rw k.counted (omega (arith, mul-le-mul_right q (count_le (keeps q found (at list q)) found)))
 
 -- room that a sweep has made
-pub freed-listed : {q found : ℕ} {x : ℕ → ℕ} {list after swept : List ℕ} {left : ℕ} → capacity q list ≤ found
+pub freed_listed : {q found : ℕ} {x : ℕ → ℕ} {list after swept : List ℕ} {left : ℕ} → capacity q list ≤ found
     → Kept q found (keeps q found (at list q)) list swept left → left < capacity q list
-    → after ≡ writeTo q swept (left * q) x → Enlisted q found x list after (Listed (left + 1))
-freed-listed {q} {found} {x} l k room w =
-    freed l (rw k.counted at room) (ap (λ n. Listed (n + 1)) k.counted) (w ∙ ap₂ (λ t n. writeTo q t (n * q) x) k.rows k.counted)
+    → after ≡ write_to q swept (left * q) x → Enlisted q found x list after (Listed (left + 1))
+freed_listed {q} {found} {x} l k room w =
+    freed l (rw k.counted at room) (ap (λ n. Listed (n + 1)) k.counted) (w ∙ ap₂ (λ t n. write_to q t (n * q) x) k.rows k.counted)

@@ -3,11 +3,11 @@ ghost use Rattle.std.specs.Prelude.{◌≡◌, ◌+◌, ◌*◌, ◌-◌, ◌/�
 ghost use Rattle.definitions.specs.Machine as paper;
 ghost use Rattle.table_rows.specs.Rows.{Holds};
 ghost use Rattle.table_rows.specs.Small.{SmallRow};
-ghost use Rattle.desk_spec.specs.Desks.{deskMachine, deskOf};
+ghost use Rattle.desk_spec.specs.Desks.{desk_machine, desk_of};
 ghost use Rattle.desk_spec.specs.Valid.{DeskValid};
-ghost use Rattle.calls.specs.Paper.{outcomeOf, state_of};
-ghost use Rattle.desk_rows.specs.Images.{ImageWritten, SmallMap, imageAt};
-ghost use Rattle.desk_walk.specs.Taking.{Standing, Taken, stateAt};
+ghost use Rattle.calls.specs.Paper.{outcome_of, state_of};
+ghost use Rattle.desk_rows.specs.Images.{ImageWritten, SmallMap, image_at};
+ghost use Rattle.desk_walk.specs.Taking.{Standing, Taken, state_at};
 
 use crate::step::{DeskStepped, TriedGenerators};
 use calls::{Answer, Outcome, Record, Refusal};
@@ -26,9 +26,9 @@ pub fn walk_desk(
     r: Record,
     budget: u64,
 ) -> Outcome
-    requires { DeskValid (deskOf p q coefs.now generators.now) (state_of stack.old list.old r) }
-    ensures { outcomeOf result stack.new list.new
-        ≡ paper.walk budget (deskMachine (deskOf p q coefs.now generators.now)) (state_of stack.old list.old r) }
+    requires { DeskValid (desk_of p q coefs.now generators.now) (state_of stack.old list.old r) }
+    ensures { outcome_of result stack.new list.new
+        ≡ paper.walk budget (desk_machine (desk_of p q coefs.now generators.now)) (state_of stack.old list.old r) }
 {
     let mut height = r.height;
     let mut found = r.found.0;
@@ -104,7 +104,7 @@ fn look(
 )
     requires { SmallMap p q coefs.now × SmallRow q stack.now base × (length images.old ≡ 520) × (q ≤ length top.old) }
     ensures holds { Holds q top.new stack.now base }
-    ensures image_written { ImageWritten 64 p (imageAt q coefs.now stack.now base) images.old images.new }
+    ensures image_written { ImageWritten 64 p (image_at q coefs.now stack.now base) images.old images.new }
 {
     table_rows::rows::read(stack, base, q, top);
     images::write(p, q, coefs, stack, base, 64, images);
@@ -134,10 +134,10 @@ fn take(
     steps: u64,
     deepest: u64,
 ) -> DeskStepped
-    requires standing { Standing p q coefs.now generators.now images.now top.now (stateAt r stack.old list.old height found steps deepest) }
+    requires standing { Standing p q coefs.now generators.now images.now top.now (state_at r stack.old list.old height found steps deepest) }
     requires n_value { (n ≡ length generators.now / q) × (q ≤ length child.old) }
-    ensures { Taken (deskOf p q coefs.now generators.now)
-        (stateAt r stack.old list.old height found steps deepest)
+    ensures { Taken (desk_of p q coefs.now generators.now)
+        (state_at r stack.old list.old height found steps deepest)
         stack.new list.new result }
 {
     let level = height - 1;

@@ -6,7 +6,7 @@ ghost use Rattle.linear.specs.Tests.{count_to};
 ghost use Rattle.definitions.specs.Tables.{frozen};
 ghost use Rattle.table_rows.specs.Rows.{tuple};
 ghost use Rattle.desk_rows.specs.Images.{Factors, entry};
-ghost use Rattle.desk_walk.specs.Trying.{Trying, generatorsTried};
+ghost use Rattle.desk_walk.specs.Trying.{Trying, generators_tried};
 ghost use Rattle.desk_walk.specs.Pushing.{Pushing, pushed};
 ghost use Rattle.desk_walk.specs.Enlisting.{Enlisted};
 
@@ -60,7 +60,7 @@ pub fn admitted_generators(
     marks: u64,
 ) -> TriedGenerators
     requires { Trying p q generators.now n images.now list.now found top.now × (q ≤ length child.old) }
-    ensures { result ≡ generatorsTried p q generators.now n images.now list.now found (tuple top.now) marks }
+    ensures { result ≡ generators_tried p q generators.now n images.now list.now found (tuple top.now) marks }
 {
     let mut made: u64 = 0;
     let mut next = 0;

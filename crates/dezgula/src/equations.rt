@@ -3,8 +3,8 @@ ghost use Rattle.std.specs.Prelude.{◌≡◌, length};
 ghost use Rattle.equation_spec.specs.Outcome.{outcome};
 ghost use Rattle.equation_spec.specs.Writing.{write};
 ghost use Rattle.equation_read.specs.Answer.{answered};
-ghost use Rattle.equation_spec.specs.Systems.{readSystem};
-ghost use Rattle.c_equation.specs.Codes.{readTold, writeTold, systemTold};
+ghost use Rattle.equation_spec.specs.Systems.{read_system};
+ghost use Rattle.c_equation.specs.Codes.{read_told, write_told, system_told};
 
 // Reads the equation that `text` writes for `q` unknowns; its coefficients go to `row`, its right side to `side`.
 #[unsafe(no_mangle)]
@@ -15,7 +15,7 @@ pub extern "C" fn dezgula_raw_read_equation(
     side: &mut [i32; 1],
 ) -> u64
     ensures { (result, (row.new, side.new)) ≡
-        readTold (answered (outcome q (length row.old) text.now) row.old) side.old }
+        read_told (answered (outcome q (length row.old) text.now) row.old) side.old }
 {
     c_equation::read_equation(text, q, row, side)
 }
@@ -28,7 +28,7 @@ pub extern "C" fn dezgula_raw_write_equation(
     right: i32,
     out: &mut [u8],
 ) -> u64
-    ensures { (result, out.new) ≡ writeTold (write q row.now right out.old) }
+    ensures { (result, out.new) ≡ write_told (write q row.now right out.old) }
 {
     c_equation::write_equation(q, row, right, out)
 }
@@ -44,7 +44,7 @@ pub extern "C" fn dezgula_raw_read_system(
     within: &mut [u64; 1],
 ) -> u64
     ensures { (result, (coefs.new, (rights.new, within.new))) ≡
-        systemTold (readSystem q text.now coefs.old rights.old) within.old }
+        system_told (read_system q text.now coefs.old rights.old) within.old }
 {
     c_equation::systems::read_system(text, q, coefs, rights, within)
 }

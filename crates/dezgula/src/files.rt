@@ -1,9 +1,9 @@
 // Files of lists (document 02, Job 5); library/raw.h says the same to C.
 ghost use Rattle.std.specs.Prelude.{◌≡◌};
-ghost use Rattle.list_spec.specs.Writing.{writeList};
-ghost use Rattle.list_spec.specs.Reading.{readFile};
+ghost use Rattle.list_spec.specs.Writing.{write_list};
+ghost use Rattle.list_spec.specs.Reading.{read_file};
 ghost use Rattle.list_file.specs.WriteAnswer.{list_of};
-ghost use Rattle.c_list.specs.Codes.{writeTold, readTold};
+ghost use Rattle.c_list.specs.Codes.{write_told, read_told};
 
 // Writes a list into `out`, which has the exact length.
 #[unsafe(no_mangle)]
@@ -15,7 +15,7 @@ pub extern "C" fn dezgula_raw_write_list(
     ending: u32,
     out: &mut [u8],
 ) -> u64
-    ensures { (result, out.new) ≡ writeTold (writeList (list_of p q coefs.now rows.now ending) out.old) }
+    ensures { (result, out.new) ≡ write_told (write_list (list_of p q coefs.now rows.now ending) out.old) }
 {
     c_list::write_list(p, q, coefs, rows, ending, out)
 }
@@ -29,7 +29,7 @@ pub extern "C" fn dezgula_raw_read_list(
     words: &mut [u64; 4],
 ) -> u64
     ensures { (result, (coefs.new, (list.new, words.new))) ≡
-        readTold (readFile file.now coefs.old list.old) words.old }
+        read_told (read_file file.now coefs.old list.old) words.old }
 {
     c_list::read_list(file, coefs, list, words)
 }

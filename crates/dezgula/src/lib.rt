@@ -5,17 +5,17 @@ ghost use Rattle.std.specs.Prelude.{◌≡◌};
 ghost use Rattle.definitions.specs.Highest.{locate};
 ghost use Rattle.definitions.specs.Input.{input_of};
 ghost use Rattle.definitions.specs.Reasons.{reason};
-ghost use Rattle.c_desk.specs.Words.{deskResumeWords, deskStartWords};
-ghost use Rattle.c_dispatch.specs.Words.{dispatchWords};
-ghost use Rattle.reader.specs.Answers.{locatedNumber};
-ghost use Rattle.reasons.specs.Numbers.{reasonTold};
-ghost use Rattle.c_record.specs.Words.{startWords, resumeWords};
-ghost use Rattle.c_walk.specs.Rows.{rowTold};
-ghost use Rattle.c_map.specs.Words.{readWords};
+ghost use Rattle.c_desk.specs.Words.{desk_resume_words, desk_start_words};
+ghost use Rattle.c_dispatch.specs.Words.{dispatch_words};
+ghost use Rattle.reader.specs.Answers.{located_number};
+ghost use Rattle.reasons.specs.Numbers.{reason_told};
+ghost use Rattle.c_record.specs.Words.{start_words, resume_words};
+ghost use Rattle.c_walk.specs.Rows.{row_told};
+ghost use Rattle.c_map.specs.Words.{read_words};
 ghost use Rattle.multiples_spec.specs.Parts.{decomposed};
-ghost use Rattle.multiples.specs.Answers.{partsTold};
-ghost use Rattle.single_spec.specs.Listing.{listingCall};
-ghost use Rattle.c_single.specs.SingleFile.{singleStartWords, singleResumeWords, listingTold};
+ghost use Rattle.multiples.specs.Answers.{parts_told};
+ghost use Rattle.single_spec.specs.Listing.{listing_call};
+ghost use Rattle.c_single.specs.SingleFile.{single_start_words, single_resume_words, listing_told};
 
 mod equations; // equations.rt: typed equations
 mod files; // files.rt: lists as files
@@ -37,7 +37,7 @@ pub extern "C" fn dezgula_raw_start(
     run: &mut [u64],
 ) -> u64
     ensures { (result, (stack.new, (list.new, run.new))) ≡
-        startWords p q coefs.now stack.old list.old run.old }
+        start_words p q coefs.now stack.old list.old run.old }
 {
     c_walk::start(p, q, coefs, stack, list, run)
 }
@@ -54,7 +54,7 @@ pub extern "C" fn dezgula_raw_resume(
     budget: u64,
 ) -> u64
     ensures { (result, (stack.new, (list.new, run.new))) ≡
-        resumeWords budget p q coefs.now stack.old list.old run.old }
+        resume_words budget p q coefs.now stack.old list.old run.old }
 {
     c_walk::resume(p, q, coefs, stack, list, run, budget)
 }
@@ -68,7 +68,7 @@ pub extern "C" fn dezgula_raw_row(
     n: usize,
     out: &mut [u32],
 ) -> u64
-    ensures { (result, out.new) ≡ rowTold q list.now found n out.old }
+    ensures { (result, out.new) ≡ row_told q list.now found n out.old }
 {
     c_walk::rows::tell(list, q, found, n, out)
 }
@@ -84,7 +84,7 @@ pub extern "C" fn dezgula_raw_start_single_file(
     run: &mut [u64],
 ) -> u64
     ensures { (result, (stack.new, (list.new, run.new))) ≡
-        singleStartWords p q coefs.now stack.old list.old run.old }
+        single_start_words p q coefs.now stack.old list.old run.old }
 {
     c_single::start(p, q, coefs, stack, list, run)
 }
@@ -101,7 +101,7 @@ pub extern "C" fn dezgula_raw_resume_single_file(
     budget: u64,
 ) -> u64
     ensures { (result, (stack.new, (list.new, run.new))) ≡
-        singleResumeWords budget p q coefs.now stack.old list.old run.old }
+        single_resume_words budget p q coefs.now stack.old list.old run.old }
 {
     c_single::resume(p, q, coefs, stack, list, run, budget)
 }
@@ -116,7 +116,7 @@ pub extern "C" fn dezgula_raw_listing(
     found: usize,
     out: &mut [u8],
 ) -> u64
-    ensures { (result, out.new) ≡ listingTold (listingCall (input_of p q coefs.now) list.now found out.old) }
+    ensures { (result, out.new) ≡ listing_told (listing_call (input_of p q coefs.now) list.now found out.old) }
 {
     c_single::listed(p, q, coefs, list, found, out)
 }
@@ -134,7 +134,7 @@ pub extern "C" fn dezgula_raw_dispatch(
     round: &mut [u64],
 ) -> u64
     ensures { (result, (stack.new, (list.new, round.new))) ≡
-        dispatchWords count quantum turns shares.now coefs.now stack.old list.old round.old }
+        dispatch_words count quantum turns shares.now coefs.now stack.old list.old round.old }
 {
     c_dispatch::dispatch(count, quantum, turns, shares, coefs, stack, list, round)
 }
@@ -142,7 +142,7 @@ pub extern "C" fn dezgula_raw_dispatch(
 // The highest place of a row of the list at or below a tuple.
 #[unsafe(no_mangle)]
 pub extern "C" fn dezgula_raw_locate(list: &[u32], q: usize, found: usize, tuple: &[u32]) -> u64
-    ensures { result ≡ locatedNumber (locate q list.now found tuple.now) }
+    ensures { result ≡ located_number (locate q list.now found tuple.now) }
 {
     reader::lookups::locate_number(list, q, found, tuple)
 }
@@ -159,7 +159,7 @@ pub extern "C" fn dezgula_raw_reason(
     amount: &mut [i64; 1],
 ) -> u64
     ensures { (result, amount.new) ≡
-        reasonTold (reason (input_of p q coefs.now) list.now found tuple.now) amount.old }
+        reason_told (reason (input_of p q coefs.now) list.now found tuple.now) amount.old }
 {
     reasons::told::reason(p, q, coefs, list, found, tuple, amount)
 }
@@ -177,7 +177,7 @@ pub extern "C" fn dezgula_raw_decompose(
     amount: &mut [i64; 1],
 ) -> u64
     ensures { (result, (times.new, amount.new)) ≡
-        partsTold (decomposed (input_of p q coefs.now) list.now found tuple.now times.old)
+        parts_told (decomposed (input_of p q coefs.now) list.now found tuple.now times.old)
         amount.old }
 {
     multiples::decompose_number(p, q, coefs, list, found, tuple, times, amount)
@@ -197,7 +197,7 @@ pub extern "C" fn dezgula_raw_start_desk(
     run: &mut [u64],
 ) -> u64
     ensures { (result, (stack.new, (list.new, run.new))) ≡
-        deskStartWords p q coefs.now generators.now stack.old list.old run.old }
+        desk_start_words p q coefs.now generators.now stack.old list.old run.old }
 {
     c_desk::start(p, q, coefs, generators, stack, list, run)
 }
@@ -215,7 +215,7 @@ pub extern "C" fn dezgula_raw_resume_desk(
     budget: u64,
 ) -> u64
     ensures { (result, (stack.new, (list.new, run.new))) ≡
-        deskResumeWords budget p q coefs.now generators.now stack.old list.old run.old }
+        desk_resume_words budget p q coefs.now generators.now stack.old list.old run.old }
 {
     c_desk::resume(p, q, coefs, generators, stack, list, run, budget)
 }
@@ -227,7 +227,7 @@ pub extern "C" fn dezgula_raw_read_map(
     coefs: &mut [i32; 128],
     words: &mut [u64; 2],
 ) -> u64
-    ensures { (result, (coefs.new, words.new)) ≡ readWords text.now coefs.old words.old }
+    ensures { (result, (coefs.new, words.new)) ≡ read_words text.now coefs.old words.old }
 {
     c_map::read_map(text, coefs, words)
 }

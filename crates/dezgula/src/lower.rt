@@ -1,6 +1,6 @@
 // Runs from a lower bound; library/raw.h says the same to C.
 ghost use Rattle.std.specs.Prelude.{◌≡◌};
-ghost use Rattle.c_walk.specs.Lower.{startBounded, resumeBounded};
+ghost use Rattle.c_walk.specs.Lower.{start_bounded, resume_bounded};
 
 // The start.
 #[unsafe(no_mangle)]
@@ -15,7 +15,7 @@ pub extern "C" fn dezgula_raw_start_from(
     run: &mut [u64],
 ) -> u64
     ensures { (result, (stack.new, (list.new, (second.new, run.new)))) ≡
-        startBounded p q coefs.now lower.now stack.old list.old second.old run.old }
+        start_bounded p q coefs.now lower.now stack.old list.old second.old run.old }
 {
     c_walk::lower::start_from(p, q, coefs, lower, stack, list, second, run)
 }
@@ -34,7 +34,7 @@ pub extern "C" fn dezgula_raw_resume_from(
     budget: u64,
 ) -> u64
     ensures { (result, (stack.new, (list.new, (second.new, run.new)))) ≡
-        resumeBounded budget p q coefs.now lower.now stack.old list.old second.old run.old }
+        resume_bounded budget p q coefs.now lower.now stack.old list.old second.old run.old }
 {
     c_walk::lower::resume_from(p, q, coefs, lower, stack, list, second, run, budget)
 }

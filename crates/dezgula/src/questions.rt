@@ -1,13 +1,13 @@
 // Questions about the lists of larger maps, as the engine lists them: those of document 02 with the engine's own 1 and 2.
 ghost use Rattle.std.specs.Prelude.{◌≡◌};
-ghost use Rattle.definitions.specs.Highest.{locateWithin};
+ghost use Rattle.definitions.specs.Highest.{locate_within};
 ghost use Rattle.definitions.specs.Input.{input_of};
-ghost use Rattle.definitions.specs.Reasons.{reasonWithin};
-ghost use Rattle.definitions.specs.Refusals.{largeSizes};
-ghost use Rattle.reader.specs.Answers.{locatedNumber};
-ghost use Rattle.reasons.specs.Numbers.{reasonTold};
-ghost use Rattle.multiples_spec.specs.Parts.{decomposedWithin};
-ghost use Rattle.multiples.specs.Answers.{partsTold};
+ghost use Rattle.definitions.specs.Reasons.{reason_within};
+ghost use Rattle.definitions.specs.Refusals.{large_sizes};
+ghost use Rattle.reader.specs.Answers.{located_number};
+ghost use Rattle.reasons.specs.Numbers.{reason_told};
+ghost use Rattle.multiples_spec.specs.Parts.{decomposed_within};
+ghost use Rattle.multiples.specs.Answers.{parts_told};
 
 // The highest place of a row of the list at or below a tuple.
 #[unsafe(no_mangle)]
@@ -17,7 +17,7 @@ pub extern "C" fn dezgula_raw_engine_locate(
     found: usize,
     tuple: &[u32],
 ) -> u64
-    ensures { result ≡ locatedNumber (locateWithin largeSizes.unknowns q list.now found tuple.now) }
+    ensures { result ≡ located_number (locate_within large_sizes.unknowns q list.now found tuple.now) }
 {
     reader::lookups::locate_large_number(list, q, found, tuple)
 }
@@ -34,7 +34,7 @@ pub extern "C" fn dezgula_raw_engine_reason(
     amount: &mut [i64; 1],
 ) -> u64
     ensures { (result, amount.new) ≡
-        reasonTold (reasonWithin largeSizes (input_of p q coefs.now) list.now found tuple.now) amount.old }
+        reason_told (reason_within large_sizes (input_of p q coefs.now) list.now found tuple.now) amount.old }
 {
     reasons::told::reason_large(p, q, coefs, list, found, tuple, amount)
 }
@@ -52,7 +52,7 @@ pub extern "C" fn dezgula_raw_engine_decompose(
     amount: &mut [i64; 1],
 ) -> u64
     ensures { (result, (times.new, amount.new)) ≡
-        partsTold (decomposedWithin largeSizes (input_of p q coefs.now) list.now found tuple.now times.old)
+        parts_told (decomposed_within large_sizes (input_of p q coefs.now) list.now found tuple.now times.old)
         amount.old }
 {
     multiples::decompose_large_number(p, q, coefs, list, found, tuple, times, amount)

@@ -2,7 +2,7 @@
 ghost use Rattle.std.specs.Prelude.{◌≡◌};
 ghost use Rattle.reformulation_spec.specs.Reformulation as paper;
 ghost use Rattle.reformulation_spec.specs.Reformulation.{reformulation};
-ghost use Rattle.reformulation.specs.Numbers.{projectTold, shownTold};
+ghost use Rattle.reformulation.specs.Numbers.{project_told, shown_told};
 
 // Whether the numbers show it.
 #[unsafe(no_mangle)]
@@ -19,7 +19,7 @@ pub extern "C" fn dezgula_raw_engine_reformulates(
     above: &[i64],
 ) -> u64
     ensures { result ≡
-        shownTold (paper.reformulates (reformulation p q k m coefs.now extended.now other.now onto.now
+        shown_told (paper.reformulates (reformulation p q k m coefs.now extended.now other.now onto.now
         back.now above.now)) }
 {
     reformulation::reformulates(p, q, k, m, coefs, extended, other, onto, back, above)
@@ -34,7 +34,7 @@ pub extern "C" fn dezgula_raw_engine_project(
     rows: &[u32],
     out: &mut [u32],
 ) -> u64
-    ensures { (result, out.new) ≡ projectTold q k found rows.now out.old }
+    ensures { (result, out.new) ≡ project_told q k found rows.now out.old }
 {
     reformulation::project(q, k, found, rows, out)
 }

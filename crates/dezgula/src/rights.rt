@@ -1,7 +1,7 @@
 // Maps with right sides; library/raw.h says the same to C.
 ghost use Rattle.std.specs.Prelude.{◌≡◌};
-ghost use Rattle.c_walk.specs.Capped.{startSided, resumeSided};
-ghost use Rattle.c_walk.specs.Rows.{eitherTold};
+ghost use Rattle.c_walk.specs.Capped.{start_sided, resume_sided};
+ghost use Rattle.c_walk.specs.Rows.{either_told};
 
 // The start.
 #[unsafe(no_mangle)]
@@ -16,7 +16,7 @@ pub extern "C" fn dezgula_raw_start_rights(
     run: &mut [u64],
 ) -> u64
     ensures { (result, (stack.new, (list.new, (second.new, run.new)))) ≡
-        startSided p q coefs.now rights.now stack.old list.old second.old run.old }
+        start_sided p q coefs.now rights.now stack.old list.old second.old run.old }
 {
     c_walk::rights::start(p, q, coefs, rights, stack, list, second, run)
 }
@@ -35,7 +35,7 @@ pub extern "C" fn dezgula_raw_resume_rights(
     budget: u64,
 ) -> u64
     ensures { (result, (stack.new, (list.new, (second.new, run.new)))) ≡
-        resumeSided budget p q coefs.now rights.now stack.old list.old second.old run.old }
+        resume_sided budget p q coefs.now rights.now stack.old list.old second.old run.old }
 {
     c_walk::rights::resume(p, q, coefs, rights, stack, list, second, run, budget)
 }
@@ -51,7 +51,7 @@ pub extern "C" fn dezgula_raw_row_of_either<'a>(
     n: usize,
     out: &mut [u32],
 ) -> u64
-    ensures { (result, out.new) ≡ eitherTold at q list.now second.now found n out.old }
+    ensures { (result, out.new) ≡ either_told at q list.now second.now found n out.old }
 {
     c_walk::rows::tell_either(list, second, at, q, found, n, out)
 }

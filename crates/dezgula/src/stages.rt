@@ -1,9 +1,9 @@
 // The engine's calls (crate c_engine).
 ghost use Rattle.std.specs.Prelude.{◌≡◌, [], suc};
-ghost use Rattle.c_engine.specs.Words.{combineWords, most_of, recordIn, resumeWords, roomOf, startFromWords, startSidesWords, startWords, takeWords, told};
+ghost use Rattle.c_engine.specs.Words.{combine_words, most_of, record_in, resume_words, room_of, start_from_words, start_sides_words, start_words, take_words, told};
 ghost use Rattle.engine_resume.specs.Continuing.{ResumeLeft};
 ghost use Rattle.engine_beside.specs.declared.Outcome.{Outcome as Left};
-ghost use Rattle.engine_stage.specs.Standing.{sidesOf};
+ghost use Rattle.engine_stage.specs.Standing.{sides_of};
 
 // The start.
 #[unsafe(no_mangle)]
@@ -18,7 +18,7 @@ pub extern "C" fn dezgula_raw_engine_start(
 ) -> u64
     ensures { (result, (equations.new, (basis.new, ([], run.new)))) ≡
         told run.old
-        (startWords p q coefs.now (most_of q basis.old sizes.now) equations.old basis.old
+        (start_words p q coefs.now (most_of q basis.old sizes.now) equations.old basis.old
         run.old) }
 {
     c_engine::start(p, q, coefs, equations, basis, sizes, run)
@@ -39,7 +39,7 @@ pub extern "C" fn dezgula_raw_engine_start_sides(
 ) -> u64
     ensures { (result, (equations.new, (basis.new, ([], run.new)))) ≡
         told run.old
-        (startSidesWords p q coefs.now rights.now lower.now (most_of (suc q) basis.old sizes.now)
+        (start_sides_words p q coefs.now rights.now lower.now (most_of (suc q) basis.old sizes.now)
         equations.old basis.old run.old) }
 {
     c_engine::start_sides(p, q, coefs, rights, lower, equations, basis, sizes, run)
@@ -60,7 +60,7 @@ pub extern "C" fn dezgula_raw_engine_start_from(
 ) -> u64
     ensures { (result, (equations.new, (basis.new, ([], run.new)))) ≡
         told run.old
-        (startFromWords p q coefs.now n rows.now (most_of q basis.old sizes.now) equations.old
+        (start_from_words p q coefs.now n rows.now (most_of q basis.old sizes.now) equations.old
         basis.old run.old) }
 {
     c_engine::start_from(p, q, coefs, n, rows, equations, basis, sizes, run)
@@ -88,8 +88,8 @@ pub extern "C" fn dezgula_raw_engine_combine(
 ) -> u64
     ensures { (result, (equations.new, (basis.now, (table.now, run.new)))) ≡
         told run.old
-        (combineWords p q (most_of q basis.now sizes.now)
-        (roomOf q table.now values.now words.now degrees.now marks.now mothers.now)
+        (combine_words p q (most_of q basis.now sizes.now)
+        (room_of q table.now values.now words.now degrees.now marks.now mothers.now)
         r s u t equations.old basis.now table.now run.old) }
 {
     c_engine::combine(
@@ -118,8 +118,8 @@ pub extern "C" fn dezgula_raw_engine_take(
 ) -> u64
     ensures { (result, (equations.now, (basis.new, (table.now, run.new)))) ≡
         told run.old
-        (takeWords p q (most_of q basis.old sizes.now)
-        (roomOf q table.now values.now words.now degrees.now marks.now mothers.now)
+        (take_words p q (most_of q basis.old sizes.now)
+        (room_of q table.now values.now words.now degrees.now marks.now mothers.now)
         e f equations.now basis.old table.now run.old) }
 {
     c_engine::take(
@@ -146,13 +146,13 @@ pub extern "C" fn dezgula_raw_engine_resume(
 ) -> u64
     ensures run_after { (result, (equations.now, (basis.new, (table.new, run.new)))) ≡
         told run.old
-        (resumeWords p q (most_of q basis.old sizes.old)
-        (roomOf q table.old values.old words.old degrees.old marks.old mothers.old)
+        (resume_words p q (most_of q basis.old sizes.old)
+        (room_of q table.old values.old words.old degrees.old marks.old mothers.old)
         budget equations.now basis.old table.old run.old) }
     ensures resume_left { (o : Left) × ResumeLeft p q budget equations.now basis.old sizes.old table.old
-        (sidesOf values.old words.old degrees.old marks.old mothers.old)
-        (recordIn run.old) o basis.new sizes.new table.new
-        (sidesOf values.new words.new degrees.new marks.new mothers.new) }
+        (sides_of values.old words.old degrees.old marks.old mothers.old)
+        (record_in run.old) o basis.new sizes.new table.new
+        (sides_of values.new words.new degrees.new marks.new mothers.new) }
 {
     c_engine::resume(
         p, q, equations, basis, sizes, table, values, words, degrees, marks, mothers, run, budget,

@@ -1,6 +1,6 @@
 // The training seat; library/raw.h says the same to C.
 ghost use Rattle.std.specs.Prelude.{◌≡◌};
-ghost use Rattle.c_seat.specs.SeatWords.{seatResumeBounded, seatResumeWords, seatStartBounded, seatStartWords};
+ghost use Rattle.c_seat.specs.SeatWords.{seat_resume_bounded, seat_resume_words, seat_start_bounded, seat_start_words};
 
 // The plain start.
 #[unsafe(no_mangle)]
@@ -13,7 +13,7 @@ pub extern "C" fn dezgula_raw_start_training(
     run: &mut [u64],
 ) -> u64
     ensures { (result, (stack.new, (list.new, run.new))) ≡
-        seatStartWords p q coefs.now stack.old list.old run.old }
+        seat_start_words p q coefs.now stack.old list.old run.old }
 {
     c_seat::start(p, q, coefs, stack, list, run)
 }
@@ -31,7 +31,7 @@ pub extern "C" fn dezgula_raw_start_training_from(
     run: &mut [u64],
 ) -> u64
     ensures { (result, (stack.new, (list.new, (second.new, run.new)))) ≡
-        seatStartBounded p q coefs.now lower.now stack.old list.old second.old run.old }
+        seat_start_bounded p q coefs.now lower.now stack.old list.old second.old run.old }
 {
     c_seat::start_from(p, q, coefs, lower, stack, list, second, run)
 }
@@ -48,7 +48,7 @@ pub extern "C" fn dezgula_raw_resume_training(
     budget: u64,
 ) -> u64
     ensures { (result, (stack.new, (list.new, run.new))) ≡
-        seatResumeWords budget p q coefs.now stack.old list.old run.old }
+        seat_resume_words budget p q coefs.now stack.old list.old run.old }
 {
     c_seat::resume(p, q, coefs, stack, list, run, budget)
 }
@@ -67,7 +67,7 @@ pub extern "C" fn dezgula_raw_resume_training_from(
     budget: u64,
 ) -> u64
     ensures { (result, (stack.new, (list.new, (second.new, run.new)))) ≡
-        seatResumeBounded budget p q coefs.now lower.now
+        seat_resume_bounded budget p q coefs.now lower.now
         stack.old list.old second.old run.old }
 {
     c_seat::resume_from(p, q, coefs, lower, stack, list, second, run, budget)

@@ -4,38 +4,38 @@ use Rattle.std.specs.Prelude.{◌≡◌, refl, List, [], ℕ, ◌+◌, ◌*◌, 
 use Rattle.std.proofs.Common.{sym, inl, inr, mul-le-mul_right, arith, le-leb}
 use Rattle.std.proofs.lemmas.Bool.{lt-leb}
 use Rattle.definitions.specs.Answers.{refuse}
-use Rattle.definitions.specs.Refusals.{resumeChecks}
-use Rattle.definitions.specs.System.{mostEquations, mostUnknowns}
+use Rattle.definitions.specs.Refusals.{resume_checks}
+use Rattle.definitions.specs.System.{most_equations, most_unknowns}
 use Rattle.definitions.specs.Tables.{State}
-use Rattle.laws.specs.RefusalLaws.{Outside, resume-renders}
-use Rattle.dispatch_spec.specs.Parts.{partIn, part_of}
+use Rattle.laws.specs.RefusalLaws.{Outside, resume_renders}
+use Rattle.dispatch_spec.specs.Parts.{part_in, part_of}
 use Rattle.dispatch.specs.declared.types.Part.{Part}
 use Rattle.dispatch.specs.declared.types.Share.{Share}
-use Rattle.dispatch.specs.Form.{inputFor, partFor}
+use Rattle.dispatch.specs.Form.{input_for, part_for}
 
 -- r lies in a slice of so many numbers, and has what the part a has of it
 pub record Inside (a : Part) (len : ℕ) (r : Part) : Type 0 where
   pub fit : r.start + r.size ≤ len
-  pub same : (coefs : List ℤ) → length coefs ≡ len → part_of (partFor r) coefs ≡ partIn (partFor a) coefs
+  pub same : (coefs : List ℤ) → length coefs ≡ len → part_of (part_for r) coefs ≡ part_in (part_for a) coefs
 
 -- a part that leaves the slice has nothing
-gone : (a : Part) (coefs : List ℤ) → length coefs < a.start + a.size → partIn (partFor a) coefs ≡ []
-unfolding partIn
+gone : (a : Part) (coefs : List ℤ) → length coefs < a.start + a.size → part_in (part_for a) coefs ≡ []
+unfolding part_in
 gone a coefs l = rw (lt-leb _ _ l)
 
-pub inside-none : (a : Part) (len start : ℕ) → start ≤ len → len < a.start + a.size → Inside a len (record { start = start; size = 0 })
+pub inside_none : (a : Part) (len start : ℕ) → start ≤ len → len < a.start + a.size → Inside a len (record { start = start; size = 0 })
 unfolding part_of
-inside-none a len start h l = record { fit = omega arith; same = λ coefs e. sym (gone a coefs (omega arith)) }
+inside_none a len start h l = record { fit = omega arith; same = λ coefs e. sym (gone a coefs (omega arith)) }
 
-pub inside-whole : (a : Part) (len : ℕ) → a.start + a.size ≤ len → Inside a len a
-unfolding partIn
-inside-whole a len l = record { fit = l; same = λ coefs e. let h : a.start + a.size ≤ length coefs = omega arith in rw (le-leb _ _ h) }
+pub inside_whole : (a : Part) (len : ℕ) → a.start + a.size ≤ len → Inside a len a
+unfolding part_in
+inside_whole a len l = record { fit = l; same = λ coefs e. let h : a.start + a.size ≤ length coefs = omega arith in rw (le-leb _ _ h) }
 
 -- "3: coefficients not p × q in number.": so a run whose part of the coefficients leaves them is refused, whatever its record and tables are
-pub missing-refused : (share : Share) (coefs : List ℤ) → length coefs < share.coefs.start + share.coefs.size
-    → 1 ≤ share.p → share.p ≤ mostEquations → 1 ≤ share.q → share.q ≤ mostUnknowns → (s : State) → resumeChecks (inputFor share coefs) s ≡ refuse 3 []
-missing-refused share coefs l p₁ p₈ q₁ q₁₆ s =
-    (resume-renders (inputFor share coefs) s).due 3 []
+pub missing_refused : (share : Share) (coefs : List ℤ) → length coefs < share.coefs.start + share.coefs.size
+    → 1 ≤ share.p → share.p ≤ most_equations → 1 ≤ share.q → share.q ≤ most_unknowns → (s : State) → resume_checks (input_for share coefs) s ≡ refuse 3 []
+missing_refused share coefs l p₁ p₈ q₁ q₁₆ s =
+    (resume_renders (input_for share coefs) s).due 3 []
     (inr (outside p₁ p₈, inr (outside q₁ q₁₆, inl (refl, refl, rw (gone share.coefs coefs l) (λ e. omega (arith, e, product share.p share.q p₁ q₁))))))
   where
     outside : {a b n : ℕ} → a ≤ n → n ≤ b → Outside a b n → ⊥
@@ -46,9 +46,9 @@ missing-refused share coefs l p₁ p₈ q₁ q₁₆ s =
     product p q x y = omega (arith, mul-le-mul_right q x)
 
 -- as code takes the part
-pub cut-same : {a : Part} {r : Part} (coefs : List ℤ) → Inside a (length coefs) r
-    → take (r.start + r.size - r.start) (drop r.start coefs) ≡ partIn (partFor a) coefs
+pub cut_same : {a : Part} {r : Part} (coefs : List ℤ) → Inside a (length coefs) r
+    → take (r.start + r.size - r.start) (drop r.start coefs) ≡ part_in (part_for a) coefs
 unfolding part_of
-cut-same {a} {r} coefs i =
+cut_same {a} {r} coefs i =
     let e : r.start + r.size - r.start ≡ r.size = omega arith in
     rw e (i.same coefs refl)

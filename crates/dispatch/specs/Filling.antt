@@ -9,12 +9,12 @@ pub record Filled {A : Type 0} (n : ℕ) (f : ℕ → A) (d : A) (l : List A) (i
   pub long : length l ≡ n
   pub same : (j : ℕ) → j < i → get_or l j d ≡ f j
 
-pub filling-begins : {A : Type 0} (n : ℕ) (f : ℕ → A) (d : A) (l : List A) → length l ≡ n → Filled n f d l 0
-filling-begins n f d l e = record { upto = omega arith; long = e; same = λ j h. absurd (omega arith) }
+pub filling_begins : {A : Type 0} (n : ℕ) (f : ℕ → A) (d : A) (l : List A) → length l ≡ n → Filled n f d l 0
+filling_begins n f d l e = record { upto = omega arith; long = e; same = λ j h. absurd (omega arith) }
 
-pub filling-more : {A : Type 0} {n : ℕ} {f : ℕ → A} {d : A} {l : List A} {i : ℕ} → Filled n f d l i → i < n → (x : A) → x ≡ f i
+pub filling_more : {A : Type 0} {n : ℕ} {f : ℕ → A} {d : A} {l : List A} {i : ℕ} → Filled n f d l i → i < n → (x : A) → x ≡ f i
     → Filled n f d (set l i x) (i + 1)
-filling-more {A} {n} {f} {d} {l} {i} h less x e =
+filling_more {A} {n} {f} {d} {l} {i} h less x e =
     record {
       upto = omega arith;
       long = length-set l i x ∙ h.long;
@@ -24,5 +24,5 @@ filling-more {A} {n} {f} {d} {l} {i} h less x e =
       ];
     }
 
-pub filled-all : {A : Type 0} {n : ℕ} {f : ℕ → A} {d : A} {l : List A} {i : ℕ} → Filled n f d l i → n ≤ i → Filled n f d l n
-filled-all h less = record { upto = omega arith; long = h.long; same = λ j lj. h.same j (omega arith) }
+pub filled_all : {A : Type 0} {n : ℕ} {f : ℕ → A} {d : A} {l : List A} {i : ℕ} → Filled n f d l i → n ≤ i → Filled n f d l n
+filled_all h less = record { upto = omega arith; long = h.long; same = λ j lj. h.same j (omega arith) }

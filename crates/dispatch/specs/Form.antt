@@ -7,14 +7,14 @@ use Rattle.definitions.specs.Input.{Input, input_of}
 use Rattle.definitions.specs.Machine as machine
 use Rattle.definitions.specs.Refusals.{between}
 use Rattle.definitions.specs.Tables.{State}
-use Rattle.calls.specs.Paper.{answer_of, plainRecord, run_of, state_of}
+use Rattle.calls.specs.Paper.{answer_of, plain_record, run_of, state_of}
 use Rattle.calls.specs.declared.Record.{Record}
 use Rattle.calls.specs.declared.Outcome.{Outcome}
 use Rattle.calls.specs.declared.Answer.TheVariants.{Started}
 use Rattle.dispatch_spec.specs.Parts as parts
-use Rattle.dispatch_spec.specs.Parts.{partIn, part_of, withPart, apart}
+use Rattle.dispatch_spec.specs.Parts.{part_in, part_of, with_part, apart}
 use Rattle.dispatch_spec.specs.Dispatch as form
-use Rattle.dispatch_spec.specs.Dispatch.{staysIn}
+use Rattle.dispatch_spec.specs.Dispatch.{stays_in}
 use Rattle.dispatch.specs.declared.types.Part.{Part}
 use Rattle.dispatch.specs.declared.types.Share.{Share}
 use Rattle.dispatch.specs.declared.types.Progress.{Progress}
@@ -32,60 +32,60 @@ use Rattle.dispatch.specs.declared.round.Found.TheVariants as found
 abbrev pub no_part : Part
 no_part = record { start = 0; size = 0 }
 
-abbrev pub noShare : Share
-noShare = record { p = 0; q = 0; coefs = no_part; stack = no_part; list = no_part }
+abbrev pub no_share : Share
+no_share = record { p = 0; q = 0; coefs = no_part; stack = no_part; list = no_part }
 
-abbrev pub noRecord : Record
-noRecord = plainRecord 0 (record { 0 = 0 }) (record { 0 = 0 })
+abbrev pub no_record : Record
+no_record = plain_record 0 (record { 0 = 0 }) (record { 0 = 0 })
 
-abbrev pub noProgress : Progress
-noProgress = record { run = noRecord; last = NoTurn }
+abbrev pub no_progress : Progress
+no_progress = record { run = no_record; last = NoTurn }
 
-abbrev pub noOutcome : Outcome
-noOutcome = record { answer = Started; run = noRecord }
+abbrev pub no_outcome : Outcome
+no_outcome = record { answer = Started; run = no_record }
 
 -- ---- runs
 
-abbrev pub partFor : Part → parts.Part
-partFor a = record { start = a.start; size = a.size }
+abbrev pub part_for : Part → parts.Part
+part_for a = record { start = a.start; size = a.size }
 
-pub part-fits : {len : ℕ} (a : Part) {x : parts.Part} → partFor a ≡ x → x.start + x.size ≤ len → a.start + a.size ≤ len
-part-fits a e l = rw (← e) at l
+pub part_fits : {len : ℕ} (a : Part) {x : parts.Part} → part_for a ≡ x → x.start + x.size ≤ len → a.start + a.size ≤ len
+part_fits a e l = rw (← e) at l
 
 -- a run's coefficients are those that lie in its part of the slice; of a part that leaves the slice there are none, which is the run's own refusal 3
-abbrev pub inputFor : Share → List ℤ → Input
-inputFor share coefs = input_of share.p share.q (partIn (partFor share.coefs) coefs)
+abbrev pub input_for : Share → List ℤ → Input
+input_for share coefs = input_of share.p share.q (part_in (part_for share.coefs) coefs)
 
-abbrev pub shareFor : Share → List ℤ → form.Share
-shareFor share coefs = record { input = inputFor share coefs; stackPart = partFor share.stack; listPart = partFor share.list }
+abbrev pub share_for : Share → List ℤ → form.Share
+share_for share coefs = record { input = input_for share coefs; stack_part = part_for share.stack; list_part = part_for share.list }
 
-abbrev pub scheduleFor : ℕ → List Share → List ℤ → ℕ → form.Schedule
-scheduleFor count shares coefs quantum = record { count = count; shares = λ i. shareFor (get_or shares i noShare) coefs; quantum = quantum }
+abbrev pub schedule_for : ℕ → List Share → List ℤ → ℕ → form.Schedule
+schedule_for count shares coefs quantum = record { count = count; shares = λ i. share_for (get_or shares i no_share) coefs; quantum = quantum }
 
 -- a run's part of the list table, or of the stack table
 abbrev pub chosen : Bool → Share → parts.Part
-chosen true share = partFor share.list
-chosen false share = partFor share.stack
+chosen true share = part_for share.list
+chosen false share = part_for share.stack
 
 abbrev pub part_at : Bool → List Share → ℕ → parts.Part
-part_at of_list shares i = chosen of_list (get_or shares i noShare)
+part_at of_list shares i = chosen of_list (get_or shares i no_share)
 
 -- ---- refusals
 
 -- the number of a refusal
-abbrev pub faultOf : Fault → ℕ
-faultOf Schedule = 27
-faultOf Parts = 28
+abbrev pub fault_of : Fault → ℕ
+fault_of Schedule = 27
+fault_of Parts = 28
 
-abbrev pub verdictOf : Verdict → paper.Check
-verdictOf (Refuse why) = paper.refuse (faultOf why) []
-verdictOf Pass = paper.go
+abbrev pub verdict_of : Verdict → paper.Check
+verdict_of (Refuse why) = paper.refuse (fault_of why) []
+verdict_of Pass = paper.go
 
 -- 27 and 28, from what they look at
-unfoldable pub checksFor : ℕ → List Share → ℕ → ℕ → ℕ → ℕ → paper.Check
-checksFor count shares quantum last stackLength listLength =
-    paper.refuseIf (not (between 1 form.mostRuns count) || (eqb quantum 0 || ltb form.mostRuns last)) 27
-    then paper.refuseIf (not (apart count stackLength (part_at false shares) && apart count listLength (part_at true shares))) 28
+unfoldable pub checks_for : ℕ → List Share → ℕ → ℕ → ℕ → ℕ → paper.Check
+checks_for count shares quantum last stack_length list_length =
+    paper.refuse_if (not (between 1 form.most_runs count) || (eqb quantum 0 || ltb form.most_runs last)) 27
+    then paper.refuse_if (not (apart count stack_length (part_at false shares) && apart count list_length (part_at true shares))) 28
 
 -- ---- how far the runs have come
 
@@ -93,36 +93,36 @@ abbrev pub last_of : Last → Option paper.Answer
 last_of (Turn a) = some (answer_of a)
 last_of NoTurn = none
 
-abbrev pub progressOf : Progress → form.Progress
-progressOf p = record { run = run_of p.run; answer = last_of p.last }
+abbrev pub progress_of : Progress → form.Progress
+progress_of p = record { run = run_of p.run; answer = last_of p.last }
 
-abbrev pub roundFor : List ℕ → List ℕ → List Progress → ℕ → form.Round
-roundFor stack list progress last = record { stack = stack; list = list; progress = λ i. progressOf (get_or progress i noProgress); last = last }
+abbrev pub round_for : List ℕ → List ℕ → List Progress → ℕ → form.Round
+round_for stack list progress last = record { stack = stack; list = list; progress = λ i. progress_of (get_or progress i no_progress); last = last }
 
-abbrev pub staysFor : List Progress → ℕ → Bool
-staysFor progress i = staysIn (get_or progress i noProgress).run.height (last_of (get_or progress i noProgress).last)
+abbrev pub stays_for : List Progress → ℕ → Bool
+stays_for progress i = stays_in (get_or progress i no_progress).run.height (last_of (get_or progress i no_progress).last)
 
-abbrev pub foundOf : Found → Option ℕ
-foundOf (found.At i) = some i
-foundOf found.Nothing = none
+abbrev pub found_of : Found → Option ℕ
+found_of (found.At i) = some i
+found_of found.Nothing = none
 
 -- what a turn leaves of a run
 abbrev pub turned : Outcome → Progress
 turned o = record { run = o.run; last = Turn o.answer }
 
 -- a run's record before a call
-abbrev pub unservedOf : Record → Progress
-unservedOf r = record { run = r; last = NoTurn }
+abbrev pub unserved_of : Record → Progress
+unserved_of r = record { run = r; last = NoTurn }
 
 -- where no run is answered for: "started", which no continuing call answers, and the record as it was handed over
-abbrev pub keptOf : Record → Outcome
-keptOf r = record { answer = Started; run = r }
+abbrev pub kept_of : Record → Outcome
+kept_of r = record { answer = Started; run = r }
 
 -- ---- a call on parts of the tables
 
 -- a run by itself: what lies in its parts, and its record
-abbrev pub ownState : Part → Part → List ℕ → List ℕ → Record → State
-ownState a b stack list r = state_of (part_of (partFor a) stack) (part_of (partFor b) list) r
+abbrev pub own_state : Part → Part → List ℕ → List ℕ → Record → State
+own_state a b stack list r = state_of (part_of (part_for a) stack) (part_of (part_for b) list) r
 
 -- what a call on the parts left, with the tables whole
 abbrev pub placed : Part → Part → List ℕ → List ℕ → machine.Outcome State → machine.Outcome State
@@ -131,8 +131,8 @@ placed a b stack list o =
       answer = o.answer;
       state =
           record {
-            stack = withPart (partFor a) stack o.state.stack;
-            list = withPart (partFor b) list o.state.list;
+            stack = with_part (part_for a) stack o.state.stack;
+            list = with_part (part_for b) list o.state.list;
             second = o.state.second;
             run = o.state.run;
           };

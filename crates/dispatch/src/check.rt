@@ -1,16 +1,16 @@
 // Refusals 27 and 28.
 ghost use Rattle.std.specs.Prelude.{◌≡◌, not, ◌+◌, ◌<◌, ◌≤◌};
-ghost use Rattle.linear.specs.Tests.{allTo};
+ghost use Rattle.linear.specs.Tests.{all_to};
 ghost use Rattle.dispatch_spec.specs.Parts as parts;
-ghost use Rattle.dispatch_spec.specs.Parts.{all_fit, noneOverlap, apart};
-ghost use Rattle.dispatch.specs.Form.{partFor, part_at, chosen, verdictOf, checksFor};
+ghost use Rattle.dispatch_spec.specs.Parts.{all_fit, none_overlap, apart};
+ghost use Rattle.dispatch.specs.Form.{part_for, part_at, chosen, verdict_of, checks_for};
 ghost use Rattle.dispatch.specs.Clear.{Within};
 
 use crate::types::{Fault, Part, Share, Verdict};
 
 // A run's part of one of the two tables.
 fn part_of(share: Share, lists: bool) -> Part
-    ensures { partFor result ≡ chosen lists share }
+    ensures { part_for result ≡ chosen lists share }
 {
     let stack = share.stack;
     let list = share.list;
@@ -19,7 +19,7 @@ fn part_of(share: Share, lists: bool) -> Part
 
 // Whether a part lies in a table of so many numbers.
 fn fits(len: usize, a: Part) -> bool
-    ensures { result ≡ parts.fits len (partFor a) }
+    ensures { result ≡ parts.fits len (part_for a) }
 {
     if len < a.start {
         return false;
@@ -30,7 +30,7 @@ fn fits(len: usize, a: Part) -> bool
 // Whether two parts that lie in a table have a place in common.
 fn overlap(a: Part, b: Part, len: usize) -> bool
     requires { (a.start + a.size ≤ len) × (b.start + b.size ≤ len) }
-    ensures { result ≡ parts.overlap (partFor a) (partFor b) }
+    ensures { result ≡ parts.overlap (part_for a) (part_for b) }
 {
     let a_end = a.start + a.size;
     let b_end = b.start + b.size;
@@ -63,7 +63,7 @@ fn all_fit(count: usize, shares: [Share; 8], lists: bool, len: usize) -> bool
 // Whether a part overlaps none of the first n runs' parts. All of them lie in a table.
 fn clear(n: usize, a: Part, shares: [Share; 8], lists: bool, len: usize) -> bool
     requires { (n ≤ 8) × (a.start + a.size ≤ len) × Within n len (part_at lists shares) }
-    ensures { result ≡ allTo n (λ j. not (parts.overlap (partFor a) (part_at lists shares j))) }
+    ensures { result ≡ all_to n (λ j. not (parts.overlap (part_for a) (part_at lists shares j))) }
 {
     let mut j = 0;
     while j < n {
@@ -79,7 +79,7 @@ fn clear(n: usize, a: Part, shares: [Share; 8], lists: bool, len: usize) -> bool
 // Whether no two of the runs' parts overlap. All of them lie in a table.
 fn none_overlap(count: usize, shares: [Share; 8], lists: bool, len: usize) -> bool
     requires { (count ≤ 8) × Within count len (part_at lists shares) }
-    ensures { result ≡ noneOverlap count (part_at lists shares) }
+    ensures { result ≡ none_overlap count (part_at lists shares) }
 {
     let mut i = 0;
     while i < count {
@@ -113,7 +113,7 @@ pub fn check(
     stack_length: usize,
     list_length: usize,
 ) -> Verdict
-    ensures { verdictOf result ≡ checksFor count shares quantum last stack_length list_length }
+    ensures { verdict_of result ≡ checks_for count shares quantum last stack_length list_length }
 {
     if count == 0 {
         return Verdict::Refuse(Fault::Schedule);

@@ -1,6 +1,6 @@
 // Up to eight plain runs at a time (document 02, job 14): a round robin dispatcher.
 ghost use Rattle.dispatch_spec.specs.Dispatch as form;
-ghost use Rattle.dispatch.specs.Form.{scheduleFor};
+ghost use Rattle.dispatch.specs.Form.{schedule_for};
 ghost use Rattle.dispatch.specs.Entry.{handed, Refused, Returns};
 
 use calls::{Record, Steps};
@@ -26,7 +26,7 @@ pub fn dispatch(
     turns: u64,
 ) -> Dispatched
     ensures { Returns
-        (form.dispatch turns (scheduleFor count shares coefs.now quantum) (handed stack.old list.old records last)) result
+        (form.dispatch turns (schedule_for count shares coefs.now quantum) (handed stack.old list.old records last)) result
         stack.new list.new }
 {
     match check::check(count, shares, quantum, last, stack.len(), list.len()) {

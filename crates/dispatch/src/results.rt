@@ -2,8 +2,8 @@
 ghost use Rattle.std.specs.Prelude.{◌≡◌, ◌+◌, ◌-◌, ◌≤◌, length, get_or};
 ghost use Rattle.definitions.specs.Calls.{resume};
 ghost use Rattle.calls.specs.Paper.{answer_of};
-ghost use Rattle.dispatch_spec.specs.Dispatch.{orIdle};
-ghost use Rattle.dispatch.specs.Form.{inputFor, ownState, last_of, noRecord, noProgress, noOutcome, unservedOf, keptOf};
+ghost use Rattle.dispatch_spec.specs.Dispatch.{or_idle};
+ghost use Rattle.dispatch.specs.Form.{input_for, own_state, last_of, no_record, no_progress, no_outcome, unserved_of, kept_of};
 ghost use Rattle.dispatch.specs.Filling.{Filled};
 ghost use Rattle.dispatch.specs.Turning.{Ready};
 ghost use Rattle.dispatch.specs.Finish.{Rising, Finishing};
@@ -28,7 +28,7 @@ fn idle(share: Share, coefs: &[i32], stack: &[u32], list: &[u32], r: Record) -> 
     requires size_in_bounds { share.stack.start + share.stack.size ≤ length stack.now }
     requires size_in_bounds_2 { share.list.start + share.list.size ≤ length list.now }
     ensures { answer_of result
-        ≡ (resume 0 (inputFor share coefs.now) (ownState share.stack share.list stack.now list.now r)).answer }
+        ≡ (resume 0 (input_for share coefs.now) (own_state share.stack share.list stack.now list.now r)).answer }
 {
     let c = turn::inside(share.coefs, coefs.len());
     let a = share.stack;
@@ -58,8 +58,8 @@ fn answer(share: Share, coefs: &[i32], stack: &[u32], list: &[u32], p: Progress)
     requires size_in_bounds { share.stack.start + share.stack.size ≤ length stack.now }
     requires size_in_bounds_2 { share.list.start + share.list.size ≤ length list.now }
     ensures { answer_of result
-        ≡ orIdle (last_of p.last) (inputFor share coefs.now)
-        (ownState share.stack share.list stack.now list.now p.run) }
+        ≡ or_idle (last_of p.last) (input_for share coefs.now)
+        (own_state share.stack share.list stack.now list.now p.run) }
 {
     let last = p.last;
     let r = p.run;
@@ -73,8 +73,8 @@ fn answer(share: Share, coefs: &[i32], stack: &[u32], list: &[u32], p: Progress)
 fn outcome(share: Share, coefs: &[i32], stack: &[u32], list: &[u32], p: Progress) -> Outcome
     requires size_in_bounds { share.stack.start + share.stack.size ≤ length stack.now }
     requires size_in_bounds_2 { share.list.start + share.list.size ≤ length list.now }
-    ensures { OutcomeFor p (inputFor share coefs.now)
-        (ownState share.stack share.list stack.now list.now p.run) result }
+    ensures { OutcomeFor p (input_for share coefs.now)
+        (own_state share.stack share.list stack.now list.now p.run) result }
 {
     let r = p.run;
     Outcome {
@@ -93,7 +93,7 @@ fn taken(before: Record, after: Record) -> u64
 
 // The runs' records before a call, with no turn yet.
 pub fn unserved(records: [Record; 8]) -> [Progress; 8]
-    ensures { Filled 8 (λ i. unservedOf (get_or records i noRecord)) noProgress result 8 }
+    ensures { Filled 8 (λ i. unserved_of (get_or records i no_record)) no_progress result 8 }
 {
     let mut all = [Progress {
         run: records[0],
@@ -112,7 +112,7 @@ pub fn unserved(records: [Record; 8]) -> [Progress; 8]
 
 // The runs' records as they are, where nothing is answered.
 pub fn kept(records: [Record; 8]) -> [Outcome; 8]
-    ensures { Filled 8 (λ i. keptOf (get_or records i noRecord)) noOutcome result 8 }
+    ensures { Filled 8 (λ i. kept_of (get_or records i no_record)) no_outcome result 8 }
 {
     let mut all = [Outcome {
         answer: Answer::Started,

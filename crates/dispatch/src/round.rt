@@ -1,8 +1,8 @@
 // Whose turn it is.
 ghost use Rattle.std.specs.Prelude.{◌≡◌, ◌≤◌, ◌<◌};
 ghost use Rattle.dispatch_spec.specs.Dispatch as Dispatch;
-ghost use Rattle.dispatch_spec.specs.Dispatch.{staysIn, firstAsked, nextAfter};
-ghost use Rattle.dispatch.specs.Form.{last_of, staysFor, foundOf};
+ghost use Rattle.dispatch_spec.specs.Dispatch.{stays_in, first_asked, next_after};
+ghost use Rattle.dispatch.specs.Form.{last_of, stays_for, found_of};
 
 use crate::types::{Last, Progress};
 use calls::Answer;
@@ -16,7 +16,7 @@ pub enum Found {
 
 // Whether a run is in the round.
 pub fn stays(p: Progress) -> bool
-    ensures { result ≡ staysIn p.run.height (last_of p.last) }
+    ensures { result ≡ stays_in p.run.height (last_of p.last) }
 {
     let height = p.run.height;
     let last = p.last;
@@ -33,7 +33,7 @@ pub fn stays(p: Progress) -> bool
 
 // The first run that is asked.
 fn first_asked(count: usize, last: usize) -> usize
-    ensures { result ≡ firstAsked count last }
+    ensures { result ≡ first_asked count last }
 {
     if last < count { last } else { 0 }
 }
@@ -53,7 +53,7 @@ fn further(count: usize, start: usize, k: usize) -> usize
 // The first run asked that is in the round, rising from the one after the run served last.
 pub fn next_after(count: usize, last: usize, progress: [Progress; 8]) -> Found
     requires { (0 < count) × (count ≤ 8) }
-    ensures { foundOf result ≡ nextAfter count last (staysFor progress) }
+    ensures { found_of result ≡ next_after count last (stays_for progress) }
 {
     let start = first_asked(count, last);
     let mut k = 0;

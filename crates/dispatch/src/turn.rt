@@ -2,8 +2,8 @@
 ghost use Rattle.std.specs.Prelude.{◌≡◌, ◌+◌, ◌≤◌, length};
 ghost use Rattle.definitions.specs.Calls.{resume};
 ghost use Rattle.definitions.specs.Input.{input_of};
-ghost use Rattle.calls.specs.Paper.{outcomeOf};
-ghost use Rattle.dispatch.specs.Form.{inputFor, ownState, placed};
+ghost use Rattle.calls.specs.Paper.{outcome_of};
+ghost use Rattle.dispatch.specs.Form.{input_for, own_state, placed};
 ghost use Rattle.dispatch.specs.Cut.{Inside};
 
 use crate::types::{Part, Share};
@@ -23,9 +23,9 @@ pub fn serve(
 ) -> Outcome
     requires size_in_bounds { a.start + a.size ≤ length stack.old }
     requires size_in_bounds_2 { b.start + b.size ≤ length list.old }
-    ensures { outcomeOf result stack.new list.new
+    ensures { outcome_of result stack.new list.new
         ≡ placed a b stack.old list.old
-        (resume quantum (input_of p q coefs.now) (ownState a b stack.old list.old r)) }
+        (resume quantum (input_of p q coefs.now) (own_state a b stack.old list.old r)) }
 {
     let from = a.start;
     let to = a.start + a.size;
@@ -71,9 +71,9 @@ pub fn serve_run(
 ) -> Outcome
     requires size_in_bounds { share.stack.start + share.stack.size ≤ length stack.old }
     requires size_in_bounds_2 { share.list.start + share.list.size ≤ length list.old }
-    ensures { outcomeOf result stack.new list.new
+    ensures { outcome_of result stack.new list.new
         ≡ placed share.stack share.list stack.old list.old
-        (resume quantum (inputFor share coefs.now) (ownState share.stack share.list stack.old list.old r)) }
+        (resume quantum (input_for share coefs.now) (own_state share.stack share.list stack.old list.old r)) }
 {
     let a = share.stack;
     let b = share.list;

@@ -1,7 +1,7 @@
 // The turns of a call.
 ghost use Rattle.std.specs.Prelude.{◌≡◌, length};
-ghost use Rattle.dispatch_spec.specs.Dispatch.{afterTurns};
-ghost use Rattle.dispatch.specs.Form.{scheduleFor, roundFor, turned};
+ghost use Rattle.dispatch_spec.specs.Dispatch.{after_turns};
+ghost use Rattle.dispatch.specs.Form.{schedule_for, round_for, turned};
 ghost use Rattle.dispatch.specs.Turning.{Ready};
 
 use crate::round::Found;
@@ -41,8 +41,8 @@ pub fn serve(
     turns: u64,
 ) -> Served
     requires { Ready count shares (length stack.old) (length list.old) }
-    ensures { roundFor stack.new list.new result.progress result.last
-        ≡ afterTurns turns (scheduleFor count shares coefs.now quantum) (roundFor stack.old list.old progress last) }
+    ensures { round_for stack.new list.new result.progress result.last
+        ≡ after_turns turns (schedule_for count shares coefs.now quantum) (round_for stack.old list.old progress last) }
 {
     let mut all = progress;
     let mut number = last;

@@ -7,79 +7,79 @@ use Rattle.std.proofs.Math.Decide.{ℕ_discrete}
 use Rattle.definitions.specs.Calls.{machine, resume}
 use Rattle.definitions.specs.Input.{Input}
 use Rattle.definitions.specs.Machine.{Outcome}
-use Rattle.definitions.specs.Refusals.{resumeChecks}
+use Rattle.definitions.specs.Refusals.{resume_checks}
 use Rattle.definitions.specs.Tables.{State}
-use Rattle.laws.specs.CheckLaws.{check-cases}
-use Rattle.laws.specs.MachineLaws.{call-refused, call-walks, walk-done, walk-paused}
+use Rattle.laws.specs.CheckLaws.{check_cases}
+use Rattle.laws.specs.MachineLaws.{call_refused, call_walks, walk_done, walk_paused}
 use Rattle.dispatch_spec.specs.RoundLaws.{Next}
-use Rattle.dispatch_spec.specs.TurnLaws.{Laid, turn-fits, turn-own, turn-answer, turn-progress, turn-other}
+use Rattle.dispatch_spec.specs.TurnLaws.{Laid, turn_fits, turn_own, turn_answer, turn_progress, turn_other}
 use Rattle.dispatch_spec.specs.CheckRules.{accepted}
-use Rattle.dispatch_spec.specs.Dispatch.{Schedule, Round, own, leaveTurn, turn_of, opened, answerFor, dispatch}
-use Rattle.dispatch_spec.specs.Turns.{Turn, turnTaken, turnsOf, turnsBy, alone}
-use Rattle.dispatch_spec.specs.Serving.{after-turns, opened-laid, Served}
+use Rattle.dispatch_spec.specs.Dispatch.{Schedule, Round, own, leave_turn, turn_of, opened, answer_for, dispatch}
+use Rattle.dispatch_spec.specs.Turns.{Turn, turn_taken, turns_of, turns_by, alone}
+use Rattle.dispatch_spec.specs.Serving.{after_turns_lem, opened_laid, Served}
 
 -- a call with allowance 0 changes nothing
 pub idle : (input : Input) (s : State) → (resume 0 input s).state ≡ s
 idle input s =
-    elim (check-cases (resumeChecks input s)) [
-      | inr (r, values, e) ↦ rw (call-refused (machine input) s 0 r values e).0
-      | inl e ↦ rw (call-walks (machine input) s 0 e).0
+    elim (check_cases (resume_checks input s)) [
+      | inr (r, values, e) ↦ rw (call_refused (machine input) s 0 r values e).0
+      | inl e ↦ rw (call_walks (machine input) s 0 e).0
           (elim (ℕ_discrete s.run.height 0) [
-            | yes z ↦ rw (walk-done (machine input) s 0 z).0
-            | no z ↦ rw (walk-paused (machine input) s (omega (arith, z))).0
+            | yes z ↦ rw (walk_done (machine input) s 0 z).0
+            | no z ↦ rw (walk_paused (machine input) s (omega (arith, z))).0
           ])
     ]
 
 -- run i as the dispatcher leaves it
-abbrev pub outcomeFor : Schedule → Round → ℕ → Outcome State
-outcomeFor d r i = record { answer = answerFor d r i; state = own d r i }
+abbrev pub outcome_for : Schedule → Round → ℕ → Outcome State
+outcome_for d r i = record { answer = answer_for d r i; state = own d r i }
 
 -- the turns of run i, one more or not
-turns-own : (i : ℕ) (t : Turn) (log : List Turn) → i ≡ t.run → turnsBy i (t ∷ log) ≡ suc (turnsBy i log)
-unfolding turnsBy
-turns-own i t log e = rw (eq-eqb i t.run e) (omega arith)
+turns_own : (i : ℕ) (t : Turn) (log : List Turn) → i ≡ t.run → turns_by i (t ∷ log) ≡ suc (turns_by i log)
+unfolding turns_by
+turns_own i t log e = rw (eq-eqb i t.run e) (omega arith)
 
-turns-other : (i : ℕ) (t : Turn) (log : List Turn) → ¬ (i ≡ t.run) → turnsBy i (t ∷ log) ≡ turnsBy i log
-unfolding turnsBy
-turns-other i t log ne = rw (ne_eqb i t.run ne) (omega arith)
+turns_other : (i : ℕ) (t : Turn) (log : List Turn) → ¬ (i ≡ t.run) → turns_by i (t ∷ log) ≡ turns_by i log
+unfolding turns_by
+turns_other i t log ne = rw (ne_eqb i t.run ne) (omega arith)
 
 module _ (d : Schedule) (r₀ : Round) (i : ℕ) (li : i < d.count) where
   -- after these turns run i is where it would be alone
   abbrev Alike : Round → List Turn → Type 0
-  Alike r log = outcomeFor d r i ≡ alone d.quantum (turnsBy i log) (d.shares i).input (own d r₀ i)
+  Alike r log = outcome_for d r i ≡ alone d.quantum (turns_by i log) (d.shares i).input (own d r₀ i)
 
-  alike-own : (r : Round) (log : List Turn) → Laid d r → Alike r log → Alike (leaveTurn d i r (turn_of d i r)) (turnTaken d i r ∷ log)
-  unfolding answerFor alone
-  alike-own r log l a =
-      let f = turn-fits d r l i li d.quantum in
-      rw (turns-own i (turnTaken d i r) log refl, turn-own d r l i li (turn_of d i r) f, turn-answer d r l i li (turn_of d i r) f)
+  alike_own : (r : Round) (log : List Turn) → Laid d r → Alike r log → Alike (leave_turn d i r (turn_of d i r)) (turn_taken d i r ∷ log)
+  unfolding answer_for alone
+  alike_own r log l a =
+      let f = turn_fits d r l i li d.quantum in
+      rw (turns_own i (turn_taken d i r) log refl, turn_own d r l i li (turn_of d i r) f, turn_answer d r l i li (turn_of d i r) f)
       (ap (λ (o : Outcome State). resume d.quantum (d.shares i).input o.state) a)
 
-  alike-other : (r : Round) (log : List Turn) → Laid d r → Alike r log → (j : ℕ) → j < d.count → ¬ (i ≡ j)
-      → Alike (leaveTurn d j r (turn_of d j r)) (turnTaken d j r ∷ log)
-  unfolding answerFor
-  alike-other r log l a j lj ne =
-      let f = turn-fits d r l j lj d.quantum in
-      rw (turns-other i (turnTaken d j r) log ne, turn-other d r l j lj (turn_of d j r) f i li ne, turn-progress d r l j lj (turn_of d j r) f i li ne) a
+  alike_other : (r : Round) (log : List Turn) → Laid d r → Alike r log → (j : ℕ) → j < d.count → ¬ (i ≡ j)
+      → Alike (leave_turn d j r (turn_of d j r)) (turn_taken d j r ∷ log)
+  unfolding answer_for
+  alike_other r log l a j lj ne =
+      let f = turn_fits d r l j lj d.quantum in
+      rw (turns_other i (turn_taken d j r) log ne, turn_other d r l j lj (turn_of d j r) f i li ne, turn_progress d r l j lj (turn_of d j r) f i li ne) a
 
-  alike-turn : (r : Round) (log : List Turn) → Laid d r → Alike r log → (j : ℕ) → Next d.count r j
-      → Alike (leaveTurn d j r (turn_of d j r)) (turnTaken d j r ∷ log)
-  alike-turn r log l a j n =
+  alike_turn : (r : Round) (log : List Turn) → Laid d r → Alike r log → (j : ℕ) → Next d.count r j
+      → Alike (leave_turn d j r (turn_of d j r)) (turn_taken d j r ∷ log)
+  alike_turn r log l a j n =
       elim (ℕ_discrete j i) [
-        | yes e ↦ rw e (alike-own r log l a)
-        | no ne ↦ alike-other r log l a j n.below (λ e. ne (sym e))
+        | yes e ↦ rw e (alike_own r log l a)
+        | no ne ↦ alike_other r log l a j n.below (λ e. ne (sym e))
       ]
 
-  alike-opened : Alike (opened r₀) []
-  unfolding answerFor alone turnsBy own opened
-  alike-opened = let e = idle (d.shares i).input (own d r₀ i)
+  alike_opened : Alike (opened r₀) []
+  unfolding answer_for alone turns_by own opened
+  alike_opened = let e = idle (d.shares i).input (own d r₀ i)
       in ap (λ (s : State). record { answer = (resume 0 (d.shares i).input (own d r₀ i)).answer; state = s }) (sym e)
 
 -- in a call that serves, each run is where it would be alone, after as many continuing calls as it had turns
-pub each-alone : {turns : ℕ} {d : Schedule} {r : Round} → Served turns d r → (i : ℕ) → i < d.count
+pub each_alone : {turns : ℕ} {d : Schedule} {r : Round} → Served turns d r → (i : ℕ) → i < d.count
     → record { answer = (dispatch turns d r).answers i; state = own d (dispatch turns d r).round i }
-    ≡ alone d.quantum (turnsBy i (turnsOf turns d r)) (d.shares i).input (own d r i)
-each-alone {turns} {d} {r} s i li =
+    ≡ alone d.quantum (turns_by i (turns_of turns d r)) (d.shares i).input (own d r i)
+each_alone {turns} {d} {r} s i li =
     let a = accepted d r s.goes in
-    rw (s.answers-are i li, s.round_is, s.turns-are)
-    (after-turns d a.some-run (Alike d r i li) (alike-turn d r i li) (opened r) (opened-laid d r a.laid) (alike-opened d r i li) turns).1
+    rw (s.answers_are i li, s.round_is, s.turns_are)
+    (after_turns_lem d a.some_run (Alike d r i li) (alike_turn d r i li) (opened r) (opened_laid d r a.laid) (alike_opened d r i li) turns).1

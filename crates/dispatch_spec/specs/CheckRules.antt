@@ -6,16 +6,16 @@ use Rattle.std.proofs.Math.Decide.{ℕ_discrete}
 use Rattle.std.proofs.Common.{arith, T_not, leb→le, le→leb, ltb→lt, lt→ltb, eqb→eq}
 use Rattle.std.proofs.Math.Dec.{not_T}
 use Rattle.linear.specs.Cases.{split}
-use Rattle.linear.specs.Tests.{allTo}
-use Rattle.linear.specs.TestLaws.{T-dec, all-not, and_both, and_parts}
+use Rattle.linear.specs.Tests.{all_to}
+use Rattle.linear.specs.TestLaws.{T-dec, all_not, and_both, and_parts}
 use Rattle.definitions.specs.Answers.{go}
 use Rattle.definitions.specs.Refusals.{between}
-use Rattle.laws.specs.CheckLaws.{Decides, Renders, Rules, ◌▹◌, decides-if, end, renders-last, renders-then, rule}
+use Rattle.laws.specs.CheckLaws.{Decides, Renders, Rules, ◌▹◌, decides_if, end, renders_last, renders_then, rule}
 use Rattle.laws.specs.RefusalLaws.{Outside}
-use Rattle.dispatch_spec.specs.Parts.{Part, fits, overlap, all_fit, noneOverlap, apart}
-use Rattle.dispatch_spec.specs.PartLaws.{In, Apart, apart-says}
+use Rattle.dispatch_spec.specs.Parts.{Part, fits, overlap, all_fit, none_overlap, apart}
+use Rattle.dispatch_spec.specs.PartLaws.{In, Apart, apart_says}
 use Rattle.dispatch_spec.specs.TurnLaws.{Laid}
-use Rattle.dispatch_spec.specs.Dispatch.{Schedule, Round, mostRuns, check27, check28, dispatchChecks}
+use Rattle.dispatch_spec.specs.Dispatch.{Schedule, Round, most_runs, check27, check28, dispatch_checks}
 
 -- ---- the cases
 
@@ -26,14 +26,14 @@ pub data Clash (n len : ℕ) (part : ℕ → Part) : Type 0 where
 
 -- "27, not 1 to 8 runs, a turn of 0 steps or a kept number above 8"
 abbrev pub Case27 : Schedule → Round → Type 0
-Case27 d r = Outside 1 mostRuns d.count ⊎ ((d.quantum ≡ 0) ⊎ (mostRuns < r.last))
+Case27 d r = Outside 1 most_runs d.count ⊎ ((d.quantum ≡ 0) ⊎ (most_runs < r.last))
 
 -- "28, two parts overlap or leave the table"
 abbrev pub Case28 : Schedule → Round → Type 0
-Case28 d r = Clash d.count (length r.stack) (λ i. (d.shares i).stackPart) ⊎ Clash d.count (length r.list) (λ i. (d.shares i).listPart)
+Case28 d r = Clash d.count (length r.stack) (λ i. (d.shares i).stack_part) ⊎ Clash d.count (length r.list) (λ i. (d.shares i).list_part)
 
-abbrev pub dispatchRules : Schedule → Round → Rules
-dispatchRules d r = rule 27 (Case27 d r) ▹ rule 28 (Case28 d r) ▹ end
+abbrev pub dispatch_rules : Schedule → Round → Rules
+dispatch_rules d r = rule 27 (Case27 d r) ▹ rule 28 (Case28 d r) ▹ end
 
 -- ---- tests
 
@@ -54,8 +54,8 @@ fails b h y = T_not b h y
 
 -- ---- 27
 
-outside-from : (a b n : ℕ) → T (not (between a b n)) → Outside a b n
-outside-from a b n h =
+outside_from : (a b n : ℕ) → T (not (between a b n)) → Outside a b n
+outside_from a b n h =
     elim (split n a) [
       | inl l ↦ inl l
       | inr l ↦ elim (split b n) [
@@ -64,8 +64,8 @@ outside-from a b n h =
       ]
     ]
 
-outside-to : (a b n : ℕ) → Outside a b n → T (not (between a b n))
-outside-to a b n o =
+outside_to : (a b n : ℕ) → Outside a b n → T (not (between a b n))
+outside_to a b n o =
     not_T (between a b n) (λ h.
     let (x, y) = and_parts (leb a n) (leb n b) h in
     let l = leb→le a n x in
@@ -74,29 +74,29 @@ outside-to a b n o =
 
 module _ (d : Schedule) (r : Round) where
   abbrev count : Bool
-  count = not (between 1 mostRuns d.count)
+  count = not (between 1 most_runs d.count)
 
   abbrev turn : Bool
   turn = eqb d.quantum 0
 
   abbrev kept : Bool
-  kept = ltb mostRuns r.last
+  kept = ltb most_runs r.last
 
-  decides-27 : Decides (check27 d r) (rule 27 (Case27 d r))
-  decides-27 = decides-if (count || (turn || kept)) 27 (Case27 d r) to from
+  decides_27 : Decides (check27 d r) (rule 27 (Case27 d r))
+  decides_27 = decides_if (count || (turn || kept)) 27 (Case27 d r) to from
     where
       to : T (count || (turn || kept)) → Case27 d r
       to h =
           elim (or_cases count (turn || kept) h) [
-            | inl x ↦ inl (outside-from 1 mostRuns d.count x)
-            | inr y ↦ elim (or_cases turn kept y) [ inl x ↦ inr (inl (eqb→eq d.quantum 0 x)) | inr x ↦ inr (inr (ltb→lt mostRuns r.last x)) ]
+            | inl x ↦ inl (outside_from 1 most_runs d.count x)
+            | inr y ↦ elim (or_cases turn kept y) [ inl x ↦ inr (inl (eqb→eq d.quantum 0 x)) | inr x ↦ inr (inr (ltb→lt most_runs r.last x)) ]
           ]
 
       from : Case27 d r → T (count || (turn || kept))
       from c =
           elim c [
-            | inl o ↦ or_left count (turn || kept) (outside-to 1 mostRuns d.count o)
-            | inr y ↦ or_right count (turn || kept) (elim y [ inl e ↦ or_left turn kept (rw e tt) | inr l ↦ or_right turn kept (lt→ltb mostRuns r.last l) ])
+            | inl o ↦ or_left count (turn || kept) (outside_to 1 most_runs d.count o)
+            | inr y ↦ or_right count (turn || kept) (elim y [ inl e ↦ or_left turn kept (rw e tt) | inr l ↦ or_right turn kept (lt→ltb most_runs r.last l) ])
           ]
 
 -- ---- 28
@@ -121,44 +121,44 @@ common a b h =
 module _ (n len : ℕ) (part : ℕ → Part) where
   leaving : ¬ (T (all_fit n len part)) → Clash n len part
   leaving h =
-      let (i, l, f) = all-not n (λ i. fits len (part i)) h in
+      let (i, l, f) = all_not n (λ i. fits len (part i)) h in
       leaves i l (elim (split len ((part i).start + (part i).size)) [ inl k ↦ k | inr k ↦ absurd (f (le→leb _ _ k)) ])
 
-  overlapping : ¬ (T (noneOverlap n part)) → Clash n len part
+  overlapping : ¬ (T (none_overlap n part)) → Clash n len part
   overlapping h =
-      let (i, l, f) = all-not n (λ i. allTo i (λ j. not (overlap (part i) (part j)))) h in
-      let (j, k, g) = all-not i (λ j. not (overlap (part i) (part j))) f in
+      let (i, l, f) = all_not n (λ i. all_to i (λ j. not (overlap (part i) (part j)))) h in
+      let (j, k, g) = all_not i (λ j. not (overlap (part i) (part j))) f in
       let (x, p, q) = common (part i) (part j)
       (elim (T-dec (overlap (part i) (part j))) [ inl w ↦ w | inr w ↦ absurd (g (not_T (overlap (part i) (part j)) w)) ]) in
       overlaps i j l (omega arith) (λ e. omega arith) x p q
 
-  clash-from : ¬ (T (apart n len part)) → Clash n len part
+  clash_from : ¬ (T (apart n len part)) → Clash n len part
   unfolding apart
-  clash-from h =
+  clash_from h =
       elim (T-dec (all_fit n len part)) [
         | inr y ↦ leaving y
-        | inl y ↦ overlapping (λ z. h (and_both (all_fit n len part) (noneOverlap n part) y z))
+        | inl y ↦ overlapping (λ z. h (and_both (all_fit n len part) (none_overlap n part) y z))
       ]
 
-  clash-not : Clash n len part → ¬ (T (apart n len part))
-  clash-not (leaves i l k) h = omega (arith, (apart-says n len part h).fit i l)
-  clash-not (overlaps i j l k ne x p q) h = (apart-says n len part h).none i j l k ne x p q
+  clash_not : Clash n len part → ¬ (T (apart n len part))
+  clash_not (leaves i l k) h = omega (arith, (apart_says n len part h).fit i l)
+  clash_not (overlaps i j l k ne x p q) h = (apart_says n len part h).none i j l k ne x p q
 
 module _ (d : Schedule) (r : Round) where
   abbrev stacks : Bool
-  stacks = apart d.count (length r.stack) (λ i. (d.shares i).stackPart)
+  stacks = apart d.count (length r.stack) (λ i. (d.shares i).stack_part)
 
   abbrev lists : Bool
-  lists = apart d.count (length r.list) (λ i. (d.shares i).listPart)
+  lists = apart d.count (length r.list) (λ i. (d.shares i).list_part)
 
-  decides-28 : Decides (check28 d r) (rule 28 (Case28 d r))
-  decides-28 = decides-if (not (stacks && lists)) 28 (Case28 d r) to from
+  decides_28 : Decides (check28 d r) (rule 28 (Case28 d r))
+  decides_28 = decides_if (not (stacks && lists)) 28 (Case28 d r) to from
     where
       to : T (not (stacks && lists)) → Case28 d r
       to h =
           elim (T-dec stacks) [
-            | inr x ↦ inl (clash-from d.count (length r.stack) (λ i. (d.shares i).stackPart) x)
-            | inl x ↦ inr (clash-from d.count (length r.list) (λ i. (d.shares i).listPart) (λ y. fails (stacks && lists) h (and_both stacks lists x y)))
+            | inr x ↦ inl (clash_from d.count (length r.stack) (λ i. (d.shares i).stack_part) x)
+            | inl x ↦ inr (clash_from d.count (length r.list) (λ i. (d.shares i).list_part) (λ y. fails (stacks && lists) h (and_both stacks lists x y)))
           ]
 
       from : Case28 d r → T (not (stacks && lists))
@@ -166,22 +166,22 @@ module _ (d : Schedule) (r : Round) where
           not_T (stacks && lists) (λ h.
           let (x, y) = and_parts stacks lists h in
           elim c [
-            | inl k ↦ clash-not d.count (length r.stack) (λ i. (d.shares i).stackPart) k x
-            | inr k ↦ clash-not d.count (length r.list) (λ i. (d.shares i).listPart) k y
+            | inl k ↦ clash_not d.count (length r.stack) (λ i. (d.shares i).stack_part) k x
+            | inr k ↦ clash_not d.count (length r.list) (λ i. (d.shares i).list_part) k y
           ])
 
 -- each is given in its case and in no other, 27 first
-pub dispatch-renders : (d : Schedule) (r : Round) → Renders (dispatchChecks d r) (dispatchRules d r)
-unfolding dispatchChecks
-dispatch-renders d r = renders-then (decides-27 d r) (renders-last (decides-28 d r))
+pub dispatch_renders : (d : Schedule) (r : Round) → Renders (dispatch_checks d r) (dispatch_rules d r)
+unfolding dispatch_checks
+dispatch_renders d r = renders_then (decides_27 d r) (renders_last (decides_28 d r))
 
 -- ---- a call that goes on
 
 pub record Accepted (d : Schedule) (r : Round) : Type 0 where
-  pub some-run : 0 < d.count
-  pub few-runs : d.count ≤ mostRuns
-  pub some-step : 0 < d.quantum
-  pub kept : r.last ≤ mostRuns
+  pub some_run : 0 < d.count
+  pub few_runs : d.count ≤ most_runs
+  pub some_step : 0 < d.quantum
+  pub kept : r.last ≤ most_runs
   pub laid : Laid d r
 
 apart_by : (n len : ℕ) (part : ℕ → Part) → ¬ (Clash n len part) → Apart n len part
@@ -191,15 +191,15 @@ apart_by n len part h =
       none = λ i j l k ne x p q. h (overlaps i j l k ne x p q);
     }
 
-pub accepted : (d : Schedule) (r : Round) → dispatchChecks d r ≡ go → Accepted d r
+pub accepted : (d : Schedule) (r : Round) → dispatch_checks d r ≡ go → Accepted d r
 accepted d r e =
-    let silent = (dispatch-renders d r).goes e in
+    let silent = (dispatch_renders d r).goes e in
     let a = silent.0 in
     let b = silent.1.0 in
     record {
-      some-run = elim (split 0 d.count) [ inl l ↦ l | inr l ↦ absurd (a (inl (inl (omega arith)))) ];
-      few-runs = elim (split mostRuns d.count) [ inl l ↦ absurd (a (inl (inr l))) | inr l ↦ l ];
-      some-step = elim (ℕ_discrete d.quantum 0) [ yes q ↦ absurd (a (inr (inl q))) | no q ↦ omega (arith, q) ];
-      kept = elim (split mostRuns r.last) [ inl l ↦ absurd (a (inr (inr l))) | inr l ↦ l ];
+      some_run = elim (split 0 d.count) [ inl l ↦ l | inr l ↦ absurd (a (inl (inl (omega arith)))) ];
+      few_runs = elim (split most_runs d.count) [ inl l ↦ absurd (a (inl (inr l))) | inr l ↦ l ];
+      some_step = elim (ℕ_discrete d.quantum 0) [ yes q ↦ absurd (a (inr (inl q))) | no q ↦ omega (arith, q) ];
+      kept = elim (split most_runs r.last) [ inl l ↦ absurd (a (inr (inr l))) | inr l ↦ l ];
       laid = record { stacks = apart_by _ _ _ (λ k. b (inl k)); lists = apart_by _ _ _ (λ k. b (inr k)) };
     }

@@ -3,32 +3,32 @@
 use Rattle.std.specs.Prelude.{ℕ, zero, suc, ◌+◌, ◌*◌, ◌≡◌, refl, Bool, true, false, ◌&&◌, ◌||◌, List, ◌∷◌, [], eqb, ℤ, pos, negsuc, length, get_or, take, replicate}
 use Rattle.std.proofs.Math.Option.{none, some}
 use Rattle.linear.specs.Sums.{sum_to}
-use Rattle.linear.specs.Tests.{allTo, anyTo, count_to}
+use Rattle.linear.specs.Tests.{all_to, any_to, count_to}
 use Rattle.linear.specs.Tuples.{total, unit}
 use Rattle.linear.specs.Systems.{inner, value}
-use Rattle.definitions.specs.Answers.{Answer, Check, complete, go, paused, refuse, refuseFirst, refuseWith, refused, started, ◌then◌}
+use Rattle.definitions.specs.Answers.{Answer, Check, complete, go, paused, refuse, refuse_first, refuse_with, refused, started, ◌then◌}
 use Rattle.definitions.specs.Input.{input_of}
-use Rattle.definitions.specs.Machine.{call, checked, unlessDone, walk}
-use Rattle.definitions.specs.System.{covered, isAtOrBelow, solves}
-use Rattle.definitions.specs.Tables.{begun, bit, frozen, plainRun, unitsTo, writeRow, writeTo}
-use Rattle.definitions.specs.Step.{makes, marksTo, writeChildren, listed, grown, step}
-use Rattle.definitions.specs.Refusals.{rowFits, inOrder, check7, resumeChecks, tooLarge, searchChecks}
-use Rattle.dispatch_spec.specs.Parts.{Part, part, part_of, withPart, lies, overlap, apart}
-use Rattle.dispatch_spec.specs.Dispatch.{Schedule, Share, Round, Dispatched, firstTo, totalTo, own, nextAfter, leaveTurn, serve}
-use Rattle.dispatch_spec.specs.Dispatch.{afterTurns, opened, answerFor, steps_between, dispatchChecks, dispatch}
+use Rattle.definitions.specs.Machine.{call, checked, unless_done, walk}
+use Rattle.definitions.specs.System.{covered, is_at_or_below, solves}
+use Rattle.definitions.specs.Tables.{begun, bit, frozen, plain_run, units_to, write_row, write_to}
+use Rattle.definitions.specs.Step.{makes, marks_to, write_children, listed, grown, step}
+use Rattle.definitions.specs.Refusals.{row_fits, in_order, check7, resume_checks, too_large, search_checks}
+use Rattle.dispatch_spec.specs.Parts.{Part, part, part_of, with_part, lies, overlap, apart}
+use Rattle.dispatch_spec.specs.Dispatch.{Schedule, Share, Round, Dispatched, first_to, total_to, own, next_after, leave_turn, serve}
+use Rattle.dispatch_spec.specs.Dispatch.{after_turns, opened, answer_for, steps_between, dispatch_checks, dispatch}
 
 -- ---- whose turn it is: "rising from the one after the run served last .. (0 at first)", and with run 1 after the last one
 
-order-holds : (nextAfter 3 0 (λ i. true) ≡ some 0) × (nextAfter 3 1 (λ i. true) ≡ some 1) × (nextAfter 3 3 (λ i. true) ≡ some 0)
-    × (nextAfter 3 8 (λ i. true) ≡ some 0)
-    × (nextAfter 3 2 (λ i. eqb i 1) ≡ some 1) × (nextAfter 3 2 (λ i. false) ≡ none)
-unfolding nextAfter firstTo
-order-holds = (refl, refl, refl, refl, refl, refl)
+order_holds : (next_after 3 0 (λ i. true) ≡ some 0) × (next_after 3 1 (λ i. true) ≡ some 1) × (next_after 3 3 (λ i. true) ≡ some 0)
+    × (next_after 3 8 (λ i. true) ≡ some 0)
+    × (next_after 3 2 (λ i. eqb i 1) ≡ some 1) × (next_after 3 2 (λ i. false) ≡ none)
+unfolding next_after first_to
+order_holds = (refl, refl, refl, refl, refl, refl)
 
 -- ---- whole calls
 
 share : List ℤ → Part → Part → Share
-share coefs stack list = record { input = input_of 1 (length coefs) coefs; stackPart = stack; listPart = list }
+share coefs stack list = record { input = input_of 1 (length coefs) coefs; stack_part = stack; list_part = list }
 
 -- run 1 has as many numbers of the list table as are said
 pair : Part → ℕ → ℕ → Share
@@ -42,9 +42,9 @@ schedule stack room quantum = record { count = 2; shares = pair stack room; quan
 starts : Round
 starts =
     record {
-      stack = withPart (part 15 6) (withPart (part 1 12) (replicate 22 9) (unitsTo 3 3 (replicate 12 9))) (unitsTo 2 2 (replicate 6 9));
+      stack = with_part (part 15 6) (with_part (part 1 12) (replicate 22 9) (units_to 3 3 (replicate 12 9))) (units_to 2 2 (replicate 6 9));
       list = replicate 20 9;
-      progress = λ i. record { run = begun plainRun (2 + i); answer = none };
+      progress = λ i. record { run = begun plain_run (2 + i); answer = none };
       last = 2;
     }
 
@@ -60,7 +60,7 @@ record Summary : Type 0 where
   untouched : Bool
 
 nines : List ℕ → Part → Part → Bool
-nines table a b = allTo (length table) (λ x. lies a x || (lies b x || eqb (get_or table x 0) 9))
+nines table a b = all_to (length table) (λ x. lies a x || (lies b x || eqb (get_or table x 0) 9))
 
 summary : Dispatched → Summary
 summary o =
@@ -86,7 +86,7 @@ refuses n =
 
 -- no turn; one turn; eleven turns of one step, and more, which there are none of; three turns, the third of which ends run 1; more turns than are needed; three
 -- turns, the third of which is refused; more turns, of which that run has no other; a turn of 0 steps; parts that overlap; a part that leaves the table
-calls-hold : (called 0 (schedule (part 15 6) 7 3) ≡ comes (paused ∷ paused ∷ started ∷ []) 0 [] (2 ∷ 3 ∷ []) 2)
+calls_hold : (called 0 (schedule (part 15 6) 7 3) ≡ comes (paused ∷ paused ∷ started ∷ []) 0 [] (2 ∷ 3 ∷ []) 2)
     × (called 1 (schedule (part 15 6) 7 3) ≡ comes (paused ∷ paused ∷ started ∷ []) 3 [] (1 ∷ 3 ∷ []) 1)
     × (called 11 (schedule (part 15 6) 7 1) ≡ comes (complete ∷ complete ∷ started ∷ []) 11 (3 ∷ 2 ∷ []) (0 ∷ 0 ∷ []) 1)
     × (called 30 (schedule (part 15 6) 7 1) ≡ comes (complete ∷ complete ∷ started ∷ []) 11 (3 ∷ 2 ∷ []) (0 ∷ 0 ∷ []) 1)
@@ -97,8 +97,8 @@ calls-hold : (called 0 (schedule (part 15 6) 7 3) ≡ comes (paused ∷ paused �
     × (called 9 (schedule (part 15 6) 7 0) ≡ refuses 27)
     × (called 9 (schedule (part 13 8) 7 3) ≡ refuses 28)
     × (called 9 (schedule (part 15 8) 7 3) ≡ refuses 28)
-unfolding total part share pair schedule starts nines summary called comes refuses part_of withPart overlap apart firstTo totalTo own nextAfter leaveTurn serve
-    afterTurns opened answerFor steps_between dispatchChecks dispatch sum_to allTo anyTo count_to unit inner value refuseWith ◌then◌ refuseFirst solves isAtOrBelow
-    covered bit frozen writeTo writeRow unitsTo makes marksTo writeChildren listed grown step rowFits inOrder check7 resumeChecks tooLarge searchChecks checked
-    unlessDone walk call
-calls-hold = (refl, refl, refl, refl, refl, refl, refl, refl, refl, refl, refl)
+unfolding total part share pair schedule starts nines summary called comes refuses part_of with_part overlap apart first_to total_to own next_after leave_turn serve
+    after_turns opened answer_for steps_between dispatch_checks dispatch sum_to all_to any_to count_to unit inner value refuse_with ◌then◌ refuse_first solves is_at_or_below
+    covered bit frozen write_to write_row units_to makes marks_to write_children listed grown step row_fits in_order check7 resume_checks too_large search_checks checked
+    unless_done walk call
+calls_hold = (refl, refl, refl, refl, refl, refl, refl, refl, refl, refl, refl)

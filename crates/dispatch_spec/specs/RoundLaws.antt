@@ -5,7 +5,7 @@ use Rattle.std.proofs.Math.Logic.{inl, inr}
 use Rattle.std.proofs.Math.Option.{Option, none, some}
 use Prim.Native.Nat.{ℕ, zero, suc, ◌+◌, ◌-◌, ◌≤◌, ◌<◌}
 use Rattle.linear.specs.Cases.{split, below_suc}
-use Rattle.dispatch_spec.specs.Dispatch.{Round, either, put, or_else, firstTo, inRound, firstAsked, further, furtherBy, nextAfter, next}
+use Rattle.dispatch_spec.specs.Dispatch.{Round, either, put, or_else, first_to, in_round, first_asked, further, further_by, next_after, next}
 
 -- ---- one value of a function replaced
 
@@ -22,82 +22,82 @@ pub record First (n : ℕ) (f : ℕ → Bool) (i : ℕ) : Type 0 where
   pub holds : T (f i)
   pub before : (j : ℕ) → j < i → ¬ (T (f j))
 
-pub none-not-some : {i : ℕ} → ◌≡◌ {A = Option ℕ} none (some i) → ⊥
-none-not-some e = let z : ◌≡◌ {A = ℕ} 0 1 = cc in omega arith
+pub none_not_some : {i : ℕ} → ◌≡◌ {A = Option ℕ} none (some i) → ⊥
+none_not_some e = let z : ◌≡◌ {A = ℕ} 0 1 = cc in omega arith
 
-none-step : (n : ℕ) (o : Option ℕ) (b : Bool) → or_else o b n ≡ none → (o ≡ none) × (¬ (T b))
-none-step n none true e = absurd (none-not-some (sym e))
-none-step n none false e = (refl, λ t. t)
-none-step n (some k) b e = absurd (none-not-some (sym e))
+none_step : (n : ℕ) (o : Option ℕ) (b : Bool) → or_else o b n ≡ none → (o ≡ none) × (¬ (T b))
+none_step n none true e = absurd (none_not_some (sym e))
+none_step n none false e = (refl, λ t. t)
+none_step n (some k) b e = absurd (none_not_some (sym e))
 
-some-step : (n i : ℕ) (o : Option ℕ) (b : Bool) → or_else o b n ≡ some i → (o ≡ some i) ⊎ ((o ≡ none) × T b × (i ≡ n))
-some-step n i none true e = inr (refl, tt, cc)
-some-step n i none false e = absurd (none-not-some e)
-some-step n i (some k) b e = inl e
+some_step : (n i : ℕ) (o : Option ℕ) (b : Bool) → or_else o b n ≡ some i → (o ≡ some i) ⊎ ((o ≡ none) × T b × (i ≡ n))
+some_step n i none true e = inr (refl, tt, cc)
+some_step n i none false e = absurd (none_not_some e)
+some_step n i (some k) b e = inl e
 
 module _ (f : ℕ → Bool) where
-  pub first-none : (n : ℕ) → firstTo n f ≡ none → (j : ℕ) → j < n → ¬ (T (f j))
-  unfolding firstTo
-  first-none zero e j l = absurd (omega arith)
-  first-none (suc n) e j l =
-      let (e₁, fails) = none-step n (firstTo n f) (f n) e in
-      elim (below_suc l) [ inl h ↦ first-none n e₁ j h | inr q ↦ rw q fails ]
+  pub first_none : (n : ℕ) → first_to n f ≡ none → (j : ℕ) → j < n → ¬ (T (f j))
+  unfolding first_to
+  first_none zero e j l = absurd (omega arith)
+  first_none (suc n) e j l =
+      let (e₁, fails) = none_step n (first_to n f) (f n) e in
+      elim (below_suc l) [ inl h ↦ first_none n e₁ j h | inr q ↦ rw q fails ]
 
-  pub first_some : (n i : ℕ) → firstTo n f ≡ some i → First n f i
-  unfolding firstTo
-  first_some zero i e = absurd (none-not-some e)
+  pub first_some : (n i : ℕ) → first_to n f ≡ some i → First n f i
+  unfolding first_to
+  first_some zero i e = absurd (none_not_some e)
   first_some (suc n) i e =
-      elim (some-step n i (firstTo n f) (f n) e) [
+      elim (some_step n i (first_to n f) (f n) e) [
         | inl e₁ ↦ let h = first_some n i e₁ in record { below = omega (arith, h.below); holds = h.holds; before = h.before }
-        | inr (e₁, y, q) ↦ rw q (record { below = omega arith; holds = y; before = first-none n e₁ })
+        | inr (e₁, y, q) ↦ rw q (record { below = omega arith; holds = y; before = first_none n e₁ })
       ]
 
 -- ---- the order in which the runs are asked
 
-pub asked-below : (count last : ℕ) → 0 < count → firstAsked count last < count
-asked-below count last h =
+pub asked_below : (count last : ℕ) → 0 < count → first_asked count last < count
+asked_below count last h =
     elim (split last count) [ inl l ↦ rw (lt-ltb last count l) l | inr l ↦ rw (le-ltb last count l) h ]
 
-pub further-less : (count start k : ℕ) → start + k < count → further count start k ≡ start + k
-further-less count start k l = rw (lt-ltb (start + k) count l)
+pub further_less : (count start k : ℕ) → start + k < count → further count start k ≡ start + k
+further_less count start k l = rw (lt-ltb (start + k) count l)
 
-pub further-round : (count start k : ℕ) → count ≤ start + k → further count start k ≡ start + k - count
-further-round count start k l = rw (le-ltb (start + k) count l)
+pub further_round : (count start k : ℕ) → count ≤ start + k → further count start k ≡ start + k - count
+further_round count start k l = rw (le-ltb (start + k) count l)
 
-pub further-below : (count start k : ℕ) → start < count → k < count → further count start k < count
-further-below count start k ls lk =
+pub further_below : (count start k : ℕ) → start < count → k < count → further count start k < count
+further_below count start k ls lk =
     elim (split (start + k) count) [
-      | inl l ↦ rw (further-less count start k l) l
-      | inr l ↦ rw (further-round count start k l) (omega arith)
+      | inl l ↦ rw (further_less count start k l) l
+      | inr l ↦ rw (further_round count start k l) (omega arith)
     ]
 
 -- how many runs are asked before run i
 abbrev pub ahead : ℕ → ℕ → ℕ → ℕ
 ahead count start i = either (ltb i start) (i + count - start) (i - start)
 
-pub ahead-less : (count start i : ℕ) → start ≤ i → ahead count start i ≡ i - start
-ahead-less count start i l = rw (le-ltb i start l)
+pub ahead_less : (count start i : ℕ) → start ≤ i → ahead count start i ≡ i - start
+ahead_less count start i l = rw (le-ltb i start l)
 
-pub ahead-round : (count start i : ℕ) → i < start → ahead count start i ≡ i + count - start
-ahead-round count start i l = rw (lt-ltb i start l)
+pub ahead_round : (count start i : ℕ) → i < start → ahead count start i ≡ i + count - start
+ahead_round count start i l = rw (lt-ltb i start l)
 
 module _ (count start i : ℕ) (ls : start < count) (li : i < count) where
-  pub ahead-below : ahead count start i < count
-  ahead-below =
-      elim (split i start) [ inl l ↦ rw (ahead-round count start i l) (omega arith) | inr l ↦ rw (ahead-less count start i l) (omega arith) ]
+  pub ahead_below : ahead count start i < count
+  ahead_below =
+      elim (split i start) [ inl l ↦ rw (ahead_round count start i l) (omega arith) | inr l ↦ rw (ahead_less count start i l) (omega arith) ]
 
-  pub further-ahead : further count start (ahead count start i) ≡ i
-  further-ahead =
+  pub further_ahead : further count start (ahead count start i) ≡ i
+  further_ahead =
       elim (split i start) [
-        | inl l ↦ rw (ahead-round count start i l) (further-round count start (i + count - start) (omega arith) ∙ omega arith)
-        | inr l ↦ rw (ahead-less count start i l) (further-less count start (i - start) (omega arith) ∙ omega arith)
+        | inl l ↦ rw (ahead_round count start i l) (further_round count start (i + count - start) (omega arith) ∙ omega arith)
+        | inr l ↦ rw (ahead_less count start i l) (further_less count start (i - start) (omega arith) ∙ omega arith)
       ]
 
-pub ahead-further : (count start k : ℕ) → start < count → k < count → ahead count start (further count start k) ≡ k
-ahead-further count start k ls lk =
+pub ahead_further : (count start k : ℕ) → start < count → k < count → ahead count start (further count start k) ≡ k
+ahead_further count start k ls lk =
     elim (split (start + k) count) [
-      | inl l ↦ rw (further-less count start k l) (ahead-less count start (start + k) (omega arith) ∙ omega arith)
-      | inr l ↦ rw (further-round count start k l) (ahead-round count start (start + k - count) (omega arith) ∙ omega arith)
+      | inl l ↦ rw (further_less count start k l) (ahead_less count start (start + k) (omega arith) ∙ omega arith)
+      | inr l ↦ rw (further_round count start k l) (ahead_round count start (start + k - count) (omega arith) ∙ omega arith)
     ]
 
 -- ---- whose turn it is
@@ -105,46 +105,46 @@ ahead-further count start k ls lk =
 -- run i is in the round, and no run is that is asked before it
 pub record Next (count : ℕ) (r : Round) (i : ℕ) : Type 0 where
   pub below : i < count
-  pub stays : T (inRound r i)
-  pub before : (j : ℕ) → j < count → ahead count (firstAsked count r.last) j < ahead count (firstAsked count r.last) i → ¬ (T (inRound r j))
+  pub stays : T (in_round r i)
+  pub before : (j : ℕ) → j < count → ahead count (first_asked count r.last) j < ahead count (first_asked count r.last) i → ¬ (T (in_round r j))
 
 abbrev asks : ℕ → Round → ℕ → Bool
-asks count r k = inRound r (further count (firstAsked count r.last) k)
+asks count r k = in_round r (further count (first_asked count r.last) k)
 
-module _ (count : ℕ) (r : Round) (some-run : 0 < count) where
+module _ (count : ℕ) (r : Round) (some_run : 0 < count) where
   abbrev start : ℕ
-  start = firstAsked count r.last
+  start = first_asked count r.last
 
   begins : start < count
-  begins = asked-below count r.last some-run
+  begins = asked_below count r.last some_run
 
-  at_place : (j : ℕ) → j < count → ¬ (T (asks count r (ahead count start j))) → ¬ (T (inRound r j))
-  at_place j l fails y = fails (rw (further-ahead count start j begins l) y)
+  at_place : (j : ℕ) → j < count → ¬ (T (asks count r (ahead count start j))) → ¬ (T (in_round r j))
+  at_place j l fails y = fails (rw (further_ahead count start j begins l) y)
 
   by_first : (k : ℕ) → First count (asks count r) k → Next count r (further count start k)
   by_first k h =
       record {
-        below = further-below count start k begins h.below;
+        below = further_below count start k begins h.below;
         stays = h.holds;
-        before = λ j l less. at_place j l (h.before (ahead count start j) (rw (ahead-further count start k begins h.below) at less));
+        before = λ j l less. at_place j l (h.before (ahead count start j) (rw (ahead_further count start k begins h.below) at less));
       }
 
-  taken : (o : Option ℕ) (i : ℕ) → furtherBy count start o ≡ some i → (k : ℕ) × (o ≡ some k) × (further count start k ≡ i)
-  taken none i e = absurd (none-not-some e)
+  taken : (o : Option ℕ) (i : ℕ) → further_by count start o ≡ some i → (k : ℕ) × (o ≡ some k) × (further count start k ≡ i)
+  taken none i e = absurd (none_not_some e)
   taken (some k) i e = (k, refl, cc)
 
-  pub next-some : (i : ℕ) → next count r ≡ some i → Next count r i
-  unfolding nextAfter
-  next-some i e =
-      let (k, e₁, q) = taken (firstTo count (asks count r)) i e in
+  pub next_some : (i : ℕ) → next count r ≡ some i → Next count r i
+  unfolding next_after
+  next_some i e =
+      let (k, e₁, q) = taken (first_to count (asks count r)) i e in
       rw q at (by_first k (first_some (asks count r) count k e₁))
 
-  none-taken : (o : Option ℕ) → furtherBy count start o ≡ none → o ≡ none
-  none-taken none e = refl
-  none-taken (some k) e = absurd (none-not-some (sym e))
+  none_taken : (o : Option ℕ) → further_by count start o ≡ none → o ≡ none
+  none_taken none e = refl
+  none_taken (some k) e = absurd (none_not_some (sym e))
 
-  pub next-none : next count r ≡ none → (j : ℕ) → j < count → ¬ (T (inRound r j))
-  unfolding nextAfter
-  next-none e j l =
+  pub next_none : next count r ≡ none → (j : ℕ) → j < count → ¬ (T (in_round r j))
+  unfolding next_after
+  next_none e j l =
       at_place j l
-      (first-none (asks count r) count (none-taken (firstTo count (asks count r)) e) (ahead count start j) (ahead-below count start j begins l))
+      (first_none (asks count r) count (none_taken (first_to count (asks count r)) e) (ahead count start j) (ahead_below count start j begins l))

@@ -2,8 +2,8 @@
 // value and returns what it leaves.
 ghost use Rattle.std.specs.Prelude.{◌≡◌, suc};
 ghost use Rattle.engine_spec.specs.Calls as spec;
-ghost use Rattle.engine_spec.specs.StartSides.{startSides};
-ghost use Rattle.engine_beside.specs.Records.{lengthsOf, outcomeOf, workOf};
+ghost use Rattle.engine_spec.specs.StartSides.{start_sides};
+ghost use Rattle.engine_beside.specs.Records.{lengths_of, outcome_of, work_of};
 
 use calls::Check;
 use engine_begins::begins;
@@ -21,9 +21,9 @@ pub fn start(
     l: Beside,
     r: Record,
 ) -> Outcome
-    ensures { outcomeOf result equations.new basis.new table.now
-        ≡ spec.start p q coefs.now (spec.basisRoom q (lengthsOf basis.old table.now l))
-        (workOf equations.old basis.old table.now r) }
+    ensures { outcome_of result equations.new basis.new table.now
+        ≡ spec.start p q coefs.now (spec.basis_room q (lengths_of basis.old table.now l))
+        (work_of equations.old basis.old table.now r) }
 {
     let most = capacity::basis_room(q, basis.len(), l.sizes);
     match standing::check_start(p, q, coefs, equations.len(), most) {
@@ -45,10 +45,10 @@ pub fn start_sides(
     l: Beside,
     r: Record,
 ) -> Outcome
-    ensures { outcomeOf result equations.new basis.new table.now
-        ≡ startSides p q coefs.now rights.now lower.now
-        (spec.basisRoom (suc q) (lengthsOf basis.old table.now l))
-        (workOf equations.old basis.old table.now r) }
+    ensures { outcome_of result equations.new basis.new table.now
+        ≡ start_sides p q coefs.now rights.now lower.now
+        (spec.basis_room (suc q) (lengths_of basis.old table.now l))
+        (work_of equations.old basis.old table.now r) }
 {
     let sizes = l.sizes;
     match sides::check(
@@ -79,9 +79,9 @@ pub fn start_from(
     l: Beside,
     r: Record,
 ) -> Outcome
-    ensures { outcomeOf result equations.new basis.new table.now
-        ≡ spec.startFrom p q coefs.now n rows.now (spec.basisRoom q (lengthsOf basis.old table.now l))
-        (workOf equations.old basis.old table.now r) }
+    ensures { outcome_of result equations.new basis.new table.now
+        ≡ spec.start_from p q coefs.now n rows.now (spec.basis_room q (lengths_of basis.old table.now l))
+        (work_of equations.old basis.old table.now r) }
 {
     let most = capacity::basis_room(q, basis.len(), l.sizes);
     match standing::check_start_from(p, q, coefs, n, rows, equations.len(), most) {
@@ -104,10 +104,10 @@ pub fn combine(
     u: i32,
     t: i32,
 ) -> Outcome
-    ensures { outcomeOf result equations.new basis.now table.now
-        ≡ spec.combine p q (spec.basisRoom q (lengthsOf basis.now table.now l))
-        (spec.stageRoom q (lengthsOf basis.now table.now l)) r s u t
-        (workOf equations.old basis.now table.now run) }
+    ensures { outcome_of result equations.new basis.now table.now
+        ≡ spec.combine p q (spec.basis_room q (lengths_of basis.now table.now l))
+        (spec.stage_room q (lengths_of basis.now table.now l)) r s u t
+        (work_of equations.old basis.now table.now run) }
 {
     let most = capacity::basis_room(q, basis.len(), l.sizes);
     let room = capacity::stage_room(
@@ -137,10 +137,10 @@ pub fn take(
     e: usize,
     f: usize,
 ) -> Outcome
-    ensures { outcomeOf result equations.now basis.new table.now
-        ≡ spec.take p q (spec.basisRoom q (lengthsOf basis.old table.now l))
-        (spec.stageRoom q (lengthsOf basis.old table.now l)) e f
-        (workOf equations.now basis.old table.now r) }
+    ensures { outcome_of result equations.now basis.new table.now
+        ≡ spec.take p q (spec.basis_room q (lengths_of basis.old table.now l))
+        (spec.stage_room q (lengths_of basis.old table.now l)) e f
+        (work_of equations.now basis.old table.now r) }
 {
     let most = capacity::basis_room(q, basis.len(), l.sizes);
     let room = capacity::stage_room(

@@ -1,6 +1,6 @@
 // The start, a row operation and the begin of a stage, after their checks.
 ghost use Rattle.std.specs.Prelude.{◌≡◌, ◌+◌, ◌*◌, ◌≤◌, length};
-ghost use Rattle.engine_beside.specs.Records.{leaves, recordOf};
+ghost use Rattle.engine_beside.specs.Records.{leaves, record_of};
 ghost use Rattle.calls.specs.declared.Answer.TheVariants.{Started};
 ghost use Rattle.engine_begins.specs.Begins.{Begun, BegunFrom, BegunSides, Fitting, FittingList, Operated, Taken};
 ghost use Rattle.engine_begins.specs.Extended.{Extending};
@@ -59,7 +59,7 @@ pub fn begin_sides(
 }
 
 fn begun(p: usize, q: usize, count: usize, cap: u64) -> Outcome
-    ensures { result ≡ leaves Started (recordOf 0 p q count 0 0 0 0 0 0 cap) }
+    ensures { result ≡ leaves Started (record_of 0 p q count 0 0 0 0 0 0 cap) }
 {
     let run = Record {
         done: 0,
@@ -114,7 +114,7 @@ pub fn take(q: usize, basis: &mut [u32], r: Record, e: usize, f: usize) -> Outco
 }
 
 fn taken(done: u32, e: usize, f: usize, count: usize, steps: u64, cap: u64) -> Outcome
-    ensures { result ≡ leaves Started (recordOf done e f count 0 0 0 0 0 steps cap) }
+    ensures { result ≡ leaves Started (record_of done e f count 0 0 0 0 0 steps cap) }
 {
     let run = Record {
         done,

@@ -1,16 +1,16 @@
 // Numbers written into the working system.
 ghost use Rattle.std.specs.Prelude.{◌≡◌, ◌≤◌, nat_abs, pos, get_or, length};
-ghost use Rattle.definitions.specs.Tables.{writeTo};
-ghost use Rattle.engine_spec.specs.Beside.{coefficientLimit};
-ghost use Rattle.engine_spec.specs.Engine.{fillTo};
-ghost use Rattle.engine_begins.specs.Writing.{Combines, combinedAt};
+ghost use Rattle.definitions.specs.Tables.{write_to};
+ghost use Rattle.engine_spec.specs.Beside.{coefficient_limit};
+ghost use Rattle.engine_spec.specs.Engine.{fill_to};
+ghost use Rattle.engine_begins.specs.Writing.{Combines, combined_at};
 
 use engine_checks::operations;
 
 // The first n coefficients of a map.
 pub fn copy(coefs: &[i32], n: usize, equations: &mut [i32])
     requires { (n ≤ length coefs.now) × (n ≤ length equations.old) }
-    ensures { equations.new ≡ fillTo n equations.old 0 (λ k. get_or coefs.now k (pos 0)) }
+    ensures { equations.new ≡ fill_to n equations.old 0 (λ k. get_or coefs.now k (pos 0)) }
 {
     let mut i = 0;
     while i < n {
@@ -22,7 +22,7 @@ pub fn copy(coefs: &[i32], n: usize, equations: &mut [i32])
 // The first n numbers of a list.
 pub fn copy_rows(rows: &[u32], n: usize, basis: &mut [u32])
     requires { (n ≤ length rows.now) × (n ≤ length basis.old) }
-    ensures { basis.new ≡ writeTo n basis.old 0 (λ k. get_or rows.now k 0) }
+    ensures { basis.new ≡ write_to n basis.old 0 (λ k. get_or rows.now k 0) }
 {
     let mut i = 0;
     while i < n {
@@ -34,7 +34,7 @@ pub fn copy_rows(rows: &[u32], n: usize, basis: &mut [u32])
 // u times the equation from place x and t times that from place y, in the place of the first.
 pub fn combine(equations: &mut [i32], q: usize, x: usize, y: usize, u: i32, t: i32)
     requires { Combines q x y u t equations.old }
-    ensures { equations.new ≡ fillTo q equations.old x (combinedAt x y u t equations.old) }
+    ensures { equations.new ≡ fill_to q equations.old x (combined_at x y u t equations.old) }
 {
     let mut j = 0;
     while j < q {
@@ -44,7 +44,7 @@ pub fn combine(equations: &mut [i32], q: usize, x: usize, y: usize, u: i32, t: i
 }
 
 fn narrow(v: i64) -> i32
-    requires { nat_abs v ≤ coefficientLimit }
+    requires { nat_abs v ≤ coefficient_limit }
     ensures { result ≡ v }
 {
     v as i32

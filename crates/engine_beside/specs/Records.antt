@@ -4,7 +4,7 @@ use Rattle.definitions.specs.Answers as paper
 use Rattle.engine_spec.specs.Calls.{Lengths, checked}
 use Rattle.engine_spec.specs.Engine.{Result, Work, result}
 use Rattle.engine_spec.specs.Stage.{Stage}
-use Rattle.calls.specs.Paper.{answer_of, checkOf}
+use Rattle.calls.specs.Paper.{answer_of, check_of}
 use Rattle.calls.specs.declared.Answer.{Answer}
 use Rattle.calls.specs.declared.Answer.TheVariants.{Refused}
 use Rattle.calls.specs.declared.Check.{Check}
@@ -16,8 +16,8 @@ use Rattle.engine_beside.specs.declared.Record.{Record}
 
 -- ---- the record, and what is lent
 
-abbrev pub recordOf : (done equation fresh count rows taken degree upper lower steps cap : ℕ) → Record
-recordOf done equation fresh count rows taken degree upper lower steps cap =
+abbrev pub record_of : (done equation fresh count rows taken degree upper lower steps cap : ℕ) → Record
+record_of done equation fresh count rows taken degree upper lower steps cap =
     record {
       done = done;
       equation = equation;
@@ -32,12 +32,12 @@ recordOf done equation fresh count rows taken degree upper lower steps cap =
       cap = cap;
     }
 
-abbrev pub stageOf : List ℕ → Record → Stage
-stageOf table r =
+abbrev pub stage_of : List ℕ → Record → Stage
+stage_of table r =
     record { table = table; rows = r.rows; taken = r.taken; degree = r.degree; upper = r.upper; lower = r.lower; steps = r.steps.0; cap = r.cap }
 
-abbrev pub workOf : List ℤ → List ℕ → List ℕ → Record → Work
-workOf equations basis table r =
+abbrev pub work_of : List ℤ → List ℕ → List ℕ → Record → Work
+work_of equations basis table r =
     record {
       equations = equations;
       basis = basis;
@@ -45,11 +45,11 @@ workOf equations basis table r =
       done = r.done;
       equation = r.equation;
       fresh = r.fresh;
-      stage = stageOf table r;
+      stage = stage_of table r;
     }
 
-abbrev pub lengthsOf : List ℕ → List ℕ → Beside → Lengths
-lengthsOf basis table l =
+abbrev pub lengths_of : List ℕ → List ℕ → Beside → Lengths
+lengths_of basis table l =
     record {
       basis = length basis;
       sizes = l.sizes;
@@ -61,8 +61,8 @@ lengthsOf basis table l =
       mothers = l.mothers;
     }
 
-abbrev pub besideOf : (sizes values words degrees marks mothers : ℕ) → Beside
-besideOf sizes values words degrees marks mothers =
+abbrev pub beside_of : (sizes values words degrees marks mothers : ℕ) → Beside
+beside_of sizes values words degrees marks mothers =
     record { sizes = sizes; values = values; words = words; degrees = degrees; marks = marks; mothers = mothers }
 
 -- ---- what a call leaves
@@ -70,19 +70,19 @@ besideOf sizes values words degrees marks mothers =
 abbrev pub leaves : Answer → Record → Outcome
 leaves answer r = record { answer = answer; run = r }
 
-abbrev pub refusedWith : Refusal → Record → Outcome
-refusedWith why r = leaves (Refused why) r
+abbrev pub refused_with : Refusal → Record → Outcome
+refused_with why r = leaves (Refused why) r
 
-abbrev pub outcomeOf : Outcome → List ℤ → List ℕ → List ℕ → Result
-outcomeOf o equations basis table = result (answer_of o.answer) (workOf equations basis table o.run)
+abbrev pub outcome_of : Outcome → List ℤ → List ℕ → List ℕ → Result
+outcome_of o equations basis table = result (answer_of o.answer) (work_of equations basis table o.run)
 
 -- ---- a call after its check
 
-module _ {r : Check} {c : paper.Check} (e : checkOf r ≡ c) (equations : List ℤ) (basis table : List ℕ) (p : Record) (work : Work → Result) where
-  pub call-refused : {why : Refusal} → r ≡ Refuse why → outcomeOf (refusedWith why p) equations basis table ≡ checked c (workOf equations basis table p) work
+module _ {r : Check} {c : paper.Check} (e : check_of r ≡ c) (equations : List ℤ) (basis table : List ℕ) (p : Record) (work : Work → Result) where
+  pub call_refused : {why : Refusal} → r ≡ Refuse why → outcome_of (refused_with why p) equations basis table ≡ checked c (work_of equations basis table p) work
   unfolding checked
-  call-refused g = rw (← e, g)
+  call_refused g = rw (← e, g)
 
-  pub call-passed : r ≡ Pass → {o : Result} → o ≡ work (workOf equations basis table p) → o ≡ checked c (workOf equations basis table p) work
+  pub call_passed : r ≡ Pass → {o : Result} → o ≡ work (work_of equations basis table p) → o ≡ checked c (work_of equations basis table p) work
   unfolding checked
-  call-passed g h = rw (← e, g) h
+  call_passed g h = rw (← e, g) h

@@ -9,24 +9,24 @@ use native.Mathlib.Omega.{arith}
 use Rattle.linear.specs.Cases.{split}
 use Rattle.linear.specs.TestLaws.{T-same}
 use Rattle.linear.specs.Tuples.{AtOrBelow, Same}
-use Rattle.definitions.specs.System.{isAtOrBelow}
-use Rattle.laws.specs.SystemLaws.{below-from}
+use Rattle.definitions.specs.System.{is_at_or_below}
+use Rattle.laws.specs.SystemLaws.{below_from}
 use Rattle.engine_spec.specs.Beside.{folded, word_of}
 use Rattle.engine_spec.specs.Signs.{plus}
 use Rattle.engine_spec.specs.Words as words
-use Rattle.engine_spec.specs.Words.{capped, digits, digits-next, digits_same, fits, guards, joined, joined_word, others, word}
+use Rattle.engine_spec.specs.Words.{capped, digits, digits_next, digits_same, fits, guards, joined, joined_word, others, word}
 
 -- 0x7777777777777777: the largest word, all bits but the guards
-abbrev pub wordLimit : ℕ
-wordLimit = 8608480567731124087
+abbrev pub word_limit : ℕ
+word_limit = 8608480567731124087
 
-pub guards-are : guards 16 ≡ 9838263505978427528
+pub guards_are : guards 16 ≡ 9838263505978427528
 unfolding guards digits
-guards-are = refl
+guards_are = refl
 
-pub others-are : others 16 ≡ wordLimit
+pub others_are : others 16 ≡ word_limit
 unfolding others digits
-others-are = refl
+others_are = refl
 
 -- ---- words are low
 
@@ -35,28 +35,28 @@ unfolding digits
 digits_low zero f g h = omega arith
 digits_low (suc n) f g h = omega (arith, h 0 (omega arith), digits_low n (λ j. f (suc j)) (λ j. g (suc j)) (λ j l. h (suc j) (omega arith)))
 
-pub word_low : (q : ℕ) (x : ℕ → ℕ) → word_of q x ≤ wordLimit
+pub word_low : (q : ℕ) (x : ℕ → ℕ) → word_of q x ≤ word_limit
 unfolding word others
-word_low q x = omega (arith, digits_low 16 (λ j. capped (folded q x j)) (λ j. 7) (λ j l. omega arith), others-are)
+word_low q x = omega (arith, digits_low 16 (λ j. capped (folded q x j)) (λ j. 7) (λ j l. omega arith), others_are)
 
 -- ---- tuples folded
 
-cond-sum : (b : Bool) (x y : ℕ) → cond b (x + y) 0 ≡ cond b x 0 + cond b y 0
-cond-sum true x y = refl
-cond-sum false x y = refl
+cond_sum : (b : Bool) (x y : ℕ) → cond b (x + y) 0 ≡ cond b x 0 + cond b y 0
+cond_sum true x y = refl
+cond_sum false x y = refl
 
 -- a place below q, where x is at most y
-cond-le : (j q x y : ℕ) → (j < q → x ≤ y) → cond (ltb j q) x 0 ≤ cond (ltb j q) y 0
-cond-le j q x y h = elim (split j q) [ inl l ↦ rw (lt-ltb j q l) (h l) | inr l ↦ rw (le-ltb j q l) (omega arith) ]
+cond_le : (j q x y : ℕ) → (j < q → x ≤ y) → cond (ltb j q) x 0 ≤ cond (ltb j q) y 0
+cond_le j q x y h = elim (split j q) [ inl l ↦ rw (lt-ltb j q l) (h l) | inr l ↦ rw (le-ltb j q l) (omega arith) ]
 
 cond_same : (j q x y : ℕ) → (j < q → x ≡ y) → cond (ltb j q) x 0 ≡ cond (ltb j q) y 0
 cond_same j q x y h = elim (split j q) [ inl l ↦ rw (lt-ltb j q l) (h l) | inr l ↦ rw (le-ltb j q l) refl ]
 
-folded-sum : (q : ℕ) (x y : ℕ → ℕ) (j : ℕ) → folded q x j + folded q y j ≡ folded q (plus x y) j
-folded-sum q x y j = omega (arith, cond-sum (ltb j q) (x j) (y j), cond-sum (ltb (16 + j) q) (x (16 + j)) (y (16 + j)))
+folded_sum : (q : ℕ) (x y : ℕ → ℕ) (j : ℕ) → folded q x j + folded q y j ≡ folded q (plus x y) j
+folded_sum q x y j = omega (arith, cond_sum (ltb j q) (x j) (y j), cond_sum (ltb (16 + j) q) (x (16 + j)) (y (16 + j)))
 
-folded-below : (q : ℕ) (x y : ℕ → ℕ) → AtOrBelow q x y → (j : ℕ) → folded q x j ≤ folded q y j
-folded-below q x y b j = omega (arith, cond-le j q (x j) (y j) (b j), cond-le (16 + j) q (x (16 + j)) (y (16 + j)) (b (16 + j)))
+folded_below : (q : ℕ) (x y : ℕ → ℕ) → AtOrBelow q x y → (j : ℕ) → folded q x j ≤ folded q y j
+folded_below q x y b j = omega (arith, cond_le j q (x j) (y j) (b j), cond_le (16 + j) q (x (16 + j)) (y (16 + j)) (b (16 + j)))
 
 -- a word reads a tuple below q only
 pub word_same : (q : ℕ) {x y : ℕ → ℕ} → Same q x y → word_of q x ≡ word_of q y
@@ -73,14 +73,14 @@ pub word_sum : (q : ℕ) (x y : ℕ → ℕ) → joined 16 (word_of q x) (word_o
 unfolding word
 word_sum q x y =
     joined_word 16 (folded q x) (folded q y)
-    ∙ digits_same 16 (λ j. capped (folded q x j + folded q y j)) (λ j. capped (folded q (plus x y) j)) (λ j l. rw (folded-sum q x y j) refl)
+    ∙ digits_same 16 (λ j. capped (folded q x j + folded q y j)) (λ j. capped (folded q (plus x y) j)) (λ j l. rw (folded_sum q x y j) refl)
 
 module _ (q : ℕ) (r z : ℕ → ℕ) where
-  pub below-fits : AtOrBelow q r z → T (fits 16 (word_of q r) (word_of q z))
-  below-fits b = words.below-fits 16 (folded q r) (folded q z) (λ j l. folded-below q r z b j)
+  pub below_fits : AtOrBelow q r z → T (fits 16 (word_of q r) (word_of q z))
+  below_fits b = words.below_fits 16 (folded q r) (folded q z) (λ j l. folded_below q r z b j)
 
-  pub not-fits : fits 16 (word_of q r) (word_of q z) ≡ false → isAtOrBelow q r z ≡ false
-  not-fits e = T-same (isAtOrBelow q r z) false (λ h. rw e at (below-fits (below-from q r z h))) (λ h. absurd h)
+  pub not_fits : fits 16 (word_of q r) (word_of q z) ≡ false → is_at_or_below q r z ≡ false
+  not_fits e = T-same (is_at_or_below q r z) false (λ h. rw e at (below_fits (below_from q r z h))) (λ h. absurd h)
 
 -- ---- the loops that make a word, from its last field to its first
 
@@ -96,44 +96,44 @@ digits_more : (n m : ℕ) (f : ℕ → ℕ) → n ≤ m → ((j : ℕ) → n ≤
 digits_more n zero f l none = let e : n ≡ 0 = omega arith in rw e refl
 digits_more n (suc m) f l none =
     elim (split n (suc m)) [
-      | inl k ↦ rw (← add-one m) (digits-next m f ∙ rw (none m (omega arith)) (omega (arith, digits_more n m f (omega arith) none)))
+      | inl k ↦ rw (← add-one m) (digits_next m f ∙ rw (none m (omega arith)) (omega (arith, digits_more n m f (omega arith) none)))
       | inr k ↦ let e : n ≡ suc m = omega arith in rw e refl
     ]
 
-field-none : (q : ℕ) (x : ℕ → ℕ) (j : ℕ) → q ≤ j → field_at q x j ≡ 0
-field-none q x j l = rw (le-ltb j q l, le-ltb (16 + j) q (omega arith)) refl
+field_none : (q : ℕ) (x : ℕ → ℕ) (j : ℕ) → q ≤ j → field_at q x j ≡ 0
+field_none q x j l = rw (le-ltb j q l, le-ltb (16 + j) q (omega arith)) refl
 
 -- a field of one component
-pub plain-field : (q : ℕ) (x : ℕ → ℕ) (j : ℕ) → q ≤ 16 → j < q → x j ≡ folded q x j
-plain-field q x j few l = rw (lt-ltb j q l, le-ltb (16 + j) q (omega arith)) (omega arith)
+pub plain_field : (q : ℕ) (x : ℕ → ℕ) (j : ℕ) → q ≤ 16 → j < q → x j ≡ folded q x j
+plain_field q x j few l = rw (lt-ltb j q l, le-ltb (16 + j) q (omega arith)) (omega arith)
 
 module _ (q : ℕ) (x : ℕ → ℕ) where
-  all-fields : (n : ℕ) → n ≡ min q 16 → word_of q x ≡ digits n (field_at q x)
+  all_fields : (n : ℕ) → n ≡ min q 16 → word_of q x ≡ digits n (field_at q x)
   unfolding word
-  all-fields n e =
+  all_fields n e =
       elim (split q 16) [
-        | inl l ↦ let s : n ≡ q = omega arith in rw s (digits_more q 16 (field_at q x) (omega arith) (field-none q x))
+        | inl l ↦ let s : n ≡ q = omega arith in rw s (digits_more q 16 (field_at q x) (omega arith) (field_none q x))
         | inr l ↦ let s : n ≡ 16 = omega arith in rw s refl
       ]
 
   -- at first it is none: those past q are 0
   pub made_none : (n : ℕ) → n ≡ min q 16 → MadeTo q x n 0
-  made_none n e = record { made = all-fields n e ∙ omega arith }
+  made_none n e = record { made = all_fields n e ∙ omega arith }
 
-  made-suc : (j w : ℕ) → MadeTo q x (suc j) w → MadeTo q x j (16 * w + field_at q x j)
-  made-suc j w m = record { made = m.made ∙ rw (← add-one j, digits-next j (field_at q x)) (rw (add-one j, pow-suc 16 j) (omega arith)) }
+  made_suc : (j w : ℕ) → MadeTo q x (suc j) w → MadeTo q x j (16 * w + field_at q x j)
+  made_suc j w m = record { made = m.made ∙ rw (← add-one j, digits_next j (field_at q x)) (rw (add-one j, pow-suc 16 j) (omega arith)) }
 
   -- one field more, in the place of the last: y is its component, or the sum of its two, and f that as far as 7
-  pub made-next : (j : ℕ) → 0 < j → {w y f : ℕ} → MadeTo q x j w → y ≡ folded q x (j - 1) → f ≡ capped y → MadeTo q x (j - 1) (16 * w + f)
-  made-next (suc j) l {w} m e g = let s : suc j - 1 ≡ j = omega arith in rw (g, e, s) (made-suc j w m)
-  made-next zero l m e g = absurd (omega arith)
+  pub made_next : (j : ℕ) → 0 < j → {w y f : ℕ} → MadeTo q x j w → y ≡ folded q x (j - 1) → f ≡ capped y → MadeTo q x (j - 1) (16 * w + f)
+  made_next (suc j) l {w} m e g = let s : suc j - 1 ≡ j = omega arith in rw (g, e, s) (made_suc j w m)
+  made_next zero l m e g = absurd (omega arith)
 
   -- it fits, and so it does moved up by a field
-  pub made-fits : {j w : ℕ} → MadeTo q x j w → w ≤ wordLimit
-  made-fits {j} {w} m = omega (arith, m.made, word_low q x, mul-le-mul {n₁ = w} {m₁ = 1} {n₂ = w} {m₂ = 16 ^ j} (omega arith) (one-le-pow j 16 (omega arith)))
+  pub made_fits : {j w : ℕ} → MadeTo q x j w → w ≤ word_limit
+  made_fits {j} {w} m = omega (arith, m.made, word_low q x, mul-le-mul {n₁ = w} {m₁ = 1} {n₂ = w} {m₂ = 16 ^ j} (omega arith) (one-le-pow j 16 (omega arith)))
 
-  pub made-moves : (j : ℕ) → 0 < j → {w : ℕ} → MadeTo q x j w → 16 * w ≤ wordLimit
-  made-moves j l m = omega (arith, made-fits (made-next j l m refl refl))
+  pub made_moves : (j : ℕ) → 0 < j → {w : ℕ} → MadeTo q x j w → 16 * w ≤ word_limit
+  made_moves j l m = omega (arith, made_fits (made_next j l m refl refl))
 
   pub made_all : {w : ℕ} → MadeTo q x 0 w → w ≡ word_of q x
   unfolding digits

@@ -2,7 +2,7 @@
 ghost use Rattle.std.specs.Prelude.{◌≡◌, ◌≤◌, length};
 ghost use Rattle.linear.specs.Tuples.{total};
 ghost use Rattle.engine_spec.specs.Beside.{Measured, SmallRow, SmallTable, row_at};
-ghost use Rattle.engine_beside.specs.Rising.{degreeAt, isRising};
+ghost use Rattle.engine_beside.specs.Rising.{degree_at, is_rising};
 ghost use Rattle.engine_beside.specs.Writing.{Kept};
 
 // The degree of the row that stands in the table from place `base`.
@@ -34,7 +34,7 @@ pub fn write_degrees(table: &[u32], n: usize, q: usize, degrees: &mut [u32])
 // Whether each of the first n degrees is at least 1, and none is below the one before.
 pub fn rising(degrees: &[u32], n: usize) -> bool
     requires { n ≤ length degrees.now }
-    ensures { result ≡ isRising n (degreeAt degrees.now) }
+    ensures { result ≡ is_rising n (degree_at degrees.now) }
 {
     let mut before: u32 = 1;
     let mut i = 0;

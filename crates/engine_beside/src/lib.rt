@@ -1,7 +1,7 @@
 // What the engine keeps beside the rows of a stage: their values, degrees and words, each in a table of its own; whether rows and degrees are in order; and the
 // record of its run, with what its calls leave.
 ghost use Rattle.std.specs.Prelude.{◌≡◌};
-ghost use Rattle.engine_beside.specs.Records.{refusedWith};
+ghost use Rattle.engine_beside.specs.Records.{refused_with};
 
 use calls::{Answer, Refusal, Solutions, Steps};
 
@@ -48,7 +48,7 @@ pub struct Outcome {
 
 // What a call that is refused before its work answers: the record stays.
 pub fn refused(why: Refusal, r: Record) -> Outcome
-    ensures { result ≡ refusedWith why r }
+    ensures { result ≡ refused_with why r }
 {
     Outcome {
         answer: Answer::Refused(why),

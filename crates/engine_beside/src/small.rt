@@ -2,13 +2,13 @@
 ghost use Rattle.std.specs.Prelude.{◌≡◌, ◌+◌, ◌*◌, ◌≤◌, length};
 ghost use Rattle.definitions.specs.Tables.{at};
 ghost use Rattle.engine_spec.specs.Beside.{row_at};
-ghost use Rattle.engine_spec.specs.Reduction.{isSmall};
-ghost use Rattle.engine_beside.specs.SmallRows.{areSmall};
+ghost use Rattle.engine_spec.specs.Reduction.{is_small};
+ghost use Rattle.engine_beside.specs.SmallRows.{are_small};
 
 // Whether no component of the first n rows is above 1,000,000. They stand one behind the other, and are asked as one row.
 pub fn small_rows(table: &[u32], n: usize, q: usize) -> bool
     requires { n * q ≤ length table.now }
-    ensures { result ≡ areSmall q n (at table.now q) }
+    ensures { result ≡ are_small q n (at table.now q) }
 {
     small_at(table, 0, n * q)
 }
@@ -17,7 +17,7 @@ pub fn small_rows(table: &[u32], n: usize, q: usize) -> bool
 // compared at a time.
 pub fn small_at(table: &[u32], base: usize, q: usize) -> bool
     requires { base + q ≤ length table.now }
-    ensures { result ≡ isSmall q (row_at table.now base) }
+    ensures { result ≡ is_small q (row_at table.now base) }
 {
     let mut small = true;
     let mut j = 0;

@@ -4,17 +4,17 @@ use Rattle.std.proofs.Common.{sym, ◌∙◌, mul-le-mul_right, add-one, arith}
 use Rattle.std.proofs.Math.Bool.{true, false}
 use borrow.Author.Tests.{le-leb, le-ltb, leb-true, lt-leb, lt-ltb, not-false, not-true}
 use Rattle.std.proofs.Math.Dec.{leb}
-use Rattle.linear.specs.TestLaws.{T-same, all-at, all_from, and_both, and_parts}
-use Rattle.linear.specs.Tests.{allTo}
+use Rattle.linear.specs.TestLaws.{T-same, all_at, all_from, and_both, and_parts}
+use Rattle.linear.specs.Tests.{all_to}
 use Rattle.linear.specs.Tuples.{total}
-use Rattle.definitions.specs.Refusals.{stepLimit}
+use Rattle.definitions.specs.Refusals.{step_limit}
 use Rattle.definitions.specs.Tables.{at}
 use Rattle.engine_spec.specs.Beside.{SmallTable}
-use Rattle.engine_spec.specs.Calls.{coefficientsSmall, inOrder, isRising, is_row, marksInOrder}
-use Rattle.engine_spec.specs.Engine.{Work, basisRow}
-use Rattle.engine_spec.specs.Reduction.{isSmall}
+use Rattle.engine_spec.specs.Calls.{coefficients_small, in_order, is_rising, is_row, marks_in_order}
+use Rattle.engine_spec.specs.Engine.{Work, basis_row}
+use Rattle.engine_spec.specs.Reduction.{is_small}
 use Rattle.engine_spec.specs.Stage.{row}
-use Rattle.engine_beside.specs.SmallRows.{areSmall, small-table}
+use Rattle.engine_beside.specs.SmallRows.{are_small, small_table}
 
 -- a system within the limits, and tables with room
 pub record Within (p q most room equations basis table : ℕ) : Type 0 where
@@ -26,16 +26,16 @@ pub record Within (p q most room equations basis table : ℕ) : Type 0 where
   pub wide : room * q ≤ table
 
 -- the numbers of the record
-unfoldable pub recordInOrder : (p most room count rows steps done equation : ℕ) → Bool
-recordInOrder p most room count rows steps done equation =
-    (leb count most && leb rows room) && ((leb steps stepLimit && ltb done (2 ^ p)) && marksInOrder p done equation)
+unfoldable pub record_in_order : (p most room count rows steps done equation : ℕ) → Bool
+record_in_order p most room count rows steps done equation =
+    (leb count most && leb rows room) && ((leb steps step_limit && ltb done (2 ^ p)) && marks_in_order p done equation)
 
-unfoldable pub areRows : (q m : ℕ) → (ℕ → ℕ → ℕ) → Bool
-areRows q m row = allTo m (λ i. is_row q (row i))
+unfoldable pub are_rows : (q m : ℕ) → (ℕ → ℕ → ℕ) → Bool
+are_rows q m row = all_to m (λ i. is_row q (row i))
 
 -- no row is all zero
-unfoldable pub noneZero : (q m : ℕ) → (ℕ → ℕ → ℕ) → Bool
-noneZero q m row = allTo m (λ i. ltb 0 (total (row i) q))
+unfoldable pub none_zero : (q m : ℕ) → (ℕ → ℕ → ℕ) → Bool
+none_zero q m row = all_to m (λ i. ltb 0 (total (row i) q))
 
 regroup : (a b c d e f : Bool) → (a && b) && ((c && d) && (e && f)) ≡ ((a && b) && ((c && d) && e)) && f
 regroup false b c d e f = refl
@@ -44,30 +44,30 @@ regroup true true false d e f = refl
 regroup true true true false e f = refl
 regroup true true true true e f = refl
 
-abbrev recordOf : (p most room : ℕ) → Work → Bool
-recordOf p most room w = recordInOrder p most room w.count w.stage.rows w.stage.steps w.done w.equation
+abbrev record_of : (p most room : ℕ) → Work → Bool
+record_of p most room w = record_in_order p most room w.count w.stage.rows w.stage.steps w.done w.equation
 
-abbrev risingOf : ℕ → Work → Bool
-risingOf q w = isRising w.stage.rows (λ i. total (row q w.stage i) q) w.stage.degree
+abbrev rising_of : ℕ → Work → Bool
+rising_of q w = is_rising w.stage.rows (λ i. total (row q w.stage i) q) w.stage.degree
 
 module _ (p q most room : ℕ) (w : Work) where
-  parts : inOrder p q most room w ≡ recordOf p most room w && (coefficientsSmall (p * q) w.equations
-      && (areRows q w.count (basisRow q w) && (areSmall q w.stage.rows (row q w.stage) && risingOf q w)))
-  unfolding inOrder recordInOrder areRows areSmall
-  parts = regroup (leb w.count most) (leb w.stage.rows room) (leb w.stage.steps stepLimit) (ltb w.done (2 ^ p))
-      (marksInOrder p w.done w.equation) _
+  parts : in_order p q most room w ≡ record_of p most room w && (coefficients_small (p * q) w.equations
+      && (are_rows q w.count (basis_row q w) && (are_small q w.stage.rows (row q w.stage) && rising_of q w)))
+  unfolding in_order record_in_order are_rows are_small
+  parts = regroup (leb w.count most) (leb w.stage.rows room) (leb w.stage.steps step_limit) (ltb w.done (2 ^ p))
+      (marks_in_order p w.done w.equation) _
 
-  module _ {b : Bool} (e : b ≡ recordOf p most room w) where
-    pub by-record : not b ≡ true → false ≡ inOrder p q most room w
-    by-record h = rw (parts, ← e, falsified b h)
+  module _ {b : Bool} (e : b ≡ record_of p most room w) where
+    pub by_record : not b ≡ true → false ≡ in_order p q most room w
+    by_record h = rw (parts, ← e, falsified b h)
       where
         falsified : (b : Bool) → not b ≡ true → b ≡ false
         falsified true h = sym h
         falsified false h = refl
 
-  pub record-few : recordOf p most room w ≡ true → (w.count ≤ most) × (w.stage.rows ≤ room)
-  unfolding recordInOrder
-  record-few h =
+  pub record_few : record_of p most room w ≡ true → (w.count ≤ most) × (w.stage.rows ≤ room)
+  unfolding record_in_order
+  record_few h =
       let (x, y) = both (leb w.count most && leb w.stage.rows room) _ h in
       let (a, c) = both (leb w.count most) _ x in
       (leb-true w.count most a, leb-true w.stage.rows room c)
@@ -76,89 +76,89 @@ module _ (p q most room : ℕ) (w : Work) where
       both true b h = (refl, h)
       both false b h = (h, cc)
 
-  module _ (e₁ : recordOf p most room w ≡ true) where
-    pub by-coefficients : coefficientsSmall (p * q) w.equations ≡ false → false ≡ inOrder p q most room w
-    by-coefficients h = rw (parts, e₁, h)
+  module _ (e₁ : record_of p most room w ≡ true) where
+    pub by_coefficients : coefficients_small (p * q) w.equations ≡ false → false ≡ in_order p q most room w
+    by_coefficients h = rw (parts, e₁, h)
 
-    module _ (e₂ : coefficientsSmall (p * q) w.equations ≡ true) where
-      pub by-basis : areRows q w.count (basisRow q w) ≡ false → false ≡ inOrder p q most room w
-      by-basis h = rw (parts, e₁, e₂, h)
+    module _ (e₂ : coefficients_small (p * q) w.equations ≡ true) where
+      pub by_basis : are_rows q w.count (basis_row q w) ≡ false → false ≡ in_order p q most room w
+      by_basis h = rw (parts, e₁, e₂, h)
 
-      module _ (e₃ : areRows q w.count (basisRow q w) ≡ true) where
-        pub by_rows : areSmall q w.stage.rows (row q w.stage) ≡ false → false ≡ inOrder p q most room w
+      module _ (e₃ : are_rows q w.count (basis_row q w) ≡ true) where
+        pub by_rows : are_small q w.stage.rows (row q w.stage) ≡ false → false ≡ in_order p q most room w
         by_rows h = rw (parts, e₁, e₂, e₃, h)
 
-        pub by-degrees : areSmall q w.stage.rows (row q w.stage) ≡ true → {b : Bool} → b ≡ risingOf q w → b ≡ inOrder p q most room w
-        by-degrees h g = rw (parts, e₁, e₂, e₃, h) g
+        pub by_degrees : are_small q w.stage.rows (row q w.stage) ≡ true → {b : Bool} → b ≡ rising_of q w → b ≡ in_order p q most room w
+        by_degrees h g = rw (parts, e₁, e₂, e₃, h) g
 
-  pub rows-room : {equations basis table : ℕ} → Within p q most room equations basis table → recordOf p most room w ≡ true
+  pub rows_room : {equations basis table : ℕ} → Within p q most room equations basis table → record_of p most room w ≡ true
       → (w.count * q ≤ basis) × (w.stage.rows * q ≤ table)
-  rows-room x h =
-      let (a, c) = record-few h in
+  rows_room x h =
+      let (a, c) = record_few h in
       (omega (arith, x.long, mul-le-mul_right q a), omega (arith, x.wide, mul-le-mul_right q c))
 
 -- the rows that were tested
-pub tested-small : (q n : ℕ) (table : List ℕ) {b : Bool} → b ≡ areSmall q n (at table q) → not b ≡ false → q ≤ 32 → n * q ≤ length table → SmallTable q n table
-tested-small q n table {b} e h few whole = small-table q n table few whole (rw (← e) (holds b h))
+pub tested_small : (q n : ℕ) (table : List ℕ) {b : Bool} → b ≡ are_small q n (at table q) → not b ≡ false → q ≤ 32 → n * q ≤ length table → SmallTable q n table
+tested_small q n table {b} e h few whole = small_table q n table few whole (rw (← e) (holds b h))
   where
     holds : (b : Bool) → not b ≡ false → T b
     holds b h = rw (not-false b h) tt
 
 -- the two parts of each row, asked one after the other of all
 module _ (q m : ℕ) (row : ℕ → ℕ → ℕ) where
-  both-parts : areSmall q m row && noneZero q m row ≡ areRows q m row
-  unfolding areRows areSmall noneZero is_row
-  both-parts =
+  both_parts : are_small q m row && none_zero q m row ≡ are_rows q m row
+  unfolding are_rows are_small none_zero is_row
+  both_parts =
       T-same _ _
       (λ h.
-      let (small, above) = and_parts (allTo m (λ i. isSmall q (row i))) _ h in
-      all_from m _ (λ i l. and_both (isSmall q (row i)) _ (all-at m _ small i l) (all-at m _ above i l)))
+      let (small, above) = and_parts (all_to m (λ i. is_small q (row i))) _ h in
+      all_from m _ (λ i l. and_both (is_small q (row i)) _ (all_at m _ small i l) (all_at m _ above i l)))
       (λ h.
-      and_both (allTo m (λ i. isSmall q (row i))) _
-      (all_from m _ (λ i l. (and_parts (isSmall q (row i)) _ (all-at m _ h i l)).0))
-      (all_from m _ (λ i l. (and_parts (isSmall q (row i)) _ (all-at m _ h i l)).1)))
+      and_both (all_to m (λ i. is_small q (row i))) _
+      (all_from m _ (λ i l. (and_parts (is_small q (row i)) _ (all_at m _ h i l)).0))
+      (all_from m _ (λ i l. (and_parts (is_small q (row i)) _ (all_at m _ h i l)).1)))
 
-  module _ {b : Bool} (e : b ≡ areSmall q m row) where
-    pub rows-not-small : not b ≡ true → false ≡ areRows q m row
-    rows-not-small h = rw (← both-parts, ← e, not-true b h)
+  module _ {b : Bool} (e : b ≡ are_small q m row) where
+    pub rows_not_small : not b ≡ true → false ≡ are_rows q m row
+    rows_not_small h = rw (← both_parts, ← e, not-true b h)
 
-    pub rows-small : not b ≡ false → {d : Bool} → d ≡ noneZero q m row → d ≡ areRows q m row
-    rows-small h g = rw (← both-parts, ← e, not-false b h) g
+    pub rows_small : not b ≡ false → {d : Bool} → d ≡ none_zero q m row → d ≡ are_rows q m row
+    rows_small h g = rw (← both_parts, ← e, not-false b h) g
 
 -- one row, whose degree is d
-pub is-zero : {degree d : ℕ} → degree ≡ d → degree ≡ 0 → ltb 0 d ≡ false
-is-zero {degree} {d} e z = le-ltb 0 d (omega arith)
+pub is_zero_lem : {degree d : ℕ} → degree ≡ d → degree ≡ 0 → ltb 0 d ≡ false
+is_zero_lem {degree} {d} e z = le-ltb 0 d (omega arith)
 
-pub is-above : {degree d : ℕ} → degree ≡ d → degree ≢ 0 → ltb 0 d ≡ true
-is-above {degree} {d} e z = lt-ltb 0 d (omega arith)
+pub is_above : {degree d : ℕ} → degree ≡ d → degree ≢ 0 → ltb 0 d ≡ true
+is_above {degree} {d} e z = lt-ltb 0 d (omega arith)
 
 -- ---- marks
 
-pub past-equation : (p done equation : ℕ) → p < equation → false ≡ marksInOrder p done equation
-unfolding marksInOrder
-past-equation p done equation l = rw (lt-leb equation p l)
+pub past_equation : (p done equation : ℕ) → p < equation → false ≡ marks_in_order p done equation
+unfolding marks_in_order
+past_equation p done equation l = rw (lt-leb equation p l)
 
 -- ---- the degrees, one after the other
 
 -- the degree before place i
-unfoldable pub degreeBefore : (ℕ → ℕ) → ℕ → ℕ
-degreeBefore f zero = 0
-degreeBefore f (suc i) = f i
+unfoldable pub degree_before : (ℕ → ℕ) → ℕ → ℕ
+degree_before f zero = 0
+degree_before f (suc i) = f i
 
-unfoldable pub risesBy : (before degree d : ℕ) → Bool
-risesBy before degree d = ltb 0 degree && (leb before degree && leb degree d)
+unfoldable pub rises_by : (before degree d : ℕ) → Bool
+rises_by before degree d = ltb 0 degree && (leb before degree && leb degree d)
 
-pub before-next : (f : ℕ → ℕ) (i : ℕ) → f i ≡ degreeBefore f (i + 1)
-unfolding degreeBefore
-before-next f i = rw add-one
+pub before_next : (f : ℕ → ℕ) (i : ℕ) → f i ≡ degree_before f (i + 1)
+unfolding degree_before
+before_next f i = rw add-one
 
-pub before-first : (f : ℕ → ℕ) → 0 ≡ degreeBefore f 0
-unfolding degreeBefore
-before-first f = refl
+pub before_first : (f : ℕ → ℕ) → 0 ≡ degree_before f 0
+unfolding degree_before
+before_first f = refl
 
 -- what the code tests is what the definition asks
-pub rises-is : (f : ℕ → ℕ) (d i : ℕ) {before degree : ℕ} {b : Bool} → before ≡ degreeBefore f i → degree ≡ f i → b ≡ risesBy before degree d
+pub rises_is : (f : ℕ → ℕ) (d i : ℕ) {before degree : ℕ} {b : Bool} → before ≡ degree_before f i → degree ≡ f i → b ≡ rises_by before degree d
     → b ≡ ltb 0 (f i) && (leb (f (i - 1)) (f i) && leb (f i) d)
-unfolding risesBy degreeBefore
-rises-is f d zero e g h = h ∙ rw (e, g, le-leb 0 (f 0) (omega arith), le-leb (f 0) (f 0) (omega arith))
-rises-is f d (suc i) e g h = let same : suc i - 1 ≡ i = omega arith in h ∙ rw (e, g, same)
+unfolding rises_by degree_before
+rises_is f d zero e g h = h ∙ rw (e, g, le-leb 0 (f 0) (omega arith), le-leb (f 0) (f 0) (omega arith))
+rises_is f d (suc i) e g h = let same : suc i - 1 ≡ i = omega arith in h ∙ rw (e, g, same)

@@ -6,96 +6,96 @@ use Prim.Native.Nat.{ℕ, suc, ◌+◌, ◌*◌, ◌≤◌, ◌<◌}
 use borrow.Author.Tests.{eqb-true, le-ltb, leb-false, leb-true, lt-ltb, ltb-false, ne_eqb, not-false}
 use Rattle.std.proofs.Math.Dec.{eqb_refl}
 use Rattle.std.specs.Int.{w32, w64}
-use Rattle.linear.specs.Integers.{natAbs-+ℤ, natAbs-negℤ, sfits-natAbs}
+use Rattle.linear.specs.Integers.{nat_abs_+ℤ, nat_abs_negℤ, sfits_nat_abs}
 use Rattle.linear.specs.SystemLaws.{value_same}
 use Rattle.linear.specs.Systems.{value}
-use Rattle.definitions.specs.Answers.{Check, go, refuse, refuseFirst, refuseIf, refuseWith, ◌then◌}
-use Rattle.definitions.specs.Input.{boundOf}
+use Rattle.definitions.specs.Answers.{Check, go, refuse, refuse_first, refuse_if, refuse_with, ◌then◌}
+use Rattle.definitions.specs.Input.{bound_of}
 use Rattle.definitions.specs.Refusals.{check15}
-use Rattle.definitions.specs.System.{coefLimit}
-use Rattle.laws.specs.AnswerLaws.{refuse-if-go, then-assoc, then-go}
+use Rattle.definitions.specs.System.{coef_limit}
+use Rattle.laws.specs.AnswerLaws.{refuse_if_go, then_assoc, then_go}
 use Rattle.laws.specs.TableLaws.{row_fits}
-use Rattle.calls.specs.Paper.{checkOf}
+use Rattle.calls.specs.Paper.{check_of}
 use Rattle.calls.specs.declared.Check as made
 use Rattle.calls.specs.declared.Check.TheVariants.{Pass, Refuse}
 use Rattle.calls.specs.declared.Refusal.{Refusal}
-use Rattle.checks.specs.Coefficients.{coefficientChecks, sides-checked}
-use Rattle.engine_spec.specs.Beside.{SmallEquation, SmallRow, coefficientLimit, equationAt, row_at, valueLimit}
+use Rattle.checks.specs.Coefficients.{coefficient_checks, sides_checked}
+use Rattle.engine_spec.specs.Beside.{SmallEquation, SmallRow, coefficient_limit, equation_at, row_at, value_limit}
 use Rattle.engine_spec.specs.Calls.{check1, check2, check7}
 use Rattle.engine_spec.specs.Engine.{Work}
-use Rattle.engine_spec.specs.Promise.{false-not, first-silent}
-use Rattle.engine_spec.specs.Reduction.{isSmall}
-use Rattle.engine_spec.specs.ReductionLaws.{small-from}
-use Rattle.engine_spec.specs.StartSides.{sideAt, sidesChecks}
-use Rattle.engine_beside.specs.Small.{value-small}
+use Rattle.engine_spec.specs.Promise.{false_not, first_silent}
+use Rattle.engine_spec.specs.Reduction.{is_small}
+use Rattle.engine_spec.specs.ReductionLaws.{small_from}
+use Rattle.engine_spec.specs.StartSides.{side_at, sides_checks}
+use Rattle.engine_beside.specs.Small.{value_small}
 use Rattle.engine_checks.specs.Operating.{fit_small, read64}
-use Rattle.engine_checks.specs.Room.{basisRows}
-use Rattle.engine_checks.specs.Sizes.{Sized, sizeChecks, sized}
+use Rattle.engine_checks.specs.Room.{basis_rows}
+use Rattle.engine_checks.specs.Sizes.{Sized, size_checks, sized}
 
 -- ---- the checks in three parts
 
 -- 1 to 5, from the numbers handed over; after 1 and 2 these
-abbrev pub shapeRest : (p q coefs rights lower numbers basis sizes : ℕ) → Check
-shapeRest p q coefs rights lower numbers basis sizes =
-    refuseIf (eqb q 32) 2
-    then refuseIf (not (eqb coefs (p * q))) 3
-    then refuseIf (not (eqb rights p)) 3
-    then refuseIf (ltb numbers (p * suc q) || ltb (basisRows (suc q) basis sizes) (suc q)) 4
-    then refuseIf (not (eqb lower q)) 5
+abbrev pub shape_rest : (p q coefs rights lower numbers basis sizes : ℕ) → Check
+shape_rest p q coefs rights lower numbers basis sizes =
+    refuse_if (eqb q 32) 2
+    then refuse_if (not (eqb coefs (p * q))) 3
+    then refuse_if (not (eqb rights p)) 3
+    then refuse_if (ltb numbers (p * suc q) || ltb (basis_rows (suc q) basis sizes) (suc q)) 4
+    then refuse_if (not (eqb lower q)) 5
 
-unfoldable pub shapeChecks : (p q coefs rights lower numbers basis sizes : ℕ) → Check
-shapeChecks p q coefs rights lower numbers basis sizes = check1 p then check2 q then shapeRest p q coefs rights lower numbers basis sizes
+unfoldable pub shape_checks : (p q coefs rights lower numbers basis sizes : ℕ) → Check
+shape_checks p q coefs rights lower numbers basis sizes = check1 p then check2 q then shape_rest p q coefs rights lower numbers basis sizes
 
 -- 35, of the first n equations
-unfoldable pub sideChecks : (n p q : ℕ) (coefs rights : List ℤ) (lower : List ℕ) → Check
-sideChecks n p q coefs rights lower = refuseFirst 35 n (λ i. ltb coefficientLimit (nat_abs (sideAt q coefs rights lower i)))
+unfoldable pub side_checks : (n p q : ℕ) (coefs rights : List ℤ) (lower : List ℕ) → Check
+side_checks n p q coefs rights lower = refuse_first 35 n (λ i. ltb coefficient_limit (nat_abs (side_at q coefs rights lower i)))
 
 -- 8 and 15 before it
-unfoldable pub numberChecks : (p q : ℕ) (coefs rights : List ℤ) (lower : List ℕ) → Check
-numberChecks p q coefs rights lower =
-    refuseIf (not (isSmall q (boundOf lower))) 8 then check15 rights then sideChecks p p q coefs rights lower
+unfoldable pub number_checks : (p q : ℕ) (coefs rights : List ℤ) (lower : List ℕ) → Check
+number_checks p q coefs rights lower =
+    refuse_if (not (is_small q (bound_of lower))) 8 then check15 rights then side_checks p p q coefs rights lower
 
 -- 7 before these
-unfoldable pub rangeChecks : (p q : ℕ) (coefs rights : List ℤ) (lower : List ℕ) → Check
-rangeChecks p q coefs rights lower = check7 p q coefs then numberChecks p q coefs rights lower
+unfoldable pub range_checks : (p q : ℕ) (coefs rights : List ℤ) (lower : List ℕ) → Check
+range_checks p q coefs rights lower = check7 p q coefs then number_checks p q coefs rights lower
 
-unfoldable pub sidesChecksBy : (p q : ℕ) (coefs rights : List ℤ) (lower : List ℕ) (numbers basis sizes : ℕ) → Check
-sidesChecksBy p q coefs rights lower numbers basis sizes =
-    shapeChecks p q (length coefs) (length rights) (length lower) numbers basis sizes then rangeChecks p q coefs rights lower
+unfoldable pub sides_checks_by : (p q : ℕ) (coefs rights : List ℤ) (lower : List ℕ) (numbers basis sizes : ℕ) → Check
+sides_checks_by p q coefs rights lower numbers basis sizes =
+    shape_checks p q (length coefs) (length rights) (length lower) numbers basis sizes then range_checks p q coefs rights lower
 
-pub sides-checks : (p q : ℕ) (coefs rights : List ℤ) (lower : List ℕ) (basis sizes : ℕ) (w : Work)
-    → sidesChecksBy p q coefs rights lower (length w.equations) basis sizes ≡ sidesChecks p q coefs rights lower (basisRows (suc q) basis sizes) w
-unfolding sidesChecksBy shapeChecks rangeChecks numberChecks sideChecks sidesChecks
-sides-checks p q coefs rights lower basis sizes w = simp then-assoc
+pub sides_checks_lem : (p q : ℕ) (coefs rights : List ℤ) (lower : List ℕ) (basis sizes : ℕ) (w : Work)
+    → sides_checks_by p q coefs rights lower (length w.equations) basis sizes ≡ sides_checks p q coefs rights lower (basis_rows (suc q) basis sizes) w
+unfolding sides_checks_by shape_checks range_checks number_checks side_checks sides_checks
+sides_checks_lem p q coefs rights lower basis sizes w = simp then_assoc
 
 -- ---- one check after the other
 
 -- what comes after a check that the code has made
-module _ {r : made.Check} {c : Check} (e : checkOf r ≡ c) (own : Check) where
-  pub then-refused : {why : Refusal} → r ≡ Refuse why → checkOf (Refuse why) ≡ c then own
+module _ {r : made.Check} {c : Check} (e : check_of r ≡ c) (own : Check) where
+  pub then_refused : {why : Refusal} → r ≡ Refuse why → check_of (Refuse why) ≡ c then own
   unfolding ◌then◌
-  then-refused g = rw (← e, g)
+  then_refused g = rw (← e, g)
 
-  pub then-passed : {d : Check} → r ≡ Pass → d ≡ own → d ≡ c then own
+  pub then_passed : {d : Check} → r ≡ Pass → d ≡ own → d ≡ c then own
   unfolding ◌then◌
-  then-passed g h = rw (← e, g) h
+  then_passed g h = rw (← e, g) h
 
 -- a test that refuses, and one that does not
-pub now-refuses : (b : Bool) (n : ℕ) (own : Check) → b ≡ true → refuse n [] ≡ refuseIf b n then own
-unfolding refuseWith ◌then◌
-now-refuses b n own e = rw e
+pub now_refuses : (b : Bool) (n : ℕ) (own : Check) → b ≡ true → refuse n [] ≡ refuse_if b n then own
+unfolding refuse_with ◌then◌
+now_refuses b n own e = rw e
 
-pub now-passes : (b : Bool) (n : ℕ) (own : Check) {c : Check} → b ≡ false → c ≡ own → c ≡ refuseIf b n then own
-unfolding refuseWith ◌then◌
-now-passes b n own e h = rw e h
+pub now_passes : (b : Bool) (n : ℕ) (own : Check) {c : Check} → b ≡ false → c ≡ own → c ≡ refuse_if b n then own
+unfolding refuse_with ◌then◌
+now_passes b n own e h = rw e h
 
-pub last-refuses : (b : Bool) (n : ℕ) → b ≡ true → refuse n [] ≡ refuseIf b n
-unfolding refuseWith
-last-refuses b n e = rw e
+pub last_refuses : (b : Bool) (n : ℕ) → b ≡ true → refuse n [] ≡ refuse_if b n
+unfolding refuse_with
+last_refuses b n e = rw e
 
-pub last-passes : (b : Bool) (n : ℕ) → b ≡ false → go ≡ refuseIf b n
-unfolding refuseWith
-last-passes b n e = rw e
+pub last_passes : (b : Bool) (n : ℕ) → b ≡ false → go ≡ refuse_if b n
+unfolding refuse_with
+last_passes b n e = rw e
 
 pub unequal : (n m : ℕ) → n ≢ m → not (eqb n m) ≡ true
 unequal n m ne = rw (ne_eqb n m ne)
@@ -110,8 +110,8 @@ equal n m e = rw (e, holds (eqb m m) (eqb_refl m))
 pub first_short : (b d : Bool) → b ≡ true → (b || d) ≡ true
 first_short b d e = rw e
 
-pub then-short : (b d : Bool) {x : Bool} → b ≡ false → d ≡ x → (b || d) ≡ x
-then-short b d e g = rw e g
+pub then_short : (b d : Bool) {x : Bool} → b ≡ false → d ≡ x → (b || d) ≡ x
+then_short b d e g = rw e g
 
 -- ---- what holds where they find nothing
 
@@ -123,39 +123,39 @@ pub record Shaped (p q coefs rights lower : ℕ) : Type 0 where
   pub sides : rights ≡ p
   pub bound : lower ≡ q
 
-pub shaped : (p q coefs rights lower numbers basis sizes : ℕ) → shapeChecks p q coefs rights lower numbers basis sizes ≡ go
-    → Shaped p q coefs rights lower × (p * suc q ≤ numbers) × (suc q ≤ basisRows (suc q) basis sizes)
-unfolding shapeChecks
+pub shaped : (p q coefs rights lower numbers basis sizes : ℕ) → shape_checks p q coefs rights lower numbers basis sizes ≡ go
+    → Shaped p q coefs rights lower × (p * suc q ≤ numbers) × (suc q ≤ basis_rows (suc q) basis sizes)
+unfolding shape_checks
 shaped p q coefs rights lower numbers basis sizes e =
-    let most = basisRows (suc q) basis sizes in
-    let (a, e₁) = then-go (check1 p) _ e in
-    let (b, e₂) = then-go (check2 q) _ e₁ in
-    let (c, e₃) = then-go (refuseIf (eqb q 32) 2) _ e₂ in
-    let (d, e₄) = then-go (refuseIf (not (eqb coefs (p * q))) 3) _ e₃ in
-    let (f, e₅) = then-go (refuseIf (not (eqb rights p)) 3) _ e₄ in
-    let (g, h) = then-go (refuseIf (ltb numbers (p * suc q) || ltb most (suc q)) 4) _ e₅ in
-    let (s, m) = or-false (ltb numbers (p * suc q)) (ltb most (suc q)) (refuse-if-go _ 4 g) in
-    let z = sized p q (unfold sizeChecks in (ap (λ x. x then check2 q) a ∙ unfold ◌then◌ in b)) in (
+    let most = basis_rows (suc q) basis sizes in
+    let (a, e₁) = then_go (check1 p) _ e in
+    let (b, e₂) = then_go (check2 q) _ e₁ in
+    let (c, e₃) = then_go (refuse_if (eqb q 32) 2) _ e₂ in
+    let (d, e₄) = then_go (refuse_if (not (eqb coefs (p * q))) 3) _ e₃ in
+    let (f, e₅) = then_go (refuse_if (not (eqb rights p)) 3) _ e₄ in
+    let (g, h) = then_go (refuse_if (ltb numbers (p * suc q) || ltb most (suc q)) 4) _ e₅ in
+    let (s, m) = or_false (ltb numbers (p * suc q)) (ltb most (suc q)) (refuse_if_go _ 4 g) in
+    let z = sized p q (unfold size_checks in (ap (λ x. x then check2 q) a ∙ unfold ◌then◌ in b)) in (
       record {
         size = z;
-        narrow = below q z.unknowns (refuse-if-go _ 2 c);
-        count = eqb-true coefs (p * q) (not-false _ (refuse-if-go _ 3 d));
-        sides = eqb-true rights p (not-false _ (refuse-if-go _ 3 f));
-        bound = eqb-true lower q (not-false _ (refuse-if-go _ 5 h));
+        narrow = below q z.unknowns (refuse_if_go _ 2 c);
+        count = eqb-true coefs (p * q) (not-false _ (refuse_if_go _ 3 d));
+        sides = eqb-true rights p (not-false _ (refuse_if_go _ 3 f));
+        bound = eqb-true lower q (not-false _ (refuse_if_go _ 5 h));
       },
       ltb-false numbers (p * suc q) s,
       ltb-false most (suc q) m,
     )
   where
-    or-false : (b c : Bool) → (b || c) ≡ false → (b ≡ false) × (c ≡ false)
-    or-false true c e = (e, cc)
-    or-false false c e = (refl, e)
+    or_false : (b c : Bool) → (b || c) ≡ false → (b ≡ false) × (c ≡ false)
+    or_false true c e = (e, cc)
+    or_false false c e = (refl, e)
 
     below : (q : ℕ) → q ≤ 32 → eqb q 32 ≡ false → q ≤ 31
     below q l h = by (ne h)
       where
         ne : eqb q 32 ≡ false → q ≢ 32
-        ne h g = false-not (eqb q 32) h (rw g tt)
+        ne h g = false_not (eqb q 32) h (rw g tt)
 
         by : q ≢ 32 → q ≤ 31
         by n = omega arith
@@ -163,7 +163,7 @@ shaped p q coefs rights lower numbers basis sizes e =
 -- and the coefficients are in their range
 pub record Ranged (p q : ℕ) (coefs : List ℤ) (rights lower : ℕ) : Type 0 where
   pub shape : Shaped p q (length coefs) rights lower
-  pub small : (k : ℕ) → k < p * q → nat_abs (get_or coefs k (pos 0)) ≤ coefficientLimit
+  pub small : (k : ℕ) → k < p * q → nat_abs (get_or coefs k (pos 0)) ≤ coefficient_limit
 
 pub ranged : {p q : ℕ} {coefs : List ℤ} {rights lower : ℕ} → Shaped p q (length coefs) rights lower → check7 p q coefs ≡ go → Ranged p q coefs rights lower
 ranged {p} {q} {coefs} s e =
@@ -171,12 +171,12 @@ ranged {p} {q} {coefs} s e =
       shape = s;
       small = λ k l.
           let v = nat_abs (get_or coefs k (pos 0)) in
-          omega (arith, ltb-false coefLimit v (first-silent 7 (p * q) _ e k l));
+          omega (arith, ltb-false coef_limit v (first_silent 7 (p * q) _ e k l));
     }
 
 module _ {p q : ℕ} {coefs : List ℤ} {rights lower : ℕ} (r : Ranged p q coefs rights lower) where
-  pub equation-small : (i : ℕ) → i < p → SmallEquation q coefs (i * q)
-  equation-small i l =
+  pub equation_small : (i : ℕ) → i < p → SmallEquation q coefs (i * q)
+  equation_small i l =
       record {
         unknowns = r.shape.size.unknowns;
         whole = omega (arith, r.shape.count, row_fits q i p l);
@@ -186,58 +186,58 @@ module _ {p q : ℕ} {coefs : List ℤ} {rights lower : ℕ} (r : Ranged p q coe
 -- ---- the bound as a row of its own table
 
 -- the row from place 0 on is the bound
-pub bound_at : (lower : List ℕ) (j : ℕ) → row_at lower 0 j ≡ boundOf lower j
+pub bound_at : (lower : List ℕ) (j : ℕ) → row_at lower 0 j ≡ bound_of lower j
 bound_at lower j = let e : 0 + j ≡ j = omega arith in ap (λ k. get_or lower k 0) e
 
-pub bound-small : (q : ℕ) (lower : List ℕ) → isSmall q (row_at lower 0) ≡ isSmall q (boundOf lower)
-unfolding isSmall
-bound-small q lower = simp (bound_at lower)
+pub bound_small : (q : ℕ) (lower : List ℕ) → is_small q (row_at lower 0) ≡ is_small q (bound_of lower)
+unfolding is_small
+bound_small q lower = simp (bound_at lower)
 
-pub bound-row : (q : ℕ) (lower : List ℕ) → length lower ≡ q → isSmall q (row_at lower 0) ≡ true → SmallRow q lower 0
-bound-row q lower long e = record { whole = omega arith; small = λ j l. small-from q (row_at lower 0) (rw e tt) j l }
+pub bound_row : (q : ℕ) (lower : List ℕ) → length lower ≡ q → is_small q (row_at lower 0) ≡ true → SmallRow q lower 0
+bound_row q lower long e = record { whole = omega arith; small = λ j l. small_from q (row_at lower 0) (rw e tt) j l }
 
 -- ---- a right side, less what the bound makes of its equation
 
 -- a number of 32 bits less a value fits 64
-pub less-fits : (x v : ℤ) → SFits w32 x → nat_abs v ≤ valueLimit → SFits w64 (x +ℤ neg_ℤ v)
-less-fits x v f l = sfits-natAbs (omega (arith, natAbs-+ℤ x (neg_ℤ v), natAbs-negℤ v, fit_small x f))
+pub less_fits : (x v : ℤ) → SFits w32 x → nat_abs v ≤ value_limit → SFits w64 (x +ℤ neg_ℤ v)
+less_fits x v f l = sfits_nat_abs (omega (arith, nat_abs_+ℤ x (neg_ℤ v), nat_abs_negℤ v, fit_small x f))
 
 module _ {q : ℕ} {coefs : List ℤ} {lower : List ℕ} (i : ℕ) (s : SmallEquation q coefs (i * q)) (row : SmallRow q lower 0) (rights : List ℤ) where
   abbrev right : ℤ
   right = get_or rights i (pos 0)
 
   abbrev made_of : ℤ
-  made_of = value (equationAt coefs (i * q)) q (row_at lower 0)
+  made_of = value (equation_at coefs (i * q)) q (row_at lower 0)
 
-  side-is : {v : ℤ} → v ≡ right +ℤ neg_ℤ made_of → v ≡ sideAt q coefs rights lower i
-  unfolding sideAt
-  side-is e = e ∙ rw (value_same (equationAt coefs (i * q)) q (λ j l. bound_at lower j))
+  side_is : {v : ℤ} → v ≡ right +ℤ neg_ℤ made_of → v ≡ side_at q coefs rights lower i
+  unfolding side_at
+  side_is e = e ∙ rw (value_same (equation_at coefs (i * q)) q (λ j l. bound_at lower j))
 
   -- as it is read back
-  pub side-read : SFits w32 right → {v : ℤ} → v ≡ right +ℤ neg_ℤ made_of → read64 v ≡ sideAt q coefs rights lower i
-  side-read f {v} e =
-      let g : SFits w64 v = rw e (less-fits right made_of f (value-small (row_at lower 0) s row.small)) in
-      to_z-of_z g ∙ side-is e
+  pub side_read : SFits w32 right → {v : ℤ} → v ≡ right +ℤ neg_ℤ made_of → read64 v ≡ side_at q coefs rights lower i
+  side_read f {v} e =
+      let g : SFits w64 v = rw e (less_fits right made_of f (value_small (row_at lower 0) s row.small)) in
+      to_z-of_z g ∙ side_is e
 
-pub over-limit : (n : ℕ) → leb n coefficientLimit ≡ false → ltb coefficientLimit n ≡ true
-over-limit n e = lt-ltb coefficientLimit n (leb-false n coefficientLimit e)
+pub over_limit : (n : ℕ) → leb n coefficient_limit ≡ false → ltb coefficient_limit n ≡ true
+over_limit n e = lt-ltb coefficient_limit n (leb-false n coefficient_limit e)
 
-pub within-limit : (n : ℕ) → leb n coefficientLimit ≡ true → ltb coefficientLimit n ≡ false
-within-limit n e = le-ltb coefficientLimit n (leb-true n coefficientLimit e)
+pub within_limit : (n : ℕ) → leb n coefficient_limit ≡ true → ltb coefficient_limit n ≡ false
+within_limit n e = le-ltb coefficient_limit n (leb-true n coefficient_limit e)
 
 -- ---- the bound, and the right sides
 
-pub bound-large : (q : ℕ) (lower : List ℕ) → isSmall q (row_at lower 0) ≡ false → not (isSmall q (boundOf lower)) ≡ true
-bound-large q lower e = rw (← bound-small q lower, e)
+pub bound_large : (q : ℕ) (lower : List ℕ) → is_small q (row_at lower 0) ≡ false → not (is_small q (bound_of lower)) ≡ true
+bound_large q lower e = rw (← bound_small q lower, e)
 
-pub bound-fine : (q : ℕ) (lower : List ℕ) → isSmall q (row_at lower 0) ≡ true → not (isSmall q (boundOf lower)) ≡ false
-bound-fine q lower e = rw (← bound-small q lower, e)
+pub bound_fine : (q : ℕ) (lower : List ℕ) → is_small q (row_at lower 0) ≡ true → not (is_small q (bound_of lower)) ≡ false
+bound_fine q lower e = rw (← bound_small q lower, e)
 
-module _ (rights : List ℤ) {r : made.Check} (e : checkOf r ≡ coefficientChecks rights) (own : Check) where
-  pub sides-refused : {why : Refusal} → r ≡ Refuse why → refuse 15 [] ≡ check15 rights then own
+module _ (rights : List ℤ) {r : made.Check} (e : check_of r ≡ coefficient_checks rights) (own : Check) where
+  pub sides_refused : {why : Refusal} → r ≡ Refuse why → refuse 15 [] ≡ check15 rights then own
   unfolding ◌then◌
-  sides-refused g = rw (← sides-checked rights, ← e, g)
+  sides_refused g = rw (← sides_checked rights, ← e, g)
 
-  pub sides-passed : {c : Check} → r ≡ Pass → c ≡ own → c ≡ check15 rights then own
+  pub sides_passed : {c : Check} → r ≡ Pass → c ≡ own → c ≡ check15 rights then own
   unfolding ◌then◌
-  sides-passed g h = rw (← sides-checked rights, ← e, g) h
+  sides_passed g h = rw (← sides_checked rights, ← e, g) h

@@ -5,18 +5,18 @@ use Rattle.std.proofs.lemmas.Bool.{not-false}
 use Rattle.linear.specs.TestLaws.{and_parts}
 use Rattle.definitions.specs.Answers.{Check, go, ◌then◌}
 use Rattle.definitions.specs.Refusals.{between}
-use Rattle.laws.specs.AnswerLaws.{refuse-if-go, then-assoc, then-go}
+use Rattle.laws.specs.AnswerLaws.{refuse_if_go, then_assoc, then_go}
 use Rattle.engine_spec.specs.Calls.{check1, check2}
-use Rattle.calls.specs.Paper.{checkOf}
+use Rattle.calls.specs.Paper.{check_of}
 use Rattle.calls.specs.declared.Check as made
 use Rattle.calls.specs.declared.Check.TheVariants.{Pass, Refuse}
 use Rattle.calls.specs.declared.Refusal.{Refusal}
 
-unfoldable pub sizeChecks : (p q : ℕ) → Check
-sizeChecks p q = check1 p then check2 q
+unfoldable pub size_checks : (p q : ℕ) → Check
+size_checks p q = check1 p then check2 q
 
-pub in-range : (n : ℕ) → 1 ≤ n → n ≤ 32 → between 1 32 n ≡ true
-in-range n l m = rw (le-leb 1 n l, le-leb n 32 m)
+pub in_range : (n : ℕ) → 1 ≤ n → n ≤ 32 → between 1 32 n ≡ true
+in_range n l m = rw (le-leb 1 n l, le-leb n 32 m)
 
 pub record Sized (p q : ℕ) : Type 0 where
   pub equations : p ≤ 32
@@ -26,23 +26,23 @@ pub record Sized (p q : ℕ) : Type 0 where
 within : (n : ℕ) → between 1 32 n ≡ true → (1 ≤ n) × (n ≤ 32)
 within n e = let (l, m) = and_parts (leb 1 n) (leb n 32) (rw e tt) in (leb→le 1 n l, leb→le n 32 m)
 
-pub sized : (p q : ℕ) → sizeChecks p q ≡ go → Sized p q
-unfolding sizeChecks
+pub sized : (p q : ℕ) → size_checks p q ≡ go → Sized p q
+unfolding size_checks
 sized p q e =
-    let (equations, unknowns) = then-go (check1 p) _ e in
-    let (a, b) = within p (not-false _ (refuse-if-go _ 1 equations)) in
-    let (c, d) = within q (not-false _ (refuse-if-go _ 2 unknowns)) in
+    let (equations, unknowns) = then_go (check1 p) _ e in
+    let (a, b) = within p (not-false _ (refuse_if_go _ 1 equations)) in
+    let (c, d) = within q (not-false _ (refuse_if_go _ 2 unknowns)) in
     record { equations = b; some = c; unknowns = d }
 
-sizes-then : (p q : ℕ) (own : Check) → sizeChecks p q then own ≡ check1 p then check2 q then own
-unfolding sizeChecks
-sizes-then p q own = then-assoc (check1 p) (check2 q) own
+sizes_then : (p q : ℕ) (own : Check) → size_checks p q then own ≡ check1 p then check2 q then own
+unfolding size_checks
+sizes_then p q own = then_assoc (check1 p) (check2 q) own
 
-module _ (p q : ℕ) {r : made.Check} (e : checkOf r ≡ sizeChecks p q) (own : Check) where
-  pub sizes-refused : {why : Refusal} → r ≡ Refuse why → checkOf (Refuse why) ≡ check1 p then check2 q then own
+module _ (p q : ℕ) {r : made.Check} (e : check_of r ≡ size_checks p q) (own : Check) where
+  pub sizes_refused : {why : Refusal} → r ≡ Refuse why → check_of (Refuse why) ≡ check1 p then check2 q then own
   unfolding ◌then◌
-  sizes-refused g = rw (← sizes-then p q own, ← e, g)
+  sizes_refused g = rw (← sizes_then p q own, ← e, g)
 
-  pub sizes-passed : {c : Check} → r ≡ Pass → c ≡ own → c ≡ check1 p then check2 q then own
+  pub sizes_passed : {c : Check} → r ≡ Pass → c ≡ own → c ≡ check1 p then check2 q then own
   unfolding ◌then◌
-  sizes-passed g h = rw (← sizes-then p q own, ← e, g) h
+  sizes_passed g h = rw (← sizes_then p q own, ← e, g) h

@@ -6,41 +6,41 @@ use Rattle.std.proofs.Math.Bool.{true, false}
 use Rattle.std.proofs.Math.Nat.{mul-le-mul_right}
 use borrow.Author.Tests.{eqb-true, ltb-false, not-false}
 use Rattle.std.proofs.Math.Dec.{T, leb, leb→le, ltb}
-use Rattle.linear.specs.TestLaws.{all-at, and_parts}
-use Rattle.linear.specs.Tests.{allTo}
-use Rattle.definitions.specs.Answers.{Check, go, refuse, refuseIf, refuseWith, ◌then◌}
-use Rattle.definitions.specs.Refusals.{stepLimit}
-use Rattle.laws.specs.AnswerLaws.{refuse-if-go, then-assoc, then-go}
+use Rattle.linear.specs.TestLaws.{all_at, and_parts}
+use Rattle.linear.specs.Tests.{all_to}
+use Rattle.definitions.specs.Answers.{Check, go, refuse, refuse_if, refuse_with, ◌then◌}
+use Rattle.definitions.specs.Refusals.{step_limit}
+use Rattle.laws.specs.AnswerLaws.{refuse_if_go, then_assoc, then_go}
 use Rattle.laws.specs.TableLaws.{row_fits}
-use Rattle.calls.specs.Paper.{checkOf}
+use Rattle.calls.specs.Paper.{check_of}
 use Rattle.calls.specs.declared.Check as made
 use Rattle.calls.specs.declared.Check.TheVariants.{Pass, Refuse}
 use Rattle.calls.specs.declared.Refusal.{Refusal}
-use Rattle.checks.specs.Coefficients.{coefficientChecks}
+use Rattle.checks.specs.Coefficients.{coefficient_checks}
 use Rattle.engine_spec.specs.Calls.{
   check1,
   check2,
   check3,
   check4,
   check6,
-  check6List,
+  check6_list,
   check7,
-  coefficientsSmall,
-  inOrder,
-  isList,
+  coefficients_small,
+  in_order,
+  is_list,
   is_row,
-  marksInOrder,
-  resumeChecks,
-  standingThen,
-  startChecks,
-  startFromChecks,
+  marks_in_order,
+  resume_checks,
+  standing_then,
+  start_checks,
+  start_from_checks,
 }
-use Rattle.engine_spec.specs.Beside.{SmallEquation, SmallTable, coefficientLimit}
-use Rattle.engine_spec.specs.Engine.{Work, basisRow}
-use Rattle.engine_spec.specs.Reduction.{isSmall}
-use Rattle.engine_spec.specs.ReductionLaws.{small-from}
-use Rattle.engine_checks.specs.Sizes.{Sized, sizeChecks, sized}
-use Rattle.engine_checks.specs.Taking.{leftBy}
+use Rattle.engine_spec.specs.Beside.{SmallEquation, SmallTable, coefficient_limit}
+use Rattle.engine_spec.specs.Engine.{Work, basis_row}
+use Rattle.engine_spec.specs.Reduction.{is_small}
+use Rattle.engine_spec.specs.ReductionLaws.{small_from}
+use Rattle.engine_checks.specs.Sizes.{Sized, size_checks, sized}
+use Rattle.engine_checks.specs.Taking.{left_by}
 
 -- tables with room for these rows
 pub record Roomed (q most room basis table : ℕ) : Type 0 where
@@ -50,82 +50,82 @@ pub record Roomed (q most room basis table : ℕ) : Type 0 where
 -- ---- the start
 
 -- 4, from the length of the working system
-abbrev pub check4By : (p q most numbers : ℕ) → Check
-check4By p q most numbers = refuseIf (ltb numbers (p * q) || ltb most q) 4
+abbrev pub check4_by : (p q most numbers : ℕ) → Check
+check4_by p q most numbers = refuse_if (ltb numbers (p * q) || ltb most q) 4
 
-abbrev pub mapRest : (p q : ℕ) (coefs : List ℤ) (most numbers : ℕ) → Check
-mapRest p q coefs most numbers = check3 p q coefs then check4By p q most numbers
+abbrev pub map_rest : (p q : ℕ) (coefs : List ℤ) (most numbers : ℕ) → Check
+map_rest p q coefs most numbers = check3 p q coefs then check4_by p q most numbers
 
 -- what every start checks of the map
-unfoldable pub mapChecks : (p q : ℕ) (coefs : List ℤ) (most numbers : ℕ) → Check
-mapChecks p q coefs most numbers = check1 p then check2 q then mapRest p q coefs most numbers
+unfoldable pub map_checks : (p q : ℕ) (coefs : List ℤ) (most numbers : ℕ) → Check
+map_checks p q coefs most numbers = check1 p then check2 q then map_rest p q coefs most numbers
 
-unfoldable pub startChecksBy : (p q : ℕ) (coefs : List ℤ) (most numbers : ℕ) → Check
-startChecksBy p q coefs most numbers = mapChecks p q coefs most numbers then check7 p q coefs
+unfoldable pub start_checks_by : (p q : ℕ) (coefs : List ℤ) (most numbers : ℕ) → Check
+start_checks_by p q coefs most numbers = map_checks p q coefs most numbers then check7 p q coefs
 
 -- the own checks of a start from a list
-abbrev pub listRest : (p q : ℕ) (coefs : List ℤ) (n : ℕ) (rows : List ℕ) (most : ℕ) → Check
-listRest p q coefs n rows most = refuseIf (ltb most n) 4 then check6List q n rows then check7 p q coefs
+abbrev pub list_rest : (p q : ℕ) (coefs : List ℤ) (n : ℕ) (rows : List ℕ) (most : ℕ) → Check
+list_rest p q coefs n rows most = refuse_if (ltb most n) 4 then check6_list q n rows then check7 p q coefs
 
-unfoldable pub startFromChecksBy : (p q : ℕ) (coefs : List ℤ) (n : ℕ) (rows : List ℕ) (most numbers : ℕ) → Check
-startFromChecksBy p q coefs n rows most numbers = mapChecks p q coefs most numbers then listRest p q coefs n rows most
+unfoldable pub start_from_checks_by : (p q : ℕ) (coefs : List ℤ) (n : ℕ) (rows : List ℕ) (most numbers : ℕ) → Check
+start_from_checks_by p q coefs n rows most numbers = map_checks p q coefs most numbers then list_rest p q coefs n rows most
 
-map-then : (p q : ℕ) (coefs : List ℤ) (most numbers : ℕ) (own : Check)
-    → mapChecks p q coefs most numbers then own ≡ check1 p then check2 q then check3 p q coefs then check4By p q most numbers then own
-unfolding mapChecks
-map-then p q coefs most numbers own = simp then-assoc
+map_then : (p q : ℕ) (coefs : List ℤ) (most numbers : ℕ) (own : Check)
+    → map_checks p q coefs most numbers then own ≡ check1 p then check2 q then check3 p q coefs then check4_by p q most numbers then own
+unfolding map_checks
+map_then p q coefs most numbers own = simp then_assoc
 
-pub start-checks : (p q : ℕ) (coefs : List ℤ) (most : ℕ) (w : Work) → startChecksBy p q coefs most (length w.equations) ≡ startChecks p q coefs most w
-unfolding startChecksBy startChecks
-start-checks p q coefs most w = map-then p q coefs most (length w.equations) (check7 p q coefs)
+pub start_checks_lem : (p q : ℕ) (coefs : List ℤ) (most : ℕ) (w : Work) → start_checks_by p q coefs most (length w.equations) ≡ start_checks p q coefs most w
+unfolding start_checks_by start_checks
+start_checks_lem p q coefs most w = map_then p q coefs most (length w.equations) (check7 p q coefs)
 
-pub start-from-checks : (p q : ℕ) (coefs : List ℤ) (n : ℕ) (rows : List ℕ) (most : ℕ) (w : Work)
-    → startFromChecksBy p q coefs n rows most (length w.equations) ≡ startFromChecks p q coefs n rows most w
-unfolding startFromChecksBy startFromChecks
-start-from-checks p q coefs n rows most w = map-then p q coefs most (length w.equations) (listRest p q coefs n rows most)
+pub start_from_checks_lem : (p q : ℕ) (coefs : List ℤ) (n : ℕ) (rows : List ℕ) (most : ℕ) (w : Work)
+    → start_from_checks_by p q coefs n rows most (length w.equations) ≡ start_from_checks p q coefs n rows most w
+unfolding start_from_checks_by start_from_checks
+start_from_checks_lem p q coefs n rows most w = map_then p q coefs most (length w.equations) (list_rest p q coefs n rows most)
 
 module _ (p q : ℕ) (coefs : List ℤ) (most numbers : ℕ) where
-  pub count-refuses : eqb (length coefs) (p * q) ≡ false → refuse 3 [] ≡ mapRest p q coefs most numbers
-  unfolding refuseWith ◌then◌
-  count-refuses e = rw e
+  pub count_refuses : eqb (length coefs) (p * q) ≡ false → refuse 3 [] ≡ map_rest p q coefs most numbers
+  unfolding refuse_with ◌then◌
+  count_refuses e = rw e
 
-  pub short-refuses : eqb (length coefs) (p * q) ≡ true → ltb numbers (p * q) ≡ true → refuse 4 [] ≡ mapRest p q coefs most numbers
-  unfolding refuseWith ◌then◌
-  short-refuses e g = rw (e, g)
+  pub short_refuses : eqb (length coefs) (p * q) ≡ true → ltb numbers (p * q) ≡ true → refuse 4 [] ≡ map_rest p q coefs most numbers
+  unfolding refuse_with ◌then◌
+  short_refuses e g = rw (e, g)
 
-  pub few-refuses : eqb (length coefs) (p * q) ≡ true → ltb numbers (p * q) ≡ false → ltb most q ≡ true → refuse 4 [] ≡ mapRest p q coefs most numbers
-  unfolding refuseWith ◌then◌
-  few-refuses e g h = rw (e, g, h)
+  pub few_refuses : eqb (length coefs) (p * q) ≡ true → ltb numbers (p * q) ≡ false → ltb most q ≡ true → refuse 4 [] ≡ map_rest p q coefs most numbers
+  unfolding refuse_with ◌then◌
+  few_refuses e g h = rw (e, g, h)
 
-  pub rest-passes : eqb (length coefs) (p * q) ≡ true → ltb numbers (p * q) ≡ false → ltb most q ≡ false → go ≡ mapRest p q coefs most numbers
-  unfolding refuseWith ◌then◌
-  rest-passes e g h = rw (e, g, h)
+  pub rest_passes : eqb (length coefs) (p * q) ≡ true → ltb numbers (p * q) ≡ false → ltb most q ≡ false → go ≡ map_rest p q coefs most numbers
+  unfolding refuse_with ◌then◌
+  rest_passes e g h = rw (e, g, h)
 
-  module _ {r : made.Check} (e : checkOf r ≡ mapChecks p q coefs most numbers) (own : Check) where
-    pub map-refused : {why : Refusal} → r ≡ Refuse why → checkOf (Refuse why) ≡ mapChecks p q coefs most numbers then own
+  module _ {r : made.Check} (e : check_of r ≡ map_checks p q coefs most numbers) (own : Check) where
+    pub map_refused : {why : Refusal} → r ≡ Refuse why → check_of (Refuse why) ≡ map_checks p q coefs most numbers then own
     unfolding ◌then◌
-    map-refused g = rw (← e, g)
+    map_refused g = rw (← e, g)
 
-    pub map-passed : {c : Check} → r ≡ Pass → c ≡ own → c ≡ mapChecks p q coefs most numbers then own
+    pub map_passed : {c : Check} → r ≡ Pass → c ≡ own → c ≡ map_checks p q coefs most numbers then own
     unfolding ◌then◌
-    map-passed g h = rw (← e, g) h
+    map_passed g h = rw (← e, g) h
 
 -- the coefficients, where there are as many as the map has
-pub coefficients-are : (p q : ℕ) (coefs : List ℤ) → length coefs ≡ p * q → {c : Check} → c ≡ coefficientChecks coefs → c ≡ check7 p q coefs
-coefficients-are p q coefs n k = rw n at k
+pub coefficients_are : (p q : ℕ) (coefs : List ℤ) → length coefs ≡ p * q → {c : Check} → c ≡ coefficient_checks coefs → c ≡ check7 p q coefs
+coefficients_are p q coefs n k = rw n at k
 
 module _ (p q : ℕ) (coefs : List ℤ) (n : ℕ) (rows : List ℕ) (most : ℕ) where
-  pub list-many : ltb most n ≡ true → refuse 4 [] ≡ listRest p q coefs n rows most
-  unfolding refuseWith ◌then◌
-  list-many e = rw e
+  pub list_many : ltb most n ≡ true → refuse 4 [] ≡ list_rest p q coefs n rows most
+  unfolding refuse_with ◌then◌
+  list_many e = rw e
 
-  pub list-refuses : ltb most n ≡ false → isList q n rows ≡ false → refuse 6 [] ≡ listRest p q coefs n rows most
-  unfolding refuseWith ◌then◌
-  list-refuses e g = rw (e, g)
+  pub list_refuses : ltb most n ≡ false → is_list q n rows ≡ false → refuse 6 [] ≡ list_rest p q coefs n rows most
+  unfolding refuse_with ◌then◌
+  list_refuses e g = rw (e, g)
 
-  pub list-passes : ltb most n ≡ false → isList q n rows ≡ true → {c : Check} → c ≡ check7 p q coefs → c ≡ listRest p q coefs n rows most
-  unfolding refuseWith ◌then◌
-  list-passes e g h = rw (e, g) h
+  pub list_passes : ltb most n ≡ false → is_list q n rows ≡ true → {c : Check} → c ≡ check7 p q coefs → c ≡ list_rest p q coefs n rows most
+  unfolding refuse_with ◌then◌
+  list_passes e g h = rw (e, g) h
 
 -- what holds where the map is not refused
 pub record Starts (p q : ℕ) (coefs : List ℤ) (most numbers : ℕ) : Type 0 where
@@ -134,190 +134,190 @@ pub record Starts (p q : ℕ) (coefs : List ℤ) (most numbers : ℕ) : Type 0 w
   pub whole : p * q ≤ numbers
   pub some : q ≤ most
 
-pub map-starts : (p q : ℕ) (coefs : List ℤ) (most numbers : ℕ) → mapChecks p q coefs most numbers ≡ go → Starts p q coefs most numbers
-unfolding mapChecks
-map-starts p q coefs most numbers e =
-    let (a, e₁) = then-go (check1 p) _ e in
-    let (b, e₂) = then-go (check2 q) _ e₁ in
-    let (c, d) = then-go (check3 p q coefs) _ e₂ in
-    let (s, m) = or-false (ltb numbers (p * q)) (ltb most q) (refuse-if-go _ 4 d) in
+pub map_starts : (p q : ℕ) (coefs : List ℤ) (most numbers : ℕ) → map_checks p q coefs most numbers ≡ go → Starts p q coefs most numbers
+unfolding map_checks
+map_starts p q coefs most numbers e =
+    let (a, e₁) = then_go (check1 p) _ e in
+    let (b, e₂) = then_go (check2 q) _ e₁ in
+    let (c, d) = then_go (check3 p q coefs) _ e₂ in
+    let (s, m) = or_false (ltb numbers (p * q)) (ltb most q) (refuse_if_go _ 4 d) in
     record {
-      size = sized p q (unfold sizeChecks in (ap (λ x. x then check2 q) a ∙ unfold ◌then◌ in b));
-      count = eqb-true (length coefs) (p * q) (not-false _ (refuse-if-go _ 3 c));
+      size = sized p q (unfold size_checks in (ap (λ x. x then check2 q) a ∙ unfold ◌then◌ in b));
+      count = eqb-true (length coefs) (p * q) (not-false _ (refuse_if_go _ 3 c));
       whole = ltb-false numbers (p * q) s;
       some = ltb-false most q m;
     }
   where
-    or-false : (b c : Bool) → (b || c) ≡ false → (b ≡ false) × (c ≡ false)
-    or-false true c e = (e, cc)
-    or-false false c e = (refl, e)
+    or_false : (b c : Bool) → (b || c) ≡ false → (b ≡ false) × (c ≡ false)
+    or_false true c e = (e, cc)
+    or_false false c e = (refl, e)
 
-pub starts : (p q : ℕ) (coefs : List ℤ) (most numbers : ℕ) → startChecksBy p q coefs most numbers ≡ go → Starts p q coefs most numbers
-unfolding startChecksBy
-starts p q coefs most numbers e = map-starts p q coefs most numbers (then-go (mapChecks p q coefs most numbers) _ e).0
+pub starts : (p q : ℕ) (coefs : List ℤ) (most numbers : ℕ) → start_checks_by p q coefs most numbers ≡ go → Starts p q coefs most numbers
+unfolding start_checks_by
+starts p q coefs most numbers e = map_starts p q coefs most numbers (then_go (map_checks p q coefs most numbers) _ e).0
 
-pub starts_from : (p q : ℕ) (coefs : List ℤ) (n : ℕ) (rows : List ℕ) (most numbers : ℕ) → startFromChecksBy p q coefs n rows most numbers ≡ go
+pub starts_from : (p q : ℕ) (coefs : List ℤ) (n : ℕ) (rows : List ℕ) (most numbers : ℕ) → start_from_checks_by p q coefs n rows most numbers ≡ go
     → Starts p q coefs most numbers × (n ≤ most) × (length rows ≡ n * q)
-unfolding startFromChecksBy isList
+unfolding start_from_checks_by is_list
 starts_from p q coefs n rows most numbers e =
-    let (a, e₁) = then-go (mapChecks p q coefs most numbers) _ e in
-    let (b, e₂) = then-go (refuseIf (ltb most n) 4) _ e₁ in
-    let (c, d) = then-go (check6List q n rows) _ e₂ in
-    let h : T (isList q n rows) = rw (not-false (isList q n rows) (refuse-if-go _ 6 c)) tt in
+    let (a, e₁) = then_go (map_checks p q coefs most numbers) _ e in
+    let (b, e₂) = then_go (refuse_if (ltb most n) 4) _ e₁ in
+    let (c, d) = then_go (check6_list q n rows) _ e₂ in
+    let h : T (is_list q n rows) = rw (not-false (is_list q n rows) (refuse_if_go _ 6 c)) tt in
     let (l, _) = and_parts (eqb (length rows) (n * q)) _ h in
-    (map-starts p q coefs most numbers a, ltb-false most n (refuse-if-go _ 4 b), eqb→eq (length rows) (n * q) l)
+    (map_starts p q coefs most numbers a, ltb-false most n (refuse_if_go _ 4 b), eqb→eq (length rows) (n * q) l)
 
 -- ---- a call on a run
 
-abbrev pub standingRest : (p q most room : ℕ) → Work → Check
-standingRest p q most room w = check4 p q most w then check6 p q most room w
+abbrev pub standing_rest : (p q most room : ℕ) → Work → Check
+standing_rest p q most room w = check4 p q most w then check6 p q most room w
 
 unfoldable pub standing : (p q most room : ℕ) → Work → Check
-standing p q most room w = check1 p then check2 q then standingRest p q most room w
+standing p q most room w = check1 p then check2 q then standing_rest p q most room w
 
 module _ (p q most room : ℕ) (w : Work) where
-  pub system-short : ltb (length w.equations) (p * q) ≡ true → refuse 4 [] ≡ standingRest p q most room w
-  unfolding refuseWith ◌then◌
-  system-short e = rw e
+  pub system_short : ltb (length w.equations) (p * q) ≡ true → refuse 4 [] ≡ standing_rest p q most room w
+  unfolding refuse_with ◌then◌
+  system_short e = rw e
 
-  pub basis-short : ltb (length w.equations) (p * q) ≡ false → ltb most q ≡ true → refuse 4 [] ≡ standingRest p q most room w
-  unfolding refuseWith ◌then◌
-  basis-short e g = rw (e, g)
+  pub basis_short : ltb (length w.equations) (p * q) ≡ false → ltb most q ≡ true → refuse 4 [] ≡ standing_rest p q most room w
+  unfolding refuse_with ◌then◌
+  basis_short e g = rw (e, g)
 
-  module _ (e : ltb (length w.equations) (p * q) ≡ false) (g : ltb most q ≡ false) {b : Bool} (o : b ≡ inOrder p q most room w) where
-    pub order-refuses : not b ≡ true → refuse 6 [] ≡ standingRest p q most room w
-    unfolding refuseWith ◌then◌
-    order-refuses h = rw (e, g, ← o, h)
+  module _ (e : ltb (length w.equations) (p * q) ≡ false) (g : ltb most q ≡ false) {b : Bool} (o : b ≡ in_order p q most room w) where
+    pub order_refuses : not b ≡ true → refuse 6 [] ≡ standing_rest p q most room w
+    unfolding refuse_with ◌then◌
+    order_refuses h = rw (e, g, ← o, h)
 
-    pub order-passes : not b ≡ false → go ≡ standingRest p q most room w
-    unfolding refuseWith ◌then◌
-    order-passes h = rw (e, g, ← o, h)
+    pub order_passes : not b ≡ false → go ≡ standing_rest p q most room w
+    unfolding refuse_with ◌then◌
+    order_passes h = rw (e, g, ← o, h)
 
-  standing-then : (own : Check) → standing p q most room w then own ≡ standingThen p q most room w own
+  standing_then_lem : (own : Check) → standing p q most room w then own ≡ standing_then p q most room w own
   unfolding standing
-  standing-then own = simp then-assoc
+  standing_then_lem own = simp then_assoc
 
-  then-none : (c : Check) → c then go ≡ c
+  then_none : (c : Check) → c then go ≡ c
   unfolding ◌then◌
-  then-none (refuse n values) = refl
-  then-none go = refl
+  then_none (refuse n values) = refl
+  then_none go = refl
 
-  pub resume-checks : standing p q most room w ≡ resumeChecks p q most room w
-  unfolding resumeChecks
-  resume-checks = sym (then-none (standing p q most room w)) ∙ standing-then go
+  pub resume_checks_lem : standing p q most room w ≡ resume_checks p q most room w
+  unfolding resume_checks
+  resume_checks_lem = sym (then_none (standing p q most room w)) ∙ standing_then_lem go
 
-  module _ {r : made.Check} (e : checkOf r ≡ standing p q most room w) (own : Check) where
-    pub standing-refused : {why : Refusal} → r ≡ Refuse why → checkOf (Refuse why) ≡ standingThen p q most room w own
+  module _ {r : made.Check} (e : check_of r ≡ standing p q most room w) (own : Check) where
+    pub standing_refused : {why : Refusal} → r ≡ Refuse why → check_of (Refuse why) ≡ standing_then p q most room w own
     unfolding ◌then◌
-    standing-refused g = rw (← standing-then own, ← e, g)
+    standing_refused g = rw (← standing_then_lem own, ← e, g)
 
-    pub standing-passed : {c : Check} → r ≡ Pass → c ≡ own → c ≡ standingThen p q most room w own
+    pub standing_passed : {c : Check} → r ≡ Pass → c ≡ own → c ≡ standing_then p q most room w own
     unfolding ◌then◌
-    standing-passed g h = rw (← standing-then own, ← e, g) h
+    standing_passed g h = rw (← standing_then_lem own, ← e, g) h
 
 -- what holds where it is not refused
 pub record Stands (p q most room : ℕ) (w : Work) : Type 0 where
   pub size : Sized p q
   pub whole : p * q ≤ length w.equations
   pub some : q ≤ most
-  pub order : inOrder p q most room w ≡ true
+  pub order : in_order p q most room w ≡ true
 
 pub stands : (p q most room : ℕ) (w : Work) → standing p q most room w ≡ go → Stands p q most room w
 unfolding standing
 stands p q most room w e =
-    let (a, e₁) = then-go (check1 p) _ e in
-    let (b, e₂) = then-go (check2 q) _ e₁ in
-    let (c, d) = then-go (check4 p q most w) _ e₂ in
-    let (s, m) = or-false (ltb (length w.equations) (p * q)) (ltb most q) (refuse-if-go _ 4 c) in
+    let (a, e₁) = then_go (check1 p) _ e in
+    let (b, e₂) = then_go (check2 q) _ e₁ in
+    let (c, d) = then_go (check4 p q most w) _ e₂ in
+    let (s, m) = or_false (ltb (length w.equations) (p * q)) (ltb most q) (refuse_if_go _ 4 c) in
     record {
-      size = sized p q (unfold sizeChecks in (ap (λ x. x then check2 q) a ∙ unfold ◌then◌ in b));
+      size = sized p q (unfold size_checks in (ap (λ x. x then check2 q) a ∙ unfold ◌then◌ in b));
       whole = ltb-false (length w.equations) (p * q) s;
       some = ltb-false most q m;
-      order = not-false _ (refuse-if-go _ 6 d);
+      order = not-false _ (refuse_if_go _ 6 d);
     }
   where
-    or-false : (b c : Bool) → (b || c) ≡ false → (b ≡ false) × (c ≡ false)
-    or-false true c e = (e, cc)
-    or-false false c e = (refl, e)
+    or_false : (b c : Bool) → (b || c) ≡ false → (b ≡ false) × (c ≡ false)
+    or_false true c e = (e, cc)
+    or_false false c e = (refl, e)
 
 -- ---- what is a call's own
 
-pub first-refuses : (b : Bool) (n : ℕ) (own : Check) → b ≡ false → refuse n [] ≡ refuseIf (not b) n then own
-unfolding refuseWith ◌then◌
-first-refuses b n own e = rw e
+pub first_refuses : (b : Bool) (n : ℕ) (own : Check) → b ≡ false → refuse n [] ≡ refuse_if (not b) n then own
+unfolding refuse_with ◌then◌
+first_refuses b n own e = rw e
 
-pub first_passes : (b : Bool) (n : ℕ) (own : Check) {c : Check} → b ≡ true → c ≡ own → c ≡ refuseIf (not b) n then own
-unfolding refuseWith ◌then◌
+pub first_passes : (b : Bool) (n : ℕ) (own : Check) {c : Check} → b ≡ true → c ≡ own → c ≡ refuse_if (not b) n then own
+unfolding refuse_with ◌then◌
 first_passes b n own e h = rw e h
 
-pub last-refuses : (b : Bool) (n : ℕ) → b ≡ false → refuse n [] ≡ refuseIf (not b) n
-unfolding refuseWith
-last-refuses b n e = rw e
+pub last_refuses : (b : Bool) (n : ℕ) → b ≡ false → refuse n [] ≡ refuse_if (not b) n
+unfolding refuse_with
+last_refuses b n e = rw e
 
-pub last-passes : (b : Bool) (n : ℕ) → b ≡ true → go ≡ refuseIf (not b) n
-unfolding refuseWith
-last-passes b n e = rw e
+pub last_passes : (b : Bool) (n : ℕ) → b ≡ true → go ≡ refuse_if (not b) n
+unfolding refuse_with
+last_passes b n e = rw e
 
 -- ---- what the own checks need of a run that stands
 
 module _ {p q most room : ℕ} {w : Work} (s : Stands p q most room w) where
-  coefficient-small : (k : ℕ) → k < p * q → nat_abs (get_or w.equations k (pos 0)) ≤ coefficientLimit
-  unfolding inOrder coefficientsSmall
-  coefficient-small k l =
-      let t : T (inOrder p q most room w) = rw s.order tt in
+  coefficient_small : (k : ℕ) → k < p * q → nat_abs (get_or w.equations k (pos 0)) ≤ coefficient_limit
+  unfolding in_order coefficients_small
+  coefficient_small k l =
+      let t : T (in_order p q most room w) = rw s.order tt in
       let (_, e₁) = and_parts (leb w.count most && leb w.stage.rows room) _ t in
-      let (_, e₂) = and_parts (leb w.stage.steps stepLimit && ltb w.done (2 ^ p)) _ e₁ in
-      let (_, e₃) = and_parts (marksInOrder p w.done w.equation) _ e₂ in
-      let (d, _) = and_parts (coefficientsSmall (p * q) w.equations) _ e₃ in
-      leb→le (nat_abs (get_or w.equations k (pos 0))) coefficientLimit (all-at (p * q) _ d k l)
+      let (_, e₂) = and_parts (leb w.stage.steps step_limit && ltb w.done (2 ^ p)) _ e₁ in
+      let (_, e₃) = and_parts (marks_in_order p w.done w.equation) _ e₂ in
+      let (d, _) = and_parts (coefficients_small (p * q) w.equations) _ e₃ in
+      leb→le (nat_abs (get_or w.equations k (pos 0))) coefficient_limit (all_at (p * q) _ d k l)
 
   -- the rows of the basis
-  pub basis-small : most * q ≤ length w.basis → SmallTable q w.count w.basis
-  unfolding inOrder is_row
-  basis-small long =
-      let t : T (inOrder p q most room w) = rw s.order tt in
+  pub basis_small : most * q ≤ length w.basis → SmallTable q w.count w.basis
+  unfolding in_order is_row
+  basis_small long =
+      let t : T (in_order p q most room w) = rw s.order tt in
       let (few, e₁) = and_parts (leb w.count most && leb w.stage.rows room) _ t in
-      let (_, e₂) = and_parts (leb w.stage.steps stepLimit && ltb w.done (2 ^ p)) _ e₁ in
-      let (_, e₃) = and_parts (marksInOrder p w.done w.equation) _ e₂ in
-      let (_, e₄) = and_parts (coefficientsSmall (p * q) w.equations) _ e₃ in
-      let (rows, _) = and_parts (allTo w.count (λ i. is_row q (basisRow q w i))) _ e₄ in
+      let (_, e₂) = and_parts (leb w.stage.steps step_limit && ltb w.done (2 ^ p)) _ e₁ in
+      let (_, e₃) = and_parts (marks_in_order p w.done w.equation) _ e₂ in
+      let (_, e₄) = and_parts (coefficients_small (p * q) w.equations) _ e₃ in
+      let (rows, _) = and_parts (all_to w.count (λ i. is_row q (basis_row q w i))) _ e₄ in
       let low : w.count ≤ most = leb→le w.count most (and_parts (leb w.count most) _ few).0 in
       record {
         few = s.size.unknowns;
         whole = omega (arith, mul-le-mul_right q low);
-        small = λ i j l jq. small-from q (basisRow q w i) (and_parts (isSmall q (basisRow q w i)) _ (all-at w.count _ rows i l)).0 j jq;
+        small = λ i j l jq. small_from q (basis_row q w i) (and_parts (is_small q (basis_row q w i)) _ (all_at w.count _ rows i l)).0 j jq;
       }
 
-  pub equation-small : (i : ℕ) → i < p → SmallEquation q w.equations (i * q)
-  equation-small i l =
+  pub equation_small : (i : ℕ) → i < p → SmallEquation q w.equations (i * q)
+  equation_small i l =
       record {
         unknowns = s.size.unknowns;
         whole = omega (arith, s.whole, row_fits q i p l);
-        small = λ j jq. coefficient-small (i * q + j) (omega (arith, row_fits q i p l));
+        small = λ j jq. coefficient_small (i * q + j) (omega (arith, row_fits q i p l));
       }
 
 -- 32 of a row operation: the equation is left, and there is the other one
 pub left_other : (b d : Bool) → b ≡ true → d ≡ true → (b && d) ≡ true
 left_other b d e g = rw (e, g)
 
-pub left-none : (b d : Bool) → b ≡ false → (b && d) ≡ false
-left-none b d e = rw e
+pub left_none : (b d : Bool) → b ≡ false → (b && d) ≡ false
+left_none b d e = rw e
 
-pub left-past : (b d : Bool) → d ≡ false → (b && d) ≡ false
-left-past true d e = e
-left-past false d e = refl
+pub left_past : (b d : Bool) → d ≡ false → (b && d) ≡ false
+left_past true d e = e
+left_past false d e = refl
 
 -- 33: no unknown, or a fresh one
-pub none-asked : (b d : Bool) → b ≡ true → (b || d) ≡ true
-none-asked b d e = rw e
+pub none_asked : (b d : Bool) → b ≡ true → (b || d) ≡ true
+none_asked b d e = rw e
 
-pub fresh-asked : (b d : Bool) {x : Bool} → b ≡ false → d ≡ x → (b || d) ≡ x
-fresh-asked b d e g = rw e g
+pub fresh_asked : (b d : Bool) {x : Bool} → b ≡ false → d ≡ x → (b || d) ≡ x
+fresh_asked b d e g = rw e g
 
 -- an equation that is left is one of p
-pub left_below : (p e equation done : ℕ) → leftBy p e equation done ≡ true → e < p
+pub left_below : (p e equation done : ℕ) → left_by p e equation done ≡ true → e < p
 left_below p e equation done h =
-    let t : T (leftBy p e equation done) = rw h tt in
+    let t : T (left_by p e equation done) = rw h tt in
     let (_, a) = and_parts (eqb equation p) _ t in
     let (b, _) = and_parts (ltb e p) _ a in
     ltb→lt e p b

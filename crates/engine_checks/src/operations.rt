@@ -3,14 +3,14 @@ ghost use Rattle.std.specs.Prelude.{not, ◌||◌, ◌≡◌, ◌+◌, ◌*◌, 
 ghost use Rattle.std.specs.Int.{w64};
 ghost use Rattle.std.proofs.Common.{SFits};
 ghost use Rattle.definitions.specs.System.{is_zero};
-ghost use Rattle.engine_spec.specs.Beside.{SmallEquation, coefficientLimit};
-ghost use Rattle.engine_checks.specs.Operating.{combinesSmall, operationBy};
+ghost use Rattle.engine_spec.specs.Beside.{SmallEquation, coefficient_limit};
+ghost use Rattle.engine_checks.specs.Operating.{combines_small, operation_by};
 
 use crate::signs;
 
 pub fn is_operation(equations: &[i32], q: usize, r: usize, s: usize, u: i32, t: i32) -> bool
     requires { SmallEquation q equations.now (r * q) × SmallEquation q equations.now (s * q) }
-    ensures { result ≡ operationBy q r s u t equations.now }
+    ensures { result ≡ operation_by q r s u t equations.now }
 {
     if signs::is_zero(u) {
         return false;
@@ -34,7 +34,7 @@ fn is_apart(r: usize, s: usize, t: i32) -> bool
 // Whether no coefficient leads out of the limit, of the equations from places x and y.
 fn combines_small(equations: &[i32], q: usize, x: usize, y: usize, u: i32, t: i32) -> bool
     requires { SmallEquation q equations.now x × SmallEquation q equations.now y }
-    ensures { result ≡ combinesSmall q x y u t equations.now }
+    ensures { result ≡ combines_small q x y u t equations.now }
 {
     let mut j = 0;
     while j < q {
@@ -48,7 +48,7 @@ fn combines_small(equations: &[i32], q: usize, x: usize, y: usize, u: i32, t: i3
 
 // u times x and t times y.
 pub fn combined(u: i32, x: i32, t: i32, y: i32) -> i64
-    requires { (nat_abs x ≤ coefficientLimit) × (nat_abs y ≤ coefficientLimit) }
+    requires { (nat_abs x ≤ coefficient_limit) × (nat_abs y ≤ coefficient_limit) }
     ensures { result ≡ (u *ℤ x) +ℤ (t *ℤ y) }
 {
     products(wide(u), wide(x), wide(t), wide(y))

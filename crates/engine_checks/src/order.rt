@@ -3,9 +3,9 @@ ghost use Rattle.std.specs.Prelude.{◌≡◌, ◌*◌, ◌≤◌, length};
 ghost use Rattle.linear.specs.Tuples.{total};
 ghost use Rattle.definitions.specs.Tables.{at};
 ghost use Rattle.engine_spec.specs.Beside.{SmallTable};
-ghost use Rattle.engine_spec.specs.Calls.{coefficientsSmall, inOrder, isList, isRising, marksInOrder, rowLimit};
-ghost use Rattle.engine_beside.specs.Records.{workOf};
-ghost use Rattle.engine_checks.specs.Order.{Within, areRows, noneZero, recordInOrder, risesBy};
+ghost use Rattle.engine_spec.specs.Calls.{coefficients_small, in_order, is_list, is_rising, marks_in_order, row_limit};
+ghost use Rattle.engine_beside.specs.Records.{work_of};
+ghost use Rattle.engine_checks.specs.Order.{Within, are_rows, none_zero, record_in_order, rises_by};
 
 use crate::signs;
 use engine_beside::{Record, degrees, small};
@@ -21,7 +21,7 @@ pub fn in_order(
     r: Record,
 ) -> bool
     requires { Within p q most room (length equations.now) (length basis.now) (length table.now) }
-    ensures { result ≡ inOrder p q most room (workOf equations.now basis.now table.now r) }
+    ensures { result ≡ in_order p q most room (work_of equations.now basis.now table.now r) }
 {
     let count = r.count.0;
     let n = r.rows;
@@ -54,7 +54,7 @@ fn record_in_order(
     equation: usize,
 ) -> bool
     requires { p ≤ 32 }
-    ensures { result ≡ recordInOrder p most room count rows steps done equation }
+    ensures { result ≡ record_in_order p most room count rows steps done equation }
 {
     if most < count {
         return false;
@@ -75,7 +75,7 @@ fn record_in_order(
 // Whether the equation under way is not done.
 fn marks_in_order(p: usize, done: u32, equation: usize) -> bool
     requires { p ≤ 32 }
-    ensures { result ≡ marksInOrder p done equation }
+    ensures { result ≡ marks_in_order p done equation }
 {
     if p < equation {
         return false;
@@ -89,7 +89,7 @@ fn marks_in_order(p: usize, done: u32, equation: usize) -> bool
 // Whether the first n coefficients of the working system are within their limit.
 fn coefficients_small(equations: &[i32], n: usize) -> bool
     requires { n ≤ length equations.now }
-    ensures { result ≡ coefficientsSmall n equations.now }
+    ensures { result ≡ coefficients_small n equations.now }
 {
     let mut i = 0;
     while i < n {
@@ -104,7 +104,7 @@ fn coefficients_small(equations: &[i32], n: usize) -> bool
 // Whether each of the first m rows is within the component limit and not all zero.
 fn are_rows(table: &[u32], m: usize, q: usize) -> bool
     requires { (q ≤ 32) × (m * q ≤ length table.now) }
-    ensures { result ≡ areRows q m (at table.now q) }
+    ensures { result ≡ are_rows q m (at table.now q) }
 {
     if !small::small_rows(table, m, q) {
         return false;
@@ -114,8 +114,8 @@ fn are_rows(table: &[u32], m: usize, q: usize) -> bool
 
 // Whether a list handed over is n rows of q numbers, each within the component limit and not all zero.
 pub fn is_list(rows: &[u32], n: usize, q: usize) -> bool
-    requires { (q ≤ 32) × (n ≤ rowLimit) }
-    ensures { result ≡ isList q n rows.now }
+    requires { (q ≤ 32) × (n ≤ row_limit) }
+    ensures { result ≡ is_list q n rows.now }
 {
     if rows.len() != n * q {
         return false;
@@ -126,7 +126,7 @@ pub fn is_list(rows: &[u32], n: usize, q: usize) -> bool
 // Whether none of the first m rows is all zero.
 fn none_zero(table: &[u32], m: usize, q: usize) -> bool
     requires { SmallTable q m table.now }
-    ensures { result ≡ noneZero q m (at table.now q) }
+    ensures { result ≡ none_zero q m (at table.now q) }
 {
     let mut i = 0;
     while i < m {
@@ -141,7 +141,7 @@ fn none_zero(table: &[u32], m: usize, q: usize) -> bool
 // Whether no degree of the first n rows is 0, below the one before or above d.
 fn rising(table: &[u32], n: usize, q: usize, d: u64) -> bool
     requires { SmallTable q n table.now }
-    ensures { result ≡ isRising n (λ i. total (at table.now q i) q) d }
+    ensures { result ≡ is_rising n (λ i. total (at table.now q i) q) d }
 {
     let mut before: u32 = 0;
     let mut i = 0;
@@ -157,7 +157,7 @@ fn rising(table: &[u32], n: usize, q: usize, d: u64) -> bool
 }
 
 fn rises(before: u32, degree: u32, d: u64) -> bool
-    ensures { result ≡ risesBy before degree d }
+    ensures { result ≡ rises_by before degree d }
 {
     if degree == 0 {
         return false;

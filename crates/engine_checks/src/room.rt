@@ -1,11 +1,11 @@
 // The rows that find room in what is lent.
 ghost use Rattle.std.specs.Prelude.{◌≡◌, min};
-ghost use Rattle.engine_spec.specs.Calls.{rowsIn};
-ghost use Rattle.engine_checks.specs.Room.{basisRows, stageRows};
+ghost use Rattle.engine_spec.specs.Calls.{rows_in};
+ghost use Rattle.engine_checks.specs.Room.{basis_rows, stage_rows};
 
 // Those of the basis, from the numbers of entries of its table and of the degrees beside it.
 pub fn basis_room(q: usize, basis: usize, sizes: usize) -> usize
-    ensures { result ≡ basisRows q basis sizes }
+    ensures { result ≡ basis_rows q basis sizes }
 {
     smaller(rows_in(q, basis), sizes)
 }
@@ -20,7 +20,7 @@ pub fn stage_room(
     marks: usize,
     mothers: usize,
 ) -> usize
-    ensures { result ≡ stageRows q table values words degrees marks mothers }
+    ensures { result ≡ stage_rows q table values words degrees marks mothers }
 {
     smaller(
         smaller(smaller(rows_in(q, table), values), smaller(words, degrees)),
@@ -29,7 +29,7 @@ pub fn stage_room(
 }
 
 fn rows_in(q: usize, numbers: usize) -> usize
-    ensures { result ≡ rowsIn q numbers }
+    ensures { result ≡ rows_in q numbers }
 {
     if q == 0 {
         return 0;

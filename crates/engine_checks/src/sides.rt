@@ -3,9 +3,9 @@ ghost use Rattle.std.specs.Prelude.{◌≡◌, ◌*◌, neg_ℤ, ◌+ℤ◌, len
 ghost use Rattle.std.specs.Int.{w64};
 ghost use Rattle.std.proofs.Common.{SFits};
 ghost use Rattle.linear.specs.Systems.{value};
-ghost use Rattle.engine_spec.specs.Beside.{SmallEquation, SmallRow, equationAt, row_at};
-ghost use Rattle.calls.specs.Paper.{checkOf};
-ghost use Rattle.engine_checks.specs.Sides.{Ranged, Shaped, numberChecks, rangeChecks, shapeChecks, sideChecks, sidesChecksBy};
+ghost use Rattle.engine_spec.specs.Beside.{SmallEquation, SmallRow, equation_at, row_at};
+ghost use Rattle.calls.specs.Paper.{check_of};
+ghost use Rattle.engine_checks.specs.Sides.{Ranged, Shaped, number_checks, range_checks, shape_checks, side_checks, sides_checks_by};
 
 use crate::{room, signs, sizes as limits};
 use calls::{Check, Refusal};
@@ -22,7 +22,7 @@ pub fn check(
     basis: usize,
     sizes: usize,
 ) -> Check
-    ensures { checkOf result ≡ sidesChecksBy p q coefs.now rights.now lower.now equations basis sizes }
+    ensures { check_of result ≡ sides_checks_by p q coefs.now rights.now lower.now equations basis sizes }
 {
     match check_shape(
         p,
@@ -50,7 +50,7 @@ pub fn check_shape(
     basis: usize,
     sizes: usize,
 ) -> Check
-    ensures { checkOf result ≡ shapeChecks p q coefs rights lower equations basis sizes }
+    ensures { check_of result ≡ shape_checks p q coefs rights lower equations basis sizes }
 {
     match limits::check(p, q) {
         Check::Refuse(why) => Check::Refuse(why),
@@ -81,7 +81,7 @@ pub fn check_shape(
 // The first coefficient out of range, then the numbers beside them.
 fn check_range(p: usize, q: usize, coefs: &[i32], rights: &[i32], lower: &[u32]) -> Check
     requires { Shaped p q (length coefs.now) (length rights.now) (length lower.now) }
-    ensures { checkOf result ≡ rangeChecks p q coefs.now rights.now lower.now }
+    ensures { check_of result ≡ range_checks p q coefs.now rights.now lower.now }
 {
     match coefficients::check(coefs) {
         Check::Refuse(why) => Check::Refuse(why),
@@ -92,7 +92,7 @@ fn check_range(p: usize, q: usize, coefs: &[i32], rights: &[i32], lower: &[u32])
 // The bound, the right sides, and what the bound leaves of these.
 fn check_numbers(p: usize, q: usize, coefs: &[i32], rights: &[i32], lower: &[u32]) -> Check
     requires { Ranged p q coefs.now (length rights.now) (length lower.now) }
-    ensures { checkOf result ≡ numberChecks p q coefs.now rights.now lower.now }
+    ensures { check_of result ≡ number_checks p q coefs.now rights.now lower.now }
 {
     if !small::small_at(lower, 0, q) {
         return Check::Refuse(Refusal::BoundRange);
@@ -106,7 +106,7 @@ fn check_numbers(p: usize, q: usize, coefs: &[i32], rights: &[i32], lower: &[u32
 // The first right side beyond the working system's limit, less what the bound makes of its equation.
 fn check_sides(p: usize, q: usize, coefs: &[i32], rights: &[i32], lower: &[u32]) -> Check
     requires { Ranged p q coefs.now (length rights.now) (length lower.now) × SmallRow q lower.now 0 }
-    ensures { checkOf result ≡ sideChecks p p q coefs.now rights.now lower.now }
+    ensures { check_of result ≡ side_checks p p q coefs.now rights.now lower.now }
 {
     let mut i = 0;
     while i < p {
@@ -121,7 +121,7 @@ fn check_sides(p: usize, q: usize, coefs: &[i32], rights: &[i32], lower: &[u32])
 // A right side, less what the bound makes of the equation that stands in the coefficients from place `from`.
 pub fn side_at(coefs: &[i32], from: usize, q: usize, right: i32, lower: &[u32]) -> i64
     requires { SmallEquation q coefs.now from × SmallRow q lower.now 0 }
-    ensures { result ≡ right +ℤ neg_ℤ (value (equationAt coefs.now from) q (row_at lower.now 0)) }
+    ensures { result ≡ right +ℤ neg_ℤ (value (equation_at coefs.now from) q (row_at lower.now 0)) }
 {
     less(right, values::value_at(coefs, from, lower, 0, q))
 }

@@ -2,8 +2,8 @@
 ghost use Rattle.std.specs.Prelude.{not, ◌||◌, ◌≡◌, ◌<◌, leb, nat_abs};
 ghost use Rattle.definitions.specs.System.{is_zero};
 ghost use Rattle.definitions.specs.Tables.{frozen};
-ghost use Rattle.engine_spec.specs.Beside.{coefficientLimit};
-ghost use Rattle.engine_spec.specs.Calls.{isMinusOne};
+ghost use Rattle.engine_spec.specs.Beside.{coefficient_limit};
+ghost use Rattle.engine_spec.specs.Calls.{is_minus_one};
 
 // The most that a coefficient of the working system may be, above zero or below.
 const COEFFICIENT_LIMIT: i64 = 1000000;
@@ -18,7 +18,7 @@ pub fn is_zero(x: i32) -> bool
 }
 
 pub fn is_minus_one(x: i32) -> bool
-    ensures { result ≡ isMinusOne x }
+    ensures { result ≡ is_minus_one x }
 {
     if x < -1 {
         return false;
@@ -28,14 +28,14 @@ pub fn is_minus_one(x: i32) -> bool
 
 // Whether a coefficient is within the working system's limit.
 pub fn is_small(x: i32) -> bool
-    ensures { result ≡ leb (nat_abs x) coefficientLimit }
+    ensures { result ≡ leb (nat_abs x) coefficient_limit }
 {
     will_be_small(x as i64)
 }
 
 // The same of one that is yet to be written.
 pub fn will_be_small(x: i64) -> bool
-    ensures { result ≡ leb (nat_abs x) coefficientLimit }
+    ensures { result ≡ leb (nat_abs x) coefficient_limit }
 {
     if x < -COEFFICIENT_LIMIT {
         return false;

@@ -1,9 +1,9 @@
 // What each call checks before its work.
 ghost use Rattle.std.specs.Prelude.{◌≡◌, ◌*◌, ◌≤◌, length};
-ghost use Rattle.engine_spec.specs.Calls.{combineChecks, rowLimit, takeChecks};
-ghost use Rattle.calls.specs.Paper.{checkOf};
-ghost use Rattle.engine_beside.specs.Records.{workOf};
-ghost use Rattle.engine_checks.specs.Standing.{Roomed, mapChecks, standing, startChecksBy, startFromChecksBy};
+ghost use Rattle.engine_spec.specs.Calls.{combine_checks, row_limit, take_checks};
+ghost use Rattle.calls.specs.Paper.{check_of};
+ghost use Rattle.engine_beside.specs.Records.{work_of};
+ghost use Rattle.engine_checks.specs.Standing.{Roomed, map_checks, standing, start_checks_by, start_from_checks_by};
 
 use crate::{operations, order, sizes, taking};
 use calls::{Check, Refusal};
@@ -12,7 +12,7 @@ use engine_beside::Record;
 
 // A start, with room for `most` rows in the basis: refusals 1, 2, 3, 4 and 7.
 pub fn check_start(p: usize, q: usize, coefs: &[i32], equations: usize, most: usize) -> Check
-    ensures { checkOf result ≡ startChecksBy p q coefs.now most equations }
+    ensures { check_of result ≡ start_checks_by p q coefs.now most equations }
 {
     match check_map(p, q, coefs, equations, most) {
         Check::Refuse(why) => Check::Refuse(why),
@@ -30,8 +30,8 @@ pub fn check_start_from(
     equations: usize,
     most: usize,
 ) -> Check
-    requires { most ≤ rowLimit }
-    ensures { checkOf result ≡ startFromChecksBy p q coefs.now n rows.now most equations }
+    requires { most ≤ row_limit }
+    ensures { check_of result ≡ start_from_checks_by p q coefs.now n rows.now most equations }
 {
     match check_map(p, q, coefs, equations, most) {
         Check::Refuse(why) => Check::Refuse(why),
@@ -49,7 +49,7 @@ pub fn check_start_from(
 
 // What every start checks of the map: refusals 1, 2, 3 and 4.
 fn check_map(p: usize, q: usize, coefs: &[i32], equations: usize, most: usize) -> Check
-    ensures { checkOf result ≡ mapChecks p q coefs.now most equations }
+    ensures { check_of result ≡ map_checks p q coefs.now most equations }
 {
     match sizes::check(p, q) {
         Check::Refuse(why) => Check::Refuse(why),
@@ -80,7 +80,7 @@ pub fn check_standing(
     r: Record,
 ) -> Check
     requires { Roomed q most room (length basis.now) (length table.now) }
-    ensures { checkOf result ≡ standing p q most room (workOf equations.now basis.now table.now r) }
+    ensures { check_of result ≡ standing p q most room (work_of equations.now basis.now table.now r) }
 {
     match sizes::check(p, q) {
         Check::Refuse(why) => Check::Refuse(why),
@@ -113,7 +113,7 @@ pub fn check_take(
     f: usize,
 ) -> Check
     requires { Roomed q most room (length basis.now) (length table.now) }
-    ensures { checkOf result ≡ takeChecks p q most room e f (workOf equations.now basis.now table.now r) }
+    ensures { check_of result ≡ take_checks p q most room e f (work_of equations.now basis.now table.now r) }
 {
     match check_standing(p, q, equations, basis, table, most, room, r) {
         Check::Refuse(why) => Check::Refuse(why),
@@ -151,7 +151,7 @@ pub fn check_combine(
     t: i32,
 ) -> Check
     requires { Roomed q most room (length basis.now) (length table.now) }
-    ensures { checkOf result ≡ combineChecks p q most room r s u t (workOf equations.now basis.now table.now run) }
+    ensures { check_of result ≡ combine_checks p q most room r s u t (work_of equations.now basis.now table.now run) }
 {
     match check_standing(p, q, equations, basis, table, most, room, run) {
         Check::Refuse(why) => Check::Refuse(why),

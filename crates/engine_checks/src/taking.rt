@@ -2,9 +2,9 @@
 ghost use Rattle.std.specs.Prelude.{not, ◌≡◌, ◌*◌, ◌+◌, ◌≤◌, ◌<◌, length};
 ghost use Rattle.definitions.specs.Tables.{at};
 ghost use Rattle.engine_spec.specs.Beside.{SmallRow, SmallTable, row_at};
-ghost use Rattle.engine_spec.specs.Calls.{isAlone};
-ghost use Rattle.engine_spec.specs.Caps.{isCapped};
-ghost use Rattle.engine_checks.specs.Taking.{freeIn, freshBy, hasUnknown, leftBy, unitOrLacks, unitsOrLack};
+ghost use Rattle.engine_spec.specs.Calls.{is_alone};
+ghost use Rattle.engine_spec.specs.Caps.{is_capped};
+ghost use Rattle.engine_checks.specs.Taking.{free_in, fresh_by, has_unknown, left_by, unit_or_lacks, units_or_lack};
 
 use crate::signs;
 use engine_beside::degrees;
@@ -12,7 +12,7 @@ use engine_beside::degrees;
 // Whether there is no stage under way, and equation e is not done.
 pub fn is_left(p: usize, e: usize, equation: usize, done: u32) -> bool
     requires { p ≤ 32 }
-    ensures { result ≡ leftBy p e equation done }
+    ensures { result ≡ left_by p e equation done }
 {
     if equation != p {
         return false;
@@ -34,7 +34,7 @@ pub fn is_fresh(
     cap: u64,
 ) -> bool
     requires { (p ≤ 32) × (p * q ≤ length equations.now) × (e < p) }
-    ensures { result ≡ freshBy cap p q e f equations.now done }
+    ensures { result ≡ fresh_by cap p q e f equations.now done }
 {
     if is_capped(cap, f) {
         return false;
@@ -50,7 +50,7 @@ pub fn is_fresh(
 
 // Whether the unknown f is the one that a cap is on.
 fn is_capped(cap: u64, f: usize) -> bool
-    ensures { result ≡ isCapped cap f }
+    ensures { result ≡ is_capped cap f }
 {
     if cap == 0 {
         return false;
@@ -60,7 +60,7 @@ fn is_capped(cap: u64, f: usize) -> bool
 
 fn free_in(equations: &[i32], p: usize, q: usize, f: usize, done: u32) -> bool
     requires { (p ≤ 32) × (p * q ≤ length equations.now) × (f < q) }
-    ensures { result ≡ freeIn p q f equations.now done }
+    ensures { result ≡ free_in p q f equations.now done }
 {
     let mut i = 0;
     while i < p {
@@ -75,7 +75,7 @@ fn free_in(equations: &[i32], p: usize, q: usize, f: usize, done: u32) -> bool
 // Whether of the first m rows one has the unknown f, and only rows of degree 1.
 pub fn is_alone(basis: &[u32], m: usize, q: usize, f: usize) -> bool
     requires { SmallTable q m basis.now × (f < q) }
-    ensures { result ≡ isAlone q f m (at basis.now q) }
+    ensures { result ≡ is_alone q f m (at basis.now q) }
 {
     if !has(basis, m, q, f) {
         return false;
@@ -86,7 +86,7 @@ pub fn is_alone(basis: &[u32], m: usize, q: usize, f: usize) -> bool
 // Whether one of the first m rows has the unknown f.
 fn has(basis: &[u32], m: usize, q: usize, f: usize) -> bool
     requires { (m * q ≤ length basis.now) × (f < q) }
-    ensures { result ≡ hasUnknown q f m basis.now }
+    ensures { result ≡ has_unknown q f m basis.now }
 {
     let mut i = 0;
     while i < m {
@@ -101,7 +101,7 @@ fn has(basis: &[u32], m: usize, q: usize, f: usize) -> bool
 // Whether each of them lacks it or has degree 1.
 fn units_or_lack(basis: &[u32], m: usize, q: usize, f: usize) -> bool
     requires { SmallTable q m basis.now × (f < q) }
-    ensures { result ≡ unitsOrLack q f m basis.now }
+    ensures { result ≡ units_or_lack q f m basis.now }
 {
     let mut i = 0;
     while i < m {
@@ -115,7 +115,7 @@ fn units_or_lack(basis: &[u32], m: usize, q: usize, f: usize) -> bool
 
 fn unit_or_lacks(basis: &[u32], base: usize, q: usize, f: usize) -> bool
     requires { (q ≤ 32) × SmallRow q basis.now base × (f < q) }
-    ensures { result ≡ unitOrLacks q f (row_at basis.now base) }
+    ensures { result ≡ unit_or_lacks q f (row_at basis.now base) }
 {
     if basis[base + f] == 0 {
         return true;

@@ -3,7 +3,7 @@ ghost use Rattle.std.specs.Prelude.{◌≡◌, ◌+◌, ◌^◌, ◌-◌, ◌≤
 ghost use Rattle.definitions.specs.Answers.{complete, paused};
 ghost use Rattle.engine_spec.specs.Engine.{finish as finishOf};
 ghost use Rattle.calls.specs.Paper.{answer_of};
-ghost use Rattle.engine_beside.specs.Records.{outcomeOf, workOf};
+ghost use Rattle.engine_beside.specs.Records.{outcome_of, work_of};
 ghost use Rattle.engine_ends.specs.Closing.{Closing, Ends, RestsLeft};
 
 use calls::{Answer, Refusal, Solutions, Steps};
@@ -21,8 +21,8 @@ pub fn finish(
     r: Record,
 ) -> Outcome
     requires { Closing p q most equations.now basis.old table.now values.now r }
-    ensures { outcomeOf result equations.now basis.new table.now
-        ≡ finishOf p q most (workOf equations.now basis.old table.now r) }
+    ensures { outcome_of result equations.now basis.new table.now
+        ≡ finishOf p q most (work_of equations.now basis.old table.now r) }
 {
     if r.fresh < q {
         return finish_fresh(p, q, most, equations, basis, table, values, r);
@@ -42,8 +42,8 @@ fn finish_plain(
     r: Record,
 ) -> Outcome
     requires { Closing p q most equations.now basis.old table.now values.now r × (q ≤ r.fresh) }
-    ensures { outcomeOf result equations.now basis.new table.now
-        ≡ finishOf p q most (workOf equations.now basis.old table.now r) }
+    ensures { outcome_of result equations.now basis.new table.now
+        ≡ finishOf p q most (work_of equations.now basis.old table.now r) }
 {
     let n = r.rows;
     let count = packing::count_zeros(values, n);
@@ -66,8 +66,8 @@ fn finish_fresh(
     r: Record,
 ) -> Outcome
     requires { Closing p q most equations.now basis.old table.now values.now r × (r.fresh < q) }
-    ensures { outcomeOf result equations.now basis.new table.now
-        ≡ finishOf p q most (workOf equations.now basis.old table.now r) }
+    ensures { outcome_of result equations.now basis.new table.now
+        ≡ finishOf p q most (work_of equations.now basis.old table.now r) }
 {
     let n = r.rows;
     let f = r.fresh;

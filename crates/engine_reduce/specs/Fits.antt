@@ -4,8 +4,8 @@ use Rattle.std.proofs.Common.{sym, ◌∙◌, inl, inr, add-one, arith}
 use Rattle.linear.specs.Cases.{split}
 use Rattle.definitions.specs.Tables.{at}
 use Rattle.engine_spec.specs.Words.{fits}
-use Rattle.engine_beside.specs.WordLaws.{not-fits, word_low}
-use Rattle.engine_reduce.specs.Sums.{Looked, integerAt, never, passed-row, reducibleBy, sum_of}
+use Rattle.engine_beside.specs.WordLaws.{not_fits, word_low}
+use Rattle.engine_reduce.specs.Sums.{Looked, integer_at, never, passed_row, reducible_by, sum_of}
 
 -- n words, with no guard set above the largest
 pub record Low (n : ℕ) (words : List ℕ) : Type 0 where
@@ -21,56 +21,56 @@ pub record Unfit (words : List ℕ) (word from past : ℕ) : Type 0 where
 pub record UnfitIf (r : Bool) (words : List ℕ) (word from past : ℕ) : Type 0 where
   pub unless : r ≡ false → Unfit words word from past
 
-pub unfit-none : (words : List ℕ) (word from : ℕ) → Unfit words word from from
-unfit-none words word from = record { behind = omega arith; none = λ i l h. absurd (omega arith) }
+pub unfit_none : (words : List ℕ) (word from : ℕ) → Unfit words word from from
+unfit_none words word from = record { behind = omega arith; none = λ i l h. absurd (omega arith) }
 
-pub unfit-more : {words : List ℕ} {word from past : ℕ} → Unfit words word from past → {b : Bool} → b ≡ fits 16 (get_or words past 0) word → b ≡ false
+pub unfit_more : {words : List ℕ} {word from past : ℕ} → Unfit words word from past → {b : Bool} → b ≡ fits 16 (get_or words past 0) word → b ≡ false
     → Unfit words word from (past + 1)
-unfit-more {words} {word} {from} {past} u e f =
+unfit_more {words} {word} {from} {past} u e f =
     record {
       behind = omega (arith, u.behind);
       none = λ i l h. elim (split i past) [ inl k ↦ u.none i l k | inr k ↦ let s : i ≡ past = omega arith in rw s (sym e ∙ f) ];
     }
 
-pub unfit-then : {words : List ℕ} {word from past last : ℕ} → Unfit words word from past → Unfit words word past last → Unfit words word from last
-unfit-then {words} {word} {from} {past} {last} u v =
+pub unfit_then : {words : List ℕ} {word from past last : ℕ} → Unfit words word from past → Unfit words word past last → Unfit words word from last
+unfit_then {words} {word} {from} {past} {last} u v =
     record {
       behind = omega (arith, u.behind, v.behind);
       none = λ i l h. elim (split i past) [ inl k ↦ u.none i l k | inr k ↦ v.none i k h ];
     }
 
 pub if_none : (r : Bool) (words : List ℕ) (word from : ℕ) → UnfitIf r words word from (from + 0)
-if_none r words word from = let s : from + 0 ≡ from = omega arith in rw s (record { unless = λ e. unfit-none words word from })
+if_none r words word from = let s : from + 0 ≡ from = omega arith in rw s (record { unless = λ e. unfit_none words word from })
 
 -- one more word is looked at: it fits and r' says so, or it does not and r' is r
-pub if-more : {r r' : Bool} {words : List ℕ} {word from : ℕ} (j : ℕ) → UnfitIf r words word from (from + j) → {b : Bool} → b ≡ fits 16
+pub if_more : {r r' : Bool} {words : List ℕ} {word from : ℕ} (j : ℕ) → UnfitIf r words word from (from + j) → {b : Bool} → b ≡ fits 16
     (get_or words (from + j) 0) word
     → (((b ≡ true) × (r' ≡ true)) ⊎ ((b ≡ false) × (r' ≡ r)))
     → UnfitIf r' words word from (from + (j + 1))
-if-more {r} {r'} {words} {word} {from} j u e (inl h) = record { unless = λ n. never (sym n ∙ h.1) }
-if-more {r} {r'} {words} {word} {from} j u e (inr h) =
+if_more {r} {r'} {words} {word} {from} j u e (inl h) = record { unless = λ n. never (sym n ∙ h.1) }
+if_more {r} {r'} {words} {word} {from} j u e (inr h) =
     let s : from + (j + 1) ≡ from + j + 1 = omega arith in
-    rw s (record { unless = λ n. unfit-more (u.unless (sym h.1 ∙ n)) e h.0 })
+    rw s (record { unless = λ n. unfit_more (u.unless (sym h.1 ∙ n)) e h.0 })
 
 -- ---- rows by their words
 
-pub looked-low : {q n : ℕ} {table : List ℕ} {values : List ℤ} {words : List ℕ} {upper lower word : ℕ} → Looked q n table values words upper lower word → Low n
+pub looked_low : {q n : ℕ} {table : List ℕ} {values : List ℤ} {words : List ℕ} {upper lower word : ℕ} → Looked q n table values words upper lower word → Low n
     words
-looked-low {q} {n} {table} l = record { long = l.worded.long; each = λ i h. omega (arith, l.worded.each i h, word_low q (at table q i)) }
+looked_low {q} {n} {table} l = record { long = l.worded.long; each = λ i h. omega (arith, l.worded.each i h, word_low q (at table q i)) }
 
 -- rows whose words do not fit do not reduce the sum
-pub passed-unfit : {q n : ℕ} {table : List ℕ} {values : List ℤ} {words : List ℕ} {upper lower word : ℕ} → Looked q n table values words upper lower word →
+pub passed_unfit : {q n : ℕ} {table : List ℕ} {values : List ℤ} {words : List ℕ} {upper lower word : ℕ} → Looked q n table values words upper lower word →
     (sum : ℤ)
     → (i k : ℕ) → k ≤ n → Unfit words word i k
-    → reducibleBy q i (at table q) (integerAt values) (sum_of q table upper lower) sum ≡ false
-    → reducibleBy q k (at table q) (integerAt values) (sum_of q table upper lower) sum ≡ false
-passed-unfit {q} {n} {table} {values} {words} {upper} {lower} {word} l sum i zero kn u e = let s : i ≡ 0 = omega (arith, u.behind) in rw s at e
-passed-unfit {q} {n} {table} {values} {words} {upper} {lower} {word} l sum i (suc k) kn u e =
+    → reducible_by q i (at table q) (integer_at values) (sum_of q table upper lower) sum ≡ false
+    → reducible_by q k (at table q) (integer_at values) (sum_of q table upper lower) sum ≡ false
+passed_unfit {q} {n} {table} {values} {words} {upper} {lower} {word} l sum i zero kn u e = let s : i ≡ 0 = omega (arith, u.behind) in rw s at e
+passed_unfit {q} {n} {table} {values} {words} {upper} {lower} {word} l sum i (suc k) kn u e =
     elim (split i (suc k)) [
       | inl h ↦
-          let no = rw (l.worded.each k (omega arith), l.word-is) at (u.none k (omega arith) (omega arith)) in
-          let before = passed-unfit l sum i k (omega arith) (record { behind = omega arith; none = λ j a b. u.none j a (omega arith) }) e in
-          rw (← add-one k) (passed-row q (at table q) (integerAt values) (sum_of q table upper lower) sum k before
-          (not-fits q (at table q k) (sum_of q table upper lower) no))
+          let no = rw (l.worded.each k (omega arith), l.word_is) at (u.none k (omega arith) (omega arith)) in
+          let before = passed_unfit l sum i k (omega arith) (record { behind = omega arith; none = λ j a b. u.none j a (omega arith) }) e in
+          rw (← add-one k) (passed_row q (at table q) (integer_at values) (sum_of q table upper lower) sum k before
+          (not_fits q (at table q k) (sum_of q table upper lower) no))
       | inr h ↦ let s : i ≡ suc k = omega (arith, u.behind) in rw s at e
     ]

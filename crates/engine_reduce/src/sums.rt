@@ -2,9 +2,9 @@
 ghost use Rattle.std.specs.Prelude.{◌≡◌, ◌&&◌, ◌+◌, ◌*◌, ◌≤◌, ◌<◌};
 ghost use Rattle.std.specs.Int.Signed.{le_z};
 ghost use Rattle.definitions.specs.Tables.{at};
-ghost use Rattle.engine_spec.specs.Reduction.{isWithin};
+ghost use Rattle.engine_spec.specs.Reduction.{is_within};
 ghost use Rattle.engine_reduce.specs.Fits.{Low, Unfit, UnfitIf};
-ghost use Rattle.engine_reduce.specs.Sums.{Handed, Looked, Searched, Yes, fits_by, integerAt, reducibleBy, sum_of};
+ghost use Rattle.engine_reduce.specs.Sums.{Handed, Looked, Searched, Yes, fits_by, integer_at, reducible_by, sum_of};
 
 use crate::memory;
 use engine_beside::words as fields;
@@ -25,7 +25,7 @@ pub fn reducible(
     places: &mut [u32; 66560],
 ) -> bool
     requires { Looked q n table.now values.now words.now upper lower word }
-    ensures { result ≡ reducibleBy q n (at table.now q) (integerAt values.now) (sum_of q table.now upper lower) sum }
+    ensures { result ≡ reducible_by q n (at table.now q) (integer_at values.now) (sum_of q table.now upper lower) sum }
 {
     let sign = sign_of(sum);
     if dropped(
@@ -156,7 +156,7 @@ fn reduces_at(
     sum: i64,
 ) -> bool
     requires { Handed q n table.now values.now upper lower × (i < n) }
-    ensures { result ≡ fits_by q (at table.now q) (integerAt values.now) (sum_of q table.now upper lower) sum i }
+    ensures { result ≡ fits_by q (at table.now q) (integer_at values.now) (sum_of q table.now upper lower) sum i }
 {
     if !within(values[i], sum) {
         return false;
@@ -166,7 +166,7 @@ fn reduces_at(
 
 // Whether y lies between 0 and x.
 fn within(y: i64, x: i64) -> bool
-    ensures { result ≡ isWithin y x }
+    ensures { result ≡ is_within y x }
 {
     if x < 0 {
         return between(y, x, 0);

@@ -8,10 +8,10 @@ use Rattle.engine_beside.specs.contracts.Record as Rec
 use Rattle.engine_beside.proofs.Record.TheLaws as Rec'
 use Rattle.engine_beside.specs.contracts.Outcome as Out
 
-abbrev pub engine-types : CallTypes
-engine-types =
+abbrev pub engine_types : CallTypes
+engine_types =
     record {
-      the-record = Rec.the_type;
+      the_record = Rec.the_type;
       laws = Rec'.the_laws;
       lowers = Rec'.lowers;
       name = (Out.the_type).name;

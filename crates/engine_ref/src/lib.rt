@@ -1,9 +1,9 @@
 // The engine's calls as an editor uses them: the caller's own record is advanced through a reference, over the calls by value.
 ghost use Rattle.std.specs.Prelude.{◌≡◌, suc};
 ghost use Rattle.engine_spec.specs.Calls as spec;
-ghost use Rattle.engine_spec.specs.StartSides.{startSides};
-ghost use Rattle.engine_beside.specs.Records.{leaves, lengthsOf, outcomeOf, workOf};
-ghost use Rattle.engine_stage.specs.Standing.{sidesOf};
+ghost use Rattle.engine_spec.specs.StartSides.{start_sides};
+ghost use Rattle.engine_beside.specs.Records.{leaves, lengths_of, outcome_of, work_of};
+ghost use Rattle.engine_stage.specs.Standing.{sides_of};
 ghost use Rattle.engine_resume.specs.Continuing.{ResumeLeft};
 
 use calls::Answer;
@@ -20,9 +20,9 @@ pub fn start(
     l: Beside,
     r: &mut Record,
 ) -> Answer
-    ensures { outcomeOf (leaves result r.new) equations.new basis.new table.now
-        ≡ spec.start p q coefs.now (spec.basisRoom q (lengthsOf basis.old table.now l))
-        (workOf equations.old basis.old table.now r.old) }
+    ensures { outcome_of (leaves result r.new) equations.new basis.new table.now
+        ≡ spec.start p q coefs.now (spec.basis_room q (lengths_of basis.old table.now l))
+        (work_of equations.old basis.old table.now r.old) }
 {
     let o = engine::start(p, q, coefs, equations, basis, table, l, *r);
     *r = o.run;
@@ -42,10 +42,10 @@ pub fn start_sides(
     l: Beside,
     kept: &mut Record,
 ) -> Answer
-    ensures { outcomeOf (leaves result kept.new) equations.new basis.new table.now
-        ≡ startSides p q coefs.now rights.now lower.now
-        (spec.basisRoom (suc q) (lengthsOf basis.old table.now l))
-        (workOf equations.old basis.old table.now kept.old) }
+    ensures { outcome_of (leaves result kept.new) equations.new basis.new table.now
+        ≡ start_sides p q coefs.now rights.now lower.now
+        (spec.basis_room (suc q) (lengths_of basis.old table.now l))
+        (work_of equations.old basis.old table.now kept.old) }
 {
     let o = engine::start_sides(
         p, q, coefs, rights, lower, equations, basis, table, l, *kept,
@@ -67,9 +67,9 @@ pub fn start_from(
     l: Beside,
     own: &mut Record,
 ) -> Answer
-    ensures { outcomeOf (leaves result own.new) equations.new basis.new table.now
-        ≡ spec.startFrom p q coefs.now n rows.now (spec.basisRoom q (lengthsOf basis.old table.now l))
-        (workOf equations.old basis.old table.now own.old) }
+    ensures { outcome_of (leaves result own.new) equations.new basis.new table.now
+        ≡ spec.start_from p q coefs.now n rows.now (spec.basis_room q (lengths_of basis.old table.now l))
+        (work_of equations.old basis.old table.now own.old) }
 {
     let o = engine::start_from(p, q, coefs, n, rows, equations, basis, table, l, *own);
     *own = o.run;
@@ -90,10 +90,10 @@ pub fn combine(
     u: i32,
     t: i32,
 ) -> Answer
-    ensures { outcomeOf (leaves result run.new) equations.new basis.now table.now
-        ≡ spec.combine p q (spec.basisRoom q (lengthsOf basis.now table.now l))
-        (spec.stageRoom q (lengthsOf basis.now table.now l)) r s u t
-        (workOf equations.old basis.now table.now run.old) }
+    ensures { outcome_of (leaves result run.new) equations.new basis.now table.now
+        ≡ spec.combine p q (spec.basis_room q (lengths_of basis.now table.now l))
+        (spec.stage_room q (lengths_of basis.now table.now l)) r s u t
+        (work_of equations.old basis.now table.now run.old) }
 {
     let o = engine::combine(p, q, equations, basis, table, l, *run, r, s, u, t);
     *run = o.run;
@@ -112,10 +112,10 @@ pub fn take(
     e: usize,
     f: usize,
 ) -> Answer
-    ensures { outcomeOf (leaves result r.new) equations.now basis.new table.now
-        ≡ spec.take p q (spec.basisRoom q (lengthsOf basis.old table.now l))
-        (spec.stageRoom q (lengthsOf basis.old table.now l)) e f
-        (workOf equations.now basis.old table.now r.old) }
+    ensures { outcome_of (leaves result r.new) equations.now basis.new table.now
+        ≡ spec.take p q (spec.basis_room q (lengths_of basis.old table.now l))
+        (spec.stage_room q (lengths_of basis.old table.now l)) e f
+        (work_of equations.now basis.old table.now r.old) }
 {
     let o = engine::take(p, q, equations, basis, table, l, *r, e, f);
     *r = o.run;
@@ -139,9 +139,9 @@ pub fn resume(
     budget: u64,
 ) -> Answer
     ensures { ResumeLeft p q budget equations.now basis.old sizes.old table.old
-        (sidesOf values.old words.old degrees.old marks.old mothers.old) r.old
+        (sides_of values.old words.old degrees.old marks.old mothers.old) r.old
         (leaves result r.new) basis.new sizes.new table.new
-        (sidesOf values.new words.new degrees.new marks.new mothers.new) }
+        (sides_of values.new words.new degrees.new marks.new mothers.new) }
 {
     let o = engine_resume::resume(
         p, q, equations, basis, sizes, table, values, words, degrees, marks, mothers, *r, budget,

@@ -10,50 +10,50 @@ use Rattle.linear.specs.Cases.{order}
 use Rattle.definitions.specs.Answers as paper
 use Rattle.engine_spec.specs.Calls as spec
 use Rattle.engine_spec.specs.Beside.{Measured}
-use Rattle.engine_spec.specs.Engine.{Result, Work, allDone, equationOf, rested, run}
-use Rattle.engine_beside.specs.Writing.{Kept, kept-none, measured-none, valued-none, worded-none}
-use Rattle.engine_stage.specs.Standing.{Sides, Unchanged, beyond-none, unchanged}
-use Rattle.calls.specs.Paper.{answer_of, checkOf}
+use Rattle.engine_spec.specs.Engine.{Result, Work, all_done, equation_of, rested, run}
+use Rattle.engine_beside.specs.Writing.{Kept, kept_none, measured_none, valued_none, worded_none}
+use Rattle.engine_stage.specs.Standing.{Sides, Unchanged, beyond_none, unchanged}
+use Rattle.calls.specs.Paper.{answer_of, check_of}
 use Rattle.calls.specs.CallLaws.{passes}
 use Rattle.calls.specs.declared.Check.{Check}
 use Rattle.calls.specs.declared.Check.TheVariants.{Pass, Refuse}
 use Rattle.calls.specs.declared.Refusal.{Refusal}
-use Rattle.engine_beside.specs.Records.{besideOf, call-passed, call-refused, lengthsOf, outcomeOf, refusedWith, workOf}
+use Rattle.engine_beside.specs.Records.{beside_of, call_passed, call_refused, lengths_of, outcome_of, refused_with, work_of}
 use Rattle.engine_beside.specs.declared.Outcome.{Outcome}
 use Rattle.engine_beside.specs.declared.Record.{Record}
-use Rattle.engine_checks.specs.Room.{basis-few, basis-fits, stage-fits}
-use Rattle.engine_checks.specs.Standing.{Roomed, Stands, resume-checks, standing, stands}
-use Rattle.engine_resume.specs.Resuming.{Entered, ResumedTo, Sided, ordered, rowsAfter}
+use Rattle.engine_checks.specs.Room.{basis_few, basis_fits, stage_fits}
+use Rattle.engine_checks.specs.Standing.{Roomed, Stands, resume_checks_lem, standing, stands}
+use Rattle.engine_resume.specs.Resuming.{Entered, ResumedTo, Sided, ordered, rows_after}
 
-abbrev pub lentLengths : List ℕ → List ℕ → List ℕ → Sides → spec.Lengths
-lentLengths basis sizes table x =
-    lengthsOf basis table
-    (besideOf (length sizes) (length x.values) (length x.words) (length x.degrees) (length x.marks) (length x.mothers))
+abbrev pub lent_lengths : List ℕ → List ℕ → List ℕ → Sides → spec.Lengths
+lent_lengths basis sizes table x =
+    lengths_of basis table
+    (beside_of (length sizes) (length x.values) (length x.words) (length x.degrees) (length x.marks) (length x.mothers))
 
-pub resume-roomed : (q : ℕ) (basis sizes table : List ℕ) (x : Sides) {most room : ℕ} → most ≡ spec.basisRoom q (lentLengths basis sizes table x)
-    → room ≡ spec.stageRoom q (lentLengths basis sizes table x)
+pub resume_roomed : (q : ℕ) (basis sizes table : List ℕ) (x : Sides) {most room : ℕ} → most ≡ spec.basis_room q (lent_lengths basis sizes table x)
+    → room ≡ spec.stage_room q (lent_lengths basis sizes table x)
     → Roomed q most room (length basis) (length table)
-resume-roomed q basis sizes table x m n =
+resume_roomed q basis sizes table x m n =
     rw (m, n)
     (record {
-      long = basis-fits q (length basis) (length sizes);
+      long = basis_fits q (length basis) (length sizes);
       wide =
-          (stage-fits q (length table) (length x.values) (length x.words) (length x.degrees) (length x.marks) (length x.mothers)).rows;
+          (stage_fits q (length table) (length x.values) (length x.words) (length x.degrees) (length x.marks) (length x.mothers)).rows;
     })
 
 -- ---- the continuing call
 
 -- the check lets the call go on, and a stage is under way
-unfoldable pub goesOn : paper.Check → (p equation : ℕ) → Bool
-goesOn (paper.refuse n values) p equation = false
-goesOn paper.go p equation = ltb equation p
+unfoldable pub goes_on : paper.Check → (p equation : ℕ) → Bool
+goes_on (paper.refuse n values) p equation = false
+goes_on paper.go p equation = ltb equation p
 
 -- The rows beside which the call writes: all that the stage under way has after its turns, before its end; and the rows of the basis that it was given.
-abbrev pub rowsHad : (p q most room budget : ℕ) → Work → ℕ
-rowsHad p q most room budget w = cond (goesOn (spec.resumeChecks p q most room w) p w.equation) (rowsAfter q room budget w) 0
+abbrev pub rows_had : (p q most room budget : ℕ) → Work → ℕ
+rows_had p q most room budget w = cond (goes_on (spec.resume_checks p q most room w) p w.equation) (rows_after q room budget w) 0
 
-abbrev pub sizesHad : (p q most room : ℕ) → Work → ℕ
-sizesHad p q most room w = cond (goesOn (spec.resumeChecks p q most room w) p w.equation) w.count 0
+abbrev pub sizes_had : (p q most room : ℕ) → Work → ℕ
+sizes_had p q most room w = cond (goes_on (spec.resume_checks p q most room w) p w.equation) w.count 0
 
 -- What the call leaves of all that is lent, w being what it finds. The outcome is that of the definition. Refused before its work it has changed nothing. Where
 -- no stage is under way it has changed nothing beside the rows. Else the tables beside the rows hold what belongs to the rows that the stage had, the one
@@ -62,37 +62,37 @@ sizesHad p q most room w = cond (goesOn (spec.resumeChecks p q most room w) p w.
 -- were; those of later rows are proposals, which the next call does not trust.
 pub record LeftBy (p q most room budget : ℕ) (w : Work) (sizes : List ℕ) (x : Sides) (o : Result) (sizes' : List ℕ) (x' : Sides) : Type 0 where
   pub outcome : o ≡ spec.resume p q most room budget w
-  pub refused : (n : ℕ) (values : List ℕ) → spec.resumeChecks p q most room w ≡ paper.refuse n values
+  pub refused : (n : ℕ) (values : List ℕ) → spec.resume_checks p q most room w ≡ paper.refuse n values
       → (o.work ≡ w) × (sizes' ≡ sizes) × (x' ≡ x)
   pub rested : p ≤ w.equation → (sizes' ≡ sizes) × (x' ≡ x)
-  pub few : rowsHad p q most room budget w ≤ room
-  pub sided : Sided (equationOf q w) q (rowsHad p q most room budget w) o.work.stage.table x x'
+  pub few : rows_had p q most room budget w ≤ room
+  pub sided : Sided (equation_of q w) q (rows_had p q most room budget w) o.work.stage.table x x'
   pub mothers : Unchanged w.stage.rows x.mothers x'.mothers
-  pub sized : Measured q (sizesHad p q most room w) w.basis sizes'
-  pub kept : Kept 0 (sizesHad p q most room w) sizes sizes'
+  pub sized : Measured q (sizes_had p q most room w) w.basis sizes'
+  pub kept : Kept 0 (sizes_had p q most room w) sizes sizes'
 
 abbrev pub ResumeLeft : (p q budget : ℕ) (equations : List ℤ) (basis sizes table : List ℕ) (x : Sides) → Record → Outcome → (basis' sizes' table' : List ℕ)
     (x' : Sides)
     → Type 0
 ResumeLeft p q budget equations basis sizes table x r o basis' sizes' table' x' =
-    LeftBy p q (spec.basisRoom q (lentLengths basis sizes table x)) (spec.stageRoom q (lentLengths basis sizes table x)) budget (workOf equations basis table r)
-    sizes x (outcomeOf o equations basis' table') sizes' x'
+    LeftBy p q (spec.basis_room q (lent_lengths basis sizes table x)) (spec.stage_room q (lent_lengths basis sizes table x)) budget (work_of equations basis table r)
+    sizes x (outcome_of o equations basis' table') sizes' x'
 
 -- ---- by what the checks find
 
-sided-none : {c : ℕ → ℤ} {q : ℕ} {table : List ℕ} {x : Sides} → Sided c q 0 table x x
-sided-none =
+sided_none : {c : ℕ → ℤ} {q : ℕ} {table : List ℕ} {x : Sides} → Sided c q 0 table x x
+sided_none =
     record {
-      valued = valued-none;
-      worded = worded-none;
-      measured = measured-none;
+      valued = valued_none;
+      worded = worded_none;
+      measured = measured_none;
       marked = record { long = omega arith; each = λ i l h. absurd (omega arith) };
-      beyond = beyond-none;
+      beyond = beyond_none;
     }
 
 module _ (p q most room budget : ℕ) (w : Work) (sizes : List ℕ) (x : Sides) where
   -- nothing beside the rows is written
-  still : {o : Result} → goesOn (spec.resumeChecks p q most room w) p w.equation ≡ false → o ≡ spec.resume p q most room budget w → o.work ≡ w
+  still : {o : Result} → goes_on (spec.resume_checks p q most room w) p w.equation ≡ false → o ≡ spec.resume p q most room budget w → o.work ≡ w
       → LeftBy p q most room budget w sizes x o sizes x
   still e is same =
       record {
@@ -100,62 +100,62 @@ module _ (p q most room budget : ℕ) (w : Work) (sizes : List ℕ) (x : Sides) 
         refused = λ n values h. (same, refl, refl);
         rested = λ l. (refl, refl);
         few = rw e (omega arith);
-        sided = rw e sided-none;
+        sided = rw e sided_none;
         mothers = unchanged;
-        sized = rw e measured-none;
-        kept = kept-none;
+        sized = rw e measured_none;
+        kept = kept_none;
       }
 
 module _ (p q budget : ℕ) (equations : List ℤ) (basis sizes table : List ℕ) (x : Sides) (r : Record) where
   abbrev w : Work
-  w = workOf equations basis table r
+  w = work_of equations basis table r
 
-  module _ {made : Check} {most room : ℕ} (m : most ≡ spec.basisRoom q (lentLengths basis sizes table x))
-      (n : room ≡ spec.stageRoom q (lentLengths basis sizes table x))
-      (e : checkOf made ≡ standing p q most room (workOf equations basis table r)) where
-    pub resume-refused : {why : Refusal} → made ≡ Refuse why → ResumeLeft p q budget equations basis sizes table x r (refusedWith why r) basis sizes table x
-    unfolding spec.resume goesOn
-    resume-refused g = rw (← m, ← n) (still p q most room budget w sizes x (rw (← (e ∙ resume-checks p q most room w), g))
-        (call-refused (e ∙ resume-checks p q most room w) equations basis table r _ g) refl)
+  module _ {made : Check} {most room : ℕ} (m : most ≡ spec.basis_room q (lent_lengths basis sizes table x))
+      (n : room ≡ spec.stage_room q (lent_lengths basis sizes table x))
+      (e : check_of made ≡ standing p q most room (work_of equations basis table r)) where
+    pub resume_refused : {why : Refusal} → made ≡ Refuse why → ResumeLeft p q budget equations basis sizes table x r (refused_with why r) basis sizes table x
+    unfolding spec.resume goes_on
+    resume_refused g = rw (← m, ← n) (still p q most room budget w sizes x (rw (← (e ∙ resume_checks_lem p q most room w), g))
+        (call_refused (e ∙ resume_checks_lem p q most room w) equations basis table r _ g) refl)
 
     module _ (g : made ≡ Pass) where
-      pub resume-stands : Stands p q most room (workOf equations basis table r)
-      resume-stands = stands p q most room (workOf equations basis table r) (passes e g)
+      pub resume_stands : Stands p q most room (work_of equations basis table r)
+      resume_stands = stands p q most room (work_of equations basis table r) (passes e g)
 
-      pub resume-rested : p ≤ r.equation → (o : Outcome) → o.run ≡ r
+      pub resume_rested : p ≤ r.equation → (o : Outcome) → o.run ≡ r
           → answer_of o.answer ≡ cond (eqb r.done (2 ^ p - 1)) paper.complete paper.paused
           → ResumeLeft p q budget equations basis sizes table x r o basis sizes table x
-      unfolding spec.resume rested allDone goesOn
-      resume-rested l o s a =
+      unfolding spec.resume rested all_done goes_on
+      resume_rested l o s a =
           rw (← m, ← n)
-          (still p q most room budget w sizes x (rw (← (e ∙ resume-checks p q most room w), g, le-ltb r.equation p l))
-          (call-passed (e ∙ resume-checks p q most room w) equations basis table r _ g (rw (le-ltb r.equation p l, a, s))) (rw s))
+          (still p q most room budget w sizes x (rw (← (e ∙ resume_checks_lem p q most room w), g, le-ltb r.equation p l))
+          (call_passed (e ∙ resume_checks_lem p q most room w) equations basis table r _ g (rw (le-ltb r.equation p l, a, s))) (rw s))
 
-      pub resume-enters : r.equation < p → Entered p q most room equations basis sizes table x r
-      resume-enters l =
-          let s = resume-stands in
+      pub resume_enters : r.equation < p → Entered p q most room equations basis sizes table x r
+      resume_enters l =
+          let s = resume_stands in
           record {
             size = s.size;
             whole = s.whole;
-            long = rw m (basis-fits q (length basis) (length sizes));
-            sized = rw m (basis-few q (length basis) (length sizes)).0;
-            capped = rw m (basis-few q (length basis) (length sizes)).1;
-            fits = rw n (stage-fits q (length table) (length x.values) (length x.words) (length x.degrees) (length x.marks) (length x.mothers));
+            long = rw m (basis_fits q (length basis) (length sizes));
+            sized = rw m (basis_few q (length basis) (length sizes)).0;
+            capped = rw m (basis_few q (length basis) (length sizes)).1;
+            fits = rw n (stage_fits q (length table) (length x.values) (length x.words) (length x.degrees) (length x.marks) (length x.mothers));
             going = l;
-            order = ordered p q most room (workOf equations basis table r) s.order;
+            order = ordered p q most room (work_of equations basis table r) s.order;
           }
 
-      pub resume-ran : r.equation < p → {o : Outcome} {basis' sizes' table' : List ℕ} {x' : Sides}
+      pub resume_ran : r.equation < p → {o : Outcome} {basis' sizes' table' : List ℕ} {x' : Sides}
           → ResumedTo p q most room budget equations basis sizes table x r o basis' sizes' table' x'
           → ResumeLeft p q budget equations basis sizes table x r o basis' sizes' table' x'
-      unfolding spec.resume goesOn
-      resume-ran l t =
-          let on : goesOn (spec.resumeChecks p q most room w) p r.equation ≡ true = rw (← (e ∙ resume-checks p q most room w), g, lt-ltb r.equation p l)
+      unfolding spec.resume goes_on
+      resume_ran l t =
+          let on : goes_on (spec.resume_checks p q most room w) p r.equation ≡ true = rw (← (e ∙ resume_checks_lem p q most room w), g, lt-ltb r.equation p l)
           in
           rw (← m, ← n)
           (record {
-            outcome = call-passed (e ∙ resume-checks p q most room w) equations basis table r _ g (rw (lt-ltb r.equation p l) t.outcome);
-            refused = λ k values h. absurd (not-refused k values h);
+            outcome = call_passed (e ∙ resume_checks_lem p q most room w) equations basis table r _ g (rw (lt-ltb r.equation p l) t.outcome);
+            refused = λ k values h. absurd (not_refused k values h);
             rested = λ h. absurd (omega arith);
             few = rw on t.few;
             sided = rw on t.sided;
@@ -164,6 +164,6 @@ module _ (p q budget : ℕ) (equations : List ℤ) (basis sizes table : List ℕ
             kept = rw on t.kept;
           })
         where
-          not-refused : (k : ℕ) (values : List ℕ) → spec.resumeChecks p q most room w ≡ paper.refuse k values → ⊥
-          not-refused k values h = let no : paper.go ≡ paper.refuse k values = sym (ap checkOf g) ∙ ((e ∙ resume-checks p q most room w) ∙ h) in let z : ◌≡◌
+          not_refused : (k : ℕ) (values : List ℕ) → spec.resume_checks p q most room w ≡ paper.refuse k values → ⊥
+          not_refused k values h = let no : paper.go ≡ paper.refuse k values = sym (ap check_of g) ∙ ((e ∙ resume_checks_lem p q most room w) ∙ h) in let z : ◌≡◌
               {A = ℕ} 0 1 = cc in omega arith

@@ -4,44 +4,44 @@ use Rattle.std.proofs.Math.Path.{sym, ap}
 use Rattle.std.proofs.Common.{◌∙◌, inl, inr, mul-le-mul_right, arith, T_not, lt→ltb, ltb→lt}
 use Rattle.std.proofs.Math.Dec.{leb→le}
 use Rattle.linear.specs.Cases.{split}
-use Rattle.linear.specs.TestLaws.{all-at, and_parts}
-use Rattle.linear.specs.Tests.{allTo}
+use Rattle.linear.specs.TestLaws.{all_at, and_parts}
+use Rattle.linear.specs.Tests.{all_to}
 use Rattle.linear.specs.Tuples.{total}
-use Rattle.definitions.specs.Refusals.{stepLimit}
+use Rattle.definitions.specs.Refusals.{step_limit}
 use Rattle.definitions.specs.Tables.{at, frozen}
 use Rattle.laws.specs.TableLaws.{row_fits}
-use Rattle.engine_spec.specs.Beside.{AllMarked, Measured, SmallEquation, SmallTable, Valued, Worded, coefficientLimit, equationAt}
-use Rattle.engine_spec.specs.Calls.{coefficientsSmall, inOrder, isRising, is_row, marksInOrder}
+use Rattle.engine_spec.specs.Beside.{AllMarked, Measured, SmallEquation, SmallTable, Valued, Worded, coefficient_limit, equation_at}
+use Rattle.engine_spec.specs.Calls.{coefficients_small, in_order, is_rising, is_row, marks_in_order}
 use Rattle.engine_spec.specs.Engine.{Work, onward, run}
-use Rattle.engine_spec.specs.Reduction.{isSmall}
-use Rattle.engine_spec.specs.ReductionLaws.{small-from}
+use Rattle.engine_spec.specs.Reduction.{is_small}
+use Rattle.engine_spec.specs.ReductionLaws.{small_from}
 use Rattle.engine_spec.specs.Stage.{Outcome, outcome, row}
-use Rattle.engine_beside.specs.Degrees.{degree-small}
+use Rattle.engine_beside.specs.Degrees.{degree_small}
 use Rattle.engine_beside.specs.Writing.{Kept}
 use Rattle.engine_rows.specs.Marking.{MarksWritten}
-use Rattle.engine_search.specs.Falls.{falling-start}
+use Rattle.engine_search.specs.Falls.{falling_start}
 use Rattle.engine_search.specs.Places.{Ranked}
 use Rattle.engine_reduce.specs.Sums.{never}
 use Rattle.engine_stage.specs.Running.{RunLeft, answer_of, run_of}
-use Rattle.engine_stage.specs.Standing.{Beyond, Given, Ready, Roomy, Sides, Unchanged, lent_of, next_of, stageOf}
+use Rattle.engine_stage.specs.Standing.{Beyond, Given, Ready, Roomy, Sides, Unchanged, lent_of, next_of, stage_of}
 use Rattle.engine_stage.specs.declared.stages.Ran.{Ran}
 use Rattle.engine_stage.specs.declared.turns.Frame.{Frame}
 use Rattle.engine_stage.specs.declared.turns.Next.{Next}
-use Rattle.engine_beside.specs.Records.{outcomeOf, recordOf, workOf}
+use Rattle.engine_beside.specs.Records.{outcome_of, record_of, work_of}
 use Rattle.engine_beside.specs.declared.Outcome as made
 use Rattle.engine_beside.specs.declared.Record.{Record}
 use Rattle.engine_checks.specs.Room.{StageFits}
 use Rattle.engine_checks.specs.Sizes.{Sized}
 use Rattle.engine_ends.specs.Closing.{Closing}
-use Rattle.engine_resume.specs.EngineLaws.{ended, run-by-stage, stageRun}
+use Rattle.engine_resume.specs.EngineLaws.{ended, run_by_stage, stage_run}
 
 -- ---- the record and the stage
 
 abbrev pub start_of : Record → Next
 start_of r = next_of r.rows r.taken r.degree r.upper r.lower r.steps.0 r.rows true
 
-abbrev pub recordAt : Record → Next → Record
-recordAt r s = recordOf r.done r.equation r.fresh r.count.0 s.rows s.taken s.degree s.upper s.lower s.steps r.cap
+abbrev pub record_at : Record → Next → Record
+record_at r s = record_of r.done r.equation r.fresh r.count.0 s.rows s.taken s.degree s.upper s.lower s.steps r.cap
 
 abbrev pub frame_of : (q room : ℕ) → Record → Frame
 frame_of q room r = record { q = q; m = r.count.0; room = room; from = r.equation * q; cap = r.cap }
@@ -51,37 +51,37 @@ frame_of q room r = record { q = q; m = r.count.0; room = room; from = r.equatio
 pub record Ordered (p q most room : ℕ) (w : Work) : Type 0 where
   pub few : w.count ≤ most
   pub fits : w.stage.rows ≤ room
-  pub early : w.stage.steps ≤ stepLimit
+  pub early : w.stage.steps ≤ step_limit
   pub marks : w.done < 2 ^ p
   pub free : w.equation < p → ¬ (T (frozen w.done w.equation))
-  pub coefs : (k : ℕ) → k < p * q → nat_abs (get_or w.equations k (pos 0)) ≤ coefficientLimit
+  pub coefs : (k : ℕ) → k < p * q → nat_abs (get_or w.equations k (pos 0)) ≤ coefficient_limit
   pub basis : (i : ℕ) → i < w.count → T (is_row q (at w.basis q i))
-  pub rows : (i : ℕ) → i < w.stage.rows → T (isSmall q (row q w.stage i))
-  pub rising : T (isRising w.stage.rows (λ i. total (row q w.stage i) q) w.stage.degree)
+  pub rows : (i : ℕ) → i < w.stage.rows → T (is_small q (row q w.stage i))
+  pub rising : T (is_rising w.stage.rows (λ i. total (row q w.stage i) q) w.stage.degree)
 
-pub ordered : (p q most room : ℕ) (w : Work) → inOrder p q most room w ≡ true → Ordered p q most room w
-unfolding inOrder marksInOrder coefficientsSmall
+pub ordered : (p q most room : ℕ) (w : Work) → in_order p q most room w ≡ true → Ordered p q most room w
+unfolding in_order marks_in_order coefficients_small
 ordered p q most room w e =
-    let t : T (inOrder p q most room w) = rw e tt in
+    let t : T (in_order p q most room w) = rw e tt in
     let (a, e₁) = and_parts (leb w.count most && leb w.stage.rows room) _ t in
     let (a₀, a₁) = and_parts (leb w.count most) _ a in
-    let (b, e₂) = and_parts (leb w.stage.steps stepLimit && ltb w.done (2 ^ p)) _ e₁ in
-    let (b₀, b₁) = and_parts (leb w.stage.steps stepLimit) _ b in
-    let (c, e₃) = and_parts (marksInOrder p w.done w.equation) _ e₂ in
+    let (b, e₂) = and_parts (leb w.stage.steps step_limit && ltb w.done (2 ^ p)) _ e₁ in
+    let (b₀, b₁) = and_parts (leb w.stage.steps step_limit) _ b in
+    let (c, e₃) = and_parts (marks_in_order p w.done w.equation) _ e₂ in
     let (c₀, c₁) = and_parts (leb w.equation p) _ c in
-    let (d, e₄) = and_parts (coefficientsSmall (p * q) w.equations) _ e₃ in
-    let (f, e₅) = and_parts (allTo w.count (λ i. is_row q (at w.basis q i))) _ e₄ in
-    let (g, h) = and_parts (allTo w.stage.rows (λ i. isSmall q (row q w.stage i))) _ e₅ in
+    let (d, e₄) = and_parts (coefficients_small (p * q) w.equations) _ e₃ in
+    let (f, e₅) = and_parts (all_to w.count (λ i. is_row q (at w.basis q i))) _ e₄ in
+    let (g, h) = and_parts (all_to w.stage.rows (λ i. is_small q (row q w.stage i))) _ e₅ in
     record {
       few = leb→le w.count most a₀;
       fits = leb→le w.stage.rows room a₁;
-      early = leb→le w.stage.steps stepLimit b₀;
+      early = leb→le w.stage.steps step_limit b₀;
       marks = ltb→lt w.done (2 ^ p) b₁;
       free = λ l x. T_not (ltb w.equation p && frozen w.done w.equation) c₁
           (both (ltb w.equation p) (frozen w.done w.equation) (lt→ltb w.equation p l) x);
-      coefs = λ k l. leb→le _ coefficientLimit (all-at (p * q) _ d k l);
-      basis = λ i l. all-at w.count _ f i l;
-      rows = λ i l. all-at w.stage.rows _ g i l;
+      coefs = λ k l. leb→le _ coefficient_limit (all_at (p * q) _ d k l);
+      basis = λ i l. all_at w.count _ f i l;
+      rows = λ i l. all_at w.stage.rows _ g i l;
       rising = h;
     }
   where
@@ -97,7 +97,7 @@ pub record Entered (p q most room : ℕ) (equations : List ℤ) (basis sizes tab
   pub capped : most ≤ 1000000000
   pub fits : StageFits q room (length table) (length x.values) (length x.words) (length x.degrees) (length x.marks) (length x.mothers)
   pub going : r.equation < p
-  pub order : Ordered p q most room (workOf equations basis table r)
+  pub order : Ordered p q most room (work_of equations basis table r)
 
 -- ---- what is written
 
@@ -116,18 +116,18 @@ pub record Written (coefs : List ℤ) (from : ℕ) (basis : List ℕ) (m : ℕ) 
     : Type 0 where
   pub size : Measured q m basis sizes'
   pub kept : Kept 0 m sizes sizes'
-  pub valued : Valued (equationAt coefs from) q n table x'.values
+  pub valued : Valued (equation_at coefs from) q n table x'.values
   pub values : Kept (pos 0) n x.values x'.values
   pub worded : Worded q n table x'.words
   pub words : Kept 0 n x.words x'.words
   pub measured : Measured q n table x'.degrees
   pub degrees : Kept 0 n x.degrees x'.degrees
-  pub marked : AllMarked q (equationAt coefs from) n table x'.marks
+  pub marked : AllMarked q (equation_at coefs from) n table x'.marks
   pub marks : Kept 0 n x.marks x'.marks
   pub mothers : x'.mothers ≡ x.mothers
 
-pub marks-kept : {q n : ℕ} {table : List ℕ} {values : List ℤ} {marks marks' : List ℕ} → MarksWritten q n table values marks marks' → Kept 0 n marks marks'
-marks-kept w = record { long = w.same_length; rest = w.beyond }
+pub marks_kept : {q n : ℕ} {table : List ℕ} {values : List ℤ} {marks marks' : List ℕ} → MarksWritten q n table values marks marks' → Kept 0 n marks marks'
+marks_kept w = record { long = w.same_length; rest = w.beyond }
 
 -- ---- what a continuing call leaves
 
@@ -135,7 +135,7 @@ marks-kept w = record { long = w.same_length; rest = w.beyond }
 pub record Advanced (q room budget : ℕ) (equations : List ℤ) (basis sizes table : List ℕ) (x : Sides) (r : Record) (a : Ran) (sizes' table' : List ℕ)
     (x' : Sides) : Type 0 where
   pub is : run_of (frame_of q room r) (lent_of equations basis sizes') budget table (start_of r)
-      ≡ outcome (answer_of a.ending) (stageOf (frame_of q room r) table' a.next)
+      ≡ outcome (answer_of a.ending) (stage_of (frame_of q room r) table' a.next)
   pub ready : Ready (frame_of q room r) (lent_of equations basis sizes') table' x' a.next
   pub rises : r.rows ≤ a.next.rows
   pub beyond : Beyond a.next.rows x x'
@@ -152,49 +152,49 @@ pub record Sided (c : ℕ → ℤ) (q n : ℕ) (table : List ℕ) (x x' : Sides)
   pub beyond : Beyond n x x'
 
 -- the rows that the stage under way has after its turns, before its end
-abbrev pub rowsAfter : (q room budget : ℕ) → Work → ℕ
-rowsAfter q room budget w = (stageRun q room budget w).stage.rows
+abbrev pub rows_after : (q room budget : ℕ) → Work → ℕ
+rows_after q room budget w = (stage_run q room budget w).stage.rows
 
 -- The outcome is that of the definition; and what stands beside the rows that the stage had, and beside the basis that it was given.
 pub record ResumedTo (p q most room budget : ℕ) (equations : List ℤ) (basis sizes table : List ℕ) (x : Sides) (r : Record) (o : made.Outcome)
     (basis' sizes' table' : List ℕ) (x' : Sides) : Type 0 where
-  pub outcome : outcomeOf o equations basis' table' ≡ run p q most room budget (workOf equations basis table r)
-  pub few : rowsAfter q room budget (workOf equations basis table r) ≤ room
-  pub sided : Sided (equationAt equations (r.equation * q)) q (rowsAfter q room budget (workOf equations basis table r)) table' x x'
+  pub outcome : outcome_of o equations basis' table' ≡ run p q most room budget (work_of equations basis table r)
+  pub few : rows_after q room budget (work_of equations basis table r) ≤ room
+  pub sided : Sided (equation_at equations (r.equation * q)) q (rows_after q room budget (work_of equations basis table r)) table' x x'
   pub mothers : Unchanged r.rows x.mothers x'.mothers
   pub sized : Measured q r.count.0 basis sizes'
   pub kept : Kept 0 r.count.0 sizes sizes'
 
 module _ {p q most room : ℕ} {equations : List ℤ} {basis sizes table : List ℕ} {x : Sides} {r : Record}
     (e : Entered p q most room equations basis sizes table x r) where
-  equation-small : SmallEquation q equations (r.equation * q)
-  equation-small =
+  equation_small : SmallEquation q equations (r.equation * q)
+  equation_small =
       record {
         unknowns = e.size.unknowns;
         whole = omega (arith, e.whole, row_fits q r.equation p e.going);
         small = λ j l. e.order.coefs (r.equation * q + j) (omega (arith, row_fits q r.equation p e.going));
       }
 
-  basis-small : SmallTable q r.count.0 basis
-  basis-small =
+  basis_small : SmallTable q r.count.0 basis
+  basis_small =
       record {
         few = e.size.unknowns;
         whole = omega (arith, e.long, mul-le-mul_right q e.order.few);
-        small = λ i j l jq. small-from q (at basis q i) (row-parts i l).0 j jq;
+        small = λ i j l jq. small_from q (at basis q i) (row_parts i l).0 j jq;
       }
     where
-      row-parts : (i : ℕ) → i < r.count.0 → T (isSmall q (at basis q i)) × T (ltb 0 (total (at basis q i) q))
-      row-parts i l = unfold is_row in (and_parts (isSmall q (at basis q i)) _ (e.order.basis i l))
+      row_parts : (i : ℕ) → i < r.count.0 → T (is_small q (at basis q i)) × T (ltb 0 (total (at basis q i) q))
+      row_parts i l = unfold is_row in (and_parts (is_small q (at basis q i)) _ (e.order.basis i l))
 
   positive : (i : ℕ) → i < r.count.0 → 0 < total (at basis q i) q
-  positive i l = ltb→lt 0 (total (at basis q i) q) (unfold is_row in (and_parts (isSmall q (at basis q i)) _ (e.order.basis i l)).1)
+  positive i l = ltb→lt 0 (total (at basis q i) q) (unfold is_row in (and_parts (is_small q (at basis q i)) _ (e.order.basis i l)).1)
 
-  rows-small : SmallTable q r.rows table
-  rows-small =
+  rows_small : SmallTable q r.rows table
+  rows_small =
       record {
         few = e.size.unknowns;
         whole = omega (arith, e.fits.rows, mul-le-mul_right q e.order.fits);
-        small = λ i j l jq. small-from q (at table q i) (e.order.rows i l) j jq;
+        small = λ i j l jq. small_from q (at table q i) (e.order.rows i l) j jq;
       }
 
   pub writable : Writable equations (r.equation * q) basis r.count.0 (length sizes) table r.rows q (length x.values) (length x.words)
@@ -202,10 +202,10 @@ module _ {p q most room : ℕ} {equations : List ℤ} {basis sizes table : List 
       (length x.marks) (length x.mothers)
   writable =
       record {
-        small = equation-small;
-        given = basis-small;
+        small = equation_small;
+        given = basis_small;
         sized = omega (arith, e.sized, e.order.few);
-        rows = rows-small;
+        rows = rows_small;
         valued = omega (arith, e.fits.valued, e.order.fits);
         worded = omega (arith, e.fits.worded, e.order.fits);
         measured = omega (arith, e.fits.measured, e.order.fits);
@@ -217,9 +217,9 @@ module _ {p q most room : ℕ} {equations : List ℤ} {basis sizes table : List 
   f i = total (at table q i) q
 
   steps : (i : ℕ) → i < r.rows → (0 < f i) × (f (i - 1) ≤ f i) × (f i ≤ r.degree)
-  unfolding isRising
+  unfolding is_rising
   steps i l =
-      let (a, h) = and_parts (ltb 0 (f i)) _ (all-at r.rows _ e.order.rising i l) in
+      let (a, h) = and_parts (ltb 0 (f i)) _ (all_at r.rows _ e.order.rising i l) in
       let (b, c) = and_parts (leb (f (i - 1)) (f i)) _ h in
       (ltb→lt 0 (f i) a, leb→le (f (i - 1)) (f i) b, leb→le (f i) r.degree c)
 
@@ -232,19 +232,19 @@ module _ {p q most room : ℕ} {equations : List ℤ} {basis sizes table : List 
       ]
 
   module _ {sizes' : List ℕ} {x' : Sides} (w : Written equations (r.equation * q) basis r.count.0 table r.rows q sizes x sizes' x') where
-    entered-given : Given (frame_of q room r) (lent_of equations basis sizes')
-    entered-given =
+    entered_given : Given (frame_of q room r) (lent_of equations basis sizes')
+    entered_given =
         record {
           some = e.size.some;
-          small = equation-small;
-          rows = basis-small;
+          small = equation_small;
+          rows = basis_small;
           sized = w.size;
           positive = positive;
           few = omega (arith, e.order.few, e.capped);
         }
 
-    entered-roomy : Roomy (frame_of q room r) table x'
-    entered-roomy =
+    entered_roomy : Roomy (frame_of q room r) table x'
+    entered_roomy =
         record {
           fits = e.fits.rows;
           valued = omega (arith, e.fits.valued, w.values.long);
@@ -255,31 +255,31 @@ module _ {p q most room : ℕ} {equations : List ℤ} {basis sizes table : List 
           few = e.fits.few;
         }
 
-    entered-ranked : Ranked r.rows x'.values x'.degrees
-    entered-ranked =
+    entered_ranked : Ranked r.rows x'.values x'.degrees
+    entered_ranked =
         record {
           valued = w.valued.long;
           measured = w.measured.long;
           sorted = λ i k ik kn. rw (w.measured.each i (omega arith), w.measured.each k kn) (climbs i k ik kn);
           some = λ i l. rw (w.measured.each i l) (steps i l).0;
-          low = λ i l. rw (w.measured.each i l) (degree-small q (at table q i) e.size.unknowns (λ j jq. rows-small.small i j l jq));
+          low = λ i l. rw (w.measured.each i l) (degree_small q (at table q i) e.size.unknowns (λ j jq. rows_small.small i j l jq));
         }
 
-    pub entered-ready : Ready (frame_of q room r) (lent_of equations basis sizes') table x' (start_of r)
-    entered-ready =
+    pub entered_ready : Ready (frame_of q room r) (lent_of equations basis sizes') table x' (start_of r)
+    entered_ready =
         record {
-          given = entered-given;
-          roomy = entered-roomy;
+          given = entered_given;
+          roomy = entered_roomy;
           few = e.order.fits;
-          rows = rows-small;
+          rows = rows_small;
           valued = w.valued;
           worded = w.worded;
           measured = w.measured;
           marked = w.marked;
-          ranked = entered-ranked;
+          ranked = entered_ranked;
           low = λ i l. rw (w.measured.each i l) (steps i l).2;
           early = e.order.early;
-          falling = falling-start r.rows x'.degrees r.degree r.upper;
+          falling = falling_start r.rows x'.degrees r.degree r.upper;
           spent = λ h. never (sym h);
         }
 
@@ -311,7 +311,7 @@ module _ {p q most room : ℕ} {equations : List ℤ} {basis sizes table : List 
 
   module _ {budget : ℕ} {a : Ran} {sizes' table' : List ℕ} {x' : Sides} (h : Advanced q room budget equations basis sizes table x r a sizes' table' x') where
     -- the end of the stage may be written
-    pub closing : Closing p q most equations basis table' x'.values (recordAt r a.next)
+    pub closing : Closing p q most equations basis table' x'.values (record_at r a.next)
     closing =
         record {
           valued = h.ready.valued;
@@ -328,13 +328,13 @@ module _ {p q most room : ℕ} {equations : List ℤ} {basis sizes table : List 
         }
 
     pub resumed : {basis' : List ℕ} {o : made.Outcome}
-        → outcomeOf o equations basis' table' ≡ ended p q most (answer_of a.ending) (workOf equations basis table' (recordAt r a.next))
+        → outcome_of o equations basis' table' ≡ ended p q most (answer_of a.ending) (work_of equations basis table' (record_at r a.next))
         → ResumedTo p q most room budget equations basis sizes table x r o basis' sizes' table' x'
     unfolding onward
     resumed g =
         record {
-          outcome = g ∙ sym (ap (λ y. ended p q most y.answer (onward y.stage (workOf equations basis table r))) h.is)
-              ∙ sym (run-by-stage p q most room budget (workOf equations basis table r));
+          outcome = g ∙ sym (ap (λ y. ended p q most y.answer (onward y.stage (work_of equations basis table r))) h.is)
+              ∙ sym (run_by_stage p q most room budget (work_of equations basis table r));
           few = rw rows_are h.ready.few;
           sided =
               rw rows_are
@@ -344,5 +344,5 @@ module _ {p q most room : ℕ} {equations : List ℤ} {basis sizes table : List 
           kept = h.kept;
         }
       where
-        rows_are : rowsAfter q room budget (workOf equations basis table r) ≡ a.next.rows
+        rows_are : rows_after q room budget (work_of equations basis table r) ≡ a.next.rows
         rows_are = ap (λ y. y.stage.rows) h.is

@@ -1,5 +1,5 @@
 // The engine's continuing call. It takes the record by value and returns what it leaves.
-ghost use Rattle.engine_stage.specs.Standing.{sidesOf};
+ghost use Rattle.engine_stage.specs.Standing.{sides_of};
 ghost use Rattle.engine_resume.specs.Continuing.{ResumeLeft};
 
 use calls::Check;
@@ -25,9 +25,9 @@ pub fn resume(
     budget: u64,
 ) -> Outcome
     ensures { ResumeLeft p q budget equations.now basis.old sizes.old table.old
-        (sidesOf values.old words.old degrees.old marks.old mothers.old) r result
+        (sides_of values.old words.old degrees.old marks.old mothers.old) r result
         basis.new sizes.new table.new
-        (sidesOf values.new words.new degrees.new marks.new mothers.new) }
+        (sides_of values.new words.new degrees.new marks.new mothers.new) }
 {
     let most = capacity::basis_room(q, basis.len(), sizes.len());
     let room = capacity::stage_room(

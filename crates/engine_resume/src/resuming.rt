@@ -3,12 +3,12 @@ ghost use Rattle.std.specs.Prelude.{◌≡◌, cond, ◌^◌, ◌-◌, ◌≤◌
 ghost use Rattle.definitions.specs.Answers.{complete, paused as pausedAnswer};
 ghost use Rattle.calls.specs.Paper.{answer_of};
 ghost use Rattle.calls.specs.declared.Answer.TheVariants.{Paused};
-ghost use Rattle.engine_beside.specs.Records.{leaves, outcomeOf, workOf};
-ghost use Rattle.engine_stage.specs.Running.{answer_of as endingOf};
-ghost use Rattle.engine_stage.specs.Standing.{sidesOf};
+ghost use Rattle.engine_beside.specs.Records.{leaves, outcome_of, work_of};
+ghost use Rattle.engine_stage.specs.Running.{answer_of as ending_of};
+ghost use Rattle.engine_stage.specs.Standing.{sides_of};
 ghost use Rattle.engine_ends.specs.Closing.{Closing};
 ghost use Rattle.engine_resume.specs.EngineLaws.{ended};
-ghost use Rattle.engine_resume.specs.Resuming.{Advanced, Entered, ResumedTo, Writable, Written, recordAt, start_of};
+ghost use Rattle.engine_resume.specs.Resuming.{Advanced, Entered, ResumedTo, Writable, Written, record_at, start_of};
 
 use calls::{Answer, Refusal, Steps};
 use engine_beside::{Outcome, Record, degrees as measures, values as numbers, words as fields};
@@ -36,11 +36,11 @@ pub fn go_on(
     budget: u64,
 ) -> Outcome
     requires { Entered p q most room equations.now basis.old sizes.old table.old
-        (sidesOf values.old words.old degrees.old marks.old mothers.old) r }
+        (sides_of values.old words.old degrees.old marks.old mothers.old) r }
     ensures { ResumedTo p q most room budget equations.now basis.old sizes.old table.old
-        (sidesOf values.old words.old degrees.old marks.old mothers.old) r result
+        (sides_of values.old words.old degrees.old marks.old mothers.old) r result
         basis.new sizes.new table.new
-        (sidesOf values.new words.new degrees.new marks.new mothers.new) }
+        (sides_of values.new words.new degrees.new marks.new mothers.new) }
 {
     let ran = advance(
         p, q, most, room, equations, basis, sizes, table, values, words, degrees, marks, mothers,
@@ -80,11 +80,11 @@ fn advance(
     budget: u64,
 ) -> Ran
     requires { Entered p q most room equations.now basis.now sizes.old table.old
-        (sidesOf values.old words.old degrees.old marks.old mothers.old) r }
+        (sides_of values.old words.old degrees.old marks.old mothers.old) r }
     ensures { Advanced q room budget equations.now basis.now sizes.old table.old
-        (sidesOf values.old words.old degrees.old marks.old mothers.old) r result
+        (sides_of values.old words.old degrees.old marks.old mothers.old) r result
         sizes.new table.new
-        (sidesOf values.new words.new degrees.new marks.new mothers.new) }
+        (sides_of values.new words.new degrees.new marks.new mothers.new) }
 {
     let m = r.count.0;
     let n = r.rows;
@@ -138,9 +138,9 @@ fn write_beside(
     requires { Writable coefs.now from basis.now m (length sizes.old) table.now n q (length values.old) (length words.old)
         (length degrees.old) (length marks.old) (length mothers.now) }
     ensures { Written coefs.now from basis.now m table.now n q sizes.old
-        (sidesOf values.old words.old degrees.old marks.old mothers.now)
+        (sides_of values.old words.old degrees.old marks.old mothers.now)
         sizes.new
-        (sidesOf values.new words.new degrees.new marks.new mothers.now) }
+        (sides_of values.new words.new degrees.new marks.new mothers.now) }
 {
     measures::write_degrees(basis, m, q, sizes);
     numbers::write_values(coefs, from, table, n, q, values);
@@ -151,7 +151,7 @@ fn write_beside(
 
 // The record with the stage where it stands.
 fn stand(r: Record, s: Next) -> Record
-    ensures { result ≡ recordAt r s }
+    ensures { result ≡ record_at r s }
 {
     let steps = Steps(s.steps);
     let count = r.count;
@@ -183,8 +183,8 @@ fn close(
     ending: Ending,
 ) -> Outcome
     requires { Closing p q most equations.now basis.old table.now values.now r }
-    ensures { outcomeOf result equations.now basis.new table.now
-        ≡ ended p q most (endingOf ending) (workOf equations.now basis.old table.now r) }
+    ensures { outcome_of result equations.now basis.new table.now
+        ≡ ended p q most (ending_of ending) (work_of equations.now basis.old table.now r) }
 {
     match ending {
         Ending::Paused => paused(r),

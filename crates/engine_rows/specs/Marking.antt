@@ -6,29 +6,29 @@ use Rattle.std.specs.Int.Signed.{lt_z, lt_z_yes}
 use Rattle.std.specs.Int.{w64}
 use Rattle.linear.specs.Cases.{split}
 use Rattle.linear.specs.Differences.{one_side, up_lt}
-use Rattle.linear.specs.Integers.{sfits-natAbs}
+use Rattle.linear.specs.Integers.{sfits_nat_abs}
 use Rattle.linear.specs.SystemLaws.{inner_bound}
 use Rattle.linear.specs.Systems.{value}
 use Rattle.linear.specs.TestLaws.{and_parts, or_cases}
 use Rattle.linear.specs.Tuples.{AtOrBelow}
-use Rattle.definitions.specs.System.{isAtOrBelow, mostComponent}
+use Rattle.definitions.specs.System.{is_at_or_below, most_component}
 use Rattle.definitions.specs.Tables.{at}
-use Rattle.laws.specs.SystemLaws.{below-from}
-use Rattle.engine_spec.specs.Beside.{AllMarked, SmallEquation, SmallTable, Valued, coefficientLimit, equationAt, noMark, valueLimit}
+use Rattle.laws.specs.SystemLaws.{below_from}
+use Rattle.engine_spec.specs.Beside.{AllMarked, SmallEquation, SmallTable, Valued, coefficient_limit, equation_at, no_mark, value_limit}
 use Rattle.engine_spec.specs.Marks.{Opposed, size}
 use Rattle.engine_spec.specs.ReductionLaws.{Against}
 
 -- n integers as large as values can be
 pub record BoundedValues (n : ℕ) (values : List ℤ) : Type 0 where
   pub long : n ≤ length values
-  pub each : (i : ℕ) → i < n → nat_abs (get_or values i (pos 0)) ≤ valueLimit
+  pub each : (i : ℕ) → i < n → nat_abs (get_or values i (pos 0)) ≤ value_limit
 
 abbrev pub value_at : List ℤ → ℕ → ℤ
 value_at values i = get_or values i (pos 0)
 
 -- one integer is above 0 and the other below
-unfoldable pub isOpposed : ℤ → ℤ → Bool
-isOpposed x y = (lt_z (pos 0) x && lt_z y (pos 0)) || (lt_z x (pos 0) && lt_z (pos 0) y)
+unfoldable pub is_opposed : ℤ → ℤ → Bool
+is_opposed x y = (lt_z (pos 0) x && lt_z y (pos 0)) || (lt_z x (pos 0) && lt_z (pos 0) y)
 
 -- a row of the other sign, by the integers that stand for values, lies at or below row i, and the two sizes add up to at most `mark`
 pub record ValueMarked (q n : ℕ) (table : List ℕ) (values : List ℤ) (i mark : ℕ) : Type 0 where
@@ -46,25 +46,25 @@ pub record MarksWritten (q n : ℕ) (table : List ℕ) (values : List ℤ) (mark
 
 -- ---- the values of small rows under a small equation are so bounded
 
-pub valued-bounded : {q n : ℕ} {coefs : List ℤ} {from : ℕ} {table : List ℕ} {values : List ℤ} → SmallEquation q coefs from → SmallTable q n table
-    → Valued (equationAt coefs from) q n table values
+pub valued_bounded : {q n : ℕ} {coefs : List ℤ} {from : ℕ} {table : List ℕ} {values : List ℤ} → SmallEquation q coefs from → SmallTable q n table
+    → Valued (equation_at coefs from) q n table values
     → BoundedValues n values
 unfolding value
-valued-bounded {q} {n} {coefs} {from} {table} {values} e t v =
+valued_bounded {q} {n} {coefs} {from} {table} {values} e t v =
     record {
       long = v.long;
       each = λ i l. rw (v.each i l)
           (omega (
             arith,
             e.unknowns,
-            inner_bound q coefficientLimit mostComponent (equationAt coefs from) (λ j. pos (at table q i j)) e.small (λ j jq. t.small i j l jq),
+            inner_bound q coefficient_limit most_component (equation_at coefs from) (λ j. pos (at table q i j)) e.small (λ j jq. t.small i j l jq),
           ));
     }
 
 -- ---- signs
 
-against-from : (x y : ℤ) → T (lt_z (pos 0) x && lt_z y (pos 0)) → Against x y
-against-from x y t =
+against_from : (x y : ℤ) → T (lt_z (pos 0) x && lt_z y (pos 0)) → Against x y
+against_from x y t =
     let (u, w) = and_parts (lt_z (pos 0) x) (lt_z y (pos 0)) t in
     let over : pos 0 <ℤ x = lt_z_yes u in
     let under : y <ℤ pos 0 = lt_z_yes w in
@@ -75,30 +75,30 @@ swap true true h = tt
 swap true false h = absurd h
 swap false c h = absurd h
 
-pub opposed-from : (x y : ℤ) → isOpposed x y ≡ true → Opposed x y
-unfolding isOpposed
-opposed-from x y e =
+pub opposed_from : (x y : ℤ) → is_opposed x y ≡ true → Opposed x y
+unfolding is_opposed
+opposed_from x y e =
     elim (or_cases (lt_z (pos 0) x && lt_z y (pos 0)) (lt_z x (pos 0) && lt_z (pos 0) y) (rw e tt)) [
-      | inl h ↦ inl (against-from x y h)
-      | inr h ↦ inr (against-from y x (swap (lt_z x (pos 0)) (lt_z (pos 0) y) h))
+      | inl h ↦ inl (against_from x y h)
+      | inr h ↦ inr (against_from y x (swap (lt_z x (pos 0)) (lt_z (pos 0) y) h))
     ]
 
-or-none : (b : Bool) → b ≡ (b || false)
-or-none true = refl
-or-none false = refl
+or_none : (b : Bool) → b ≡ (b || false)
+or_none true = refl
+or_none false = refl
 
-pub opposed-below : (x y : ℤ) → lt_z x (pos 0) ≡ true → lt_z (pos 0) y ≡ isOpposed x y
-unfolding isOpposed
-opposed-below (pos n) y e = absurd (omega (arith, ltb-true n 0 e))
-opposed-below (negsuc n) y e = refl
+pub opposed_below : (x y : ℤ) → lt_z x (pos 0) ≡ true → lt_z (pos 0) y ≡ is_opposed x y
+unfolding is_opposed
+opposed_below (pos n) y e = absurd (omega (arith, ltb-true n 0 e))
+opposed_below (negsuc n) y e = refl
 
-pub opposed-above : (x y : ℤ) → lt_z x (pos 0) ≡ false → lt_z (pos 0) x ≡ true → lt_z y (pos 0) ≡ isOpposed x y
-unfolding isOpposed
-opposed-above x y e g = rw (e, g) (or-none (lt_z y (pos 0)))
+pub opposed_above : (x y : ℤ) → lt_z x (pos 0) ≡ false → lt_z (pos 0) x ≡ true → lt_z y (pos 0) ≡ is_opposed x y
+unfolding is_opposed
+opposed_above x y e g = rw (e, g) (or_none (lt_z y (pos 0)))
 
-pub opposed-none : (x y : ℤ) → lt_z x (pos 0) ≡ false → lt_z (pos 0) x ≡ false → false ≡ isOpposed x y
-unfolding isOpposed
-opposed-none x y e g = rw (e, g)
+pub opposed_none : (x y : ℤ) → lt_z x (pos 0) ≡ false → lt_z (pos 0) x ≡ false → false ≡ is_opposed x y
+unfolding is_opposed
+opposed_none x y e g = rw (e, g)
 
 -- ---- sizes
 
@@ -114,22 +114,22 @@ pub size_is : (v : ℤ) → size v ≡ nat_abs v
 size_is (pos n) = omega arith
 size_is (negsuc n) = omega arith
 
-pub size_fits : (v : ℤ) → nat_abs v ≤ valueLimit → SFits w64 (pos (size v))
-size_fits v l = sfits-natAbs (omega (arith, size_is v))
+pub size_fits : (v : ℤ) → nat_abs v ≤ value_limit → SFits w64 (pos (size v))
+size_fits v l = sfits_nat_abs (omega (arith, size_is v))
 
 -- a value as the code reads it
-abbrev pub readAt : List ℤ → ℕ → ℤ
-readAt values i = to_z w64 (of_z w64 (value_at values i))
+abbrev pub read_at : List ℤ → ℕ → ℤ
+read_at values i = to_z w64 (of_z w64 (value_at values i))
 
-pub value_read : {n : ℕ} {values : List ℤ} → BoundedValues n values → (i : ℕ) → i < n → readAt values i ≡ value_at values i
-value_read b i l = to_z-of_z (sfits-natAbs (omega (arith, b.each i l)))
+pub value_read : {n : ℕ} {values : List ℤ} → BoundedValues n values → (i : ℕ) → i < n → read_at values i ≡ value_at values i
+value_read b i l = to_z-of_z (sfits_nat_abs (omega (arith, b.each i l)))
 
 -- ---- the mark that row m gives to row i, from what the code finds of them
 
-module _ {n : ℕ} {values : List ℤ} (b : BoundedValues n values) {i m : ℕ} (il : i < n) (ml : m < n) {s t : ℕ} (sized : s ≡ size (readAt values i))
-    (sized' : t ≡ size (readAt values m)) where
-  pub mark-small : s + t ≤ 2 * valueLimit
-  mark-small =
+module _ {n : ℕ} {values : List ℤ} (b : BoundedValues n values) {i m : ℕ} (il : i < n) (ml : m < n) {s t : ℕ} (sized : s ≡ size (read_at values i))
+    (sized' : t ≡ size (read_at values m)) where
+  pub mark_small : s + t ≤ 2 * value_limit
+  mark_small =
       omega (
         arith,
         rw (value_read b i il) at sized,
@@ -140,15 +140,15 @@ module _ {n : ℕ} {values : List ℤ} (b : BoundedValues n values) {i m : ℕ} 
         b.each m ml,
       )
 
-  pub marked_by : (q : ℕ) (table : List ℕ) {o u : Bool} → o ≡ isOpposed (readAt values i) (readAt values m) → not o ≡ false
-      → u ≡ isAtOrBelow q (at table q m) (at table q i) → not u ≡ false
+  pub marked_by : (q : ℕ) (table : List ℕ) {o u : Bool} → o ≡ is_opposed (read_at values i) (read_at values m) → not o ≡ false
+      → u ≡ is_at_or_below q (at table q m) (at table q i) → not u ≡ false
       → ValueMarked q n table values i (s + t)
   marked_by q table {o} {u} signs on under un =
       record {
         by = m;
         low = ml;
-        under = below-from q (at table q m) (at table q i) (rw (sym under ∙ not-false u un) tt);
-        signs = opposed-from (value_at values i) (value_at values m) (rw (value_read b i il, value_read b m ml) at (sym signs ∙ not-false o on));
+        under = below_from q (at table q m) (at table q i) (rw (sym under ∙ not-false u un) tt);
+        signs = opposed_from (value_at values i) (value_at values m) (rw (value_read b i il, value_read b m ml) at (sym signs ∙ not-false o on));
         sizes = omega (arith, rw (value_read b i il) at sized, rw (value_read b m ml) at sized');
       }
 
@@ -156,17 +156,17 @@ module _ {n : ℕ} {values : List ℤ} (b : BoundedValues n values) {i m : ℕ} 
 
 -- the first i marks are written
 pub record MarksTo (q n i : ℕ) (table : List ℕ) (values : List ℤ) (marks₀ marks : List ℕ) : Type 0 where
-  pub each : (k : ℕ) → k < i → get_or marks k 0 < noMark → ValueMarked q n table values k (get_or marks k 0)
+  pub each : (k : ℕ) → k < i → get_or marks k 0 < no_mark → ValueMarked q n table values k (get_or marks k 0)
   pub same_length : length marks ≡ length marks₀
   pub beyond : (k : ℕ) → i ≤ k → get_or marks k 0 ≡ get_or marks₀ k 0
 
-pub marks-none : (q n : ℕ) (table : List ℕ) (values : List ℤ) (marks : List ℕ) → MarksTo q n 0 table values marks marks
-marks-none q n table values marks = record { each = λ k l h. absurd (omega arith); same_length = refl; beyond = λ k l. refl }
+pub marks_none : (q n : ℕ) (table : List ℕ) (values : List ℤ) (marks : List ℕ) → MarksTo q n 0 table values marks marks
+marks_none q n table values marks = record { each = λ k l h. absurd (omega arith); same_length = refl; beyond = λ k l. refl }
 
-pub marks-next : {q n i : ℕ} {table : List ℕ} {values : List ℤ} {marks₀ marks : List ℕ} → MarksTo q n i table values marks₀ marks → i < length marks → (r : ℕ)
-    → (r < noMark → ValueMarked q n table values i r)
+pub marks_next : {q n i : ℕ} {table : List ℕ} {values : List ℤ} {marks₀ marks : List ℕ} → MarksTo q n i table values marks₀ marks → i < length marks → (r : ℕ)
+    → (r < no_mark → ValueMarked q n table values i r)
     → MarksTo q n (i + 1) table values marks₀ (set marks i r)
-marks-next {q} {n} {i} {table} {values} {marks₀} {marks} w l r is =
+marks_next {q} {n} {i} {table} {values} {marks₀} {marks} w l r is =
     record {
       each = λ k kl. elim (split k i) [
         | inl h ↦ rw (get_or-set_other marks i k r 0 (omega arith)) (w.each k h)
@@ -176,9 +176,9 @@ marks-next {q} {n} {i} {table} {values} {marks₀} {marks} w l r is =
       beyond = λ k kl. get_or-set_other marks i k r 0 (omega arith) ∙ w.beyond k (omega arith);
     }
 
-pub marks-all : {q n : ℕ} {table : List ℕ} {values : List ℤ} {marks₀ marks : List ℕ} → MarksTo q n n table values marks₀ marks → n ≤ length marks₀
+pub marks_all : {q n : ℕ} {table : List ℕ} {values : List ℤ} {marks₀ marks : List ℕ} → MarksTo q n n table values marks₀ marks → n ≤ length marks₀
     → MarksWritten q n table values marks₀ marks
-marks-all {q} {n} {table} {values} {marks₀} {marks} w l =
+marks_all {q} {n} {table} {values} {marks₀} {marks} w l =
     record {
       marked = λ c v. record {
         long = omega (arith, w.same_length);

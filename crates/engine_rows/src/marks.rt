@@ -1,8 +1,8 @@
 // Marks: a number kept with a row that answers for many pairs with it at once that their sum is reduced.
 ghost use Rattle.std.specs.Prelude.{◌≡◌, ◌+◌, ◌*◌, ◌≤◌, ◌<◌, nat_abs, length};
-ghost use Rattle.engine_spec.specs.Beside.{SmallTable, noMark, valueLimit};
+ghost use Rattle.engine_spec.specs.Beside.{SmallTable, no_mark, value_limit};
 ghost use Rattle.engine_spec.specs.Marks as marks;
-ghost use Rattle.engine_rows.specs.Marking.{BoundedValues, MarksWritten, ValueMarked, isOpposed};
+ghost use Rattle.engine_rows.specs.Marking.{BoundedValues, MarksWritten, ValueMarked, is_opposed};
 
 use crate::rows;
 
@@ -11,7 +11,7 @@ const NO_MARK: u64 = 18446744073709551615;
 
 // The absolute value.
 pub fn size(v: i64) -> u64
-    requires { nat_abs v ≤ valueLimit }
+    requires { nat_abs v ≤ value_limit }
     ensures { result ≡ marks.size v }
 {
     if v < 0 {
@@ -24,7 +24,7 @@ pub fn size(v: i64) -> u64
 
 // Whether one is above 0 and the other below.
 fn opposed(x: i64, y: i64) -> bool
-    ensures { result ≡ isOpposed x y }
+    ensures { result ≡ is_opposed x y }
 {
     if x < 0 {
         return 0 < y;
@@ -59,7 +59,7 @@ pub fn write_marks(
 // The mark that row m gives to row i.
 fn mark_by(table: &[u32], values: &[i64], n: usize, q: usize, i: usize, m: usize) -> u64
     requires { SmallTable q n table.now × BoundedValues n values.now × (i < n) }
-    ensures { result < noMark → ValueMarked q n table.now values.now i result }
+    ensures { result < no_mark → ValueMarked q n table.now values.now i result }
 {
     if n <= m {
         return NO_MARK;

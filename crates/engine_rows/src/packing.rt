@@ -2,20 +2,20 @@
 ghost use Rattle.std.specs.Prelude.{true, false, ◌≡◌, ◌+◌, ◌*◌, ◌≤◌, ◌<◌, pos, length};
 ghost use Rattle.std.specs.Int.Signed.{le_z, lt_z};
 ghost use Rattle.linear.specs.Differences.{up};
-ghost use Rattle.linear.specs.Tests.{allTo, count_to};
-ghost use Rattle.definitions.specs.System.{is_zero, mostComponent};
+ghost use Rattle.linear.specs.Tests.{all_to, count_to};
+ghost use Rattle.definitions.specs.System.{is_zero, most_component};
 ghost use Rattle.definitions.specs.Tables.{at};
-ghost use Rattle.laws.specs.Pack.{packTo};
-ghost use Rattle.laws.specs.Sweep.{sweptTo};
-ghost use Rattle.engine_rows.specs.Keeping.{filledRow, lacks, notBelowValue, smallValue, zeroValue};
+ghost use Rattle.laws.specs.Pack.{pack_to};
+ghost use Rattle.laws.specs.Sweep.{swept_to};
+ghost use Rattle.engine_rows.specs.Keeping.{filled_row, lacks, not_below_value, small_value, zero_value};
 
 use crate::rows;
 
 // Writes those of the first n rows that have value 0 into `basis`, and says how many.
 pub fn keep_zeros(basis: &mut [u32], table: &[u32], values: &[i64], n: usize, q: usize) -> usize
-    requires { (n * q ≤ length table.now) × (n ≤ length values.now) × (count_to n (zeroValue values.now) * q ≤ length basis.old) }
-    ensures { (basis.new ≡ packTo n q basis.old 0 (zeroValue values.now) (at table.now q))
-        × (result ≡ count_to n (zeroValue values.now)) }
+    requires { (n * q ≤ length table.now) × (n ≤ length values.now) × (count_to n (zero_value values.now) * q ≤ length basis.old) }
+    ensures { (basis.new ≡ pack_to n q basis.old 0 (zero_value values.now) (at table.now q))
+        × (result ≡ count_to n (zero_value values.now)) }
 {
     let mut kept = 0;
     let mut i = 0;
@@ -34,7 +34,7 @@ pub fn keep_zeros(basis: &mut [u32], table: &[u32], values: &[i64], n: usize, q:
 // How many of the first n values are 0.
 pub fn count_zeros(values: &[i64], n: usize) -> usize
     requires { n ≤ length values.now }
-    ensures { result ≡ count_to n (zeroValue values.now) }
+    ensures { result ≡ count_to n (zero_value values.now) }
 {
     let mut count = 0;
     let mut i = 0;
@@ -64,11 +64,11 @@ pub fn keep_filled(
     q: usize,
     f: usize,
 ) -> usize
-    requires { (n * q ≤ length table.now) × (n ≤ length values.now) × (allTo n (smallValue values.now) ≡ true)
-        × (count_to n (notBelowValue values.now) * q ≤ length basis.old) }
-    ensures { (basis.new ≡ packTo n q basis.old 0 (notBelowValue values.now)
-        (filledRow f values.now (at table.now q)))
-        × (result ≡ count_to n (notBelowValue values.now)) }
+    requires { (n * q ≤ length table.now) × (n ≤ length values.now) × (all_to n (small_value values.now) ≡ true)
+        × (count_to n (not_below_value values.now) * q ≤ length basis.old) }
+    ensures { (basis.new ≡ pack_to n q basis.old 0 (not_below_value values.now)
+        (filled_row f values.now (at table.now q)))
+        × (result ≡ count_to n (not_below_value values.now)) }
 {
     let mut kept = 0;
     let mut i = 0;
@@ -87,7 +87,7 @@ pub fn keep_filled(
 // How many of the first n values are not below 0.
 pub fn count_not_below(values: &[i64], n: usize) -> usize
     requires { n ≤ length values.now }
-    ensures { result ≡ count_to n (notBelowValue values.now) }
+    ensures { result ≡ count_to n (not_below_value values.now) }
 {
     let mut count = 0;
     let mut i = 0;
@@ -110,7 +110,7 @@ fn is_below(x: i64) -> bool
 
 // A value that is not below 0 nor above 1,000,000.
 fn natural(x: i64) -> u32
-    requires { (lt_z x (pos 0) ≡ false) × (le_z x (pos mostComponent) ≡ true) }
+    requires { (lt_z x (pos 0) ≡ false) × (le_z x (pos most_component) ≡ true) }
     ensures { result ≡ up x }
 {
     x as u32
@@ -119,7 +119,7 @@ fn natural(x: i64) -> u32
 // Whether none of the first n values is above 1,000,000.
 pub fn most_value_small(values: &[i64], n: usize) -> bool
     requires { n ≤ length values.now }
-    ensures { result ≡ allTo n (smallValue values.now) }
+    ensures { result ≡ all_to n (small_value values.now) }
 {
     let mut i = 0;
     while i < n {
@@ -132,7 +132,7 @@ pub fn most_value_small(values: &[i64], n: usize) -> bool
 }
 
 fn is_large(x: i64) -> bool
-    ensures { result ≡ lt_z (pos mostComponent) x }
+    ensures { result ≡ lt_z (pos most_component) x }
 {
     (calls::COMPONENT_LIMIT as i64) < x
 }
@@ -140,7 +140,7 @@ fn is_large(x: i64) -> bool
 // Keeps those of the first m rows that have 0 at place f, in place, and says how many.
 pub fn drop_fresh(basis: &mut [u32], m: usize, q: usize, f: usize) -> usize
     requires { (m * q ≤ length basis.old) × (f < q) }
-    ensures { (basis.new ≡ sweptTo m q basis.old (lacks f (at basis.old q)))
+    ensures { (basis.new ≡ swept_to m q basis.old (lacks f (at basis.old q)))
         × (result ≡ count_to m (lacks f (at basis.old q))) }
 {
     let mut kept = 0;

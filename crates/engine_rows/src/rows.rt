@@ -2,12 +2,12 @@
 ghost use Rattle.std.specs.Prelude.{◌≡◌, ◌+◌, ◌*◌, ◌≤◌, ◌<◌, ltb, length};
 ghost use Rattle.linear.specs.Tests.{number};
 ghost use Rattle.linear.specs.Tuples.{unit};
-ghost use Rattle.definitions.specs.System.{isAtOrBelow};
-ghost use Rattle.definitions.specs.Tables.{writeTo};
-ghost use Rattle.laws.specs.Pack.{packTo};
+ghost use Rattle.definitions.specs.System.{is_at_or_below};
+ghost use Rattle.definitions.specs.Tables.{write_to};
+ghost use Rattle.laws.specs.Pack.{pack_to};
 ghost use Rattle.engine_spec.specs.Beside.{SmallRow, row_at};
 ghost use Rattle.engine_spec.specs.Fresh.{put_at};
-ghost use Rattle.engine_spec.specs.Reduction.{isSmall};
+ghost use Rattle.engine_spec.specs.Reduction.{is_small};
 ghost use Rattle.engine_spec.specs.Signs.{plus};
 ghost use Rattle.engine_rows.specs.Packing.{always};
 
@@ -15,7 +15,7 @@ ghost use Rattle.engine_rows.specs.Packing.{always};
 // loop, several are compared at a time.
 pub fn below_sum(table: &[u32], i: usize, x: usize, y: usize, q: usize) -> bool
     requires { SmallRow q table.now x × SmallRow q table.now y × (i + q ≤ length table.now) }
-    ensures { result ≡ isAtOrBelow q (row_at table.now i) (plus (row_at table.now x) (row_at table.now y)) }
+    ensures { result ≡ is_at_or_below q (row_at table.now i) (plus (row_at table.now x) (row_at table.now y)) }
 {
     let mut over: u32 = 0;
     let mut j = 0;
@@ -36,7 +36,7 @@ fn exceeds(a: u32, b: u32) -> u32
 // Whether the row from place x is at or below the row from place y. It looks at every component, as above.
 pub fn below(table: &[u32], x: usize, y: usize, q: usize) -> bool
     requires { (x + q ≤ length table.now) × (y + q ≤ length table.now) }
-    ensures { result ≡ isAtOrBelow q (row_at table.now x) (row_at table.now y) }
+    ensures { result ≡ is_at_or_below q (row_at table.now x) (row_at table.now y) }
 {
     let mut above: u32 = 0;
     let mut j = 0;
@@ -50,7 +50,7 @@ pub fn below(table: &[u32], x: usize, y: usize, q: usize) -> bool
 // Whether no component of the sum of the rows from places x and y is above 1,000,000.
 pub fn small_sum(table: &[u32], x: usize, y: usize, q: usize) -> bool
     requires { SmallRow q table.now x × SmallRow q table.now y }
-    ensures { result ≡ isSmall q (plus (row_at table.now x) (row_at table.now y)) }
+    ensures { result ≡ is_small q (plus (row_at table.now x) (row_at table.now y)) }
 {
     let mut j = 0;
     while j < q {
@@ -65,7 +65,7 @@ pub fn small_sum(table: &[u32], x: usize, y: usize, q: usize) -> bool
 // Writes the sum of the rows from places x and y behind them, from place `to`.
 pub fn append_sum(table: &mut [u32], x: usize, y: usize, to: usize, q: usize)
     requires { SmallRow q table.old x × SmallRow q table.old y × (x + q ≤ to) × (y + q ≤ to) × (to + q ≤ length table.old) }
-    ensures { table.new ≡ writeTo q table.old to (plus (row_at table.old x) (row_at table.old y)) }
+    ensures { table.new ≡ write_to q table.old to (plus (row_at table.old x) (row_at table.old y)) }
 {
     let mut j = 0;
     while j < q {
@@ -77,7 +77,7 @@ pub fn append_sum(table: &mut [u32], x: usize, y: usize, to: usize, q: usize)
 // Writes the row that stands in `source` from place `from` into the table, from place `to`.
 pub fn append_row(source: &[u32], from: usize, table: &mut [u32], to: usize, q: usize)
     requires { (from + q ≤ length source.now) × (to + q ≤ length table.old) }
-    ensures { table.new ≡ writeTo q table.old to (row_at source.now from) }
+    ensures { table.new ≡ write_to q table.old to (row_at source.now from) }
 {
     let mut j = 0;
     while j < q {
@@ -97,7 +97,7 @@ pub fn append_filled(
     x: u32,
 )
     requires { (from + q ≤ length source.now) × (to + q ≤ length table.old) }
-    ensures { table.new ≡ writeTo q table.old to (put_at f x (row_at source.now from)) }
+    ensures { table.new ≡ write_to q table.old to (put_at f x (row_at source.now from)) }
 {
     let mut j = 0;
     while j < q {
@@ -116,7 +116,7 @@ fn put(y: u32, j: usize, f: usize, x: u32) -> u32
 // Copies the row that stands from place `from` to an earlier place.
 pub fn copy(table: &mut [u32], from: usize, to: usize, q: usize)
     requires { (to ≤ from) × (from + q ≤ length table.old) }
-    ensures { table.new ≡ writeTo q table.old to (row_at table.old from) }
+    ensures { table.new ≡ write_to q table.old to (row_at table.old from) }
 {
     let mut j = 0;
     while j < q {
@@ -128,7 +128,7 @@ pub fn copy(table: &mut [u32], from: usize, to: usize, q: usize)
 // Writes the unit tuples, from the first row on.
 pub fn write_units(table: &mut [u32], q: usize)
     requires { q * q ≤ length table.old }
-    ensures { table.new ≡ packTo q q table.old 0 always unit }
+    ensures { table.new ≡ pack_to q q table.old 0 always unit }
 {
     let mut i = 0;
     while i < q {
@@ -140,7 +140,7 @@ pub fn write_units(table: &mut [u32], q: usize)
 // Writes the tuple with a single 1 at place i into the table from place `base`.
 pub fn write_unit(table: &mut [u32], base: usize, q: usize, i: usize)
     requires { base + q ≤ length table.old }
-    ensures { table.new ≡ writeTo q table.old base (unit i) }
+    ensures { table.new ≡ write_to q table.old base (unit i) }
 {
     let mut j = 0;
     while j < q {

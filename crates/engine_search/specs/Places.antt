@@ -2,65 +2,65 @@
 -- Assumes nothing.
 use Rattle.std.specs.Prelude.{◌≡◌, Bool, cond, ◌&&◌, List, ℕ, ◌+◌, ◌≤◌, ◌<◌, eqb, ℤ, pos, length, get_or}
 use Rattle.std.specs.Int.Signed.{lt_z}
-use Rattle.engine_spec.specs.Search.{holder, leastTo, lesser, partner}
+use Rattle.engine_spec.specs.Search.{holder, least_to, lesser, partner}
 
 -- ---- tables
 
 abbrev pub value_of : List ℤ → ℕ → ℤ
 value_of values i = get_or values i (pos 0)
 
-abbrev pub degreeOf : List ℕ → ℕ → ℕ
-degreeOf degrees i = get_or degrees i 0
+abbrev pub degree_of : List ℕ → ℕ → ℕ
+degree_of degrees i = get_or degrees i 0
 
 -- the degrees of n rows, sorted, none of them 0, and within 32 components of 1,000,000
 pub record Ranked (n : ℕ) (values : List ℤ) (degrees : List ℕ) : Type 0 where
   pub valued : n ≤ length values
   pub measured : n ≤ length degrees
-  pub sorted : (i k : ℕ) → i ≤ k → k < n → degreeOf degrees i ≤ degreeOf degrees k
-  pub some : (i : ℕ) → i < n → 1 ≤ degreeOf degrees i
-  pub low : (i : ℕ) → i < n → degreeOf degrees i ≤ 32000000
+  pub sorted : (i k : ℕ) → i ≤ k → k < n → degree_of degrees i ≤ degree_of degrees k
+  pub some : (i : ℕ) → i < n → 1 ≤ degree_of degrees i
+  pub low : (i : ℕ) → i < n → degree_of degrees i ≤ 32000000
 
 -- ---- tests
 
 -- the value of row h is above 0, that of row k below, and their degrees add up to d
-unfoldable pub dueBy : (v : ℕ → ℤ) (deg : ℕ → ℕ) (d h k : ℕ) → Bool
-dueBy v deg d h k = (lt_z (pos 0) (v h) && lt_z (v k) (pos 0)) && eqb (deg h + deg k) d
+unfoldable pub due_by : (v : ℕ → ℤ) (deg : ℕ → ℕ) (d h k : ℕ) → Bool
+due_by v deg d h k = (lt_z (pos 0) (v h) && lt_z (v k) (pos 0)) && eqb (deg h + deg k) d
 
 -- the degree of a pair; 0 where it is none
-unfoldable pub pairDegreeBy : (v : ℕ → ℤ) (deg : ℕ → ℕ) (h k : ℕ) → ℕ
-pairDegreeBy v deg h k = cond (lt_z (pos 0) (v h) && lt_z (v k) (pos 0)) (deg h + deg k) 0
+unfoldable pub pair_degree_by : (v : ℕ → ℤ) (deg : ℕ → ℕ) (h k : ℕ) → ℕ
+pair_degree_by v deg h k = cond (lt_z (pos 0) (v h) && lt_z (v k) (pos 0)) (deg h + deg k) 0
 
 -- the least degree above d of a pair of n rows with its upper row among the first `count`
-abbrev pub leastPair : (d n : ℕ) (v : ℕ → ℤ) (deg : ℕ → ℕ) (count : ℕ) → ℕ
-leastPair d n v deg count = leastTo d count (λ h. leastTo d n (pairDegreeBy v deg h))
+abbrev pub least_pair : (d n : ℕ) (v : ℕ → ℤ) (deg : ℕ → ℕ) (count : ℕ) → ℕ
+least_pair d n v deg count = least_to d count (λ h. least_to d n (pair_degree_by v deg h))
 
 -- the least degree above d of m rows of the basis or of a pair of n rows; 0 where there is none
-unfoldable pub nextDegreeBy : (d m : ℕ) (size : ℕ → ℕ) (n : ℕ) (v : ℕ → ℤ) (deg : ℕ → ℕ) → ℕ
-nextDegreeBy d m size n v deg = lesser d (leastTo d m size) (leastPair d n v deg n)
+unfoldable pub next_degree_by : (d m : ℕ) (size : ℕ → ℕ) (n : ℕ) (v : ℕ → ℤ) (deg : ℕ → ℕ) → ℕ
+next_degree_by d m size n v deg = lesser d (least_to d m size) (least_pair d n v deg n)
 
 -- ---- the next pair
 
 -- from row `first` on, no degree is below what the degree of row `upper` leaves of d
 pub record Falling (n : ℕ) (degrees : List ℕ) (d upper first : ℕ) : Type 0 where
-  pub late : upper < n → (k : ℕ) → first ≤ k → k < n → d ≤ degreeOf degrees upper + degreeOf degrees k
+  pub late : upper < n → (k : ℕ) → first ≤ k → k < n → d ≤ degree_of degrees upper + degree_of degrees k
 
 -- the test by two tables, and the first pair from (u, l) on that meets it
 abbrev pub due : List ℤ → List ℕ → ℕ → ℕ → ℕ → Bool
-due values degrees = dueBy (value_of values) (degreeOf degrees)
+due values degrees = due_by (value_of values) (degree_of degrees)
 
-abbrev pub upperOf : (n : ℕ) → List ℤ → List ℕ → (d u l : ℕ) → ℕ
-upperOf n values degrees d u l = holder n (due values degrees d) u l
+abbrev pub upper_of : (n : ℕ) → List ℤ → List ℕ → (d u l : ℕ) → ℕ
+upper_of n values degrees d u l = holder n (due values degrees d) u l
 
-abbrev pub lowerOf : (n : ℕ) → List ℤ → List ℕ → (d u l : ℕ) → ℕ
-lowerOf n values degrees d u l = partner n (due values degrees d) u l (upperOf n values degrees d u l)
+abbrev pub lower_of : (n : ℕ) → List ℤ → List ℕ → (d u l : ℕ) → ℕ
+lower_of n values degrees d u l = partner n (due values degrees d) u l (upper_of n values degrees d u l)
 
 -- (upper, lower) is that pair
 pub record IsNext (n : ℕ) (values : List ℤ) (degrees : List ℕ) (d u l upper lower first : ℕ) : Type 0 where
-  pub upper_is : upper ≡ upperOf n values degrees d u l
-  pub lower-is : lower ≡ lowerOf n values degrees d u l
+  pub upper_is : upper ≡ upper_of n values degrees d u l
+  pub lower_is : lower ≡ lower_of n values degrees d u l
   pub falling : Falling n degrees d upper first
 
 -- it is where `upper` is a row, and else there is none
 pub record Found (n : ℕ) (values : List ℤ) (degrees : List ℕ) (d u l upper lower first : ℕ) : Type 0 where
   pub pair : upper < n → IsNext n values degrees d u l upper lower first
-  pub none : n ≤ upper → n ≤ upperOf n values degrees d u l
+  pub none : n ≤ upper → n ≤ upper_of n values degrees d u l

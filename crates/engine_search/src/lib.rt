@@ -4,7 +4,7 @@ ghost use Rattle.std.specs.Prelude.{◌≡◌, max, min, ◌+◌, ◌-◌, ◌�
 ghost use Rattle.std.specs.Int.Signed.{lt_z};
 ghost use Rattle.engine_spec.specs.Search as search;
 ghost use Rattle.engine_search.specs.Falls.{Back, Fallen, Low};
-ghost use Rattle.engine_search.specs.Places.{Falling, Found, Ranked, degreeOf, leastPair, nextDegreeBy, value_of};
+ghost use Rattle.engine_search.specs.Places.{Falling, Found, Ranked, degree_of, least_pair, next_degree_by, value_of};
 ghost use Rattle.engine_search.specs.Scans.{Below};
 
 // The pair of rows that is next. From row `first` on, no degree is below what the degree of `upper` leaves.
@@ -18,7 +18,7 @@ pub struct Place {
 // The first row of the basis from `from` on with degree d, by the degrees of its m rows.
 pub fn due_row(sizes: &[u32], m: usize, from: usize, d: u64) -> usize
     requires { m ≤ length sizes.now }
-    ensures { result ≡ search.firstIn m from (λ i. eqb (degreeOf sizes.now i) d) }
+    ensures { result ≡ search.first_in m from (λ i. eqb (degree_of sizes.now i) d) }
 {
     let mut i = from;
     while i < m {
@@ -78,7 +78,7 @@ pub fn next_degree(
     d: u64,
 ) -> u64
     requires { Ranked n values.now degrees.now × (m ≤ length sizes.now) }
-    ensures { result ≡ nextDegreeBy d m (degreeOf sizes.now) n (value_of values.now) (degreeOf degrees.now) }
+    ensures { result ≡ next_degree_by d m (degree_of sizes.now) n (value_of values.now) (degree_of degrees.now) }
 {
     let pairs = least_pair(values, degrees, n, d);
     lesser(d, least_size(sizes, m, d), pairs)
@@ -87,7 +87,7 @@ pub fn next_degree(
 // The least degree above d of the m rows of the basis.
 fn least_size(sizes: &[u32], m: usize, d: u64) -> u64
     requires { m ≤ length sizes.now }
-    ensures { result ≡ search.leastTo d m (degreeOf sizes.now) }
+    ensures { result ≡ search.least_to d m (degree_of sizes.now) }
 {
     let mut best: u64 = 0;
     let mut i = 0;
@@ -102,7 +102,7 @@ fn least_size(sizes: &[u32], m: usize, d: u64) -> u64
 // row there with a value below 0.
 fn least_pair(values: &[i64], degrees: &[u32], n: usize, d: u64) -> u64
     requires { Ranked n values.now degrees.now }
-    ensures { result ≡ leastPair d n (value_of values.now) (degreeOf degrees.now) n }
+    ensures { result ≡ least_pair d n (value_of values.now) (degree_of degrees.now) n }
 {
     let mut best: u64 = 0;
     let mut first = n;

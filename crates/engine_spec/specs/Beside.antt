@@ -3,26 +3,26 @@
 use Rattle.std.specs.Prelude.{◌≡◌, cond, List, ℕ, ◌+◌, ◌*◌, ◌≤◌, ◌<◌, ltb, ℤ, pos, nat_abs, length, get_or}
 use Rattle.linear.specs.Systems.{value}
 use Rattle.linear.specs.Tuples.{total}
-use Rattle.definitions.specs.System.{mostComponent}
+use Rattle.definitions.specs.System.{most_component}
 use Rattle.definitions.specs.Tables.{at}
 use Rattle.engine_spec.specs.Marks.{Marked}
 use Rattle.engine_spec.specs.Words.{word}
 
 -- The engine's own limits: equations and unknowns, and the coefficients that row operations may lead to.
-abbrev pub mostRows : ℕ
-mostRows = 32
+abbrev pub most_rows : ℕ
+most_rows = 32
 
-abbrev pub mostColumns : ℕ
-mostColumns = 32
+abbrev pub most_columns : ℕ
+most_columns = 32
 
-abbrev pub coefficientLimit : ℕ
-coefficientLimit = 1000000
+abbrev pub coefficient_limit : ℕ
+coefficient_limit = 1000000
 
 -- ---- rows and equations as code holds them
 
 -- the coefficients from place `from` on, and the row of a table from place `base` on
-abbrev pub equationAt : List ℤ → ℕ → ℕ → ℤ
-equationAt coefs from j = get_or coefs (from + j) (pos 0)
+abbrev pub equation_at : List ℤ → ℕ → ℕ → ℤ
+equation_at coefs from j = get_or coefs (from + j) (pos 0)
 
 abbrev pub row_at : List ℕ → ℕ → ℕ → ℕ
 row_at table base j = get_or table (base + j) 0
@@ -30,23 +30,23 @@ row_at table base j = get_or table (base + j) 0
 -- one row within the component limit
 pub record SmallRow (q : ℕ) (table : List ℕ) (base : ℕ) : Type 0 where
   pub whole : base + q ≤ length table
-  pub small : (j : ℕ) → j < q → row_at table base j ≤ mostComponent
+  pub small : (j : ℕ) → j < q → row_at table base j ≤ most_component
 
 -- n rows within the component limit
 pub record SmallTable (q n : ℕ) (table : List ℕ) : Type 0 where
-  pub few : q ≤ mostColumns
+  pub few : q ≤ most_columns
   pub whole : n * q ≤ length table
-  pub small : (i j : ℕ) → i < n → j < q → at table q i j ≤ mostComponent
+  pub small : (i j : ℕ) → i < n → j < q → at table q i j ≤ most_component
 
 -- an equation of q coefficients within their limit
 pub record SmallEquation (q : ℕ) (coefs : List ℤ) (from : ℕ) : Type 0 where
-  pub unknowns : q ≤ mostColumns
+  pub unknowns : q ≤ most_columns
   pub whole : from + q ≤ length coefs
-  pub small : (j : ℕ) → j < q → nat_abs (equationAt coefs from j) ≤ coefficientLimit
+  pub small : (j : ℕ) → j < q → nat_abs (equation_at coefs from j) ≤ coefficient_limit
 
 -- "32 · 1,000,000 · 1,000,000": far below 2 ^ 63
-abbrev pub valueLimit : ℕ
-valueLimit = mostColumns * (coefficientLimit * mostComponent)
+abbrev pub value_limit : ℕ
+value_limit = most_columns * (coefficient_limit * most_component)
 
 -- ---- the tables beside n rows
 
@@ -74,10 +74,10 @@ pub record Worded (q n : ℕ) (table words : List ℕ) : Type 0 where
   pub each : (i : ℕ) → i < n → get_or words i 0 ≡ word_of q (at table q i)
 
 -- No value is as large as this: a number from here on is no mark.
-abbrev pub noMark : ℕ
-noMark = 4611686018427387904
+abbrev pub no_mark : ℕ
+no_mark = 4611686018427387904
 
 -- their marks, those that are marks
 pub record AllMarked (q : ℕ) (c : ℕ → ℤ) (n : ℕ) (table marks : List ℕ) : Type 0 where
   pub long : n ≤ length marks
-  pub each : (i : ℕ) → i < n → get_or marks i 0 < noMark → Marked q c n (at table q) (at table q i) (get_or marks i 0)
+  pub each : (i : ℕ) → i < n → get_or marks i 0 < no_mark → Marked q c n (at table q) (at table q i) (get_or marks i 0)

@@ -2,72 +2,72 @@
 use Rattle.std.specs.Prelude.{◌≡◌, refl, ◌≢◌, Bool, true, false, not, cond, ℕ, ◌+◌, T, eqb, ltb, ℤ}
 use Rattle.std.proofs.Common.{T_not}
 use Rattle.std.proofs.Math.Dec.{eqb_refl}
-use Rattle.definitions.specs.Refusals.{stepLimit}
-use Rattle.engine_spec.specs.Reduction.{isSmall}
+use Rattle.definitions.specs.Refusals.{step_limit}
+use Rattle.engine_spec.specs.Reduction.{is_small}
 use Rattle.engine_spec.specs.Stage.{
   Stage,
   Turned,
   above,
   below,
-  degreeTurn,
-  dueRow,
+  degree_turn,
+  due_row,
   ends,
   goes,
   grown,
-  isNeedless,
-  nextDegree,
-  pairTurn,
+  is_needless,
+  next_degree,
+  pair_turn,
   paired,
   passed,
   raised,
-  rowTurn,
+  row_turn,
   stops,
   sum_of,
   turn,
 }
 
 abbrev pub Timed : Stage → Turned → Type 0
-Timed s (goes t) = (s.steps ≢ stepLimit) × (t.steps ≡ s.steps + 1)
+Timed s (goes t) = (s.steps ≢ step_limit) × (t.steps ≡ s.steps + 1)
 Timed s (stops n) = Unit {0}
-Timed s ends = s.steps ≢ stepLimit
+Timed s ends = s.steps ≢ step_limit
 
-cond-timed : (s : Stage) (b : Bool) (x y : Turned) → (T b → Timed s x) → (T (not b) → Timed s y) → Timed s (cond b x y)
-cond-timed s true x y f g = f tt
-cond-timed s false x y f g = g tt
+cond_timed : (s : Stage) (b : Bool) (x y : Turned) → (T b → Timed s x) → (T (not b) → Timed s y) → Timed s (cond b x y)
+cond_timed s true x y f g = f tt
+cond_timed s false x y f g = g tt
 
-paired-timed : (s : Stage) (b small fits : Bool) (skip more : Stage) → Timed s (goes skip) → Timed s (goes more) → Timed s (paired b small fits skip more)
+paired_timed : (s : Stage) (b small fits : Bool) (skip more : Stage) → Timed s (goes skip) → Timed s (goes more) → Timed s (paired b small fits skip more)
 unfolding paired
-paired-timed s true small fits skip more f g = f
-paired-timed s false false fits skip more f g = tt
-paired-timed s false true false skip more f g = tt
-paired-timed s false true true skip more f g = g
+paired_timed s true small fits skip more f g = f
+paired_timed s false false fits skip more f g = tt
+paired_timed s false true false skip more f g = tt
+paired_timed s false true true skip more f g = g
 
 other : (m n : ℕ) → T (not (eqb m n)) → m ≢ n
 other m n h e = T_not (eqb m n) h (rw e (eqb_refl n))
 
-module _ (q : ℕ) (c : ℕ → ℤ) (m : ℕ) (basis : ℕ → ℕ → ℕ) (room : ℕ) (s : Stage) (ne : s.steps ≢ stepLimit) where
-  row-timed : (i : ℕ) → Timed s (rowTurn q basis room s i)
-  unfolding rowTurn grown
-  row-timed i = cond-timed s (ltb s.rows room) (goes (grown q (basis i) (i + 1) s.upper s.lower s)) (stops 31) (λ l. (ne, refl)) (λ l. tt)
+module _ (q : ℕ) (c : ℕ → ℤ) (m : ℕ) (basis : ℕ → ℕ → ℕ) (room : ℕ) (s : Stage) (ne : s.steps ≢ step_limit) where
+  row_timed : (i : ℕ) → Timed s (row_turn q basis room s i)
+  unfolding row_turn grown
+  row_timed i = cond_timed s (ltb s.rows room) (goes (grown q (basis i) (i + 1) s.upper s.lower s)) (stops 31) (λ l. (ne, refl)) (λ l. tt)
 
-  pair-timed : (h k : ℕ) → Timed s (pairTurn q c room s h k)
-  unfolding pairTurn passed grown
-  pair-timed h k =
-      paired-timed s (isNeedless q c s (sum_of q s h k)) (isSmall q (sum_of q s h k)) (ltb s.rows room)
+  pair_timed : (h k : ℕ) → Timed s (pair_turn q c room s h k)
+  unfolding pair_turn passed grown
+  pair_timed h k =
+      paired_timed s (is_needless q c s (sum_of q s h k)) (is_small q (sum_of q s h k)) (ltb s.rows room)
       (passed h (k + 1) s) (grown q (sum_of q s h k) s.taken h (k + 1) s) (ne, refl) (ne, refl)
 
-  degree-timed : (d : ℕ) → Timed s (degreeTurn d s)
-  unfolding degreeTurn raised
-  degree-timed d = cond-timed s (eqb d 0) ends (goes (raised d s)) (λ h. ne) (λ h. (ne, refl))
+  degree_timed : (d : ℕ) → Timed s (degree_turn d s)
+  unfolding degree_turn raised
+  degree_timed d = cond_timed s (eqb d 0) ends (goes (raised d s)) (λ h. ne) (λ h. (ne, refl))
 
-pub turn-timed : (q : ℕ) (c : ℕ → ℤ) (m : ℕ) (basis : ℕ → ℕ → ℕ) (room : ℕ) (s : Stage) → Timed s (turn q c m basis room s)
+pub turn_timed : (q : ℕ) (c : ℕ → ℤ) (m : ℕ) (basis : ℕ → ℕ → ℕ) (room : ℕ) (s : Stage) → Timed s (turn q c m basis room s)
 unfolding turn
-turn-timed q c m basis room s =
-    let i = dueRow q m basis s in
+turn_timed q c m basis room s =
+    let i = due_row q m basis s in
     let h = above q c s in
-    cond-timed s (eqb s.steps stepLimit) (stops 14) _ (λ l. tt)
+    cond_timed s (eqb s.steps step_limit) (stops 14) _ (λ l. tt)
     (λ l.
-    let ne = other s.steps stepLimit l in
-    cond-timed s (ltb i m) (rowTurn q basis room s i) _ (λ k. row-timed q c m basis room s ne i)
-    (λ k. cond-timed s (ltb h s.rows) (pairTurn q c room s h (below q c s)) (degreeTurn (nextDegree q c m basis s) s)
-    (λ n. pair-timed q c m basis room s ne h (below q c s)) (λ n. degree-timed q c m basis room s ne (nextDegree q c m basis s))))
+    let ne = other s.steps step_limit l in
+    cond_timed s (ltb i m) (row_turn q basis room s i) _ (λ k. row_timed q c m basis room s ne i)
+    (λ k. cond_timed s (ltb h s.rows) (pair_turn q c room s h (below q c s)) (degree_turn (next_degree q c m basis s) s)
+    (λ n. pair_timed q c m basis room s ne h (below q c s)) (λ n. degree_timed q c m basis room s ne (next_degree q c m basis s))))

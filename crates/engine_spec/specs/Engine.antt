@@ -4,15 +4,15 @@
 use Rattle.std.specs.Prelude.{ℕ, zero, suc, ◌+◌, ◌*◌, ◌^◌, ◌-◌, Bool, true, cond, not, ◌&&◌, List, [], eqb, ltb, ℤ, pos, ◌+ℤ◌, ◌*ℤ◌, get_or, set}
 use Rattle.std.specs.Int.Signed.{le_z}
 use Rattle.linear.specs.Systems.{value}
-use Rattle.linear.specs.Tests.{allTo, count_to}
+use Rattle.linear.specs.Tests.{all_to, count_to}
 use Rattle.linear.specs.Tuples.{unit}
 use Rattle.definitions.specs.Answers.{Answer, complete, paused, refused}
-use Rattle.definitions.specs.System.{mostComponent}
-use Rattle.definitions.specs.Tables.{at, writeTo}
-use Rattle.laws.specs.Pack.{packTo}
-use Rattle.laws.specs.Sweep.{sweptTo}
-use Rattle.engine_spec.specs.Equations.{zeroRow}
-use Rattle.engine_spec.specs.Fresh.{filled, notBelow}
+use Rattle.definitions.specs.System.{most_component}
+use Rattle.definitions.specs.Tables.{at, write_to}
+use Rattle.laws.specs.Pack.{pack_to}
+use Rattle.laws.specs.Sweep.{swept_to}
+use Rattle.engine_spec.specs.Equations.{zero_row}
+use Rattle.engine_spec.specs.Fresh.{filled, not_below}
 use Rattle.engine_spec.specs.Stage.{Stage, Turned, begin, ends, goes, row, stops, turn}
 
 -- What a run is lent, and its record. The working system, row by row. The basis: the minimal solutions of the equations done, where a stage has a fresh
@@ -27,14 +27,14 @@ pub record Work : Type 0 where
   pub fresh : ℕ
   pub stage : Stage
 
-abbrev pub systemOf : ℕ → List ℤ → ℕ → ℕ → ℤ
-systemOf q equations i j = get_or equations (i * q + j) (pos 0)
+abbrev pub system_of : ℕ → List ℤ → ℕ → ℕ → ℤ
+system_of q equations i j = get_or equations (i * q + j) (pos 0)
 
 abbrev pub system : ℕ → Work → ℕ → ℕ → ℤ
-system q w = systemOf q w.equations
+system q w = system_of q w.equations
 
-abbrev pub basisRow : ℕ → Work → ℕ → ℕ → ℕ
-basisRow q w = at w.basis q
+abbrev pub basis_row : ℕ → Work → ℕ → ℕ → ℕ
+basis_row q w = at w.basis q
 
 -- ---- the start
 
@@ -47,26 +47,26 @@ resting p q equations basis count done cap table steps =
     record { equations = equations; basis = basis; count = count; done = done; equation = p; fresh = q; stage = begin cap table steps }
 
 -- numbers 0 .. n - 1 of f, written from the beginning
-unfoldable pub fillTo : ℕ → List ℤ → ℕ → (ℕ → ℤ) → List ℤ
-fillTo zero table base f = table
-fillTo (suc n) table base f = set (fillTo n table base f) (base + n) (f n)
+unfoldable pub fill_to : ℕ → List ℤ → ℕ → (ℕ → ℤ) → List ℤ
+fill_to zero table base f = table
+fill_to (suc n) table base f = set (fill_to n table base f) (base + n) (f n)
 
 -- the map's coefficients are the working system, rows 0 .. q - 1 of the basis are the unit tuples, and no equation is done; the rows stay inside a cap
-unfoldable pub begunUnder : (cap p q : ℕ) (coefs : List ℤ) → Work → Work
-begunUnder cap p q coefs w =
-    resting p q (fillTo (p * q) w.equations 0 (λ k. get_or coefs k (pos 0))) (packTo q q w.basis 0 always unit) q 0 cap w.stage.table 0
+unfoldable pub begun_under : (cap p q : ℕ) (coefs : List ℤ) → Work → Work
+begun_under cap p q coefs w =
+    resting p q (fill_to (p * q) w.equations 0 (λ k. get_or coefs k (pos 0))) (pack_to q q w.basis 0 always unit) q 0 cap w.stage.table 0
 
 -- the same with n rows handed over as the basis: the minimal solutions of equations before these that are inside the cap
-unfoldable pub begunFromUnder : (cap p q : ℕ) (coefs : List ℤ) (n : ℕ) (rows : List ℕ) → Work → Work
-begunFromUnder cap p q coefs n rows w =
-    resting p q (fillTo (p * q) w.equations 0 (λ k. get_or coefs k (pos 0))) (writeTo (n * q) w.basis 0 (λ k. get_or rows k 0)) n 0 cap w.stage.table 0
+unfoldable pub begun_from_under : (cap p q : ℕ) (coefs : List ℤ) (n : ℕ) (rows : List ℕ) → Work → Work
+begun_from_under cap p q coefs n rows w =
+    resting p q (fill_to (p * q) w.equations 0 (λ k. get_or coefs k (pos 0))) (write_to (n * q) w.basis 0 (λ k. get_or rows k 0)) n 0 cap w.stage.table 0
 
 -- both without a cap
 abbrev pub begun : (p q : ℕ) (coefs : List ℤ) → Work → Work
-begun = begunUnder 0
+begun = begun_under 0
 
-abbrev pub begunFrom : (p q : ℕ) (coefs : List ℤ) (n : ℕ) (rows : List ℕ) → Work → Work
-begunFrom = begunFromUnder 0
+abbrev pub begun_from : (p q : ℕ) (coefs : List ℤ) (n : ℕ) (rows : List ℕ) → Work → Work
+begun_from = begun_from_under 0
 
 -- ---- a row operation
 
@@ -77,7 +77,7 @@ combination q a r s u t j = (u *ℤ a r j) +ℤ (t *ℤ a s j)
 unfoldable pub combined : (q r s : ℕ) (u t : ℤ) → Work → Work
 combined q r s u t w =
     record {
-      equations = fillTo q w.equations (r * q) (combination q (system q w) r s u t);
+      equations = fill_to q w.equations (r * q) (combination q (system q w) r s u t);
       basis = w.basis;
       count = w.count;
       done = w.done;
@@ -105,11 +105,11 @@ taken q e w =
       stage = begin w.stage.cap w.stage.table w.stage.steps;
     }
 
-unfoldable pub takenFresh : (q e f : ℕ) → Work → Work
-takenFresh q e f w =
+unfoldable pub taken_fresh : (q e f : ℕ) → Work → Work
+taken_fresh q e f w =
     record {
       equations = w.equations;
-      basis = sweptTo w.count q w.basis (lacks q f w.basis);
+      basis = swept_to w.count q w.basis (lacks q f w.basis);
       count = count_to w.count (lacks q f w.basis);
       done = w.done;
       equation = e;
@@ -119,28 +119,28 @@ takenFresh q e f w =
 
 -- ---- the end of a stage
 
-abbrev pub equationOf : ℕ → Work → ℕ → ℤ
-equationOf q w = system q w w.equation
+abbrev pub equation_of : ℕ → Work → ℕ → ℤ
+equation_of q w = system q w w.equation
 
 -- which rows stay, and as what: those of value 0; with a fresh unknown those of value 0 or more, each with its value written into the unknown
 abbrev pub stays : ℕ → Work → ℕ → Bool
-stays q w = cond (ltb w.fresh q) (notBelow q (equationOf q w) (row q w.stage)) (zeroRow q (equationOf q w) (row q w.stage))
+stays q w = cond (ltb w.fresh q) (not_below q (equation_of q w) (row q w.stage)) (zero_row q (equation_of q w) (row q w.stage))
 
 abbrev pub left : ℕ → Work → ℕ → ℕ → ℕ
-left q w i = cond (ltb w.fresh q) (filled q (equationOf q w) w.fresh (row q w.stage i)) (row q w.stage i)
+left q w i = cond (ltb w.fresh q) (filled q (equation_of q w) w.fresh (row q w.stage i)) (row q w.stage i)
 
 unfoldable pub finished : (p q : ℕ) → Work → Work
 finished p q w =
-    resting p q w.equations (packTo w.stage.rows q w.basis 0 (stays q w) (left q w)) (count_to w.stage.rows (stays q w))
+    resting p q w.equations (pack_to w.stage.rows q w.basis 0 (stays q w) (left q w)) (count_to w.stage.rows (stays q w))
     (w.done + 2 ^ w.equation) w.stage.cap w.stage.table (w.stage.steps + 1)
 
 -- no value is above 1,000,000, where values become components
-unfoldable pub valuesSmall : ℕ → Work → Bool
-valuesSmall q w = allTo w.stage.rows (λ i. le_z (value (equationOf q w) q (row q w.stage i)) (pos mostComponent))
+unfoldable pub values_small : ℕ → Work → Bool
+values_small q w = all_to w.stage.rows (λ i. le_z (value (equation_of q w) q (row q w.stage i)) (pos most_component))
 
 -- every equation is done
-unfoldable pub allDone : ℕ → Work → Bool
-allDone p w = eqb w.done (2 ^ p - 1)
+unfoldable pub all_done : ℕ → Work → Bool
+all_done p w = eqb w.done (2 ^ p - 1)
 
 -- ---- turns
 
@@ -153,7 +153,7 @@ result x w = record { answer = x; work = w }
 
 -- what a call answers that leaves no stage under way: "complete" once every equation is done
 unfoldable pub rested : ℕ → Work → Result
-rested p w = result (cond (allDone p w) complete paused) w
+rested p w = result (cond (all_done p w) complete paused) w
 
 unfoldable pub onward : Stage → Work → Work
 onward s w =
@@ -162,7 +162,7 @@ onward s w =
 -- 12: a value would be a component above 1,000,000. 31: there is no room in the basis.
 unfoldable pub finish : (p q most : ℕ) → Work → Result
 finish p q most w =
-    cond (ltb w.fresh q && not (valuesSmall q w)) (result (refused 12 []) w)
+    cond (ltb w.fresh q && not (values_small q w)) (result (refused 12 []) w)
     (cond (ltb most (count_to w.stage.rows (stays q w))) (result (refused 31 []) w) (rested p (finished p q w)))
 
 unfoldable pub after : (p q most : ℕ) → Turned → (Work → Result) → Work → Result
@@ -174,4 +174,4 @@ after p q most ends f w = finish p q most w
 unfoldable pub run : (p q most room budget : ℕ) → Work → Result
 run p q most room zero w = result paused w
 run p q most room (suc budget) w =
-    after p q most (turn q (equationOf q w) w.count (basisRow q w) room w.stage) (run p q most room budget) w
+    after p q most (turn q (equation_of q w) w.count (basis_row q w) room w.stage) (run p q most room budget) w

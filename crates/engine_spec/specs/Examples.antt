@@ -2,28 +2,28 @@
 use Rattle.std.specs.Prelude.{◌≡◌, refl, List, ◌∷◌, [], ℕ, ◌*◌, ℤ, pos, negsuc, get_or, replicate, take}
 use Rattle.linear.specs.Sums.{sum_to}
 use Rattle.linear.specs.Systems.{inner, value}
-use Rattle.linear.specs.Tests.{allTo, anyTo}
+use Rattle.linear.specs.Tests.{all_to, any_to}
 use Rattle.linear.specs.Tuples.{total, unit}
 use Rattle.definitions.specs.Answers.{Answer, complete, paused, refused}
-use Rattle.definitions.specs.System.{isAtOrBelow}
-use Rattle.definitions.specs.Tables.{writeTo}
-use Rattle.engine_spec.specs.Reduction.{isSmall, isWithin, reducible}
-use Rattle.engine_spec.specs.Search.{firstFrom, leastTo, lesser}
+use Rattle.definitions.specs.System.{is_at_or_below}
+use Rattle.definitions.specs.Tables.{write_to}
+use Rattle.engine_spec.specs.Reduction.{is_small, is_within, reducible}
+use Rattle.engine_spec.specs.Search.{first_from, least_to, lesser}
 use Rattle.engine_spec.specs.Stage.{
   Outcome,
   after,
   begin,
-  degreeTurn,
+  degree_turn,
   grown,
-  isDue,
-  isPair,
-  nextDegree,
+  is_due,
+  is_pair,
+  next_degree,
   paired,
-  pairDegree,
-  pairTurn,
+  pair_degree,
+  pair_turn,
   passed,
   raised,
-  rowTurn,
+  row_turn,
   run,
   turn,
 }
@@ -56,6 +56,6 @@ pub record Runs : Type 0 where
   pub full : (ran 3 half 4 100).answer ≡ refused 31 []
 
 runs : Runs
-unfolding run turn after rowTurn pairTurn degreeTurn paired grown passed raised isPair isDue pairDegree nextDegree firstFrom lesser leastTo isWithin
-    reducible isSmall isAtOrBelow value inner sum_to allTo anyTo total unit writeTo
+unfolding run turn after row_turn pair_turn degree_turn paired grown passed raised is_pair is_due pair_degree next_degree first_from lesser least_to is_within
+    reducible is_small is_at_or_below value inner sum_to all_to any_to total unit write_to
 runs = record { one = refl; cut = refl; resumed = refl; full = refl }

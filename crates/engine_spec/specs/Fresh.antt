@@ -12,14 +12,14 @@ use Rattle.std.proofs.Math.Dec.{eqb_refl, not_T}
 use Rattle.std.proofs.Math.IntN.{pos, negsuc, *ℤ_comm, zero-*ℤ}
 use Rattle.std.specs.Int.Signed.{lt_z, lt_z_no, lt_z_yes}
 use Rattle.linear.specs.Cases.{split}
-use Rattle.linear.specs.Combinations.{Enumerates, combined-above, combined-some}
-use Rattle.linear.specs.Differences.{down, down-mul, down-neg, one_side, same, same_up, sum_is, up, up_le, up_lt, up-mul, up_neg}
-use Rattle.linear.specs.Sums.{sum-cong, sum_to}
-use Rattle.linear.specs.SystemLaws.{inner-zero, value_same, value-sum, value-unit}
+use Rattle.linear.specs.Combinations.{Enumerates, combined_above, combined_some}
+use Rattle.linear.specs.Differences.{down, down_mul, down_neg, one_side, same, same_up, sum_is, up, up_le, up_lt, up_mul, up_neg}
+use Rattle.linear.specs.Sums.{sum_cong, sum_to}
+use Rattle.linear.specs.SystemLaws.{inner_zero, value_same, value_sum, value_unit}
 use Rattle.linear.specs.Systems.{Solution, inner, value}
-use Rattle.linear.specs.TestLaws.{count-mono, count-step}
+use Rattle.linear.specs.TestLaws.{count_mono, count_step}
 use Rattle.linear.specs.Tests.{count_to}
-use Rattle.linear.specs.TupleLaws.{term-le-total, total-some, unit-other, unit-same}
+use Rattle.linear.specs.TupleLaws.{term_le_total, total_some, unit_other, unit_same}
 use Rattle.linear.specs.Tuples.{AtOrBelow, Nonzero, Same, total, unit}
 use Rattle.engine_spec.specs.Caps.{Inside}
 use Rattle.engine_spec.specs.Equations.{
@@ -28,15 +28,15 @@ use Rattle.engine_spec.specs.Equations.{
   LoopInside,
   Picked,
   Wanted,
-  holding-below,
-  sweep-enumerates,
-  wanted-alike,
-  wanted-from,
-  wanted-inside,
-  wanted-some,
+  holding_below,
+  sweep_enumerates,
+  wanted_alike,
+  wanted_from,
+  wanted_inside,
+  wanted_some,
 }
-use Rattle.engine_spec.specs.Signs.{Closed, consistent-rows, sign-consistent}
-use Rattle.engine_spec.specs.Ends.{Ended, irreducible, nothing-swept, picked-from}
+use Rattle.engine_spec.specs.Signs.{Closed, consistent_rows, sign_consistent}
+use Rattle.engine_spec.specs.Ends.{Ended, irreducible, nothing_swept, picked_from}
 use Rattle.engine_spec.specs.Sound.{Given, Sound}
 use Rattle.engine_spec.specs.Stage.{Stage, row}
 
@@ -64,25 +64,25 @@ put_other f x t j ne = go (eqb j f) (eqb→eq j f)
 
 module _ (q f : ℕ) (fq : f < q) where
   -- a form without f does not see it
-  value-free : (c : ℕ → ℤ) → c f ≡ pos 0 → (t : ℕ → ℕ) (x : ℕ) → value c q (put_at f x t) ≡ value c q t
+  value_free : (c : ℕ → ℤ) → c f ≡ pos 0 → (t : ℕ → ℕ) (x : ℕ) → value c q (put_at f x t) ≡ value c q t
   unfolding value inner
-  value-free c none t x =
-      sum-cong q (λ j l. elim (ℕ_discrete j f) [
+  value_free c none t x =
+      sum_cong q (λ j l. elim (ℕ_discrete j f) [
         | yes e ↦ rw (e, none, zero-*ℤ (pos (put_at f x t f)), zero-*ℤ (pos (t f)))
         | no ne ↦ rw (put_other f x t j ne)
       ])
 
   module _ (c : ℕ → ℤ) (minus : c f ≡ negsuc 0) where
-    value-times : (k : ℕ) → up (value c q (λ j. k * unit f j)) + k ≡ down (value c q (λ j. k * unit f j))
-    value-times zero =
-        let e : value c q (λ j. 0 * unit f j) ≡ pos 0 = unfold value in inner-zero q c (λ j. pos (0 * unit f j)) (λ j l. ap pos (omega arith)) in
+    value_times : (k : ℕ) → up (value c q (λ j. k * unit f j)) + k ≡ down (value c q (λ j. k * unit f j))
+    value_times zero =
+        let e : value c q (λ j. 0 * unit f j) ≡ pos 0 = unfold value in inner_zero q c (λ j. pos (0 * unit f j)) (λ j l. ap pos (omega arith)) in
         rw e (omega arith)
-    value-times (suc k) =
-        let sum = value-sum c q (λ j. k * unit f j) (unit f) (λ j. suc k * unit f j) (λ j l. omega arith) in
-        let one : value c q (unit f) ≡ negsuc 0 = value-unit c f q fq ∙ minus in
+    value_times (suc k) =
+        let sum = value_sum c q (λ j. k * unit f j) (unit f) (λ j. suc k * unit f j) (λ j l. omega arith) in
+        let one : value c q (unit f) ≡ negsuc 0 = value_unit c f q fq ∙ minus in
         omega (
           arith,
-          value-times k,
+          value_times k,
           same_up sum,
           sum_is (value c q (λ j. k * unit f j)) (value c q (unit f)),
           ap up one,
@@ -92,16 +92,16 @@ module _ (q f : ℕ) (fq : f < q) where
         )
 
     -- f taken away: the value rises by it
-    value-rises : (t : ℕ → ℕ) → up (value c q (put_at f 0 t)) + down (value c q t) ≡ up (value c q t) + t f + down (value c q (put_at f 0 t))
-    value-rises t =
+    value_rises : (t : ℕ → ℕ) → up (value c q (put_at f 0 t)) + down (value c q t) ≡ up (value c q t) + t f + down (value c q (put_at f 0 t))
+    value_rises t =
         let split_off : (j : ℕ) → j < q → t j ≡ put_at f 0 t j + t f * unit f j = λ j l. elim (ℕ_discrete j f) [
-          | yes e ↦ rw (e, put_same f 0 t, unit-same f) (omega arith)
-          | no ne ↦ rw (put_other f 0 t j ne, unit-other f j ne) (omega arith)
+          | yes e ↦ rw (e, put_same f 0 t, unit_same f) (omega arith)
+          | no ne ↦ rw (put_other f 0 t j ne, unit_other f j ne) (omega arith)
         ] in
         omega (
           arith,
-          value-times (t f),
-          same_up (value-sum c q (put_at f 0 t) (λ j. t f * unit f j) t split_off),
+          value_times (t f),
+          same_up (value_sum c q (put_at f 0 t) (λ j. t f * unit f j) t split_off),
           sum_is (value c q (put_at f 0 t)) (value c q (λ j. t f * unit f j)),
         )
 
@@ -114,16 +114,16 @@ pub record Without (p q : ℕ) (a : ℕ → ℕ → ℤ) (f p₀ : ℕ) (a₀ : 
   pub more : (t : ℕ → ℕ) → Solution p q a t → t f ≡ 0 → Solution p₀ q a₀ t
 
 -- such a system: the equations of a, and that the unknown f is 0
-unfoldable pub withoutAt : (p : ℕ) (a : ℕ → ℕ → ℤ) (f : ℕ) → ℕ → ℕ → ℤ
-withoutAt p a f i j = cond (ltb i p) (a i j) (pos (unit f j))
+unfoldable pub without_at : (p : ℕ) (a : ℕ → ℕ → ℤ) (f : ℕ) → ℕ → ℕ → ℤ
+without_at p a f i j = cond (ltb i p) (a i j) (pos (unit f j))
 
-value-one : (q f : ℕ) → f < q → (t : ℕ → ℕ) → value (λ j. pos (unit f j)) q t ≡ pos (t f)
+value_one : (q f : ℕ) → f < q → (t : ℕ → ℕ) → value (λ j. pos (unit f j)) q t ≡ pos (t f)
 unfolding value inner
-value-one q f fq t = sum-cong q (λ j l. *ℤ_comm (pos (unit f j)) (pos (t j))) ∙ value-unit (λ j. pos (t j)) f q fq
+value_one q f fq t = sum_cong q (λ j l. *ℤ_comm (pos (unit f j)) (pos (t j))) ∙ value_unit (λ j. pos (t j)) f q fq
 
-pub without_at : (p q : ℕ) (a : ℕ → ℕ → ℤ) (f : ℕ) → f < q → Without p q a f (suc p) (withoutAt p a f)
-unfolding withoutAt
-without_at p q a f fq =
+pub without_at_lem : (p q : ℕ) (a : ℕ → ℕ → ℤ) (f : ℕ) → f < q → Without p q a f (suc p) (without_at p a f)
+unfolding without_at
+without_at_lem p q a f fq =
     record {
       less = λ t s i l. early (ltb i p) (lt→ltb i p l) i t (s i (omega arith));
       none = λ t s. let e = last (ltb p p) (not_T (ltb p p) (λ h. omega (arith, ltb→lt p p h))) p t (s p (omega arith)) in omega (arith, ap up e);
@@ -136,11 +136,11 @@ without_at p q a f fq =
 
     last : (b : Bool) → T (not b) → (i : ℕ) (t : ℕ → ℕ) → value (λ j. cond b (a i j) (pos (unit f j))) q t ≡ pos 0 → pos (t f) ≡ pos 0
     last true h i t e = absurd h
-    last false h i t e = sym (value-one q f fq t) ∙ e
+    last false h i t e = sym (value_one q f fq t) ∙ e
 
     both : (b : Bool) (i : ℕ) (t : ℕ → ℕ) → (T b → value (a i) q t ≡ pos 0) → t f ≡ 0 → value (λ j. cond b (a i j) (pos (unit f j))) q t ≡ pos 0
     both true i t s z = s tt
-    both false i t s z = value-one q f fq t ∙ ap pos z
+    both false i t s z = value_one q f fq t ∙ ap pos z
 
 -- the equation with all signs turned asks the same: where the coefficient is 1
 turned : (c : ℕ → ℤ) (q : ℕ) (t : ℕ → ℕ) → up (value (λ j. neg_ℤ (c j)) q t) + up (value c q t) ≡ down (value (λ j. neg_ℤ (c j)) q t) + down (value c q t)
@@ -152,16 +152,16 @@ turned c (suc q) t =
       turned c q t,
       sum_is (sum_to q (λ j. neg_ℤ (c j) *ℤ pos (t j))) (neg_ℤ (c q) *ℤ pos (t q)),
       sum_is (sum_to q (λ j. c j *ℤ pos (t j))) (c q *ℤ pos (t q)),
-      up-mul (neg_ℤ (c q)) (pos (t q)),
-      down-mul (neg_ℤ (c q)) (pos (t q)),
-      up-mul (c q) (pos (t q)),
-      down-mul (c q) (pos (t q)),
-      simp (up_neg, down-neg) at (up-mul (neg_ℤ (c q)) (pos (t q))),
-      simp (up_neg, down-neg) at (down-mul (neg_ℤ (c q)) (pos (t q))),
+      up_mul (neg_ℤ (c q)) (pos (t q)),
+      down_mul (neg_ℤ (c q)) (pos (t q)),
+      up_mul (c q) (pos (t q)),
+      down_mul (c q) (pos (t q)),
+      simp (up_neg, down_neg) at (up_mul (neg_ℤ (c q)) (pos (t q))),
+      simp (up_neg, down_neg) at (down_mul (neg_ℤ (c q)) (pos (t q))),
     )
 
-pub extends-turned : (p q : ℕ) (a a' : ℕ → ℕ → ℤ) (c : ℕ → ℤ) → Extends p q a a' c → Extends p q a a' (λ j. neg_ℤ (c j))
-extends-turned p q a a' c x =
+pub extends_turned : (p q : ℕ) (a a' : ℕ → ℕ → ℤ) (c : ℕ → ℤ) → Extends p q a a' c → Extends p q a a' (λ j. neg_ℤ (c j))
+extends_turned p q a a' c x =
     record {
       less = x.less;
       meets = λ t s. let e = x.meets t s in same (omega (arith, turned c q t, ap up e, ap down e));
@@ -178,66 +178,66 @@ module _ (cap p q : ℕ) (a a' : ℕ → ℕ → ℤ) (c : ℕ → ℤ) (extends
   abbrev v : (ℕ → ℕ) → ℤ
   v = value c q
 
-  put-solves : (t : ℕ → ℕ) (x : ℕ) → Solution p q a t → Solution p q a (put_at f x t)
-  put-solves t x st i l = value-free q f fq (a i) (free i l) t x ∙ st i l
+  put_solves : (t : ℕ → ℕ) (x : ℕ) → Solution p q a t → Solution p q a (put_at f x t)
+  put_solves t x st i l = value_free q f fq (a i) (free i l) t x ∙ st i l
 
-  row-none : (i : ℕ) → i < n → row i f ≡ 0
-  row-none i l = without.none (row i) (holding.wanted i l).solution
+  row_none : (i : ℕ) → i < n → row i f ≡ 0
+  row_none i l = without.none (row i) (holding.wanted i l).solution
 
   -- taken away again, the value is gone
   emptied : (i x : ℕ) → i < n → Same q (put_at f 0 (put_at f x (row i))) (row i)
   emptied i x l j jq =
       elim (ℕ_discrete j f) [
-        | yes e ↦ rw (e, put_same f 0 (put_at f x (row i))) (sym (row-none i l))
+        | yes e ↦ rw (e, put_same f 0 (put_at f x (row i))) (sym (row_none i l))
         | no ne ↦ put_other f 0 (put_at f x (row i)) j ne ∙ put_other f x (row i) j ne
       ]
 
   -- what is written into f leaves a tuple inside the cap
-  put-inside : (t : ℕ → ℕ) (x : ℕ) → Inside cap q t → Inside cap q (put_at f x t)
-  put-inside t x inside capped some = let more = uncapped capped in omega (arith, put_other f x t 0 (omega arith), inside capped some)
+  put_inside : (t : ℕ → ℕ) (x : ℕ) → Inside cap q t → Inside cap q (put_at f x t)
+  put_inside t x inside capped some = let more = uncapped capped in omega (arith, put_other f x t 0 (omega arith), inside capped some)
 
   -- a row of value 0 or more, filled, is a nonzero solution with the equation
-  pub filled-wanted : (i : ℕ) → i < n → down (v (row i)) ≡ 0 → Wanted cap p q a' (filled q c f (row i))
-  filled-wanted i l none =
+  pub filled_wanted : (i : ℕ) → i < n → down (v (row i)) ≡ 0 → Wanted cap p q a' (filled q c f (row i))
+  filled_wanted i l none =
       let t = filled q c f (row i) in
       let w = holding.wanted i l in
-      let (j, jq, h) = wanted-some cap p₀ q a₀ w in
-      let apart : j ≢ f = λ e. omega (arith, row-none i l, rw e at h) in
-      let zero-value : v t ≡ pos 0 =
+      let (j, jq, h) = wanted_some cap p₀ q a₀ w in
+      let apart : j ≢ f = λ e. omega (arith, row_none i l, rw e at h) in
+      let zero_value : v t ≡ pos 0 =
       same (omega (
         arith,
-        value-rises q f fq c minus t,
+        value_rises q f fq c minus t,
         put_same f (up (v (row i))) (row i),
         ap up (value_same c q (emptied i (up (v (row i))) l)),
         ap down (value_same c q (emptied i (up (v (row i))) l)),
       )) in
-      wanted-from cap p q a' (extends.more t (put-solves (row i) (up (v (row i))) (without.less (row i) w.solution)) zero-value)
-      (j, jq, omega (arith, put_other f (up (v (row i))) (row i) j apart)) (put-inside (row i) (up (v (row i))) (wanted-inside cap p₀ q a₀ w))
+      wanted_from cap p q a' (extends.more t (put_solves (row i) (up (v (row i))) (without.less (row i) w.solution)) zero_value)
+      (j, jq, omega (arith, put_other f (up (v (row i))) (row i) j apart)) (put_inside (row i) (up (v (row i))) (wanted_inside cap p₀ q a₀ w))
 
   -- such a row lies at or below each nonzero solution with the equation
-  pub filled-under : (t : ℕ → ℕ) → Wanted cap p q a' t → (i : ℕ) × (i < n) × (down (v (row i)) ≡ 0) × AtOrBelow q (filled q c f (row i)) t
-  filled-under t w =
+  pub filled_under : (t : ℕ → ℕ) → Wanted cap p q a' t → (i : ℕ) × (i < n) × (down (v (row i)) ≡ 0) × AtOrBelow q (filled q c f (row i)) t
+  filled_under t w =
       let t₀ = put_at f 0 t in
-      let s₀ = without.more t₀ (put-solves t 0 (extends.less t w.solution)) (put_same f 0 t) in
+      let s₀ = without.more t₀ (put_solves t 0 (extends.less t w.solution)) (put_same f 0 t) in
       let meets = extends.meets t w.solution in
-      let rises = value-rises q f fq c minus t in
+      let rises = value_rises q f fq c minus t in
       let some : Nonzero q t₀ = elim (ℕ_discrete (total t₀ q) 0) [
-        | no ne ↦ total-some t₀ q ne
+        | no ne ↦ total_some t₀ q ne
         | yes e ↦
             let flat : v t₀ ≡ pos 0 =
-            unfold value in inner-zero q c (λ j. pos (t₀ j)) (λ j jq. ap pos (omega (arith, term-le-total t₀ q j jq))) in
-            let (j, jq, h) = wanted-some cap p q a' w in
+            unfold value in inner_zero q c (λ j. pos (t₀ j)) (λ j jq. ap pos (omega (arith, term_le_total t₀ q j jq))) in
+            let (j, jq, h) = wanted_some cap p q a' w in
             let at_f : t f ≡ 0 = omega (arith, ap up flat, ap down flat, ap up meets, ap down meets) in
             let apart : j ≢ f = λ g. omega (arith, rw g at h) in
-            absurd (omega (arith, put_other f 0 t j apart, term-le-total t₀ q j jq))
+            absurd (omega (arith, put_other f 0 t j apart, term_le_total t₀ q j jq))
       ] in
       let (j, jq, h) = some in
       let d =
-      sign-consistent cap p₀ q a₀ c n row (λ i l. (holding.wanted i l).solution) (λ i l. wanted-some cap p₀ q a₀ (holding.wanted i l)) (holding-below holding)
-      closed t₀ s₀ (put-inside t 0 (wanted-inside cap p q a' w)) in
-      let (k, kn, taken, nz) = combined-some q n d.sum.times row (j, jq, omega (arith, d.sum.adds-up j jq)) in
-      let b : AtOrBelow q (row k) t₀ = λ i iq. omega (arith, d.sum.adds-up i iq, combined-above n d.sum.times row k i kn taken) in
-      let inside = consistent-rows q c n row d k kn taken in (
+      sign_consistent cap p₀ q a₀ c n row (λ i l. (holding.wanted i l).solution) (λ i l. wanted_some cap p₀ q a₀ (holding.wanted i l)) (holding_below holding)
+      closed t₀ s₀ (put_inside t 0 (wanted_inside cap p q a' w)) in
+      let (k, kn, taken, nz) = combined_some q n d.sum.times row (j, jq, omega (arith, d.sum.adds_up j jq)) in
+      let b : AtOrBelow q (row k) t₀ = λ i iq. omega (arith, d.sum.adds_up i iq, combined_above n d.sum.times row k i kn taken) in
+      let inside = consistent_rows q c n row d k kn taken in (
         k,
         kn,
         omega (arith, inside.downs, ap up meets, ap down meets, one_side (v t₀)),
@@ -252,7 +252,7 @@ module _ (cap p q : ℕ) (a a' : ℕ → ℕ → ℤ) (c : ℕ → ℤ) (extends
 module _ (cap p q : ℕ) (a : ℕ → ℕ → ℤ) (f : ℕ) (fq : f < q) (p₀ : ℕ) (a₀ : ℕ → ℕ → ℤ) (without : Without p q a f p₀ a₀) (m : ℕ) (basis : ℕ → ℕ → ℕ)
     (given : Given cap p q a m basis) (m₀ : ℕ) (basis₀ : ℕ → ℕ → ℕ) (picked : Picked q m basis (λ i. eqb (basis i f) 0) m₀ basis₀) where
   abbrev from : (x : ℕ) → x < m₀ → (i : ℕ) × (i < m) × T (eqb (basis i f) 0) × (count_to i (λ i. eqb (basis i f) 0) ≡ x) × Same q (basis₀ x) (basis i)
-  from = picked-from q m basis (λ i. eqb (basis i f) 0) m₀ basis₀ picked
+  from = picked_from q m basis (λ i. eqb (basis i f) 0) m₀ basis₀ picked
 
   there : (t : ℕ → ℕ) → Wanted cap p₀ q a₀ t → Wanted cap p q a t
   there t w = record { solution = without.less t w.solution; admitted = w.admitted }
@@ -260,8 +260,8 @@ module _ (cap p q : ℕ) (a : ℕ → ℕ → ℤ) (f : ℕ) (fq : f < q) (p₀ 
   back : (t : ℕ → ℕ) → t f ≡ 0 → Wanted cap p q a t → Wanted cap p₀ q a₀ t
   back t e w = record { solution = without.more t w.solution e; admitted = w.admitted }
 
-  pub without-given : Given cap p₀ q a₀ m₀ basis₀
-  without-given =
+  pub without_given : Given cap p₀ q a₀ m₀ basis₀
+  without_given =
       record {
         loops =
             record {
@@ -269,7 +269,7 @@ module _ (cap p q : ℕ) (a : ℕ → ℕ → ℤ) (f : ℕ) (fq : f < q) (p₀ 
                   let (i, im, z, e, is) = from x xn in
                   let loop = given.loops.only i im in
                   record {
-                    holds = wanted-alike cap p₀ q a₀ (λ j jq. sym (is j jq)) (back (basis i) (eqb→eq (basis i f) 0 z) loop.holds);
+                    holds = wanted_alike cap p₀ q a₀ (λ j jq. sym (is j jq)) (back (basis i) (eqb→eq (basis i f) 0 z) loop.holds);
                     none_below = λ t w b. loop.none_below t (there t w) (record {
                       at_most = λ j jq. omega (arith, is j jq, b.at_most j jq);
                       other = λ g. b.other (λ j jq. omega (arith, is j jq, g j jq));
@@ -280,7 +280,7 @@ module _ (cap p q : ℕ) (a : ℕ → ℕ → ℤ) (f : ℕ) (fq : f < q) (p₀ 
                   let (k, km, z', e', is') = from y yn in
                   let ik : i < k = elim (split i k) [
                     | inl l ↦ l
-                    | inr l ↦ absurd (omega (arith, count-mono (λ i. eqb (basis i f) 0) k i l))
+                    | inr l ↦ absurd (omega (arith, count_mono (λ i. eqb (basis i f) 0) k i l))
                   ] in
                   given.loops.once i k ik km (λ j jq. omega (arith, g j jq, is j jq, is' j jq));
               all = λ t b.
@@ -292,7 +292,7 @@ module _ (cap p q : ℕ) (a : ℕ → ℕ → ℤ) (f : ℕ) (fq : f < q) (p₀ 
                   let (i, im, e) = given.loops.all t whole in
                   let z : T (eqb (basis i f) 0) = let g : basis i f ≡ 0 = e f fq ∙ none in rw g tt in (
                     count_to i (λ i. eqb (basis i f) 0),
-                    omega (arith, picked.count, count-step (λ i. eqb (basis i f) 0) i m im z),
+                    omega (arith, picked.count, count_step (λ i. eqb (basis i f) 0) i m im z),
                     λ j jq. picked.rows i im z j jq ∙ e j jq,
                   );
             };
@@ -302,24 +302,24 @@ module _ (cap p q : ℕ) (a : ℕ → ℕ → ℤ) (f : ℕ) (fq : f < q) (p₀ 
 -- ---- after it: the rows of value 0 or more, filled
 
 -- row i has the value 0 or more
-abbrev pub notBelow : (q : ℕ) (c : ℕ → ℤ) (row : ℕ → ℕ → ℕ) → ℕ → Bool
-notBelow q c row i = not (lt_z (value c q (row i)) (pos 0))
+abbrev pub not_below : (q : ℕ) (c : ℕ → ℤ) (row : ℕ → ℕ → ℕ) → ℕ → Bool
+not_below q c row i = not (lt_z (value c q (row i)) (pos 0))
 
-not-below : (z : ℤ) → T (not (lt_z z (pos 0))) → down z ≡ 0
-not-below z h = omega (arith, up_le (lt_z_no {a = z} {b = pos 0} h), one_side z)
+not_below_lem : (z : ℤ) → T (not (lt_z z (pos 0))) → down z ≡ 0
+not_below_lem z h = omega (arith, up_le (lt_z_no {a = z} {b = pos 0} h), one_side z)
 
-below-not : (z : ℤ) → down z ≡ 0 → T (not (lt_z z (pos 0)))
-below-not z e = not_T (lt_z z (pos 0)) (λ h. omega (arith, up_lt (lt_z_yes {a = z} {b = pos 0} h)))
+below_not : (z : ℤ) → down z ≡ 0 → T (not (lt_z z (pos 0)))
+below_not z e = not_T (lt_z z (pos 0)) (λ h. omega (arith, up_lt (lt_z_yes {a = z} {b = pos 0} h)))
 
 module _ (cap p q : ℕ) (a a' : ℕ → ℕ → ℤ) (c : ℕ → ℤ) (extends : Extends p q a a' c) (f : ℕ) (fq : f < q) (uncapped : 0 < cap → 0 < f)
     (minus : c f ≡ negsuc 0) (free : (i : ℕ) → i < p → a i f ≡ pos 0) (p₀ : ℕ) (a₀ : ℕ → ℕ → ℤ) (without : Without p q a f p₀ a₀) (m : ℕ)
     (basis : ℕ → ℕ → ℕ) (s : Stage) (sound : Sound cap p₀ q a₀ c m basis s) (ended : Ended cap p₀ q a₀ c s) (n' : ℕ) (row' : ℕ → ℕ → ℕ)
-    (picked : Picked q s.rows (λ i. filled q c f (row q s i)) (notBelow q c (row q s)) n' row') where
+    (picked : Picked q s.rows (λ i. filled q c f (row q s i)) (not_below q c (row q s)) n' row') where
   abbrev g : ℕ → Bool
-  g = notBelow q c (row q s)
+  g = not_below q c (row q s)
 
   abbrev made : (x : ℕ) → x < n' → (i : ℕ) × (i < s.rows) × T (g i) × (count_to i g ≡ x) × Same q (row' x) (filled q c f (row q s i))
-  made = picked-from q s.rows (λ i. filled q c f (row q s i)) g n' row' picked
+  made = picked_from q s.rows (λ i. filled q c f (row q s i)) g n' row' picked
 
   none_above : (x y : ℕ) → x < n' → y < n' → x ≢ y → ¬ (AtOrBelow q (row' x) (row' y))
   none_above x y xn yn ne b =
@@ -329,26 +329,26 @@ module _ (cap p q : ℕ) (a a' : ℕ → ℕ → ℤ) (c : ℕ → ℤ) (extends
       let vk = value c q (row q s k) in
       let less : up vi ≤ up vk = omega (arith, b f fq, si f fq, sk f fq, put_same f (up vi) (row q s i), put_same f (up vk) (row q s k)) in
       irreducible cap p₀ q a₀ c m basis s sound i k il kl (λ e. ne (sym ei ∙ (ap (λ i. count_to i g) e ∙ ek)))
-      (record { ups = less; downs = omega (arith, not-below vi fi) })
+      (record { ups = less; downs = omega (arith, not_below_lem vi fi) })
       (λ j jq. elim (ℕ_discrete j f) [
         | yes e ↦ rw e (omega (arith, without.none (row q s i) (sound.wanted i il).solution))
         | no other ↦ omega (arith, b j jq, si j jq, sk j jq, put_other f (up vi) (row q s i) j other, put_other f (up vk) (row q s k) j other)
       ])
 
   -- they are the minimal solutions of the system with the equation inside the cap, each once
-  pub fresh-loops : Enumerates q (LoopInside cap p q a') n' row'
-  fresh-loops =
-      sweep-enumerates q (Wanted cap p q a') (λ s t e w. wanted-alike cap p q a' e w) n' row'
+  pub fresh_loops : Enumerates q (LoopInside cap p q a') n' row'
+  fresh_loops =
+      sweep_enumerates q (Wanted cap p q a') (λ s t e w. wanted_alike cap p q a' e w) n' row'
       (λ x xn.
       let (i, il, fi, ei, si) = made x xn in
-      wanted-alike cap p q a' (λ j jq. sym (si j jq))
-      (filled-wanted cap p q a a' c extends f fq uncapped minus free p₀ a₀ without s.rows (row q s) ended.holding ended.closed i il
-      (not-below (value c q (row q s i)) fi)))
+      wanted_alike cap p q a' (λ j jq. sym (si j jq))
+      (filled_wanted cap p q a a' c extends f fq uncapped minus free p₀ a₀ without s.rows (row q s) ended.holding ended.closed i il
+      (not_below_lem (value c q (row q s i)) fi)))
       (λ t w.
-      let (i, il, e, b) = filled-under cap p q a a' c extends f fq uncapped minus free p₀ a₀ without s.rows (row q s) ended.holding ended.closed t w in
-      let fi = below-not (value c q (row q s i)) e in (
+      let (i, il, e, b) = filled_under cap p q a a' c extends f fq uncapped minus free p₀ a₀ without s.rows (row q s) ended.holding ended.closed t w in
+      let fi = below_not (value c q (row q s i)) e in (
         count_to i g,
-        omega (arith, picked.count, count-step g i s.rows il fi),
+        omega (arith, picked.count, count_step g i s.rows il fi),
         λ j jq. omega (arith, picked.rows i il fi j jq, b j jq),
       ))
-      n' row' (nothing-swept q n' row' none_above)
+      n' row' (nothing_swept q n' row' none_above)

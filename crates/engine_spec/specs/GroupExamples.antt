@@ -4,73 +4,73 @@ use Rattle.std.specs.Prelude.{◌≡◌, refl, List, ◌∷◌, [], ◌++◌, �
 use Rattle.std.proofs.Common.{arith, get_or-take}
 use Rattle.linear.specs.Sums.{sum_to}
 use Rattle.linear.specs.Systems.{inner, value}
-use Rattle.linear.specs.Tests.{allTo, anyTo, count_to}
+use Rattle.linear.specs.Tests.{all_to, any_to, count_to}
 use Rattle.linear.specs.Tuples.{total, unit}
-use Rattle.definitions.specs.Answers.{◌then◌, refuseFirst, refuseWith}
-use Rattle.definitions.specs.System.{isAtOrBelow}
-use Rattle.definitions.specs.Tables.{at, bit, frozen, writeTo}
+use Rattle.definitions.specs.Answers.{◌then◌, refuse_first, refuse_with}
+use Rattle.definitions.specs.System.{is_at_or_below}
+use Rattle.definitions.specs.Tables.{at, bit, frozen, write_to}
 use Rattle.laws.specs.TableLaws.{row_before}
-use Rattle.laws.specs.Pack.{packTo}
+use Rattle.laws.specs.Pack.{pack_to}
 use Rattle.desk_spec.specs.Promises.{SameList}
 use Rattle.engine_spec.specs.Calls.{
   checked,
-  coefficientsSmall,
-  inOrder,
-  isAlone,
-  isFree,
-  isFresh,
-  isLeft,
-  isList,
-  isRising,
+  coefficients_small,
+  in_order,
+  is_alone,
+  is_free,
+  is_fresh,
+  is_left,
+  is_list,
+  is_rising,
   is_row,
-  marksInOrder,
+  marks_in_order,
   resume,
-  resumeChecks,
+  resume_checks,
   start,
-  startChecks,
-  startFrom,
-  startFromChecks,
-  startFromUnder,
-  startUnder,
+  start_checks,
+  start_from,
+  start_from_checks,
+  start_from_under,
+  start_under,
   take,
-  takeChecks,
+  take_checks,
 }
 use Rattle.engine_spec.specs.Engine.{
   Work,
   after,
-  allDone,
-  begunFromUnder,
-  begunUnder,
-  fillTo,
+  all_done,
+  begun_from_under,
+  begun_under,
+  fill_to,
   finish,
   finished,
   onward,
   rested,
   run,
   taken,
-  takenFresh,
-  valuesSmall,
+  taken_fresh,
+  values_small,
 }
 use Rattle.engine_spec.specs.Fresh.{put_at}
-use Rattle.engine_spec.specs.Promise.{afterResume, afterStart, afterTake}
-use Rattle.engine_spec.specs.Reduction.{isSmall, isWithin, reducible}
-use Rattle.engine_spec.specs.Search.{firstFrom, leastTo, lesser}
+use Rattle.engine_spec.specs.Promise.{after_resume, after_start, after_take}
+use Rattle.engine_spec.specs.Reduction.{is_small, is_within, reducible}
+use Rattle.engine_spec.specs.Search.{first_from, least_to, lesser}
 use Rattle.engine_spec.specs.Stage.{
   begin,
-  degreeTurn,
+  degree_turn,
   grown,
-  isDue,
-  isPair,
-  nextDegree,
-  pairDegree,
-  pairTurn,
+  is_due,
+  is_pair,
+  next_degree,
+  pair_degree,
+  pair_turn,
   paired,
   passed,
   raised,
-  rowTurn,
+  row_turn,
   turn,
 }
-use Rattle.engine_spec.specs.Groups.{Made, further, handed-on, loaded, one_map}
+use Rattle.engine_spec.specs.Groups.{Made, further, handed_on, loaded, one_map}
 
 -- tables with room for 8 rows
 abbrev lent : Work
@@ -99,60 +99,60 @@ second = pos 1 ∷ pos 0 ∷ negsuc 0 ∷ []
 abbrev first_taken : Work
 first_taken = (take 1 3 8 8 0 3 (start 1 3 first 8 lent).work).work
 
-abbrev first-left : Work
-first-left = (resume 1 3 8 8 100 first_taken).work
+abbrev first_left : Work
+first_left = (resume 1 3 8 8 100 first_taken).work
 
-first_made : Made 3 1 first first-left.basis first-left.count
-unfolding startUnder take resume checked startChecks takeChecks resumeChecks begunUnder taken run after finish finished rested allDone valuesSmall onward fillTo
-    inOrder marksInOrder coefficientsSmall is_row isRising isLeft refuseFirst refuseWith ◌then◌ packTo turn rowTurn pairTurn degreeTurn paired grown
-    passed raised isPair isDue pairDegree nextDegree firstFrom lesser leastTo isWithin reducible isSmall isAtOrBelow value inner sum_to allTo anyTo
-    count_to total unit writeTo frozen bit
-first_made = loaded 1 first (afterTake (afterStart 8 8 lent refl roomy roomy refl) 0 3) 100 refl
+first_made : Made 3 1 first first_left.basis first_left.count
+unfolding start_under take resume checked start_checks take_checks resume_checks begun_under taken run after finish finished rested all_done values_small onward fill_to
+    in_order marks_in_order coefficients_small is_row is_rising is_left refuse_first refuse_with ◌then◌ pack_to turn row_turn pair_turn degree_turn paired grown
+    passed raised is_pair is_due pair_degree next_degree first_from lesser least_to is_within reducible is_small is_at_or_below value inner sum_to all_to any_to
+    count_to total unit write_to frozen bit
+first_made = loaded 1 first (after_take (after_start 8 8 lent refl roomy roomy refl) 0 3) 100 refl
 
 -- ---- the second from its list
 
 abbrev handed : List ℕ
-handed = part (first-left.count * 3) first-left.basis
+handed = part (first_left.count * 3) first_left.basis
 
-handed-same : (i : ℕ) → i < first-left.count → (j : ℕ) → j < 3 → at handed 3 i j ≡ at first-left.basis 3 i j
-handed-same i l j jq =
-    get_or-take (first-left.count * 3) first-left.basis (i * 3 + j) 0 (omega (arith, row_before 3 first-left.count i 0 j l jq))
+handed_same : (i : ℕ) → i < first_left.count → (j : ℕ) → j < 3 → at handed 3 i j ≡ at first_left.basis 3 i j
+handed_same i l j jq =
+    get_or-take (first_left.count * 3) first_left.basis (i * 3 + j) 0 (omega (arith, row_before 3 first_left.count i 0 j l jq))
 
-abbrev second-begun : Work
-second-begun = (startFrom 1 3 second first-left.count handed 8 lent).work
+abbrev second_begun : Work
+second_begun = (start_from 1 3 second first_left.count handed 8 lent).work
 
-abbrev second-left : Work
-second-left = (resume 1 3 8 8 100 (take 1 3 8 8 0 2 second-begun).work).work
+abbrev second_left : Work
+second_left = (resume 1 3 8 8 100 (take 1 3 8 8 0 2 second_begun).work).work
 
-second-made : Made 3 2 (first ++ second) second-left.basis second-left.count
-unfolding startUnder startFromUnder take resume checked startChecks startFromChecks takeChecks resumeChecks begunUnder begunFromUnder taken takenFresh
+second_made : Made 3 2 (first ++ second) second_left.basis second_left.count
+unfolding start_under start_from_under take resume checked start_checks start_from_checks take_checks resume_checks begun_under begun_from_under taken taken_fresh
     run after finish
-    finished rested allDone valuesSmall onward fillTo inOrder marksInOrder coefficientsSmall is_row isRising isLeft isList isFresh isFree isAlone
-    refuseFirst refuseWith ◌then◌ packTo turn rowTurn pairTurn degreeTurn paired grown passed raised isPair isDue pairDegree nextDegree firstFrom
-    lesser leastTo isWithin reducible isSmall isAtOrBelow value inner sum_to allTo anyTo count_to total unit writeTo frozen bit put_at
-second-made =
+    finished rested all_done values_small onward fill_to in_order marks_in_order coefficients_small is_row is_rising is_left is_list is_fresh is_free is_alone
+    refuse_first refuse_with ◌then◌ pack_to turn row_turn pair_turn degree_turn paired grown passed raised is_pair is_due pair_degree next_degree first_from
+    lesser least_to is_within reducible is_small is_at_or_below value inner sum_to all_to any_to count_to total unit write_to frozen bit put_at
+second_made =
     further 1 first refl 1 second
-    (afterTake (handed-on first_made handed handed-same 1 second 8 8 lent roomy roomy refl) 0 2) 100 refl
+    (after_take (handed_on first_made handed handed_same 1 second 8 8 lent roomy roomy refl) 0 2) 100 refl
 
 -- ---- both at once
 
-abbrev both-begun : Work
-both-begun = (start 2 3 (first ++ second) 8 lent).work
+abbrev both_begun : Work
+both_begun = (start 2 3 (first ++ second) 8 lent).work
 
 abbrev both_one : Work
-both_one = (resume 2 3 8 8 100 (take 2 3 8 8 0 3 both-begun).work).work
+both_one = (resume 2 3 8 8 100 (take 2 3 8 8 0 3 both_begun).work).work
 
 abbrev both_left : Work
 both_left = (resume 2 3 8 8 100 (take 2 3 8 8 1 2 both_one).work).work
 
-both-made : Made 3 2 (first ++ second) both_left.basis both_left.count
-unfolding startUnder take resume checked startChecks takeChecks resumeChecks begunUnder taken takenFresh run after finish finished rested allDone valuesSmall
-    onward fillTo inOrder marksInOrder coefficientsSmall is_row isRising isLeft isFresh isFree isAlone refuseFirst refuseWith ◌then◌ packTo turn
-    rowTurn pairTurn degreeTurn paired grown passed raised isPair isDue pairDegree nextDegree firstFrom lesser leastTo isWithin reducible isSmall
-    isAtOrBelow value inner sum_to allTo anyTo count_to total unit writeTo frozen bit put_at
-both-made =
-    loaded 2 (first ++ second) (afterTake (afterResume (afterTake (afterStart 8 8 lent refl roomy roomy refl) 0 3) 100) 1 2) 100 refl
+both_made : Made 3 2 (first ++ second) both_left.basis both_left.count
+unfolding start_under take resume checked start_checks take_checks resume_checks begun_under taken taken_fresh run after finish finished rested all_done values_small
+    onward fill_to in_order marks_in_order coefficients_small is_row is_rising is_left is_fresh is_free is_alone refuse_first refuse_with ◌then◌ pack_to turn
+    row_turn pair_turn degree_turn paired grown passed raised is_pair is_due pair_degree next_degree first_from lesser least_to is_within reducible is_small
+    is_at_or_below value inner sum_to all_to any_to count_to total unit write_to frozen bit put_at
+both_made =
+    loaded 2 (first ++ second) (after_take (after_resume (after_take (after_start 8 8 lent refl roomy roomy refl) 0 3) 100) 1 2) 100 refl
 
 -- The two lists hold the same rows
-agree : SameList 3 second-left.basis second-left.count both_left.basis both_left.count
-agree = one_map second-made both-made
+agree : SameList 3 second_left.basis second_left.count both_left.basis both_left.count
+agree = one_map second_made both_made

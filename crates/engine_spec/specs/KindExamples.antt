@@ -2,72 +2,72 @@
 use Rattle.std.specs.Prelude.{◌≡◌, refl, List, ◌∷◌, [], ◌++◌, ℕ, suc, ◌*◌, ℤ, pos, negsuc, get_or, replicate, take}
 use Rattle.linear.specs.Sums.{sum_to}
 use Rattle.linear.specs.Systems.{inner, value}
-use Rattle.linear.specs.Tests.{allTo, anyTo, count_to}
+use Rattle.linear.specs.Tests.{all_to, any_to, count_to}
 use Rattle.linear.specs.Tuples.{total, unit}
-use Rattle.definitions.specs.Answers.{Answer, ◌then◌, complete, refuseFirst, refuseWith, refused, started}
-use Rattle.definitions.specs.System.{extendTo, isAtOrBelow}
-use Rattle.definitions.specs.Tables.{bit, frozen, writeTo}
-use Rattle.laws.specs.Pack.{packTo}
+use Rattle.definitions.specs.Answers.{Answer, ◌then◌, complete, refuse_first, refuse_with, refused, started}
+use Rattle.definitions.specs.System.{extend_to, is_at_or_below}
+use Rattle.definitions.specs.Tables.{bit, frozen, write_to}
+use Rattle.laws.specs.Pack.{pack_to}
 use Rattle.engine_spec.specs.Calls as engine
 use Rattle.engine_spec.specs.Calls.{
   checked,
-  coefficientsSmall,
-  inOrder,
-  isAlone,
-  isFree,
-  isFresh,
-  isLeft,
-  isList,
-  isRising,
+  coefficients_small,
+  in_order,
+  is_alone,
+  is_free,
+  is_fresh,
+  is_left,
+  is_list,
+  is_rising,
   is_row,
-  marksInOrder,
+  marks_in_order,
   resume,
-  resumeChecks,
+  resume_checks,
   start,
-  startChecks,
-  startFrom,
-  startFromChecks,
-  startFromUnder,
-  startUnder,
-  takeChecks,
+  start_checks,
+  start_from,
+  start_from_checks,
+  start_from_under,
+  start_under,
+  take_checks,
 }
 use Rattle.engine_spec.specs.Engine.{
   Result,
   Work,
   after,
-  allDone,
-  begunFromUnder,
-  begunUnder,
-  fillTo,
+  all_done,
+  begun_from_under,
+  begun_under,
+  fill_to,
   finish,
   finished,
   onward,
   rested,
   run,
   taken,
-  takenFresh,
-  valuesSmall,
+  taken_fresh,
+  values_small,
 }
 use Rattle.engine_spec.specs.Fresh.{put_at}
-use Rattle.engine_spec.specs.Reduction.{isSmall, isWithin, reducible}
-use Rattle.engine_spec.specs.Search.{firstFrom, leastTo, lesser}
+use Rattle.engine_spec.specs.Reduction.{is_small, is_within, reducible}
+use Rattle.engine_spec.specs.Search.{first_from, least_to, lesser}
 use Rattle.engine_spec.specs.Stage.{
   begin,
-  degreeTurn,
+  degree_turn,
   grown,
-  isDue,
-  isPair,
-  nextDegree,
-  pairDegree,
-  pairTurn,
+  is_due,
+  is_pair,
+  next_degree,
+  pair_degree,
+  pair_turn,
   paired,
   passed,
   raised,
-  rowTurn,
+  row_turn,
   turn,
 }
-use Rattle.engine_spec.specs.Sides.{handed, handedCount, lessTo}
-use Rattle.engine_spec.specs.StartSides.{sideAt, sidesChecks, sidesSystem, startSides}
+use Rattle.engine_spec.specs.Sides.{handed, handed_count, less_to}
+use Rattle.engine_spec.specs.StartSides.{side_at, sides_checks, sides_system, start_sides}
 
 -- tables of 9s, with room for 16 rows of q + 1 numbers
 abbrev lent : ℕ → Work
@@ -84,13 +84,13 @@ lent q =
 
 -- one equation in q unknowns besides the extra one: the start, the stage of the equation with the fresh unknown f, and turns to its end
 abbrev taking : (cap q f : ℕ) → List ℤ → Result
-taking cap q f coefs = engine.take 1 (suc q) 16 16 0 f (startUnder cap 1 (suc q) coefs 16 (lent q)).work
+taking cap q f coefs = engine.take 1 (suc q) 16 16 0 f (start_under cap 1 (suc q) coefs 16 (lent q)).work
 
-abbrev ranUnder : (cap q : ℕ) → List ℤ → Result
-ranUnder cap q coefs = resume 1 (suc q) 16 16 100 (taking cap q (suc q) coefs).work
+abbrev ran_under : (cap q : ℕ) → List ℤ → Result
+ran_under cap q coefs = resume 1 (suc q) 16 16 100 (taking cap q (suc q) coefs).work
 
 abbrev ran : (q : ℕ) → List ℤ → Result
-ran = ranUnder 0
+ran = ran_under 0
 
 pub record Shown : Type 0 where
   pub answer : Answer
@@ -102,7 +102,7 @@ shown c q lower o =
     let w = o.work in
     record {
       answer = o.answer;
-      rows = take (handedCount c q w.basis w.count * q) (handed c q lower w.basis w.count (replicate (16 * q) 9));
+      rows = take (handed_count c q w.basis w.count * q) (handed c q lower w.basis w.count (replicate (16 * q) 9));
     }
 
 abbrev sees : List ℕ → Shown
@@ -119,29 +119,29 @@ abbrev double : List ℤ
 double = pos 1 ∷ negsuc 1 ∷ []
 
 pub record Kinds : Type 0 where
-  pub loops : shown 0 2 none (ran 2 (extendTo 1 2 double (pos 3 ∷ []))) ≡ sees (2 ∷ 1 ∷ [])
-  pub meeting : shown 1 2 none (ran 2 (extendTo 1 2 double (pos 3 ∷ []))) ≡ sees (3 ∷ 0 ∷ [])
+  pub loops : shown 0 2 none (ran 2 (extend_to 1 2 double (pos 3 ∷ []))) ≡ sees (2 ∷ 1 ∷ [])
+  pub meeting : shown 1 2 none (ran 2 (extend_to 1 2 double (pos 3 ∷ []))) ≡ sees (3 ∷ 0 ∷ [])
   -- 2 x = 3: no tuple meets it; the row (2, 3) of the extended system is handed out nowhere
-  pub without : shown 1 1 none (ran 1 (extendTo 1 1 (pos 2 ∷ []) (pos 3 ∷ []))) ≡ sees []
-  pub left_out : take 2 (ran 1 (extendTo 1 1 (pos 2 ∷ []) (pos 3 ∷ []))).work.basis ≡ 2 ∷ 3 ∷ []
+  pub without : shown 1 1 none (ran 1 (extend_to 1 1 (pos 2 ∷ []) (pos 3 ∷ []))) ≡ sees []
+  pub left_out : take 2 (ran 1 (extend_to 1 1 (pos 2 ∷ []) (pos 3 ∷ []))).work.basis ≡ 2 ∷ 3 ∷ []
   -- with a cap of 1 on the first unknown it is no row at all, and no unknown with a cap is fresh: x = 1
-  pub dropped : (ranUnder 1 1 (extendTo 1 1 (pos 2 ∷ []) (pos 3 ∷ []))).work.count ≡ 0
-  pub capped-loops : shown 0 2 none (ranUnder 1 2 (extendTo 1 2 double (pos 3 ∷ []))) ≡ sees (2 ∷ 1 ∷ [])
-  pub capped-meeting : shown 1 2 none (ranUnder 1 2 (extendTo 1 2 double (pos 3 ∷ []))) ≡ sees (3 ∷ 0 ∷ [])
-  pub fresh : (taking 0 1 0 (extendTo 1 1 (pos 1 ∷ []) (pos 1 ∷ []))).answer ≡ started
-  pub capped-fresh : (taking 1 1 0 (extendTo 1 1 (pos 1 ∷ []) (pos 1 ∷ []))).answer ≡ refused 33 []
+  pub dropped : (ran_under 1 1 (extend_to 1 1 (pos 2 ∷ []) (pos 3 ∷ []))).work.count ≡ 0
+  pub capped_loops : shown 0 2 none (ran_under 1 2 (extend_to 1 2 double (pos 3 ∷ []))) ≡ sees (2 ∷ 1 ∷ [])
+  pub capped_meeting : shown 1 2 none (ran_under 1 2 (extend_to 1 2 double (pos 3 ∷ []))) ≡ sees (3 ∷ 0 ∷ [])
+  pub fresh : (taking 0 1 0 (extend_to 1 1 (pos 1 ∷ []) (pos 1 ∷ []))).answer ≡ started
+  pub capped_fresh : (taking 1 1 0 (extend_to 1 1 (pos 1 ∷ []) (pos 1 ∷ []))).answer ≡ refused 33 []
   -- "zero if all of them are zero"
-  pub zeros : shown 1 2 none (ran 2 (extendTo 1 2 double (pos 0 ∷ []))) ≡ sees (0 ∷ 0 ∷ [])
+  pub zeros : shown 1 2 none (ran 2 (extend_to 1 2 double (pos 0 ∷ []))) ≡ sees (0 ∷ 0 ∷ [])
   -- 3 x = 2 y with x at least 2; x + y = 0 with x at least 2
-  pub bound : shown 1 2 two (ran 2 (extendTo 1 2 (pos 3 ∷ negsuc 1 ∷ []) (lessTo 1 2 (pos 3 ∷ negsuc 1 ∷ []) [] two))) ≡ sees (2 ∷ 3 ∷ [])
-  pub nothing_above : shown 1 2 two (ran 2 (extendTo 1 2 (pos 1 ∷ pos 1 ∷ []) (lessTo 1 2 (pos 1 ∷ pos 1 ∷ []) [] two))) ≡ sees []
+  pub bound : shown 1 2 two (ran 2 (extend_to 1 2 (pos 3 ∷ negsuc 1 ∷ []) (less_to 1 2 (pos 3 ∷ negsuc 1 ∷ []) [] two))) ≡ sees (2 ∷ 3 ∷ [])
+  pub nothing_above : shown 1 2 two (ran 2 (extend_to 1 2 (pos 1 ∷ pos 1 ∷ []) (less_to 1 2 (pos 1 ∷ pos 1 ∷ []) [] two))) ≡ sees []
 
 kinds : Kinds
-unfolding startUnder engine.take resume checked startChecks takeChecks resumeChecks begunUnder taken run after finish finished rested allDone valuesSmall
-    onward fillTo
-    inOrder marksInOrder coefficientsSmall is_row isRising isLeft refuseFirst refuseWith ◌then◌ packTo extendTo lessTo turn rowTurn pairTurn degreeTurn
-    paired grown passed raised isPair isDue pairDegree nextDegree firstFrom lesser leastTo isWithin reducible isSmall isAtOrBelow value inner sum_to allTo
-    anyTo count_to total unit writeTo frozen bit isFresh isFree isAlone
+unfolding start_under engine.take resume checked start_checks take_checks resume_checks begun_under taken run after finish finished rested all_done values_small
+    onward fill_to
+    in_order marks_in_order coefficients_small is_row is_rising is_left refuse_first refuse_with ◌then◌ pack_to extend_to less_to turn row_turn pair_turn degree_turn
+    paired grown passed raised is_pair is_due pair_degree next_degree first_from lesser least_to is_within reducible is_small is_at_or_below value inner sum_to all_to
+    any_to count_to total unit write_to frozen bit is_fresh is_free is_alone
 kinds =
     record {
       loops = refl;
@@ -149,10 +149,10 @@ kinds =
       without = refl;
       left_out = refl;
       dropped = refl;
-      capped-loops = refl;
-      capped-meeting = refl;
+      capped_loops = refl;
+      capped_meeting = refl;
       fresh = refl;
-      capped-fresh = refl;
+      capped_fresh = refl;
       zeros = refl;
       bound = refl;
       nothing_above = refl;
@@ -162,7 +162,7 @@ kinds =
 
 -- one further equation in three unknowns from a list of n rows, with the fresh unknown f or none where f is 3
 abbrev begins : List ℤ → ℕ → List ℕ → Result
-begins coefs n rows = startFrom 1 3 coefs n rows 16 (lent 2)
+begins coefs n rows = start_from 1 3 coefs n rows 16 (lent 2)
 
 abbrev takes : List ℤ → ℕ → List ℕ → ℕ → Result
 takes coefs n rows f = engine.take 1 3 16 16 0 f (begins coefs n rows).work
@@ -179,19 +179,19 @@ same = pos 1 ∷ negsuc 0 ∷ pos 0 ∷ []
 abbrev same_list : List ℕ
 same_list = 1 ∷ 1 ∷ 0 ∷ 0 ∷ 0 ∷ 1 ∷ []
 
-abbrev halfList : List ℕ
-halfList = 2 ∷ 0 ∷ 1 ∷ 1 ∷ 1 ∷ 1 ∷ 0 ∷ 2 ∷ 1 ∷ []
+abbrev half_list : List ℕ
+half_list = 2 ∷ 0 ∷ 1 ∷ 1 ∷ 1 ∷ 1 ∷ 0 ∷ 2 ∷ 1 ∷ []
 
 -- x = z
 abbrev ends : List ℤ
 ends = pos 1 ∷ pos 0 ∷ negsuc 0 ∷ []
 
 pub record Lists : Type 0 where
-  pub both : listed same 3 halfList 3 ≡ sees (1 ∷ 1 ∷ 1 ∷ [])
+  pub both : listed same 3 half_list 3 ≡ sees (1 ∷ 1 ∷ 1 ∷ [])
   pub other_way : listed (pos 1 ∷ pos 1 ∷ negsuc 1 ∷ []) 2 same_list 3 ≡ sees (1 ∷ 1 ∷ 1 ∷ [])
   -- z is fresh in x = z where of the list only its unit tuple has it, and refused where it is not: rows would be lost
   pub fresh : listed ends 2 same_list 2 ≡ sees (1 ∷ 1 ∷ 1 ∷ [])
-  pub not-fresh : (takes ends 3 halfList 2).answer ≡ refused 33 []
+  pub not_fresh : (takes ends 3 half_list 2).answer ≡ refused 33 []
   pub nowhere : (takes ends 1 (1 ∷ 1 ∷ 0 ∷ []) 2).answer ≡ refused 33 []
   -- a list without rows is the whole list of equations with no solution but 0
   pub none_left : listed same 0 [] 3 ≡ sees []
@@ -200,28 +200,28 @@ pub record Lists : Type 0 where
   pub large : (begins same 1 (1000001 ∷ 1 ∷ 0 ∷ [])).answer ≡ refused 6 []
   pub cut : (begins same 2 (1 ∷ 1 ∷ 0 ∷ 0 ∷ 0 ∷ [])).answer ≡ refused 6 []
   pub many : (begins same 17 []).answer ≡ refused 4 []
-  pub first-of-two : (begins (pos 10001 ∷ pos 0 ∷ pos 0 ∷ []) 1 (0 ∷ 0 ∷ 0 ∷ [])).answer ≡ refused 6 []
+  pub first_of_two : (begins (pos 10001 ∷ pos 0 ∷ pos 0 ∷ []) 1 (0 ∷ 0 ∷ 0 ∷ [])).answer ≡ refused 6 []
   pub range : (begins (pos 0 ∷ pos 10001 ∷ pos 0 ∷ []) 2 same_list).answer ≡ refused 7 (2 ∷ [])
 
 lists : Lists
-unfolding startFromUnder engine.take resume checked startFromChecks takeChecks resumeChecks begunFromUnder taken takenFresh run after finish finished
-    rested allDone
-    valuesSmall onward fillTo inOrder marksInOrder coefficientsSmall is_row isRising isLeft isList isFresh isFree isAlone refuseFirst refuseWith ◌then◌
-    packTo turn rowTurn pairTurn degreeTurn paired grown passed raised isPair isDue pairDegree nextDegree firstFrom lesser leastTo isWithin reducible
-    isSmall isAtOrBelow value inner sum_to allTo anyTo count_to total unit writeTo frozen bit put_at
+unfolding start_from_under engine.take resume checked start_from_checks take_checks resume_checks begun_from_under taken taken_fresh run after finish finished
+    rested all_done
+    values_small onward fill_to in_order marks_in_order coefficients_small is_row is_rising is_left is_list is_fresh is_free is_alone refuse_first refuse_with ◌then◌
+    pack_to turn row_turn pair_turn degree_turn paired grown passed raised is_pair is_due pair_degree next_degree first_from lesser least_to is_within reducible
+    is_small is_at_or_below value inner sum_to all_to any_to count_to total unit write_to frozen bit put_at
 lists =
     record {
       both = refl;
       other_way = refl;
       fresh = refl;
-      not-fresh = refl;
+      not_fresh = refl;
       nowhere = refl;
       none_left = refl;
       zero_row = refl;
       large = refl;
       cut = refl;
       many = refl;
-      first-of-two = refl;
+      first_of_two = refl;
       range = refl;
     }
 
@@ -229,11 +229,11 @@ lists =
 
 -- a map with right sides and a bound, in tables with room for 16 rows
 abbrev starts_with : (p q : ℕ) (coefs rights : List ℤ) (lower : List ℕ) → Result
-starts_with p q coefs rights lower = startSides p q coefs rights lower 16 (lent q)
+starts_with p q coefs rights lower = start_sides p q coefs rights lower 16 (lent q)
 
 -- one equation in two unknowns, to its end
-abbrev ranWith : (coefs rights : List ℤ) (lower : List ℕ) → Result
-ranWith coefs rights lower = resume 1 3 16 16 100 (engine.take 1 3 16 16 0 3 (starts_with 1 2 coefs rights lower).work).work
+abbrev ran_with : (coefs rights : List ℤ) (lower : List ℕ) → Result
+ran_with coefs rights lower = resume 1 3 16 16 100 (engine.take 1 3 16 16 0 3 (starts_with 1 2 coefs rights lower).work).work
 
 -- 3 x = 2 y, and x + y = 0
 abbrev thirds : List ℤ
@@ -248,10 +248,10 @@ pub record Starts : Type 0 where
   pub lowered : take 3 (starts_with 1 2 thirds (pos 1 ∷ []) (2 ∷ 4 ∷ [])).work.equations ≡ negsuc 2 ∷ pos 3 ∷ negsuc 1 ∷ []
   pub cap : (starts_with 1 2 double (pos 3 ∷ []) (0 ∷ 0 ∷ [])).work.stage.cap ≡ 1
   pub rows : (starts_with 1 2 double (pos 3 ∷ []) (0 ∷ 0 ∷ [])).work.count ≡ 3
-  pub loops : shown 0 2 none (ranWith double (pos 3 ∷ []) (0 ∷ 0 ∷ [])) ≡ sees (2 ∷ 1 ∷ [])
-  pub meeting : shown 1 2 none (ranWith double (pos 3 ∷ []) (0 ∷ 0 ∷ [])) ≡ sees (3 ∷ 0 ∷ [])
-  pub bound : shown 1 2 two (ranWith thirds (pos 0 ∷ []) (2 ∷ 0 ∷ [])) ≡ sees (2 ∷ 3 ∷ [])
-  pub nothing_above : shown 1 2 two (ranWith sum (pos 0 ∷ []) (2 ∷ 0 ∷ [])) ≡ sees []
+  pub loops : shown 0 2 none (ran_with double (pos 3 ∷ []) (0 ∷ 0 ∷ [])) ≡ sees (2 ∷ 1 ∷ [])
+  pub meeting : shown 1 2 none (ran_with double (pos 3 ∷ []) (0 ∷ 0 ∷ [])) ≡ sees (3 ∷ 0 ∷ [])
+  pub bound : shown 1 2 two (ran_with thirds (pos 0 ∷ []) (2 ∷ 0 ∷ [])) ≡ sees (2 ∷ 3 ∷ [])
+  pub nothing_above : shown 1 2 two (ran_with sum (pos 0 ∷ []) (2 ∷ 0 ∷ [])) ≡ sees []
   -- refusals, each where all before it pass, and where the next is due too
   pub unknowns : (starts_with 1 32 [] (pos 0 ∷ []) []).answer ≡ refused 2 []
   pub numbers : (starts_with 1 2 (pos 1 ∷ []) [] []).answer ≡ refused 3 []
@@ -264,10 +264,10 @@ pub record Starts : Type 0 where
   pub beyond : (starts_with 2 2 (pos 1 ∷ pos 0 ∷ pos 1 ∷ negsuc 0 ∷ []) (pos 0 ∷ negsuc 0 ∷ []) (1000000 ∷ 0 ∷ [])).answer ≡ refused 35 (2 ∷ [])
 
 starts : Starts
-unfolding startSides sidesChecks sidesSystem sideAt engine.take resume checked takeChecks resumeChecks begunUnder taken run after finish finished rested allDone
-    valuesSmall onward fillTo inOrder marksInOrder coefficientsSmall is_row isRising isLeft refuseFirst refuseWith ◌then◌ packTo extendTo lessTo turn rowTurn
-    pairTurn degreeTurn paired grown passed raised isPair isDue pairDegree nextDegree firstFrom lesser leastTo isWithin reducible isSmall isAtOrBelow value
-    inner sum_to allTo anyTo count_to total unit writeTo frozen bit
+unfolding start_sides sides_checks sides_system side_at engine.take resume checked take_checks resume_checks begun_under taken run after finish finished rested all_done
+    values_small onward fill_to in_order marks_in_order coefficients_small is_row is_rising is_left refuse_first refuse_with ◌then◌ pack_to extend_to less_to turn row_turn
+    pair_turn degree_turn paired grown passed raised is_pair is_due pair_degree next_degree first_from lesser least_to is_within reducible is_small is_at_or_below value
+    inner sum_to all_to any_to count_to total unit write_to frozen bit
 starts =
     record {
       column = refl;

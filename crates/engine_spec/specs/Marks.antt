@@ -4,13 +4,13 @@
 use Rattle.std.specs.Prelude.{◌≡◌, refl, ◌⊎◌, ℕ, ◌+◌, ◌≤◌, ◌<◌, T, ℤ, ◌+ℤ◌}
 use Rattle.std.proofs.Common.{inl, inr, arith}
 use Rattle.linear.specs.Differences.{down, one_side, same_up, sum_is, up}
-use Rattle.linear.specs.SystemLaws.{value_same, value-sum}
+use Rattle.linear.specs.SystemLaws.{value_same, value_sum}
 use Rattle.linear.specs.Systems.{value}
 use Rattle.linear.specs.Tuples.{AtOrBelow, Same}
 use Rattle.engine_spec.specs.Reduction.{reducible}
-use Rattle.engine_spec.specs.ReductionLaws.{Against, reduced-more}
+use Rattle.engine_spec.specs.ReductionLaws.{Against, reduced_more}
 use Rattle.engine_spec.specs.Signs.{Reduced, Within, plus}
-use Rattle.engine_spec.specs.Reducing.{reducible-to}
+use Rattle.engine_spec.specs.Reducing.{reducible_to}
 
 -- the absolute value
 abbrev pub size : ℤ → ℕ
@@ -30,16 +30,16 @@ pub record Marked (q : ℕ) (c : ℕ → ℤ) (n : ℕ) (row : ℕ → ℕ → �
 -- ---- signs
 
 -- x above 0, y below, and w below 0 by the sizes of both: y lies between 0 and x + w
-over-within : (x y w : ℤ) → Against x y → Against x w → size x + size y ≤ size w → Within y (x +ℤ w)
-over-within x y w a b l =
+over_within : (x y w : ℤ) → Against x y → Against x w → size x + size y ≤ size w → Within y (x +ℤ w)
+over_within x y w a b l =
     let s = sum_is x w in
     record {
       ups = omega (arith, a.below, one_side y);
       downs = omega (arith, s, a.above, a.below, b.below, one_side x, one_side y, one_side w, one_side (x +ℤ w));
     }
 
-under-within : (x y w : ℤ) → Against y x → Against w x → size x + size y ≤ size w → Within y (x +ℤ w)
-under-within x y w a b l =
+under_within : (x y w : ℤ) → Against y x → Against w x → size x + size y ≤ size w → Within y (x +ℤ w)
+under_within x y w a b l =
     let s = sum_is x w in
     record {
       ups = omega (arith, s, a.above, a.below, b.above, one_side x, one_side y, one_side w, one_side (x +ℤ w));
@@ -49,25 +49,25 @@ under-within x y w a b l =
 both_ways : (x y z : ℤ) → Against x y → Against z x → ⊥
 both_ways x y z a b = omega (arith, a.above, b.below, one_side x)
 
-marked-within : (x y w : ℤ) → Opposed x y → Opposed x w → size x + size y ≤ size w → Within y (x +ℤ w)
-marked-within x y w (inl a) (inl b) l = over-within x y w a b l
-marked-within x y w (inl a) (inr b) l = absurd (both_ways x y w a b)
-marked-within x y w (inr a) (inl b) l = absurd (both_ways x w y b a)
-marked-within x y w (inr a) (inr b) l = under-within x y w a b l
+marked_within : (x y w : ℤ) → Opposed x y → Opposed x w → size x + size y ≤ size w → Within y (x +ℤ w)
+marked_within x y w (inl a) (inl b) l = over_within x y w a b l
+marked_within x y w (inl a) (inr b) l = absurd (both_ways x y w a b)
+marked_within x y w (inr a) (inl b) l = absurd (both_ways x w y b a)
+marked_within x y w (inr a) (inr b) l = under_within x y w a b l
 
 -- ---- what a mark says
 
 -- with any w of the other sign than z whose size is at least the mark, z + w is reduced
-pub mark-reduces : (q : ℕ) (c : ℕ → ℤ) (n : ℕ) (row : ℕ → ℕ → ℕ) (z : ℕ → ℕ) (mark : ℕ) → Marked q c n row z mark → (w : ℕ → ℕ)
+pub mark_reduces : (q : ℕ) (c : ℕ → ℤ) (n : ℕ) (row : ℕ → ℕ → ℕ) (z : ℕ → ℕ) (mark : ℕ) → Marked q c n row z mark → (w : ℕ → ℕ)
     → Opposed (value c q z) (value c q w) → mark ≤ size (value c q w) → Reduced q c n row (plus z w)
-mark-reduces q c n row z mark m w o l =
+mark_reduces q c n row z mark m w o l =
     record {
       by = m.by;
       low = m.low;
       under = λ j jq. omega (arith, m.under j jq);
       within =
-          rw (value-sum c q z w (plus z w) (λ j jq. refl))
-          (marked-within (value c q z) (value c q (row m.by)) (value c q w) m.signs o (omega (arith, m.sizes)));
+          rw (value_sum c q z w (plus z w) (λ j jq. refl))
+          (marked_within (value c q z) (value c q (row m.by)) (value c q w) m.signs o (omega (arith, m.sizes)));
     }
 
 -- ---- where a mark comes from
@@ -83,29 +83,29 @@ module _ (q : ℕ) (c : ℕ → ℤ) (n : ℕ) (row : ℕ → ℕ → ℕ) (h k 
   abbrev v : ℤ
   v = value c q z
 
-  sum-value : up v + down (x +ℤ y) ≡ up (x +ℤ y) + down v
-  sum-value = same_up (value-sum c q (row h) (row k) z is)
+  sum_value : up v + down (x +ℤ y) ≡ up (x +ℤ y) + down v
+  sum_value = same_up (value_sum c q (row h) (row k) z is)
 
   -- a sum above 0: the row below 0 lies below it, and the mark is the size of the row above 0
-  pub marked-above : 0 < up v → Marked q c n row z (size x)
-  marked-above u =
+  pub marked_above : 0 < up v → Marked q c n row z (size x)
+  marked_above u =
       record {
         by = k;
         low = kn;
         under = λ j jq. omega (arith, is j jq);
         signs = inl (record { above = u; below = pair.below });
-        sizes = omega (arith, sum-value, sum_is x y, pair.above, pair.below, one_side x, one_side y, one_side v, one_side (x +ℤ y));
+        sizes = omega (arith, sum_value, sum_is x y, pair.above, pair.below, one_side x, one_side y, one_side v, one_side (x +ℤ y));
       }
 
   -- a sum below 0
-  pub marked-below : 0 < down v → Marked q c n row z (size y)
-  marked-below d =
+  pub marked_below : 0 < down v → Marked q c n row z (size y)
+  marked_below d =
       record {
         by = h;
         low = hn;
         under = λ j jq. omega (arith, is j jq);
         signs = inr (record { above = pair.above; below = d });
-        sizes = omega (arith, sum-value, sum_is x y, pair.above, pair.below, one_side x, one_side y, one_side v, one_side (x +ℤ y));
+        sizes = omega (arith, sum_value, sum_is x y, pair.above, pair.below, one_side x, one_side y, one_side v, one_side (x +ℤ y));
       }
 
 -- a mark stays good when rows are appended, for a tuple that agrees with z, and when it rises
@@ -125,13 +125,13 @@ marked_more q c n n' row row' z z' mark mark' more rows same rise m =
 
 -- the mark of one row of a pair answers the test of their sum
 module _ (q : ℕ) (c : ℕ → ℤ) (n : ℕ) (row : ℕ → ℕ → ℕ) (h k mark : ℕ) (pair : Against (value c q (row h)) (value c q (row k))) where
-  pub upper-mark : Marked q c n row (row h) mark → mark ≤ size (value c q (row k))
+  pub upper_mark : Marked q c n row (row h) mark → mark ≤ size (value c q (row k))
       → T (reducible q c n row (plus (row h) (row k)) (value c q (plus (row h) (row k))))
-  upper-mark m l = reducible-to q c n row (plus (row h) (row k)) (mark-reduces q c n row (row h) mark m (row k) (inl pair) l)
+  upper_mark m l = reducible_to q c n row (plus (row h) (row k)) (mark_reduces q c n row (row h) mark m (row k) (inl pair) l)
 
-  pub lower-mark : Marked q c n row (row k) mark → mark ≤ size (value c q (row h))
+  pub lower_mark : Marked q c n row (row k) mark → mark ≤ size (value c q (row h))
       → T (reducible q c n row (plus (row h) (row k)) (value c q (plus (row h) (row k))))
-  lower-mark m l =
-      reducible-to q c n row (plus (row h) (row k))
-      (reduced-more q c n n row row (plus (row k) (row h)) (plus (row h) (row k)) (omega arith) (λ i il j jq. refl) (λ j jq. omega arith)
-      (mark-reduces q c n row (row k) mark m (row h) (inr pair) l))
+  lower_mark m l =
+      reducible_to q c n row (plus (row h) (row k))
+      (reduced_more q c n n row row (plus (row k) (row h)) (plus (row h) (row k)) (omega arith) (λ i il j jq. refl) (λ j jq. omega arith)
+      (mark_reduces q c n row (row k) mark m (row h) (inr pair) l))

@@ -4,15 +4,15 @@ use Rattle.std.proofs.Common.{arith}
 use Rattle.std.specs.Int.Signed.{le_z, lt_z, lt_z_no, lt_z_yes}
 use Rattle.linear.specs.Differences.{le_up, one_side, up_le, up_lt}
 use Rattle.linear.specs.Systems.{value}
-use Rattle.linear.specs.TestLaws.{and_both, any-from}
-use Rattle.laws.specs.SystemLaws.{below-to}
-use Rattle.definitions.specs.System.{isAtOrBelow}
-use Rattle.engine_spec.specs.Reduction.{isWithin, reduces, reducible}
+use Rattle.linear.specs.TestLaws.{and_both, any_from}
+use Rattle.laws.specs.SystemLaws.{below_to}
+use Rattle.definitions.specs.System.{is_at_or_below}
+use Rattle.engine_spec.specs.Reduction.{is_within, reduces, reducible}
 use Rattle.engine_spec.specs.Signs.{Reduced, Within}
 
-pub within-to : (y x : ℤ) → Within y x → T (isWithin y x)
-unfolding isWithin
-within-to y x w = go (lt_z x (pos 0)) (λ h. lt_z_yes h) (λ h. lt_z_no h)
+pub within_to : (y x : ℤ) → Within y x → T (is_within y x)
+unfolding is_within
+within_to y x w = go (lt_z x (pos 0)) (λ h. lt_z_yes h) (λ h. lt_z_no h)
   where
     go : (b : Bool) → (T b → x <ℤ pos 0) → (T (not b) → pos 0 ≤ℤ x) → T (le_z (cond b x (pos 0)) y && le_z y (cond b (pos 0) x))
     go true f g =
@@ -24,9 +24,9 @@ within-to y x w = go (lt_z x (pos 0)) (λ h. lt_z_yes h) (λ h. lt_z_no h)
         let u : y ≤ℤ x = le_up (omega (arith, w.ups, w.downs, one_side x, up_le (g tt))) in
         and_both (le_z (pos 0) y) (le_z y x) l.le u.le
 
-pub reducible-to : (q : ℕ) (c : ℕ → ℤ) (n : ℕ) (row : ℕ → ℕ → ℕ) (z : ℕ → ℕ) → Reduced q c n row z → T (reducible q c n row z (value c q z))
+pub reducible_to : (q : ℕ) (c : ℕ → ℤ) (n : ℕ) (row : ℕ → ℕ → ℕ) (z : ℕ → ℕ) → Reduced q c n row z → T (reducible q c n row z (value c q z))
 unfolding reducible
-reducible-to q c n row z r =
-    any-from n (reduces q c row z (value c q z)) r.by r.low
-    (and_both (isWithin (value c q (row r.by)) (value c q z)) (isAtOrBelow q (row r.by) z)
-    (within-to (value c q (row r.by)) (value c q z) r.within) (below-to q (row r.by) z r.under))
+reducible_to q c n row z r =
+    any_from n (reduces q c row z (value c q z)) r.by r.low
+    (and_both (is_within (value c q (row r.by)) (value c q z)) (is_at_or_below q (row r.by) z)
+    (within_to (value c q (row r.by)) (value c q z) r.within) (below_to q (row r.by) z r.under))

@@ -10,12 +10,12 @@ use Rattle.std.specs.Int.Signed.{lt_z}
 use Rattle.linear.specs.Systems.{value}
 use Rattle.linear.specs.Tuples.{total}
 use Rattle.definitions.specs.Answers.{Answer, complete, paused, refused}
-use Rattle.definitions.specs.Refusals.{stepLimit}
-use Rattle.definitions.specs.Tables.{at, writeTo}
+use Rattle.definitions.specs.Refusals.{step_limit}
+use Rattle.definitions.specs.Tables.{at, write_to}
 use Rattle.engine_spec.specs.Caps.{is_over}
-use Rattle.engine_spec.specs.Reduction.{isSmall, reducible}
+use Rattle.engine_spec.specs.Reduction.{is_small, reducible}
 use Rattle.engine_spec.specs.Signs.{plus}
-use Rattle.engine_spec.specs.Search.{firstIn, holder, leastTo, lesser, partner}
+use Rattle.engine_spec.specs.Search.{first_in, holder, least_to, lesser, partner}
 
 -- The table and its number of rows; the degree under way; the row of the basis and the pair from which on those of that degree are left; the steps; the cap.
 pub record Stage : Type 0 where
@@ -34,33 +34,33 @@ row q s = at s.table q
 -- ---- tests
 
 -- the value of row h is above 0, and that of row k below
-unfoldable pub isPair : (q : ℕ) (c : ℕ → ℤ) (row : ℕ → ℕ → ℕ) (h k : ℕ) → Bool
-isPair q c row h k = lt_z (pos 0) (value c q (row h)) && lt_z (value c q (row k)) (pos 0)
+unfoldable pub is_pair : (q : ℕ) (c : ℕ → ℤ) (row : ℕ → ℕ → ℕ) (h k : ℕ) → Bool
+is_pair q c row h k = lt_z (pos 0) (value c q (row h)) && lt_z (value c q (row k)) (pos 0)
 
 -- such a pair whose degrees add up to d
-unfoldable pub isDue : (q : ℕ) (c : ℕ → ℤ) (row : ℕ → ℕ → ℕ) (d h k : ℕ) → Bool
-isDue q c row d h k = isPair q c row h k && eqb (total (row h) q + total (row k) q) d
+unfoldable pub is_due : (q : ℕ) (c : ℕ → ℤ) (row : ℕ → ℕ → ℕ) (d h k : ℕ) → Bool
+is_due q c row d h k = is_pair q c row h k && eqb (total (row h) q + total (row k) q) d
 
 -- the degree of a pair; 0 where it is none
-unfoldable pub pairDegree : (q : ℕ) (c : ℕ → ℤ) (row : ℕ → ℕ → ℕ) (h k : ℕ) → ℕ
-pairDegree q c row h k = cond (isPair q c row h k) (total (row h) q + total (row k) q) 0
+unfoldable pub pair_degree : (q : ℕ) (c : ℕ → ℤ) (row : ℕ → ℕ → ℕ) (h k : ℕ) → ℕ
+pair_degree q c row h k = cond (is_pair q c row h k) (total (row h) q + total (row k) q) 0
 
 -- the next row of the basis of the present degree; at least m where there is none
-abbrev pub dueRow : (q m : ℕ) (basis : ℕ → ℕ → ℕ) → Stage → ℕ
-dueRow q m basis s = firstIn m s.taken (λ i. eqb (total (basis i) q) s.degree)
+abbrev pub due_row : (q m : ℕ) (basis : ℕ → ℕ → ℕ) → Stage → ℕ
+due_row q m basis s = first_in m s.taken (λ i. eqb (total (basis i) q) s.degree)
 
 -- the next pair of the present degree; `above` is at least the number of rows where there is none
 abbrev pub above : (q : ℕ) (c : ℕ → ℤ) → Stage → ℕ
-above q c s = holder s.rows (isDue q c (row q s) s.degree) s.upper s.lower
+above q c s = holder s.rows (is_due q c (row q s) s.degree) s.upper s.lower
 
 abbrev pub below : (q : ℕ) (c : ℕ → ℤ) → Stage → ℕ
-below q c s = partner s.rows (isDue q c (row q s) s.degree) s.upper s.lower (above q c s)
+below q c s = partner s.rows (is_due q c (row q s) s.degree) s.upper s.lower (above q c s)
 
 -- the least degree above the present one of a row of the basis or of a pair; 0 where there is none
-unfoldable pub nextDegree : (q : ℕ) (c : ℕ → ℤ) (m : ℕ) (basis : ℕ → ℕ → ℕ) → Stage → ℕ
-nextDegree q c m basis s =
-    lesser s.degree (leastTo s.degree m (λ i. total (basis i) q))
-    (leastTo s.degree s.rows (λ h. leastTo s.degree s.rows (pairDegree q c (row q s) h)))
+unfoldable pub next_degree : (q : ℕ) (c : ℕ → ℤ) (m : ℕ) (basis : ℕ → ℕ → ℕ) → Stage → ℕ
+next_degree q c m basis s =
+    lesser s.degree (least_to s.degree m (λ i. total (basis i) q))
+    (least_to s.degree s.rows (λ h. least_to s.degree s.rows (pair_degree q c (row q s) h)))
 
 -- ---- one turn
 
@@ -74,7 +74,7 @@ pub data Turned : Type 0 where
 unfoldable pub grown : (q : ℕ) (x : ℕ → ℕ) (taken upper lower : ℕ) → Stage → Stage
 grown q x taken upper lower s =
     record {
-      table = writeTo q s.table (s.rows * q) x;
+      table = write_to q s.table (s.rows * q) x;
       rows = s.rows + 1;
       taken = taken;
       degree = s.degree;
@@ -113,15 +113,15 @@ raised d s =
     }
 
 -- 31: there is no room for a row that is needed. Row i of the basis:
-unfoldable pub rowTurn : (q : ℕ) (basis : ℕ → ℕ → ℕ) (room : ℕ) → Stage → ℕ → Turned
-rowTurn q basis room s i = cond (ltb s.rows room) (goes (grown q (basis i) (i + 1) s.upper s.lower s)) (stops 31)
+unfoldable pub row_turn : (q : ℕ) (basis : ℕ → ℕ → ℕ) (room : ℕ) → Stage → ℕ → Turned
+row_turn q basis room s i = cond (ltb s.rows room) (goes (grown q (basis i) (i + 1) s.upper s.lower s)) (stops 31)
 
 abbrev pub sum_of : ℕ → Stage → ℕ → ℕ → ℕ → ℕ
 sum_of q s h k = plus (row q s h) (row q s k)
 
 -- a sum that need not become a row: it passes the cap, so that it is below no wanted tuple, or a row reduces it
-abbrev pub isNeedless : (q : ℕ) (c : ℕ → ℤ) → Stage → (ℕ → ℕ) → Bool
-isNeedless q c s z = is_over s.cap z || reducible q c s.rows (row q s) z (value c q z)
+abbrev pub is_needless : (q : ℕ) (c : ℕ → ℤ) → Stage → (ℕ → ℕ) → Bool
+is_needless q c s z = is_over s.cap z || reducible q c s.rows (row q s) z (value c q z)
 
 -- 12: a sum that is needed has a component above 1,000,000.
 unfoldable pub paired : (needless small fits : Bool) → Stage → Stage → Turned
@@ -131,20 +131,20 @@ paired false true false skip more = stops 31
 paired false true true skip more = goes more
 
 -- the pair (h, k)
-unfoldable pub pairTurn : (q : ℕ) (c : ℕ → ℤ) (room : ℕ) → Stage → ℕ → ℕ → Turned
-pairTurn q c room s h k =
-    paired (isNeedless q c s (sum_of q s h k)) (isSmall q (sum_of q s h k)) (ltb s.rows room) (passed h (k + 1) s)
+unfoldable pub pair_turn : (q : ℕ) (c : ℕ → ℤ) (room : ℕ) → Stage → ℕ → ℕ → Turned
+pair_turn q c room s h k =
+    paired (is_needless q c s (sum_of q s h k)) (is_small q (sum_of q s h k)) (ltb s.rows room) (passed h (k + 1) s)
     (grown q (sum_of q s h k) s.taken h (k + 1) s)
 
-unfoldable pub degreeTurn : ℕ → Stage → Turned
-degreeTurn d s = cond (eqb d 0) ends (goes (raised d s))
+unfoldable pub degree_turn : ℕ → Stage → Turned
+degree_turn d s = cond (eqb d 0) ends (goes (raised d s))
 
 -- 14: the steps taken stand at their limit.
 unfoldable pub turn : (q : ℕ) (c : ℕ → ℤ) (m : ℕ) (basis : ℕ → ℕ → ℕ) (room : ℕ) → Stage → Turned
 turn q c m basis room s =
-    cond (eqb s.steps stepLimit) (stops 14)
-    (cond (ltb (dueRow q m basis s) m) (rowTurn q basis room s (dueRow q m basis s))
-    (cond (ltb (above q c s) s.rows) (pairTurn q c room s (above q c s) (below q c s)) (degreeTurn (nextDegree q c m basis s) s)))
+    cond (eqb s.steps step_limit) (stops 14)
+    (cond (ltb (due_row q m basis s) m) (row_turn q basis room s (due_row q m basis s))
+    (cond (ltb (above q c s) s.rows) (pair_turn q c room s (above q c s) (below q c s)) (degree_turn (next_degree q c m basis s) s)))
 
 -- ---- turns
 

@@ -6,88 +6,88 @@ use Rattle.std.specs.Prelude.{◌≡◌, ◌≢◌, not, List, ℕ, suc, ◌*◌
 use Rattle.std.proofs.Common.{eqb→eq, ltb→lt, lt→ltb}
 use Rattle.std.proofs.Math.Dec.{eqb_refl}
 use Rattle.linear.specs.Systems.{value}
-use Rattle.linear.specs.TestLaws.{any_at, any-from}
-use Rattle.definitions.specs.Answers.{Check, ◌then◌, refuseFirst, refuseIf, started}
-use Rattle.definitions.specs.Input.{boundOf}
-use Rattle.definitions.specs.Refusals.{check15, outOfRange}
-use Rattle.definitions.specs.System.{coefLimit, extendTo, mostComponent}
-use Rattle.laws.specs.CheckLaws.{Renders, Rules, ◌▹◌, decides-first, decides-if, decides_not, end, placed, renders-last, renders-then, rule}
-use Rattle.laws.specs.RefusalLaws.{Outside, decides-outside, decides-unequal}
-use Rattle.engine_spec.specs.Beside.{coefficientLimit, mostColumns, mostRows}
+use Rattle.linear.specs.TestLaws.{any_at, any_from}
+use Rattle.definitions.specs.Answers.{Check, ◌then◌, refuse_first, refuse_if, started}
+use Rattle.definitions.specs.Input.{bound_of}
+use Rattle.definitions.specs.Refusals.{check15, out_of_range}
+use Rattle.definitions.specs.System.{coef_limit, extend_to, most_component}
+use Rattle.laws.specs.CheckLaws.{Renders, Rules, ◌▹◌, decides_first, decides_if, decides_not, end, placed, renders_last, renders_then, rule}
+use Rattle.laws.specs.RefusalLaws.{Outside, decides_outside, decides_unequal}
+use Rattle.engine_spec.specs.Beside.{coefficient_limit, most_columns, most_rows}
 use Rattle.engine_spec.specs.Calls.{check1, check2, check3, check4, check7, checked}
-use Rattle.engine_spec.specs.Engine.{Result, Work, begunUnder, result, systemOf}
-use Rattle.engine_spec.specs.Reduction.{isSmall}
-use Rattle.engine_spec.specs.Rules.{Short, short-decides, small-from, small-to}
-use Rattle.engine_spec.specs.Sides.{lessTo}
+use Rattle.engine_spec.specs.Engine.{Result, Work, begun_under, result, system_of}
+use Rattle.engine_spec.specs.Reduction.{is_small}
+use Rattle.engine_spec.specs.Rules.{Short, short_decides, small_from, small_to}
+use Rattle.engine_spec.specs.Sides.{less_to}
 
 -- right side i, less what the bound makes of equation i
-unfoldable pub sideAt : (q : ℕ) (coefs rights : List ℤ) (lower : List ℕ) → ℕ → ℤ
-sideAt q coefs rights lower i = get_or rights i (pos 0) +ℤ neg_ℤ (value (systemOf q coefs i) q (boundOf lower))
+unfoldable pub side_at : (q : ℕ) (coefs rights : List ℤ) (lower : List ℕ) → ℕ → ℤ
+side_at q coefs rights lower i = get_or rights i (pos 0) +ℤ neg_ℤ (value (system_of q coefs i) q (bound_of lower))
 
 -- the system that the run works on: the extra unknown first
-unfoldable pub sidesSystem : (p q : ℕ) (coefs rights : List ℤ) (lower : List ℕ) → List ℤ
-sidesSystem p q coefs rights lower = extendTo p q coefs (lessTo p q coefs rights (boundOf lower))
+unfoldable pub sides_system : (p q : ℕ) (coefs rights : List ℤ) (lower : List ℕ) → List ℤ
+sides_system p q coefs rights lower = extend_to p q coefs (less_to p q coefs rights (bound_of lower))
 
 -- ---- refusals that leave everything as it was
 
 -- 2 also at 32 unknowns: the extra one is an unknown too. "3 also covers right sides not p in number". 4 counts the extra unknown. 5: the bound is not q
 -- numbers. 8: one of them is above 1,000,000. 15: "a right side out of range, comes after 7". 35: a right side less what the bound makes of it is beyond
 -- 1,000,000, with the place of the first such equation.
-unfoldable pub sidesChecks : (p q : ℕ) (coefs rights : List ℤ) (lower : List ℕ) (most : ℕ) → Work → Check
-sidesChecks p q coefs rights lower most w =
+unfoldable pub sides_checks : (p q : ℕ) (coefs rights : List ℤ) (lower : List ℕ) (most : ℕ) → Work → Check
+sides_checks p q coefs rights lower most w =
     check1 p
     then check2 q
-    then refuseIf (eqb q mostColumns) 2
+    then refuse_if (eqb q most_columns) 2
     then check3 p q coefs
-    then refuseIf (not (eqb (length rights) p)) 3
+    then refuse_if (not (eqb (length rights) p)) 3
     then check4 p (suc q) most w
-    then refuseIf (not (eqb (length lower) q)) 5
+    then refuse_if (not (eqb (length lower) q)) 5
     then check7 p q coefs
-    then refuseIf (not (isSmall q (boundOf lower))) 8
+    then refuse_if (not (is_small q (bound_of lower))) 8
     then check15 rights
-    then refuseFirst 35 p (λ i. ltb coefficientLimit (nat_abs (sideAt q coefs rights lower i)))
+    then refuse_first 35 p (λ i. ltb coefficient_limit (nat_abs (side_at q coefs rights lower i)))
 
 -- ---- the call
 
-unfoldable pub startSides : (p q : ℕ) (coefs rights : List ℤ) (lower : List ℕ) (most : ℕ) → Work → Result
-startSides p q coefs rights lower most w =
-    checked (sidesChecks p q coefs rights lower most w) w (λ v. result started (begunUnder 1 p (suc q) (sidesSystem p q coefs rights lower) v))
+unfoldable pub start_sides : (p q : ℕ) (coefs rights : List ℤ) (lower : List ℕ) (most : ℕ) → Work → Result
+start_sides p q coefs rights lower most w =
+    checked (sides_checks p q coefs rights lower most w) w (λ v. result started (begun_under 1 p (suc q) (sides_system p q coefs rights lower) v))
 
 -- ---- the rules
 
-abbrev pub sidesRules : (p q : ℕ) (coefs rights : List ℤ) (lower : List ℕ) (most : ℕ) → Work → Rules
-sidesRules p q coefs rights lower most w =
-    rule 1 (Outside 1 mostRows p)
-    ▹ rule 2 (Outside 1 mostColumns q)
-    ▹ rule 2 (q ≡ mostColumns)
+abbrev pub sides_rules : (p q : ℕ) (coefs rights : List ℤ) (lower : List ℕ) (most : ℕ) → Work → Rules
+sides_rules p q coefs rights lower most w =
+    rule 1 (Outside 1 most_rows p)
+    ▹ rule 2 (Outside 1 most_columns q)
+    ▹ rule 2 (q ≡ most_columns)
     ▹ rule 3 (length coefs ≢ p * q)
     ▹ rule 3 (length rights ≢ p)
     ▹ rule 4 (Short p (suc q) most w)
     ▹ rule 5 (length lower ≢ q)
-    ▹ placed 7 (p * q) (λ k. coefLimit < nat_abs (get_or coefs k (pos 0)))
-    ▹ rule 8 (¬ ((j : ℕ) → j < q → boundOf lower j ≤ mostComponent))
-    ▹ rule 15 ((k : ℕ) × (k < length rights) × (coefLimit < nat_abs (get_or rights k (pos 0))))
-    ▹ placed 35 p (λ i. coefficientLimit < nat_abs (sideAt q coefs rights lower i))
+    ▹ placed 7 (p * q) (λ k. coef_limit < nat_abs (get_or coefs k (pos 0)))
+    ▹ rule 8 (¬ ((j : ℕ) → j < q → bound_of lower j ≤ most_component))
+    ▹ rule 15 ((k : ℕ) × (k < length rights) × (coef_limit < nat_abs (get_or rights k (pos 0))))
+    ▹ placed 35 p (λ i. coefficient_limit < nat_abs (side_at q coefs rights lower i))
     ▹ end
 
-pub sides-renders : (p q : ℕ) (coefs rights : List ℤ) (lower : List ℕ) (most : ℕ) (w : Work)
-    → Renders (sidesChecks p q coefs rights lower most w) (sidesRules p q coefs rights lower most w)
-unfolding sidesChecks
-sides-renders p q coefs rights lower most w =
-    renders-then (decides-outside 1 1 mostRows p)
-    (renders-then (decides-outside 2 1 mostColumns q)
-    (renders-then (decides-if (eqb q mostColumns) 2 (q ≡ mostColumns) (eqb→eq q mostColumns) (λ e. rw e (eqb_refl mostColumns)))
-    (renders-then (decides-unequal 3 (length coefs) (p * q))
-    (renders-then (decides-unequal 3 (length rights) p)
-    (renders-then (short-decides p (suc q) most w)
-    (renders-then (decides-unequal 5 (length lower) q)
-    (renders-then (decides-first 7 (p * q) (λ k. ltb coefLimit (nat_abs (get_or coefs k (pos 0)))) _
-    (λ k l. ltb→lt coefLimit (nat_abs (get_or coefs k (pos 0)))) (λ k l. lt→ltb coefLimit (nat_abs (get_or coefs k (pos 0)))))
-    (renders-then (decides_not (isSmall q (boundOf lower)) 8 ((j : ℕ) → j < q → boundOf lower j ≤ mostComponent) (small-from q (boundOf lower))
-    (small-to q (boundOf lower)))
-    (renders-then (decides-if _ 15 _
-    (λ h. let (k, l, g) = any_at (length rights) (λ k. outOfRange (get_or rights k (pos 0))) h in (k, l, ltb→lt coefLimit (nat_abs (get_or rights k (pos 0))) g))
-    (λ (k, l, g). any-from (length rights) (λ k. outOfRange (get_or rights k (pos 0))) k l (lt→ltb coefLimit (nat_abs (get_or rights k (pos 0))) g)))
-    (renders-last (decides-first 35 p (λ i. ltb coefficientLimit (nat_abs (sideAt q coefs rights lower i))) _
-    (λ i l. ltb→lt coefficientLimit (nat_abs (sideAt q coefs rights lower i)))
-    (λ i l. lt→ltb coefficientLimit (nat_abs (sideAt q coefs rights lower i))))))))))))))
+pub sides_renders : (p q : ℕ) (coefs rights : List ℤ) (lower : List ℕ) (most : ℕ) (w : Work)
+    → Renders (sides_checks p q coefs rights lower most w) (sides_rules p q coefs rights lower most w)
+unfolding sides_checks
+sides_renders p q coefs rights lower most w =
+    renders_then (decides_outside 1 1 most_rows p)
+    (renders_then (decides_outside 2 1 most_columns q)
+    (renders_then (decides_if (eqb q most_columns) 2 (q ≡ most_columns) (eqb→eq q most_columns) (λ e. rw e (eqb_refl most_columns)))
+    (renders_then (decides_unequal 3 (length coefs) (p * q))
+    (renders_then (decides_unequal 3 (length rights) p)
+    (renders_then (short_decides p (suc q) most w)
+    (renders_then (decides_unequal 5 (length lower) q)
+    (renders_then (decides_first 7 (p * q) (λ k. ltb coef_limit (nat_abs (get_or coefs k (pos 0)))) _
+    (λ k l. ltb→lt coef_limit (nat_abs (get_or coefs k (pos 0)))) (λ k l. lt→ltb coef_limit (nat_abs (get_or coefs k (pos 0)))))
+    (renders_then (decides_not (is_small q (bound_of lower)) 8 ((j : ℕ) → j < q → bound_of lower j ≤ most_component) (small_from q (bound_of lower))
+    (small_to q (bound_of lower)))
+    (renders_then (decides_if _ 15 _
+    (λ h. let (k, l, g) = any_at (length rights) (λ k. out_of_range (get_or rights k (pos 0))) h in (k, l, ltb→lt coef_limit (nat_abs (get_or rights k (pos 0))) g))
+    (λ (k, l, g). any_from (length rights) (λ k. out_of_range (get_or rights k (pos 0))) k l (lt→ltb coef_limit (nat_abs (get_or rights k (pos 0))) g)))
+    (renders_last (decides_first 35 p (λ i. ltb coefficient_limit (nat_abs (side_at q coefs rights lower i))) _
+    (λ i l. ltb→lt coefficient_limit (nat_abs (side_at q coefs rights lower i)))
+    (λ i l. lt→ltb coefficient_limit (nat_abs (side_at q coefs rights lower i))))))))))))))

@@ -17,16 +17,16 @@ use Rattle.engine_spec.specs.ReductionLaws.{Against}
 use Rattle.engine_spec.specs.Search.{
   Under,
   least_above,
-  least-one,
-  least-pair,
+  least_one,
+  least_pair,
   least_under,
-  leastTo,
-  lesser-itself,
-  lesser-one,
-  lesser-other,
-  under-under,
+  least_to,
+  lesser_itself,
+  lesser_one,
+  lesser_other,
+  under_under,
 }
-use Rattle.engine_spec.specs.Stage.{Stage, isDue, isPair, nextDegree, pairDegree, row}
+use Rattle.engine_spec.specs.Stage.{Stage, is_due, is_pair, next_degree, pair_degree, row}
 
 -- the values of rows h and k are above and below 0
 abbrev pub Pair : (q : ℕ) (c : ℕ → ℤ) (row : ℕ → ℕ → ℕ) → ℕ → ℕ → Type 0
@@ -34,14 +34,14 @@ Pair q c row h k = Against (value c q (row h)) (value c q (row k))
 
 -- ---- what the tests say
 
-value-columns : (q : ℕ) (c : ℕ → ℤ) (x : ℕ → ℕ) → 0 < up (value c q x) → 0 < q
+value_columns : (q : ℕ) (c : ℕ → ℤ) (x : ℕ → ℕ) → 0 < up (value c q x) → 0 < q
 unfolding value inner sum_to
-value-columns zero c x h = absurd (omega arith)
-value-columns (suc q) c x h = omega arith
+value_columns zero c x h = absurd (omega arith)
+value_columns (suc q) c x h = omega arith
 
 module _ (q : ℕ) (c : ℕ → ℤ) (row : ℕ → ℕ → ℕ) (h k : ℕ) where
-  pair_is : Pair q c row h k → T (isPair q c row h k)
-  unfolding isPair
+  pair_is : Pair q c row h k → T (is_pair q c row h k)
+  unfolding is_pair
   pair_is o =
       let x = value c q (row h) in
       let y = value c q (row k) in
@@ -50,20 +50,20 @@ module _ (q : ℕ) (c : ℕ → ℤ) (row : ℕ → ℕ → ℕ) (h k : ℕ) whe
       and_both (lt_z (pos 0) x) (lt_z y (pos 0)) over.lt under.lt
 
   -- there is no such pair where there are no unknowns
-  pub pair-columns : Pair q c row h k → 0 < q
-  pair-columns o = value-columns q c (row h) o.above
+  pub pair_columns : Pair q c row h k → 0 < q
+  pair_columns o = value_columns q c (row h) o.above
 
-  pub due-is : (d : ℕ) → Pair q c row h k → total (row h) q + total (row k) q ≡ d → T (isDue q c row d h k)
-  unfolding isDue
-  due-is d o e = and_both (isPair q c row h k) _ (pair_is o) (rw e (eqb_refl d))
+  pub due_is : (d : ℕ) → Pair q c row h k → total (row h) q + total (row k) q ≡ d → T (is_due q c row d h k)
+  unfolding is_due
+  due_is d o e = and_both (is_pair q c row h k) _ (pair_is o) (rw e (eqb_refl d))
 
-  pub is-due : (d : ℕ) → T (isDue q c row d h k) → total (row h) q + total (row k) q ≡ d
-  unfolding isDue
-  is-due d t = eqb→eq (total (row h) q + total (row k) q) d (and_parts (isPair q c row h k) _ t).1
+  pub is_due_lem : (d : ℕ) → T (is_due q c row d h k) → total (row h) q + total (row k) q ≡ d
+  unfolding is_due
+  is_due_lem d t = eqb→eq (total (row h) q + total (row k) q) d (and_parts (is_pair q c row h k) _ t).1
 
-  is-pair : T (isPair q c row h k) → Pair q c row h k
-  unfolding isPair
-  is-pair t =
+  is_pair_lem : T (is_pair q c row h k) → Pair q c row h k
+  unfolding is_pair
+  is_pair_lem t =
       let x = value c q (row h) in
       let y = value c q (row k) in
       let (u, w) = and_parts (lt_z (pos 0) x) (lt_z y (pos 0)) t in
@@ -71,23 +71,23 @@ module _ (q : ℕ) (c : ℕ → ℤ) (row : ℕ → ℕ → ℕ) (h k : ℕ) whe
       let under : y <ℤ pos 0 = lt_z_yes w in
       record { above = omega (arith, up_lt over, one_side x); below = omega (arith, up_lt under, one_side y) }
 
-  pub due-pair : (d : ℕ) → T (isDue q c row d h k) → Pair q c row h k
-  unfolding isDue
-  due-pair d t = is-pair (and_parts (isPair q c row h k) _ t).0
+  pub due_pair : (d : ℕ) → T (is_due q c row d h k) → Pair q c row h k
+  unfolding is_due
+  due_pair d t = is_pair_lem (and_parts (is_pair q c row h k) _ t).0
 
   -- the degree of a pair is not 0 just where it is one
-  pub pair-degree-some : pairDegree q c row h k ≢ 0 → Pair q c row h k × (pairDegree q c row h k ≡ total (row h) q + total (row k) q)
-  unfolding pairDegree
-  pair-degree-some ne = go (isPair q c row h k) is-pair ne
+  pub pair_degree_some : pair_degree q c row h k ≢ 0 → Pair q c row h k × (pair_degree q c row h k ≡ total (row h) q + total (row k) q)
+  unfolding pair_degree
+  pair_degree_some ne = go (is_pair q c row h k) is_pair_lem ne
     where
       go : (b : Bool) → (T b → Pair q c row h k) → cond b (total (row h) q + total (row k) q) 0 ≢ 0
           → Pair q c row h k × (cond b (total (row h) q + total (row k) q) 0 ≡ total (row h) q + total (row k) q)
       go true f ne = (f tt, refl)
       go false f ne = absurd (ne refl)
 
-  pub degree-is : Pair q c row h k → pairDegree q c row h k ≡ total (row h) q + total (row k) q
-  unfolding pairDegree
-  degree-is o = go (isPair q c row h k) (pair_is o)
+  pub degree_is : Pair q c row h k → pair_degree q c row h k ≡ total (row h) q + total (row k) q
+  unfolding pair_degree
+  degree_is o = go (is_pair q c row h k) (pair_is o)
     where
       go : (b : Bool) → T b → cond b (total (row h) q + total (row k) q) 0 ≡ total (row h) q + total (row k) q
       go true t = refl
@@ -98,61 +98,61 @@ module _ (q : ℕ) (c : ℕ → ℤ) (row : ℕ → ℕ → ℕ) (h k : ℕ) whe
 module _ (q : ℕ) (c : ℕ → ℤ) (m : ℕ) (basis : ℕ → ℕ → ℕ) (s : Stage) where
   -- d is the degree of a row of the basis, or of a pair
   pub data Degree : ℕ → Type 0 where
-    ofRow : (i : ℕ) → i < m → Degree (total (basis i) q)
-    ofPair : (h k : ℕ) → h < s.rows → k < s.rows → Pair q c (row q s) h k → Degree (total (row q s h) q + total (row q s k) q)
+    of_row : (i : ℕ) → i < m → Degree (total (basis i) q)
+    of_pair : (h k : ℕ) → h < s.rows → k < s.rows → Pair q c (row q s) h k → Degree (total (row q s h) q + total (row q s k) q)
 
   abbrev d : ℕ
   d = s.degree
 
-  abbrev ofRows : ℕ
-  ofRows = leastTo d m (λ i. total (basis i) q)
+  abbrev of_rows : ℕ
+  of_rows = least_to d m (λ i. total (basis i) q)
 
-  abbrev ofPairs : ℕ
-  ofPairs = leastTo d s.rows (λ h. leastTo d s.rows (pairDegree q c (row q s) h))
+  abbrev of_pairs : ℕ
+  of_pairs = least_to d s.rows (λ h. least_to d s.rows (pair_degree q c (row q s) h))
 
-  pub next-pairs : (h k : ℕ) → h < s.rows → k < s.rows → Pair q c (row q s) h k
-      → Under d (total (row q s h) q + total (row q s k) q) (nextDegree q c m basis s)
-  unfolding nextDegree
-  next-pairs h k hn kn o =
-      lesser-other d ofRows ofPairs (total (row q s h) q + total (row q s k) q)
-      (rw (degree-is q c (row q s) h k o) at (least-pair d s.rows (pairDegree q c (row q s)) h k hn kn))
+  pub next_pairs : (h k : ℕ) → h < s.rows → k < s.rows → Pair q c (row q s) h k
+      → Under d (total (row q s h) q + total (row q s k) q) (next_degree q c m basis s)
+  unfolding next_degree
+  next_pairs h k hn kn o =
+      lesser_other d of_rows of_pairs (total (row q s h) q + total (row q s k) q)
+      (rw (degree_is q c (row q s) h k o) at (least_pair d s.rows (pair_degree q c (row q s)) h k hn kn))
 
-  next-least : Under d ofRows (nextDegree q c m basis s)
-  unfolding nextDegree
-  next-least = lesser-itself d ofRows ofPairs (least_above d s.rows (λ h. leastTo d s.rows (pairDegree q c (row q s) h)))
+  next_least : Under d of_rows (next_degree q c m basis s)
+  unfolding next_degree
+  next_least = lesser_itself d of_rows of_pairs (least_above d s.rows (λ h. least_to d s.rows (pair_degree q c (row q s) h)))
 
-  pub next-above : nextDegree q c m basis s ≢ 0 → d < nextDegree q c m basis s
-  next-above = next-least.above
+  pub next_above : next_degree q c m basis s ≢ 0 → d < next_degree q c m basis s
+  next_above = next_least.above
 
-  pub next-rows : (i : ℕ) → i < m → Under d (total (basis i) q) (nextDegree q c m basis s)
-  next-rows i l = under-under d (total (basis i) q) ofRows (nextDegree q c m basis s) (least_under d m (λ i. total (basis i) q) i l) next-least
+  pub next_rows : (i : ℕ) → i < m → Under d (total (basis i) q) (next_degree q c m basis s)
+  next_rows i l = under_under d (total (basis i) q) of_rows (next_degree q c m basis s) (least_under d m (λ i. total (basis i) q) i l) next_least
 
   -- what nextDegree finds is one
-  found-one : nextDegree q c m basis s ≢ 0 → Degree (nextDegree q c m basis s)
-  unfolding nextDegree
-  found-one ne =
-      elim (lesser-one d ofRows ofPairs) [
-        | inl e ↦ let (i, l, g) = least-one d m (λ i. total (basis i) q) (λ z. ne (e ∙ z)) in rw (e, ← g) (ofRow i l)
+  found_one : next_degree q c m basis s ≢ 0 → Degree (next_degree q c m basis s)
+  unfolding next_degree
+  found_one ne =
+      elim (lesser_one d of_rows of_pairs) [
+        | inl e ↦ let (i, l, g) = least_one d m (λ i. total (basis i) q) (λ z. ne (e ∙ z)) in rw (e, ← g) (of_row i l)
         | inr e ↦
-            let (h, hl, g) = least-one d s.rows (λ h. leastTo d s.rows (pairDegree q c (row q s) h)) (λ z. ne (e ∙ z)) in
-            let (k, kl, g') = least-one d s.rows (pairDegree q c (row q s) h) (λ z. ne (e ∙ (sym g ∙ z))) in
-            let (pair, is) = pair-degree-some q c (row q s) h k (λ z. ne (e ∙ (sym g ∙ (sym g' ∙ z)))) in
-            rw (e, ← g, ← g', is) (ofPair h k hl kl pair)
+            let (h, hl, g) = least_one d s.rows (λ h. least_to d s.rows (pair_degree q c (row q s) h)) (λ z. ne (e ∙ z)) in
+            let (k, kl, g') = least_one d s.rows (pair_degree q c (row q s) h) (λ z. ne (e ∙ (sym g ∙ z))) in
+            let (pair, is) = pair_degree_some q c (row q s) h k (λ z. ne (e ∙ (sym g ∙ (sym g' ∙ z)))) in
+            rw (e, ← g, ← g', is) (of_pair h k hl kl pair)
       ]
 
-  clear : (x : ℕ) → Degree x → s.degree < x → (nextDegree q c m basis s ≢ 0) × (nextDegree q c m basis s ≤ x)
-  clear x (ofRow i im) l = (next-rows i im).clear l
-  clear x (ofPair h k hn kn o) l = (next-pairs h k hn kn o).clear l
+  clear : (x : ℕ) → Degree x → s.degree < x → (next_degree q c m basis s ≢ 0) × (next_degree q c m basis s ≤ x)
+  clear x (of_row i im) l = (next_rows i im).clear l
+  clear x (of_pair h k hn kn o) l = (next_pairs h k hn kn o).clear l
 
   -- A degree above the present one, with none in between, is the next one; and where there is none, 0 is found.
-  pub degree-unique : (d' : ℕ) → d < d' → Degree d' → ((x : ℕ) → Degree x → d < x → d' ≤ x) → nextDegree q c m basis s ≡ d'
-  degree-unique d' more is first =
+  pub degree_unique : (d' : ℕ) → d < d' → Degree d' → ((x : ℕ) → Degree x → d < x → d' ≤ x) → next_degree q c m basis s ≡ d'
+  degree_unique d' more is first =
       let (ne, low) = clear d' is more in
-      omega (arith, first (nextDegree q c m basis s) (found-one ne) (next-above ne))
+      omega (arith, first (next_degree q c m basis s) (found_one ne) (next_above ne))
 
-  pub none-degree : ((x : ℕ) → Degree x → x ≤ s.degree) → nextDegree q c m basis s ≡ 0
-  none-degree none =
-      elim (ℕ_discrete (nextDegree q c m basis s) 0) [
+  pub none_degree : ((x : ℕ) → Degree x → x ≤ s.degree) → next_degree q c m basis s ≡ 0
+  none_degree none =
+      elim (ℕ_discrete (next_degree q c m basis s) 0) [
         | yes e ↦ e
-        | no ne ↦ absurd (omega (arith, none (nextDegree q c m basis s) (found-one ne), next-above ne))
+        | no ne ↦ absurd (omega (arith, none (next_degree q c m basis s) (found_one ne), next_above ne))
       ]

@@ -10,26 +10,26 @@ use Rattle.std.proofs.Math.IntN.{pos}
 use Rattle.std.specs.Int.Signed.{le_z_yes}
 use Rattle.linear.specs.Differences.{one_side, up, up_le}
 use Rattle.linear.specs.Systems.{value}
-use Rattle.linear.specs.TestLaws.{all-at}
+use Rattle.linear.specs.TestLaws.{all_at}
 use Rattle.linear.specs.Tests.{count_to}
 use Rattle.definitions.specs.Answers.{Answer, complete, paused, refused}
-use Rattle.definitions.specs.Refusals.{stepLimit}
-use Rattle.definitions.specs.System.{mostComponent}
+use Rattle.definitions.specs.Refusals.{step_limit}
+use Rattle.definitions.specs.System.{most_component}
 use Rattle.definitions.specs.Tables.{at, frozen}
-use Rattle.laws.specs.MarkLaws.{bit-add-fits, free-bit}
-use Rattle.laws.specs.Pack.{pack-length, pack-row, packTo}
-use Rattle.engine_spec.specs.Base.{Base, onTop, top-extends}
-use Rattle.engine_spec.specs.Beside.{coefficientLimit}
-use Rattle.engine_spec.specs.Counts.{Timed, turn-timed}
-use Rattle.engine_spec.specs.Done.{among, done-extends}
-use Rattle.engine_spec.specs.Ends.{Ended, Fine, picked-from, stage-given, turn-fine}
+use Rattle.laws.specs.MarkLaws.{bit_add_fits, free_bit}
+use Rattle.laws.specs.Pack.{pack_length, pack_row, pack_to}
+use Rattle.engine_spec.specs.Base.{Base, on_top, top_extends}
+use Rattle.engine_spec.specs.Beside.{coefficient_limit}
+use Rattle.engine_spec.specs.Counts.{Timed, turn_timed}
+use Rattle.engine_spec.specs.Done.{among, done_extends}
+use Rattle.engine_spec.specs.Ends.{Ended, Fine, picked_from, stage_given, turn_fine}
 use Rattle.engine_spec.specs.Engine.{
   Result,
   Work,
   after,
-  allDone,
-  basisRow,
-  equationOf,
+  all_done,
+  basis_row,
+  equation_of,
   finish,
   finished,
   lacks,
@@ -40,23 +40,23 @@ use Rattle.engine_spec.specs.Engine.{
   run,
   stays,
   system,
-  valuesSmall,
+  values_small,
 }
-use Rattle.engine_spec.specs.Equations.{Picked, zeroRow}
-use Rattle.engine_spec.specs.Fresh.{filled, fresh-loops, notBelow, put_other, put_same, without_at, withoutAt}
+use Rattle.engine_spec.specs.Equations.{Picked, zero_row}
+use Rattle.engine_spec.specs.Fresh.{filled, fresh_loops, not_below, put_other, put_same, without_at_lem, without_at}
 use Rattle.engine_spec.specs.Operations.{Alike}
 use Rattle.engine_spec.specs.Sound.{Given, Sound}
 use Rattle.engine_spec.specs.Stage.{Stage, Turned, ends, goes, row, stops, turn}
 
 -- rows that a test picks, written one behind the other from the first on
-pub picked-packed : (q n most : ℕ) (table : List ℕ) (f : ℕ → Bool) (row : ℕ → ℕ → ℕ) → most * q ≤ length table → count_to n f ≤ most
-    → Picked q n row f (count_to n f) (at (packTo n q table 0 f row) q)
-picked-packed q n most table f row long few =
+pub picked_packed : (q n most : ℕ) (table : List ℕ) (f : ℕ → Bool) (row : ℕ → ℕ → ℕ) → most * q ≤ length table → count_to n f ≤ most
+    → Picked q n row f (count_to n f) (at (pack_to n q table 0 f row) q)
+picked_packed q n most table f row long few =
     record {
       count = refl;
       rows = λ i l st j jq.
           let place : 0 + count_to i f ≡ count_to i f = omega arith in
-          rw place at (pack-row q table 0 f row most long n (omega arith) i l st j jq);
+          rw place at (pack_row q table 0 f row most long n (omega arith) i l st j jq);
     }
 
 -- the equations done, as a system
@@ -65,17 +65,17 @@ done_of q w = among w.done (system q w)
 
 -- the equations so far: those before the run's own, and those done
 abbrev pub so_far : Base → ℕ → Work → ℕ → ℕ → ℤ
-so_far b q w = onTop b (done_of q w)
+so_far b q w = on_top b (done_of q w)
 
 -- Where a run stands: between two stages; in a stage without a fresh unknown; in one with a fresh unknown, whose basis lacks it.
 pub data Standing (b : Base) (p q : ℕ) (w : Work) : Type 0 where
-  between : w.equation ≡ p → w.stage.rows ≡ 0 → Given b.cap (b.p + p) q (so_far b q w) w.count (basisRow q w) → Standing b p q w
-  underWay : w.equation < p → ¬ (T (frozen w.done w.equation)) → q ≤ w.fresh → Given b.cap (b.p + p) q (so_far b q w) w.count (basisRow q w)
-      → Sound b.cap (b.p + p) q (so_far b q w) (equationOf q w) w.count (basisRow q w) w.stage → Standing b p q w
-  withFresh : w.equation < p → ¬ (T (frozen w.done w.equation)) → w.fresh < q → (0 < b.cap → 0 < w.fresh)
-      → equationOf q w w.fresh ≡ negsuc 0 → ((i : ℕ) → i < b.p + p → so_far b q w i w.fresh ≡ pos 0)
-      → Given b.cap (suc (b.p + p)) q (withoutAt (b.p + p) (so_far b q w) w.fresh) w.count (basisRow q w)
-      → Sound b.cap (suc (b.p + p)) q (withoutAt (b.p + p) (so_far b q w) w.fresh) (equationOf q w) w.count (basisRow q w) w.stage
+  between : w.equation ≡ p → w.stage.rows ≡ 0 → Given b.cap (b.p + p) q (so_far b q w) w.count (basis_row q w) → Standing b p q w
+  under_way : w.equation < p → ¬ (T (frozen w.done w.equation)) → q ≤ w.fresh → Given b.cap (b.p + p) q (so_far b q w) w.count (basis_row q w)
+      → Sound b.cap (b.p + p) q (so_far b q w) (equation_of q w) w.count (basis_row q w) w.stage → Standing b p q w
+  with_fresh : w.equation < p → ¬ (T (frozen w.done w.equation)) → w.fresh < q → (0 < b.cap → 0 < w.fresh)
+      → equation_of q w w.fresh ≡ negsuc 0 → ((i : ℕ) → i < b.p + p → so_far b q w i w.fresh ≡ pos 0)
+      → Given b.cap (suc (b.p + p)) q (without_at (b.p + p) (so_far b q w) w.fresh) w.count (basis_row q w)
+      → Sound b.cap (suc (b.p + p)) q (without_at (b.p + p) (so_far b q w) w.fresh) (equation_of q w) w.count (basis_row q w) w.stage
       → Standing b p q w
 
 -- What holds between two calls of a run on the system a, from the equations before it, with room for `most` rows in the basis and `room` rows in the
@@ -87,43 +87,43 @@ pub record Whole (b : Base) (p q : ℕ) (a : ℕ → ℕ → ℤ) (most room : �
   pub few : w.count ≤ most
   pub fits : w.stage.rows ≤ room
   pub marks : w.done < 2 ^ p
-  pub early : w.stage.steps ≤ stepLimit
+  pub early : w.stage.steps ≤ step_limit
   pub capped : w.stage.cap ≡ b.cap
   -- no coefficient of the working system is out of its range
-  pub range : (k : ℕ) → k < p * q → nat_abs (get_or w.equations k (pos 0)) ≤ coefficientLimit
+  pub range : (k : ℕ) → k < p * q → nat_abs (get_or w.equations k (pos 0)) ≤ coefficient_limit
   pub alike : Alike p q a (system q w)
   pub standing : Standing b p q w
 
 -- ---- tests
 
-small-else : (b s : Bool) → T (not (b && not s)) → T b → T s
-small-else true true h e = tt
-small-else true false h e = absurd h
-small-else false s h e = absurd e
+small_else : (b s : Bool) → T (not (b && not s)) → T b → T s
+small_else true true h e = tt
+small_else true false h e = absurd h
+small_else false s h e = absurd e
 
 -- ---- the end of a stage
 
 module _ (b : Base) (p q : ℕ) (a : ℕ → ℕ → ℤ) (most room : ℕ) (w : Work) (whole : Whole b p q a most room w) (going : w.equation < p)
-    (not_done : ¬ (T (frozen w.done w.equation))) (some_left : w.stage.steps < stepLimit) where
+    (not_done : ¬ (T (frozen w.done w.equation))) (some_left : w.stage.steps < step_limit) where
   abbrev c : ℕ → ℤ
-  c = equationOf q w
+  c = equation_of q w
 
   abbrev kept : ℕ → Bool
   kept = stays q w
 
   -- a finished stage leaves a run between two stages, once its rows are the minimal solutions with the equation
-  finished-whole : count_to w.stage.rows kept ≤ most → Given b.cap (b.p + p) q (onTop b (among (w.done + 2 ^ w.equation) (system q w))) (count_to
+  finished_whole : count_to w.stage.rows kept ≤ most → Given b.cap (b.p + p) q (on_top b (among (w.done + 2 ^ w.equation) (system q w))) (count_to
       w.stage.rows kept)
-      (at (packTo w.stage.rows q w.basis 0 kept (left q w)) q) → Whole b p q a most room (finished p q w)
+      (at (pack_to w.stage.rows q w.basis 0 kept (left q w)) q) → Whole b p q a most room (finished p q w)
   unfolding finished
-  finished-whole low given =
+  finished_whole low given =
       record {
         numbers = whole.numbers;
-        long = omega (arith, whole.long, pack-length q w.basis 0 kept (left q w) w.stage.rows);
+        long = omega (arith, whole.long, pack_length q w.basis 0 kept (left q w) w.stage.rows);
         wide = whole.wide;
         few = low;
         fits = omega arith;
-        marks = bit-add-fits w.done w.equation p (free-bit w.done w.equation not_done) going whole.marks;
+        marks = bit_add_fits w.done w.equation p (free_bit w.done w.equation not_done) going whole.marks;
         early = omega arith;
         capped = whole.capped;
         range = whole.range;
@@ -131,76 +131,76 @@ module _ (b : Base) (p q : ℕ) (a : ℕ → ℕ → ℤ) (most room : ℕ) (w :
         standing = between refl refl given;
       }
 
-  plain-ended : q ≤ w.fresh → Sound b.cap (b.p + p) q (so_far b q w) c w.count (basisRow q w) w.stage
+  plain_ended : q ≤ w.fresh → Sound b.cap (b.p + p) q (so_far b q w) c w.count (basis_row q w) w.stage
       → Ended b.cap (b.p + p) q (so_far b q w) c w.stage
       → count_to w.stage.rows kept ≤ most → Whole b p q a most room (finished p q w)
-  plain-ended none sound e low =
-      finished-whole low
+  plain_ended none sound e low =
+      finished_whole low
       (plain (ltb w.fresh q) (λ h. omega (arith, ltb→lt w.fresh q h)) low)
     where
       plain : (x : Bool) → (T x → ⊥)
-          → count_to w.stage.rows (cond x (notBelow q c (row q w.stage)) (zeroRow q c (row q w.stage))) ≤ most
-          → Given b.cap (b.p + p) q (onTop b (among (w.done + 2 ^ w.equation) (system q w)))
-          (count_to w.stage.rows (cond x (notBelow q c (row q w.stage)) (zeroRow q c (row q w.stage))))
-          (at (packTo w.stage.rows q w.basis 0 (cond x (notBelow q c (row q w.stage)) (zeroRow q c (row q w.stage)))
+          → count_to w.stage.rows (cond x (not_below q c (row q w.stage)) (zero_row q c (row q w.stage))) ≤ most
+          → Given b.cap (b.p + p) q (on_top b (among (w.done + 2 ^ w.equation) (system q w)))
+          (count_to w.stage.rows (cond x (not_below q c (row q w.stage)) (zero_row q c (row q w.stage))))
+          (at (pack_to w.stage.rows q w.basis 0 (cond x (not_below q c (row q w.stage)) (zero_row q c (row q w.stage)))
           (λ i. cond x (filled q c w.fresh (row q w.stage i)) (row q w.stage i))) q)
       plain true never low = absurd (never tt)
       plain false never low =
-          stage-given b.cap (b.p + p) q (so_far b q w) (onTop b (among (w.done + 2 ^ w.equation) (system q w))) c
-          (top-extends b p q (done_of q w) _ c (done-extends p q (system q w) w.done w.equation going not_done)) w.count (basisRow q w)
+          stage_given b.cap (b.p + p) q (so_far b q w) (on_top b (among (w.done + 2 ^ w.equation) (system q w))) c
+          (top_extends b p q (done_of q w) _ c (done_extends p q (system q w) w.done w.equation going not_done)) w.count (basis_row q w)
           w.stage sound e
-          (count_to w.stage.rows (zeroRow q c (row q w.stage))) _
-          (picked-packed q w.stage.rows most w.basis (zeroRow q c (row q w.stage)) (row q w.stage) whole.long low)
+          (count_to w.stage.rows (zero_row q c (row q w.stage))) _
+          (picked_packed q w.stage.rows most w.basis (zero_row q c (row q w.stage)) (row q w.stage) whole.long low)
 
   module _ (some : w.fresh < q) (uncapped : 0 < b.cap → 0 < w.fresh) (minus : c w.fresh ≡ negsuc 0)
       (free : (i : ℕ) → i < b.p + p → so_far b q w i w.fresh ≡ pos 0)
-      (sound : Sound b.cap (suc (b.p + p)) q (withoutAt (b.p + p) (so_far b q w) w.fresh) c w.count (basisRow q w) w.stage)
-      (e : Ended b.cap (suc (b.p + p)) q (withoutAt (b.p + p) (so_far b q w) w.fresh) c w.stage) (small : T (valuesSmall q w)) where
+      (sound : Sound b.cap (suc (b.p + p)) q (without_at (b.p + p) (so_far b q w) w.fresh) c w.count (basis_row q w) w.stage)
+      (e : Ended b.cap (suc (b.p + p)) q (without_at (b.p + p) (so_far b q w) w.fresh) c w.stage) (small : T (values_small q w)) where
     abbrev f : ℕ
     f = w.fresh
 
     abbrev g : ℕ → Bool
-    g = notBelow q c (row q w.stage)
+    g = not_below q c (row q w.stage)
 
     abbrev filling : ℕ → ℕ → ℕ
     filling i = filled q c f (row q w.stage i)
 
-    filled-small : (i : ℕ) → i < w.stage.rows → (j : ℕ) → j < q → filling i j ≤ mostComponent
-    unfolding valuesSmall
-    filled-small i l j jq =
+    filled_small : (i : ℕ) → i < w.stage.rows → (j : ℕ) → j < q → filling i j ≤ most_component
+    unfolding values_small
+    filled_small i l j jq =
         elim (ℕ_discrete j f) [
           | yes same ↦
               let v = value c q (row q w.stage i) in
-              let low = up_le (le_z_yes {a = v} {b = pos mostComponent} (all-at w.stage.rows _ small i l)) in
+              let low = up_le (le_z_yes {a = v} {b = pos most_component} (all_at w.stage.rows _ small i l)) in
               rw same (omega (arith, put_same f (up v) (row q w.stage i), low, one_side v))
           | no ne ↦ omega (arith, put_other f (up (value c q (row q w.stage i))) (row q w.stage i) j ne, sound.small i j l jq)
         ]
 
-    fresh-given : count_to w.stage.rows g ≤ most
-        → Given b.cap (b.p + p) q (onTop b (among (w.done + 2 ^ w.equation) (system q w))) (count_to w.stage.rows g)
-        (at (packTo w.stage.rows q w.basis 0 g filling) q)
-    fresh-given low =
-        let picked = picked-packed q w.stage.rows most w.basis g filling whole.long low in
+    fresh_given : count_to w.stage.rows g ≤ most
+        → Given b.cap (b.p + p) q (on_top b (among (w.done + 2 ^ w.equation) (system q w))) (count_to w.stage.rows g)
+        (at (pack_to w.stage.rows q w.basis 0 g filling) q)
+    fresh_given low =
+        let picked = picked_packed q w.stage.rows most w.basis g filling whole.long low in
         record {
           loops =
-              fresh-loops b.cap (b.p + p) q (so_far b q w) (onTop b (among (w.done + 2 ^ w.equation) (system q w))) c
-              (top-extends b p q (done_of q w) _ c (done-extends p q (system q w) w.done w.equation going not_done)) f some uncapped minus free
-              (suc (b.p + p)) (withoutAt (b.p + p) (so_far b q w) f) (without_at (b.p + p) q (so_far b q w) f some) w.count (basisRow q w)
+              fresh_loops b.cap (b.p + p) q (so_far b q w) (on_top b (among (w.done + 2 ^ w.equation) (system q w))) c
+              (top_extends b p q (done_of q w) _ c (done_extends p q (system q w) w.done w.equation going not_done)) f some uncapped minus free
+              (suc (b.p + p)) (without_at (b.p + p) (so_far b q w) f) (without_at_lem (b.p + p) q (so_far b q w) f some) w.count (basis_row q w)
               w.stage sound e (count_to w.stage.rows g) _ picked;
           small = λ x j xn jq.
-              let (i, il, fi, ei, si) = picked-from q w.stage.rows filling g (count_to w.stage.rows g) _ picked x xn in
-              omega (arith, filled-small i il j jq, si j jq);
+              let (i, il, fi, ei, si) = picked_from q w.stage.rows filling g (count_to w.stage.rows g) _ picked x xn in
+              omega (arith, filled_small i il j jq, si j jq);
         }
 
-    fresh-ended : count_to w.stage.rows kept ≤ most → Whole b p q a most room (finished p q w)
-    fresh-ended low = finished-whole low (made (ltb w.fresh q) (lt→ltb w.fresh q some) low)
+    fresh_ended : count_to w.stage.rows kept ≤ most → Whole b p q a most room (finished p q w)
+    fresh_ended low = finished_whole low (made (ltb w.fresh q) (lt→ltb w.fresh q some) low)
       where
-        made : (x : Bool) → T x → count_to w.stage.rows (cond x g (zeroRow q c (row q w.stage))) ≤ most
-            → Given b.cap (b.p + p) q (onTop b (among (w.done + 2 ^ w.equation) (system q w))) (count_to w.stage.rows (cond x g (zeroRow q c (row q
+        made : (x : Bool) → T x → count_to w.stage.rows (cond x g (zero_row q c (row q w.stage))) ≤ most
+            → Given b.cap (b.p + p) q (on_top b (among (w.done + 2 ^ w.equation) (system q w))) (count_to w.stage.rows (cond x g (zero_row q c (row q
             w.stage))))
-            (at (packTo w.stage.rows q w.basis 0 (cond x g (zeroRow q c (row q w.stage)))
+            (at (pack_to w.stage.rows q w.basis 0 (cond x g (zero_row q c (row q w.stage)))
             (λ i. cond x (filling i) (row q w.stage i))) q)
-        made true h low = fresh-given low
+        made true h low = fresh_given low
         made false h low = absurd h
 
 -- ---- turns
@@ -211,33 +211,33 @@ module _ (b : Base) (p q : ℕ) (a : ℕ → ℕ → ℤ) (most room : ℕ) wher
     pub whole : Whole b p q a most room o.work
     pub done : o.answer ≡ complete → (o.work.equation ≡ p) × (o.work.done ≡ 2 ^ p - 1)
 
-  cond-good : (b : Bool) (x y : Result) → (T b → Good x) → (T (not b) → Good y) → Good (cond b x y)
-  cond-good true x y f g = f tt
-  cond-good false x y f g = g tt
+  cond_good : (b : Bool) (x y : Result) → (T b → Good x) → (T (not b) → Good y) → Good (cond b x y)
+  cond_good true x y f g = f tt
+  cond_good false x y f g = g tt
 
-  stopped-good : (w : Work) (x : Answer) → Whole b p q a most room w → (x ≡ complete → ⊥) → Good (result x w)
-  stopped-good w x whole no_end = record { whole = whole; done = λ e. absurd (no_end e) }
+  stopped_good : (w : Work) (x : Answer) → Whole b p q a most room w → (x ≡ complete → ⊥) → Good (result x w)
+  stopped_good w x whole no_end = record { whole = whole; done = λ e. absurd (no_end e) }
 
-  refused-good : (w : Work) (n : ℕ) → Whole b p q a most room w → Good (result (refused n []) w)
-  refused-good w n whole = stopped-good w (refused n []) whole (λ e. let z : ◌≡◌ {A = ℕ} 0 1 = cc in omega arith)
+  refused_good : (w : Work) (n : ℕ) → Whole b p q a most room w → Good (result (refused n []) w)
+  refused_good w n whole = stopped_good w (refused n []) whole (λ e. let z : ◌≡◌ {A = ℕ} 0 1 = cc in omega arith)
 
-  pub paused-good : (w : Work) → Whole b p q a most room w → Good (result paused w)
-  paused-good w whole = stopped-good w paused whole (λ e. let z : ◌≡◌ {A = ℕ} 0 1 = cc in omega arith)
+  pub paused_good : (w : Work) → Whole b p q a most room w → Good (result paused w)
+  paused_good w whole = stopped_good w paused whole (λ e. let z : ◌≡◌ {A = ℕ} 0 1 = cc in omega arith)
 
-  pub rested-good : (w : Work) → Whole b p q a most room w → w.equation ≡ p → Good (rested p w)
-  unfolding rested allDone
-  rested-good w whole none = go (eqb w.done (2 ^ p - 1)) (λ h. eqb→eq w.done (2 ^ p - 1) h)
+  pub rested_good : (w : Work) → Whole b p q a most room w → w.equation ≡ p → Good (rested p w)
+  unfolding rested all_done
+  rested_good w whole none = go (eqb w.done (2 ^ p - 1)) (λ h. eqb→eq w.done (2 ^ p - 1) h)
     where
       go : (b : Bool) → (T b → w.done ≡ 2 ^ p - 1) → Good (result (cond b complete paused) w)
       go true f = record { whole = whole; done = λ e. (none, f tt) }
-      go false f = paused-good w whole
+      go false f = paused_good w whole
 
   module _ (w : Work) (whole : Whole b p q a most room w) (going : w.equation < p) where
-    onward-whole : (s : Stage) → length s.table ≡ length w.stage.table → s.rows ≤ room
-        → s.steps ≤ stepLimit → s.cap ≡ b.cap → Standing b p q (onward s w)
+    onward_whole : (s : Stage) → length s.table ≡ length w.stage.table → s.rows ≤ room
+        → s.steps ≤ step_limit → s.cap ≡ b.cap → Standing b p q (onward s w)
         → Whole b p q a most room (onward s w)
     unfolding onward
-    onward-whole s long few early capped standing =
+    onward_whole s long few early capped standing =
         record {
           numbers = whole.numbers;
           long = whole.long;
@@ -256,75 +256,75 @@ module _ (b : Base) (p q : ℕ) (a : ℕ → ℕ → ℤ) (most room : ℕ) wher
     abbrev Left : Turned → Type 0
     Left (goes s) = Whole b p q a most room (onward s w)
     Left (stops n) = Unit {0}
-    Left ends = count_to w.stage.rows (stays q w) ≤ most → (T (ltb w.fresh q) → T (valuesSmall q w)) → Whole b p q a most room (finished p q w)
+    Left ends = count_to w.stage.rows (stays q w) ≤ most → (T (ltb w.fresh q) → T (values_small q w)) → Whole b p q a most room (finished p q w)
 
-    not_late : w.stage.steps ≢ stepLimit → w.stage.steps < stepLimit
+    not_late : w.stage.steps ≢ step_limit → w.stage.steps < step_limit
     not_late ne = omega (arith, whole.early, ne)
 
-    in-time : (s : Stage) → Timed w.stage (goes s) → s.steps ≤ stepLimit
-    in-time s (ne, e) = omega (arith, not_late ne, e)
+    in_time : (s : Stage) → Timed w.stage (goes s) → s.steps ≤ step_limit
+    in_time s (ne, e) = omega (arith, not_late ne, e)
 
-    plain-left : (not_done : ¬ (T (frozen w.done w.equation))) (none : q ≤ w.fresh) → Given b.cap (b.p + p) q (so_far b q w) w.count (basisRow q w)
-        → Sound b.cap (b.p + p) q (so_far b q w) (equationOf q w) w.count (basisRow q w) w.stage → (t : Turned)
-        → Fine b.cap (b.p + p) q (so_far b q w) (equationOf q w) w.count (basisRow q w) room w.stage t → Timed w.stage t → Left t
+    plain_left : (not_done : ¬ (T (frozen w.done w.equation))) (none : q ≤ w.fresh) → Given b.cap (b.p + p) q (so_far b q w) w.count (basis_row q w)
+        → Sound b.cap (b.p + p) q (so_far b q w) (equation_of q w) w.count (basis_row q w) w.stage → (t : Turned)
+        → Fine b.cap (b.p + p) q (so_far b q w) (equation_of q w) w.count (basis_row q w) room w.stage t → Timed w.stage t → Left t
     unfolding onward
-    plain-left not_done none given sound (goes s) fit timed =
-        onward-whole s fit.long fit.few (in-time s timed) fit.sound.capped (underWay going not_done none given fit.sound)
-    plain-left not_done none given sound (stops n) fit timed = tt
-    plain-left not_done none given sound ends e timed = λ low small. plain-ended b p q a most room w whole going not_done (not_late timed) none sound e low
+    plain_left not_done none given sound (goes s) fit timed =
+        onward_whole s fit.long fit.few (in_time s timed) fit.sound.capped (under_way going not_done none given fit.sound)
+    plain_left not_done none given sound (stops n) fit timed = tt
+    plain_left not_done none given sound ends e timed = λ low small. plain_ended b p q a most room w whole going not_done (not_late timed) none sound e low
 
-    fresh-left : (not_done : ¬ (T (frozen w.done w.equation))) (some : w.fresh < q) (uncapped : 0 < b.cap → 0 < w.fresh)
-        (minus : equationOf q w w.fresh ≡ negsuc 0)
-        (free : (i : ℕ) → i < b.p + p → so_far b q w i w.fresh ≡ pos 0) → Given b.cap (suc (b.p + p)) q (withoutAt (b.p + p) (so_far b q w) w.fresh)
-        w.count (basisRow q w)
-        → Sound b.cap (suc (b.p + p)) q (withoutAt (b.p + p) (so_far b q w) w.fresh) (equationOf q w) w.count (basisRow q w) w.stage → (t : Turned)
-        → Fine b.cap (suc (b.p + p)) q (withoutAt (b.p + p) (so_far b q w) w.fresh) (equationOf q w) w.count (basisRow q w) room w.stage t → Timed
+    fresh_left : (not_done : ¬ (T (frozen w.done w.equation))) (some : w.fresh < q) (uncapped : 0 < b.cap → 0 < w.fresh)
+        (minus : equation_of q w w.fresh ≡ negsuc 0)
+        (free : (i : ℕ) → i < b.p + p → so_far b q w i w.fresh ≡ pos 0) → Given b.cap (suc (b.p + p)) q (without_at (b.p + p) (so_far b q w) w.fresh)
+        w.count (basis_row q w)
+        → Sound b.cap (suc (b.p + p)) q (without_at (b.p + p) (so_far b q w) w.fresh) (equation_of q w) w.count (basis_row q w) w.stage → (t : Turned)
+        → Fine b.cap (suc (b.p + p)) q (without_at (b.p + p) (so_far b q w) w.fresh) (equation_of q w) w.count (basis_row q w) room w.stage t → Timed
         w.stage t → Left t
     unfolding onward
-    fresh-left not_done some uncapped minus free given sound (goes s) fit timed =
-        onward-whole s fit.long fit.few (in-time s timed) fit.sound.capped (withFresh going not_done some uncapped minus free given fit.sound)
-    fresh-left not_done some uncapped minus free given sound (stops n) fit timed = tt
-    fresh-left not_done some uncapped minus free given sound ends e timed =
+    fresh_left not_done some uncapped minus free given sound (goes s) fit timed =
+        onward_whole s fit.long fit.few (in_time s timed) fit.sound.capped (with_fresh going not_done some uncapped minus free given fit.sound)
+    fresh_left not_done some uncapped minus free given sound (stops n) fit timed = tt
+    fresh_left not_done some uncapped minus free given sound ends e timed =
         λ low small.
-        fresh-ended b p q a most room w whole going not_done (not_late timed) some uncapped minus free sound e (small (lt→ltb w.fresh q some)) low
+        fresh_ended b p q a most room w whole going not_done (not_late timed) some uncapped minus free sound e (small (lt→ltb w.fresh q some)) low
 
-    turn-left : Left (turn q (equationOf q w) w.count (basisRow q w) room w.stage)
-    turn-left = by whole.standing
+    turn_left : Left (turn q (equation_of q w) w.count (basis_row q w) room w.stage)
+    turn_left = by whole.standing
       where
-        by : Standing b p q w → Left (turn q (equationOf q w) w.count (basisRow q w) room w.stage)
+        by : Standing b p q w → Left (turn q (equation_of q w) w.count (basis_row q w) room w.stage)
         by (between e none given) = absurd (omega arith)
-        by (underWay l not_done none given sound) =
-            plain-left not_done none given sound (turn q (equationOf q w) w.count (basisRow q w) room w.stage)
-            (turn-fine b.cap (b.p + p) q (so_far b q w) (equationOf q w) w.count (basisRow q w) given w.stage sound room whole.wide whole.fits)
-            (turn-timed q (equationOf q w) w.count (basisRow q w) room w.stage)
-        by (withFresh l not_done some uncapped minus free given sound) =
-            fresh-left not_done some uncapped minus free given sound (turn q (equationOf q w) w.count (basisRow q w) room w.stage)
-            (turn-fine b.cap (suc (b.p + p)) q (withoutAt (b.p + p) (so_far b q w) w.fresh) (equationOf q w) w.count (basisRow q w)
+        by (under_way l not_done none given sound) =
+            plain_left not_done none given sound (turn q (equation_of q w) w.count (basis_row q w) room w.stage)
+            (turn_fine b.cap (b.p + p) q (so_far b q w) (equation_of q w) w.count (basis_row q w) given w.stage sound room whole.wide whole.fits)
+            (turn_timed q (equation_of q w) w.count (basis_row q w) room w.stage)
+        by (with_fresh l not_done some uncapped minus free given sound) =
+            fresh_left not_done some uncapped minus free given sound (turn q (equation_of q w) w.count (basis_row q w) room w.stage)
+            (turn_fine b.cap (suc (b.p + p)) q (without_at (b.p + p) (so_far b q w) w.fresh) (equation_of q w) w.count (basis_row q w)
             given w.stage sound room
             whole.wide whole.fits)
-            (turn-timed q (equationOf q w) w.count (basisRow q w) room w.stage)
+            (turn_timed q (equation_of q w) w.count (basis_row q w) room w.stage)
 
-    finish-good : Left ends → Good (finish p q most w)
+    finish_good : Left ends → Good (finish p q most w)
     unfolding finish finished
-    finish-good f =
-        cond-good (ltb w.fresh q && not (valuesSmall q w)) (result (refused 12 []) w) _ (λ h. refused-good w 12 whole)
-        (λ h. cond-good (ltb most (count_to w.stage.rows (stays q w))) (result (refused 31 []) w) _ (λ g. refused-good w 31 whole)
-        (λ g. rested-good (finished p q w)
-        (f (nltb→le most (count_to w.stage.rows (stays q w)) g) (λ e. small-else (ltb w.fresh q) (valuesSmall q w) h e)) refl))
+    finish_good f =
+        cond_good (ltb w.fresh q && not (values_small q w)) (result (refused 12 []) w) _ (λ h. refused_good w 12 whole)
+        (λ h. cond_good (ltb most (count_to w.stage.rows (stays q w))) (result (refused 31 []) w) _ (λ g. refused_good w 31 whole)
+        (λ g. rested_good (finished p q w)
+        (f (nltb→le most (count_to w.stage.rows (stays q w)) g) (λ e. small_else (ltb w.fresh q) (values_small q w) h e)) refl))
 
-    after-good : (t : Turned) (f : Work → Result) → Left t → ((s : Stage) → t ≡ goes s → Good (f (onward s w))) → Good (after p q most t f w)
+    after_good : (t : Turned) (f : Work → Result) → Left t → ((s : Stage) → t ≡ goes s → Good (f (onward s w))) → Good (after p q most t f w)
     unfolding after
-    after-good (goes s) f fine g = g s refl
-    after-good (stops n) f fine g = refused-good w n whole
-    after-good ends f fine g = finish-good fine
+    after_good (goes s) f fine g = g s refl
+    after_good (stops n) f fine g = refused_good w n whole
+    after_good ends f fine g = finish_good fine
 
-  pub run-good : (budget : ℕ) (w : Work) → Whole b p q a most room w → w.equation < p → Good (run p q most room budget w)
+  pub run_good : (budget : ℕ) (w : Work) → Whole b p q a most room w → w.equation < p → Good (run p q most room budget w)
   unfolding run onward
-  run-good zero w whole going = paused-good w whole
-  run-good (suc budget) w whole going =
-      let t = turn q (equationOf q w) w.count (basisRow q w) room w.stage in
-      after-good w whole going t (run p q most room budget) (turn-left w whole going)
-      (λ s e. run-good budget (onward s w) (went t s e (turn-left w whole going)) going)
+  run_good zero w whole going = paused_good w whole
+  run_good (suc budget) w whole going =
+      let t = turn q (equation_of q w) w.count (basis_row q w) room w.stage in
+      after_good w whole going t (run p q most room budget) (turn_left w whole going)
+      (λ s e. run_good budget (onward s w) (went t s e (turn_left w whole going)) going)
     where
       went : (t : Turned) (s : Stage) → t ≡ goes s → Left w whole going t → Whole b p q a most room (onward s w)
       went t s e l = rw e at l

@@ -5,7 +5,7 @@ use Rattle.definitions.specs.Answers.{Answer, complete, paused, refused}
 use Rattle.definitions.specs.Tables.{at}
 use Rattle.engine_spec.specs.Stage.{Outcome, Turned, after, ends, outcome, run, stops}
 use Rattle.engine_beside.specs.Writing.{Kept}
-use Rattle.engine_stage.specs.Standing.{Beyond, Gone, Left, Lent, Ready, Sides, Still, Unchanged, beyond-none, equation, stageOf, turn_of, unchanged}
+use Rattle.engine_stage.specs.Standing.{Beyond, Gone, Left, Lent, Ready, Sides, Still, Unchanged, beyond_none, equation, stage_of, turn_of, unchanged}
 use Rattle.engine_stage.specs.declared.stages.Ending.{Ending}
 use Rattle.engine_stage.specs.declared.stages.Ending.TheVariants as ending
 use Rattle.engine_stage.specs.declared.stages.Ran.{Ran}
@@ -14,8 +14,8 @@ use Rattle.engine_stage.specs.declared.turns.Next.{Next}
 use Rattle.engine_stage.specs.declared.turns.Turned as code
 use Rattle.engine_stage.specs.declared.turns.Turned.TheVariants.{Ends, Full, Goes, Large, Late}
 
-abbrev pub ranOf : Ending → Next → Ran
-ranOf e s = record { ending = e; next = s }
+abbrev pub ran_of : Ending → Next → Ran
+ran_of e s = record { ending = e; next = s }
 
 abbrev pub answer_of : Ending → Answer
 answer_of ending.Paused = paused
@@ -26,10 +26,10 @@ answer_of ending.Ends = complete
 
 -- the stage's own turns
 abbrev pub run_of : Frame → Lent → ℕ → List ℕ → Next → Outcome
-run_of f l budget table s = run f.q (equation f l) f.m (at l.basis f.q) f.room budget (stageOf f table s)
+run_of f l budget table s = run f.q (equation f l) f.m (at l.basis f.q) f.room budget (stage_of f table s)
 
 pub record RunLeft (f : Frame) (l : Lent) (budget : ℕ) (table : List ℕ) (x : Sides) (s : Next) (r : Ran) (table' : List ℕ) (x' : Sides) : Type 0 where
-  pub is : run_of f l budget table s ≡ outcome (answer_of r.ending) (stageOf f table' r.next)
+  pub is : run_of f l budget table s ≡ outcome (answer_of r.ending) (stage_of f table' r.next)
   pub ready : Ready f l table' x' r.next
   pub rises : s.rows ≤ r.next.rows
   pub beyond : Beyond r.next.rows x x'
@@ -48,13 +48,13 @@ pub record Going (f : Frame) (l : Lent) (budget : ℕ) (table : List ℕ) (x : S
 
 pub going_start : {f : Frame} {l : Lent} {table : List ℕ} {x : Sides} {s : Next} (budget : ℕ) → Ready f l table x s → Going f l budget table x s budget table x
     s
-going_start budget r = record { same = refl; ready = r; rises = omega arith; beyond = beyond-none; mothers = unchanged }
+going_start budget r = record { same = refl; ready = r; rises = omega arith; beyond = beyond_none; mothers = unchanged }
 
 kept_then : {A : Type 0} {z : A} {n m : ℕ} {a b c : List A} → n ≤ m → Kept z n a b → Kept z m b c → Kept z m a c
 kept_then l p q = record { long = q.long ∙ p.long; rest = λ i h. q.rest i h ∙ p.rest i (omega arith) }
 
-beyond-then : {n m : ℕ} {a b c : Sides} → n ≤ m → Beyond n a b → Beyond m b c → Beyond m a c
-beyond-then l p q =
+beyond_then : {n m : ℕ} {a b c : Sides} → n ≤ m → Beyond n a b → Beyond m b c → Beyond m a c
+beyond_then l p q =
     record {
       values = kept_then l p.values q.values;
       words = kept_then l p.words q.words;
@@ -66,7 +66,7 @@ beyond-then l p q =
 module _ {f : Frame} {l : Lent} {budget : ℕ} {table : List ℕ} {x : Sides} {s : Next} {left : ℕ} {table' : List ℕ} {x' : Sides} {s' : Next}
     (g : Going f l budget table x s left table' x' s') where
   one_more : (k : ℕ) → left ≡ suc k → run_of f l left table' s' ≡ after (turn_of f l table' s')
-      (run f.q (equation f l) f.m (at l.basis f.q) f.room k) (stageOf f table' s')
+      (run f.q (equation f l) f.m (at l.basis f.q) f.room k) (stage_of f table' s')
   unfolding run
   one_more k e = rw e
 
@@ -78,13 +78,13 @@ module _ {f : Frame} {l : Lent} {budget : ℕ} {table : List ℕ} {x : Sides} {s
         same = g.same ∙ (one_more (left - 1) (omega arith) ∙ rw t.is);
         ready = t.ready;
         rises = omega (arith, g.rises, t.rises);
-        beyond = beyond-then t.rises g.beyond t.beyond;
+        beyond = beyond_then t.rises g.beyond t.beyond;
         mothers = record { each = λ i h. t.mothers.each i (omega (arith, g.rises)) ∙ g.mothers.each i h };
       }
 
   stopped : {table'' : List ℕ} {x'' : Sides} {n : ℕ} (e : Ending) → answer_of e ≡ refused n [] → 0 < left → Still (turn_of f l table' s') (stops n) table' table''
       x' x''
-      → RunLeft f l budget table x s (ranOf e s') table'' x''
+      → RunLeft f l budget table x s (ran_of e s') table'' x''
   unfolding after
   stopped e name some t =
       rw (t.same, t.aside)
@@ -96,22 +96,22 @@ module _ {f : Frame} {l : Lent} {budget : ℕ} {table : List ℕ} {x : Sides} {s
         mothers = g.mothers;
       })
 
-  pub late-left : {table'' : List ℕ} {x'' : Sides} → 0 < left → Still (turn_of f l table' s') (stops 14) table' table'' x' x''
-      → RunLeft f l budget table x s (ranOf ending.Late s') table'' x''
-  late-left some t = stopped ending.Late refl some t
+  pub late_left : {table'' : List ℕ} {x'' : Sides} → 0 < left → Still (turn_of f l table' s') (stops 14) table' table'' x' x''
+      → RunLeft f l budget table x s (ran_of ending.Late s') table'' x''
+  late_left some t = stopped ending.Late refl some t
 
-  pub large-left : {table'' : List ℕ} {x'' : Sides} → 0 < left → Still (turn_of f l table' s') (stops 12) table' table'' x' x''
-      → RunLeft f l budget table x s (ranOf ending.Large s') table'' x''
-  large-left some t = stopped ending.Large refl some t
+  pub large_left : {table'' : List ℕ} {x'' : Sides} → 0 < left → Still (turn_of f l table' s') (stops 12) table' table'' x' x''
+      → RunLeft f l budget table x s (ran_of ending.Large s') table'' x''
+  large_left some t = stopped ending.Large refl some t
 
-  pub full-left : {table'' : List ℕ} {x'' : Sides} → 0 < left → Still (turn_of f l table' s') (stops 31) table' table'' x' x''
-      → RunLeft f l budget table x s (ranOf ending.Full s') table'' x''
-  full-left some t = stopped ending.Full refl some t
+  pub full_left : {table'' : List ℕ} {x'' : Sides} → 0 < left → Still (turn_of f l table' s') (stops 31) table' table'' x' x''
+      → RunLeft f l budget table x s (ran_of ending.Full s') table'' x''
+  full_left some t = stopped ending.Full refl some t
 
-  pub ends-left : {table'' : List ℕ} {x'' : Sides} → 0 < left → Still (turn_of f l table' s') ends table' table'' x' x''
-      → RunLeft f l budget table x s (ranOf ending.Ends s') table'' x''
+  pub ends_left : {table'' : List ℕ} {x'' : Sides} → 0 < left → Still (turn_of f l table' s') ends table' table'' x' x''
+      → RunLeft f l budget table x s (ran_of ending.Ends s') table'' x''
   unfolding after
-  ends-left some t =
+  ends_left some t =
       rw (t.same, t.aside)
       (record {
         is = g.same ∙ (one_more (left - 1) (omega arith) ∙ rw t.is);
@@ -121,10 +121,10 @@ module _ {f : Frame} {l : Lent} {budget : ℕ} {table : List ℕ} {x : Sides} {s
         mothers = g.mothers;
       })
 
-  pub paused-left : left ≡ 0 → RunLeft f l budget table x s (ranOf ending.Paused s') table' x'
-  paused-left e = record { is = g.same ∙ none e; ready = g.ready; rises = g.rises; beyond = g.beyond; mothers = g.mothers }
+  pub paused_left : left ≡ 0 → RunLeft f l budget table x s (ran_of ending.Paused s') table' x'
+  paused_left e = record { is = g.same ∙ none e; ready = g.ready; rises = g.rises; beyond = g.beyond; mothers = g.mothers }
     where
-      none : left ≡ 0 → run_of f l left table' s' ≡ outcome paused (stageOf f table' s')
+      none : left ≡ 0 → run_of f l left table' s' ≡ outcome paused (stage_of f table' s')
       none e = rw e (unfold run in refl)
 
 -- ---- lengths
@@ -138,14 +138,14 @@ pub record Long (table : List ℕ) (x : Sides) (table' : List ℕ) (x' : Sides) 
   pub marks : length x'.marks ≡ length x.marks
   pub mothers : length x'.mothers ≡ length x.mothers
 
-pub long-start : (table : List ℕ) (x : Sides) → Long table x table x
-long-start table x = record { rows = refl; values = refl; words = refl; degrees = refl; marks = refl; mothers = refl }
+pub long_start : (table : List ℕ) (x : Sides) → Long table x table x
+long_start table x = record { rows = refl; values = refl; words = refl; degrees = refl; marks = refl; mothers = refl }
 
 module _ {f : Frame} {l : Lent} {budget : ℕ} {table : List ℕ} {x : Sides} {s : Next} {left : ℕ} {table' : List ℕ} {x' : Sides} {s' : Next}
     (g : Going f l budget table x s left table' x' s') where
   module _ (long : Long table x table' x') (r : code.Turned) {table'' : List ℕ} {x'' : Sides} where
-    pub left-long : Left f l (turn_of f l table' s') s'.rows table' x' r table'' x'' → Long table x table'' x''
-    left-long = by r
+    pub left_long : Left f l (turn_of f l table' s') s'.rows table' x' r table'' x'' → Long table x table'' x''
+    left_long = by r
       where
         kept : table'' ≡ table' → x'' ≡ x' → Long table x table'' x''
         kept e h = rw (e, h) long
@@ -165,19 +165,19 @@ module _ {f : Frame} {l : Lent} {budget : ℕ} {table : List ℕ} {x : Sides} {s
         by Full t = kept t.same t.aside
         by Ends t = kept t.same t.aside
 
-    pub goes-again : {s'' : Next} → 0 < left → Left f l (turn_of f l table' s') s'.rows table' x' r table'' x'' → r ≡ Goes s''
+    pub goes_again : {s'' : Next} → 0 < left → Left f l (turn_of f l table' s') s'.rows table' x' r table'' x'' → r ≡ Goes s''
         → Going f l budget table x s (left - 1) table'' x'' s'' × Long table x table'' x''
-    goes-again some t e = (going_on g some (rw e at t), left-long t)
+    goes_again some t e = (going_on g some (rw e at t), left_long t)
 
   module _ {r : code.Turned} {table'' : List ℕ} {x'' : Sides} (some : 0 < left) (t : Left f l (turn_of f l table' s') s'.rows table' x' r table'' x'') where
-    pub stops-late : r ≡ Late → RunLeft f l budget table x s (ranOf ending.Late s') table'' x''
-    stops-late e = late-left g some (rw e at t)
+    pub stops_late : r ≡ Late → RunLeft f l budget table x s (ran_of ending.Late s') table'' x''
+    stops_late e = late_left g some (rw e at t)
 
-    pub stops-large : r ≡ Large → RunLeft f l budget table x s (ranOf ending.Large s') table'' x''
-    stops-large e = large-left g some (rw e at t)
+    pub stops_large : r ≡ Large → RunLeft f l budget table x s (ran_of ending.Large s') table'' x''
+    stops_large e = large_left g some (rw e at t)
 
-    pub stops-full : r ≡ Full → RunLeft f l budget table x s (ranOf ending.Full s') table'' x''
-    stops-full e = full-left g some (rw e at t)
+    pub stops_full : r ≡ Full → RunLeft f l budget table x s (ran_of ending.Full s') table'' x''
+    stops_full e = full_left g some (rw e at t)
 
-    pub stops-ends : r ≡ Ends → RunLeft f l budget table x s (ranOf ending.Ends s') table'' x''
-    stops-ends e = ends-left g some (rw e at t)
+    pub stops_ends : r ≡ Ends → RunLeft f l budget table x s (ran_of ending.Ends s') table'' x''
+    stops_ends e = ends_left g some (rw e at t)

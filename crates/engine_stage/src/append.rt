@@ -2,7 +2,7 @@
 ghost use Rattle.std.specs.Prelude.{◌≡◌, ◌+◌, ◌*◌, ◌≤◌, ◌<◌, nat_abs, ◌+ℤ◌};
 ghost use Rattle.std.specs.Int.{w64};
 ghost use Rattle.std.proofs.Common.{SFits};
-ghost use Rattle.engine_spec.specs.Beside.{equationAt, row_at, valueLimit};
+ghost use Rattle.engine_spec.specs.Beside.{equation_at, row_at, value_limit};
 ghost use Rattle.engine_stage.specs.Appended.{PairAppended, PairFits, RowAppended, RowFits};
 ghost use Rattle.engine_stage.specs.Marked.{mark_of};
 
@@ -62,7 +62,7 @@ pub fn append_row(
     degree: u32,
 )
     requires { RowFits q n coefs.now from basis.now i table.old values.old words.old degrees.old marks.old mothers.old }
-    ensures { RowAppended q n (equationAt coefs.now from) (row_at basis.now (i * q)) word degree
+    ensures { RowAppended q n (equation_at coefs.now from) (row_at basis.now (i * q)) word degree
         table.old values.old words.old degrees.old marks.old mothers.old
         table.new values.new words.new degrees.new marks.new mothers.new }
 {
@@ -76,7 +76,7 @@ pub fn append_row(
 
 // The mark of the sum of a row of value x above 0 and one of value y below: the size of the one whose sign the sum has.
 fn mark_of(x: i64, y: i64) -> u64
-    requires { (nat_abs x ≤ valueLimit) × (nat_abs y ≤ valueLimit) × SFits w64 (x +ℤ y) }
+    requires { (nat_abs x ≤ value_limit) × (nat_abs y ≤ value_limit) × SFits w64 (x +ℤ y) }
     ensures { result ≡ mark_of x y }
 {
     let sum = x + y;

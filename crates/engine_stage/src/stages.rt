@@ -1,7 +1,7 @@
 // The loop over the turns of a stage.
 ghost use Rattle.std.specs.Prelude.{◌≡◌};
-ghost use Rattle.engine_stage.specs.Running.{RunLeft, ranOf};
-ghost use Rattle.engine_stage.specs.Standing.{Ready, lent_of, sidesOf};
+ghost use Rattle.engine_stage.specs.Running.{RunLeft, ran_of};
+ghost use Rattle.engine_stage.specs.Standing.{Ready, lent_of, sides_of};
 
 use crate::turns;
 use crate::turns::{Frame, Next, Turned};
@@ -39,10 +39,10 @@ pub fn run(
     budget: u64,
 ) -> Ran
     requires { Ready f (lent_of coefs.now basis.now sizes.now) table.old
-        (sidesOf values.old words.old degrees.old marks.old mothers.old) s }
+        (sides_of values.old words.old degrees.old marks.old mothers.old) s }
     ensures { RunLeft f (lent_of coefs.now basis.now sizes.now) budget table.old
-        (sidesOf values.old words.old degrees.old marks.old mothers.old) s result table.new
-        (sidesOf values.new words.new degrees.new marks.new mothers.new) }
+        (sides_of values.old words.old degrees.old marks.old mothers.old) s result table.new
+        (sides_of values.new words.new degrees.new marks.new mothers.new) }
 {
     let mut held = [0u64; 768];
     let mut places = [0u32; 66560];
@@ -78,7 +78,7 @@ pub fn run(
 }
 
 fn ended(ending: Ending, next: Next) -> Ran
-    ensures { result ≡ ranOf ending next }
+    ensures { result ≡ ran_of ending next }
 {
     Ran { ending, next }
 }

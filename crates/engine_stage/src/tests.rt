@@ -2,10 +2,10 @@
 ghost use Rattle.std.specs.Prelude.{◌≡◌, ◌+◌, ◌≤◌, ◌<◌, nat_abs, ◌+ℤ◌, get_or, length};
 ghost use Rattle.std.specs.Int.{w64};
 ghost use Rattle.std.proofs.Common.{SFits};
-ghost use Rattle.engine_spec.specs.Beside.{equationAt, valueLimit, word_of};
+ghost use Rattle.engine_spec.specs.Beside.{equation_at, value_limit, word_of};
 ghost use Rattle.engine_spec.specs.Caps.{is_over};
 ghost use Rattle.engine_reduce.specs.Sums.{sum_of};
-ghost use Rattle.engine_stage.specs.Marked.{Paired, isMarked, needlessOf, test_of};
+ghost use Rattle.engine_stage.specs.Marked.{Paired, is_marked, needless_of, test_of};
 
 use engine_reduce::sums;
 use engine_rows::marks as magnitudes;
@@ -27,9 +27,9 @@ pub fn needless(
     held: &mut [u64; 768],
     places: &mut [u32; 66560],
 ) -> bool
-    requires { Paired q (equationAt coefs.now from) n table.now values.now words.now marks.now h k
+    requires { Paired q (equation_at coefs.now from) n table.now values.now words.now marks.now h k
         × (word ≡ word_of q (sum_of q table.now h k)) × (0 < q) }
-    ensures { result ≡ needlessOf cap q (equationAt coefs.now from) n table.now h k }
+    ensures { result ≡ needless_of cap q (equation_at coefs.now from) n table.now h k }
 {
     if is_over(cap, table, h * q, k * q) {
         return true;
@@ -72,8 +72,8 @@ fn reduced(
     held: &mut [u64; 768],
     places: &mut [u32; 66560],
 ) -> bool
-    requires { Paired q (equationAt coefs.now from) n table.now values.now words.now marks.now h k × (word ≡ word_of q (sum_of q table.now h k)) }
-    ensures { result ≡ test_of q (equationAt coefs.now from) n table.now h k }
+    requires { Paired q (equation_at coefs.now from) n table.now values.now words.now marks.now h k × (word ≡ word_of q (sum_of q table.now h k)) }
+    ensures { result ≡ test_of q (equation_at coefs.now from) n table.now h k }
 {
     if is_marked(values[h], values[k], marks[h], marks[k]) {
         return true;
@@ -95,8 +95,8 @@ fn reduced(
 
 // Whether the size of one row's value is at least the other row's mark.
 fn is_marked(x: i64, y: i64, mark: u64, other: u64) -> bool
-    requires { (nat_abs x ≤ valueLimit) × (nat_abs y ≤ valueLimit) }
-    ensures { result ≡ isMarked x y mark other }
+    requires { (nat_abs x ≤ value_limit) × (nat_abs y ≤ value_limit) }
+    ensures { result ≡ is_marked x y mark other }
 {
     if mark <= magnitudes::size(y) {
         return true;

@@ -1,11 +1,11 @@
 // One turn of a stage: a row of the basis, a pair of rows, the next degree, or the end. The rows' values, words, degrees, marks and mothers stand beside them.
 ghost use Rattle.std.specs.Prelude.{◌≡◌, ◌+◌, ◌*◌, ◌≤◌, ◌<◌, length, eqb, false};
 ghost use Rattle.definitions.specs.Tables.{at};
-ghost use Rattle.engine_spec.specs.Beside.{equationAt};
-ghost use Rattle.engine_spec.specs.Search.{firstIn};
-ghost use Rattle.engine_spec.specs.Stage.{pairTurn, rowTurn};
-ghost use Rattle.engine_search.specs.Places.{degreeOf};
-ghost use Rattle.engine_stage.specs.Standing.{Left, Ready, lent_of, sidesOf, stageOf, turn_of};
+ghost use Rattle.engine_spec.specs.Beside.{equation_at};
+ghost use Rattle.engine_spec.specs.Search.{first_in};
+ghost use Rattle.engine_spec.specs.Stage.{pair_turn, row_turn};
+ghost use Rattle.engine_search.specs.Places.{degree_of};
+ghost use Rattle.engine_stage.specs.Standing.{Left, Ready, lent_of, sides_of, stage_of, turn_of};
 ghost use Rattle.engine_stage.specs.Turning.{PairDue, RowDue, RowFound};
 
 use crate::{append, tests};
@@ -66,11 +66,11 @@ pub fn turn(
     s: Next,
 ) -> Turned
     requires { Ready f (lent_of coefs.now basis.now sizes.now) table.old
-        (sidesOf values.old words.old degrees.old marks.old mothers.old) s }
+        (sides_of values.old words.old degrees.old marks.old mothers.old) s }
     ensures { Left f (lent_of coefs.now basis.now sizes.now)
         (turn_of f (lent_of coefs.now basis.now sizes.now) table.old s) s.rows table.old
-        (sidesOf values.old words.old degrees.old marks.old mothers.old) result table.new
-        (sidesOf values.new words.new degrees.new marks.new mothers.new) }
+        (sides_of values.old words.old degrees.old marks.old mothers.old) result table.new
+        (sides_of values.new words.new degrees.new marks.new mothers.new) }
 {
     let m = f.m;
     let n = s.rows;
@@ -119,8 +119,8 @@ pub fn turn(
 
 // The row of the basis that is due; at least m where there is none. `more` says that there may be one.
 fn due(sizes: &[u32], m: usize, from: usize, d: u64, more: bool) -> usize
-    requires { (m ≤ length sizes.now) × (more ≡ false → m ≤ firstIn m from (λ i. eqb (degreeOf sizes.now i) d)) }
-    ensures { RowFound m (firstIn m from (λ i. eqb (degreeOf sizes.now i) d)) result }
+    requires { (m ≤ length sizes.now) × (more ≡ false → m ≤ first_in m from (λ i. eqb (degree_of sizes.now i) d)) }
+    ensures { RowFound m (first_in m from (λ i. eqb (degree_of sizes.now i) d)) result }
 {
     if !more {
         return m;
@@ -145,11 +145,11 @@ fn row_turn(
     i: usize,
 ) -> Turned
     requires { Ready f (lent_of coefs.now basis.now sizes.now) table.old
-        (sidesOf values.old words.old degrees.old marks.old mothers.old) s × RowDue f (lent_of coefs.now basis.now sizes.now) s i }
+        (sides_of values.old words.old degrees.old marks.old mothers.old) s × RowDue f (lent_of coefs.now basis.now sizes.now) s i }
     ensures { Left f (lent_of coefs.now basis.now sizes.now)
-        (rowTurn f.q (at basis.now f.q) f.room (stageOf f table.old s) i) s.rows table.old
-        (sidesOf values.old words.old degrees.old marks.old mothers.old) result table.new
-        (sidesOf values.new words.new degrees.new marks.new mothers.new) }
+        (row_turn f.q (at basis.now f.q) f.room (stage_of f table.old s) i) s.rows table.old
+        (sides_of values.old words.old degrees.old marks.old mothers.old) result table.new
+        (sides_of values.new words.new degrees.new marks.new mothers.new) }
 {
     let q = f.q;
     let n = s.rows;
@@ -193,13 +193,13 @@ fn pair_turn(
     at: Place,
 ) -> Turned
     requires { Ready f (lent_of coefs.now basis.now sizes.now) table.old
-        (sidesOf values.old words.old degrees.old marks.old mothers.old) s
+        (sides_of values.old words.old degrees.old marks.old mothers.old) s
         × PairDue f (lent_of coefs.now basis.now sizes.now) table.old degrees.old s at.upper at.lower at.first }
     ensures { Left f (lent_of coefs.now basis.now sizes.now)
-        (pairTurn f.q (equationAt coefs.now f.from) f.room (stageOf f table.old s) at.upper at.lower) s.rows
+        (pair_turn f.q (equation_at coefs.now f.from) f.room (stage_of f table.old s) at.upper at.lower) s.rows
         table.old
-        (sidesOf values.old words.old degrees.old marks.old mothers.old) result table.new
-        (sidesOf values.new words.new degrees.new marks.new mothers.new) }
+        (sides_of values.old words.old degrees.old marks.old mothers.old) result table.new
+        (sides_of values.new words.new degrees.new marks.new mothers.new) }
 {
     let q = f.q;
     let n = s.rows;

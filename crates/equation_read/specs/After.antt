@@ -4,9 +4,9 @@ use Rattle.equation_read.specs.declared.sums.After.{After}
 use Rattle.equation_read.specs.declared.sums.After.TheVariants.{At, Stopped}
 use Rattle.equation_read.specs.Totals.{Collected, collected, stopped, Small}
 
-abbrev pub collectedBy : List ℕ → After → List ℤ → Collected
-collectedBy t (At next exceeds) ts = collected ts exceeds (drop next t)
-collectedBy t Stopped ts = stopped
+abbrev pub collected_by : List ℕ → After → List ℤ → Collected
+collected_by t (At next exceeds) ts = collected ts exceeds (drop next t)
+collected_by t Stopped ts = stopped
 
 -- something was read from place i on, up to the place r, and there is room for what follows
 pub record Advanced (t : List ℕ) (i r : ℕ) (ts : List ℤ) : Type 0 where

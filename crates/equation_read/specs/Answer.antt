@@ -1,7 +1,7 @@
 -- What reading an equation answers and leaves. Assumes nothing.
 use Rattle.std.specs.Prelude.{ℕ, suc, ◌≤◌, ◌<◌, List, [], ◌∷◌, ℤ, pos, neg_ℤ, nat_abs, get_or}
-use Rattle.definitions.specs.Answers.{◌then◌, refuseIf, refuseFirst}
-use Rattle.definitions.specs.Refusals.{outOfRange}
+use Rattle.definitions.specs.Answers.{◌then◌, refuse_if, refuse_first}
+use Rattle.definitions.specs.Refusals.{out_of_range}
 use Rattle.equation_spec.specs.Outcome as form
 use Rattle.equation_spec.specs.Outcome.{Outcome, accepted, checked, list}
 use Rattle.equation_read.specs.declared.equation.EquationRead.{EquationRead}
@@ -45,9 +45,9 @@ answer_of (Equation right) table = read right table
 answer_of (Refused why) table = refused (number_of why) (values_of why) table
 
 -- what totals come to: the constants stand at place 0, those of the right side less
-unfoldable pub totalsOutcome : ℕ → List ℤ → Outcome
-totalsOutcome q ts =
-    checked (refuseFirst 7 q (λ i. outOfRange (get_or ts (suc i) (pos 0))) then refuseIf (outOfRange (neg_ℤ (get_or ts 0 (pos 0)))) 15)
+unfoldable pub totals_outcome : ℕ → List ℤ → Outcome
+totals_outcome q ts =
+    checked (refuse_first 7 q (λ i. out_of_range (get_or ts (suc i) (pos 0))) then refuse_if (out_of_range (neg_ℤ (get_or ts 0 (pos 0)))) 15)
     (accepted (list q 1 (λ k. get_or ts k (pos 0))) (neg_ℤ (get_or ts 0 (pos 0))))
 
 -- the totals of the unknowns 1 to q are in range

@@ -7,22 +7,22 @@ use Rattle.std.proofs.Math.Decide.{ℕ_discrete}
 use Rattle.std.proofs.Math.IntN.{neg_ℤ}
 use Rattle.std.proofs.Math.ListN.{get_or}
 use borrow.Author.Tests.{ne_eqb, eq-eqb, lt-ltb, le-ltb, le-leb, lt-leb, ltb-false}
-use Rattle.linear.specs.Integers.{natAbs-negℤ}
+use Rattle.linear.specs.Integers.{nat_abs_negℤ}
 use Rattle.linear.specs.Terms.{ring, #◌, ◌⊕◌, ⊖◌}
-use Rattle.definitions.specs.Answers.{go, refuseWith, refuseFirst, ◌then◌}
-use Rattle.definitions.specs.System.{coefLimit}
-use Rattle.definitions.specs.Refusals.{outOfRange}
-use Rattle.laws.specs.AnswerLaws.{refuse-at, refuse-next}
-use Rattle.texts.specs.Reading.{mostBytes, Parse, parsed, malformed}
+use Rattle.definitions.specs.Answers.{go, refuse_with, refuse_first, ◌then◌}
+use Rattle.definitions.specs.System.{coef_limit}
+use Rattle.definitions.specs.Refusals.{out_of_range}
+use Rattle.laws.specs.AnswerLaws.{refuse_at, refuse_next}
+use Rattle.texts.specs.Reading.{most_bytes, Parse, parsed, malformed}
 use Rattle.equation_spec.specs.Grammar.{Equation, Reads}
-use Rattle.equation_spec.specs.Meaning.{ofSum, coefficient, rightSide, sumDepth, sumExceeds}
-use Rattle.equation_spec.specs.Reader.{readEquation}
+use Rattle.equation_spec.specs.Meaning.{of_sum, coefficient, right_side, sum_depth, sum_exceeds}
+use Rattle.equation_spec.specs.Reader.{read_equation}
 use Rattle.equation_spec.specs.Scan.{place}
-use Rattle.equation_spec.specs.Outcome.{Outcome, accepted, checked, list, mostDepth, limits, treeOutcome, outcome}
+use Rattle.equation_spec.specs.Outcome.{Outcome, accepted, checked, list, most_depth, limits, tree_outcome, outcome}
 use Rattle.equation_spec.specs.Outcome as form
-use Rattle.equation_spec.specs.Agreement.{read-any, read-reads}
-use Rattle.equation_spec.specs.PlaceLaws.{reads-placed}
-use Rattle.equation_read.specs.Answer.{read, refused, answered, totalsOutcome, Ranged}
+use Rattle.equation_spec.specs.Agreement.{read_any, read_reads}
+use Rattle.equation_spec.specs.PlaceLaws.{reads_placed}
+use Rattle.equation_read.specs.Answer.{read, refused, answered, totals_outcome, Ranged}
 use Rattle.equation_read.specs.MeaningLaws.{set_at}
 
 -- ---- the row
@@ -36,48 +36,48 @@ row_next row ts i x l h e j m =
       | no y ↦ set_at row i j x l ∙ rw (ne_eqb j i y) (h j (omega arith))
     ]
 
-list-eq : (zs : List ℤ) (k : ℕ) (f : ℕ → ℤ) → ((j : ℕ) → j < length zs → get_or zs j (pos 0) ≡ f (k + j)) → zs ≡ list (length zs) k f
+list_eq : (zs : List ℤ) (k : ℕ) (f : ℕ → ℤ) → ((j : ℕ) → j < length zs → get_or zs j (pos 0) ≡ f (k + j)) → zs ≡ list (length zs) k f
 unfolding list
-list-eq [] k f h = refl
-list-eq (z ∷ zs) k f h =
+list_eq [] k f h = refl
+list_eq (z ∷ zs) k f h =
     let e : k + 0 ≡ k = omega arith in
     ap₂ (λ x y. x ∷ y) (rw e at (h 0 (omega arith)))
-    (list-eq zs (suc k) f (λ j m. let e : suc k + j ≡ k + suc j = omega arith in rw e (h (suc j) (omega arith))))
+    (list_eq zs (suc k) f (λ j m. let e : suc k + j ≡ k + suc j = omega arith in rw e (h (suc j) (omega arith))))
 
-pub row-all : (row ts : List ℤ) (q i : ℕ) → length row ≡ q → i ≤ q → q ≤ i → ((j : ℕ) → j < i → get_or row j (pos 0) ≡ get_or ts (suc j) (pos 0))
+pub row_all : (row ts : List ℤ) (q i : ℕ) → length row ≡ q → i ≤ q → q ≤ i → ((j : ℕ) → j < i → get_or row j (pos 0) ≡ get_or ts (suc j) (pos 0))
     → row ≡ list q 1 (λ k. get_or ts k (pos 0))
-row-all row ts q i e l m h =
-    rw (sym e) (list-eq row 1 (λ k. get_or ts k (pos 0)) (λ j n. let x : 1 + j ≡ suc j = omega arith in rw x (h j (omega arith))))
+row_all row ts q i e l m h =
+    rw (sym e) (list_eq row 1 (λ k. get_or ts k (pos 0)) (λ j n. let x : 1 + j ≡ suc j = omega arith in rw x (h j (omega arith))))
 
 -- ---- the totals
 
 module _ (q : ℕ) (ts row : List ℤ) where
   abbrev pub out_at : ℕ → Bool
-  out_at i = outOfRange (get_or ts (suc i) (pos 0))
+  out_at i = out_of_range (get_or ts (suc i) (pos 0))
 
-  negated-range : (z : ℤ) → outOfRange (neg_ℤ z) ≡ outOfRange z
-  negated-range z = ap (ltb coefLimit) (natAbs-negℤ z)
+  negated_range : (z : ℤ) → out_of_range (neg_ℤ z) ≡ out_of_range z
+  negated_range z = ap (ltb coef_limit) (nat_abs_negℤ z)
 
-  pub coefficient-out : (i : ℕ) → i < q → refuseFirst 7 i out_at ≡ go → outOfRange (get_or ts (i + 1) (pos 0)) ≡ true
-      → refused 7 ((i + 1) ∷ []) row ≡ answered (totalsOutcome q ts) row
-  unfolding answered totalsOutcome checked ◌then◌
-  coefficient-out i l h e = rw (refuse-at 7 q out_at i l h (ap (λ k. outOfRange (get_or ts k (pos 0))) (sym (add-one i)) ∙ e))
+  pub coefficient_out : (i : ℕ) → i < q → refuse_first 7 i out_at ≡ go → out_of_range (get_or ts (i + 1) (pos 0)) ≡ true
+      → refused 7 ((i + 1) ∷ []) row ≡ answered (totals_outcome q ts) row
+  unfolding answered totals_outcome checked ◌then◌
+  coefficient_out i l h e = rw (refuse_at 7 q out_at i l h (ap (λ k. out_of_range (get_or ts k (pos 0))) (sym (add-one i)) ∙ e))
 
-  pub right-out : refuseFirst 7 q out_at ≡ go → outOfRange (get_or ts 0 (pos 0)) ≡ true → refused 15 [] row ≡ answered (totalsOutcome q ts) row
-  unfolding answered totalsOutcome checked ◌then◌ refuseWith
-  right-out h e = rw (h, negated-range (get_or ts 0 (pos 0)), e)
+  pub right_out : refuse_first 7 q out_at ≡ go → out_of_range (get_or ts 0 (pos 0)) ≡ true → refused 15 [] row ≡ answered (totals_outcome q ts) row
+  unfolding answered totals_outcome checked ◌then◌ refuse_with
+  right_out h e = rw (h, negated_range (get_or ts 0 (pos 0)), e)
 
-  pub all_in : refuseFirst 7 q out_at ≡ go → outOfRange (get_or ts 0 (pos 0)) ≡ false → {after : List ℤ} {right : ℤ} → after ≡ list q 1 (λ k. get_or ts k (pos 0))
+  pub all_in : refuse_first 7 q out_at ≡ go → out_of_range (get_or ts 0 (pos 0)) ≡ false → {after : List ℤ} {right : ℤ} → after ≡ list q 1 (λ k. get_or ts k (pos 0))
       → right ≡ neg_ℤ (get_or ts 0 (pos 0))
-      → read right after ≡ answered (totalsOutcome q ts) row
-  unfolding answered totalsOutcome checked ◌then◌ refuseWith
-  all_in h e x y = rw (h, negated-range (get_or ts 0 (pos 0)), e, x, y)
+      → read right after ≡ answered (totals_outcome q ts) row
+  unfolding answered totals_outcome checked ◌then◌ refuse_with
+  all_in h e x y = rw (h, negated_range (get_or ts 0 (pos 0)), e, x, y)
 
-  pub range-next : (i : ℕ) → refuseFirst 7 i out_at ≡ go → outOfRange (get_or ts (i + 1) (pos 0)) ≡ false → refuseFirst 7 (i + 1) out_at ≡ go
-  range-next i h e = refuse-next 7 i out_at h (ap (λ k. outOfRange (get_or ts k (pos 0))) (sym (add-one i)) ∙ e)
+  pub range_next : (i : ℕ) → refuse_first 7 i out_at ≡ go → out_of_range (get_or ts (i + 1) (pos 0)) ≡ false → refuse_first 7 (i + 1) out_at ≡ go
+  range_next i h e = refuse_next 7 i out_at h (ap (λ k. out_of_range (get_or ts k (pos 0))) (sym (add-one i)) ∙ e)
 
-pub ranged-next : (ts : List ℤ) (i : ℕ) → Ranged i ts → outOfRange (get_or ts (i + 1) (pos 0)) ≡ false → Ranged (i + 1) ts
-ranged-next ts i r e =
+pub ranged_next : (ts : List ℤ) (i : ℕ) → Ranged i ts → out_of_range (get_or ts (i + 1) (pos 0)) ≡ false → Ranged (i + 1) ts
+ranged_next ts i r e =
     record {
       range = λ j l.
           elim (ℕ_discrete j i) [
@@ -88,84 +88,84 @@ ranged-next ts i r e =
 
 -- ---- the reading
 
-refuse-cong : (n k : ℕ) (f g : ℕ → Bool) → ((i : ℕ) → f i ≡ g i) → refuseFirst n k f ≡ refuseFirst n k g
-unfolding refuseFirst
-refuse-cong n zero f g h = refl
-refuse-cong n (suc k) f g h = rw (refuse-cong n k f g h, h k)
+refuse_cong : (n k : ℕ) (f g : ℕ → Bool) → ((i : ℕ) → f i ≡ g i) → refuse_first n k f ≡ refuse_first n k g
+unfolding refuse_first
+refuse_cong n zero f g h = refl
+refuse_cong n (suc k) f g h = rw (refuse_cong n k f g h, h k)
 
-list-cong : (n k : ℕ) (f g : ℕ → ℤ) → ((i : ℕ) → f i ≡ g i) → list n k f ≡ list n k g
+list_cong : (n k : ℕ) (f g : ℕ → ℤ) → ((i : ℕ) → f i ≡ g i) → list n k f ≡ list n k g
 unfolding list
-list-cong zero k f g h = refl
-list-cong (suc n) k f g h = ap₂ (λ x y. x ∷ y) (h k) (list-cong n (suc k) f g h)
+list_cong zero k f g h = refl
+list_cong (suc n) k f g h = ap₂ (λ x y. x ∷ y) (h k) (list_cong n (suc k) f g h)
 
 module _ (q : ℕ) (few : q ≤ 16) (e : Equation) (t : List ℕ) (reads : Reads q e t) (row : List ℤ) where
   abbrev Whole : Outcome
-  Whole = treeOutcome q t (readEquation q (length t) t)
+  Whole = tree_outcome q t (read_equation q (length t) t)
 
-  whole_is : Whole ≡ checked (limits q e) (accepted (list q 1 (coefficient e)) (rightSide e))
-  unfolding treeOutcome
-  whole_is = rw (read-any q e t few reads)
+  whole_is : Whole ≡ checked (limits q e) (accepted (list q 1 (coefficient e)) (right_side e))
+  unfolding tree_outcome
+  whole_is = rw (read_any q e t few reads)
 
-  pub too-deep : mostDepth < max (sumDepth e.left) (sumDepth e.right) → refused 17 [] row ≡ answered Whole row
-  unfolding limits checked ◌then◌ refuseWith answered
-  too-deep l = rw (whole_is, lt-ltb mostDepth _ l)
+  pub too_deep : most_depth < max (sum_depth e.left) (sum_depth e.right) → refused 17 [] row ≡ answered Whole row
+  unfolding limits checked ◌then◌ refuse_with answered
+  too_deep l = rw (whole_is, lt-ltb most_depth _ l)
 
-  module _ (l : max (sumDepth e.left) (sumDepth e.right) ≤ mostDepth) where
-    pub exceeding : (sumExceeds e.left 1 || sumExceeds e.right 1) ≡ true → refused 18 [] row ≡ answered Whole row
-    unfolding limits checked ◌then◌ refuseWith answered
-    exceeding h = rw (whole_is, le-ltb mostDepth _ l, h)
+  module _ (l : max (sum_depth e.left) (sum_depth e.right) ≤ most_depth) where
+    pub exceeding : (sum_exceeds e.left 1 || sum_exceeds e.right 1) ≡ true → refused 18 [] row ≡ answered Whole row
+    unfolding limits checked ◌then◌ refuse_with answered
+    exceeding h = rw (whole_is, le-ltb most_depth _ l, h)
 
-    pub from-totals : (ts : List ℤ) → (sumExceeds e.left 1 || sumExceeds e.right 1) ≡ false
-        → ((i : ℕ) → get_or ts i (pos 0) ≡ ofSum e.left i -ℤ ofSum e.right i)
-        → answered (totalsOutcome q ts) row ≡ answered Whole row
-    unfolding limits checked ◌then◌ refuseWith totalsOutcome coefficient rightSide
-    from-totals ts h v =
-        let r : neg_ℤ (get_or ts 0 (pos 0)) ≡ ofSum e.right 0 -ℤ ofSum e.left 0 =
-        ap neg_ℤ (v 0) ∙ ring (⊖ (# ofSum e.left 0 ⊕ ⊖ (# ofSum e.right 0))) (# ofSum e.right 0 ⊕ ⊖ (# ofSum e.left 0)) (omega arith)
+    pub from_totals : (ts : List ℤ) → (sum_exceeds e.left 1 || sum_exceeds e.right 1) ≡ false
+        → ((i : ℕ) → get_or ts i (pos 0) ≡ of_sum e.left i -ℤ of_sum e.right i)
+        → answered (totals_outcome q ts) row ≡ answered Whole row
+    unfolding limits checked ◌then◌ refuse_with totals_outcome coefficient right_side
+    from_totals ts h v =
+        let r : neg_ℤ (get_or ts 0 (pos 0)) ≡ of_sum e.right 0 -ℤ of_sum e.left 0 =
+        ap neg_ℤ (v 0) ∙ ring (⊖ (# of_sum e.left 0 ⊕ ⊖ (# of_sum e.right 0))) (# of_sum e.right 0 ⊕ ⊖ (# of_sum e.left 0)) (omega arith)
         in
         ap (λ o. answered o row)
         (rw (
-          refuse-cong 7 q (λ i. outOfRange (get_or ts (suc i) (pos 0))) (λ i. outOfRange (ofSum e.left (suc i) -ℤ ofSum e.right (suc i)))
-              (λ i. ap outOfRange (v (suc i))),
-          list-cong q 1 (λ k. get_or ts k (pos 0)) (λ k. ofSum e.left k -ℤ ofSum e.right k) v,
+          refuse_cong 7 q (λ i. out_of_range (get_or ts (suc i) (pos 0))) (λ i. out_of_range (of_sum e.left (suc i) -ℤ of_sum e.right (suc i)))
+              (λ i. ap out_of_range (v (suc i))),
+          list_cong q 1 (λ k. get_or ts k (pos 0)) (λ k. of_sum e.left k -ℤ of_sum e.right k) v,
           r,
         )
-        (sym (whole_is ∙ rw (le-ltb mostDepth _ l, h))))
+        (sym (whole_is ∙ rw (le-ltb most_depth _ l, h))))
 
 -- ---- the refusals in their order: a text t, q unknowns, and a row of n numbers
 
 module _ (q n : ℕ) (t : List ℕ) (row : List ℤ) where
-  pub too_long : mostBytes < length t → refused 10 [] row ≡ answered (outcome q n t) row
-  unfolding outcome checked ◌then◌ refuseWith answered
-  too_long l = rw (lt-ltb mostBytes (length t) l)
+  pub too_long : most_bytes < length t → refused 10 [] row ≡ answered (outcome q n t) row
+  unfolding outcome checked ◌then◌ refuse_with answered
+  too_long l = rw (lt-ltb most_bytes (length t) l)
 
-  module _ (l : length t ≤ mostBytes) where
-    pub no-unknown : q < 1 → refused 2 [] row ≡ answered (outcome q n t) row
-    unfolding outcome checked ◌then◌ refuseWith answered
-    no-unknown h = rw (le-ltb mostBytes (length t) l, lt-leb 1 q h)
+  module _ (l : length t ≤ most_bytes) where
+    pub no_unknown : q < 1 → refused 2 [] row ≡ answered (outcome q n t) row
+    unfolding outcome checked ◌then◌ refuse_with answered
+    no_unknown h = rw (le-ltb most_bytes (length t) l, lt-leb 1 q h)
 
     module _ (some : 1 ≤ q) where
-      pub many-unknowns : 16 < q → refused 2 [] row ≡ answered (outcome q n t) row
-      unfolding outcome checked ◌then◌ refuseWith answered
-      many-unknowns h = rw (le-ltb mostBytes (length t) l, le-leb 1 q some, lt-leb q 16 h)
+      pub many_unknowns : 16 < q → refused 2 [] row ≡ answered (outcome q n t) row
+      unfolding outcome checked ◌then◌ refuse_with answered
+      many_unknowns h = rw (le-ltb most_bytes (length t) l, le-leb 1 q some, lt-leb q 16 h)
 
       module _ (few : q ≤ 16) where
         pub other_row : (n ≡ q → ⊥) → refused 3 [] row ≡ answered (outcome q n t) row
-        unfolding outcome checked ◌then◌ refuseWith answered
-        other_row h = rw (le-ltb mostBytes (length t) l, le-leb 1 q some, le-leb q 16 few, ne_eqb n q h)
+        unfolding outcome checked ◌then◌ refuse_with answered
+        other_row h = rw (le-ltb most_bytes (length t) l, le-leb 1 q some, le-leb q 16 few, ne_eqb n q h)
 
-        pub to-tree : n ≡ q → answered (treeOutcome q t (readEquation q (length t) t)) row ≡ answered (outcome q n t) row
-        unfolding outcome checked ◌then◌ refuseWith
-        to-tree h = rw (le-ltb mostBytes (length t) l, le-leb 1 q some, le-leb q 16 few, eq-eqb n q h)
+        pub to_tree : n ≡ q → answered (tree_outcome q t (read_equation q (length t) t)) row ≡ answered (outcome q n t) row
+        unfolding outcome checked ◌then◌ refuse_with
+        to_tree h = rw (le-ltb most_bytes (length t) l, le-leb 1 q some, le-leb q 16 few, eq-eqb n q h)
 
-        pub at-fault : n ≡ q → 0 < place q t → refused 16 (place q t ∷ []) row ≡ answered (outcome q n t) row
-        unfolding treeOutcome answered
-        at-fault h f = go (readEquation q (length t) t) refl ∙ to-tree h
+        pub at_fault : n ≡ q → 0 < place q t → refused 16 (place q t ∷ []) row ≡ answered (outcome q n t) row
+        unfolding tree_outcome answered
+        at_fault h f = go (read_equation q (length t) t) refl ∙ to_tree h
           where
-            unread : (e : Equation) (r : List ℕ) → readEquation q (length t) t ≡ parsed e r → ⊥
-            unread e r x = omega (arith, reads-placed q some few e t (read-reads q (length t) t x).0)
+            unread : (e : Equation) (r : List ℕ) → read_equation q (length t) t ≡ parsed e r → ⊥
+            unread e r x = omega (arith, reads_placed q some few e t (read_reads q (length t) t x).0)
 
-            go : (p : Parse Equation) → readEquation q (length t) t ≡ p
-                → refused 16 (place q t ∷ []) row ≡ answered (treeOutcome q t (readEquation q (length t) t)) row
+            go : (p : Parse Equation) → read_equation q (length t) t ≡ p
+                → refused 16 (place q t ∷ []) row ≡ answered (tree_outcome q t (read_equation q (length t) t)) row
             go (parsed e r) x = absurd (unread e r x)
             go malformed x = rw x

@@ -6,18 +6,18 @@ use Rattle.equation_read.specs.declared.scan.Phase.TheVariants.{AfterBracket, Af
 use Rattle.equation_read.specs.declared.scan.Step.{Step}
 use Rattle.equation_read.specs.declared.scan.Step.TheVariants.{To, Fault}
 
-abbrev pub phaseOf : Phase → scan.Phase
-phaseOf Nothing = scan.nothing
-phaseOf SumDue = scan.sumDue
-phaseOf TermDue = scan.termDue
-phaseOf FactorDue = scan.factorDue
-phaseOf IndexDue = scan.indexDue
-phaseOf (InNumber k) = scan.inNumber k
-phaseOf AfterNumber = scan.afterNumber
-phaseOf (InIndex k) = scan.inIndex k
-phaseOf AfterBracket = scan.afterBracket
-phaseOf AfterTerm = scan.afterTerm
+abbrev pub phase_of : Phase → scan.Phase
+phase_of Nothing = scan.nothing
+phase_of SumDue = scan.sum_due
+phase_of TermDue = scan.term_due
+phase_of FactorDue = scan.factor_due
+phase_of IndexDue = scan.index_due
+phase_of (InNumber k) = scan.in_number k
+phase_of AfterNumber = scan.after_number
+phase_of (InIndex k) = scan.in_index k
+phase_of AfterBracket = scan.after_bracket
+phase_of AfterTerm = scan.after_term
 
 abbrev pub step_of : Step → scan.Step
-step_of (To phase opened right) = scan.to (phaseOf phase) opened right
+step_of (To phase opened right) = scan.to (phase_of phase) opened right
 step_of Fault = scan.fault

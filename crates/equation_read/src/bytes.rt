@@ -1,8 +1,8 @@
 // Spaces, signs and numbers at a place of a text. A place stands for the text from there on.
 ghost use Rattle.std.specs.Prelude.{◌≡◌, drop};
-ghost use Rattle.equation_spec.specs.Reader.{skip as skipped, readIndex};
-ghost use Rattle.texts.specs.Places.{naturalParse};
-ghost use Rattle.equation_read.specs.Places.{leadOf, isLed, isMinus, afterLead, starts};
+ghost use Rattle.equation_spec.specs.Reader.{skip as skipped, read_index};
+ghost use Rattle.texts.specs.Places.{natural_parse};
+ghost use Rattle.equation_read.specs.Places.{lead_of, is_led, is_minus, after_lead, starts};
 
 use texts::number::{Natural, read_natural};
 
@@ -32,7 +32,7 @@ pub fn stands(text: &[u8], at: usize, byte: u8) -> bool
 
 // Whether a sign stands at place `at`.
 pub fn is_sign(text: &[u8], at: usize) -> bool
-    ensures { result ≡ isLed (leadOf (drop at text.now)) }
+    ensures { result ≡ is_led (lead_of (drop at text.now)) }
 {
     if stands(text, at, b'+') {
         return true;
@@ -42,14 +42,14 @@ pub fn is_sign(text: &[u8], at: usize) -> bool
 
 // Whether a minus stands at place `at`.
 pub fn is_minus(text: &[u8], at: usize) -> bool
-    ensures { result ≡ isMinus (leadOf (drop at text.now)) }
+    ensures { result ≡ is_minus (lead_of (drop at text.now)) }
 {
     stands(text, at, b'-')
 }
 
 // The place after a sign and spaces, if a sign stands at place `at`.
 pub fn after_sign(text: &[u8], at: usize) -> usize
-    ensures { drop result text.now ≡ afterLead (drop at text.now) }
+    ensures { drop result text.now ≡ after_lead (drop at text.now) }
 {
     if is_sign(text, at) {
         return skip(text, at + 1);
@@ -59,7 +59,7 @@ pub fn after_sign(text: &[u8], at: usize) -> usize
 
 // The number of an unknown.
 pub fn read_index(text: &[u8], at: usize, q: usize) -> Natural
-    ensures { naturalParse text.now result ≡ readIndex q (drop at text.now) }
+    ensures { natural_parse text.now result ≡ read_index q (drop at text.now) }
 {
     match read_natural(text, at, 5) {
         Natural::Malformed => Natural::Malformed,

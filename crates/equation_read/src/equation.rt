@@ -1,9 +1,9 @@
 // A whole equation: the refusals in their order, and the row.
 ghost use Rattle.std.specs.Prelude.{◌≡◌, ◌≤◌, ◌<◌, ◌+◌, pos, neg_ℤ, nat_abs, length, get_or};
 ghost use Rattle.equation_spec.specs.Scan.{place as faultPlace};
-ghost use Rattle.equation_spec.specs.Reader.{readEquation};
-ghost use Rattle.equation_spec.specs.Outcome.{outcome, treeOutcome, list};
-ghost use Rattle.equation_read.specs.Answer.{answer_of, answered, totalsOutcome, Ranged};
+ghost use Rattle.equation_spec.specs.Reader.{read_equation};
+ghost use Rattle.equation_spec.specs.Outcome.{outcome, tree_outcome, list};
+ghost use Rattle.equation_read.specs.Answer.{answer_of, answered, totals_outcome, Ranged};
 
 use crate::bytes::skip;
 use crate::scan::place;
@@ -57,7 +57,7 @@ pub fn read_equation(text: &[u8], q: usize, row: &mut [i32]) -> EquationRead
 fn read_sides(text: &[u8], q: usize, row: &mut [i32]) -> EquationRead
     requires { (length text.now ≤ 4096) × (1 ≤ q) × (q ≤ 16) × (length row.old ≡ q) × (faultPlace q text.now ≡ 0) }
     ensures { answer_of result row.new
-        ≡ answered (treeOutcome q text.now (readEquation q (length text.now) text.now)) row.old }
+        ≡ answered (tree_outcome q text.now (read_equation q (length text.now) text.now)) row.old }
 {
     let mut totals = [0i64; 17];
     match read_sum(text, 0, q, 8, 1, &mut totals) {
@@ -83,7 +83,7 @@ fn read_sides(text: &[u8], q: usize, row: &mut [i32]) -> EquationRead
 // The row and the right side that were collected, if they are in range.
 fn accept(q: usize, totals: &[i64; 17], row: &mut [i32]) -> EquationRead
     requires { (q ≤ 16) × (length row.old ≡ q) }
-    ensures { answer_of result row.new ≡ answered (totalsOutcome q totals.now) row.old }
+    ensures { answer_of result row.new ≡ answered (totals_outcome q totals.now) row.old }
 {
     let mut i = 0;
     while i < q {

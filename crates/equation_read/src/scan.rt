@@ -1,20 +1,20 @@
 // The place of a fault in a text, found byte by byte with a count of the open brackets, however deep.
 ghost use Rattle.std.specs.Prelude.{◌≡◌, ◌≤◌, ◌+◌, ◌*◌, true, length};
-ghost use Rattle.texts.specs.Reading.{isDigit, digit};
+ghost use Rattle.texts.specs.Reading.{is_digit, digit};
 ghost use Rattle.equation_spec.specs.Scan.{
   onward as onwardStep,
-  factorBegins,
-  termBegins,
-  sumBegins,
-  afterDigits,
-  afterFactor,
+  factor_begins,
+  term_begins,
+  sum_begins,
+  after_digits,
+  after_factor,
   indexed as indexedStep,
   step as nextStep,
-  inNumber,
+  in_number,
   final,
   place as faultPlace,
 };
-ghost use Rattle.equation_read.specs.Phases.{step_of, phaseOf};
+ghost use Rattle.equation_read.specs.Phases.{step_of, phase_of};
 
 use texts::number::is_digit;
 
@@ -78,7 +78,7 @@ pub fn place(text: &[u8], q: usize) -> usize
 }
 
 fn is_final(phase: Phase, opened: usize, right: bool) -> bool
-    ensures { result ≡ final (phaseOf phase) opened right }
+    ensures { result ≡ final (phase_of phase) opened right }
 {
     if 0 < opened {
         return false;
@@ -99,7 +99,7 @@ fn is_final(phase: Phase, opened: usize, right: bool) -> bool
 
 fn advance(q: usize, byte: u8, phase: Phase, opened: usize, right: bool) -> Step
     requires { (q ≤ 16) × (opened ≤ 4096) }
-    ensures { step_of result ≡ nextStep q byte (phaseOf phase) opened right }
+    ensures { step_of result ≡ nextStep q byte (phase_of phase) opened right }
 {
     match phase {
         Phase::Nothing => sum_begins(byte, opened, right),
@@ -154,7 +154,7 @@ fn advance(q: usize, byte: u8, phase: Phase, opened: usize, right: bool) -> Step
 
 // In a number that may have `left` digits more.
 fn in_number(byte: u8, left: usize, opened: usize, right: bool) -> Step
-    ensures { step_of result ≡ nextStep 0 byte (inNumber left) opened right }
+    ensures { step_of result ≡ nextStep 0 byte (in_number left) opened right }
 {
     if left == 0 {
         return after_digits(byte, opened, right);
@@ -171,7 +171,7 @@ fn in_number(byte: u8, left: usize, opened: usize, right: bool) -> Step
 
 // One more digit of the number `k` of an unknown.
 fn indexed(q: usize, k: usize, byte: u8, opened: usize, right: bool) -> Step
-    requires { (q ≤ 16) × (isDigit byte ≡ true) }
+    requires { (q ≤ 16) × (is_digit byte ≡ true) }
     ensures { step_of result ≡ indexedStep q (k * 10 + digit byte) opened right }
 {
     if 16 < k {
@@ -194,7 +194,7 @@ fn indexed(q: usize, k: usize, byte: u8, opened: usize, right: bool) -> Step
 // A sum begins.
 fn sum_begins(byte: u8, opened: usize, right: bool) -> Step
     requires { opened ≤ 4096 }
-    ensures { step_of result ≡ sumBegins byte opened right }
+    ensures { step_of result ≡ sum_begins byte opened right }
 {
     if byte == b'+' {
         return Step::To {
@@ -216,7 +216,7 @@ fn sum_begins(byte: u8, opened: usize, right: bool) -> Step
 // A term begins.
 fn term_begins(byte: u8, opened: usize, right: bool) -> Step
     requires { opened ≤ 4096 }
-    ensures { step_of result ≡ termBegins byte opened right }
+    ensures { step_of result ≡ term_begins byte opened right }
 {
     if !is_digit(byte) {
         return factor_begins(byte, opened, right);
@@ -238,7 +238,7 @@ fn term_begins(byte: u8, opened: usize, right: bool) -> Step
 // An unknown or a bracket begins.
 fn factor_begins(byte: u8, opened: usize, right: bool) -> Step
     requires { opened ≤ 4096 }
-    ensures { step_of result ≡ factorBegins byte opened right }
+    ensures { step_of result ≡ factor_begins byte opened right }
 {
     if byte == b'x' {
         return Step::To {
@@ -259,7 +259,7 @@ fn factor_begins(byte: u8, opened: usize, right: bool) -> Step
 
 // After a number.
 fn after_digits(byte: u8, opened: usize, right: bool) -> Step
-    ensures { step_of result ≡ afterDigits byte opened right }
+    ensures { step_of result ≡ after_digits byte opened right }
 {
     if byte == b' ' {
         return Step::To {
@@ -280,7 +280,7 @@ fn after_digits(byte: u8, opened: usize, right: bool) -> Step
 
 // After an unknown or a bracket.
 fn after_factor(byte: u8, opened: usize, right: bool) -> Step
-    ensures { step_of result ≡ afterFactor byte opened right }
+    ensures { step_of result ≡ after_factor byte opened right }
 {
     if byte == b' ' {
         return Step::To {

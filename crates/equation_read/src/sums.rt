@@ -1,9 +1,9 @@
 // Sums, terms and bracketed sums, read by functions that call each other. A text is passed over while its numbers are added to `totals`, times
 // `times`. The depth falls with each bracket, and the text that is left with each term.
 ghost use Rattle.std.specs.Prelude.{◌≡◌, drop};
-ghost use Rattle.equation_spec.specs.Reader.{readFactor, readTerm, readSum, readBracket};
-ghost use Rattle.equation_read.specs.Totals.{Ready, sumCollected, termCollected, factorCollected, bracketCollected};
-ghost use Rattle.equation_read.specs.After.{collectedBy, Passed};
+ghost use Rattle.equation_spec.specs.Reader.{read_factor, read_term, read_sum, read_bracket};
+ghost use Rattle.equation_read.specs.Totals.{Ready, sum_collected, term_collected, factor_collected, bracket_collected};
+ghost use Rattle.equation_read.specs.After.{collected_by, Passed};
 
 use crate::bytes::{after_sign, is_minus, is_sign, read_index, skip, stands};
 use crate::totals::{add_at, either, out_of_range, scaled, signed, within};
@@ -28,8 +28,8 @@ pub fn read_sum(
     totals: &mut [i64; 17],
 ) -> After
     requires { Ready 10000 text.now at q times totals.old }
-    ensures read { collectedBy text.now result totals.new
-        ≡ sumCollected times totals.old (readSum (readBracket q depth) q (drop at text.now)) }
+    ensures read { collected_by text.now result totals.new
+        ≡ sum_collected times totals.old (read_sum (read_bracket q depth) q (drop at text.now)) }
     ensures passed { Passed text.now at result totals.new }
 {
     let mut next = after_sign(text, at);
@@ -67,8 +67,8 @@ fn read_term(
     totals: &mut [i64; 17],
 ) -> After
     requires { Ready 10000 text.now at q times totals.old }
-    ensures read { collectedBy text.now result totals.new
-        ≡ termCollected times totals.old (readTerm (readBracket q depth) q (drop at text.now)) }
+    ensures read { collected_by text.now result totals.new
+        ≡ term_collected times totals.old (read_term (read_bracket q depth) q (drop at text.now)) }
     ensures passed { Passed text.now at result totals.new }
 {
     if text.len() <= at {
@@ -111,8 +111,8 @@ fn read_factor(
     totals: &mut [i64; 17],
 ) -> After
     requires { Ready 1000000000 text.now at q times totals.old }
-    ensures read { collectedBy text.now result totals.new
-        ≡ factorCollected times totals.old (readFactor (readBracket q depth) q (drop at text.now)) }
+    ensures read { collected_by text.now result totals.new
+        ≡ factor_collected times totals.old (read_factor (read_bracket q depth) q (drop at text.now)) }
     ensures passed { Passed text.now at result totals.new }
 {
     if stands(text, at, b'(') {
@@ -144,8 +144,8 @@ fn read_bracket(
     totals: &mut [i64; 17],
 ) -> After
     requires { Ready 1000000000 text.now at q times totals.old }
-    ensures read { collectedBy text.now result totals.new
-        ≡ bracketCollected times totals.old (readBracket q depth (drop at text.now)) }
+    ensures read { collected_by text.now result totals.new
+        ≡ bracket_collected times totals.old (read_bracket q depth (drop at text.now)) }
     ensures passed { Passed text.now at result totals.new }
 {
     if depth == 0 {

@@ -1,12 +1,12 @@
 // Numbers collected: the constants at place 0, and unknown k at place k. Small functions with contracts in ℤ.
 ghost use Rattle.std.specs.Prelude.{◌≡◌, ◌||◌, ◌≤◌, pos, nat_abs, ◌+ℤ◌, ◌*ℤ◌, get_or};
-ghost use Rattle.definitions.specs.Refusals.{outOfRange};
-ghost use Rattle.equation_read.specs.Totals.{addAt, signedBy, bounded};
+ghost use Rattle.definitions.specs.Refusals.{out_of_range};
+ghost use Rattle.equation_read.specs.Totals.{add_at, signed_by, bounded};
 
 // Adds `v` at place `k`.
 pub fn add_at(totals: &mut [i64; 17], k: usize, v: i64)
     requires { (k ≤ 16) × (nat_abs (get_or totals.old k (pos 0)) ≤ 5000000000000) × (nat_abs v ≤ 1000000000) }
-    ensures { totals.new ≡ addAt k v totals.old }
+    ensures { totals.new ≡ add_at k v totals.old }
 {
     let sum = plus(totals[k], v);
     totals[k] = sum;
@@ -22,7 +22,7 @@ fn plus(a: i64, b: i64) -> i64
 // `times`, or its negation.
 pub fn signed(minus: bool, times: i64) -> i64
     requires { nat_abs times ≤ 10000 }
-    ensures { result ≡ signedBy minus times }
+    ensures { result ≡ signed_by minus times }
 {
     if minus {
         return -times;
@@ -39,7 +39,7 @@ pub fn scaled(times: i64, n: u32) -> i64
 
 // Whether a multiplier, a coefficient or a right side is out of range.
 pub fn out_of_range(times: i64) -> bool
-    ensures { result ≡ outOfRange times }
+    ensures { result ≡ out_of_range times }
 {
     if 10000 < times {
         return true;

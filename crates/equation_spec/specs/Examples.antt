@@ -1,29 +1,29 @@
 -- Texts and their outcomes by computation. Assumes nothing.
 use Rattle.std.specs.Prelude.{ℕ, ◌≡◌, refl, List, [], ◌∷◌, ◌++◌, map, ℤ, pos, negsuc}
 use Prim.Native.String.{String}
-use Rattle.definitions.specs.Answers.{◌then◌, refuseWith, refuseFirst}
-use Rattle.texts.specs.Decimals.{bytes, lastDigits, decimal}
-use Rattle.texts.specs.Reading.{and_then, moreDigits, readNatural}
-use Rattle.equation_spec.specs.Meaning.{ofSum, coefficient, rightSide, sumDepth, sumExceeds}
-use Rattle.equation_spec.specs.Reader.{skip, onByte, onSign, readIndex, readFactor, afterNumeral, readTerm, moreTerms, firstTerm, readSum, closed}
-use Rattle.equation_spec.specs.Reader.{readBracket, rightOf, readEquation}
-use Rattle.equation_spec.specs.Scan.{onward, factorBegins, termBegins, sumBegins, afterDigits, afterFactor, step, placeFrom, place}
-use Rattle.equation_spec.specs.Outcome.{Outcome, accepted, refused, checked, list, limits, treeOutcome, outcome}
+use Rattle.definitions.specs.Answers.{◌then◌, refuse_with, refuse_first}
+use Rattle.texts.specs.Decimals.{bytes, last_digits, decimal}
+use Rattle.texts.specs.Reading.{and_then, more_digits, read_natural}
+use Rattle.equation_spec.specs.Meaning.{of_sum, coefficient, right_side, sum_depth, sum_exceeds}
+use Rattle.equation_spec.specs.Reader.{skip, on_byte, on_sign, read_index, read_factor, after_numeral, read_term, more_terms, first_term, read_sum, closed}
+use Rattle.equation_spec.specs.Reader.{read_bracket, right_of, read_equation}
+use Rattle.equation_spec.specs.Scan.{onward, factor_begins, term_begins, sum_begins, after_digits, after_factor, step, place_from, place}
+use Rattle.equation_spec.specs.Outcome.{Outcome, accepted, refused, checked, list, limits, tree_outcome, outcome}
 use Rattle.equation_spec.specs.Writing as writing
-use Rattle.equation_spec.specs.Writing.{laterTerms, terms, written, writeChecks, wrote, putOut, write}
+use Rattle.equation_spec.specs.Writing.{later_terms, terms, written, write_checks, wrote, put_out, write}
 
 -- a number of unknowns, a text, and what it comes to
 abbrev Case : Type 0
 Case = ℕ × String × Outcome
 
-asRead : List Case → List Outcome
-unfolding skip onByte onSign and_then moreDigits readNatural readIndex readFactor afterNumeral readTerm moreTerms firstTerm readSum closed readBracket rightOf
-    readEquation onward factorBegins termBegins sumBegins afterDigits afterFactor step placeFrom place ◌then◌ refuseWith refuseFirst coefficient rightSide ofSum
-    sumDepth sumExceeds checked list limits treeOutcome outcome
-asRead cases = map (λ (c : Case). outcome c.0 c.0 (bytes c.1)) cases
+as_read : List Case → List Outcome
+unfolding skip on_byte on_sign and_then more_digits read_natural read_index read_factor after_numeral read_term more_terms first_term read_sum closed read_bracket right_of
+    read_equation onward factor_begins term_begins sum_begins after_digits after_factor step place_from place ◌then◌ refuse_with refuse_first coefficient right_side of_sum
+    sum_depth sum_exceeds checked list limits tree_outcome outcome
+as_read cases = map (λ (c : Case). outcome c.0 c.0 (bytes c.1)) cases
 
-asSaid : List Case → List Outcome
-asSaid cases = map (λ (c : Case). c.2) cases
+as_said : List Case → List Outcome
+as_said cases = map (λ (c : Case). c.2) cases
 
 abbrev at : ℕ → Outcome
 at n = refused 16 (n ∷ [])
@@ -64,13 +64,13 @@ faults =
     ∷ (2, "x1", at 3)
     ∷ []
 
-cases-read : asRead cases ≡ asSaid cases
-unfolding asRead asSaid cases
-cases-read = refl
+cases_read : as_read cases ≡ as_said cases
+unfolding as_read as_said cases
+cases_read = refl
 
-faults-read : asRead faults ≡ asSaid faults
-unfolding asRead asSaid faults
-faults-read = refl
+faults_read : as_read faults ≡ as_said faults
+unfolding as_read as_said faults
+faults_read = refl
 
 -- ---- the writer
 
@@ -88,11 +88,11 @@ rows =
     ∷ []
 
 rows_written : map (λ (r : Row). written r.0 r.1) rows ≡ map (λ (r : Row). bytes r.2) rows
-unfolding rows lastDigits decimal laterTerms terms written
+unfolding rows last_digits decimal later_terms terms written
 rows_written = refl
 
 -- 2, 3, 7, 15, then 29; an exact fit is no 29, and what stands past the text stays
-calls-answered :
+calls_answered :
     write 17 [] (pos 0) [] ∷ write 2 (pos 99999 ∷ []) (pos 0) [] ∷ write 1 (pos 10001 ∷ []) (pos 10001) [] ∷ write 1 (pos 1 ∷ []) (negsuc 10000) []
     ∷ write 1 (pos 1 ∷ []) (pos 0) (1 ∷ 2 ∷ 3 ∷ 4 ∷ 5 ∷ []) ∷ write 1 (pos 1 ∷ []) (pos 0) (1 ∷ 2 ∷ 3 ∷ 4 ∷ 5 ∷ 6 ∷ [])
     ∷ write 1 (pos 1 ∷ []) (pos 0) (1 ∷ 2 ∷ 3 ∷ 4 ∷ 5 ∷ 6 ∷ 7 ∷ []) ∷ []
@@ -104,5 +104,5 @@ calls-answered :
     ∷ wrote 6 (bytes "x1 = 0")
     ∷ wrote 6 (bytes "x1 = 0" ++ (7 ∷ []))
     ∷ []
-unfolding ◌then◌ refuseWith refuseFirst lastDigits decimal laterTerms terms written writeChecks putOut write
-calls-answered = refl
+unfolding ◌then◌ refuse_with refuse_first last_digits decimal later_terms terms written write_checks put_out write
+calls_answered = refl

@@ -45,22 +45,22 @@ pub data Part : Type 0 where
 
 unfoldable mutual
   -- the parts of a sum, before the parts ps
-  pub sumParts : Sum → List Part → List Part
-  sumParts (one bare u) ps = termParts u ps
-  sumParts (one (led s) u) ps = sign s ∷ termParts u ps
-  sumParts (more e s u) ps = sumParts e (sign s ∷ termParts u ps)
+  pub sum_parts : Sum → List Part → List Part
+  sum_parts (one bare u) ps = term_parts u ps
+  sum_parts (one (led s) u) ps = sign s ∷ term_parts u ps
+  sum_parts (more e s u) ps = sum_parts e (sign s ∷ term_parts u ps)
 
-  pub termParts : Term → List Part → List Part
-  termParts (number n) ps = numeral n ∷ ps
-  termParts (plain f) ps = factorParts f ps
-  termParts (times n f) ps = numeral n ∷ star ∷ factorParts f ps
+  pub term_parts : Term → List Part → List Part
+  term_parts (number n) ps = numeral n ∷ ps
+  term_parts (plain f) ps = factor_parts f ps
+  term_parts (times n f) ps = numeral n ∷ star ∷ factor_parts f ps
 
-  pub factorParts : Factor → List Part → List Part
-  factorParts (unknown k) ps = variable k ∷ ps
-  factorParts (bracket e) ps = opening ∷ sumParts e (closing ∷ ps)
+  pub factor_parts : Factor → List Part → List Part
+  factor_parts (unknown k) ps = variable k ∷ ps
+  factor_parts (bracket e) ps = opening ∷ sum_parts e (closing ∷ ps)
 
 unfoldable pub parts : Equation → List Part
-parts e = sumParts e.left (equals ∷ sumParts e.right [])
+parts e = sum_parts e.left (equals ∷ sum_parts e.right [])
 
 -- ---- bytes
 
@@ -68,30 +68,30 @@ parts e = sumParts e.left (equals ∷ sumParts e.right [])
 abbrev pub letter : ℕ
 letter = 120
 
-abbrev pub starByte : ℕ
-starByte = 42
+abbrev pub star_byte : ℕ
+star_byte = 42
 
-abbrev pub openByte : ℕ
-openByte = 40
+abbrev pub open_byte : ℕ
+open_byte = 40
 
-abbrev pub closeByte : ℕ
-closeByte = 41
+abbrev pub close_byte : ℕ
+close_byte = 41
 
-abbrev pub equalsByte : ℕ
-equalsByte = 61
+abbrev pub equals_byte : ℕ
+equals_byte = 61
 
-abbrev pub signByte : Sign → ℕ
-signByte plus = 43
-signByte minus = 45
+abbrev pub sign_byte : Sign → ℕ
+sign_byte plus = 43
+sign_byte minus = 45
 
 abbrev pub bytes : Part → List ℕ
 bytes (numeral n) = decimal n
 bytes (variable k) = letter ∷ decimal k
-bytes (sign s) = signByte s ∷ []
-bytes star = starByte ∷ []
-bytes opening = openByte ∷ []
-bytes closing = closeByte ∷ []
-bytes equals = equalsByte ∷ []
+bytes (sign s) = sign_byte s ∷ []
+bytes star = star_byte ∷ []
+bytes opening = open_byte ∷ []
+bytes closing = close_byte ∷ []
+bytes equals = equals_byte ∷ []
 
 -- "A number has 1 to 5 digits, without leading zeros."; "an unknown x1 to x16", of which q are there
 abbrev pub Allowed : ℕ → Part → Type 0

@@ -3,24 +3,24 @@ use Rattle.std.specs.Prelude.{ℕ, zero, suc, max, cond, List, [], ◌∷◌, eq
 use Rattle.texts.specs.Decimals.{newline}
 
 -- how many bytes stand before the first newline, or before the end if there is none
-unfoldable pub lineLength : List ℕ → ℕ
-lineLength [] = 0
-lineLength (b ∷ t) = let others = lineLength t in cond (eqb b newline) 0 (suc others)
+unfoldable pub line_length : List ℕ → ℕ
+line_length [] = 0
+line_length (b ∷ t) = let others = line_length t in cond (eqb b newline) 0 (suc others)
 
 -- the first line, without its newline
 abbrev pub line_of : List ℕ → List ℕ
-line_of t = take (lineLength t) t
+line_of t = take (line_length t) t
 
 -- what stands after the first line and its newline
-abbrev pub afterLine : List ℕ → List ℕ
-afterLine t = drop (suc (lineLength t)) t
+abbrev pub after_line : List ℕ → List ℕ
+after_line t = drop (suc (line_length t)) t
 
 -- what stands after n lines
-unfoldable pub afterLines : ℕ → List ℕ → List ℕ
-afterLines zero t = t
-afterLines (suc n) t = afterLines n (afterLine t)
+unfoldable pub after_lines : ℕ → List ℕ → List ℕ
+after_lines zero t = t
+after_lines (suc n) t = after_lines n (after_line t)
 
 -- how many lines there are; what follows the last newline is one, if it is not empty
-unfoldable pub lineCount : List ℕ → ℕ
-lineCount [] = 0
-lineCount (b ∷ t) = let others = lineCount t in cond (eqb b newline) (suc others) (max 1 others)
+unfoldable pub line_count : List ℕ → ℕ
+line_count [] = 0
+line_count (b ∷ t) = let others = line_count t in cond (eqb b newline) (suc others) (max 1 others)

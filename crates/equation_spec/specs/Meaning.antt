@@ -1,6 +1,6 @@
 -- Request 3: the meaning of a reading, and the limits. Assumes nothing.
 use Rattle.std.specs.Prelude.{ℕ, suc, ◌*◌, max, Bool, false, cond, ◌||◌, eqb, ltb, ℤ, pos, neg_ℤ, ◌+ℤ◌, ◌-ℤ◌, ◌*ℤ◌}
-use Rattle.definitions.specs.System.{coefLimit}
+use Rattle.definitions.specs.System.{coef_limit}
 use Rattle.equation_spec.specs.Grammar.{Sign, plus, minus, Lead, bare, led, Sum, one, more, Term, number, plain, times, Factor, unknown, bracket}
 use Rattle.equation_spec.specs.Grammar.{Equation}
 
@@ -10,9 +10,9 @@ abbrev pub signed : Sign → ℤ → ℤ
 signed plus z = z
 signed minus z = neg_ℤ z
 
-abbrev pub ledBy : Lead → ℤ → ℤ
-ledBy bare z = z
-ledBy (led s) z = signed s z
+abbrev pub led_by : Lead → ℤ → ℤ
+led_by bare z = z
+led_by (led s) z = signed s z
 
 -- v at place k, 0 elsewhere
 abbrev pub single : ℕ → ℤ → ℕ → ℤ
@@ -20,56 +20,56 @@ single k v i = cond (eqb i k) v (pos 0)
 
 unfoldable mutual
   -- "Like unknowns are collected"
-  pub ofSum : Sum → ℕ → ℤ
-  ofSum (one l u) i = ledBy l (ofTerm u i)
-  ofSum (more e s u) i = ofSum e i +ℤ signed s (ofTerm u i)
+  pub of_sum : Sum → ℕ → ℤ
+  of_sum (one l u) i = led_by l (of_term u i)
+  of_sum (more e s u) i = of_sum e i +ℤ signed s (of_term u i)
 
-  pub ofTerm : Term → ℕ → ℤ
-  ofTerm (number n) i = single 0 (pos n) i
-  ofTerm (plain f) i = ofFactor f i
-  ofTerm (times n f) i = pos n *ℤ ofFactor f i
+  pub of_term : Term → ℕ → ℤ
+  of_term (number n) i = single 0 (pos n) i
+  of_term (plain f) i = of_factor f i
+  of_term (times n f) i = pos n *ℤ of_factor f i
 
-  pub ofFactor : Factor → ℕ → ℤ
-  ofFactor (unknown k) i = single k (pos 1) i
-  ofFactor (bracket e) i = ofSum e i
+  pub of_factor : Factor → ℕ → ℤ
+  of_factor (unknown k) i = single k (pos 1) i
+  of_factor (bracket e) i = of_sum e i
 
 -- the coefficient of unknown k, from 1: the left side less the right side
 unfoldable pub coefficient : Equation → ℕ → ℤ
-coefficient e k = ofSum e.left k -ℤ ofSum e.right k
+coefficient e k = of_sum e.left k -ℤ of_sum e.right k
 
 -- "constants go right"
-unfoldable pub rightSide : Equation → ℤ
-rightSide e = ofSum e.right 0 -ℤ ofSum e.left 0
+unfoldable pub right_side : Equation → ℤ
+right_side e = of_sum e.right 0 -ℤ of_sum e.left 0
 
 -- ---- limits
 
 unfoldable mutual
   -- how many brackets stand one in another
-  pub sumDepth : Sum → ℕ
-  sumDepth (one l u) = termDepth u
-  sumDepth (more e s u) = max (sumDepth e) (termDepth u)
+  pub sum_depth : Sum → ℕ
+  sum_depth (one l u) = term_depth u
+  sum_depth (more e s u) = max (sum_depth e) (term_depth u)
 
-  pub termDepth : Term → ℕ
-  termDepth (number n) = 0
-  termDepth (plain f) = factorDepth f
-  termDepth (times n f) = factorDepth f
+  pub term_depth : Term → ℕ
+  term_depth (number n) = 0
+  term_depth (plain f) = factor_depth f
+  term_depth (times n f) = factor_depth f
 
-  pub factorDepth : Factor → ℕ
-  factorDepth (unknown k) = 0
-  factorDepth (bracket e) = suc (sumDepth e)
+  pub factor_depth : Factor → ℕ
+  factor_depth (unknown k) = 0
+  factor_depth (bracket e) = suc (sum_depth e)
 
 unfoldable mutual
   -- "product of the multipliers around a bracket above 10,000", somewhere in a sum around which the product is m
-  pub sumExceeds : Sum → ℕ → Bool
-  sumExceeds (one l u) m = termExceeds u m
-  sumExceeds (more e s u) m = sumExceeds e m || termExceeds u m
+  pub sum_exceeds : Sum → ℕ → Bool
+  sum_exceeds (one l u) m = term_exceeds u m
+  sum_exceeds (more e s u) m = sum_exceeds e m || term_exceeds u m
 
-  pub termExceeds : Term → ℕ → Bool
-  termExceeds (number n) m = false
-  termExceeds (plain f) m = factorExceeds f m
-  termExceeds (times n f) m = factorExceeds f (m * n)
+  pub term_exceeds : Term → ℕ → Bool
+  term_exceeds (number n) m = false
+  term_exceeds (plain f) m = factor_exceeds f m
+  term_exceeds (times n f) m = factor_exceeds f (m * n)
 
   -- a factor with the product m of the multipliers before it and around it
-  pub factorExceeds : Factor → ℕ → Bool
-  factorExceeds (unknown k) m = false
-  factorExceeds (bracket e) m = ltb coefLimit m || sumExceeds e m
+  pub factor_exceeds : Factor → ℕ → Bool
+  factor_exceeds (unknown k) m = false
+  factor_exceeds (bracket e) m = ltb coef_limit m || sum_exceeds e m

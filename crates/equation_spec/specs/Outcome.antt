@@ -1,12 +1,12 @@
 -- Request 3: what reading a text comes to. Assumes nothing.
 use Rattle.std.specs.Prelude.{ℕ, zero, suc, not, ◌||◌, List, [], ◌∷◌, ltb, eqb, ℤ, length, max}
-use Rattle.definitions.specs.Answers.{Check, refuse, go, ◌then◌, refuseIf, refuseFirst}
-use Rattle.definitions.specs.System.{mostUnknowns}
-use Rattle.definitions.specs.Refusals.{between, outOfRange}
-use Rattle.texts.specs.Reading.{mostBytes, Parse, parsed, malformed}
+use Rattle.definitions.specs.Answers.{Check, refuse, go, ◌then◌, refuse_if, refuse_first}
+use Rattle.definitions.specs.System.{most_unknowns}
+use Rattle.definitions.specs.Refusals.{between, out_of_range}
+use Rattle.texts.specs.Reading.{most_bytes, Parse, parsed, malformed}
 use Rattle.equation_spec.specs.Grammar.{Equation}
-use Rattle.equation_spec.specs.Meaning.{coefficient, rightSide, sumDepth, sumExceeds}
-use Rattle.equation_spec.specs.Reader.{readEquation}
+use Rattle.equation_spec.specs.Meaning.{coefficient, right_side, sum_depth, sum_exceeds}
+use Rattle.equation_spec.specs.Reader.{read_equation}
 use Rattle.equation_spec.specs.Scan.{place}
 
 -- A row and its right side; or refused by the papers' number, with the values that it comes with (16: the byte place; 7: the place in the row).
@@ -19,8 +19,8 @@ checked (refuse n values) o = refused n values
 checked go o = o
 
 -- "at most eight deep"
-abbrev pub mostDepth : ℕ
-mostDepth = 8
+abbrev pub most_depth : ℕ
+most_depth = 8
 
 -- the values of f at k, k + 1, .., n of them
 unfoldable pub list : ℕ → ℕ → (ℕ → ℤ) → List ℤ
@@ -34,18 +34,18 @@ row q e = list q 1 (coefficient e)
 -- "then 17, deeper than eight; then 18, product of the multipliers around a bracket above 10,000; then 7 and 15"
 unfoldable pub limits : ℕ → Equation → Check
 limits q e =
-    refuseIf (ltb mostDepth (max (sumDepth e.left) (sumDepth e.right))) 17
-    then refuseIf (sumExceeds e.left 1 || sumExceeds e.right 1) 18
-    then refuseFirst 7 q (λ i. outOfRange (coefficient e (suc i)))
-    then refuseIf (outOfRange (rightSide e)) 15
+    refuse_if (ltb most_depth (max (sum_depth e.left) (sum_depth e.right))) 17
+    then refuse_if (sum_exceeds e.left 1 || sum_exceeds e.right 1) 18
+    then refuse_first 7 q (λ i. out_of_range (coefficient e (suc i)))
+    then refuse_if (out_of_range (right_side e)) 15
 
 -- "16, outside the grammar or an unknown above q, with the byte place"
-unfoldable pub treeOutcome : ℕ → List ℕ → Parse Equation → Outcome
-treeOutcome q t (parsed e r) = checked (limits q e) (accepted (row q e) (rightSide e))
-treeOutcome q t malformed = refused 16 (place q t ∷ [])
+unfoldable pub tree_outcome : ℕ → List ℕ → Parse Equation → Outcome
+tree_outcome q t (parsed e r) = checked (limits q e) (accepted (row q e) (right_side e))
+tree_outcome q t malformed = refused 16 (place q t ∷ [])
 
 -- "10, 2 and 3 come first": a text for q unknowns, into a row of n numbers
 unfoldable pub outcome : ℕ → ℕ → List ℕ → Outcome
 outcome q n t =
-    checked (refuseIf (ltb mostBytes (length t)) 10 then refuseIf (not (between 1 mostUnknowns q)) 2 then refuseIf (not (eqb n q)) 3)
-    (treeOutcome q t (readEquation q (length t) t))
+    checked (refuse_if (ltb most_bytes (length t)) 10 then refuse_if (not (between 1 most_unknowns q)) 2 then refuse_if (not (eqb n q)) 3)
+    (tree_outcome q t (read_equation q (length t) t))

@@ -1,30 +1,30 @@
 -- Systems of several lines, and what they come to, by computation. Assumes nothing.
 use Rattle.std.specs.Prelude.{ℕ, ◌≡◌, refl, List, [], ◌∷◌, map, pos, negsuc, replicate}
 use Prim.Native.String.{String}
-use Rattle.definitions.specs.Answers.{◌then◌, refuseWith, refuseFirst}
+use Rattle.definitions.specs.Answers.{◌then◌, refuse_with, refuse_first}
 use Rattle.texts.specs.Decimals.{bytes}
-use Rattle.texts.specs.Reading.{and_then, moreDigits, readNatural}
-use Rattle.equation_spec.specs.Meaning.{ofSum, coefficient, rightSide, sumDepth, sumExceeds}
-use Rattle.equation_spec.specs.Reader.{skip, onByte, onSign, readIndex, readFactor, afterNumeral, readTerm, moreTerms, firstTerm, readSum, closed}
-use Rattle.equation_spec.specs.Reader.{readBracket, rightOf, readEquation}
-use Rattle.equation_spec.specs.Scan.{onward, factorBegins, termBegins, sumBegins, afterDigits, afterFactor, step, placeFrom, place}
-use Rattle.equation_spec.specs.Outcome.{checked, list, limits, treeOutcome, outcome}
-use Rattle.equation_spec.specs.Lines.{lineLength, lineCount}
+use Rattle.texts.specs.Reading.{and_then, more_digits, read_natural}
+use Rattle.equation_spec.specs.Meaning.{of_sum, coefficient, right_side, sum_depth, sum_exceeds}
+use Rattle.equation_spec.specs.Reader.{skip, on_byte, on_sign, read_index, read_factor, after_numeral, read_term, more_terms, first_term, read_sum, closed}
+use Rattle.equation_spec.specs.Reader.{read_bracket, right_of, read_equation}
+use Rattle.equation_spec.specs.Scan.{onward, factor_begins, term_begins, sum_begins, after_digits, after_factor, step, place_from, place}
+use Rattle.equation_spec.specs.Outcome.{checked, list, limits, tree_outcome, outcome}
+use Rattle.equation_spec.specs.Lines.{line_length, line_count}
 use Rattle.equation_spec.specs.Systems.{
-  lineOutcome,
-  readLines,
+  line_outcome,
+  read_lines,
   Outcome,
   accepted,
   refused,
-  ofRows,
+  of_rows,
   unless,
-  systemChecks,
-  systemOutcome,
+  system_checks,
+  system_outcome,
   read,
-  handOut,
-  tableChecks,
-  handedOut,
-  readSystem,
+  hand_out,
+  table_checks,
+  handed_out,
+  read_system,
 }
 use Rattle.equation_spec.specs.Systems as systems
 
@@ -32,14 +32,14 @@ use Rattle.equation_spec.specs.Systems as systems
 abbrev Case : Type 0
 Case = ℕ × String × Outcome
 
-asRead : List Case → List Outcome
-unfolding skip onByte onSign and_then moreDigits readNatural readIndex readFactor afterNumeral readTerm moreTerms firstTerm readSum closed readBracket rightOf
-    readEquation onward factorBegins termBegins sumBegins afterDigits afterFactor step placeFrom place ◌then◌ refuseWith refuseFirst coefficient rightSide ofSum
-    sumDepth sumExceeds checked list limits treeOutcome outcome lineLength lineCount lineOutcome readLines ofRows unless systemChecks systemOutcome
-asRead cases = map (λ (c : Case). systemOutcome c.0 (bytes c.1)) cases
+as_read : List Case → List Outcome
+unfolding skip on_byte on_sign and_then more_digits read_natural read_index read_factor after_numeral read_term more_terms first_term read_sum closed read_bracket right_of
+    read_equation onward factor_begins term_begins sum_begins after_digits after_factor step place_from place ◌then◌ refuse_with refuse_first coefficient right_side of_sum
+    sum_depth sum_exceeds checked list limits tree_outcome outcome line_length line_count line_outcome read_lines of_rows unless system_checks system_outcome
+as_read cases = map (λ (c : Case). system_outcome c.0 (bytes c.1)) cases
 
-asSaid : List Case → List Outcome
-asSaid cases = map (λ (c : Case). c.2) cases
+as_said : List Case → List Outcome
+as_said cases = map (λ (c : Case). c.2) cases
 
 cases : List Case
 cases =
@@ -66,23 +66,23 @@ cases =
     ∷ (2, "x1=10001\n", refused 15 (1 ∷ []))
     ∷ []
 
-cases-read : asRead cases ≡ asSaid cases
-unfolding asRead asSaid cases
-cases-read = refl
+cases_read : as_read cases ≡ as_said cases
+unfolding as_read as_said cases
+cases_read = refl
 
-long : systemOutcome 1 (replicate 4097 10) ≡ refused 10 []
-unfolding asRead
+long : system_outcome 1 (replicate 4097 10) ≡ refused 10 []
+unfolding as_read
 long = refl
 
 -- both tables are written from their beginnings; 29 where one is too short, and nothing is written then
 tables :
-    readSystem 1 (bytes "x1=2\n3*x1=-4\n") (pos 9 ∷ pos 9 ∷ pos 9 ∷ []) (pos 8 ∷ pos 8 ∷ [])
-    ∷ readSystem 1 (bytes "x1=2\n3*x1=-4\n") (pos 9 ∷ []) (pos 8 ∷ pos 8 ∷ []) ∷ readSystem 1 (bytes "x1=2\n3*x1=-4\n") (pos 9 ∷ pos 9 ∷ []) (pos 8 ∷ [])
-    ∷ readSystem 1 (bytes "x1=2\n3*x1=-4") [] [] ∷ []
+    read_system 1 (bytes "x1=2\n3*x1=-4\n") (pos 9 ∷ pos 9 ∷ pos 9 ∷ []) (pos 8 ∷ pos 8 ∷ [])
+    ∷ read_system 1 (bytes "x1=2\n3*x1=-4\n") (pos 9 ∷ []) (pos 8 ∷ pos 8 ∷ []) ∷ read_system 1 (bytes "x1=2\n3*x1=-4\n") (pos 9 ∷ pos 9 ∷ []) (pos 8 ∷ [])
+    ∷ read_system 1 (bytes "x1=2\n3*x1=-4") [] [] ∷ []
     ≡ read 2 (pos 1 ∷ pos 3 ∷ pos 9 ∷ []) (pos 2 ∷ negsuc 3 ∷ [])
     ∷ systems.refused 29 [] (pos 9 ∷ []) (pos 8 ∷ pos 8 ∷ [])
     ∷ systems.refused 29 [] (pos 9 ∷ pos 9 ∷ []) (pos 8 ∷ [])
     ∷ systems.refused 9 (2 ∷ []) [] []
     ∷ []
-unfolding asRead handOut tableChecks handedOut readSystem
+unfolding as_read hand_out table_checks handed_out read_system
 tables = refl

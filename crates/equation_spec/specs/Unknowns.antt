@@ -3,7 +3,7 @@ use Rattle.std.specs.Prelude.{ℕ, ◌≤◌}
 use mathlib.Core.List.{List, [], ◌∷◌}
 use Rattle.std.proofs.Common.{arith}
 use Rattle.equation_spec.specs.Grammar.{bare, led, Sum, one, more, Term, number, plain, times, Factor, unknown, bracket, Equation, Part, sign, closing}
-use Rattle.equation_spec.specs.Grammar.{equals, sumParts, termParts, factorParts, parts, Spells, Reads}
+use Rattle.equation_spec.specs.Grammar.{equals, sum_parts, term_parts, factor_parts, parts, Spells, Reads}
 use Rattle.equation_spec.specs.PartLaws.{first}
 
 unfoldable mutual
@@ -28,39 +28,39 @@ record Left (q : ℕ) (P : Type 0) (ps : List Part) : Type 0 where
 
 module _ (q n : ℕ) (l : q ≤ n) where
   mutual
-    unfolding sumParts SumUpTo
+    unfolding sum_parts SumUpTo
 
-    sum-upto : (e : Sum) (ps : List Part) (t : List ℕ) → Spells q (sumParts e ps) t → Left q (SumUpTo e n) ps
-    sum-upto (one bare u) ps t s = let a = term-upto u ps t s in record { holds = a.holds; rest = a.rest; spells = a.spells }
-    sum-upto (one (led g) u) ps t s = let i = first s in let a = term-upto u ps i.rest i.spells in
+    sum_upto : (e : Sum) (ps : List Part) (t : List ℕ) → Spells q (sum_parts e ps) t → Left q (SumUpTo e n) ps
+    sum_upto (one bare u) ps t s = let a = term_upto u ps t s in record { holds = a.holds; rest = a.rest; spells = a.spells }
+    sum_upto (one (led g) u) ps t s = let i = first s in let a = term_upto u ps i.rest i.spells in
         record { holds = a.holds; rest = a.rest; spells = a.spells }
-    sum-upto (more e g u) ps t s =
-        let c = sum-upto e (sign g ∷ termParts u ps) t s in
+    sum_upto (more e g u) ps t s =
+        let c = sum_upto e (sign g ∷ term_parts u ps) t s in
         let i = first c.spells in
-        let a = term-upto u ps i.rest i.spells in
+        let a = term_upto u ps i.rest i.spells in
         record { holds = (c.holds, a.holds); rest = a.rest; spells = a.spells }
 
-    term-upto : (u : Term) (ps : List Part) (t : List ℕ) → Spells q (termParts u ps) t → Left q (TermUpTo u n) ps
-    term-upto (number m) ps t s = let i = first s in record { holds = tt; rest = i.rest; spells = i.spells }
-    term-upto (plain f) ps t s = let a = factor-upto f ps t s in record { holds = a.holds; rest = a.rest; spells = a.spells }
-    term-upto (times m f) ps t s =
+    term_upto : (u : Term) (ps : List Part) (t : List ℕ) → Spells q (term_parts u ps) t → Left q (TermUpTo u n) ps
+    term_upto (number m) ps t s = let i = first s in record { holds = tt; rest = i.rest; spells = i.spells }
+    term_upto (plain f) ps t s = let a = factor_upto f ps t s in record { holds = a.holds; rest = a.rest; spells = a.spells }
+    term_upto (times m f) ps t s =
         let i = first s in
         let j = first i.spells in
-        let a = factor-upto f ps j.rest j.spells in
+        let a = factor_upto f ps j.rest j.spells in
         record { holds = a.holds; rest = a.rest; spells = a.spells }
 
-    factor-upto : (f : Factor) (ps : List Part) (t : List ℕ) → Spells q (factorParts f ps) t → Left q (FactorUpTo f n) ps
-    factor-upto (unknown k) ps t s = let i = first s in record { holds = omega (arith, i.allowed.1); rest = i.rest; spells = i.spells }
-    factor-upto (bracket e) ps t s =
+    factor_upto : (f : Factor) (ps : List Part) (t : List ℕ) → Spells q (factor_parts f ps) t → Left q (FactorUpTo f n) ps
+    factor_upto (unknown k) ps t s = let i = first s in record { holds = omega (arith, i.allowed.1); rest = i.rest; spells = i.spells }
+    factor_upto (bracket e) ps t s =
         let i = first s in
-        let c = sum-upto e (closing ∷ ps) i.rest i.spells in
+        let c = sum_upto e (closing ∷ ps) i.rest i.spells in
         let j = first c.spells in
         record { holds = c.holds; rest = j.rest; spells = j.spells }
 
-  pub reads-upto : (e : Equation) (t : List ℕ) → Reads q e t → SumUpTo e.left n × SumUpTo e.right n
+  pub reads_upto : (e : Equation) (t : List ℕ) → Reads q e t → SumUpTo e.left n × SumUpTo e.right n
   unfolding parts
-  reads-upto e t r =
-      let a = sum-upto e.left (equals ∷ sumParts e.right []) t r.spells in
+  reads_upto e t r =
+      let a = sum_upto e.left (equals ∷ sum_parts e.right []) t r.spells in
       let i = first a.spells in
-      let c = sum-upto e.right [] i.rest i.spells in
+      let c = sum_upto e.right [] i.rest i.spells in
       (a.holds, c.holds)

@@ -1,30 +1,30 @@
 -- When a row is refused as an equation to write, as rules in the papers' words and order, and that the writer's checks render them. Assumes nothing.
 use Rattle.std.specs.Prelude.{ℕ, ◌<◌, List, ◌≢◌, ltb, ℤ, pos, nat_abs, length, get_or}
 use Rattle.std.proofs.Common.{ltb→lt, lt→ltb}
-use Rattle.definitions.specs.Refusals.{outOfRange}
-use Rattle.definitions.specs.System.{mostUnknowns, coefLimit}
-use Rattle.laws.specs.CheckLaws.{Rules, ◌▹◌, end, placed, rule, Renders, decides-first, decides-if, renders-last, renders-then}
-use Rattle.laws.specs.RefusalLaws.{Outside, decides-outside, decides-unequal}
-use Rattle.equation_spec.specs.Writing.{written, writeChecks}
+use Rattle.definitions.specs.Refusals.{out_of_range}
+use Rattle.definitions.specs.System.{most_unknowns, coef_limit}
+use Rattle.laws.specs.CheckLaws.{Rules, ◌▹◌, end, placed, rule, Renders, decides_first, decides_if, renders_last, renders_then}
+use Rattle.laws.specs.RefusalLaws.{Outside, decides_outside, decides_unequal}
+use Rattle.equation_spec.specs.Writing.{written, write_checks}
 
 -- "The writer gives 2, 3, 7, 15, then 29, output space too short.": a row for q unknowns, into so many bytes
-abbrev pub writeRules : ℕ → List ℤ → ℤ → ℕ → Rules
-writeRules q row right bytes =
-    rule 2 (Outside 1 mostUnknowns q)
+abbrev pub write_rules : ℕ → List ℤ → ℤ → ℕ → Rules
+write_rules q row right bytes =
+    rule 2 (Outside 1 most_unknowns q)
     ▹ rule 3 (length row ≢ q)
-    ▹ placed 7 (length row) (λ i. coefLimit < nat_abs (get_or row i (pos 0)))
-    ▹ rule 15 (coefLimit < nat_abs right)
+    ▹ placed 7 (length row) (λ i. coef_limit < nat_abs (get_or row i (pos 0)))
+    ▹ rule 15 (coef_limit < nat_abs right)
     ▹ rule 29 (bytes < length (written row right))
     ▹ end
 
 -- Each refusal is given in its case, in this order, and in no other; a row that is in no case is written.
-pub write-renders : (q : ℕ) (row : List ℤ) (right : ℤ) (bytes : ℕ) → Renders (writeChecks q row right bytes) (writeRules q row right bytes)
-unfolding writeChecks
-write-renders q row right bytes =
-    renders-then (decides-outside 2 1 mostUnknowns q)
-    (renders-then (decides-unequal 3 (length row) q)
-    (renders-then (decides-first 7 (length row) (λ i. outOfRange (get_or row i (pos 0))) _ (λ i l. ltb→lt coefLimit (nat_abs (get_or row i (pos 0))))
-    (λ i l. lt→ltb coefLimit (nat_abs (get_or row i (pos 0)))))
-    (renders-then (decides-if (outOfRange right) 15 _ (ltb→lt coefLimit (nat_abs right)) (lt→ltb coefLimit (nat_abs right)))
-    (renders-last (decides-if (ltb bytes (length (written row right))) 29 _ (ltb→lt bytes (length (written row right)))
+pub write_renders : (q : ℕ) (row : List ℤ) (right : ℤ) (bytes : ℕ) → Renders (write_checks q row right bytes) (write_rules q row right bytes)
+unfolding write_checks
+write_renders q row right bytes =
+    renders_then (decides_outside 2 1 most_unknowns q)
+    (renders_then (decides_unequal 3 (length row) q)
+    (renders_then (decides_first 7 (length row) (λ i. out_of_range (get_or row i (pos 0))) _ (λ i l. ltb→lt coef_limit (nat_abs (get_or row i (pos 0))))
+    (λ i l. lt→ltb coef_limit (nat_abs (get_or row i (pos 0)))))
+    (renders_then (decides_if (out_of_range right) 15 _ (ltb→lt coef_limit (nat_abs right)) (lt→ltb coef_limit (nat_abs right)))
+    (renders_last (decides_if (ltb bytes (length (written row right))) 29 _ (ltb→lt bytes (length (written row right)))
     (lt→ltb bytes (length (written row right))))))))

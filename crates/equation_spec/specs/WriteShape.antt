@@ -4,8 +4,8 @@ use Rattle.std.specs.Prelude.{◌≡◌, refl, ◌≢◌, List, [], ◌∷◌, �
 use Rattle.std.proofs.Common.{ap, arith}
 use Rattle.texts.specs.Decimals.{decimal, space}
 use Rattle.texts.specs.Decimals as texts
-use Rattle.equation_spec.specs.Grammar.{equalsByte, letter, minus, plus, signByte}
-use Rattle.equation_spec.specs.Writing.{laterTerms, multiple, spacedSign, terms, written}
+use Rattle.equation_spec.specs.Grammar.{equals_byte, letter, minus, plus, sign_byte}
+use Rattle.equation_spec.specs.Writing.{later_terms, multiple, spaced_sign, terms, written}
 
 -- the coefficients from unknown k on, and which of them are written, with their unknowns: those that are not zero, "unknowns rising"
 pub data Terms : ℕ → List ℤ → List (ℕ × ℤ) → Type 0 where
@@ -14,27 +14,27 @@ pub data Terms : ℕ → List ℤ → List (ℕ × ℤ) → Type 0 where
   put : {k : ℕ} {z : ℤ} {row : List ℤ} {ts : List (ℕ × ℤ)} → z ≢ pos 0 → Terms (suc k) row ts → Terms k (z ∷ row) ((k, z) ∷ ts)
 
 -- the sign of a term: of the first only a minus, of a later one with spaces around it
-abbrev pub leadSign : ℤ → List ℕ
-leadSign (pos n) = []
-leadSign (negsuc n) = signByte minus ∷ []
+abbrev pub lead_sign : ℤ → List ℕ
+lead_sign (pos n) = []
+lead_sign (negsuc n) = sign_byte minus ∷ []
 
-abbrev pub laterSign : ℤ → List ℕ
-laterSign (pos n) = spacedSign plus
-laterSign (negsuc n) = spacedSign minus
+abbrev pub later_sign : ℤ → List ℕ
+later_sign (pos n) = spaced_sign plus
+later_sign (negsuc n) = spaced_sign minus
 
-unfoldable pub laterText : List (ℕ × ℤ) → List ℕ
-laterText [] = []
-laterText ((k, z) ∷ ts) = (laterSign z ++ multiple (nat_abs z) k) ++ laterText ts
+unfoldable pub later_text : List (ℕ × ℤ) → List ℕ
+later_text [] = []
+later_text ((k, z) ∷ ts) = (later_sign z ++ multiple (nat_abs z) k) ++ later_text ts
 
-unfoldable pub leftText : List (ℕ × ℤ) → List ℕ
-leftText [] = decimal 0
-leftText ((k, z) ∷ ts) = (leadSign z ++ multiple (nat_abs z) k) ++ laterText ts
+unfoldable pub left_text : List (ℕ × ℤ) → List ℕ
+left_text [] = decimal 0
+left_text ((k, z) ∷ ts) = (lead_sign z ++ multiple (nat_abs z) k) ++ later_text ts
 
 pub record Shape (row : List ℤ) (right : ℤ) : Type 0 where
-  pub put-down : List (ℕ × ℤ)
-  pub are : Terms 1 row put-down
-  pub no-one-times : (k : ℕ) → multiple 1 k ≡ letter ∷ decimal k
-  pub is : written row right ≡ leftText put-down ++ (space ∷ equalsByte ∷ space ∷ texts.numeral right)
+  pub put_down : List (ℕ × ℤ)
+  pub are : Terms 1 row put_down
+  pub no_one_times : (k : ℕ) → multiple 1 k ≡ letter ∷ decimal k
+  pub is : written row right ≡ left_text put_down ++ (space ∷ equals_byte ∷ space ∷ texts.numeral right)
 
 -- ---- it is so
 
@@ -44,39 +44,39 @@ kept k (pos zero ∷ row) = kept (suc k) row
 kept k (pos (suc n) ∷ row) = (k, pos (suc n)) ∷ kept (suc k) row
 kept k (negsuc n ∷ row) = (k, negsuc n) ∷ kept (suc k) row
 
-some-pos : (n : ℕ) → pos (suc n) ≢ pos 0
-some-pos n e = let z : suc n ≡ 0 = ap nat_abs e in omega arith
+some_pos : (n : ℕ) → pos (suc n) ≢ pos 0
+some_pos n e = let z : suc n ≡ 0 = ap nat_abs e in omega arith
 
-some-negative : (n : ℕ) → negsuc n ≢ pos 0
-some-negative n e = let z : suc n ≡ 0 = ap nat_abs e in omega arith
+some_negative : (n : ℕ) → negsuc n ≢ pos 0
+some_negative n e = let z : suc n ≡ 0 = ap nat_abs e in omega arith
 
-are-kept : (k : ℕ) (row : List ℤ) → Terms k row (kept k row)
+are_kept : (k : ℕ) (row : List ℤ) → Terms k row (kept k row)
 unfolding kept
-are-kept k [] = end
-are-kept k (pos zero ∷ row) = left_out (are-kept (suc k) row)
-are-kept k (pos (suc n) ∷ row) = put (some-pos n) (are-kept (suc k) row)
-are-kept k (negsuc n ∷ row) = put (some-negative n) (are-kept (suc k) row)
+are_kept k [] = end
+are_kept k (pos zero ∷ row) = left_out (are_kept (suc k) row)
+are_kept k (pos (suc n) ∷ row) = put (some_pos n) (are_kept (suc k) row)
+are_kept k (negsuc n ∷ row) = put (some_negative n) (are_kept (suc k) row)
 
-later-is : (k : ℕ) (row : List ℤ) → laterTerms k row ≡ laterText (kept k row)
-unfolding kept laterTerms laterText
-later-is k [] = refl
-later-is k (pos zero ∷ row) = later-is (suc k) row
-later-is k (pos (suc n) ∷ row) = ap (λ t. (spacedSign plus ++ multiple (suc n) k) ++ t) (later-is (suc k) row)
-later-is k (negsuc n ∷ row) = ap (λ t. (spacedSign minus ++ multiple (suc n) k) ++ t) (later-is (suc k) row)
+later_is : (k : ℕ) (row : List ℤ) → later_terms k row ≡ later_text (kept k row)
+unfolding kept later_terms later_text
+later_is k [] = refl
+later_is k (pos zero ∷ row) = later_is (suc k) row
+later_is k (pos (suc n) ∷ row) = ap (λ t. (spaced_sign plus ++ multiple (suc n) k) ++ t) (later_is (suc k) row)
+later_is k (negsuc n ∷ row) = ap (λ t. (spaced_sign minus ++ multiple (suc n) k) ++ t) (later_is (suc k) row)
 
-left_is : (k : ℕ) (row : List ℤ) → terms k row ≡ leftText (kept k row)
-unfolding kept terms leftText
+left_is : (k : ℕ) (row : List ℤ) → terms k row ≡ left_text (kept k row)
+unfolding kept terms left_text
 left_is k [] = refl
 left_is k (pos zero ∷ row) = left_is (suc k) row
-left_is k (pos (suc n) ∷ row) = ap (λ t. multiple (suc n) k ++ t) (later-is (suc k) row)
-left_is k (negsuc n ∷ row) = ap (λ t. (signByte minus ∷ multiple (suc n) k) ++ t) (later-is (suc k) row)
+left_is k (pos (suc n) ∷ row) = ap (λ t. multiple (suc n) k ++ t) (later_is (suc k) row)
+left_is k (negsuc n ∷ row) = ap (λ t. (sign_byte minus ∷ multiple (suc n) k) ++ t) (later_is (suc k) row)
 
-pub written-shape : (row : List ℤ) (right : ℤ) → Shape row right
+pub written_shape : (row : List ℤ) (right : ℤ) → Shape row right
 unfolding written
-written-shape row right =
+written_shape row right =
     record {
-      put-down = kept 1 row;
-      are = are-kept 1 row;
-      no-one-times = λ k. refl;
-      is = ap (λ t. t ++ (space ∷ equalsByte ∷ space ∷ texts.numeral right)) (left_is 1 row);
+      put_down = kept 1 row;
+      are = are_kept 1 row;
+      no_one_times = λ k. refl;
+      is = ap (λ t. t ++ (space ∷ equals_byte ∷ space ∷ texts.numeral right)) (left_is 1 row);
     }

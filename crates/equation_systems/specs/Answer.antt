@@ -1,7 +1,7 @@
 -- What reading a system answers and leaves, as the papers have it, and what the private functions ask. Assumes nothing.
 use Rattle.std.specs.Prelude.{ℕ, ◌≤◌, List, [], ◌∷◌, ℤ}
 use Rattle.equation_spec.specs.Systems as form
-use Rattle.equation_spec.specs.Systems.{Rows, rows, refusedAt}
+use Rattle.equation_spec.specs.Systems.{Rows, rows, refused_at}
 use Rattle.equation_read.specs.Answer as equation
 use Rattle.equation_systems.specs.declared.SystemRead.{SystemRead}
 use Rattle.equation_systems.specs.declared.SystemRead.TheVariants.{System, Refused}
@@ -38,13 +38,13 @@ answer_of (Refused why) coefs rights = form.refused (number_of why) (values_of w
 
 abbrev pub rows_by : coded.Lines → List ℤ → List ℤ → Rows
 rows_by all.Read zs rs = rows zs rs
-rows_by (all.Newline n) zs rs = refusedAt n 9 []
-rows_by (all.Refused n why) zs rs = refusedAt n (equation.number_of why) (equation.values_of why)
+rows_by (all.Newline n) zs rs = refused_at n 9 []
+rows_by (all.Refused n why) zs rs = refused_at n (equation.number_of why) (equation.values_of why)
 
 -- line n
 abbrev pub row_by : ℕ → codedRow.Row → List ℤ → List ℤ → Rows
 row_by n single.Read zs rs = rows zs rs
-row_by n (single.Refused why) zs rs = refusedAt n (equation.number_of why) (equation.values_of why)
+row_by n (single.Refused why) zs rs = refused_at n (equation.number_of why) (equation.values_of why)
 
 -- p and q are in range, and the tables are long enough for every system
 pub record Shape (p q coefs rights : ℕ) : Type 0 where

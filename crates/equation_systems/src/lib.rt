@@ -1,6 +1,6 @@
 // A system typed as several lines: reading it.
 ghost use Rattle.std.specs.Prelude.{◌≡◌, [], ◌≤◌};
-ghost use Rattle.equation_spec.specs.Systems.{readLines, ofRows, accepted, handedOut, readSystem};
+ghost use Rattle.equation_spec.specs.Systems.{read_lines, of_rows, accepted, handed_out, read_system};
 ghost use Rattle.equation_systems.specs.Answer.{answer_of};
 
 use crate::lines::Lines;
@@ -30,7 +30,7 @@ pub enum SystemRead {
 // Reads the system that `text` writes for `q` unknowns, one equation a line. Its coefficients go to the beginning of `coefs`, row by row, and its right sides
 // to the beginning of `rights`.
 pub fn read_system(text: &[u8], q: usize, coefs: &mut [i32], rights: &mut [i32]) -> SystemRead
-    ensures { answer_of result coefs.new rights.new ≡ readSystem q text.now coefs.old rights.old }
+    ensures { answer_of result coefs.new rights.new ≡ read_system q text.now coefs.old rights.old }
 {
     if 4096 < text.len() {
         return SystemRead::Refused(SystemRefusal::Length);
@@ -61,7 +61,7 @@ fn read_equations(
 ) -> SystemRead
     requires { (p ≤ 8) × (q ≤ 16) }
     ensures { answer_of result coefs.new rights.new
-        ≡ handedOut (ofRows p (readLines p q 1 [] [] text.now)) coefs.old rights.old }
+        ≡ handed_out (of_rows p (read_lines p q 1 [] [] text.now)) coefs.old rights.old }
 {
     let mut found = [0i32; 128];
     let mut sides = [0i32; 8];
@@ -84,7 +84,7 @@ fn hand_out(
     rights: &mut [i32],
 ) -> SystemRead
     ensures { answer_of result coefs.new rights.new
-        ≡ handedOut (accepted p found.now sides.now) coefs.old rights.old }
+        ≡ handed_out (accepted p found.now sides.now) coefs.old rights.old }
 {
     if coefs.len() < found.len() {
         return SystemRead::Refused(SystemRefusal::Tables);

@@ -1,8 +1,8 @@
 // Lines of a text, and the equation on each.
 ghost use Rattle.std.specs.Prelude.{◌≡◌, [], ◌+◌, ◌*◌, ◌≤◌, ◌<◌, length, take, drop};
 ghost use Rattle.equation_spec.specs.Outcome.{outcome};
-ghost use Rattle.equation_spec.specs.Lines.{lineLength, lineCount};
-ghost use Rattle.equation_spec.specs.Systems.{rows, atLine, readLines};
+ghost use Rattle.equation_spec.specs.Lines.{line_length, line_count};
+ghost use Rattle.equation_spec.specs.Systems.{rows, at_line, read_lines};
 ghost use Rattle.equation_systems.specs.Answer.{rows_by, row_by, Shape};
 
 use equation_read::equation::{EquationRead, EquationRefusal, read_equation};
@@ -24,7 +24,7 @@ pub enum Row {
 
 // How many lines the text has.
 pub fn count(text: &[u8]) -> usize
-    ensures { result ≡ lineCount text.now }
+    ensures { result ≡ line_count text.now }
 {
     let mut n = 0;
     let mut i = text.len();
@@ -44,7 +44,7 @@ pub fn count(text: &[u8]) -> usize
 // The place of the first newline from place `at` on, or that after the text.
 pub fn line_end(text: &[u8], at: usize) -> usize
     requires { at ≤ length text.now }
-    ensures { (result ≡ at + lineLength (drop at text.now)) × (result ≤ length text.now) }
+    ensures { (result ≡ at + line_length (drop at text.now)) × (result ≤ length text.now) }
 {
     let mut end = at;
     while end < text.len() {
@@ -59,7 +59,7 @@ pub fn line_end(text: &[u8], at: usize) -> usize
 // The first `p` lines, equations in `q` unknowns. The coefficients go to the beginning of `coefs`, row by row, the right sides to that of `rights`.
 pub fn read_lines(text: &[u8], p: usize, q: usize, coefs: &mut [i32], rights: &mut [i32]) -> Lines
     requires { Shape p q (length coefs.old) (length rights.old) }
-    ensures { rows_by result (take (p * q) coefs.new) (take p rights.new) ≡ readLines p q 1 [] [] text.now }
+    ensures { rows_by result (take (p * q) coefs.new) (take p rights.new) ≡ read_lines p q 1 [] [] text.now }
 {
     let mut at = 0;
     let mut i = 0;
@@ -85,7 +85,7 @@ pub fn read_lines(text: &[u8], p: usize, q: usize, coefs: &mut [i32], rights: &m
 fn read_row(line: &[u8], q: usize, i: usize, coefs: &mut [i32], rights: &mut [i32]) -> Row
     requires { (i * q + q ≤ length coefs.old) × (i < length rights.old) }
     ensures { row_by (i + 1) result (take (i * q + q) coefs.new) (take (i + 1) rights.new)
-        ≡ atLine (i + 1) (take (i * q) coefs.old) (take i rights.old) (outcome q q line.now) rows }
+        ≡ at_line (i + 1) (take (i * q) coefs.old) (take i rights.old) (outcome q q line.now) rows }
 {
     let base = i * q;
     match read_equation(line, q, &mut coefs[base..base + q]) {

@@ -6,8 +6,8 @@ use Rattle.equation_write.specs.declared.EquationWritten.{EquationWritten}
 use Rattle.equation_write.specs.declared.EquationWritten.TheVariants.{Written, Refused, RightSide, Space}
 
 -- an answer, with the space as it is left: 2, 3 and 7 by their numbers, and 15 and 29
-abbrev pub wroteBy : EquationWritten → List ℕ → Wrote
-wroteBy (Written n) out = wrote n out
-wroteBy (Refused why) out = refused (number_of why) (values_of why) out
-wroteBy RightSide out = refused 15 [] out
-wroteBy Space out = refused 29 [] out
+abbrev pub wrote_by : EquationWritten → List ℕ → Wrote
+wrote_by (Written n) out = wrote n out
+wrote_by (Refused why) out = refused (number_of why) (values_of why) out
+wrote_by RightSide out = refused 15 [] out
+wrote_by Space out = refused 29 [] out

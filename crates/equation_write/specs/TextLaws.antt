@@ -6,33 +6,33 @@ use Rattle.std.proofs.Math.Numerals.{add-one}
 use Rattle.std.specs.Int.Signed.{lt_z}
 use Rattle.texts.specs.Decimals.{decimal}
 use Rattle.std.specs.Int.{w32}
-use Rattle.linear.specs.Integers.{sfits-natAbs}
-use Rattle.equation_spec.specs.WriteLaws.{multiple-short}
-use Rattle.equation_spec.specs.Writing.{multiple, laterTerms, terms}
-use Rattle.equation_write.specs.Texts.{leadText, isNegative, termText, restText}
+use Rattle.linear.specs.Integers.{sfits_nat_abs}
+use Rattle.equation_spec.specs.WriteLaws.{multiple_short}
+use Rattle.equation_spec.specs.Writing.{multiple, later_terms, terms}
+use Rattle.equation_write.specs.Texts.{lead_text, is_negative, term_text, rest_text}
 
-pub multiple-one : (m k : ℕ) → m ≡ 1 → multiple m k ≡ 120 ∷ decimal k
-multiple-one m k e = rw e
+pub multiple_one : (m k : ℕ) → m ≡ 1 → multiple m k ≡ 120 ∷ decimal k
+multiple_one m k e = rw e
 
-pub multiple-many : (m k : ℕ) → 1 ≤ m → (m ≡ 1 → ⊥) → multiple m k ≡ decimal m ++ (42 ∷ 120 ∷ decimal k)
-multiple-many zero k l e = absurd (omega arith)
-multiple-many (suc zero) k l e = absurd (e refl)
-multiple-many (suc (suc m)) k l e = refl
+pub multiple_many : (m k : ℕ) → 1 ≤ m → (m ≡ 1 → ⊥) → multiple m k ≡ decimal m ++ (42 ∷ 120 ∷ decimal k)
+multiple_many zero k l e = absurd (omega arith)
+multiple_many (suc zero) k l e = absurd (e refl)
+multiple_many (suc (suc m)) k l e = refl
 
-pub lead-short : (a b : Bool) → length (leadText a b) ≤ 3
-lead-short true true = omega arith
-lead-short true false = omega arith
-lead-short false true = omega arith
-lead-short false false = omega arith
+pub lead_short : (a b : Bool) → length (lead_text a b) ≤ 3
+lead_short true true = omega arith
+lead_short true false = omega arith
+lead_short false true = omega arith
+lead_short false false = omega arith
 
-pub negative-is : (z : ℤ) → lt_z z (pos 0) ≡ isNegative z
-negative-is (pos n) = le-ltb n 0 (omega arith)
-negative-is (negsuc n) = refl
+pub negative_is : (z : ℤ) → lt_z z (pos 0) ≡ is_negative z
+negative_is (pos n) = le-ltb n 0 (omega arith)
+negative_is (negsuc n) = refl
 
 -- ---- what is left to write, by the next coefficient
 
-by_sign : (first : Bool) (z : ℤ) (k : ℕ) (zs : List ℤ) → (z ≡ pos 0 → ⊥) → restText first k (z ∷ zs) ≡ termText first z k ++ laterTerms (suc k) zs
-unfolding terms laterTerms
+by_sign : (first : Bool) (z : ℤ) (k : ℕ) (zs : List ℤ) → (z ≡ pos 0 → ⊥) → rest_text first k (z ∷ zs) ≡ term_text first z k ++ later_terms (suc k) zs
+unfolding terms later_terms
 by_sign first (pos zero) k zs h = absurd (h refl)
 by_sign true (pos (suc n)) k zs h = refl
 by_sign true (negsuc n) k zs h = refl
@@ -40,27 +40,27 @@ by_sign false (pos (suc n)) k zs h = refl
 by_sign false (negsuc n) k zs h = refl
 
 module _ (row : List ℤ) (i : ℕ) (l : i < length row) where
-  next-is : drop i row ≡ get_or row i (pos 0) ∷ drop (i + 1) row
-  next-is = rw (add-one, drop-cons row i (pos 0))
+  next_is : drop i row ≡ get_or row i (pos 0) ∷ drop (i + 1) row
+  next_is = rw (add-one, drop-cons row i (pos 0))
 
-  pub rest-zero : (first : Bool) → get_or row i (pos 0) ≡ pos 0 → restText first (i + 1) (drop i row) ≡ restText first (i + 1 + 1) (drop (i + 1) row)
-  unfolding terms laterTerms
-  rest-zero true e = rw (next-is, e, add-one (i + 1))
-  rest-zero false e = rw (next-is, e, add-one (i + 1))
+  pub rest_zero : (first : Bool) → get_or row i (pos 0) ≡ pos 0 → rest_text first (i + 1) (drop i row) ≡ rest_text first (i + 1 + 1) (drop (i + 1) row)
+  unfolding terms later_terms
+  rest_zero true e = rw (next_is, e, add-one (i + 1))
+  rest_zero false e = rw (next_is, e, add-one (i + 1))
 
-  pub rest-term : (first : Bool) → (get_or row i (pos 0) ≡ pos 0 → ⊥)
-      → restText first (i + 1) (drop i row) ≡ termText first (get_or row i (pos 0)) (i + 1) ++ laterTerms (i + 1 + 1) (drop (i + 1) row)
-  rest-term first h = rw (next-is, add-one (i + 1)) (by_sign first (get_or row i (pos 0)) (i + 1) (drop (i + 1) row) h)
+  pub rest_term : (first : Bool) → (get_or row i (pos 0) ≡ pos 0 → ⊥)
+      → rest_text first (i + 1) (drop i row) ≡ term_text first (get_or row i (pos 0)) (i + 1) ++ later_terms (i + 1 + 1) (drop (i + 1) row)
+  rest_term first h = rw (next_is, add-one (i + 1)) (by_sign first (get_or row i (pos 0)) (i + 1) (drop (i + 1) row) h)
 
-pub rest_end : (row : List ℤ) (i k : ℕ) → length row ≤ i → (restText true k (drop i row) ≡ decimal 0) × (restText false k (drop i row) ≡ [])
-unfolding terms laterTerms
+pub rest_end : (row : List ℤ) (i k : ℕ) → length row ≤ i → (rest_text true k (drop i row) ≡ decimal 0) × (rest_text false k (drop i row) ≡ [])
+unfolding terms later_terms
 rest_end row i k l = rw (drop_of_length-le row l) (refl, refl)
 
 -- ---- a coefficient in a word of 32 bits
 
 module _ (z : ℤ) (l : nat_abs z ≤ 10000) where
   pub word_fits : SFits w32 z
-  word_fits = sfits-natAbs (omega arith)
+  word_fits = sfits_nat_abs (omega arith)
 
   pub zero_word : of_z w32 z ≡ 0 → z ≡ pos 0
   zero_word e = sym (to_z-of_z word_fits) ∙ ap (to_z w32) e
@@ -73,5 +73,5 @@ module _ (z : ℤ) (l : nat_abs z ≤ 10000) where
       go (pos (suc n)) f = omega arith
       go (negsuc n) f = omega arith
 
-pub term-short : (first : Bool) (z : ℤ) (k : ℕ) → nat_abs z ≤ 10000 → k ≤ 99 → length (termText first z k) ≤ 12
-term-short first z k l m = rw (length-append (leadText first (isNegative z))) (omega (arith, lead-short first (isNegative z), multiple-short (nat_abs z) k l m))
+pub term_short : (first : Bool) (z : ℤ) (k : ℕ) → nat_abs z ≤ 10000 → k ≤ 99 → length (term_text first z k) ≤ 12
+term_short first z k l m = rw (length-append (lead_text first (is_negative z))) (omega (arith, lead_short first (is_negative z), multiple_short (nat_abs z) k l m))

@@ -1,11 +1,11 @@
 // Writing a row as people write an equation.
 ghost use Rattle.std.specs.Prelude.{◌≡◌, ◌+◌, ◌≤◌, ◌<◌, ltb, nat_abs, length};
 ghost use Rattle.texts.specs.Put.{Put};
-ghost use Rattle.definitions.specs.Answers.{◌then◌, refuseIf};
-ghost use Rattle.definitions.specs.Refusals.{outOfRange};
-ghost use Rattle.equation_spec.specs.Writing.{multiple as multipleText, terms as termsText, written, putOut, write};
-ghost use Rattle.equation_write.specs.Texts.{leadText, termText, InRange};
-ghost use Rattle.equation_write.specs.Answer.{wroteBy};
+ghost use Rattle.definitions.specs.Answers.{◌then◌, refuse_if};
+ghost use Rattle.definitions.specs.Refusals.{out_of_range};
+ghost use Rattle.equation_spec.specs.Writing.{multiple as multipleText, terms as termsText, written, put_out, write};
+ghost use Rattle.equation_write.specs.Texts.{lead_text, term_text, InRange};
+ghost use Rattle.equation_write.specs.Answer.{wrote_by};
 
 use calls::{Check, Refusal};
 use checks::coefficients::out_of_range;
@@ -22,7 +22,7 @@ pub enum EquationWritten {
 
 // Writes the equation of `row`, the coefficients of `q` unknowns, with the right side `right` to the beginning of `out`.
 pub fn write_equation(q: usize, row: &[i32], right: i32, out: &mut [u8]) -> EquationWritten
-    ensures { wroteBy result out.new ≡ write q row.now right out.old }
+    ensures { wrote_by result out.new ≡ write q row.now right out.old }
 {
     if q < 1 {
         return EquationWritten::Refused(Refusal::Unknowns);
@@ -42,8 +42,8 @@ pub fn write_equation(q: usize, row: &[i32], right: i32, out: &mut [u8]) -> Equa
 // A row whose coefficients are in range.
 fn write_row(row: &[i32], right: i32, out: &mut [u8]) -> EquationWritten
     requires { (length row.now ≤ 16) × InRange row.now }
-    ensures { wroteBy result out.new
-        ≡ putOut (refuseIf (outOfRange right) 15 then refuseIf (ltb (length out.old) (length (written row.now right))) 29)
+    ensures { wrote_by result out.new
+        ≡ put_out (refuse_if (out_of_range right) 15 then refuse_if (ltb (length out.old) (length (written row.now right))) 29)
         (written row.now right) out.old }
 {
     if out_of_range(right) {
@@ -56,8 +56,8 @@ fn write_row(row: &[i32], right: i32, out: &mut [u8]) -> EquationWritten
 
 // A text, if there is space for it.
 fn hand_out(text: &[u8], out: &mut [u8]) -> EquationWritten
-    ensures { wroteBy result out.new
-        ≡ putOut (refuseIf (ltb (length out.old) (length text.now)) 29) text.now out.old }
+    ensures { wrote_by result out.new
+        ≡ put_out (refuse_if (ltb (length out.old) (length text.now)) 29) text.now out.old }
 {
     if out.len() < text.len() {
         return EquationWritten::Space;
@@ -93,7 +93,7 @@ fn multiple(out: &mut [u8], at: usize, m: u64, k: usize) -> usize
 // The sign before a term: after another one, or before the first.
 fn lead(out: &mut [u8], at: usize, first: bool, minus: bool) -> usize
     requires { at + 3 ≤ length out.old }
-    ensures { Put out.old at (leadText first minus) out.new result }
+    ensures { Put out.old at (lead_text first minus) out.new result }
 {
     if first {
         if minus {
@@ -110,7 +110,7 @@ fn lead(out: &mut [u8], at: usize, first: bool, minus: bool) -> usize
 // A term that is not zero: its sign and size, and its unknown.
 fn term(out: &mut [u8], at: usize, first: bool, c: i32, k: usize) -> usize
     requires { (1 ≤ nat_abs c) × (nat_abs c ≤ 10000) × (k ≤ 99) × (at + 12 ≤ length out.old) }
-    ensures { Put out.old at (termText first c k) out.new result }
+    ensures { Put out.old at (term_text first c k) out.new result }
 {
     let next = lead(out, at, first, c < 0);
     multiple(out, next, size(c), k)

@@ -4,16 +4,16 @@ use Rattle.std.proofs.Math.Path.{refl, ap, fun_ext}
 use Rattle.std.proofs.Math.Bool.{true, false}
 use Prim.Native.Nat.{ℕ, ◌+◌}
 use Rattle.std.proofs.Math.Dec.{eqb}
-use Rattle.linear.specs.Tests.{anyTo, count_to}
+use Rattle.linear.specs.Tests.{any_to, count_to}
 use Rattle.linear.specs.Tuples.{raise}
-use Rattle.definitions.specs.Refusals.{searchChecks, tooLarge}
-use Rattle.definitions.specs.Step.{deeper, enlistIn, fullIn, grown, level, listed, makes, pick, row_of, rowWidth, step, toSecond, top, topMarks, writeChildren}
+use Rattle.definitions.specs.Refusals.{search_checks, too_large}
+use Rattle.definitions.specs.Step.{deeper, enlist_in, full_in, grown, level, listed, makes, pick, row_of, row_width, step, to_second, top, top_marks, write_children}
 use Rattle.definitions.specs.System.{Kind, System, above, capped, plain, solves}
 use Rattle.definitions.specs.Tables.{State, stepped}
 
 -- the same with another greatest sum
-abbrev pub withDepth : ℕ → State → State
-withDepth d s =
+abbrev pub with_depth : ℕ → State → State
+with_depth d s =
     record {
       stack = s.stack;
       list = s.list;
@@ -30,52 +30,52 @@ withDepth d s =
           };
     }
 
-abbrev ofKind : System → Kind → System
-ofKind m k = record { p = m.p; q = m.q; coefs = m.coefs; kind = k; limit = m.limit }
+abbrev of_kind : System → Kind → System
+of_kind m k = record { p = m.p; q = m.q; coefs = m.coefs; kind = k; limit = m.limit }
 
-full-depth : (d w : ℕ) (s : State) (b : Bool) → fullIn b w (withDepth d s) ≡ fullIn b w s
-full-depth d w s false = refl
-full-depth d w s true = refl
+full_depth : (d w : ℕ) (s : State) (b : Bool) → full_in b w (with_depth d s) ≡ full_in b w s
+full_depth d w s false = refl
+full_depth d w s true = refl
 
-listed-depth : (d e w a b : ℕ) (y : ℕ → ℕ) (s : State) (c : Bool) → withDepth e (enlistIn c w (withDepth d s) y a) ≡ withDepth e (enlistIn c w s y b)
-listed-depth d e w a b y s false = refl
-listed-depth d e w a b y s true = refl
+listed_depth : (d e w a b : ℕ) (y : ℕ → ℕ) (s : State) (c : Bool) → with_depth e (enlist_in c w (with_depth d s) y a) ≡ with_depth e (enlist_in c w s y b)
+listed_depth d e w a b y s false = refl
+listed_depth d e w a b y s true = refl
 
 module _ (m : System) (d : ℕ) (s : State) where
-  makes-at : (k : Kind) (j : ℕ) → makes (ofKind m k) (withDepth d s) j ≡ makes (ofKind m k) s j
+  makes_at : (k : Kind) (j : ℕ) → makes (of_kind m k) (with_depth d s) j ≡ makes (of_kind m k) s j
   unfolding makes
-  makes-at plain j = refl
-  makes-at capped j = refl
-  makes-at (above f) j = refl
+  makes_at plain j = refl
+  makes_at capped j = refl
+  makes_at (above f) j = refl
 
-  makes-depth : makes m (withDepth d s) ≡ makes m s
-  makes-depth = fun_ext (makes-at m.kind)
+  makes_depth : makes m (with_depth d s) ≡ makes m s
+  makes_depth = fun_ext (makes_at m.kind)
 
-  large-depth : tooLarge m (withDepth d s) ≡ tooLarge m s
-  unfolding tooLarge
-  large-depth = ap (λ (f : ℕ → Bool). anyTo m.q (λ j. f j && eqb (raise (top m s) j j) (m.limit + 1))) makes-depth
+  large_depth : too_large m (with_depth d s) ≡ too_large m s
+  unfolding too_large
+  large_depth = ap (λ (f : ℕ → Bool). any_to m.q (λ j. f j && eqb (raise (top m s) j j) (m.limit + 1))) makes_depth
 
-  pub search-depth : searchChecks m (withDepth d s) ≡ searchChecks m s
-  unfolding searchChecks
-  search-depth =
-      rw (full-depth d (rowWidth m.kind m.q) s (toSecond m.kind (top m s)), large-depth)
+  pub search_depth : search_checks m (with_depth d s) ≡ search_checks m s
+  unfolding search_checks
+  search_depth =
+      rw (full_depth d (row_width m.kind m.q) s (to_second m.kind (top m s)), large_depth)
 
   -- what a step leaves that makes children of the unknowns given
   abbrev children : ℕ → (ℕ → Bool) → State
   children e f =
       record {
-        stack = writeChildren m.q m.q s.stack (level s) (top m s) (topMarks m s) f;
+        stack = write_children m.q m.q s.stack (level s) (top m s) (top_marks m s) f;
         list = s.list;
         second = s.second;
         run = stepped s.run (level s + count_to m.q f) s.run.found s.run.found2 e;
       }
 
-  pub step-depth : (e : ℕ) → withDepth e (step m (withDepth d s)) ≡ withDepth e (step m s)
+  pub step_depth : (e : ℕ) → with_depth e (step m (with_depth d s)) ≡ with_depth e (step m s)
   unfolding step listed grown
-  step-depth e = go (solves m (top m s))
+  step_depth e = go (solves m (top m s))
     where
-      go : (b : Bool) → withDepth e (pick b (listed m (withDepth d s)) (grown m (withDepth d s))) ≡ withDepth e (pick b (listed m s) (grown m s))
+      go : (b : Bool) → with_depth e (pick b (listed m (with_depth d s)) (grown m (with_depth d s))) ≡ with_depth e (pick b (listed m s) (grown m s))
       go true =
           let x : ℕ → ℕ = top m s in
-          listed-depth d e (rowWidth m.kind m.q) (deeper m.q (withDepth d s) x) (deeper m.q s x) (row_of m.kind x) s (toSecond m.kind x)
-      go false = ap (children e) makes-depth
+          listed_depth d e (row_width m.kind m.q) (deeper m.q (with_depth d s) x) (deeper m.q s x) (row_of m.kind x) s (to_second m.kind x)
+      go false = ap (children e) makes_depth

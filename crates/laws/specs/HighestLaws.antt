@@ -2,46 +2,46 @@
 -- is. Assumes nothing.
 use Rattle.std.specs.Prelude.{◌≡◌, true, false, ℕ, ◌-◌, ◌≤◌, ◌<◌}
 use Rattle.std.proofs.Math.Option.{Option, some, none}
-use Rattle.linear.specs.PlaceLaws.{LastIs, any_last, given, last-is}
+use Rattle.linear.specs.PlaceLaws.{LastIs, any_last, given, last_is}
 use Rattle.linear.specs.Tuples.{AtOrBelow}
-use Rattle.definitions.specs.System.{covered, isAtOrBelow}
+use Rattle.definitions.specs.System.{covered, is_at_or_below}
 use Rattle.definitions.specs.Highest.{highest}
-use Rattle.laws.specs.SystemLaws.{below-from, below-to}
+use Rattle.laws.specs.SystemLaws.{below_from, below_to}
 
 module _ (w n : ℕ) (row : ℕ → ℕ → ℕ) (x : ℕ → ℕ) where
   -- "The plain, capped and floor steps use it; their own answers do not change.": a place is given exactly where some row is at or below x
-  pub covered-highest : covered w n row x ≡ given (highest w n row x)
+  pub covered_highest : covered w n row x ≡ given (highest w n row x)
   unfolding covered highest
-  covered-highest = any_last n (λ i. isAtOrBelow w (row i) x)
+  covered_highest = any_last n (λ i. is_at_or_below w (row i) x)
 
-  pub covered-some : {k : ℕ} → highest w n row x ≡ some k → covered w n row x ≡ true
-  covered-some e = rw (covered-highest, e)
+  pub covered_some : {k : ℕ} → highest w n row x ≡ some k → covered w n row x ≡ true
+  covered_some e = rw (covered_highest, e)
 
   pub covered_none : highest w n row x ≡ none → covered w n row x ≡ false
-  covered_none e = rw (covered-highest, e)
+  covered_none e = rw (covered_highest, e)
 
   -- what a place says
   pub record Highest (k : ℕ) : Type 0 where
     pub some : 0 < k
     pub few : k ≤ n
     pub below : AtOrBelow w (row (k - 1)) x
-    pub none-higher : (i : ℕ) → k ≤ i → i < n → ¬ (AtOrBelow w (row i) x)
+    pub none_higher : (i : ℕ) → k ≤ i → i < n → ¬ (AtOrBelow w (row i) x)
 
   -- what the answer says
   abbrev pub HighestIs : Option ℕ → Type 0
   HighestIs none = (i : ℕ) → i < n → ¬ (AtOrBelow w (row i) x)
   HighestIs (some k) = Highest k
 
-  pub highest-is : HighestIs (highest w n row x)
+  pub highest_is : HighestIs (highest w n row x)
   unfolding highest
-  highest-is = says (highest w n row x) (last-is n (λ i. isAtOrBelow w (row i) x))
+  highest_is = says (highest w n row x) (last_is n (λ i. is_at_or_below w (row i) x))
     where
-      says : (o : Option ℕ) → LastIs n (λ i. isAtOrBelow w (row i) x) o → HighestIs o
-      says none h = λ i l b. h i l (below-to w (row i) x b)
+      says : (o : Option ℕ) → LastIs n (λ i. is_at_or_below w (row i) x) o → HighestIs o
+      says none h = λ i l b. h i l (below_to w (row i) x b)
       says (some k) h =
           record {
             some = h.some;
             few = h.few;
-            below = below-from w (row (k - 1)) x h.holds;
-            none-higher = λ i l m b. h.none_after i l m (below-to w (row i) x b);
+            below = below_from w (row (k - 1)) x h.holds;
+            none_higher = λ i l m b. h.none_after i l m (below_to w (row i) x b);
           }

@@ -5,39 +5,39 @@ use Rattle.std.proofs.Math.Path.{refl}
 use Prim.Native.Nat.{ℕ, zero, suc}
 use Rattle.linear.specs.TestLaws.{count_same}
 use Rattle.linear.specs.Tests.{count_to}
-use Rattle.definitions.specs.Step.{childrenTo, grown, listed, makes, marksTo, step, top, writeChildren}
+use Rattle.definitions.specs.Step.{children_to, grown, listed, makes, marks_to, step, top, write_children}
 use Rattle.definitions.specs.System.{System, solves}
 use Rattle.definitions.specs.Tables.{State}
 
-abbrev pub withLimit : System → ℕ → System
-withLimit m n = record { p = m.p; q = m.q; coefs = m.coefs; kind = m.kind; limit = n }
+abbrev pub with_limit : System → ℕ → System
+with_limit m n = record { p = m.p; q = m.q; coefs = m.coefs; kind = m.kind; limit = n }
 
 module _ (m : System) (n : ℕ) where
-  makes-limit : (s : State) (j : ℕ) → makes (withLimit m n) s j ≡ makes m s j
+  makes_limit : (s : State) (j : ℕ) → makes (with_limit m n) s j ≡ makes m s j
   unfolding makes
-  makes-limit s j = refl
+  makes_limit s j = refl
 
-  count-limit : (s : State) (k : ℕ) → count_to k (makes (withLimit m n) s) ≡ count_to k (makes m s)
-  count-limit s k = count_same (makes (withLimit m n) s) (makes m s) k (λ j l. makes-limit s j)
+  count_limit : (s : State) (k : ℕ) → count_to k (makes (with_limit m n) s) ≡ count_to k (makes m s)
+  count_limit s k = count_same (makes (with_limit m n) s) (makes m s) k (λ j l. makes_limit s j)
 
-  marks-limit : (s : State) (k : ℕ) → marksTo k (makes (withLimit m n) s) ≡ marksTo k (makes m s)
-  unfolding marksTo
-  marks-limit s zero = refl
-  marks-limit s (suc k) = rw (marks-limit s k, makes-limit s k)
+  marks_limit : (s : State) (k : ℕ) → marks_to k (makes (with_limit m n) s) ≡ marks_to k (makes m s)
+  unfolding marks_to
+  marks_limit s zero = refl
+  marks_limit s (suc k) = rw (marks_limit s k, makes_limit s k)
 
-  children-limit : (s : State) (k : ℕ) → childrenTo k (withLimit m n) s ≡ childrenTo k m s
-  unfolding writeChildren
-  children-limit s zero = refl
-  children-limit s (suc k) = rw (children-limit s k, makes-limit s k, count-limit s k, marks-limit s k)
+  children_limit : (s : State) (k : ℕ) → children_to k (with_limit m n) s ≡ children_to k m s
+  unfolding write_children
+  children_limit s zero = refl
+  children_limit s (suc k) = rw (children_limit s k, makes_limit s k, count_limit s k, marks_limit s k)
 
-  solves-limit : (x : ℕ → ℕ) → solves (withLimit m n) x ≡ solves m x
+  solves_limit : (x : ℕ → ℕ) → solves (with_limit m n) x ≡ solves m x
   unfolding solves
-  solves-limit x = refl
+  solves_limit x = refl
 
-  listed-limit : (s : State) → listed (withLimit m n) s ≡ listed m s
+  listed_limit : (s : State) → listed (with_limit m n) s ≡ listed m s
   unfolding listed
-  listed-limit s = refl
+  listed_limit s = refl
 
-  pub step-limit : (s : State) → step (withLimit m n) s ≡ step m s
+  pub step_limit_lem : (s : State) → step (with_limit m n) s ≡ step m s
   unfolding step grown
-  step-limit s = rw (solves-limit (top m s), listed-limit s, children-limit s m.q, count-limit s m.q)
+  step_limit_lem s = rw (solves_limit (top m s), listed_limit s, children_limit s m.q, count_limit s m.q)

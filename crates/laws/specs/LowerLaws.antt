@@ -10,212 +10,212 @@ use Rattle.std.proofs.Math.Dec.{not_T}
 use Rattle.linear.specs.Cases.{split}
 use Rattle.linear.specs.TestLaws.{T-dec, and_both, and_parts, count_none}
 use Rattle.definitions.specs.Answers.{Check, go}
-use Rattle.definitions.specs.Calls.{changed, searchFrom, settleFrom, stepFrom}
-use Rattle.definitions.specs.Input.{Input, aboveSystem, alone, boundOf, limitOf, mapOf}
-use Rattle.definitions.specs.Refusals.{check6From, inOrder, inOrderFrom, lowerChecks, inOrderBy, resumeFromChecks, searchChecks, stepLimit}
-use Rattle.definitions.specs.Step.{enlistIn, grown, listed, pick, step, toSecond, top, width}
+use Rattle.definitions.specs.Calls.{changed, search_from, settle_from, step_from}
+use Rattle.definitions.specs.Input.{Input, above_system, alone, bound_of, limit_of, map_of}
+use Rattle.definitions.specs.Refusals.{check6_from, in_order, in_order_from, lower_checks, in_order_by, resume_from_checks, search_checks, step_limit}
+use Rattle.definitions.specs.Step.{enlist_in, grown, listed, pick, step, to_second, top, width}
 use Rattle.definitions.specs.System.{System, solves}
-use Rattle.definitions.specs.Tables.{RunKind, State, at, byWalk, capacity, cappedRun, deskByDesk, frozen, lowerAbove, lowerPlain, lowerStart, lowered}
-use Rattle.definitions.specs.Tables.{plainPart, plainRun, unitsStart, whole_of}
-use Rattle.laws.specs.CheckLaws.{Decides, Renders, Rules, ◌▹◌, decides-if, end, renders-last, renders-then, rule}
-use Rattle.laws.specs.MarkLaws.{frozen-none}
-use Rattle.laws.specs.RefusalLaws.{Going, Handed, InOrder, OutOfOrder, Shaped, Valid, at_most, decides-bound, decides-range, decides-unequal, equal}
-use Rattle.laws.specs.RefusalLaws.{handed-shaped, lower-shaped, not-order, order_from, order-to, out_of, rangeRule, search-going, search-renders}
-use Rattle.laws.specs.RefusalLaws.{searchRules, shape-renders, shapeRules}
-use Rattle.laws.specs.TableLaws.{row-length, row_written}
-use Rattle.laws.specs.ValidLaws.{shaped-same, step-length, step-valid, units-valid}
+use Rattle.definitions.specs.Tables.{RunKind, State, at, by_walk, capacity, capped_run, desk_by_desk, frozen, lower_above, lower_plain, lower_start, lowered}
+use Rattle.definitions.specs.Tables.{plain_part, plain_run, units_start, whole_of}
+use Rattle.laws.specs.CheckLaws.{Decides, Renders, Rules, ◌▹◌, decides_if, end, renders_last, renders_then, rule}
+use Rattle.laws.specs.MarkLaws.{frozen_none}
+use Rattle.laws.specs.RefusalLaws.{Going, Handed, InOrder, OutOfOrder, Shaped, Valid, at_most, decides_bound, decides_range, decides_unequal, equal}
+use Rattle.laws.specs.RefusalLaws.{handed_shaped, lower_shaped, not_order, order_from, order_to, out_of, range_rule, search_going, search_renders}
+use Rattle.laws.specs.RefusalLaws.{search_rules, shape_renders, shape_rules}
+use Rattle.laws.specs.TableLaws.{row_length, row_written}
+use Rattle.laws.specs.ValidLaws.{shaped_same, step_length, step_valid, units_valid}
 
 -- ---- refusal 6
 
 -- "run record or tables out of order", by the walk that the record names: that walk's as in a run of its own, and of the other its list's count and its steps;
 -- or a record "given to a continuing call of another kind"
 pub data OutOfOrderFrom (lower : List ℕ) (i : Input) (s : State) : Type 0 where
-  other : s.run.kind ≢ lowerPlain → s.run.kind ≢ lowerAbove → OutOfOrderFrom lower i s
-  plain_walk : s.run.kind ≡ lowerPlain → OutOfOrder (mapOf i) (plainPart s) → OutOfOrderFrom lower i s
-  later-list : s.run.kind ≡ lowerPlain → capacity i.q s.list < s.run.found → OutOfOrderFrom lower i s
-  later-steps : s.run.kind ≡ lowerPlain → stepLimit < s.run.steps → OutOfOrderFrom lower i s
-  above-walk : s.run.kind ≡ lowerAbove → OutOfOrder (aboveSystem lower i) s → OutOfOrderFrom lower i s
-  earlier-steps : s.run.kind ≡ lowerAbove → stepLimit < s.run.steps2 → OutOfOrderFrom lower i s
+  other : s.run.kind ≢ lower_plain → s.run.kind ≢ lower_above → OutOfOrderFrom lower i s
+  plain_walk : s.run.kind ≡ lower_plain → OutOfOrder (map_of i) (plain_part s) → OutOfOrderFrom lower i s
+  later_list : s.run.kind ≡ lower_plain → capacity i.q s.list < s.run.found → OutOfOrderFrom lower i s
+  later_steps : s.run.kind ≡ lower_plain → step_limit < s.run.steps → OutOfOrderFrom lower i s
+  above_walk : s.run.kind ≡ lower_above → OutOfOrder (above_system lower i) s → OutOfOrderFrom lower i s
+  earlier_steps : s.run.kind ≡ lower_above → step_limit < s.run.steps2 → OutOfOrderFrom lower i s
 
 -- in order, by the walk that the record names
 abbrev pub InOrderBy : RunKind → List ℕ → Input → State → Type 0
-InOrderBy plainRun lower i s = ⊥
-InOrderBy cappedRun lower i s = ⊥
-InOrderBy lowerPlain lower i s = InOrder (mapOf i) (plainPart s) × (s.run.found ≤ capacity i.q s.list) × (s.run.steps ≤ stepLimit)
-InOrderBy lowerAbove lower i s = InOrder (aboveSystem lower i) s × (s.run.steps2 ≤ stepLimit)
-InOrderBy deskByDesk lower i s = ⊥
+InOrderBy plain_run lower i s = ⊥
+InOrderBy capped_run lower i s = ⊥
+InOrderBy lower_plain lower i s = InOrder (map_of i) (plain_part s) × (s.run.found ≤ capacity i.q s.list) × (s.run.steps ≤ step_limit)
+InOrderBy lower_above lower i s = InOrder (above_system lower i) s × (s.run.steps2 ≤ step_limit)
+InOrderBy desk_by_desk lower i s = ⊥
 
 module _ (lower : List ℕ) (i : Input) (s : State) where
-  in-order-from : (r : RunKind) → T (inOrderBy r lower i s) → InOrderBy r lower i s
-  in-order-from plainRun h = h
-  in-order-from cappedRun h = h
-  in-order-from lowerPlain h =
-      let (a, b) = and_parts (inOrder (mapOf i) (plainPart s)) _ h in
+  in_order_from_lem : (r : RunKind) → T (in_order_by r lower i s) → InOrderBy r lower i s
+  in_order_from_lem plain_run h = h
+  in_order_from_lem capped_run h = h
+  in_order_from_lem lower_plain h =
+      let (a, b) = and_parts (in_order (map_of i) (plain_part s)) _ h in
       let (c, d) = and_parts (leb s.run.found (capacity i.q s.list)) _ b in
-      (order_from (mapOf i) (plainPart s) a, leb→le s.run.found (capacity i.q s.list) c, leb→le s.run.steps stepLimit d)
-  in-order-from lowerAbove h =
-      let (a, b) = and_parts (inOrder (aboveSystem lower i) s) _ h in (order_from (aboveSystem lower i) s a, leb→le s.run.steps2 stepLimit b)
-  in-order-from deskByDesk h = h
+      (order_from (map_of i) (plain_part s) a, leb→le s.run.found (capacity i.q s.list) c, leb→le s.run.steps step_limit d)
+  in_order_from_lem lower_above h =
+      let (a, b) = and_parts (in_order (above_system lower i) s) _ h in (order_from (above_system lower i) s a, leb→le s.run.steps2 step_limit b)
+  in_order_from_lem desk_by_desk h = h
 
-  in-order-to : (r : RunKind) → InOrderBy r lower i s → T (inOrderBy r lower i s)
-  in-order-to plainRun h = h
-  in-order-to cappedRun h = h
-  in-order-to lowerPlain (a, b, c) =
-      and_both (inOrder (mapOf i) (plainPart s)) _ (order-to (mapOf i) (plainPart s) a)
-      (and_both (leb s.run.found (capacity i.q s.list)) _ (le→leb s.run.found (capacity i.q s.list) b) (le→leb s.run.steps stepLimit c))
-  in-order-to lowerAbove (a, b) = and_both (inOrder (aboveSystem lower i) s) _ (order-to (aboveSystem lower i) s a) (le→leb s.run.steps2 stepLimit b)
-  in-order-to deskByDesk h = h
+  in_order_to : (r : RunKind) → InOrderBy r lower i s → T (in_order_by r lower i s)
+  in_order_to plain_run h = h
+  in_order_to capped_run h = h
+  in_order_to lower_plain (a, b, c) =
+      and_both (in_order (map_of i) (plain_part s)) _ (order_to (map_of i) (plain_part s) a)
+      (and_both (leb s.run.found (capacity i.q s.list)) _ (le→leb s.run.found (capacity i.q s.list) b) (le→leb s.run.steps step_limit c))
+  in_order_to lower_above (a, b) = and_both (in_order (above_system lower i) s) _ (order_to (above_system lower i) s a) (le→leb s.run.steps2 step_limit b)
+  in_order_to desk_by_desk h = h
 
-  out-by : (r : RunKind) → s.run.kind ≡ r → ¬ (T (inOrderBy r lower i s)) → OutOfOrderFrom lower i s
-  out-by plainRun e n = other (λ x. let z : ◌≡◌ {A = ℕ} 0 1 = cc in omega arith) (λ x. let z : ◌≡◌ {A = ℕ} 0 1 = cc in omega arith)
-  out-by cappedRun e n = other (λ x. let z : ◌≡◌ {A = ℕ} 0 1 = cc in omega arith) (λ x. let z : ◌≡◌ {A = ℕ} 0 1 = cc in omega arith)
-  out-by deskByDesk e n = other (λ x. let z : ◌≡◌ {A = ℕ} 0 1 = cc in omega arith) (λ x. let z : ◌≡◌ {A = ℕ} 0 1 = cc in omega arith)
-  out-by lowerPlain e n =
-      elim (T-dec (inOrder (mapOf i) (plainPart s))) [
-        | inr x ↦ plain_walk e (out_of (mapOf i) (plainPart s) x)
+  out_by : (r : RunKind) → s.run.kind ≡ r → ¬ (T (in_order_by r lower i s)) → OutOfOrderFrom lower i s
+  out_by plain_run e n = other (λ x. let z : ◌≡◌ {A = ℕ} 0 1 = cc in omega arith) (λ x. let z : ◌≡◌ {A = ℕ} 0 1 = cc in omega arith)
+  out_by capped_run e n = other (λ x. let z : ◌≡◌ {A = ℕ} 0 1 = cc in omega arith) (λ x. let z : ◌≡◌ {A = ℕ} 0 1 = cc in omega arith)
+  out_by desk_by_desk e n = other (λ x. let z : ◌≡◌ {A = ℕ} 0 1 = cc in omega arith) (λ x. let z : ◌≡◌ {A = ℕ} 0 1 = cc in omega arith)
+  out_by lower_plain e n =
+      elim (T-dec (in_order (map_of i) (plain_part s))) [
+        | inr x ↦ plain_walk e (out_of (map_of i) (plain_part s) x)
         | inl o ↦ elim (split (capacity i.q s.list) s.run.found) [
-          | inl x ↦ later-list e x
-          | inr x ↦ elim (split stepLimit s.run.steps) [
-            | inl y ↦ later-steps e y
-            | inr y ↦ absurd (n (in-order-to lowerPlain (order_from (mapOf i) (plainPart s) o, x, y)))
+          | inl x ↦ later_list e x
+          | inr x ↦ elim (split step_limit s.run.steps) [
+            | inl y ↦ later_steps e y
+            | inr y ↦ absurd (n (in_order_to lower_plain (order_from (map_of i) (plain_part s) o, x, y)))
           ]
         ]
       ]
-  out-by lowerAbove e n =
-      elim (T-dec (inOrder (aboveSystem lower i) s)) [
-        | inr x ↦ above-walk e (out_of (aboveSystem lower i) s x)
-        | inl o ↦ elim (split stepLimit s.run.steps2) [
-          | inl y ↦ earlier-steps e y
-          | inr y ↦ absurd (n (in-order-to lowerAbove (order_from (aboveSystem lower i) s o, y)))
+  out_by lower_above e n =
+      elim (T-dec (in_order (above_system lower i) s)) [
+        | inr x ↦ above_walk e (out_of (above_system lower i) s x)
+        | inl o ↦ elim (split step_limit s.run.steps2) [
+          | inl y ↦ earlier_steps e y
+          | inr y ↦ absurd (n (in_order_to lower_above (order_from (above_system lower i) s o, y)))
         ]
       ]
 
   -- what is in order by the record is so by the walk that it is known to name
-  pub named-order : {r : RunKind} → s.run.kind ≡ r → InOrderBy s.run.kind lower i s → InOrderBy r lower i s
-  named-order e o = subst (λ r. InOrderBy r lower i s) e o
+  pub named_order : {r : RunKind} → s.run.kind ≡ r → InOrderBy s.run.kind lower i s → InOrderBy r lower i s
+  named_order e o = subst (λ r. InOrderBy r lower i s) e o
 
-  pub not-from : OutOfOrderFrom lower i s → InOrderBy s.run.kind lower i s → ⊥
-  not-from (other a b) o = none s.run.kind refl o
+  pub not_from : OutOfOrderFrom lower i s → InOrderBy s.run.kind lower i s → ⊥
+  not_from (other a b) o = none s.run.kind refl o
     where
       none : (r : RunKind) → s.run.kind ≡ r → InOrderBy r lower i s → ⊥
-      none plainRun e o = o
-      none cappedRun e o = o
-      none lowerPlain e o = a e
-      none lowerAbove e o = b e
-      none deskByDesk e o = o
-  not-from (plain_walk e h) o = not-order (mapOf i) (plainPart s) h (named-order e o).0
-  not-from (later-list e h) o = omega (arith, (named-order e o).1)
-  not-from (later-steps e h) o = omega (arith, (named-order e o).2)
-  not-from (above-walk e h) o = not-order (aboveSystem lower i) s h (named-order e o).0
-  not-from (earlier-steps e h) o = omega (arith, (named-order e o).1)
+      none plain_run e o = o
+      none capped_run e o = o
+      none lower_plain e o = a e
+      none lower_above e o = b e
+      none desk_by_desk e o = o
+  not_from (plain_walk e h) o = not_order (map_of i) (plain_part s) h (named_order e o).0
+  not_from (later_list e h) o = omega (arith, (named_order e o).1)
+  not_from (later_steps e h) o = omega (arith, (named_order e o).2)
+  not_from (above_walk e h) o = not_order (above_system lower i) s h (named_order e o).0
+  not_from (earlier_steps e h) o = omega (arith, (named_order e o).1)
 
-  pub decides-from : Decides (check6From lower i s) (rule 6 (OutOfOrderFrom lower i s))
-  unfolding inOrderFrom
-  decides-from =
-      decides-if (not (inOrderFrom lower i s)) 6 (OutOfOrderFrom lower i s)
-      (λ h. out-by s.run.kind refl (T_not (inOrderFrom lower i s) h))
-      (λ b. not_T (inOrderFrom lower i s) (λ h. not-from b (in-order-from s.run.kind h)))
+  pub decides_from : Decides (check6_from lower i s) (rule 6 (OutOfOrderFrom lower i s))
+  unfolding in_order_from
+  decides_from =
+      decides_if (not (in_order_from lower i s)) 6 (OutOfOrderFrom lower i s)
+      (λ h. out_by s.run.kind refl (T_not (in_order_from lower i s) h))
+      (λ b. not_T (in_order_from lower i s) (λ h. not_from b (in_order_from_lem s.run.kind h)))
 
   -- a record and tables that pass the check for 6
-  pub from-order : check6From lower i s ≡ go → InOrderBy s.run.kind lower i s
-  from-order e =
-      elim (T-dec (inOrderBy s.run.kind lower i s)) [
-        | inl y ↦ in-order-from s.run.kind y
-        | inr n ↦ absurd (decides-from.goes e (out-by s.run.kind refl n))
+  pub from_order : check6_from lower i s ≡ go → InOrderBy s.run.kind lower i s
+  from_order e =
+      elim (T-dec (in_order_by s.run.kind lower i s)) [
+        | inl y ↦ in_order_from_lem s.run.kind y
+        | inr n ↦ absurd (decides_from.goes e (out_by s.run.kind refl n))
       ]
 
 -- ---- the rules of the continuing call
 
 -- "A continuing call that is handed a floor checks 5 and 8 too.": in rising number
-abbrev pub resumeFromRules : List ℕ → Input → State → Rules
-resumeFromRules lower i s =
-    shapeRules i s
+abbrev pub resume_from_rules : List ℕ → Input → State → Rules
+resume_from_rules lower i s =
+    shape_rules i s
     (rule 5 (length lower ≢ i.q)
     ▹ rule 6 (OutOfOrderFrom lower i s)
-    ▹ rangeRule i
-    ▹ rule 8 ((j : ℕ) × (j < length lower) × (limitOf i.limit < get_or lower j 0))
+    ▹ range_rule i
+    ▹ rule 8 ((j : ℕ) × (j < length lower) × (limit_of i.limit < get_or lower j 0))
     ▹ end)
 
-pub resume-from-renders : (lower : List ℕ) (i : Input) (s : State) → Renders (resumeFromChecks lower i s) (resumeFromRules lower i s)
-unfolding resumeFromChecks
-resume-from-renders lower i s =
-    shape-renders i s
-    (renders-then (decides-unequal 5 (length lower) i.q)
-    (renders-then (decides-from lower i s) (renders-then (decides-range i) (renders-last (decides-bound i lower)))))
+pub resume_from_renders : (lower : List ℕ) (i : Input) (s : State) → Renders (resume_from_checks lower i s) (resume_from_rules lower i s)
+unfolding resume_from_checks
+resume_from_renders lower i s =
+    shape_renders i s
+    (renders_then (decides_unequal 5 (length lower) i.q)
+    (renders_then (decides_from lower i s) (renders_then (decides_range i) (renders_last (decides_bound i lower)))))
 
 -- the rules of the search are those of the walk under way
-abbrev pub rulesBy : RunKind → Rules → Rules → Rules
-rulesBy plainRun a b = b
-rulesBy cappedRun a b = b
-rulesBy lowerPlain a b = a
-rulesBy lowerAbove a b = b
-rulesBy deskByDesk a b = b
+abbrev pub rules_by : RunKind → Rules → Rules → Rules
+rules_by plain_run a b = b
+rules_by capped_run a b = b
+rules_by lower_plain a b = a
+rules_by lower_above a b = b
+rules_by desk_by_desk a b = b
 
-abbrev pub searchFromRules : List ℕ → Input → State → Rules
-searchFromRules lower i s = rulesBy s.run.kind (searchRules (mapOf i) (plainPart s)) (searchRules (aboveSystem lower i) s)
+abbrev pub search_from_rules : List ℕ → Input → State → Rules
+search_from_rules lower i s = rules_by s.run.kind (search_rules (map_of i) (plain_part s)) (search_rules (above_system lower i) s)
 
-pub renders-by : {c d : Check} {a b : Rules} (r : RunKind) → Renders c a → Renders d b → Renders (byWalk r c d) (rulesBy r a b)
-renders-by plainRun x y = y
-renders-by cappedRun x y = y
-renders-by lowerPlain x y = x
-renders-by lowerAbove x y = y
-renders-by deskByDesk x y = y
+pub renders_by : {c d : Check} {a b : Rules} (r : RunKind) → Renders c a → Renders d b → Renders (by_walk r c d) (rules_by r a b)
+renders_by plain_run x y = y
+renders_by capped_run x y = y
+renders_by lower_plain x y = x
+renders_by lower_above x y = y
+renders_by desk_by_desk x y = y
 
-pub search-from-renders : (lower : List ℕ) (i : Input) (s : State) → Renders (searchFrom lower i s) (searchFromRules lower i s)
-unfolding searchFrom
-search-from-renders lower i s = renders-by s.run.kind (search-renders (mapOf i) (plainPart s)) (search-renders (aboveSystem lower i) s)
+pub search_from_renders : (lower : List ℕ) (i : Input) (s : State) → Renders (search_from lower i s) (search_from_rules lower i s)
+unfolding search_from
+search_from_renders lower i s = renders_by s.run.kind (search_renders (map_of i) (plain_part s)) (search_renders (above_system lower i) s)
 
 -- ---- what is known once the continuing call has made its checks
 
 pub record ValidFrom (lower : List ℕ) (i : Input) (s : State) : Type 0 where
-  pub shaped : Shaped (mapOf i) s
+  pub shaped : Shaped (map_of i) s
   pub ordered : InOrderBy s.run.kind lower i s
   pub long : length lower ≡ i.q
-  pub small : (j : ℕ) → j < i.q → boundOf lower j ≤ limitOf i.limit
+  pub small : (j : ℕ) → j < i.q → bound_of lower j ≤ limit_of i.limit
 
 -- the same map, for the walk above the bound
-pub shaped-above : (lower : List ℕ) (i : Input) {s : State} → Shaped (mapOf i) s → Shaped (aboveSystem lower i) s
-shaped-above lower i g =
+pub shaped_above : (lower : List ℕ) (i : Input) {s : State} → Shaped (map_of i) s → Shaped (above_system lower i) s
+shaped_above lower i g =
     record {
-      p-some = g.p-some;
-      p-few = g.p-few;
-      q-some = g.q-some;
-      q-few = g.q-few;
+      p_some = g.p_some;
+      p_few = g.p_few;
+      q_some = g.q_some;
+      q_few = g.q_few;
       wide = g.wide;
       coefs = g.coefs;
       stack = g.stack;
       range = g.range;
-      limit-some = g.limit-some;
-      limit-few = g.limit-few;
+      limit_some = g.limit_some;
+      limit_few = g.limit_few;
     }
 
 module _ (lower : List ℕ) (i : Input) (s : State) where
   -- the plain walk is that of a plain run, and so is the one above the bound that of a run of its own
-  pub plain-valid : s.run.kind ≡ lowerPlain → ValidFrom lower i s → Valid (mapOf i) (plainPart s)
-  plain-valid e v = record { shaped = shaped-same v.shaped refl; ordered = (named-order lower i s e v.ordered).0 }
+  pub plain_valid : s.run.kind ≡ lower_plain → ValidFrom lower i s → Valid (map_of i) (plain_part s)
+  plain_valid e v = record { shaped = shaped_same v.shaped refl; ordered = (named_order lower i s e v.ordered).0 }
 
-  pub above-valid : s.run.kind ≡ lowerAbove → ValidFrom lower i s → Valid (aboveSystem lower i) s
-  above-valid e v = record { shaped = shaped-above lower i v.shaped; ordered = (named-order lower i s e v.ordered).0 }
+  pub above_valid : s.run.kind ≡ lower_above → ValidFrom lower i s → Valid (above_system lower i) s
+  above_valid e v = record { shaped = shaped_above lower i v.shaped; ordered = (named_order lower i s e v.ordered).0 }
 
   module _ (is : i.extra ≡ alone) where
-    pub resume-from-valid : resumeFromChecks lower i s ≡ go → Handed i × ValidFrom lower i s
-    resume-from-valid e =
-        let (p, (q, (c, (k, (n, (o, (r, (b, u)))))))) = (resume-from-renders lower i s).goes e in
+    pub resume_from_valid : resume_from_checks lower i s ≡ go → Handed i × ValidFrom lower i s
+    resume_from_valid e =
+        let (p, (q, (c, (k, (n, (o, (r, (b, u)))))))) = (resume_from_renders lower i s).goes e in
         let len = equal (length lower) i.q n in
         let handed : Handed i = record { equations = p; unknowns = q; numbers = c; ranges = rw is (r, tt) } in (
           handed,
           record {
-            shaped = rw is at (handed-shaped i s handed k);
-            ordered = from-order lower i s ((decides-from lower i s).silent o);
+            shaped = rw is at (handed_shaped i s handed k);
+            ordered = from_order lower i s ((decides_from lower i s).silent o);
             long = len;
-            small = λ j l. at_most (boundOf lower j) (limitOf i.limit) (λ h. b (j, rw len l, h));
+            small = λ j l. at_most (bound_of lower j) (limit_of i.limit) (λ h. b (j, rw len l, h));
           },
         )
 
-    pub valid-resume-from : Handed i → ValidFrom lower i s → resumeFromChecks lower i s ≡ go
-    valid-resume-from h v =
+    pub valid_resume_from : Handed i → ValidFrom lower i s → resume_from_checks lower i s ≡ go
+    valid_resume_from h v =
         let range : (k : ℕ) → k < length i.coefs → ¬ (_ < _) = (rw is at h.ranges).0 in
-        (resume-from-renders lower i s).silent (
+        (resume_from_renders lower i s).silent (
           h.equations,
           (
             h.unknowns,
@@ -225,7 +225,7 @@ module _ (lower : List ℕ) (i : Input) (s : State) where
                 λ l. let g = v.shaped.stack in omega (arith, rw is at l),
                 (
                   λ ne. ne v.long,
-                  (λ b. not-from lower i s b v.ordered, (range, (λ (j, l, x). let g = v.small j (rw (← v.long) l) in omega (arith, g), tt))),
+                  (λ b. not_from lower i s b v.ordered, (range, (λ (j, l, x). let g = v.small j (rw (← v.long) l) in omega (arith, g), tt))),
                 ),
               ),
             ),
@@ -244,12 +244,12 @@ pub step_kept : (m : System) (s : State) → Kept s (step m s)
 unfolding step listed grown
 step_kept m s = go (solves m (top m s))
   where
-    enlisted : (b : Bool) (w : ℕ) (y : ℕ → ℕ) (d : ℕ) → Kept s (enlistIn b w s y d)
+    enlisted : (b : Bool) (w : ℕ) (y : ℕ → ℕ) (d : ℕ) → Kept s (enlist_in b w s y d)
     enlisted false w y d = record { kind = refl; before = refl; counted = refl }
     enlisted true w y d = record { kind = refl; before = refl; counted = refl }
 
     go : (b : Bool) → Kept s (pick b (listed m s) (grown m s))
-    go true = enlisted (toSecond m.kind (top m s)) (width m) _ _
+    go true = enlisted (to_second m.kind (top m s)) (width m) _ _
     go false = record { kind = refl; before = refl; counted = refl }
 
 -- of a walk whose solutions all go to the first list: the second list too
@@ -257,59 +257,59 @@ pub record Aside (s t : State) : Type 0 where
   pub second : t.second ≡ s.second
   pub found2 : t.run.found2 ≡ s.run.found2
 
-pub step-aside : (m : System) → ((x : ℕ → ℕ) → toSecond m.kind x ≡ false) → (s : State) → Aside s (step m s)
+pub step_aside : (m : System) → ((x : ℕ → ℕ) → to_second m.kind x ≡ false) → (s : State) → Aside s (step m s)
 unfolding step listed grown
-step-aside m first s = go (solves m (top m s))
+step_aside m first s = go (solves m (top m s))
   where
-    enlisted : (b : Bool) (w : ℕ) (y : ℕ → ℕ) (d : ℕ) → b ≡ false → Aside s (enlistIn b w s y d)
+    enlisted : (b : Bool) (w : ℕ) (y : ℕ → ℕ) (d : ℕ) → b ≡ false → Aside s (enlist_in b w s y d)
     enlisted false w y d e = record { second = refl; found2 = refl }
     enlisted true w y d e = absurd (let z : ◌≡◌ {A = ℕ} 0 1 = cc in omega arith)
 
     go : (b : Bool) → Aside s (pick b (listed m s) (grown m s))
-    go true = enlisted (toSecond m.kind (top m s)) (width m) _ _ (first (top m s))
+    go true = enlisted (to_second m.kind (top m s)) (width m) _ _ (first (top m s))
     go false = record { second = refl; found2 = refl }
 
 -- the change of walk is made once
-pub settled-once : (lower : List ℕ) (i : Input) (s : State) → settleFrom lower i (settleFrom lower i s) ≡ settleFrom lower i s
-unfolding settleFrom lowered
-settled-once lower i s = go s.run.kind s.run.height refl refl
+pub settled_once : (lower : List ℕ) (i : Input) (s : State) → settle_from lower i (settle_from lower i s) ≡ settle_from lower i s
+unfolding settle_from lowered
+settled_once lower i s = go s.run.kind s.run.height refl refl
   where
     go : (r : RunKind) (h : ℕ) → s.run.kind ≡ r → s.run.height ≡ h → let t = changed r h lower i s in changed t.run.kind t.run.height lower i t ≡ t
-    go plainRun h e z = rw (e, z)
-    go cappedRun h e z = rw (e, z)
-    go lowerPlain zero e z = refl
-    go lowerPlain (suc h) e z = rw (e, z)
-    go lowerAbove h e z = rw (e, z)
-    go deskByDesk h e z = rw (e, z)
+    go plain_run h e z = rw (e, z)
+    go capped_run h e z = rw (e, z)
+    go lower_plain zero e z = refl
+    go lower_plain (suc h) e z = rw (e, z)
+    go lower_above h e z = rw (e, z)
+    go desk_by_desk h e z = rw (e, z)
 
 -- ---- what is in order stays so
 
 -- the step of the walk under way may be taken
 abbrev pub GoingFrom : List ℕ → Input → State → Type 0
-GoingFrom lower i s = (s.run.kind ≡ lowerPlain → Going (mapOf i) (plainPart s)) × (s.run.kind ≡ lowerAbove → Going (aboveSystem lower i) s)
+GoingFrom lower i s = (s.run.kind ≡ lower_plain → Going (map_of i) (plain_part s)) × (s.run.kind ≡ lower_above → Going (above_system lower i) s)
 
 module _ (lower : List ℕ) (i : Input) (s : State) where
-  pub lowered-valid : s.run.kind ≡ lowerPlain → ValidFrom lower i s → ValidFrom lower i (lowered (boundOf lower) i.q s)
+  pub lowered_valid : s.run.kind ≡ lower_plain → ValidFrom lower i s → ValidFrom lower i (lowered (bound_of lower) i.q s)
   unfolding lowered
-  lowered-valid e v =
-      let (o, f, l) = named-order lower i s e v.ordered in
+  lowered_valid e v =
+      let (o, f, l) = named_order lower i s e v.ordered in
       let g = v.shaped in
-      let r = row_written i.q s.stack 0 (boundOf lower) 0 g.q-some g.stack in
+      let r = row_written i.q s.stack 0 (bound_of lower) 0 g.q_some g.stack in
       record {
-        shaped = shaped-same g (row-length i.q s.stack 0 (boundOf lower) 0);
+        shaped = shaped_same g (row_length i.q s.stack 0 (bound_of lower) 0);
         ordered = (
           record {
             kind = refl;
-            height = g.q-some;
+            height = g.q_some;
             found = f;
             early = l;
             shallow = o.shallow;
             found2 = o.found;
             rows = λ k kh. let z : k ≡ 0 = omega arith in rw z (record {
-              marked = rw r.marks-are (count_none (frozen 0) i.q frozen-none);
-              fitting = rw r.marks-are (one-le-pow i.q 2 (lit< tt));
+              marked = rw r.marks_are (count_none (frozen 0) i.q frozen_none);
+              fitting = rw r.marks_are (one-le-pow i.q 2 (lit< tt));
               small = λ j jq. rw (r.tuple j jq) (v.small j jq);
-              is-inside = λ j jq. omega (arith, r.tuple j jq);
+              is_inside = λ j jq. omega (arith, r.tuple j jq);
             });
           },
           o.early,
@@ -318,27 +318,27 @@ module _ (lower : List ℕ) (i : Input) (s : State) where
         small = v.small;
       }
 
-  pub settled-valid : ValidFrom lower i s → ValidFrom lower i (settleFrom lower i s)
-  unfolding settleFrom
-  settled-valid v = go s.run.kind s.run.height refl
+  pub settled_valid : ValidFrom lower i s → ValidFrom lower i (settle_from lower i s)
+  unfolding settle_from
+  settled_valid v = go s.run.kind s.run.height refl
     where
       go : (r : RunKind) (h : ℕ) → s.run.kind ≡ r → ValidFrom lower i (changed r h lower i s)
-      go plainRun h e = v
-      go cappedRun h e = v
-      go lowerPlain zero e = lowered-valid e v
-      go lowerPlain (suc h) e = v
-      go lowerAbove h e = v
-      go deskByDesk h e = v
+      go plain_run h e = v
+      go capped_run h e = v
+      go lower_plain zero e = lowered_valid e v
+      go lower_plain (suc h) e = v
+      go lower_above h e = v
+      go desk_by_desk h e = v
 
-  plain-stepped : s.run.kind ≡ lowerPlain → ValidFrom lower i s → Going (mapOf i) (plainPart s)
-      → ValidFrom lower i (whole_of s.run.deepest (step (mapOf i) (plainPart s)))
-  plain-stepped e v g =
-      let (o, f, l) = named-order lower i s e v.ordered in
-      let t : State = step (mapOf i) (plainPart s) in
-      let w = step-valid (mapOf i) (plainPart s) (plain-valid lower i s e v) g.high g in
-      let a = step-aside (mapOf i) (λ x. refl) (plainPart s) in
+  plain_stepped : s.run.kind ≡ lower_plain → ValidFrom lower i s → Going (map_of i) (plain_part s)
+      → ValidFrom lower i (whole_of s.run.deepest (step (map_of i) (plain_part s)))
+  plain_stepped e v g =
+      let (o, f, l) = named_order lower i s e v.ordered in
+      let t : State = step (map_of i) (plain_part s) in
+      let w = step_valid (map_of i) (plain_part s) (plain_valid lower i s e v) g.high g in
+      let a = step_aside (map_of i) (λ x. refl) (plain_part s) in
       record {
-        shaped = shaped-same w.shaped refl;
+        shaped = shaped_same w.shaped refl;
         ordered = (
           record {
             kind = refl;
@@ -350,53 +350,53 @@ module _ (lower : List ℕ) (i : Input) (s : State) where
             rows = w.ordered.rows;
           },
           rw (a.second, a.found2) f,
-          rw (step_kept (mapOf i) (plainPart s)).before l,
+          rw (step_kept (map_of i) (plain_part s)).before l,
         );
         long = v.long;
         small = v.small;
       }
 
-  above-stepped : s.run.kind ≡ lowerAbove → ValidFrom lower i s → Going (aboveSystem lower i) s → ValidFrom lower i (step (aboveSystem lower i) s)
-  above-stepped e v g =
-      let (o, l) = named-order lower i s e v.ordered in
-      let t : State = step (aboveSystem lower i) s in
-      let w = step-valid (aboveSystem lower i) s (above-valid lower i s e v) g.high g in
+  above_stepped : s.run.kind ≡ lower_above → ValidFrom lower i s → Going (above_system lower i) s → ValidFrom lower i (step (above_system lower i) s)
+  above_stepped e v g =
+      let (o, l) = named_order lower i s e v.ordered in
+      let t : State = step (above_system lower i) s in
+      let w = step_valid (above_system lower i) s (above_valid lower i s e v) g.high g in
       record {
-        shaped = shaped-same v.shaped (step-length (aboveSystem lower i) s (above-valid lower i s e v) g.high g);
-        ordered = subst (λ r. InOrderBy r lower i t) (sym w.ordered.kind) (w.ordered, rw (step_kept (aboveSystem lower i) s).before l);
+        shaped = shaped_same v.shaped (step_length (above_system lower i) s (above_valid lower i s e v) g.high g);
+        ordered = subst (λ r. InOrderBy r lower i t) (sym w.ordered.kind) (w.ordered, rw (step_kept (above_system lower i) s).before l);
         long = v.long;
         small = v.small;
       }
 
-  pub search-going-from : ValidFrom lower i s → 0 < s.run.height → searchFrom lower i s ≡ go → GoingFrom lower i s
-  unfolding searchFrom
-  search-going-from v h c = (
-    λ e. search-going (mapOf i) (plainPart s) (plain-valid lower i s e v).ordered h
-        (subst (λ r. byWalk r (searchChecks (mapOf i) (plainPart s)) (searchChecks (aboveSystem lower i) s) ≡ go) e c),
-    λ e. search-going (aboveSystem lower i) s (above-valid lower i s e v).ordered h
-        (subst (λ r. byWalk r (searchChecks (mapOf i) (plainPart s)) (searchChecks (aboveSystem lower i) s) ≡ go) e c),
+  pub search_going_from : ValidFrom lower i s → 0 < s.run.height → search_from lower i s ≡ go → GoingFrom lower i s
+  unfolding search_from
+  search_going_from v h c = (
+    λ e. search_going (map_of i) (plain_part s) (plain_valid lower i s e v).ordered h
+        (subst (λ r. by_walk r (search_checks (map_of i) (plain_part s)) (search_checks (above_system lower i) s) ≡ go) e c),
+    λ e. search_going (above_system lower i) s (above_valid lower i s e v).ordered h
+        (subst (λ r. by_walk r (search_checks (map_of i) (plain_part s)) (search_checks (above_system lower i) s) ≡ go) e c),
   )
 
-  pub step-from-valid : ValidFrom lower i s → GoingFrom lower i s → ValidFrom lower i (stepFrom lower i s)
-  unfolding stepFrom
-  step-from-valid v (p, a) = go s.run.kind refl v.ordered
+  pub step_from_valid : ValidFrom lower i s → GoingFrom lower i s → ValidFrom lower i (step_from lower i s)
+  unfolding step_from
+  step_from_valid v (p, a) = go s.run.kind refl v.ordered
     where
       go : (r : RunKind) → s.run.kind ≡ r → InOrderBy r lower i s
-          → ValidFrom lower i (byWalk r (whole_of s.run.deepest (step (mapOf i) (plainPart s))) (step (aboveSystem lower i) s))
-      go plainRun e o = absurd o
-      go cappedRun e o = absurd o
-      go lowerPlain e o = plain-stepped e v (p e)
-      go lowerAbove e o = above-stepped e v (a e)
-      go deskByDesk e o = absurd o
+          → ValidFrom lower i (by_walk r (whole_of s.run.deepest (step (map_of i) (plain_part s))) (step (above_system lower i) s))
+      go plain_run e o = absurd o
+      go capped_run e o = absurd o
+      go lower_plain e o = plain_stepped e v (p e)
+      go lower_above e o = above_stepped e v (a e)
+      go desk_by_desk e o = absurd o
 
-  pub start-from-valid : i.extra ≡ alone → lowerChecks lower i s ≡ go → ValidFrom lower i (lowerStart (mapOf i) s)
-  unfolding lowerStart unitsStart
-  start-from-valid is e =
-      let (g, len, less) = lower-shaped i s lower is e in
-      let own : Shaped (mapOf i) s = rw is at g in
-      let w = units-valid (mapOf i) (plainPart s) (shaped-same own refl) (λ l. tt) in
+  pub start_from_valid : i.extra ≡ alone → lower_checks lower i s ≡ go → ValidFrom lower i (lower_start (map_of i) s)
+  unfolding lower_start units_start
+  start_from_valid is e =
+      let (g, len, less) = lower_shaped i s lower is e in
+      let own : Shaped (map_of i) s = rw is at g in
+      let w = units_valid (map_of i) (plain_part s) (shaped_same own refl) (λ l. tt) in
       record {
-        shaped = shaped-same w.shaped refl;
+        shaped = shaped_same w.shaped refl;
         ordered = (w.ordered, omega arith, omega arith);
         long = len;
         small = less;

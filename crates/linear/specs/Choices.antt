@@ -30,10 +30,10 @@ abbrev either : Bool → List Bool → List Bool → List Bool
 either true a b = true ∷ a
 either false a b = false ∷ b
 
-unfoldable wayAt : ℕ → ℕ → ℕ → List Bool
-wayAt zero k i = []
-wayAt (suc n) zero i = false ∷ wayAt n zero i
-wayAt (suc n) (suc k) i = either (ltb i (choose n k)) (wayAt n k i) (wayAt n (suc k) (i - choose n k))
+unfoldable way_at : ℕ → ℕ → ℕ → List Bool
+way_at zero k i = []
+way_at (suc n) zero i = false ∷ way_at n zero i
+way_at (suc n) (suc k) i = either (ltb i (choose n k)) (way_at n k i) (way_at n (suc k) (i - choose n k))
 
 -- those in which it is not chosen come after
 abbrev behind : ℕ → ℕ → ℕ → ℕ
@@ -45,27 +45,27 @@ place_of [] = 0
 place_of (true ∷ others) = place_of others
 place_of (false ∷ others) = behind (length others) (chosen others) (place_of others)
 
-way-chosen : {n k : ℕ} {w : List Bool} → Way n k w → Way (suc n) (suc k) (true ∷ w)
+way_chosen : {n k : ℕ} {w : List Bool} → Way n k w → Way (suc n) (suc k) (true ∷ w)
 unfolding chosen
-way-chosen v = record { things = ap suc v.things; choice = ap suc v.choice }
+way_chosen v = record { things = ap suc v.things; choice = ap suc v.choice }
 
-way-other : {n k : ℕ} {w : List Bool} → Way n k w → Way (suc n) k (false ∷ w)
+way_other : {n k : ℕ} {w : List Bool} → Way n k w → Way (suc n) k (false ∷ w)
 unfolding chosen
-way-other v = record { things = ap suc v.things; choice = v.choice }
+way_other v = record { things = ap suc v.things; choice = v.choice }
 
-ways : (n k i : ℕ) → i < choose n k → Way n k (wayAt n k i)
-unfolding wayAt choose chosen
+ways : (n k i : ℕ) → i < choose n k → Way n k (way_at n k i)
+unfolding way_at choose chosen
 ways zero zero i l = record { things = refl; choice = refl }
 ways zero (suc k) i l = absurd (omega arith)
-ways (suc n) zero i l = way-other (ways n zero i (omega arith))
+ways (suc n) zero i l = way_other (ways n zero i (omega arith))
 ways (suc n) (suc k) i l =
     elim (split i (choose n k)) [
-      | inl h ↦ rw (lt-ltb i (choose n k) h) (way-chosen (ways n k i h))
-      | inr h ↦ rw (le-ltb i (choose n k) h) (way-other (ways n (suc k) (i - choose n k) (omega arith)))
+      | inl h ↦ rw (lt-ltb i (choose n k) h) (way_chosen (ways n k i h))
+      | inr h ↦ rw (le-ltb i (choose n k) h) (way_other (ways n (suc k) (i - choose n k) (omega arith)))
     ]
 
-back : (n k i : ℕ) → i < choose n k → place_of (wayAt n k i) ≡ i
-unfolding wayAt choose place_of
+back : (n k i : ℕ) → i < choose n k → place_of (way_at n k i) ≡ i
+unfolding way_at choose place_of
 back zero zero i l = omega arith
 back zero (suc k) i l = absurd (omega arith)
 back (suc n) zero i l = let v = ways n zero i (omega arith) in rw v.choice (back n zero i (omega arith))
@@ -87,22 +87,22 @@ places (false ∷ w) = by (chosen w) (places w)
     by zero l = omega (arith, l)
     by (suc k) l = omega (arith, l)
 
-there : (w : List Bool) → wayAt (length w) (chosen w) (place_of w) ≡ w
-unfolding place_of wayAt chosen
+there : (w : List Bool) → way_at (length w) (chosen w) (place_of w) ≡ w
+unfolding place_of way_at chosen
 there [] = refl
 there (true ∷ w) = rw (lt-ltb (place_of w) (choose (length w) (chosen w)) (places w)) (ap (λ x. true ∷ x) (there w))
 there (false ∷ w) = by (chosen w) (there w)
   where
-    by : (k : ℕ) → wayAt (length w) k (place_of w) ≡ w → wayAt (suc (length w)) k (behind (length w) k (place_of w)) ≡ false ∷ w
+    by : (k : ℕ) → way_at (length w) k (place_of w) ≡ w → way_at (suc (length w)) k (behind (length w) k (place_of w)) ≡ false ∷ w
     by zero e = ap (λ x. false ∷ x) e
     by (suc k) e =
         let less : (choose (length w) k + place_of w) - choose (length w) k ≡ place_of w = omega arith in
         rw (le-ltb (choose (length w) k + place_of w) (choose (length w) k) (omega arith), less) (ap (λ x. false ∷ x) e)
 
-pub choose-counts : (n k : ℕ) → Numbered n k
-choose-counts n k =
+pub choose_counts : (n k : ℕ) → Numbered n k
+choose_counts n k =
     record {
-      way = wayAt n k;
+      way = way_at n k;
       place = place_of;
       ways = ways n k;
       places = λ w v. rw (v.things, v.choice) at (places w);

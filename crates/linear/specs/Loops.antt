@@ -3,9 +3,9 @@
 use Rattle.std.specs.Prelude.{ℕ, zero, suc, ◌-◌, ◌≤◌, ◌<◌, ℤ}
 use Rattle.std.proofs.Math.Decide.{ℕ_discrete}
 use Rattle.std.proofs.Common.{arith}
-use Rattle.linear.specs.Combinations.{Enumerates, SumOf, combined-above, combined-none, combined-raise, combined-some, found_below, met-each, rest-solves}
+use Rattle.linear.specs.Combinations.{Enumerates, SumOf, combined_above, combined_none, combined_raise, combined_some, found_below, met_each, rest_solves}
 use Rattle.linear.specs.Systems.{Solution, SolutionIn}
-use Rattle.linear.specs.TupleLaws.{least, term-le-total, total-some, total-sum}
+use Rattle.linear.specs.TupleLaws.{least, term_le_total, total_some, total_sum}
 use Rattle.linear.specs.Tuples.{AtOrBelow, Minimal, Nonzero, Same, raise, total}
 
 -- the minimal of the solutions that are not 0 (in the trade: the loops)
@@ -34,7 +34,7 @@ module _ (p q : ℕ) (a : ℕ → ℕ → ℤ) (n : ℕ) (row : ℕ → ℕ → 
   one_more t i l b r =
       record {
         times = raise r.times i;
-        adds-up = λ j jq. omega (arith, combined-raise n r.times row i j l, r.adds-up j jq, b j jq);
+        adds_up = λ j jq. omega (arith, combined_raise n r.times row i j l, r.adds_up j jq, b j jq);
       }
 
   -- By descent on the sum of components: take off a row at or below t, found in the list.
@@ -43,43 +43,43 @@ module _ (p q : ℕ) (a : ℕ → ℕ → ℤ) (n : ℕ) (row : ℕ → ℕ → 
   descend solves some all zero t l s = absurd (omega arith)
   descend solves some all (suc d) t l s =
       elim (ℕ_discrete (total t q) 0) [
-        | yes z ↦ record { times = λ i. 0; adds-up = λ j jq. omega (arith, combined-none n row j, term-le-total t q j jq) }
+        | yes z ↦ record { times = λ i. 0; adds_up = λ j jq. omega (arith, combined_none n row j, term_le_total t q j jq) }
         | no ne ↦
-            let (i, il, b) = found_below q (SolutionIn p q a (Nonzero q)) n row all t (record { solution = s; admitted = total-some t q ne }) in
+            let (i, il, b) = found_below q (SolutionIn p q a (Nonzero q)) n row all t (record { solution = s; admitted = total_some t q ne }) in
             let (x, xq, more) = some i il in
             let smaller : total (λ j. t j - row i j) q < d =
-            omega (arith, total-sum t (row i) (λ j. t j - row i j) q (λ j jq. omega (arith, b j jq)), term-le-total (row i) q x xq) in
-            one_more t i il b (descend solves some all d (λ j. t j - row i j) smaller (rest-solves p q a (row i) t b (solves i il) s))
+            omega (arith, total_sum t (row i) (λ j. t j - row i j) q (λ j jq. omega (arith, b j jq)), term_le_total (row i) q x xq) in
+            one_more t i il b (descend solves some all d (λ j. t j - row i j) smaller (rest_solves p q a (row i) t b (solves i il) s))
       ]
 
   -- a list of nonzero solutions that holds each loop, and may hold more, makes up every solution
-  pub loops-within : Solutions p q a n row → ((i : ℕ) → i < n → Nonzero q (row i)) → ((t : ℕ → ℕ) → Loop p q a t → (i : ℕ) × (i < n) × Same q (row i) t)
+  pub loops_within : Solutions p q a n row → ((i : ℕ) → i < n → Nonzero q (row i)) → ((t : ℕ → ℕ) → Loop p q a t → (i : ℕ) × (i < n) × Same q (row i) t)
       → MakesUp p q a n row
-  loops-within solves some all t s = descend solves some all (suc (total t q)) t (omega arith) s
+  loops_within solves some all t s = descend solves some all (suc (total t q)) t (omega arith) s
 
   module _ (loops : Enumerates q (Loop p q a) n row) where
     -- "each natural solution of the system, of any size, is a sum of listed rows with natural multiples"
-    pub loops-make-up : MakesUp p q a n row
-    loops-make-up t s =
-        loops-within (λ i l. (loops.only i l).holds.solution) (λ i l. (loops.only i l).holds.admitted) loops.all t s
+    pub loops_make_up : MakesUp p q a n row
+    loops_make_up t s =
+        loops_within (λ i l. (loops.only i l).holds.solution) (λ i l. (loops.only i l).holds.admitted) loops.all t s
 
     -- a list of solutions that makes up a loop holds it
-    holds-loop : (m : ℕ) (other : ℕ → ℕ → ℕ) → Solutions p q a m other → (t : ℕ → ℕ) → Loop p q a t → SumOf q m other t → (k : ℕ) × (k < m) × Same q (other k) t
-    holds-loop m other solves t loop sum =
+    holds_loop : (m : ℕ) (other : ℕ → ℕ → ℕ) → Solutions p q a m other → (t : ℕ → ℕ) → Loop p q a t → SumOf q m other t → (k : ℕ) × (k < m) × Same q (other k) t
+    holds_loop m other solves t loop sum =
         let (j, jq, more) = loop.holds.admitted in
-        let (k, km, taken, some) = combined-some q m sum.times other (j, jq, omega (arith, sum.adds-up j jq)) in (
+        let (k, km, taken, some) = combined_some q m sum.times other (j, jq, omega (arith, sum.adds_up j jq)) in (
           k,
           km,
           least loop (other k) (record { solution = solves k km; admitted = some })
-              (λ x xq. omega (arith, sum.adds-up x xq, combined-above m sum.times other k x km taken)),
+              (λ x xq. omega (arith, sum.adds_up x xq, combined_above m sum.times other k x km taken)),
         )
 
     -- "and no shorter list of solutions has that property"
-    pub loops-fewest : (m : ℕ) (other : ℕ → ℕ → ℕ) → Solutions p q a m other → MakesUp p q a m other → n ≤ m
-    loops-fewest m other solves makes =
-        met-each n m (λ i k. Same q (other k) (row i))
-        (λ i l. holds-loop m other solves (row i) (loops.only i l) (makes (row i) (loops.only i l).holds.solution))
+    pub loops_fewest : (m : ℕ) (other : ℕ → ℕ → ℕ) → Solutions p q a m other → MakesUp p q a m other → n ≤ m
+    loops_fewest m other solves makes =
+        met_each n m (λ i k. Same q (other k) (row i))
+        (λ i l. holds_loop m other solves (row i) (loops.only i l) (makes (row i) (loops.only i l).holds.solution))
         (λ i j k ij jn e f. loops.once i j ij jn (λ x xq. omega (arith, e x xq, f x xq)))
 
-    pub made-of-loops : MadeOfRows p q a n row
-    made-of-loops = record { every = loops-make-up; fewest = loops-fewest }
+    pub made_of_loops : MadeOfRows p q a n row
+    made_of_loops = record { every = loops_make_up; fewest = loops_fewest }

@@ -4,9 +4,9 @@ use Rattle.std.specs.Prelude.{◌≡◌, refl, Bool, true, false, ℕ, zero, suc
 use Rattle.std.proofs.Common.{inl, inr, add-one, arith}
 use Rattle.std.proofs.Math.Option.{Option, some, none}
 use Rattle.linear.specs.Cases.{below_suc, order}
-use Rattle.linear.specs.Places.{elseIf, firstTo, last_to, placeIf}
-use Rattle.linear.specs.Tests.{anyTo}
-use Rattle.linear.specs.TestLaws.{any-from, any_at}
+use Rattle.linear.specs.Places.{else_if, first_to, last_to, place_if}
+use Rattle.linear.specs.Tests.{any_to}
+use Rattle.linear.specs.TestLaws.{any_from, any_at}
 
 -- ---- the last place
 
@@ -26,8 +26,8 @@ abbrev pub LastIs : ℕ → (ℕ → Bool) → Option ℕ → Type 0
 LastIs n f none = Never n f
 LastIs n f (some k) = Last n f k
 
-last_more : (n : ℕ) (f : ℕ → Bool) (b : Bool) → f n ≡ b → (r : Option ℕ) → LastIs n f r → LastIs (suc n) f (placeIf b (suc n) r)
-unfolding placeIf
+last_more : (n : ℕ) (f : ℕ → Bool) (b : Bool) → f n ≡ b → (r : Option ℕ) → LastIs n f r → LastIs (suc n) f (place_if b (suc n) r)
+unfolding place_if
 last_more n f true e r h =
     let z : suc n - 1 ≡ n = omega arith in
     record { some = omega arith; few = omega arith; holds = rw (z, e) tt; none_after = λ i l m. absurd (omega arith) }
@@ -40,10 +40,10 @@ last_more n f false e (some k) h =
       none_after = λ i l m y. elim (below_suc m) [ inl x ↦ h.none_after i l x y | inr g ↦ rw (g, e) at y ];
     }
 
-pub last-is : (n : ℕ) (f : ℕ → Bool) → LastIs n f (last_to n f)
+pub last_is : (n : ℕ) (f : ℕ → Bool) → LastIs n f (last_to n f)
 unfolding last_to
-last-is zero f = λ i l. absurd (omega arith)
-last-is (suc n) f = last_more n f (f n) refl (last_to n f) (last-is n f)
+last_is zero f = λ i l. absurd (omega arith)
+last_is (suc n) f = last_more n f (f n) refl (last_to n f) (last_is n f)
 
 module _ (n : ℕ) (f : ℕ → Bool) where
   -- two answers that are right are one
@@ -60,16 +60,16 @@ module _ (n : ℕ) (f : ℕ → Bool) where
         ]
       ]
 
-  pub last-from : (r : Option ℕ) → LastIs n f r → last_to n f ≡ r
-  last-from r h = last_one (last_to n f) r (last-is n f) h
+  pub last_from : (r : Option ℕ) → LastIs n f r → last_to n f ≡ r
+  last_from r h = last_one (last_to n f) r (last_is n f) h
 
 -- whether there is an answer
 abbrev pub given : Option ℕ → Bool
 given none = false
 given (some k) = true
 
-pub any_last : (n : ℕ) (f : ℕ → Bool) → anyTo n f ≡ given (last_to n f)
-any_last n f = agree (anyTo n f) (last_to n f) (last-is n f) (any_at n f) (any-from n f)
+pub any_last : (n : ℕ) (f : ℕ → Bool) → any_to n f ≡ given (last_to n f)
+any_last n f = agree (any_to n f) (last_to n f) (last_is n f) (any_at n f) (any_from n f)
   where
     agree : (b : Bool) (r : Option ℕ) → LastIs n f r → (T b → (i : ℕ) × (i < n) × T (f i)) → ((i : ℕ) → i < n → T (f i) → T b) → b ≡ given r
     agree true none h to from = let (i, l, y) = to tt in absurd (h i l y)
@@ -78,7 +78,7 @@ any_last n f = agree (anyTo n f) (last_to n f) (last-is n f) (any_at n f) (any-f
     agree false (some k) h to from = absurd (from (k - 1) (omega (arith, h.some, h.few)) h.holds)
 
 pub last_none : (n : ℕ) (f : ℕ → Bool) → ((k : ℕ) → ¬ (Last n f k)) → last_to n f ≡ none
-last_none n f none_is = none_of (last_to n f) (last-is n f)
+last_none n f none_is = none_of (last_to n f) (last_is n f)
   where
     none_of : (r : Option ℕ) → LastIs n f r → r ≡ none
     none_of none h = refl
@@ -97,18 +97,18 @@ abbrev pub FirstIs : ℕ → (ℕ → Bool) → Option ℕ → Type 0
 FirstIs n f none = Never n f
 FirstIs n f (some k) = First n f k
 
-first_more : (n : ℕ) (f : ℕ → Bool) (r : Option ℕ) → FirstIs n f r → (b : Bool) → f n ≡ b → FirstIs (suc n) f (elseIf r b (suc n))
-unfolding elseIf
+first_more : (n : ℕ) (f : ℕ → Bool) (r : Option ℕ) → FirstIs n f r → (b : Bool) → f n ≡ b → FirstIs (suc n) f (else_if r b (suc n))
+unfolding else_if
 first_more n f (some k) h b e = record { some = h.some; few = omega (arith, h.few); holds = h.holds; none_before = h.none_before }
 first_more n f none h true e =
     let z : suc n - 1 ≡ n = omega arith in
     record { some = omega arith; few = omega arith; holds = rw (z, e) tt; none_before = λ i l. h i (omega arith) }
 first_more n f none h false e = λ i l y. elim (below_suc l) [ inl k ↦ h i k y | inr g ↦ rw (g, e) at y ]
 
-pub first-is : (n : ℕ) (f : ℕ → Bool) → FirstIs n f (firstTo n f)
-unfolding firstTo
-first-is zero f = λ i l. absurd (omega arith)
-first-is (suc n) f = first_more n f (firstTo n f) (first-is n f) (f n) refl
+pub first_is : (n : ℕ) (f : ℕ → Bool) → FirstIs n f (first_to n f)
+unfolding first_to
+first_is zero f = λ i l. absurd (omega arith)
+first_is (suc n) f = first_more n f (first_to n f) (first_is n f) (f n) refl
 
 module _ (n : ℕ) (f : ℕ → Bool) where
   first_one : (r s : Option ℕ) → FirstIs n f r → FirstIs n f s → r ≡ s
@@ -124,11 +124,11 @@ module _ (n : ℕ) (f : ℕ → Bool) where
         ]
       ]
 
-  pub first-from : (r : Option ℕ) → FirstIs n f r → firstTo n f ≡ r
-  first-from r h = first_one (firstTo n f) r (first-is n f) h
+  pub first_from : (r : Option ℕ) → FirstIs n f r → first_to n f ≡ r
+  first_from r h = first_one (first_to n f) r (first_is n f) h
 
-  pub first-none : ((k : ℕ) → ¬ (First n f k)) → firstTo n f ≡ none
-  first-none none_is = none_of (firstTo n f) (first-is n f)
+  pub first_none : ((k : ℕ) → ¬ (First n f k)) → first_to n f ≡ none
+  first_none none_is = none_of (first_to n f) (first_is n f)
     where
       none_of : (r : Option ℕ) → FirstIs n f r → r ≡ none
       none_of none h = refl
@@ -136,20 +136,20 @@ module _ (n : ℕ) (f : ℕ → Bool) where
 
 -- ---- as a loop meets them
 
-pub first_next : (n : ℕ) (f : ℕ → Bool) → firstTo n f ≡ none → f n ≡ false → firstTo (n + 1) f ≡ none
-unfolding firstTo elseIf
+pub first_next : (n : ℕ) (f : ℕ → Bool) → first_to n f ≡ none → f n ≡ false → first_to (n + 1) f ≡ none
+unfolding first_to else_if
 first_next n f a b = rw (add-one, a, b)
 
-pub first-here : (n : ℕ) (f : ℕ → Bool) (i : ℕ) → i < n → firstTo i f ≡ none → f i ≡ true → firstTo n f ≡ some (i + 1)
-unfolding firstTo elseIf
-first-here zero f i l a b = absurd (omega arith)
-first-here (suc n) f i l a b = elim (below_suc l) [ inl k ↦ rw (first-here n f i k a b) | inr e ↦ rw (← e, a, b, add-one i) ]
+pub first_here : (n : ℕ) (f : ℕ → Bool) (i : ℕ) → i < n → first_to i f ≡ none → f i ≡ true → first_to n f ≡ some (i + 1)
+unfolding first_to else_if
+first_here zero f i l a b = absurd (omega arith)
+first_here (suc n) f i l a b = elim (below_suc l) [ inl k ↦ rw (first_here n f i k a b) | inr e ↦ rw (← e, a, b, add-one i) ]
 
 -- from the last place down: a place that fails is passed, and the first that holds is the last place
-pub last-passed : (n : ℕ) (f : ℕ → Bool) → f n ≡ false → last_to (suc n) f ≡ last_to n f
-unfolding last_to placeIf
-last-passed n f e = rw e
+pub last_passed : (n : ℕ) (f : ℕ → Bool) → f n ≡ false → last_to (suc n) f ≡ last_to n f
+unfolding last_to place_if
+last_passed n f e = rw e
 
-pub last-here : (n : ℕ) (f : ℕ → Bool) → f n ≡ true → last_to (suc n) f ≡ some (suc n)
-unfolding last_to placeIf
-last-here n f e = rw e
+pub last_here : (n : ℕ) (f : ℕ → Bool) → f n ≡ true → last_to (suc n) f ≡ some (suc n)
+unfolding last_to place_if
+last_here n f e = rw e

@@ -3,21 +3,21 @@
 use Rattle.std.specs.Prelude.{ℕ, zero, suc, Bool, true, false}
 use Rattle.std.proofs.Math.Option.{Option, some, none}
 
-unfoldable pub elseIf : Option ℕ → Bool → ℕ → Option ℕ
-elseIf (some k) b n = some k
-elseIf none true n = some n
-elseIf none false n = none
+unfoldable pub else_if : Option ℕ → Bool → ℕ → Option ℕ
+else_if (some k) b n = some k
+else_if none true n = some n
+else_if none false n = none
 
 -- the first place
-unfoldable pub firstTo : ℕ → (ℕ → Bool) → Option ℕ
-firstTo zero f = none
-firstTo (suc n) f = elseIf (firstTo n f) (f n) (suc n)
+unfoldable pub first_to : ℕ → (ℕ → Bool) → Option ℕ
+first_to zero f = none
+first_to (suc n) f = else_if (first_to n f) (f n) (suc n)
 
-unfoldable pub placeIf : Bool → ℕ → Option ℕ → Option ℕ
-placeIf true n rest = some n
-placeIf false n rest = rest
+unfoldable pub place_if : Bool → ℕ → Option ℕ → Option ℕ
+place_if true n rest = some n
+place_if false n rest = rest
 
 -- the last place
 unfoldable pub last_to : ℕ → (ℕ → Bool) → Option ℕ
 last_to zero f = none
-last_to (suc n) f = placeIf (f n) (suc n) (last_to n f)
+last_to (suc n) f = place_if (f n) (suc n) (last_to n f)

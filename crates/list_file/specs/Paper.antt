@@ -25,6 +25,6 @@ values_of Number = []
 values_of Range = []
 values_of TableLength = []
 
-abbrev pub checkOf : FileCheck → paper.Check
-checkOf (Refuse why) = paper.refuse (number_of why) (values_of why)
-checkOf Pass = paper.go
+abbrev pub check_of : FileCheck → paper.Check
+check_of (Refuse why) = paper.refuse (number_of why) (values_of why)
+check_of Pass = paper.go

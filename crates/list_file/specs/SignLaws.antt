@@ -9,9 +9,9 @@ use Rattle.list_spec.specs.Words.{unsigned, signed}
 
 -- ---- from a coefficient
 
-next-back : (n : ℕ) → pos 0 -ℤ (negsuc n +ℤ pos 1) ≡ pos n
-next-back zero = refl
-next-back (suc n) = rw (+ℤ_one (negsuc (suc n)), +ℤ_idl (pos (suc n)))
+next_back : (n : ℕ) → pos 0 -ℤ (negsuc n +ℤ pos 1) ≡ pos n
+next_back zero = refl
+next_back (suc n) = rw (+ℤ_one (negsuc (suc n)), +ℤ_idl (pos (suc n)))
 
 next_fits : (n : ℕ) → n < 2 ^ 31 → FitsSigned w32 (negsuc n +ℤ pos 1)
 next_fits zero l = sfits_of (omega arith)
@@ -25,10 +25,10 @@ pub record Below (z : ℤ) : Type 0 where
   pub back : pos 0 -ℤ (z +ℤ pos 1) ≡ pos n
   pub word : 4294967295 - n ≡ unsigned z
 
-pub below-zero : (z : ℤ) → FitsSigned w32 z → int_lt z (pos 0) ≡ true → Below z
-below-zero (pos n) f e = absurd (omega (arith, ltb-true n 0 e))
-below-zero (negsuc n) f e =
-    record { n = n; small = f.sfits; next = next_fits n f.sfits; back = next-back n; word = omega arith }
+pub below_zero : (z : ℤ) → FitsSigned w32 z → int_lt z (pos 0) ≡ true → Below z
+below_zero (pos n) f e = absurd (omega (arith, ltb-true n 0 e))
+below_zero (negsuc n) f e =
+    record { n = n; small = f.sfits; next = next_fits n f.sfits; back = next_back n; word = omega arith }
 
 -- one that is not
 pub record NotBelow (z : ℤ) : Type 0 where
@@ -36,16 +36,16 @@ pub record NotBelow (z : ℤ) : Type 0 where
   pub fits : Fits w32 (unsigned_abs z)
   pub word : unsigned_abs z ≡ unsigned z
 
-pub not-below-zero : (z : ℤ) → FitsSigned w32 z → int_lt z (pos 0) ≡ false → NotBelow z
-not-below-zero (pos n) f e = record { sign = tt; fits = record { fits = omega (arith, f.sfits) }; word = refl }
-not-below-zero (negsuc n) f e = absurd (true≢false e)
+pub not_below_zero : (z : ℤ) → FitsSigned w32 z → int_lt z (pos 0) ≡ false → NotBelow z
+not_below_zero (pos n) f e = record { sign = tt; fits = record { fits = omega (arith, f.sfits) }; word = refl }
+not_below_zero (negsuc n) f e = absurd (true≢false e)
 
 module _ (n : ℕ) (l : n < 2 ^ 31) where
-  pub natural-fits : FitsSigned w32 (pos n)
-  natural-fits = sfits_of l
+  pub natural_fits : FitsSigned w32 (pos n)
+  natural_fits = sfits_of l
 
-  pub natural-word : to_z w32 n ≡ pos n
-  natural-word = to_z-of_z {w = w32} {z = pos n} natural-fits
+  pub natural_word : to_z w32 n ≡ pos n
+  natural_word = to_z-of_z {w = w32} {z = pos n} natural_fits
 
   pub negative_fits : FitsSigned w32 (negsuc n)
   negative_fits = sfits_of l
@@ -56,5 +56,5 @@ pub one_less : (n : ℕ) → negsuc 0 -ℤ pos n ≡ negsuc n
 one_less zero = refl
 one_less (suc n) = let e : 0 + n ≡ n = omega arith in rw e
 
-pub negative-word : (w : ℕ) → 2 ^ 31 ≤ w → negsuc (4294967295 - w) ≡ signed w
-negative-word w l = let e : 4294967296 - suc w ≡ 4294967295 - w = omega arith in rw (le-ltb w (2 ^ 31) l, e)
+pub negative_word : (w : ℕ) → 2 ^ 31 ≤ w → negsuc (4294967295 - w) ≡ signed w
+negative_word w l = let e : 4294967296 - suc w ≡ 4294967295 - w = omega arith in rw (le-ltb w (2 ^ 31) l, e)

@@ -9,10 +9,10 @@ use Rattle.list_file.specs.declared.write.Write.TheVariants.{Whole, Refused}
 abbrev pub list_of : ℕ → ℕ → List ℤ → List ℕ → ℕ → ListFile
 list_of p q coefs rows ending = record { p = p; q = q; coefs = coefs; rows = rows; ending = ending }
 
-abbrev pub writeAnswer : Write → paper.WriteAnswer
-writeAnswer Whole = paper.wrote
-writeAnswer (Refused why) = paper.refused (number_of why) (values_of why)
+abbrev pub write_answer : Write → paper.WriteAnswer
+write_answer Whole = paper.wrote
+write_answer (Refused why) = paper.refused (number_of why) (values_of why)
 
 -- an answer, with the buffer as it is left
-abbrev pub writeOutcome : Write → List ℕ → paper.WriteOutcome
-writeOutcome r out = record { answer = writeAnswer r; out = out }
+abbrev pub write_outcome : Write → List ℕ → paper.WriteOutcome
+write_outcome r out = record { answer = write_answer r; out = out }

@@ -1,9 +1,9 @@
 // What the calls on files share (document 02, Job 5): why they refuse, and words of 32 bits, four bytes each with the lowest first; their sum; and
 // coefficients in two's complement.
 ghost use Rattle.std.specs.Prelude.{◌≡◌, ◌+◌, ◌*◌, ◌<◌, ◌≤◌, ◌&&◌, leb, ◌++◌, length, take, nat_le};
-ghost use Rattle.linear.specs.Tests.{allTo};
+ghost use Rattle.linear.specs.Tests.{all_to};
 ghost use Rattle.calls.specs.Paper.{value};
-ghost use Rattle.list_spec.specs.Words.{wordAt, word_bytes, wrappingSum, unsigned, signed as signedWord};
+ghost use Rattle.list_spec.specs.Words.{word_at, word_bytes, wrapping_sum, unsigned, signed as signedWord};
 ghost use Rattle.list_file.specs.Paper.{number_of, values_of};
 
 use calls::Refusal;
@@ -57,7 +57,7 @@ pub fn value_of(why: FileRefusal) -> usize
 // Word `k` of these bytes.
 pub(crate) fn word_at(bytes: &[u8], k: usize) -> u32
     requires { 4 * k + 4 ≤ length bytes.now }
-    ensures { result ≡ wordAt bytes.now k }
+    ensures { result ≡ word_at bytes.now k }
 {
     let at = 4 * k;
     wide(bytes[at])
@@ -87,7 +87,7 @@ pub(crate) fn put_word(bytes: &mut [u8], k: usize, w: u32)
 // The wrapping sum of the `n` words from word `first` on.
 pub(crate) fn wrapping_sum(bytes: &[u8], first: usize, n: usize) -> u32
     requires { 4 * (first + n) ≤ length bytes.now }
-    ensures { result ≡ wrappingSum n (λ j. wordAt bytes.now (first + j)) }
+    ensures { result ≡ wrapping_sum n (λ j. word_at bytes.now (first + j)) }
 {
     let mut sum: u32 = 0;
     let mut j = 0;
@@ -125,7 +125,7 @@ pub fn signed(w: u32) -> i32
 // Whether the `n` words from word `first` on are at most `limit`. All are looked at, which is quicker than to stop at the first that is not.
 pub(crate) fn all_within(bytes: &[u8], first: usize, n: usize, limit: u32) -> bool
     requires { 4 * (first + n) ≤ length bytes.now }
-    ensures { result ≡ allTo n (λ j. leb (wordAt bytes.now (first + j)) limit) }
+    ensures { result ≡ all_to n (λ j. leb (word_at bytes.now (first + j)) limit) }
 {
     let mut within = true;
     let mut j = 0;

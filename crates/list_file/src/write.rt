@@ -1,7 +1,7 @@
 // Writing a list to a file (document 02, Job 5).
 ghost use Rattle.std.specs.Prelude.{◌≡◌};
-ghost use Rattle.list_spec.specs.Writing.{writeList};
-ghost use Rattle.list_file.specs.WriteAnswer.{list_of, writeOutcome};
+ghost use Rattle.list_spec.specs.Writing.{write_list};
+ghost use Rattle.list_file.specs.WriteAnswer.{list_of, write_outcome};
 
 use crate::words::{FileCheck, FileRefusal};
 
@@ -25,7 +25,7 @@ pub fn write_list(
     ending: u32,
     out: &mut [u8],
 ) -> Write
-    ensures { writeOutcome result out.new ≡ writeList (list_of p q coefs.now rows.now ending) out.old }
+    ensures { write_outcome result out.new ≡ write_list (list_of p q coefs.now rows.now ending) out.old }
 {
     match checking::check(p, q, coefs, rows, ending, out.len()) {
         FileCheck::Refuse(why) => Write::Refused(why),

@@ -6,96 +6,96 @@ use Rattle.std.proofs.Math.Logic.{inl, inr}
 use Rattle.std.proofs.Math.Path.{refl}
 use Rattle.std.proofs.Common.{arith, ltb→lt, lt→ltb}
 use Rattle.linear.specs.Cases.{below_suc}
-use Rattle.definitions.specs.Answers.{Check, go, ◌then◌, refuseIf, refuseFirst}
-use Rattle.definitions.specs.Refusals.{outOfRange}
-use Rattle.definitions.specs.System.{mostEquations, mostUnknowns, coefLimit}
-use Rattle.laws.specs.AnswerLaws.{then-assoc, then-go}
+use Rattle.definitions.specs.Answers.{Check, go, ◌then◌, refuse_if, refuse_first}
+use Rattle.definitions.specs.Refusals.{out_of_range}
+use Rattle.definitions.specs.System.{most_equations, most_unknowns, coef_limit}
+use Rattle.laws.specs.AnswerLaws.{then_assoc, then_go}
 use Rattle.laws.specs.CheckLaws.{
   Decides,
   Renders,
   Rules,
   ◌▹◌,
-  by-test,
+  by_test,
   decides_below,
-  decides-first,
+  decides_first,
   decides_not,
   end,
   placed,
-  renders-last,
-  renders-then,
+  renders_last,
+  renders_then,
   rule,
 }
-use Rattle.laws.specs.RefusalLaws.{Outside, at_most, decides-outside, decides-unequal, equal}
-use Rattle.list_spec.specs.Words.{wrappingSum}
-use Rattle.list_spec.specs.Form.{ListFile, blockBytes, blockWords, laterBlocks, blockCount, fileBlocks}
-use Rattle.list_spec.specs.Writing.{listInRange, writeChecks}
-use Rattle.list_spec.specs.Reading.{coefWords, rowWords, in_block, blockChecks, headerInRange, blockInRange, streamChecks, fileChecks, readChecks}
-use Rattle.list_spec.specs.Ranges.{RowsInRange, rows-from, rows-to, HeaderInRange, header-from, header-to, BlockInRange, block-from, block_to}
+use Rattle.laws.specs.RefusalLaws.{Outside, at_most, decides_outside, decides_unequal, equal}
+use Rattle.list_spec.specs.Words.{wrapping_sum}
+use Rattle.list_spec.specs.Form.{ListFile, block_bytes, block_words, later_blocks, block_count, file_blocks}
+use Rattle.list_spec.specs.Writing.{list_in_range, write_checks}
+use Rattle.list_spec.specs.Reading.{coef_words, row_words, in_block, block_checks, header_in_range, block_in_range, stream_checks, file_checks, read_checks}
+use Rattle.list_spec.specs.Ranges.{RowsInRange, rows_from, rows_to, HeaderInRange, header_from, header_to, BlockInRange, block_from, block_to}
 
 -- ---- the writer
 
 -- "The writer gives 1, 2, 3, 7, then 22 for a row count, component or ending out of range or a row not whole, then 19 for a buffer not of the
 -- exact length."
-abbrev pub writeRules : ListFile → ℕ → Rules
-writeRules l room =
-    rule 1 (Outside 1 mostEquations l.p)
-    ▹ rule 2 (Outside 1 mostUnknowns l.q)
+abbrev pub write_rules : ListFile → ℕ → Rules
+write_rules l room =
+    rule 1 (Outside 1 most_equations l.p)
+    ▹ rule 2 (Outside 1 most_unknowns l.q)
     ▹ rule 3 (length l.coefs ≢ l.p * l.q)
-    ▹ placed 7 (length l.coefs) (λ i. coefLimit < nat_abs (get_or l.coefs i (pos 0)))
+    ▹ placed 7 (length l.coefs) (λ i. coef_limit < nat_abs (get_or l.coefs i (pos 0)))
     ▹ rule 22 (¬ (RowsInRange l))
-    ▹ rule 19 (room ≢ blockBytes * fileBlocks l)
+    ▹ rule 19 (room ≢ block_bytes * file_blocks l)
     ▹ end
 
 -- 7: the first coefficient out of range
-decides-coefs : (coefs : List ℤ)
-    → Decides (refuseFirst 7 (length coefs) (λ i. outOfRange (get_or coefs i (pos 0)))) (placed 7 (length coefs) (λ i. coefLimit < nat_abs (get_or coefs i (pos 0))))
-decides-coefs coefs =
-    decides-first 7 (length coefs) (λ i. outOfRange (get_or coefs i (pos 0))) (λ i. coefLimit < nat_abs (get_or coefs i (pos 0)))
-    (λ i l. ltb→lt coefLimit (nat_abs (get_or coefs i (pos 0))))
-    (λ i l. lt→ltb coefLimit (nat_abs (get_or coefs i (pos 0))))
+decides_coefs : (coefs : List ℤ)
+    → Decides (refuse_first 7 (length coefs) (λ i. out_of_range (get_or coefs i (pos 0)))) (placed 7 (length coefs) (λ i. coef_limit < nat_abs (get_or coefs i (pos 0))))
+decides_coefs coefs =
+    decides_first 7 (length coefs) (λ i. out_of_range (get_or coefs i (pos 0))) (λ i. coef_limit < nat_abs (get_or coefs i (pos 0)))
+    (λ i l. ltb→lt coef_limit (nat_abs (get_or coefs i (pos 0))))
+    (λ i l. lt→ltb coef_limit (nat_abs (get_or coefs i (pos 0))))
 
-pub write-renders : (l : ListFile) (room : ℕ) → Renders (writeChecks l room) (writeRules l room)
-unfolding writeChecks
-write-renders l room =
-    renders-then (decides-outside 1 1 mostEquations l.p)
-    (renders-then (decides-outside 2 1 mostUnknowns l.q)
-    (renders-then (decides-unequal 3 (length l.coefs) (l.p * l.q))
-    (renders-then (decides-coefs l.coefs)
-    (renders-then (decides_not (listInRange l) 22 (RowsInRange l) (rows-from l) (rows-to l))
-    (renders-last (decides-unequal 19 room (blockBytes * fileBlocks l)))))))
+pub write_renders : (l : ListFile) (room : ℕ) → Renders (write_checks l room) (write_rules l room)
+unfolding write_checks
+write_renders l room =
+    renders_then (decides_outside 1 1 most_equations l.p)
+    (renders_then (decides_outside 2 1 most_unknowns l.q)
+    (renders_then (decides_unequal 3 (length l.coefs) (l.p * l.q))
+    (renders_then (decides_coefs l.coefs)
+    (renders_then (decides_not (list_in_range l) 22 (RowsInRange l) (rows_from l) (rows_to l))
+    (renders_last (decides_unequal 19 room (block_bytes * file_blocks l)))))))
 
 -- a list that the writer takes
 pub record ListInRange (l : ListFile) : Type 0 where
-  pub p-some : 1 ≤ l.p
-  pub p-few : l.p ≤ mostEquations
-  pub q-some : 1 ≤ l.q
-  pub q-few : l.q ≤ mostUnknowns
+  pub p_some : 1 ≤ l.p
+  pub p_few : l.p ≤ most_equations
+  pub q_some : 1 ≤ l.q
+  pub q_few : l.q ≤ most_unknowns
   pub count : length l.coefs ≡ l.p * l.q
-  pub range : (i : ℕ) → i < length l.coefs → nat_abs (get_or l.coefs i (pos 0)) ≤ coefLimit
+  pub range : (i : ℕ) → i < length l.coefs → nat_abs (get_or l.coefs i (pos 0)) ≤ coef_limit
   pub rows : RowsInRange l
 
 module _ (l : ListFile) (room : ℕ) where
-  pub write-in : writeChecks l room ≡ go → ListInRange l × (room ≡ blockBytes * fileBlocks l)
-  write-in e =
-      let (p, (q, (c, (r, (b, (s, u)))))) = (write-renders l room).goes e in (
+  pub write_in : write_checks l room ≡ go → ListInRange l × (room ≡ block_bytes * file_blocks l)
+  write_in e =
+      let (p, (q, (c, (r, (b, (s, u)))))) = (write_renders l room).goes e in (
         record {
-          p-some = at_most 1 l.p (λ h. p (inl h));
-          p-few = at_most l.p mostEquations (λ h. p (inr h));
-          q-some = at_most 1 l.q (λ h. q (inl h));
-          q-few = at_most l.q mostUnknowns (λ h. q (inr h));
+          p_some = at_most 1 l.p (λ h. p (inl h));
+          p_few = at_most l.p most_equations (λ h. p (inr h));
+          q_some = at_most 1 l.q (λ h. q (inl h));
+          q_few = at_most l.q most_unknowns (λ h. q (inr h));
           count = equal (length l.coefs) (l.p * l.q) c;
-          range = λ i m. at_most (nat_abs (get_or l.coefs i (pos 0))) coefLimit (r i m);
-          rows = by-test (listInRange l) (rows-from l) (rows-to l) b;
+          range = λ i m. at_most (nat_abs (get_or l.coefs i (pos 0))) coef_limit (r i m);
+          rows = by_test (list_in_range l) (rows_from l) (rows_to l) b;
         },
-        equal room (blockBytes * fileBlocks l) s,
+        equal room (block_bytes * file_blocks l) s,
       )
 
-  pub write-out : ListInRange l → room ≡ blockBytes * fileBlocks l → writeChecks l room ≡ go
-  write-out g e =
-      (write-renders l room).silent (
-        λ o. elim o [ inl h ↦ omega (arith, g.p-some) | inr h ↦ omega (arith, g.p-few) ],
+  pub write_out : ListInRange l → room ≡ block_bytes * file_blocks l → write_checks l room ≡ go
+  write_out g e =
+      (write_renders l room).silent (
+        λ o. elim o [ inl h ↦ omega (arith, g.p_some) | inr h ↦ omega (arith, g.p_few) ],
         (
-          λ o. elim o [ inl h ↦ omega (arith, g.q-some) | inr h ↦ omega (arith, g.q-few) ],
+          λ o. elim o [ inl h ↦ omega (arith, g.q_some) | inr h ↦ omega (arith, g.q_few) ],
           (λ ne. ne g.count, (λ i m h. omega (arith, g.range i m), (λ n. n g.rows, (λ ne. ne e, tt)))),
         ),
       )
@@ -103,155 +103,155 @@ module _ (l : ListFile) (room : ℕ) where
 -- ---- a block of a file
 
 -- "In each block: 20, check; 21, number; 22, a word out of range or filler not zero."
-abbrev pub blockRules : List ℕ → ℕ → Type 0 → Rules → Rules
-blockRules file b P others =
-    rule 20 (wrappingSum blockWords (in_block file b) ≢ 0)
+abbrev pub block_rules : List ℕ → ℕ → Type 0 → Rules → Rules
+block_rules file b P others =
+    rule 20 (wrapping_sum block_words (in_block file b) ≢ 0)
     ▹ rule 21 (in_block file b 0 ≢ b)
     ▹ rule 22 (¬ P)
     ▹ others
 
 -- its words add to zero, it has its number, and what it carries is in range
 pub record BlockInOrder (file : List ℕ) (b : ℕ) (P : Type 0) : Type 0 where
-  pub sum : wrappingSum blockWords (in_block file b) ≡ 0
+  pub sum : wrapping_sum block_words (in_block file b) ≡ 0
   pub number : in_block file b 0 ≡ b
   pub range : P
 
 module _ (file : List ℕ) (b : ℕ) (t : Bool) (P : Type 0) (from : T t → P) (to : P → T t) where
-  block-renders-then : {c : Check} {rs : Rules} → Renders c rs → Renders (blockChecks file b t then c) (blockRules file b P rs)
-  unfolding blockChecks
-  block-renders-then {c} {rs} r =
-      rw (then-assoc, then-assoc)
-      (renders-then (decides-unequal 20 (wrappingSum blockWords (in_block file b)) 0)
-      (renders-then (decides-unequal 21 (in_block file b 0) b) (renders-then (decides_not t 22 P from to) r)))
+  block_renders_then : {c : Check} {rs : Rules} → Renders c rs → Renders (block_checks file b t then c) (block_rules file b P rs)
+  unfolding block_checks
+  block_renders_then {c} {rs} r =
+      rw (then_assoc, then_assoc)
+      (renders_then (decides_unequal 20 (wrapping_sum block_words (in_block file b)) 0)
+      (renders_then (decides_unequal 21 (in_block file b 0) b) (renders_then (decides_not t 22 P from to) r)))
 
-  block-renders : Renders (blockChecks file b t) (blockRules file b P end)
-  unfolding blockChecks
-  block-renders =
-      renders-then (decides-unequal 20 (wrappingSum blockWords (in_block file b)) 0)
-      (renders-then (decides-unequal 21 (in_block file b 0) b) (renders-last (decides_not t 22 P from to)))
+  block_renders : Renders (block_checks file b t) (block_rules file b P end)
+  unfolding block_checks
+  block_renders =
+      renders_then (decides_unequal 20 (wrapping_sum block_words (in_block file b)) 0)
+      (renders_then (decides_unequal 21 (in_block file b 0) b) (renders_last (decides_not t 22 P from to)))
 
-  block_in : blockChecks file b t ≡ go → BlockInOrder file b P
+  block_in : block_checks file b t ≡ go → BlockInOrder file b P
   block_in e =
-      let (s, (n, (r, u))) = block-renders.goes e in
-      record { sum = equal (wrappingSum blockWords (in_block file b)) 0 s; number = equal (in_block file b 0) b n; range = by-test t from to r }
+      let (s, (n, (r, u))) = block_renders.goes e in
+      record { sum = equal (wrapping_sum block_words (in_block file b)) 0 s; number = equal (in_block file b 0) b n; range = by_test t from to r }
 
-  block_out : BlockInOrder file b P → blockChecks file b t ≡ go
-  block_out o = block-renders.silent (λ ne. ne o.sum, (λ ne. ne o.number, (λ n. n o.range, tt)))
+  block_out : BlockInOrder file b P → block_checks file b t ≡ go
+  block_out o = block_renders.silent (λ ne. ne o.sum, (λ ne. ne o.number, (λ n. n o.range, tt)))
 
 -- ---- the later blocks
 
 -- "In each block": the first n of them
-unfoldable pub streamRules : List ℕ → ℕ → ℕ → ℕ → Rules → Rules
-streamRules file coefs rows zero others = others
-streamRules file coefs rows (suc b) others = streamRules file coefs rows b (blockRules file (b + 1) (BlockInRange file coefs rows b) others)
+unfoldable pub stream_rules : List ℕ → ℕ → ℕ → ℕ → Rules → Rules
+stream_rules file coefs rows zero others = others
+stream_rules file coefs rows (suc b) others = stream_rules file coefs rows b (block_rules file (b + 1) (BlockInRange file coefs rows b) others)
 
 module _ (file : List ℕ) (coefs rows : ℕ) where
-  stream-renders : (n : ℕ) {c : Check} {rs : Rules} → Renders c rs → Renders (streamChecks file coefs rows n then c) (streamRules file coefs rows n rs)
-  unfolding streamChecks streamRules ◌then◌
-  stream-renders zero r = r
-  stream-renders (suc b) {c} {rs} r =
-      rw (then-assoc (streamChecks file coefs rows b) (blockChecks file (b + 1) (blockInRange file coefs rows b)) c)
-      (stream-renders b
-      (block-renders-then file (b + 1) (blockInRange file coefs rows b) (BlockInRange file coefs rows b) (block-from file coefs rows b)
+  stream_renders : (n : ℕ) {c : Check} {rs : Rules} → Renders c rs → Renders (stream_checks file coefs rows n then c) (stream_rules file coefs rows n rs)
+  unfolding stream_checks stream_rules ◌then◌
+  stream_renders zero r = r
+  stream_renders (suc b) {c} {rs} r =
+      rw (then_assoc (stream_checks file coefs rows b) (block_checks file (b + 1) (block_in_range file coefs rows b)) c)
+      (stream_renders b
+      (block_renders_then file (b + 1) (block_in_range file coefs rows b) (BlockInRange file coefs rows b) (block_from file coefs rows b)
       (block_to file coefs rows b) r))
 
-  stream-in : (n : ℕ) → streamChecks file coefs rows n ≡ go → (b : ℕ) → b < n → BlockInOrder file (b + 1) (BlockInRange file coefs rows b)
-  unfolding streamChecks
-  stream-in zero e b l = absurd (omega arith)
-  stream-in (suc n) e b l =
-      let (f, g) = then-go (streamChecks file coefs rows n) _ e in
+  stream_in : (n : ℕ) → stream_checks file coefs rows n ≡ go → (b : ℕ) → b < n → BlockInOrder file (b + 1) (BlockInRange file coefs rows b)
+  unfolding stream_checks
+  stream_in zero e b l = absurd (omega arith)
+  stream_in (suc n) e b l =
+      let (f, g) = then_go (stream_checks file coefs rows n) _ e in
       let here : BlockInOrder file (n + 1) (BlockInRange file coefs rows n) =
-      block_in file (n + 1) (blockInRange file coefs rows n) _ (block-from file coefs rows n) (block_to file coefs rows n) g in
-      elim (below_suc l) [ inl m ↦ stream-in n f b m | inr h ↦ rw h here ]
+      block_in file (n + 1) (block_in_range file coefs rows n) _ (block_from file coefs rows n) (block_to file coefs rows n) g in
+      elim (below_suc l) [ inl m ↦ stream_in n f b m | inr h ↦ rw h here ]
 
-  stream-out : (n : ℕ) → ((b : ℕ) → b < n → BlockInOrder file (b + 1) (BlockInRange file coefs rows b)) → streamChecks file coefs rows n ≡ go
-  unfolding streamChecks ◌then◌
-  stream-out zero h = refl
-  stream-out (suc n) h =
-      rw (stream-out n (λ b l. h b (omega arith)))
-      (block_out file (n + 1) (blockInRange file coefs rows n) _ (block-from file coefs rows n) (block_to file coefs rows n) (h n (omega arith)))
+  stream_out : (n : ℕ) → ((b : ℕ) → b < n → BlockInOrder file (b + 1) (BlockInRange file coefs rows b)) → stream_checks file coefs rows n ≡ go
+  unfolding stream_checks ◌then◌
+  stream_out zero h = refl
+  stream_out (suc n) h =
+      rw (stream_out n (λ b l. h b (omega arith)))
+      (block_out file (n + 1) (block_in_range file coefs rows n) _ (block_from file coefs rows n) (block_to file coefs rows n) (h n (omega arith)))
 
 -- ---- the file
 
 -- "19, below one block; 19 again, after block 0, not the exact number of blocks."
-abbrev pub fileRules : List ℕ → Rules → Rules
-fileRules file others =
-    rule 19 (length file < blockBytes)
-    ▹ blockRules file 0 (HeaderInRange file)
-    (rule 19 (length file ≢ blockBytes * blockCount (coefWords file + rowWords file))
-    ▹ streamRules file (coefWords file) (rowWords file) (laterBlocks (coefWords file + rowWords file)) others)
+abbrev pub file_rules : List ℕ → Rules → Rules
+file_rules file others =
+    rule 19 (length file < block_bytes)
+    ▹ block_rules file 0 (HeaderInRange file)
+    (rule 19 (length file ≢ block_bytes * block_count (coef_words file + row_words file))
+    ▹ stream_rules file (coef_words file) (row_words file) (later_blocks (coef_words file + row_words file)) others)
 
 -- "with 29 last"
-abbrev pub readRules : List ℕ → ℕ → ℕ → Rules
-readRules file coefRoom listRoom = fileRules file (rule 29 (coefRoom < coefWords file) ▹ rule 29 (listRoom < rowWords file) ▹ end)
+abbrev pub read_rules : List ℕ → ℕ → ℕ → Rules
+read_rules file coef_room list_room = file_rules file (rule 29 (coef_room < coef_words file) ▹ rule 29 (list_room < row_words file) ▹ end)
 
 module _ (file : List ℕ) where
-  file-renders : {c : Check} {rs : Rules} → Renders c rs → Renders (fileChecks file then c) (fileRules file rs)
-  unfolding fileChecks
-  file-renders {c} {rs} r =
-      simp then-assoc
-      (renders-then (decides_below 19 (length file) blockBytes)
-      (block-renders-then file 0 (headerInRange file) (HeaderInRange file) (header-from file) (header-to file)
-      (renders-then (decides-unequal 19 (length file) (blockBytes * blockCount (coefWords file + rowWords file)))
-      (stream-renders file (coefWords file) (rowWords file) (laterBlocks (coefWords file + rowWords file)) r))))
+  file_renders : {c : Check} {rs : Rules} → Renders c rs → Renders (file_checks file then c) (file_rules file rs)
+  unfolding file_checks
+  file_renders {c} {rs} r =
+      simp then_assoc
+      (renders_then (decides_below 19 (length file) block_bytes)
+      (block_renders_then file 0 (header_in_range file) (HeaderInRange file) (header_from file) (header_to file)
+      (renders_then (decides_unequal 19 (length file) (block_bytes * block_count (coef_words file + row_words file)))
+      (stream_renders file (coef_words file) (row_words file) (later_blocks (coef_words file + row_words file)) r))))
 
-  pub read-renders : (coefRoom listRoom : ℕ) → Renders (readChecks file coefRoom listRoom) (readRules file coefRoom listRoom)
-  unfolding readChecks
-  read-renders coefRoom listRoom =
-      file-renders (renders-then (decides_below 29 coefRoom (coefWords file)) (renders-last (decides_below 29 listRoom (rowWords file))))
+  pub read_renders : (coef_room list_room : ℕ) → Renders (read_checks file coef_room list_room) (read_rules file coef_room list_room)
+  unfolding read_checks
+  read_renders coef_room list_room =
+      file_renders (renders_then (decides_below 29 coef_room (coef_words file)) (renders_last (decides_below 29 list_room (row_words file))))
 
 -- a file that is accepted, the tables being long enough
 pub record FileInOrder (file : List ℕ) : Type 0 where
   pub header : BlockInOrder file 0 (HeaderInRange file)
-  pub exact : length file ≡ blockBytes * blockCount (coefWords file + rowWords file)
-  pub blocks : (b : ℕ) → b < laterBlocks (coefWords file + rowWords file) → BlockInOrder file (b + 1) (BlockInRange file (coefWords file) (rowWords file) b)
+  pub exact : length file ≡ block_bytes * block_count (coef_words file + row_words file)
+  pub blocks : (b : ℕ) → b < later_blocks (coef_words file + row_words file) → BlockInOrder file (b + 1) (BlockInRange file (coef_words file) (row_words file) b)
 
 module _ (file : List ℕ) where
   abbrev later : ℕ
-  later = laterBlocks (coefWords file + rowWords file)
+  later = later_blocks (coef_words file + row_words file)
 
-  pub file-in : fileChecks file ≡ go → FileInOrder file
-  unfolding fileChecks
-  file-in e =
-      let (_, e1) = then-go (refuseIf (ltb (length file) blockBytes) 19) _ e in
-      let (h, e2) = then-go (blockChecks file 0 (headerInRange file)) _ e1 in
-      let (x, s) = then-go (refuseIf (not (eqb (length file) (blockBytes * blockCount (coefWords file + rowWords file)))) 19) _ e2 in
+  pub file_in : file_checks file ≡ go → FileInOrder file
+  unfolding file_checks
+  file_in e =
+      let (_, e1) = then_go (refuse_if (ltb (length file) block_bytes) 19) _ e in
+      let (h, e2) = then_go (block_checks file 0 (header_in_range file)) _ e1 in
+      let (x, s) = then_go (refuse_if (not (eqb (length file) (block_bytes * block_count (coef_words file + row_words file)))) 19) _ e2 in
       record {
-        header = block_in file 0 (headerInRange file) (HeaderInRange file) (header-from file) (header-to file) h;
-        exact = equal (length file) _ ((decides-unequal 19 (length file) (blockBytes * blockCount (coefWords file + rowWords file))).goes x);
-        blocks = stream-in file (coefWords file) (rowWords file) later s;
+        header = block_in file 0 (header_in_range file) (HeaderInRange file) (header_from file) (header_to file) h;
+        exact = equal (length file) _ ((decides_unequal 19 (length file) (block_bytes * block_count (coef_words file + row_words file))).goes x);
+        blocks = stream_in file (coef_words file) (row_words file) later s;
       }
 
-  pub file-out : FileInOrder file → fileChecks file ≡ go
-  unfolding fileChecks ◌then◌
-  file-out o =
+  pub file_out : FileInOrder file → file_checks file ≡ go
+  unfolding file_checks ◌then◌
+  file_out o =
       rw (
-        (decides_below 19 (length file) blockBytes).silent (λ l. omega (arith, o.exact)),
-        block_out file 0 (headerInRange file) (HeaderInRange file) (header-from file) (header-to file) o.header,
-        (decides-unequal 19 (length file) (blockBytes * blockCount (coefWords file + rowWords file))).silent (λ ne. ne o.exact),
+        (decides_below 19 (length file) block_bytes).silent (λ l. omega (arith, o.exact)),
+        block_out file 0 (header_in_range file) (HeaderInRange file) (header_from file) (header_to file) o.header,
+        (decides_unequal 19 (length file) (block_bytes * block_count (coef_words file + row_words file))).silent (λ ne. ne o.exact),
       )
-      (stream-out file (coefWords file) (rowWords file) later o.blocks)
+      (stream_out file (coef_words file) (row_words file) later o.blocks)
 
   -- block 0 alone
-  pub header-in : blockChecks file 0 (headerInRange file) ≡ go → HeaderInRange file
-  header-in e = (block_in file 0 (headerInRange file) (HeaderInRange file) (header-from file) (header-to file) e).range
+  pub header_in : block_checks file 0 (header_in_range file) ≡ go → HeaderInRange file
+  header_in e = (block_in file 0 (header_in_range file) (HeaderInRange file) (header_from file) (header_to file) e).range
 
   -- the checks of a call: the file is in order, and both tables are long enough
-  pub read-in : (coefRoom listRoom : ℕ) → readChecks file coefRoom listRoom ≡ go → FileInOrder file × (coefWords file ≤ coefRoom) × (rowWords file ≤ listRoom)
-  unfolding readChecks
-  read-in coefRoom listRoom e =
-      let (f, e1) = then-go (fileChecks file) _ e in
-      let (c, r) = then-go (refuseIf (ltb coefRoom (coefWords file)) 29) _ e1 in (
-        file-in f,
-        at_most (coefWords file) coefRoom ((decides_below 29 coefRoom (coefWords file)).goes c),
-        at_most (rowWords file) listRoom ((decides_below 29 listRoom (rowWords file)).goes r),
+  pub read_in : (coef_room list_room : ℕ) → read_checks file coef_room list_room ≡ go → FileInOrder file × (coef_words file ≤ coef_room) × (row_words file ≤ list_room)
+  unfolding read_checks
+  read_in coef_room list_room e =
+      let (f, e1) = then_go (file_checks file) _ e in
+      let (c, r) = then_go (refuse_if (ltb coef_room (coef_words file)) 29) _ e1 in (
+        file_in f,
+        at_most (coef_words file) coef_room ((decides_below 29 coef_room (coef_words file)).goes c),
+        at_most (row_words file) list_room ((decides_below 29 list_room (row_words file)).goes r),
       )
 
-  pub read_out : (coefRoom listRoom : ℕ) → FileInOrder file → coefWords file ≤ coefRoom → rowWords file ≤ listRoom → readChecks file coefRoom listRoom ≡ go
-  unfolding readChecks ◌then◌
-  read_out coefRoom listRoom o l m =
+  pub read_out : (coef_room list_room : ℕ) → FileInOrder file → coef_words file ≤ coef_room → row_words file ≤ list_room → read_checks file coef_room list_room ≡ go
+  unfolding read_checks ◌then◌
+  read_out coef_room list_room o l m =
       rw (
-        file-out o,
-        (decides_below 29 coefRoom (coefWords file)).silent (λ h. omega arith),
-        (decides_below 29 listRoom (rowWords file)).silent (λ h. omega arith),
+        file_out o,
+        (decides_below 29 coef_room (coef_words file)).silent (λ h. omega arith),
+        (decides_below 29 list_room (row_words file)).silent (λ h. omega arith),
       )

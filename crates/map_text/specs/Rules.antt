@@ -1,7 +1,7 @@
 -- Document 01, "The program": when a text is refused, as rules in its words and order, over the text's lines. Assumes nothing.
 use Rattle.std.specs.Prelude.{ℕ, zero, suc, ◌+◌, ◌*◌, ◌≤◌, ◌<◌, cond, List, [], ◌∷◌, ◌≡◌, eqb, ℤ, pos, negsuc, nat_abs, length, get_or}
-use Rattle.texts.specs.Reading.{mostBytes}
-use Rattle.definitions.specs.System.{mostEquations, mostUnknowns, coefLimit}
+use Rattle.texts.specs.Reading.{most_bytes}
+use Rattle.definitions.specs.System.{most_equations, most_unknowns, coef_limit}
 use Rattle.laws.specs.CheckLaws.{Rules, ◌▹◌, end, placed, rule}
 use Rattle.laws.specs.RefusalLaws.{Outside}
 use Rattle.texts.specs.Decimals.{newline}
@@ -15,14 +15,14 @@ line_of [] = []
 line_of (b ∷ t) = let others = line_of t in b ∷ cond (eqb b newline) [] others
 
 -- what stands after the first line
-unfoldable pub afterLine : List ℕ → List ℕ
-afterLine [] = []
-afterLine (b ∷ t) = let others = afterLine t in cond (eqb b newline) t others
+unfoldable pub after_line : List ℕ → List ℕ
+after_line [] = []
+after_line (b ∷ t) = let others = after_line t in cond (eqb b newline) t others
 
 -- what stands after n lines
-unfoldable pub afterLines : ℕ → List ℕ → List ℕ
-afterLines zero t = t
-afterLines (suc n) t = afterLines n (afterLine t)
+unfoldable pub after_lines : ℕ → List ℕ → List ℕ
+after_lines zero t = t
+after_lines (suc n) t = after_lines n (after_line t)
 
 -- ---- lines in the form
 
@@ -51,7 +51,7 @@ OutsideCount b (negsuc n) = Unit {0}
 -- line n, from 0, is none of those that have to stand after "p q": missing and extra lines included
 abbrev pub BadLine : List ℕ → ℕ → Type 0
 BadLine t zero = ⊥
-BadLine t (suc i) = Counts t (λ p q. ¬ (RowInForm (nat_abs p) (nat_abs q) i (afterLines (suc i) t)))
+BadLine t (suc i) = Counts t (λ p q. ¬ (RowInForm (nat_abs p) (nat_abs q) i (after_lines (suc i) t)))
 
 -- the text writes a map whose coefficient at place i, from 0, row by row, is outside its range
 pub record LargeAt (t : List ℕ) (i : ℕ) : Type 0 where
@@ -63,16 +63,16 @@ pub record LargeAt (t : List ℕ) (i : ℕ) : Type 0 where
   pub short : ShortNumbers coefs
   pub text : t ≡ written p q coefs
   pub place : i < length coefs
-  pub large : coefLimit < nat_abs (get_or coefs i (pos 0))
+  pub large : coef_limit < nat_abs (get_or coefs i (pos 0))
 
 -- "Order: 10; the first line's form (9); 1; 2; the other lines in turn, missing or extra ones included (9, a missing line by the number it would
 -- have); 7." A text has at most 8 lines after the first, and one that is extra.
-abbrev pub textRules : List ℕ → Rules
-textRules t =
-    rule 10 (mostBytes < length t)
+abbrev pub text_rules : List ℕ → Rules
+text_rules t =
+    rule 10 (most_bytes < length t)
     ▹ placed 9 1 (λ i. ¬ (InForm 2 t))
-    ▹ rule 1 (Counts t (λ p q. OutsideCount mostEquations p))
-    ▹ rule 2 (Counts t (λ p q. OutsideCount mostUnknowns q))
-    ▹ placed 9 (mostEquations + 2) (BadLine t)
-    ▹ placed 7 (mostEquations * mostUnknowns) (LargeAt t)
+    ▹ rule 1 (Counts t (λ p q. OutsideCount most_equations p))
+    ▹ rule 2 (Counts t (λ p q. OutsideCount most_unknowns q))
+    ▹ placed 9 (most_equations + 2) (BadLine t)
+    ▹ placed 7 (most_equations * most_unknowns) (LargeAt t)
     ▹ end

@@ -1,6 +1,6 @@
 // The text form of a map (document 01, "The program"): reading it.
 ghost use Rattle.std.specs.Prelude.{◌≡◌, [], ◌≤◌, drop, length};
-ghost use Rattle.map_spec.specs.Reading.{rows, readRows, acceptRows, read_body, readMap};
+ghost use Rattle.map_spec.specs.Reading.{rows, read_rows, accept_rows, read_body, read_map};
 ghost use Rattle.map_text.specs.Answer.{outcome, answered};
 ghost use Rattle.map_text.specs.Places.{Shape};
 
@@ -27,7 +27,7 @@ pub enum Read {
 
 // Reads the map that `text` writes; its coefficients go to the beginning of `coefs`, row by row.
 pub fn read_map(text: &[u8], coefs: &mut [i32; 128]) -> Read
-    ensures { outcome result coefs.new ≡ answered (readMap text.now) coefs.old }
+    ensures { outcome result coefs.new ≡ answered (read_map text.now) coefs.old }
 {
     if 4096 < text.len() {
         return Read::Refused(TextRefusal::Length);
@@ -66,7 +66,7 @@ fn read_body(text: &[u8], at: usize, p: i32, q: i32, coefs: &mut [i32]) -> Read
 // The lines of coefficients, with counts that are in range.
 fn read_coefficients(text: &[u8], at: usize, p: usize, q: usize, coefs: &mut [i32]) -> Read
     requires { Shape p q (length coefs.old) }
-    ensures { outcome result coefs.new ≡ answered (acceptRows p q (readRows p q 2 [] (drop at text.now))) coefs.old }
+    ensures { outcome result coefs.new ≡ answered (accept_rows p q (read_rows p q 2 [] (drop at text.now))) coefs.old }
 {
     let mut found = [0i32; 128];
     match lines::read_rows(text, at, p, q, &mut found) {
@@ -81,7 +81,7 @@ fn read_coefficients(text: &[u8], at: usize, p: usize, q: usize, coefs: &mut [i3
 // The map of these coefficients, if all are in range.
 fn accept(p: usize, q: usize, found: &[i32], coefs: &mut [i32]) -> Read
     requires { length found.now ≤ length coefs.old }
-    ensures { outcome result coefs.new ≡ answered (acceptRows p q (rows found.now)) coefs.old }
+    ensures { outcome result coefs.new ≡ answered (accept_rows p q (rows found.now)) coefs.old }
 {
     let mut i = 0;
     while i < found.len() {

@@ -6,12 +6,12 @@ use Rattle.definitions.specs.Input.{input_of}
 use Rattle.definitions.specs.Refusals.{Sizes}
 use Rattle.definitions.specs.Reasons as why
 use Rattle.multiples_spec.specs.Parts as paper
-use Rattle.multiples_spec.specs.Parts.{partsNumber}
+use Rattle.multiples_spec.specs.Parts.{parts_number}
 use Rattle.calls.specs.Codes.{code}
 use Rattle.calls.specs.Paper.{number_of, value, values_of}
 use Rattle.checks.specs.Counts.{Modest}
-use Rattle.reasons.specs.Amounts.{told-fits}
-use Rattle.reasons.specs.Answers.{reasonOf}
+use Rattle.reasons.specs.Amounts.{told_fits}
+use Rattle.reasons.specs.Answers.{reason_of}
 use Rattle.reasons.specs.declared.Reason as reasons
 use Rattle.multiples.specs.declared.Excuse.{Excuse}
 use Rattle.multiples.specs.declared.Excuse.TheVariants as excuses
@@ -22,33 +22,33 @@ abbrev pub parts_of : Parts → paper.Parts
 parts_of Made = paper.made
 parts_of (Off k amount) = paper.off k amount
 parts_of Unlisted = paper.unlisted
-parts_of NoSpace = paper.noSpace
+parts_of NoSpace = paper.no_space
 parts_of (Refused cause) = paper.refused (number_of cause) (values_of cause)
 
-abbrev pub outcomeOf : Parts → List ℕ → paper.Outcome
-outcomeOf r times = record { answer = parts_of r; times = times }
+abbrev pub outcome_of : Parts → List ℕ → paper.Outcome
+outcome_of r times = record { answer = parts_of r; times = times }
 
 -- the equation that is off, or the value of a refusal
-abbrev pub partsPlace : paper.Parts → ℕ
-partsPlace paper.made = 0
-partsPlace (paper.off k amount) = k
-partsPlace paper.unlisted = 0
-partsPlace paper.noSpace = 0
-partsPlace (paper.refused n values) = value values
+abbrev pub parts_place : paper.Parts → ℕ
+parts_place paper.made = 0
+parts_place (paper.off k amount) = k
+parts_place paper.unlisted = 0
+parts_place paper.no_space = 0
+parts_place (paper.refused n values) = value values
 
 -- what the number lent for the amount holds after
-abbrev pub amountAfter : paper.Parts → List ℤ → List ℤ
-amountAfter paper.made held = held
-amountAfter (paper.off k amount) held = set held 0 amount
-amountAfter paper.unlisted held = held
-amountAfter paper.noSpace held = held
-amountAfter (paper.refused n values) held = held
+abbrev pub amount_after : paper.Parts → List ℤ → List ℤ
+amount_after paper.made held = held
+amount_after (paper.off k amount) held = set held 0 amount
+amount_after paper.unlisted held = held
+amount_after paper.no_space held = held
+amount_after (paper.refused n values) held = held
 
-abbrev pub partsTold : paper.Outcome → List ℤ → ℕ × (List ℕ × List ℤ)
-partsTold o held = (code (partsNumber o.answer) (partsPlace o.answer), (o.times, amountAfter o.answer held))
+abbrev pub parts_told : paper.Outcome → List ℤ → ℕ × (List ℕ × List ℤ)
+parts_told o held = (code (parts_number o.answer) (parts_place o.answer), (o.times, amount_after o.answer held))
 
-pub told : {r s : Parts} {o : paper.Outcome} (times : List ℕ) (held : List ℤ) → outcomeOf r times ≡ o → r ≡ s
-    → partsTold (outcomeOf s times) held ≡ partsTold o held
+pub told : {r s : Parts} {o : paper.Outcome} (times : List ℕ) (held : List ℤ) → outcome_of r times ≡ o → r ≡ s
+    → parts_told (outcome_of s times) held ≡ parts_told o held
 told times held e f = rw (← e, f)
 
 -- a reason of a tuple that is a solution
@@ -66,10 +66,10 @@ ExcuseIs r (excuses.Off k amount) = r ≡ why.off k amount
 ExcuseIs r (excuses.Refused cause) = r ≡ why.refused (number_of cause) (values_of cause)
 
 -- what is told of a reason that the code found
-pub solves : {r s : reasons.Reason} {paper : why.Reason} → reasonOf r ≡ paper → r ≡ s → Solves (reasonOf s) → Solves paper
+pub solves : {r s : reasons.Reason} {paper : why.Reason} → reason_of r ≡ paper → r ≡ s → Solves (reason_of s) → Solves paper
 solves e f h = rw (← e, f) h
 
-pub off-told : {s : Sizes} → Modest s → (p q : ℕ) (coefs : List ℤ) (list : List ℕ) (found : ℕ) (t : List ℕ) {k : ℕ} {amount : ℤ}
-    → why.off k amount ≡ why.reasonWithin s (input_of p q coefs) list found t
-    → why.reasonWithin s (input_of p q coefs) list found t ≡ why.off k (to_z w64 (of_z w64 amount))
-off-told m p q coefs list found t e = rw (to_z-of_z (told-fits m p q coefs list found t _ _ e)) (sym e)
+pub off_told : {s : Sizes} → Modest s → (p q : ℕ) (coefs : List ℤ) (list : List ℕ) (found : ℕ) (t : List ℕ) {k : ℕ} {amount : ℤ}
+    → why.off k amount ≡ why.reason_within s (input_of p q coefs) list found t
+    → why.reason_within s (input_of p q coefs) list found t ≡ why.off k (to_z w64 (of_z w64 amount))
+off_told m p q coefs list found t e = rw (to_z-of_z (told_fits m p q coefs list found t _ _ e)) (sym e)

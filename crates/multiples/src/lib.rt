@@ -1,13 +1,13 @@
 // What a solution is made of (document 02, Job 13): the multiples of the rows of a list.
 ghost use Rattle.std.specs.Prelude.{◌≡◌, ◌*◌, ◌≤◌, ◌<◌, leb, length};
 ghost use Rattle.definitions.specs.Input.{input_of};
-ghost use Rattle.definitions.specs.Reasons.{reasonWithin};
-ghost use Rattle.definitions.specs.Refusals.{largeSizes, sizes};
+ghost use Rattle.definitions.specs.Reasons.{reason_within};
+ghost use Rattle.definitions.specs.Refusals.{large_sizes, sizes};
 ghost use Rattle.definitions.specs.Tables.{at};
 ghost use Rattle.checks.specs.Counts.{Modest};
 ghost use Rattle.table_rows.specs.Rows.{tuple};
 ghost use Rattle.multiples_spec.specs.Parts as paper;
-ghost use Rattle.multiples.specs.Answers.{ExcuseIs, outcomeOf, partsTold};
+ghost use Rattle.multiples.specs.Answers.{ExcuseIs, outcome_of, parts_told};
 
 use calls::{Refusal, Solutions};
 use reasons::Reason;
@@ -42,7 +42,7 @@ pub fn decompose(
     t: &[u32],
     times: &mut [u32],
 ) -> Parts
-    ensures { outcomeOf result times.new ≡
+    ensures { outcome_of result times.new ≡
         paper.decomposed (input_of p q coefs.now) list.now found.0 t.now times.old }
 {
     decompose_within(8, 16, p, q, coefs, list, found.0, t, times)
@@ -58,8 +58,8 @@ pub fn decompose_large(
     t: &[u32],
     times: &mut [u32],
 ) -> Parts
-    ensures { outcomeOf result times.new ≡
-        paper.decomposedWithin largeSizes (input_of p q coefs.now) list.now found.0 t.now times.old }
+    ensures { outcome_of result times.new ≡
+        paper.decomposed_within large_sizes (input_of p q coefs.now) list.now found.0 t.now times.old }
 {
     decompose_within(32, 32, p, q, coefs, list, found.0, t, times)
 }
@@ -77,8 +77,8 @@ fn decompose_within(
     times: &mut [u32],
 ) -> Parts
     requires { Modest (sizes equations unknowns) }
-    ensures { outcomeOf result times.new ≡
-        paper.decomposedWithin (sizes equations unknowns) (input_of p q coefs.now) list.now found t.now
+    ensures { outcome_of result times.new ≡
+        paper.decomposed_within (sizes equations unknowns) (input_of p q coefs.now) list.now found t.now
         times.old }
 {
     match why_not(equations, unknowns, p, q, coefs, list, found, t) {
@@ -101,7 +101,7 @@ pub fn decompose_number(
     amount: &mut [i64; 1],
 ) -> u64
     ensures { (result, (times.new, amount.new)) ≡
-        partsTold (paper.decomposed (input_of p q coefs.now) list.now found t.now times.old)
+        parts_told (paper.decomposed (input_of p q coefs.now) list.now found t.now times.old)
         amount.old }
 {
     number_within(8, 16, p, q, coefs, list, found, t, times, amount)
@@ -119,7 +119,7 @@ pub fn decompose_large_number(
     amount: &mut [i64; 1],
 ) -> u64
     ensures { (result, (times.new, amount.new)) ≡
-        partsTold (paper.decomposedWithin largeSizes (input_of p q coefs.now) list.now found t.now times.old)
+        parts_told (paper.decomposed_within large_sizes (input_of p q coefs.now) list.now found t.now times.old)
         amount.old }
 {
     number_within(32, 32, p, q, coefs, list, found, t, times, amount)
@@ -139,8 +139,8 @@ fn number_within(
 ) -> u64
     requires { Modest (sizes equations unknowns) }
     ensures { (result, (times.new, amount.new)) ≡
-        partsTold
-        (paper.decomposedWithin (sizes equations unknowns) (input_of p q coefs.now) list.now found t.now
+        parts_told
+        (paper.decomposed_within (sizes equations unknowns) (input_of p q coefs.now) list.now found t.now
         times.old)
         amount.old }
 {
@@ -168,7 +168,7 @@ fn why_not(
     t: &[u32],
 ) -> Excuse
     requires { Modest (sizes equations unknowns) }
-    ensures { ExcuseIs (reasonWithin (sizes equations unknowns) (input_of p q coefs.now) list.now found t.now) result }
+    ensures { ExcuseIs (reason_within (sizes equations unknowns) (input_of p q coefs.now) list.now found t.now) result }
 {
     match reasons::explain_at_most(equations, unknowns, p, q, coefs, list, found, t) {
         Reason::Zero => Excuse::Solves,
@@ -183,9 +183,9 @@ fn why_not(
 // A solution, if there is a place for a multiple of each row.
 fn apart(list: &[u32], found: usize, q: usize, t: &[u32], times: &mut [u32]) -> Parts
     requires { (q ≤ 32) × (q ≤ length t.now) × (found * q ≤ length list.now) }
-    ensures { outcomeOf result times.new ≡
-        paper.ifSpace (leb found (length times.old)) times.old
-        (paper.takenApart q found (at list.now q) (tuple t.now) times.old) }
+    ensures { outcome_of result times.new ≡
+        paper.if_space (leb found (length times.old)) times.old
+        (paper.taken_apart q found (at list.now q) (tuple t.now) times.old) }
 {
     if times.len() < found {
         return Parts::NoSpace;

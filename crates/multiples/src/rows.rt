@@ -9,7 +9,7 @@ ghost use Rattle.multiples.specs.Taking.{Goes, Left, Less, row_at};
 pub fn take(list: &[u32], found: usize, q: usize, rest: &mut [u32], times: &mut [u32])
     requires { (found * q ≤ length list.now) × (q ≤ length rest.old) × (found ≤ length times.old) }
     ensures left { Left q found list.now rest.old rest.new }
-    ensures times_after { times.new ≡ paper.writeTimes q found (at list.now q) (tuple rest.old) times.old }
+    ensures times_after { times.new ≡ paper.write_times q found (at list.now q) (tuple rest.old) times.old }
 {
     let mut i = found;
     while 0 < i {

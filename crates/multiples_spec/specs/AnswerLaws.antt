@@ -7,58 +7,58 @@ use Rattle.std.proofs.Common.{sym, ◌∙◌, arith, T_not, eqb→eq}
 use Rattle.std.proofs.Math.Dec.{not_T, eqb_refl}
 use Rattle.std.proofs.Math.IntN.{pos}
 use Rattle.linear.specs.Combinations.{combined}
-use Rattle.linear.specs.SystemLaws.{inner-zero}
+use Rattle.linear.specs.SystemLaws.{inner_zero}
 use Rattle.linear.specs.Systems.{Solution, value}
-use Rattle.linear.specs.TestLaws.{T-dec, all-at, all_from, first-at}
+use Rattle.linear.specs.TestLaws.{T-dec, all_at, all_from, first_at}
 use Rattle.linear.specs.Tuples.{AtOrBelow, Nonzero}
-use Rattle.definitions.specs.Input.{Input, mapOf}
+use Rattle.definitions.specs.Input.{Input, map_of}
 use Rattle.definitions.specs.Reasons as why
-use Rattle.definitions.specs.Reasons.{Reason, reasonChecks, reasonWithin, vanishes}
+use Rattle.definitions.specs.Reasons.{Reason, reason_checks, reason_within, vanishes}
 use Rattle.definitions.specs.Refusals.{Sizes}
 use Rattle.definitions.specs.System.{System, coef, image_of, is_zero}
 use Rattle.definitions.specs.Tables.{at}
-use Rattle.laws.specs.CheckLaws.{AllSilent, FirstDue, check-cases}
-use Rattle.laws.specs.ReasonLaws.{AllZero, Off, reason-given, reason-renders, reasonRules, refused-reason}
-use Rattle.laws.specs.SystemLaws.{is-zero, zero_is}
-use Rattle.multiples_spec.specs.Parts.{Outcome, allTaken, decomposedWithin, ifSpace, leftOver, made, off, refused, takenApart, unlessOff}
+use Rattle.laws.specs.CheckLaws.{AllSilent, FirstDue, check_cases}
+use Rattle.laws.specs.ReasonLaws.{AllZero, Off, reason_given, reason_renders, reason_rules, refused_reason}
+use Rattle.laws.specs.SystemLaws.{is_zero_lem, zero_is}
+use Rattle.multiples_spec.specs.Parts.{Outcome, all_taken, decomposed_within, if_space, left_over, made, off, refused, taken_apart, unless_off}
 use Rattle.multiples_spec.specs.Parts.{unlisted}
-use Rattle.multiples_spec.specs.PartsLaws.{Small, none_left, times-add-up, times-length, times-outside}
+use Rattle.multiples_spec.specs.PartsLaws.{Small, none_left, times_add_up, times_length, times_outside}
 
 -- ---- a tuple that leaves no equation off is a solution
 
 module _ (m : System) (found : ℕ) (row : ℕ → ℕ → ℕ) (x : ℕ → ℕ) where
-  zero-solves : AllZero m found row x → Solution m.p m.q (coef m) x
+  zero_solves : AllZero m found row x → Solution m.p m.q (coef m) x
   unfolding value
-  zero-solves z i l = inner-zero m.q (coef m i) (λ j. pos (x j)) (λ j h. ap pos (z j h))
+  zero_solves z i l = inner_zero m.q (coef m i) (λ j. pos (x j)) (λ j h. ap pos (z j h))
 
-  none-off-solves : ((k : ℕ) (amount : ℤ) → ¬ (Off m found row x k amount)) → Solution m.p m.q (coef m) x
-  none-off-solves none i l =
+  none_off_solves : ((k : ℕ) (amount : ℤ) → ¬ (Off m found row x k amount)) → Solution m.p m.q (coef m) x
+  none_off_solves none i l =
       elim (T-dec (is_zero (image_of m x i))) [
-        | inl h ↦ is-zero (image_of m x i) h
+        | inl h ↦ is_zero_lem (image_of m x i) h
         | inr n ↦
-            let (k, kl, is, before) = first-at m.p (λ k. not (is_zero (image_of m x k))) i l (not_T (is_zero (image_of m x i)) n) in
+            let (k, kl, is, before) = first_at m.p (λ k. not (is_zero (image_of m x k))) i l (not_T (is_zero (image_of m x i)) n) in
             absurd (none (suc k) (image_of m x k) (record {
               some = omega arith;
               few = kl;
               by = ap (image_of m x) (omega arith);
-              not-zero = λ e. T_not (is_zero (image_of m x k)) is (zero_is (image_of m x k) e);
+              not_zero = λ e. T_not (is_zero (image_of m x k)) is (zero_is (image_of m x k) e);
               first =
                   λ j h. elim (T-dec (is_zero (image_of m x j))) [
-                    | inl y ↦ is-zero (image_of m x j) y
+                    | inl y ↦ is_zero_lem (image_of m x j) y
                     | inr y ↦ absurd (before j (omega arith) (not_T (is_zero (image_of m x j)) y))
                   ];
             }))
       ]
 
-  pub off-fails : {k : ℕ} {amount : ℤ} → Off m found row x k amount → ¬ (Solution m.p m.q (coef m) x)
-  off-fails {k} o s = o.not-zero (sym o.by ∙ s (k - 1) (omega (arith, o.some, o.few)))
+  pub off_fails : {k : ℕ} {amount : ℤ} → Off m found row x k amount → ¬ (Solution m.p m.q (coef m) x)
+  off_fails {k} o s = o.not_zero (sym o.by ∙ s (k - 1) (omega (arith, o.some, o.few)))
 
 -- ---- a question is refused or not
 
-pub never-due : (s : Sizes) (i : Input) (list : List ℕ) (found : ℕ) (t : List ℕ) {n : ℕ} {values : List ℕ} → AllSilent (reasonRules s i list found t)
-    → ¬ (FirstDue (reasonRules s i list found t) n values)
-never-due s i list found t {n} {values} silent d =
-    (reason-given s i list found t silent (why.refused n values) (refused-reason s i list found t n values d)).0
+pub never_due : (s : Sizes) (i : Input) (list : List ℕ) (found : ℕ) (t : List ℕ) {n : ℕ} {values : List ℕ} → AllSilent (reason_rules s i list found t)
+    → ¬ (FirstDue (reason_rules s i list found t) n values)
+never_due s i list found t {n} {values} silent d =
+    (reason_given s i list found t silent (why.refused n values) (refused_reason s i list found t n values d)).0
 
 -- ---- a solution taken apart
 
@@ -66,7 +66,7 @@ never-due s i list found t {n} {values} silent d =
 pub record Apart (q found : ℕ) (row : ℕ → ℕ → ℕ) (x : ℕ → ℕ) (times : List ℕ) (o : Outcome) : Type 0 where
   -- what is left of x
   pub left : ℕ → ℕ
-  pub adds-up : (j : ℕ) → j < q → x j ≡ combined found (λ i. get_or o.times i 0) row j + left j
+  pub adds_up : (j : ℕ) → j < q → x j ≡ combined found (λ i. get_or o.times i 0) row j + left j
   -- "nothing listed lies below it"
   pub none_below : (i : ℕ) → i < found → Nonzero q (row i) → ¬ (AtOrBelow q (row i) left)
   -- it is made of the rows just where nothing is left
@@ -74,45 +74,45 @@ pub record Apart (q found : ℕ) (row : ℕ → ℕ → ℕ) (x : ℕ → ℕ) (
   pub whole : o.answer ≡ made → (j : ℕ) → j < q → left j ≡ 0
   pub wholly : ((j : ℕ) → j < q → left j ≡ 0) → o.answer ≡ made
   -- "Space lent for output keeps what stood past the written part."
-  pub length-kept : length o.times ≡ length times
-  pub past-kept : (i : ℕ) → found ≤ i → get_or o.times i 0 ≡ get_or times i 0
+  pub length_kept : length o.times ≡ length times
+  pub past_kept : (i : ℕ) → found ≤ i → get_or o.times i 0 ≡ get_or times i 0
 
-taken-cases : (b : Bool) → (allTaken b ≡ made) ⊎ (allTaken b ≡ unlisted)
-unfolding allTaken
-taken-cases true = inl refl
-taken-cases false = inr refl
+taken_cases : (b : Bool) → (all_taken b ≡ made) ⊎ (all_taken b ≡ unlisted)
+unfolding all_taken
+taken_cases true = inl refl
+taken_cases false = inr refl
 
-taken_made : (b : Bool) → allTaken b ≡ made → T b
-unfolding allTaken
+taken_made : (b : Bool) → all_taken b ≡ made → T b
+unfolding all_taken
 taken_made true e = tt
 taken_made false e = absurd (let z : ◌≡◌ {A = ℕ} 0 1 = cc in omega arith)
 
-made-taken : (b : Bool) → T b → allTaken b ≡ made
-unfolding allTaken
-made-taken true h = refl
-made-taken false h = absurd h
+made_taken : (b : Bool) → T b → all_taken b ≡ made
+unfolding all_taken
+made_taken true h = refl
+made_taken false h = absurd h
 
 pub apart : (q found : ℕ) (row : ℕ → ℕ → ℕ) (x : ℕ → ℕ) (times : List ℕ) → Small q x → found ≤ length times
-    → Apart q found row x times (takenApart q found row x times)
-unfolding takenApart vanishes
+    → Apart q found row x times (taken_apart q found row x times)
+unfolding taken_apart vanishes
 apart q found row x times small space =
-    let left : ℕ → ℕ = leftOver q found row x in
+    let left : ℕ → ℕ = left_over q found row x in
     record {
       left = left;
-      adds-up = times-add-up q row found x times space;
+      adds_up = times_add_up q row found x times space;
       none_below = none_left q row found x small;
-      answers = taken-cases (vanishes q left);
-      whole = λ e j l. eqb→eq (left j) 0 (all-at q _ (taken_made (vanishes q left) e) j l);
-      wholly = λ h. made-taken (vanishes q left) (all_from q _ (λ j l. rw (h j l) (eqb_refl 0)));
-      length-kept = times-length q row found x times;
-      past-kept = times-outside q row found x times;
+      answers = taken_cases (vanishes q left);
+      whole = λ e j l. eqb→eq (left j) 0 (all_at q _ (taken_made (vanishes q left) e) j l);
+      wholly = λ h. made_taken (vanishes q left) (all_from q _ (λ j l. rw (h j l) (eqb_refl 0)));
+      length_kept = times_length q row found x times;
+      past_kept = times_outside q row found x times;
     }
 
 -- ---- the call
 
 module _ (s : Sizes) (i : Input) (list : List ℕ) (found : ℕ) (t times : List ℕ) where
   abbrev m : System
-  m = mapOf i
+  m = map_of i
 
   abbrev row : ℕ → ℕ → ℕ
   row = at list i.q
@@ -121,33 +121,33 @@ module _ (s : Sizes) (i : Input) (list : List ℕ) (found : ℕ) (t times : List
   x j = get_or t j 0
 
   abbrev o : Outcome
-  o = decomposedWithin s i list found t times
+  o = decomposed_within s i list found t times
 
   abbrev rest : Outcome
-  rest = ifSpace (leb found (length times)) times (takenApart i.q found row x times)
+  rest = if_space (leb found (length times)) times (taken_apart i.q found row x times)
 
   -- the three ways that it goes: a refusal of Job 8's is due; or else an equation is off; or else the tuple is a solution
   pub data Way : Type 0 where
-    due : (n : ℕ) (values : List ℕ) → FirstDue (reasonRules s i list found t) n values → o ≡ record { answer = refused n values; times = times } → Way
-    uneven : AllSilent (reasonRules s i list found t) → (k : ℕ) (amount : ℤ) → Off m found row x k amount
+    due : (n : ℕ) (values : List ℕ) → FirstDue (reason_rules s i list found t) n values → o ≡ record { answer = refused n values; times = times } → Way
+    uneven : AllSilent (reason_rules s i list found t) → (k : ℕ) (amount : ℤ) → Off m found row x k amount
         → o ≡ record { answer = off k amount; times = times } → Way
-    solved : AllSilent (reasonRules s i list found t) → Solution m.p m.q (coef m) x → o ≡ rest → Way
+    solved : AllSilent (reason_rules s i list found t) → Solution m.p m.q (coef m) x → o ≡ rest → Way
 
-  by-reason : AllSilent (reasonRules s i list found t) → (r : Reason) → reasonWithin s i list found t ≡ r → Way
-  unfolding decomposedWithin unlessOff
-  by-reason silent why.zero e = solved silent (zero-solves m found row x (reason-given s i list found t silent why.zero e).0) (rw e)
-  by-reason silent (why.off k amount) e = uneven silent k amount (reason-given s i list found t silent (why.off k amount) e).0 (rw e)
-  by-reason silent (why.stands n) e = solved silent (none-off-solves m found row x (reason-given s i list found t silent (why.stands n) e).1.1) (rw e)
-  by-reason silent (why.above n) e = solved silent (none-off-solves m found row x (reason-given s i list found t silent (why.above n) e).1.1) (rw e)
-  by-reason silent why.unlisted e = solved silent (none-off-solves m found row x (reason-given s i list found t silent why.unlisted e).1.1) (rw e)
-  by-reason silent (why.refused n values) e = absurd (reason-given s i list found t silent (why.refused n values) e).0
+  by_reason : AllSilent (reason_rules s i list found t) → (r : Reason) → reason_within s i list found t ≡ r → Way
+  unfolding decomposed_within unless_off
+  by_reason silent why.zero e = solved silent (zero_solves m found row x (reason_given s i list found t silent why.zero e).0) (rw e)
+  by_reason silent (why.off k amount) e = uneven silent k amount (reason_given s i list found t silent (why.off k amount) e).0 (rw e)
+  by_reason silent (why.stands n) e = solved silent (none_off_solves m found row x (reason_given s i list found t silent (why.stands n) e).1.1) (rw e)
+  by_reason silent (why.above n) e = solved silent (none_off_solves m found row x (reason_given s i list found t silent (why.above n) e).1.1) (rw e)
+  by_reason silent why.unlisted e = solved silent (none_off_solves m found row x (reason_given s i list found t silent why.unlisted e).1.1) (rw e)
+  by_reason silent (why.refused n values) e = absurd (reason_given s i list found t silent (why.refused n values) e).0
 
-  pub goes-one-way : Way
-  unfolding decomposedWithin unlessOff
-  goes-one-way =
-      elim (check-cases (reasonChecks s i list found t)) [
-        | inl g ↦ by-reason ((reason-renders s i list found t).goes g) (reasonWithin s i list found t) refl
+  pub goes_one_way : Way
+  unfolding decomposed_within unless_off
+  goes_one_way =
+      elim (check_cases (reason_checks s i list found t)) [
+        | inl g ↦ by_reason ((reason_renders s i list found t).goes g) (reason_within s i list found t) refl
         | inr (n, values, g) ↦
-            let d = (reason-renders s i list found t).refuses n values g in
-            due n values d (rw (refused-reason s i list found t n values d))
+            let d = (reason_renders s i list found t).refuses n values g in
+            due n values d (rw (refused_reason s i list found t n values d))
       ]

@@ -3,7 +3,7 @@
 use Rattle.std.specs.Prelude.{◌≡◌, List, ℕ, ◌+◌, ◌*◌, ◌≤◌, ◌<◌, ℤ, pos, nat_abs, ◌+ℤ◌, length, get_or}
 use Rattle.linear.specs.Systems.{inner}
 use Rattle.linear.specs.Gram.{gram}
-use Rattle.definitions.specs.System.{mostEquations, mostUnknowns, coefLimit, mostComponent}
+use Rattle.definitions.specs.System.{most_equations, most_unknowns, coef_limit, most_component}
 use Rattle.definitions.specs.Tables.{at}
 
 -- ---- sizes
@@ -14,28 +14,28 @@ given q coefs i j = get_or coefs (i * q + j) (pos 0)
 
 -- coefficients within the limits of document 01
 pub record SmallCoefs (p q : ℕ) (coefs : List ℤ) : Type 0 where
-  pub equations : p ≤ mostEquations
-  pub unknowns : q ≤ mostUnknowns
+  pub equations : p ≤ most_equations
+  pub unknowns : q ≤ most_unknowns
   pub whole : p * q ≤ length coefs
-  pub small : (n : ℕ) → nat_abs (get_or coefs n (pos 0)) ≤ coefLimit
+  pub small : (n : ℕ) → nat_abs (get_or coefs n (pos 0)) ≤ coef_limit
 
 -- a tuple of the stack table, from place base
 pub record SmallRow (q : ℕ) (stack : List ℕ) (base : ℕ) : Type 0 where
   pub whole : base + q ≤ length stack
-  pub small : (i : ℕ) → i < q → get_or stack (base + i) 0 ≤ mostComponent
+  pub small : (i : ℕ) → i < q → get_or stack (base + i) 0 ≤ most_component
 
 -- the rows below height
 pub record SmallRows (q : ℕ) (stack : List ℕ) (height : ℕ) : Type 0 where
   pub few : height ≤ q
   pub whole : height * (q + 1) ≤ length stack
-  pub small : (k i : ℕ) → k < height → i < q → at stack (q + 1) k i ≤ mostComponent
+  pub small : (k i : ℕ) → k < height → i < q → at stack (q + 1) k i ≤ most_component
 
 -- the largest size of an inner product of two columns, and of the image of a tuple and a column
-abbrev pub gramLimit : ℕ
-gramLimit = mostEquations * (coefLimit * coefLimit)
+abbrev pub gram_limit : ℕ
+gram_limit = most_equations * (coef_limit * coef_limit)
 
-abbrev pub productLimit : ℕ
-productLimit = mostUnknowns * (mostComponent * gramLimit)
+abbrev pub product_limit : ℕ
+product_limit = most_unknowns * (most_component * gram_limit)
 
 -- ---- tables with rows of 16 numbers
 
@@ -72,8 +72,8 @@ pub record Gram (p q : ℕ) (coefs g : List ℤ) : Type 0 where
   pub entries : Rows q q (gram p (given q coefs)) g
 
 pub record SmallGram (q : ℕ) (g : List ℤ) : Type 0 where
-  pub unknowns : q ≤ mostUnknowns
-  pub small : (i j : ℕ) → i < q → j < q → nat_abs (entry g i j) ≤ gramLimit
+  pub unknowns : q ≤ most_unknowns
+  pub small : (i j : ℕ) → i < q → j < q → nat_abs (entry g i j) ≤ gram_limit
 
 -- the sum of the first n rows of g, row i taken x i times: its number j
 abbrev pub partial : List ℤ → (ℕ → ℕ) → ℕ → ℕ → ℤ
@@ -97,9 +97,9 @@ pub record Products (q : ℕ) (g : List ℤ) (x : ℕ → ℕ) (v : ℕ → ℤ)
   pub product : (j : ℕ) → j < q → v j ≡ combine q g x j
 
 pub record SmallProducts (q : ℕ) (v : ℕ → ℤ) : Type 0 where
-  pub small : (j : ℕ) → j < q → nat_abs (v j) ≤ productLimit
+  pub small : (j : ℕ) → j < q → nat_abs (v j) ≤ product_limit
 
--- the products v of a tuple, with row i of g added: those of the tuple with unknown i raised (`combine-raise` of ProductLaws)
+-- the products v of a tuple, with row i of g added: those of the tuple with unknown i raised (`combine_raise` of ProductLaws)
 abbrev pub raised : List ℤ → (ℕ → ℤ) → ℕ → ℕ → ℤ
 raised g v i j = v j +ℤ entry g i j
 
@@ -109,5 +109,5 @@ pub record ChildRoom (q from k i : ℕ) (c g : List ℤ) : Type 0 where
   pub below : from ≤ k
   pub level : k < 16
   pub unknown : i < q
-  pub gram-small : SmallGram q g
-  pub parent-small : SmallProducts q (entry c from)
+  pub gram_small : SmallGram q g
+  pub parent_small : SmallProducts q (entry c from)

@@ -4,12 +4,12 @@ ghost use Rattle.std.specs.Prelude.{◌≡◌, not, ◌&&◌, ◌+◌, ◌*◌, 
 ghost use Rattle.std.specs.Int.Signed.{lt_z};
 ghost use Rattle.std.specs.Int.{w64};
 ghost use Rattle.std.proofs.Common.{SFits};
-ghost use Rattle.linear.specs.Tests.{number, allTo};
+ghost use Rattle.linear.specs.Tests.{number, all_to};
 ghost use Rattle.linear.specs.Gram.{gram};
 ghost use Rattle.linear.specs.Tuples.{total};
 ghost use Rattle.definitions.specs.System.{is_zero};
 ghost use Rattle.definitions.specs.Tables.{at, frozen};
-ghost use Rattle.definitions.specs.Step.{marksTo};
+ghost use Rattle.definitions.specs.Step.{marks_to};
 ghost use Rattle.products.specs.Marks.{Marked};
 ghost use Rattle.products.specs.Products.{
   given,
@@ -147,7 +147,7 @@ fn add_component(q: usize, gram: &[i64; 256], stack: &[u32], k: usize, i: usize,
 // Whether the products at level k are all 0: then, and only then, the row is a solution.
 pub fn vanish(c: &[i64; 256], k: usize, q: usize) -> bool
     requires { (k < 16) × (q ≤ 16) }
-    ensures { result ≡ allTo q (λ j. is_zero (entry c.now k j)) }
+    ensures { result ≡ all_to q (λ j. is_zero (entry c.now k j)) }
 {
     let mut j = 0;
     while j < q {
@@ -170,7 +170,7 @@ pub fn candidate_marks(c: &[i64; 256], k: usize, q: usize, marks: u32) -> u32
 // The unknowns whose product at level k is below zero, as marks: from the last to the first, so that no mark is shifted to its place.
 fn below_zero(c: &[i64; 256], k: usize, q: usize) -> u32
     requires { (k < 16) × (q ≤ 16) }
-    ensures { result ≡ marksTo q (λ j. lt_z (entry c.now k j) (pos 0)) }
+    ensures { result ≡ marks_to q (λ j. lt_z (entry c.now k j) (pos 0)) }
 {
     let mut below: u32 = 0;
     let mut j = q;

@@ -2,33 +2,33 @@
 use Rattle.std.specs.Prelude.{◌≡◌, true, false, List, [], ℕ, ◌*◌, ◌/◌, ◌≤◌, leb, eqb, length, get_or}
 use Rattle.std.proofs.Math.Option.{Option}
 use Rattle.std.proofs.Common.{div-mul-le_self, mul-le-mul_right, arith}
-use Rattle.definitions.specs.Answers.{◌then◌, refuseWith}
+use Rattle.definitions.specs.Answers.{◌then◌, refuse_with}
 use Rattle.definitions.specs.Highest as paper
 use Rattle.definitions.specs.Tables.{at, capacity}
 
 module _ (most q : ℕ) (list : List ℕ) (found : ℕ) (t : List ℕ) where
-  pub no-unknowns : leb 1 q ≡ false → paper.refused 2 [] ≡ paper.locateWithin most q list found t
-  unfolding paper.locateWithin paper.locateChecks paper.unlessRefused refuseWith ◌then◌
-  no-unknowns a = rw a
+  pub no_unknowns : leb 1 q ≡ false → paper.refused 2 [] ≡ paper.locate_within most q list found t
+  unfolding paper.locate_within paper.locate_checks paper.unless_refused refuse_with ◌then◌
+  no_unknowns a = rw a
 
   module _ (a : leb 1 q ≡ true) where
-    pub many-unknowns : leb q most ≡ false → paper.refused 2 [] ≡ paper.locateWithin most q list found t
-    unfolding paper.locateWithin paper.locateChecks paper.unlessRefused refuseWith ◌then◌
-    many-unknowns b = rw (a, b)
+    pub many_unknowns : leb q most ≡ false → paper.refused 2 [] ≡ paper.locate_within most q list found t
+    unfolding paper.locate_within paper.locate_checks paper.unless_refused refuse_with ◌then◌
+    many_unknowns b = rw (a, b)
 
     module _ (b : leb q most ≡ true) where
-      pub other_length : eqb (length t) q ≡ false → paper.refused 5 [] ≡ paper.locateWithin most q list found t
-      unfolding paper.locateWithin paper.locateChecks paper.unlessRefused refuseWith ◌then◌
+      pub other_length : eqb (length t) q ≡ false → paper.refused 5 [] ≡ paper.locate_within most q list found t
+      unfolding paper.locate_within paper.locate_checks paper.unless_refused refuse_with ◌then◌
       other_length c = rw (a, b, c)
 
       module _ (c : eqb (length t) q ≡ true) where
-        pub many-rows : leb found (capacity q list) ≡ false → paper.refused 6 [] ≡ paper.locateWithin most q list found t
-        unfolding paper.locateWithin paper.locateChecks paper.unlessRefused refuseWith ◌then◌
-        many-rows d = rw (a, b, c, d)
+        pub many_rows : leb found (capacity q list) ≡ false → paper.refused 6 [] ≡ paper.locate_within most q list found t
+        unfolding paper.locate_within paper.locate_checks paper.unless_refused refuse_with ◌then◌
+        many_rows d = rw (a, b, c, d)
 
         pub asked : leb found (capacity q list) ≡ true → {o : Option ℕ} → o ≡ paper.highest q found (at list q) (λ j. get_or t j 0)
-            → paper.placed o ≡ paper.locateWithin most q list found t
-        unfolding paper.locateWithin paper.locateChecks paper.unlessRefused refuseWith ◌then◌
+            → paper.placed o ≡ paper.locate_within most q list found t
+        unfolding paper.locate_within paper.locate_checks paper.unless_refused refuse_with ◌then◌
         asked d e = rw (a, b, c, d, ← e)
 
 pub rows_fit : (n q : ℕ) {found : ℕ} → found ≤ n / q → found * q ≤ n

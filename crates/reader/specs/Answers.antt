@@ -1,18 +1,18 @@
 -- The answers in document 02's terms: for each case its values, or document 01's number and values of a refusal; and as one number. Assumes nothing.
 use Rattle.std.specs.Prelude.{ℕ}
 use Rattle.definitions.specs.Highest as paper
-use Rattle.calls.specs.Codes.{code, refusalCode}
+use Rattle.calls.specs.Codes.{code, refusal_code}
 use Rattle.calls.specs.Paper.{number_of, values_of}
 use Rattle.reader.specs.declared.lookups.Located.{Located}
 use Rattle.reader.specs.declared.lookups.Located.TheVariants.{At, Nowhere, Refused}
 
-abbrev pub locatedOf : Located → paper.Located
-locatedOf (At n) = paper.place n
-locatedOf Nowhere = paper.nowhere
-locatedOf (Refused why) = paper.refused (number_of why) (values_of why)
+abbrev pub located_of : Located → paper.Located
+located_of (At n) = paper.place n
+located_of Nowhere = paper.nowhere
+located_of (Refused why) = paper.refused (number_of why) (values_of why)
 
 -- 126 with the place, or 127 where there is none
-abbrev pub locatedNumber : paper.Located → ℕ
-locatedNumber (paper.place n) = code 126 n
-locatedNumber paper.nowhere = 127
-locatedNumber (paper.refused n values) = refusalCode n values
+abbrev pub located_number : paper.Located → ℕ
+located_number (paper.place n) = code 126 n
+located_number paper.nowhere = 127
+located_number (paper.refused n values) = refusal_code n values

@@ -1,5 +1,5 @@
 -- What the reader's functions answer: whether the reader is refused, and the part of the list table that it shows. Together they are what the
--- definitions have it show (`shown-is`). Assumes nothing.
+-- definitions have it show (`shown_is`). Assumes nothing.
 use Rattle.std.specs.Prelude.{ℕ, ◌+◌, ◌*◌, ◌-◌, ◌/◌, ◌≤◌, ◌<◌, ◌≡◌, refl, Bool, true, false, not, ◌&&◌, List, [], ◌∷◌, take, drop}
 use Rattle.std.proofs.Common.{sym, ◌∙◌, ap, arith, length-take-le, le-leb}
 use Rattle.std.proofs.Math.Bool.{and-false}
@@ -8,27 +8,27 @@ use Rattle.std.proofs.Math.Dec.{T, leb, leb→le}
 use Rattle.std.proofs.Math.ListN.{length, length-drop}
 use Rattle.std.proofs.lemmas.Bool.{lt-leb}
 use Rattle.linear.specs.TestLaws.{and_parts}
-use Rattle.definitions.specs.Answers.{Check, go, refuse, refuseWith}
-use Rattle.definitions.specs.System.{mostUnknowns}
+use Rattle.definitions.specs.Answers.{Check, go, refuse, refuse_with}
+use Rattle.definitions.specs.System.{most_unknowns}
 use Rattle.definitions.specs.Input.{rights}
-use Rattle.definitions.specs.Refusals.{between, mostFor}
+use Rattle.definitions.specs.Refusals.{between, most_for}
 use Rattle.definitions.specs.Tables.{capacity}
 use Rattle.laws.specs.TableLaws.{row_fits}
 use Rattle.definitions.specs.Reader.{
   Shown,
   Which,
-  atZero,
-  atOne,
+  at_zero,
+  at_one,
   row,
   none,
-  readerCheck,
+  reader_check,
   has_row,
   part_of,
-  rowOfEither,
-  rowPart,
-  showIf,
-  shownAt,
-  shownBy,
+  row_of_either,
+  row_part,
+  show_if,
+  shown_at,
+  shown_by,
   shown,
   table_at,
 }
@@ -38,60 +38,60 @@ use Rattle.reader.specs.declared.Readable.{Readable}
 use Rattle.reader.specs.declared.Readable.TheVariants.{Yes, Refused}
 use Rattle.calls.specs.Paper.{number_of, values_of}
 
-abbrev pub whichOf : CodeWhich → Which
-whichOf Zero = atZero
-whichOf One = atOne
+abbrev pub which_of : CodeWhich → Which
+which_of Zero = at_zero
+which_of One = at_one
 
-abbrev pub readableOf : Readable → Check
-readableOf Yes = go
-readableOf (Refused why) = refuse (number_of why) (values_of why)
+abbrev pub readable_of : Readable → Check
+readable_of Yes = go
+readable_of (Refused why) = refuse (number_of why) (values_of why)
 
-abbrev pub partIf : Bool → List ℕ → List ℕ
-partIf true part = part
-partIf false part = []
+abbrev pub part_if : Bool → List ℕ → List ℕ
+part_if true part = part
+part_if false part = []
 
 -- the part of the list table that is shown: empty where no row is
-unfoldable pub shownPart : ℕ → List ℕ → ℕ → ℕ → List ℕ
-shownPart q list found n = part_of (shown q list found n)
+unfoldable pub shown_part : ℕ → List ℕ → ℕ → ℕ → List ℕ
+shown_part q list found n = part_of (shown q list found n)
 
 -- the same of one list of a capped run, whose system has at most 15 unknowns
-unfoldable pub cappedPart : ℕ → List ℕ → ℕ → ℕ → List ℕ
-cappedPart q list found n = partIf (between 1 (mostFor (rights [])) q && has_row q list found n) (rowPart q list n)
+unfoldable pub capped_part : ℕ → List ℕ → ℕ → ℕ → List ℕ
+capped_part q list found n = part_if (between 1 (most_for (rights [])) q && has_row q list found n) (row_part q list n)
 
 -- whether a row is shown
 unfoldable pub shows : ℕ → List ℕ → ℕ → ℕ → Bool
-shows q list found n = between 1 mostUnknowns q && has_row q list found n
+shows q list found n = between 1 most_unknowns q && has_row q list found n
 
 -- an empty part shows that there is no row
-abbrev pub showPart : List ℕ → Shown
-showPart [] = none
-showPart (x ∷ part) = row (x ∷ part)
+abbrev pub show_part : List ℕ → Shown
+show_part [] = none
+show_part (x ∷ part) = row (x ∷ part)
 
 -- ---- the laws of each, over its tests
 
-part-if : (b h : Bool) (part : List ℕ) → part_of (shownBy (refuseWith (not b) 2 []) (showIf h part)) ≡ partIf (b && h) part
-unfolding refuseWith shownBy showIf
-part-if true true part = refl
-part-if true false part = refl
-part-if false h part = refl
+part_if_lem : (b h : Bool) (part : List ℕ) → part_of (shown_by (refuse_with (not b) 2 []) (show_if h part)) ≡ part_if (b && h) part
+unfolding refuse_with shown_by show_if
+part_if_lem true true part = refl
+part_if_lem true false part = refl
+part_if_lem false h part = refl
 
-not-empty : (part : List ℕ) → 1 ≤ length part → row part ≡ showPart part
-not-empty [] l = absurd (omega arith)
-not-empty (x ∷ part) l = refl
+not_empty : (part : List ℕ) → 1 ≤ length part → row part ≡ show_part part
+not_empty [] l = absurd (omega arith)
+not_empty (x ∷ part) l = refl
 
-show-part : (b h : Bool) (part : List ℕ) → (b && h ≡ true → 1 ≤ length part)
-    → shownBy (refuseWith (not b) 2 []) (showIf h part) ≡ shownBy (refuseWith (not b) 2 []) (showPart (partIf (b && h) part))
-unfolding refuseWith shownBy showIf
-show-part true true part l = not-empty part (l refl)
-show-part true false part l = refl
-show-part false h part l = refl
+show_part_lem : (b h : Bool) (part : List ℕ) → (b && h ≡ true → 1 ≤ length part)
+    → shown_by (refuse_with (not b) 2 []) (show_if h part) ≡ shown_by (refuse_with (not b) 2 []) (show_part (part_if (b && h) part))
+unfolding refuse_with shown_by show_if
+show_part_lem true true part l = not_empty part (l refl)
+show_part_lem true false part l = refl
+show_part_lem false h part l = refl
 
-add-sub : (a b : ℕ) → a + b - a ≡ b
-add-sub a b = omega arith
+add_sub : (a b : ℕ) → a + b - a ≡ b
+add_sub a b = omega arith
 
 -- where a test b of the code says so
-pub range-least : {b : Bool} (q : ℕ) → b ≡ between 1 mostUnknowns q → b ≡ true → 1 ≤ q
-range-least q e t = leb→le 1 q (and_parts (leb 1 q) (leb q mostUnknowns) (rw (← e, t) tt)).0
+pub range_least : {b : Bool} (q : ℕ) → b ≡ between 1 most_unknowns q → b ≡ true → 1 ≤ q
+range_least q e t = leb→le 1 q (and_parts (leb 1 q) (leb q most_unknowns) (rw (← e, t) tt)).0
 
 -- a row that is shown lies in the table
 pub record RowIn (q : ℕ) (list : List ℕ) (n : ℕ) : Type 0 where
@@ -100,56 +100,56 @@ pub record RowIn (q : ℕ) (list : List ℕ) (n : ℕ) : Type 0 where
   pub inside : (n - 1) * q + q ≤ length list
 
 module _ {b : Bool} (q : ℕ) (list : List ℕ) (found n : ℕ) (e : b ≡ shows q list found n) where
-  pub shown-in : b ≡ true → RowIn q list n
+  pub shown_in : b ≡ true → RowIn q list n
   unfolding shows has_row
-  shown-in t =
-      let range : T (between 1 mostUnknowns q) × T (has_row q list found n) = and_parts (between 1 mostUnknowns q) (has_row q list found n) (rw (← e, t) tt) in
+  shown_in t =
+      let range : T (between 1 most_unknowns q) × T (has_row q list found n) = and_parts (between 1 most_unknowns q) (has_row q list found n) (rw (← e, t) tt) in
       let here : T (leb 1 n) × T (leb n found && leb n (capacity q list)) = and_parts (leb 1 n) (leb n found && leb n (capacity q list)) range.1 in
       let first : 1 ≤ n = leb→le 1 n here.0 in
       let last : n ≤ length list / q = leb→le n (capacity q list) (and_parts (leb n found) (leb n (capacity q list)) here.1).1 in
       record {
-        wide = leb→le 1 q (and_parts (leb 1 q) (leb q mostUnknowns) range.0).0;
+        wide = leb→le 1 q (and_parts (leb 1 q) (leb q most_unknowns) range.0).0;
         counted = first;
         inside = omega (arith, row_fits q (n - 1) n (omega arith), mul-le-mul_right q last, div-mul-le_self (length list) q);
       }
 
-  part-is : shownPart q list found n ≡ partIf b (rowPart q list n)
-  unfolding shownPart shown shows
-  part-is = rw e (part-if (between 1 mostUnknowns q) (has_row q list found n) (rowPart q list n))
+  part_is : shown_part q list found n ≡ part_if b (row_part q list n)
+  unfolding shown_part shown shows
+  part_is = rw e (part_if_lem (between 1 most_unknowns q) (has_row q list found n) (row_part q list n))
 
   -- the part from the row's first place to its last, as the code takes it
-  pub part-shown : b ≡ true → take ((n - 1) * q + q - (n - 1) * q) (drop ((n - 1) * q) list) ≡ shownPart q list found n
-  unfolding rowPart
-  part-shown t = rw (part-is, t, add-sub ((n - 1) * q) q)
+  pub part_shown : b ≡ true → take ((n - 1) * q + q - (n - 1) * q) (drop ((n - 1) * q) list) ≡ shown_part q list found n
+  unfolding row_part
+  part_shown t = rw (part_is, t, add_sub ((n - 1) * q) q)
 
-  pub part-hidden : b ≡ false → [] ≡ shownPart q list found n
-  part-hidden t = rw (part-is, t)
+  pub part_hidden : b ≡ false → [] ≡ shown_part q list found n
+  part_hidden t = rw (part_is, t)
 
-  part_length : b ≡ true → 1 ≤ length (rowPart q list n)
-  unfolding rowPart
+  part_length : b ≡ true → 1 ≤ length (row_part q list n)
+  unfolding row_part
   part_length t =
-      let r : RowIn q list n = shown-in t in
+      let r : RowIn q list n = shown_in t in
       rw (length-take-le q (drop ((n - 1) * q) list) (omega (arith, length-drop ((n - 1) * q) list))) r.wide
 
 -- what the reader shows is its refusal, or the part that it shows: a row, or none where the part is empty
-pub shown-is : (q : ℕ) (list : List ℕ) (found n : ℕ) → shown q list found n ≡ shownBy (readerCheck q) (showPart (shownPart q list found n))
+pub shown_is : (q : ℕ) (list : List ℕ) (found n : ℕ) → shown q list found n ≡ shown_by (reader_check q) (show_part (shown_part q list found n))
 unfolding shown shows
-shown-is q list found n =
-    rw (part-is q list found n refl) (show-part (between 1 mostUnknowns q) (has_row q list found n) (rowPart q list n) (part_length q list found n refl))
+shown_is q list found n =
+    rw (part_is q list found n refl) (show_part_lem (between 1 most_unknowns q) (has_row q list found n) (row_part q list n) (part_length q list found n refl))
 
 -- ---- the two lists of a capped run
 
-pub either-part : (w : Which) (q : ℕ) (list second : List ℕ) (found n : ℕ) → cappedPart q (table_at w list second) found n ≡ rowOfEither w q list second found n
-unfolding cappedPart rowOfEither shownAt
-either-part w q list second found n =
-    sym (part-if (between 1 (mostFor (rights [])) q) (has_row q (table_at w list second) found n) (rowPart q (table_at w list second) n))
+pub either_part : (w : Which) (q : ℕ) (list second : List ℕ) (found n : ℕ) → capped_part q (table_at w list second) found n ≡ row_of_either w q list second found n
+unfolding capped_part row_of_either shown_at
+either_part w q list second found n =
+    sym (part_if_lem (between 1 (most_for (rights [])) q) (has_row q (table_at w list second) found n) (row_part q (table_at w list second) n))
 
-pub capped-wide : (q : ℕ) (list : List ℕ) (found n : ℕ) → 15 < q → [] ≡ cappedPart q list found n
-unfolding cappedPart
-capped-wide q list found n l = rw (lt-leb q 15 l, and-false (leb 1 q))
+pub capped_wide : (q : ℕ) (list : List ℕ) (found n : ℕ) → 15 < q → [] ≡ capped_part q list found n
+unfolding capped_part
+capped_wide q list found n l = rw (lt-leb q 15 l, and-false (leb 1 q))
 
-pub capped-narrow : (q : ℕ) (list : List ℕ) (found n : ℕ) → q ≤ 15 → shownPart q list found n ≡ cappedPart q list found n
-unfolding cappedPart shownPart shown
-capped-narrow q list found n l =
-    part-if (between 1 mostUnknowns q) (has_row q list found n) (rowPart q list n)
-    ∙ ap (λ b. partIf ((leb 1 q && b) && has_row q list found n) (rowPart q list n)) (le-leb q mostUnknowns (omega arith) ∙ sym (le-leb q 15 l))
+pub capped_narrow : (q : ℕ) (list : List ℕ) (found n : ℕ) → q ≤ 15 → shown_part q list found n ≡ capped_part q list found n
+unfolding capped_part shown_part shown
+capped_narrow q list found n l =
+    part_if_lem (between 1 most_unknowns q) (has_row q list found n) (row_part q list n)
+    ∙ ap (λ b. part_if ((leb 1 q && b) && has_row q list found n) (row_part q list n)) (le-leb q most_unknowns (omega arith) ∙ sym (le-leb q 15 l))

@@ -5,47 +5,47 @@ use Rattle.std.proofs.Math.Option.{Option, some, none}
 use Rattle.std.proofs.Common.{arith}
 use Rattle.definitions.specs.Answers.{Check, go, refuse}
 use Rattle.definitions.specs.Highest as paper
-use Rattle.definitions.specs.Highest.{highest, locateChecks, locateWithin, placed, refused}
+use Rattle.definitions.specs.Highest.{highest, locate_checks, locate_within, placed, refused}
 use Rattle.definitions.specs.Input.{input_of}
 use Rattle.definitions.specs.Tables.{at, capacity}
-use Rattle.laws.specs.CheckLaws.{AllSilent, FirstDue, Renders, Rules, ◌▹◌, end, renders-last, renders-then, rule}
-use Rattle.laws.specs.ReasonLaws.{decides-count}
-use Rattle.laws.specs.RefusalLaws.{Outside, decides-outside, decides-unequal}
+use Rattle.laws.specs.CheckLaws.{AllSilent, FirstDue, Renders, Rules, ◌▹◌, end, renders_last, renders_then, rule}
+use Rattle.laws.specs.ReasonLaws.{decides_count}
+use Rattle.laws.specs.RefusalLaws.{Outside, decides_outside, decides_unequal}
 
 -- 2 for q outside 1 to the most unknowns, 5 for a tuple not of length q, 6 for a count above the room, in rising number
-abbrev pub locateRules : (most q : ℕ) → List ℕ → ℕ → List ℕ → Rules
-locateRules most q list found t = rule 2 (Outside 1 most q) ▹ rule 5 (length t ≢ q) ▹ rule 6 (capacity q list < found) ▹ end
+abbrev pub locate_rules : (most q : ℕ) → List ℕ → ℕ → List ℕ → Rules
+locate_rules most q list found t = rule 2 (Outside 1 most q) ▹ rule 5 (length t ≢ q) ▹ rule 6 (capacity q list < found) ▹ end
 
 -- a place is no refusal
-placed-not : (o : Option ℕ) {n : ℕ} {values : List ℕ} → placed o ≡ refused n values → ⊥
-placed-not none e = let z : ◌≡◌ {A = ℕ} 0 1 = cc in omega arith
-placed-not (some k) e = let z : ◌≡◌ {A = ℕ} 0 1 = cc in omega arith
+placed_not : (o : Option ℕ) {n : ℕ} {values : List ℕ} → placed o ≡ refused n values → ⊥
+placed_not none e = let z : ◌≡◌ {A = ℕ} 0 1 = cc in omega arith
+placed_not (some k) e = let z : ◌≡◌ {A = ℕ} 0 1 = cc in omega arith
 
-refused-by : (c : Check) (o : Option ℕ) (n : ℕ) (values : List ℕ) → paper.unlessRefused c (placed o) ≡ refused n values → c ≡ refuse n values
-unfolding paper.unlessRefused
-refused-by (refuse k vs) o n values e = cc
-refused-by go o n values e = absurd (placed-not o e)
+refused_by : (c : Check) (o : Option ℕ) (n : ℕ) (values : List ℕ) → paper.unless_refused c (placed o) ≡ refused n values → c ≡ refuse n values
+unfolding paper.unless_refused
+refused_by (refuse k vs) o n values e = cc
+refused_by go o n values e = absurd (placed_not o e)
 
 module _ (most q : ℕ) (list : List ℕ) (found : ℕ) (t : List ℕ) where
-  pub locate-renders : Renders (locateChecks most q list found t) (locateRules most q list found t)
-  unfolding locateChecks
-  locate-renders =
-      renders-then (decides-outside 2 1 most q)
-      (renders-then (decides-unequal 5 (length t) q) (renders-last (decides-count (input_of 0 q []) list found)))
+  pub locate_renders : Renders (locate_checks most q list found t) (locate_rules most q list found t)
+  unfolding locate_checks
+  locate_renders =
+      renders_then (decides_outside 2 1 most q)
+      (renders_then (decides_unequal 5 (length t) q) (renders_last (decides_count (input_of 0 q []) list found)))
 
   abbrev answer : Option ℕ
   answer = highest q found (at list q) (λ j. get_or t j 0)
 
   -- a refusal is given exactly where it is due
-  pub locate-refused : (n : ℕ) (values : List ℕ) → locateWithin most q list found t ≡ refused n values → FirstDue (locateRules most q list found t) n values
-  unfolding locateWithin
-  locate-refused n values e = locate-renders.refuses n values (refused-by (locateChecks most q list found t) answer n values e)
+  pub locate_refused : (n : ℕ) (values : List ℕ) → locate_within most q list found t ≡ refused n values → FirstDue (locate_rules most q list found t) n values
+  unfolding locate_within
+  locate_refused n values e = locate_renders.refuses n values (refused_by (locate_checks most q list found t) answer n values e)
 
-  pub refused-locate : (n : ℕ) (values : List ℕ) → FirstDue (locateRules most q list found t) n values → locateWithin most q list found t ≡ refused n values
-  unfolding locateWithin paper.unlessRefused
-  refused-locate n values h = rw (locate-renders.due n values h)
+  pub refused_locate : (n : ℕ) (values : List ℕ) → FirstDue (locate_rules most q list found t) n values → locate_within most q list found t ≡ refused n values
+  unfolding locate_within paper.unless_refused
+  refused_locate n values h = rw (locate_renders.due n values h)
 
   -- and where none is due, the highest place is
-  pub locate-asked : AllSilent (locateRules most q list found t) → locateWithin most q list found t ≡ placed answer
-  unfolding locateWithin paper.unlessRefused
-  locate-asked none-due = rw (locate-renders.silent none-due)
+  pub locate_asked : AllSilent (locate_rules most q list found t) → locate_within most q list found t ≡ placed answer
+  unfolding locate_within paper.unless_refused
+  locate_asked none_due = rw (locate_renders.silent none_due)

@@ -1,9 +1,9 @@
 // The reader of a finished list: rows as parts of the list table, by their number from 1; and which row lies at or below a tuple.
 ghost use Rattle.std.specs.Prelude.{◌≡◌};
-ghost use Rattle.definitions.specs.Reader.{readerCheck, rowOfEither};
+ghost use Rattle.definitions.specs.Reader.{reader_check, row_of_either};
 ghost use Rattle.definitions.specs.Refusals.{between};
-ghost use Rattle.definitions.specs.System.{mostUnknowns};
-ghost use Rattle.reader.specs.Reading.{readableOf, shownPart, cappedPart, shows, whichOf};
+ghost use Rattle.definitions.specs.System.{most_unknowns};
+ghost use Rattle.reader.specs.Reading.{readable_of, shown_part, capped_part, shows, which_of};
 
 use calls::{Refusal, Solutions};
 
@@ -25,7 +25,7 @@ pub enum Readable {
 
 // Whether a system may have q unknowns.
 fn in_range(q: usize) -> bool
-    ensures { result ≡ between 1 mostUnknowns q }
+    ensures { result ≡ between 1 most_unknowns q }
 {
     if q < 1 {
         return false;
@@ -35,7 +35,7 @@ fn in_range(q: usize) -> bool
 
 // Whether a reader for rows of q numbers is refused.
 pub fn reader_answer(q: usize) -> Readable
-    ensures { readableOf result ≡ readerCheck q }
+    ensures { readable_of result ≡ reader_check q }
 {
     if in_range(q) {
         Readable::Yes
@@ -62,7 +62,7 @@ fn shows_row(list: &[u32], q: usize, found: Solutions, n: usize) -> bool
 
 // Row n of the list table, as a part of it; an empty part where there is none.
 pub fn row_of(list: &[u32], q: usize, found: Solutions, n: usize) -> &[u32]
-    ensures { result.now ≡ shownPart q list.now found.0 n }
+    ensures { result.now ≡ shown_part q list.now found.0 n }
 {
     if shows_row(list, q, found, n) {
         let a = (n - 1) * q;
@@ -89,7 +89,7 @@ pub fn row_of_either<'a>(
     found: Solutions,
     n: usize,
 ) -> &'a [u32]
-    ensures { result.now ≡ rowOfEither (whichOf which) q list.now second.now found.0 n }
+    ensures { result.now ≡ row_of_either (which_of which) q list.now second.now found.0 n }
 {
     match which {
         Which::Zero => capped_row(list, q, found, n),
@@ -99,7 +99,7 @@ pub fn row_of_either<'a>(
 
 // Row n of one list of a capped run.
 fn capped_row(list: &[u32], q: usize, found: Solutions, n: usize) -> &[u32]
-    ensures { result.now ≡ cappedPart q list.now found.0 n }
+    ensures { result.now ≡ capped_part q list.now found.0 n }
 {
     if 15 < q {
         return &list[0..0];
@@ -115,13 +115,13 @@ impl<'a> Reader<'a> {
     }
 
     pub fn answer(self) -> Readable
-        ensures { readableOf result ≡ readerCheck self.entry.q }
+        ensures { readable_of result ≡ reader_check self.entry.q }
     {
         reader_answer(self.q)
     }
 
     pub fn row(self, found: Solutions, n: usize) -> &'a [u32]
-        ensures { result.now ≡ shownPart self.entry.q self.entry.list.now found.0 n }
+        ensures { result.now ≡ shown_part self.entry.q self.entry.list.now found.0 n }
     {
         row_of(self.list, self.q, found, n)
     }

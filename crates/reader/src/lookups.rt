@@ -1,8 +1,8 @@
 // Questions about a list (document 02): which row lies at or below a tuple.
 ghost use Rattle.std.specs.Prelude.{◌≡◌};
 ghost use Rattle.definitions.specs.Highest as paper;
-ghost use Rattle.definitions.specs.Refusals.{largeSizes};
-ghost use Rattle.reader.specs.Answers.{locatedOf, locatedNumber};
+ghost use Rattle.definitions.specs.Refusals.{large_sizes};
+ghost use Rattle.reader.specs.Answers.{located_of, located_number};
 
 use calls::{Refusal, Solutions};
 use table_rows::lists::Place;
@@ -17,21 +17,21 @@ pub enum Located {
 
 // The highest place of one of the first `found` rows of a list table that is at or below `t`.
 pub fn locate(list: &[u32], q: usize, found: Solutions, t: &[u32]) -> Located
-    ensures { locatedOf result ≡ paper.locate q list.now found.0 t.now }
+    ensures { located_of result ≡ paper.locate q list.now found.0 t.now }
 {
     locate_within(16, list, q, found, t)
 }
 
 // The same of a list of a larger map, as the engine lists them: up to 32 unknowns.
 pub fn locate_large(list: &[u32], q: usize, found: Solutions, t: &[u32]) -> Located
-    ensures { locatedOf result ≡ paper.locateWithin largeSizes.unknowns q list.now found.0 t.now }
+    ensures { located_of result ≡ paper.locate_within large_sizes.unknowns q list.now found.0 t.now }
 {
     locate_within(32, list, q, found, t)
 }
 
 // For rows of at most so many numbers.
 fn locate_within(unknowns: usize, list: &[u32], q: usize, found: Solutions, t: &[u32]) -> Located
-    ensures { locatedOf result ≡ paper.locateWithin unknowns q list.now found.0 t.now }
+    ensures { located_of result ≡ paper.locate_within unknowns q list.now found.0 t.now }
 {
     if q < 1 {
         return Located::Refused(Refusal::Unknowns);
@@ -53,20 +53,20 @@ fn locate_within(unknowns: usize, list: &[u32], q: usize, found: Solutions, t: &
 
 // The same as one number, for callers in other languages: 126 with the place, 127 for no such row, and a refusal's own number.
 pub fn locate_number(list: &[u32], q: usize, found: usize, t: &[u32]) -> u64
-    ensures { result ≡ locatedNumber (paper.locate q list.now found t.now) }
+    ensures { result ≡ located_number (paper.locate q list.now found t.now) }
 {
     number(locate(list, q, Solutions(found), t))
 }
 
 pub fn locate_large_number(list: &[u32], q: usize, found: usize, t: &[u32]) -> u64
-    ensures { result ≡ locatedNumber (paper.locateWithin largeSizes.unknowns q list.now found t.now) }
+    ensures { result ≡ located_number (paper.locate_within large_sizes.unknowns q list.now found t.now) }
 {
     number(locate_large(list, q, Solutions(found), t))
 }
 
 // What was located, as one number.
 fn number(l: Located) -> u64
-    ensures { result ≡ locatedNumber (locatedOf l) }
+    ensures { result ≡ located_number (located_of l) }
 {
     match l {
         Located::At(n) => calls::codes::coded(126, n),

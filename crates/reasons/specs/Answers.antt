@@ -10,15 +10,15 @@ use Rattle.reasons.specs.declared.Reason.TheVariants.{Zero, Off, Stands, Above, 
 use Rattle.reasons.specs.declared.Balance as balance
 use Rattle.reasons.specs.declared.Balance.TheVariants as balances
 
-abbrev pub reasonOf : Reason → paper.Reason
-reasonOf Zero = paper.zero
-reasonOf (Off k amount) = paper.off k amount
-reasonOf (Stands n) = paper.stands n
-reasonOf (Above n) = paper.above n
-reasonOf Unlisted = paper.unlisted
-reasonOf (Refused why) = paper.refused (number_of why) (values_of why)
+abbrev pub reason_of : Reason → paper.Reason
+reason_of Zero = paper.zero
+reason_of (Off k amount) = paper.off k amount
+reason_of (Stands n) = paper.stands n
+reason_of (Above n) = paper.above n
+reason_of Unlisted = paper.unlisted
+reason_of (Refused why) = paper.refused (number_of why) (values_of why)
 
 -- what is told of the first equation that is off
 abbrev pub OffIs : System → (ℕ → ℕ) → balance.Balance → Type 0
-OffIs m x balances.Even = paper.firstOff m x ≡ none
-OffIs m x (balances.Off k amount) = (paper.firstOff m x ≡ some k) × (amount ≡ image_of m x (k - 1))
+OffIs m x balances.Even = paper.first_off m x ≡ none
+OffIs m x (balances.Off k amount) = (paper.first_off m x ≡ some k) × (amount ≡ image_of m x (k - 1))

@@ -1,11 +1,11 @@
 // What is refused of a question: in rising number, 1, 2, 3, 5, 6, 7 and 8.
 ghost use Rattle.std.specs.Prelude.{◌≡◌};
 ghost use Rattle.definitions.specs.Input.{input_of};
-ghost use Rattle.definitions.specs.Reasons.{reasonChecks};
+ghost use Rattle.definitions.specs.Reasons.{reason_checks};
 ghost use Rattle.definitions.specs.Refusals.{sizes};
-ghost use Rattle.calls.specs.Paper.{checkOf};
+ghost use Rattle.calls.specs.Paper.{check_of};
 ghost use Rattle.checks.specs.Counts.{Modest};
-ghost use Rattle.reasons.specs.Refusals.{rangeChecks};
+ghost use Rattle.reasons.specs.Refusals.{range_checks};
 
 use calls::{Check, Refusal};
 
@@ -20,7 +20,7 @@ pub fn check(
     t: &[u32],
 ) -> Check
     requires { Modest (sizes equations unknowns) }
-    ensures { checkOf result ≡ reasonChecks (sizes equations unknowns) (input_of p q coefs.now) list.now found t.now }
+    ensures { check_of result ≡ reason_checks (sizes equations unknowns) (input_of p q coefs.now) list.now found t.now }
 {
     match checks::counts::check_within(equations, unknowns, p, q, coefs.len()) {
         Check::Refuse(why) => Check::Refuse(why),
@@ -38,7 +38,7 @@ pub fn check(
 
 // Refusals 7 and 8.
 fn ranges(coefs: &[i32], t: &[u32]) -> Check
-    ensures { checkOf result ≡ rangeChecks coefs.now t.now }
+    ensures { check_of result ≡ range_checks coefs.now t.now }
 {
     match checks::coefficients::check(coefs) {
         Check::Refuse(why) => Check::Refuse(why),

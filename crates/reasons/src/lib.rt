@@ -3,13 +3,13 @@ ghost use Rattle.std.specs.Prelude.{◌≡◌, min, ◌+◌, ◌*◌, ◌≤◌,
 ghost use Rattle.linear.specs.Systems.{value};
 ghost use Rattle.definitions.specs.Tables.{at};
 ghost use Rattle.definitions.specs.Reasons as paper;
-ghost use Rattle.definitions.specs.Input.{input_of, mapOf};
-ghost use Rattle.definitions.specs.Refusals.{largeSizes, sizes};
+ghost use Rattle.definitions.specs.Input.{input_of, map_of};
+ghost use Rattle.definitions.specs.Refusals.{large_sizes, sizes};
 ghost use Rattle.laws.specs.ReasonLaws.{Askable};
 ghost use Rattle.checks.specs.Counts.{Modest};
 ghost use Rattle.table_rows.specs.Rows.{tuple};
 ghost use Rattle.reasons.specs.Amounts.{SmallEquation, SmallSystem, SmallTuple};
-ghost use Rattle.reasons.specs.Answers.{reasonOf, OffIs};
+ghost use Rattle.reasons.specs.Answers.{reason_of, OffIs};
 
 use calls::{Check, Refusal, Solutions};
 use table_rows::lists::Place;
@@ -44,7 +44,7 @@ pub fn explain(
     found: Solutions,
     t: &[u32],
 ) -> Reason
-    ensures { reasonOf result ≡ paper.reason (input_of p q coefs.now) list.now found.0 t.now }
+    ensures { reason_of result ≡ paper.reason (input_of p q coefs.now) list.now found.0 t.now }
 {
     explain_within(8, 16, p, q, coefs, list, found.0, t)
 }
@@ -58,8 +58,8 @@ pub fn explain_large(
     found: Solutions,
     t: &[u32],
 ) -> Reason
-    ensures { reasonOf result ≡
-        paper.reasonWithin largeSizes (input_of p q coefs.now) list.now found.0 t.now }
+    ensures { reason_of result ≡
+        paper.reason_within large_sizes (input_of p q coefs.now) list.now found.0 t.now }
 {
     explain_within(32, 32, p, q, coefs, list, found.0, t)
 }
@@ -75,7 +75,7 @@ pub fn explain_at_most(
     found: usize,
     t: &[u32],
 ) -> Reason
-    ensures { reasonOf result ≡ paper.reasonWithin (sizes (min equations 32) (min unknowns 32)) (input_of p q coefs.now) list.now found
+    ensures { reason_of result ≡ paper.reason_within (sizes (min equations 32) (min unknowns 32)) (input_of p q coefs.now) list.now found
         t.now }
 {
     explain_within(
@@ -109,8 +109,8 @@ fn explain_within(
     t: &[u32],
 ) -> Reason
     requires { Modest (sizes equations unknowns) }
-    ensures { reasonOf result ≡
-        paper.reasonWithin (sizes equations unknowns) (input_of p q coefs.now) list.now found t.now }
+    ensures { reason_of result ≡
+        paper.reason_within (sizes equations unknowns) (input_of p q coefs.now) list.now found t.now }
 {
     match asked::check(equations, unknowns, p, q, coefs, list, found, t) {
         Check::Refuse(why) => Reason::Refused(why),
@@ -120,8 +120,8 @@ fn explain_within(
 
 // The first reason that is true, of a question that is not refused.
 fn first_true(p: usize, q: usize, coefs: &[i32], list: &[u32], found: usize, t: &[u32]) -> Reason
-    requires { Askable largeSizes (input_of p q coefs.now) list.now found t.now }
-    ensures { reasonOf result ≡ paper.firstTrue (mapOf (input_of p q coefs.now)) found (at list.now q) (tuple t.now) }
+    requires { Askable large_sizes (input_of p q coefs.now) list.now found t.now }
+    ensures { reason_of result ≡ paper.first_true (map_of (input_of p q coefs.now)) found (at list.now q) (tuple t.now) }
 {
     if vanishes(q, t) {
         return Reason::Zero;
@@ -135,7 +135,7 @@ fn first_true(p: usize, q: usize, coefs: &[i32], list: &[u32], found: usize, t: 
 // Where a tuple that solves the system stands in the list, or which row lies below it.
 fn in_list(list: &[u32], found: usize, q: usize, t: &[u32]) -> Reason
     requires { (0 < q) × (q ≤ length t.now) × (found * q ≤ length list.now) }
-    ensures { reasonOf result ≡ paper.inList q found (at list.now q) (tuple t.now) }
+    ensures { reason_of result ≡ paper.in_list q found (at list.now q) (tuple t.now) }
 {
     match table_rows::same::standing(list, found, q, t) {
         Place::At(n) => Reason::Stands(n),
@@ -166,7 +166,7 @@ pub fn vanishes(q: usize, t: &[u32]) -> bool
 // The first equation that is off.
 fn first_off(p: usize, q: usize, coefs: &[i32], t: &[u32]) -> Balance
     requires { SmallSystem p q coefs.now × SmallTuple q t.now }
-    ensures { OffIs (mapOf (input_of p q coefs.now)) (tuple t.now) result }
+    ensures { OffIs (map_of (input_of p q coefs.now)) (tuple t.now) result }
 {
     let mut i = 0;
     while i < p {

@@ -2,9 +2,9 @@
 ghost use Rattle.std.specs.Prelude.{◌≡◌};
 ghost use Rattle.definitions.specs.Input.{input_of};
 ghost use Rattle.definitions.specs.Reasons as paper;
-ghost use Rattle.definitions.specs.Refusals.{largeSizes, sizes};
+ghost use Rattle.definitions.specs.Refusals.{large_sizes, sizes};
 ghost use Rattle.checks.specs.Counts.{Modest};
-ghost use Rattle.reasons.specs.Numbers.{reasonTold};
+ghost use Rattle.reasons.specs.Numbers.{reason_told};
 
 use crate::{Reason, explain_within};
 
@@ -18,7 +18,7 @@ pub fn reason(
     amount: &mut [i64; 1],
 ) -> u64
     ensures { (result, amount.new) ≡
-        reasonTold (paper.reason (input_of p q coefs.now) list.now found t.now) amount.old }
+        reason_told (paper.reason (input_of p q coefs.now) list.now found t.now) amount.old }
 {
     reason_within(8, 16, p, q, coefs, list, found, t, amount)
 }
@@ -34,7 +34,7 @@ pub fn reason_large(
     amount: &mut [i64; 1],
 ) -> u64
     ensures { (result, amount.new) ≡
-        reasonTold (paper.reasonWithin largeSizes (input_of p q coefs.now) list.now found t.now) amount.old }
+        reason_told (paper.reason_within large_sizes (input_of p q coefs.now) list.now found t.now) amount.old }
 {
     reason_within(32, 32, p, q, coefs, list, found, t, amount)
 }
@@ -52,7 +52,7 @@ fn reason_within(
 ) -> u64
     requires { Modest (sizes equations unknowns) }
     ensures { (result, amount.new) ≡
-        reasonTold (paper.reasonWithin (sizes equations unknowns) (input_of p q coefs.now) list.now found t.now)
+        reason_told (paper.reason_within (sizes equations unknowns) (input_of p q coefs.now) list.now found t.now)
         amount.old }
 {
     match explain_within(equations, unknowns, p, q, coefs, list, found, t) {

@@ -1,12 +1,12 @@
 // A run record and tables in order: refusal 6, by the kind of run.
 ghost use Rattle.std.specs.Prelude.{◌≡◌, ◌+◌, ◌*◌, ◌≤◌, ◌<◌, leb, length};
-ghost use Rattle.linear.specs.Tests.{allTo, count_to};
-ghost use Rattle.definitions.specs.Input.{boundOf};
-ghost use Rattle.definitions.specs.Refusals.{rowFits};
-ghost use Rattle.definitions.specs.System.{isAtOrBelow};
+ghost use Rattle.linear.specs.Tests.{all_to, count_to};
+ghost use Rattle.definitions.specs.Input.{bound_of};
+ghost use Rattle.definitions.specs.Refusals.{row_fits};
+ghost use Rattle.definitions.specs.System.{is_at_or_below};
 ghost use Rattle.definitions.specs.Tables.{at, frozen};
 ghost use Rattle.calls.specs.Paper.{kind_of, run_of};
-ghost use Rattle.record_order.specs.Order.{InShape, aboveFits, aboveWalkFits, cappedFits, lowerFits, plainWalkFits, recordFits};
+ghost use Rattle.record_order.specs.Order.{InShape, above_fits, above_walk_fits, capped_fits, lower_fits, plain_walk_fits, record_fits};
 
 use calls::{Record, RunKind};
 use table_rows::rows;
@@ -22,7 +22,7 @@ pub fn in_order(
     limit: u32,
 ) -> bool
     requires { (1 ≤ width) × InShape q (length stack.now) }
-    ensures { result ≡ recordFits (kind_of kind) q width limit stack.now list.now (run_of r) }
+    ensures { result ≡ record_fits (kind_of kind) q width limit stack.now list.now (run_of r) }
 {
     let own = r.kind;
     let height = r.height;
@@ -50,7 +50,7 @@ pub fn in_order(
 // What a capped run on q unknowns is asked besides: the count of the second list within its room, and every first component at most 1.
 pub fn capped_fits(q: usize, width: usize, stack: &[u32], second: &[u32], r: Record) -> bool
     requires { (1 ≤ width) × (r.height ≤ q) × InShape q (length stack.now) }
-    ensures { result ≡ cappedFits q width stack.now second.now (run_of r) }
+    ensures { result ≡ capped_fits q width stack.now second.now (run_of r) }
 {
     let height = r.height;
     let count = r.found2.0;
@@ -63,7 +63,7 @@ pub fn capped_fits(q: usize, width: usize, stack: &[u32], second: &[u32], r: Rec
 // Whether the first component of each of the first `height` rows is at most 1.
 fn firsts_fit(q: usize, stack: &[u32], height: usize) -> bool
     requires { (q ≤ 16) × (height * (q + 1) ≤ length stack.now) }
-    ensures { result ≡ allTo height (λ k. leb (at stack.now (q + 1) k 0) 1) }
+    ensures { result ≡ all_to height (λ k. leb (at stack.now (q + 1) k 0) 1) }
 {
     let mut k = 0;
     while k < height {
@@ -78,7 +78,7 @@ fn firsts_fit(q: usize, stack: &[u32], height: usize) -> bool
 // Whether the first `height` rows are in order, with components up to the limit.
 fn rows_in_order(q: usize, stack: &[u32], height: usize, limit: u32) -> bool
     requires { (q ≤ 16) × (height * (q + 1) ≤ length stack.now) }
-    ensures { result ≡ allTo height (rowFits limit q stack.now) }
+    ensures { result ≡ all_to height (row_fits limit q stack.now) }
 {
     let mut k = 0;
     while k < height {
@@ -93,7 +93,7 @@ fn rows_in_order(q: usize, stack: &[u32], height: usize, limit: u32) -> bool
 // Whether row `k` is in order: components, marks within the unknowns, and k marks.
 fn row_in_order(q: usize, stack: &[u32], k: usize, limit: u32) -> bool
     requires { (q ≤ 16) × (k * (q + 1) + q < length stack.now) }
-    ensures { result ≡ rowFits limit q stack.now k }
+    ensures { result ≡ row_fits limit q stack.now k }
 {
     let base = k * (q + 1);
     if !rows::small_at(stack, base, q, limit) {
@@ -132,7 +132,7 @@ pub fn lower_in_order(
     limit: u32,
 ) -> bool
     requires { InShape q (length stack.now) × (length lower.now ≡ q) }
-    ensures { result ≡ lowerFits (run_of r).kind q limit lower.now stack.now list.now second.now (run_of r) }
+    ensures { result ≡ lower_fits (run_of r).kind q limit lower.now stack.now list.now second.now (run_of r) }
 {
     let kind = r.kind;
     match kind {
@@ -154,7 +154,7 @@ fn plain_walk_fits(
     limit: u32,
 ) -> bool
     requires { InShape q (length stack.now) }
-    ensures { result ≡ plainWalkFits q limit stack.now list.now second.now (run_of r) }
+    ensures { result ≡ plain_walk_fits q limit stack.now list.now second.now (run_of r) }
 {
     let found = r.found.0;
     let steps = r.steps.0;
@@ -179,7 +179,7 @@ fn above_walk_fits(
     limit: u32,
 ) -> bool
     requires { InShape q (length stack.now) × (length lower.now ≡ q) }
-    ensures { result ≡ aboveWalkFits q limit lower.now stack.now list.now second.now (run_of r) }
+    ensures { result ≡ above_walk_fits q limit lower.now stack.now list.now second.now (run_of r) }
 {
     let steps2 = r.steps2.0;
     if !in_order(RunKind::LowerAbove, q, q, stack, list, r, limit) {
@@ -194,7 +194,7 @@ fn above_walk_fits(
 // What a walk above a lower bound is asked besides: the count of the second list within its room, and every row at or above the bound.
 fn above_fits(q: usize, lower: &[u32], stack: &[u32], second: &[u32], r: Record) -> bool
     requires { (r.height ≤ q) × InShape q (length stack.now) × (length lower.now ≡ q) }
-    ensures { result ≡ aboveFits q lower.now stack.now second.now (run_of r) }
+    ensures { result ≡ above_fits q lower.now stack.now second.now (run_of r) }
 {
     let height = r.height;
     let count = r.found2.0;
@@ -207,7 +207,7 @@ fn above_fits(q: usize, lower: &[u32], stack: &[u32], second: &[u32], r: Record)
 // Whether the first `height` rows are at or above the bound.
 fn rows_above(q: usize, lower: &[u32], stack: &[u32], height: usize) -> bool
     requires { (q ≤ 16) × (height * (q + 1) ≤ length stack.now) × (length lower.now ≡ q) }
-    ensures { result ≡ allTo height (λ k. isAtOrBelow q (boundOf lower.now) (at stack.now (q + 1) k)) }
+    ensures { result ≡ all_to height (λ k. is_at_or_below q (bound_of lower.now) (at stack.now (q + 1) k)) }
 {
     let mut k = 0;
     while k < height {
@@ -222,7 +222,7 @@ fn rows_above(q: usize, lower: &[u32], stack: &[u32], height: usize) -> bool
 // Whether row `k` is.
 fn row_above(q: usize, lower: &[u32], stack: &[u32], k: usize) -> bool
     requires { (q ≤ 16) × (k * (q + 1) + q < length stack.now) × (length lower.now ≡ q) }
-    ensures { result ≡ isAtOrBelow q (boundOf lower.now) (at stack.now (q + 1) k) }
+    ensures { result ≡ is_at_or_below q (bound_of lower.now) (at stack.now (q + 1) k) }
 {
     let base = k * (q + 1);
     let mut j = 0;

@@ -4,11 +4,11 @@ use Rattle.std.proofs.Common.{sym, ◌∙◌, inl, inr, mul-le-mul, arith, le-le
 use Rattle.std.proofs.lemmas.Bool.{lt-leb, not-false, not-true}
 use Rattle.linear.specs.Cases.{split}
 use Rattle.linear.specs.TestLaws.{and_parts}
-use Rattle.definitions.specs.Answers.{Check, ◌then◌, go, refuse, refuseWith}
+use Rattle.definitions.specs.Answers.{Check, ◌then◌, go, refuse, refuse_with}
 use Rattle.definitions.specs.Refusals.{between, check7}
-use Rattle.checks.specs.Coefficients.{coefficientChecks}
-use Rattle.reformulation_spec.specs.Reformulation.{Reformulation, areLengths, givenChecks}
-use Rattle.reformulation_spec.specs.Rules.{Lengths, fewEquations, fewUnknowns, given-sizes}
+use Rattle.checks.specs.Coefficients.{coefficient_checks}
+use Rattle.reformulation_spec.specs.Reformulation.{Reformulation, are_lengths, given_checks}
+use Rattle.reformulation_spec.specs.Rules.{Lengths, few_equations, few_unknowns, given_sizes}
 
 -- ---- a test that was made, whose answer r is that of the definition
 
@@ -22,13 +22,13 @@ holds {r} e h = sym e ∙ not-false r h
 
 -- sizes whose products are small
 pub record Sized (p q k m : ℕ) : Type 0 where
-  pub p-few : p ≤ 32
-  pub m-few : m ≤ 32
+  pub p_few : p ≤ 32
+  pub m_few : m ≤ 32
   pub few : q + k ≤ 32
 
 -- a product of two of them, or of one more
-pub product-few : {x y : ℕ} → x ≤ 65 → y ≤ 65 → x * y ≤ 4225
-product-few a b = omega (arith, mul-le-mul a b)
+pub product_few : {x y : ℕ} → x ≤ 65 → y ≤ 65 → x * y ≤ 4225
+product_few a b = omega (arith, mul-le-mul a b)
 
 -- the numbers of all tables
 pub record Counts (p q k m : ℕ) : Type 0 where
@@ -39,59 +39,59 @@ pub record Counts (p q k m : ℕ) : Type 0 where
   pub back : (p + k) * (1 + m) ≤ 4225
   pub above : k * (1 + p) ≤ 4225
 
-pub counts-few : {p q k m : ℕ} → Sized p q k m → Counts p q k m
-counts-few {p} {q} {k} {m} s =
-    let a : p ≤ 32 = s.p-few in
-    let b : m ≤ 32 = s.m-few in
+pub counts_few : {p q k m : ℕ} → Sized p q k m → Counts p q k m
+counts_few {p} {q} {k} {m} s =
+    let a : p ≤ 32 = s.p_few in
+    let b : m ≤ 32 = s.m_few in
     let c : q + k ≤ 32 = s.few in
     record {
-      map = product-few (omega arith) (omega arith);
-      extended = product-few (omega arith) (omega arith);
-      other = product-few (omega arith) (omega arith);
-      onto = product-few (omega arith) (omega arith);
-      back = product-few (omega arith) (omega arith);
-      above = product-few (omega arith) (omega arith);
+      map = product_few (omega arith) (omega arith);
+      extended = product_few (omega arith) (omega arith);
+      other = product_few (omega arith) (omega arith);
+      onto = product_few (omega arith) (omega arith);
+      back = product_few (omega arith) (omega arith);
+      above = product_few (omega arith) (omega arith);
     }
 
 -- as many further unknowns as 32 leave
-pub room-left : (q k : ℕ) → q ≤ 32 → leb k (32 - q) ≡ leb (q + k) 32
-room-left q k l =
+pub room_left : (q k : ℕ) → q ≤ 32 → leb k (32 - q) ≡ leb (q + k) 32
+room_left q k l =
     elim (split 32 (q + k)) [
       | inl h ↦ rw (lt-leb k (32 - q) (omega arith), lt-leb (q + k) 32 h)
       | inr h ↦ rw (le-leb k (32 - q) (omega arith), le-leb (q + k) 32 h)
     ]
 
-pub unknowns-few : (q k : ℕ) → fewUnknowns q k ≡ true → (1 ≤ q) × (q + k ≤ 32)
-unknowns-few q k e = let (a, b) = and_parts (leb 1 q) (leb (q + k) 32) (rw e tt) in (leb→le 1 q a, leb→le (q + k) 32 b)
+pub unknowns_few : (q k : ℕ) → few_unknowns q k ≡ true → (1 ≤ q) × (q + k ≤ 32)
+unknowns_few q k e = let (a, b) = and_parts (leb 1 q) (leb (q + k) 32) (rw e tt) in (leb→le 1 q a, leb→le (q + k) 32 b)
 
-pub sized-by : (p q k m : ℕ) → (between 1 32 p && between 1 32 m) ≡ true → fewUnknowns q k ≡ true → Sized p q k m
-sized-by p q k m e u =
+pub sized_by : (p q k m : ℕ) → (between 1 32 p && between 1 32 m) ≡ true → few_unknowns q k ≡ true → Sized p q k m
+sized_by p q k m e u =
     let (a, b) = and_parts (between 1 32 p) (between 1 32 m) (rw e tt) in
     record {
-      p-few = leb→le p 32 (and_parts (leb 1 p) (leb p 32) a).1;
-      m-few = leb→le m 32 (and_parts (leb 1 m) (leb m 32) b).1;
-      few = (unknowns-few q k u).1;
+      p_few = leb→le p 32 (and_parts (leb 1 p) (leb p 32) a).1;
+      m_few = leb→le m 32 (and_parts (leb 1 m) (leb m 32) b).1;
+      few = (unknowns_few q k u).1;
     }
 
 -- ---- the checks, as code makes them
 
 module _ (r : Reformulation) where
-  pub many-equations : fewEquations r ≡ false → refuse 1 [] ≡ givenChecks r
-  unfolding givenChecks refuseWith ◌then◌
-  many-equations e = rw e
+  pub many_equations : few_equations r ≡ false → refuse 1 [] ≡ given_checks r
+  unfolding given_checks refuse_with ◌then◌
+  many_equations e = rw e
 
-  module _ (e : fewEquations r ≡ true) where
-    pub many-unknowns : fewUnknowns r.q r.k ≡ false → refuse 2 [] ≡ givenChecks r
-    unfolding givenChecks refuseWith ◌then◌
-    many-unknowns u = rw (e, u)
+  module _ (e : few_equations r ≡ true) where
+    pub many_unknowns : few_unknowns r.q r.k ≡ false → refuse 2 [] ≡ given_checks r
+    unfolding given_checks refuse_with ◌then◌
+    many_unknowns u = rw (e, u)
 
-    module _ (u : fewUnknowns r.q r.k ≡ true) where
-      pub other-lengths : areLengths r ≡ false → refuse 3 [] ≡ givenChecks r
-      unfolding givenChecks refuseWith ◌then◌
-      other-lengths l = rw (e, u, l)
+    module _ (u : few_unknowns r.q r.k ≡ true) where
+      pub other_lengths : are_lengths r ≡ false → refuse 3 [] ≡ given_checks r
+      unfolding given_checks refuse_with ◌then◌
+      other_lengths l = rw (e, u, l)
 
-      pub passed : areLengths r ≡ true → {c : Check} → c ≡ coefficientChecks r.coefs → c ≡ givenChecks r
-      unfolding givenChecks refuseWith ◌then◌ check7
+      pub passed : are_lengths r ≡ true → {c : Check} → c ≡ coefficient_checks r.coefs → c ≡ given_checks r
+      unfolding given_checks refuse_with ◌then◌ check7
       passed l c = rw (e, u, l) c
 
 -- ---- where they have passed
@@ -100,14 +100,14 @@ pub record Given (r : Reformulation) : Type 0 where
   pub sized : Sized r.p r.q r.k r.m
   pub lengths : Lengths r
 
-pub given-of : (r : Reformulation) → givenChecks r ≡ go → Given r
-given-of r e =
-    let (equations, unknowns, lengths) = given-sizes r e in
-    record { sized = record { p-few = equations.p-few; m-few = equations.m-few; few = unknowns.few }; lengths = lengths }
+pub given_of : (r : Reformulation) → given_checks r ≡ go → Given r
+given_of r e =
+    let (equations, unknowns, lengths) = given_sizes r e in
+    record { sized = record { p_few = equations.p_few; m_few = equations.m_few; few = unknowns.few }; lengths = lengths }
 
 -- the map and the extended one
 pub record Laid (p q k : ℕ) (coefs extended : List ℤ) : Type 0 where
-  pub p-few : p ≤ 32
+  pub p_few : p ≤ 32
   pub few : q + k ≤ 32
   pub map : p * q ≤ length coefs
   pub whole : (p + k) * (q + k) ≤ length extended

@@ -4,26 +4,26 @@ use Rattle.std.proofs.Common.{inl, inr, mul-le-mul_right, arith}
 use Rattle.std.proofs.Math.ListN.{get_or-eq_default}
 use Rattle.linear.specs.Cases.{split}
 use Rattle.linear.specs.TestLaws.{and_parts}
-use Rattle.definitions.specs.Answers.{◌then◌, refuseWith}
-use Rattle.calls.specs.Paper.{checkOf, number_of, values_of}
+use Rattle.definitions.specs.Answers.{◌then◌, refuse_with}
+use Rattle.calls.specs.Paper.{check_of, number_of, values_of}
 use Rattle.calls.specs.declared.Check.{Check}
 use Rattle.calls.specs.declared.Check.TheVariants.{Pass, Refuse}
 use Rattle.calls.specs.declared.Refusal.{Refusal}
-use Rattle.calls.specs.Codes.{refusalCode}
+use Rattle.calls.specs.Codes.{refusal_code}
 use Rattle.reformulation_spec.specs.Reformulation.{
   Reformulation,
-  areMultiples,
-  areSmall,
+  are_multiples,
+  are_small,
   equations,
-  givenChecks,
+  given_checks,
   in_range,
   reformulates,
   shows,
   unknowns,
 }
-use Rattle.reformulation_spec.specs.Showing.{Small, multiples-from, range-from}
+use Rattle.reformulation_spec.specs.Showing.{Small, multiples_from, range_from}
 use Rattle.reformulation.specs.Given.{Given}
-use Rattle.reformulation.specs.Numbers.{shownTold}
+use Rattle.reformulation.specs.Numbers.{shown_told}
 use Rattle.reformulation.specs.Sums.{Lines, Within}
 
 -- a number that is read past the end of a table is 0
@@ -31,75 +31,75 @@ everywhere : (limit : ℕ) (table : List ℤ) → Small limit table → (i : ℕ
 everywhere limit table s i =
     elim (split i (length table)) [ inl l ↦ s i l | inr l ↦ rw (get_or-eq_default table (pos 0) l) (omega arith) ]
 
-within_of : {by rows table : List ℤ} → T (areMultiples by) → T (in_range rows) → T (in_range table) → Within by rows table
+within_of : {by rows table : List ℤ} → T (are_multiples by) → T (in_range rows) → T (in_range table) → Within by rows table
 within_of {by} {rows} {table} a b c =
     record {
-      multiples = everywhere _ by (multiples-from by a);
-      row = everywhere _ rows (range-from rows b);
-      others = everywhere _ table (range-from table c);
+      multiples = everywhere _ by (multiples_from by a);
+      row = everywhere _ rows (range_from rows b);
+      others = everywhere _ table (range_from table c);
     }
 
-module _ (r : Reformulation) (g : Given r) (small : areSmall r ≡ true) where
-  tests : T (in_range r.extended) × T (in_range r.other) × T (areMultiples r.onto) × T (areMultiples r.back) × T (areMultiples r.above)
+module _ (r : Reformulation) (g : Given r) (small : are_small r ≡ true) where
+  tests : T (in_range r.extended) × T (in_range r.other) × T (are_multiples r.onto) × T (are_multiples r.back) × T (are_multiples r.above)
   tests =
-      let all : T (areSmall r) = rw small tt in
+      let all : T (are_small r) = rw small tt in
       let (v, rest) = and_parts (in_range r.extended) _ all in
       let (w, more) = and_parts (in_range r.other) _ rest in
-      let (o, others) = and_parts (areMultiples r.onto) _ more in
-      let (b, u) = and_parts (areMultiples r.back) _ others in
+      let (o, others) = and_parts (are_multiples r.onto) _ more in
+      let (b, u) = and_parts (are_multiples r.back) _ others in
       (v, w, o, b, u)
 
-  pub onto-lines : Lines (unknowns r) (unknowns r) (equations r) r.m 0 r.onto r.other r.extended
-  onto-lines =
+  pub onto_lines : Lines (unknowns r) (unknowns r) (equations r) r.m 0 r.onto r.other r.extended
+  onto_lines =
       let zero : 0 + r.m ≡ r.m = omega arith in
       record {
         within = within_of tests.2 tests.1 tests.0;
-        few = omega (arith, g.sized.p-few, g.sized.few);
+        few = omega (arith, g.sized.p_few, g.sized.few);
         inside = omega arith;
-        start = omega (arith, g.sized.m-few);
-        by-long = omega (arith, g.lengths.onto);
+        start = omega (arith, g.sized.m_few);
+        by_long = omega (arith, g.lengths.onto);
         rows_long = rw zero (omega (arith, g.lengths.other));
         long = omega (arith, g.lengths.extended);
       }
 
-  pub back-lines : Lines (unknowns r) (unknowns r) r.m (equations r) 0 r.back r.extended r.other
-  back-lines =
+  pub back_lines : Lines (unknowns r) (unknowns r) r.m (equations r) 0 r.back r.extended r.other
+  back_lines =
       let zero : 0 + equations r ≡ equations r = omega arith in
       record {
         within = within_of tests.3 tests.0 tests.1;
-        few = omega (arith, g.sized.m-few);
+        few = omega (arith, g.sized.m_few);
         inside = omega arith;
-        start = omega (arith, g.sized.p-few, g.sized.few);
-        by-long = omega (arith, g.lengths.back);
+        start = omega (arith, g.sized.p_few, g.sized.few);
+        by_long = omega (arith, g.lengths.back);
         rows_long = rw zero (omega (arith, g.lengths.extended));
         long = omega (arith, g.lengths.other);
       }
 
-  pub above-lines : Lines r.q (unknowns r) r.p r.k r.p r.above r.extended r.extended
-  above-lines =
+  pub above_lines : Lines r.q (unknowns r) r.p r.k r.p r.above r.extended r.extended
+  above_lines =
       let fewer : r.p ≤ equations r = omega arith in
       record {
         within = within_of tests.4 tests.0 tests.0;
-        few = omega (arith, g.sized.p-few);
+        few = omega (arith, g.sized.p_few);
         inside = omega arith;
-        start = omega (arith, g.sized.p-few, g.sized.few);
-        by-long = omega (arith, g.lengths.above);
+        start = omega (arith, g.sized.p_few, g.sized.few);
+        by_long = omega (arith, g.lengths.above);
         rows_long = omega (arith, g.lengths.extended);
         long = omega (arith, g.lengths.extended, mul-le-mul_right (unknowns r) fewer);
       }
 
 -- ---- the answer
 
-module _ (r : Reformulation) {c : Check} (e : checkOf c ≡ givenChecks r) where
-  pub told-refused : {why : Refusal} → c ≡ Refuse why → refusalCode (number_of why) (values_of why) ≡ shownTold (reformulates r)
+module _ (r : Reformulation) {c : Check} (e : check_of c ≡ given_checks r) where
+  pub told_refused : {why : Refusal} → c ≡ Refuse why → refusal_code (number_of why) (values_of why) ≡ shown_told (reformulates r)
   unfolding reformulates ◌then◌
-  told-refused g = rw (← e, g)
+  told_refused g = rw (← e, g)
 
   module _ (g : c ≡ Pass) where
-    pub told-shown : shows r ≡ true → 128 ≡ shownTold (reformulates r)
-    unfolding reformulates ◌then◌ refuseWith
-    told-shown s = rw (← e, g, s)
+    pub told_shown : shows r ≡ true → 128 ≡ shown_told (reformulates r)
+    unfolding reformulates ◌then◌ refuse_with
+    told_shown s = rw (← e, g, s)
 
-    pub told-not : shows r ≡ false → 36 ≡ shownTold (reformulates r)
-    unfolding reformulates ◌then◌ refuseWith
-    told-not s = rw (← e, g, s)
+    pub told_not : shows r ≡ false → 36 ≡ shown_told (reformulates r)
+    unfolding reformulates ◌then◌ refuse_with
+    told_not s = rw (← e, g, s)

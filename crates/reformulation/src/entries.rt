@@ -1,8 +1,8 @@
 // Whether one map is another with further unknowns, each in an equation of its own.
 ghost use Rattle.std.specs.Prelude.{◌≡◌, ◌+◌, ◌*◌, ◌≤◌, ◌<◌, length};
-ghost use Rattle.linear.specs.Tests.{allTo};
+ghost use Rattle.linear.specs.Tests.{all_to};
 ghost use Rattle.reformulation_spec.specs.Reformulation as paper;
-ghost use Rattle.reformulation_spec.specs.Reformulation.{isEntry, isSame, row_of};
+ghost use Rattle.reformulation_spec.specs.Reformulation.{is_entry, is_same, row_of};
 ghost use Rattle.reformulation.specs.Given.{Laid};
 
 pub fn extends(p: usize, q: usize, k: usize, coefs: &[i32], extended: &[i32]) -> bool
@@ -22,7 +22,7 @@ pub fn extends(p: usize, q: usize, k: usize, coefs: &[i32], extended: &[i32]) ->
 // Whether row i is such.
 fn row_extends(p: usize, q: usize, k: usize, coefs: &[i32], extended: &[i32], i: usize) -> bool
     requires { Laid p q k coefs.now extended.now × (i < p + k) }
-    ensures { result ≡ allTo (q + k) (λ j. isEntry p q (row_of q coefs.now) i j (row_of (q + k) extended.now i j)) }
+    ensures { result ≡ all_to (q + k) (λ j. is_entry p q (row_of q coefs.now) i j (row_of (q + k) extended.now i j)) }
 {
     let mut j = 0;
     while j < q + k {
@@ -37,7 +37,7 @@ fn row_extends(p: usize, q: usize, k: usize, coefs: &[i32], extended: &[i32], i:
 // Whether x may stand in column j of row i.
 fn is_entry(p: usize, q: usize, coefs: &[i32], i: usize, j: usize, x: i32) -> bool
     requires { (p * q ≤ length coefs.now) × (p ≤ 32) × (q ≤ 32) × (i ≤ 64) × (j ≤ 32) }
-    ensures { result ≡ isEntry p q (row_of q coefs.now) i j x }
+    ensures { result ≡ is_entry p q (row_of q coefs.now) i j x }
 {
     if j < q {
         if i < p {
@@ -52,7 +52,7 @@ fn is_entry(p: usize, q: usize, coefs: &[i32], i: usize, j: usize, x: i32) -> bo
 }
 
 fn is_same(x: i32, y: i32) -> bool
-    ensures { result ≡ isSame x y }
+    ensures { result ≡ is_same x y }
 {
     if x < y {
         return false;

@@ -1,7 +1,7 @@
 // What is refused before the numbers are looked at: 1, 2, 3 and 7.
 ghost use Rattle.std.specs.Prelude.{◌&&◌, ◌≡◌, ◌+◌, leb};
 ghost use Rattle.definitions.specs.Refusals.{between};
-ghost use Rattle.calls.specs.Paper.{checkOf};
+ghost use Rattle.calls.specs.Paper.{check_of};
 ghost use Rattle.reformulation_spec.specs.Reformulation as paper;
 ghost use Rattle.reformulation_spec.specs.Reformulation.{reformulation};
 ghost use Rattle.reformulation.specs.Given.{Sized};
@@ -20,8 +20,8 @@ pub fn check(
     back: &[i64],
     above: &[i64],
 ) -> Check
-    ensures { checkOf result ≡
-        paper.givenChecks (reformulation p q k m coefs.now extended.now other.now onto.now back.now
+    ensures { check_of result ≡
+        paper.given_checks (reformulation p q k m coefs.now extended.now other.now onto.now back.now
         above.now) }
 {
     if !equations_fit(p, m) {
@@ -81,7 +81,7 @@ fn lengths_fit(
 ) -> bool
     requires { Sized p q k m }
     ensures { result ≡
-        paper.areLengths (reformulation p q k m coefs.now extended.now other.now onto.now back.now
+        paper.are_lengths (reformulation p q k m coefs.now extended.now other.now onto.now back.now
         above.now) }
 {
     if coefs.len() != p * q {

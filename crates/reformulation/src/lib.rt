@@ -3,7 +3,7 @@
 ghost use Rattle.std.specs.Prelude.{◌≡◌};
 ghost use Rattle.reformulation_spec.specs.Reformulation as paper;
 ghost use Rattle.reformulation_spec.specs.Reformulation.{reformulation};
-ghost use Rattle.reformulation.specs.Numbers.{projectTold, shownTold};
+ghost use Rattle.reformulation.specs.Numbers.{project_told, shown_told};
 ghost use Rattle.reformulation.specs.Given.{Given};
 
 use calls::Check;
@@ -28,7 +28,7 @@ pub fn reformulates(
     above: &[i64],
 ) -> u64
     ensures { result ≡
-        shownTold (paper.reformulates (reformulation p q k m coefs.now extended.now other.now onto.now
+        shown_told (paper.reformulates (reformulation p q k m coefs.now extended.now other.now onto.now
         back.now above.now)) }
 {
     match given::check(p, q, k, m, coefs, extended, other, onto, back, above) {
@@ -77,7 +77,7 @@ fn shows(
 
 // The first q numbers of `found` rows of q + k numbers, one row behind the other from the beginning of `out`.
 pub fn project(q: usize, k: usize, found: usize, rows: &[u32], out: &mut [u32]) -> u64
-    ensures { (result, out.new) ≡ projectTold q k found rows.now out.old }
+    ensures { (result, out.new) ≡ project_told q k found rows.now out.old }
 {
     if !given::unknowns_fit(q, k) {
         return 2;

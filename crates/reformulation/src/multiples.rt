@@ -21,7 +21,7 @@ pub fn all_follow(
 ) -> bool
     requires { Lines columns w n count first by.now rows.now table.now }
     ensures { result ≡
-        paper.allFollow exact columns n count first (row_of (1 + n) by.now) (row_of w rows.now) (row_of w table.now) }
+        paper.all_follow exact columns n count first (row_of (1 + n) by.now) (row_of w rows.now) (row_of w table.now) }
 {
     let mut i = 0;
     while i < count {
@@ -107,7 +107,7 @@ fn left_over(
 ) -> i64
     requires { SmallSums columns w n by.now from rows.now base table.now × (j < columns) }
     ensures { result ≡
-        paper.leftOver n (line_at by.now from) (line_at rows.now base) (row_of w table.now) j }
+        paper.left_over n (line_at by.now from) (line_at rows.now base) (row_of w table.now) j }
 {
     let mut sum: i64 = times(by[from], products::wide(rows[base + j]));
     let mut r = 0;

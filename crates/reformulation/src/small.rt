@@ -1,6 +1,6 @@
 // Whether numbers are within their limits.
 ghost use Rattle.std.specs.Prelude.{◌&&◌, ◌≡◌, leb, nat_abs};
-ghost use Rattle.reformulation_spec.specs.Reformulation.{areMultiples, in_range, mostMultiple};
+ghost use Rattle.reformulation_spec.specs.Reformulation.{are_multiples, in_range, most_multiple};
 
 use calls::Check;
 
@@ -10,8 +10,8 @@ const MOST_MULTIPLE: i64 = 1000000000000;
 // Coefficients of both maps, and multiples.
 pub fn all(extended: &[i32], other: &[i32], onto: &[i64], back: &[i64], above: &[i64]) -> bool
     ensures { result ≡
-        (in_range extended.now && (in_range other.now && (areMultiples onto.now && (areMultiples back.now
-        && areMultiples above.now)))) }
+        (in_range extended.now && (in_range other.now && (are_multiples onto.now && (are_multiples back.now
+        && are_multiples above.now)))) }
 {
     if !in_range(extended) {
         return false;
@@ -38,7 +38,7 @@ fn in_range(table: &[i32]) -> bool
 }
 
 fn are_multiples(by: &[i64]) -> bool
-    ensures { result ≡ areMultiples by.now }
+    ensures { result ≡ are_multiples by.now }
 {
     let mut i = 0;
     while i < by.len() {
@@ -51,7 +51,7 @@ fn are_multiples(by: &[i64]) -> bool
 }
 
 fn is_multiple(x: i64) -> bool
-    ensures { result ≡ leb (nat_abs x) mostMultiple }
+    ensures { result ≡ leb (nat_abs x) most_multiple }
 {
     if x < -MOST_MULTIPLE {
         return false;

@@ -6,14 +6,14 @@ use Rattle.std.proofs.Common.{◌∙◌, ap, inl, inr, add-suc, add-zero, arith,
 use Rattle.std.proofs.Math.IntN.{pos, ◌+ℤ◌, +ℤ_assoc, +ℤ_idl, +ℤ_idr, zero-*ℤ}
 use Rattle.std.specs.Int.Signed.{pos-nat_abs, yes_non_neg}
 use Rattle.linear.specs.Cases.{split}
-use Rattle.linear.specs.Combinations.{rest-solves, solution-same}
-use Rattle.linear.specs.Differences.{down-mul, integers, sum_is, up-mul}
+use Rattle.linear.specs.Combinations.{rest_solves, solution_same}
+use Rattle.linear.specs.Differences.{down_mul, integers, sum_is, up_mul}
 use Rattle.linear.specs.Loops.{Loop}
-use Rattle.linear.specs.Sums.{sum_to, sum-change, sum-cong, sum-zero}
+use Rattle.linear.specs.Sums.{sum_to, sum_change, sum_cong, sum_zero}
 use Rattle.linear.specs.Systems.{Solution, inner, value}
-use Rattle.linear.specs.SystemLaws.{inner-cong, inner-zero, value_same, value-sum}
+use Rattle.linear.specs.SystemLaws.{inner_cong, inner_zero, value_same, value_sum}
 use Rattle.linear.specs.Tuples.{AtOrBelow, Nonzero, Same}
-use Rattle.linear.specs.TupleLaws.{differ, least, minimal-from}
+use Rattle.linear.specs.TupleLaws.{differ, least, minimal_from}
 
 -- v is a, of p equations in q unknowns, with k further unknowns: each stands in its own equation, with −1, and in no other
 pub record Extends (p q k : ℕ) (a v : ℕ → ℕ → ℤ) : Type 0 where
@@ -33,78 +33,78 @@ with p q v x j = cond (ltb j q) (x j) (nat_abs (value (v (p + (j - q))) q x))
 -- ---- values
 
 -- the first q places apart
-value-parts : (c : ℕ → ℤ) (q k : ℕ) (x : ℕ → ℕ) → value c (q + k) x ≡ value c q x +ℤ value (λ j. c (q + j)) k (λ j. x (q + j))
+value_parts : (c : ℕ → ℤ) (q k : ℕ) (x : ℕ → ℕ) → value c (q + k) x ≡ value c q x +ℤ value (λ j. c (q + j)) k (λ j. x (q + j))
 unfolding value inner sum_to
-value-parts c q zero x = rw (add-zero q) (sym (+ℤ_idr _))
-value-parts c q (suc k) x =
-    rw (add-suc q k, value-parts c q k x)
+value_parts c q zero x = rw (add-zero q) (sym (+ℤ_idr _))
+value_parts c q (suc k) x =
+    rw (add-suc q k, value_parts c q k x)
     (+ℤ_assoc (value c q x) (value (λ j. c (q + j)) k (λ j. x (q + j))) (c (q + k) *ℤ pos (x (q + k))))
 
 module _ {p q k : ℕ} {a v : ℕ → ℕ → ℤ} (e : Extends p q k a v) where
   -- an equation of the map
-  value-map : (x : ℕ → ℕ) (i : ℕ) → i < p → value (v i) (q + k) x ≡ value (a i) q x
+  value_map : (x : ℕ → ℕ) (i : ℕ) → i < p → value (v i) (q + k) x ≡ value (a i) q x
   unfolding value inner
-  value-map x i l =
-      value-parts (v i) q k x
-      ∙ ap₂ ◌+ℤ◌ (inner-cong q (λ j h. e.map i j l h) (λ j h. refl))
-      (sum-cong k (λ n h. rw (e.free i n l h) (zero-*ℤ (pos (x (q + n))))) ∙ sum-zero k)
+  value_map x i l =
+      value_parts (v i) q k x
+      ∙ ap₂ ◌+ℤ◌ (inner_cong q (λ j h. e.map i j l h) (λ j h. refl))
+      (sum_cong k (λ n h. rw (e.free i n l h) (zero-*ℤ (pos (x (q + n))))) ∙ sum_zero k)
       ∙ +ℤ_idr _
 
-  pub row-map : (x : ℕ → ℕ) (i : ℕ) → i < p → value (v i) q x ≡ value (a i) q x
+  pub row_map : (x : ℕ → ℕ) (i : ℕ) → i < p → value (v i) q x ≡ value (a i) q x
   unfolding value
-  row-map x i l = inner-cong q (λ j h. e.map i j l h) (λ j h. refl)
+  row_map x i l = inner_cong q (λ j h. e.map i j l h) (λ j h. refl)
 
   -- the equation of a further unknown
-  own-term : (x : ℕ → ℕ) (l : ℕ) → l < k → value (λ j. v (p + l) (q + j)) k (λ j. x (q + j)) ≡ negsuc 0 *ℤ pos (x (q + l))
+  own_term : (x : ℕ → ℕ) (l : ℕ) → l < k → value (λ j. v (p + l) (q + j)) k (λ j. x (q + j)) ≡ negsuc 0 *ℤ pos (x (q + l))
   unfolding value inner
-  own-term x l h =
+  own_term x l h =
       sym (+ℤ_idr _)
-      ∙ sum-change k (λ j. v (p + l) (q + j) *ℤ pos (x (q + j))) (λ j. pos 0) l h (λ n nk ne. rw (e.others l n h nk ne) (zero-*ℤ (pos (x (q + n)))))
-      ∙ ap₂ ◌+ℤ◌ (sum-zero k) (ap (λ z. z *ℤ pos (x (q + l))) (e.own l h))
+      ∙ sum_change k (λ j. v (p + l) (q + j) *ℤ pos (x (q + j))) (λ j. pos 0) l h (λ n nk ne. rw (e.others l n h nk ne) (zero-*ℤ (pos (x (q + n)))))
+      ∙ ap₂ ◌+ℤ◌ (sum_zero k) (ap (λ z. z *ℤ pos (x (q + l))) (e.own l h))
       ∙ +ℤ_idl _
 
-  value-own : (x : ℕ → ℕ) (l : ℕ) → l < k → value (v (p + l)) (q + k) x ≡ value (v (p + l)) q x +ℤ (negsuc 0 *ℤ pos (x (q + l)))
-  value-own x l h = value-parts (v (p + l)) q k x ∙ ap (λ z. value (v (p + l)) q x +ℤ z) (own-term x l h)
+  value_own : (x : ℕ → ℕ) (l : ℕ) → l < k → value (v (p + l)) (q + k) x ≡ value (v (p + l)) q x +ℤ (negsuc 0 *ℤ pos (x (q + l)))
+  value_own x l h = value_parts (v (p + l)) q k x ∙ ap (λ z. value (v (p + l)) q x +ℤ z) (own_term x l h)
 
   less_zero : (z : ℤ) (n : ℕ) → z +ℤ (negsuc 0 *ℤ pos n) ≡ pos 0 → z ≡ pos n
-  less_zero z n h = omega (integers, h, sum_is z (negsuc 0 *ℤ pos n), up-mul (negsuc 0) (pos n), down-mul (negsuc 0) (pos n))
+  less_zero z n h = omega (integers, h, sum_is z (negsuc 0 *ℤ pos n), up_mul (negsuc 0) (pos n), down_mul (negsuc 0) (pos n))
 
-  zero-less : (z : ℤ) (n : ℕ) → z ≡ pos n → z +ℤ (negsuc 0 *ℤ pos n) ≡ pos 0
-  zero-less z n h = omega (integers, h, sum_is z (negsuc 0 *ℤ pos n), up-mul (negsuc 0) (pos n), down-mul (negsuc 0) (pos n))
+  zero_less : (z : ℤ) (n : ℕ) → z ≡ pos n → z +ℤ (negsuc 0 *ℤ pos n) ≡ pos 0
+  zero_less z n h = omega (integers, h, sum_is z (negsuc 0 *ℤ pos n), up_mul (negsuc 0) (pos n), down_mul (negsuc 0) (pos n))
 
   -- ---- solutions
 
   -- a solution of the extended map is one of the map, which says what the further unknowns are
-  pub solution-map : (x : ℕ → ℕ) → Solution (p + k) (q + k) v x → Solution p q a x
-  solution-map x s i l = sym (value-map x i l) ∙ s i (omega arith)
+  pub solution_map : (x : ℕ → ℕ) → Solution (p + k) (q + k) v x → Solution p q a x
+  solution_map x s i l = sym (value_map x i l) ∙ s i (omega arith)
 
-  pub solution-further : (x : ℕ → ℕ) → Solution (p + k) (q + k) v x → (l : ℕ) → l < k → value (v (p + l)) q x ≡ pos (x (q + l))
-  solution-further x s l h = less_zero _ _ (sym (value-own x l h) ∙ s (p + l) (omega arith))
+  pub solution_further : (x : ℕ → ℕ) → Solution (p + k) (q + k) v x → (l : ℕ) → l < k → value (v (p + l)) q x ≡ pos (x (q + l))
+  solution_further x s l h = less_zero _ _ (sym (value_own x l h) ∙ s (p + l) (omega arith))
 
-  solution-from : (x : ℕ → ℕ) → Solution p q a x → ((l : ℕ) → l < k → value (v (p + l)) q x ≡ pos (x (q + l))) → Solution (p + k) (q + k) v x
-  solution-from x s f i l =
+  solution_from : (x : ℕ → ℕ) → Solution p q a x → ((l : ℕ) → l < k → value (v (p + l)) q x ≡ pos (x (q + l))) → Solution (p + k) (q + k) v x
+  solution_from x s f i l =
       elim (split i p) [
-        | inl h ↦ value-map x i h ∙ s i h
+        | inl h ↦ value_map x i h ∙ s i h
         | inr h ↦
             let r : p + (i - p) ≡ i = omega arith in
-            rw r at (value-own x (i - p) (omega arith) ∙ zero-less _ _ (f (i - p) (omega arith)))
+            rw r at (value_own x (i - p) (omega arith) ∙ zero_less _ _ (f (i - p) (omega arith)))
       ]
 
   -- ---- where no further unknown is below 0
 
   module _ (never : NeverBelow p q k a v) where
-    pub with-map : (x : ℕ → ℕ) → Same q (with p q v x) x
-    with-map x j l = rw (lt-ltb j q l)
+    pub with_map : (x : ℕ → ℕ) → Same q (with p q v x) x
+    with_map x j l = rw (lt-ltb j q l)
 
-    with-further : (x : ℕ → ℕ) → Solution p q a x → (l : ℕ) → l < k → pos (with p q v x (q + l)) ≡ value (v (p + l)) q x
-    with-further x s l h =
+    with_further : (x : ℕ → ℕ) → Solution p q a x → (l : ℕ) → l < k → pos (with p q v x (q + l)) ≡ value (v (p + l)) q x
+    with_further x s l h =
         let r : q + l - q ≡ l = omega arith in
         rw (le-ltb (q + l) q (omega arith), r) (pos-nat_abs (value (v (p + l)) q x) (yes_non_neg (never x s l h)))
 
-    pub with-solution : (x : ℕ → ℕ) → Solution p q a x → Solution (p + k) (q + k) v (with p q v x)
-    with-solution x s =
-        solution-from (with p q v x) (solution-same p q a (λ j l. sym (with-map x j l)) s)
-        (λ l h. value_same (v (p + l)) q (with-map x) ∙ sym (with-further x s l h))
+    pub with_solution : (x : ℕ → ℕ) → Solution p q a x → Solution (p + k) (q + k) v (with p q v x)
+    with_solution x s =
+        solution_from (with p q v x) (solution_same p q a (λ j l. sym (with_map x j l)) s)
+        (λ l h. value_same (v (p + l)) q (with_map x) ∙ sym (with_further x s l h))
 
     -- of two solutions of the extended map the one is at or below the other where its first q places are
     pub below_all : (s t : ℕ → ℕ) → Solution (p + k) (q + k) v s → Solution (p + k) (q + k) v t → AtOrBelow q s t → AtOrBelow (q + k) s t
@@ -118,62 +118,62 @@ module _ {p q k : ℕ} {a v : ℕ → ℕ → ℤ} (e : Extends p q k a v) where
       where
         further : (n : ℕ) → n < k → s (q + n) ≤ t (q + n)
         further n nk =
-            let rest = never (λ i. t i - s i) (rest-solves p q a s t b (solution-map s hs) (solution-map t ht)) n nk in
-            let sum = value-sum (v (p + n)) q s (λ i. t i - s i) t (λ i h. omega (arith, b i h)) in
-            let x = solution-further s hs n nk in
-            let y = solution-further t ht n nk in
+            let rest = never (λ i. t i - s i) (rest_solves p q a s t b (solution_map s hs) (solution_map t ht)) n nk in
+            let sum = value_sum (v (p + n)) q s (λ i. t i - s i) t (λ i h. omega (arith, b i h)) in
+            let x = solution_further s hs n nk in
+            let y = solution_further t ht n nk in
             omega (integers, rest, sum, x, y, sum_is (value (v (p + n)) q s) (value (v (p + n)) q (λ i. t i - s i)))
 
     -- so two that agree there are the same
-    pub same-all : (s t : ℕ → ℕ) → Solution (p + k) (q + k) v s → Solution (p + k) (q + k) v t → Same q s t → Same (q + k) s t
-    same-all s t hs ht e j l =
+    pub same_all : (s t : ℕ → ℕ) → Solution (p + k) (q + k) v s → Solution (p + k) (q + k) v t → Same q s t → Same (q + k) s t
+    same_all s t hs ht e j l =
         let one = below_all s t hs ht (λ i h. omega (arith, e i h)) j l in
         let two = below_all t s ht hs (λ i h. omega (arith, e i h)) j l in
         omega (arith, one, two)
 
-    zero-solves : Solution (p + k) (q + k) v (λ j. 0)
+    zero_solves : Solution (p + k) (q + k) v (λ j. 0)
     unfolding value
-    zero-solves i l = inner-zero (q + k) (v i) (λ j. pos 0) (λ j h. refl)
+    zero_solves i l = inner_zero (q + k) (v i) (λ j. pos 0) (λ j h. refl)
 
-    nonzero-all : (s : ℕ → ℕ) → Solution (p + k) (q + k) v s → Nonzero (q + k) s → Nonzero q s
-    nonzero-all s hs (j, l, some) =
+    nonzero_all : (s : ℕ → ℕ) → Solution (p + k) (q + k) v s → Nonzero (q + k) s → Nonzero q s
+    nonzero_all s hs (j, l, some) =
         elim (differ q s (λ i. 0)) [
-          | inl none ↦ absurd (omega (arith, some, below_all s (λ i. 0) hs zero-solves (λ i h. omega (arith, none i h)) j l))
+          | inl none ↦ absurd (omega (arith, some, below_all s (λ i. 0) hs zero_solves (λ i h. omega (arith, none i h)) j l))
           | inr (i, h, ne) ↦ (i, h, omega (arith, ne))
         ]
 
     -- ---- minimal solutions
 
     -- those of the extended map are those of the map, read up to place q
-    pub loop-map : (t : ℕ → ℕ) → Loop (p + k) (q + k) v t → Loop p q a t
-    loop-map t m =
-        minimal-from
-        (record { solution = solution-map t solves; admitted = nonzero-all t solves m.holds.admitted })
+    pub loop_map : (t : ℕ → ℕ) → Loop (p + k) (q + k) v t → Loop p q a t
+    loop_map t m =
+        minimal_from
+        (record { solution = solution_map t solves; admitted = nonzero_all t solves m.holds.admitted })
         (λ s w b j l.
-        let up = with-solution s w.solution in
+        let up = with_solution s w.solution in
         let (i, h, some) = w.admitted in
-        let under : AtOrBelow q (with p q v s) t = λ n g. omega (arith, with-map s n g, b n g) in
-        let e = least m (with p q v s) (record { solution = up; admitted = (i, omega arith, omega (arith, with-map s i h, some)) })
+        let under : AtOrBelow q (with p q v s) t = λ n g. omega (arith, with_map s n g, b n g) in
+        let e = least m (with p q v s) (record { solution = up; admitted = (i, omega arith, omega (arith, with_map s i h, some)) })
         (below_all (with p q v s) t up solves under) in
-        sym (with-map s j l) ∙ e j (omega arith))
+        sym (with_map s j l) ∙ e j (omega arith))
       where
         solves : Solution (p + k) (q + k) v t
         solves = m.holds.solution
 
     -- and those of the map with the further unknowns beside them
-    pub map-loop : (t : ℕ → ℕ) → Loop p q a t → Loop (p + k) (q + k) v (with p q v t)
-    map-loop t m =
-        minimal-from
-        (record { solution = solves; admitted = let (i, h, some) = m.holds.admitted in (i, omega arith, omega (arith, with-map t i h, some)) })
+    pub map_loop : (t : ℕ → ℕ) → Loop p q a t → Loop (p + k) (q + k) v (with p q v t)
+    map_loop t m =
+        minimal_from
+        (record { solution = solves; admitted = let (i, h, some) = m.holds.admitted in (i, omega arith, omega (arith, with_map t i h, some)) })
         (λ s w b.
-        same-all s (with p q v t) w.solution solves (λ j l.
-        least m s (record { solution = solution-map s w.solution; admitted = nonzero-all s w.solution w.admitted })
-        (λ i h. omega (arith, b i (omega arith), with-map t i h)) j l
-        ∙ sym (with-map t j l)))
+        same_all s (with p q v t) w.solution solves (λ j l.
+        least m s (record { solution = solution_map s w.solution; admitted = nonzero_all s w.solution w.admitted })
+        (λ i h. omega (arith, b i (omega arith), with_map t i h)) j l
+        ∙ sym (with_map t j l)))
       where
         solves : Solution (p + k) (q + k) v (with p q v t)
-        solves = with-solution t m.holds.solution
+        solves = with_solution t m.holds.solution
 
     -- a solution of the extended map has the further unknowns beside it
-    pub with-same : (t : ℕ → ℕ) → Solution (p + k) (q + k) v t → Same (q + k) (with p q v t) t
-    with-same t s = same-all (with p q v t) t (with-solution t (solution-map t s)) s (with-map t)
+    pub with_same : (t : ℕ → ℕ) → Solution (p + k) (q + k) v t → Same (q + k) (with p q v t) t
+    with_same t s = same_all (with p q v t) t (with_solution t (solution_map t s)) s (with_map t)

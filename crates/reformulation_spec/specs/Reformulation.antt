@@ -4,11 +4,11 @@
 -- its own, and multiples by which no further unknown is below 0. Rows and columns count from 0 here. Assumes nothing.
 use Rattle.std.specs.Prelude.{ℕ, zero, suc, ◌+◌, ◌*◌, ◌/◌, Bool, true, false, cond, not, ◌&&◌, List, eqb, leb, ltb, ℤ, pos, negsuc, nat_abs, ◌+ℤ◌, ◌*ℤ◌, get_or, length}
 use Rattle.std.specs.Int.Signed.{lt_z}
-use Rattle.linear.specs.Tests.{allTo, anyTo}
-use Rattle.definitions.specs.Answers.{Check, ◌then◌, go, refuse, refuseIf}
+use Rattle.linear.specs.Tests.{all_to, any_to}
+use Rattle.definitions.specs.Answers.{Check, ◌then◌, go, refuse, refuse_if}
 use Rattle.definitions.specs.Input.{input_of}
-use Rattle.definitions.specs.Refusals.{between, check7, outOfRange}
-use Rattle.definitions.specs.Tables.{at, writeTo}
+use Rattle.definitions.specs.Refusals.{between, check7, out_of_range}
+use Rattle.definitions.specs.Tables.{at, write_to}
 
 -- ---- what is handed over
 
@@ -38,27 +38,27 @@ row_of w table i j = get_or table (i * w + j) (pos 0)
 
 -- ---- the extended map
 
-abbrev pub isSame : ℤ → ℤ → Bool
-isSame x y = not (lt_z x y) && not (lt_z y x)
+abbrev pub is_same : ℤ → ℤ → Bool
+is_same x y = not (lt_z x y) && not (lt_z y x)
 
 -- column j of row i, from q on: a further unknown stands in its own row, with −1
 abbrev pub beside : (p q i j : ℕ) → ℤ
 beside p q i j = cond (eqb (j + p) (i + q)) (negsuc 0) (pos 0)
 
 -- x may stand in column j of row i: the map's number; a further unknown's row has any numbers up to column q
-abbrev pub isEntry : (p q : ℕ) (a : ℕ → ℕ → ℤ) (i j : ℕ) (x : ℤ) → Bool
-isEntry p q a i j x = cond (ltb j q) (cond (ltb i p) (isSame x (a i j)) true) (isSame x (beside p q i j))
+abbrev pub is_entry : (p q : ℕ) (a : ℕ → ℕ → ℤ) (i j : ℕ) (x : ℤ) → Bool
+is_entry p q a i j x = cond (ltb j q) (cond (ltb i p) (is_same x (a i j)) true) (is_same x (beside p q i j))
 
 -- v is a, of p equations in q unknowns, with k further unknowns and their equations
 unfoldable pub extends : (p q k : ℕ) (a v : ℕ → ℕ → ℤ) → Bool
-extends p q k a v = allTo (p + k) (λ i. allTo (q + k) (λ j. isEntry p q a i j (v i j)))
+extends p q k a v = all_to (p + k) (λ i. all_to (q + k) (λ j. is_entry p q a i j (v i j)))
 
 -- ---- rows that follow from others
 
 -- column j of a row taken `by 0` times, row 0 of a taken `by 1` times, .., row n - 1 of it `by n` times, added up
-unfoldable pub leftOver : (n : ℕ) (by row : ℕ → ℤ) (a : ℕ → ℕ → ℤ) (j : ℕ) → ℤ
-leftOver zero by row a j = by 0 *ℤ row j
-leftOver (suc n) by row a j = leftOver n by row a j +ℤ by (suc n) *ℤ a n j
+unfoldable pub left_over : (n : ℕ) (by row : ℕ → ℤ) (a : ℕ → ℕ → ℤ) (j : ℕ) → ℤ
+left_over zero by row a j = by 0 *ℤ row j
+left_over (suc n) by row a j = left_over n by row a j +ℤ by (suc n) *ℤ a n j
 
 -- it is not below 0; and where it is to be 0 exactly, not above
 abbrev pub meets : (exact : Bool) → ℤ → Bool
@@ -67,23 +67,23 @@ meets exact z = not (lt_z z (pos 0)) && not (exact && lt_z (pos 0) z)
 -- the row is taken once or more, and so the sums come out in each of the first columns. Exactly: the row is 0 wherever the first n rows of a are. Else: it is
 -- not below 0 there
 unfoldable pub follows : (exact : Bool) (columns n : ℕ) (by row : ℕ → ℤ) (a : ℕ → ℕ → ℤ) → Bool
-follows exact columns n by row a = lt_z (pos 0) (by 0) && allTo columns (λ j. meets exact (leftOver n by row a j))
+follows exact columns n by row a = lt_z (pos 0) (by 0) && all_to columns (λ j. meets exact (left_over n by row a j))
 
 -- each of `count` rows of b, from row `first` on, by a row of multiples of its own
-unfoldable pub allFollow : (exact : Bool) (columns n count first : ℕ) (by b a : ℕ → ℕ → ℤ) → Bool
-allFollow exact columns n count first by b a = allTo count (λ i. follows exact columns n (by i) (b (first + i)) a)
+unfoldable pub all_follow : (exact : Bool) (columns n count first : ℕ) (by b a : ℕ → ℕ → ℤ) → Bool
+all_follow exact columns n count first by b a = all_to count (λ i. follows exact columns n (by i) (b (first + i)) a)
 
 -- ---- what is shown
 
 -- the most that a multiple may be, above zero or below: the sums then fit 64 bits
-abbrev pub mostMultiple : ℕ
-mostMultiple = 1000000000000
+abbrev pub most_multiple : ℕ
+most_multiple = 1000000000000
 
-abbrev pub areMultiples : List ℤ → Bool
-areMultiples by = allTo (length by) (λ i. leb (nat_abs (get_or by i (pos 0))) mostMultiple)
+abbrev pub are_multiples : List ℤ → Bool
+are_multiples by = all_to (length by) (λ i. leb (nat_abs (get_or by i (pos 0))) most_multiple)
 
 abbrev pub in_range : List ℤ → Bool
-in_range table = not (anyTo (length table) (λ i. outOfRange (get_or table i (pos 0))))
+in_range table = not (any_to (length table) (λ i. out_of_range (get_or table i (pos 0))))
 
 module _ (r : Reformulation) where
   abbrev pub unknowns : ℕ
@@ -93,36 +93,36 @@ module _ (r : Reformulation) where
   equations = r.p + r.k
 
   -- the three maps as numbers of rows and columns
-  abbrev pub mapRow : ℕ → ℕ → ℤ
-  mapRow = row_of r.q r.coefs
+  abbrev pub map_row : ℕ → ℕ → ℤ
+  map_row = row_of r.q r.coefs
 
-  abbrev pub extendedRow : ℕ → ℕ → ℤ
-  extendedRow = row_of unknowns r.extended
+  abbrev pub extended_row : ℕ → ℕ → ℤ
+  extended_row = row_of unknowns r.extended
 
-  abbrev pub otherRow : ℕ → ℕ → ℤ
-  otherRow = row_of unknowns r.other
+  abbrev pub other_row : ℕ → ℕ → ℤ
+  other_row = row_of unknowns r.other
 
   -- all numbers are within the limits
-  abbrev pub areSmall : Bool
-  areSmall = in_range r.extended && (in_range r.other && (areMultiples r.onto && (areMultiples r.back && areMultiples r.above)))
+  abbrev pub are_small : Bool
+  are_small = in_range r.extended && (in_range r.other && (are_multiples r.onto && (are_multiples r.back && are_multiples r.above)))
 
   -- the rows of the other map follow from those of the extended one, these from them, and no further unknown is below 0
-  abbrev pub shownOnto : Bool
-  shownOnto = allFollow true unknowns equations r.m 0 (row_of (1 + equations) r.onto) otherRow extendedRow
+  abbrev pub shown_onto : Bool
+  shown_onto = all_follow true unknowns equations r.m 0 (row_of (1 + equations) r.onto) other_row extended_row
 
-  abbrev pub shownBack : Bool
-  shownBack = allFollow true unknowns r.m equations 0 (row_of (1 + r.m) r.back) extendedRow otherRow
+  abbrev pub shown_back : Bool
+  shown_back = all_follow true unknowns r.m equations 0 (row_of (1 + r.m) r.back) extended_row other_row
 
-  abbrev pub shownAbove : Bool
-  shownAbove = allFollow false r.q r.p r.k r.p (row_of (1 + r.p) r.above) extendedRow extendedRow
+  abbrev pub shown_above : Bool
+  shown_above = all_follow false r.q r.p r.k r.p (row_of (1 + r.p) r.above) extended_row extended_row
 
   unfoldable pub shows : Bool
-  shows = areSmall && (extends r.p r.q r.k mapRow extendedRow && (shownOnto && (shownBack && shownAbove)))
+  shows = are_small && (extends r.p r.q r.k map_row extended_row && (shown_onto && (shown_back && shown_above)))
 
   -- ---- the call
 
-  abbrev pub areLengths : Bool
-  areLengths =
+  abbrev pub are_lengths : Bool
+  are_lengths =
       eqb (length r.coefs) (r.p * r.q)
       && (eqb (length r.extended) (equations * unknowns)
       && (eqb (length r.other) (r.m * unknowns)
@@ -131,35 +131,35 @@ module _ (r : Reformulation) where
 
   -- 1, p or m is outside 1 to 32; 2, q is 0, or there are more than 32 unknowns in all; 3, a table has not as many numbers as it should; 7, a coefficient of
   -- the map is out of range, with its place
-  unfoldable pub givenChecks : Check
-  givenChecks =
-      refuseIf (not (between 1 32 r.p && between 1 32 r.m)) 1
-      then refuseIf (not (leb 1 r.q && leb unknowns 32)) 2
-      then refuseIf (not areLengths) 3
+  unfoldable pub given_checks : Check
+  given_checks =
+      refuse_if (not (between 1 32 r.p && between 1 32 r.m)) 1
+      then refuse_if (not (leb 1 r.q && leb unknowns 32)) 2
+      then refuse_if (not are_lengths) 3
       then check7 (input_of r.p r.q r.coefs)
 
   -- 36, the numbers do not show that both maps have the same minimal solutions; else it is shown
   unfoldable pub reformulates : Check
-  reformulates = givenChecks then refuseIf (not shows) 36
+  reformulates = given_checks then refuse_if (not shows) 36
 
 -- ---- rows of the other map's list, without the further unknowns
 
 -- the first q numbers of the first n rows, one row behind the other from the beginning of the table
-unfoldable pub projectTo : (n q : ℕ) (row : ℕ → ℕ → ℕ) → List ℕ → List ℕ
-projectTo zero q row out = out
-projectTo (suc n) q row out = writeTo q (projectTo n q row out) (n * q) (row n)
+unfoldable pub project_to : (n q : ℕ) (row : ℕ → ℕ → ℕ) → List ℕ → List ℕ
+project_to zero q row out = out
+project_to (suc n) q row out = write_to q (project_to n q row out) (n * q) (row n)
 
 -- 2, q is 0, or there are more than 32 unknowns in all; 6, the table has fewer rows; 29, there is no room for so many rows
-unfoldable pub projectChecks : (q k found : ℕ) (rows out : List ℕ) → Check
-projectChecks q k found rows out =
-    refuseIf (not (leb 1 q && leb (q + k) 32)) 2
-    then refuseIf (not (leb found (length rows / (q + k)))) 6
-    then refuseIf (not (leb found (length out / q))) 29
+unfoldable pub project_checks : (q k found : ℕ) (rows out : List ℕ) → Check
+project_checks q k found rows out =
+    refuse_if (not (leb 1 q && leb (q + k) 32)) 2
+    then refuse_if (not (leb found (length rows / (q + k)))) 6
+    then refuse_if (not (leb found (length out / q))) 29
 
-abbrev pub projectedBy : Check → (q k found : ℕ) (rows out : List ℕ) → List ℕ
-projectedBy (refuse n values) q k found rows out = out
-projectedBy go q k found rows out = projectTo found q (at rows (q + k)) out
+abbrev pub projected_by : Check → (q k found : ℕ) (rows out : List ℕ) → List ℕ
+projected_by (refuse n values) q k found rows out = out
+projected_by go q k found rows out = project_to found q (at rows (q + k)) out
 
 -- what the table lent for the rows holds after the call
 unfoldable pub projected : (q k found : ℕ) (rows out : List ℕ) → List ℕ
-projected q k found rows out = projectedBy (projectChecks q k found rows out) q k found rows out
+projected q k found rows out = projected_by (project_checks q k found rows out) q k found rows out

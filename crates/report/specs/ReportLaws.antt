@@ -4,13 +4,13 @@ use Rattle.std.proofs.Common.{sym, ap, subst, mul-le-mul, arith, length-append, 
 use Rattle.definitions.specs.Input.{input_of}
 use Rattle.map_spec.specs.Reading as reading
 use Rattle.texts.specs.Put.{Put}
-use Rattle.map_spec.specs.Reading.{Reading, readMap}
+use Rattle.map_spec.specs.Reading.{Reading, read_map}
 use Rattle.map_text.specs.Answer.{Outcome, answered, outcome, number_of, values_of}
-use Rattle.map_text.specs.MapLaws.{accepted-written}
+use Rattle.map_text.specs.MapLaws.{accepted_written}
 use Rattle.map_text.specs.declared.Read.{Read}
 use Rattle.map_text.specs.declared.Read.TheVariants.{Map, Refused}
 use Rattle.map_text.specs.declared.TextRefusal.{TextRefusal}
-use Rattle.report_spec.specs.Printed.{refusalText, runText, run, readingText, printed}
+use Rattle.report_spec.specs.Printed.{refusal_text, run_text, run, reading_text, printed}
 
 -- a text at the beginning of a buffer
 pub put_first : {before text after : List ℕ} {next : ℕ} → Put before 0 text after next
@@ -20,16 +20,16 @@ put_first p = (p.written, (p.kept, omega (arith, p.place, rw length-take at (ap 
 -- ---- a text that is refused
 
 refused_as : (x : Reading) (before table : List ℤ) (why : TextRefusal) → outcome (Refused why) table ≡ answered x before
-    → refusalText (number_of why) (values_of why) ≡ readingText x
-unfolding answered readingText
+    → refusal_text (number_of why) (values_of why) ≡ reading_text x
+unfolding answered reading_text
 refused_as (reading.accepted p q coefs) before table why e = let a = ap (λ (o : Outcome). o.answer) e in absurd (let z : ◌≡◌ {A = ℕ} 0 1 = cc in omega arith)
 refused_as (reading.refused n values) before table why e = let a = ap (λ (o : Outcome). o.answer) e in cc
 
-pub refused-text : (t : List ℕ) (before : List ℤ) {table : List ℤ} {r : Read} {why : TextRefusal}
-    → outcome r table ≡ answered (readMap t) before → r ≡ Refused why
-    → refusalText (number_of why) (values_of why) ≡ printed t
+pub refused_text : (t : List ℕ) (before : List ℤ) {table : List ℤ} {r : Read} {why : TextRefusal}
+    → outcome r table ≡ answered (read_map t) before → r ≡ Refused why
+    → refusal_text (number_of why) (values_of why) ≡ printed t
 unfolding printed
-refused-text t before {table} {r} {why} e h = refused_as (readMap t) before table why (rw h at e)
+refused_text t before {table} {r} {why} e h = refused_as (read_map t) before table why (rw h at e)
 
 -- ---- a map
 
@@ -37,27 +37,27 @@ refused-text t before {table} {r} {why} e h = refused_as (readMap t) before tabl
 pub record MapRead (t : List ℕ) (table : List ℤ) (p q : ℕ) : Type 0 where
   pub few : p * q ≤ 128
   pub fits : p * q ≤ length table
-  pub text : runText p q (run (input_of p q (take (p * q) table))) ≡ printed t
+  pub text : run_text p q (run (input_of p q (take (p * q) table))) ≡ printed t
 
-accepted-as : (x : Reading) (before table : List ℤ) (p q : ℕ) → outcome (Map p q) table ≡ answered x before
+accepted_as : (x : Reading) (before table : List ℤ) (p q : ℕ) → outcome (Map p q) table ≡ answered x before
     → (zs : List ℤ) × (x ≡ reading.accepted p q zs) × (table ≡ zs ++ drop (length zs) before)
 unfolding answered
-accepted-as (reading.accepted p' q' coefs) before table p q e = let a = ap (λ (o : Outcome). o.answer) e in (coefs, cc, ap (λ (o : Outcome). o.table) e)
-accepted-as (reading.refused n values) before table p q e = let a = ap (λ (o : Outcome). o.answer) e in absurd (let z : ◌≡◌ {A = ℕ} 0 1 = cc in omega arith)
+accepted_as (reading.accepted p' q' coefs) before table p q e = let a = ap (λ (o : Outcome). o.answer) e in (coefs, cc, ap (λ (o : Outcome). o.table) e)
+accepted_as (reading.refused n values) before table p q e = let a = ap (λ (o : Outcome). o.answer) e in absurd (let z : ◌≡◌ {A = ℕ} 0 1 = cc in omega arith)
 
-accepted-text : (t : List ℕ) (zs before : List ℤ) (p q : ℕ) → readMap t ≡ reading.accepted p q zs → MapRead t (zs ++ drop (length zs) before) p q
-unfolding printed readingText
-accepted-text t zs before p q x =
-    let m = (accepted-written t x).1 in
+accepted_text : (t : List ℕ) (zs before : List ℤ) (p q : ℕ) → read_map t ≡ reading.accepted p q zs → MapRead t (zs ++ drop (length zs) before) p q
+unfolding printed reading_text
+accepted_text t zs before p q x =
+    let m = (accepted_written t x).1 in
     let n : length zs ≡ p * q = m.count in
     record {
-      few = omega (arith, mul-le-mul m.p-few m.q-few);
+      few = omega (arith, mul-le-mul m.p_few m.q_few);
       fits = rw length-append (omega arith);
       text = rw (x, take_at zs (drop (length zs) before) (p * q) n);
     }
 
-pub map_read : (t : List ℕ) (before : List ℤ) {table : List ℤ} {r : Read} {p q : ℕ} → outcome r table ≡ answered (readMap t) before
+pub map_read : (t : List ℕ) (before : List ℤ) {table : List ℤ} {r : Read} {p q : ℕ} → outcome r table ≡ answered (read_map t) before
     → r ≡ Map p q → MapRead t table p q
 map_read t before {table} {r} {p} {q} e h =
-    let (zs, x, y) = accepted-as (readMap t) before table p q (rw h at e) in
-    subst (λ (l : List ℤ). MapRead t l p q) (sym y) (accepted-text t zs before p q x)
+    let (zs, x, y) = accepted_as (read_map t) before table p q (rw h at e) in
+    subst (λ (l : List ℤ). MapRead t l p q) (sym y) (accepted_text t zs before p q x)

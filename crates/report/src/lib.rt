@@ -2,7 +2,7 @@
 ghost use Rattle.std.specs.Prelude.{◌≡◌, [], ◌+◌, ◌*◌, ◌≤◌, length, take, drop};
 ghost use Rattle.map_text.specs.Answer as reading;
 ghost use Rattle.definitions.specs.Input.{input_of};
-ghost use Rattle.calls.specs.Paper.{answer_of, number_of, outcomeOf};
+ghost use Rattle.calls.specs.Paper.{answer_of, number_of, outcome_of};
 ghost use Rattle.report_spec.specs.Printed as paper;
 ghost use Rattle.texts.specs.Put.{Put};
 
@@ -33,7 +33,7 @@ pub fn report(text: &[u8], out: &mut [u8; 91000]) -> usize
 // The report on a text that is refused.
 fn refused(out: &mut [u8], why: TextRefusal) -> usize
     requires { 91000 ≤ length out.old }
-    ensures { Put out.old 0 (paper.refusalText (reading.number_of why) (reading.values_of why)) out.new result }
+    ensures { Put out.old 0 (paper.refusal_text (reading.number_of why) (reading.values_of why)) out.new result }
 {
     match why {
         TextRefusal::Equations => lines::counted(out, 0, b"refused ", 1),
@@ -47,7 +47,7 @@ fn refused(out: &mut [u8], why: TextRefusal) -> usize
 // The report on a map whose coefficients are given: a plain start, and one continuing call.
 fn solved(out: &mut [u8], p: usize, q: usize, coefs: &[i32]) -> usize
     requires { 91000 ≤ length out.old }
-    ensures { Put out.old 0 (paper.runText p q (paper.run (input_of p q coefs.now))) out.new result }
+    ensures { Put out.old 0 (paper.run_text p q (paper.run (input_of p q coefs.now))) out.new result }
 {
     let mut stack = [0u32; 272];
     let mut list = [0u32; 8192];
@@ -70,7 +70,7 @@ fn solved(out: &mut [u8], p: usize, q: usize, coefs: &[i32]) -> usize
 // The report on a run; it says nothing of the stack.
 fn ran(out: &mut [u8], p: usize, q: usize, ended: Outcome, list: &[u32]) -> usize
     requires { (91000 ≤ length out.old) × (ended.run.found.0 * q ≤ length list.now) × (length list.now ≤ 8192) }
-    ensures { Put out.old 0 (paper.runText p q (outcomeOf ended [] list.now)) out.new result }
+    ensures { Put out.old 0 (paper.run_text p q (outcome_of ended [] list.now)) out.new result }
 {
     let answer = ended.answer;
     let run = ended.run;

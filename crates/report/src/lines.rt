@@ -4,7 +4,7 @@ ghost use Rattle.texts.specs.Decimals.{bytes, decimal};
 ghost use Rattle.texts.specs.Put.{Put};
 ghost use Rattle.map_spec.specs.Form.{line, lines};
 ghost use Rattle.report_spec.specs.Printed as paper;
-ghost use Rattle.report.specs.Rows.{fieldText};
+ghost use Rattle.report.specs.Rows.{field_text};
 
 use texts::{put, separator_after};
 
@@ -48,7 +48,7 @@ fn row(out: &mut [u8], at: usize, numbers: &[u32]) -> usize
 // A number that `left` numbers of its line follow, and what separates it from them. It has at most 10 digits.
 fn field(out: &mut [u8], at: usize, n: u32, left: usize) -> usize
     requires { at + 11 ≤ length out.old }
-    ensures put { Put out.old at (fieldText left n) out.new result }
+    ensures put { Put out.old at (field_text left n) out.new result }
     ensures upper_bound { result ≤ at + 11 }
 {
     let end = put::number(out, at, n as u64);

@@ -1,35 +1,35 @@
 -- THE PROMISE OF THE PROGRAM: where "end complete" is printed, the rows printed are exactly the basis of the map read; where "end paused" or "end refused 11"
 -- is, they are of it. It is about the definition of what is printed (`printed`), with which the contract of `report` equates what the code writes. Which texts
--- are read as a map and which refusal another gets: map_text/specs/RuleLaws.antt (`text-renders`). Assumes nothing.
+-- are read as a map and which refusal another gets: map_text/specs/RuleLaws.antt (`text_renders`). Assumes nothing.
 use Rattle.std.specs.Prelude.{ℕ, ◌≤◌, List, [], ◌∷◌, ◌++◌, map, ◌≡◌, ℤ, pos}
 use Rattle.std.proofs.Math.Path.{refl}
 use Rattle.std.proofs.Common.{arith}
 use Rattle.definitions.specs.Answers.{Answer, started, complete, paused, refused}
 use Rattle.definitions.specs.Calls.{start}
-use Rattle.definitions.specs.Input.{Input, input_of, mapOf}
+use Rattle.definitions.specs.Input.{Input, input_of, map_of}
 use Rattle.definitions.specs.System.{MinimalSolution}
 use Rattle.theorems.specs.Demands.{Lists}
-use Rattle.theorems.specs.Proved.{second-demand}
+use Rattle.theorems.specs.Proved.{second_demand}
 use Rattle.theorems.specs.Listed.{Exactly, Only}
-use Rattle.theorems.specs.Run.{continued, started-units}
+use Rattle.theorems.specs.Run.{continued, started_units}
 use Rattle.texts.specs.Decimals.{bytes, decimal}
 use Rattle.map_spec.specs.Form.{lines, written, MapInRange}
 use Rattle.map_spec.specs.Reading as reading
-use Rattle.map_spec.specs.Reading.{Reading, readMap}
-use Rattle.map_text.specs.MapLaws.{accepted-written}
-use Rattle.report_spec.specs.Printed.{refusalText, valueWord, counted, counts, ending, runText, blank, run, readingText, printed}
-use Rattle.report_spec.specs.RunLaws.{run-starts, run_ends}
-use Rattle.report_spec.specs.Endings.{EndsWith, ends-after, ends-once, EndsInDigit, digit-after, counted-ends, ds, ds-append, counted-ds, refusal-ds}
+use Rattle.map_spec.specs.Reading.{Reading, read_map}
+use Rattle.map_text.specs.MapLaws.{accepted_written}
+use Rattle.report_spec.specs.Printed.{refusal_text, value_word, counted, counts, ending, run_text, blank, run, reading_text, printed}
+use Rattle.report_spec.specs.RunLaws.{run_starts, run_ends}
+use Rattle.report_spec.specs.Endings.{EndsWith, ends_after, ends_once, EndsInDigit, digit_after, counted_ends, ds, ds_append, counted_ds, refusal_ds}
 
-abbrev pub endComplete : List ℕ
-endComplete = bytes "end complete\n"
+abbrev pub end_complete : List ℕ
+end_complete = bytes "end complete\n"
 
-abbrev pub endPaused : List ℕ
-endPaused = bytes "end paused\n"
+abbrev pub end_paused : List ℕ
+end_paused = bytes "end paused\n"
 
 -- "end refused 11" and the like
-abbrev pub endRefused : ℕ → List ℕ
-endRefused n = counted (bytes "end refused ") n
+abbrev pub end_refused : ℕ → List ℕ
+end_refused n = counted (bytes "end refused ") n
 
 -- The text was accepted as the written form of a map. What is printed are the counts of the program's run on it, the rows listed in the order found, and the
 -- ending; and each row listed is one of the map's minimal solutions, none twice.
@@ -37,37 +37,37 @@ pub record PrintedRun (t : List ℕ) : Type 0 where
   pub p : ℕ
   pub q : ℕ
   pub coefs : List ℤ
-  pub accepted : readMap t ≡ reading.accepted p q coefs
+  pub accepted : read_map t ≡ reading.accepted p q coefs
   pub text : t ≡ written p q coefs
   pub range : MapInRange p q coefs
   pub shown : let o = run (input_of p q coefs) in
       printed t ≡ counts p q o.state.run.steps o.state.run.found ++ (lines o.state.run.found q (map pos o.state.list) ++ ending o.answer)
   -- "Cut short, it holds only such tuples."
-  pub only : let s = (run (input_of p q coefs)).state in Only q (MinimalSolution (mapOf (input_of p q coefs))) s.list s.run.found
+  pub only : let s = (run (input_of p q coefs)).state in Only q (MinimalSolution (map_of (input_of p q coefs))) s.list s.run.found
 
 -- and the run was complete: the rows listed are the map's minimal solutions, each once and no other
 pub record PrintedBasis (t : List ℕ) : Type 0 where
   pub ran : PrintedRun t
   pub answer : (run (input_of ran.p ran.q ran.coefs)).answer ≡ complete
   pub basis : let i = input_of ran.p ran.q ran.coefs in let s = (run i).state in
-      Exactly ran.q (MinimalSolution (mapOf i)) s.list s.run.found
+      Exactly ran.q (MinimalSolution (map_of i)) s.list s.run.found
 
 -- ---- another ending
 
-complete-ends : (before : List ℕ) → EndsWith 101 (before ++ endComplete)
-complete-ends before = ends-after before (record { others = bytes "end complet"; text = refl })
+complete_ends : (before : List ℕ) → EndsWith 101 (before ++ end_complete)
+complete_ends before = ends_after before (record { others = bytes "end complet"; text = refl })
 
 no_digit : {P : Type 0} {t : List ℕ} → EndsInDigit t → EndsWith 101 t → P
-no_digit d e = absurd (omega (arith, d.most, ends-once d.ends e))
+no_digit d e = absurd (omega (arith, d.most, ends_once d.ends e))
 
-refusal-ends : (n : ℕ) (values : List ℕ) → EndsInDigit (refusalText n values)
-unfolding refusalText
-refusal-ends n [] = counted-ends (bytes "refused ") n
-refusal-ends n (value ∷ others) = digit-after (bytes "refused ") (digit-after (decimal n) (counted-ends (valueWord n) value))
+refusal_ends : (n : ℕ) (values : List ℕ) → EndsInDigit (refusal_text n values)
+unfolding refusal_text
+refusal_ends n [] = counted_ends (bytes "refused ") n
+refusal_ends n (value ∷ others) = digit_after (bytes "refused ") (digit_after (decimal n) (counted_ends (value_word n) value))
 
 -- ---- a map
 
-module _ (t : List ℕ) (p q : ℕ) (coefs : List ℤ) (e : readMap t ≡ reading.accepted p q coefs) where
+module _ (t : List ℕ) (p q : ℕ) (coefs : List ℤ) (e : read_map t ≡ reading.accepted p q coefs) where
   abbrev input : Input
   input = input_of p q coefs
 
@@ -78,17 +78,17 @@ module _ (t : List ℕ) (p q : ℕ) (coefs : List ℤ) (e : readMap t ≡ readin
   abbrev listed : List ℕ
   listed = lines (run input).state.run.found q (map pos (run input).state.list)
 
-  shown-as : {a : Answer} → (run input).answer ≡ a → printed t ≡ front ++ (listed ++ ending a)
-  unfolding printed readingText runText
-  shown-as f = rw (e, f)
+  shown_as : {a : Answer} → (run input).answer ≡ a → printed t ≡ front ++ (listed ++ ending a)
+  unfolding printed reading_text run_text
+  shown_as f = rw (e, f)
 
   lists : Lists input (start input blank).state
-  lists = second-demand.lists input (start input blank).state (started-units blank (run-starts (accepted-written t e).1))
+  lists = second_demand.lists input (start input blank).state (started_units blank (run_starts (accepted_written t e).1))
 
-  printed-run : PrintedRun t
+  printed_run : PrintedRun t
   unfolding run
-  printed-run =
-      let (x, y) = accepted-written t e in
+  printed_run =
+      let (x, y) = accepted_written t e in
       record {
         p = p;
         q = q;
@@ -96,59 +96,59 @@ module _ (t : List ℕ) (p q : ℕ) (coefs : List ℤ) (e : readMap t ≡ readin
         accepted = e;
         text = x;
         range = y;
-        shown = shown-as refl;
-        only = (second-demand.lists input _ (continued (started-units blank (run-starts y)) 1000000)).cut_short;
+        shown = shown_as refl;
+        only = (second_demand.lists input _ (continued (started_units blank (run_starts y)) 1000000)).cut_short;
       }
 
   by_answer : EndsWith 101 (printed t) → (a : Answer) → (run input).answer ≡ a → PrintedBasis t
-  unfolding run ending printed-run
-  by_answer ends started f = absurd (run_ends (accepted-written t e).1 f)
-  by_answer ends complete f = record { ran = printed-run; answer = f; basis = lists.finished 1000000 f }
+  unfolding run ending printed_run
+  by_answer ends started f = absurd (run_ends (accepted_written t e).1 f)
+  by_answer ends complete f = record { ran = printed_run; answer = f; basis = lists.finished 1000000 f }
   by_answer ends paused f =
-      let d = ends-after front (ends-after listed (record { others = bytes "end pause"; text = refl })) in
-      absurd (omega (arith, ends-once {a = 100} {b = 101} d (rw (shown-as f) at ends)))
+      let d = ends_after front (ends_after listed (record { others = bytes "end pause"; text = refl })) in
+      absurd (omega (arith, ends_once {a = 100} {b = 101} d (rw (shown_as f) at ends)))
   by_answer ends (refused n values) f =
-      no_digit (digit-after front (digit-after listed (counted-ends (bytes "end refused ") n))) (rw (shown-as f) at ends)
+      no_digit (digit_after front (digit_after listed (counted_ends (bytes "end refused ") n))) (rw (shown_as f) at ends)
 
 -- ---- the promise
 
 -- Of every text that is read as a map, what is printed is the run's; of every other text it is the refusal, "one line only".
-pub printed-accepted : (t : List ℕ) {p q : ℕ} {coefs : List ℤ} → readMap t ≡ reading.accepted p q coefs → PrintedRun t
-printed-accepted t {p} {q} {coefs} e = printed-run t p q coefs e
+pub printed_accepted : (t : List ℕ) {p q : ℕ} {coefs : List ℤ} → read_map t ≡ reading.accepted p q coefs → PrintedRun t
+printed_accepted t {p} {q} {coefs} e = printed_run t p q coefs e
 
-pub printed-refusal : (t : List ℕ) {n : ℕ} {values : List ℕ} → readMap t ≡ reading.refused n values → printed t ≡ refusalText n values
-unfolding printed readingText
-printed-refusal t e = rw e
+pub printed_refusal : (t : List ℕ) {n : ℕ} {values : List ℕ} → read_map t ≡ reading.refused n values → printed t ≡ refusal_text n values
+unfolding printed reading_text
+printed_refusal t e = rw e
 
 -- A printed "end complete" means that the rows printed are exactly the basis of the map read.
-pub printed-complete : (t before : List ℕ) → printed t ≡ before ++ endComplete → PrintedBasis t
-unfolding printed readingText
-printed-complete t before e = by (readMap t) refl
+pub printed_complete : (t before : List ℕ) → printed t ≡ before ++ end_complete → PrintedBasis t
+unfolding printed reading_text
+printed_complete t before e = by (read_map t) refl
   where
     ends : EndsWith 101 (printed t)
-    ends = rw e (complete-ends before)
+    ends = rw e (complete_ends before)
 
-    by : (x : Reading) → readMap t ≡ x → PrintedBasis t
+    by : (x : Reading) → read_map t ≡ x → PrintedBasis t
     by (reading.accepted p q coefs) f = by_answer t p q coefs f ends (run (input_of p q coefs)).answer refl
-    by (reading.refused n values) f = no_digit (refusal-ends n values) (rw f at ends)
+    by (reading.refused n values) f = no_digit (refusal_ends n values) (rw f at ends)
 
 -- What is printed before "end paused" and before "end refused 11" (12 or 14) holds only minimal solutions of the map read.
 cut_short : (t : List ℕ) → 2 ≤ ds (printed t) → PrintedRun t
-unfolding printed readingText
-cut_short t two = by (readMap t) refl
+unfolding printed reading_text
+cut_short t two = by (read_map t) refl
   where
-    by : (x : Reading) → readMap t ≡ x → PrintedRun t
-    by (reading.accepted p q coefs) f = printed-run t p q coefs f
-    by (reading.refused n values) f = absurd (omega (arith, refusal-ds n values, rw f at two))
+    by : (x : Reading) → read_map t ≡ x → PrintedRun t
+    by (reading.accepted p q coefs) f = printed_run t p q coefs f
+    by (reading.refused n values) f = absurd (omega (arith, refusal_ds n values, rw f at two))
 
-pub printed-paused : (t before : List ℕ) → printed t ≡ before ++ endPaused → PrintedRun t
-printed-paused t before e = cut_short t (rw e (omega (arith, ds-append before endPaused, two)))
+pub printed_paused : (t before : List ℕ) → printed t ≡ before ++ end_paused → PrintedRun t
+printed_paused t before e = cut_short t (rw e (omega (arith, ds_append before end_paused, two)))
   where
-    two : ds endPaused ≡ 2
+    two : ds end_paused ≡ 2
     two = unfold ds in refl
 
-pub printed-refused : (t before : List ℕ) (n : ℕ) → printed t ≡ before ++ endRefused n → PrintedRun t
-printed-refused t before n e = cut_short t (rw e (omega (arith, ds-append before (endRefused n), counted-ds (bytes "end refused ") n, two)))
+pub printed_refused : (t before : List ℕ) (n : ℕ) → printed t ≡ before ++ end_refused n → PrintedRun t
+printed_refused t before n e = cut_short t (rw e (omega (arith, ds_append before (end_refused n), counted_ds (bytes "end refused ") n, two)))
   where
     two : ds (bytes "end refused ") ≡ 2
     two = unfold ds in refl

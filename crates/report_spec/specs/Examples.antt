@@ -2,37 +2,37 @@
 use Prim.Native.String.{String}
 use Rattle.std.specs.Prelude.{List, [], ◌∷◌, ◌++◌, map, ◌≡◌, refl, ℕ, length}
 use Rattle.linear.specs.Sums.{sum_to}
-use Rattle.linear.specs.Tests.{allTo, anyTo, count_to}
+use Rattle.linear.specs.Tests.{all_to, any_to, count_to}
 use Rattle.linear.specs.Tuples.{total, unit}
 use Rattle.linear.specs.Systems.{inner, value}
-use Rattle.definitions.specs.Answers.{Answer, paused, refuseFirst, refuseWith, refused, ◌then◌}
-use Rattle.definitions.specs.System.{solves, isAtOrBelow, covered}
+use Rattle.definitions.specs.Answers.{Answer, paused, refuse_first, refuse_with, refused, ◌then◌}
+use Rattle.definitions.specs.System.{solves, is_at_or_below, covered}
 use Rattle.definitions.specs.Input.{Input}
-use Rattle.definitions.specs.Tables.{State, plainRun, bit, frozen, writeTo, writeRow, unitsTo, unitsStart}
-use Rattle.definitions.specs.Step.{grown, listed, makes, marksTo, step, writeChildren}
-use Rattle.definitions.specs.Refusals.{rowFits, inOrder, check7, startChecks, resumeChecks, tooLarge, searchChecks}
+use Rattle.definitions.specs.Tables.{State, plain_run, bit, frozen, write_to, write_row, units_to, units_start}
+use Rattle.definitions.specs.Step.{grown, listed, makes, marks_to, step, write_children}
+use Rattle.definitions.specs.Refusals.{row_fits, in_order, check7, start_checks, resume_checks, too_large, search_checks}
 use Rattle.definitions.specs.Calls.{resume, start}
 use Rattle.definitions.specs.Machine as machine
-use Rattle.definitions.specs.Machine.{Outcome, call, unlessDone, walk}
-use Rattle.texts.specs.Decimals.{lastDigits, decimal, bytes}
-use Rattle.texts.specs.Reading.{and_then, moreDigits, readNatural, readNumber}
+use Rattle.definitions.specs.Machine.{Outcome, call, unless_done, walk}
+use Rattle.texts.specs.Decimals.{last_digits, decimal, bytes}
+use Rattle.texts.specs.Reading.{and_then, more_digits, read_natural, read_number}
 use Rattle.map_spec.specs.Form.{line, lines}
-use Rattle.map_spec.specs.Reading.{readField, readLine, readRows, checked, acceptRows, read_body, readMap}
-use Rattle.report_spec.specs.Printed.{blank, counted, refusalText, counts, ending, runText, run, readingText, printed}
+use Rattle.map_spec.specs.Reading.{read_field, read_line, read_rows, checked, accept_rows, read_body, read_map}
+use Rattle.report_spec.specs.Printed.{blank, counted, refusal_text, counts, ending, run_text, run, reading_text, printed}
 
 -- a text, and what is printed for it
 abbrev Case : Type 0
 Case = String × String
 
-asPrinted : List Case → List (List ℕ)
-unfolding total sum_to allTo anyTo count_to unit inner value refuseWith ◌then◌ refuseFirst solves isAtOrBelow covered bit frozen writeTo writeRow unitsTo
-    unitsStart makes marksTo writeChildren listed grown step rowFits inOrder check7 startChecks resumeChecks tooLarge searchChecks machine.checked start
-    unlessDone walk call lastDigits decimal line lines and_then moreDigits readNatural readNumber readField readLine readRows checked acceptRows read_body readMap
-    counted refusalText counts ending runText run readingText printed
-asPrinted cases = map (λ (c : Case). printed (bytes c.0)) cases
+as_printed : List Case → List (List ℕ)
+unfolding total sum_to all_to any_to count_to unit inner value refuse_with ◌then◌ refuse_first solves is_at_or_below covered bit frozen write_to write_row units_to
+    units_start makes marks_to write_children listed grown step row_fits in_order check7 start_checks resume_checks too_large search_checks machine.checked start
+    unless_done walk call last_digits decimal line lines and_then more_digits read_natural read_number read_field read_line read_rows checked accept_rows read_body read_map
+    counted refusal_text counts ending run_text run reading_text printed
+as_printed cases = map (λ (c : Case). printed (bytes c.0)) cases
 
-asSaid : List Case → List (List ℕ)
-asSaid cases = map (λ (c : Case). bytes c.1) cases
+as_said : List Case → List (List ℕ)
+as_said cases = map (λ (c : Case). bytes c.1) cases
 
 examples : List Case
 examples =
@@ -45,13 +45,13 @@ examples =
     ∷ ("2 4\n-1 1 2 -3\n10001 3 -2 -1\n", "refused 7 place 5\n")
     ∷ []
 
-examples-printed : asPrinted examples ≡ asSaid examples
-unfolding asPrinted asSaid examples
-examples-printed = refl
+examples_printed : as_printed examples ≡ as_said examples
+unfolding as_printed as_said examples
+examples_printed = refl
 
 -- a run cut short: its rows stand before "The ending may also be "end paused" or "end refused 11" (12, 13 or 14)."
-cutShort : Answer → Outcome State
-cutShort a =
+cut_short : Answer → Outcome State
+cut_short a =
     record {
       answer = a;
       state =
@@ -59,17 +59,17 @@ cutShort a =
             stack = [];
             list = 3 ∷ 2 ∷ 0 ∷ 7 ∷ 9 ∷ 9 ∷ [];
             second = [];
-            run = record { kind = plainRun; height = 1; found = 2; steps = 5; found2 = 0; steps2 = 0; deepest = 5 };
+            run = record { kind = plain_run; height = 1; found = 2; steps = 5; found2 = 0; steps2 = 0; deepest = 5 };
           };
     }
 
-cut-short-printed : map (λ a. runText 1 2 (cutShort a)) (paused ∷ refused 11 [] ∷ refused 12 [] ∷ refused 14 [] ∷ [])
+cut_short_printed : map (λ a. run_text 1 2 (cut_short a)) (paused ∷ refused 11 [] ∷ refused 12 [] ∷ refused 14 [] ∷ [])
     ≡ map (λ ending. bytes "equations 1\nunknowns 2\nsteps 5\nsolutions 2\n3 2\n0 7\n" ++ bytes ending)
     ("end paused\n" ∷ "end refused 11\n" ∷ "end refused 12\n" ∷ "end refused 14\n" ∷ [])
-unfolding cutShort lastDigits decimal line lines counted counts ending runText
-cut-short-printed = refl
+unfolding cut_short last_digits decimal line lines counted counts ending run_text
+cut_short_printed = refl
 
 -- "It allows 1,000,000 steps and has room for 8,192 numbers in the list."
-lent-holds : (length blank.list ≡ 8192) × ((m : Input) → run m ≡ resume 1000000 m (start m blank).state)
+lent_holds : (length blank.list ≡ 8192) × ((m : Input) → run m ≡ resume 1000000 m (start m blank).state)
 unfolding run
-lent-holds = (refl, λ m. refl)
+lent_holds = (refl, λ m. refl)

@@ -1,10 +1,10 @@
 // The training seat (document 02, job 9), a layer above the core: the core's calls with components up to 20, behind 1, 2 and 23, and with 24 for 12. Each
 // takes the run record by value and returns what it leaves.
 ghost use Rattle.std.specs.Prelude.{◌≡◌, List, ℕ, ℤ};
-ghost use Rattle.calls.specs.Paper.{checkOf, outcomeOf, outcomeWith, state_of, stateWith};
-ghost use Rattle.seat_spec.specs.Training.{seatInput, seatResume, seatResumeFrom, seatStart, seatStartFrom};
-ghost use Rattle.seat_spec.specs.TrainingRules.{renumber, renumbered, seatFirst};
-ghost use Rattle.seat.specs.Seat.{refusedFor};
+ghost use Rattle.calls.specs.Paper.{check_of, outcome_of, outcome_with, state_of, state_with};
+ghost use Rattle.seat_spec.specs.Training.{seat_input, seat_resume, seat_resume_from, seat_start, seat_start_from};
+ghost use Rattle.seat_spec.specs.TrainingRules.{renumber, renumbered, seat_first};
+ghost use Rattle.seat.specs.Seat.{refused_for};
 
 use calls::{Answer, Check, Outcome, Record, Refusal};
 
@@ -22,8 +22,8 @@ pub fn started(
     list: &mut [u32],
     r: Record,
 ) -> Outcome
-    ensures { outcomeOf result stack.new list.new ≡
-        seatStart (seatInput p q coefs.now) (state_of stack.old list.old r) }
+    ensures { outcome_of result stack.new list.new ≡
+        seat_start (seat_input p q coefs.now) (state_of stack.old list.old r) }
 {
     match check(p, q) {
         Check::Refuse(why) => calls::refused(why, r),
@@ -42,9 +42,9 @@ pub fn started_from(
     second: &mut [u32],
     r: Record,
 ) -> Outcome
-    ensures { outcomeWith result stack.new list.new second.new ≡
-        seatStartFrom lower.now (seatInput p q coefs.now)
-        (stateWith stack.old list.old second.old r) }
+    ensures { outcome_with result stack.new list.new second.new ≡
+        seat_start_from lower.now (seat_input p q coefs.now)
+        (state_with stack.old list.old second.old r) }
 {
     match check(p, q) {
         Check::Refuse(why) => calls::refused(why, r),
@@ -64,8 +64,8 @@ pub fn resumed(
     r: Record,
     budget: u64,
 ) -> Outcome
-    ensures { outcomeOf result stack.new list.new ≡
-        seatResume budget (seatInput p q coefs.now) (state_of stack.old list.old r) }
+    ensures { outcome_of result stack.new list.new ≡
+        seat_resume budget (seat_input p q coefs.now) (state_of stack.old list.old r) }
 {
     match check(p, q) {
         Check::Refuse(why) => calls::refused(why, r),
@@ -88,9 +88,9 @@ pub fn resumed_from(
     r: Record,
     budget: u64,
 ) -> Outcome
-    ensures { outcomeWith result stack.new list.new second.new ≡
-        seatResumeFrom budget lower.now (seatInput p q coefs.now)
-        (stateWith stack.old list.old second.old r) }
+    ensures { outcome_with result stack.new list.new second.new ≡
+        seat_resume_from budget lower.now (seat_input p q coefs.now)
+        (state_with stack.old list.old second.old r) }
 {
     match check(p, q) {
         Check::Refuse(why) => calls::refused(why, r),
@@ -104,7 +104,7 @@ pub fn resumed_from(
 
 // 1, 2 and 23, which each call of the seat asks ahead of all else.
 fn check(p: usize, q: usize) -> Check
-    ensures { (coefs : List ℤ) → checkOf result ≡ seatFirst (seatInput p q coefs) }
+    ensures { (coefs : List ℤ) → check_of result ≡ seat_first (seat_input p q coefs) }
 {
     match checks::counts::check_sizes(p, q, 0) {
         Check::Refuse(why) => Check::Refuse(why),
@@ -119,7 +119,7 @@ fn check(p: usize, q: usize) -> Check
 
 // What a continuing call of the core left, as the seat has it: 24 for 12.
 fn seat_outcome(o: Outcome) -> Outcome
-    ensures { (stack list second : List ℕ) → outcomeWith result stack list second ≡ renumbered (outcomeWith o stack list second) }
+    ensures { (stack list second : List ℕ) → outcome_with result stack list second ≡ renumbered (outcome_with o stack list second) }
 {
     let answer = o.answer;
     match answer {
@@ -131,7 +131,7 @@ fn seat_outcome(o: Outcome) -> Outcome
 }
 
 fn seat_refusal(why: Refusal) -> Refusal
-    ensures { refusedFor result ≡ renumber (refusedFor why) }
+    ensures { refused_for result ≡ renumber (refused_for why) }
 {
     if calls::number_of(why) == 12 {
         return Refusal::SeatComponent;

@@ -1,8 +1,8 @@
 // The calls of the training seat as an editor uses them: the caller's own run record is advanced through a reference, over the calls by value of crate
 // `training`.
 ghost use Rattle.std.specs.Prelude.{◌≡◌};
-ghost use Rattle.calls.specs.Paper.{leftBy, leftWith, state_of, stateWith};
-ghost use Rattle.seat_spec.specs.Training.{seatInput, seatResume, seatResumeFrom, seatStart, seatStartFrom};
+ghost use Rattle.calls.specs.Paper.{left_by, left_with, state_of, state_with};
+ghost use Rattle.seat_spec.specs.Training.{seat_input, seat_resume, seat_resume_from, seat_start, seat_start_from};
 
 use calls::{Answer, Record};
 
@@ -15,8 +15,8 @@ pub fn start(
     list: &mut [u32],
     r: &mut Record,
 ) -> Answer
-    ensures { leftBy result stack.new list.new r.new ≡
-        seatStart (seatInput p q coefs.now) (state_of stack.old list.old r.old) }
+    ensures { left_by result stack.new list.new r.new ≡
+        seat_start (seat_input p q coefs.now) (state_of stack.old list.old r.old) }
 {
     let o = seat::started(p, q, coefs, stack, list, *r);
     *r = o.run;
@@ -34,9 +34,9 @@ pub fn start_from(
     second: &mut [u32],
     r: &mut Record,
 ) -> Answer
-    ensures { leftWith result stack.new list.new second.new r.new ≡
-        seatStartFrom lower.now (seatInput p q coefs.now)
-        (stateWith stack.old list.old second.old r.old) }
+    ensures { left_with result stack.new list.new second.new r.new ≡
+        seat_start_from lower.now (seat_input p q coefs.now)
+        (state_with stack.old list.old second.old r.old) }
 {
     let o = seat::started_from(p, q, coefs, lower, stack, list, second, *r);
     *r = o.run;
@@ -53,8 +53,8 @@ pub fn resume(
     r: &mut Record,
     budget: u64,
 ) -> Answer
-    ensures { leftBy result stack.new list.new r.new ≡
-        seatResume budget (seatInput p q coefs.now) (state_of stack.old list.old r.old) }
+    ensures { left_by result stack.new list.new r.new ≡
+        seat_resume budget (seat_input p q coefs.now) (state_of stack.old list.old r.old) }
 {
     let o = seat::resumed(p, q, coefs, stack, list, *r, budget);
     *r = o.run;
@@ -73,9 +73,9 @@ pub fn resume_from(
     r: &mut Record,
     budget: u64,
 ) -> Answer
-    ensures { leftWith result stack.new list.new second.new r.new ≡
-        seatResumeFrom budget lower.now (seatInput p q coefs.now)
-        (stateWith stack.old list.old second.old r.old) }
+    ensures { left_with result stack.new list.new second.new r.new ≡
+        seat_resume_from budget lower.now (seat_input p q coefs.now)
+        (state_with stack.old list.old second.old r.old) }
 {
     let o = seat::resumed_from(p, q, coefs, lower, stack, list, second, *r, budget);
     *r = o.run;

@@ -1,96 +1,96 @@
 -- Document 02, Job 9: "A cheaper seat uses the same solver with at most 6 unknowns and components up to 20. It is a layer of its own above the core, which
 -- takes the component limit with each call". Assumes nothing.
 use Rattle.std.specs.Prelude.{ℕ, not, ◌&&◌, List, eqb, ltb, ℤ}
-use Rattle.definitions.specs.Answers.{Check, ◌then◌, refuseIf, started}
-use Rattle.definitions.specs.Calls.{settleFrom, stepFrom}
-use Rattle.definitions.specs.Input.{Input, aboveSystem, alone, inputWith, mapOf, systemOf}
-use Rattle.definitions.specs.Machine.{Machine, Outcome, call, callSteps, checked}
-use Rattle.definitions.specs.Refusals.{check1, check4, check5, check6, check6From, check7, check8, numbersCheck, stepLimit, tooLarge, unknownsCheck}
-use Rattle.definitions.specs.Step.{fullFor, step, top}
+use Rattle.definitions.specs.Answers.{Check, ◌then◌, refuse_if, started}
+use Rattle.definitions.specs.Calls.{settle_from, step_from}
+use Rattle.definitions.specs.Input.{Input, above_system, alone, input_with, map_of, system_of}
+use Rattle.definitions.specs.Machine.{Machine, Outcome, call, call_steps, checked}
+use Rattle.definitions.specs.Refusals.{check1, check4, check5, check6, check6_from, check7, check8, numbers_check, step_limit, too_large, unknowns_check}
+use Rattle.definitions.specs.Step.{full_for, step, top}
 use Rattle.definitions.specs.System.{System, solves}
-use Rattle.definitions.specs.Tables.{State, byWalk, lowerStart, plainPart, unitsStart}
+use Rattle.definitions.specs.Tables.{State, by_walk, lower_start, plain_part, units_start}
 
 -- "at most 6 unknowns and components up to 20"
-abbrev pub seatUnknowns : ℕ
-seatUnknowns = 6
+abbrev pub seat_unknowns : ℕ
+seat_unknowns = 6
 
-abbrev pub seatLimit : ℕ
-seatLimit = 20
+abbrev pub seat_limit : ℕ
+seat_limit = 20
 
 -- a map at this seat
-abbrev pub seatInput : ℕ → ℕ → List ℤ → Input
-seatInput p q coefs = inputWith alone seatLimit p q coefs
+abbrev pub seat_input : ℕ → ℕ → List ℤ → Input
+seat_input p q coefs = input_with alone seat_limit p q coefs
 
 -- "23, more than 6 unknowns"
 abbrev pub check23 : Input → Check
-check23 i = refuseIf (ltb seatUnknowns i.q) 23
+check23 i = refuse_if (ltb seat_unknowns i.q) 23
 
 -- "straight after 2"
-abbrev pub seatThen : Input → State → Check → Check
-seatThen i s own = check1 i then unknownsCheck i then check23 i then numbersCheck i then check4 (systemOf i) s then own
+abbrev pub seat_then : Input → State → Check → Check
+seat_then i s own = check1 i then unknowns_check i then check23 i then numbers_check i then check4 (system_of i) s then own
 
-unfoldable pub seatStartChecks : Input → State → Check
-seatStartChecks i s = seatThen i s (check7 i)
+unfoldable pub seat_start_checks : Input → State → Check
+seat_start_checks i s = seat_then i s (check7 i)
 
 -- "a floor above 20 is 8"
-unfoldable pub seatLowerChecks : List ℕ → Input → State → Check
-seatLowerChecks lower i s = seatThen i s (check5 i lower then check7 i then check8 i lower)
+unfoldable pub seat_lower_checks : List ℕ → Input → State → Check
+seat_lower_checks lower i s = seat_then i s (check5 i lower then check7 i then check8 i lower)
 
 -- "a row above 20 in a continued run is 6"
-unfoldable pub seatResumeChecks : Input → State → Check
-seatResumeChecks i s = seatThen i s (check6 (systemOf i) s then check7 i)
+unfoldable pub seat_resume_checks : Input → State → Check
+seat_resume_checks i s = seat_then i s (check6 (system_of i) s then check7 i)
 
 -- "24, a child would pass 20, in the place of 12"
-unfoldable pub seatSearch : System → State → Check
-seatSearch m s =
-    refuseIf (eqb s.run.steps stepLimit) 14
-    then refuseIf (solves m (top m s) && fullFor m.kind m.q s (top m s)) 11
-    then refuseIf (not (solves m (top m s)) && tooLarge m s) 24
+unfoldable pub seat_search : System → State → Check
+seat_search m s =
+    refuse_if (eqb s.run.steps step_limit) 14
+    then refuse_if (solves m (top m s) && full_for m.kind m.q s (top m s)) 11
+    then refuse_if (not (solves m (top m s)) && too_large m s) 24
 
 -- of a run from a lower bound: a row above 20 is 6 in either walk, a bound above 20 is 8, and 24 is about the walk under way
-unfoldable pub seatResumeFromChecks : List ℕ → Input → State → Check
-seatResumeFromChecks lower i s = seatThen i s (check5 i lower then check6From lower i s then check7 i then check8 i lower)
+unfoldable pub seat_resume_from_checks : List ℕ → Input → State → Check
+seat_resume_from_checks lower i s = seat_then i s (check5 i lower then check6_from lower i s then check7 i then check8 i lower)
 
-unfoldable pub seatSearchFrom : List ℕ → Input → State → Check
-seatSearchFrom lower i s = byWalk s.run.kind (seatSearch (mapOf i) (plainPart s)) (seatSearch (aboveSystem lower i) s)
+unfoldable pub seat_search_from : List ℕ → Input → State → Check
+seat_search_from lower i s = by_walk s.run.kind (seat_search (map_of i) (plain_part s)) (seat_search (above_system lower i) s)
 
 -- ---- the calls
 
-unfoldable pub seatStart : Input → State → Outcome State
-seatStart i s = checked (seatStartChecks i s) s (λ t. record { answer = started; state = unitsStart (systemOf i) t })
+unfoldable pub seat_start : Input → State → Outcome State
+seat_start i s = checked (seat_start_checks i s) s (λ t. record { answer = started; state = units_start (system_of i) t })
 
-unfoldable pub seatStartFrom : List ℕ → Input → State → Outcome State
-seatStartFrom lower i s = checked (seatLowerChecks lower i s) s (λ t. record { answer = started; state = lowerStart (mapOf i) t })
+unfoldable pub seat_start_from : List ℕ → Input → State → Outcome State
+seat_start_from lower i s = checked (seat_lower_checks lower i s) s (λ t. record { answer = started; state = lower_start (map_of i) t })
 
 -- what its continuing call goes by: the core's step
-abbrev pub seatMachine : Input → Machine State
-seatMachine i =
+abbrev pub seat_machine : Input → Machine State
+seat_machine i =
     record {
-      before = seatResumeChecks i;
+      before = seat_resume_checks i;
       settle = λ s. s;
       height = λ s. s.run.height;
-      refusals = seatSearch (systemOf i);
-      step = step (systemOf i);
+      refusals = seat_search (system_of i);
+      step = step (system_of i);
     }
 
-abbrev pub seatResume : ℕ → Input → State → Outcome State
-seatResume budget i s = call budget (seatMachine i) s
+abbrev pub seat_resume : ℕ → Input → State → Outcome State
+seat_resume budget i s = call budget (seat_machine i) s
 
-abbrev pub seatSteps : ℕ → Input → State → ℕ
-seatSteps budget i s = callSteps budget (seatMachine i) s
+abbrev pub seat_steps : ℕ → Input → State → ℕ
+seat_steps budget i s = call_steps budget (seat_machine i) s
 
-abbrev pub seatMachineFrom : List ℕ → Input → Machine State
-seatMachineFrom lower i =
+abbrev pub seat_machine_from : List ℕ → Input → Machine State
+seat_machine_from lower i =
     record {
-      before = seatResumeFromChecks lower i;
-      settle = settleFrom lower i;
+      before = seat_resume_from_checks lower i;
+      settle = settle_from lower i;
       height = λ s. s.run.height;
-      refusals = seatSearchFrom lower i;
-      step = stepFrom lower i;
+      refusals = seat_search_from lower i;
+      step = step_from lower i;
     }
 
-abbrev pub seatResumeFrom : ℕ → List ℕ → Input → State → Outcome State
-seatResumeFrom budget lower i s = call budget (seatMachineFrom lower i) s
+abbrev pub seat_resume_from : ℕ → List ℕ → Input → State → Outcome State
+seat_resume_from budget lower i s = call budget (seat_machine_from lower i) s
 
-abbrev pub seatStepsFrom : ℕ → List ℕ → Input → State → ℕ
-seatStepsFrom budget lower i s = callSteps budget (seatMachineFrom lower i) s
+abbrev pub seat_steps_from : ℕ → List ℕ → Input → State → ℕ
+seat_steps_from budget lower i s = call_steps budget (seat_machine_from lower i) s

@@ -5,104 +5,104 @@ use Rattle.std.proofs.Math.Path.{refl, ap}
 use Rattle.std.proofs.Common.{sym, ◌∙◌, inl, inr, arith, ne_eqb, lt→ltb, ltb→lt}
 use Prim.Native.Nat.{ℕ, zero, suc, ◌+◌, ◌*◌, ◌<◌}
 use Rattle.linear.specs.Systems.{Fails, Solution}
-use Rattle.definitions.specs.Answers.{Answer, Check, ◌then◌, complete, go, paused, refuse, refuseIf, refuseWith, refused, started}
-use Rattle.definitions.specs.Calls.{machine, machineFrom, resume, resumeFrom, searchFrom, start, startFrom}
-use Rattle.definitions.specs.Input.{Input, aboveSystem, limitOf, mapOf, systemOf}
-use Rattle.definitions.specs.Machine.{Machine, Outcome, call, checked, unlessDone, walk}
-use Rattle.definitions.specs.Refusals.{check1, check4, lowerChecks, mostFor, numbersCheck, resumeChecks, resumeFromChecks, searchChecks, shapeThen, startChecks}
-use Rattle.definitions.specs.Refusals.{stepLimit, unknownsCheck}
+use Rattle.definitions.specs.Answers.{Answer, Check, ◌then◌, complete, go, paused, refuse, refuse_if, refuse_with, refused, started}
+use Rattle.definitions.specs.Calls.{machine, machine_from, resume, resume_from, search_from, start, start_from}
+use Rattle.definitions.specs.Input.{Input, above_system, limit_of, map_of, system_of}
+use Rattle.definitions.specs.Machine.{Machine, Outcome, call, checked, unless_done, walk}
+use Rattle.definitions.specs.Refusals.{check1, check4, lower_checks, most_for, numbers_check, resume_checks, resume_from_checks, search_checks, shape_then, start_checks}
+use Rattle.definitions.specs.Refusals.{step_limit, unknowns_check}
 use Rattle.definitions.specs.Step.{makes, step, top}
-use Rattle.definitions.specs.System.{System, coef, mostEquations}
-use Rattle.definitions.specs.Tables.{RunKind, State, byWalk, cappedRun, deskByDesk, lowerAbove, lowerPlain, plainPart, plainRun}
-use Rattle.laws.specs.CheckLaws.{Decides, Renders, Rules, ◌▹◌, decides-if, end, renders-last, renders-then, rule}
-use Rattle.laws.specs.LowerLaws.{OutOfOrderFrom, decides-from, renders-by, resume-from-renders, rulesBy}
-use Rattle.laws.specs.RefusalLaws.{Misnumbered, NoRoom, OutOfOrder, Outside, decides-bound, decides-full, decides-large, decides-late, decides-number}
-use Rattle.laws.specs.RefusalLaws.{decides-order, decides-outside, decides-range, decides-short, decides-unequal, rangeRule, resume-renders}
-use Rattle.seat_spec.specs.Training.{check23, seatInput, seatLowerChecks, seatMachine, seatMachineFrom, seatResume, seatResumeChecks, seatResumeFrom}
-use Rattle.seat_spec.specs.Training.{seatResumeFromChecks, seatSearch, seatSearchFrom, seatStart, seatStartChecks, seatStartFrom, seatThen}
-use Rattle.seat_spec.specs.Training.{seatUnknowns}
+use Rattle.definitions.specs.System.{System, coef, most_equations}
+use Rattle.definitions.specs.Tables.{RunKind, State, by_walk, capped_run, desk_by_desk, lower_above, lower_plain, plain_part, plain_run}
+use Rattle.laws.specs.CheckLaws.{Decides, Renders, Rules, ◌▹◌, decides_if, end, renders_last, renders_then, rule}
+use Rattle.laws.specs.LowerLaws.{OutOfOrderFrom, decides_from, renders_by, resume_from_renders, rules_by}
+use Rattle.laws.specs.RefusalLaws.{Misnumbered, NoRoom, OutOfOrder, Outside, decides_bound, decides_full, decides_large, decides_late, decides_number}
+use Rattle.laws.specs.RefusalLaws.{decides_order, decides_outside, decides_range, decides_short, decides_unequal, range_rule, resume_renders}
+use Rattle.seat_spec.specs.Training.{check23, seat_input, seat_lower_checks, seat_machine, seat_machine_from, seat_resume, seat_resume_checks, seat_resume_from}
+use Rattle.seat_spec.specs.Training.{seat_resume_from_checks, seat_search, seat_search_from, seat_start, seat_start_checks, seat_start_from, seat_then}
+use Rattle.seat_spec.specs.Training.{seat_unknowns}
 
 -- ---- the rules
 
 -- each call checks 1, 2, 23, 3 and 4, and then what is its own
-abbrev pub seatRules : Input → State → Rules → Rules
-seatRules i s own =
-    rule 1 (Outside 1 mostEquations i.p)
-    ▹ rule 2 (Outside 1 (mostFor i.extra) i.q)
-    ▹ rule 23 (seatUnknowns < i.q)
+abbrev pub seat_rules : Input → State → Rules → Rules
+seat_rules i s own =
+    rule 1 (Outside 1 most_equations i.p)
+    ▹ rule 2 (Outside 1 (most_for i.extra) i.q)
+    ▹ rule 23 (seat_unknowns < i.q)
     ▹ rule 3 (Misnumbered i.extra i)
-    ▹ rule 4 (length s.stack < (systemOf i).q * ((systemOf i).q + 1))
+    ▹ rule 4 (length s.stack < (system_of i).q * ((system_of i).q + 1))
     ▹ own
 
-abbrev pub seatStartRules : Input → State → Rules
-seatStartRules i s = seatRules i s (rangeRule i ▹ end)
+abbrev pub seat_start_rules : Input → State → Rules
+seat_start_rules i s = seat_rules i s (range_rule i ▹ end)
 
-abbrev pub seatLowerRules : List ℕ → Input → State → Rules
-seatLowerRules lower i s =
-    seatRules i s (rule 5 (length lower ≢ i.q) ▹ rangeRule i ▹ rule 8 ((j : ℕ) × (j < length lower) × (limitOf i.limit < get_or lower j 0)) ▹ end)
+abbrev pub seat_lower_rules : List ℕ → Input → State → Rules
+seat_lower_rules lower i s =
+    seat_rules i s (rule 5 (length lower ≢ i.q) ▹ range_rule i ▹ rule 8 ((j : ℕ) × (j < length lower) × (limit_of i.limit < get_or lower j 0)) ▹ end)
 
-abbrev pub seatResumeRules : Input → State → Rules
-seatResumeRules i s = seatRules i s (rule 6 (OutOfOrder (systemOf i) s) ▹ rangeRule i ▹ end)
+abbrev pub seat_resume_rules : Input → State → Rules
+seat_resume_rules i s = seat_rules i s (rule 6 (OutOfOrder (system_of i) s) ▹ range_rule i ▹ end)
 
 -- "24, a child would pass 20, in the place of 12"
-abbrev pub seatSearchRules : System → State → Rules
-seatSearchRules m s =
-    rule 14 (s.run.steps ≡ stepLimit)
+abbrev pub seat_search_rules : System → State → Rules
+seat_search_rules m s =
+    rule 14 (s.run.steps ≡ step_limit)
     ▹ rule 11 (Solution m.p m.q (coef m) (top m s) × NoRoom m.kind m.q s (top m s))
     ▹ rule 24 (Fails m.p m.q (coef m) (top m s) × (j : ℕ) × (j < m.q) × T (makes m s j) × (top m s j ≡ m.limit))
     ▹ end
 
 -- the same of a run from a lower bound
-abbrev pub seatResumeFromRules : List ℕ → Input → State → Rules
-seatResumeFromRules lower i s =
-    seatRules i s
+abbrev pub seat_resume_from_rules : List ℕ → Input → State → Rules
+seat_resume_from_rules lower i s =
+    seat_rules i s
     (rule 5 (length lower ≢ i.q)
     ▹ rule 6 (OutOfOrderFrom lower i s)
-    ▹ rangeRule i
-    ▹ rule 8 ((j : ℕ) × (j < length lower) × (limitOf i.limit < get_or lower j 0))
+    ▹ range_rule i
+    ▹ rule 8 ((j : ℕ) × (j < length lower) × (limit_of i.limit < get_or lower j 0))
     ▹ end)
 
-abbrev pub seatSearchFromRules : List ℕ → Input → State → Rules
-seatSearchFromRules lower i s = rulesBy s.run.kind (seatSearchRules (mapOf i) (plainPart s)) (seatSearchRules (aboveSystem lower i) s)
+abbrev pub seat_search_from_rules : List ℕ → Input → State → Rules
+seat_search_from_rules lower i s = rules_by s.run.kind (seat_search_rules (map_of i) (plain_part s)) (seat_search_rules (above_system lower i) s)
 
 module _ (i : Input) (s : State) where
-  decides-seat : Decides (check23 i) (rule 23 (seatUnknowns < i.q))
-  decides-seat = decides-if (ltb seatUnknowns i.q) 23 _ (ltb→lt seatUnknowns i.q) (lt→ltb seatUnknowns i.q)
+  decides_seat : Decides (check23 i) (rule 23 (seat_unknowns < i.q))
+  decides_seat = decides_if (ltb seat_unknowns i.q) 23 _ (ltb→lt seat_unknowns i.q) (lt→ltb seat_unknowns i.q)
 
-  seat-renders : {c : Check} {rs : Rules} → Renders c rs → Renders (seatThen i s c) (seatRules i s rs)
-  seat-renders own =
-      renders-then (decides-outside 1 1 mostEquations i.p)
-      (renders-then (decides-outside 2 1 (mostFor i.extra) i.q)
-      (renders-then decides-seat (renders-then (decides-number i.extra i) (renders-then (decides-short (systemOf i) s) own))))
+  seat_renders : {c : Check} {rs : Rules} → Renders c rs → Renders (seat_then i s c) (seat_rules i s rs)
+  seat_renders own =
+      renders_then (decides_outside 1 1 most_equations i.p)
+      (renders_then (decides_outside 2 1 (most_for i.extra) i.q)
+      (renders_then decides_seat (renders_then (decides_number i.extra i) (renders_then (decides_short (system_of i) s) own))))
 
-  pub seat-start-renders : Renders (seatStartChecks i s) (seatStartRules i s)
-  unfolding seatStartChecks
-  seat-start-renders = seat-renders (renders-last (decides-range i))
+  pub seat_start_renders : Renders (seat_start_checks i s) (seat_start_rules i s)
+  unfolding seat_start_checks
+  seat_start_renders = seat_renders (renders_last (decides_range i))
 
-  pub seat-lower-renders : (lower : List ℕ) → Renders (seatLowerChecks lower i s) (seatLowerRules lower i s)
-  unfolding seatLowerChecks
-  seat-lower-renders lower =
-      seat-renders (renders-then (decides-unequal 5 (length lower) i.q) (renders-then (decides-range i) (renders-last (decides-bound i lower))))
+  pub seat_lower_renders : (lower : List ℕ) → Renders (seat_lower_checks lower i s) (seat_lower_rules lower i s)
+  unfolding seat_lower_checks
+  seat_lower_renders lower =
+      seat_renders (renders_then (decides_unequal 5 (length lower) i.q) (renders_then (decides_range i) (renders_last (decides_bound i lower))))
 
-  pub seat-resume-renders : Renders (seatResumeChecks i s) (seatResumeRules i s)
-  unfolding seatResumeChecks
-  seat-resume-renders = seat-renders (renders-then (decides-order (systemOf i) s) (renders-last (decides-range i)))
+  pub seat_resume_renders : Renders (seat_resume_checks i s) (seat_resume_rules i s)
+  unfolding seat_resume_checks
+  seat_resume_renders = seat_renders (renders_then (decides_order (system_of i) s) (renders_last (decides_range i)))
 
-  pub seat-resume-from-renders : (lower : List ℕ) → Renders (seatResumeFromChecks lower i s) (seatResumeFromRules lower i s)
-  unfolding seatResumeFromChecks
-  seat-resume-from-renders lower =
-      seat-renders
-      (renders-then (decides-unequal 5 (length lower) i.q)
-      (renders-then (decides-from lower i s) (renders-then (decides-range i) (renders-last (decides-bound i lower)))))
+  pub seat_resume_from_renders : (lower : List ℕ) → Renders (seat_resume_from_checks lower i s) (seat_resume_from_rules lower i s)
+  unfolding seat_resume_from_checks
+  seat_resume_from_renders lower =
+      seat_renders
+      (renders_then (decides_unequal 5 (length lower) i.q)
+      (renders_then (decides_from lower i s) (renders_then (decides_range i) (renders_last (decides_bound i lower)))))
 
-pub seat-search-renders : (m : System) (s : State) → Renders (seatSearch m s) (seatSearchRules m s)
-unfolding seatSearch
-seat-search-renders m s = renders-then (decides-late m s) (renders-then (decides-full m s) (renders-last (decides-large m s 24)))
+pub seat_search_renders : (m : System) (s : State) → Renders (seat_search m s) (seat_search_rules m s)
+unfolding seat_search
+seat_search_renders m s = renders_then (decides_late m s) (renders_then (decides_full m s) (renders_last (decides_large m s 24)))
 
-pub seat-search-from-renders : (lower : List ℕ) (i : Input) (s : State) → Renders (seatSearchFrom lower i s) (seatSearchFromRules lower i s)
-unfolding seatSearchFrom
-seat-search-from-renders lower i s =
-    renders-by s.run.kind (seat-search-renders (mapOf i) (plainPart s)) (seat-search-renders (aboveSystem lower i) s)
+pub seat_search_from_renders : (lower : List ℕ) (i : Input) (s : State) → Renders (seat_search_from lower i s) (seat_search_from_rules lower i s)
+unfolding seat_search_from
+seat_search_from_renders lower i s =
+    renders_by s.run.kind (seat_search_renders (map_of i) (plain_part s)) (seat_search_renders (above_system lower i) s)
 
 -- ---- the calls are the core's
 
@@ -117,119 +117,119 @@ renumber complete = complete
 renumber paused = paused
 renumber (refused n values) = refused (pick (eqb n 12) n) values
 
-abbrev renumberCheck : Check → Check
-renumberCheck (refuse n values) = refuse (pick (eqb n 12) n) values
-renumberCheck go = go
+abbrev renumber_check : Check → Check
+renumber_check (refuse n values) = refuse (pick (eqb n 12) n) values
+renumber_check go = go
 
 abbrev pub renumbered : Outcome State → Outcome State
 renumbered o = record { answer = renumber o.answer; state = o.state }
 
 -- what the seat asks ahead of all else
-abbrev pub seatFirst : Input → Check
-seatFirst i = check1 i then unknownsCheck i then check23 i
+abbrev pub seat_first : Input → Check
+seat_first i = check1 i then unknowns_check i then check23 i
 
-renumber-search : (a b c : Bool) → (refuseIf a 14 then refuseIf b 11 then refuseIf c 24) ≡ renumberCheck (refuseIf a 14 then refuseIf b 11 then refuseIf c 12)
-unfolding refuseWith ◌then◌
-renumber-search true b c = refl
-renumber-search false true c = refl
-renumber-search false false true = refl
-renumber-search false false false = refl
+renumber_search : (a b c : Bool) → (refuse_if a 14 then refuse_if b 11 then refuse_if c 24) ≡ renumber_check (refuse_if a 14 then refuse_if b 11 then refuse_if c 12)
+unfolding refuse_with ◌then◌
+renumber_search true b c = refl
+renumber_search false true c = refl
+renumber_search false false true = refl
+renumber_search false false false = refl
 
-pub seat-search : (m : System) (s : State) → seatSearch m s ≡ renumberCheck (searchChecks m s)
-unfolding seatSearch searchChecks
-seat-search m s = renumber-search (eqb s.run.steps stepLimit) _ _
+pub seat_search_lem : (m : System) (s : State) → seat_search m s ≡ renumber_check (search_checks m s)
+unfolding seat_search search_checks
+seat_search_lem m s = renumber_search (eqb s.run.steps step_limit) _ _
 
-pub seat-search-from : (lower : List ℕ) (i : Input) (s : State) → seatSearchFrom lower i s ≡ renumberCheck (searchFrom lower i s)
-unfolding seatSearchFrom searchFrom
-seat-search-from lower i s = go s.run.kind
+pub seat_search_from_lem : (lower : List ℕ) (i : Input) (s : State) → seat_search_from lower i s ≡ renumber_check (search_from lower i s)
+unfolding seat_search_from search_from
+seat_search_from_lem lower i s = go s.run.kind
   where
-    a : seatSearch (mapOf i) (plainPart s) ≡ renumberCheck (searchChecks (mapOf i) (plainPart s))
-    a = seat-search (mapOf i) (plainPart s)
+    a : seat_search (map_of i) (plain_part s) ≡ renumber_check (search_checks (map_of i) (plain_part s))
+    a = seat_search_lem (map_of i) (plain_part s)
 
-    b : seatSearch (aboveSystem lower i) s ≡ renumberCheck (searchChecks (aboveSystem lower i) s)
-    b = seat-search (aboveSystem lower i) s
+    b : seat_search (above_system lower i) s ≡ renumber_check (search_checks (above_system lower i) s)
+    b = seat_search_lem (above_system lower i) s
 
     go : (r : RunKind)
-        → byWalk r (seatSearch (mapOf i) (plainPart s)) (seatSearch (aboveSystem lower i) s)
-        ≡ renumberCheck (byWalk r (searchChecks (mapOf i) (plainPart s)) (searchChecks (aboveSystem lower i) s))
-    go plainRun = b
-    go cappedRun = b
-    go lowerPlain = a
-    go lowerAbove = b
-    go deskByDesk = b
+        → by_walk r (seat_search (map_of i) (plain_part s)) (seat_search (above_system lower i) s)
+        ≡ renumber_check (by_walk r (search_checks (map_of i) (plain_part s)) (search_checks (above_system lower i) s))
+    go plain_run = b
+    go capped_run = b
+    go lower_plain = a
+    go lower_above = b
+    go desk_by_desk = b
 
-unless-renumbered : (b : Bool) (s : State) (f g : State → Outcome State) → f s ≡ renumbered (g s) → unlessDone b s f ≡ renumbered (unlessDone b s g)
-unfolding unlessDone
-unless-renumbered true s f g e = refl
-unless-renumbered false s f g e = e
+unless_renumbered : (b : Bool) (s : State) (f g : State → Outcome State) → f s ≡ renumbered (g s) → unless_done b s f ≡ renumbered (unless_done b s g)
+unfolding unless_done
+unless_renumbered true s f g e = refl
+unless_renumbered false s f g e = e
 
-checked-renumbered : (c : Check) (s : State) (f g : State → Outcome State) → ((t : State) → f t ≡ renumbered (g t))
-    → checked (renumberCheck c) s f ≡ renumbered (checked c s g)
+checked_renumbered : (c : Check) (s : State) (f g : State → Outcome State) → ((t : State) → f t ≡ renumbered (g t))
+    → checked (renumber_check c) s f ≡ renumbered (checked c s g)
 unfolding checked
-checked-renumbered (refuse n values) s f g e = refl
-checked-renumbered go s f g e = e s
+checked_renumbered (refuse n values) s f g e = refl
+checked_renumbered go s f g e = e s
 
 -- a machine that is another with 24 for 12 in its refusals
 module _ (k c : Machine State) (settles : (s : State) → k.settle s ≡ c.settle s) (height : (s : State) → k.height s ≡ c.height s)
-    (refusals : (s : State) → k.refusals s ≡ renumberCheck (c.refusals s)) (steps : (s : State) → k.step s ≡ c.step s) where
-  pub walk-renumbered : (n : ℕ) (s : State) → walk n k s ≡ renumbered (walk n c s)
+    (refusals : (s : State) → k.refusals s ≡ renumber_check (c.refusals s)) (steps : (s : State) → k.step s ≡ c.step s) where
+  pub walk_renumbered : (n : ℕ) (s : State) → walk n k s ≡ renumbered (walk n c s)
   unfolding walk
-  walk-renumbered zero s = rw (settles s, height (c.settle s)) (unless-renumbered (eqb (c.height (c.settle s)) 0) (c.settle s) _ _ refl)
-  walk-renumbered (suc n) s =
+  walk_renumbered zero s = rw (settles s, height (c.settle s)) (unless_renumbered (eqb (c.height (c.settle s)) 0) (c.settle s) _ _ refl)
+  walk_renumbered (suc n) s =
       rw (settles s, height (c.settle s))
-      (unless-renumbered (eqb (c.height (c.settle s)) 0) (c.settle s) _ _
+      (unless_renumbered (eqb (c.height (c.settle s)) 0) (c.settle s) _ _
       (ap (λ r. checked r (c.settle s) (λ u. walk n k (k.step u))) (refusals (c.settle s))
-      ∙ checked-renumbered (c.refusals (c.settle s)) (c.settle s) _ _ (λ t. ap (walk n k) (steps t) ∙ walk-renumbered n (c.step t))))
+      ∙ checked_renumbered (c.refusals (c.settle s)) (c.settle s) _ _ (λ t. ap (walk n k) (steps t) ∙ walk_renumbered n (c.step t))))
 
 -- 1 and 2 are asked first, so asking them again changes nothing
-seat-splits : (a b c d : Check) → (a then b then c then d) ≡ ((a then b then c) then a then b then d)
+seat_splits : (a b c d : Check) → (a then b then c then d) ≡ ((a then b then c) then a then b then d)
 unfolding ◌then◌
-seat-splits (refuse n values) b c d = refl
-seat-splits go (refuse n values) c d = refl
-seat-splits go go (refuse n values) d = refl
-seat-splits go go go d = refl
+seat_splits (refuse n values) b c d = refl
+seat_splits go (refuse n values) c d = refl
+seat_splits go go (refuse n values) d = refl
+seat_splits go go go d = refl
 
-checked-then : (a b : Check) (s : State) (f : State → Outcome State) → checked (a then b) s f ≡ checked a s (λ t. checked b s f)
+checked_then : (a b : Check) (s : State) (f : State → Outcome State) → checked (a then b) s f ≡ checked a s (λ t. checked b s f)
 unfolding checked ◌then◌
-checked-then (refuse n values) b s f = refl
-checked-then go b s f = refl
+checked_then (refuse n values) b s f = refl
+checked_then go b s f = refl
 
-seat-first : (i : Input) (s : State) (own : Check) (f : State → Outcome State)
-    → checked (seatThen i s own) s f ≡ checked (seatFirst i) s (λ t. checked (shapeThen i s own) s f)
-seat-first i s own f =
-    ap (λ c. checked c s f) (seat-splits (check1 i) (unknownsCheck i) (check23 i) (numbersCheck i then check4 (systemOf i) s then own))
-    ∙ checked-then (seatFirst i) (shapeThen i s own) s f
+seat_first_lem : (i : Input) (s : State) (own : Check) (f : State → Outcome State)
+    → checked (seat_then i s own) s f ≡ checked (seat_first i) s (λ t. checked (shape_then i s own) s f)
+seat_first_lem i s own f =
+    ap (λ c. checked c s f) (seat_splits (check1 i) (unknowns_check i) (check23 i) (numbers_check i then check4 (system_of i) s then own))
+    ∙ checked_then (seat_first i) (shape_then i s own) s f
 
-checked-same : (c : Check) (s : State) (f g : State → Outcome State) → f s ≡ g s → checked c s f ≡ checked c s g
+checked_same : (c : Check) (s : State) (f g : State → Outcome State) → f s ≡ g s → checked c s f ≡ checked c s g
 unfolding checked
-checked-same (refuse n values) s f g e = refl
-checked-same go s f g e = e
+checked_same (refuse n values) s f g e = refl
+checked_same go s f g e = e
 
 -- a check that refuses by no 12
-checked-quiet : (c : Check) (s : State) (f g : State → Outcome State) → ((n : ℕ) (values : List ℕ) → c ≡ refuse n values → n ≢ 12) → f s ≡ renumbered (g s)
+checked_quiet : (c : Check) (s : State) (f g : State → Outcome State) → ((n : ℕ) (values : List ℕ) → c ≡ refuse n values → n ≢ 12) → f s ≡ renumbered (g s)
     → checked c s f ≡ renumbered (checked c s g)
 unfolding checked
-checked-quiet (refuse n values) s f g quiet e = ap (λ k. record { answer = refused k values; state = s }) (sym (keeps n (quiet n values refl)))
+checked_quiet (refuse n values) s f g quiet e = ap (λ k. record { answer = refused k values; state = s }) (sym (keeps n (quiet n values refl)))
   where
     keeps : (n : ℕ) → n ≢ 12 → pick (eqb n 12) n ≡ n
     keeps n ne = rw (ne_eqb n 12 ne)
-checked-quiet go s f g quiet e = e
+checked_quiet go s f g quiet e = e
 
 module _ (p q : ℕ) (coefs : List ℤ) where
   abbrev i : Input
-  i = seatInput p q coefs
+  i = seat_input p q coefs
 
-  pub seat-starts : (s : State) → seatStart i s ≡ checked (seatFirst i) s (start i)
-  unfolding seatStart start seatStartChecks startChecks
-  seat-starts s = seat-first i s _ _ ∙ checked-same (seatFirst i) s _ (start i) refl
+  pub seat_starts : (s : State) → seat_start i s ≡ checked (seat_first i) s (start i)
+  unfolding seat_start start seat_start_checks start_checks
+  seat_starts s = seat_first_lem i s _ _ ∙ checked_same (seat_first i) s _ (start i) refl
 
-  pub seat-starts-from : (lower : List ℕ) (s : State) → seatStartFrom lower i s ≡ checked (seatFirst i) s (startFrom lower i)
-  unfolding seatStartFrom startFrom seatLowerChecks lowerChecks
-  seat-starts-from lower s = seat-first i s _ _ ∙ checked-same (seatFirst i) s _ (startFrom lower i) refl
+  pub seat_starts_from : (lower : List ℕ) (s : State) → seat_start_from lower i s ≡ checked (seat_first i) s (start_from lower i)
+  unfolding seat_start_from start_from seat_lower_checks lower_checks
+  seat_starts_from lower s = seat_first_lem i s _ _ ∙ checked_same (seat_first i) s _ (start_from lower i) refl
 
-  no-12 : (s : State) (n : ℕ) (values : List ℕ) → resumeChecks i s ≡ refuse n values → n ≢ 12
-  no-12 s n values e t =
-      elim ((resume-renders i s).refuses n values e) [
+  no_12 : (s : State) (n : ℕ) (values : List ℕ) → resume_checks i s ≡ refuse n values → n ≢ 12
+  no_12 s n values e t =
+      elim ((resume_renders i s).refuses n values e) [
         | inl (a, v, h) ↦ omega arith
         | inr (z, inl (a, v, h)) ↦ omega arith
         | inr (z, inr (y, inl (a, v, h))) ↦ omega arith
@@ -239,15 +239,15 @@ module _ (p q : ℕ) (coefs : List ℤ) where
         | inr (z, inr (y, inr (x, inr (w, inr (u, inr (r, h)))))) ↦ absurd h
       ]
 
-  pub seat-resumes : (n : ℕ) (s : State) → seatResume n i s ≡ checked (seatFirst i) s (λ t. renumbered (resume n i t))
-  unfolding call seatResumeChecks resumeChecks
-  seat-resumes n s = seat-first i s _ (walk n (seatMachine i)) ∙ checked-same (seatFirst i) s _ _
-      (checked-quiet (resumeChecks i s) s _ _ (no-12 s)
-      (walk-renumbered (seatMachine i) (machine i) (λ t. refl) (λ t. refl) (seat-search (systemOf i)) (λ t. refl) n s))
+  pub seat_resumes : (n : ℕ) (s : State) → seat_resume n i s ≡ checked (seat_first i) s (λ t. renumbered (resume n i t))
+  unfolding call seat_resume_checks resume_checks
+  seat_resumes n s = seat_first_lem i s _ (walk n (seat_machine i)) ∙ checked_same (seat_first i) s _ _
+      (checked_quiet (resume_checks i s) s _ _ (no_12 s)
+      (walk_renumbered (seat_machine i) (machine i) (λ t. refl) (λ t. refl) (seat_search_lem (system_of i)) (λ t. refl) n s))
 
-  no-12-from : (lower : List ℕ) (s : State) (n : ℕ) (values : List ℕ) → resumeFromChecks lower i s ≡ refuse n values → n ≢ 12
-  no-12-from lower s n values e t =
-      elim ((resume-from-renders lower i s).refuses n values e) [
+  no_12_from : (lower : List ℕ) (s : State) (n : ℕ) (values : List ℕ) → resume_from_checks lower i s ≡ refuse n values → n ≢ 12
+  no_12_from lower s n values e t =
+      elim ((resume_from_renders lower i s).refuses n values e) [
         | inl (a, v, h) ↦ omega arith
         | inr (z, inl (a, v, h)) ↦ omega arith
         | inr (z, inr (y, inl (a, v, h))) ↦ omega arith
@@ -259,10 +259,10 @@ module _ (p q : ℕ) (coefs : List ℤ) where
         | inr (z, inr (y, inr (x, inr (w, inr (u, inr (r, inr (o, inr (d, h)))))))) ↦ absurd h
       ]
 
-  pub seat-resumes-from : (lower : List ℕ) (n : ℕ) (s : State) → seatResumeFrom n lower i s ≡ checked (seatFirst i) s (λ t. renumbered (resumeFrom n lower i t))
-  unfolding call seatResumeFromChecks resumeFromChecks
-  seat-resumes-from lower n s =
-      seat-first i s _ (walk n (seatMachineFrom lower i))
-      ∙ checked-same (seatFirst i) s _ _
-      (checked-quiet (resumeFromChecks lower i s) s _ _ (no-12-from lower s)
-      (walk-renumbered (seatMachineFrom lower i) (machineFrom lower i) (λ t. refl) (λ t. refl) (seat-search-from lower i) (λ t. refl) n s))
+  pub seat_resumes_from : (lower : List ℕ) (n : ℕ) (s : State) → seat_resume_from n lower i s ≡ checked (seat_first i) s (λ t. renumbered (resume_from n lower i t))
+  unfolding call seat_resume_from_checks resume_from_checks
+  seat_resumes_from lower n s =
+      seat_first_lem i s _ (walk n (seat_machine_from lower i))
+      ∙ checked_same (seat_first i) s _ _
+      (checked_quiet (resume_from_checks lower i s) s _ _ (no_12_from lower s)
+      (walk_renumbered (seat_machine_from lower i) (machine_from lower i) (λ t. refl) (λ t. refl) (seat_search_from_lem lower i) (λ t. refl) n s))

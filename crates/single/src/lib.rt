@@ -2,8 +2,8 @@
 // record behind a reference.
 ghost use Rattle.std.specs.Prelude.{◌≡◌};
 ghost use Rattle.definitions.specs.Input.{input_of};
-ghost use Rattle.calls.specs.Paper.{state_of, outcomeOf, leftBy, checkOf};
-ghost use Rattle.single_spec.specs.Calls.{singleStart, singleResume, singleStartChecks, singleResumeChecks};
+ghost use Rattle.calls.specs.Paper.{state_of, outcome_of, left_by, check_of};
+ghost use Rattle.single_spec.specs.Calls.{single_start, single_resume, single_start_checks, single_resume_checks};
 
 use calls::{Answer, Check, Outcome, Record};
 
@@ -16,8 +16,8 @@ pub fn started(
     list: &mut [u32],
     r: Record,
 ) -> Outcome
-    ensures { outcomeOf result stack.new list.new ≡
-        singleStart (input_of p q coefs.now) (state_of stack.old list.old r) }
+    ensures { outcome_of result stack.new list.new ≡
+        single_start (input_of p q coefs.now) (state_of stack.old list.old r) }
 {
     match check_start(p, q, coefs, stack, list, r) {
         Check::Refuse(why) => calls::refused(why, r),
@@ -35,8 +35,8 @@ pub fn resumed(
     r: Record,
     budget: u64,
 ) -> Outcome
-    ensures { outcomeOf result stack.new list.new ≡
-        singleResume budget (input_of p q coefs.now) (state_of stack.old list.old r) }
+    ensures { outcome_of result stack.new list.new ≡
+        single_resume budget (input_of p q coefs.now) (state_of stack.old list.old r) }
 {
     match check_resume(p, q, coefs, stack, list, r) {
         Check::Refuse(why) => calls::refused(why, r),
@@ -53,8 +53,8 @@ pub fn start(
     list: &mut [u32],
     r: &mut Record,
 ) -> Answer
-    ensures { leftBy result stack.new list.new r.new ≡
-        singleStart (input_of p q coefs.now) (state_of stack.old list.old r.old) }
+    ensures { left_by result stack.new list.new r.new ≡
+        single_start (input_of p q coefs.now) (state_of stack.old list.old r.old) }
 {
     let o = started(p, q, coefs, stack, list, *r);
     *r = o.run;
@@ -71,8 +71,8 @@ pub fn resume(
     r: &mut Record,
     budget: u64,
 ) -> Answer
-    ensures { leftBy result stack.new list.new r.new ≡
-        singleResume budget (input_of p q coefs.now) (state_of stack.old list.old r.old) }
+    ensures { left_by result stack.new list.new r.new ≡
+        single_resume budget (input_of p q coefs.now) (state_of stack.old list.old r.old) }
 {
     let o = resumed(p, q, coefs, stack, list, *r, budget);
     *r = o.run;
@@ -81,7 +81,7 @@ pub fn resume(
 
 // What the start looks at.
 fn check_start(p: usize, q: usize, coefs: &[i32], stack: &[u32], list: &[u32], r: Record) -> Check
-    ensures { checkOf result ≡ singleStartChecks (input_of p q coefs.now) (state_of stack.now list.now r) }
+    ensures { check_of result ≡ single_start_checks (input_of p q coefs.now) (state_of stack.now list.now r) }
 {
     match checks::check_start(p, q, coefs, stack, list, r) {
         Check::Refuse(why) => Check::Refuse(why),
@@ -91,7 +91,7 @@ fn check_start(p: usize, q: usize, coefs: &[i32], stack: &[u32], list: &[u32], r
 
 // What the continuing call looks at.
 fn check_resume(p: usize, q: usize, coefs: &[i32], stack: &[u32], list: &[u32], r: Record) -> Check
-    ensures { checkOf result ≡ singleResumeChecks (input_of p q coefs.now) (state_of stack.now list.now r) }
+    ensures { check_of result ≡ single_resume_checks (input_of p q coefs.now) (state_of stack.now list.now r) }
 {
     match checks::check_resume(p, q, coefs, stack, list, r, calls::COMPONENT_LIMIT) {
         Check::Refuse(why) => Check::Refuse(why),

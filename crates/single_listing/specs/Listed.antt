@@ -27,6 +27,6 @@ abbrev pub listed_of : ListingAnswer → List ℕ → Listing
 listed_of (Written n) out = record { answer = written n; out = out }
 listed_of (Refused why) out = record { answer = refused (number_of why) (values_of why); out = out }
 
-abbrev pub checkOf : ListingCheck → paper.Check
-checkOf (Refuse why) = paper.refuse (number_of why) (values_of why)
-checkOf Pass = paper.go
+abbrev pub check_of : ListingCheck → paper.Check
+check_of (Refuse why) = paper.refuse (number_of why) (values_of why)
+check_of Pass = paper.go

@@ -3,11 +3,11 @@
 ghost use Rattle.std.specs.Prelude.{◌≡◌, length};
 ghost use Rattle.definitions.specs.Input.{input_of};
 ghost use Rattle.calls.specs.Paper.{value};
-ghost use Rattle.single_order.specs.Rows.{mapOf};
-ghost use Rattle.single_spec.specs.Listing.{listing, listingCall, rowChecks};
+ghost use Rattle.single_order.specs.Rows.{map_of};
+ghost use Rattle.single_spec.specs.Listing.{listing, listing_call, row_checks};
 ghost use Rattle.texts.specs.Put.{Put};
-ghost use Rattle.single_listing.specs.Listed.{listed_of, checkOf, number_of, values_of};
-ghost use Rattle.single_listing.specs.Passes.{Whole, Listable, checksIn};
+ghost use Rattle.single_listing.specs.Listed.{listed_of, check_of, number_of, values_of};
+ghost use Rattle.single_listing.specs.Passes.{Whole, Listable, checks_in};
 
 use calls::{Check, Refusal, Solutions};
 
@@ -45,7 +45,7 @@ pub fn listed(
     found: Solutions,
     out: &mut [u8],
 ) -> ListingAnswer
-    ensures { listed_of result out.new ≡ listingCall (input_of p q coefs.now) list.now found.0 out.old }
+    ensures { listed_of result out.new ≡ listing_call (input_of p q coefs.now) list.now found.0 out.old }
 {
     match check(p, q, coefs, list, found.0, out.len()) {
         ListingCheck::Refuse(why) => ListingAnswer::Refused(why),
@@ -55,7 +55,7 @@ pub fn listed(
 
 // The first pass: all that the listing looks at, into an output space of length `room`.
 fn check(p: usize, q: usize, coefs: &[i32], list: &[u32], found: usize, room: usize) -> ListingCheck
-    ensures { checkOf result ≡ checksIn (input_of p q coefs.now) list.now found room }
+    ensures { check_of result ≡ checks_in (input_of p q coefs.now) list.now found room }
 {
     match map::check(p, q, coefs, list.len(), found) {
         Check::Refuse(why) => ListingCheck::Refuse(ListingRefusal::Call(why)),
@@ -72,8 +72,8 @@ fn check_rows(
     found: usize,
     room: usize,
 ) -> ListingCheck
-    requires { Whole (mapOf p q coefs.now) list.now found }
-    ensures { checkOf result ≡ rowChecks (mapOf p q coefs.now) list.now found room }
+    requires { Whole (map_of p q coefs.now) list.now found }
+    ensures { check_of result ≡ row_checks (map_of p q coefs.now) list.now found room }
 {
     let mut left = room;
     let mut short = false;
@@ -99,8 +99,8 @@ fn check_rows(
 
 // The second pass: the lines of the first `found` rows.
 fn write(p: usize, q: usize, coefs: &[i32], list: &[u32], found: usize, out: &mut [u8]) -> usize
-    requires { Listable (mapOf p q coefs.now) list.now found (length out.old) }
-    ensures { Put out.old 0 (listing (mapOf p q coefs.now) list.now found) out.new result }
+    requires { Listable (map_of p q coefs.now) list.now found (length out.old) }
+    ensures { Put out.old 0 (listing (map_of p q coefs.now) list.now found) out.new result }
 {
     let mut at = 0;
     let mut i = 0;

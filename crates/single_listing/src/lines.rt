@@ -1,11 +1,11 @@
 // The line of a minimal solution: "1 2 3 order 1 3 2", and a newline. It has at most 102 bytes.
 ghost use Rattle.std.specs.Prelude.{◌≡◌, ◌++◌, ◌∷◌, [], ◌+◌, ◌*◌, ◌≤◌, ◌<◌, length, get_or};
-ghost use Rattle.single_order.specs.Rows.{mapOf};
+ghost use Rattle.single_order.specs.Rows.{map_of};
 ghost use Rattle.texts.specs.Decimals.{decimal, space};
 ghost use Rattle.texts.specs.Put.{Put};
 ghost use Rattle.single_spec.specs.Graph.{gate};
-ghost use Rattle.single_spec.specs.Listing.{loopLine, risingTo, orderTo};
-ghost use Rattle.single_spec.specs.Profile.{isCircuitOf};
+ghost use Rattle.single_spec.specs.Listing.{loop_line, rising_to, order_to};
+ghost use Rattle.single_spec.specs.Profile.{is_circuit_of};
 ghost use Rattle.single_order.specs.Rows.{row_of, Fits};
 ghost use Rattle.single_listing.specs.Lines.{LineOf, Low, Room};
 
@@ -14,8 +14,8 @@ use texts::put;
 // How long the line of the row from place `base` is; 0 where the row is no minimal solution.
 pub fn measure(p: usize, q: usize, coefs: &[i32], list: &[u32], base: usize) -> usize
     requires { (q ≤ 16) × Fits p q (length coefs.now) base (length list.now) }
-    ensures { result ≡ gate (isCircuitOf (mapOf p q coefs.now) (row_of list.now base))
-        (length (loopLine (mapOf p q coefs.now) (row_of list.now base))) }
+    ensures { result ≡ gate (is_circuit_of (map_of p q coefs.now) (row_of list.now base))
+        (length (loop_line (map_of p q coefs.now) (row_of list.now base))) }
 {
     let mut line = [0u8; 128];
     make(p, q, coefs, list, base, &mut line)
@@ -32,8 +32,8 @@ pub fn write(
     at: usize,
 ) -> usize
     requires { (q ≤ 16) × Fits p q (length coefs.now) base (length list.now)
-        × Room (mapOf p q coefs.now) (row_of list.now base) at (length out.old) }
-    ensures { Put out.old at (loopLine (mapOf p q coefs.now) (row_of list.now base)) out.new result }
+        × Room (map_of p q coefs.now) (row_of list.now base) at (length out.old) }
+    ensures { Put out.old at (loop_line (map_of p q coefs.now) (row_of list.now base)) out.new result }
 {
     let mut line = [0u8; 128];
     let n = make(p, q, coefs, list, base, &mut line);
@@ -43,7 +43,7 @@ pub fn write(
 // Makes the line at the beginning of `line`, and says how long it is; 0 where the row is no minimal solution.
 fn make(p: usize, q: usize, coefs: &[i32], list: &[u32], base: usize, line: &mut [u8]) -> usize
     requires { (q ≤ 16) × Fits p q (length coefs.now) base (length list.now) × (128 ≤ length line.old) }
-    ensures { LineOf (mapOf p q coefs.now) (row_of list.now base) line.new result }
+    ensures { LineOf (map_of p q coefs.now) (row_of list.now base) line.new result }
 {
     let mut order = [0usize; 16];
     let size = single_order::order_of(p, q, coefs, list, base, &mut order);
@@ -59,7 +59,7 @@ fn make(p: usize, q: usize, coefs: &[i32], list: &[u32], base: usize, line: &mut
 // The unknowns of the row, rising, each before a space.
 fn rising(line: &mut [u8], q: usize, list: &[u32], base: usize) -> usize
     requires { (q ≤ 16) × (base + q ≤ length list.now) × (48 ≤ length line.old) }
-    ensures put { Put line.old 0 (risingTo q (row_of list.now base)) line.new result }
+    ensures put { Put line.old 0 (rising_to q (row_of list.now base)) line.new result }
     ensures upper_bound { result ≤ 3 * q }
 {
     let mut at = 0;
@@ -78,7 +78,7 @@ fn rising(line: &mut [u8], q: usize, list: &[u32], base: usize) -> usize
 // The first `size` unknowns of the order, each after a space.
 fn ordered(line: &mut [u8], at: usize, order: &[usize; 16], size: usize) -> usize
     requires { (size ≤ 16) × (at + 3 * size ≤ length line.old) × Low order.now size × (length order.now ≡ 16) }
-    ensures put { Put line.old at (orderTo size (λ k. get_or order.now k 0)) line.new result }
+    ensures put { Put line.old at (order_to size (λ k. get_or order.now k 0)) line.new result }
     ensures upper_bound { result ≤ at + 3 * size }
 {
     let mut next = at;

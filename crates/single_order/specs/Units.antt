@@ -5,25 +5,25 @@ use Rattle.std.specs.Int.{w32}
 use Rattle.definitions.specs.System.{is_zero}
 use Rattle.laws.specs.TableLaws.{row_before}
 use Rattle.linear.specs.TestLaws.{T-same}
-use Rattle.single_spec.specs.Profile.{isMinusOne, isOne}
+use Rattle.single_spec.specs.Profile.{is_minus_one, is_one}
 
-pub one-bits : (z : ℤ) → SFits w32 z → eqb (of_z w32 z) 1 ≡ isOne z
-one-bits z s = T-same _ _ (λ t. rw (to t) tt) (from z)
+pub one_bits : (z : ℤ) → SFits w32 z → eqb (of_z w32 z) 1 ≡ is_one z
+one_bits z s = T-same _ _ (λ t. rw (to t) tt) (from z)
   where
     to : T (eqb (of_z w32 z) 1) → z ≡ pos 1
     to t = sym (to_z-of_z s) ∙ ap (to_z w32) (eqb→eq (of_z w32 z) 1 t)
 
-    from : (y : ℤ) → T (isOne y) → T (eqb (of_z w32 y) 1)
+    from : (y : ℤ) → T (is_one y) → T (eqb (of_z w32 y) 1)
     from (pos n) t = t
     from (negsuc n) t = absurd t
 
-pub minus-one-bits : (z : ℤ) → SFits w32 z → eqb (of_z w32 z) 4294967295 ≡ isMinusOne z
-minus-one-bits z s = T-same _ _ (λ t. rw (to t) tt) (from z)
+pub minus_one_bits : (z : ℤ) → SFits w32 z → eqb (of_z w32 z) 4294967295 ≡ is_minus_one z
+minus_one_bits z s = T-same _ _ (λ t. rw (to t) tt) (from z)
   where
     to : T (eqb (of_z w32 z) 4294967295) → z ≡ negsuc 0
     to t = sym (to_z-of_z s) ∙ ap (to_z w32) (eqb→eq (of_z w32 z) 4294967295 t)
 
-    from : (y : ℤ) → T (isMinusOne y) → T (eqb (of_z w32 y) 4294967295)
+    from : (y : ℤ) → T (is_minus_one y) → T (eqb (of_z w32 y) 4294967295)
     from (pos n) t = absurd t
     from (negsuc n) t = let e = eqb→eq n 0 t in rw e tt
 

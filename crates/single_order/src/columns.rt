@@ -1,16 +1,16 @@
 // The columns of a system: whether each is in the profile of single-file maps, and the nodes between which it runs.
 ghost use Rattle.std.specs.Prelude.{◌≡◌, ◌*◌, ◌≤◌, ◌<◌, length};
 ghost use Rattle.definitions.specs.System.{column, is_zero};
-ghost use Rattle.calls.specs.Paper.{checkOf};
-ghost use Rattle.single_order.specs.Rows.{mapOf};
-ghost use Rattle.single_spec.specs.Profile.{is_unit, inProfile, node_of, check26};
+ghost use Rattle.calls.specs.Paper.{check_of};
+ghost use Rattle.single_order.specs.Rows.{map_of};
+ghost use Rattle.single_spec.specs.Profile.{is_unit, in_profile, node_of, check26};
 
 use calls::{Check, Refusal};
 
 // The first column outside the profile: refusal 26.
 pub fn check(p: usize, q: usize, coefs: &[i32]) -> Check
     requires { p * q ≤ length coefs.now }
-    ensures { checkOf result ≡ check26 (mapOf p q coefs.now) }
+    ensures { check_of result ≡ check26 (map_of p q coefs.now) }
 {
     let mut j = 0;
     while j < q {
@@ -25,7 +25,7 @@ pub fn check(p: usize, q: usize, coefs: &[i32]) -> Check
 // Whether column `j` has one 1, one -1 and otherwise zeros, or is all zeros.
 fn in_profile(p: usize, q: usize, coefs: &[i32], j: usize) -> bool
     requires { (j < q) × (p * q ≤ length coefs.now) }
-    ensures { result ≡ inProfile p (column (mapOf p q coefs.now) j) }
+    ensures { result ≡ in_profile p (column (map_of p q coefs.now) j) }
 {
     let mut ones: usize = 0;
     let mut minus_ones: usize = 0;
@@ -55,7 +55,7 @@ fn in_profile(p: usize, q: usize, coefs: &[i32], j: usize) -> bool
 // The equation at which column `j` has its 1, or with `minus` its -1; `p` where it has none.
 pub fn node(p: usize, q: usize, coefs: &[i32], j: usize, minus: bool) -> usize
     requires { (j < q) × (p * q ≤ length coefs.now) }
-    ensures { result ≡ node_of minus (mapOf p q coefs.now) j }
+    ensures { result ≡ node_of minus (map_of p q coefs.now) j }
 {
     let mut i = 0;
     while i < p {

@@ -1,9 +1,9 @@
 // The circuits of single-file maps (document 02, job 12): the profile of their columns, and the order of a row's unknowns.
 ghost use Rattle.std.specs.Prelude.{◌≡◌, ◌+◌, ◌≤◌, ◌<◌, length};
-ghost use Rattle.single_order.specs.Rows.{mapOf};
+ghost use Rattle.single_order.specs.Rows.{map_of};
 ghost use Rattle.single_spec.specs.Graph as graph;
 ghost use Rattle.single_spec.specs.Profile.{graph as graph_of};
-ghost use Rattle.single_order.specs.Rows.{row_of, onesOf, Fits, OrderOf};
+ghost use Rattle.single_order.specs.Rows.{row_of, ones_of, Fits, OrderOf};
 
 pub mod columns; // columns.rt: the profile, and where a column has its 1 and its -1
 
@@ -17,7 +17,7 @@ pub fn order_of(
     order: &mut [usize; 16],
 ) -> usize
     requires { (q ≤ 16) × Fits p q (length coefs.now) base (length list.now) × (length order.old ≡ 16) }
-    ensures { OrderOf (mapOf p q coefs.now) (row_of list.now base) order.new result }
+    ensures { OrderOf (map_of p q coefs.now) (row_of list.now base) order.new result }
 {
     let size = ones(q, list, base);
     if size == 0 {
@@ -47,7 +47,7 @@ pub fn order_of(
 // How many components of the row from place `base` are 1; 0 where one is above 1.
 fn ones(q: usize, list: &[u32], base: usize) -> usize
     requires { base + q ≤ length list.now }
-    ensures { result ≡ onesOf q (row_of list.now base) }
+    ensures { result ≡ ones_of q (row_of list.now base) }
 {
     let mut n = 0;
     let mut j = 0;
@@ -83,7 +83,7 @@ fn lowest(q: usize, list: &[u32], base: usize) -> usize
 // The lowest of them whose column has its -1 at equation `t`; `q` where there is none.
 fn leaving(p: usize, q: usize, coefs: &[i32], list: &[u32], base: usize, t: usize) -> usize
     requires { Fits p q (length coefs.now) base (length list.now) }
-    ensures { result ≡ graph.leaving (graph_of (mapOf p q coefs.now)) (row_of list.now base) t }
+    ensures { result ≡ graph.leaving (graph_of (map_of p q coefs.now)) (row_of list.now base) t }
 {
     let mut k = 0;
     while k < q {
@@ -103,7 +103,7 @@ fn leaving(p: usize, q: usize, coefs: &[i32], list: &[u32], base: usize, t: usiz
 // The unknown after `j`: its column has its -1 where column `j` has its 1.
 fn next(p: usize, q: usize, coefs: &[i32], list: &[u32], base: usize, j: usize) -> usize
     requires { (j < q) × Fits p q (length coefs.now) base (length list.now) }
-    ensures { result ≡ graph.next (graph_of (mapOf p q coefs.now)) (row_of list.now base) j }
+    ensures { result ≡ graph.next (graph_of (map_of p q coefs.now)) (row_of list.now base) j }
 {
     let t = columns::node(p, q, coefs, j, false);
     leaving(p, q, coefs, list, base, t)

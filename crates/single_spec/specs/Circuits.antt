@@ -1,4 +1,4 @@
--- The minimal circulations of a graph are its circuits: a row is minimal among the circulations exactly if the test `isCircuit` holds of it.
+-- The minimal circulations of a graph are its circuits: a row is minimal among the circulations exactly if the test `is_circuit` holds of it.
 -- Assumes nothing.
 use Rattle.std.specs.Prelude.{◌≡◌, ◌≢◌, ◌&&◌, T, ltb}
 use Rattle.std.proofs.Math.Path.{sym, ap}
@@ -9,35 +9,35 @@ use Rattle.std.proofs.Math.Decide.{ℕ_discrete}
 use native.Mathlib.Omega.{arith}
 use Rattle.std.proofs.Math.Dec.{eqb, eqb→eq, leb, leb→le, le→leb, ltb→lt, not_T}
 use Rattle.linear.specs.Cases.{split}
-use Rattle.linear.specs.TestLaws.{all-at, all_from, and_both, and_parts}
-use Rattle.linear.specs.Tests.{allTo}
-use Rattle.linear.specs.TupleLaws.{least, minimal-from, total-less, total-same}
+use Rattle.linear.specs.TestLaws.{all_at, all_from, and_both, and_parts}
+use Rattle.linear.specs.Tests.{all_to}
+use Rattle.linear.specs.TupleLaws.{least, minimal_from, total_less, total_same}
 use Rattle.linear.specs.Tuples.{AtOrBelow, Minimal, Same}
 use Rattle.single_spec.specs.First.{iterate}
-use Rattle.single_spec.specs.Graph.{Circulation, Graph, goesOn, isCircuit, lowest, flow, named, next, order, size, leaving}
-use Rattle.single_spec.specs.FirstLaws.{eqb-from, first_found, first_of}
-use Rattle.single_spec.specs.GraphLaws.{lowest-below, lowest-inside, lowest-named}
-use Rattle.single_spec.specs.Returns.{Returns, apart, comes_back, returns-from}
-use Rattle.single_spec.specs.Visits.{flow-same, flow-some, flow-term, size-total, total-visits, visits, visits-at, visits-balanced, visits-once}
-use Rattle.single_spec.specs.Visits.{visits-some}
+use Rattle.single_spec.specs.Graph.{Circulation, Graph, goes_on, is_circuit, lowest, flow, named, next, order, size, leaving}
+use Rattle.single_spec.specs.FirstLaws.{eqb_from, first_found, first_of}
+use Rattle.single_spec.specs.GraphLaws.{lowest_below, lowest_inside, lowest_named}
+use Rattle.single_spec.specs.Returns.{Returns, apart, comes_back, returns_from}
+use Rattle.single_spec.specs.Visits.{flow_same, flow_some, flow_term, size_total, total_visits, visits, visits_at, visits_balanced, visits_once}
+use Rattle.single_spec.specs.Visits.{visits_some}
 
 -- ---- the arc that leaves a node
 
 module _ (n : Graph) (x : ℕ → ℕ) where
-  pub leaving-is : (i : ℕ) → leaving n x i < n.arcs → (0 < x (leaving n x i)) × (n.tail (leaving n x i) ≡ i)
+  pub leaving_is : (i : ℕ) → leaving n x i < n.arcs → (0 < x (leaving n x i)) × (n.tail (leaving n x i) ≡ i)
   unfolding leaving
-  leaving-is i l =
+  leaving_is i l =
       let k = leaving n x i in
       let (a, b) = and_parts (named x k) (eqb (n.tail k) i) ((first_of n.arcs (λ k. named x k && eqb (n.tail k) i)).holds l) in
       (ltb→lt 0 (x k) a, eqb→eq (n.tail k) i b)
 
-  pub leaving-found : (i j : ℕ) → j < n.arcs → 0 < x j → n.tail j ≡ i → leaving n x i < n.arcs
+  pub leaving_found : (i j : ℕ) → j < n.arcs → 0 < x j → n.tail j ≡ i → leaving n x i < n.arcs
   unfolding leaving
-  leaving-found i j l s e =
+  leaving_found i j l s e =
       omega (
         arith,
         first_found n.arcs (λ k. named x k && eqb (n.tail k) i) j l
-            (and_both (named x j) (eqb (n.tail j) i) (lt→ltb 0 (x j) s) (eqb-from _ _ e)),
+            (and_both (named x j) (eqb (n.tail j) i) (lt→ltb 0 (x j) s) (eqb_from _ _ e)),
       )
 
 -- ---- the test, part by part
@@ -53,44 +53,44 @@ module _ (n : Graph) (x : ℕ → ℕ) where
   abbrev K : ℕ
   K = size n.arcs x
 
-  going : (k : ℕ) → T (goesOn n x k) → (order n x (suc k) < n.arcs) × (order n x (suc k) ≢ order n x 0)
+  going : (k : ℕ) → T (goes_on n x k) → (order n x (suc k) < n.arcs) × (order n x (suc k) ≢ order n x 0)
   going k t =
       let (a, b) = and_parts (ltb (order n x (suc k)) n.arcs) _ t in
-      (ltb→lt (order n x (suc k)) n.arcs a, λ e. T_not (eqb (order n x (suc k)) (order n x 0)) b (eqb-from (order n x (suc k)) (order n x 0) e))
+      (ltb→lt (order n x (suc k)) n.arcs a, λ e. T_not (eqb (order n x (suc k)) (order n x 0)) b (eqb_from (order n x (suc k)) (order n x 0) e))
 
-  inside-from : 0 < K → T (allTo (K - 1) (goesOn n x)) → (k : ℕ) → k < K → order n x k < n.arcs
+  inside_from : 0 < K → T (all_to (K - 1) (goes_on n x)) → (k : ℕ) → k < K → order n x k < n.arcs
   unfolding iterate
-  inside-from some t zero l = lowest-inside n.arcs x some
-  inside-from some t (suc k) l = (going k (all-at (K - 1) (goesOn n x) t k (omega arith))).0
+  inside_from some t zero l = lowest_inside n.arcs x some
+  inside_from some t (suc k) l = (going k (all_at (K - 1) (goes_on n x) t k (omega arith))).0
 
-  not-before : T (allTo (K - 1) (goesOn n x)) → (k : ℕ) → 0 < k → k < K → order n x k ≢ order n x 0
-  not-before t zero s l = absurd (omega arith)
-  not-before t (suc k) s l = (going k (all-at (K - 1) (goesOn n x) t k (omega arith))).1
+  not_before : T (all_to (K - 1) (goes_on n x)) → (k : ℕ) → 0 < k → k < K → order n x k ≢ order n x 0
+  not_before t zero s l = absurd (omega arith)
+  not_before t (suc k) s l = (going k (all_at (K - 1) (goes_on n x) t k (omega arith))).1
 
-  pub circuit-from : T (isCircuit n x) → Circuit n x
-  unfolding isCircuit iterate
-  circuit-from h =
-      let (a, h₁) = and_parts (allTo n.arcs (λ j. leb (x j) 1)) _ h in
+  pub circuit_from : T (is_circuit n x) → Circuit n x
+  unfolding is_circuit iterate
+  circuit_from h =
+      let (a, h₁) = and_parts (all_to n.arcs (λ j. leb (x j) 1)) _ h in
       let (b, h₂) = and_parts (ltb 0 K) _ h₁ in
-      let (c, d) = and_parts (allTo (K - 1) (goesOn n x)) _ h₂ in
+      let (c, d) = and_parts (all_to (K - 1) (goes_on n x)) _ h₂ in
       let some = ltb→lt 0 K b in
       record {
-        small = λ j l. leb→le (x j) 1 (all-at n.arcs _ a j l);
-        inside = inside-from some c;
-        returns = record { some = some; back = eqb→eq (order n x K) (order n x 0) d; not-before = not-before c };
+        small = λ j l. leb→le (x j) 1 (all_at n.arcs _ a j l);
+        inside = inside_from some c;
+        returns = record { some = some; back = eqb→eq (order n x K) (order n x 0) d; not_before = not_before c };
       }
 
-  pub circuit-to : Circuit n x → T (isCircuit n x)
-  unfolding isCircuit iterate
-  circuit-to r =
-      and_both (allTo n.arcs (λ j. leb (x j) 1)) _ (all_from n.arcs _ (λ j l. le→leb (x j) 1 (r.small j l)))
+  pub circuit_to : Circuit n x → T (is_circuit n x)
+  unfolding is_circuit iterate
+  circuit_to r =
+      and_both (all_to n.arcs (λ j. leb (x j) 1)) _ (all_from n.arcs _ (λ j l. le→leb (x j) 1 (r.small j l)))
       (and_both (ltb 0 K) _ (lt→ltb 0 K r.returns.some)
-      (and_both (allTo (K - 1) (goesOn n x)) _
-      (all_from (K - 1) (goesOn n x)
+      (and_both (all_to (K - 1) (goes_on n x)) _
+      (all_from (K - 1) (goes_on n x)
       (λ k l. and_both (ltb (order n x (suc k)) n.arcs) _ (lt→ltb (order n x (suc k)) n.arcs (r.inside (suc k) (omega arith)))
       (not_T (eqb (order n x (suc k)) (order n x 0))
-      (λ t. r.returns.not-before (suc k) (omega arith) (omega arith) (eqb→eq (order n x (suc k)) (order n x 0) t)))))
-      (eqb-from (order n x K) (order n x 0) r.returns.back)))
+      (λ t. r.returns.not_before (suc k) (omega arith) (omega arith) (eqb→eq (order n x (suc k)) (order n x 0) t)))))
+      (eqb_from (order n x K) (order n x 0) r.returns.back)))
 
 -- ---- a minimal circulation is a circuit
 
@@ -98,21 +98,21 @@ module _ (n : Graph) (x : ℕ → ℕ) where
 module _ (n : Graph) (x : ℕ → ℕ) (balanced : (i : ℕ) → flow n.arcs n.head x i ≡ flow n.arcs n.tail x i) where
   pub follows : (j : ℕ) → j < n.arcs → 0 < x j → (next n x j < n.arcs) × (0 < x (next n x j)) × (n.tail (next n x j) ≡ n.head j)
   follows j l s =
-      let (k, u, e, g) = flow-some n.arcs n.tail x (n.head j) (omega (arith, flow-term n.arcs n.head x j l, balanced (n.head j))) in
-      let v = leaving-found n x (n.head j) k u g e in
-      let (a, b) = leaving-is n x (n.head j) v in
+      let (k, u, e, g) = flow_some n.arcs n.tail x (n.head j) (omega (arith, flow_term n.arcs n.head x j l, balanced (n.head j))) in
+      let v = leaving_found n x (n.head j) k u g e in
+      let (a, b) = leaving_is n x (n.head j) v in
       (v, a, b)
 
-  pub goes_on : (j : ℕ) → j < n.arcs → 0 < x j → (k : ℕ) → (iterate (next n x) j k < n.arcs) × (0 < x (iterate (next n x) j k))
+  pub goes_on_lem : (j : ℕ) → j < n.arcs → 0 < x j → (k : ℕ) → (iterate (next n x) j k < n.arcs) × (0 < x (iterate (next n x) j k))
   unfolding iterate
-  goes_on j l s zero = (l, s)
-  goes_on j l s (suc k) = let (a, b) = goes_on j l s k in let (c, d, e) = follows (iterate (next n x) j k) a b in (c, d)
+  goes_on_lem j l s zero = (l, s)
+  goes_on_lem j l s (suc k) = let (a, b) = goes_on_lem j l s k in let (c, d, e) = follows (iterate (next n x) j k) a b in (c, d)
 
 -- visits in the row, none twice, are at or below it
-visits-below : (q : ℕ) (x w : ℕ → ℕ) (L : ℕ) → ((k : ℕ) → k < L → 0 < x (w k)) → ((a b : ℕ) → a < b → b < L → w a ≢ w b) → AtOrBelow q (visits w L) x
-visits-below q x w L some apart j l =
+visits_below : (q : ℕ) (x w : ℕ → ℕ) (L : ℕ) → ((k : ℕ) → k < L → 0 < x (w k)) → ((a b : ℕ) → a < b → b < L → w a ≢ w b) → AtOrBelow q (visits w L) x
+visits_below q x w L some apart j l =
     elim (split 0 (visits w L j)) [
-      | inl h ↦ let (k, u, e) = visits-some w L j h in omega (arith, visits-once w L apart j, some k u, ap x e)
+      | inl h ↦ let (k, u, e) = visits_some w L j h in omega (arith, visits_once w L apart j, some k u, ap x e)
       | inr h ↦ omega arith
     ]
 
@@ -128,53 +128,53 @@ module _ (n : Graph) (x : ℕ → ℕ) (b : Minimal n.arcs (Circulation n) x) wh
   cut : Cut
   cut =
       let (j, l, s) = b.holds.nonzero in
-      let (a, L, r) = comes_back (next n x) j n.arcs (λ k. (goes_on n x b.holds.balanced j l s k).0) in
-      let (u, v) = goes_on n x b.holds.balanced j l s a in
+      let (a, L, r) = comes_back (next n x) j n.arcs (λ k. (goes_on_lem n x b.holds.balanced j l s k).0) in
+      let (u, v) = goes_on_lem n x b.holds.balanced j l s a in
       record { z = iterate (next n x) j a; L = L; low = u; some = v; returns = r }
 
   module _ (c : Cut) where
     abbrev w : ℕ → ℕ
     w k = iterate (next n x) c.z k
 
-    on-way : (k : ℕ) → (w k < n.arcs) × (0 < x (w k))
-    on-way k = goes_on n x b.holds.balanced c.z c.low c.some k
+    on_way : (k : ℕ) → (w k < n.arcs) × (0 < x (w k))
+    on_way k = goes_on_lem n x b.holds.balanced c.z c.low c.some k
 
-    cut-circulation : Circulation n (visits w c.L)
+    cut_circulation : Circulation n (visits w c.L)
     unfolding iterate
-    cut-circulation =
+    cut_circulation =
         record {
-          balanced = visits-balanced n.arcs n.head n.tail w c.L (λ k l. (on-way k).0)
-              (λ k l. (follows n x b.holds.balanced (w k) (on-way k).0 (on-way k).1).2) c.returns.back;
-          nonzero = (c.z, c.low, visits-at w c.L 0 c.returns.some);
+          balanced = visits_balanced n.arcs n.head n.tail w c.L (λ k l. (on_way k).0)
+              (λ k l. (follows n x b.holds.balanced (w k) (on_way k).0 (on_way k).1).2) c.returns.back;
+          nonzero = (c.z, c.low, visits_at w c.L 0 c.returns.some);
         }
 
-    cut-same : Same n.arcs (visits w c.L) x
-    cut-same = least b (visits w c.L) cut-circulation (visits-below n.arcs x w c.L (λ k l. (on-way k).1) (apart c.returns))
+    cut_same : Same n.arcs (visits w c.L) x
+    cut_same = least b (visits w c.L) cut_circulation (visits_below n.arcs x w c.L (λ k l. (on_way k).1) (apart c.returns))
 
     cut_small : (j : ℕ) → j < n.arcs → x j ≤ 1
-    cut_small j l = omega (arith, cut-same j l, visits-once w c.L (apart c.returns) j)
+    cut_small j l = omega (arith, cut_same j l, visits_once w c.L (apart c.returns) j)
 
-    cut-size : size n.arcs x ≡ c.L
-    cut-size = size-total n.arcs x cut_small ∙ sym (total-same (visits w c.L) x n.arcs cut-same) ∙ total-visits n.arcs w c.L (λ k l. (on-way k).0)
+    cut_size : size n.arcs x ≡ c.L
+    cut_size = size_total n.arcs x cut_small ∙ sym (total_same (visits w c.L) x n.arcs cut_same) ∙ total_visits n.arcs w c.L (λ k l. (on_way k).0)
 
     low : lowest n.arcs x < n.arcs
-    low = omega (arith, lowest-below n.arcs x c.z c.low c.some, c.low)
+    low = omega (arith, lowest_below n.arcs x c.z c.low c.some, c.low)
 
-    cut-returns : Returns (next n x) (lowest n.arcs x) (size n.arcs x)
-    cut-returns =
-        let (k, l, e) = visits-some w c.L (lowest n.arcs x) (omega (arith, cut-same (lowest n.arcs x) low, lowest-named n.arcs x low)) in
-        rw cut-size (rw e at (returns-from c.returns k l))
+    cut_returns : Returns (next n x) (lowest n.arcs x) (size n.arcs x)
+    cut_returns =
+        let (k, l, e) = visits_some w c.L (lowest n.arcs x) (omega (arith, cut_same (lowest n.arcs x) low, lowest_named n.arcs x low)) in
+        rw cut_size (rw e at (returns_from c.returns k l))
 
-    cut-circuit : Circuit n x
-    cut-circuit =
+    cut_circuit : Circuit n x
+    cut_circuit =
         record {
           small = cut_small;
-          inside = λ k l. (goes_on n x b.holds.balanced (lowest n.arcs x) low (lowest-named n.arcs x low) k).0;
-          returns = cut-returns;
+          inside = λ k l. (goes_on_lem n x b.holds.balanced (lowest n.arcs x) low (lowest_named n.arcs x low) k).0;
+          returns = cut_returns;
         }
 
-  pub minimal-circuit : Circuit n x
-  minimal-circuit = cut-circuit cut
+  pub minimal_circuit : Circuit n x
+  minimal_circuit = cut_circuit cut
 
 -- ---- a circuit is a minimal circulation
 
@@ -183,44 +183,44 @@ module _ (n : Graph) (x : ℕ → ℕ) (r : Circuit n x) where
   N = size n.arcs x
 
   -- the arcs on the way are in the row
-  pub order-named : (k : ℕ) → k < N → 0 < x (order n x k)
+  pub order_named : (k : ℕ) → k < N → 0 < x (order n x k)
   unfolding iterate
-  order-named zero l = lowest-named n.arcs x (r.inside 0 l)
-  order-named (suc k) l = (leaving-is n x (n.head (order n x k)) (r.inside (suc k) l)).0
+  order_named zero l = lowest_named n.arcs x (r.inside 0 l)
+  order_named (suc k) l = (leaving_is n x (n.head (order n x k)) (r.inside (suc k) l)).0
 
   -- "back to the first"
-  pub order-back : order n x N ≡ order n x 0
+  pub order_back : order n x N ≡ order n x 0
   unfolding iterate
-  order-back = r.returns.back
+  order_back = r.returns.back
 
-  next-inside : (k : ℕ) → k < N → order n x (suc k) < n.arcs
-  next-inside k l =
+  next_inside : (k : ℕ) → k < N → order n x (suc k) < n.arcs
+  next_inside k l =
       elim (split (suc k) N) [
         | inl u ↦ r.inside (suc k) u
-        | inr u ↦ let e : suc k ≡ N = omega arith in omega (arith, ap (order n x) e, order-back, r.inside 0 r.returns.some)
+        | inr u ↦ let e : suc k ≡ N = omega arith in omega (arith, ap (order n x) e, order_back, r.inside 0 r.returns.some)
       ]
 
   -- "each puts its document (its 1) where the next takes one (its −1)"
-  pub order-linked : (k : ℕ) → k < N → n.tail (order n x (suc k)) ≡ n.head (order n x k)
+  pub order_linked : (k : ℕ) → k < N → n.tail (order n x (suc k)) ≡ n.head (order n x k)
   unfolding iterate
-  order-linked k l = (leaving-is n x (n.head (order n x k)) (next-inside k l)).1
+  order_linked k l = (leaving_is n x (n.head (order n x k)) (next_inside k l)).1
 
   -- no arc twice
-  pub order-apart : (a b : ℕ) → a < b → b < N → order n x a ≢ order n x b
-  order-apart = apart r.returns
+  pub order_apart : (a b : ℕ) → a < b → b < N → order n x a ≢ order n x b
+  order_apart = apart r.returns
 
   -- "passing no tray twice"
-  pub nodes-apart : (a b : ℕ) → a < b → b < N → n.head (order n x a) ≢ n.head (order n x b)
+  pub nodes_apart : (a b : ℕ) → a < b → b < N → n.head (order n x a) ≢ n.head (order n x b)
   unfolding iterate
-  nodes-apart a b l u e =
+  nodes_apart a b l u e =
       elim (split (suc b) N) [
-        | inl h ↦ order-apart (suc a) (suc b) (omega arith) h (ap (leaving n x) e)
-        | inr h ↦ let g : suc b ≡ N = omega arith in r.returns.not-before (suc a) (omega arith) (omega arith) (ap (leaving n x) e ∙ ap (order n x) g
-            ∙ order-back)
+        | inl h ↦ order_apart (suc a) (suc b) (omega arith) h (ap (leaving n x) e)
+        | inr h ↦ let g : suc b ≡ N = omega arith in r.returns.not_before (suc a) (omega arith) (omega arith) (ap (leaving n x) e ∙ ap (order n x) g
+            ∙ order_back)
       ]
 
-  all-below : AtOrBelow n.arcs (visits (order n x) N) x
-  all-below = visits-below n.arcs x (order n x) N order-named order-apart
+  all_below : AtOrBelow n.arcs (visits (order n x) N) x
+  all_below = visits_below n.arcs x (order n x) N order_named order_apart
 
   all_same : Same n.arcs (visits (order n x) N) x
   all_same j l =
@@ -228,34 +228,34 @@ module _ (n : Graph) (x : ℕ → ℕ) (r : Circuit n x) where
         | yes e ↦ e
         | no ne ↦ absurd (omega (
           arith,
-          total-less n.arcs all-below j l ne,
-          total-visits n.arcs (order n x) N r.inside,
-          size-total n.arcs x
+          total_less n.arcs all_below j l ne,
+          total_visits n.arcs (order n x) N r.inside,
+          size_total n.arcs x
               r.small,
         ))
       ]
 
   -- every arc of the row is on the way
-  pub order-all : (j : ℕ) → j < n.arcs → 0 < x j → (k : ℕ) × (k < N) × (order n x k ≡ j)
-  order-all j l s = visits-some (order n x) N j (omega (arith, all_same j l))
+  pub order_all : (j : ℕ) → j < n.arcs → 0 < x j → (k : ℕ) × (k < N) × (order n x k ≡ j)
+  order_all j l s = visits_some (order n x) N j (omega (arith, all_same j l))
 
-  pub circuit-circulation : Circulation n x
-  circuit-circulation =
+  pub circuit_circulation : Circulation n x
+  circuit_circulation =
       record {
-        balanced = λ i. sym (flow-same n.arcs n.head all_same i) ∙ visits-balanced n.arcs n.head n.tail (order n x) N
-            r.inside order-linked order-back i ∙ flow-same n.arcs n.tail all_same i;
-        nonzero = (order n x 0, r.inside 0 r.returns.some, order-named 0 r.returns.some);
+        balanced = λ i. sym (flow_same n.arcs n.head all_same i) ∙ visits_balanced n.arcs n.head n.tail (order n x) N
+            r.inside order_linked order_back i ∙ flow_same n.arcs n.tail all_same i;
+        nonzero = (order n x 0, r.inside 0 r.returns.some, order_named 0 r.returns.some);
       }
 
   -- each arc on the way is the one of the row that leaves its tail
   only_next : (k : ℕ) → k < N → order n x (suc k) ≡ leaving n x (n.tail (order n x (suc k)))
   unfolding iterate
-  only_next k l = ap (leaving n x) (sym (order-linked k l))
+  only_next k l = ap (leaving n x) (sym (order_linked k l))
 
   pub only : (k : ℕ) → k < N → order n x k ≡ leaving n x (n.tail (order n x k))
   only zero l =
       let g : suc (N - 1) ≡ N = omega arith in
-      let h : order n x (suc (N - 1)) ≡ order n x 0 = ap (order n x) g ∙ order-back in
+      let h : order n x (suc (N - 1)) ≡ order n x 0 = ap (order n x) g ∙ order_back in
       rw h at (only_next (N - 1) (omega arith))
   only (suc k) l = only_next k (omega arith)
 
@@ -268,9 +268,9 @@ module _ (n : Graph) (x : ℕ → ℕ) (r : Circuit n x) where
   module _ (t : ℕ → ℕ) (c : Circulation n t) (below : AtOrBelow n.arcs t x) where
     onward : (k : ℕ) → k < N → 0 < t (order n x k) → 0 < t (order n x (suc k))
     onward k l s =
-        let (j, u, e, g) = flow-some n.arcs n.tail t (n.head (order n x k))
-        (omega (arith, flow-term n.arcs n.head t (order n x k) (r.inside k l), c.balanced (n.head (order n x k)))) in
-        let (b, v, h) = order-all j u (omega (arith, below j u)) in
+        let (j, u, e, g) = flow_some n.arcs n.tail t (n.head (order n x k))
+        (omega (arith, flow_term n.arcs n.head t (order n x k) (r.inside k l), c.balanced (n.head (order n x k)))) in
+        let (b, v, h) = order_all j u (omega (arith, below j u)) in
         omega (arith, ap t (only_one k b j v h e))
 
     far : (k d : ℕ) → k + d ≤ N → 0 < t (order n x k) → 0 < t (order n x (k + d))
@@ -281,18 +281,18 @@ module _ (n : Graph) (x : ℕ → ℕ) (r : Circuit n x) where
     everywhere : (m : ℕ) → m < N → 0 < t (order n x m)
     everywhere m l =
         let (j, u, s) = c.nonzero in
-        let (k, v, e) = order-all j u (omega (arith, below j u)) in
+        let (k, v, e) = order_all j u (omega (arith, below j u)) in
         let g : k + (N - k) ≡ N = omega arith in
-        let first : 0 < t (order n x 0) = rw (g, order-back) at (far k (N - k) (omega arith) (rw e s)) in
+        let first : 0 < t (order n x 0) = rw (g, order_back) at (far k (N - k) (omega arith) (rw e s)) in
         let z : 0 + m ≡ m = omega arith in
         rw z at (far 0 m (omega arith) first)
 
-    circuit-least : Same n.arcs t x
-    circuit-least j l =
+    circuit_least : Same n.arcs t x
+    circuit_least j l =
         elim (split 0 (x j)) [
-          | inl s ↦ let (k, u, e) = order-all j l s in omega (arith, everywhere k u, ap t e, below j l, r.small j l)
+          | inl s ↦ let (k, u, e) = order_all j l s in omega (arith, everywhere k u, ap t e, below j l, r.small j l)
           | inr s ↦ omega (arith, below j l)
         ]
 
-  pub circuit-minimal : Minimal n.arcs (Circulation n) x
-  circuit-minimal = minimal-from circuit-circulation circuit-least
+  pub circuit_minimal : Minimal n.arcs (Circulation n) x
+  circuit_minimal = minimal_from circuit_circulation circuit_least

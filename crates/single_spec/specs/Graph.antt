@@ -2,9 +2,9 @@
 -- test that they are one circuit. All compute. In the trade a node is a tray, and an arc an activity that takes a document at its tail and puts it at
 -- its head. Assumes nothing.
 use Rattle.std.specs.Prelude.{ℕ, suc, ◌-◌, Bool, true, false, not, ◌&&◌, ◌≡◌, leb, ltb, eqb}
-use Rattle.linear.specs.Tests.{allTo, count_to}
+use Rattle.linear.specs.Tests.{all_to, count_to}
 use Rattle.linear.specs.Tuples.{Nonzero, total}
-use Rattle.single_spec.specs.First.{findTo, iterate}
+use Rattle.single_spec.specs.First.{find_to, iterate}
 
 pub record Graph : Type 0 where
   pub arcs : ℕ
@@ -21,11 +21,11 @@ size q x = count_to q (named x)
 
 -- the lowest of them
 unfoldable pub lowest : ℕ → (ℕ → ℕ) → ℕ
-lowest q x = findTo q (named x)
+lowest q x = find_to q (named x)
 
 -- the lowest of them with its tail at node i; the number of arcs where there is none
 unfoldable pub leaving : Graph → (ℕ → ℕ) → ℕ → ℕ
-leaving n x i = findTo n.arcs (λ k. named x k && eqb (n.tail k) i)
+leaving n x i = find_to n.arcs (λ k. named x k && eqb (n.tail k) i)
 
 -- the arc after j: the one of the row with its tail at the head of j
 abbrev pub next : Graph → (ℕ → ℕ) → ℕ → ℕ
@@ -36,15 +36,15 @@ abbrev pub order : Graph → (ℕ → ℕ) → ℕ → ℕ
 order n x k = iterate (next n x) (lowest n.arcs x) k
 
 -- after arc k of the order there is a next one, and it is not the lowest again
-abbrev pub goesOn : Graph → (ℕ → ℕ) → ℕ → Bool
-goesOn n x k = ltb (order n x (suc k)) n.arcs && not (eqb (order n x (suc k)) (order n x 0))
+abbrev pub goes_on : Graph → (ℕ → ℕ) → ℕ → Bool
+goes_on n x k = ltb (order n x (suc k)) n.arcs && not (eqb (order n x (suc k)) (order n x 0))
 
 -- The row is a circuit: it holds 0 and 1 only, and some 1; from the lowest arc on there is a next one, not the lowest, until as many are met as the
 -- row names, and then comes the lowest.
-unfoldable pub isCircuit : Graph → (ℕ → ℕ) → Bool
-isCircuit n x =
-    allTo n.arcs (λ j. leb (x j) 1)
-    && (ltb 0 (size n.arcs x) && (allTo (size n.arcs x - 1) (goesOn n x) && eqb (order n x (size n.arcs x)) (order n x 0)))
+unfoldable pub is_circuit : Graph → (ℕ → ℕ) → Bool
+is_circuit n x =
+    all_to n.arcs (λ j. leb (x j) 1)
+    && (ltb 0 (size n.arcs x) && (all_to (size n.arcs x - 1) (goes_on n x) && eqb (order n x (size n.arcs x)) (order n x 0)))
 
 -- ---- what is balanced
 

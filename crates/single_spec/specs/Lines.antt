@@ -10,23 +10,23 @@ use Rattle.linear.specs.Cases.{below_suc}
 use Rattle.linear.specs.TestLaws.{T-dec}
 use Rattle.linear.specs.Tests.{count_to, number}
 use Rattle.definitions.specs.Answers.{complete, go}
-use Rattle.definitions.specs.Input.{Input, alone, mapOf}
+use Rattle.definitions.specs.Input.{Input, alone, map_of}
 use Rattle.definitions.specs.System.{MinimalSolution, System, column}
 use Rattle.definitions.specs.Tables.{State, at}
 use Rattle.laws.specs.RefusalLaws.{at_most}
-use Rattle.theorems.specs.Maps.{Map, byItself}
-use Rattle.theorems.specs.Proved.{second-demand}
+use Rattle.theorems.specs.Maps.{Map, by_itself}
+use Rattle.theorems.specs.Proved.{second_demand}
 use Rattle.theorems.specs.Held.{Whole}
 use Rattle.theorems.specs.Listed.{Exactly}
-use Rattle.theorems.specs.Run.{run-handed}
+use Rattle.theorems.specs.Run.{run_handed}
 use Rattle.texts.specs.Decimals.{decimal, newline, space}
-use Rattle.single_spec.specs.Calls.{singleResume}
+use Rattle.single_spec.specs.Calls.{single_resume}
 use Rattle.single_spec.specs.Graph.{named, size}
-use Rattle.single_spec.specs.Listing.{linesTo, listedBy, listing, listingCall, listingChecks, loopLine, numberIf, orderTo, orderWord, risingTo, written}
-use Rattle.single_spec.specs.Profile.{SingleFile, circuitOrder, isCircuitOf}
-use Rattle.single_spec.specs.ProfileLaws.{profile-decides}
-use Rattle.single_spec.specs.Promises.{Ordered, single-file-solutions}
-use Rattle.single_spec.specs.Runs.{SingleRun, listing-refuses, single-calls}
+use Rattle.single_spec.specs.Listing.{lines_to, listed_by, listing, listing_call, listing_checks, loop_line, number_if, order_to, order_word, rising_to, written}
+use Rattle.single_spec.specs.Profile.{SingleFile, circuit_order, is_circuit_of}
+use Rattle.single_spec.specs.ProfileLaws.{profile_decides}
+use Rattle.single_spec.specs.Promises.{Ordered, single_file_solutions}
+use Rattle.single_spec.specs.Runs.{SingleRun, listing_refuses, single_calls}
 
 -- ---- the statements
 
@@ -48,7 +48,7 @@ pub record Line (m : System) (x : ℕ → ℕ) (line : List ℕ) : Type 0 where
   pub rising : Rising m.q x number name
   pub order : ℕ → ℕ
   pub ordered : Ordered m x number order
-  pub is : line ≡ spelled number name ++ (orderWord ++ (orderTo number order ++ (newline ∷ [])))
+  pub is : line ≡ spelled number name ++ (order_word ++ (order_to number order ++ (newline ∷ [])))
 
 -- the first n of these texts, one after the other
 unfoldable pub joined : ℕ → (ℕ → List ℕ) → List ℕ
@@ -59,17 +59,17 @@ joined (suc n) line = joined n line ++ line n
 -- the rows and after them what stood there, and every row is a minimal solution
 pub record Lists (i : Input) (list : List ℕ) (found : ℕ) (out : List ℕ) : Type 0 where
   pub line : ℕ → List ℕ
-  pub lines : (k : ℕ) → k < found → MinimalSolution (mapOf i) (at list i.q k) × Line (mapOf i) (at list i.q k) (line k)
+  pub lines : (k : ℕ) → k < found → MinimalSolution (map_of i) (at list i.q k) × Line (map_of i) (at list i.q k) (line k)
   pub fits : length (joined found line) ≤ length out
-  pub answers : (listingCall i list found out).answer ≡ written (length (joined found line))
-  pub writes : (listingCall i list found out).out ≡ joined found line ++ drop (length (joined found line)) out
+  pub answers : (listing_call i list found out).answer ≡ written (length (joined found line))
+  pub writes : (listing_call i list found out).out ≡ joined found line ++ drop (length (joined found line)) out
 
 -- a finished run lists every loop: what its last call left holds each minimal solution once and no other, the listing is refused for no reason but too short
 -- a space (29), and where it is not, each has its line
 pub record FinishedLists (i : Input) (list : List ℕ) (found : ℕ) : Type 0 where
-  pub whole : Exactly i.q (MinimalSolution (mapOf i)) list found
-  pub goes : (out : List ℕ) → length (listing (mapOf i) list found) ≤ length out → listingChecks i list found out ≡ go
-  pub lists : (out : List ℕ) → listingChecks i list found out ≡ go → Lists i list found out
+  pub whole : Exactly i.q (MinimalSolution (map_of i)) list found
+  pub goes : (out : List ℕ) → length (listing (map_of i) list found) ≤ length out → listing_checks i list found out ≡ go
+  pub lists : (out : List ℕ) → listing_checks i list found out ≡ go → Lists i list found out
 
 -- ---- the unknowns named, rising
 
@@ -79,18 +79,18 @@ spelled_same zero f g e = refl
 spelled_same (suc n) f g e = ap₂ (λ t k. t ++ (decimal (suc k) ++ (space ∷ []))) (spelled_same n f g (λ k l. e k (omega arith))) (e n (omega arith))
 
 -- one name more
-abbrev pickName : Bool → ℕ → ℕ → ℕ
-pickName true a b = a
-pickName false a b = b
+abbrev pick_name : Bool → ℕ → ℕ → ℕ
+pick_name true a b = a
+pick_name false a b = b
 
 abbrev further : ℕ → (ℕ → ℕ) → ℕ → ℕ → ℕ
-further K name n k = pickName (ltb k K) (name k) n
+further K name n k = pick_name (ltb k K) (name k) n
 
-further-old : (K : ℕ) (name : ℕ → ℕ) (n k : ℕ) → k < K → further K name n k ≡ name k
-further-old K name n k l = rw (lt-ltb k K l)
+further_old : (K : ℕ) (name : ℕ → ℕ) (n k : ℕ) → k < K → further K name n k ≡ name k
+further_old K name n k l = rw (lt-ltb k K l)
 
-further-new : (K : ℕ) (name : ℕ → ℕ) (n : ℕ) → further K name n K ≡ n
-further-new K name n = rw (le-ltb K K (omega arith))
+further_new : (K : ℕ) (name : ℕ → ℕ) (n : ℕ) → further K name n K ≡ n
+further_new K name n = rw (le-ltb K K (omega arith))
 
 record Spelt (n : ℕ) (x : ℕ → ℕ) (K : ℕ) (text : List ℕ) : Type 0 where
   name : ℕ → ℕ
@@ -98,38 +98,38 @@ record Spelt (n : ℕ) (x : ℕ → ℕ) (K : ℕ) (text : List ℕ) : Type 0 wh
   is : text ≡ spelled K name
 
 module _ (n : ℕ) (x : ℕ → ℕ) {K : ℕ} {text : List ℕ} (s : Spelt n x K text) where
-  spelt-named : 0 < x n → Spelt (suc n) x (suc K) (text ++ (decimal (suc n) ++ (space ∷ [])))
+  spelt_named : 0 < x n → Spelt (suc n) x (suc K) (text ++ (decimal (suc n) ++ (space ∷ [])))
   unfolding spelled
-  spelt-named some =
+  spelt_named some =
       let f : ℕ → ℕ = further K s.name n in
       record {
         name = f;
         rising =
             record {
               inside = λ k l. elim (below_suc l) [
-                | inl h ↦ rw (further-old K s.name n k h) (let (a, b) = s.rising.inside k h in (omega arith, b))
-                | inr h ↦ rw (h, further-new K s.name n) (omega arith, some)
+                | inl h ↦ rw (further_old K s.name n k h) (let (a, b) = s.rising.inside k h in (omega arith, b))
+                | inr h ↦ rw (h, further_new K s.name n) (omega arith, some)
               ];
               all = λ j l h. elim (below_suc l) [
-                | inl a ↦ let (k, lk, q) = s.rising.all j a h in (k, omega arith, further-old K s.name n k lk ∙ q)
-                | inr a ↦ (K, omega arith, further-new K s.name n ∙ sym a)
+                | inl a ↦ let (k, lk, q) = s.rising.all j a h in (k, omega arith, further_old K s.name n k lk ∙ q)
+                | inr a ↦ (K, omega arith, further_new K s.name n ∙ sym a)
               ];
               rises = λ a b ab l. elim (below_suc l) [
                 | inl h ↦
                     let low : a < K = omega arith in
-                    rw (further-old K s.name n a low, further-old K s.name n b h) (s.rising.rises a b ab h)
+                    rw (further_old K s.name n a low, further_old K s.name n b h) (s.rising.rises a b ab h)
                 | inr h ↦
                     let low : a < K = omega arith in
-                    rw (h, further-old K s.name n a low, further-new K s.name n) (s.rising.inside a low).0
+                    rw (h, further_old K s.name n a low, further_new K s.name n) (s.rising.inside a low).0
               ];
             };
         is =
-            ap (λ t. t ++ (decimal (suc n) ++ (space ∷ []))) (s.is ∙ spelled_same K s.name f (λ k l. sym (further-old K s.name n k l)))
-            ∙ ap (λ k. spelled K f ++ (decimal (suc k) ++ (space ∷ []))) (sym (further-new K s.name n));
+            ap (λ t. t ++ (decimal (suc n) ++ (space ∷ []))) (s.is ∙ spelled_same K s.name f (λ k l. sym (further_old K s.name n k l)))
+            ∙ ap (λ k. spelled K f ++ (decimal (suc k) ++ (space ∷ []))) (sym (further_new K s.name n));
       }
 
-  spelt-other : ¬ (0 < x n) → Spelt (suc n) x K (text ++ [])
-  spelt-other none =
+  spelt_other : ¬ (0 < x n) → Spelt (suc n) x K (text ++ [])
+  spelt_other none =
       record {
         name = s.name;
         rising =
@@ -141,86 +141,86 @@ module _ (n : ℕ) (x : ℕ → ℕ) {K : ℕ} {text : List ℕ} (s : Spelt n x 
         is = append-nil text ∙ s.is;
       }
 
-  spelt-next : (b : Bool) → named x n ≡ b → Spelt (suc n) x (K + number b) (text ++ numberIf b n)
-  spelt-next true e = let one : K + 1 ≡ suc K = omega arith in rw one (spelt-named (ltb→lt 0 (x n) (rw e tt)))
-  spelt-next false e =
+  spelt_next : (b : Bool) → named x n ≡ b → Spelt (suc n) x (K + number b) (text ++ number_if b n)
+  spelt_next true e = let one : K + 1 ≡ suc K = omega arith in rw one (spelt_named (ltb→lt 0 (x n) (rw e tt)))
+  spelt_next false e =
       let same : K + 0 ≡ K = omega arith in
-      rw same (spelt-other (λ h. let t : T (named x n) = lt→ltb 0 (x n) h in rw e at t))
+      rw same (spelt_other (λ h. let t : T (named x n) = lt→ltb 0 (x n) h in rw e at t))
 
-spelt : (n : ℕ) (x : ℕ → ℕ) → Spelt n x (count_to n (named x)) (risingTo n x)
-unfolding risingTo spelled count_to
+spelt : (n : ℕ) (x : ℕ → ℕ) → Spelt n x (count_to n (named x)) (rising_to n x)
+unfolding rising_to spelled count_to
 spelt zero x =
     record {
       name = λ k. 0;
       rising = record { inside = λ k l. absurd (omega arith); all = λ j l h. absurd (omega arith); rises = λ a b ab l. absurd (omega arith) };
       is = refl;
     }
-spelt (suc n) x = spelt-next n x (spelt n x) (named x n) refl
+spelt (suc n) x = spelt_next n x (spelt n x) (named x n) refl
 
 -- ---- the lines
 
-line_of : (m : System) (x : ℕ → ℕ) → Ordered m x (size m.q x) (circuitOrder m x) → Line m x (loopLine m x)
-unfolding size loopLine
+line_of : (m : System) (x : ℕ → ℕ) → Ordered m x (size m.q x) (circuit_order m x) → Line m x (loop_line m x)
+unfolding size loop_line
 line_of m x o =
     let s = spelt m.q x in
     record {
       number = count_to m.q (named x);
       name = s.name;
       rising = s.rising;
-      order = circuitOrder m x;
+      order = circuit_order m x;
       ordered = o;
-      is = ap (λ t. t ++ (orderWord ++ (orderTo (count_to m.q (named x)) (circuitOrder m x) ++ (newline ∷ [])))) s.is;
+      is = ap (λ t. t ++ (order_word ++ (order_to (count_to m.q (named x)) (circuit_order m x) ++ (newline ∷ [])))) s.is;
     }
 
-lines-joined : (n : ℕ) (m : System) (row : ℕ → ℕ → ℕ) → linesTo n m row ≡ joined n (λ k. loopLine m (row k))
-unfolding linesTo joined
-lines-joined zero m row = refl
-lines-joined (suc n) m row = ap (λ t. t ++ loopLine m (row n)) (lines-joined n m row)
+lines_joined : (n : ℕ) (m : System) (row : ℕ → ℕ → ℕ) → lines_to n m row ≡ joined n (λ k. loop_line m (row k))
+unfolding lines_to joined
+lines_joined zero m row = refl
+lines_joined (suc n) m row = ap (λ t. t ++ loop_line m (row n)) (lines_joined n m row)
 
-module _ (i : Input) (list : List ℕ) (found : ℕ) (out : List ℕ) (e : listingChecks i list found out ≡ go) where
-  text-is : listing (mapOf i) list found ≡ joined found (λ k. loopLine (mapOf i) (at list i.q k))
+module _ (i : Input) (list : List ℕ) (found : ℕ) (out : List ℕ) (e : listing_checks i list found out ≡ go) where
+  text_is : listing (map_of i) list found ≡ joined found (λ k. loop_line (map_of i) (at list i.q k))
   unfolding listing
-  text-is = lines-joined found (mapOf i) (at list i.q)
+  text_is = lines_joined found (map_of i) (at list i.q)
 
-  went : listingCall i list found out
+  went : listing_call i list found out
       ≡ record {
-        answer = written (length (listing (mapOf i) list found));
-        out = listing (mapOf i) list found ++ drop (length (listing (mapOf i) list found)) out;
+        answer = written (length (listing (map_of i) list found));
+        out = listing (map_of i) list found ++ drop (length (listing (map_of i) list found)) out;
       }
-  unfolding listingCall listedBy
+  unfolding listing_call listed_by
   went = rw e
 
-  pub listing-lists : Lists i list found out
-  listing-lists =
-      let (a, (b, (c, (d, (f, (g, (h, (r, u)))))))) = (listing-refuses i list found out).refuses.goes e in
-      let profile : SingleFile (mapOf i) = λ j l. profile-decides i.p (column (mapOf i) j) (g j l) in
-      let l = single-file-solutions (mapOf i) profile in
-      let minimal : (k : ℕ) → k < found → MinimalSolution (mapOf i) (at list i.q k) = λ k lk.
-      elim (T-dec (isCircuitOf (mapOf i) (at list i.q k))) [ inl y ↦ (l.test _).0 y | inr n ↦ absurd (h k lk (λ y. n ((l.test _).1 y))) ] in
+  pub listing_lists : Lists i list found out
+  listing_lists =
+      let (a, (b, (c, (d, (f, (g, (h, (r, u)))))))) = (listing_refuses i list found out).refuses.goes e in
+      let profile : SingleFile (map_of i) = λ j l. profile_decides i.p (column (map_of i) j) (g j l) in
+      let l = single_file_solutions (map_of i) profile in
+      let minimal : (k : ℕ) → k < found → MinimalSolution (map_of i) (at list i.q k) = λ k lk.
+      elim (T-dec (is_circuit_of (map_of i) (at list i.q k))) [ inl y ↦ (l.test _).0 y | inr n ↦ absurd (h k lk (λ y. n ((l.test _).1 y))) ] in
       record {
-        line = λ k. loopLine (mapOf i) (at list i.q k);
-        lines = λ k lk. (minimal k lk, line_of (mapOf i) (at list i.q k) (l.ordered _ (minimal k lk)));
-        fits = rw (← text-is) (at_most _ _ r);
-        answers = ap (λ o. o.answer) went ∙ ap (λ t. written (length t)) text-is;
-        writes = ap (λ o. o.out) went ∙ ap (λ t. t ++ drop (length t) out) text-is;
+        line = λ k. loop_line (map_of i) (at list i.q k);
+        lines = λ k lk. (minimal k lk, line_of (map_of i) (at list i.q k) (l.ordered _ (minimal k lk)));
+        fits = rw (← text_is) (at_most _ _ r);
+        answers = ap (λ o. o.answer) went ∙ ap (λ t. written (length t)) text_is;
+        writes = ap (λ o. o.out) went ∙ ap (λ t. t ++ drop (length t) out) text_is;
       }
 
 -- ---- a finished run
 
-pub finished-lists : (m : Map) (s : State) → SingleRun m s → (budget : ℕ) → let o = singleResume budget (byItself m) s in
-    o.answer ≡ complete → FinishedLists (byItself m) o.state.list o.state.run.found
-finished-lists m s r budget e =
-    let i : Input = byItself m in
-    let is = (single-calls i).resume-same r.profile budget s in
-    let t : State = (singleResume budget i s).state in
-    let whole : Exactly i.q (MinimalSolution (mapOf i)) t.list t.run.found =
+pub finished_lists : (m : Map) (s : State) → SingleRun m s → (budget : ℕ) → let o = single_resume budget (by_itself m) s in
+    o.answer ≡ complete → FinishedLists (by_itself m) o.state.list o.state.run.found
+finished_lists m s r budget e =
+    let i : Input = by_itself m in
+    let is = (single_calls i).resume_same r.profile budget s in
+    let t : State = (single_resume budget i s).state in
+    let whole : Exactly i.q (MinimalSolution (map_of i)) t.list t.run.found =
     subst (λ o. Whole alone i o.state) (sym is)
-    ((second-demand.lists i s r.run).finished budget (ap (λ o. o.answer) (sym is) ∙ e)) in
-    let h = run-handed i r.run in
+    ((second_demand.lists i s r.run).finished budget (ap (λ o. o.answer) (sym is) ∙ e)) in
+    let h = run_handed i r.run in
     record {
       whole = whole;
       goes = λ out room.
-          (listing-refuses i t.list t.run.found out).refuses.silent (
+          (listing_refuses i t.list t.run.found out).refuses.silent (
             h.equations,
             (
               h.unknowns,
@@ -236,5 +236,5 @@ finished-lists m s r budget e =
               ),
             ),
           );
-      lists = λ out. listing-lists i t.list t.run.found out;
+      lists = λ out. listing_lists i t.list t.run.found out;
     }

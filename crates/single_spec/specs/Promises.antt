@@ -5,20 +5,20 @@ use Rattle.std.specs.Prelude.{◌≡◌, refl, ◌≢◌, ◌↔◌, ◌⊎◌, 
 use Rattle.std.proofs.Common.{sym, ◌∙◌, ap, inl, inr, arith, T_not}
 use Rattle.std.proofs.Math.Dec.{not_T}
 use Rattle.linear.specs.Cases.{split}
-use Rattle.linear.specs.TupleLaws.{total-same}
+use Rattle.linear.specs.TupleLaws.{total_same}
 use Rattle.linear.specs.Tuples.{Same}
 use Rattle.definitions.specs.Answers.{go}
 use Rattle.definitions.specs.System.{MinimalSolution, System, coef, column}
-use Rattle.laws.specs.CheckLaws.{Decides, decides-first, placed}
+use Rattle.laws.specs.CheckLaws.{Decides, decides_first, placed}
 use Rattle.single_spec.specs.First.{iterate}
 use Rattle.single_spec.specs.Graph.{size}
-use Rattle.single_spec.specs.GraphLaws.{lowest-below}
-use Rattle.single_spec.specs.Profile.{Idle, InProfile, SingleFile, check26, check30, inProfile, isCircuitOf, circuitOrder, graph, head_of}
-use Rattle.single_spec.specs.ProfileLaws.{IdleAt, ArcAt, circulation-minimal, column-kinds, minimal-circulation, profile-from, profile-to, head-only}
-use Rattle.single_spec.specs.ProfileLaws.{tail-only}
-use Rattle.single_spec.specs.Circuits.{Circuit, minimal-circuit, only_one, order-all, order-apart, order-back, order-linked, order-named}
-use Rattle.single_spec.specs.Circuits.{circuit-from, circuit-minimal, circuit-to, nodes-apart}
-use Rattle.single_spec.specs.Visits.{size-total, total-visits, visits, visits-at, visits-once, visits-some}
+use Rattle.single_spec.specs.GraphLaws.{lowest_below}
+use Rattle.single_spec.specs.Profile.{Idle, InProfile, SingleFile, check26, check30, in_profile, is_circuit_of, circuit_order, graph, head_of}
+use Rattle.single_spec.specs.ProfileLaws.{IdleAt, ArcAt, circulation_minimal, column_kinds, minimal_circulation, profile_from, profile_to, head_only}
+use Rattle.single_spec.specs.ProfileLaws.{tail_only}
+use Rattle.single_spec.specs.Circuits.{Circuit, minimal_circuit, only_one, order_all, order_apart, order_back, order_linked, order_named}
+use Rattle.single_spec.specs.Circuits.{circuit_from, circuit_minimal, circuit_to, nodes_apart}
+use Rattle.single_spec.specs.Visits.{size_total, total_visits, visits, visits_at, visits_once, visits_some}
 
 -- ---- the order of a minimal solution
 
@@ -29,7 +29,7 @@ pub record ClosedWalk (m : System) (K : ℕ) (o : ℕ → ℕ) : Type 0 where
   pub head : (k : ℕ) → k < K → coef m (node k) (o k) ≡ pos 1
   pub tail : (k : ℕ) → k < K → coef m (node k) (o (suc k)) ≡ negsuc 0
   pub back : o K ≡ o 0
-  pub no-node-twice : (a b : ℕ) → a < b → b < K → node a ≢ node b
+  pub no_node_twice : (a b : ℕ) → a < b → b < K → node a ≢ node b
 
 -- "a single column of zeros"
 pub record ZeroColumn (m : System) (K : ℕ) (o : ℕ → ℕ) : Type 0 where
@@ -51,153 +51,153 @@ pub record Ordered (m : System) (x : ℕ → ℕ) (K : ℕ) (o : ℕ → ℕ) : 
 
 pub record SolutionsOf (m : System) : Type 0 where
   -- "every component of a minimal loop is 0 or 1 there"
-  pub zero-or-one : (x : ℕ → ℕ) → MinimalSolution m x → (j : ℕ) → j < m.q → x j ≤ 1
-  -- the order that `circuitOrder` computes is an order of the minimal solution
-  pub ordered : (x : ℕ → ℕ) → MinimalSolution m x → Ordered m x (size m.q x) (circuitOrder m x)
+  pub zero_or_one : (x : ℕ → ℕ) → MinimalSolution m x → (j : ℕ) → j < m.q → x j ≤ 1
+  -- the order that `circuit_order` computes is an order of the minimal solution
+  pub ordered : (x : ℕ → ℕ) → MinimalSolution m x → Ordered m x (size m.q x) (circuit_order m x)
   -- and the only one
-  pub no_other : (x : ℕ → ℕ) → MinimalSolution m x → (K : ℕ) (o : ℕ → ℕ) → Ordered m x K o → (K ≡ size m.q x) × ((k : ℕ) → k < K → o k ≡ circuitOrder m x k)
-  -- the test `isCircuitOf` holds of the minimal solutions and of no other row
-  pub test : (x : ℕ → ℕ) → T (isCircuitOf m x) ↔ MinimalSolution m x
+  pub no_other : (x : ℕ → ℕ) → MinimalSolution m x → (K : ℕ) (o : ℕ → ℕ) → Ordered m x K o → (K ≡ size m.q x) × ((k : ℕ) → k < K → o k ≡ circuit_order m x k)
+  -- the test `is_circuit_of` holds of the minimal solutions and of no other row
+  pub test : (x : ℕ → ℕ) → T (is_circuit_of m x) ↔ MinimalSolution m x
   -- "30, a row that is no minimal loop, with the first such row"
-  pub refuses-30 : (found : ℕ) (row : ℕ → ℕ → ℕ) → Decides (check30 m found row) (placed 30 found (λ i. ¬ (MinimalSolution m (row i))))
+  pub refuses_30 : (found : ℕ) (row : ℕ → ℕ → ℕ) → Decides (check30 m found row) (placed 30 found (λ i. ¬ (MinimalSolution m (row i))))
 
 -- "26, a column outside the profile, with the first such column"
-pub refuses-26 : (m : System) → Decides (check26 m) (placed 26 m.q (λ j. ¬ (InProfile m.p (column m j))))
+pub refuses_26 : (m : System) → Decides (check26 m) (placed 26 m.q (λ j. ¬ (InProfile m.p (column m j))))
 unfolding check26
-refuses-26 m =
-    decides-first 26 m.q _ _ (λ j l t h. T_not (inProfile m.p (column m j)) t (profile-to m.p (column m j) h))
-    (λ j l none. not_T (inProfile m.p (column m j)) (λ t. none (profile-from m.p (column m j) t)))
+refuses_26 m =
+    decides_first 26 m.q _ _ (λ j l t h. T_not (in_profile m.p (column m j)) t (profile_to m.p (column m j) h))
+    (λ j l none. not_T (in_profile m.p (column m j)) (λ t. none (profile_from m.p (column m j) t)))
 
 -- ---- why
 
 module _ (m : System) (profile : SingleFile m) (x : ℕ → ℕ) where
-  test-minimal : T (isCircuitOf m x) → MinimalSolution m x
-  test-minimal t = circulation-minimal m profile (circuit-minimal (graph m) x (circuit-from (graph m) x t))
+  test_minimal : T (is_circuit_of m x) → MinimalSolution m x
+  test_minimal t = circulation_minimal m profile (circuit_minimal (graph m) x (circuit_from (graph m) x t))
 
-  solution-circuit : MinimalSolution m x → Circuit (graph m) x
-  solution-circuit b = minimal-circuit (graph m) x (minimal-circulation m profile b)
+  solution_circuit : MinimalSolution m x → Circuit (graph m) x
+  solution_circuit b = minimal_circuit (graph m) x (minimal_circulation m profile b)
 
   module _ (r : Circuit (graph m) x) where
     abbrev K : ℕ
     K = size m.q x
 
     abbrev o : ℕ → ℕ
-    o k = circuitOrder m x k
+    o k = circuit_order m x k
 
     -- a column of zeros on the way is followed by itself, so it is alone
-    idle-alone : (k : ℕ) → k < K → IdleAt m (o k) → K ≡ 1
-    idle-alone k l h =
+    idle_alone : (k : ℕ) → k < K → IdleAt m (o k) → K ≡ 1
+    idle_alone k l h =
         let e : o (suc k) ≡ o k = stays in
         elim (split (suc k) K) [
-          | inl u ↦ absurd (order-apart (graph m) x r k (suc k) (omega arith) u (sym e))
+          | inl u ↦ absurd (order_apart (graph m) x r k (suc k) (omega arith) u (sym e))
           | inr u ↦ last e u k refl
         ]
       where
         stays : o (suc k) ≡ o k
-        stays = sym (only_one (graph m) x r k k (o k) l refl (h.tail_none ∙ sym h.head-none))
+        stays = sym (only_one (graph m) x r k k (o k) l refl (h.tail_none ∙ sym h.head_none))
 
         last : o (suc k) ≡ o k → K ≤ suc k → (i : ℕ) → k ≡ i → K ≡ 1
         last e u zero g = omega arith
         last e u (suc i) g =
             let f : suc k ≡ K = omega arith in
-            absurd (order-apart (graph m) x r 0 k (omega arith) l (sym (order-back (graph m) x r) ∙ ap o (sym f) ∙ e))
+            absurd (order_apart (graph m) x r 0 k (omega arith) l (sym (order_back (graph m) x r) ∙ ap o (sym f) ∙ e))
 
     -- where the first column is an arc each is
-    all-arcs : ArcAt m (o 0) → (k : ℕ) → k < K → ArcAt m (o k)
-    all-arcs h k l =
-        elim (column-kinds m profile (o k) (r.inside k l)) [
+    all_arcs : ArcAt m (o 0) → (k : ℕ) → k < K → ArcAt m (o k)
+    all_arcs h k l =
+        elim (column_kinds m profile (o k) (r.inside k l)) [
           | inl g ↦ g
           | inr g ↦
-              let one = idle-alone k l g in
+              let one = idle_alone k l g in
               let e : k ≡ 0 = omega arith in
               rw e h
         ]
 
-    next-arc : ArcAt m (o 0) → (k : ℕ) → k < K → ArcAt m (o (suc k))
-    next-arc h k l =
+    next_arc : ArcAt m (o 0) → (k : ℕ) → k < K → ArcAt m (o (suc k))
+    next_arc h k l =
         elim (split (suc k) K) [
-          | inl u ↦ all-arcs h (suc k) u
-          | inr u ↦ let e : suc k ≡ K = omega arith in let g : o (suc k) ≡ o 0 = ap o e ∙ order-back (graph m) x r in rw g h
+          | inl u ↦ all_arcs h (suc k) u
+          | inr u ↦ let e : suc k ≡ K = omega arith in let g : o (suc k) ≡ o 0 = ap o e ∙ order_back (graph m) x r in rw g h
         ]
 
-    circuit-way : ZeroColumn m K o ⊎ ClosedWalk m K o
-    circuit-way =
-        elim (column-kinds m profile (o 0) (r.inside 0 r.returns.some)) [
+    circuit_way : ZeroColumn m K o ⊎ ClosedWalk m K o
+    circuit_way =
+        elim (column_kinds m profile (o 0) (r.inside 0 r.returns.some)) [
           | inl h ↦ inr (record {
             node = λ k. head_of m (o k);
-            inside = λ k l. (all-arcs h k l).head-node;
-            head = λ k l. (all-arcs h k l).one;
-            tail = λ k l. rw (← order-linked (graph m) x r k l) (next-arc h k l).minus_one;
-            back = order-back (graph m) x r;
-            no-node-twice = nodes-apart (graph m) x r;
+            inside = λ k l. (all_arcs h k l).head_node;
+            head = λ k l. (all_arcs h k l).one;
+            tail = λ k l. rw (← order_linked (graph m) x r k l) (next_arc h k l).minus_one;
+            back = order_back (graph m) x r;
+            no_node_twice = nodes_apart (graph m) x r;
           })
-          | inr h ↦ inl (record { alone = idle-alone 0 r.returns.some h; zeros = h.zeros })
+          | inr h ↦ inl (record { alone = idle_alone 0 r.returns.some h; zeros = h.zeros })
         ]
 
-    circuit-ordered : Ordered m x K o
-    circuit-ordered =
+    circuit_ordered : Ordered m x K o
+    circuit_ordered =
         record {
-          named = λ k l. (r.inside k l, order-named (graph m) x r k l);
-          all = order-all (graph m) x r;
-          once = order-apart (graph m) x r;
+          named = λ k l. (r.inside k l, order_named (graph m) x r k l);
+          all = order_all (graph m) x r;
+          once = order_apart (graph m) x r;
           some = r.returns.some;
-          begins = λ j l s. unfold iterate in (lowest-below m.q x j l s);
-          way = circuit-way;
+          begins = λ j l s. unfold iterate in (lowest_below m.q x j l s);
+          way = circuit_way;
         }
 
     -- an order visits each unknown of the minimal solution once
     module _ (K' : ℕ) (o' : ℕ → ℕ) (d : Ordered m x K' o') where
-      other-visits : Same m.q (visits o' K') x
-      other-visits j l =
-          let most = visits-once o' K' d.once j in
+      other_visits : Same m.q (visits o' K') x
+      other_visits j l =
+          let most = visits_once o' K' d.once j in
           elim (split 0 (x j)) [
-            | inl s ↦ let (k, u, e) = d.all j l s in omega (arith, visits-at o' K' k u, ap (visits o' K') e, r.small j l)
+            | inl s ↦ let (k, u, e) = d.all j l s in omega (arith, visits_at o' K' k u, ap (visits o' K') e, r.small j l)
             | inr s ↦ elim (split 0 (visits o' K' j)) [
-              | inl v ↦ let (k, u, e) = visits-some o' K' j v in absurd (omega (arith, (d.named k u).1, ap x e))
+              | inl v ↦ let (k, u, e) = visits_some o' K' j v in absurd (omega (arith, (d.named k u).1, ap x e))
               | inr v ↦ omega arith
             ]
           ]
 
-      other-size : K' ≡ K
-      other-size =
-          sym (total-visits m.q o' K' (λ k l. (d.named k l).0)) ∙ total-same (visits o' K') x m.q other-visits ∙ sym (size-total m.q x r.small)
+      other_size : K' ≡ K
+      other_size =
+          sym (total_visits m.q o' K' (λ k l. (d.named k l).0)) ∙ total_same (visits o' K') x m.q other_visits ∙ sym (size_total m.q x r.small)
 
-      other-first : o' 0 ≡ o 0
-      other-first =
+      other_first : o' 0 ≡ o 0
+      other_first =
           let (a, b) = d.named 0 d.some in
-          omega (arith, d.begins (o 0) (r.inside 0 r.returns.some) (order-named (graph m) x r 0 r.returns.some), circuit-ordered.begins (o' 0) a b)
+          omega (arith, d.begins (o 0) (r.inside 0 r.returns.some) (order_named (graph m) x r 0 r.returns.some), circuit_ordered.begins (o' 0) a b)
 
       -- the next has its tail at the head of this one, and only one unknown of the minimal solution has
-      other-next : (k : ℕ) → suc k < K' → o' k ≡ o k → o' (suc k) ≡ o (suc k)
-      other-next k l e =
+      other_next : (k : ℕ) → suc k < K' → o' k ≡ o k → o' (suc k) ≡ o (suc k)
+      other_next k l e =
           elim d.way [
             | inl z ↦ absurd (omega (arith, z.alone))
             | inr w ↦
                 let here = d.named k (omega arith) in
                 let there = d.named (suc k) l in
-                let (b, u, g) = order-all (graph m) x r (o' (suc k)) there.0 there.1 in
-                let head = head-only m profile (w.node k) (o' k) (w.inside k (omega arith)) here.0 (w.head k (omega arith)) in
-                let tail = tail-only m profile (w.node k) (o' (suc k)) (w.inside k (omega arith)) there.0 (w.tail k (omega arith)) in
+                let (b, u, g) = order_all (graph m) x r (o' (suc k)) there.0 there.1 in
+                let head = head_only m profile (w.node k) (o' k) (w.inside k (omega arith)) here.0 (w.head k (omega arith)) in
+                let tail = tail_only m profile (w.node k) (o' (suc k)) (w.inside k (omega arith)) there.0 (w.tail k (omega arith)) in
                 only_one (graph m) x r k b (o' (suc k)) u g (tail ∙ sym head ∙ ap (head_of m) e)
           ]
 
-      other-same : (k : ℕ) → k < K' → o' k ≡ o k
-      other-same zero l = other-first
-      other-same (suc k) l = other-next k l (other-same k (omega arith))
+      other_same : (k : ℕ) → k < K' → o' k ≡ o k
+      other_same zero l = other_first
+      other_same (suc k) l = other_next k l (other_same k (omega arith))
 
-pub single-file-solutions : (m : System) → SingleFile m → SolutionsOf m
+pub single_file_solutions : (m : System) → SingleFile m → SolutionsOf m
 unfolding check30
-single-file-solutions m profile =
+single_file_solutions m profile =
     record {
-      zero-or-one = λ x b. (solution-circuit m profile x b).small;
-      ordered = λ x b. circuit-ordered m profile x (solution-circuit m profile x b);
-      no_other = λ x b K o d. (other-size m profile x (solution-circuit m profile x b) K o d, other-same m profile x (solution-circuit m profile x b) K o d);
-      test = λ x. (test-minimal m profile x, λ b. circuit-to (graph m) x (solution-circuit m profile x b));
-      refuses-30 = λ found row.
-          decides-first 30 found _ _ (λ i l t b. T_not (isCircuitOf m (row i)) t (circuit-to (graph m) (row i) (solution-circuit m profile (row i) b)))
-          (λ i l none. not_T (isCircuitOf m (row i)) (λ t. none (test-minimal m profile (row i) t)));
+      zero_or_one = λ x b. (solution_circuit m profile x b).small;
+      ordered = λ x b. circuit_ordered m profile x (solution_circuit m profile x b);
+      no_other = λ x b K o d. (other_size m profile x (solution_circuit m profile x b) K o d, other_same m profile x (solution_circuit m profile x b) K o d);
+      test = λ x. (test_minimal m profile x, λ b. circuit_to (graph m) x (solution_circuit m profile x b));
+      refuses_30 = λ found row.
+          decides_first 30 found _ _ (λ i l t b. T_not (is_circuit_of m (row i)) t (circuit_to (graph m) (row i) (solution_circuit m profile (row i) b)))
+          (λ i l none. not_T (is_circuit_of m (row i)) (λ t. none (test_minimal m profile (row i) t)));
     }
 
 -- the list of a run on such a map, which holds minimal solutions only, is never refused with 30
-pub listed-goes : (m : System) → SingleFile m → (found : ℕ) (row : ℕ → ℕ → ℕ) → ((i : ℕ) → i < found → MinimalSolution m (row i)) → check30 m found row ≡ go
-listed-goes m profile found row each = ((single-file-solutions m profile).refuses-30 found row).silent (λ i l none. none (each i l))
+pub listed_goes : (m : System) → SingleFile m → (found : ℕ) (row : ℕ → ℕ → ℕ) → ((i : ℕ) → i < found → MinimalSolution m (row i)) → check30 m found row ≡ go
+listed_goes m profile found row each = ((single_file_solutions m profile).refuses_30 found row).silent (λ i l none. none (each i l))

@@ -1,8 +1,8 @@
 // The starts: plain, from a lower bound, and of a capped run. Each takes the run record by value and returns what it leaves.
 ghost use Rattle.std.specs.Prelude.{◌≡◌, ℕ};
-ghost use Rattle.definitions.specs.Calls.{start, startFrom};
-ghost use Rattle.definitions.specs.Input.{alone, inputWith, rights as sides};
-ghost use Rattle.calls.specs.Paper.{state_of, stateWith, outcomeOf, outcomeWith};
+ghost use Rattle.definitions.specs.Calls.{start, start_from};
+ghost use Rattle.definitions.specs.Input.{alone, input_with, rights as sides};
+ghost use Rattle.calls.specs.Paper.{state_of, state_with, outcome_of, outcome_with};
 
 use calls::{Check, Outcome, Record, RunKind};
 
@@ -18,8 +18,8 @@ pub fn started(
     r: Record,
 ) -> Outcome
     ensures { (limit : ℕ)
-        → outcomeOf result stack.new list.new
-        ≡ start (inputWith alone limit p q coefs.now) (state_of stack.old list.old r) }
+        → outcome_of result stack.new list.new
+        ≡ start (input_with alone limit p q coefs.now) (state_of stack.old list.old r) }
 {
     match checks::check_start(p, q, coefs, stack, list, r) {
         Check::Refuse(why) => calls::refused(why, r),
@@ -42,9 +42,9 @@ pub fn started_from(
     r: Record,
     limit: u32,
 ) -> Outcome
-    ensures { outcomeWith result stack.new list.new second.new
-        ≡ startFrom lower.now (inputWith alone limit p q coefs.now)
-        (stateWith stack.old list.old second.old r) }
+    ensures { outcome_with result stack.new list.new second.new
+        ≡ start_from lower.now (input_with alone limit p q coefs.now)
+        (state_with stack.old list.old second.old r) }
 {
     match checks::check_start_from(p, q, coefs, lower, stack, list, second, r, limit) {
         Check::Refuse(why) => calls::refused(why, r),
@@ -67,9 +67,9 @@ pub fn started_capped(
     r: Record,
 ) -> Outcome
     ensures { (limit : ℕ)
-        → outcomeWith result stack.new list.new second.new
-        ≡ start (inputWith (sides rights.now) limit p q coefs.now)
-        (stateWith stack.old list.old second.old r) }
+        → outcome_with result stack.new list.new second.new
+        ≡ start (input_with (sides rights.now) limit p q coefs.now)
+        (state_with stack.old list.old second.old r) }
 {
     match checks::check_start_capped(p, q, coefs, rights, stack, list, second, r) {
         Check::Refuse(why) => calls::refused(why, r),

@@ -6,32 +6,32 @@ use Rattle.std.proofs.Common.{◌∙◌}
 use Rattle.std.proofs.Math.Numerals.{add-one}
 use Rattle.std.proofs.Math.Dec.{eqb-suc-suc}
 use Rattle.std.specs.Int.Signed.{lt_z}
-use Rattle.linear.specs.Tests.{anyTo, count_to}
+use Rattle.linear.specs.Tests.{any_to, count_to}
 use Rattle.linear.specs.TestLaws.{any_same, count_same}
 use Rattle.linear.specs.Tuples.{Same, raise}
-use Rattle.linear.specs.TupleLaws.{unit-same}
+use Rattle.linear.specs.TupleLaws.{unit_same}
 use Rattle.definitions.specs.System.{Kind, System, towards}
 use Rattle.definitions.specs.Tables.{State, frozen}
-use Rattle.definitions.specs.Step.{childrenTo, level, makes, top, topMarks, writeChildren}
-use Rattle.definitions.specs.Refusals.{tooLarge}
-use Rattle.laws.specs.StepLaws.{firstOpen, makes-parts, secondOpen}
-use Rattle.calls.specs.Paper.{systemWith}
-use Rattle.candidates.specs.Grow.{childFor}
-use Rattle.candidates.specs.GrowLaws.{child-same}
-use Rattle.step.specs.GrowLaws.{grow-same}
+use Rattle.definitions.specs.Step.{children_to, level, makes, top, top_marks, write_children}
+use Rattle.definitions.specs.Refusals.{too_large}
+use Rattle.laws.specs.StepLaws.{first_open, makes_parts, second_open}
+use Rattle.calls.specs.Paper.{system_with}
+use Rattle.candidates.specs.Grow.{child_for}
+use Rattle.candidates.specs.GrowLaws.{child_same}
+use Rattle.step.specs.GrowLaws.{grow_same}
 
 module _ (k : Kind) (p q : ℕ) (coefs : List ℤ) (limit : ℕ) (s : State) where
   abbrev m : System
-  m = systemWith k p q coefs limit
+  m = system_with k p q coefs limit
 
   -- candidates are those unknowns that are not frozen and have an inner product below zero; t is the top's tuple
-  pub child-makes : (t : ℕ → ℕ) (candidates j : ℕ) → 0 < q → Same q t (top m s)
-      → frozen candidates j ≡ lt_z (towards m (top m s) j) (pos 0) && not (frozen (topMarks m s) j) → childFor k q s t candidates j ≡ makes m s j
-  unfolding childFor
-  child-makes t candidates j some e c =
-      child-same k q s candidates j some e
-      ∙ ap (λ b. (b && secondOpen k q s (raise (top m s) j)) && firstOpen k q s (raise (top m s) j)) c
-      ∙ sym (makes-parts m s j)
+  pub child_makes : (t : ℕ → ℕ) (candidates j : ℕ) → 0 < q → Same q t (top m s)
+      → frozen candidates j ≡ lt_z (towards m (top m s) j) (pos 0) && not (frozen (top_marks m s) j) → child_for k q s t candidates j ≡ makes m s j
+  unfolding child_for
+  child_makes t candidates j some e c =
+      child_same k q s candidates j some e
+      ∙ ap (λ b. (b && second_open k q s (raise (top m s) j)) && first_open k q s (raise (top m s) j)) c
+      ∙ sym (makes_parts m s j)
 
   -- f says which unknowns make a child
   module _ {f : ℕ → Bool} (h : (j : ℕ) → j < m.q → f j ≡ makes m s j) where
@@ -41,9 +41,9 @@ module _ (k : Kind) (p q : ℕ) (coefs : List ℤ) (limit : ℕ) (s : State) whe
   -- t is the top's tuple
   module _ {t : ℕ → ℕ} (e : Same m.q t (top m s)) where
     module _ {f : ℕ → Bool} (h : (j : ℕ) → j < m.q → f j ≡ makes m s j) where
-      pub grown-by : writeChildren m.q m.q s.stack (level s) t (topMarks m s) f ≡ childrenTo m.q m s
-      grown-by = grow-same m.q m.q s.stack (level s) (topMarks m s) e h
+      pub grown_by : write_children m.q m.q s.stack (level s) t (top_marks m s) f ≡ children_to m.q m s
+      grown_by = grow_same m.q m.q s.stack (level s) (top_marks m s) e h
 
-      pub too-large-by : anyTo q (λ j. f j && eqb (t j) limit) ≡ tooLarge m s
-      unfolding tooLarge
-      too-large-by = any_same m.q _ _ (λ j l. rw (unit-same, add-one (top m s j), add-one limit, e j l, h j l, eqb-suc-suc (top m s j) limit))
+      pub too_large_by : any_to q (λ j. f j && eqb (t j) limit) ≡ too_large m s
+      unfolding too_large
+      too_large_by = any_same m.q _ _ (λ j l. rw (unit_same, add-one (top m s j), add-one limit, e j l, h j l, eqb-suc-suc (top m s j) limit))

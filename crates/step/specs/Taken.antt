@@ -4,13 +4,13 @@ use Rattle.std.specs.Prelude.{◌≡◌, ◌≢◌, true, false, List, ℕ, ◌+
 use Rattle.std.proofs.Math.Path.{refl}
 use Rattle.std.proofs.Common.{ne_eqb}
 use Rattle.linear.specs.Tests.{count_to}
-use Rattle.definitions.specs.Answers.{Check, refuse, go, refuseWith, ◌then◌}
-use Rattle.definitions.specs.System.{Kind, System, mostComponent, mostUnknowns, solves}
-use Rattle.definitions.specs.Tables.{RunKind, State, capacity, stepped, writeTo}
-use Rattle.definitions.specs.Step.{childrenTo, deeper, fullFor, fullIn, grown, level, listed, makes, row_of, rowWidth, step, toSecond, top, width}
-use Rattle.definitions.specs.Refusals.{searchChecks, stepLimit, tooLarge}
+use Rattle.definitions.specs.Answers.{Check, refuse, go, refuse_with, ◌then◌}
+use Rattle.definitions.specs.System.{Kind, System, most_component, most_unknowns, solves}
+use Rattle.definitions.specs.Tables.{RunKind, State, capacity, stepped, write_to}
+use Rattle.definitions.specs.Step.{children_to, deeper, full_for, full_in, grown, level, listed, makes, row_of, row_width, step, to_second, top, width}
+use Rattle.definitions.specs.Refusals.{search_checks, step_limit, too_large}
 use Rattle.laws.specs.RefusalLaws.{RowInOrder, SecondFits}
-use Rattle.calls.specs.Paper.{systemWith, number_of, values_of}
+use Rattle.calls.specs.Paper.{system_with, number_of, values_of}
 use Rattle.calls.specs.declared.Refusal.TheVariants.{ListFull, ComponentLimit}
 use Rattle.step.specs.declared.Stepped.{Stepped}
 use Rattle.step.specs.declared.Stepped.TheVariants.{Listed, ListedSecond, Grown, Refused}
@@ -21,82 +21,82 @@ use Rattle.products.specs.Products.{Gram, SmallGram, Combined}
 -- what a step is taken from: rows in order on a stack that is not empty, lists that have their rows, and the products and sums of the rows
 pub record Standing (k : Kind) (limit q : ℕ) (g : List ℤ) (s : State) (c : List ℤ) (sums : List ℕ) : Type 0 where
   pub some : 0 < q
-  pub wide : 0 < rowWidth k q
-  pub few : q ≤ mostUnknowns
+  pub wide : 0 < row_width k q
+  pub few : q ≤ most_unknowns
   pub high : 0 < s.run.height
   pub low : s.run.height ≤ q
   pub long : q * (q + 1) ≤ length s.stack
   pub rows : (l : ℕ) → l < s.run.height → RowInOrder k limit q s.stack l
-  pub bounded : limit ≤ mostComponent
-  pub listed : s.run.found ≤ capacity (rowWidth k q) s.list
+  pub bounded : limit ≤ most_component
+  pub listed : s.run.found ≤ capacity (row_width k q) s.list
   pub listed₂ : SecondFits k q s
   pub gram : SmallGram q g
   pub cached : Combined q g s.stack s.run.height c
   pub summed : Totals q s.stack s.run.height sums
 
 -- what the code found, as a check, and the state that it makes with the tables that it leaves
-abbrev pub checkBy : Stepped → Check
-checkBy Listed = go
-checkBy ListedSecond = go
-checkBy (Grown h) = go
-checkBy (Refused why) = refuse (number_of why) (values_of why)
+abbrev pub check_by : Stepped → Check
+check_by Listed = go
+check_by ListedSecond = go
+check_by (Grown h) = go
+check_by (Refused why) = refuse (number_of why) (values_of why)
 
-abbrev pub heightBy : Stepped → State → ℕ
-heightBy Listed s = level s
-heightBy ListedSecond s = level s
-heightBy (Grown h) s = h
-heightBy (Refused why) s = s.run.height
+abbrev pub height_by : Stepped → State → ℕ
+height_by Listed s = level s
+height_by ListedSecond s = level s
+height_by (Grown h) s = h
+height_by (Refused why) s = s.run.height
 
 -- a state with these tables, whose counts have moved
 abbrev pub moved : System → State → List ℕ → List ℕ → List ℕ → ℕ → ℕ → ℕ → State
 moved m s stack list second height found found2 =
     record { stack = stack; list = list; second = second; run = stepped s.run height found found2 (deeper m.q s (top m s)) }
 
-abbrev pub stateBy : Stepped → System → State → List ℕ → List ℕ → List ℕ → State
-stateBy Listed m s stack list second = moved m s stack list second (level s) (s.run.found + 1) s.run.found2
-stateBy ListedSecond m s stack list second = moved m s stack list second (level s) s.run.found (s.run.found2 + 1)
-stateBy (Grown h) m s stack list second = moved m s stack list second h s.run.found s.run.found2
-stateBy (Refused why) m s stack list second = record { stack = stack; list = list; second = second; run = s.run }
+abbrev pub state_by : Stepped → System → State → List ℕ → List ℕ → List ℕ → State
+state_by Listed m s stack list second = moved m s stack list second (level s) (s.run.found + 1) s.run.found2
+state_by ListedSecond m s stack list second = moved m s stack list second (level s) s.run.found (s.run.found2 + 1)
+state_by (Grown h) m s stack list second = moved m s stack list second h s.run.found s.run.found2
+state_by (Refused why) m s stack list second = record { stack = stack; list = list; second = second; run = s.run }
 
-abbrev pub stepBy : Check → System → State → State
-stepBy (refuse n values) m s = s
-stepBy go m s = step m s
+abbrev pub step_by : Check → System → State → State
+step_by (refuse n values) m s = s
+step_by go m s = step m s
 
 -- the code's step from s is document 01's
 pub record Steps (m : System) (s : State) (r : Stepped) (stack list second : List ℕ) : Type 0 where
-  pub checks : searchChecks m s ≡ checkBy r
-  pub leaves : stateBy r m s stack list second ≡ stepBy (checkBy r) m s
+  pub checks : search_checks m s ≡ check_by r
+  pub leaves : state_by r m s stack list second ≡ step_by (check_by r) m s
 
 -- whatever the rest of the record is
 pub record Taken (k : Kind) (limit q : ℕ) (g : List ℤ) (s : State) (r : Stepped) (stack list second : List ℕ) (c : List ℤ) (sums : List ℕ) : Type 0 where
-  pub cached : Combined q g stack (heightBy r s) c
-  pub summed : Totals q stack (heightBy r s) sums
-  pub steps : (p : ℕ) (coefs : List ℤ) → Gram p q coefs g → (run : RunKind) (n n₂ d : ℕ) → n ≢ stepLimit
-      → Steps (systemWith k p q coefs limit) (beside s run n n₂ d) r stack list second
+  pub cached : Combined q g stack (height_by r s) c
+  pub summed : Totals q stack (height_by r s) sums
+  pub steps : (p : ℕ) (coefs : List ℤ) → Gram p q coefs g → (run : RunKind) (n n₂ d : ℕ) → n ≢ step_limit
+      → Steps (system_with k p q coefs limit) (beside s run n n₂ d) r stack list second
 
 -- ---- the ways out
 
-module _ (m : System) (s : State) (early : s.run.steps ≢ stepLimit) where
+module _ (m : System) (s : State) (early : s.run.steps ≢ step_limit) where
   -- 14 is not given
-  pub step-full : solves m (top m s) ≡ true → fullFor m.kind m.q s (top m s) ≡ true → Steps m s (Refused ListFull) s.stack s.list s.second
-  unfolding searchChecks refuseWith ◌then◌
-  step-full y f = record { checks = rw (ne_eqb s.run.steps stepLimit early, y, f); leaves = refl }
+  pub step_full : solves m (top m s) ≡ true → full_for m.kind m.q s (top m s) ≡ true → Steps m s (Refused ListFull) s.stack s.list s.second
+  unfolding search_checks refuse_with ◌then◌
+  step_full y f = record { checks = rw (ne_eqb s.run.steps step_limit early, y, f); leaves = refl }
 
-  pub step-listed : {list : List ℕ} → solves m (top m s) ≡ true → toSecond m.kind (top m s) ≡ false → fullIn false (width m) s ≡ false
-      → list ≡ writeTo (width m) s.list (s.run.found * width m) (row_of m.kind (top m s)) → Steps m s Listed s.stack list s.second
-  unfolding searchChecks refuseWith ◌then◌ step listed
-  step-listed y b f e = record { checks = rw (ne_eqb s.run.steps stepLimit early, y, b, f); leaves = rw (y, b, e) }
+  pub step_listed : {list : List ℕ} → solves m (top m s) ≡ true → to_second m.kind (top m s) ≡ false → full_in false (width m) s ≡ false
+      → list ≡ write_to (width m) s.list (s.run.found * width m) (row_of m.kind (top m s)) → Steps m s Listed s.stack list s.second
+  unfolding search_checks refuse_with ◌then◌ step listed
+  step_listed y b f e = record { checks = rw (ne_eqb s.run.steps step_limit early, y, b, f); leaves = rw (y, b, e) }
 
-  pub step-listed₂ : {second : List ℕ} → solves m (top m s) ≡ true → toSecond m.kind (top m s) ≡ true → fullIn true (width m) s ≡ false
-      → second ≡ writeTo (width m) s.second (s.run.found2 * width m) (row_of m.kind (top m s)) → Steps m s ListedSecond s.stack s.list second
-  unfolding searchChecks refuseWith ◌then◌ step listed
-  step-listed₂ y b f e = record { checks = rw (ne_eqb s.run.steps stepLimit early, y, b, f); leaves = rw (y, b, e) }
+  pub step_listed₂ : {second : List ℕ} → solves m (top m s) ≡ true → to_second m.kind (top m s) ≡ true → full_in true (width m) s ≡ false
+      → second ≡ write_to (width m) s.second (s.run.found2 * width m) (row_of m.kind (top m s)) → Steps m s ListedSecond s.stack s.list second
+  unfolding search_checks refuse_with ◌then◌ step listed
+  step_listed₂ y b f e = record { checks = rw (ne_eqb s.run.steps step_limit early, y, b, f); leaves = rw (y, b, e) }
 
-  pub step-large : solves m (top m s) ≡ false → tooLarge m s ≡ true → Steps m s (Refused ComponentLimit) s.stack s.list s.second
-  unfolding searchChecks refuseWith ◌then◌
-  step-large n l = record { checks = rw (ne_eqb s.run.steps stepLimit early, n, l); leaves = refl }
+  pub step_large : solves m (top m s) ≡ false → too_large m s ≡ true → Steps m s (Refused ComponentLimit) s.stack s.list s.second
+  unfolding search_checks refuse_with ◌then◌
+  step_large n l = record { checks = rw (ne_eqb s.run.steps step_limit early, n, l); leaves = refl }
 
-  pub step-grown : {stack : List ℕ} {height : ℕ} → solves m (top m s) ≡ false → tooLarge m s ≡ false → stack ≡ childrenTo m.q m s
+  pub step_grown : {stack : List ℕ} {height : ℕ} → solves m (top m s) ≡ false → too_large m s ≡ false → stack ≡ children_to m.q m s
       → height ≡ level s + count_to m.q (makes m s) → Steps m s (Grown height) stack s.list s.second
-  unfolding searchChecks refuseWith ◌then◌ step grown
-  step-grown n l e f = record { checks = rw (ne_eqb s.run.steps stepLimit early, n, l); leaves = rw (n, e, f) }
+  unfolding search_checks refuse_with ◌then◌ step grown
+  step_grown n l e f = record { checks = rw (ne_eqb s.run.steps step_limit early, n, l); leaves = rw (n, e, f) }

@@ -3,7 +3,7 @@ ghost use Rattle.std.specs.Prelude.{◌≡◌, ◌+◌, ◌^◌, ◌≤◌, ◌<
 ghost use Rattle.std.specs.Int.Count.{count_trailing_zeros};
 ghost use Rattle.linear.specs.Tests.{count_to};
 ghost use Rattle.definitions.specs.Tables.{at, frozen};
-ghost use Rattle.definitions.specs.Step.{writeChildren};
+ghost use Rattle.definitions.specs.Step.{write_children};
 ghost use Rattle.products.specs.Products.{Combined};
 ghost use Rattle.products.specs.Totals.{Totals};
 ghost use Rattle.step.specs.Pushed.{Parent, Others};
@@ -26,7 +26,7 @@ pub fn push(
     requires parent { Parent q gram.now stack.old inner.old sums.old level (at stack.old (q + 1) level) marks × (q ≤ length top.old) }
     requires made_bound { (level + count_to q (frozen made) ≤ q) × (made < 2 ^ q) }
     ensures value { result ≡ level + count_to q (frozen made) }
-    ensures stack_after { stack.new ≡ writeChildren q q stack.old level (at stack.old (q + 1) level) marks (frozen made) }
+    ensures stack_after { stack.new ≡ write_children q q stack.old level (at stack.old (q + 1) level) marks (frozen made) }
     ensures combined { Combined q gram.now stack.new result inner.new }
     ensures totals { Totals q stack.new result sums.new }
 {

@@ -1,8 +1,8 @@
 // One step of a walk, the count of steps aside. Which unknowns make a child is found before anything is written.
 ghost use Rattle.std.specs.Prelude.{List, [], ℕ, ◌+◌, ◌≤◌, ◌<◌, length};
-ghost use Rattle.definitions.specs.Step.{rowWidth};
+ghost use Rattle.definitions.specs.Step.{row_width};
 ghost use Rattle.table_rows.specs.Rows.{part, tuple};
-ghost use Rattle.candidates.specs.Kinds.{Bounds, asked, kindBy};
+ghost use Rattle.candidates.specs.Kinds.{Bounds, asked, kind_by};
 ghost use Rattle.step.specs.Enlisting.{Appended, Enlisted};
 ghost use Rattle.step.specs.Taken.{Standing, Taken};
 
@@ -38,9 +38,9 @@ pub fn take(
     other: usize,
     limit: u32,
 ) -> Stepped
-    requires standing { Standing (kindBy kind lower.now) limit q gram.now (asked stack.old list.old second.old height found other) inner.old sums.old }
+    requires standing { Standing (kind_by kind lower.now) limit q gram.now (asked stack.old list.old second.old height found other) inner.old sums.old }
     requires bounds { Bounds kind q lower.now × (q ≤ length top.old) }
-    ensures { Taken (kindBy kind lower.now) limit q gram.now
+    ensures { Taken (kind_by kind lower.now) limit q gram.now
         (asked stack.old list.old second.old height found other) result stack.new list.new second.new
         inner.new sums.new }
 {
@@ -85,9 +85,9 @@ fn enlist(
     q: usize,
     t: &[u32],
 ) -> Stepped
-    requires { (0 < rowWidth (kindBy kind []) q) × (q ≤ length t.now) }
+    requires { (0 < row_width (kind_by kind []) q) × (q ≤ length t.now) }
     ensures { (lower : List ℕ)
-        → Enlisted (kindBy kind lower) q (asked [] list.old second.old 0 found other) (tuple t.now) list.new
+        → Enlisted (kind_by kind lower) q (asked [] list.old second.old 0 found other) (tuple t.now) list.new
         second.new result }
 {
     match kind {

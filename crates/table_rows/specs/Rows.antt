@@ -2,7 +2,7 @@
 use Rattle.std.specs.Prelude.{◌≡◌, List, ℕ, ◌+◌, ◌*◌, ◌-◌, ◌/◌, ◌≤◌, ◌<◌, length, get_or, set, take, drop}
 use Rattle.std.proofs.Common.{◌∙◌, mul-le-mul_right, div-mul-le_self, arith, get_or-take, get_or-drop, get_or-set_same, get_or-set_other}
 use Rattle.std.proofs.Math.Decide.{ℕ_discrete}
-use Rattle.definitions.specs.System.{mostComponent}
+use Rattle.definitions.specs.System.{most_component}
 use Rattle.laws.specs.TableLaws.{row_fits}
 
 -- the tuple that an array or a slice holds
@@ -24,15 +24,15 @@ holds_more {j} {t} {table} {base} l h =
     }
 
 -- the part of a table from place base on holds it too
-pub part-holds : (w : ℕ) (table : List ℕ) (base : ℕ) → base + w ≤ length table → Holds w (take (length table - base) (drop base table)) table base
-part-holds w table base room =
+pub part_holds : (w : ℕ) (table : List ℕ) (base : ℕ) → base + w ≤ length table → Holds w (take (length table - base) (drop base table)) table base
+part_holds w table base room =
     record { same = λ j l. get_or-take (length table - base) (drop base table) j 0 (omega arith) ∙ get_or-drop base table j 0 }
 
 -- ---- limits
 
 -- no component of x is above that of any walk, and none above the limit of this one
 pub record Limited (q : ℕ) (x : ℕ → ℕ) : Type 0 where
-  pub at_most : (j : ℕ) → j < q → x j ≤ mostComponent
+  pub at_most : (j : ℕ) → j < q → x j ≤ most_component
 
 pub record Within (limit q : ℕ) (x : ℕ → ℕ) : Type 0 where
   pub at_most : (j : ℕ) → j < q → x j ≤ limit

@@ -5,12 +5,12 @@ use Rattle.std.proofs.Common.{ap, ◌∙◌, add-one, arith}
 use Rattle.std.proofs.Math.Option.{some, none}
 use Prim.Native.Nat.{ℕ, zero, suc, ◌+◌, ◌*◌, ◌-◌, ◌/◌, ◌≤◌, ◌<◌}
 use Rattle.std.proofs.Math.Nat.{div-eq_of_eq-mul_left, suc-mul}
-use Rattle.linear.specs.LoopLaws.{all-fails}
+use Rattle.linear.specs.LoopLaws.{all_fails}
 use Rattle.linear.specs.Places.{last_to}
-use Rattle.linear.specs.PlaceLaws.{last-here, last-passed}
-use Rattle.linear.specs.Tests.{allTo, anyTo}
-use Rattle.linear.specs.TestLaws.{any_at, any-from}
-use Rattle.definitions.specs.System.{covered, isAtOrBelow}
+use Rattle.linear.specs.PlaceLaws.{last_here, last_passed}
+use Rattle.linear.specs.Tests.{all_to, any_to}
+use Rattle.linear.specs.TestLaws.{any_at, any_from}
+use Rattle.definitions.specs.System.{covered, is_at_or_below}
 use Rattle.definitions.specs.Tables.{at}
 use Rattle.laws.specs.TableLaws.{row_fits}
 
@@ -22,17 +22,17 @@ pub record Order (n : ℕ) (g : ℕ → ℕ) : Type 0 where
   pub turn : (k : ℕ) → k < n → (i : ℕ) × (i < n) × (g i ≡ k)
 
 -- Document 02, Job 2: "Yes or no is unchanged for every tuple and list.": a test over rows does not depend on the order in which they are taken
-pub any-ordered : (n : ℕ) (f : ℕ → Bool) (g : ℕ → ℕ) → Order n g → anyTo n (λ i. f (g i)) ≡ anyTo n f
-any-ordered n f g o = same (anyTo n (λ i. f (g i))) (anyTo n f) there back
+pub any_ordered : (n : ℕ) (f : ℕ → Bool) (g : ℕ → ℕ) → Order n g → any_to n (λ i. f (g i)) ≡ any_to n f
+any_ordered n f g o = same (any_to n (λ i. f (g i))) (any_to n f) there back
   where
-    there : T (anyTo n (λ i. f (g i))) → T (anyTo n f)
-    there h = let (i, l, y) = any_at n (λ i. f (g i)) h in any-from n f (g i) (o.row i l) y
+    there : T (any_to n (λ i. f (g i))) → T (any_to n f)
+    there h = let (i, l, y) = any_at n (λ i. f (g i)) h in any_from n f (g i) (o.row i l) y
 
-    back : T (anyTo n f) → T (anyTo n (λ i. f (g i)))
+    back : T (any_to n f) → T (any_to n (λ i. f (g i)))
     back h =
         let (k, l, y) = any_at n f h in
         let (i, m, e) = o.turn k l in
-        any-from n (λ i. f (g i)) i m (rw e y)
+        any_from n (λ i. f (g i)) i m (rw e y)
 
     same : (a b : Bool) → (T a → T b) → (T b → T a) → a ≡ b
     same true true f g = refl
@@ -44,19 +44,19 @@ any-ordered n f g o = same (anyTo n (λ i. f (g i))) (anyTo n f) there back
 abbrev pub newest : ℕ → ℕ → ℕ
 newest n i = n - 1 - i
 
-pub newest-order : (n : ℕ) → Order n (newest n)
-newest-order n = record { row = λ i l. omega arith; turn = λ k l. (newest n k, omega arith, omega arith) }
+pub newest_order : (n : ℕ) → Order n (newest n)
+newest_order n = record { row = λ i l. omega arith; turn = λ k l. (newest n k, omega arith, omega arith) }
 
-pub covered-newest : (w n : ℕ) (row : ℕ → ℕ → ℕ) (x : ℕ → ℕ) → covered w n (λ i. row (newest n i)) x ≡ covered w n row x
+pub covered_newest : (w n : ℕ) (row : ℕ → ℕ → ℕ) (x : ℕ → ℕ) → covered w n (λ i. row (newest n i)) x ≡ covered w n row x
 unfolding covered
-covered-newest w n row x = any-ordered n (λ i. isAtOrBelow w (row i) x) (newest n) (newest-order n)
+covered_newest w n row x = any_ordered n (λ i. is_at_or_below w (row i) x) (newest n) (newest_order n)
 
 -- ---- the search, for a test on the components of a row and of a tuple
 
 module _ (test : ℕ → ℕ → Bool) (w : ℕ) (list : List ℕ) (t : ℕ → ℕ) (found : ℕ) where
   -- row i passes where each component does
   abbrev pub passes : ℕ → Bool
-  passes i = allTo w (λ j. test (at list w i j) (t j))
+  passes i = all_to w (λ j. test (at list w i j) (t j))
 
   -- the rows before place `rest` are left, and none of those after it passes
   pub record Left (rest : ℕ) : Type 0 where
@@ -65,16 +65,16 @@ module _ (test : ℕ → ℕ → Bool) (w : ℕ) (list : List ℕ) (t : ℕ → 
     pub place : rest ≡ rows * w
     pub same : last_to found passes ≡ last_to rows passes
 
-  pub left-all : Left (found * w)
-  left-all = record { rows = found; few = omega arith; place = refl; same = refl }
+  pub left_all : Left (found * w)
+  left_all = record { rows = found; few = omega arith; place = refl; same = refl }
 
-  pub left-none : {rest : ℕ} → Left rest → 0 < w → rest ≤ 0 → none ≡ last_to found passes
+  pub left_none : {rest : ℕ} → Left rest → 0 < w → rest ≤ 0 → none ≡ last_to found passes
   unfolding last_to
-  left-none {rest} s positive l = sym (at-end s.rows s.place s.same)
+  left_none {rest} s positive l = sym (at_end s.rows s.place s.same)
     where
-      at-end : (n : ℕ) → rest ≡ n * w → last_to found passes ≡ last_to n passes → last_to found passes ≡ none
-      at-end zero e h = h
-      at-end (suc n) e h = absurd (omega (arith, suc-mul n w))
+      at_end : (n : ℕ) → rest ≡ n * w → last_to found passes ≡ last_to n passes → last_to found passes ≡ none
+      at_end zero e h = h
+      at_end (suc n) e h = absurd (omega (arith, suc-mul n w))
 
   module _ {rest : ℕ} (s : Left rest) (more : 0 < rest) where
     -- the last row that is left
@@ -93,26 +93,26 @@ module _ (test : ℕ → ℕ → Bool) (w : ℕ) (list : List ℕ) (t : ℕ → 
         of (suc n) few e h =
             record { row = n; there = omega arith; begins = omega (arith, suc-mul n w); long = omega (arith, suc-mul n w); same = h }
 
-    pub left-long : w ≤ rest
-    left-long = last.long
+    pub left_long : w ≤ rest
+    left_long = last.long
 
-    pub left-fits : rest - w + w ≤ found * w
-    left-fits = omega (arith, last.begins, row_fits w last.row found last.there)
+    pub left_fits : rest - w + w ≤ found * w
+    left_fits = omega (arith, last.begins, row_fits w last.row found last.there)
 
-    pub left-next : (j : ℕ) → j < w → test (get_or list (rest - w + j) 0) (t j) ≡ false → Left (rest - w)
-    left-next j l e =
+    pub left_next : (j : ℕ) → j < w → test (get_or list (rest - w + j) 0) (t j) ≡ false → Left (rest - w)
+    left_next j l e =
         record {
           rows = last.row;
           few = omega (arith, last.there);
           place = last.begins;
-          same = last.same ∙ last-passed last.row passes (all-fails w _ j l (rw last.begins at e));
+          same = last.same ∙ last_passed last.row passes (all_fails w _ j l (rw last.begins at e));
         }
 
-    pub left_here : 0 < w → allTo w (λ k. test (get_or list (rest - w + k) 0) (t k)) ≡ true → some ((rest - w) / w + 1) ≡ last_to found passes
+    pub left_here : 0 < w → all_to w (λ k. test (get_or list (rest - w + k) 0) (t k)) ≡ true → some ((rest - w) / w + 1) ≡ last_to found passes
     left_here positive e =
         let row_is : (rest - w) / w ≡ last.row = div-eq_of_eq-mul_left positive last.begins in
-        sym (last.same ∙ last-here last.row passes (rw last.begins at e) ∙ ap some (sym (ap (λ n. n + 1) row_is ∙ add-one last.row)))
+        sym (last.same ∙ last_here last.row passes (rw last.begins at e) ∙ ap some (sym (ap (λ n. n + 1) row_is ∙ add-one last.row)))
 
     -- the place is one of the list's
-    pub left-place : 0 < w → (rest - w) / w < found
-    left-place positive = rw (div-eq_of_eq-mul_left {k = last.row} positive last.begins) last.there
+    pub left_place : 0 < w → (rest - w) / w < found
+    left_place positive = rw (div-eq_of_eq-mul_left {k = last.row} positive last.begins) last.there

@@ -2,7 +2,7 @@
 ghost use Rattle.std.specs.Prelude.{◌≡◌, ◌*◌, ◌≤◌, ◌<◌, length};
 ghost use Rattle.definitions.specs.Tables.{at};
 ghost use Rattle.laws.specs.Sweep.{keeps};
-ghost use Rattle.laws.specs.SweepTable.{staysHere};
+ghost use Rattle.laws.specs.SweepTable.{stays_here};
 ghost use Rattle.table_rows.specs.Keeping.{Kept};
 
 use crate::rows;
@@ -28,7 +28,7 @@ pub fn sweep(table: &mut [u32], n: usize, q: usize) -> usize
 // Whether row i stays: none of the first `kept` rows is at or below it, and no later row lies below it.
 fn stays(table: &[u32], n: usize, q: usize, kept: usize, i: usize) -> bool
     requires { (n * q ≤ length table.now) × (kept ≤ i) × (i < n) }
-    ensures { result ≡ staysHere q n (at table.now q) kept i }
+    ensures { result ≡ stays_here q n (at table.now q) kept i }
 {
     let base = i * q;
     let mut m = 0;

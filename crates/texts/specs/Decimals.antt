@@ -15,28 +15,28 @@ abbrev pub minus : ℕ
 minus = 45
 
 -- the digit 0; the others follow it in order
-abbrev pub zeroDigit : ℕ
-zeroDigit = 48
+abbrev pub zero_digit : ℕ
+zero_digit = 48
 
 -- k characters of a word in ASCII, from place i on
-abbrev pub bytesFrom : ℕ → ℕ → String → List ℕ
-bytesFrom zero i word = []
-bytesFrom (suc k) i word = code (char_at word i) ∷ bytesFrom k (suc i) word
+abbrev pub bytes_from : ℕ → ℕ → String → List ℕ
+bytes_from zero i word = []
+bytes_from (suc k) i word = code (char_at word i) ∷ bytes_from k (suc i) word
 
 -- the bytes of a word
 abbrev pub bytes : String → List ℕ
-bytes word = bytesFrom (len word) 0 word
+bytes word = bytes_from (len word) 0 word
 
 -- ---- numbers
 
 -- the digits of n, the last k of them if there are more
-unfoldable pub lastDigits : ℕ → ℕ → List ℕ
-lastDigits zero n = []
-lastDigits (suc k) n = let others = lastDigits k (n / 10) in cond (ltb n 10) ((zeroDigit + n) ∷ []) (others ++ ((zeroDigit + n % 10) ∷ []))
+unfoldable pub last_digits : ℕ → ℕ → List ℕ
+last_digits zero n = []
+last_digits (suc k) n = let others = last_digits k (n / 10) in cond (ltb n 10) ((zero_digit + n) ∷ []) (others ++ ((zero_digit + n % 10) ∷ []))
 
 -- "digits without leading zeros": n has at most n + 1
 unfoldable pub decimal : ℕ → List ℕ
-decimal n = lastDigits (suc n) n
+decimal n = last_digits (suc n) n
 
 -- "A number is an optional minus and .. digits without leading zeros; "-0" is not in the form."
 abbrev pub numeral : ℤ → List ℕ

@@ -6,13 +6,13 @@ use Rattle.texts.specs.declared.number.Natural.TheVariants as natural
 use Rattle.texts.specs.declared.number.Number.{Number}
 use Rattle.texts.specs.declared.number.Number.TheVariants as number
 
-abbrev pub naturalParse : List ℕ → Natural → Parse ℕ
-naturalParse t (natural.Parsed value next) = parsed value (drop next t)
-naturalParse t natural.Malformed = malformed
+abbrev pub natural_parse : List ℕ → Natural → Parse ℕ
+natural_parse t (natural.Parsed value next) = parsed value (drop next t)
+natural_parse t natural.Malformed = malformed
 
-abbrev pub numberParse : List ℕ → Number → Parse ℤ
-numberParse t (number.Parsed value next) = parsed value (drop next t)
-numberParse t number.Malformed = malformed
+abbrev pub number_parse : List ℕ → Number → Parse ℤ
+number_parse t (number.Parsed value next) = parsed value (drop next t)
+number_parse t number.Malformed = malformed
 
 -- a number of so many digits fits into a word of 32 bits, signed too
 pub record FewDigits (most : ℕ) : Type 0 where

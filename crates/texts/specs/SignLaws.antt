@@ -15,9 +15,9 @@ module _ (n : ℕ) (l : n < 1000000000) where
   pub word_value : to_z w32 n ≡ pos n
   word_value = to_z-of_z {w = w32} {z = pos n} fits_word
 
-pub fits-negated : (n : ℕ) → n < 1000000000 → SFits w32 (pos 0 -ℤ pos n)
-fits-negated zero l = sfits_of (omega arith)
-fits-negated (suc n) l = rw (+ℤ_idl (negsuc n)) (sfits_of (omega arith))
+pub fits_negated : (n : ℕ) → n < 1000000000 → SFits w32 (pos 0 -ℤ pos n)
+fits_negated zero l = sfits_of (omega arith)
+fits_negated (suc n) l = rw (+ℤ_idl (negsuc n)) (sfits_of (omega arith))
 
 pub negated : (n : ℕ) (t : List ℕ) → (n ≡ 0 → ⊥) → parsed (pos 0 -ℤ pos n) t ≡ negative n t
 negated zero t h = absurd (h refl)
@@ -25,18 +25,18 @@ negated (suc n) t h = rw (+ℤ_idl (negsuc n))
 
 -- ---- a number by its sign and its size
 
-pub size-negative : (z : ℤ) → lt_z z (pos 0) ≡ true → T (non_neg (pos 0 -ℤ z)) × (nat_abs (pos 0 -ℤ z) ≡ nat_abs z)
-size-negative (pos n) e = absurd (omega (arith, ltb-true n 0 e))
-size-negative (negsuc n) e = (tt, omega arith)
+pub size_negative : (z : ℤ) → lt_z z (pos 0) ≡ true → T (non_neg (pos 0 -ℤ z)) × (nat_abs (pos 0 -ℤ z) ≡ nat_abs z)
+size_negative (pos n) e = absurd (omega (arith, ltb-true n 0 e))
+size_negative (negsuc n) e = (tt, omega arith)
 
-pub size-other : (z : ℤ) → lt_z z (pos 0) ≡ false → T (non_neg z)
-size-other (pos n) e = tt
-size-other (negsuc n) e = absurd (let z : ◌≡◌ {A = ℕ} 0 1 = cc in omega arith)
+pub size_other : (z : ℤ) → lt_z z (pos 0) ≡ false → T (non_neg z)
+size_other (pos n) e = tt
+size_other (negsuc n) e = absurd (let z : ◌≡◌ {A = ℕ} 0 1 = cc in omega arith)
 
-pub numeral-negative : (z : ℤ) → lt_z z (pos 0) ≡ true → numeral z ≡ minus ∷ decimal (nat_abs z)
-numeral-negative (pos n) e = absurd (omega (arith, ltb-true n 0 e))
-numeral-negative (negsuc n) e = refl
+pub numeral_negative : (z : ℤ) → lt_z z (pos 0) ≡ true → numeral z ≡ minus ∷ decimal (nat_abs z)
+numeral_negative (pos n) e = absurd (omega (arith, ltb-true n 0 e))
+numeral_negative (negsuc n) e = refl
 
-pub numeral-natural : (z : ℤ) → lt_z z (pos 0) ≡ false → numeral z ≡ decimal (nat_abs z)
-numeral-natural (pos n) e = refl
-numeral-natural (negsuc n) e = absurd (let z : ◌≡◌ {A = ℕ} 0 1 = cc in omega arith)
+pub numeral_natural : (z : ℤ) → lt_z z (pos 0) ≡ false → numeral z ≡ decimal (nat_abs z)
+numeral_natural (pos n) e = refl
+numeral_natural (negsuc n) e = absurd (let z : ◌≡◌ {A = ℕ} 0 1 = cc in omega arith)

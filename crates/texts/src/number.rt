@@ -1,7 +1,7 @@
 // One number of a text, of 1 to `most` digits without leading zeros. A place stands for the text from there on.
 ghost use Rattle.std.specs.Prelude.{◌≡◌, drop};
-ghost use Rattle.texts.specs.Reading.{isDigit, moreDigits, mayFollow, readNatural, negative as negativeParse, readNumber, and_then};
-ghost use Rattle.texts.specs.Places.{naturalParse, numberParse, Room, FewDigits};
+ghost use Rattle.texts.specs.Reading.{is_digit, more_digits, may_follow, read_natural, negative as negativeParse, read_number, and_then};
+ghost use Rattle.texts.specs.Places.{natural_parse, number_parse, Room, FewDigits};
 
 // A natural number, and the place after it; specs/Places.antt has what is read for each case.
 #[derive(Drop)]
@@ -19,7 +19,7 @@ pub enum Number {
 // The number that stands at place `at`.
 pub fn read_number(text: &[u8], at: usize, most: usize) -> Number
     requires { FewDigits most }
-    ensures { numberParse text.now result ≡ readNumber most (drop at text.now) }
+    ensures { number_parse text.now result ≡ read_number most (drop at text.now) }
 {
     if text.len() <= at {
         return Number::Malformed;
@@ -39,7 +39,7 @@ pub fn read_number(text: &[u8], at: usize, most: usize) -> Number
 // A number after its minus.
 fn read_negative(text: &[u8], at: usize, most: usize) -> Number
     requires { FewDigits most }
-    ensures { numberParse text.now result ≡ and_then (readNatural most (drop at text.now)) negativeParse }
+    ensures { number_parse text.now result ≡ and_then (read_natural most (drop at text.now)) negativeParse }
 {
     match read_natural(text, at, most) {
         Natural::Malformed => Number::Malformed,
@@ -59,7 +59,7 @@ fn read_negative(text: &[u8], at: usize, most: usize) -> Number
 // The number without a sign that stands at place `at`.
 pub fn read_natural(text: &[u8], at: usize, most: usize) -> Natural
     requires { FewDigits most }
-    ensures { naturalParse text.now result ≡ readNatural most (drop at text.now) }
+    ensures { natural_parse text.now result ≡ read_natural most (drop at text.now) }
 {
     if text.len() <= at {
         return Natural::Malformed;
@@ -75,7 +75,7 @@ pub fn read_natural(text: &[u8], at: usize, most: usize) -> Natural
 // The number that begins with `first` and has up to `k` more digits, `most` of them in all, from place `at` on.
 fn more_digits(text: &[u8], at: usize, most: usize, k: usize, first: u32) -> Natural
     requires { (FewDigits most) × Room most first k }
-    ensures { naturalParse text.now result ≡ moreDigits k first (drop at text.now) }
+    ensures { natural_parse text.now result ≡ more_digits k first (drop at text.now) }
 {
     let mut value = first;
     let mut next = at;
@@ -96,7 +96,7 @@ fn more_digits(text: &[u8], at: usize, most: usize, k: usize, first: u32) -> Nat
 }
 
 pub fn is_digit(byte: u8) -> bool
-    ensures { result ≡ isDigit byte }
+    ensures { result ≡ is_digit byte }
 {
     if byte < b'0' {
         return false;
@@ -107,7 +107,7 @@ pub fn is_digit(byte: u8) -> bool
 // How many digits may follow the first.
 fn may_follow(most: usize, first: u32) -> usize
     requires { FewDigits most }
-    ensures { result ≡ mayFollow most first }
+    ensures { result ≡ may_follow most first }
 {
     if first == 0 { 0 } else { most - 1 }
 }

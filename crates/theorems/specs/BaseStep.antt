@@ -4,17 +4,17 @@ use Rattle.std.specs.Prelude.{◌≡◌, not, ◌&&◌, List, ℕ, ℤ, pos}
 use Rattle.std.proofs.Math.Path.{refl}
 use Rattle.std.specs.Int.Signed.{lt_z}
 use Rattle.linear.specs.Tuples.{raise}
-use Rattle.definitions.specs.Input.{input_of, mapOf, systemOf}
-use Rattle.definitions.specs.Step.{makes, top, topMarks}
+use Rattle.definitions.specs.Input.{input_of, map_of, system_of}
+use Rattle.definitions.specs.Step.{makes, top, top_marks}
 use Rattle.definitions.specs.System.{covered, towards}
-use Rattle.definitions.specs.Tables.{State, frozen, listRow}
+use Rattle.definitions.specs.Tables.{State, frozen, list_row}
 
 module _ (p q : ℕ) (coefs : List ℤ) where
   -- no right sides: the system walked through is the map
-  pub base-system : systemOf (input_of p q coefs) ≡ mapOf (input_of p q coefs)
-  base-system = refl
+  pub base_system : system_of (input_of p q coefs) ≡ map_of (input_of p q coefs)
+  base_system = refl
 
-  pub base-makes : (s : State) (j : ℕ) → let m = mapOf (input_of p q coefs) in let x = raise (top m s) j in
-      makes m s j ≡ not (frozen (topMarks m s) j) && (lt_z (towards m (top m s) j) (pos 0) && not (covered q s.run.found (listRow q s) x))
+  pub base_makes : (s : State) (j : ℕ) → let m = map_of (input_of p q coefs) in let x = raise (top m s) j in
+      makes m s j ≡ not (frozen (top_marks m s) j) && (lt_z (towards m (top m s) j) (pos 0) && not (covered q s.run.found (list_row q s) x))
   unfolding makes
-  base-makes s j = refl
+  base_makes s j = refl

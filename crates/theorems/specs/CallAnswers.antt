@@ -4,11 +4,11 @@ use Rattle.std.proofs.Common.{sym, ◌∙◌, ap, suc-add, zero-add, arith}
 use Rattle.std.proofs.Math.Logic.{inl, inr}
 use Rattle.std.proofs.Math.Decide.{ℕ_discrete}
 use Rattle.definitions.specs.Answers.{Answer, Check, complete, go, paused, refuse, refused, started}
-use Rattle.definitions.specs.Machine.{Machine, Outcome, after, call, callSteps, checked, walk}
-use Rattle.laws.specs.CheckLaws.{AllSilent, FirstDue, Renders, Rules, check-cases, refuse-not-go}
-use Rattle.laws.specs.LowerWalk.{walk-steps-few}
-use Rattle.laws.specs.MachineLaws.{call-refused, call-walks, walk-done, walk_more, walk-paused, walk_refused, walk-settled}
-use Rattle.theorems.specs.WholeSteps.{Ends, Goes, Steady, call-going, called, completes, pauses, refuses, settled-after}
+use Rattle.definitions.specs.Machine.{Machine, Outcome, after, call, call_steps, checked, walk}
+use Rattle.laws.specs.CheckLaws.{AllSilent, FirstDue, Renders, Rules, check_cases, refuse_not_go}
+use Rattle.laws.specs.LowerWalk.{walk_steps_few}
+use Rattle.laws.specs.MachineLaws.{call_refused, call_walks, walk_done, walk_more, walk_paused, walk_refused, walk_settled}
+use Rattle.theorems.specs.WholeSteps.{Ends, Goes, Steady, call_going, called, completes, pauses, refuses, settled_after}
 
 -- ---- a start
 
@@ -21,31 +21,31 @@ module _ {S : Type 0} (c : Check) (s : S) (work : S → Outcome S) (works : (wor
   abbrev outcome : Outcome S
   outcome = checked c s work
 
-  answers-when : ((outcome.answer ≡ started) × (c ≡ go)) ⊎ ((n : ℕ) × (values : List ℕ) × (c ≡ refuse n values) × (outcome.answer ≡ refused n values))
+  answers_when : ((outcome.answer ≡ started) × (c ≡ go)) ⊎ ((n : ℕ) × (values : List ℕ) × (c ≡ refuse n values) × (outcome.answer ≡ refused n values))
   unfolding checked
-  answers-when = elim (check-cases c) [ inl e ↦ inl (rw e works, e) | inr (n, values, e) ↦ inr (n, values, e, rw e) ]
+  answers_when = elim (check_cases c) [ inl e ↦ inl (rw e works, e) | inr (n, values, e) ↦ inr (n, values, e, rw e) ]
 
-  pub start-answers : StartAnswers rules outcome.answer
-  start-answers =
-      elim answers-when [
+  pub start_answers : StartAnswers rules outcome.answer
+  start_answers =
+      elim answers_when [
         | inl (a, e) ↦ record {
           refuses = λ n values. (
             λ b. absurd (let z : ◌≡◌ {A = ℕ} 0 1 = cc in omega arith),
-            λ d. absurd (refuse-not-go {n = n} {values = values} (cc (r.due n values d))),
+            λ d. absurd (refuse_not_go {n = n} {values = values} (cc (r.due n values d))),
           );
           starts = (λ b. r.goes e, λ d. a);
         }
         | inr (k, vs, e, a) ↦ record {
           refuses = λ n values. (λ b. r.refuses n values (cc), λ d. cc (r.due n values d));
-          starts = (λ b. absurd (let z : ◌≡◌ {A = ℕ} 0 1 = cc in omega arith), λ d. absurd (refuse-not-go {n = k} {values = vs} (cc (r.silent d))));
+          starts = (λ b. absurd (let z : ◌≡◌ {A = ℕ} 0 1 = cc in omega arith), λ d. absurd (refuse_not_go {n = k} {values = vs} (cc (r.silent d))));
         }
       ]
 
 -- a call that answers "started" was let go on by its checks
-pub started-goes : {S : Type 0} (c : Check) (s : S) (work : S → Outcome S) → (checked c s work).answer ≡ started → (c ≡ go) × (checked c s work ≡ work s)
+pub started_goes : {S : Type 0} (c : Check) (s : S) (work : S → Outcome S) → (checked c s work).answer ≡ started → (c ≡ go) × (checked c s work ≡ work s)
 unfolding checked
-started-goes (refuse n values) s work e = absurd (let z : ◌≡◌ {A = ℕ} 0 1 = cc in omega arith)
-started-goes go s work e = (refl, refl)
+started_goes (refuse n values) s work e = absurd (let z : ◌≡◌ {A = ℕ} 0 1 = cc in omega arith)
+started_goes go s work e = (refl, refl)
 
 -- ---- the continuing call
 
@@ -60,16 +60,16 @@ pub record CallAnswers (before within : Rules) (budget taken height : ℕ) (a : 
 
 -- a machine's checks by rules
 pub record Ruled {S : Type 0} (k : Machine S) (before within : S → Rules) : Type 1 where
-  pub before-renders : (s : S) → Renders (k.before s) (before s)
-  pub within-renders : (s : S) → Renders (k.refusals s) (within s)
+  pub before_renders : (s : S) → Renders (k.before s) (before s)
+  pub within_renders : (s : S) → Renders (k.refusals s) (within s)
 
 -- refused before the walk
 module _ {before : Rules} {c : Check} (r : Renders c before) {n₀ : ℕ} {vs : List ℕ} (e : c ≡ refuse n₀ vs) where
   loud : AllSilent before → ⊥
-  loud q = refuse-not-go {n = n₀} {values = vs} (cc (r.silent q))
+  loud q = refuse_not_go {n = n₀} {values = vs} (cc (r.silent q))
 
-  refused-answers : (within : Rules) (budget taken height : ℕ) → CallAnswers before within budget taken height (refused n₀ vs)
-  refused-answers within budget taken height =
+  refused_answers : (within : Rules) (budget taken height : ℕ) → CallAnswers before within budget taken height (refused n₀ vs)
+  refused_answers within budget taken height =
       record {
         completes = (λ b. absurd (let z : ◌≡◌ {A = ℕ} 0 1 = cc in omega arith), λ (q, h). absurd (loud q));
         pauses = (λ b. absurd (let z : ◌≡◌ {A = ℕ} 0 1 = cc in omega arith), λ (q, h, k). absurd (loud q));
@@ -83,39 +83,39 @@ module _ {before : Rules} {c : Check} (r : Renders c before) {n₀ : ℕ} {vs : 
 -- let go on
 module _ {S : Type 0} {k : Machine S} {before within : S → Rules} (ruled : Ruled k before within) (budget : ℕ) (s : S) (e : k.before s ≡ go) where
   quiet : AllSilent (before s)
-  quiet = (ruled.before-renders s).goes e
+  quiet = (ruled.before_renders s).goes e
 
-  pub not-before : (n : ℕ) (values : List ℕ) → FirstDue (before s) n values → ⊥
-  not-before n values y = refuse-not-go {n = n} {values = values} (cc ((ruled.before-renders s).due n values y))
+  pub not_before : (n : ℕ) (values : List ℕ) → FirstDue (before s) n values → ⊥
+  not_before n values y = refuse_not_go {n = n} {values = values} (cc ((ruled.before_renders s).due n values y))
 
-  ends-answers : {t : S} {i : ℕ} {a : Answer} → Ends budget i k t a → CallAnswers (before s) (within t) budget i (k.height t) a
-  ends-answers (completes h) =
+  ends_answers : {t : S} {i : ℕ} {a : Answer} → Ends budget i k t a → CallAnswers (before s) (within t) budget i (k.height t) a
+  ends_answers (completes h) =
       record {
         completes = (λ b. (quiet, h), λ d. refl);
         pauses = (λ b. absurd (let z : ◌≡◌ {A = ℕ} 0 1 = cc in omega arith), λ (q, p, k). absurd (omega arith));
         refuses = λ n values. (
           λ b. absurd (let z : ◌≡◌ {A = ℕ} 0 1 = cc in omega arith),
-          λ d. elim d [ inl y ↦ absurd (not-before n values y) | inr (q, p, k, y) ↦ absurd (omega arith) ],
+          λ d. elim d [ inl y ↦ absurd (not_before n values y) | inr (q, p, k, y) ↦ absurd (omega arith) ],
         );
         never = λ b. let z : ◌≡◌ {A = ℕ} 0 1 = cc in omega arith;
       }
-  ends-answers (pauses h u) =
+  ends_answers (pauses h u) =
       record {
         completes = (λ b. absurd (let z : ◌≡◌ {A = ℕ} 0 1 = cc in omega arith), λ (q, p). absurd (omega arith));
         pauses = (λ b. (quiet, h, u), λ d. refl);
         refuses = λ n values. (
           λ b. absurd (let z : ◌≡◌ {A = ℕ} 0 1 = cc in omega arith),
-          λ d. elim d [ inl y ↦ absurd (not-before n values y) | inr (q, p, l, y) ↦ absurd (omega arith) ],
+          λ d. elim d [ inl y ↦ absurd (not_before n values y) | inr (q, p, l, y) ↦ absurd (omega arith) ],
         );
         never = λ b. let z : ◌≡◌ {A = ℕ} 0 1 = cc in omega arith;
       }
-  ends-answers {t = t} (refuses r vs h l f) =
+  ends_answers {t = t} (refuses r vs h l f) =
       record {
         completes = (λ b. absurd (let z : ◌≡◌ {A = ℕ} 0 1 = cc in omega arith), λ (q, p). absurd (omega arith));
         pauses = (λ b. absurd (let z : ◌≡◌ {A = ℕ} 0 1 = cc in omega arith), λ (q, p, k). absurd (omega arith));
         refuses = λ n values. (
-          λ b. inr (quiet, h, l, (ruled.within-renders t).refuses n values (cc)),
-          λ d. elim d [ inl y ↦ absurd (not-before n values y) | inr (q, p, k, y) ↦ cc ((ruled.within-renders t).due n values y) ],
+          λ b. inr (quiet, h, l, (ruled.within_renders t).refuses n values (cc)),
+          λ d. elim d [ inl y ↦ absurd (not_before n values y) | inr (q, p, k, y) ↦ cc ((ruled.within_renders t).due n values y) ],
         );
         never = λ b. let z : ◌≡◌ {A = ℕ} 0 1 = cc in omega arith;
       }
@@ -124,72 +124,72 @@ module _ {S : Type 0} {k : Machine S} {before within : S → Rules} (ruled : Rul
   abbrev left : S
   left = (call budget k s).state
 
-  pub call-answers : CallAnswers (before s) (within left) budget (callSteps budget k s) (k.height left) (call budget k s).answer
-  call-answers =
-      elim (check-cases (k.before s)) [
-        | inl e ↦ ends-answers ruled budget s e (called k budget s e).ends
-        | inr (r, vs, e) ↦ rw (ap (λ o. o.answer) (call-refused k s budget r vs e).0)
-            (refused-answers (ruled.before-renders s) e (within left) budget (callSteps budget k s) (k.height left))
+  pub call_answers : CallAnswers (before s) (within left) budget (call_steps budget k s) (k.height left) (call budget k s).answer
+  call_answers =
+      elim (check_cases (k.before s)) [
+        | inl e ↦ ends_answers ruled budget s e (called k budget s e).ends
+        | inr (r, vs, e) ↦ rw (ap (λ o. o.answer) (call_refused k s budget r vs e).0)
+            (refused_answers (ruled.before_renders s) e (within left) budget (call_steps budget k s) (k.height left))
       ]
 
   -- what the search refused, it refuses in the state that is left
-  pub refused-there : (n : ℕ) (values : List ℕ) → k.before s ≡ go → (call budget k s).answer ≡ refused n values
+  pub refused_there : (n : ℕ) (values : List ℕ) → k.before s ≡ go → (call budget k s).answer ≡ refused n values
       → (0 < k.height left) × (k.refusals left ≡ refuse n values)
-  refused-there n values e a =
-      elim ((call-answers.refuses n values).0 a) [
-        | inl y ↦ absurd (not-before ruled budget s e n values y)
-        | inr (q, h, l, y) ↦ (h, (ruled.within-renders left).due n values y)
+  refused_there n values e a =
+      elim ((call_answers.refuses n values).0 a) [
+        | inl y ↦ absurd (not_before ruled budget s e n values y)
+        | inr (q, h, l, y) ↦ (h, (ruled.within_renders left).due n values y)
       ]
 
   -- "the same call again refuses again", with any budget above 0, if its checks let it go on
-  pub refused-again : Steady k → (n : ℕ) (values : List ℕ) → k.before s ≡ go → k.before left ≡ go → (call budget k s).answer ≡ refused n values → (more : ℕ)
+  pub refused_again : Steady k → (n : ℕ) (values : List ℕ) → k.before s ≡ go → k.before left ≡ go → (call budget k s).answer ≡ refused n values → (more : ℕ)
       → call (suc more) k left ≡ record { answer = refused n values; state = left }
-  refused-again steady n values e f a more =
-      let (h, r) = refused-there n values e a in
-      let same : k.settle left ≡ left = ap k.settle (called k budget s e).state ∙ settled-after k steady (callSteps budget k s) s
+  refused_again steady n values e f a more =
+      let (h, r) = refused_there n values e a in
+      let same : k.settle left ≡ left = ap k.settle (called k budget s e).state ∙ settled_after k steady (call_steps budget k s) s
       ∙ sym (called k budget s e).state in
-      (call-walks k left (suc more) f).0 ∙ (walk_refused k left more n values (rw same h) (rw same r)).0
+      (call_walks k left (suc more) f).0 ∙ (walk_refused k left more n values (rw same h) (rw same r)).0
       ∙ ap (λ t. record { answer = refused n values; state = t }) same
 
 -- "after 11 a longer list table with the same rows may be given": where what stood in the way is gone, the call takes the step that was refused
 pub goes_on : {S : Type 0} (k : Machine S) (s : S) → k.before s ≡ go → Goes k (k.settle s) → (more : ℕ)
     → call (suc more) k s ≡ walk more k (k.step (k.settle s))
-goes_on k s e (h, f) more = (call-walks k s (suc more) e).0 ∙ (walk_more k s more h f).0
+goes_on k s e (h, f) more = (call_walks k s (suc more) e).0 ∙ (walk_more k s more h f).0
 
 -- ---- the steps taken
 
 -- "Before each step, in this order: height 0 answers "complete"; allowance used up answers "paused"; then the refusals of the search.": the steps that a
 -- continuing call takes are at most its budget, and each is from a height above 0 where none of the refusals within the walk is due
 pub record Paced {S : Type 0} (k : Machine S) (within : S → Rules) (budget : ℕ) (s : S) : Type 0 where
-  pub few : callSteps budget k s ≤ budget
-  pub high : (n : ℕ) → n < callSteps budget k s → 0 < k.height (after n k s)
-  pub silent : (n : ℕ) → n < callSteps budget k s → AllSilent (within (after n k s))
+  pub few : call_steps budget k s ≤ budget
+  pub high : (n : ℕ) → n < call_steps budget k s → 0 < k.height (after n k s)
+  pub silent : (n : ℕ) → n < call_steps budget k s → AllSilent (within (after n k s))
 
-pub call-paced : {S : Type 0} {k : Machine S} {before within : S → Rules} → Ruled k before within → (budget : ℕ) (s : S) → Paced k within budget s
-call-paced {k = k} ruled budget s =
-    elim (check-cases (k.before s)) [
+pub call_paced : {S : Type 0} {k : Machine S} {before within : S → Rules} → Ruled k before within → (budget : ℕ) (s : S) → Paced k within budget s
+call_paced {k = k} ruled budget s =
+    elim (check_cases (k.before s)) [
       | inl e ↦ record {
-        few = rw (call-walks k s budget e).1 (walk-steps-few k budget s);
-        high = λ n l. (call-going k budget s e n l).0;
-        silent = λ n l. (ruled.within-renders (after n k s)).goes (call-going k budget s e n l).1;
+        few = rw (call_walks k s budget e).1 (walk_steps_few k budget s);
+        high = λ n l. (call_going k budget s e n l).0;
+        silent = λ n l. (ruled.within_renders (after n k s)).goes (call_going k budget s e n l).1;
       }
       | inr (r, values, e) ↦
-          let none = (call-refused k s budget r values e).1 in
+          let none = (call_refused k s budget r values e).1 in
           record { few = omega (arith, none); high = λ n l. absurd (omega (arith, none)); silent = λ n l. absurd (omega (arith, none)) }
     ]
 
 -- ---- "A paused run goes on in a later call."
 
 module _ {S : Type 0} (k : Machine S) (steady : Steady k) where
-  walk-later : (n more : ℕ) (s : S) → (walk n k s).answer ≡ paused → walk more k (walk n k s).state ≡ walk (n + more) k s
-  walk-later zero more s a = rw zero-add (first (ℕ_discrete (k.height (k.settle s)) 0))
+  walk_later : (n more : ℕ) (s : S) → (walk n k s).answer ≡ paused → walk more k (walk n k s).state ≡ walk (n + more) k s
+  walk_later zero more s a = rw zero-add (first (ℕ_discrete (k.height (k.settle s)) 0))
     where
       first : Dec (k.height (k.settle s) ≡ 0) → walk more k (walk 0 k s).state ≡ walk more k s
-      first (yes e) = absurd (let z : ◌≡◌ {A = ℕ} 0 1 = cc (walk-done k s 0 e).0 in omega arith)
+      first (yes e) = absurd (let z : ◌≡◌ {A = ℕ} 0 1 = cc (walk_done k s 0 e).0 in omega arith)
       first (no ne) =
-          ap (λ o. walk more k o.state) (walk-paused k s (omega (arith, ne))).0 ∙ (walk-settled k s (steady s) more).0
-  walk-later (suc n) more s a =
-      rw suc-add (turn (ℕ_discrete (k.height here) 0) (check-cases (k.refusals here)) (walk-later n more (k.step here)))
+          ap (λ o. walk more k o.state) (walk_paused k s (omega (arith, ne))).0 ∙ (walk_settled k s (steady s) more).0
+  walk_later (suc n) more s a =
+      rw suc-add (turn (ℕ_discrete (k.height here) 0) (check_cases (k.refusals here)) (walk_later n more (k.step here)))
     where
       here : S
       here = k.settle s
@@ -197,7 +197,7 @@ module _ {S : Type 0} (k : Machine S) (steady : Steady k) where
       turn : Dec (k.height here ≡ 0) → (k.refusals here ≡ go) ⊎ ((r : ℕ) × (values : List ℕ) × (k.refusals here ≡ refuse r values))
           → ((walk n k (k.step here)).answer ≡ paused → walk more k (walk n k (k.step here)).state ≡ walk (n + more) k (k.step here))
           → walk more k (walk (suc n) k s).state ≡ walk (suc (n + more)) k s
-      turn (yes e) c next = absurd (let z : ◌≡◌ {A = ℕ} 0 1 = cc (walk-done k s (suc n) e).0 in omega arith)
+      turn (yes e) c next = absurd (let z : ◌≡◌ {A = ℕ} 0 1 = cc (walk_done k s (suc n) e).0 in omega arith)
       turn (no ne) (inr (r, values, e)) next =
           absurd (let z : ◌≡◌ {A = ℕ} 0 1 = cc (walk_refused k s n r values (omega (arith, ne)) e).0 in omega arith)
       turn (no ne) (inl e) next =
@@ -205,9 +205,9 @@ module _ {S : Type 0} (k : Machine S) (steady : Steady k) where
           ap (λ o. walk more k o.state) w ∙ next (sym (ap (λ o. o.answer) w) ∙ a) ∙ sym (walk_more k s (n + more) (omega (arith, ne)) e).0
 
   -- what a call with one budget and a later one with another come to, one call with both comes to
-  pub call-later : (budget more : ℕ) (s : S) → k.before s ≡ go → k.before (call budget k s).state ≡ go → (call budget k s).answer ≡ paused
+  pub call_later : (budget more : ℕ) (s : S) → k.before s ≡ go → k.before (call budget k s).state ≡ go → (call budget k s).answer ≡ paused
       → call more k (call budget k s).state ≡ call (budget + more) k s
-  call-later budget more s e f a =
-      let w = (call-walks k s budget e).0 in
-      (call-walks k (call budget k s).state more f).0 ∙ ap (λ o. walk more k o.state) w
-      ∙ walk-later budget more s (sym (ap (λ o. o.answer) w) ∙ a) ∙ sym (call-walks k s (budget + more) e).0
+  call_later budget more s e f a =
+      let w = (call_walks k s budget e).0 in
+      (call_walks k (call budget k s).state more f).0 ∙ ap (λ o. walk more k o.state) w
+      ∙ walk_later budget more s (sym (ap (λ o. o.answer) w) ∙ a) ∙ sym (call_walks k s (budget + more) e).0

@@ -4,14 +4,14 @@ use Rattle.std.proofs.Common.{◌∙◌}
 use Rattle.std.proofs.Math.Path.{ap}
 use Prim.Native.Nat.{ℕ, zero, suc, ◌+◌, max}
 use native.Mathlib.Omega.{arith}
-use Rattle.linear.specs.Tests.{maxTo}
+use Rattle.linear.specs.Tests.{max_to}
 use Rattle.linear.specs.Tuples.{total}
-use Rattle.definitions.specs.Calls.{changed, machine, settleFrom, stepFrom}
-use Rattle.definitions.specs.Input.{Input, aboveSystem, mapOf, systemOf}
+use Rattle.definitions.specs.Calls.{changed, machine, settle_from, step_from}
+use Rattle.definitions.specs.Input.{Input, above_system, map_of, system_of}
 use Rattle.definitions.specs.Machine.{Machine, after}
-use Rattle.definitions.specs.Step.{deeper, enlistIn, grown, listed, pick, row_of, step, toSecond, top, width}
+use Rattle.definitions.specs.Step.{deeper, enlist_in, grown, listed, pick, row_of, step, to_second, top, width}
 use Rattle.definitions.specs.System.{System, solves}
-use Rattle.definitions.specs.Tables.{RunKind, State, byWalk, cappedRun, deskByDesk, lowerAbove, lowerPlain, lowered, plainPart, plainRun, whole_of}
+use Rattle.definitions.specs.Tables.{RunKind, State, by_walk, capped_run, desk_by_desk, lower_above, lower_plain, lowered, plain_part, plain_run, whole_of}
 use Rattle.theorems.specs.WholeSteps.{Steady, after_next}
 
 -- ---- any machine whose step shows the greater of the number shown and a sum, and which shows as much when it is settled
@@ -19,8 +19,8 @@ use Rattle.theorems.specs.WholeSteps.{Steady, after_next}
 module _ {S : Type 0} (k : Machine S) (steady : Steady k) (shown sum : S → ℕ) (settles : (s : S) → shown (k.settle s) ≡ shown s)
     (steps : (s : S) → shown (k.step s) ≡ max (shown s) (sum s)) where
   -- after n steps: the greatest of what was shown and the sums at these steps
-  pub greatest : (n : ℕ) (s : S) → shown (after n k s) ≡ max (shown s) (maxTo n (λ j. sum (after j k s)))
-  unfolding maxTo
+  pub greatest : (n : ℕ) (s : S) → shown (after n k s) ≡ max (shown s) (max_to n (λ j. sum (after j k s)))
+  unfolding max_to
   greatest zero s = let e : shown (after 0 k s) ≡ shown s = unfold after in settles s in omega arith
   greatest (suc n) s =
       let one : suc n ≡ n + 1 = omega arith in
@@ -29,48 +29,48 @@ module _ {S : Type 0} (k : Machine S) (steady : Steady k) (shown sum : S → ℕ
 
 -- ---- plain and capped runs
 
-pub step-deepest : (m : System) (s : State) → (step m s).run.deepest ≡ max s.run.deepest (total (top m s) m.q)
+pub step_deepest : (m : System) (s : State) → (step m s).run.deepest ≡ max s.run.deepest (total (top m s) m.q)
 unfolding step listed grown
-step-deepest m s = go (solves m (top m s))
+step_deepest m s = go (solves m (top m s))
   where
-    enlisted : (b : Bool) (w : ℕ) (y : ℕ → ℕ) (d : ℕ) → (enlistIn b w s y d).run.deepest ≡ d
+    enlisted : (b : Bool) (w : ℕ) (y : ℕ → ℕ) (d : ℕ) → (enlist_in b w s y d).run.deepest ≡ d
     enlisted false w y d = refl
     enlisted true w y d = refl
 
     go : (b : Bool) → (pick b (listed m s) (grown m s)).run.deepest ≡ max s.run.deepest (total (top m s) m.q)
-    go true = enlisted (toSecond m.kind (top m s)) (width m) (row_of m.kind (top m s)) (deeper m.q s (top m s))
+    go true = enlisted (to_second m.kind (top m s)) (width m) (row_of m.kind (top m s)) (deeper m.q s (top m s))
     go false = refl
 
 -- the sum of the tuple that the next step takes off; where the run has right sides, "sums of components count" the extra unknown
-abbrev pub topSum : Input → State → ℕ
-topSum i s = total (top (systemOf i) s) (systemOf i).q
+abbrev pub top_sum : Input → State → ℕ
+top_sum i s = total (top (system_of i) s) (system_of i).q
 
 -- ---- runs from a lower bound: "the floor's own components count, the plain run before it does not"
 
-abbrev pub topSumFrom : List ℕ → Input → State → ℕ
-topSumFrom lower i s = byWalk s.run.kind 0 (total (top (aboveSystem lower i) s) i.q)
+abbrev pub top_sum_from : List ℕ → Input → State → ℕ
+top_sum_from lower i s = by_walk s.run.kind 0 (total (top (above_system lower i) s) i.q)
 
-pub settled-shows : (lower : List ℕ) (i : Input) (s : State) → (settleFrom lower i s).run.deepest ≡ s.run.deepest
-unfolding settleFrom lowered
-settled-shows lower i s = go s.run.kind s.run.height
+pub settled_shows : (lower : List ℕ) (i : Input) (s : State) → (settle_from lower i s).run.deepest ≡ s.run.deepest
+unfolding settle_from lowered
+settled_shows lower i s = go s.run.kind s.run.height
   where
     go : (r : RunKind) (h : ℕ) → (changed r h lower i s).run.deepest ≡ s.run.deepest
-    go plainRun h = refl
-    go cappedRun h = refl
-    go lowerPlain zero = refl
-    go lowerPlain (suc h) = refl
-    go lowerAbove h = refl
-    go deskByDesk h = refl
+    go plain_run h = refl
+    go capped_run h = refl
+    go lower_plain zero = refl
+    go lower_plain (suc h) = refl
+    go lower_above h = refl
+    go desk_by_desk h = refl
 
-pub stepped-shows : (lower : List ℕ) (i : Input) (s : State) → (stepFrom lower i s).run.deepest ≡ max s.run.deepest (topSumFrom lower i s)
-unfolding stepFrom
-stepped-shows lower i s = go s.run.kind
+pub stepped_shows : (lower : List ℕ) (i : Input) (s : State) → (step_from lower i s).run.deepest ≡ max s.run.deepest (top_sum_from lower i s)
+unfolding step_from
+stepped_shows lower i s = go s.run.kind
   where
     go : (r : RunKind)
-        → (byWalk r (whole_of s.run.deepest (step (mapOf i) (plainPart s))) (step (aboveSystem lower i) s)).run.deepest
-        ≡ max s.run.deepest (byWalk r 0 (total (top (aboveSystem lower i) s) i.q))
-    go plainRun = step-deepest (aboveSystem lower i) s
-    go cappedRun = step-deepest (aboveSystem lower i) s
-    go lowerPlain = omega arith
-    go lowerAbove = step-deepest (aboveSystem lower i) s
-    go deskByDesk = step-deepest (aboveSystem lower i) s
+        → (by_walk r (whole_of s.run.deepest (step (map_of i) (plain_part s))) (step (above_system lower i) s)).run.deepest
+        ≡ max s.run.deepest (by_walk r 0 (total (top (above_system lower i) s) i.q))
+    go plain_run = step_deepest (above_system lower i) s
+    go capped_run = step_deepest (above_system lower i) s
+    go lower_plain = omega arith
+    go lower_above = step_deepest (above_system lower i) s
+    go desk_by_desk = step_deepest (above_system lower i) s

@@ -5,18 +5,18 @@ use Rattle.std.specs.Prelude.{◌≡◌, Bool, false, true, List}
 use Rattle.std.proofs.Math.Path.{ap, refl}
 use Prim.Native.Nat.{◌*◌, ◌+◌, ◌<◌, ◌≤◌, suc, zero, ℕ}
 use Rattle.std.proofs.Math.ListN.{get_or}
-use Rattle.definitions.specs.Calls.{changed, machine, machineFrom, resume, resumeFrom, settleFrom, stepFrom}
-use Rattle.definitions.specs.Input.{Input, aboveSystem, mapOf, systemOf}
-use Rattle.definitions.specs.Machine.{Machine, after, call, callSteps}
-use Rattle.definitions.specs.Step.{enlistIn, grown, level, listed, pick, row_of, step, toSecond, top, width}
+use Rattle.definitions.specs.Calls.{changed, machine, machine_from, resume, resume_from, settle_from, step_from}
+use Rattle.definitions.specs.Input.{Input, above_system, map_of, system_of}
+use Rattle.definitions.specs.Machine.{Machine, after, call, call_steps}
+use Rattle.definitions.specs.Step.{enlist_in, grown, level, listed, pick, row_of, step, to_second, top, width}
 use Rattle.definitions.specs.System.{System, solves}
-use Rattle.definitions.specs.Tables.{RunKind, State, at, byWalk, cappedRun, deskByDesk, lowerAbove, lowerPlain, lowered, plainPart, plainRun, whole_of}
-use Rattle.laws.specs.LowerLaws.{Aside, step-aside, step_kept}
-use Rattle.laws.specs.StepLaws.{children-keep}
-use Rattle.laws.specs.TableLaws.{write-outside}
-use Rattle.theorems.specs.Maps.{Map, byItself}
-use Rattle.theorems.specs.LowerFirst.{next-from}
-use Rattle.theorems.specs.WholeSteps.{after_next, call-keeps}
+use Rattle.definitions.specs.Tables.{RunKind, State, at, by_walk, capped_run, desk_by_desk, lower_above, lower_plain, lowered, plain_part, plain_run, whole_of}
+use Rattle.laws.specs.LowerLaws.{Aside, step_aside, step_kept}
+use Rattle.laws.specs.StepLaws.{children_keep}
+use Rattle.laws.specs.TableLaws.{write_outside}
+use Rattle.theorems.specs.Maps.{Map, by_itself}
+use Rattle.theorems.specs.LowerFirst.{next_from}
+use Rattle.theorems.specs.WholeSteps.{after_next, call_keeps}
 
 -- ---- the rows listed
 
@@ -39,15 +39,15 @@ rows_more {w} a b =
       rows₂ = λ e l. b.rows₂ e (omega (arith, mul-le-mul_right w a.found2)) ∙ a.rows₂ e l;
     }
 
-step-rows : (m : System) (s : State) → RowsStay (width m) s (step m s)
+step_rows : (m : System) (s : State) → RowsStay (width m) s (step m s)
 unfolding step listed grown
-step-rows m s = go (solves m (top m s))
+step_rows m s = go (solves m (top m s))
   where
-    enlisted : (b : Bool) (w : ℕ) (y : ℕ → ℕ) (d : ℕ) → RowsStay w s (enlistIn b w s y d)
+    enlisted : (b : Bool) (w : ℕ) (y : ℕ → ℕ) (d : ℕ) → RowsStay w s (enlist_in b w s y d)
     enlisted false w y d =
         record {
           found = omega arith;
-          rows = λ e l. write-outside y s.list (s.run.found * w) w e (inl l);
+          rows = λ e l. write_outside y s.list (s.run.found * w) w e (inl l);
           found2 = omega arith;
           rows₂ = λ e l. refl;
         }
@@ -56,26 +56,26 @@ step-rows m s = go (solves m (top m s))
           found = omega arith;
           rows = λ e l. refl;
           found2 = omega arith;
-          rows₂ = λ e l. write-outside y s.second (s.run.found2 * w) w e (inl l);
+          rows₂ = λ e l. write_outside y s.second (s.run.found2 * w) w e (inl l);
         }
 
     go : (b : Bool) → RowsStay (width m) s (pick b (listed m s) (grown m s))
-    go true = enlisted (toSecond m.kind (top m s)) (width m) (row_of m.kind (top m s)) _
+    go true = enlisted (to_second m.kind (top m s)) (width m) (row_of m.kind (top m s)) _
     go false = record { found = omega arith; rows = λ e l. refl; found2 = omega arith; rows₂ = λ e l. refl }
 
 -- a continuing call, plain or capped
-pub rows_stay : (budget : ℕ) (i : Input) (s : State) → RowsStay (width (systemOf i)) s (resume budget i s).state
+pub rows_stay : (budget : ℕ) (i : Input) (s : State) → RowsStay (width (system_of i)) s (resume budget i s).state
 rows_stay budget i s =
-    call-keeps (machine i) (RowsStay (width (systemOf i)) s) (λ t r. r) (λ t r g. rows_more r (step-rows (systemOf i) t)) budget s
-    (rows_same (width (systemOf i)) s)
+    call_keeps (machine i) (RowsStay (width (system_of i)) s) (λ t r. r) (λ t r g. rows_more r (step_rows (system_of i) t)) budget s
+    (rows_same (width (system_of i)) s)
 
 -- one step more
-next : (i : Input) (n : ℕ) (s : State) → after (n + 1) (machine i) s ≡ step (systemOf i) (after n (machine i) s)
+next : (i : Input) (n : ℕ) (s : State) → after (n + 1) (machine i) s ≡ step (system_of i) (after n (machine i) s)
 next i = after_next (machine i) (λ t. refl)
 
 -- and each of its steps
-pub rows-each : (i : Input) (n : ℕ) (s : State) → RowsStay (width (systemOf i)) (after n (machine i) s) (after (n + 1) (machine i) s)
-rows-each i n s = rw (next i n s) (step-rows (systemOf i) (after n (machine i) s))
+pub rows_each : (i : Input) (n : ℕ) (s : State) → RowsStay (width (system_of i)) (after n (machine i) s) (after (n + 1) (machine i) s)
+rows_each i n s = rw (next i n s) (step_rows (system_of i) (after n (machine i) s))
 
 -- ---- the record
 
@@ -84,17 +84,17 @@ pub record RecordKept (s t : State) : Type 0 where
   pub kind : t.run.kind ≡ s.run.kind
   pub steps2 : t.run.steps2 ≡ s.run.steps2
 
-pub record-kept : (budget : ℕ) (i : Input) (s : State) → RecordKept s (resume budget i s).state
-record-kept budget i s =
-    call-keeps (machine i) (RecordKept s) (λ t r. r)
-    (λ t r g. let k = step_kept (systemOf i) t in record { kind = k.kind ∙ r.kind; steps2 = k.before ∙ r.steps2 }) budget s
+pub record_kept : (budget : ℕ) (i : Input) (s : State) → RecordKept s (resume budget i s).state
+record_kept budget i s =
+    call_keeps (machine i) (RecordKept s) (λ t r. r)
+    (λ t r g. let k = step_kept (system_of i) t in record { kind = k.kind ∙ r.kind; steps2 = k.before ∙ r.steps2 }) budget s
     (record { kind = refl; steps2 = refl })
 
 -- and a plain one: the second list, and its count
-pub aside-kept : (budget : ℕ) (m : Map) (s : State) → Aside s (resume budget (byItself m) s).state
-aside-kept budget m s =
-    call-keeps (machine (byItself m)) (Aside s) (λ t r. r)
-    (λ t r g. let a = step-aside (mapOf (byItself m)) (λ x. refl) t in record { second = a.second ∙ r.second; found2 = a.found2 ∙ r.found2 }) budget s
+pub aside_kept : (budget : ℕ) (m : Map) (s : State) → Aside s (resume budget (by_itself m) s).state
+aside_kept budget m s =
+    call_keeps (machine (by_itself m)) (Aside s) (λ t r. r)
+    (λ t r g. let a = step_aside (map_of (by_itself m)) (λ x. refl) t in record { second = a.second ∙ r.second; found2 = a.found2 ∙ r.found2 }) budget s
     (record { second = refl; found2 = refl })
 
 -- ---- the stack rows below the one taken off
@@ -103,56 +103,56 @@ aside-kept budget m s =
 abbrev pub RowsBelow : ℕ → ℕ → State → State → Type 0
 RowsBelow q h s t = (l j : ℕ) → l < h → j ≤ q → at t.stack (q + 1) l j ≡ at s.stack (q + 1) l j
 
-step-below : (m : System) (s : State) → RowsBelow m.q (level s) s (step m s)
+step_below : (m : System) (s : State) → RowsBelow m.q (level s) s (step m s)
 unfolding step listed grown
-step-below m s l j h jq = go (solves m (top m s))
+step_below m s l j h jq = go (solves m (top m s))
   where
-    enlisted : (b : Bool) (w : ℕ) (y : ℕ → ℕ) (d : ℕ) → at (enlistIn b w s y d).stack (m.q + 1) l j ≡ at s.stack (m.q + 1) l j
+    enlisted : (b : Bool) (w : ℕ) (y : ℕ → ℕ) (d : ℕ) → at (enlist_in b w s y d).stack (m.q + 1) l j ≡ at s.stack (m.q + 1) l j
     enlisted false w y d = refl
     enlisted true w y d = refl
 
     go : (b : Bool) → at (pick b (listed m s) (grown m s)).stack (m.q + 1) l j ≡ at s.stack (m.q + 1) l j
-    go true = enlisted (toSecond m.kind (top m s)) (width m) _ _
-    go false = children-keep m s m.q l j h jq
+    go true = enlisted (to_second m.kind (top m s)) (width m) _ _
+    go false = children_keep m s m.q l j h jq
 
 -- the height after a step is that level or more
-step-high : (m : System) (s : State) → level s ≤ (step m s).run.height
+step_high : (m : System) (s : State) → level s ≤ (step m s).run.height
 unfolding step listed grown
-step-high m s = go (solves m (top m s))
+step_high m s = go (solves m (top m s))
   where
-    enlisted : (b : Bool) (w : ℕ) (y : ℕ → ℕ) (d : ℕ) → level s ≤ (enlistIn b w s y d).run.height
+    enlisted : (b : Bool) (w : ℕ) (y : ℕ → ℕ) (d : ℕ) → level s ≤ (enlist_in b w s y d).run.height
     enlisted false w y d = omega arith
     enlisted true w y d = omega arith
 
     go : (b : Bool) → level s ≤ (pick b (listed m s) (grown m s)).run.height
-    go true = enlisted (toSecond m.kind (top m s)) (width m) _ _
+    go true = enlisted (to_second m.kind (top m s)) (width m) _ _
     go false = omega arith
 
 -- of each step of a continuing call
-pub rows-below : (i : Input) (n : ℕ) (s : State) → let t = after n (machine i) s in RowsBelow (systemOf i).q (level t) t (after (n + 1) (machine i) s)
-rows-below i n s = rw (next i n s) (step-below (systemOf i) (after n (machine i) s))
+pub rows_below : (i : Input) (n : ℕ) (s : State) → let t = after n (machine i) s in RowsBelow (system_of i).q (level t) t (after (n + 1) (machine i) s)
+rows_below i n s = rw (next i n s) (step_below (system_of i) (after n (machine i) s))
 
 -- ---- of runs whose lists only grow
 
 -- Of a machine on tables with rows of q unknowns, listed in rows of w numbers.
 pub record RowsKept (k : Machine State) (q w : ℕ) : Type 0 where
   -- "Table rows above the height keep what they last held.": in each step, every entry of the stack table from there on
-  pub above_kept : (budget : ℕ) (s : State) (n : ℕ) → n < callSteps budget k s → (e : ℕ) → (after (n + 1) k s).run.height * (q + 1) ≤ e
+  pub above_kept : (budget : ℕ) (s : State) (n : ℕ) → n < call_steps budget k s → (e : ℕ) → (after (n + 1) k s).run.height * (q + 1) ≤ e
       → get_or (after (n + 1) k s).stack e 0 ≡ get_or (after n k s).stack e 0
   -- the rows listed before a call stay as they are, and in each step those and the stack rows below the one taken off
   pub rows_stay : (budget : ℕ) (s : State) → RowsStay w s (call budget k s).state
-  pub rows-each : (n : ℕ) (s : State) → RowsStay w (after n k s) (after (n + 1) k s)
-  pub rows-below : (n : ℕ) (s : State) → RowsBelow q (level (after n k s)) (after n k s) (after (n + 1) k s)
+  pub rows_each : (n : ℕ) (s : State) → RowsStay w (after n k s) (after (n + 1) k s)
+  pub rows_below : (n : ℕ) (s : State) → RowsBelow q (level (after n k s)) (after n k s) (after (n + 1) k s)
 
 -- ---- runs from a lower bound
 
 module _ (lower : List ℕ) (m : Map) where
   abbrev i : Input
-  i = byItself m
+  i = by_itself m
 
-  settled-rows : (t : State) → RowsStay i.q t (settleFrom lower i t)
-  unfolding settleFrom lowered
-  settled-rows t = go t.run.kind t.run.height
+  settled_rows : (t : State) → RowsStay i.q t (settle_from lower i t)
+  unfolding settle_from lowered
+  settled_rows t = go t.run.kind t.run.height
     where
       same : {u : State} → u.list ≡ t.list → u.second ≡ t.second → u.run.found ≡ t.run.found → u.run.found2 ≡ t.run.found2 → RowsStay i.q t u
       same a b c d =
@@ -164,69 +164,69 @@ module _ (lower : List ℕ) (m : Map) where
           }
 
       go : (r : RunKind) (h : ℕ) → RowsStay i.q t (changed r h lower i t)
-      go plainRun h = rows_same i.q t
-      go cappedRun h = rows_same i.q t
-      go lowerPlain zero = same refl refl refl refl
-      go lowerPlain (suc h) = rows_same i.q t
-      go lowerAbove h = rows_same i.q t
-      go deskByDesk h = rows_same i.q t
+      go plain_run h = rows_same i.q t
+      go capped_run h = rows_same i.q t
+      go lower_plain zero = same refl refl refl refl
+      go lower_plain (suc h) = rows_same i.q t
+      go lower_above h = rows_same i.q t
+      go desk_by_desk h = rows_same i.q t
 
-  stepped-rows : (t : State) → RowsStay i.q t (stepFrom lower i t)
-  unfolding stepFrom
-  stepped-rows t = go t.run.kind
+  stepped_rows : (t : State) → RowsStay i.q t (step_from lower i t)
+  unfolding step_from
+  stepped_rows t = go t.run.kind
     where
-      above : RowsStay i.q t (step (aboveSystem lower i) t)
-      above = step-rows (aboveSystem lower i) t
+      above : RowsStay i.q t (step (above_system lower i) t)
+      above = step_rows (above_system lower i) t
 
-      go : (r : RunKind) → RowsStay i.q t (byWalk r (whole_of t.run.deepest (step (mapOf i) (plainPart t))) (step (aboveSystem lower i) t))
-      go plainRun = above
-      go cappedRun = above
-      go lowerPlain =
-          let r = step-rows (mapOf i) (plainPart t) in record { found = r.found2; rows = r.rows₂; found2 = r.found; rows₂ = r.rows }
-      go lowerAbove = above
-      go deskByDesk = above
+      go : (r : RunKind) → RowsStay i.q t (by_walk r (whole_of t.run.deepest (step (map_of i) (plain_part t))) (step (above_system lower i) t))
+      go plain_run = above
+      go capped_run = above
+      go lower_plain =
+          let r = step_rows (map_of i) (plain_part t) in record { found = r.found2; rows = r.rows₂; found2 = r.found; rows₂ = r.rows }
+      go lower_above = above
+      go desk_by_desk = above
 
-  pub rows-stay-from : (budget : ℕ) (s : State) → RowsStay i.q s (resumeFrom budget lower i s).state
-  rows-stay-from budget s =
-      call-keeps (machineFrom lower i) (RowsStay i.q s) (λ t r. rows_more r (settled-rows t)) (λ t r g. rows_more r (stepped-rows t)) budget s
+  pub rows_stay_from : (budget : ℕ) (s : State) → RowsStay i.q s (resume_from budget lower i s).state
+  rows_stay_from budget s =
+      call_keeps (machine_from lower i) (RowsStay i.q s) (λ t r. rows_more r (settled_rows t)) (λ t r g. rows_more r (stepped_rows t)) budget s
       (rows_same i.q s)
 
-  pub rows-each-from : (n : ℕ) (s : State) → RowsStay i.q (after n (machineFrom lower i) s) (after (n + 1) (machineFrom lower i) s)
-  rows-each-from n s =
-      let t : State = after n (machineFrom lower i) s in
-      rw (next-from lower m n s) (rows_more (stepped-rows t) (settled-rows (stepFrom lower i t)))
+  pub rows_each_from : (n : ℕ) (s : State) → RowsStay i.q (after n (machine_from lower i) s) (after (n + 1) (machine_from lower i) s)
+  rows_each_from n s =
+      let t : State = after n (machine_from lower i) s in
+      rw (next_from lower m n s) (rows_more (stepped_rows t) (settled_rows (step_from lower i t)))
 
   -- the change of walk is made at height 0, where there is no row below
-  settled-below : (h : ℕ) (t : State) → h ≤ t.run.height → RowsBelow i.q h t (settleFrom lower i t)
-  unfolding settleFrom lowered
-  settled-below h t low l j lh jq = go t.run.kind t.run.height refl
+  settled_below : (h : ℕ) (t : State) → h ≤ t.run.height → RowsBelow i.q h t (settle_from lower i t)
+  unfolding settle_from lowered
+  settled_below h t low l j lh jq = go t.run.kind t.run.height refl
     where
       go : (r : RunKind) (k : ℕ) → t.run.height ≡ k → at (changed r k lower i t).stack (i.q + 1) l j ≡ at t.stack (i.q + 1) l j
-      go plainRun k e = refl
-      go cappedRun k e = refl
-      go lowerPlain zero e = absurd (omega arith)
-      go lowerPlain (suc k) e = refl
-      go lowerAbove k e = refl
-      go deskByDesk k e = refl
+      go plain_run k e = refl
+      go capped_run k e = refl
+      go lower_plain zero e = absurd (omega arith)
+      go lower_plain (suc k) e = refl
+      go lower_above k e = refl
+      go desk_by_desk k e = refl
 
-  stepped-below : (t : State) → RowsBelow i.q (level t) t (stepFrom lower i t) × (level t ≤ (stepFrom lower i t).run.height)
-  unfolding stepFrom
-  stepped-below t = go t.run.kind
+  stepped_below : (t : State) → RowsBelow i.q (level t) t (step_from lower i t) × (level t ≤ (step_from lower i t).run.height)
+  unfolding step_from
+  stepped_below t = go t.run.kind
     where
-      above : RowsBelow i.q (level t) t (step (aboveSystem lower i) t) × (level t ≤ (step (aboveSystem lower i) t).run.height)
-      above = (step-below (aboveSystem lower i) t, step-high (aboveSystem lower i) t)
+      above : RowsBelow i.q (level t) t (step (above_system lower i) t) × (level t ≤ (step (above_system lower i) t).run.height)
+      above = (step_below (above_system lower i) t, step_high (above_system lower i) t)
 
-      go : (r : RunKind) → let u = byWalk r (whole_of t.run.deepest (step (mapOf i) (plainPart t))) (step (aboveSystem lower i) t) in
+      go : (r : RunKind) → let u = by_walk r (whole_of t.run.deepest (step (map_of i) (plain_part t))) (step (above_system lower i) t) in
           RowsBelow i.q (level t) t u × (level t ≤ u.run.height)
-      go plainRun = above
-      go cappedRun = above
-      go lowerPlain = (step-below (mapOf i) (plainPart t), step-high (mapOf i) (plainPart t))
-      go lowerAbove = above
-      go deskByDesk = above
+      go plain_run = above
+      go capped_run = above
+      go lower_plain = (step_below (map_of i) (plain_part t), step_high (map_of i) (plain_part t))
+      go lower_above = above
+      go desk_by_desk = above
 
-  pub rows-below-from : (n : ℕ) (s : State) → let t = after n (machineFrom lower i) s in
-      RowsBelow i.q (level t) t (after (n + 1) (machineFrom lower i) s)
-  rows-below-from n s =
-      let t : State = after n (machineFrom lower i) s in
-      let (b, h) = stepped-below t in
-      rw (next-from lower m n s) (λ l j lh jq. settled-below (level t) (stepFrom lower i t) h l j lh jq ∙ b l j lh jq)
+  pub rows_below_from : (n : ℕ) (s : State) → let t = after n (machine_from lower i) s in
+      RowsBelow i.q (level t) t (after (n + 1) (machine_from lower i) s)
+  rows_below_from n s =
+      let t : State = after n (machine_from lower i) s in
+      let (b, h) = stepped_below t in
+      rw (next_from lower m n s) (λ l j lh jq. settled_below (level t) (step_from lower i t) h l j lh jq ∙ b l j lh jq)

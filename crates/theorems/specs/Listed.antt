@@ -3,10 +3,10 @@ use Rattle.std.specs.Prelude.{◌≡◌, List, ℕ, suc, ◌≤◌, ◌<◌, get
 use Rattle.std.proofs.Common.{sym, ◌∙◌, inl, inr, arith}
 use Rattle.linear.specs.Combinations.{Enumerates}
 use Rattle.linear.specs.Tuples.{Same}
-use Rattle.definitions.specs.Reader.{Which, row, rowOfEither, rowPart, shown, table_at}
-use Rattle.definitions.specs.System.{mostUnknowns}
+use Rattle.definitions.specs.Reader.{Which, row, row_of_either, row_part, shown, table_at}
+use Rattle.definitions.specs.System.{most_unknowns}
 use Rattle.definitions.specs.Tables.{at, capacity}
-use Rattle.laws.specs.ReaderLaws.{either-row, listed-there, missing, part-entry, part_length, shows, two}
+use Rattle.laws.specs.ReaderLaws.{either_row, listed_there, missing, part_entry, part_length, shows, two}
 
 -- the table has n rows of q numbers or more; each of the first n is in W, and no two are the same
 pub record Only (q : ℕ) (W : (ℕ → ℕ) → Type 0) (table : List ℕ) (n : ℕ) : Type 0 where
@@ -39,18 +39,18 @@ only_one {q} {W} {table} {n} e z wz least = (one, λ j jq. sym (least _ (e.part.
 -- what the reader shows of row i, from 0: all of its numbers, and no more
 pub record Reads (q : ℕ) (table : List ℕ) (n i : ℕ) : Type 0 where
   pub part : List ℕ
-  pub is-shown : shown q table n (suc i) ≡ row part
+  pub is_shown : shown q table n (suc i) ≡ row part
   pub whole : length part ≡ q
   pub numbers : (j : ℕ) → j < q → get_or part j 0 ≡ at table q i j
 
-pub only-reads : {q : ℕ} {W : (ℕ → ℕ) → Type 0} {table : List ℕ} {n : ℕ} → 0 < q → q ≤ mostUnknowns → Only q W table n → (i : ℕ) → i < n → Reads q table n i
-only-reads {q} {W} {table} {n} some few o i l =
+pub only_reads : {q : ℕ} {W : (ℕ → ℕ) → Type 0} {table : List ℕ} {n : ℕ} → 0 < q → q ≤ most_unknowns → Only q W table n → (i : ℕ) → i < n → Reads q table n i
+only_reads {q} {W} {table} {n} some few o i l =
     let here : i < capacity q table = omega (arith, o.room) in
     record {
-      part = rowPart q table (suc i);
-      is-shown = shows q table n i some few l here;
+      part = row_part q table (suc i);
+      is_shown = shows q table n i some few l here;
       whole = part_length q table i some here;
-      numbers = λ j jq. part-entry q table i j jq;
+      numbers = λ j jq. part_entry q table i j jq;
     }
 
 -- what is handed out is row i, from 0, of a table: all of its numbers, and no more
@@ -59,13 +59,13 @@ pub record IsRow (q : ℕ) (table : List ℕ) (i : ℕ) (part : List ℕ) : Type
   pub numbers : (j : ℕ) → j < q → get_or part j 0 ≡ at table q i j
 
 -- of two lists: "A row asked for is handed out as a part of whichever table it was asked from"
-pub only-reads-at : {q : ℕ} {W : (ℕ → ℕ) → Type 0} (w : Which) (list second : List ℕ) {n : ℕ} → 0 < q → q < mostUnknowns → Only q W (table_at w list second) n
-    → (i : ℕ) → i < n → IsRow q (table_at w list second) i (rowOfEither w q list second n (suc i))
-only-reads-at {q} {W} w list second {n} some few o i l =
+pub only_reads_at : {q : ℕ} {W : (ℕ → ℕ) → Type 0} (w : Which) (list second : List ℕ) {n : ℕ} → 0 < q → q < most_unknowns → Only q W (table_at w list second) n
+    → (i : ℕ) → i < n → IsRow q (table_at w list second) i (row_of_either w q list second n (suc i))
+only_reads_at {q} {W} w list second {n} some few o i l =
     let here : i < capacity q (table_at w list second) = omega (arith, o.room) in
-    let there = either-row w q list second n (suc i) (λ none. elim none [
+    let there = either_row w q list second n (suc i) (λ none. elim none [
       | two (inl h) ↦ omega arith
       | two (inr h) ↦ omega arith
-      | missing m ↦ listed-there l here m
+      | missing m ↦ listed_there l here m
     ]) in
-    rw there (record { whole = part_length q (table_at w list second) i some here; numbers = λ j jq. part-entry q (table_at w list second) i j jq })
+    rw there (record { whole = part_length q (table_at w list second) i some here; numbers = λ j jq. part_entry q (table_at w list second) i j jq })

@@ -7,40 +7,40 @@ use Rattle.std.proofs.Math.Nat.{mul-le-mul_right}
 use Rattle.std.proofs.Math.ListN.{get_or, length}
 use Rattle.linear.specs.Tests.{count_to}
 use Rattle.definitions.specs.Answers.{go}
-use Rattle.definitions.specs.Calls.{changed, machine, machineFrom, resume, resumeFrom, resumeSteps, settleFrom, start, startFrom, stepFrom}
-use Rattle.definitions.specs.Input.{Input, aboveSystem, alone, boundOf, mapOf, systemOf}
+use Rattle.definitions.specs.Calls.{changed, machine, machine_from, resume, resume_from, resume_steps, settle_from, start, start_from, step_from}
+use Rattle.definitions.specs.Input.{Input, above_system, alone, bound_of, map_of, system_of}
 use Rattle.definitions.specs.Machine.{after, checked}
-use Rattle.definitions.specs.Refusals.{lowerChecks, resumeChecks, resumeFromChecks, startChecks}
-use Rattle.definitions.specs.Step.{deeper, enlist, enlistIn, grown, listed, pick, row_of, rowWidth, step, toSecond, top, width}
+use Rattle.definitions.specs.Refusals.{lower_checks, resume_checks, resume_from_checks, start_checks}
+use Rattle.definitions.specs.Step.{deeper, enlist, enlist_in, grown, listed, pick, row_of, row_width, step, to_second, top, width}
 use Rattle.definitions.specs.System.{Kind, System, solves}
-use Rattle.definitions.specs.Tables.{Record, RunKind, State, byWalk, cappedRun, deskByDesk, frozen, lowerAbove, lowerPlain, lowerStart, lowered, plainPart}
-use Rattle.definitions.specs.Tables.{plainRun, stackMarks, unitsStart, unitsTo, whole_of}
-use Rattle.laws.specs.CheckLaws.{check-cases}
-use Rattle.laws.specs.MachineLaws.{call-refused}
-use Rattle.laws.specs.LowerLaws.{GoingFrom, InOrderBy, ValidFrom, above-valid, plain-valid, resume-from-valid, search-going-from, settled-valid}
-use Rattle.laws.specs.LowerLaws.{start-from-valid, step-from-valid}
-use Rattle.laws.specs.RefusalLaws.{Going, Room, Valid, resume-valid, search-going, start-shaped}
-use Rattle.laws.specs.StepLaws.{children-length, children-outside}
-use Rattle.laws.specs.TableLaws.{row-length, row-outside, units-length, units-outside, write-outside}
-use Rattle.laws.specs.ValidLaws.{children-few, enlists, step-valid, units-inside, units-valid}
-use Rattle.theorems.specs.Maps.{Map, byItself}
-use Rattle.theorems.specs.Series.{Call, callChecks, continuing, continuing-from, perform, refused-outcome, starting, starting-from}
-use Rattle.theorems.specs.WholeSteps.{Goes, after-keeps, after_next, call-going, call-keeps}
+use Rattle.definitions.specs.Tables.{Record, RunKind, State, by_walk, capped_run, desk_by_desk, frozen, lower_above, lower_plain, lower_start, lowered, plain_part}
+use Rattle.definitions.specs.Tables.{plain_run, stack_marks, units_start, units_to, whole_of}
+use Rattle.laws.specs.CheckLaws.{check_cases}
+use Rattle.laws.specs.MachineLaws.{call_refused}
+use Rattle.laws.specs.LowerLaws.{GoingFrom, InOrderBy, ValidFrom, above_valid, plain_valid, resume_from_valid, search_going_from, settled_valid}
+use Rattle.laws.specs.LowerLaws.{start_from_valid, step_from_valid}
+use Rattle.laws.specs.RefusalLaws.{Going, Room, Valid, resume_valid, search_going, start_shaped}
+use Rattle.laws.specs.StepLaws.{children_length, children_outside}
+use Rattle.laws.specs.TableLaws.{row_length, row_outside, units_length, units_outside, write_outside}
+use Rattle.laws.specs.ValidLaws.{children_few, enlists, step_valid, units_inside, units_valid}
+use Rattle.theorems.specs.Maps.{Map, by_itself}
+use Rattle.theorems.specs.Series.{Call, call_checks, continuing, continuing_from, perform, refused_outcome, starting, starting_from}
+use Rattle.theorems.specs.WholeSteps.{Goes, after_keeps, after_next, call_going, call_keeps}
 
 -- What a call for q unknowns and list rows of w numbers leaves alone, that was lent s and leaves t.
 pub record Untouched (q w : ℕ) (s t : State) : Type 0 where
-  pub stack-length : length t.stack ≡ length s.stack
+  pub stack_length : length t.stack ≡ length s.stack
   -- "It needs q rows; entries beyond them are never touched."
   pub beyond : (e : ℕ) → q * (q + 1) ≤ e → get_or t.stack e 0 ≡ get_or s.stack e 0
   pub list_length : length t.list ≡ length s.list
   -- "List rows past the found count are not touched."
   pub past : (e : ℕ) → t.run.found * w ≤ e → get_or t.list e 0 ≡ get_or s.list e 0
   -- and of the second list
-  pub second-length : length t.second ≡ length s.second
+  pub second_length : length t.second ≡ length s.second
   pub past₂ : (e : ℕ) → t.run.found2 * w ≤ e → get_or t.second e 0 ≡ get_or s.second e 0
 
 pub untouched : (q w : ℕ) (s : State) → Untouched q w s s
-untouched q w s = record { stack-length = refl; beyond = λ e l. refl; list_length = refl; past = λ e l. refl; second-length = refl; past₂ = λ e l. refl }
+untouched q w s = record { stack_length = refl; beyond = λ e l. refl; list_length = refl; past = λ e l. refl; second_length = refl; past₂ = λ e l. refl }
 
 -- ---- one step
 
@@ -51,24 +51,24 @@ pub record Enlisting (w : ℕ) (s t : State) : Type 0 where
   pub grows₂ : s.run.found2 ≤ t.run.found2
   pub past₂ : (e : ℕ) → t.run.found2 * w ≤ e → get_or t.second e 0 ≡ get_or s.second e 0
 
-enlisting-in : (b : Bool) (w : ℕ) (s : State) (y : ℕ → ℕ) (deepest : ℕ) → Enlisting w s (enlistIn b w s y deepest)
-enlisting-in false w s y deepest =
+enlisting_in : (b : Bool) (w : ℕ) (s : State) (y : ℕ → ℕ) (deepest : ℕ) → Enlisting w s (enlist_in b w s y deepest)
+enlisting_in false w s y deepest =
     record {
       grows = omega arith;
-      past = λ e l. write-outside y s.list (s.run.found * w) w e (inr (omega arith));
+      past = λ e l. write_outside y s.list (s.run.found * w) w e (inr (omega arith));
       grows₂ = omega arith;
       past₂ = λ e l. refl;
     }
-enlisting-in true w s y deepest =
+enlisting_in true w s y deepest =
     record {
       grows = omega arith;
       past = λ e l. refl;
       grows₂ = omega arith;
-      past₂ = λ e l. write-outside y s.second (s.run.found2 * w) w e (inr (omega arith));
+      past₂ = λ e l. write_outside y s.second (s.run.found2 * w) w e (inr (omega arith));
     }
 
-enlisting : (k : Kind) (q : ℕ) (s : State) (x : ℕ → ℕ) → Enlisting (rowWidth k q) s (enlist k q s x)
-enlisting k q s x = enlisting-in (toSecond k x) (rowWidth k q) s (row_of k x) (deeper q s x)
+enlisting : (k : Kind) (q : ℕ) (s : State) (x : ℕ → ℕ) → Enlisting (row_width k q) s (enlist k q s x)
+enlisting k q s x = enlisting_in (to_second k x) (row_width k q) s (row_of k x) (deeper q s x)
 
 -- "Table rows above the height keep what they last held.": every entry from there on
 pub above_kept : (m : System) (s : State) → Valid m s → Going m s → (e : ℕ) → (step m s).run.height * (m.q + 1) ≤ e
@@ -79,226 +79,226 @@ above_kept m s v g e = go (solves m (top m s)) g.roomy
     go : (b : Bool) → (T b → Room m.kind m.q s (top m s)) → (pick b (listed m s) (grown m s)).run.height * (m.q + 1) ≤ e
         → get_or (pick b (listed m s) (grown m s)).stack e 0 ≡ get_or s.stack e 0
     go true room l = ap (λ stack. get_or stack e 0) (enlists m.kind m.q s (top m s) (room tt)).stack
-    go false room l = children-outside m s m.q e l
+    go false room l = children_outside m s m.q e l
 
 module _ (m : System) (s t : State) (v : Valid m t) (g : Going m t) (u : Untouched m.q (width m) s t) where
-  listed-untouched : Room m.kind m.q t (top m t) → Untouched m.q (width m) s (listed m t)
+  listed_untouched : Room m.kind m.q t (top m t) → Untouched m.q (width m) s (listed m t)
   unfolding listed
-  listed-untouched room =
+  listed_untouched room =
       let e = enlists m.kind m.q t (top m t) room in
       let l = enlisting m.kind m.q t (top m t) in
       record {
-        stack-length = ap length e.stack ∙ u.stack-length;
+        stack_length = ap length e.stack ∙ u.stack_length;
         beyond = λ p h. ap (λ stack. get_or stack p 0) e.stack ∙ u.beyond p h;
         list_length = e.room ∙ u.list_length;
         past = λ p h. l.past p h ∙ u.past p (omega (arith, mul-le-mul_right (width m) l.grows));
-        second-length = e.room₂ ∙ u.second-length;
+        second_length = e.room₂ ∙ u.second_length;
         past₂ = λ p h. l.past₂ p h ∙ u.past₂ p (omega (arith, mul-le-mul_right (width m) l.grows₂));
       }
 
-  grown-untouched : Untouched m.q (width m) s (grown m t)
+  grown_untouched : Untouched m.q (width m) s (grown m t)
   unfolding grown
-  grown-untouched =
+  grown_untouched =
       record {
-        stack-length = children-length m t m.q ∙ u.stack-length;
-        beyond = λ e h. children-outside m t m.q e (omega (arith, mul-le-mul_right (m.q + 1) (children-few m t v g.high))) ∙ u.beyond e h;
+        stack_length = children_length m t m.q ∙ u.stack_length;
+        beyond = λ e h. children_outside m t m.q e (omega (arith, mul-le-mul_right (m.q + 1) (children_few m t v g.high))) ∙ u.beyond e h;
         list_length = u.list_length;
         past = u.past;
-        second-length = u.second-length;
+        second_length = u.second_length;
         past₂ = u.past₂;
       }
 
-  step-untouched : Untouched m.q (width m) s (step m t)
+  step_untouched : Untouched m.q (width m) s (step m t)
   unfolding step
-  step-untouched = go (solves m (top m t)) g.roomy
+  step_untouched = go (solves m (top m t)) g.roomy
     where
       go : (b : Bool) → (T b → Room m.kind m.q t (top m t)) → Untouched m.q (width m) s (pick b (listed m t) (grown m t))
-      go true room = listed-untouched (room tt)
-      go false room = grown-untouched
+      go true room = listed_untouched (room tt)
+      go false room = grown_untouched
 
 -- ---- the calls
 
-abbrev pub inputFor : Call → Input
-inputFor (starting i) = i
-inputFor (starting-from lower m) = byItself m
-inputFor (continuing budget i) = i
-inputFor (continuing-from budget lower m) = byItself m
+abbrev pub input_for : Call → Input
+input_for (starting i) = i
+input_for (starting_from lower m) = by_itself m
+input_for (continuing budget i) = i
+input_for (continuing_from budget lower m) = by_itself m
 
 -- "Row k of the stack always carries exactly k − 1 marks." (from 0 here)
 abbrev pub Marked : ℕ → State → Type 0
-Marked q t = (k : ℕ) → k < t.run.height → count_to q (frozen (stackMarks q t k)) ≡ k
+Marked q t = (k : ℕ) → k < t.run.height → count_to q (frozen (stack_marks q t k)) ≡ k
 
 -- A call whose checks let it go on leaves rows with their marks, and what is none of its own untouched.
 pub record Leaves (q w : ℕ) (s t : State) : Type 0 where
   pub marked : Marked q t
   pub untouched : Untouched q w s t
 
-units-untouched : (q w : ℕ) (s : State) (run : Record)
-    → Untouched q w s (record { stack = unitsTo q q s.stack; list = s.list; second = s.second; run = run })
-units-untouched q w s run =
+units_untouched : (q w : ℕ) (s : State) (run : Record)
+    → Untouched q w s (record { stack = units_to q q s.stack; list = s.list; second = s.second; run = run })
+units_untouched q w s run =
     record {
-      stack-length = units-length q s.stack q;
-      beyond = units-outside q s.stack q;
+      stack_length = units_length q s.stack q;
+      beyond = units_outside q s.stack q;
       list_length = refl;
       past = λ e l. refl;
-      second-length = refl;
+      second_length = refl;
       past₂ = λ e l. refl;
     }
 
 module _ (i : Input) (s : State) where
   abbrev n : ℕ
-  n = (systemOf i).q
+  n = (system_of i).q
 
-  units-leaves : startChecks i s ≡ go → Leaves n (width (systemOf i)) s (unitsStart (systemOf i) s)
-  unfolding unitsStart
-  units-leaves e =
+  units_leaves : start_checks i s ≡ go → Leaves n (width (system_of i)) s (units_start (system_of i) s)
+  unfolding units_start
+  units_leaves e =
       record {
-        marked = λ k l. ((units-valid (systemOf i) s (start-shaped i s e) (units-inside i.extra i)).ordered.rows k l).marked;
-        untouched = units-untouched n (width (systemOf i)) s _;
+        marked = λ k l. ((units_valid (system_of i) s (start_shaped i s e) (units_inside i.extra i)).ordered.rows k l).marked;
+        untouched = units_untouched n (width (system_of i)) s _;
       }
 
-  resume-leaves : (budget : ℕ) → resumeChecks i s ≡ go → Leaves n (width (systemOf i)) s (resume budget i s).state
-  resume-leaves budget e =
-      let (v, u) = call-keeps (machine i) (λ t. Valid (systemOf i) t × Untouched n (width (systemOf i)) s t) (λ t l. l) kept budget s
-      (resume-valid i s e, untouched n (width (systemOf i)) s) in
+  resume_leaves : (budget : ℕ) → resume_checks i s ≡ go → Leaves n (width (system_of i)) s (resume budget i s).state
+  resume_leaves budget e =
+      let (v, u) = call_keeps (machine i) (λ t. Valid (system_of i) t × Untouched n (width (system_of i)) s t) (λ t l. l) kept budget s
+      (resume_valid i s e, untouched n (width (system_of i)) s) in
       record { marked = λ k l. (v.ordered.rows k l).marked; untouched = u }
     where
-      kept : (t : State) → Valid (systemOf i) t × Untouched n (width (systemOf i)) s t → Goes (machine i) t
-          → Valid (systemOf i) (step (systemOf i) t) × Untouched n (width (systemOf i)) s (step (systemOf i) t)
+      kept : (t : State) → Valid (system_of i) t × Untouched n (width (system_of i)) s t → Goes (machine i) t
+          → Valid (system_of i) (step (system_of i) t) × Untouched n (width (system_of i)) s (step (system_of i) t)
       kept t (v, u) (h, f) =
-          let g = search-going (systemOf i) t v.ordered h f in
-          (step-valid (systemOf i) t v h g, step-untouched (systemOf i) s t v g u)
+          let g = search_going (system_of i) t v.ordered h f in
+          (step_valid (system_of i) t v h g, step_untouched (system_of i) s t v g u)
 
 -- ---- runs from a lower bound
 
 -- the plain walk's list is the second one
-plain-untouched : {q w : ℕ} {s t : State} → Untouched q w s t → Untouched q w (plainPart s) (plainPart t)
-plain-untouched u =
+plain_untouched : {q w : ℕ} {s t : State} → Untouched q w s t → Untouched q w (plain_part s) (plain_part t)
+plain_untouched u =
     record {
-      stack-length = u.stack-length;
+      stack_length = u.stack_length;
       beyond = u.beyond;
-      list_length = u.second-length;
+      list_length = u.second_length;
       past = u.past₂;
-      second-length = u.list_length;
+      second_length = u.list_length;
       past₂ = u.past;
     }
 
-whole-untouched : {q w d : ℕ} {s t : State} → Untouched q w (plainPart s) t → Untouched q w s (whole_of d t)
-whole-untouched u =
+whole_untouched : {q w d : ℕ} {s t : State} → Untouched q w (plain_part s) t → Untouched q w s (whole_of d t)
+whole_untouched u =
     record {
-      stack-length = u.stack-length;
+      stack_length = u.stack_length;
       beyond = u.beyond;
-      list_length = u.second-length;
+      list_length = u.second_length;
       past = u.past₂;
-      second-length = u.list_length;
+      second_length = u.list_length;
       past₂ = u.past;
     }
 
 -- its rows carry their marks, in either walk
 marked_by : (lower : List ℕ) (i : Input) (t : State) (r : RunKind) → InOrderBy r lower i t → Marked i.q t
-marked_by lower i t plainRun o = absurd o
-marked_by lower i t cappedRun o = absurd o
-marked_by lower i t lowerPlain (o, f, l) = λ k h. (o.rows k h).marked
-marked_by lower i t lowerAbove (o, l) = λ k h. (o.rows k h).marked
-marked_by lower i t deskByDesk o = absurd o
+marked_by lower i t plain_run o = absurd o
+marked_by lower i t capped_run o = absurd o
+marked_by lower i t lower_plain (o, f, l) = λ k h. (o.rows k h).marked
+marked_by lower i t lower_above (o, l) = λ k h. (o.rows k h).marked
+marked_by lower i t desk_by_desk o = absurd o
 
 module _ (lower : List ℕ) (m : Map) (s : State) where
   abbrev i : Input
-  i = byItself m
+  i = by_itself m
 
   abbrev Standing : State → Type 0
   Standing t = ValidFrom lower i t × Untouched i.q i.q s t
 
-  settled-untouched : (t : State) → Standing t → Untouched i.q i.q s (settleFrom lower i t)
-  unfolding settleFrom lowered
-  settled-untouched t (v, u) = go t.run.kind t.run.height
+  settled_untouched : (t : State) → Standing t → Untouched i.q i.q s (settle_from lower i t)
+  unfolding settle_from lowered
+  settled_untouched t (v, u) = go t.run.kind t.run.height
     where
-      lowers : Untouched i.q i.q s (lowered (boundOf lower) i.q t)
+      lowers : Untouched i.q i.q s (lowered (bound_of lower) i.q t)
       lowers =
           record {
-            stack-length = row-length i.q t.stack 0 (boundOf lower) 0 ∙ u.stack-length;
+            stack_length = row_length i.q t.stack 0 (bound_of lower) 0 ∙ u.stack_length;
             beyond = λ e h.
-                row-outside true i.q t.stack 0 (boundOf lower) 0 e (omega (arith, mul-le-mul_right (i.q + 1) v.shaped.q-some)) ∙ u.beyond e h;
+                row_outside true i.q t.stack 0 (bound_of lower) 0 e (omega (arith, mul-le-mul_right (i.q + 1) v.shaped.q_some)) ∙ u.beyond e h;
             list_length = u.list_length;
             past = u.past;
-            second-length = u.second-length;
+            second_length = u.second_length;
             past₂ = u.past₂;
           }
 
       go : (r : RunKind) (h : ℕ) → Untouched i.q i.q s (changed r h lower i t)
-      go plainRun h = u
-      go cappedRun h = u
-      go lowerPlain zero = lowers
-      go lowerPlain (suc h) = u
-      go lowerAbove h = u
-      go deskByDesk h = u
+      go plain_run h = u
+      go capped_run h = u
+      go lower_plain zero = lowers
+      go lower_plain (suc h) = u
+      go lower_above h = u
+      go desk_by_desk h = u
 
-  stepped-untouched : (t : State) → Standing t → GoingFrom lower i t → Untouched i.q i.q s (stepFrom lower i t)
-  unfolding stepFrom
-  stepped-untouched t (v, u) (p, a) = go t.run.kind refl v.ordered
+  stepped_untouched : (t : State) → Standing t → GoingFrom lower i t → Untouched i.q i.q s (step_from lower i t)
+  unfolding step_from
+  stepped_untouched t (v, u) (p, a) = go t.run.kind refl v.ordered
     where
       go : (r : RunKind) → t.run.kind ≡ r → InOrderBy r lower i t
-          → Untouched i.q i.q s (byWalk r (whole_of t.run.deepest (step (mapOf i) (plainPart t))) (step (aboveSystem lower i) t))
-      go plainRun e o = absurd o
-      go cappedRun e o = absurd o
-      go lowerPlain e o =
-          whole-untouched {s = s} (step-untouched (mapOf i) (plainPart s) (plainPart t) (plain-valid lower i t e v) (p e) (plain-untouched {s = s} {t = t} u))
-      go lowerAbove e o = step-untouched (aboveSystem lower i) s t (above-valid lower i t e v) (a e) u
-      go deskByDesk e o = absurd o
+          → Untouched i.q i.q s (by_walk r (whole_of t.run.deepest (step (map_of i) (plain_part t))) (step (above_system lower i) t))
+      go plain_run e o = absurd o
+      go capped_run e o = absurd o
+      go lower_plain e o =
+          whole_untouched {s = s} (step_untouched (map_of i) (plain_part s) (plain_part t) (plain_valid lower i t e v) (p e) (plain_untouched {s = s} {t = t} u))
+      go lower_above e o = step_untouched (above_system lower i) s t (above_valid lower i t e v) (a e) u
+      go desk_by_desk e o = absurd o
 
-  pub kept-standing : (t : State) → Standing t → Goes (machineFrom lower i) t → Standing (stepFrom lower i t)
-  kept-standing t (v, u) (h, f) =
-      let g = search-going-from lower i t v h f in (step-from-valid lower i t v g, stepped-untouched t (v, u) g)
+  pub kept_standing : (t : State) → Standing t → Goes (machine_from lower i) t → Standing (step_from lower i t)
+  kept_standing t (v, u) (h, f) =
+      let g = search_going_from lower i t v h f in (step_from_valid lower i t v g, stepped_untouched t (v, u) g)
 
-  start-from-leaves : lowerChecks lower i s ≡ go → Leaves i.q i.q s (lowerStart (mapOf i) s)
-  unfolding lowerStart
-  start-from-leaves e =
+  start_from_leaves : lower_checks lower i s ≡ go → Leaves i.q i.q s (lower_start (map_of i) s)
+  unfolding lower_start
+  start_from_leaves e =
       record {
-        marked = marked_by lower i (lowerStart (mapOf i) s) lowerPlain (start-from-valid lower i s refl e).ordered;
-        untouched = units-untouched i.q i.q s _;
+        marked = marked_by lower i (lower_start (map_of i) s) lower_plain (start_from_valid lower i s refl e).ordered;
+        untouched = units_untouched i.q i.q s _;
       }
 
-  resume-from-leaves : (budget : ℕ) → resumeFromChecks lower i s ≡ go → Leaves i.q i.q s (resumeFrom budget lower i s).state
-  resume-from-leaves budget e =
-      let t : State = (resumeFrom budget lower i s).state in
-      let (v, u) = call-keeps (machineFrom lower i) Standing (λ t (v, u). (settled-valid lower i t v, settled-untouched t (v, u))) kept-standing budget s
-      ((resume-from-valid lower i s refl e).1, untouched i.q i.q s) in
+  resume_from_leaves : (budget : ℕ) → resume_from_checks lower i s ≡ go → Leaves i.q i.q s (resume_from budget lower i s).state
+  resume_from_leaves budget e =
+      let t : State = (resume_from budget lower i s).state in
+      let (v, u) = call_keeps (machine_from lower i) Standing (λ t (v, u). (settled_valid lower i t v, settled_untouched t (v, u))) kept_standing budget s
+      ((resume_from_valid lower i s refl e).1, untouched i.q i.q s) in
       record { marked = marked_by lower i t t.run.kind v.ordered; untouched = u }
 
-pub call-leaves : (c : Call) (s : State) → callChecks c s ≡ go → Leaves (systemOf (inputFor c)).q (width (systemOf (inputFor c))) s (perform c s).state
-unfolding start startFrom checked
-call-leaves (starting i) s e = rw e (units-leaves i s e)
-call-leaves (starting-from lower m) s e = rw e (start-from-leaves lower m s e)
-call-leaves (continuing budget i) s e = resume-leaves i s budget e
-call-leaves (continuing-from budget lower m) s e = resume-from-leaves lower m s budget e
+pub call_leaves : (c : Call) (s : State) → call_checks c s ≡ go → Leaves (system_of (input_for c)).q (width (system_of (input_for c))) s (perform c s).state
+unfolding start start_from checked
+call_leaves (starting i) s e = rw e (units_leaves i s e)
+call_leaves (starting_from lower m) s e = rw e (start_from_leaves lower m s e)
+call_leaves (continuing budget i) s e = resume_leaves i s budget e
+call_leaves (continuing_from budget lower m) s e = resume_from_leaves lower m s budget e
 
-pub call-untouched : (c : Call) (s : State) → Untouched (systemOf (inputFor c)).q (width (systemOf (inputFor c))) s (perform c s).state
-call-untouched c s =
-    elim (check-cases (callChecks c s)) [
-      | inl e ↦ (call-leaves c s e).untouched
-      | inr (n, values, e) ↦ rw (refused-outcome c s n values e) (untouched (systemOf (inputFor c)).q (width (systemOf (inputFor c))) s)
+pub call_untouched : (c : Call) (s : State) → Untouched (system_of (input_for c)).q (width (system_of (input_for c))) s (perform c s).state
+call_untouched c s =
+    elim (check_cases (call_checks c s)) [
+      | inl e ↦ (call_leaves c s e).untouched
+      | inr (n, values, e) ↦ rw (refused_outcome c s n values e) (untouched (system_of (input_for c)).q (width (system_of (input_for c))) s)
     ]
 
-pub call-marked : (c : Call) (s : State) → callChecks c s ≡ go → Marked (systemOf (inputFor c)).q (perform c s).state
-call-marked c s e = (call-leaves c s e).marked
+pub call_marked : (c : Call) (s : State) → call_checks c s ≡ go → Marked (system_of (input_for c)).q (perform c s).state
+call_marked c s e = (call_leaves c s e).marked
 
 -- each step of a continuing call keeps what lies above the height that it leaves
-pub steps-above : (budget : ℕ) (i : Input) (s : State) (n : ℕ) → n < resumeSteps budget i s → (e : ℕ)
-    → (after (n + 1) (machine i) s).run.height * ((systemOf i).q + 1) ≤ e
+pub steps_above : (budget : ℕ) (i : Input) (s : State) (n : ℕ) → n < resume_steps budget i s → (e : ℕ)
+    → (after (n + 1) (machine i) s).run.height * ((system_of i).q + 1) ≤ e
     → get_or (after (n + 1) (machine i) s).stack e 0 ≡ get_or (after n (machine i) s).stack e 0
-steps-above budget i s n l e h =
-    elim (check-cases (resumeChecks i s)) [
+steps_above budget i s n l e h =
+    elim (check_cases (resume_checks i s)) [
       | inl c ↦
           let t : State = after n (machine i) s in
-          let v = after-keeps (machine i) (Valid (systemOf i)) (λ t v. v) kept n s (resume-valid i s c)
-          (λ j jn. call-going (machine i) budget s c j (omega arith)) in
-          let (high, goes) = call-going (machine i) budget s c n l in
-          rw (next n s) (above_kept (systemOf i) t v (search-going (systemOf i) t v.ordered high goes) e (rw (next n s) at h))
-      | inr (r, values, c) ↦ absurd (omega (arith, (call-refused (machine i) s budget r values c).1))
+          let v = after_keeps (machine i) (Valid (system_of i)) (λ t v. v) kept n s (resume_valid i s c)
+          (λ j jn. call_going (machine i) budget s c j (omega arith)) in
+          let (high, goes) = call_going (machine i) budget s c n l in
+          rw (next n s) (above_kept (system_of i) t v (search_going (system_of i) t v.ordered high goes) e (rw (next n s) at h))
+      | inr (r, values, c) ↦ absurd (omega (arith, (call_refused (machine i) s budget r values c).1))
     ]
   where
-    kept : (t : State) → Valid (systemOf i) t → Goes (machine i) t → Valid (systemOf i) (step (systemOf i) t)
-    kept t v (high, f) = step-valid (systemOf i) t v high (search-going (systemOf i) t v.ordered high f)
+    kept : (t : State) → Valid (system_of i) t → Goes (machine i) t → Valid (system_of i) (step (system_of i) t)
+    kept t v (high, f) = step_valid (system_of i) t v high (search_going (system_of i) t v.ordered high f)
 
-    next : (n : ℕ) (s : State) → after (n + 1) (machine i) s ≡ step (systemOf i) (after n (machine i) s)
+    next : (n : ℕ) (s : State) → after (n + 1) (machine i) s ≡ step (system_of i) (after n (machine i) s)
     next = after_next (machine i) (λ t. refl)

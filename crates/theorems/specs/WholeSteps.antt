@@ -8,9 +8,9 @@ use Prim.Native.Nat.{ℕ, zero, suc, ◌+◌, ◌<◌}
 use Rattle.std.proofs.Math.Nat.{zero-add, suc-add}
 use Rattle.std.proofs.Math.Decide.{ℕ_discrete}
 use Rattle.definitions.specs.Answers.{Answer, complete, go, paused, refuse, refused}
-use Rattle.definitions.specs.Machine.{Machine, Outcome, after, call, callSteps, walk, walkSteps}
-use Rattle.laws.specs.CheckLaws.{check-cases}
-use Rattle.laws.specs.MachineLaws.{call-refused, call-walks, walk-done, walk_more, walk-paused, walk_refused}
+use Rattle.definitions.specs.Machine.{Machine, Outcome, after, call, call_steps, walk, walk_steps}
+use Rattle.laws.specs.CheckLaws.{check_cases}
+use Rattle.laws.specs.MachineLaws.{call_refused, call_walks, walk_done, walk_more, walk_paused, walk_refused}
 
 -- what is done ahead of a step is done once
 abbrev pub Steady : {S : Type 0} → Machine S → Type 0
@@ -40,25 +40,25 @@ module _ {S : Type 0} (k : Machine S) where
   later (pauses h e) = pauses h (ap suc e)
   later (refuses r values h l e) = refuses r values h (omega arith) e
 
-  walked-done : (n : ℕ) (s : S) → k.height (k.settle s) ≡ 0 → Walked n k s (walk n k s) (walkSteps n k s)
+  walked_done : (n : ℕ) (s : S) → k.height (k.settle s) ≡ 0 → Walked n k s (walk n k s) (walk_steps n k s)
   unfolding after
-  walked-done n s e = let d = walk-done k s n e in rw (d.0, d.1) (record { state = refl; ends = completes e })
+  walked_done n s e = let d = walk_done k s n e in rw (d.0, d.1) (record { state = refl; ends = completes e })
 
-  walked-zero : (s : S) → Walked 0 k s (walk 0 k s) (walkSteps 0 k s)
+  walked_zero : (s : S) → Walked 0 k s (walk 0 k s) (walk_steps 0 k s)
   unfolding after
-  walked-zero s =
+  walked_zero s =
       elim (ℕ_discrete (k.height (k.settle s)) 0) [
-        | yes e ↦ walked-done 0 s e
-        | no ne ↦ let d = walk-paused k s (positive ne) in rw (d.0, d.1) (record { state = refl; ends = pauses (positive ne) refl })
+        | yes e ↦ walked_done 0 s e
+        | no ne ↦ let d = walk_paused k s (positive ne) in rw (d.0, d.1) (record { state = refl; ends = pauses (positive ne) refl })
       ]
 
-  walked-suc : (n : ℕ) (s : S) → Walked n k (k.step (k.settle s)) (walk n k (k.step (k.settle s))) (walkSteps n k (k.step (k.settle s)))
-      → Walked (suc n) k s (walk (suc n) k s) (walkSteps (suc n) k s)
+  walked_suc : (n : ℕ) (s : S) → Walked n k (k.step (k.settle s)) (walk n k (k.step (k.settle s))) (walk_steps n k (k.step (k.settle s)))
+      → Walked (suc n) k s (walk (suc n) k s) (walk_steps (suc n) k s)
   unfolding after
-  walked-suc n s next =
+  walked_suc n s next =
       elim (ℕ_discrete (k.height (k.settle s)) 0) [
-        | yes e ↦ walked-done (suc n) s e
-        | no ne ↦ elim (check-cases (k.refusals (k.settle s))) [
+        | yes e ↦ walked_done (suc n) s e
+        | no ne ↦ elim (check_cases (k.refusals (k.settle s))) [
           | inl e ↦ let d = walk_more k s n (positive ne) e in rw (d.0, d.1) (record { state = next.state; ends = later next.ends })
           | inr (r, values, e) ↦
               let d = walk_refused k s n r values (positive ne) e in
@@ -66,78 +66,78 @@ module _ {S : Type 0} (k : Machine S) where
         ]
       ]
 
-  pub walked : (n : ℕ) (s : S) → Walked n k s (walk n k s) (walkSteps n k s)
-  walked zero s = walked-zero s
-  walked (suc n) s = walked-suc n s (walked n (k.step (k.settle s)))
+  pub walked : (n : ℕ) (s : S) → Walked n k s (walk n k s) (walk_steps n k s)
+  walked zero s = walked_zero s
+  walked (suc n) s = walked_suc n s (walked n (k.step (k.settle s)))
 
   -- a continuing call whose checks let it go on
-  pub called : (n : ℕ) (s : S) → k.before s ≡ go → Walked n k s (call n k s) (callSteps n k s)
-  called n s e = let d = call-walks k s n e in rw (d.0, d.1) (walked n s)
+  pub called : (n : ℕ) (s : S) → k.before s ≡ go → Walked n k s (call n k s) (call_steps n k s)
+  called n s e = let d = call_walks k s n e in rw (d.0, d.1) (walked n s)
 
   -- and any, where nothing is done ahead of a step
-  pub call-after : ((s : S) → k.settle s ≡ s) → (n : ℕ) (s : S) → (call n k s).state ≡ after (callSteps n k s) k s
+  pub call_after : ((s : S) → k.settle s ≡ s) → (n : ℕ) (s : S) → (call n k s).state ≡ after (call_steps n k s) k s
   unfolding after
-  call-after still n s =
-      elim (check-cases (k.before s)) [
+  call_after still n s =
+      elim (check_cases (k.before s)) [
         | inl e ↦ (called n s e).state
-        | inr (r, values, e) ↦ let d = call-refused k s n r values e in rw (d.0, d.1) (sym (still s))
+        | inr (r, values, e) ↦ let d = call_refused k s n r values e in rw (d.0, d.1) (sym (still s))
       ]
 
   -- each step that a walk takes is from a height above 0, and the search does not refuse it
-  pub walk-going : (n : ℕ) (s : S) (i : ℕ) → i < walkSteps n k s → Goes k (after i k s)
-  unfolding walkSteps after
-  walk-going zero s i l = absurd (omega arith)
-  walk-going (suc n) s i l = first (ℕ_discrete (k.height (k.settle s)) 0) (check-cases (k.refusals (k.settle s))) (walk-going n (k.step (k.settle s))) i l
+  pub walk_going : (n : ℕ) (s : S) (i : ℕ) → i < walk_steps n k s → Goes k (after i k s)
+  unfolding walk_steps after
+  walk_going zero s i l = absurd (omega arith)
+  walk_going (suc n) s i l = first (ℕ_discrete (k.height (k.settle s)) 0) (check_cases (k.refusals (k.settle s))) (walk_going n (k.step (k.settle s))) i l
     where
       first : Dec (k.height (k.settle s) ≡ 0)
           → (k.refusals (k.settle s) ≡ go) ⊎ ((r : ℕ) × (values : List ℕ) × (k.refusals (k.settle s) ≡ refuse r values))
-          → ((i : ℕ) → i < walkSteps n k (k.step (k.settle s)) → Goes k (after i k (k.step (k.settle s)))) → (i : ℕ) → i < walkSteps (suc n) k s
+          → ((i : ℕ) → i < walk_steps n k (k.step (k.settle s)) → Goes k (after i k (k.step (k.settle s)))) → (i : ℕ) → i < walk_steps (suc n) k s
           → Goes k (after i k s)
-      first (yes e) c next i l = absurd (omega (arith, (walk-done k s (suc n) e).1))
+      first (yes e) c next i l = absurd (omega (arith, (walk_done k s (suc n) e).1))
       first (no ne) (inr (r, values, e)) next i l = absurd (omega (arith, (walk_refused k s n r values (positive ne) e).1))
       first (no ne) (inl e) next zero l = (positive ne, e)
       first (no ne) (inl e) next (suc i) l = next i (omega (arith, (walk_more k s n (positive ne) e).1))
 
-  pub call-going : (n : ℕ) (s : S) → k.before s ≡ go → (i : ℕ) → i < callSteps n k s → Goes k (after i k s)
-  call-going n s e i l = walk-going n s i (rw (call-walks k s n e).1 at l)
+  pub call_going : (n : ℕ) (s : S) → k.before s ≡ go → (i : ℕ) → i < call_steps n k s → Goes k (after i k s)
+  call_going n s e i l = walk_going n s i (rw (call_walks k s n e).1 at l)
 
   -- what each step keeps that the search does not refuse, and what is done ahead of it, a continuing call keeps
   module _ (P : S → Type 0) (settles : (s : S) → P s → P (k.settle s)) (keep : (s : S) → P s → Goes k s → P (k.step s)) where
-    pub after-keeps : (n : ℕ) (s : S) → P s → ((i : ℕ) → i < n → Goes k (after i k s)) → P (after n k s)
+    pub after_keeps : (n : ℕ) (s : S) → P s → ((i : ℕ) → i < n → Goes k (after i k s)) → P (after n k s)
     unfolding after
-    after-keeps zero s p g = settles s p
-    after-keeps (suc n) s p g = after-keeps n (k.step (k.settle s)) (keep (k.settle s) (settles s p) (g 0 (omega arith))) (λ i l. g (suc i) (omega arith))
+    after_keeps zero s p g = settles s p
+    after_keeps (suc n) s p g = after_keeps n (k.step (k.settle s)) (keep (k.settle s) (settles s p) (g 0 (omega arith))) (λ i l. g (suc i) (omega arith))
 
-    pub walk-keeps : (n : ℕ) (s : S) → P s → P (walk n k s).state
-    walk-keeps n s p = rw (walked n s).state (after-keeps (walkSteps n k s) s p (walk-going n s))
+    pub walk_keeps : (n : ℕ) (s : S) → P s → P (walk n k s).state
+    walk_keeps n s p = rw (walked n s).state (after_keeps (walk_steps n k s) s p (walk_going n s))
 
-    pub call-keeps : (n : ℕ) (s : S) → P s → P (call n k s).state
-    call-keeps n s p =
-        elim (check-cases (k.before s)) [
-          | inl e ↦ rw (called n s e).state (after-keeps (callSteps n k s) s p (call-going n s e))
-          | inr (r, values, e) ↦ rw (call-refused k s n r values e).0 p
+    pub call_keeps : (n : ℕ) (s : S) → P s → P (call n k s).state
+    call_keeps n s p =
+        elim (check_cases (k.before s)) [
+          | inl e ↦ rw (called n s e).state (after_keeps (call_steps n k s) s p (call_going n s e))
+          | inr (r, values, e) ↦ rw (call_refused k s n r values e).0 p
         ]
 
 -- ---- steps after steps
 
 module _ {S : Type 0} (k : Machine S) (steady : Steady k) where
   -- a state that was settled
-  after-settled : (n : ℕ) (s : S) → after n k (k.settle s) ≡ after n k s
+  after_settled : (n : ℕ) (s : S) → after n k (k.settle s) ≡ after n k s
   unfolding after
-  after-settled zero s = steady s
-  after-settled (suc n) s = ap (λ t. after n k (k.step t)) (steady s)
+  after_settled zero s = steady s
+  after_settled (suc n) s = ap (λ t. after n k (k.step t)) (steady s)
 
   pub after_more : (i j : ℕ) (s : S) → after (i + j) k s ≡ after j k (after i k s)
   unfolding after
-  after_more zero j s = rw zero-add (sym (after-settled j s))
+  after_more zero j s = rw zero-add (sym (after_settled j s))
   after_more (suc i) j s = rw suc-add (after_more i j (k.step (k.settle s)))
 
-  pub settled-after : (n : ℕ) (s : S) → k.settle (after n k s) ≡ after n k s
+  pub settled_after : (n : ℕ) (s : S) → k.settle (after n k s) ≡ after n k s
   unfolding after
-  settled-after zero s = steady s
-  settled-after (suc n) s = settled-after n (k.step (k.settle s))
+  settled_after zero s = steady s
+  settled_after (suc n) s = settled_after n (k.step (k.settle s))
 
   -- one step more
   pub after_next : (n : ℕ) (s : S) → after (n + 1) k s ≡ k.settle (k.step (after n k s))
   unfolding after
-  after_next n s = after_more n 1 s ∙ ap (λ t. k.settle (k.step t)) (settled-after n s)
+  after_next n s = after_more n 1 s ∙ ap (λ t. k.settle (k.step t)) (settled_after n s)

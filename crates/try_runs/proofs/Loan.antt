@@ -78,8 +78,8 @@ use Rattle.calls.proofs.Answer.TheLaws as Ans'
 use Rattle.calls.specs.contracts.Outcome as Out
 use Rattle.calls.proofs.Outcome.TheLaws as Out'
 use Rattle.walk_ref.proofs.Frame.{Cells}
-use Rattle.walk_ref.proofs.Walk.{tokens, Met, Handed, hands, returned, Spelleds, spells, number, shared-slice, lent_slice, struct}
-use Rattle.walk_ref.proofs.Behind.{recordVal, Fmls, stars, takes, puts, found, behind, room, cell}
+use Rattle.walk_ref.proofs.Walk.{tokens, Met, Handed, hands, returned, Spelleds, spells, number, shared_slice, lent_slice, struct}
+use Rattle.walk_ref.proofs.Behind.{record_val, Fmls, stars, takes, puts, found, behind, room, cell}
 
 -- the machine values of arguments, as their types spell them
 abbrev pub values : (Rs : List RattleType) → Spelleds Rs → Denots Rs → Valss Rs
@@ -97,7 +97,7 @@ owned κs Rs ss = (
   (
     number w64,
     (
-      shared-slice (named 0) κs.0 i32,
+      shared_slice (named 0) κs.0 i32,
       (lent_slice (named 1) κs.1.0 u32, (lent_slice (named 2) κs.1.1.0 u32, (struct Rec.the_type Rec'.the_laws, ss))),
     ),
   ),
@@ -117,9 +117,9 @@ owned₂ E κs Rs ss = (
   (
     number w64,
     (
-      shared-slice (named 0) κs.0 i32,
+      shared_slice (named 0) κs.0 i32,
       (
-        shared-slice (named 1) κs.1.0 E,
+        shared_slice (named 1) κs.1.0 E,
         (
           lent_slice (named 2) κs.1.1.0 u32,
           (lent_slice (named 3) κs.1.1.1.0 u32, (lent_slice (named 4) κs.1.1.1.1.0 u32, (struct Rec.the_type Rec'.the_laws, ss))),
@@ -131,22 +131,22 @@ owned₂ E κs Rs ss = (
 
 -- ---- the local
 module _ {M : Type 1} {𝓤 : Ura M} (𝓛 : Logic 𝓤) (r : Record) (b : ℕ) where
-  lies : ent 𝓤 (sep 𝓤 (sem 𝓛 (fat full_share Rec'.mir b zero (recordVal r))) (sem 𝓛 ((Rec.the_row).own_val r (recordVal r ∷ []))))
+  lies : ent 𝓤 (sep 𝓤 (sem 𝓛 (fat full_share Rec'.mir b zero (record_val r))) (sem 𝓛 ((Rec.the_row).own_val r (record_val r ∷ []))))
       (sem 𝓛 (part_at Rec.the_row full_share r b zero))
   unfolding part_of
   lies =
-      qed 𝓛 (‵ (fat full_share Rec'.mir b zero (recordVal r)) ∷ ‵ ((Rec.the_row).own_val r (recordVal r ∷ [])) ∷ []) ∵
-      use1 𝓛 (‵ (cell_at full_share (Rec.the_row).mir (recordVal r ∷ []) b zero)) (𝓛.laws.at_raw full_share Rec'.mir b zero (recordVal r)) $ fjoin ! $
-      fpack ! (List Val) (λ vs. fsep (cell_at full_share (Rec.the_row).mir vs b zero) ((Rec.the_row).own_val r vs)) (recordVal r ∷ []) $ done !
+      qed 𝓛 (‵ (fat full_share Rec'.mir b zero (record_val r)) ∷ ‵ ((Rec.the_row).own_val r (record_val r ∷ [])) ∷ []) ∵
+      use1 𝓛 (‵ (cell_at full_share (Rec.the_row).mir (record_val r ∷ []) b zero)) (𝓛.laws.at_raw full_share Rec'.mir b zero (record_val r)) $ fjoin ! $
+      fpack ! (List Val) (λ vs. fsep (cell_at full_share (Rec.the_row).mir vs b zero) ((Rec.the_row).own_val r vs)) (record_val r ∷ []) $ done !
 
   stands : ent 𝓤 (sem 𝓛 (part_at Rec.the_row full_share r b zero))
-      (sep 𝓤 (sem 𝓛 (fat full_share Rec'.mir b zero (recordVal r))) (sem 𝓛 ((Rec.the_row).own_val r (recordVal r ∷ []))))
+      (sep 𝓤 (sem 𝓛 (fat full_share Rec'.mir b zero (record_val r))) (sem 𝓛 ((Rec.the_row).own_val r (record_val r ∷ []))))
   unfolding part_of
   stands =
       qed 𝓛 (‵ (part_at Rec.the_row full_share r b zero) ∷ []) ∵ fpick ! (λ vs. fsplit ! $
       spelt ! Rec.the_row (Is Rec.the_row) (shows 𝓛 Rec.the_row) (LL.vals Rec.the_type Rec'.the_laws) (LL.tells Rec.the_type Rec'.the_laws) full_share r
       vs b zero $
-      use1 𝓛 (‵ (fat full_share Rec'.mir b zero (recordVal r))) (𝓛.laws.raw_at full_share Rec'.mir b zero (recordVal r)) $ done !)
+      use1 𝓛 (‵ (fat full_share Rec'.mir b zero (record_val r))) (𝓛.laws.raw_at full_share Rec'.mir b zero (record_val r)) $ done !)
 
 -- the reference to the record r in the block b, of the name δ
 abbrev pub lent_at : ℕ → GName → Record → MutBor Record
@@ -162,7 +162,7 @@ module _ {M : Type 1} {𝓤 : Ura M} {𝓛 : Logic 𝓤} {K : Type 0} {Γ : List
       → ((ν : ℕ) (δ : GName) → Seq K 𝓛
       (raw (Handed 𝓛 (stars k ts (fsep (flft (ν ∷ []) full_share) T))
       (stars n fs (fsep ((MutRef ℓ (ν ∷ []) Rec.the_row).own_val (lent_at b δ r) (mut_vals (lent_at b δ r))) F))) ∷ lender ν b δ ∷ Γ) G)
-      → Seq K 𝓛 (cell Rec'.mir b (recordVal r) ∷ ‵ (stars k ts T) ∷ ‵ (stars n fs (fsep ((Rec.the_row).own_val r (recordVal r ∷ [])) F)) ∷ Γ) G
+      → Seq K 𝓛 (cell Rec'.mir b (record_val r) ∷ ‵ (stars k ts T) ∷ ‵ (stars n fs (fsep ((Rec.the_row).own_val r (record_val r ∷ [])) F)) ∷ Γ) G
   loans t z k n ℓ r b ts T fs F go =
       move t (2 ∷ []) $ takes t n fs F $ move t (2 ∷ 0 ∷ []) $ use2 𝓛 (‵ (part_at Rec.the_row full_share r b zero)) (lies 𝓛 r b) $
       -- [the record in memory; what the others own; the tokens; the locals]
@@ -183,8 +183,8 @@ abbrev pub afterwards : ℕ → ℕ → ℕ → Body
 afterwards l a m =
     seq (assign (place m []) (rv_opd (copy (place l [])))) (seq (assign (place 0 []) (aggregate (copy (place a []) ∷ copy (place m []) ∷ []))) return)
 
-abbrev outcomeVal : Answer → Record → Val
-outcomeVal v h = LL.val Out.the_type Out'.the_laws (record { answer = v; run = h })
+abbrev outcome_val : Answer → Record → Val
+outcome_val v h = LL.val Out.the_type Out'.the_laws (record { answer = v; run = h })
 
 abbrev answer_val : Answer → Val
 answer_val = EL.val Ans.the_type Ans'.the_laws
@@ -196,7 +196,7 @@ module _ {M : Type 1} {𝓤 : Ura M} (𝓛 : Logic 𝓤) (Γ : List (Item 𝓤))
   answered = put 𝓛 a (cell Ans'.mir ba (answer_val v)) Γ
 
   abbrev pub copied : ℕ → ℕ → Record → List (Item 𝓤)
-  copied m bm h = put 𝓛 m (cell Rec'.mir bm (recordVal h)) answered
+  copied m bm h = put 𝓛 m (cell Rec'.mir bm (record_val h)) answered
 
 module _ {M : Type 1} {𝓤 : Ura M} {𝓛 : Logic 𝓤} {K : Type 0} {Γ : List (Item 𝓤)} {E : Cells} {C : Calls 𝓤 𝓛.H}
     {Λ : Loops 𝓤 𝓛.H} {q : Post 𝓤 𝓛.H} (k n l a m ν : ℕ) (δ : GName) where
@@ -212,12 +212,12 @@ module _ {M : Type 1} {𝓤 : Ura M} {𝓛 : Logic 𝓤} {K : Type 0} {Γ : List
       → spot_of 𝓤 H E (suc m) ≡ (Rec'.mir, bm, zero) → spot_of 𝓤 H E 0 ≡ (Out'.mir, b₀, zero) → nth 𝓛 a Γ ≡ room Ans'.mir ba
       → ((v : Answer) → nth 𝓛 m (answered 𝓛 Γ a ba v) ≡ room Rec'.mir bm)
       → ((v : Answer) (u : Record) → nth 𝓛 a (copied 𝓛 Γ a ba v m bm u) ≡ cell Ans'.mir ba (answer_val v))
-      → ((v : Answer) (u : Record) → nth 𝓛 m (copied 𝓛 Γ a ba v m bm u) ≡ cell Rec'.mir bm (recordVal u))
+      → ((v : Answer) (u : Record) → nth 𝓛 m (copied 𝓛 Γ a ba v m bm u) ≡ cell Rec'.mir bm (record_val u))
       → ((v : Answer) (u : Record) → nth 𝓛 0 (copied 𝓛 Γ a ba v m bm u) ≡ room Out'.mir b₀)
       → ((v : Answer) (ws : Lasts (answering x ps ks) y.0.0 y.0.3) → Seq K 𝓛
-      (((‵ (stars k ts T) ⊛ ‵ ((Out.the_row).own_val (record { answer = v; run = h ws }) (outcomeVal v (h ws) ∷ [])))
+      (((‵ (stars k ts T) ⊛ ‵ ((Out.the_row).own_val (record { answer = v; run = h ws }) (outcome_val v (h ws) ∷ [])))
       ⊛ (‵ (stars n (fs ws) (fsep ftrue (F ws))) ⊛ raw ((c y.0.0 y.0.3).ensures y.1 v (at_exit (answering x ps ks) y.0.0 y.0.3 ws))))
-      ∷ cell Rec'.mir b (recordVal (h ws)) ∷ put 𝓛 0 (cell Out'.mir b₀ (outcomeVal v (h ws))) (copied 𝓛 Γ a ba v m bm (h ws))) (runs C Λ E return q))
+      ∷ cell Rec'.mir b (record_val (h ws)) ∷ put 𝓛 0 (cell Out'.mir b₀ (outcome_val v (h ws))) (copied 𝓛 Γ a ba v m bm (h ws))) (runs C Λ E return q))
       → Seq K 𝓛 (raw ((Met 𝓛 (answering x ps ks) c).post y w) ∷ lender ν b δ ∷ Γ)
       (lands C Λ E (place (suc a) []) w (afterwards l (suc a) (suc m)) q)
   gives_back t x ps ks c y ts T et h fs F ef w {b} el ea em e0 ha hm ha' hm' h0 go =
@@ -232,8 +232,8 @@ module _ {M : Type 1} {𝓤 : Ura M} {𝓛 : Logic 𝓤} {K : Type 0} {Γ : List
       -- the lifetime is ended, and the local comes back
       move t (1 ∷ []) $ takes t k ts T $ lft_end t tt $ move t (3 ∷ []) $ takes t n (fs ws) (F ws) $ move t (2 ∷ 6 ∷ 0 ∷ []) $
       use3 𝓛 (later (‵ (part_at Rec.the_row full_share (h ws) b zero))) (ref_back 𝓛 Rec.the_row (ν ∷ []) δ (h ws) b zero) $ await t tt $
-      use1 𝓛 (‵ (fat full_share Rec'.mir b zero (recordVal (h ws))) ⊛ ‵ ((Rec.the_row).own_val (h ws) (recordVal (h ws) ∷ []))) (stands 𝓛 (h ws) b) $
-      split t $ move t (1 ∷ 0 ∷ []) $ peeks t Rec.the_row (Is Rec.the_row) (shows 𝓛 Rec.the_row) (h ws) (recordVal (h ws) ∷ []) (λ is-h.
+      use1 𝓛 (‵ (fat full_share Rec'.mir b zero (record_val (h ws))) ⊛ ‵ ((Rec.the_row).own_val (h ws) (record_val (h ws) ∷ []))) (stands 𝓛 (h ws) b) $
+      split t $ move t (1 ∷ 0 ∷ []) $ peeks t Rec.the_row (Is Rec.the_row) (shows 𝓛 Rec.the_row) (h ws) (record_val (h ws) ∷ []) (λ is-h.
       -- [what the record owns; its cell; what is said of last values; the tokens; what the answer owns; the clause; the other locals]
       assigns t (of_opd t (load t (found t el (stop t)) (look t 1 refl))) (found t em (stop t))
       (init t (behind 6 m) (hm v) ((LL.lawful Rec.the_type Rec'.the_laws 𝓛).typed (h ws) _ is-h).0) $

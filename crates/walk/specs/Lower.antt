@@ -3,16 +3,16 @@ use Rattle.std.specs.Prelude.{◌≡◌, List, ℕ, ◌+◌, ◌-◌, ◌≤◌,
 use Rattle.std.proofs.Math.Path.{refl, sym, ap}
 use Rattle.std.proofs.Common.{◌∙◌, subst, mul-le-mul_right, arith}
 use Rattle.definitions.specs.Answers as paper
-use Rattle.definitions.specs.Calls.{machineFrom, machine_of}
-use Rattle.definitions.specs.Input.{Input, boundOf, mapOf}
+use Rattle.definitions.specs.Calls.{machine_from, machine_of}
+use Rattle.definitions.specs.Input.{Input, bound_of, map_of}
 use Rattle.definitions.specs.Machine as machine
-use Rattle.definitions.specs.Machine.{walk, walkSteps}
+use Rattle.definitions.specs.Machine.{walk, walk_steps}
 use Rattle.definitions.specs.Tables as tables
-use Rattle.definitions.specs.Tables.{State, cappedRun, deskByDesk, lowerAbove, lowerPlain, lowered, plainPart, plainRun, runNumber, whole_of, writeRow}
-use Rattle.laws.specs.LowerLaws.{InOrderBy, ValidFrom, lowered-valid}
-use Rattle.laws.specs.LowerWalk.{above-walks, from-plain, plain-walk-valid, thenAbove, walk-counts, walk-steps-few}
-use Rattle.laws.specs.RefusalLaws.{run-from}
-use Rattle.calls.specs.Paper.{answer_of, outcomeWith, recordOf, stateWith}
+use Rattle.definitions.specs.Tables.{State, capped_run, desk_by_desk, lower_above, lower_plain, lowered, plain_part, plain_run, run_number, whole_of, write_row}
+use Rattle.laws.specs.LowerLaws.{InOrderBy, ValidFrom, lowered_valid}
+use Rattle.laws.specs.LowerWalk.{above_walks, from_plain, plain_walk_valid, then_above, walk_counts, walk_steps_few}
+use Rattle.laws.specs.RefusalLaws.{run_from}
+use Rattle.calls.specs.Paper.{answer_of, outcome_with, record_of, state_with}
 use Rattle.calls.specs.declared.Answer.{Answer}
 use Rattle.calls.specs.declared.Answer.TheVariants.{Started, Complete, Paused, Refused}
 use Rattle.calls.specs.declared.Outcome.{Outcome}
@@ -20,47 +20,47 @@ use Rattle.calls.specs.declared.Record.{Record}
 use Rattle.calls.specs.declared.RunKind.TheVariants.{LowerPlain, LowerAbove}
 
 -- the record of the run, from that of its plain walk; and after the change of walk
-abbrev pub wholeRecord : Record → ℕ → Record
-wholeRecord part deepest = recordOf LowerPlain part.height part.found2 part.steps2 part.found part.steps deepest
+abbrev pub whole_record : Record → ℕ → Record
+whole_record part deepest = record_of LowerPlain part.height part.found2 part.steps2 part.found part.steps deepest
 
-abbrev pub wholeOutcome : Answer → Record → ℕ → Outcome
-wholeOutcome answer part deepest = record { answer = answer; run = wholeRecord part deepest }
+abbrev pub whole_outcome : Answer → Record → ℕ → Outcome
+whole_outcome answer part deepest = record { answer = answer; run = whole_record part deepest }
 
-abbrev pub loweredRecord : Record → ℕ → Record
-loweredRecord part deepest = recordOf LowerAbove 1 part.found2 part.steps2 part.found part.steps deepest
+abbrev pub lowered_record : Record → ℕ → Record
+lowered_record part deepest = record_of LowerAbove 1 part.found2 part.steps2 part.found part.steps deepest
 
 -- ---- which walk the record names
 
 module _ (lower : List ℕ) (i : Input) (s : State) (v : ValidFrom lower i s) where
-  pub names-plain : runNumber s.run.kind ≡ 2 → s.run.kind ≡ lowerPlain
-  names-plain e = run-from s.run.kind lowerPlain (rw e tt)
+  pub names_plain : run_number s.run.kind ≡ 2 → s.run.kind ≡ lower_plain
+  names_plain e = run_from s.run.kind lower_plain (rw e tt)
 
-  pub names-above : ¬ (runNumber s.run.kind ≡ 2) → s.run.kind ≡ lowerAbove
-  names-above n = go s.run.kind v.ordered n
+  pub names_above : ¬ (run_number s.run.kind ≡ 2) → s.run.kind ≡ lower_above
+  names_above n = go s.run.kind v.ordered n
     where
-      go : (r : tables.RunKind) → InOrderBy r lower i s → ¬ (runNumber r ≡ 2) → r ≡ lowerAbove
-      go plainRun o n = absurd o
-      go cappedRun o n = absurd o
-      go lowerPlain o n = absurd (n refl)
-      go lowerAbove o n = refl
-      go deskByDesk o n = absurd o
+      go : (r : tables.RunKind) → InOrderBy r lower i s → ¬ (run_number r ≡ 2) → r ≡ lower_above
+      go plain_run o n = absurd o
+      go capped_run o n = absurd o
+      go lower_plain o n = absurd (n refl)
+      go lower_above o n = refl
+      go desk_by_desk o n = absurd o
 
 -- ---- the plain walk, by what it left: a state t of a plain run whose list is the second one
 
-module _ (lower : List ℕ) (i : Input) (s : State) (v : ValidFrom lower i s) (e : s.run.kind ≡ lowerPlain) (n : ℕ) where
+module _ (lower : List ℕ) (i : Input) (s : State) (v : ValidFrom lower i s) (e : s.run.kind ≡ lower_plain) (n : ℕ) where
   abbrev checks : State → paper.Check
   checks t = paper.go
 
   abbrev pub plainly : machine.Outcome State
-  plainly = walk n (machine_of checks (mapOf i)) (plainPart s)
+  plainly = walk n (machine_of checks (map_of i)) (plain_part s)
 
   abbrev d : ℕ
   d = s.run.deepest
 
-  left-valid : ValidFrom lower i (whole_of d plainly.state)
-  left-valid = plain-walk-valid checks lower i d n (plainPart s) refl (subst (ValidFrom lower i) (back s e) v)
+  left_valid : ValidFrom lower i (whole_of d plainly.state)
+  left_valid = plain_walk_valid checks lower i d n (plain_part s) refl (subst (ValidFrom lower i) (back s e) v)
     where
-      back : (s : State) → s.run.kind ≡ lowerPlain → s ≡ whole_of s.run.deepest (plainPart s)
+      back : (s : State) → s.run.kind ≡ lower_plain → s ≡ whole_of s.run.deepest (plain_part s)
       back s e =
           ap (λ (r : tables.RunKind). record {
             stack = s.stack;
@@ -79,24 +79,24 @@ module _ (lower : List ℕ) (i : Input) (s : State) (v : ValidFrom lower i s) (e
           }) e
 
   -- its steps are those that the record has more than before, and no more than the budget
-  pub steps-more : (plainly.state.run.steps ≡ s.run.steps2 + walkSteps n (machine_of checks (mapOf i)) (plainPart s))
-      × (walkSteps n (machine_of checks (mapOf i)) (plainPart s) ≤ n)
-  steps-more = ((walk-counts checks (mapOf i) n (plainPart s)).0, walk-steps-few (machine_of checks (mapOf i)) n (plainPart s))
+  pub steps_more : (plainly.state.run.steps ≡ s.run.steps2 + walk_steps n (machine_of checks (map_of i)) (plain_part s))
+      × (walk_steps n (machine_of checks (map_of i)) (plain_part s) ≤ n)
+  steps_more = ((walk_counts checks (map_of i) n (plain_part s)).0, walk_steps_few (machine_of checks (map_of i)) n (plain_part s))
 
-  pub change-valid : ValidFrom lower i (lowered (boundOf lower) i.q (whole_of d plainly.state))
-  change-valid = lowered-valid lower i (whole_of d plainly.state) refl left-valid
+  pub change_valid : ValidFrom lower i (lowered (bound_of lower) i.q (whole_of d plainly.state))
+  change_valid = lowered_valid lower i (whole_of d plainly.state) refl left_valid
 
   -- a row of the bound fits
-  pub first-row : (i.q < length plainly.state.stack) × (i.q ≤ length lower)
-  first-row = let g = left-valid.shaped in (omega (arith, g.stack, mul-le-mul_right (i.q + 1) g.q-some), omega (arith, v.long))
+  pub first_row : (i.q < length plainly.state.stack) × (i.q ≤ length lower)
+  first_row = let g = left_valid.shaped in (omega (arith, g.stack, mul-le-mul_right (i.q + 1) g.q_some), omega (arith, v.long))
 
   -- where it does not complete, that is the answer
   pub ended : (a : Answer) → plainly.answer ≡ answer_of a → ¬ (a ≡ Complete)
-      → record { answer = answer_of a; state = whole_of d plainly.state } ≡ walk n (machineFrom lower i) s
-  ended a same not = sym (from-plain checks lower i n s e ∙ go a same not)
+      → record { answer = answer_of a; state = whole_of d plainly.state } ≡ walk n (machine_from lower i) s
+  ended a same not = sym (from_plain checks lower i n s e ∙ go a same not)
     where
       go : (a : Answer) → plainly.answer ≡ answer_of a → ¬ (a ≡ Complete)
-          → thenAbove checks lower i plainly.answer (whole_of d plainly.state) (n - walkSteps n (machine_of checks (mapOf i)) (plainPart s))
+          → then_above checks lower i plainly.answer (whole_of d plainly.state) (n - walk_steps n (machine_of checks (map_of i)) (plain_part s))
           ≡ record { answer = answer_of a; state = whole_of d plainly.state }
       go Started same not = rw same
       go Complete same not = absurd (not refl)
@@ -105,24 +105,24 @@ module _ (lower : List ℕ) (i : Input) (s : State) (v : ValidFrom lower i s) (e
 
   -- the same of what the code leaves, whose outcome o is that of the plain walk
   pub ended_by : (o : machine.Outcome State) → o ≡ plainly → {a b : Answer} → a ≡ b → o.answer ≡ answer_of a → ¬ (b ≡ Complete)
-      → record { answer = answer_of b; state = whole_of d o.state } ≡ walk n (machineFrom lower i) s
+      → record { answer = answer_of b; state = whole_of d o.state } ≡ walk n (machine_from lower i) s
   ended_by o told {a} {b} same is not =
       ap (λ (u : machine.Outcome State). record { answer = answer_of b; state = whole_of d u.state }) told
       ∙ ended b (sym (ap (λ u. u.answer) told) ∙ is ∙ ap answer_of same) not
 
   -- else the bound's row is written, no count changed
-  pub change-made : (o : Outcome) {stack list second stack' : List ℕ} {r : Record} → outcomeWith o stack second list ≡ plainly
-      → stack' ≡ writeRow i.q stack 0 (boundOf lower) 0 → r ≡ loweredRecord o.run d
-      → stateWith stack' list second r ≡ lowered (boundOf lower) i.q (whole_of d plainly.state)
+  pub change_made : (o : Outcome) {stack list second stack' : List ℕ} {r : Record} → outcome_with o stack second list ≡ plainly
+      → stack' ≡ write_row i.q stack 0 (bound_of lower) 0 → r ≡ lowered_record o.run d
+      → state_with stack' list second r ≡ lowered (bound_of lower) i.q (whole_of d plainly.state)
   unfolding lowered
-  change-made o {stack} {list} {second} {stack'} told wrote is =
-      ap (λ r. stateWith stack' list second r) is ∙ ap (λ stack. stateWith stack list second (loweredRecord o.run d)) wrote
-      ∙ ap (λ (u : machine.Outcome State). lowered (boundOf lower) i.q (whole_of d u.state)) told
+  change_made o {stack} {list} {second} {stack'} told wrote is =
+      ap (λ r. state_with stack' list second r) is ∙ ap (λ stack. state_with stack list second (lowered_record o.run d)) wrote
+      ∙ ap (λ (u : machine.Outcome State). lowered (bound_of lower) i.q (whole_of d u.state)) told
 
   -- and the walk above the bound goes on from there
-  pub changed-walk : plainly.answer ≡ paper.complete → (left : ℕ) → left ≡ n - walkSteps n (machine_of checks (mapOf i)) (plainPart s)
-      → walk left (machineFrom lower i) (lowered (boundOf lower) i.q (whole_of d plainly.state)) ≡ walk n (machineFrom lower i) s
+  pub changed_walk : plainly.answer ≡ paper.complete → (left : ℕ) → left ≡ n - walk_steps n (machine_of checks (map_of i)) (plain_part s)
+      → walk left (machine_from lower i) (lowered (bound_of lower) i.q (whole_of d plainly.state)) ≡ walk n (machine_from lower i) s
   unfolding lowered
-  changed-walk done left is =
-      above-walks checks lower i left (lowered (boundOf lower) i.q (whole_of d plainly.state)) refl
-      ∙ sym (from-plain checks lower i n s e ∙ (rw (done, is)))
+  changed_walk done left is =
+      above_walks checks lower i left (lowered (bound_of lower) i.q (whole_of d plainly.state)) refl
+      ∙ sym (from_plain checks lower i n s e ∙ (rw (done, is)))

@@ -1,6 +1,6 @@
 // A system with right sides, extended: the extra unknown comes first, with the negated right sides as its column.
 ghost use Rattle.std.specs.Prelude.{◌≡◌, ◌+◌, ◌*◌, ◌≤◌, ◌<◌, neg_ℤ, nat_abs, length};
-ghost use Rattle.definitions.specs.System.{coefLimit};
+ghost use Rattle.definitions.specs.System.{coef_limit};
 ghost use Rattle.walk.specs.ExtendLaws.{Sided, Extends, RowWritten};
 
 // Writes its coefficients, row by row.
@@ -29,7 +29,7 @@ fn row(q: usize, coefs: &[i32], rights: &[i32], i: usize, wide: &mut [i32; 128])
 }
 
 fn negated(x: i32) -> i32
-    requires { nat_abs x ≤ coefLimit }
+    requires { nat_abs x ≤ coef_limit }
     ensures { result ≡ neg_ℤ x }
 {
     0 - x

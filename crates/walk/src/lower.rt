@@ -1,13 +1,13 @@
 // The two walks of a run from a lower bound (document 02, Job 4), once its checks have let it go on:
 // the plain one into the second list, and then, with what is left of the budget, the one above the bound.
 ghost use Rattle.std.specs.Prelude.{◌≡◌, ◌-◌, ◌≤◌, ◌<◌, length};
-ghost use Rattle.definitions.specs.Calls.{machineFrom};
-ghost use Rattle.definitions.specs.Input.{alone, boundOf, inputWith};
+ghost use Rattle.definitions.specs.Calls.{machine_from};
+ghost use Rattle.definitions.specs.Input.{alone, bound_of, input_with};
 ghost use Rattle.definitions.specs.Machine as paper;
-ghost use Rattle.definitions.specs.Tables.{lowered, lowerAbove, lowerPlain, writeRow};
+ghost use Rattle.definitions.specs.Tables.{lowered, lower_above, lower_plain, write_row};
 ghost use Rattle.laws.specs.LowerLaws.{ValidFrom};
-ghost use Rattle.calls.specs.Paper.{kind_of, outcomeWith, stateWith};
-ghost use Rattle.walk.specs.Lower.{loweredRecord, wholeOutcome};
+ghost use Rattle.calls.specs.Paper.{kind_of, outcome_with, state_with};
+ghost use Rattle.walk.specs.Lower.{lowered_record, whole_outcome};
 
 use calls::{Answer, Outcome, Record, RunKind};
 use candidates::Kind;
@@ -25,10 +25,10 @@ pub fn walk_from(
     budget: u64,
     limit: u32,
 ) -> Outcome
-    requires { ValidFrom lower.now (inputWith alone limit p q coefs.now) (stateWith stack.old list.old second.old r) }
-    ensures { outcomeWith result stack.new list.new second.new
-        ≡ paper.walk budget (machineFrom lower.now (inputWith alone limit p q coefs.now))
-        (stateWith stack.old list.old second.old r) }
+    requires { ValidFrom lower.now (input_with alone limit p q coefs.now) (state_with stack.old list.old second.old r) }
+    ensures { outcome_with result stack.new list.new second.new
+        ≡ paper.walk budget (machine_from lower.now (input_with alone limit p q coefs.now))
+        (state_with stack.old list.old second.old r) }
 {
     let kind = r.kind;
     if calls::run_number(kind) == 2 {
@@ -50,11 +50,11 @@ fn further(
     budget: u64,
     limit: u32,
 ) -> Outcome
-    requires { ValidFrom lower.now (inputWith alone limit p q coefs.now) (stateWith stack.old list.old second.old r)
-        × (kind_of r.kind ≡ lowerAbove) }
-    ensures { outcomeWith result stack.new list.new second.new
-        ≡ paper.walk budget (machineFrom lower.now (inputWith alone limit p q coefs.now))
-        (stateWith stack.old list.old second.old r) }
+    requires { ValidFrom lower.now (input_with alone limit p q coefs.now) (state_with stack.old list.old second.old r)
+        × (kind_of r.kind ≡ lower_above) }
+    ensures { outcome_with result stack.new list.new second.new
+        ≡ paper.walk budget (machine_from lower.now (input_with alone limit p q coefs.now))
+        (state_with stack.old list.old second.old r) }
 {
     let most = calls::limit_of(limit);
     walking::walk_system(
@@ -85,11 +85,11 @@ fn both(
     budget: u64,
     limit: u32,
 ) -> Outcome
-    requires { ValidFrom lower.now (inputWith alone limit p q coefs.now) (stateWith stack.old list.old second.old r)
-        × (kind_of r.kind ≡ lowerPlain) }
-    ensures { outcomeWith result stack.new list.new second.new
-        ≡ paper.walk budget (machineFrom lower.now (inputWith alone limit p q coefs.now))
-        (stateWith stack.old list.old second.old r) }
+    requires { ValidFrom lower.now (input_with alone limit p q coefs.now) (state_with stack.old list.old second.old r)
+        × (kind_of r.kind ≡ lower_plain) }
+    ensures { outcome_with result stack.new list.new second.new
+        ≡ paper.walk budget (machine_from lower.now (input_with alone limit p q coefs.now))
+        (state_with stack.old list.old second.old r) }
 {
     let most = calls::limit_of(limit);
     let first = r.steps2.0;
@@ -134,7 +134,7 @@ fn both(
 
 // What the run is left with where its plain walk, which leaves the record `part`, does not complete.
 fn whole(answer: Answer, part: Record, deepest: u64) -> Outcome
-    ensures { result ≡ wholeOutcome answer part deepest }
+    ensures { result ≡ whole_outcome answer part deepest }
 {
     let run = Record::of(
         RunKind::LowerPlain,
@@ -150,7 +150,7 @@ fn whole(answer: Answer, part: Record, deepest: u64) -> Outcome
 
 // The record after the change of walk: no count is changed.
 fn lowered(part: Record, deepest: u64) -> Record
-    ensures { result ≡ loweredRecord part deepest }
+    ensures { result ≡ lowered_record part deepest }
 {
     Record::of(
         RunKind::LowerAbove,
@@ -166,7 +166,7 @@ fn lowered(part: Record, deepest: u64) -> Record
 // Writes the first row: the lower bound, and no marks.
 fn write_lower(stack: &mut [u32], q: usize, lower: &[u32])
     requires { (q < length stack.old) × (q ≤ length lower.now) }
-    ensures { stack.new ≡ writeRow q stack.old 0 (boundOf lower.now) 0 }
+    ensures { stack.new ≡ write_row q stack.old 0 (bound_of lower.now) 0 }
 {
     let mut j = 0;
     while j < q {

@@ -4,7 +4,7 @@
 --     stars, takes, puts             a chain of formulas; a formula is taken out of a chain, and put into one, behind the first few
 --     lends                          a slice that was lent is lent on
 --     CallTypes                      the types of a call by value: its record, whatever its fields are, and its outcome, which is an answer and that record;
---                                    `walk-types` are those of the walks
+--                                    `walk_types` are those of the walks
 --     copies                         the reference to the record is opened, and the record is copied into a local
 --     puts_back                      the outcome that the call returned is taken apart:
 --                                    its record is stored behind the reference, which is closed, and its answer is the result
@@ -81,7 +81,7 @@ use Rattle.calls.specs.declared.Record.{Record}
 use Rattle.calls.specs.declared.Answer.{Answer}
 use Rattle.calls.specs.declared.Outcome.{Outcome}
 use Rattle.walk_ref.proofs.Frame.{Cells}
-use Rattle.walk_ref.proofs.Walk.{tokens, Met, Handed, hands, returned, Spelleds, number, shared-slice, lent_slice, lent}
+use Rattle.walk_ref.proofs.Walk.{tokens, Met, Handed, hands, returned, Spelleds, number, shared_slice, lent_slice, lent}
 use Rattle.calls.specs.contracts.Record as Rec
 use Rattle.calls.proofs.Record.TheLaws as Rec'
 use Rattle.calls.specs.contracts.Answer as Ans
@@ -90,8 +90,8 @@ use Rattle.calls.specs.contracts.Outcome as Out
 use Rattle.calls.proofs.Outcome.TheLaws as Out'
 
 -- the machine value of a run record
-abbrev pub recordVal : Record → Val
-recordVal = LL.val Rec.the_type Rec'.the_laws
+abbrev pub record_val : Record → Val
+record_val = LL.val Rec.the_type Rec'.the_laws
 
 -- ---- the parameters that the entries share: p, q, coefs, stack, list and the record, in locals 1 to 6. Others may follow.
 module _ {P Q R S X : Type 0} where
@@ -110,7 +110,7 @@ values a vss = (
   uint_vals w64 a.0,
   (
     uint_vals w64 a.1.0,
-    (shr_slice_vals a.1.1.0, (shr_slice_vals a.1.1.1.0, (shr_slice_vals a.1.1.1.1.0, (recordVal a.1.1.1.1.1.0.now ∷ [], vss)))),
+    (shr_slice_vals a.1.1.0, (shr_slice_vals a.1.1.1.0, (shr_slice_vals a.1.1.1.1.0, (record_val a.1.1.1.1.1.0.now ∷ [], vss)))),
   ),
 )
 
@@ -122,7 +122,7 @@ shared κs Rs ss = (
   (
     number w64,
     (
-      shared-slice (named 0) κs.0 i32,
+      shared_slice (named 0) κs.0 i32,
       (lent_slice (named 1) κs.1.0 u32, (lent_slice (named 2) κs.1.1.0 u32, (lent (named 3) κs.1.1.1.0 Rec.the_row, ss))),
     ),
   ),
@@ -190,7 +190,7 @@ values₂ a vss = (
             shr_slice_vals a.1.1.1.1.1.0,
             (
               shr_slice_vals a.1.1.1.1.1.1.0,
-              (recordVal a.1.1.1.1.1.1.1.0.now ∷ [], vss),
+              (record_val a.1.1.1.1.1.1.1.0.now ∷ [], vss),
             ),
           ),
         ),
@@ -209,9 +209,9 @@ shared₂ E κs Rs ss = (
   (
     number w64,
     (
-      shared-slice (named 0) κs.0 i32,
+      shared_slice (named 0) κs.0 i32,
       (
-        shared-slice (named 1) κs.1.0 E,
+        shared_slice (named 1) κs.1.0 E,
         (
           lent_slice (named 2) κs.1.1.0 u32,
           (
@@ -276,23 +276,23 @@ behind (suc n) i = suc (behind n i)
 
 -- its record, and its outcome: a struct of an answer and the record, which is told by the two
 pub record CallTypes : Type 2 where
-  pub the-record : Declared
-  pub laws : LL.Laws the-record
-  pub lowers : LL.Lowered the-record
+  pub the_record : Declared
+  pub laws : LL.Laws the_record
+  pub lowers : LL.Lowered the_record
   pub name : Sym
   pub Outcome : Type 0
   pub answer : Outcome → Answer
-  pub run : Outcome → the-record.D
+  pub run : Outcome → the_record.D
   pub one : (x y : Outcome)
-      → ◌≡◌ {A = Denots (rows (Ans.the_field ∷ part the-record ∷ []))} ((Ans.the_field).into (answer x), (the-record.to (run x), tt))
-      ((Ans.the_field).into (answer y), (the-record.to (run y), tt))
+      → ◌≡◌ {A = Denots (rows (Ans.the_field ∷ part the_record ∷ []))} ((Ans.the_field).into (answer x), (the_record.to (run x), tt))
+      ((Ans.the_field).into (answer y), (the_record.to (run y), tt))
       → x ≡ y
 
 -- those of the walks
-abbrev pub walk-types : CallTypes
-walk-types =
+abbrev pub walk_types : CallTypes
+walk_types =
     record {
-      the-record = Rec.the_type;
+      the_record = Rec.the_type;
       laws = Rec'.the_laws;
       lowers = Rec'.lowers;
       name = (Out.the_type).name;
@@ -304,54 +304,54 @@ walk-types =
 
 module _ (Y : CallTypes) where
   abbrev pub Run : Type 0
-  Run = Y.the-record.D
+  Run = Y.the_record.D
 
   abbrev run_row : RattleType
-  run_row = row Y.the-record
+  run_row = row Y.the_record
 
-  abbrev runTy : Ty
-  runTy = layout (shape Y.the-record)
+  abbrev run_ty : Ty
+  run_ty = layout (shape Y.the_record)
 
-  abbrev runVal : Run → Val
-  runVal = LL.val Y.the-record Y.laws
+  abbrev run_val : Run → Val
+  run_val = LL.val Y.the_record Y.laws
 
-  abbrev outcomeType : Declared
-  outcomeType =
+  abbrev outcome_type : Declared
+  outcome_type =
       record {
         name = Y.name;
         args = [];
-        parts = Ans.the_field ∷ part Y.the-record ∷ [];
+        parts = Ans.the_field ∷ part Y.the_record ∷ [];
         D = Y.Outcome;
-        to = λ o. ((Ans.the_field).into (Y.answer o), (Y.the-record.to (Y.run o), tt));
+        to = λ o. ((Ans.the_field).into (Y.answer o), (Y.the_record.to (Y.run o), tt));
         to_one = Y.one;
       }
 
-  abbrev outcomeLaws : LL.Laws outcomeType
-  outcomeLaws = (Ans'.the_field_laws, (LL.field_laws Y.the-record Y.laws Y.lowers, tt))
+  abbrev outcome_laws : LL.Laws outcome_type
+  outcome_laws = (Ans'.the_field_laws, (LL.field_laws Y.the_record Y.laws Y.lowers, tt))
 
-  abbrev outcomeRow : RattleType
-  outcomeRow = row outcomeType
+  abbrev outcome_row : RattleType
+  outcome_row = row outcome_type
 
-  abbrev outcomeTy : Ty
-  outcomeTy = layout (shape outcomeType)
+  abbrev outcome_ty : Ty
+  outcome_ty = layout (shape outcome_type)
 
-  abbrev outcomeVal : Y.Outcome → Val
-  outcomeVal = LL.val outcomeType outcomeLaws
+  abbrev outcome_val : Y.Outcome → Val
+  outcome_val = LL.val outcome_type outcome_laws
 
   -- a function that returns an outcome, and names no bounds of its lifetimes
   abbrev pub returning : (n : ℕ) (ps : List (Slot n)) → Kepts ps → Ended
-  returning n ps ks = record { signature = record { lifetimes = n; outlives = []; params = ps; result = plain (λ _. outcomeRow) }; kept = ks }
+  returning n ps ks = record { signature = record { lifetimes = n; outlives = []; params = ps; result = plain (λ _. outcome_row) }; kept = ks }
 
   -- the statements after the call, with the outcome in local o, and the reference to the record in local l
   abbrev pub afterwards : ℕ → ℕ → Body
   afterwards l o =
-      seq (assign (place l (deref runTy ∷ [])) (rv_opd (copy (place o (field 1 ∷ [])))))
+      seq (assign (place l (deref run_ty ∷ [])) (rv_opd (copy (place o (field 1 ∷ [])))))
       (seq (assign (place 0 []) (rv_opd (copy (place o (field 0 ∷ []))))) return)
 
   -- the borrow of the record, while it is open
   abbrev pub opened : {M : Type 1} {𝓤 : Ura M} → Lft → Share → MutBor Run → List (Item 𝓤)
   opened κ s r =
-      ‵ (cell_at full_share run_row.mir (runVal r.now ∷ []) r.ref_ptr.0 r.ref_ptr.1)
+      ‵ (cell_at full_share run_row.mir (run_val r.now ∷ []) r.ref_ptr.0 r.ref_ptr.1)
       ∷ ‵ (fobor κ s (Held (mem run_row) r.ref_ptr.0 r.ref_ptr.1 r.ghost_name))
       ∷ ‵ (fobs r.ghost_name (run_row.coded.code r.now)) ∷ ‵ (fauth r.ghost_name (run_row.coded.code r.now)) ∷ []
 
@@ -393,21 +393,21 @@ module _ {M : Type 1} {𝓤 : Ura M} {𝓛 : Logic 𝓤} {K : Type 0} {Γ : List
   -- the record's lifetime has k lifetimes ahead of it, and its reference n parameters
   module _ (Y : CallTypes) (k n : ℕ) (κ : Lft) (s : Share) (r : MutBor (Run Y)) where
     pub copies : K → {rest : Body} (ts : Fmls k) (T : Fml) (fs : Fmls n) (F : Fml) (m : ℕ) {τ : Ty} {b b' : ℕ} → spot_of 𝓤 H E (suc n) ≡ (τ, b, zero)
-        → spot_of 𝓤 H E m ≡ (runTy Y, b', zero)
-        → nth 𝓛 (suc n) Γ ≡ cell τ b (vptr r.ref_ptr.0 r.ref_ptr.1) → nth 𝓛 m Γ ≡ room (runTy Y) b'
-        → Step K 𝓛 (raw (Handed 𝓛 (stars k ts T) (stars n fs (fsep ((run_row Y).own r.now (runVal Y r.now ∷ [])) F)))
-        ∷ (opened Y κ s r ++ put 𝓛 m (cell (runTy Y) b' (runVal Y r.now)) Γ)) (runs C Λ E rest q)
+        → spot_of 𝓤 H E m ≡ (run_ty Y, b', zero)
+        → nth 𝓛 (suc n) Γ ≡ cell τ b (vptr r.ref_ptr.0 r.ref_ptr.1) → nth 𝓛 m Γ ≡ room (run_ty Y) b'
+        → Step K 𝓛 (raw (Handed 𝓛 (stars k ts T) (stars n fs (fsep ((run_row Y).own r.now (run_val Y r.now ∷ [])) F)))
+        ∷ (opened Y κ s r ++ put 𝓛 m (cell (run_ty Y) b' (run_val Y r.now)) Γ)) (runs C Λ E rest q)
         (‵ (stars k ts (fsep (flft κ s) T)) ∷ ‵ (stars n fs (fsep ((MutRef erased κ (run_row Y)).own_val r (mut_vals r)) F)) ∷ Γ)
-        (runs C Λ E (seq (assign (place m []) (rv_opd (copy (place (suc n) (deref (runTy Y) ∷ []))))) rest) q)
+        (runs C Λ E (seq (assign (place m []) (rv_opd (copy (place (suc n) (deref (run_ty Y) ∷ []))))) rest) q)
     copies t ts T fs F m er en hr hn = step (λ go.
         takes t k ts T $ move t (2 ∷ []) $ takes t n fs F $ fsplit3 t $ drop t $ move t (0 ∷ 1 ∷ 3 ∷ []) $
         opens t tt (run_row Y) {h = r.now} r.ref_ptr.0 r.ref_ptr.1
-        (λ vs. spelt t (run_row Y) (Is (run_row Y)) (shows 𝓛 (run_row Y)) (LL.vals Y.the-record Y.laws)
-        (LL.tells Y.the-record Y.laws) full_share r.now vs r.ref_ptr.0 r.ref_ptr.1 $
-        move t (1 ∷ []) $ peeks t (run_row Y) (Is (run_row Y)) (shows 𝓛 (run_row Y)) r.now (runVal Y r.now ∷ []) (λ was.
+        (λ vs. spelt t (run_row Y) (Is (run_row Y)) (shows 𝓛 (run_row Y)) (LL.vals Y.the_record Y.laws)
+        (LL.tells Y.the_record Y.laws) full_share r.now vs r.ref_ptr.0 r.ref_ptr.1 $
+        move t (1 ∷ []) $ peeks t (run_row Y) (Is (run_row Y)) (shows 𝓛 (run_row Y)) r.now (run_val Y r.now ∷ []) (λ was.
         -- [what the record owns; its cell; the open borrow; obs; auth; what the others own; the others' tokens; the locals]
         assigns t (of_opd t (load t (found t er (hop t (look t (behind 7 (suc n)) hr) (stop t))) (look_raw t 1 refl))) (found t en (stop t))
-        (init t (behind 7 m) hn ((LL.lawful Y.the-record Y.laws 𝓛).typed r.now _ was).0) $
+        (init t (behind 7 m) hn ((LL.lawful Y.the_record Y.laws 𝓛).typed r.now _ was).0) $
         move t (0 ∷ 5 ∷ []) $ puts t n fs F $ move t (5 ∷ 0 ∷ []) $ hands t $ go)))
 
     pub puts_back : K → (x : ℕ) (ps : List (Slot x)) (ks : Kepts ps) (c : Clauses 𝓤 (returning Y x ps ks)) (y : (Met 𝓛 (returning Y x ps ks) c).Ghost)
@@ -415,35 +415,35 @@ module _ {M : Type 1} {𝓤 : Ura M} {𝓛 : Logic 𝓤} {K : Type 0} {Γ : List
         → (fs : Lasts (returning Y x ps ks) y.0.0 y.0.3 → Fmls n) (F : Lasts (returning Y x ps ks) y.0.0 y.0.3 → Fml)
         → ((ws : Lasts (returning Y x ps ks) y.0.0 y.0.3) → lasts (returning Y x ps ks) y.0.0 y.0.3 ws ≡ stars n (fs ws) (fsep ftrue (F ws)))
         → (w : Val) (o : ℕ) {τ : Ty} {b b' b₀ : ℕ}
-        → spot_of 𝓤 H E (suc n) ≡ (τ, b, zero) → spot_of 𝓤 H E o ≡ (outcomeTy Y, b', zero) → spot_of 𝓤 H E 0 ≡ (Ans'.mir, b₀, zero)
-        → nth 𝓛 o Γ ≡ room (outcomeTy Y) b'
-        → ((v : Y.Outcome) → nth 𝓛 (suc n) (put 𝓛 o (cell (outcomeTy Y) b' (outcomeVal Y v)) Γ) ≡ cell τ b (vptr r.ref_ptr.0 r.ref_ptr.1))
-        → ((v : Y.Outcome) → nth 𝓛 o (put 𝓛 o (cell (outcomeTy Y) b' (outcomeVal Y v)) Γ) ≡ cell (outcomeTy Y) b' (outcomeVal Y v))
-        → ((v : Y.Outcome) → nth 𝓛 0 (put 𝓛 o (cell (outcomeTy Y) b' (outcomeVal Y v)) Γ) ≡ room Ans'.mir b₀)
+        → spot_of 𝓤 H E (suc n) ≡ (τ, b, zero) → spot_of 𝓤 H E o ≡ (outcome_ty Y, b', zero) → spot_of 𝓤 H E 0 ≡ (Ans'.mir, b₀, zero)
+        → nth 𝓛 o Γ ≡ room (outcome_ty Y) b'
+        → ((v : Y.Outcome) → nth 𝓛 (suc n) (put 𝓛 o (cell (outcome_ty Y) b' (outcome_val Y v)) Γ) ≡ cell τ b (vptr r.ref_ptr.0 r.ref_ptr.1))
+        → ((v : Y.Outcome) → nth 𝓛 o (put 𝓛 o (cell (outcome_ty Y) b' (outcome_val Y v)) Γ) ≡ cell (outcome_ty Y) b' (outcome_val Y v))
+        → ((v : Y.Outcome) → nth 𝓛 0 (put 𝓛 o (cell (outcome_ty Y) b' (outcome_val Y v)) Γ) ≡ room Ans'.mir b₀)
         → ((v : Y.Outcome) (ws : Lasts (returning Y x ps ks) y.0.0 y.0.3) → Seq K 𝓛
         (((‵ (stars k ts (fsep (flft κ s) T)) ⊛ ‵ ((Ans.the_row).own_val (Y.answer v) (answer_val (Y.answer v) ∷ [])))
         ⊛ (‵ (stars n (fs ws) (fsep (fres r.ghost_name ((run_row Y).coded.code (Y.run v))) (F ws)))
         ⊛ raw ((c y.0.0 y.0.3).ensures y.1 v (at_exit (returning Y x ps ks) y.0.0 y.0.3 ws))))
-        ∷ put 𝓛 0 (cell Ans'.mir b₀ (answer_val (Y.answer v))) (put 𝓛 o (cell (outcomeTy Y) b' (outcomeVal Y v)) Γ)) (runs C Λ E return q))
+        ∷ put 𝓛 0 (cell Ans'.mir b₀ (answer_val (Y.answer v))) (put 𝓛 o (cell (outcome_ty Y) b' (outcome_val Y v)) Γ)) (runs C Λ E return q))
         → Seq K 𝓛 (raw ((Met 𝓛 (returning Y x ps ks) c).post y w) ∷ (opened Y κ s r ++ Γ)) (lands C Λ E (place o []) w (afterwards Y (suc n) o) q)
     puts_back t x ps ks c y ts T et fs F ef w o er eo e0 ho hr' ho' h0' go =
-        returned t tt (returning Y x ps ks) c y w (λ v ws. peeks t (outcomeRow Y) (Is (outcomeRow Y)) (shows 𝓛 (outcomeRow Y)) v (w ∷ []) (λ is.
-        use1 𝓛 (given (w ∷ [] ≡ outcomeVal Y v ∷ []) (‵ (all_own (outcomeType Y).parts (outcomeLaws Y) (Y.answer v, (Y.run v, tt)))))
-        (own_open 𝓛 (outcomeType Y) (outcomeLaws Y) (Y.answer v, (Y.run v, tt)) w) $ learn t (λ e.
+        returned t tt (returning Y x ps ks) c y w (λ v ws. peeks t (outcome_row Y) (Is (outcome_row Y)) (shows 𝓛 (outcome_row Y)) v (w ∷ []) (λ is.
+        use1 𝓛 (given (w ∷ [] ≡ outcome_val Y v ∷ []) (‵ (all_own (outcome_type Y).parts (outcome_laws Y) (Y.answer v, (Y.run v, tt)))))
+        (own_open 𝓛 (outcome_type Y) (outcome_laws Y) (Y.answer v, (Y.run v, tt)) w) $ learn t (λ e.
         fsplit t $ move t (1 ∷ []) $ fsplit t $ move t (1 ∷ []) $ drop t $
-        peeks t (run_row Y) (Is (run_row Y)) (shows 𝓛 (run_row Y)) (Y.run v) (runVal Y (Y.run v) ∷ []) (λ is-r.
+        peeks t (run_row Y) (Is (run_row Y)) (shows 𝓛 (run_row Y)) (Y.run v) (run_val Y (Y.run v) ∷ []) (λ is-r.
         move t (1 ∷ []) $ peeks t Ans.the_row (Is Ans.the_row) (shows 𝓛 Ans.the_row) (Y.answer v) (answer_val (Y.answer v) ∷ []) (λ is-a.
         -- [what the answer owns; what the record owns; the tokens; what is said of the last values; the clause; the record's cell; the open borrow; obs; auth;
         -- the locals]
         regoal t (λ (u : Val). lands C Λ E (place o []) u (afterwards Y (suc n) o) q) (ap only e) refl $
         land t (found t eo (stop t))
-        (init t (behind 9 o) ho ((LL.lawful (outcomeType Y) (outcomeLaws Y) 𝓛).typed v (outcomeVal Y v ∷ []) (subst (Is (outcomeRow Y) v) e is)).0) $
+        (init t (behind 9 o) ho ((LL.lawful (outcome_type Y) (outcome_laws Y) 𝓛).typed v (outcome_val Y v ∷ []) (subst (Is (outcome_row Y) v) e is)).0) $
         assigns t (of_opd t (load t (found t eo (fld t refl (stop t))) (reads_in t (behind 9 o) (ho' v) (sub t 1 refl (whole t)))))
         (found t er (hop t (look t (behind 9 (suc n)) (hr' v)) (stop t)))
-        (store_raw t 5 refl ((LL.lawful Y.the-record Y.laws 𝓛).typed (Y.run v) _ is-r).0) $
+        (store_raw t 5 refl ((LL.lawful Y.the_record Y.laws 𝓛).typed (Y.run v) _ is-r).0) $
         assigns t (of_opd t (load t (found t eo (fld t refl (stop t))) (reads_in t (behind 9 o) (ho' v) (sub t 0 refl (whole t))))) (found t e0 (stop t))
         (init t (behind 9 0) (h0' v) ((EL.lawful Ans.the_type Ans'.the_laws 𝓛 tt).typed (Y.answer v) _ is-a).0) $
-        move t (5 ∷ 1 ∷ 6 ∷ 7 ∷ 8 ∷ []) $ closes t tt (run_row Y) (Y.run v) (runVal Y (Y.run v) ∷ []) r.ref_ptr.0 r.ref_ptr.1 $
+        move t (5 ∷ 1 ∷ 6 ∷ 7 ∷ 8 ∷ []) $ closes t tt (run_row Y) (Y.run v) (run_val Y (Y.run v) ∷ []) r.ref_ptr.0 r.ref_ptr.1 $
         use1 𝓛 (‵ (fres r.ghost_name ((run_row Y).coded.code (Y.run v)))) (𝓛.names.obs-res r.ghost_name ((run_row Y).coded.code (Y.run v))) $
         move t (1 ∷ []) $ drop t $
         -- [res; the record's token; what the answer owns; the tokens; what is said of the last values; the clause; the locals]

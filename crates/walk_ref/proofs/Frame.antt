@@ -27,9 +27,9 @@ use borrow.Table.Row.{hd, tl}
 abbrev pub Cells : Type 0
 Cells = List (Ty × ℕ)
 
-abbrev pub envOf : List Local → List ℕ → Cells
-envOf [] bs = []
-envOf (local τ h ∷ ls) bs = (τ, hd 0 bs) ∷ envOf ls (tl bs)
+abbrev pub env_of : List Local → List ℕ → Cells
+env_of [] bs = []
+env_of (local τ h ∷ ls) bs = (τ, hd 0 bs) ∷ env_of ls (tl bs)
 
 abbrev Fitting : List Local → List Val → Type 0
 Fitting ls [] = Unit {0}
@@ -103,33 +103,33 @@ module _ {M : Type 1} {𝓤 : Ura M} {𝓛 : Logic 𝓤} {K : Type 0} where
       (via 𝓤 _ (⊢++ 𝓛 Δ₀ (Δ ++ (i ∷ Γ))) (via 𝓤 _ (mono_r 𝓤 (⋆ 𝓛 Δ₀) (back 𝓛 i Δ Γ)) (via 𝓤 _ (++⊢ 𝓛 Δ₀ (i ∷ (Δ ++ Γ))) s.prf))))
 
   allocated : K → (ls : List Local) (Kt : Cells → Goal 𝓤 H) (Γ : List (Item 𝓤))
-      → ((bs : List ℕ) → Seq K 𝓛 (rooms (envOf ls bs) ++ (dies (envOf ls bs) ++ Γ)) (Kt (envOf ls bs))) → Seq K 𝓛 Γ (allocs ls Kt)
+      → ((bs : List ℕ) → Seq K 𝓛 (rooms (env_of ls bs) ++ (dies (env_of ls bs) ++ Γ)) (Kt (env_of ls bs))) → Seq K 𝓛 Γ (allocs ls Kt)
   allocated t [] Kt Γ k = alloc0 t $ k []
   allocated t (local τ h ∷ ls) Kt Γ k =
       alloc1 t (λ b. allocated t ls (λ E. Kt ((τ, b) ∷ E)) (‵ (froom τ b zero) ∷ ‵ (fdies τ b) ∷ Γ) (λ bs.
-      fetches t (rooms (envOf ls bs)) (‵ (froom τ b zero)) (dies (envOf ls bs)) (‵ (fdies τ b) ∷ Γ) $
-      fetches t [] (‵ (froom τ b zero)) (rooms (envOf ls bs)) (dies (envOf ls bs) ++ (‵ (fdies τ b) ∷ Γ)) $
-      fetches t (‵ (froom τ b zero) ∷ rooms (envOf ls bs)) (‵ (fdies τ b)) (dies (envOf ls bs)) Γ $ k (b ∷ bs)))
+      fetches t (rooms (env_of ls bs)) (‵ (froom τ b zero)) (dies (env_of ls bs)) (‵ (fdies τ b) ∷ Γ) $
+      fetches t [] (‵ (froom τ b zero)) (rooms (env_of ls bs)) (dies (env_of ls bs) ++ (‵ (fdies τ b) ∷ Γ)) $
+      fetches t (‵ (froom τ b zero) ∷ rooms (env_of ls bs)) (‵ (fdies τ b)) (dies (env_of ls bs)) Γ $ k (b ∷ bs)))
 
   passed : K → (ls : List Local) (bs : List ℕ) (vs : List Val) → Fitting ls vs → {g : Goal 𝓤 H} (Γ : List (Item 𝓤))
-      → Step K 𝓛 (stored (envOf ls bs) vs ++ Γ) g (rooms (envOf ls bs) ++ Γ) (passes (envOf ls bs) vs g)
+      → Step K 𝓛 (stored (env_of ls bs) vs ++ Γ) g (rooms (env_of ls bs) ++ Γ) (passes (env_of ls bs) vs g)
   passed t ls bs [] ok Γ = pass0 t
   passed t [] bs (v ∷ vs) ok Γ = absurd ok
   passed t (local τ h ∷ ls) bs (v ∷ vs) ok Γ = step (λ s.
       let c : Item 𝓤 = ‵ (fat full_share τ (hd 0 bs) zero v) in
-      pass1 t (init t 0 refl ok.0) $ stows t c (rooms (envOf ls (tl bs))) Γ $ passed t ls (tl bs) vs ok.1 (c ∷ Γ) $
-      fetches t [] c (stored (envOf ls (tl bs)) vs) Γ $ s)
+      pass1 t (init t 0 refl ok.0) $ stows t c (rooms (env_of ls (tl bs))) Γ $ passed t ls (tl bs) vs ok.1 (c ∷ Γ) $
+      fetches t [] c (stored (env_of ls (tl bs)) vs) Γ $ s)
 
   pub begins : K → {i : Item 𝓤} (ls : List Local) (vs : List Val) → Taken ls vs → {C : Calls 𝓤 H} {Λ : Loops 𝓤 H} {Kf : Val → SProp 𝓤} {b : Body}
-      → ((bs : List ℕ) → Seq K 𝓛 (i ∷ (called (envOf ls bs) vs ++ (dies (envOf ls bs) ++ []))) (runs C Λ (envOf ls bs) b (at_ret (envOf ls bs) Kf)))
+      → ((bs : List ℕ) → Seq K 𝓛 (i ∷ (called (env_of ls bs) vs ++ (dies (env_of ls bs) ++ []))) (runs C Λ (env_of ls bs) b (at_ret (env_of ls bs) Kf)))
       → Seq K 𝓛 (i ∷ []) (allocs ls (λ E. params' E vs (runs C Λ E b (at_ret E Kf))))
   begins t [] vs ok k = absurd ok
   begins t {i} (local τ h ∷ ls) vs ok k = allocated t (local τ h ∷ ls) _ (i ∷ []) (λ bs.
       let r : Item 𝓤 = ‵ (froom τ (hd 0 bs) zero) in
-      let free : List (Item 𝓤) = dies ((τ, hd 0 bs) ∷ envOf ls (tl bs)) in
-      params1 t $ stows t r (rooms (envOf ls (tl bs))) (free ++ (i ∷ [])) $ passed t ls (tl bs) vs ok (r ∷ (free ++ (i ∷ []))) $
-      fetches t [] r (stored (envOf ls (tl bs)) vs) (free ++ (i ∷ [])) $
-      fetches t (r ∷ stored (envOf ls (tl bs)) vs) i free [] $ fetches t [] i (r ∷ stored (envOf ls (tl bs)) vs) (free ++ []) $ k bs)
+      let free : List (Item 𝓤) = dies ((τ, hd 0 bs) ∷ env_of ls (tl bs)) in
+      params1 t $ stows t r (rooms (env_of ls (tl bs))) (free ++ (i ∷ [])) $ passed t ls (tl bs) vs ok (r ∷ (free ++ (i ∷ []))) $
+      fetches t [] r (stored (env_of ls (tl bs)) vs) (free ++ (i ∷ [])) $
+      fetches t (r ∷ stored (env_of ls (tl bs)) vs) i free [] $ fetches t [] i (r ∷ stored (env_of ls (tl bs)) vs) (free ++ []) $ k bs)
 
   freed : K → {i : Item 𝓤} (E : Cells) (vs : Each E) {g : Goal 𝓤 H} (Γ : List (Item 𝓤)) → Step K 𝓛 (i ∷ Γ) g (i ∷ (held E vs ++ (dies E ++ Γ))) (frees E g)
   freed t [] vs Γ = free0 t

@@ -5,7 +5,7 @@
 --     Handed, hands        what a call of no `requires` is handed: the tokens, and what the arguments own.        returned     what it gives back
 --     states, silent       a clause that is a fact; and what is owed where nothing is said of last values
 --     Spelled              how a type spells its values, that its relation tells them, and that they are of its MIR type;
---                          `number`, `shared-slice`, `lent_slice`, `lent` and `struct` are those of the types that parameters have here
+--                          `number`, `shared_slice`, `lent_slice`, `lent` and `struct` are those of the types that parameters have here
 --     proved               a function's theorem, from a walk of its body. The walk may use no `requires`.
 --                          It is told that the table of calls is framed, and how what is owed is left
 -- Assumes `Logic`.
@@ -68,7 +68,7 @@ use denote.Triple.Entry.{Args, Res, alive}
 use denote.Triple.Spec.{Meets, triple_of}
 use denote.Triple.Table.{entered}
 use denote.Triple.Clauses.{Ended, Clauses, Lasts, lasts, at_exit, ensured, closing}
-use Rattle.walk_ref.proofs.Frame.{envOf, Taken, dies, called, begins}
+use Rattle.walk_ref.proofs.Frame.{env_of, Taken, dies, called, begins}
 
 -- ---- the contract
 abbrev pub tokens : (n : ℕ) → Lfts n → Shares n → Fml
@@ -160,8 +160,8 @@ abbrev pub number : (w : Width) → Spelled (UInt w)
 number w = record { vals = uint_vals w; tells = uint_Tells w; lawful = λ 𝓛. uint_Lawful 𝓛 w }
 
 module _ (ℓ : Lifetime) (κ : Lft) (R : RattleType) where
-  abbrev pub shared-slice : Spelled (ShrSlice ℓ κ R)
-  shared-slice = record { vals = shr_slice_vals; tells = shr_slice_Tells ℓ κ R; lawful = λ 𝓛. shr_slice_Lawful 𝓛 ℓ κ R }
+  abbrev pub shared_slice : Spelled (ShrSlice ℓ κ R)
+  shared_slice = record { vals = shr_slice_vals; tells = shr_slice_Tells ℓ κ R; lawful = λ 𝓛. shr_slice_Lawful 𝓛 ℓ κ R }
 
   abbrev pub lent_slice : Spelled (MutSlice ℓ κ R)
   lent_slice = record { vals = mut_slice_vals; tells = mut_slice_Tells ℓ κ R; lawful = λ 𝓛. mut_slice_Lawful 𝓛 ℓ κ R }
@@ -219,8 +219,8 @@ module _ {M : Type 1} {𝓤 : Ura M} (𝓛 : Logic 𝓤) (𝓜 : Model 𝓤 𝓛
         → (bs : List ℕ)
         → Seq (Go {0}) 𝓛
         (‵ (tokens T.signature.lifetimes κs qs) ∷ ‵ (owns (Rows κs) a (vals κs a))
-        ∷ (called (envOf f.locals bs) (passing κs a) ++ (dies (envOf f.locals bs) ++ [])))
-        (runs C Λ (envOf f.locals bs) f.body (at_ret (envOf f.locals bs) (Left 𝓛 T c κs qs a g))))
+        ∷ (called (env_of f.locals bs) (passing κs a) ++ (dies (env_of f.locals bs) ++ [])))
+        (runs C Λ (env_of f.locals bs) f.body (at_ret (env_of f.locals bs) (Left 𝓛 T c κs qs a g))))
         → Meets 𝓛 T.signature (C key) (closing 𝓛 T c)
     proved taken k = entered 𝓤 H (Met 𝓛 T c) C Λ key f closed (λ y.
         let κs : Lfts T.signature.lifetimes = y.0.0 in

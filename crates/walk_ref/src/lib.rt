@@ -1,9 +1,9 @@
 // The calls as an editor uses them: the caller's own run record is advanced through a reference, over the calls by value.
 ghost use Rattle.std.specs.Prelude.{◌≡◌, ℕ};
 ghost use Rattle.definitions.specs.Calls.{start as start_of, resume as resumeOf};
-ghost use Rattle.definitions.specs.System.{mostComponent};
-ghost use Rattle.definitions.specs.Input.{alone, input_of, inputWith, rights as sides};
-ghost use Rattle.calls.specs.Paper.{state_of, stateWith, leftBy, leftWith, outcomeOf, outcomeWith};
+ghost use Rattle.definitions.specs.System.{most_component};
+ghost use Rattle.definitions.specs.Input.{alone, input_of, input_with, rights as sides};
+ghost use Rattle.calls.specs.Paper.{state_of, state_with, left_by, left_with, outcome_of, outcome_with};
 
 use calls::{Answer, Outcome, Record};
 
@@ -19,7 +19,7 @@ pub fn start(
     r: &mut Record,
 ) -> Answer
     ensures { (limit : ℕ)
-        → leftBy result stack.new list.new r.new ≡ start_of (inputWith alone limit p q coefs.now)
+        → left_by result stack.new list.new r.new ≡ start_of (input_with alone limit p q coefs.now)
         (state_of stack.old list.old r.old) }
 {
     let o = starts::started(p, q, coefs, stack, list, *r);
@@ -39,9 +39,9 @@ pub fn start_capped(
     r: &mut Record,
 ) -> Answer
     ensures { (limit : ℕ)
-        → leftWith result stack.new list.new second.new r.new ≡ start_of
-        (inputWith (sides rights.now) limit p q coefs.now)
-        (stateWith stack.old list.old second.old r.old) }
+        → left_with result stack.new list.new second.new r.new ≡ start_of
+        (input_with (sides rights.now) limit p q coefs.now)
+        (state_with stack.old list.old second.old r.old) }
 {
     let o = starts::started_capped(p, q, coefs, rights, stack, list, second, *r);
     *r = o.run;
@@ -58,7 +58,7 @@ pub fn resume(
     r: &mut Record,
     budget: u64,
 ) -> Answer
-    ensures { leftBy result stack.new list.new r.new ≡ resumeOf budget (input_of p q coefs.now)
+    ensures { left_by result stack.new list.new r.new ≡ resumeOf budget (input_of p q coefs.now)
         (state_of stack.old list.old r.old) }
 {
     let o = resumed(p, q, coefs, stack, list, *r, budget);
@@ -76,7 +76,7 @@ fn resumed(
     r: Record,
     budget: u64,
 ) -> Outcome
-    ensures { outcomeOf result stack.new list.new
+    ensures { outcome_of result stack.new list.new
         ≡ resumeOf budget (input_of p q coefs.now) (state_of stack.old list.old r) }
 {
     walk::resumed(p, q, coefs, stack, list, r, budget, calls::COMPONENT_LIMIT)
@@ -94,9 +94,9 @@ pub fn resume_capped(
     r: &mut Record,
     budget: u64,
 ) -> Answer
-    ensures { leftWith result stack.new list.new second.new r.new ≡ resumeOf budget
-        (inputWith (sides rights.now) mostComponent p q coefs.now)
-        (stateWith stack.old list.old second.old r.old) }
+    ensures { left_with result stack.new list.new second.new r.new ≡ resumeOf budget
+        (input_with (sides rights.now) most_component p q coefs.now)
+        (state_with stack.old list.old second.old r.old) }
 {
     let o = resumed_capped(p, q, coefs, rights, stack, list, second, *r, budget);
     *r = o.run;
@@ -115,9 +115,9 @@ fn resumed_capped(
     r: Record,
     budget: u64,
 ) -> Outcome
-    ensures { outcomeWith result stack.new list.new second.new
-        ≡ resumeOf budget (inputWith (sides rights.now) mostComponent p q coefs.now)
-        (stateWith stack.old list.old second.old r) }
+    ensures { outcome_with result stack.new list.new second.new
+        ≡ resumeOf budget (input_with (sides rights.now) most_component p q coefs.now)
+        (state_with stack.old list.old second.old r) }
 {
     walk::resumed_capped(
         p,

@@ -1,8 +1,8 @@
 // The calls of a run from a lower bound with the caller's own run record behind a reference, over the calls by value.
 ghost use Rattle.std.specs.Prelude.{◌≡◌};
-ghost use Rattle.definitions.specs.Calls.{startFrom, resumeFrom};
+ghost use Rattle.definitions.specs.Calls.{start_from, resume_from};
 ghost use Rattle.definitions.specs.Input.{input_of};
-ghost use Rattle.calls.specs.Paper.{stateWith, leftWith, outcomeWith};
+ghost use Rattle.calls.specs.Paper.{state_with, left_with, outcome_with};
 
 use calls::{Answer, Outcome, Record};
 
@@ -17,8 +17,8 @@ pub fn start_from(
     second: &mut [u32],
     r: &mut Record,
 ) -> Answer
-    ensures { leftWith result stack.new list.new second.new r.new ≡ startFrom lower.now
-        (input_of p q coefs.now) (stateWith stack.old list.old second.old r.old) }
+    ensures { left_with result stack.new list.new second.new r.new ≡ start_from lower.now
+        (input_of p q coefs.now) (state_with stack.old list.old second.old r.old) }
 {
     let o = started(p, q, coefs, lower, stack, list, second, *r);
     *r = o.run;
@@ -37,8 +37,8 @@ pub fn resume_from(
     r: &mut Record,
     budget: u64,
 ) -> Answer
-    ensures { leftWith result stack.new list.new second.new r.new ≡ resumeFrom budget
-        lower.now (input_of p q coefs.now) (stateWith stack.old list.old second.old r.old) }
+    ensures { left_with result stack.new list.new second.new r.new ≡ resume_from budget
+        lower.now (input_of p q coefs.now) (state_with stack.old list.old second.old r.old) }
 {
     let o = resumed(p, q, coefs, lower, stack, list, second, *r, budget);
     *r = o.run;
@@ -56,9 +56,9 @@ fn started(
     second: &mut [u32],
     r: Record,
 ) -> Outcome
-    ensures { outcomeWith result stack.new list.new second.new
-        ≡ startFrom lower.now (input_of p q coefs.now)
-        (stateWith stack.old list.old second.old r) }
+    ensures { outcome_with result stack.new list.new second.new
+        ≡ start_from lower.now (input_of p q coefs.now)
+        (state_with stack.old list.old second.old r) }
 {
     starts::started_from(
         p,
@@ -84,9 +84,9 @@ fn resumed(
     r: Record,
     budget: u64,
 ) -> Outcome
-    ensures { outcomeWith result stack.new list.new second.new
-        ≡ resumeFrom budget lower.now (input_of p q coefs.now)
-        (stateWith stack.old list.old second.old r) }
+    ensures { outcome_with result stack.new list.new second.new
+        ≡ resume_from budget lower.now (input_of p q coefs.now)
+        (state_with stack.old list.old second.old r) }
 {
     walk::resumed_from(
         p,

@@ -3,11 +3,11 @@ ghost use Rattle.std.specs.Prelude.{◌≡◌, max, min, ◌+◌, ◌≤◌};
 ghost use Rattle.definitions.specs.Answers.{Check as Checked};
 ghost use Rattle.definitions.specs.Calls.{machine_of};
 ghost use Rattle.definitions.specs.Machine as paper;
-ghost use Rattle.definitions.specs.Refusals.{stepLimit};
+ghost use Rattle.definitions.specs.Refusals.{step_limit};
 ghost use Rattle.laws.specs.RefusalLaws.{Valid};
-ghost use Rattle.calls.specs.Paper.{systemWith, stateWith, outcomeWith};
+ghost use Rattle.calls.specs.Paper.{system_with, state_with, outcome_with};
 ghost use Rattle.definitions.specs.Tables.{State};
-ghost use Rattle.candidates.specs.Kinds.{Bounds, kindBy};
+ghost use Rattle.candidates.specs.Kinds.{Bounds, kind_by};
 
 use calls::{Answer, Outcome, Record, Refusal};
 use candidates::Kind;
@@ -27,11 +27,11 @@ pub fn walk_system(
     budget: u64,
     limit: u32,
 ) -> Outcome
-    requires { Valid (systemWith (kindBy kind lower.now) p q coefs.now limit) (stateWith stack.old list.old second.old r)
+    requires { Valid (system_with (kind_by kind lower.now) p q coefs.now limit) (state_with stack.old list.old second.old r)
         × Bounds kind q lower.now }
-    ensures { (checks : State → Checked) → outcomeWith result stack.new list.new second.new ≡
-        paper.walk budget (machine_of checks (systemWith (kindBy kind lower.now) p q coefs.now limit))
-        (stateWith stack.old list.old second.old r) }
+    ensures { (checks : State → Checked) → outcome_with result stack.new list.new second.new ≡
+        paper.walk budget (machine_of checks (system_with (kind_by kind lower.now) p q coefs.now limit))
+        (state_with stack.old list.old second.old r) }
 {
     let first = r.steps.0;
     let stop = stop_at(first, budget);
@@ -81,8 +81,8 @@ pub fn walk_system(
 
 // The number of steps at which a call with a budget stops: the budget is used up, or the steps stand at their limit.
 fn stop_at(steps: u64, budget: u64) -> u64
-    requires { steps ≤ stepLimit }
-    ensures { result ≡ min (steps + budget) stepLimit }
+    requires { steps ≤ step_limit }
+    ensures { result ≡ min (steps + budget) step_limit }
 {
     let room = calls::STEP_LIMIT - steps;
     if budget < room {

@@ -4,8 +4,8 @@ use Rattle.c_dispatch.specs.WordLaws.{dispatched, fitting}
 use Rattle.c_dispatch.proofs.dispatch.Statement.{statement}
 use Rattle.c_dispatch.proofs.dispatch.Tie as tie
 
-told-requires : tie.Need-told-requires
-told-requires c κs =
+told_requires : tie.Need-told-requires
+told_requires c κs =
     let k = c.before.before.before.before.before in
     let l = k.before.before.before in
     let r = l.before.before in
@@ -25,15 +25,15 @@ returns c =
     dispatched s.count s.quantum s.turns s.shares.now s.coefs.now s.stack.now s.list.now s.round.now
     h.shares.ensures r.records.ensures l.last.ensures k.dispatch.result k.dispatch.ensures t.told.ensures
 
-pub dispatch-spec : {M : Type 1} → statement M
-dispatch-spec =
+pub dispatch_spec : {M : Type 1} → statement M
+dispatch_spec =
     tie.close
     (tie.spec
     (λ c κs. search rules)
     (λ c κs. search rules)
     (λ c κs. search rules)
     (λ c κs. search rules)
-    told-requires
+    told_requires
     (λ c. search rules)
     (λ c. search rules)
     (λ c. search rules)

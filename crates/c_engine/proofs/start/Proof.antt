@@ -2,14 +2,14 @@
 use borrow.Author.Rules.{rules}
 use mathlib.Core.Path.{◌∙◌}
 use Rattle.c_engine.specs.CodeLaws.{start_fits}
-use Rattle.c_engine.specs.WordLaws.{answer-fits, call-told, start-fitting, start-misfit, start-without}
+use Rattle.c_engine.specs.WordLaws.{answer_fits, call_told, start_fitting, start_misfit, start_without}
 use Rattle.c_engine.proofs.start.Statement.{statement}
 use Rattle.c_engine.proofs.start.Tie as tie
 
-tell-requires : tie.Need-tell-requires
-tell-requires c κs =
+tell_requires : tie.Need-tell-requires
+tell_requires c κs =
     let k = c.before.before.before.before in
-    answer-fits k.start.result k.start.ensures (start_fits _ _ _ _ _)
+    answer_fits k.start.result k.start.ensures (start_fits _ _ _ _ _)
 
 returns : tie.Need-returns
 returns c =
@@ -18,17 +18,17 @@ returns c =
     let l = k.before.before.before in
     let i = l.before.before.before in
     let e = rw (l.before.read.ensures, l.lengths.ensures) at k.start.ensures in
-    let same = start-without _ _ _ _ _ _ _ _ k.start.result e ∙ start-fitting _ _ _ _ _ _ _ i.before.fits2.ensures i.if1.true in
-    call-told _ k.start.result same t.tell.ensures.0 t.tell.ensures.1
+    let same = start_without _ _ _ _ _ _ _ _ k.start.result e ∙ start_fitting _ _ _ _ _ _ _ i.before.fits2.ensures i.if1.true in
+    call_told _ k.start.result same t.tell.ensures.0 t.tell.ensures.1
 
-returns-2 : tie.Need-returns-2
-returns-2 c =
+returns_2 : tie.Need-returns-2
+returns_2 c =
     let i = c.before.before in
     let e = rw c.before.basis-room.ensures at c.misfit.ensures in
-    start-misfit _ _ _ _ _ _ _ i.before.fits2.ensures i.if1.false e
+    start_misfit _ _ _ _ _ _ _ i.before.fits2.ensures i.if1.false e
 
 pub start_spec : {M : Type 1} → statement M
 start_spec =
     tie.close
-    (tie.spec (λ c κs. search rules) (λ c κs. search rules) (λ c κs. search rules) (λ c κs. search rules) tell-requires (λ c. search rules)
-    (λ c. search rules) (λ c. search rules) returns (λ c κs. search rules) (λ c κs. search rules) (λ c. search rules) returns-2)
+    (tie.spec (λ c κs. search rules) (λ c κs. search rules) (λ c κs. search rules) (λ c κs. search rules) tell_requires (λ c. search rules)
+    (λ c. search rules) (λ c. search rules) returns (λ c κs. search rules) (λ c κs. search rules) (λ c. search rules) returns_2)

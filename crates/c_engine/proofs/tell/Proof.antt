@@ -6,5 +6,5 @@ use Rattle.c_engine.proofs.tell.Tie as tie
 returns : tie.Need-returns
 returns c = (c.number.ensures, c.before.before.before.write.ensures)
 
-pub tell-spec : {M : Type 1} → statement M
-tell-spec = tie.close (tie.spec (λ c κs. search rules) (λ c κs. search rules) (λ c. search rules) returns)
+pub tell_spec : {M : Type 1} → statement M
+tell_spec = tie.close (tie.spec (λ c κs. search rules) (λ c κs. search rules) (λ c. search rules) returns)

@@ -1,28 +1,28 @@
 -- `resume_from` meets its contract: what the continuing call by value answered and left is told on. Assumes nothing.
-use Rattle.c_record.specs.CodeLaws.{answer-fits}
+use Rattle.c_record.specs.CodeLaws.{answer_fits}
 use Rattle.c_record.specs.WordLaws.{both_told}
-use Rattle.c_seat.specs.SeatWordLaws.{seat-resume-from-fits}
-use Rattle.c_seat.specs.SeatWords.{seatResumeBounded}
+use Rattle.c_seat.specs.SeatWordLaws.{seat_resume_from_fits}
+use Rattle.c_seat.specs.SeatWords.{seat_resume_bounded}
 use borrow.Author.Rules.{rules}
 use Rattle.c_seat.proofs.resume_from.Statement.{statement}
 use Rattle.c_seat.proofs.resume_from.Tie as tie
 
-tell-requires : tie.Need-tell-requires
-tell-requires c κs =
+tell_requires : tie.Need-tell-requires
+tell_requires c κs =
     let w = c.before.before.before.before.before.before.before in
-    answer-fits w.resumed-from.ensures (seat-resume-from-fits _ _ _ _ _ _)
+    answer_fits w.resumed_from.ensures (seat_resume_from_fits _ _ _ _ _ _)
 
 returns : tie.Need-returns
-unfolding seatResumeBounded
+unfolding seat_resume_bounded
 returns c =
     let t = c.before.before in
     let w = t.before.before.before.before.before.before.before.before in
-    both_told _ (rw w.before.before.before.before.read.ensures at w.resumed-from.ensures)
+    both_told _ (rw w.before.before.before.before.read.ensures at w.resumed_from.ensures)
     t.tell.ensures.0
     t.tell.ensures.1
 
-pub resume-from-spec : {M : Type 1} → statement M
-resume-from-spec =
+pub resume_from_spec : {M : Type 1} → statement M
+resume_from_spec =
     tie.close
-    (tie.spec (λ c κs. search rules) (λ c κs. search rules) tell-requires (λ c. search rules) (λ c. search rules) (λ c. search rules) (λ c. search rules)
+    (tie.spec (λ c κs. search rules) (λ c κs. search rules) tell_requires (λ c. search rules) (λ c. search rules) (λ c. search rules) (λ c. search rules)
     returns)

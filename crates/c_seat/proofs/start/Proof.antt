@@ -1,34 +1,34 @@
 -- `start` meets its contract: what the start by value answered and left is told on, or what the continuing call told. Assumes nothing.
-use Rattle.c_record.specs.CodeLaws.{answer-fits}
-use Rattle.c_record.specs.WordLaws.{start-told, told-misfit}
+use Rattle.c_record.specs.CodeLaws.{answer_fits}
+use Rattle.c_record.specs.WordLaws.{start_told, told_misfit}
 use Rattle.c_record.specs.Words.{told}
-use Rattle.c_seat.specs.SeatWordLaws.{seat-start-fits}
-use Rattle.c_seat.specs.SeatWords.{seatResumeWords, seatStartWords}
+use Rattle.c_seat.specs.SeatWordLaws.{seat_start_fits}
+use Rattle.c_seat.specs.SeatWords.{seat_resume_words, seat_start_words}
 use borrow.Author.Rules.{rules}
 use Rattle.c_seat.proofs.start.Statement.{statement}
 use Rattle.c_seat.proofs.start.Tie as tie
 
-tell-requires : tie.Need-tell-requires
-tell-requires c κs =
+tell_requires : tie.Need-tell-requires
+tell_requires c κs =
     let w = c.before.before.before.before.before in
-    answer-fits w.started.ensures (seat-start-fits _ _ _ _)
+    answer_fits w.started.ensures (seat_start_fits _ _ _ _)
 
 returns : tie.Need-returns
-unfolding seatStartWords
+unfolding seat_start_words
 returns c =
     let t = c.before.before in
     let w = t.before.before.before.before.before.before in
     let r = w.before.before.before in
-    start-told _ (rw r.read.ensures at w.started.ensures) r.before.before.if1.true t.tell.ensures.0 t.tell.ensures.1 _
+    start_told _ (rw r.read.ensures at w.started.ensures) r.before.before.if1.true t.tell.ensures.0 t.tell.ensures.1 _
 
-returns-2 : tie.Need-returns-2
-unfolding seatStartWords seatResumeWords
-returns-2 c =
+returns_2 : tie.Need-returns-2
+unfolding seat_start_words seat_resume_words
+returns_2 c =
     let w = c.before.before.before.before.before.before in
-    told-misfit _ _ _ (told _) w.resume.ensures w.before.before.before.before.if1.false
+    told_misfit _ _ _ (told _) w.resume.ensures w.before.before.before.before.if1.false
 
 pub start_spec : {M : Type 1} → statement M
 start_spec =
     tie.close
-    (tie.spec (λ c κs. search rules) (λ c κs. search rules) tell-requires (λ c. search rules) (λ c. search rules) (λ c. search rules) returns
-    (λ c κs. search rules) (λ c. search rules) (λ c. search rules) (λ c. search rules) returns-2)
+    (tie.spec (λ c κs. search rules) (λ c κs. search rules) tell_requires (λ c. search rules) (λ c. search rules) (λ c. search rules) returns
+    (λ c κs. search rules) (λ c. search rules) (λ c. search rules) (λ c. search rules) returns_2)

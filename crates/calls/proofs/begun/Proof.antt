@@ -6,5 +6,5 @@ use Rattle.calls.proofs.begun.Tie as tie
 returns : tie.Need-returns
 returns c = rw c.of.ensures
 
-pub begun-spec : {M : Type 1} → statement M
-begun-spec = tie.close (tie.spec (λ c κs. search rules) returns)
+pub begun_spec : {M : Type 1} → statement M
+begun_spec = tie.close (tie.spec (λ c κs. search rules) returns)

@@ -6,5 +6,5 @@ use Rattle.calls.proofs.left.Tie as tie
 returns : tie.Need-returns
 returns c = rw c.of.ensures
 
-pub left-spec : {M : Type 1} → statement M
-left-spec = tie.close (tie.spec (λ c κs. search rules) returns)
+pub left_spec : {M : Type 1} → statement M
+left_spec = tie.close (tie.spec (λ c κs. search rules) returns)

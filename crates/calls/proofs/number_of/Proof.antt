@@ -9,8 +9,8 @@ use Rattle.calls.proofs.number_of.Tie as tie
 of : {why case : Refusal} → why ≡ case → number_of case ≡ number_of why
 of e = sym (ap number_of e)
 
-pub number-of-spec : {M : Type 1} → statement M
-number-of-spec =
+pub number_of_spec : {M : Type 1} → statement M
+number_of_spec =
     tie.close
     (tie.spec
     (λ c. search rules) (λ c. search rules) (λ c. search rules) (λ c. search rules) (λ c. search rules) (λ c. search rules) (λ c. search rules)

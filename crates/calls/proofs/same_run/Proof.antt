@@ -6,5 +6,5 @@ use Rattle.calls.proofs.same_run.Tie as tie
 returns : tie.Need-returns
 returns c = rw (c.before.run-number.ensures, c.run-number2.ensures)
 
-pub same-run-spec : {M : Type 1} → statement M
-same-run-spec = tie.close (tie.spec (λ c κs. search rules) (λ c κs. search rules) returns)
+pub same_run_spec : {M : Type 1} → statement M
+same_run_spec = tie.close (tie.spec (λ c κs. search rules) (λ c κs. search rules) returns)

@@ -9,8 +9,8 @@ use Rattle.calls.proofs.value_of.Tie as tie
 of : {why case : Refusal} → why ≡ case → value (values_of case) ≡ value (values_of why)
 of e = sym (ap (λ why. value (values_of why)) e)
 
-pub value-of-spec : {M : Type 1} → statement M
-value-of-spec =
+pub value_of_spec : {M : Type 1} → statement M
+value_of_spec =
     tie.close
     (tie.spec
     (λ c. search rules) (λ c. search rules) (λ c. search rules) (λ c. search rules) (λ c. search rules) (λ c. search rules) (λ c. search rules)

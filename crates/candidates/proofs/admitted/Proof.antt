@@ -13,8 +13,8 @@ use Rattle.candidates.proofs.admitted.Tie as tie
 
 -- ---- a plain walk
 
-admitted-plain-requires : tie.Need-admitted-plain-requires
-admitted-plain-requires c κs =
+admitted_plain_requires : tie.Need-admitted-plain-requires
+admitted_plain_requires c κs =
     let e = c.before in
     let s = e.before.before.before.before.before.before in
     let p = rw e.enum_told.given.1 at s.requires in
@@ -22,8 +22,8 @@ admitted-plain-requires c κs =
 
 -- ---- a capped walk
 
-admitted-capped-requires : tie.Need-admitted-capped-requires
-admitted-capped-requires c κs =
+admitted_capped_requires : tie.Need-admitted-capped-requires
+admitted_capped_requires c κs =
     let e = c.before in
     let s = e.before.before.before.before.before.before in
     let p = rw e.enum-told2.given.1 at s.requires in (
@@ -33,8 +33,8 @@ admitted-capped-requires c κs =
 
 -- ---- a walk above a lower bound
 
-admitted-above-requires : tie.Need-admitted-above-requires
-admitted-above-requires c κs =
+admitted_above_requires : tie.Need-admitted-above-requires
+admitted_above_requires c κs =
     let e = c.before in
     let s = e.before.before.before.before.before.before in
     let p = rw e.enum-told3.given.1 at s.requires in (
@@ -61,24 +61,24 @@ returns c =
       x.admitted-plain.ensures.1,
     )
 
-same-length-2 : tie.Need-same-length-2
-same-length-2 c = ap length c.before.before.admitted-capped.ensures.1
+same_length_2 : tie.Need-same-length-2
+same_length_2 c = ap length c.before.before.admitted-capped.ensures.1
 
-returns-2 : tie.Need-returns-2
-returns-2 c =
+returns_2 : tie.Need-returns-2
+returns_2 c =
     let x = c.before.before in
     rw x.before.before.enum-told2.given.1 x.admitted-capped.ensures
 
-same-length-3 : tie.Need-same-length-3
-same-length-3 c = ap length c.before.before.admitted-above.ensures.1
+same_length_3 : tie.Need-same-length-3
+same_length_3 c = ap length c.before.before.admitted-above.ensures.1
 
-returns-3 : tie.Need-returns-3
-returns-3 c =
+returns_3 : tie.Need-returns-3
+returns_3 c =
     let x = c.before.before in
     rw x.before.before.enum-told3.given.1 x.admitted-above.ensures
 
-pub admitted-spec : {M : Type 1} → statement M
-admitted-spec =
+pub admitted_spec : {M : Type 1} → statement M
+admitted_spec =
     tie.close
-    (tie.spec (λ c. search rules) admitted-plain-requires (λ c. search rules) admitted-capped-requires (λ c. search rules) admitted-above-requires same_length
-    returns same-length-2 returns-2 same-length-3 returns-3)
+    (tie.spec (λ c. search rules) admitted_plain_requires (λ c. search rules) admitted_capped_requires (λ c. search rules) admitted_above_requires same_length
+    returns same_length_2 returns_2 same_length_3 returns_3)

@@ -6,19 +6,19 @@ use lib.ListN.{length}
 use borrow.Author.Rules.{rules}
 use Rattle.definitions.specs.System.{capped}
 use Rattle.table_rows.specs.Rows.{tuple}
-use Rattle.candidates.specs.GrowLaws.{open-asked}
+use Rattle.candidates.specs.GrowLaws.{open_asked}
 use Rattle.candidates.specs.Kinds.{asked}
 use Rattle.candidates.specs.Tried.{tried_open}
 use Rattle.candidates.proofs.admitted_capped.Statement.{statement}
 use Rattle.candidates.proofs.admitted_capped.Tie as tie
 
-uncapped-requires : tie.Need-uncapped-requires
-uncapped-requires c κs =
+uncapped_requires : tie.Need-uncapped-requires
+uncapped_requires c κs =
     let p = c.before.before.before.before.requires in
     (((p.0.0.0, p.0.0.1, p.0.0.3), p.0.1, p.0.2), (p.1.0, p.1.2))
 
-passed-requires : tie.Need-passed-requires
-passed-requires c κs =
+passed_requires : tie.Need-passed-requires
+passed_requires c κs =
     let u = c.before.before.before in
     let p = u.before.before.before.before.before.requires in
     rw u.uncapped.ensures.1 (
@@ -40,9 +40,9 @@ returns c =
     let t = tuple a.t.now in
     let r = rw u.uncapped.ensures.1 at x.passed.ensures.0 in (
       r ∙ tried_open a.limit capped a.q s t a.candidates u.uncapped.result
-          (λ j l. u.uncapped.ensures.0.at j l ∙ open-asked capped a.q a.list.now a.second.now a.found a.other t a.candidates j),
+          (λ j l. u.uncapped.ensures.0.at j l ∙ open_asked capped a.q a.list.now a.second.now a.found a.other t a.candidates j),
       x.passed.ensures.1 ∙ u.uncapped.ensures.1,
     )
 
-pub admitted-capped-spec : {M : Type 1} → statement M
-admitted-capped-spec = tie.close (tie.spec uncapped-requires (λ c. search rules) passed-requires same_length returns)
+pub admitted_capped_spec : {M : Type 1} → statement M
+admitted_capped_spec = tie.close (tie.spec uncapped_requires (λ c. search rules) passed_requires same_length returns)

@@ -9,46 +9,46 @@ use lib.Dec.{eqb}
 use lib.ListN.{length}
 use borrow.Author.Rules.{rules}
 use borrow.Author.Tests.{eq-eqb, ne_eqb}
-use Rattle.linear.specs.LoopLaws.{any-holds}
-use Rattle.linear.specs.Tests.{anyTo}
+use Rattle.linear.specs.LoopLaws.{any_holds}
+use Rattle.linear.specs.Tests.{any_to}
 use Rattle.definitions.specs.Tables.{at, frozen}
-use Rattle.definitions.specs.Step.{marksTo}
+use Rattle.definitions.specs.Step.{marks_to}
 use Rattle.table_rows.specs.Rows.{tuple}
 use Rattle.products.specs.Scan.{
   Left,
-  left-all,
-  left-next,
+  left_all,
+  left_next,
   left_end,
-  next-inside,
-  next-holds,
+  next_inside,
+  next_holds,
   next_le,
-  next-less,
-  next-skip,
-  next-add,
-  next-room,
-  none-next,
+  next_less,
+  next_skip,
+  next_add,
+  next_room,
+  none_next,
   none_end,
 }
-use Rattle.products.specs.Marks.{any-zero}
-use Rattle.candidates.specs.Tried.{tried-large, tried-made}
-use Rattle.candidates.specs.Grow.{childBy}
-use Rattle.candidates.specs.GrowLaws.{closed-makes-none, covered-makes-none, makes_one}
+use Rattle.products.specs.Marks.{any_zero}
+use Rattle.candidates.specs.Tried.{tried_large, tried_made}
+use Rattle.candidates.specs.Grow.{child_by}
+use Rattle.candidates.specs.GrowLaws.{closed_makes_none, covered_makes_none, makes_one}
 use Rattle.candidates.proofs.admitted_plain.Statement.{statement}
 use Rattle.candidates.proofs.admitted_plain.Tie as tie
 
-abbrev invariant-loop : tie.invariant-loop
-invariant-loop list found q t₀ candidates limit made₀ rest₀ t made rest =
-    (t ≡ t₀) × (n : ℕ) × Left q (frozen candidates) n rest × (made ≡ marksTo n (childBy q 0 found (at list q) (tuple t₀) candidates))
-    × (anyTo n (λ j. childBy q 0 found (at list q) (tuple t₀) candidates j && eqb (tuple t₀ j) limit) ≡ false)
+abbrev invariant_loop : tie.invariant_loop
+invariant_loop list found q t₀ candidates limit made₀ rest₀ t made rest =
+    (t ≡ t₀) × (n : ℕ) × Left q (frozen candidates) n rest × (made ≡ marks_to n (child_by q 0 found (at list q) (tuple t₀) candidates))
+    × (any_to n (λ j. child_by q 0 found (at list q) (tuple t₀) candidates j && eqb (tuple t₀ j) limit) ≡ false)
 
-abbrev decreases-loop : tie.decreases-loop
-decreases-loop list found q t₀ candidates limit made₀ rest₀ t made rest = rest
+abbrev decreases_loop : tie.decreases_loop
+decreases_loop list found q t₀ candidates limit made₀ rest₀ t made rest = rest
 
 abbrev Turn : Type 0
-Turn = tie.In-loop invariant-loop decreases-loop
+Turn = tie.In-loop invariant_loop decreases_loop
 
 -- where a turn began
-abbrev begun : Turn → tie.Start invariant-loop decreases-loop
+abbrev begun : Turn → tie.Start invariant_loop decreases_loop
 begun l = l.before.before.before.before
 
 abbrev unknown : Turn → ℕ
@@ -58,40 +58,40 @@ some : (l : Turn) → 0 < l.before.loop.rest
 some l = omega (arith, l.loop-test.taken)
 
 inside : (l : Turn) → unknown l < (begun l).args.q
-inside l = next-inside l.before.loop.inv.2 (begun l).pre.0.1 (some l)
+inside l = next_inside l.before.loop.inv.2 (begun l).pre.0.1 (some l)
 
 -- whether unknown j makes a child, and one that is too large
-abbrev child : tie.Start invariant-loop decreases-loop → ℕ → Bool
-child s = childBy s.args.q 0 s.args.found (at s.args.list.now s.args.q) (tuple s.args.t.now) s.args.candidates
+abbrev child : tie.Start invariant_loop decreases_loop → ℕ → Bool
+child s = child_by s.args.q 0 s.args.found (at s.args.list.now s.args.q) (tuple s.args.t.now) s.args.candidates
 
-abbrev large : tie.Start invariant-loop decreases-loop → ℕ → Bool
+abbrev large : tie.Start invariant_loop decreases_loop → ℕ → Bool
 large s j = child s j && eqb (tuple s.args.t.now j) s.args.limit
 
-closed : (s : tie.Start invariant-loop decreases-loop) (j : ℕ) → frozen s.args.candidates j ≡ false → child s j ≡ false
-closed s j e = closed-makes-none _ _ _ _ _ _ _ e
+closed : (s : tie.Start invariant_loop decreases_loop) (j : ℕ) → frozen s.args.candidates j ≡ false → child s j ≡ false
+closed s j e = closed_makes_none _ _ _ _ _ _ _ e
 
-closed-large : (s : tie.Start invariant-loop decreases-loop) (j : ℕ) → frozen s.args.candidates j ≡ false → large s j ≡ false
-closed-large s j e = rw (closed s j e)
+closed_large : (s : tie.Start invariant_loop decreases_loop) (j : ℕ) → frozen s.args.candidates j ≡ false → large s j ≡ false
+closed_large s j e = rw (closed s j e)
 
 -- the unknown of the turn, by what `blocked` found; it leaves the tuple as it was
-module _ (b : tie.After-blocked invariant-loop decreases-loop) where
+module _ (b : tie.After-blocked invariant_loop decreases_loop) where
   abbrev turn : Turn
   turn = b.before.before
 
-  blocked-none : b.blocked.result ≡ true → child (begun turn) (unknown turn) ≡ false
-  blocked-none e = covered-makes-none _ _ _ _ _ _ _ (sym (rw turn.before.loop.inv.0 at b.blocked.ensures.0) ∙ e)
+  blocked_none : b.blocked.result ≡ true → child (begun turn) (unknown turn) ≡ false
+  blocked_none e = covered_makes_none _ _ _ _ _ _ _ (sym (rw turn.before.loop.inv.0 at b.blocked.ensures.0) ∙ e)
 
   free_one : b.blocked.result ≡ false → child (begun turn) (unknown turn) ≡ true
   free_one e =
-      makes_one _ _ _ _ _ _ _ (next-holds turn.before.loop.inv.2 (begun turn).pre.0.1 (some turn))
+      makes_one _ _ _ _ _ _ _ (next_holds turn.before.loop.inv.2 (begun turn).pre.0.1 (some turn))
       (sym (rw turn.before.loop.inv.0 at b.blocked.ensures.0) ∙ e)
 
-loop-holds : tie.Need-loop-init invariant-loop decreases-loop
-unfolding marksTo
-loop-holds c = (refl, 0, left-all _ _ c.before.before.requires.0.4, refl, any-zero _)
+loop_holds : tie.Need-loop-init invariant_loop decreases_loop
+unfolding marks_to
+loop_holds c = (refl, 0, left_all _ _ c.before.before.requires.0.4, refl, any_zero _)
 
-blocked-requires : tie.Need-blocked-requires invariant-loop decreases-loop
-blocked-requires c κs =
+blocked_requires : tie.Need-blocked-requires invariant_loop decreases_loop
+blocked_requires c κs =
     let l = c.before in
     let s = begun l in
     rw l.before.loop.invariant.0 (
@@ -102,8 +102,8 @@ blocked-requires c κs =
       omega (arith, s.pre.1.0.at_most (unknown l) (inside l)),
     )
 
-loop-again : tie.Need-loop-preserved invariant-loop decreases-loop
-loop-again c =
+loop_again : tie.Need-loop-preserved invariant_loop decreases_loop
+loop_again c =
     let b = c.before.before.before in
     let l = turn b in
     let a = l.before in
@@ -111,57 +111,57 @@ loop-again c =
     let left = a.loop.inv.2 in (
       b.blocked.ensures.1 ∙ a.loop.inv.0,
       unknown l + 1,
-      left-next left few (some l),
-      next-skip left few (some l) (child (begun l)) (closed (begun l)) a.loop.inv.3 (blocked-none b c.if1.true),
-      none-next left few (some l) (large (begun l)) (closed-large (begun l)) a.loop.inv.4 (rw (blocked-none b c.if1.true)),
+      left_next left few (some l),
+      next_skip left few (some l) (child (begun l)) (closed (begun l)) a.loop.inv.3 (blocked_none b c.if1.true),
+      none_next left few (some l) (large (begun l)) (closed_large (begun l)) a.loop.inv.4 (rw (blocked_none b c.if1.true)),
     )
 
-mul-if2 : tie.Need-overflow-mul-if2 invariant-loop decreases-loop
-mul-if2 c =
+mul_if2 : tie.Need-overflow-mul-if2 invariant_loop decreases_loop
+mul_if2 c =
     let l = turn c.before.before.before in
     omega (arith, inside l, (begun l).pre.0.1)
 
-slice-read-if2 : tie.Need-slice-read-if2 invariant-loop decreases-loop
-slice-read-if2 c =
+slice_read_if2 : tie.Need-slice-read-if2 invariant_loop decreases_loop
+slice_read_if2 c =
     let b = c.before.before.before.before in
     let l = turn b in
     rw (b.blocked.ensures.1 ∙ l.before.loop.inv.0) (omega (arith, inside l, (begun l).pre.0.3))
 
 -- the component of the turn's unknown, which `blocked` has left as it was
-reached : (c : tie.Then2 invariant-loop decreases-loop) → let l = turn c.before.before.before.before.before in
+reached : (c : tie.Then2 invariant_loop decreases_loop) → let l = turn c.before.before.before.before.before in
     tuple (begun l).args.t.now (unknown l) ≡ (begun l).args.limit
 reached c =
     let b = c.before.before.before.before.before in
     let l = turn b in
     omega (arith, rw (b.blocked.ensures.1 ∙ l.before.loop.inv.0) at c.if2.true, (begun l).pre.1.1.at_most (unknown l) (inside l))
 
-below : (c : tie.Else2 invariant-loop decreases-loop) → let l = turn c.before.before.before.before.before in
+below : (c : tie.Else2 invariant_loop decreases_loop) → let l = turn c.before.before.before.before.before in
     tuple (begun l).args.t.now (unknown l) ≢ (begun l).args.limit
 below c =
     let b = c.before.before.before.before.before in
     omega (arith, rw (b.blocked.ensures.1 ∙ (turn b).before.loop.invariant.0) at c.if2.false)
 
-same_length : tie.Need-same-length invariant-loop decreases-loop
+same_length : tie.Need-same-length invariant_loop decreases_loop
 same_length c =
     let b = c.before.before.before.before.before in
     ap length (b.blocked.ensures.1 ∙ (turn b).before.loop.invariant.0)
 
-returns : tie.Need-returns invariant-loop decreases-loop
+returns : tie.Need-returns invariant_loop decreases_loop
 returns c =
     let b = c.before.before.before.before.before in
     let l = turn b in
     let s = begun l in
     let here : large s (unknown l) ≡ true =
     rw (free_one b c.before.before.if1.false, eq-eqb (tuple s.args.t.now (unknown l)) s.args.limit (reached c)) in
-    (tried-large _ _ _ _ (any-holds _ (large s) (unknown l) (inside l) here), b.blocked.ensures.1 ∙ l.before.loop.inv.0)
+    (tried_large _ _ _ _ (any_holds _ (large s) (unknown l) (inside l) here), b.blocked.ensures.1 ∙ l.before.loop.inv.0)
 
-add-made : tie.Need-overflow-add-made invariant-loop decreases-loop
-add-made c =
+add_made : tie.Need-overflow-add-made invariant_loop decreases_loop
+add_made c =
     let l = turn c.before.before.before.before.before in
-    omega (arith, next-room l.before.loop.inv.2 (begun l).pre.0.1 (some l) (child (begun l)) (closed (begun l)) l.before.loop.inv.3)
+    omega (arith, next_room l.before.loop.inv.2 (begun l).pre.0.1 (some l) (child (begun l)) (closed (begun l)) l.before.loop.inv.3)
 
-loop-again-2 : tie.Need-loop-preserved-2 invariant-loop decreases-loop
-loop-again-2 c =
+loop_again_2 : tie.Need-loop-preserved-2 invariant_loop decreases_loop
+loop_again_2 c =
     let b = c.before.before.before.before.before in
     let l = turn b in
     let a = l.before in
@@ -169,25 +169,25 @@ loop-again-2 c =
     let left = a.loop.inv.2 in (
       b.blocked.ensures.1 ∙ a.loop.inv.0,
       unknown l + 1,
-      left-next left few (some l),
-      next-add left few (some l) (child (begun l)) (closed (begun l)) a.loop.inv.3 (free_one b c.before.before.if1.false),
-      none-next left few (some l) (large (begun l)) (closed-large (begun l)) a.loop.inv.4
+      left_next left few (some l),
+      next_add left few (some l) (child (begun l)) (closed (begun l)) a.loop.inv.3 (free_one b c.before.before.if1.false),
+      none_next left few (some l) (large (begun l)) (closed_large (begun l)) a.loop.inv.4
           (rw (ne_eqb (tuple (begun l).args.t.now (unknown l)) (begun l).args.limit (below c), and-false)),
     )
 
-returns-2 : tie.Need-returns-2 invariant-loop decreases-loop
-returns-2 c =
+returns_2 : tie.Need-returns-2 invariant_loop decreases_loop
+returns_2 c =
     let a = c.before in
     let s = a.before.before.before in
     let left = rw c.loop-test.false at a.loop.invariant.2 in
-    (tried-made _ _ _ _ (none_end left (large s) (closed-large s) a.loop.invariant.4) (left_end left (child s) (closed s) a.loop.invariant.3), a.loop.invariant.0)
+    (tried_made _ _ _ _ (none_end left (large s) (closed_large s) a.loop.invariant.4) (left_end left (child s) (closed s) a.loop.invariant.3), a.loop.invariant.0)
 
-pub admitted-plain-spec : {M : Type 1} → statement M
-admitted-plain-spec =
+pub admitted_plain_spec : {M : Type 1} → statement M
+admitted_plain_spec =
     tie.close
-    (tie.spec invariant-loop decreases-loop loop-holds (λ c. omega (arith, inside c, (begun c).requires.0.1)) (λ c. omega (arith, inside c, (begun c).requires.0.1))
-    (λ c. omega (arith, inside c, (begun c).requires.0.1)) (λ c. next_le c.before.loop.invariant.2 (begun c).requires.0.1 (some c)) blocked-requires
-    (λ c. let l = c.before.before.before.before.before in next-less l.before.loop.invariant.2 (begun l).requires.0.1 (some l)) loop-again
-    mul-if2 slice-read-if2 same_length returns add-made
-    (λ c. let l = turn c.before.before.before.before.before in next-less l.before.loop.inv.2 (begun l).pre.0.1 (some l)) loop-again-2
-    (λ c. search rules) returns-2)
+    (tie.spec invariant_loop decreases_loop loop_holds (λ c. omega (arith, inside c, (begun c).requires.0.1)) (λ c. omega (arith, inside c, (begun c).requires.0.1))
+    (λ c. omega (arith, inside c, (begun c).requires.0.1)) (λ c. next_le c.before.loop.invariant.2 (begun c).requires.0.1 (some c)) blocked_requires
+    (λ c. let l = c.before.before.before.before.before in next_less l.before.loop.invariant.2 (begun l).requires.0.1 (some l)) loop_again
+    mul_if2 slice_read_if2 same_length returns add_made
+    (λ c. let l = turn c.before.before.before.before.before in next_less l.before.loop.inv.2 (begun l).pre.0.1 (some l)) loop_again_2
+    (λ c. search rules) returns_2)

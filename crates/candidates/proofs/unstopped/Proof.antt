@@ -6,25 +6,25 @@ use native.Mathlib.Omega.{arith}
 use lib.Count.{count_trailing_zeros}
 use borrow.Author.Rules.{rules}
 use Rattle.definitions.specs.Tables.{at, frozen}
-use Rattle.definitions.specs.Step.{marksTo}
+use Rattle.definitions.specs.Step.{marks_to}
 use Rattle.table_rows.specs.Rows.{tuple}
-use Rattle.products.specs.Scan.{Left, left-all, left-next, left_end, next-inside, next-holds, next_le, next-less, next-skip, next-add, next-room}
-use Rattle.candidates.specs.Grow.{childBy}
-use Rattle.candidates.specs.GrowLaws.{closed-makes-none, covered-makes-none, makes_one}
+use Rattle.products.specs.Scan.{Left, left_all, left_next, left_end, next_inside, next_holds, next_le, next_less, next_skip, next_add, next_room}
+use Rattle.candidates.specs.Grow.{child_by}
+use Rattle.candidates.specs.GrowLaws.{closed_makes_none, covered_makes_none, makes_one}
 use Rattle.candidates.proofs.unstopped.Statement.{statement}
 use Rattle.candidates.proofs.unstopped.Tie as tie
 
-abbrev invariant-loop : tie.invariant-loop
-invariant-loop list found w from q t₀ candidates left₀ rest₀ t left rest =
-    (t ≡ t₀) × (n : ℕ) × Left q (frozen candidates) n rest × (left ≡ marksTo n (childBy w from found (at list w) (tuple t₀) candidates))
+abbrev invariant_loop : tie.invariant_loop
+invariant_loop list found w from q t₀ candidates left₀ rest₀ t left rest =
+    (t ≡ t₀) × (n : ℕ) × Left q (frozen candidates) n rest × (left ≡ marks_to n (child_by w from found (at list w) (tuple t₀) candidates))
 
-abbrev decreases-loop : tie.decreases-loop
-decreases-loop list found w from q t₀ candidates left₀ rest₀ t left rest = rest
+abbrev decreases_loop : tie.decreases_loop
+decreases_loop list found w from q t₀ candidates left₀ rest₀ t left rest = rest
 
 abbrev Turn : Type 0
-Turn = tie.In-loop invariant-loop decreases-loop
+Turn = tie.In-loop invariant_loop decreases_loop
 
-abbrev begun : Turn → tie.Start invariant-loop decreases-loop
+abbrev begun : Turn → tie.Start invariant_loop decreases_loop
 begun l = l.before.before.before.before
 
 abbrev unknown : Turn → ℕ
@@ -34,34 +34,34 @@ some : (l : Turn) → 0 < l.before.loop.rest
 some l = omega (arith, l.loop-test.taken)
 
 inside : (l : Turn) → unknown l < (begun l).args.q
-inside l = next-inside l.before.loop.inv.2 (begun l).pre.0.1 (some l)
+inside l = next_inside l.before.loop.inv.2 (begun l).pre.0.1 (some l)
 
 -- whether unknown j is left
-abbrev child : tie.Start invariant-loop decreases-loop → ℕ → Bool
-child s = childBy s.args.w s.args.from s.args.found (at s.args.list.now s.args.w) (tuple s.args.t.now) s.args.candidates
+abbrev child : tie.Start invariant_loop decreases_loop → ℕ → Bool
+child s = child_by s.args.w s.args.from s.args.found (at s.args.list.now s.args.w) (tuple s.args.t.now) s.args.candidates
 
-closed : (s : tie.Start invariant-loop decreases-loop) (j : ℕ) → frozen s.args.candidates j ≡ false → child s j ≡ false
-closed s j e = closed-makes-none _ _ _ _ _ _ _ e
+closed : (s : tie.Start invariant_loop decreases_loop) (j : ℕ) → frozen s.args.candidates j ≡ false → child s j ≡ false
+closed s j e = closed_makes_none _ _ _ _ _ _ _ e
 
 -- the unknown of the turn, by what `blocked` found; it leaves the tuple as it was
-module _ (b : tie.After-blocked invariant-loop decreases-loop) where
+module _ (b : tie.After-blocked invariant_loop decreases_loop) where
   abbrev turn : Turn
   turn = b.before.before
 
-  blocked-none : b.blocked.result ≡ true → child (begun turn) (unknown turn) ≡ false
-  blocked-none e = covered-makes-none _ _ _ _ _ _ _ (sym (rw turn.before.loop.inv.0 at b.blocked.ensures.0) ∙ e)
+  blocked_none : b.blocked.result ≡ true → child (begun turn) (unknown turn) ≡ false
+  blocked_none e = covered_makes_none _ _ _ _ _ _ _ (sym (rw turn.before.loop.inv.0 at b.blocked.ensures.0) ∙ e)
 
   free_one : b.blocked.result ≡ false → child (begun turn) (unknown turn) ≡ true
   free_one e =
-      makes_one _ _ _ _ _ _ _ (next-holds turn.before.loop.inv.2 (begun turn).pre.0.1 (some turn))
+      makes_one _ _ _ _ _ _ _ (next_holds turn.before.loop.inv.2 (begun turn).pre.0.1 (some turn))
       (sym (rw turn.before.loop.inv.0 at b.blocked.ensures.0) ∙ e)
 
-loop-holds : tie.Need-loop-init invariant-loop decreases-loop
-unfolding marksTo
-loop-holds c = (refl, 0, left-all _ _ c.before.before.requires.0.4, refl)
+loop_holds : tie.Need-loop-init invariant_loop decreases_loop
+unfolding marks_to
+loop_holds c = (refl, 0, left_all _ _ c.before.before.requires.0.4, refl)
 
-blocked-requires : tie.Need-blocked-requires invariant-loop decreases-loop
-blocked-requires c κs =
+blocked_requires : tie.Need-blocked-requires invariant_loop decreases_loop
+blocked_requires c κs =
     let l = c.before in
     let s = begun l in
     rw l.before.loop.invariant.0 (
@@ -72,8 +72,8 @@ blocked-requires c κs =
       omega (arith, s.pre.1.at_most (unknown l) (inside l)),
     )
 
-loop-again : tie.Need-loop-preserved invariant-loop decreases-loop
-loop-again c =
+loop_again : tie.Need-loop-preserved invariant_loop decreases_loop
+loop_again c =
     let b = c.before.before.before in
     let l = turn b in
     let a = l.before in
@@ -81,17 +81,17 @@ loop-again c =
     let left = a.loop.inv.2 in (
       b.blocked.ensures.1 ∙ a.loop.inv.0,
       unknown l + 1,
-      left-next left few (some l),
-      next-skip left few (some l) (child (begun l)) (closed (begun l)) a.loop.inv.3 (blocked-none b c.if1.true),
+      left_next left few (some l),
+      next_skip left few (some l) (child (begun l)) (closed (begun l)) a.loop.inv.3 (blocked_none b c.if1.true),
     )
 
-add_left : tie.Need-overflow-add-left invariant-loop decreases-loop
+add_left : tie.Need-overflow-add-left invariant_loop decreases_loop
 add_left c =
     let l = turn c.before.before.before in
-    omega (arith, next-room l.before.loop.inv.2 (begun l).pre.0.1 (some l) (child (begun l)) (closed (begun l)) l.before.loop.inv.3)
+    omega (arith, next_room l.before.loop.inv.2 (begun l).pre.0.1 (some l) (child (begun l)) (closed (begun l)) l.before.loop.inv.3)
 
-loop-again-2 : tie.Need-loop-preserved-2 invariant-loop decreases-loop
-loop-again-2 c =
+loop_again_2 : tie.Need-loop-preserved-2 invariant_loop decreases_loop
+loop_again_2 c =
     let b = c.before.before.before in
     let l = turn b in
     let a = l.before in
@@ -99,22 +99,22 @@ loop-again-2 c =
     let left = a.loop.inv.2 in (
       b.blocked.ensures.1 ∙ a.loop.inv.0,
       unknown l + 1,
-      left-next left few (some l),
-      next-add left few (some l) (child (begun l)) (closed (begun l)) a.loop.inv.3 (free_one b c.if1.false),
+      left_next left few (some l),
+      next_add left few (some l) (child (begun l)) (closed (begun l)) a.loop.inv.3 (free_one b c.if1.false),
     )
 
-returns : tie.Need-returns invariant-loop decreases-loop
+returns : tie.Need-returns invariant_loop decreases_loop
 returns c =
     let a = c.before in
     let s = a.before.before.before in
     let left = rw c.loop-test.false at a.loop.invariant.2 in
     (left_end left (child s) (closed s) a.loop.invariant.3, a.loop.invariant.0)
 
-pub unstopped-spec : {M : Type 1} → statement M
-unstopped-spec =
+pub unstopped_spec : {M : Type 1} → statement M
+unstopped_spec =
     tie.close
-    (tie.spec invariant-loop decreases-loop loop-holds (λ c. omega (arith, inside c, (begun c).requires.0.1)) (λ c. omega (arith, inside c, (begun c).requires.0.1))
-    (λ c. omega (arith, inside c, (begun c).requires.0.1)) (λ c. next_le c.before.loop.invariant.2 (begun c).requires.0.1 (some c)) blocked-requires
-    (λ c. let l = c.before.before.before.before.before in next-less l.before.loop.invariant.2 (begun l).requires.0.1 (some l)) loop-again
-    add_left (λ c. let l = turn c.before.before.before in next-less l.before.loop.inv.2 (begun l).pre.0.1 (some l)) loop-again-2
+    (tie.spec invariant_loop decreases_loop loop_holds (λ c. omega (arith, inside c, (begun c).requires.0.1)) (λ c. omega (arith, inside c, (begun c).requires.0.1))
+    (λ c. omega (arith, inside c, (begun c).requires.0.1)) (λ c. next_le c.before.loop.invariant.2 (begun c).requires.0.1 (some c)) blocked_requires
+    (λ c. let l = c.before.before.before.before.before in next_less l.before.loop.invariant.2 (begun l).requires.0.1 (some l)) loop_again
+    add_left (λ c. let l = turn c.before.before.before in next_less l.before.loop.inv.2 (begun l).pre.0.1 (some l)) loop_again_2
     (λ c. search rules) returns)

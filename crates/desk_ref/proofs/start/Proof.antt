@@ -13,8 +13,8 @@ use denote.Triple.Table.{cited}
 use Rattle.calls.specs.declared.Record.{Record}
 use Rattle.calls.specs.contracts.Record as Rec
 use Rattle.walk_ref.proofs.Frame.{here, ends}
-use Rattle.walk_ref.proofs.Walk.{Met, lent, lent_slice, number, proved, shared-slice}
-use Rattle.walk_ref.proofs.Behind.{copies, lends, less₁, puts_back, recordVal, values₁, with₁, walk-types}
+use Rattle.walk_ref.proofs.Walk.{Met, lent, lent_slice, number, proved, shared_slice}
+use Rattle.walk_ref.proofs.Behind.{copies, lends, less₁, puts_back, record_val, values₁, with₁, walk_types}
 use Rattle.desk.specs.contracts.start as started
 use Rattle.desk.proofs.start.Symbol as started-def
 use Rattle.desk.proofs.start.Symbol.{name as #desk·start}
@@ -35,12 +35,12 @@ start_spec 𝓤 𝓛 𝓜 𝓡 =
       (
         number w64,
         (
-          shared-slice (named 0) κs.0 i32,
+          shared_slice (named 0) κs.0 i32,
           (
-            shared-slice (named 1) κs.1.0 u32,
+            shared_slice (named 1) κs.1.0 u32,
             (
               lent_slice (named 2) κs.1.1.0 u32,
-              (shared-slice (named 3) κs.1.1.1.0 u32, (lent (named 4) κs.1.1.1.1.0 Rec.the_row, tt)),
+              (shared_slice (named 3) κs.1.1.1.0 u32, (lent (named 4) κs.1.1.1.1.0 Rec.the_row, tt)),
             ),
           ),
         ),
@@ -48,15 +48,15 @@ start_spec 𝓤 𝓛 𝓜 𝓡 =
     )) (λ κs a t. t)
     (λ fm κs qs a g are leave bs.
     let r : Bor Record = a.1.1.1.1.1.1.0 in
-    let y : callee.Ghost = ((less₁ κs, less₁ qs, tt, with₁ a r.now, values₁ recordVal a tt), tt) in
+    let y : callee.Ghost = ((less₁ κs, less₁ qs, tt, with₁ a r.now, values₁ record_val a tt), tt) in
     lends ! 5 9 10 are.1.1.1.1.0.0.1.0 refl refl refl refl refl refl refl refl $
-    copies walk-types 4 6 κs.1.1.1.1.0 qs.1.1.1.1.0 r ! _ _ _ _ 11 refl refl refl refl $
+    copies walk_types 4 6 κs.1.1.1.1.0 qs.1.1.1.1.0 r ! _ _ _ _ 11 refl refl refl refl $
     calls_at ! fm callee (cited 𝓤 𝓛.H callee 𝓜 𝓡 code.env #desk·start started-def.routine code.calls-desk::start (started-thm.met 𝓤 𝓛 𝓜 𝓡)) y
     -- [what the call is handed; the open borrow, four entries; the locals]: local n stands at place n + 5
     (and_then ! (here ! 6 refl)
     (and_then ! (here ! 7 refl)
     (and_then ! (here ! 8 refl)
     (and_then ! (here ! 9 refl) (and_then ! (here ! 15 refl) (and_then ! (here ! 11 refl) (and_then ! (here ! 16 refl) (no_more !)))))))) (λ w.
-    puts_back walk-types 4 6 κs.1.1.1.1.0 qs.1.1.1.1.0 r ! 4 (started.signature).params (started.ended).kept c y _ _ refl (λ ws. _) (λ ws. _)
+    puts_back walk_types 4 6 κs.1.1.1.1.0 qs.1.1.1.1.0 r ! 4 (started.signature).params (started.ended).kept c y _ _ refl (λ ws. _) (λ ws. _)
     (λ ws. refl) w 8 refl refl refl refl (λ v. refl) (λ v. refl) (λ v. refl) (λ v ws.
     ends ! tt _ $ by ! (leave _ v.answer (with₁ ws v.run)))))

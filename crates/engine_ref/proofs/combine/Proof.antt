@@ -21,9 +21,9 @@ use Rattle.engine_beside.proofs.Record.TheLaws as Rec'
 use Rattle.engine_beside.specs.contracts.Beside as Bes
 use Rattle.engine_beside.proofs.Beside.TheLaws as Bes'
 use Rattle.walk_ref.proofs.Frame.{here, ends}
-use Rattle.walk_ref.proofs.Walk.{Met, lent, lent_slice, number, proved, shared-slice, struct}
+use Rattle.walk_ref.proofs.Walk.{Met, lent, lent_slice, number, proved, shared_slice, struct}
 use Rattle.walk_ref.proofs.Behind.{copies, lends, puts_back}
-use Rattle.engine_ref.proofs.Behind.{engine-types, signed}
+use Rattle.engine_ref.proofs.Behind.{engine_types, signed}
 use Rattle.engine.specs.contracts.combine as Callee-of
 use Rattle.engine.proofs.combine.Symbol as callee-def
 use Rattle.engine.proofs.combine.Symbol.{name as #engine·combine}
@@ -33,9 +33,9 @@ use Rattle.engine_ref.specs.contracts.combine as combine
 use Rattle.engine_ref.proofs.combine.Statement as stated
 use Rattle.engine_ref.proofs.combine.Code as code
 
-pub combine-spec : {M : Type 1} → stated.statement M
+pub combine_spec : {M : Type 1} → stated.statement M
 unfolding code.routine
-combine-spec 𝓤 𝓛 𝓜 𝓡 =
+combine_spec 𝓤 𝓛 𝓜 𝓡 =
     let c : Clauses 𝓤 Callee-of.ended = Callee-of.clauses 𝓛 𝓜.mem 𝓡.run in
     let callee : Contract 𝓤 = Met 𝓛 Callee-of.ended c in
     proved 𝓛 𝓜 𝓡 combine.ended (combine.clauses 𝓛 𝓜.mem 𝓡.run) code.env #engine-ref·combine code.function (code.unfolded 𝓤 𝓛.H 𝓜 𝓡)
@@ -46,9 +46,9 @@ combine-spec 𝓤 𝓛 𝓜 𝓡 =
         (
           lent_slice (named 0) κs.0 i32,
           (
-            shared-slice (named 1) κs.1.0 u32,
+            shared_slice (named 1) κs.1.0 u32,
             (
-              shared-slice (named 2) κs.1.1.0 u32,
+              shared_slice (named 2) κs.1.1.0 u32,
               (
                 struct Bes.the_type Bes'.the_laws,
                 (
@@ -131,13 +131,13 @@ combine-spec 𝓤 𝓛 𝓜 𝓡 =
       tt,
     ) in
     lends ! 3 13 14 are.1.1.0.0.1.0 refl refl refl refl refl refl refl refl $
-    copies engine-types 3 6 κs.1.1.1.0 qs.1.1.1.0 r ! _ _ _ _ 15 refl refl refl refl $
+    copies engine_types 3 6 κs.1.1.1.0 qs.1.1.1.0 r ! _ _ _ _ 15 refl refl refl refl $
     calls_at ! fm callee (cited 𝓤 𝓛.H callee 𝓜 𝓡 code.env #engine·combine callee-def.routine code.calls-engine::combine (callee-thm.met 𝓤 𝓛 𝓜 𝓡)) y
     -- [what the call is handed; the open borrow, four entries; the locals]: local n stands at place n + 5
     (and_then ! (here ! 6 refl) (and_then ! (here ! 7 refl) (and_then ! (here ! 19 refl) (and_then ! (here ! 9 refl) (and_then ! (here ! 10 refl)
     (and_then ! (here ! 11 refl) (and_then ! (here ! 20 refl) (and_then ! (here ! 13 refl) (and_then ! (here ! 14 refl) (and_then ! (here ! 15 refl)
     (and_then ! (here ! 16 refl) (no_more !)))))))))))) (λ w.
-    puts_back engine-types 3 6 κs.1.1.1.0 qs.1.1.1.0 r ! 3 (Callee-of.signature).params (Callee-of.ended).kept c y _ _ refl (λ ws. _)
+    puts_back engine_types 3 6 κs.1.1.1.0 qs.1.1.1.0 r ! 3 (Callee-of.signature).params (Callee-of.ended).kept c y _ _ refl (λ ws. _)
     (λ ws. _) (λ ws. refl) w 12 refl refl refl refl (λ v. refl) (λ v. refl) (λ v. refl) (λ v ws.
     ends ! tt _ $ by ! (leave _ v.answer (
       ws.0,

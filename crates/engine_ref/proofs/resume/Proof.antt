@@ -20,9 +20,9 @@ use Rattle.engine_beside.proofs.Record.TheLaws as Rec'
 use Rattle.engine_beside.specs.contracts.Beside as Bes
 use Rattle.engine_beside.proofs.Beside.TheLaws as Bes'
 use Rattle.walk_ref.proofs.Frame.{here, ends}
-use Rattle.walk_ref.proofs.Walk.{Met, lent, lent_slice, number, proved, shared-slice}
+use Rattle.walk_ref.proofs.Walk.{Met, lent, lent_slice, number, proved, shared_slice}
 use Rattle.walk_ref.proofs.Behind.{copies, lends, puts_back}
-use Rattle.engine_ref.proofs.Behind.{engine-types}
+use Rattle.engine_ref.proofs.Behind.{engine_types}
 use Rattle.engine_resume.specs.contracts.resume as Callee-of
 use Rattle.engine_resume.proofs.resume.Symbol as callee-def
 use Rattle.engine_resume.proofs.resume.Symbol.{name as #engine-resume·resume}
@@ -32,9 +32,9 @@ use Rattle.engine_ref.specs.contracts.resume as resume
 use Rattle.engine_ref.proofs.resume.Statement as stated
 use Rattle.engine_ref.proofs.resume.Code as code
 
-pub resume-spec : {M : Type 1} → stated.statement M
+pub resume_spec : {M : Type 1} → stated.statement M
 unfolding code.routine
-resume-spec 𝓤 𝓛 𝓜 𝓡 =
+resume_spec 𝓤 𝓛 𝓜 𝓡 =
     let c : Clauses 𝓤 Callee-of.ended = Callee-of.clauses 𝓛 𝓜.mem 𝓡.run in
     let callee : Contract 𝓤 = Met 𝓛 Callee-of.ended c in
     proved 𝓛 𝓜 𝓡 resume.ended (resume.clauses 𝓛 𝓜.mem 𝓡.run) code.env #engine-ref·resume code.function (code.unfolded 𝓤 𝓛.H 𝓜 𝓡)
@@ -43,7 +43,7 @@ resume-spec 𝓤 𝓛 𝓜 𝓡 =
       (
         number w64,
         (
-          shared-slice (named 0) κs.0 i32,
+          shared_slice (named 0) κs.0 i32,
           (
             lent_slice (named 1) κs.1.0 u32,
             (
@@ -209,13 +209,13 @@ resume-spec 𝓤 𝓛 𝓜 𝓡 =
     lends ! 9 25 26 are.1.1.1.1.1.1.1.1.0.0.1.0 refl refl refl refl refl refl refl refl $
     lends ! 10 27 28 are.1.1.1.1.1.1.1.1.1.0.0.1.0 refl refl refl refl refl refl refl refl $
     lends ! 11 29 30 are.1.1.1.1.1.1.1.1.1.1.0.0.1.0 refl refl refl refl refl refl refl refl $
-    copies engine-types 9 11 κs.1.1.1.1.1.1.1.1.1.0 qs.1.1.1.1.1.1.1.1.1.0 r ! _ _ _ _ 31 refl refl refl refl $
+    copies engine_types 9 11 κs.1.1.1.1.1.1.1.1.1.0 qs.1.1.1.1.1.1.1.1.1.0 r ! _ _ _ _ 31 refl refl refl refl $
     calls_at ! fm callee (cited 𝓤 𝓛.H callee 𝓜 𝓡 code.env #engine-resume·resume callee-def.routine code.calls-engine-resume::resume (callee-thm.met 𝓤 𝓛 𝓜 𝓡)) y
     -- [what the call is handed; the open borrow, four entries; the locals]: local n stands at place n + 5
     (and_then ! (here ! 6 refl) (and_then ! (here ! 7 refl) (and_then ! (here ! 8 refl) (and_then ! (here ! 21 refl) (and_then ! (here ! 23 refl)
     (and_then ! (here ! 25 refl) (and_then ! (here ! 27 refl) (and_then ! (here ! 29 refl) (and_then ! (here ! 31 refl) (and_then ! (here ! 33 refl)
     (and_then ! (here ! 35 refl) (and_then ! (here ! 36 refl) (and_then ! (here ! 18 refl) (no_more !)))))))))))))) (λ w.
-    puts_back engine-types 9 11 κs.1.1.1.1.1.1.1.1.1.0 qs.1.1.1.1.1.1.1.1.1.0 r ! 9 (Callee-of.signature).params (Callee-of.ended
+    puts_back engine_types 9 11 κs.1.1.1.1.1.1.1.1.1.0 qs.1.1.1.1.1.1.1.1.1.0 r ! 9 (Callee-of.signature).params (Callee-of.ended
     ).kept c y _ _ refl (λ ws. _)
     (λ ws. _) (λ ws. refl) w 14 refl refl refl refl (λ v. refl) (λ v. refl) (λ v. refl) (λ v ws.
     ends ! tt _ $ by ! (leave _ v.answer (

@@ -20,9 +20,9 @@ use Rattle.engine_beside.proofs.Record.TheLaws as Rec'
 use Rattle.engine_beside.specs.contracts.Beside as Bes
 use Rattle.engine_beside.proofs.Beside.TheLaws as Bes'
 use Rattle.walk_ref.proofs.Frame.{here, ends}
-use Rattle.walk_ref.proofs.Walk.{Met, lent, lent_slice, number, proved, shared-slice, struct}
+use Rattle.walk_ref.proofs.Walk.{Met, lent, lent_slice, number, proved, shared_slice, struct}
 use Rattle.walk_ref.proofs.Behind.{copies, lends, puts_back}
-use Rattle.engine_ref.proofs.Behind.{engine-types}
+use Rattle.engine_ref.proofs.Behind.{engine_types}
 use Rattle.engine.specs.contracts.start as Callee-of
 use Rattle.engine.proofs.start.Symbol as callee-def
 use Rattle.engine.proofs.start.Symbol.{name as #engine·start}
@@ -43,13 +43,13 @@ start_spec 𝓤 𝓛 𝓜 𝓡 =
       (
         number w64,
         (
-          shared-slice (named 0) κs.0 i32,
+          shared_slice (named 0) κs.0 i32,
           (
             lent_slice (named 1) κs.1.0 i32,
             (
               lent_slice (named 2) κs.1.1.0 u32,
               (
-                shared-slice (named 3) κs.1.1.1.0 u32,
+                shared_slice (named 3) κs.1.1.1.0 u32,
                 (
                   struct Bes.the_type Bes'.the_laws,
                   (
@@ -92,12 +92,12 @@ start_spec 𝓤 𝓛 𝓜 𝓡 =
     ) in
     lends ! 4 10 11 are.1.1.1.0.0.1.0 refl refl refl refl refl refl refl refl $
     lends ! 5 12 13 are.1.1.1.1.0.0.1.0 refl refl refl refl refl refl refl refl $
-    copies engine-types 4 7 κs.1.1.1.1.0 qs.1.1.1.1.0 r ! _ _ _ _ 14 refl refl refl refl $
+    copies engine_types 4 7 κs.1.1.1.1.0 qs.1.1.1.1.0 r ! _ _ _ _ 14 refl refl refl refl $
     calls_at ! fm callee (cited 𝓤 𝓛.H callee 𝓜 𝓡 code.env #engine·start callee-def.routine code.calls-engine::start (callee-thm.met 𝓤 𝓛 𝓜 𝓡)) y
     -- [what the call is handed; the open borrow, four entries; the locals]: local n stands at place n + 5
     (and_then ! (here ! 6 refl) (and_then ! (here ! 7 refl) (and_then ! (here ! 8 refl) (and_then ! (here ! 16 refl) (and_then ! (here ! 18 refl)
     (and_then ! (here ! 11 refl) (and_then ! (here ! 12 refl) (and_then ! (here ! 19 refl) (no_more !))))))))) (λ w.
-    puts_back engine-types 4 7 κs.1.1.1.1.0 qs.1.1.1.1.0 r ! 4 (Callee-of.signature).params (Callee-of.ended).kept c y _ _ refl (λ ws. _)
+    puts_back engine_types 4 7 κs.1.1.1.1.0 qs.1.1.1.1.0 r ! 4 (Callee-of.signature).params (Callee-of.ended).kept c y _ _ refl (λ ws. _)
     (λ ws. _) (λ ws. refl) w 9 refl refl refl refl (λ v. refl) (λ v. refl) (λ v. refl) (λ v ws.
     ends ! tt _ $ by ! (leave _ v.answer (
       ws.0,

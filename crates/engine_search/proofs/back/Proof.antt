@@ -2,28 +2,28 @@
 use Prim.Native.Nat.{◌≤◌}
 use native.Mathlib.Omega.{arith}
 use borrow.Author.Rules.{rules}
-use Rattle.engine_search.specs.Falls.{Late, late-next}
+use Rattle.engine_search.specs.Falls.{Late, late_next}
 use Rattle.engine_search.proofs.back.Statement.{statement}
 use Rattle.engine_search.proofs.back.Tie as tie
 
-abbrev invariant-loop : tie.invariant-loop
-invariant-loop degrees from e first₀ first = (first ≤ from) × Late degrees e from first
+abbrev invariant_loop : tie.invariant_loop
+invariant_loop degrees from e first₀ first = (first ≤ from) × Late degrees e from first
 
-abbrev decreases-loop : tie.decreases-loop
-decreases-loop degrees from e first₀ first = first
+abbrev decreases_loop : tie.decreases_loop
+decreases_loop degrees from e first₀ first = first
 
-loop-again : tie.Need-loop-preserved invariant-loop decreases-loop
-loop-again c =
+loop_again : tie.Need-loop-preserved invariant_loop decreases_loop
+loop_again c =
     let l = c.before.before.before in
-    let next = late-next l.before.loop.invariant.1 l.loop-test.true (omega (arith, c.before.wide.ensures, c.if1.false)) in
+    let next = late_next l.before.loop.invariant.1 l.loop-test.true (omega (arith, c.before.wide.ensures, c.if1.false)) in
     (next.fallen, next)
 
-pub back-spec : {M : Type 1} → statement M
-back-spec =
+pub back_spec : {M : Type 1} → statement M
+back_spec =
     tie.close
     (tie.spec
-    invariant-loop
-    decreases-loop
+    invariant_loop
+    decreases_loop
     (λ c. search rules)
     (λ c. search rules)
     (λ c. search rules)
@@ -31,5 +31,5 @@ back-spec =
     (λ c κs. search rules)
     (λ c. search rules)
     (λ c. search rules)
-    loop-again
+    loop_again
     (λ c. search rules))

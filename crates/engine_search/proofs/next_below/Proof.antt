@@ -6,67 +6,67 @@ use mir.Facts.{to_z-of_z}
 use mir.Syntax.{w64}
 use Rattle.engine_search.specs.Firsts.{told, untold}
 use Rattle.engine_search.specs.Places.{value_of}
-use Rattle.engine_search.specs.Scans.{Passed, below_end, below-here, below-past, passed-next, passed_start}
+use Rattle.engine_search.specs.Scans.{Passed, below_end, below_here, below_past, passed_next, passed_start}
 use Rattle.engine_search.proofs.next_below.Statement.{statement}
 use Rattle.engine_search.proofs.next_below.Tie as tie
 
-abbrev invariant-loop : tie.invariant-loop
-invariant-loop values degrees n from e k₀ k = Passed values degrees e from k
+abbrev invariant_loop : tie.invariant_loop
+invariant_loop values degrees n from e k₀ k = Passed values degrees e from k
 
-abbrev decreases-loop : tie.decreases-loop
-decreases-loop values degrees n from e k₀ k = n - k
+abbrev decreases_loop : tie.decreases_loop
+decreases_loop values degrees n from e k₀ k = n - k
 
-loop-holds : tie.Need-loop-init invariant-loop decreases-loop
-loop-holds c = passed_start _ _ _ _
+loop_holds : tie.Need-loop-init invariant_loop decreases_loop
+loop_holds c = passed_start _ _ _ _
 
-returns : tie.Need-returns invariant-loop decreases-loop
+returns : tie.Need-returns invariant_loop decreases_loop
 returns c =
     let l = c.before.before.before in
     let s = l.before.before.before in
-    below-past l.before.loop.invariant s.requires l.loop-test.true (omega (arith, c.before.wide.ensures, c.if1.true))
+    below_past l.before.loop.invariant s.requires l.loop-test.true (omega (arith, c.before.wide.ensures, c.if1.true))
 
-loop-again : tie.Need-loop-preserved invariant-loop decreases-loop
-loop-again c =
+loop_again : tie.Need-loop-preserved invariant_loop decreases_loop
+loop_again c =
     let a = c.before.before.before.before.before in
-    passed-next a.loop.invariant (λ b e. omega (arith, c.before.before.wide.ensures, c.if2.true))
+    passed_next a.loop.invariant (λ b e. omega (arith, c.before.before.wide.ensures, c.if2.true))
 
-returns-2 : tie.Need-returns-2 invariant-loop decreases-loop
-returns-2 c =
+returns_2 : tie.Need-returns-2 invariant_loop decreases_loop
+returns_2 c =
     let w = c.before.before.before.before.before in
     let a = w.before.before.before in
     let s = a.before.before in
     let known = to_z-of_z {w = w64} {z = value_of s.args.values.now a.loop.k} (sfits_of c.before.before.is-below-arg.given) in
-    below-here a.loop.invariant _ (rw known at (told c.before.is_below.ensures c.if3.true))
+    below_here a.loop.invariant _ (rw known at (told c.before.is_below.ensures c.if3.true))
     (omega (arith, w.wide.ensures, c.before.before.before.before.if1.false, c.before.before.before.if2.false))
 
-loop-again-2 : tie.Need-loop-preserved-2 invariant-loop decreases-loop
-loop-again-2 c =
+loop_again_2 : tie.Need-loop-preserved-2 invariant_loop decreases_loop
+loop_again_2 c =
     let a = c.before.before.before.before.before.before.before.before in
     let s = a.before.before in
     let known = to_z-of_z {w = w64} {z = value_of s.args.values.now a.loop.k} (sfits_of c.before.before.is-below-arg.given) in
-    passed-next a.loop.invariant (λ b e. rw known at (untold c.before.is_below.ensures c.if3.false) b)
+    passed_next a.loop.invariant (λ b e. rw known at (untold c.before.is_below.ensures c.if3.false) b)
 
-returns-3 : tie.Need-returns-3 invariant-loop decreases-loop
-returns-3 c = below_end c.before.loop.invariant _ c.loop-test.false
+returns_3 : tie.Need-returns-3 invariant_loop decreases_loop
+returns_3 c = below_end c.before.loop.invariant _ c.loop-test.false
 
-pub next-below-spec : {M : Type 1} → statement M
-next-below-spec =
+pub next_below_spec : {M : Type 1} → statement M
+next_below_spec =
     tie.close
     (tie.spec
-    invariant-loop
-    decreases-loop
-    loop-holds
+    invariant_loop
+    decreases_loop
+    loop_holds
     (λ c. search rules)
     (λ c. search rules)
     (λ c κs. search rules)
     returns
     (λ c. search rules)
     (λ c. search rules)
-    loop-again
+    loop_again
     (λ c. search rules)
     (λ c. search rules)
     (λ c κs. search rules)
-    returns-2
+    returns_2
     (λ c. search rules)
-    loop-again-2
-    returns-3)
+    loop_again_2
+    returns_3)

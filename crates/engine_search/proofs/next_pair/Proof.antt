@@ -6,52 +6,52 @@ use borrow.Author.Rules.{rules, sfits_of}
 use borrow.Author.Tests.{not-false, not-true}
 use mir.Facts.{to_z-of_z}
 use mir.Syntax.{w64}
-use Rattle.engine_search.specs.Falls.{falling-back, falling-least, falling-next}
+use Rattle.engine_search.specs.Falls.{falling_back, falling_least, falling_next}
 use Rattle.engine_search.specs.Firsts.{told, untold}
-use Rattle.engine_search.specs.Places.{Falling, degreeOf, value_of}
+use Rattle.engine_search.specs.Places.{Falling, degree_of, value_of}
 use Rattle.engine_search.specs.Rows.{
   Searched,
-  found-next,
+  found_next,
   found_none,
-  isAbove,
-  row-found,
-  row-passed,
-  searched-end,
-  searched-past,
-  searched-skip,
-  searched-start,
+  is_above,
+  row_found,
+  row_passed,
+  searched_end,
+  searched_past,
+  searched_skip,
+  searched_start,
 }
 use Rattle.engine_search.specs.Scans.{Below}
 use Rattle.engine_search.proofs.next_pair.Statement.{statement}
 use Rattle.engine_search.proofs.next_pair.Tie as tie
 
-abbrev invariant-loop : tie.invariant-loop
-invariant-loop values degrees n d upper₀ lower₀ first₀ upper lower first =
+abbrev invariant_loop : tie.invariant_loop
+invariant_loop values degrees n d upper₀ lower₀ first₀ upper lower first =
     (first ≤ n) × Searched n values degrees d upper₀ lower₀ upper lower × Falling n degrees d upper first
 
-abbrev decreases-loop : tie.decreases-loop
-decreases-loop values degrees n d upper₀ lower₀ first₀ upper lower first = n - upper
+abbrev decreases_loop : tie.decreases_loop
+decreases_loop values degrees n d upper₀ lower₀ first₀ upper lower first = n - upper
 
 -- a turn whose row has a value above 0
-module _ (b : tie.After-next-below invariant-loop decreases-loop) where
-  abbrev test : tie.After-is-above invariant-loop decreases-loop
+module _ (b : tie.After-next-below invariant_loop decreases_loop) where
+  abbrev test : tie.After-is-above invariant_loop decreases_loop
   test = b.before.before.before.before
 
-  abbrev degree : tie.After-wide invariant-loop decreases-loop
+  abbrev degree : tie.After-wide invariant_loop decreases_loop
   degree = test.before.before.before
 
-  abbrev turn : tie.In-loop invariant-loop decreases-loop
+  abbrev turn : tie.In-loop invariant_loop decreases_loop
   turn = degree.before.before
 
-  abbrev start : tie.Start invariant-loop decreases-loop
+  abbrev start : tie.Start invariant_loop decreases_loop
   start = turn.before.before.before.before
 
-  above : isAbove start.args.values.now turn.before.loop.upper
+  above : is_above start.args.values.now turn.before.loop.upper
   above =
       let known = to_z-of_z {w = w64} {z = value_of start.args.values.now turn.before.loop.upper} (sfits_of test.before.is-above-arg.given) in
-      rw known at (told test.is-above.ensures (not-false _ b.before.before.before.if2.left))
+      rw known at (told test.is_above.ensures (not-false _ b.before.before.before.if2.left))
 
-  sum : degreeOf start.args.degrees.now turn.before.loop.upper + (start.args.d - degree.wide.result) ≡ start.args.d
+  sum : degree_of start.args.degrees.now turn.before.loop.upper + (start.args.d - degree.wide.result) ≡ start.args.d
   sum = omega (arith, degree.wide.ensures, test.before.before.if1.left)
 
   fallen : b.before.before.back.result ≤ start.args.n
@@ -61,67 +61,67 @@ module _ (b : tie.After-next-below invariant-loop decreases-loop) where
       (max turn.before.loop.lower b.before.before.back.result) b.next-below.result
   scanned = rw b.before.greatest.ensures at b.next-below.ensures
 
-loop-holds : tie.Need-loop-init invariant-loop decreases-loop
-loop-holds c = (omega (arith, c.least.ensures), searched-start _ _ _ _ _ _, falling-least c.before.before.requires.1 c.least.ensures)
+loop_holds : tie.Need-loop-init invariant_loop decreases_loop
+loop_holds c = (omega (arith, c.least.ensures), searched_start _ _ _ _ _ _, falling_least c.before.before.requires.1 c.least.ensures)
 
-loop-again : tie.Need-loop-preserved invariant-loop decreases-loop
-loop-again c =
+loop_again : tie.Need-loop-preserved invariant_loop decreases_loop
+loop_again c =
     let a = c.before.before.before.before.before.before.before in
     let s = a.before.before.before in
     let known = to_z-of_z {w = w64} {z = value_of s.args.values.now a.loop.upper} (sfits_of c.before.before.is-above-arg.given) in
-    let not-above = rw known at (untold c.before.is-above.ensures (not-true _ c.if2.true)) in
-    (a.loop.invariant.0, searched-skip a.loop.invariant.1 not-above, falling-next s.requires.0 a.loop.invariant.2)
+    let not-above = rw known at (untold c.before.is_above.ensures (not-true _ c.if2.true)) in
+    (a.loop.invariant.0, searched_skip a.loop.invariant.1 not-above, falling_next s.requires.0 a.loop.invariant.2)
 
-returns : tie.Need-returns invariant-loop decreases-loop
+returns : tie.Need-returns invariant_loop decreases_loop
 returns c =
     let b = c.before in
     let a = (turn b).before in
-    found-next (turn b).loop-test.true
-    (row-found a.loop.inv.1 (start b).requires.0 (turn b).loop-test.true (above b) (sum b) (fallen b) b.before.before.back.ensures (scanned b)
+    found_next (turn b).loop-test.true
+    (row_found a.loop.inv.1 (start b).requires.0 (turn b).loop-test.true (above b) (sum b) (fallen b) b.before.before.back.ensures (scanned b)
     (omega (arith, c.if3.true, (turn b).loop-test.true)) a.loop.inv.2)
 
-loop-again-2 : tie.Need-loop-preserved-2 invariant-loop decreases-loop
-loop-again-2 c =
+loop_again_2 : tie.Need-loop-preserved-2 invariant_loop decreases_loop
+loop_again_2 c =
     let b = c.before in
     let a = (turn b).before in (
       fallen b,
-      row-passed a.loop.inv.1 (start b).requires.0 (turn b).loop-test.true (above b) (sum b) (fallen b) b.before.before.back.ensures (scanned b)
+      row_passed a.loop.inv.1 (start b).requires.0 (turn b).loop-test.true (above b) (sum b) (fallen b) b.before.before.back.ensures (scanned b)
           (omega (arith, c.if3.false)),
-      falling-next (start b).requires.0 (falling-back a.loop.inv.2 b.before.before.back.ensures (omega (arith, sum b))),
+      falling_next (start b).requires.0 (falling_back a.loop.inv.2 b.before.before.back.ensures (omega (arith, sum b))),
     )
 
-returns-2 : tie.Need-returns-2 invariant-loop decreases-loop
-returns-2 c = found_none 0 _ (searched-end c.before.loop.invariant.1 c.loop-test.false)
+returns_2 : tie.Need-returns-2 invariant_loop decreases_loop
+returns_2 c = found_none 0 _ (searched_end c.before.loop.invariant.1 c.loop-test.false)
 
-returns-3 : tie.Need-returns-3 invariant-loop decreases-loop
-returns-3 c =
+returns_3 : tie.Need-returns-3 invariant_loop decreases_loop
+returns_3 c =
     let a = c.before.before.before.before in
     let s = a.before.before.before in
-    found_none 0 _ (searched-past a.loop.invariant.1 s.requires.0 (omega (arith, c.before.wide.ensures, c.if1.true)))
+    found_none 0 _ (searched_past a.loop.invariant.1 s.requires.0 (omega (arith, c.before.wide.ensures, c.if1.true)))
 
-pub next-pair-spec : {M : Type 1} → statement M
-next-pair-spec =
+pub next_pair_spec : {M : Type 1} → statement M
+next_pair_spec =
     tie.close
     (tie.spec
-    invariant-loop
-    decreases-loop
+    invariant_loop
+    decreases_loop
     (λ c κs. search rules)
-    loop-holds
-    (λ c. search rules)
-    (λ c. search rules)
-    (λ c κs. search rules)
-    (λ c. search rules)
+    loop_holds
     (λ c. search rules)
     (λ c. search rules)
     (λ c κs. search rules)
     (λ c. search rules)
-    loop-again
+    (λ c. search rules)
+    (λ c. search rules)
+    (λ c κs. search rules)
+    (λ c. search rules)
+    loop_again
     (λ c. search rules)
     (λ c κs. search rules)
     (λ c κs. search rules)
     (λ c κs. search rules)
     returns
     (λ c. search rules)
-    loop-again-2
-    returns-2
-    returns-3)
+    loop_again_2
+    returns_2
+    returns_3)

@@ -4,24 +4,24 @@ use mir.Facts.{to_z-of_z}
 use borrow.Author.Rules.{rules}
 use Rattle.texts.specs.Put.{put_then}
 use Rattle.equation_spec.specs.Writing.{written}
-use Rattle.equation_write.specs.CallLaws.{sides-short}
+use Rattle.equation_write.specs.CallLaws.{sides_short}
 use Rattle.equation_write.proofs.sides.Statement.{statement}
 use Rattle.equation_write.proofs.sides.Tie as tie
 
-word-requires : tie.Need-word-requires
-word-requires c κs =
+word_requires : tie.Need-word-requires
+word_requires c κs =
     let t = c.before.before.before.before in
     let s = t.before.before.before in
     omega (
       arith,
       t.terms.ensures.place,
       t.terms.ensures.same,
-      sides-short s.args.row.now s.args.right s.requires.0 s.requires.1 s.requires.2,
+      sides_short s.args.row.now s.args.right s.requires.0 s.requires.1 s.requires.2,
       s.requires.3,
     )
 
-signed-requires : tie.Need-signed-requires
-signed-requires c κs =
+signed_requires : tie.Need-signed-requires
+signed_requires c κs =
     let w = c.before.before.before in
     let t = w.before.before.before.before.before in
     let s = t.before.before.before in
@@ -33,7 +33,7 @@ signed-requires c κs =
         w.word.ensures.same,
         t.terms.ensures.place,
         t.terms.ensures.same,
-        sides-short s.args.row.now s.args.right s.requires.0 s.requires.1 s.requires.2,
+        sides_short s.args.row.now s.args.right s.requires.0 s.requires.1 s.requires.2,
         s.requires.3,
       ),
     )
@@ -52,9 +52,9 @@ returns c =
         r.place,
         w.word.ensures.place,
         t.terms.ensures.place,
-        sides-short s.args.row.now s.args.right s.requires.0 s.requires.1 s.requires.2,
+        sides_short s.args.row.now s.args.right s.requires.0 s.requires.1 s.requires.2,
       ),
     )
 
-pub sides-spec : {M : Type 1} → statement M
-sides-spec = tie.close (tie.spec (λ c κs. search rules) (λ c. search rules) word-requires signed-requires (λ c. search rules) returns)
+pub sides_spec : {M : Type 1} → statement M
+sides_spec = tie.close (tie.spec (λ c κs. search rules) (λ c. search rules) word_requires signed_requires (λ c. search rules) returns)

@@ -7,19 +7,19 @@ use mir.Syntax.{w32}
 use mir.Val.{of_z, to_z}
 use mir.Facts.{to_z-of_z}
 use Rattle.texts.specs.Put.{put_then}
-use Rattle.equation_spec.specs.WriteLaws.{multiple-short}
-use Rattle.equation_write.specs.TextLaws.{lead-short, negative-is}
+use Rattle.equation_spec.specs.WriteLaws.{multiple_short}
+use Rattle.equation_write.specs.TextLaws.{lead_short, negative_is}
 use borrow.Author.Rules.{rules}
 use Rattle.equation_write.proofs.term.Statement.{statement}
 use Rattle.equation_write.proofs.term.Tie as tie
 
-size-requires : tie.Need-size-requires
-size-requires c κs =
+size_requires : tie.Need-size-requires
+size_requires c κs =
     let s = c.before.before.before.before.before.before in
     rw (to_z-of_z s.ranges.c) (omega (arith, s.requires.1))
 
-multiple-requires : tie.Need-multiple-requires
-multiple-requires c κs = let l = c.before.before.before.before in
+multiple_requires : tie.Need-multiple-requires
+multiple_requires c κs = let l = c.before.before.before.before in
     let s = l.before.before.before in
     let e = c.size.ensures ∙ ap nat_abs (to_z-of_z s.ranges.c) in (
       rw e s.requires.0,
@@ -27,8 +27,8 @@ multiple-requires c κs = let l = c.before.before.before.before in
         arith,
         l.lead.ensures.place,
         l.lead.ensures.same,
-        lead-short s.args.first (lt_z (to_z w32 (of_z w32 s.args.c)) (pos 0)),
-        multiple-short (nat_abs s.args.c) s.args.k s.requires.1 s.requires.2,
+        lead_short s.args.first (lt_z (to_z w32 (of_z w32 s.args.c)) (pos 0)),
+        multiple_short (nat_abs s.args.c) s.args.k s.requires.1 s.requires.2,
         s.requires.3,
       )),
     )
@@ -39,7 +39,7 @@ returns c = let m = c.before.before in
     let l = z.before.before.before.before in
     let s = l.before.before.before in
     let e = z.size.ensures ∙ ap nat_abs (to_z-of_z s.ranges.c) in
-    put_then (rw (to_z-of_z s.ranges.c, negative-is s.args.c) at l.lead.ensures) (rw e at m.multiple.ensures)
+    put_then (rw (to_z-of_z s.ranges.c, negative_is s.args.c) at l.lead.ensures) (rw e at m.multiple.ensures)
 
-pub term-spec : {M : Type 1} → statement M
-term-spec = tie.close (tie.spec (λ c κs. search rules) size-requires multiple-requires (λ c. search rules) returns)
+pub term_spec : {M : Type 1} → statement M
+term_spec = tie.close (tie.spec (λ c κs. search rules) size_requires multiple_requires (λ c. search rules) returns)

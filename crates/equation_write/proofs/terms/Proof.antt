@@ -4,44 +4,44 @@ use mir.Facts.{to_z-of_z}
 use mir.Syntax.{w32}
 use mir.Val.{of_z}
 use Rattle.texts.specs.DecimalLaws.{decimal_digit}
-use Rattle.texts.specs.Put.{Rest, rest-begins, rest-next, rest-ends}
-use Rattle.equation_write.specs.TextLaws.{rest-zero, rest-term, rest_end, word_fits, zero_word, some_size, term-short}
+use Rattle.texts.specs.Put.{Rest, rest_begins, rest_next, rest_ends}
+use Rattle.equation_write.specs.TextLaws.{rest_zero, rest_term, rest_end, word_fits, zero_word, some_size, term_short}
 use Prim.Native.Nat.{◌+◌, ◌*◌, ◌-◌, ◌≤◌}
 use mathlib.Core.Path.{◌≡◌, ap, ◌∙◌}
 use native.Mathlib.Omega.{arith}
 use lib.ListN.{length, drop, get_or}
 use borrow.Author.Rules.{rules}
 use Rattle.equation_spec.specs.Writing.{terms}
-use Rattle.equation_write.specs.Texts.{restText}
+use Rattle.equation_write.specs.Texts.{rest_text}
 use Rattle.equation_write.proofs.terms.Statement.{statement}
 use Rattle.equation_write.proofs.terms.Tie as tie
 
-abbrev invariant-loop : tie.invariant-loop
-invariant-loop out₀ row next₀ first₀ i₀ out next first i =
-    Rest out₀ 0 (terms 1 row) out next (restText first (i + 1) (drop i row)) × (next ≤ 12 * i) × (i ≤ length row)
+abbrev invariant_loop : tie.invariant_loop
+invariant_loop out₀ row next₀ first₀ i₀ out next first i =
+    Rest out₀ 0 (terms 1 row) out next (rest_text first (i + 1) (drop i row)) × (next ≤ 12 * i) × (i ≤ length row)
 
-abbrev decreases-loop : tie.decreases-loop
-decreases-loop out₀ row next₀ first₀ i₀ out next first i = length row - i
+abbrev decreases_loop : tie.decreases_loop
+decreases_loop out₀ row next₀ first₀ i₀ out next first i = length row - i
 
-loop-holds : tie.Need-loop-init invariant-loop decreases-loop
-loop-holds c = (rest-begins _ _ _, omega arith, omega arith)
+loop_holds : tie.Need-loop-init invariant_loop decreases_loop
+loop_holds c = (rest_begins _ _ _, omega arith, omega arith)
 
-loop-less : tie.Need-loop-smaller invariant-loop decreases-loop
-loop-less c = omega (arith, c.before.before.loop-test.true)
+loop_less : tie.Need-loop-smaller invariant_loop decreases_loop
+loop_less c = omega (arith, c.before.before.loop-test.true)
 
-loop-again : tie.Need-loop-preserved invariant-loop decreases-loop
-loop-again c = let l = c.before.before in
+loop_again : tie.Need-loop-preserved invariant_loop decreases_loop
+loop_again c = let l = c.before.before in
     let a = l.before in
     let s = a.before.before in
     let row = s.args.row.now in
     let e = zero_word (get_or row a.loop.i (pos 0)) (s.requires.1.range a.loop.i l.loop-test.true) c.if1.true in (
-      rw (← rest-zero row a.loop.i l.loop-test.true a.loop.first e) a.loop.invariant.0,
+      rw (← rest_zero row a.loop.i l.loop-test.true a.loop.first e) a.loop.invariant.0,
       omega (arith, a.loop.invariant.1),
       omega (arith, l.loop-test.true),
     )
 
-term-requires : tie.Need-term-requires invariant-loop decreases-loop
-term-requires c κs = let f = c.before in
+term_requires : tie.Need-term-requires invariant_loop decreases_loop
+term_requires c κs = let f = c.before in
     let l = f.before.before in
     let a = l.before in
     let s = a.before.before in
@@ -54,11 +54,11 @@ term-requires c κs = let f = c.before in
       omega (arith, l.loop-test.true, s.requires.0, a.loop.invariant.1, a.loop.invariant.0.same, s.requires.2),
     )
 
-loop-less-2 : tie.Need-loop-smaller-2 invariant-loop decreases-loop
-loop-less-2 c = omega (arith, c.before.before.before.before.before.before.loop-test.true)
+loop_less_2 : tie.Need-loop-smaller-2 invariant_loop decreases_loop
+loop_less_2 c = omega (arith, c.before.before.before.before.before.before.loop-test.true)
 
-loop-again-2 : tie.Need-loop-preserved-2 invariant-loop decreases-loop
-loop-again-2 c = let t = c.before.before in
+loop_again_2 : tie.Need-loop-preserved-2 invariant_loop decreases_loop
+loop_again_2 c = let t = c.before.before in
     let f = t.before.before in
     let l = f.before.before in
     let a = l.before in
@@ -68,21 +68,21 @@ loop-again-2 c = let t = c.before.before in
     let r = s.requires.1.range a.loop.i l.loop-test.true in
     let p = rw (to_z-of_z {w = w32} {z = z} (word_fits z r)) at t.term.ensures in
     let h : z ≡ pos 0 → ⊥ = λ e. f.if1.false (ap (of_z w32) e) in (
-      rest-next (rw (rest-term row a.loop.i l.loop-test.true a.loop.first h) at a.loop.invariant.0) p,
-      omega (arith, p.place, term-short a.loop.first z (a.loop.i + 1) r (omega (arith, l.loop-test.true, s.requires.0)), a.loop.invariant.1),
+      rest_next (rw (rest_term row a.loop.i l.loop-test.true a.loop.first h) at a.loop.invariant.0) p,
+      omega (arith, p.place, term_short a.loop.first z (a.loop.i + 1) r (omega (arith, l.loop-test.true, s.requires.0)), a.loop.invariant.1),
       omega (arith, l.loop-test.true),
     )
 
-byte-requires : tie.Need-byte-requires invariant-loop decreases-loop
-byte-requires c κs = let a = c.before.before.before in
+byte_requires : tie.Need-byte-requires invariant_loop decreases_loop
+byte_requires c κs = let a = c.before.before.before in
     let s = a.before.before in
     omega (arith, a.loop.invariant.1, a.loop.invariant.2, a.loop.invariant.0.same, s.requires.0, s.requires.2)
 
-same_length : tie.Need-same-length invariant-loop decreases-loop
+same_length : tie.Need-same-length invariant_loop decreases_loop
 same_length c = let b = c.before.before in
     b.byte.auto.0 ∙ b.before.before.before.before.loop.invariant.0.same
 
-returns : tie.Need-returns invariant-loop decreases-loop
+returns : tie.Need-returns invariant_loop decreases_loop
 returns c = let b = c.before.before in
     let f = b.before.before in
     let a = f.before.before in
@@ -91,31 +91,31 @@ returns c = let b = c.before.before in
     at a.loop.invariant.0 in
     x.completes b.byte.ensures
 
-same-length-2 : tie.Need-same-length-2 invariant-loop decreases-loop
-same-length-2 c = c.before.before.loop.invariant.0.same
+same_length_2 : tie.Need-same-length-2 invariant_loop decreases_loop
+same_length_2 c = c.before.before.loop.invariant.0.same
 
-returns-2 : tie.Need-returns-2 invariant-loop decreases-loop
-returns-2 c = let a = c.before.before in
+returns_2 : tie.Need-returns-2 invariant_loop decreases_loop
+returns_2 c = let a = c.before.before in
     let s = a.before.before in
-    rest-ends (rw (c.if2.false, (rest_end s.args.row.now a.loop.i (a.loop.i + 1) c.before.loop-test.false).1) at a.loop.invariant.0)
+    rest_ends (rw (c.if2.false, (rest_end s.args.row.now a.loop.i (a.loop.i + 1) c.before.loop-test.false).1) at a.loop.invariant.0)
 
-pub terms-spec : {M : Type 1} → statement M
-terms-spec =
+pub terms_spec : {M : Type 1} → statement M
+terms_spec =
     tie.close
     (tie.spec
-    invariant-loop
-    decreases-loop
-    loop-holds
+    invariant_loop
+    decreases_loop
+    loop_holds
     (λ c. search rules)
     (λ c. search rules)
     (λ c. search rules)
-    loop-less
-    loop-again
-    term-requires
-    loop-less-2
-    loop-again-2
-    byte-requires
+    loop_less
+    loop_again
+    term_requires
+    loop_less_2
+    loop_again_2
+    byte_requires
     same_length
     returns
-    same-length-2
-    returns-2)
+    same_length_2
+    returns_2)

@@ -1,25 +1,25 @@
 // What the reader looks at: refusals 19, 20, 21, 22 and 29.
 ghost use Rattle.std.specs.Prelude.{◌≡◌, ◌+◌, ◌*◌, ◌<◌, ◌≤◌, length};
-ghost use Rattle.list_spec.specs.Words.{wordAt};
+ghost use Rattle.list_spec.specs.Words.{word_at};
 ghost use Rattle.list_spec.specs.Reading.{
-  coefWords,
-  rowWords,
-  blockChecks,
-  headerInRange,
-  streamWordInRange,
-  blockInRange,
-  streamChecks,
-  fileChecks,
-  readChecks,
+  coef_words,
+  row_words,
+  block_checks,
+  header_in_range,
+  stream_word_in_range,
+  block_in_range,
+  stream_checks,
+  file_checks,
+  read_checks,
 };
-ghost use Rattle.list_file.specs.Paper.{checkOf};
-ghost use Rattle.list_file.specs.ReadLaws.{HeaderRead, StreamRead, laterChecks, tableChecks};
+ghost use Rattle.list_file.specs.Paper.{check_of};
+ghost use Rattle.list_file.specs.ReadLaws.{HeaderRead, StreamRead, later_checks, table_checks};
 
 use crate::words::{FileCheck, FileRefusal, all_within, signed, word_at, wrapping_sum};
 
 // All that the reader looks at; `coefs` and `list` are the lengths of the tables.
 pub fn check(file: &[u8], coefs: usize, list: usize) -> FileCheck
-    ensures { checkOf result ≡ readChecks file.now coefs list }
+    ensures { check_of result ≡ read_checks file.now coefs list }
 {
     match check_blocks(file) {
         FileCheck::Refuse(why) => FileCheck::Refuse(why),
@@ -30,7 +30,7 @@ pub fn check(file: &[u8], coefs: usize, list: usize) -> FileCheck
 // Refusal 29.
 fn check_tables(file: &[u8], coefs: usize, list: usize) -> FileCheck
     requires { HeaderRead file.now }
-    ensures { checkOf result ≡ tableChecks file.now coefs list }
+    ensures { check_of result ≡ table_checks file.now coefs list }
 {
     if coefs < coef_words(file) {
         return FileCheck::Refuse(FileRefusal::TableLength);
@@ -43,7 +43,7 @@ fn check_tables(file: &[u8], coefs: usize, list: usize) -> FileCheck
 
 // The length and the blocks, one after the other.
 fn check_blocks(file: &[u8]) -> FileCheck
-    ensures { checkOf result ≡ fileChecks file.now }
+    ensures { check_of result ≡ file_checks file.now }
 {
     if file.len() < 512 {
         return FileCheck::Refuse(FileRefusal::Length);
@@ -57,7 +57,7 @@ fn check_blocks(file: &[u8]) -> FileCheck
 // What comes after block 0.
 fn check_later(file: &[u8]) -> FileCheck
     requires { HeaderRead file.now }
-    ensures { checkOf result ≡ laterChecks file.now }
+    ensures { check_of result ≡ later_checks file.now }
 {
     let coefs = coef_words(file);
     let rows = row_words(file);
@@ -71,7 +71,7 @@ fn check_later(file: &[u8]) -> FileCheck
 // The first `later` blocks after block 0.
 fn check_stream(file: &[u8], coefs: usize, rows: usize, later: usize) -> FileCheck
     requires { StreamRead coefs rows later (length file.now) }
-    ensures { checkOf result ≡ streamChecks file.now coefs rows later }
+    ensures { check_of result ≡ stream_checks file.now coefs rows later }
 {
     let mut b = 0;
     while b < later {
@@ -89,7 +89,7 @@ fn check_stream(file: &[u8], coefs: usize, rows: usize, later: usize) -> FileChe
 // Refusals 20, 21 and 22 for block `b`, of which it is known whether its words are in range.
 fn check_block(file: &[u8], b: usize, ranged: bool) -> FileCheck
     requires { 512 * (b + 1) ≤ length file.now }
-    ensures { checkOf result ≡ blockChecks file.now b ranged }
+    ensures { check_of result ≡ block_checks file.now b ranged }
 {
     if wrapping_sum(file, 128 * b, 128) != 0 {
         return FileCheck::Refuse(FileRefusal::Sum);
@@ -106,7 +106,7 @@ fn check_block(file: &[u8], b: usize, ranged: bool) -> FileCheck
 // Whether p, q, the row count and the ending are in range, with zeros after them.
 fn header_in_range(file: &[u8]) -> bool
     requires { 512 ≤ length file.now }
-    ensures { result ≡ headerInRange file.now }
+    ensures { result ≡ header_in_range file.now }
 {
     let p = word_at(file, 1);
     let q = word_at(file, 2);
@@ -134,7 +134,7 @@ fn header_in_range(file: &[u8]) -> bool
 // Whether the words that block `b + 1` carries are in range: at once where they are components, as in most blocks, and else word by word.
 fn block_in_range(file: &[u8], coefs: usize, rows: usize, b: usize) -> bool
     requires { StreamRead coefs rows (b + 1) (length file.now) }
-    ensures { result ≡ blockInRange file.now coefs rows b }
+    ensures { result ≡ block_in_range file.now coefs rows b }
 {
     if 126 * b < coefs {
         return words_in_range(file, coefs, rows, b);
@@ -148,7 +148,7 @@ fn block_in_range(file: &[u8], coefs: usize, rows: usize, b: usize) -> bool
 // The same word by word.
 fn words_in_range(file: &[u8], coefs: usize, rows: usize, b: usize) -> bool
     requires { StreamRead coefs rows (b + 1) (length file.now) }
-    ensures { result ≡ blockInRange file.now coefs rows b }
+    ensures { result ≡ block_in_range file.now coefs rows b }
 {
     let mut j = 0;
     while j < 126 {
@@ -164,7 +164,7 @@ fn words_in_range(file: &[u8], coefs: usize, rows: usize, b: usize) -> bool
 // Whether `w` may be word `i` of the stream.
 fn word_in_range(coefs: usize, rows: usize, i: usize, w: u32) -> bool
     requires { coefs + rows ≤ 65664 }
-    ensures { result ≡ streamWordInRange coefs rows i w }
+    ensures { result ≡ stream_word_in_range coefs rows i w }
 {
     if i < coefs {
         return !checks::coefficients::out_of_range(signed(w));
@@ -178,7 +178,7 @@ fn word_in_range(coefs: usize, rows: usize, i: usize, w: u32) -> bool
 // How many words of the stream are coefficients.
 pub fn coef_words(file: &[u8]) -> usize
     requires { HeaderRead file.now }
-    ensures { result ≡ coefWords file.now }
+    ensures { result ≡ coef_words file.now }
 {
     for_unknowns(file, 1)
 }
@@ -186,15 +186,15 @@ pub fn coef_words(file: &[u8]) -> usize
 // How many are components of rows.
 pub fn row_words(file: &[u8]) -> usize
     requires { HeaderRead file.now }
-    ensures { result ≡ rowWords file.now }
+    ensures { result ≡ row_words file.now }
 {
     for_unknowns(file, 3)
 }
 
 // Word `j` of block 0, times the number of unknowns.
 fn for_unknowns(file: &[u8], j: usize) -> usize
-    requires { (512 ≤ length file.now) × (j < 128) × (wordAt file.now j ≤ 4096) × (wordAt file.now 2 ≤ 16) }
-    ensures { result ≡ wordAt file.now j * wordAt file.now 2 }
+    requires { (512 ≤ length file.now) × (j < 128) × (word_at file.now j ≤ 4096) × (word_at file.now 2 ≤ 16) }
+    ensures { result ≡ word_at file.now j * word_at file.now 2 }
 {
     word_at(file, j) as usize * word_at(file, 2) as usize
 }

@@ -1,8 +1,8 @@
 // Handing out what a file holds.
 ghost use Rattle.std.specs.Prelude.{◌≡◌, ℕ, ◌+◌, ◌*◌, ◌/◌, ◌%◌, ◌<◌, ◌≤◌, List, ◌++◌, length, drop};
 ghost use Rattle.list_spec.specs.Words.{signed as signedWord};
-ghost use Rattle.list_spec.specs.Reading.{streamAt, listed, listIn, handedOut};
-ghost use Rattle.list_file.specs.ReadAnswer.{readOutcome};
+ghost use Rattle.list_spec.specs.Reading.{stream_at, listed, list_in, handed_out};
+ghost use Rattle.list_file.specs.ReadAnswer.{read_outcome};
 ghost use Rattle.list_file.specs.ReadLaws.{Readable, InBlock, Filled};
 
 use crate::read::Read;
@@ -13,7 +13,7 @@ use calls::Solutions;
 // Copies the coefficients and the rows of a file in order to the beginning of the tables.
 pub fn hand_out(file: &[u8], coefs: &mut [i32], list: &mut [u32]) -> Read
     requires { Readable file.now (length coefs.old) (length list.old) }
-    ensures { readOutcome result coefs.new list.new ≡ handedOut (listIn file.now) coefs.old list.old }
+    ensures { read_outcome result coefs.new list.new ≡ handed_out (list_in file.now) coefs.old list.old }
 {
     let first = coef_words(file);
     let numbers = row_words(file);
@@ -34,7 +34,7 @@ pub fn hand_out(file: &[u8], coefs: &mut [i32], list: &mut [u32]) -> Read
 // Copies the first `n` words of the stream as coefficients.
 fn copy_coefs(file: &[u8], n: usize, coefs: &mut [i32])
     requires { (n ≤ length coefs.old) × (512 * ((n + 125) / 126 + 1) ≤ length file.now) }
-    ensures { coefs.new ≡ listed n (λ i. signedWord (streamAt file.now i)) ++ drop n coefs.old }
+    ensures { coefs.new ≡ listed n (λ i. signedWord (stream_at file.now i)) ++ drop n coefs.old }
 {
     let mut i = 0;
     while i < n {
@@ -46,7 +46,7 @@ fn copy_coefs(file: &[u8], n: usize, coefs: &mut [i32])
 // Copies `n` words of the stream, from word `first` on, a block at a time.
 fn copy_rows(file: &[u8], first: usize, n: usize, list: &mut [u32])
     requires { (n ≤ length list.old) × (512 * ((first + n + 125) / 126 + 1) ≤ length file.now) × (first + n ≤ 65664) }
-    ensures { list.new ≡ listed n (λ i. streamAt file.now (first + i)) ++ drop n list.old }
+    ensures { list.new ≡ listed n (λ i. stream_at file.now (first + i)) ++ drop n list.old }
 {
     let mut i = 0;
     while i < n {
@@ -66,8 +66,8 @@ fn smaller(a: usize, b: usize) -> usize
 // Copies `m` of these words, from the one for entry `i` of the list on; all of them stand in one block.
 fn copy_part(file: &[u8], first: usize, i: usize, m: usize, list: &mut [u32])
     requires { InBlock (first + i) m (length file.now) × (i + m ≤ length list.old) }
-    ensures { (table : List ℕ) → Filled (λ k. streamAt file.now (first + k)) i table list.old
-        → Filled (λ k. streamAt file.now (first + k)) (i + m) table list.new }
+    ensures { (table : List ℕ) → Filled (λ k. stream_at file.now (first + k)) i table list.old
+        → Filled (λ k. stream_at file.now (first + k)) (i + m) table list.new }
 {
     let at = place(first + i);
     let mut j = 0;
@@ -88,7 +88,7 @@ fn place(i: usize) -> usize
 // Word `i` of the stream.
 fn stream_word(file: &[u8], i: usize) -> u32
     requires { 512 * (i / 126 + 2) ≤ length file.now }
-    ensures { result ≡ streamAt file.now i }
+    ensures { result ≡ stream_at file.now i }
 {
     word_at(file, 128 * (i / 126 + 1) + (i % 126 + 1))
 }

@@ -1,16 +1,16 @@
 // What the writer looks at: refusals 1, 2, 3, 7, 22 and 19.
 ghost use Rattle.std.specs.Prelude.{◌≡◌, ℕ, ◌≤◌, [], length};
-ghost use Rattle.list_spec.specs.Writing.{rowsInRange, listInRange, writeChecks};
-ghost use Rattle.list_file.specs.Paper.{checkOf};
+ghost use Rattle.list_spec.specs.Writing.{rows_in_range, list_in_range, write_checks};
+ghost use Rattle.list_file.specs.Paper.{check_of};
 ghost use Rattle.list_file.specs.WriteAnswer.{list_of};
-ghost use Rattle.list_file.specs.WriteCheckLaws.{listChecks};
+ghost use Rattle.list_file.specs.WriteCheckLaws.{list_checks};
 
 use crate::words::{FileCheck, FileRefusal, also_within};
 use calls::Check;
 
 // All that the writer looks at; `room` is the length of the buffer.
 pub fn check(p: usize, q: usize, coefs: &[i32], rows: &[u32], ending: u32, room: usize) -> FileCheck
-    ensures { checkOf result ≡ writeChecks (list_of p q coefs.now rows.now ending) room }
+    ensures { check_of result ≡ write_checks (list_of p q coefs.now rows.now ending) room }
 {
     match checks::counts::check(p, q, 0, coefs.len()) {
         Check::Refuse(why) => FileCheck::Refuse(FileRefusal::System(why)),
@@ -24,7 +24,7 @@ pub fn check(p: usize, q: usize, coefs: &[i32], rows: &[u32], ending: u32, room:
 // Refusals 22 and 19, which do not depend on p.
 fn check_rows(q: usize, coefs: &[i32], rows: &[u32], ending: u32, room: usize) -> FileCheck
     requires { (1 ≤ q) × (q ≤ 16) × (length coefs.now ≤ 128) }
-    ensures { (p : ℕ) → checkOf result ≡ listChecks (list_of p q coefs.now rows.now ending) room }
+    ensures { (p : ℕ) → check_of result ≡ list_checks (list_of p q coefs.now rows.now ending) room }
 {
     if !list_in_range(q, rows, ending) {
         return FileCheck::Refuse(FileRefusal::Range);
@@ -39,7 +39,7 @@ fn check_rows(q: usize, coefs: &[i32], rows: &[u32], ending: u32, room: usize) -
 // Whether the rows are whole, few enough and in range, and the ending is one of the two.
 fn list_in_range(q: usize, rows: &[u32], ending: u32) -> bool
     requires { 1 ≤ q }
-    ensures { result ≡ listInRange (list_of 0 q [] rows.now ending) }
+    ensures { result ≡ list_in_range (list_of 0 q [] rows.now ending) }
 {
     if rows.len() % q != 0 {
         return false;
@@ -55,7 +55,7 @@ fn list_in_range(q: usize, rows: &[u32], ending: u32) -> bool
 
 // Whether every component is within the limit.
 fn rows_in_range(rows: &[u32]) -> bool
-    ensures { result ≡ rowsInRange rows.now }
+    ensures { result ≡ rows_in_range rows.now }
 {
     let mut within = true;
     let mut i = 0;

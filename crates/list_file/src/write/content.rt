@@ -1,6 +1,6 @@
 // The words that are written, but for the last of each block.
 ghost use Rattle.std.specs.Prelude.{◌≡◌, ◌<◌, ◌≤◌, [], ◌∷◌, slice_index};
-ghost use Rattle.list_spec.specs.Form.{stream, contentWord};
+ghost use Rattle.list_spec.specs.Form.{stream, content_word};
 ghost use Rattle.list_file.specs.WriteAnswer.{list_of};
 ghost use Rattle.list_file.specs.BlockLaws.{ContentPlace};
 
@@ -9,7 +9,7 @@ use crate::words::to_word;
 // Word `j` of block `b`.
 pub fn word(p: usize, q: usize, coefs: &[i32], rows: &[u32], ending: u32, b: usize, j: usize) -> u32
     requires { ContentPlace (list_of p q coefs.now rows.now ending) b j }
-    ensures { result ≡ contentWord (list_of p q coefs.now rows.now ending) b j }
+    ensures { result ≡ content_word (list_of p q coefs.now rows.now ending) b j }
 {
     if j == 0 {
         return b as u32;

@@ -9,5 +9,5 @@ use Rattle.products.proofs.natural.Tie as tie
 returns : tie.Need-returns
 returns c = to_z-of_z {w = w64} {z = pos c.args.x} (search rules)
 
-pub natural-spec : {M : Type 1} → statement M
-natural-spec = tie.close (tie.spec (λ c. search rules) returns)
+pub natural_spec : {M : Type 1} → statement M
+natural_spec = tie.close (tie.spec (λ c. search rules) returns)

@@ -8,8 +8,8 @@ use Rattle.products.proofs.sign.Tie as tie
 returns : tie.Need-returns
 returns c = ap number (sym (rw (to_z-of_z c.before.ranges.product) at c.if1.true))
 
-returns-2 : tie.Need-returns-2
-returns-2 c = ap number (sym (rw (to_z-of_z c.before.ranges.product) at c.if1.false))
+returns_2 : tie.Need-returns-2
+returns_2 c = ap number (sym (rw (to_z-of_z c.before.ranges.product) at c.if1.false))
 
-pub sign-spec : {M : Type 1} → statement M
-sign-spec = tie.close (tie.spec returns returns-2)
+pub sign_spec : {M : Type 1} → statement M
+sign_spec = tie.close (tie.spec returns returns_2)

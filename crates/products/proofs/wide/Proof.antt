@@ -8,11 +8,11 @@ use Rattle.products.proofs.wide.Tie as tie
 x64 : (c : tie.Start) → SFits w64 c.args.x
 x64 c = sfits_widen tt c.ranges.x
 
-cast-result : tie.Need-overflow-cast-result
-cast-result c = rw (to_z-of_z c.ranges.x) (x64 c)
+cast_result : tie.Need-overflow-cast-result
+cast_result c = rw (to_z-of_z c.ranges.x) (x64 c)
 
 returns : tie.Need-returns
 returns c = rw (to_z-of_z c.ranges.x) (to_z-of_z (x64 c))
 
 pub wide_spec : {M : Type 1} → statement M
-wide_spec = tie.close (tie.spec cast-result returns)
+wide_spec = tie.close (tie.spec cast_result returns)

@@ -7,38 +7,38 @@ use borrow.Author.Rules.{rules}
 use lib.ListN.{length}
 use Rattle.definitions.specs.Tables.{at}
 use Rattle.products.specs.Products.{Rows, Zeros, combine}
-use Rattle.products.specs.Totals.{Totals, totals-next, totals-none}
-use Rattle.products.specs.Turns.{rows_next, small_row, zeros-after}
+use Rattle.products.specs.Totals.{Totals, totals_next, totals_none}
+use Rattle.products.specs.Turns.{rows_next, small_row, zeros_after}
 use Rattle.products.proofs.write_products.Statement.{statement}
 use Rattle.products.proofs.write_products.Tie as tie
 
-abbrev invariant-loop : tie.invariant-loop
-invariant-loop q gram stack height c₀ sums₀ k₀ c sums k =
+abbrev invariant_loop : tie.invariant_loop
+invariant_loop q gram stack height c₀ sums₀ k₀ c sums k =
     (k ≤ height) × (length c ≡ 256) × Rows k q (λ l. combine q gram (at stack (q + 1) l)) c × Zeros c k × Totals q stack k sums
 
-abbrev decreases-loop : tie.decreases-loop
-decreases-loop q gram stack height c₀ sums₀ k₀ c sums k = height - k
+abbrev decreases_loop : tie.decreases_loop
+decreases_loop q gram stack height c₀ sums₀ k₀ c sums k = height - k
 
-few : (l : tie.In-loop invariant-loop decreases-loop) → l.before.loop.k < 16
+few : (l : tie.In-loop invariant_loop decreases_loop) → l.before.loop.k < 16
 few l = let s = l.before.before.before in omega (arith, l.loop-test.true, s.requires.1.0.few, s.requires.0.0.unknowns)
 
-loop-holds : tie.Need-loop-init invariant-loop decreases-loop
-loop-holds c =
+loop_holds : tie.Need-loop-init invariant_loop decreases_loop
+loop_holds c =
     let s = c.before in
-    (search rules, s.requires.0.1, (λ l j h i. absurd (omega arith)), s.requires.0.2, totals-none _ _ _ s.requires.1.1)
+    (search rules, s.requires.0.1, (λ l j h i. absurd (omega arith)), s.requires.0.2, totals_none _ _ _ s.requires.1.1)
 
-products-row-requires : tie.Need-products-row-requires invariant-loop decreases-loop
-products-row-requires c κs =
+products_row_requires : tie.Need-products-row-requires invariant_loop decreases_loop
+products_row_requires c κs =
     let l = c.before in
     let a = l.before in
     let s = a.before.before in
     (s.requires.0.0, small_row s.requires.1.0 a.loop.k l.loop-test.true, a.loop.invariant.1, omega arith, a.loop.invariant.3)
 
-element-write-sums : tie.Need-element-write-sums invariant-loop decreases-loop
-element-write-sums c = let l = c.before.before in omega (arith, l.before.loop.invariant.4.size, few l)
+element_write_sums : tie.Need-element-write-sums invariant_loop decreases_loop
+element_write_sums c = let l = c.before.before in omega (arith, l.before.loop.invariant.4.size, few l)
 
-loop-again : tie.Need-loop-preserved invariant-loop decreases-loop
-loop-again c =
+loop_again : tie.Need-loop-preserved invariant_loop decreases_loop
+loop_again c =
     let l = c.before.before in
     let a = l.before in
     let unknowns = a.before.before.requires.0.0.unknowns in
@@ -46,27 +46,27 @@ loop-again c =
       search rules,
       w.size ∙ a.loop.invariant.1,
       rows_next unknowns a.loop.invariant.2 w,
-      zeros-after unknowns a.loop.invariant.3 w,
-      totals-next (few l) c.products-row.ensures.1 a.loop.invariant.4,
+      zeros_after unknowns a.loop.invariant.3 w,
+      totals_next (few l) c.products-row.ensures.1 a.loop.invariant.4,
     )
 
-returns : tie.Need-returns invariant-loop decreases-loop
+returns : tie.Need-returns invariant_loop decreases_loop
 returns c =
     let a = c.before in
     let e = le_antisymm a.loop.invariant.0 c.loop-test.false in
     (record { size = a.loop.invariant.1; levels = rw e at a.loop.invariant.2 }, rw e at a.loop.invariant.4)
 
-pub write-products-spec : {M : Type 1} → statement M
-write-products-spec =
+pub write_products_spec : {M : Type 1} → statement M
+write_products_spec =
     tie.close
     (tie.spec
-    invariant-loop
-    decreases-loop
-    loop-holds
-    products-row-requires
+    invariant_loop
+    decreases_loop
+    loop_holds
+    products_row_requires
     (λ c. search rules)
-    element-write-sums
+    element_write_sums
     (λ c. search rules)
     (λ c. search rules)
-    loop-again
+    loop_again
     returns)

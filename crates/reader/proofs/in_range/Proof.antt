@@ -6,8 +6,8 @@ use Rattle.reader.proofs.in_range.Tie as tie
 returns : tie.Need-returns
 returns c = rw (lt-leb 1 c.before.args.q c.if1.true)
 
-returns-2 : tie.Need-returns-2
-returns-2 c = rw (le-leb 1 c.before.args.q c.if1.false)
+returns_2 : tie.Need-returns-2
+returns_2 c = rw (le-leb 1 c.before.args.q c.if1.false)
 
-pub in-range-spec : {M : Type 1} → statement M
-in-range-spec = tie.close (tie.spec returns returns-2)
+pub in_range_spec : {M : Type 1} → statement M
+in_range_spec = tie.close (tie.spec returns returns_2)

@@ -1,24 +1,24 @@
 -- `reasons::explain_within` meets its contract: the refusals decide first. Assumes nothing.
-use Rattle.laws.specs.ReasonLaws.{reason-askable}
+use Rattle.laws.specs.ReasonLaws.{reason_askable}
 use Rattle.calls.specs.CallLaws.{passes}
-use Rattle.reasons.specs.Amounts.{asked-largely}
-use Rattle.reasons.specs.AnswerLaws.{passed-at, refused-at}
+use Rattle.reasons.specs.Amounts.{asked_largely}
+use Rattle.reasons.specs.AnswerLaws.{passed_at, refused_at}
 use borrow.Author.Rules.{rules}
 use Rattle.reasons.proofs.explain_within.Statement.{statement}
 use Rattle.reasons.proofs.explain_within.Tie as tie
 
-first-true-requires : tie.Need-first-true-requires
-first-true-requires c κs =
+first_true_requires : tie.Need-first-true-requires
+first_true_requires c κs =
     let k = c.before.before in
-    asked-largely k.before.before.before.requires (reason-askable _ _ _ _ _ (passes k.check.ensures c.enum_told.given.1))
+    asked_largely k.before.before.before.requires (reason_askable _ _ _ _ _ (passes k.check.ensures c.enum_told.given.1))
 
 returns : tie.Need-returns
-returns c = refused-at _ _ _ _ _ c.before.before.before.check.ensures c.before.why.given.1
+returns c = refused_at _ _ _ _ _ c.before.before.before.check.ensures c.before.why.given.1
 
-returns-2 : tie.Need-returns-2
-returns-2 c = passed-at _ _ _ _ _ c.before.before.before.check.ensures c.before.enum_told.given.1 c.first-true.ensures
+returns_2 : tie.Need-returns-2
+returns_2 c = passed_at _ _ _ _ _ c.before.before.before.check.ensures c.before.enum_told.given.1 c.first_true.ensures
 
-pub explain-within-spec : {M : Type 1} → statement M
-explain-within-spec =
+pub explain_within_spec : {M : Type 1} → statement M
+explain_within_spec =
     tie.close
-    (tie.spec (λ c κs. search rules) (λ c. search rules) (λ c. search rules) first-true-requires returns returns-2)
+    (tie.spec (λ c κs. search rules) (λ c. search rules) (λ c. search rules) first_true_requires returns returns_2)

@@ -4,61 +4,61 @@ use mathlib.Core.Bool.{not}
 use mathlib.Core.Option.{none}
 use Prim.Native.Nat.{◌-◌, ◌≤◌}
 use native.Mathlib.Nat.{le_antisymm}
-use Rattle.linear.specs.Places.{firstTo}
-use Rattle.linear.specs.PlaceLaws.{first_next, first-here}
-use Rattle.definitions.specs.Reasons.{firstOff}
+use Rattle.linear.specs.Places.{first_to}
+use Rattle.linear.specs.PlaceLaws.{first_next, first_here}
+use Rattle.definitions.specs.Reasons.{first_off}
 use Rattle.definitions.specs.System.{image_of, is_zero}
 use Rattle.table_rows.specs.Rows.{tuple}
-use Rattle.definitions.specs.Input.{input_of, mapOf}
-use Rattle.reasons.specs.Amounts.{equation-of, amount-kept, amount-off, amount-even}
+use Rattle.definitions.specs.Input.{input_of, map_of}
+use Rattle.reasons.specs.Amounts.{equation_of, amount_kept, amount_off, amount_even}
 use borrow.Author.Rules.{rules}
 use Rattle.reasons.proofs.first_off.Statement.{statement}
 use Rattle.reasons.proofs.first_off.Tie as tie
 
-abbrev invariant-loop : tie.invariant-loop
-invariant-loop p q coefs t i₀ i = (i ≤ p) × (firstTo i (λ k. not (is_zero (image_of (mapOf (input_of p q coefs)) (tuple t) k))) ≡ none)
+abbrev invariant_loop : tie.invariant_loop
+invariant_loop p q coefs t i₀ i = (i ≤ p) × (first_to i (λ k. not (is_zero (image_of (map_of (input_of p q coefs)) (tuple t) k))) ≡ none)
 
-abbrev decreases-loop : tie.decreases-loop
-decreases-loop p q coefs t i₀ i = p - i
+abbrev decreases_loop : tie.decreases_loop
+decreases_loop p q coefs t i₀ i = p - i
 
-loop-holds : tie.Need-loop-init invariant-loop decreases-loop
-unfolding firstTo
-loop-holds c = (search rules, refl)
+loop_holds : tie.Need-loop-init invariant_loop decreases_loop
+unfolding first_to
+loop_holds c = (search rules, refl)
 
-left-side-requires : tie.Need-left-side-requires invariant-loop decreases-loop
-left-side-requires c κs = let p = c.before.before.before.requires in (equation-of p.0 p.1 c.loop-test.true, p.1)
+left_side_requires : tie.Need-left-side-requires invariant_loop decreases_loop
+left_side_requires c κs = let p = c.before.before.before.requires in (equation_of p.0 p.1 c.loop-test.true, p.1)
 
-returns : tie.Need-returns invariant-loop decreases-loop
-unfolding firstOff
+returns : tie.Need-returns invariant_loop decreases_loop
+unfolding first_off
 returns c =
     let l = c.before.before in
     let p = l.before.before.before.requires in
     let e = c.before.left-side.ensures in (
-      first-here _ _ _ l.loop-test.true l.before.loop.invariant.1 (amount-off p.0 p.1 l.loop-test.true e c.if1.true),
-      amount-kept p.0 p.1 l.loop-test.true e,
+      first_here _ _ _ l.loop-test.true l.before.loop.invariant.1 (amount_off p.0 p.1 l.loop-test.true e c.if1.true),
+      amount_kept p.0 p.1 l.loop-test.true e,
     )
 
-loop-again : tie.Need-loop-preserved invariant-loop decreases-loop
-loop-again c =
+loop_again : tie.Need-loop-preserved invariant_loop decreases_loop
+loop_again c =
     let l = c.before.before in
     let p = l.before.before.before.requires in
-    (search rules, first_next _ _ l.before.loop.invariant.1 (amount-even p.0 p.1 l.loop-test.true c.before.left-side.ensures c.if1.false))
+    (search rules, first_next _ _ l.before.loop.invariant.1 (amount_even p.0 p.1 l.loop-test.true c.before.left-side.ensures c.if1.false))
 
-returns-2 : tie.Need-returns-2 invariant-loop decreases-loop
-unfolding firstOff
-returns-2 c = cc (le_antisymm c.before.loop.invariant.0 c.loop-test.false, c.before.loop.invariant.1)
+returns_2 : tie.Need-returns-2 invariant_loop decreases_loop
+unfolding first_off
+returns_2 c = cc (le_antisymm c.before.loop.invariant.0 c.loop-test.false, c.before.loop.invariant.1)
 
-pub first-off-spec : {M : Type 1} → statement M
-first-off-spec =
+pub first_off_spec : {M : Type 1} → statement M
+first_off_spec =
     tie.close
     (tie.spec
-    invariant-loop
-    decreases-loop
-    loop-holds
-    left-side-requires
+    invariant_loop
+    decreases_loop
+    loop_holds
+    left_side_requires
     (λ c. search rules)
     returns
     (λ c. search rules)
     (λ c. search rules)
-    loop-again
-    returns-2)
+    loop_again
+    returns_2)

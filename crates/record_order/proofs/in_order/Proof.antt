@@ -7,46 +7,46 @@ use native.Mathlib.Omega.{arith}
 use lib.Dec.{leb}
 use borrow.Author.Rules.{rules}
 use borrow.Author.Tests.{le-leb, lt-leb, not-true, not-false}
-use Rattle.definitions.specs.Refusals.{deepestLimit}
-use Rattle.record_order.specs.Order.{recordFits}
+use Rattle.definitions.specs.Refusals.{deepest_limit}
+use Rattle.record_order.specs.Order.{record_fits}
 use Rattle.record_order.proofs.in_order.Statement.{statement}
 use Rattle.record_order.proofs.in_order.Tie as tie
 
 returns : tie.Need-returns
-unfolding recordFits
+unfolding record_fits
 returns c = let e = sym c.before.same-run.ensures ∙ not-true _ c.if1.true in rw e
 
-returns-2 : tie.Need-returns-2
-unfolding recordFits
-returns-2 c =
+returns_2 : tie.Need-returns-2
+unfolding record_fits
+returns_2 c =
     let a = c.before.before.before.before.before.args in
     let e : leb a.r.height a.q ≡ false = lt-leb _ _ c.if2.true in
     rw (e, and-false)
 
-returns-3 : tie.Need-returns-3
-unfolding recordFits
-returns-3 c = rw (lt-leb _ _ c.if3.true, and-false, and-false, and-false)
+returns_3 : tie.Need-returns-3
+unfolding record_fits
+returns_3 c = rw (lt-leb _ _ c.if3.true, and-false, and-false, and-false)
 
-returns-4 : tie.Need-returns-4
-unfolding recordFits
-returns-4 c =
+returns_4 : tie.Need-returns-4
+unfolding record_fits
+returns_4 c =
     let a = c.before.before.before.before.before.before.before.args in
-    let e : leb a.r.deepest deepestLimit ≡ false = lt-leb _ _ c.if4.true in
+    let e : leb a.r.deepest deepest_limit ≡ false = lt-leb _ _ c.if4.true in
     rw (e, and-false, and-false, and-false, and-false)
 
-returns-5 : tie.Need-returns-5
-unfolding recordFits
-returns-5 c = rw (lt-leb _ _ c.if5.true, and-false, and-false)
+returns_5 : tie.Need-returns-5
+unfolding record_fits
+returns_5 c = rw (lt-leb _ _ c.if5.true, and-false, and-false)
 
-rows-in-order-requires : tie.Need-rows-in-order-requires
-rows-in-order-requires c κs =
+rows_in_order_requires : tie.Need-rows-in-order-requires
+rows_in_order_requires c κs =
     let h = c.before.before.before in
     let a = h.before.before.before.before.before in
     (a.requires.1.most, omega (arith, a.requires.1.rows, mul-le-mul_right (a.args.q + 1) h.if2.false))
 
-returns-6 : tie.Need-returns-6
-unfolding recordFits
-returns-6 c =
+returns_6 : tie.Need-returns-6
+unfolding record_fits
+returns_6 c =
     let e = c.before in
     let h = e.before.before.before in
     rw (
@@ -57,16 +57,16 @@ returns-6 c =
       le-leb _ _ e.before.if4.false,
     ) c.rows-in-order.ensures
 
-pub in-order-spec : {M : Type 1} → statement M
-in-order-spec =
+pub in_order_spec : {M : Type 1} → statement M
+in_order_spec =
     tie.close
     (tie.spec
     (λ c κs. search rules)
     returns
-    returns-2
-    returns-3
-    returns-4
+    returns_2
+    returns_3
+    returns_4
     (λ c. search rules)
-    returns-5
-    rows-in-order-requires
-    returns-6)
+    returns_5
+    rows_in_order_requires
+    returns_6)

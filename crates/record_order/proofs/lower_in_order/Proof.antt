@@ -4,37 +4,37 @@ use borrow.Author.Rules.{rules}
 use Rattle.definitions.specs.Tables.{RunKind}
 use Rattle.calls.specs.Paper.{kind_of, run_of}
 use Rattle.calls.specs.declared.RunKind as declared
-use Rattle.record_order.specs.Order.{lowerFits}
+use Rattle.record_order.specs.Order.{lower_fits}
 use Rattle.record_order.proofs.lower_in_order.Statement.{statement}
 use Rattle.record_order.proofs.lower_in_order.Tie as tie
 
 -- what is asked by the kind that the record is known to name is what is asked by the record
-by-record : (s : tie.Start) {k : declared.RunKind} → s.args.r.kind ≡ k → let a = s.args in
-    lowerFits (kind_of k) a.q a.limit a.lower.now a.stack.now a.list.now a.second.now (run_of a.r)
-    ≡ lowerFits (kind_of a.r.kind) a.q a.limit a.lower.now a.stack.now a.list.now a.second.now (run_of a.r)
-by-record s e =
+by_record : (s : tie.Start) {k : declared.RunKind} → s.args.r.kind ≡ k → let a = s.args in
+    lower_fits (kind_of k) a.q a.limit a.lower.now a.stack.now a.list.now a.second.now (run_of a.r)
+    ≡ lower_fits (kind_of a.r.kind) a.q a.limit a.lower.now a.stack.now a.list.now a.second.now (run_of a.r)
+by_record s e =
     let a = s.args in
-    ap (λ k. lowerFits (kind_of k) a.q a.limit a.lower.now a.stack.now a.list.now a.second.now (run_of a.r)) (sym e)
+    ap (λ k. lower_fits (kind_of k) a.q a.limit a.lower.now a.stack.now a.list.now a.second.now (run_of a.r)) (sym e)
 
 returns : tie.Need-returns
-returns c = by-record c.before.before.before.before.before.before c.enum_told.given.1
+returns c = by_record c.before.before.before.before.before.before c.enum_told.given.1
 
-returns-2 : tie.Need-returns-2
-returns-2 c = by-record c.before.before.before.before.before.before c.enum-told2.given.1
+returns_2 : tie.Need-returns-2
+returns_2 c = by_record c.before.before.before.before.before.before c.enum-told2.given.1
 
-returns-3 : tie.Need-returns-3
-returns-3 c =
-    c.plain-walk-fits.ensures ∙ by-record c.before.before.before.before.before.before.before c.before.enum-told3.given.1
+returns_3 : tie.Need-returns-3
+returns_3 c =
+    c.plain-walk-fits.ensures ∙ by_record c.before.before.before.before.before.before.before c.before.enum-told3.given.1
 
-returns-4 : tie.Need-returns-4
-returns-4 c =
-    c.above-walk-fits.ensures ∙ by-record c.before.before.before.before.before.before.before c.before.enum-told4.given.1
+returns_4 : tie.Need-returns-4
+returns_4 c =
+    c.above-walk-fits.ensures ∙ by_record c.before.before.before.before.before.before.before c.before.enum-told4.given.1
 
-returns-5 : tie.Need-returns-5
-returns-5 c = by-record c.before.before.before.before.before.before c.enum-told5.given.1
+returns_5 : tie.Need-returns-5
+returns_5 c = by_record c.before.before.before.before.before.before c.enum-told5.given.1
 
-pub lower-in-order-spec : {M : Type 1} → statement M
-lower-in-order-spec =
+pub lower_in_order_spec : {M : Type 1} → statement M
+lower_in_order_spec =
     tie.close
     (tie.spec
     (λ c. search rules)
@@ -45,7 +45,7 @@ lower-in-order-spec =
     (λ c κs. search rules)
     (λ c. search rules)
     returns
-    returns-2
-    returns-3
-    returns-4
-    returns-5)
+    returns_2
+    returns_3
+    returns_4
+    returns_5)

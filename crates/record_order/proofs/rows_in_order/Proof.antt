@@ -6,48 +6,48 @@ use native.Mathlib.Nat.{le_antisymm}
 use native.Mathlib.Omega.{arith}
 use borrow.Author.Rules.{rules}
 use borrow.Author.Tests.{not-true, not-false}
-use Rattle.linear.specs.Tests.{allTo}
-use Rattle.linear.specs.LoopLaws.{all-next, all-fails}
+use Rattle.linear.specs.Tests.{all_to}
+use Rattle.linear.specs.LoopLaws.{all_next, all_fails}
 use Rattle.laws.specs.TableLaws.{row_fits}
-use Rattle.definitions.specs.Refusals.{rowFits}
+use Rattle.definitions.specs.Refusals.{row_fits}
 use Rattle.record_order.proofs.rows_in_order.Statement.{statement}
 use Rattle.record_order.proofs.rows_in_order.Tie as tie
 
-abbrev invariant-loop : tie.invariant-loop
-invariant-loop q stack height limit k₀ k = (k ≤ height) × (allTo k (rowFits limit q stack) ≡ true)
+abbrev invariant_loop : tie.invariant_loop
+invariant_loop q stack height limit k₀ k = (k ≤ height) × (all_to k (row_fits limit q stack) ≡ true)
 
-abbrev decreases-loop : tie.decreases-loop
-decreases-loop q stack height limit k₀ k = height - k
+abbrev decreases_loop : tie.decreases_loop
+decreases_loop q stack height limit k₀ k = height - k
 
-loop-holds : tie.Need-loop-init invariant-loop decreases-loop
-unfolding allTo
-loop-holds c = (search rules, refl)
+loop_holds : tie.Need-loop-init invariant_loop decreases_loop
+unfolding all_to
+loop_holds c = (search rules, refl)
 
-row-in-order-requires : tie.Need-row-in-order-requires invariant-loop decreases-loop
-row-in-order-requires c κs = omega (arith, row_fits (c.before.before.before.args.q + 1) _ _ c.loop-test.true)
+row_in_order_requires : tie.Need-row-in-order-requires invariant_loop decreases_loop
+row_in_order_requires c κs = omega (arith, row_fits (c.before.before.before.args.q + 1) _ _ c.loop-test.true)
 
-returns : tie.Need-returns invariant-loop decreases-loop
+returns : tie.Need-returns invariant_loop decreases_loop
 returns c =
-    sym (all-fails _ _ _ c.before.before.loop-test.true (sym c.before.row-in-order.ensures ∙ not-true _ c.if1.true))
+    sym (all_fails _ _ _ c.before.before.loop-test.true (sym c.before.row-in-order.ensures ∙ not-true _ c.if1.true))
 
-loop-again : tie.Need-loop-preserved invariant-loop decreases-loop
-loop-again c =
+loop_again : tie.Need-loop-preserved invariant_loop decreases_loop
+loop_again c =
     let a = c.before.before.before in
-    (search rules, all-next _ _ a.loop.invariant.1 (sym c.before.row-in-order.ensures ∙ not-false _ c.if1.false))
+    (search rules, all_next _ _ a.loop.invariant.1 (sym c.before.row-in-order.ensures ∙ not-false _ c.if1.false))
 
-returns-2 : tie.Need-returns-2 invariant-loop decreases-loop
-returns-2 c = cc (le_antisymm c.before.loop.invariant.0 c.loop-test.false)
+returns_2 : tie.Need-returns-2 invariant_loop decreases_loop
+returns_2 c = cc (le_antisymm c.before.loop.invariant.0 c.loop-test.false)
 
-pub rows-in-order-spec : {M : Type 1} → statement M
-rows-in-order-spec =
+pub rows_in_order_spec : {M : Type 1} → statement M
+rows_in_order_spec =
     tie.close
     (tie.spec
-    invariant-loop
-    decreases-loop
-    loop-holds
-    row-in-order-requires
+    invariant_loop
+    decreases_loop
+    loop_holds
+    row_in_order_requires
     returns
     (λ c. search rules)
     (λ c. search rules)
-    loop-again
-    returns-2)
+    loop_again
+    returns_2)

@@ -2,7 +2,7 @@
 use Rattle.reformulation_spec.specs.Reformulation as paper
 use Rattle.reformulation_spec.specs.Reformulation.{Reformulation, reformulation}
 use Rattle.reformulation.specs.Given.{fails, holds}
-use Rattle.reformulation.specs.Shows.{above-lines, back-lines, onto-lines}
+use Rattle.reformulation.specs.Shows.{above_lines, back_lines, onto_lines}
 use borrow.Author.Rules.{rules}
 use Rattle.reformulation.proofs.shows.Statement.{statement}
 use Rattle.reformulation.proofs.shows.Tie as tie
@@ -16,18 +16,18 @@ returns : tie.Need-returns
 unfolding paper.shows
 returns c = rw (fails c.before.all.ensures c.if1.true)
 
-returns-2 : tie.Need-returns-2
+returns_2 : tie.Need-returns-2
 unfolding paper.shows
-returns-2 c =
+returns_2 c =
     let s = c.before.before in rw (holds s.before.all.ensures s.if1.false, fails c.before.extends.ensures c.if2.true)
 
-all-follow-requires : tie.Need-all-follow-requires
-all-follow-requires c κs =
-    let s = c.before.before in onto-lines (asked s.before.before) s.before.before.requires (holds s.before.all.ensures s.if1.false)
+all_follow_requires : tie.Need-all-follow-requires
+all_follow_requires c κs =
+    let s = c.before.before in onto_lines (asked s.before.before) s.before.before.requires (holds s.before.all.ensures s.if1.false)
 
-returns-3 : tie.Need-returns-3
+returns_3 : tie.Need-returns-3
 unfolding paper.shows
-returns-3 c =
+returns_3 c =
     let e = c.before.before in
     let s = e.before.before in
     rw (
@@ -36,14 +36,14 @@ returns-3 c =
       fails c.before.all-follow.ensures c.if3.true,
     )
 
-all-follow-requires-2 : tie.Need-all-follow-requires-2
-all-follow-requires-2 c κs =
+all_follow_requires_2 : tie.Need-all-follow-requires-2
+all_follow_requires_2 c κs =
     let s = c.before.before.before.before in
-    back-lines (asked s.before.before) s.before.before.requires (holds s.before.all.ensures s.if1.false)
+    back_lines (asked s.before.before) s.before.before.requires (holds s.before.all.ensures s.if1.false)
 
-returns-4 : tie.Need-returns-4
+returns_4 : tie.Need-returns-4
 unfolding paper.shows
-returns-4 c =
+returns_4 c =
     let o = c.before.before in
     let e = o.before.before in
     let s = e.before.before in
@@ -54,14 +54,14 @@ returns-4 c =
       fails c.before.all-follow2.ensures c.if4.true,
     )
 
-all-follow-requires-3 : tie.Need-all-follow-requires-3
-all-follow-requires-3 c κs =
+all_follow_requires_3 : tie.Need-all-follow-requires-3
+all_follow_requires_3 c κs =
     let s = c.before.before.before.before.before.before in
-    above-lines (asked s.before.before) s.before.before.requires (holds s.before.all.ensures s.if1.false)
+    above_lines (asked s.before.before) s.before.before.requires (holds s.before.all.ensures s.if1.false)
 
-returns-5 : tie.Need-returns-5
+returns_5 : tie.Need-returns-5
 unfolding paper.shows
-returns-5 c =
+returns_5 c =
     let b = c.before in
     let o = b.before.before in
     let e = o.before.before in
@@ -74,9 +74,9 @@ returns-5 c =
     )
     c.all-follow3.ensures
 
-pub shows-spec : {M : Type 1} → statement M
-shows-spec =
+pub shows_spec : {M : Type 1} → statement M
+shows_spec =
     tie.close
-    (tie.spec (λ c κs. search rules) returns (λ c κs. search rules) returns-2 (λ c. search rules) (λ c. search rules) (λ c. search rules)
-    all-follow-requires returns-3 (λ c. search rules) (λ c. search rules) (λ c. search rules) all-follow-requires-2 returns-4 (λ c. search rules)
-    all-follow-requires-3 returns-5)
+    (tie.spec (λ c κs. search rules) returns (λ c κs. search rules) returns_2 (λ c. search rules) (λ c. search rules) (λ c. search rules)
+    all_follow_requires returns_3 (λ c. search rules) (λ c. search rules) (λ c. search rules) all_follow_requires_2 returns_4 (λ c. search rules)
+    all_follow_requires_3 returns_5)

@@ -16,8 +16,8 @@ returns c =
       search rules,
     )
 
-pub counts-spec : {M : Type 1} → statement M
-counts-spec =
+pub counts_spec : {M : Type 1} → statement M
+counts_spec =
     tie.close
     (tie.spec
     (λ c. search rules)

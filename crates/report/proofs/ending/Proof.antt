@@ -1,31 +1,31 @@
 -- `ending` meets its contract. Assumes nothing.
 use borrow.Author.Rules.{rules}
 use Rattle.report_spec.specs.Printed as paper
-use Rattle.texts.specs.Put.{put-none}
+use Rattle.texts.specs.Put.{put_none}
 use Rattle.report.proofs.ending.Statement.{statement}
 use Rattle.report.proofs.ending.Tie as tie
 
 returns : tie.Need-returns
 unfolding paper.ending
-returns c = rw c.enum_told.given.1 (put-none _ _)
+returns c = rw c.enum_told.given.1 (put_none _ _)
 
-returns-2 : tie.Need-returns-2
+returns_2 : tie.Need-returns-2
 unfolding paper.ending
-returns-2 c = let k = c.before.before in rw k.before.before.before.enum-told2.given.1 k.word.ensures
+returns_2 c = let k = c.before.before in rw k.before.before.before.enum-told2.given.1 k.word.ensures
 
-returns-3 : tie.Need-returns-3
+returns_3 : tie.Need-returns-3
 unfolding paper.ending
-returns-3 c = let k = c.before.before in rw k.before.before.before.enum-told3.given.1 k.word2.ensures
+returns_3 c = let k = c.before.before in rw k.before.before.before.enum-told3.given.1 k.word2.ensures
 
-returns-4 : tie.Need-returns-4
+returns_4 : tie.Need-returns-4
 unfolding paper.ending
-returns-4 c =
+returns_4 c =
     let k = c.before.before in
     let a = k.before.before.before.before.before in
-    rw a.answer.given.1 (rw k.before.number-of.ensures at k.counted.ensures.0)
+    rw a.answer.given.1 (rw k.before.number_of.ensures at k.counted.ensures.0)
 
-pub ending-spec : {M : Type 1} → statement M
-ending-spec =
+pub ending_spec : {M : Type 1} → statement M
+ending_spec =
     tie.close
     (tie.spec
     (λ c. search rules)
@@ -41,8 +41,8 @@ ending-spec =
     (λ c κs. search rules)
     returns
     (λ c. search rules)
-    returns-2
+    returns_2
     (λ c. search rules)
-    returns-3
+    returns_3
     (λ c. search rules)
-    returns-4)
+    returns_4)

@@ -6,12 +6,12 @@ use Rattle.report.proofs.ran.Statement.{statement}
 use Rattle.report.proofs.ran.Tie as tie
 
 returns : tie.Need-returns
-unfolding paper.runText
+unfolding paper.run_text
 returns c =
     let e = c.before.before in
     let r = e.before.before.before.before in
     let k = r.before.before.before.before in
     put_then k.counts.ensures.0 (put_then r.rows.ensures.0 e.ending.ensures)
 
-pub ran-spec : {M : Type 1} → statement M
-ran-spec = tie.close (tie.spec (λ c κs. search rules) (λ c κs. search rules) (λ c κs. search rules) (λ c. search rules) returns)
+pub ran_spec : {M : Type 1} → statement M
+ran_spec = tie.close (tie.spec (λ c κs. search rules) (λ c κs. search rules) (λ c κs. search rules) (λ c. search rules) returns)

@@ -1,27 +1,27 @@
 -- `resumed` meets its contract. The check decides, and then the plain call does the work. Assumes nothing.
-use Rattle.calls.specs.CallLaws.{call-passed, call-refused}
-use Rattle.single_spec.specs.Calls.{singleResume}
+use Rattle.calls.specs.CallLaws.{call_passed, call_refused}
+use Rattle.single_spec.specs.Calls.{single_resume}
 use borrow.Author.Rules.{rules}
 use Rattle.single.proofs.resumed.Statement.{statement}
 use Rattle.single.proofs.resumed.Tie as tie
 
 returns : tie.Need-returns
-unfolding singleResume
+unfolding single_resume
 returns c =
     let w = c.before.before in
     let k = w.before.before in
-    rw c.refused.ensures (call-refused k.check-resume.ensures _ _ w.why.given.1)
+    rw c.refused.ensures (call_refused k.check-resume.ensures _ _ w.why.given.1)
 
-returns-2 : tie.Need-returns-2
-unfolding singleResume
-returns-2 c =
+returns_2 : tie.Need-returns-2
+unfolding single_resume
+returns_2 c =
     let w = c.before.before.before.before in
     let t = w.before.before.before in
     let k = t.before.before in
-    call-passed k.check-resume.ensures _ _ t.enum_told.given.1 w.resumed.ensures
+    call_passed k.check-resume.ensures _ _ t.enum_told.given.1 w.resumed.ensures
 
-pub resumed-spec : {M : Type 1} → statement M
-resumed-spec =
+pub resumed_spec : {M : Type 1} → statement M
+resumed_spec =
     tie.close
     (tie.spec
     (λ c κs. search rules)
@@ -34,4 +34,4 @@ resumed-spec =
     returns
     (λ c. search rules)
     (λ c. search rules)
-    returns-2)
+    returns_2)

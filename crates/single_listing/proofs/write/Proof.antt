@@ -3,40 +3,40 @@ use Prim.Native.Nat.{◌-◌, ◌≤◌}
 use native.Mathlib.Nat.{le_antisymm}
 use native.Mathlib.Omega.{arith}
 use Rattle.definitions.specs.Tables.{at as rows_of}
-use Rattle.single_order.specs.Rows.{mapOf}
+use Rattle.single_order.specs.Rows.{map_of}
 use Rattle.laws.specs.TableLaws.{row_fits}
-use Rattle.texts.specs.Put.{Put, put-none, put_then}
-use Rattle.single_spec.specs.Listing.{linesTo, listing}
+use Rattle.texts.specs.Put.{Put, put_none, put_then}
+use Rattle.single_spec.specs.Listing.{lines_to, listing}
 use Rattle.single_spec.specs.ListingLaws.{lines_next}
-use Rattle.single_listing.specs.Passes.{line-inside}
+use Rattle.single_listing.specs.Passes.{line_inside}
 use borrow.Author.Rules.{rules}
 use Rattle.single_listing.proofs.write.Statement.{statement}
 use Rattle.single_listing.proofs.write.Tie as tie
 
-abbrev invariant-loop : tie.invariant-loop
-invariant-loop p q coefs list found out₀ at₀ i₀ out at i = (i ≤ found) × Put out₀ 0 (linesTo i (mapOf p q coefs) (rows_of list q)) out at
+abbrev invariant_loop : tie.invariant_loop
+invariant_loop p q coefs list found out₀ at₀ i₀ out at i = (i ≤ found) × Put out₀ 0 (lines_to i (map_of p q coefs) (rows_of list q)) out at
 
-abbrev decreases-loop : tie.decreases-loop
-decreases-loop p q coefs list found out₀ at₀ i₀ out at i = found - i
+abbrev decreases_loop : tie.decreases_loop
+decreases_loop p q coefs list found out₀ at₀ i₀ out at i = found - i
 
-loop-holds : tie.Need-loop-init invariant-loop decreases-loop
-unfolding linesTo
-loop-holds c = (search rules, put-none _ _)
+loop_holds : tie.Need-loop-init invariant_loop decreases_loop
+unfolding lines_to
+loop_holds c = (search rules, put_none _ _)
 
-mul-write : tie.Need-overflow-mul-write invariant-loop decreases-loop
-mul-write c =
+mul_write : tie.Need-overflow-mul-write invariant_loop decreases_loop
+mul_write c =
     let s = c.before.before.before.before in
     omega (arith, s.requires.whole.rows, row_fits s.args.q c.before.loop.i s.args.found c.loop-test.true)
 
-write-requires : tie.Need-write-requires invariant-loop decreases-loop
-write-requires c κs =
+write_requires : tie.Need-write-requires invariant_loop decreases_loop
+write_requires c κs =
     let l = c.before.before in
     let t = c.before in
     let s = c.before.before.before.before.before in
-    let m = mapOf s.args.p s.args.q s.args.coefs.now in
+    let m = map_of s.args.p s.args.q s.args.coefs.now in
     let there = row_fits s.args.q l.loop.i s.args.found t.loop-test.true in
-    let inside = line-inside m s.args.list.now l.loop.i s.args.found t.loop-test.true in (
-      s.requires.whole.q-few,
+    let inside = line_inside m s.args.list.now l.loop.i s.args.found t.loop-test.true in (
+      s.requires.whole.q_few,
       record { whole = s.requires.whole.coefs; row = omega (arith, s.requires.whole.rows, there) },
       record {
         minimal = s.requires.minimal l.loop.i t.loop-test.true;
@@ -44,13 +44,13 @@ write-requires c κs =
       },
     )
 
-loop-again : tie.Need-loop-preserved invariant-loop decreases-loop
-loop-again c =
+loop_again : tie.Need-loop-preserved invariant_loop decreases_loop
+loop_again c =
     let w = c.before.before in
     let l = w.before.before.before.loop in
     (search rules, rw (lines_next _ _ l.i) (put_then l.invariant.1 w.write.ensures))
 
-returns : tie.Need-returns invariant-loop decreases-loop
+returns : tie.Need-returns invariant_loop decreases_loop
 unfolding listing
 returns c =
     let l = c.before.loop in
@@ -61,13 +61,13 @@ pub write_spec : {M : Type 1} → statement M
 write_spec =
     tie.close
     (tie.spec
-    invariant-loop
-    decreases-loop
-    loop-holds
-    mul-write
-    write-requires
+    invariant_loop
+    decreases_loop
+    loop_holds
+    mul_write
+    write_requires
     (λ c. search rules)
     (λ c. search rules)
-    loop-again
+    loop_again
     (λ c. search rules)
     returns)

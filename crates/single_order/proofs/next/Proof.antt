@@ -8,5 +8,5 @@ use Rattle.single_order.proofs.next.Tie as tie
 returns : tie.Need-returns
 returns c = c.leaving.ensures ∙ ap (leaving _ _) c.before.node.ensures
 
-pub next-spec : {M : Type 1} → statement M
-next-spec = tie.close (tie.spec (λ c κs. search rules) (λ c κs. search rules) returns)
+pub next_spec : {M : Type 1} → statement M
+next_spec = tie.close (tie.spec (λ c κs. search rules) (λ c κs. search rules) returns)

@@ -10,8 +10,8 @@ between : (k : ℕ) → (k ≡ 0 → ⊥) → space ≡ separator k
 between zero h = absurd (h refl)
 between (suc k) h = refl
 
-returns-2 : tie.Need-returns-2
-returns-2 c = between _ c.if1.false
+returns_2 : tie.Need-returns-2
+returns_2 c = between _ c.if1.false
 
-pub separator-after-spec : {M : Type 1} → statement M
-separator-after-spec = tie.close (tie.spec (λ c. search rules) returns-2)
+pub separator_after_spec : {M : Type 1} → statement M
+separator_after_spec = tie.close (tie.spec (λ c. search rules) returns_2)

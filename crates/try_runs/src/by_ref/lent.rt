@@ -1,10 +1,10 @@
 // The calls over a reference: each lends them a record of its own, as a caller does. Their proofs are walks by hand, so they do nothing else.
 ghost use Rattle.std.specs.Prelude.{◌≡◌, ℕ};
-ghost use Rattle.definitions.specs.Calls.{start, startFrom, resume, resumeFrom};
-ghost use Rattle.definitions.specs.System.{mostComponent};
-ghost use Rattle.definitions.specs.Input.{alone, input_of, inputWith, rights as sides};
-ghost use Rattle.calls.specs.Paper.{state_of, stateWith, outcomeOf, outcomeWith};
-ghost use Rattle.reader.specs.Reading.{shownPart};
+ghost use Rattle.definitions.specs.Calls.{start, start_from, resume, resume_from};
+ghost use Rattle.definitions.specs.System.{most_component};
+ghost use Rattle.definitions.specs.Input.{alone, input_of, input_with, rights as sides};
+ghost use Rattle.calls.specs.Paper.{state_of, state_with, outcome_of, outcome_with};
+ghost use Rattle.reader.specs.Reading.{shown_part};
 
 use calls::{Outcome, Record, Solutions};
 use reader::Reader;
@@ -18,8 +18,8 @@ pub fn started(
     r: Record,
 ) -> Outcome
     ensures { (limit : ℕ)
-        → outcomeOf result stack.new list.new ≡
-        start (inputWith alone limit p q coefs.now) (state_of stack.old list.old r) }
+        → outcome_of result stack.new list.new ≡
+        start (input_with alone limit p q coefs.now) (state_of stack.old list.old r) }
 {
     let mut run = r;
     let answer = walk_ref::start(p, q, coefs, stack, list, &mut run);
@@ -38,9 +38,9 @@ pub fn started_capped(
     r: Record,
 ) -> Outcome
     ensures { (limit : ℕ)
-        → outcomeWith result stack.new list.new second.new ≡
-        start (inputWith (sides rights.now) limit p q coefs.now)
-        (stateWith stack.old list.old second.old r) }
+        → outcome_with result stack.new list.new second.new ≡
+        start (input_with (sides rights.now) limit p q coefs.now)
+        (state_with stack.old list.old second.old r) }
 {
     let mut run = r;
     let answer = walk_ref::start_capped(p, q, coefs, rights, stack, list, second, &mut run);
@@ -58,8 +58,8 @@ pub fn started_from(
     second: &mut [u32],
     r: Record,
 ) -> Outcome
-    ensures { outcomeWith result stack.new list.new second.new ≡
-        startFrom lower.now (input_of p q coefs.now) (stateWith stack.old list.old second.old r) }
+    ensures { outcome_with result stack.new list.new second.new ≡
+        start_from lower.now (input_of p q coefs.now) (state_with stack.old list.old second.old r) }
 {
     let mut run = r;
     let answer = walk_ref::lower::start_from(p, q, coefs, lower, stack, list, second, &mut run);
@@ -75,7 +75,7 @@ pub fn resumed(
     r: Record,
     budget: u64,
 ) -> Outcome
-    ensures { outcomeOf result stack.new list.new ≡
+    ensures { outcome_of result stack.new list.new ≡
         resume budget (input_of p q coefs.now) (state_of stack.old list.old r) }
 {
     let mut run = r;
@@ -95,9 +95,9 @@ pub fn resumed_capped(
     r: Record,
     budget: u64,
 ) -> Outcome
-    ensures { outcomeWith result stack.new list.new second.new ≡
-        resume budget (inputWith (sides rights.now) mostComponent p q coefs.now)
-        (stateWith stack.old list.old second.old r) }
+    ensures { outcome_with result stack.new list.new second.new ≡
+        resume budget (input_with (sides rights.now) most_component p q coefs.now)
+        (state_with stack.old list.old second.old r) }
 {
     let mut run = r;
     let answer = walk_ref::resume_capped(
@@ -118,9 +118,9 @@ pub fn resumed_from(
     r: Record,
     budget: u64,
 ) -> Outcome
-    ensures { outcomeWith result stack.new list.new second.new ≡
-        resumeFrom budget lower.now (input_of p q coefs.now)
-        (stateWith stack.old list.old second.old r) }
+    ensures { outcome_with result stack.new list.new second.new ≡
+        resume_from budget lower.now (input_of p q coefs.now)
+        (state_with stack.old list.old second.old r) }
 {
     let mut run = r;
     let answer = walk_ref::lower::resume_from(
@@ -131,7 +131,7 @@ pub fn resumed_from(
 
 // Row n as the reader shows it.
 pub fn row(list: &[u32], q: usize, found: Solutions, n: usize) -> &[u32]
-    ensures { result.now ≡ shownPart q list.now found.0 n }
+    ensures { result.now ≡ shown_part q list.now found.0 n }
 {
     let reader = Reader::new(list, q);
     reader.row(found, n)

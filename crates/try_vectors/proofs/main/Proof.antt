@@ -3,14 +3,14 @@ use Rattle.std.proofs.Common.{◌≤◌, rules}
 use Rattle.try_vectors.proofs.main.Statement.{statement}
 use Rattle.try_vectors.proofs.main.Tie as tie
 
-abbrev invariant-loop : tie.invariant-loop
-invariant-loop s₀ pieces₀ s pieces = pieces ≤ 128
+abbrev invariant_loop : tie.invariant_loop
+invariant_loop s₀ pieces₀ s pieces = pieces ≤ 128
 
-abbrev decreases-loop : tie.decreases-loop
-decreases-loop s₀ pieces₀ s pieces = pieces
+abbrev decreases_loop : tie.decreases_loop
+decreases_loop s₀ pieces₀ s pieces = pieces
 
 pub main_spec : {M : Type 1} → statement M
 main_spec =
     tie.close
-    (tie.spec invariant-loop decreases-loop (λ c κs. search rules) (λ c κs. search rules) (λ c κs. search rules) (λ c. search rules) (λ c κs. search rules) (λ c.
+    (tie.spec invariant_loop decreases_loop (λ c κs. search rules) (λ c κs. search rules) (λ c κs. search rules) (λ c. search rules) (λ c κs. search rules) (λ c.
     search rules) (λ c. search rules) (λ c. search rules) (λ c κs. search rules) (λ c. search rules))

@@ -3,15 +3,15 @@ use Rattle.std.proofs.Common.{◌-◌, ◌≤◌, length, rules}
 use Rattle.try_vectors.proofs.read.Statement.{statement}
 use Rattle.try_vectors.proofs.read.Tie as tie
 
-abbrev invariant-loop : tie.invariant-loop
-invariant-loop text line₀ word₀ family₀ tally₀ i₀ line word family tally i = i ≤ length text
+abbrev invariant_loop : tie.invariant_loop
+invariant_loop text line₀ word₀ family₀ tally₀ i₀ line word family tally i = i ≤ length text
 
-abbrev decreases-loop : tie.decreases-loop
-decreases-loop text line₀ word₀ family₀ tally₀ i₀ line word family tally i = length text - i
+abbrev decreases_loop : tie.decreases_loop
+decreases_loop text line₀ word₀ family₀ tally₀ i₀ line word family tally i = length text - i
 
 pub read_spec : {M : Type 1} → statement M
 read_spec =
     tie.close
-    (tie.spec invariant-loop decreases-loop (λ c. search rules) (λ c. search rules) (λ c. search rules) (λ c κs. search rules) (λ c. search rules) (λ c. search
+    (tie.spec invariant_loop decreases_loop (λ c. search rules) (λ c. search rules) (λ c. search rules) (λ c κs. search rules) (λ c. search rules) (λ c. search
     rules) (λ c κs. search rules) (λ c κs. search rules) (λ c. search rules) (λ c. search rules) (λ c κs. search rules) (λ c κs. search rules) (λ c κs.
     search rules) (λ c. search rules) (λ c. search rules) (λ c. search rules))

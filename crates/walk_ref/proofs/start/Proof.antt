@@ -13,7 +13,7 @@ use denote.Triple.Table.{cited}
 use Rattle.calls.specs.declared.Record.{Record}
 use Rattle.walk_ref.proofs.Frame.{here, ends}
 use Rattle.walk_ref.proofs.Walk.{Met, proved}
-use Rattle.walk_ref.proofs.Behind.{less, with, values, shared, lends, copies, puts_back, walk-types}
+use Rattle.walk_ref.proofs.Behind.{less, with, values, shared, lends, copies, puts_back, walk_types}
 use Rattle.starts.specs.contracts.started as started
 use Rattle.starts.proofs.started.Symbol as started-def
 use Rattle.starts.proofs.started.Symbol.{name as #starts·started}
@@ -35,12 +35,12 @@ start_spec 𝓤 𝓛 𝓜 𝓡 =
     let y : callee.Ghost = ((less κs, less qs, tt, with a r.now, values a tt), tt) in
     lends ! 4 8 9 are.1.1.1.0.0.1.0 refl refl refl refl refl refl refl refl $
     lends ! 5 10 11 are.1.1.1.1.0.0.1.0 refl refl refl refl refl refl refl refl $
-    copies walk-types 3 5 κs.1.1.1.0 qs.1.1.1.0 r ! _ _ _ _ 12 refl refl refl refl $
+    copies walk_types 3 5 κs.1.1.1.0 qs.1.1.1.0 r ! _ _ _ _ 12 refl refl refl refl $
     calls_at ! fm callee (cited 𝓤 𝓛.H callee 𝓜 𝓡 code.env #starts·started started-def.routine code.calls-starts::started (started-thm.met 𝓤 𝓛 𝓜 𝓡)) y
     -- [what the call is handed; the open borrow, four entries; the locals]: local n stands at place n + 5
     (and_then ! (here ! 6 refl)
     (and_then ! (here ! 7 refl)
     (and_then ! (here ! 8 refl) (and_then ! (here ! 14 refl) (and_then ! (here ! 16 refl) (and_then ! (here ! 17 refl) (no_more !))))))) (λ w.
-    puts_back walk-types 3 5 κs.1.1.1.0 qs.1.1.1.0 r ! 3 (started.signature).params (started.ended).kept c y _ _ refl (λ ws. _) (λ ws. _)
+    puts_back walk_types 3 5 κs.1.1.1.0 qs.1.1.1.0 r ! 3 (started.signature).params (started.ended).kept c y _ _ refl (λ ws. _) (λ ws. _)
     (λ ws. refl) w 7 refl refl refl refl (λ v. refl) (λ v. refl) (λ v. refl) (λ v ws.
     ends ! tt _ $ by ! (leave _ v.answer (with ws v.run)))))

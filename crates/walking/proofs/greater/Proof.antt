@@ -6,8 +6,8 @@ use Rattle.walking.proofs.greater.Tie as tie
 returns : tie.Need-returns
 returns c = omega (arith, c.if1.true)
 
-returns-2 : tie.Need-returns-2
-returns-2 c = omega (arith, c.if1.false)
+returns_2 : tie.Need-returns-2
+returns_2 c = omega (arith, c.if1.false)
 
-pub greater-spec : {M : Type 1} → statement M
-greater-spec = tie.close (tie.spec returns returns-2)
+pub greater_spec : {M : Type 1} → statement M
+greater_spec = tie.close (tie.spec returns returns_2)

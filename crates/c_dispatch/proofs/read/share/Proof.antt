@@ -15,8 +15,8 @@ returns c = cc (
   c.before.before.before.before.before.before.before.word.ensures,
 )
 
-pub share-spec : {M : Type 1} → statement M
-share-spec =
+pub share_spec : {M : Type 1} → statement M
+share_spec =
     tie.close
     (tie.spec (λ c. search rules) (λ c κs. search rules) (λ c. search rules) (λ c κs. search rules) (λ c. search rules) (λ c κs. search rules)
     (λ c. search rules) (λ c κs. search rules) (λ c. search rules) (λ c κs. search rules) (λ c. search rules) (λ c κs. search rules) (λ c κs. search rules)

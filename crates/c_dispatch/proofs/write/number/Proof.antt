@@ -2,15 +2,15 @@
 use mathlib.Core.Path.{◌∙◌, sym, ap}
 use borrow.Author.Rules.{rules}
 use Rattle.calls.specs.Paper.{answer_of}
-use Rattle.c_dispatch.specs.Words.{answerNumber}
+use Rattle.c_dispatch.specs.Words.{answer_number}
 use Rattle.c_dispatch.proofs.write.number.Statement.{statement}
 use Rattle.c_dispatch.proofs.write.number.Tie as tie
 
-returns-4 : tie.Need-returns-4
-returns-4 c = c.number-of.ensures ∙ sym (ap (λ a. answerNumber (answer_of a)) c.before.before.answer.given.1)
+returns_4 : tie.Need-returns-4
+returns_4 c = c.number_of.ensures ∙ sym (ap (λ a. answer_number (answer_of a)) c.before.before.answer.given.1)
 
-pub number-spec : {M : Type 1} → statement M
-number-spec =
+pub number_spec : {M : Type 1} → statement M
+number_spec =
     tie.close
     (tie.spec (λ c. search rules) (λ c. search rules) (λ c. search rules) (λ c. search rules) (λ c κs. search rules) (λ c. search rules) (λ c. search rules)
-    (λ c. search rules) returns-4)
+    (λ c. search rules) returns_4)

@@ -5,20 +5,20 @@ use borrow.Author.Rules.{rules}
 use Rattle.c_dispatch.proofs.write.others.Statement.{statement}
 use Rattle.c_dispatch.proofs.write.others.Tie as tie
 
-slice-write-words-2 : tie.Need-slice-write-words-2
-slice-write-words-2 c = rw length-set (omega (arith, c.before.before.requires))
+slice_write_words_2 : tie.Need-slice-write-words-2
+slice_write_words_2 c = rw length-set (omega (arith, c.before.before.requires))
 
-slice-write-words-3 : tie.Need-slice-write-words-3
-slice-write-words-3 c = rw (length-set, length-set) (omega (arith, c.before.before.requires))
+slice_write_words_3 : tie.Need-slice-write-words-3
+slice_write_words_3 c = rw (length-set, length-set) (omega (arith, c.before.before.requires))
 
-slice-write-words-4 : tie.Need-slice-write-words-4
-slice-write-words-4 c = rw (length-set, length-set, length-set) (omega (arith, c.before.before.requires))
+slice_write_words_4 : tie.Need-slice-write-words-4
+slice_write_words_4 c = rw (length-set, length-set, length-set) (omega (arith, c.before.before.requires))
 
 returns : tie.Need-returns
 returns c = rw c.run-number.ensures
 
-pub others-spec : {M : Type 1} → statement M
-others-spec =
+pub others_spec : {M : Type 1} → statement M
+others_spec =
     tie.close
     (tie.spec
     (λ c κs. search rules)
@@ -27,12 +27,12 @@ others-spec =
     (λ c. search rules)
     (λ c. search rules)
     (λ c. search rules)
-    slice-write-words-2
+    slice_write_words_2
     (λ c. search rules)
     (λ c. search rules)
-    slice-write-words-3
+    slice_write_words_3
     (λ c. search rules)
     (λ c. search rules)
-    slice-write-words-4
+    slice_write_words_4
     (λ c. search rules)
     returns)

@@ -2,15 +2,15 @@
 use mathlib.Core.Path.{◌∙◌, sym, ap}
 use borrow.Author.Rules.{rules}
 use Rattle.calls.specs.Paper.{answer_of}
-use Rattle.c_dispatch.specs.Words.{answerPlace}
+use Rattle.c_dispatch.specs.Words.{answer_place}
 use Rattle.c_dispatch.proofs.write.place.Statement.{statement}
 use Rattle.c_dispatch.proofs.write.place.Tie as tie
 
-returns-4 : tie.Need-returns-4
-returns-4 c = c.value_of_lem.ensures ∙ sym (ap (λ a. answerPlace (answer_of a)) c.before.before.answer.given.1)
+returns_4 : tie.Need-returns-4
+returns_4 c = c.value_of_lem.ensures ∙ sym (ap (λ a. answer_place (answer_of a)) c.before.before.answer.given.1)
 
-pub place-spec : {M : Type 1} → statement M
-place-spec =
+pub place_spec : {M : Type 1} → statement M
+place_spec =
     tie.close
     (tie.spec (λ c. search rules) (λ c. search rules) (λ c. search rules) (λ c. search rules) (λ c κs. search rules) (λ c. search rules) (λ c. search rules)
-    (λ c. search rules) returns-4)
+    (λ c. search rules) returns_4)

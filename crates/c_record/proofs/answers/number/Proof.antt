@@ -6,22 +6,22 @@ use Rattle.c_record.specs.Codes.{code}
 use Rattle.c_record.proofs.answers.number.Statement.{statement}
 use Rattle.c_record.proofs.answers.number.Tie as tie
 
-refusal-requires : tie.Need-refusal-requires
-refusal-requires c κs = rw c.before.answer.given.1 at c.before.before.before.requires
+refusal_requires : tie.Need-refusal-requires
+refusal_requires c κs = rw c.before.answer.given.1 at c.before.before.before.requires
 
-returns-4 : tie.Need-returns-4
-returns-4 c = c.refusal.ensures ∙ sym (ap (λ a. code (answer_of a)) c.before.before.answer.given.1)
+returns_4 : tie.Need-returns-4
+returns_4 c = c.refusal.ensures ∙ sym (ap (λ a. code (answer_of a)) c.before.before.answer.given.1)
 
-pub number-spec : {M : Type 1} → statement M
-number-spec =
+pub number_spec : {M : Type 1} → statement M
+number_spec =
     tie.close
     (tie.spec
     (λ c. search rules)
     (λ c. search rules)
     (λ c. search rules)
     (λ c. search rules)
-    refusal-requires
+    refusal_requires
     (λ c. search rules)
     (λ c. search rules)
     (λ c. search rules)
-    returns-4)
+    returns_4)

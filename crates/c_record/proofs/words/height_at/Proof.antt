@@ -1,13 +1,13 @@
 -- `words::height_at` meets its contract. Assumes nothing.
-use Rattle.c_record.specs.WordLaws.{height-low, height-none}
+use Rattle.c_record.specs.WordLaws.{height_low, height_none}
 use Rattle.c_record.proofs.words.height_at.Statement.{statement}
 use Rattle.c_record.proofs.words.height_at.Tie as tie
 
 returns : tie.Need-returns
-returns c = height-low _ _ c.if1.true
+returns c = height_low _ _ c.if1.true
 
-returns-2 : tie.Need-returns-2
-returns-2 c = height-none _ _ c.if1.false
+returns_2 : tie.Need-returns-2
+returns_2 c = height_none _ _ c.if1.false
 
-pub height-at-spec : {M : Type 1} → statement M
-height-at-spec = tie.close (tie.spec returns returns-2)
+pub height_at_spec : {M : Type 1} → statement M
+height_at_spec = tie.close (tie.spec returns returns_2)

@@ -6,14 +6,14 @@ use Rattle.c_record.proofs.words.kind_at.Tie as tie
 returns : tie.Need-returns
 returns c = rw (eq-eqb _ 0 c.if1.true)
 
-returns-2 : tie.Need-returns-2
-returns-2 c = rw (ne_eqb _ 0 c.before.if1.false, eq-eqb _ 1 c.if2.true)
+returns_2 : tie.Need-returns-2
+returns_2 c = rw (ne_eqb _ 0 c.before.if1.false, eq-eqb _ 1 c.if2.true)
 
-returns-3 : tie.Need-returns-3
-returns-3 c = rw (ne_eqb _ 0 c.before.before.if1.false, ne_eqb _ 1 c.before.if2.false, eq-eqb _ 2 c.if3.true)
+returns_3 : tie.Need-returns-3
+returns_3 c = rw (ne_eqb _ 0 c.before.before.if1.false, ne_eqb _ 1 c.before.if2.false, eq-eqb _ 2 c.if3.true)
 
-returns-4 : tie.Need-returns-4
-returns-4 c =
+returns_4 : tie.Need-returns-4
+returns_4 c =
     rw (
       ne_eqb _ 0 c.before.before.before.if1.false,
       ne_eqb _ 1 c.before.before.if2.false,
@@ -21,8 +21,8 @@ returns-4 c =
       eq-eqb _ 4 c.if4.true,
     )
 
-returns-5 : tie.Need-returns-5
-returns-5 c =
+returns_5 : tie.Need-returns-5
+returns_5 c =
     rw (
       ne_eqb _ 0 c.before.before.before.if1.false,
       ne_eqb _ 1 c.before.before.if2.false,
@@ -30,5 +30,5 @@ returns-5 c =
       ne_eqb _ 4 c.if4.false,
     )
 
-pub kind-at-spec : {M : Type 1} → statement M
-kind-at-spec = tie.close (tie.spec returns returns-2 returns-3 returns-4 returns-5)
+pub kind_at_spec : {M : Type 1} → statement M
+kind_at_spec = tie.close (tie.spec returns returns_2 returns_3 returns_4 returns_5)

@@ -1,6 +1,6 @@
 -- `words::read` meets its contract. Assumes nothing.
 use borrow.Author.Rules.{rules}
-use Rattle.c_record.specs.WordLaws.{record-fitting, record-misfit}
+use Rattle.c_record.specs.WordLaws.{record_fitting, record_misfit}
 use Rattle.c_record.proofs.words.read.Statement.{statement}
 use Rattle.c_record.proofs.words.read.Tie as tie
 
@@ -11,10 +11,10 @@ returns c =
       c.before.before.before.before.before.before.height-at.ensures,
       c.before.before.before.before.before.before.before.before.kind_at.ensures,
     )
-    (record-fitting _ c.before.before.before.before.before.before.before.before.before.before.if1.true)
+    (record_fitting _ c.before.before.before.before.before.before.before.before.before.before.if1.true)
 
-returns-2 : tie.Need-returns-2
-returns-2 c = rw c.new.ensures (record-misfit _ c.before.if1.false)
+returns_2 : tie.Need-returns-2
+returns_2 c = rw c.new.ensures (record_misfit _ c.before.if1.false)
 
 pub read_spec : {M : Type 1} → statement M
 read_spec =
@@ -32,4 +32,4 @@ read_spec =
     (λ c κs. search rules)
     returns
     (λ c κs. search rules)
-    returns-2)
+    returns_2)

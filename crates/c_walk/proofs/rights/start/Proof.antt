@@ -1,35 +1,35 @@
 -- `start` meets its contract: what the start by value answered and left is told on, or what the continuing call told. Assumes nothing.
 use borrow.Author.Rules.{rules}
-use Rattle.definitions.specs.System.{mostComponent}
-use Rattle.c_record.specs.CodeLaws.{answer-fits, start_fits}
-use Rattle.c_record.specs.WordLaws.{start-both-told, told-misfit}
-use Rattle.c_record.specs.Words.{toldBoth}
-use Rattle.c_walk.specs.Capped.{resumeSided, startSided}
+use Rattle.definitions.specs.System.{most_component}
+use Rattle.c_record.specs.CodeLaws.{answer_fits, start_fits}
+use Rattle.c_record.specs.WordLaws.{start_both_told, told_misfit}
+use Rattle.c_record.specs.Words.{told_both}
+use Rattle.c_walk.specs.Capped.{resume_sided, start_sided}
 use Rattle.c_walk.proofs.rights.start.Statement.{statement}
 use Rattle.c_walk.proofs.rights.start.Tie as tie
 
-tell-requires : tie.Need-tell-requires
-tell-requires c κs =
+tell_requires : tie.Need-tell-requires
+tell_requires c κs =
     let w = c.before.before.before.before.before.before.before in
-    answer-fits (w.started-capped.ensures mostComponent) (start_fits _ _)
+    answer_fits (w.started-capped.ensures most_component) (start_fits _ _)
 
 returns : tie.Need-returns
-unfolding startSided
+unfolding start_sided
 returns c =
     let t = c.before.before in
     let w = t.before.before.before.before.before.before.before.before in
     let r = w.before.before.before.before in
-    start-both-told _ (rw r.read.ensures at (w.started-capped.ensures mostComponent)) r.before.before.if1.true
+    start_both_told _ (rw r.read.ensures at (w.started-capped.ensures most_component)) r.before.before.if1.true
     t.tell.ensures.0 t.tell.ensures.1 _
 
-returns-2 : tie.Need-returns-2
-unfolding startSided resumeSided
-returns-2 c =
+returns_2 : tie.Need-returns-2
+unfolding start_sided resume_sided
+returns_2 c =
     let w = c.before.before.before.before.before.before.before.before in
-    told-misfit _ _ _ (toldBoth _) w.resume.ensures w.before.before.before.before.before.if1.false
+    told_misfit _ _ _ (told_both _) w.resume.ensures w.before.before.before.before.before.if1.false
 
 pub start_spec : {M : Type 1} → statement M
 start_spec =
     tie.close
-    (tie.spec (λ c κs. search rules) (λ c κs. search rules) tell-requires (λ c. search rules) (λ c. search rules) (λ c. search rules) (λ c. search rules)
-    returns (λ c κs. search rules) (λ c. search rules) (λ c. search rules) (λ c. search rules) (λ c. search rules) returns-2)
+    (tie.spec (λ c κs. search rules) (λ c κs. search rules) tell_requires (λ c. search rules) (λ c. search rules) (λ c. search rules) (λ c. search rules)
+    returns (λ c κs. search rules) (λ c. search rules) (λ c. search rules) (λ c. search rules) (λ c. search rules) returns_2)

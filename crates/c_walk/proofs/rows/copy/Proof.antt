@@ -9,17 +9,17 @@ use Rattle.linear.specs.Copies.{copied_next, copied_all}
 use Rattle.c_walk.proofs.rows.copy.Statement.{statement}
 use Rattle.c_walk.proofs.rows.copy.Tie as tie
 
-abbrev invariant-loop : tie.invariant-loop
-invariant-loop part out₀ i₀ out i = (i ≤ length part) × (length out ≡ length out₀) × (out ≡ take i part ++ drop i out₀)
+abbrev invariant_loop : tie.invariant_loop
+invariant_loop part out₀ i₀ out i = (i ≤ length part) × (length out ≡ length out₀) × (out ≡ take i part ++ drop i out₀)
 
-abbrev decreases-loop : tie.decreases-loop
-decreases-loop part out₀ i₀ out i = length part - i
+abbrev decreases_loop : tie.decreases_loop
+decreases_loop part out₀ i₀ out i = length part - i
 
-loop-holds : tie.Need-loop-init invariant-loop decreases-loop
-loop-holds c = (search rules, refl, refl)
+loop_holds : tie.Need-loop-init invariant_loop decreases_loop
+loop_holds c = (search rules, refl, refl)
 
-loop-again : tie.Need-loop-preserved invariant-loop decreases-loop
-loop-again c =
+loop_again : tie.Need-loop-preserved invariant_loop decreases_loop
+loop_again c =
     let l = c.before.before.loop in
     let a = c.before.before.before.args in (
       search rules,
@@ -27,22 +27,22 @@ loop-again c =
       rw l.invariant.2 (copied_next 0 a.part.now a.out.now l.i (search rules) (omega arith)),
     )
 
-returns : tie.Need-returns invariant-loop decreases-loop
+returns : tie.Need-returns invariant_loop decreases_loop
 returns c = let l = c.before.loop in l.invariant.2 ∙ copied_all 0 _ _ _ l.invariant.0 c.loop-test.false
 
 pub copy_spec : {M : Type 1} → statement M
 copy_spec =
     tie.close
     (tie.spec
-    invariant-loop
-    decreases-loop
-    loop-holds
+    invariant_loop
+    decreases_loop
+    loop_holds
     (λ c. search rules)
     (λ c. search rules)
     (λ c. search rules)
     (λ c. search rules)
     (λ c. search rules)
     (λ c. search rules)
-    loop-again
+    loop_again
     (λ c. search rules)
     returns)

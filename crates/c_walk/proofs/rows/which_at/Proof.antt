@@ -6,8 +6,8 @@ use Rattle.c_walk.proofs.rows.which_at.Tie as tie
 returns : tie.Need-returns
 returns c = rw (eq-eqb _ 0 c.if1.true)
 
-returns-2 : tie.Need-returns-2
-returns-2 c = rw (ne_eqb _ 0 c.if1.false)
+returns_2 : tie.Need-returns-2
+returns_2 c = rw (ne_eqb _ 0 c.if1.false)
 
-pub which-at-spec : {M : Type 1} → statement M
-which-at-spec = tie.close (tie.spec returns returns-2)
+pub which_at_spec : {M : Type 1} → statement M
+which_at_spec = tie.close (tie.spec returns returns_2)

@@ -5,38 +5,38 @@ use borrow.Author.Tests.{le-leb, lt-leb, not-false, not-true}
 use mathlib.Core.Path.{sym, ◌∙◌}
 use native.Mathlib.Nat.{mul-le-mul_right}
 use native.Mathlib.Omega.{arith}
-use Rattle.desk_spec.specs.Desks.{deskInOrder}
+use Rattle.desk_spec.specs.Desks.{desk_in_order}
 use Rattle.desk_checks.proofs.order.in_order.Statement.{statement}
 use Rattle.desk_checks.proofs.order.in_order.Tie as tie
 
 returns : tie.Need-returns
-unfolding deskInOrder
+unfolding desk_in_order
 returns c = rw (sym c.before.same-run.ensures ∙ not-true _ c.if1.true)
 
-returns-2 : tie.Need-returns-2
-unfolding deskInOrder
-returns-2 c =
+returns_2 : tie.Need-returns-2
+unfolding desk_in_order
+returns_2 c =
     let e1 = c.before in
     rw (sym e1.before.same-run.ensures ∙ not-false _ e1.if1.false, lt-leb _ _ c.if2.true)
 
-returns-3 : tie.Need-returns-3
-unfolding deskInOrder
-returns-3 c =
+returns_3 : tie.Need-returns-3
+unfolding desk_in_order
+returns_3 c =
     let e2 = c.before in
     let e1 = e2.before in
     rw (sym e1.before.same-run.ensures ∙ not-false _ e1.if1.false, le-leb _ _ e2.if2.false, lt-leb _ _ c.if3.true)
 
-returns-4 : tie.Need-returns-4
-unfolding deskInOrder
-returns-4 c =
+returns_4 : tie.Need-returns-4
+unfolding desk_in_order
+returns_4 c =
     let e3 = c.before in
     let e2 = e3.before in
     let e1 = e2.before in
     rw (sym e1.before.same-run.ensures ∙ not-false _ e1.if1.false, le-leb _ _ e2.if2.false, le-leb _ _ e3.if3.false, lt-leb _ _ c.if4.true)
 
-returns-5 : tie.Need-returns-5
-unfolding deskInOrder
-returns-5 c =
+returns_5 : tie.Need-returns-5
+unfolding desk_in_order
+returns_5 c =
     let e4 = c.before in
     let e3 = e4.before in
     let e2 = e3.before in
@@ -50,15 +50,15 @@ returns-5 c =
       lt-leb _ _ c.if5.true,
     )
 
-rows-in-order-requires : tie.Need-rows-in-order-requires
-rows-in-order-requires c κs =
+rows_in_order_requires : tie.Need-rows-in-order-requires
+rows_in_order_requires c κs =
     let e = c.before.before.before in
     let s = e.before.before.before.before.before.before in
     (s.requires.some, s.requires.unknowns, omega (arith, s.requires.rows, mul-le-mul_right (s.args.q + 2) e.if2.false))
 
-returns-6 : tie.Need-returns-6
-unfolding deskInOrder
-returns-6 c =
+returns_6 : tie.Need-returns-6
+unfolding desk_in_order
+returns_6 c =
     let e5 = c.before in
     let e4 = e5.before in
     let e3 = e4.before in
@@ -74,6 +74,6 @@ returns-6 c =
     )
     c.rows-in-order.ensures
 
-pub in-order-spec : {M : Type 1} → statement M
-in-order-spec = tie.close (tie.spec (λ c κs. search rules) returns (λ c. search rules) returns-2 (λ c. search rules) returns-3 returns-4 returns-5
-    rows-in-order-requires returns-6)
+pub in_order_spec : {M : Type 1} → statement M
+in_order_spec = tie.close (tie.spec (λ c κs. search rules) returns (λ c. search rules) returns_2 (λ c. search rules) returns_3 returns_4 returns_5
+    rows_in_order_requires returns_6)

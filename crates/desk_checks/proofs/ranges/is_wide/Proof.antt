@@ -8,51 +8,51 @@ use mathlib.Core.Bool.{false}
 use mathlib.Core.Path.{◌≡◌, refl, sym, ◌∙◌}
 use native.Mathlib.Nat.{le_antisymm}
 use Rattle.definitions.specs.System.{image_of}
-use Rattle.desk_spec.specs.Desks.{deskOf, generator, imageLimit, mostGenerators, secondGroup, wide}
-use Rattle.linear.specs.LoopLaws.{any-holds, any_next}
-use Rattle.linear.specs.Tests.{anyTo}
+use Rattle.desk_spec.specs.Desks.{desk_of, generator, image_limit, most_generators, second_group, wide}
+use Rattle.linear.specs.LoopLaws.{any_holds, any_next}
+use Rattle.linear.specs.Tests.{any_to}
 use Rattle.desk_checks.proofs.ranges.is_wide.Statement.{statement}
 use Rattle.desk_checks.proofs.ranges.is_wide.Tie as tie
 
-abbrev invariant-loop : tie.invariant-loop
-invariant-loop p q coefs generators n k₀ k =
+abbrev invariant_loop : tie.invariant_loop
+invariant_loop p q coefs generators n k₀ k =
     (k ≤ n) ×
-    (anyTo k
-    (λ g. anyTo p (λ e. ltb imageLimit (nat_abs (image_of (secondGroup (deskOf p q coefs generators)) (generator (deskOf p q coefs generators) g) e))))
+    (any_to k
+    (λ g. any_to p (λ e. ltb image_limit (nat_abs (image_of (second_group (desk_of p q coefs generators)) (generator (desk_of p q coefs generators) g) e))))
     ≡ false)
 
-abbrev decreases-loop : tie.decreases-loop
-decreases-loop p q coefs generators n k₀ k = n - k
+abbrev decreases_loop : tie.decreases_loop
+decreases_loop p q coefs generators n k₀ k = n - k
 
-returns : tie.Need-returns invariant-loop decreases-loop
+returns : tie.Need-returns invariant_loop decreases_loop
 unfolding wide
-returns c = rw (lt-ltb mostGenerators _ c.if1.true)
+returns c = rw (lt-ltb most_generators _ c.if1.true)
 
-loop-holds : tie.Need-loop-init invariant-loop decreases-loop
-unfolding anyTo
-loop-holds c = (search rules, refl)
+loop_holds : tie.Need-loop-init invariant_loop decreases_loop
+unfolding any_to
+loop_holds c = (search rules, refl)
 
-wide-image-requires : tie.Need-wide-image-requires invariant-loop decreases-loop
-wide-image-requires c κs = let s = c.before.before.before.before in (s.requires, c.loop-test.true)
+wide_image_requires : tie.Need-wide-image-requires invariant_loop decreases_loop
+wide_image_requires c κs = let s = c.before.before.before.before in (s.requires, c.loop-test.true)
 
-returns-2 : tie.Need-returns-2 invariant-loop decreases-loop
+returns_2 : tie.Need-returns-2 invariant_loop decreases_loop
 unfolding wide
-returns-2 c =
+returns_2 c =
     let l = c.before.before in
-    rw (le-ltb mostGenerators _ l.before.before.if1.false)
-    (sym (any-holds _ _ _ l.loop-test.true (sym c.before.wide-image.ensures ∙ c.if2.true)))
+    rw (le-ltb most_generators _ l.before.before.if1.false)
+    (sym (any_holds _ _ _ l.loop-test.true (sym c.before.wide-image.ensures ∙ c.if2.true)))
 
-loop-again : tie.Need-loop-preserved invariant-loop decreases-loop
-loop-again c =
+loop_again : tie.Need-loop-preserved invariant_loop decreases_loop
+loop_again c =
     let l = c.before.before in
     (search rules, any_next _ _ l.before.loop.invariant.1 (sym c.before.wide-image.ensures ∙ c.if2.false))
 
-returns-3 : tie.Need-returns-3 invariant-loop decreases-loop
+returns_3 : tie.Need-returns-3 invariant_loop decreases_loop
 unfolding wide
-returns-3 c =
+returns_3 c =
     let a = c.before in
-    rw (le-ltb mostGenerators _ a.before.if1.false) (sym (rw (le_antisymm a.loop.invariant.0 c.loop-test.false) at a.loop.invariant.1))
+    rw (le-ltb most_generators _ a.before.if1.false) (sym (rw (le_antisymm a.loop.invariant.0 c.loop-test.false) at a.loop.invariant.1))
 
-pub is-wide-spec : {M : Type 1} → statement M
-is-wide-spec = tie.close (tie.spec invariant-loop decreases-loop (λ c. search rules) returns loop-holds wide-image-requires returns-2 (λ c. search rules) (λ c. search rules)
-    loop-again returns-3)
+pub is_wide_spec : {M : Type 1} → statement M
+is_wide_spec = tie.close (tie.spec invariant_loop decreases_loop (λ c. search rules) returns loop_holds wide_image_requires returns_2 (λ c. search rules) (λ c. search rules)
+    loop_again returns_3)

@@ -7,5 +7,5 @@ use Rattle.dezgula.proofs.equations.dezgula_raw_write_equation.Tie as tie
 returns : tie.Need-returns
 returns c = let w = c.before.before in rw (to_z-of_z w.before.before.before.ranges.right) at w.write-equation.ensures
 
-pub dezgula-raw-write-equation-spec : {M : Type 1} → statement M
-dezgula-raw-write-equation-spec = tie.close (tie.spec (λ c κs. search rules) (λ c. search rules) returns)
+pub dezgula_raw_write_equation_spec : {M : Type 1} → statement M
+dezgula_raw_write_equation_spec = tie.close (tie.spec (λ c κs. search rules) (λ c. search rules) returns)

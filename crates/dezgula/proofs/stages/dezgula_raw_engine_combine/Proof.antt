@@ -10,5 +10,5 @@ returns c =
     let s = k.before.before.before.before.before.before.before.before.before.before.before in
     rw (to_z-of_z s.ranges.u, to_z-of_z s.ranges.t) at k.combine.ensures
 
-pub dezgula-raw-engine-combine-spec : {M : Type 1} → statement M
-dezgula-raw-engine-combine-spec = tie.close (tie.spec (λ c κs. search rules) (λ c. search rules) (λ c. search rules) returns)
+pub dezgula_raw_engine_combine_spec : {M : Type 1} → statement M
+dezgula_raw_engine_combine_spec = tie.close (tie.spec (λ c κs. search rules) (λ c. search rules) (λ c. search rules) returns)

@@ -1,13 +1,13 @@
 -- `dispatch::check::fits` meets its contract. Assumes nothing.
-use Rattle.dispatch.specs.Clear.{fits_not, fits-rest}
+use Rattle.dispatch.specs.Clear.{fits_not, fits_rest}
 use Rattle.dispatch.proofs.check.fits.Statement.{statement}
 use Rattle.dispatch.proofs.check.fits.Tie as tie
 
 returns : tie.Need-returns
 returns c = fits_not _ _ c.if1.true
 
-returns-2 : tie.Need-returns-2
-returns-2 c = fits-rest _ _ c.before.before.if1.false
+returns_2 : tie.Need-returns-2
+returns_2 c = fits_rest _ _ c.before.before.if1.false
 
-pub fits-spec : {M : Type 1} → statement M
-fits-spec = tie.close (tie.spec returns returns-2)
+pub fits_spec : {M : Type 1} → statement M
+fits_spec = tie.close (tie.spec returns returns_2)

@@ -3,39 +3,39 @@ use Prim.Native.Nat.{◌-◌}
 use mathlib.Core.Path.{refl}
 use lib.ListN.{get_or}
 use borrow.Author.Rules.{rules}
-use Rattle.dispatch.specs.Form.{noRecord, noOutcome, keptOf}
-use Rattle.dispatch.specs.Filling.{Filled, filling-begins, filling-more, filled-all}
+use Rattle.dispatch.specs.Form.{no_record, no_outcome, kept_of}
+use Rattle.dispatch.specs.Filling.{Filled, filling_begins, filling_more, filled_all}
 use Rattle.dispatch.proofs.results.kept.Statement.{statement}
 use Rattle.dispatch.proofs.results.kept.Tie as tie
 
-abbrev invariant-loop : tie.invariant-loop
-invariant-loop records all₀ i₀ all i = Filled 8 (λ j. keptOf (get_or records j noRecord)) noOutcome all i
+abbrev invariant_loop : tie.invariant_loop
+invariant_loop records all₀ i₀ all i = Filled 8 (λ j. kept_of (get_or records j no_record)) no_outcome all i
 
-abbrev decreases-loop : tie.decreases-loop
-decreases-loop records all₀ i₀ all i = 8 - i
+abbrev decreases_loop : tie.decreases_loop
+decreases_loop records all₀ i₀ all i = 8 - i
 
-loop-holds : tie.Need-loop-init invariant-loop decreases-loop
-loop-holds c = filling-begins _ _ _ _ (search rules)
+loop_holds : tie.Need-loop-init invariant_loop decreases_loop
+loop_holds c = filling_begins _ _ _ _ (search rules)
 
-loop-again : tie.Need-loop-preserved invariant-loop decreases-loop
-loop-again c = filling-more c.before.before.loop.invariant c.before.loop-test.true _ refl
+loop_again : tie.Need-loop-preserved invariant_loop decreases_loop
+loop_again c = filling_more c.before.before.loop.invariant c.before.loop-test.true _ refl
 
-returns : tie.Need-returns invariant-loop decreases-loop
-returns c = filled-all c.before.loop.invariant c.loop-test.false
+returns : tie.Need-returns invariant_loop decreases_loop
+returns c = filled_all c.before.loop.invariant c.loop-test.false
 
-pub kept-spec : {M : Type 1} → statement M
-kept-spec =
+pub kept_spec : {M : Type 1} → statement M
+kept_spec =
     tie.close
     (tie.spec
-    invariant-loop
-    decreases-loop
+    invariant_loop
+    decreases_loop
     (λ c. search rules)
-    loop-holds
-    (λ c. search rules)
-    (λ c. search rules)
+    loop_holds
     (λ c. search rules)
     (λ c. search rules)
     (λ c. search rules)
     (λ c. search rules)
-    loop-again
+    (λ c. search rules)
+    (λ c. search rules)
+    loop_again
     returns)

@@ -7,8 +7,8 @@ use Rattle.dispatch.proofs.round.further.Tie as tie
 returns : tie.Need-returns
 returns c = (rw (lt-ltb _ _ c.if1.true), search rules)
 
-returns-2 : tie.Need-returns-2
-returns-2 c = (rw (le-ltb _ _ c.if1.false), search rules)
+returns_2 : tie.Need-returns-2
+returns_2 c = (rw (le-ltb _ _ c.if1.false), search rules)
 
-pub further-spec : {M : Type 1} → statement M
-further-spec = tie.close (tie.spec (λ c. search rules) (λ c. search rules) (λ c. search rules) (λ c. search rules) returns returns-2)
+pub further_spec : {M : Type 1} → statement M
+further_spec = tie.close (tie.spec (λ c. search rules) (λ c. search rules) (λ c. search rules) (λ c. search rules) returns returns_2)

@@ -2,41 +2,41 @@
 use mathlib.Core.Path.{sym, ◌∙◌}
 use Prim.Native.Nat.{◌-◌}
 use borrow.Author.Rules.{rules}
-use Rattle.dispatch.specs.Form.{staysFor}
-use Rattle.dispatch.specs.Asking.{Asking, asking-begins, asking-found, asking-more, asking-ends}
+use Rattle.dispatch.specs.Form.{stays_for}
+use Rattle.dispatch.specs.Asking.{Asking, asking_begins, asking_found, asking_more, asking_ends}
 use Rattle.dispatch.proofs.round.next_after.Statement.{statement}
 use Rattle.dispatch.proofs.round.next_after.Tie as tie
 
-abbrev invariant-loop : tie.invariant-loop
-invariant-loop count last progress start k₀ k = Asking count last (staysFor progress) start k
+abbrev invariant_loop : tie.invariant_loop
+invariant_loop count last progress start k₀ k = Asking count last (stays_for progress) start k
 
-abbrev decreases-loop : tie.decreases-loop
-decreases-loop count last progress start k₀ k = count - k
+abbrev decreases_loop : tie.decreases_loop
+decreases_loop count last progress start k₀ k = count - k
 
-loop-holds : tie.Need-loop-init invariant-loop decreases-loop
-loop-holds c = asking-begins _ _ _ (search rules) (search rules) (search rules)
+loop_holds : tie.Need-loop-init invariant_loop decreases_loop
+loop_holds c = asking_begins _ _ _ (search rules) (search rules) (search rules)
 
-returns : tie.Need-returns invariant-loop decreases-loop
+returns : tie.Need-returns invariant_loop decreases_loop
 returns c =
     let k = c.before.before.before in
-    asking-found k.before.before.loop.invariant k.before.loop-test.true k.further.ensures.0 (sym c.before.stays.ensures ∙ c.if1.true)
+    asking_found k.before.before.loop.invariant k.before.loop-test.true k.further.ensures.0 (sym c.before.stays.ensures ∙ c.if1.true)
 
-loop-again : tie.Need-loop-preserved invariant-loop decreases-loop
-loop-again c =
+loop_again : tie.Need-loop-preserved invariant_loop decreases_loop
+loop_again c =
     let k = c.before.before.before in
-    asking-more k.before.before.loop.invariant k.before.loop-test.true k.further.ensures.0 (sym c.before.stays.ensures ∙ c.if1.false)
+    asking_more k.before.before.loop.invariant k.before.loop-test.true k.further.ensures.0 (sym c.before.stays.ensures ∙ c.if1.false)
 
-returns-2 : tie.Need-returns-2 invariant-loop decreases-loop
-returns-2 c = asking-ends c.before.loop.invariant c.loop-test.false
+returns_2 : tie.Need-returns-2 invariant_loop decreases_loop
+returns_2 c = asking_ends c.before.loop.invariant c.loop-test.false
 
-pub next-after-spec : {M : Type 1} → statement M
-next-after-spec =
+pub next_after_spec : {M : Type 1} → statement M
+next_after_spec =
     tie.close
     (tie.spec
-    invariant-loop
-    decreases-loop
+    invariant_loop
+    decreases_loop
     (λ c κs. search rules)
-    loop-holds
+    loop_holds
     (λ c κs. search rules)
     (λ c. search rules)
     (λ c. search rules)
@@ -44,5 +44,5 @@ next-after-spec =
     returns
     (λ c. search rules)
     (λ c. search rules)
-    loop-again
-    returns-2)
+    loop_again
+    returns_2)

@@ -6,8 +6,8 @@ use Rattle.dispatch.proofs.round.stays.Tie as tie
 returns : tie.Need-returns
 returns c = rw c.enum_told.given.1
 
-pub stays-spec : {M : Type 1} → statement M
-stays-spec =
+pub stays_spec : {M : Type 1} → statement M
+stays_spec =
     tie.close
     (tie.spec
     (λ c. search rules)

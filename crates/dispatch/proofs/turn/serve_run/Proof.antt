@@ -1,5 +1,5 @@
 -- `dispatch::turn::serve_run` meets its contract. Assumes nothing.
-use Rattle.dispatch.specs.Cut.{cut-same}
+use Rattle.dispatch.specs.Cut.{cut_same}
 use borrow.Author.Rules.{rules}
 use Rattle.dispatch.proofs.turn.serve_run.Statement.{statement}
 use Rattle.dispatch.proofs.turn.serve_run.Tie as tie
@@ -8,10 +8,10 @@ returns : tie.Need-returns
 returns c =
     let k = c.before.before.before.before in
     let i = k.before.before.before.before.before in
-    rw (cut-same _ i.inside.ensures) at k.serve.ensures
+    rw (cut_same _ i.inside.ensures) at k.serve.ensures
 
-pub serve-run-spec : {M : Type 1} → statement M
-serve-run-spec =
+pub serve_run_spec : {M : Type 1} → statement M
+serve_run_spec =
     tie.close
     (tie.spec
     (λ c κs. search rules)

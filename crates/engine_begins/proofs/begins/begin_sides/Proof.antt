@@ -7,10 +7,10 @@ use Rattle.engine_begins.proofs.begins.begin_sides.Tie as tie
 returns : tie.Need-returns
 returns c =
     let b = c.before.before.before in
-    record { outcome-is = c.begun.ensures; equations-is = b.before.before.before.write-system.ensures; basis-is = b.write-units.ensures }
+    record { outcome_is = c.begun.ensures; equations_is = b.before.before.before.write-system.ensures; basis_is = b.write-units.ensures }
 
-pub begin-sides-spec : {M : Type 1} → statement M
-begin-sides-spec =
+pub begin_sides_spec : {M : Type 1} → statement M
+begin_sides_spec =
     tie.close
     (tie.spec
     (λ c κs. c.before.before.before.requires.0)

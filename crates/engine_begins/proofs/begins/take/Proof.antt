@@ -11,10 +11,10 @@ returns c = record {
   none = λ l. absurd (omega (arith, c.before.before.before.before.before.if1.true));
 }
 
-returns-2 : tie.Need-returns-2
-returns-2 c = record { fresh = λ l. absurd (omega (arith, c.before.if1.false)); none = λ l. (refl, c.taken2.ensures) }
+returns_2 : tie.Need-returns-2
+returns_2 c = record { fresh = λ l. absurd (omega (arith, c.before.if1.false)); none = λ l. (refl, c.taken2.ensures) }
 
 pub take_spec : {M : Type 1} → statement M
 take_spec =
     tie.close
-    (tie.spec (λ c κs. search rules) (λ c κs. search rules) (λ c. search rules) returns (λ c κs. search rules) returns-2)
+    (tie.spec (λ c κs. search rules) (λ c κs. search rules) (λ c. search rules) returns (λ c κs. search rules) returns_2)

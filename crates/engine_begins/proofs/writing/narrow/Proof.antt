@@ -3,15 +3,15 @@ use native.Mathlib.Omega.{arith}
 use mir.Facts.{to_z-of_z}
 use mir.Syntax.{w32}
 use mir.Val.{SFits}
-use Rattle.linear.specs.Integers.{sfits-natAbs}
+use Rattle.linear.specs.Integers.{sfits_nat_abs}
 use Rattle.engine_begins.proofs.writing.narrow.Statement.{statement}
 use Rattle.engine_begins.proofs.writing.narrow.Tie as tie
 
-cast-result : tie.Need-overflow-cast-result
-cast-result c = rw (to_z-of_z c.ranges.v) (sfits-natAbs (omega (arith, c.requires)))
+cast_result : tie.Need-overflow-cast-result
+cast_result c = rw (to_z-of_z c.ranges.v) (sfits_nat_abs (omega (arith, c.requires)))
 
 returns : tie.Need-returns
-returns c = let small : SFits w32 c.args.v = sfits-natAbs (omega (arith, c.requires)) in rw (to_z-of_z c.ranges.v) (to_z-of_z small)
+returns c = let small : SFits w32 c.args.v = sfits_nat_abs (omega (arith, c.requires)) in rw (to_z-of_z c.ranges.v) (to_z-of_z small)
 
-pub narrow-spec : {M : Type 1} → statement M
-narrow-spec = tie.close (tie.spec cast-result returns)
+pub narrow_spec : {M : Type 1} → statement M
+narrow_spec = tie.close (tie.spec cast_result returns)

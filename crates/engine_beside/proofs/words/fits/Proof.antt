@@ -6,12 +6,12 @@ use Rattle.engine_spec.specs.Words.{digits, fits as fitsWord, guards}
 use Rattle.engine_beside.proofs.words.fits.Statement.{statement}
 use Rattle.engine_beside.proofs.words.fits.Tie as tie
 
-sub-result : tie.Need-overflow-sub-result
-sub-result c = omega (arith, or_add_and c.args.b 9838263505978427528, and_le_l c.args.b 9838263505978427528)
+sub_result : tie.Need-overflow-sub-result
+sub_result c = omega (arith, or_add_and c.args.b 9838263505978427528, and_le_l c.args.b 9838263505978427528)
 
 returns : tie.Need-returns
 unfolding fitsWord guards digits
 returns c = refl
 
-pub fits-spec : {M : Type 1} → statement M
-fits-spec = tie.close (tie.spec sub-result returns)
+pub fits_spec : {M : Type 1} → statement M
+fits_spec = tie.close (tie.spec sub_result returns)

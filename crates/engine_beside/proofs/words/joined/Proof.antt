@@ -8,5 +8,5 @@ returns : tie.Need-returns
 unfolding joinedWord others guards digits
 returns c = search rules
 
-pub joined-spec : {M : Type 1} → statement M
-joined-spec = tie.close (tie.spec (λ c. search rules) (λ c. search rules) returns)
+pub joined_spec : {M : Type 1} → statement M
+joined_spec = tie.close (tie.spec (λ c. search rules) (λ c. search rules) returns)

@@ -5,11 +5,11 @@ use mir.Val.{SFits}
 use Rattle.engine_checks.proofs.operations.wide.Statement.{statement}
 use Rattle.engine_checks.proofs.operations.wide.Tie as tie
 
-cast-result : tie.Need-overflow-cast-result
-cast-result c = rw (to_z-of_z c.ranges.x) (sfits_widen tt c.ranges.x)
+cast_result : tie.Need-overflow-cast-result
+cast_result c = rw (to_z-of_z c.ranges.x) (sfits_widen tt c.ranges.x)
 
 returns : tie.Need-returns
 returns c = let wide : SFits w64 c.args.x = sfits_widen tt c.ranges.x in rw (to_z-of_z c.ranges.x) (to_z-of_z wide)
 
 pub wide_spec : {M : Type 1} → statement M
-wide_spec = tie.close (tie.spec cast-result returns)
+wide_spec = tie.close (tie.spec cast_result returns)

@@ -6,8 +6,8 @@ use Rattle.engine_checks.proofs.room.stage_room.Tie as tie
 returns : tie.Need-returns
 returns c = cc
 
-pub stage-room-spec : {M : Type 1} → statement M
-stage-room-spec =
+pub stage_room_spec : {M : Type 1} → statement M
+stage_room_spec =
     tie.close
     (tie.spec
     (λ c κs. search rules)

@@ -8,14 +8,14 @@ use Rattle.engine_checks.proofs.sides.less.Tie as tie
 wide : (c : tie.Start) → SFits w64 c.args.x
 wide c = sfits_widen tt c.ranges.x
 
-cast-result : tie.Need-overflow-cast-result
-cast-result c = rw (to_z-of_z c.ranges.x) (wide c)
+cast_result : tie.Need-overflow-cast-result
+cast_result c = rw (to_z-of_z c.ranges.x) (wide c)
 
-sub-result : tie.Need-overflow-sub-result
-sub-result c = rw (to_z-of_z c.ranges.x, to_z-of_z (wide c), to_z-of_z c.ranges.y) c.requires
+sub_result : tie.Need-overflow-sub-result
+sub_result c = rw (to_z-of_z c.ranges.x, to_z-of_z (wide c), to_z-of_z c.ranges.y) c.requires
 
 returns : tie.Need-returns
 returns c = rw (to_z-of_z c.ranges.x, to_z-of_z (wide c), to_z-of_z c.ranges.y) (to_z-of_z c.requires)
 
-pub less-spec : {M : Type 1} → statement M
-less-spec = tie.close (tie.spec cast-result sub-result returns)
+pub less_spec : {M : Type 1} → statement M
+less_spec = tie.close (tie.spec cast_result sub_result returns)

@@ -4,24 +4,24 @@ use mir.Facts.{to_z-of_z}
 use mir.Syntax.{w64}
 use mir.Val.{SFits}
 use Rattle.linear.specs.Systems.{value}
-use Rattle.engine_spec.specs.Beside.{equationAt, row_at}
-use Rattle.engine_beside.specs.Small.{value_read, value-small}
-use Rattle.engine_checks.specs.Sides.{less-fits}
+use Rattle.engine_spec.specs.Beside.{equation_at, row_at}
+use Rattle.engine_beside.specs.Small.{value_read, value_small}
+use Rattle.engine_checks.specs.Sides.{less_fits}
 use Rattle.engine_checks.proofs.sides.side_at.Statement.{statement}
 use Rattle.engine_checks.proofs.sides.side_at.Tie as tie
 
-value-at-requires : tie.Need-value-at-requires
-value-at-requires c κs = c.before.requires
+value_at_requires : tie.Need-value-at-requires
+value_at_requires c κs = c.before.requires
 
 module _ (s : tie.Start) where
   abbrev made_of : ℤ
-  made_of = value (equationAt s.args.coefs.now s.args.from) s.args.q (row_at s.args.lower.now 0)
+  made_of = value (equation_at s.args.coefs.now s.args.from) s.args.q (row_at s.args.lower.now 0)
 
   fits : SFits w64 (s.args.right +ℤ neg_ℤ made_of)
-  fits = less-fits s.args.right made_of s.fits.right (value-small (row_at s.args.lower.now 0) s.pre.0 s.pre.1.small)
+  fits = less_fits s.args.right made_of s.fits.right (value_small (row_at s.args.lower.now 0) s.pre.0 s.pre.1.small)
 
-less-requires : tie.Need-less-requires
-less-requires c κs =
+less_requires : tie.Need-less-requires
+less_requires c κs =
     let s = c.before.before in
     rw (to_z-of_z s.ranges.right, value_read s.requires.0 s.requires.1 c.value-at.ensures) (fits s)
 
@@ -31,5 +31,5 @@ returns c =
     let e = rw (to_z-of_z s.ranges.right, value_read s.requires.0 s.requires.1 c.before.value-at.ensures) at c.less.ensures in
     rw e (to_z-of_z (fits s))
 
-pub side-at-spec : {M : Type 1} → statement M
-side-at-spec = tie.close (tie.spec value-at-requires less-requires returns)
+pub side_at_spec : {M : Type 1} → statement M
+side_at_spec = tie.close (tie.spec value_at_requires less_requires returns)

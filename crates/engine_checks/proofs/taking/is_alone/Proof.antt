@@ -2,18 +2,18 @@
 use mathlib.Core.Path.{sym, ◌∙◌}
 use borrow.Author.Tests.{not-false, not-true}
 use borrow.Author.Rules.{rules}
-use Rattle.engine_checks.specs.Taking.{alone-parts}
+use Rattle.engine_checks.specs.Taking.{alone_parts}
 use Rattle.engine_checks.proofs.taking.is_alone.Statement.{statement}
 use Rattle.engine_checks.proofs.taking.is_alone.Tie as tie
 
-has-requires : tie.Need-has-requires
-has-requires c κs = let s = c.before in (s.requires.0.whole, s.requires.1)
+has_requires : tie.Need-has-requires
+has_requires c κs = let s = c.before in (s.requires.0.whole, s.requires.1)
 
 returns : tie.Need-returns
-returns c = rw (alone-parts, sym c.before.has.ensures ∙ not-true _ c.if1.true)
+returns c = rw (alone_parts, sym c.before.has.ensures ∙ not-true _ c.if1.true)
 
-returns-2 : tie.Need-returns-2
-returns-2 c = rw (alone-parts, sym c.before.before.has.ensures ∙ not-false _ c.before.if1.false) c.units-or-lack.ensures
+returns_2 : tie.Need-returns-2
+returns_2 c = rw (alone_parts, sym c.before.before.has.ensures ∙ not-false _ c.before.if1.false) c.units-or-lack.ensures
 
-pub is-alone-spec : {M : Type 1} → statement M
-is-alone-spec = tie.close (tie.spec has-requires returns (λ c κs. search rules) returns-2)
+pub is_alone_spec : {M : Type 1} → statement M
+is_alone_spec = tie.close (tie.spec has_requires returns (λ c κs. search rules) returns_2)

@@ -7,8 +7,8 @@ use Rattle.engine_reduce.proofs.memory.may_drop.Reads as reads
 use Rattle.engine_reduce.proofs.memory.may_drop.Lts as lts
 use Rattle.engine_beside.proofs.words.fits.Reads as fits-reads
 
-fits-requires : tie.Need-fits-requires
-fits-requires c κs = omega (arith, and_le_r c.args.held 8608480567731124087)
+fits_requires : tie.Need-fits-requires
+fits_requires c κs = omega (arith, and_le_r c.args.held 8608480567731124087)
 
-pub may-drop-spec : {M : Type 1} → statement M
-may-drop-spec = tie.close (tie.spec fits-requires (λ c. search rules))
+pub may_drop_spec : {M : Type 1} → statement M
+may_drop_spec = tie.close (tie.spec fits_requires (λ c. search rules))

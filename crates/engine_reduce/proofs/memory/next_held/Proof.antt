@@ -4,13 +4,13 @@ use borrow.Author.Rules.{rules}
 use Rattle.engine_reduce.proofs.memory.next_held.Statement.{statement}
 use Rattle.engine_reduce.proofs.memory.next_held.Tie as tie
 
-abbrev invariant-loop : tie.invariant-loop
-invariant-loop held from past word k₀ k = (from ≤ k) × (k ≤ past)
+abbrev invariant_loop : tie.invariant_loop
+invariant_loop held from past word k₀ k = (from ≤ k) × (k ≤ past)
 
-abbrev decreases-loop : tie.decreases-loop
-decreases-loop held from past word k₀ k = past - k
+abbrev decreases_loop : tie.decreases_loop
+decreases_loop held from past word k₀ k = past - k
 
-pub next-held-spec : {M : Type 1} → statement M
-next-held-spec =
-    tie.close (tie.spec invariant-loop decreases-loop (λ c. search rules) (λ c. search rules) (λ c. search rules) (λ c κs. search rules) (λ c. search rules)
+pub next_held_spec : {M : Type 1} → statement M
+next_held_spec =
+    tie.close (tie.spec invariant_loop decreases_loop (λ c. search rules) (λ c. search rules) (λ c. search rules) (λ c κs. search rules) (λ c. search rules)
     (λ c. search rules) (λ c. search rules) (λ c. search rules) (λ c. search rules))

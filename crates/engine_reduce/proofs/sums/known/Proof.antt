@@ -13,5 +13,5 @@ returns c =
     let s = c.before.before.before.before in
     record { named = λ e. rw (to_z-of_z s.ranges.sum) at (c.reduces.ensures.named e) }
 
-pub known-spec : {M : Type 1} → statement M
-known-spec = tie.close (tie.spec (λ c κs. search rules) (λ c κs. search rules) (λ c κs. search rules) returns)
+pub known_spec : {M : Type 1} → statement M
+known_spec = tie.close (tie.spec (λ c κs. search rules) (λ c κs. search rules) (λ c κs. search rules) returns)

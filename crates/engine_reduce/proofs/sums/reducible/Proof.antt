@@ -18,37 +18,37 @@ returns c =
     let s = d.before.before.before.before.before.before in
     sym (rw (to_z-of_z s.ranges.sum) at (d.dropped.ensures.named c.if1.true))
 
-returns-2 : tie.Need-returns-2
-returns-2 c =
+returns_2 : tie.Need-returns-2
+returns_2 c =
     let k = c.before in
     let s = k.before.before.before.before.before.before.before.before.before in
     sym (rw (to_z-of_z s.ranges.sum) at (k.known.ensures.named c.if2.true))
 
-returns-3 : tie.Need-returns-3
-returns-3 c =
+returns_3 : tie.Need-returns-3
+returns_3 c =
     let t = c.before.before.before.before in
     let f = t.before in
     let s = f.before.before.before.before.before.before.before.before.before.before.before in
     sym (rw (to_z-of_z s.ranges.sum) at (f.search.ensures.named t.if3.true))
 
-returns-4 : tie.Need-returns-4
-returns-4 c =
+returns_4 : tie.Need-returns-4
+returns_4 c =
     let f = c.before in
     let s = f.before.before.before.before.before.before.before.before.before.before.before in
     sym (rw (to_z-of_z s.ranges.sum) at (f.search.ensures.none c.if3.false))
 
-pub reducible-spec : {M : Type 1} → statement M
-reducible-spec =
+pub reducible_spec : {M : Type 1} → statement M
+reducible_spec =
     tie.close
     (tie.spec
     (λ c κs. search rules)
     (λ c κs. search rules)
     returns
     (λ c κs. search rules)
-    returns-2
+    returns_2
     (λ c κs. search rules)
     (λ c. search rules)
     (λ c. search rules)
     (λ c κs. search rules)
-    returns-3
-    returns-4)
+    returns_3
+    returns_4)

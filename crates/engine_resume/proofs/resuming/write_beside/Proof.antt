@@ -1,15 +1,15 @@
 -- `resuming::write_beside` meets its contract: each table is written by itself. Assumes nothing.
 use mathlib.Core.Path.{refl}
-use Rattle.engine_rows.specs.Marking.{valued-bounded}
-use Rattle.engine_resume.specs.Resuming.{marks-kept}
+use Rattle.engine_rows.specs.Marking.{valued_bounded}
+use Rattle.engine_resume.specs.Resuming.{marks_kept}
 use borrow.Author.Rules.{rules}
 use Rattle.engine_resume.proofs.resuming.write_beside.Statement.{statement}
 use Rattle.engine_resume.proofs.resuming.write_beside.Tie as tie
 
-write-marks-requires : tie.Need-write-marks-requires
-write-marks-requires c κs = let p = c.before.before.before.before.before.before.before.before.before.before.before.before.before.before.before.before.before.before.before.before.before.before.before.before.requires in (
+write_marks_requires : tie.Need-write-marks-requires
+write_marks_requires c κs = let p = c.before.before.before.before.before.before.before.before.before.before.before.before.before.before.before.before.before.before.before.before.before.before.before.before.requires in (
   p.rows,
-  valued-bounded p.small p.rows c.before.before.before.before.before.before.before.before.before.before.before.write-values.ensures.0,
+  valued_bounded p.small p.rows c.before.before.before.before.before.before.before.before.before.before.before.write-values.ensures.0,
   p.mothered,
   p.marked,
 )
@@ -30,19 +30,19 @@ returns c = let d = c.before.before.before.before.before.before.before.before.be
       measured = g.0;
       degrees = g.1;
       marked = m.marked _ v.0;
-      marks = marks-kept m;
+      marks = marks_kept m;
       mothers = refl;
     }
 
-pub write-beside-spec : {M : Type 1} → statement M
-write-beside-spec =
+pub write_beside_spec : {M : Type 1} → statement M
+write_beside_spec =
     tie.close
     (tie.spec
     (λ c κs. search rules)
     (λ c κs. search rules)
     (λ c κs. search rules)
     (λ c κs. search rules)
-    write-marks-requires
+    write_marks_requires
     (λ c. search rules)
     (λ c. search rules)
     (λ c. search rules)

@@ -9,47 +9,47 @@ use lib.IntN.{pos}
 use lib.ListN.{get_or}
 use mir.Facts.{to_z-of_z}
 use mir.Syntax.{w64}
-use Rattle.linear.specs.TestLaws.{count-le}
+use Rattle.linear.specs.TestLaws.{count_le}
 use Rattle.linear.specs.Tests.{count_to}
-use Rattle.engine_rows.specs.Keeping.{counted-more, counted_same, none-counted, notBelowValue}
+use Rattle.engine_rows.specs.Keeping.{counted_more, counted_same, none_counted, not_below_value}
 use Rattle.engine_rows.proofs.packing.count_not_below.Statement.{statement}
 use Rattle.engine_rows.proofs.packing.count_not_below.Tie as tie
 
-abbrev invariant-loop : tie.invariant-loop
-invariant-loop values n count₀ i₀ count i = (i ≤ n) × (count ≡ count_to i (notBelowValue values))
+abbrev invariant_loop : tie.invariant_loop
+invariant_loop values n count₀ i₀ count i = (i ≤ n) × (count ≡ count_to i (not_below_value values))
 
-abbrev decreases-loop : tie.decreases-loop
-decreases-loop values n count₀ i₀ count i = n - i
+abbrev decreases_loop : tie.decreases_loop
+decreases_loop values n count₀ i₀ count i = n - i
 
-loop-holds : tie.Need-loop-init invariant-loop decreases-loop
-loop-holds c = (search rules, none-counted _)
+loop_holds : tie.Need-loop-init invariant_loop decreases_loop
+loop_holds c = (search rules, none_counted _)
 
-loop-again : tie.Need-loop-preserved invariant-loop decreases-loop
-loop-again c =
+loop_again : tie.Need-loop-preserved invariant_loop decreases_loop
+loop_again c =
     let e = c.before in
     let a = e.before.before.before in
     let s = a.before in
     let known = to_z-of_z {w = w64} {z = get_or s.args.values.now a.loop.i (pos 0)} (sfits_of e.before.is-below-arg.given) in
     (search rules, counted_same _ a.loop.i a.loop.invariant.1 (ap not (rw known at (sym e.is_below.ensures ∙ c.if1.true))))
 
-add-count : tie.Need-overflow-add-count invariant-loop decreases-loop
-add-count c =
+add_count : tie.Need-overflow-add-count invariant_loop decreases_loop
+add_count c =
     let a = c.before.before.before.before in
-    omega (arith, a.loop.invariant.0, a.loop.invariant.1, count-le (notBelowValue a.before.args.values.now) a.loop.i)
+    omega (arith, a.loop.invariant.0, a.loop.invariant.1, count_le (not_below_value a.before.args.values.now) a.loop.i)
 
-loop-again-2 : tie.Need-loop-preserved-2 invariant-loop decreases-loop
-loop-again-2 c =
+loop_again_2 : tie.Need-loop-preserved-2 invariant_loop decreases_loop
+loop_again_2 c =
     let e = c.before in
     let a = e.before.before.before in
     let s = a.before in
     let known = to_z-of_z {w = w64} {z = get_or s.args.values.now a.loop.i (pos 0)} (sfits_of e.before.is-below-arg.given) in
-    (search rules, counted-more _ a.loop.i a.loop.invariant.1 (ap not (rw known at (sym e.is_below.ensures ∙ c.if1.false))))
+    (search rules, counted_more _ a.loop.i a.loop.invariant.1 (ap not (rw known at (sym e.is_below.ensures ∙ c.if1.false))))
 
-returns : tie.Need-returns invariant-loop decreases-loop
+returns : tie.Need-returns invariant_loop decreases_loop
 returns c = let a = c.before in rw (le_antisymm a.loop.invariant.0 c.loop-test.false) at a.loop.invariant.1
 
-pub count-not-below-spec : {M : Type 1} → statement M
-count-not-below-spec =
+pub count_not_below_spec : {M : Type 1} → statement M
+count_not_below_spec =
     tie.close
-    (tie.spec invariant-loop decreases-loop loop-holds (λ c. search rules) (λ c. search rules) (λ c. search rules) (λ c κs. search rules) (λ c. search rules)
-    loop-again add-count (λ c. search rules) loop-again-2 returns)
+    (tie.spec invariant_loop decreases_loop loop_holds (λ c. search rules) (λ c. search rules) (λ c. search rules) (λ c κs. search rules) (λ c. search rules)
+    loop_again add_count (λ c. search rules) loop_again_2 returns)

@@ -6,7 +6,7 @@ use Rattle.engine_rows.proofs.packing.is_zero.Tie as tie
 returns : tie.Need-returns
 returns c = zero_test c.args.x c.ranges.x
 
-pub is-zero-spec : {M : Type 1} → statement M
-is-zero-spec =
+pub is_zero_spec : {M : Type 1} → statement M
+is_zero_spec =
     tie.close
     (tie.spec returns)

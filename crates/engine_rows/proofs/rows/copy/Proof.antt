@@ -4,41 +4,41 @@ use Prim.Native.Nat.{◌-◌, ◌≤◌}
 use native.Mathlib.Nat.{le_antisymm}
 use lib.ListN.{length, length-set}
 use borrow.Author.Rules.{rules}
-use Rattle.definitions.specs.Tables.{writeTo}
-use Rattle.laws.specs.TableLaws.{write-next}
+use Rattle.definitions.specs.Tables.{write_to}
+use Rattle.laws.specs.TableLaws.{write_next}
 use Rattle.engine_spec.specs.Beside.{row_at}
-use Rattle.engine_rows.specs.Summing.{read-ahead}
+use Rattle.engine_rows.specs.Summing.{read_ahead}
 use Rattle.engine_rows.proofs.rows.copy.Statement.{statement}
 use Rattle.engine_rows.proofs.rows.copy.Tie as tie
 
-abbrev invariant-loop : tie.invariant-loop
-invariant-loop table₀ from to q j₀ table j = (j ≤ q) × (length table ≡ length table₀) × (table ≡ writeTo j table₀ to (row_at table₀ from))
+abbrev invariant_loop : tie.invariant_loop
+invariant_loop table₀ from to q j₀ table j = (j ≤ q) × (length table ≡ length table₀) × (table ≡ write_to j table₀ to (row_at table₀ from))
 
-abbrev decreases-loop : tie.decreases-loop
-decreases-loop table₀ from to q j₀ table j = q - j
+abbrev decreases_loop : tie.decreases_loop
+decreases_loop table₀ from to q j₀ table j = q - j
 
-loop-holds : tie.Need-loop-init invariant-loop decreases-loop
-unfolding writeTo
-loop-holds c = (search rules, refl, refl)
+loop_holds : tie.Need-loop-init invariant_loop decreases_loop
+unfolding write_to
+loop_holds c = (search rules, refl, refl)
 
-loop-again : tie.Need-loop-preserved invariant-loop decreases-loop
-loop-again c =
+loop_again : tie.Need-loop-preserved invariant_loop decreases_loop
+loop_again c =
     let a = c.before.before in
     let s = a.before in (
       search rules,
       rw length-set a.loop.invariant.1,
       rw (
-        write-next,
+        write_next,
         a.loop.invariant.2,
-        read-ahead (row_at s.args.table.now s.args.from) s.args.table.now s.args.from s.args.to a.loop.j s.requires.0,
+        read_ahead (row_at s.args.table.now s.args.from) s.args.table.now s.args.from s.args.to a.loop.j s.requires.0,
       ),
     )
 
-returns : tie.Need-returns invariant-loop decreases-loop
+returns : tie.Need-returns invariant_loop decreases_loop
 returns c = let a = c.before in rw (a.loop.invariant.2, le_antisymm a.loop.invariant.0 c.loop-test.false)
 
 pub copy_spec : {M : Type 1} → statement M
 copy_spec =
     tie.close
-    (tie.spec invariant-loop decreases-loop loop-holds (λ c. search rules) (λ c. search rules) (λ c. search rules) (λ c. search rules) (λ c. search rules)
-    (λ c. search rules) (λ c. search rules) (λ c. search rules) loop-again (λ c. search rules) returns)
+    (tie.spec invariant_loop decreases_loop loop_holds (λ c. search rules) (λ c. search rules) (λ c. search rules) (λ c. search rules) (λ c. search rules)
+    (λ c. search rules) (λ c. search rules) (λ c. search rules) loop_again (λ c. search rules) returns)

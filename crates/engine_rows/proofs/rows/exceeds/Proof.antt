@@ -6,10 +6,10 @@ use Rattle.engine_rows.proofs.rows.exceeds.Tie as tie
 returns : tie.Need-returns
 returns c = rw (lt-ltb _ _ c.if1.true)
 
-returns-2 : tie.Need-returns-2
-returns-2 c = rw (le-ltb _ _ c.if1.false)
+returns_2 : tie.Need-returns-2
+returns_2 c = rw (le-ltb _ _ c.if1.false)
 
-pub exceeds-spec : {M : Type 1} → statement M
-exceeds-spec =
+pub exceeds_spec : {M : Type 1} → statement M
+exceeds_spec =
     tie.close
-    (tie.spec returns returns-2)
+    (tie.spec returns returns_2)

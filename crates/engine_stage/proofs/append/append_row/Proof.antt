@@ -18,16 +18,16 @@ returns c =
       mark = 18446744073709551615;
       mother = 4294967295;
       row_is = c.before.before.before.append-row.ensures;
-      value-is = ap (set s.args.values.now s.args.n) (value_read s.requires.equation s.requires.row c.value-at.ensures);
-      word-is = refl;
-      degree-is = refl;
-      mark-is = refl;
+      value_is = ap (set s.args.values.now s.args.n) (value_read s.requires.equation s.requires.row c.value-at.ensures);
+      word_is = refl;
+      degree_is = refl;
+      mark_is = refl;
       unmarked = omega arith;
-      mother-is = refl;
+      mother_is = refl;
     }
 
-pub append-row-spec : {M : Type 1} → statement M
-append-row-spec =
+pub append_row_spec : {M : Type 1} → statement M
+append_row_spec =
     tie.close
     (tie.spec
     (λ c. search rules)

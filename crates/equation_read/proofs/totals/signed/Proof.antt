@@ -3,19 +3,19 @@ use mathlib.Core.Path.{◌∙◌}
 use lib.IntN.{neg_ℤ, +ℤ_idl}
 use mir.Facts.{to_z-of_z}
 use mir.Syntax.{w64}
-use Rattle.equation_read.specs.SizeLaws.{negation-fits}
+use Rattle.equation_read.specs.SizeLaws.{negation_fits}
 use Rattle.equation_read.proofs.totals.signed.Statement.{statement}
 use Rattle.equation_read.proofs.totals.signed.Tie as tie
 
-sub-result : tie.Need-overflow-sub-result
-sub-result c = let s = c.before in rw (to_z-of_z s.ranges.times) (negation-fits s.args.times s.requires)
+sub_result : tie.Need-overflow-sub-result
+sub_result c = let s = c.before in rw (to_z-of_z s.ranges.times) (negation_fits s.args.times s.requires)
 
 returns : tie.Need-returns
 returns c = let s = c.before in
-    rw (to_z-of_z s.ranges.times, c.if1.true) (to_z-of_z {w = w64} (negation-fits s.args.times s.requires) ∙ +ℤ_idl (neg_ℤ s.args.times))
+    rw (to_z-of_z s.ranges.times, c.if1.true) (to_z-of_z {w = w64} (negation_fits s.args.times s.requires) ∙ +ℤ_idl (neg_ℤ s.args.times))
 
-returns-2 : tie.Need-returns-2
-returns-2 c = let s = c.before in rw (to_z-of_z s.ranges.times, c.if1.false)
+returns_2 : tie.Need-returns-2
+returns_2 c = let s = c.before in rw (to_z-of_z s.ranges.times, c.if1.false)
 
-pub signed-spec : {M : Type 1} → statement M
-signed-spec = tie.close (tie.spec sub-result returns returns-2)
+pub signed_spec : {M : Type 1} → statement M
+signed_spec = tie.close (tie.spec sub_result returns returns_2)

@@ -12,10 +12,10 @@ returns c = let s = c.before.before in
     let e = rw (to_z-of_z s.ranges.times) at (sym c.before.out_of_range.ensures ∙ c.if1.true) in
     ap (λ b. cond b (pos 0) s.args.times) (sym e)
 
-returns-2 : tie.Need-returns-2
-returns-2 c = let s = c.before.before in
+returns_2 : tie.Need-returns-2
+returns_2 c = let s = c.before.before in
     let e = rw (to_z-of_z s.ranges.times) at (sym c.before.out_of_range.ensures ∙ c.if1.false) in
     rw (to_z-of_z s.ranges.times) (ap (λ b. cond b (pos 0) s.args.times) (sym e))
 
-pub within-spec : {M : Type 1} → statement M
-within-spec = tie.close (tie.spec (λ c κs. search rules) returns returns-2)
+pub within_spec : {M : Type 1} → statement M
+within_spec = tie.close (tie.spec (λ c κs. search rules) returns returns_2)

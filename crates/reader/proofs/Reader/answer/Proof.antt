@@ -35,9 +35,9 @@ use Rattle.reader.specs.contracts.Reader.answer as answer
 use Rattle.reader.proofs.Reader.answer.Statement as stated
 use Rattle.reader.proofs.Reader.answer.Code as code
 
-pub answer-spec : {M : Type 1} → stated.statement M
+pub answer_spec : {M : Type 1} → stated.statement M
 unfolding code.routine
-answer-spec 𝓤 𝓛 𝓜 𝓡 =
+answer_spec 𝓤 𝓛 𝓜 𝓡 =
     let c : Clauses 𝓤 reader-answer.ended = reader-answer.clauses 𝓛 𝓜.mem 𝓡.run in
     let callee : Contract 𝓤 = Met 𝓛 reader-answer.ended c in
     proved 𝓛 𝓜 𝓡 answer.ended (answer.clauses 𝓛 𝓜.mem 𝓡.run) code.env #reader·answer code.function (code.unfolded 𝓤 𝓛.H 𝓜 𝓡)

@@ -12,7 +12,7 @@ use denote.Signature.{named_lft}
 use denote.Struct.Rest.{own_shut}
 use Rattle.reader.specs.declared.Reader.{Reader}
 use Rattle.walk_ref.proofs.Frame.{here, ends}
-use Rattle.walk_ref.proofs.Walk.{states, silent, number, shared-slice, proved}
+use Rattle.walk_ref.proofs.Walk.{states, silent, number, shared_slice, proved}
 use Rattle.reader.specs.contracts.Reader as T
 use Rattle.reader.proofs.Reader.TheLaws as T'
 use Rattle.reader.specs.contracts.Reader.new.Key.{name as #reader·new}
@@ -24,7 +24,7 @@ pub new_spec : {M : Type 1} → stated.statement M
 unfolding code.routine
 new_spec 𝓤 𝓛 𝓜 𝓡 =
     proved 𝓛 𝓜 𝓡 new.ended (new.clauses 𝓛 𝓜.mem 𝓡.run) code.env #reader·new code.function (code.unfolded 𝓤 𝓛.H 𝓜 𝓡)
-    (λ κs. (shared-slice (named 0) κs.0 u32, (number w64, tt))) (λ κs a t. t)
+    (λ κs. (shared_slice (named 0) κs.0 u32, (number w64, tt))) (λ κs a t. t)
     (λ fm κs qs a g are leave bs.
     let α : NamedLft = named_lft 1 0 tt κs in
     let made : Reader = record { list = a.0; q = a.1.0 } in

@@ -37,9 +37,9 @@ use Rattle.reader.specs.contracts.Reader.row as row
 use Rattle.reader.proofs.Reader.row.Statement as stated
 use Rattle.reader.proofs.Reader.row.Code as code
 
-pub row-spec : {M : Type 1} → stated.statement M
+pub row_spec : {M : Type 1} → stated.statement M
 unfolding code.routine
-row-spec 𝓤 𝓛 𝓜 𝓡 =
+row_spec 𝓤 𝓛 𝓜 𝓡 =
     let c : Clauses 𝓤 row_of.ended = row_of.clauses 𝓛 𝓜.mem 𝓡.run in
     let callee : Contract 𝓤 = Met 𝓛 row_of.ended c in
     proved 𝓛 𝓜 𝓡 row.ended (row.clauses 𝓛 𝓜.mem 𝓡.run) code.env #reader·row code.function (code.unfolded 𝓤 𝓛.H 𝓜 𝓡)

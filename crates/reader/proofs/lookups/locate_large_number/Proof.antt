@@ -1,12 +1,12 @@
 -- `reader::lookups::locate_large_number` meets its contract: what was located, as one number. Assumes nothing.
 use mathlib.Core.Path.{ap, ◌∙◌}
 use borrow.Author.Rules.{rules}
-use Rattle.reader.specs.Answers.{locatedNumber}
+use Rattle.reader.specs.Answers.{located_number}
 use Rattle.reader.proofs.lookups.locate_large_number.Statement.{statement}
 use Rattle.reader.proofs.lookups.locate_large_number.Tie as tie
 
 returns : tie.Need-returns
-returns c = c.number.ensures ∙ ap locatedNumber c.before.locate-large.ensures
+returns c = c.number.ensures ∙ ap located_number c.before.locate-large.ensures
 
-pub locate-large-number-spec : {M : Type 1} → statement M
-locate-large-number-spec = tie.close (tie.spec (λ c κs. search rules) (λ c κs. search rules) returns)
+pub locate_large_number_spec : {M : Type 1} → statement M
+locate_large_number_spec = tie.close (tie.spec (λ c κs. search rules) (λ c κs. search rules) returns)

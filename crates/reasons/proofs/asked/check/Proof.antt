@@ -5,8 +5,8 @@ use borrow.Author.Tests.{eq-eqb, le-leb, lt-leb, ne_eqb}
 use lib.ListN.{length}
 use Rattle.definitions.specs.Refusals.{sizes}
 use Rattle.calls.specs.CallLaws.{passes}
-use Rattle.checks.specs.Counts.{counted-within}
-use Rattle.reasons.specs.Refusals.{counts-off, in-ranges, many-rows, other_length}
+use Rattle.checks.specs.Counts.{counted_within}
+use Rattle.reasons.specs.Refusals.{counts_off, in_ranges, many_rows, other_length}
 use Rattle.reasons.proofs.asked.check.Statement.{statement}
 use Rattle.reasons.proofs.asked.check.Tie as tie
 
@@ -15,41 +15,41 @@ returns c =
     let t = c.before in
     other_length _ _ _ _ _ _ _ t.before.before.check-within.ensures t.enum_told.given.1 (ne_eqb _ _ c.if1.true)
 
-div-if2 : tie.Need-nonzero-div-if2
-div-if2 c =
+div_if2 : tie.Need-nonzero-div-if2
+div_if2 c =
     let t = c.before in
     let k = t.before.before in
     let a = k.before.before.before.args in
     let passed = passes k.check-within.ensures t.enum_told.given.1 in
-    omega (arith, (counted-within (sizes a.equations a.unknowns) a.p a.q (length a.coefs.now) passed).0.some)
+    omega (arith, (counted_within (sizes a.equations a.unknowns) a.p a.q (length a.coefs.now) passed).0.some)
 
-returns-2 : tie.Need-returns-2
-returns-2 c =
+returns_2 : tie.Need-returns-2
+returns_2 c =
     let f = c.before in
     let t = f.before in
-    many-rows _ _ _ _ _ _ _ t.before.before.check-within.ensures t.enum_told.given.1 (eq-eqb _ _ f.if1.false) (lt-leb _ _ c.if2.true)
+    many_rows _ _ _ _ _ _ _ t.before.before.check-within.ensures t.enum_told.given.1 (eq-eqb _ _ f.if1.false) (lt-leb _ _ c.if2.true)
 
-returns-3 : tie.Need-returns-3
-returns-3 c = counts-off _ _ _ _ _ _ _ c.before.before.before.check-within.ensures c.before.why.given.1
+returns_3 : tie.Need-returns-3
+returns_3 c = counts_off _ _ _ _ _ _ _ c.before.before.before.check-within.ensures c.before.why.given.1
 
-returns-4 : tie.Need-returns-4
-returns-4 c =
+returns_4 : tie.Need-returns-4
+returns_4 c =
     let h = c.before in
     let f = h.before in
     let t = f.before in
-    in-ranges _ _ _ _ _ _ _ t.before.before.check-within.ensures t.enum_told.given.1 (eq-eqb _ _ f.if1.false)
+    in_ranges _ _ _ _ _ _ _ t.before.before.check-within.ensures t.enum_told.given.1 (eq-eqb _ _ f.if1.false)
     (le-leb _ _ h.if2.false) c.ranges-2.ensures
 
-pub check-spec : {M : Type 1} → statement M
-check-spec =
+pub check_spec : {M : Type 1} → statement M
+check_spec =
     tie.close
     (tie.spec
     (λ c κs. search rules)
     (λ c. search rules)
     (λ c. search rules)
     returns
-    div-if2
-    returns-2
+    div_if2
+    returns_2
     (λ c κs. search rules)
-    returns-3
-    returns-4)
+    returns_3
+    returns_4)

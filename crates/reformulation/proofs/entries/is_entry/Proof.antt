@@ -6,7 +6,7 @@ use borrow.Author.Tests.{eq-eqb, le-ltb, lt-ltb, ne_eqb}
 use lib.ListN.{length}
 use mir.Facts.{to_z-of_z}
 use Rattle.laws.specs.TableLaws.{row_fits}
-use Rattle.reformulation.specs.Given.{product-few}
+use Rattle.reformulation.specs.Given.{product_few}
 use Rattle.reformulation.proofs.entries.is_entry.Statement.{statement}
 use Rattle.reformulation.proofs.entries.is_entry.Tie as tie
 
@@ -17,20 +17,20 @@ place c =
     let s = c.before.before in
     let a = s.args in
     let row = row_fits a.q a.i a.p c.if2.true in
-    let few = product-few {x = a.p} {y = a.q} (omega (arith, s.requires.1)) (omega (arith, s.requires.2)) in
+    let few = product_few {x = a.p} {y = a.q} (omega (arith, s.requires.1)) (omega (arith, s.requires.2)) in
     (omega (arith, row, c.before.if1.true, s.requires.0), omega (arith, row, few, c.before.if1.true))
 
-mul-is-same : tie.Need-overflow-mul-is-same
-mul-is-same c = omega (arith, place c)
+mul_is_same : tie.Need-overflow-mul-is-same
+mul_is_same c = omega (arith, place c)
 
-add-is-same : tie.Need-overflow-add-is-same
-add-is-same c = omega (arith, place c)
+add_is_same : tie.Need-overflow-add-is-same
+add_is_same c = omega (arith, place c)
 
-mul-is-same-2 : tie.Need-overflow-mul-is-same-2
-mul-is-same-2 c = omega (arith, place c)
+mul_is_same_2 : tie.Need-overflow-mul-is-same-2
+mul_is_same_2 c = omega (arith, place c)
 
-shared-slice-copy-out-is-same : tie.Need-shared-slice-copy-out-is-same
-shared-slice-copy-out-is-same c = omega (arith, place c)
+shared_slice_copy_out_is_same : tie.Need-shared-slice-copy-out-is-same
+shared_slice_copy_out_is_same c = omega (arith, place c)
 
 returns : tie.Need-returns
 returns c =
@@ -39,30 +39,30 @@ returns c =
     rw (lt-ltb s.args.j s.args.q t.before.if1.true, lt-ltb s.args.i s.args.p t.if2.true)
     (rw (to_z-of_z s.ranges.x, to_z-of_z (sfits_of c.before.is-same-arg.given)) at c.is_same.ensures)
 
-returns-2 : tie.Need-returns-2
-returns-2 c =
+returns_2 : tie.Need-returns-2
+returns_2 c =
     let t = c.before in
     let a = t.before.args in
     rw (lt-ltb a.j a.q t.if1.true, le-ltb a.i a.p c.if2.false)
 
-returns-3 : tie.Need-returns-3
-returns-3 c =
+returns_3 : tie.Need-returns-3
+returns_3 c =
     let t = c.before in
     let s = t.before.before in
     let a = s.args in
     rw (le-ltb a.j a.q t.before.if1.false, eq-eqb (a.j + a.p) (a.i + a.q) t.if3.true)
     (rw (to_z-of_z s.ranges.x) at c.is-same2.ensures)
 
-returns-4 : tie.Need-returns-4
-returns-4 c =
+returns_4 : tie.Need-returns-4
+returns_4 c =
     let t = c.before in
     let s = t.before.before in
     let a = s.args in
     rw (le-ltb a.j a.q t.before.if1.false, ne_eqb (a.j + a.p) (a.i + a.q) t.if3.false)
     (rw (to_z-of_z s.ranges.x) at c.is-same3.ensures)
 
-pub is-entry-spec : {M : Type 1} → statement M
-is-entry-spec =
+pub is_entry_spec : {M : Type 1} → statement M
+is_entry_spec =
     tie.close
-    (tie.spec mul-is-same add-is-same mul-is-same-2 shared-slice-copy-out-is-same (λ c κs. search rules) returns returns-2 (λ c. search rules)
-    (λ c. search rules) (λ c κs. search rules) returns-3 (λ c κs. search rules) returns-4)
+    (tie.spec mul_is_same add_is_same mul_is_same_2 shared_slice_copy_out_is_same (λ c κs. search rules) returns returns_2 (λ c. search rules)
+    (λ c. search rules) (λ c κs. search rules) returns_3 (λ c κs. search rules) returns_4)

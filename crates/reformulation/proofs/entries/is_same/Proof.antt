@@ -6,11 +6,11 @@ use Rattle.reformulation.proofs.entries.is_same.Tie as tie
 returns : tie.Need-returns
 returns c = let f = c.before.ranges in let less = rw (to_z-of_z f.x, to_z-of_z f.y) at c.if1.true in rw less
 
-returns-2 : tie.Need-returns-2
-returns-2 c =
+returns_2 : tie.Need-returns-2
+returns_2 c =
     let f = c.before.ranges in let more = rw (to_z-of_z f.x, to_z-of_z f.y) at c.if1.false in rw (to_z-of_z f.x, to_z-of_z f.y, more)
 
-pub is-same-spec : {M : Type 1} → statement M
-is-same-spec =
+pub is_same_spec : {M : Type 1} → statement M
+is_same_spec =
     tie.close
-    (tie.spec returns returns-2)
+    (tie.spec returns returns_2)

@@ -6,10 +6,10 @@ use Rattle.reformulation.proofs.given.is_between.Tie as tie
 returns : tie.Need-returns
 returns c = rw (lt-leb 1 c.before.args.n c.if1.true)
 
-returns-2 : tie.Need-returns-2
-returns-2 c = rw (le-leb 1 c.before.args.n c.if1.false)
+returns_2 : tie.Need-returns-2
+returns_2 c = rw (le-leb 1 c.before.args.n c.if1.false)
 
-pub is-between-spec : {M : Type 1} → statement M
-is-between-spec =
+pub is_between_spec : {M : Type 1} → statement M
+is_between_spec =
     tie.close
-    (tie.spec returns returns-2)
+    (tie.spec returns returns_2)

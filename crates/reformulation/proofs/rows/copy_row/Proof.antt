@@ -3,30 +3,30 @@ use mathlib.Core.Path.{◌≡◌, refl}
 use Prim.Native.Nat.{◌+◌, ◌-◌, ◌≤◌}
 use native.Mathlib.Nat.{le_antisymm}
 use lib.ListN.{get_or, length, length-set}
-use Rattle.definitions.specs.Tables.{writeTo}
-use Rattle.laws.specs.TableLaws.{write-next}
+use Rattle.definitions.specs.Tables.{write_to}
+use Rattle.laws.specs.TableLaws.{write_next}
 use borrow.Author.Rules.{rules}
 use Rattle.reformulation.proofs.rows.copy_row.Statement.{statement}
 use Rattle.reformulation.proofs.rows.copy_row.Tie as tie
 
-abbrev invariant-loop : tie.invariant-loop
-invariant-loop rows from out₀ to q j₀ out j = (j ≤ q) × (length out ≡ length out₀) × (out ≡ writeTo j out₀ to (λ n. get_or rows (from + n) 0))
+abbrev invariant_loop : tie.invariant_loop
+invariant_loop rows from out₀ to q j₀ out j = (j ≤ q) × (length out ≡ length out₀) × (out ≡ write_to j out₀ to (λ n. get_or rows (from + n) 0))
 
-abbrev decreases-loop : tie.decreases-loop
-decreases-loop rows from out₀ to q j₀ out j = q - j
+abbrev decreases_loop : tie.decreases_loop
+decreases_loop rows from out₀ to q j₀ out j = q - j
 
-loop-holds : tie.Need-loop-init invariant-loop decreases-loop
-unfolding writeTo
-loop-holds c = (search rules, refl, refl)
+loop_holds : tie.Need-loop-init invariant_loop decreases_loop
+unfolding write_to
+loop_holds c = (search rules, refl, refl)
 
-loop-again : tie.Need-loop-preserved invariant-loop decreases-loop
-loop-again c = let l = c.before.before.loop in (search rules, rw length-set l.invariant.1, rw (write-next, l.invariant.2))
+loop_again : tie.Need-loop-preserved invariant_loop decreases_loop
+loop_again c = let l = c.before.before.loop in (search rules, rw length-set l.invariant.1, rw (write_next, l.invariant.2))
 
-returns : tie.Need-returns invariant-loop decreases-loop
+returns : tie.Need-returns invariant_loop decreases_loop
 returns c = let l = c.before.loop in rw (l.invariant.2, le_antisymm l.invariant.0 c.loop-test.false)
 
-pub copy-row-spec : {M : Type 1} → statement M
-copy-row-spec =
+pub copy_row_spec : {M : Type 1} → statement M
+copy_row_spec =
     tie.close
-    (tie.spec invariant-loop decreases-loop loop-holds (λ c. search rules) (λ c. search rules) (λ c. search rules) (λ c. search rules) (λ c. search rules)
-    (λ c. search rules) (λ c. search rules) (λ c. search rules) loop-again (λ c. search rules) returns)
+    (tie.spec invariant_loop decreases_loop loop_holds (λ c. search rules) (λ c. search rules) (λ c. search rules) (λ c. search rules) (λ c. search rules)
+    (λ c. search rules) (λ c. search rules) (λ c. search rules) loop_again (λ c. search rules) returns)

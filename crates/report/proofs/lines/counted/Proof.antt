@@ -3,18 +3,18 @@ use native.Mathlib.Omega.{arith}
 use borrow.Author.Rules.{rules}
 use Rattle.report_spec.specs.Printed as paper
 use Rattle.texts.specs.Put.{put_then}
-use Rattle.texts.specs.DecimalLaws.{digits-64}
+use Rattle.texts.specs.DecimalLaws.{digits_64}
 use Rattle.report.proofs.lines.counted.Statement.{statement}
 use Rattle.report.proofs.lines.counted.Tie as tie
 
-number-requires : tie.Need-number-requires
-number-requires c κs =
+number_requires : tie.Need-number-requires
+number_requires c κs =
     let w = c.before.before.before in
     let s = w.before.before.before.before in
-    omega (arith, w.word.ensures.place, w.word.ensures.same, digits-64 s.args.n s.ranges.n.fits)
+    omega (arith, w.word.ensures.place, w.word.ensures.same, digits_64 s.args.n s.ranges.n.fits)
 
-byte-requires : tie.Need-byte-requires
-byte-requires c κs =
+byte_requires : tie.Need-byte-requires
+byte_requires c κs =
     let n = c.before.before.before in
     let w = n.before.before.before.before in
     let s = w.before.before.before.before in
@@ -24,7 +24,7 @@ byte-requires c κs =
       n.number.ensures.same,
       w.word.ensures.place,
       w.word.ensures.same,
-      digits-64 s.args.n s.ranges.n.fits,
+      digits_64 s.args.n s.ranges.n.fits,
     )
 
 returns : tie.Need-returns
@@ -35,8 +35,8 @@ returns c =
     let w = n.before.before.before.before in
     let s = w.before.before.before.before in (
       put_then w.word.ensures (put_then n.number.ensures b.byte.ensures),
-      omega (arith, b.byte.ensures.place, n.number.ensures.place, w.word.ensures.place, digits-64 s.args.n s.ranges.n.fits),
+      omega (arith, b.byte.ensures.place, n.number.ensures.place, w.word.ensures.place, digits_64 s.args.n s.ranges.n.fits),
     )
 
 pub counted_spec : {M : Type 1} → statement M
-counted_spec = tie.close (tie.spec (λ c κs. search rules) number-requires byte-requires (λ c. search rules) returns)
+counted_spec = tie.close (tie.spec (λ c κs. search rules) number_requires byte_requires (λ c. search rules) returns)

@@ -2,18 +2,18 @@
 use native.Mathlib.Omega.{arith}
 use borrow.Author.Rules.{rules}
 use Rattle.texts.specs.Put.{put_then}
-use Rattle.texts.specs.DecimalLaws.{digits-64}
+use Rattle.texts.specs.DecimalLaws.{digits_64}
 use Rattle.report.proofs.lines.refused_with.Statement.{statement}
 use Rattle.report.proofs.lines.refused_with.Tie as tie
 
-number-requires : tie.Need-number-requires
-number-requires c κs =
+number_requires : tie.Need-number-requires
+number_requires c κs =
     let w = c.before.before.before in
     let s = w.before.before.before.before.before in
-    omega (arith, w.word.ensures.place, w.word.ensures.same, digits-64 s.args.n s.ranges.n.fits)
+    omega (arith, w.word.ensures.place, w.word.ensures.same, digits_64 s.args.n s.ranges.n.fits)
 
-counted-requires : tie.Need-counted-requires
-counted-requires c κs =
+counted_requires : tie.Need-counted-requires
+counted_requires c κs =
     let n = c.before.before.before in
     let w = n.before.before.before.before in
     let s = w.before.before.before.before.before in
@@ -23,7 +23,7 @@ counted-requires c κs =
       n.number.ensures.same,
       w.word.ensures.place,
       w.word.ensures.same,
-      digits-64 s.args.n s.ranges.n.fits,
+      digits_64 s.args.n s.ranges.n.fits,
     )
 
 returns : tie.Need-returns
@@ -33,13 +33,13 @@ returns c =
     let w = n.before.before.before.before in
     put_then w.word.ensures (put_then n.number.ensures k.counted.ensures.0)
 
-pub refused-with-spec : {M : Type 1} → statement M
-refused-with-spec =
+pub refused_with_spec : {M : Type 1} → statement M
+refused_with_spec =
     tie.close
     (tie.spec
     (λ c. search rules)
     (λ c κs. search rules)
-    number-requires
-    counted-requires
+    number_requires
+    counted_requires
     (λ c. search rules)
     returns)

@@ -6,13 +6,13 @@ use borrow.Author.Rules.{rules}
 use Rattle.single_listing.proofs.lines.before_space.Statement.{statement}
 use Rattle.single_listing.proofs.lines.before_space.Tie as tie
 
-number-requires : tie.Need-number-requires
-number-requires c κs =
+number_requires : tie.Need-number-requires
+number_requires c κs =
     let s = c.before.before in
     omega (arith, two_digits s.args.j s.requires.0)
 
-byte-requires : tie.Need-byte-requires
-byte-requires c κs =
+byte_requires : tie.Need-byte-requires
+byte_requires c κs =
     let n = c.before.before.before in
     let s = n.before.before.before in
     omega (arith, n.number.ensures.place, n.number.ensures.same, two_digits s.args.j s.requires.0)
@@ -24,12 +24,12 @@ returns c =
     let s = n.before.before.before in
     (put_then n.number.ensures p.byte.ensures, omega (arith, p.byte.ensures.place, n.number.ensures.place, two_digits s.args.j s.requires.0))
 
-pub before-space-spec : {M : Type 1} → statement M
-before-space-spec =
+pub before_space_spec : {M : Type 1} → statement M
+before_space_spec =
     tie.close
     (tie.spec
     (λ c. search rules)
-    number-requires
-    byte-requires
+    number_requires
+    byte_requires
     (λ c. search rules)
     returns)

@@ -9,13 +9,13 @@ use Rattle.single_listing.proofs.lines.make.Tie as tie
 returns : tie.Need-returns
 returns c = no_line _ _ c.before.order-of.ensures _ c.if1.true
 
-word-requires : tie.Need-word-requires
-word-requires c κs =
+word_requires : tie.Need-word-requires
+word_requires c κs =
     let r = c.before.before.before.before in
     omega (arith, r.rising.ensures.1, r.rising.ensures.0.same)
 
-ordered-requires : tie.Need-ordered-requires
-ordered-requires c κs =
+ordered_requires : tie.Need-ordered-requires
+ordered_requires c κs =
     let w = c.before.before.before.before in
     let r = w.before.before.before.before.before in
     let o = r.before.before.before.order-of.ensures in (
@@ -25,8 +25,8 @@ ordered-requires c κs =
       o.array,
     )
 
-byte-requires : tie.Need-byte-requires
-byte-requires c κs =
+byte_requires : tie.Need-byte-requires
+byte_requires c κs =
     let d = c.before.before.before in
     let w = d.before.before.before.before.before in
     let r = w.before.before.before.before.before in
@@ -45,8 +45,8 @@ byte-requires c κs =
       r.rising.ensures.0.same,
     )
 
-returns-2 : tie.Need-returns-2
-returns-2 c =
+returns_2 : tie.Need-returns-2
+returns_2 c =
     let p = c.before.before in
     let d = p.before.before.before.before in
     let w = d.before.before.before.before.before in
@@ -66,8 +66,8 @@ make_spec =
     returns
     (λ c κs. search rules)
     (λ c. search rules)
-    word-requires
-    ordered-requires
-    byte-requires
+    word_requires
+    ordered_requires
+    byte_requires
     (λ c. search rules)
-    returns-2)
+    returns_2)

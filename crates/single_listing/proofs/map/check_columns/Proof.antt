@@ -1,6 +1,6 @@
 -- `map::check_columns` meets its contract. A coefficient out of range decides, else the columns do. Assumes nothing.
 use Rattle.definitions.specs.Refusals.{check7}
-use Rattle.checks.specs.CheckLaws.{refused-first, passed_first}
+use Rattle.checks.specs.CheckLaws.{refused_first, passed_first}
 use mathlib.Core.Path.{◌∙◌}
 use borrow.Author.Rules.{rules}
 use Rattle.single_listing.proofs.map.check_columns.Statement.{statement}
@@ -8,14 +8,14 @@ use Rattle.single_listing.proofs.map.check_columns.Tie as tie
 
 returns : tie.Need-returns
 unfolding check7
-returns c = refused-first _ c.before.why.given.1 c.before.before.before.check.ensures
+returns c = refused_first _ c.before.why.given.1 c.before.before.before.check.ensures
 
-returns-2 : tie.Need-returns-2
+returns_2 : tie.Need-returns-2
 unfolding check7
-returns-2 c = c.check2.ensures ∙ passed_first _ c.before.enum_told.given.1 c.before.before.before.check.ensures
+returns_2 c = c.check2.ensures ∙ passed_first _ c.before.enum_told.given.1 c.before.before.before.check.ensures
 
-pub check-columns-spec : {M : Type 1} → statement M
-check-columns-spec =
+pub check_columns_spec : {M : Type 1} → statement M
+check_columns_spec =
     tie.close
     (tie.spec
     (λ c κs. search rules)
@@ -23,4 +23,4 @@ check-columns-spec =
     (λ c. search rules)
     (λ c κs. search rules)
     returns
-    returns-2)
+    returns_2)

@@ -6,5 +6,5 @@ use Rattle.single_order.proofs.columns.is_zero.Tie as tie
 returns : tie.Need-returns
 returns c = zero_bits c.args.x c.ranges.x
 
-pub is-zero-spec : {M : Type 1} → statement M
-is-zero-spec = tie.close (tie.spec returns)
+pub is_zero_spec : {M : Type 1} → statement M
+is_zero_spec = tie.close (tie.spec returns)

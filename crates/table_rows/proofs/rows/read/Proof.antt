@@ -10,29 +10,29 @@ use Rattle.table_rows.specs.Rows.{holds_more}
 use Rattle.table_rows.proofs.rows.read.Statement.{statement}
 use Rattle.table_rows.proofs.rows.read.Tie as tie
 
-abbrev invariant-loop : tie.invariant-loop
-invariant-loop stack base q t₀ j₀ t j = (j ≤ q) × (length t ≡ length t₀) × Holds j t stack base
+abbrev invariant_loop : tie.invariant_loop
+invariant_loop stack base q t₀ j₀ t j = (j ≤ q) × (length t ≡ length t₀) × Holds j t stack base
 
-abbrev decreases-loop : tie.decreases-loop
-decreases-loop stack base q t₀ j₀ t j = q - j
+abbrev decreases_loop : tie.decreases_loop
+decreases_loop stack base q t₀ j₀ t j = q - j
 
-loop-holds : tie.Need-loop-init invariant-loop decreases-loop
-loop-holds c = (search rules, refl, record { same = λ i l. absurd (omega arith) })
+loop_holds : tie.Need-loop-init invariant_loop decreases_loop
+loop_holds c = (search rules, refl, record { same = λ i l. absurd (omega arith) })
 
-loop-again : tie.Need-loop-preserved invariant-loop decreases-loop
-loop-again c =
+loop_again : tie.Need-loop-preserved invariant_loop decreases_loop
+loop_again c =
     let a = c.before.before in (search rules, simp length-set a.loop.invariant.1, holds_more (omega arith) a.loop.invariant.2)
 
-returns : tie.Need-returns invariant-loop decreases-loop
+returns : tie.Need-returns invariant_loop decreases_loop
 returns c = let a = c.before in rw (le_antisymm a.loop.invariant.0 c.loop-test.false) at a.loop.invariant.2
 
 pub read_spec : {M : Type 1} → statement M
 read_spec =
     tie.close
     (tie.spec
-    invariant-loop
-    decreases-loop
-    loop-holds
+    invariant_loop
+    decreases_loop
+    loop_holds
     (λ c. search rules)
     (λ c. search rules)
     (λ c. search rules)
@@ -40,6 +40,6 @@ read_spec =
     (λ c. search rules)
     (λ c. search rules)
     (λ c. search rules)
-    loop-again
+    loop_again
     (λ c. search rules)
     returns)

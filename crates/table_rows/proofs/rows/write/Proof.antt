@@ -4,30 +4,30 @@ use Prim.Native.Nat.{◌-◌, ◌≤◌}
 use native.Mathlib.Nat.{le_antisymm}
 use lib.ListN.{length, length-set}
 use borrow.Author.Rules.{rules}
-use Rattle.definitions.specs.Tables.{writeTo}
-use Rattle.laws.specs.TableLaws.{write-next}
+use Rattle.definitions.specs.Tables.{write_to}
+use Rattle.laws.specs.TableLaws.{write_next}
 use Rattle.table_rows.specs.Rows.{tuple}
 use Rattle.table_rows.proofs.rows.write.Statement.{statement}
 use Rattle.table_rows.proofs.rows.write.Tie as tie
 
-abbrev invariant-loop : tie.invariant-loop
-invariant-loop table₀ base q t j₀ table j = (j ≤ q) × (length table ≡ length table₀) × (table ≡ writeTo j table₀ base (tuple t))
+abbrev invariant_loop : tie.invariant_loop
+invariant_loop table₀ base q t j₀ table j = (j ≤ q) × (length table ≡ length table₀) × (table ≡ write_to j table₀ base (tuple t))
 
-abbrev decreases-loop : tie.decreases-loop
-decreases-loop table₀ base q t j₀ table j = q - j
+abbrev decreases_loop : tie.decreases_loop
+decreases_loop table₀ base q t j₀ table j = q - j
 
-loop-holds : tie.Need-loop-init invariant-loop decreases-loop
-unfolding writeTo
-loop-holds c = (search rules, refl, refl)
+loop_holds : tie.Need-loop-init invariant_loop decreases_loop
+unfolding write_to
+loop_holds c = (search rules, refl, refl)
 
-loop-again : tie.Need-loop-preserved invariant-loop decreases-loop
-loop-again c = let a = c.before.before in (search rules, rw length-set a.loop.invariant.1, rw (write-next, a.loop.invariant.2))
+loop_again : tie.Need-loop-preserved invariant_loop decreases_loop
+loop_again c = let a = c.before.before in (search rules, rw length-set a.loop.invariant.1, rw (write_next, a.loop.invariant.2))
 
-returns : tie.Need-returns invariant-loop decreases-loop
+returns : tie.Need-returns invariant_loop decreases_loop
 returns c = let a = c.before in rw (a.loop.invariant.2, le_antisymm a.loop.invariant.0 c.loop-test.false)
 
 pub write_spec : {M : Type 1} → statement M
 write_spec =
     tie.close
-    (tie.spec invariant-loop decreases-loop loop-holds (λ c. search rules) (λ c. search rules) (λ c. search rules) (λ c. search rules) (λ c. search rules)
-    (λ c. search rules) (λ c. search rules) loop-again (λ c. search rules) returns)
+    (tie.spec invariant_loop decreases_loop loop_holds (λ c. search rules) (λ c. search rules) (λ c. search rules) (λ c. search rules) (λ c. search rules)
+    (λ c. search rules) (λ c. search rules) loop_again (λ c. search rules) returns)

@@ -6,8 +6,8 @@ use Rattle.texts.proofs.number.is_digit.Tie as tie
 returns : tie.Need-returns
 returns c = rw (lt-leb 48 _ c.if1.true)
 
-returns-2 : tie.Need-returns-2
-returns-2 c = rw (le-leb 48 _ c.if1.false)
+returns_2 : tie.Need-returns-2
+returns_2 c = rw (le-leb 48 _ c.if1.false)
 
-pub is-digit-spec : {M : Type 1} → statement M
-is-digit-spec = tie.close (tie.spec returns returns-2)
+pub is_digit_spec : {M : Type 1} → statement M
+is_digit_spec = tie.close (tie.spec returns returns_2)

@@ -2,9 +2,9 @@
 use Prim.Native.Nat.{ℕ, ◌<◌}
 use native.Mathlib.Omega.{arith}
 use borrow.Author.Rules.{rules}
-use Rattle.texts.specs.DecimalLaws.{decimal_digit, decimal-more}
+use Rattle.texts.specs.DecimalLaws.{decimal_digit, decimal_more}
 use Rattle.texts.specs.Put.{put_then}
-use Rattle.texts.specs.DecimalLaws.{digits-one, digits_more}
+use Rattle.texts.specs.DecimalLaws.{digits_one, digits_more}
 use borrow.Fn.Kinds.{In}
 use borrow.Fn.PlainCycle.{Measures, is, falls, and}
 use Rattle.texts.proofs.put.number.Reads as number
@@ -20,61 +20,61 @@ abbrev μ-number : Measures 1 number-kinds.ps ℕ
 abbrev number_at : ℕ → In 1 number-kinds.ps
 number_at t = and 1 number-kinds.ps (is 1 number-kinds.ps μ-number t) number.Pre
 
-abbrev number-below : ℕ → In 1 number-kinds.ps
-number-below t = and 1 number-kinds.ps (falls 1 number-kinds.ps ◌<◌ μ-number t) number.Pre
+abbrev number_below : ℕ → In 1 number-kinds.ps
+number_below t = and 1 number-kinds.ps (falls 1 number-kinds.ps ◌<◌ μ-number t) number.Pre
 
-number-cast-byte : (t : ℕ) → number-lts.Need-overflow-cast-byte (byte-Reads.Asked, byte-Reads.Learnt, number-below t, number.Post) (number_at t) number.Post
-number-cast-byte t c = search rules
+number_cast_byte : (t : ℕ) → number-lts.Need-overflow-cast-byte (byte-Reads.Asked, byte-Reads.Learnt, number_below t, number.Post) (number_at t) number.Post
+number_cast_byte t c = search rules
 
-number-add-byte : (t : ℕ) → number-lts.Need-overflow-add-byte (byte-Reads.Asked, byte-Reads.Learnt, number-below t, number.Post) (number_at t) number.Post
-number-add-byte t c = search rules
+number_add_byte : (t : ℕ) → number-lts.Need-overflow-add-byte (byte-Reads.Asked, byte-Reads.Learnt, number_below t, number.Post) (number_at t) number.Post
+number_add_byte t c = search rules
 
-number-byte-requires : (t : ℕ) → number-lts.Need-byte-requires (byte-Reads.Asked, byte-Reads.Learnt, number-below t, number.Post) (number_at t) number.Post
-number-byte-requires t c κs = omega (arith, digits-one c.before.before.before.args.n c.before.if1.true)
+number_byte_requires : (t : ℕ) → number-lts.Need-byte-requires (byte-Reads.Asked, byte-Reads.Learnt, number_below t, number.Post) (number_at t) number.Post
+number_byte_requires t c κs = omega (arith, digits_one c.before.before.before.args.n c.before.if1.true)
 
-number-same-length : (t : ℕ) → number-lts.Need-same-length (byte-Reads.Asked, byte-Reads.Learnt, number-below t, number.Post) (number_at t) number.Post
-number-same-length t c = search rules
+number_same_length : (t : ℕ) → number-lts.Need-same-length (byte-Reads.Asked, byte-Reads.Learnt, number_below t, number.Post) (number_at t) number.Post
+number_same_length t c = search rules
 
-number-returns : (t : ℕ) → number-lts.Need-returns (byte-Reads.Asked, byte-Reads.Learnt, number-below t, number.Post) (number_at t) number.Post
-number-returns t c = let b = c.before.before in rw (decimal_digit _ b.before.before.if1.true) b.byte.ensures
+number_returns : (t : ℕ) → number-lts.Need-returns (byte-Reads.Asked, byte-Reads.Learnt, number_below t, number.Post) (number_at t) number.Post
+number_returns t c = let b = c.before.before in rw (decimal_digit _ b.before.before.if1.true) b.byte.ensures
 
-number-number-requires : (t : ℕ) → number-lts.Need-number-requires (byte-Reads.Asked, byte-Reads.Learnt, number-below t, number.Post) (number_at t) number.Post
-number-number-requires t c κs = let n = c.before.before.before.args.n in (omega arith, omega (arith, digits_more n c.before.if1.false))
+number_number_requires : (t : ℕ) → number-lts.Need-number-requires (byte-Reads.Asked, byte-Reads.Learnt, number_below t, number.Post) (number_at t) number.Post
+number_number_requires t c κs = let n = c.before.before.before.args.n in (omega arith, omega (arith, digits_more n c.before.if1.false))
 
-number-cast-byte-2 : (t : ℕ) → number-lts.Need-overflow-cast-byte-2 (byte-Reads.Asked, byte-Reads.Learnt, number-below t, number.Post) (number_at t) number.Post
-number-cast-byte-2 t c = search rules
+number_cast_byte_2 : (t : ℕ) → number-lts.Need-overflow-cast-byte-2 (byte-Reads.Asked, byte-Reads.Learnt, number_below t, number.Post) (number_at t) number.Post
+number_cast_byte_2 t c = search rules
 
-number-add-byte-2 : (t : ℕ) → number-lts.Need-overflow-add-byte-2 (byte-Reads.Asked, byte-Reads.Learnt, number-below t, number.Post) (number_at t) number.Post
-number-add-byte-2 t c = search rules
+number_add_byte_2 : (t : ℕ) → number-lts.Need-overflow-add-byte-2 (byte-Reads.Asked, byte-Reads.Learnt, number_below t, number.Post) (number_at t) number.Post
+number_add_byte_2 t c = search rules
 
-number-byte-requires-2 : (t : ℕ) → number-lts.Need-byte-requires-2 (byte-Reads.Asked, byte-Reads.Learnt, number-below t, number.Post) (number_at t) number.Post
-number-byte-requires-2 t c κs =
+number_byte_requires_2 : (t : ℕ) → number-lts.Need-byte-requires-2 (byte-Reads.Asked, byte-Reads.Learnt, number_below t, number.Post) (number_at t) number.Post
+number_byte_requires_2 t c κs =
     let a = c.before.before.before in
     let e = a.before.before in
     omega (arith, a.number.ensures.place, a.number.ensures.same, digits_more e.before.before.args.n e.if1.false)
 
-number-same-length-2 : (t : ℕ) → number-lts.Need-same-length-2 (byte-Reads.Asked, byte-Reads.Learnt, number-below t, number.Post) (number_at t) number.Post
-number-same-length-2 t c = search rules
+number_same_length_2 : (t : ℕ) → number-lts.Need-same-length-2 (byte-Reads.Asked, byte-Reads.Learnt, number_below t, number.Post) (number_at t) number.Post
+number_same_length_2 t c = search rules
 
-number-returns-2 : (t : ℕ) → number-lts.Need-returns-2 (byte-Reads.Asked, byte-Reads.Learnt, number-below t, number.Post) (number_at t) number.Post
-number-returns-2 t c =
+number_returns_2 : (t : ℕ) → number-lts.Need-returns-2 (byte-Reads.Asked, byte-Reads.Learnt, number_below t, number.Post) (number_at t) number.Post
+number_returns_2 t c =
     let b = c.before.before in
     let a = b.before.before.before.before in
-    rw (decimal-more _ a.before.before.if1.false) (put_then a.number.ensures b.byte2.ensures)
+    rw (decimal_more _ a.before.before.if1.false) (put_then a.number.ensures b.byte2.ensures)
 
 pub +number-spec : {M : Type 1} → statement M
 +number-spec =
-    close μ-number λ t. number-lts.spec (byte-Reads.Asked, byte-Reads.Learnt, number-below t, number.Post)
+    close μ-number λ t. number-lts.spec (byte-Reads.Asked, byte-Reads.Learnt, number_below t, number.Post)
     (number_at t)
     number.Post
-    (number-cast-byte t)
-    (number-add-byte t)
-    (number-byte-requires t)
-    (number-same-length t)
-    (number-returns t)
-    (number-number-requires t)
-    (number-cast-byte-2 t)
-    (number-add-byte-2 t)
-    (number-byte-requires-2 t)
-    (number-same-length-2 t)
-    (number-returns-2 t)
+    (number_cast_byte t)
+    (number_add_byte t)
+    (number_byte_requires t)
+    (number_same_length t)
+    (number_returns t)
+    (number_number_requires t)
+    (number_cast_byte_2 t)
+    (number_add_byte_2 t)
+    (number_byte_requires_2 t)
+    (number_same_length_2 t)
+    (number_returns_2 t)

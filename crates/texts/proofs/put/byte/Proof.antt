@@ -7,5 +7,5 @@ use Rattle.texts.proofs.put.byte.Tie as tie
 returns : tie.Need-returns
 returns c = put_byte _ _ _ c.requires
 
-pub byte-spec : {M : Type 1} → statement M
-byte-spec = tie.close (tie.spec (λ c. search rules) (λ c. search rules) (λ c. search rules) returns)
+pub byte_spec : {M : Type 1} → statement M
+byte_spec = tie.close (tie.spec (λ c. search rules) (λ c. search rules) (λ c. search rules) returns)

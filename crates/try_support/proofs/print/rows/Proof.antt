@@ -3,14 +3,14 @@ use Rattle.std.proofs.Common.{◌-◌, ◌≤◌, length, rules}
 use Rattle.try_support.proofs.print.rows.Statement.{statement}
 use Rattle.try_support.proofs.print.rows.Tie as tie
 
-abbrev invariant-loop : tie.invariant-loop
-invariant-loop list q i₀ i = i ≤ length list
+abbrev invariant_loop : tie.invariant_loop
+invariant_loop list q i₀ i = i ≤ length list
 
-abbrev decreases-loop : tie.decreases-loop
-decreases-loop list q i₀ i = length list - i
+abbrev decreases_loop : tie.decreases_loop
+decreases_loop list q i₀ i = length list - i
 
-pub rows-spec : {M : Type 1} → statement M
-rows-spec =
+pub rows_spec : {M : Type 1} → statement M
+rows_spec =
     tie.close
-    (tie.spec invariant-loop decreases-loop (λ c. search rules) (λ c κs. search rules) (λ c. search rules) (λ c. search rules) (λ c κs. search rules)
+    (tie.spec invariant_loop decreases_loop (λ c. search rules) (λ c κs. search rules) (λ c. search rules) (λ c. search rules) (λ c κs. search rules)
     (λ c κs. search rules) (λ c. search rules) (λ c. search rules) (λ c. search rules) (λ c. search rules))

@@ -3,14 +3,14 @@ use Rattle.std.proofs.Common.{◌-◌, ◌≤◌, rules}
 use Rattle.try_support.proofs.tables.any_at_or_below.Statement.{statement}
 use Rattle.try_support.proofs.tables.any_at_or_below.Tie as tie
 
-abbrev invariant-loop : tie.invariant-loop
-invariant-loop list n q tuple i₀ i = i ≤ n
+abbrev invariant_loop : tie.invariant_loop
+invariant_loop list n q tuple i₀ i = i ≤ n
 
-abbrev decreases-loop : tie.decreases-loop
-decreases-loop list n q tuple i₀ i = n - i
+abbrev decreases_loop : tie.decreases_loop
+decreases_loop list n q tuple i₀ i = n - i
 
-pub any-at-or-below-spec : {M : Type 1} → statement M
-any-at-or-below-spec =
+pub any_at_or_below_spec : {M : Type 1} → statement M
+any_at_or_below_spec =
     tie.close
-    (tie.spec invariant-loop decreases-loop (λ c. search rules) (λ c κs. search rules) (λ c κs. search rules) (λ c. search rules) (λ c. search rules)
+    (tie.spec invariant_loop decreases_loop (λ c. search rules) (λ c κs. search rules) (λ c κs. search rules) (λ c. search rules) (λ c. search rules)
     (λ c. search rules) (λ c. search rules) (λ c. search rules))

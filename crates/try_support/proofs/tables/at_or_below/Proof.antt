@@ -3,14 +3,14 @@ use Rattle.std.proofs.Common.{◌-◌, ◌≤◌, length, rules}
 use Rattle.try_support.proofs.tables.at_or_below.Statement.{statement}
 use Rattle.try_support.proofs.tables.at_or_below.Tie as tie
 
-abbrev invariant-loop : tie.invariant-loop
-invariant-loop a b i₀ i = i ≤ length a
+abbrev invariant_loop : tie.invariant_loop
+invariant_loop a b i₀ i = i ≤ length a
 
-abbrev decreases-loop : tie.decreases-loop
-decreases-loop a b i₀ i = length a - i
+abbrev decreases_loop : tie.decreases_loop
+decreases_loop a b i₀ i = length a - i
 
-pub at-or-below-spec : {M : Type 1} → statement M
-at-or-below-spec =
+pub at_or_below_spec : {M : Type 1} → statement M
+at_or_below_spec =
     tie.close
-    (tie.spec invariant-loop decreases-loop (λ c. search rules) (λ c κs. search rules) (λ c. search rules) (λ c. search rules) (λ c. search rules)
+    (tie.spec invariant_loop decreases_loop (λ c. search rules) (λ c κs. search rules) (λ c. search rules) (λ c. search rules) (λ c. search rules)
     (λ c. search rules) (λ c. search rules) (λ c. search rules) (λ c. search rules))

@@ -3,14 +3,14 @@ use Rattle.std.proofs.Common.{◌≡◌, ◌-◌, ◌≤◌, length, rules}
 use Rattle.try_support.proofs.tables.copy.Statement.{statement}
 use Rattle.try_support.proofs.tables.copy.Tie as tie
 
-abbrev invariant-loop : tie.invariant-loop
-invariant-loop from to₀ first i₀ to i = (i ≤ length from) × (length to ≡ length to₀)
+abbrev invariant_loop : tie.invariant_loop
+invariant_loop from to₀ first i₀ to i = (i ≤ length from) × (length to ≡ length to₀)
 
-abbrev decreases-loop : tie.decreases-loop
-decreases-loop from to₀ first i₀ to i = length from - i
+abbrev decreases_loop : tie.decreases_loop
+decreases_loop from to₀ first i₀ to i = length from - i
 
 pub copy_spec : {M : Type 1} → statement M
 copy_spec =
     tie.close
-    (tie.spec invariant-loop decreases-loop (λ c. search rules) (λ c κs. search rules) (λ c. search rules) (λ c. search rules) (λ c κs. search rules)
+    (tie.spec invariant_loop decreases_loop (λ c. search rules) (λ c κs. search rules) (λ c. search rules) (λ c. search rules) (λ c κs. search rules)
     (λ c. search rules) (λ c. search rules) (λ c. search rules) (λ c. search rules) (λ c. search rules))

@@ -9,13 +9,13 @@ product a b h k =
     let l : b ≤ 65535 = omega arith in
     omega (arith, mul-le-mul g l)
 
-mul-result : tie.Need-overflow-mul-result
-mul-result c = omega (arith, product _ _ c.before.before.if1.true c.before.if2.true)
+mul_result : tie.Need-overflow-mul-result
+mul_result c = omega (arith, product _ _ c.before.before.if1.true c.before.if2.true)
 
-add-result : tie.Need-overflow-add-result
-add-result c = omega (arith, product _ _ c.before.before.if1.true c.before.if2.true)
+add_result : tie.Need-overflow-add-result
+add_result c = omega (arith, product _ _ c.before.before.if1.true c.before.if2.true)
 
-pub place-spec : {M : Type 1} → statement M
-place-spec =
+pub place_spec : {M : Type 1} → statement M
+place_spec =
     tie.close
-    (tie.spec mul-result add-result (λ c. search rules) (λ c. search rules) (λ c. search rules) (λ c. search rules))
+    (tie.spec mul_result add_result (λ c. search rules) (λ c. search rules) (λ c. search rules) (λ c. search rules))

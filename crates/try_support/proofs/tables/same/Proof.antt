@@ -3,14 +3,14 @@ use Rattle.std.proofs.Common.{◌-◌, ◌≤◌, length, rules}
 use Rattle.try_support.proofs.tables.same.Statement.{statement}
 use Rattle.try_support.proofs.tables.same.Tie as tie
 
-abbrev invariant-loop : tie.invariant-loop
-invariant-loop table other i₀ i = i ≤ length table
+abbrev invariant_loop : tie.invariant_loop
+invariant_loop table other i₀ i = i ≤ length table
 
-abbrev decreases-loop : tie.decreases-loop
-decreases-loop table other i₀ i = length table - i
+abbrev decreases_loop : tie.decreases_loop
+decreases_loop table other i₀ i = length table - i
 
 pub same_spec : {M : Type 1} → statement M
 same_spec =
     tie.close
-    (tie.spec invariant-loop decreases-loop (λ c. search rules) (λ c. search rules) (λ c. search rules) (λ c κs. search rules) (λ c. search rules) (λ c. search
+    (tie.spec invariant_loop decreases_loop (λ c. search rules) (λ c. search rules) (λ c. search rules) (λ c κs. search rules) (λ c. search rules) (λ c. search
     rules) (λ c. search rules) (λ c. search rules) (λ c. search rules))

@@ -3,11 +3,11 @@ use Rattle.std.proofs.Common.{arith, length-take, rules}
 use Rattle.try_texts.proofs.equations.line.Statement.{statement}
 use Rattle.try_texts.proofs.equations.line.Tie as tie
 
-slice-aggregate-told : tie.Need-slice-aggregate-told
-slice-aggregate-told c = simp length-take (omega arith)
+slice_aggregate_told : tie.Need-slice-aggregate-told
+slice_aggregate_told c = simp length-take (omega arith)
 
-pub line-spec : {M : Type 1} → statement M
-line-spec =
+pub line_spec : {M : Type 1} → statement M
+line_spec =
     tie.close
     (tie.spec
     (λ c. search rules)
@@ -27,6 +27,6 @@ line-spec =
     (λ c κs. search rules)
     (λ c. search rules)
     (λ c. search rules)
-    slice-aggregate-told
+    slice_aggregate_told
     (λ c κs. search rules)
     (λ c. search rules))

@@ -3,18 +3,18 @@ use Rattle.std.proofs.Common.{◌-◌, ◌≤◌, rules}
 use Rattle.try_texts.proofs.files.turned.Statement.{statement}
 use Rattle.try_texts.proofs.files.turned.Tie as tie
 
-abbrev invariant-loop : tie.invariant-loop
-invariant-loop file₀ n rooms powers told₀ k₀ t9 t10 file told k = k ≤ 8192
+abbrev invariant_loop : tie.invariant_loop
+invariant_loop file₀ n rooms powers told₀ k₀ t9 t10 file told k = k ≤ 8192
 
-abbrev decreases-loop : tie.decreases-loop
-decreases-loop file₀ n rooms powers told₀ k₀ t9 t10 file told k = 8192 - k
+abbrev decreases_loop : tie.decreases_loop
+decreases_loop file₀ n rooms powers told₀ k₀ t9 t10 file told k = 8192 - k
 
-pub turned-spec : {M : Type 1} → statement M
-turned-spec =
+pub turned_spec : {M : Type 1} → statement M
+turned_spec =
     tie.close
     (tie.spec
-    invariant-loop
-    decreases-loop
+    invariant_loop
+    decreases_loop
     (λ c. search rules)
     (λ c. search rules)
     (λ c. search rules)

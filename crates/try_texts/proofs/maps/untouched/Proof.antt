@@ -3,14 +3,14 @@ use Rattle.std.proofs.Common.{◌-◌, ◌≤◌, length, rules}
 use Rattle.try_texts.proofs.maps.untouched.Statement.{statement}
 use Rattle.try_texts.proofs.maps.untouched.Tie as tie
 
-abbrev invariant-loop : tie.invariant-loop
-invariant-loop bytes i₀ i = i ≤ length bytes
+abbrev invariant_loop : tie.invariant_loop
+invariant_loop bytes i₀ i = i ≤ length bytes
 
-abbrev decreases-loop : tie.decreases-loop
-decreases-loop bytes i₀ i = length bytes - i
+abbrev decreases_loop : tie.decreases_loop
+decreases_loop bytes i₀ i = length bytes - i
 
-pub untouched-spec : {M : Type 1} → statement M
-untouched-spec =
+pub untouched_spec : {M : Type 1} → statement M
+untouched_spec =
     tie.close
-    (tie.spec invariant-loop decreases-loop (λ c. search rules) (λ c. search rules) (λ c. search rules) (λ c. search rules) (λ c. search rules) (λ c. search rules)
+    (tie.spec invariant_loop decreases_loop (λ c. search rules) (λ c. search rules) (λ c. search rules) (λ c. search rules) (λ c. search rules) (λ c. search rules)
     (λ c. search rules))

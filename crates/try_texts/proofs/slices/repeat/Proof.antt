@@ -3,14 +3,14 @@ use Rattle.std.proofs.Common.{◌≡◌, ◌-◌, length, rules}
 use Rattle.try_texts.proofs.slices.repeat.Statement.{statement}
 use Rattle.try_texts.proofs.slices.repeat.Tie as tie
 
-abbrev invariant-loop : tie.invariant-loop
-invariant-loop bytes₀ start end period i₀ bytes i = length bytes ≡ length bytes₀
+abbrev invariant_loop : tie.invariant_loop
+invariant_loop bytes₀ start end period i₀ bytes i = length bytes ≡ length bytes₀
 
-abbrev decreases-loop : tie.decreases-loop
-decreases-loop bytes₀ start end period i₀ bytes i = end - i
+abbrev decreases_loop : tie.decreases_loop
+decreases_loop bytes₀ start end period i₀ bytes i = end - i
 
-pub repeat-spec : {M : Type 1} → statement M
-repeat-spec =
+pub repeat_spec : {M : Type 1} → statement M
+repeat_spec =
     tie.close
-    (tie.spec invariant-loop decreases-loop (λ c. search rules) (λ c κs. search rules) (λ c κs. search rules) (λ c κs. search rules) (λ c. search rules)
+    (tie.spec invariant_loop decreases_loop (λ c. search rules) (λ c κs. search rules) (λ c κs. search rules) (λ c κs. search rules) (λ c. search rules)
     (λ c. search rules) (λ c. search rules) (λ c. search rules) (λ c. search rules))

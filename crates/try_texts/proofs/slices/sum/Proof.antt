@@ -3,14 +3,14 @@ use Rattle.std.proofs.Common.{◌-◌, ◌≤◌, length, rules}
 use Rattle.try_texts.proofs.slices.sum.Statement.{statement}
 use Rattle.try_texts.proofs.slices.sum.Tie as tie
 
-abbrev invariant-loop : tie.invariant-loop
-invariant-loop bytes sum₀ i₀ sum i = i ≤ length bytes
+abbrev invariant_loop : tie.invariant_loop
+invariant_loop bytes sum₀ i₀ sum i = i ≤ length bytes
 
-abbrev decreases-loop : tie.decreases-loop
-decreases-loop bytes sum₀ i₀ sum i = length bytes - i
+abbrev decreases_loop : tie.decreases_loop
+decreases_loop bytes sum₀ i₀ sum i = length bytes - i
 
-pub sum-spec : {M : Type 1} → statement M
-sum-spec =
+pub sum_spec : {M : Type 1} → statement M
+sum_spec =
     tie.close
-    (tie.spec invariant-loop decreases-loop (λ c. search rules) (λ c. search rules) (λ c κs. search rules) (λ c κs. search rules) (λ c. search rules)
+    (tie.spec invariant_loop decreases_loop (λ c. search rules) (λ c. search rules) (λ c κs. search rules) (λ c κs. search rules) (λ c. search rules)
     (λ c. search rules) (λ c. search rules) (λ c. search rules))

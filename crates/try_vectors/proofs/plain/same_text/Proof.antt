@@ -3,14 +3,14 @@ use Rattle.std.proofs.Common.{◌-◌, ◌≤◌, rules}
 use Rattle.try_vectors.proofs.plain.same_text.Statement.{statement}
 use Rattle.try_vectors.proofs.plain.same_text.Tie as tie
 
-abbrev invariant-loop : tie.invariant-loop
-invariant-loop out text i₀ i = i ≤ 320
+abbrev invariant_loop : tie.invariant_loop
+invariant_loop out text i₀ i = i ≤ 320
 
-abbrev decreases-loop : tie.decreases-loop
-decreases-loop out text i₀ i = 320 - i
+abbrev decreases_loop : tie.decreases_loop
+decreases_loop out text i₀ i = 320 - i
 
-pub same-text-spec : {M : Type 1} → statement M
-same-text-spec =
+pub same_text_spec : {M : Type 1} → statement M
+same_text_spec =
     tie.close
-    (tie.spec invariant-loop decreases-loop (λ c. search rules) (λ c. search rules) (λ c κs. search rules) (λ c κs. search rules) (λ c. search rules) (λ c. search rules)
+    (tie.spec invariant_loop decreases_loop (λ c. search rules) (λ c. search rules) (λ c κs. search rules) (λ c κs. search rules) (λ c. search rules) (λ c. search rules)
     (λ c. search rules) (λ c. search rules) (λ c. search rules))

@@ -3,14 +3,14 @@ use Rattle.std.proofs.Common.{◌≡◌, ◌-◌, ◌≤◌, length, rules}
 use Rattle.try_vectors.proofs.reformulations.read.Statement.{statement}
 use Rattle.try_vectors.proofs.reformulations.read.Tie as tie
 
-abbrev invariant-loop : tie.invariant-loop
-invariant-loop words from numbers₀ i₀ numbers i = (i ≤ length numbers₀) × (length numbers ≡ length numbers₀)
+abbrev invariant_loop : tie.invariant_loop
+invariant_loop words from numbers₀ i₀ numbers i = (i ≤ length numbers₀) × (length numbers ≡ length numbers₀)
 
-abbrev decreases-loop : tie.decreases-loop
-decreases-loop words from numbers₀ i₀ numbers i = length numbers₀ - i
+abbrev decreases_loop : tie.decreases_loop
+decreases_loop words from numbers₀ i₀ numbers i = length numbers₀ - i
 
 pub read_spec : {M : Type 1} → statement M
 read_spec =
     tie.close
-    (tie.spec invariant-loop decreases-loop (λ c. search rules) (λ c κs. search rules) (λ c κs. search rules) (λ c κs. search rules) (λ c. search rules)
+    (tie.spec invariant_loop decreases_loop (λ c. search rules) (λ c κs. search rules) (λ c κs. search rules) (λ c κs. search rules) (λ c. search rules)
     (λ c. search rules) (λ c. search rules) (λ c. search rules) (λ c. search rules) (λ c. search rules) (λ c. search rules))

@@ -3,15 +3,15 @@ use mathlib.Core.Path.{◌∙◌}
 use lib.IntN.{neg_ℤ, +ℤ_idl}
 use mir.Facts.{to_z-of_z}
 use mir.Syntax.{w32}
-use Rattle.walk.specs.ExtendLaws.{negation-fits}
+use Rattle.walk.specs.ExtendLaws.{negation_fits}
 use Rattle.walk.proofs.extended.negated.Statement.{statement}
 use Rattle.walk.proofs.extended.negated.Tie as tie
 
-sub-result : tie.Need-overflow-sub-result
-sub-result c = rw (to_z-of_z c.ranges.x) (negation-fits c.args.x c.requires)
+sub_result : tie.Need-overflow-sub-result
+sub_result c = rw (to_z-of_z c.ranges.x) (negation_fits c.args.x c.requires)
 
 returns : tie.Need-returns
-returns c = rw (to_z-of_z c.ranges.x) (to_z-of_z {w = w32} (negation-fits c.args.x c.requires) ∙ +ℤ_idl (neg_ℤ c.args.x))
+returns c = rw (to_z-of_z c.ranges.x) (to_z-of_z {w = w32} (negation_fits c.args.x c.requires) ∙ +ℤ_idl (neg_ℤ c.args.x))
 
-pub negated-spec : {M : Type 1} → statement M
-negated-spec = tie.close (tie.spec sub-result returns)
+pub negated_spec : {M : Type 1} → statement M
+negated_spec = tie.close (tie.spec sub_result returns)

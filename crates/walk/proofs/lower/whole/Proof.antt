@@ -6,5 +6,5 @@ use Rattle.walk.proofs.lower.whole.Tie as tie
 returns : tie.Need-returns
 returns c = rw c.of.ensures
 
-pub whole-spec : {M : Type 1} → statement M
-whole-spec = tie.close (tie.spec (λ c κs. search rules) returns)
+pub whole_spec : {M : Type 1} → statement M
+whole_spec = tie.close (tie.spec (λ c κs. search rules) returns)

@@ -14,7 +14,7 @@ use denote.Triple.Table.{cited}
 use Rattle.calls.specs.declared.Record.{Record}
 use Rattle.walk_ref.proofs.Frame.{here, ends}
 use Rattle.walk_ref.proofs.Walk.{Met, proved}
-use Rattle.walk_ref.proofs.Behind.{less₂, with₂, values₂, shared₂, lends, copies, puts_back, walk-types}
+use Rattle.walk_ref.proofs.Behind.{less₂, with₂, values₂, shared₂, lends, copies, puts_back, walk_types}
 use Rattle.walk_ref.specs.contracts.lower.started as started
 use Rattle.walk_ref.proofs.lower.started.Symbol as started-def
 use Rattle.walk_ref.proofs.lower.started.Symbol.{name as #walk-ref·lower·started}
@@ -24,9 +24,9 @@ use Rattle.walk_ref.specs.contracts.lower.start_from as start
 use Rattle.walk_ref.proofs.lower.start_from.Statement as stated
 use Rattle.walk_ref.proofs.lower.start_from.Code as code
 
-pub start-from-spec : {M : Type 1} → stated.statement M
+pub start_from_spec : {M : Type 1} → stated.statement M
 unfolding code.routine
-start-from-spec 𝓤 𝓛 𝓜 𝓡 =
+start_from_spec 𝓤 𝓛 𝓜 𝓡 =
     let c : Clauses 𝓤 started.ended = started.clauses 𝓛 𝓜.mem 𝓡.run in
     let callee : Contract 𝓤 = Met 𝓛 started.ended c in
     proved 𝓛 𝓜 𝓡 start.ended (start.clauses 𝓛 𝓜.mem 𝓡.run) code.env #walk-ref·lower·start-from code.function (code.unfolded 𝓤 𝓛.H 𝓜 𝓡)
@@ -37,7 +37,7 @@ start-from-spec 𝓤 𝓛 𝓜 𝓡 =
     lends ! 5 10 11 are.1.1.1.1.0.0.1.0 refl refl refl refl refl refl refl refl $
     lends ! 6 12 13 are.1.1.1.1.1.0.0.1.0 refl refl refl refl refl refl refl refl $
     lends ! 7 14 15 are.1.1.1.1.1.1.0.0.1.0 refl refl refl refl refl refl refl refl $
-    copies walk-types 5 7 κs.1.1.1.1.1.0 qs.1.1.1.1.1.0 r ! _ _ _ _ 16 refl refl refl refl $
+    copies walk_types 5 7 κs.1.1.1.1.1.0 qs.1.1.1.1.1.0 r ! _ _ _ _ 16 refl refl refl refl $
     calls_at ! fm callee
     (cited 𝓤 𝓛.H callee 𝓜 𝓡 code.env #walk-ref·lower·started started-def.routine code.calls-walk-ref::lower::started (started-thm.met 𝓤 𝓛 𝓜 𝓡)) y
     -- [what the call is handed; the open borrow, four entries; the locals]: local n stands at place n + 5
@@ -46,6 +46,6 @@ start-from-spec 𝓤 𝓛 𝓜 𝓡 =
     (and_then ! (here ! 8 refl)
     (and_then ! (here ! 9 refl)
     (and_then ! (here ! 16 refl) (and_then ! (here ! 18 refl) (and_then ! (here ! 20 refl) (and_then ! (here ! 21 refl) (no_more !))))))))) (λ w.
-    puts_back walk-types 5 7 κs.1.1.1.1.1.0 qs.1.1.1.1.1.0 r ! 5 (started.signature).params (started.ended).kept c y _ _ refl (λ ws. _)
+    puts_back walk_types 5 7 κs.1.1.1.1.1.0 qs.1.1.1.1.1.0 r ! 5 (started.signature).params (started.ended).kept c y _ _ refl (λ ws. _)
     (λ ws. _) (λ ws. refl) w 9 refl refl refl refl (λ v. refl) (λ v. refl) (λ v. refl) (λ v ws.
     ends ! tt _ $ by ! (leave _ v.answer (with₂ ws v.run)))))

@@ -1,14 +1,14 @@
 -- `list_file::read::checking::block_in_range` meets its contract: a block of components is tested at once. Assumes nothing.
 use Rattle.std.proofs.Common.{◌∙◌, arith, rules}
-use Rattle.list_file.specs.ReadLaws.{components-decide}
+use Rattle.list_file.specs.ReadLaws.{components_decide}
 use Rattle.list_file.proofs.read.checking.block_in_range.Statement.{statement}
 use Rattle.list_file.proofs.read.checking.block_in_range.Tie as tie
 
-returns-3 : tie.Need-returns-3
-returns-3 c = c.all-within.ensures ∙ components-decide _ _ _ _ (omega arith) (omega arith)
+returns_3 : tie.Need-returns-3
+returns_3 c = c.all-within.ensures ∙ components_decide _ _ _ _ (omega arith) (omega arith)
 
-pub block-in-range-spec : {M : Type 1} → statement M
-block-in-range-spec =
+pub block_in_range_spec : {M : Type 1} → statement M
+block_in_range_spec =
     tie.close
     (tie.spec
     (λ c. search rules)
@@ -23,4 +23,4 @@ block-in-range-spec =
     (λ c. search rules)
     (λ c. search rules)
     (λ c κs. search rules)
-    returns-3)
+    returns_3)

@@ -3,8 +3,8 @@ use Rattle.std.proofs.Common.{mul-le-mul, arith, rules}
 use Rattle.list_file.proofs.read.checking.for_unknowns.Statement.{statement}
 use Rattle.list_file.proofs.read.checking.for_unknowns.Tie as tie
 
-mul-result : tie.Need-overflow-mul-result
-mul-result c =
+mul_result : tie.Need-overflow-mul-result
+mul_result c =
     let s = c.before.before.before.requires in
     omega (
       arith,
@@ -15,7 +15,7 @@ mul-result c =
 returns : tie.Need-returns
 returns c = rw (c.before.word_at.ensures, c.word-at2.ensures)
 
-pub for-unknowns-spec : {M : Type 1} → statement M
-for-unknowns-spec =
+pub for_unknowns_spec : {M : Type 1} → statement M
+for_unknowns_spec =
     tie.close
-    (tie.spec (λ c κs. search rules) (λ c. search rules) (λ c κs. search rules) (λ c. search rules) mul-result returns)
+    (tie.spec (λ c κs. search rules) (λ c. search rules) (λ c κs. search rules) (λ c. search rules) mul_result returns)

@@ -1,6 +1,6 @@
 -- `list_file::read::tables::hand_out` meets its contract: both tables are filled from their beginning. Assumes nothing.
 use Rattle.std.proofs.Common.{rules}
-use Rattle.list_file.specs.ReadLaws.{handed_out}
+use Rattle.list_file.specs.ReadLaws.{handed_out_lem}
 use Rattle.list_file.proofs.read.tables.hand_out.Statement.{statement}
 use Rattle.list_file.proofs.read.tables.hand_out.Tie as tie
 
@@ -21,10 +21,10 @@ returns c =
       words.row_words.ensures,
       words.before.coef-words.ensures,
     )
-    (handed_out s.args.file.now s.args.coefs.now s.args.list.now s.requires.order.header.range.q-some)
+    (handed_out_lem s.args.file.now s.args.coefs.now s.args.list.now s.requires.order.header.range.q_some)
 
-pub hand-out-spec : {M : Type 1} → statement M
-hand-out-spec =
+pub hand_out_spec : {M : Type 1} → statement M
+hand_out_spec =
     tie.close
     (tie.spec
     (λ c κs. search rules)

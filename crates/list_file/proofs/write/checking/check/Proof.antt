@@ -2,51 +2,51 @@
 use Rattle.std.proofs.Common.{◌∙◌, rules}
 use Rattle.definitions.specs.Answers.{◌then◌}
 use Rattle.calls.specs.CallLaws.{passes}
-use Rattle.checks.specs.CheckLaws.{refused-first, passed_first}
-use Rattle.checks.specs.Coefficients.{coefficientChecks}
+use Rattle.checks.specs.CheckLaws.{refused_first, passed_first}
+use Rattle.checks.specs.Coefficients.{coefficient_checks}
 use Rattle.list_spec.specs.Form.{ListFile}
 use Rattle.list_file.specs.WriteAnswer.{list_of}
-use Rattle.list_file.specs.WriteCheckLaws.{listChecks, counts-in, write-stages}
+use Rattle.list_file.specs.WriteCheckLaws.{list_checks, counts_in, write_stages}
 use Rattle.list_file.proofs.write.checking.check.Statement.{statement}
 use Rattle.list_file.proofs.write.checking.check.Tie as tie
 
 abbrev list : tie.Start → ListFile
 list s = list_of s.args.p s.args.q s.args.coefs.now s.args.rows.now s.args.ending
 
-check-rows-requires : tie.Need-check-rows-requires
-check-rows-requires c κs =
+check_rows_requires : tie.Need-check-rows-requires
+check_rows_requires c κs =
     let told = c.before.before.before in
-    let counts = counts-in _ _ _ (passes told.before.before.check.ensures told.enum_told.given.1) in
-    (counts.q-some, counts.q-few, counts.coefs-few)
+    let counts = counts_in _ _ _ (passes told.before.before.check.ensures told.enum_told.given.1) in
+    (counts.q_some, counts.q_few, counts.coefs_few)
 
 returns : tie.Need-returns
 returns c =
     let s = c.before.before.before.before.before in
-    refused-first (coefficientChecks (list s).coefs then listChecks (list s) s.args.room) c.before.why.given.1
+    refused_first (coefficient_checks (list s).coefs then list_checks (list s) s.args.room) c.before.why.given.1
     c.before.before.before.check.ensures
-    ∙ write-stages (list s) s.args.room
+    ∙ write_stages (list s) s.args.room
 
-returns-2 : tie.Need-returns-2
-returns-2 c =
+returns_2 : tie.Need-returns-2
+returns_2 c =
     let told = c.before.before.before.before in
     let s = told.before.before.before.before in
-    refused-first (listChecks (list s) s.args.room) c.before.why2.given.1 c.before.before.before.check2.ensures
-    ∙ passed_first (coefficientChecks (list s).coefs then listChecks (list s) s.args.room) told.enum_told.given.1
+    refused_first (list_checks (list s) s.args.room) c.before.why2.given.1 c.before.before.before.check2.ensures
+    ∙ passed_first (coefficient_checks (list s).coefs then list_checks (list s) s.args.room) told.enum_told.given.1
     told.before.before.check.ensures
-    ∙ write-stages (list s) s.args.room
+    ∙ write_stages (list s) s.args.room
 
-returns-3 : tie.Need-returns-3
-returns-3 c =
+returns_3 : tie.Need-returns-3
+returns_3 c =
     let told = c.before.before.before.before in
     let s = told.before.before.before.before in
     c.check-rows.ensures s.args.p
-    ∙ passed_first (listChecks (list s) s.args.room) c.before.enum-told2.given.1 c.before.before.before.check2.ensures
-    ∙ passed_first (coefficientChecks (list s).coefs then listChecks (list s) s.args.room) told.enum_told.given.1
+    ∙ passed_first (list_checks (list s) s.args.room) c.before.enum-told2.given.1 c.before.before.before.check2.ensures
+    ∙ passed_first (coefficient_checks (list s).coefs then list_checks (list s) s.args.room) told.enum_told.given.1
     told.before.before.check.ensures
-    ∙ write-stages (list s) s.args.room
+    ∙ write_stages (list s) s.args.room
 
-pub check-spec : {M : Type 1} → statement M
-check-spec =
+pub check_spec : {M : Type 1} → statement M
+check_spec =
     tie.close
     (tie.spec
     (λ c κs. search rules)
@@ -55,7 +55,7 @@ check-spec =
     (λ c κs. search rules)
     (λ c. search rules)
     (λ c. search rules)
-    check-rows-requires
+    check_rows_requires
     returns
-    returns-2
-    returns-3)
+    returns_2
+    returns_3)

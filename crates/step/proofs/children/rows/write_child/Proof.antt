@@ -4,23 +4,23 @@ use Prim.Native.Nat.{ℕ, ◌+◌, ◌*◌}
 use native.Mathlib.Omega.{arith}
 use borrow.Author.Rules.{rules}
 use lib.ListN.{set}
-use Rattle.definitions.specs.Tables.{writeRow}
+use Rattle.definitions.specs.Tables.{write_row}
 use Rattle.table_rows.specs.Rows.{tuple}
-use Rattle.step.specs.RowLaws.{write-raise}
+use Rattle.step.specs.RowLaws.{write_raise}
 use Rattle.step.proofs.children.rows.write_child.Statement.{statement}
 use Rattle.step.proofs.children.rows.write_child.Tie as tie
 
 returns : tie.Need-returns
-unfolding writeRow
+unfolding write_row
 returns c =
     let w = c.before.before.before in
     let a = w.before.before.before.before.args in
     let base : ℕ = a.k * (a.q + 1) in
     ap (λ l. set (set l (base + a.i) (tuple a.t.now a.i + 1)) (base + a.q) a.marks) w.write.ensures
-    ∙ ap (λ l. set l (base + a.q) a.marks) (write-raise a.q a.stack.now base (tuple a.t.now) a.i (omega arith))
+    ∙ ap (λ l. set l (base + a.q) a.marks) (write_raise a.q a.stack.now base (tuple a.t.now) a.i (omega arith))
 
-pub write-child-spec : {M : Type 1} → statement M
-write-child-spec =
+pub write_child_spec : {M : Type 1} → statement M
+write_child_spec =
     tie.close
     (tie.spec
     (λ c. search rules)

@@ -32,9 +32,9 @@ use Rattle.try_runs.specs.contracts.by_ref.lent.resumed as resumed
 use Rattle.try_runs.proofs.by_ref.lent.resumed.Statement as stated
 use Rattle.try_runs.proofs.by_ref.lent.resumed.Code as code
 
-pub resumed-spec : {M : Type 1} → stated.statement M
+pub resumed_spec : {M : Type 1} → stated.statement M
 unfolding code.routine
-resumed-spec 𝓤 𝓛 𝓜 𝓡 =
+resumed_spec 𝓤 𝓛 𝓜 𝓡 =
     let c : Clauses 𝓤 resume.ended = resume.clauses 𝓛 𝓜.mem 𝓡.run in
     let callee : Contract 𝓤 = Met 𝓛 resume.ended c in
     proved 𝓛 𝓜 𝓡 resumed.ended (resumed.clauses 𝓛 𝓜.mem 𝓡.run) code.env #try_walk-ref·resumed code.function

@@ -32,9 +32,9 @@ use Rattle.try_runs.specs.contracts.by_ref.lent.resumed_capped as resumed-capped
 use Rattle.try_runs.proofs.by_ref.lent.resumed_capped.Statement as stated
 use Rattle.try_runs.proofs.by_ref.lent.resumed_capped.Code as code
 
-pub resumed-capped-spec : {M : Type 1} → stated.statement M
+pub resumed_capped_spec : {M : Type 1} → stated.statement M
 unfolding code.routine
-resumed-capped-spec 𝓤 𝓛 𝓜 𝓡 =
+resumed_capped_spec 𝓤 𝓛 𝓜 𝓡 =
     let c : Clauses 𝓤 resume-capped.ended = resume-capped.clauses 𝓛 𝓜.mem 𝓡.run in
     let callee : Contract 𝓤 = Met 𝓛 resume-capped.ended c in
     proved 𝓛 𝓜 𝓡 resumed-capped.ended (resumed-capped.clauses 𝓛 𝓜.mem 𝓡.run) code.env #try_walk-ref·resumed-capped code.function

@@ -28,16 +28,16 @@ use Rattle.walk_ref.proofs.lower.resume_from.Symbol.{name as #walk-ref·lower·r
 use Rattle.walk_ref.proofs.lower.resume_from.Met as resume-from-thm
 use Rattle.try_runs.proofs.Loan.{values, more₂, owned₂, lent_at, loans, gives_back}
 use Rattle.try_runs.specs.contracts.by_ref.lent.resumed_from.Key.{name as #try_walk-ref·resumed-from}
-use Rattle.try_runs.specs.contracts.by_ref.lent.resumed_from as resumed-from
+use Rattle.try_runs.specs.contracts.by_ref.lent.resumed_from as resumed_from
 use Rattle.try_runs.proofs.by_ref.lent.resumed_from.Statement as stated
 use Rattle.try_runs.proofs.by_ref.lent.resumed_from.Code as code
 
-pub resumed-from-spec : {M : Type 1} → stated.statement M
+pub resumed_from_spec : {M : Type 1} → stated.statement M
 unfolding code.routine
-resumed-from-spec 𝓤 𝓛 𝓜 𝓡 =
+resumed_from_spec 𝓤 𝓛 𝓜 𝓡 =
     let c : Clauses 𝓤 resume-from.ended = resume-from.clauses 𝓛 𝓜.mem 𝓡.run in
     let callee : Contract 𝓤 = Met 𝓛 resume-from.ended c in
-    proved 𝓛 𝓜 𝓡 resumed-from.ended (resumed-from.clauses 𝓛 𝓜.mem 𝓡.run) code.env #try_walk-ref·resumed-from code.function
+    proved 𝓛 𝓜 𝓡 resumed_from.ended (resumed_from.clauses 𝓛 𝓜.mem 𝓡.run) code.env #try_walk-ref·resumed-from code.function
     (code.unfolded 𝓤 𝓛.H 𝓜 𝓡)
     (λ κs. owned₂ u32 κs (u64 ∷ []) (number w64, tt)) (λ κs a t. t)
     (λ fm κs qs a g are leave bs.

@@ -25,7 +25,7 @@ use Rattle.reader.specs.declared.Reader.{Reader}
 use Rattle.reader.specs.contracts.Reader as T
 use Rattle.reader.proofs.Reader.TheLaws as T'
 use Rattle.walk_ref.proofs.Frame.{here, ends}
-use Rattle.walk_ref.proofs.Walk.{Met, proved, hands, returned, silent, number, shared-slice, struct}
+use Rattle.walk_ref.proofs.Walk.{Met, proved, hands, returned, silent, number, shared_slice, struct}
 use Rattle.reader.specs.contracts.Reader.new as new
 use Rattle.reader.proofs.Reader.new.Symbol as new-def
 use Rattle.reader.proofs.Reader.new.Symbol.{name as #walk-ref·new}
@@ -39,15 +39,15 @@ use Rattle.try_runs.specs.contracts.by_ref.lent.row as row
 use Rattle.try_runs.proofs.by_ref.lent.row.Statement as stated
 use Rattle.try_runs.proofs.by_ref.lent.row.Code as code
 
-pub row-spec : {M : Type 1} → stated.statement M
+pub row_spec : {M : Type 1} → stated.statement M
 unfolding code.routine
-row-spec 𝓤 𝓛 𝓜 𝓡 =
+row_spec 𝓤 𝓛 𝓜 𝓡 =
     let c : Clauses 𝓤 new.ended = new.clauses 𝓛 𝓜.mem 𝓡.run in
     let d : Clauses 𝓤 shown.ended = shown.clauses 𝓛 𝓜.mem 𝓡.run in
     let makes : Contract 𝓤 = Met 𝓛 new.ended c in
-    let shows-row : Contract 𝓤 = Met 𝓛 shown.ended d in
+    let shows_row : Contract 𝓤 = Met 𝓛 shown.ended d in
     proved 𝓛 𝓜 𝓡 row.ended (row.clauses 𝓛 𝓜.mem 𝓡.run) code.env #try_walk-ref·row code.function (code.unfolded 𝓤 𝓛.H 𝓜 𝓡)
-    (λ κs. (shared-slice (named 0) κs.0 u32, (number w64, (struct S.the_type S'.the_laws, (number w64, tt))))) (λ κs a t. t)
+    (λ κs. (shared_slice (named 0) κs.0 u32, (number w64, (struct S.the_type S'.the_laws, (number w64, tt))))) (λ κs a t. t)
     (λ fm κs qs a g are leave bs.
     let α : NamedLft = named_lft 1 0 tt κs in
     let β : NamedLft = record { mir = erased; lft = κs.0 } in
@@ -69,8 +69,8 @@ row-spec 𝓤 𝓛 𝓜 𝓡 =
     rewrite ! 0 (λ (u : Reader). ‵ ((T.the_row α).own_val u (w ∷ []))) (λ i. record { list = e.0 i; q = e.1 i }) refl $
     -- [what the reader owns; the tokens; what is said of last values; what the others own; the locals]
     move ! (2 ∷ []) $ drop ! $ move ! (0 ∷ 2 ∷ []) $ fjoin ! $ move ! (1 ∷ 0 ∷ []) $ hands ! $
-    let z : shows-row.Ghost = ((κs, qs, tt, (h, a.1.1), (w ∷ [], (S'.lowered a.1.1.0 ∷ [], (uint_vals w64 a.1.1.1.0, tt)))), tt) in
-    calls_at ! fm shows-row (cited 𝓤 𝓛.H shows-row 𝓜 𝓡 code.env #walk-ref·row shown-def.routine code.calls-reader::Reader::row (shown-thm.met 𝓤 𝓛 𝓜 𝓡)) z
+    let z : shows_row.Ghost = ((κs, qs, tt, (h, a.1.1), (w ∷ [], (S'.lowered a.1.1.0 ∷ [], (uint_vals w64 a.1.1.1.0, tt)))), tt) in
+    calls_at ! fm shows_row (cited 𝓤 𝓛.H shows_row 𝓜 𝓡 code.env #walk-ref·row shown-def.routine code.calls-reader::Reader::row (shown-thm.met 𝓤 𝓛 𝓜 𝓡)) z
     -- [what the call is handed; the locals]
     (and_then ! (here ! 7 refl) (and_then ! (here ! 4 refl) (and_then ! (here ! 5 refl) (no_more !)))) (λ w₂.
     returned ! tt shown.ended d z w₂ (λ p us. peeks ! Part (Is Part) (shows 𝓛 Part) p (w₂ ∷ []) (λ is-p.

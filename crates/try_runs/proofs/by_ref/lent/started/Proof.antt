@@ -31,9 +31,9 @@ use Rattle.try_runs.specs.contracts.by_ref.lent.started as started
 use Rattle.try_runs.proofs.by_ref.lent.started.Statement as stated
 use Rattle.try_runs.proofs.by_ref.lent.started.Code as code
 
-pub started-spec : {M : Type 1} → stated.statement M
+pub started_spec : {M : Type 1} → stated.statement M
 unfolding code.routine
-started-spec 𝓤 𝓛 𝓜 𝓡 =
+started_spec 𝓤 𝓛 𝓜 𝓡 =
     let c : Clauses 𝓤 start.ended = start.clauses 𝓛 𝓜.mem 𝓡.run in
     let callee : Contract 𝓤 = Met 𝓛 start.ended c in
     proved 𝓛 𝓜 𝓡 started.ended (started.clauses 𝓛 𝓜.mem 𝓡.run) code.env #try_walk-ref·started code.function

@@ -32,9 +32,9 @@ use Rattle.try_runs.specs.contracts.by_ref.lent.started_capped as started-capped
 use Rattle.try_runs.proofs.by_ref.lent.started_capped.Statement as stated
 use Rattle.try_runs.proofs.by_ref.lent.started_capped.Code as code
 
-pub started-capped-spec : {M : Type 1} → stated.statement M
+pub started_capped_spec : {M : Type 1} → stated.statement M
 unfolding code.routine
-started-capped-spec 𝓤 𝓛 𝓜 𝓡 =
+started_capped_spec 𝓤 𝓛 𝓜 𝓡 =
     let c : Clauses 𝓤 start-capped.ended = start-capped.clauses 𝓛 𝓜.mem 𝓡.run in
     let callee : Contract 𝓤 = Met 𝓛 start-capped.ended c in
     proved 𝓛 𝓜 𝓡 started-capped.ended (started-capped.clauses 𝓛 𝓜.mem 𝓡.run) code.env #try_walk-ref·started-capped code.function

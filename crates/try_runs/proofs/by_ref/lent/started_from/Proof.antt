@@ -28,16 +28,16 @@ use Rattle.walk_ref.proofs.lower.start_from.Symbol.{name as #walk-ref·lower·st
 use Rattle.walk_ref.proofs.lower.start_from.Met as start-from-thm
 use Rattle.try_runs.proofs.Loan.{values, more₂, owned₂, lent_at, loans, gives_back}
 use Rattle.try_runs.specs.contracts.by_ref.lent.started_from.Key.{name as #try_walk-ref·started-from}
-use Rattle.try_runs.specs.contracts.by_ref.lent.started_from as started-from
+use Rattle.try_runs.specs.contracts.by_ref.lent.started_from as started_from
 use Rattle.try_runs.proofs.by_ref.lent.started_from.Statement as stated
 use Rattle.try_runs.proofs.by_ref.lent.started_from.Code as code
 
-pub started-from-spec : {M : Type 1} → stated.statement M
+pub started_from_spec : {M : Type 1} → stated.statement M
 unfolding code.routine
-started-from-spec 𝓤 𝓛 𝓜 𝓡 =
+started_from_spec 𝓤 𝓛 𝓜 𝓡 =
     let c : Clauses 𝓤 start-from.ended = start-from.clauses 𝓛 𝓜.mem 𝓡.run in
     let callee : Contract 𝓤 = Met 𝓛 start-from.ended c in
-    proved 𝓛 𝓜 𝓡 started-from.ended (started-from.clauses 𝓛 𝓜.mem 𝓡.run) code.env #try_walk-ref·started-from code.function
+    proved 𝓛 𝓜 𝓡 started_from.ended (started_from.clauses 𝓛 𝓜.mem 𝓡.run) code.env #try_walk-ref·started-from code.function
     (code.unfolded 𝓤 𝓛.H 𝓜 𝓡)
     (λ κs. owned₂ u32 κs [] tt) (λ κs a t. t)
     (λ fm κs qs a g are leave bs.

@@ -3,14 +3,14 @@ use Rattle.std.proofs.Common.{◌-◌, ◌≤◌, length, rules}
 use Rattle.try_runs.proofs.drawn.boxes.holds.Statement.{statement}
 use Rattle.try_runs.proofs.drawn.boxes.holds.Tie as tie
 
-abbrev invariant-loop : tie.invariant-loop
-invariant-loop tuple i₀ i = i ≤ length tuple
+abbrev invariant_loop : tie.invariant_loop
+invariant_loop tuple i₀ i = i ≤ length tuple
 
-abbrev decreases-loop : tie.decreases-loop
-decreases-loop tuple i₀ i = length tuple - i
+abbrev decreases_loop : tie.decreases_loop
+decreases_loop tuple i₀ i = length tuple - i
 
-pub holds-spec : {M : Type 1} → statement M
-holds-spec =
+pub holds_spec : {M : Type 1} → statement M
+holds_spec =
     tie.close
-    (tie.spec invariant-loop decreases-loop (λ c. search rules) (λ c. search rules) (λ c. search rules) (λ c. search rules) (λ c. search rules) (λ c. search rules)
+    (tie.spec invariant_loop decreases_loop (λ c. search rules) (λ c. search rules) (λ c. search rules) (λ c. search rules) (λ c. search rules) (λ c. search rules)
     (λ c. search rules) (λ c. search rules))

@@ -3,14 +3,14 @@ use Rattle.std.proofs.Common.{◌≡◌, ◌-◌, ◌≤◌, length, rules}
 use Rattle.try_runs.proofs.drawn.boxes.minimal.Statement.{statement}
 use Rattle.try_runs.proofs.drawn.boxes.minimal.Tie as tie
 
-abbrev invariant-loop : tie.invariant-loop
-invariant-loop p q coefs rights lower rows₀ most n₀ code₀ rows n code = (code ≤ most) × (length rows ≡ length rows₀)
+abbrev invariant_loop : tie.invariant_loop
+invariant_loop p q coefs rights lower rows₀ most n₀ code₀ rows n code = (code ≤ most) × (length rows ≡ length rows₀)
 
-abbrev decreases-loop : tie.decreases-loop
-decreases-loop p q coefs rights lower rows₀ most n₀ code₀ rows n code = most - code
+abbrev decreases_loop : tie.decreases_loop
+decreases_loop p q coefs rights lower rows₀ most n₀ code₀ rows n code = most - code
 
-pub minimal-spec : {M : Type 1} → statement M
-minimal-spec =
+pub minimal_spec : {M : Type 1} → statement M
+minimal_spec =
     tie.close
-    (tie.spec invariant-loop decreases-loop (λ c κs. search rules) (λ c. search rules) (λ c κs. search rules) (λ c κs. search rules) (λ c. search rules)
+    (tie.spec invariant_loop decreases_loop (λ c κs. search rules) (λ c. search rules) (λ c κs. search rules) (λ c κs. search rules) (λ c. search rules)
     (λ c. search rules) (λ c. search rules) (λ c. search rules) (λ c. search rules))

@@ -3,14 +3,14 @@ use Rattle.std.proofs.Common.{◌-◌, ◌≤◌, rules}
 use Rattle.try_runs.proofs.drawn.compare.alone.Statement.{statement}
 use Rattle.try_runs.proofs.drawn.compare.alone.Tie as tie
 
-abbrev invariant-loop : tie.invariant-loop
-invariant-loop list found q i k₀ k = k ≤ found
+abbrev invariant_loop : tie.invariant_loop
+invariant_loop list found q i k₀ k = k ≤ found
 
-abbrev decreases-loop : tie.decreases-loop
-decreases-loop list found q i k₀ k = found - k
+abbrev decreases_loop : tie.decreases_loop
+decreases_loop list found q i k₀ k = found - k
 
-pub alone-spec : {M : Type 1} → statement M
-alone-spec =
+pub alone_spec : {M : Type 1} → statement M
+alone_spec =
     tie.close
-    (tie.spec invariant-loop decreases-loop (λ c. search rules) (λ c κs. search rules) (λ c κs. search rules) (λ c κs. search rules) (λ c. search rules)
+    (tie.spec invariant_loop decreases_loop (λ c. search rules) (λ c κs. search rules) (λ c κs. search rules) (λ c κs. search rules) (λ c. search rules)
     (λ c. search rules) (λ c. search rules) (λ c. search rules) (λ c. search rules))

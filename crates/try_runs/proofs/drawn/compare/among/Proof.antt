@@ -3,14 +3,14 @@ use Rattle.std.proofs.Common.{◌-◌, ◌≤◌, rules}
 use Rattle.try_runs.proofs.drawn.compare.among.Statement.{statement}
 use Rattle.try_runs.proofs.drawn.compare.among.Tie as tie
 
-abbrev invariant-loop : tie.invariant-loop
-invariant-loop rows n q tuple i₀ i = i ≤ n
+abbrev invariant_loop : tie.invariant_loop
+invariant_loop rows n q tuple i₀ i = i ≤ n
 
-abbrev decreases-loop : tie.decreases-loop
-decreases-loop rows n q tuple i₀ i = n - i
+abbrev decreases_loop : tie.decreases_loop
+decreases_loop rows n q tuple i₀ i = n - i
 
-pub among-spec : {M : Type 1} → statement M
-among-spec =
+pub among_spec : {M : Type 1} → statement M
+among_spec =
     tie.close
-    (tie.spec invariant-loop decreases-loop (λ c. search rules) (λ c κs. search rules) (λ c κs. search rules) (λ c. search rules) (λ c. search rules)
+    (tie.spec invariant_loop decreases_loop (λ c. search rules) (λ c κs. search rules) (λ c κs. search rules) (λ c. search rules) (λ c. search rules)
     (λ c. search rules) (λ c. search rules) (λ c. search rules))

@@ -3,14 +3,14 @@ use Rattle.std.proofs.Common.{◌-◌, ◌≤◌, rules}
 use Rattle.try_runs.proofs.drawn.compare.wrong_rows.Statement.{statement}
 use Rattle.try_runs.proofs.drawn.compare.wrong_rows.Tie as tie
 
-abbrev invariant-loop : tie.invariant-loop
-invariant-loop p q coefs rights lower list found minimal n wrong₀ i₀ wrong i = i ≤ found
+abbrev invariant_loop : tie.invariant_loop
+invariant_loop p q coefs rights lower list found minimal n wrong₀ i₀ wrong i = i ≤ found
 
-abbrev decreases-loop : tie.decreases-loop
-decreases-loop p q coefs rights lower list found minimal n wrong₀ i₀ wrong i = found - i
+abbrev decreases_loop : tie.decreases_loop
+decreases_loop p q coefs rights lower list found minimal n wrong₀ i₀ wrong i = found - i
 
-pub wrong-rows-spec : {M : Type 1} → statement M
-wrong-rows-spec =
+pub wrong_rows_spec : {M : Type 1} → statement M
+wrong_rows_spec =
     tie.close
-    (tie.spec invariant-loop decreases-loop (λ c. search rules) (λ c κs. search rules) (λ c κs. search rules) (λ c κs. search rules) (λ c κs. search rules)
+    (tie.spec invariant_loop decreases_loop (λ c. search rules) (λ c κs. search rules) (λ c κs. search rules) (λ c κs. search rules) (λ c κs. search rules)
     (λ c κs. search rules) (λ c κs. search rules) (λ c. search rules) (λ c. search rules) (λ c. search rules) (λ c. search rules))

@@ -3,14 +3,14 @@ use Rattle.std.proofs.Common.{◌-◌, ◌≤◌, rules}
 use Rattle.try_runs.proofs.drawn.sums.solves.Statement.{statement}
 use Rattle.try_runs.proofs.drawn.sums.solves.Tie as tie
 
-abbrev invariant-loop : tie.invariant-loop
-invariant-loop p q coefs rights tuple i₀ i = i ≤ p
+abbrev invariant_loop : tie.invariant_loop
+invariant_loop p q coefs rights tuple i₀ i = i ≤ p
 
-abbrev decreases-loop : tie.decreases-loop
-decreases-loop p q coefs rights tuple i₀ i = p - i
+abbrev decreases_loop : tie.decreases_loop
+decreases_loop p q coefs rights tuple i₀ i = p - i
 
-pub solves-spec : {M : Type 1} → statement M
-solves-spec =
+pub solves_spec : {M : Type 1} → statement M
+solves_spec =
     tie.close
-    (tie.spec invariant-loop decreases-loop (λ c. search rules) (λ c κs. search rules) (λ c κs. search rules) (λ c. search rules) (λ c. search rules) (λ c. search rules)
+    (tie.spec invariant_loop decreases_loop (λ c. search rules) (λ c κs. search rules) (λ c κs. search rules) (λ c. search rules) (λ c. search rules) (λ c. search rules)
     (λ c. search rules) (λ c. search rules))

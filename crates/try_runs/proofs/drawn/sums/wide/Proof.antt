@@ -4,10 +4,10 @@ use mir.Facts.{sfits_widen}
 use Rattle.try_runs.proofs.drawn.sums.wide.Statement.{statement}
 use Rattle.try_runs.proofs.drawn.sums.wide.Tie as tie
 
-cast-result : tie.Need-overflow-cast-result
-cast-result c = rw (to_z-of_z c.ranges.x) (sfits_widen tt c.ranges.x)
+cast_result : tie.Need-overflow-cast-result
+cast_result c = rw (to_z-of_z c.ranges.x) (sfits_widen tt c.ranges.x)
 
 pub wide_spec : {M : Type 1} → statement M
 wide_spec =
     tie.close
-    (tie.spec cast-result (λ c. search rules))
+    (tie.spec cast_result (λ c. search rules))
