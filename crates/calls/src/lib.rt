@@ -16,15 +16,15 @@ pub const STEP_LIMIT: u64 = 1000000000000;
 pub const DEEPEST_LIMIT: u64 = 16000000;
 
 // Steps taken.
-#[derive(Drop)]
+#[derive(Clone, Copy)]
 pub struct Steps(pub u64);
 
 // Solutions found.
-#[derive(Drop)]
+#[derive(Clone, Copy)]
 pub struct Solutions(pub usize);
 
 // The kinds of run, as the run record has them.
-#[derive(Drop)]
+#[derive(Clone, Copy)]
 pub enum RunKind {
     Plain,
     Capped,
@@ -54,7 +54,7 @@ pub fn same_run(a: RunKind, b: RunKind) -> bool
 }
 
 // The run record. Where a run has two lists, `found2` counts the rows of the second one; of a run from a lower bound `steps2` are the steps of its plain walk.
-#[derive(Drop)]
+#[derive(Clone, Copy)]
 pub struct Record {
     pub kind: RunKind,
     pub height: usize,
@@ -134,7 +134,7 @@ pub fn limit_of(limit: u32) -> u32
 }
 
 // Why a call is refused; specs/Paper.antt has the documents' number for each.
-#[derive(Drop)]
+#[derive(Clone, Copy)]
 pub enum Refusal {
     Equations,
     Unknowns,
@@ -160,7 +160,7 @@ pub enum Refusal {
 }
 
 // What a call answers.
-#[derive(Drop)]
+#[derive(Clone, Copy)]
 pub enum Answer {
     Started,
     Complete,
@@ -169,14 +169,14 @@ pub enum Answer {
 }
 
 // What a call answers, and the run record that it leaves.
-#[derive(Drop)]
+#[derive(Clone, Copy)]
 pub struct Outcome {
     pub answer: Answer,
     pub run: Record,
 }
 
 // What a check finds.
-#[derive(Drop)]
+#[derive(Clone, Copy)]
 pub enum Check {
     Refuse(Refusal),
     Pass,

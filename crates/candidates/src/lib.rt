@@ -16,7 +16,7 @@ ghost use Rattle.candidates.specs.Open.{Differs};
 ghost use Rattle.candidates.specs.Tried.{tried_by, tried_if};
 
 // The kinds of walk: plain, with a first unknown that is never raised past 1, and above a lower bound. specs/Kinds.antt has what they are in the definitions.
-#[derive(Drop)]
+#[derive(Clone, Copy)]
 pub enum Kind {
     Plain,
     Capped,
@@ -24,7 +24,7 @@ pub enum Kind {
 }
 
 // What trying the candidates came to: a child would have a component above the limit, or the unknowns that make a child, as marks.
-#[derive(Drop)]
+#[derive(Clone, Copy)]
 pub enum Tried {
     TooLarge,
     Made(u32),

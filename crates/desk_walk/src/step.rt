@@ -14,7 +14,7 @@ use calls::Refusal;
 use desk_rows::{images, marks, rows};
 
 // What a step came to: a solution listed, with the number of rows then listed; children written up to a height; or a refusal.
-#[derive(Drop)]
+#[derive(Clone, Copy)]
 pub enum DeskStepped {
     Listed(usize),
     Grown(usize),
@@ -22,7 +22,7 @@ pub enum DeskStepped {
 }
 
 // What trying the generators came to: a child would have a component above the limit, or those that make a child, as marks.
-#[derive(Drop)]
+#[derive(Clone, Copy)]
 pub enum TriedGenerators {
     TooLarge,
     Made(u64),

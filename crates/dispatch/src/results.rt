@@ -130,7 +130,7 @@ pub fn kept(records: [Record; 8]) -> [Outcome; 8]
 }
 
 // What is answered for the runs, and the steps that they took.
-#[derive(Drop)]
+#[derive(Clone, Copy)]
 pub struct Finished {
     pub outcomes: [Outcome; 8],
     pub steps: Steps,

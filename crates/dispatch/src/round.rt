@@ -8,7 +8,7 @@ use crate::types::{Last, Progress};
 use calls::Answer;
 
 // A run, or none.
-#[derive(Drop)]
+#[derive(Clone, Copy)]
 pub enum Found {
     At(usize),
     Nothing,

@@ -10,7 +10,7 @@ use crate::{round, turn};
 use calls::Outcome;
 
 // How far the runs have come, and the number of the run served last.
-#[derive(Drop)]
+#[derive(Clone, Copy)]
 pub struct Served {
     pub progress: [Progress; 8],
     pub last: usize,

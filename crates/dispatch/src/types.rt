@@ -2,7 +2,7 @@
 use calls::{Answer, Outcome, Record, Steps};
 
 // A part of a table: where it begins, and how many numbers it has.
-#[derive(Drop)]
+#[derive(Clone, Copy)]
 pub struct Part {
     pub start: usize,
     pub size: usize,
@@ -10,7 +10,7 @@ pub struct Part {
 
 // What a run goes by: its map, whose coefficients are a part of one slice, and its parts of the two tables. Coefficients that leave the slice are missing,
 // so that they are the run's own refusal 3.
-#[derive(Drop)]
+#[derive(Clone, Copy)]
 pub struct Share {
     pub p: usize,
     pub q: usize,
@@ -20,28 +20,28 @@ pub struct Share {
 }
 
 // What a run's last turn in a call answered.
-#[derive(Drop)]
+#[derive(Clone, Copy)]
 pub enum Last {
     NoTurn,
     Turn(Answer),
 }
 
 // How far a run has come.
-#[derive(Drop)]
+#[derive(Clone, Copy)]
 pub struct Progress {
     pub run: Record,
     pub last: Last,
 }
 
 // Why a call is refused as a whole: 27 and 28.
-#[derive(Drop)]
+#[derive(Clone, Copy)]
 pub enum Fault {
     Schedule,
     Parts,
 }
 
 // What the checks of a call find.
-#[derive(Drop)]
+#[derive(Clone, Copy)]
 pub enum Verdict {
     Refuse(Fault),
     Pass,
@@ -50,7 +50,7 @@ pub enum Verdict {
 // What a call returns: whether it was refused as a whole; for each run what it answers and the record that it leaves; the number of the run served
 // last; and the steps that the runs took. A place past the number of runs, and each place of a call that was refused, has the answer `Started`, which no turn
 // gives, and its record as it was handed over.
-#[derive(Drop)]
+#[derive(Clone, Copy)]
 pub struct Dispatched {
     pub verdict: Verdict,
     pub outcomes: [Outcome; 8],

@@ -13,7 +13,7 @@ pub mod words; // words.rt: the words of rows, and the tests on them
 // The record of a run: the equations done, as marks; the equation of the stage under way, p where there is none; its fresh unknown, q where there is none; the
 // rows of the basis and of the stage; and where the stage stands: the row of the basis, the degree and the pair that are next. The steps taken. The cap on the
 // first unknown, 0 where there is none.
-#[derive(Drop)]
+#[derive(Clone, Copy)]
 pub struct Record {
     pub done: u32,
     pub equation: usize,
@@ -29,7 +29,7 @@ pub struct Record {
 }
 
 // The lengths of the tables beside the basis and the stage.
-#[derive(Drop)]
+#[derive(Clone, Copy)]
 pub struct Beside {
     pub sizes: usize,
     pub values: usize,
@@ -40,7 +40,7 @@ pub struct Beside {
 }
 
 // What a call answers, and the record that it leaves.
-#[derive(Drop)]
+#[derive(Clone, Copy)]
 pub struct Outcome {
     pub answer: Answer,
     pub run: Record,

@@ -8,7 +8,7 @@ ghost use Rattle.engine_search.specs.Places.{Falling, Found, Ranked, degree_of, 
 ghost use Rattle.engine_search.specs.Scans.{Below};
 
 // The pair of rows that is next. From row `first` on, no degree is below what the degree of `upper` leaves.
-#[derive(Drop)]
+#[derive(Clone, Copy)]
 pub struct Place {
     pub upper: usize,
     pub lower: usize,
@@ -135,7 +135,7 @@ fn least_pair(values: &[i64], degrees: &[u32], n: usize, d: u64) -> u64
 }
 
 // From row `first` on no degree is below some number; `low` is the first of them with a value below 0.
-#[derive(Drop)]
+#[derive(Clone, Copy)]
 struct Edge {
     first: usize,
     low: usize,

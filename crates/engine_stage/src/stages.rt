@@ -7,7 +7,7 @@ use crate::turns;
 use crate::turns::{Frame, Next, Turned};
 
 // How a loop over turns ended: the budget is used up; refused with 14, 12 or 31; or the stage is at its end.
-#[derive(Drop)]
+#[derive(Clone, Copy)]
 pub enum Ending {
     Paused,
     Late,
@@ -17,7 +17,7 @@ pub enum Ending {
 }
 
 // How it ended, and where the stage stands.
-#[derive(Drop)]
+#[derive(Clone, Copy)]
 pub struct Ran {
     pub ending: Ending,
     pub next: Next,

@@ -16,7 +16,7 @@ use engine_search::Place;
 
 // What a stage has: q unknowns, m rows of the basis, room for so many rows, its equation from place `from` of the coefficients on, and the cap on the first
 // unknown, 0 where there is none.
-#[derive(Drop)]
+#[derive(Clone, Copy)]
 pub struct Frame {
     pub q: usize,
     pub m: usize,
@@ -27,7 +27,7 @@ pub struct Frame {
 
 // Where a stage stands: its rows, the row of the basis that is next, the degree under way, the pair that is next, the steps; from row `first` on no degree is
 // below what the degree of `upper` leaves; and whether a row of the basis of this degree may be left.
-#[derive(Drop)]
+#[derive(Clone, Copy)]
 pub struct Next {
     pub rows: usize,
     pub taken: usize,
@@ -40,7 +40,7 @@ pub struct Next {
 }
 
 // What a turn came to: 14, 12 and 31 stop it.
-#[derive(Drop)]
+#[derive(Clone, Copy)]
 pub enum Turned {
     Goes(Next),
     Late,

@@ -11,7 +11,7 @@ use crate::sums::{After, read_sum};
 use crate::totals::{either, out_of_range};
 
 // Why a text is refused; specs/Answer.antt has the papers' number for each.
-#[derive(Drop)]
+#[derive(Clone, Copy)]
 pub enum EquationRefusal {
     Length,
     Unknowns,
@@ -24,7 +24,7 @@ pub enum EquationRefusal {
 }
 
 // What reading a text answers.
-#[derive(Drop)]
+#[derive(Clone, Copy)]
 pub enum EquationRead {
     Equation { right: i32 },
     Refused(EquationRefusal),

@@ -19,7 +19,7 @@ ghost use Rattle.equation_read.specs.Phases.{step_of, phase_of};
 use texts::number::is_digit;
 
 // What stands before the next byte; specs/Phases.antt has the phase of each case.
-#[derive(Drop)]
+#[derive(Clone, Copy)]
 pub enum Phase {
     Nothing,
     SumDue,
@@ -34,7 +34,7 @@ pub enum Phase {
 }
 
 // The next phase, with the brackets that are open and whether "=" has been passed; or the byte may not stand there.
-#[derive(Drop)]
+#[derive(Clone, Copy)]
 pub enum Step {
     To {
         phase: Phase,

@@ -11,7 +11,7 @@ use texts::number::{Natural, is_digit, read_natural};
 
 // The place after what was read, and whether the multipliers around a bracket exceed the limit; or nothing of the form, of brackets at most `depth` deep,
 // stands there.
-#[derive(Drop)]
+#[derive(Clone, Copy)]
 pub enum After {
     At { next: usize, exceeds: bool },
     Stopped,

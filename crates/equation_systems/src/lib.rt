@@ -10,7 +10,7 @@ use texts::rows::copy;
 mod lines; // lines.rt: the lines in turn
 
 // Why a system is refused; specs/Answer.antt has the papers' number for each.
-#[derive(Drop)]
+#[derive(Clone, Copy)]
 pub enum SystemRefusal {
     Length,
     Equations,
@@ -21,7 +21,7 @@ pub enum SystemRefusal {
 }
 
 // What reading a system answers.
-#[derive(Drop)]
+#[derive(Clone, Copy)]
 pub enum SystemRead {
     System { p: usize },
     Refused(SystemRefusal),

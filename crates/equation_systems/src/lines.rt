@@ -8,7 +8,7 @@ ghost use Rattle.equation_systems.specs.Answer.{rows_by, row_by, Shape};
 use equation_read::equation::{EquationRead, EquationRefusal, read_equation};
 
 // All lines; or the first that no newline ends, or that is refused, by its number from 1.
-#[derive(Drop)]
+#[derive(Clone, Copy)]
 pub enum Lines {
     Read,
     Newline(usize),
@@ -16,7 +16,7 @@ pub enum Lines {
 }
 
 // One line.
-#[derive(Drop)]
+#[derive(Clone, Copy)]
 pub enum Row {
     Read,
     Refused(EquationRefusal),

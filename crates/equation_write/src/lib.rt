@@ -12,7 +12,7 @@ use checks::coefficients::out_of_range;
 use texts::put::{byte, number, signed, size, word};
 
 // What writing a row answers: how many bytes it has, or why it is not written; specs/Answer.antt has the papers' number for each case.
-#[derive(Drop)]
+#[derive(Clone, Copy)]
 pub enum EquationWritten {
     Written(usize),
     Refused(Refusal),

@@ -10,7 +10,7 @@ mod checking; // checking.rt: what the reader looks at
 mod tables; // tables.rt: handing out what was read
 
 // What the reader answers.
-#[derive(Drop)]
+#[derive(Clone, Copy)]
 pub enum Read {
     List {
         p: usize,

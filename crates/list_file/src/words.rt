@@ -9,7 +9,7 @@ ghost use Rattle.list_file.specs.Paper.{number_of, values_of};
 use calls::Refusal;
 
 // Why a list or a file is refused; specs/Paper.antt has the document's number for each. A system is refused as by every other call.
-#[derive(Drop)]
+#[derive(Clone, Copy)]
 pub enum FileRefusal {
     System(Refusal),
     Length,
@@ -20,7 +20,7 @@ pub enum FileRefusal {
 }
 
 // What a check finds.
-#[derive(Drop)]
+#[derive(Clone, Copy)]
 pub enum FileCheck {
     Refuse(FileRefusal),
     Pass,

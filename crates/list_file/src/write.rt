@@ -10,7 +10,7 @@ mod checking; // checking.rt: what the writer looks at
 mod content; // content.rt: the words that are written
 
 // What the writer answers.
-#[derive(Drop)]
+#[derive(Clone, Copy)]
 pub enum Write {
     Whole,
     Refused(FileRefusal),

@@ -9,7 +9,7 @@ use crate::lines::{Line, Rows};
 mod lines; // lines.rt: lines of numbers
 
 // Why a text is refused; specs/Answer.antt has document 01's number for each.
-#[derive(Drop)]
+#[derive(Clone, Copy)]
 pub enum TextRefusal {
     Form(usize),
     Length,
@@ -19,7 +19,7 @@ pub enum TextRefusal {
 }
 
 // What reading a text answers.
-#[derive(Drop)]
+#[derive(Clone, Copy)]
 pub enum Read {
     Map { p: usize, q: usize },
     Refused(TextRefusal),

@@ -15,7 +15,7 @@ use reasons::Reason;
 mod rows; // rows.rt: rows taken off a tuple
 
 // What is answered, equations from 1; specs/Answers.antt has the document's values for each.
-#[derive(Drop)]
+#[derive(Clone, Copy)]
 pub enum Parts {
     Made,
     Off(usize, i64),
@@ -25,7 +25,7 @@ pub enum Parts {
 }
 
 // Why a tuple is not taken apart: it is no solution, or the question is refused.
-#[derive(Drop)]
+#[derive(Clone, Copy)]
 pub enum Excuse {
     Solves,
     Off(usize, i64),

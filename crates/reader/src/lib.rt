@@ -17,7 +17,7 @@ pub struct Reader<'a> {
 }
 
 // Whether a reader shows rows.
-#[derive(Drop)]
+#[derive(Clone, Copy)]
 pub enum Readable {
     Yes,
     Refused(Refusal),
@@ -73,7 +73,7 @@ pub fn row_of(list: &[u32], q: usize, found: Solutions, n: usize) -> &[u32]
 }
 
 // Which of the two lists of a capped run a row is asked from: the one at 0, or the one at 1.
-#[derive(Drop)]
+#[derive(Clone, Copy)]
 pub enum Which {
     Zero,
     One,

@@ -8,7 +8,7 @@ use calls::{Refusal, Solutions};
 use table_rows::lists::Place;
 
 // Where the row is, its place from 1; specs/Answers.antt has the documents' values for each.
-#[derive(Drop)]
+#[derive(Clone, Copy)]
 pub enum Located {
     At(usize),
     Nowhere,

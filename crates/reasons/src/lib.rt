@@ -18,7 +18,7 @@ mod asked; // asked.rt: what is refused
 pub mod told; // told.rt: a reason as numbers
 
 // The reasons, equations and places from 1; specs/Answers.antt has the document's values for each.
-#[derive(Drop)]
+#[derive(Clone, Copy)]
 pub enum Reason {
     Zero,
     Off(usize, i64),
@@ -29,7 +29,7 @@ pub enum Reason {
 }
 
 // The first equation that is off, from 1, and its amount.
-#[derive(Drop)]
+#[derive(Clone, Copy)]
 pub enum Balance {
     Even,
     Off(usize, i64),

@@ -15,7 +15,7 @@ mod lines; // lines.rt: the line of a minimal solution
 mod map; // map.rt: what the listing looks at before the rows
 
 // Why the listing is refused; specs/Listed.antt has the documents' number for each.
-#[derive(Drop)]
+#[derive(Clone, Copy)]
 pub enum ListingRefusal {
     Call(Refusal),
     NotMinimal(usize),
@@ -23,14 +23,14 @@ pub enum ListingRefusal {
 }
 
 // What the listing answers: how many bytes it wrote, or a refusal.
-#[derive(Drop)]
+#[derive(Clone, Copy)]
 pub enum ListingAnswer {
     Written(usize),
     Refused(ListingRefusal),
 }
 
 // What the first pass finds.
-#[derive(Drop)]
+#[derive(Clone, Copy)]
 enum ListingCheck {
     Refuse(ListingRefusal),
     Pass,

@@ -12,7 +12,7 @@ use candidates::{Kind, Tried};
 pub mod children; // children.rt: the children of the row taken off
 
 // What a step came to: a solution listed in the first or the second list, children written up to a height, or a refusal.
-#[derive(Drop)]
+#[derive(Clone, Copy)]
 pub enum Stepped {
     Listed,
     ListedSecond,

@@ -7,7 +7,7 @@ ghost use Rattle.table_rows.specs.Places.{place_of};
 ghost use Rattle.table_rows.specs.Rows.{tuple};
 
 // A place in a list, from 1; specs/Places.antt has the document's values.
-#[derive(Drop)]
+#[derive(Clone, Copy)]
 pub enum Place {
     At(usize),
     Nowhere,

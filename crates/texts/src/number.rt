@@ -4,13 +4,13 @@ ghost use Rattle.texts.specs.Reading.{is_digit, more_digits, may_follow, read_na
 ghost use Rattle.texts.specs.Places.{natural_parse, number_parse, Room, FewDigits};
 
 // A natural number, and the place after it; specs/Places.antt has what is read for each case.
-#[derive(Drop)]
+#[derive(Clone, Copy)]
 pub enum Natural {
     Parsed { value: u32, next: usize },
     Malformed,
 }
 
-#[derive(Drop)]
+#[derive(Clone, Copy)]
 pub enum Number {
     Parsed { value: i32, next: usize },
     Malformed,

@@ -14,7 +14,7 @@ const BUDGET: u64 = 5000;
 
 // Runs made and finished; rows listed in the box and outside it, and those of them that should not be listed; minimal solutions that the boxes of
 // finished runs have, and those of them that are not listed.
-#[derive(Drop)]
+#[derive(Clone, Copy)]
 struct Tally {
     runs: u64,
     finished: u64,
@@ -26,7 +26,7 @@ struct Tally {
 }
 
 // Which runs are made; and of runs from a lower bound or with right sides, which of their two lists is held against the box.
-#[derive(Drop)]
+#[derive(Clone, Copy)]
 enum Sort {
     Plain,
     From,

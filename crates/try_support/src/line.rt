@@ -11,7 +11,7 @@ pub const COEFFICIENTS: usize = 160;
 pub const RECORD: usize = 80;
 
 // A word so far: its letter or 0, its sign, whether it has digits, and their number.
-#[derive(Drop)]
+#[derive(Clone, Copy)]
 pub struct Word {
     letter: u8,
     minus: bool,
@@ -20,7 +20,7 @@ pub struct Word {
 }
 
 // What a line has said so far.
-#[derive(Drop)]
+#[derive(Clone, Copy)]
 pub struct Line {
     pub kind: u8,
     pub operands: [u64; 8],

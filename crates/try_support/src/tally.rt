@@ -2,7 +2,7 @@
 use crate::up;
 
 // Lines read; and calls tried and agreed, all and by the letter of their kind.
-#[derive(Drop)]
+#[derive(Clone, Copy)]
 pub struct Tally {
     lines: u64,
     tried: u64,

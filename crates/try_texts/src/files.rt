@@ -12,7 +12,7 @@ use try_support::{print, up};
 // What stands in the tables before a call.
 const BEFORE: u32 = 77;
 
-#[derive(Drop)]
+#[derive(Clone, Copy)]
 struct Line {
     letter: u8,
     field: usize,
@@ -20,14 +20,14 @@ struct Line {
     second: usize,
 }
 
-#[derive(Drop)]
+#[derive(Clone, Copy)]
 struct Rooms {
     coefs: usize,
     list: usize,
 }
 
 // What was read of the line under way, and the lengths of the tables lent.
-#[derive(Drop)]
+#[derive(Clone, Copy)]
 struct Under {
     line: Line,
     rooms: Rooms,

@@ -9,7 +9,7 @@ mod escaped; // escaped.rt: the text that an escaped line stands for
 // What stands in the space for a report: a byte that no report has.
 const BEFORE: u8 = 170;
 
-#[derive(Drop)]
+#[derive(Clone, Copy)]
 struct Tally {
     texts: u64,
     bytes: u64,

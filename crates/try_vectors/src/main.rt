@@ -14,7 +14,7 @@ mod plain; // plain.rt: document 01's calls and single-file maps (tests/model)
 mod reformulations; // reformulations.rt: a map in the place of another (tests/reformulation/model.py)
 
 // What was read so far of the line and the word under way; the family of the section; and what its lines before came to.
-#[derive(Drop)]
+#[derive(Clone, Copy)]
 struct State {
     line: Line,
     word: Word,

@@ -4,7 +4,7 @@ use crate::slices;
 use try_support::tables;
 
 // What the next byte of the line is.
-#[derive(Drop)]
+#[derive(Clone, Copy)]
 enum Next {
     Plain,
     Escape,
@@ -14,7 +14,7 @@ enum Next {
 }
 
 // The length of the text so far, where its last group begins, and how many times the group stands.
-#[derive(Drop)]
+#[derive(Clone, Copy)]
 struct Reader {
     next: Next,
     length: usize,

@@ -1,0 +1,6 @@
+-- `begun` meets its contract. Assumes nothing.
+use borrow.Author.Rules.{rules}
+use Rattle.calls.proofs.begun.Goals as goal
+
+pub returns : goal.returns
+returns c = rw c.of-run.ensures

@@ -1,0 +1,20 @@
+-- `products_row` meets its contract. The row holds what the components passed make of it, and their sum is kept. Assumes nothing.
+use mathlib.Core.Path.{◌≡◌, refl, ◌∙◌}
+use Prim.Native.Nat.{ℕ, ◌+◌, ◌*◌, ◌-◌, ◌≤◌, ◌<◌}
+use native.Mathlib.Nat.{le_antisymm}
+use native.Mathlib.Omega.{arith}
+use lib.ListN.{length}
+use borrow.Author.Rules.{rules}
+use Rattle.linear.specs.TupleLaws.{total_more}
+use Rattle.linear.specs.Tuples.{total}
+use Rattle.definitions.specs.Tables.{at}
+use Rattle.products.specs.Products.{Written, partial}
+use Rattle.products.specs.Totals.{total_room}
+use Rattle.products.specs.Turns.{written_again, written_same, zeros_summed}
+use Rattle.products.proofs.products_row.Given as goal
+
+abbrev pub invariant-loop-i : goal.invariant-loop-i
+invariant-loop-i l = (l.i ≤ l.q) × Written l.k l.q (partial l.gram (at l.stack (l.q + 1) l.k) l.i) l.initial.c l.c × (l.sum ≡ total (at l.stack (l.q + 1) l.k) l.i)
+
+abbrev pub decreases-loop-i : goal.decreases-loop-i
+decreases-loop-i l = l.q - l.i

@@ -1,0 +1,19 @@
+-- `write_products` meets its contract. Every level passed holds what its row makes of the Gram matrix, and the row's sum is beside it. Assumes nothing.
+use mathlib.Core.Path.{◌≡◌, ◌∙◌}
+use Prim.Native.Nat.{◌+◌, ◌-◌, ◌≤◌, ◌<◌}
+use native.Mathlib.Nat.{le_antisymm}
+use native.Mathlib.Omega.{arith}
+use borrow.Author.Rules.{rules}
+use lib.ListN.{length}
+use Rattle.definitions.specs.Tables.{at}
+use Rattle.products.specs.Products.{Rows, Zeros, combine}
+use Rattle.products.specs.Totals.{Totals, totals_next, totals_none}
+use Rattle.products.specs.Turns.{rows_next, small_row, zeros_after}
+use Rattle.products.proofs.write_products.Given as goal
+
+abbrev pub invariant-loop-k : goal.invariant-loop-k
+invariant-loop-k w =
+    (w.k ≤ w.height) × (length w.c ≡ 256) × Rows w.k w.q (λ l. combine w.q w.gram (at w.stack (w.q + 1) l)) w.c × Zeros w.c w.k × Totals w.q w.stack w.k w.sums
+
+abbrev pub decreases-loop-k : goal.decreases-loop-k
+decreases-loop-k l = l.height - l.k

@@ -1,0 +1,7 @@
+-- `texts::put::byte` meets its contract. Assumes nothing.
+use borrow.Author.Rules.{rules}
+use Rattle.texts.specs.Put.{put_byte}
+use Rattle.texts.proofs.put.byte.Goals as goal
+
+pub returns : goal.returns
+returns c = put_byte _ _ _ c.requires

@@ -1,0 +1,13 @@
+-- `texts::put::word` meets its contract. The bytes passed have been written. Assumes nothing.
+use Prim.Native.Nat.{◌+◌, ◌-◌, ◌≤◌}
+use native.Mathlib.Nat.{add-zero}
+use borrow.Author.Rules.{rules}
+use lib.ListN.{length, take}
+use Rattle.texts.specs.Put.{Put, put_none, put_next, put_all}
+use Rattle.texts.proofs.put.word.Given as goal
+
+abbrev pub invariant-loop-i : goal.invariant-loop-i
+invariant-loop-i l = (l.i ≤ length l.bytes) × Put l.initial.out l.at (take l.i l.bytes) l.out (l.at + l.i)
+
+abbrev pub decreases-loop-i : goal.decreases-loop-i
+decreases-loop-i l = length l.bytes - l.i
