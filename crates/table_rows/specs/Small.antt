@@ -41,7 +41,7 @@ pub value_back : {q : ℕ} {coefs : List ℤ} {from : ℕ} {table : List ℕ} {b
     → v ≡ value (equation_at coefs from) q (row_at table base)
     → to_z w64 (of_z w64 v) ≡ value (equation_at coefs from) q (row_at table base)
 value_back {q} {coefs} {from} {table} {base} e r h =
-    rw h (to_z-of_z (sfits_nat_abs (omega (arith, value_small e.limit q (equation_at coefs from) (row_at table base) e.small r.small, e.low))))
+    rw h (to_z-of_z {w = w64} (sfits_nat_abs (omega (arith, value_small e.limit q (equation_at coefs from) (row_at table base) e.small r.small, e.low))))
 
 pub coefficient_fits : {q : ℕ} {coefs : List ℤ} {from : ℕ} → SmallEquation q coefs from → (j : ℕ) → j < q → SFits w32 (equation_at coefs from j)
 coefficient_fits s j l = sfits_nat_abs (omega (arith, s.small j l, s.narrow))
@@ -108,6 +108,9 @@ module _ {q : ℕ} {coefs : List ℤ} {from : ℕ} {table : List ℕ} {base : �
 
     pub product_added : {v : ℤ} → v ≡ added sum x y → of_z w64 v ≡ of_z w64 (inner (k + 1) (equation_at coefs from) (λ j. pos (row_at table base j)))
     product_added = next_sum (value_terms e r) k h l (f ∙ to_z-of_z (coefficient_fits e k l)) g
+
+  pub sum_read : k ≤ q → to_z w64 sum ≡ inner k (equation_at coefs from) (λ j. pos (row_at table base j))
+  sum_read l = sum_value (value_terms e r) k h l
 
   pub value_whole : k ≤ q → q ≤ k → to_z w64 sum ≡ value (equation_at coefs from) q (row_at table base)
   unfolding value

@@ -1,0 +1,19 @@
+-- `rows::below` meets its contract. No number passed is above its fellow. Assumes nothing.
+use Rattle.definitions.specs.System.{is_at_or_below}
+use Rattle.linear.specs.LoopLaws.{all_fails, all_next}
+use Rattle.linear.specs.Tests.{all_to}
+use borrow.Author.Tests.{le-leb, lt-leb}
+use lib.ListN.{get_or}
+use lib.Dec.{leb}
+use native.Mathlib.Nat.{le_antisymm}
+use Prim.Native.Nat.{◌+◌, ◌-◌, ◌≤◌}
+use mathlib.Core.Bool.{true}
+use mathlib.Core.Path.{◌≡◌, refl, sym}
+use borrow.Author.Rules.{rules}
+use Rattle.table_rows.proofs.rows.below.Given as goal
+
+abbrev pub invariant-loop-j : goal.invariant-loop-j
+invariant-loop-j l = (l.j ≤ l.q) × (all_to l.j (λ k. leb (get_or l.table (l.x + k) 0) (get_or l.table (l.y + k) 0)) ≡ true)
+
+abbrev pub decreases-loop-j : goal.decreases-loop-j
+decreases-loop-j l = l.q - l.j

@@ -1,0 +1,24 @@
+-- `rows::copy` meets its contract. The numbers passed have been written, and those ahead are as they were. Assumes nothing.
+use Rattle.table_rows.specs.Keeping.{copied_more}
+use Rattle.table_rows.specs.Small.{row_at}
+use Rattle.definitions.specs.Tables.{write_to}
+use lib.ListN.{length, length-set}
+use native.Mathlib.Nat.{le_antisymm}
+use Prim.Native.Nat.{◌-◌, ◌≤◌}
+use mathlib.Core.Path.{◌≡◌, refl}
+use borrow.Author.Rules.{rules}
+use Rattle.table_rows.proofs.rows.copy.Goals as goal
+
+pub loop-j-init : goal.loop-j-init
+unfolding write_to
+loop-j-init c = (search rules, refl, refl)
+
+pub loop-j-preserved : goal.loop-j-preserved
+loop-j-preserved c = (
+  search rules,
+  rw length-set c.loop-j.invariant.1,
+  copied_more c.args.table.now c.args.from c.args.to c.loop-j.j c.requires.0 c.loop-j.invariant.2 refl,
+)
+
+pub returns : goal.returns
+returns c = rw (c.loop-j.invariant.2, le_antisymm c.loop-j.invariant.0 c.loop-j-test.false)

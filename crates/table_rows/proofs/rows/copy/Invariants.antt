@@ -1,0 +1,16 @@
+-- `rows::copy` meets its contract. The numbers passed have been written, and those ahead are as they were. Assumes nothing.
+use Rattle.table_rows.specs.Keeping.{copied_more}
+use Rattle.table_rows.specs.Small.{row_at}
+use Rattle.definitions.specs.Tables.{write_to}
+use lib.ListN.{length, length-set}
+use native.Mathlib.Nat.{le_antisymm}
+use Prim.Native.Nat.{◌-◌, ◌≤◌}
+use mathlib.Core.Path.{◌≡◌, refl}
+use borrow.Author.Rules.{rules}
+use Rattle.table_rows.proofs.rows.copy.Given as goal
+
+abbrev pub invariant-loop-j : goal.invariant-loop-j
+invariant-loop-j l = (l.j ≤ l.q) × (length l.table ≡ length l.initial.table) × (l.table ≡ write_to l.j l.initial.table l.to (row_at l.initial.table l.from))
+
+abbrev pub decreases-loop-j : goal.decreases-loop-j
+decreases-loop-j l = l.q - l.j

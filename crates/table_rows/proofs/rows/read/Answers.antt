@@ -1,0 +1,20 @@
+-- `rows::read` meets its contract. The components passed have been copied. Assumes nothing.
+use mathlib.Core.Path.{◌≡◌, refl}
+use Prim.Native.Nat.{◌-◌, ◌≤◌}
+use native.Mathlib.Nat.{le_antisymm}
+use native.Mathlib.Omega.{arith}
+use lib.ListN.{length, length-set}
+use borrow.Author.Rules.{rules}
+use Rattle.table_rows.specs.Rows.{Holds}
+use Rattle.table_rows.specs.Rows.{holds_more}
+use Rattle.table_rows.proofs.rows.read.Goals as goal
+
+pub loop-j-init : goal.loop-j-init
+loop-j-init c = (search rules, refl, record { same = λ i l. absurd (omega arith) })
+
+pub loop-j-preserved : goal.loop-j-preserved
+loop-j-preserved c =
+    (search rules, simp length-set c.loop-j.invariant.1, holds_more (omega arith) c.loop-j.invariant.2)
+
+pub returns : goal.returns
+returns c = rw (le_antisymm c.loop-j.invariant.0 c.loop-j-test.false) at c.loop-j.invariant.2

@@ -1,0 +1,16 @@
+-- `rows::read` meets its contract. The components passed have been copied. Assumes nothing.
+use mathlib.Core.Path.{◌≡◌, refl}
+use Prim.Native.Nat.{◌-◌, ◌≤◌}
+use native.Mathlib.Nat.{le_antisymm}
+use native.Mathlib.Omega.{arith}
+use lib.ListN.{length, length-set}
+use borrow.Author.Rules.{rules}
+use Rattle.table_rows.specs.Rows.{Holds}
+use Rattle.table_rows.specs.Rows.{holds_more}
+use Rattle.table_rows.proofs.rows.read.Given as goal
+
+abbrev pub invariant-loop-j : goal.invariant-loop-j
+invariant-loop-j l = (l.j ≤ l.w) × (length l.t ≡ length l.initial.t) × Holds l.j l.t l.table l.base
+
+abbrev pub decreases-loop-j : goal.decreases-loop-j
+decreases-loop-j l = l.w - l.j

@@ -1,0 +1,16 @@
+-- `rows::write` meets its contract. The components passed have been written. Assumes nothing.
+use mathlib.Core.Path.{◌≡◌, refl}
+use Prim.Native.Nat.{◌-◌, ◌≤◌}
+use native.Mathlib.Nat.{le_antisymm}
+use lib.ListN.{length, length-set}
+use borrow.Author.Rules.{rules}
+use Rattle.definitions.specs.Tables.{write_to}
+use Rattle.laws.specs.TableLaws.{write_next}
+use Rattle.table_rows.specs.Rows.{tuple}
+use Rattle.table_rows.proofs.rows.write.Given as goal
+
+abbrev pub invariant-loop-j : goal.invariant-loop-j
+invariant-loop-j l = (l.j ≤ l.w) × (length l.table ≡ length l.initial.table) × (l.table ≡ write_to l.j l.initial.table l.base (tuple l.t))
+
+abbrev pub decreases-loop-j : goal.decreases-loop-j
+decreases-loop-j l = l.w - l.j

@@ -1,0 +1,17 @@
+-- `values::value_at` meets its contract. The sum is that of the products passed. Assumes nothing.
+use Rattle.table_rows.specs.Small.{equation_at, product_added, product_fits, row_at, value_whole}
+use Rattle.linear.specs.Systems.{inner}
+use Rattle.linear.specs.Sums.{sum_to}
+use mir.Val.{of_z}
+use mir.Syntax.{w64}
+use lib.IntN.{pos}
+use Prim.Native.Nat.{◌-◌, ◌≤◌}
+use mathlib.Core.Path.{◌≡◌, refl}
+use borrow.Author.Rules.{rules}
+use Rattle.table_rows.proofs.values.value_at.Given as goal
+
+abbrev pub invariant-loop-j : goal.invariant-loop-j
+invariant-loop-j l = (l.j ≤ l.q) × (l.sum ≡ inner l.j (equation_at l.coefs l.from) (λ k. pos (row_at l.table l.base k)))
+
+abbrev pub decreases-loop-j : goal.decreases-loop-j
+decreases-loop-j l = l.q - l.j
