@@ -5,6 +5,7 @@ use Rattle.linear.specs.Sums.{sum_to}
 use Rattle.table_rows.specs.Small.{product_added, product_fits, sum_read, value_whole}
 use mathlib.Core.Path.{refl}
 use Prim.Native.Nat.{◌+◌}
+use native.Mathlib.Omega.{arith}
 use borrow.Author.Rules.{rules}
 use Rattle.table_rows.proofs.values.value_at.Goals as goal
 
@@ -21,7 +22,7 @@ pub loop-j-preserved : goal.loop-j-preserved
 loop-j-preserved c =
     let bits = product_added c.requires.0 c.requires.1 c.loop-j.j (bits_are c.loop-j.auto.sum-fits c.loop-j.invariant.1) c.loop-j-test.true c.wide.ensures c.natural.ensures
         c.sum_and-sum.ensures in
-    (search rules, sum_read c.requires.0 c.requires.1 (c.loop-j.j + 1) bits c.loop-j-test.true)
+    (search rules, sum_read c.requires.0 c.requires.1 (c.loop-j.j + 1) bits (omega arith))
 
 pub returns : goal.returns
 returns c = value_whole c.requires.0 c.requires.1 c.loop-j.j (bits_are c.loop-j.auto.sum-fits c.loop-j.invariant.1) c.loop-j.invariant.0 c.loop-j-test.false
