@@ -14,7 +14,7 @@ import sys
 WORD = r"[^\s(){}\[\],;.\"«»]+"
 TOKEN = re.compile(r"--[^\n]*|\"(?:[^\"\\\n]|\\.)*\"|«[^»\n]*»|" + WORD + r"(?:\." + WORD + r")*|[(){}\[\],;.]|\s+")
 OPEN, CLOSE = "([{", ")]}"
-norm = lambda it: it.replace("_", "-")
+norm = lambda it: it.replace("_", "-").lower()
 
 
 def chunks(text):

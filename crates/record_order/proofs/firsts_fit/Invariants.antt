@@ -1,0 +1,24 @@
+-- `record_order::firsts_fit` meets its contract. Every first component passed is at most 1. Assumes nothing.
+use Prim.Native.Nat.{ℕ, ◌+◌, ◌-◌, ◌≤◌}
+use mathlib.Core.Bool.{Bool, true}
+use mathlib.Core.List.{List}
+use mathlib.Core.Path.{◌≡◌, refl, sym}
+use native.Mathlib.Nat.{add-zero, le_antisymm}
+use native.Mathlib.Omega.{arith}
+use lib.Dec.{leb}
+use borrow.Author.Rules.{rules}
+use borrow.Author.Tests.{le-leb, lt-leb}
+use Rattle.linear.specs.Tests.{all_to}
+use Rattle.linear.specs.LoopLaws.{all_next, all_fails}
+use Rattle.laws.specs.TableLaws.{row_fits}
+use Rattle.definitions.specs.Tables.{at}
+use Rattle.record_order.proofs.firsts_fit.Given as goal
+
+abbrev pub small : ℕ → List ℕ → ℕ → Bool
+small q stack k = leb (at stack (q + 1) k 0) 1
+
+abbrev pub invariant-loop-k : goal.invariant-loop-k
+invariant-loop-k l = (l.k ≤ l.height) × (all_to l.k (small l.q l.stack) ≡ true)
+
+abbrev pub decreases-loop-k : goal.decreases-loop-k
+decreases-loop-k l = l.height - l.k
