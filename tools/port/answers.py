@@ -143,7 +143,7 @@ class Turner:
     def __init__(self, crate, path, listed, text):
         self.crate, self.path, self.f = crate, path, Function(listed)
         self.head, self.uses, self.blocks = chunks(text)
-        self.said = []
+        self.said, self.wants = [], set()
         self.imports = set()
         self.loops = [(old, new, names) for (old, new), names in listed["loops"]]
         self.listed = listed
@@ -355,7 +355,7 @@ class Turner:
                 text = self.answer(goals[it], new, place, fields)
                 done.add(it)
             else:
-                m = re.match(r"\(λ (\S+?)( κs)?\. (.*)\)$", it, re.S)
+                m = re.match(r"\(λ ([^\s.]+)( κs)?\. (.*)\)$", it, re.S)
                 if m and m[3].strip() == "search rules":
                     continue
                 if m:
@@ -407,7 +407,7 @@ class Turner:
             return None
         body = self.body(body, place, {params[0]: ("place", place, 0, "c")}, new)
         body = self.renamed(self.record(body, fields))
-        return d["comment"] + f"pub {new} : goal.{new}\n" + "".join(it + "\n" for it in un) + f"{new} c ={body}"
+        return d["comment"] + f"pub {new} : goal.{new}\n" + "".join(it + "\n" for it in un) + f"{new} c{''.join(' ' + it for it in params[1:] if it != 'κs')} ={body}"
 
     def record(self, body, fields):
         """A tuple as the record of the clauses that are asked."""
@@ -622,7 +622,16 @@ class Turner:
 
     def tests(self, text):
         """A test of `!x` says of x what it is."""
-        return re.sub(r"(?<![^\s(){}\[\],;])not[-_](?:true|false) (?:_|\S+) (?=c\.if[^\s()]*\.(?:true|false)\b)", "", text)
+        path = r"c\.if-not-[^\s(){}\[\],;.]*\.(?:true|false)"
+        text = re.sub(r"(?<![^\s(){}\[\],;])not[-_](?:true|false) (?:_|\S+) (?=c\.if[^\s()]*\.(?:true|false)\b)", "\0", text)
+
+        def negated(m):
+            if m[1] == "\0":
+                return m[2]
+            self.wants.add("not")
+            return f"{m[1]}(ap not {m[2]})"
+
+        return re.sub(r"(^|.)(" + path + r")(?![^\s(){}\[\],;])", negated, text, flags=re.S).replace("\0", "")
 
     def renamed(self, text):
         text = self.tests(text)
@@ -719,6 +728,12 @@ def main(argv):
             lines = t.head + uses
             if helped:
                 lines.append(f"use {module}.Invariants.{{{', '.join(helped)}}}")
+            if "not" in t.wants:
+                have = " ".join(uses)
+                if not re.search(r"[{ ]ap[,}]", have):
+                    lines.append("use mathlib.Core.Path.{ap}")
+                if not re.search(r"[{ ]not[,}]", have):
+                    lines.append("use mathlib.Core.Bool.{not}")
             lines.append(f"use {module}.Goals as goal")
             if t.imports:
                 lines.append(f"use {module}.Goals.{{{', '.join(sorted(t.imports))}}}")

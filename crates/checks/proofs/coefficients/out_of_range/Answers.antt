@@ -6,8 +6,7 @@ use lib.IntN.{ℤ, pos, negsuc}
 use lib.Signed.{lt_z}
 use mir.Facts.{to_z-of_z}
 use Rattle.definitions.specs.Refusals.{out_of_range}
-use Rattle.checks.proofs.coefficients.out_of_range.Statement.{statement}
-use Rattle.checks.proofs.coefficients.out_of_range.Tie as tie
+use Rattle.checks.proofs.coefficients.out_of_range.Goals as goal
 
 below : (z : ℤ) → lt_z z (negsuc 9999) ≡ true → out_of_range z ≡ true
 below (pos n) e = cc
@@ -17,12 +16,9 @@ above : (z : ℤ) → lt_z z (negsuc 9999) ≡ false → lt_z (pos 10000) z ≡ 
 above (pos n) e = refl
 above (negsuc n) e = sym (leb-suc-suc 10000 n ∙ e)
 
-returns : tie.Need-returns
-returns c = sym (below c.before.args.x (rw (to_z-of_z c.before.ranges.x) at c.if1.true))
+pub returns-then-x-ltminus10000 : goal.returns-then-x-ltminus10000
+returns-then-x-ltminus10000 c = sym (below c.args.x (rw (to_z-of_z c.ranges.x) at c.if-x-ltminus10000.true))
 
-returns_2 : tie.Need-returns-2
-returns_2 c =
-    let e = to_z-of_z c.before.ranges.x in rw e (above c.before.args.x (rw e at c.if1.false))
-
-pub out_of_range_spec : {M : Type 1} → statement M
-out_of_range_spec = tie.close (tie.spec returns returns_2)
+pub returns : goal.returns
+returns c =
+    let e = to_z-of_z c.ranges.x in rw e (above c.args.x (rw e at c.if-x-ltminus10000.false))

@@ -1,0 +1,24 @@
+-- `checks::check_start` meets its contract: a refusal of the shape decides, else the coefficients do. Assumes nothing.
+use borrow.Author.Rules.{rules}
+use Rattle.definitions.specs.Refusals.{start_checks, check7}
+use Rattle.definitions.specs.Input.{alone, input_of}
+use Rattle.definitions.specs.System.{most_component}
+use Rattle.calls.specs.Paper.{state_of}
+use Rattle.checks.specs.CheckLaws.{shape_refused, shape_passed}
+use Rattle.checks.proofs.check_start.Goals as goal
+
+pub returns-in-Refuse : goal.returns-in-Refuse
+unfolding start_checks
+returns-in-Refuse c =
+    let a = c.args in
+    let s = state_of a.stack.now a.list.now a.r in
+    shape_refused alone most_component a.p a.q a.coefs.now s _ c.in-Refuse.is c.check.ensures
+
+pub returns-in-Pass : goal.returns-in-Pass
+unfolding start_checks check7
+returns-in-Pass c =
+    let a = c.args in
+    let i = input_of a.p a.q a.coefs.now in
+    let s = state_of a.stack.now a.list.now a.r in
+    shape_passed alone most_component a.p a.q a.coefs.now s (check7 i) c.in-Pass.is
+    c.check.ensures c.check-in-Pass.ensures
