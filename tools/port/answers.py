@@ -94,6 +94,18 @@ class Function:
 ROOT = {"args", "requires", "pre", "ranges", "lifetimes", "auto", "type_inv", "utf8", "told"}
 
 
+def clause(fields, steps):
+    """Positions in the old conjunction of clauses, A × (B × C), as the clause's name, and what is left of the steps; or None."""
+    i, n = 0, len(fields)
+    while steps and steps[0] in ("0", "1"):
+        if steps[0] == "0":
+            return [fields[i], *steps[1:]]
+        i, steps = i + 1, steps[1:]
+        if i == n - 1:
+            return [fields[i], *steps]
+    return None
+
+
 def closing(text, at):
     depth = 0
     for i in range(at, len(text)):
@@ -142,6 +154,10 @@ def arguments(text):
 class Turner:
     def __init__(self, crate, path, listed, text):
         self.crate, self.path, self.f = crate, path, Function(listed)
+        # a name for the type of a place is the place itself
+        for name, of in re.findall(r"(?m)^abbrev (" + WORD + r") : Type 0\n\1 = (tie\." + WORD + r")[^\n]*\n", text):
+            text = re.sub(rf"(?m)^(?:--[^\n]*\n)*abbrev {re.escape(name)} : Type 0\n{re.escape(name)} = [^\n]*\n", "", text)
+            text = re.sub(rf"(?<![^\s(){{}}\[\],;]){re.escape(name)}(?![^\s(){{}}\[\],;])", of, text)
         self.head, self.uses, self.blocks = chunks(text)
         self.said, self.wants = [], set()
         self.imports = set()
@@ -189,7 +205,7 @@ class Turner:
             text = re.sub(rf"((?<![^\s(){{}}\[\],;]))\(?{re.escape(name)} (" + WORD + r"(?:\.before)*)\)?", whole, text)
         text = self.passed(text, env, goal)
         # lets of a whole record of clauses keep their name, and its parts go by name
-        for m in re.finditer(r"let (" + WORD + r") = (" + WORD + r"(?:\." + WORD + r")*\.(?:requires|pre|ensures)) in\b", text):
+        for m in re.finditer(r"let (" + WORD + r") = (?:rw (?:" + WORD + r"(?:\." + WORD + r")*|\([^()]*\)) at )?\(?(" + WORD + r"(?:\." + WORD + r")*\.(?:requires|pre|ensures))\)? in\b", text):
             got = self.path_of(m[2], env)
             if got and got[1]:
                 env[m[1]] = ("record", got[1])
@@ -201,13 +217,12 @@ class Turner:
                 continue
             if env[first][0] == "record":
                 steps = it.split(".")
-                if len(steps) > 1 and steps[1].isdigit() and int(steps[1]) < len(env[first][1]):
-                    steps[1] = env[first][1][int(steps[1])]
-                out.append(".".join(steps))
+                got = clause(env[first][1], steps[1:])
+                out.append(".".join([first, *got]) if got else it)
                 continue
             got = self.path_of(it, env)
             out.append(got[0] if got else it)
-        return re.sub(r"«((?:\(goal\.at\.[^()]*\)\." + WORD + r"|" + WORD + r"))»", r"\1", "".join(out))
+        return re.sub(r"«((?:\(goal\.at\.[^()]*\)\." + WORD + r"|" + WORD + r"(?:\." + WORD + r")*))»", r"\1", "".join(out))
 
     def path_of(self, path, env):
         """The path as it reads now, and the clauses of the record that it ends in, if it is one."""
@@ -227,8 +242,9 @@ class Turner:
             fields = None
             if field == "requires" and self.listed["pre"]:
                 fields = self.listed["pre"]["fields"]
-                if len(steps) > 1 and steps[1].isdigit() and int(steps[1]) < len(fields):
-                    return ".".join([var, field, fields[int(steps[1])], *steps[2:]]), None
+                got = clause(fields, steps[1:])
+                if got:
+                    return ".".join([var, field, *got]), None
             if field == "requires" and len(steps) > 1:
                 fields = None
             return ".".join([var, field, *steps[1:]]), fields
@@ -255,9 +271,13 @@ class Turner:
                     steps[1] = "kept"
                 elif changed:
                     steps[2:3] = [changed[int(steps[2]) if len(steps) > 2 and int(steps[2]) < len(changed) else 0]]
+            elif steps[1] == "auto" and len(steps) > 2 and steps[2].isdigit():
+                # what a call leaves of the slices that it was lent
+                self.look(f"{'.'.join(steps)}: which argument?")
         if len(steps) > 1 and steps[1] in ("ensures",) and of["clauses"]:
-            if len(steps) > 2 and steps[2].isdigit() and int(steps[2]) < len(of["clauses"]):
-                steps[2] = of["clauses"][int(steps[2])]
+            got = clause(of["clauses"], steps[2:])
+            if got:
+                steps[2:] = got
             elif len(steps) == 2:
                 return ".".join([var, *steps]), of["clauses"]
         return ".".join([var, *steps]), None
@@ -428,6 +448,8 @@ class Turner:
         inner = tail.strip()
         if inner.startswith("(") and closing(inner, 0) == len(inner) - 1:
             parts = parts_of(inner[1:-1])
+            while len(parts) < len(fields) and parts[-1].startswith("(") and closing(parts[-1], 0) == len(parts[-1]) - 1 and len(parts_of(parts[-1][1:-1])) > 1:
+                parts = parts[:-1] + parts_of(parts[-1][1:-1])[:1] + (["(" + ", ".join(parts_of(parts[-1][1:-1])[1:]) + ")"] if len(parts_of(parts[-1][1:-1])) > 2 else parts_of(parts[-1][1:-1])[1:])
             if len(parts) >= len(fields):
                 if len(parts) > len(fields):
                     k = len(fields) - 1
