@@ -65,7 +65,7 @@ class Function:
                 base = re.sub(r"-\d+$", "", new)
                 if base in listed["places_by_name"]:
                     new = base
-            self.places[norm(old)] = {"parent": parent and norm(parent), "old": norm(fields[0]), "new": fields[1], "name": new, "clauses": clauses and clauses["fields"], "arm": arm, "callee": callee, "callee": callee, "typed": bool(typed), "inner": {a: b for a, b in inner if b.endswith("-bits")}}
+            self.places[norm(old)] = {"parent": parent and norm(parent), "old": norm(fields[0]), "new": fields[1], "name": new, "clauses": clauses and clauses["fields"], "arm": arm, "callee": callee, "typed": bool(typed), "inner": {a: b for a, b in inner if b.endswith("-bits")}}
 
     def up(self, place):
         return self.places[place]["parent"] if place in self.places else None
@@ -93,12 +93,14 @@ class Function:
             fits = [i for i, it in enumerate(chain) if norm(self.places[it]["new"]) == field]
         if not fits and field.endswith("-lem"):
             return self.find(place, ups, field[: -len("-lem")])
+        if not fits and re.search(r"\d$", field):
+            return self.find(place, ups, re.sub(r"\d+$", "", field))
         if not fits:
             return None
         return chain[min(fits, key=lambda i: abs(i - ups))]
 
 
-ROOT = {"args", "requires", "pre", "ranges", "lifetimes", "auto", "type_inv", "utf8", "told"}
+ROOT = {"good", "well_formed", "args", "requires", "pre", "ranges", "lifetimes", "auto", "type_inv", "utf8", "told"}
 
 
 def clause(fields, steps):
@@ -248,7 +250,7 @@ class Turner:
             return var + ".before" * ups, None
         field = steps[0]
         if field in ROOT:
-            field = {"pre": "requires"}.get(field, field)
+            field = {"pre": "requires", "good": "well_formed"}.get(field, field)
             fields = None
             if field == "requires" and self.listed["pre"]:
                 fields = self.listed["pre"]["fields"]
@@ -276,13 +278,6 @@ class Turner:
             steps[1] = {"inv": "invariant", "taken": "true", "left": "false"}.get(steps[1], steps[1])
             steps[1] = of["inner"].get(steps[1], steps[1])
             steps[1] = {"type-inv": "type_inv"}.get(steps[1], steps[1])
-            if steps[1] in ("new", "auto") and self.listed["params"].get(of.get("callee")):
-                at = 2
-                while at < len(steps) and steps[at] == "1":
-                    at += 1
-                named = self.listed["params"][of["callee"]]
-                if at < len(steps) and steps[at] == "0" and at - 2 < len(named):
-                    steps[2 : at + 1] = [named[at - 2]]
             if steps[1] == "auto" and (len(steps) == 2 or steps[2].isdigit()):
                 changed = [v for i, (_, new, names) in enumerate(self.loops) if new == of["new"] for v, c in zip(names, self.listed["changed"][i]) if c]
                 if "kept" in changed:
@@ -650,7 +645,7 @@ class Turner:
                     local[params[i]] = ("place", old, 0, params[i])
             turned = self.body(lines[2], None, local)
             body = f"{d['name']}{lines[1]} ={turned}"
-            if len(params) == 1 and where == {0: local[params[0]][1]} and not re.search(r"\blet\b|\bwhere\b", turned) and not un:
+            if len(params) == 1 and where == {0: local[params[0]][1]} and not re.search(r"\blet\b|\bwhere\b", turned) and not un and not re.match(r"\s*(omega|search|grind|cc|simp|rw|elim)\b", turned):
                 self.inlines[d["name"]] = (params[0], " ".join(turned.split()))
         elif where:
             self.look(f"{d['name']}: equations with a place")
@@ -683,7 +678,7 @@ class Turner:
             v0 = next(v for v in env)
             for n, of in re.findall(r"(?m)^  (" + WORD + r") = ((?:.+(?:\n    .*)*))$", done):
                 mates = [it for it, w in self.signatures.items() if it != n and re.search(rf"(?m)^  {re.escape(it)}(?: |$)", done)]
-                if not re.search(r"\blet\b|\bwhere\b", of) and not any(re.search(rf"(?<![^\s(){{}}\[\],;]){re.escape(it)}(?![^\s(){{}}\[\],;])", of) for it in mates):
+                if not re.search(r"\blet\b|\bwhere\b|^(omega|search|grind|cc|simp|rw|elim)\b", of) and not any(re.search(rf"(?<![^\s(){{}}\[\],;]){re.escape(it)}(?![^\s(){{}}\[\],;])", of) for it in mates):
                     self.inlines[n] = (v0, " ".join(of.split()))
         return self.renamed(head + nl + done)
 
@@ -730,7 +725,13 @@ class Turner:
         for p, v in zip(params[len(names) :], [v for v, c in zip(names, changed) if c]):
             env[p] = f"{var}.{bits(v)}"
         out = []
-        for t in TOKEN.finditer(m[2]):
+        # a signed variable is an integer now
+        whole_text = m[2]
+        for p in params:
+            one = re.escape(p)
+            whole_text = re.sub(rf"\(to_z w\d+ {one}\)|(?<![^\s(){{}}\[\],;])to_z w\d+ {one}(?![^\s(){{}}\[\],;])", p.replace("\\", ""), whole_text)
+            whole_text = re.sub(rf"(?<![^\s(){{}}\[\],;]){one} ≡ of_z w\d+ ", f"{p} ≡ ", whole_text)
+        for t in TOKEN.finditer(whole_text):
             it = t[0]
             first, dot, rest = it.partition(".")
             out.append(env[first] + dot + rest if first in env and not it.startswith("--") else it)
