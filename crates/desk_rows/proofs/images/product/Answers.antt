@@ -40,7 +40,8 @@ bounds-images-b c = omega (arith, c.requires.low.1, c.requires.few, c.loop-i-tes
 
 pub sum_and-sum-requires : goal.sum_and-sum-requires
 sum_and-sum-requires c =
-    let all = next_fits c.requires c.loop-i.i (bits_are c.loop-i.auto.sum-fits c.loop-i.invariant.1) c.loop-i-test.true in record { sfits = all.0; sfits_2 = all.1 }
+    let all = next_fits c.requires c.loop-i.i (bits_are c.loop-i.auto.sum-fits c.loop-i.invariant.1) c.loop-i-test.true in
+    record { sfits = all.0; sfits_2 = all.1 }
 
 pub loop-i-preserved : goal.loop-i-preserved
 loop-i-preserved c =
