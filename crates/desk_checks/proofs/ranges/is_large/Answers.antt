@@ -6,8 +6,7 @@ use mathlib.Core.Bool.{true, false}
 use mathlib.Core.Path.{◌≡◌, refl, sym, ◌∙◌}
 use mir.Facts.{to_z-of_z}
 use Rattle.desk_spec.specs.Desks.{image_limit}
-use Rattle.desk_checks.proofs.ranges.is_large.Statement.{statement}
-use Rattle.desk_checks.proofs.ranges.is_large.Tie as tie
+use Rattle.desk_checks.proofs.ranges.is_large.Goals as goal
 
 below : (z : ℤ) → lt_z z (negsuc 6999999) ≡ true → ltb image_limit (nat_abs z) ≡ true
 below (pos n) e = cc
@@ -17,11 +16,8 @@ above : (z : ℤ) → lt_z z (negsuc 6999999) ≡ false → lt_z (pos 7000000) z
 above (pos n) e = refl
 above (negsuc n) e = sym (leb-suc-suc 7000000 n ∙ e)
 
-returns : tie.Need-returns
-returns c = sym (below c.before.args.x (rw (to_z-of_z c.before.fits.x) at c.if1.taken))
+pub returns-then-x-ltminus7000000 : goal.returns-then-x-ltminus7000000
+returns-then-x-ltminus7000000 c = sym (below c.args.x (rw (to_z-of_z c.ranges.x) at c.if-x-ltminus7000000.true))
 
-returns_2 : tie.Need-returns-2
-returns_2 c = let e = to_z-of_z c.before.fits.x in rw e (above c.before.args.x (rw e at c.if1.left))
-
-pub is_large_spec : {M : Type 1} → statement M
-is_large_spec = tie.close (tie.spec returns returns_2)
+pub returns : goal.returns
+returns c = let e = to_z-of_z c.ranges.x in rw e (above c.args.x (rw e at c.if-x-ltminus7000000.false))
