@@ -24,7 +24,13 @@ returns-then-list-q c =
 pub returns-then-steps-gt-STEP_LIMIT : goal.returns-then-steps-gt-STEP_LIMIT
 unfolding desk_in_order
 returns-then-steps-gt-STEP_LIMIT c =
-    rw (sym c.same_run.ensures ∙ c.if-not-same_run.false, le-leb _ _ c.if-generators-q.false, le-leb _ _ c.if-list-q.false, lt-leb _ _ c.if-steps-gt-STEP_LIMIT.true)
+    rw (
+      sym c.same_run.ensures
+          ∙ c.if-not-same_run.false,
+      le-leb _ _ c.if-generators-q.false,
+      le-leb _ _ c.if-list-q.false,
+      lt-leb _ _ c.if-steps-gt-STEP_LIMIT.true,
+    )
 
 pub returns-then-deepest-gt-DEEPEST_LIMIT : goal.returns-then-deepest-gt-DEEPEST_LIMIT
 unfolding desk_in_order

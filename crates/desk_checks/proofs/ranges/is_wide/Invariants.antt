@@ -13,7 +13,9 @@ abbrev pub invariant-loop-k : goal.invariant-loop-k
 invariant-loop-k l =
     (l.k ≤ l.n) ×
     (any_to l.k
-    (λ g. any_to l.p (λ e. ltb image_limit (nat_abs (image_of (second_group (desk_of l.p l.q l.coefs l.generators)) (generator (desk_of l.p l.q l.coefs l.generators) g) e))))
+    (λ g. any_to l.p
+    (λ e. ltb image_limit
+    (nat_abs (image_of (second_group (desk_of l.p l.q l.coefs l.generators)) (generator (desk_of l.p l.q l.coefs l.generators) g) e))))
     ≡ false)
 
 abbrev pub decreases-loop-k : goal.decreases-loop-k

@@ -12,7 +12,9 @@ use Rattle.desk_checks.proofs.ranges.wide_image.Given as goal
 abbrev pub invariant-loop-i : goal.invariant-loop-i
 invariant-loop-i l =
     (l.i ≤ l.p) ×
-    (any_to l.i (λ e. ltb image_limit (nat_abs (image_of (second_group (desk_of l.p l.q l.coefs l.generators)) (generator (desk_of l.p l.q l.coefs l.generators) l.k) e))) ≡ false)
+    (any_to l.i
+    (λ e. ltb image_limit
+    (nat_abs (image_of (second_group (desk_of l.p l.q l.coefs l.generators)) (generator (desk_of l.p l.q l.coefs l.generators) l.k) e))) ≡ false)
 
 abbrev pub decreases-loop-i : goal.decreases-loop-i
 decreases-loop-i l = l.p - l.i
