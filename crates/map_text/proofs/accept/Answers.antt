@@ -1,12 +1,11 @@
 -- `map_text::accept` meets its contract. No coefficient passed is out of range. Assumes nothing.
-use Prim.Native.Nat.{◌-◌, ◌≤◌}
 use mathlib.Core.Path.{◌≡◌, refl, sym, ◌∙◌}
 use native.Mathlib.Nat.{le_antisymm}
 use lib.IntN.{pos}
-use lib.ListN.{length, get_or}
+use lib.ListN.{get_or}
 use mir.Facts.{to_z-of_z}
 use borrow.Author.Rules.{rules, sfits_of}
-use Rattle.definitions.specs.Answers.{go, refuse_first}
+use Rattle.definitions.specs.Answers.{refuse_first}
 use Rattle.definitions.specs.Refusals.{out_of_range}
 use Rattle.laws.specs.AnswerLaws.{refuse_next, refuse_at}
 use Rattle.map_text.specs.AnswerLaws.{out_of_range as one_out_of_range, in_range}
@@ -34,7 +33,7 @@ pub copy-requires : goal.copy-requires
 copy-requires c = c.requires
 
 pub shape_of-coefs : goal.shape_of-coefs
-shape_of-coefs c = c.copy.auto.1.0
+shape_of-coefs c = c.copy.auto.coefs
 
 pub returns : goal.returns
 returns c =

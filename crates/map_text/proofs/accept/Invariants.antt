@@ -1,14 +1,10 @@
 -- `map_text::accept` meets its contract. No coefficient passed is out of range. Assumes nothing.
 use Prim.Native.Nat.{◌-◌, ◌≤◌}
-use mathlib.Core.Path.{◌≡◌, refl, sym, ◌∙◌}
-use native.Mathlib.Nat.{le_antisymm}
+use mathlib.Core.Path.{◌≡◌}
 use lib.IntN.{pos}
 use lib.ListN.{length, get_or}
-use mir.Facts.{to_z-of_z}
-use borrow.Author.Rules.{rules, sfits_of}
 use Rattle.definitions.specs.Answers.{go, refuse_first}
 use Rattle.definitions.specs.Refusals.{out_of_range}
-use Rattle.laws.specs.AnswerLaws.{refuse_next, refuse_at}
 use Rattle.map_text.proofs.accept.Given as goal
 
 abbrev pub invariant-loop-i : goal.invariant-loop-i

@@ -1,7 +1,6 @@
 -- `map_text::read_body` meets its contract: the counts are tested in order, and are in range before the coefficients are read. Assumes nothing.
 use native.Mathlib.Omega.{arith}
 use mir.Facts.{to_z-of_z}
-use borrow.Author.Rules.{rules}
 use Rattle.definitions.specs.System.{most_equations, most_unknowns}
 use Rattle.map_text.specs.SignLaws.{Within, within, below_one, above_most}
 use Rattle.map_text.specs.StageLaws.{counts_within}

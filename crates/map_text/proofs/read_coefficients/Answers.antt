@@ -5,7 +5,6 @@ use native.Mathlib.Nat.{le_trans}
 use native.Mathlib.Omega.{arith}
 use lib.ListN.{length}
 use lib.Seq.{length-take-le}
-use borrow.Author.Rules.{rules}
 use Rattle.map_text.specs.LineLaws.{rows_inside}
 use Rattle.map_text.specs.AnswerLaws.{malformed_row}
 use Rattle.map_text.proofs.read_coefficients.Goals as goal
@@ -14,8 +13,8 @@ use Rattle.map_text.proofs.read_coefficients.Goals.{In-Parsed}
 -- the numbers read are within the array
 inside : (c : In-Parsed)
     → c.args.p * c.args.q
-    ≤ length c.read_rows.new.1.1.1.1.0
-inside c = rw c.read_rows.auto.1.1.1.1.0 (rows_inside c.requires)
+    ≤ length c.read_rows.new.coefs
+inside c = rw c.read_rows.auto.coefs (rows_inside c.requires)
 
 pub overflow_mul-n : goal.overflow_mul-n
 overflow_mul-n c = omega (arith, rows_inside c.requires)

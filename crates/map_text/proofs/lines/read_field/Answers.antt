@@ -3,7 +3,7 @@ use mathlib.Core.Path.{◌≡◌, sym, ◌∙◌}
 use lib.ListN.{drop}
 use mir.Syntax.{w32}
 use mir.Facts.{to_z-of_z}
-use borrow.Author.Rules.{rules, sfits_of}
+use borrow.Author.Rules.{rules}
 use Rattle.texts.specs.Decimals.{separator}
 use Rattle.texts.specs.ParseLaws.{then_malformed, then_parsed}
 use Rattle.map_spec.specs.Reading.{ended_by, read_field}
@@ -33,5 +33,5 @@ returns-in-Malformed c = then_malformed (ended_by _) (rw c.in-Malformed.is at c.
 
 pub returns-else-text-next-2 : goal.returns-else-text-next-2
 returns-else-text-next-2 c =
-    rw (to_z-of_z {w = w32} (sfits_of ?))
+    rw (to_z-of_z {w = w32} {z = c.in-Parsed.value} (search rules))
     (this_byte _ _ _ _ c.if-text-next.false (c.if-text-next-2.false ∙ c.separator_after.ensures) ∙ number_read (goal.at.returns-else-text-next-2 c).In-Parsed)

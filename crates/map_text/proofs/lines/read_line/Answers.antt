@@ -3,11 +3,10 @@
 use Prim.Native.Nat.{◌+◌, ◌<◌}
 use mathlib.Core.Path.{◌≡◌, refl, ◌∙◌}
 use native.Mathlib.Omega.{arith}
-use lib.ListN.{length, drop, take, length-set}
+use lib.ListN.{length, length-set}
 use mir.Facts.{to_z-of_z}
 use mir.Syntax.{w32}
-use borrow.Author.Rules.{rules, sfits_of}
-use Rattle.map_spec.specs.Reading.{read_line}
+use borrow.Author.Rules.{rules}
 use Rattle.map_text.specs.LineLaws.{line_done, line_malformed, line_number, take_next}
 use Rattle.map_text.proofs.lines.read_line.Goals as goal
 use Rattle.map_text.proofs.lines.read_line.Goals.{After-read_field}
@@ -37,7 +36,7 @@ loop-left-preserved c =
     let l = c.loop-left in (
       length-set l.coefs l.i _ ∙ l.invariant.0,
       omega arith,
-      rw (to_z-of_z {w = w32} (sfits_of ?), take_next l.coefs l.i _ (inside (goal.at.loop-left-preserved c).After-read_field))
+      rw (to_z-of_z {w = w32} {z = c.in-Parsed.value} (search rules), take_next l.coefs l.i _ (inside (goal.at.loop-left-preserved c).After-read_field))
           (line_number _ _ l.left c.loop-left-test.true (rw c.in-Parsed.is at c.read_field.ensures) ∙ l.invariant.2),
     )
 

@@ -1,14 +1,9 @@
 -- `map_text::lines::read_line` meets its contract. What is left to read, after the numbers in the table, comes to the same as at first.
 -- Assumes nothing.
-use Prim.Native.Nat.{◌+◌, ◌<◌}
-use mathlib.Core.Path.{◌≡◌, refl, ◌∙◌}
-use native.Mathlib.Omega.{arith}
-use lib.ListN.{length, drop, take, length-set}
-use mir.Facts.{to_z-of_z}
-use mir.Syntax.{w32}
-use borrow.Author.Rules.{rules, sfits_of}
+use Prim.Native.Nat.{◌+◌}
+use mathlib.Core.Path.{◌≡◌}
+use lib.ListN.{length, drop, take}
 use Rattle.map_spec.specs.Reading.{read_line}
-use Rattle.map_text.specs.LineLaws.{line_done, line_malformed, line_number, take_next}
 use Rattle.map_text.proofs.lines.read_line.Given as goal
 
 abbrev pub invariant-loop-left : goal.invariant-loop-left

@@ -1,13 +1,11 @@
 -- `map_text::lines::read_rows` meets its contract. The lines that are left, after the numbers in the table, come to the same as all of them.
 -- Assumes nothing.
-use Prim.Native.Nat.{◌+◌, ◌*◌, ◌-◌, ◌≤◌}
-use mathlib.Core.List.{[]}
-use mathlib.Core.Path.{◌≡◌, refl, ◌∙◌}
+use Prim.Native.Nat.{◌+◌, ◌*◌, ◌≤◌}
+use mathlib.Core.Path.{refl, ◌∙◌}
 use native.Mathlib.Nat.{zero-mul, sub-zero}
 use native.Mathlib.Omega.{arith}
-use lib.ListN.{length, drop, take}
+use lib.ListN.{length}
 use borrow.Author.Rules.{rules}
-use Rattle.map_spec.specs.Reading.{read_rows}
 use Rattle.map_text.specs.LineLaws.{row_inside, rows_malformed, rows_line, rows_end, rows_extra}
 use Rattle.map_text.proofs.lines.read_rows.Goals as goal
 use Rattle.map_text.proofs.lines.read_rows.Goals.{In-loop-i}

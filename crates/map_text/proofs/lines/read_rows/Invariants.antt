@@ -2,13 +2,9 @@
 -- Assumes nothing.
 use Prim.Native.Nat.{◌+◌, ◌*◌, ◌-◌, ◌≤◌}
 use mathlib.Core.List.{[]}
-use mathlib.Core.Path.{◌≡◌, refl, ◌∙◌}
-use native.Mathlib.Nat.{zero-mul, sub-zero}
-use native.Mathlib.Omega.{arith}
+use mathlib.Core.Path.{◌≡◌}
 use lib.ListN.{length, drop, take}
-use borrow.Author.Rules.{rules}
 use Rattle.map_spec.specs.Reading.{read_rows}
-use Rattle.map_text.specs.LineLaws.{row_inside, rows_malformed, rows_line, rows_end, rows_extra}
 use Rattle.map_text.proofs.lines.read_rows.Given as goal
 
 abbrev pub invariant-loop-i : goal.invariant-loop-i
