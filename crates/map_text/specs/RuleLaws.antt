@@ -7,7 +7,7 @@ use Rattle.std.proofs.Math.Path.{refl, sym, ap}
 use Rattle.std.proofs.Common.{◌∙◌, mul-le-mul, arith, le-ltb, lt-ltb, le-leb}
 use Rattle.std.proofs.Math.IntN.{pos}
 use Rattle.std.proofs.lemmas.Bool.{lt-leb}
-use Rattle.linear.specs.Cases.{order, split}
+use Rattle.linear.specs.Cases.{split}
 use Rattle.definitions.specs.Answers.{Check, refuse, go, refuse_with, ◌then◌}
 use Rattle.definitions.specs.Input.{input_of}
 use Rattle.definitions.specs.System.{most_equations, most_unknowns, coef_limit}
@@ -15,7 +15,7 @@ use Rattle.definitions.specs.Refusals.{check7}
 use Rattle.laws.specs.CheckLaws.{Rules, rule, placed, ◌▹◌, end, Renders, check_cases, renders_due, renders_silent, renders_end}
 use Rattle.texts.specs.Reading.{most_bytes, Parse, parsed, malformed}
 use Rattle.texts.specs.ParseLaws.{same}
-use Rattle.map_spec.specs.Form.{line, lines, written}
+use Rattle.map_spec.specs.Form.{lines, written}
 use Rattle.map_spec.specs.Reading.{
   Rows,
   rows,
