@@ -60,12 +60,12 @@ class Function:
         for (old, *_), new, arm in zip(listed["places"], listed["places_by_name"], listed["arms"]):
             if arm:
                 last[arm[0]] = (norm(old), new)
-        for (old, parent, fields, callee, inner), new, clauses, arm in zip(listed["places"], listed["places_by_name"], listed["clauses"], listed["arms"]):
+        for (old, parent, fields, callee, inner), new, clauses, arm, typed in zip(listed["places"], listed["places_by_name"], listed["clauses"], listed["arms"], listed["typed"]):
             if arm and re.search(r"-\d+$", new):
                 base = re.sub(r"-\d+$", "", new)
                 if base in listed["places_by_name"]:
                     new = base
-            self.places[norm(old)] = {"parent": parent and norm(parent), "old": norm(fields[0]), "new": fields[1], "name": new, "clauses": clauses and clauses["fields"], "arm": arm, "inner": {a: b for a, b in inner if b.endswith("-bits")}}
+            self.places[norm(old)] = {"parent": parent and norm(parent), "old": norm(fields[0]), "new": fields[1], "name": new, "clauses": clauses and clauses["fields"], "arm": arm, "callee": callee, "typed": bool(typed), "inner": {a: b for a, b in inner if b.endswith("-bits")}}
 
     def up(self, place):
         return self.places[place]["parent"] if place in self.places else None
@@ -77,6 +77,13 @@ class Function:
             place = self.up(place)
         return out
 
+    def back(self, var, place, want):
+        """The earlier place `want` as a path from a variable at `place`, or None. A place with `type_inv` is a record of its own around the place."""
+        chain = self.chain(place)
+        if want not in chain or self.places[want]["typed"]:
+            return None
+        return var + ".before" * (chain.index(want) + self.places[place]["typed"])
+
     def find(self, place, ups, field):
         """The place whose step is called so: that many places up, or else the nearest to it."""
         field = norm(field)
@@ -86,12 +93,26 @@ class Function:
             fits = [i for i, it in enumerate(chain) if norm(self.places[it]["new"]) == field]
         if not fits and field.endswith("-lem"):
             return self.find(place, ups, field[: -len("-lem")])
+        if not fits and re.search(r"\d$", field):
+            return self.find(place, ups, re.sub(r"\d+$", "", field))
         if not fits:
             return None
         return chain[min(fits, key=lambda i: abs(i - ups))]
 
 
-ROOT = {"args", "requires", "pre", "ranges", "lifetimes", "auto", "type_inv", "utf8", "told"}
+ROOT = {"good", "well_formed", "args", "requires", "pre", "ranges", "lifetimes", "auto", "type_inv", "utf8", "told"}
+
+
+def clause(fields, steps):
+    """Positions in the old conjunction of clauses, A × (B × C), as the clause's name, and what is left of the steps; or None."""
+    i, n = 0, len(fields)
+    while steps and steps[0] in ("0", "1"):
+        if steps[0] == "0":
+            return [fields[i], *steps[1:]]
+        i, steps = i + 1, steps[1:]
+        if i == n - 1:
+            return [fields[i], *steps]
+    return None
 
 
 def closing(text, at):
@@ -142,6 +163,10 @@ def arguments(text):
 class Turner:
     def __init__(self, crate, path, listed, text):
         self.crate, self.path, self.f = crate, path, Function(listed)
+        # a name for the type of a place is the place itself
+        for name, of in re.findall(r"(?m)^abbrev (" + WORD + r") : Type 0\n\1 = (tie\." + WORD + r")[^\n]*\n", text):
+            text = re.sub(rf"(?m)^(?:--[^\n]*\n)*abbrev {re.escape(name)} : Type 0\n{re.escape(name)} = [^\n]*\n", "", text)
+            text = re.sub(rf"(?<![^\s(){{}}\[\],;]){re.escape(name)}(?![^\s(){{}}\[\],;])", of, text)
         self.head, self.uses, self.blocks = chunks(text)
         self.said, self.wants = [], set()
         self.imports = set()
@@ -161,6 +186,7 @@ class Turner:
         let = re.compile(r"let (" + WORD + r")(?: : [^=\n]*?)? = (" + WORD + r")((?:\.before)*)\s+in\b[ \n]*")
         for name in self.accessors:
             text = re.sub(rf"let (" + WORD + rf") = {re.escape(name)} (" + WORD + r"(?:\.before)*)\s+in\b", r"let \1 = \2 in", text)
+            text = re.sub(rf"let (" + WORD + rf") = \({re.escape(name)} (" + WORD + r"(?:\.before)*)\)((?:\.before)*)\s+in\b", r"let \1 = \2\3 in", text)
         again = True
         while again:
             again = False
@@ -183,31 +209,32 @@ class Turner:
                 var = m[2].split(".")[0]
                 if goal and var in env and env[var][0] == "place":
                     return f"{m[1]}«(goal.at.{goal} {env[var][3]}).{self.f.places[want]['name']}»"
+                if var in env and env[var][0] == "place" and self.f.back(env[var][3], env[var][1], want):
+                    return f"{m[1]}«{self.f.back(env[var][3], env[var][1], want)}»"
                 if re.match(r"[a-z]", m[2]) and var in env:
                     self.look(f"{name} {m[2]}")
                 return m[0]
             text = re.sub(rf"((?<![^\s(){{}}\[\],;]))\(?{re.escape(name)} (" + WORD + r"(?:\.before)*)\)?", whole, text)
         text = self.passed(text, env, goal)
         # lets of a whole record of clauses keep their name, and its parts go by name
-        for m in re.finditer(r"let (" + WORD + r") = (" + WORD + r"(?:\." + WORD + r")*\.(?:requires|pre|ensures)) in\b", text):
+        for m in re.finditer(r"let (" + WORD + r") = (?:rw (?:" + WORD + r"(?:\." + WORD + r")*|\([^()]*\)) at )?\(?(" + WORD + r"(?:\." + WORD + r")*\.(?:requires|pre|ensures))\)? in\b", text):
             got = self.path_of(m[2], env)
             if got and got[1]:
                 env[m[1]] = ("record", got[1])
         for m in TOKEN.finditer(text):
             it = m[0]
             first = it.split(".")[0]
-            if it.startswith("--") or first not in env:
+            if it.startswith("--") or first not in env or (out and out[-1] == "{" and re.match(r" = ", text[m.end() :])):
                 out.append(it)
                 continue
             if env[first][0] == "record":
                 steps = it.split(".")
-                if len(steps) > 1 and steps[1].isdigit() and int(steps[1]) < len(env[first][1]):
-                    steps[1] = env[first][1][int(steps[1])]
-                out.append(".".join(steps))
+                got = clause(env[first][1], steps[1:])
+                out.append(".".join([first, *got]) if got else it)
                 continue
             got = self.path_of(it, env)
             out.append(got[0] if got else it)
-        return re.sub(r"«((?:\(goal\.at\.[^()]*\)\." + WORD + r"|" + WORD + r"))»", r"\1", "".join(out))
+        return re.sub(r"«((?:\(goal\.at\.[^()]*\)\." + WORD + r"|" + WORD + r"(?:\." + WORD + r")*))»", r"\1", "".join(out))
 
     def path_of(self, path, env):
         """The path as it reads now, and the clauses of the record that it ends in, if it is one."""
@@ -223,12 +250,13 @@ class Turner:
             return var + ".before" * ups, None
         field = steps[0]
         if field in ROOT:
-            field = {"pre": "requires"}.get(field, field)
+            field = {"pre": "requires", "good": "well_formed"}.get(field, field)
             fields = None
             if field == "requires" and self.listed["pre"]:
                 fields = self.listed["pre"]["fields"]
-                if len(steps) > 1 and steps[1].isdigit() and int(steps[1]) < len(fields):
-                    return ".".join([var, field, fields[int(steps[1])], *steps[2:]]), None
+                got = clause(fields, steps[1:])
+                if got:
+                    return ".".join([var, field, *got]), None
             if field == "requires" and len(steps) > 1:
                 fields = None
             return ".".join([var, field, *steps[1:]]), fields
@@ -249,15 +277,28 @@ class Turner:
         if len(steps) > 1:
             steps[1] = {"inv": "invariant", "taken": "true", "left": "false"}.get(steps[1], steps[1])
             steps[1] = of["inner"].get(steps[1], steps[1])
+            steps[1] = {"type-inv": "type_inv"}.get(steps[1], steps[1])
             if steps[1] == "auto" and (len(steps) == 2 or steps[2].isdigit()):
                 changed = [v for i, (_, new, names) in enumerate(self.loops) if new == of["new"] for v, c in zip(names, self.listed["changed"][i]) if c]
                 if "kept" in changed:
                     steps[1] = "kept"
-                elif changed:
+                elif changed and not of["callee"]:
                     steps[2:3] = [changed[int(steps[2]) if len(steps) > 2 and int(steps[2]) < len(changed) else 0]]
+            if steps[1] in ("last", "auto", "kept", "new") and of["callee"]:
+                among = self.listed["params"].get(of["callee"], [])
+                at, i = 2, 0
+                while at < len(steps) and steps[at] == "1" and i < len(among) - 1:
+                    at, i = at + 1, i + 1
+                if at < len(steps) and steps[at] == "0":
+                    at += 1
+                if at > 2 and i < len(among) and steps[at - 1] == "0":
+                    steps[1:at] = ["new" if steps[1] in ("last", "new") else "auto", among[i]]
+                elif len(steps) > 2 and steps[2].isdigit():
+                    self.look(f"{'.'.join(steps)}: which argument of {of['callee']}?")
         if len(steps) > 1 and steps[1] in ("ensures",) and of["clauses"]:
-            if len(steps) > 2 and steps[2].isdigit() and int(steps[2]) < len(of["clauses"]):
-                steps[2] = of["clauses"][int(steps[2])]
+            got = clause(of["clauses"], steps[2:])
+            if got:
+                steps[2:] = got
             elif len(steps) == 2:
                 return ".".join([var, *steps]), of["clauses"]
         return ".".join([var, *steps]), None
@@ -312,14 +353,14 @@ class Turner:
                 else:
                     self.look(f"no goal for {it} ({old})")
         self.rename = {it: needs[i][1] for it, i in pairs if it in goals}
-        self.signatures, self.accessors = {}, {}
+        self.signatures, self.accessors, self.inlines = {}, {}, {}
         pure = re.compile(r"(" + WORD + r")(?:\.before)*\s*$")
         kept = []
         for kind, d, block in helpers:
             if kind == "helper":
                 arrow = re.match(r"\s*(?:tie\.\S+(?: [^→]*)?|\(\S+ : tie\.[^()]*\)) → tie\.(" + WORD + r")[^→()]*$", d["type"], re.S)
                 eq = re.match(re.escape(d["name"]) + r" (\S+) = (" + WORD + r"(?:\.before)*)\s*$", d["rest"].strip())
-                if arrow and eq and norm(arrow[1]) in self.f.places:
+                if arrow and norm(arrow[1]) in self.f.places:
                     self.accessors[d["name"]] = norm(arrow[1])
                     continue
             kept.append((kind, d, block))
@@ -393,7 +434,7 @@ class Turner:
     def answer(self, d, new, place, fields):
         un, rest = self.equations(d)
         name = d["name"]
-        m = re.match(re.escape(name) + r"((?: [^=\s]+)*)\s+=(.*)$", rest, re.S)
+        m = re.match(re.escape(name) + r"((?:\s+[^=\s]+)*)\s+=(.*)$", rest, re.S)
         if not m:
             m = re.match(re.escape(name) + r"(\s*)=(.*)$", rest, re.S)
         if not m:
@@ -403,7 +444,7 @@ class Turner:
         body = m[2]
         if not params:
             return d["comment"] + f"pub {new} : goal.{new}\n" + "".join(it + "\n" for it in un) + f"{new} ={body}"
-        if body.strip() == "search rules":
+        if body.strip() == "search rules" and not un:
             return None
         body = self.body(body, place, {params[0]: ("place", place, 0, "c")}, new)
         body = self.renamed(self.record(body, fields))
@@ -428,6 +469,8 @@ class Turner:
         inner = tail.strip()
         if inner.startswith("(") and closing(inner, 0) == len(inner) - 1:
             parts = parts_of(inner[1:-1])
+            while len(parts) < len(fields) and parts[-1].startswith("(") and closing(parts[-1], 0) == len(parts[-1]) - 1 and len(parts_of(parts[-1][1:-1])) > 1:
+                parts = parts[:-1] + parts_of(parts[-1][1:-1])[:1] + (["(" + ", ".join(parts_of(parts[-1][1:-1])[1:]) + ")"] if len(parts_of(parts[-1][1:-1])) > 2 else parts_of(parts[-1][1:-1])[1:])
             if len(parts) >= len(fields):
                 if len(parts) > len(fields):
                     k = len(fields) - 1
@@ -516,6 +559,15 @@ class Turner:
                             want = where[i]
                             if want == env[var][1] and (goal or env[var][2] + arg.count(".before") == 0):
                                 new = env[var][3]
+                            elif not goal and self.f.back(env[var][3], env[var][1], want):
+                                new = self.f.back(env[var][3], env[var][1], want)
+                            elif not goal and name in self.inlines and i == 0:
+                                param, of = self.inlines[name]
+                                new = re.sub(rf"(?<![^\s(){{}}\[\],;]){re.escape(param)}(?=\.)", env[var][3], of)
+                                new = f"({new})" if re.search(r"\s", new) else new
+                                text = text[: m.start()] + new + text[end:]
+                                at = m.start() + len(new)
+                                break
                             elif goal:
                                 new = f"(goal.at.{goal} {env[var][3]}).{self.f.places[want]['name']}"
                             else:
@@ -591,7 +643,10 @@ class Turner:
             for i, old in where.items():
                 if i < len(params):
                     local[params[i]] = ("place", old, 0, params[i])
-            body = f"{d['name']}{lines[1]} ={self.body(lines[2], None, local)}"
+            turned = self.body(lines[2], None, local)
+            body = f"{d['name']}{lines[1]} ={turned}"
+            if len(params) == 1 and where == {0: local[params[0]][1]} and not re.search(r"\blet\b|\bwhere\b", turned) and not un and not re.match(r"\s*(omega|search|grind|cc|simp|rw|elim)\b", turned):
+                self.inlines[d["name"]] = (params[0], " ".join(turned.split()))
         elif where:
             self.look(f"{d['name']}: equations with a place")
         return d["comment"] + d["mods"] + d["name"] + " :" + types + "\n" + "".join(it + "\n" for it in un) + self.renamed(body)
@@ -611,19 +666,26 @@ class Turner:
                 env[it[1]] = ("place", env[v0][1], 0, v0)
                 self.accessors[it[1]] = norm(it[2])
                 return ""
-            text = re.sub(r"(?m)^  (?:abbrev )?(?:pub )?(" + WORD + r") : tie\.(" + WORD + r")[^\n]*\n  \1 = " + WORD + r"(?:\.before)*\n\n?", inner, text)
+            text = re.sub(r"(?m)^  (?:abbrev )?(?:pub )?(" + WORD + r") : tie\.(" + WORD + r")[^\n]*\n  \1 = [^\n]*\n\n?", inner, text)
 
         def typed(m):
             of, old = self.place_type(m[2])
             return m[1] + of
         text = re.sub(r"(?m)( : )(tie\.[^\n]*)$", typed, text)
         head, nl, rest = text.partition("\n")
-        return self.renamed(head + nl + self.body(rest, None, env))
+        done = self.body(rest, None, env)
+        if len(env) >= 1 and m:
+            v0 = next(v for v in env)
+            for n, of in re.findall(r"(?m)^  (" + WORD + r") = ((?:.+(?:\n    .*)*))$", done):
+                mates = [it for it, w in self.signatures.items() if it != n and re.search(rf"(?m)^  {re.escape(it)}(?: |$)", done)]
+                if not re.search(r"\blet\b|\bwhere\b|^(omega|search|grind|cc|simp|rw|elim)\b", of) and not any(re.search(rf"(?<![^\s(){{}}\[\],;]){re.escape(it)}(?![^\s(){{}}\[\],;])", of) for it in mates):
+                    self.inlines[n] = (v0, " ".join(of.split()))
+        return self.renamed(head + nl + done)
 
     def tests(self, text):
         """A test of `!x` says of x what it is."""
-        path = r"c\.if-not-[^\s(){}\[\],;.]*\.(?:true|false)"
-        text = re.sub(r"(?<![^\s(){}\[\],;])not[-_](?:true|false) (?:_|\S+) (?=c\.if[^\s()]*\.(?:true|false)\b)", "\0", text)
+        path = r"(?<![^\s(){}\[\],;\0])[a-z]\w*\.if-not-[^\s(){}\[\],;.]*\.(?:true|false)"
+        text = re.sub(r"(?<![^\s(){}\[\],;])not[-_](?:true|false) (?:_|\S+) (?=[a-z]\w*\.if[^\s()]*\.(?:true|false)\b)", "\0", text)
 
         def negated(m):
             if m[1] == "\0":
@@ -651,7 +713,7 @@ class Turner:
         inner = next((it["inner"] for it in self.f.places.values() if it["new"] == new and it["inner"]), {})
         bits = lambda v: v
         _, rest = self.equations(d)
-        m = re.match(re.escape(name) + r"((?: [^=\s]+)*)\s+=(.*)$", rest, re.S)
+        m = re.match(re.escape(name) + r"((?:\s+[^=\s]+)*)\s+=(.*)$", rest, re.S)
         params = m[1].split()
         want = len(names) + sum(changed)
         env = {}
@@ -663,7 +725,13 @@ class Turner:
         for p, v in zip(params[len(names) :], [v for v, c in zip(names, changed) if c]):
             env[p] = f"{var}.{bits(v)}"
         out = []
-        for t in TOKEN.finditer(m[2]):
+        # a signed variable is an integer now
+        whole_text = m[2]
+        for p in params:
+            one = re.escape(p)
+            whole_text = re.sub(rf"\(to_z w\d+ {one}\)|(?<![^\s(){{}}\[\],;])to_z w\d+ {one}(?![^\s(){{}}\[\],;])", p.replace("\\", ""), whole_text)
+            whole_text = re.sub(rf"(?<![^\s(){{}}\[\],;]){one} ≡ of_z w\d+ ", f"{p} ≡ ", whole_text)
+        for t in TOKEN.finditer(whole_text):
             it = t[0]
             first, dot, rest = it.partition(".")
             out.append(env[first] + dot + rest if first in env and not it.startswith("--") else it)

@@ -1,0 +1,21 @@
+-- `c_record::misfit::misfit` meets its contract: the check of a continuing call refuses, and its refusal is told. Assumes nothing.
+use borrow.Author.Rules.{rules}
+use Rattle.c_record.specs.Words.{resume_words}
+use Rattle.c_record.specs.WordLaws.{misfit_fits, misfit_never_passes, misfit_told}
+use Rattle.c_record.proofs.misfit.misfit.Goals as goal
+
+pub refusal-requires : goal.refusal-requires
+refusal-requires c =
+    misfit_fits _ _ _ _ _ c.requires (rw c.read-r.ensures at c.check_resume.ensures)
+    c.in-Refuse.is
+
+pub returns-in-Refuse : goal.returns-in-Refuse
+unfolding resume_words
+returns-in-Refuse c =
+    misfit_told _ _ _ _ _ c.requires (rw c.read-r.ensures at c.check_resume.ensures)
+    c.in-Refuse.is
+    0 c.refusal.ensures
+
+pub returns-in-Pass : goal.returns-in-Pass
+returns-in-Pass c =
+    absurd (misfit_never_passes _ _ _ _ _ c.requires (rw c.read-r.ensures at c.check_resume.ensures) c.in-Pass.is)

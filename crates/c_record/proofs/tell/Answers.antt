@@ -1,0 +1,6 @@
+-- `tell` meets its contract. Assumes nothing.
+use borrow.Author.Rules.{rules}
+use Rattle.c_record.proofs.tell.Goals as goal
+
+pub returns : goal.returns
+returns c = record { value = c.number.ensures; run_after = c.write.ensures }

@@ -1,0 +1,30 @@
+-- `words::kind_at` meets its contract. Assumes nothing.
+use borrow.Author.Tests.{eq-eqb, ne_eqb}
+use Rattle.c_record.proofs.words.kind_at.Goals as goal
+
+pub returns-then-n-eq0 : goal.returns-then-n-eq0
+returns-then-n-eq0 c = rw (eq-eqb _ 0 c.if-n-eq0.true)
+
+pub returns-then-n-eq1 : goal.returns-then-n-eq1
+returns-then-n-eq1 c = rw (ne_eqb _ 0 c.if-n-eq0.false, eq-eqb _ 1 c.if-n-eq1.true)
+
+pub returns-then-n-eq2 : goal.returns-then-n-eq2
+returns-then-n-eq2 c = rw (ne_eqb _ 0 c.if-n-eq0.false, ne_eqb _ 1 c.if-n-eq1.false, eq-eqb _ 2 c.if-n-eq2.true)
+
+pub returns-then-n-eq4 : goal.returns-then-n-eq4
+returns-then-n-eq4 c =
+    rw (
+      ne_eqb _ 0 c.if-n-eq0.false,
+      ne_eqb _ 1 c.if-n-eq1.false,
+      ne_eqb _ 2 c.if-n-eq2.false,
+      eq-eqb _ 4 c.if-n-eq4.true,
+    )
+
+pub returns : goal.returns
+returns c =
+    rw (
+      ne_eqb _ 0 c.if-n-eq0.false,
+      ne_eqb _ 1 c.if-n-eq1.false,
+      ne_eqb _ 2 c.if-n-eq2.false,
+      ne_eqb _ 4 c.if-n-eq4.false,
+    )

@@ -1,0 +1,31 @@
+-- `started_capped` meets its contract: the check decides, and the rows written are those of the start, on one unknown more. Assumes nothing.
+use native.Mathlib.Numerals.{add-one}
+use native.Mathlib.Omega.{arith}
+use borrow.Author.Rules.{rules}
+use Rattle.definitions.specs.Tables.{units_start}
+use Rattle.definitions.specs.Calls.{start}
+use Rattle.laws.specs.RefusalLaws.{start_shaped}
+use Rattle.calls.specs.CallLaws.{call_refused, call_passed, passes}
+use Rattle.starts.proofs.started_capped.Goals as goal
+
+pub overflow_add-wide : goal.overflow_add-wide
+overflow_add-wide c =
+    let g = start_shaped _ _ (passes (c.check_start_capped.ensures 0) c.in-Pass.is) in
+    omega (arith, g.q_few)
+
+pub write_units-requires : goal.write_units-requires
+write_units-requires c =
+    let a = c.args in
+    let g = start_shaped _ _ (passes (c.check_start_capped.ensures 0) c.in-Pass.is) in
+    rw (add-one a.q) (g.q_few, g.stack)
+
+pub returns-in-Refuse : goal.returns-in-Refuse
+unfolding start
+returns-in-Refuse c limit =
+    rw c.refused.ensures (call_refused (c.check_start_capped.ensures limit) _ _ c.in-Refuse.is)
+
+pub returns-in-Pass : goal.returns-in-Pass
+unfolding start units_start
+returns-in-Pass c limit =
+    let a = c.args in
+    call_passed (c.check_start_capped.ensures limit) _ _ c.in-Pass.is (rw (c.begun.ensures, c.write_units.ensures, add-one a.q))

@@ -1,0 +1,21 @@
+-- `resumed_from` meets its contract: the check decides, else the walks of the run go on. Assumes nothing.
+use mathlib.Core.Path.{refl}
+use borrow.Author.Rules.{rules}
+use Rattle.definitions.specs.Machine.{call}
+use Rattle.laws.specs.LowerLaws.{resume_from_valid}
+use Rattle.calls.specs.CallLaws.{call_refused, call_passed, passes}
+use Rattle.walk.proofs.resumed_from.Goals as goal
+
+pub walk_from-requires : goal.walk_from-requires
+walk_from-requires c =
+    (resume_from_valid _ _ _ refl (passes c.check_resume_from.ensures c.in-Pass.is)).1
+
+pub returns-in-Refuse : goal.returns-in-Refuse
+unfolding call
+returns-in-Refuse c =
+    rw c.refused.ensures (call_refused c.check_resume_from.ensures _ _ c.in-Refuse.is)
+
+pub returns-in-Pass : goal.returns-in-Pass
+unfolding call
+returns-in-Pass c =
+    call_passed c.check_resume_from.ensures _ _ c.in-Pass.is c.walk_from.ensures

@@ -1,3 +1,0 @@
-pub mod Frame
-pub mod Walk
-pub mod Behind
