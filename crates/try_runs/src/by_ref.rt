@@ -2,48 +2,53 @@
 // lower bound, a map with right sides, and calls that are refused; and calls by value. It prints what each call answered and left.
 use calls::{Answer, Outcome, Record, Solutions, Steps};
 use reader::Which;
+use std::io;
 use try_support::print;
 
 mod lent; // lent.rt: each call with a record of its own
 
-pub fn all() {
-    map_in_two_calls();
-    from_a_lower_bound();
-    with_right_sides();
-    refused_calls();
-    by_value();
+pub fn all(rt: &impl Print) -> io::Result<()> {
+    map_in_two_calls(rt)?;
+    from_a_lower_bound(rt)?;
+    with_right_sides(rt)?;
+    refused_calls(rt)?;
+    by_value(rt)
 }
 
-fn map_in_two_calls() {
+fn map_in_two_calls(rt: &impl Print) -> io::Result<()> {
     let coefs = [-1, 1, 2, -3, -1, 3, -2, -1];
     let mut stack = [0u32; 20];
     let mut list = [0u32; 8];
     let r = told(
+        rt,
         b"start",
         lent::started(2, 4, &coefs, &mut stack, &mut list, unused()),
-    );
+    )?;
     let r = told(
+        rt,
         b"7 steps",
         lent::resumed(2, 4, &coefs, &mut stack, &mut list, r, 7),
-    );
-    show(&list, 4, r.found, 1);
-    show(&list, 4, r.found, 2);
+    )?;
+    show(rt, &list, 4, r.found, 1)?;
+    show(rt, &list, 4, r.found, 2)?;
     let r = told(
+        rt,
         b"all steps",
         lent::resumed(2, 4, &coefs, &mut stack, &mut list, r, 1000000),
-    );
-    show(&list, 4, r.found, 1);
-    show(&list, 4, r.found, 2);
-    show(&list, 4, r.found, 3);
+    )?;
+    show(rt, &list, 4, r.found, 1)?;
+    show(rt, &list, 4, r.found, 2)?;
+    show(rt, &list, 4, r.found, 3)
 }
 
-fn from_a_lower_bound() {
+fn from_a_lower_bound(rt: &impl Print) -> io::Result<()> {
     let coefs = [1, -1];
     let lower = [0, 2];
     let mut stack = [0u32; 6];
     let mut list = [0u32; 8];
     let mut second = [0u32; 8];
     let r = told(
+        rt,
         b"start from 0 2",
         lent::started_from(
             1,
@@ -55,8 +60,9 @@ fn from_a_lower_bound() {
             &mut second,
             unused(),
         ),
-    );
+    )?;
     let r = told(
+        rt,
         b"all steps",
         lent::resumed_from(
             1,
@@ -69,20 +75,21 @@ fn from_a_lower_bound() {
             r,
             1000000,
         ),
-    );
-    show(&list, 2, r.found, 1);
-    show(&second, 2, r.found2, 1);
-    show(&list, 17, r.found, 1);
+    )?;
+    show(rt, &list, 2, r.found, 1)?;
+    show(rt, &second, 2, r.found2, 1)?;
+    show(rt, &list, 17, r.found, 1)
 }
 
 // The equation 2 x - 3 y = 1, with a pause after 6 steps.
-fn with_right_sides() {
+fn with_right_sides(rt: &impl Print) -> io::Result<()> {
     let coefs = [2, -3];
     let rights = [1];
     let mut stack = [0u32; 12];
     let mut list = [0u32; 8];
     let mut second = [0u32; 8];
     let r = told(
+        rt,
         b"start with right sides",
         lent::started_capped(
             1,
@@ -94,15 +101,34 @@ fn with_right_sides() {
             &mut second,
             unused(),
         ),
-    );
-    let r = further(&coefs, &rights, &mut stack, &mut list, &mut second, r, 6);
-    show_both(&list, &second, 2, r);
-    let r = further(&coefs, &rights, &mut stack, &mut list, &mut second, r, 1000);
-    show_both(&list, &second, 2, r);
+    )?;
+    let r = further(
+        rt,
+        &coefs,
+        &rights,
+        &mut stack,
+        &mut list,
+        &mut second,
+        r,
+        6,
+    )?;
+    show_both(rt, &list, &second, 2, r)?;
+    let r = further(
+        rt,
+        &coefs,
+        &rights,
+        &mut stack,
+        &mut list,
+        &mut second,
+        r,
+        1000,
+    )?;
+    show_both(rt, &list, &second, 2, r)
 }
 
 // The continuing call of that equation's run.
 fn further(
+    rt: &impl Print,
     coefs: &[i32],
     rights: &[i32],
     stack: &mut [u32],
@@ -110,36 +136,40 @@ fn further(
     second: &mut [u32],
     r: Record,
     budget: u64,
-) -> Record {
+) -> io::Result<Record> {
     told(
+        rt,
         b"further steps",
         lent::resumed_capped(1, 2, coefs, rights, stack, list, second, r, budget),
     )
 }
 
-fn refused_calls() {
+fn refused_calls(rt: &impl Print) -> io::Result<()> {
     let coefs = [1, -10001];
     let mut stack = [0u32; 6];
     let mut list = [0u32; 8];
     let r = told(
+        rt,
         b"a coefficient out of range",
         lent::started(1, 2, &coefs, &mut stack, &mut list, unused()),
-    );
+    )?;
     told(
+        rt,
         b"going on all the same",
         lent::resumed(1, 2, &coefs, &mut stack, &mut list, r, 1),
-    );
+    )?;
+    Ok(())
 }
 
 // The calls by value, as README.md has them.
-fn by_value() {
+fn by_value(rt: &impl Print) -> io::Result<()> {
     let coefs = [-1, 1, 2, -3, -1, 3, -2, -1];
     let mut stack = [0u32; 272];
     let mut list = [0u32; 8192];
     let s = starts::started(2, 4, &coefs, &mut stack, &mut list, unused());
     let answer = s.answer;
     let Answer::Started = answer else {
-        return;
+        return Ok(());
     };
     let r = s.run;
     let o = walk::resumed(
@@ -154,9 +184,9 @@ fn by_value() {
     );
     let r = o.run;
     let row = reader::row_of(&list, 4, r.found, 1);
-    print::text(b"by value:");
-    print::rows(row, 4);
-    print::text(b"\n");
+    print::text(rt, b"by value:")?;
+    print::rows(rt, row, 4)?;
+    print::text(rt, b"\n")
 }
 
 // A record out of order, so that one which a start has not set is refused.
@@ -165,43 +195,49 @@ fn unused() -> Record {
 }
 
 // Prints what a call answered, and the record that it left.
-fn told(name: &[u8], o: Outcome) -> Record {
+fn told(rt: &impl Print, name: &[u8], o: Outcome) -> io::Result<Record> {
     let answer = o.answer;
     let run = o.run;
-    print::text(name);
-    print::text(b": ");
-    print::answer(answer);
-    print::text(b", height ");
-    print::number(run.height as u64);
-    print::text(b", found ");
-    print::number(run.found.0 as u64);
-    print::text(b", steps ");
-    print::number(run.steps.0);
-    print::text(b"\n");
-    run
+    print::text(rt, name)?;
+    print::text(rt, b": ")?;
+    print::answer(rt, answer)?;
+    print::text(rt, b", height ")?;
+    print::number(rt, run.height as u64)?;
+    print::text(rt, b", found ")?;
+    print::number(rt, run.found.0 as u64)?;
+    print::text(rt, b", steps ")?;
+    print::number(rt, run.steps.0)?;
+    print::text(rt, b"\n")?;
+    Ok(run)
 }
 
 // Prints a row as the reader shows it.
-fn show(list: &[u32], q: usize, found: Solutions, n: usize) {
-    shown(lent::row(list, q, found, n), q, n);
+fn show(rt: &impl Print, list: &[u32], q: usize, found: Solutions, n: usize) -> io::Result<()> {
+    shown(rt, lent::row(list, q, found, n), q, n)
 }
 
 // Prints the first row of the list at 0, and of the list at 1.
-fn show_both<'a>(list: &'a [u32], second: &'a [u32], q: usize, r: Record) {
+fn show_both<'a>(
+    rt: &impl Print,
+    list: &'a [u32],
+    second: &'a [u32],
+    q: usize,
+    r: Record,
+) -> io::Result<()> {
     let zero = reader::row_of_either(list, second, Which::Zero, q, r.found, 1);
-    shown(zero, q, 1);
+    shown(rt, zero, q, 1)?;
     let one = reader::row_of_either(list, second, Which::One, q, r.found2, 1);
-    shown(one, q, 1);
+    shown(rt, one, q, 1)
 }
 
 // Prints row n of a list, which is empty where there is none.
-fn shown(row: &[u32], q: usize, n: usize) {
-    print::text(b"    row ");
-    print::number(n as u64);
-    print::text(b":");
+fn shown(rt: &impl Print, row: &[u32], q: usize, n: usize) -> io::Result<()> {
+    print::text(rt, b"    row ")?;
+    print::number(rt, n as u64)?;
+    print::text(rt, b":")?;
     if row.len() == 0 {
-        print::text(b" none");
+        print::text(rt, b" none")?;
     }
-    print::rows(row, q);
-    print::text(b"\n");
+    print::rows(rt, row, q)?;
+    print::text(rt, b"\n")
 }

@@ -1,6 +1,7 @@
 // Document 01's "Runs to compare", and the example of document 02's job 4, each started and then taken on in one call. It prints what each run came to. The
 // vectors have the same runs with pauses, and with tables and a record of any content before them.
 use calls::{Answer, Outcome, Record, Solutions, Steps};
+use std::io;
 use try_support::{print, tables};
 
 // A budget and a number of list entries that no run here uses up.
@@ -8,49 +9,57 @@ const ALL: u64 = 18446744073709551615;
 
 const AMPLE: usize = 40;
 
-pub fn all() {
-    run(b"0", 1, 1, &[0], AMPLE, ALL);
-    run(b"5", 1, 1, &[5], AMPLE, ALL);
-    run(b"2 -3", 1, 2, &[2, -3], AMPLE, ALL);
-    run(b"1 1 -1", 1, 3, &[1, 1, -1], AMPLE, ALL);
-    run(b"0 0 0", 1, 3, &[0, 0, 0], AMPLE, ALL);
-    run(b"1 -1 and 1 1", 2, 2, &[1, -1, 1, 1], AMPLE, ALL);
-    map(b"-1 1 2 -3 and -1 3 -2 -1", AMPLE, ALL);
-    map(b"the same, budget 7", AMPLE, 7);
-    map(b"the same, capacity 1", 4, ALL);
-    run(b"10000 -10000", 1, 2, &[10000, -10000], AMPLE, ALL);
-    run(b"10001 -10000", 1, 2, &[10001, -10000], AMPLE, ALL);
-    run(b"-1 1 2 -3", 1, 4, &[-1, 1, 2, -3], AMPLE, ALL);
-    lower_runs();
+pub fn all(rt: &impl Print) -> io::Result<()> {
+    run(rt, b"0", 1, 1, &[0], AMPLE, ALL)?;
+    run(rt, b"5", 1, 1, &[5], AMPLE, ALL)?;
+    run(rt, b"2 -3", 1, 2, &[2, -3], AMPLE, ALL)?;
+    run(rt, b"1 1 -1", 1, 3, &[1, 1, -1], AMPLE, ALL)?;
+    run(rt, b"0 0 0", 1, 3, &[0, 0, 0], AMPLE, ALL)?;
+    run(rt, b"1 -1 and 1 1", 2, 2, &[1, -1, 1, 1], AMPLE, ALL)?;
+    map(rt, b"-1 1 2 -3 and -1 3 -2 -1", AMPLE, ALL)?;
+    map(rt, b"the same, budget 7", AMPLE, 7)?;
+    map(rt, b"the same, capacity 1", 4, ALL)?;
+    run(rt, b"10000 -10000", 1, 2, &[10000, -10000], AMPLE, ALL)?;
+    run(rt, b"10001 -10000", 1, 2, &[10001, -10000], AMPLE, ALL)?;
+    run(rt, b"-1 1 2 -3", 1, 4, &[-1, 1, 2, -3], AMPLE, ALL)?;
+    lower_runs(rt)
 }
 
 // The map of document 01's "The program".
-fn map(name: &[u8], entries: usize, budget: u64) {
+fn map(rt: &impl Print, name: &[u8], entries: usize, budget: u64) -> io::Result<()> {
     let coefs = [-1, 1, 2, -3, -1, 3, -2, -1];
-    run(name, 2, 4, &coefs, entries, budget);
+    run(rt, name, 2, 4, &coefs, entries, budget)
 }
 
-fn lower_runs() {
+fn lower_runs(rt: &impl Print) -> io::Result<()> {
     let limit = 1000000;
-    from(b"2 -3 from 0 0", 1, 2, &[2, -3], &[0, 0]);
-    from(b"1 -1 from 0 2", 1, 2, &[1, -1], &[0, 2]);
-    from(b"1 -1 from 3 3", 1, 2, &[1, -1], &[3, 3]);
+    from(rt, b"2 -3 from 0 0", 1, 2, &[2, -3], &[0, 0])?;
+    from(rt, b"1 -1 from 0 2", 1, 2, &[1, -1], &[0, 2])?;
+    from(rt, b"1 -1 from 3 3", 1, 2, &[1, -1], &[3, 3])?;
     let past = [limit, 999999];
-    from(b"2 -1 from 1000000 999999", 1, 2, &[2, -1], &past);
-    from(b"1 -1 from 1000000 0", 1, 2, &[1, -1], &[limit, 0]);
+    from(rt, b"2 -1 from 1000000 999999", 1, 2, &[2, -1], &past)?;
+    from(rt, b"1 -1 from 1000000 0", 1, 2, &[1, -1], &[limit, 0])?;
     let two = [2, -2, 1, 0, 0, 1];
-    from(b"2 -2 1 and 0 0 1 from 0 0 1", 2, 3, &two, &[0, 0, 1]);
+    from(rt, b"2 -2 1 and 0 0 1 from 0 0 1", 2, 3, &two, &[0, 0, 1])
 }
 
 // A run with a list table of `entries` numbers, started and then taken on in one call.
-fn run(name: &[u8], p: usize, q: usize, coefs: &[i32], entries: usize, budget: u64) {
+fn run(
+    rt: &impl Print,
+    name: &[u8],
+    p: usize,
+    q: usize,
+    coefs: &[i32],
+    entries: usize,
+    budget: u64,
+) -> io::Result<()> {
     let mut stack = [0u32; 20];
     let mut list = [0u32; 40];
     if 40 < entries {
-        return;
+        return Ok(());
     }
     let o = in_one_call(p, q, coefs, &mut stack, &mut list[0..entries], budget);
-    report(name, o, q, &list);
+    report(rt, name, o, q, &list)
 }
 
 // The start and one continuing call.
@@ -77,18 +86,25 @@ fn unused() -> Record {
 }
 
 // A run from a lower bound, and what its plain walk came to.
-fn from(name: &[u8], p: usize, q: usize, coefs: &[i32], lower: &[u32]) {
+fn from(
+    rt: &impl Print,
+    name: &[u8],
+    p: usize,
+    q: usize,
+    coefs: &[i32],
+    lower: &[u32],
+) -> io::Result<()> {
     let mut stack = [0u32; 20];
     let mut list = [0u32; 40];
     let mut second = [0u32; 40];
     let o = from_in_one_call(p, q, coefs, lower, &mut stack, &mut list, &mut second);
-    report(name, o, q, &list);
+    report(rt, name, o, q, &list)?;
     let r = o.run;
     let steps = r.steps2;
     let found = r.found2;
-    print::text(b"  its plain walk: steps ");
-    print::number(steps.0);
-    rows(found, q, &second);
+    print::text(rt, b"  its plain walk: steps ")?;
+    print::number(rt, steps.0)?;
+    rows(rt, found, q, &second)
 }
 
 fn from_in_one_call(
@@ -108,25 +124,25 @@ fn from_in_one_call(
 }
 
 // A line for a run: its name, the answer, the record and the rows found.
-fn report(name: &[u8], o: Outcome, q: usize, list: &[u32; 40]) {
+fn report(rt: &impl Print, name: &[u8], o: Outcome, q: usize, list: &[u32; 40]) -> io::Result<()> {
     let a = o.answer;
     let r = o.run;
     let steps = r.steps;
-    print::text(name);
-    print::text(b": ");
-    print::answer(a);
-    print::text(b", steps ");
-    print::number(steps.0);
-    print::text(b", height ");
-    print::number(r.height as u64);
-    rows(r.found, q, list);
+    print::text(rt, name)?;
+    print::text(rt, b": ")?;
+    print::answer(rt, a)?;
+    print::text(rt, b", steps ")?;
+    print::number(rt, steps.0)?;
+    print::text(rt, b", height ")?;
+    print::number(rt, r.height as u64)?;
+    rows(rt, r.found, q, list)
 }
 
 // The rest of a line: how many rows were found, and which.
-fn rows(found: Solutions, q: usize, list: &[u32; 40]) {
-    print::text(b", found ");
-    print::number(found.0 as u64);
-    print::text(b":");
-    print::rows(tables::first(list, tables::place(found.0, q, 0)), q);
-    print::text(b"\n");
+fn rows(rt: &impl Print, found: Solutions, q: usize, list: &[u32; 40]) -> io::Result<()> {
+    print::text(rt, b", found ")?;
+    print::number(rt, found.0 as u64)?;
+    print::text(rt, b":")?;
+    print::rows(rt, tables::first(list, tables::place(found.0, q, 0)), q)?;
+    print::text(rt, b"\n")
 }

@@ -1,6 +1,7 @@
 // Small systems drawn in a fixed order, each solved by the walk and by trying every tuple of a box, plainly, from a lower bound and with right sides.
 // What the walk lists is held against the minimal solutions of the box. It prints how much was compared, and how many rows were wrong or missing.
 use calls::{Answer, Outcome, Record, Solutions, Steps};
+use std::io;
 use try_support::{print, tables, up};
 
 mod boxes; // boxes.rt: the minimal solutions of a box
@@ -35,7 +36,7 @@ enum Sort {
     Second,
 }
 
-pub fn all() {
+pub fn all(rt: &impl Print) -> io::Result<()> {
     let none = Tally {
         runs: 0,
         finished: 0,
@@ -45,30 +46,31 @@ pub fn all() {
         minimal: 0,
         missing: 0,
     };
-    print::line(b"systems", SYSTEMS);
-    print::text(b"plain\n");
-    report(runs(none, Sort::Plain));
-    print::text(b"from a lower bound: the first list\n");
-    report(runs(none, Sort::From));
-    print::text(b"from a lower bound: the second list\n");
-    report(runs(none, Sort::FromSecond));
-    print::text(b"with right sides: the first list\n");
-    report(runs(none, Sort::First));
-    print::text(b"with right sides: the second list\n");
-    report(runs(none, Sort::Second));
+    print::line(rt, b"systems", SYSTEMS)?;
+    print::text(rt, b"plain\n")?;
+    report(rt, runs(none, Sort::Plain))?;
+    print::text(rt, b"from a lower bound: the first list\n")?;
+    report(rt, runs(none, Sort::From))?;
+    print::text(rt, b"from a lower bound: the second list\n")?;
+    report(rt, runs(none, Sort::FromSecond))?;
+    print::text(rt, b"with right sides: the first list\n")?;
+    report(rt, runs(none, Sort::First))?;
+    print::text(rt, b"with right sides: the second list\n")?;
+    report(rt, runs(none, Sort::Second))
 }
 
-fn report(t: Tally) {
-    print::line(b"runs", t.runs);
-    print::line(b"finished", t.finished);
-    print::line(b"rows in the box", t.inside);
-    print::line(b"rows outside the box", t.outside);
-    print::line(b"rows that should not be listed", t.wrong);
+fn report(rt: &impl Print, t: Tally) -> io::Result<()> {
+    print::line(rt, b"runs", t.runs)?;
+    print::line(rt, b"finished", t.finished)?;
+    print::line(rt, b"rows in the box", t.inside)?;
+    print::line(rt, b"rows outside the box", t.outside)?;
+    print::line(rt, b"rows that should not be listed", t.wrong)?;
     print::line(
+        rt,
         b"minimal solutions in the boxes of finished runs",
         t.minimal,
-    );
-    print::line(b"missing rows", t.missing);
+    )?;
+    print::line(rt, b"missing rows", t.missing)
 }
 
 // A run of each system.

@@ -1,4 +1,7 @@
 // What the test programs share. Nothing here walks: tables are read and written entry by entry.
+#![tactic(auto)]
+
+pub mod input; // input.rt: what a program reads
 pub mod line; // line.rt: the words of a line of vectors
 pub mod parts; // parts.rt: parts of a line's tables, and tables compared
 pub mod print; // print.rt: what a program prints

@@ -1,5 +1,6 @@
 // What was counted.
-use crate::up;
+use crate::{print, up};
+use std::io;
 
 // Lines read; and calls tried and agreed, all and by the letter of their kind.
 #[derive(Clone, Copy)]
@@ -29,16 +30,16 @@ pub fn with_line(t: Tally) -> Tally {
 }
 
 // The call of the line.
-pub fn with_call(t: Tally, kind: u8, agreed: bool) -> Tally {
+pub fn with_call(rt: &impl Print, t: Tally, kind: u8, agreed: bool) -> io::Result<Tally> {
     let mut u = t;
     u.tried = up(t.tried, true);
     u.agreed = up(t.agreed, agreed);
     count(&mut u.tried_by, kind, true);
     count(&mut u.agreed_by, kind, agreed);
     if !agreed {
-        named(t);
+        named(rt, t)?;
     }
-    u
+    Ok(u)
 }
 
 fn count(by: &mut [u64; 128], kind: u8, so: bool) {
@@ -47,30 +48,27 @@ fn count(by: &mut [u64; 128], kind: u8, so: bool) {
 }
 
 // Names a line that does not agree, where fewer than 20 did not before.
-fn named(t: Tally) {
+fn named(rt: &impl Print, t: Tally) -> io::Result<()> {
     if std::num::wrapping_sub_u64(t.tried, t.agreed) < 20 {
-        io::write_all(1, b"does not agree: line ");
-        io::print_decimal(1, t.lines);
-        io::write_all(1, b"\n");
+        print::line(rt, b"does not agree: line", t.lines)?;
     }
+    Ok(())
 }
 
-pub fn report(name: &[u8], t: Tally) {
-    line(name, t.tried, t.agreed);
+pub fn report(rt: &impl Print, name: &[u8], t: Tally) -> io::Result<()> {
+    line(rt, name, t.tried, t.agreed)
 }
 
-pub fn report_kind(name: &[u8], t: Tally, kind: u8) {
+pub fn report_kind(rt: &impl Print, name: &[u8], t: Tally, kind: u8) -> io::Result<()> {
     let k = (kind % 128) as usize;
     let tried = t.tried_by;
     let agreed = t.agreed_by;
-    line(name, tried[k], agreed[k]);
+    line(rt, name, tried[k], agreed[k])
 }
 
-fn line(name: &[u8], tried: u64, agreed: u64) {
-    io::write_all(1, name);
-    io::write_all(1, b" ");
-    io::print_decimal(1, tried);
-    io::write_all(1, b" agreed ");
-    io::print_decimal(1, agreed);
-    io::write_all(1, b"\n");
+fn line(rt: &impl Print, name: &[u8], tried: u64, agreed: u64) -> io::Result<()> {
+    print::text(rt, name)?;
+    print::text(rt, b" ")?;
+    print::number(rt, tried)?;
+    print::line(rt, b" agreed", agreed)
 }

@@ -5,45 +5,44 @@ ghost use Rattle.std.specs.Prelude.{◌≤◌};
 use crate::slices;
 use equation_read::equation::{EquationRead, EquationRefusal, read_equation};
 use equation_write::{EquationWritten, write_equation};
+use std::io;
 use try_support::{print, up};
 
-pub fn all(input: &[u8]) {
-    let texts = lines(input);
-    print::line(b"texts", texts);
+pub fn all(rt: &impl Print, input: &[u8]) -> io::Result<()> {
+    let texts = lines(rt, input)?;
+    print::line(rt, b"texts", texts)
 }
 
 // Each line of the input in turn; how many there are.
-fn lines(input: &[u8]) -> u64 {
+fn lines(rt: &impl Print, input: &[u8]) -> io::Result<u64> {
     let mut texts: u64 = 0;
     let mut start = 0;
     let mut i = 0;
     while i < input.len() {
         if input[i] == b'\n' {
-            line(slices::part(input, start, i));
+            line(rt, slices::part(input, start, i))?;
             texts = up(texts, true);
             start = i + 1;
         }
         i += 1;
     }
-    texts
+    Ok(texts)
 }
 
 // Two digits, a space and a text.
-fn line(line: &[u8]) {
+fn line(rt: &impl Print, line: &[u8]) -> io::Result<()> {
     if line.len() < 3 {
-        print::text(b"no text\n");
-        return;
+        return print::text(rt, b"no text\n");
     }
     let q = digit(line[0]) * 10 + digit(line[1]);
     let text = slices::part(line, 3, line.len());
-    print::text(text);
-    print::text(b"\n");
+    print::text(rt, text)?;
+    print::text(rt, b"\n")?;
     if 17 < q {
-        print::text(b"more unknowns than there is space for\n");
-        return;
+        return print::text(rt, b"more unknowns than there is space for\n");
     }
     let mut row = [0i32; 17];
-    told(text, q, &mut row[..q]);
+    told(rt, text, q, &mut row[..q])
 }
 
 fn digit(byte: u8) -> usize
@@ -58,35 +57,35 @@ fn digit(byte: u8) -> usize
     (byte - b'0') as usize
 }
 
-fn told(text: &[u8], q: usize, row: &mut [i32]) {
+fn told(rt: &impl Print, text: &[u8], q: usize, row: &mut [i32]) -> io::Result<()> {
     match read_equation(text, q, row) {
-        EquationRead::Refused(why) => refused(why),
-        EquationRead::Equation { right } => written(q, row, right),
+        EquationRead::Refused(why) => refused(rt, why),
+        EquationRead::Equation { right } => written(rt, q, row, right),
     }
 }
 
-fn refused(why: EquationRefusal) {
+fn refused(rt: &impl Print, why: EquationRefusal) -> io::Result<()> {
     match why {
-        EquationRefusal::Length => print::line(b"refused", 10),
-        EquationRefusal::Unknowns => print::line(b"refused", 2),
-        EquationRefusal::Row => print::line(b"refused", 3),
-        EquationRefusal::Grammar(place) => print::line(b"refused 16 place", place as u64),
-        EquationRefusal::Depth => print::line(b"refused", 17),
-        EquationRefusal::Multiplier => print::line(b"refused", 18),
-        EquationRefusal::Coefficient(place) => print::line(b"refused 7 place", place as u64),
-        EquationRefusal::RightSide => print::line(b"refused", 15),
+        EquationRefusal::Length => print::line(rt, b"refused", 10),
+        EquationRefusal::Unknowns => print::line(rt, b"refused", 2),
+        EquationRefusal::Row => print::line(rt, b"refused", 3),
+        EquationRefusal::Grammar(place) => print::line(rt, b"refused 16 place", place as u64),
+        EquationRefusal::Depth => print::line(rt, b"refused", 17),
+        EquationRefusal::Multiplier => print::line(rt, b"refused", 18),
+        EquationRefusal::Coefficient(place) => print::line(rt, b"refused 7 place", place as u64),
+        EquationRefusal::RightSide => print::line(rt, b"refused", 15),
     }
 }
 
-fn written(q: usize, row: &[i32], right: i32) {
+fn written(rt: &impl Print, q: usize, row: &[i32], right: i32) -> io::Result<()> {
     let mut out = [0u8; 256];
     match write_equation(q, row, right, &mut out) {
         EquationWritten::Written(n) => {
-            print::text(slices::part(&out, 0, n));
-            print::text(b"\n");
+            print::text(rt, slices::part(&out, 0, n))?;
+            print::text(rt, b"\n")
         }
-        EquationWritten::Refused(_) => print::text(b"not written\n"),
-        EquationWritten::RightSide => print::text(b"right side not written\n"),
-        EquationWritten::Space => print::text(b"no space to write\n"),
+        EquationWritten::Refused(_) => print::text(rt, b"not written\n"),
+        EquationWritten::RightSide => print::text(rt, b"right side not written\n"),
+        EquationWritten::Space => print::text(rt, b"no space to write\n"),
     }
 }

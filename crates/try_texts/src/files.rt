@@ -7,7 +7,8 @@
 use crate::slices;
 use list_file::read::Read;
 use list_file::write::Write;
-use try_support::{print, up};
+use std::io;
+use try_support::{input, print, up};
 
 // What stands in the tables before a call.
 const BEFORE: u32 = 77;
@@ -34,39 +35,46 @@ struct Under {
 }
 
 // The section, which goes on where the first piece of the input ends.
-pub fn all(first: &[u8]) {
+pub fn all(rt: &(impl Input + Print), first: &[u8]) -> io::Result<()> {
     let mut file = [0u8; 8192];
     let rooms = Rooms {
         coefs: 128,
         list: 2048,
     };
     let line = none();
-    let under = lines(Under { line, rooms }, first, &mut file);
-    let mut more = io::large_buffer();
-    let n = io::read_full(0, &mut more);
-    lines(under, slices::part(&more, 0, n), &mut file);
+    let under = lines(rt, Under { line, rooms }, first, &mut file)?;
+    let mut more = [0u8; 65536];
+    let n = input::read_full(&mut rt.reader(), &mut more)?;
+    lines(rt, under, slices::part(&more, 0, n), &mut file)?;
+    Ok(())
 }
 
 // Each byte of a piece in turn.
-fn lines(under: Under, input: &[u8], file: &mut [u8; 8192]) -> Under {
+fn lines(rt: &impl Print, under: Under, input: &[u8], file: &mut [u8; 8192]) -> io::Result<Under> {
     let mut line = under.line;
     let mut rooms = under.rooms;
     let mut i = 0;
     while i < input.len() {
         let byte = input[i];
-        rooms = ended(line, byte, file, rooms);
-        line = more(line, byte);
+        rooms = ended(rt, line, byte, file, rooms)?;
+        line = more(rt, line, byte)?;
         i += 1;
     }
-    Under { line, rooms }
+    Ok(Under { line, rooms })
 }
 
 // Does what a line asks for at its end.
-fn ended(line: Line, byte: u8, file: &mut [u8; 8192], rooms: Rooms) -> Rooms {
+fn ended(
+    rt: &impl Print,
+    line: Line,
+    byte: u8,
+    file: &mut [u8; 8192],
+    rooms: Rooms,
+) -> io::Result<Rooms> {
     if byte == b'\n' {
-        return act(line, file, rooms);
+        return act(rt, line, file, rooms);
     }
-    rooms
+    Ok(rooms)
 }
 
 fn none() -> Line {
@@ -79,43 +87,43 @@ fn none() -> Line {
 }
 
 // The line with one byte more; the next line after its end.
-fn more(line: Line, byte: u8) -> Line {
+fn more(rt: &impl Print, line: Line, byte: u8) -> io::Result<Line> {
     if line.letter == b'#' {
-        print_byte(byte);
+        print_byte(rt, byte)?;
     }
     if byte == b'\n' {
-        return none();
+        return Ok(none());
     }
     if line.letter == b'#' {
-        return line;
+        return Ok(line);
     }
     match byte {
-        b' ' => Line {
+        b' ' => Ok(Line {
             letter: line.letter,
             field: if line.field < 2 { line.field + 1 } else { 2 },
             first: line.first,
             second: line.second,
-        },
-        48..=57 => digit(line, byte),
-        _ => begun(byte),
+        }),
+        48..=57 => Ok(digit(line, byte)),
+        _ => begun(rt, byte),
     }
 }
 
-fn begun(letter: u8) -> Line {
+fn begun(rt: &impl Print, letter: u8) -> io::Result<Line> {
     if letter == b'#' {
-        print_byte(letter);
+        print_byte(rt, letter)?;
     }
-    Line {
+    Ok(Line {
         letter,
         field: 0,
         first: 0,
         second: 0,
-    }
+    })
 }
 
-fn print_byte(byte: u8) {
+fn print_byte(rt: &impl Print, byte: u8) -> io::Result<()> {
     let one = [byte; 1];
-    print::text(&one);
+    print::text(rt, &one)
 }
 
 fn digit(line: Line, byte: u8) -> Line {
@@ -145,27 +153,21 @@ fn longer(n: usize, byte: u8) -> usize {
 }
 
 // What a line asks for.
-fn act(line: Line, file: &mut [u8; 8192], rooms: Rooms) -> Rooms {
+fn act(rt: &impl Print, line: Line, file: &mut [u8; 8192], rooms: Rooms) -> io::Result<Rooms> {
     let letter = line.letter;
     match letter {
-        b'b' => {
-            set(file, line.first, line.second);
-            rooms
+        b'b' => set(file, line.first, line.second),
+        b't' => {
+            return Ok(Rooms {
+                coefs: line.first,
+                list: line.second,
+            });
         }
-        b't' => Rooms {
-            coefs: line.first,
-            list: line.second,
-        },
-        b'r' => {
-            show(file, line.first, rooms);
-            rooms
-        }
-        b'v' => {
-            turned(file, line.first, rooms);
-            rooms
-        }
-        _ => rooms,
+        b'r' => show(rt, file, line.first, rooms)?,
+        b'v' => turned(rt, file, line.first, rooms)?,
+        _ => {}
     }
+    Ok(rooms)
 }
 
 fn set(file: &mut [u8], i: usize, v: usize) {
@@ -175,7 +177,7 @@ fn set(file: &mut [u8], i: usize, v: usize) {
 }
 
 // Reads the first n bytes, and says what came of it.
-fn show(file: &[u8], n: usize, rooms: Rooms) {
+fn show(rt: &impl Print, file: &[u8], n: usize, rooms: Rooms) -> io::Result<()> {
     let mut coefs = [77i32; 128];
     let mut list = [BEFORE; 2048];
     match list_file::read::read_list(
@@ -184,9 +186,9 @@ fn show(file: &[u8], n: usize, rooms: Rooms) {
         list_part(&mut list, rooms.list),
     ) {
         Read::Refused(why) => {
-            print::line(b"refused", list_file::words::number_of(why));
-            expect(coefs[0] == 77, b"a coefficient was written\n");
-            expect(list[0] == BEFORE, b"a row was written\n");
+            print::line(rt, b"refused", list_file::words::number_of(why))?;
+            expect(rt, coefs[0] == 77, b"a coefficient was written\n")?;
+            expect(rt, list[0] == BEFORE, b"a row was written\n")
         }
         Read::List {
             p,
@@ -195,30 +197,36 @@ fn show(file: &[u8], n: usize, rooms: Rooms) {
             ending,
         } => {
             let rows = found.0;
-            print::text(b"read ");
-            print::number(p as u64);
-            print::text(b" ");
-            print::number(q as u64);
-            print::text(b" ");
-            print::number(rows as u64);
-            print::line(b"", ending as u64);
-            again(part(file, n), p, q, &coefs, &list, rows, ending);
+            print::text(rt, b"read ")?;
+            print::number(rt, p as u64)?;
+            print::text(rt, b" ")?;
+            print::number(rt, q as u64)?;
+            print::text(rt, b" ")?;
+            print::number(rt, rows as u64)?;
+            print::line(rt, b"", ending as u64)?;
+            again(rt, part(file, n), p, q, &coefs, &list, rows, ending)
         }
     }
 }
 
 // Writes what was read, and compares.
-fn again(file: &[u8], p: usize, q: usize, coefs: &[i32], list: &[u32], rows: usize, ending: u32) {
+fn again(
+    rt: &impl Print,
+    file: &[u8],
+    p: usize,
+    q: usize,
+    coefs: &[i32],
+    list: &[u32],
+    rows: usize,
+    ending: u32,
+) -> io::Result<()> {
     let mut space = [170u8; 8192];
     let n = file.len();
     let given = coefs_first(coefs, times(p, q));
     let listed = list_first(list, times(rows, q));
     match list_file::write::write_list(p, q, given, listed, ending, space_part(&mut space, n)) {
-        Write::Whole => expect(
-            check::same(part(&space, n), file),
-            b"another file is written\n",
-        ),
-        Write::Refused(_) => expect(false, b"no file is written\n"),
+        Write::Whole => expect(rt, part(&space, n) == file, b"another file is written\n"),
+        Write::Refused(_) => expect(rt, false, b"no file is written\n"),
     }
 }
 
@@ -233,14 +241,15 @@ fn times(a: usize, b: usize) -> usize {
     a * b
 }
 
-fn expect(holds: bool, otherwise: &[u8]) {
+fn expect(rt: &impl Print, holds: bool, otherwise: &[u8]) -> io::Result<()> {
     if !holds {
-        print::text(otherwise);
+        print::text(rt, otherwise)?;
     }
+    Ok(())
 }
 
 // Turns each bit of the first n bytes in turn, and counts those that the sum of a block tells.
-fn turned(file: &mut [u8; 8192], n: usize, rooms: Rooms) {
+fn turned(rt: &impl Print, file: &mut [u8; 8192], n: usize, rooms: Rooms) -> io::Result<()> {
     let powers = [1u8, 2, 4, 8, 16, 32, 64, 128];
     let mut told = 0;
     let mut k = 0;
@@ -252,9 +261,9 @@ fn turned(file: &mut [u8; 8192], n: usize, rooms: Rooms) {
         file[i] = was;
         k += 1;
     }
-    print::text(b"bits turned ");
-    print::number(k as u64);
-    print::line(b", refused 20", told);
+    print::text(rt, b"bits turned ")?;
+    print::number(rt, k as u64)?;
+    print::line(rt, b", refused 20", told)
 }
 
 fn answer(file: &[u8], rooms: Rooms) -> u64 {

@@ -2,6 +2,7 @@
 // is shown below it. At the end come the number of texts, of their bytes and of the bytes printed, the sum of the texts' bytes, which tells that
 // the escapes were read as they are meant, and the number of texts for which the space past the report kept what stood there.
 use crate::slices;
+use std::io;
 use try_support::{print, up};
 
 mod escaped; // escaped.rt: the text that an escaped line stands for
@@ -18,17 +19,17 @@ struct Tally {
     kept: u64,
 }
 
-pub fn all(input: &[u8]) {
-    let t = lines(input);
-    print::line(b"texts", t.texts);
-    print::line(b"bytes of the texts", t.bytes);
-    print::line(b"sum of these bytes", t.sum);
-    print::line(b"bytes printed", t.printed);
-    print::line(b"kept what stood past the report", t.kept);
+pub fn all(rt: &impl Print, input: &[u8]) -> io::Result<()> {
+    let t = lines(rt, input)?;
+    print::line(rt, b"texts", t.texts)?;
+    print::line(rt, b"bytes of the texts", t.bytes)?;
+    print::line(rt, b"sum of these bytes", t.sum)?;
+    print::line(rt, b"bytes printed", t.printed)?;
+    print::line(rt, b"kept what stood past the report", t.kept)
 }
 
 // Each line of the input in turn.
-fn lines(input: &[u8]) -> Tally {
+fn lines(rt: &impl Print, input: &[u8]) -> io::Result<Tally> {
     let mut t = Tally {
         texts: 0,
         bytes: 0,
@@ -40,66 +41,73 @@ fn lines(input: &[u8]) -> Tally {
     let mut i = 0;
     while i < input.len() {
         if input[i] == b'\n' {
-            t = line(t, slices::part(input, start, i));
+            t = line(rt, t, slices::part(input, start, i))?;
             start = i + 1;
         }
         i += 1;
     }
-    t
+    Ok(t)
 }
 
-fn line(t: Tally, line: &[u8]) -> Tally {
-    print::text(line);
-    print::text(b"\n");
+fn line(rt: &impl Print, t: Tally, line: &[u8]) -> io::Result<Tally> {
+    print::text(rt, line)?;
+    print::text(rt, b"\n")?;
     if slices::at(line, 0) == b'#' {
-        return t;
+        return Ok(t);
     }
     let mut space = [0u8; 8192];
     let n = escaped::read(line, &mut space);
-    reported(t, &space, n)
+    reported(rt, t, &space, n)
 }
 
 // The report on the first n bytes of `space`.
-fn reported(t: Tally, space: &[u8; 8192], n: usize) -> Tally {
+fn reported(rt: &impl Print, t: Tally, space: &[u8; 8192], n: usize) -> io::Result<Tally> {
     let text = slices::part(space, 0, n);
     let mut out = [BEFORE; 91000];
     let end = report::report(text, &mut out);
-    shown(t, text, &out, end)
+    shown(rt, t, text, &out, end)
 }
 
 // Shows a report that ends at `end`, and counts it.
-fn shown(t: Tally, text: &[u8], out: &[u8; 91000], end: usize) -> Tally {
-    show(slices::part(out, 0, end));
-    Tally {
+fn shown(
+    rt: &impl Print,
+    t: Tally,
+    text: &[u8],
+    out: &[u8; 91000],
+    end: usize,
+) -> io::Result<Tally> {
+    show(rt, slices::part(out, 0, end))?;
+    Ok(Tally {
         texts: up(t.texts, true),
         bytes: std::num::wrapping_add_u64(t.bytes, text.len() as u64),
         sum: std::num::wrapping_add_u64(t.sum, slices::sum(text)),
         printed: std::num::wrapping_add_u64(t.printed, end as u64),
         kept: up(t.kept, untouched(slices::part(out, end, out.len()))),
-    }
+    })
 }
 
 // The lines of a report, each after a mark. A last line that no newline ends is told.
-fn show(report: &[u8]) {
+fn show(rt: &impl Print, report: &[u8]) -> io::Result<()> {
     let mut start = 0;
     let mut i = 0;
     while i < report.len() {
         if report[i] == b'\n' {
-            show_line(slices::part(report, start, i));
+            show_line(rt, slices::part(report, start, i))?;
             start = i + 1;
         }
         i += 1;
     }
     if start < report.len() {
-        show_line(slices::part(report, start, i));
-        print::text(b"\\ no newline at the end\n");
+        show_line(rt, slices::part(report, start, i))?;
+        print::text(rt, b"\\ no newline at the end\n")?;
     }
+    Ok(())
 }
 
-fn show_line(line: &[u8]) {
-    print::text(b"> ");
-    print::text(line);
-    print::text(b"\n");
+fn show_line(rt: &impl Print, line: &[u8]) -> io::Result<()> {
+    print::text(rt, b"> ")?;
+    print::text(rt, line)?;
+    print::text(rt, b"\n")
 }
 
 // Whether all bytes are those that stood there before the report.

@@ -1,10 +1,11 @@
 // The kinds of call: each is made as its line has it, and held against what the line says must come of it.
 use crate::answered;
 use calls::{Outcome, Record, Refusal, RunKind, Solutions, Steps};
+use std::io;
 use try_support::line::{COEFFICIENTS, Line, ROOM};
 use try_support::parts::{first, first_signed, same_table};
-use try_support::tally;
 use try_support::tally::Tally;
+use try_support::{print, tally};
 
 // Whether the call of a line comes to what the line says. One whose tables have no room is not made.
 pub fn agrees(l: Line) -> bool {
@@ -181,17 +182,17 @@ fn records(l: Line, r: Record) -> bool {
 }
 
 // What the lines of the section came to, kind by kind.
-pub fn report(t: Tally) {
-    io::write_all(1, b"capped\n");
-    tally::report_kind(b"start", t, b's');
-    tally::report_kind(b"resume", t, b'r');
-    tally::report_kind(b"meet", t, b'm');
-    tally::report_kind(b"go", t, b'g');
-    tally::report_kind(b"from", t, b'f');
-    tally::report_kind(b"on", t, b'o');
-    tally::report_kind(b"begin", t, b'b');
-    tally::report_kind(b"learn", t, b'l');
-    tally::report_kind(b"above", t, b'a');
-    tally::report_kind(b"climb", t, b'c');
-    tally::report(b"calls", t);
+pub fn report(rt: &impl Print, t: Tally) -> io::Result<()> {
+    print::text(rt, b"capped\n")?;
+    tally::report_kind(rt, b"start", t, b's')?;
+    tally::report_kind(rt, b"resume", t, b'r')?;
+    tally::report_kind(rt, b"meet", t, b'm')?;
+    tally::report_kind(rt, b"go", t, b'g')?;
+    tally::report_kind(rt, b"from", t, b'f')?;
+    tally::report_kind(rt, b"on", t, b'o')?;
+    tally::report_kind(rt, b"begin", t, b'b')?;
+    tally::report_kind(rt, b"learn", t, b'l')?;
+    tally::report_kind(rt, b"above", t, b'a')?;
+    tally::report_kind(rt, b"climb", t, b'c')?;
+    tally::report(rt, b"calls", t)
 }

@@ -1,8 +1,11 @@
 // Replays calls that models outside Rattle wrote down, one a line, each with what must come of it; counts those that do; and names the first lines that do not.
 // The text has a section for each family of calls: it begins with a line of the sign @ and the number of the family, and then says what its words mean.
+#![tactic(auto)]
+
+use std::io;
 use try_support::line::{Line, Word};
 use try_support::tally::Tally;
-use try_support::{line, tally};
+use try_support::{input, line, print, tally};
 
 mod answered; // answered.rt: whether an answer is the one that a line says
 mod capped; // capped.rt: plain and capped runs, runs from a lower bound and the training seat (tests/model/runs.py)
@@ -22,7 +25,7 @@ struct State {
     tally: Tally,
 }
 
-fn main() {
+fn main(rt: HostRuntime) -> io::Result<()> {
     let mut s = State {
         line: line::empty(),
         word: line::no_word(),
@@ -31,21 +34,21 @@ fn main() {
     };
     let mut pieces: u64 = 128;
     while 0 < pieces {
-        s = piece(s);
+        s = piece(&rt, s)?;
         pieces -= 1;
     }
     let t = s.tally;
-    report(s.family, t);
+    report(&rt, s.family, t)
 }
 
 // The next 65,536 bytes of the text, or what is left of it.
-fn piece(s: State) -> State {
-    let mut text = io::large_buffer();
-    let n = io::read_full(0, &mut text);
-    read(s, &text[..n])
+fn piece(rt: &(impl Input + Print), s: State) -> io::Result<State> {
+    let mut text = [0u8; 65536];
+    let n = input::read_full(&mut rt.reader(), &mut text)?;
+    read(rt, s, &text[..n])
 }
 
-fn read(s: State, text: &[u8]) -> State {
+fn read(rt: &impl Print, s: State, text: &[u8]) -> io::Result<State> {
     let mut line = s.line;
     let mut word = s.word;
     let mut family = s.family;
@@ -63,16 +66,16 @@ fn read(s: State, text: &[u8]) -> State {
         if b == b' ' {
             continue;
         }
-        tally = counted(family, tally, line);
+        tally = counted(rt, family, tally, line)?;
         family = section(family, line);
         line = line::empty();
     }
-    State {
+    Ok(State {
         line,
         word,
         family,
         tally,
-    }
+    })
 }
 
 // The family after a line: another where the line begins a section.
@@ -85,17 +88,17 @@ fn section(family: u64, l: Line) -> u64 {
 }
 
 // What is counted after a line. One that begins a section has no call, and what was counted in the section before is reported.
-fn counted(family: u64, t: Tally, l: Line) -> Tally {
+fn counted(rt: &impl Print, family: u64, t: Tally, l: Line) -> io::Result<Tally> {
     let kind = l.kind;
     if kind == b'@' {
-        report(family, t);
-        return tally::none();
+        report(rt, family, t)?;
+        return Ok(tally::none());
     }
     let u = tally::with_line(t);
     if kind == 0 || kind == b'#' {
-        return u;
+        return Ok(u);
     }
-    tally::with_call(u, kind, agrees(family, l))
+    tally::with_call(rt, u, kind, agrees(family, l))
 }
 
 // Whether the call of a line comes to what the line says.
@@ -113,20 +116,20 @@ fn agrees(family: u64, l: Line) -> bool {
 }
 
 // The name of the family, and what the lines of its section came to.
-fn report(family: u64, t: Tally) {
+fn report(rt: &impl Print, family: u64, t: Tally) -> io::Result<()> {
     match family {
-        1 => plain::report(t),
-        2 => capped::report(t),
-        3 => named(b"desks\n", t),
-        4 => named(b"several\n", t),
-        5 => named(b"engine\n", t),
-        6 => questions::report(t),
-        7 => reformulations::report(t),
-        _ => {}
+        1 => plain::report(rt, t),
+        2 => capped::report(rt, t),
+        3 => named(rt, b"desks\n", t),
+        4 => named(rt, b"several\n", t),
+        5 => named(rt, b"engine\n", t),
+        6 => questions::report(rt, t),
+        7 => reformulations::report(rt, t),
+        _ => Ok(()),
     }
 }
 
-fn named(family: &[u8], t: Tally) {
-    io::write_all(1, family);
-    tally::report(b"calls", t);
+fn named(rt: &impl Print, family: &[u8], t: Tally) -> io::Result<()> {
+    print::text(rt, family)?;
+    tally::report(rt, b"calls", t)
 }

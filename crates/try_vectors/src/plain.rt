@@ -4,10 +4,11 @@ use crate::answered;
 use calls::{Outcome, Record, Refusal, Solutions, Steps};
 use reader::Readable;
 use single_listing::ListingAnswer;
+use std::io;
 use try_support::line::{COEFFICIENTS, Line, ROOM};
 use try_support::parts::{first, first_signed, same, same_table};
-use try_support::tally;
 use try_support::tally::Tally;
+use try_support::{print, tally};
 
 // What stands in an output space before: a byte that no text has.
 const BEFORE: u8 = 170;
@@ -182,13 +183,13 @@ fn records(l: Line, r: Record) -> bool {
 }
 
 // What the lines of the section came to, kind by kind.
-pub fn report(t: Tally) {
-    io::write_all(1, b"plain\n");
-    tally::report_kind(b"start", t, b's');
-    tally::report_kind(b"resume", t, b'r');
-    tally::report_kind(b"view", t, b'v');
-    tally::report_kind(b"begin", t, b'b');
-    tally::report_kind(b"go", t, b'g');
-    tally::report_kind(b"order", t, b'o');
-    tally::report(b"calls", t);
+pub fn report(rt: &impl Print, t: Tally) -> io::Result<()> {
+    print::text(rt, b"plain\n")?;
+    tally::report_kind(rt, b"start", t, b's')?;
+    tally::report_kind(rt, b"resume", t, b'r')?;
+    tally::report_kind(rt, b"view", t, b'v')?;
+    tally::report_kind(rt, b"begin", t, b'b')?;
+    tally::report_kind(rt, b"go", t, b'g')?;
+    tally::report_kind(rt, b"order", t, b'o')?;
+    tally::report(rt, b"calls", t)
 }

@@ -1,10 +1,11 @@
 // The questions of a line: they are asked as the line has them, and the answers held against what the line says. Its operands are p, q and the count of rows;
 // t is the tuple, n the table of multiples before and after; the answers are the reason, the highest place, the parts, and the amount with its sign. The
 // number lent for the amount holds 9 before. A line of kind e is asked of the calls for larger maps, the others of document 02's.
+use std::io;
 use try_support::line::{COEFFICIENTS, Line, ROOM};
 use try_support::parts::{first, first_signed, same_table};
-use try_support::tally;
 use try_support::tally::Tally;
+use try_support::{print, tally};
 
 // Whether the answers are those of the line. One whose tables have no room is not asked.
 pub fn agrees(l: Line) -> bool {
@@ -127,8 +128,8 @@ fn called(l: Line, times: &mut [u32], amount: &mut [i64; 1]) -> u64 {
 }
 
 // What the lines of the section came to, kind by kind.
-pub fn report(t: Tally) {
-    io::write_all(1, b"questions\n");
-    tally::report_kind(b"questions", t, b'q');
-    tally::report_kind(b"engine", t, b'e');
+pub fn report(rt: &impl Print, t: Tally) -> io::Result<()> {
+    print::text(rt, b"questions\n")?;
+    tally::report_kind(rt, b"questions", t, b'q')?;
+    tally::report_kind(rt, b"engine", t, b'e')
 }

@@ -1,10 +1,11 @@
 // The calls of a line: a map in the place of another (kind s) and rows without their further unknowns (kind p). Of the first the operands are p, q, k, m and
 // how many of the words h are those `back`; c, e and b are the three maps, r the multiples onto, h those back and then those above, each number as the 64 bits
 // that it has. Of the second they are q, k and the count of rows; l are the rows, n the table for them before and after.
+use std::io;
 use try_support::line::{COEFFICIENTS, Line, RECORD, ROOM};
 use try_support::parts::{first, first_signed, same_table};
-use try_support::tally;
 use try_support::tally::Tally;
+use try_support::{print, tally};
 
 // Whether the answer is that of the line. One whose tables have no room is not asked.
 pub fn agrees(l: Line) -> bool {
@@ -114,8 +115,8 @@ fn projected(l: Line, out: &mut [u32]) -> u64 {
 }
 
 // What the lines of the section came to, kind by kind.
-pub fn report(t: Tally) {
-    io::write_all(1, b"reformulation\n");
-    tally::report_kind(b"shown", t, b's');
-    tally::report_kind(b"projected", t, b'p');
+pub fn report(rt: &impl Print, t: Tally) -> io::Result<()> {
+    print::text(rt, b"reformulation\n")?;
+    tally::report_kind(rt, b"shown", t, b's')?;
+    tally::report_kind(rt, b"projected", t, b'p')
 }

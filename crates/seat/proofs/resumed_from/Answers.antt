@@ -1,0 +1,12 @@
+-- `resumed_from` meets its contract: the seat's own check decides, and then the core's continuing call does the work. Assumes nothing.
+use Rattle.seat.specs.Seat.{resume_from_passed, resume_from_refused}
+use borrow.Author.Rules.{rules}
+use Rattle.seat.proofs.resumed_from.Goals as goal
+
+pub returns-in-Refuse : goal.returns-in-Refuse
+returns-in-Refuse c =
+    rw c.refused.ensures (resume_from_refused _ _ _ _ c.check.ensures c.in-Refuse.is _ _)
+
+pub returns-in-Pass : goal.returns-in-Pass
+returns-in-Pass c =
+    resume_from_passed _ _ _ _ c.check.ensures c.in-Pass.is _ _ c.resumed_from-o.ensures (c.seat_outcome.ensures _ _ _)

@@ -1,0 +1,13 @@
+-- `started` meets its contract: the seat's own check decides, and then the core's start does the work. Assumes nothing.
+use Rattle.definitions.specs.System.{most_component}
+use Rattle.seat.specs.Seat.{start_passed, start_refused}
+use borrow.Author.Rules.{rules}
+use Rattle.seat.proofs.started.Goals as goal
+
+pub returns-in-Refuse : goal.returns-in-Refuse
+returns-in-Refuse c =
+    rw c.refused.ensures (start_refused _ _ _ _ c.check.ensures c.in-Refuse.is)
+
+pub returns-in-Pass : goal.returns-in-Pass
+returns-in-Pass c =
+    start_passed _ _ _ _ c.check.ensures c.in-Pass.is (c.started.ensures most_component)

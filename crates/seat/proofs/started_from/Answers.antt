@@ -1,0 +1,12 @@
+-- `started_from` meets its contract: the seat's own check decides, and then the core's start does the work. Assumes nothing.
+use Rattle.seat.specs.Seat.{start_from_passed, start_from_refused}
+use borrow.Author.Rules.{rules}
+use Rattle.seat.proofs.started_from.Goals as goal
+
+pub returns-in-Refuse : goal.returns-in-Refuse
+returns-in-Refuse c =
+    rw c.refused.ensures (start_from_refused _ _ _ _ c.check.ensures c.in-Refuse.is _)
+
+pub returns-in-Pass : goal.returns-in-Pass
+returns-in-Pass c =
+    start_from_passed _ _ _ _ c.check.ensures c.in-Pass.is _ c.started_from.ensures
