@@ -1,6 +1,7 @@
 -- What is handed over to a call of the second walk, within the limits; tables with rows of 8 images; and one turn of the loops over them. Assumes nothing.
 use Rattle.std.specs.Prelude.{◌≡◌, refl, ◌≢◌, List, ℕ, ◌+◌, ◌*◌, ◌/◌, ◌≤◌, ◌<◌, ℤ, pos, nat_abs, ◌+ℤ◌, ◌*ℤ◌, length, get_or, set}
-use Rattle.std.proofs.Common.{sym, ◌∙◌, ap, inl, inr, div-mul-le_self, mul-le-mul, arith, length-set, get_or-set_other, get_or-set_same, to_z-of_z, SFits, of_z, to_z}
+use Rattle.std.proofs.Common.{sym, ◌∙◌, ap, inl, inr, div-mul-le_self, mul-le-mul, arith}
+use Rattle.std.proofs.Common.{length-set, get_or-set_other, get_or-set_same, to_z-of_z, SFits, of_z, to_z}
 use Rattle.std.specs.Int.{w64}
 use Rattle.linear.specs.Cases.{split}
 use Rattle.linear.specs.Integers.{nat_abs_*ℤ, sfits_nat_abs}

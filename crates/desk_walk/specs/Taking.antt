@@ -28,7 +28,8 @@ use Rattle.products.specs.Marks.{marks_frozen, marks_same}
 use Rattle.calls.specs.Paper.{number_of, record_of, state_of, values_of}
 use Rattle.calls.specs.declared.Record.{Record}
 use Rattle.calls.specs.declared.Refusal.TheVariants.{ComponentLimit}
-use Rattle.desk_spec.specs.Desks.{Desk, desk_children, desk_deeper, desk_full, desk_grown, desk_level, desk_listed, desk_makes, desk_row, desk_search_checks, desk_step}
+use Rattle.desk_spec.specs.Desks.{Desk, desk_children, desk_deeper, desk_full, desk_grown, desk_level, desk_listed, desk_makes, desk_row}
+use Rattle.desk_spec.specs.Desks.{desk_search_checks, desk_step}
 use Rattle.desk_spec.specs.Desks.{desk_of, desk_too_large, desk_top, desk_top_marks, freed, generator, generator_count, plus, raises, second_group, swept}
 use Rattle.desk_spec.specs.Desks.{towards_generator}
 use Rattle.desk_spec.specs.Records.{lent_with}

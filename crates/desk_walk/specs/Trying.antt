@@ -40,7 +40,8 @@ abbrev pub large_by : ℕ → List ℕ → (ℕ → ℕ) → ℕ → Bool
 large_by q generators x j = any_to q (λ i. ltb most_component (plus x (at generators q j) i))
 
 -- a child that would have a component above the limit decides; else the generators that make one are told, as marks
-unfoldable pub generators_tried : (p q : ℕ) (generators : List ℕ) (n : ℕ) (images : List ℤ) (list : List ℕ) (found : ℕ) (x : ℕ → ℕ) (marks : ℕ) → TriedGenerators
+unfoldable pub generators_tried : (p q : ℕ) (generators : List ℕ) (n : ℕ) (images : List ℤ) (list : List ℕ) (found : ℕ) (x : ℕ → ℕ) (marks : ℕ)
+    → TriedGenerators
 generators_tried p q generators n images list found x marks =
     cond (any_to n (λ j. made_by p q generators images list found x marks j && large_by q generators x j)) TooLarge
     (Made (marks_to n (made_by p q generators images list found x marks)))
@@ -123,7 +124,8 @@ module _ (p q : ℕ) (generators : List ℕ) (images : List ℤ) (list : List �
     same = raised.sums
 
     pub tries_covered : covered q found (at list q) z ≡ true → Tries (j + 1) made
-    tries_covered e = skip t (unfold made_by in (rw (← covered_same q found (at list q) {x = z} {y = plus x (at generators q j)} same, e, and-false, and-false)))
+    tries_covered e = skip t (unfold made_by in
+        (rw (← covered_same q found (at list q) {x = z} {y = plus x (at generators q j)} same, e, and-false, and-false)))
 
     makes_one : covered q found (at list q) z ≡ false → makes j ≡ true
     unfolding made_by

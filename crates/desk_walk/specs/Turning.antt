@@ -79,7 +79,8 @@ module _ (r : Record) {d : Desk} {budget left : ℕ} {s₀ : State} {stack list 
   turn_grown e eh ef ed = let c = rw e at t.came in rw (eh, ef, ed) (goes_on d w h more c.0 c.1)
 
   pub turn_refused : {why : Refusal} → came ≡ Refused why
-      → walk budget (desk_machine d) s₀ ≡ record { answer = refused (number_of why) (values_of why); state = state_at r stack' list' height found steps deepest }
+      → walk budget (desk_machine d) s₀
+      ≡ record { answer = refused (number_of why) (values_of why); state = state_at r stack' list' height found steps deepest }
   turn_refused {why} e =
       let c = rw e at t.came in
       ends_refused d w h more c.0

@@ -259,9 +259,11 @@ module _ (count quantum : ℕ) (some_run : 0 < count) (r₀ : Round) where
         → log ≡ later ++ (between ++ (t ∷ earlier)) → (suc (length between) ≤ count) × (taken between ≤ length between * quantum)
     fair_moments m [] between earlier others e = let w = waiting m between earlier others e in (omega (arith, w.few), w.worth)
     fair_moments here (u ∷ later) between earlier others e = absurd (let z : ◌≡◌ {A = ℕ} 0 1 = cc in omega arith)
-    fair_moments (again m r' kept) (u ∷ later) between earlier others e = fair_moments m (u ∷ later) between earlier others e
+    fair_moments (again {r} {log} m r' kept) (u ∷ later) between earlier others e =
+        fair_moments {r = r} {log = log} m (u ∷ later) between earlier others e
     fair_moments (turn {r} {log} m shares j n) (u ∷ later) between earlier others e =
-        let rest : log ≡ later ++ (between ++ (t ∷ earlier)) = cc in fair_moments m later between earlier others rest
+        let rest : log ≡ later ++ (between ++ (t ∷ earlier)) = cc in
+        fair_moments {r = r} {log = log} m later between earlier others rest
 
 -- ---- the promise
 

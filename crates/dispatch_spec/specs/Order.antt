@@ -117,7 +117,7 @@ module _ (d : Schedule) (r₀ : Round) where
             elim (ℕ_discrete j i) [
               | yes e ↦
                   rw (e, put_same i (record { run = (turn_of d i r).state.run; answer = some (turn_of d i r).answer }) r.progress, answer_own i now log refl)
-                  (stays_by _ _ (turn_of d i r).answer)
+                  (stays_by (turn_of d i r).state.run.height (r₀.progress i).run.height (turn_of d i r).answer)
               | no ne ↦
                   rw (
                     put_other i (record { run = (turn_of d i r).state.run; answer = some (turn_of d i r).answer }) r.progress j ne,

@@ -11,7 +11,7 @@ use Rattle.definitions.specs.System.{is_zero}
 use Rattle.laws.specs.AnswerLaws.{refuse_if_go, then_assoc, then_go}
 use Rattle.laws.specs.TableLaws.{row_fits}
 use Rattle.engine_spec.specs.Calls as spec
-use Rattle.engine_spec.specs.Engine.{Work, run}
+use Rattle.engine_spec.specs.Engine.{Work}
 use Rattle.engine_spec.specs.StartSides.{start_sides}
 use Rattle.calls.specs.Paper.{check_of}
 use Rattle.calls.specs.CallLaws.{passes}

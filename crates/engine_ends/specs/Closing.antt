@@ -12,7 +12,7 @@ use Rattle.engine_spec.specs.Engine.{Work, all_done, finish, rested, stays, syst
 use Rattle.engine_rows.specs.Keeping.{filled_row, not_below_value, small_value, zero_value}
 use Rattle.calls.specs.Paper.{answer_of}
 use Rattle.calls.specs.declared.Refusal.TheVariants.{ComponentLimit, TablesFull}
-use Rattle.engine_beside.specs.Records.{leaves, outcome_of, record_of, refused_with, work_of}
+use Rattle.engine_beside.specs.Records.{outcome_of, record_of, refused_with, work_of}
 use Rattle.engine_beside.specs.declared.Outcome.{Outcome}
 use Rattle.engine_beside.specs.declared.Record.{Record}
 use Rattle.engine_ends.specs.Finishing.{

@@ -11,7 +11,7 @@ use Rattle.linear.specs.Tests.{any_to}
 use Rattle.definitions.specs.System.{is_at_or_below}
 use Rattle.definitions.specs.Tables.{at}
 use Rattle.engine_spec.specs.Beside.{SmallTable, Worded, word_of}
-use Rattle.engine_spec.specs.Reduction.{is_within, reduces, reducible}
+use Rattle.engine_spec.specs.Reduction.{is_within, reducible}
 use Rattle.engine_spec.specs.Signs.{plus}
 
 -- number i of a table of integers

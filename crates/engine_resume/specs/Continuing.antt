@@ -1,16 +1,15 @@
 -- What the continuing call leaves, by what its checks find. Assumes nothing.
 use Rattle.std.proofs.Math.Path.{◌≡◌, sym}
-use Rattle.std.specs.Prelude.{refl, Bool, false, cond, not, ℕ, ◌^◌, ◌-◌, ◌≤◌, ◌<◌, eqb, ltb, ℤ, length}
+use Rattle.std.specs.Prelude.{refl, Bool, false, cond, ℕ, ◌^◌, ◌-◌, ◌≤◌, ◌<◌, eqb, ltb, ℤ, length}
 use Rattle.std.proofs.Common.{◌∙◌, ap}
 use Rattle.std.proofs.Math.Bool.{true}
 use mathlib.Core.List.{List}
 use native.Mathlib.Omega.{arith}
 use borrow.Author.Tests.{le-ltb, lt-ltb}
-use Rattle.linear.specs.Cases.{order}
 use Rattle.definitions.specs.Answers as paper
 use Rattle.engine_spec.specs.Calls as spec
 use Rattle.engine_spec.specs.Beside.{Measured}
-use Rattle.engine_spec.specs.Engine.{Result, Work, all_done, equation_of, rested, run}
+use Rattle.engine_spec.specs.Engine.{Result, Work, all_done, equation_of, rested}
 use Rattle.engine_beside.specs.Writing.{Kept, kept_none, measured_none, valued_none, worded_none}
 use Rattle.engine_stage.specs.Standing.{Sides, Unchanged, beyond_none, unchanged}
 use Rattle.calls.specs.Paper.{answer_of, check_of}

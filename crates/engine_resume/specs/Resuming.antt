@@ -15,7 +15,7 @@ use Rattle.engine_spec.specs.Calls.{coefficients_small, in_order, is_rising, is_
 use Rattle.engine_spec.specs.Engine.{Work, onward, run}
 use Rattle.engine_spec.specs.Reduction.{is_small}
 use Rattle.engine_spec.specs.ReductionLaws.{small_from}
-use Rattle.engine_spec.specs.Stage.{Outcome, outcome, row}
+use Rattle.engine_spec.specs.Stage.{outcome, row}
 use Rattle.engine_beside.specs.Degrees.{degree_small}
 use Rattle.engine_beside.specs.Writing.{Kept}
 use Rattle.engine_rows.specs.Marking.{MarksWritten}

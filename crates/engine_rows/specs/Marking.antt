@@ -122,7 +122,7 @@ abbrev pub read_at : List ℤ → ℕ → ℤ
 read_at values i = to_z w64 (of_z w64 (value_at values i))
 
 pub value_read : {n : ℕ} {values : List ℤ} → BoundedValues n values → (i : ℕ) → i < n → read_at values i ≡ value_at values i
-value_read b i l = to_z-of_z (sfits_nat_abs (omega (arith, b.each i l)))
+value_read b i l = to_z-of_z {w = w64} (sfits_nat_abs (omega (arith, b.each i l)))
 
 -- ---- the mark that row m gives to row i, from what the code finds of them
 

@@ -141,7 +141,7 @@ module _ {q : ℕ} {c : ℕ → ℤ} {n : ℕ} {table : List ℕ} {values : List
 
 -- a value within the limit as it is read from its bits
 pub back : (v : ℤ) → nat_abs v ≤ value_limit → to_z w64 (of_z w64 v) ≡ v
-back v l = to_z-of_z (sfits_nat_abs (omega arith))
+back v l = to_z-of_z {w = w64} (sfits_nat_abs (omega arith))
 
 -- ---- the mark, by cases
 

@@ -3,7 +3,7 @@ use Rattle.std.specs.Prelude.{◌≡◌, refl, List, [], ℕ, suc, ◌-◌, ◌�
 use Rattle.std.proofs.Common.{◌∙◌, arith}
 use Rattle.definitions.specs.Answers.{Answer, complete, paused, refused}
 use Rattle.definitions.specs.Tables.{at}
-use Rattle.engine_spec.specs.Stage.{Outcome, Turned, after, ends, outcome, run, stops}
+use Rattle.engine_spec.specs.Stage.{Outcome, after, ends, outcome, run, stops}
 use Rattle.engine_beside.specs.Writing.{Kept}
 use Rattle.engine_stage.specs.Standing.{Beyond, Gone, Left, Lent, Ready, Sides, Still, Unchanged, beyond_none, equation, stage_of, turn_of, unchanged}
 use Rattle.engine_stage.specs.declared.stages.Ending.{Ending}

@@ -19,7 +19,6 @@ use Rattle.equation_spec.specs.Meaning.{of_sum, coefficient, right_side, sum_dep
 use Rattle.equation_spec.specs.Reader.{read_equation}
 use Rattle.equation_spec.specs.Scan.{place}
 use Rattle.equation_spec.specs.Outcome.{Outcome, accepted, checked, list, most_depth, limits, tree_outcome, outcome}
-use Rattle.equation_spec.specs.Outcome as form
 use Rattle.equation_spec.specs.Agreement.{read_any, read_reads}
 use Rattle.equation_spec.specs.PlaceLaws.{reads_placed}
 use Rattle.equation_read.specs.Answer.{read, refused, answered, totals_outcome, Ranged}

@@ -1,6 +1,6 @@
 -- The lines in turn: what one of them leaves in the tables, and what is left to read after it. Assumes nothing.
 use Prim.Native.Nat.{ℕ, suc, ◌+◌, ◌*◌, ◌-◌, ◌≤◌, ◌<◌}
-use Rattle.std.specs.Prelude.{not, List, [], ◌∷◌, ◌++◌, ◌≡◌, ℤ, length, take, set}
+use Rattle.std.specs.Prelude.{List, [], ◌∷◌, ◌++◌, ◌≡◌, ℤ, length, take, set}
 use Rattle.std.proofs.Common.{append_assoc, ◌∙◌, mul-le-mul, add-one, length-append, length-drop, take_at, take-suc-set, length-take-le}
 use Rattle.std.proofs.Math.Path.{ap}
 use native.Mathlib.Omega.{arith}

@@ -1,5 +1,5 @@
 -- The parts that a row is written in. Assumes nothing.
-use Rattle.std.specs.Prelude.{ℕ, zero, ◌≤◌, ◌<◌, Bool, true, false, List, [], ◌∷◌, ◌++◌, ℤ, pos, negsuc, nat_abs, length, get_or}
+use Rattle.std.specs.Prelude.{ℕ, ◌≤◌, ◌<◌, Bool, true, false, List, [], ◌∷◌, ◌++◌, ℤ, pos, negsuc, nat_abs, length, get_or}
 use Rattle.equation_spec.specs.Grammar.{plus, minus, sign_byte}
 use Rattle.equation_spec.specs.Writing.{multiple, spaced_sign, later_terms, terms}
 

@@ -5,7 +5,7 @@ use Rattle.std.proofs.Common.{◌∙◌}
 use Rattle.std.proofs.Math.Numerals.{add-one}
 use native.Mathlib.Omega.{arith}
 use Rattle.std.proofs.Math.Seq.{take-length}
-use Rattle.list_spec.specs.Words.{word_limit, word_bytes, encoded, word_at, wrapping_sum, negation}
+use Rattle.list_spec.specs.Words.{word_limit, word_bytes, encoded, word_at, wrapping_sum}
 use Rattle.list_spec.specs.Form.{ListFile, block_bytes, block_words, stream_words, header, stream, content_word, block_word, file_word, file_blocks, written}
 use Rattle.list_spec.specs.WordLaws.{word_take, word_encoded}
 use Rattle.list_spec.specs.SumLaws.{total_same, negation_is}

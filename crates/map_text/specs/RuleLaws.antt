@@ -7,7 +7,7 @@ use Rattle.std.proofs.Math.Path.{refl, sym, ap}
 use Rattle.std.proofs.Common.{◌∙◌, mul-le-mul, arith, le-ltb, lt-ltb, le-leb}
 use Rattle.std.proofs.Math.IntN.{pos}
 use Rattle.std.proofs.lemmas.Bool.{lt-leb}
-use Rattle.linear.specs.Cases.{order, split}
+use Rattle.linear.specs.Cases.{split}
 use Rattle.definitions.specs.Answers.{Check, refuse, go, refuse_with, ◌then◌}
 use Rattle.definitions.specs.Input.{input_of}
 use Rattle.definitions.specs.System.{most_equations, most_unknowns, coef_limit}
@@ -15,7 +15,7 @@ use Rattle.definitions.specs.Refusals.{check7}
 use Rattle.laws.specs.CheckLaws.{Rules, rule, placed, ◌▹◌, end, Renders, check_cases, renders_due, renders_silent, renders_end}
 use Rattle.texts.specs.Reading.{most_bytes, Parse, parsed, malformed}
 use Rattle.texts.specs.ParseLaws.{same}
-use Rattle.map_spec.specs.Form.{line, lines, written}
+use Rattle.map_spec.specs.Form.{lines, written}
 use Rattle.map_spec.specs.Reading.{
   Rows,
   rows,
@@ -35,7 +35,7 @@ use Rattle.map_spec.specs.Reading.{
 use Rattle.map_text.specs.Rules.{after_line, after_lines, Begins, InForm, RowInForm, Counts, OutsideCount, BadLine, LargeAt, text_rules}
 use Rattle.map_text.specs.ReadLaws.{rows_read}
 use Rattle.map_text.specs.WriteLaws.{line_back, rows_back}
-use Rattle.map_text.specs.SplitLaws.{split as split-line, read_begins, begins_read, malformed_line, rows_all, rows_bad}
+use Rattle.map_text.specs.SplitLaws.{split as split_line, read_begins, begins_read, malformed_line, rows_all, rows_bad}
 use Rattle.map_text.specs.StageLaws.{counts_within}
 use Rattle.map_text.specs.MapLaws.{range_decides, two}
 
@@ -78,7 +78,7 @@ module _ {t r : List ℕ} (p q : ℕ) (first : Begins 2 (pos p ∷ pos q ∷ [])
           count = cc (a.count, a.after);
           counts = first.short;
           short = rw (sym a.after) at a.short;
-          text = sym (split-line t) ∙ cc (first.text, rest, a.text, a.after);
+          text = sym (split_line t) ∙ cc (first.text, rest, a.text, a.after);
           place = l;
           large = h;
         }

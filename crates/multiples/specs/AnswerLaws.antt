@@ -34,8 +34,10 @@ unfolding vanishes
 vanish_same q e = all_same q _ _ (λ j l. rw (e j l))
 
 -- the tuple, written to the beginning of other numbers
-pub written_same : (q : ℕ) (rest : List ℕ) {rest₁ : List ℕ} (t : List ℕ) → q ≤ length rest → rest₁ ≡ write_to q rest 0 (tuple t) → Same q (tuple rest₁) (tuple t)
-written_same q rest t l e j jq = rw e (ap (λ k. get_or (write_to q rest 0 (tuple t)) k 0) (sym (zero-add j)) ∙ write_inside (tuple t) rest 0 q j (omega arith) jq)
+pub written_same : (q : ℕ) (rest : List ℕ) {rest₁ : List ℕ} (t : List ℕ) → q ≤ length rest → rest₁ ≡ write_to q rest 0 (tuple t)
+    → Same q (tuple rest₁) (tuple t)
+written_same q rest t l e j jq = rw e (ap (λ k. get_or (write_to q rest 0 (tuple t)) k 0) (sym (zero-add j))
+    ∙ write_inside (tuple t) rest 0 q j (omega arith) jq)
 
 pub written_long : (q : ℕ) (rest : List ℕ) {rest₁ : List ℕ} (t : List ℕ) → rest₁ ≡ write_to q rest 0 (tuple t) → length rest₁ ≡ length rest
 written_long q rest t e = rw e (write_length (tuple t) rest 0 q)

@@ -113,12 +113,13 @@ flow_one zero node a i l = absurd (omega arith)
 flow_one (suc q) node a i l =
     elim (below_suc l) [
       | inl k ↦ omega (arith, flow_one q node a i k, gate_zero (eqb (node q) i) (ap number (ne_eqb a q (omega arith))))
-      | inr e ↦ rw e (omega (
+      | inr e ↦ omega (
         arith,
-        total_none (λ j. gate (eqb (node j) i) (number (eqb q j))) q (λ j u. gate_zero (eqb (node j) i) (ap number (ne_eqb q j (omega arith)))),
-        ap (λ b. gate (eqb (node q) i) (number b)) (eq-eqb q q refl),
+        total_none (λ j. gate (eqb (node j) i) (number (eqb a j))) q (λ j u. gate_zero (eqb (node j) i) (ap number (ne_eqb a j (omega arith)))),
+        ap (λ b. gate (eqb (node q) i) (number b)) (eq-eqb a q e),
         gate_number (eqb (node q) i),
-      ))
+        ap (λ x. number (eqb (node x) i)) e,
+      )
     ]
 
 -- each visit counts one

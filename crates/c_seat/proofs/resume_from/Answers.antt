@@ -1,0 +1,18 @@
+-- `resume_from` meets its contract: what the continuing call by value answered and left is told on. Assumes nothing.
+use Rattle.c_record.specs.CodeLaws.{answer_fits}
+use Rattle.c_record.specs.WordLaws.{both_told}
+use Rattle.c_seat.specs.SeatWordLaws.{seat_resume_from_fits}
+use Rattle.c_seat.specs.SeatWords.{seat_resume_bounded}
+use borrow.Author.Rules.{rules}
+use Rattle.c_seat.proofs.resume_from.Goals as goal
+
+pub tell-requires : goal.tell-requires
+tell-requires c =
+    answer_fits c.resumed_from-o.ensures (seat_resume_from_fits _ _ _ _ _ _)
+
+pub returns : goal.returns
+unfolding seat_resume_bounded
+returns c =
+    both_told _ (rw c.read-r.ensures at c.resumed_from-o.ensures)
+    c.tell.ensures.value
+    c.tell.ensures.run_after

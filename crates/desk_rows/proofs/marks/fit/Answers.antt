@@ -1,0 +1,10 @@
+-- `marks::fit` meets its contract: 64 bits are within 64 generators. Assumes nothing.
+use Rattle.laws.specs.MarkLaws.{shift_one_wide}
+use Rattle.desk_rows.specs.Marks.{fit_all}
+use Rattle.desk_rows.proofs.marks.fit.Goals as goal
+
+pub returns-then-n-ge64 : goal.returns-then-n-ge64
+returns-then-n-ge64 c = fit_all c.args.marks c.args.n c.ranges.marks.fits c.if-n-ge64.true
+
+pub returns : goal.returns
+returns c = rw (shift_one_wide c.args.n c.if-n-ge64.false)

@@ -1,0 +1,6 @@
+-- `signs::is_done` meets its contract: bit k. Assumes nothing.
+use Rattle.laws.specs.MarkLaws.{mark_test}
+use Rattle.engine_checks.proofs.signs.is_done.Goals as goal
+
+pub returns : goal.returns
+returns c = mark_test c.args.done c.args.k

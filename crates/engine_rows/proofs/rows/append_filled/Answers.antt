@@ -1,0 +1,20 @@
+-- `rows::append_filled` meets its contract. The components passed have been written. Assumes nothing.
+use mathlib.Core.Path.{refl}
+use native.Mathlib.Nat.{le_antisymm}
+use lib.ListN.{length-set}
+use borrow.Author.Rules.{rules}
+use Rattle.definitions.specs.Tables.{write_to}
+use Rattle.laws.specs.TableLaws.{write_next}
+use Rattle.engine_spec.specs.Fresh.{put_at}
+use Rattle.engine_rows.proofs.rows.append_filled.Goals as goal
+
+pub loop-j-init : goal.loop-j-init
+unfolding write_to
+loop-j-init c = (search rules, refl, refl)
+
+pub loop-j-preserved : goal.loop-j-preserved
+unfolding put_at
+loop-j-preserved c = (search rules, rw length-set c.loop-j.invariant.1, rw (write_next, c.loop-j.invariant.2, c.put.ensures))
+
+pub returns : goal.returns
+returns c = rw (c.loop-j.invariant.2, le_antisymm c.loop-j.invariant.0 c.loop-j-test.false)

@@ -1,0 +1,7 @@
+-- `equation_read::bytes::is_minus` meets its contract. Assumes nothing.
+use mathlib.Core.Path.{◌∙◌}
+use Rattle.equation_read.specs.ByteLaws.{minus_lead}
+use Rattle.equation_read.proofs.bytes.is_minus.Goals as goal
+
+pub returns : goal.returns
+returns c = c.stands.ensures ∙ minus_lead _
