@@ -1,6 +1,6 @@
 -- `record_order::count_marks` meets its contract: the marks that are left and those counted are all marks. Assumes nothing.
 use mathlib.Core.Path.{◌≡◌}
-use Prim.Native.Nat.{◌+◌, ◌-◌, ◌^◌, ◌<◌}
+use Prim.Native.Nat.{◌+◌, ◌^◌, ◌<◌}
 use Rattle.linear.specs.Tests.{count_to}
 use Rattle.definitions.specs.Tables.{frozen}
 use Rattle.record_order.proofs.count_marks.Given as goal

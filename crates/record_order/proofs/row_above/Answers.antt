@@ -1,6 +1,4 @@
 -- `record_order::row_above` meets its contract. No component passed is below the bound. Assumes nothing.
-use Prim.Native.Nat.{◌-◌}
-use mathlib.Core.Bool.{true}
 use mathlib.Core.Path.{refl, sym}
 use native.Mathlib.Nat.{le_antisymm}
 use borrow.Author.Rules.{rules}

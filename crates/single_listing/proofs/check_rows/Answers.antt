@@ -1,5 +1,4 @@
 -- `check_rows` meets its contract. The rows passed are minimal solutions, and so much of the space is left. Assumes nothing.
-use Prim.Native.Nat.{◌-◌}
 use native.Mathlib.Omega.{arith}
 use Rattle.laws.specs.TableLaws.{row_fits}
 use Rattle.single_listing.specs.Passes.{checked_all, checked_fails, checked_fits, checked_lacks, checked_none, checked_short}

@@ -1,5 +1,4 @@
 -- `write` meets its contract. The lines of the rows passed are written. Assumes nothing.
-use Prim.Native.Nat.{◌-◌}
 use native.Mathlib.Nat.{le_antisymm}
 use native.Mathlib.Omega.{arith}
 use Rattle.single_order.specs.Rows.{map_of}

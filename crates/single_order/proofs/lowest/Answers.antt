@@ -1,6 +1,5 @@
 -- `lowest` meets its contract. No unknown passed is in the row. Assumes nothing.
 use mathlib.Core.Path.{refl, sym}
-use Prim.Native.Nat.{◌-◌}
 use native.Mathlib.Nat.{le_antisymm}
 use Rattle.single_spec.specs.First.{find_to}
 use Rattle.single_spec.specs.FirstLaws.{first_here, first_next}

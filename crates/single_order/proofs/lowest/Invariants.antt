@@ -2,7 +2,7 @@
 use mathlib.Core.Path.{◌≡◌}
 use Prim.Native.Nat.{◌-◌, ◌≤◌}
 use Rattle.single_spec.specs.First.{find_to}
-use Rattle.single_spec.specs.Graph.{lowest, named}
+use Rattle.single_spec.specs.Graph.{named}
 use Rattle.single_order.specs.Rows.{row_of}
 use Rattle.single_order.proofs.lowest.Given as goal
 

@@ -1,5 +1,4 @@
 -- `order_of` meets its contract. So many unknowns of the order are written. Assumes nothing.
-use Prim.Native.Nat.{◌-◌}
 use Rattle.single_order.specs.Following.{following_closed, following_early, following_first, following_next, following_open, following_stuck, ones_no_loop}
 use Rattle.single_order.proofs.order_of.Goals as goal
 

@@ -3,7 +3,6 @@
 use mathlib.Core.Path.{◌≡◌}
 use Prim.Native.Nat.{◌+◌, ◌-◌, ◌≤◌}
 use lib.ListN.{length}
-use Rattle.definitions.specs.Step.{top}
 use Rattle.calls.specs.Paper.{kind_of, state_with, system_with}
 use Rattle.candidates.specs.Kinds.{asked, beside, kind_by}
 use Rattle.walking.specs.WalkLaws.{Walking}

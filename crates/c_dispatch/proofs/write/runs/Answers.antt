@@ -1,5 +1,4 @@
 -- `c_dispatch::write::runs` meets its contract. Assumes nothing.
-use Prim.Native.Nat.{◌-◌}
 use native.Mathlib.Omega.{arith}
 use Rattle.c_dispatch.specs.WordLaws.{writing_begins, writing_more, writing_ends}
 use Rattle.c_dispatch.proofs.write.runs.Goals as goal

@@ -1,5 +1,4 @@
 -- `checks::coefficients::first_outside` meets its contract. No coefficient passed is out of range. Assumes nothing.
-use Prim.Native.Nat.{◌-◌}
 use mathlib.Core.Path.{◌≡◌, refl, sym, ◌∙◌}
 use native.Mathlib.Omega.{arith}
 use lib.IntN.{pos}

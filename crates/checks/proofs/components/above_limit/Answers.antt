@@ -1,6 +1,4 @@
 -- `checks::components::above_limit` meets its contract. No component passed is above the limit. Assumes nothing.
-use Prim.Native.Nat.{◌-◌}
-use mathlib.Core.Bool.{false}
 use mathlib.Core.Path.{refl, sym}
 use native.Mathlib.Nat.{le_antisymm}
 use borrow.Author.Rules.{rules}

@@ -1,6 +1,5 @@
 -- `dispatch::check::all_fit` meets its contract. Assumes nothing.
 use mathlib.Core.Path.{sym, ◌∙◌, ap}
-use Prim.Native.Nat.{◌-◌}
 use Rattle.dispatch_spec.specs.Parts.{fits}
 use Rattle.dispatch.specs.Clear.{passing_begins, passing_more, passing_fails, passing_ends}
 use Rattle.dispatch.proofs.check.all_fit.Goals as goal

@@ -1,7 +1,6 @@
 -- `dispatch::check::clear` meets its contract. Assumes nothing.
 use mathlib.Core.Path.{sym, ◌∙◌, ap}
 use Rattle.dispatch.specs.Form.{part_fits}
-use Prim.Native.Nat.{◌-◌}
 use mathlib.Core.Bool.{not}
 use Rattle.dispatch_spec.specs.Parts.{overlap}
 use Rattle.dispatch.specs.Clear.{passing_begins, passing_more, passing_fails, passing_ends}

@@ -1,5 +1,4 @@
 -- `dispatch::check::none_overlap` meets its contract. Assumes nothing.
-use Prim.Native.Nat.{◌-◌}
 use mathlib.Core.Path.{sym, ◌∙◌}
 use borrow.Author.Rules.{rules}
 use Rattle.dispatch.specs.Form.{part_fits}

@@ -1,5 +1,4 @@
 -- `dispatch::results::unserved` meets its contract. Assumes nothing.
-use Prim.Native.Nat.{◌-◌}
 use mathlib.Core.Path.{refl}
 use borrow.Author.Rules.{rules}
 use Rattle.dispatch.specs.Filling.{filling_begins, filling_more, filled_all}

@@ -1,6 +1,5 @@
 -- `dispatch::round::next_after` meets its contract. Assumes nothing.
 use mathlib.Core.Path.{sym, ◌∙◌}
-use Prim.Native.Nat.{◌-◌}
 use borrow.Author.Rules.{rules}
 use Rattle.dispatch.specs.Asking.{asking_begins, asking_found, asking_more, asking_ends}
 use Rattle.dispatch.proofs.round.next_after.Goals as goal

@@ -1,5 +1,4 @@
 -- `lines::ordered` meets its contract. The first unknowns of the order stand in the line. Assumes nothing.
-use Prim.Native.Nat.{◌-◌}
 use native.Mathlib.Nat.{le_antisymm}
 use native.Mathlib.Omega.{arith}
 use Rattle.texts.specs.Put.{put_none, put_then}

@@ -1,6 +1,5 @@
 -- `rows::clear` meets its contract. The places passed have been written. Assumes nothing.
 use mathlib.Core.Path.{refl}
-use Prim.Native.Nat.{◌-◌}
 use native.Mathlib.Nat.{le_antisymm, zero-add}
 use lib.ListN.{length-set}
 use borrow.Author.Rules.{rules}

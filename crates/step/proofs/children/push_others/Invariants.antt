@@ -1,6 +1,6 @@
 -- `push_others` meets its contract. The stack, the height and the marks are what the unknowns passed make of them, but for the first child. Assumes nothing.
 use mathlib.Core.Path.{◌≡◌}
-use Prim.Native.Nat.{ℕ, ◌-◌}
+use Prim.Native.Nat.{ℕ}
 use lib.ListN.{length}
 use Rattle.linear.specs.Tuples.{total}
 use Rattle.definitions.specs.Tables.{frozen}

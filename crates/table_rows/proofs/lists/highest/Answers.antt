@@ -1,8 +1,6 @@
 -- `lists::highest` meets its contract. Outer loop: no row passed is at or below t. Inner loop: the components passed are at most t's, and the row
 -- lies within the list. Assumes nothing.
 use mathlib.Core.Path.{◌≡◌, refl, ap, ◌∙◌}
-use mathlib.Core.Bool.{true}
-use Prim.Native.Nat.{◌-◌}
 use native.Mathlib.Nat.{le_antisymm}
 use native.Mathlib.Omega.{arith}
 use lib.Dec.{leb}

@@ -3,7 +3,6 @@ use Rattle.table_rows.specs.Keeping.{copied_more}
 use Rattle.definitions.specs.Tables.{write_to}
 use lib.ListN.{length-set}
 use native.Mathlib.Nat.{le_antisymm}
-use Prim.Native.Nat.{◌-◌}
 use mathlib.Core.Path.{refl}
 use borrow.Author.Rules.{rules}
 use Rattle.table_rows.proofs.rows.copy.Goals as goal

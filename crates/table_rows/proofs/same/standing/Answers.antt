@@ -1,8 +1,6 @@
 -- `same::standing` meets its contract. Outer loop: no row passed is t. Inner loop: the components passed are those of t, and the row
 -- lies within the list. Assumes nothing.
 use mathlib.Core.Path.{refl, ap, ◌∙◌}
-use mathlib.Core.Bool.{true}
-use Prim.Native.Nat.{◌-◌}
 use native.Mathlib.Nat.{le_antisymm}
 use native.Mathlib.Omega.{arith}
 use lib.Dec.{eqb}

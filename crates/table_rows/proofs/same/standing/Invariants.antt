@@ -6,7 +6,6 @@ use Prim.Native.Nat.{◌+◌, ◌-◌, ◌≤◌}
 use lib.Dec.{eqb}
 use lib.ListN.{length, get_or}
 use Rattle.linear.specs.Tests.{all_to}
-use Rattle.definitions.specs.Reasons.{standing}
 use Rattle.table_rows.specs.declared.lists.Place.TheVariants.{Nowhere}
 use Rattle.table_rows.specs.Rows.{tuple}
 use Rattle.table_rows.specs.Search.{Left}

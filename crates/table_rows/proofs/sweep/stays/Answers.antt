@@ -5,8 +5,6 @@ use Rattle.definitions.specs.Tables.{at}
 use Rattle.linear.specs.LoopLaws.{any_next}
 use Rattle.linear.specs.Tests.{any_to}
 use native.Mathlib.Nat.{le_antisymm}
-use Prim.Native.Nat.{◌-◌}
-use mathlib.Core.Bool.{false}
 use mathlib.Core.Path.{refl, sym, ◌∙◌}
 use borrow.Author.Rules.{rules}
 use native.Mathlib.Omega.{arith}

@@ -3,7 +3,6 @@ use Rattle.table_rows.specs.Keeping.{kept_none, kept_length, kept_few, kept_skip
 use Rattle.laws.specs.TableLaws.{place_fits}
 use Rattle.definitions.specs.Tables.{at}
 use native.Mathlib.Nat.{le_antisymm}
-use Prim.Native.Nat.{◌-◌}
 use mathlib.Core.Path.{refl, sym, ◌∙◌}
 use borrow.Author.Rules.{rules}
 use native.Mathlib.Omega.{arith}

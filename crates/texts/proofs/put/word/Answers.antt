@@ -1,5 +1,4 @@
 -- `texts::put::word` meets its contract. The bytes passed have been written. Assumes nothing.
-use Prim.Native.Nat.{◌-◌}
 use native.Mathlib.Nat.{add-zero}
 use borrow.Author.Rules.{rules}
 use Rattle.texts.specs.Put.{put_none, put_next, put_all}

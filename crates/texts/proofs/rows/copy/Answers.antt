@@ -1,5 +1,4 @@
 -- `texts::rows::copy` meets its contract. The entries passed are those found, and the others are as they were. Assumes nothing.
-use Prim.Native.Nat.{◌-◌}
 use mathlib.Core.Path.{refl, ◌∙◌}
 use native.Mathlib.Omega.{arith}
 use lib.ListN.{length-set}

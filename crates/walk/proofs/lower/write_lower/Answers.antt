@@ -1,6 +1,5 @@
 -- `walk::lower::write_lower` meets its contract. The components passed have been written. Assumes nothing.
 use mathlib.Core.Path.{refl}
-use Prim.Native.Nat.{◌-◌}
 use native.Mathlib.Nat.{le_antisymm, zero-add, zero-mul}
 use lib.ListN.{length-set}
 use borrow.Author.Rules.{rules}
