@@ -4,7 +4,7 @@ use mathlib.Core.Bool.{true}
 use mathlib.Core.Path.{◌≡◌}
 use native.Mathlib.Omega.{arith}
 use borrow.Author.Tests.{le-leb, lt-leb}
-use Rattle.definitions.specs.Answers.{refuse_with}
+use Rattle.definitions.specs.Answers.{refuse_with, ◌then◌}
 use Rattle.definitions.specs.Refusals.{between}
 use Rattle.checks.proofs.counts.sizes_within.Goals as goal
 

@@ -5,7 +5,7 @@ use native.Mathlib.Omega.{arith}
 use Rattle.calls.specs.CallLaws.{passes}
 use Rattle.checks.specs.CheckLaws.{passed_first, refused_first}
 use Rattle.checks.specs.Counts.{Counted, counted}
-use Rattle.definitions.specs.Answers.{refuse_with}
+use Rattle.definitions.specs.Answers.{refuse_with, ◌then◌}
 use Rattle.desk_checks.specs.Shape.{room_enough, room_short, shape_checks}
 use Rattle.desk_checks.proofs.shape.check.Goals as goal
 use Rattle.desk_checks.proofs.shape.check.Goals.{In-Pass}

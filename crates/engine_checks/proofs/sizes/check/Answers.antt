@@ -1,7 +1,7 @@
 -- `sizes::check` meets its contract: each test decides the first check that refuses. Assumes nothing.
 use native.Mathlib.Omega.{arith}
 use borrow.Author.Tests.{le-leb, lt-leb}
-use Rattle.definitions.specs.Answers.{refuse_with}
+use Rattle.definitions.specs.Answers.{refuse_with, ◌then◌}
 use Rattle.engine_checks.specs.Sizes.{in_range, size_checks}
 use Rattle.engine_checks.proofs.sizes.check.Goals as goal
 
