@@ -89,6 +89,9 @@ def main(argv):
     names = collections.Counter()
     for it in antts:
         names.update(declared(texts[it]))
+    # the names that a file gives to what it imports
+    for it in antts + rts:
+        names.update(re.findall(rf"[{{ ,]{NAME} as ({NAME})", " ".join(group for _, group, _ in USE.findall(texts[it]))))
     change = {it: snake(it) for it in names if snake(it) != it}
     from_kit = {it: imported(texts[it], crates) for it in texts}
     used = {}

@@ -16,7 +16,7 @@ use Rattle.definitions.specs.Refusals.{check7, in_order, in_order_from, lower_ch
 use Rattle.definitions.specs.Refusals.{step_limit, too_large}
 use Rattle.definitions.specs.Machine.{Outcome, call, call_steps, checked, moved, steps_if, unless_done, walk, walk_steps}
 use Rattle.definitions.specs.Calls.{resume, resume_from, resume_steps, search_from, settle_from, start, start_from, step_from}
-use Rattle.definitions.specs.Reader.{has_row, none, refused as refusedRow, row_part, show_if, shown, shown_by}
+use Rattle.definitions.specs.Reader.{has_row, none, refused as refused_row, row_part, show_if, shown, shown_by}
 
 one : List ℤ → Input
 one coefs = input_of 1 (length coefs) coefs
@@ -168,7 +168,7 @@ unfolding one marked all_to any_to count_to refuse_with ◌then◌ refuse_first 
 marks_hold = refl
 
 -- "A reader for q outside 1 to 16 is refused with 2."; "there is none at 0, past the found count or past the room"
-reader_holds : (shown 0 rows 6 1 ≡ refusedRow 2 []) × (shown 17 rows 6 1 ≡ refusedRow 2 []) × (shown 4 rows 6 0 ≡ none) × (shown 4 rows 2 3 ≡ none)
+reader_holds : (shown 0 rows 6 1 ≡ refused_row 2 []) × (shown 17 rows 6 1 ≡ refused_row 2 []) × (shown 4 rows 6 0 ≡ none) × (shown 4 rows 2 3 ≡ none)
     × (shown 4 rows 7 7 ≡ none)
 unfolding rows shown shown_by refuse_with show_if has_row row_part
 reader_holds = (refl, refl, refl, refl, refl)

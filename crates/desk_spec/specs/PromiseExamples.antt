@@ -33,7 +33,7 @@ use Rattle.desk_spec.specs.Desks.{
 use Rattle.desk_spec.specs.Desks.{desk_start, desk_start_checks, desk_step, desk_too_large, freed, generators_in_order, raises, settled, swept, wide}
 use Rattle.desk_spec.specs.Groups.{FirstGroup, both_groups}
 use Rattle.desk_spec.specs.Promises.{WholeList, first_then_second, second_demand_desks, second_then_third}
-use Rattle.desk_spec.specs.Runs.{begun as desk-begun}
+use Rattle.desk_spec.specs.Runs.{begun as desk_begun}
 
 -- ---- the first desk
 
@@ -79,7 +79,7 @@ unfolding both first lent first_left second desk_lent group second_begun second_
     spoils swept settled desk_too_large desk_search_checks generators_in_order desk_row_in_order desk_in_order wide desk_start_checks desk_resume_checks desk_begin sum_to
     inner value total unit all_to any_to count_to refuse_with ◌then◌ refuse_first solves is_at_or_below covered bit frozen write_to write_row units_to units_start
     makes marks_to write_children listed grown step row_fits in_order check7 start_checks resume_checks too_large search_checks checked start unless_done walk call
-second_whole = (second_demand_desks second group second_begun (desk-begun desk_lent refl)).finished first_list 100 refl
+second_whole = (second_demand_desks second group second_begun (desk_begun desk_lent refl)).finished first_list 100 refl
 
 second_rows : take (second_left.run.found * 4) second_left.list ≡ 4 ∷ 2 ∷ 1 ∷ 0 ∷ 0 ∷ 1 ∷ 1 ∷ 1 ∷ []
 unfolding first lent first_left second desk_lent second_begun second_left pack_to desk_row desk_start raises desk_grown freed desk_listed desk_step keeps spoils swept
@@ -113,8 +113,8 @@ unfolding three first lent first_left second desk_lent group groups second_begun
     bit frozen write_to write_row units_to units_start makes marks_to write_children listed grown step row_fits in_order check7 start_checks resume_checks too_large
     search_checks checked start unless_done walk call
 third_whole =
-    (second_demand_desks third groups third_begun (desk-begun desk_lent refl)).finished
-    (second_then_third second group second_begun (desk-begun desk_lent refl) first_list 100 refl refl third refl refl)
+    (second_demand_desks third groups third_begun (desk_begun desk_lent refl)).finished
+    (second_then_third second group second_begun (desk_begun desk_lent refl) first_list 100 refl refl third refl refl)
     100 refl
 
 third_rows : take (third_left.run.found * 4) third_left.list ≡ 4 ∷ 3 ∷ 2 ∷ 1 ∷ []

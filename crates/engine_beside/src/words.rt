@@ -1,7 +1,7 @@
 // The words of rows: 16 fields of four bits, of which the highest, the guard, is clear. Field j holds components j and 16 + j added up, as far as 7.
 ghost use Rattle.std.specs.Prelude.{◌≡◌, ◌≤◌, ◌<◌, min, length};
 ghost use Rattle.engine_spec.specs.Beside.{SmallRow, SmallTable, Worded, folded, row_at, word_of};
-ghost use Rattle.engine_spec.specs.Words.{fits as fitsWord, joined as joinedWord};
+ghost use Rattle.engine_spec.specs.Words.{fits as fits_word, joined as joined_word};
 ghost use Rattle.engine_beside.specs.Writing.{Kept};
 
 const GUARDS: u64 = 0x8888888888888888;
@@ -62,7 +62,7 @@ pub fn write_words(table: &[u32], n: usize, q: usize, words: &mut [u64])
 // The word of the sum of two tuples, by their words. A field that has reached its guard becomes 7.
 pub fn joined(a: u64, b: u64) -> u64
     requires { (a ≤ 8608480567731124087) × (b ≤ 8608480567731124087) }
-    ensures { result ≡ joinedWord 16 a b }
+    ensures { result ≡ joined_word 16 a b }
 {
     let sum = a + b;
     let over = sum & GUARDS;
@@ -72,7 +72,7 @@ pub fn joined(a: u64, b: u64) -> u64
 // Whether the tuple of word a may lie at or below that of word b: no field of a is above that of b.
 pub fn fits(a: u64, b: u64) -> bool
     requires { a ≤ 8608480567731124087 }
-    ensures { result ≡ fitsWord 16 a b }
+    ensures { result ≡ fits_word 16 a b }
 {
     ((b | GUARDS) - a) & GUARDS == GUARDS
 }

@@ -1,7 +1,7 @@
 // The end of a stage: what it leaves becomes the basis.
 ghost use Rattle.std.specs.Prelude.{◌≡◌, ◌+◌, ◌^◌, ◌-◌, ◌≤◌, ◌<◌, cond, eqb};
 ghost use Rattle.definitions.specs.Answers.{complete, paused};
-ghost use Rattle.engine_spec.specs.Engine.{finish as finishOf};
+ghost use Rattle.engine_spec.specs.Engine.{finish as finish_of};
 ghost use Rattle.calls.specs.Paper.{answer_of};
 ghost use Rattle.engine_beside.specs.Records.{outcome_of, work_of};
 ghost use Rattle.engine_ends.specs.Closing.{Closing, Ends, RestsLeft};
@@ -22,7 +22,7 @@ pub fn finish(
 ) -> Outcome
     requires { Closing p q most equations.now basis.old table.now values.now r }
     ensures { outcome_of result equations.now basis.new table.now
-        ≡ finishOf p q most (work_of equations.now basis.old table.now r) }
+        ≡ finish_of p q most (work_of equations.now basis.old table.now r) }
 {
     if r.fresh < q {
         return finish_fresh(p, q, most, equations, basis, table, values, r);
@@ -43,7 +43,7 @@ fn finish_plain(
 ) -> Outcome
     requires { Closing p q most equations.now basis.old table.now values.now r × (q ≤ r.fresh) }
     ensures { outcome_of result equations.now basis.new table.now
-        ≡ finishOf p q most (work_of equations.now basis.old table.now r) }
+        ≡ finish_of p q most (work_of equations.now basis.old table.now r) }
 {
     let n = r.rows;
     let count = packing::count_zeros(values, n);
@@ -67,7 +67,7 @@ fn finish_fresh(
 ) -> Outcome
     requires { Closing p q most equations.now basis.old table.now values.now r × (r.fresh < q) }
     ensures { outcome_of result equations.now basis.new table.now
-        ≡ finishOf p q most (work_of equations.now basis.old table.now r) }
+        ≡ finish_of p q most (work_of equations.now basis.old table.now r) }
 {
     let n = r.rows;
     let f = r.fresh;

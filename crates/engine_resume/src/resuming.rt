@@ -1,6 +1,6 @@
 // The continuing call after its checks: what stands beside the rows is written anew, whatever it was; then the stage's turns.
 ghost use Rattle.std.specs.Prelude.{◌≡◌, cond, ◌^◌, ◌-◌, ◌≤◌, eqb, length};
-ghost use Rattle.definitions.specs.Answers.{complete, paused as pausedAnswer};
+ghost use Rattle.definitions.specs.Answers.{complete, paused as paused_answer};
 ghost use Rattle.calls.specs.Paper.{answer_of};
 ghost use Rattle.calls.specs.declared.Answer.TheVariants.{Paused};
 ghost use Rattle.engine_beside.specs.Records.{leaves, outcome_of, work_of};
@@ -207,7 +207,7 @@ fn paused(r: Record) -> Outcome
 // What a call answers that finds no stage under way.
 pub fn rested(p: usize, r: Record) -> Outcome
     requires { p ≤ 32 }
-    ensures { (result.run ≡ r) × (answer_of result.answer ≡ cond (eqb r.done (2 ^ p - 1)) complete pausedAnswer) }
+    ensures { (result.run ≡ r) × (answer_of result.answer ≡ cond (eqb r.done (2 ^ p - 1)) complete paused_answer) }
 {
     let answer = engine_ends::answer_for(p, r.done);
     Outcome { answer, run: r }

@@ -47,7 +47,7 @@ use Rattle.engine_spec.specs.Promise.{
 use Rattle.engine_spec.specs.Reduction.{is_small}
 use Rattle.engine_spec.specs.Sound.{Given, Sound, degree_some}
 use Rattle.engine_spec.specs.Stage.{Stage, row}
-use Rattle.engine_spec.specs.Whole.{Standing, Whole, between as atRest, under_way, with_fresh}
+use Rattle.engine_spec.specs.Whole.{Standing, Whole, between as at_rest, under_way, with_fresh}
 
 -- ---- tests
 
@@ -106,7 +106,7 @@ sound_small cap p q a c m basis s sound = (
 )
 
 standing_rows : (b : Base) (p q : ℕ) (w : Work) → Standing b p q w → Rows q w
-standing_rows b p q w (atRest e z given) =
+standing_rows b p q w (at_rest e z given) =
     record {
       basis = given_rows b.cap (b.p + p) q _ w.count (basis_row q w) given;
       small = λ i l. absurd (omega arith);
@@ -122,7 +122,7 @@ standing_rows b p q w (with_fresh l n f o m r given sound) =
     record { basis = given_rows b.cap (suc (b.p + p)) q _ w.count (basis_row q w) given; small = small; rising = rising }
 
 standing_marks : (b : Base) (p q : ℕ) (w : Work) → Standing b p q w → T (marks_in_order p w.done w.equation)
-standing_marks b p q w (atRest e z given) = marks_to p w.done w.equation (omega arith) (λ l. absurd (omega arith))
+standing_marks b p q w (at_rest e z given) = marks_to p w.done w.equation (omega arith) (λ l. absurd (omega arith))
 standing_marks b p q w (under_way l n f given sound) = marks_to p w.done w.equation (omega arith) (λ k. n)
 standing_marks b p q w (with_fresh l n f o m r given sound) = marks_to p w.done w.equation (omega arith) (λ k. n)
 

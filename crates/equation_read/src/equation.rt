@@ -1,6 +1,6 @@
 // A whole equation: the refusals in their order, and the row.
 ghost use Rattle.std.specs.Prelude.{◌≡◌, ◌≤◌, ◌<◌, ◌+◌, pos, neg_ℤ, nat_abs, length, get_or};
-ghost use Rattle.equation_spec.specs.Scan.{place as faultPlace};
+ghost use Rattle.equation_spec.specs.Scan.{place as fault_place};
 ghost use Rattle.equation_spec.specs.Reader.{read_equation};
 ghost use Rattle.equation_spec.specs.Outcome.{outcome, tree_outcome, list};
 ghost use Rattle.equation_read.specs.Answer.{answer_of, answered, totals_outcome, Ranged};
@@ -55,7 +55,7 @@ pub fn read_equation(text: &[u8], q: usize, row: &mut [i32]) -> EquationRead
 
 // An equation that is in the grammar.
 fn read_sides(text: &[u8], q: usize, row: &mut [i32]) -> EquationRead
-    requires { (length text.now ≤ 4096) × (1 ≤ q) × (q ≤ 16) × (length row.old ≡ q) × (faultPlace q text.now ≡ 0) }
+    requires { (length text.now ≤ 4096) × (1 ≤ q) × (q ≤ 16) × (length row.old ≡ q) × (fault_place q text.now ≡ 0) }
     ensures { answer_of result row.new
         ≡ answered (tree_outcome q text.now (read_equation q (length text.now) text.now)) row.old }
 {

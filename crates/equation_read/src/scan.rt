@@ -2,17 +2,17 @@
 ghost use Rattle.std.specs.Prelude.{◌≡◌, ◌≤◌, ◌+◌, ◌*◌, true, length};
 ghost use Rattle.texts.specs.Reading.{is_digit, digit};
 ghost use Rattle.equation_spec.specs.Scan.{
-  onward as onwardStep,
+  onward as onward_step,
   factor_begins,
   term_begins,
   sum_begins,
   after_digits,
   after_factor,
-  indexed as indexedStep,
-  step as nextStep,
+  indexed as indexed_step,
+  step as next_step,
   in_number,
   final,
-  place as faultPlace,
+  place as fault_place,
 };
 ghost use Rattle.equation_read.specs.Phases.{step_of, phase_of};
 
@@ -48,7 +48,7 @@ pub enum Step {
 pub fn place(text: &[u8], q: usize) -> usize
     requires text_len_bound { length text.now ≤ 4096 }
     requires q_bound { q ≤ 16 }
-    ensures { result ≡ faultPlace q text.now }
+    ensures { result ≡ fault_place q text.now }
 {
     let mut phase = Phase::Nothing;
     let mut opened = 0;
@@ -99,7 +99,7 @@ fn is_final(phase: Phase, opened: usize, right: bool) -> bool
 
 fn advance(q: usize, byte: u8, phase: Phase, opened: usize, right: bool) -> Step
     requires { (q ≤ 16) × (opened ≤ 4096) }
-    ensures { step_of result ≡ nextStep q byte (phase_of phase) opened right }
+    ensures { step_of result ≡ next_step q byte (phase_of phase) opened right }
 {
     match phase {
         Phase::Nothing => sum_begins(byte, opened, right),
@@ -154,7 +154,7 @@ fn advance(q: usize, byte: u8, phase: Phase, opened: usize, right: bool) -> Step
 
 // In a number that may have `left` digits more.
 fn in_number(byte: u8, left: usize, opened: usize, right: bool) -> Step
-    ensures { step_of result ≡ nextStep 0 byte (in_number left) opened right }
+    ensures { step_of result ≡ next_step 0 byte (in_number left) opened right }
 {
     if left == 0 {
         return after_digits(byte, opened, right);
@@ -172,7 +172,7 @@ fn in_number(byte: u8, left: usize, opened: usize, right: bool) -> Step
 // One more digit of the number `k` of an unknown.
 fn indexed(q: usize, k: usize, byte: u8, opened: usize, right: bool) -> Step
     requires { (q ≤ 16) × (is_digit byte ≡ true) }
-    ensures { step_of result ≡ indexedStep q (k * 10 + digit byte) opened right }
+    ensures { step_of result ≡ indexed_step q (k * 10 + digit byte) opened right }
 {
     if 16 < k {
         return Step::Fault;
@@ -294,7 +294,7 @@ fn after_factor(byte: u8, opened: usize, right: bool) -> Step
 
 // What follows a term.
 fn onward(byte: u8, opened: usize, right: bool) -> Step
-    ensures { step_of result ≡ onwardStep byte opened right }
+    ensures { step_of result ≡ onward_step byte opened right }
 {
     if byte == b'+' {
         return Step::To {

@@ -9,7 +9,7 @@ use Rattle.equation_systems.specs.declared.SystemRefusal.{SystemRefusal}
 use Rattle.equation_systems.specs.declared.SystemRefusal.TheVariants.{Length, Equations, Unknowns, Newline, Line, Tables}
 use Rattle.equation_systems.specs.declared.lines.Lines as coded
 use Rattle.equation_systems.specs.declared.lines.Lines.TheVariants as all
-use Rattle.equation_systems.specs.declared.lines.Row as codedRow
+use Rattle.equation_systems.specs.declared.lines.Row as coded_row
 use Rattle.equation_systems.specs.declared.lines.Row.TheVariants as single
 
 abbrev pub number_of : SystemRefusal → ℕ
@@ -42,7 +42,7 @@ rows_by (all.Newline n) zs rs = refused_at n 9 []
 rows_by (all.Refused n why) zs rs = refused_at n (equation.number_of why) (equation.values_of why)
 
 -- line n
-abbrev pub row_by : ℕ → codedRow.Row → List ℤ → List ℤ → Rows
+abbrev pub row_by : ℕ → coded_row.Row → List ℤ → List ℤ → Rows
 row_by n single.Read zs rs = rows zs rs
 row_by n (single.Refused why) zs rs = refused_at n (equation.number_of why) (equation.values_of why)
 

@@ -3,7 +3,7 @@ ghost use Rattle.std.specs.Prelude.{◌≡◌, ◌+◌, ◌≤◌, ◌<◌, ltb,
 ghost use Rattle.texts.specs.Put.{Put};
 ghost use Rattle.definitions.specs.Answers.{◌then◌, refuse_if};
 ghost use Rattle.definitions.specs.Refusals.{out_of_range};
-ghost use Rattle.equation_spec.specs.Writing.{multiple as multipleText, terms as termsText, written, put_out, write};
+ghost use Rattle.equation_spec.specs.Writing.{multiple as multiple_text, terms as terms_text, written, put_out, write};
 ghost use Rattle.equation_write.specs.Texts.{lead_text, term_text, InRange};
 ghost use Rattle.equation_write.specs.Answer.{wrote_by};
 
@@ -78,8 +78,8 @@ fn sides(out: &mut [u8], row: &[i32], right: i32) -> usize
 
 // `m` times unknown `k`.
 fn multiple(out: &mut [u8], at: usize, m: u64, k: usize) -> usize
-    requires { (1 ≤ m) × (at + length (multipleText m k) ≤ length out.old) }
-    ensures { Put out.old at (multipleText m k) out.new result }
+    requires { (1 ≤ m) × (at + length (multiple_text m k) ≤ length out.old) }
+    ensures { Put out.old at (multiple_text m k) out.new result }
 {
     if m == 1 {
         let next = byte(out, at, b'x');
@@ -119,7 +119,7 @@ fn term(out: &mut [u8], at: usize, first: bool, c: i32, k: usize) -> usize
 // The left side at the beginning: the terms of the row, or 0.
 fn terms(out: &mut [u8], row: &[i32]) -> usize
     requires { (length row.now ≤ 16) × InRange row.now × (256 ≤ length out.old) }
-    ensures { Put out.old 0 (termsText 1 row.now) out.new result }
+    ensures { Put out.old 0 (terms_text 1 row.now) out.new result }
 {
     let mut next = 0;
     let mut first = true;

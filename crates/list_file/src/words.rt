@@ -3,7 +3,7 @@
 ghost use Rattle.std.specs.Prelude.{◌≡◌, ◌+◌, ◌*◌, ◌<◌, ◌≤◌, ◌&&◌, leb, ◌++◌, length, take, nat_le};
 ghost use Rattle.linear.specs.Tests.{all_to};
 ghost use Rattle.calls.specs.Paper.{value};
-ghost use Rattle.list_spec.specs.Words.{word_at, word_bytes, wrapping_sum, unsigned, signed as signedWord};
+ghost use Rattle.list_spec.specs.Words.{word_at, word_bytes, wrapping_sum, unsigned, signed as signed_word};
 ghost use Rattle.list_file.specs.Paper.{number_of, values_of};
 
 use calls::Refusal;
@@ -112,7 +112,7 @@ pub fn to_word(x: i32) -> u32
 
 // The coefficient that a word is in two's complement.
 pub fn signed(w: u32) -> i32
-    ensures { result ≡ signedWord w }
+    ensures { result ≡ signed_word w }
 {
     if w < 2147483648 {
         w as i32

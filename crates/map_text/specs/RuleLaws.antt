@@ -35,7 +35,7 @@ use Rattle.map_spec.specs.Reading.{
 use Rattle.map_text.specs.Rules.{after_line, after_lines, Begins, InForm, RowInForm, Counts, OutsideCount, BadLine, LargeAt, text_rules}
 use Rattle.map_text.specs.ReadLaws.{rows_read}
 use Rattle.map_text.specs.WriteLaws.{line_back, rows_back}
-use Rattle.map_text.specs.SplitLaws.{split as split-line, read_begins, begins_read, malformed_line, rows_all, rows_bad}
+use Rattle.map_text.specs.SplitLaws.{split as split_line, read_begins, begins_read, malformed_line, rows_all, rows_bad}
 use Rattle.map_text.specs.StageLaws.{counts_within}
 use Rattle.map_text.specs.MapLaws.{range_decides, two}
 
@@ -78,7 +78,7 @@ module _ {t r : List ℕ} (p q : ℕ) (first : Begins 2 (pos p ∷ pos q ∷ [])
           count = cc (a.count, a.after);
           counts = first.short;
           short = rw (sym a.after) at a.short;
-          text = sym (split-line t) ∙ cc (first.text, rest, a.text, a.after);
+          text = sym (split_line t) ∙ cc (first.text, rest, a.text, a.after);
           place = l;
           large = h;
         }

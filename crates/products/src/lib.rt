@@ -1,5 +1,7 @@
 // The inner products of the rows on the stack with every column. Raising an unknown adds a row of the Gram matrix to them, so they are computed
 // once for the rows that a call finds, and kept beside the stack: 16 numbers a level.
+#![tactic(auto)]
+
 ghost use Rattle.std.specs.Prelude.{◌≡◌, not, ◌&&◌, ◌+◌, ◌*◌, ◌≤◌, ◌<◌, pos, ◌+ℤ◌, ◌*ℤ◌, length};
 ghost use Rattle.std.specs.Int.Signed.{lt_z};
 ghost use Rattle.std.specs.Int.{w64};

@@ -1,6 +1,6 @@
 // One number of a text, of 1 to `most` digits without leading zeros. A place stands for the text from there on.
 ghost use Rattle.std.specs.Prelude.{◌≡◌, drop};
-ghost use Rattle.texts.specs.Reading.{is_digit, more_digits, may_follow, read_natural, negative as negativeParse, read_number, and_then};
+ghost use Rattle.texts.specs.Reading.{is_digit, more_digits, may_follow, read_natural, negative as negative_parse, read_number, and_then};
 ghost use Rattle.texts.specs.Places.{natural_parse, number_parse, Room, FewDigits};
 
 // A natural number, and the place after it; specs/Places.antt has what is read for each case.
@@ -39,7 +39,7 @@ pub fn read_number(text: &[u8], at: usize, most: usize) -> Number
 // A number after its minus.
 fn read_negative(text: &[u8], at: usize, most: usize) -> Number
     requires { FewDigits most }
-    ensures { number_parse text.now result ≡ and_then (read_natural most (drop at text.now)) negativeParse }
+    ensures { number_parse text.now result ≡ and_then (read_natural most (drop at text.now)) negative_parse }
 {
     match read_natural(text, at, most) {
         Natural::Malformed => Number::Malformed,

@@ -12,7 +12,7 @@ use Rattle.definitions.specs.Bound.{depth}
 use Rattle.definitions.specs.Calls.{machine, resume, start}
 use Rattle.definitions.specs.Input.{Extra, Input, alone, rights, system_of, walk_system}
 use Rattle.definitions.specs.Refusals.{start_checks}
-use Rattle.definitions.specs.Step.{children_to, deeper, grown, level, listed as afterListing, makes, marks_to, pick, step, top, top_marks}
+use Rattle.definitions.specs.Step.{children_to, deeper, grown, level, listed as after_listing, makes, marks_to, pick, step, top, top_marks}
 use Rattle.definitions.specs.System.{System, coef, solves}
 use Rattle.definitions.specs.Tables.{State, at, units_start}
 use Rattle.laws.specs.RefusalLaws.{Going, Room, search_going, start_shaped}
@@ -80,8 +80,8 @@ module _ (m : System) (c : Aim) (by : ByUnits c) (one : m.p ≡ 1) (s : State) (
 
     -- ---- a step keeps it
 
-    listed_low : Room m.kind m.q s (top m s) → Sound m c (afterListing m s) → Low m c (afterListing m s)
-    unfolding afterListing
+    listed_low : Room m.kind m.q s (top m s) → Sound m c (after_listing m s) → Low m c (after_listing m s)
+    unfolding after_listing
     listed_low room sound =
         let e = enlists m.kind m.q s (top m s) room in
         record {
@@ -98,8 +98,8 @@ module _ (m : System) (c : Aim) (by : ByUnits c) (one : m.p ≡ 1) (s : State) (
     unfolding step
     step_low g = go (solves m (top m s)) g.roomy (step_sound m c s g low.sound)
       where
-        go : (b : Bool) → (T b → Room m.kind m.q s (top m s)) → Sound m c (pick b (afterListing m s) (grown m s))
-            → Low m c (pick b (afterListing m s) (grown m s))
+        go : (b : Bool) → (T b → Room m.kind m.q s (top m s)) → Sound m c (pick b (after_listing m s) (grown m s))
+            → Low m c (pick b (after_listing m s) (grown m s))
         go true room sound = listed_low (room tt) sound
         go false room sound = grown_low sound
 

@@ -1,6 +1,6 @@
 // The calls as an editor uses them: the caller's own run record is advanced through a reference, over the calls by value.
 ghost use Rattle.std.specs.Prelude.{◌≡◌, ℕ};
-ghost use Rattle.definitions.specs.Calls.{start as start_of, resume as resumeOf};
+ghost use Rattle.definitions.specs.Calls.{start as start_of, resume as resume_of};
 ghost use Rattle.definitions.specs.System.{most_component};
 ghost use Rattle.definitions.specs.Input.{alone, input_of, input_with, rights as sides};
 ghost use Rattle.calls.specs.Paper.{state_of, state_with, left_by, left_with, outcome_of, outcome_with};
@@ -58,7 +58,7 @@ pub fn resume(
     r: &mut Record,
     budget: u64,
 ) -> Answer
-    ensures { left_by result stack.new list.new r.new ≡ resumeOf budget (input_of p q coefs.now)
+    ensures { left_by result stack.new list.new r.new ≡ resume_of budget (input_of p q coefs.now)
         (state_of stack.old list.old r.old) }
 {
     let o = resumed(p, q, coefs, stack, list, *r, budget);
@@ -77,7 +77,7 @@ fn resumed(
     budget: u64,
 ) -> Outcome
     ensures { outcome_of result stack.new list.new
-        ≡ resumeOf budget (input_of p q coefs.now) (state_of stack.old list.old r) }
+        ≡ resume_of budget (input_of p q coefs.now) (state_of stack.old list.old r) }
 {
     walk::resumed(p, q, coefs, stack, list, r, budget, calls::COMPONENT_LIMIT)
 }
@@ -94,7 +94,7 @@ pub fn resume_capped(
     r: &mut Record,
     budget: u64,
 ) -> Answer
-    ensures { left_with result stack.new list.new second.new r.new ≡ resumeOf budget
+    ensures { left_with result stack.new list.new second.new r.new ≡ resume_of budget
         (input_with (sides rights.now) most_component p q coefs.now)
         (state_with stack.old list.old second.old r.old) }
 {
@@ -116,7 +116,7 @@ fn resumed_capped(
     budget: u64,
 ) -> Outcome
     ensures { outcome_with result stack.new list.new second.new
-        ≡ resumeOf budget (input_with (sides rights.now) most_component p q coefs.now)
+        ≡ resume_of budget (input_with (sides rights.now) most_component p q coefs.now)
         (state_with stack.old list.old second.old r) }
 {
     walk::resumed_capped(

@@ -1,6 +1,6 @@
 // Handing out what a file holds.
 ghost use Rattle.std.specs.Prelude.{◌≡◌, ℕ, ◌+◌, ◌*◌, ◌/◌, ◌%◌, ◌<◌, ◌≤◌, List, ◌++◌, length, drop};
-ghost use Rattle.list_spec.specs.Words.{signed as signedWord};
+ghost use Rattle.list_spec.specs.Words.{signed as signed_word};
 ghost use Rattle.list_spec.specs.Reading.{stream_at, listed, list_in, handed_out};
 ghost use Rattle.list_file.specs.ReadAnswer.{read_outcome};
 ghost use Rattle.list_file.specs.ReadLaws.{Readable, InBlock, Filled};
@@ -34,7 +34,7 @@ pub fn hand_out(file: &[u8], coefs: &mut [i32], list: &mut [u32]) -> Read
 // Copies the first `n` words of the stream as coefficients.
 fn copy_coefs(file: &[u8], n: usize, coefs: &mut [i32])
     requires { (n ≤ length coefs.old) × (512 * ((n + 125) / 126 + 1) ≤ length file.now) }
-    ensures { coefs.new ≡ listed n (λ i. signedWord (stream_at file.now i)) ++ drop n coefs.old }
+    ensures { coefs.new ≡ listed n (λ i. signed_word (stream_at file.now i)) ++ drop n coefs.old }
 {
     let mut i = 0;
     while i < n {

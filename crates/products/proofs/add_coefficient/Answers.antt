@@ -1,6 +1,6 @@
 -- `add_coefficient` meets its contract. The row is written up to j; a place that is read is as it was. Assumes nothing.
 use mathlib.Core.Path.{◌≡◌, ap, ◌∙◌}
-use Prim.Native.Nat.{◌+◌, ◌*◌, ◌-◌, ◌≤◌}
+use Prim.Native.Nat.{◌+◌, ◌*◌, ◌≤◌}
 use native.Mathlib.Nat.{le_antisymm}
 use native.Mathlib.Omega.{arith}
 use borrow.Author.Rules.{rules}
@@ -11,7 +11,7 @@ use mir.Val.{of_z}
 use Rattle.linear.specs.Gram.{gram}
 use Rattle.linear.specs.Systems.{inner}
 use Rattle.laws.specs.TableLaws.{row_fits}
-use Rattle.products.specs.Products.{Written, entry, given}
+use Rattle.products.specs.Products.{entry, given}
 use Rattle.products.specs.Turns.{SmallTerms, coef_fits, column_terms, next_fits, next_value, written_ahead, written_next, written_none}
 use Rattle.products.proofs.add_coefficient.Goals as goal
 use Rattle.products.proofs.add_coefficient.Goals.{In-loop-j, Start}

@@ -1,12 +1,8 @@
 -- `add_equation` meets its contract. The rows passed have what the equation adds, and the others do not. Assumes nothing.
-use mathlib.Core.Path.{◌≡◌, ◌∙◌}
-use Prim.Native.Nat.{◌+◌, ◌-◌, ◌≤◌}
+use mathlib.Core.Path.{◌∙◌}
 use native.Mathlib.Nat.{le_antisymm}
 use native.Mathlib.Omega.{arith}
 use borrow.Author.Rules.{rules}
-use lib.ListN.{length}
-use Rattle.linear.specs.Gram.{gram}
-use Rattle.products.specs.Products.{Ahead, Rows, given}
 use Rattle.products.specs.Turns.{ahead_all, ahead_next, rows_next}
 use Rattle.products.proofs.add_equation.Goals as goal
 

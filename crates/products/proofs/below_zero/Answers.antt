@@ -1,14 +1,13 @@
 -- `below_zero` meets its contract. The marks so far are those of the unknowns passed, from the last one down. Assumes nothing.
 use mathlib.Core.Path.{◌≡◌}
-use Prim.Native.Nat.{◌-◌, ◌≤◌}
+use Prim.Native.Nat.{◌-◌}
 use native.Mathlib.Omega.{arith}
 use borrow.Author.Rules.{rules, sfits_of}
 use lib.IntN.{pos}
 use lib.Signed.{lt_z}
 use mir.Facts.{to_z-of_z}
 use Rattle.linear.specs.Tests.{number}
-use Rattle.definitions.specs.Step.{marks_to}
-use Rattle.products.specs.Marks.{Folded, fold_all, fold_next, fold_none, fold_room}
+use Rattle.products.specs.Marks.{fold_all, fold_next, fold_none, fold_room}
 use Rattle.products.specs.Products.{entry}
 use Rattle.products.proofs.below_zero.Goals as goal
 use Rattle.products.proofs.below_zero.Goals.{After-sign}

@@ -1,16 +1,9 @@
 -- `products_row` meets its contract. The row holds what the components passed make of it, and their sum is kept. Assumes nothing.
-use mathlib.Core.Path.{◌≡◌, refl, ◌∙◌}
-use Prim.Native.Nat.{ℕ, ◌+◌, ◌*◌, ◌-◌, ◌≤◌, ◌<◌}
-use native.Mathlib.Nat.{le_antisymm}
-use native.Mathlib.Omega.{arith}
-use lib.ListN.{length}
-use borrow.Author.Rules.{rules}
-use Rattle.linear.specs.TupleLaws.{total_more}
+use mathlib.Core.Path.{◌≡◌}
+use Prim.Native.Nat.{◌+◌, ◌-◌, ◌≤◌}
 use Rattle.linear.specs.Tuples.{total}
 use Rattle.definitions.specs.Tables.{at}
 use Rattle.products.specs.Products.{Written, partial}
-use Rattle.products.specs.Totals.{total_room}
-use Rattle.products.specs.Turns.{written_again, written_same, zeros_summed}
 use Rattle.products.proofs.products_row.Given as goal
 
 abbrev pub invariant-loop-i : goal.invariant-loop-i

@@ -1,10 +1,5 @@
 -- `write_child` meets its contract. The row is written up to j. Assumes nothing.
-use mathlib.Core.Path.{◌≡◌}
-use Prim.Native.Nat.{◌-◌, ◌≤◌, ◌<◌}
-use native.Mathlib.Nat.{le_antisymm}
-use native.Mathlib.Omega.{arith}
-use borrow.Author.Rules.{rules}
-use Rattle.products.specs.Turns.{written_none, written_next, written_ahead, child_fits, child_stored}
+use Prim.Native.Nat.{◌-◌, ◌≤◌}
 use Rattle.products.specs.Products.{Written, entry, raised}
 use Rattle.products.proofs.write_child.Given as goal
 

@@ -1,10 +1,6 @@
 -- `write_gram` meets its contract. The table holds the Gram matrix of the equations passed. Assumes nothing.
-use mathlib.Core.Path.{◌≡◌}
-use Prim.Native.Nat.{◌-◌, ◌≤◌}
 use native.Mathlib.Nat.{le_antisymm}
 use borrow.Author.Rules.{rules}
-use lib.ListN.{length}
-use Rattle.products.specs.Products.{Gram}
 use Rattle.products.specs.Turns.{zeros_gram}
 use Rattle.products.proofs.write_gram.Goals as goal
 

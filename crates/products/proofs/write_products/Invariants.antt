@@ -1,14 +1,10 @@
 -- `write_products` meets its contract. Every level passed holds what its row makes of the Gram matrix, and the row's sum is beside it. Assumes nothing.
-use mathlib.Core.Path.{◌≡◌, ◌∙◌}
-use Prim.Native.Nat.{◌+◌, ◌-◌, ◌≤◌, ◌<◌}
-use native.Mathlib.Nat.{le_antisymm}
-use native.Mathlib.Omega.{arith}
-use borrow.Author.Rules.{rules}
+use mathlib.Core.Path.{◌≡◌}
+use Prim.Native.Nat.{◌+◌, ◌-◌, ◌≤◌}
 use lib.ListN.{length}
 use Rattle.definitions.specs.Tables.{at}
 use Rattle.products.specs.Products.{Rows, Zeros, combine}
-use Rattle.products.specs.Totals.{Totals, totals_next, totals_none}
-use Rattle.products.specs.Turns.{rows_next, small_row, zeros_after}
+use Rattle.products.specs.Totals.{Totals}
 use Rattle.products.proofs.write_products.Given as goal
 
 abbrev pub invariant-loop-k : goal.invariant-loop-k

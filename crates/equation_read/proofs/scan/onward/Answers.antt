@@ -1,14 +1,14 @@
 -- `equation_read::scan::onward` meets its contract. Assumes nothing.
-use Rattle.equation_spec.specs.Scan.{onward as onwardStep}
+use Rattle.equation_spec.specs.Scan.{onward as onward_step}
 use Rattle.equation_read.specs.ScanSteps.{close_none, close_some, onward_other, equals_open, equals_right, equals_first}
 use Rattle.equation_read.proofs.scan.onward.Goals as goal
 
 pub returns-then-byte-eq43 : goal.returns-then-byte-eq43
-unfolding onwardStep
+unfolding onward_step
 returns-then-byte-eq43 c = rw c.if-byte-eq43.true
 
 pub returns-then-byte-eq45 : goal.returns-then-byte-eq45
-unfolding onwardStep
+unfolding onward_step
 returns-then-byte-eq45 c = rw c.if-byte-eq45.true
 
 pub returns-then-opened-eq0 : goal.returns-then-opened-eq0

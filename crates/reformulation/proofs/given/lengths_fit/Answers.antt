@@ -36,11 +36,23 @@ overflow_mul-p-3 c = omega (arith, (counts_few c.requires).back)
 
 pub returns-then-back-p : goal.returns-then-back-p
 returns-then-back-p c =
-    rw (eq-eqb _ _ c.if-coefs-p.false, eq-eqb _ _ c.if-extended-p.false, eq-eqb _ _ c.if-other-m.false, eq-eqb _ _ c.if-onto-m.false, ne_eqb _ _ c.if-back-p.true)
+    rw (
+      eq-eqb _ _ c.if-coefs-p.false,
+      eq-eqb _ _ c.if-extended-p.false,
+      eq-eqb _ _ c.if-other-m.false,
+      eq-eqb _ _ c.if-onto-m.false,
+      ne_eqb _ _ c.if-back-p.true,
+    )
 
 pub overflow_mul-result : goal.overflow_mul-result
 overflow_mul-result c = omega (arith, (counts_few c.requires).above)
 
 pub returns : goal.returns
 returns c =
-    rw (eq-eqb _ _ c.if-coefs-p.false, eq-eqb _ _ c.if-extended-p.false, eq-eqb _ _ c.if-other-m.false, eq-eqb _ _ c.if-onto-m.false, eq-eqb _ _ c.if-back-p.false)
+    rw (
+      eq-eqb _ _ c.if-coefs-p.false,
+      eq-eqb _ _ c.if-extended-p.false,
+      eq-eqb _ _ c.if-other-m.false,
+      eq-eqb _ _ c.if-onto-m.false,
+      eq-eqb _ _ c.if-back-p.false,
+    )

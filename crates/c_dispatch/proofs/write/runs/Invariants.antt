@@ -1,0 +1,12 @@
+-- `c_dispatch::write::runs` meets its contract. Assumes nothing.
+use Prim.Native.Nat.{◌-◌}
+use native.Mathlib.Omega.{arith}
+use Rattle.c_dispatch.specs.WordLaws.{Writing, writing_begins, writing_more, writing_ends}
+use borrow.Author.Rules.{rules}
+use Rattle.c_dispatch.proofs.write.runs.Given as goal
+
+abbrev pub invariant-loop-i : goal.invariant-loop-i
+invariant-loop-i l = Writing l.outcomes l.initial.words l.words l.i
+
+abbrev pub decreases-loop-i : goal.decreases-loop-i
+decreases-loop-i l = 8 - l.i

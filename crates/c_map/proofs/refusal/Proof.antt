@@ -1,7 +1,0 @@
--- `refusal` meets its contract. Assumes nothing.
-use borrow.Author.Rules.{rules}
-use Rattle.c_map.proofs.refusal.Statement.{statement}
-use Rattle.c_map.proofs.refusal.Tie as tie
-
-pub refusal_spec : {M : Type 1} → statement M
-refusal_spec = tie.close (tie.spec (λ c κs. search rules) (λ c κs. search rules) (λ c. search rules) (λ c. search rules) (λ c. search rules))

@@ -1,0 +1,13 @@
+-- `dispatch::round::next_after` meets its contract. Assumes nothing.
+use mathlib.Core.Path.{sym, ◌∙◌}
+use Prim.Native.Nat.{◌-◌}
+use borrow.Author.Rules.{rules}
+use Rattle.dispatch.specs.Form.{stays_for}
+use Rattle.dispatch.specs.Asking.{Asking, asking_begins, asking_found, asking_more, asking_ends}
+use Rattle.dispatch.proofs.round.next_after.Given as goal
+
+abbrev pub invariant-loop-k : goal.invariant-loop-k
+invariant-loop-k l = Asking l.count l.last (stays_for l.progress) l.start l.k
+
+abbrev pub decreases-loop-k : goal.decreases-loop-k
+decreases-loop-k l = l.count - l.k

@@ -1,0 +1,15 @@
+-- `resumed` meets its contract. The check decides, and then the plain call does the work. Assumes nothing.
+use Rattle.calls.specs.CallLaws.{call_passed, call_refused}
+use Rattle.single_spec.specs.Calls.{single_resume}
+use borrow.Author.Rules.{rules}
+use Rattle.single.proofs.resumed.Goals as goal
+
+pub returns-in-Refuse : goal.returns-in-Refuse
+unfolding single_resume
+returns-in-Refuse c =
+    rw c.refused.ensures (call_refused c.check_resume.ensures _ _ c.in-Refuse.is)
+
+pub returns-in-Pass : goal.returns-in-Pass
+unfolding single_resume
+returns-in-Pass c =
+    call_passed c.check_resume.ensures _ _ c.in-Pass.is c.resumed.ensures

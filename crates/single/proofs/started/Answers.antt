@@ -1,0 +1,16 @@
+-- `started` meets its contract. The check decides, and then the plain call does the work. Assumes nothing.
+use Rattle.definitions.specs.System.{most_component}
+use Rattle.calls.specs.CallLaws.{call_passed, call_refused}
+use Rattle.single_spec.specs.Calls.{single_start}
+use borrow.Author.Rules.{rules}
+use Rattle.single.proofs.started.Goals as goal
+
+pub returns-in-Refuse : goal.returns-in-Refuse
+unfolding single_start
+returns-in-Refuse c =
+    rw c.refused.ensures (call_refused c.check_start.ensures _ _ c.in-Refuse.is)
+
+pub returns-in-Pass : goal.returns-in-Pass
+unfolding single_start
+returns-in-Pass c =
+    call_passed c.check_start.ensures _ _ c.in-Pass.is (c.started.ensures most_component)

@@ -1,0 +1,6 @@
+-- `lines::measure` meets its contract.  Assumes nothing.
+use borrow.Author.Rules.{rules}
+use Rattle.single_listing.proofs.lines.measure.Goals as goal
+
+pub returns : goal.returns
+returns c = c.make.ensures.result

@@ -1,0 +1,29 @@
+-- `columns::check` meets its contract. No column passed is outside the profile. Assumes nothing.
+use mathlib.Core.Path.{◌≡◌, refl, sym}
+use mathlib.Core.Bool.{not}
+use Prim.Native.Nat.{◌-◌, ◌≤◌}
+use native.Mathlib.Nat.{le_antisymm}
+use borrow.Author.Rules.{rules}
+use Rattle.definitions.specs.Answers.{go, refuse_first}
+use Rattle.definitions.specs.System.{column}
+use Rattle.laws.specs.AnswerLaws.{refuse_at, refuse_next}
+use Rattle.single_order.specs.Rows.{map_of}
+use Rattle.single_spec.specs.Profile.{check26, in_profile}
+use mathlib.Core.Path.{ap}
+use Rattle.single_order.proofs.columns.check.Goals as goal
+
+pub loop-j-init : goal.loop-j-init
+unfolding refuse_first
+loop-j-init c = (search rules, refl)
+
+pub returns-then-not-in_profile : goal.returns-then-not-in_profile
+unfolding check26
+returns-then-not-in_profile c =
+    sym (refuse_at 26 _ _ _ c.loop-j-test.true c.loop-j.invariant.1 (cc (c.in_profile.ensures, (ap not c.if-not-in_profile.true))))
+
+pub loop-j-preserved : goal.loop-j-preserved
+loop-j-preserved c = (search rules, refuse_next 26 _ _ c.loop-j.invariant.1 (cc (c.in_profile.ensures, (ap not c.if-not-in_profile.false))))
+
+pub returns : goal.returns
+unfolding check26
+returns c = let e = le_antisymm c.loop-j.invariant.0 c.loop-j-test.false in sym (rw e at c.loop-j.invariant.1)

@@ -1,0 +1,16 @@
+-- `lowest` meets its contract. No unknown passed is in the row. Assumes nothing.
+use mathlib.Core.Path.{◌≡◌, refl, sym}
+use Prim.Native.Nat.{◌-◌, ◌≤◌}
+use native.Mathlib.Nat.{le_antisymm}
+use Rattle.single_spec.specs.First.{find_to}
+use Rattle.single_spec.specs.FirstLaws.{first_here, first_next}
+use Rattle.single_spec.specs.Graph.{lowest, named}
+use Rattle.single_order.specs.Rows.{named_no, named_yes, row_of}
+use borrow.Author.Rules.{rules}
+use Rattle.single_order.proofs.lowest.Given as goal
+
+abbrev pub invariant-loop-j : goal.invariant-loop-j
+invariant-loop-j l = (l.j ≤ l.q) × (find_to l.j (named (row_of l.list l.base)) ≡ l.j)
+
+abbrev pub decreases-loop-j : goal.decreases-loop-j
+decreases-loop-j l = l.q - l.j
