@@ -1,5 +1,4 @@
 -- `c_dispatch::dispatch` meets its contract. Assumes nothing.
-use borrow.Author.Rules.{rules}
 use Rattle.c_dispatch.specs.WordLaws.{dispatched, fitting}
 use Rattle.c_dispatch.proofs.dispatch.Goals as goal
 

@@ -1,6 +1,5 @@
 -- `listed` meets its contract. What the listing answered is told on as one number. Assumes nothing.
 use Rattle.c_single.specs.SingleFileLaws.{refused_small, told_refused, told_written}
-use borrow.Author.Rules.{rules}
 use Rattle.c_single.proofs.listed.Goals as goal
 
 pub coded-requires-in-Refused : goal.coded-requires-in-Refused

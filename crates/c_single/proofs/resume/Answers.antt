@@ -1,5 +1,4 @@
 -- `resume` meets its contract: what the continuing call by value answered and left is told on. Assumes nothing.
-use borrow.Author.Rules.{rules}
 use Rattle.c_record.specs.CodeLaws.{answer_fits}
 use Rattle.c_single.specs.SingleFileLaws.{single_resume_fits}
 use Rattle.c_single.specs.SingleFile.{single_resume_words}

@@ -1,5 +1,4 @@
 -- `start` meets its contract: what the start by value answered and left is told on, or what the continuing call told. Assumes nothing.
-use borrow.Author.Rules.{rules}
 use Rattle.c_record.specs.CodeLaws.{answer_fits}
 use Rattle.c_single.specs.SingleFileLaws.{single_start_fits}
 use Rattle.c_single.specs.SingleFile.{single_start_words}

@@ -4,7 +4,6 @@ use Rattle.calls.specs.CallLaws.{passes}
 use Rattle.definitions.specs.Input.{input_of}
 use Rattle.checks.specs.CheckLaws.{refused_first, passed_first}
 use Rattle.single_listing.specs.Passes.{checks_in, map_whole}
-use borrow.Author.Rules.{rules}
 use Rattle.single_listing.proofs.check.Goals as goal
 
 pub check_rows-requires : goal.check_rows-requires

@@ -1,10 +1,7 @@
 -- `check_rows` meets its contract. The rows passed are minimal solutions, and so much of the space is left. Assumes nothing.
 use Prim.Native.Nat.{◌-◌, ◌≤◌}
-use native.Mathlib.Omega.{arith}
 use Rattle.single_order.specs.Rows.{map_of}
-use Rattle.laws.specs.TableLaws.{row_fits}
-use Rattle.single_listing.specs.Passes.{Checked, checked_all, checked_fails, checked_fits, checked_lacks, checked_none, checked_short}
-use borrow.Author.Rules.{rules}
+use Rattle.single_listing.specs.Passes.{Checked}
 use Rattle.single_listing.proofs.check_rows.Given as goal
 
 abbrev pub invariant-loop-i : goal.invariant-loop-i

@@ -3,7 +3,6 @@ use mathlib.Core.Path.{sym, ap, ◌∙◌}
 use Rattle.definitions.specs.Input.{input_of}
 use Rattle.single_listing.specs.Listed.{check_of}
 use Rattle.single_listing.specs.Passes.{call_refused, call_written, checks_listable}
-use borrow.Author.Rules.{rules}
 use Rattle.single_listing.proofs.listed.Goals as goal
 
 pub write-requires : goal.write-requires

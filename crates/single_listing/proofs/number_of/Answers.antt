@@ -1,6 +1,5 @@
 -- `number_of` meets its contract: a refusal of a call has its number. Assumes nothing.
 use mathlib.Core.Path.{◌∙◌, sym, ap}
-use borrow.Author.Rules.{rules}
 use Rattle.single_listing.specs.Listed.{number_of}
 use Rattle.single_listing.proofs.number_of.Goals as goal
 

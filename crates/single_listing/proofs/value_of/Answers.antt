@@ -1,6 +1,5 @@
 -- `value_of` meets its contract: a refusal of a call has its value. Assumes nothing.
 use mathlib.Core.Path.{◌∙◌, sym, ap}
-use borrow.Author.Rules.{rules}
 use Rattle.calls.specs.Paper.{value}
 use Rattle.single_listing.specs.Listed.{values_of}
 use Rattle.single_listing.proofs.value_of.Goals as goal

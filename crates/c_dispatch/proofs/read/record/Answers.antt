@@ -1,5 +1,4 @@
 -- `c_dispatch::read::record` meets its contract. Assumes nothing.
-use borrow.Author.Rules.{rules}
 use Rattle.c_dispatch.proofs.read.record.Goals as goal
 
 pub returns : goal.returns

@@ -1,7 +1,6 @@
 -- `c_dispatch::read::records` meets its contract. Assumes nothing.
 use Prim.Native.Nat.{◌-◌}
-use Rattle.dispatch.specs.Filling.{Filled, filling_begins, filling_more, filled_all}
-use Rattle.dispatch.specs.Form.{no_record}
+use Rattle.dispatch.specs.Filling.{filling_begins, filling_more, filled_all}
 use Rattle.c_dispatch.specs.Words.{record_in}
 use borrow.Author.Rules.{rules}
 use Rattle.c_dispatch.proofs.read.records.Goals as goal

@@ -1,9 +1,8 @@
 -- `c_dispatch::read::records` meets its contract. Assumes nothing.
 use Prim.Native.Nat.{◌-◌}
-use Rattle.dispatch.specs.Filling.{Filled, filling_begins, filling_more, filled_all}
+use Rattle.dispatch.specs.Filling.{Filled}
 use Rattle.dispatch.specs.Form.{no_record}
 use Rattle.c_dispatch.specs.Words.{record_in}
-use borrow.Author.Rules.{rules}
 use Rattle.c_dispatch.proofs.read.records.Given as goal
 
 abbrev pub invariant-loop-i : goal.invariant-loop-i

@@ -1,5 +1,4 @@
 -- `c_dispatch::read::share` meets its contract. Assumes nothing.
-use borrow.Author.Rules.{rules}
 use Rattle.c_dispatch.proofs.read.share.Goals as goal
 
 pub returns : goal.returns

@@ -1,7 +1,6 @@
 -- `c_dispatch::read::word` meets its contract. Assumes nothing.
 use mathlib.Core.Path.{sym}
 use lib.ListN.{get_or-eq_default}
-use borrow.Author.Rules.{rules}
 use Rattle.c_dispatch.proofs.read.word.Goals as goal
 
 pub returns : goal.returns

@@ -1,6 +1,5 @@
 -- `write::number` meets its contract: a refusal has its number. Assumes nothing.
 use mathlib.Core.Path.{◌∙◌, sym, ap}
-use borrow.Author.Rules.{rules}
 use Rattle.calls.specs.Paper.{answer_of}
 use Rattle.c_dispatch.specs.Words.{answer_number}
 use Rattle.c_dispatch.proofs.write.number.Goals as goal

@@ -1,7 +1,6 @@
 -- `c_dispatch::write::others` meets its contract. Assumes nothing.
 use native.Mathlib.Omega.{arith}
 use lib.ListN.{length-set}
-use borrow.Author.Rules.{rules}
 use Rattle.c_dispatch.proofs.write.others.Goals as goal
 
 pub bounds-words-at-2 : goal.bounds-words-at-2

@@ -1,6 +1,5 @@
 -- `write::place` meets its contract: a refusal has its value. Assumes nothing.
 use mathlib.Core.Path.{◌∙◌, sym, ap}
-use borrow.Author.Rules.{rules}
 use Rattle.calls.specs.Paper.{answer_of}
 use Rattle.c_dispatch.specs.Words.{answer_place}
 use Rattle.c_dispatch.proofs.write.place.Goals as goal

@@ -1,5 +1,4 @@
 -- `c_dispatch::write::record` meets its contract. Assumes nothing.
-use borrow.Author.Rules.{rules}
 use Rattle.c_dispatch.specs.WordLaws.{record_left, record_written}
 use Rattle.c_dispatch.proofs.write.record.Goals as goal
 

@@ -1,8 +1,6 @@
 -- `c_dispatch::write::runs` meets its contract. Assumes nothing.
 use Prim.Native.Nat.{◌-◌}
-use native.Mathlib.Omega.{arith}
-use Rattle.c_dispatch.specs.WordLaws.{Writing, writing_begins, writing_more, writing_ends}
-use borrow.Author.Rules.{rules}
+use Rattle.c_dispatch.specs.WordLaws.{Writing}
 use Rattle.c_dispatch.proofs.write.runs.Given as goal
 
 abbrev pub invariant-loop-i : goal.invariant-loop-i

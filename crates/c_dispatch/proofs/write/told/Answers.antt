@@ -1,5 +1,4 @@
 -- `c_dispatch::write::told` meets its contract. Assumes nothing.
-use borrow.Author.Rules.{rules}
 use Rattle.c_dispatch.specs.WordLaws.{fitting_pass, told_refused, told_served}
 use Rattle.c_dispatch.proofs.write.told.Goals as goal
 

@@ -2,7 +2,6 @@
 use native.Mathlib.Omega.{arith}
 use Rattle.texts.specs.Put.{put_then}
 use Rattle.single_listing.specs.Lines.{two_digits}
-use borrow.Author.Rules.{rules}
 use Rattle.single_listing.proofs.lines.before_space.Goals as goal
 
 pub number-end-requires : goal.number-end-requires

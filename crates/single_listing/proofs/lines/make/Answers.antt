@@ -2,7 +2,6 @@
 use native.Mathlib.Omega.{arith}
 use Rattle.texts.specs.Put.{put_then}
 use Rattle.single_listing.specs.Lines.{line_made, no_line}
-use borrow.Author.Rules.{rules}
 use Rattle.single_listing.proofs.lines.make.Goals as goal
 
 pub returns-then-size-eq0 : goal.returns-then-size-eq0

@@ -1,5 +1,4 @@
 -- `lines::measure` meets its contract.  Assumes nothing.
-use borrow.Author.Rules.{rules}
 use Rattle.single_listing.proofs.lines.measure.Goals as goal
 
 pub returns : goal.returns

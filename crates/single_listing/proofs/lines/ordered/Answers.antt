@@ -1,9 +1,8 @@
 -- `lines::ordered` meets its contract. The first unknowns of the order stand in the line. Assumes nothing.
-use Prim.Native.Nat.{◌+◌, ◌*◌, ◌-◌, ◌≤◌}
+use Prim.Native.Nat.{◌-◌}
 use native.Mathlib.Nat.{le_antisymm}
 use native.Mathlib.Omega.{arith}
-use lib.ListN.{get_or}
-use Rattle.texts.specs.Put.{Put, put_none, put_then}
+use Rattle.texts.specs.Put.{put_none, put_then}
 use Rattle.single_spec.specs.Listing.{order_to}
 use Rattle.single_spec.specs.ListingLaws.{order_next}
 use borrow.Author.Rules.{rules}

@@ -1,11 +1,11 @@
 -- `lines::rising` meets its contract. The numbers of the unknowns passed that the row names stand in the line. Assumes nothing.
-use Prim.Native.Nat.{◌*◌, ◌-◌, ◌≤◌}
+use Prim.Native.Nat.{◌-◌}
 use native.Mathlib.Nat.{le_antisymm}
 use native.Mathlib.Omega.{arith}
-use Rattle.texts.specs.Put.{Put, put_none, put_then}
+use Rattle.texts.specs.Put.{put_none, put_then}
 use Rattle.single_spec.specs.Listing.{rising_to}
 use Rattle.single_spec.specs.ListingLaws.{rising_named, rising_other}
-use Rattle.single_order.specs.Rows.{named_no, named_yes, row_of}
+use Rattle.single_order.specs.Rows.{named_no, named_yes}
 use borrow.Author.Rules.{rules}
 use Rattle.single_listing.proofs.lines.rising.Goals as goal
 

@@ -1,12 +1,8 @@
 -- `lines::rising` meets its contract. The numbers of the unknowns passed that the row names stand in the line. Assumes nothing.
 use Prim.Native.Nat.{◌*◌, ◌-◌, ◌≤◌}
-use native.Mathlib.Nat.{le_antisymm}
-use native.Mathlib.Omega.{arith}
-use Rattle.texts.specs.Put.{Put, put_none, put_then}
+use Rattle.texts.specs.Put.{Put}
 use Rattle.single_spec.specs.Listing.{rising_to}
-use Rattle.single_spec.specs.ListingLaws.{rising_named, rising_other}
-use Rattle.single_order.specs.Rows.{named_no, named_yes, row_of}
-use borrow.Author.Rules.{rules}
+use Rattle.single_order.specs.Rows.{row_of}
 use Rattle.single_listing.proofs.lines.rising.Given as goal
 
 abbrev pub invariant-loop-j : goal.invariant-loop-j

@@ -3,7 +3,6 @@ use native.Mathlib.Omega.{arith}
 use mathlib.Core.Path.{sym}
 use lib.Seq.{length-take-le}
 use Rattle.single_listing.specs.Lines.{line_copied}
-use borrow.Author.Rules.{rules}
 use Rattle.single_listing.proofs.lines.write.Goals as goal
 
 pub slice_bounds-line-end : goal.slice_bounds-line-end

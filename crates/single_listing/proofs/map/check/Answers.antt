@@ -5,7 +5,6 @@ use mathlib.Core.Path.{◌∙◌}
 use Rattle.calls.specs.CallLaws.{passes}
 use Rattle.checks.specs.CheckLaws.{refused_first, passed_first}
 use Rattle.single_listing.specs.Passes.{map_checks, shape_whole}
-use borrow.Author.Rules.{rules}
 use Rattle.single_listing.proofs.map.check.Goals as goal
 
 pub check_columns-requires : goal.check_columns-requires

@@ -2,7 +2,6 @@
 use Rattle.definitions.specs.Refusals.{check7}
 use Rattle.checks.specs.CheckLaws.{refused_first, passed_first}
 use mathlib.Core.Path.{◌∙◌}
-use borrow.Author.Rules.{rules}
 use Rattle.single_listing.proofs.map.check_columns.Goals as goal
 
 pub returns-in-Refuse : goal.returns-in-Refuse

@@ -1,7 +1,6 @@
 -- `map::check_shape` meets its contract. The counts decide, else the room of the list table does. Assumes nothing.
 use native.Mathlib.Omega.{arith}
 use borrow.Author.Tests.{le-ltb, lt-ltb}
-use borrow.Author.Rules.{rules}
 use Rattle.definitions.specs.Answers.{refuse_with}
 use Rattle.calls.specs.CallLaws.{passes}
 use Rattle.checks.specs.CheckLaws.{refused_first, passed_first}
