@@ -40,4 +40,4 @@ pub returns : goal.returns
 returns c =
     let p = rw (to_z-of_z c.ranges.right) at c.sides-n.ensures.put in
     (rw p.written at c.hand_out.ensures)
-        ∙ right_in c.args.right (written c.args.row.now c.args.right) c.args.out.now (in_range (goal.at.returns c).Else-out_of_range)
+    ∙ right_in c.args.right (written c.args.row.now c.args.right) c.args.out.now (in_range (goal.at.returns c).Else-out_of_range)
