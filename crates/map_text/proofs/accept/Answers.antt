@@ -4,7 +4,8 @@ use native.Mathlib.Nat.{le_antisymm}
 use lib.IntN.{pos}
 use lib.ListN.{get_or}
 use mir.Facts.{to_z-of_z}
-use borrow.Author.Rules.{rules, sfits_of}
+use mir.Syntax.{w32}
+use borrow.Author.Rules.{rules}
 use Rattle.definitions.specs.Answers.{refuse_first}
 use Rattle.definitions.specs.Refusals.{out_of_range}
 use Rattle.laws.specs.AnswerLaws.{refuse_next, refuse_at}
@@ -15,7 +16,7 @@ use Rattle.map_text.proofs.accept.Goals.{After-out_of_range}
 -- what the call tested is the coefficient
 tested : (c : After-out_of_range)
     → c.out_of_range.result ≡ out_of_range (get_or c.args.found.now c.loop-i.i (pos 0))
-tested c = rw (to_z-of_z (sfits_of c.out_of_range-arg-1.given)) at c.out_of_range.ensures
+tested c = rw (to_z-of_z {w = w32} {z = get_or c.args.found.now c.loop-i.i (pos 0)} (search rules)) at c.out_of_range.ensures
 
 pub loop-i-init : goal.loop-i-init
 unfolding refuse_first

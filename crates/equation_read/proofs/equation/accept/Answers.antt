@@ -1,4 +1,5 @@
 -- `equation_read::equation::accept` meets its contract. Assumes nothing.
+use Prim.Native.Nat.{◌+◌}
 use mathlib.Core.Path.{◌≡◌, refl, sym, ap, ◌∙◌}
 use borrow.Author.Tests.{ltb-false}
 use native.Mathlib.Omega.{arith}
@@ -6,7 +7,7 @@ use lib.IntN.{pos, neg_ℤ}
 use lib.ListN.{get_or}
 use mir.Facts.{to_z-of_z}
 use mir.Syntax.{w32, w64}
-use borrow.Author.Rules.{sfits_of}
+use borrow.Author.Rules.{rules, sfits_of}
 use Rattle.definitions.specs.Answers.{refuse_first}
 use Rattle.equation_read.specs.EquationLaws.{coefficient_out, right_out, all_in, range_next, ranged_next}
 use Rattle.equation_read.proofs.equation.accept.Goals as goal
@@ -32,7 +33,7 @@ overflow_add-result c = omega (arith, c.loop-i-test.true, c.requires.0)
 
 pub returns-then-out_of_range : goal.returns-then-out_of_range
 returns-then-out_of_range c = coefficient_out c.args.q c.args.totals.now c.args.row.now c.loop-i.i c.loop-i-test.true c.loop-i.invariant.1
-    (rw (to_z-of_z {w = w64} (sfits_of c.out_of_range-arg-1.given)) at (sym c.out_of_range.ensures ∙ c.if-out_of_range.true))
+    (rw (to_z-of_z {w = w64} {z = get_or c.args.totals.now (c.loop-i.i + 1) (pos 0)} (search rules)) at (sym c.out_of_range.ensures ∙ c.if-out_of_range.true))
 
 pub overflow_add-i-in-loop-i : goal.overflow_add-i-in-loop-i
 overflow_add-i-in-loop-i c = omega (arith, c.loop-i-test.true, c.requires.0)
@@ -41,7 +42,7 @@ pub loop-i-smaller : goal.loop-i-smaller
 loop-i-smaller c = omega (arith, c.loop-i-test.true)
 
 pub loop-i-preserved : goal.loop-i-preserved
-loop-i-preserved c = let e = rw (to_z-of_z {w = w64} (sfits_of c.out_of_range-arg-1.given)) at (sym c.out_of_range.ensures ∙ c.if-out_of_range.false) in (
+loop-i-preserved c = let e = rw (to_z-of_z {w = w64} {z = get_or c.args.totals.now (c.loop-i.i + 1) (pos 0)} (search rules)) at (sym c.out_of_range.ensures ∙ c.if-out_of_range.false) in (
   omega (arith, c.loop-i-test.true),
   range_next c.args.q c.args.totals.now c.args.row.now c.loop-i.i c.loop-i.invariant.1 e,
   ranged_next c.args.totals.now c.loop-i.i c.loop-i.invariant.2 e,
@@ -53,15 +54,15 @@ out_of_range-requires-2 c = tt
 pub returns-then-out_of_range-2 : goal.returns-then-out_of_range-2
 returns-then-out_of_range-2 c = let n : c.loop-i.i ≡ c.args.q = omega (arith, c.loop-i.invariant.0, c.loop-i-test.false) in
     right_out c.args.q c.args.totals.now c.args.row.now (rw n at c.loop-i.invariant.1)
-    (rw (to_z-of_z {w = w64} (sfits_of c.out_of_range-arg-2-1.given)) at (sym c.out_of_range-2.ensures ∙ c.if-out_of_range-2.true))
+    (rw (to_z-of_z {w = w64} {z = get_or c.args.totals.now 0 (pos 0)} (search rules)) at (sym c.out_of_range-2.ensures ∙ c.if-out_of_range-2.true))
 
 pub write_row-requires : goal.write_row-requires
 write_row-requires c = let n : c.loop-i.i ≡ c.args.q = omega (arith, c.loop-i.invariant.0, c.loop-i-test.false) in
     (c.requires.0, c.requires.1, rw n at c.loop-i.invariant.2)
 
 pub negated-requires : goal.negated-requires
-negated-requires c = let z = to_z-of_z {w = w64} {z = get_or c.args.totals.now 0 (pos 0)} (sfits_of c.negated-arg-1.given) in
-    let e = rw (to_z-of_z {w = w64} (sfits_of c.out_of_range-arg-2-1.given))
+negated-requires c = let z = to_z-of_z {w = w64} {z = get_or c.args.totals.now 0 (pos 0)} (search rules) in
+    let e = rw (to_z-of_z {w = w64} {z = get_or c.args.totals.now 0 (pos 0)} (search rules))
     at (sym c.out_of_range-2.ensures ∙ c.if-out_of_range-2.false) in
     rw z (ltb-false 10000 _ e)
 
@@ -71,7 +72,7 @@ shape_of-row c = c.write_row.auto.row
 pub returns : goal.returns
 returns c = let m : c.loop-i.i ≡ c.args.q = omega (arith, c.loop-i.invariant.0, c.loop-i-test.false) in
     all_in c.args.q c.args.totals.now c.args.row.now (rw m at c.loop-i.invariant.1)
-    (rw (to_z-of_z {w = w64} (sfits_of c.out_of_range-arg-2-1.given)) at (sym c.out_of_range-2.ensures ∙ c.if-out_of_range-2.false))
+    (rw (to_z-of_z {w = w64} {z = get_or c.args.totals.now 0 (pos 0)} (search rules)) at (sym c.out_of_range-2.ensures ∙ c.if-out_of_range-2.false))
     c.write_row.ensures
     (to_z-of_z {w = w32} (sfits_of c.negated.type_inv) ∙ c.negated.ensures
-    ∙ ap neg_ℤ (to_z-of_z {w = w64} {z = get_or c.args.totals.now 0 (pos 0)} (sfits_of c.negated-arg-1.given)))
+    ∙ ap neg_ℤ (to_z-of_z {w = w64} {z = get_or c.args.totals.now 0 (pos 0)} (search rules)))

@@ -1,6 +1,5 @@
 -- `list_file::write::content::stream_word` meets its contract: a coefficient, a component or filler. Assumes nothing.
-use Rattle.std.proofs.Common.{◌≡◌, ◌+◌, ◌-◌, length, sym, ◌∙◌, arith, to_z-of_z}
-use borrow.Author.Rules.{sfits_of}
+use Rattle.std.proofs.Common.{◌≡◌, ◌+◌, ◌-◌, length, get_or, pos, sym, ◌∙◌, arith, rules, to_z-of_z, w32}
 use Rattle.list_spec.specs.Form.{ListFile}
 use Rattle.list_spec.specs.ContentLaws.{stream_coef, stream_row, stream_filler}
 use Rattle.list_file.specs.WriteAnswer.{list_of}
@@ -12,7 +11,7 @@ list s = list_of 0 0 s.args.coefs.now s.args.rows.now 0
 
 pub returns-then-i-coefs : goal.returns-then-i-coefs
 returns-then-i-coefs c =
-    (rw (to_z-of_z (sfits_of c.to_word-arg-1.given)) at c.to_word.ensures)
+    (rw (to_z-of_z {w = w32} {z = get_or c.args.coefs.now c.args.i (pos 0)} (search rules)) at c.to_word.ensures)
     ∙ sym (stream_coef (list (goal.at.returns-then-i-coefs c).Start) c.args.i (omega arith))
 
 pub returns-then-k-rows : goal.returns-then-k-rows
