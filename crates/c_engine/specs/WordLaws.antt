@@ -192,7 +192,8 @@ misfit_list_checks_lem p q coefs n rows most w =
     ∙ ap (λ c. refuse_if (ltb most n) 4 then c) (instead_list (not (calls.is_list q n rows)) (calls.check7 p q coefs) (instead_first (p * q) _))))))
 
 -- from the check of the code
-pub refused_first : {k : made.Check} {c : Check} {why : Refusal} → check_of k ≡ c → k ≡ Refuse why → instead (refuse (number_of why) (values_of why)) ≡ instead c
+pub refused_first : {k : made.Check} {c : Check} {why : Refusal} → check_of k ≡ c → k ≡ Refuse why
+    → instead (refuse (number_of why) (values_of why)) ≡ instead c
 refused_first e h = ap instead (sym (ap check_of h) ∙ e)
 
 pub passed_first : {k : made.Check} {c : Check} → check_of k ≡ c → k ≡ Pass → check_code (instead c) ≡ 6
@@ -327,7 +328,8 @@ module _ (p q : ℕ) (coefs : List ℤ) (most : ℕ) (equations : List ℤ) (bas
   unfolding start_sides sides_checks
   sides_without rights lower o e =
       ap without_table e
-      ∙ without (begun_under 1 p (suc q) (sides_system p q coefs rights lower)) (unfold begun_under in refl) (sides_checks p q coefs rights lower most lent_table)
+      ∙ without (begun_under 1 p (suc q) (sides_system p q coefs rights lower)) (unfold begun_under in refl)
+      (sides_checks p q coefs rights lower most lent_table)
 
   pub list_without : (n : ℕ) (rows : List ℕ) (o : Outcome) {equations' : List ℤ} {basis' : List ℕ}
       → outcome_of o equations' basis' table ≡ calls.start_from p q coefs n rows most lent_table

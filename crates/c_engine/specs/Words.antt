@@ -21,7 +21,8 @@ is_record words = eqb (length words) 11 && ltb (get_or words 0 0) (2 ^ 32)
 -- 6, "run record or tables out of order": other words read as a record that is, its steps being past their limit
 abbrev pub record_if : Bool → List ℕ → Record
 record_if true words =
-    record_of (get_or words 0 0) (get_or words 1 0) (get_or words 2 0) (get_or words 3 0) (get_or words 4 0) (get_or words 5 0) (get_or words 6 0) (get_or words 7 0)
+    record_of (get_or words 0 0) (get_or words 1 0) (get_or words 2 0) (get_or words 3 0) (get_or words 4 0) (get_or words 5 0) (get_or words 6 0)
+    (get_or words 7 0)
     (get_or words 8 0) (get_or words 9 0) (get_or words 10 0)
 record_if false words = record_of 0 0 0 0 0 0 0 0 0 (step_limit + 1) 0
 

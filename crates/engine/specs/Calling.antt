@@ -71,7 +71,8 @@ roomed q basis table l =
 module _ (p q : ℕ) (coefs equations : List ℤ) (basis table : List ℕ) (l : Beside) (r : Record) {made : Check} {most : ℕ}
     (m : most ≡ spec.basis_room q (lengths_of basis table l)) (e : check_of made ≡ start_checks_by p q coefs most (length equations)) where
   pub start_refused : {why : Refusal} → made ≡ Refuse why
-      → outcome_of (refused_with why r) equations basis table ≡ spec.start p q coefs (spec.basis_room q (lengths_of basis table l)) (work_of equations basis table r)
+      → outcome_of (refused_with why r) equations basis table ≡ spec.start p q coefs (spec.basis_room q (lengths_of basis table l))
+      (work_of equations basis table r)
   unfolding spec.start_under
   start_refused g = call_refused (rw m at (e ∙ start_checks_lem p q coefs most (work_of equations basis table r))) equations basis table r _ g
 
@@ -88,7 +89,8 @@ module _ (p q : ℕ) (coefs equations : List ℤ) (basis table : List ℕ) (l : 
   pub start_passed : made ≡ Pass → {o : Outcome} {equations' : List ℤ} {basis' : List ℕ} → Begun p q coefs equations basis o equations' basis'
       → outcome_of o equations' basis' table ≡ spec.start p q coefs (spec.basis_room q (lengths_of basis table l)) (work_of equations basis table r)
   unfolding spec.start_under
-  start_passed g b = call_passed (rw m at (e ∙ start_checks_lem p q coefs most (work_of equations basis table r))) equations basis table r _ g (begun_is table r b)
+  start_passed g b = call_passed (rw m at (e ∙ start_checks_lem p q coefs most (work_of equations basis table r))) equations basis table r _ g
+      (begun_is table r b)
 
 -- ---- the start from a list
 
@@ -193,7 +195,8 @@ module _ (p q : ℕ) (equations : List ℤ) (basis table : List ℕ) (l : Beside
   module _ (r s : ℕ) (u t : ℤ) {made : Check} (e : check_of made ≡ spec.combine_checks p q most room r s u t (work_of equations basis table run)) where
     pub combine_refused : {why : Refusal} → made ≡ Refuse why
         → outcome_of (refused_with why run) equations basis table
-        ≡ spec.combine p q (spec.basis_room q (lengths_of basis table l)) (spec.stage_room q (lengths_of basis table l)) r s u t (work_of equations basis table run)
+        ≡ spec.combine p q (spec.basis_room q (lengths_of basis table l)) (spec.stage_room q (lengths_of basis table l)) r s u t
+        (work_of equations basis table run)
     unfolding spec.combine
     combine_refused g = rw (← m, ← n) (call_refused e equations basis table run _ g)
 
@@ -215,7 +218,8 @@ module _ (p q : ℕ) (equations : List ℤ) (basis table : List ℕ) (l : Beside
 
     pub combine_passed : made ≡ Pass → {o : Outcome} {equations' : List ℤ} → Operated q r s u t equations run o equations'
         → outcome_of o equations' basis table
-        ≡ spec.combine p q (spec.basis_room q (lengths_of basis table l)) (spec.stage_room q (lengths_of basis table l)) r s u t (work_of equations basis table run)
+        ≡ spec.combine p q (spec.basis_room q (lengths_of basis table l)) (spec.stage_room q (lengths_of basis table l)) r s u t
+        (work_of equations basis table run)
     unfolding spec.combine
     combine_passed g b = rw (← m, ← n) (call_passed e equations basis table run _ g (operated_is basis table b))
 

@@ -35,7 +35,8 @@ row_within r = record { whole = r.whole; small = r.small }
 
 module _ {q : ℕ} {coefs : List ℤ} {from : ℕ} {table : List ℕ} {base : ℕ} (e : SmallEquation q coefs from) (r : SmallRow q table base) where
   -- the value as it is written and read back
-  pub value_read : {v : ℤ} → v ≡ value (equation_at coefs from) q (row_at table base) → to_z w64 (of_z w64 v) ≡ value (equation_at coefs from) q (row_at table base)
+  pub value_read : {v : ℤ} → v ≡ value (equation_at coefs from) q (row_at table base)
+      → to_z w64 (of_z w64 v) ≡ value (equation_at coefs from) q (row_at table base)
   value_read h = walks.value_back (equation_within e) (row_within r) h
 
 pub coefficient_fits : {q : ℕ} {coefs : List ℤ} {from : ℕ} → SmallEquation q coefs from → (j : ℕ) → j < q → SFits w32 (equation_at coefs from j)

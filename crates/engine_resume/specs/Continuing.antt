@@ -74,7 +74,8 @@ abbrev pub ResumeLeft : (p q budget : ℕ) (equations : List ℤ) (basis sizes t
     (x' : Sides)
     → Type 0
 ResumeLeft p q budget equations basis sizes table x r o basis' sizes' table' x' =
-    LeftBy p q (spec.basis_room q (lent_lengths basis sizes table x)) (spec.stage_room q (lent_lengths basis sizes table x)) budget (work_of equations basis table r)
+    LeftBy p q (spec.basis_room q (lent_lengths basis sizes table x)) (spec.stage_room q (lent_lengths basis sizes table x)) budget
+    (work_of equations basis table r)
     sizes x (outcome_of o equations basis' table') sizes' x'
 
 -- ---- by what the checks find
@@ -164,5 +165,6 @@ module _ (p q budget : ℕ) (equations : List ℤ) (basis sizes table : List ℕ
           })
         where
           not_refused : (k : ℕ) (values : List ℕ) → spec.resume_checks p q most room w ≡ paper.refuse k values → ⊥
-          not_refused k values h = let no : paper.go ≡ paper.refuse k values = sym (ap check_of g) ∙ ((e ∙ resume_checks_lem p q most room w) ∙ h) in let z : ◌≡◌
+          not_refused k values h = let no : paper.go ≡ paper.refuse k values = sym (ap check_of g) ∙ ((e ∙ resume_checks_lem p q most room w) ∙ h) in
+              let z : ◌≡◌
               {A = ℕ} 0 1 = cc in omega arith

@@ -47,7 +47,8 @@ exceeds_below q x z = go q
 
 -- ---- writing behind what is read, and ahead of it
 
-pub read_before : (x : ℕ → ℕ) (table : List ℕ) (from to j q : ℕ) → from + q ≤ to → j < q → get_or (write_to j table to x) (from + j) 0 ≡ get_or table (from + j) 0
+pub read_before : (x : ℕ → ℕ) (table : List ℕ) (from to j q : ℕ) → from + q ≤ to → j < q
+    → get_or (write_to j table to x) (from + j) 0 ≡ get_or table (from + j) 0
 read_before x table from to j q l jq = write_outside x table to j (from + j) (inl (omega arith))
 
 pub read_ahead : (x : ℕ → ℕ) (table : List ℕ) (from to j : ℕ) → to ≤ from → get_or (write_to j table to x) (from + j) 0 ≡ get_or table (from + j) 0

@@ -1,5 +1,32 @@
 -- The test of a pair of rows: by their marks, and else by the rows. Assumes nothing.
-use Rattle.std.specs.Prelude.{◌≡◌, refl, ◌≢◌, ◌⊎◌, Bool, true, false, not, cond, ◌||◌, List, ℕ, zero, suc, ◌+◌, ◌*◌, ◌≤◌, ◌<◌, T, leb, ltb, pos, nat_abs, ◌+ℤ◌, get_or, ◌<ℤ◌}
+use Rattle.std.specs.Prelude.{
+  ◌≡◌,
+  refl,
+  ◌≢◌,
+  ◌⊎◌,
+  Bool,
+  true,
+  false,
+  not,
+  cond,
+  ◌||◌,
+  List,
+  ℕ,
+  zero,
+  suc,
+  ◌+◌,
+  ◌*◌,
+  ◌≤◌,
+  ◌<◌,
+  T,
+  leb,
+  ltb,
+  pos,
+  nat_abs,
+  ◌+ℤ◌,
+  get_or,
+  ◌<ℤ◌,
+}
 use Rattle.std.proofs.Common.{sym, ◌∙◌, ap, arith, to_z-of_z, of_z, to_z}
 use Rattle.std.proofs.Math.Logic.{inl, inr}
 use Rattle.std.proofs.Math.Dec.{leb→le}
@@ -55,12 +82,14 @@ first_counts : (cap : ℕ) (y z : ℕ → ℕ) → y 0 ≡ z 0 → is_over cap y
 first_counts zero y z e = refl
 first_counts (suc c) y z e = rw e refl
 
-module _ (cap q : ℕ) (c : ℕ → ℤ) (n : ℕ) (table : List ℕ) (h k : ℕ) {b : Bool} (e : b ≡ is_over cap (λ _. get_or table (h * q) 0 + get_or table (k * q) 0)) where
+module _ (cap q : ℕ) (c : ℕ → ℤ) (n : ℕ) (table : List ℕ) (h k : ℕ) {b : Bool}
+    (e : b ≡ is_over cap (λ _. get_or table (h * q) 0 + get_or table (k * q) 0)) where
   over_is : b ≡ is_over cap (sum_of q table h k)
   over_is =
       let x : h * q ≡ h * q + 0 = omega arith in
       let y : k * q ≡ k * q + 0 = omega arith in
-      e ∙ first_counts cap _ (sum_of q table h k) (ap (λ i. get_or table i 0 + get_or table (k * q) 0) x ∙ ap (λ i. get_or table (h * q + 0) 0 + get_or table i 0) y)
+      e ∙ first_counts cap _ (sum_of q table h k)
+      (ap (λ i. get_or table i 0 + get_or table (k * q) 0) x ∙ ap (λ i. get_or table (h * q + 0) 0 + get_or table i 0) y)
 
   pub over_needless : b ≡ true → true ≡ needless_of cap q c n table h k
   over_needless t = rw (← over_is, t)

@@ -82,7 +82,8 @@ module _ {f : Frame} {l : Lent} {budget : ℕ} {table : List ℕ} {x : Sides} {s
         mothers = record { each = λ i h. t.mothers.each i (omega (arith, g.rises)) ∙ g.mothers.each i h };
       }
 
-  stopped : {table'' : List ℕ} {x'' : Sides} {n : ℕ} (e : Ending) → answer_of e ≡ refused n [] → 0 < left → Still (turn_of f l table' s') (stops n) table' table''
+  stopped : {table'' : List ℕ} {x'' : Sides} {n : ℕ} (e : Ending) → answer_of e ≡ refused n [] → 0 < left
+      → Still (turn_of f l table' s') (stops n) table' table''
       x' x''
       → RunLeft f l budget table x s (ran_of e s') table'' x''
   unfolding after

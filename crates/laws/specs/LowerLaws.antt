@@ -15,7 +15,7 @@ use Rattle.definitions.specs.Input.{Input, above_system, alone, bound_of, limit_
 use Rattle.definitions.specs.Refusals.{check6_from, in_order, in_order_from, lower_checks, in_order_by, resume_from_checks, search_checks, step_limit}
 use Rattle.definitions.specs.Step.{enlist_in, grown, listed, pick, step, to_second, top, width}
 use Rattle.definitions.specs.System.{System, solves}
-use Rattle.definitions.specs.Tables.{RunKind, State, at, by_walk, capacity, capped_run, desk_by_desk, frozen, lower_above, lower_plain, lower_start, lowered}
+use Rattle.definitions.specs.Tables.{RunKind, State, by_walk, capacity, capped_run, desk_by_desk, frozen, lower_above, lower_plain, lower_start, lowered}
 use Rattle.definitions.specs.Tables.{plain_part, plain_run, units_start, whole_of}
 use Rattle.laws.specs.CheckLaws.{Decides, Renders, Rules, ◌▹◌, decides_if, end, renders_last, renders_then, rule}
 use Rattle.laws.specs.MarkLaws.{frozen_none}

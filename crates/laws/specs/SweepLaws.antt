@@ -5,7 +5,6 @@ use Rattle.std.proofs.Math.Logic.{inl, inr}
 use Prim.Native.Nat.{ℕ, zero, suc, ◌+◌, ◌*◌, ◌<◌}
 use Rattle.std.proofs.Common.{mul-le-mul_right, arith, ltb→lt, lt→ltb}
 use Rattle.std.proofs.Math.Dec.{T_not, not_T}
-use Rattle.linear.specs.Cases.{order}
 use Rattle.linear.specs.TestLaws.{T-dec, and_both, and_parts, any_at, any_from, count_at, count_step, or_cases, or_left, or_right}
 use Rattle.linear.specs.Tests.{any_to, count_to}
 use Rattle.linear.specs.TupleLaws.{differ, total_less, total_same}

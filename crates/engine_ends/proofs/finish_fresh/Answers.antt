@@ -10,7 +10,8 @@ pub most_value_small-requires : goal.most_value_small-requires
 most_value_small-requires c = c.requires.0.valued.long
 
 pub returns-then-not-most_value_small : goal.returns-then-not-most_value_small
-returns-then-not-most_value_small c = rw c.refused.ensures (fresh_large c.requires.0 c.requires.1 (sym c.most_value_small.ensures ∙ c.if-not-most_value_small.true))
+returns-then-not-most_value_small c =
+    rw c.refused.ensures (fresh_large c.requires.0 c.requires.1 (sym c.most_value_small.ensures ∙ c.if-not-most_value_small.true))
 
 pub count_not_below-count-requires : goal.count_not_below-count-requires
 count_not_below-count-requires c = c.requires.0.valued.long

@@ -59,7 +59,8 @@ overflow_add-x c =
 
 pub loop-h-preserved-then-low-n : goal.loop-h-preserved-then-low-n
 loop-h-preserved-then-low-n c =
-    let least = row_least c.requires c.args.d c.loop-h-test.true (sum (goal.at.loop-h-preserved-then-low-n c).After-fall-f) c.loop-h.invariant.2 c.fall-f.ensures (above (goal.at.loop-h-preserved-then-low-n c).After-fall-f)
+    let least = row_least c.requires c.args.d c.loop-h-test.true (sum (goal.at.loop-h-preserved-then-low-n c).After-fall-f) c.loop-h.invariant.2
+    c.fall-f.ensures (above (goal.at.loop-h-preserved-then-low-n c).After-fall-f)
     c.if-low-n.true in (
       omega (arith, c.loop-h-test.true),
       c.lesser-best.ensures ∙ best_lesser _ c.args.values.now c.args.degrees.now _ _ _ c.loop-h.invariant.1 _
@@ -72,7 +73,8 @@ pub loop-h-preserved : goal.loop-h-preserved
 loop-h-preserved c = (
   omega (arith, c.loop-h-test.true),
   best_same _ c.args.values.now c.args.degrees.now _ _ _ c.loop-h.invariant.1
-      (row_least_none c.requires c.args.d c.loop-h-test.true (sum (goal.at.loop-h-preserved c).After-fall-f) c.loop-h.invariant.2 c.fall-f.ensures c.if-low-n.false),
+      (row_least_none c.requires c.args.d c.loop-h-test.true (sum (goal.at.loop-h-preserved c).After-fall-f) c.loop-h.invariant.2 c.fall-f.ensures
+      c.if-low-n.false),
   falling (goal.at.loop-h-preserved c).After-fall-f,
   c.fall-f.ensures.lowest,
 )

@@ -42,15 +42,20 @@ loop-upper-preserved-then-not-is_above c =
 pub returns-then-k-n : goal.returns-then-k-n
 returns-then-k-n c =
     found_next c.loop-upper-test.true
-    (row_found c.loop-upper.invariant.1 c.requires.0 c.loop-upper-test.true (above (goal.at.returns-then-k-n c).After-next_below-k) (sum (goal.at.returns-then-k-n c).After-next_below-k) (fallen (goal.at.returns-then-k-n c).After-next_below-k) c.back-first.ensures (scanned (goal.at.returns-then-k-n c).After-next_below-k)
+    (row_found c.loop-upper.invariant.1 c.requires.0 c.loop-upper-test.true (above (goal.at.returns-then-k-n c).After-next_below-k)
+    (sum (goal.at.returns-then-k-n c).After-next_below-k) (fallen (goal.at.returns-then-k-n c).After-next_below-k) c.back-first.ensures
+    (scanned (goal.at.returns-then-k-n c).After-next_below-k)
     (omega (arith, c.if-k-n.true, c.loop-upper-test.true)) c.loop-upper.invariant.2)
 
 pub loop-upper-preserved : goal.loop-upper-preserved
 loop-upper-preserved c = (
   fallen (goal.at.loop-upper-preserved c).After-next_below-k,
-  row_passed c.loop-upper.invariant.1 c.requires.0 c.loop-upper-test.true (above (goal.at.loop-upper-preserved c).After-next_below-k) (sum (goal.at.loop-upper-preserved c).After-next_below-k) (fallen (goal.at.loop-upper-preserved c).After-next_below-k) c.back-first.ensures (scanned (goal.at.loop-upper-preserved c).After-next_below-k)
+  row_passed c.loop-upper.invariant.1 c.requires.0 c.loop-upper-test.true (above (goal.at.loop-upper-preserved c).After-next_below-k)
+      (sum (goal.at.loop-upper-preserved c).After-next_below-k) (fallen (goal.at.loop-upper-preserved c).After-next_below-k) c.back-first.ensures
+      (scanned (goal.at.loop-upper-preserved c).After-next_below-k)
       (omega (arith, c.if-k-n.false)),
-  falling_next c.requires.0 (falling_back c.loop-upper.invariant.2 c.back-first.ensures (omega (arith, sum (goal.at.loop-upper-preserved c).After-next_below-k))),
+  falling_next c.requires.0
+      (falling_back c.loop-upper.invariant.2 c.back-first.ensures (omega (arith, sum (goal.at.loop-upper-preserved c).After-next_below-k))),
 )
 
 pub returns-after-loop-upper : goal.returns-after-loop-upper

@@ -7,4 +7,7 @@ use Rattle.report.proofs.counts.Goals as goal
 pub returns : goal.returns
 unfolding paper.counts
 returns c =
-    record { put = put_then c.counted-second.ensures.put (put_then c.counted-third.ensures.put (put_then c.counted-fourth.ensures.put c.counted.ensures.put)); upper_bound = search rules }
+    record {
+      put = put_then c.counted-second.ensures.put (put_then c.counted-third.ensures.put (put_then c.counted-fourth.ensures.put c.counted.ensures.put));
+      upper_bound = search rules;
+    }

@@ -28,7 +28,8 @@ combined-requires c = reads_small c.requires.0 c.requires.1 c.ranges.u c.ranges.
 
 pub returns-then-not-will_be_small : goal.returns-then-not-will_be_small
 unfolding combines_small
-returns-then-not-will_be_small c = sym (all_fails _ _ _ c.loop-j-test.true (sym (tested (goal.at.returns-then-not-will_be_small c).After-will_be_small) ∙ c.if-not-will_be_small.true))
+returns-then-not-will_be_small c =
+    sym (all_fails _ _ _ c.loop-j-test.true (sym (tested (goal.at.returns-then-not-will_be_small c).After-will_be_small) ∙ c.if-not-will_be_small.true))
 
 pub loop-j-preserved : goal.loop-j-preserved
 loop-j-preserved c = let e = tested (goal.at.loop-j-preserved c).After-will_be_small in

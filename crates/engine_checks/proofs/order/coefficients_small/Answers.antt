@@ -22,7 +22,8 @@ loop-i-init c = (search rules, all_none _)
 
 pub returns-then-not-is_small : goal.returns-then-not-is_small
 unfolding coefficients_small
-returns-then-not-is_small c = sym (all_fails _ _ _ c.loop-i-test.true (sym (tested (goal.at.returns-then-not-is_small c).After-is_small) ∙ c.if-not-is_small.true))
+returns-then-not-is_small c =
+    sym (all_fails _ _ _ c.loop-i-test.true (sym (tested (goal.at.returns-then-not-is_small c).After-is_small) ∙ c.if-not-is_small.true))
 
 pub loop-i-preserved : goal.loop-i-preserved
 loop-i-preserved c = (

@@ -15,7 +15,8 @@ degrees_of table q i = total (at table q i) q
 
 abbrev pub invariant-loop-i : goal.invariant-loop-i
 invariant-loop-i l = (l.i ≤ l.n) × (l.before ≡ degree_before (degrees_of l.table l.q) l.i)
-    × (all_to l.i (λ k. ltb 0 (degrees_of l.table l.q k) && (leb (degrees_of l.table l.q (k - 1)) (degrees_of l.table l.q k) && leb (degrees_of l.table l.q k) l.d)) ≡ true)
+    × (all_to l.i (λ k. ltb 0 (degrees_of l.table l.q k)
+    && (leb (degrees_of l.table l.q (k - 1)) (degrees_of l.table l.q k) && leb (degrees_of l.table l.q k) l.d)) ≡ true)
 
 abbrev pub decreases-loop-i : goal.decreases-loop-i
 decreases-loop-i l = l.n - l.i

@@ -34,7 +34,11 @@ returns-then-q-eq32 c =
 pub overflow_mul-p : goal.overflow_mul-p
 overflow_mul-p c =
     let s = c.args in
-    omega (arith, mul-le-mul {n₁ = s.p} {m₁ = s.q} {n₂ = 32} {m₂ = 32} (size (goal.at.overflow_mul-p c).In-Pass).equations (size (goal.at.overflow_mul-p c).In-Pass).unknowns)
+    omega (
+      arith,
+      mul-le-mul {n₁ = s.p} {m₁ = s.q} {n₂ = 32} {m₂ = 32} (size (goal.at.overflow_mul-p c).In-Pass).equations
+          (size (goal.at.overflow_mul-p c).In-Pass).unknowns,
+    )
 
 pub returns-then-coefs-p : goal.returns-then-coefs-p
 unfolding shape_checks
@@ -57,7 +61,12 @@ overflow_add-q c = omega (arith, (size (goal.at.overflow_add-q c).In-Pass).unkno
 pub overflow_mul-p-in-Pass : goal.overflow_mul-p-in-Pass
 overflow_mul-p-in-Pass c =
     let s = c.args in
-    omega (arith, mul-le-mul {n₁ = s.p} {m₁ = s.q} {n₂ = 32} {m₂ = 32} (size (goal.at.overflow_mul-p-in-Pass c).In-Pass).equations (size (goal.at.overflow_mul-p-in-Pass c).In-Pass).unknowns, (size (goal.at.overflow_mul-p-in-Pass c).In-Pass).equations)
+    omega (
+      arith,
+      mul-le-mul {n₁ = s.p} {m₁ = s.q} {n₂ = 32} {m₂ = 32} (size (goal.at.overflow_mul-p-in-Pass c).In-Pass).equations
+          (size (goal.at.overflow_mul-p-in-Pass c).In-Pass).unknowns,
+      (size (goal.at.overflow_mul-p-in-Pass c).In-Pass).equations,
+    )
 
 pub returns-then-equations-p : goal.returns-then-equations-p
 unfolding shape_checks

@@ -51,12 +51,17 @@ pub returns-then-not-will_be_small : goal.returns-then-not-will_be_small
 unfolding side_checks
 returns-then-not-will_be_small c =
     sym (refuse_at 35 _ _ _ c.loop-i-test.true c.loop-i.invariant.1
-    (over_limit (size (goal.at.returns-then-not-will_be_small c).After-will_be_small) (sym (tested (goal.at.returns-then-not-will_be_small c).After-will_be_small) ∙ c.if-not-will_be_small.true)))
+    (over_limit (size (goal.at.returns-then-not-will_be_small c).After-will_be_small)
+    (sym (tested (goal.at.returns-then-not-will_be_small c).After-will_be_small) ∙ c.if-not-will_be_small.true)))
 
 pub loop-i-preserved : goal.loop-i-preserved
 unfolding side_checks
-loop-i-preserved c =
-    (search rules, refuse_next 35 _ _ c.loop-i.invariant.1 (within_limit (size (goal.at.loop-i-preserved c).After-will_be_small) (sym (tested (goal.at.loop-i-preserved c).After-will_be_small) ∙ c.if-not-will_be_small.false)))
+loop-i-preserved c = (
+  search rules,
+  refuse_next 35 _ _ c.loop-i.invariant.1
+      (within_limit (size (goal.at.loop-i-preserved c).After-will_be_small)
+      (sym (tested (goal.at.loop-i-preserved c).After-will_be_small) ∙ c.if-not-will_be_small.false)),
+)
 
 pub returns : goal.returns
 returns c = sym (rw (le_antisymm c.loop-i.invariant.0 c.loop-i-test.false) at c.loop-i.invariant.1)

@@ -25,7 +25,8 @@ pub check_standing-requires : goal.check_standing-requires
 check_standing-requires c = c.requires
 
 pub is_left-requires : goal.is_left-requires
-is_left-requires c = (stands c.args.p c.args.q c.args.most c.args.room (work_of c.args.equations.now c.args.basis.now c.args.table.now c.args.r) (sym c.check_standing.ensures ∙ ap check_of
+is_left-requires c = (stands c.args.p c.args.q c.args.most c.args.room (work_of c.args.equations.now c.args.basis.now c.args.table.now c.args.r)
+    (sym c.check_standing.ensures ∙ ap check_of
     c.in-Pass.is)).size.equations
 
 pub returns-then-not-is_left : goal.returns-then-not-is_left

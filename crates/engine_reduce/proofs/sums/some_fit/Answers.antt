@@ -18,7 +18,8 @@ fits-requires c =
 pub loop-j-preserved : goal.loop-j-preserved
 loop-j-preserved c = (
   search rules,
-  if_more c.loop-j.j c.loop-j.invariant.1 c.fits.ensures (elim c.if-fits.branch [ then-fits h ↦ inl (h.if-fits.true, h.any-is) | else-fits h ↦ inr (h.if-fits.false, h.any-is) ]),
+  if_more c.loop-j.j c.loop-j.invariant.1 c.fits.ensures
+      (elim c.if-fits.branch [ then-fits h ↦ inl (h.if-fits.true, h.any-is) | else-fits h ↦ inr (h.if-fits.false, h.any-is) ]),
 )
 
 pub returns : goal.returns

@@ -8,7 +8,8 @@ use Rattle.engine_rows.specs.Packing.{Packed}
 use Rattle.engine_rows.proofs.packing.drop_fresh.Given as goal
 
 abbrev pub invariant-loop-i : goal.invariant-loop-i
-invariant-loop-i l = (l.i ≤ l.m) × (length l.basis ≡ length l.initial.basis) × Packed l.q l.i (lacks l.f (at l.initial.basis l.q)) (at l.initial.basis l.q) l.initial.basis l.basis l.kept
+invariant-loop-i l = (l.i ≤ l.m) × (length l.basis ≡ length l.initial.basis)
+    × Packed l.q l.i (lacks l.f (at l.initial.basis l.q)) (at l.initial.basis l.q) l.initial.basis l.basis l.kept
 
 abbrev pub decreases-loop-i : goal.decreases-loop-i
 decreases-loop-i l = l.m - l.i

@@ -9,7 +9,8 @@ use Rattle.engine_rows.proofs.packing.keep_filled.Given as goal
 
 abbrev pub invariant-loop-i : goal.invariant-loop-i
 invariant-loop-i l =
-    (l.i ≤ l.n) × (length l.basis ≡ length l.initial.basis) × Packed l.q l.i (not_below_value l.values) (filled_row l.f l.values (at l.table l.q)) l.initial.basis l.basis l.kept
+    (l.i ≤ l.n) × (length l.basis ≡ length l.initial.basis)
+    × Packed l.q l.i (not_below_value l.values) (filled_row l.f l.values (at l.table l.q)) l.initial.basis l.basis l.kept
 
 abbrev pub decreases-loop-i : goal.decreases-loop-i
 decreases-loop-i l = l.n - l.i

@@ -8,7 +8,8 @@ use Rattle.engine_rows.specs.Packing.{Packed}
 use Rattle.engine_rows.proofs.packing.keep_zeros.Given as goal
 
 abbrev pub invariant-loop-i : goal.invariant-loop-i
-invariant-loop-i l = (l.i ≤ l.n) × (length l.basis ≡ length l.initial.basis) × Packed l.q l.i (zero_value l.values) (at l.table l.q) l.initial.basis l.basis l.kept
+invariant-loop-i l = (l.i ≤ l.n) × (length l.basis ≡ length l.initial.basis)
+    × Packed l.q l.i (zero_value l.values) (at l.table l.q) l.initial.basis l.basis l.kept
 
 abbrev pub decreases-loop-i : goal.decreases-loop-i
 decreases-loop-i l = l.n - l.i

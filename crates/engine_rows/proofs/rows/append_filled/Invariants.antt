@@ -8,7 +8,8 @@ use Rattle.engine_spec.specs.Fresh.{put_at}
 use Rattle.engine_rows.proofs.rows.append_filled.Given as goal
 
 abbrev pub invariant-loop-j : goal.invariant-loop-j
-invariant-loop-j l = (l.j ≤ l.q) × (length l.table ≡ length l.initial.table) × (l.table ≡ write_to l.j l.initial.table l.to (put_at l.f l.x (row_at l.source l.from)))
+invariant-loop-j l = (l.j ≤ l.q) × (length l.table ≡ length l.initial.table)
+    × (l.table ≡ write_to l.j l.initial.table l.to (put_at l.f l.x (row_at l.source l.from)))
 
 abbrev pub decreases-loop-j : goal.decreases-loop-j
 decreases-loop-j l = l.q - l.j

@@ -5,9 +5,11 @@ use Rattle.engine_stage.proofs.stages.run.Given as goal
 
 abbrev pub invariant-loop-left : goal.invariant-loop-left
 invariant-loop-left l =
-    Going l.f (lent_of l.coefs l.basis l.sizes) l.budget l.initial.table (sides_of l.initial.values l.initial.words l.initial.degrees l.initial.marks l.initial.mothers) l.initial.at l.left l.table
+    Going l.f (lent_of l.coefs l.basis l.sizes) l.budget l.initial.table
+    (sides_of l.initial.values l.initial.words l.initial.degrees l.initial.marks l.initial.mothers) l.initial.at l.left l.table
     (sides_of l.values l.words l.degrees l.marks l.mothers) l.at
-    × Long l.initial.table (sides_of l.initial.values l.initial.words l.initial.degrees l.initial.marks l.initial.mothers) l.table (sides_of l.values l.words l.degrees l.marks l.mothers)
+    × Long l.initial.table (sides_of l.initial.values l.initial.words l.initial.degrees l.initial.marks l.initial.mothers) l.table
+    (sides_of l.values l.words l.degrees l.marks l.mothers)
 
 abbrev pub decreases-loop-left : goal.decreases-loop-left
 decreases-loop-left l = l.left

@@ -38,7 +38,8 @@ next_degree-next-requires c =
 
 pub returns-then-next-eq0 : goal.returns-then-next-eq0
 returns-then-next-eq0 c =
-    by_end c.requires c.if-s-eq-STEP_LIMIT.false (spent_by c.requires c.due-i.ensures c.if-i-m.false) c.next_pair-at.ensures c.if-at-n.false c.next_degree-next.ensures
+    by_end c.requires c.if-s-eq-STEP_LIMIT.false (spent_by c.requires c.due-i.ensures c.if-i-m.false) c.next_pair-at.ensures c.if-at-n.false
+    c.next_degree-next.ensures
     c.if-next-eq0.true
 
 pub overflow_add-result : goal.overflow_add-result

@@ -23,4 +23,7 @@ byte-requires c =
 pub returns : goal.returns
 unfolding paper.counted
 returns c =
-    record { put = put_then c.word-digits.ensures (put_then c.number-end.ensures c.byte.ensures); upper_bound = omega (arith, c.byte.ensures.place, c.number-end.ensures.place, c.word-digits.ensures.place, digits_64 c.args.n c.ranges.n.fits) }
+    record {
+      put = put_then c.word-digits.ensures (put_then c.number-end.ensures c.byte.ensures);
+      upper_bound = omega (arith, c.byte.ensures.place, c.number-end.ensures.place, c.word-digits.ensures.place, digits_64 c.args.n c.ranges.n.fits);
+    }

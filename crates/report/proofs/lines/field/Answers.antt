@@ -15,4 +15,7 @@ byte-requires c =
 pub returns : goal.returns
 unfolding field_text
 returns c =
-    record { put = put_then c.number-end.ensures (rw c.separator_after.ensures at c.byte.ensures); upper_bound = omega (arith, c.byte.ensures.place, c.number-end.ensures.place, digits_32 c.args.n c.ranges.n.fits) }
+    record {
+      put = put_then c.number-end.ensures (rw c.separator_after.ensures at c.byte.ensures);
+      upper_bound = omega (arith, c.byte.ensures.place, c.number-end.ensures.place, digits_32 c.args.n c.ranges.n.fits);
+    }

@@ -9,7 +9,8 @@ use Rattle.report.proofs.lines.row.Given as goal
 
 abbrev pub invariant-loop-i : goal.invariant-loop-i
 invariant-loop-i l =
-    (l.i ≤ length l.numbers) × (l.next ≤ l.at + 11 * l.i) × Rest l.initial.out l.at (line (map pos l.numbers)) l.out l.next (line (map pos (drop l.i l.numbers)))
+    (l.i ≤ length l.numbers) × (l.next ≤ l.at + 11 * l.i)
+    × Rest l.initial.out l.at (line (map pos l.numbers)) l.out l.next (line (map pos (drop l.i l.numbers)))
 
 abbrev pub decreases-loop-i : goal.decreases-loop-i
 decreases-loop-i l = length l.numbers - l.i

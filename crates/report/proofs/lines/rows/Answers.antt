@@ -48,4 +48,8 @@ loop-k-preserved c =
 pub returns : goal.returns
 returns c =
     let l = c.loop-k in
-    let a = c.args in record { put = rest_ends (rw (rows_done a.list.now a.q a.found l.k c.loop-k-test.false) at l.invariant.2); upper_bound = rw (← le_antisymm l.invariant.0 c.loop-k-test.false) l.invariant.1 }
+    let a = c.args in
+    record {
+      put = rest_ends (rw (rows_done a.list.now a.q a.found l.k c.loop-k-test.false) at l.invariant.2);
+      upper_bound = rw (← le_antisymm l.invariant.0 c.loop-k-test.false) l.invariant.1;
+    }

@@ -4,13 +4,12 @@ use mathlib.Core.Path.{◌≡◌, refl, sym, ◌∙◌, ap, subst}
 use Prim.Native.Nat.{ℕ, ◌-◌}
 use native.Mathlib.Omega.{arith}
 use lib.ListN.{length}
-use borrow.Author.Rules.{rules}
 use Rattle.definitions.specs.Answers as paper
 use Rattle.definitions.specs.Calls.{machine_from, machine_of}
 use Rattle.definitions.specs.Input.{Input, alone, input_with, limit_of}
 use Rattle.definitions.specs.Machine.{Outcome, walk}
 use Rattle.definitions.specs.System.{plain}
-use Rattle.definitions.specs.Tables.{State, lowered}
+use Rattle.definitions.specs.Tables.{State}
 use Rattle.laws.specs.LowerLaws.{ValidFrom, plain_valid}
 use Rattle.calls.specs.Paper.{answer_of, kind_of, state_with, system_with}
 use Rattle.walk.specs.Lower.{change_made, change_valid, changed_walk, ended_by, first_row, plainly, steps_more}
