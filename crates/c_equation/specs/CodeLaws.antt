@@ -103,7 +103,8 @@ module _ (q : ℕ) (row : List ℤ) (right : ℤ) (out : List ℕ) where
 
   checks_fit : (n : ℕ) (values : List ℕ) → write_checks q row right (length out) ≡ refuse n values → refusal_code n values < 2 ^ 64
   checks_fit n values e =
-      fitting_code n values (due_fits (write_rules q row right (length out)) n values writer_small ((write_renders q row right (length out)).refuses n values e))
+      fitting_code n values (due_fits (write_rules q row right (length out)) n values writer_small
+      ((write_renders q row right (length out)).refuses n values e))
 
   -- a row that is written is short
   passed_short : write_checks q row right (length out) ≡ go → length (written row right) ≤ 256

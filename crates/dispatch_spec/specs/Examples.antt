@@ -1,6 +1,7 @@
 -- The dispatcher by computation, on the runs 2 −3 (6 steps) and 1 1 −1 (5 steps) with turns of 3 steps. Each has its parts of two tables that hold
 -- old content before, between and after them. Assumes nothing.
-use Rattle.std.specs.Prelude.{ℕ, zero, suc, ◌+◌, ◌*◌, ◌≡◌, refl, Bool, true, false, ◌&&◌, ◌||◌, List, ◌∷◌, [], eqb, ℤ, pos, negsuc, length, get_or, take, replicate}
+use Rattle.std.specs.Prelude.{ℕ, zero, suc, ◌+◌, ◌*◌, ◌≡◌, refl, Bool, true, false, ◌&&◌, ◌||◌, List, ◌∷◌, [], eqb, ℤ, pos, negsuc, length, get_or, take}
+use Rattle.std.specs.Prelude.{replicate}
 use Rattle.std.proofs.Math.Option.{none, some}
 use Rattle.linear.specs.Sums.{sum_to}
 use Rattle.linear.specs.Tests.{all_to, any_to, count_to}
@@ -97,8 +98,11 @@ calls_hold : (called 0 (schedule (part 15 6) 7 3) ≡ comes (paused ∷ paused �
     × (called 9 (schedule (part 15 6) 7 0) ≡ refuses 27)
     × (called 9 (schedule (part 13 8) 7 3) ≡ refuses 28)
     × (called 9 (schedule (part 15 8) 7 3) ≡ refuses 28)
-unfolding total part share pair schedule starts nines summary called comes refuses part_of with_part overlap apart first_to total_to own next_after leave_turn serve
-    after_turns opened answer_for steps_between dispatch_checks dispatch sum_to all_to any_to count_to unit inner value refuse_with ◌then◌ refuse_first solves is_at_or_below
-    covered bit frozen write_to write_row units_to makes marks_to write_children listed grown step row_fits in_order check7 resume_checks too_large search_checks checked
+unfolding total part share pair schedule starts nines summary called comes refuses part_of with_part overlap apart first_to total_to own next_after leave_turn
+    serve
+    after_turns opened answer_for steps_between dispatch_checks dispatch sum_to all_to any_to count_to unit inner value refuse_with ◌then◌ refuse_first solves
+    is_at_or_below
+    covered bit frozen write_to write_row units_to makes marks_to write_children listed grown step row_fits in_order check7 resume_checks too_large
+    search_checks checked
     unless_done walk call
 calls_hold = (refl, refl, refl, refl, refl, refl, refl, refl, refl, refl, refl)

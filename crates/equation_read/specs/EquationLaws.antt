@@ -66,7 +66,8 @@ module _ (q : ℕ) (ts row : List ℤ) where
   unfolding answered totals_outcome checked ◌then◌ refuse_with
   right_out h e = rw (h, negated_range (get_or ts 0 (pos 0)), e)
 
-  pub all_in : refuse_first 7 q out_at ≡ go → out_of_range (get_or ts 0 (pos 0)) ≡ false → {after : List ℤ} {right : ℤ} → after ≡ list q 1 (λ k. get_or ts k (pos 0))
+  pub all_in : refuse_first 7 q out_at ≡ go → out_of_range (get_or ts 0 (pos 0)) ≡ false → {after : List ℤ} {right : ℤ}
+      → after ≡ list q 1 (λ k. get_or ts k (pos 0))
       → right ≡ neg_ℤ (get_or ts 0 (pos 0))
       → read right after ≡ answered (totals_outcome q ts) row
   unfolding answered totals_outcome checked ◌then◌ refuse_with

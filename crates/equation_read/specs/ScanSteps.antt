@@ -10,8 +10,10 @@ use borrow.Author.Tests.{ne_eqb, le-leb, lt-leb}
 use Rattle.texts.specs.Reading.{may_follow, is_digit, digit}
 use Rattle.texts.specs.NumberLaws.{byte_at, digit_range}
 use Rattle.equation_spec.specs.Reader.{most_digits}
-use Rattle.equation_spec.specs.Scan.{Phase, nothing, sum_due, term_due, factor_due, index_due, in_number, after_number, in_index, after_bracket, after_term, Step, to}
-use Rattle.equation_spec.specs.Scan.{fault, onward, factor_begins, term_begins, sum_begins, after_digits, after_factor, indexed, step, term_ends, final, place_from}
+use Rattle.equation_spec.specs.Scan.{Phase, nothing, sum_due, term_due, factor_due, index_due, in_number, after_number, in_index, after_bracket, after_term}
+use Rattle.equation_spec.specs.Scan.{Step, to}
+use Rattle.equation_spec.specs.Scan.{fault, onward, factor_begins, term_begins, sum_begins, after_digits, after_factor, indexed, step, term_ends, final}
+use Rattle.equation_spec.specs.Scan.{place_from}
 
 module _ (b d : ℕ) (r : Bool) where
   pub close_none : b ≡ 41 → d ≡ 0 → fault ≡ onward b d r

@@ -10,7 +10,8 @@ use Rattle.texts.specs.Reading.{Parse, parsed, malformed, and_then, is_digit}
 use Rattle.texts.specs.NumberLaws.{byte_at}
 use Rattle.equation_spec.specs.Grammar.{Sign, plus, minus, Lead, bare, led, Sum, one, more, Term, number, plain, times, Factor, bracket}
 use Rattle.equation_spec.specs.Meaning.{signed, led_by}
-use Rattle.equation_spec.specs.Reader.{skip, on_byte, on_sign, read_numeral, read_index, read_factor, after_numeral, read_term, more_terms, first_term, read_sum}
+use Rattle.equation_spec.specs.Reader.{skip, on_byte, on_sign, read_numeral, read_index, read_factor, after_numeral, read_term, more_terms, first_term}
+use Rattle.equation_spec.specs.Reader.{read_sum}
 use Rattle.equation_spec.specs.Reader.{closed, read_bracket}
 use Rattle.equation_read.specs.Places.{lead_of, after_lead, is_led, is_minus, starts}
 use Rattle.equation_read.specs.Totals.{add_at, signed_by, bounded, add_sum, add_term, add_factor, exceeds_sum, exceeds_term, exceeds_factor, Collected}
@@ -159,12 +160,14 @@ module _ (q d : ℕ) (z : ℤ) (ts : List ℤ) (t : List ℕ) (i j : ℕ) (some 
         let (e, a, b, c) = sum_parsed (bounded z) ts (read_sum (read_bracket q (d - 1)) q (drop j t)) h in
         rw (bracket_opened, a, ← v, other_byte 41 (drop k t) (parsed e) malformed x)
 
-    closed_with : (e : Sum) → read_sum (read_bracket q (d - 1)) q (drop j t) ≡ parsed e (drop n t) → us ≡ add_sum e (bounded z) ts → st ≡ exceeds_sum e (bounded z)
+    closed_with : (e : Sum) → read_sum (read_bracket q (d - 1)) q (drop j t) ≡ parsed e (drop n t) → us ≡ add_sum e (bounded z) ts
+        → st ≡ exceeds_sum e (bounded z)
         → starts 41 (drop k t) ≡ true → collected us (st || out_of_range z) (drop (k + 1) t) ≡ bracket_collected z ts (read_bracket q d (drop i t))
     unfolding and_then closed on_byte bracket_collected add_factor exceeds_factor
     closed_with e a b c x = rw (bracket_opened, a, ← v, starts_byte t k 41 x, b, c)
 
-    pub bracket_closed : starts 41 (drop k t) ≡ true → collected us (st || out_of_range z) (drop (k + 1) t) ≡ bracket_collected z ts (read_bracket q d (drop i t))
+    pub bracket_closed : starts 41 (drop k t) ≡ true
+        → collected us (st || out_of_range z) (drop (k + 1) t) ≡ bracket_collected z ts (read_bracket q d (drop i t))
     bracket_closed x =
         let (e, a, b, c) = sum_parsed (bounded z) ts (read_sum (read_bracket q (d - 1)) q (drop j t)) h in
         closed_with e a b c x
@@ -239,7 +242,8 @@ pub record Due (q d : ℕ) (t : List ℕ) (i : ℕ) (z : ℤ) (ts₀ ts : List �
   pub sum : Term → Sum
   pub k : ℕ
   pub enough : length t - next ≤ k
-  pub comes : and_then (read_term (read_bracket q d) q (drop next t)) (λ u. more_terms (read_bracket q d) q k (sum u)) ≡ read_sum (read_bracket q d) q (drop i t)
+  pub comes : and_then (read_term (read_bracket q d) q (drop next t)) (λ u. more_terms (read_bracket q d) q k (sum u))
+      ≡ read_sum (read_bracket q d) q (drop i t)
   pub adds : (u : Term) → add_sum (sum u) z ts₀ ≡ add_term u (signed_by neg z) ts
   pub exceed : (u : Term) → exceeds_sum (sum u) z ≡ (exceeds || exceeds_term u (signed_by neg z))
   pub onward : length t - next ≤ length t - i
@@ -294,7 +298,8 @@ module _ (q d : ℕ) (t : List ℕ) (i : ℕ) (z : ℤ) (ts : List ℤ) where
       unfolding sum_collected
       over_with e x y w l = rw (← x, more_none (read_bracket q d) q a.k e (drop j t) (rw s at l), y, w)
 
-      pub due_over : is_led (lead_of (drop k t)) ≡ false → collected vs (exceeds || more') (drop j t) ≡ sum_collected z ts (read_sum (read_bracket q d) q (drop i t))
+      pub due_over : is_led (lead_of (drop k t)) ≡ false
+          → collected vs (exceeds || more') (drop j t) ≡ sum_collected z ts (read_sum (read_bracket q d) q (drop i t))
       due_over l = let (e, x, y, w) = with_term in over_with e x y w l
 
       next_with : (e : Sum) (g : Sign) (k' m : ℕ) → a.k ≡ suc k' → lead_of (drop k t) ≡ led g

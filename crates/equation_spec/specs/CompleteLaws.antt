@@ -281,7 +281,8 @@ module _ (q : ℕ) (few : q ≤ 16) where
   -- ---- sums
 
   -- a term begins with no sign
-  unsigned : {A : Type 0} (u : Term) (ps : List Part) (t : List ℕ) (f : Sign → List ℕ → A) (a : A) → Spells q (term_parts u ps) t → skip t ≡ t → on_sign t f a ≡ a
+  unsigned : {A : Type 0} (u : Term) (ps : List Part) (t : List ℕ) (f : Sign → List ℕ → A) (a : A) → Spells q (term_parts u ps) t → skip t ≡ t
+      → on_sign t f a ≡ a
   unfolding term_parts factor_parts
   unsigned (number n) ps t f a s b =
       ap (λ x. on_sign x f a) (sym b ∙ (first s).text) ∙ sign_other (numeral n) _ f a (λ g e. absurd (let z : ◌≡◌ {A = ℕ} 0 1 = cc in omega arith))

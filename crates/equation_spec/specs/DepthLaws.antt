@@ -11,7 +11,8 @@ use Rattle.texts.specs.ParseLaws.{not_parsed, same, and_then_lem}
 use Rattle.equation_spec.specs.Grammar.{Sign, Part, Lead, bare, led, Sum, one, more, plain, Equation, equals, sum_parts, parts, Reads, letter, open_byte}
 use Rattle.equation_spec.specs.Grammar.{star_byte, equals_byte, Spells}
 use Rattle.equation_spec.specs.Meaning.{sum_depth}
-use Rattle.equation_spec.specs.Reader.{skip, on_byte, on_sign, read_numeral, read_factor, after_numeral, read_term, more_terms, first_term, read_sum, read_bracket}
+use Rattle.equation_spec.specs.Reader.{skip, on_byte, on_sign, read_numeral, read_factor, after_numeral, read_term, more_terms, first_term, read_sum}
+use Rattle.equation_spec.specs.Reader.{read_bracket}
 use Rattle.equation_spec.specs.PartLaws.{skip_skip, first, skipped}
 use Rattle.equation_spec.specs.SoundLaws.{sum_read, bracket_read}
 use Rattle.equation_spec.specs.CompleteLaws.{may_end_term, may_end_sum, sum_back, more_end}

@@ -17,8 +17,10 @@ abbrev Case : Type 0
 Case = ℕ × String × Outcome
 
 as_read : List Case → List Outcome
-unfolding skip on_byte on_sign and_then more_digits read_natural read_index read_factor after_numeral read_term more_terms first_term read_sum closed read_bracket right_of
-    read_equation onward factor_begins term_begins sum_begins after_digits after_factor step place_from place ◌then◌ refuse_with refuse_first coefficient right_side of_sum
+unfolding skip on_byte on_sign and_then more_digits read_natural read_index read_factor after_numeral read_term more_terms first_term read_sum closed
+    read_bracket right_of
+    read_equation onward factor_begins term_begins sum_begins after_digits after_factor step place_from place ◌then◌ refuse_with refuse_first coefficient
+    right_side of_sum
     sum_depth sum_exceeds checked list limits tree_outcome outcome
 as_read cases = map (λ (c : Case). outcome c.0 c.0 (bytes c.1)) cases
 

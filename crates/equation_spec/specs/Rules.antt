@@ -100,7 +100,8 @@ module _ (q : ℕ) (t : List ℕ) (few : q ≤ 16) (e : Equation) (reads : Reads
   limits_render : Renders (limits q e) last_rules
   unfolding limits
   limits_render =
-      renders_then (decides_if _ 17 _ (λ h. (e, reads, ltb→lt most_depth (depth e) h)) (λ x. lt→ltb most_depth (depth e) (only {P = λ f. most_depth < depth f} x)))
+      renders_then (decides_if _ 17 _ (λ h. (e, reads, ltb→lt most_depth (depth e) h))
+      (λ x. lt→ltb most_depth (depth e) (only {P = λ f. most_depth < depth f} x)))
       (renders_then (decides_if _ 18 _ (λ h. (e, reads, h)) (λ x. only {P = Exceeds} x))
       (renders_then decides_range
       (renders_last (decides_if _ 15 _ (λ h. (e, reads, ltb→lt coef_limit (nat_abs (right_side e)) h))

@@ -247,7 +247,8 @@ pub record EquationRead (q d : ℕ) (e : Equation) (t : List ℕ) : Type 0 where
   pub right_depth : sum_depth e.right ≤ d
   pub text : Spells q (parts e) t
 
-right_read : (q d : ℕ) (e : Sum) {t : List ℕ} (s : List ℕ) {f : Equation} {r : List ℕ} → SumRead q d e t s → right_of q d e s ≡ parsed f r → EquationRead q d f t
+right_read : (q d : ℕ) (e : Sum) {t : List ℕ} (s : List ℕ) {f : Equation} {r : List ℕ} → SumRead q d e t s → right_of q d e s ≡ parsed f r
+    → EquationRead q d f t
 unfolding right_of parts
 right_read q d e s i h =
     on_byte_lem equals_byte (skip s) _ _ h

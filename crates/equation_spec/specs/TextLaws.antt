@@ -35,7 +35,8 @@ module _ {A P : Type 0} {z : A} where
   on_byte_lem b [] f a e g h = h e
   on_byte_lem b (c ∷ t) f a e g h = cond_cases (eqb c b) e (λ d i. g t (ap (λ n. n ∷ t) (eqb-true c b d)) i) (λ d i. h i)
 
-  pub on_sign_lem : (t : List ℕ) (f : Sign → List ℕ → A) (a : A) → on_sign t f a ≡ z → ((s : Sign) (r : List ℕ) → t ≡ sign_byte s ∷ r → f s r ≡ z → P) → (a ≡ z → P)
+  pub on_sign_lem : (t : List ℕ) (f : Sign → List ℕ → A) (a : A) → on_sign t f a ≡ z → ((s : Sign) (r : List ℕ) → t ≡ sign_byte s ∷ r → f s r ≡ z → P)
+      → (a ≡ z → P)
       → P
   unfolding on_sign
   on_sign_lem t f a e g h =

@@ -74,4 +74,5 @@ module _ (z : ℤ) (l : nat_abs z ≤ 10000) where
       go (negsuc n) f = omega arith
 
 pub term_short : (first : Bool) (z : ℤ) (k : ℕ) → nat_abs z ≤ 10000 → k ≤ 99 → length (term_text first z k) ≤ 12
-term_short first z k l m = rw (length-append (lead_text first (is_negative z))) (omega (arith, lead_short first (is_negative z), multiple_short (nat_abs z) k l m))
+term_short first z k l m = rw (length-append (lead_text first (is_negative z)))
+    (omega (arith, lead_short first (is_negative z), multiple_short (nat_abs z) k l m))

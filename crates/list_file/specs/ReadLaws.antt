@@ -1,5 +1,6 @@
 -- The reader's checks in stages, and what holds where they find nothing. Assumes nothing.
-use Rattle.std.specs.Prelude.{◌≡◌, ℕ, zero, suc, ◌+◌, ◌*◌, ◌/◌, ◌%◌, ◌<◌, ◌≤◌, Bool, true, false, not, List, [], ◌++◌, length, drop, ℤ, ◌==◌, ◌≢◌, nat_eq, nat_le, nat_lt, slice_set, refl}
+use Rattle.std.specs.Prelude.{◌≡◌, ℕ, zero, suc, ◌+◌, ◌*◌, ◌/◌, ◌%◌, ◌<◌, ◌≤◌, Bool, true, false, not, List, [], ◌++◌, length, drop, ℤ, ◌==◌, ◌≢◌, nat_eq}
+use Rattle.std.specs.Prelude.{nat_le, nat_lt, slice_set, refl}
 use Rattle.std.proofs.Math.Logic.{inl, inr}
 use Rattle.std.proofs.Common.{ap, mul-le-mul, add-one, arith, length-append, length-drop}
 use Rattle.std.proofs.Math.Nat.{mul-div_cancel}
@@ -96,7 +97,8 @@ stream_run file first i j m room b l =
     rw (e, d, r, s)
 
 -- one more entry is written
-pub filled_next : (f : ℕ → ℕ) (n : ℕ) (table list : List ℕ) (w : ℕ) → w ≡ f n → n < length list → Filled f n table list → Filled f (n + 1) table (slice_set list n w)
+pub filled_next : (f : ℕ → ℕ) (n : ℕ) (table list : List ℕ) (w : ℕ) → w ≡ f n → n < length list → Filled f n table list
+    → Filled f (n + 1) table (slice_set list n w)
 filled_next f n table list w e l h =
     let long : n < length table = omega (arith, simp (length-append, length-drop, listed_length) at (ap length h.same)) in
     record { same = rw (h.same, e) (listed_next 0 n f table long) }

@@ -48,7 +48,8 @@ write_rules l room =
 
 -- 7: the first coefficient out of range
 decides_coefs : (coefs : List ℤ)
-    → Decides (refuse_first 7 (length coefs) (λ i. out_of_range (get_or coefs i (pos 0)))) (placed 7 (length coefs) (λ i. coef_limit < nat_abs (get_or coefs i (pos 0))))
+    → Decides (refuse_first 7 (length coefs) (λ i. out_of_range (get_or coefs i (pos 0))))
+    (placed 7 (length coefs) (λ i. coef_limit < nat_abs (get_or coefs i (pos 0))))
 decides_coefs coefs =
     decides_first 7 (length coefs) (λ i. out_of_range (get_or coefs i (pos 0))) (λ i. coef_limit < nat_abs (get_or coefs i (pos 0)))
     (λ i l. ltb→lt coef_limit (nat_abs (get_or coefs i (pos 0))))
@@ -204,7 +205,8 @@ module _ (file : List ℕ) where
 pub record FileInOrder (file : List ℕ) : Type 0 where
   pub header : BlockInOrder file 0 (HeaderInRange file)
   pub exact : length file ≡ block_bytes * block_count (coef_words file + row_words file)
-  pub blocks : (b : ℕ) → b < later_blocks (coef_words file + row_words file) → BlockInOrder file (b + 1) (BlockInRange file (coef_words file) (row_words file) b)
+  pub blocks : (b : ℕ) → b < later_blocks (coef_words file + row_words file)
+      → BlockInOrder file (b + 1) (BlockInRange file (coef_words file) (row_words file) b)
 
 module _ (file : List ℕ) where
   abbrev later : ℕ
@@ -237,7 +239,8 @@ module _ (file : List ℕ) where
   header_in e = (block_in file 0 (header_in_range file) (HeaderInRange file) (header_from file) (header_to file) e).range
 
   -- the checks of a call: the file is in order, and both tables are long enough
-  pub read_in : (coef_room list_room : ℕ) → read_checks file coef_room list_room ≡ go → FileInOrder file × (coef_words file ≤ coef_room) × (row_words file ≤ list_room)
+  pub read_in : (coef_room list_room : ℕ) → read_checks file coef_room list_room ≡ go → FileInOrder file × (coef_words file ≤ coef_room)
+      × (row_words file ≤ list_room)
   unfolding read_checks
   read_in coef_room list_room e =
       let (f, e1) = then_go (file_checks file) _ e in
@@ -247,7 +250,8 @@ module _ (file : List ℕ) where
         at_most (row_words file) list_room ((decides_below 29 list_room (row_words file)).goes r),
       )
 
-  pub read_out : (coef_room list_room : ℕ) → FileInOrder file → coef_words file ≤ coef_room → row_words file ≤ list_room → read_checks file coef_room list_room ≡ go
+  pub read_out : (coef_room list_room : ℕ) → FileInOrder file → coef_words file ≤ coef_room → row_words file ≤ list_room
+      → read_checks file coef_room list_room ≡ go
   unfolding read_checks ◌then◌
   read_out coef_room list_room o l m =
       rw (

@@ -99,7 +99,8 @@ word_encoded (suc n) f k l h =
 
 -- the next four bytes
 pub take_word : (file : List ℕ) (n : ℕ) → 4 * n + 4 ≤ length file
-    → take (4 * n + 4) file ≡ take (4 * n) file ++ (get_or file (4 * n) 0 ∷ get_or file (4 * n + 1) 0 ∷ get_or file (4 * n + 2) 0 ∷ get_or file (4 * n + 3) 0 ∷ [])
+    → take (4 * n + 4) file
+    ≡ take (4 * n) file ++ (get_or file (4 * n) 0 ∷ get_or file (4 * n + 1) 0 ∷ get_or file (4 * n + 2) 0 ∷ get_or file (4 * n + 3) 0 ∷ [])
 take_word file n l =
     let s1 : 4 * n + 1 ≡ suc (4 * n) = omega arith in
     let s2 : 4 * n + 2 ≡ suc (suc (4 * n)) = omega arith in

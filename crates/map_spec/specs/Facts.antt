@@ -15,7 +15,8 @@ abbrev Case : Type 0
 Case = String × Reading
 
 as_read : List Case → List Reading
-unfolding ◌then◌ refuse_with refuse_first check7 and_then more_digits read_natural read_number read_field read_line read_rows checked accept_rows read_body read_map
+unfolding ◌then◌ refuse_with refuse_first check7 and_then more_digits read_natural read_number read_field read_line read_rows checked accept_rows read_body
+    read_map
 as_read cases = map (λ (c : Case). read_map (bytes c.0)) cases
 
 as_said : List Case → List Reading

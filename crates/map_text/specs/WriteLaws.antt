@@ -1,6 +1,7 @@
 -- What is written is read back. Assumes nothing.
 use Rattle.std.specs.Prelude.{ℕ, zero, suc, ◌+◌, ◌*◌, ◌^◌, ◌≤◌, ◌<◌, List, [], ◌∷◌, ◌++◌, ◌≡◌, refl, ℤ, pos, negsuc, nat_abs, length, get_or, take, drop}
-use Rattle.std.proofs.Common.{append-nil, append_assoc, arith, length-append, length-take, length-drop, take-append-drop, get_or-take, get_or-drop, length-take-le, eq-eqb}
+use Rattle.std.proofs.Common.{append-nil, append_assoc, arith, length-append, length-take, length-drop, take-append-drop, get_or-take, get_or-drop}
+use Rattle.std.proofs.Common.{length-take-le, eq-eqb}
 use Rattle.std.proofs.Math.Seq.{append_snoc}
 use Rattle.definitions.specs.System.{coef_limit}
 use Rattle.texts.specs.Decimals.{numeral, separator}

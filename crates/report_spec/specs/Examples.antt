@@ -25,9 +25,12 @@ abbrev Case : Type 0
 Case = String × String
 
 as_printed : List Case → List (List ℕ)
-unfolding total sum_to all_to any_to count_to unit inner value refuse_with ◌then◌ refuse_first solves is_at_or_below covered bit frozen write_to write_row units_to
-    units_start makes marks_to write_children listed grown step row_fits in_order check7 start_checks resume_checks too_large search_checks machine.checked start
-    unless_done walk call last_digits decimal line lines and_then more_digits read_natural read_number read_field read_line read_rows checked accept_rows read_body read_map
+unfolding total sum_to all_to any_to count_to unit inner value refuse_with ◌then◌ refuse_first solves is_at_or_below covered bit frozen write_to write_row
+    units_to
+    units_start makes marks_to write_children listed grown step row_fits in_order check7 start_checks resume_checks too_large search_checks machine.checked
+    start
+    unless_done walk call last_digits decimal line lines and_then more_digits read_natural read_number read_field read_line read_rows checked accept_rows
+    read_body read_map
     counted refusal_text counts ending run_text run reading_text printed
 as_printed cases = map (λ (c : Case). printed (bytes c.0)) cases
 

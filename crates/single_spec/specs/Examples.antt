@@ -98,7 +98,8 @@ listing_holds :
     × (called ways ways_list 4 40 ≡ refuses 6 [] 40)
     × (called ways (1 ∷ 0 ∷ 0 ∷ 1 ∷ 0 ∷ 1 ∷ 1 ∷ 0 ∷ 1 ∷ 0 ∷ []) 2 3 ≡ refuses 30 (2 ∷ []) 3)
     × (called (four (pos 0 ∷ pos 2 ∷ pos 0 ∷ negsuc 1 ∷ pos 0 ∷ pos 0 ∷ pos 0 ∷ pos 0 ∷ [])) (0 ∷ 0 ∷ []) 1 3 ≡ refuses 26 (2 ∷ []) 3)
-unfolding ways four called refuses ways_list listing_call listed_by listing_checks row_checks listing lines_to loop_line rising_to order_to decimal last_digits check7
+unfolding ways four called refuses ways_list listing_call listed_by listing_checks row_checks listing lines_to loop_line rising_to order_to decimal last_digits
+    check7
     check26 check30 refuse_first refuse_with ◌then◌ in_profile is_circuit all_to count_to size lowest leaving node_of find_to iterate
 listing_holds = (refl, refl, refl, refl, refl, refl)
 
@@ -119,6 +120,7 @@ other = four (pos 0 ∷ pos 2 ∷ pos 0 ∷ negsuc 1 ∷ pos 0 ∷ pos 0 ∷ pos
 
 calls_hold : (single_start other lent ≡ record { answer = paper.refused 26 (2 ∷ []); state = lent })
     × (single_resume 9 other lent ≡ record { answer = paper.refused 26 (2 ∷ []); state = lent })
-unfolding lent other four single_start single_resume single_start_checks single_resume_checks start_checks resume_checks start call checked units_start units_to write_row
+unfolding lent other four single_start single_resume single_start_checks single_resume_checks start_checks resume_checks start call checked units_start units_to
+    write_row
     write_to in_order row_fits bit frozen check7 check26 refuse_first refuse_with ◌then◌ in_profile all_to count_to
 calls_hold = (refl, refl)

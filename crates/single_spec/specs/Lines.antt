@@ -22,7 +22,8 @@ use Rattle.theorems.specs.Run.{run_handed}
 use Rattle.texts.specs.Decimals.{decimal, newline, space}
 use Rattle.single_spec.specs.Calls.{single_resume}
 use Rattle.single_spec.specs.Graph.{named, size}
-use Rattle.single_spec.specs.Listing.{lines_to, listed_by, listing, listing_call, listing_checks, loop_line, number_if, order_to, order_word, rising_to, written}
+use Rattle.single_spec.specs.Listing.{lines_to, listed_by, listing, listing_call, listing_checks, loop_line, number_if, order_to, order_word, rising_to}
+use Rattle.single_spec.specs.Listing.{written}
 use Rattle.single_spec.specs.Profile.{SingleFile, circuit_order, is_circuit_of}
 use Rattle.single_spec.specs.ProfileLaws.{profile_decides}
 use Rattle.single_spec.specs.Promises.{Ordered, single_file_solutions}

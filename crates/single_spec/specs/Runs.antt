@@ -13,7 +13,8 @@ use Rattle.definitions.specs.System.{MinimalSolution, System, column, most_equat
 use Rattle.definitions.specs.Tables.{State, at, capacity}
 use Rattle.laws.specs.AnswerLaws.{then_go}
 use Rattle.laws.specs.CheckLaws.{Renders, Rules, ◌▹◌, ◌▹▹◌, decides_if, end, placed, renders_after, renders_last, renders_then, rule}
-use Rattle.laws.specs.RefusalLaws.{Outside, decides_outside, decides_range, decides_unequal, range_rule, resume_renders, resume_rules, start_renders, start_rules}
+use Rattle.laws.specs.RefusalLaws.{Outside, decides_outside, decides_range, decides_unequal, range_rule, resume_renders, resume_rules, start_renders}
+use Rattle.laws.specs.RefusalLaws.{start_rules}
 use Rattle.theorems.specs.Listed.{Only}
 use Rattle.theorems.specs.Proved.{second_demand}
 use Rattle.theorems.specs.Run.{Run, continued, started_units}
@@ -131,7 +132,8 @@ module _ (i : Input) where
   single_calls =
       record {
         start_refuses = λ s. renders_after (start_checks i s) (check26 m) (start_rules i s) (rule26 m) (start_renders i s) (λ h. renders_last (refuses_26 m));
-        resume_refuses = λ s. renders_after (resume_checks i s) (check26 m) (resume_rules i s) (rule26 m) (resume_renders i s) (λ h. renders_last (refuses_26 m));
+        resume_refuses = λ s. renders_after (resume_checks i s) (check26 m) (resume_rules i s) (rule26 m) (resume_renders i s)
+            (λ h. renders_last (refuses_26 m));
         start_unchanged = λ s n values e. checked_refused (start_checks i s then check26 m) s _ n values e;
         resume_unchanged = λ budget s n values e. checked_refused (resume_checks i s then check26 m) s _ n values e;
         start_same = start_plain;

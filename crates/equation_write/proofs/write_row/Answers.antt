@@ -26,7 +26,12 @@ returns-then-out_of_range c =
 
 pub sides-n-requires : goal.sides-n-requires
 sides-n-requires c =
-    rw (to_z-of_z c.ranges.right) (c.requires.0, c.requires.1, ltb-false coef_limit (nat_abs c.args.right) (in_range (goal.at.sides-n-requires c).Else-out_of_range), search rules)
+    rw (to_z-of_z c.ranges.right) (
+      c.requires.0,
+      c.requires.1,
+      ltb-false coef_limit (nat_abs c.args.right) (in_range (goal.at.sides-n-requires c).Else-out_of_range),
+      search rules,
+    )
 
 pub slice_bounds-hand_out-end : goal.slice_bounds-hand_out-end
 slice_bounds-hand_out-end c = simp length-take (omega arith)
@@ -34,4 +39,5 @@ slice_bounds-hand_out-end c = simp length-take (omega arith)
 pub returns : goal.returns
 returns c =
     let p = rw (to_z-of_z c.ranges.right) at c.sides-n.ensures.put in
-    (rw p.written at c.hand_out.ensures) ∙ right_in c.args.right (written c.args.row.now c.args.right) c.args.out.now (in_range (goal.at.returns c).Else-out_of_range)
+    (rw p.written at c.hand_out.ensures)
+    ∙ right_in c.args.right (written c.args.row.now c.args.right) c.args.out.now (in_range (goal.at.returns c).Else-out_of_range)

@@ -23,7 +23,9 @@ loop-i-init c = (search rules, refl)
 
 pub returns-then-out_of_range : goal.returns-then-out_of_range
 returns-then-out_of_range c =
-    one_out_of_range _ _ _ _ (refuse_at 7 _ _ _ c.loop-i-test.true c.loop-i.invariant.1 (sym (tested (goal.at.returns-then-out_of_range c).After-out_of_range) ∙ c.if-out_of_range.true))
+    one_out_of_range _ _ _ _
+    (refuse_at 7 _ _ _ c.loop-i-test.true c.loop-i.invariant.1
+    (sym (tested (goal.at.returns-then-out_of_range c).After-out_of_range) ∙ c.if-out_of_range.true))
 
 pub loop-i-preserved : goal.loop-i-preserved
 loop-i-preserved c =

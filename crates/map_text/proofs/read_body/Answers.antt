@@ -52,7 +52,11 @@ overflow_cast-q c =
 pub read_coefficients-requires : goal.read_coefficients-requires
 read_coefficients-requires c =
     rw (to_z-of_z c.ranges.p, to_z-of_z c.ranges.q)
-    (record { equations = (equations (goal.at.read_coefficients-requires c).Else-p-gt8).most; unknowns = (unknowns (goal.at.read_coefficients-requires c).Else-q-gt16).most; entries = c.requires })
+    (record {
+      equations = (equations (goal.at.read_coefficients-requires c).Else-p-gt8).most;
+      unknowns = (unknowns (goal.at.read_coefficients-requires c).Else-q-gt16).most;
+      entries = c.requires;
+    })
 
 pub returns : goal.returns
 returns c =

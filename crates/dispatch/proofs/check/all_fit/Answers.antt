@@ -1,11 +1,8 @@
 -- `dispatch::check::all_fit` meets its contract. Assumes nothing.
-use borrow.Author.Tests.{not-true, not-false}
 use mathlib.Core.Path.{sym, ◌∙◌, ap}
 use Prim.Native.Nat.{◌-◌}
-use borrow.Author.Rules.{rules}
 use Rattle.dispatch_spec.specs.Parts.{fits}
-use Rattle.dispatch.specs.Form.{part_at}
-use Rattle.dispatch.specs.Clear.{Passed, passing_begins, passing_more, passing_fails, passing_ends}
+use Rattle.dispatch.specs.Clear.{passing_begins, passing_more, passing_fails, passing_ends}
 use Rattle.dispatch.proofs.check.all_fit.Goals as goal
 
 pub loop-i-init : goal.loop-i-init

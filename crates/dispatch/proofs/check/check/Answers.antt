@@ -1,8 +1,6 @@
 -- `dispatch::check::check` meets its contract. Assumes nothing.
 use mathlib.Core.Path.{sym, ◌∙◌}
-use borrow.Author.Tests.{not-true, not-false}
 use Rattle.dispatch.specs.Verdicts.{runs_none, runs_many, turn_empty, kept_large, stacks_clash, lists_clash, passes}
-use borrow.Author.Rules.{rules}
 use Rattle.dispatch.proofs.check.check.Goals as goal
 
 pub returns-then-count-eq0 : goal.returns-then-count-eq0

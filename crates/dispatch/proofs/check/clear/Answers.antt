@@ -3,10 +3,8 @@ use mathlib.Core.Path.{sym, ◌∙◌, ap}
 use Rattle.dispatch.specs.Form.{part_fits}
 use Prim.Native.Nat.{◌-◌}
 use mathlib.Core.Bool.{not}
-use borrow.Author.Rules.{rules}
 use Rattle.dispatch_spec.specs.Parts.{overlap}
-use Rattle.dispatch.specs.Form.{part_for, part_at}
-use Rattle.dispatch.specs.Clear.{Passed, passing_begins, passing_more, passing_fails, passing_ends}
+use Rattle.dispatch.specs.Clear.{passing_begins, passing_more, passing_fails, passing_ends}
 use Rattle.dispatch.proofs.check.clear.Goals as goal
 
 pub loop-j-init : goal.loop-j-init

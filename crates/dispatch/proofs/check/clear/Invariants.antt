@@ -1,12 +1,9 @@
 -- `dispatch::check::clear` meets its contract. Assumes nothing.
-use mathlib.Core.Path.{sym, ◌∙◌, ap}
-use Rattle.dispatch.specs.Form.{part_fits}
 use Prim.Native.Nat.{◌-◌}
 use mathlib.Core.Bool.{not}
-use borrow.Author.Rules.{rules}
 use Rattle.dispatch_spec.specs.Parts.{overlap}
 use Rattle.dispatch.specs.Form.{part_for, part_at}
-use Rattle.dispatch.specs.Clear.{Passed, passing_begins, passing_more, passing_fails, passing_ends}
+use Rattle.dispatch.specs.Clear.{Passed}
 use Rattle.dispatch.proofs.check.clear.Given as goal
 
 abbrev pub invariant-loop-j : goal.invariant-loop-j

@@ -1,13 +1,9 @@
 -- `dispatch::check::none_overlap` meets its contract. Assumes nothing.
 use Prim.Native.Nat.{◌-◌}
-use mathlib.Core.Bool.{not}
 use mathlib.Core.Path.{sym, ◌∙◌}
 use borrow.Author.Rules.{rules}
-use borrow.Author.Tests.{not-true, not-false}
-use Rattle.linear.specs.Tests.{all_to}
-use Rattle.dispatch_spec.specs.Parts.{overlap}
-use Rattle.dispatch.specs.Form.{part_at, part_fits}
-use Rattle.dispatch.specs.Clear.{within_less, Passed, passing_begins, passing_more, passing_fails, passing_ends}
+use Rattle.dispatch.specs.Form.{part_fits}
+use Rattle.dispatch.specs.Clear.{within_less, passing_begins, passing_more, passing_fails, passing_ends}
 use Rattle.dispatch.proofs.check.none_overlap.Goals as goal
 
 pub loop-i-init : goal.loop-i-init

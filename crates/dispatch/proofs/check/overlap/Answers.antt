@@ -1,6 +1,5 @@
 -- `dispatch::check::overlap` meets its contract. Assumes nothing.
 use Rattle.dispatch.specs.Clear.{overlap_none₁, overlap_none₂, overlap_none₃, overlap_last}
-use borrow.Author.Rules.{rules}
 use Rattle.dispatch.proofs.check.overlap.Goals as goal
 
 pub returns-then-b-a_end : goal.returns-then-b-a_end

@@ -1,5 +1,4 @@
 -- `dispatch::results::answer` meets its contract. Assumes nothing.
-use borrow.Author.Rules.{rules}
 use Rattle.dispatch.proofs.results.answer.Goals as goal
 
 pub returns-in-Turn : goal.returns-in-Turn

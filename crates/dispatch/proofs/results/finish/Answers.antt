@@ -1,7 +1,7 @@
 -- `dispatch::results::finish` meets its contract. Assumes nothing.
 use Prim.Native.Nat.{◌-◌}
 use borrow.Author.Rules.{rules}
-use Rattle.dispatch.specs.Finish.{Finishing, took_by, finishing_begins, finishing_small, finishing_more, finishing_ends}
+use Rattle.dispatch.specs.Finish.{took_by, finishing_begins, finishing_small, finishing_more, finishing_ends}
 use Rattle.dispatch.proofs.results.finish.Goals as goal
 
 pub loop-i-init : goal.loop-i-init

@@ -1,7 +1,6 @@
 -- `dispatch::results::finish` meets its contract. Assumes nothing.
 use Prim.Native.Nat.{◌-◌}
-use borrow.Author.Rules.{rules}
-use Rattle.dispatch.specs.Finish.{Finishing, took_by, finishing_begins, finishing_small, finishing_more, finishing_ends}
+use Rattle.dispatch.specs.Finish.{Finishing}
 use Rattle.dispatch.proofs.results.finish.Given as goal
 
 abbrev pub invariant-loop-i : goal.invariant-loop-i

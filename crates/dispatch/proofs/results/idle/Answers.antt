@@ -1,7 +1,6 @@
 -- `dispatch::results::idle` meets its contract. Assumes nothing.
 use mathlib.Core.Path.{◌∙◌}
 use Rattle.dispatch.specs.Idle.{checks_back, idle_refused, idle_passed}
-use borrow.Author.Rules.{rules}
 use Rattle.dispatch.proofs.results.idle.Goals as goal
 
 pub returns-in-Refuse : goal.returns-in-Refuse

@@ -1,10 +1,8 @@
 -- `dispatch::results::kept` meets its contract. Assumes nothing.
 use Prim.Native.Nat.{◌-◌}
 use mathlib.Core.Path.{refl}
-use lib.ListN.{get_or}
 use borrow.Author.Rules.{rules}
-use Rattle.dispatch.specs.Form.{no_record, no_outcome, kept_of}
-use Rattle.dispatch.specs.Filling.{Filled, filling_begins, filling_more, filled_all}
+use Rattle.dispatch.specs.Filling.{filling_begins, filling_more, filled_all}
 use Rattle.dispatch.proofs.results.kept.Goals as goal
 
 pub loop-i-init : goal.loop-i-init

@@ -2,8 +2,7 @@
 use mathlib.Core.Path.{sym, ◌∙◌}
 use Prim.Native.Nat.{◌-◌}
 use borrow.Author.Rules.{rules}
-use Rattle.dispatch.specs.Form.{stays_for}
-use Rattle.dispatch.specs.Asking.{Asking, asking_begins, asking_found, asking_more, asking_ends}
+use Rattle.dispatch.specs.Asking.{asking_begins, asking_found, asking_more, asking_ends}
 use Rattle.dispatch.proofs.round.next_after.Goals as goal
 
 pub loop-k-init : goal.loop-k-init

@@ -1,9 +1,7 @@
 -- `dispatch::round::next_after` meets its contract. Assumes nothing.
-use mathlib.Core.Path.{sym, ◌∙◌}
 use Prim.Native.Nat.{◌-◌}
-use borrow.Author.Rules.{rules}
 use Rattle.dispatch.specs.Form.{stays_for}
-use Rattle.dispatch.specs.Asking.{Asking, asking_begins, asking_found, asking_more, asking_ends}
+use Rattle.dispatch.specs.Asking.{Asking}
 use Rattle.dispatch.proofs.round.next_after.Given as goal
 
 abbrev pub invariant-loop-k : goal.invariant-loop-k

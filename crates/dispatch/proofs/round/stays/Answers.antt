@@ -1,5 +1,4 @@
 -- `dispatch::round::stays` meets its contract. Assumes nothing.
-use borrow.Author.Rules.{rules}
 use Rattle.dispatch.proofs.round.stays.Goals as goal
 
 pub returns-in-NoTurn : goal.returns-in-NoTurn

@@ -1,5 +1,4 @@
 -- `dispatch::turn::serve` meets its contract. Assumes nothing.
-use borrow.Author.Rules.{rules}
 use Rattle.dispatch.specs.TurnBack.{placed_back}
 use Rattle.dispatch.proofs.turn.serve.Goals as goal
 

@@ -1,6 +1,5 @@
 -- `dispatch::turn::serve_run` meets its contract. Assumes nothing.
 use Rattle.dispatch.specs.Cut.{cut_same}
-use borrow.Author.Rules.{rules}
 use Rattle.dispatch.proofs.turn.serve_run.Goals as goal
 
 pub returns : goal.returns

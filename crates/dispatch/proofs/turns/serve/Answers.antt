@@ -3,8 +3,8 @@ use Prim.Native.Nat.{◌-◌, ◌<◌}
 use borrow.Author.Rules.{rules}
 use native.Mathlib.Omega.{arith}
 use mathlib.Core.Path.{sym, ◌∙◌, ap}
-use Rattle.dispatch.specs.Form.{round_for, found_of}
-use Rattle.dispatch.specs.Turning.{Turning, turning_begins, turning_more, turning_ends, turning_stops, found_below}
+use Rattle.dispatch.specs.Form.{found_of}
+use Rattle.dispatch.specs.Turning.{turning_begins, turning_more, turning_ends, turning_stops, found_below}
 use Rattle.dispatch.proofs.turns.serve.Goals as goal
 use Rattle.dispatch.proofs.turns.serve.Goals.{In-At}
 

@@ -1,10 +1,7 @@
 -- `dispatch::turns::serve` meets its contract. Assumes nothing.
-use Prim.Native.Nat.{◌-◌, ◌<◌}
-use borrow.Author.Rules.{rules}
-use native.Mathlib.Omega.{arith}
-use mathlib.Core.Path.{sym, ◌∙◌, ap}
-use Rattle.dispatch.specs.Form.{round_for, found_of}
-use Rattle.dispatch.specs.Turning.{Turning, turning_begins, turning_more, turning_ends, turning_stops, found_below}
+use Prim.Native.Nat.{◌-◌}
+use Rattle.dispatch.specs.Form.{round_for}
+use Rattle.dispatch.specs.Turning.{Turning}
 use Rattle.dispatch.proofs.turns.serve.Given as goal
 
 abbrev pub invariant-loop-k : goal.invariant-loop-k

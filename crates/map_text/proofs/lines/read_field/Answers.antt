@@ -25,7 +25,8 @@ returns-then-text-next c = no_byte _ _ _ _ c.if-text-next.true ∙ number_read (
 
 pub returns-then-text-next-2 : goal.returns-then-text-next-2
 returns-then-text-next-2 c =
-    other_byte _ _ _ _ c.if-text-next.false (λ h. c.if-text-next-2.true (h ∙ sym c.separator_after.ensures)) ∙ number_read (goal.at.returns-then-text-next-2 c).In-Parsed
+    other_byte _ _ _ _ c.if-text-next.false (λ h. c.if-text-next-2.true (h ∙ sym c.separator_after.ensures))
+    ∙ number_read (goal.at.returns-then-text-next-2 c).In-Parsed
 
 pub returns-in-Malformed : goal.returns-in-Malformed
 unfolding read_field

@@ -5,7 +5,8 @@ use Rattle.list_spec.specs.Words.{signed}
 use Rattle.list_file.proofs.read.tables.copy_coefs.Given as goal
 
 abbrev pub invariant-loop-i : goal.invariant-loop-i
-invariant-loop-i l = (l.i ≤ l.n) × (length l.coefs ≡ length l.initial.coefs) × (l.coefs ≡ listed l.i (λ k. signed (stream_at l.file k)) ++ drop l.i l.initial.coefs)
+invariant-loop-i l = (l.i ≤ l.n) × (length l.coefs ≡ length l.initial.coefs)
+    × (l.coefs ≡ listed l.i (λ k. signed (stream_at l.file k)) ++ drop l.i l.initial.coefs)
 
 abbrev pub decreases-loop-i : goal.decreases-loop-i
 decreases-loop-i l = l.n - l.i

@@ -8,7 +8,8 @@ abbrev pub invariant-loop-j : goal.invariant-loop-j
 invariant-loop-j l =
     (l.j ≤ l.m)
     × (length l.list ≡ length l.initial.list)
-    × ((table : List ℕ) → Filled (λ k. stream_at l.file (l.first + k)) l.i table l.initial.list → Filled (λ k. stream_at l.file (l.first + k)) (l.i + l.j) table l.list)
+    × ((table : List ℕ) → Filled (λ k. stream_at l.file (l.first + k)) l.i table l.initial.list
+    → Filled (λ k. stream_at l.file (l.first + k)) (l.i + l.j) table l.list)
 
 abbrev pub decreases-loop-j : goal.decreases-loop-j
 decreases-loop-j l = l.m - l.j

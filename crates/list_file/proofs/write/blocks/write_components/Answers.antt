@@ -21,7 +21,8 @@ loop-j-init c =
     let e : 128 * b + 1 + 0 ≡ 128 * b + 1 = omega arith in (
       omega arith,
       refl,
-      rw e (begun_next (list (goal.at.loop-j-init c).Start) (128 * b) b c.args.out.now _ c.requires.0.begun c.put_word.ensures (number_place (list (goal.at.loop-j-init c).Start) b)),
+      rw e (begun_next (list (goal.at.loop-j-init c).Start) (128 * b) b c.args.out.now _ c.requires.0.begun c.put_word.ensures
+          (number_place (list (goal.at.loop-j-init c).Start) b)),
     )
 
 pub overflow_add-w : goal.overflow_add-w

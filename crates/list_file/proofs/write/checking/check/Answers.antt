@@ -20,14 +20,17 @@ check_rows-requires c =
 
 pub returns-in-Refuse : goal.returns-in-Refuse
 returns-in-Refuse c =
-    refused_first (coefficient_checks (list (goal.at.returns-in-Refuse c).Start).coefs then list_checks (list (goal.at.returns-in-Refuse c).Start) c.args.room) c.in-Refuse.is
+    refused_first (coefficient_checks (list (goal.at.returns-in-Refuse c).Start).coefs then list_checks (list (goal.at.returns-in-Refuse c).Start) c.args.room)
+    c.in-Refuse.is
     c.check.ensures
     ∙ write_stages (list (goal.at.returns-in-Refuse c).Start) c.args.room
 
 pub returns-in-Refuse-check : goal.returns-in-Refuse-check
 returns-in-Refuse-check c =
     refused_first (list_checks (list (goal.at.returns-in-Refuse-check c).Start) c.args.room) c.in-Refuse-check.is c.check-in-Pass.ensures
-    ∙ passed_first (coefficient_checks (list (goal.at.returns-in-Refuse-check c).Start).coefs then list_checks (list (goal.at.returns-in-Refuse-check c).Start) c.args.room) c.in-Pass.is
+    ∙ passed_first
+    (coefficient_checks (list (goal.at.returns-in-Refuse-check c).Start).coefs then list_checks (list (goal.at.returns-in-Refuse-check c).Start) c.args.room)
+    c.in-Pass.is
     c.check.ensures
     ∙ write_stages (list (goal.at.returns-in-Refuse-check c).Start) c.args.room
 
@@ -35,6 +38,8 @@ pub returns-in-Pass-check : goal.returns-in-Pass-check
 returns-in-Pass-check c =
     c.check_rows.ensures c.args.p
     ∙ passed_first (list_checks (list (goal.at.returns-in-Pass-check c).Start) c.args.room) c.in-Pass-check.is c.check-in-Pass.ensures
-    ∙ passed_first (coefficient_checks (list (goal.at.returns-in-Pass-check c).Start).coefs then list_checks (list (goal.at.returns-in-Pass-check c).Start) c.args.room) c.in-Pass.is
+    ∙ passed_first
+    (coefficient_checks (list (goal.at.returns-in-Pass-check c).Start).coefs then list_checks (list (goal.at.returns-in-Pass-check c).Start) c.args.room)
+    c.in-Pass.is
     c.check.ensures
     ∙ write_stages (list (goal.at.returns-in-Pass-check c).Start) c.args.room

@@ -12,7 +12,8 @@ list s = list_of 0 0 s.args.coefs.now s.args.rows.now 0
 
 pub returns-then-i-coefs : goal.returns-then-i-coefs
 returns-then-i-coefs c =
-    (rw (to_z-of_z (sfits_of c.to_word-arg-1.given)) at c.to_word.ensures) ∙ sym (stream_coef (list (goal.at.returns-then-i-coefs c).Start) c.args.i (omega arith))
+    (rw (to_z-of_z (sfits_of c.to_word-arg-1.given)) at c.to_word.ensures)
+    ∙ sym (stream_coef (list (goal.at.returns-then-i-coefs c).Start) c.args.i (omega arith))
 
 pub returns-then-k-rows : goal.returns-then-k-rows
 returns-then-k-rows c =
