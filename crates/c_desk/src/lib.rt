@@ -1,4 +1,6 @@
 // The calls of the second of two desks on a record of words, with an answer that is one number: specs/Words.antt.
+#![tactic(auto)]
+
 ghost use Rattle.std.specs.Prelude.{◌≡◌};
 ghost use Rattle.c_desk.specs.Words.{desk_resume_words, desk_start_words};
 

@@ -1,4 +1,6 @@
 // A call of the dispatcher on words of 64 bits (specs/Words.antt), for callers in other languages.
+#![tactic(auto)]
+
 ghost use Rattle.std.specs.Prelude.{◌≡◌};
 ghost use Rattle.c_dispatch.specs.Words.{dispatch_words};
 

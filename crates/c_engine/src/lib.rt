@@ -1,4 +1,6 @@
 // The engine's calls on a record of words, each answer as one number: specs/Words.antt.
+#![tactic(auto)]
+
 ghost use Rattle.std.specs.Prelude.{◌≡◌, [], suc, ◌^◌, ◌<◌, ◌≤◌};
 ghost use Rattle.engine_spec.specs.Calls.{row_limit};
 ghost use Rattle.engine_resume.specs.Continuing.{ResumeLeft};

@@ -1,4 +1,6 @@
 // The calls on typed equations with answers that are one number each, as C and Rust are told them: specs/Codes.antt.
+#![tactic(auto)]
+
 ghost use Rattle.std.specs.Prelude.{◌≡◌, ◌+◌, ◌*◌, ◌^◌, ◌≤◌, ◌<◌, length};
 ghost use Rattle.calls.specs.Paper as paper;
 ghost use Rattle.equation_spec.specs.Outcome.{outcome};

@@ -1,4 +1,6 @@
 // The calls on files with answers that are one number each, as C and Rust are told them: specs/Codes.antt.
+#![tactic(auto)]
+
 ghost use Rattle.std.specs.Prelude.{◌≡◌, ◌^◌, ◌<◌};
 ghost use Rattle.list_spec.specs.Writing.{write_list};
 ghost use Rattle.list_spec.specs.Reading.{read_file};

@@ -1,4 +1,6 @@
 // Reading the text form of a map, with an answer that is one number and two words beside it: specs/Words.antt.
+#![tactic(auto)]
+
 ghost use Rattle.std.specs.Prelude.{◌≡◌, ◌^◌, ◌<◌};
 ghost use Rattle.calls.specs.Paper.{value};
 ghost use Rattle.map_text.specs.Answer.{number_of, values_of};

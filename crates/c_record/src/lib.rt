@@ -1,4 +1,6 @@
 // The run record as words, and answers as one number: what the calls for other languages share (specs/Words.antt, Codes.antt).
+#![tactic(auto)]
+
 ghost use Rattle.std.specs.Prelude.{◌≡◌, ◌^◌, ◌<◌};
 ghost use Rattle.calls.specs.Paper.{answer_of, run_of};
 ghost use Rattle.c_record.specs.Codes.{code};

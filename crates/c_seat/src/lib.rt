@@ -1,4 +1,6 @@
 // The calls of the training seat on a record of words, with an answer that is one number.
+#![tactic(auto)]
+
 ghost use Rattle.std.specs.Prelude.{◌≡◌};
 ghost use Rattle.c_seat.specs.SeatWords.{seat_resume_bounded, seat_resume_words, seat_start_bounded, seat_start_words};
 

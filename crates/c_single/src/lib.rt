@@ -1,4 +1,6 @@
 // Single-file maps: the start and the continuing call on a record of words, and the listing with its answer as one number.
+#![tactic(auto)]
+
 ghost use Rattle.std.specs.Prelude.{◌≡◌};
 ghost use Rattle.definitions.specs.Input.{input_of};
 ghost use Rattle.single_spec.specs.Listing.{listing_call};

@@ -1,4 +1,6 @@
 // The plain start and the continuing call on a record of words, with an answer that is one number. The other calls of a walk are in modules.
+#![tactic(auto)]
+
 ghost use Rattle.std.specs.Prelude.{◌≡◌};
 ghost use Rattle.c_record.specs.Words.{start_words, resume_words};
 

@@ -1,4 +1,6 @@
 // What a caller hands over and gets back, and the number of each refusal in documents 01 and 02.
+#![tactic(auto)]
+
 ghost use Rattle.std.specs.Prelude.{◌≡◌};
 ghost use Rattle.definitions.specs.Input.{limit_of};
 ghost use Rattle.definitions.specs.Tables.{is_run, run_number};

@@ -1,5 +1,7 @@
 // Which unknowns make a child of the row that a step takes off. The kind of the walk decides which candidates the cap and the second list leave open,
 // and what of a tuple is compared with the first list.
+#![tactic(auto)]
+
 ghost use Rattle.std.specs.Prelude.{◌≡◌, ◌&&◌, [], ◌+◌, ◌*◌, ◌-◌, ◌^◌, ◌≤◌, ◌<◌, eqb, length};
 ghost use Rattle.linear.specs.Tests.{any_to};
 ghost use Rattle.linear.specs.Tuples.{AtOrBelow, raise};

@@ -1,4 +1,6 @@
 // The refusals that come before the walk (document 01, "Refusals, by who causes them"; 15: document 02).
+#![tactic(auto)]
+
 ghost use Rattle.std.specs.Prelude.{◌≡◌, ℕ};
 ghost use Rattle.definitions.specs.Refusals.{start_checks, lower_checks, resume_checks, resume_from_checks};
 ghost use Rattle.definitions.specs.Input.{alone, input_of, input_with, rights as sides};

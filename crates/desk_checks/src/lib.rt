@@ -1,4 +1,6 @@
 // The refusals before the second walk: 1 to 4, then 6, then 7 and, last, 25.
+#![tactic(auto)]
+
 ghost use Rattle.std.specs.Prelude.{◌≡◌};
 ghost use Rattle.desk_spec.specs.Desks.{desk_of, desk_resume_checks, desk_start_checks};
 ghost use Rattle.calls.specs.Paper.{check_of, state_of};

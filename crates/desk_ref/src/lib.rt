@@ -1,4 +1,6 @@
 // The calls of the second of two desks as an editor uses them: the caller's own run record is advanced through a reference, over the calls by value.
+#![tactic(auto)]
+
 ghost use Rattle.std.specs.Prelude.{◌≡◌};
 ghost use Rattle.desk_spec.specs.Desks.{desk_begin, desk_of, desk_resume};
 ghost use Rattle.calls.specs.Paper.{left_by, state_of};

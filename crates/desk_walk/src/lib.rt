@@ -1,4 +1,6 @@
 // The walk of a continuing call of the second of two desks that was not refused.
+#![tactic(auto)]
+
 ghost use Rattle.std.specs.Prelude.{◌≡◌, ◌+◌, ◌*◌, ◌-◌, ◌/◌, ◌≤◌, ◌<◌, max, length};
 ghost use Rattle.definitions.specs.Machine as paper;
 ghost use Rattle.table_rows.specs.Rows.{Holds};

@@ -1,6 +1,8 @@
 // The solver as other languages call it: library/raw.h says the same to C, and library/dezgula.c has the calls of include/ over it. Each function forwards to a
 // crate that holds its logic. The run record comes as words (c_record/specs/Words.antt), and an answer goes out as one
 // number (calls/specs/Codes.antt, c_record/specs/Codes.antt).
+#![tactic(auto)]
+
 ghost use Rattle.std.specs.Prelude.{◌≡◌};
 ghost use Rattle.definitions.specs.Highest.{locate};
 ghost use Rattle.definitions.specs.Input.{input_of};

@@ -1,4 +1,6 @@
 // Up to eight plain runs at a time (document 02, job 14): a round robin dispatcher.
+#![tactic(auto)]
+
 ghost use Rattle.dispatch_spec.specs.Dispatch as form;
 ghost use Rattle.dispatch.specs.Form.{schedule_for};
 ghost use Rattle.dispatch.specs.Entry.{handed, Refused, Returns};

@@ -1,5 +1,7 @@
 // The engine's calls: the start, plain, for right sides and lower bounds, or from a list, a row operation and the begin of a stage. Each takes the record by
 // value and returns what it leaves.
+#![tactic(auto)]
+
 ghost use Rattle.std.specs.Prelude.{◌≡◌, suc};
 ghost use Rattle.engine_spec.specs.Calls as spec;
 ghost use Rattle.engine_spec.specs.StartSides.{start_sides};

@@ -1,5 +1,7 @@
 // What the engine keeps beside the rows of a stage: their values, degrees and words, each in a table of its own; whether rows and degrees are in order; and the
 // record of its run, with what its calls leave.
+#![tactic(auto)]
+
 ghost use Rattle.std.specs.Prelude.{◌≡◌};
 ghost use Rattle.engine_beside.specs.Records.{refused_with};
 

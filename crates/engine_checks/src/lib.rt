@@ -1,4 +1,6 @@
 // The refusals before a call's work, and the rows that find room in what is lent.
+#![tactic(auto)]
+
 pub mod operations; // operations.rt: whether a row operation may be made
 mod order; // order.rt: whether the record and the tables are in order
 pub mod room; // room.rt: the rows that find room

@@ -1,4 +1,6 @@
 // The end of a stage: what it leaves becomes the basis.
+#![tactic(auto)]
+
 ghost use Rattle.std.specs.Prelude.{◌≡◌, ◌+◌, ◌^◌, ◌-◌, ◌≤◌, ◌<◌, cond, eqb};
 ghost use Rattle.definitions.specs.Answers.{complete, paused};
 ghost use Rattle.engine_spec.specs.Engine.{finish as finish_of};

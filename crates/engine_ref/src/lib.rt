@@ -1,4 +1,6 @@
 // The engine's calls as an editor uses them: the caller's own record is advanced through a reference, over the calls by value.
+#![tactic(auto)]
+
 ghost use Rattle.std.specs.Prelude.{◌≡◌, suc};
 ghost use Rattle.engine_spec.specs.Calls as spec;
 ghost use Rattle.engine_spec.specs.StartSides.{start_sides};

@@ -1,4 +1,6 @@
 // The engine's continuing call. It takes the record by value and returns what it leaves.
+#![tactic(auto)]
+
 ghost use Rattle.engine_stage.specs.Standing.{sides_of};
 ghost use Rattle.engine_resume.specs.Continuing.{ResumeLeft};
 

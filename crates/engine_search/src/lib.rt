@@ -1,5 +1,7 @@
 // What a stage does next, from the degrees of the basis and from the values and degrees beside its table: the rows themselves are never read. The rows
 // of the table are sorted by degree. Open specs/Places.antt first.
+#![tactic(auto)]
+
 ghost use Rattle.std.specs.Prelude.{◌≡◌, max, min, ◌+◌, ◌-◌, ◌≤◌, ◌<◌, eqb, pos, length};
 ghost use Rattle.std.specs.Int.Signed.{lt_z};
 ghost use Rattle.engine_spec.specs.Search as search;

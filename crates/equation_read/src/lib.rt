@@ -1,4 +1,6 @@
 // Equations as people write them: reading.
+#![tactic(auto)]
+
 mod bytes; // bytes.rt: spaces, signs and numbers at a place
 mod totals; // totals.rt: numbers collected
 mod sums; // sums.rt: sums, terms and brackets

@@ -1,4 +1,6 @@
 // A system typed as several lines: reading it.
+#![tactic(auto)]
+
 ghost use Rattle.std.specs.Prelude.{◌≡◌, [], ◌≤◌};
 ghost use Rattle.equation_spec.specs.Systems.{read_lines, of_rows, accepted, handed_out, read_system};
 ghost use Rattle.equation_systems.specs.Answer.{answer_of};

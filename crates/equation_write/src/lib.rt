@@ -1,4 +1,6 @@
 // Writing a row as people write an equation.
+#![tactic(auto)]
+
 ghost use Rattle.std.specs.Prelude.{◌≡◌, ◌+◌, ◌≤◌, ◌<◌, ltb, nat_abs, length};
 ghost use Rattle.texts.specs.Put.{Put};
 ghost use Rattle.definitions.specs.Answers.{◌then◌, refuse_if};

@@ -1,1 +1,3 @@
+#![tactic(auto)]
+
 // The text form of a map: see specs/. No code.

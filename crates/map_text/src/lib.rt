@@ -1,4 +1,6 @@
 // The text form of a map (document 01, "The program"): reading it.
+#![tactic(auto)]
+
 ghost use Rattle.std.specs.Prelude.{◌≡◌, [], ◌≤◌, drop, length};
 ghost use Rattle.map_spec.specs.Reading.{rows, read_rows, accept_rows, read_body, read_map};
 ghost use Rattle.map_text.specs.Answer.{outcome, answered};

@@ -1,4 +1,6 @@
 // What a solution is made of (document 02, Job 13): the multiples of the rows of a list.
+#![tactic(auto)]
+
 ghost use Rattle.std.specs.Prelude.{◌≡◌, ◌*◌, ◌≤◌, ◌<◌, leb, length};
 ghost use Rattle.definitions.specs.Input.{input_of};
 ghost use Rattle.definitions.specs.Reasons.{reason_within};

@@ -1,4 +1,6 @@
 // The reader of a finished list: rows as parts of the list table, by their number from 1; and which row lies at or below a tuple.
+#![tactic(auto)]
+
 ghost use Rattle.std.specs.Prelude.{◌≡◌};
 ghost use Rattle.definitions.specs.Reader.{reader_check, row_of_either};
 ghost use Rattle.definitions.specs.Refusals.{between};

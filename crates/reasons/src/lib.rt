@@ -1,4 +1,6 @@
 // Why a tuple is not in a list (document 02, Job 8): the first reason that is true.
+#![tactic(auto)]
+
 ghost use Rattle.std.specs.Prelude.{◌≡◌, min, ◌+◌, ◌*◌, ◌≤◌, ◌<◌, pos, length, get_or};
 ghost use Rattle.linear.specs.Systems.{value};
 ghost use Rattle.definitions.specs.Tables.{at};

@@ -1,4 +1,6 @@
 // A run record and tables in order: refusal 6, by the kind of run.
+#![tactic(auto)]
+
 ghost use Rattle.std.specs.Prelude.{◌≡◌, ◌+◌, ◌*◌, ◌≤◌, ◌<◌, leb, length};
 ghost use Rattle.linear.specs.Tests.{all_to, count_to};
 ghost use Rattle.definitions.specs.Input.{bound_of};

@@ -1,5 +1,7 @@
 // A map in the place of another (reformulation_spec): whether numbers show that both have the same minimal solutions, and the rows of the other map's list
 // without its further unknowns. Answers are numbers, for callers in other languages: 128 and 129 besides the refusals (specs/Numbers.antt).
+#![tactic(auto)]
+
 ghost use Rattle.std.specs.Prelude.{◌≡◌};
 ghost use Rattle.reformulation_spec.specs.Reformulation as paper;
 ghost use Rattle.reformulation_spec.specs.Reformulation.{reformulation};

@@ -1,4 +1,6 @@
 // What the program `basis` prints (document 01, "The program"), as a function of the text that it reads.
+#![tactic(auto)]
+
 ghost use Rattle.std.specs.Prelude.{◌≡◌, [], ◌+◌, ◌*◌, ◌≤◌, length, take, drop};
 ghost use Rattle.map_text.specs.Answer as reading;
 ghost use Rattle.definitions.specs.Input.{input_of};

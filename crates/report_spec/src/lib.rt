@@ -1,1 +1,3 @@
+#![tactic(auto)]
+
 // What the program prints, and what a printed "end complete" means, is in specs/.

@@ -1,5 +1,7 @@
 // The training seat (document 02, job 9), a layer above the core: the core's calls with components up to 20, behind 1, 2 and 23, and with 24 for 12. Each
 // takes the run record by value and returns what it leaves.
+#![tactic(auto)]
+
 ghost use Rattle.std.specs.Prelude.{◌≡◌, List, ℕ, ℤ};
 ghost use Rattle.calls.specs.Paper.{check_of, outcome_of, outcome_with, state_of, state_with};
 ghost use Rattle.seat_spec.specs.Training.{seat_input, seat_resume, seat_resume_from, seat_start, seat_start_from};

@@ -1,5 +1,7 @@
 // The calls of the training seat as an editor uses them: the caller's own run record is advanced through a reference, over the calls by value of crate
 // `training`.
+#![tactic(auto)]
+
 ghost use Rattle.std.specs.Prelude.{◌≡◌};
 ghost use Rattle.calls.specs.Paper.{left_by, left_with, state_of, state_with};
 ghost use Rattle.seat_spec.specs.Training.{seat_input, seat_resume, seat_resume_from, seat_start, seat_start_from};

@@ -1,1 +1,3 @@
+#![tactic(auto)]
+
 // The training seat: see specs/Training.antt. No code.

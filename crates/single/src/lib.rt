@@ -1,5 +1,7 @@
 // The calls of single-file maps (document 02, job 12): the plain start and the continuing call behind refusal 26, by value, and with the caller's run
 // record behind a reference.
+#![tactic(auto)]
+
 ghost use Rattle.std.specs.Prelude.{◌≡◌};
 ghost use Rattle.definitions.specs.Input.{input_of};
 ghost use Rattle.calls.specs.Paper.{state_of, outcome_of, left_by, check_of};

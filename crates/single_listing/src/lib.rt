@@ -1,5 +1,7 @@
 // The listing of a single-file map (document 02, job 12): a line for each minimal solution of a list, its unknowns rising and then in their order. All
 // is checked before anything is written.
+#![tactic(auto)]
+
 ghost use Rattle.std.specs.Prelude.{◌≡◌, length};
 ghost use Rattle.definitions.specs.Input.{input_of};
 ghost use Rattle.calls.specs.Paper.{value};

@@ -1,4 +1,6 @@
 // The circuits of single-file maps (document 02, job 12): the profile of their columns, and the order of a row's unknowns.
+#![tactic(auto)]
+
 ghost use Rattle.std.specs.Prelude.{◌≡◌, ◌+◌, ◌≤◌, ◌<◌, length};
 ghost use Rattle.single_order.specs.Rows.{map_of};
 ghost use Rattle.single_spec.specs.Graph as graph;

@@ -1,4 +1,6 @@
 // The starts: plain, from a lower bound, and of a capped run. Each takes the run record by value and returns what it leaves.
+#![tactic(auto)]
+
 ghost use Rattle.std.specs.Prelude.{◌≡◌, ℕ};
 ghost use Rattle.definitions.specs.Calls.{start, start_from};
 ghost use Rattle.definitions.specs.Input.{alone, input_with, rights as sides};

@@ -1,4 +1,6 @@
 // One step of a walk, the count of steps aside. Which unknowns make a child is found before anything is written.
+#![tactic(auto)]
+
 ghost use Rattle.std.specs.Prelude.{List, [], ℕ, ◌+◌, ◌≤◌, ◌<◌, length};
 ghost use Rattle.definitions.specs.Step.{row_width};
 ghost use Rattle.table_rows.specs.Rows.{part, tuple};

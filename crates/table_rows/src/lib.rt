@@ -1,4 +1,6 @@
 // Rows of numbers in a lent table, of any width and under any limit of coefficients whose values fit 64 bits.
+#![tactic(auto)]
+
 pub mod lists; // lists.rt: the check on a list
 pub mod rows; // rows.rt: rows compared, copied, and within a limit
 pub mod same; // same.rt: the row that is a tuple

@@ -1,4 +1,6 @@
 // Numbers in texts: reading them, and writing into space that is lent.
+#![tactic(auto)]
+
 ghost use Rattle.std.specs.Prelude.{◌≡◌};
 ghost use Rattle.texts.specs.Decimals.{separator};
 

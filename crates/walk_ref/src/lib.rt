@@ -1,4 +1,6 @@
 // The calls as an editor uses them: the caller's own run record is advanced through a reference, over the calls by value.
+#![tactic(auto)]
+
 ghost use Rattle.std.specs.Prelude.{◌≡◌, ℕ};
 ghost use Rattle.definitions.specs.Calls.{start as start_of, resume as resume_of};
 ghost use Rattle.definitions.specs.System.{most_component};

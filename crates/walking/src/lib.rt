@@ -1,4 +1,6 @@
 // The walk of a continuing call that was not refused, of any kind.
+#![tactic(auto)]
+
 ghost use Rattle.std.specs.Prelude.{◌≡◌, max, min, ◌+◌, ◌≤◌};
 ghost use Rattle.definitions.specs.Answers.{Check as Checked};
 ghost use Rattle.definitions.specs.Calls.{machine_of};

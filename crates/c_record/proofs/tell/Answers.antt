@@ -1,5 +1,4 @@
 -- `tell` meets its contract. Assumes nothing.
-use borrow.Author.Rules.{rules}
 use Rattle.c_record.proofs.tell.Goals as goal
 
 pub returns : goal.returns

@@ -3,7 +3,6 @@ use Rattle.c_record.specs.CodeLaws.{answer_fits}
 use Rattle.c_record.specs.WordLaws.{both_told}
 use Rattle.c_seat.specs.SeatWordLaws.{seat_resume_from_fits}
 use Rattle.c_seat.specs.SeatWords.{seat_resume_bounded}
-use borrow.Author.Rules.{rules}
 use Rattle.c_seat.proofs.resume_from.Goals as goal
 
 pub tell-requires : goal.tell-requires

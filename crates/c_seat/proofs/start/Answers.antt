@@ -4,7 +4,6 @@ use Rattle.c_record.specs.WordLaws.{start_told, told_misfit}
 use Rattle.c_record.specs.Words.{told}
 use Rattle.c_seat.specs.SeatWordLaws.{seat_start_fits}
 use Rattle.c_seat.specs.SeatWords.{seat_resume_words, seat_start_words}
-use borrow.Author.Rules.{rules}
 use Rattle.c_seat.proofs.start.Goals as goal
 
 pub tell-requires : goal.tell-requires

@@ -4,7 +4,6 @@ use Rattle.c_record.specs.WordLaws.{start_both_told, told_misfit}
 use Rattle.c_record.specs.Words.{told_both}
 use Rattle.c_seat.specs.SeatWordLaws.{seat_start_from_fits}
 use Rattle.c_seat.specs.SeatWords.{seat_resume_bounded, seat_start_bounded}
-use borrow.Author.Rules.{rules}
 use Rattle.c_seat.proofs.start_from.Goals as goal
 
 pub tell-requires : goal.tell-requires

@@ -1,5 +1,4 @@
 -- `resume` meets its contract: what the continuing call by value answered and left is told on. Assumes nothing.
-use borrow.Author.Rules.{rules}
 use Rattle.c_record.specs.CodeLaws.{answer_fits, resume_fits}
 use Rattle.c_record.specs.Words.{resume_words}
 use Rattle.c_record.specs.WordLaws.{call_told}

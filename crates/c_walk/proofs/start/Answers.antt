@@ -1,6 +1,5 @@
 -- `start` meets its contract: what the start by value answered and left is told on, or what the continuing call told. Assumes nothing.
 use Rattle.definitions.specs.System.{most_component}
-use borrow.Author.Rules.{rules}
 use Rattle.c_record.specs.CodeLaws.{answer_fits, start_fits}
 use Rattle.c_record.specs.WordLaws.{start_told, told_misfit}
 use Rattle.c_record.specs.Words.{resume_words, start_words, told}

@@ -1,5 +1,4 @@
 -- `begun` meets its contract. Assumes nothing.
-use borrow.Author.Rules.{rules}
 use Rattle.calls.proofs.begun.Goals as goal
 
 pub returns : goal.returns

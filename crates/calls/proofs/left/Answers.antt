@@ -1,5 +1,4 @@
 -- `left` meets its contract. Assumes nothing.
-use borrow.Author.Rules.{rules}
 use Rattle.calls.proofs.left.Goals as goal
 
 pub returns : goal.returns

@@ -1,6 +1,5 @@
 -- `number_of` meets its contract, case by case: there are more than `search` goes through. Assumes nothing.
 use mathlib.Core.Path.{◌≡◌, sym, ap}
-use borrow.Author.Rules.{rules}
 use Rattle.calls.specs.Paper.{number_of}
 use Rattle.calls.specs.declared.Refusal.{Refusal}
 use Rattle.calls.proofs.number_of.Goals as goal

@@ -1,5 +1,4 @@
 -- `calls::same_run` meets its contract. Assumes nothing.
-use borrow.Author.Rules.{rules}
 use Rattle.calls.proofs.same_run.Goals as goal
 
 pub returns : goal.returns

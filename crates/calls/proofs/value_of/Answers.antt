@@ -1,6 +1,5 @@
 -- `value_of` meets its contract, case by case: there are more than `search` goes through. Assumes nothing.
 use mathlib.Core.Path.{◌≡◌, sym, ap}
-use borrow.Author.Rules.{rules}
 use Rattle.calls.specs.Paper.{value, values_of}
 use Rattle.calls.specs.declared.Refusal.{Refusal}
 use Rattle.calls.proofs.value_of.Goals as goal

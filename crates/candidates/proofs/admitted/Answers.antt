@@ -2,7 +2,6 @@
 use mathlib.Core.Path.{◌∙◌, ap}
 use mathlib.Core.List.{[]}
 use lib.ListN.{length}
-use borrow.Author.Rules.{rules}
 use Rattle.definitions.specs.System.{plain}
 use Rattle.table_rows.specs.Rows.{rows_fit, tuple}
 use Rattle.candidates.specs.Kinds.{asked}

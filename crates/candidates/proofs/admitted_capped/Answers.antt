@@ -3,7 +3,6 @@ use mathlib.Core.Path.{◌∙◌, ap}
 use mathlib.Core.List.{[]}
 use native.Mathlib.Omega.{arith}
 use lib.ListN.{length}
-use borrow.Author.Rules.{rules}
 use Rattle.definitions.specs.System.{capped}
 use Rattle.table_rows.specs.Rows.{tuple}
 use Rattle.candidates.specs.GrowLaws.{open_asked}

@@ -12,7 +12,7 @@ use Rattle.linear.specs.Tests.{any_to}
 use Rattle.definitions.specs.Tables.{frozen}
 use Rattle.table_rows.specs.Rows.{tuple}
 use Rattle.products.specs.Marks.{any_zero}
-use Rattle.products.specs.Scan.{Left, left_all, left_next, next_holds, next_inside, next_le, next_less, none_end, none_next}
+use Rattle.products.specs.Scan.{left_all, left_next, next_holds, next_inside, next_le, next_less, none_end, none_next}
 use Rattle.candidates.proofs.limited.Goals as goal
 use Rattle.candidates.proofs.limited.Goals.{In-loop-rest, Start}
 

@@ -2,7 +2,6 @@
 use mathlib.Core.Path.{sym, ◌∙◌, ap, subst}
 use Prim.Native.Nat.{◌^◌, ◌<◌}
 use lib.ListN.{length}
-use borrow.Author.Rules.{rules}
 use Rattle.products.specs.Marks.{marks_below}
 use Rattle.candidates.specs.Tried.{tried_marks}
 use Rattle.candidates.proofs.passed.Goals as goal

@@ -1,11 +1,9 @@
 -- `subtract` meets its contract. Assumes nothing.
-use Prim.Native.Nat.{◌-◌, ◌≤◌}
+use Prim.Native.Nat.{◌-◌}
 use native.Mathlib.Nat.{le_antisymm}
 use native.Mathlib.Omega.{arith}
 use borrow.Author.Rules.{rules}
-use Rattle.definitions.specs.Input.{bound_of}
-use Rattle.table_rows.specs.Rows.{tuple}
-use Rattle.candidates.specs.Open.{Differs, differs_more, differs_none}
+use Rattle.candidates.specs.Open.{differs_more, differs_none}
 use Rattle.candidates.proofs.subtract.Goals as goal
 
 pub loop-j-init : goal.loop-j-init

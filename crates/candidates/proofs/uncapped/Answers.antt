@@ -3,7 +3,6 @@ use mathlib.Core.Path.{◌≡◌, refl, ap}
 use Prim.Native.Nat.{◌%◌, ◌<◌}
 use native.Mathlib.Omega.{arith}
 use lib.ListN.{length}
-use borrow.Author.Rules.{rules}
 use Rattle.table_rows.specs.Rows.{tuple}
 use Rattle.candidates.specs.Open.{alone_room, open_alone, open_none, open_others}
 use Rattle.candidates.proofs.uncapped.Goals as goal

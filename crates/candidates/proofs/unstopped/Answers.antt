@@ -4,11 +4,10 @@ use mathlib.Core.Bool.{Bool, true, false}
 use Prim.Native.Nat.{ℕ, ◌+◌, ◌<◌}
 use native.Mathlib.Omega.{arith}
 use lib.Count.{count_trailing_zeros}
-use borrow.Author.Rules.{rules}
 use Rattle.definitions.specs.Tables.{at, frozen}
 use Rattle.definitions.specs.Step.{marks_to}
 use Rattle.table_rows.specs.Rows.{tuple}
-use Rattle.products.specs.Scan.{Left, left_all, left_next, left_end, next_inside, next_holds, next_le, next_less, next_skip, next_add, next_room}
+use Rattle.products.specs.Scan.{left_all, left_next, left_end, next_inside, next_holds, next_le, next_less, next_skip, next_add, next_room}
 use Rattle.candidates.specs.Grow.{child_by}
 use Rattle.candidates.specs.GrowLaws.{closed_makes_none, covered_makes_none, makes_one}
 use Rattle.candidates.proofs.unstopped.Goals as goal

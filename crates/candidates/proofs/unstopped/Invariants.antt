@@ -1,16 +1,11 @@
 -- `unstopped` meets its contract. The marks so far are those of the unknowns passed. Assumes nothing.
-use mathlib.Core.Path.{◌≡◌, refl, sym, ◌∙◌}
-use mathlib.Core.Bool.{Bool, true, false}
-use Prim.Native.Nat.{ℕ, ◌+◌, ◌<◌}
-use native.Mathlib.Omega.{arith}
-use lib.Count.{count_trailing_zeros}
-use borrow.Author.Rules.{rules}
+use mathlib.Core.Path.{◌≡◌}
+use Prim.Native.Nat.{ℕ}
 use Rattle.definitions.specs.Tables.{at, frozen}
 use Rattle.definitions.specs.Step.{marks_to}
 use Rattle.table_rows.specs.Rows.{tuple}
-use Rattle.products.specs.Scan.{Left, left_all, left_next, left_end, next_inside, next_holds, next_le, next_less, next_skip, next_add, next_room}
+use Rattle.products.specs.Scan.{Left}
 use Rattle.candidates.specs.Grow.{child_by}
-use Rattle.candidates.specs.GrowLaws.{closed_makes_none, covered_makes_none, makes_one}
 use Rattle.candidates.proofs.unstopped.Given as goal
 
 abbrev pub invariant-loop-rest : goal.invariant-loop-rest

@@ -1,6 +1,5 @@
 -- `checks::check_resume` meets its contract: a refusal of the shape decides, else the run record, the tables and the coefficients do. Assumes nothing.
 use mathlib.Core.Path.{sym, ap, ◌∙◌}
-use borrow.Author.Rules.{rules}
 use Rattle.definitions.specs.Answers.{◌then◌}
 use Rattle.definitions.specs.Input.{alone, input_with, system_of}
 use Rattle.definitions.specs.Refusals.{resume_checks, check6, check7}

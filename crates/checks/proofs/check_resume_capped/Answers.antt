@@ -2,7 +2,6 @@
 -- Assumes nothing.
 use mathlib.Core.Path.{sym, ap, ◌∙◌}
 use native.Mathlib.Omega.{arith}
-use borrow.Author.Rules.{rules}
 use Rattle.definitions.specs.Answers.{◌then◌}
 use Rattle.definitions.specs.Input.{input_with, rights, system_of}
 use Rattle.definitions.specs.Refusals.{resume_checks, check6, range_checks}

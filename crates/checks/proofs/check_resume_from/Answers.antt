@@ -1,7 +1,6 @@
 -- `checks::check_resume_from` meets its contract: a refusal of the shape decides, else the lower bound, the run record, the tables and the coefficients do.
 -- Assumes nothing.
 use mathlib.Core.Path.{sym, ap, ◌∙◌}
-use borrow.Author.Rules.{rules}
 use Rattle.definitions.specs.Answers.{◌then◌}
 use Rattle.definitions.specs.Input.{alone, input_with}
 use Rattle.definitions.specs.Refusals.{check5, check6_from, check7, check8, resume_from_checks}

@@ -1,5 +1,4 @@
 -- `checks::check_start` meets its contract: a refusal of the shape decides, else the coefficients do. Assumes nothing.
-use borrow.Author.Rules.{rules}
 use Rattle.definitions.specs.Refusals.{start_checks, check7}
 use Rattle.definitions.specs.Input.{alone, input_of}
 use Rattle.definitions.specs.System.{most_component}

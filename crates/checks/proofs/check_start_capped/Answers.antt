@@ -1,5 +1,4 @@
 -- `checks::check_start_capped` meets its contract: a refusal of the shape decides, else the coefficients and the right sides do. Assumes nothing.
-use borrow.Author.Rules.{rules}
 use Rattle.definitions.specs.Answers.{◌then◌}
 use Rattle.definitions.specs.Refusals.{start_checks, check7, check15}
 use Rattle.definitions.specs.Input.{input_with, rights}

@@ -1,5 +1,4 @@
 -- `checks::check_start_from` meets its contract: a refusal of the shape decides, else the lower bound and the coefficients do. Assumes nothing.
-use borrow.Author.Rules.{rules}
 use Rattle.definitions.specs.Answers.{◌then◌}
 use Rattle.definitions.specs.Refusals.{lower_checks, check5, check7, check8}
 use Rattle.definitions.specs.Input.{alone, input_with}

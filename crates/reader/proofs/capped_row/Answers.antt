@@ -1,6 +1,5 @@
 -- `reader::capped_row` meets its contract: above 15 unknowns the part is empty, else it is what `row_of` shows. Assumes nothing.
 use mathlib.Core.Path.{◌∙◌}
-use borrow.Author.Rules.{rules}
 use Rattle.reader.specs.Reading.{capped_narrow, capped_wide}
 use Rattle.reader.proofs.capped_row.Goals as goal
 

@@ -1,5 +1,4 @@
 -- `reader::reader_answer` meets its contract. Assumes nothing.
-use borrow.Author.Rules.{rules}
 use Rattle.definitions.specs.Answers.{refuse_with}
 use Rattle.reader.proofs.reader_answer.Goals as goal
 

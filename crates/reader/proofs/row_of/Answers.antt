@@ -1,6 +1,5 @@
 -- `reader::row_of` meets its contract. A row that is shown lies in the table (`RowIn`), so no product and no sum wraps. Assumes nothing.
 use native.Mathlib.Omega.{arith}
-use borrow.Author.Rules.{rules}
 use Rattle.reader.specs.Reading.{shown_in, part_shown, part_hidden}
 use Rattle.reader.proofs.row_of.Goals as goal
 

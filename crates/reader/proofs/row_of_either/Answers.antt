@@ -1,6 +1,5 @@
 -- `reader::row_of_either` meets its contract: the part is one of the table that was asked. Assumes nothing.
 use mathlib.Core.Path.{◌∙◌, sym, ap}
-use borrow.Author.Rules.{rules}
 use Rattle.definitions.specs.Reader.{at_zero, at_one, row_of_either}
 use Rattle.reader.specs.Reading.{either_part, which_of}
 use Rattle.reader.proofs.row_of_either.Goals as goal

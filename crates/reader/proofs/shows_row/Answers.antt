@@ -1,6 +1,5 @@
 -- `reader::shows_row` meets its contract. Assumes nothing.
-use borrow.Author.Rules.{rules}
-use borrow.Author.Tests.{le-leb, lt-leb, not-true, not-false}
+use borrow.Author.Tests.{le-leb, lt-leb}
 use Rattle.definitions.specs.Reader.{has_row}
 use Rattle.reader.specs.Reading.{shows, range_least}
 use Rattle.reader.proofs.shows_row.Goals as goal

@@ -1,4 +1,4 @@
--- `reasons::left_side` meets its contract. The sum so far is that over the unknowns passed, as bits. Assumes nothing.
+-- `reasons::left_side` meets its contract. The sum so far is that over the unknowns passed. Assumes nothing.
 use mathlib.Core.Path.{◌≡◌}
 use Prim.Native.Nat.{◌+◌, ◌*◌, ◌-◌, ◌≤◌}
 use lib.IntN.{pos}

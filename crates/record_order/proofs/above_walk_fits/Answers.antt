@@ -1,8 +1,6 @@
 -- `record_order::above_walk_fits` meets its contract: the walk decides, then what it is asked besides, then the other walk's steps. Assumes nothing.
 use mathlib.Core.Bool.{and-false}
 use mathlib.Core.Path.{sym, ◌∙◌}
-use borrow.Author.Rules.{rules}
-use borrow.Author.Tests.{not-true, not-false}
 use Rattle.calls.specs.Paper.{run_of}
 use Rattle.record_order.specs.Order.{above_walk_fits, record_height}
 use Rattle.record_order.proofs.above_walk_fits.Goals as goal

@@ -1,13 +1,8 @@
 -- `record_order::count_marks` meets its contract: the marks that are left and those counted are all marks. Assumes nothing.
 use mathlib.Core.Path.{◌≡◌}
-use Prim.Native.Nat.{ℕ, ◌+◌, ◌*◌, ◌-◌, ◌%◌, ◌^◌, ◌<◌}
-use native.Mathlib.Omega.{arith}
-use lib.Count.{count_trailing_zeros}
-use lib.Dec.{T}
-use Rattle.linear.specs.TestLaws.{count_le, count_none}
+use Prim.Native.Nat.{◌+◌, ◌-◌, ◌^◌, ◌<◌}
 use Rattle.linear.specs.Tests.{count_to}
 use Rattle.definitions.specs.Tables.{frozen}
-use Rattle.laws.specs.MarkLaws.{count_frozen_add, frozen_gone, frozen_le, frozen_none, lowest_frozen, lowest_le, lowest_less, shift_one}
 use Rattle.record_order.proofs.count_marks.Given as goal
 
 abbrev pub invariant-loop-rest : goal.invariant-loop-rest

@@ -1,6 +1,5 @@
 -- `record_order::lower_in_order` meets its contract: the kind of run decides which walk is looked at. Assumes nothing.
 use mathlib.Core.Path.{◌≡◌, sym, ◌∙◌, ap}
-use borrow.Author.Rules.{rules}
 use Rattle.definitions.specs.Tables.{RunKind}
 use Rattle.calls.specs.Paper.{kind_of, run_of}
 use Rattle.calls.specs.declared.RunKind as declared

@@ -1,8 +1,7 @@
 -- `record_order::plain_walk_fits` meets its contract: the plain walk decides, then the other walk's list, then its steps. Assumes nothing.
 use mathlib.Core.Bool.{and-false}
 use mathlib.Core.Path.{◌≡◌, sym, ◌∙◌, ap}
-use borrow.Author.Rules.{rules}
-use borrow.Author.Tests.{le-leb, lt-leb, not-true, not-false}
+use borrow.Author.Tests.{le-leb, lt-leb}
 use Rattle.definitions.specs.Tables.{plain_run}
 use Rattle.calls.specs.Paper.{plain_part_of, run_of}
 use Rattle.record_order.specs.Order.{plain_walk_fits, record_fits}

@@ -2,15 +2,10 @@
 use Prim.Native.Nat.{ℕ, ◌+◌, ◌-◌, ◌≤◌}
 use mathlib.Core.Bool.{Bool, true}
 use mathlib.Core.List.{List}
-use mathlib.Core.Path.{◌≡◌, refl, sym}
-use native.Mathlib.Nat.{le_antisymm}
+use mathlib.Core.Path.{◌≡◌}
 use lib.Dec.{leb}
-use borrow.Author.Rules.{rules}
-use borrow.Author.Tests.{le-leb, lt-leb}
 use Rattle.linear.specs.Tests.{all_to}
-use Rattle.linear.specs.LoopLaws.{all_next, all_fails}
 use Rattle.definitions.specs.Input.{bound_of}
-use Rattle.definitions.specs.System.{is_at_or_below}
 use Rattle.definitions.specs.Tables.{at}
 use Rattle.record_order.proofs.row_above.Given as goal
 

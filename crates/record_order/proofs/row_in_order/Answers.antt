@@ -2,8 +2,7 @@
 use Prim.Native.Nat.{◌+◌, ◌^◌}
 use mathlib.Core.Path.{sym, ◌∙◌}
 use native.Mathlib.Omega.{arith}
-use borrow.Author.Rules.{rules}
-use borrow.Author.Tests.{le-ltb, lt-ltb, not-false, not-true}
+use borrow.Author.Tests.{le-ltb, lt-ltb}
 use Rattle.laws.specs.MarkLaws.{count_frozen_fit, shift_one}
 use Rattle.definitions.specs.Tables.{at}
 use Rattle.definitions.specs.Refusals.{row_fits}

@@ -1,17 +1,13 @@
 -- `record_order::rows_above` meets its contract. Every row passed is at or above the bound. Assumes nothing.
-use Prim.Native.Nat.{◌+◌, ◌-◌, ◌≤◌}
+use Prim.Native.Nat.{◌+◌, ◌-◌}
 use mathlib.Core.Bool.{true}
-use mathlib.Core.Path.{◌≡◌, refl, sym, ◌∙◌}
+use mathlib.Core.Path.{refl, sym, ◌∙◌}
 use native.Mathlib.Nat.{le_antisymm}
 use native.Mathlib.Omega.{arith}
 use borrow.Author.Rules.{rules}
-use borrow.Author.Tests.{not-true, not-false}
 use Rattle.linear.specs.Tests.{all_to}
 use Rattle.linear.specs.LoopLaws.{all_next, all_fails}
 use Rattle.laws.specs.TableLaws.{row_fits}
-use Rattle.definitions.specs.Input.{bound_of}
-use Rattle.definitions.specs.System.{is_at_or_below}
-use Rattle.definitions.specs.Tables.{at}
 use Rattle.record_order.proofs.rows_above.Goals as goal
 
 pub loop-k-init : goal.loop-k-init

@@ -1,14 +1,8 @@
 -- `record_order::rows_above` meets its contract. Every row passed is at or above the bound. Assumes nothing.
 use Prim.Native.Nat.{◌+◌, ◌-◌, ◌≤◌}
 use mathlib.Core.Bool.{true}
-use mathlib.Core.Path.{◌≡◌, refl, sym, ◌∙◌}
-use native.Mathlib.Nat.{le_antisymm}
-use native.Mathlib.Omega.{arith}
-use borrow.Author.Rules.{rules}
-use borrow.Author.Tests.{not-true, not-false}
+use mathlib.Core.Path.{◌≡◌}
 use Rattle.linear.specs.Tests.{all_to}
-use Rattle.linear.specs.LoopLaws.{all_next, all_fails}
-use Rattle.laws.specs.TableLaws.{row_fits}
 use Rattle.definitions.specs.Input.{bound_of}
 use Rattle.definitions.specs.System.{is_at_or_below}
 use Rattle.definitions.specs.Tables.{at}

@@ -1,13 +1,8 @@
 -- `record_order::rows_in_order` meets its contract. Every row passed is in order. Assumes nothing.
-use Prim.Native.Nat.{◌+◌, ◌-◌, ◌≤◌}
+use Prim.Native.Nat.{◌-◌, ◌≤◌}
 use mathlib.Core.Bool.{true}
-use mathlib.Core.Path.{◌≡◌, refl, sym, ◌∙◌}
-use native.Mathlib.Nat.{le_antisymm}
-use native.Mathlib.Omega.{arith}
-use borrow.Author.Rules.{rules}
-use borrow.Author.Tests.{not-true, not-false}
+use mathlib.Core.Path.{◌≡◌}
 use Rattle.linear.specs.Tests.{all_to}
-use Rattle.linear.specs.LoopLaws.{all_next, all_fails}
 use Rattle.definitions.specs.Refusals.{row_fits}
 use Rattle.record_order.proofs.rows_in_order.Given as goal
 

@@ -1,6 +1,5 @@
 -- `check` meets its contract: a refusal of the sizes decides, else the seat's own does. Assumes nothing.
 use mathlib.Core.Path.{◌≡◌, sym, ◌∙◌, ap}
-use borrow.Author.Rules.{rules}
 use borrow.Author.Tests.{le-ltb, lt-ltb}
 use Rattle.definitions.specs.Answers.{go, refuse_if, refuse_with, ◌then◌}
 use Rattle.calls.specs.CallLaws.{passes}

@@ -1,6 +1,5 @@
 -- `resumed` meets its contract: the seat's own check decides, and then the core's continuing call does the work. Assumes nothing.
 use Rattle.seat.specs.Seat.{resume_passed, resume_refused}
-use borrow.Author.Rules.{rules}
 use Rattle.seat.proofs.resumed.Goals as goal
 
 pub returns-in-Refuse : goal.returns-in-Refuse

@@ -1,6 +1,5 @@
 -- `resumed_from` meets its contract: the seat's own check decides, and then the core's continuing call does the work. Assumes nothing.
 use Rattle.seat.specs.Seat.{resume_from_passed, resume_from_refused}
-use borrow.Author.Rules.{rules}
 use Rattle.seat.proofs.resumed_from.Goals as goal
 
 pub returns-in-Refuse : goal.returns-in-Refuse

@@ -1,5 +1,4 @@
 -- `seat_outcome` meets its contract. Assumes nothing.
-use borrow.Author.Rules.{rules}
 use Rattle.seat.proofs.seat_outcome.Goals as goal
 
 pub returns-in-Started : goal.returns-in-Started

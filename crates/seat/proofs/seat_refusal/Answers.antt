@@ -1,6 +1,5 @@
 -- `seat_refusal` meets its contract. Assumes nothing.
 use Rattle.seat.specs.Seat.{at_12, not_at_12}
-use borrow.Author.Rules.{rules}
 use Rattle.seat.proofs.seat_refusal.Goals as goal
 
 pub returns-then-number_of-eq12 : goal.returns-then-number_of-eq12

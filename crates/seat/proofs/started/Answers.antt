@@ -1,7 +1,6 @@
 -- `started` meets its contract: the seat's own check decides, and then the core's start does the work. Assumes nothing.
 use Rattle.definitions.specs.System.{most_component}
 use Rattle.seat.specs.Seat.{start_passed, start_refused}
-use borrow.Author.Rules.{rules}
 use Rattle.seat.proofs.started.Goals as goal
 
 pub returns-in-Refuse : goal.returns-in-Refuse

@@ -1,6 +1,5 @@
 -- `started_from` meets its contract: the seat's own check decides, and then the core's start does the work. Assumes nothing.
 use Rattle.seat.specs.Seat.{start_from_passed, start_from_refused}
-use borrow.Author.Rules.{rules}
 use Rattle.seat.proofs.started_from.Goals as goal
 
 pub returns-in-Refuse : goal.returns-in-Refuse

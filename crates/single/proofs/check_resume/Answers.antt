@@ -5,7 +5,6 @@ use Rattle.laws.specs.RefusalLaws.{resume_valid}
 use Rattle.calls.specs.CallLaws.{passes}
 use Rattle.checks.specs.CheckLaws.{passed_first, refused_first}
 use Rattle.single_spec.specs.Calls.{single_resume_checks}
-use borrow.Author.Rules.{rules}
 use Rattle.single.proofs.check_resume.Goals as goal
 
 pub check-requires : goal.check-requires

@@ -1,7 +1,6 @@
 -- `resumed` meets its contract. The check decides, and then the plain call does the work. Assumes nothing.
 use Rattle.calls.specs.CallLaws.{call_passed, call_refused}
 use Rattle.single_spec.specs.Calls.{single_resume}
-use borrow.Author.Rules.{rules}
 use Rattle.single.proofs.resumed.Goals as goal
 
 pub returns-in-Refuse : goal.returns-in-Refuse

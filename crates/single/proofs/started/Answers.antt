@@ -2,7 +2,6 @@
 use Rattle.definitions.specs.System.{most_component}
 use Rattle.calls.specs.CallLaws.{call_passed, call_refused}
 use Rattle.single_spec.specs.Calls.{single_start}
-use borrow.Author.Rules.{rules}
 use Rattle.single.proofs.started.Goals as goal
 
 pub returns-in-Refuse : goal.returns-in-Refuse

@@ -1,7 +1,6 @@
 -- `leaving` meets its contract. No unknown passed is in the row and has its -1 at the equation. Assumes nothing.
-use Prim.Native.Nat.{◌-◌, ◌≤◌}
-use Rattle.single_order.specs.Rows.{map_of}
-use Rattle.single_order.specs.Rows.{NoneLeaving, none_leaving_yet, row_of, leaving_here, leaving_none, leaving_other, leaving_skips}
+use Prim.Native.Nat.{◌-◌}
+use Rattle.single_order.specs.Rows.{none_leaving_yet, leaving_here, leaving_none, leaving_other, leaving_skips}
 use borrow.Author.Rules.{rules}
 use Rattle.single_order.proofs.leaving.Goals as goal
 

@@ -1,12 +1,9 @@
 -- `lowest` meets its contract. No unknown passed is in the row. Assumes nothing.
-use mathlib.Core.Path.{◌≡◌, refl, sym}
+use mathlib.Core.Path.{◌≡◌}
 use Prim.Native.Nat.{◌-◌, ◌≤◌}
-use native.Mathlib.Nat.{le_antisymm}
 use Rattle.single_spec.specs.First.{find_to}
-use Rattle.single_spec.specs.FirstLaws.{first_here, first_next}
 use Rattle.single_spec.specs.Graph.{lowest, named}
-use Rattle.single_order.specs.Rows.{named_no, named_yes, row_of}
-use borrow.Author.Rules.{rules}
+use Rattle.single_order.specs.Rows.{row_of}
 use Rattle.single_order.proofs.lowest.Given as goal
 
 abbrev pub invariant-loop-j : goal.invariant-loop-j

@@ -1,7 +1,6 @@
 -- `next` meets its contract. Assumes nothing.
 use mathlib.Core.Path.{◌∙◌, ap}
 use Rattle.single_spec.specs.Graph.{leaving}
-use borrow.Author.Rules.{rules}
 use Rattle.single_order.proofs.next.Goals as goal
 
 pub returns : goal.returns

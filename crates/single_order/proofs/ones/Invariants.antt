@@ -1,7 +1,6 @@
 -- `ones` meets its contract. The components passed are 0 or 1, and so many are 1. Assumes nothing.
 use Prim.Native.Nat.{◌-◌, ◌≤◌}
-use Rattle.single_order.specs.Rows.{Ones, ones_all, ones_large, ones_none, ones_one, ones_zero, row_of}
-use borrow.Author.Rules.{rules}
+use Rattle.single_order.specs.Rows.{Ones, row_of}
 use Rattle.single_order.proofs.ones.Given as goal
 
 abbrev pub invariant-loop-j : goal.invariant-loop-j

@@ -1,18 +1,6 @@
 -- `order_of` meets its contract. So many unknowns of the order are written. Assumes nothing.
 use Prim.Native.Nat.{◌-◌}
-use Rattle.single_order.specs.Rows.{map_of}
-use Rattle.single_order.specs.Rows.{row_of}
-use Rattle.single_order.specs.Following.{
-  Following,
-  following_closed,
-  following_early,
-  following_first,
-  following_next,
-  following_open,
-  following_stuck,
-  ones_no_loop,
-}
-use borrow.Author.Rules.{rules}
+use Rattle.single_order.specs.Following.{following_closed, following_early, following_first, following_next, following_open, following_stuck, ones_no_loop}
 use Rattle.single_order.proofs.order_of.Goals as goal
 
 pub returns-then-size-eq0 : goal.returns-then-size-eq0

@@ -2,17 +2,7 @@
 use Prim.Native.Nat.{◌-◌}
 use Rattle.single_order.specs.Rows.{map_of}
 use Rattle.single_order.specs.Rows.{row_of}
-use Rattle.single_order.specs.Following.{
-  Following,
-  following_closed,
-  following_early,
-  following_first,
-  following_next,
-  following_open,
-  following_stuck,
-  ones_no_loop,
-}
-use borrow.Author.Rules.{rules}
+use Rattle.single_order.specs.Following.{Following}
 use Rattle.single_order.proofs.order_of.Given as goal
 
 abbrev pub invariant-loop-k : goal.invariant-loop-k

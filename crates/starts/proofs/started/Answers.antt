@@ -1,5 +1,4 @@
 -- `started` meets its contract: the check decides, and the rows written are those of the plain start. Assumes nothing.
-use borrow.Author.Rules.{rules}
 use Rattle.definitions.specs.Tables.{units_start}
 use Rattle.definitions.specs.Calls.{start}
 use Rattle.laws.specs.RefusalLaws.{start_shaped}

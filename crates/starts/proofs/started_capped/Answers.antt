@@ -1,7 +1,6 @@
 -- `started_capped` meets its contract: the check decides, and the rows written are those of the start, on one unknown more. Assumes nothing.
 use native.Mathlib.Numerals.{add-one}
 use native.Mathlib.Omega.{arith}
-use borrow.Author.Rules.{rules}
 use Rattle.definitions.specs.Tables.{units_start}
 use Rattle.definitions.specs.Calls.{start}
 use Rattle.laws.specs.RefusalLaws.{start_shaped}

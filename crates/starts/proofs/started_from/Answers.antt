@@ -1,6 +1,5 @@
 -- `started_from` meets its contract: the check decides, and the rows written are those of a plain start. Assumes nothing.
 use mathlib.Core.Path.{refl}
-use borrow.Author.Rules.{rules}
 use Rattle.definitions.specs.Tables.{lower_start}
 use Rattle.definitions.specs.Calls.{start_from}
 use Rattle.laws.specs.RefusalLaws.{lower_shaped}

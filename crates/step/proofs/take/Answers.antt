@@ -10,7 +10,6 @@ use Rattle.definitions.specs.System.{Kind, is_zero}
 use Rattle.definitions.specs.Tables.{State}
 use Rattle.table_rows.specs.Rows.{Holds, part_holds, tuple}
 use Rattle.products.specs.Products.{entry}
-use borrow.Author.Rules.{rules}
 use Rattle.candidates.specs.Grow.{child_for}
 use Rattle.candidates.specs.Kinds.{asked, kind_by, width_any}
 use Rattle.candidates.specs.Tried.{large_tried, made_tried, tried_same, tried_by}

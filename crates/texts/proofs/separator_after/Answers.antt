@@ -1,7 +1,6 @@
 -- `texts::separator_after` meets its contract: by cases on the numbers that follow. Assumes nothing.
 use Prim.Native.Nat.{ℕ, zero, suc}
 use mathlib.Core.Path.{◌≡◌, refl}
-use borrow.Author.Rules.{rules}
 use Rattle.texts.specs.Decimals.{space, separator}
 use Rattle.texts.proofs.separator_after.Goals as goal
 

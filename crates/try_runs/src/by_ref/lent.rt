@@ -1,4 +1,4 @@
-// The calls over a reference: each lends them a record of its own, as a caller does. Their proofs are walks by hand, so they do nothing else.
+// The calls over a reference: each lends them a record of its own, as a caller does.
 ghost use Rattle.std.specs.Prelude.{◌≡◌, ℕ};
 ghost use Rattle.definitions.specs.Calls.{start, start_from, resume, resume_from};
 ghost use Rattle.definitions.specs.System.{most_component};

@@ -1,7 +1,6 @@
 -- `resumed` meets its contract: the check decides, and the walk does the rest, with a second list of no places. Assumes nothing.
 use mathlib.Core.Path.{◌∙◌, ap}
 use Prim.Native.Nat.{ℕ}
-use borrow.Author.Rules.{rules}
 use Rattle.definitions.specs.Calls.{machine_of}
 use Rattle.definitions.specs.Input.{alone, input_with}
 use Rattle.definitions.specs.Machine.{Outcome, call, walk}

@@ -1,7 +1,6 @@
 -- `resumed_capped` meets its contract: the walk goes through the extended system. Assumes nothing.
 use mathlib.Core.Path.{refl, sym, subst, ◌∙◌, ap}
 use native.Mathlib.Omega.{arith}
-use borrow.Author.Rules.{rules}
 use lib.ListN.{length-take}
 use Rattle.definitions.specs.Calls.{machine_of}
 use Rattle.definitions.specs.Input.{input_with, rights}

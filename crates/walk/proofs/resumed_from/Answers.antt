@@ -1,6 +1,5 @@
 -- `resumed_from` meets its contract: the check decides, else the walks of the run go on. Assumes nothing.
 use mathlib.Core.Path.{refl}
-use borrow.Author.Rules.{rules}
 use Rattle.definitions.specs.Machine.{call}
 use Rattle.laws.specs.LowerLaws.{resume_from_valid}
 use Rattle.calls.specs.CallLaws.{call_refused, call_passed, passes}

@@ -1,11 +1,9 @@
 -- `walk_system` meets its contract. The walk from the first state is, at each turn, the walk from the state reached with the budget left. The measure is
 -- the number of steps until the call stops. Assumes nothing.
 use mathlib.Core.Path.{◌≡◌, refl, sym, ◌∙◌, ap}
-use mathlib.Core.Logic.{inl, inr}
 use Prim.Native.Nat.{ℕ, suc, max, ◌+◌, ◌-◌, ◌≤◌}
 use native.Mathlib.Omega.{arith}
-use lib.ListN.{length, get_or}
-use borrow.Author.Rules.{rules}
+use lib.ListN.{get_or}
 use Rattle.definitions.specs.Calls.{machine_of}
 use Rattle.definitions.specs.Machine.{walk}
 use Rattle.definitions.specs.Refusals.{step_limit}
@@ -16,7 +14,6 @@ use Rattle.calls.specs.declared.Record.{Record}
 use Rattle.products.specs.ProductLaws.{gram_small}
 use Rattle.candidates.specs.Kinds.{asked, beside, kind_by}
 use Rattle.walking.specs.WalkLaws.{
-  Walking,
   blank_zeros,
   ends_complete,
   ends_late,

@@ -1,36 +1,12 @@
 -- `walk_system` meets its contract. The walk from the first state is, at each turn, the walk from the state reached with the budget left. The measure is
 -- the number of steps until the call stops. Assumes nothing.
-use mathlib.Core.Path.{◌≡◌, refl, sym, ◌∙◌, ap}
-use mathlib.Core.Logic.{inl, inr}
-use Prim.Native.Nat.{ℕ, suc, max, ◌+◌, ◌-◌, ◌≤◌}
-use native.Mathlib.Omega.{arith}
-use lib.ListN.{length, get_or}
-use borrow.Author.Rules.{rules}
-use Rattle.definitions.specs.Calls.{machine_of}
-use Rattle.definitions.specs.Machine.{walk}
-use Rattle.definitions.specs.Refusals.{step_limit}
-use Rattle.definitions.specs.Step.{deeper, top}
-use Rattle.definitions.specs.Tables.{State}
+use mathlib.Core.Path.{◌≡◌}
+use Prim.Native.Nat.{◌+◌, ◌-◌, ◌≤◌}
+use lib.ListN.{length}
+use Rattle.definitions.specs.Step.{top}
 use Rattle.calls.specs.Paper.{kind_of, state_with, system_with}
-use Rattle.calls.specs.declared.Record.{Record}
-use Rattle.products.specs.ProductLaws.{gram_small}
 use Rattle.candidates.specs.Kinds.{asked, beside, kind_by}
-use Rattle.walking.specs.WalkLaws.{
-  Walking,
-  blank_zeros,
-  ends_complete,
-  ends_late,
-  ends_paused,
-  found_small,
-  second_small,
-  small_coefs,
-  small_rows,
-  standing,
-  turn_grown,
-  turn_listed,
-  turn_listed₂,
-  turn_refused,
-}
+use Rattle.walking.specs.WalkLaws.{Walking}
 use Rattle.walking.proofs.walk_system.Given as goal
 
 abbrev pub invariant-loop-height : goal.invariant-loop-height

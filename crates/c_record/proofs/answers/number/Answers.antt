@@ -1,6 +1,5 @@
 -- `answers::number` meets its contract. Assumes nothing.
 use mathlib.Core.Path.{◌∙◌, sym, ap}
-use borrow.Author.Rules.{rules}
 use Rattle.calls.specs.Paper.{answer_of}
 use Rattle.c_record.specs.Codes.{code}
 use Rattle.c_record.proofs.answers.number.Goals as goal

@@ -1,5 +1,4 @@
 -- `c_record::misfit::misfit` meets its contract: the check of a continuing call refuses, and its refusal is told. Assumes nothing.
-use borrow.Author.Rules.{rules}
 use Rattle.c_record.specs.Words.{resume_words}
 use Rattle.c_record.specs.WordLaws.{misfit_fits, misfit_never_passes, misfit_told}
 use Rattle.c_record.proofs.misfit.misfit.Goals as goal

@@ -1,5 +1,4 @@
 -- `words::read` meets its contract. Assumes nothing.
-use borrow.Author.Rules.{rules}
 use Rattle.c_record.specs.WordLaws.{record_fitting, record_misfit}
 use Rattle.c_record.proofs.words.read.Goals as goal
 

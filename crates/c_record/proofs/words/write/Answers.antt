@@ -1,5 +1,4 @@
 -- `words::write` meets its contract. Assumes nothing.
-use borrow.Author.Rules.{rules}
 use Rattle.c_record.specs.WordLaws.{words_fitting, words_high, words_misfit}
 use Rattle.c_record.proofs.words.write.Goals as goal
 

@@ -1,5 +1,4 @@
 -- `start_from` meets its contract: what the start by value answered and left is told on, or what the continuing call told. Assumes nothing.
-use borrow.Author.Rules.{rules}
 use Rattle.c_record.specs.CodeLaws.{answer_fits, start_from_fits}
 use Rattle.c_record.specs.WordLaws.{start_both_told, told_misfit}
 use Rattle.c_record.specs.Words.{told_both}

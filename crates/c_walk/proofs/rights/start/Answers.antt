@@ -1,5 +1,4 @@
 -- `start` meets its contract: what the start by value answered and left is told on, or what the continuing call told. Assumes nothing.
-use borrow.Author.Rules.{rules}
 use Rattle.definitions.specs.System.{most_component}
 use Rattle.c_record.specs.CodeLaws.{answer_fits, start_fits}
 use Rattle.c_record.specs.WordLaws.{start_both_told, told_misfit}

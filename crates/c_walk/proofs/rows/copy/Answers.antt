@@ -1,9 +1,8 @@
 -- `copy` meets its contract. The entries passed are those of the part, and the others are as they were. Assumes nothing.
-use Prim.Native.Nat.{◌-◌, ◌≤◌}
-use mathlib.Core.List.{◌++◌}
-use mathlib.Core.Path.{◌≡◌, refl, ◌∙◌}
+use Prim.Native.Nat.{◌-◌}
+use mathlib.Core.Path.{refl, ◌∙◌}
 use native.Mathlib.Omega.{arith}
-use lib.ListN.{length, drop, take, length-set}
+use lib.ListN.{length-set}
 use borrow.Author.Rules.{rules}
 use Rattle.linear.specs.Copies.{copied_next, copied_all}
 use Rattle.c_walk.proofs.rows.copy.Goals as goal

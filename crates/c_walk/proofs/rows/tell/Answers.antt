@@ -1,6 +1,5 @@
 -- `tell` meets its contract. Assumes nothing.
 use mathlib.Core.Path.{◌∙◌, ap, sym}
-use borrow.Author.Rules.{rules}
 use Rattle.reader.specs.Reading.{readable_of}
 use Rattle.c_walk.specs.RowLaws.{told_refused, told_shown}
 use Rattle.c_walk.proofs.rows.tell.Goals as goal

@@ -1,6 +1,5 @@
 -- `tell_either` meets its contract. Assumes nothing.
 use mathlib.Core.Path.{◌∙◌, sym}
-use borrow.Author.Rules.{rules}
 use Rattle.c_walk.specs.RowLaws.{either_refused, either_shown}
 use Rattle.c_walk.proofs.rows.tell_either.Goals as goal
 

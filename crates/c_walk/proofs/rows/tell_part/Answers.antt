@@ -1,5 +1,4 @@
 -- `tell_part` meets its contract. Assumes nothing.
-use borrow.Author.Rules.{rules}
 use Rattle.c_walk.specs.RowLaws.{told_none, told_short, told_copied}
 use Rattle.c_walk.proofs.rows.tell_part.Goals as goal
 

@@ -1,5 +1,4 @@
 -- `codes::coded` meets its contract. Assumes nothing.
-use borrow.Author.Rules.{rules}
 use Rattle.calls.specs.CodeLaws.{code_small, code_large}
 use Rattle.calls.proofs.codes.coded.Goals as goal
 

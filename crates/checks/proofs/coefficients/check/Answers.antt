@@ -1,7 +1,6 @@
 -- `checks::coefficients::check` meets its contract. Assumes nothing.
 use mathlib.Core.Path.{sym}
 use native.Mathlib.Nat.{le_antisymm}
-use borrow.Author.Rules.{rules}
 use Rattle.laws.specs.AnswerLaws.{refuse_at}
 use Rattle.checks.proofs.coefficients.check.Goals as goal
 

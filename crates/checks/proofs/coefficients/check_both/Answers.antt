@@ -1,6 +1,5 @@
 -- `checks::coefficients::check_both` meets its contract: a coefficient out of range decides, else the right sides do. Assumes nothing.
 use mathlib.Core.Path.{◌∙◌}
-use borrow.Author.Rules.{rules}
 use Rattle.checks.specs.CheckLaws.{refused_first, passed_first}
 use Rattle.checks.proofs.coefficients.check_both.Goals as goal
 

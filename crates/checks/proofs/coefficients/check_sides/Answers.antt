@@ -1,5 +1,4 @@
 -- `checks::coefficients::check_sides` meets its contract: what refuses a coefficient refuses a right side, without its place. Assumes nothing.
-use borrow.Author.Rules.{rules}
 use Rattle.checks.specs.Coefficients.{sides_checked}
 use Rattle.checks.proofs.coefficients.check_sides.Goals as goal
 

@@ -1,13 +1,9 @@
 -- `checks::coefficients::first_outside` meets its contract. No coefficient passed is out of range. Assumes nothing.
 use Prim.Native.Nat.{◌-◌, ◌≤◌}
-use mathlib.Core.Path.{◌≡◌, refl, sym, ◌∙◌}
-use native.Mathlib.Omega.{arith}
+use mathlib.Core.Path.{◌≡◌}
 use lib.IntN.{pos}
 use lib.ListN.{length, get_or}
-use mir.Facts.{to_z-of_z}
-use borrow.Author.Rules.{rules, sfits_of}
 use Rattle.definitions.specs.Answers.{go, refuse_first}
-use Rattle.laws.specs.AnswerLaws.{refuse_next}
 use Rattle.definitions.specs.Refusals.{out_of_range}
 use Rattle.checks.proofs.coefficients.first_outside.Given as goal
 

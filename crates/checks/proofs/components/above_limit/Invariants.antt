@@ -1,14 +1,10 @@
 -- `checks::components::above_limit` meets its contract. No component passed is above the limit. Assumes nothing.
 use Prim.Native.Nat.{◌-◌, ◌≤◌}
 use mathlib.Core.Bool.{false}
-use mathlib.Core.Path.{◌≡◌, refl, sym}
-use native.Mathlib.Nat.{le_antisymm}
+use mathlib.Core.Path.{◌≡◌}
 use lib.Dec.{ltb}
 use lib.ListN.{length, get_or}
-use borrow.Author.Rules.{rules}
-use borrow.Author.Tests.{lt-ltb, le-ltb}
 use Rattle.linear.specs.Tests.{any_to}
-use Rattle.linear.specs.LoopLaws.{any_next, any_holds}
 use Rattle.checks.proofs.components.above_limit.Given as goal
 
 abbrev pub invariant-loop-j : goal.invariant-loop-j

@@ -1,5 +1,4 @@
 -- `checks::counts::check` meets its contract: document 01's limits. Assumes nothing.
-use borrow.Author.Rules.{rules}
 use Rattle.checks.specs.Counts.{count_checks}
 use Rattle.checks.proofs.counts.check.Goals as goal
 

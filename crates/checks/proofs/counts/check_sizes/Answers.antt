@@ -1,5 +1,4 @@
 -- `checks::counts::check_sizes` meets its contract: document 01's limits. Assumes nothing.
-use borrow.Author.Rules.{rules}
 use Rattle.checks.specs.Counts.{size_checks}
 use Rattle.checks.proofs.counts.check_sizes.Goals as goal
 

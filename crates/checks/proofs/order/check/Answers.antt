@@ -1,7 +1,6 @@
 -- `checks::order::check` meets its contract: 6 decides, else 7 does. Assumes nothing.
 use Prim.Native.Nat.{ℕ}
 use mathlib.Core.Path.{◌≡◌, sym, ◌∙◌, ap}
-use borrow.Author.Rules.{rules}
 use Rattle.definitions.specs.Answers.{refuse_with, ◌then◌}
 use Rattle.definitions.specs.Input.{alone, input_with, limit_of, system_of}
 use Rattle.definitions.specs.Refusals.{in_order, check7}

@@ -2,8 +2,6 @@
 use Prim.Native.Nat.{◌+◌}
 use mathlib.Core.Path.{◌≡◌, ◌∙◌}
 use native.Mathlib.Omega.{arith}
-use borrow.Author.Rules.{rules}
-use borrow.Author.Tests.{not-false}
 use Rattle.definitions.specs.Input.{limit_of}
 use Rattle.definitions.specs.Refusals.{check7}
 use Rattle.definitions.specs.Tables.{capped_run}

@@ -1,4 +1,4 @@
--- `images::product` meets its contract. The sum so far is the inner product over the places passed, as bits. Assumes nothing.
+-- `images::product` meets its contract. The sum so far is the inner product over the places passed. Assumes nothing.
 use Prim.Native.Nat.{◌+◌}
 use borrow.Author.Rules.{rules}
 use mathlib.Core.Path.{refl}

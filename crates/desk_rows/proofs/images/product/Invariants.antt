@@ -1,4 +1,4 @@
--- `images::product` meets its contract. The sum so far is the inner product over the places passed, as bits. Assumes nothing.
+-- `images::product` meets its contract. The sum so far is the inner product over the places passed. Assumes nothing.
 use Prim.Native.Nat.{◌-◌, ◌≤◌}
 use mathlib.Core.Path.{◌≡◌}
 use Rattle.desk_rows.specs.Images.{entry}

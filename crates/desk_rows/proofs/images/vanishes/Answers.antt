@@ -1,6 +1,6 @@
 -- `images::vanishes` meets its contract. Every place passed holds 0. Assumes nothing.
 use borrow.Author.Count.{below_more, below_none}
-use borrow.Author.Rules.{rules, sfits_of}
+use borrow.Author.Rules.{rules}
 use mathlib.Core.Bool.{false, true}
 use mathlib.Core.Path.{ap}
 use mir.Syntax.{w64}
@@ -23,7 +23,7 @@ returns-then-images-k-ne0 c =
 pub loop-i-preserved : goal.loop-i-preserved
 loop-i-preserved c =
     let z = entry c.args.images.now c.args.k c.loop-i.i in
-    (search rules, below_more _ _ c.loop-i.invariant.1 (zero_bits z (sfits_of c.t11-1.given) c.if-images-k-ne0.false))
+    (search rules, below_more _ _ c.loop-i.invariant.1 (zero_bits z (search rules) c.if-images-k-ne0.false))
 
 pub returns : goal.returns
 returns c =

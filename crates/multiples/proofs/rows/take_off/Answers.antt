@@ -12,7 +12,7 @@ loop-j-init c = (search rules, refl, less_none _ _ _ _)
 
 pub overflow_mul-rest : goal.overflow_mul-rest
 overflow_mul-rest c =
-    omega (arith, still_goes c.loop-j-test.true c.requires.2 c.loop-j.invariant.2, c.slice_known-1.given c.loop-j.j)
+    omega (arith, still_goes c.loop-j-test.true c.requires.2 c.loop-j.invariant.2)
 
 pub overflow_sub-rest : goal.overflow_sub-rest
 overflow_sub-rest c = still_goes c.loop-j-test.true c.requires.2 c.loop-j.invariant.2

@@ -1,6 +1,5 @@
 -- `reader::lookups::locate_number` meets its contract: what was located, as one number. Assumes nothing.
 use mathlib.Core.Path.{ap, ◌∙◌}
-use borrow.Author.Rules.{rules}
 use Rattle.reader.specs.Answers.{located_number}
 use Rattle.reader.proofs.lookups.locate_number.Goals as goal
 

@@ -1,7 +1,6 @@
 -- `reader::lookups::locate_within` meets its contract: the refusals decide first. Assumes nothing.
 use mathlib.Core.Path.{sym, ap, ◌∙◌}
 use native.Mathlib.Omega.{arith}
-use borrow.Author.Rules.{rules}
 use borrow.Author.Tests.{eq-eqb, le-leb, lt-leb, ne_eqb}
 use Rattle.table_rows.specs.Places.{place_of}
 use Rattle.reader.specs.AnswerLaws.{asked, many_rows, many_unknowns, no_unknowns, other_length, rows_fit}

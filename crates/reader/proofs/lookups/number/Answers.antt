@@ -1,6 +1,5 @@
 -- `reader::lookups::number` meets its contract: what was located, as one number. Assumes nothing.
 use mathlib.Core.Path.{sym, ap, ◌∙◌}
-use borrow.Author.Rules.{rules}
 use Rattle.reader.specs.Answers.{located_number, located_of}
 use Rattle.reader.proofs.lookups.number.Goals as goal
 

@@ -4,7 +4,6 @@ use native.Mathlib.Nat.{le_antisymm}
 use Rattle.linear.specs.LoopLaws.{all_fails, all_next}
 use Rattle.linear.specs.Tests.{all_to}
 use Rattle.reformulation_spec.specs.Reformulation as paper
-use Rattle.reformulation_spec.specs.Reformulation.{is_entry, row_of}
 use Rattle.reformulation.specs.Given.{fails, holds}
 use borrow.Author.Rules.{rules}
 use mathlib.Core.Path.{ap}

@@ -1,7 +1,10 @@
 -- `entries::is_entry` meets its contract: by the column and the row. Assumes nothing.
 use Prim.Native.Nat.{◌+◌, ◌*◌, ◌≤◌}
 use native.Mathlib.Omega.{arith}
-use borrow.Author.Rules.{sfits_of}
+use borrow.Author.Rules.{rules}
+use mir.Syntax.{w32}
+use lib.IntN.{pos}
+use lib.ListN.{get_or}
 use borrow.Author.Tests.{eq-eqb, le-ltb, lt-ltb, ne_eqb}
 use lib.ListN.{length}
 use mir.Facts.{to_z-of_z}
@@ -34,7 +37,7 @@ bounds-coefs-i c = omega (arith, place c)
 pub returns-then-i-p : goal.returns-then-i-p
 returns-then-i-p c =
     rw (lt-ltb c.args.j c.args.q c.if-j-q.true, lt-ltb c.args.i c.args.p c.if-i-p.true)
-    (rw (to_z-of_z c.ranges.x, to_z-of_z (sfits_of c.is_same-arg-1.given)) at c.is_same.ensures)
+    (rw (to_z-of_z c.ranges.x, to_z-of_z {w = w32} {z = get_or c.args.coefs.now (c.args.i * c.args.q + c.args.j) (pos 0)} (search rules)) at c.is_same.ensures)
 
 pub returns-then-j-q : goal.returns-then-j-q
 returns-then-j-q c =

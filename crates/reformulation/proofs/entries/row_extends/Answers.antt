@@ -3,9 +3,10 @@ use mathlib.Core.Path.{◌≡◌, refl, sym}
 use Prim.Native.Nat.{◌+◌, ◌*◌, ◌≤◌}
 use native.Mathlib.Nat.{le_antisymm}
 use native.Mathlib.Omega.{arith}
-use borrow.Author.Rules.{rules, sfits_of}
+use borrow.Author.Rules.{rules}
 use lib.ListN.{length}
 use mir.Facts.{to_z-of_z}
+use mir.Syntax.{w32}
 use Rattle.laws.specs.TableLaws.{row_fits}
 use Rattle.linear.specs.LoopLaws.{all_fails, all_next}
 use Rattle.linear.specs.Tests.{all_to}
@@ -29,7 +30,9 @@ place c =
 tested : (c : After-is_entry) → let a = c.args in
     c.is_entry.result ≡ is_entry a.p a.q (row_of a.q a.coefs.now) a.i c.loop-j.j
     (row_of (a.q + a.k) a.extended.now a.i c.loop-j.j)
-tested c = rw (to_z-of_z (sfits_of c.is_entry-arg-1.given)) at c.is_entry.ensures
+tested c =
+    let a = c.args in
+    rw (to_z-of_z {w = w32} {z = row_of (a.q + a.k) a.extended.now a.i c.loop-j.j} (search rules)) at c.is_entry.ensures
 
 pub loop-j-init : goal.loop-j-init
 unfolding all_to

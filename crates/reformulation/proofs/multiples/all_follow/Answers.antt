@@ -5,7 +5,6 @@ use native.Mathlib.Omega.{arith}
 use Rattle.linear.specs.LoopLaws.{all_fails, all_next}
 use Rattle.linear.specs.Tests.{all_to}
 use Rattle.reformulation_spec.specs.Reformulation as paper
-use Rattle.reformulation_spec.specs.Reformulation.{row_of}
 use Rattle.reformulation.specs.Given.{fails, holds}
 use Rattle.reformulation.specs.Sums.{line_of}
 use borrow.Author.Rules.{rules}

@@ -2,9 +2,11 @@
 use mathlib.Core.Path.{◌≡◌, refl, sym, ◌∙◌, ap}
 use native.Mathlib.Nat.{le_antisymm}
 use lib.IntN.{pos}
+use lib.ListN.{get_or}
 use lib.Signed.{lt_z}
 use mir.Facts.{to_z-of_z}
-use borrow.Author.Rules.{rules, sfits_of}
+use mir.Syntax.{w64}
+use borrow.Author.Rules.{rules}
 use Rattle.linear.specs.LoopLaws.{all_fails, all_next}
 use Rattle.linear.specs.Tests.{all_to}
 use Rattle.reformulation_spec.specs.Reformulation as paper
@@ -20,7 +22,7 @@ taken : (c : After-is_taken) → let a = c.args in
     c.is_taken.result ≡ lt_z (pos 0) (line_at a.by.now a.from 0)
 taken c =
     let a = c.args in
-    (rw (to_z-of_z (sfits_of c.is_taken-arg-1.given)) at c.is_taken.ensures) ∙ ap (lt_z (pos 0)) (line_first a.by.now a.from)
+    (rw (to_z-of_z {w = w64} {z = get_or a.by.now a.from (pos 0)} (search rules)) at c.is_taken.ensures) ∙ ap (lt_z (pos 0)) (line_first a.by.now a.from)
 
 -- and those in the loop are of what is left over
 tested : (c : After-is_met) → let a = c.args in

@@ -1,4 +1,4 @@
--- `multiples::left_over` meets its contract. The sum is what is left over after the rows passed, as bits. Assumes nothing.
+-- `multiples::left_over` meets its contract. The sum is what is left over after the rows passed. Assumes nothing.
 use mathlib.Core.Path.{◌≡◌}
 use Prim.Native.Nat.{◌-◌, ◌≤◌}
 use Rattle.reformulation_spec.specs.Reformulation.{left_over, row_of}

@@ -5,7 +5,8 @@ use lib.Dec.{leb}
 use lib.IntN.{nat_abs, pos}
 use lib.ListN.{get_or}
 use mir.Facts.{to_z-of_z}
-use borrow.Author.Rules.{rules, sfits_of}
+use mir.Syntax.{w64}
+use borrow.Author.Rules.{rules}
 use Rattle.linear.specs.LoopLaws.{all_fails, all_next}
 use Rattle.linear.specs.Tests.{all_to}
 use Rattle.reformulation_spec.specs.Reformulation.{most_multiple}
@@ -18,7 +19,7 @@ use Rattle.reformulation.proofs.small.are_multiples.Goals.{After-is_multiple}
 -- what the call tested is the number
 tested : (c : After-is_multiple)
     → c.is_multiple.result ≡ leb (nat_abs (get_or c.args.by.now c.loop-i.i (pos 0))) most_multiple
-tested c = rw (to_z-of_z (sfits_of c.is_multiple-arg-1.given)) at c.is_multiple.ensures
+tested c = rw (to_z-of_z {w = w64} {z = get_or c.args.by.now c.loop-i.i (pos 0)} (search rules)) at c.is_multiple.ensures
 
 pub loop-i-init : goal.loop-i-init
 unfolding all_to

@@ -1,13 +1,11 @@
 -- `columns::check` meets its contract. No column passed is outside the profile. Assumes nothing.
-use mathlib.Core.Path.{◌≡◌, refl, sym}
+use mathlib.Core.Path.{refl, sym}
 use mathlib.Core.Bool.{not}
-use Prim.Native.Nat.{◌-◌, ◌≤◌}
+use Prim.Native.Nat.{◌-◌}
 use native.Mathlib.Nat.{le_antisymm}
 use borrow.Author.Rules.{rules}
-use Rattle.definitions.specs.Answers.{go, refuse_first}
-use Rattle.definitions.specs.System.{column}
+use Rattle.definitions.specs.Answers.{refuse_first}
 use Rattle.laws.specs.AnswerLaws.{refuse_at, refuse_next}
-use Rattle.single_order.specs.Rows.{map_of}
 use Rattle.single_spec.specs.Profile.{check26, in_profile}
 use mathlib.Core.Path.{ap}
 use Rattle.single_order.proofs.columns.check.Goals as goal

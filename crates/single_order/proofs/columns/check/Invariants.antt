@@ -1,14 +1,11 @@
 -- `columns::check` meets its contract. No column passed is outside the profile. Assumes nothing.
-use mathlib.Core.Path.{◌≡◌, refl, sym}
+use mathlib.Core.Path.{◌≡◌}
 use mathlib.Core.Bool.{not}
 use Prim.Native.Nat.{◌-◌, ◌≤◌}
-use native.Mathlib.Nat.{le_antisymm}
-use borrow.Author.Rules.{rules}
 use Rattle.definitions.specs.Answers.{go, refuse_first}
 use Rattle.definitions.specs.System.{column}
-use Rattle.laws.specs.AnswerLaws.{refuse_at, refuse_next}
 use Rattle.single_order.specs.Rows.{map_of}
-use Rattle.single_spec.specs.Profile.{check26, in_profile}
+use Rattle.single_spec.specs.Profile.{in_profile}
 use Rattle.single_order.proofs.columns.check.Given as goal
 
 abbrev pub invariant-loop-j : goal.invariant-loop-j

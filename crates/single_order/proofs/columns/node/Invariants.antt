@@ -1,17 +1,10 @@
 -- `columns::node` meets its contract. No equation passed has the number there. Assumes nothing.
-use mathlib.Core.Path.{◌≡◌, refl, sym, ◌∙◌}
-use Prim.Native.Nat.{◌+◌, ◌*◌, ◌-◌, ◌≤◌, ◌<◌}
-use native.Mathlib.Nat.{le_antisymm}
-use native.Mathlib.Omega.{arith}
-use lib.ListN.{length}
-use mir.Facts.{to_z-of_z}
-use borrow.Author.Rules.{rules, sfits_of}
+use mathlib.Core.Path.{◌≡◌}
+use Prim.Native.Nat.{◌-◌, ◌≤◌}
 use Rattle.definitions.specs.System.{coef}
 use Rattle.single_order.specs.Rows.{map_of}
 use Rattle.single_spec.specs.First.{find_to}
-use Rattle.single_spec.specs.FirstLaws.{first_here, first_next}
-use Rattle.single_spec.specs.Profile.{is_unit, node_of}
-use Rattle.single_order.specs.Units.{place_inside}
+use Rattle.single_spec.specs.Profile.{is_unit}
 use Rattle.single_order.proofs.columns.node.Given as goal
 
 abbrev pub invariant-loop-i : goal.invariant-loop-i

@@ -1,8 +1,8 @@
 -- `rows::clear` meets its contract. The places passed have been written. Assumes nothing.
-use mathlib.Core.Path.{◌≡◌, refl}
-use Prim.Native.Nat.{◌-◌, ◌≤◌}
+use mathlib.Core.Path.{refl}
+use Prim.Native.Nat.{◌-◌}
 use native.Mathlib.Nat.{le_antisymm, zero-add}
-use lib.ListN.{length, length-set}
+use lib.ListN.{length-set}
 use borrow.Author.Rules.{rules}
 use Rattle.definitions.specs.Tables.{write_to}
 use Rattle.laws.specs.TableLaws.{write_next}

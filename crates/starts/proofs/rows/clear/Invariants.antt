@@ -1,11 +1,8 @@
 -- `rows::clear` meets its contract. The places passed have been written. Assumes nothing.
-use mathlib.Core.Path.{◌≡◌, refl}
+use mathlib.Core.Path.{◌≡◌}
 use Prim.Native.Nat.{◌-◌, ◌≤◌}
-use native.Mathlib.Nat.{le_antisymm, zero-add}
-use lib.ListN.{length, length-set}
-use borrow.Author.Rules.{rules}
+use lib.ListN.{length}
 use Rattle.definitions.specs.Tables.{write_to}
-use Rattle.laws.specs.TableLaws.{write_next}
 use Rattle.starts.proofs.rows.clear.Given as goal
 
 abbrev pub invariant-loop-j : goal.invariant-loop-j

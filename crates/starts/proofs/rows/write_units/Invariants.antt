@@ -1,13 +1,8 @@
 -- `rows::write_units` meets its contract. The rows passed have been written into the cleared table. Assumes nothing.
-use mathlib.Core.Path.{◌≡◌, refl, ◌∙◌}
-use Prim.Native.Nat.{◌+◌, ◌-◌, ◌≤◌}
-use native.Mathlib.Nat.{le_antisymm}
-use native.Mathlib.Omega.{arith}
+use mathlib.Core.Path.{◌≡◌}
+use Prim.Native.Nat.{◌-◌, ◌≤◌}
 use lib.ListN.{length}
-use borrow.Author.Rules.{rules}
 use Rattle.definitions.specs.Tables.{units_to}
-use Rattle.laws.specs.TableLaws.{row_fits, units_next}
-use Rattle.starts.specs.Units.{units_cleared, zero_row}
 use Rattle.starts.proofs.rows.write_units.Given as goal
 
 abbrev pub invariant-loop-k : goal.invariant-loop-k

@@ -5,7 +5,6 @@ use Prim.Native.Nat.{ℕ, ◌+◌, ◌*◌, ◌≤◌, ◌<◌}
 use native.Mathlib.Omega.{arith}
 use lib.Count.{count_trailing_zeros}
 use lib.ListN.{length, get_or, set}
-use borrow.Author.Rules.{rules}
 use Rattle.linear.specs.TestLaws.{is_false}
 use Rattle.linear.specs.Tuples.{total}
 use Rattle.linear.specs.TupleLaws.{total_same}

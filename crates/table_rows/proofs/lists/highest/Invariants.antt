@@ -1,23 +1,15 @@
 -- `lists::highest` meets its contract. Outer loop: no row passed is at or below t. Inner loop: the components passed are at most t's, and the row
 -- lies within the list. Assumes nothing.
-use mathlib.Core.Path.{◌≡◌, refl, ap, ◌∙◌}
+use mathlib.Core.Path.{◌≡◌}
 use mathlib.Core.Bool.{true}
-use mathlib.Core.Logic.{inl, inr}
 use Prim.Native.Nat.{◌+◌, ◌-◌, ◌≤◌}
-use native.Mathlib.Nat.{le_antisymm}
-use native.Mathlib.Omega.{arith}
 use lib.Dec.{leb}
 use lib.ListN.{length, get_or}
-use borrow.Author.Rules.{rules}
-use borrow.Author.Tests.{le-leb, lt-leb}
 use Rattle.linear.specs.Tests.{all_to}
-use Rattle.linear.specs.LoopLaws.{all_next}
 use Rattle.definitions.specs.Highest.{highest}
-use Rattle.definitions.specs.System.{is_at_or_below}
 use Rattle.table_rows.specs.declared.lists.Place.TheVariants.{Nowhere}
-use Rattle.table_rows.specs.Places.{place_of}
 use Rattle.table_rows.specs.Rows.{tuple}
-use Rattle.table_rows.specs.Search.{Left, left_all, left_fits, left_here, left_long, left_next, left_none, left_place}
+use Rattle.table_rows.specs.Search.{Left}
 use Rattle.table_rows.proofs.lists.highest.Given as goal
 
 abbrev pub invariant-loop-j : goal.invariant-loop-j

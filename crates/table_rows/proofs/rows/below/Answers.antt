@@ -3,12 +3,10 @@ use Rattle.definitions.specs.System.{is_at_or_below}
 use Rattle.linear.specs.LoopLaws.{all_fails, all_next}
 use Rattle.linear.specs.Tests.{all_to}
 use borrow.Author.Tests.{le-leb, lt-leb}
-use lib.ListN.{get_or}
-use lib.Dec.{leb}
 use native.Mathlib.Nat.{le_antisymm}
-use Prim.Native.Nat.{◌+◌, ◌-◌, ◌≤◌}
+use Prim.Native.Nat.{◌-◌}
 use mathlib.Core.Bool.{true}
-use mathlib.Core.Path.{◌≡◌, refl, sym}
+use mathlib.Core.Path.{refl, sym}
 use borrow.Author.Rules.{rules}
 use Rattle.table_rows.proofs.rows.below.Goals as goal
 

@@ -1,15 +1,10 @@
 -- `rows::below` meets its contract. No number passed is above its fellow. Assumes nothing.
-use Rattle.definitions.specs.System.{is_at_or_below}
-use Rattle.linear.specs.LoopLaws.{all_fails, all_next}
 use Rattle.linear.specs.Tests.{all_to}
-use borrow.Author.Tests.{le-leb, lt-leb}
 use lib.ListN.{get_or}
 use lib.Dec.{leb}
-use native.Mathlib.Nat.{le_antisymm}
 use Prim.Native.Nat.{◌+◌, ◌-◌, ◌≤◌}
 use mathlib.Core.Bool.{true}
-use mathlib.Core.Path.{◌≡◌, refl, sym}
-use borrow.Author.Rules.{rules}
+use mathlib.Core.Path.{◌≡◌}
 use Rattle.table_rows.proofs.rows.below.Given as goal
 
 abbrev pub invariant-loop-j : goal.invariant-loop-j

@@ -1,12 +1,9 @@
 -- `rows::copy` meets its contract. The numbers passed have been written, and those ahead are as they were. Assumes nothing.
-use Rattle.table_rows.specs.Keeping.{copied_more}
 use Rattle.table_rows.specs.Small.{row_at}
 use Rattle.definitions.specs.Tables.{write_to}
-use lib.ListN.{length, length-set}
-use native.Mathlib.Nat.{le_antisymm}
+use lib.ListN.{length}
 use Prim.Native.Nat.{◌-◌, ◌≤◌}
-use mathlib.Core.Path.{◌≡◌, refl}
-use borrow.Author.Rules.{rules}
+use mathlib.Core.Path.{◌≡◌}
 use Rattle.table_rows.proofs.rows.copy.Given as goal
 
 abbrev pub invariant-loop-j : goal.invariant-loop-j

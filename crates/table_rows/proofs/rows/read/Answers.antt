@@ -1,11 +1,10 @@
 -- `rows::read` meets its contract. The components passed have been copied. Assumes nothing.
-use mathlib.Core.Path.{◌≡◌, refl}
-use Prim.Native.Nat.{◌-◌, ◌≤◌}
+use mathlib.Core.Path.{refl}
+use Prim.Native.Nat.{◌-◌}
 use native.Mathlib.Nat.{le_antisymm}
 use native.Mathlib.Omega.{arith}
-use lib.ListN.{length, length-set}
+use lib.ListN.{length-set}
 use borrow.Author.Rules.{rules}
-use Rattle.table_rows.specs.Rows.{Holds}
 use Rattle.table_rows.specs.Rows.{holds_more}
 use Rattle.table_rows.proofs.rows.read.Goals as goal
 

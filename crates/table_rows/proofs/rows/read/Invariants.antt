@@ -1,12 +1,8 @@
 -- `rows::read` meets its contract. The components passed have been copied. Assumes nothing.
-use mathlib.Core.Path.{◌≡◌, refl}
+use mathlib.Core.Path.{◌≡◌}
 use Prim.Native.Nat.{◌-◌, ◌≤◌}
-use native.Mathlib.Nat.{le_antisymm}
-use native.Mathlib.Omega.{arith}
-use lib.ListN.{length, length-set}
-use borrow.Author.Rules.{rules}
+use lib.ListN.{length}
 use Rattle.table_rows.specs.Rows.{Holds}
-use Rattle.table_rows.specs.Rows.{holds_more}
 use Rattle.table_rows.proofs.rows.read.Given as goal
 
 abbrev pub invariant-loop-j : goal.invariant-loop-j

@@ -1,12 +1,11 @@
 -- `rows::write` meets its contract. The components passed have been written. Assumes nothing.
-use mathlib.Core.Path.{◌≡◌, refl}
-use Prim.Native.Nat.{◌-◌, ◌≤◌}
+use mathlib.Core.Path.{refl}
+use Prim.Native.Nat.{◌-◌}
 use native.Mathlib.Nat.{le_antisymm}
-use lib.ListN.{length, length-set}
+use lib.ListN.{length-set}
 use borrow.Author.Rules.{rules}
 use Rattle.definitions.specs.Tables.{write_to}
 use Rattle.laws.specs.TableLaws.{write_next}
-use Rattle.table_rows.specs.Rows.{tuple}
 use Rattle.table_rows.proofs.rows.write.Goals as goal
 
 pub loop-j-init : goal.loop-j-init

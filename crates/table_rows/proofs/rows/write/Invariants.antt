@@ -1,11 +1,8 @@
 -- `rows::write` meets its contract. The components passed have been written. Assumes nothing.
-use mathlib.Core.Path.{◌≡◌, refl}
+use mathlib.Core.Path.{◌≡◌}
 use Prim.Native.Nat.{◌-◌, ◌≤◌}
-use native.Mathlib.Nat.{le_antisymm}
-use lib.ListN.{length, length-set}
-use borrow.Author.Rules.{rules}
+use lib.ListN.{length}
 use Rattle.definitions.specs.Tables.{write_to}
-use Rattle.laws.specs.TableLaws.{write_next}
 use Rattle.table_rows.specs.Rows.{tuple}
 use Rattle.table_rows.proofs.rows.write.Given as goal
 

@@ -1,21 +1,18 @@
 -- `same::standing` meets its contract. Outer loop: no row passed is t. Inner loop: the components passed are those of t, and the row
 -- lies within the list. Assumes nothing.
-use mathlib.Core.Path.{◌≡◌, refl, ap, ◌∙◌}
+use mathlib.Core.Path.{refl, ap, ◌∙◌}
 use mathlib.Core.Bool.{true}
-use Prim.Native.Nat.{◌+◌, ◌-◌, ◌≤◌}
+use Prim.Native.Nat.{◌-◌}
 use native.Mathlib.Nat.{le_antisymm}
 use native.Mathlib.Omega.{arith}
 use lib.Dec.{eqb}
-use lib.ListN.{length, get_or}
 use borrow.Author.Rules.{rules}
 use borrow.Author.Tests.{eq-eqb, ne_eqb}
 use Rattle.linear.specs.Tests.{all_to}
 use Rattle.linear.specs.LoopLaws.{all_next}
 use Rattle.definitions.specs.Reasons.{is_same, standing}
-use Rattle.table_rows.specs.declared.lists.Place.TheVariants.{Nowhere}
 use Rattle.table_rows.specs.Places.{place_of}
-use Rattle.table_rows.specs.Rows.{tuple}
-use Rattle.table_rows.specs.Search.{Left, left_all, left_fits, left_here, left_long, left_next, left_none, left_place}
+use Rattle.table_rows.specs.Search.{left_all, left_fits, left_here, left_long, left_next, left_none, left_place}
 use Rattle.table_rows.proofs.same.standing.Goals as goal
 
 pub rows-init : goal.rows-init

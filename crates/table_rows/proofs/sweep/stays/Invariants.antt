@@ -1,17 +1,11 @@
 -- `sweep::stays` meets its contract. No row passed, kept or later, spoils row i. Assumes nothing.
-use borrow.Author.Tests.{not-true, not-false}
-use Rattle.table_rows.specs.Keeping.{spoils_earlier, spoils_later, later_start, later_above, later_same, goes_earlier, goes_later, stays_both}
-use Rattle.laws.specs.TableLaws.{row_fits}
+use Rattle.table_rows.specs.Keeping.{spoils_earlier, spoils_later}
 use Rattle.definitions.specs.Tables.{at}
-use Rattle.linear.specs.LoopLaws.{any_next}
 use Rattle.linear.specs.Tests.{any_to}
 use lib.ListN.{length}
-use native.Mathlib.Nat.{le_antisymm}
 use Prim.Native.Nat.{◌+◌, ◌-◌, ◌≤◌, ◌<◌}
 use mathlib.Core.Bool.{false}
-use mathlib.Core.Path.{◌≡◌, refl, sym, ◌∙◌}
-use borrow.Author.Rules.{rules}
-use native.Mathlib.Omega.{arith}
+use mathlib.Core.Path.{◌≡◌}
 use Rattle.table_rows.proofs.sweep.stays.Given as goal
 
 abbrev pub invariant-loop-m : goal.invariant-loop-m

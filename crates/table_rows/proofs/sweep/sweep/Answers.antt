@@ -1,12 +1,10 @@
 -- `sweep::sweep` meets its contract. Of the rows passed those that stay stand one behind the other. Assumes nothing.
-use Rattle.table_rows.specs.Keeping.{Kept, kept_none, kept_length, kept_few, kept_skip, kept_copied, kept_test}
+use Rattle.table_rows.specs.Keeping.{kept_none, kept_length, kept_few, kept_skip, kept_copied, kept_test}
 use Rattle.laws.specs.TableLaws.{place_fits}
-use Rattle.laws.specs.Sweep.{keeps}
 use Rattle.definitions.specs.Tables.{at}
-use lib.ListN.{length}
 use native.Mathlib.Nat.{le_antisymm}
-use Prim.Native.Nat.{◌-◌, ◌≤◌}
-use mathlib.Core.Path.{◌≡◌, refl, sym, ◌∙◌}
+use Prim.Native.Nat.{◌-◌}
+use mathlib.Core.Path.{refl, sym, ◌∙◌}
 use borrow.Author.Rules.{rules}
 use native.Mathlib.Omega.{arith}
 use Rattle.table_rows.proofs.sweep.sweep.Goals as goal

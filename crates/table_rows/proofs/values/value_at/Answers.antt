@@ -21,7 +21,7 @@ sum_and-sum-requires c =
 pub loop-j-preserved : goal.loop-j-preserved
 loop-j-preserved c =
     let bits = product_added c.requires.0 c.requires.1 c.loop-j.j (bits_are c.loop-j.auto.sum-fits c.loop-j.invariant.1) c.loop-j-test.true c.wide.ensures c.natural.ensures
-        c.sum_and-sum.ensures in
+    c.sum_and-sum.ensures in
     (search rules, sum_read c.requires.0 c.requires.1 (c.loop-j.j + 1) bits (omega arith))
 
 pub returns : goal.returns

@@ -1,13 +1,9 @@
 -- `values::value_at` meets its contract. The sum is that of the products passed. Assumes nothing.
-use Rattle.table_rows.specs.Small.{equation_at, product_added, product_fits, row_at, value_whole}
+use Rattle.table_rows.specs.Small.{equation_at, row_at}
 use Rattle.linear.specs.Systems.{inner}
-use Rattle.linear.specs.Sums.{sum_to}
-use mir.Val.{of_z}
-use mir.Syntax.{w64}
 use lib.IntN.{pos}
 use Prim.Native.Nat.{◌-◌, ◌≤◌}
-use mathlib.Core.Path.{◌≡◌, refl}
-use borrow.Author.Rules.{rules}
+use mathlib.Core.Path.{◌≡◌}
 use Rattle.table_rows.proofs.values.value_at.Given as goal
 
 abbrev pub invariant-loop-j : goal.invariant-loop-j

@@ -4,11 +4,8 @@ use Prim.Native.Nat.{◌+◌, ◌*◌, ◌≤◌, ◌<◌}
 use mathlib.Core.Bool.{true}
 use mathlib.Core.Path.{◌≡◌, refl, sym, ◌∙◌}
 use native.Mathlib.Omega.{arith}
-use lib.ListN.{drop, get_or}
-use borrow.Author.Rules.{rules}
-use borrow.Author.Tests.{not-true, not-false}
+use lib.ListN.{get_or}
 use Rattle.texts.specs.Reading.{is_digit, digit, more_digits}
-use Rattle.texts.specs.Places.{Room}
 use Rattle.texts.specs.NumberLaws.{few_small, room_small, room_next, digit_range, more_none, more_end, more_stop, more_digit}
 use Rattle.texts.proofs.number.more_digits.Goals as goal
 use Rattle.texts.proofs.number.more_digits.Goals.{Else-not-is_digit}

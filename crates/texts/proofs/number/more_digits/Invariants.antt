@@ -1,15 +1,9 @@
 -- `texts::number::more_digits` meets its contract. What is left to read, with the digits that are left, comes to the same as at first, and the
 -- digits read leave room. Assumes nothing.
-use Prim.Native.Nat.{◌+◌, ◌*◌, ◌≤◌, ◌<◌}
-use mathlib.Core.Bool.{true}
-use mathlib.Core.Path.{◌≡◌, refl, sym, ◌∙◌}
-use native.Mathlib.Omega.{arith}
-use lib.ListN.{drop, get_or}
-use borrow.Author.Rules.{rules}
-use borrow.Author.Tests.{not-true, not-false}
-use Rattle.texts.specs.Reading.{is_digit, digit, more_digits}
+use mathlib.Core.Path.{◌≡◌}
+use lib.ListN.{drop}
+use Rattle.texts.specs.Reading.{more_digits}
 use Rattle.texts.specs.Places.{Room}
-use Rattle.texts.specs.NumberLaws.{few_small, room_small, room_next, digit_range, more_none, more_end, more_stop, more_digit}
 use Rattle.texts.proofs.number.more_digits.Given as goal
 
 abbrev pub invariant-loop-left : goal.invariant-loop-left

@@ -4,8 +4,6 @@ use mathlib.Core.Bool.{true}
 use mathlib.Core.Path.{◌≡◌, sym, ◌∙◌}
 use native.Mathlib.Omega.{arith}
 use lib.ListN.{get_or}
-use borrow.Author.Rules.{rules}
-use borrow.Author.Tests.{not-true, not-false}
 use Rattle.texts.specs.Reading.{is_digit, digit}
 use Rattle.texts.specs.NumberLaws.{room_first, digit_range, natural_end, natural_stop, natural_first}
 use Rattle.texts.proofs.number.read_natural.Goals as goal

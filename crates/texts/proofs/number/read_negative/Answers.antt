@@ -2,7 +2,6 @@
 use Prim.Native.Nat.{◌<◌}
 use mathlib.Core.Path.{sym, ◌∙◌}
 use mir.Facts.{to_z-of_z}
-use borrow.Author.Rules.{rules}
 use Rattle.texts.specs.Reading.{negative}
 use Rattle.texts.specs.NumberLaws.{natural_small}
 use Rattle.texts.specs.ParseLaws.{then_malformed, then_parsed}

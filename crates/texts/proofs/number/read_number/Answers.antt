@@ -1,7 +1,6 @@
 -- `texts::number::read_number` meets its contract: the first byte tells whether there is a minus. Assumes nothing.
 use Prim.Native.Nat.{◌<◌}
 use mathlib.Core.Path.{sym, ◌∙◌}
-use borrow.Author.Rules.{rules}
 use Rattle.texts.specs.Reading.{unsigned}
 use Rattle.texts.specs.ParseLaws.{then_malformed, then_parsed}
 use Rattle.texts.specs.NumberLaws.{natural_small, number_end, number_minus, number_digits}

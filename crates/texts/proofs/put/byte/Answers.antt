@@ -1,5 +1,4 @@
 -- `texts::put::byte` meets its contract. Assumes nothing.
-use borrow.Author.Rules.{rules}
 use Rattle.texts.specs.Put.{put_byte}
 use Rattle.texts.proofs.put.byte.Goals as goal
 

@@ -4,7 +4,6 @@ use native.Mathlib.Omega.{arith}
 use lib.IntN.{nat_abs}
 use lib.ListN.{length}
 use mir.Facts.{to_z-of_z}
-use borrow.Author.Rules.{rules}
 use Rattle.texts.specs.SignLaws.{numeral_negative, numeral_natural}
 use Rattle.texts.specs.Put.{put_then}
 use Rattle.texts.proofs.put.signed.Goals as goal

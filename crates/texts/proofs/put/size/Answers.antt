@@ -6,7 +6,6 @@ use Rattle.texts.specs.SignLaws.{size_negative, size_other}
 use mir.Facts.{to_z-of_z}
 use mir.Syntax.{w32}
 use Rattle.linear.specs.Integers.{sfits_nat_abs, nat_abs_negℤ}
-use borrow.Author.Rules.{rules}
 use Rattle.texts.proofs.put.size.Goals as goal
 use Rattle.texts.proofs.put.size.Goals.{Start}
 

@@ -1,9 +1,8 @@
 -- `texts::put::word` meets its contract. The bytes passed have been written. Assumes nothing.
-use Prim.Native.Nat.{◌+◌, ◌-◌, ◌≤◌}
+use Prim.Native.Nat.{◌-◌}
 use native.Mathlib.Nat.{add-zero}
 use borrow.Author.Rules.{rules}
-use lib.ListN.{length, take}
-use Rattle.texts.specs.Put.{Put, put_none, put_next, put_all}
+use Rattle.texts.specs.Put.{put_none, put_next, put_all}
 use Rattle.texts.proofs.put.word.Goals as goal
 
 pub loop-i-init : goal.loop-i-init

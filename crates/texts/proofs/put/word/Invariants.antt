@@ -1,9 +1,7 @@
 -- `texts::put::word` meets its contract. The bytes passed have been written. Assumes nothing.
 use Prim.Native.Nat.{◌+◌, ◌-◌, ◌≤◌}
-use native.Mathlib.Nat.{add-zero}
-use borrow.Author.Rules.{rules}
 use lib.ListN.{length, take}
-use Rattle.texts.specs.Put.{Put, put_none, put_next, put_all}
+use Rattle.texts.specs.Put.{Put}
 use Rattle.texts.proofs.put.word.Given as goal
 
 abbrev pub invariant-loop-i : goal.invariant-loop-i

@@ -1,13 +1,8 @@
 -- `texts::rows::copy` meets its contract. The entries passed are those found, and the others are as they were. Assumes nothing.
 use Prim.Native.Nat.{◌-◌, ◌≤◌}
 use mathlib.Core.List.{◌++◌}
-use mathlib.Core.Path.{◌≡◌, refl, ◌∙◌}
-use native.Mathlib.Omega.{arith}
-use lib.ListN.{length, drop, take, length-set}
-use mir.Facts.{to_z-of_z}
-use borrow.Author.Rules.{rules, sfits_of}
-use lib.IntN.{pos}
-use Rattle.linear.specs.Copies.{copied_next, copied_all}
+use mathlib.Core.Path.{◌≡◌}
+use lib.ListN.{length, drop, take}
 use Rattle.texts.proofs.rows.copy.Given as goal
 
 abbrev pub invariant-loop-i : goal.invariant-loop-i

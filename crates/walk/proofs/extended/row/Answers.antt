@@ -10,7 +10,7 @@ use mir.Syntax.{w32}
 use mir.Val.{of_z, to_z}
 use borrow.Author.Rules.{rules, sfits_of}
 use Rattle.definitions.specs.System.{coef_limit}
-use Rattle.walk.specs.ExtendLaws.{RowWritten, coef_fits, coef_number_fits, place_fits, row_all, row_first, row_next, side_fits}
+use Rattle.walk.specs.ExtendLaws.{coef_fits, coef_number_fits, place_fits, row_all, row_first, row_next, side_fits}
 use Rattle.walk.proofs.extended.row.Goals as goal
 use Rattle.walk.proofs.extended.row.Goals.{After-negated, Start}
 

@@ -1,16 +1,6 @@
 -- `walk::extended::row` meets its contract. Assumes nothing.
-use mathlib.Core.Path.{◌≡◌, sym, subst, ◌∙◌, ap}
-use Prim.Native.Nat.{ℕ, ◌+◌, ◌*◌, ◌-◌, ◌≤◌, ◌<◌}
-use native.Mathlib.Nat.{le_antisymm}
-use native.Mathlib.Omega.{arith}
-use lib.IntN.{pos, neg_ℤ, nat_abs}
-use lib.ListN.{length, get_or, length-set}
-use mir.Facts.{to_z-of_z}
-use mir.Syntax.{w32}
-use mir.Val.{of_z, to_z}
-use borrow.Author.Rules.{rules, sfits_of}
-use Rattle.definitions.specs.System.{coef_limit}
-use Rattle.walk.specs.ExtendLaws.{RowWritten, coef_fits, coef_number_fits, place_fits, row_all, row_first, row_next, side_fits}
+use Prim.Native.Nat.{◌-◌, ◌≤◌}
+use Rattle.walk.specs.ExtendLaws.{RowWritten}
 use Rattle.walk.proofs.extended.row.Given as goal
 
 abbrev pub invariant-loop-j : goal.invariant-loop-j

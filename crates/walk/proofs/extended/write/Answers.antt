@@ -1,9 +1,9 @@
 -- `walk::extended::write` meets its contract. Assumes nothing.
-use Prim.Native.Nat.{◌+◌, ◌-◌, ◌≤◌}
+use Prim.Native.Nat.{◌+◌, ◌-◌}
 use native.Mathlib.Nat.{le_antisymm}
 use native.Mathlib.Omega.{arith}
 use borrow.Author.Rules.{rules}
-use Rattle.walk.specs.ExtendLaws.{Extends, extends_next, extends_none, sided_less}
+use Rattle.walk.specs.ExtendLaws.{extends_next, extends_none, sided_less}
 use Rattle.walk.proofs.extended.write.Goals as goal
 
 pub loop-i-init : goal.loop-i-init

@@ -1,9 +1,6 @@
 -- `walk::extended::write` meets its contract. Assumes nothing.
-use Prim.Native.Nat.{◌+◌, ◌-◌, ◌≤◌}
-use native.Mathlib.Nat.{le_antisymm}
-use native.Mathlib.Omega.{arith}
-use borrow.Author.Rules.{rules}
-use Rattle.walk.specs.ExtendLaws.{Extends, extends_next, extends_none, sided_less}
+use Prim.Native.Nat.{◌-◌, ◌≤◌}
+use Rattle.walk.specs.ExtendLaws.{Extends}
 use Rattle.walk.proofs.extended.write.Given as goal
 
 abbrev pub invariant-loop-i : goal.invariant-loop-i

@@ -4,7 +4,6 @@ use mathlib.Core.Path.{◌≡◌, refl, sym, ◌∙◌, ap, subst}
 use Prim.Native.Nat.{ℕ, ◌-◌}
 use native.Mathlib.Omega.{arith}
 use lib.ListN.{length}
-use borrow.Author.Rules.{rules}
 use Rattle.definitions.specs.Answers as paper
 use Rattle.definitions.specs.Calls.{machine_from, machine_of}
 use Rattle.definitions.specs.Input.{Input, alone, input_with, limit_of}

@@ -1,7 +1,6 @@
 -- `walk::lower::further` meets its contract: the walk above the bound, under the limit that counts. Assumes nothing.
 use mathlib.Core.Path.{sym, ◌∙◌, ap}
 use native.Mathlib.Omega.{arith}
-use borrow.Author.Rules.{rules}
 use Rattle.definitions.specs.Answers.{Check, go}
 use Rattle.definitions.specs.Calls.{machine_of}
 use Rattle.definitions.specs.Input.{Input, alone, bound_of, input_with}

@@ -1,6 +1,5 @@
 -- `walk::lower::walk_from` meets its contract: the kind of the run says which walk is under way. Assumes nothing.
 use mathlib.Core.Path.{sym, ◌∙◌}
-use borrow.Author.Rules.{rules}
 use Rattle.definitions.specs.Input.{alone, input_with}
 use Rattle.calls.specs.Paper.{state_with}
 use Rattle.walk.specs.Lower.{names_above, names_plain}

@@ -1,5 +1,4 @@
 -- `walk::lower::whole` meets its contract. Assumes nothing.
-use borrow.Author.Rules.{rules}
 use Rattle.walk.proofs.lower.whole.Goals as goal
 
 pub returns : goal.returns

@@ -1,11 +1,8 @@
 -- `walk::lower::write_lower` meets its contract. The components passed have been written. Assumes nothing.
-use mathlib.Core.Path.{◌≡◌, refl}
+use mathlib.Core.Path.{◌≡◌}
 use Prim.Native.Nat.{◌-◌, ◌≤◌}
-use native.Mathlib.Nat.{le_antisymm, zero-add, zero-mul}
-use lib.ListN.{length, get_or, length-set}
-use borrow.Author.Rules.{rules}
-use Rattle.definitions.specs.Tables.{write_to, write_row}
-use Rattle.laws.specs.TableLaws.{write_next}
+use lib.ListN.{length, get_or}
+use Rattle.definitions.specs.Tables.{write_to}
 use Rattle.walk.proofs.lower.write_lower.Given as goal
 
 abbrev pub invariant-loop-j : goal.invariant-loop-j

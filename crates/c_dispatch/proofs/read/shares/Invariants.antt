@@ -1,0 +1,12 @@
+-- `c_dispatch::read::shares` meets its contract. Assumes nothing.
+use Prim.Native.Nat.{◌-◌}
+use Rattle.dispatch.specs.Filling.{Filled}
+use Rattle.dispatch.specs.Form.{no_share}
+use Rattle.c_dispatch.specs.Words.{share_in}
+use Rattle.c_dispatch.proofs.read.shares.Given as goal
+
+abbrev pub invariant-loop-i : goal.invariant-loop-i
+invariant-loop-i l = Filled 8 (share_in l.words) no_share l.all l.i
+
+abbrev pub decreases-loop-i : goal.decreases-loop-i
+decreases-loop-i l = 8 - l.i

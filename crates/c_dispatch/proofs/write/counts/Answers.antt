@@ -1,0 +1,10 @@
+-- `c_dispatch::write::counts` meets its contract. Assumes nothing.
+use native.Mathlib.Omega.{arith}
+use lib.ListN.{length-set}
+use Rattle.c_dispatch.proofs.write.counts.Goals as goal
+
+pub bounds-words-at-2 : goal.bounds-words-at-2
+bounds-words-at-2 c = rw length-set (omega (arith, c.requires))
+
+pub bounds-words-at-3 : goal.bounds-words-at-3
+bounds-words-at-3 c = rw (length-set, length-set) (omega (arith, c.requires))

@@ -1,0 +1,12 @@
+-- `misfit` meets its contract: a refusal of the check is told, or 6. Assumes nothing.
+use mathlib.Core.Path.{◌∙◌, sym, ap}
+use Rattle.c_engine.specs.WordLaws.{check_code, passed_first, refused_first}
+use Rattle.c_engine.proofs.misfit.Goals as goal
+
+pub returns-in-Refuse : goal.returns-in-Refuse
+returns-in-Refuse c =
+    c.first.ensures ∙ ap check_code (refused_first c.check_start.ensures c.in-Refuse.is)
+
+pub returns-in-Pass : goal.returns-in-Pass
+returns-in-Pass c =
+    sym (passed_first c.check_start.ensures c.in-Pass.is)

@@ -1,0 +1,15 @@
+-- `resume` meets its contract: what the continuing call by value answered and left is told on. Assumes nothing.
+use Rattle.c_record.specs.CodeLaws.{answer_fits}
+use Rattle.c_single.specs.SingleFileLaws.{single_resume_fits}
+use Rattle.c_single.specs.SingleFile.{single_resume_words}
+use Rattle.c_record.specs.WordLaws.{call_told}
+use Rattle.c_single.proofs.resume.Goals as goal
+
+pub tell-requires : goal.tell-requires
+tell-requires c =
+    answer_fits c.resumed-o.ensures (single_resume_fits _ _ _)
+
+pub returns : goal.returns
+unfolding single_resume_words
+returns c =
+    call_told _ (rw c.read-r.ensures at c.resumed-o.ensures) c.tell.ensures.value c.tell.ensures.run_after

@@ -1,0 +1,12 @@
+-- `dispatch::results::unserved` meets its contract. Assumes nothing.
+use Prim.Native.Nat.{◌-◌}
+use lib.ListN.{get_or}
+use Rattle.dispatch.specs.Form.{no_record, no_progress, unserved_of}
+use Rattle.dispatch.specs.Filling.{Filled}
+use Rattle.dispatch.proofs.results.unserved.Given as goal
+
+abbrev pub invariant-loop-i : goal.invariant-loop-i
+invariant-loop-i l = Filled 8 (λ j. unserved_of (get_or l.records j no_record)) no_progress l.all l.i
+
+abbrev pub decreases-loop-i : goal.decreases-loop-i
+decreases-loop-i l = 8 - l.i

@@ -1,0 +1,37 @@
+-- `lines::rising` meets its contract. The numbers of the unknowns passed that the row names stand in the line. Assumes nothing.
+use Prim.Native.Nat.{◌-◌}
+use native.Mathlib.Nat.{le_antisymm}
+use native.Mathlib.Omega.{arith}
+use Rattle.texts.specs.Put.{put_none, put_then}
+use Rattle.single_spec.specs.Listing.{rising_to}
+use Rattle.single_spec.specs.ListingLaws.{rising_named, rising_other}
+use Rattle.single_order.specs.Rows.{named_no, named_yes}
+use borrow.Author.Rules.{rules}
+use Rattle.single_listing.proofs.lines.rising.Goals as goal
+
+pub loop-j-init : goal.loop-j-init
+unfolding rising_to
+loop-j-init c = (search rules, search rules, put_none _ _)
+
+pub loop-j-preserved-then-list-base-eq0 : goal.loop-j-preserved-then-list-base-eq0
+loop-j-preserved-then-list-base-eq0 c =
+    let l = c.loop-j in
+    (search rules, omega (arith, l.invariant.1), rw (rising_other _ _ (named_no _ c.if-list-base-eq0.true)) l.invariant.2)
+
+pub before_space-at-requires : goal.before_space-at-requires
+before_space-at-requires c =
+    (omega (arith, c.loop-j-test.true), omega (arith, c.loop-j.invariant.1, c.loop-j-test.true, c.loop-j.invariant.2.same))
+
+pub loop-j-preserved : goal.loop-j-preserved
+loop-j-preserved c =
+    let l = c.loop-j in (
+      search rules,
+      omega (arith, l.invariant.1, c.before_space-at.ensures.upper_bound),
+      rw (rising_named _ _ (named_yes _ c.if-list-base-eq0.false)) (put_then l.invariant.2 c.before_space-at.ensures.put),
+    )
+
+pub returns : goal.returns
+returns c =
+    let l = c.loop-j in
+    let e = le_antisymm l.invariant.0 c.loop-j-test.false in
+    record { put = rw e at l.invariant.2; upper_bound = omega (arith, l.invariant.1) }

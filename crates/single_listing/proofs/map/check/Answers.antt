@@ -1,0 +1,23 @@
+-- `map::check` meets its contract. The shape decides, else the coefficients and columns do. Assumes nothing.
+use native.Mathlib.Omega.{arith}
+use lib.ListN.{length}
+use mathlib.Core.Path.{◌∙◌}
+use Rattle.calls.specs.CallLaws.{passes}
+use Rattle.checks.specs.CheckLaws.{refused_first, passed_first}
+use Rattle.single_listing.specs.Passes.{map_checks, shape_whole}
+use Rattle.single_listing.proofs.map.check.Goals as goal
+
+pub check_columns-requires : goal.check_columns-requires
+check_columns-requires c =
+    let a = c.args in
+    let (few, same, rows) = shape_whole a.p a.q (length a.coefs.now) a.list a.found
+    (passes c.check_shape.ensures c.in-Pass.is) in
+    omega (arith, same)
+
+pub returns-in-Refuse : goal.returns-in-Refuse
+unfolding map_checks
+returns-in-Refuse c = refused_first _ c.in-Refuse.is c.check_shape.ensures
+
+pub returns-in-Pass : goal.returns-in-Pass
+unfolding map_checks
+returns-in-Pass c = c.check_columns.ensures ∙ passed_first _ c.in-Pass.is c.check_shape.ensures
