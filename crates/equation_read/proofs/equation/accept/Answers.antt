@@ -7,6 +7,7 @@ use lib.IntN.{pos, neg_ℤ}
 use lib.ListN.{get_or}
 use mir.Facts.{to_z-of_z}
 use mir.Syntax.{w32, w64}
+use mir.Val.{SFits}
 use borrow.Author.Rules.{rules, sfits_of}
 use Rattle.definitions.specs.Answers.{refuse_first}
 use Rattle.equation_read.specs.EquationLaws.{coefficient_out, right_out, all_in, range_next, ranged_next}
@@ -42,11 +43,13 @@ pub loop-i-smaller : goal.loop-i-smaller
 loop-i-smaller c = omega (arith, c.loop-i-test.true)
 
 pub loop-i-preserved : goal.loop-i-preserved
-loop-i-preserved c = let e = rw (to_z-of_z {w = w64} {z = get_or c.args.totals.now (c.loop-i.i + 1) (pos 0)} (search rules)) at (sym c.out_of_range.ensures ∙ c.if-out_of_range.false) in (
-  omega (arith, c.loop-i-test.true),
-  range_next c.args.q c.args.totals.now c.args.row.now c.loop-i.i c.loop-i.invariant.1 e,
-  ranged_next c.args.totals.now c.loop-i.i c.loop-i.invariant.2 e,
-)
+loop-i-preserved c =
+    let f : SFits w64 (get_or c.args.totals.now (c.loop-i.i + 1) (pos 0)) = search rules in
+    let e = rw (to_z-of_z {w = w64} f) at (sym c.out_of_range.ensures ∙ c.if-out_of_range.false) in (
+      omega (arith, c.loop-i-test.true),
+      range_next c.args.q c.args.totals.now c.args.row.now c.loop-i.i c.loop-i.invariant.1 e,
+      ranged_next c.args.totals.now c.loop-i.i c.loop-i.invariant.2 e,
+    )
 
 pub out_of_range-requires-2 : goal.out_of_range-requires-2
 out_of_range-requires-2 c = tt
