@@ -1,6 +1,7 @@
 // The engine's calls (crate c_engine).
 ghost use Rattle.std.specs.Prelude.{◌≡◌, [], suc};
-ghost use Rattle.c_engine.specs.Words.{combine_words, most_of, record_in, resume_words, room_of, start_from_words, start_sides_words, start_words, take_words, told};
+ghost use Rattle.c_engine.specs.Words.{combine_words, most_of, record_in, resume_words, room_of, start_from_words};
+ghost use Rattle.c_engine.specs.Words.{start_sides_words, start_words, take_words, told};
 ghost use Rattle.engine_resume.specs.Continuing.{ResumeLeft};
 ghost use Rattle.engine_beside.specs.declared.Outcome.{Outcome as Left};
 ghost use Rattle.engine_stage.specs.Standing.{sides_of};

@@ -11,7 +11,7 @@ mod answered; // answered.rt: whether an answer is the one that a line says
 mod capped; // capped.rt: plain and capped runs, runs from a lower bound and the training seat (tests/model/runs.py)
 mod desks; // desks.rt: the second of two groups of equations (tests/desks/vectors.py)
 mod several; // several.rt: several runs in turns (tests/model/dispatch.py)
-mod engine; // engine.rt: the engine (tests/engine/vectors.py)
+mod engine_calls; // engine_calls.rt: the engine (tests/engine/vectors.py)
 mod questions; // questions.rt: questions about lists (tests/questions/model.py)
 mod plain; // plain.rt: document 01's calls and single-file maps (tests/model)
 mod reformulations; // reformulations.rt: a map in the place of another (tests/reformulation/model.py)
@@ -108,7 +108,7 @@ fn agrees(family: u64, l: Line) -> bool {
         2 => capped::agrees(l),
         3 => desks::agrees(l),
         4 => several::agrees(l),
-        5 => engine::agrees(l),
+        5 => engine_calls::agrees(l),
         6 => questions::agrees(l),
         7 => reformulations::agrees(l),
         _ => false,
