@@ -9,7 +9,7 @@ use Rattle.definitions.specs.Tables.{State}
 use Rattle.c_record.specs.CodeLaws.{Fits, Small, fits_checked, fits_unless, small_if, small_range, small_then, within}
 use Rattle.desk_spec.specs.Desks.{Desk, desk_begin, desk_check3, desk_check4, desk_checks, desk_machine, desk_resume, desk_resume_checks, desk_search_checks}
 use Rattle.desk_spec.specs.Desks.{desk_start_checks, desk_step, generators_in_order, group_input, ranges_checks, settled, wide}
-use Rattle.desk_spec.specs.Rules.{numbers_go}
+use Rattle.desk_spec.proofs.Rules.{numbers_go}
 
 -- ---- checks
 

@@ -18,8 +18,8 @@ use Rattle.c_record.specs.Codes.{code, refusal_code}
 use Rattle.c_record.specs.WordLaws.{set_own}
 use Rattle.engine_spec.specs.Calls as calls
 use Rattle.engine_spec.specs.StartSides.{sides_checks, sides_system, start_sides}
-use Rattle.laws.specs.AnswerLaws.{then_assoc}
-use Rattle.laws.specs.CheckLaws.{refuse_not_go}
+use Rattle.laws.proofs.AnswerLaws.{then_assoc}
+use Rattle.laws.proofs.CheckLaws.{refuse_not_go}
 use Rattle.engine_spec.specs.Engine.{Result, Work, begun, begun_from, begun_from_under, begun_under, result}
 use Rattle.engine_beside.specs.Records.{outcome_of, work_of}
 use Rattle.engine_beside.specs.declared.Outcome.{Outcome}

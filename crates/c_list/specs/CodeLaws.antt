@@ -6,7 +6,7 @@ use native.Mathlib.Omega.{arith}
 use Rattle.definitions.specs.Answers.{Check, refuse, go, refuse_with, refuse_if, refuse_first, ◌then◌}
 use Rattle.definitions.specs.Refusals.{between}
 use Rattle.definitions.specs.System.{most_equations, most_unknowns}
-use Rattle.laws.specs.RefusalLaws.{at_most, decides_outside, decides_unequal, equal}
+use Rattle.laws.proofs.RefusalLaws.{at_most, decides_outside, decides_unequal, equal}
 use Rattle.list_spec.specs.Form.{ListFile}
 use Rattle.list_spec.specs.Writing.{write_checks, write_decided, write_list}
 use Rattle.list_spec.specs.Reading.{block_checks, stream_checks, file_checks, read_checks, list_in, handed_out, read_decided, read_file, coef_words, row_words}

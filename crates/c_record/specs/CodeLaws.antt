@@ -2,7 +2,7 @@
 use Rattle.std.specs.Prelude.{ℕ, zero, suc, ◌*◌, ◌^◌, ◌≤◌, ◌<◌, Bool, true, false, not, List, [], ◌∷◌, ◌≢◌, ◌≡◌, refl, T, leb, length}
 use Rattle.std.proofs.Common.{inl, subst, mul-le-mul, arith, leb→le}
 use Rattle.std.proofs.Math.Decide.{ℕ_discrete}
-use Rattle.linear.specs.TestLaws.{and_parts}
+use Rattle.linear.proofs.TestLaws.{and_parts}
 use Rattle.definitions.specs.Answers.{Answer, Check, refuse, go, refuse_with, refuse_if, refuse_first, ◌then◌}
 use Rattle.definitions.specs.Input.{Extra, Input, above_system, alone, map_of, rights, system_of}
 use Rattle.definitions.specs.Machine.{Machine, Outcome, call, checked, unless_done, walk}
@@ -11,8 +11,9 @@ use Rattle.definitions.specs.Tables.{RunKind, State, by_walk, capped_run, desk_b
 use Rattle.definitions.specs.Refusals.{between, check1, check15, check4, check5, check6, check6_from, check7, check8, numbers_check, range_checks, unknowns_check}
 use Rattle.definitions.specs.Refusals.{lower_checks, misnumbered, most_for, resume_checks, resume_from_checks, search_checks, shape_then, start_checks}
 use Rattle.definitions.specs.Calls.{machine, machine_from, resume, resume_from, search_from, start, start_from}
-use Rattle.laws.specs.AnswerLaws.{refuse_if_go}
-use Rattle.laws.specs.RefusalLaws.{Misnumbered, decides_number}
+use Rattle.laws.proofs.AnswerLaws.{refuse_if_go}
+use Rattle.laws.specs.RefusalLaws.{Misnumbered}
+use Rattle.laws.proofs.RefusalLaws.{decides_number}
 use Rattle.c_record.specs.Codes.{refusal_code, code}
 
 abbrev pub Fits : Answer → Type 0

@@ -10,13 +10,14 @@ use Rattle.definitions.specs.Answers.{Answer, Check, refuse, go, ◌then◌}
 use Rattle.definitions.specs.Input.{Extra, Input, alone, rights, system_of, walk_system}
 use Rattle.definitions.specs.Machine.{Outcome, call, checked, walk}
 use Rattle.definitions.specs.System.{most_unknowns}
-use Rattle.linear.specs.Cases.{split}
+use Rattle.linear.proofs.Cases.{split}
 use Rattle.definitions.specs.Tables.{Record, State, run_number}
 use Rattle.definitions.specs.Refusals.{check1, check4, check6, most_for, numbers_check, range_checks, resume_checks, shape_then, unknowns_check}
 use Rattle.definitions.specs.Calls.{machine, resume}
-use Rattle.laws.specs.AnswerLaws.{then_go}
-use Rattle.laws.specs.CheckLaws.{refuse_not_go}
-use Rattle.laws.specs.RefusalLaws.{decides_order, high}
+use Rattle.laws.proofs.AnswerLaws.{then_go}
+use Rattle.laws.proofs.CheckLaws.{refuse_not_go}
+use Rattle.laws.specs.RefusalLaws.{high}
+use Rattle.laws.proofs.RefusalLaws.{decides_order}
 use Rattle.calls.specs.Paper.{check_of, kind_of, number_of, run_of, state_with, values_of}
 use Rattle.calls.specs.declared.Check as values-check
 use Rattle.calls.specs.declared.Check.TheVariants.{Refuse, Pass}

@@ -9,7 +9,8 @@ use Rattle.definitions.specs.Refusals.{check1, unknowns_check}
 use Rattle.definitions.specs.Tables.{State}
 use Rattle.c_record.specs.CodeLaws.{Fits, Small, fits_checked, resume_fits, resume_from_fits, small_if, small_then, start_fits, start_from_fits}
 use Rattle.seat_spec.specs.Training.{check23, seat_input, seat_resume, seat_resume_from, seat_start, seat_start_from}
-use Rattle.seat_spec.specs.TrainingRules.{renumber, renumbered, seat_resumes, seat_resumes_from, seat_starts, seat_starts_from, seat_first}
+use Rattle.seat_spec.specs.TrainingRules.{renumber, renumbered, seat_first}
+use Rattle.seat_spec.proofs.TrainingRules.{seat_resumes, seat_resumes_from, seat_starts, seat_starts_from}
 
 -- 24 fits where 12 does
 renumber_fits : (a : Answer) → Fits a → Fits (renumber a)

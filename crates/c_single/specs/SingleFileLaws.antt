@@ -6,8 +6,8 @@ use Rattle.definitions.specs.Calls.{resume, start}
 use Rattle.definitions.specs.Input.{Extra, Input, alone, map_of, rights, walk_system}
 use Rattle.definitions.specs.Refusals.{resume_checks, start_checks}
 use Rattle.definitions.specs.Tables.{State}
-use Rattle.laws.specs.RefusalLaws.{resume_valid, start_shaped}
-use Rattle.calls.specs.CodeLaws as answers
+use Rattle.laws.proofs.RefusalLaws.{resume_valid, start_shaped}
+use Rattle.calls.proofs.CodeLaws as answers
 use Rattle.calls.specs.Codes.{code}
 use Rattle.calls.specs.Paper.{value}
 use Rattle.single_listing.specs.Listed.{listed_of, number_of, values_of}

@@ -5,7 +5,7 @@ use mathlib.Core.List.{List, [], ◌∷◌, ◌++◌}
 use Rattle.std.proofs.Math.Path.{sym, ap}
 use Rattle.std.proofs.Common.{◌∙◌, subst, arith, leb→le}
 use borrow.Author.Tests.{le-leb, lt-ltb, le-ltb}
-use Rattle.linear.specs.TestLaws.{and_parts}
+use Rattle.linear.proofs.TestLaws.{and_parts}
 use Rattle.definitions.specs.Answers.{refuse, refuse_with, go}
 use Rattle.definitions.specs.Reader.{Which, reader_check, row_of_either, shown, shown_at, shown_by, table_at, two_lists_check}
 use Rattle.definitions.specs.Refusals.{between}

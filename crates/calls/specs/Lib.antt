@@ -1,4 +1,2 @@
 pub mod Paper
-pub mod CallLaws
 pub mod Codes
-pub mod CodeLaws

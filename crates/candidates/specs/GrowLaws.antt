@@ -3,11 +3,11 @@ use Rattle.std.specs.Prelude.{◌≡◌, refl, Bool, true, false, not, ◌&&◌,
 use Rattle.std.proofs.Common.{ap, ap₂, zero-add, arith}
 use Rattle.std.proofs.Math.Bool.{and-false}
 use Rattle.std.proofs.Math.Dec.{T_not}
-use Rattle.linear.specs.TestLaws.{and_parts}
+use Rattle.linear.proofs.TestLaws.{and_parts}
 use Rattle.linear.specs.Tuples.{Same, unit, raise, rest}
 use Rattle.definitions.specs.System.{Kind, above, capped, covered, plain}
 use Rattle.laws.specs.StepLaws.{first_open, second_open}
-use Rattle.laws.specs.SystemLaws.{covered_same}
+use Rattle.laws.proofs.SystemLaws.{covered_same}
 use Rattle.definitions.specs.Tables.{RunKind, State, frozen, list_row, second_row}
 use Rattle.definitions.specs.Step.{row_of, row_width}
 use Rattle.table_rows.specs.Rows.{part}

@@ -10,12 +10,13 @@ use Rattle.linear.specs.Tuples.{AtOrBelow, raise, rest}
 use Rattle.definitions.specs.System.{above, capped, covered, plain}
 use Rattle.definitions.specs.Step.{marks_to}
 use Rattle.definitions.specs.Tables.{State, at, bit, frozen}
-use Rattle.laws.specs.StepLaws.{open_capped, open_first, open_one, open_zero, second_open}
-use Rattle.laws.specs.SystemLaws.{covered_same}
+use Rattle.laws.specs.StepLaws.{second_open}
+use Rattle.laws.proofs.StepLaws.{open_capped, open_first, open_one, open_zero}
+use Rattle.laws.proofs.SystemLaws.{covered_same}
 use Rattle.products.specs.Marks.{Marked, marks_below, marks_frozen, marks_over}
-use Rattle.laws.specs.MarkLaws.{frozen_none}
+use Rattle.laws.proofs.MarkLaws.{frozen_none}
 use Rattle.linear.specs.Tests.{number}
-use Rattle.linear.specs.TestLaws.{is_false, number_le}
+use Rattle.linear.proofs.TestLaws.{is_false, number_le}
 use Rattle.candidates.specs.Kinds.{asked}
 use Rattle.table_rows.specs.Rows.{Limited, part, tuple}
 use Rattle.candidates.specs.Grow.{child_by, open_for}

@@ -3,7 +3,7 @@ use Rattle.std.specs.Prelude.{◌≡◌, Bool, true, false, ◌&&◌, cond, ℕ,
 use Rattle.std.proofs.Math.Path.{refl}
 use Rattle.std.proofs.Common.{ap, ap₂}
 use Rattle.linear.specs.Tests.{any_to}
-use Rattle.linear.specs.TestLaws.{any_same}
+use Rattle.linear.proofs.TestLaws.{any_same}
 use Rattle.definitions.specs.Step.{marks_to, row_width}
 use Rattle.definitions.specs.System.{Kind}
 use Rattle.definitions.specs.Tables.{State, frozen, list_row}

@@ -2,11 +2,11 @@
 use Rattle.std.specs.Prelude.{ℕ, ◌*◌, ◌-◌, ◌≤◌, Bool, true, false, not, ◌||◌, ◌≡◌, refl, leb, eqb}
 use Rattle.std.proofs.Common.{sym, ◌∙◌, ap, leb→le, mul-le-mul, arith, eqb-true}
 use Rattle.std.proofs.lemmas.Bool.{not-false}
-use Rattle.linear.specs.TestLaws.{and_parts}
+use Rattle.linear.proofs.TestLaws.{and_parts}
 use Rattle.definitions.specs.Answers.{Check, go, ◌then◌, refuse_if, refuse_with}
 use Rattle.definitions.specs.Refusals.{Sizes, between, large_sizes, sizes}
 use Rattle.definitions.specs.System.{most_equations, most_unknowns}
-use Rattle.laws.specs.AnswerLaws.{refuse_if_go, then_assoc, then_go}
+use Rattle.laws.proofs.AnswerLaws.{refuse_if_go, then_assoc, then_go}
 
 -- 1 and 2, and with them 3, for the most equations and unknowns
 abbrev pub sizes_within : Sizes → (p q : ℕ) → Check

@@ -3,7 +3,7 @@ use Rattle.std.specs.Prelude.{ℕ, suc, ◌+◌, ◌*◌, ◌≤◌, Bool, true,
 use Rattle.std.proofs.Common.{arith, eq-eqb, ltb-false}
 use Rattle.linear.specs.Tests.{any_to}
 use Rattle.definitions.specs.Answers.{Check, go, ◌then◌, refuse_if}
-use Rattle.laws.specs.AnswerLaws.{then_assoc, then_go, refuse_if_go}
+use Rattle.laws.proofs.AnswerLaws.{then_assoc, then_go, refuse_if_go}
 use Rattle.definitions.specs.Input.{Extra, alone, input_with, rights}
 use Rattle.definitions.specs.Tables.{State}
 use Rattle.definitions.specs.Refusals.{shape_then}

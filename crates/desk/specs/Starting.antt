@@ -4,8 +4,9 @@ use Rattle.std.proofs.Common.{sym, ◌∙◌, ap₂, add-one, arith, lit<}
 use Rattle.std.proofs.Math.Nat.{one-le-pow, pow-le-pow_right, two-pow-succ}
 use Rattle.linear.specs.Tests.{count_to}
 use Rattle.definitions.specs.Tables.{at, write_to}
-use Rattle.laws.specs.Pack.{pack_length, pack_to}
-use Rattle.laws.specs.MarkLaws.{shift_one_wide}
+use Rattle.laws.specs.Pack.{pack_to}
+use Rattle.laws.proofs.Pack.{pack_length}
+use Rattle.laws.proofs.MarkLaws.{shift_one_wide}
 use Rattle.table_rows.specs.Rows.{Holds, tuple}
 use Rattle.desk_spec.specs.Desks.{always, desk_row}
 use Rattle.desk_spec.specs.Rows.{all_counted}

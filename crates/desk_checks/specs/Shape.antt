@@ -2,15 +2,15 @@
 use Rattle.std.specs.Prelude.{◌≡◌, Bool, true, false, not, List, [], ℕ, ◌+◌, ◌*◌, ◌/◌, ◌%◌, ◌≤◌, ◌<◌, leb, ltb, eqb, ℤ, pos, length, get_or}
 use Rattle.std.proofs.Common.{inl, inr, le-div_iff_mul-le, arith, leb→le, ltb-false}
 use Rattle.std.proofs.Math.ListN.{get_or-eq_default}
-use Rattle.linear.specs.Cases.{split}
-use Rattle.linear.specs.TestLaws.{all_at}
+use Rattle.linear.proofs.Cases.{split}
+use Rattle.linear.proofs.TestLaws.{all_at}
 use Rattle.linear.specs.Tests.{all_to}
 use Rattle.definitions.specs.Answers.{Check, go, ◌then◌, refuse, refuse_if, refuse_with}
 use Rattle.definitions.specs.Refusals.{check7}
 use Rattle.definitions.specs.System.{most_component, most_equations, most_unknowns}
 use Rattle.definitions.specs.Tables.{State}
-use Rattle.laws.specs.AnswerLaws.{refuse_if_go, then_assoc, then_go}
-use Rattle.laws.specs.RefusalLaws.{at_most, decides_range}
+use Rattle.laws.proofs.AnswerLaws.{refuse_if_go, then_assoc, then_go}
+use Rattle.laws.proofs.RefusalLaws.{at_most, decides_range}
 use Rattle.desk_spec.specs.Desks.{Desk, desk_checks, desk_of, group_input, ranges_checks, wide}
 use Rattle.calls.specs.Paper.{check_of}
 use Rattle.calls.specs.declared.Check as made

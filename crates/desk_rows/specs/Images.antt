@@ -3,13 +3,14 @@ use Rattle.std.specs.Prelude.{◌≡◌, refl, ◌≢◌, List, ℕ, ◌+◌, �
 use Rattle.std.proofs.Common.{sym, ◌∙◌, ap, inl, inr, div-mul-le_self, mul-le-mul, arith}
 use Rattle.std.proofs.Common.{length-set, get_or-set_other, get_or-set_same, to_z-of_z, SFits, of_z, to_z}
 use Rattle.std.specs.Int.{w64}
-use Rattle.linear.specs.Cases.{split}
-use Rattle.linear.specs.Integers.{nat_abs_*ℤ, sfits_nat_abs}
-use Rattle.linear.specs.SystemLaws.{inner_bound, inner_next}
+use Rattle.linear.proofs.Cases.{split}
+use Rattle.linear.proofs.Integers.{nat_abs_*ℤ, sfits_nat_abs}
+use Rattle.linear.proofs.SystemLaws.{inner_bound, inner_next}
 use Rattle.linear.specs.Systems.{inner, value}
 use Rattle.definitions.specs.System.{coef_limit, most_component, most_equations, most_unknowns}
-use Rattle.laws.specs.TableLaws.{row_fits}
-use Rattle.table_rows.specs.Small.{SmallEquation, SmallRow, equation_at, row_at, value_small}
+use Rattle.laws.proofs.TableLaws.{row_fits}
+use Rattle.table_rows.specs.Small.{SmallEquation, SmallRow, equation_at, row_at}
+use Rattle.table_rows.proofs.Small.{value_small}
 use Rattle.desk_spec.specs.Desks.{image_limit}
 
 -- "16 · 10,000 · 1,000,000": far below 2 ^ 63

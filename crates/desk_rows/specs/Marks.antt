@@ -2,10 +2,10 @@
 use Rattle.std.specs.Prelude.{◌≡◌, true, ℕ, ◌^◌, ◌≤◌, ◌<◌, ltb}
 use Rattle.std.proofs.Common.{sym, inl, inr, arith, lit<, lt-ltb}
 use Rattle.std.proofs.Math.Nat.{pow-le-pow_right}
-use Rattle.linear.specs.Cases.{split}
+use Rattle.linear.proofs.Cases.{split}
 use Rattle.linear.specs.Tests.{count_to}
 use Rattle.definitions.specs.Tables.{frozen}
-use Rattle.laws.specs.MarkLaws.{count_frozen_fit}
+use Rattle.laws.proofs.MarkLaws.{count_frozen_fit}
 
 -- 64 bits are within 64 generators or more
 pub fit_all : (marks n : ℕ) → marks < 2 ^ 64 → 64 ≤ n → true ≡ ltb marks (2 ^ n)

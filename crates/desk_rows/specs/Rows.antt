@@ -1,16 +1,16 @@
 -- What the contracts on rows cite, and one turn of their loops. Assumes nothing.
 use Rattle.std.specs.Prelude.{◌≡◌, refl, Bool, true, false, cond, List, ℕ, suc, ◌+◌, ◌^◌, ◌/◌, ◌%◌, ◌≤◌, ◌<◌, T, eqb, ltb, length, set}
 use Rattle.std.proofs.Common.{◌∙◌, inl, inr, mul-le-mul_right, add-one, arith, ltb→lt, get_or-set_other, get_or-set_same}
-use Rattle.linear.specs.Cases.{split}
-use Rattle.linear.specs.TupleLaws.{total_most}
+use Rattle.linear.proofs.Cases.{split}
+use Rattle.linear.proofs.TupleLaws.{total_most}
 use Rattle.linear.specs.Tuples.{Same, total}
 use Rattle.definitions.specs.System.{most_component}
 use Rattle.definitions.specs.Tables.{write_to}
-use Rattle.laws.specs.TableLaws.{write_same}
+use Rattle.laws.proofs.TableLaws.{write_same}
 use Rattle.table_rows.specs.Rows.{tuple}
 use Rattle.table_rows.specs.Small.{row_at}
 use Rattle.desk_spec.specs.Desks.{desk_row, word}
-use Rattle.desk_spec.specs.Rows.{row_high, row_low, row_tuple}
+use Rattle.desk_spec.proofs.Rows.{row_high, row_low, row_tuple}
 
 pub record SmallTuple (q : ℕ) (t : List ℕ) : Type 0 where
   pub whole : q ≤ length t

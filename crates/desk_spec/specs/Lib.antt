@@ -1,11 +1,8 @@
 pub mod Records
 pub mod Desks
-pub mod Examples
 pub mod Rules
 pub mod Rows
-pub mod Words
 pub mod Valid
-pub mod Bounds
 pub mod Sweeping
 pub mod Second
 pub mod Groups
@@ -14,4 +11,3 @@ pub mod Runs
 pub mod Frames
 pub mod First
 pub mod Promises
-pub mod PromiseExamples

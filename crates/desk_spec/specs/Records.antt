@@ -1,8 +1,7 @@
 -- The run record and all that is lent are those of every kind of run (document 01, "The tables"). How a start, a step and a sweep of a run desk by desk leave
 -- the record, and the test of its kind. Assumes nothing.
-use Rattle.std.specs.Prelude.{ℕ, Bool, List, [], ◌≡◌, T}
+use Rattle.std.specs.Prelude.{ℕ, Bool, List, [], ◌≡◌}
 use Rattle.definitions.specs.Tables.{Record, RunKind, State, begun, desk_by_desk, is_run, stepped}
-use Rattle.laws.specs.RefusalLaws.{run_from, run_to}
 
 -- the record of a run that has taken no step
 abbrev pub desk_begun : ℕ → Record
@@ -28,12 +27,6 @@ is_desk r = is_run r.kind desk_by_desk
 
 abbrev pub IsDesk : Record → Type 0
 IsDesk r = r.kind ≡ desk_by_desk
-
-pub desk_is : (r : Record) → T (is_desk r) → IsDesk r
-desk_is r h = run_from r.kind desk_by_desk h
-
-pub is_desk_lem : (r : Record) → IsDesk r → T (is_desk r)
-is_desk_lem r e = run_to r.kind desk_by_desk e
 
 -- ---- for examples: a record and a state with these parts
 

@@ -1,11 +1,11 @@
 -- What listing a solution comes to. Assumes nothing.
 use Rattle.std.specs.Prelude.{◌≡◌, List, ℕ, ◌+◌, ◌*◌, ◌/◌, ◌≤◌, ◌<◌, length}
 use Rattle.std.proofs.Common.{◌∙◌, ap, ap₂, div-mul-le_self, le-mul_of_pos_right, mul-le-mul_right, arith}
-use Rattle.linear.specs.TestLaws.{count_le}
+use Rattle.linear.proofs.TestLaws.{count_le}
 use Rattle.linear.specs.Tests.{count_to}
 use Rattle.definitions.specs.Tables.{at, capacity, write_to}
-use Rattle.laws.specs.TableLaws.{row_fits}
-use Rattle.laws.specs.Again.{swept_length}
+use Rattle.laws.proofs.TableLaws.{row_fits}
+use Rattle.laws.proofs.Again.{swept_length}
 use Rattle.laws.specs.Sweep.{keeps, swept_to}
 use Rattle.table_rows.specs.Keeping.{Kept}
 use Rattle.calls.specs.declared.Refusal.TheVariants.{ListFull}

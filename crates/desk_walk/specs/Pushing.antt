@@ -3,14 +3,15 @@ use Rattle.std.specs.Prelude.{◌≡◌, refl, Bool, true, false, List, ℕ, ◌
 use Rattle.std.proofs.Common.{◌∙◌, ap, add-one}
 use Rattle.std.proofs.Math.Nat.{one-mul}
 use native.Mathlib.Omega.{arith}
-use Rattle.linear.specs.TestLaws.{count_step}
+use Rattle.linear.proofs.TestLaws.{count_step}
 use Rattle.linear.specs.Tests.{count_to}
 use Rattle.definitions.specs.Step.{marks_to}
 use Rattle.definitions.specs.System.{most_component}
 use Rattle.definitions.specs.Tables.{at, frozen, write_to}
-use Rattle.laws.specs.TableLaws.{row_fits}
-use Rattle.laws.specs.Pack.{pack_length, pack_to}
-use Rattle.laws.specs.MarkLaws.{shift_one_wide}
+use Rattle.laws.proofs.TableLaws.{row_fits}
+use Rattle.laws.specs.Pack.{pack_to}
+use Rattle.laws.proofs.Pack.{pack_length}
+use Rattle.laws.proofs.MarkLaws.{shift_one_wide}
 use Rattle.desk_spec.specs.Desks.{desk_row, plus}
 use Rattle.desk_rows.specs.Rows.{Raised, SmallTuple, row_alike}
 use Rattle.table_rows.specs.Rows.{tuple}

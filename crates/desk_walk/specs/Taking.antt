@@ -6,10 +6,11 @@ use Rattle.std.proofs.Math.Bool.{◌&&◌}
 use Rattle.std.proofs.Math.Nat.{pow-le-pow_right}
 use Rattle.std.proofs.lemmas.Bool.{lt-leb}
 use Rattle.std.proofs.Math.ListN.{get_or-eq_default}
-use Rattle.linear.specs.Cases.{below_suc, split}
-use Rattle.linear.specs.SystemLaws.{inner_cong}
+use Rattle.linear.specs.Cases.{below_suc}
+use Rattle.linear.proofs.Cases.{split}
+use Rattle.linear.proofs.SystemLaws.{inner_cong}
 use Rattle.linear.specs.Systems.{inner}
-use Rattle.linear.specs.TestLaws.{T-dec, all_same, any_same, count_le, count_same, number_false}
+use Rattle.linear.proofs.TestLaws.{T-dec, all_same, any_same, count_le, count_same, number_false}
 use Rattle.linear.specs.Tests.{all_to, any_to, count_to, number}
 use Rattle.linear.specs.Tuples.{Same}
 use Rattle.definitions.specs.Answers.{◌then◌, go, refuse, refuse_with}
@@ -17,10 +18,10 @@ use Rattle.definitions.specs.Refusals.{step_limit}
 use Rattle.definitions.specs.Step.{marks_to}
 use Rattle.definitions.specs.System.{image_of, is_zero, most_component, solves}
 use Rattle.definitions.specs.Tables.{State, at, capacity, frozen, write_to}
-use Rattle.laws.specs.MarkLaws.{marks_fit}
-use Rattle.laws.specs.SystemLaws.{covered_same}
-use Rattle.laws.specs.TableLaws.{row_fits, write_same}
-use Rattle.laws.specs.Again.{all_again}
+use Rattle.laws.proofs.MarkLaws.{marks_fit}
+use Rattle.laws.proofs.SystemLaws.{covered_same}
+use Rattle.laws.proofs.TableLaws.{row_fits, write_same}
+use Rattle.laws.proofs.Again.{all_again}
 use Rattle.laws.specs.Pack.{pack_to, write_if}
 use Rattle.laws.specs.Sweep.{keeps}
 use Rattle.table_rows.specs.Rows.{tuple}
@@ -33,7 +34,8 @@ use Rattle.desk_spec.specs.Desks.{desk_search_checks, desk_step}
 use Rattle.desk_spec.specs.Desks.{desk_of, desk_too_large, desk_top, desk_top_marks, freed, generator, generator_count, plus, raises, second_group, swept}
 use Rattle.desk_spec.specs.Desks.{towards_generator}
 use Rattle.desk_spec.specs.Records.{lent_with}
-use Rattle.desk_spec.specs.Valid.{DeskShaped, DeskValid, children_few, free}
+use Rattle.desk_spec.specs.Valid.{DeskShaped, DeskValid}
+use Rattle.desk_spec.proofs.Valid.{children_few, free}
 use Rattle.desk_rows.specs.Images.{Factors, Images, SmallDesk, entry, map_value}
 use Rattle.desk_rows.specs.Rows.{SmallTuple, row_alike}
 use Rattle.desk_walk.specs.Enlisting as enlisting

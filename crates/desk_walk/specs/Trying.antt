@@ -6,17 +6,17 @@ use Rattle.std.proofs.Math.Bool.{and-false}
 use Rattle.std.proofs.Math.Nat.{pow-le-pow_right}
 use Rattle.std.specs.Int.Signed.{lt_z}
 use Rattle.std.specs.Int.{w64}
-use Rattle.linear.specs.LoopLaws.{any_holds, any_next}
+use Rattle.linear.proofs.LoopLaws.{any_holds, any_next}
 use Rattle.linear.specs.Systems.{inner}
-use Rattle.linear.specs.TestLaws.{any_same}
+use Rattle.linear.proofs.TestLaws.{any_same}
 use Rattle.linear.specs.Tests.{any_to, number}
 use Rattle.linear.specs.Tuples.{Same}
 use Rattle.definitions.specs.Step.{marks_to}
 use Rattle.definitions.specs.System.{covered, most_component}
 use Rattle.definitions.specs.Tables.{at, frozen}
-use Rattle.laws.specs.SystemLaws.{covered_same}
-use Rattle.laws.specs.TableLaws.{row_fits}
-use Rattle.laws.specs.MarkLaws.{shift_one_wide}
+use Rattle.laws.proofs.SystemLaws.{covered_same}
+use Rattle.laws.proofs.TableLaws.{row_fits}
+use Rattle.laws.proofs.MarkLaws.{shift_one_wide}
 use Rattle.table_rows.specs.Rows.{tuple}
 use Rattle.products.specs.Marks.{any_zero, marks_below, marks_skip, marks_zero}
 use Rattle.products.specs.Trials.{large_if, made_if}

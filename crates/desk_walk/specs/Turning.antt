@@ -1,13 +1,13 @@
 -- A turn of the second walk's loop, from what its parts ensure. Assumes nothing.
 use Rattle.std.specs.Prelude.{◌≡◌, ◌≢◌, List, ℕ, ◌+◌, ◌*◌, ◌-◌, ◌/◌, ◌≤◌, ◌<◌, max, ℤ, length, get_or}
 use Rattle.std.proofs.Common.{sym, ◌∙◌, ap, ap₂, le-div_iff_mul-le, arith}
-use Rattle.linear.specs.TupleLaws.{total_same}
+use Rattle.linear.proofs.TupleLaws.{total_same}
 use Rattle.linear.specs.Tuples.{total}
 use Rattle.definitions.specs.Answers.{refused}
 use Rattle.definitions.specs.Machine.{walk}
 use Rattle.definitions.specs.Refusals.{step_limit}
 use Rattle.definitions.specs.Tables.{State, at}
-use Rattle.laws.specs.TableLaws.{row_fits}
+use Rattle.laws.proofs.TableLaws.{row_fits}
 use Rattle.table_rows.specs.Rows.{Holds, tuple}
 use Rattle.table_rows.specs.Small.{SmallRow}
 use Rattle.calls.specs.Paper.{number_of, values_of}

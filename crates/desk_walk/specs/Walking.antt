@@ -5,11 +5,12 @@ use Rattle.definitions.specs.Answers.{◌then◌, complete, go, paused, refuse, 
 use Rattle.definitions.specs.Machine.{walk}
 use Rattle.definitions.specs.Refusals.{step_limit}
 use Rattle.definitions.specs.Tables.{State, at}
-use Rattle.laws.specs.MachineLaws.{walk_done, walk_more, walk_paused, walk_refused}
+use Rattle.laws.proofs.MachineLaws.{walk_done, walk_more, walk_paused, walk_refused}
 use Rattle.laws.specs.Sweep.{keeps}
 use Rattle.table_rows.specs.Keeping.{Kept}
 use Rattle.desk_spec.specs.Desks.{Desk, desk_machine, desk_search_checks, desk_step, settled, swept}
-use Rattle.desk_spec.specs.Valid.{DeskValid, search_going, settled_done, settled_of, step_valid}
+use Rattle.desk_spec.specs.Valid.{DeskValid}
+use Rattle.desk_spec.proofs.Valid.{search_going, settled_done, settled_of, step_valid}
 use Rattle.desk_walk.specs.Taking.{moved_to}
 
 module _ (d : Desk) where

@@ -5,7 +5,7 @@ use Rattle.std.proofs.Common.{sym, ap, inl, inr, le_antisymm, add-one, arith}
 use Rattle.std.proofs.Math.Option.{none, some}
 use Rattle.linear.specs.Cases.{below_suc}
 use Rattle.dispatch_spec.specs.Dispatch.{first_to, first_asked, further, next_after}
-use Rattle.dispatch_spec.specs.RoundLaws.{asked_below}
+use Rattle.dispatch_spec.proofs.RoundLaws.{asked_below}
 
 -- k runs were asked, and none of them stays
 pub record Asking (count last : ℕ) (stays : ℕ → Bool) (start k : ℕ) : Type 0 where

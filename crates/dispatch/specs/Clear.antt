@@ -2,10 +2,10 @@
 use Rattle.std.specs.Prelude.{◌≡◌, refl, Bool, true, false, ℕ, ◌+◌, ◌-◌, ◌≤◌, ◌<◌, leb, ltb}
 use Rattle.std.proofs.Common.{sym, ◌∙◌, inl, inr, arith, leb→le}
 use borrow.Author.Tests.{lt-ltb, le-ltb, le-leb, lt-leb}
-use Rattle.linear.specs.Cases.{split}
+use Rattle.linear.proofs.Cases.{split}
 use Rattle.linear.specs.Tests.{all_to}
-use Rattle.linear.specs.TestLaws.{all_at}
-use Rattle.linear.specs.LoopLaws.{all_next, all_fails}
+use Rattle.linear.proofs.TestLaws.{all_at}
+use Rattle.linear.proofs.LoopLaws.{all_next, all_fails}
 use Rattle.dispatch_spec.specs.Parts.{Part, fits, overlap, all_fit, none_overlap, apart}
 
 -- ---- fitting

@@ -7,7 +7,8 @@ use Rattle.definitions.specs.Answers.{refuse}
 use Rattle.definitions.specs.Refusals.{resume_checks}
 use Rattle.definitions.specs.System.{most_equations, most_unknowns}
 use Rattle.definitions.specs.Tables.{State}
-use Rattle.laws.specs.RefusalLaws.{Outside, resume_renders}
+use Rattle.laws.specs.RefusalLaws.{Outside}
+use Rattle.laws.proofs.RefusalLaws.{resume_renders}
 use Rattle.dispatch_spec.specs.Parts.{part_in, part_of}
 use Rattle.dispatch.specs.declared.types.Part.{Part}
 use Rattle.dispatch.specs.declared.types.Share.{Share}

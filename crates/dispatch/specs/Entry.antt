@@ -6,7 +6,7 @@ use Rattle.std.proofs.Math.Logic.{inl, inr}
 use mathlib.Core.List.{List, []}
 use Prim.Native.Nat.{ℕ, ◌≤◌, ◌<◌}
 use Rattle.std.proofs.Math.ListN.{get_or-eq_default}
-use Rattle.linear.specs.Cases.{split}
+use Rattle.linear.proofs.Cases.{split}
 use Rattle.definitions.specs.Answers as paper
 use Rattle.calls.specs.Paper.{answer_of, run_of}
 use Rattle.calls.specs.declared.Record.{Record}
@@ -14,9 +14,9 @@ use Rattle.calls.specs.declared.Outcome.{Outcome}
 use Rattle.calls.specs.declared.Steps.{Steps}
 use Rattle.dispatch_spec.specs.Dispatch as form
 use Rattle.dispatch_spec.specs.Dispatch.{own, opened, after_turns, answer_for, steps_between, dispatch_checks, dispatch}
-use Rattle.dispatch_spec.specs.CheckRules.{accepted}
+use Rattle.dispatch_spec.proofs.CheckRules.{accepted}
 use Rattle.dispatch_spec.specs.ResumeLaws.{Rises}
-use Rattle.dispatch_spec.specs.TurnLaws.{turns_past, turns_rise}
+use Rattle.dispatch_spec.proofs.TurnLaws.{turns_past, turns_rise}
 use Rattle.dispatch.specs.declared.types.Share.{Share}
 use Rattle.dispatch.specs.declared.types.Progress.{Progress}
 use Rattle.dispatch.specs.declared.types.Fault.{Fault}

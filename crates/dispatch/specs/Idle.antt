@@ -8,9 +8,9 @@ use Rattle.definitions.specs.Input.{Input, input_of}
 use Rattle.definitions.specs.Machine as paper-machine
 use Rattle.definitions.specs.Refusals.{resume_checks}
 use Rattle.definitions.specs.Tables.{State}
-use Rattle.laws.specs.MachineLaws.{call_refused, call_walks, walk_done, walk_paused}
+use Rattle.laws.proofs.MachineLaws.{call_refused, call_walks, walk_done, walk_paused}
 use Rattle.calls.specs.Paper.{check_of, answer_of, number_of, values_of, state_of}
-use Rattle.calls.specs.CallLaws.{passes}
+use Rattle.calls.proofs.CallLaws.{passes}
 use Rattle.calls.specs.declared.Record.{Record}
 use Rattle.calls.specs.declared.Refusal.{Refusal}
 use Rattle.calls.specs.declared.Outcome.{Outcome}

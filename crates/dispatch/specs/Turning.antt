@@ -12,7 +12,7 @@ use Rattle.calls.specs.Paper.{outcome_of}
 use Rattle.calls.specs.declared.Outcome.{Outcome}
 use Rattle.dispatch_spec.specs.Dispatch as form
 use Rattle.dispatch_spec.specs.Dispatch.{Schedule, put, own, next, next_after, leave_turn, serve_run, serve, after_turns}
-use Rattle.dispatch_spec.specs.RoundLaws.{next_some}
+use Rattle.dispatch_spec.proofs.RoundLaws.{next_some}
 use Rattle.dispatch.specs.declared.types.Share.{Share}
 use Rattle.dispatch.specs.declared.types.Progress.{Progress}
 use Rattle.dispatch.specs.declared.round.Found.{Found}

@@ -1,16 +1,7 @@
 pub mod Parts
 pub mod Dispatch
-pub mod PartLaws
 pub mod RoundLaws
 pub mod ResumeLaws
-pub mod TurnLaws
-pub mod CheckRules
-pub mod Examples
 pub mod Turns
-pub mod Serving
-pub mod Alone
-pub mod Untouched
-pub mod Total
 pub mod Fair
 pub mod Order
-pub mod Promises

@@ -4,17 +4,17 @@ use Rattle.std.proofs.Common.{◌∙◌, inl, inr, mul-le-mul, add-one, arith, l
 use Rattle.std.proofs.Math.Nat.{mul-le-mul_right}
 use Rattle.std.proofs.lemmas.Bool.{not-false}
 use Rattle.std.proofs.Math.Dec.{ltb}
-use Rattle.linear.specs.Cases.{order}
+use Rattle.linear.proofs.Cases.{order}
 use Rattle.definitions.specs.Answers as paper
 use Rattle.definitions.specs.Answers.{◌then◌}
 use Rattle.definitions.specs.System.{is_zero}
-use Rattle.laws.specs.AnswerLaws.{refuse_if_go, then_assoc, then_go}
-use Rattle.laws.specs.TableLaws.{row_fits}
+use Rattle.laws.proofs.AnswerLaws.{refuse_if_go, then_assoc, then_go}
+use Rattle.laws.proofs.TableLaws.{row_fits}
 use Rattle.engine_spec.specs.Calls as spec
 use Rattle.engine_spec.specs.Engine.{Work}
 use Rattle.engine_spec.specs.StartSides.{start_sides}
 use Rattle.calls.specs.Paper.{check_of}
-use Rattle.calls.specs.CallLaws.{passes}
+use Rattle.calls.proofs.CallLaws.{passes}
 use Rattle.calls.specs.declared.Check.{Check}
 use Rattle.calls.specs.declared.Check.TheVariants.{Pass, Refuse}
 use Rattle.calls.specs.declared.Refusal.{Refusal}

@@ -1,7 +1,7 @@
 -- What the start, a row operation and the begin of a stage leave, and that it is what the definitions say. Assumes nothing.
 use Rattle.std.specs.Prelude.{◌≡◌, cond, List, ℕ, suc, ◌+◌, ◌*◌, ◌≤◌, ◌<◌, ltb, ℤ, pos, get_or}
 use Rattle.std.proofs.Common.{add-one, le-ltb, lt-ltb, inl, inr}
-use Rattle.linear.specs.Cases.{split}
+use Rattle.linear.proofs.Cases.{split}
 use Rattle.linear.specs.Tests.{count_to}
 use Rattle.linear.specs.Tuples.{unit}
 use Rattle.definitions.specs.Answers.{started}

@@ -4,22 +4,23 @@ use Rattle.std.proofs.Common.{sym, ◌∙◌, ap, add-one, arith, ltb-false, to_
 use Rattle.std.proofs.lemmas.Bool.{not-false}
 use Rattle.std.proofs.Math.IntN.{+ℤ_idl}
 use Rattle.std.specs.Int.{w32, w64}
-use Rattle.linear.specs.RightSides.{Extends}
-use Rattle.linear.specs.Integers.{nat_abs_negℤ, sfits_nat_abs}
+use Rattle.linear.proofs.RightSides.{Extends}
+use Rattle.linear.proofs.Integers.{nat_abs_negℤ, sfits_nat_abs}
 use Rattle.definitions.specs.Answers.{go, refuse_if}
 use Rattle.definitions.specs.Input.{bound_of}
 use Rattle.definitions.specs.Refusals.{check15}
-use Rattle.laws.specs.AnswerLaws.{refuse_if_go, then_go}
-use Rattle.laws.specs.Extended.{extends}
+use Rattle.laws.proofs.AnswerLaws.{refuse_if_go, then_go}
+use Rattle.laws.proofs.Extended.{extends}
 use Rattle.engine_checks.specs.Operating.{read32}
 use Rattle.engine_checks.specs.Sides.{Shaped, bound_row, bound_small, equation_small, number_checks, range_checks, ranged, side_checks}
 use Rattle.engine_spec.specs.Beside.{SmallEquation, SmallRow, coefficient_limit, equation_at}
 use Rattle.engine_spec.specs.Calls.{check7}
 use Rattle.engine_spec.specs.Engine.{fill_to, system_of}
-use Rattle.engine_spec.specs.Promise.{first_silent}
+use Rattle.engine_spec.proofs.Promise.{first_silent}
 use Rattle.engine_spec.specs.Promises.{map_of}
 use Rattle.engine_spec.specs.Reduction.{is_small}
-use Rattle.engine_spec.specs.Sides.{less_entry, less_to}
+use Rattle.engine_spec.specs.Sides.{less_to}
+use Rattle.engine_spec.proofs.Sides.{less_entry}
 use Rattle.engine_spec.specs.StartSides.{side_at, sides_system}
 
 -- a first number, then the coefficients from place `from`

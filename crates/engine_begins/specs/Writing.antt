@@ -3,12 +3,12 @@ use Rattle.std.specs.Prelude.{◌≡◌, refl, ◌⊎◌, true, List, ℕ, ◌+�
 use Rattle.std.proofs.Common.{◌∙◌, ap, inl, inr, add-one, arith, to_z-of_z, SFits}
 use Rattle.std.proofs.Math.Dec.{T, leb→le}
 use Rattle.std.specs.Int.{w32}
-use Rattle.linear.specs.Integers.{sfits_nat_abs}
-use Rattle.linear.specs.TestLaws.{all_at}
+use Rattle.linear.proofs.Integers.{sfits_nat_abs}
+use Rattle.linear.proofs.TestLaws.{all_at}
 use Rattle.definitions.specs.Tables.{write_to}
 use Rattle.engine_spec.specs.Beside.{SmallEquation, coefficient_limit, equation_at}
 use Rattle.engine_spec.specs.Engine.{fill_to}
-use Rattle.engine_spec.specs.Operations.{fill_length, fill_outside}
+use Rattle.engine_spec.proofs.Operations.{fill_length, fill_outside}
 use Rattle.engine_beside.specs.Small.{coefficient_fits}
 use Rattle.engine_checks.specs.Operating.{combined_read, combines_small, read32, read64}
 

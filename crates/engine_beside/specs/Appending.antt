@@ -1,16 +1,16 @@
 -- One row more in the table, and one entry more in each table beside it. Assumes nothing.
 use Rattle.std.specs.Prelude.{◌≡◌, List, ℕ, ◌+◌, ◌*◌, ◌≤◌, ◌<◌, ℤ, length, set}
 use Rattle.std.proofs.Common.{sym, ◌∙◌, inl, inr, arith}
-use Rattle.linear.specs.Cases.{split}
-use Rattle.linear.specs.SystemLaws.{value_same}
+use Rattle.linear.proofs.Cases.{split}
+use Rattle.linear.proofs.SystemLaws.{value_same}
 use Rattle.linear.specs.Systems.{value}
-use Rattle.linear.specs.TupleLaws.{total_same}
+use Rattle.linear.proofs.TupleLaws.{total_same}
 use Rattle.linear.specs.Tuples.{Same, total}
 use Rattle.definitions.specs.System.{most_component}
 use Rattle.definitions.specs.Tables.{at, write_to}
-use Rattle.laws.specs.TableLaws.{write_length}
+use Rattle.laws.proofs.TableLaws.{write_length}
 use Rattle.engine_spec.specs.Beside.{Measured, SmallTable, Valued, Worded, word_of}
-use Rattle.engine_spec.specs.ReductionLaws.{append_kept, append_new}
+use Rattle.engine_spec.proofs.ReductionLaws.{append_kept, append_new}
 use Rattle.engine_beside.specs.WordLaws.{word_same}
 use Rattle.engine_beside.specs.Writing.{measured_more, valued_more, worded_more}
 

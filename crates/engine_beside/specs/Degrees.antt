@@ -1,7 +1,7 @@
 -- Degrees within the limits, and one turn of the loop that adds one up. Assumes nothing.
 use Rattle.std.specs.Prelude.{◌≡◌, ℕ, ◌+◌, ◌*◌, ◌≤◌, ◌<◌}
 use Rattle.std.proofs.Common.{arith}
-use Rattle.linear.specs.TupleLaws.{total_more, total_most}
+use Rattle.linear.proofs.TupleLaws.{total_more, total_most}
 use Rattle.linear.specs.Tuples.{total}
 use Rattle.definitions.specs.System.{most_component}
 use Rattle.engine_spec.specs.Beside.{most_columns}

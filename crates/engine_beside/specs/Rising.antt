@@ -5,8 +5,8 @@ use Prim.Native.Nat.{ℕ, zero, suc, ◌+◌, ◌≤◌, ◌<◌}
 use Rattle.std.proofs.Common.{add-one}
 use native.Mathlib.Omega.{arith}
 use Rattle.std.proofs.Math.Dec.{le→leb, leb→le}
-use Rattle.linear.specs.Cases.{split}
-use Rattle.linear.specs.TestLaws.{all_at, all_from}
+use Rattle.linear.proofs.Cases.{split}
+use Rattle.linear.proofs.TestLaws.{all_at, all_from}
 use Rattle.linear.specs.Tests.{all_to}
 
 abbrev pub degree_at : List ℕ → ℕ → ℕ

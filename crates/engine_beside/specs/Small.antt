@@ -3,11 +3,12 @@ use Rattle.std.specs.Prelude.{◌≡◌, List, ℕ, ◌≤◌, ◌<◌, ℤ, nat
 use Rattle.std.proofs.Common.{arith, SFits, of_z, to_z}
 use Rattle.std.proofs.Math.IntN.{pos}
 use Rattle.std.specs.Int.{w32, w64}
-use Rattle.linear.specs.Integers.{nat_abs_+ℤ, sfits_nat_abs}
-use Rattle.linear.specs.SystemLaws.{inner_bound}
+use Rattle.linear.proofs.Integers.{nat_abs_+ℤ, sfits_nat_abs}
+use Rattle.linear.proofs.SystemLaws.{inner_bound}
 use Rattle.linear.specs.Systems.{value}
 use Rattle.definitions.specs.System.{most_component}
 use Rattle.table_rows.specs.Small as walks
+use Rattle.table_rows.proofs.Small as walks_laws
 use Rattle.engine_spec.specs.Beside.{SmallEquation, SmallRow, coefficient_limit, equation_at, row_at, value_limit}
 
 -- ---- values
@@ -37,7 +38,7 @@ module _ {q : ℕ} {coefs : List ℤ} {from : ℕ} {table : List ℕ} {base : �
   -- the value as it is written and read back
   pub value_read : {v : ℤ} → v ≡ value (equation_at coefs from) q (row_at table base)
       → to_z w64 (of_z w64 v) ≡ value (equation_at coefs from) q (row_at table base)
-  value_read h = walks.value_back (equation_within e) (row_within r) h
+  value_read h = walks_laws.value_back (equation_within e) (row_within r) h
 
 pub coefficient_fits : {q : ℕ} {coefs : List ℤ} {from : ℕ} → SmallEquation q coefs from → (j : ℕ) → j < q → SFits w32 (equation_at coefs from j)
 coefficient_fits s j l = sfits_nat_abs (omega (arith, s.small j l))

@@ -2,14 +2,14 @@
 use Rattle.std.specs.Prelude.{◌≡◌, refl, Bool, ◌&&◌, List, ℕ, zero, suc, ◌+◌, ◌*◌, ◌≤◌, T, leb, get_or, length}
 use Rattle.std.proofs.Common.{sym, ◌∙◌, add-one, arith}
 use Rattle.std.proofs.Math.Bool.{and_assoc, and-true}
-use Rattle.engine_spec.specs.Rules.{small_to}
-use Rattle.linear.specs.TestLaws.{all_at, all_from, all_same}
+use Rattle.engine_spec.proofs.Rules.{small_to}
+use Rattle.linear.proofs.TestLaws.{all_at, all_from, all_same}
 use Rattle.linear.specs.Tests.{all_to}
 use Rattle.definitions.specs.System.{most_component}
 use Rattle.definitions.specs.Tables.{at}
 use Rattle.engine_spec.specs.Beside.{SmallTable, most_columns, row_at}
 use Rattle.engine_spec.specs.Reduction.{is_small}
-use Rattle.engine_spec.specs.ReductionLaws.{small_from}
+use Rattle.engine_spec.proofs.ReductionLaws.{small_from}
 
 unfoldable pub are_small : (q n : ℕ) → (ℕ → ℕ → ℕ) → Bool
 are_small q n row = all_to n (λ i. is_small q (row i))

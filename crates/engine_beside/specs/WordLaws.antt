@@ -6,15 +6,16 @@ use Rattle.std.proofs.Common.{◌∙◌, mul-le-mul, pow-suc, add-one, le-ltb, l
 use Rattle.std.proofs.Math.Logic.{inl, inr}
 use Rattle.std.proofs.Math.Nat.{one-le-pow}
 use native.Mathlib.Omega.{arith}
-use Rattle.linear.specs.Cases.{split}
-use Rattle.linear.specs.TestLaws.{T-same}
+use Rattle.linear.proofs.Cases.{split}
+use Rattle.linear.proofs.TestLaws.{T-same}
 use Rattle.linear.specs.Tuples.{AtOrBelow, Same}
 use Rattle.definitions.specs.System.{is_at_or_below}
-use Rattle.laws.specs.SystemLaws.{below_from}
+use Rattle.laws.proofs.SystemLaws.{below_from}
 use Rattle.engine_spec.specs.Beside.{folded, word_of}
 use Rattle.engine_spec.specs.Signs.{plus}
-use Rattle.engine_spec.specs.Words as words
-use Rattle.engine_spec.specs.Words.{capped, digits, digits_next, digits_same, fits, guards, joined, joined_word, others, word}
+use Rattle.engine_spec.proofs.Words as words_laws
+use Rattle.engine_spec.specs.Words.{capped, digits, fits, guards, joined, others, word}
+use Rattle.engine_spec.proofs.Words.{digits_next, digits_same, joined_word}
 
 -- 0x7777777777777777: the largest word, all bits but the guards
 abbrev pub word_limit : ℕ
@@ -77,7 +78,7 @@ word_sum q x y =
 
 module _ (q : ℕ) (r z : ℕ → ℕ) where
   pub below_fits : AtOrBelow q r z → T (fits 16 (word_of q r) (word_of q z))
-  below_fits b = words.below_fits 16 (folded q r) (folded q z) (λ j l. folded_below q r z b j)
+  below_fits b = words_laws.below_fits 16 (folded q r) (folded q z) (λ j l. folded_below q r z b j)
 
   pub not_fits : fits 16 (word_of q r) (word_of q z) ≡ false → is_at_or_below q r z ≡ false
   not_fits e = T-same (is_at_or_below q r z) false (λ h. rw e at (below_fits (below_from q r z h))) (λ h. absurd h)

@@ -1,11 +1,11 @@
 -- Tables beside the rows as loops write them: one more entry written, and what is kept. Assumes nothing.
 use Rattle.std.specs.Prelude.{◌≡◌, refl, List, ℕ, ◌+◌, ◌*◌, ◌≤◌, ◌<◌, ℤ, pos, get_or, length, set}
 use Rattle.std.proofs.Common.{◌∙◌, inl, inr, arith, length-set, get_or-set_other, get_or-set_same}
-use Rattle.linear.specs.Cases.{split}
+use Rattle.linear.proofs.Cases.{split}
 use Rattle.linear.specs.Systems.{value}
 use Rattle.linear.specs.Tuples.{total}
 use Rattle.definitions.specs.Tables.{at}
-use Rattle.laws.specs.TableLaws.{row_fits}
+use Rattle.laws.proofs.TableLaws.{row_fits}
 use Rattle.engine_spec.specs.Beside.{Measured, SmallRow, SmallTable, Valued, Worded, word_of}
 
 -- A table after its first n entries have been written: it is as long as before, and the entries from n on are as they were. What stands past its end is z.

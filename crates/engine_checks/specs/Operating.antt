@@ -3,7 +3,7 @@ use Rattle.std.specs.Prelude.{◌≡◌, Bool, not, ◌&&◌, ◌||◌, List, �
 use Rattle.std.proofs.Common.{mul-le-mul, arith, to_z-of_z, SFits, of_z, to_z}
 use Rattle.std.proofs.Math.Facts.{sfits_widen}
 use Rattle.std.specs.Int.{w32, w64}
-use Rattle.linear.specs.Integers.{nat_abs_*ℤ, nat_abs_+ℤ, sfits_nat_abs}
+use Rattle.linear.proofs.Integers.{nat_abs_*ℤ, nat_abs_+ℤ, sfits_nat_abs}
 use Rattle.linear.specs.Tests.{all_to}
 use Rattle.definitions.specs.System.{is_zero}
 use Rattle.engine_spec.specs.Beside.{SmallEquation, coefficient_limit, equation_at}

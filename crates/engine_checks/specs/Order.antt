@@ -4,7 +4,7 @@ use Rattle.std.proofs.Common.{sym, ◌∙◌, mul-le-mul_right, add-one, arith}
 use Rattle.std.proofs.Math.Bool.{true, false}
 use borrow.Author.Tests.{le-leb, le-ltb, leb-true, lt-leb, lt-ltb, not-false, not-true}
 use Rattle.std.proofs.Math.Dec.{leb}
-use Rattle.linear.specs.TestLaws.{T-same, all_at, all_from, and_both, and_parts}
+use Rattle.linear.proofs.TestLaws.{T-same, all_at, all_from, and_both, and_parts}
 use Rattle.linear.specs.Tests.{all_to}
 use Rattle.linear.specs.Tuples.{total}
 use Rattle.definitions.specs.Refusals.{step_limit}

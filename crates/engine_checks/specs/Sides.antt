@@ -6,15 +6,15 @@ use Prim.Native.Nat.{ℕ, suc, ◌+◌, ◌*◌, ◌≤◌, ◌<◌}
 use borrow.Author.Tests.{eqb-true, le-ltb, leb-false, leb-true, lt-ltb, ltb-false, ne_eqb, not-false}
 use Rattle.std.proofs.Math.Dec.{eqb_refl}
 use Rattle.std.specs.Int.{w32, w64}
-use Rattle.linear.specs.Integers.{nat_abs_+ℤ, nat_abs_negℤ, sfits_nat_abs}
-use Rattle.linear.specs.SystemLaws.{value_same}
+use Rattle.linear.proofs.Integers.{nat_abs_+ℤ, nat_abs_negℤ, sfits_nat_abs}
+use Rattle.linear.proofs.SystemLaws.{value_same}
 use Rattle.linear.specs.Systems.{value}
 use Rattle.definitions.specs.Answers.{Check, go, refuse, refuse_first, refuse_if, refuse_with, ◌then◌}
 use Rattle.definitions.specs.Input.{bound_of}
 use Rattle.definitions.specs.Refusals.{check15}
 use Rattle.definitions.specs.System.{coef_limit}
-use Rattle.laws.specs.AnswerLaws.{refuse_if_go, then_assoc, then_go}
-use Rattle.laws.specs.TableLaws.{row_fits}
+use Rattle.laws.proofs.AnswerLaws.{refuse_if_go, then_assoc, then_go}
+use Rattle.laws.proofs.TableLaws.{row_fits}
 use Rattle.calls.specs.Paper.{check_of}
 use Rattle.calls.specs.declared.Check as made
 use Rattle.calls.specs.declared.Check.TheVariants.{Pass, Refuse}
@@ -23,9 +23,9 @@ use Rattle.checks.specs.Coefficients.{coefficient_checks, sides_checked}
 use Rattle.engine_spec.specs.Beside.{SmallEquation, SmallRow, coefficient_limit, equation_at, row_at, value_limit}
 use Rattle.engine_spec.specs.Calls.{check1, check2, check7}
 use Rattle.engine_spec.specs.Engine.{Work}
-use Rattle.engine_spec.specs.Promise.{false_not, first_silent}
+use Rattle.engine_spec.proofs.Promise.{false_not, first_silent}
 use Rattle.engine_spec.specs.Reduction.{is_small}
-use Rattle.engine_spec.specs.ReductionLaws.{small_from}
+use Rattle.engine_spec.proofs.ReductionLaws.{small_from}
 use Rattle.engine_spec.specs.StartSides.{side_at, sides_checks}
 use Rattle.engine_beside.specs.Small.{value_small}
 use Rattle.engine_checks.specs.Operating.{fit_small, read64}

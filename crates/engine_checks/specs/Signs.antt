@@ -3,7 +3,7 @@ use Rattle.std.specs.Prelude.{◌≡◌, refl, Bool, true, false, not, suc, ◌<
 use Rattle.std.proofs.Common.{sym, inl, inr, arith, eq-eqb, le-leb, le-ltb, leb-false, leb-true, lt-ltb, ltb-false, ltb-true, ne_eqb}
 use Rattle.std.proofs.lemmas.Bool.{lt-leb}
 use Rattle.std.specs.Int.Signed.{lt_z}
-use Rattle.linear.specs.Cases.{split}
+use Rattle.linear.proofs.Cases.{split}
 use Rattle.definitions.specs.System.{is_zero}
 use Rattle.engine_spec.specs.Beside.{coefficient_limit}
 use Rattle.engine_spec.specs.Calls.{is_minus_one}

@@ -2,10 +2,10 @@
 use Rattle.std.specs.Prelude.{◌≡◌, true, ℕ, ◌≤◌, leb}
 use Rattle.std.proofs.Common.{leb→le, le-leb}
 use Rattle.std.proofs.lemmas.Bool.{not-false}
-use Rattle.linear.specs.TestLaws.{and_parts}
+use Rattle.linear.proofs.TestLaws.{and_parts}
 use Rattle.definitions.specs.Answers.{Check, go, ◌then◌}
 use Rattle.definitions.specs.Refusals.{between}
-use Rattle.laws.specs.AnswerLaws.{refuse_if_go, then_assoc, then_go}
+use Rattle.laws.proofs.AnswerLaws.{refuse_if_go, then_assoc, then_go}
 use Rattle.engine_spec.specs.Calls.{check1, check2}
 use Rattle.calls.specs.Paper.{check_of}
 use Rattle.calls.specs.declared.Check as made

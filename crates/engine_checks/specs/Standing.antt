@@ -6,39 +6,22 @@ use Rattle.std.proofs.Math.Bool.{true, false}
 use Rattle.std.proofs.Math.Nat.{mul-le-mul_right}
 use borrow.Author.Tests.{eqb-true, ltb-false, not-false}
 use Rattle.std.proofs.Math.Dec.{T, leb, leb→le, ltb}
-use Rattle.linear.specs.TestLaws.{all_at, and_parts}
+use Rattle.linear.proofs.TestLaws.{all_at, and_parts}
 use Rattle.linear.specs.Tests.{all_to}
 use Rattle.definitions.specs.Answers.{Check, go, refuse, refuse_if, refuse_with, ◌then◌}
 use Rattle.definitions.specs.Refusals.{step_limit}
-use Rattle.laws.specs.AnswerLaws.{refuse_if_go, then_assoc, then_go}
-use Rattle.laws.specs.TableLaws.{row_fits}
+use Rattle.laws.proofs.AnswerLaws.{refuse_if_go, then_assoc, then_go}
+use Rattle.laws.proofs.TableLaws.{row_fits}
 use Rattle.calls.specs.Paper.{check_of}
 use Rattle.calls.specs.declared.Check as made
 use Rattle.calls.specs.declared.Check.TheVariants.{Pass, Refuse}
 use Rattle.calls.specs.declared.Refusal.{Refusal}
 use Rattle.checks.specs.Coefficients.{coefficient_checks}
-use Rattle.engine_spec.specs.Calls.{
-  check1,
-  check2,
-  check3,
-  check4,
-  check6,
-  check6_list,
-  check7,
-  coefficients_small,
-  in_order,
-  is_list,
-  is_row,
-  marks_in_order,
-  resume_checks,
-  standing_then,
-  start_checks,
-  start_from_checks,
-}
+use Rattle.engine_spec.specs.Calls.{check1, check2, check3, check4, check6, check6_list, check7, coefficients_small, in_order, is_list, is_row, marks_in_order, resume_checks, standing_then, start_checks, start_from_checks}
 use Rattle.engine_spec.specs.Beside.{SmallEquation, SmallTable, coefficient_limit}
 use Rattle.engine_spec.specs.Engine.{Work, basis_row}
 use Rattle.engine_spec.specs.Reduction.{is_small}
-use Rattle.engine_spec.specs.ReductionLaws.{small_from}
+use Rattle.engine_spec.proofs.ReductionLaws.{small_from}
 use Rattle.engine_checks.specs.Sizes.{Sized, size_checks, sized}
 use Rattle.engine_checks.specs.Taking.{left_by}
 

@@ -1,11 +1,11 @@
 -- Whether an equation is left, and an unknown fresh, from the marks and the working system. Assumes nothing.
 use Rattle.std.specs.Prelude.{◌≡◌, refl, Bool, true, false, not, ◌&&◌, ◌||◌, List, ◌≢◌, ℕ, zero, suc, ◌*◌, ◌<◌, T, eqb, ltb, ℤ}
 use Rattle.std.proofs.Common.{arith, ltb→lt}
-use Rattle.linear.specs.TestLaws.{and_parts}
+use Rattle.linear.proofs.TestLaws.{and_parts}
 use Rattle.linear.specs.Tests.{all_to, any_to}
 use Rattle.linear.specs.Tuples.{total}
 use Rattle.definitions.specs.System.{is_zero}
-use Rattle.laws.specs.TableLaws.{row_fits}
+use Rattle.laws.proofs.TableLaws.{row_fits}
 use Rattle.definitions.specs.Tables.{at, frozen}
 use Rattle.engine_spec.specs.Beside.{SmallRow, SmallTable}
 use Rattle.engine_spec.specs.Calls.{is_alone, is_free, is_fresh, is_minus_one}

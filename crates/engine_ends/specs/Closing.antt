@@ -5,7 +5,7 @@ use Rattle.linear.specs.Tests.{all_to, count_to}
 use Rattle.definitions.specs.Answers.{complete, paused}
 use Rattle.definitions.specs.Refusals.{step_limit}
 use Rattle.definitions.specs.Tables.{at, frozen}
-use Rattle.laws.specs.MarkLaws.{bit_add_fits, free_bit}
+use Rattle.laws.proofs.MarkLaws.{bit_add_fits, free_bit}
 use Rattle.laws.specs.Pack.{pack_to}
 use Rattle.engine_spec.specs.Beside.{Valued}
 use Rattle.engine_spec.specs.Engine.{Work, all_done, finish, rested, stays, system_of, values_small}

@@ -4,7 +4,7 @@ use Rattle.std.proofs.Common.{sym, arith}
 use Rattle.std.proofs.Math.Path.{ap}
 use Rattle.std.specs.Int.Signed.{le_z, lt_z}
 use Rattle.linear.specs.Differences.{up}
-use Rattle.linear.specs.TestLaws.{all_same, count_same}
+use Rattle.linear.proofs.TestLaws.{all_same, count_same}
 use Rattle.linear.specs.Tests.{all_to, count_to}
 use Rattle.definitions.specs.Answers.{complete, paused, refused}
 use Rattle.definitions.specs.System.{is_zero}

@@ -1,7 +1,7 @@
 -- Words that do not let their rows lie at or below a sum, one after the other. Assumes nothing.
 use Rattle.std.specs.Prelude.{◌≡◌, ◌⊎◌, Bool, true, false, List, ℕ, zero, suc, ◌+◌, ◌≤◌, ◌<◌, ℤ, get_or, length}
 use Rattle.std.proofs.Common.{sym, ◌∙◌, inl, inr, add-one, arith}
-use Rattle.linear.specs.Cases.{split}
+use Rattle.linear.proofs.Cases.{split}
 use Rattle.definitions.specs.Tables.{at}
 use Rattle.engine_spec.specs.Words.{fits}
 use Rattle.engine_beside.specs.WordLaws.{not_fits, word_low}

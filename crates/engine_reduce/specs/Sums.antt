@@ -4,9 +4,9 @@ use Rattle.std.proofs.Math.Path.{refl}
 use Rattle.std.proofs.Common.{sym, ap}
 use Rattle.std.proofs.Math.Bool.{and-false}
 use Rattle.std.specs.Int.Signed.{le_z, le_z_yes, lt_z, lt_z_no, lt_z_yes, clash_ℤ}
-use Rattle.linear.specs.LoopLaws.{any_holds, any_next}
+use Rattle.linear.proofs.LoopLaws.{any_holds, any_next}
 use Rattle.linear.specs.Systems.{value}
-use Rattle.linear.specs.TestLaws.{T-same, and_both, and_parts, any_same, true_is}
+use Rattle.linear.proofs.TestLaws.{T-same, and_both, and_parts, any_same, true_is}
 use Rattle.linear.specs.Tests.{any_to}
 use Rattle.definitions.specs.System.{is_at_or_below}
 use Rattle.definitions.specs.Tables.{at}

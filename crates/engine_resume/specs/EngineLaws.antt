@@ -1,11 +1,9 @@
 -- The turns of a run by those of its stage: what the stage answers decides, and where it has ended the run finishes it. Assumes nothing.
-use Rattle.std.specs.Prelude.{◌≡◌}
-use Rattle.std.proofs.Math.Path.{refl}
-use Prim.Native.Nat.{ℕ, zero, suc}
+use Prim.Native.Nat.{ℕ}
 use Rattle.definitions.specs.Answers.{Answer, complete, paused, refused, started}
-use Rattle.engine_spec.specs.Engine.{Result, Work, after, basis_row, equation_of, finish, onward, result, run}
+use Rattle.engine_spec.specs.Engine.{Result, Work, basis_row, equation_of, finish, result}
 use Rattle.engine_spec.specs.Stage as stage
-use Rattle.engine_spec.specs.Stage.{Outcome, Stage, Turned, ends, goes, stops, turn}
+use Rattle.engine_spec.specs.Stage.{Outcome}
 
 -- what a run whose stage gave this answer comes to
 unfoldable pub ended : (p q most : ℕ) → Answer → Work → Result
@@ -17,20 +15,3 @@ ended p q most (refused n values) w = result (refused n values) w
 -- the run of its stage
 abbrev pub stage_run : (q room budget : ℕ) → Work → Outcome
 stage_run q room budget w = stage.run q (equation_of q w) w.count (basis_row q w) room budget w.stage
-
-module _ (p q most : ℕ) where
-  after_by : (t : Turned) (f : Work → Result) (g : Stage → Outcome) (w : Work)
-      → ((s : Stage) → f (onward s w) ≡ ended p q most (g s).answer (onward (g s).stage w))
-      → after p q most t f w ≡ ended p q most (stage.after t g w.stage).answer (onward (stage.after t g w.stage).stage w)
-  unfolding after stage.after ended onward
-  after_by (goes s) f g w h = h s
-  after_by (stops n) f g w h = refl
-  after_by ends f g w h = refl
-
-  pub run_by_stage : (room budget : ℕ) (w : Work)
-      → run p q most room budget w ≡ ended p q most (stage_run q room budget w).answer (onward (stage_run q room budget w).stage w)
-  unfolding run stage.run ended onward
-  run_by_stage room zero w = refl
-  run_by_stage room (suc budget) w =
-      after_by (turn q (equation_of q w) w.count (basis_row q w) room w.stage) (run p q most room budget)
-      (stage.run q (equation_of q w) w.count (basis_row q w) room budget) w (λ s. run_by_stage room budget (onward s w))

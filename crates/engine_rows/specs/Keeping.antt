@@ -4,12 +4,12 @@ use Rattle.std.proofs.Common.{sym, ◌∙◌, ap, true≢false, add-one, arith, 
 use Rattle.std.specs.Int.Signed.{clash_ℤ, le_z, le_z_yes, lt_z, lt_z_no, lt_z_yes, non_neg}
 use Rattle.std.specs.Int.{w32, w64}
 use Rattle.linear.specs.Differences.{up}
-use Rattle.linear.specs.TestLaws.{T-same, all_at, count_le}
+use Rattle.linear.proofs.TestLaws.{T-same, all_at, count_le}
 use Rattle.linear.specs.Tests.{all_to, count_to}
 use Rattle.definitions.specs.System.{is_zero, most_component}
 use Rattle.definitions.specs.Tables.{at, write_to}
-use Rattle.laws.specs.TableLaws.{write_same}
-use Rattle.laws.specs.SweepTable.{swept_ahead}
+use Rattle.laws.proofs.TableLaws.{write_same}
+use Rattle.laws.proofs.SweepTable.{swept_ahead}
 use Rattle.engine_spec.specs.Beside.{row_at}
 use Rattle.engine_spec.specs.Fresh.{put_at}
 use Rattle.engine_rows.specs.Packing.{Packed, packed_more}

@@ -29,16 +29,17 @@ use Rattle.std.proofs.Common.{sym, ◌∙◌, ap, inl, inr, arith, ltb-true, len
 use Rattle.std.proofs.lemmas.Bool.{not-false}
 use Rattle.std.specs.Int.Signed.{lt_z, lt_z_yes}
 use Rattle.std.specs.Int.{w64}
-use Rattle.linear.specs.Cases.{split}
-use Rattle.linear.specs.Differences.{one_side, up_lt}
-use Rattle.linear.specs.Integers.{sfits_nat_abs}
-use Rattle.linear.specs.SystemLaws.{inner_bound}
+use Rattle.linear.proofs.Cases.{split}
+use Rattle.linear.specs.Differences.{up_lt}
+use Rattle.linear.proofs.Differences.{one_side}
+use Rattle.linear.proofs.Integers.{sfits_nat_abs}
+use Rattle.linear.proofs.SystemLaws.{inner_bound}
 use Rattle.linear.specs.Systems.{value}
-use Rattle.linear.specs.TestLaws.{and_parts, or_cases}
+use Rattle.linear.proofs.TestLaws.{and_parts, or_cases}
 use Rattle.linear.specs.Tuples.{AtOrBelow}
 use Rattle.definitions.specs.System.{is_at_or_below, most_component}
 use Rattle.definitions.specs.Tables.{at}
-use Rattle.laws.specs.SystemLaws.{below_from}
+use Rattle.laws.proofs.SystemLaws.{below_from}
 use Rattle.engine_spec.specs.Beside.{AllMarked, SmallEquation, SmallTable, Valued, coefficient_limit, equation_at, no_mark, value_limit}
 use Rattle.engine_spec.specs.Marks.{Opposed, size}
 use Rattle.engine_spec.specs.ReductionLaws.{Against}

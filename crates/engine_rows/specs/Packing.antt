@@ -3,11 +3,12 @@ use Rattle.std.specs.Prelude.{◌≡◌, List, Bool, true, false, ℕ, zero, suc
 use Rattle.std.proofs.Math.Path.{refl}
 use Rattle.std.proofs.Common.{◌∙◌, ap, add-one}
 use native.Mathlib.Omega.{arith}
-use Rattle.linear.specs.TestLaws.{count_le, count_step}
+use Rattle.linear.proofs.TestLaws.{count_le, count_step}
 use Rattle.linear.specs.Tests.{count_to}
 use Rattle.definitions.specs.Tables.{write_to}
-use Rattle.laws.specs.TableLaws.{row_fits}
-use Rattle.laws.specs.Pack.{pack_length, pack_to}
+use Rattle.laws.proofs.TableLaws.{row_fits}
+use Rattle.laws.specs.Pack.{pack_to}
+use Rattle.laws.proofs.Pack.{pack_length}
 
 -- every row
 abbrev pub always : ℕ → Bool

@@ -3,11 +3,11 @@ use Rattle.std.specs.Prelude.{◌≡◌, refl, Bool, true, false, ◌&&◌, ◌|
 use Rattle.std.proofs.Common.{inl, inr, add-one, arith, le-leb, le-ltb, lt-ltb}
 use Rattle.std.proofs.lemmas.Bool.{lt-leb}
 use Rattle.std.specs.Int.Bits.{bit_or}
-use Rattle.linear.specs.Cases.{split}
+use Rattle.linear.proofs.Cases.{split}
 use Rattle.linear.specs.Tests.{all_to, any_to, number}
 use Rattle.definitions.specs.System.{is_at_or_below}
 use Rattle.definitions.specs.Tables.{write_to}
-use Rattle.laws.specs.TableLaws.{row_fits, write_outside}
+use Rattle.laws.proofs.TableLaws.{row_fits, write_outside}
 use Rattle.engine_spec.specs.Beside.{SmallRow, SmallTable}
 
 -- x j is above z j

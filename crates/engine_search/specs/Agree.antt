@@ -1,8 +1,8 @@
 -- Where the values and degrees are those of the rows, what is found by them is what the stage says. Assumes nothing.
 use Rattle.std.specs.Prelude.{◌≡◌, ◌⊎◌, List, ℕ, ◌+◌, ◌≤◌, ◌<◌, eqb, ℤ}
 use Rattle.std.proofs.Common.{sym, ◌∙◌, inl, inr, mul-le-mul_right, arith}
-use Rattle.linear.specs.Cases.{split}
-use Rattle.linear.specs.TupleLaws.{total_most}
+use Rattle.linear.proofs.Cases.{split}
+use Rattle.linear.proofs.TupleLaws.{total_most}
 use Rattle.linear.specs.Tuples.{total}
 use Rattle.definitions.specs.Tables.{at}
 use Rattle.engine_spec.specs.Beside.{Measured, SmallTable, Valued}

@@ -9,7 +9,8 @@ use Rattle.std.proofs.Math.Numerals.{add-one}
 use native.Mathlib.Omega.{arith}
 use borrow.Author.Tests.{le-ltb, lt-ltb, ne_eqb}
 use Rattle.std.proofs.Math.Dec.{T, eqb_refl}
-use Rattle.engine_spec.specs.Search.{begins, first_from, first_in, holder, least_above, least_one, least_under, least_to, lesser, partner}
+use Rattle.engine_spec.specs.Search.{begins, first_from, first_in, holder, least_to, lesser, partner}
+use Rattle.engine_spec.proofs.Search.{least_above, least_one, least_under}
 use Rattle.engine_search.specs.Places.{degree_of}
 
 -- ---- what a test in code says

@@ -5,8 +5,8 @@ use Rattle.std.proofs.Common.{◌∙◌, inl, inr, arith}
 use Rattle.std.proofs.Math.Bool.{true, false, cond}
 use Rattle.std.proofs.Math.Dec.{T}
 use Rattle.std.specs.Int.Signed.{lt_z}
-use Rattle.linear.specs.Cases.{split}
-use Rattle.linear.specs.TestLaws.{and_both, and_parts}
+use Rattle.linear.proofs.Cases.{split}
+use Rattle.linear.proofs.TestLaws.{and_both, and_parts}
 use Rattle.engine_spec.specs.Search.{least_to, lesser}
 use Rattle.engine_search.specs.Falls.{Fallen, back_early, falling_back, is_below}
 use Rattle.engine_search.specs.Firsts.{least_is, least_next, least_none, lesser_zero}

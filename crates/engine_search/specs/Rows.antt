@@ -4,9 +4,10 @@ use Rattle.std.proofs.Common.{sym, inl, inr, arith}
 use Rattle.std.proofs.Math.Decide.{ℕ_discrete}
 use Rattle.std.proofs.Math.Dec.{eqb→eq, eqb_refl}
 use Rattle.std.specs.Int.Signed.{lt_z}
-use Rattle.linear.specs.Cases.{split}
-use Rattle.linear.specs.TestLaws.{and_both, and_parts}
-use Rattle.engine_spec.specs.Search.{Before, begins, none_unique, pair_unique}
+use Rattle.linear.proofs.Cases.{split}
+use Rattle.linear.proofs.TestLaws.{and_both, and_parts}
+use Rattle.engine_spec.specs.Search.{Before, begins}
+use Rattle.engine_spec.proofs.Search.{none_unique, pair_unique}
 use Rattle.engine_search.specs.Falls.{Back, back_early, falling_back, is_below}
 use Rattle.engine_search.specs.Places.{Falling, Found, IsNext, Ranked, degree_of, due, due_by, upper_of, value_of}
 use Rattle.engine_search.specs.Scans.{Below}

@@ -33,15 +33,17 @@ use Rattle.std.proofs.Math.Dec.{leb→le}
 use Rattle.std.proofs.Math.IntN.{ℤ}
 use Rattle.std.specs.Int.Signed.{lt_z, lt_z_yes}
 use Rattle.std.specs.Int.{w64}
-use Rattle.linear.specs.TestLaws.{is_true, true_is}
-use Rattle.linear.specs.Differences.{one_side, up_lt}
-use Rattle.linear.specs.Integers.{sfits_nat_abs}
-use Rattle.linear.specs.SystemLaws.{value_sum}
+use Rattle.linear.proofs.TestLaws.{is_true, true_is}
+use Rattle.linear.specs.Differences.{up_lt}
+use Rattle.linear.proofs.Differences.{one_side}
+use Rattle.linear.proofs.Integers.{sfits_nat_abs}
+use Rattle.linear.proofs.SystemLaws.{value_sum}
 use Rattle.linear.specs.Systems.{value}
 use Rattle.definitions.specs.Tables.{at}
 use Rattle.engine_spec.specs.Beside.{AllMarked, SmallTable, Valued, Worded, no_mark, value_limit, word_of}
 use Rattle.engine_spec.specs.Caps.{is_over}
-use Rattle.engine_spec.specs.Marks.{Marked, lower_mark, marked_above, marked_below, size, upper_mark}
+use Rattle.engine_spec.specs.Marks.{Marked, size}
+use Rattle.engine_spec.proofs.Marks.{lower_mark, marked_above, marked_below, upper_mark}
 use Rattle.engine_spec.specs.Reduction.{reducible}
 use Rattle.engine_spec.specs.ReductionLaws.{Against}
 use Rattle.engine_spec.specs.Words.{joined}

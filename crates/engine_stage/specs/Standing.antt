@@ -1,16 +1,17 @@
 -- What code has of a stage, and what a turn leaves. Assumes nothing.
 use Rattle.std.specs.Prelude.{◌≡◌, refl, Bool, true, false, List, ℕ, ◌+◌, ◌*◌, ◌≤◌, ◌<◌, ℤ, pos, get_or, length, set}
 use Rattle.std.proofs.Common.{sym, inl, inr, arith, length-set, get_or-set_other, get_or-set_same}
-use Rattle.linear.specs.Cases.{split}
+use Rattle.linear.proofs.Cases.{split}
 use Rattle.linear.specs.Systems.{value}
 use Rattle.linear.specs.Tuples.{Same, total}
 use Rattle.definitions.specs.Refusals.{step_limit}
 use Rattle.definitions.specs.System.{most_component}
 use Rattle.definitions.specs.Tables.{at, write_to}
-use Rattle.laws.specs.TableLaws.{row_fits, write_length}
+use Rattle.laws.proofs.TableLaws.{row_fits, write_length}
 use Rattle.engine_spec.specs.Beside.{AllMarked, Measured, SmallEquation, SmallTable, Valued, Worded, equation_at, no_mark, word_of}
-use Rattle.engine_spec.specs.Marks.{Marked, marked_more}
-use Rattle.engine_spec.specs.ReductionLaws.{append_kept, append_new}
+use Rattle.engine_spec.specs.Marks.{Marked}
+use Rattle.engine_spec.proofs.Marks.{marked_more}
+use Rattle.engine_spec.proofs.ReductionLaws.{append_kept, append_new}
 use Rattle.engine_spec.specs.Stage.{Stage, Turned, due_row, ends, goes, stops, turn}
 use Rattle.engine_beside.specs.Appending.{append_measured, append_small, append_valued, append_worded}
 use Rattle.engine_beside.specs.Degrees.{degree_small}

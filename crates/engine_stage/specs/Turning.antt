@@ -4,7 +4,7 @@ use Rattle.std.proofs.Math.Path.{refl}
 use Rattle.std.proofs.Common.{sym, ◌∙◌, arith, eqb→eq, ltb→lt, lt→ltb}
 use Rattle.std.proofs.Math.Bool.{true, false}
 use Rattle.linear.specs.Systems.{value}
-use Rattle.linear.specs.TestLaws.{is_false, is_true, true_is}
+use Rattle.linear.proofs.TestLaws.{is_false, is_true, true_is}
 use Rattle.linear.specs.TupleLaws.{total_sum}
 use Rattle.linear.specs.Tuples.{total}
 use Rattle.definitions.specs.Refusals.{step_limit}
@@ -13,34 +13,17 @@ use Rattle.definitions.specs.Tables.{at, write_to}
 use Rattle.engine_spec.specs.Beside.{no_mark, word_of}
 use Rattle.engine_spec.specs.Marks.{Marked}
 use Rattle.engine_spec.specs.Reduction.{is_small}
-use Rattle.engine_spec.specs.ReductionLaws.{Against, small_from}
-use Rattle.engine_spec.specs.Search.{first_in, found_holds, pair_found}
-use Rattle.engine_spec.specs.Stage.{
-  Stage,
-  Turned,
-  above,
-  below,
-  degree_turn,
-  due_row,
-  ends,
-  grown,
-  is_due,
-  next_degree,
-  pair_turn,
-  paired,
-  passed,
-  raised,
-  row_turn,
-  stops,
-  sum_of,
-  turn,
-}
-use Rattle.engine_spec.specs.Tests.{due_pair, is_due_lem, next_above}
+use Rattle.engine_spec.specs.ReductionLaws.{Against}
+use Rattle.engine_spec.proofs.ReductionLaws.{small_from}
+use Rattle.engine_spec.specs.Search.{first_in}
+use Rattle.engine_spec.proofs.Search.{found_holds, pair_found}
+use Rattle.engine_spec.specs.Stage.{Stage, Turned, above, below, degree_turn, due_row, ends, grown, is_due, next_degree, pair_turn, paired, passed, raised, row_turn, stops, sum_of, turn}
+use Rattle.engine_spec.proofs.Tests.{due_pair, is_due_lem, next_above}
 use Rattle.engine_reduce.specs.Sums.{integer_at, never}
 use Rattle.engine_search.specs.Agree.{due_row_by, next_degree_by_lem, none_by, pair_by}
 use Rattle.engine_search.specs.Falls.{falling_start}
 use Rattle.engine_search.specs.Places.{Falling, Found, degree_of, next_degree_by, value_of}
-use Rattle.laws.specs.TableLaws.{row_fits, write_length}
+use Rattle.laws.proofs.TableLaws.{row_fits, write_length}
 use Rattle.engine_rows.specs.Marking.{valued_bounded}
 use Rattle.engine_stage.specs.Appended.{PairAppended, PairFits, Room, RowAppended}
 use Rattle.engine_stage.specs.Marked.{Paired, mark_is, mark_of, needless_of, sum_is}

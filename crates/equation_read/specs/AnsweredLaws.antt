@@ -4,7 +4,7 @@ use Rattle.std.proofs.Common.{arith}
 use Rattle.definitions.specs.System.{coef_limit}
 use Rattle.equation_spec.specs.Outcome as form
 use Rattle.equation_spec.specs.Outcome.{Outcome, outcome}
-use Rattle.equation_spec.specs.Theorems.{accepted_is_read}
+use Rattle.equation_spec.proofs.Theorems.{accepted_is_read}
 use Rattle.equation_read.specs.Answer.{answered, read, refused}
 
 pub answered_refused : (o : Outcome) (row : List ℤ) {n : ℕ} {values : List ℕ} {left : List ℤ} → refused n values left ≡ answered o row

@@ -8,10 +8,10 @@ use borrow.Author.Tests.{ne_eqb, eqb-true, le-leb, lt-leb}
 use Rattle.std.proofs.Math.Decide.{dec_lt}
 use Rattle.texts.specs.Decimals.{space}
 use Rattle.texts.specs.Reading.{parsed, malformed, and_then}
-use Rattle.texts.specs.NumberLaws.{byte_at}
+use Rattle.texts.proofs.NumberLaws.{byte_at}
 use Rattle.equation_spec.specs.Grammar.{plus, minus, bare, led}
 use Rattle.equation_spec.specs.Reader.{skip, on_byte, on_sign, read_numeral, read_index}
-use Rattle.equation_spec.specs.PartLaws.{skip_shorter}
+use Rattle.equation_spec.proofs.PartLaws.{skip_shorter}
 use Rattle.equation_read.specs.Places.{starts, lead_of, after_lead, is_led, is_minus}
 
 -- ---- spaces

@@ -7,20 +7,21 @@ use Rattle.std.proofs.Math.Decide.{ℕ_discrete}
 use Rattle.std.proofs.Math.IntN.{neg_ℤ}
 use Rattle.std.proofs.Math.ListN.{get_or}
 use borrow.Author.Tests.{ne_eqb, eq-eqb, lt-ltb, le-ltb, le-leb, lt-leb, ltb-false}
-use Rattle.linear.specs.Integers.{nat_abs_negℤ}
-use Rattle.linear.specs.Terms.{ring, #◌, ◌⊕◌, ⊖◌}
+use Rattle.linear.proofs.Integers.{nat_abs_negℤ}
+use Rattle.linear.specs.Terms.{#◌, ◌⊕◌, ⊖◌}
+use Rattle.linear.proofs.Terms.{ring}
 use Rattle.definitions.specs.Answers.{go, refuse_with, refuse_first, ◌then◌}
 use Rattle.definitions.specs.System.{coef_limit}
 use Rattle.definitions.specs.Refusals.{out_of_range}
-use Rattle.laws.specs.AnswerLaws.{refuse_at, refuse_next}
+use Rattle.laws.proofs.AnswerLaws.{refuse_at, refuse_next}
 use Rattle.texts.specs.Reading.{most_bytes, Parse, parsed, malformed}
 use Rattle.equation_spec.specs.Grammar.{Equation, Reads}
 use Rattle.equation_spec.specs.Meaning.{of_sum, coefficient, right_side, sum_depth, sum_exceeds}
 use Rattle.equation_spec.specs.Reader.{read_equation}
 use Rattle.equation_spec.specs.Scan.{place}
 use Rattle.equation_spec.specs.Outcome.{Outcome, accepted, checked, list, most_depth, limits, tree_outcome, outcome}
-use Rattle.equation_spec.specs.Agreement.{read_any, read_reads}
-use Rattle.equation_spec.specs.PlaceLaws.{reads_placed}
+use Rattle.equation_spec.proofs.Agreement.{read_any, read_reads}
+use Rattle.equation_spec.proofs.PlaceLaws.{reads_placed}
 use Rattle.equation_read.specs.Answer.{read, refused, answered, totals_outcome, Ranged}
 use Rattle.equation_read.specs.MeaningLaws.{set_at}
 

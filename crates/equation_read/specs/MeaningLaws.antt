@@ -2,13 +2,14 @@
 use Rattle.std.specs.Prelude.{ℕ, zero, suc, ◌<◌, Bool, true, false, cond, ◌||◌, List, [], ◌∷◌, ◌≡◌, refl, eqb, ltb, length, get_or, set}
 use Rattle.std.proofs.Common.{sym, ap, ap₂, ◌∙◌, arith, length-set, eqb-true, ne_eqb, eq-eqb}
 use lib.IntN.{ℤ, pos, nat_abs, ◌+ℤ◌, ◌*ℤ◌, +ℤ_idr, *ℤ-zero, *ℤ-one}
-use Rattle.linear.specs.Integers.{nat_abs_*ℤ, nat_abs_negℤ}
-use Rattle.linear.specs.Terms.{ring, #◌, ◌⊕◌, ◌⊗◌, ⊖◌}
+use Rattle.linear.proofs.Integers.{nat_abs_*ℤ, nat_abs_negℤ}
+use Rattle.linear.specs.Terms.{#◌, ◌⊕◌, ◌⊗◌, ⊖◌}
+use Rattle.linear.proofs.Terms.{ring}
 use Rattle.definitions.specs.System.{coef_limit}
 use Rattle.definitions.specs.Refusals.{out_of_range}
 use Rattle.equation_spec.specs.Grammar.{Sign, plus, minus, Lead, bare, led, Sum, one, more, Term, number, plain, times, Factor, unknown, bracket}
 use Rattle.equation_spec.specs.Meaning.{signed, led_by, single, of_sum, of_term, of_factor, sum_exceeds, term_exceeds, factor_exceeds}
-use Rattle.equation_spec.specs.Unknowns.{SumUpTo, TermUpTo, FactorUpTo}
+use Rattle.equation_spec.proofs.Unknowns.{SumUpTo, TermUpTo, FactorUpTo}
 use Rattle.equation_read.specs.Totals.{add_at, bounded, add_sum, add_term, add_factor, exceeds_sum, exceeds_term, exceeds_factor}
 
 -- ---- whether the limit is exceeded goes by the size of the multiplier

@@ -2,13 +2,13 @@
 use Rattle.std.specs.Prelude.{ℕ, zero, suc, ◌+◌, ◌*◌, ◌-◌, ◌≤◌, ◌<◌, List, [], ◌∷◌, ◌++◌, ◌≡◌, ℤ, pos, nat_abs, ◌+ℤ◌, length, get_or, drop, set}
 use mathlib.Core.Bool.{true, false}
 use Rattle.std.proofs.Common.{sym, ap, arith, length-drop, length-append}
-use Rattle.linear.specs.Integers.{nat_abs_+ℤ, nat_abs_negℤ}
+use Rattle.linear.proofs.Integers.{nat_abs_+ℤ, nat_abs_negℤ}
 use Rattle.texts.specs.Decimals.{decimal}
 use Rattle.texts.specs.Reading.{parsed}
-use Rattle.texts.specs.DecimalLaws.{begins}
+use Rattle.texts.proofs.DecimalLaws.{begins}
 use Rattle.equation_spec.specs.Reader.{skip, read_numeral, read_index}
-use Rattle.equation_spec.specs.PartLaws.{skip_shorter}
-use Rattle.equation_spec.specs.SoundLaws.{numeral_read, index_read}
+use Rattle.equation_spec.proofs.PartLaws.{skip_shorter}
+use Rattle.equation_spec.proofs.SoundLaws.{numeral_read, index_read}
 use Rattle.equation_read.specs.Totals.{add_at, signed_by, Small}
 use Rattle.equation_read.specs.declared.sums.After.{After}
 use Rattle.equation_read.specs.declared.sums.After.TheVariants.{At, Stopped}

@@ -8,7 +8,7 @@ use native.Mathlib.Omega.{arith}
 use Rattle.std.proofs.Math.Dec.{leb}
 use borrow.Author.Tests.{ne_eqb, le-leb, lt-leb}
 use Rattle.texts.specs.Reading.{may_follow, is_digit, digit}
-use Rattle.texts.specs.NumberLaws.{byte_at, digit_range}
+use Rattle.texts.proofs.NumberLaws.{byte_at, digit_range}
 use Rattle.equation_spec.specs.Reader.{most_digits}
 use Rattle.equation_spec.specs.Scan.{Phase, nothing, sum_due, term_due, factor_due, index_due, in_number, after_number, in_index, after_bracket, after_term}
 use Rattle.equation_spec.specs.Scan.{Step, to}

@@ -3,15 +3,16 @@ use Rattle.std.specs.Prelude.{ℕ, zero, suc, ◌+◌, ◌-◌, ◌≤◌, ◌<�
 use Rattle.std.specs.Prelude.{drop, replicate}
 use Rattle.std.proofs.Common.{sym, ap, ap₂, ◌∙◌, arith, drop_of_length-le}
 use Rattle.std.proofs.Math.Decide.{dec_lt}
-use Rattle.linear.specs.Terms.{ring, #◌, ◌⊕◌, ◌⊗◌, ⊖◌}
+use Rattle.linear.specs.Terms.{#◌, ◌⊕◌, ◌⊗◌, ⊖◌}
+use Rattle.linear.proofs.Terms.{ring}
 use Rattle.texts.specs.Reading.{Parse}
-use Rattle.texts.specs.NumberLaws.{byte_at}
+use Rattle.texts.proofs.NumberLaws.{byte_at}
 use Rattle.equation_spec.specs.Grammar.{Sum, Equation, Reads, sum_parts, Spells}
 use Rattle.equation_spec.specs.Meaning.{of_sum, sum_depth, sum_exceeds}
 use Rattle.equation_spec.specs.Reader.{skip, read_sum, read_bracket, read_equation}
 use Rattle.equation_spec.specs.Outcome.{tree_outcome}
-use Rattle.equation_spec.specs.Unknowns.{reads_upto}
-use Rattle.equation_spec.specs.DepthLaws.{left_deeper, left_is, left_within, equals_after, right_deeper, right_is}
+use Rattle.equation_spec.proofs.Unknowns.{reads_upto}
+use Rattle.equation_spec.proofs.DepthLaws.{left_deeper, left_is, left_within, equals_after, right_deeper, right_is}
 use Rattle.equation_read.specs.Totals.{add_sum, exceeds_sum, collected, stopped, sum_collected, Small}
 use Rattle.equation_read.specs.SumLaws.{sum_parsed, sum_stopped}
 use Rattle.equation_read.specs.MeaningLaws.{sum_exceeds_lem, sum_length, sum_adds}

@@ -6,7 +6,7 @@ use Rattle.std.proofs.Math.Decide.{dec_lt}
 use Rattle.std.proofs.Math.IntN.{+ℤ_idl}
 use Rattle.std.specs.Int.Signed.{lt_z}
 use Rattle.std.specs.Int.{w64}
-use Rattle.linear.specs.Integers.{nat_abs_+ℤ, nat_abs_*ℤ, nat_abs_negℤ, sfits_nat_abs}
+use Rattle.linear.proofs.Integers.{nat_abs_+ℤ, nat_abs_*ℤ, nat_abs_negℤ, sfits_nat_abs}
 use Rattle.definitions.specs.Refusals.{out_of_range}
 use Rattle.equation_read.specs.Totals.{bounded}
 

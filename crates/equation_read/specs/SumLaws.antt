@@ -7,7 +7,7 @@ use native.Mathlib.Omega.{arith}
 use Rattle.std.proofs.Math.ListN.{length, length-drop}
 use Rattle.definitions.specs.Refusals.{out_of_range}
 use Rattle.texts.specs.Reading.{Parse, parsed, malformed, and_then, is_digit}
-use Rattle.texts.specs.NumberLaws.{byte_at}
+use Rattle.texts.proofs.NumberLaws.{byte_at}
 use Rattle.equation_spec.specs.Grammar.{Sign, plus, minus, Lead, bare, led, Sum, one, more, Term, number, plain, times, Factor, bracket}
 use Rattle.equation_spec.specs.Meaning.{signed, led_by}
 use Rattle.equation_spec.specs.Reader.{skip, on_byte, on_sign, read_numeral, read_index, read_factor, after_numeral, read_term, more_terms, first_term}

@@ -3,7 +3,7 @@ use Rattle.std.specs.Prelude.{ℕ, suc, ◌+◌, ◌-◌, ◌≤◌, ◌<◌, ma
 use Rattle.std.proofs.Common.{sym, ap, ◌∙◌, arith, drop_of_length-le, length-drop}
 use borrow.Author.Tests.{eq-eqb, ne_eqb}
 use Rattle.texts.specs.Decimals.{newline}
-use Rattle.texts.specs.NumberLaws.{byte_at}
+use Rattle.texts.proofs.NumberLaws.{byte_at}
 use Rattle.equation_spec.specs.Lines.{line_length, line_count}
 
 -- ---- the end of a line

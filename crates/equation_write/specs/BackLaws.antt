@@ -2,14 +2,14 @@
 use Rattle.std.specs.Prelude.{ℕ, not, ◌&&◌, List, ◌++◌, ◌≡◌, refl, leb, eqb, ℤ, pos, nat_abs, length, get_or, take, drop}
 use Rattle.std.proofs.Common.{sym, arith, leb→le, take_at, ltb-false, eqb-true}
 use Rattle.std.proofs.lemmas.Bool.{not-false}
-use Rattle.linear.specs.TestLaws.{and_parts}
+use Rattle.linear.proofs.TestLaws.{and_parts}
 use Rattle.definitions.specs.Answers.{Check, refuse, go, refuse_if, refuse_first}
 use Rattle.definitions.specs.System.{coef_limit, most_unknowns}
 use Rattle.definitions.specs.Refusals.{out_of_range}
-use Rattle.laws.specs.AnswerLaws.{then_go, refuse_if_go}
+use Rattle.laws.proofs.AnswerLaws.{then_go, refuse_if_go}
 use Rattle.equation_spec.specs.Outcome.{accepted, outcome}
 use Rattle.equation_spec.specs.Writing.{written, write_checks, wrote, put_out, write}
-use Rattle.equation_spec.specs.RoundTrip.{written_back}
+use Rattle.equation_spec.proofs.RoundTrip.{written_back}
 use Rattle.equation_write.specs.CallLaws.{passed}
 
 -- "and the reader gives that row again": what the writer wrote is read as the row that it was handed

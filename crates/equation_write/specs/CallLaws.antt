@@ -5,12 +5,13 @@ use borrow.Author.Tests.{eq-eqb, ne_eqb, le-leb, lt-leb, lt-ltb, le-ltb}
 use Rattle.definitions.specs.Answers.{refuse, go, refuse_if, refuse_with, ◌then◌}
 use Rattle.definitions.specs.System.{coef_limit}
 use Rattle.definitions.specs.Refusals.{out_of_range}
-use Rattle.laws.specs.CheckLaws.{decides_first}
+use Rattle.laws.proofs.CheckLaws.{decides_first}
 use Rattle.checks.specs.Coefficients.{coefficient_checks}
 use Rattle.texts.specs.Decimals.{space, numeral}
-use Rattle.texts.specs.Put.{Put, put_whole}
+use Rattle.texts.specs.Put.{Put}
+use Rattle.texts.proofs.PutTheorems.{put_whole}
 use Rattle.equation_spec.specs.Grammar.{equals_byte}
-use Rattle.equation_spec.specs.WriteLaws.{written_short}
+use Rattle.equation_spec.proofs.WriteLaws.{written_short}
 use Rattle.equation_spec.specs.Writing.{terms, written, wrote, refused, write_checks, put_out, write}
 use Rattle.equation_write.specs.Texts.{InRange}
 

@@ -6,8 +6,8 @@ use Rattle.std.proofs.Math.Numerals.{add-one}
 use Rattle.std.specs.Int.Signed.{lt_z}
 use Rattle.texts.specs.Decimals.{decimal}
 use Rattle.std.specs.Int.{w32}
-use Rattle.linear.specs.Integers.{sfits_nat_abs}
-use Rattle.equation_spec.specs.WriteLaws.{multiple_short}
+use Rattle.linear.proofs.Integers.{sfits_nat_abs}
+use Rattle.equation_spec.proofs.WriteLaws.{multiple_short}
 use Rattle.equation_spec.specs.Writing.{multiple, later_terms, terms}
 use Rattle.equation_write.specs.Texts.{lead_text, is_negative, term_text, rest_text}
 

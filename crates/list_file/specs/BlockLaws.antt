@@ -7,11 +7,11 @@ use native.Mathlib.Omega.{arith}
 use Rattle.std.proofs.Math.Seq.{take-length}
 use Rattle.list_spec.specs.Words.{word_limit, word_bytes, encoded, word_at, wrapping_sum}
 use Rattle.list_spec.specs.Form.{ListFile, block_bytes, block_words, stream_words, header, stream, content_word, block_word, file_word, file_blocks, written}
-use Rattle.list_spec.specs.WordLaws.{word_take, word_encoded}
-use Rattle.list_spec.specs.SumLaws.{total_same, negation_is}
+use Rattle.list_spec.proofs.WordLaws.{word_take, word_encoded}
+use Rattle.list_spec.proofs.SumLaws.{total_same, negation_is}
 use Rattle.list_spec.specs.RuleLaws.{ListInRange}
-use Rattle.list_spec.specs.ContentLaws.{stream_length, stream_row, content_stream, block_content, block_last, block_small}
-use Rattle.list_spec.specs.WrittenLaws.{stream_few}
+use Rattle.list_spec.proofs.ContentLaws.{stream_length, stream_row, content_stream, block_content, block_last, block_small}
+use Rattle.list_spec.proofs.WrittenLaws.{stream_few}
 
 -- the writer's checks found nothing
 pub record Writable (l : ListFile) (room : ℕ) : Type 0 where

@@ -3,7 +3,7 @@ use Rattle.std.specs.Prelude.{◌≡◌, ℕ, zero, suc, ◌+◌, Bool, ◌&&◌
 use Rattle.std.proofs.Common.{add-one, arith, ne_eqb}
 use Rattle.std.proofs.lemmas.Bool.{lt-leb}
 use Rattle.linear.specs.Tests.{all_to}
-use Rattle.linear.specs.TestLaws.{all_same}
+use Rattle.linear.proofs.TestLaws.{all_same}
 
 -- one more place is tested
 pub all_more : (n : ℕ) (f : ℕ → Bool) → all_to n f && f n ≡ all_to (n + 1) f

@@ -2,7 +2,7 @@
 use Rattle.std.specs.Prelude.{◌≡◌, ℕ, List, length, ℤ}
 use Rattle.std.proofs.Common.{arith}
 use Rattle.list_spec.specs.Reading.{ReadOutcome, list_in, read_checks, handed_out, read_decided, read_file}
-use Rattle.list_spec.specs.RuleLaws.{read_in}
+use Rattle.list_spec.proofs.RuleLaws.{read_in}
 use Rattle.list_file.specs.Paper.{check_of}
 use Rattle.list_file.specs.WordCheckLaws.{passes}
 use Rattle.list_file.specs.declared.words.FileRefusal.{FileRefusal}

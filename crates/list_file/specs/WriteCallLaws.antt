@@ -2,7 +2,7 @@
 use Rattle.std.specs.Prelude.{◌≡◌, ℕ, List, length}
 use Rattle.list_spec.specs.Form.{ListFile, written}
 use Rattle.list_spec.specs.Writing.{write_checks, write_decided, write_list}
-use Rattle.list_spec.specs.RuleLaws.{write_in}
+use Rattle.list_spec.proofs.RuleLaws.{write_in}
 use Rattle.list_file.specs.Paper.{check_of}
 use Rattle.list_file.specs.WordCheckLaws.{passes}
 use Rattle.list_file.specs.declared.words.FileRefusal.{FileRefusal}

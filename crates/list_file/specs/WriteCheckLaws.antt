@@ -5,12 +5,12 @@ use borrow.Author.Tests.{le-leb, lt-leb, eq-eqb, ne_eqb}
 use Rattle.definitions.specs.Answers as paper
 use Rattle.definitions.specs.Answers.{◌then◌, refuse_if, refuse_with}
 use Rattle.definitions.specs.System.{most_unknowns}
-use Rattle.laws.specs.AnswerLaws.{then_assoc}
+use Rattle.laws.proofs.AnswerLaws.{then_assoc}
 use Rattle.checks.specs.Coefficients.{coefficient_checks}
 use Rattle.checks.specs.Counts.{counted, count_checks}
 use Rattle.list_spec.specs.Form.{ListFile, block_bytes, block_count, row_count, file_blocks}
 use Rattle.list_spec.specs.Writing.{most_rows, most_ending, rows_in_range, list_in_range, write_checks}
-use Rattle.list_spec.specs.ContentLaws.{stream_length}
+use Rattle.list_spec.proofs.ContentLaws.{stream_length}
 
 -- 22 and 19, which come after 1 to 3 and 7
 unfoldable pub list_checks : ListFile → ℕ → paper.Check

@@ -2,13 +2,5 @@ pub mod Words
 pub mod Form
 pub mod Writing
 pub mod Reading
-pub mod Facts
-pub mod WordLaws
-pub mod SumLaws
-pub mod ListLaws
 pub mod Ranges
 pub mod RuleLaws
-pub mod ContentLaws
-pub mod AcceptedLaws
-pub mod WrittenLaws
-pub mod FileLaws

@@ -1,18 +1,10 @@
 -- The answers in the definition's terms, as one number for C, and why a tuple is not taken apart. Assumes nothing.
 use Rattle.std.specs.Prelude.{List, ◌≡◌, ℕ, ℤ, set}
-use Rattle.std.proofs.Common.{sym, to_z-of_z, of_z, to_z}
-use Rattle.std.specs.Int.{w64}
-use Rattle.definitions.specs.Input.{input_of}
-use Rattle.definitions.specs.Refusals.{Sizes}
 use Rattle.definitions.specs.Reasons as why
 use Rattle.multiples_spec.specs.Parts as paper
 use Rattle.multiples_spec.specs.Parts.{parts_number}
 use Rattle.calls.specs.Codes.{code}
 use Rattle.calls.specs.Paper.{number_of, value, values_of}
-use Rattle.checks.specs.Counts.{Modest}
-use Rattle.reasons.specs.Amounts.{told_fits}
-use Rattle.reasons.specs.Answers.{reason_of}
-use Rattle.reasons.specs.declared.Reason as reasons
 use Rattle.multiples.specs.declared.Excuse.{Excuse}
 use Rattle.multiples.specs.declared.Excuse.TheVariants as excuses
 use Rattle.multiples.specs.declared.Parts.{Parts}
@@ -47,10 +39,6 @@ amount_after (paper.refused n values) held = held
 abbrev pub parts_told : paper.Outcome → List ℤ → ℕ × (List ℕ × List ℤ)
 parts_told o held = (code (parts_number o.answer) (parts_place o.answer), (o.times, amount_after o.answer held))
 
-pub told : {r s : Parts} {o : paper.Outcome} (times : List ℕ) (held : List ℤ) → outcome_of r times ≡ o → r ≡ s
-    → parts_told (outcome_of s times) held ≡ parts_told o held
-told times held e f = rw (← e, f)
-
 -- a reason of a tuple that is a solution
 abbrev pub Solves : why.Reason → Type 0
 Solves why.zero = Unit {0}
@@ -64,12 +52,3 @@ abbrev pub ExcuseIs : why.Reason → Excuse → Type 0
 ExcuseIs r excuses.Solves = Solves r
 ExcuseIs r (excuses.Off k amount) = r ≡ why.off k amount
 ExcuseIs r (excuses.Refused cause) = r ≡ why.refused (number_of cause) (values_of cause)
-
--- what is told of a reason that the code found
-pub solves : {r s : reasons.Reason} {paper : why.Reason} → reason_of r ≡ paper → r ≡ s → Solves (reason_of s) → Solves paper
-solves e f h = rw (← e, f) h
-
-pub off_told : {s : Sizes} → Modest s → (p q : ℕ) (coefs : List ℤ) (list : List ℕ) (found : ℕ) (t : List ℕ) {k : ℕ} {amount : ℤ}
-    → why.off k amount ≡ why.reason_within s (input_of p q coefs) list found t
-    → why.reason_within s (input_of p q coefs) list found t ≡ why.off k (to_z w64 (of_z w64 amount))
-off_told m p q coefs list found t e = rw (to_z-of_z (told_fits m p q coefs list found t _ _ e)) (sym e)

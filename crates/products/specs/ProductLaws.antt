@@ -4,15 +4,16 @@ use Rattle.std.specs.Prelude.{◌≡◌, refl, List, ℕ, ◌+◌, ◌*◌, ◌�
 use Rattle.std.proofs.Math.Path.{sym, ap}
 use Rattle.std.proofs.Common.{◌∙◌, ap₂, inl, inr, arith}
 use Rattle.std.proofs.Math.IntN.{pos}
-use Rattle.linear.specs.Cases.{order}
-use Rattle.linear.specs.Sums.{sum_cong}
+use Rattle.linear.proofs.Cases.{order}
+use Rattle.linear.proofs.Sums.{sum_cong}
 use Rattle.linear.specs.Tuples.{Same, raise, unit}
 use Rattle.linear.specs.Systems.{inner, value}
-use Rattle.linear.specs.SystemLaws.{inner_cong, inner_bound, value_sum, value_unit}
-use Rattle.linear.specs.Gram.{inner_comm, gram_bound, product, product_sum}
+use Rattle.linear.proofs.SystemLaws.{inner_cong, inner_bound, value_sum, value_unit}
+use Rattle.linear.specs.Gram.{product}
+use Rattle.linear.proofs.Gram.{inner_comm, gram_bound, product_sum}
 use Rattle.definitions.specs.System.{most_unknowns, coef_limit, most_component}
 use Rattle.definitions.specs.Tables.{at, write_row}
-use Rattle.laws.specs.TableLaws.{row_other, row_tuple}
+use Rattle.laws.proofs.TableLaws.{row_other, row_tuple}
 use Rattle.products.specs.Products.{given, SmallCoefs, gram_limit, entry, Written, Gram, SmallGram, combine, Combined, Products, SmallProducts, raised}
 use Rattle.products.specs.Turns.{rows_next}
 

@@ -2,13 +2,13 @@
 use Rattle.std.specs.Prelude.{◌≡◌, refl, Bool, true, false, ℕ, ◌+◌, ◌*◌, ◌-◌, ◌%◌, ◌^◌, ◌≤◌, ◌<◌, T}
 use Rattle.std.proofs.Common.{sym, ◌∙◌, inl, inr, arith, pow_mono}
 use Rattle.std.specs.Int.Count.{count_trailing_zeros}
-use Rattle.linear.specs.Cases.{split}
-use Rattle.linear.specs.LoopLaws.{any_next}
-use Rattle.linear.specs.TestLaws.{is_false, is_true}
+use Rattle.linear.proofs.Cases.{split}
+use Rattle.linear.proofs.LoopLaws.{any_next}
+use Rattle.linear.proofs.TestLaws.{is_false, is_true}
 use Rattle.linear.specs.Tests.{any_to}
 use Rattle.definitions.specs.Tables.{frozen}
 use Rattle.definitions.specs.Step.{marks_to}
-use Rattle.laws.specs.MarkLaws.{free_beyond, frozen_gone, frozen_none, frozen_others, lowest_frozen, lowest_le, lowest_less, shift_one}
+use Rattle.laws.proofs.MarkLaws.{free_beyond, frozen_gone, frozen_none, frozen_others, lowest_frozen, lowest_le, lowest_less, shift_one}
 use Rattle.products.specs.Marks.{any_over, marks_add, marks_over, marks_room, marks_skip}
 
 -- of the first q unknowns at which f holds, `rest` marks those from n on

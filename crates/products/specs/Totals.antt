@@ -3,7 +3,7 @@ use Rattle.std.specs.Prelude.{◌≡◌, List, ℕ, ◌+◌, ◌≤◌, ◌<◌,
 use Rattle.std.proofs.Common.{◌∙◌, arith, length-set, get_or-set_same, get_or-set_other}
 use Rattle.std.proofs.Math.Decide.{ℕ_discrete}
 use Rattle.linear.specs.Tuples.{total}
-use Rattle.linear.specs.TupleLaws.{total_most}
+use Rattle.linear.proofs.TupleLaws.{total_most}
 use Rattle.definitions.specs.System.{most_component}
 use Rattle.definitions.specs.Tables.{at}
 

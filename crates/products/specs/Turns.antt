@@ -4,14 +4,14 @@ use Rattle.std.specs.Prelude.{◌≡◌, refl, List, ℕ, ◌+◌, ◌*◌, ◌�
 use Rattle.std.proofs.Common.{sym, ◌∙◌, ap, inl, inr, mul-le-mul, arith, below_more, length-set, get_or-set_same, get_or-set_other, SFits, of_z, to_z, to_z-of_z}
 use Rattle.std.proofs.Math.IntN.{zero-*ℤ, +ℤ_idr}
 use Rattle.std.specs.Int.{w32, w64}
-use Rattle.linear.specs.Cases.{split}
-use Rattle.linear.specs.Integers.{sfits_nat_abs, nat_abs_+ℤ, nat_abs_*ℤ}
+use Rattle.linear.proofs.Cases.{split}
+use Rattle.linear.proofs.Integers.{sfits_nat_abs, nat_abs_+ℤ, nat_abs_*ℤ}
 use Rattle.linear.specs.Sums.{sum_to}
 use Rattle.linear.specs.Gram.{gram}
 use Rattle.linear.specs.Systems.{inner}
-use Rattle.linear.specs.SystemLaws.{inner_next, inner_bound}
+use Rattle.linear.proofs.SystemLaws.{inner_next, inner_bound}
 use Rattle.definitions.specs.System.{most_unknowns, most_component, is_zero}
-use Rattle.laws.specs.TableLaws.{row_fits}
+use Rattle.laws.proofs.TableLaws.{row_fits}
 use Rattle.products.specs.Products.{
   Ahead,
   Gram,

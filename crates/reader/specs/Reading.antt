@@ -7,13 +7,13 @@ use Rattle.std.proofs.Math.Nat.{mul-le-mul_right, div-mul-le_self}
 use Rattle.std.proofs.Math.Dec.{T, leb, leb→le}
 use Rattle.std.proofs.Math.ListN.{length, length-drop}
 use Rattle.std.proofs.lemmas.Bool.{lt-leb}
-use Rattle.linear.specs.TestLaws.{and_parts}
+use Rattle.linear.proofs.TestLaws.{and_parts}
 use Rattle.definitions.specs.Answers.{Check, go, refuse, refuse_with}
 use Rattle.definitions.specs.System.{most_unknowns}
 use Rattle.definitions.specs.Input.{rights}
 use Rattle.definitions.specs.Refusals.{between, most_for}
 use Rattle.definitions.specs.Tables.{capacity}
-use Rattle.laws.specs.TableLaws.{row_fits}
+use Rattle.laws.proofs.TableLaws.{row_fits}
 use Rattle.definitions.specs.Reader.{
   Shown,
   Which,

@@ -8,9 +8,11 @@ use Rattle.definitions.specs.Highest as paper
 use Rattle.definitions.specs.Highest.{highest, locate_checks, locate_within, placed, refused}
 use Rattle.definitions.specs.Input.{input_of}
 use Rattle.definitions.specs.Tables.{at, capacity}
-use Rattle.laws.specs.CheckLaws.{AllSilent, FirstDue, Renders, Rules, ◌▹◌, end, renders_last, renders_then, rule}
-use Rattle.laws.specs.ReasonLaws.{decides_count}
-use Rattle.laws.specs.RefusalLaws.{Outside, decides_outside, decides_unequal}
+use Rattle.laws.specs.CheckLaws.{AllSilent, FirstDue, Renders, Rules, ◌▹◌, end, rule}
+use Rattle.laws.proofs.CheckLaws.{renders_last, renders_then}
+use Rattle.laws.proofs.ReasonLaws.{decides_count}
+use Rattle.laws.specs.RefusalLaws.{Outside}
+use Rattle.laws.proofs.RefusalLaws.{decides_outside, decides_unequal}
 
 -- 2 for q outside 1 to the most unknowns, 5 for a tuple not of length q, 6 for a count above the room, in rising number
 abbrev pub locate_rules : (most q : ℕ) → List ℕ → ℕ → List ℕ → Rules

@@ -1,5 +1,4 @@
 pub mod Answers
 pub mod Numbers
-pub mod AnswerLaws
 pub mod Amounts
 pub mod Refusals

@@ -6,7 +6,7 @@ use Rattle.std.proofs.Common.{◌∙◌, ap, arith, leb→le}
 use Rattle.std.specs.Int.Count.{ones, ones_step}
 use borrow.Author.Tests.{not-true, not-false}
 use Rattle.linear.specs.Tests.{all_to, count_to}
-use Rattle.linear.specs.TestLaws.{and_parts}
+use Rattle.linear.proofs.TestLaws.{and_parts}
 use Rattle.definitions.specs.Answers.{Check, ◌then◌, refuse, refuse_with}
 use Rattle.definitions.specs.Input.{Input, alone, bound_of, input_with, limit_of}
 use Rattle.definitions.specs.Refusals.{check5, check6, check6_from, deepest_limit, in_order, in_order_from, inside, in_order_by, row_fits, second_fits, step_limit}
@@ -15,7 +15,7 @@ use Rattle.definitions.specs.System.{System, above, capped, is_at_or_below, most
 use Rattle.definitions.specs.Tables.{Record, RunKind, State, at, capacity, capped_run, desk_by_desk, frozen, is_run, lower_above, lower_plain, plain_part, plain_run}
 use Rattle.definitions.specs.Tables.{run_for}
 use Rattle.calls.specs.Paper.{system_with}
-use Rattle.laws.specs.MarkLaws.{count_frozen_half}
+use Rattle.laws.proofs.MarkLaws.{count_frozen_half}
 
 ones_zero : ones 0 ≡ 0
 unfolding ones

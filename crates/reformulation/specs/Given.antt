@@ -2,13 +2,14 @@
 use Rattle.std.specs.Prelude.{◌≡◌, Bool, true, false, not, ◌&&◌, List, [], ℕ, ◌+◌, ◌*◌, ◌-◌, ◌≤◌, leb, ℤ, length}
 use Rattle.std.proofs.Common.{sym, ◌∙◌, inl, inr, mul-le-mul, arith, le-leb, leb→le}
 use Rattle.std.proofs.lemmas.Bool.{lt-leb, not-false, not-true}
-use Rattle.linear.specs.Cases.{split}
-use Rattle.linear.specs.TestLaws.{and_parts}
+use Rattle.linear.proofs.Cases.{split}
+use Rattle.linear.proofs.TestLaws.{and_parts}
 use Rattle.definitions.specs.Answers.{Check, ◌then◌, go, refuse, refuse_with}
 use Rattle.definitions.specs.Refusals.{between, check7}
 use Rattle.checks.specs.Coefficients.{coefficient_checks}
 use Rattle.reformulation_spec.specs.Reformulation.{Reformulation, are_lengths, given_checks}
-use Rattle.reformulation_spec.specs.Rules.{Lengths, few_equations, few_unknowns, given_sizes}
+use Rattle.reformulation_spec.specs.Rules.{Lengths, few_equations, few_unknowns}
+use Rattle.reformulation_spec.proofs.Rules.{given_sizes}
 
 -- ---- a test that was made, whose answer r is that of the definition
 

@@ -3,7 +3,7 @@ use Rattle.std.specs.Prelude.{◌≡◌, refl, Bool, true, false, not, List, ℕ
 use Rattle.std.proofs.Common.{sym, ◌∙◌, ap, inl, inr, arith, le-leb, le-ltb, lt-ltb, ltb-false, ltb-true}
 use Rattle.std.proofs.lemmas.Bool.{lt-leb}
 use Rattle.std.specs.Int.Signed.{lt_z}
-use Rattle.linear.specs.Cases.{split}
+use Rattle.linear.proofs.Cases.{split}
 use Rattle.linear.specs.Tests.{any_to}
 use Rattle.definitions.specs.Answers.{refuse, refuse_if, refuse_with}
 use Rattle.definitions.specs.Refusals.{out_of_range}
@@ -12,8 +12,8 @@ use Rattle.calls.specs.declared.Check.{Check}
 use Rattle.calls.specs.declared.Check.TheVariants.{Pass, Refuse}
 use Rattle.calls.specs.declared.Refusal.{Refusal}
 use Rattle.checks.specs.Coefficients.{coefficient_checks, first_any, instead}
-use Rattle.laws.specs.AnswerLaws.{refuse_if_go}
-use Rattle.laws.specs.CheckLaws.{refuse_not_go}
+use Rattle.laws.proofs.AnswerLaws.{refuse_if_go}
+use Rattle.laws.proofs.CheckLaws.{refuse_not_go}
 use Rattle.reformulation_spec.specs.Reformulation.{in_range, most_multiple}
 
 -- ---- a multiple

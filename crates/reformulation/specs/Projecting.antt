@@ -3,7 +3,7 @@ use Rattle.std.specs.Prelude.{◌≡◌, true, false, List, ℕ, ◌+◌, ◌*�
 use Rattle.std.proofs.Common.{div-mul-le_self, mul-le-mul_right, arith}
 use Rattle.definitions.specs.Answers.{◌then◌, refuse_with}
 use Rattle.definitions.specs.Tables.{at, write_to}
-use Rattle.reformulation_spec.specs.Projection.{project_next}
+use Rattle.reformulation_spec.proofs.Projection.{project_next}
 use Rattle.reformulation_spec.specs.Reformulation.{project_checks, project_to, projected}
 use Rattle.reformulation_spec.specs.Rules.{few_unknowns}
 use Rattle.reformulation.specs.Numbers.{project_told}

@@ -2,26 +2,17 @@
 use Rattle.std.specs.Prelude.{◌≡◌, true, false, List, ℕ, ◌+◌, ◌≤◌, T, ℤ, nat_abs, pos, get_or, length}
 use Rattle.std.proofs.Common.{inl, inr, mul-le-mul_right, arith}
 use Rattle.std.proofs.Math.ListN.{get_or-eq_default}
-use Rattle.linear.specs.Cases.{split}
-use Rattle.linear.specs.TestLaws.{and_parts}
+use Rattle.linear.proofs.Cases.{split}
+use Rattle.linear.proofs.TestLaws.{and_parts}
 use Rattle.definitions.specs.Answers.{◌then◌, refuse_with}
 use Rattle.calls.specs.Paper.{check_of, number_of, values_of}
 use Rattle.calls.specs.declared.Check.{Check}
 use Rattle.calls.specs.declared.Check.TheVariants.{Pass, Refuse}
 use Rattle.calls.specs.declared.Refusal.{Refusal}
 use Rattle.calls.specs.Codes.{refusal_code}
-use Rattle.reformulation_spec.specs.Reformulation.{
-  Reformulation,
-  are_multiples,
-  are_small,
-  equations,
-  given_checks,
-  in_range,
-  reformulates,
-  shows,
-  unknowns,
-}
-use Rattle.reformulation_spec.specs.Showing.{Small, multiples_from, range_from}
+use Rattle.reformulation_spec.specs.Reformulation.{Reformulation, are_multiples, are_small, equations, given_checks, in_range, reformulates, shows, unknowns}
+use Rattle.reformulation_spec.specs.Showing.{Small}
+use Rattle.reformulation_spec.proofs.Showing.{multiples_from, range_from}
 use Rattle.reformulation.specs.Given.{Given}
 use Rattle.reformulation.specs.Numbers.{shown_told}
 use Rattle.reformulation.specs.Sums.{Lines, Within}

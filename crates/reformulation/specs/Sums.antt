@@ -6,9 +6,9 @@ use Prim.Native.Nat.{ℕ, zero, suc, ◌+◌, ◌*◌, ◌≤◌, ◌<◌}
 use Rattle.std.proofs.Math.Numerals.{add-one}
 use native.Mathlib.Omega.{arith}
 use Rattle.std.specs.Int.{w32, w64}
-use Rattle.linear.specs.Integers.{nat_abs_+ℤ, nat_abs_*ℤ, sfits_nat_abs}
+use Rattle.linear.proofs.Integers.{nat_abs_+ℤ, nat_abs_*ℤ, sfits_nat_abs}
 use Rattle.definitions.specs.System.{coef_limit}
-use Rattle.laws.specs.TableLaws.{row_fits}
+use Rattle.laws.proofs.TableLaws.{row_fits}
 use Rattle.reformulation_spec.specs.Reformulation.{left_over, most_multiple, row_of}
 
 -- the numbers of a table from a place on

@@ -3,7 +3,4 @@ pub mod Following
 pub mod Extension
 pub mod Showing
 pub mod Rules
-pub mod Projection
-pub mod Promises
 pub mod Complete
-pub mod Examples

@@ -6,7 +6,7 @@ use Rattle.map_spec.specs.Reading as reading
 use Rattle.texts.specs.Put.{Put}
 use Rattle.map_spec.specs.Reading.{Reading, read_map}
 use Rattle.map_text.specs.Answer.{Outcome, answered, outcome, number_of, values_of}
-use Rattle.map_text.specs.MapLaws.{accepted_written}
+use Rattle.map_text.proofs.MapLaws.{accepted_written}
 use Rattle.map_text.specs.declared.Read.{Read}
 use Rattle.map_text.specs.declared.Read.TheVariants.{Map, Refused}
 use Rattle.map_text.specs.declared.TextRefusal.{TextRefusal}

@@ -5,7 +5,7 @@ use Rattle.std.proofs.Common.{ap, add-one, length-take, length-drop, drop_of_len
 use native.Mathlib.Omega.{arith}
 use Rattle.std.proofs.lemmas.List.{length-map}
 use Rattle.std.proofs.Math.Seq.{append_snoc}
-use Rattle.laws.specs.TableLaws.{row_fits}
+use Rattle.laws.proofs.TableLaws.{row_fits}
 use Rattle.texts.specs.Decimals.{decimal, separator}
 use Rattle.map_spec.specs.Form.{line, lines}
 

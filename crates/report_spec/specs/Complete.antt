@@ -1,25 +1,16 @@
 -- THE PROMISE OF THE PROGRAM: where "end complete" is printed, the rows printed are exactly the basis of the map read; where "end paused" or "end refused 11"
 -- is, they are of it. It is about the definition of what is printed (`printed`), with which the contract of `report` equates what the code writes. Which texts
 -- are read as a map and which refusal another gets: map_text/specs/RuleLaws.antt (`text_renders`). Assumes nothing.
-use Rattle.std.specs.Prelude.{ℕ, ◌≤◌, List, [], ◌∷◌, ◌++◌, map, ◌≡◌, ℤ, pos}
-use Rattle.std.proofs.Math.Path.{refl}
-use Rattle.std.proofs.Common.{arith}
-use Rattle.definitions.specs.Answers.{Answer, started, complete, paused, refused}
-use Rattle.definitions.specs.Calls.{start}
+use Rattle.std.specs.Prelude.{ℕ, List, ◌++◌, map, ◌≡◌, ℤ, pos}
+use Rattle.definitions.specs.Answers.{complete, refused}
 use Rattle.definitions.specs.Input.{Input, input_of, map_of}
 use Rattle.definitions.specs.System.{MinimalSolution}
-use Rattle.theorems.specs.Demands.{Lists}
-use Rattle.theorems.specs.Proved.{second_demand}
 use Rattle.theorems.specs.Listed.{Exactly, Only}
-use Rattle.theorems.specs.Run.{continued, started_units}
-use Rattle.texts.specs.Decimals.{bytes, decimal}
+use Rattle.texts.specs.Decimals.{bytes}
 use Rattle.map_spec.specs.Form.{lines, written, MapInRange}
 use Rattle.map_spec.specs.Reading as reading
-use Rattle.map_spec.specs.Reading.{Reading, read_map}
-use Rattle.map_text.specs.MapLaws.{accepted_written}
-use Rattle.report_spec.specs.Printed.{refusal_text, value_word, counted, counts, ending, run_text, blank, run, reading_text, printed}
-use Rattle.report_spec.specs.RunLaws.{run_starts, run_ends}
-use Rattle.report_spec.specs.Endings.{EndsWith, ends_after, ends_once, EndsInDigit, digit_after, counted_ends, ds, ds_append, counted_ds, refusal_ds}
+use Rattle.map_spec.specs.Reading.{read_map}
+use Rattle.report_spec.specs.Printed.{counted, counts, ending, run, printed}
 
 abbrev pub end_complete : List ℕ
 end_complete = bytes "end complete\n"
@@ -52,103 +43,15 @@ pub record PrintedBasis (t : List ℕ) : Type 0 where
   pub basis : let i = input_of ran.p ran.q ran.coefs in let s = (run i).state in
       Exactly ran.q (MinimalSolution (map_of i)) s.list s.run.found
 
--- ---- another ending
-
-complete_ends : (before : List ℕ) → EndsWith 101 (before ++ end_complete)
-complete_ends before = ends_after before (record { others = bytes "end complet"; text = refl })
-
-no_digit : {P : Type 0} {t : List ℕ} → EndsInDigit t → EndsWith 101 t → P
-no_digit d e = absurd (omega (arith, d.most, ends_once d.ends e))
-
-refusal_ends : (n : ℕ) (values : List ℕ) → EndsInDigit (refusal_text n values)
-unfolding refusal_text
-refusal_ends n [] = counted_ends (bytes "refused ") n
-refusal_ends n (value ∷ others) = digit_after (bytes "refused ") (digit_after (decimal n) (counted_ends (value_word n) value))
-
 -- ---- a map
 
 module _ (t : List ℕ) (p q : ℕ) (coefs : List ℤ) (e : read_map t ≡ reading.accepted p q coefs) where
-  abbrev input : Input
+  abbrev pub input : Input
   input = input_of p q coefs
 
   -- what stands before the ending
-  abbrev front : List ℕ
+  abbrev pub front : List ℕ
   front = counts p q (run input).state.run.steps (run input).state.run.found
 
-  abbrev listed : List ℕ
+  abbrev pub listed : List ℕ
   listed = lines (run input).state.run.found q (map pos (run input).state.list)
-
-  shown_as : {a : Answer} → (run input).answer ≡ a → printed t ≡ front ++ (listed ++ ending a)
-  unfolding printed reading_text run_text
-  shown_as f = rw (e, f)
-
-  lists : Lists input (start input blank).state
-  lists = second_demand.lists input (start input blank).state (started_units blank (run_starts (accepted_written t e).1))
-
-  printed_run : PrintedRun t
-  unfolding run
-  printed_run =
-      let (x, y) = accepted_written t e in
-      record {
-        p = p;
-        q = q;
-        coefs = coefs;
-        accepted = e;
-        text = x;
-        range = y;
-        shown = shown_as refl;
-        only = (second_demand.lists input _ (continued (started_units blank (run_starts y)) 1000000)).cut_short;
-      }
-
-  by_answer : EndsWith 101 (printed t) → (a : Answer) → (run input).answer ≡ a → PrintedBasis t
-  unfolding run ending printed_run
-  by_answer ends started f = absurd (run_ends (accepted_written t e).1 f)
-  by_answer ends complete f = record { ran = printed_run; answer = f; basis = lists.finished 1000000 f }
-  by_answer ends paused f =
-      let d = ends_after front (ends_after listed (record { others = bytes "end pause"; text = refl })) in
-      absurd (omega (arith, ends_once {a = 100} {b = 101} d (rw (shown_as f) at ends)))
-  by_answer ends (refused n values) f =
-      no_digit (digit_after front (digit_after listed (counted_ends (bytes "end refused ") n))) (rw (shown_as f) at ends)
-
--- ---- the promise
-
--- Of every text that is read as a map, what is printed is the run's; of every other text it is the refusal, "one line only".
-pub printed_accepted : (t : List ℕ) {p q : ℕ} {coefs : List ℤ} → read_map t ≡ reading.accepted p q coefs → PrintedRun t
-printed_accepted t {p} {q} {coefs} e = printed_run t p q coefs e
-
-pub printed_refusal : (t : List ℕ) {n : ℕ} {values : List ℕ} → read_map t ≡ reading.refused n values → printed t ≡ refusal_text n values
-unfolding printed reading_text
-printed_refusal t e = rw e
-
--- A printed "end complete" means that the rows printed are exactly the basis of the map read.
-pub printed_complete : (t before : List ℕ) → printed t ≡ before ++ end_complete → PrintedBasis t
-unfolding printed reading_text
-printed_complete t before e = by (read_map t) refl
-  where
-    ends : EndsWith 101 (printed t)
-    ends = rw e (complete_ends before)
-
-    by : (x : Reading) → read_map t ≡ x → PrintedBasis t
-    by (reading.accepted p q coefs) f = by_answer t p q coefs f ends (run (input_of p q coefs)).answer refl
-    by (reading.refused n values) f = no_digit (refusal_ends n values) (rw f at ends)
-
--- What is printed before "end paused" and before "end refused 11" (12 or 14) holds only minimal solutions of the map read.
-cut_short : (t : List ℕ) → 2 ≤ ds (printed t) → PrintedRun t
-unfolding printed reading_text
-cut_short t two = by (read_map t) refl
-  where
-    by : (x : Reading) → read_map t ≡ x → PrintedRun t
-    by (reading.accepted p q coefs) f = printed_run t p q coefs f
-    by (reading.refused n values) f = absurd (omega (arith, refusal_ds n values, rw f at two))
-
-pub printed_paused : (t before : List ℕ) → printed t ≡ before ++ end_paused → PrintedRun t
-printed_paused t before e = cut_short t (rw e (omega (arith, ds_append before end_paused, two)))
-  where
-    two : ds end_paused ≡ 2
-    two = unfold ds in refl
-
-pub printed_refused : (t before : List ℕ) (n : ℕ) → printed t ≡ before ++ end_refused n → PrintedRun t
-printed_refused t before n e = cut_short t (rw e (omega (arith, ds_append before (end_refused n), counted_ds (bytes "end refused ") n, two)))
-  where
-    two : ds (bytes "end refused ") ≡ 2
-    two = unfold ds in refl

@@ -8,11 +8,12 @@ use Rattle.definitions.specs.Input.{Input, input_of}
 use Rattle.definitions.specs.Machine as machine
 use Rattle.definitions.specs.Refusals.{check7, start_checks}
 use Rattle.definitions.specs.Tables.{State, units_start}
-use Rattle.laws.specs.AnswerLaws.{then_assoc}
+use Rattle.laws.proofs.AnswerLaws.{then_assoc}
 use Rattle.checks.specs.Counts.{size_checks}
 use Rattle.seat_spec.specs.Training.{check23, seat_input, seat_resume, seat_resume_from, seat_start, seat_start_from}
-use Rattle.seat_spec.specs.TrainingRules.{renumber, renumbered, seat_resumes, seat_resumes_from, seat_starts, seat_starts_from, seat_first}
-use Rattle.calls.specs.CallLaws.{call_passed, call_refused}
+use Rattle.seat_spec.specs.TrainingRules.{renumber, renumbered, seat_first}
+use Rattle.seat_spec.proofs.TrainingRules.{seat_resumes, seat_resumes_from, seat_starts, seat_starts_from}
+use Rattle.calls.proofs.CallLaws.{call_passed, call_refused}
 use Rattle.calls.specs.Paper.{answer_of, check_of, number_of, values_of}
 use Rattle.calls.specs.declared.Answer.{Answer}
 use Rattle.calls.specs.declared.Answer.TheVariants.{Refused}

@@ -3,4 +3,3 @@ pub mod TrainingRules
 pub mod Office
 pub mod SeatRuns
 pub mod Promises
-pub mod Examples

@@ -3,11 +3,11 @@ use Rattle.std.specs.Prelude.{◌≡◌, refl, Bool, true, false, List, [], ◌�
 use Rattle.std.proofs.Common.{sym, ◌∙◌, arith}
 use Rattle.definitions.specs.System.{System}
 use Rattle.texts.specs.Decimals.{decimal, newline}
-use Rattle.texts.specs.DecimalLaws.{digits_most}
+use Rattle.texts.proofs.DecimalLaws.{digits_most}
 use Rattle.texts.specs.Put.{Put}
 use Rattle.single_spec.specs.Graph.{gate, size}
 use Rattle.single_spec.specs.Listing.{loop_line, order_to, order_word, rising_to}
-use Rattle.single_spec.specs.ListingLaws.{line_from}
+use Rattle.single_spec.proofs.ListingLaws.{line_from}
 use Rattle.single_spec.specs.Profile.{is_circuit_of}
 use Rattle.single_order.specs.Following.{empty_no_loop}
 use Rattle.single_order.specs.Rows.{OrderOf}

@@ -7,19 +7,19 @@ use Rattle.std.proofs.Math.Nat.{le_antisymm}
 use Rattle.std.proofs.Math.Dec.{T}
 use Rattle.std.proofs.Math.ListN.{length-append}
 use borrow.Author.Tests.{le-ltb, lt-ltb, ltb-false}
-use Rattle.linear.specs.Cases.{split}
+use Rattle.linear.proofs.Cases.{split}
 use Rattle.definitions.specs.Answers.{Check, ◌then◌, go, refuse, refuse_first, refuse_if, refuse_with}
 use Rattle.definitions.specs.Refusals.{check7}
 use Rattle.definitions.specs.Input.{Input, map_of}
 use Rattle.definitions.specs.System.{System, most_unknowns}
 use Rattle.definitions.specs.Tables.{at}
-use Rattle.laws.specs.AnswerLaws.{refuse_at, refuse_if_go, refuse_next, then_assoc, then_go}
-use Rattle.laws.specs.CheckLaws.{decides_first}
+use Rattle.laws.proofs.AnswerLaws.{refuse_at, refuse_if_go, refuse_next, then_assoc, then_go}
+use Rattle.laws.proofs.CheckLaws.{decides_first}
 use Rattle.checks.specs.Counts.{counted, count_checks}
 use Rattle.texts.specs.Put.{Put}
 use Rattle.single_spec.specs.Graph.{gate}
 use Rattle.single_spec.specs.Listing.{lines_to, listed_by, listing, listing_call, listing_checks, loop_line, refused, row_checks, written}
-use Rattle.single_spec.specs.ListingLaws.{lines_next}
+use Rattle.single_spec.proofs.ListingLaws.{lines_next}
 use Rattle.single_spec.specs.Profile.{check26, check30, is_circuit_of}
 
 -- ---- the checks, as the code makes them

@@ -3,7 +3,7 @@ use Rattle.std.specs.Prelude.{◌≡◌, refl, Bool, true, false, ◌||◌, ℕ,
 use Rattle.std.proofs.Math.Nat.{le_antisymm}
 use Rattle.std.proofs.Common.{add-one, arith}
 use borrow.Author.Tests.{eq-eqb, eqb-true, ne_eqb}
-use Rattle.linear.specs.LoopLaws.{all_fails, all_next}
+use Rattle.linear.proofs.LoopLaws.{all_fails, all_next}
 use Rattle.linear.specs.Tests.{all_to, count_to}
 use Rattle.definitions.specs.System.{is_zero}
 use Rattle.single_spec.specs.Profile.{in_profile, is_minus_one, is_one}

@@ -7,13 +7,13 @@ use Rattle.std.proofs.Math.Decide.{ℕ_discrete}
 use native.Mathlib.Omega.{arith}
 use Rattle.std.proofs.Math.ListN.{length-set}
 use borrow.Author.Tests.{eq-eqb, le-ltb, lt-ltb, ne_eqb}
-use Rattle.linear.specs.LoopLaws.{all_fails, all_next}
-use Rattle.linear.specs.TestLaws.{count_le}
+use Rattle.linear.proofs.LoopLaws.{all_fails, all_next}
+use Rattle.linear.proofs.TestLaws.{count_le}
 use Rattle.linear.specs.Tests.{all_to}
 use Rattle.definitions.specs.System.{System}
 use Rattle.single_spec.specs.First.{iterate}
 use Rattle.single_spec.specs.Graph.{gate, goes_on, is_circuit, lowest, named, next, size}
-use Rattle.single_spec.specs.GraphLaws.{lowest_inside}
+use Rattle.single_spec.proofs.GraphLaws.{lowest_inside}
 use Rattle.single_spec.specs.Profile.{is_circuit_of, circuit_order, graph}
 use Rattle.single_order.specs.Rows.{OrderOf, ones_of}
 

@@ -7,12 +7,12 @@ use Rattle.std.proofs.Math.Nat.{le_antisymm}
 use native.Mathlib.Omega.{arith}
 use Rattle.std.proofs.Math.Dec.{leb}
 use borrow.Author.Tests.{eq-eqb, le-leb, le-ltb, lt-leb, lt-ltb, ne_eqb}
-use Rattle.linear.specs.LoopLaws.{all_fails, all_next}
+use Rattle.linear.proofs.LoopLaws.{all_fails, all_next}
 use Rattle.linear.specs.Tests.{all_to, count_to}
 use Rattle.definitions.specs.Input.{input_of, system_of}
 use Rattle.definitions.specs.System.{System}
 use Rattle.single_spec.specs.First.{find_to}
-use Rattle.single_spec.specs.FirstLaws.{first_here, first_next}
+use Rattle.single_spec.proofs.FirstLaws.{first_here, first_next}
 use Rattle.single_spec.specs.Graph.{gate, named, size, leaving}
 use Rattle.single_spec.specs.Profile.{is_circuit_of, circuit_order, graph, tail_of}
 

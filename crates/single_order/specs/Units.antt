@@ -3,8 +3,8 @@ use Rattle.std.specs.Prelude.{◌≡◌, ℕ, ◌+◌, ◌*◌, ◌≤◌, ◌<�
 use Rattle.std.proofs.Common.{sym, ◌∙◌, ap, arith, eqb→eq, to_z-of_z, SFits, of_z, to_z}
 use Rattle.std.specs.Int.{w32}
 use Rattle.definitions.specs.System.{is_zero}
-use Rattle.laws.specs.TableLaws.{row_before}
-use Rattle.linear.specs.TestLaws.{T-same}
+use Rattle.laws.proofs.TableLaws.{row_before}
+use Rattle.linear.proofs.TestLaws.{T-same}
 use Rattle.single_spec.specs.Profile.{is_minus_one, is_one}
 
 pub one_bits : (z : ℤ) → SFits w32 z → eqb (of_z w32 z) 1 ≡ is_one z

@@ -1,16 +1,11 @@
 -- What the first place is, and how a loop finds it. Assumes nothing.
-use Rattle.std.specs.Prelude.{◌≡◌, Bool, true, false, ℕ, zero, suc, ◌+◌, ◌≤◌, ◌<◌, T, eqb}
+use Rattle.std.specs.Prelude.{◌≡◌, Bool, true, false, ℕ, zero, suc, ◌+◌, ◌≤◌, ◌<◌, T}
 use Rattle.std.proofs.Math.Path.{refl}
-use Rattle.std.proofs.Common.{inl, inr, add-one, arith}
-use Rattle.std.proofs.Math.Dec.{eqb_refl}
+use Rattle.std.proofs.Common.{inl, inr, arith}
 use borrow.Author.Tests.{eq-eqb, ne_eqb}
-use Rattle.linear.specs.Cases.{below_suc, order, split}
+use Rattle.linear.specs.Cases.{below_suc}
+use Rattle.linear.proofs.Cases.{split}
 use Rattle.single_spec.specs.First.{find_to, one_more}
-
--- ---- equality as a test
-
-pub eqb_from : (a b : ℕ) → a ≡ b → T (eqb a b)
-eqb_from a b e = rw e (eqb_refl b)
 
 -- ---- the first place
 
@@ -50,25 +45,3 @@ first_of (suc n) f =
 -- where the test holds somewhere the first place is found, and is no later
 pub first_found : (n : ℕ) (f : ℕ → Bool) (j : ℕ) → j < n → T (f j) → find_to n f ≤ j
 first_found n f j l h = elim (split j (find_to n f)) [ inl k ↦ absurd ((first_of n f).before j k h) | inr k ↦ k ]
-
-pub first_is : (n : ℕ) (f : ℕ → Bool) (r : ℕ) → FirstOf n f r → find_to n f ≡ r
-first_is n f r h =
-    let g = first_of n f in
-    elim (order (find_to n f) r) [
-      | inl l ↦ absurd (h.before (find_to n f) l (g.holds (omega (arith, h.most))))
-      | inr (inl e) ↦ e
-      | inr (inr l) ↦ absurd (g.before r l (h.holds (omega (arith, g.most))))
-    ]
-
--- ---- as a loop meets it
-
-module _ (f : ℕ → Bool) where
-  -- one more place passed, at which the test fails
-  pub first_next : (n : ℕ) → find_to n f ≡ n → f n ≡ false → find_to (n + 1) f ≡ n + 1
-  unfolding find_to
-  first_next n e h = rw (add-one, e, eq-eqb n n refl, h) (omega arith)
-
-  -- the first place at which it holds
-  pub first_here : (n i : ℕ) → i < n → find_to i f ≡ i → f i ≡ true → find_to n f ≡ i
-  first_here n i l e h =
-      first_is n f i (record { most = omega arith; before = λ k u. (first_of i f).before k (omega arith); holds = λ u. rw h tt })

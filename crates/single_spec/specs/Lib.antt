@@ -5,12 +5,7 @@ pub mod GraphLaws
 pub mod Profile
 pub mod Calls
 pub mod Listing
-pub mod ListingLaws
-pub mod Examples
 pub mod Returns
-pub mod Visits
 pub mod Circuits
-pub mod ProfileLaws
 pub mod Promises
-pub mod Runs
 pub mod Lines

@@ -2,11 +2,11 @@
 use Rattle.std.specs.Prelude.{◌≡◌, List, ℕ, suc, ◌+◌, ◌*◌, ◌-◌, ◌/◌, ◌%◌, ◌≤◌, ◌<◌, length, get_or, set}
 use Rattle.std.proofs.Common.{sym, ◌∙◌, inl, inr, div-add-mod', div-lt_iff_lt-mul, mod-lt, zero-add, arith, length-set, ext_get_or, get_or-set_same, get_or-set_other}
 use Rattle.std.proofs.Math.Decide.{ℕ_discrete}
-use Rattle.linear.specs.Cases.{split}
+use Rattle.linear.proofs.Cases.{split}
 use Rattle.linear.specs.Tuples.{unit}
 use Rattle.linear.specs.TupleLaws.{unit_same, unit_other}
 use Rattle.definitions.specs.Tables.{at, units_to, write_to}
-use Rattle.laws.specs.TableLaws.{row_fits, units_length, units_outside, units_row, write_inside, write_length, write_outside}
+use Rattle.laws.proofs.TableLaws.{row_fits, units_length, units_outside, units_row, write_inside, write_length, write_outside}
 
 -- the tuple of row k is zero
 pub record ZeroRow (q : ℕ) (table : List ℕ) (k : ℕ) : Type 0 where

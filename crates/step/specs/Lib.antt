@@ -1,9 +1,3 @@
-pub mod Solved
-pub mod StateLaws
 pub mod Enlisting
 pub mod Taken
-pub mod TakeLaws
-pub mod RowLaws
-pub mod GrowLaws
-pub mod Totals
 pub mod Pushed

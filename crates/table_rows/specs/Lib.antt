@@ -1,6 +1,4 @@
 pub mod Small
 pub mod Keeping
-pub mod Limits
 pub mod Rows
 pub mod Places
-pub mod Search

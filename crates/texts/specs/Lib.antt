@@ -1,11 +1,4 @@
 pub mod Decimals
 pub mod Reading
-pub mod Facts
-pub mod ParseLaws
-pub mod DecimalLaws
 pub mod Places
-pub mod NumberLaws
-pub mod SignLaws
-pub mod ReadLaws
-pub mod WriteLaws
 pub mod Put

@@ -2,10 +2,11 @@
 use Rattle.std.specs.Prelude.{◌≡◌, refl, Bool, ℕ, ◌+◌, ◌-◌, ◌≤◌, ◌<◌, T}
 use Rattle.std.proofs.Common.{◌∙◌, inl, inr, arith}
 use Rattle.std.proofs.Math.Bool.{true, false}
-use Rattle.linear.specs.Cases.{split}
-use Rattle.linear.specs.TestLaws.{count_at}
+use Rattle.linear.proofs.Cases.{split}
+use Rattle.linear.proofs.TestLaws.{count_at}
 use Rattle.linear.specs.Tests.{count_to}
-use Rattle.linear.specs.TupleLaws.{total_sum, total_unit}
+use Rattle.linear.specs.TupleLaws.{total_sum}
+use Rattle.linear.proofs.TupleLaws.{total_unit}
 use Rattle.linear.specs.Tuples.{raise, total, unit}
 use Rattle.definitions.specs.Answers.{go}
 use Rattle.definitions.specs.Bound.{depth}
@@ -15,10 +16,12 @@ use Rattle.definitions.specs.Refusals.{start_checks}
 use Rattle.definitions.specs.Step.{children_to, deeper, grown, level, listed as after_listing, makes, marks_to, pick, step, top, top_marks}
 use Rattle.definitions.specs.System.{System, coef, solves}
 use Rattle.definitions.specs.Tables.{State, at, units_start}
-use Rattle.laws.specs.RefusalLaws.{Going, Room, search_going, start_shaped}
-use Rattle.laws.specs.StepLaws.{children_keep, children_row, makes_against}
-use Rattle.laws.specs.TableLaws.{RowIs, units_row}
-use Rattle.laws.specs.ValidLaws.{children_few, enlists}
+use Rattle.laws.specs.RefusalLaws.{Going, Room}
+use Rattle.laws.proofs.RefusalLaws.{search_going, start_shaped}
+use Rattle.laws.proofs.StepLaws.{children_keep, children_row, makes_against}
+use Rattle.laws.specs.TableLaws.{RowIs}
+use Rattle.laws.proofs.TableLaws.{units_row}
+use Rattle.laws.proofs.ValidLaws.{children_few, enlists}
 use Rattle.theorems.specs.CallAnswers.{started_goes}
 use Rattle.theorems.specs.Depth.{Chain, first, next}
 use Rattle.theorems.specs.Equation.{ByUnits, chain_same, sum_bound, towards_one}
@@ -145,11 +148,5 @@ module _ (i : Input) (one : (system_of i).p ≡ 1) where
 
 -- (document 02, Job 6) "the number shown is never above D", nor is the sum of a tuple in the stack table
 module _ (i : Input) (one : i.p ≡ 1) {s : State} (r : Run i (aim_of i.extra) s) where
-  low : Low (system_of i) (aim_of i.extra) s
+  pub low : Low (system_of i) (aim_of i.extra) s
   low = run_low i (as_many i ∙ one) (by_units i.extra) r
-
-  pub run_deep : s.run.deepest ≤ depth (system_of i)
-  run_deep = low.deep
-
-  pub run_sums : (l : ℕ) → l < s.run.height → total (at s.stack ((system_of i).q + 1) l) (system_of i).q ≤ depth (system_of i)
-  run_sums = sum_at_most (system_of i) (aim_of i.extra) (by_units i.extra) (as_many i ∙ one) s low

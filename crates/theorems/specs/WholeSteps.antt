@@ -9,8 +9,8 @@ use Rattle.std.proofs.Math.Nat.{zero-add, suc-add}
 use Rattle.std.proofs.Math.Decide.{ℕ_discrete}
 use Rattle.definitions.specs.Answers.{Answer, complete, go, paused, refuse, refused}
 use Rattle.definitions.specs.Machine.{Machine, Outcome, after, call, call_steps, walk, walk_steps}
-use Rattle.laws.specs.CheckLaws.{check_cases}
-use Rattle.laws.specs.MachineLaws.{call_refused, call_walks, walk_done, walk_more, walk_paused, walk_refused}
+use Rattle.laws.proofs.CheckLaws.{check_cases}
+use Rattle.laws.proofs.MachineLaws.{call_refused, call_walks, walk_done, walk_more, walk_paused, walk_refused}
 
 -- what is done ahead of a step is done once
 abbrev pub Steady : {S : Type 0} → Machine S → Type 0
@@ -74,15 +74,6 @@ module _ {S : Type 0} (k : Machine S) where
   pub called : (n : ℕ) (s : S) → k.before s ≡ go → Walked n k s (call n k s) (call_steps n k s)
   called n s e = let d = call_walks k s n e in rw (d.0, d.1) (walked n s)
 
-  -- and any, where nothing is done ahead of a step
-  pub call_after : ((s : S) → k.settle s ≡ s) → (n : ℕ) (s : S) → (call n k s).state ≡ after (call_steps n k s) k s
-  unfolding after
-  call_after still n s =
-      elim (check_cases (k.before s)) [
-        | inl e ↦ (called n s e).state
-        | inr (r, values, e) ↦ let d = call_refused k s n r values e in rw (d.0, d.1) (sym (still s))
-      ]
-
   -- each step that a walk takes is from a height above 0, and the search does not refuse it
   pub walk_going : (n : ℕ) (s : S) (i : ℕ) → i < walk_steps n k s → Goes k (after i k s)
   unfolding walk_steps after
@@ -107,9 +98,6 @@ module _ {S : Type 0} (k : Machine S) where
     unfolding after
     after_keeps zero s p g = settles s p
     after_keeps (suc n) s p g = after_keeps n (k.step (k.settle s)) (keep (k.settle s) (settles s p) (g 0 (omega arith))) (λ i l. g (suc i) (omega arith))
-
-    pub walk_keeps : (n : ℕ) (s : S) → P s → P (walk n k s).state
-    walk_keeps n s p = rw (walked n s).state (after_keeps (walk_steps n k s) s p (walk_going n s))
 
     pub call_keeps : (n : ℕ) (s : S) → P s → P (call n k s).state
     call_keeps n s p =

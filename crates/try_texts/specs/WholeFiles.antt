@@ -5,7 +5,7 @@ use Rattle.definitions.specs.Answers.{Check, refuse, go, ◌then◌, refuse_if, 
 use Rattle.list_spec.specs.Words.{encoded, word_at, total}
 use Rattle.list_spec.specs.Form.{block_word, file_word}
 use Rattle.list_spec.specs.Reading.{coef_words, row_words, block_checks, header_in_range, block_in_range, stream_checks, file_checks, read_checks}
-use Rattle.list_spec.specs.Facts.{small, small_file}
+use Rattle.list_spec.proofs.Facts.{small, small_file}
 
 -- the file with word k changed, and the last word of a block with it
 changed : ℕ → ℕ → ℕ → ℕ → List ℕ

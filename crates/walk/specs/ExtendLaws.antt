@@ -5,13 +5,14 @@ use Rattle.std.proofs.Math.Decide.{ℕ_discrete}
 use Rattle.std.proofs.Math.IntN.{+ℤ_idl}
 use Rattle.std.specs.Int.{w32}
 use Rattle.std.proofs.Math.ListN.{get_or-eq_default}
-use Rattle.linear.specs.Cases.{split}
-use Rattle.linear.specs.Integers.{nat_abs_negℤ, sfits_nat_abs}
+use Rattle.linear.proofs.Cases.{split}
+use Rattle.linear.proofs.Integers.{nat_abs_negℤ, sfits_nat_abs}
 use Rattle.definitions.specs.Input.{input_with, limit_of, rights as delivered, system_of}
 use Rattle.definitions.specs.System.{System, capped, coef_limit, extend_to, most_equations, most_unknowns, plain}
-use Rattle.laws.specs.Extended.{extend_length, extends}
-use Rattle.laws.specs.RefusalLaws.{Handed, at_most, equal}
-use Rattle.laws.specs.TableLaws.{row_fits}
+use Rattle.laws.proofs.Extended.{extend_length, extends}
+use Rattle.laws.specs.RefusalLaws.{Handed}
+use Rattle.laws.proofs.RefusalLaws.{at_most, equal}
+use Rattle.laws.proofs.TableLaws.{row_fits}
 use Rattle.calls.specs.Paper.{system_with}
 
 -- what `write` starts from: coefficients and right sides in number and range, in a table of 128

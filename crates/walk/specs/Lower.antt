@@ -9,9 +9,10 @@ use Rattle.definitions.specs.Machine as machine
 use Rattle.definitions.specs.Machine.{walk, walk_steps}
 use Rattle.definitions.specs.Tables as tables
 use Rattle.definitions.specs.Tables.{State, capped_run, desk_by_desk, lower_above, lower_plain, lowered, plain_part, plain_run, run_number, whole_of, write_row}
-use Rattle.laws.specs.LowerLaws.{InOrderBy, ValidFrom, lowered_valid}
-use Rattle.laws.specs.LowerWalk.{above_walks, from_plain, plain_walk_valid, then_above, walk_counts, walk_steps_few}
-use Rattle.laws.specs.RefusalLaws.{run_from}
+use Rattle.laws.specs.LowerLaws.{InOrderBy, ValidFrom}
+use Rattle.laws.proofs.LowerLaws.{lowered_valid}
+use Rattle.laws.proofs.LowerWalk.{above_walks, from_plain, plain_walk_valid, then_above, walk_counts, walk_steps_few}
+use Rattle.laws.proofs.RefusalLaws.{run_from}
 use Rattle.calls.specs.Paper.{answer_of, outcome_with, record_of, state_with}
 use Rattle.calls.specs.declared.Answer.{Answer}
 use Rattle.calls.specs.declared.Answer.TheVariants.{Started, Complete, Paused, Refused}

@@ -2,7 +2,7 @@
 use Rattle.std.specs.Prelude.{◌≡◌, refl, ◌≢◌, Bool, true, false, List, [], ◌∷◌, ℕ, zero, suc, ◌+◌, ◌-◌, ◌≤◌, ◌<◌, ℤ, pos, length, get_or, replicate}
 use Rattle.std.proofs.Common.{sym, ◌∙◌, ap, inl, inr, arith, mul-le-mul_right, le-mul_of_pos_right, eq-eqb}
 use Rattle.std.proofs.Math.ListN.{get_or-eq_default}
-use Rattle.linear.specs.Cases.{split}
+use Rattle.linear.proofs.Cases.{split}
 use Rattle.definitions.specs.Answers.{Check, complete, paused, refused, refuse, go, refuse_with, ◌then◌}
 use Rattle.definitions.specs.Machine.{walk}
 use Rattle.definitions.specs.System.{Kind, System, above, capped, plain, solves}
@@ -10,9 +10,10 @@ use Rattle.definitions.specs.Tables.{RunKind, State, capacity}
 use Rattle.definitions.specs.Step.{deeper, grown, listed, pick, step, to_second, top, width}
 use Rattle.definitions.specs.Refusals.{step_limit, search_checks}
 use Rattle.definitions.specs.Calls.{machine_of}
-use Rattle.laws.specs.MachineLaws.{walk_done, walk_paused, walk_refused, walk_more}
-use Rattle.laws.specs.RefusalLaws.{Going, SecondFits, Valid, search_going}
-use Rattle.laws.specs.ValidLaws.{rows_fit, step_valid}
+use Rattle.laws.proofs.MachineLaws.{walk_done, walk_paused, walk_refused, walk_more}
+use Rattle.laws.specs.RefusalLaws.{Going, SecondFits, Valid}
+use Rattle.laws.proofs.RefusalLaws.{search_going}
+use Rattle.laws.proofs.ValidLaws.{rows_fit, step_valid}
 use Rattle.calls.specs.Paper.{system_with, number_of, values_of}
 use Rattle.calls.specs.declared.Refusal.{Refusal}
 use Rattle.step.specs.declared.Stepped.{Stepped}

@@ -1,5 +1,5 @@
 -- `c_dispatch::dispatch` meets its contract. Assumes nothing.
-use Rattle.c_dispatch.specs.WordLaws.{dispatched, fitting}
+use Rattle.c_dispatch.proofs.WordLaws.{dispatched, fitting}
 use Rattle.c_dispatch.proofs.dispatch.Goals as goal
 
 pub told-requires : goal.told-requires

@@ -1,5 +1,5 @@
 -- `c_equation::read_equation` meets its contract: each answer as its number. Assumes nothing.
-use Rattle.c_equation.specs.CodeLaws.{read_refusal_fits, read_refused_told, read_told_lem}
+use Rattle.c_equation.proofs.CodeLaws.{read_refusal_fits, read_refused_told, read_told_lem}
 use Rattle.c_equation.proofs.read_equation.Goals as goal
 
 pub refusal-requires : goal.refusal-requires

@@ -1,6 +1,6 @@
 -- `c_equation::write_equation` meets its contract: each answer as its number. Assumes nothing.
 use mir.Facts.{to_z-of_z}
-use Rattle.c_equation.specs.CodeLaws.{write_refusal_fits, write_short, write_refused_told, write_told_lem, side_told, space_told}
+use Rattle.c_equation.proofs.CodeLaws.{write_refusal_fits, write_short, write_refused_told, write_told_lem, side_told, space_told}
 use Rattle.c_equation.proofs.write_equation.Goals as goal
 
 pub written_code-requires : goal.written_code-requires

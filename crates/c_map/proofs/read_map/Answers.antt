@@ -1,5 +1,5 @@
 -- `read_map` meets its contract. Assumes nothing.
-use Rattle.c_map.specs.Words.{told_fits, told_map, told_refused}
+use Rattle.c_map.proofs.Words.{told_fits, told_map, told_refused}
 use Rattle.c_map.proofs.read_map.Goals as goal
 
 pub refusal-requires : goal.refusal-requires

@@ -3,7 +3,8 @@ use mathlib.Core.Path.{◌∙◌, ap}
 use mathlib.Core.List.{[]}
 use lib.ListN.{length}
 use Rattle.definitions.specs.System.{plain}
-use Rattle.table_rows.specs.Rows.{rows_fit, tuple}
+use Rattle.table_rows.specs.Rows.{tuple}
+use Rattle.table_rows.proofs.RowsTheorems.{rows_fit}
 use Rattle.candidates.specs.Kinds.{asked}
 use Rattle.candidates.specs.Open.{open_plain}
 use Rattle.candidates.specs.Tried.{tried_open}

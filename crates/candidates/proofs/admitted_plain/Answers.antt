@@ -8,7 +8,7 @@ use lib.Count.{count_trailing_zeros}
 use lib.Dec.{eqb}
 use lib.ListN.{length}
 use borrow.Author.Tests.{eq-eqb, ne_eqb}
-use Rattle.linear.specs.LoopLaws.{any_holds}
+use Rattle.linear.proofs.LoopLaws.{any_holds}
 use Rattle.definitions.specs.Tables.{at, frozen}
 use Rattle.definitions.specs.Step.{marks_to}
 use Rattle.table_rows.specs.Rows.{tuple}

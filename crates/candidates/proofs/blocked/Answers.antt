@@ -6,7 +6,7 @@ use native.Mathlib.Omega.{arith}
 use lib.ListN.{length, get_or, set, take, drop, length-set, length-take, length-drop}
 use lib.Seq.{get_or-take, get_or-drop, get_or-set_same}
 use Rattle.linear.specs.Tuples.{raise}
-use Rattle.laws.specs.SystemLaws.{covered_same}
+use Rattle.laws.proofs.SystemLaws.{covered_same}
 use Rattle.table_rows.specs.Rows.{tuple}
 use Rattle.candidates.specs.RowLaws.{raise_lower, set_raise}
 use Rattle.candidates.proofs.blocked.Goals as goal

@@ -7,7 +7,7 @@ use native.Mathlib.Omega.{arith}
 use lib.Count.{count_trailing_zeros}
 use lib.Dec.{eqb}
 use borrow.Author.Tests.{eq-eqb, ne_eqb}
-use Rattle.linear.specs.LoopLaws.{any_holds}
+use Rattle.linear.proofs.LoopLaws.{any_holds}
 use Rattle.linear.specs.Tests.{any_to}
 use Rattle.definitions.specs.Tables.{frozen}
 use Rattle.table_rows.specs.Rows.{tuple}

@@ -1,9 +1,9 @@
 -- `resume` meets its contract: the check decides, and the walk does the rest. Assumes nothing.
 use Rattle.definitions.specs.Machine.{call}
-use Rattle.calls.specs.CallLaws.{call_passed, call_refused, passes}
+use Rattle.calls.proofs.CallLaws.{call_passed, call_refused, passes}
 use Rattle.calls.specs.Paper.{state_of}
 use Rattle.desk_spec.specs.Desks.{desk_of}
-use Rattle.desk_spec.specs.Valid.{resume_valid}
+use Rattle.desk_spec.proofs.Valid.{resume_valid}
 use Rattle.desk.proofs.resume.Goals as goal
 
 pub walk_desk-requires : goal.walk_desk-requires

@@ -3,10 +3,10 @@ use lib.ListN.{length}
 use mathlib.Core.Path.{refl}
 use native.Mathlib.Nat.{div-mul-le_self}
 use native.Mathlib.Omega.{arith}
-use Rattle.calls.specs.CallLaws.{call_passed, call_refused, passes}
+use Rattle.calls.proofs.CallLaws.{call_passed, call_refused, passes}
 use Rattle.calls.specs.Paper.{state_of}
 use Rattle.desk_spec.specs.Desks.{desk_begin, desk_of, desk_start}
-use Rattle.desk_spec.specs.Valid.{start_shaped}
+use Rattle.desk_spec.proofs.Valid.{start_shaped}
 use Rattle.desk.proofs.start.Goals as goal
 
 pub nonzero_div-n : goal.nonzero_div-n

@@ -5,7 +5,7 @@ use mathlib.Core.Path.{refl, ◌∙◌}
 use native.Mathlib.Nat.{le_antisymm}
 use native.Mathlib.Omega.{arith}
 use Rattle.desk.specs.Starting.{start_marks, start_next, start_none}
-use Rattle.laws.specs.TableLaws.{row_fits}
+use Rattle.laws.proofs.TableLaws.{row_fits}
 use Rattle.desk.proofs.write_start.Goals as goal
 use Rattle.desk.proofs.write_start.Goals.{In-loop-k}
 

@@ -3,7 +3,7 @@ use Prim.Native.Nat.{◌^◌, ◌-◌}
 use native.Mathlib.Omega.{arith}
 use borrow.Author.Tests.{eq-eqb, ne_eqb}
 use lib.Pow.{pow_pos}
-use Rattle.laws.specs.MarkLaws.{shift_one_wide}
+use Rattle.laws.proofs.MarkLaws.{shift_one_wide}
 use Rattle.engine_ends.proofs.answer_for.Goals as goal
 
 pub overflow_sub-past : goal.overflow_sub-past

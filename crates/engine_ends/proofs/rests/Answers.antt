@@ -1,7 +1,7 @@
 -- `rests` meets its contract: the equation under way is marked. Assumes nothing.
 use mathlib.Core.Path.{refl}
 use native.Mathlib.Omega.{arith}
-use Rattle.laws.specs.MarkLaws.{shift_one}
+use Rattle.laws.proofs.MarkLaws.{shift_one}
 use Rattle.engine_ends.specs.Closing.{done_fits}
 use Rattle.engine_ends.proofs.rests.Goals as goal
 

@@ -1,6 +1,6 @@
 -- `resume` meets its contract: the check decides, and the turns do the rest. Assumes nothing.
 use Rattle.engine_stage.specs.Standing.{sides_of}
-use Rattle.engine_resume.specs.Continuing.{resume_enters, resume_ran, resume_refused, resume_rested, resume_roomed, resume_stands}
+use Rattle.engine_resume.proofs.Continuing.{resume_enters, resume_ran, resume_refused, resume_rested, resume_roomed, resume_stands}
 use Rattle.engine_resume.proofs.resume.Goals as goal
 
 pub check_standing-requires : goal.check_standing-requires

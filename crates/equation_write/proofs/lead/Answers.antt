@@ -1,5 +1,5 @@
 -- `equation_write::lead` meets its contract. Assumes nothing.
-use Rattle.texts.specs.Put.{put_none}
+use Rattle.texts.proofs.PutTheorems.{put_none}
 use Rattle.equation_write.proofs.lead.Goals as goal
 
 pub returns-then-minus : goal.returns-then-minus

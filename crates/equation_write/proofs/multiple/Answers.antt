@@ -3,7 +3,7 @@ use mathlib.Core.Path.{ap, ◌∙◌}
 use native.Mathlib.Omega.{arith}
 use lib.ListN.{length, length-append}
 use Rattle.texts.specs.Decimals.{decimal}
-use Rattle.texts.specs.Put.{put_then}
+use Rattle.texts.proofs.PutTheorems.{put_then}
 use Rattle.equation_write.specs.TextLaws.{multiple_one, multiple_many}
 use Rattle.equation_write.proofs.multiple.Goals as goal
 

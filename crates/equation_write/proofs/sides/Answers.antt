@@ -1,7 +1,7 @@
 -- `equation_write::sides` meets its contract: the left side, " = " and the right side, one after the other. Assumes nothing.
 use native.Mathlib.Omega.{arith}
 use mir.Facts.{to_z-of_z}
-use Rattle.texts.specs.Put.{put_then}
+use Rattle.texts.proofs.PutTheorems.{put_then}
 use Rattle.equation_spec.specs.Writing.{written}
 use Rattle.equation_write.specs.CallLaws.{sides_short}
 use Rattle.equation_write.proofs.sides.Goals as goal

@@ -6,8 +6,8 @@ use lib.Signed.{lt_z}
 use mir.Syntax.{w32}
 use mir.Val.{of_z, to_z}
 use mir.Facts.{to_z-of_z}
-use Rattle.texts.specs.Put.{put_then}
-use Rattle.equation_spec.specs.WriteLaws.{multiple_short}
+use Rattle.texts.proofs.PutTheorems.{put_then}
+use Rattle.equation_spec.proofs.WriteLaws.{multiple_short}
 use Rattle.equation_write.specs.TextLaws.{lead_short, negative_is}
 use Rattle.equation_write.proofs.term.Goals as goal
 

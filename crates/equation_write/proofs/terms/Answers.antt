@@ -3,8 +3,8 @@ use lib.IntN.{pos}
 use mir.Facts.{to_z-of_z}
 use mir.Syntax.{w32}
 use mir.Val.{of_z}
-use Rattle.texts.specs.DecimalLaws.{decimal_digit}
-use Rattle.texts.specs.Put.{rest_begins, rest_next, rest_ends}
+use Rattle.texts.proofs.DecimalLaws.{decimal_digit}
+use Rattle.texts.proofs.PutTheorems.{rest_begins, rest_next, rest_ends}
 use Rattle.equation_write.specs.TextLaws.{rest_zero, rest_term, rest_end, word_fits, zero_word, some_size, term_short}
 use Prim.Native.Nat.{◌+◌}
 use mathlib.Core.Path.{◌≡◌, ap, ◌∙◌}

@@ -8,8 +8,8 @@ use mir.Syntax.{w32}
 use borrow.Author.Rules.{rules}
 use Rattle.definitions.specs.Answers.{refuse_first}
 use Rattle.definitions.specs.Refusals.{out_of_range}
-use Rattle.laws.specs.AnswerLaws.{refuse_next, refuse_at}
-use Rattle.map_text.specs.AnswerLaws.{out_of_range as one_out_of_range, in_range}
+use Rattle.laws.proofs.AnswerLaws.{refuse_next, refuse_at}
+use Rattle.map_text.proofs.AnswerLaws.{out_of_range as one_out_of_range, in_range}
 use Rattle.map_text.proofs.accept.Goals as goal
 use Rattle.map_text.proofs.accept.Goals.{After-out_of_range}
 

@@ -2,9 +2,9 @@
 use native.Mathlib.Omega.{arith}
 use mir.Facts.{to_z-of_z}
 use Rattle.definitions.specs.System.{most_equations, most_unknowns}
-use Rattle.map_text.specs.SignLaws.{Within, within, below_one, above_most}
-use Rattle.map_text.specs.StageLaws.{counts_within}
-use Rattle.map_text.specs.AnswerLaws.{equations_outside, unknowns_outside}
+use Rattle.map_text.proofs.SignLaws.{Within, within, below_one, above_most}
+use Rattle.map_text.proofs.StageLaws.{counts_within}
+use Rattle.map_text.proofs.AnswerLaws.{equations_outside, unknowns_outside}
 use Rattle.map_text.proofs.read_body.Goals as goal
 use Rattle.map_text.proofs.read_body.Goals.{Else-p-gt8, Else-q-gt16}
 

@@ -5,8 +5,8 @@ use native.Mathlib.Nat.{le_trans}
 use native.Mathlib.Omega.{arith}
 use lib.ListN.{length}
 use lib.Seq.{length-take-le}
-use Rattle.map_text.specs.LineLaws.{rows_inside}
-use Rattle.map_text.specs.AnswerLaws.{malformed_row}
+use Rattle.map_text.proofs.LineLaws.{rows_inside}
+use Rattle.map_text.proofs.AnswerLaws.{malformed_row}
 use Rattle.map_text.proofs.read_coefficients.Goals as goal
 use Rattle.map_text.proofs.read_coefficients.Goals.{In-Parsed}
 

@@ -4,8 +4,8 @@ use lib.ListN.{get_or}
 use mir.Facts.{to_z-of_z}
 use mir.Syntax.{w32}
 use borrow.Author.Rules.{rules}
-use Rattle.map_text.specs.StageLaws.{first_parsed}
-use Rattle.map_text.specs.AnswerLaws.{too_long, first_malformed}
+use Rattle.map_text.proofs.StageLaws.{first_parsed}
+use Rattle.map_text.proofs.AnswerLaws.{too_long, first_malformed}
 use Rattle.map_text.proofs.read_map.Goals as goal
 
 pub returns-then-text-gt4096 : goal.returns-then-text-gt4096

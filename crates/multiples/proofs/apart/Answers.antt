@@ -1,7 +1,7 @@
 -- `apart` meets its contract: nothing is left, or something is. Assumes nothing.
 use lib.ListN.{replicate}
 use borrow.Author.Rules.{rules}
-use Rattle.multiples.specs.AnswerLaws.{made_at, no_space_at, unlisted_at, written_long, written_same}
+use Rattle.multiples.proofs.AnswerLaws.{made_at, no_space_at, unlisted_at, written_long, written_same}
 use Rattle.multiples.proofs.apart.Goals as goal
 
 pub returns-then-times-found : goal.returns-then-times-found

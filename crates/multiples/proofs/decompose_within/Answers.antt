@@ -1,8 +1,8 @@
 -- `decompose_within` meets its contract: the refusals decide first, then the equations. Assumes nothing.
 use mathlib.Core.Path.{sym}
 use Rattle.definitions.specs.Refusals.{sizes}
-use Rattle.multiples.specs.Answers.{off_told}
-use Rattle.multiples.specs.AnswerLaws.{off_at, refused_at, solved_at, solves_fits}
+use Rattle.multiples.proofs.Answers.{off_told}
+use Rattle.multiples.proofs.AnswerLaws.{off_at, refused_at, solved_at, solves_fits}
 use Rattle.multiples.proofs.decompose_within.Goals as goal
 
 pub apart-requires : goal.apart-requires

@@ -1,6 +1,6 @@
 -- `number_within` meets its contract: what is answered, as one number; an amount that is told fits 64 bits. Assumes nothing.
-use Rattle.multiples.specs.AnswerLaws.{told_off}
-use Rattle.multiples.specs.Answers.{told}
+use Rattle.multiples.proofs.AnswerLaws.{told_off}
+use Rattle.multiples.proofs.Answers.{told}
 use Rattle.multiples.proofs.number_within.Goals as goal
 
 pub returns-in-Made : goal.returns-in-Made

@@ -3,9 +3,9 @@ use mathlib.Core.Path.{◌≡◌, sym, ap, ◌∙◌}
 use Rattle.definitions.specs.Input.{input_of}
 use Rattle.definitions.specs.Reasons.{reason_within}
 use Rattle.definitions.specs.Refusals.{sizes}
-use Rattle.reasons.specs.Amounts.{modest_same}
+use Rattle.reasons.proofs.Amounts.{modest_same}
 use Rattle.reasons.specs.Answers.{reason_of}
-use Rattle.multiples.specs.Answers.{off_told, solves}
+use Rattle.multiples.proofs.Answers.{off_told, solves}
 use Rattle.multiples.proofs.why_not.Goals as goal
 use Rattle.multiples.proofs.why_not.Goals.{After-explain_at_most}
 

@@ -10,7 +10,7 @@ use mir.Syntax.{w64}
 use mir.Val.{of_z}
 use Rattle.linear.specs.Gram.{gram}
 use Rattle.linear.specs.Systems.{inner}
-use Rattle.laws.specs.TableLaws.{row_fits}
+use Rattle.laws.proofs.TableLaws.{row_fits}
 use Rattle.products.specs.Products.{entry, given}
 use Rattle.products.specs.Turns.{SmallTerms, coef_fits, column_terms, next_fits, next_value, written_ahead, written_next, written_none}
 use Rattle.products.proofs.add_coefficient.Goals as goal

@@ -9,7 +9,7 @@ use lib.Signed.{lt_z}
 use Rattle.products.specs.Products.{entry}
 use borrow.Author.Rules.{rules}
 use Rattle.definitions.specs.Tables.{frozen}
-use Rattle.laws.specs.MarkLaws.{frozen_free}
+use Rattle.laws.proofs.MarkLaws.{frozen_free}
 use Rattle.products.specs.Marks.{marks_below, marks_frozen}
 use Rattle.products.proofs.candidate_marks.Goals as goal
 

@@ -5,7 +5,7 @@ use native.Mathlib.Nat.{le_antisymm}
 use native.Mathlib.Omega.{arith}
 use lib.ListN.{length}
 use borrow.Author.Rules.{rules}
-use Rattle.linear.specs.TupleLaws.{total_more}
+use Rattle.linear.proofs.TupleLaws.{total_more}
 use Rattle.linear.specs.Tuples.{total}
 use Rattle.definitions.specs.Tables.{at}
 use Rattle.products.specs.Totals.{total_room}

@@ -6,9 +6,9 @@ use borrow.Author.Rules.{rules, sfits_of}
 use borrow.Author.Count.{below_none, below_more}
 use mir.Syntax.{w64}
 use mir.Val.{of_z}
-use Rattle.linear.specs.TestLaws.{T-same, all_at, all_from}
+use Rattle.linear.proofs.TestLaws.{T-same, all_at, all_from}
 use Rattle.products.specs.Products.{entry}
-use Rattle.laws.specs.SystemLaws.{is_zero_lem}
+use Rattle.laws.proofs.SystemLaws.{is_zero_lem}
 use Rattle.products.specs.Turns.{zero_bits}
 use Rattle.products.proofs.vanish.Goals as goal
 

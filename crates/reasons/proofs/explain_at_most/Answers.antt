@@ -1,5 +1,5 @@
 -- `reasons::explain_at_most` meets its contract: what counts is no more than a call takes. Assumes nothing.
-use Rattle.reasons.specs.Amounts.{modest_min}
+use Rattle.reasons.proofs.Amounts.{modest_min}
 use Rattle.reasons.proofs.explain_at_most.Goals as goal
 
 pub explain_within-requires : goal.explain_within-requires

@@ -1,8 +1,8 @@
 -- `reasons::explain_within` meets its contract: the refusals decide first. Assumes nothing.
-use Rattle.laws.specs.ReasonLaws.{reason_askable}
-use Rattle.calls.specs.CallLaws.{passes}
-use Rattle.reasons.specs.Amounts.{asked_largely}
-use Rattle.reasons.specs.AnswerLaws.{passed_at, refused_at}
+use Rattle.laws.proofs.ReasonLaws.{reason_askable}
+use Rattle.calls.proofs.CallLaws.{passes}
+use Rattle.reasons.proofs.Amounts.{asked_largely}
+use Rattle.reasons.proofs.AnswerLaws.{passed_at, refused_at}
 use Rattle.reasons.proofs.explain_within.Goals as goal
 
 pub first_true-requires : goal.first_true-requires

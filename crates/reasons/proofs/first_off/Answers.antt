@@ -2,9 +2,9 @@
 use mathlib.Core.Path.{refl}
 use native.Mathlib.Nat.{le_antisymm}
 use Rattle.linear.specs.Places.{first_to}
-use Rattle.linear.specs.PlaceLaws.{first_next, first_here}
+use Rattle.linear.proofs.PlaceLaws.{first_next, first_here}
 use Rattle.definitions.specs.Reasons.{first_off}
-use Rattle.reasons.specs.Amounts.{equation_of, amount_kept, amount_off, amount_even}
+use Rattle.reasons.proofs.Amounts.{equation_of, amount_kept, amount_off, amount_even}
 use borrow.Author.Rules.{rules}
 use Rattle.reasons.proofs.first_off.Goals as goal
 

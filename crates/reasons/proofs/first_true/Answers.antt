@@ -1,7 +1,7 @@
 -- `reasons::first_true` meets its contract: each test decides the first reason that is true. Assumes nothing.
 use mathlib.Core.Path.{sym, ◌∙◌}
-use Rattle.reasons.specs.Amounts.{amount_read, asked_rows, asked_system, asked_tuple, large}
-use Rattle.reasons.specs.AnswerLaws.{even_at, off_at, zero_at}
+use Rattle.reasons.proofs.Amounts.{amount_read, asked_rows, asked_system, asked_tuple, large}
+use Rattle.reasons.proofs.AnswerLaws.{even_at, off_at, zero_at}
 use Rattle.reasons.proofs.first_true.Goals as goal
 
 pub returns-then-vanishes : goal.returns-then-vanishes

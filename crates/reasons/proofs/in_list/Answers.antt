@@ -1,5 +1,5 @@
 -- `reasons::in_list` meets its contract. Assumes nothing.
-use Rattle.reasons.specs.AnswerLaws.{stands_at, above_at, unlisted_at}
+use Rattle.reasons.proofs.AnswerLaws.{stands_at, above_at, unlisted_at}
 use Rattle.reasons.proofs.in_list.Goals as goal
 
 pub returns-in-At : goal.returns-in-At

@@ -4,11 +4,11 @@ use Prim.Native.Nat.{◌+◌}
 use native.Mathlib.Nat.{le_antisymm}
 use mir.Facts.{to_z-of_z}
 use native.Mathlib.Omega.{arith}
-use Rattle.linear.specs.Integers.{bits_are}
+use Rattle.linear.proofs.Integers.{bits_are}
 use Rattle.linear.specs.Sums.{sum_to}
 use Rattle.linear.specs.Systems.{inner, value}
 use Rattle.products.specs.Turns.{next_fits, next_sum, sum_value}
-use Rattle.reasons.specs.Amounts.{equation_fits, equation_terms}
+use Rattle.reasons.proofs.Amounts.{equation_fits, equation_terms}
 use borrow.Author.Rules.{rules}
 use Rattle.reasons.proofs.left_side.Goals as goal
 

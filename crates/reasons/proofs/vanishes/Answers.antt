@@ -3,9 +3,9 @@ use mathlib.Core.Path.{refl, sym}
 use native.Mathlib.Nat.{le_antisymm}
 use borrow.Author.Tests.{eq-eqb, ne_eqb}
 use Rattle.linear.specs.Tests.{all_to}
-use Rattle.linear.specs.LoopLaws.{all_next, all_fails}
+use Rattle.linear.proofs.LoopLaws.{all_next, all_fails}
 use Rattle.definitions.specs.Reasons.{vanishes}
-use Rattle.reasons.specs.AnswerLaws.{zeros_beyond}
+use Rattle.reasons.proofs.AnswerLaws.{zeros_beyond}
 use borrow.Author.Rules.{rules}
 use Rattle.reasons.proofs.vanishes.Goals as goal
 

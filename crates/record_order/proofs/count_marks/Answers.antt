@@ -4,10 +4,10 @@ use Prim.Native.Nat.{ℕ, ◌+◌, ◌*◌, ◌-◌, ◌%◌, ◌^◌, ◌<◌}
 use native.Mathlib.Omega.{arith}
 use lib.Count.{count_trailing_zeros}
 use lib.Dec.{T}
-use Rattle.linear.specs.TestLaws.{count_le, count_none}
+use Rattle.linear.proofs.TestLaws.{count_le, count_none}
 use Rattle.linear.specs.Tests.{count_to}
 use Rattle.definitions.specs.Tables.{frozen}
-use Rattle.laws.specs.MarkLaws.{count_frozen_add, frozen_gone, frozen_le, frozen_none, lowest_frozen, lowest_le, lowest_less, shift_one}
+use Rattle.laws.proofs.MarkLaws.{count_frozen_add, frozen_gone, frozen_le, frozen_none, lowest_frozen, lowest_le, lowest_less, shift_one}
 use Rattle.record_order.proofs.count_marks.Goals as goal
 use Rattle.record_order.proofs.count_marks.Goals.{In-loop-rest}
 

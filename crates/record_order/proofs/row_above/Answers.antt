@@ -4,7 +4,7 @@ use native.Mathlib.Nat.{le_antisymm}
 use borrow.Author.Rules.{rules}
 use borrow.Author.Tests.{le-leb, lt-leb}
 use Rattle.linear.specs.Tests.{all_to}
-use Rattle.linear.specs.LoopLaws.{all_next, all_fails}
+use Rattle.linear.proofs.LoopLaws.{all_next, all_fails}
 use Rattle.definitions.specs.System.{is_at_or_below}
 use Rattle.record_order.proofs.row_above.Goals as goal
 

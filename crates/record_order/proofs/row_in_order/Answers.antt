@@ -3,7 +3,7 @@ use Prim.Native.Nat.{◌+◌, ◌^◌}
 use mathlib.Core.Path.{sym, ◌∙◌}
 use native.Mathlib.Omega.{arith}
 use borrow.Author.Tests.{le-ltb, lt-ltb}
-use Rattle.laws.specs.MarkLaws.{count_frozen_fit, shift_one}
+use Rattle.laws.proofs.MarkLaws.{count_frozen_fit, shift_one}
 use Rattle.definitions.specs.Tables.{at}
 use Rattle.definitions.specs.Refusals.{row_fits}
 use Rattle.record_order.proofs.row_in_order.Goals as goal

@@ -5,8 +5,8 @@ use native.Mathlib.Nat.{le_antisymm}
 use native.Mathlib.Omega.{arith}
 use borrow.Author.Rules.{rules}
 use Rattle.linear.specs.Tests.{all_to}
-use Rattle.linear.specs.LoopLaws.{all_next, all_fails}
-use Rattle.laws.specs.TableLaws.{row_fits}
+use Rattle.linear.proofs.LoopLaws.{all_next, all_fails}
+use Rattle.laws.proofs.TableLaws.{row_fits}
 use Rattle.record_order.proofs.rows_in_order.Goals as goal
 
 pub loop-k-init : goal.loop-k-init

@@ -1,6 +1,6 @@
 -- `reformulates` meets its contract: a refusal, or what the numbers show. Assumes nothing.
 use mathlib.Core.Path.{sym, ◌∙◌}
-use Rattle.calls.specs.CallLaws.{passes}
+use Rattle.calls.proofs.CallLaws.{passes}
 use Rattle.reformulation.specs.Given.{given_of}
 use Rattle.reformulation.specs.Shows.{told_not, told_refused, told_shown}
 use Rattle.reformulation.proofs.reformulates.Goals as goal

@@ -1,7 +1,7 @@
 -- `counts` meets its contract. Assumes nothing.
 use borrow.Author.Rules.{rules}
 use Rattle.report_spec.specs.Printed as paper
-use Rattle.texts.specs.Put.{put_then}
+use Rattle.texts.proofs.PutTheorems.{put_then}
 use Rattle.report.proofs.counts.Goals as goal
 
 pub returns : goal.returns

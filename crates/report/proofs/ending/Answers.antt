@@ -1,6 +1,6 @@
 -- `ending` meets its contract. Assumes nothing.
 use Rattle.report_spec.specs.Printed as paper
-use Rattle.texts.specs.Put.{put_none}
+use Rattle.texts.proofs.PutTheorems.{put_none}
 use Rattle.report.proofs.ending.Goals as goal
 
 pub returns-in-Started : goal.returns-in-Started

@@ -1,6 +1,6 @@
 -- `ran` meets its contract. Assumes nothing.
 use Rattle.report_spec.specs.Printed as paper
-use Rattle.texts.specs.Put.{put_then}
+use Rattle.texts.proofs.PutTheorems.{put_then}
 use Rattle.report.proofs.ran.Goals as goal
 
 pub returns : goal.returns

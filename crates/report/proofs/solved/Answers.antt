@@ -2,7 +2,7 @@
 use Rattle.definitions.specs.System.{most_component}
 use borrow.Author.Rules.{rules}
 use Rattle.report_spec.specs.Printed as paper
-use Rattle.report_spec.specs.RunLaws.{ran_is, ran_fits}
+use Rattle.report_spec.proofs.RunLaws.{ran_is, ran_fits}
 use Rattle.report.proofs.solved.Goals as goal
 
 pub ran-requires : goal.ran-requires

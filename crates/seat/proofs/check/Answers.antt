@@ -2,7 +2,7 @@
 use mathlib.Core.Path.{◌≡◌, sym, ◌∙◌, ap}
 use borrow.Author.Tests.{le-ltb, lt-ltb}
 use Rattle.definitions.specs.Answers.{go, refuse_if, refuse_with, ◌then◌}
-use Rattle.calls.specs.CallLaws.{passes}
+use Rattle.calls.proofs.CallLaws.{passes}
 use Rattle.checks.specs.Counts.{size_checks}
 use Rattle.seat_spec.specs.Training.{check23, seat_input}
 use Rattle.seat.specs.Seat.{sizes_first}

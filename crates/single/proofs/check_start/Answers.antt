@@ -1,8 +1,8 @@
 -- `check_start` meets its contract. The checks of the plain call decide, else the columns do. Assumes nothing.
 use mathlib.Core.Path.{◌∙◌}
 use native.Mathlib.Omega.{arith}
-use Rattle.laws.specs.RefusalLaws.{start_shaped}
-use Rattle.calls.specs.CallLaws.{passes}
+use Rattle.laws.proofs.RefusalLaws.{start_shaped}
+use Rattle.calls.proofs.CallLaws.{passes}
 use Rattle.checks.specs.CheckLaws.{passed_first, refused_first}
 use Rattle.single_spec.specs.Calls.{single_start_checks}
 use Rattle.single.proofs.check_start.Goals as goal

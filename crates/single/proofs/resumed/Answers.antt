@@ -1,5 +1,5 @@
 -- `resumed` meets its contract. The check decides, and then the plain call does the work. Assumes nothing.
-use Rattle.calls.specs.CallLaws.{call_passed, call_refused}
+use Rattle.calls.proofs.CallLaws.{call_passed, call_refused}
 use Rattle.single_spec.specs.Calls.{single_resume}
 use Rattle.single.proofs.resumed.Goals as goal
 

@@ -1,6 +1,6 @@
 -- `started` meets its contract. The check decides, and then the plain call does the work. Assumes nothing.
 use Rattle.definitions.specs.System.{most_component}
-use Rattle.calls.specs.CallLaws.{call_passed, call_refused}
+use Rattle.calls.proofs.CallLaws.{call_passed, call_refused}
 use Rattle.single_spec.specs.Calls.{single_start}
 use Rattle.single.proofs.started.Goals as goal
 

@@ -1,6 +1,6 @@
 -- `check` meets its contract. The map decides, else the rows do. Assumes nothing.
 use mathlib.Core.Path.{◌∙◌}
-use Rattle.calls.specs.CallLaws.{passes}
+use Rattle.calls.proofs.CallLaws.{passes}
 use Rattle.definitions.specs.Input.{input_of}
 use Rattle.checks.specs.CheckLaws.{refused_first, passed_first}
 use Rattle.single_listing.specs.Passes.{checks_in, map_whole}

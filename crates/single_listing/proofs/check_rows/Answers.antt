@@ -1,6 +1,6 @@
 -- `check_rows` meets its contract. The rows passed are minimal solutions, and so much of the space is left. Assumes nothing.
 use native.Mathlib.Omega.{arith}
-use Rattle.laws.specs.TableLaws.{row_fits}
+use Rattle.laws.proofs.TableLaws.{row_fits}
 use Rattle.single_listing.specs.Passes.{checked_all, checked_fails, checked_fits, checked_lacks, checked_none, checked_short}
 use borrow.Author.Rules.{rules}
 use Rattle.single_listing.proofs.check_rows.Goals as goal

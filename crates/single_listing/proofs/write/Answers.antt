@@ -2,10 +2,10 @@
 use native.Mathlib.Nat.{le_antisymm}
 use native.Mathlib.Omega.{arith}
 use Rattle.single_order.specs.Rows.{map_of}
-use Rattle.laws.specs.TableLaws.{row_fits}
-use Rattle.texts.specs.Put.{put_none, put_then}
+use Rattle.laws.proofs.TableLaws.{row_fits}
+use Rattle.texts.proofs.PutTheorems.{put_none, put_then}
 use Rattle.single_spec.specs.Listing.{lines_to, listing}
-use Rattle.single_spec.specs.ListingLaws.{lines_next}
+use Rattle.single_spec.proofs.ListingLaws.{lines_next}
 use Rattle.single_listing.specs.Passes.{line_inside}
 use borrow.Author.Rules.{rules}
 use Rattle.single_listing.proofs.write.Goals as goal

@@ -2,7 +2,7 @@
 use mathlib.Core.Path.{refl, sym}
 use native.Mathlib.Nat.{le_antisymm}
 use Rattle.single_spec.specs.First.{find_to}
-use Rattle.single_spec.specs.FirstLaws.{first_here, first_next}
+use Rattle.single_spec.proofs.FirstLaws.{first_here, first_next}
 use Rattle.single_spec.specs.Graph.{lowest}
 use Rattle.single_order.specs.Rows.{named_no, named_yes}
 use borrow.Author.Rules.{rules}

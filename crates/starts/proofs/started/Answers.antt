@@ -1,8 +1,8 @@
 -- `started` meets its contract: the check decides, and the rows written are those of the plain start. Assumes nothing.
 use Rattle.definitions.specs.Tables.{units_start}
 use Rattle.definitions.specs.Calls.{start}
-use Rattle.laws.specs.RefusalLaws.{start_shaped}
-use Rattle.calls.specs.CallLaws.{call_refused, call_passed, passes}
+use Rattle.laws.proofs.RefusalLaws.{start_shaped}
+use Rattle.calls.proofs.CallLaws.{call_refused, call_passed, passes}
 use Rattle.starts.specs.Limits.{for_every}
 use Rattle.starts.proofs.started.Goals as goal
 

@@ -3,8 +3,8 @@ use native.Mathlib.Numerals.{add-one}
 use native.Mathlib.Omega.{arith}
 use Rattle.definitions.specs.Tables.{units_start}
 use Rattle.definitions.specs.Calls.{start}
-use Rattle.laws.specs.RefusalLaws.{start_shaped}
-use Rattle.calls.specs.CallLaws.{call_refused, call_passed, passes}
+use Rattle.laws.proofs.RefusalLaws.{start_shaped}
+use Rattle.calls.proofs.CallLaws.{call_refused, call_passed, passes}
 use Rattle.starts.proofs.started_capped.Goals as goal
 
 pub overflow_add-wide : goal.overflow_add-wide

@@ -2,8 +2,8 @@
 use mathlib.Core.Path.{refl}
 use Rattle.definitions.specs.Tables.{lower_start}
 use Rattle.definitions.specs.Calls.{start_from}
-use Rattle.laws.specs.RefusalLaws.{lower_shaped}
-use Rattle.calls.specs.CallLaws.{call_refused, call_passed, passes}
+use Rattle.laws.proofs.RefusalLaws.{lower_shaped}
+use Rattle.calls.proofs.CallLaws.{call_refused, call_passed, passes}
 use Rattle.starts.proofs.started_from.Goals as goal
 
 pub write_units-requires : goal.write_units-requires

@@ -4,9 +4,9 @@ use Prim.Native.Nat.{ℕ, ◌+◌, ◌-◌, ◌<◌}
 use native.Mathlib.Omega.{arith}
 use lib.ListN.{length, get_or, take, drop, length-take, length-drop}
 use lib.Seq.{get_or-take, get_or-drop}
-use Rattle.laws.specs.TableLaws.{write_same}
-use Rattle.table_rows.specs.Rows.{room_fits}
-use Rattle.step.specs.Enlisting.{appended_none, appended_next}
+use Rattle.laws.proofs.TableLaws.{write_same}
+use Rattle.table_rows.proofs.RowsTheorems.{room_fits}
+use Rattle.step.proofs.Enlisting.{appended_none, appended_next}
 use Rattle.step.proofs.append.Goals as goal
 use Rattle.step.proofs.append.Goals.{Start}
 

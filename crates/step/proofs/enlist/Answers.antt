@@ -1,6 +1,6 @@
 -- `enlist` meets its contract: the kind of the walk and the first component say which list it is. Assumes nothing.
 use native.Mathlib.Omega.{arith}
-use Rattle.step.specs.Enlisting.{enlisted_above, enlisted_plain, enlisted_zero, enlisted_one}
+use Rattle.step.proofs.Enlisting.{enlisted_above, enlisted_plain, enlisted_zero, enlisted_one}
 use Rattle.step.proofs.enlist.Goals as goal
 
 pub append-requires : goal.append-requires

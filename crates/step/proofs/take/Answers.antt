@@ -8,28 +8,13 @@ use lib.ListN.{length, take, drop, length-take, length-drop}
 use Rattle.linear.specs.Tests.{all_to}
 use Rattle.definitions.specs.System.{Kind, is_zero}
 use Rattle.definitions.specs.Tables.{State}
-use Rattle.table_rows.specs.Rows.{Holds, part_holds, tuple}
+use Rattle.table_rows.specs.Rows.{Holds, tuple}
+use Rattle.table_rows.proofs.RowsTheorems.{part_holds}
 use Rattle.products.specs.Products.{entry}
 use Rattle.candidates.specs.Grow.{child_for}
 use Rattle.candidates.specs.Kinds.{asked, kind_by, width_any}
 use Rattle.candidates.specs.Tried.{large_tried, made_tried, tried_same, tried_by}
-use Rattle.step.specs.TakeLaws.{
-  child_asked,
-  enlisted_asked,
-  made_below,
-  made_few,
-  part_back,
-  second_asked,
-  taken_grown,
-  taken_large,
-  taken_none,
-  taken_solution,
-  top_fits,
-  top_inside,
-  top_limited,
-  top_parent,
-  top_within,
-}
+use Rattle.step.proofs.TakeLaws.{child_asked, enlisted_asked, made_below, made_few, part_back, second_asked, taken_grown, taken_large, taken_none, taken_solution, top_fits, top_inside, top_limited, top_parent, top_within}
 use Rattle.step.proofs.take.Goals as goal
 use Rattle.step.proofs.take.Goals.{After-admitted, After-candidate_marks-left, Start}
 

@@ -7,8 +7,8 @@ use Rattle.definitions.specs.Machine.{Outcome, call, walk}
 use Rattle.definitions.specs.Refusals.{resume_checks}
 use Rattle.definitions.specs.System.{plain}
 use Rattle.definitions.specs.Tables.{State}
-use Rattle.laws.specs.RefusalLaws.{resume_valid}
-use Rattle.calls.specs.CallLaws.{call_refused, call_passed, passes}
+use Rattle.laws.proofs.RefusalLaws.{resume_valid}
+use Rattle.calls.proofs.CallLaws.{call_refused, call_passed, passes}
 use Rattle.calls.specs.Paper.{state_of, system_with}
 use Rattle.walking.specs.WalkLaws.{empty_is}
 use Rattle.walk.proofs.resumed.Goals as goal

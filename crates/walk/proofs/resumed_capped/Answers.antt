@@ -8,8 +8,9 @@ use Rattle.definitions.specs.Machine.{Outcome, call, walk}
 use Rattle.definitions.specs.Refusals.{resume_checks}
 use Rattle.definitions.specs.System.{System}
 use Rattle.definitions.specs.Tables.{State}
-use Rattle.laws.specs.RefusalLaws.{Handed, Valid, resume_handed, resume_valid}
-use Rattle.calls.specs.CallLaws.{call_refused, call_passed, passes}
+use Rattle.laws.specs.RefusalLaws.{Handed, Valid}
+use Rattle.laws.proofs.RefusalLaws.{resume_handed, resume_valid}
+use Rattle.calls.proofs.CallLaws.{call_refused, call_passed, passes}
 use Rattle.calls.specs.Paper.{state_with}
 use Rattle.walk.specs.ExtendLaws.{Sided, extended_system, handed_sided, table_fits}
 use Rattle.walk.proofs.resumed_capped.Goals as goal

@@ -1,8 +1,8 @@
 -- `resumed_from` meets its contract: the check decides, else the walks of the run go on. Assumes nothing.
 use mathlib.Core.Path.{refl}
 use Rattle.definitions.specs.Machine.{call}
-use Rattle.laws.specs.LowerLaws.{resume_from_valid}
-use Rattle.calls.specs.CallLaws.{call_refused, call_passed, passes}
+use Rattle.laws.proofs.LowerLaws.{resume_from_valid}
+use Rattle.calls.proofs.CallLaws.{call_refused, call_passed, passes}
 use Rattle.walk.proofs.resumed_from.Goals as goal
 
 pub walk_from-requires : goal.walk_from-requires

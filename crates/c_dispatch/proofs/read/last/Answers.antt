@@ -1,5 +1,5 @@
 -- `c_dispatch::read::last` meets its contract. Assumes nothing.
-use Rattle.c_dispatch.specs.WordLaws.{last_round, last_other}
+use Rattle.c_dispatch.proofs.WordLaws.{last_round, last_other}
 use Rattle.c_dispatch.proofs.read.last.Goals as goal
 
 pub returns-then-words-eq74 : goal.returns-then-words-eq74

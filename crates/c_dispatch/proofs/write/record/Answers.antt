@@ -1,5 +1,5 @@
 -- `c_dispatch::write::record` meets its contract. Assumes nothing.
-use Rattle.c_dispatch.specs.WordLaws.{record_left, record_written}
+use Rattle.c_dispatch.proofs.WordLaws.{record_left, record_written}
 use Rattle.c_dispatch.proofs.write.record.Goals as goal
 
 pub returns-then-words-at-lt5 : goal.returns-then-words-at-lt5

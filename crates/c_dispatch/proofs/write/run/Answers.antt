@@ -3,7 +3,7 @@ use mathlib.Core.Path.{◌∙◌, ap}
 use native.Mathlib.Omega.{arith}
 use lib.ListN.{length, length-set}
 use Rattle.c_dispatch.specs.Words.{write_run}
-use Rattle.c_dispatch.specs.WordLaws.{record_length}
+use Rattle.c_dispatch.proofs.WordLaws.{record_length}
 use Rattle.c_dispatch.proofs.write.run.Goals as goal
 
 pub bounds-words-at-2 : goal.bounds-words-at-2

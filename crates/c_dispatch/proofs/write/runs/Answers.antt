@@ -1,6 +1,6 @@
 -- `c_dispatch::write::runs` meets its contract. Assumes nothing.
 use native.Mathlib.Omega.{arith}
-use Rattle.c_dispatch.specs.WordLaws.{writing_begins, writing_more, writing_ends}
+use Rattle.c_dispatch.proofs.WordLaws.{writing_begins, writing_more, writing_ends}
 use Rattle.c_dispatch.proofs.write.runs.Goals as goal
 
 pub loop-i-init : goal.loop-i-init

@@ -2,7 +2,7 @@
 use mathlib.Core.Path.{◌∙◌, ap}
 use lib.ListN.{length}
 use borrow.Author.Rules.{rules}
-use Rattle.c_dispatch.specs.WordLaws.{served_length}
+use Rattle.c_dispatch.proofs.WordLaws.{served_length}
 use Rattle.c_dispatch.proofs.write.served.Goals as goal
 
 pub shape_of-words : goal.shape_of-words

@@ -1,5 +1,5 @@
 -- `c_dispatch::write::told` meets its contract. Assumes nothing.
-use Rattle.c_dispatch.specs.WordLaws.{fitting_pass, told_refused, told_served}
+use Rattle.c_dispatch.proofs.WordLaws.{fitting_pass, told_refused, told_served}
 use Rattle.c_dispatch.proofs.write.told.Goals as goal
 
 pub served-requires : goal.served-requires

@@ -1,5 +1,5 @@
 -- `c_equation::systems::read_system` meets its contract: each answer as its number. Assumes nothing.
-use Rattle.c_equation.specs.SystemLaws.{system_refusal_fits, system_few, system_refused_told, system_told_lem}
+use Rattle.c_equation.proofs.SystemLaws.{system_refusal_fits, system_few, system_refused_told, system_told_lem}
 use Rattle.c_equation.proofs.systems.read_system.Goals as goal
 
 pub read_code-requires : goal.read_code-requires

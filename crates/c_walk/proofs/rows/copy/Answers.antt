@@ -3,7 +3,7 @@ use mathlib.Core.Path.{refl, ◌∙◌}
 use native.Mathlib.Omega.{arith}
 use lib.ListN.{length-set}
 use borrow.Author.Rules.{rules}
-use Rattle.linear.specs.Copies.{copied_next, copied_all}
+use Rattle.linear.proofs.Copies.{copied_next, copied_all}
 use Rattle.c_walk.proofs.rows.copy.Goals as goal
 
 pub loop-i-init : goal.loop-i-init

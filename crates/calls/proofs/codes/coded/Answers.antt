@@ -1,5 +1,5 @@
 -- `codes::coded` meets its contract. Assumes nothing.
-use Rattle.calls.specs.CodeLaws.{code_small, code_large}
+use Rattle.calls.proofs.CodeLaws.{code_small, code_large}
 use Rattle.calls.proofs.codes.coded.Goals as goal
 
 pub returns-then-place-lt72057594037927936 : goal.returns-then-place-lt72057594037927936

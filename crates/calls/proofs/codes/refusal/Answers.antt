@@ -1,5 +1,5 @@
 -- `codes::refusal` meets its contract: a refusal's number has 8 bits. Assumes nothing.
-use Rattle.calls.specs.CodeLaws.{number_small, refusal_told}
+use Rattle.calls.proofs.CodeLaws.{number_small, refusal_told}
 use Rattle.calls.proofs.codes.refusal.Goals as goal
 
 pub coded-requires : goal.coded-requires

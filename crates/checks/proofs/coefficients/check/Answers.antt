@@ -1,7 +1,7 @@
 -- `checks::coefficients::check` meets its contract. Assumes nothing.
 use mathlib.Core.Path.{sym}
 use native.Mathlib.Nat.{le_antisymm}
-use Rattle.laws.specs.AnswerLaws.{refuse_at}
+use Rattle.laws.proofs.AnswerLaws.{refuse_at}
 use Rattle.checks.proofs.coefficients.check.Goals as goal
 
 pub returns-then-i-coefs : goal.returns-then-i-coefs

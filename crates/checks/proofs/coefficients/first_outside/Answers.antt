@@ -6,7 +6,7 @@ use lib.ListN.{get_or}
 use mir.Facts.{to_z-of_z}
 use borrow.Author.Rules.{rules, sfits_of}
 use Rattle.definitions.specs.Answers.{refuse_first}
-use Rattle.laws.specs.AnswerLaws.{refuse_next}
+use Rattle.laws.proofs.AnswerLaws.{refuse_next}
 use Rattle.definitions.specs.Refusals.{out_of_range}
 use Rattle.checks.proofs.coefficients.first_outside.Goals as goal
 use Rattle.checks.proofs.coefficients.first_outside.Goals.{After-out_of_range}

@@ -4,7 +4,7 @@ use native.Mathlib.Nat.{le_antisymm}
 use borrow.Author.Rules.{rules}
 use borrow.Author.Tests.{lt-ltb, le-ltb}
 use Rattle.linear.specs.Tests.{any_to}
-use Rattle.linear.specs.LoopLaws.{any_next, any_holds}
+use Rattle.linear.proofs.LoopLaws.{any_next, any_holds}
 use Rattle.checks.proofs.components.above_limit.Goals as goal
 
 pub loop-j-init : goal.loop-j-init

@@ -7,7 +7,7 @@ use lib.Dec.{eqb}
 use borrow.Author.Tests.{eq-eqb, ne_eqb}
 use Rattle.definitions.specs.Answers.{go, refuse_if, refuse_with, ◌then◌}
 use Rattle.definitions.specs.Refusals.{sizes}
-use Rattle.calls.specs.CallLaws.{passes}
+use Rattle.calls.proofs.CallLaws.{passes}
 use Rattle.checks.specs.Counts.{sized, sized_product, sizes_pass, sizes_then, sizes_within}
 use Rattle.checks.proofs.counts.check_within.Goals as goal
 use Rattle.checks.proofs.counts.check_within.Goals.{In-Pass}

@@ -4,7 +4,7 @@ use native.Mathlib.Nat.{mul-le-mul}
 use native.Mathlib.Omega.{arith}
 use borrow.Author.Tests.{le-ltb, lt-ltb, eq-eqb, ne_eqb}
 use Rattle.definitions.specs.Answers.{refuse_with, ◌then◌}
-use Rattle.calls.specs.CallLaws.{passes}
+use Rattle.calls.proofs.CallLaws.{passes}
 use Rattle.checks.specs.CheckLaws.{refused_first, passed_first}
 use Rattle.checks.specs.Counts.{Counted, counted}
 use Rattle.checks.specs.Shape.{shape_checks}

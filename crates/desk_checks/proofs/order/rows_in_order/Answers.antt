@@ -4,8 +4,8 @@ use borrow.Author.Rules.{rules}
 use mathlib.Core.Path.{refl, sym, ◌∙◌}
 use native.Mathlib.Nat.{le_antisymm}
 use native.Mathlib.Omega.{arith}
-use Rattle.laws.specs.TableLaws.{row_fits}
-use Rattle.linear.specs.LoopLaws.{all_next, all_fails}
+use Rattle.laws.proofs.TableLaws.{row_fits}
+use Rattle.linear.proofs.LoopLaws.{all_next, all_fails}
 use Rattle.linear.specs.Tests.{all_to}
 use Rattle.desk_checks.proofs.order.rows_in_order.Goals as goal
 

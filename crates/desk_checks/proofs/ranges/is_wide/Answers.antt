@@ -4,7 +4,7 @@ use borrow.Author.Tests.{le-ltb, lt-ltb}
 use mathlib.Core.Path.{refl, sym, ◌∙◌}
 use native.Mathlib.Nat.{le_antisymm}
 use Rattle.desk_spec.specs.Desks.{most_generators, wide}
-use Rattle.linear.specs.LoopLaws.{any_holds, any_next}
+use Rattle.linear.proofs.LoopLaws.{any_holds, any_next}
 use Rattle.linear.specs.Tests.{any_to}
 use Rattle.desk_checks.proofs.ranges.is_wide.Goals as goal
 

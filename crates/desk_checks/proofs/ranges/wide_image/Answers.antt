@@ -4,9 +4,9 @@ use mathlib.Core.Path.{refl, sym, ◌∙◌}
 use native.Mathlib.Nat.{le_antisymm}
 use native.Mathlib.Omega.{arith}
 use Rattle.desk_rows.specs.Images.{desk_equation, desk_row}
-use Rattle.linear.specs.LoopLaws.{any_holds, any_next}
+use Rattle.linear.proofs.LoopLaws.{any_holds, any_next}
 use Rattle.linear.specs.Tests.{any_to}
-use Rattle.table_rows.specs.Small.{value_back}
+use Rattle.table_rows.proofs.Small.{value_back}
 use Rattle.desk_checks.proofs.ranges.wide_image.Goals as goal
 
 pub loop-i-init : goal.loop-i-init

@@ -2,7 +2,7 @@
 use Prim.Native.Nat.{◌+◌, ◌*◌, ◌/◌, ◌%◌}
 use borrow.Author.Tests.{le-ltb, lt-ltb, eq-eqb, ne_eqb}
 use native.Mathlib.Omega.{arith}
-use Rattle.calls.specs.CallLaws.{passes}
+use Rattle.calls.proofs.CallLaws.{passes}
 use Rattle.checks.specs.CheckLaws.{passed_first, refused_first}
 use Rattle.checks.specs.Counts.{Counted, counted}
 use Rattle.definitions.specs.Answers.{refuse_with, ◌then◌}

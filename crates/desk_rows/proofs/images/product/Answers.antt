@@ -5,7 +5,7 @@ use mathlib.Core.Path.{refl}
 use native.Mathlib.Nat.{le_antisymm}
 use native.Mathlib.Omega.{arith}
 use Rattle.desk_rows.specs.Images.{next_fits, next_sum, sum_value}
-use Rattle.linear.specs.Integers.{bits_are}
+use Rattle.linear.proofs.Integers.{bits_are}
 use Rattle.linear.specs.Sums.{sum_to}
 use Rattle.linear.specs.Systems.{inner}
 use Rattle.desk_rows.proofs.images.product.Goals as goal

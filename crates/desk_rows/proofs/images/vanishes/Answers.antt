@@ -7,8 +7,8 @@ use mir.Syntax.{w64}
 use mir.Val.{of_z}
 use native.Mathlib.Nat.{le_antisymm}
 use Rattle.desk_rows.specs.Images.{entry}
-use Rattle.linear.specs.TestLaws.{T-same, all_at, all_from}
-use Rattle.laws.specs.SystemLaws.{is_zero_lem}
+use Rattle.linear.proofs.TestLaws.{T-same, all_at, all_from}
+use Rattle.laws.proofs.SystemLaws.{is_zero_lem}
 use Rattle.products.specs.Turns.{zero_bits}
 use Rattle.desk_rows.proofs.images.vanishes.Goals as goal
 

@@ -3,7 +3,7 @@ use borrow.Author.Rules.{rules}
 use native.Mathlib.Nat.{le_antisymm}
 use native.Mathlib.Omega.{arith}
 use Rattle.desk_rows.specs.Images.{image_next, image_none, map_equation}
-use Rattle.table_rows.specs.Small.{value_back}
+use Rattle.table_rows.proofs.Small.{value_back}
 use Rattle.desk_rows.proofs.images.write.Goals as goal
 
 pub loop-i-init : goal.loop-i-init

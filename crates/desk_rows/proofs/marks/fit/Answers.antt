@@ -1,5 +1,5 @@
 -- `marks::fit` meets its contract: 64 bits are within 64 generators. Assumes nothing.
-use Rattle.laws.specs.MarkLaws.{shift_one_wide}
+use Rattle.laws.proofs.MarkLaws.{shift_one_wide}
 use Rattle.desk_rows.specs.Marks.{fit_all}
 use Rattle.desk_rows.proofs.marks.fit.Goals as goal
 

@@ -1,7 +1,7 @@
 -- `rows::is_large` meets its contract: the tuple is a row from its first place on. Assumes nothing.
 use mathlib.Core.Bool.{not}
 use mathlib.Core.Path.{◌∙◌, ap}
-use Rattle.table_rows.specs.Limits.{large_whole}
+use Rattle.table_rows.proofs.Limits.{large_whole}
 use Rattle.desk_rows.proofs.rows.is_large.Goals as goal
 
 pub returns : goal.returns

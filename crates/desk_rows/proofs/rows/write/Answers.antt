@@ -5,7 +5,7 @@ use mathlib.Core.Path.{◌∙◌, ap}
 use native.Mathlib.Omega.{arith}
 use Rattle.desk_spec.specs.Desks.{word}
 use Rattle.desk_rows.specs.Rows.{row_numbers}
-use Rattle.laws.specs.TableLaws.{write_length}
+use Rattle.laws.proofs.TableLaws.{write_length}
 use Rattle.table_rows.specs.Rows.{tuple}
 use Rattle.desk_rows.proofs.rows.write.Goals as goal
 

@@ -10,7 +10,7 @@ use lib.ListN.{get_or, length}
 use mir.Facts.{to_z-of_z}
 use mir.Syntax.{w32}
 use mir.Val.{SFits}
-use Rattle.laws.specs.TableLaws.{row_fits}
+use Rattle.laws.proofs.TableLaws.{row_fits}
 use Rattle.engine_spec.specs.StartSides.{side_at}
 use Rattle.engine_checks.specs.Operating.{read64}
 use Rattle.engine_checks.specs.Sides.{side_read}

@@ -4,7 +4,7 @@ use mathlib.Core.Path.{refl, ◌∙◌, ap}
 use native.Mathlib.Nat.{le_antisymm}
 use borrow.Author.Rules.{rules}
 use lib.ListN.{length}
-use Rattle.laws.specs.TableLaws.{write_length}
+use Rattle.laws.proofs.TableLaws.{write_length}
 use Rattle.engine_begins.specs.Writing.{list_more, list_none}
 use Rattle.engine_begins.proofs.writing.copy_rows.Goals as goal
 

@@ -3,7 +3,7 @@ use native.Mathlib.Omega.{arith}
 use mir.Facts.{to_z-of_z}
 use mir.Syntax.{w32}
 use mir.Val.{SFits}
-use Rattle.linear.specs.Integers.{sfits_nat_abs}
+use Rattle.linear.proofs.Integers.{sfits_nat_abs}
 use Rattle.engine_begins.proofs.writing.narrow.Goals as goal
 
 pub overflow_cast-result : goal.overflow_cast-result

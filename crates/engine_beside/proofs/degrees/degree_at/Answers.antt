@@ -2,7 +2,7 @@
 use mathlib.Core.Path.{refl}
 use native.Mathlib.Nat.{le_antisymm}
 use native.Mathlib.Omega.{arith}
-use Rattle.linear.specs.TupleLaws.{total_more}
+use Rattle.linear.proofs.TupleLaws.{total_more}
 use Rattle.linear.specs.Tuples.{total}
 use Rattle.engine_spec.specs.Beside.{row_at}
 use Rattle.engine_beside.specs.Degrees.{total_room}

@@ -2,7 +2,7 @@
 use mathlib.Core.Path.{refl, sym}
 use native.Mathlib.Nat.{le_antisymm}
 use borrow.Author.Tests.{le-leb, lt-leb}
-use Rattle.linear.specs.LoopLaws.{all_fails, all_next, all_none}
+use Rattle.linear.proofs.LoopLaws.{all_fails, all_next, all_none}
 use Rattle.engine_beside.specs.Rising.{before as earlier, before_next, is_rising}
 use borrow.Author.Rules.{rules}
 use Rattle.engine_beside.proofs.degrees.rising.Goals as goal

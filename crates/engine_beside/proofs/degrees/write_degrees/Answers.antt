@@ -1,7 +1,7 @@
 -- `degrees::write_degrees` meets its contract. The rows passed have their degrees written. Assumes nothing.
 use native.Mathlib.Nat.{le_antisymm}
 use native.Mathlib.Omega.{arith}
-use Rattle.laws.specs.TableLaws.{row_fits}
+use Rattle.laws.proofs.TableLaws.{row_fits}
 use Rattle.engine_beside.specs.Writing.{kept_more, kept_none, measured_more, measured_none, table_row}
 use borrow.Author.Rules.{rules}
 use Rattle.engine_beside.proofs.degrees.write_degrees.Goals as goal

@@ -1,7 +1,7 @@
 -- `small::small_at` meets its contract: `small` says whether the components passed are within the limit. Assumes nothing.
 use mathlib.Core.Path.{sym}
 use native.Mathlib.Nat.{le_antisymm}
-use Rattle.linear.specs.LoopLaws.{all_none}
+use Rattle.linear.proofs.LoopLaws.{all_none}
 use Rattle.engine_spec.specs.Reduction.{is_small}
 use Rattle.engine_beside.specs.SmallRows.{all_more}
 use borrow.Author.Rules.{rules}

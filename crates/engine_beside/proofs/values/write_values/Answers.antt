@@ -1,7 +1,7 @@
 -- `values::write_values` meets its contract. The rows passed have their values written. Assumes nothing.
 use native.Mathlib.Nat.{le_antisymm}
 use native.Mathlib.Omega.{arith}
-use Rattle.laws.specs.TableLaws.{row_fits}
+use Rattle.laws.proofs.TableLaws.{row_fits}
 use Rattle.engine_beside.specs.Small.{value_read}
 use Rattle.engine_beside.specs.Writing.{kept_more, kept_none, table_row, valued_more, valued_none}
 use borrow.Author.Rules.{rules}

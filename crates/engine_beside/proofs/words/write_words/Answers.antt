@@ -1,7 +1,7 @@
 -- `words::write_words` meets its contract. The rows passed have their words written. Assumes nothing.
 use native.Mathlib.Nat.{le_antisymm}
 use native.Mathlib.Omega.{arith}
-use Rattle.laws.specs.TableLaws.{row_fits}
+use Rattle.laws.proofs.TableLaws.{row_fits}
 use Rattle.engine_beside.specs.Writing.{kept_more, kept_none, worded_more, worded_none, table_row}
 use borrow.Author.Rules.{rules}
 use Rattle.engine_beside.proofs.words.write_words.Goals as goal

@@ -4,7 +4,7 @@ use native.Mathlib.Nat.{le_antisymm}
 use lib.Dec.{leb}
 use lib.IntN.{nat_abs, ◌+ℤ◌, ◌*ℤ◌}
 use mir.Facts.{to_z-of_z}
-use Rattle.linear.specs.LoopLaws.{all_fails, all_next, all_none}
+use Rattle.linear.proofs.LoopLaws.{all_fails, all_next, all_none}
 use Rattle.engine_spec.specs.Beside.{coefficient_limit, equation_at}
 use Rattle.engine_checks.specs.Operating.{combined_read, combines_small, reads_small}
 use borrow.Author.Rules.{rules}

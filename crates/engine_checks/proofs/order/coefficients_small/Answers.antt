@@ -6,7 +6,7 @@ use lib.Dec.{leb}
 use lib.IntN.{nat_abs, pos}
 use lib.ListN.{get_or}
 use mir.Facts.{to_z-of_z}
-use Rattle.linear.specs.LoopLaws.{all_fails, all_next, all_none}
+use Rattle.linear.proofs.LoopLaws.{all_fails, all_next, all_none}
 use Rattle.engine_spec.specs.Beside.{coefficient_limit}
 use Rattle.engine_spec.specs.Calls.{coefficients_small}
 use Rattle.engine_checks.proofs.order.coefficients_small.Goals as goal

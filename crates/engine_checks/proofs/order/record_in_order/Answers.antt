@@ -5,7 +5,7 @@ use native.Mathlib.Omega.{arith}
 use borrow.Author.Tests.{le-leb, le-ltb, lt-leb, lt-ltb}
 use Rattle.definitions.specs.Refusals.{step_limit}
 use Rattle.engine_checks.specs.Order.{record_in_order}
-use Rattle.laws.specs.MarkLaws.{shift_one_wide}
+use Rattle.laws.proofs.MarkLaws.{shift_one_wide}
 use Rattle.engine_checks.proofs.order.record_in_order.Goals as goal
 
 pub returns-then-most-count : goal.returns-then-most-count

@@ -2,8 +2,8 @@
 use mathlib.Core.Path.{sym, ◌∙◌}
 use native.Mathlib.Nat.{le_antisymm}
 use native.Mathlib.Omega.{arith}
-use Rattle.linear.specs.LoopLaws.{all_fails, all_next, all_none}
-use Rattle.laws.specs.TableLaws.{row_fits}
+use Rattle.linear.proofs.LoopLaws.{all_fails, all_next, all_none}
+use Rattle.laws.proofs.TableLaws.{row_fits}
 use Rattle.engine_spec.specs.Calls.{is_rising}
 use Rattle.engine_beside.specs.Writing.{table_row}
 use Rattle.engine_checks.specs.Order.{before_first, before_next, rises_is}

@@ -11,7 +11,7 @@ use mir.Facts.{to_z-of_z}
 use mir.Syntax.{w32}
 use mir.Val.{SFits}
 use Rattle.definitions.specs.Answers.{refuse_first}
-use Rattle.laws.specs.AnswerLaws.{refuse_at, refuse_next}
+use Rattle.laws.proofs.AnswerLaws.{refuse_at, refuse_next}
 use Rattle.engine_spec.specs.Beside.{coefficient_limit}
 use Rattle.engine_spec.specs.StartSides.{side_at}
 use Rattle.engine_checks.specs.Sides.{equation_small, over_limit, side_read, side_checks, within_limit}

@@ -1,5 +1,5 @@
 -- `signs::is_done` meets its contract: bit k. Assumes nothing.
-use Rattle.laws.specs.MarkLaws.{mark_test}
+use Rattle.laws.proofs.MarkLaws.{mark_test}
 use Rattle.engine_checks.proofs.signs.is_done.Goals as goal
 
 pub returns : goal.returns

@@ -5,10 +5,10 @@ use native.Mathlib.Nat.{le_antisymm}
 use native.Mathlib.Omega.{arith}
 use borrow.Author.Rules.{rules, sfits_of}
 use mir.Facts.{to_z-of_z}
-use Rattle.linear.specs.LoopLaws.{all_fails, all_next, all_none}
+use Rattle.linear.proofs.LoopLaws.{all_fails, all_next, all_none}
 use Rattle.definitions.specs.System.{is_zero}
 use Rattle.definitions.specs.Tables.{frozen}
-use Rattle.laws.specs.TableLaws.{row_fits}
+use Rattle.laws.proofs.TableLaws.{row_fits}
 use Rattle.engine_spec.specs.Engine.{system_of}
 use Rattle.engine_checks.specs.Taking.{free_in}
 use Rattle.engine_checks.proofs.taking.free_in.Goals as goal

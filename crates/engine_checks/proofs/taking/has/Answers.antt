@@ -4,9 +4,9 @@ use native.Mathlib.Nat.{le_antisymm}
 use native.Mathlib.Omega.{arith}
 use borrow.Author.Rules.{rules}
 use borrow.Author.Tests.{le-ltb, lt-ltb}
-use Rattle.linear.specs.LoopLaws.{any_holds, any_next}
+use Rattle.linear.proofs.LoopLaws.{any_holds, any_next}
 use Rattle.linear.specs.Tests.{any_to}
-use Rattle.laws.specs.TableLaws.{row_fits}
+use Rattle.laws.proofs.TableLaws.{row_fits}
 use Rattle.engine_checks.specs.Taking.{has_unknown}
 use Rattle.engine_checks.proofs.taking.has.Goals as goal
 

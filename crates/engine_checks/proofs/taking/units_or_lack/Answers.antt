@@ -3,8 +3,8 @@ use mathlib.Core.Path.{sym, ◌∙◌}
 use native.Mathlib.Nat.{le_antisymm}
 use native.Mathlib.Omega.{arith}
 use borrow.Author.Rules.{rules}
-use Rattle.linear.specs.LoopLaws.{all_fails, all_next, all_none}
-use Rattle.laws.specs.TableLaws.{row_fits}
+use Rattle.linear.proofs.LoopLaws.{all_fails, all_next, all_none}
+use Rattle.laws.proofs.TableLaws.{row_fits}
 use Rattle.engine_checks.specs.Taking.{row_of, units_or_lack}
 use Rattle.engine_checks.proofs.taking.units_or_lack.Goals as goal
 

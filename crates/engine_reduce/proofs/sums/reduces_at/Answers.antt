@@ -2,7 +2,7 @@
 use borrow.Author.Rules.{sfits_of}
 use mir.Facts.{to_z-of_z}
 use mir.Syntax.{w64}
-use Rattle.laws.specs.TableLaws.{row_fits}
+use Rattle.laws.proofs.TableLaws.{row_fits}
 use Rattle.engine_beside.specs.Writing.{table_row}
 use Rattle.engine_reduce.specs.Sums.{fails_first, integer_at, passes_first}
 use native.Mathlib.Omega.{arith}

@@ -1,8 +1,8 @@
 -- `resuming::advance` meets its contract: with the tables beside the rows written, the turns may begin. Assumes nothing.
 use mathlib.Core.Path.{◌∙◌}
 use native.Mathlib.Omega.{arith}
-use Rattle.laws.specs.TableLaws.{row_fits}
-use Rattle.engine_resume.specs.Resuming.{advanced, entered_ready, writable}
+use Rattle.laws.proofs.TableLaws.{row_fits}
+use Rattle.engine_resume.proofs.ResumingTheorems.{advanced, entered_ready, writable}
 use Rattle.engine_resume.proofs.resuming.advance.Goals as goal
 
 pub overflow_mul-from : goal.overflow_mul-from

@@ -1,5 +1,5 @@
 -- `resuming::go_on` meets its contract: the turns, and then what their end asks for. Assumes nothing.
-use Rattle.engine_resume.specs.Resuming.{closing, resumed}
+use Rattle.engine_resume.proofs.ResumingTheorems.{closing, resumed}
 use Rattle.engine_resume.proofs.resuming.go_on.Goals as goal
 
 pub advance-ran-requires : goal.advance-ran-requires

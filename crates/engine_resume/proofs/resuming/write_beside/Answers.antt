@@ -1,7 +1,7 @@
 -- `resuming::write_beside` meets its contract: each table is written by itself. Assumes nothing.
 use mathlib.Core.Path.{refl}
 use Rattle.engine_rows.specs.Marking.{valued_bounded}
-use Rattle.engine_resume.specs.Resuming.{marks_kept}
+use Rattle.engine_resume.proofs.ResumingTheorems.{marks_kept}
 use Rattle.engine_resume.proofs.resuming.write_beside.Goals as goal
 
 pub write_marks-requires : goal.write_marks-requires

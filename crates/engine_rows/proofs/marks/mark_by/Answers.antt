@@ -1,6 +1,6 @@
 -- `marks::mark_by` meets its contract. Assumes nothing.
 use native.Mathlib.Omega.{arith}
-use Rattle.laws.specs.TableLaws.{row_fits}
+use Rattle.laws.proofs.TableLaws.{row_fits}
 use Rattle.engine_rows.specs.Marking.{mark_small, marked_by, value_read}
 use mathlib.Core.Path.{ap}
 use mathlib.Core.Bool.{not}

@@ -7,7 +7,7 @@ use lib.IntN.{pos}
 use lib.ListN.{get_or}
 use mir.Facts.{to_z-of_z}
 use mir.Syntax.{w64}
-use Rattle.linear.specs.TestLaws.{count_le}
+use Rattle.linear.proofs.TestLaws.{count_le}
 use Rattle.engine_rows.specs.Keeping.{counted_more, counted_same, none_counted, zero_value}
 use Rattle.engine_rows.proofs.packing.count_zeros.Goals as goal
 

@@ -3,9 +3,9 @@ use mathlib.Core.Path.{refl, sym, ◌∙◌}
 use native.Mathlib.Nat.{le_antisymm}
 use native.Mathlib.Omega.{arith}
 use borrow.Author.Rules.{rules}
-use Rattle.laws.specs.TableLaws.{row_fits}
+use Rattle.laws.proofs.TableLaws.{row_fits}
 use borrow.Author.Tests.{eq-eqb, ne_eqb}
-use Rattle.laws.specs.TableLaws.{place_fits}
+use Rattle.laws.proofs.TableLaws.{place_fits}
 use Rattle.engine_rows.specs.Keeping.{packed_ahead, packed_copied}
 use Rattle.engine_rows.specs.Packing.{packed_few, packed_length, packed_none, packed_skip}
 use Rattle.engine_rows.proofs.packing.drop_fresh.Goals as goal

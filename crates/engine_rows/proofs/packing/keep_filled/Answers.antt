@@ -8,7 +8,7 @@ use lib.IntN.{pos}
 use lib.ListN.{get_or}
 use mir.Facts.{to_z-of_z}
 use mir.Syntax.{w64}
-use Rattle.laws.specs.TableLaws.{row_fits}
+use Rattle.laws.proofs.TableLaws.{row_fits}
 use Rattle.engine_rows.specs.Keeping.{all_true}
 use Rattle.engine_rows.specs.Packing.{packed_few, packed_fits, packed_length, packed_more, packed_none, packed_skip}
 use Rattle.engine_rows.proofs.packing.keep_filled.Goals as goal

@@ -6,7 +6,7 @@ use lib.IntN.{pos}
 use lib.ListN.{get_or}
 use mir.Facts.{to_z-of_z}
 use mir.Syntax.{w64}
-use Rattle.linear.specs.LoopLaws.{all_fails, all_next, all_none}
+use Rattle.linear.proofs.LoopLaws.{all_fails, all_next, all_none}
 use Rattle.engine_rows.specs.Keeping.{large_small, small_large}
 use Rattle.engine_rows.proofs.packing.most_value_small.Goals as goal
 

@@ -4,7 +4,7 @@ use native.Mathlib.Nat.{le_antisymm}
 use lib.ListN.{length-set}
 use borrow.Author.Rules.{rules}
 use Rattle.definitions.specs.Tables.{write_to}
-use Rattle.laws.specs.TableLaws.{write_next}
+use Rattle.laws.proofs.TableLaws.{write_next}
 use Rattle.engine_spec.specs.Beside.{row_at}
 use Rattle.engine_rows.specs.Summing.{read_ahead}
 use Rattle.engine_rows.proofs.rows.copy.Goals as goal

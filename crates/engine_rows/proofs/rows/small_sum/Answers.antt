@@ -3,7 +3,7 @@ use mathlib.Core.Path.{sym}
 use native.Mathlib.Nat.{le_antisymm}
 use borrow.Author.Tests.{le-leb, lt-leb}
 use borrow.Author.Rules.{rules}
-use Rattle.linear.specs.LoopLaws.{all_fails, all_next, all_none}
+use Rattle.linear.proofs.LoopLaws.{all_fails, all_next, all_none}
 use native.Mathlib.Omega.{arith}
 use Rattle.engine_spec.specs.Reduction.{is_small}
 use Rattle.engine_rows.proofs.rows.small_sum.Goals as goal

@@ -6,8 +6,9 @@ use native.Mathlib.Omega.{arith}
 use lib.ListN.{length}
 use borrow.Author.Rules.{rules}
 use Rattle.linear.specs.Tuples.{unit}
-use Rattle.laws.specs.TableLaws.{row_fits}
-use Rattle.laws.specs.Pack.{pack_length, pack_to}
+use Rattle.laws.proofs.TableLaws.{row_fits}
+use Rattle.laws.specs.Pack.{pack_to}
+use Rattle.laws.proofs.Pack.{pack_length}
 use Rattle.engine_rows.specs.Packing.{all_more, always}
 use Rattle.engine_rows.proofs.rows.write_units.Goals as goal
 

@@ -4,7 +4,7 @@ use Rattle.engine_stage.proofs.append.append_pair.Goals as goal
 -- `append_pair` writes row n and what stands beside it. Assumes nothing.
 use mathlib.Core.Path.{refl, ap}
 use mir.Facts.{to_z-of_z}
-use Rattle.laws.specs.TableLaws.{row_fits}
+use Rattle.laws.proofs.TableLaws.{row_fits}
 use Rattle.engine_beside.specs.Small.{sum_fits}
 use Rattle.engine_beside.specs.Writing.{table_row}
 use Rattle.engine_stage.specs.Marked.{back}

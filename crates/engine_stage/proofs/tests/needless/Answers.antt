@@ -1,6 +1,6 @@
 -- `needless` is the stage's test of a pair: the cap decides first. Assumes nothing.
 use native.Mathlib.Omega.{arith}
-use Rattle.laws.specs.TableLaws.{row_fits}
+use Rattle.laws.proofs.TableLaws.{row_fits}
 use Rattle.engine_stage.specs.Marked.{over_needless, under_needless}
 use Rattle.engine_stage.proofs.tests.needless.Goals as goal
 

@@ -1,7 +1,7 @@
 -- `pair_turn` is the stage's turn at a pair. Assumes nothing.
 use mathlib.Core.Path.{sym, ◌∙◌}
 use Rattle.definitions.specs.Tables.{at}
-use Rattle.laws.specs.TableLaws.{row_fits}
+use Rattle.laws.proofs.TableLaws.{row_fits}
 use Rattle.engine_beside.specs.WordLaws.{word_low}
 use Rattle.engine_beside.specs.Writing.{table_row}
 use Rattle.engine_stage.specs.Marked.{was_false, was_true, word_is}

@@ -1,6 +1,6 @@
 -- `row_turn` is the stage's turn at a row of the basis. Assumes nothing.
 use mathlib.Core.Path.{refl}
-use Rattle.laws.specs.TableLaws.{row_fits}
+use Rattle.laws.proofs.TableLaws.{row_fits}
 use Rattle.engine_beside.specs.Writing.{table_row}
 use Rattle.engine_stage.specs.Turning.{ltb_no, room_left, row_appended, row_full}
 use native.Mathlib.Omega.{arith}

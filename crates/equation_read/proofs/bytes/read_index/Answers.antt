@@ -1,5 +1,5 @@
 -- `equation_read::bytes::read_index` meets its contract. Assumes nothing.
-use Rattle.equation_spec.specs.SoundLaws.{few_digits}
+use Rattle.equation_spec.proofs.SoundLaws.{few_digits}
 use Rattle.equation_read.specs.ByteLaws.{index_none, index_above, index_within, index_malformed}
 use Rattle.equation_read.proofs.bytes.read_index.Goals as goal
 

@@ -2,7 +2,7 @@
 use native.Mathlib.Omega.{arith}
 use mir.Facts.{to_z-of_z}
 use mir.Syntax.{w32}
-use Rattle.linear.specs.Integers.{sfits_nat_abs}
+use Rattle.linear.proofs.Integers.{sfits_nat_abs}
 use Rattle.equation_read.proofs.equation.narrow.Goals as goal
 
 pub overflow_cast-result : goal.overflow_cast-result

@@ -5,7 +5,7 @@ use lib.IntN.{pos, neg_ℤ, ◌-ℤ◌, +ℤ_idl}
 use mir.Facts.{to_z-of_z}
 use mir.Syntax.{w32, w64}
 use mir.Val.{SFits}
-use Rattle.linear.specs.Integers.{sfits_nat_abs, nat_abs_negℤ}
+use Rattle.linear.proofs.Integers.{sfits_nat_abs, nat_abs_negℤ}
 use Rattle.equation_read.specs.SizeLaws.{negation_fits}
 use Rattle.equation_read.proofs.equation.negated.Goals as goal
 use Rattle.equation_read.proofs.equation.negated.Goals.{Start}

@@ -3,7 +3,7 @@ use Prim.Native.Nat.{◌+◌}
 use mathlib.Core.Path.{refl, sym, ◌∙◌}
 use native.Mathlib.Omega.{arith}
 use lib.ListN.{length}
-use Rattle.equation_spec.specs.PlaceLaws.{unplaced_reads}
+use Rattle.equation_spec.proofs.PlaceLaws.{unplaced_reads}
 use Rattle.equation_read.specs.RoomLaws.{skip_left, less_left}
 use Rattle.equation_read.specs.SideLaws.{zeros, zeros_small, left_stopped, middle, right_stopped, both, sides_exceed, sides_taken}
 use Rattle.equation_read.proofs.equation.read_sides.Goals as goal

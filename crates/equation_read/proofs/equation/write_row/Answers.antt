@@ -5,7 +5,7 @@ use lib.ListN.{length-set}
 use mir.Facts.{to_z-of_z}
 use mir.Syntax.{w32, w64}
 use borrow.Author.Rules.{sfits_of}
-use Rattle.linear.specs.Integers.{sfits_nat_abs}
+use Rattle.linear.proofs.Integers.{sfits_nat_abs}
 use Rattle.equation_read.specs.EquationLaws.{row_next, row_all}
 use Prim.Native.Nat.{◌≤◌}
 use mathlib.Core.Path.{refl, ◌∙◌}

@@ -1,7 +1,7 @@
 -- `equation_read::scan::indexed` meets its contract. Assumes nothing.
 use Prim.Native.Nat.{◌+◌, ◌*◌}
 use Rattle.texts.specs.Reading.{digit}
-use Rattle.texts.specs.NumberLaws.{digit_range}
+use Rattle.texts.proofs.NumberLaws.{digit_range}
 use native.Mathlib.Omega.{arith}
 use Rattle.equation_read.specs.ScanSteps.{index_above, index_none, index_some}
 use Rattle.equation_read.proofs.scan.indexed.Goals as goal

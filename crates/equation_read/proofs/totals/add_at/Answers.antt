@@ -2,7 +2,7 @@
 use native.Mathlib.Omega.{arith}
 use lib.IntN.{pos}
 use lib.ListN.{get_or}
-use Rattle.linear.specs.Integers.{sfits_nat_abs}
+use Rattle.linear.proofs.Integers.{sfits_nat_abs}
 use mir.Facts.{to_z-of_z}
 use mir.Syntax.{w64}
 use borrow.Author.Rules.{sfits_of}

@@ -5,7 +5,7 @@ use lib.IntN.{pos}
 use mir.Facts.{to_z-of_z}
 use mir.Syntax.{w64}
 use mir.Val.{to_z}
-use Rattle.linear.specs.Integers.{sfits_nat_abs}
+use Rattle.linear.proofs.Integers.{sfits_nat_abs}
 use Rattle.equation_read.specs.SizeLaws.{product_fits}
 use Rattle.equation_read.proofs.totals.scaled.Goals as goal
 use Rattle.equation_read.proofs.totals.scaled.Goals.{Start}

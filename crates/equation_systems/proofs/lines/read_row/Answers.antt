@@ -6,7 +6,7 @@ use lib.IntN.{ℤ}
 use lib.ListN.{length, take, drop}
 use mir.Facts.{to_z-of_z}
 use mir.Syntax.{w32}
-use Rattle.linear.specs.Integers.{sfits_nat_abs}
+use Rattle.linear.proofs.Integers.{sfits_nat_abs}
 use Rattle.equation_read.specs.AnsweredLaws.{side_small}
 use Rattle.equation_systems.specs.RowLaws.{part_whole, row_refused, row_read}
 use Rattle.equation_systems.proofs.lines.read_row.Goals as goal

@@ -1,5 +1,5 @@
 -- `list_file::words::wrapping_sum` meets its contract. The sum is that of the words passed, modulo 2^32. Assumes nothing.
-use Rattle.list_spec.specs.SumLaws.{sum_next}
+use Rattle.list_spec.proofs.SumLaws.{sum_next}
 use Rattle.list_spec.specs.Words.{word_at, total}
 use Rattle.std.proofs.Common.{ℕ, ◌+◌, refl, le_antisymm, arith, rules}
 use Rattle.list_file.proofs.words.wrapping_sum.Goals as goal

@@ -5,9 +5,9 @@ use mir.Syntax.{w32}
 use mir.Facts.{to_z-of_z}
 use borrow.Author.Rules.{rules}
 use Rattle.texts.specs.Decimals.{separator}
-use Rattle.texts.specs.ParseLaws.{then_malformed, then_parsed}
+use Rattle.texts.proofs.ParseLaws.{then_malformed, then_parsed}
 use Rattle.map_spec.specs.Reading.{ended_by, read_field}
-use Rattle.map_text.specs.LineLaws.{no_byte, other_byte, this_byte}
+use Rattle.map_text.proofs.LineLaws.{no_byte, other_byte, this_byte}
 use Rattle.map_text.proofs.lines.read_field.Goals as goal
 use Rattle.map_text.proofs.lines.read_field.Goals.{In-Parsed}
 

@@ -7,7 +7,7 @@ use lib.ListN.{length, length-set}
 use mir.Facts.{to_z-of_z}
 use mir.Syntax.{w32}
 use borrow.Author.Rules.{rules}
-use Rattle.map_text.specs.LineLaws.{line_done, line_malformed, line_number, take_next}
+use Rattle.map_text.proofs.LineLaws.{line_done, line_malformed, line_number, take_next}
 use Rattle.map_text.proofs.lines.read_line.Goals as goal
 use Rattle.map_text.proofs.lines.read_line.Goals.{After-read_field}
 

@@ -6,7 +6,7 @@ use native.Mathlib.Nat.{zero-mul, sub-zero}
 use native.Mathlib.Omega.{arith}
 use lib.ListN.{length}
 use borrow.Author.Rules.{rules}
-use Rattle.map_text.specs.LineLaws.{row_inside, rows_malformed, rows_line, rows_end, rows_extra}
+use Rattle.map_text.proofs.LineLaws.{row_inside, rows_malformed, rows_line, rows_end, rows_extra}
 use Rattle.map_text.proofs.lines.read_rows.Goals as goal
 use Rattle.map_text.proofs.lines.read_rows.Goals.{In-loop-i}
 

@@ -1,5 +1,5 @@
 -- `rows::bounded` meets its contract. Assumes nothing.
-use Rattle.multiples.specs.Taking.{bounded_none, bounded_some}
+use Rattle.multiples.proofs.Taking.{bounded_none, bounded_some}
 use Rattle.multiples.proofs.rows.bounded.Goals as goal
 
 pub returns-then-n : goal.returns-then-n

@@ -1,5 +1,5 @@
 -- `rows::lower` meets its contract. Assumes nothing.
-use Rattle.multiples.specs.Taking.{lower_less, lower_more, lower_none}
+use Rattle.multiples.proofs.Taking.{lower_less, lower_more, lower_none}
 use Rattle.multiples.proofs.rows.lower.Goals as goal
 
 pub returns-then-a-eq0 : goal.returns-then-a-eq0

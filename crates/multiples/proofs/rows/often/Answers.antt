@@ -3,7 +3,7 @@ use mathlib.Core.Path.{refl, ap, ◌∙◌}
 use native.Mathlib.Nat.{le_antisymm}
 use borrow.Author.Rules.{rules}
 use Rattle.multiples_spec.specs.Parts.{bounded, often_to}
-use Rattle.multiples.specs.Taking.{often_next}
+use Rattle.multiples.proofs.Taking.{often_next}
 use Rattle.multiples.proofs.rows.often.Goals as goal
 
 pub loop-j-init : goal.loop-j-init

@@ -3,8 +3,8 @@ use mathlib.Core.Path.{refl}
 use Prim.Native.Nat.{◌*◌, ◌-◌}
 use native.Mathlib.Omega.{arith}
 use borrow.Author.Rules.{rules}
-use Rattle.laws.specs.TableLaws.{row_fits}
-use Rattle.multiples.specs.Taking.{often_goes, taking_first, taking_last, taking_next}
+use Rattle.laws.proofs.TableLaws.{row_fits}
+use Rattle.multiples.proofs.Taking.{often_goes, taking_first, taking_last, taking_next}
 use Rattle.multiples.proofs.rows.take.Goals as goal
 
 pub loop-i-init : goal.loop-i-init

@@ -4,7 +4,7 @@ use native.Mathlib.Nat.{le_antisymm}
 use native.Mathlib.Omega.{arith}
 use lib.ListN.{length-set}
 use borrow.Author.Rules.{rules}
-use Rattle.multiples.specs.Taking.{less_next, less_none, still_goes}
+use Rattle.multiples.proofs.Taking.{less_next, less_none, still_goes}
 use Rattle.multiples.proofs.rows.take_off.Goals as goal
 
 pub loop-j-init : goal.loop-j-init

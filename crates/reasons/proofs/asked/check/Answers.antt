@@ -3,9 +3,9 @@ use native.Mathlib.Omega.{arith}
 use borrow.Author.Tests.{eq-eqb, le-leb, lt-leb, ne_eqb}
 use lib.ListN.{length}
 use Rattle.definitions.specs.Refusals.{sizes}
-use Rattle.calls.specs.CallLaws.{passes}
+use Rattle.calls.proofs.CallLaws.{passes}
 use Rattle.checks.specs.Counts.{counted_within}
-use Rattle.reasons.specs.Refusals.{counts_off, in_ranges, many_rows, other_length}
+use Rattle.reasons.proofs.Refusals.{counts_off, in_ranges, many_rows, other_length}
 use Rattle.reasons.proofs.asked.check.Goals as goal
 
 pub returns-then-t-q : goal.returns-then-t-q

@@ -1,6 +1,6 @@
 -- `reasons::asked::ranges` meets its contract: the coefficients decide first. Assumes nothing.
 use mathlib.Core.Path.{sym, ◌∙◌}
-use Rattle.reasons.specs.Refusals.{all_small, coefficient_off, one_large}
+use Rattle.reasons.proofs.Refusals.{all_small, coefficient_off, one_large}
 use Rattle.reasons.proofs.asked.ranges.Goals as goal
 
 pub returns-in-Refuse : goal.returns-in-Refuse

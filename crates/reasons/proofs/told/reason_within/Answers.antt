@@ -1,7 +1,7 @@
 -- `reasons::told::reason_within` meets its contract: what was found out, as one number; an amount that is told fits 64 bits. Assumes nothing.
 use mathlib.Core.Path.{sym, ap, ◌∙◌}
-use Rattle.reasons.specs.Amounts.{told_off}
-use Rattle.reasons.specs.AnswerLaws.{told_as}
+use Rattle.reasons.proofs.Amounts.{told_off}
+use Rattle.reasons.proofs.AnswerLaws.{told_as}
 use Rattle.reasons.specs.Answers.{reason_of}
 use Rattle.reasons.proofs.told.reason_within.Goals as goal
 

@@ -1,7 +1,7 @@
 -- `entries::extends` meets its contract. Each row passed is one of the extended map. Assumes nothing.
 use mathlib.Core.Path.{refl, sym}
 use native.Mathlib.Nat.{le_antisymm}
-use Rattle.linear.specs.LoopLaws.{all_fails, all_next}
+use Rattle.linear.proofs.LoopLaws.{all_fails, all_next}
 use Rattle.linear.specs.Tests.{all_to}
 use Rattle.reformulation_spec.specs.Reformulation as paper
 use Rattle.reformulation.specs.Given.{fails, holds}

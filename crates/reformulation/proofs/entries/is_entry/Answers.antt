@@ -8,7 +8,7 @@ use lib.ListN.{get_or}
 use borrow.Author.Tests.{eq-eqb, le-ltb, lt-ltb, ne_eqb}
 use lib.ListN.{length}
 use mir.Facts.{to_z-of_z}
-use Rattle.laws.specs.TableLaws.{row_fits}
+use Rattle.laws.proofs.TableLaws.{row_fits}
 use Rattle.reformulation.specs.Given.{product_few}
 use Rattle.reformulation.proofs.entries.is_entry.Goals as goal
 use Rattle.reformulation.proofs.entries.is_entry.Goals.{Then-i-p}

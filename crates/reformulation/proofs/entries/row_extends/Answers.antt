@@ -7,8 +7,8 @@ use borrow.Author.Rules.{rules}
 use lib.ListN.{length}
 use mir.Facts.{to_z-of_z}
 use mir.Syntax.{w32}
-use Rattle.laws.specs.TableLaws.{row_fits}
-use Rattle.linear.specs.LoopLaws.{all_fails, all_next}
+use Rattle.laws.proofs.TableLaws.{row_fits}
+use Rattle.linear.proofs.LoopLaws.{all_fails, all_next}
 use Rattle.linear.specs.Tests.{all_to}
 use Rattle.reformulation_spec.specs.Reformulation.{is_entry, row_of}
 use Rattle.reformulation.specs.Given.{fails, holds, product_few}

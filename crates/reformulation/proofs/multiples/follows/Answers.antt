@@ -7,7 +7,7 @@ use lib.Signed.{lt_z}
 use mir.Facts.{to_z-of_z}
 use mir.Syntax.{w64}
 use borrow.Author.Rules.{rules}
-use Rattle.linear.specs.LoopLaws.{all_fails, all_next}
+use Rattle.linear.proofs.LoopLaws.{all_fails, all_next}
 use Rattle.linear.specs.Tests.{all_to}
 use Rattle.reformulation_spec.specs.Reformulation as paper
 use Rattle.reformulation_spec.specs.Reformulation.{left_over, meets, row_of}

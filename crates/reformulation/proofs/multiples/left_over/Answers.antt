@@ -5,8 +5,8 @@ use native.Mathlib.Nat.{le_antisymm}
 use native.Mathlib.Omega.{arith}
 use lib.ListN.{length}
 use mir.Facts.{to_z-of_z}
-use Rattle.linear.specs.Integers.{bits_are}
-use Rattle.laws.specs.TableLaws.{row_fits}
+use Rattle.linear.proofs.Integers.{bits_are}
+use Rattle.laws.proofs.TableLaws.{row_fits}
 use Rattle.reformulation.specs.Sums.{entry_fits, first_fits, first_sum, next_fits, next_sum, sum_value}
 use borrow.Author.Rules.{rules}
 use Rattle.reformulation.proofs.multiples.left_over.Goals as goal

@@ -5,8 +5,8 @@ use native.Mathlib.Nat.{le_antisymm}
 use native.Mathlib.Omega.{arith}
 use lib.ListN.{length}
 use Rattle.definitions.specs.Tables.{at}
-use Rattle.laws.specs.TableLaws.{row_fits}
-use Rattle.reformulation_spec.specs.Projection.{project_length}
+use Rattle.laws.proofs.TableLaws.{row_fits}
+use Rattle.reformulation_spec.proofs.Projection.{project_length}
 use Rattle.reformulation_spec.specs.Reformulation.{project_to}
 use Rattle.reformulation.specs.Projecting.{row_more}
 use borrow.Author.Rules.{rules}

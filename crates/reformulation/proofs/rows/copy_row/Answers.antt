@@ -3,7 +3,7 @@ use mathlib.Core.Path.{refl}
 use native.Mathlib.Nat.{le_antisymm}
 use lib.ListN.{length-set}
 use Rattle.definitions.specs.Tables.{write_to}
-use Rattle.laws.specs.TableLaws.{write_next}
+use Rattle.laws.proofs.TableLaws.{write_next}
 use borrow.Author.Rules.{rules}
 use Rattle.reformulation.proofs.rows.copy_row.Goals as goal
 

@@ -7,7 +7,7 @@ use lib.ListN.{get_or}
 use mir.Facts.{to_z-of_z}
 use mir.Syntax.{w64}
 use borrow.Author.Rules.{rules}
-use Rattle.linear.specs.LoopLaws.{all_fails, all_next}
+use Rattle.linear.proofs.LoopLaws.{all_fails, all_next}
 use Rattle.linear.specs.Tests.{all_to}
 use Rattle.reformulation_spec.specs.Reformulation.{most_multiple}
 use Rattle.reformulation.specs.Given.{fails, holds}

@@ -1,8 +1,8 @@
 -- `lines::counted` meets its contract. A number of 64 bits has at most 20 digits. Assumes nothing.
 use native.Mathlib.Omega.{arith}
 use Rattle.report_spec.specs.Printed as paper
-use Rattle.texts.specs.Put.{put_then}
-use Rattle.texts.specs.DecimalLaws.{digits_64}
+use Rattle.texts.proofs.PutTheorems.{put_then}
+use Rattle.texts.proofs.DecimalLaws.{digits_64}
 use Rattle.report.proofs.lines.counted.Goals as goal
 
 pub number-end-requires : goal.number-end-requires

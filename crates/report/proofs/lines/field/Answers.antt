@@ -1,7 +1,7 @@
 -- `lines::field` meets its contract. Assumes nothing.
 use native.Mathlib.Omega.{arith}
-use Rattle.texts.specs.Put.{put_then}
-use Rattle.texts.specs.DecimalLaws.{digits_32}
+use Rattle.texts.proofs.PutTheorems.{put_then}
+use Rattle.texts.proofs.DecimalLaws.{digits_32}
 use Rattle.report.specs.Rows.{field_text}
 use Rattle.report.proofs.lines.field.Goals as goal
 

@@ -1,7 +1,7 @@
 -- `lines::refused_with` meets its contract. Assumes nothing.
 use native.Mathlib.Omega.{arith}
-use Rattle.texts.specs.Put.{put_then}
-use Rattle.texts.specs.DecimalLaws.{digits_64}
+use Rattle.texts.proofs.PutTheorems.{put_then}
+use Rattle.texts.proofs.DecimalLaws.{digits_64}
 use Rattle.report.proofs.lines.refused_with.Goals as goal
 
 pub number-detail-requires : goal.number-detail-requires

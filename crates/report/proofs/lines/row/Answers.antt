@@ -1,7 +1,7 @@
 -- `lines::row` meets its contract. What is left to write is the line from the next number on. Assumes nothing.
 use native.Mathlib.Omega.{arith}
 use borrow.Author.Rules.{rules}
-use Rattle.texts.specs.Put.{rest_begins, rest_next, rest_ends}
+use Rattle.texts.proofs.PutTheorems.{rest_begins, rest_next, rest_ends}
 use Rattle.report.specs.Rows.{row_next, row_done}
 use Rattle.report.proofs.lines.row.Goals as goal
 

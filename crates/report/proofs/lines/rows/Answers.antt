@@ -2,8 +2,8 @@
 use native.Mathlib.Nat.{le_antisymm, sub-zero, zero-mul}
 use native.Mathlib.Omega.{arith}
 use borrow.Author.Rules.{rules}
-use Rattle.laws.specs.TableLaws.{row_fits}
-use Rattle.texts.specs.Put.{rest_begins, rest_next, rest_ends}
+use Rattle.laws.proofs.TableLaws.{row_fits}
+use Rattle.texts.proofs.PutTheorems.{rest_begins, rest_next, rest_ends}
 use Rattle.report.specs.Rows.{part_size, rows_next, rows_done}
 use Rattle.report.proofs.lines.rows.Goals as goal
 

@@ -1,6 +1,6 @@
 -- `lines::before_space` meets its contract. An unknown has at most two digits. Assumes nothing.
 use native.Mathlib.Omega.{arith}
-use Rattle.texts.specs.Put.{put_then}
+use Rattle.texts.proofs.PutTheorems.{put_then}
 use Rattle.single_listing.specs.Lines.{two_digits}
 use Rattle.single_listing.proofs.lines.before_space.Goals as goal
 

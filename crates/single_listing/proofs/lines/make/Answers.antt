@@ -1,6 +1,6 @@
 -- `lines::make` meets its contract. The parts of the line follow one another. Assumes nothing.
 use native.Mathlib.Omega.{arith}
-use Rattle.texts.specs.Put.{put_then}
+use Rattle.texts.proofs.PutTheorems.{put_then}
 use Rattle.single_listing.specs.Lines.{line_made, no_line}
 use Rattle.single_listing.proofs.lines.make.Goals as goal
 

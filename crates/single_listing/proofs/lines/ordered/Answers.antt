@@ -1,9 +1,9 @@
 -- `lines::ordered` meets its contract. The first unknowns of the order stand in the line. Assumes nothing.
 use native.Mathlib.Nat.{le_antisymm}
 use native.Mathlib.Omega.{arith}
-use Rattle.texts.specs.Put.{put_none, put_then}
+use Rattle.texts.proofs.PutTheorems.{put_none, put_then}
 use Rattle.single_spec.specs.Listing.{order_to}
-use Rattle.single_spec.specs.ListingLaws.{order_next}
+use Rattle.single_spec.proofs.ListingLaws.{order_next}
 use borrow.Author.Rules.{rules}
 use Rattle.single_listing.proofs.lines.ordered.Goals as goal
 

@@ -1,9 +1,9 @@
 -- `lines::rising` meets its contract. The numbers of the unknowns passed that the row names stand in the line. Assumes nothing.
 use native.Mathlib.Nat.{le_antisymm}
 use native.Mathlib.Omega.{arith}
-use Rattle.texts.specs.Put.{put_none, put_then}
+use Rattle.texts.proofs.PutTheorems.{put_none, put_then}
 use Rattle.single_spec.specs.Listing.{rising_to}
-use Rattle.single_spec.specs.ListingLaws.{rising_named, rising_other}
+use Rattle.single_spec.proofs.ListingLaws.{rising_named, rising_other}
 use Rattle.single_order.specs.Rows.{named_no, named_yes}
 use borrow.Author.Rules.{rules}
 use Rattle.single_listing.proofs.lines.rising.Goals as goal

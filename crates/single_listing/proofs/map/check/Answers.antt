@@ -2,7 +2,7 @@
 use native.Mathlib.Omega.{arith}
 use lib.ListN.{length}
 use mathlib.Core.Path.{◌∙◌}
-use Rattle.calls.specs.CallLaws.{passes}
+use Rattle.calls.proofs.CallLaws.{passes}
 use Rattle.checks.specs.CheckLaws.{refused_first, passed_first}
 use Rattle.single_listing.specs.Passes.{map_checks, shape_whole}
 use Rattle.single_listing.proofs.map.check.Goals as goal

@@ -4,7 +4,7 @@ use mathlib.Core.Bool.{not}
 use native.Mathlib.Nat.{le_antisymm}
 use borrow.Author.Rules.{rules}
 use Rattle.definitions.specs.Answers.{refuse_first}
-use Rattle.laws.specs.AnswerLaws.{refuse_at, refuse_next}
+use Rattle.laws.proofs.AnswerLaws.{refuse_at, refuse_next}
 use Rattle.single_spec.specs.Profile.{check26}
 use mathlib.Core.Path.{ap}
 use Rattle.single_order.proofs.columns.check.Goals as goal

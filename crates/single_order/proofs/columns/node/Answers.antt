@@ -9,7 +9,7 @@ use borrow.Author.Rules.{rules, sfits_of}
 use Rattle.definitions.specs.System.{coef}
 use Rattle.single_order.specs.Rows.{map_of}
 use Rattle.single_spec.specs.First.{find_to}
-use Rattle.single_spec.specs.FirstLaws.{first_here, first_next}
+use Rattle.single_spec.proofs.FirstLaws.{first_here, first_next}
 use Rattle.single_spec.specs.Profile.{is_unit, node_of}
 use Rattle.single_order.specs.Units.{place_inside}
 use Rattle.single_order.proofs.columns.node.Goals as goal

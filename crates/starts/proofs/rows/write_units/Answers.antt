@@ -5,7 +5,7 @@ use native.Mathlib.Nat.{le_antisymm}
 use native.Mathlib.Omega.{arith}
 use borrow.Author.Rules.{rules}
 use Rattle.definitions.specs.Tables.{units_to}
-use Rattle.laws.specs.TableLaws.{row_fits, units_next}
+use Rattle.laws.proofs.TableLaws.{row_fits, units_next}
 use Rattle.starts.specs.Units.{units_cleared, zero_row}
 use Rattle.starts.proofs.rows.write_units.Goals as goal
 

@@ -5,17 +5,17 @@ use Prim.Native.Nat.{ℕ, ◌+◌, ◌*◌, ◌≤◌, ◌<◌}
 use native.Mathlib.Omega.{arith}
 use lib.Count.{count_trailing_zeros}
 use lib.ListN.{length, get_or, set}
-use Rattle.linear.specs.TestLaws.{is_false}
+use Rattle.linear.proofs.TestLaws.{is_false}
 use Rattle.linear.specs.Tuples.{total}
-use Rattle.linear.specs.TupleLaws.{total_same}
+use Rattle.linear.proofs.TupleLaws.{total_same}
 use Rattle.definitions.specs.Tables.{at, frozen}
-use Rattle.laws.specs.MarkLaws.{frozen_none}
-use Rattle.laws.specs.TableLaws.{row_fits}
+use Rattle.laws.proofs.MarkLaws.{frozen_none}
+use Rattle.laws.proofs.TableLaws.{row_fits}
 use Rattle.products.specs.Scan.{left_all, next_inside}
 use Rattle.products.specs.ProductLaws.{combined_less, combined_over, level_products, products_small}
-use Rattle.step.specs.Totals.{total_fits, totals_row}
+use Rattle.step.proofs.Totals.{total_fits, totals_row}
 use Rattle.products.specs.Totals.{totals_less}
-use Rattle.step.specs.Pushed.{raise_row, none_pushed}
+use Rattle.step.proofs.Pushed.{raise_row, none_pushed}
 use Rattle.step.proofs.children.push.Goals as goal
 use Rattle.step.proofs.children.push.Goals.{After-push_others-height, Else-made-eq0, Start}
 

@@ -6,17 +6,18 @@ use lib.Count.{count_trailing_zeros}
 use lib.ListN.{length, get_or}
 use lib.Pow.{pow_mono}
 use Rattle.linear.specs.Tests.{count_to}
-use Rattle.linear.specs.TestLaws.{count_step}
+use Rattle.linear.proofs.TestLaws.{count_step}
 use Rattle.linear.specs.Tuples.{Same, total}
-use Rattle.linear.specs.TupleLaws.{total_same}
+use Rattle.linear.proofs.TupleLaws.{total_same}
 use Rattle.definitions.specs.Tables.{at, frozen}
-use Rattle.laws.specs.MarkLaws.{shift_one}
-use Rattle.laws.specs.TableLaws.{row_fits}
+use Rattle.laws.proofs.MarkLaws.{shift_one}
+use Rattle.laws.proofs.TableLaws.{row_fits}
 use Rattle.table_rows.specs.Rows.{tuple}
 use Rattle.products.specs.Scan.{Left, left_all, left_next, next_first, next_holds, next_inside, next_le, next_less}
 use Rattle.products.specs.ProductLaws.{combined_child, level_products, products_small}
-use Rattle.step.specs.Totals.{total_fits, totals_row}
-use Rattle.step.specs.Pushed.{Parent, others_same, others_written, parent_same, pushed_first, pushed_low, pushed_next, pushed_room}
+use Rattle.step.proofs.Totals.{total_fits, totals_row}
+use Rattle.step.specs.Pushed.{Parent}
+use Rattle.step.proofs.Pushed.{others_same, others_written, parent_same, pushed_first, pushed_low, pushed_next, pushed_room}
 use Rattle.step.proofs.children.push_others.Goals as goal
 use Rattle.step.proofs.children.push_others.Goals.{After-slice_known-3-1, In-loop-rest, Start}
 

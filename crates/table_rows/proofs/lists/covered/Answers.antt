@@ -1,6 +1,6 @@
 -- `lists::covered` meets its contract: some row is at or below t exactly where there is a highest place of one. Assumes nothing.
 use mathlib.Core.Path.{sym, ap, ◌∙◌}
-use Rattle.laws.specs.HighestLaws.{covered_none, covered_some}
+use Rattle.laws.proofs.HighestLaws.{covered_none, covered_some}
 use Rattle.table_rows.specs.Places.{place_of}
 use Rattle.table_rows.proofs.lists.covered.Goals as goal
 

@@ -7,12 +7,12 @@ use lib.Dec.{leb}
 use borrow.Author.Rules.{rules}
 use borrow.Author.Tests.{le-leb, lt-leb}
 use Rattle.linear.specs.Tests.{all_to}
-use Rattle.linear.specs.LoopLaws.{all_next}
+use Rattle.linear.proofs.LoopLaws.{all_next}
 use Rattle.definitions.specs.Highest.{highest}
 use Rattle.definitions.specs.System.{is_at_or_below}
 use Rattle.table_rows.specs.Places.{place_of}
 use Rattle.table_rows.specs.Rows.{tuple}
-use Rattle.table_rows.specs.Search.{left_all, left_fits, left_here, left_long, left_next, left_none, left_place}
+use Rattle.table_rows.proofs.Search.{left_all, left_fits, left_here, left_long, left_next, left_none, left_place}
 use Rattle.table_rows.proofs.lists.highest.Goals as goal
 use Rattle.table_rows.proofs.lists.highest.Goals.{Joined-j-eq0, else-j-eq0, then-j-eq0}
 

@@ -1,6 +1,6 @@
 -- `rows::below` meets its contract. No number passed is above its fellow. Assumes nothing.
 use Rattle.definitions.specs.System.{is_at_or_below}
-use Rattle.linear.specs.LoopLaws.{all_fails, all_next}
+use Rattle.linear.proofs.LoopLaws.{all_fails, all_next}
 use Rattle.linear.specs.Tests.{all_to}
 use borrow.Author.Tests.{le-leb, lt-leb}
 use native.Mathlib.Nat.{le_antisymm}

@@ -1,5 +1,5 @@
 -- `rows::copy` meets its contract. The numbers passed have been written, and those ahead are as they were. Assumes nothing.
-use Rattle.table_rows.specs.Keeping.{copied_more}
+use Rattle.table_rows.proofs.Keeping.{copied_more}
 use Rattle.definitions.specs.Tables.{write_to}
 use lib.ListN.{length-set}
 use native.Mathlib.Nat.{le_antisymm}

@@ -4,7 +4,7 @@ use native.Mathlib.Nat.{le_antisymm}
 use native.Mathlib.Omega.{arith}
 use lib.ListN.{length-set}
 use borrow.Author.Rules.{rules}
-use Rattle.table_rows.specs.Rows.{holds_more}
+use Rattle.table_rows.proofs.RowsTheorems.{holds_more}
 use Rattle.table_rows.proofs.rows.read.Goals as goal
 
 pub loop-j-init : goal.loop-j-init

@@ -1,5 +1,5 @@
 -- `rows::small_at` meets its contract. No number passed is above the limit. Assumes nothing.
-use Rattle.linear.specs.LoopLaws.{all_fails, all_next}
+use Rattle.linear.proofs.LoopLaws.{all_fails, all_next}
 use Rattle.linear.specs.Tests.{all_to}
 use borrow.Author.Tests.{le-leb, lt-leb}
 use native.Mathlib.Nat.{le_antisymm}

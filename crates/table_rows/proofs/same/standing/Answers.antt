@@ -7,10 +7,10 @@ use lib.Dec.{eqb}
 use borrow.Author.Rules.{rules}
 use borrow.Author.Tests.{eq-eqb, ne_eqb}
 use Rattle.linear.specs.Tests.{all_to}
-use Rattle.linear.specs.LoopLaws.{all_next}
+use Rattle.linear.proofs.LoopLaws.{all_next}
 use Rattle.definitions.specs.Reasons.{is_same, standing}
 use Rattle.table_rows.specs.Places.{place_of}
-use Rattle.table_rows.specs.Search.{left_all, left_fits, left_here, left_long, left_next, left_none, left_place}
+use Rattle.table_rows.proofs.Search.{left_all, left_fits, left_here, left_long, left_next, left_none, left_place}
 use Rattle.table_rows.proofs.same.standing.Goals as goal
 
 pub rows-init : goal.rows-init

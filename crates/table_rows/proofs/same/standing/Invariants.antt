@@ -8,7 +8,7 @@ use lib.ListN.{length, get_or}
 use Rattle.linear.specs.Tests.{all_to}
 use Rattle.table_rows.specs.declared.lists.Place.TheVariants.{Nowhere}
 use Rattle.table_rows.specs.Rows.{tuple}
-use Rattle.table_rows.specs.Search.{Left}
+use Rattle.table_rows.proofs.Search.{Left}
 use Rattle.table_rows.proofs.same.standing.Given as goal
 
 abbrev pub invariant-loop-j : goal.invariant-loop-j

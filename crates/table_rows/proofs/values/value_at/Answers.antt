@@ -1,8 +1,8 @@
 -- `values::value_at` meets its contract. The sum is that of the products passed. Assumes nothing.
-use Rattle.linear.specs.Integers.{bits_are}
+use Rattle.linear.proofs.Integers.{bits_are}
 use Rattle.linear.specs.Systems.{inner}
 use Rattle.linear.specs.Sums.{sum_to}
-use Rattle.table_rows.specs.Small.{product_added, product_fits, sum_read, value_whole}
+use Rattle.table_rows.proofs.Small.{product_added, product_fits, sum_read, value_whole}
 use mathlib.Core.Path.{refl}
 use Prim.Native.Nat.{◌+◌}
 use native.Mathlib.Omega.{arith}

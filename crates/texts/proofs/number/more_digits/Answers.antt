@@ -6,7 +6,7 @@ use mathlib.Core.Path.{◌≡◌, refl, sym, ◌∙◌}
 use native.Mathlib.Omega.{arith}
 use lib.ListN.{get_or}
 use Rattle.texts.specs.Reading.{is_digit, digit}
-use Rattle.texts.specs.NumberLaws.{few_small, room_small, room_next, digit_range, more_none, more_end, more_stop, more_digit}
+use Rattle.texts.proofs.NumberLaws.{few_small, room_small, room_next, digit_range, more_none, more_end, more_stop, more_digit}
 use Rattle.texts.proofs.number.more_digits.Goals as goal
 use Rattle.texts.proofs.number.more_digits.Goals.{Else-not-is_digit}
 

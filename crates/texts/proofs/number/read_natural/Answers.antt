@@ -5,7 +5,7 @@ use mathlib.Core.Path.{◌≡◌, sym, ◌∙◌}
 use native.Mathlib.Omega.{arith}
 use lib.ListN.{get_or}
 use Rattle.texts.specs.Reading.{is_digit, digit}
-use Rattle.texts.specs.NumberLaws.{room_first, digit_range, natural_end, natural_stop, natural_first}
+use Rattle.texts.proofs.NumberLaws.{room_first, digit_range, natural_end, natural_stop, natural_first}
 use Rattle.texts.proofs.number.read_natural.Goals as goal
 use Rattle.texts.proofs.number.read_natural.Goals.{Else-not-is_digit}
 

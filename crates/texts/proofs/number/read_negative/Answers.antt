@@ -3,9 +3,9 @@ use Prim.Native.Nat.{◌<◌}
 use mathlib.Core.Path.{sym, ◌∙◌}
 use mir.Facts.{to_z-of_z}
 use Rattle.texts.specs.Reading.{negative}
-use Rattle.texts.specs.NumberLaws.{natural_small}
-use Rattle.texts.specs.ParseLaws.{then_malformed, then_parsed}
-use Rattle.texts.specs.SignLaws.{fits_word, word_value, fits_negated, negated}
+use Rattle.texts.proofs.NumberLaws.{natural_small}
+use Rattle.texts.proofs.ParseLaws.{then_malformed, then_parsed}
+use Rattle.texts.proofs.SignLaws.{fits_word, word_value, fits_negated, negated}
 use Rattle.texts.proofs.number.read_negative.Goals as goal
 use Rattle.texts.proofs.number.read_negative.Goals.{In-Parsed}
 

@@ -2,9 +2,9 @@
 use Prim.Native.Nat.{◌<◌}
 use mathlib.Core.Path.{sym, ◌∙◌}
 use Rattle.texts.specs.Reading.{unsigned}
-use Rattle.texts.specs.ParseLaws.{then_malformed, then_parsed}
-use Rattle.texts.specs.NumberLaws.{natural_small, number_end, number_minus, number_digits}
-use Rattle.texts.specs.SignLaws.{fits_word, word_value}
+use Rattle.texts.proofs.ParseLaws.{then_malformed, then_parsed}
+use Rattle.texts.proofs.NumberLaws.{natural_small, number_end, number_minus, number_digits}
+use Rattle.texts.proofs.SignLaws.{fits_word, word_value}
 use Rattle.texts.proofs.number.read_number.Goals as goal
 use Rattle.texts.proofs.number.read_number.Goals.{In-Parsed}
 

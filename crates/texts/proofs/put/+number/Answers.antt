@@ -1,7 +1,7 @@
 -- `texts::put::number` meets its contract: the digits before the last are those of a tenth. Assumes nothing.
 use native.Mathlib.Omega.{arith}
-use Rattle.texts.specs.DecimalLaws.{decimal_digit, decimal_more, digits_more, digits_one}
-use Rattle.texts.specs.Put.{put_then}
+use Rattle.texts.proofs.DecimalLaws.{decimal_digit, decimal_more, digits_more, digits_one}
+use Rattle.texts.proofs.PutTheorems.{put_then}
 use Rattle.texts.proofs.put.+number.Goals as goal
 
 pub byte-requires : goal.byte-requires

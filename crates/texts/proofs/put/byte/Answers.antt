@@ -1,5 +1,5 @@
 -- `texts::put::byte` meets its contract. Assumes nothing.
-use Rattle.texts.specs.Put.{put_byte}
+use Rattle.texts.proofs.PutTheorems.{put_byte}
 use Rattle.texts.proofs.put.byte.Goals as goal
 
 pub returns : goal.returns

@@ -4,8 +4,8 @@ use native.Mathlib.Omega.{arith}
 use lib.IntN.{nat_abs}
 use lib.ListN.{length}
 use mir.Facts.{to_z-of_z}
-use Rattle.texts.specs.SignLaws.{numeral_negative, numeral_natural}
-use Rattle.texts.specs.Put.{put_then}
+use Rattle.texts.proofs.SignLaws.{numeral_negative, numeral_natural}
+use Rattle.texts.proofs.PutTheorems.{put_then}
 use Rattle.texts.proofs.put.signed.Goals as goal
 
 pub byte-next-requires : goal.byte-next-requires

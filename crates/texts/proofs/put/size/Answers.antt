@@ -2,10 +2,10 @@
 use native.Mathlib.Omega.{arith}
 use lib.IntN.{pos, neg_ℤ, ◌-ℤ◌, +ℤ_idl}
 use mir.Val.{SFits}
-use Rattle.texts.specs.SignLaws.{size_negative, size_other}
+use Rattle.texts.proofs.SignLaws.{size_negative, size_other}
 use mir.Facts.{to_z-of_z}
 use mir.Syntax.{w32}
-use Rattle.linear.specs.Integers.{sfits_nat_abs, nat_abs_negℤ}
+use Rattle.linear.proofs.Integers.{sfits_nat_abs, nat_abs_negℤ}
 use Rattle.texts.proofs.put.size.Goals as goal
 use Rattle.texts.proofs.put.size.Goals.{Start}
 

@@ -1,7 +1,7 @@
 -- `texts::put::word` meets its contract. The bytes passed have been written. Assumes nothing.
 use native.Mathlib.Nat.{add-zero}
 use borrow.Author.Rules.{rules}
-use Rattle.texts.specs.Put.{put_none, put_next, put_all}
+use Rattle.texts.proofs.PutTheorems.{put_none, put_next, put_all}
 use Rattle.texts.proofs.put.word.Goals as goal
 
 pub loop-i-init : goal.loop-i-init

@@ -5,7 +5,7 @@ use lib.ListN.{length-set}
 use mir.Facts.{to_z-of_z}
 use borrow.Author.Rules.{rules, sfits_of}
 use lib.IntN.{pos}
-use Rattle.linear.specs.Copies.{copied_next, copied_all}
+use Rattle.linear.proofs.Copies.{copied_next, copied_all}
 use Rattle.texts.proofs.rows.copy.Goals as goal
 
 pub loop-i-init : goal.loop-i-init

@@ -10,7 +10,8 @@ use Rattle.definitions.specs.Input.{Input, alone, input_with, limit_of}
 use Rattle.definitions.specs.Machine.{Outcome, walk}
 use Rattle.definitions.specs.System.{plain}
 use Rattle.definitions.specs.Tables.{State}
-use Rattle.laws.specs.LowerLaws.{ValidFrom, plain_valid}
+use Rattle.laws.specs.LowerLaws.{ValidFrom}
+use Rattle.laws.proofs.LowerLaws.{plain_valid}
 use Rattle.calls.specs.Paper.{answer_of, kind_of, state_with, system_with}
 use Rattle.walk.specs.Lower.{change_made, change_valid, changed_walk, ended_by, first_row, plainly, steps_more}
 use Rattle.walk.proofs.lower.both.Goals as goal

@@ -7,8 +7,8 @@ use Rattle.definitions.specs.Input.{Input, alone, bound_of, input_with}
 use Rattle.definitions.specs.Machine.{walk}
 use Rattle.definitions.specs.System.{above}
 use Rattle.definitions.specs.Tables.{State}
-use Rattle.laws.specs.LowerLaws.{above_valid}
-use Rattle.laws.specs.LowerWalk.{above_walks}
+use Rattle.laws.proofs.LowerLaws.{above_valid}
+use Rattle.laws.proofs.LowerWalk.{above_walks}
 use Rattle.calls.specs.Paper.{state_with, system_with}
 use Rattle.walk.proofs.lower.further.Goals as goal
 use Rattle.walk.proofs.lower.further.Goals.{Start}

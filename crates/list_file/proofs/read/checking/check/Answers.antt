@@ -1,6 +1,6 @@
 -- `list_file::read::checking::check` meets its contract: the file, and then the tables. Assumes nothing.
 use Rattle.std.proofs.Common.{◌∙◌}
-use Rattle.list_spec.specs.RuleLaws.{file_in}
+use Rattle.list_spec.proofs.RuleLaws.{file_in}
 use Rattle.list_file.specs.WordCheckLaws.{refused_first, passed_first, passes}
 use Rattle.list_file.specs.ReadLaws.{table_checks, header_read, read_stages}
 use Rattle.list_file.proofs.read.checking.check.Goals as goal

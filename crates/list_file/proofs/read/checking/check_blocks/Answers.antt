@@ -1,6 +1,6 @@
 -- `list_file::read::checking::check_blocks` meets its contract: the length, block 0, and what comes after it. Assumes nothing.
 use Rattle.std.proofs.Common.{◌∙◌}
-use Rattle.list_spec.specs.RuleLaws.{header_in}
+use Rattle.list_spec.proofs.RuleLaws.{header_in}
 use Rattle.list_file.specs.WordCheckLaws.{refused_first, passed_first, passes}
 use Rattle.list_file.specs.ReadLaws.{later_checks, too_short, file_stages}
 use Rattle.list_file.proofs.read.checking.check_blocks.Goals as goal

@@ -1,7 +1,7 @@
 -- `list_file::read::checking::word_in_range` meets its contract: a coefficient, a component or filler. Assumes nothing.
 use Rattle.std.proofs.Common.{not, sym, ap, ◌∙◌, to_z-of_z, w32}
 use borrow.Author.Rules.{sfits_of}
-use Rattle.list_spec.specs.Ranges.{coefficient_word, component_word, filler_word}
+use Rattle.list_spec.proofs.Ranges.{coefficient_word, component_word, filler_word}
 use Rattle.definitions.specs.Refusals.{out_of_range}
 use Rattle.list_file.proofs.read.checking.word_in_range.Goals as goal
 

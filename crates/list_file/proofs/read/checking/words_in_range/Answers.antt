@@ -1,6 +1,6 @@
 -- `list_file::read::checking::words_in_range` meets its contract. Every word passed is in range. Assumes nothing.
 use Rattle.std.proofs.Common.{sym, refl, ◌∙◌, le_antisymm, arith}
-use Rattle.linear.specs.LoopLaws.{all_next, all_fails}
+use Rattle.linear.proofs.LoopLaws.{all_next, all_fails}
 use Rattle.linear.specs.Tests.{all_to}
 use Rattle.list_spec.specs.Reading.{block_in_range}
 use Rattle.list_file.proofs.read.checking.words_in_range.Goals as goal

@@ -1,7 +1,7 @@
 -- `list_file::read::tables::copy_coefs` meets its contract. The entries passed are those of the stream, and the others are as they were. Assumes nothing.
 use Rattle.std.proofs.Common.{pos, refl, ◌∙◌, le_antisymm, arith, length-set, to_z-of_z, w32}
 use borrow.Author.Rules.{sfits_of}
-use Rattle.list_spec.specs.ListLaws.{listed_next}
+use Rattle.list_spec.proofs.ListLaws.{listed_next}
 use Rattle.list_spec.specs.Reading.{stream_at, listed}
 use Rattle.list_spec.specs.Words.{signed}
 use Rattle.list_file.proofs.read.tables.copy_coefs.Goals as goal

@@ -1,7 +1,7 @@
 -- `list_file::write::checking::check` meets its contract: the first of the counts, the coefficients and the rest to refuse decides. Assumes nothing.
 use Rattle.std.proofs.Common.{◌∙◌}
 use Rattle.definitions.specs.Answers.{◌then◌}
-use Rattle.calls.specs.CallLaws.{passes}
+use Rattle.calls.proofs.CallLaws.{passes}
 use Rattle.checks.specs.CheckLaws.{refused_first, passed_first}
 use Rattle.checks.specs.Coefficients.{coefficient_checks}
 use Rattle.list_spec.specs.Form.{ListFile}

@@ -1,7 +1,7 @@
 -- `list_file::write::content::stream_word` meets its contract: a coefficient, a component or filler. Assumes nothing.
 use Rattle.std.proofs.Common.{◌≡◌, ◌+◌, ◌-◌, length, get_or, pos, sym, ◌∙◌, arith, rules, to_z-of_z, w32}
 use Rattle.list_spec.specs.Form.{ListFile}
-use Rattle.list_spec.specs.ContentLaws.{stream_coef, stream_row, stream_filler}
+use Rattle.list_spec.proofs.ContentLaws.{stream_coef, stream_row, stream_filler}
 use Rattle.list_file.specs.WriteAnswer.{list_of}
 use Rattle.list_file.proofs.write.content.stream_word.Goals as goal
 use Rattle.list_file.proofs.write.content.stream_word.Goals.{Start}

@@ -5,7 +5,7 @@ use native.Mathlib.Omega.{arith}
 use lib.ListN.{set}
 use Rattle.definitions.specs.Tables.{write_row}
 use Rattle.table_rows.specs.Rows.{tuple}
-use Rattle.step.specs.RowLaws.{write_raise}
+use Rattle.step.proofs.RowLaws.{write_raise}
 use Rattle.step.proofs.children.rows.write_child.Goals as goal
 
 pub returns : goal.returns

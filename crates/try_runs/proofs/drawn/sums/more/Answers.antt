@@ -1,7 +1,7 @@
 -- `sums::more` is safe: within the ranges that it tests neither the product nor the sum wraps. Assumes nothing.
 use Rattle.std.proofs.Common.{◌≡◌, ℕ, suc, ◌≤◌, false, ℤ, pos, negsuc, ◌+ℤ◌, ◌*ℤ◌, nat_abs, mul-le-mul, arith, to_z-of_z, w64, SFits, ltb-false}
 use lib.Signed.{lt_z}
-use Rattle.linear.specs.Integers.{sfits_nat_abs, nat_abs_+ℤ, nat_abs_*ℤ}
+use Rattle.linear.proofs.Integers.{sfits_nat_abs, nat_abs_+ℤ, nat_abs_*ℤ}
 use Rattle.try_runs.proofs.drawn.sums.more.Goals as goal
 
 -- what is neither below -(n + 1) nor above n + 1 is at most n + 1 in size

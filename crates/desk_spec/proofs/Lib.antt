@@ -1,0 +1,16 @@
+pub mod Bounds
+pub mod Examples
+pub mod First
+pub mod Frames
+pub mod Groups
+pub mod PromiseExamples
+pub mod Promises
+pub mod Records
+pub mod Rows
+pub mod Rules
+pub mod Runs
+pub mod Second
+pub mod Sweeping
+pub mod Valid
+pub mod Walk
+pub mod Words

@@ -1,0 +1,14 @@
+pub mod Alone
+pub mod CheckRules
+pub mod Examples
+pub mod Fair
+pub mod Order
+pub mod PartLaws
+pub mod Parts
+pub mod Promises
+pub mod ResumeLaws
+pub mod RoundLaws
+pub mod Serving
+pub mod Total
+pub mod TurnLaws
+pub mod Untouched

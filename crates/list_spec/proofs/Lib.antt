@@ -1,0 +1,10 @@
+pub mod AcceptedLaws
+pub mod ContentLaws
+pub mod Facts
+pub mod FileLaws
+pub mod ListLaws
+pub mod Ranges
+pub mod RuleLaws
+pub mod SumLaws
+pub mod WordLaws
+pub mod WrittenLaws

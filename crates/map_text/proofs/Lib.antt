@@ -1,0 +1,9 @@
+pub mod AnswerLaws
+pub mod LineLaws
+pub mod MapLaws
+pub mod ReadLaws
+pub mod RuleLaws
+pub mod SignLaws
+pub mod SplitLaws
+pub mod StageLaws
+pub mod WriteLaws

@@ -1,0 +1,3 @@
+pub mod AnswerLaws
+pub mod Answers
+pub mod Taking

@@ -1,0 +1,4 @@
+pub mod AnswerLaws
+pub mod Parts
+pub mod PartsLaws
+pub mod Plans

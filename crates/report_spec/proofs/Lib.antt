@@ -1,0 +1,4 @@
+pub mod Complete
+pub mod Endings
+pub mod Examples
+pub mod RunLaws

@@ -1,0 +1,5 @@
+pub mod Examples
+pub mod Office
+pub mod Promises
+pub mod SeatRuns
+pub mod TrainingRules

@@ -1,0 +1,11 @@
+pub mod Circuits
+pub mod Examples
+pub mod FirstLaws
+pub mod GraphLaws
+pub mod Lines
+pub mod ListingLaws
+pub mod ProfileLaws
+pub mod Promises
+pub mod Returns
+pub mod Runs
+pub mod Visits

@@ -1,0 +1,9 @@
+pub mod Enlisting
+pub mod GrowLaws
+pub mod Pushed
+pub mod RowLaws
+pub mod Solved
+pub mod StateLaws
+pub mod TakeLaws
+pub mod Taken
+pub mod Totals

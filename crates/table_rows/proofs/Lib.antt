@@ -1,0 +1,5 @@
+pub mod Keeping
+pub mod Limits
+pub mod RowsTheorems
+pub mod Search
+pub mod Small
