@@ -255,7 +255,7 @@ def turn(crate):
         for other in leaf.names:
             if (m, other) not in seen:
                 todo.append((m, other))
-        words = tokens(leaf.text())
+        words = tokens(leaf.text()) - set(re.findall(rf"(?m)^ {{{leaf.indent + 2}}}(?:pub )?({W})(?: {W})* :(?= |$)", leaf.text()) if re.match(r"(?:pub )?record ", leaf.first) else [])
         heads = [h for nd in mod.nodes if nd.children is not None and any(l is leaf for l, _ in nd.each()) for h in ["\n".join(all_heads(nd, leaf))]]
         words |= tokens("\n".join(heads))
         bare = {w for w in words} | {re.sub(r"^_|_$", "", w) for w in words}
