@@ -105,6 +105,12 @@ class Node:
     def text(self):
         return "\n".join(self.lines)
 
+    def fields(self):
+        """The names of a record's fields, which are no citations of what is called so elsewhere."""
+        if not re.match(r"(?:pub )?record ", self.first):
+            return set()
+        return set(re.findall(rf"(?m)^ {{{self.indent + 2}}}(?:pub )?({W})(?: {W})* :(?= |$)", self.text()))
+
     def each(self, above=()):
         """The leaves, each with the modules around it."""
         if self.children is None:
@@ -255,7 +261,7 @@ def turn(crate):
         for other in leaf.names:
             if (m, other) not in seen:
                 todo.append((m, other))
-        words = tokens(leaf.text()) - set(re.findall(rf"(?m)^ {{{leaf.indent + 2}}}(?:pub )?({W})(?: {W})* :(?= |$)", leaf.text()) if re.match(r"(?:pub )?record ", leaf.first) else [])
+        words = tokens(leaf.text()) - leaf.fields()
         heads = [h for nd in mod.nodes if nd.children is not None and any(l is leaf for l, _ in nd.each()) for h in ["\n".join(all_heads(nd, leaf))]]
         words |= tokens("\n".join(heads))
         bare = {w for w in words} | {re.sub(r"^_|_$", "", w) for w in words}
@@ -295,7 +301,7 @@ def turn(crate):
         for name, mod in mods.items():
             for n in list(mod.kept):
                 leaf, above = mod.defs.get(n) or mod.thms.get(n)
-                words = tokens("\n".join([leaf.text(), *(l for a in above for l in a.head)]))
+                words = tokens("\n".join([leaf.text(), *(l for a in above for l in a.head)])) - leaf.fields()
                 for w in words | {re.sub(r"^_|_$", "", w) for w in words}:
                     m2, n2 = (name, w) if w in mod.defs or w in mod.thms else (mod.brought[w][0][len(own) :], mod.brought[w][1]) if w in mod.brought and mod.brought[w][0].startswith(own) else (None, None)
                     if m2 in mods and where.get((m2, n2)) == "proofs":
