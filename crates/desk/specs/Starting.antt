@@ -9,7 +9,7 @@ use Rattle.laws.proofs.Pack.{pack_length}
 use Rattle.laws.proofs.MarkLaws.{shift_one_wide}
 use Rattle.table_rows.specs.Rows.{Holds, tuple}
 use Rattle.desk_spec.specs.Desks.{always, desk_row}
-use Rattle.desk_spec.specs.Rows.{all_counted}
+use Rattle.desk_spec.proofs.Rows.{all_counted}
 use Rattle.desk_rows.specs.Rows.{row_alike}
 
 abbrev pub start_to : (k q : ℕ) (generators stack : List ℕ) → List ℕ

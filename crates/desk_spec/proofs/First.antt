@@ -1,6 +1,6 @@
 -- Theorems about what specs/First.antt defines. Assumes nothing.
 use Rattle.std.proofs.Common.{◌∙◌, ap, inl, inr, mul-le-mul_right, arith}
-use Rattle.std.specs.Prelude.{◌≡◌, List, [], ◌+◌, ◌<◌, ◌≤◌, suc, ℕ, length}
+use Rattle.std.specs.Prelude.{◌≡◌, List, [], ◌*◌, ◌+◌, ◌<◌, ◌≤◌, suc, ℕ, get_or, length}
 use Rattle.std.proofs.Math.Path.{refl}
 use Rattle.definitions.specs.Answers.{go, refuse, refused, started}
 use Rattle.definitions.specs.Machine.{checked, walk}
@@ -8,22 +8,25 @@ use Rattle.definitions.specs.Tables.{State, capacity}
 use Rattle.laws.specs.CheckLaws.{FirstDue}
 use Rattle.laws.proofs.CheckLaws.{check_cases}
 use Rattle.laws.proofs.MachineLaws.{call_refused}
+use Rattle.laws.proofs.TableLaws.{write_length, write_outside}
+use Rattle.laws.proofs.Pack.{pack_beyond, pack_length}
 use Rattle.theorems.proofs.CallAnswers.{goes_on, refused_there}
 use Rattle.theorems.specs.WholeSteps.{Goes, call_keeps}
-use Rattle.desk_spec.specs.Desks.{Desk, desk_begin, desk_grown, desk_listed, desk_machine, desk_resume}
-use Rattle.desk_spec.specs.Desks.{desk_resume_checks, desk_search_checks, desk_start, desk_start_checks, desk_step, freed, settled}
+use Rattle.desk_spec.specs.Desks.{Desk, always, desk_begin, desk_grown, desk_level, desk_listed, desk_machine, desk_makes, desk_resume}
+use Rattle.desk_spec.specs.Desks.{desk_resume_checks, desk_search_checks, desk_start, desk_start_checks, desk_step, desk_top, freed, generator_count, settled}
+use Rattle.desk_spec.specs.Desks.{swept}
+use Rattle.desk_spec.proofs.Rows.{all_counted}
 use Rattle.desk_spec.specs.Rules.{desk_search_rules}
 use Rattle.desk_spec.proofs.Rules.{search_renders}
-use Rattle.desk_spec.specs.Valid.{DeskValid, freed_of}
-use Rattle.desk_spec.proofs.Valid.{resume_valid, search_going, settled_valid, start_shaped, start_valid}
-use Rattle.desk_spec.specs.Valid.{step_has}
-use Rattle.desk_spec.proofs.Valid.{step_valid, valid_resume}
+use Rattle.desk_spec.specs.Valid.{DeskValid}
+use Rattle.desk_spec.proofs.Valid.{freed_has, freed_of, resume_valid, search_going, settled_has, settled_valid, start_shaped, start_valid}
+use Rattle.desk_spec.proofs.Valid.{step_has, step_valid, sweep_leaves, swept_of, valid_resume}
 use Rattle.desk_spec.proofs.Frames.{freed_when, settled_when}
 use Rattle.desk_spec.specs.Runs.{left}
 use Rattle.desk_spec.proofs.Runs.{desk_ruled}
 use Rattle.desk_spec.specs.Walk.{with_list}
 use Rattle.desk_spec.proofs.Walk.{relisted_valid}
-use Rattle.desk_spec.specs.First.{DeskLonger, DeskMarked, Kept, Leaves, Untouched, longer_table, settled_kept, start_kept, step_kept}
+use Rattle.desk_spec.specs.First.{DeskLonger, DeskMarked, Kept, Leaves, Untouched, longer_table}
 
 -- ---- the start
 
@@ -84,6 +87,59 @@ longer_list d budget s e a u (longer_table list same room) more =
     let stays = (settled_when d (with_list t list)).1 h in
     let goes : Goes (desk_machine d) (settled d (with_list t list)) = rw stays (h, full_only d t list ((search_renders d t).refuses 11 [] f) room) in
     goes_on (desk_machine d) (with_list t list) (valid_resume d (with_list t list) v) goes more ∙ ap (λ x. walk more (desk_machine d) (desk_step d x)) stays
+
+nothing_moved : (q : ℕ) (s : State) → Kept q s s
+nothing_moved q s = record { stack_length = refl; above = λ e l. refl; list_length = refl; past = λ e l. refl }
+
+pub swept_kept : (q : ℕ) (s : State) → Kept q s (swept q s)
+swept_kept q s =
+    let o = swept_of q s in
+    record {
+      stack_length = ap length o.stack;
+      above = λ e l. ap (λ stack. get_or stack e 0) o.stack;
+      list_length = o.length_same;
+      past = (sweep_leaves q s).past;
+    }
+
+module _ (d : Desk) (s : State) where
+  pub start_kept : Kept d.q s (desk_start d s)
+  unfolding desk_start
+  start_kept =
+      record {
+        stack_length = pack_length (d.q + 2) s.stack 0 always _ (generator_count d);
+        above = λ e l. pack_beyond (d.q + 2) s.stack 0 always _ (generator_count d) e (rw (all_counted (generator_count d)) (omega arith));
+        list_length = refl;
+        past = λ e l. refl;
+      }
+
+  pub settled_kept : Kept d.q s (settled d s)
+  settled_kept = settled_has (Kept d.q s) d s (swept_kept d.q s) (nothing_moved d.q s)
+
+  freed_kept : Kept d.q s (freed d s)
+  freed_kept = freed_has (Kept d.q s) d s (swept_kept d.q s) (nothing_moved d.q s)
+
+  grown_kept : Kept d.q s (desk_grown d s)
+  unfolding desk_grown
+  grown_kept =
+      record {
+        stack_length = pack_length (d.q + 2) s.stack (desk_level s) (desk_makes d s) _ (generator_count d);
+        above = λ e l. pack_beyond (d.q + 2) s.stack (desk_level s) (desk_makes d s) _ (generator_count d) e l;
+        list_length = refl;
+        past = λ e l. refl;
+      }
+
+listed_kept : (d : Desk) (s t : State) → t.stack ≡ s.stack → Kept d.q s t → Kept d.q s (desk_listed d t)
+unfolding desk_listed
+listed_kept d s t same k =
+    record {
+      stack_length = k.stack_length;
+      above = λ e l. ap (λ stack. get_or stack e 0) same;
+      list_length = write_length (desk_top d t) t.list (t.run.found * d.q) d.q ∙ k.list_length;
+      past = λ e l. write_outside (desk_top d t) t.list (t.run.found * d.q) d.q e (inr (omega arith)) ∙ k.past e (omega arith);
+    }
+
+pub step_kept : (d : Desk) (s : State) → Kept d.q s (desk_step d s)
+step_kept d s = step_has (Kept d.q s) d s (λ y. listed_kept d s (freed d s) (freed_of d s).stack (freed_kept d s)) (λ n. grown_kept d s)
 
 untouched : (d : Desk) (s : State) → Untouched d s s
 untouched d s = record { stack_length = refl; beyond = λ e l. refl; list_length = refl; rest = λ e l. refl }

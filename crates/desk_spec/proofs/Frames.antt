@@ -1,15 +1,16 @@
 -- Theorems about what specs/Frames.antt defines. Assumes nothing.
-use Rattle.std.specs.Prelude.{◌≡◌, refl, Bool, true, false, cond, ◌+◌, ◌*◌, ◌≤◌, ◌<◌, T, eqb, leb, length}
-use Rattle.std.proofs.Common.{ap, inl, le-div_iff_mul-le, arith, eqb→eq, leb→le, le→leb}
+use Rattle.std.specs.Prelude.{◌≡◌, refl, Bool, true, false, cond, ℕ, ◌+◌, ◌*◌, ◌≤◌, ◌<◌, T, eqb, leb, length}
+use Rattle.std.proofs.Common.{◌∙◌, ap, inl, le-div_iff_mul-le, arith, eqb→eq, leb→le, le→leb}
 use Rattle.laws.proofs.TableLaws.{write_inside, write_outside}
 use Rattle.definitions.specs.System.{solves}
 use Rattle.definitions.specs.Tables.{State, at, capacity}
 use Rattle.laws.proofs.Pack.{pack_outside}
-use Rattle.desk_spec.specs.Desks.{Desk, desk_grown, desk_level, desk_listed, desk_makes, desk_step, desk_top, freed, generator_count, second_group}
+use Rattle.theorems.specs.WholeSteps.{call_keeps}
+use Rattle.desk_spec.specs.Desks.{Desk, desk_grown, desk_level, desk_listed, desk_machine, desk_makes, desk_step, desk_top, freed, generator_count, second_group}
 use Rattle.desk_spec.specs.Desks.{settled, swept}
-use Rattle.desk_spec.specs.Valid.{freed_of, step_has}
-use Rattle.desk_spec.proofs.Valid.{same_top, settled_done}
-use Rattle.desk_spec.specs.Frames.{NextRow, TopTaken}
+use Rattle.desk_spec.proofs.Valid.{freed_has, freed_of, same_top, settled_done, settled_has, step_has}
+use Rattle.desk_spec.specs.Runs.{left}
+use Rattle.desk_spec.specs.Frames.{Aside, NextRow, TopTaken}
 
 -- ---- when a sweep is made
 
@@ -77,3 +78,29 @@ step_takes d s = step_has (TopTaken d s) d s enlisting growing
           lists = λ y. absurd (n y);
           grows = λ z. record { list = refl; found = refl };
         }
+
+aside_same : (s : State) → Aside s s
+aside_same s = record { kind = refl; second = refl; found2 = refl; steps2 = refl }
+
+aside_more : {s t u : State} → Aside s t → Aside t u → Aside s u
+aside_more a b = record { kind = b.kind ∙ a.kind; second = b.second ∙ a.second; found2 = b.found2 ∙ a.found2; steps2 = b.steps2 ∙ a.steps2 }
+
+swept_aside : (q : ℕ) (s : State) → Aside s (swept q s)
+unfolding swept
+swept_aside q s = record { kind = refl; second = refl; found2 = refl; steps2 = refl }
+
+settled_aside : (d : Desk) (s : State) → Aside s (settled d s)
+settled_aside d s = settled_has (Aside s) d s (swept_aside d.q s) (aside_same s)
+
+step_aside : (d : Desk) (s : State) → Aside s (desk_step d s)
+unfolding desk_listed desk_grown
+step_aside d s =
+    step_has (Aside s) d s (λ y. enlisting (freed d s) (freed_has (Aside s) d s (swept_aside d.q s) (aside_same s)))
+    (λ n. record { kind = refl; second = refl; found2 = refl; steps2 = refl })
+  where
+    enlisting : (t : State) → Aside s t → Aside s (desk_listed d t)
+    enlisting t a = record { kind = a.kind; second = a.second; found2 = a.found2; steps2 = a.steps2 }
+
+pub aside_kept : (budget : ℕ) (d : Desk) (s : State) → Aside s (left budget d s)
+aside_kept budget d s =
+    call_keeps (desk_machine d) (Aside s) (λ t a. aside_more a (settled_aside d t)) (λ t a g. aside_more a (step_aside d t)) budget s (aside_same s)

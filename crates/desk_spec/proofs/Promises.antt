@@ -32,15 +32,12 @@ use Rattle.desk_spec.specs.Desks.{generator_count, generators_in_order, second_g
 use Rattle.desk_spec.specs.Rules.{DeskInOrder, desk_search_rules}
 use Rattle.desk_spec.proofs.Rules.{order_from, resume_renders, start_renders}
 use Rattle.desk_spec.proofs.Rows.{raises_free}
-use Rattle.desk_spec.specs.Valid.{DeskValid, freed_of}
-use Rattle.desk_spec.proofs.Valid.{resume_valid, search_going, settled_again, settled_done, settled_of, settled_valid}
-use Rattle.desk_spec.specs.Valid.{sweep_leaves}
-use Rattle.desk_spec.proofs.Valid.{step_valid, valid_resume}
+use Rattle.desk_spec.specs.Valid.{DeskValid}
+use Rattle.desk_spec.proofs.Valid.{freed_of, resume_valid, search_going, settled_again, settled_done, settled_of, settled_valid}
+use Rattle.desk_spec.proofs.Valid.{step_valid, sweep_leaves, valid_resume}
 use Rattle.desk_spec.proofs.First.{begin_marked, begin_untouched, left_goes, longer_list, resume_marked}
-use Rattle.desk_spec.specs.First.{settled_kept, start_kept, step_kept}
-use Rattle.desk_spec.proofs.First.{resume_untouched, step_counts}
-use Rattle.desk_spec.specs.Frames.{aside_kept}
-use Rattle.desk_spec.proofs.Frames.{freed_when, settled_when, step_takes}
+use Rattle.desk_spec.proofs.First.{resume_untouched, settled_kept, start_kept, step_counts, step_kept}
+use Rattle.desk_spec.proofs.Frames.{aside_kept, freed_when, settled_when, step_takes}
 use Rattle.desk_spec.specs.Groups.{FirstGroup, both_groups, whole_system}
 use Rattle.desk_spec.proofs.Groups.{handed_over}
 use Rattle.desk_spec.specs.Runs.{DeskRun, continued, left}

@@ -1,5 +1,5 @@
--- Theorems about what specs/Rows.antt defines. Assumes nothing.
-use Rattle.std.specs.Prelude.{◌≡◌, ◌⊎◌, Bool, not, List, ℕ, ◌+◌, ◌*◌, ◌-◌, ◌^◌, ◌/◌, ◌%◌, ◌≤◌, ◌<◌, T, eqb, ltb, pos, length, ◌<ℤ◌}
+-- Rows of the second walk's stack table: what a start and the children of a step write, and when raising by a generator makes a child. Assumes nothing.
+use Rattle.std.specs.Prelude.{◌≡◌, refl, ◌⊎◌, Bool, not, List, ℕ, zero, suc, ◌+◌, ◌*◌, ◌-◌, ◌^◌, ◌/◌, ◌%◌, ◌≤◌, ◌<◌, T, eqb, ltb, pos, length, ◌<ℤ◌}
 use Rattle.std.proofs.Common.{◌∙◌, ap₂, arith, lt→ltb}
 use Rattle.std.proofs.Math.Logic.{inl, inr}
 use Rattle.std.proofs.Math.Dec.{T_not, not_T, eqb_refl, eqb→eq, ltb→lt}
@@ -14,7 +14,6 @@ use Rattle.laws.proofs.SystemLaws.{below_from, below_to}
 use Rattle.laws.specs.Pack.{pack_to}
 use Rattle.laws.proofs.Pack.{pack_outside, pack_row}
 use Rattle.desk_spec.specs.Desks.{Desk, always, desk_children, desk_marks, desk_row, generator, generator_count, plus, raises, towards_generator, word}
-use Rattle.desk_spec.specs.Rows.{all_counted}
 
 -- ---- a row: its tuple, and its marks in two numbers
 
@@ -43,6 +42,13 @@ row_is q table k x marks h =
       tuple = λ j jq. h j (omega arith) ∙ row_tuple q x marks j jq;
       marks_are = omega (arith, h q (omega arith), h (q + 1) (omega arith), row_low q x marks, row_high q x marks);
     }
+
+-- ---- the start: a row for each generator
+
+pub all_counted : (k : ℕ) → count_to k always ≡ k
+unfolding count_to
+all_counted zero = refl
+all_counted (suc k) = omega (arith, all_counted k)
 
 abbrev pub start_rows : Desk → List ℕ → List ℕ
 start_rows d stack = pack_to (generator_count d) (d.q + 2) stack 0 always (λ k. desk_row d.q (generator d k) (2 ^ k - 1))

@@ -10,7 +10,8 @@ use Rattle.definitions.specs.Tables.{State, at}
 use Rattle.theorems.specs.CallAnswers.{CallAnswers, Ruled, started_goes}
 use Rattle.theorems.proofs.CallAnswers.{call_answers}
 use Rattle.theorems.specs.Listed.{Exactly}
-use Rattle.theorems.specs.WholeSteps.{call_keeps, called, settled_after}
+use Rattle.theorems.specs.WholeSteps.{call_keeps, called}
+use Rattle.theorems.proofs.WholeSteps.{settled_after}
 use Rattle.linear.proofs.Loops.{Solutions}
 use Rattle.desk_spec.specs.Desks.{Desk, desk_begin, desk_machine, desk_resume, desk_resume_checks, desk_resume_steps, desk_start_checks, generator, generator_count}
 use Rattle.desk_spec.specs.Desks.{settled, swept}

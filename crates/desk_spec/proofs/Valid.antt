@@ -3,7 +3,7 @@ use Rattle.std.specs.Prelude.{◌≡◌, refl, Bool, cond, ℕ, suc, ◌+◌, �
 use Rattle.std.proofs.Common.{ap₂, inl, inr, le-div_iff_mul-le, mul-le-mul_right, arith}
 use Rattle.std.proofs.Math.Bool.{true, false}
 use Rattle.linear.proofs.Cases.{split}
-use Rattle.linear.proofs.TestLaws.{T-dec, count_at}
+use Rattle.linear.proofs.TestLaws.{T-dec, count_at, count_le}
 use Rattle.linear.specs.Tests.{count_to}
 use Rattle.linear.proofs.TupleLaws.{total_most}
 use Rattle.definitions.specs.Answers.{go}
@@ -15,18 +15,18 @@ use Rattle.laws.proofs.MarkLaws.{marks_count, marks_few, marks_fit, ones_count, 
 use Rattle.laws.proofs.RefusalLaws.{at_most, equal}
 use Rattle.laws.proofs.SystemLaws.{fails_fails, solves_solution}
 use Rattle.laws.proofs.TableLaws.{row_before, write_length}
-use Rattle.laws.proofs.Again.{sweep_again}
-use Rattle.laws.proofs.Pack.{pack_length}
+use Rattle.laws.proofs.Again.{sweep_again, table_swept}
+use Rattle.laws.proofs.Pack.{pack_beyond, pack_length}
 use Rattle.desk_spec.specs.Records.{is_desk, lent_with, recounted}
 use Rattle.desk_spec.proofs.Records.{desk_is, is_desk_lem}
 use Rattle.desk_spec.specs.Desks.{Desk, always, deepest_limit, desk_deeper, desk_grown, desk_level, desk_listed, desk_makes, desk_marks, desk_resume_checks}
 use Rattle.desk_spec.specs.Desks.{desk_search_checks, desk_start, desk_start_checks, desk_step, desk_top, desk_top_marks, desk_tuple, freed, generator}
-use Rattle.desk_spec.specs.Desks.{generator_count, image_limit, is_done, most_generators, plus, second_group, settled, swept}
+use Rattle.desk_spec.specs.Desks.{generator_count, image_limit, is_done, is_full, most_generators, plus, second_group, settled, stays, swept}
 use Rattle.desk_spec.proofs.Rows.{child_is, marks_kept, raises_free, rows_kept, start_row}
 use Rattle.desk_spec.specs.Rules.{DeskInOrder, DeskOutOfOrder, DeskRowInOrder, beyond, deep, desk_resume_rules, high, large, late, many, miscounted}
 use Rattle.desk_spec.specs.Rules.{other_kind, row}
 use Rattle.desk_spec.proofs.Rules.{not_order, resume_renders, search_renders, start_renders}
-use Rattle.desk_spec.specs.Valid.{DeskGoing, DeskShaped, DeskValid, SweepOf, freed_of, none_of, settled_has, stack', step_has, swept_of}
+use Rattle.desk_spec.specs.Valid.{DeskGoing, DeskShaped, DeskValid, SweepLeaves, SweepOf, stack'}
 
 module _ (d : Desk) (s : State) where
   pub start_shaped : desk_start_checks d s ≡ go → DeskShaped d (length s.stack)
@@ -106,6 +106,39 @@ search_going d s o h e =
       small = λ n j jn mj i iq. at_most (plus (desk_top d s) (generator d j) i) most_component
           (λ l. over (fails_fails (second_group d) (desk_top d s) n, (j, jn, mj, i, iq, l)));
     }
+
+pub swept_of : (q : ℕ) (s : State) → SweepOf s (swept q s)
+unfolding swept
+swept_of q s =
+    record {
+      stack = refl;
+      kind = λ e. e;
+      height = refl;
+      steps = refl;
+      deepest = refl;
+      length_same = pack_length q s.list 0 _ _ s.run.found;
+      fewer = count_le (stays q s) s.run.found;
+    }
+
+none_of : (s : State) → SweepOf s s
+none_of s = record { stack = refl; kind = λ e. e; height = refl; steps = refl; deepest = refl; length_same = refl; fewer = omega arith }
+
+-- what a sweep keeps, it keeps where it may be due
+module _ (P : State → Type 0) (d : Desk) (s : State) (after : P (swept d.q s)) (now : P s) where
+  maybe : (b : Bool) → P (cond b (swept d.q s) s)
+  maybe true = after
+  maybe false = now
+
+  pub freed_has : P (freed d s)
+  unfolding freed
+  freed_has = maybe (is_full d s)
+
+  pub settled_has : P (settled d s)
+  unfolding settled
+  settled_has = maybe (is_done s)
+
+pub freed_of : (d : Desk) (s : State) → SweepOf s (freed d s)
+freed_of d s = freed_has (SweepOf s) d s (swept_of d.q s) (none_of s)
 
 pub settled_of : (d : Desk) (s : State) → SweepOf s (settled d s)
 settled_of d s = settled_has (SweepOf s) d s (swept_of d.q s) (none_of s)
@@ -242,6 +275,17 @@ module _ (d : Desk) (s : State) (v : DeskValid d s) (h : 0 < s.run.height) where
               };
         }
 
+-- the two ways of a step
+module _ (P : State → Type 0) (d : Desk) (s : State) where
+  pub step_has : (T (solves (second_group d) (desk_top d s)) → P (desk_listed d (freed d s))) → (¬ (T (solves (second_group d) (desk_top d s))) → P (desk_grown d s))
+      → P (desk_step d s)
+  unfolding desk_step
+  step_has = go' (solves (second_group d) (desk_top d s))
+    where
+      go' : (b : Bool) → (T b → P (desk_listed d (freed d s))) → (¬ (T b) → P (desk_grown d s)) → P (cond b (desk_listed d (freed d s)) (desk_grown d s))
+      go' true y n = y tt
+      go' false y n = n (λ h. h)
+
 pub freed_valid : (d : Desk) (s : State) → DeskValid d s → DeskValid d (freed d s)
 freed_valid d s v = sweep_valid (freed_of d s) v
 
@@ -264,6 +308,11 @@ step_valid d s v g =
 pub settled_done : (d : Desk) (s : State) → s.run.height ≡ 0 → settled d s ≡ swept d.q s
 unfolding settled
 settled_done d s e = rw e refl
+
+pub sweep_leaves : (q : ℕ) (s : State) → SweepLeaves q s (swept q s)
+unfolding swept
+sweep_leaves q s =
+    record { rows = table_swept q s.run.found s.list; past = λ e l. pack_beyond q s.list 0 _ _ s.run.found e (omega arith) }
 
 -- ---- what is done ahead of a step is done once
 

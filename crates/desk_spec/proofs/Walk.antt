@@ -19,10 +19,9 @@ use Rattle.linear.proofs.Loops.{Solutions}
 use Rattle.desk_spec.specs.Desks.{Desk, desk_grown, desk_level, desk_listed, desk_makes, desk_start, desk_step, desk_top, desk_top_marks, desk_tuple, freed}
 use Rattle.desk_spec.specs.Desks.{generator, generator_count, second_group, settled, swept}
 use Rattle.desk_spec.proofs.Rows.{child_is, marks_kept, raises_clear, raises_tried, rows_kept, start_row}
-use Rattle.desk_spec.specs.Valid.{DeskGoing, DeskShaped, DeskValid, freed_has, freed_of}
-use Rattle.desk_spec.proofs.Valid.{children_few, free, freed_room, grown_valid, listed_valid, same_top}
-use Rattle.desk_spec.specs.Valid.{settled_has, step_has, sweep_leaves, swept_of}
-use Rattle.desk_spec.proofs.Valid.{start_valid, sweep_valid}
+use Rattle.desk_spec.specs.Valid.{DeskGoing, DeskShaped, DeskValid}
+use Rattle.desk_spec.proofs.Valid.{children_few, free, freed_has, freed_of, freed_room, grown_valid, listed_valid, same_top}
+use Rattle.desk_spec.proofs.Valid.{settled_has, start_valid, step_has, sweep_leaves, sweep_valid, swept_of}
 use Rattle.desk_spec.specs.Second.{begun, growing, enlisting, relisting, sweeping}
 use Rattle.desk_spec.proofs.Second.{first_onwards}
 use Rattle.desk_spec.specs.Sweeping.{Sweeps}

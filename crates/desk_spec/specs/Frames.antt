@@ -1,14 +1,9 @@
 -- What stays as it is while a run desk by desk goes on: in each step the stack rows below the one taken off and the rows listed, but for a sweep; in each step,
 -- each sweep and each call what is none of such a run's. And when a sweep is made. Assumes nothing.
-use Rattle.std.specs.Prelude.{◌≡◌, refl, ℕ, ◌+◌, ◌*◌, ◌<◌, T, get_or}
-use Rattle.std.proofs.Common.{◌∙◌}
+use Rattle.std.specs.Prelude.{◌≡◌, ℕ, ◌+◌, ◌*◌, ◌<◌, T, get_or}
 use Rattle.definitions.specs.System.{solves}
 use Rattle.definitions.specs.Tables.{State, at, capacity}
-use Rattle.theorems.specs.WholeSteps.{call_keeps}
-use Rattle.desk_spec.specs.Desks.{Desk, desk_grown, desk_level, desk_listed, desk_machine, desk_step, desk_top, freed, second_group}
-use Rattle.desk_spec.specs.Desks.{settled, swept}
-use Rattle.desk_spec.specs.Valid.{freed_has, settled_has, step_has}
-use Rattle.desk_spec.specs.Runs.{left}
+use Rattle.desk_spec.specs.Desks.{Desk, desk_level, desk_top, freed, second_group}
 
 -- ---- each step
 
@@ -41,29 +36,3 @@ pub record Aside (s t : State) : Type 0 where
   pub second : t.second ≡ s.second
   pub found2 : t.run.found2 ≡ s.run.found2
   pub steps2 : t.run.steps2 ≡ s.run.steps2
-
-aside_same : (s : State) → Aside s s
-aside_same s = record { kind = refl; second = refl; found2 = refl; steps2 = refl }
-
-aside_more : {s t u : State} → Aside s t → Aside t u → Aside s u
-aside_more a b = record { kind = b.kind ∙ a.kind; second = b.second ∙ a.second; found2 = b.found2 ∙ a.found2; steps2 = b.steps2 ∙ a.steps2 }
-
-swept_aside : (q : ℕ) (s : State) → Aside s (swept q s)
-unfolding swept
-swept_aside q s = record { kind = refl; second = refl; found2 = refl; steps2 = refl }
-
-settled_aside : (d : Desk) (s : State) → Aside s (settled d s)
-settled_aside d s = settled_has (Aside s) d s (swept_aside d.q s) (aside_same s)
-
-step_aside : (d : Desk) (s : State) → Aside s (desk_step d s)
-unfolding desk_listed desk_grown
-step_aside d s =
-    step_has (Aside s) d s (λ y. enlisting (freed d s) (freed_has (Aside s) d s (swept_aside d.q s) (aside_same s)))
-    (λ n. record { kind = refl; second = refl; found2 = refl; steps2 = refl })
-  where
-    enlisting : (t : State) → Aside s t → Aside s (desk_listed d t)
-    enlisting t a = record { kind = a.kind; second = a.second; found2 = a.found2; steps2 = a.steps2 }
-
-pub aside_kept : (budget : ℕ) (d : Desk) (s : State) → Aside s (left budget d s)
-aside_kept budget d s =
-    call_keeps (desk_machine d) (Aside s) (λ t a. aside_more a (settled_aside d t)) (λ t a g. aside_more a (step_aside d t)) budget s (aside_same s)

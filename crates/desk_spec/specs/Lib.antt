@@ -1,7 +1,6 @@
 pub mod Records
 pub mod Desks
 pub mod Rules
-pub mod Rows
 pub mod Valid
 pub mod Sweeping
 pub mod Second

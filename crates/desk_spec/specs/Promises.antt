@@ -17,8 +17,7 @@ use Rattle.desk_spec.specs.Desks.{generator_count, settled, swept}
 use Rattle.desk_spec.specs.Rules.{desk_resume_rules, desk_search_rules, desk_start_rules}
 use Rattle.desk_spec.specs.Valid.{SweepLeaves}
 use Rattle.desk_spec.specs.First.{DeskLonger, DeskMarked, Kept, Untouched}
-use Rattle.desk_spec.specs.First.{settled_kept, start_kept, step_kept}
-use Rattle.desk_spec.specs.Frames.{Aside, TopTaken, aside_kept}
+use Rattle.desk_spec.specs.Frames.{Aside, TopTaken}
 use Rattle.desk_spec.specs.Groups.{FirstGroup, first_system, whole_system}
 use Rattle.desk_spec.specs.Runs.{left}
 

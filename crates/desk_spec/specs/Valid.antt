@@ -1,19 +1,14 @@
 -- What is known once a call of the second walk has made its checks; and that its start, its sweeps and its steps leave record and tables in order: what refusal
 -- 6 looks for does not come about by itself, and no step needs a row beyond the last (document 02, Job 11, of this walk). Assumes nothing.
-use Rattle.std.specs.Prelude.{◌≡◌, refl, Bool, cond, List, ℕ, ◌+◌, ◌*◌, ◌%◌, ◌≤◌, ◌<◌, T, nat_abs, pos, length, get_or}
-use Rattle.std.proofs.Common.{arith}
-use Rattle.std.proofs.Math.Bool.{true, false}
-use Rattle.linear.proofs.TestLaws.{count_le}
+use Rattle.std.specs.Prelude.{◌≡◌, List, ℕ, ◌+◌, ◌*◌, ◌%◌, ◌≤◌, ◌<◌, T, nat_abs, pos, length, get_or}
 use Rattle.definitions.specs.Refusals.{step_limit}
 use Rattle.definitions.specs.System.{coef_limit, image_of, most_component, most_equations, most_unknowns, solves}
 use Rattle.definitions.specs.Tables.{State, at, capacity}
-use Rattle.laws.proofs.Again.{table_swept}
-use Rattle.laws.proofs.Pack.{pack_beyond, pack_length}
 use Rattle.laws.specs.SweepLaws.{Swept}
 use Rattle.desk_spec.specs.Records.{IsDesk}
-use Rattle.desk_spec.specs.Desks.{Desk, desk_grown, desk_listed, desk_makes}
-use Rattle.desk_spec.specs.Desks.{desk_step, desk_top, freed, generator}
-use Rattle.desk_spec.specs.Desks.{generator_count, image_limit, is_done, is_full, most_generators, plus, second_group, settled, stays, swept}
+use Rattle.desk_spec.specs.Desks.{Desk, desk_grown, desk_makes}
+use Rattle.desk_spec.specs.Desks.{desk_top, freed, generator}
+use Rattle.desk_spec.specs.Desks.{generator_count, image_limit, most_generators, plus, second_group}
 use Rattle.desk_spec.specs.Rules.{DeskInOrder, high}
 
 -- ---- what is known once a call has made its checks
@@ -58,55 +53,11 @@ pub record SweepOf (s t : State) : Type 0 where
   pub length_same : length t.list ≡ length s.list
   pub fewer : t.run.found ≤ s.run.found
 
-pub swept_of : (q : ℕ) (s : State) → SweepOf s (swept q s)
-unfolding swept
-swept_of q s =
-    record {
-      stack = refl;
-      kind = λ e. e;
-      height = refl;
-      steps = refl;
-      deepest = refl;
-      length_same = pack_length q s.list 0 _ _ s.run.found;
-      fewer = count_le (stays q s) s.run.found;
-    }
-
-pub none_of : (s : State) → SweepOf s s
-none_of s = record { stack = refl; kind = λ e. e; height = refl; steps = refl; deepest = refl; length_same = refl; fewer = omega arith }
-
--- what a sweep keeps, it keeps where it may be due
-module _ (P : State → Type 0) (d : Desk) (s : State) (after : P (swept d.q s)) (now : P s) where
-  maybe : (b : Bool) → P (cond b (swept d.q s) s)
-  maybe true = after
-  maybe false = now
-
-  pub freed_has : P (freed d s)
-  unfolding freed
-  freed_has = maybe (is_full d s)
-
-  pub settled_has : P (settled d s)
-  unfolding settled
-  settled_has = maybe (is_done s)
-
-pub freed_of : (d : Desk) (s : State) → SweepOf s (freed d s)
-freed_of d s = freed_has (SweepOf s) d s (swept_of d.q s) (none_of s)
-
 -- ---- a step
 
 module _ (d : Desk) (s : State) (v : DeskValid d s) (h : 0 < s.run.height) where
   abbrev pub stack' : List ℕ
   stack' = (desk_grown d s).stack
-
--- the two ways of a step
-module _ (P : State → Type 0) (d : Desk) (s : State) where
-  pub step_has : (T (solves (second_group d) (desk_top d s)) → P (desk_listed d (freed d s))) → (¬ (T (solves (second_group d) (desk_top d s))) → P (desk_grown d s))
-      → P (desk_step d s)
-  unfolding desk_step
-  step_has = go' (solves (second_group d) (desk_top d s))
-    where
-      go' : (b : Bool) → (T b → P (desk_listed d (freed d s))) → (¬ (T b) → P (desk_grown d s)) → P (cond b (desk_listed d (freed d s)) (desk_grown d s))
-      go' true y n = y tt
-      go' false y n = n (λ h. h)
 
 -- ---- what a sweep leaves in the list table
 
@@ -115,8 +66,3 @@ module _ (P : State → Type 0) (d : Desk) (s : State) where
 pub record SweepLeaves (q : ℕ) (s t : State) : Type 0 where
   pub rows : Swept q s.run.found (at s.list q) t.run.found (at t.list q)
   pub past : (e : ℕ) → t.run.found * q ≤ e → get_or t.list e 0 ≡ get_or s.list e 0
-
-pub sweep_leaves : (q : ℕ) (s : State) → SweepLeaves q s (swept q s)
-unfolding swept
-sweep_leaves q s =
-    record { rows = table_swept q s.run.found s.list; past = λ e l. pack_beyond q s.list 0 _ _ s.run.found e (omega arith) }

@@ -1,8 +1,8 @@
 -- Theorems about what specs/CallRules.antt defines. Assumes nothing.
 use Rattle.std.specs.Prelude.{◌≡◌, refl, Bool, true, false, cond, List, [], ℕ, suc, ◌+◌, ◌*◌, ◌≤◌, ◌<◌, ltb, ℤ, length}
-use Rattle.std.proofs.Common.{◌∙◌, ap, inl, inr, arith}
+use Rattle.std.proofs.Common.{inl, inr, arith}
 use Rattle.linear.specs.Tests.{count_to}
-use Rattle.definitions.specs.Answers.{Check, paused, refuse, refused}
+use Rattle.definitions.specs.Answers.{Check, refuse, refused}
 use Rattle.definitions.specs.Refusals.{step_limit}
 use Rattle.definitions.specs.Tables.{State}
 use Rattle.laws.proofs.CheckLaws.{check_cases}
@@ -37,16 +37,6 @@ module _ {base : Base} (p q : ℕ) (coefs : List ℤ) {most room : ℕ} {w : Wor
       let is = longer_left p q most room most' room' wider higher w b e e' in
       let f = own_calls p q coefs (after_resume r' (turns_taken p q most room b w)) (omega arith) in
       longer_on p q most room most' room' wider higher w b e e' (rw (← is) at f) c
-
-  -- A pause within a stage changes nothing: a later call goes on as one call with both budgets would have.
-  pub pausing : (b c : ℕ) → (resume p q most room b w).answer ≡ paused → (resume p q most room b w).work.equation < p
-      → resume p q most room c (resume p q most room b w).work ≡ resume p q most room (b + c) w
-  pausing b c e still =
-      let all : turns_taken p q most room b w ≡ b = elim ((engine_answers p q most room b w).pauses.0 e).1 [
-        | inl (rests, left) ↦ absurd (omega arith)
-        | inr (going, used) ↦ used
-      ] in
-      longer r (omega arith) (omega arith) b c ∙ ap (λ n. resume p q most room (n + c) w) all
 
   -- After 31 a call goes on in longer tables with the same rows: where there is room for the row that was refused, and in the basis for what the stage leaves,
   -- it takes the turn that was refused.

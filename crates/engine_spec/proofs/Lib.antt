@@ -1,8 +1,10 @@
 pub mod Base
 pub mod CallAnswers
+pub mod CallPauses
 pub mod CallRules
 pub mod Caps
 pub mod Counts
+pub mod Decomposed
 pub mod Done
 pub mod Ends
 pub mod Equations

@@ -3,7 +3,6 @@
 -- that a continuing call of a run left, where it answered "complete". Assumes nothing.
 use Rattle.std.specs.Prelude.{◌≡◌, refl, ◌≢◌, List, ℕ, ◌*◌, ◌≤◌, ◌<◌, ℤ, nat_abs, pos, get_or, length}
 use Rattle.std.proofs.Common.{inl, inr, arith}
-use Rattle.linear.specs.Systems.{Solution}
 use Rattle.definitions.specs.Answers.{complete}
 use Rattle.definitions.specs.Input.{input_of}
 use Rattle.definitions.specs.Reasons.{reason_within, refused, unlisted}
@@ -16,11 +15,11 @@ use Rattle.laws.specs.RefusalLaws.{Outside}
 use Rattle.theorems.specs.Listed.{Exactly}
 use Rattle.theorems.proofs.Reasons.{reason_promise}
 use Rattle.multiples_spec.specs.Parts as parts
-use Rattle.multiples_spec.specs.Parts.{decomposed_within, made}
-use Rattle.multiples_spec.proofs.Plans.{AddUp, plan_promise}
+use Rattle.multiples_spec.specs.Parts.{decomposed_within}
+use Rattle.multiples_spec.proofs.Plans.{plan_promise}
 use Rattle.engine_spec.specs.Beside.{most_columns, most_rows}
 use Rattle.engine_spec.specs.Calls.{resume}
-use Rattle.engine_spec.specs.Engine.{Work, system_of}
+use Rattle.engine_spec.specs.Engine.{Work}
 use Rattle.engine_spec.proofs.Own.{runs_shape}
 use Rattle.engine_spec.specs.Promise.{Runs}
 use Rattle.engine_spec.specs.Promises.{map_of}
@@ -58,14 +57,6 @@ module _ (p q : ℕ) (coefs : List ℤ) {most room : ℕ} {w : Work} (r : Runs p
         let rows_in : ¬ (capacity q left.basis < left.count) = λ l. omega (arith, whole.part.room) in
         let range : (k : ℕ) → k < length coefs → ¬ (coef_limit < nat_abs (get_or coefs k (pos 0))) = λ k l h. omega (arith, small k l) in
         (p_in, (q_in, (λ n. n many, (λ n. n long, (rows_in, (range, (λ (j, l, h). omega (arith, few j l), tt)))))))
-
-    -- Every solution is taken apart into the rows: they add up to it as often as the table says, which has a place for each row.
-    module _ (solves : Solution p q (system_of q coefs) (λ j. get_or t j 0)) (times : List ℕ) (space : left.count ≤ length times) where
-      pub always_made : (decomposed_within large_sizes (input_of p q coefs) left.basis left.count t times).answer ≡ made
-      always_made = plan_promise.basis large_sizes p q coefs left.basis left.count t times whole never_refused solves space
-
-      pub adds_up : AddUp q left.count left.basis t (decomposed_within large_sizes (input_of p q coefs) left.basis left.count t times).times
-      adds_up = plan_promise.sums large_sizes p q coefs left.basis left.count t times always_made
 
   -- And nothing is ever left of one.
   pub never_left_over : (times : List ℕ) → (decomposed_within large_sizes (input_of p q coefs) left.basis left.count t times).answer ≢ parts.unlisted

@@ -14,8 +14,8 @@ use Rattle.map_spec.specs.Reading.{Reading, read_map}
 use Rattle.map_text.proofs.MapLaws.{accepted_written}
 use Rattle.report_spec.specs.Printed.{refusal_text, value_word, ending, run_text, blank, run, reading_text, printed}
 use Rattle.report_spec.proofs.RunLaws.{run_starts, run_ends}
-use Rattle.report_spec.proofs.Endings.{EndsWith, ends_after, ends_once, EndsInDigit, digit_after, counted_ends, ds, ds_append, counted_ds, refusal_ds}
-use Rattle.report_spec.specs.Complete.{PrintedBasis, PrintedRun, end_complete, end_paused, end_refused, front, input, listed}
+use Rattle.report_spec.proofs.Endings.{EndsWith, ends_after, ends_once, EndsInDigit, digit_after, counted_ends, ds, refusal_ds}
+use Rattle.report_spec.specs.Complete.{PrintedBasis, PrintedRun, end_complete, front, input, listed}
 
 -- ---- another ending
 
@@ -88,22 +88,10 @@ printed_complete t before e = by (read_map t) refl
     by (reading.refused n values) f = no_digit (refusal_ends n values) (rw f at ends)
 
 -- What is printed before "end paused" and before "end refused 11" (12 or 14) holds only minimal solutions of the map read.
-cut_short : (t : List ℕ) → 2 ≤ ds (printed t) → PrintedRun t
+pub cut_short : (t : List ℕ) → 2 ≤ ds (printed t) → PrintedRun t
 unfolding printed reading_text
 cut_short t two = by (read_map t) refl
   where
     by : (x : Reading) → read_map t ≡ x → PrintedRun t
     by (reading.accepted p q coefs) f = printed_run t p q coefs f
     by (reading.refused n values) f = absurd (omega (arith, refusal_ds n values, rw f at two))
-
-pub printed_paused : (t before : List ℕ) → printed t ≡ before ++ end_paused → PrintedRun t
-printed_paused t before e = cut_short t (rw e (omega (arith, ds_append before end_paused, two)))
-  where
-    two : ds end_paused ≡ 2
-    two = unfold ds in refl
-
-pub printed_refused : (t before : List ℕ) (n : ℕ) → printed t ≡ before ++ end_refused n → PrintedRun t
-printed_refused t before n e = cut_short t (rw e (omega (arith, ds_append before (end_refused n), counted_ds (bytes "end refused ") n, two)))
-  where
-    two : ds (bytes "end refused ") ≡ 2
-    two = unfold ds in refl

@@ -1,4 +1,5 @@
 pub mod Complete
+pub mod CutShort
 pub mod Endings
 pub mod Examples
 pub mod RunLaws

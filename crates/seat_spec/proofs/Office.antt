@@ -21,14 +21,14 @@ use Rattle.laws.proofs.LowerLaws.{valid_resume_from}
 use Rattle.laws.proofs.MachineLaws.{call_walks, walk_done, walk_more, walk_paused, walk_refused}
 use Rattle.laws.specs.RefusalLaws.{Handed, InOrder, Shaped, Valid}
 use Rattle.laws.proofs.RefusalLaws.{lower_renders, resume_handed, resume_renders, resume_valid}
-use Rattle.laws.proofs.RefusalLaws.{search_renders, start_renders, valid_resume}
+use Rattle.laws.proofs.RefusalLaws.{search_going, search_renders, start_renders, valid_resume}
+use Rattle.laws.proofs.ValidLaws.{step_valid}
 use Rattle.theorems.specs.CallAnswers.{started_goes}
 use Rattle.theorems.specs.WholeSteps.{Goes}
 use Rattle.seat_spec.specs.Training.{seat_lower_checks, seat_machine, seat_machine_from, seat_resume_checks, seat_resume_from_checks, seat_search}
 use Rattle.seat_spec.specs.Training.{seat_search_from, seat_start, seat_start_checks, seat_start_from}
-use Rattle.seat_spec.specs.TrainingRules.{seat_search_renders}
-use Rattle.seat_spec.proofs.TrainingRules.{seat_lower_renders, seat_resume_from_renders, seat_resume_renders, seat_start_renders}
-use Rattle.seat_spec.specs.Office.{Alike, AsOffice, Follows, core_search, i, kept, o}
+use Rattle.seat_spec.proofs.TrainingRules.{seat_lower_renders, seat_resume_from_renders, seat_resume_renders, seat_search_renders, seat_start_renders}
+use Rattle.seat_spec.specs.Office.{Alike, AsOffice, Follows, i, o}
 
 positive : {n : ℕ} → ¬ (n ≡ 0) → 0 < n
 positive {n} h = omega (arith, h)
@@ -178,6 +178,10 @@ search_agree m n less s o h =
     top_below : (k : ℕ) → 0 < k → k - 1 < k
     top_below k h = omega arith
 
+-- the search of the core goes on where the seat's does
+pub core_search : (m : System) (s : State) → seat_search m s ≡ go → search_checks m s ≡ go
+core_search m s e = (search_renders m s).silent ((seat_search_renders m s).goes e)
+
 pub goes_checked : {S : Type 0} (c : Check) (s : S) (work : S → Outcome S) → c ≡ go → checked c s work ≡ work s
 unfolding checked
 goes_checked c s work e = rw e
@@ -188,6 +192,12 @@ module _ (p q : ℕ) (coefs : List ℤ) where
 
   -- ---- plain runs
 
+  pub kept : (s : State) → Valid (system_of (i p q coefs)) s → Goes (seat_machine (i p q coefs)) s
+      → Valid (system_of (i p q coefs)) (step (system_of (i p q coefs)) s)
+  kept s v (h, e) =
+      step_valid (system_of (i p q coefs)) s v h
+      (search_going (system_of (i p q coefs)) s v.ordered h (core_search (system_of (i p q coefs)) s e))
+
   -- what the seat asks of a plain call is asked by the core under its limit
   pub seat_core : (s : State) → seat_resume_checks (i p q coefs) s ≡ go → resume_checks (i p q coefs) s ≡ go
   seat_core s e =
@@ -197,7 +207,7 @@ module _ (p q : ℕ) (coefs : List ℤ) where
   call_office budget s e =
       let g = seat_core s e in
       let v = resume_valid (i p q coefs) s g in
-      as_office (seat_machine (i p q coefs)) (machine (o p q coefs)) (Valid (system_of (i p q coefs))) (λ t. refl) (λ t. refl) (λ t. step_limit_lem (system_of (o p q coefs)) 20 t) (λ t v. v) (kept p q coefs)
+      as_office (seat_machine (i p q coefs)) (machine (o p q coefs)) (Valid (system_of (i p q coefs))) (λ t. refl) (λ t. refl) (λ t. step_limit_lem (system_of (o p q coefs)) 20 t) (λ t v. v) kept
       (λ t v h. search_agree (system_of (i p q coefs)) most_component (omega arith) t v.ordered h) budget s v e
       (valid_resume (o p q coefs) s (handed_office (resume_handed (i p q coefs) s g)) (record {
         shaped = shaped_limit (system_of (i p q coefs)) most_component (omega arith) (omega arith) s v.shaped;

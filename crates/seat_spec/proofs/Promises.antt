@@ -31,8 +31,8 @@ use Rattle.seat_spec.specs.Training.{seat_input, seat_lower_checks, seat_machine
 use Rattle.seat_spec.specs.Training.{seat_resume_from_checks, seat_start, seat_start_checks, seat_start_from, seat_steps, seat_steps_from}
 use Rattle.seat_spec.specs.TrainingRules.{renumber, renumbered}
 use Rattle.seat_spec.proofs.TrainingRules.{seat_lower_renders, seat_resume_from_renders, seat_resume_renders, seat_resumes}
-use Rattle.seat_spec.specs.TrainingRules.{seat_search_renders, seat_first}
-use Rattle.seat_spec.proofs.TrainingRules.{seat_search_from_renders, seat_start_renders, seat_starts}
+use Rattle.seat_spec.specs.TrainingRules.{seat_first}
+use Rattle.seat_spec.proofs.TrainingRules.{seat_search_from_renders, seat_search_renders, seat_start_renders, seat_starts}
 use Rattle.laws.proofs.LowerLaws.{settled_once}
 use Rattle.theorems.proofs.AnyRun.{Grounds, first_demand_of}
 use Rattle.theorems.proofs.Deepest.{settled_shows, step_deepest, stepped_shows}

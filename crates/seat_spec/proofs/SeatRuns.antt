@@ -22,14 +22,14 @@ use Rattle.theorems.specs.LowerRun.{RunFrom}
 use Rattle.theorems.specs.Run.{Longer, Run, aim_of, continued, relisted, started_units}
 use Rattle.theorems.proofs.Run.{run_handed, run_sound, sound_resumes}
 use Rattle.theorems.specs.CallTerms.{from_terms, plain_terms}
-use Rattle.theorems.specs.Untouched.{Marked, Untouched, untouched}
+use Rattle.theorems.specs.Untouched.{Marked, Untouched}
+use Rattle.theorems.proofs.Untouched.{untouched}
 use Rattle.seat_spec.proofs.Office.{goes_checked, seat_core, seat_core_from}
 use Rattle.seat_spec.specs.Training.{seat_lower_checks, seat_machine, seat_machine_from, seat_resume, seat_resume_checks, seat_resume_from}
 use Rattle.seat_spec.specs.Training.{seat_resume_from_checks, seat_start, seat_start_checks, seat_start_from}
 use Rattle.seat_spec.specs.TrainingRules.{renumber, renumbered}
 use Rattle.seat_spec.proofs.TrainingRules.{seat_lower_renders, seat_resume_from_renders, seat_resume_renders, seat_resumes}
-use Rattle.seat_spec.specs.TrainingRules.{seat_search_renders}
-use Rattle.seat_spec.proofs.TrainingRules.{seat_resumes_from, seat_search_lem, seat_search_from_lem, seat_search_from_renders}
+use Rattle.seat_spec.proofs.TrainingRules.{seat_resumes_from, seat_search_lem, seat_search_from_lem, seat_search_from_renders, seat_search_renders}
 use Rattle.seat_spec.specs.TrainingRules.{seat_first, seat_resume_from_rules, seat_resume_rules}
 use Rattle.seat_spec.proofs.TrainingRules.{seat_start_renders, seat_starts, seat_starts_from}
 use Rattle.seat_spec.specs.TrainingRules.{seat_search_from_rules, seat_search_rules}

@@ -14,7 +14,7 @@ use Rattle.definitions.specs.Tables.{RunKind, State, by_walk, capped_run, desk_b
 use Rattle.laws.specs.CheckLaws.{Decides, Renders, Rules, rule}
 use Rattle.laws.proofs.CheckLaws.{decides_if, renders_last, renders_then}
 use Rattle.laws.proofs.LowerLaws.{decides_from, renders_by, resume_from_renders}
-use Rattle.laws.proofs.RefusalLaws.{decides_bound, decides_number}
+use Rattle.laws.proofs.RefusalLaws.{decides_bound, decides_full, decides_large, decides_late, decides_number}
 use Rattle.laws.proofs.RefusalLaws.{decides_order, decides_outside, decides_range, decides_short, decides_unequal, resume_renders}
 use Rattle.seat_spec.specs.Training.{check23, seat_lower_checks, seat_machine, seat_machine_from, seat_resume, seat_resume_checks, seat_resume_from}
 use Rattle.seat_spec.specs.Training.{seat_resume_from_checks, seat_search, seat_search_from, seat_start, seat_start_checks, seat_start_from, seat_then}
@@ -30,9 +30,12 @@ use Rattle.seat_spec.specs.TrainingRules.{
   seat_resume_rules,
   seat_rules,
   seat_search_from_rules,
-  seat_search_renders,
   seat_start_rules,
 }
+
+pub seat_search_renders : (m : System) (s : State) → Renders (seat_search m s) (seat_search_rules m s)
+unfolding seat_search
+seat_search_renders m s = renders_then (decides_late m s) (renders_then (decides_full m s) (renders_last (decides_large m s 24)))
 
 module _ (i : Input) (s : State) where
   decides_seat : Decides (check23 i) (rule 23 (seat_unknowns < i.q))

@@ -3,19 +3,12 @@
 use Rattle.std.specs.Prelude.{◌≡◌, ◌≢◌, ◌⊎◌, List, [], ℤ}
 use Prim.Native.Nat.{ℕ, ◌<◌}
 use Rattle.definitions.specs.Answers.{go, refuse, refused}
-use Rattle.definitions.specs.Input.{Input, input_of, system_of}
+use Rattle.definitions.specs.Input.{Input, input_of}
 use Rattle.definitions.specs.Machine.{Machine, call, call_steps, walk, walk_steps}
-use Rattle.definitions.specs.Refusals.{search_checks}
 use Rattle.definitions.specs.Step.{step}
-use Rattle.definitions.specs.System.{System}
 use Rattle.definitions.specs.Tables.{State}
-use Rattle.laws.specs.RefusalLaws.{Valid}
-use Rattle.laws.proofs.RefusalLaws.{search_going}
-use Rattle.laws.proofs.RefusalLaws.{search_renders}
-use Rattle.laws.proofs.ValidLaws.{step_valid}
 use Rattle.theorems.specs.WholeSteps.{Goes}
-use Rattle.seat_spec.specs.Training.{seat_input, seat_machine, seat_search}
-use Rattle.seat_spec.specs.TrainingRules.{seat_search_renders}
+use Rattle.seat_spec.specs.Training.{seat_input}
 
 -- "A training run that is not refused lists what the office run lists after as many steps.": a call of the seat that its checks let go on, from s
 pub record AsOffice (budget : ℕ) (seat office : Machine State) (s : State) : Type 0 where
@@ -40,17 +33,9 @@ module _ (k c : Machine State) (P : State → Type 0)
   abbrev pub Alike : ℕ → State → Type 0
   Alike n s = ((walk n k s).answer ≡ refused 24 []) ⊎ ((walk n c s ≡ walk n k s) × (walk_steps n c s ≡ walk_steps n k s))
 
--- the search of the core goes on where the seat's does
-pub core_search : (m : System) (s : State) → seat_search m s ≡ go → search_checks m s ≡ go
-core_search m s e = (search_renders m s).silent ((seat_search_renders m s).goes e)
-
 module _ (p q : ℕ) (coefs : List ℤ) where
   abbrev pub i : Input
   i = seat_input p q coefs
 
   abbrev pub o : Input
   o = input_of p q coefs
-
-  pub kept : (s : State) → Valid (system_of i) s → Goes (seat_machine i) s → Valid (system_of i) (step (system_of i) s)
-  kept s v (h, e) =
-      step_valid (system_of i) s v h (search_going (system_of i) s v.ordered h (core_search (system_of i) s e))

@@ -11,14 +11,11 @@ use Rattle.definitions.specs.Refusals.{step_limit, unknowns_check}
 use Rattle.definitions.specs.Step.{makes, top}
 use Rattle.definitions.specs.System.{System, coef, most_equations}
 use Rattle.definitions.specs.Tables.{State, plain_part}
-use Rattle.laws.specs.CheckLaws.{Renders, Rules, ◌▹◌, end, rule}
-use Rattle.laws.proofs.CheckLaws.{renders_last, renders_then}
+use Rattle.laws.specs.CheckLaws.{Rules, ◌▹◌, end, rule}
 use Rattle.laws.specs.LowerLaws.{OutOfOrderFrom, rules_by}
 use Rattle.laws.specs.RefusalLaws.{Misnumbered, NoRoom, OutOfOrder, Outside}
-use Rattle.laws.proofs.RefusalLaws.{decides_full, decides_large, decides_late}
 use Rattle.laws.specs.RefusalLaws.{range_rule}
 use Rattle.seat_spec.specs.Training.{check23, seat_input}
-use Rattle.seat_spec.specs.Training.{seat_search}
 use Rattle.seat_spec.specs.Training.{seat_unknowns}
 
 -- ---- the rules
@@ -63,10 +60,6 @@ seat_resume_from_rules lower i s =
 
 abbrev pub seat_search_from_rules : List ℕ → Input → State → Rules
 seat_search_from_rules lower i s = rules_by s.run.kind (seat_search_rules (map_of i) (plain_part s)) (seat_search_rules (above_system lower i) s)
-
-pub seat_search_renders : (m : System) (s : State) → Renders (seat_search m s) (seat_search_rules m s)
-unfolding seat_search
-seat_search_renders m s = renders_then (decides_late m s) (renders_then (decides_full m s) (renders_last (decides_large m s 24)))
 
 -- ---- the calls are the core's
 

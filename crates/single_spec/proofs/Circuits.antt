@@ -14,14 +14,13 @@ use Rattle.linear.proofs.TupleLaws.{least, minimal_from, total_less, total_same}
 use Rattle.linear.specs.Tuples.{AtOrBelow, Minimal, Same}
 use Rattle.single_spec.specs.First.{iterate}
 use Rattle.single_spec.specs.Graph.{Circulation, Graph, goes_on, is_circuit, lowest, flow, named, next, order, size, leaving}
-use Rattle.single_spec.specs.FirstLaws.{first_found, first_of}
-use Rattle.single_spec.proofs.FirstLaws.{eqb_from}
-use Rattle.single_spec.proofs.GraphLaws.{lowest_inside, lowest_named}
+use Rattle.single_spec.proofs.FirstLaws.{eqb_from, first_found, first_of}
+use Rattle.single_spec.proofs.GraphLaws.{lowest_below, lowest_inside, lowest_named}
 use Rattle.single_spec.specs.Returns.{Returns}
 use Rattle.single_spec.proofs.Returns.{apart, comes_back, returns_from}
 use Rattle.single_spec.proofs.Visits.{flow_same, flow_some, flow_term, size_total, total_visits, visits, visits_at, visits_balanced, visits_once}
 use Rattle.single_spec.proofs.Visits.{visits_some}
-use Rattle.single_spec.specs.Circuits.{Circuit, Cut, K, N, low, w}
+use Rattle.single_spec.specs.Circuits.{Circuit, Cut, K, N, w}
 
 -- ---- the arc that leaves a node
 
@@ -137,16 +136,19 @@ module _ (n : Graph) (x : ℕ → ℕ) (b : Minimal n.arcs (Circulation n) x) wh
     cut_size : size n.arcs x ≡ c.L
     cut_size = size_total n.arcs x cut_small ∙ sym (total_same (visits (w n x b c) c.L) x n.arcs cut_same) ∙ total_visits n.arcs (w n x b c) c.L (λ k l. (on_way k).0)
 
+    low : lowest n.arcs x < n.arcs
+    low = omega (arith, lowest_below n.arcs x c.z c.low c.some, c.low)
+
     cut_returns : Returns (next n x) (lowest n.arcs x) (size n.arcs x)
     cut_returns =
-        let (k, l, e) = visits_some (w n x b c) c.L (lowest n.arcs x) (omega (arith, cut_same (lowest n.arcs x) (low n x b c), lowest_named n.arcs x (low n x b c))) in
+        let (k, l, e) = visits_some (w n x b c) c.L (lowest n.arcs x) (omega (arith, cut_same (lowest n.arcs x) low, lowest_named n.arcs x low)) in
         rw cut_size (rw e at (returns_from c.returns k l))
 
     cut_circuit : Circuit n x
     cut_circuit =
         record {
           small = cut_small;
-          inside = λ k l. (goes_on_lem n x b.holds.balanced (lowest n.arcs x) (low n x b c) (lowest_named n.arcs x (low n x b c)) k).0;
+          inside = λ k l. (goes_on_lem n x b.holds.balanced (lowest n.arcs x) low (lowest_named n.arcs x low) k).0;
           returns = cut_returns;
         }
 

@@ -10,7 +10,7 @@ use Rattle.definitions.specs.System.{MinimalSolution, System, column}
 use Rattle.laws.specs.CheckLaws.{Decides, placed}
 use Rattle.laws.proofs.CheckLaws.{decides_first}
 use Rattle.single_spec.specs.First.{iterate}
-use Rattle.single_spec.specs.GraphLaws.{lowest_below}
+use Rattle.single_spec.proofs.GraphLaws.{lowest_below}
 use Rattle.single_spec.specs.Profile.{InProfile, SingleFile, check26, check30, in_profile, is_circuit_of, graph, head_of}
 use Rattle.single_spec.proofs.ProfileLaws.{IdleAt, ArcAt, circulation_minimal, column_kinds, minimal_circulation, profile_from, profile_to, head_only}
 use Rattle.single_spec.proofs.ProfileLaws.{tail_only}

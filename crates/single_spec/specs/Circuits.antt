@@ -1,11 +1,9 @@
 -- The minimal circulations of a graph are its circuits: a row is minimal among the circulations exactly if the test `is_circuit` holds of it.
 -- Assumes nothing.
 use Prim.Native.Nat.{ℕ, ◌≤◌, ◌<◌}
-use native.Mathlib.Omega.{arith}
 use Rattle.linear.specs.Tuples.{Minimal}
 use Rattle.single_spec.specs.First.{iterate}
 use Rattle.single_spec.specs.Graph.{Circulation, Graph, lowest, next, order, size}
-use Rattle.single_spec.specs.GraphLaws.{lowest_below}
 use Rattle.single_spec.specs.Returns.{Returns}
 
 -- ---- the test, part by part
@@ -33,9 +31,6 @@ module _ (n : Graph) (x : ℕ → ℕ) (b : Minimal n.arcs (Circulation n) x) wh
   module _ (c : Cut) where
     abbrev pub w : ℕ → ℕ
     w k = iterate (next n x) c.z k
-
-    pub low : lowest n.arcs x < n.arcs
-    low = omega (arith, lowest_below n.arcs x c.z c.low c.some, c.low)
 
 -- ---- a circuit is a minimal circulation
 

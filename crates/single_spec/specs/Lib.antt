@@ -1,7 +1,5 @@
 pub mod First
-pub mod FirstLaws
 pub mod Graph
-pub mod GraphLaws
 pub mod Profile
 pub mod Calls
 pub mod Listing

@@ -16,7 +16,8 @@ use Rattle.theorems.proofs.CallAnswers.{call_answers, call_later, call_paced, re
 use Rattle.theorems.proofs.Deepest.{greatest}
 use Rattle.theorems.specs.Demands.{FirstDemand}
 use Rattle.theorems.specs.CallTerms.{CallTerms, left}
-use Rattle.theorems.specs.WholeSteps.{Steady, after_next, called}
+use Rattle.theorems.specs.WholeSteps.{Steady, called}
+use Rattle.theorems.proofs.WholeSteps.{after_next}
 
 -- what a kind of run has to show for it
 pub record Grounds {S : Type 0} (k : Machine S) (w : CallTerms S) : Type 1 where

@@ -9,7 +9,8 @@ use Rattle.laws.specs.CheckLaws.{AllSilent, FirstDue, Renders, Rules}
 use Rattle.laws.proofs.CheckLaws.{check_cases, refuse_not_go}
 use Rattle.laws.proofs.LowerWalk.{walk_steps_few}
 use Rattle.laws.proofs.MachineLaws.{call_refused, call_walks, walk_done, walk_more, walk_paused, walk_refused, walk_settled}
-use Rattle.theorems.specs.WholeSteps.{Ends, Goes, Steady, call_going, called, completes, pauses, refuses, settled_after}
+use Rattle.theorems.specs.WholeSteps.{Ends, Goes, Steady, call_going, called, completes, pauses, refuses}
+use Rattle.theorems.proofs.WholeSteps.{settled_after}
 use Rattle.theorems.specs.CallAnswers.{CallAnswers, Paced, Ruled, StartAnswers, left, outcome}
 
 module _ {S : Type 0} (c : Check) (s : S) (work : S → Outcome S) (works : (work s).answer ≡ started) (rules : Rules) (r : Renders c rules) where

@@ -12,7 +12,8 @@ use Rattle.definitions.specs.Machine.{Machine, after}
 use Rattle.definitions.specs.Step.{deeper, enlist_in, grown, listed, pick, row_of, step, to_second, top, width}
 use Rattle.definitions.specs.System.{System, solves}
 use Rattle.definitions.specs.Tables.{RunKind, State, by_walk, capped_run, desk_by_desk, lower_above, lower_plain, lowered, plain_part, plain_run, whole_of}
-use Rattle.theorems.specs.WholeSteps.{Steady, after_next}
+use Rattle.theorems.specs.WholeSteps.{Steady}
+use Rattle.theorems.proofs.WholeSteps.{after_next}
 use Rattle.theorems.specs.Deepest.{top_sum_from}
 
 -- ---- any machine whose step shows the greater of the number shown and a sum, and which shows as much when it is settled

@@ -1,21 +1,74 @@
 -- Theorems about what specs/Frames.antt defines. Assumes nothing.
-use Rattle.std.proofs.Common.{◌∙◌, arith}
+use Rattle.std.proofs.Common.{◌∙◌, inl, mul-le-mul_right, arith}
 use Rattle.std.specs.Prelude.{◌≡◌, Bool, false, true, List}
 use Rattle.std.proofs.Math.Path.{ap, refl}
-use Prim.Native.Nat.{◌+◌, ◌≤◌, suc, zero, ℕ}
+use Prim.Native.Nat.{◌*◌, ◌+◌, ◌≤◌, suc, zero, ℕ}
 use Rattle.std.proofs.Math.ListN.{get_or}
 use Rattle.definitions.specs.Calls.{changed, machine, machine_from, resume, resume_from, settle_from, step_from}
 use Rattle.definitions.specs.Input.{Input, above_system, map_of, system_of}
 use Rattle.definitions.specs.Machine.{after}
-use Rattle.definitions.specs.Step.{enlist_in, grown, level, listed, pick, step, to_second, top, width}
+use Rattle.definitions.specs.Step.{enlist_in, grown, level, listed, pick, row_of, step, to_second, top, width}
 use Rattle.definitions.specs.System.{System, solves}
 use Rattle.definitions.specs.Tables.{RunKind, State, at, by_walk, capped_run, desk_by_desk, lower_above, lower_plain, lowered, plain_part, plain_run, whole_of}
 use Rattle.laws.specs.LowerLaws.{Aside}
 use Rattle.laws.proofs.LowerLaws.{step_aside, step_kept}
+use Rattle.laws.proofs.StepLaws.{children_keep}
+use Rattle.laws.proofs.TableLaws.{write_outside}
 use Rattle.theorems.specs.Maps.{Map, by_itself}
 use Rattle.theorems.proofs.LowerFirst.{next_from}
 use Rattle.theorems.specs.WholeSteps.{call_keeps}
-use Rattle.theorems.specs.Frames.{RecordKept, RowsBelow, RowsStay, i, rows_more, rows_same, step_below, step_rows}
+use Rattle.theorems.proofs.WholeSteps.{after_next}
+use Rattle.theorems.specs.Frames.{RecordKept, RowsBelow, RowsStay, i}
+
+rows_same : (w : ℕ) (s : State) → RowsStay w s s
+rows_same w s = record { found = omega arith; rows = λ e l. refl; found2 = omega arith; rows₂ = λ e l. refl }
+
+rows_more : {w : ℕ} {s t u : State} → RowsStay w s t → RowsStay w t u → RowsStay w s u
+rows_more {w} a b =
+    record {
+      found = omega (arith, a.found, b.found);
+      rows = λ e l. b.rows e (omega (arith, mul-le-mul_right w a.found)) ∙ a.rows e l;
+      found2 = omega (arith, a.found2, b.found2);
+      rows₂ = λ e l. b.rows₂ e (omega (arith, mul-le-mul_right w a.found2)) ∙ a.rows₂ e l;
+    }
+
+step_rows : (m : System) (s : State) → RowsStay (width m) s (step m s)
+unfolding step listed grown
+step_rows m s = go (solves m (top m s))
+  where
+    enlisted : (b : Bool) (w : ℕ) (y : ℕ → ℕ) (d : ℕ) → RowsStay w s (enlist_in b w s y d)
+    enlisted false w y d =
+        record {
+          found = omega arith;
+          rows = λ e l. write_outside y s.list (s.run.found * w) w e (inl l);
+          found2 = omega arith;
+          rows₂ = λ e l. refl;
+        }
+    enlisted true w y d =
+        record {
+          found = omega arith;
+          rows = λ e l. refl;
+          found2 = omega arith;
+          rows₂ = λ e l. write_outside y s.second (s.run.found2 * w) w e (inl l);
+        }
+
+    go : (b : Bool) → RowsStay (width m) s (pick b (listed m s) (grown m s))
+    go true = enlisted (to_second m.kind (top m s)) (width m) (row_of m.kind (top m s)) _
+    go false = record { found = omega arith; rows = λ e l. refl; found2 = omega arith; rows₂ = λ e l. refl }
+
+-- a continuing call, plain or capped
+pub rows_stay : (budget : ℕ) (i : Input) (s : State) → RowsStay (width (system_of i)) s (resume budget i s).state
+rows_stay budget i s =
+    call_keeps (machine i) (RowsStay (width (system_of i)) s) (λ t r. r) (λ t r g. rows_more r (step_rows (system_of i) t)) budget s
+    (rows_same (width (system_of i)) s)
+
+-- one step more
+next : (i : Input) (n : ℕ) (s : State) → after (n + 1) (machine i) s ≡ step (system_of i) (after n (machine i) s)
+next i = after_next (machine i) (λ t. refl)
+
+-- and each of its steps
+pub rows_each : (i : Input) (n : ℕ) (s : State) → RowsStay (width (system_of i)) (after n (machine i) s) (after (n + 1) (machine i) s)
+rows_each i n s = rw (next i n s) (step_rows (system_of i) (after n (machine i) s))
 
 pub record_kept : (budget : ℕ) (i : Input) (s : State) → RecordKept s (resume budget i s).state
 record_kept budget i s =
@@ -30,6 +83,18 @@ aside_kept budget m s =
     (λ t r g. let a = step_aside (map_of (by_itself m)) (λ x. refl) t in record { second = a.second ∙ r.second; found2 = a.found2 ∙ r.found2 }) budget s
     (record { second = refl; found2 = refl })
 
+step_below : (m : System) (s : State) → RowsBelow m.q (level s) s (step m s)
+unfolding step listed grown
+step_below m s l j h jq = go (solves m (top m s))
+  where
+    enlisted : (b : Bool) (w : ℕ) (y : ℕ → ℕ) (d : ℕ) → at (enlist_in b w s y d).stack (m.q + 1) l j ≡ at s.stack (m.q + 1) l j
+    enlisted false w y d = refl
+    enlisted true w y d = refl
+
+    go : (b : Bool) → at (pick b (listed m s) (grown m s)).stack (m.q + 1) l j ≡ at s.stack (m.q + 1) l j
+    go true = enlisted (to_second m.kind (top m s)) (width m) _ _
+    go false = children_keep m s m.q l j h jq
+
 -- the height after a step is that level or more
 step_high : (m : System) (s : State) → level s ≤ (step m s).run.height
 unfolding step listed grown
@@ -42,6 +107,10 @@ step_high m s = go (solves m (top m s))
     go : (b : Bool) → level s ≤ (pick b (listed m s) (grown m s)).run.height
     go true = enlisted (to_second m.kind (top m s)) (width m) _ _
     go false = omega arith
+
+-- of each step of a continuing call
+pub rows_below : (i : Input) (n : ℕ) (s : State) → let t = after n (machine i) s in RowsBelow (system_of i).q (level t) t (after (n + 1) (machine i) s)
+rows_below i n s = rw (next i n s) (step_below (system_of i) (after n (machine i) s))
 
 -- ---- runs from a lower bound
 

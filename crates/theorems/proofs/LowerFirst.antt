@@ -31,7 +31,8 @@ use Rattle.theorems.proofs.Counts.{step_counts}
 use Rattle.theorems.proofs.First.{full_only}
 use Rattle.theorems.specs.Run.{SameRows, relisted_valid, relisted_valid₂, same_fits, with_list, with_lists}
 use Rattle.theorems.proofs.Untouched.{above_kept}
-use Rattle.theorems.specs.WholeSteps.{Goes, Steady, after_keeps, after_next, call_going, call_keeps, called, settled_after}
+use Rattle.theorems.specs.WholeSteps.{Goes, Steady, after_keeps, call_going, call_keeps, called}
+use Rattle.theorems.proofs.WholeSteps.{after_next, settled_after}
 use Rattle.theorems.specs.LowerFirst.{LongerFrom, RoomBy, i, longer_lists, total}
 
 module _ (lower : List ℕ) (m : Map) where

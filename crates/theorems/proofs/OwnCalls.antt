@@ -7,7 +7,8 @@ use Rattle.definitions.specs.Answers.{Answer, complete, paused}
 use Rattle.definitions.specs.Machine.{Machine, after, call, call_steps}
 use Rattle.laws.proofs.CheckLaws.{refuse_not_go}
 use Rattle.laws.proofs.MachineLaws.{call_walks, walk_done}
-use Rattle.theorems.specs.WholeSteps.{Ends, Goes, after_more, call_going, call_keeps, called, completes, pauses, refuses, settled_after}
+use Rattle.theorems.specs.WholeSteps.{Ends, Goes, call_going, call_keeps, called, completes, pauses, refuses}
+use Rattle.theorems.proofs.WholeSteps.{after_more, settled_after}
 use Rattle.theorems.specs.OwnCalls.{
   Along,
   Completed,

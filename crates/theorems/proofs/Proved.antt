@@ -13,8 +13,7 @@ use Rattle.theorems.proofs.AnyRun.{Grounds, first_demand_of}
 use Rattle.theorems.proofs.Counts.{step_counts}
 use Rattle.theorems.proofs.Deepest.{settled_shows, step_deepest, stepped_shows}
 use Rattle.theorems.proofs.First.{left_goes, longer_table, lower_answers, resume_after, ruled, resume_answers}
-use Rattle.theorems.specs.Frames.{rows_below, rows_each, rows_stay}
-use Rattle.theorems.proofs.Frames.{aside_kept, record_kept, rows_below_from, rows_each_from, rows_stay_from}
+use Rattle.theorems.proofs.Frames.{aside_kept, record_kept, rows_below, rows_below_from, rows_each, rows_each_from, rows_stay, rows_stay_from}
 use Rattle.theorems.proofs.Held.{sound_whole, sound_part, sound_read, zero_bound, zero_sides}
 use Rattle.theorems.proofs.LowerFirst.{left_goes_from, left_settled, longer_from, resume_from_answers, ruled_from, settled_total, stepped_total}
 use Rattle.theorems.proofs.LowerFirst.{steps_above_from}

@@ -27,8 +27,12 @@ use Rattle.laws.proofs.ValidLaws.{children_few, enlists, step_valid, units_insid
 use Rattle.theorems.specs.Maps.{Map}
 use Rattle.theorems.specs.Series.{Call, call_checks, continuing, continuing_from, perform, starting, starting_from}
 use Rattle.theorems.proofs.Series.{refused_outcome}
-use Rattle.theorems.specs.WholeSteps.{Goes, after_keeps, after_next, call_going, call_keeps}
-use Rattle.theorems.specs.Untouched.{Enlisting, Leaves, Marked, Standing, Untouched, i, input_for, n, untouched}
+use Rattle.theorems.specs.WholeSteps.{Goes, after_keeps, call_going, call_keeps}
+use Rattle.theorems.proofs.WholeSteps.{after_next}
+use Rattle.theorems.specs.Untouched.{Enlisting, Leaves, Marked, Standing, Untouched, i, input_for, n}
+
+pub untouched : (q w : ℕ) (s : State) → Untouched q w s s
+untouched q w s = record { stack_length = refl; beyond = λ e l. refl; list_length = refl; past = λ e l. refl; second_length = refl; past₂ = λ e l. refl }
 
 enlisting_in : (b : Bool) (w : ℕ) (s : State) (y : ℕ → ℕ) (deepest : ℕ) → Enlisting w s (enlist_in b w s y deepest)
 enlisting_in false w s y deepest =

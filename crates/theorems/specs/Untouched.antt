@@ -1,6 +1,5 @@
 -- What the calls of document 01 never touch, and the marks that rows carry after each. Assumes nothing.
 use Rattle.std.specs.Prelude.{◌≡◌, List, ◌*◌, ◌+◌, ◌<◌, ◌≤◌, ℕ}
-use Rattle.std.proofs.Math.Path.{refl}
 use Rattle.std.proofs.Math.ListN.{get_or, length}
 use Rattle.linear.specs.Tests.{count_to}
 use Rattle.definitions.specs.Input.{Input, system_of}
@@ -21,9 +20,6 @@ pub record Untouched (q w : ℕ) (s t : State) : Type 0 where
   -- and of the second list
   pub second_length : length t.second ≡ length s.second
   pub past₂ : (e : ℕ) → t.run.found2 * w ≤ e → get_or t.second e 0 ≡ get_or s.second e 0
-
-pub untouched : (q w : ℕ) (s : State) → Untouched q w s s
-untouched q w s = record { stack_length = refl; beyond = λ e l. refl; list_length = refl; past = λ e l. refl; second_length = refl; past₂ = λ e l. refl }
 
 -- ---- one step
 

@@ -1,11 +1,10 @@
 -- A continuing call over any machine leaves the state after its whole steps, and its answer says how it stands then. Assumes nothing.
 use Rattle.std.specs.Prelude.{◌≡◌, ◌⊎◌}
 use Rattle.std.proofs.Math.Path.{refl, ap}
-use Rattle.std.proofs.Common.{sym, ◌∙◌, arith}
+use Rattle.std.proofs.Common.{arith}
 use Rattle.std.proofs.Math.Logic.{inl, inr}
 use mathlib.Core.List.{List}
-use Prim.Native.Nat.{ℕ, zero, suc, ◌+◌, ◌<◌}
-use Rattle.std.proofs.Math.Nat.{zero-add, suc-add}
+use Prim.Native.Nat.{ℕ, zero, suc, ◌<◌}
 use Rattle.std.proofs.Math.Decide.{ℕ_discrete}
 use Rattle.definitions.specs.Answers.{Answer, complete, go, paused, refuse, refused}
 use Rattle.definitions.specs.Machine.{Machine, Outcome, after, call, call_steps, walk, walk_steps}
@@ -105,27 +104,3 @@ module _ {S : Type 0} (k : Machine S) where
           | inl e ↦ rw (called n s e).state (after_keeps (call_steps n k s) s p (call_going n s e))
           | inr (r, values, e) ↦ rw (call_refused k s n r values e).0 p
         ]
-
--- ---- steps after steps
-
-module _ {S : Type 0} (k : Machine S) (steady : Steady k) where
-  -- a state that was settled
-  after_settled : (n : ℕ) (s : S) → after n k (k.settle s) ≡ after n k s
-  unfolding after
-  after_settled zero s = steady s
-  after_settled (suc n) s = ap (λ t. after n k (k.step t)) (steady s)
-
-  pub after_more : (i j : ℕ) (s : S) → after (i + j) k s ≡ after j k (after i k s)
-  unfolding after
-  after_more zero j s = rw zero-add (sym (after_settled j s))
-  after_more (suc i) j s = rw suc-add (after_more i j (k.step (k.settle s)))
-
-  pub settled_after : (n : ℕ) (s : S) → k.settle (after n k s) ≡ after n k s
-  unfolding after
-  settled_after zero s = steady s
-  settled_after (suc n) s = settled_after n (k.step (k.settle s))
-
-  -- one step more
-  pub after_next : (n : ℕ) (s : S) → after (n + 1) k s ≡ k.settle (k.step (after n k s))
-  unfolding after
-  after_next n s = after_more n 1 s ∙ ap (λ t. k.settle (k.step t)) (settled_after n s)
