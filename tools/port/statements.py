@@ -76,6 +76,9 @@ def main(old, new):
             for leaf, tele, heads in ls:
                 found = [x for m in (mod, mod + "Theorems") for x in b.get((m, name), []) + p.get((m, name), [])]
                 if not found:
+                    # a theorem that stands in a file of its own now
+                    found = [l for at in (b, p) for (m, n), ls in at.items() if n == name for l in ls]
+                if not found:
                     gone += 1
                     print(f"gone: {c} {mod} {name}")
                     continue

@@ -30,6 +30,7 @@ use Rattle.seat_spec.specs.TrainingRules.{
   seat_resume_rules,
   seat_rules,
   seat_search_from_rules,
+  seat_search_rules,
   seat_start_rules,
 }
 
