@@ -60,7 +60,12 @@ abbrev pub schedule_in : ℕ → ℕ → List ℕ → List ℤ → Schedule
 schedule_in count quantum shares coefs = record { count = count; shares = λ i. share_for (shares_in shares i) coefs; quantum = quantum }
 
 abbrev pub round_in : List ℕ → List ℕ → List ℕ → Round
-round_in stack list words = record { stack = stack; list = list; progress = λ i. record { run = run_of (records_in words i); answer = none }; last = last_in words }
+round_in stack list words = record {
+  stack = stack;
+  list = list;
+  progress = λ i. record { run = run_of (records_in words i); answer = none };
+  last = last_in words;
+}
 
 -- ---- what is told
 

@@ -8,7 +8,8 @@ use Rattle.definitions.specs.Input.{Extra, Input, above_system, alone, map_of, r
 use Rattle.definitions.specs.Machine.{Machine, Outcome, call, checked, unless_done, walk}
 use Rattle.definitions.specs.System.{System, most_equations, most_unknowns}
 use Rattle.definitions.specs.Tables.{RunKind, State, by_walk, capped_run, desk_by_desk, lower_above, lower_plain, plain_part, plain_run}
-use Rattle.definitions.specs.Refusals.{between, check1, check15, check4, check5, check6, check6_from, check7, check8, numbers_check, range_checks, unknowns_check}
+use Rattle.definitions.specs.Refusals.{between, check1, check15, check4, check5, check6, check6_from, check7, check8, numbers_check, range_checks}
+use Rattle.definitions.specs.Refusals.{unknowns_check}
 use Rattle.definitions.specs.Refusals.{lower_checks, misnumbered, most_for, resume_checks, resume_from_checks, search_checks, shape_then, start_checks}
 use Rattle.definitions.specs.Calls.{machine, machine_from, resume, resume_from, search_from, start, start_from}
 use Rattle.laws.proofs.AnswerLaws.{refuse_if_go}

@@ -30,7 +30,8 @@ use Rattle.c_record.specs.Words.{height_if, kind_at, record_at, record_in, start
 -- ---- reading and writing the words
 
 pub record_fitting : (words : List ℕ) → length words ≡ 7
-    → record_at (get_or words 0 0) (get_or words 1 0) (get_or words 2 0) (get_or words 3 0) (get_or words 4 0) (get_or words 5 0) (get_or words 6 0) ≡ record_in words
+    → record_at (get_or words 0 0) (get_or words 1 0) (get_or words 2 0) (get_or words 3 0) (get_or words 4 0) (get_or words 5 0) (get_or words 6 0)
+    ≡ record_in words
 unfolding record_in
 record_fitting words e = rw (eq-eqb (length words) 7 e)
 
@@ -185,7 +186,8 @@ module _ (words : List ℕ) (m : Input) (stack list second : List ℕ) (ne : len
       pub misfit_fits : refusal_code (number_of why) (values_of why) < 2 ^ 64
       misfit_fits = subst Small refuses (small_resume m lent)
 
-      pub misfit_told : (budget : ℕ) {a : ℕ} → a ≡ refusal_code (number_of why) (values_of why) → (a, (stack, (list, words))) ≡ told words (resume budget m lent)
+      pub misfit_told : (budget : ℕ) {a : ℕ} → a ≡ refusal_code (number_of why) (values_of why) → (a, (stack, (list, words)))
+          ≡ told words (resume budget m lent)
       unfolding call checked
       misfit_told budget d =
           (λ i. (d i, (stack, (list, sym (kept_words words) i))))

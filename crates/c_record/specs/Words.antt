@@ -32,10 +32,12 @@ height_if false h = 65
 
 abbrev pub record_at : ℕ → ℕ → ℕ → ℕ → ℕ → ℕ → ℕ → Record
 record_at height found steps kind second before deepest =
-    record_of (kind_at kind) (height_if (ltb kind 5) height) (record { 0 = found }) (record { 0 = steps }) (record { 0 = second }) (record { 0 = before }) deepest
+    record_of (kind_at kind) (height_if (ltb kind 5) height) (record { 0 = found }) (record { 0 = steps }) (record { 0 = second }) (record { 0 = before })
+    deepest
 
 abbrev pub record_if : Bool → List ℕ → Record
-record_if true words = record_at (get_or words 0 0) (get_or words 1 0) (get_or words 2 0) (get_or words 3 0) (get_or words 4 0) (get_or words 5 0) (get_or words 6 0)
+record_if true words =
+    record_at (get_or words 0 0) (get_or words 1 0) (get_or words 2 0) (get_or words 3 0) (get_or words 4 0) (get_or words 5 0) (get_or words 6 0)
 record_if false words = record_at 65 0 0 0 0 0 0
 
 unfoldable pub record_in : List ℕ → Record

@@ -53,9 +53,12 @@ module _ (limit q : ℕ) (child : ℕ → Bool) (t : ℕ → ℕ) where
 pub tried_marks : (limit q : ℕ) (child : ℕ → Bool) (t : ℕ → ℕ) {made : ℕ} → made ≡ marks_to q child
     → tried_if (any_to q (λ j. frozen made j && eqb (t j) limit)) made ≡ tried_by limit q child t
 unfolding tried_by
-tried_marks limit q child t e = rw e (ap (λ b. tried_if b (marks_to q child)) (any_same q _ _ (λ j l. ap (λ b. b && eqb (t j) limit) (marks_frozen q child j l))))
+tried_marks limit q child t e =
+    rw e (ap (λ b. tried_if b (marks_to q child)) (any_same q _ _ (λ j l. ap (λ b. b && eqb (t j) limit) (marks_frozen q child j l))))
 
 -- what the second list leaves, put to the first list
-pub tried_open : (limit : ℕ) (k : Kind) (q : ℕ) (s : State) (t : ℕ → ℕ) (candidates left : ℕ) → ((j : ℕ) → j < q → frozen left j ≡ open_for k q s t candidates j)
-    → tried_by limit q (child_by (row_width k q) (place_in k) s.run.found (list_row (row_width k q) s) t left) t ≡ tried_by limit q (child_for k q s t candidates) t
+pub tried_open : (limit : ℕ) (k : Kind) (q : ℕ) (s : State) (t : ℕ → ℕ) (candidates left : ℕ)
+    → ((j : ℕ) → j < q → frozen left j ≡ open_for k q s t candidates j)
+    → tried_by limit q (child_by (row_width k q) (place_in k) s.run.found (list_row (row_width k q) s) t left) t
+    ≡ tried_by limit q (child_for k q s t candidates) t
 tried_open limit k q s t candidates left h = tried_same limit q _ _ t (λ j l. child_open k q s t candidates left j (h j l))

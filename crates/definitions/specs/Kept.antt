@@ -105,10 +105,10 @@ facts_hold : of (resume 1000 six begun) (resume 5 six late) (above (one (pos 2 �
       above_steps = 3;
       zeros = 1 ∷ 0 ∷ 0 ∷ 0 ∷ 0 ∷ replicate 20 9;
     }
-unfolding one lent six begun rows late above sum_to inner value unit total all_to any_to count_to refuse_with ◌then◌ refuse_first solves is_at_or_below covered bit
-    frozen write_to write_row units_to units_start lower_start lowered makes marks_to write_children listed grown step row_fits in_order in_order_from check7
-    start_checks lower_checks resume_checks resume_from_checks too_large search_checks checked start start_from settle_from search_from step_from unless_done walk call
-    call_steps walk_steps moved steps_if
+unfolding one lent six begun rows late above sum_to inner value unit total all_to any_to count_to refuse_with ◌then◌ refuse_first solves is_at_or_below covered
+    bit frozen write_to write_row units_to units_start lower_start lowered makes marks_to write_children listed grown step row_fits in_order in_order_from
+    check7 start_checks lower_checks resume_checks resume_from_checks too_large search_checks checked start start_from settle_from search_from step_from
+    unless_done walk call call_steps walk_steps moved steps_if
 facts_hold = refl
 
 -- ---- "A paused run goes on in a later call.", wherever it was paused: to the list of the run in one call
@@ -120,9 +120,9 @@ ended : ℕ → Answer × List ℕ
 ended n = ((on_from n).answer, (on_from n).state.list)
 
 later_holds : map ended (1 ∷ 3 ∷ 5 ∷ 7 ∷ 9 ∷ 11 ∷ 13 ∷ 15 ∷ []) ≡ replicate 8 (complete, rows)
-unfolding one lent six begun rows on_from ended sum_to inner value unit total all_to any_to count_to refuse_with ◌then◌ refuse_first solves is_at_or_below covered bit
-    frozen write_to write_row units_to units_start makes marks_to write_children listed grown step row_fits in_order check7 start_checks resume_checks too_large
-    search_checks checked start unless_done walk call
+unfolding one lent six begun rows on_from ended sum_to inner value unit total all_to any_to count_to refuse_with ◌then◌ refuse_first solves is_at_or_below
+    covered bit frozen write_to write_row units_to units_start makes marks_to write_children listed grown step row_fits in_order check7 start_checks
+    resume_checks too_large search_checks checked start unless_done walk call
 later_holds = refl
 
 -- ---- 1 1 1 1 −1: five unknowns, so that a step from the top of the stack has four rows below it, all of which are taken off as they were written
@@ -135,9 +135,9 @@ wide = resume 1000 (one (pos 1 ∷ pos 1 ∷ pos 1 ∷ pos 1 ∷ negsuc 0 ∷ []
 
 wide_holds : (wide.answer ≡ complete)
     × (wide.state.list ≡ 0 ∷ 0 ∷ 0 ∷ 1 ∷ 1 ∷ 0 ∷ 0 ∷ 1 ∷ 0 ∷ 1 ∷ 0 ∷ 1 ∷ 0 ∷ 0 ∷ 1 ∷ 1 ∷ 0 ∷ 0 ∷ 0 ∷ 1 ∷ [])
-unfolding one lent wide sum_to inner value unit total all_to any_to count_to refuse_with ◌then◌ refuse_first solves is_at_or_below covered bit frozen write_to write_row
-    units_to units_start makes marks_to write_children listed grown step row_fits in_order check7 start_checks resume_checks too_large search_checks checked start
-    unless_done walk call
+unfolding one lent wide sum_to inner value unit total all_to any_to count_to refuse_with ◌then◌ refuse_first solves is_at_or_below covered bit frozen write_to
+    write_row units_to units_start makes marks_to write_children listed grown step row_fits in_order check7 start_checks resume_checks too_large search_checks
+    checked start unless_done walk call
 wide_holds = (refl, refl)
 
 -- ---- 30 −1: a component above the training seat's limit, and no refusal

@@ -89,9 +89,9 @@ expected =
     ∷ []
 
 runs_hold : runs ≡ expected
-unfolding runs expected lent summed ran comes two_rows one_one sum_to inner value unit total all_to any_to count_to refuse_with ◌then◌ refuse_first solves is_at_or_below
-    covered bit frozen write_to write_row units_to lower_start lowered makes marks_to write_children listed grown step row_fits in_order in_order_from check7 lower_checks
-    resume_from_checks too_large search_checks checked start_from settle_from search_from step_from unless_done walk call
+unfolding runs expected lent summed ran comes two_rows one_one sum_to inner value unit total all_to any_to count_to refuse_with ◌then◌ refuse_first solves
+    is_at_or_below covered bit frozen write_to write_row units_to lower_start lowered makes marks_to write_children listed grown step row_fits in_order
+    in_order_from check7 lower_checks resume_from_checks too_large search_checks checked start_from settle_from search_from step_from unless_done walk call
 runs_hold = refl
 
 -- ---- refusals
@@ -122,8 +122,8 @@ in_order_holds : (asked (standing 0 2 (named lower_above 1 1000000000000 1 10000
     × (asked (standing 0 2 (named capped_run 0 0 0 0)) ≡ refuse 6 [])
     × (resume_checks one_one (standing 0 2 (named lower_plain 0 0 0 0)) ≡ refuse 6 [])
     × (resume_checks one_one (standing 0 2 (named lower_above 0 0 0 0)) ≡ refuse 6 [])
-unfolding standing named asked one_one all_to any_to count_to refuse_with ◌then◌ refuse_first is_at_or_below bit frozen row_fits in_order in_order_from check7 resume_checks
-    resume_from_checks
+unfolding standing named asked one_one all_to any_to count_to refuse_with ◌then◌ refuse_first is_at_or_below bit frozen row_fits in_order in_order_from check7
+    resume_checks resume_from_checks
 in_order_holds = (refl, refl, refl, refl, refl, refl, refl, refl, refl, refl, refl, refl, refl)
 
 -- "14 is about the walk under way": the steps of the other may stand at 1,000,000,000,000
@@ -134,9 +134,9 @@ fourteen_holds : (fourteen (named lower_plain 0 0 0 1000000000000) ≡ refused 1
     × (fourteen (named lower_plain 0 1000000000000 0 0) ≡ paused)
     × (fourteen (named lower_above 0 1000000000000 0 0) ≡ refused 14 [])
     × (fourteen (named lower_above 0 0 0 1000000000000) ≡ paused)
-unfolding standing named fourteen one_one sum_to inner value unit total all_to any_to count_to refuse_with ◌then◌ refuse_first solves is_at_or_below covered bit frozen
-    write_to write_row lowered makes marks_to write_children listed grown step row_fits in_order in_order_from check7 resume_from_checks too_large search_checks checked
-    settle_from search_from step_from unless_done walk call
+unfolding standing named fourteen one_one sum_to inner value unit total all_to any_to count_to refuse_with ◌then◌ refuse_first solves is_at_or_below covered bit
+    frozen write_to write_row lowered makes marks_to write_children listed grown step row_fits in_order in_order_from check7 resume_from_checks too_large
+    search_checks checked settle_from search_from step_from unless_done walk call
 fourteen_holds = (refl, refl, refl, refl)
 
 -- in rising number: 5, 6, 7, 8
@@ -145,6 +145,6 @@ numbers_hold : (resume_from_checks (0 ∷ []) (input_of 1 2 (pos 1 ∷ pos 10001
     × (resume_from_checks (0 ∷ 1000001 ∷ []) (input_of 1 2 (pos 1 ∷ pos 10001 ∷ [])) (standing 0 2 (named lower_plain 0 0 0 0)) ≡ refuse 7 (2 ∷ []))
     × (resume_from_checks (0 ∷ 1000001 ∷ []) one_one (standing 0 2 (named lower_plain 0 0 0 0)) ≡ refuse 8 [])
     × (lower_checks (0 ∷ 1000001 ∷ []) one_one (standing 0 2 (named plain_run 0 0 0 0)) ≡ refuse 8 [])
-unfolding standing named one_one all_to any_to count_to refuse_with ◌then◌ refuse_first is_at_or_below bit frozen row_fits in_order in_order_from check7 lower_checks
-    resume_from_checks
+unfolding standing named one_one all_to any_to count_to refuse_with ◌then◌ refuse_first is_at_or_below bit frozen row_fits in_order in_order_from check7
+    lower_checks resume_from_checks
 numbers_hold = (refl, refl, refl, refl, refl)

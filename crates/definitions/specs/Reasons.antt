@@ -146,6 +146,7 @@ reasons_hold : (answers ≡ zero ∷ off 1 (negsuc 2) ∷ off 1 (pos 5) ∷ stan
     ∷ refused 3 []
     ∷ refused 1 []
     ∷ [])
-unfolding small twice example both answers refusals sum_to inner value all_to any_to else_if first_to place_if last_to refuse_with ◌then◌ refuse_first is_at_or_below is_same
-    highest standing check7 reason_checks vanishes first_off zero_or off_or stands_or above_or in_list first_true unless_refused reason_within
+unfolding small twice example both answers refusals sum_to inner value all_to any_to else_if first_to place_if last_to refuse_with ◌then◌ refuse_first
+    is_at_or_below is_same highest standing check7 reason_checks vanishes first_off zero_or off_or stands_or above_or in_list first_true unless_refused
+    reason_within
 reasons_hold = (refl, refl)

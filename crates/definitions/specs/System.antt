@@ -20,7 +20,8 @@ abbrev pub most_component : ℕ
 most_component = 1000000
 
 -- The kinds of walk: plain; with a first unknown that "is never raised past 1" (capped); from a lower bound (document 02: a floor), above a list of minimal
--- solutions. What a kind decides is a definition by cases on it: `stopped_by`, `within`, `row_width`, `full_for` and `enlist` of `Step`, `inside` of `Refusals`.
+-- solutions. What a kind decides is a definition by cases on it: `stopped_by`, `within`, `row_width`, `full_for` and `enlist` of `Step`, `inside` of
+-- `Refusals`.
 pub data Kind : Type 0 where
   plain : Kind
   capped : Kind

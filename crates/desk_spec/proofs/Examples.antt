@@ -14,7 +14,8 @@ use Rattle.laws.specs.Pack.{pack_to}
 use Rattle.laws.specs.Sweep.{keeps, spoils}
 use Rattle.desk_spec.specs.Records.{record_of, state_of}
 use Rattle.desk_spec.specs.Desks.{Desk, desk_begin, desk_grown, desk_in_order, desk_listed, desk_resume, desk_resume_checks, desk_row, desk_row_in_order}
-use Rattle.desk_spec.specs.Desks.{desk_search_checks, desk_start, desk_start_checks, desk_step, desk_too_large, freed, generators_in_order, raises, settled, swept}
+use Rattle.desk_spec.specs.Desks.{desk_search_checks, desk_start, desk_start_checks, desk_step, desk_too_large, freed, generators_in_order, raises, settled}
+use Rattle.desk_spec.specs.Desks.{swept}
 use Rattle.desk_spec.specs.Desks.{wide}
 
 -- what a run comes to: its answer, its rows and what stands past them in the list table, height, steps and the greatest sum
@@ -81,9 +82,10 @@ runs_hold :
     × (ran 7 100 freeing ≡ record { answer = complete; rows = 1 ∷ 5 ∷ 2 ∷ []; past = 1 ∷ 5 ∷ 2 ∷ 9 ∷ []; height = 0; steps = 13; deepest = 24 })
     × (ran 4 100 large ≡ record { answer = refused 12 []; rows = []; past = 9 ∷ 9 ∷ 9 ∷ 9 ∷ []; height = 1; steps = 1; deepest = 500100 })
     × (ran 5 0 nothing ≡ record { answer = complete; rows = []; past = 9 ∷ 9 ∷ 9 ∷ 9 ∷ 9 ∷ []; height = 0; steps = 0; deepest = 0 })
-unfolding lent ran summed example meeting freeing large nothing pack_to desk_row desk_start raises desk_grown freed desk_listed desk_step keeps spoils swept settled
-    desk_too_large desk_search_checks generators_in_order desk_row_in_order desk_in_order wide desk_start_checks desk_resume_checks desk_begin checked unless_done walk
-    call check7 refuse_with ◌then◌ refuse_first marks_to covered is_at_or_below solves bit frozen write_to all_to any_to count_to total inner value sum_to
+unfolding lent ran summed example meeting freeing large nothing pack_to desk_row desk_start raises desk_grown freed desk_listed desk_step keeps spoils swept
+    settled desk_too_large desk_search_checks generators_in_order desk_row_in_order desk_in_order wide desk_start_checks desk_resume_checks desk_begin checked
+    unless_done walk call check7 refuse_with ◌then◌ refuse_first marks_to covered is_at_or_below solves bit frozen write_to all_to any_to count_to total inner
+    value sum_to
 runs_hold = (refl, refl, refl, refl, refl, refl, refl)
 
 -- ---- what stays
@@ -148,9 +150,10 @@ all_facts =
     }
 
 stays_hold : map of calls ≡ replicate 4 all_facts
-unfolding lent units beside of calls all_facts pack_to desk_row desk_start raises desk_grown freed desk_listed desk_step keeps spoils swept settled desk_too_large
-    desk_search_checks generators_in_order desk_row_in_order desk_in_order wide desk_start_checks desk_resume_checks desk_begin checked unless_done walk call check7 refuse_with
-    ◌then◌ refuse_first marks_to covered is_at_or_below solves bit frozen write_to all_to any_to count_to total inner value sum_to
+unfolding lent units beside of calls all_facts pack_to desk_row desk_start raises desk_grown freed desk_listed desk_step keeps spoils swept settled
+    desk_too_large desk_search_checks generators_in_order desk_row_in_order desk_in_order wide desk_start_checks desk_resume_checks desk_begin checked
+    unless_done walk call check7 refuse_with ◌then◌ refuse_first marks_to covered is_at_or_below solves bit frozen write_to all_to any_to count_to total inner
+    value sum_to
 stays_hold = refl
 
 -- a refusal before the walk changes nothing lent: of a list of two rows that a sweep would change, and no stack
@@ -159,8 +162,8 @@ refused_state = state_of [] (1 ∷ 1 ∷ 1 ∷ 1 ∷ 1 ∷ 1 ∷ 1 ∷ 1 ∷ [])
 
 leaves_hold : (desk_begin units refused_state ≡ record { answer = refused 4 []; state = refused_state })
     × (desk_resume 9 units refused_state ≡ record { answer = refused 4 []; state = refused_state })
-unfolding units refused_state generators_in_order desk_row_in_order desk_in_order wide desk_start_checks desk_resume_checks desk_begin keeps spoils swept is_at_or_below pack_to
-    write_to checked call check7 refuse_with ◌then◌ refuse_first all_to any_to count_to
+unfolding units refused_state generators_in_order desk_row_in_order desk_in_order wide desk_start_checks desk_resume_checks desk_begin keeps spoils swept
+    is_at_or_below pack_to write_to checked call check7 refuse_with ◌then◌ refuse_first all_to any_to count_to
 leaves_hold = (refl, refl)
 
 -- ---- the sweep
@@ -214,6 +217,7 @@ refusals_hold :
     × (resume_answer lower_plain (ones 2 (pos 1 ∷ [])) ≡ refused 6 [])
     × (resume_answer lower_above (ones 2 (pos 1 ∷ [])) ≡ refused 6 [])
     × (resume_answer desk_by_desk (ones 65 (pos 1 ∷ [])) ≡ refused 25 [])
-unfolding ones start_answer resume_answer keeps spoils swept pack_to settled desk_start generators_in_order desk_row_in_order desk_in_order wide desk_start_checks
-    desk_resume_checks desk_begin checked unless_done walk call check7 refuse_with ◌then◌ refuse_first is_at_or_below write_to all_to any_to count_to inner value sum_to
+unfolding ones start_answer resume_answer keeps spoils swept pack_to settled desk_start generators_in_order desk_row_in_order desk_in_order wide
+    desk_start_checks desk_resume_checks desk_begin checked unless_done walk call check7 refuse_with ◌then◌ refuse_first is_at_or_below write_to all_to any_to
+    count_to inner value sum_to
 refusals_hold = (refl, refl, refl, refl, refl, refl, refl, refl, refl, refl, refl, refl, refl, refl)

@@ -6,7 +6,8 @@ use Rattle.definitions.specs.System.{solves}
 use Rattle.definitions.specs.Tables.{State, at, capacity}
 use Rattle.laws.proofs.Pack.{pack_outside}
 use Rattle.theorems.specs.WholeSteps.{call_keeps}
-use Rattle.desk_spec.specs.Desks.{Desk, desk_grown, desk_level, desk_listed, desk_machine, desk_makes, desk_step, desk_top, freed, generator_count, second_group}
+use Rattle.desk_spec.specs.Desks.{Desk, desk_grown, desk_level, desk_listed, desk_machine, desk_makes, desk_step, desk_top, freed, generator_count}
+use Rattle.desk_spec.specs.Desks.{second_group}
 use Rattle.desk_spec.specs.Desks.{settled, swept}
 use Rattle.desk_spec.proofs.Valid.{freed_has, freed_of, same_top, settled_done, settled_has, step_has}
 use Rattle.desk_spec.specs.Runs.{left}

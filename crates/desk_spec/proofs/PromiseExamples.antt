@@ -18,7 +18,8 @@ use Rattle.laws.specs.Sweep.{keeps, spoils}
 use Rattle.theorems.specs.Listed.{Exactly}
 use Rattle.theorems.specs.Run.{started_units}
 use Rattle.desk_spec.specs.Records.{record_of, state_of}
-use Rattle.desk_spec.specs.Desks.{Desk, desk_begin, desk_grown, desk_in_order, desk_listed, desk_resume, desk_resume_checks, desk_row, desk_row_in_order, desk_search_checks}
+use Rattle.desk_spec.specs.Desks.{Desk, desk_begin, desk_grown, desk_in_order, desk_listed, desk_resume, desk_resume_checks, desk_row, desk_row_in_order}
+use Rattle.desk_spec.specs.Desks.{desk_search_checks}
 use Rattle.desk_spec.specs.Desks.{desk_start, desk_start_checks, desk_step, desk_too_large, freed, generators_in_order, raises, settled, swept, wide}
 use Rattle.desk_spec.specs.Groups.{FirstGroup, both_groups}
 use Rattle.desk_spec.specs.Promises.{WholeList}
@@ -55,9 +56,9 @@ second_left : State
 second_left = (desk_resume 100 second second_begun).state
 
 first_list : WholeList second group
-unfolding first lent first_left second group sum_to inner value total unit all_to any_to count_to refuse_with ◌then◌ refuse_first solves is_at_or_below covered bit
-    frozen write_to write_row units_to units_start makes marks_to write_children listed grown step row_fits in_order check7 start_checks resume_checks too_large
-    search_checks checked start unless_done walk call
+unfolding first lent first_left second group sum_to inner value total unit all_to any_to count_to refuse_with ◌then◌ refuse_first solves is_at_or_below covered
+    bit frozen write_to write_row units_to units_start makes marks_to write_children listed grown step row_fits in_order check7 start_checks resume_checks
+    too_large search_checks checked start unless_done walk call
 first_list = first_then_second second group (start first lent).state (started_units lent refl) 100 refl refl
 
 -- the map of document 01's "The program", of which the desks have one equation each
@@ -65,17 +66,19 @@ both : Input
 both = input_of 2 4 (negsuc 0 ∷ pos 1 ∷ pos 2 ∷ negsuc 2 ∷ negsuc 0 ∷ pos 3 ∷ negsuc 1 ∷ negsuc 0 ∷ [])
 
 second_whole : Exactly 4 (MinimalSolution (system_of both)) second_left.list second_left.run.found
-unfolding both first lent first_left second desk_lent group second_begun second_left pack_to desk_row desk_start raises desk_grown freed desk_listed desk_step keeps
-    spoils swept settled desk_too_large desk_search_checks generators_in_order desk_row_in_order desk_in_order wide desk_start_checks desk_resume_checks desk_begin sum_to
-    inner value total unit all_to any_to count_to refuse_with ◌then◌ refuse_first solves is_at_or_below covered bit frozen write_to write_row units_to units_start
-    makes marks_to write_children listed grown step row_fits in_order check7 start_checks resume_checks too_large search_checks checked start unless_done walk call
+unfolding both first lent first_left second desk_lent group second_begun second_left pack_to desk_row desk_start raises desk_grown freed desk_listed desk_step
+    keeps spoils swept settled desk_too_large desk_search_checks generators_in_order desk_row_in_order desk_in_order wide desk_start_checks desk_resume_checks
+    desk_begin sum_to inner value total unit all_to any_to count_to refuse_with ◌then◌ refuse_first solves is_at_or_below covered bit frozen write_to write_row
+    units_to units_start makes marks_to write_children listed grown step row_fits in_order check7 start_checks resume_checks too_large search_checks checked
+    start unless_done walk call
 second_whole = (second_demand_desks second group second_begun (desk_begun desk_lent refl)).finished first_list 100 refl
 
 second_rows : take (second_left.run.found * 4) second_left.list ≡ 4 ∷ 2 ∷ 1 ∷ 0 ∷ 0 ∷ 1 ∷ 1 ∷ 1 ∷ []
-unfolding first lent first_left second desk_lent second_begun second_left pack_to desk_row desk_start raises desk_grown freed desk_listed desk_step keeps spoils swept
-    settled desk_too_large desk_search_checks generators_in_order desk_row_in_order desk_in_order wide desk_start_checks desk_resume_checks desk_begin sum_to inner value
-    total unit all_to any_to count_to refuse_with ◌then◌ refuse_first solves is_at_or_below covered bit frozen write_to write_row units_to units_start makes marks_to
-    write_children listed grown step row_fits in_order check7 start_checks resume_checks too_large search_checks checked start unless_done walk call
+unfolding first lent first_left second desk_lent second_begun second_left pack_to desk_row desk_start raises desk_grown freed desk_listed desk_step keeps spoils
+    swept settled desk_too_large desk_search_checks generators_in_order desk_row_in_order desk_in_order wide desk_start_checks desk_resume_checks desk_begin
+    sum_to inner value total unit all_to any_to count_to refuse_with ◌then◌ refuse_first solves is_at_or_below covered bit frozen write_to write_row units_to
+    units_start makes marks_to write_children listed grown step row_fits in_order check7 start_checks resume_checks too_large search_checks checked start
+    unless_done walk call
 second_rows = refl
 
 -- ---- the third
@@ -99,9 +102,9 @@ three = input_of 3 4 (negsuc 0 ∷ pos 1 ∷ pos 2 ∷ negsuc 2 ∷ negsuc 0 ∷
 third_whole : Exactly 4 (MinimalSolution (system_of three)) third_left.list third_left.run.found
 unfolding three first lent first_left second desk_lent group groups second_begun second_left third third_begun third_left pack_to desk_row desk_start raises
     desk_grown freed desk_listed desk_step keeps spoils swept settled desk_too_large desk_search_checks generators_in_order desk_row_in_order desk_in_order wide
-    desk_start_checks desk_resume_checks desk_begin sum_to inner value total unit all_to any_to count_to refuse_with ◌then◌ refuse_first solves is_at_or_below covered
-    bit frozen write_to write_row units_to units_start makes marks_to write_children listed grown step row_fits in_order check7 start_checks resume_checks too_large
-    search_checks checked start unless_done walk call
+    desk_start_checks desk_resume_checks desk_begin sum_to inner value total unit all_to any_to count_to refuse_with ◌then◌ refuse_first solves is_at_or_below
+    covered bit frozen write_to write_row units_to units_start makes marks_to write_children listed grown step row_fits in_order check7 start_checks
+    resume_checks too_large search_checks checked start unless_done walk call
 third_whole =
     (second_demand_desks third groups third_begun (desk_begun desk_lent refl)).finished
     (second_then_third second group second_begun (desk_begun desk_lent refl) first_list 100 refl refl third refl refl)
@@ -109,8 +112,8 @@ third_whole =
 
 third_rows : take (third_left.run.found * 4) third_left.list ≡ 4 ∷ 3 ∷ 2 ∷ 1 ∷ []
 unfolding first lent first_left second desk_lent second_begun second_left third third_begun third_left pack_to desk_row desk_start raises desk_grown freed
-    desk_listed desk_step keeps spoils swept settled desk_too_large desk_search_checks generators_in_order desk_row_in_order desk_in_order wide desk_start_checks
-    desk_resume_checks desk_begin sum_to inner value total unit all_to any_to count_to refuse_with ◌then◌ refuse_first solves is_at_or_below covered bit frozen
-    write_to write_row units_to units_start makes marks_to write_children listed grown step row_fits in_order check7 start_checks resume_checks too_large
-    search_checks checked start unless_done walk call
+    desk_listed desk_step keeps spoils swept settled desk_too_large desk_search_checks generators_in_order desk_row_in_order desk_in_order wide
+    desk_start_checks desk_resume_checks desk_begin sum_to inner value total unit all_to any_to count_to refuse_with ◌then◌ refuse_first solves is_at_or_below
+    covered bit frozen write_to write_row units_to units_start makes marks_to write_children listed grown step row_fits in_order check7 start_checks
+    resume_checks too_large search_checks checked start unless_done walk call
 third_rows = refl

@@ -19,9 +19,12 @@ use Rattle.laws.proofs.SystemLaws.{fails_fails, solution_solves, solves_solution
 use Rattle.desk_spec.specs.Records.{is_desk}
 use Rattle.desk_spec.proofs.Records.{desk_is, is_desk_lem}
 use Rattle.desk_spec.specs.Desks.{Desk, deepest_limit, desk_check3, desk_check4, desk_checks, desk_full, desk_in_order, desk_makes, desk_resume_checks}
-use Rattle.desk_spec.specs.Desks.{desk_row_in_order, desk_search_checks, desk_start_checks, desk_too_large, desk_top, desk_tuple, freed, generator, generator_count}
+use Rattle.desk_spec.specs.Desks.{desk_row_in_order, desk_search_checks, desk_start_checks, desk_too_large, desk_top, desk_tuple, freed, generator}
+use Rattle.desk_spec.specs.Desks.{generator_count}
 use Rattle.desk_spec.specs.Desks.{generators_in_order, group_input, image_limit, most_generators, plus, second_group, wide}
-use Rattle.desk_spec.specs.Rules.{BadDeskRow, DeskInOrder, DeskOutOfOrder, DeskRowInOrder, LargeChild, LargeGenerator, Wide, beyond, deep, desk_resume_rules, desk_rules, desk_search_rules, desk_start_rules, high, large, large_at, late, many, marks, miscounted, other_kind, row, small_at, sol, wide_at}
+use Rattle.desk_spec.specs.Rules.{BadDeskRow, DeskInOrder, DeskOutOfOrder, DeskRowInOrder, LargeChild, LargeGenerator, Wide, beyond, deep, desk_resume_rules}
+use Rattle.desk_spec.specs.Rules.{desk_rules, desk_search_rules, desk_start_rules, high, large, large_at, late, many, marks, miscounted, other_kind, row}
+use Rattle.desk_spec.specs.Rules.{small_at, sol, wide_at}
 
 -- ---- what is handed over
 

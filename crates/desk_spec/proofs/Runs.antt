@@ -13,7 +13,8 @@ use Rattle.theorems.specs.Listed.{Exactly}
 use Rattle.theorems.specs.WholeSteps.{call_keeps, called}
 use Rattle.theorems.proofs.WholeSteps.{settled_after}
 use Rattle.linear.proofs.Loops.{Solutions}
-use Rattle.desk_spec.specs.Desks.{Desk, desk_begin, desk_machine, desk_resume, desk_resume_checks, desk_resume_steps, desk_start_checks, generator, generator_count}
+use Rattle.desk_spec.specs.Desks.{Desk, desk_begin, desk_machine, desk_resume, desk_resume_checks, desk_resume_steps, desk_start_checks, generator}
+use Rattle.desk_spec.specs.Desks.{generator_count}
 use Rattle.desk_spec.specs.Desks.{settled, swept}
 use Rattle.desk_spec.specs.Rules.{desk_resume_rules, desk_search_rules}
 use Rattle.desk_spec.proofs.Rules.{resume_renders, search_renders}

@@ -277,7 +277,8 @@ module _ (d : Desk) (s : State) (v : DeskValid d s) (h : 0 < s.run.height) where
 
 -- the two ways of a step
 module _ (P : State → Type 0) (d : Desk) (s : State) where
-  pub step_has : (T (solves (second_group d) (desk_top d s)) → P (desk_listed d (freed d s))) → (¬ (T (solves (second_group d) (desk_top d s))) → P (desk_grown d s))
+  pub step_has : (T (solves (second_group d) (desk_top d s)) → P (desk_listed d (freed d s)))
+      → (¬ (T (solves (second_group d) (desk_top d s))) → P (desk_grown d s))
       → P (desk_step d s)
   unfolding desk_step
   step_has = go' (solves (second_group d) (desk_top d s))

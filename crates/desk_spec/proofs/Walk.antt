@@ -70,7 +70,8 @@ module _ (d : Desk) (p₁ : ℕ) (a₁ : ℕ → ℕ → ℤ) (solve : Solutions
       }
 
   module _ (s : State) (valid : DeskValid d s) (high : 0 < s.run.height) where
-    lists : s.run.found * d.q + d.q ≤ length s.list → T (solves (second_group d) (desk_top d s)) → Lists (r d p₁ a₁ solve) ((view d p₁ a₁ solve) s) ((view d p₁ a₁ solve) (desk_listed d s)) 0
+    lists : s.run.found * d.q + d.q ≤ length s.list → T (solves (second_group d) (desk_top d s))
+        → Lists (r d p₁ a₁ solve) ((view d p₁ a₁ solve) s) ((view d p₁ a₁ solve) (desk_listed d s)) 0
     unfolding desk_listed
     lists room y =
         record {
@@ -93,7 +94,8 @@ module _ (d : Desk) (p₁ : ℕ) (a₁ : ℕ → ℕ → ℤ) (solve : Solutions
         rows (suc c) i l j jq = absurd (omega arith)
 
     child : (j : ℕ) → j < generator_count d → T (desk_makes d s j)
-        → Child (r d p₁ a₁ solve) ((view d p₁ a₁ solve) s) ((view d p₁ a₁ solve) (desk_grown d s)) (desk_makes d s) (desk_level s) j (desk_level s + count_to j (desk_makes d s))
+        → Child (r d p₁ a₁ solve) ((view d p₁ a₁ solve) s) ((view d p₁ a₁ solve) (desk_grown d s)) (desk_makes d s) (desk_level s) j
+        (desk_level s + count_to j (desk_makes d s))
     unfolding desk_grown
     child j jn mj =
         let c = child_is d s.stack (desk_level s) (desk_top d s) (desk_top_marks d s) (desk_makes d s) valid.shaped.stack
@@ -106,7 +108,8 @@ module _ (d : Desk) (p₁ : ℕ) (a₁ : ℕ → ℕ → ℤ) (solve : Solutions
           only = λ i il f. marks_only (desk_top_marks d s) (desk_makes d s) (generator_count d) unfrozen j (omega arith) i (rw c.marks_are at f);
         }
 
-    grows : ¬ (T (solves (second_group d) (desk_top d s))) → Grows (r d p₁ a₁ solve) ((view d p₁ a₁ solve) s) ((view d p₁ a₁ solve) (desk_grown d s)) (desk_level s) (desk_makes d s)
+    grows : ¬ (T (solves (second_group d) (desk_top d s)))
+        → Grows (r d p₁ a₁ solve) ((view d p₁ a₁ solve) s) ((view d p₁ a₁ solve) (desk_grown d s)) (desk_level s) (desk_makes d s)
     unfolding desk_grown
     grows n =
         record {

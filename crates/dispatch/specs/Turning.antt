@@ -79,7 +79,8 @@ after_idle d r₀ r k e idle (suc n) l =
 module _ {count : ℕ} {shares : List Share} {coefs : List ℤ} {quantum : ℕ} {r₀ : form.Round} {turns k : ℕ} {stack list : List ℕ} {progress : List Progress}
     {last : ℕ} (t : Turning count shares coefs quantum r₀ turns k stack list progress last) where
   served_now : (o : Option ℕ) → next count (round_for stack list progress last) ≡ o
-      → after_turns (suc k) (schedule_for count shares coefs quantum) r₀ ≡ serve_run o (schedule_for count shares coefs quantum) (round_for stack list progress last)
+      → after_turns (suc k) (schedule_for count shares coefs quantum) r₀
+      ≡ serve_run o (schedule_for count shares coefs quantum) (round_for stack list progress last)
   unfolding after_turns serve
   served_now o e = rw (← t.same, e)
 
@@ -87,7 +88,8 @@ module _ {count : ℕ} {shares : List Share} {coefs : List ℤ} {quantum : ℕ} 
       → outcome_of o stack' list'
       ≡ placed (get_or shares i no_share).stack (get_or shares i no_share).list stack list
       (resume quantum (input_for (get_or shares i no_share) coefs)
-      (own_state (get_or shares i no_share).stack (get_or shares i no_share).list stack list (get_or progress i no_progress).run)) → length stack' ≡ length stack
+      (own_state (get_or shares i no_share).stack (get_or shares i no_share).list stack list (get_or progress i no_progress).run)) → length stack'
+      ≡ length stack
       → length list' ≡ length list → Turning count shares coefs quantum r₀ turns (k + 1) stack' list' (set progress i (turned o)) (i + 1)
   unfolding leave_turn own
   turning_more {i} more l e o {stack'} {list'} h ls ll =
@@ -113,7 +115,8 @@ module _ {count : ℕ} {shares : List Share} {coefs : List ℤ} {quantum : ℕ} 
 
 -- the run found is one of them
 pub found_below : (count last : ℕ) (progress : List Progress) (stack list : List ℕ) → 0 < count → {r : Found}
-    → found_of r ≡ next_after count last (stays_for progress) → {i : ℕ} → r ≡ found.At i → (next count (round_for stack list progress last) ≡ some i) × (i < count)
+    → found_of r ≡ next_after count last (stays_for progress) → {i : ℕ} → r ≡ found.At i → (next count (round_for stack list progress last) ≡ some i)
+    × (i < count)
 found_below count last progress stack list some_run {r} e {i} q =
     let h : next count (round_for stack list progress last) ≡ some i = sym e ∙ ap found_of q in
     (h, (next_some count (round_for stack list progress last) some_run i h).below)

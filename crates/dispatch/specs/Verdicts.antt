@@ -31,12 +31,14 @@ module _ (count : ℕ) (shares : List Share) (quantum last stack_length list_len
         kept_large l = rw (le-leb 1 count low, le-leb count 8 few, ne_eqb quantum 0 some_step, lt-ltb 8 last l)
 
         module _ (kept : last ≤ 8) where
-          pub stacks_clash : apart count stack_length (part_at false shares) ≡ false → refuse 28 [] ≡ checks_for count shares quantum last stack_length list_length
+          pub stacks_clash : apart count stack_length (part_at false shares) ≡ false → refuse 28 []
+              ≡ checks_for count shares quantum last stack_length list_length
           unfolding refuse_with ◌then◌ checks_for
           stacks_clash e = rw (le-leb 1 count low, le-leb count 8 few, ne_eqb quantum 0 some_step, le-ltb 8 last kept, e)
 
           module _ (stacks : apart count stack_length (part_at false shares) ≡ true) where
-            pub lists_clash : apart count list_length (part_at true shares) ≡ false → refuse 28 [] ≡ checks_for count shares quantum last stack_length list_length
+            pub lists_clash : apart count list_length (part_at true shares) ≡ false → refuse 28 []
+                ≡ checks_for count shares quantum last stack_length list_length
             unfolding refuse_with ◌then◌ checks_for
             lists_clash e = rw (le-leb 1 count low, le-leb count 8 few, ne_eqb quantum 0 some_step, le-ltb 8 last kept, stacks, e)
 

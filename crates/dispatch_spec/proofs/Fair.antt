@@ -182,7 +182,9 @@ module _ (count quantum : ℕ) (some_run : 0 < count) (r₀ : Round) where
         → Moments count quantum r₀ (after_turns k (d count quantum some_run r₀ shares) r) (turns_to k (d count quantum some_run r₀ shares) r ++ log)
     unfolding after_turns turns_to serve
     turn_moments m zero = m
-    turn_moments {r} {log} m (suc k) = next_moment (next count (after_turns k (d count quantum some_run r₀ shares) r)) (turns_to k (d count quantum some_run r₀ shares) r) log (turn_moments m k) refl
+    turn_moments {r} {log} m (suc k) =
+        next_moment (next count (after_turns k (d count quantum some_run r₀ shares) r)) (turns_to k (d count quantum some_run r₀ shares) r) log
+        (turn_moments m k) refl
 
   -- (a call that is refused as a whole leaves what it was lent, which need not be what the call before left)
   call_moments : {r : Round} {log : List Turn} → Calls count quantum r₀ r log → (m : Round) × Moments count quantum r₀ m log × Kept m r
@@ -192,8 +194,13 @@ module _ (count quantum : ℕ) (some_run : 0 < count) (r₀ : Round) where
       elim (check_cases (dispatch_checks ((d count quantum some_run r₀) shares) r')) [
         | inl e ↦
             let s = dispatch_served turns ((d count quantum some_run r₀) shares) r' e in
-            rw (s.0, s.1) (after_turns turns ((d count quantum some_run r₀) shares) (opened r'), turn_moments shares (again moments r' (kept_on on kept)) turns, same_kept _)
-        | inr (n, values, e) ↦ let s = dispatch_refused turns ((d count quantum some_run r₀) shares) r' n values e in rw (s.0, s.1) (m, moments, kept_on on kept)
+            rw (s.0, s.1) (
+              after_turns turns ((d count quantum some_run r₀) shares) (opened r'),
+              turn_moments shares (again moments r' (kept_on on kept)) turns,
+              same_kept _,
+            )
+        | inr (n, values, e) ↦ let s =
+            dispatch_refused turns ((d count quantum some_run r₀) shares) r' n values e in rw (s.0, s.1) (m, moments, kept_on on kept)
       ]
 
   -- a turn of run i that pauses, and since then none of its own
@@ -210,7 +217,8 @@ module _ (count quantum : ℕ) (some_run : 0 < count) (r₀ : Round) where
         let same : turn_taken ((d count quantum some_run r₀) shares) j r ≡ b = cc in
         let rest : log ≡ between ++ (t ∷ earlier) = cc in
         rw (sym same)
-        (waits_other ((d count quantum some_run r₀) shares) some_run r i between j (waiting m between earlier others rest) n (λ q. ne (ap (λ (u : Turn). u.run) (sym same) ∙ q)))
+        (waits_other ((d count quantum some_run r₀) shares) some_run r i between j (waiting m between earlier others rest) n
+        (λ q. ne (ap (λ (u : Turn). u.run) (sym same) ∙ q)))
 
     fair_moments : {r : Round} {log : List Turn} → Moments count quantum r₀ r log → (later between earlier : List Turn) → NoneOf i between
         → log ≡ later ++ (between ++ (t ∷ earlier)) → (suc (length between) ≤ count) × (taken between ≤ length between * quantum)

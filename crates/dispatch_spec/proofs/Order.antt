@@ -74,7 +74,14 @@ module _ (d : Schedule) (r₀ : Round) where
         rounds j =
             elim (ℕ_discrete j i) [
               | yes e ↦
-                  rw (e, put_same i (record { run = (turn_of d i r).state.run; answer = some (turn_of d i r).answer }) r.progress, answer_own i (now d r₀ r log told i n) log refl)
+                  rw (
+                    e,
+                    put_same i (record {
+                      run = (turn_of d i r).state.run;
+                      answer = some (turn_of d i r).answer;
+                    }) r.progress,
+                    answer_own i (now d r₀ r log told i n) log refl,
+                  )
                   (stays_by (turn_of d i r).state.run.height (r₀.progress i).run.height (turn_of d i r).answer)
               | no ne ↦
                   rw (

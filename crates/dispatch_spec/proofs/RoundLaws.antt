@@ -103,10 +103,12 @@ module _ (count : ℕ) (r : Round) (some_run : 0 < count) where
       record {
         below = further_below count (start count r some_run) k begins h.below;
         stays = h.holds;
-        before = λ j l less. at_place j l (h.before (ahead count (start count r some_run) j) (rw (ahead_further count (start count r some_run) k begins h.below) at less));
+        before = λ j l less. at_place j l
+            (h.before (ahead count (start count r some_run) j) (rw (ahead_further count (start count r some_run) k begins h.below) at less));
       }
 
-  taken : (o : Option ℕ) (i : ℕ) → further_by count (start count r some_run) o ≡ some i → (k : ℕ) × (o ≡ some k) × (further count (start count r some_run) k ≡ i)
+  taken : (o : Option ℕ) (i : ℕ) → further_by count (start count r some_run) o ≡ some i → (k : ℕ) × (o ≡ some k)
+      × (further count (start count r some_run) k ≡ i)
   taken none i e = absurd (none_not_some e)
   taken (some k) i e = (k, refl, cc)
 
@@ -124,4 +126,5 @@ module _ (count : ℕ) (r : Round) (some_run : 0 < count) where
   unfolding next_after
   next_none e j l =
       at_place j l
-      (first_none (asks count r) count (none_taken (first_to count (asks count r)) e) (ahead count (start count r some_run) j) (ahead_below count (start count r some_run) j begins l))
+      (first_none (asks count r) count (none_taken (first_to count (asks count r)) e) (ahead count (start count r some_run) j)
+      (ahead_below count (start count r some_run) j begins l))

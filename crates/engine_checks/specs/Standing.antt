@@ -17,7 +17,8 @@ use Rattle.calls.specs.declared.Check as made
 use Rattle.calls.specs.declared.Check.TheVariants.{Pass, Refuse}
 use Rattle.calls.specs.declared.Refusal.{Refusal}
 use Rattle.checks.specs.Coefficients.{coefficient_checks}
-use Rattle.engine_spec.specs.Calls.{check1, check2, check3, check4, check6, check6_list, check7, coefficients_small, in_order, is_list, is_row, marks_in_order, resume_checks, standing_then, start_checks, start_from_checks}
+use Rattle.engine_spec.specs.Calls.{check1, check2, check3, check4, check6, check6_list, check7, coefficients_small, in_order, is_list, is_row, marks_in_order}
+use Rattle.engine_spec.specs.Calls.{resume_checks, standing_then, start_checks, start_from_checks}
 use Rattle.engine_spec.specs.Beside.{SmallEquation, SmallTable, coefficient_limit}
 use Rattle.engine_spec.specs.Engine.{Work, basis_row}
 use Rattle.engine_spec.specs.Reduction.{is_small}

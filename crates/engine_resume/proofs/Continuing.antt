@@ -70,7 +70,9 @@ module _ (p q budget : ℕ) (equations : List ℤ) (basis sizes table : List ℕ
       (e : check_of made ≡ standing p q most room (work_of equations basis table r)) where
     pub resume_refused : {why : Refusal} → made ≡ Refuse why → ResumeLeft p q budget equations basis sizes table x r (refused_with why r) basis sizes table x
     unfolding spec.resume goes_on
-    resume_refused g = rw (← m, ← n) (still p q most room budget (w p q budget equations basis sizes table x r) sizes x (rw (← (e ∙ resume_checks_lem p q most room (w p q budget equations basis sizes table x r)), g))
+    resume_refused g = rw (← m, ← n)
+        (still p q most room budget (w p q budget equations basis sizes table x r) sizes x
+        (rw (← (e ∙ resume_checks_lem p q most room (w p q budget equations basis sizes table x r)), g))
         (call_refused (e ∙ resume_checks_lem p q most room (w p q budget equations basis sizes table x r)) equations basis table r _ g) refl)
 
     module _ (g : made ≡ Pass) where
@@ -83,8 +85,10 @@ module _ (p q budget : ℕ) (equations : List ℤ) (basis sizes table : List ℕ
       unfolding spec.resume rested all_done goes_on
       resume_rested l o s a =
           rw (← m, ← n)
-          (still p q most room budget (w p q budget equations basis sizes table x r) sizes x (rw (← (e ∙ resume_checks_lem p q most room (w p q budget equations basis sizes table x r)), g, le-ltb r.equation p l))
-          (call_passed (e ∙ resume_checks_lem p q most room (w p q budget equations basis sizes table x r)) equations basis table r _ g (rw (le-ltb r.equation p l, a, s))) (rw s))
+          (still p q most room budget (w p q budget equations basis sizes table x r) sizes x
+          (rw (← (e ∙ resume_checks_lem p q most room (w p q budget equations basis sizes table x r)), g, le-ltb r.equation p l))
+          (call_passed (e ∙ resume_checks_lem p q most room (w p q budget equations basis sizes table x r)) equations basis table r _ g
+          (rw (le-ltb r.equation p l, a, s))) (rw s))
 
       pub resume_enters : r.equation < p → Entered p q most room equations basis sizes table x r
       resume_enters l =
@@ -105,11 +109,13 @@ module _ (p q budget : ℕ) (equations : List ℤ) (basis sizes table : List ℕ
           → ResumeLeft p q budget equations basis sizes table x r o basis' sizes' table' x'
       unfolding spec.resume goes_on
       resume_ran l t =
-          let on : goes_on (spec.resume_checks p q most room (w p q budget equations basis sizes table x r)) p r.equation ≡ true = rw (← (e ∙ resume_checks_lem p q most room (w p q budget equations basis sizes table x r)), g, lt-ltb r.equation p l)
+          let on : goes_on (spec.resume_checks p q most room (w p q budget equations basis sizes table x r)) p r.equation ≡ true =
+          rw (← (e ∙ resume_checks_lem p q most room (w p q budget equations basis sizes table x r)), g, lt-ltb r.equation p l)
           in
           rw (← m, ← n)
           (record {
-            outcome = call_passed (e ∙ resume_checks_lem p q most room (w p q budget equations basis sizes table x r)) equations basis table r _ g (rw (lt-ltb r.equation p l) t.outcome);
+            outcome = call_passed (e ∙ resume_checks_lem p q most room (w p q budget equations basis sizes table x r)) equations basis table r _ g
+                (rw (lt-ltb r.equation p l) t.outcome);
             refused = λ k values h. absurd (not_refused k values h);
             rested = λ h. absurd (omega arith);
             few = rw on t.few;
@@ -120,6 +126,8 @@ module _ (p q budget : ℕ) (equations : List ℤ) (basis sizes table : List ℕ
           })
         where
           not_refused : (k : ℕ) (values : List ℕ) → spec.resume_checks p q most room (w p q budget equations basis sizes table x r) ≡ paper.refuse k values → ⊥
-          not_refused k values h = let no : paper.go ≡ paper.refuse k values = sym (ap check_of g) ∙ ((e ∙ resume_checks_lem p q most room (w p q budget equations basis sizes table x r)) ∙ h) in
+          not_refused k values h =
+              let no : paper.go ≡ paper.refuse k values =
+              sym (ap check_of g) ∙ ((e ∙ resume_checks_lem p q most room (w p q budget equations basis sizes table x r)) ∙ h) in
               let z : ◌≡◌
               {A = ℕ} 0 1 = cc in omega arith

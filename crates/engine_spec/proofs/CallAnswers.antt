@@ -88,8 +88,10 @@ module _ (p q most room : ℕ) where
       by false true = refl
       by false false = rests (finished p q w) refl n
 
-  turned_as : (t : Turned) (w : Work) (n : ℕ) → w.equation < p → ((v : Work) → v.equation < p → run p q most room n v ≡ of_machine p (walk n (k p q most room) v))
-      → after p q most t (run p q most room n) w ≡ of_machine p (machine.checked (refusal_of t (end_refusal q most w)) w (λ u. walk n (k p q most room) (left_by p q t u)))
+  turned_as : (t : Turned) (w : Work) (n : ℕ) → w.equation < p
+      → ((v : Work) → v.equation < p → run p q most room n v ≡ of_machine p (walk n (k p q most room) v))
+      → after p q most t (run p q most room n) w
+      ≡ of_machine p (machine.checked (refusal_of t (end_refusal q most w)) w (λ u. walk n (k p q most room) (left_by p q t u)))
   unfolding after machine.checked onward
   turned_as (goes s) w n l h = h (onward s w) l
   turned_as (stops m) w n l h = refl
@@ -111,7 +113,8 @@ module _ (p q most room : ℕ) where
   run_as (suc budget) w l =
       turned_as (turn_of q room w) w budget l (run_as budget)
       ∙ ap (of_machine p) (checked_at (refusal_of (turn_of q room w) (end_refusal q most w)) w _ _ refl
-      ∙ sym (unless_at (ltb w.equation p) w (λ t. machine.checked ((k p q most room).refusals t) t (λ u. walk budget (k p q most room) ((k p q most room).step u))) (lt→ltb w.equation p l)))
+      ∙ sym (unless_at (ltb w.equation p) w
+      (λ t. machine.checked ((k p q most room).refusals t) t (λ u. walk budget (k p q most room) ((k p q most room).step u))) (lt→ltb w.equation p l)))
 
   work_as : (budget : ℕ) (w : Work) → cond (ltb w.equation p) (run p q most room budget w) (rested p w) ≡ of_machine p (walk budget (k p q most room) w)
   unfolding rested
@@ -204,14 +207,17 @@ module _ (q most room : ℕ) (w : Work) where
 
   tells_needed : Tells (is_needed q most room w) (NeedsSum q w)
   tells_needed =
-      tells_and (not (is_row q most room w) && (is_pair q most room w)) (not (is_passed q most room w)) (tells_and (not (is_row q most room w)) (is_pair q most room w) (tells_not (is_row q most room w) tells_row) tells_pair)
+      tells_and (not (is_row q most room w) && (is_pair q most room w)) (not (is_passed q most room w))
+      (tells_and (not (is_row q most room w)) (is_pair q most room w) (tells_not (is_row q most room w) tells_row) tells_pair)
       (tells_not (is_passed q most room w)
-      (tells_or (is_over (s q most room w).cap (next_sum q w)) _ (tells_over (s q most room w).cap (next_sum q w)) (tells_reduced q (c q most room w) (s q most room w).rows (row q (s q most room w)) (next_sum q w))))
+      (tells_or (is_over (s q most room w).cap (next_sum q w)) _ (tells_over (s q most room w).cap (next_sum q w))
+      (tells_reduced q (c q most room w) (s q most room w).rows (row q (s q most room w)) (next_sum q w))))
 
   tells_end : Tells (is_end q most room w) (EndsStage q w)
   tells_end =
       tells_and (not (is_row q most room w)) (not (is_pair q most room w) && (is_last q most room w)) (tells_not (is_row q most room w) tells_row)
-      (tells_and (not (is_pair q most room w)) (is_last q most room w) (tells_not (is_pair q most room w) tells_pair) (tells_equal (next_degree q (c q most room w) w.count (basis_row q w) (s q most room w)) 0))
+      (tells_and (not (is_pair q most room w)) (is_last q most room w) (tells_not (is_pair q most room w) tells_pair)
+      (tells_equal (next_degree q (c q most room w) w.count (basis_row q w) (s q most room w)) 0))
 
   decides : (b : Bool) (n : ℕ) {P : Type 0} → Tells b P → Decides (refuse_if b n) (rule n P)
   decides b n {P} (f, g) = decides_if b n P f g
@@ -224,16 +230,19 @@ module _ (q most room : ℕ) (w : Work) where
       let fits = ltb (s q most room w).rows room in
       let large = ltb w.fresh q && not (values_small q w) in
       let full = ltb most (count_to (s q most room w).rows (stays q w)) in
-      subst (λ x. Renders x (turn_rules q most room w)) (sym (search_is b (is_row q most room w) (is_pair q most room w) (is_passed q most room w) small fits (is_last q most room w) large full _ _ _ _))
+      subst (λ x. Renders x (turn_rules q most room w))
+      (sym (search_is b (is_row q most room w) (is_pair q most room w) (is_passed q most room w) small fits (is_last q most room w) large full _ _ _ _))
       (renders_then (decides b 14 (tells_equal (s q most room w).steps step_limit))
       (renders_then
       (decides _ 12
-      (tells_or ((is_needed q most room w) && not small) ((is_end q most room w) && large) (tells_and (is_needed q most room w) (not small) tells_needed (tells_large q (next_sum q w)))
+      (tells_or ((is_needed q most room w) && not small) ((is_end q most room w) && large)
+      (tells_and (is_needed q most room w) (not small) tells_needed (tells_large q (next_sum q w)))
       (tells_and (is_end q most room w) large tells_end (tells_and (ltb w.fresh q) (not (values_small q w)) (tells_below w.fresh q) (tells_values q w)))))
       (renders_last
       (decides _ 31
       (tells_or (((is_row q most room w) || (is_needed q most room w)) && not fits) ((is_end q most room w) && full)
-      (tells_and ((is_row q most room w) || (is_needed q most room w)) (not fits) (tells_or (is_row q most room w) (is_needed q most room w) tells_row tells_needed) (tells_least (s q most room w).rows room))
+      (tells_and ((is_row q most room w) || (is_needed q most room w)) (not fits)
+      (tells_or (is_row q most room w) (is_needed q most room w) tells_row tells_needed) (tells_least (s q most room w).rows room))
       (tells_and (is_end q most room w) full tells_end (tells_below most (count_to (s q most room w).rows (stays q w)))))))))
 
 -- ---- the answers
@@ -259,7 +268,8 @@ module _ (before within : Rules) (p budget taken : ℕ) (v : Work) where
     λ d. (x.refuses n values).1 (elim d [ inl y ↦ inl y | inr (q, g, l, y) ↦ inr (q, high_going p v g, l, y) ]),
   )
 
-  rested_as : (b : Bool) → Tells b (AllDone p v) → (Inner before within p budget taken v) complete → (Outer before within p budget taken v) (cond b complete paused)
+  rested_as : (b : Bool) → Tells b (AllDone p v) → (Inner before within p budget taken v) complete
+      → (Outer before within p budget taken v) (cond b complete paused)
   rested_as true t x =
       let (quiet, z) = x.completes.0 refl in
       record {
@@ -428,7 +438,8 @@ module _ (p q most room most' room' : ℕ) (wider : most ≤ most') (longer : ro
       (ltb s.rows room) (ltb s.rows room') (is_last q most room w) (ltb w.fresh q && not (values_small q w)) (ltb most n) (ltb most' n) _ _ _ _
       (λ h. lt→ltb s.rows room' (omega (arith, ltb→lt s.rows room h))) (λ h. lt→ltb most n (omega (arith, ltb→lt most' n h)))
 
-  walk_longer : (b c : ℕ) (w : Work) → walk c (long p q most room most' room' wider longer) (walk b (short p q most room most' room' wider longer) w).state ≡ walk (walk_steps b (short p q most room most' room' wider longer) w + c) (long p q most room most' room' wider longer) w
+  walk_longer : (b c : ℕ) (w : Work) → walk c (long p q most room most' room' wider longer) (walk b (short p q most room most' room' wider longer) w).state
+      ≡ walk (walk_steps b (short p q most room most' room' wider longer) w + c) (long p q most room most' room' wider longer) w
   walk_longer zero c w =
       let none : 0 + c ≡ c = omega arith in
       elim (ℕ_discrete (under_way p w) 0) [
@@ -446,10 +457,13 @@ module _ (p q most room most' room' : ℕ) (wider : most ≤ most') (longer : ro
                   let d = walk_more (short p q most room most' room' wider longer) w b h e in
                   let (same, g) = turn_more w e in
                   let v : Work = left_by p q (turn_of q room w) w in
-                  let one : suc (walk_steps b (short p q most room most' room' wider longer) v) + c ≡ suc (walk_steps b (short p q most room most' room' wider longer) v + c) = omega arith in
+                  let one : suc (walk_steps b (short p q most room most' room' wider longer) v) + c
+                  ≡ suc (walk_steps b (short p q most room most' room' wider longer) v + c) = omega arith in
                   rw (d.0, d.1, one)
                   (walk_longer b c v
-                  ∙ sym ((walk_more (long p q most room most' room' wider longer) w (walk_steps b (short p q most room most' room' wider longer) v + c) h g).0 ∙ ap (λ t. walk (walk_steps b (short p q most room most' room' wider longer) v + c) (long p q most room most' room' wider longer) (left_by p q t w)) same))
+                  ∙ sym ((walk_more (long p q most room most' room' wider longer) w (walk_steps b (short p q most room most' room' wider longer) v + c) h g).0
+                  ∙ ap (λ t. walk (walk_steps b (short p q most room most' room' wider longer) v + c) (long p q most room most' room' wider longer)
+                  (left_by p q t w)) same))
               | inr (r, values, e) ↦ let d = walk_refused (short p q most room most' room' wider longer) w b r values h e in rw (d.0, d.1, none) refl
             ]
       ]
@@ -475,7 +489,8 @@ module _ (p q most room most' room' : ℕ) (wider : most ≤ most') (longer : ro
     pub longer_left : (resume p q most room b w).work ≡ (resume p q most' room' (turns p q most room most' room' wider longer w b e e') w).work
     longer_left =
         let t = (call_walks (short p q most room most' room' wider longer) w b e).1 in
-        let none : walk_steps b (short p q most room most' room' wider longer) w + 0 ≡ walk_steps b (short p q most room most' room' wider longer) w = omega arith in
+        let none : walk_steps b (short p q most room most' room' wider longer) w + 0 ≡ walk_steps b (short p q most room most' room' wider longer) w =
+        omega arith in
         left_walks ∙ sym (stays_here (walk b (short p q most room most' room' wider longer) w).state) ∙ ap (λ o. o.state) (walk_longer b 0 w)
         ∙ (rw (none, t) (sym (ap (λ o. o.work) (resume_walks most' room' w e' (walk_steps b (short p q most room most' room' wider longer) w)))))
 
@@ -484,5 +499,6 @@ module _ (p q most room most' room' : ℕ) (wider : most ≤ most') (longer : ro
         → resume p q most' room' c (resume p q most room b w).work ≡ resume p q most' room' ((turns p q most room most' room' wider longer w b e e') + c) w
     longer_on f c =
         let t = (call_walks (short p q most room most' room' wider longer) w b e).1 in
-        resume_walks most' room' (resume p q most room b w).work f c ∙ ap (λ v. of_machine p (walk c (long p q most room most' room' wider longer) v)) left_walks ∙ ap (of_machine p) (walk_longer b c w)
+        resume_walks most' room' (resume p q most room b w).work f c
+        ∙ ap (λ v. of_machine p (walk c (long p q most room most' room' wider longer) v)) left_walks ∙ ap (of_machine p) (walk_longer b c w)
         ∙ (rw t (sym (resume_walks most' room' w e' (walk_steps b (short p q most room most' room' wider longer) w + c))))

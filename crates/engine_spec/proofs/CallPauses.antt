@@ -1,5 +1,5 @@
 -- A pause within a stage, from the law of CallRules on more room than there was; apart from it, so that an edit of that law is refused there. Assumes nothing.
-use Rattle.std.specs.Prelude.{◌≡◌, List, [], ℕ, ◌+◌, ◌≤◌, ◌<◌, ℤ}
+use Rattle.std.specs.Prelude.{◌≡◌, List, ℕ, ◌+◌, ◌≤◌, ◌<◌, ℤ}
 use Rattle.std.proofs.Common.{◌∙◌, ap, inl, inr, arith}
 use Rattle.definitions.specs.Answers.{paused}
 use Rattle.engine_spec.specs.Base.{Base}

@@ -11,7 +11,8 @@ use Rattle.theorems.specs.Series.{Lending, meanwhile}
 use Rattle.engine_spec.specs.Base.{Base}
 use Rattle.engine_spec.specs.CallAnswers.{turns_taken}
 use Rattle.engine_spec.proofs.CallAnswers.{counted, engine_answers, longer_left, longer_on, refused_by, refuses_again, turn_taken}
-use Rattle.engine_spec.specs.Calls.{checked, combine, combine_checks, resume, resume_checks, start_checks, start_from_checks, start_from_under, start_under, take, take_checks}
+use Rattle.engine_spec.specs.Calls.{checked, combine, combine_checks, resume, resume_checks, start_checks, start_from_checks, start_from_under, start_under}
+use Rattle.engine_spec.specs.Calls.{take, take_checks}
 use Rattle.engine_spec.specs.Engine.{Result, Work, combined, result, stays, taken, taken_fresh}
 use Rattle.engine_spec.proofs.LentRows.{lent_silent}
 use Rattle.engine_spec.proofs.Own.{own_calls}
@@ -104,7 +105,8 @@ module _ (l : Lending Work) (s : State) (p q : ℕ) (n : ℕ) (values : List ℕ
   unfolding start_under
   start_leaves cap coefs most e = unchanged_leaves (λ w. (start_under cap p q coefs most w).work) l s (refused_checked _ (handed l s p q n values) _ n values e)
 
-  pub start_from_leaves : (cap : ℕ) (coefs : List ℤ) (m : ℕ) (rows : List ℕ) (most : ℕ) → start_from_checks p q coefs m rows most (handed l s p q n values) ≡ refuse n values
+  pub start_from_leaves : (cap : ℕ) (coefs : List ℤ) (m : ℕ) (rows : List ℕ) (most : ℕ) → start_from_checks p q coefs m rows most (handed l s p q n values)
+      ≡ refuse n values
       → meanwhile (λ w. (start_from_under cap p q coefs m rows most w).work) l s ≡ s
   unfolding start_from_under
   start_from_leaves cap coefs m rows most e =
@@ -116,11 +118,13 @@ module _ (l : Lending Work) (s : State) (p q : ℕ) (n : ℕ) (values : List ℕ
   combine_leaves most room i k u t e =
       unchanged_leaves (λ w. (combine p q most room i k u t w).work) l s (refused_checked _ (handed l s p q n values) _ n values e)
 
-  pub take_leaves : (most room e f : ℕ) → take_checks p q most room e f (handed l s p q n values) ≡ refuse n values → meanwhile (λ w. (take p q most room e f w).work) l s ≡ s
+  pub take_leaves : (most room e f : ℕ) → take_checks p q most room e f (handed l s p q n values) ≡ refuse n values
+      → meanwhile (λ w. (take p q most room e f w).work) l s ≡ s
   unfolding take
   take_leaves most room e f g = unchanged_leaves (λ w. (take p q most room e f w).work) l s (refused_checked _ (handed l s p q n values) _ n values g)
 
   pub refused_leaves : (most room budget : ℕ) → resume_checks p q most room (handed l s p q n values) ≡ refuse n values
       → meanwhile (λ w. (resume p q most room budget w).work) l s ≡ s
   unfolding resume
-  refused_leaves most room budget e = unchanged_leaves (λ w. (resume p q most room budget w).work) l s (refused_checked _ (handed l s p q n values) _ n values e)
+  refused_leaves most room budget e =
+      unchanged_leaves (λ w. (resume p q most room budget w).work) l s (refused_checked _ (handed l s p q n values) _ n values e)

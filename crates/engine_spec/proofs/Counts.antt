@@ -4,7 +4,8 @@ use Rattle.std.proofs.Common.{T_not}
 use Rattle.std.proofs.Math.Dec.{eqb_refl}
 use Rattle.definitions.specs.Refusals.{step_limit}
 use Rattle.engine_spec.specs.Reduction.{is_small}
-use Rattle.engine_spec.specs.Stage.{Stage, Turned, above, below, degree_turn, due_row, ends, goes, grown, is_needless, next_degree, pair_turn, paired, passed, raised, row_turn, stops, sum_of, turn}
+use Rattle.engine_spec.specs.Stage.{Stage, Turned, above, below, degree_turn, due_row, ends, goes, grown, is_needless, next_degree, pair_turn, paired, passed}
+use Rattle.engine_spec.specs.Stage.{raised, row_turn, stops, sum_of, turn}
 
 abbrev pub Timed : Stage → Turned → Type 0
 Timed s (goes t) = (s.steps ≢ step_limit) × (t.steps ≡ s.steps + 1)

@@ -32,7 +32,8 @@ use Rattle.engine_spec.proofs.ReductionLaws.{reducible_from, small_from}
 use Rattle.engine_spec.specs.Signs.{Within}
 use Rattle.engine_spec.proofs.Reducing.{reducible_to}
 use Rattle.engine_spec.specs.Sound.{Given, Sound}
-use Rattle.engine_spec.specs.Stage.{Outcome, Stage, Turned, above, after, begin, below, degree_turn, ends, goes, grown, is_needless, next_degree, paired, pair_turn, passed, raised, row, due_row, row_turn, run, stops, sum_of, turn}
+use Rattle.engine_spec.specs.Stage.{Outcome, Stage, Turned, above, after, begin, below, degree_turn, ends, goes, grown, is_needless, next_degree, paired}
+use Rattle.engine_spec.specs.Stage.{pair_turn, passed, raised, row, due_row, row_turn, run, stops, sum_of, turn}
 use Rattle.engine_spec.proofs.Turns.{end_closed, end_holding, passed_sound, raised_sound, row_sound, sum_sound}
 use Rattle.engine_spec.specs.Ends.{Ended, picked_from}
 
@@ -221,7 +222,8 @@ irreducible cap p q a c m basis s sound i k il kl ne w b =
 module _ (cap p q : ℕ) (a a' : ℕ → ℕ → ℤ) (c : ℕ → ℤ) (extends : Extends p q a a' c) (m : ℕ) (basis : ℕ → ℕ → ℕ) (s : Stage)
     (sound : Sound cap p q a c m basis s) (ended : Ended cap p q a c s) (n' : ℕ) (row' : ℕ → ℕ → ℕ)
     (picked : Picked q s.rows (row q s) (zero_row q c (row q s)) n' row') where
-  abbrev from : (x : ℕ) → x < n' → (i : ℕ) × (i < s.rows) × T (zero_row q c (row q s) i) × (count_to i (zero_row q c (row q s)) ≡ x) × Same q (row' x) (row q s i)
+  abbrev from : (x : ℕ) → x < n' → (i : ℕ) × (i < s.rows) × T (zero_row q c (row q s) i) × (count_to i (zero_row q c (row q s)) ≡ x)
+      × Same q (row' x) (row q s i)
   from = picked_from q s.rows (row q s) (zero_row q c (row q s)) n' row' picked
 
   none_above : (x y : ℕ) → x < n' → y < n' → x ≢ y → ¬ (AtOrBelow q (row' x) (row' y))

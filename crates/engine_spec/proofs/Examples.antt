@@ -9,7 +9,8 @@ use Rattle.definitions.specs.System.{is_at_or_below}
 use Rattle.definitions.specs.Tables.{write_to}
 use Rattle.engine_spec.specs.Reduction.{is_small, is_within, reducible}
 use Rattle.engine_spec.specs.Search.{first_from, least_to, lesser}
-use Rattle.engine_spec.specs.Stage.{Outcome, after, begin, degree_turn, grown, is_due, is_pair, next_degree, paired, pair_degree, pair_turn, passed, raised, row_turn, run, turn}
+use Rattle.engine_spec.specs.Stage.{Outcome, after, begin, degree_turn, grown, is_due, is_pair, next_degree, paired, pair_degree, pair_turn, passed, raised}
+use Rattle.engine_spec.specs.Stage.{row_turn, run, turn}
 
 abbrev ran : (q : ℕ) (c : List ℤ) (room budget : ℕ) → Outcome
 ran q c room budget = run q (λ j. get_or c j (pos 0)) q unit room budget (begin 0 (replicate (room * q) 0) 0)

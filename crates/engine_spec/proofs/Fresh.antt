@@ -167,7 +167,8 @@ module _ (cap p q : ℕ) (a a' : ℕ → ℕ → ℤ) (c : ℕ → ℤ) (extends
   put_inside t x inside capped some = let more = uncapped capped in omega (arith, put_other f x t 0 (omega arith), inside capped some)
 
   -- a row of value 0 or more, filled, is a nonzero solution with the equation
-  pub filled_wanted : (i : ℕ) → i < n → down ((v cap p q a a' c extends f fq uncapped minus free p₀ a₀ without n row holding closed) (row i)) ≡ 0 → Wanted cap p q a' (filled q c f (row i))
+  pub filled_wanted : (i : ℕ) → i < n → down ((v cap p q a a' c extends f fq uncapped minus free p₀ a₀ without n row holding closed) (row i)) ≡ 0
+      → Wanted cap p q a' (filled q c f (row i))
   filled_wanted i l none =
       let t = filled q c f (row i) in
       let w = holding.wanted i l in
@@ -181,11 +182,16 @@ module _ (cap p q : ℕ) (a a' : ℕ → ℕ → ℤ) (c : ℕ → ℤ) (extends
         ap up (value_same c q (emptied i (up ((v cap p q a a' c extends f fq uncapped minus free p₀ a₀ without n row holding closed) (row i))) l)),
         ap down (value_same c q (emptied i (up ((v cap p q a a' c extends f fq uncapped minus free p₀ a₀ without n row holding closed) (row i))) l)),
       )) in
-      wanted_from cap p q a' (extends.more t (put_solves (row i) (up ((v cap p q a a' c extends f fq uncapped minus free p₀ a₀ without n row holding closed) (row i))) (without.less (row i) w.solution)) zero_value)
-      (j, jq, omega (arith, put_other f (up ((v cap p q a a' c extends f fq uncapped minus free p₀ a₀ without n row holding closed) (row i))) (row i) j apart)) (put_inside (row i) (up ((v cap p q a a' c extends f fq uncapped minus free p₀ a₀ without n row holding closed) (row i))) (wanted_inside cap p₀ q a₀ w))
+      wanted_from cap p q a'
+      (extends.more t (put_solves (row i) (up ((v cap p q a a' c extends f fq uncapped minus free p₀ a₀ without n row holding closed) (row i)))
+      (without.less (row i) w.solution)) zero_value)
+      (j, jq, omega (arith, put_other f (up ((v cap p q a a' c extends f fq uncapped minus free p₀ a₀ without n row holding closed) (row i))) (row i) j apart))
+      (put_inside (row i) (up ((v cap p q a a' c extends f fq uncapped minus free p₀ a₀ without n row holding closed) (row i)))
+      (wanted_inside cap p₀ q a₀ w))
 
   -- such a row lies at or below each nonzero solution with the equation
-  pub filled_under : (t : ℕ → ℕ) → Wanted cap p q a' t → (i : ℕ) × (i < n) × (down ((v cap p q a a' c extends f fq uncapped minus free p₀ a₀ without n row holding closed) (row i)) ≡ 0) × AtOrBelow q (filled q c f (row i)) t
+  pub filled_under : (t : ℕ → ℕ) → Wanted cap p q a' t → (i : ℕ) × (i < n)
+      × (down ((v cap p q a a' c extends f fq uncapped minus free p₀ a₀ without n row holding closed) (row i)) ≡ 0) × AtOrBelow q (filled q c f (row i)) t
   filled_under t w =
       let t₀ = put_at f 0 t in
       let s₀ = without.more t₀ (put_solves t 0 (extends.less t w.solution)) (put_same f 0 t) in
@@ -210,10 +216,26 @@ module _ (cap p q : ℕ) (a a' : ℕ → ℕ → ℤ) (c : ℕ → ℤ) (extends
       let inside = consistent_rows q c n row d k kn taken in (
         k,
         kn,
-        omega (arith, inside.downs, ap up meets, ap down meets, one_side ((v cap p q a a' c extends f fq uncapped minus free p₀ a₀ without n row holding closed) t₀)),
+        omega (
+          arith,
+          inside.downs,
+          ap up meets,
+          ap down meets,
+          one_side
+              ((v cap p q a a' c extends f fq uncapped minus free p₀ a₀ without n row holding closed) t₀),
+        ),
         λ i iq. elim (ℕ_discrete i f) [
-          | yes e ↦ rw (e, put_same f (up ((v cap p q a a' c extends f fq uncapped minus free p₀ a₀ without n row holding closed) (row k))) (row k)) (omega (arith, inside.ups, ap up meets, ap down meets, one_side ((v cap p q a a' c extends f fq uncapped minus free p₀ a₀ without n row holding closed) t₀)))
-          | no ne ↦ rw (put_other f (up ((v cap p q a a' c extends f fq uncapped minus free p₀ a₀ without n row holding closed) (row k))) (row k) i ne) (omega (arith, b i iq, put_other f 0 t i ne))
+          | yes e ↦ rw (e, put_same f (up ((v cap p q a a' c extends f fq uncapped minus free p₀ a₀ without n row holding closed) (row k))) (row k))
+              (omega (
+                arith,
+                inside.ups,
+                ap up meets,
+                ap down meets,
+                one_side
+                    ((v cap p q a a' c extends f fq uncapped minus free p₀ a₀ without n row holding closed) t₀),
+              ))
+          | no ne ↦ rw (put_other f (up ((v cap p q a a' c extends f fq uncapped minus free p₀ a₀ without n row holding closed) (row k))) (row k) i ne)
+              (omega (arith, b i iq, put_other f 0 t i ne))
         ],
       )
 
@@ -263,7 +285,8 @@ module _ (cap p q : ℕ) (a : ℕ → ℕ → ℤ) (f : ℕ) (fq : f < q) (p₀ 
                     λ j jq. picked.rows i im z j jq ∙ e j jq,
                   );
             };
-        small = λ x j xn jq. let (i, im, z, e, is) = (from cap p q a f fq p₀ a₀ without m basis given m₀ basis₀ picked) x xn in omega (arith, given.small i j im jq, is j jq);
+        small = λ x j xn jq. let (i, im, z, e, is) =
+            (from cap p q a f fq p₀ a₀ without m basis given m₀ basis₀ picked) x xn in omega (arith, given.small i j im jq, is j jq);
       }
 
 not_below_lem : (z : ℤ) → T (not (lt_z z (pos 0))) → down z ≡ 0
@@ -283,7 +306,9 @@ module _ (cap p q : ℕ) (a a' : ℕ → ℕ → ℤ) (c : ℕ → ℤ) (extends
       let vi = value c q (row q s i) in
       let vk = value c q (row q s k) in
       let less : up vi ≤ up vk = omega (arith, b f fq, si f fq, sk f fq, put_same f (up vi) (row q s i), put_same f (up vk) (row q s k)) in
-      irreducible cap p₀ q a₀ c m basis s sound i k il kl (λ e. ne (sym ei ∙ (ap (λ i. count_to i (g cap p q a a' c extends f fq uncapped minus free p₀ a₀ without m basis s sound ended n' row' picked)) e ∙ ek)))
+      irreducible cap p₀ q a₀ c m basis s sound i k il kl
+      (λ e. ne (sym ei ∙ (ap (λ i. count_to i (g cap p q a a' c extends f fq uncapped minus free p₀ a₀ without m basis s sound ended n' row' picked)) e
+      ∙ ek)))
       (record { ups = less; downs = omega (arith, not_below_lem vi fi) })
       (λ j jq. elim (ℕ_discrete j f) [
         | yes e ↦ rw e (omega (arith, without.none (row q s i) (sound.wanted i il).solution))
@@ -303,7 +328,12 @@ module _ (cap p q : ℕ) (a a' : ℕ → ℕ → ℤ) (c : ℕ → ℤ) (extends
       let (i, il, e, b) = filled_under cap p q a a' c extends f fq uncapped minus free p₀ a₀ without s.rows (row q s) ended.holding ended.closed t w in
       let fi = below_not (value c q (row q s i)) e in (
         count_to i (g cap p q a a' c extends f fq uncapped minus free p₀ a₀ without m basis s sound ended n' row' picked),
-        omega (arith, picked.count, count_step (g cap p q a a' c extends f fq uncapped minus free p₀ a₀ without m basis s sound ended n' row' picked) i s.rows il fi),
+        omega (
+          arith,
+          picked.count,
+          count_step (g cap p q a a' c extends f fq uncapped minus free p₀ a₀ without m basis s sound ended n' row' picked) i s.rows
+              il fi,
+        ),
         λ j jq. omega (arith, picked.rows i il fi j jq, b j jq),
       ))
       n' row' (nothing_swept q n' row' none_above)

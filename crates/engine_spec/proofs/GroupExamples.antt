@@ -12,8 +12,10 @@ use Rattle.definitions.specs.Tables.{at, bit, frozen, write_to}
 use Rattle.laws.proofs.TableLaws.{row_before}
 use Rattle.laws.specs.Pack.{pack_to}
 use Rattle.desk_spec.specs.Promises.{SameList}
-use Rattle.engine_spec.specs.Calls.{checked, coefficients_small, in_order, is_alone, is_free, is_fresh, is_left, is_list, is_rising, is_row, marks_in_order, resume, resume_checks, start, start_checks, start_from, start_from_checks, start_from_under, start_under, take, take_checks}
-use Rattle.engine_spec.specs.Engine.{Work, after, all_done, begun_from_under, begun_under, fill_to, finish, finished, onward, rested, run, taken, taken_fresh, values_small}
+use Rattle.engine_spec.specs.Calls.{checked, coefficients_small, in_order, is_alone, is_free, is_fresh, is_left, is_list, is_rising, is_row, marks_in_order}
+use Rattle.engine_spec.specs.Calls.{resume, resume_checks, start, start_checks, start_from, start_from_checks, start_from_under, start_under, take, take_checks}
+use Rattle.engine_spec.specs.Engine.{Work, after, all_done, begun_from_under, begun_under, fill_to, finish, finished, onward, rested, run, taken, taken_fresh}
+use Rattle.engine_spec.specs.Engine.{values_small}
 use Rattle.engine_spec.specs.Fresh.{put_at}
 use Rattle.engine_spec.specs.Promise.{after_resume, after_start, after_take}
 use Rattle.engine_spec.specs.Reduction.{is_small, is_within, reducible}
@@ -52,10 +54,10 @@ abbrev first_left : Work
 first_left = (resume 1 3 8 8 100 first_taken).work
 
 first_made : Made 3 1 first first_left.basis first_left.count
-unfolding start_under take resume checked start_checks take_checks resume_checks begun_under taken run after finish finished rested all_done values_small onward fill_to
-    in_order marks_in_order coefficients_small is_row is_rising is_left refuse_first refuse_with ◌then◌ pack_to turn row_turn pair_turn degree_turn paired grown
-    passed raised is_pair is_due pair_degree next_degree first_from lesser least_to is_within reducible is_small is_at_or_below value inner sum_to all_to any_to
-    count_to total unit write_to frozen bit
+unfolding start_under take resume checked start_checks take_checks resume_checks begun_under taken run after finish finished rested all_done values_small onward
+    fill_to in_order marks_in_order coefficients_small is_row is_rising is_left refuse_first refuse_with ◌then◌ pack_to turn row_turn pair_turn degree_turn
+    paired grown passed raised is_pair is_due pair_degree next_degree first_from lesser least_to is_within reducible is_small is_at_or_below value inner sum_to
+    all_to any_to count_to total unit write_to frozen bit
 first_made = loaded 1 first (after_take (after_start 8 8 lent refl roomy roomy refl) 0 3) 100 refl
 
 -- ---- the second from its list
@@ -74,11 +76,11 @@ abbrev second_left : Work
 second_left = (resume 1 3 8 8 100 (take 1 3 8 8 0 2 second_begun).work).work
 
 second_made : Made 3 2 (first ++ second) second_left.basis second_left.count
-unfolding start_under start_from_under take resume checked start_checks start_from_checks take_checks resume_checks begun_under begun_from_under taken taken_fresh
-    run after finish
-    finished rested all_done values_small onward fill_to in_order marks_in_order coefficients_small is_row is_rising is_left is_list is_fresh is_free is_alone
-    refuse_first refuse_with ◌then◌ pack_to turn row_turn pair_turn degree_turn paired grown passed raised is_pair is_due pair_degree next_degree first_from
-    lesser least_to is_within reducible is_small is_at_or_below value inner sum_to all_to any_to count_to total unit write_to frozen bit put_at
+unfolding start_under start_from_under take resume checked start_checks start_from_checks take_checks resume_checks begun_under begun_from_under taken
+    taken_fresh run after finish finished rested all_done values_small onward fill_to in_order marks_in_order coefficients_small is_row is_rising is_left
+    is_list is_fresh is_free is_alone refuse_first refuse_with ◌then◌ pack_to turn row_turn pair_turn degree_turn paired grown passed raised is_pair is_due
+    pair_degree next_degree first_from lesser least_to is_within reducible is_small is_at_or_below value inner sum_to all_to any_to count_to total unit write_to
+    frozen bit put_at
 second_made =
     further 1 first refl 1 second
     (after_take (handed_on first_made handed handed_same 1 second 8 8 lent roomy roomy refl) 0 2) 100 refl
@@ -95,10 +97,10 @@ abbrev both_left : Work
 both_left = (resume 2 3 8 8 100 (take 2 3 8 8 1 2 both_one).work).work
 
 both_made : Made 3 2 (first ++ second) both_left.basis both_left.count
-unfolding start_under take resume checked start_checks take_checks resume_checks begun_under taken taken_fresh run after finish finished rested all_done values_small
-    onward fill_to in_order marks_in_order coefficients_small is_row is_rising is_left is_fresh is_free is_alone refuse_first refuse_with ◌then◌ pack_to turn
-    row_turn pair_turn degree_turn paired grown passed raised is_pair is_due pair_degree next_degree first_from lesser least_to is_within reducible is_small
-    is_at_or_below value inner sum_to all_to any_to count_to total unit write_to frozen bit put_at
+unfolding start_under take resume checked start_checks take_checks resume_checks begun_under taken taken_fresh run after finish finished rested all_done
+    values_small onward fill_to in_order marks_in_order coefficients_small is_row is_rising is_left is_fresh is_free is_alone refuse_first refuse_with ◌then◌
+    pack_to turn row_turn pair_turn degree_turn paired grown passed raised is_pair is_due pair_degree next_degree first_from lesser least_to is_within reducible
+    is_small is_at_or_below value inner sum_to all_to any_to count_to total unit write_to frozen bit put_at
 both_made =
     loaded 2 (first ++ second) (after_take (after_resume (after_take (after_start 8 8 lent refl roomy roomy refl) 0 3) 100) 1 2) 100 refl
 

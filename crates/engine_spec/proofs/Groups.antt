@@ -64,7 +64,8 @@ exchanged q p coefs p' coefs' n n' =
 -- A list of the minimal solutions of a map of q unknowns: walked to the end (document 01); loaded as a whole by the engine; or one group of equations after the
 -- other, each from the list of those before it, in any grouping: by Job 10's desk, or by the engine's start from a list.
 pub data Made (q : ℕ) : (p : ℕ) → List ℤ → List ℕ → ℕ → Type 0 where
-  walked : (p : ℕ) (coefs : List ℤ) (s : State) → Run (input_of p q coefs) nonzero s → (budget : ℕ) → (walk.resume budget (input_of p q coefs) s).answer ≡ complete
+  walked : (p : ℕ) (coefs : List ℤ) (s : State) → Run (input_of p q coefs) nonzero s → (budget : ℕ) → (walk.resume budget (input_of p q coefs) s).answer
+      ≡ complete
       → Made q p coefs (walk.resume budget (input_of p q coefs) s).state.list (walk.resume budget (input_of p q coefs) s).state.run.found
   loaded : (p : ℕ) (coefs : List ℤ) {most room : ℕ} {w : Work} → Runs p q coefs most room w → (budget : ℕ)
       → (resume p q most room budget w).answer ≡ complete

@@ -9,8 +9,10 @@ use Rattle.definitions.specs.System.{extend_to, is_at_or_below}
 use Rattle.definitions.specs.Tables.{bit, frozen, write_to}
 use Rattle.laws.specs.Pack.{pack_to}
 use Rattle.engine_spec.specs.Calls as engine
-use Rattle.engine_spec.specs.Calls.{checked, coefficients_small, in_order, is_alone, is_free, is_fresh, is_left, is_list, is_rising, is_row, marks_in_order, resume, resume_checks, start, start_checks, start_from, start_from_checks, start_from_under, start_under, take_checks}
-use Rattle.engine_spec.specs.Engine.{Result, Work, after, all_done, begun_from_under, begun_under, fill_to, finish, finished, onward, rested, run, taken, taken_fresh, values_small}
+use Rattle.engine_spec.specs.Calls.{checked, coefficients_small, in_order, is_alone, is_free, is_fresh, is_left, is_list, is_rising, is_row, marks_in_order}
+use Rattle.engine_spec.specs.Calls.{resume, resume_checks, start, start_checks, start_from, start_from_checks, start_from_under, start_under, take_checks}
+use Rattle.engine_spec.specs.Engine.{Result, Work, after, all_done, begun_from_under, begun_under, fill_to, finish, finished, onward, rested, run, taken}
+use Rattle.engine_spec.specs.Engine.{taken_fresh, values_small}
 use Rattle.engine_spec.specs.Fresh.{put_at}
 use Rattle.engine_spec.specs.Reduction.{is_small, is_within, reducible}
 use Rattle.engine_spec.specs.Search.{first_from, least_to, lesser}
@@ -87,10 +89,9 @@ pub record Kinds : Type 0 where
 
 kinds : Kinds
 unfolding start_under engine.take resume checked start_checks take_checks resume_checks begun_under taken run after finish finished rested all_done values_small
-    onward fill_to
-    in_order marks_in_order coefficients_small is_row is_rising is_left refuse_first refuse_with ◌then◌ pack_to extend_to less_to turn row_turn pair_turn degree_turn
-    paired grown passed raised is_pair is_due pair_degree next_degree first_from lesser least_to is_within reducible is_small is_at_or_below value inner sum_to all_to
-    any_to count_to total unit write_to frozen bit is_fresh is_free is_alone
+    onward fill_to in_order marks_in_order coefficients_small is_row is_rising is_left refuse_first refuse_with ◌then◌ pack_to extend_to less_to turn row_turn
+    pair_turn degree_turn paired grown passed raised is_pair is_due pair_degree next_degree first_from lesser least_to is_within reducible is_small
+    is_at_or_below value inner sum_to all_to any_to count_to total unit write_to frozen bit is_fresh is_free is_alone
 kinds =
     record {
       loops = refl;
@@ -154,10 +155,9 @@ pub record Lists : Type 0 where
 
 lists : Lists
 unfolding start_from_under engine.take resume checked start_from_checks take_checks resume_checks begun_from_under taken taken_fresh run after finish finished
-    rested all_done
-    values_small onward fill_to in_order marks_in_order coefficients_small is_row is_rising is_left is_list is_fresh is_free is_alone refuse_first refuse_with ◌then◌
-    pack_to turn row_turn pair_turn degree_turn paired grown passed raised is_pair is_due pair_degree next_degree first_from lesser least_to is_within reducible
-    is_small is_at_or_below value inner sum_to all_to any_to count_to total unit write_to frozen bit put_at
+    rested all_done values_small onward fill_to in_order marks_in_order coefficients_small is_row is_rising is_left is_list is_fresh is_free is_alone
+    refuse_first refuse_with ◌then◌ pack_to turn row_turn pair_turn degree_turn paired grown passed raised is_pair is_due pair_degree next_degree first_from
+    lesser least_to is_within reducible is_small is_at_or_below value inner sum_to all_to any_to count_to total unit write_to frozen bit put_at
 lists =
     record {
       both = refl;
@@ -213,10 +213,10 @@ pub record Starts : Type 0 where
   pub beyond : (starts_with 2 2 (pos 1 ∷ pos 0 ∷ pos 1 ∷ negsuc 0 ∷ []) (pos 0 ∷ negsuc 0 ∷ []) (1000000 ∷ 0 ∷ [])).answer ≡ refused 35 (2 ∷ [])
 
 starts : Starts
-unfolding start_sides sides_checks sides_system side_at engine.take resume checked take_checks resume_checks begun_under taken run after finish finished rested all_done
-    values_small onward fill_to in_order marks_in_order coefficients_small is_row is_rising is_left refuse_first refuse_with ◌then◌ pack_to extend_to less_to turn row_turn
-    pair_turn degree_turn paired grown passed raised is_pair is_due pair_degree next_degree first_from lesser least_to is_within reducible is_small is_at_or_below value
-    inner sum_to all_to any_to count_to total unit write_to frozen bit
+unfolding start_sides sides_checks sides_system side_at engine.take resume checked take_checks resume_checks begun_under taken run after finish finished rested
+    all_done values_small onward fill_to in_order marks_in_order coefficients_small is_row is_rising is_left refuse_first refuse_with ◌then◌ pack_to extend_to
+    less_to turn row_turn pair_turn degree_turn paired grown passed raised is_pair is_due pair_degree next_degree first_from lesser least_to is_within reducible
+    is_small is_at_or_below value inner sum_to all_to any_to count_to total unit write_to frozen bit
 starts =
     record {
       column = refl;

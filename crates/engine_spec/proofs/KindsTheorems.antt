@@ -42,8 +42,10 @@ use Rattle.engine_spec.proofs.Promise.{all_complete, all_members, rows_inside, r
 use Rattle.engine_spec.specs.Promises.{map_of}
 use Rattle.engine_spec.specs.Stage.{row}
 use Rattle.engine_spec.specs.Sides.{MeetsFrom, handed, handed_count, less_to}
-use Rattle.engine_spec.proofs.Sides.{at_0_loop, at_1_loop, handed_exactly, less_entry, loop_at_0, loop_at_1, lowered_minimal, minimal_alike, minimal_as, neither, raised_minimal, value_apart}
-use Rattle.engine_spec.specs.Kinds.{BothLists, From, FromBound, MinimalMeetingFrom, SameSides, a, b, b', before, before_under, both, desk_from, extended, extended', first, nothing, second}
+use Rattle.engine_spec.proofs.Sides.{at_0_loop, at_1_loop, handed_exactly, less_entry, loop_at_0, loop_at_1, lowered_minimal, minimal_alike, minimal_as}
+use Rattle.engine_spec.proofs.Sides.{neither, raised_minimal, value_apart}
+use Rattle.engine_spec.specs.Kinds.{BothLists, From, FromBound, MinimalMeetingFrom, SameSides, a, b, b', before, before_under, both, desk_from, extended}
+use Rattle.engine_spec.specs.Kinds.{extended', first, nothing, second}
 
 -- ---- from the list of the extended system
 
@@ -61,35 +63,49 @@ first_inside cap q c s low capped columns = omega arith
 
 module _ (cap p q : ℕ) (some : 0 < q) (coefs rights : List ℤ) (numbers : length coefs ≡ p * q) (list : List ℕ) (n : ℕ)
     (rows : Enumerates (suc q) (LoopInside cap p (suc q) (system_of (suc q) (extend_to p q coefs rights))) n (at list (suc q))) where
-  loop : (t : ℕ → ℕ) → LoopInside cap p (suc q) (extended cap p q some coefs rights numbers list n rows) t → Loop p (suc q) (extended cap p q some coefs rights numbers list n rows) t
+  loop : (t : ℕ → ℕ) → LoopInside cap p (suc q) (extended cap p q some coefs rights numbers list n rows) t
+      → Loop p (suc q) (extended cap p q some coefs rights numbers list n rows) t
   loop = inside_loop cap p (suc q) (extended cap p q some coefs rights numbers list n rows)
 
-  x : Extends p q (a cap p q some coefs rights numbers list n rows) (b cap p q some coefs rights numbers list n rows) (system_of (suc q) (extend_to p q coefs rights))
+  x : Extends p q (a cap p q some coefs rights numbers list n rows) (b cap p q some coefs rights numbers list n rows)
+      (system_of (suc q) (extend_to p q coefs rights))
   x = extends (map_of p q coefs) rights numbers
 
-  plain_alike : (s t : ℕ → ℕ) → Same q s t → Loop p q (a cap p q some coefs rights numbers list n rows) s → Loop p q (a cap p q some coefs rights numbers list n rows) t
+  plain_alike : (s t : ℕ → ℕ) → Same q s t → Loop p q (a cap p q some coefs rights numbers list n rows) s
+      → Loop p q (a cap p q some coefs rights numbers list n rows) t
   plain_alike = minimal_alike q (solution_alike p q (a cap p q some coefs rights numbers list n rows))
 
-  meeting_alike : (s t : ℕ → ℕ) → Same q s t → Minimal q (Meets p q (a cap p q some coefs rights numbers list n rows) (b cap p q some coefs rights numbers list n rows)) s → Minimal q (Meets p q (a cap p q some coefs rights numbers list n rows) (b cap p q some coefs rights numbers list n rows)) t
+  meeting_alike : (s t : ℕ → ℕ) → Same q s t
+      → Minimal q (Meets p q (a cap p q some coefs rights numbers list n rows) (b cap p q some coefs rights numbers list n rows)) s
+      → Minimal q (Meets p q (a cap p q some coefs rights numbers list n rows) (b cap p q some coefs rights numbers list n rows)) t
   meeting_alike = minimal_alike q (meets_alike p q (a cap p q some coefs rights numbers list n rows) (b cap p q some coefs rights numbers list n rows))
 
   ones : (out : List ℕ) → handed_count 1 q list n * q ≤ length out
       → Exactly q (MinimalMeeting (map_of p q coefs) rights) (handed 1 q nothing list n out) (handed_count 1 q list n)
   ones out roomy =
-      handed_exactly q some (LoopInside cap p (suc q) (extended cap p q some coefs rights numbers list n rows)) (Minimal q (Meets p q (a cap p q some coefs rights numbers list n rows) (b cap p q some coefs rights numbers list n rows))) meeting_alike 1 nothing
+      handed_exactly q some (LoopInside cap p (suc q) (extended cap p q some coefs rights numbers list n rows))
+      (Minimal q (Meets p q (a cap p q some coefs rights numbers list n rows) (b cap p q some coefs rights numbers list n rows))) meeting_alike 1 nothing
       (λ t m z. meeting_alike (rest t) (λ j. rest t j + 0) (λ j l. omega arith) (loop_at_1 x t (loop t m) z))
-      (λ s m. (put 1 s, loop_inside cap p (suc q) (extended cap p q some coefs rights numbers list n rows) (put 1 s) (first_inside cap q 1 s (omega arith)) (at_1_loop x s m), refl, λ j l. omega arith))
+      (λ s m. (
+        put 1 s,
+        loop_inside cap p (suc q) (extended cap p q some coefs rights numbers list n rows) (put 1 s) (first_inside cap q 1 s (omega arith))
+            (at_1_loop x s m),
+        refl,
+        λ j l. omega arith,
+      ))
       list n rows out roomy
 
   pub both_lists : BothLists p q coefs rights list n
   both_lists =
       record {
         at_zero = λ out roomy.
-            handed_exactly q some (LoopInside cap p (suc q) (extended cap p q some coefs rights numbers list n rows)) (Loop p q (a cap p q some coefs rights numbers list n rows)) plain_alike 0 nothing
+            handed_exactly q some (LoopInside cap p (suc q) (extended cap p q some coefs rights numbers list n rows))
+            (Loop p q (a cap p q some coefs rights numbers list n rows)) plain_alike 0 nothing
             (λ t m z. plain_alike (rest t) (λ j. rest t j + 0) (λ j l. omega arith) (loop_at_0 x t (loop t m) z))
             (λ s m. (
               put 0 s,
-              loop_inside cap p (suc q) (extended cap p q some coefs rights numbers list n rows) (put 0 s) (first_inside cap q 0 s (omega arith)) (at_0_loop x s m),
+              loop_inside cap p (suc q) (extended cap p q some coefs rights numbers list n rows) (put 0 s) (first_inside cap q 0 s (omega arith))
+                  (at_0_loop x s m),
               refl,
               λ j l. omega arith,
             ))
@@ -105,25 +121,31 @@ module _ (cap p q : ℕ) (some : 0 < q) (coefs rights : List ℤ) (numbers : len
 module _ (cap p q : ℕ) (some : 0 < q) (coefs rights : List ℤ) (numbers : length coefs ≡ p * q) (lower : ℕ → ℕ) (list : List ℕ) (n : ℕ)
     (rows : Enumerates (suc q) (LoopInside cap p (suc q) (system_of (suc q) (extend_to p q coefs (less_to p q coefs rights lower)))) n
     (at list (suc q))) where
-  x' : Extends p q (system_of q coefs) (b' cap p q some coefs rights numbers lower list n rows) (system_of (suc q) (extend_to p q coefs (less_to p q coefs rights lower)))
+  x' : Extends p q (system_of q coefs) (b' cap p q some coefs rights numbers lower list n rows)
+      (system_of (suc q) (extend_to p q coefs (less_to p q coefs rights lower)))
   x' = extends (map_of p q coefs) (less_to p q coefs rights lower) numbers
 
   less : (i : ℕ) → i < p → (b' cap p q some coefs rights numbers lower list n rows) i ≡ get_or rights i (pos 0) +ℤ neg_ℤ (value (system_of q coefs i) q lower)
   less = less_entry p q coefs rights lower
 
-  from_alike : (s t : ℕ → ℕ) → Same q s t → (From cap p q some coefs rights numbers lower list n rows) s → (From cap p q some coefs rights numbers lower list n rows) t
+  from_alike : (s t : ℕ → ℕ) → Same q s t → (From cap p q some coefs rights numbers lower list n rows) s
+      → (From cap p q some coefs rights numbers lower list n rows) t
   from_alike s t e m =
       record { meets = meets_alike p q (system_of q coefs) _ s t e m.meets; above = λ j l. omega (arith, m.above j l, e j l) }
 
   from_bound : (out : List ℕ) → handed_count 1 q list n * q ≤ length out
       → Exactly q (MinimalMeetingFrom p q coefs rights lower) (handed 1 q lower list n out) (handed_count 1 q list n)
   from_bound out roomy =
-      handed_exactly q some (LoopInside cap p (suc q) (extended' cap p q some coefs rights numbers lower list n rows)) (Minimal q (From cap p q some coefs rights numbers lower list n rows)) (minimal_alike q from_alike) 1 lower
-      (λ t m z. raised_minimal p q (system_of q coefs) _ (b' cap p q some coefs rights numbers lower list n rows) lower less (rest t) (loop_at_1 x' t (inside_loop cap p (suc q) (extended' cap p q some coefs rights numbers lower list n rows) t m) z))
+      handed_exactly q some (LoopInside cap p (suc q) (extended' cap p q some coefs rights numbers lower list n rows))
+      (Minimal q (From cap p q some coefs rights numbers lower list n rows)) (minimal_alike q from_alike) 1 lower
+      (λ t m z. raised_minimal p q (system_of q coefs) _ (b' cap p q some coefs rights numbers lower list n rows) lower less (rest t)
+      (loop_at_1 x' t (inside_loop cap p (suc q) (extended' cap p q some coefs rights numbers lower list n rows) t m) z))
       (λ s m. (
         put 1 (λ j. s j - lower j),
-        loop_inside cap p (suc q) (extended' cap p q some coefs rights numbers lower list n rows) (put 1 (λ j. s j - lower j)) (first_inside cap q 1 (λ j. s j - lower j) (omega arith))
-            (at_1_loop x' (λ j. s j - lower j) (lowered_minimal p q (system_of q coefs) _ (b' cap p q some coefs rights numbers lower list n rows) lower less s m)),
+        loop_inside cap p (suc q) (extended' cap p q some coefs rights numbers lower list n rows) (put 1 (λ j. s j - lower j))
+            (first_inside cap q 1 (λ j. s j - lower j) (omega arith))
+            (at_1_loop x' (λ j. s j - lower j)
+            (lowered_minimal p q (system_of q coefs) _ (b' cap p q some coefs rights numbers lower list n rows) lower less s m)),
         refl,
         λ j l. omega (arith, m.holds.above j l),
       ))
@@ -306,13 +328,15 @@ module _ (p₀ q : ℕ) (coefs₀ rights₀ : List ℤ) (numbers₀ : length coe
   joined = groups_joined (desk_from p q coefs 0 []) (record { p = p₀; coefs = coefs₀; numbers = numbers₀ })
 
   -- the extended equations of both groups are those of the first, then those of the second
-  value_of_first : (i : ℕ) → i < p₀ → (t : ℕ → ℕ) → value ((both p₀ q coefs₀ rights₀ numbers₀ sides₀ p coefs rights numbers) i) (suc q) t ≡ value ((first p₀ q coefs₀ rights₀ numbers₀ sides₀ p coefs rights numbers) i) (suc q) t
+  value_of_first : (i : ℕ) → i < p₀ → (t : ℕ → ℕ) → value ((both p₀ q coefs₀ rights₀ numbers₀ sides₀ p coefs rights numbers) i) (suc q) t
+      ≡ value ((first p₀ q coefs₀ rights₀ numbers₀ sides₀ p coefs rights numbers) i) (suc q) t
   value_of_first i l t =
       value_apart (extends (map_of (p₀ + p) q (coefs₀ ++ coefs)) (rights₀ ++ rights) all_numbers) i (omega arith) t
       ∙ rw (get_or-append rights₀ rights (pos 0) i (omega (arith, sides₀)), value_alike q (rest t) (λ j jq. joined.first i j l jq))
       (sym (value_apart (extends (map_of p₀ q coefs₀) rights₀ numbers₀) i l t))
 
-  value_of_second : (i : ℕ) → i < p → (t : ℕ → ℕ) → value ((both p₀ q coefs₀ rights₀ numbers₀ sides₀ p coefs rights numbers) (p₀ + i)) (suc q) t ≡ value ((second p₀ q coefs₀ rights₀ numbers₀ sides₀ p coefs rights numbers) i) (suc q) t
+  value_of_second : (i : ℕ) → i < p → (t : ℕ → ℕ) → value ((both p₀ q coefs₀ rights₀ numbers₀ sides₀ p coefs rights numbers) (p₀ + i)) (suc q) t
+      ≡ value ((second p₀ q coefs₀ rights₀ numbers₀ sides₀ p coefs rights numbers) i) (suc q) t
   value_of_second i l t =
       let side : get_or (rights₀ ++ rights) (p₀ + i) (pos 0) ≡ get_or rights i (pos 0) = rw sides₀ at (get_or-append-add rights₀ rights i (pos 0)) in
       value_apart (extends (map_of (p₀ + p) q (coefs₀ ++ coefs)) (rights₀ ++ rights) all_numbers) (p₀ + i) (omega arith) t
@@ -332,16 +356,20 @@ module _ (p₀ q : ℕ) (coefs₀ rights₀ : List ℤ) (numbers₀ : length coe
       base : Base
       base = before_under cap p₀ (suc q) (extend_to p₀ q coefs₀ rights₀)
 
-      there : (t : ℕ → ℕ) → Solution (p₀ + p) (suc q) (on_top base (second p₀ q coefs₀ rights₀ numbers₀ sides₀ p coefs rights numbers)) t → Solution (p₀ + p) (suc q) (both p₀ q coefs₀ rights₀ numbers₀ sides₀ p coefs rights numbers) t
+      there : (t : ℕ → ℕ) → Solution (p₀ + p) (suc q) (on_top base (second p₀ q coefs₀ rights₀ numbers₀ sides₀ p coefs rights numbers)) t
+          → Solution (p₀ + p) (suc q) (both p₀ q coefs₀ rights₀ numbers₀ sides₀ p coefs rights numbers) t
       there t s i l =
           elim (split i p₀) [
             | inl low ↦ value_of_first i low t ∙ before_solved base p (suc q) (second p₀ q coefs₀ rights₀ numbers₀ sides₀ p coefs rights numbers) t s i low
             | inr high ↦
                 let place : i ≡ p₀ + (i - p₀) = omega arith in
-                rw place (value_of_second (i - p₀) (omega arith) t ∙ behind_solved base p (suc q) (second p₀ q coefs₀ rights₀ numbers₀ sides₀ p coefs rights numbers) t s (i - p₀) (omega arith))
+                rw place (value_of_second (i - p₀) (omega arith) t
+                ∙ behind_solved base p (suc q) (second p₀ q coefs₀ rights₀ numbers₀ sides₀ p coefs rights numbers) t s (i - p₀) (omega arith))
           ]
 
-      back : (t : ℕ → ℕ) → Solution (p₀ + p) (suc q) (both p₀ q coefs₀ rights₀ numbers₀ sides₀ p coefs rights numbers) t → Solution (p₀ + p) (suc q) (on_top base (second p₀ q coefs₀ rights₀ numbers₀ sides₀ p coefs rights numbers)) t
+      back : (t : ℕ → ℕ) → Solution (p₀ + p) (suc q) (both p₀ q coefs₀ rights₀ numbers₀ sides₀ p coefs rights numbers) t
+          → Solution (p₀ + p) (suc q) (on_top base (second p₀ q coefs₀ rights₀ numbers₀ sides₀ p coefs rights numbers)) t
       back t s =
-          both_solved base p (suc q) (second p₀ q coefs₀ rights₀ numbers₀ sides₀ p coefs rights numbers) t (λ i l. sym (value_of_first i l t) ∙ s i (omega arith))
+          both_solved base p (suc q) (second p₀ q coefs₀ rights₀ numbers₀ sides₀ p coefs rights numbers) t
+          (λ i l. sym (value_of_first i l t) ∙ s i (omega arith))
           (λ i l. sym (value_of_second i l t) ∙ s (p₀ + i) (omega arith))

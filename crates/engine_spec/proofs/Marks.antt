@@ -60,7 +60,8 @@ mark_reduces q c n row z mark m w o l =
 
 module _ (q : ℕ) (c : ℕ → ℤ) (n : ℕ) (row : ℕ → ℕ → ℕ) (h k : ℕ) (hn : h < n) (kn : k < n) (pair : Against (value c q (row h)) (value c q (row k)))
     (z : ℕ → ℕ) (is : (j : ℕ) → j < q → z j ≡ row h j + row k j) where
-  sum_value : up (v q c n row h k hn kn pair z is) + down ((x q c n row h k hn kn pair z is) +ℤ (y q c n row h k hn kn pair z is)) ≡ up ((x q c n row h k hn kn pair z is) +ℤ (y q c n row h k hn kn pair z is)) + down (v q c n row h k hn kn pair z is)
+  sum_value : up (v q c n row h k hn kn pair z is) + down ((x q c n row h k hn kn pair z is) +ℤ (y q c n row h k hn kn pair z is))
+      ≡ up ((x q c n row h k hn kn pair z is) +ℤ (y q c n row h k hn kn pair z is)) + down (v q c n row h k hn kn pair z is)
   sum_value = same_up (value_sum c q (row h) (row k) z is)
 
   -- a sum above 0: the row below 0 lies below it, and the mark is the size of the row above 0
@@ -71,7 +72,19 @@ module _ (q : ℕ) (c : ℕ → ℤ) (n : ℕ) (row : ℕ → ℕ → ℕ) (h k 
         low = kn;
         under = λ j jq. omega (arith, is j jq);
         signs = inl (record { above = u; below = pair.below });
-        sizes = omega (arith, sum_value, sum_is (x q c n row h k hn kn pair z is) (y q c n row h k hn kn pair z is), pair.above, pair.below, one_side (x q c n row h k hn kn pair z is), one_side (y q c n row h k hn kn pair z is), one_side (v q c n row h k hn kn pair z is), one_side ((x q c n row h k hn kn pair z is) +ℤ (y q c n row h k hn kn pair z is)));
+        sizes = omega (
+          arith,
+          sum_value,
+          sum_is (x q c n row h k hn kn pair z is) (y q c n row h k hn kn pair z is),
+          pair.above,
+          pair.below,
+          one_side
+              (x q c n row h k hn kn pair z is),
+          one_side (y q c n row h k hn kn pair z is),
+          one_side (v q c n row h k hn kn pair z is),
+          one_side
+              ((x q c n row h k hn kn pair z is) +ℤ (y q c n row h k hn kn pair z is)),
+        );
       }
 
   -- a sum below 0
@@ -82,7 +95,19 @@ module _ (q : ℕ) (c : ℕ → ℤ) (n : ℕ) (row : ℕ → ℕ → ℕ) (h k 
         low = hn;
         under = λ j jq. omega (arith, is j jq);
         signs = inr (record { above = pair.above; below = d });
-        sizes = omega (arith, sum_value, sum_is (x q c n row h k hn kn pair z is) (y q c n row h k hn kn pair z is), pair.above, pair.below, one_side (x q c n row h k hn kn pair z is), one_side (y q c n row h k hn kn pair z is), one_side (v q c n row h k hn kn pair z is), one_side ((x q c n row h k hn kn pair z is) +ℤ (y q c n row h k hn kn pair z is)));
+        sizes = omega (
+          arith,
+          sum_value,
+          sum_is (x q c n row h k hn kn pair z is) (y q c n row h k hn kn pair z is),
+          pair.above,
+          pair.below,
+          one_side
+              (x q c n row h k hn kn pair z is),
+          one_side (y q c n row h k hn kn pair z is),
+          one_side (v q c n row h k hn kn pair z is),
+          one_side
+              ((x q c n row h k hn kn pair z is) +ℤ (y q c n row h k hn kn pair z is)),
+        );
       }
 
 -- a mark stays good when rows are appended, for a tuple that agrees with z, and when it rises

@@ -46,22 +46,57 @@ module _ (cap p q : ℕ) (a : ℕ → ℕ → ℤ) (m : ℕ) (basis basis' : ℕ
           fits = r.long;
           small = λ i j l jq. omega (arith, sound.small i j l jq, (same cap p q a m basis basis' alike c s table r sound) i l j jq);
           wanted = λ i l. wanted_alike cap p q a (λ j jq. sym ((same cap p q a m basis basis' alike c s table r sound) i l j jq)) (sound.wanted i l);
-          sorted = λ i k ik kn. omega (arith, sound.sorted i k ik kn, (degree cap p q a m basis basis' alike c s table r sound) i (omega arith), (degree cap p q a m basis basis' alike c s table r sound) k kn);
+          sorted = λ i k ik kn.
+              omega (
+                arith,
+                sound.sorted i k ik kn,
+                (degree cap p q a m basis basis' alike c s table r sound) i (omega arith),
+                (degree cap p q a m basis basis' alike c s table r sound) k kn,
+              );
           low = λ i l. omega (arith, sound.low i l, (degree cap p q a m basis basis' alike c s table r sound) i l);
           within = λ i im g.
               let (k, kn, e) = sound.within i im (rw (basis_degree i im) at g) in
               (k, kn, λ j jq. omega (arith, (same cap p q a m basis basis' alike c s table r sound) k kn j jq, e j jq, alike i im j jq));
           pairs = λ h k hn kn o g inside.
-              reduced_more q c s.rows s.rows (row q s) (at table q) (plus (row q s h) (row q s k)) (plus (at table q h) (at table q k)) (omega arith) (same cap p q a m basis basis' alike c s table r sound)
-              (λ j jq. omega (arith, (same cap p q a m basis basis' alike c s table r sound) h hn j jq, (same cap p q a m basis basis' alike c s table r sound) k kn j jq))
-              (sound.pairs h k hn kn (rw (value_same c q ((same cap p q a m basis basis' alike c s table r sound) h hn), value_same c q ((same cap p q a m basis basis' alike c s table r sound) k kn)) at o) (rw ((degree cap p q a m basis basis' alike c s table r sound) h hn, (degree cap p q a m basis basis' alike c s table r sound) k kn) at g)
-              (inside_below cap q (plus (row q s h) (row q s k)) (plus (at table q h) (at table q k)) (λ j jq. omega (arith, (same cap p q a m basis basis' alike c s table r sound) h hn j jq, (same cap p q a m basis basis' alike c s table r sound) k kn j jq))
+              reduced_more q c s.rows s.rows (row q s) (at table q) (plus (row q s h) (row q s k)) (plus (at table q h) (at table q k)) (omega arith)
+              (same cap p q a m basis basis' alike c s table r sound)
+              (λ j jq. omega (
+                arith,
+                (same cap p q a m basis basis' alike c s table r sound) h hn j jq,
+                (same cap p q a m basis basis' alike c s table r sound)
+                    k kn j jq,
+              ))
+              (sound.pairs h k hn kn
+              (rw (
+                value_same c q ((same cap p q a m basis basis' alike c s table r sound) h hn),
+                value_same c q
+                    ((same cap p q a m basis basis' alike c s table r sound) k kn),
+              ) at o)
+              (rw ((degree cap p q a m basis basis' alike c s table r sound) h hn, (degree cap p q a m basis basis' alike c s table r sound) k kn)
+              at g)
+              (inside_below cap q (plus (row q s h) (row q s k)) (plus (at table q h) (at table q k))
+              (λ j jq. omega (
+                arith,
+                (same cap p q a m basis basis' alike c s table r sound) h hn j jq,
+                (same cap p q a m basis basis' alike c s table r sound) k kn j jq,
+              ))
               inside));
           apart = λ i k ik kn w b.
               let il : i < s.rows = omega arith in
-              sound.apart i k ik kn (rw (value_same c q ((same cap p q a m basis basis' alike c s table r sound) i il), value_same c q ((same cap p q a m basis basis' alike c s table r sound) k kn)) at w)
-              (λ j jq. omega (arith, b j jq, (same cap p q a m basis basis' alike c s table r sound) i il j jq, (same cap p q a m basis basis' alike c s table r sound) k kn j jq));
+              sound.apart i k ik kn
+              (rw (
+                value_same c q ((same cap p q a m basis basis' alike c s table r sound) i il),
+                value_same c q
+                    ((same cap p q a m basis basis' alike c s table r sound) k kn),
+              ) at w)
+              (λ j jq. omega (
+                arith,
+                b j jq,
+                (same cap p q a m basis basis' alike c s table r sound) i il j jq,
+                (same cap p q a m basis basis' alike c s table r sound) k kn j jq,
+              ));
           first = λ i il im e k kn g.
-              let (l, ll, f) = sound.first i il im (sym (basis_degree i im) ∙ e) k kn (sym ((degree cap p q a m basis basis' alike c s table r sound) k kn) ∙ g) in
+              let (l, ll, f) = sound.first i il im (sym (basis_degree i im) ∙ e) k kn (sym ((degree cap p q a m basis basis' alike c s table r sound) k kn) ∙ g)
+              in
               (l, ll, λ j jq. omega (arith, (same cap p q a m basis basis' alike c s table r sound) k kn j jq, f j jq, alike l (omega arith) j jq));
         }

@@ -54,7 +54,8 @@ unfolding fill_to
 fill_length zero table base f = refl
 fill_length (suc n) table base f = length-set (fill_to n table base f) (base + n) (f n) ∙ fill_length n table base f
 
-pub fill_inside : (n : ℕ) (table : List ℤ) (base : ℕ) (f : ℕ → ℤ) → base + n ≤ length table → (j : ℕ) → j < n → get_or (fill_to n table base f) (base + j) (pos 0)
+pub fill_inside : (n : ℕ) (table : List ℤ) (base : ℕ) (f : ℕ → ℤ) → base + n ≤ length table → (j : ℕ) → j < n
+    → get_or (fill_to n table base f) (base + j) (pos 0)
     ≡ f j
 unfolding fill_to
 fill_inside zero table base f l j jn = absurd (omega arith)
@@ -64,7 +65,8 @@ fill_inside (suc n) table base f l j jn =
       | inr e ↦ rw e (get_or-set_same (fill_to n table base f) (base + n) (f n) (pos 0) (omega (arith, fill_length n table base f)))
     ]
 
-pub fill_outside : (n : ℕ) (table : List ℤ) (base : ℕ) (f : ℕ → ℤ) (i : ℕ) → (i < base) ⊎ (base + n ≤ i) → get_or (fill_to n table base f) i (pos 0) ≡ get_or table
+pub fill_outside : (n : ℕ) (table : List ℤ) (base : ℕ) (f : ℕ → ℤ) (i : ℕ) → (i < base) ⊎ (base + n ≤ i) → get_or (fill_to n table base f) i (pos 0)
+    ≡ get_or table
     i (pos 0)
 unfolding fill_to
 fill_outside zero table base f i o = refl
@@ -138,7 +140,8 @@ module _ (p q : ℕ) (w : Work) (r s : ℕ) (u t : ℤ) (long : p * q ≤ length
         ];
       }
     where
-      alone : (x : ℕ → ℕ) → Solution p q (b p q w r s u t long rp) x → (u *ℤ value (system q w r) q x) +ℤ (t *ℤ value (system q w s) q x) ≡ u *ℤ value (system q w r) q x
+      alone : (x : ℕ → ℕ) → Solution p q (b p q w r s u t long rp) x → (u *ℤ value (system q w r) q x) +ℤ (t *ℤ value (system q w s) q x)
+          ≡ u *ℤ value (system q w r) q x
       alone x h =
           elim apart [
             | inl ne ↦
@@ -151,7 +154,9 @@ module _ (p q : ℕ) (w : Work) (r s : ℕ) (u t : ℤ) (long : p * q ≤ length
   pub done_alike : ¬ (T (frozen w.done r)) → Alike p q (among w.done (system q w)) (among w.done (b p q w r s u t long rp))
   done_alike not_done =
       record {
-        there = λ x h. solved_done p q (b p q w r s u t long rp) w.done x (λ i l f. value_old i (λ e. not_done (rw e at f)) x ∙ done_solved p q (system q w) w.done x h i l f);
+        there = λ x h. solved_done p q (b p q w r s u t long rp) w.done x
+            (λ i l f. value_old i (λ e. not_done (rw e at f)) x ∙ done_solved p q (system q w) w.done x h i l f);
         back = λ x h.
-            solved_done p q (system q w) w.done x (λ i l f. sym (value_old i (λ e. not_done (rw e at f)) x) ∙ done_solved p q (b p q w r s u t long rp) w.done x h i l f);
+            solved_done p q (system q w) w.done x
+            (λ i l f. sym (value_old i (λ e. not_done (rw e at f)) x) ∙ done_solved p q (b p q w r s u t long rp) w.done x h i l f);
       }

@@ -13,7 +13,8 @@ use Rattle.definitions.specs.Tables.{frozen}
 use Rattle.laws.proofs.AnswerLaws.{refuse_if_go, then_go}
 use Rattle.engine_spec.specs.Base.{Base}
 use Rattle.engine_spec.specs.Beside.{coefficient_limit, most_columns, most_rows}
-use Rattle.engine_spec.specs.Calls.{check1, check2, checked, coefficients_small, in_order, is_rising, is_row, marks_in_order, resume_checks, standing_then, start_checks, start_from_checks, start_from_under, start_under}
+use Rattle.engine_spec.specs.Calls.{check1, check2, checked, coefficients_small, in_order, is_rising, is_row, marks_in_order, resume_checks, standing_then}
+use Rattle.engine_spec.specs.Calls.{start_checks, start_from_checks, start_from_under, start_under}
 use Rattle.engine_spec.specs.Engine.{Work, basis_row, system_of}
 use Rattle.engine_spec.proofs.Equations.{wanted_some}
 use Rattle.engine_spec.specs.Promise.{RunsOn, after_begin, after_combine, after_resume, after_start, after_start_from, after_take, lent_anew}
@@ -101,7 +102,8 @@ standing_marks b p q w (at_rest e z given) = marks_to p w.done w.equation (omega
 standing_marks b p q w (under_way l n f given sound) = marks_to p w.done w.equation (omega arith) (λ k. n)
 standing_marks b p q w (with_fresh l n f o m r given sound) = marks_to p w.done w.equation (omega arith) (λ k. n)
 
-coefficients_to : (n : ℕ) (equations : List ℤ) → ((k : ℕ) → k < n → nat_abs (get_or equations k (pos 0)) ≤ coefficient_limit) → T (coefficients_small n equations)
+coefficients_to : (n : ℕ) (equations : List ℤ) → ((k : ℕ) → k < n → nat_abs (get_or equations k (pos 0)) ≤ coefficient_limit)
+    → T (coefficients_small n equations)
 unfolding coefficients_small
 coefficients_to n equations h = all_from n _ (λ k l. le→leb (nat_abs (get_or equations k (pos 0))) coefficient_limit (h k l))
 

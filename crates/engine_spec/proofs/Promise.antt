@@ -27,22 +27,27 @@ use Rattle.linear.proofs.Loops.{Loop}
 use Rattle.laws.proofs.Pack.{pack_length, pack_row}
 use Rattle.laws.proofs.SystemLaws.{is_zero_lem}
 use Rattle.engine_spec.specs.Base.{Base, on_top, under}
-use Rattle.engine_spec.proofs.Base.{alone_enumerates, alone_free, before_free, before_solved, both_solved, done_whole, enumerates_as, free_alone, top_alike, top_free}
+use Rattle.engine_spec.proofs.Base.{alone_enumerates, alone_free, before_free, before_solved, both_solved, done_whole, enumerates_as, free_alone, top_alike}
+use Rattle.engine_spec.proofs.Base.{top_free}
 use Rattle.engine_spec.specs.Beside.{coefficient_limit}
-use Rattle.engine_spec.specs.Calls.{check1, check2, check3, check4, check6, check6_list, check7, checked, combine, combine_checks, is_alone, is_free, is_fresh, is_left, is_list, is_minus_one, is_operation, is_row, resume, resume_checks, standing_then, start_checks, start_from_checks, start_from_under, start_under, take, take_checks}
+use Rattle.engine_spec.specs.Calls.{check1, check2, check3, check4, check6, check6_list, check7, checked, combine, combine_checks, is_alone, is_free, is_fresh}
+use Rattle.engine_spec.specs.Calls.{is_left, is_list, is_minus_one, is_operation, is_row, resume, resume_checks, standing_then, start_checks, start_from_checks}
+use Rattle.engine_spec.specs.Calls.{start_from_under, start_under, take, take_checks}
 use Rattle.engine_spec.specs.Caps.{Inside, is_capped}
 use Rattle.engine_spec.proofs.Caps.{not_capped}
 use Rattle.engine_spec.specs.Done.{among}
 use Rattle.engine_spec.proofs.Done.{none_asks}
 use Rattle.engine_spec.proofs.Ends.{begin_sound}
-use Rattle.engine_spec.specs.Engine.{Result, Work, always, basis_row, begun_from_under, begun_under, combination, combined, equation_of, fill_to, lacks, rested, run, system, system_of, taken, taken_fresh}
+use Rattle.engine_spec.specs.Engine.{Result, Work, always, basis_row, begun_from_under, begun_under, combination, combined, equation_of, fill_to, lacks, rested}
+use Rattle.engine_spec.specs.Engine.{run, system, system_of, taken, taken_fresh}
 use Rattle.engine_spec.specs.Equations.{LoopInside}
 use Rattle.engine_spec.proofs.Equations.{units_enumerate, wanted_inside}
 use Rattle.engine_spec.specs.Fresh.{without_at}
 use Rattle.engine_spec.proofs.Fresh.{without_at_lem, without_given}
 use Rattle.engine_spec.proofs.Moved.{moved_given, moved_sound}
 use Rattle.engine_spec.specs.Operations.{Alike}
-use Rattle.engine_spec.proofs.Operations.{Apart, alike_enumerates, alike_given, alike_then, combined_alike, done_alike, fill_inside, fill_length, fill_outside, value_alike}
+use Rattle.engine_spec.proofs.Operations.{Apart, alike_enumerates, alike_given, alike_then, combined_alike, done_alike, fill_inside, fill_length, fill_outside}
+use Rattle.engine_spec.proofs.Operations.{value_alike}
 use Rattle.engine_spec.specs.ReductionLaws.{SameRows}
 use Rattle.engine_spec.specs.Sound.{Given, Sound}
 use Rattle.engine_spec.specs.Stage.{Stage, row}
@@ -165,12 +170,14 @@ module _ (base : Base) (plain : base.p ≡ 0) (p q : ℕ) (coefs : List ℤ) (mo
       one : (i : ℕ) → i < q → total (at (units base plain p q coefs most room w numbers some long wide range) q i) q ≡ 1
       one i l = total_same (at (units base plain p q coefs most room w numbers some long wide range) q i) (unit i) q (unit_rows i l) ∙ total_unit i q l
 
-      given : (a : ℕ → ℕ → ℤ) → Given base.cap (base.p + p) q (on_top base (among 0 a)) q (at (units base plain p q coefs most room w numbers some long wide range) q)
+      given : (a : ℕ → ℕ → ℤ) → Given base.cap (base.p + p) q (on_top base (among 0 a)) q
+          (at (units base plain p q coefs most room w numbers some long wide range) q)
       given a =
           record {
             loops =
                 units_enumerate base.cap (base.p + p) q (on_top base (among 0 a))
-                (λ t. both_solved base p q (among 0 a) t (λ i l. absurd (omega arith)) (none_asks p q a t)) (at (units base plain p q coefs most room w numbers some long wide range) q) unit_rows;
+                (λ t. both_solved base p q (among 0 a) t (λ i l. absurd (omega arith)) (none_asks p q a t))
+                (at (units base plain p q coefs most room w numbers some long wide range) q) unit_rows;
             small = λ i j l jq. omega (arith, one i l, term_le_total (at (units base plain p q coefs most room w numbers some long wide range) q i) q j jq);
           }
 
@@ -204,7 +211,8 @@ module _ (base : Base) (p q : ℕ) (coefs : List ℤ) (n : ℕ) (rows : List ℕ
         range = written_range p q coefs w numbers range;
         alike = written_alike p q coefs w numbers;
         standing = between refl refl
-            (moved_given base.cap (base.p + p) q _ n (at rows q) (at (list base p q coefs n rows most room w numbers some long wide range small whole_list) q) list_rows (given (system_of q (written p q coefs w numbers))));
+            (moved_given base.cap (base.p + p) q _ n (at rows q) (at (list base p q coefs n rows most room w numbers some long wide range small whole_list) q)
+            list_rows (given (system_of q (written p q coefs w numbers))));
       }
     where
       -- no equation of the run is done: the equations so far are those before
@@ -244,7 +252,8 @@ module _ (base : Base) (p q : ℕ) (a : ℕ → ℕ → ℤ) (most room : ℕ) (
         ];
         alike = alike_then whole.alike (combined_alike p q w r s u t whole.numbers rp sp some apart);
         standing = between (unfold combined in rests) (unfold combined in resting_rows base p q w whole.standing rests)
-            (unfold combined in alike_given base.cap (top_alike base (done_alike p q w r s u t whole.numbers rp not_done)) (given base p q a most room w whole rests));
+            (unfold combined in alike_given base.cap (top_alike base (done_alike p q w r s u t whole.numbers rp not_done))
+            (given base p q a most room w whole rests));
       }
     where
       new_row : (j : ℕ) → j < q

@@ -17,7 +17,8 @@ use Rattle.laws.specs.RefusalLaws.{Outside}
 use Rattle.laws.proofs.RefusalLaws.{decides_outside, decides_unequal}
 use Rattle.laws.proofs.SystemLaws.{is_zero_lem, zero_is}
 use Rattle.engine_spec.specs.Beside.{coefficient_limit, most_columns, most_rows}
-use Rattle.engine_spec.specs.Calls.{check4, coefficients_small, combine_checks, in_order, is_alone, is_free, is_fresh, is_left, is_list, is_minus_one, is_operation, is_rising, is_row, marks_in_order, resume_checks, standing_then, start_checks, start_from_checks, take_checks}
+use Rattle.engine_spec.specs.Calls.{check4, coefficients_small, combine_checks, in_order, is_alone, is_free, is_fresh, is_left, is_list, is_minus_one}
+use Rattle.engine_spec.specs.Calls.{is_operation, is_rising, is_row, marks_in_order, resume_checks, standing_then, start_checks, start_from_checks, take_checks}
 use Rattle.engine_spec.specs.Caps.{is_capped}
 use Rattle.engine_spec.proofs.Caps.{capped_not, not_capped}
 use Rattle.engine_spec.specs.Engine.{Work, basis_row, combination, system}

@@ -81,7 +81,8 @@ module _ (n : ℕ) (f : ℕ → ℕ → Bool) (u l : ℕ) where
   -- the pair found is not before (u, l)
   found_late : ¬ (Before u l (h₀ n f u l) (partner n f u l (h₀ n f u l)))
   found_late (inl less) = omega (arith, first_least (n - u) u (λ h. ltb (partner n f u l h) n))
-  found_late (inr (e, less)) = go (eqb (h₀ n f u l) u) (rw e (eqb_refl u)) (first_least (n - begins u l (h₀ n f u l)) (begins u l (h₀ n f u l)) (f (h₀ n f u l)))
+  found_late (inr (e, less)) =
+      go (eqb (h₀ n f u l) u) (rw e (eqb_refl u)) (first_least (n - begins u l (h₀ n f u l)) (begins u l (h₀ n f u l)) (f (h₀ n f u l)))
     where
       go : (b : Bool) → T b → cond b l 0 ≤ partner n f u l (h₀ n f u l) → ⊥
       go true t from = omega arith
@@ -95,7 +96,8 @@ module _ (n : ℕ) (f : ℕ → ℕ → Bool) (u l : ℕ) where
         | inr past ↦ absurd (late (none_found past h k hn kn holds))
         | inl less ↦
             let (kn₀, holds₀) = pair_found less in
-            let later : ¬ (Before h k (h₀ n f u l) (partner n f u l (h₀ n f u l))) = λ b. first (h₀ n f u l) (partner n f u l (h₀ n f u l)) less kn₀ b found_late holds₀ in
+            let later : ¬ (Before h k (h₀ n f u l) (partner n f u l (h₀ n f u l))) =
+            λ b. first (h₀ n f u l) (partner n f u l (h₀ n f u l)) less kn₀ b found_late holds₀ in
             let sooner : ¬ (Before (h₀ n f u l) (partner n f u l (h₀ n f u l)) h k) = λ b. late (pair_passes h k kn b holds) in
             elim (order (h₀ n f u l) h) [
               | inl x ↦ absurd (later (inl x))

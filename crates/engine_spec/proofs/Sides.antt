@@ -69,30 +69,39 @@ module _ (q : ℕ) (some : 0 < q) (L W : (ℕ → ℕ) → Type 0) (alike : (s t
     (there : (t : ℕ → ℕ) → L t → t 0 ≡ c → W (λ j. rest t j + lower j))
     (back : (s : ℕ → ℕ) → W s → (t : ℕ → ℕ) × L t × (t 0 ≡ c) × Same q (λ j. rest t j + lower j) s) (list : List ℕ) (n : ℕ)
     (rows : Enumerates (suc q) L n (at list (suc q))) (out : List ℕ) (roomy : handed_count c q list n * q ≤ length out) where
-  picked : Picked q n (lifted q lower list) (f q some L W alike c lower there back list n rows out roomy) (count_to n (f q some L W alike c lower there back list n rows out roomy)) (at (list' q some L W alike c lower there back list n rows out roomy) q)
-  picked = picked_packed q n (count_to n (f q some L W alike c lower there back list n rows out roomy)) out (f q some L W alike c lower there back list n rows out roomy) (lifted q lower list) roomy (omega arith)
+  picked : Picked q n (lifted q lower list) (f q some L W alike c lower there back list n rows out roomy)
+      (count_to n (f q some L W alike c lower there back list n rows out roomy)) (at (list' q some L W alike c lower there back list n rows out roomy) q)
+  picked = picked_packed q n (count_to n (f q some L W alike c lower there back list n rows out roomy)) out
+      (f q some L W alike c lower there back list n rows out roomy) (lifted q lower list) roomy (omega arith)
 
-  from : (x : ℕ) → x < count_to n (f q some L W alike c lower there back list n rows out roomy) → (i : ℕ) × (i < n) × T ((f q some L W alike c lower there back list n rows out roomy) i) × (count_to i (f q some L W alike c lower there back list n rows out roomy) ≡ x) × Same q (at (list' q some L W alike c lower there back list n rows out roomy) q x) (lifted q lower list i)
-  from = picked_from q n (lifted q lower list) (f q some L W alike c lower there back list n rows out roomy) (count_to n (f q some L W alike c lower there back list n rows out roomy)) (at (list' q some L W alike c lower there back list n rows out roomy) q) picked
+  from : (x : ℕ) → x < count_to n (f q some L W alike c lower there back list n rows out roomy) → (i : ℕ) × (i < n)
+      × T ((f q some L W alike c lower there back list n rows out roomy) i) × (count_to i (f q some L W alike c lower there back list n rows out roomy) ≡ x)
+      × Same q (at (list' q some L W alike c lower there back list n rows out roomy) q x) (lifted q lower list i)
+  from = picked_from q n (lifted q lower list) (f q some L W alike c lower there back list n rows out roomy)
+      (count_to n (f q some L W alike c lower there back list n rows out roomy)) (at (list' q some L W alike c lower there back list n rows out roomy) q) picked
 
   first_is : (i : ℕ) → T ((f q some L W alike c lower there back list n rows out roomy) i) → at list (suc q) i 0 ≡ c
   first_is i h = eqb→eq (at list (suc q) i 0) c h
 
-  pub handed_exactly : Exactly q W (list' q some L W alike c lower there back list n rows out roomy) (count_to n (f q some L W alike c lower there back list n rows out roomy))
+  pub handed_exactly : Exactly q W (list' q some L W alike c lower there back list n rows out roomy)
+      (count_to n (f q some L W alike c lower there back list n rows out roomy))
   handed_exactly =
       record {
         part =
             record {
               room =
-                  (le-div_iff_mul-le {k = q} {x = count_to n (f q some L W alike c lower there back list n rows out roomy)} {y = length (list' q some L W alike c lower there back list n rows out roomy)} some).1
+                  (le-div_iff_mul-le {k = q} {x = count_to n (f q some L W alike c lower there back list n rows out roomy)}
+                  {y = length (list' q some L W alike c lower there back list n rows out roomy)} some).1
                   (omega (arith, roomy, pack_length q out 0 (f q some L W alike c lower there back list n rows out roomy) (lifted q lower list) n));
               only = λ x xn.
                   let (i, il, fi, e, is) = from x xn in
-                  alike (lifted q lower list i) (at (list' q some L W alike c lower there back list n rows out roomy) q x) (λ j jq. sym (is j jq)) (there (at list (suc q) i) (rows.only i il) (first_is i fi));
+                  alike (lifted q lower list i) (at (list' q some L W alike c lower there back list n rows out roomy) q x) (λ j jq. sym (is j jq))
+                  (there (at list (suc q) i) (rows.only i il) (first_is i fi));
               once = λ x y xy yn g.
                   let (i, il, fi, e, is) = from x (omega arith) in
                   let (k, kl, fk, e', is') = from y yn in
-                  let ik : i < k = elim (split i k) [ inl l ↦ l | inr l ↦ absurd (omega (arith, count_mono (f q some L W alike c lower there back list n rows out roomy) k i l)) ] in
+                  let ik : i < k = elim (split i k)
+                  [ inl l ↦ l | inr l ↦ absurd (omega (arith, count_mono (f q some L W alike c lower there back list n rows out roomy) k i l)) ] in
                   rows.once i k ik kl (each_place i k (first_is i fi) (first_is k fk) (λ j jq. omega (arith, g j jq, is j jq, is' j jq)));
             };
         all = λ s w.

@@ -99,7 +99,8 @@ module _ (q n : ℕ) (row : ℕ → ℕ → ℕ) where
         omega
         (arith, weigh_lower n times f h hn th, weigh_lower n (λ i. times i - unit h i) f k kn (omega (arith, unit_other h k apart)))
 
-    weigh_swapped : (w f : ℕ → ℕ) → total (λ i. ((without q n row) times h k i + w i) * f i) n + f h + f k ≡ total (λ i. times i * f i) n + total (λ i. w i * f i) n
+    weigh_swapped : (w f : ℕ → ℕ) → total (λ i. ((without q n row) times h k i + w i) * f i) n + f h + f k
+        ≡ total (λ i. times i * f i) n + total (λ i. w i * f i) n
     weigh_swapped w f =
         omega (arith, weigh_without f, weigh_sum n ((without q n row) times h k) w (λ i. (without q n row) times h k i + w i) f (λ i l. refl))
 
@@ -125,13 +126,15 @@ module _ (cap p q : ℕ) (a : ℕ → ℕ → ℤ) (c : ℕ → ℤ) (n : ℕ) (
   plus_solves h k hn kn i l =
       value_sum (a i) q (row h) (row k) (plus (row h) (row k)) (λ j jq. refl) ∙ rw (solves h hn i l, solves k kn i l) (+ℤ_idl (pos 0))
 
-  module _ (d : ℕ) (smaller : (Smaller cap p q a c n row solves some found closed) d) (x : ℕ → ℕ) (sx : Solution p q a x) (inside : Inside cap q x) (size : total x q ≤ d) where
+  module _ (d : ℕ) (smaller : (Smaller cap p q a c n row solves some found closed) d) (x : ℕ → ℕ) (sx : Solution p q a x) (inside : Inside cap q x)
+      (size : total x q ≤ d) where
     -- x is a sum of rows
     some_sum : SumOf q n row x
     some_sum =
         elim (ℕ_discrete (total x q) 0) [
           | yes z ↦ record { times = λ i. 0; adds_up = λ j jq. omega (arith, combined_none n row j, term_le_total x q j jq) }
-          | no ne ↦ let (k, low, under) = found x sx (total_some x q ne) inside in (with_row cap p q a c n row solves some found closed d smaller x sx inside size) k low under
+          | no ne ↦ let (k, low, under) =
+              found x sx (total_some x q ne) inside in (with_row cap p q a c n row solves some found closed d smaller x sx inside size) k low under
         ]
 
     -- a row under x with a value between 0 and that of x is taken off
@@ -144,7 +147,9 @@ module _ (cap p q : ℕ) (a : ℕ → ℕ → ℤ) (c : ℕ → ℤ) (n : ℕ) (
           arith,
           weigh_raise n w.sum.times (λ i. up ((v cap p q a c n row solves some found closed) (row i))) k r.low,
           w.ups,
-          within_rest ((v cap p q a c n row solves some found closed) x) ((v cap p q a c n row solves some found closed) (row k)) ((v cap p q a c n row solves some found closed) (λ j. x j - row k j)) (value_sum c q (row k) _ x ((adds cap p q a c n row solves some found closed d smaller x sx inside size) k r.low r.under)) r.within,
+          within_rest ((v cap p q a c n row solves some found closed) x) ((v cap p q a c n row solves some found closed) (row k))
+              ((v cap p q a c n row solves some found closed) (λ j. x j - row k j))
+              (value_sum c q (row k) _ x ((adds cap p q a c n row solves some found closed d smaller x sx inside size) k r.low r.under)) r.within,
         ))
 
     reduced_same : {z : ℕ → ℕ} → Same q z x → Reduced q c n row z → Reduced q c n row x
@@ -153,10 +158,15 @@ module _ (cap p q : ℕ) (a : ℕ → ℕ → ℤ) (c : ℕ → ℤ) (n : ℕ) (
 
     -- two rows of opposite signs in the sum: those that work against each other
     pair : (s : SumOf q n row x) → ups_of q c n s.times row ≢ up ((v cap p q a c n row solves some found closed) x)
-        → (h : ℕ) × (k : ℕ) × (h < n) × (k < n) × (0 < s.times h) × (0 < s.times k) × (0 < up ((v cap p q a c n row solves some found closed) (row h))) × (0 < down ((v cap p q a c n row solves some found closed) (row k)))
+        → (h : ℕ) × (k : ℕ) × (h < n) × (k < n) × (0 < s.times h) × (0 < s.times k) × (0 < up ((v cap p q a c n row solves some found closed) (row h)))
+        × (0 < down ((v cap p q a c n row solves some found closed) (row k)))
     pair s ne =
-        let (h, hn, th, uh) = weigh_some n s.times (λ i. up ((v cap p q a c n row solves some found closed) (row i))) (omega (arith, sides q c n row x s, one_side ((v cap p q a c n row solves some found closed) x))) in
-        let (k, kn, tk, dk) = weigh_some n s.times (λ i. down ((v cap p q a c n row solves some found closed) (row i))) (omega (arith, sides q c n row x s, one_side ((v cap p q a c n row solves some found closed) x))) in
+        let (h, hn, th, uh) =
+        weigh_some n s.times (λ i. up ((v cap p q a c n row solves some found closed) (row i)))
+        (omega (arith, sides q c n row x s, one_side ((v cap p q a c n row solves some found closed) x))) in
+        let (k, kn, tk, dk) =
+        weigh_some n s.times (λ i. down ((v cap p q a c n row solves some found closed) (row i)))
+        (omega (arith, sides q c n row x s, one_side ((v cap p q a c n row solves some found closed) x))) in
         (h, k, hn, kn, th, tk, uh, dk)
 
     improve : (u : ℕ) (s : SumOf q n row x) → ups_of q c n s.times row < u → Consistent q c n row x
@@ -180,7 +190,8 @@ module _ (cap p q : ℕ) (a : ℕ → ℕ → ℤ) (c : ℕ → ℤ) (n : ℕ) (
                       arith,
                       weighs (λ i. up ((v cap p q a c n row solves some found closed) (row i))),
                       w.ups,
-                      opposite_less ((v cap p q a c n row solves some found closed) z) ((v cap p q a c n row solves some found closed) (row h)) ((v cap p q a c n row solves some found closed) (row k)) (value_sum c q (row h) (row k) z (λ j jq. refl)) uh dk,
+                      opposite_less ((v cap p q a c n row solves some found closed) z) ((v cap p q a c n row solves some found closed) (row h))
+                          ((v cap p q a c n row solves some found closed) (row k)) (value_sum c q (row h) (row k) z (λ j jq. refl)) uh dk,
                     ))
               ]
         ]

@@ -47,21 +47,30 @@ module _ (cap p q : ℕ) (a : ℕ → ℕ → ℤ) (c : ℕ → ℤ) (m : ℕ) (
   each P alike px old i l =
       elim (split i s.rows) [
         | inl u ↦ alike (row q s i) (row q (t cap p q a c m basis s sound x taken upper lower room exact) i) (λ j jq. sym (kept i u j jq)) (old i u)
-        | inr u ↦ let e : i ≡ s.rows = omega arith in rw e (alike x (row q (t cap p q a c m basis s sound x taken upper lower room exact) s.rows) (λ j jq. sym (new j jq)) px)
+        | inr u ↦ let e : i ≡ s.rows =
+            omega arith in rw e (alike x (row q (t cap p q a c m basis s sound x taken upper lower room exact) s.rows) (λ j jq. sym (new j jq)) px)
       ]
 
   pub still_reduced : (h k : ℕ) → h < s.rows → k < s.rows → Reduced q c s.rows (row q s) (plus (row q s h) (row q s k))
-      → Reduced q c (s.rows + 1) (row q (t cap p q a c m basis s sound x taken upper lower room exact)) (plus (row q (t cap p q a c m basis s sound x taken upper lower room exact) h) (row q (t cap p q a c m basis s sound x taken upper lower room exact) k))
+      → Reduced q c (s.rows + 1) (row q (t cap p q a c m basis s sound x taken upper lower room exact))
+      (plus (row q (t cap p q a c m basis s sound x taken upper lower room exact) h)
+      (row q (t cap p q a c m basis s sound x taken upper lower room exact) k))
   still_reduced h k hn kn r =
-      reduced_more q c s.rows (s.rows + 1) (row q s) (row q (t cap p q a c m basis s sound x taken upper lower room exact)) (plus (row q s h) (row q s k)) (plus (row q (t cap p q a c m basis s sound x taken upper lower room exact) h) (row q (t cap p q a c m basis s sound x taken upper lower room exact) k)) (omega arith) kept
+      reduced_more q c s.rows (s.rows + 1) (row q s) (row q (t cap p q a c m basis s sound x taken upper lower room exact)) (plus (row q s h) (row q s k))
+      (plus (row q (t cap p q a c m basis s sound x taken upper lower room exact) h)
+      (row q (t cap p q a c m basis s sound x taken upper lower room exact) k)) (omega arith) kept
       (λ j jq. omega (arith, kept h hn j jq, kept k kn j jq)) r
 
   pub grown_sound : Wanted cap p q a x → ((j : ℕ) → j < q → x j ≤ most_component)
       → ((i : ℕ) → i < m → Taken q basis s.degree taken i → Taken q basis s.degree s.taken i ⊎ Same q x (basis i))
       → ((h k : ℕ) → h < s.rows → k < s.rows → Pair q c (row q s) h k → Gone q (row q s) s.degree upper lower h k
-      → Inside cap q (plus (row q s h) (row q s k)) → Reduced q c (s.rows + 1) (row q (t cap p q a c m basis s sound x taken upper lower room exact)) (plus (row q (t cap p q a c m basis s sound x taken upper lower room exact) h) (row q (t cap p q a c m basis s sound x taken upper lower room exact) k)))
+      → Inside cap q (plus (row q s h) (row q s k))
+      → Reduced q c (s.rows + 1) (row q (t cap p q a c m basis s sound x taken upper lower room exact))
+      (plus (row q (t cap p q a c m basis s sound x taken upper lower room exact) h)
+      (row q (t cap p q a c m basis s sound x taken upper lower room exact) k)))
       → ((i : ℕ) → i < s.rows → Within (value c q (row q s i)) (value c q x) → ¬ (AtOrBelow q (row q s i) x))
-      → ((i : ℕ) → taken ≤ i → i < m → total (basis i) q ≡ s.degree → (k : ℕ) → k < s.rows + 1 → total (row q (t cap p q a c m basis s sound x taken upper lower room exact) k) q ≡ s.degree
+      → ((i : ℕ) → taken ≤ i → i < m → total (basis i) q ≡ s.degree → (k : ℕ) → k < s.rows + 1
+      → total (row q (t cap p q a c m basis s sound x taken upper lower room exact) k) q ≡ s.degree
       → (l : ℕ) × (l < taken) × Same q (row q (t cap p q a c m basis s sound x taken upper lower room exact) k) (basis l))
       → Sound cap p q a c m basis (t cap p q a c m basis s sound x taken upper lower room exact)
   unfolding grown
@@ -89,12 +98,16 @@ module _ (cap p q : ℕ) (a : ℕ → ℕ → ℤ) (c : ℕ → ℤ) (m : ℕ) (
           | inr e ↦ (s.rows, omega arith, λ j jq. new j jq ∙ e j jq)
         ];
         pairs = λ h k hn kn o g inside.
-            let small_sum : total (row q (t cap p q a c m basis s sound x taken upper lower room exact) h) q + total (row q (t cap p q a c m basis s sound x taken upper lower room exact) k) q ≤ s.degree = elim g [ inl l ↦ omega arith | inr (e, b) ↦ omega arith ] in
+            let small_sum : total (row q (t cap p q a c m basis s sound x taken upper lower room exact) h) q + total
+            (row q (t cap p q a c m basis s sound x taken upper lower room exact) k) q ≤ s.degree =
+            elim g [ inl l ↦ omega arith | inr (e, b) ↦ omega arith ] in
             elim (split h s.rows) [
               | inl hl ↦ elim (split k s.rows) [
                 | inl kl ↦
                     pairs h k hl kl (rw (value_same c q (kept h hl), value_same c q (kept k kl)) at o) (rw (kept_degree h hl, kept_degree k kl) at g)
-                    (inside_below cap q (plus (row q s h) (row q s k)) (plus (row q (t cap p q a c m basis s sound x taken upper lower room exact) h) (row q (t cap p q a c m basis s sound x taken upper lower room exact) k))
+                    (inside_below cap q (plus (row q s h) (row q s k))
+                    (plus (row q (t cap p q a c m basis s sound x taken upper lower room exact) h)
+                    (row q (t cap p q a c m basis s sound x taken upper lower room exact) k))
                     (λ j jq. omega (arith, kept h hl j jq, kept k kl j jq)) inside)
                 | inr kl ↦ let e : k ≡ s.rows = omega arith in absurd (omega (arith, rw e at small_sum, new_degree, some h hn))
               ]

@@ -31,7 +31,8 @@ sides_renders p q coefs rights lower most w =
     (renders_then (decides_not (is_small q (bound_of lower)) 8 ((j : ℕ) → j < q → bound_of lower j ≤ most_component) (small_from q (bound_of lower))
     (small_to q (bound_of lower)))
     (renders_then (decides_if _ 15 _
-    (λ h. let (k, l, g) = any_at (length rights) (λ k. out_of_range (get_or rights k (pos 0))) h in (k, l, ltb→lt coef_limit (nat_abs (get_or rights k (pos 0))) g))
+    (λ h. let (k, l, g) = any_at (length rights) (λ k. out_of_range (get_or rights k (pos 0))) h
+    in (k, l, ltb→lt coef_limit (nat_abs (get_or rights k (pos 0))) g))
     (λ (k, l, g). any_from (length rights) (λ k. out_of_range (get_or rights k (pos 0))) k l (lt→ltb coef_limit (nat_abs (get_or rights k (pos 0))) g)))
     (renders_last (decides_first 35 p (λ i. ltb coefficient_limit (nat_abs (side_at q coefs rights lower i))) _
     (λ i l. ltb→lt coefficient_limit (nat_abs (side_at q coefs rights lower i)))

@@ -92,13 +92,15 @@ module _ (q : ℕ) (c : ℕ → ℤ) (m : ℕ) (basis : ℕ → ℕ → ℕ) (s 
 
   next_least : Under (d q c m basis s) (of_rows q c m basis s) (next_degree q c m basis s)
   unfolding next_degree
-  next_least = lesser_itself (d q c m basis s) (of_rows q c m basis s) (of_pairs q c m basis s) (least_above (d q c m basis s) s.rows (λ h. least_to (d q c m basis s) s.rows (pair_degree q c (row q s) h)))
+  next_least = lesser_itself (d q c m basis s) (of_rows q c m basis s) (of_pairs q c m basis s)
+      (least_above (d q c m basis s) s.rows (λ h. least_to (d q c m basis s) s.rows (pair_degree q c (row q s) h)))
 
   pub next_above : next_degree q c m basis s ≢ 0 → (d q c m basis s) < next_degree q c m basis s
   next_above = next_least.above
 
   pub next_rows : (i : ℕ) → i < m → Under (d q c m basis s) (total (basis i) q) (next_degree q c m basis s)
-  next_rows i l = under_under (d q c m basis s) (total (basis i) q) (of_rows q c m basis s) (next_degree q c m basis s) (least_under (d q c m basis s) m (λ i. total (basis i) q) i l) next_least
+  next_rows i l = under_under (d q c m basis s) (total (basis i) q) (of_rows q c m basis s) (next_degree q c m basis s)
+      (least_under (d q c m basis s) m (λ i. total (basis i) q) i l) next_least
 
   -- what next_degree finds is one
   found_one : next_degree q c m basis s ≢ 0 → (Degree q c m basis s) (next_degree q c m basis s)
@@ -118,7 +120,8 @@ module _ (q : ℕ) (c : ℕ → ℤ) (m : ℕ) (basis : ℕ → ℕ → ℕ) (s 
   clear x (of_pair h k hn kn o) l = (next_pairs h k hn kn o).clear l
 
   -- A degree above the present one, with none in between, is the next one; and where there is none, 0 is found.
-  pub degree_unique : (d' : ℕ) → (d q c m basis s) < d' → (Degree q c m basis s) d' → ((x : ℕ) → (Degree q c m basis s) x → (d q c m basis s) < x → d' ≤ x) → next_degree q c m basis s ≡ d'
+  pub degree_unique : (d' : ℕ) → (d q c m basis s) < d' → (Degree q c m basis s) d' → ((x : ℕ) → (Degree q c m basis s) x → (d q c m basis s) < x → d' ≤ x)
+      → next_degree q c m basis s ≡ d'
   degree_unique d' more is first =
       let (ne, low) = clear d' is more in
       omega (arith, first (next_degree q c m basis s) (found_one ne) (next_above ne))

@@ -116,7 +116,8 @@ module _ (q : ℕ) (r z : ℕ → ℕ) where
   pub below_fits : AtOrBelow q r z → T (fits q (word q r) (word q z))
   unfolding fits
   below_fits b =
-      let e : digits q (λ j. (left q r z) j / 8 * 8) ≡ guards q = unfold guards in digits_same q (λ j. (left q r z) j / 8 * 8) (λ j. 8) (λ j l. omega (arith, b j l)) in
+      let e : digits q (λ j. (left q r z) j / 8 * 8) ≡ guards q = unfold guards in
+      digits_same q (λ j. (left q r z) j / 8 * 8) (λ j. 8) (λ j l. omega (arith, b j l)) in
       rw (guards_left, e) (eqb_refl (guards q))
 
   pub fits_at : T (fits q (word q r) (word q z)) → (j : ℕ) → j < q → capped (r j) ≤ capped (z j)

@@ -9,7 +9,8 @@ use Rattle.definitions.specs.System.{coef_limit, is_zero}
 use Rattle.definitions.specs.Tables.{at, frozen}
 use Rattle.engine_spec.specs.Beside.{coefficient_limit, most_columns, most_rows}
 use Rattle.engine_spec.specs.Caps.{is_capped}
-use Rattle.engine_spec.specs.Engine.{Result, Work, basis_row, begun_from_under, begun_under, combination, combined, rested, result, run, system, taken, taken_fresh}
+use Rattle.engine_spec.specs.Engine.{Result, Work, basis_row, begun_from_under, begun_under, combination, combined, rested, result, run, system, taken}
+use Rattle.engine_spec.specs.Engine.{taken_fresh}
 use Rattle.engine_spec.specs.Reduction.{is_small}
 use Rattle.engine_spec.specs.Stage.{row}
 

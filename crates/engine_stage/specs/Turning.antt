@@ -17,7 +17,8 @@ use Rattle.engine_spec.specs.ReductionLaws.{Against}
 use Rattle.engine_spec.proofs.ReductionLaws.{small_from}
 use Rattle.engine_spec.specs.Search.{first_in}
 use Rattle.engine_spec.proofs.Search.{found_holds, pair_found}
-use Rattle.engine_spec.specs.Stage.{Stage, Turned, above, below, degree_turn, due_row, ends, grown, is_due, next_degree, pair_turn, paired, passed, raised, row_turn, stops, sum_of, turn}
+use Rattle.engine_spec.specs.Stage.{Stage, Turned, above, below, degree_turn, due_row, ends, grown, is_due, next_degree, pair_turn, paired, passed, raised}
+use Rattle.engine_spec.specs.Stage.{row_turn, stops, sum_of, turn}
 use Rattle.engine_spec.proofs.Tests.{due_pair, is_due_lem, next_above}
 use Rattle.engine_reduce.specs.Sums.{integer_at, never}
 use Rattle.engine_search.specs.Agree.{due_row_by, next_degree_by_lem, none_by, pair_by}

@@ -1,7 +1,8 @@
 // The place of a fault in a text, found byte by byte with a count of the open brackets, however deep.
 ghost use Rattle.std.specs.Prelude.{◌≡◌, ◌≤◌, ◌+◌, ◌*◌, true, length};
 ghost use Rattle.texts.specs.Reading.{is_digit, digit};
-ghost use Rattle.equation_spec.specs.Scan.{onward as onward_step, factor_begins, term_begins, sum_begins, after_digits, after_factor, indexed as indexed_step, step as next_step, in_number, final, place as fault_place};
+ghost use Rattle.equation_spec.specs.Scan.{onward as onward_step, factor_begins, term_begins, sum_begins, after_digits, after_factor};
+ghost use Rattle.equation_spec.specs.Scan.{indexed as indexed_step, step as next_step, in_number, final, place as fault_place};
 ghost use Rattle.equation_read.specs.Phases.{step_of, phase_of};
 
 use texts::number::is_digit;

@@ -6,7 +6,8 @@ use mathlib.Core.List.{List, [], ◌∷◌, ◌++◌}
 use Rattle.std.proofs.Math.Path.{refl}
 use Rattle.std.proofs.Common.{sym, ◌∙◌, arith, le-leb}
 use Rattle.equation_spec.specs.Grammar.{Equation, Reads, close_byte}
-use Rattle.equation_spec.specs.Scan.{Phase, nothing, sum_due, term_due, factor_due, index_due, in_number, after_number, in_index, after_bracket, after_term, Step, to}
+use Rattle.equation_spec.specs.Scan.{Phase, nothing, sum_due, term_due, factor_due, index_due, in_number, after_number, in_index, after_bracket, after_term}
+use Rattle.equation_spec.specs.Scan.{Step, to}
 use Rattle.equation_spec.specs.Scan.{fault, onward, factor_begins, term_begins, sum_begins, after_digits, after_factor, step, final, go_on, place_from, place}
 use Rattle.equation_spec.proofs.ScanBack.{accepts, accepted_reads}
 use Rattle.equation_spec.proofs.ScanRun.{Over, closes, equates, over_byte, reads_accepted}

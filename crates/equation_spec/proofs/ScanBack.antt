@@ -21,7 +21,8 @@ use Rattle.equation_spec.proofs.TextLaws.{NonEmpty, some, term_some, factor_some
 use Rattle.equation_spec.proofs.SoundLaws.{here, few_digits}
 use Rattle.texts.specs.Places.{Room}
 use Rattle.texts.proofs.NumberLaws.{room_small, room_digit, room_first}
-use Rattle.equation_spec.specs.Scan.{Phase, nothing, sum_due, term_due, factor_due, index_due, in_number, after_number, in_index, after_bracket, after_term, Step, to}
+use Rattle.equation_spec.specs.Scan.{Phase, nothing, sum_due, term_due, factor_due, index_due, in_number, after_number, in_index, after_bracket, after_term}
+use Rattle.equation_spec.specs.Scan.{Step, to}
 use Rattle.equation_spec.specs.Scan.{fault, equating, onward, factor_begins, term_begins, sum_begins, after_digits, after_factor, indexed, step, final, go_on}
 use Rattle.equation_spec.specs.Scan as scan
 

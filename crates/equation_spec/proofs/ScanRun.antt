@@ -19,7 +19,8 @@ use Rattle.equation_spec.specs.Grammar.{equals_byte, sign_byte, Spells, done, ne
 use Rattle.equation_spec.specs.Reader.{skip, most_digits}
 use Rattle.equation_spec.proofs.PartLaws.{first}
 use Rattle.equation_spec.proofs.Agreement.{no_space_lem}
-use Rattle.equation_spec.specs.Scan.{Phase, nothing, sum_due, term_due, factor_due, index_due, in_number, after_number, in_index, after_bracket, after_term, to, fault}
+use Rattle.equation_spec.specs.Scan.{Phase, nothing, sum_due, term_due, factor_due, index_due, in_number, after_number, in_index, after_bracket, after_term, to}
+use Rattle.equation_spec.specs.Scan.{fault}
 use Rattle.equation_spec.specs.Scan.{onward, factor_begins, term_begins, sum_begins, after_digits, after_factor, step, term_ends, go_on}
 use Rattle.equation_spec.specs.Scan as scan
 use Rattle.equation_spec.proofs.ScanBack.{accepts}

@@ -12,10 +12,12 @@ use Rattle.texts.specs.Places.{FewDigits}
 use Rattle.texts.proofs.NumberLaws.{natural_below}
 use Rattle.texts.proofs.ReadLaws.{natural_read}
 use Rattle.equation_spec.specs.Grammar.{Sign, Lead, bare, led, Sum, one, more, Term, number, plain, times, Factor, unknown, bracket, Equation, Part, numeral}
-use Rattle.equation_spec.specs.Grammar.{variable, sign, star, opening, closing, equals, sum_parts, term_parts, factor_parts, parts, letter, star_byte, open_byte}
+use Rattle.equation_spec.specs.Grammar.{variable, sign, star, opening, closing, equals, sum_parts, term_parts, factor_parts, parts, letter, star_byte}
+use Rattle.equation_spec.specs.Grammar.{open_byte}
 use Rattle.equation_spec.specs.Grammar.{close_byte, equals_byte, sign_byte, bytes, Allowed, Spells, done, next}
 use Rattle.equation_spec.specs.Meaning.{sum_depth, term_depth, factor_depth}
-use Rattle.equation_spec.specs.Reader.{skip, most_digits, read_numeral, within, read_index, read_factor, after_numeral, read_term, more_terms, first_term, read_sum}
+use Rattle.equation_spec.specs.Reader.{skip, most_digits, read_numeral, within, read_index, read_factor, after_numeral, read_term, more_terms, first_term}
+use Rattle.equation_spec.specs.Reader.{read_sum}
 use Rattle.equation_spec.specs.Reader.{closed, read_bracket, ended, right_of, read_equation}
 use Rattle.equation_spec.proofs.TextLaws.{on_byte_lem, on_sign_lem, some, sum_some, term_some, factor_some, spaced}
 

@@ -10,7 +10,8 @@ use Rattle.equation_spec.specs.Reader.{read_bracket, right_of, read_equation}
 use Rattle.equation_spec.specs.Scan.{onward, factor_begins, term_begins, sum_begins, after_digits, after_factor, step, place_from, place}
 use Rattle.equation_spec.specs.Outcome.{checked, list, limits, tree_outcome, outcome}
 use Rattle.equation_spec.specs.Lines.{line_length, line_count}
-use Rattle.equation_spec.specs.Systems.{line_outcome, read_lines, Outcome, accepted, refused, of_rows, unless, system_checks, system_outcome, read, hand_out, table_checks, handed_out, read_system}
+use Rattle.equation_spec.specs.Systems.{line_outcome, read_lines, Outcome, accepted, refused, of_rows, unless, system_checks, system_outcome, read, hand_out}
+use Rattle.equation_spec.specs.Systems.{table_checks, handed_out, read_system}
 use Rattle.equation_spec.specs.Systems as systems
 
 -- a number of unknowns, a text, and what it comes to

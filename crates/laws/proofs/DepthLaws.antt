@@ -7,7 +7,8 @@ use Rattle.std.proofs.Math.Dec.{eqb}
 use Rattle.linear.specs.Tests.{any_to, count_to}
 use Rattle.linear.specs.Tuples.{raise}
 use Rattle.definitions.specs.Refusals.{search_checks, too_large}
-use Rattle.definitions.specs.Step.{deeper, enlist_in, full_in, grown, level, listed, makes, pick, row_of, row_width, step, to_second, top, top_marks, write_children}
+use Rattle.definitions.specs.Step.{deeper, enlist_in, full_in, grown, level, listed, makes, pick, row_of, row_width, step, to_second, top, top_marks}
+use Rattle.definitions.specs.Step.{write_children}
 use Rattle.definitions.specs.System.{Kind, System, above, capped, plain, solves}
 use Rattle.definitions.specs.Tables.{State, stepped}
 

@@ -50,7 +50,8 @@ module _ (q : ℕ) (coefs rights : List ℤ) where
         | inr e ↦ let hi : i * q ≤ length coefs = rw e (omega arith) in rw (← e) (extend_last i x hi)
       ]
 
-  module _ (small : (i : ℕ) → i < length coefs → nat_abs (get_or coefs i (pos 0)) ≤ coef_limit) (right : (i : ℕ) → nat_abs (get_or rights i (pos 0)) ≤ coef_limit) where
+  module _ (small : (i : ℕ) → i < length coefs → nat_abs (get_or coefs i (pos 0)) ≤ coef_limit)
+      (right : (i : ℕ) → nat_abs (get_or rights i (pos 0)) ≤ coef_limit) where
     tail_range : (n x : ℕ) → suc n * q ≤ length coefs → x < suc q → nat_abs (get_or (tail n) x (pos 0)) ≤ coef_limit
     tail_range n zero h l = rw (nat_abs_neg (get_or rights n (pos 0))) (right n)
     tail_range n (suc j) h l = rw (tail_other n j (omega arith)) (small (n * q + j) (omega arith))

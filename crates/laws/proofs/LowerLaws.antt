@@ -25,7 +25,8 @@ use Rattle.laws.proofs.RefusalLaws.{handed_shaped, lower_shaped, not_order, orde
 use Rattle.laws.proofs.RefusalLaws.{shape_renders}
 use Rattle.laws.proofs.TableLaws.{row_length, row_written}
 use Rattle.laws.proofs.ValidLaws.{shaped_same, step_length, step_valid, units_valid}
-use Rattle.laws.specs.LowerLaws.{Aside, GoingFrom, InOrderBy, Kept, OutOfOrderFrom, ValidFrom, above_walk, earlier_steps, later_list, later_steps, other, plain_walk, resume_from_rules, rules_by, search_from_rules}
+use Rattle.laws.specs.LowerLaws.{Aside, GoingFrom, InOrderBy, Kept, OutOfOrderFrom, ValidFrom, above_walk, earlier_steps, later_list, later_steps, other}
+use Rattle.laws.specs.LowerLaws.{plain_walk, resume_from_rules, rules_by, search_from_rules}
 
 module _ (lower : List ℕ) (i : Input) (s : State) where
   in_order_from_lem : (r : RunKind) → T (in_order_by r lower i s) → InOrderBy r lower i s

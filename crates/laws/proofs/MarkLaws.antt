@@ -247,7 +247,8 @@ unfolding bit
 zeros_more K n e h zero l = e
 zeros_more K n e h (suc j) l = h j (omega arith)
 
-lowest_bit : (k K : ℕ) → 0 < K → K < 2 ^ k → (count_trailing_zeros k K < k) × (bit K (count_trailing_zeros k K) ≡ 1) × ((j : ℕ) → j < count_trailing_zeros k K → bit K j ≡ 0)
+lowest_bit : (k K : ℕ) → 0 < K → K < 2 ^ k → (count_trailing_zeros k K < k) × (bit K (count_trailing_zeros k K) ≡ 1)
+    × ((j : ℕ) → j < count_trailing_zeros k K → bit K j ≡ 0)
 unfolding count_trailing_zeros bit
 lowest_bit zero K p h = absurd (omega arith)
 lowest_bit (suc k) K p h =

@@ -36,7 +36,8 @@ module _ (q : ℕ) (table : List ℕ) (found n : ℕ) where
       (and_both (leb n found) _ (le→leb n found (at_most n found (λ l. is (past l))))
       (le→leb n (capacity q table) (at_most n (capacity q table) (λ l. is (outside l)))))
 
-  shows_row : (most : ℕ) → ShowsRow most q table found n (shown_by (refuse_if (not (between 1 most q)) 2) (show_if (has_row q table found n) (row_part q table n)))
+  shows_row : (most : ℕ) → ShowsRow most q table found n
+      (shown_by (refuse_if (not (between 1 most q)) 2) (show_if (has_row q table found n) (row_part q table n)))
   unfolding shown_by
   shows_row most =
       let d = decides_outside 2 1 most q in
@@ -82,7 +83,8 @@ part_from q list i = let e : suc i - 1 ≡ i = omega arith in rw e
 pub part_length : (q : ℕ) (list : List ℕ) (i : ℕ) → 0 < q → i < capacity q list → length (row_part q list (suc i)) ≡ q
 part_length q list i some here =
     ap length (part_from q list i)
-    ∙ length-take-le q (drop (i * q) list) (rw (length-drop (i * q) list) (omega (arith, (le-div_iff_mul-le {k = q} {x = suc i} {y = length list} some).0 here)))
+    ∙ length-take-le q (drop (i * q) list)
+    (rw (length-drop (i * q) list) (omega (arith, (le-div_iff_mul-le {k = q} {x = suc i} {y = length list} some).0 here)))
 
 pub part_entry : (q : ℕ) (list : List ℕ) (i j : ℕ) → j < q → get_or (row_part q list (suc i)) j 0 ≡ at list q i j
 part_entry q list i j jq = ap (λ part. get_or part j 0) (part_from q list i) ∙ get_or-take q (drop (i * q) list) j 0 jq ∙ get_or-drop (i * q) list j 0

@@ -26,7 +26,8 @@ use Rattle.laws.specs.CheckLaws.{AllSilent, Decides, FirstDue, Renders, rule}
 use Rattle.laws.proofs.CheckLaws.{check_cases, decides_if, renders_last, renders_then}
 use Rattle.laws.proofs.RefusalLaws.{at_most, decides_bound, decides_outside, decides_range, decides_unequal, equal}
 use Rattle.laws.proofs.SystemLaws.{below_from, below_to, is_zero_lem, zero_is}
-use Rattle.laws.specs.ReasonLaws.{Above, AllZero, Askable, Claim, Given, NoneBelow, NoneEarlier, Off, Stands, is_below, is_off, is_row, not_zero, reason_rules, row, x, zero_from}
+use Rattle.laws.specs.ReasonLaws.{Above, AllZero, Askable, Claim, Given, NoneBelow, NoneEarlier, Off, Stands, is_below, is_off, is_row, not_zero, reason_rules}
+use Rattle.laws.specs.ReasonLaws.{row, x, zero_from}
 
 pub decides_count : (i : Input) (list : List ℕ) (found : ℕ) → Decides (check_count i list found) (rule 6 (capacity i.q list < found))
 decides_count i list found =
@@ -142,7 +143,8 @@ module _ (m : System) (found : ℕ) (row : ℕ → ℕ → ℕ) (x : ℕ → ℕ
           none_after = λ i l k h. a.last i l k (lies_below i k (below_from m.q (row i) x h));
         }
 
-  given_above : ¬ (AllZero m found row x) → ((k : ℕ) (amount : ℤ) → ¬ ((Off m found row x) k amount)) → Never found (is_row m found row x) → (o : Option ℕ) → LastIs found (is_below m found row x) o → (Given m found row x) (above_or o unlisted)
+  given_above : ¬ (AllZero m found row x) → ((k : ℕ) (amount : ℤ) → ¬ ((Off m found row x) k amount)) → Never found (is_row m found row x) → (o : Option ℕ)
+      → LastIs found (is_below m found row x) o → (Given m found row x) (above_or o unlisted)
   unfolding above_or
   given_above z f s none h =
       let none_below : (NoneBelow m found row x) = λ i l b. h i l (below_to m.q (row i) x b.at_most) in (
@@ -157,7 +159,8 @@ module _ (m : System) (found : ℕ) (row : ℕ → ℕ → ℕ) (x : ℕ → ℕ
   given_stands z f none h = given_above z f h (highest m.q found row x) (last_is found (is_below m found row x))
   given_stands z f (some n) h = (stands_from n h, (z, f))
 
-  given_off : ¬ (AllZero m found row x) → (o : Option ℕ) → FirstIs m.p (is_off m found row x) o → (Given m found row x) (off_or (image_of m x) o (in_list m.q found row x))
+  given_off : ¬ (AllZero m found row x) → (o : Option ℕ) → FirstIs m.p (is_off m found row x) o
+      → (Given m found row x) (off_or (image_of m x) o (in_list m.q found row x))
   unfolding off_or standing in_list
   given_off z none h =
       given_stands z (λ k amount o. h (k - 1) (omega (arith, o.some, o.few)) (off_to o).holds) (standing m.q found row x) (last_is found (is_row m found row x))
@@ -242,7 +245,8 @@ module _ (s : Sizes) (i : Input) (list : List ℕ) (found : ℕ) (t : List ℕ) 
   unfolding reason_within
   reason_refused n values e =
       (reason_renders s i list found t).refuses n values
-      (refused_by (reason_checks s i list found t) (first_true (map_of i) found (row s i list found t) (x s i list found t)) n values (λ f. rw f at (first_given (map_of i) found (row s i list found t) (x s i list found t)).0) e)
+      (refused_by (reason_checks s i list found t) (first_true (map_of i) found (row s i list found t) (x s i list found t)) n values
+      (λ f. rw f at (first_given (map_of i) found (row s i list found t) (x s i list found t)).0) e)
 
   pub refused_reason : (n : ℕ) (values : List ℕ) → FirstDue (reason_rules s i list found t) n values → reason_within s i list found t ≡ refused n values
   unfolding reason_within unless_refused
@@ -254,10 +258,12 @@ module _ (s : Sizes) (i : Input) (list : List ℕ) (found : ℕ) (t : List ℕ) 
     unfolding reason_within unless_refused
     asked = rw ((reason_renders s i list found t).silent none_due)
 
-    pub reason_given : (r : Reason) → reason_within s i list found t ≡ r → Claim (map_of i) found (row s i list found t) (x s i list found t) r × NoneEarlier (map_of i) found (row s i list found t) (x s i list found t) r
+    pub reason_given : (r : Reason) → reason_within s i list found t ≡ r → Claim (map_of i) found (row s i list found t) (x s i list found t) r
+        × NoneEarlier (map_of i) found (row s i list found t) (x s i list found t) r
     reason_given r e = rw (sym asked ∙ e) at (first_given (map_of i) found (row s i list found t) (x s i list found t))
 
-    pub given_reason : (r : Reason) → Claim (map_of i) found (row s i list found t) (x s i list found t) r × NoneEarlier (map_of i) found (row s i list found t) (x s i list found t) r → reason_within s i list found t ≡ r
+    pub given_reason : (r : Reason) → Claim (map_of i) found (row s i list found t) (x s i list found t) r
+        × NoneEarlier (map_of i) found (row s i list found t) (x s i list found t) r → reason_within s i list found t ≡ r
     given_reason r h = asked ∙ only_given (map_of i) found (row s i list found t) (x s i list found t) r h
 
   -- an answer that is no refusal comes where none is due

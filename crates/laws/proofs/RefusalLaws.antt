@@ -39,11 +39,13 @@ use Rattle.linear.specs.Tuples.{raise}
 use Rattle.definitions.specs.Answers.{Check, go, refuse_if}
 use Rattle.definitions.specs.Input.{Extra, Input, alone, limit_of, rights, system_of, walk_system}
 use Rattle.definitions.specs.Refusals.{between, check15, check4, check6, check7, check8, deepest_limit, in_order, inside, lower_checks, misnumbered, most_for}
-use Rattle.definitions.specs.Refusals.{out_of_range, range_checks, resume_checks, row_fits, row_in_order, search_checks, second_fits, shape_then, start_checks, step_limit}
+use Rattle.definitions.specs.Refusals.{out_of_range, range_checks, resume_checks, row_fits, row_in_order, search_checks, second_fits, shape_then, start_checks}
+use Rattle.definitions.specs.Refusals.{step_limit}
 use Rattle.definitions.specs.Refusals.{too_large}
 use Rattle.definitions.specs.Step.{full_for, full_in, level, makes, to_second, top, width}
 use Rattle.definitions.specs.System.{Kind, System, above, capped, coef, coef_limit, most_equations, most_unknowns, plain}
-use Rattle.definitions.specs.Tables.{RunKind, State, at, capacity, capped_run, desk_by_desk, frozen, is_run, lower_above, lower_plain, plain_run, run_for, run_number}
+use Rattle.definitions.specs.Tables.{RunKind, State, at, capacity, capped_run, desk_by_desk, frozen, is_run, lower_above, lower_plain, plain_run, run_for}
+use Rattle.definitions.specs.Tables.{run_number}
 use Rattle.laws.specs.CheckLaws.{AllSilent, Decides, Renders, Rules, Silent}
 use Rattle.laws.proofs.CheckLaws.{decides_first, decides_if, renders_last}
 use Rattle.laws.specs.CheckLaws.{rule}

@@ -60,21 +60,35 @@ module _ (q n : ℕ) (table : List ℕ) (long : n * q ≤ length table) (i : ℕ
   here_stays : T (stays_here q n (now q n table long i l) (count_to i (stay q n table long i l)) i) → StaysInPlace q n (at table q) i
   unfolding stays_here
   here_stays h =
-      let (a, b) = and_parts (not (any_to (count_to i (stay q n table long i l)) (λ m. is_at_or_below q ((now q n table long i l) m) ((now q n table long i l) i)))) _ h in
+      let (a, b) = and_parts
+      (not (any_to (count_to i (stay q n table long i l)) (λ m. is_at_or_below q ((now q n table long i l) m) ((now q n table long i l) i)))) _ h in
       record {
         earlier = λ k ki st u.
             T_not (any_to (count_to i (stay q n table long i l)) (λ m. is_at_or_below q ((now q n table long i l) m) ((now q n table long i l) i))) a
-            (any_from (count_to i (stay q n table long i l)) (λ m. is_at_or_below q ((now q n table long i l) m) ((now q n table long i l) i)) (count_to k (stay q n table long i l)) (count_step (stay q n table long i l) k i ki st)
-            (below_to q ((now q n table long i l) (count_to k (stay q n table long i l))) ((now q n table long i l) i) (λ j jq. omega (arith, u j jq, behind k ki st j jq, ahead i (omega arith) j jq))));
+            (any_from (count_to i (stay q n table long i l)) (λ m. is_at_or_below q ((now q n table long i l) m) ((now q n table long i l) i))
+            (count_to k (stay q n table long i l)) (count_step (stay q n table long i l) k i ki st)
+            (below_to q ((now q n table long i l) (count_to k (stay q n table long i l))) ((now q n table long i l) i)
+            (λ j jq. omega (arith, u j jq, behind k ki st j jq, ahead i (omega arith) j jq))));
         later = λ k ik kn u.
-            T_not (any_to n (λ k. ltb i k && (is_at_or_below q ((now q n table long i l) k) ((now q n table long i l) i) && not (is_at_or_below q ((now q n table long i l) i) ((now q n table long i l) k))))) b
-            (any_from n (λ k. ltb i k && (is_at_or_below q ((now q n table long i l) k) ((now q n table long i l) i) && not (is_at_or_below q ((now q n table long i l) i) ((now q n table long i l) k)))) k kn
+            T_not (any_to n (λ k. ltb i k &&
+            (is_at_or_below q ((now q n table long i l) k) ((now q n table long i l) i) && not
+            (is_at_or_below q ((now q n table long i l) i) ((now q n table long i l) k))))) b
+            (any_from n (λ k. ltb i k &&
+            (is_at_or_below q ((now q n table long i l) k) ((now q n table long i l) i) && not
+            (is_at_or_below q ((now q n table long i l) i) ((now q n table long i l) k)))) k kn
             (and_both (ltb i k) _ (lt→ltb i k ik)
             (and_both (is_at_or_below q ((now q n table long i l) k) ((now q n table long i l) i)) _
-            (below_to q ((now q n table long i l) k) ((now q n table long i l) i) (λ j jq. omega (arith, u.at_most j jq, ahead k (omega arith) j jq, ahead i (omega arith) j jq)))
+            (below_to q ((now q n table long i l) k) ((now q n table long i l) i)
+            (λ j jq. omega (arith, u.at_most j jq, ahead k (omega arith) j jq, ahead i (omega arith) j jq)))
             (not_T (is_at_or_below q ((now q n table long i l) i) ((now q n table long i l) k))
             (λ h. u.other
-            (λ j jq. omega (arith, u.at_most j jq, below_from q ((now q n table long i l) i) ((now q n table long i l) k) h j jq, ahead k (omega arith) j jq, ahead i (omega arith) j jq)))))));
+            (λ j jq. omega (
+              arith,
+              u.at_most j jq,
+              below_from q ((now q n table long i l) i) ((now q n table long i l) k) h j jq,
+              ahead k (omega arith) j jq,
+              ahead i (omega arith) j jq,
+            )))))));
       }
 
   stays_here_lem : StaysInPlace q n (at table q) i → T (stays_here q n (now q n table long i l) (count_to i (stay q n table long i l)) i)
@@ -84,22 +98,35 @@ module _ (q n : ℕ) (table : List ℕ) (long : n * q ≤ length table) (i : ℕ
       (not_T (any_to (count_to i (stay q n table long i l)) (λ m. is_at_or_below q ((now q n table long i l) m) ((now q n table long i l) i))) (λ h.
       let (m, mc, u) = any_at (count_to i (stay q n table long i l)) (λ m. is_at_or_below q ((now q n table long i l) m) ((now q n table long i l) i)) h in
       let (k, ki, st, e) = count_at (stay q n table long i l) i m mc in
-      let under : AtOrBelow q ((now q n table long i l) (count_to k (stay q n table long i l))) ((now q n table long i l) i) = rw e (below_from q ((now q n table long i l) m) ((now q n table long i l) i) u) in
+      let under : AtOrBelow q ((now q n table long i l) (count_to k (stay q n table long i l))) ((now q n table long i l) i) =
+      rw e (below_from q ((now q n table long i l) m) ((now q n table long i l) i) u) in
       s.earlier k ki st (λ j jq. omega (arith, under j jq, behind k ki st j jq, ahead i (omega arith) j jq))))
-      (not_T (any_to n (λ k. ltb i k && (is_at_or_below q ((now q n table long i l) k) ((now q n table long i l) i) && not (is_at_or_below q ((now q n table long i l) i) ((now q n table long i l) k))))) (λ h.
-      let (k, kn, u) = any_at n (λ k. ltb i k && (is_at_or_below q ((now q n table long i l) k) ((now q n table long i l) i) && not (is_at_or_below q ((now q n table long i l) i) ((now q n table long i l) k)))) h in
+      (not_T (any_to n (λ k. ltb i k &&
+      (is_at_or_below q ((now q n table long i l) k) ((now q n table long i l) i) && not
+      (is_at_or_below q ((now q n table long i l) i) ((now q n table long i l) k))))) (λ h.
+      let (k, kn, u) = any_at n
+      (λ k. ltb i k && (is_at_or_below q ((now q n table long i l) k) ((now q n table long i l) i) && not
+      (is_at_or_below q ((now q n table long i l) i) ((now q n table long i l) k)))) h in
       let (ik, v) = and_parts (ltb i k) _ u in
       let ik' : i < k = ltb→lt i k ik in
       let (a, b) = and_parts (is_at_or_below q ((now q n table long i l) k) ((now q n table long i l) i)) _ v in
       s.later k ik' kn (record {
-        at_most = λ j jq. omega (arith, below_from q ((now q n table long i l) k) ((now q n table long i l) i) a j jq, ahead k (omega arith) j jq, ahead i (omega arith) j jq);
+        at_most = λ j jq. omega (
+          arith,
+          below_from q ((now q n table long i l) k) ((now q n table long i l) i) a j jq,
+          ahead k (omega arith) j jq,
+          ahead i
+              (omega arith) j jq,
+        );
         other =
             λ e. T_not (is_at_or_below q ((now q n table long i l) i) ((now q n table long i l) k)) b
-            (below_to q ((now q n table long i l) i) ((now q n table long i l) k) (λ j jq. omega (arith, e j jq, ahead k (omega arith) j jq, ahead i (omega arith) j jq)));
+            (below_to q ((now q n table long i l) i) ((now q n table long i l) k)
+            (λ j jq. omega (arith, e j jq, ahead k (omega arith) j jq, ahead i (omega arith) j jq)));
       })))
 
   -- the loop's test is the sweep's
   pub sweep_test : stays_here q n (now q n table long i l) (count_to i (stay q n table long i l)) i ≡ keeps q n (at table q) i
   sweep_test =
-      T-same (stays_here q n (now q n table long i l) (count_to i (stay q n table long i l)) i) (keeps q n (at table q) i) (λ h. in_place_keeps q n (at table q) i l (here_stays h))
+      T-same (stays_here q n (now q n table long i l) (count_to i (stay q n table long i l)) i) (keeps q n (at table q) i)
+      (λ h. in_place_keeps q n (at table q) i l (here_stays h))
       (λ h. stays_here_lem (keeps_in_place q n (at table q) i l h))

@@ -82,7 +82,8 @@ module _ (q : ℕ) (table : List ℕ) (k : ℕ) (x : ℕ → ℕ) (marks : ℕ) 
     unfolding write_row
     row_marks = get_or-set_same (write_to q table (k * (q + 1)) x) (k * (q + 1) + q) marks 0 (omega (arith, write_length x table (k * (q + 1)) q))
 
-pub row_written : (q : ℕ) (table : List ℕ) (k : ℕ) (x : ℕ → ℕ) (marks : ℕ) → k < q → q * (q + 1) ≤ length table → RowIs q (write_row q table k x marks) k x marks
+pub row_written : (q : ℕ) (table : List ℕ) (k : ℕ) (x : ℕ → ℕ) (marks : ℕ) → k < q → q * (q + 1) ≤ length table
+    → RowIs q (write_row q table k x marks) k x marks
 row_written q table k x marks l fits =
     let room = row_fits (q + 1) k q l in
     record { tuple = row_tuple q table k x marks (omega arith); marks_are = row_marks q table k x marks (omega arith) }

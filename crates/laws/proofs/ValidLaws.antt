@@ -15,7 +15,8 @@ use Rattle.linear.proofs.TupleLaws.{total_most}
 use Rattle.linear.specs.Tuples.{Same, raise, unit}
 use Rattle.definitions.specs.Input.{Extra, Input, alone, rights, walk_system}
 use Rattle.definitions.specs.Refusals.{deepest_limit}
-use Rattle.definitions.specs.Step.{children_to, deeper, enlist, enlist_in, grown, level, listed, makes, pick, row_of, row_width, step, to_second, top, top_marks}
+use Rattle.definitions.specs.Step.{children_to, deeper, enlist, enlist_in, grown, level, listed, makes, pick, row_of, row_width, step, to_second, top}
+use Rattle.definitions.specs.Step.{top_marks}
 use Rattle.definitions.specs.Step.{width, within}
 use Rattle.definitions.specs.System.{Kind, System, above, capped, most_unknowns, plain, solves}
 use Rattle.definitions.specs.Tables.{State, capacity, frozen, units_start}

@@ -39,7 +39,8 @@ pub inner_next : (n : ℕ) (v w : ℕ → ℤ) → inner (n + 1) v w ≡ inner n
 unfolding inner
 inner_next n v w = sum_next n _
 
-pub inner_bound : (n A B : ℕ) (v w : ℕ → ℤ) → ((i : ℕ) → i < n → nat_abs (v i) ≤ A) → ((i : ℕ) → i < n → nat_abs (w i) ≤ B) → nat_abs (inner n v w) ≤ n * (A * B)
+pub inner_bound : (n A B : ℕ) (v w : ℕ → ℤ) → ((i : ℕ) → i < n → nat_abs (v i) ≤ A) → ((i : ℕ) → i < n → nat_abs (w i) ≤ B)
+    → nat_abs (inner n v w) ≤ n * (A * B)
 unfolding inner
 inner_bound n A B v w ha hb = sum_bound n (A * B) _ (λ i l. rw nat_abs_*ℤ (mul-le-mul (ha i l) (hb i l)))
 

@@ -14,7 +14,9 @@ use Rattle.definitions.specs.Refusals.{between}
 use Rattle.definitions.specs.System.{most_component}
 use Rattle.list_spec.specs.Words.{word_at, signed, wrapping_sum}
 use Rattle.list_spec.specs.Form.{block_bytes, block_words, stream_words, later_blocks, block_count}
-use Rattle.list_spec.specs.Reading.{equations_of, unknowns_of, rows_of, ending_of, coef_words, row_words, in_block, stream_at, listed, list_in, block_checks, header_in_range, stream_word_in_range, block_in_range, stream_checks, file_checks, read_checks, ReadOutcome, read, handed_out}
+use Rattle.list_spec.specs.Reading.{equations_of, unknowns_of, rows_of, ending_of, coef_words, row_words, in_block, stream_at, listed, list_in, block_checks}
+use Rattle.list_spec.specs.Reading.{header_in_range, stream_word_in_range, block_in_range, stream_checks, file_checks, read_checks, ReadOutcome, read}
+use Rattle.list_spec.specs.Reading.{handed_out}
 use Rattle.list_spec.proofs.ListLaws.{listed_length, listed_next}
 use Rattle.list_spec.specs.Ranges.{HeaderInRange}
 use Rattle.list_spec.proofs.Ranges.{component_word}

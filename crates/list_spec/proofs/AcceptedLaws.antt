@@ -8,7 +8,8 @@ use native.Mathlib.Omega.{arith}
 use Rattle.linear.specs.Cases.{below_suc}
 use Rattle.linear.proofs.Cases.{split}
 use Rattle.list_spec.specs.Words.{word_at, unsigned, signed, total, wrapping_sum}
-use Rattle.list_spec.specs.Form.{block_words, stream_words, later_blocks, block_count, row_count, stream, content_word, block_word, file_word, file_blocks, written}
+use Rattle.list_spec.specs.Form.{block_words, stream_words, later_blocks, block_count, row_count, stream, content_word, block_word, file_word, file_blocks}
+use Rattle.list_spec.specs.Form.{written}
 use Rattle.list_spec.specs.Reading.{unknowns_of, rows_of, coef_words, row_words, in_block, stream_at, list_in}
 use Rattle.list_spec.proofs.WordLaws.{Bytes, word_small, file_encoded, encoded_same}
 use Rattle.list_spec.proofs.SumLaws.{total_same, last_word}

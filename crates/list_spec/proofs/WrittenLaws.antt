@@ -4,14 +4,16 @@ use Rattle.std.proofs.Math.Path.{refl}
 use Rattle.std.proofs.Common.{sym, ap, ◌∙◌, div-add-mod', mul-le-mul}
 use native.Mathlib.Omega.{arith}
 use Rattle.list_spec.specs.Words.{word_limit, signed, total, wrapping_sum}
-use Rattle.list_spec.specs.Form.{ListFile, block_bytes, block_words, stream_words, later_blocks, row_count, stream, content_word, block_word, file_word, file_blocks, written}
+use Rattle.list_spec.specs.Form.{ListFile, block_bytes, block_words, stream_words, later_blocks, row_count, stream, content_word, block_word, file_word}
+use Rattle.list_spec.specs.Form.{file_blocks, written}
 use Rattle.list_spec.specs.Reading.{equations_of, unknowns_of, rows_of, ending_of, coef_words, row_words, in_block, stream_at, listed, list_in}
 use Rattle.list_spec.proofs.WordLaws.{encoded_length, word_encoded}
 use Rattle.list_spec.proofs.SumLaws.{total_same, sum_zero}
 use Rattle.list_spec.proofs.ListLaws.{listed_all}
 use Rattle.list_spec.specs.Ranges.{HeaderInRange, StreamWordInRange, BlockInRange}
 use Rattle.list_spec.specs.RuleLaws.{ListInRange, FileInOrder}
-use Rattle.list_spec.proofs.ContentLaws.{signed_unsigned, stream_length, stream_coef, stream_row, stream_filler, content_stream, block_content, block_last, block_small}
+use Rattle.list_spec.proofs.ContentLaws.{signed_unsigned, stream_length, stream_coef, stream_row, stream_filler, content_stream, block_content, block_last}
+use Rattle.list_spec.proofs.ContentLaws.{block_small}
 
 -- the rows are whole: as many numbers as rows times unknowns
 pub rows_whole : (l : ListFile) → ListInRange l → row_count l * l.q ≡ length l.rows

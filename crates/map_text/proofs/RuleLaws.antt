@@ -17,7 +17,8 @@ use Rattle.laws.proofs.CheckLaws.{check_cases, renders_due, renders_silent, rend
 use Rattle.texts.specs.Reading.{most_bytes, Parse, parsed, malformed}
 use Rattle.texts.proofs.ParseLaws.{same}
 use Rattle.map_spec.specs.Form.{lines, written}
-use Rattle.map_spec.specs.Reading.{Rows, rows, malformed_at, read_line, read_rows, Reading, accepted, refused, checked, outside, accept_rows, read_body, after_first, read_map}
+use Rattle.map_spec.specs.Reading.{Rows, rows, malformed_at, read_line, read_rows, Reading, accepted, refused, checked, outside, accept_rows, read_body}
+use Rattle.map_spec.specs.Reading.{after_first, read_map}
 use Rattle.map_text.specs.Rules.{after_line, after_lines, Begins, InForm, RowInForm, Counts, OutsideCount, BadLine, LargeAt, text_rules}
 use Rattle.map_text.proofs.ReadLaws.{rows_read}
 use Rattle.map_text.proofs.WriteLaws.{line_back, rows_back}

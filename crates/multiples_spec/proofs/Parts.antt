@@ -43,9 +43,9 @@ six = 0 ∷ 0 ∷ 3 ∷ 2 ∷ 0 ∷ 1 ∷ 1 ∷ 1 ∷ 0 ∷ 3 ∷ 0 ∷ 1 ∷ 1 
 
 -- 4 5 4 3 is 0 0 3 2, 0 1 1 1, and four times 1 1 0 0
 plan : decomposed example4 six 6 (4 ∷ 5 ∷ 4 ∷ 3 ∷ []) (9 ∷ 9 ∷ 9 ∷ 9 ∷ 9 ∷ 9 ∷ []) ≡ record { answer = made; times = 1 ∷ 1 ∷ 0 ∷ 0 ∷ 0 ∷ 4 ∷ [] }
-unfolding example4 six lower often_to bounded left_over write_times all_taken taken_apart if_space unless_off decomposed_within sum_to inner value all_to any_to else_if
-    first_to place_if last_to refuse_with ◌then◌ refuse_first is_at_or_below why.is_same highest why.standing check7 why.reason_checks vanishes why.first_off why.zero_or
-    why.off_or why.stands_or why.above_or why.in_list why.first_true why.unless_refused reason_within
+unfolding example4 six lower often_to bounded left_over write_times all_taken taken_apart if_space unless_off decomposed_within sum_to inner value all_to any_to
+    else_if first_to place_if last_to refuse_with ◌then◌ refuse_first is_at_or_below why.is_same highest why.standing check7 why.reason_checks vanishes
+    why.first_off why.zero_or why.off_or why.stands_or why.above_or why.in_list why.first_true why.unless_refused reason_within
 plan = refl
 
 example : Input
@@ -80,9 +80,9 @@ answers =
 parts_hold : answers ≡ (made, 3 ∷ 2 ∷ 9 ∷ []) ∷ (made, 0 ∷ 0 ∷ 9 ∷ []) ∷ (made, 0 ∷ 1 ∷ 9 ∷ []) ∷ (unlisted, 3 ∷ 9 ∷ 9 ∷ []) ∷ (off 1 (negsuc 2), nine)
     ∷ (made, 333333 ∷ 0 ∷ 9 ∷ [])
     ∷ (no_space, 9 ∷ []) ∷ (off 1 (negsuc 2), 9 ∷ []) ∷ (refused 8 [], 9 ∷ []) ∷ []
-unfolding example both small nine told answers lower often_to bounded left_over write_times all_taken taken_apart if_space unless_off decomposed_within sum_to inner
-    value all_to any_to else_if first_to place_if last_to refuse_with ◌then◌ refuse_first is_at_or_below why.is_same highest why.standing check7 why.reason_checks vanishes
-    why.first_off why.zero_or why.off_or why.stands_or why.above_or why.in_list why.first_true why.unless_refused reason_within
+unfolding example both small nine told answers lower often_to bounded left_over write_times all_taken taken_apart if_space unless_off decomposed_within sum_to
+    inner value all_to any_to else_if first_to place_if last_to refuse_with ◌then◌ refuse_first is_at_or_below why.is_same highest why.standing check7
+    why.reason_checks vanishes why.first_off why.zero_or why.off_or why.stands_or why.above_or why.in_list why.first_true why.unless_refused reason_within
 parts_hold = refl
 
 -- their numbers, and 1 and 2 within other sizes
@@ -91,7 +91,7 @@ numbers_hold : (parts_number (decomposed small (3 ∷ 2 ∷ 0 ∷ 0 ∷ []) 2 (6
     × (parts_number (decomposed (input_of 9 17 []) [] 0 [] []).answer ≡ 1)
     × (parts_number (decomposed_within (sizes 9 16) (input_of 9 17 []) [] 0 [] []).answer ≡ 2)
     × (parts_number (decomposed_within (sizes 9 17) (input_of 9 17 []) [] 0 [] []).answer ≡ 3)
-unfolding small lower often_to bounded left_over write_times all_taken taken_apart if_space unless_off decomposed_within sum_to inner value
-    all_to any_to else_if first_to place_if last_to refuse_with ◌then◌ refuse_first is_at_or_below why.is_same highest why.standing check7 why.reason_checks vanishes
+unfolding small lower often_to bounded left_over write_times all_taken taken_apart if_space unless_off decomposed_within sum_to inner value all_to any_to
+    else_if first_to place_if last_to refuse_with ◌then◌ refuse_first is_at_or_below why.is_same highest why.standing check7 why.reason_checks vanishes
     why.first_off why.zero_or why.off_or why.stands_or why.above_or why.in_list why.first_true why.unless_refused reason_within
 numbers_hold = (refl, refl, refl, refl, refl)

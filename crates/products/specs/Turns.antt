@@ -1,7 +1,8 @@
 -- One turn of each loop of the products: a term more of a sum of products, a place more of a row, a row more of a table, and a test for 0. Overflow is
 -- settled here: all that the code adds up fits 64 bits. Assumes nothing.
 use Rattle.std.specs.Prelude.{◌≡◌, refl, List, ℕ, ◌+◌, ◌*◌, ◌≤◌, ◌<◌, T, ℤ, pos, nat_abs, ◌+ℤ◌, ◌*ℤ◌, length, get_or, set}
-use Rattle.std.proofs.Common.{sym, ◌∙◌, ap, inl, inr, mul-le-mul, arith, below_more, length-set, get_or-set_same, get_or-set_other, SFits, of_z, to_z, to_z-of_z}
+use Rattle.std.proofs.Common.{sym, ◌∙◌, ap, inl, inr, mul-le-mul, arith, below_more, length-set, get_or-set_same, get_or-set_other, SFits, of_z, to_z}
+use Rattle.std.proofs.Common.{to_z-of_z}
 use Rattle.std.proofs.Math.IntN.{zero-*ℤ, +ℤ_idr}
 use Rattle.std.specs.Int.{w32, w64}
 use Rattle.linear.proofs.Cases.{split}

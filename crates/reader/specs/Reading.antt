@@ -103,7 +103,8 @@ module _ {b : Bool} (q : ℕ) (list : List ℕ) (found n : ℕ) (e : b ≡ shows
   pub shown_in : b ≡ true → RowIn q list n
   unfolding shows has_row
   shown_in t =
-      let range : T (between 1 most_unknowns q) × T (has_row q list found n) = and_parts (between 1 most_unknowns q) (has_row q list found n) (rw (← e, t) tt) in
+      let range : T (between 1 most_unknowns q) × T (has_row q list found n) =
+      and_parts (between 1 most_unknowns q) (has_row q list found n) (rw (← e, t) tt) in
       let here : T (leb 1 n) × T (leb n found && leb n (capacity q list)) = and_parts (leb 1 n) (leb n found && leb n (capacity q list)) range.1 in
       let first : 1 ≤ n = leb→le 1 n here.0 in
       let last : n ≤ length list / q = leb→le n (capacity q list) (and_parts (leb n found) (leb n (capacity q list)) here.1).1 in
@@ -139,7 +140,8 @@ shown_is q list found n =
 
 -- ---- the two lists of a capped run
 
-pub either_part : (w : Which) (q : ℕ) (list second : List ℕ) (found n : ℕ) → capped_part q (table_at w list second) found n ≡ row_of_either w q list second found n
+pub either_part : (w : Which) (q : ℕ) (list second : List ℕ) (found n : ℕ) → capped_part q (table_at w list second) found n
+    ≡ row_of_either w q list second found n
 unfolding capped_part row_of_either shown_at
 either_part w q list second found n =
     sym (part_if_lem (between 1 (most_for (rights [])) q) (has_row q (table_at w list second) found n) (row_part q (table_at w list second) n))

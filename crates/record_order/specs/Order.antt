@@ -9,10 +9,12 @@ use Rattle.linear.specs.Tests.{all_to, count_to}
 use Rattle.linear.proofs.TestLaws.{and_parts}
 use Rattle.definitions.specs.Answers.{Check, ◌then◌, refuse, refuse_with}
 use Rattle.definitions.specs.Input.{Input, alone, bound_of, input_with, limit_of}
-use Rattle.definitions.specs.Refusals.{check5, check6, check6_from, deepest_limit, in_order, in_order_from, inside, in_order_by, row_fits, second_fits, step_limit}
+use Rattle.definitions.specs.Refusals.{check5, check6, check6_from, deepest_limit, in_order, in_order_from, inside, in_order_by, row_fits, second_fits}
+use Rattle.definitions.specs.Refusals.{step_limit}
 use Rattle.definitions.specs.Step.{width}
 use Rattle.definitions.specs.System.{System, above, capped, is_at_or_below, most_unknowns, plain}
-use Rattle.definitions.specs.Tables.{Record, RunKind, State, at, capacity, capped_run, desk_by_desk, frozen, is_run, lower_above, lower_plain, plain_part, plain_run}
+use Rattle.definitions.specs.Tables.{Record, RunKind, State, at, capacity, capped_run, desk_by_desk, frozen, is_run, lower_above, lower_plain, plain_part}
+use Rattle.definitions.specs.Tables.{plain_run}
 use Rattle.definitions.specs.Tables.{run_for}
 use Rattle.calls.specs.Paper.{system_with}
 use Rattle.laws.proofs.MarkLaws.{count_frozen_half}

@@ -23,9 +23,11 @@ module _ (r : Reformulation) (yes : reformulates r ≡ go) (cap : ℕ) {most roo
     (run : RunsUnder cap r.m (unknowns r) r.other most room w) (budget : ℕ)
     (e : (resume r.m (unknowns r) most room budget w).answer ≡ complete) where
   pub projected_inside : (out : List ℕ) → project_checks r.q r.k (left r yes cap run budget e).count (left r yes cap run budget e).basis out ≡ go
-      → Enumerates r.q (LoopInside cap r.p r.q (map_row r)) (left r yes cap run budget e).count (at (projected r.q r.k (left r yes cap run budget e).count (left r yes cap run budget e).basis out) r.q)
+      → Enumerates r.q (LoopInside cap r.p r.q (map_row r)) (left r yes cap run budget e).count
+      (at (projected r.q r.k (left r yes cap run budget e).count (left r yes cap run budget e).basis out) r.q)
   projected_inside out fits =
-      projected_under r yes cap (left r yes cap run budget e).count (left r yes cap run budget e).basis out fits (under_complete cap r.m (unknowns r) r.other run budget e)
+      projected_under r yes cap (left r yes cap run budget e).count (left r yes cap run budget e).basis out fits
+      (under_complete cap r.m (unknowns r) r.other run budget e)
 
 -- without a cap, the list of the map
 pub complete_projected : (r : Reformulation) → reformulates r ≡ go → {most room : ℕ} {w : Work} → Runs r.m (unknowns r) r.other most room w
@@ -39,14 +41,18 @@ complete_projected r shown run = projected_inside r shown 0 run
 -- began with such a start itself, on a map whose own system is the other one. Its list without the further unknowns is both lists of the map.
 module _ (p q : ℕ) (coefs rights : List ℤ) (lower : List ℕ) (some : 0 < q) (numbers : length coefs ≡ p * q) (k m : ℕ)
     (extended onto back above : List ℤ) (coefs' rights' : List ℤ) (lower' : List ℕ) where
-  module _ (shown : reformulates (sides_reformulation p q coefs rights lower some numbers k m extended onto back above coefs' rights' lower') ≡ go) {most room : ℕ} {w : Work} (run : SidesRun m (q + k) coefs' rights' lower' most room w)
+  module _ (shown : reformulates (sides_reformulation p q coefs rights lower some numbers k m extended onto back above coefs' rights' lower') ≡ go)
+      {most room : ℕ} {w : Work} (run : SidesRun m (q + k) coefs' rights' lower' most room w)
       (budget : ℕ) (e : (resume m (suc (q + k)) most room budget w).answer ≡ complete) (out : List ℕ)
       (fits : let v = (resume m (suc (q + k)) most room budget w).work in project_checks (suc q) k v.count v.basis out ≡ go) where
     rows_projected : let v = (resume m (suc (q + k)) most room budget w).work in
-        Enumerates (suc q) (LoopInside 1 p (suc q) (map_row (sides_reformulation p q coefs rights lower some numbers k m extended onto back above coefs' rights' lower'))) v.count (at (projected (suc q) k v.count v.basis out) (suc q))
+        Enumerates (suc q) (LoopInside 1 p (suc q)
+        (map_row (sides_reformulation p q coefs rights lower some numbers k m extended onto back above coefs' rights' lower'))) v.count
+        (at (projected (suc q) k v.count v.basis out) (suc q))
     rows_projected =
         let width : suc (q + k) ≡ suc q + k = omega arith in
-        rw width (projected_inside (sides_reformulation p q coefs rights lower some numbers k m extended onto back above coefs' rights' lower') shown 1 (rw width at run) budget (rw width at e) out (rw width at fits))
+        rw width (projected_inside (sides_reformulation p q coefs rights lower some numbers k m extended onto back above coefs' rights' lower') shown 1
+        (rw width at run) budget (rw width at e) out (rw width at fits))
 
     -- The minimal solutions of the map, and the smallest tuples at or above the bound that meet the right sides, an empty list meaning that there is none.
     -- Where the right sides are 0 the latter is Job 4's (`Above-Listed` of engine_spec/specs/SidesRuns),

@@ -4,7 +4,8 @@ use Rattle.linear.specs.Tests.{all_to, any_to}
 use Rattle.definitions.specs.Answers.{Check, ◌then◌, go, refuse, refuse_first, refuse_with}
 use Rattle.definitions.specs.Refusals.{check7}
 use Rattle.definitions.specs.Tables.{write_to}
-use Rattle.reformulation_spec.specs.Reformulation.{all_follow, extends, follows, given_checks, left_over, project_checks, project_to, projected, reformulates, reformulation, shows}
+use Rattle.reformulation_spec.specs.Reformulation.{all_follow, extends, follows, given_checks, left_over, project_checks, project_to, projected, reformulates}
+use Rattle.reformulation_spec.specs.Reformulation.{reformulation, shows}
 
 abbrev three : ℤ → ℤ → ℤ → List ℤ → List ℤ
 three x y z rest = x ∷ y ∷ z ∷ rest
@@ -77,8 +78,8 @@ pub record Computed : Type 0 where
   pub widest : project_checks 2 30 0 [] [] ≡ go
 
 pub computed : Computed
-unfolding all_to any_to ◌then◌ refuse_first refuse_with check7 write_to all_follow extends follows given_checks left_over reformulates shows project_checks project_to
-    projected
+unfolding all_to any_to ◌then◌ refuse_first refuse_with check7 write_to all_follow extends follows given_checks left_over reformulates shows project_checks
+    project_to projected
 computed =
     record {
       yes = refl;

@@ -19,7 +19,8 @@ use Rattle.engine_spec.proofs.Sides.{minimal_alike}
 use Rattle.reformulation_spec.proofs.Extension.{NeverBelow, loop_map, map_loop, row_map, same_all, with, with_map, with_same}
 use Rattle.reformulation_spec.proofs.Following.{at_least_nonneg, exactly_zero}
 use Rattle.reformulation_spec.proofs.Projection.{projected_row}
-use Rattle.reformulation_spec.specs.Reformulation.{Reformulation, equations, extended_row, map_row, other_row, project_checks, projected, reformulates, unknowns}
+use Rattle.reformulation_spec.specs.Reformulation.{Reformulation, equations, extended_row, map_row, other_row, project_checks, projected, reformulates}
+use Rattle.reformulation_spec.specs.Reformulation.{unknowns}
 use Rattle.reformulation_spec.proofs.Rules.{says_yes}
 use Rattle.reformulation_spec.specs.Showing.{Shown}
 

@@ -2,7 +2,8 @@
 -- equations in q unknowns. It is extended by k further unknowns, each with an equation that says what it is: a sum of the map's unknowns. The other map has m
 -- equations in all q + k unknowns; whoever makes it also hands over multiples by which its equations follow from those of the extended map and these from
 -- its own, and multiples by which no further unknown is below 0. Rows and columns count from 0 here. Assumes nothing.
-use Rattle.std.specs.Prelude.{ℕ, zero, suc, ◌+◌, ◌*◌, ◌/◌, Bool, true, false, cond, not, ◌&&◌, List, eqb, leb, ltb, ℤ, pos, negsuc, nat_abs, ◌+ℤ◌, ◌*ℤ◌, get_or, length}
+use Rattle.std.specs.Prelude.{ℕ, zero, suc, ◌+◌, ◌*◌, ◌/◌, Bool, true, false, cond, not, ◌&&◌, List, eqb, leb, ltb, ℤ, pos, negsuc, nat_abs, ◌+ℤ◌, ◌*ℤ◌, get_or}
+use Rattle.std.specs.Prelude.{length}
 use Rattle.std.specs.Int.Signed.{lt_z}
 use Rattle.linear.specs.Tests.{all_to, any_to}
 use Rattle.definitions.specs.Answers.{Check, ◌then◌, go, refuse, refuse_if}

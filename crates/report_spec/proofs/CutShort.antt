@@ -1,6 +1,6 @@
 -- What is printed before an ending that is not "end complete", from `cut_short` of Complete.antt; apart from it, so that an edit of that is refused there.
 -- Assumes nothing.
-use Rattle.std.specs.Prelude.{ℕ, List, [], ◌++◌, ◌≡◌}
+use Rattle.std.specs.Prelude.{ℕ, List, ◌++◌, ◌≡◌}
 use Rattle.std.proofs.Math.Path.{refl}
 use Rattle.std.proofs.Common.{arith}
 use Rattle.definitions.specs.Answers.{refused}

@@ -33,9 +33,9 @@ ran q coefs = summed q (seat_resume 100 (seat_input 1 q coefs) (seat_start (seat
 runs_hold : (ran 2 (pos 2 ∷ negsuc 2 ∷ []) ≡ record { answer = complete; rows = 3 ∷ 2 ∷ []; steps = 6; deepest = 5 })
     × (ran 2 (pos 20 ∷ negsuc 18 ∷ []) ≡ record { answer = complete; rows = 19 ∷ 20 ∷ []; steps = 40; deepest = 39 })
     × (ran 2 (pos 21 ∷ negsuc 19 ∷ []) ≡ record { answer = refused 24 []; rows = []; steps = 40; deepest = 39 })
-unfolding lent summed ran sum_to inner value unit total all_to any_to count_to refuse_with ◌then◌ refuse_first solves is_at_or_below covered bit frozen write_to write_row
-    units_to units_start makes marks_to write_children listed grown step row_fits in_order check7 too_large checked unless_done walk call seat_search seat_start
-    seat_start_checks seat_resume_checks
+unfolding lent summed ran sum_to inner value unit total all_to any_to count_to refuse_with ◌then◌ refuse_first solves is_at_or_below covered bit frozen write_to
+    write_row units_to units_start makes marks_to write_children listed grown step row_fits in_order check7 too_large checked unless_done walk call seat_search
+    seat_start seat_start_checks seat_resume_checks
 runs_hold = (refl, refl, refl)
 
 -- 2 before 23, 23 before 3; a lower bound above 20; a row above 20

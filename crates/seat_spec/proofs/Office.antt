@@ -53,7 +53,8 @@ module _ (k c : Machine State) (P : State → Type 0)
   next : (s : State) → c.step (c.settle s) ≡ k.step (k.settle s)
   next s = ap c.step (sym (settles s)) ∙ sym (steps (k.settle s))
 
-  walk_follows : (n : ℕ) (s : State) → P s → (Follows k c P settles height steps settled kept agree) n s × (Alike k c P settles height steps settled kept agree) n s
+  walk_follows : (n : ℕ) (s : State) → P s → (Follows k c P settles height steps settled kept agree) n s
+      × (Alike k c P settles height steps settled kept agree) n s
   walk_follows zero s p =
       elim (ℕ_discrete (k.height (k.settle s)) 0) [
         | yes e ↦
@@ -201,13 +202,15 @@ module _ (p q : ℕ) (coefs : List ℤ) where
   -- what the seat asks of a plain call is asked by the core under its limit
   pub seat_core : (s : State) → seat_resume_checks (i p q coefs) s ≡ go → resume_checks (i p q coefs) s ≡ go
   seat_core s e =
-      let (a, (b, (c, (d, (f, (g, (h, u))))))) = (seat_resume_renders (i p q coefs) s).goes e in (resume_renders (i p q coefs) s).silent (a, (b, (d, (f, (g, (h, u))))))
+      let (a, (b, (c, (d, (f, (g, (h, u))))))) = (seat_resume_renders (i p q coefs) s).goes e in
+      (resume_renders (i p q coefs) s).silent (a, (b, (d, (f, (g, (h, u))))))
 
   pub call_office : (budget : ℕ) (s : State) → seat_resume_checks (i p q coefs) s ≡ go → AsOffice budget (seat_machine (i p q coefs)) (machine (o p q coefs)) s
   call_office budget s e =
       let g = seat_core s e in
       let v = resume_valid (i p q coefs) s g in
-      as_office (seat_machine (i p q coefs)) (machine (o p q coefs)) (Valid (system_of (i p q coefs))) (λ t. refl) (λ t. refl) (λ t. step_limit_lem (system_of (o p q coefs)) 20 t) (λ t v. v) kept
+      as_office (seat_machine (i p q coefs)) (machine (o p q coefs)) (Valid (system_of (i p q coefs))) (λ t. refl) (λ t. refl)
+      (λ t. step_limit_lem (system_of (o p q coefs)) 20 t) (λ t v. v) kept
       (λ t v h. search_agree (system_of (i p q coefs)) most_component (omega arith) t v.ordered h) budget s v e
       (valid_resume (o p q coefs) s (handed_office (resume_handed (i p q coefs) s g)) (record {
         shaped = shaped_limit (system_of (i p q coefs)) most_component (omega arith) (omega arith) s v.shaped;
@@ -274,7 +277,8 @@ module _ (p q : ℕ) (coefs : List ℤ) where
         by lower_above e = core_search (above_system lower (i p q coefs)) s e
         by desk_by_desk e = core_search (above_system lower (i p q coefs)) s e
 
-    kept_from : (s : State) → ValidFrom lower (i p q coefs) s → Goes (seat_machine_from lower (i p q coefs)) s → ValidFrom lower (i p q coefs) (step_from lower (i p q coefs) s)
+    kept_from : (s : State) → ValidFrom lower (i p q coefs) s → Goes (seat_machine_from lower (i p q coefs)) s
+        → ValidFrom lower (i p q coefs) (step_from lower (i p q coefs) s)
     kept_from s v (h, e) = step_from_valid lower (i p q coefs) s v (search_going_from lower (i p q coefs) s v h (core_goes s e))
 
     agree_from : (s : State) → ValidFrom lower (i p q coefs) s → 0 < s.run.height
@@ -299,10 +303,12 @@ module _ (p q : ℕ) (coefs : List ℤ) where
     order_office s lower_above (x, y) = (order_limit (above_system lower (i p q coefs)) most_component (omega arith) s x, y)
     order_office s desk_by_desk x = x
 
-    pub call_office_from : (budget : ℕ) (s : State) → seat_resume_from_checks lower (i p q coefs) s ≡ go → AsOffice budget (seat_machine_from lower (i p q coefs)) (machine_from lower (o p q coefs)) s
+    pub call_office_from : (budget : ℕ) (s : State) → seat_resume_from_checks lower (i p q coefs) s ≡ go
+        → AsOffice budget (seat_machine_from lower (i p q coefs)) (machine_from lower (o p q coefs)) s
     call_office_from budget s e =
         let (h, v) = resume_from_valid lower (i p q coefs) s refl (seat_core_from s e) in
-        as_office (seat_machine_from lower (i p q coefs)) (machine_from lower (o p q coefs)) (ValidFrom lower (i p q coefs)) settle_office (λ t. refl) step_from_office
+        as_office (seat_machine_from lower (i p q coefs)) (machine_from lower (o p q coefs)) (ValidFrom lower (i p q coefs)) settle_office (λ t. refl)
+        step_from_office
         (λ t v. settled_valid lower (i p q coefs) t v) kept_from agree_from budget s v e
         (valid_resume_from lower (o p q coefs) s refl (handed_office h) (record {
           shaped = shaped_limit (map_of (i p q coefs)) most_component (omega arith) (omega arith) s v.shaped;
@@ -311,7 +317,8 @@ module _ (p q : ℕ) (coefs : List ℤ) where
           small = λ j jq. omega (arith, v.small j jq);
         }))
 
-    pub start_office_from : (s : State) → (seat_start_from lower (i p q coefs) s).answer ≡ started → start_from lower (o p q coefs) s ≡ seat_start_from lower (i p q coefs) s
+    pub start_office_from : (s : State) → (seat_start_from lower (i p q coefs) s).answer ≡ started → start_from lower (o p q coefs) s
+        ≡ seat_start_from lower (i p q coefs) s
     unfolding seat_start_from start_from lower_start
     start_office_from s e =
         let (g, w) = started_goes (seat_lower_checks lower (i p q coefs) s) s _ e in

@@ -72,7 +72,8 @@ module _ (p q : ℕ) (coefs : List ℤ) where
   passed s f e = rw e
 
   one : (s₀ : State) → seat_first (i p q coefs) ≡ go → Premises (i p q coefs) s₀ → (g : Log State) → Series (i p q coefs) s₀ g
-      → ThirdDemand (i p q coefs) s₀ g × (seat_start (i p q coefs) s₀ ≡ start (i p q coefs) s₀) × ((budget : ℕ) → seat_resume budget (i p q coefs) g.state ≡ resume budget (i p q coefs) g.state)
+      → ThirdDemand (i p q coefs) s₀ g × (seat_start (i p q coefs) s₀ ≡ start (i p q coefs) s₀)
+      × ((budget : ℕ) → seat_resume budget (i p q coefs) g.state ≡ resume budget (i p q coefs) g.state)
   one s₀ e given g r = (
     third_demands.third_demand (i p q coefs) s₀ given g r,
     seat_starts p q coefs s₀ ∙ passed s₀ (start (i p q coefs)) e,
@@ -134,7 +135,8 @@ module _ (p q : ℕ) (coefs : List ℤ) where
         as_office_from = call_office_from p q coefs;
         whole_steps = λ budget s. call_after (seat_machine (i p q coefs)) (λ t. refl) budget s ∙ after_office p q coefs (seat_steps budget (i p q coefs) s) s;
         whole_steps_from =
-            λ lower budget s e. (called (seat_machine_from lower (i p q coefs)) budget s e).state ∙ after_office_from p q coefs lower (seat_steps_from budget lower (i p q coefs) s) s;
+            λ lower budget s e. (called (seat_machine_from lower (i p q coefs)) budget s e).state
+            ∙ after_office_from p q coefs lower (seat_steps_from budget lower (i p q coefs) s) s;
         goes = seat_goes p q coefs;
         lists = seat_lists p q coefs;
         finished = seat_finished p q coefs;
@@ -163,9 +165,11 @@ third_demand_at_the_seat q coefs s₀ begins shallow roomy brief g r =
 
 -- a call of the seat that is refused before its walk, a start too, is a foreign call of the third demand (theorems/specs/Series): it leaves the run as it is
 module _ (p q : ℕ) (coefs : List ℤ) (l : Lending State) (s : State) (n : ℕ) (values : List ℕ) where
-  pub start_leaves : seat_start_checks (given p q coefs l s n values) (l.handed s) ≡ refuse n values → meanwhile (λ t. (seat_start (given p q coefs l s n values) t).state) l s ≡ s
+  pub start_leaves : seat_start_checks (given p q coefs l s n values) (l.handed s) ≡ refuse n values
+      → meanwhile (λ t. (seat_start (given p q coefs l s n values) t).state) l s ≡ s
   start_leaves e =
-      unchanged_leaves (λ t. (seat_start (given p q coefs l s n values) t).state) l s (ap (λ o. o.state) ((training_promise p q coefs).calls.start_unchanged (l.handed s) n values e))
+      unchanged_leaves (λ t. (seat_start (given p q coefs l s n values) t).state) l s
+      (ap (λ o. o.state) ((training_promise p q coefs).calls.start_unchanged (l.handed s) n values e))
 
   pub start_leaves_from : (lower : List ℕ) → seat_lower_checks lower (given p q coefs l s n values) (l.handed s) ≡ refuse n values
       → meanwhile (λ t. (seat_start_from lower (given p q coefs l s n values) t).state) l s ≡ s
@@ -173,7 +177,8 @@ module _ (p q : ℕ) (coefs : List ℤ) (l : Lending State) (s : State) (n : ℕ
       unchanged_leaves (λ t. (seat_start_from lower (given p q coefs l s n values) t).state) l s
       (ap (λ o. o.state) (((training_promise p q coefs).calls_from lower).start_unchanged (l.handed s) n values e))
 
-  pub refused_leaves : (budget : ℕ) → seat_resume_checks (given p q coefs l s n values) (l.handed s) ≡ refuse n values → meanwhile (λ t. (seat_resume budget (given p q coefs l s n values) t).state) l s ≡ s
+  pub refused_leaves : (budget : ℕ) → seat_resume_checks (given p q coefs l s n values) (l.handed s) ≡ refuse n values
+      → meanwhile (λ t. (seat_resume budget (given p q coefs l s n values) t).state) l s ≡ s
   refused_leaves budget e =
       unchanged_leaves (λ t. (seat_resume budget (given p q coefs l s n values) t).state) l s
       (ap (λ o. o.state) ((training_promise p q coefs).calls.unchanged budget (l.handed s) n values e))

@@ -125,20 +125,25 @@ module _ (p q : ℕ) (coefs : List ℤ) where
   ruled = record { before_renders = seat_resume_renders (i p q coefs); within_renders = seat_search_renders (system_of (i p q coefs)) }
 
   -- what a call that was let go on leaves is let go on again
-  pub seat_left_goes : (budget : ℕ) (s : State) → seat_resume_checks (i p q coefs) s ≡ go → seat_resume_checks (i p q coefs) (seat_resume budget (i p q coefs) s).state ≡ go
+  pub seat_left_goes : (budget : ℕ) (s : State) → seat_resume_checks (i p q coefs) s ≡ go
+      → seat_resume_checks (i p q coefs) (seat_resume budget (i p q coefs) s).state ≡ go
   seat_left_goes budget s e =
       let f = first_goes s e in
       rw (core_state f budget s) (both_go (resume budget (i p q coefs) s).state f (first.goes_on budget s (seat_core p q coefs s e)))
 
-  pub seat_longer : (budget : ℕ) (s : State) → seat_resume_checks (i p q coefs) s ≡ go → (seat_resume budget (i p q coefs) s).answer ≡ refused 11 [] → (u : State)
-      → Longer (system_of (i p q coefs)) (seat_resume budget (i p q coefs) s).state u → (more : ℕ) → seat_resume (suc more) (i p q coefs) u ≡ walk more (seat_machine (i p q coefs)) (step (system_of (i p q coefs)) u)
+  pub seat_longer : (budget : ℕ) (s : State) → seat_resume_checks (i p q coefs) s ≡ go → (seat_resume budget (i p q coefs) s).answer ≡ refused 11 []
+      → (u : State)
+      → Longer (system_of (i p q coefs)) (seat_resume budget (i p q coefs) s).state u → (more : ℕ) → seat_resume (suc more) (i p q coefs) u
+      ≡ walk more (seat_machine (i p q coefs)) (step (system_of (i p q coefs)) u)
   seat_longer budget s e a u l more =
       let f = first_goes s e in
       let is = is_core f budget s in
       let b : (resume budget (i p q coefs) s).answer ≡ refused 11 [] = full_back (resume budget (i p q coefs) s).answer (ap (λ o. o.answer) (sym is) ∙ a) in
-      let lent : Longer (system_of (i p q coefs)) (resume budget (i p q coefs) s).state u = subst (λ t. Longer (system_of (i p q coefs)) t u) (core_state f budget s) l in
+      let lent : Longer (system_of (i p q coefs)) (resume budget (i p q coefs) s).state u =
+      subst (λ t. Longer (system_of (i p q coefs)) t u) (core_state f budget s) l in
       is_core f (suc more) u ∙ ap renumbered (first.longer budget s (seat_core p q coefs s e) b u lent more)
-      ∙ sym (walk_renumbered (seat_machine (i p q coefs)) (machine (i p q coefs)) (λ t. refl) (λ t. refl) (seat_search_lem (system_of (i p q coefs))) (λ t. refl) more (step (system_of (i p q coefs)) u))
+      ∙ sym (walk_renumbered (seat_machine (i p q coefs)) (machine (i p q coefs)) (λ t. refl) (λ t. refl) (seat_search_lem (system_of (i p q coefs)))
+      (λ t. refl) more (step (system_of (i p q coefs)) u))
 
   -- each row carries its marks
   pub seat_marked : (budget : ℕ) (s : State) → seat_resume_checks (i p q coefs) s ≡ go → Marked q (seat_resume budget (i p q coefs) s).state
@@ -183,14 +188,17 @@ module _ (p q : ℕ) (coefs : List ℤ) where
     unfolding seat_resume_from_checks
     first_goes_from s e = (split_goes _ _ _ _ e).0
 
-    both_go_from : (s : State) → seat_first (i p q coefs) ≡ go → resume_from_checks lower (i p q coefs) s ≡ go → seat_resume_from_checks lower (i p q coefs) s ≡ go
+    both_go_from : (s : State) → seat_first (i p q coefs) ≡ go → resume_from_checks lower (i p q coefs) s ≡ go → seat_resume_from_checks lower (i p q coefs) s
+        ≡ go
     unfolding seat_resume_from_checks resume_from_checks
     both_go_from s e f = join_goes _ _ _ _ e f
 
-    is_core_from : seat_first (i p q coefs) ≡ go → (n : ℕ) (s : State) → seat_resume_from n lower (i p q coefs) s ≡ renumbered (resume_from n lower (i p q coefs) s)
+    is_core_from : seat_first (i p q coefs) ≡ go → (n : ℕ) (s : State) → seat_resume_from n lower (i p q coefs) s
+        ≡ renumbered (resume_from n lower (i p q coefs) s)
     is_core_from e n s = seat_resumes_from p q coefs lower n s ∙ goes_checked (seat_first (i p q coefs)) s _ e
 
-    core_state_from : seat_first (i p q coefs) ≡ go → (n : ℕ) (s : State) → (seat_resume_from n lower (i p q coefs) s).state ≡ (resume_from n lower (i p q coefs) s).state
+    core_state_from : seat_first (i p q coefs) ≡ go → (n : ℕ) (s : State) → (seat_resume_from n lower (i p q coefs) s).state
+        ≡ (resume_from n lower (i p q coefs) s).state
     core_state_from e n s = ap (λ o. o.state) (is_core_from e n s)
 
     pub seat_run_from : {s : State} → SeatRunFrom lower p q coefs s → (seat_first (i p q coefs) ≡ go) × RunFrom lower (seat_map p q coefs) s
@@ -210,7 +218,8 @@ module _ (p q : ℕ) (coefs : List ℤ) where
     pub seat_goes_from : (s : State) → SeatRunFrom lower p q coefs s → seat_resume_from_checks lower (i p q coefs) s ≡ go
     seat_goes_from s r = both_go_from s (seat_run_from r).0 (seat_lists_from s r).goes
 
-    pub seat_finished_from : (s : State) → SeatRunFrom lower p q coefs s → (budget : ℕ) → let o = seat_resume_from budget lower (i p q coefs) s in o.answer ≡ complete
+    pub seat_finished_from : (s : State) → SeatRunFrom lower p q coefs s → (budget : ℕ) → let o =
+        seat_resume_from budget lower (i p q coefs) s in o.answer ≡ complete
         → Exactly q (MinimalFrom (map_of (i p q coefs)) (bound_of lower)) o.state.list o.state.run.found
         × Exactly q (MinimalSolution (map_of (i p q coefs))) o.state.second o.state.run.found2
     seat_finished_from s r budget e =
@@ -229,20 +238,24 @@ module _ (p q : ℕ) (coefs : List ℤ) where
         rw (core_state_from f budget s)
         (both_go_from (resume_from budget lower (i p q coefs) s).state f (first_from.goes_on budget s (seat_core_from p q coefs lower s e)))
 
-    pub seat_longer_from : (budget : ℕ) (s : State) → seat_resume_from_checks lower (i p q coefs) s ≡ go → (seat_resume_from budget lower (i p q coefs) s).answer ≡ refused 11 []
+    pub seat_longer_from : (budget : ℕ) (s : State) → seat_resume_from_checks lower (i p q coefs) s ≡ go
+        → (seat_resume_from budget lower (i p q coefs) s).answer ≡ refused 11 []
         → (u : State) → LongerFrom q (seat_resume_from budget lower (i p q coefs) s).state u → (more : ℕ)
         → seat_resume_from (suc more) lower (i p q coefs) u ≡ walk more (seat_machine_from lower (i p q coefs)) (step_from lower (i p q coefs) u)
     seat_longer_from budget s e a u l more =
         let f = first_goes_from s e in
         let is = is_core_from f budget s in
-        let b : (resume_from budget lower (i p q coefs) s).answer ≡ refused 11 [] = full_back (resume_from budget lower (i p q coefs) s).answer (ap (λ o. o.answer) (sym is) ∙ a) in
+        let b : (resume_from budget lower (i p q coefs) s).answer ≡ refused 11 [] =
+        full_back (resume_from budget lower (i p q coefs) s).answer (ap (λ o. o.answer) (sym is) ∙ a) in
         let lent : LongerFrom q (resume_from budget lower (i p q coefs) s).state u = subst (λ t. LongerFrom q t u) (core_state_from f budget s) l in
         is_core_from f (suc more) u
         ∙ ap renumbered (first_from.longer budget s (seat_core_from p q coefs lower s e) b u lent more)
-        ∙ sym (walk_renumbered (seat_machine_from lower (i p q coefs)) (machine_from lower (i p q coefs)) (λ t. refl) (λ t. refl) (seat_search_from_lem lower (i p q coefs)) (λ t. refl) more
+        ∙ sym (walk_renumbered (seat_machine_from lower (i p q coefs)) (machine_from lower (i p q coefs)) (λ t. refl) (λ t. refl)
+        (seat_search_from_lem lower (i p q coefs)) (λ t. refl) more
         (step_from lower (i p q coefs) u))
 
-    pub seat_marked_from : (budget : ℕ) (s : State) → seat_resume_from_checks lower (i p q coefs) s ≡ go → Marked q (seat_resume_from budget lower (i p q coefs) s).state
+    pub seat_marked_from : (budget : ℕ) (s : State) → seat_resume_from_checks lower (i p q coefs) s ≡ go
+        → Marked q (seat_resume_from budget lower (i p q coefs) s).state
     seat_marked_from budget s e =
         subst (Marked q) (sym (core_state_from (first_goes_from s e) budget s))
         (first_from.marked budget s (seat_core_from p q coefs lower s e))
@@ -252,7 +265,8 @@ module _ (p q : ℕ) (coefs : List ℤ) where
     seat_start_marked_from s e =
         let (a, (b, (c, (d, (f, (h, (x, (y, u)))))))) = (seat_lower_renders (i p q coefs) s lower).goes e in
         let goes : lower_checks lower (i p q coefs) s ≡ go = (lower_renders (i p q coefs) s lower).silent (a, (b, (d, (f, (h, (x, (y, u))))))) in
-        subst (λ o. Marked q o.state) (first_from.starts s goes ∙ sym (goes_checked (seat_lower_checks lower (i p q coefs) s) s _ e)) (first_from.start_marked s goes)
+        subst (λ o. Marked q o.state) (first_from.starts s goes ∙ sym (goes_checked (seat_lower_checks lower (i p q coefs) s) s _ e))
+        (first_from.start_marked s goes)
 
     pub seat_start_untouched_from : (s : State) → Untouched q q s (seat_start_from lower (i p q coefs) s).state
     seat_start_untouched_from s =
@@ -261,7 +275,8 @@ module _ (p q : ℕ) (coefs : List ℤ) where
               subst (λ o. Untouched q q s o.state) (sym (seat_starts_from p q coefs lower s ∙ goes_checked (seat_first (i p q coefs)) s _ f))
               (first_from.start_untouched s)
           | inr (n, values, e) ↦
-              subst (λ o. Untouched q q s o.state) (sym (seat_starts_from p q coefs lower s ∙ refused_state (seat_first (i p q coefs)) s _ n values e)) (untouched q q s)
+              subst (λ o. Untouched q q s o.state) (sym (seat_starts_from p q coefs lower s ∙ refused_state (seat_first (i p q coefs)) s _ n values e))
+              (untouched q q s)
         ]
 
     pub seat_untouched_from : (budget : ℕ) (s : State) → Untouched q q s (seat_resume_from budget lower (i p q coefs) s).state

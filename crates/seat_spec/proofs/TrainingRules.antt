@@ -7,7 +7,8 @@ use Rattle.definitions.specs.Answers.{Check, ◌then◌, go, refuse, refuse_if, 
 use Rattle.definitions.specs.Calls.{machine, machine_from, resume, resume_from, search_from, start, start_from}
 use Rattle.definitions.specs.Input.{Input, above_system, map_of, system_of}
 use Rattle.definitions.specs.Machine.{Machine, Outcome, call, checked, unless_done, walk}
-use Rattle.definitions.specs.Refusals.{check1, check4, lower_checks, most_for, numbers_check, resume_checks, resume_from_checks, search_checks, shape_then, start_checks}
+use Rattle.definitions.specs.Refusals.{check1, check4, lower_checks, most_for, numbers_check, resume_checks, resume_from_checks, search_checks, shape_then}
+use Rattle.definitions.specs.Refusals.{start_checks}
 use Rattle.definitions.specs.Refusals.{step_limit, unknowns_check}
 use Rattle.definitions.specs.System.{System, most_equations}
 use Rattle.definitions.specs.Tables.{RunKind, State, by_walk, capped_run, desk_by_desk, lower_above, lower_plain, plain_part, plain_run}
@@ -73,7 +74,8 @@ unfolding seat_search_from
 seat_search_from_renders lower i s =
     renders_by s.run.kind (seat_search_renders (map_of i) (plain_part s)) (seat_search_renders (above_system lower i) s)
 
-renumber_search : (a b c : Bool) → (refuse_if a 14 then refuse_if b 11 then refuse_if c 24) ≡ renumber_check (refuse_if a 14 then refuse_if b 11 then refuse_if c 12)
+renumber_search : (a b c : Bool) → (refuse_if a 14 then refuse_if b 11 then refuse_if c 24)
+    ≡ renumber_check (refuse_if a 14 then refuse_if b 11 then refuse_if c 12)
 unfolding refuse_with ◌then◌
 renumber_search true b c = refl
 renumber_search false true c = refl
@@ -165,7 +167,8 @@ module _ (p q : ℕ) (coefs : List ℤ) where
   unfolding seat_start start seat_start_checks start_checks
   seat_starts s = seat_first_lem (i p q coefs) s _ _ ∙ checked_same (seat_first (i p q coefs)) s _ (start (i p q coefs)) refl
 
-  pub seat_starts_from : (lower : List ℕ) (s : State) → seat_start_from lower (i p q coefs) s ≡ checked (seat_first (i p q coefs)) s (start_from lower (i p q coefs))
+  pub seat_starts_from : (lower : List ℕ) (s : State) → seat_start_from lower (i p q coefs) s
+      ≡ checked (seat_first (i p q coefs)) s (start_from lower (i p q coefs))
   unfolding seat_start_from start_from seat_lower_checks lower_checks
   seat_starts_from lower s = seat_first_lem (i p q coefs) s _ _ ∙ checked_same (seat_first (i p q coefs)) s _ (start_from lower (i p q coefs)) refl
 
@@ -185,7 +188,8 @@ module _ (p q : ℕ) (coefs : List ℤ) where
   unfolding call seat_resume_checks resume_checks
   seat_resumes n s = seat_first_lem (i p q coefs) s _ (walk n (seat_machine (i p q coefs))) ∙ checked_same (seat_first (i p q coefs)) s _ _
       (checked_quiet (resume_checks (i p q coefs) s) s _ _ (no_12 s)
-      (walk_renumbered (seat_machine (i p q coefs)) (machine (i p q coefs)) (λ t. refl) (λ t. refl) (seat_search_lem (system_of (i p q coefs))) (λ t. refl) n s))
+      (walk_renumbered (seat_machine (i p q coefs)) (machine (i p q coefs)) (λ t. refl) (λ t. refl) (seat_search_lem (system_of (i p q coefs))) (λ t. refl) n
+      s))
 
   no_12_from : (lower : List ℕ) (s : State) (n : ℕ) (values : List ℕ) → resume_from_checks lower (i p q coefs) s ≡ refuse n values → n ≢ 12
   no_12_from lower s n values e t =
@@ -201,10 +205,12 @@ module _ (p q : ℕ) (coefs : List ℤ) where
         | inr (z, inr (y, inr (x, inr (w, inr (u, inr (r, inr (o, inr (d, h)))))))) ↦ absurd h
       ]
 
-  pub seat_resumes_from : (lower : List ℕ) (n : ℕ) (s : State) → seat_resume_from n lower (i p q coefs) s ≡ checked (seat_first (i p q coefs)) s (λ t. renumbered (resume_from n lower (i p q coefs) t))
+  pub seat_resumes_from : (lower : List ℕ) (n : ℕ) (s : State) → seat_resume_from n lower (i p q coefs) s
+      ≡ checked (seat_first (i p q coefs)) s (λ t. renumbered (resume_from n lower (i p q coefs) t))
   unfolding call seat_resume_from_checks resume_from_checks
   seat_resumes_from lower n s =
       seat_first_lem (i p q coefs) s _ (walk n (seat_machine_from lower (i p q coefs)))
       ∙ checked_same (seat_first (i p q coefs)) s _ _
       (checked_quiet (resume_from_checks lower (i p q coefs) s) s _ _ (no_12_from lower s)
-      (walk_renumbered (seat_machine_from lower (i p q coefs)) (machine_from lower (i p q coefs)) (λ t. refl) (λ t. refl) (seat_search_from_lem lower (i p q coefs)) (λ t. refl) n s))
+      (walk_renumbered (seat_machine_from lower (i p q coefs)) (machine_from lower (i p q coefs)) (λ t. refl) (λ t. refl)
+      (seat_search_from_lem lower (i p q coefs)) (λ t. refl) n s))

@@ -44,7 +44,8 @@ module _ (m : System) (x : ℕ → ℕ) where
       rw (ne_eqb (circuit_order m x K) (circuit_order m x 0) ne, and-false (all_to (K - 1) (goes_on (graph m) x)), and-false (ltb 0 K))
       (and-false (small_row m.q x))
 
-  closed_loop : small_row m.q x ≡ true → 0 < K → all_to (K - 1) (goes_on (graph m) x) ≡ true → circuit_order m x K ≡ circuit_order m x 0 → is_circuit_of m x ≡ true
+  closed_loop : small_row m.q x ≡ true → 0 < K → all_to (K - 1) (goes_on (graph m) x) ≡ true → circuit_order m x K ≡ circuit_order m x 0 → is_circuit_of m x
+      ≡ true
   unfolding is_circuit
   closed_loop small some going e = rw (small, lt-ltb 0 K some, going) (eq-eqb (circuit_order m x K) (circuit_order m x 0) e)
 

@@ -134,7 +134,8 @@ module _ (n : Graph) (x : ℕ → ℕ) (b : Minimal n.arcs (Circulation n) x) wh
     cut_small j l = omega (arith, cut_same j l, visits_once (w n x b c) c.L (apart c.returns) j)
 
     cut_size : size n.arcs x ≡ c.L
-    cut_size = size_total n.arcs x cut_small ∙ sym (total_same (visits (w n x b c) c.L) x n.arcs cut_same) ∙ total_visits n.arcs (w n x b c) c.L (λ k l. (on_way k).0)
+    cut_size = size_total n.arcs x cut_small ∙ sym (total_same (visits (w n x b c) c.L) x n.arcs cut_same)
+        ∙ total_visits n.arcs (w n x b c) c.L (λ k l. (on_way k).0)
 
     low : lowest n.arcs x < n.arcs
     low = omega (arith, lowest_below n.arcs x c.z c.low c.some, c.low)

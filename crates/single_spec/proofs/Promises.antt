@@ -70,7 +70,8 @@ module _ (m : System) (profile : SingleFile m) (x : ℕ → ℕ) where
     next_arc h k l =
         elim (split (suc k) (K m profile x r)) [
           | inl u ↦ all_arcs h (suc k) u
-          | inr u ↦ let e : suc k ≡ (K m profile x r) = omega arith in let g : (o m profile x r) (suc k) ≡ (o m profile x r) 0 = ap (o m profile x r) e ∙ order_back (graph m) x r in rw g h
+          | inr u ↦ let e : suc k ≡ (K m profile x r) =
+              omega arith in let g : (o m profile x r) (suc k) ≡ (o m profile x r) 0 = ap (o m profile x r) e ∙ order_back (graph m) x r in rw g h
         ]
 
     circuit_way : ZeroColumn m (K m profile x r) (o m profile x r) ⊎ ClosedWalk m (K m profile x r) (o m profile x r)
@@ -118,7 +119,12 @@ module _ (m : System) (profile : SingleFile m) (x : ℕ → ℕ) where
       other_first : o' 0 ≡ (o m profile x r) 0
       other_first =
           let (a, b) = d.named 0 d.some in
-          omega (arith, d.begins ((o m profile x r) 0) (r.inside 0 r.returns.some) (order_named (graph m) x r 0 r.returns.some), circuit_ordered.begins (o' 0) a b)
+          omega (
+            arith,
+            d.begins ((o m profile x r) 0) (r.inside 0 r.returns.some) (order_named (graph m) x r 0 r.returns.some),
+            circuit_ordered.begins (o' 0) a
+                b,
+          )
 
       -- the next has its tail at the head of this one, and only one unknown of the minimal solution has
       other_next : (k : ℕ) → suc k < K' → o' k ≡ (o m profile x r) k → o' (suc k) ≡ (o m profile x r) (suc k)

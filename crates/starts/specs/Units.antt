@@ -1,6 +1,7 @@
 -- The rows of the plain start, written into a part of the table that holds zeros. Assumes nothing.
 use Rattle.std.specs.Prelude.{◌≡◌, List, ℕ, suc, ◌+◌, ◌*◌, ◌-◌, ◌/◌, ◌%◌, ◌≤◌, ◌<◌, length, get_or, set}
-use Rattle.std.proofs.Common.{sym, ◌∙◌, inl, inr, div-add-mod', div-lt_iff_lt-mul, mod-lt, zero-add, arith, length-set, ext_get_or, get_or-set_same, get_or-set_other}
+use Rattle.std.proofs.Common.{sym, ◌∙◌, inl, inr, div-add-mod', div-lt_iff_lt-mul, mod-lt, zero-add, arith, length-set, ext_get_or, get_or-set_same}
+use Rattle.std.proofs.Common.{get_or-set_other}
 use Rattle.std.proofs.Math.Decide.{ℕ_discrete}
 use Rattle.linear.proofs.Cases.{split}
 use Rattle.linear.specs.Tuples.{unit}

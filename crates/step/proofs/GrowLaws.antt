@@ -18,7 +18,8 @@ module _ (q : ℕ) (stack : List ℕ) (k : ℕ) (x : ℕ → ℕ) (marks : ℕ) 
   grow_length f zero = refl
   grow_length f (suc n) = stays_length (f n) q _ _ _ _ ∙ grow_length f n
 
-if_same : (b : Bool) (q : ℕ) (table : List ℕ) (row marks : ℕ) {x y : ℕ → ℕ} → Same q x y → write_row_if b q table row x marks ≡ write_row_if b q table row y marks
+if_same : (b : Bool) (q : ℕ) (table : List ℕ) (row marks : ℕ) {x y : ℕ → ℕ} → Same q x y → write_row_if b q table row x marks
+    ≡ write_row_if b q table row y marks
 if_same true q table row marks e = row_same q table row marks e
 if_same false q table row marks e = refl
 

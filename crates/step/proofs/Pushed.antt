@@ -37,7 +37,8 @@ parent_same e p =
 module _ (q : ℕ) (stack : List ℕ) (level : ℕ) (x : ℕ → ℕ) (marks : ℕ) (f : ℕ → Bool) (first : ℕ) where
   -- f holds at `first`, and at none before
   module _ (none : (j : ℕ) → 0 ≤ j → j < first → f j ≡ false) (one : f first ≡ true) where
-    pub pushed_first : first < 32 → RowIs q stack level x marks → (Pushed q stack level x marks f first) (first + 1) stack (level + 1) (marks + (1 * 2 ^ first) % 4294967296)
+    pub pushed_first : first < 32 → RowIs q stack level x marks
+        → (Pushed q stack level x marks f first) (first + 1) stack (level + 1) (marks + (1 * 2 ^ first) % 4294967296)
     unfolding write_children count_to marks_to
     pushed_first l r =
         let before = grow_over q stack level x marks f 0 first (omega arith) none in
@@ -82,22 +83,37 @@ module _ (q : ℕ) (stack : List ℕ) (level : ℕ) (x : ℕ → ℕ) (marks : �
         }
 
   -- a turn, with the lowest mark that is left
-  module _ {n : ℕ} {table : List ℕ} {h passed : ℕ} (s : (Pushed q stack level x marks f first) n table h passed) {rest : ℕ} (left : Left q f n rest) (few : q ≤ 16) (some : 0 < rest) where
+  module _ {n : ℕ} {table : List ℕ} {h passed : ℕ} (s : (Pushed q stack level x marks f first) n table h passed) {rest : ℕ} (left : Left q f n rest)
+      (few : q ≤ 16) (some : 0 < rest) where
     at_next : (Pushed q stack level x marks f first) (i q stack level x marks f first s left few some) table h passed
     at_next = pushed_over s (i q stack level x marks f first s left few some) (next_later left few some) (next_first left few some)
 
-    pub pushed_next : {written : List ℕ} → written ≡ write_row q table h (raise x (i q stack level x marks f first s left few some)) passed → (Pushed q stack level x marks f first) ((i q stack level x marks f first s left few some) + 1) written (h + 1) (passed + (1 * 2 ^ (i q stack level x marks f first s left few some)) % 4294967296)
+    pub pushed_next : {written : List ℕ} → written ≡ write_row q table h (raise x (i q stack level x marks f first s left few some)) passed
+        → (Pushed q stack level x marks f first) ((i q stack level x marks f first s left few some) + 1) written (h + 1)
+        (passed + (1 * 2 ^ (i q stack level x marks f first s left few some)) % 4294967296)
     pushed_next w = pushed_one at_next (omega (arith, next_inside left few some)) (next_holds left few some) w
 
     -- the next row lies in the table, and its marks fit
     pub pushed_low : level + count_to q f ≤ q → h < q
-    pushed_low low = omega (arith, at_next.height, count_step f (i q stack level x marks f first s left few some) q (next_inside left few some) (rw (next_holds left few some) tt))
+    pushed_low low = omega (
+      arith,
+      at_next.height,
+      count_step f (i q stack level x marks f first s left few some) q (next_inside left few some)
+          (rw (next_holds left few some) tt),
+    )
 
     pub pushed_room : marks < 2 ^ q → passed + (1 * 2 ^ (i q stack level x marks f first s left few some)) % 4294967296 < 4294967296
     pushed_room small =
-        omega (arith, at_next.next_marks, marks_room (i q stack level x marks f first s left few some) f (marks_to (i q stack level x marks f first s left few some) f) refl (omega (arith, next_inside left few some)), pow_mono {i = q} {j = 16} few)
+        omega (
+          arith,
+          at_next.next_marks,
+          marks_room (i q stack level x marks f first s left few some) f
+              (marks_to (i q stack level x marks f first s left few some) f) refl (omega (arith, next_inside left few some)),
+          pow_mono {i = q} {j = 16} few,
+        )
 
-  pub others_written : {n : ℕ} {table : List ℕ} {h passed : ℕ} {g c : List ℤ} {sums : List ℕ} → (Pushed q stack level x marks f first) n table h passed → Left q f n 0 → Combined q g table h c
+  pub others_written : {n : ℕ} {table : List ℕ} {h passed : ℕ} {g c : List ℤ} {sums : List ℕ} → (Pushed q stack level x marks f first) n table h passed
+      → Left q f n 0 → Combined q g table h c
       → Totals q table h sums → (Others q stack level x marks f first) g table c sums h
   others_written {n} s left d e =
       let t = pushed_over s q left.few (left_none left) in

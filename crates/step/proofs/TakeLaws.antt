@@ -1,6 +1,7 @@
 -- The ways through a step, from what its parts ensure: the top's tuple t, the marks of the row, the candidates for a child, and the unknowns that make one.
 -- Assumes nothing.
-use Rattle.std.specs.Prelude.{◌≡◌, refl, ◌≢◌, Bool, true, false, not, ◌&&◌, List, [], ◌++◌, ℕ, ◌+◌, ◌*◌, ◌^◌, ◌≤◌, ◌<◌, T, eqb, ℤ, pos, length, get_or, take, drop}
+use Rattle.std.specs.Prelude.{◌≡◌, refl, ◌≢◌, Bool, true, false, not, ◌&&◌, List, [], ◌++◌, ℕ, ◌+◌, ◌*◌, ◌^◌, ◌≤◌, ◌<◌, T, eqb, ℤ, pos, length, get_or, take}
+use Rattle.std.specs.Prelude.{drop}
 use Rattle.std.proofs.Common.{sym, ◌∙◌, ap, arith, take-append-drop, get_or-drop}
 use Rattle.std.specs.Int.Signed.{lt_z}
 use Rattle.linear.proofs.TestLaws.{is_false}
@@ -167,7 +168,8 @@ module _ {k : Kind} {limit q : ℕ} {g : List ℤ} {s : State} {c : List ℤ} {s
         shown : ℕ → ℕ
         shown = at s.stack (q + 1) (level s)
 
-        after_same₁ : (b full : Bool) → (lists_after b full (row_width k q) s (row_of k (tuple t))).list ≡ (lists_after b full (row_width k q) s (row_of k shown)).list
+        after_same₁ : (b full : Bool) → (lists_after b full (row_width k q) s (row_of k (tuple t))).list
+            ≡ (lists_after b full (row_width k q) s (row_of k shown)).list
         after_same₁ b true = refl
         after_same₁ false false = write_same (row_width k q) s.list (s.run.found * row_width k q) (row_agrees k q h.same)
         after_same₁ true false = refl

@@ -76,7 +76,8 @@ module _ (q : ℕ) (now : ℕ → ℕ → ℕ) (i : ℕ) where
   unfolding stays_here
   goes_earlier n c m l e = rw (any_holds c (spoils_earlier q now i) m l e)
 
-  pub goes_later : (n c k : ℕ) → i < k → k < n → is_at_or_below q (now k) (now i) ≡ true → is_at_or_below q (now i) (now k) ≡ false → stays_here q n now c i ≡ false
+  pub goes_later : (n c k : ℕ) → i < k → k < n → is_at_or_below q (now k) (now i) ≡ true → is_at_or_below q (now i) (now k) ≡ false → stays_here q n now c i
+      ≡ false
   unfolding stays_here
   goes_later n c k ik l e g = rw (any_holds n (spoils_later q now i) k l (rw (lt-ltb i k ik, e, g))) (and-false (not (any_to c (spoils_earlier q now i))))
 

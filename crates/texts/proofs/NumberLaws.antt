@@ -8,7 +8,8 @@ use native.Mathlib.Omega.{arith}
 use borrow.Author.Tests.{ne_eqb}
 use Rattle.linear.proofs.TestLaws.{and_parts}
 use Rattle.texts.specs.Decimals.{minus, zero_digit}
-use Rattle.texts.specs.Reading.{parsed, malformed, is_digit, digit, starts_digit, more_digits, may_follow, read_natural, negative, unsigned, read_number, and_then}
+use Rattle.texts.specs.Reading.{parsed, malformed, is_digit, digit, starts_digit, more_digits, may_follow, read_natural, negative, unsigned, read_number}
+use Rattle.texts.specs.Reading.{and_then}
 use Rattle.texts.proofs.ParseLaws.{not_parsed, same, cond_cases, and_then_lem}
 use Rattle.texts.specs.Places.{FewDigits, Room}
 

@@ -1,6 +1,7 @@
 -- Theorems about what specs/Put.antt defines. Assumes nothing.
 use Rattle.std.specs.Prelude.{ℕ, ◌+◌, ◌≤◌, ◌<◌, List, [], ◌∷◌, ◌++◌, ◌≡◌, refl, length, get_or, take, drop, set}
-use Rattle.std.proofs.Common.{append-nil, append_assoc, sym, ◌∙◌, add-one, arith, length-append, length-set, take-append-drop, drop-drop, drop-set-lt, take-suc, take_all, take-suc-set}
+use Rattle.std.proofs.Common.{append-nil, append_assoc, sym, ◌∙◌, add-one, arith, length-append, length-set, take-append-drop, drop-drop, drop-set-lt, take-suc}
+use Rattle.std.proofs.Common.{take_all, take-suc-set}
 use Rattle.texts.specs.Put.{Put, Rest}
 
 pub put_none : (before : List ℕ) (at : ℕ) → Put before at [] before at

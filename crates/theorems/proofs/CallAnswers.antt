@@ -14,7 +14,8 @@ use Rattle.theorems.proofs.WholeSteps.{settled_after}
 use Rattle.theorems.specs.CallAnswers.{CallAnswers, Paced, Ruled, StartAnswers, left, outcome}
 
 module _ {S : Type 0} (c : Check) (s : S) (work : S → Outcome S) (works : (work s).answer ≡ started) (rules : Rules) (r : Renders c rules) where
-  answers_when : (((outcome c s work works rules r).answer ≡ started) × (c ≡ go)) ⊎ ((n : ℕ) × (values : List ℕ) × (c ≡ refuse n values) × ((outcome c s work works rules r).answer ≡ refused n values))
+  answers_when : (((outcome c s work works rules r).answer ≡ started) × (c ≡ go)) ⊎
+      ((n : ℕ) × (values : List ℕ) × (c ≡ refuse n values) × ((outcome c s work works rules r).answer ≡ refused n values))
   unfolding checked
   answers_when = elim (check_cases c) [ inl e ↦ inl (rw e works, e) | inr (n, values, e) ↦ inr (n, values, e, rw e) ]
 
@@ -92,7 +93,8 @@ module _ {S : Type 0} {k : Machine S} {before within : S → Rules} (ruled : Rul
       }
 
 module _ {S : Type 0} {k : Machine S} {before within : S → Rules} (ruled : Ruled k before within) (budget : ℕ) (s : S) where
-  pub call_answers : CallAnswers (before s) (within (left ruled budget s)) budget (call_steps budget k s) (k.height (left ruled budget s)) (call budget k s).answer
+  pub call_answers : CallAnswers (before s) (within (left ruled budget s)) budget (call_steps budget k s) (k.height (left ruled budget s))
+      (call budget k s).answer
   call_answers =
       elim (check_cases (k.before s)) [
         | inl e ↦ ends_answers ruled budget s e (called k budget s e).ends
@@ -110,11 +112,13 @@ module _ {S : Type 0} {k : Machine S} {before within : S → Rules} (ruled : Rul
       ]
 
   -- "the same call again refuses again", with any budget above 0, if its checks let it go on
-  pub refused_again : Steady k → (n : ℕ) (values : List ℕ) → k.before s ≡ go → k.before (left ruled budget s) ≡ go → (call budget k s).answer ≡ refused n values → (more : ℕ)
+  pub refused_again : Steady k → (n : ℕ) (values : List ℕ) → k.before s ≡ go → k.before (left ruled budget s) ≡ go → (call budget k s).answer ≡ refused n values
+      → (more : ℕ)
       → call (suc more) k (left ruled budget s) ≡ record { answer = refused n values; state = (left ruled budget s) }
   refused_again steady n values e f a more =
       let (h, r) = refused_there n values e a in
-      let same : k.settle (left ruled budget s) ≡ (left ruled budget s) = ap k.settle (called k budget s e).state ∙ settled_after k steady (call_steps budget k s) s
+      let same : k.settle (left ruled budget s) ≡ (left ruled budget s) =
+      ap k.settle (called k budget s e).state ∙ settled_after k steady (call_steps budget k s) s
       ∙ sym (called k budget s e).state in
       (call_walks k (left ruled budget s) (suc more) f).0 ∙ (walk_refused k (left ruled budget s) more n values (rw same h) (rw same r)).0
       ∙ ap (λ t. record { answer = refused n values; state = t }) same

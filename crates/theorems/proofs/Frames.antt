@@ -143,7 +143,8 @@ module _ (lower : List ℕ) (m : Map) where
       above : RowsStay (i lower m).q t (step (above_system lower (i lower m)) t)
       above = step_rows (above_system lower (i lower m)) t
 
-      go : (r : RunKind) → RowsStay (i lower m).q t (by_walk r (whole_of t.run.deepest (step (map_of (i lower m)) (plain_part t))) (step (above_system lower (i lower m)) t))
+      go : (r : RunKind) → RowsStay (i lower m).q t
+          (by_walk r (whole_of t.run.deepest (step (map_of (i lower m)) (plain_part t))) (step (above_system lower (i lower m)) t))
       go plain_run = above
       go capped_run = above
       go lower_plain =
@@ -153,10 +154,12 @@ module _ (lower : List ℕ) (m : Map) where
 
   pub rows_stay_from : (budget : ℕ) (s : State) → RowsStay (i lower m).q s (resume_from budget lower (i lower m) s).state
   rows_stay_from budget s =
-      call_keeps (machine_from lower (i lower m)) (RowsStay (i lower m).q s) (λ t r. rows_more r (settled_rows t)) (λ t r g. rows_more r (stepped_rows t)) budget s
+      call_keeps (machine_from lower (i lower m)) (RowsStay (i lower m).q s) (λ t r. rows_more r (settled_rows t)) (λ t r g. rows_more r (stepped_rows t))
+      budget s
       (rows_same (i lower m).q s)
 
-  pub rows_each_from : (n : ℕ) (s : State) → RowsStay (i lower m).q (after n (machine_from lower (i lower m)) s) (after (n + 1) (machine_from lower (i lower m)) s)
+  pub rows_each_from : (n : ℕ) (s : State) → RowsStay (i lower m).q (after n (machine_from lower (i lower m)) s)
+      (after (n + 1) (machine_from lower (i lower m)) s)
   rows_each_from n s =
       let t : State = after n (machine_from lower (i lower m)) s in
       rw (next_from lower m n s) (rows_more (stepped_rows t) (settled_rows (step_from lower (i lower m) t)))

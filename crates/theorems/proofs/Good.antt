@@ -57,7 +57,14 @@ module _ (m : System) (c : Aim) (by : ByUnits c) (single : Single m) (s : State)
     child_small : ¬ (T (solves m (top m s))) → (j : ℕ) → j < m.q → T (makes m s j) → top m s j < m.limit
     child_small n j jq mj =
         let below : level s + count_to j (makes m s) < level s + count_to m.q (makes m s) = omega (arith, count_step (makes m s) j m.q jq mj) in
-        omega (arith, (lows m c by single s good h) n (level s + count_to j (makes m s)) below, (raises m c by single s good h) j jq mj, term_le_total (top m s) m.q j jq, single.limited)
+        omega (
+          arith,
+          (lows m c by single s good h) n (level s + count_to j (makes m s)) below,
+          (raises m c by single s good h) j jq mj,
+          term_le_total (top m s)
+              m.q j jq,
+          single.limited,
+        )
 
     has_room : Room m.kind m.q s (top m s)
     has_room =
@@ -180,7 +187,9 @@ module _ (i : Input) (s : State) (one : (system_of i).p ≡ 1) (checks : start_c
   some_depth = omega (arith, or_one_lem (largest (m i s one checks) + lowest (m i s one checks)))
 
   -- the start is good
-  pub units_good : step_bound (m i s one checks) ≤ capacity (width (m i s one checks)) s.list → SecondRoom (m i s one checks).kind (step_bound (m i s one checks)) (width (m i s one checks)) s → Good (m i s one checks) (aim_of i.extra) (units_start (m i s one checks) s)
+  pub units_good : step_bound (m i s one checks) ≤ capacity (width (m i s one checks)) s.list
+      → SecondRoom (m i s one checks).kind (step_bound (m i s one checks)) (width (m i s one checks)) s
+      → Good (m i s one checks) (aim_of i.extra) (units_start (m i s one checks) s)
   unfolding units_start step_bound
   units_good roomy roomy₂ =
       record {
@@ -189,7 +198,8 @@ module _ (i : Input) (s : State) (one : (system_of i).p ≡ 1) (checks : start_c
             omega (
               arith,
               potential_start (depth (m i s one checks)) (m i s one checks).q (sums (m i s one checks).q (units_start (m i s one checks) s)) some_depth
-                  (λ k k₁ kq. total_same _ (unit (k - 1)) (m i s one checks).q (row (k - 1) (omega arith)).tuple ∙ total_unit (k - 1) (m i s one checks).q (omega arith)),
+                  (λ k k₁ kq. total_same _ (unit (k - 1)) (m i s one checks).q (row (k - 1) (omega arith)).tuple
+                  ∙ total_unit (k - 1) (m i s one checks).q (omega arith)),
             );
         listed = omega arith;
         listed₂ = omega arith;

@@ -45,7 +45,8 @@ module _ (lower : List ℕ) (m : Map) where
   ruled_from = record { before_renders = resume_from_renders lower (i lower m); within_renders = search_from_renders lower (i lower m) }
 
   pub resume_from_answers : (budget : ℕ) (s : State)
-      → CallAnswers (resume_from_rules lower (i lower m) s) (search_from_rules lower (i lower m) (resume_from budget lower (i lower m) s).state) budget (resume_from_steps budget lower (i lower m) s)
+      → CallAnswers (resume_from_rules lower (i lower m) s) (search_from_rules lower (i lower m) (resume_from budget lower (i lower m) s).state) budget
+      (resume_from_steps budget lower (i lower m) s)
       (resume_from budget lower (i lower m) s).state.run.height (resume_from budget lower (i lower m) s).answer
   resume_from_answers budget s = call_answers ruled_from budget s
 
@@ -56,13 +57,15 @@ module _ (lower : List ℕ) (m : Map) where
   resume_from_after n s e = (called (machine_from lower (i lower m)) n s e).state
 
   -- no change of walk is ahead of what a call leaves
-  pub left_settled : (n : ℕ) (s : State) → resume_from_checks lower (i lower m) s ≡ go → settle_from lower (i lower m) (resume_from n lower (i lower m) s).state ≡ (resume_from n lower (i lower m) s).state
+  pub left_settled : (n : ℕ) (s : State) → resume_from_checks lower (i lower m) s ≡ go → settle_from lower (i lower m) (resume_from n lower (i lower m) s).state
+      ≡ (resume_from n lower (i lower m) s).state
   left_settled n s e =
       let is = resume_from_after n s e in
       ap (settle_from lower (i lower m)) is ∙ settled_after (machine_from lower (i lower m)) steady (resume_from_steps n lower (i lower m) s) s ∙ sym is
 
   -- one step more
-  pub next_from : (n : ℕ) (s : State) → after (n + 1) (machine_from lower (i lower m)) s ≡ settle_from lower (i lower m) (step_from lower (i lower m) (after n (machine_from lower (i lower m)) s))
+  pub next_from : (n : ℕ) (s : State) → after (n + 1) (machine_from lower (i lower m)) s
+      ≡ settle_from lower (i lower m) (step_from lower (i lower m) (after n (machine_from lower (i lower m)) s))
   next_from = after_next (machine_from lower (i lower m)) steady
 
   pub settled_total : (s : State) → (total lower m) (settle_from lower (i lower m) s) ≡ (total lower m) s
@@ -84,7 +87,8 @@ module _ (lower : List ℕ) (m : Map) where
       above_total : (total lower m) (step (above_system lower (i lower m)) s) ≡ (total lower m) s + 1
       above_total = omega (arith, step_counts (above_system lower (i lower m)) s, (step_kept (above_system lower (i lower m)) s).before)
 
-      go : (r : RunKind) → (total lower m) (by_walk r (whole_of s.run.deepest (step (map_of (i lower m)) (plain_part s))) (step (above_system lower (i lower m)) s)) ≡ (total lower m) s + 1
+      go : (r : RunKind) → (total lower m)
+          (by_walk r (whole_of s.run.deepest (step (map_of (i lower m)) (plain_part s))) (step (above_system lower (i lower m)) s)) ≡ (total lower m) s + 1
       go plain_run = above_total
       go capped_run = above_total
       go lower_plain = omega (arith, step_counts (map_of (i lower m)) (plain_part s), (step_kept (map_of (i lower m)) (plain_part s)).before)
@@ -95,9 +99,15 @@ module _ (lower : List ℕ) (m : Map) where
   unfolding after
   after_total zero s = omega (arith, settled_total s)
   after_total (suc n) s =
-      omega (arith, after_total n (step_from lower (i lower m) (settle_from lower (i lower m) s)), stepped_total (settle_from lower (i lower m) s), settled_total s)
+      omega (
+        arith,
+        after_total n (step_from lower (i lower m) (settle_from lower (i lower m) s)),
+        stepped_total (settle_from lower (i lower m) s),
+        settled_total s,
+      )
 
-  pub counted_from : (n : ℕ) (s : State) → (total lower m) (resume_from n lower (i lower m) s).state ≡ (total lower m) s + resume_from_steps n lower (i lower m) s
+  pub counted_from : (n : ℕ) (s : State) → (total lower m) (resume_from n lower (i lower m) s).state
+      ≡ (total lower m) s + resume_from_steps n lower (i lower m) s
   counted_from n s =
       elim (check_cases (resume_from_checks lower (i lower m) s)) [
         | inl e ↦ ap (total lower m) (resume_from_after n s e) ∙ after_total (resume_from_steps n lower (i lower m) s) s
@@ -106,17 +116,22 @@ module _ (lower : List ℕ) (m : Map) where
 
   -- ---- what is left is in order
 
-  pub kept_valid : (t : State) → ValidFrom lower (i lower m) t → Goes (machine_from lower (i lower m)) t → ValidFrom lower (i lower m) (step_from lower (i lower m) t)
+  pub kept_valid : (t : State) → ValidFrom lower (i lower m) t → Goes (machine_from lower (i lower m)) t
+      → ValidFrom lower (i lower m) (step_from lower (i lower m) t)
   kept_valid t v (h, f) = step_from_valid lower (i lower m) t v (search_going_from lower (i lower m) t v h f)
 
-  pub left_valid_from : (budget : ℕ) (s : State) → resume_from_checks lower (i lower m) s ≡ go → ValidFrom lower (i lower m) (resume_from budget lower (i lower m) s).state
+  pub left_valid_from : (budget : ℕ) (s : State) → resume_from_checks lower (i lower m) s ≡ go
+      → ValidFrom lower (i lower m) (resume_from budget lower (i lower m) s).state
   left_valid_from budget s e =
-      call_keeps (machine_from lower (i lower m)) (ValidFrom lower (i lower m)) (settled_valid lower (i lower m)) kept_valid budget s (resume_from_valid lower (i lower m) s refl e).1
+      call_keeps (machine_from lower (i lower m)) (ValidFrom lower (i lower m)) (settled_valid lower (i lower m)) kept_valid budget s
+      (resume_from_valid lower (i lower m) s refl e).1
 
   -- and is let go on again: "A paused run goes on in a later call."
-  pub left_goes_from : (budget : ℕ) (s : State) → resume_from_checks lower (i lower m) s ≡ go → resume_from_checks lower (i lower m) (resume_from budget lower (i lower m) s).state ≡ go
+  pub left_goes_from : (budget : ℕ) (s : State) → resume_from_checks lower (i lower m) s ≡ go
+      → resume_from_checks lower (i lower m) (resume_from budget lower (i lower m) s).state ≡ go
   left_goes_from budget s e =
-      valid_resume_from lower (i lower m) (resume_from budget lower (i lower m) s).state refl (resume_from_valid lower (i lower m) s refl e).0 (left_valid_from budget s e)
+      valid_resume_from lower (i lower m) (resume_from budget lower (i lower m) s).state refl (resume_from_valid lower (i lower m) s refl e).0
+      (left_valid_from budget s e)
 
   -- ---- after 11
 
@@ -149,14 +164,16 @@ module _ (lower : List ℕ) (m : Map) where
           let w = relisted_valid (above_system lower (i lower m)) t list r (above_valid lower (i lower m) t e v) in
           ((relisted_valid₂ (above_system lower (i lower m)) (with_list t list) second r₂ w).ordered, l)
 
-  goes_by : (t : State) (list second : List ℕ) → RoomBy (i lower m).q t.run.kind (with_lists t list second) → FirstDue (search_from_rules lower (i lower m) t) 11 []
+  goes_by : (t : State) (list second : List ℕ) → RoomBy (i lower m).q t.run.kind (with_lists t list second)
+      → FirstDue (search_from_rules lower (i lower m) t) 11 []
       → search_from lower (i lower m) (with_lists t list second) ≡ go
   unfolding search_from
   goes_by t list second roomy due = by t.run.kind roomy due
     where
       by : (k : RunKind) → RoomBy (i lower m).q k (with_lists t list second)
           → FirstDue (rules_by k (search_rules (map_of (i lower m)) (plain_part t)) (search_rules (above_system lower (i lower m)) t)) 11 []
-          → by_walk k (search_checks (map_of (i lower m)) (plain_part (with_lists t list second))) (search_checks (above_system lower (i lower m)) (with_lists t list second)) ≡ go
+          → by_walk k (search_checks (map_of (i lower m)) (plain_part (with_lists t list second)))
+          (search_checks (above_system lower (i lower m)) (with_lists t list second)) ≡ go
       by plain_run r d = absurd r
       by capped_run r d = absurd r
       by lower_plain r d = full_only (map_of (i lower m)) (plain_part t) d second list r
@@ -164,7 +181,8 @@ module _ (lower : List ℕ) (m : Map) where
       by desk_by_desk r d = absurd r
 
   -- "after 11 a longer list table with the same rows may be given": the call then takes the step that it had no room for
-  pub longer_from : (budget : ℕ) (s : State) → resume_from_checks lower (i lower m) s ≡ go → (resume_from budget lower (i lower m) s).answer ≡ refused 11 [] → (u : State)
+  pub longer_from : (budget : ℕ) (s : State) → resume_from_checks lower (i lower m) s ≡ go → (resume_from budget lower (i lower m) s).answer ≡ refused 11 []
+      → (u : State)
       → LongerFrom (i lower m).q (resume_from budget lower (i lower m) s).state u → (more : ℕ)
       → resume_from (suc more) lower (i lower m) u ≡ walk more (machine_from lower (i lower m)) (step_from lower (i lower m) u)
   longer_from budget s e a u (longer_lists list second r r₂ roomy) more =
@@ -181,7 +199,8 @@ module _ (lower : List ℕ) (m : Map) where
   -- ---- "Table rows above the height keep what they last held."
 
   -- by a step of the walk under way
-  step_above : (t : State) → ValidFrom lower (i lower m) t → GoingFrom lower (i lower m) t → (e : ℕ) → (step_from lower (i lower m) t).run.height * ((i lower m).q + 1) ≤ e
+  step_above : (t : State) → ValidFrom lower (i lower m) t → GoingFrom lower (i lower m) t → (e : ℕ)
+      → (step_from lower (i lower m) t).run.height * ((i lower m).q + 1) ≤ e
       → get_or (step_from lower (i lower m) t).stack e 0 ≡ get_or t.stack e 0
   unfolding step_from
   step_above t v (p, a) e = go t.run.kind refl v.ordered
@@ -217,7 +236,8 @@ module _ (lower : List ℕ) (m : Map) where
       elim (check_cases (resume_from_checks lower (i lower m) s)) [
         | inl c ↦
             let t : State = after n (machine_from lower (i lower m)) s in
-            let v = after_keeps (machine_from lower (i lower m)) (ValidFrom lower (i lower m)) (settled_valid lower (i lower m)) kept_valid n s (resume_from_valid lower (i lower m) s refl c).1
+            let v = after_keeps (machine_from lower (i lower m)) (ValidFrom lower (i lower m)) (settled_valid lower (i lower m)) kept_valid n s
+            (resume_from_valid lower (i lower m) s refl c).1
             (λ j jn. call_going (machine_from lower (i lower m)) budget s c j (omega arith)) in
             let (high, goes) = call_going (machine_from lower (i lower m)) budget s c n l in
             let (k, same) = settle_above (step_from lower (i lower m) t) e (rw (next_from n s) at h) in

@@ -10,7 +10,8 @@ use Rattle.definitions.specs.Input.{Input, above_system, bound_of, map_of}
 use Rattle.definitions.specs.Refusals.{lower_checks}
 use Rattle.definitions.specs.Step.{step}
 use Rattle.definitions.specs.System.{MinimalFrom, MinimalSolution}
-use Rattle.definitions.specs.Tables.{RunKind, State, at, by_walk, capped_run, desk_by_desk, lower_above, lower_plain, lower_start, lowered, plain_part, plain_run}
+use Rattle.definitions.specs.Tables.{RunKind, State, at, by_walk, capped_run, desk_by_desk, lower_above, lower_plain, lower_start, lowered, plain_part}
+use Rattle.definitions.specs.Tables.{plain_run}
 use Rattle.definitions.specs.Tables.{units_start, whole_of}
 use Rattle.laws.specs.LowerLaws.{GoingFrom, InOrderBy, ValidFrom}
 use Rattle.laws.proofs.LowerLaws.{above_valid, lowered_valid, plain_valid, search_going_from, shaped_above, start_from_valid}
@@ -57,7 +58,8 @@ module _ (lower : List ℕ) (m : Map) where
     unfolding lowered
     lowered_sound e z =
         let (p, none) = named e in
-        let whole : Exactly (i lower m).q (MinimalSolution (map_of (i lower m))) s.second s.run.found2 = sound_exactly (map_of (i lower m)) nonzero (plain_part s) p z in
+        let whole : Exactly (i lower m).q (MinimalSolution (map_of (i lower m))) s.second s.run.found2 =
+        sound_exactly (map_of (i lower m)) nonzero (plain_part s) p z in
         let v = lowered_valid lower (i lower m) s e o.valid in
         let t : State = lowered (bound_of lower) (i lower m).q s in
         record {
@@ -85,7 +87,8 @@ module _ (lower : List ℕ) (m : Map) where
         go lower_above h e z = o
         go desk_by_desk h e z = o
 
-    plain_stepped : s.run.kind ≡ lower_plain → ValidFrom lower (i lower m) (whole_of s.run.deepest (step (map_of (i lower m)) (plain_part s))) → GoingFrom lower (i lower m) s
+    plain_stepped : s.run.kind ≡ lower_plain → ValidFrom lower (i lower m) (whole_of s.run.deepest (step (map_of (i lower m)) (plain_part s)))
+        → GoingFrom lower (i lower m) s
         → SoundFrom lower (i lower m) (whole_of s.run.deepest (step (map_of (i lower m)) (plain_part s)))
     plain_stepped e v g =
         let (p, none) = named e in
@@ -117,8 +120,10 @@ module _ (lower : List ℕ) (m : Map) where
     step_from_sound g = go s.run.kind refl o.holds (step_from_valid lower (i lower m) s o.valid g)
       where
         go : (r : RunKind) → s.run.kind ≡ r → SoundBy r lower (i lower m) s
-            → ValidFrom lower (i lower m) (by_walk r (whole_of s.run.deepest (step (map_of (i lower m)) (plain_part s))) (step (above_system lower (i lower m)) s))
-            → SoundFrom lower (i lower m) (by_walk r (whole_of s.run.deepest (step (map_of (i lower m)) (plain_part s))) (step (above_system lower (i lower m)) s))
+            → ValidFrom lower (i lower m)
+            (by_walk r (whole_of s.run.deepest (step (map_of (i lower m)) (plain_part s))) (step (above_system lower (i lower m)) s))
+            → SoundFrom lower (i lower m)
+            (by_walk r (whole_of s.run.deepest (step (map_of (i lower m)) (plain_part s))) (step (above_system lower (i lower m)) s))
         go plain_run e h v = absurd h
         go capped_run e h v = absurd h
         go lower_plain e h v = plain_stepped e v g
@@ -127,7 +132,8 @@ module _ (lower : List ℕ) (m : Map) where
 
   resume_from_sound : (n : ℕ) (s : State) → SoundFrom lower (i lower m) s → SoundFrom lower (i lower m) (resume_from n lower (i lower m) s).state
   resume_from_sound =
-      call_keeps (machine_from lower (i lower m)) (SoundFrom lower (i lower m)) settled_sound (λ s o (h, e). step_from_sound s o (search_going_from lower (i lower m) s o.valid h e))
+      call_keeps (machine_from lower (i lower m)) (SoundFrom lower (i lower m)) settled_sound
+      (λ s o (h, e). step_from_sound s o (search_going_from lower (i lower m) s o.valid h e))
 
   -- ---- other tables with the same rows
 
@@ -137,11 +143,13 @@ module _ (lower : List ℕ) (m : Map) where
         let (h, v) = go s.run.kind o.holds o.valid.ordered in
         record { valid = record { shaped = shaped_same o.valid.shaped refl; ordered = v; long = o.valid.long; small = o.valid.small }; holds = h }
       where
-        go : (k : RunKind) → SoundBy k lower (i lower m) s → InOrderBy k lower (i lower m) s → SoundBy k lower (i lower m) (with_list s list) × InOrderBy k lower (i lower m) (with_list s list)
+        go : (k : RunKind) → SoundBy k lower (i lower m) s → InOrderBy k lower (i lower m) s → SoundBy k lower (i lower m) (with_list s list)
+            × InOrderBy k lower (i lower m) (with_list s list)
         go plain_run h v = absurd h
         go capped_run h v = absurd h
         go lower_plain (p, none) (a, f, l) =
-            let p' = seconded_sound (map_of (i lower m)) nonzero (plain_part s) list r p in ((p', none), (p'.valid.ordered, same_fits o.valid.shaped.q_some r, l))
+            let p' = seconded_sound (map_of (i lower m)) nonzero (plain_part s) list r p in
+            ((p', none), (p'.valid.ordered, same_fits o.valid.shaped.q_some r, l))
         go lower_above (p, whole) (a, l) =
             let p' = relisted_sound (above_system lower (i lower m)) (at_or_above (bound_of lower)) s list r p in ((p', whole), (p'.valid.ordered, l))
         go desk_by_desk h v = absurd h
@@ -151,10 +159,12 @@ module _ (lower : List ℕ) (m : Map) where
         let (h, v) = go s.run.kind o.holds o.valid.ordered in
         record { valid = record { shaped = shaped_same o.valid.shaped refl; ordered = v; long = o.valid.long; small = o.valid.small }; holds = h }
       where
-        go : (k : RunKind) → SoundBy k lower (i lower m) s → InOrderBy k lower (i lower m) s → SoundBy k lower (i lower m) (with_second s second) × InOrderBy k lower (i lower m) (with_second s second)
+        go : (k : RunKind) → SoundBy k lower (i lower m) s → InOrderBy k lower (i lower m) s → SoundBy k lower (i lower m) (with_second s second)
+            × InOrderBy k lower (i lower m) (with_second s second)
         go plain_run h v = absurd h
         go capped_run h v = absurd h
-        go lower_plain (p, none) (a, f, l) = let p' = relisted_sound (map_of (i lower m)) nonzero (plain_part s) second r p in ((p', none), (p'.valid.ordered, f, l))
+        go lower_plain (p, none) (a, f, l) =
+            let p' = relisted_sound (map_of (i lower m)) nonzero (plain_part s) second r p in ((p', none), (p'.valid.ordered, f, l))
         go lower_above (p, whole) (a, l) =
             let p' = seconded_sound (above_system lower (i lower m)) (at_or_above (bound_of lower)) s second r p in
             ((p', same_exactly (i lower m) o.valid.shaped.q_some r whole), (p'.valid.ordered, l))
@@ -198,15 +208,23 @@ module _ (lower : List ℕ) (m : Map) where
 
   -- cut short, such tuples only, in either list
   pub sound_from_only : (s : State) → SoundFrom lower (i lower m) s
-      → Only (i lower m).q (MinimalFrom (map_of (i lower m)) (bound_of lower)) s.list s.run.found × Only (i lower m).q (MinimalSolution (map_of (i lower m))) s.second s.run.found2
+      → Only (i lower m).q (MinimalFrom (map_of (i lower m)) (bound_of lower)) s.list s.run.found
+      × Only (i lower m).q (MinimalSolution (map_of (i lower m))) s.second s.run.found2
   sound_from_only s o = go s.run.kind o.holds o.valid.ordered
     where
       go : (k : RunKind) → SoundBy k lower (i lower m) s → InOrderBy k lower (i lower m) s
-          → Only (i lower m).q (MinimalFrom (map_of (i lower m)) (bound_of lower)) s.list s.run.found × Only (i lower m).q (MinimalSolution (map_of (i lower m))) s.second s.run.found2
+          → Only (i lower m).q (MinimalFrom (map_of (i lower m)) (bound_of lower)) s.list s.run.found
+          × Only (i lower m).q (MinimalSolution (map_of (i lower m))) s.second s.run.found2
       go plain_run h v = absurd h
       go capped_run h v = absurd h
-      go lower_plain (p, none) (a, f, l) =
-          (record { room = f; only = λ k h. absurd (omega arith); once = λ k j kj h. absurd (omega arith) }, sound_only (map_of (i lower m)) nonzero (plain_part s) p)
+      go lower_plain (p, none) (a, f, l) = (
+        record {
+          room = f;
+          only = λ k h. absurd (omega arith);
+          once = λ k j kj h. absurd (omega arith);
+        },
+        sound_only (map_of (i lower m)) nonzero (plain_part s) p,
+      )
       go lower_above (p, whole) (a, l) = (sound_only (above_system lower (i lower m)) (at_or_above (bound_of lower)) s p, whole.part)
       go desk_by_desk h v = absurd h
 

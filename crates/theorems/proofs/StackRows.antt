@@ -26,7 +26,8 @@ use Rattle.theorems.specs.WholeSteps.{Goes, after_keeps, call_going}
 
 -- The row at a level, from 0, carries as many marks as there are rows below it. So where every child raises an unknown that is not marked, the level and the
 -- children together are no more than the unknowns, and these are as many as the rows.
-pub rows_suffice : (rows level marks : ℕ) (child : ℕ → Bool) → count_to rows (frozen marks) ≡ level → ((j : ℕ) → j < rows → T (child j) → ¬ (T (frozen marks j)))
+pub rows_suffice : (rows level marks : ℕ) (child : ℕ → Bool) → count_to rows (frozen marks) ≡ level
+    → ((j : ℕ) → j < rows → T (child j) → ¬ (T (frozen marks j)))
     → level + count_to rows child ≤ rows
 rows_suffice rows level marks child marked free = omega (arith, marks_few marks child rows free)
 

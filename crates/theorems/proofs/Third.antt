@@ -102,9 +102,11 @@ module _ (i : Input) (s₀ : State) (given : Premises i s₀) where
     pub series_low : (t : ℕ → ℕ) → Met i s₀ g.taken t → total t (m i s₀ given).q ≤ depth (m i s₀ given)
     series_low t (by_start l h) = sum_at_most (m i s₀ given) (c i s₀ given) by single_p (first i s₀ given) begins_good.low l (rw begins_high h)
     series_low t (by_step n nk l _ b) =
-        let good = after_keeps (machine i) (Good (m i s₀ given) (c i s₀ given)) (λ s g. g) (λ s g h. step_good (m i s₀ given) (c i s₀ given) by single s g h.0) n (first i s₀ given) begins_good
+        let good = after_keeps (machine i) (Good (m i s₀ given) (c i s₀ given)) (λ s g. g) (λ s g h. step_good (m i s₀ given) (c i s₀ given) by single s g h.0)
+        n (first i s₀ given) begins_good
         (λ j l. a.before j (omega arith)) in
-        sum_at_most (m i s₀ given) (c i s₀ given) by single_p (step (m i s₀ given) (after n (machine i) (first i s₀ given))) (step_good (m i s₀ given) (c i s₀ given) by single (after n (machine i) (first i s₀ given)) good (a.before n nk).0).low l b
+        sum_at_most (m i s₀ given) (c i s₀ given) by single_p (step (m i s₀ given) (after n (machine i) (first i s₀ given)))
+        (step_good (m i s₀ given) (c i s₀ given) by single (after n (machine i) (first i s₀ given)) good (a.before n nk).0).low l b
 
     -- "the number shown is never above D"
     pub series_deep : g.state.run.deepest ≤ depth (m i s₀ given)

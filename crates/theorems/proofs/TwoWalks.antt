@@ -46,7 +46,8 @@ module _ (lower : List ℕ) (m : Map) where
     booked_step = go t.run.kind refl
       where
         go : (r : RunKind) → t.run.kind ≡ r → InOrderBy r lower (i lower m) t
-            → Booked r t (settle_from lower (i lower m) (by_walk r (whole_of t.run.deepest (step (map_of (i lower m)) (plain_part t))) (step (above_system lower (i lower m)) t)))
+            → Booked r t (settle_from lower (i lower m)
+            (by_walk r (whole_of t.run.deepest (step (map_of (i lower m)) (plain_part t))) (step (above_system lower (i lower m)) t)))
         go plain_run e o = absurd o
         go capped_run e o = absurd o
         go desk_by_desk e o = absurd o
@@ -102,11 +103,13 @@ module _ (lower : List ℕ) (m : Map) where
     plain_goes = let (h, v) = resume_from_valid lower (i lower m) s refl goes in valid_resume (i lower m) (plain_part s) h (plain_valid lower (i lower m) s e v)
 
     -- it is the walk
-    plain_walks : ((plainly lower m budget s e goes) ≡ walk budget (machine (i lower m)) (plain_part s)) × (resume_steps budget (i lower m) (plain_part s) ≡ walk_steps budget (machine (i lower m)) (plain_part s))
+    plain_walks : ((plainly lower m budget s e goes) ≡ walk budget (machine (i lower m)) (plain_part s))
+        × (resume_steps budget (i lower m) (plain_part s) ≡ walk_steps budget (machine (i lower m)) (plain_part s))
     plain_walks = call_walks (machine (i lower m)) (plain_part s) budget plain_goes
 
     joined : resume_from budget lower (i lower m) s
-        ≡ then_above (resume_checks (i lower m)) lower (i lower m) (plainly lower m budget s e goes).answer (whole_of s.run.deepest (plainly lower m budget s e goes).state) (budget - resume_steps budget (i lower m) (plain_part s))
+        ≡ then_above (resume_checks (i lower m)) lower (i lower m) (plainly lower m budget s e goes).answer
+        (whole_of s.run.deepest (plainly lower m budget s e goes).state) (budget - resume_steps budget (i lower m) (plain_part s))
     joined =
         let walked : Outcome State = walk budget (machine (i lower m)) (plain_part s) in
         (call_walks (machine_from lower (i lower m)) s budget goes).0 ∙ from_plain (resume_checks (i lower m)) lower (i lower m) budget s e
@@ -116,10 +119,16 @@ module _ (lower : List ℕ) (m : Map) where
 
     -- "If the plain run pauses or is refused, that is the answer."
     pub plain_stops : (plainly lower m budget s e goes).answer ≢ complete
-        → resume_from budget lower (i lower m) s ≡ record { answer = (plainly lower m budget s e goes).answer; state = whole_of s.run.deepest (plainly lower m budget s e goes).state }
+        → resume_from budget lower (i lower m) s ≡ record {
+          answer = (plainly lower m budget s e goes).answer;
+          state = whole_of s.run.deepest (plainly lower m budget s e goes).state;
+        }
     plain_stops n = joined ∙ stops (plainly lower m budget s e goes).answer n _ _
       where
-        stops : (a : Answer) → a ≢ complete → (t : State) (left : ℕ) → then_above (resume_checks (i lower m)) lower (i lower m) a t left ≡ record { answer = a; state = t }
+        stops : (a : Answer) → a ≢ complete → (t : State) (left : ℕ) → then_above (resume_checks (i lower m)) lower (i lower m) a t left ≡ record {
+          answer = a;
+          state = t;
+        }
         stops started n t left = refl
         stops complete n t left = absurd (n refl)
         stops paused n t left = refl
@@ -132,7 +141,8 @@ module _ (lower : List ℕ) (m : Map) where
         (lowered (bound_of lower) (i lower m).q (whole_of s.run.deepest (plainly lower m budget s e goes).state))
     unfolding lowered
     above_follows a =
-        joined ∙ ap (λ x. then_above (resume_checks (i lower m)) lower (i lower m) x (whole_of s.run.deepest (plainly lower m budget s e goes).state) (budget - resume_steps budget (i lower m) (plain_part s))) a
+        joined ∙ ap (λ x. then_above (resume_checks (i lower m)) lower (i lower m) x (whole_of s.run.deepest (plainly lower m budget s e goes).state)
+        (budget - resume_steps budget (i lower m) (plain_part s))) a
         ∙ sym (above_walks (resume_checks (i lower m)) lower (i lower m) (budget - resume_steps budget (i lower m) (plain_part s)) _ refl)
 
     -- each count by itself: the plain walk's steps
@@ -148,7 +158,8 @@ module _ (lower : List ℕ) (m : Map) where
     pub plain_counted : (resume_from budget lower (i lower m) s).state.run.steps2 ≡ s.run.steps2 + resume_steps budget (i lower m) (plain_part s)
     plain_counted =
         ap (λ o. o.state.run.steps2) joined
-        ∙ then_kept (plainly lower m budget s e goes).answer (whole_of s.run.deepest (plainly lower m budget s e goes).state) (budget - resume_steps budget (i lower m) (plain_part s))
+        ∙ then_kept (plainly lower m budget s e goes).answer (whole_of s.run.deepest (plainly lower m budget s e goes).state)
+        (budget - resume_steps budget (i lower m) (plain_part s))
         ∙ ap (λ o. o.state.run.steps) plain_walks.0 ∙ (walk_counts (resume_checks (i lower m)) (map_of (i lower m)) budget (plain_part s)).0
         ∙ ap (λ n. s.run.steps2 + n) (sym plain_walks.1)
 

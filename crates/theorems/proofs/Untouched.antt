@@ -175,7 +175,8 @@ module _ (lower : List ℕ) (m : Map) (s : State) where
           record {
             stack_length = row_length (i lower m s).q t.stack 0 (bound_of lower) 0 ∙ u.stack_length;
             beyond = λ e h.
-                row_outside true (i lower m s).q t.stack 0 (bound_of lower) 0 e (omega (arith, mul-le-mul_right ((i lower m s).q + 1) v.shaped.q_some)) ∙ u.beyond e h;
+                row_outside true (i lower m s).q t.stack 0 (bound_of lower) 0 e (omega (arith, mul-le-mul_right ((i lower m s).q + 1) v.shaped.q_some))
+                ∙ u.beyond e h;
             list_length = u.list_length;
             past = u.past;
             second_length = u.second_length;
@@ -190,16 +191,20 @@ module _ (lower : List ℕ) (m : Map) (s : State) where
       go lower_above h = u
       go desk_by_desk h = u
 
-  stepped_untouched : (t : State) → (Standing lower m s) t → GoingFrom lower (i lower m s) t → Untouched (i lower m s).q (i lower m s).q s (step_from lower (i lower m s) t)
+  stepped_untouched : (t : State) → (Standing lower m s) t → GoingFrom lower (i lower m s) t
+      → Untouched (i lower m s).q (i lower m s).q s (step_from lower (i lower m s) t)
   unfolding step_from
   stepped_untouched t (v, u) (p, a) = go t.run.kind refl v.ordered
     where
       go : (r : RunKind) → t.run.kind ≡ r → InOrderBy r lower (i lower m s) t
-          → Untouched (i lower m s).q (i lower m s).q s (by_walk r (whole_of t.run.deepest (step (map_of (i lower m s)) (plain_part t))) (step (above_system lower (i lower m s)) t))
+          → Untouched (i lower m s).q (i lower m s).q s
+          (by_walk r (whole_of t.run.deepest (step (map_of (i lower m s)) (plain_part t))) (step (above_system lower (i lower m s)) t))
       go plain_run e o = absurd o
       go capped_run e o = absurd o
       go lower_plain e o =
-          whole_untouched {s = s} (step_untouched (map_of (i lower m s)) (plain_part s) (plain_part t) (plain_valid lower (i lower m s) t e v) (p e) (plain_untouched {s = s} {t = t} u))
+          whole_untouched {s = s}
+          (step_untouched (map_of (i lower m s)) (plain_part s) (plain_part t) (plain_valid lower (i lower m s) t e v) (p e)
+          (plain_untouched {s = s} {t = t} u))
       go lower_above e o = step_untouched (above_system lower (i lower m s)) s t (above_valid lower (i lower m s) t e v) (a e) u
       go desk_by_desk e o = absurd o
 
@@ -215,10 +220,12 @@ module _ (lower : List ℕ) (m : Map) (s : State) where
         untouched = units_untouched (i lower m s).q (i lower m s).q s _;
       }
 
-  resume_from_leaves : (budget : ℕ) → resume_from_checks lower (i lower m s) s ≡ go → Leaves (i lower m s).q (i lower m s).q s (resume_from budget lower (i lower m s) s).state
+  resume_from_leaves : (budget : ℕ) → resume_from_checks lower (i lower m s) s ≡ go
+      → Leaves (i lower m s).q (i lower m s).q s (resume_from budget lower (i lower m s) s).state
   resume_from_leaves budget e =
       let t : State = (resume_from budget lower (i lower m s) s).state in
-      let (v, u) = call_keeps (machine_from lower (i lower m s)) (Standing lower m s) (λ t (v, u). (settled_valid lower (i lower m s) t v, settled_untouched t (v, u))) kept_standing budget s
+      let (v, u) = call_keeps (machine_from lower (i lower m s)) (Standing lower m s)
+      (λ t (v, u). (settled_valid lower (i lower m s) t v, settled_untouched t (v, u))) kept_standing budget s
       ((resume_from_valid lower (i lower m s) s refl e).1, untouched (i lower m s).q (i lower m s).q s) in
       record { marked = marked_by lower (i lower m s) t t.run.kind v.ordered; untouched = u }
 

@@ -1,6 +1,7 @@
 -- The coefficients of a system with right sides as code writes them, place by place. Assumes nothing.
 use Rattle.std.specs.Prelude.{◌≡◌, refl, List, ℕ, zero, suc, ◌+◌, ◌*◌, ◌-◌, ◌/◌, ◌%◌, ◌≤◌, ◌<◌, ℤ, pos, neg_ℤ, nat_abs, ◌-ℤ◌, length, get_or, set, take}
-use Rattle.std.proofs.Common.{sym, ◌∙◌, ap, inl, inr, mul-le-mul_right, div-add-mod', mod-lt, arith, SFits, length-set, ext_get_or, get_or-set_other, get_or-set_same, get_or-take, length-take-le, add-one}
+use Rattle.std.proofs.Common.{sym, ◌∙◌, ap, inl, inr, mul-le-mul_right, div-add-mod', mod-lt, arith, SFits, length-set, ext_get_or, get_or-set_other}
+use Rattle.std.proofs.Common.{get_or-set_same, get_or-take, length-take-le, add-one}
 use Rattle.std.proofs.Math.Decide.{ℕ_discrete}
 use Rattle.std.proofs.Math.IntN.{+ℤ_idl}
 use Rattle.std.specs.Int.{w32}

@@ -21,15 +21,33 @@ use Rattle.candidates.proofs.admitted.Goals as goal
 pub admitted_plain-requires : goal.admitted_plain-requires
 admitted_plain-requires c =
     let p = rw c.in-Plain.is at c.requires in
-    record { q_nonzero = (p.q_nonzero.0.0, p.q_nonzero.0.1, rows_fit _ _ c.args.found p.q_nonzero.0.2, p.second_fits.1, p.second_fits.2); limited = (p.limited.0, p.limited.1) }
+    record {
+      q_nonzero = (p.q_nonzero.0.0, p.q_nonzero.0.1, rows_fit _ _ c.args.found p.q_nonzero.0.2, p.second_fits.1, p.second_fits.2);
+      limited = (p.limited.0, p.limited.1);
+    }
 
 pub admitted_capped-requires : goal.admitted_capped-requires
 admitted_capped-requires c =
-    let p = rw c.in-Capped.is at c.requires in record { nonzero = ((p.q_nonzero.0.0, p.q_nonzero.0.1, rows_fit _ _ c.args.found p.q_nonzero.0.2, rows_fit _ _ c.args.other p.second_fits.0), p.second_fits.1, p.second_fits.2); limited = (p.limited.0, p.limited.1, p.limited.2) }
+    let p = rw c.in-Capped.is at c.requires in record {
+      nonzero = (
+        (p.q_nonzero.0.0, p.q_nonzero.0.1, rows_fit _ _ c.args.found p.q_nonzero.0.2, rows_fit _ _ c.args.other p.second_fits.0),
+        p.second_fits.1,
+        p.second_fits.2,
+      );
+      limited = (p.limited.0, p.limited.1, p.limited.2);
+    }
 
 pub admitted_above-requires : goal.admitted_above-requires
 admitted_above-requires c =
-    let p = rw c.in-Above.is at c.requires in record { q_nonzero = ((p.q_nonzero.0.0, p.q_nonzero.0.1, rows_fit _ _ c.args.found p.q_nonzero.0.2, rows_fit _ _ c.args.other p.second_fits.0), p.q_nonzero.1, p.second_fits.1, p.second_fits.2); limited = (p.limited.0, p.limited.1, p.limited.2) }
+    let p = rw c.in-Above.is at c.requires in record {
+      q_nonzero = (
+        (p.q_nonzero.0.0, p.q_nonzero.0.1, rows_fit _ _ c.args.found p.q_nonzero.0.2, rows_fit _ _ c.args.other p.second_fits.0),
+        p.q_nonzero.1,
+        p.second_fits.1,
+        p.second_fits.2,
+      );
+      limited = (p.limited.0, p.limited.1, p.limited.2);
+    }
 
 pub shape_of-t-in-Plain : goal.shape_of-t-in-Plain
 shape_of-t-in-Plain c = ap length c.admitted_plain.ensures.t_unchanged

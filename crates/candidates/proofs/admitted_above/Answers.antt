@@ -14,12 +14,18 @@ use Rattle.candidates.proofs.admitted_above.Goals as goal
 pub apart-left-requires : goal.apart-left-requires
 apart-left-requires c =
     let p = c.requires in
-    record { q_nonzero = ((p.q_nonzero.0.0, p.q_nonzero.0.1, p.q_nonzero.0.3), p.q_nonzero.1, p.q_nonzero.2, p.q_nonzero.3); limited = (p.limited.0, p.limited.2) }
+    record {
+      q_nonzero = ((p.q_nonzero.0.0, p.q_nonzero.0.1, p.q_nonzero.0.3), p.q_nonzero.1, p.q_nonzero.2, p.q_nonzero.3);
+      limited = (p.limited.0, p.limited.2);
+    }
 
 pub passed-requires : goal.passed-requires
 passed-requires c =
     let p = c.requires in
-    record { w_nonzero = ((p.q_nonzero.0.0, omega arith), p.q_nonzero.0.1, p.q_nonzero.0.2, p.q_nonzero.2, c.apart-left.ensures.below); limited = (p.limited.0, p.limited.1) }
+    record {
+      w_nonzero = ((p.q_nonzero.0.0, omega arith), p.q_nonzero.0.1, p.q_nonzero.0.2, p.q_nonzero.2, c.apart-left.ensures.below);
+      limited = (p.limited.0, p.limited.1);
+    }
 
 pub shape_of-t : goal.shape_of-t
 shape_of-t c = ap length c.passed.ensures.t_unchanged

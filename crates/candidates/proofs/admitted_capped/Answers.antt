@@ -18,7 +18,11 @@ uncapped-left-requires c =
 pub passed-requires : goal.passed-requires
 passed-requires c =
     let p = c.requires in
-    record { w_nonzero = rw c.uncapped-left.ensures.t_unchanged (((p.nonzero.0.0, omega (arith, p.nonzero.0.0)), p.nonzero.0.1, p.nonzero.0.2, p.nonzero.1, c.uncapped-left.ensures.marked.below)); limited = rw c.uncapped-left.ensures.t_unchanged ((p.limited.0, p.limited.1)) }
+    record {
+      w_nonzero = rw c.uncapped-left.ensures.t_unchanged
+          (((p.nonzero.0.0, omega (arith, p.nonzero.0.0)), p.nonzero.0.1, p.nonzero.0.2, p.nonzero.1, c.uncapped-left.ensures.marked.below));
+      limited = rw c.uncapped-left.ensures.t_unchanged ((p.limited.0, p.limited.1));
+    }
 
 pub shape_of-t : goal.shape_of-t
 shape_of-t c =

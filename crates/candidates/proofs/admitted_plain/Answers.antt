@@ -61,7 +61,12 @@ module _ (b : After-blocked) where
 -- the component of the turn's unknown, which `blocked` has left as it was
 reached : (c : Then-limit-t) → tuple c.args.t.now (count_trailing_zeros 32 c.loop-rest.rest) ≡ c.args.limit
 reached c =
-    omega (arith, rw (c.blocked.ensures.t_unchanged ∙ c.loop-rest.invariant.0) at c.if-limit-t.true, c.requires.limited.1.at_most (count_trailing_zeros 32 c.loop-rest.rest) (next_inside c.loop-rest.invariant.2 c.requires.q_nonzero.1 (omega (arith, c.loop-rest-test.true))))
+    omega (
+      arith,
+      rw (c.blocked.ensures.t_unchanged ∙ c.loop-rest.invariant.0) at c.if-limit-t.true,
+      c.requires.limited.1.at_most
+          (count_trailing_zeros 32 c.loop-rest.rest) (next_inside c.loop-rest.invariant.2 c.requires.q_nonzero.1 (omega (arith, c.loop-rest-test.true))),
+    )
 
 below : (c : Else-limit-t) → tuple c.args.t.now (count_trailing_zeros 32 c.loop-rest.rest) ≢ c.args.limit
 below c =
@@ -103,8 +108,12 @@ loop-rest-preserved-then-blocked c =
       c.blocked.ensures.t_unchanged ∙ c.loop-rest.invariant.0,
       unknown (goal.at.loop-rest-preserved-then-blocked c).In-loop-rest + 1,
       left_next left few (some (goal.at.loop-rest-preserved-then-blocked c).In-loop-rest),
-      next_skip left few (some (goal.at.loop-rest-preserved-then-blocked c).In-loop-rest) (child (goal.at.loop-rest-preserved-then-blocked c).Start) (closed (goal.at.loop-rest-preserved-then-blocked c).Start) c.loop-rest.invariant.3 (blocked_none (goal.at.loop-rest-preserved-then-blocked c).After-blocked c.if-blocked.true),
-      none_next left few (some (goal.at.loop-rest-preserved-then-blocked c).In-loop-rest) (large (goal.at.loop-rest-preserved-then-blocked c).Start) (closed_large (goal.at.loop-rest-preserved-then-blocked c).Start) c.loop-rest.invariant.4 (rw (blocked_none (goal.at.loop-rest-preserved-then-blocked c).After-blocked c.if-blocked.true)),
+      next_skip left few (some (goal.at.loop-rest-preserved-then-blocked c).In-loop-rest) (child (goal.at.loop-rest-preserved-then-blocked c).Start)
+          (closed (goal.at.loop-rest-preserved-then-blocked c).Start) c.loop-rest.invariant.3
+          (blocked_none (goal.at.loop-rest-preserved-then-blocked c).After-blocked c.if-blocked.true),
+      none_next left few (some (goal.at.loop-rest-preserved-then-blocked c).In-loop-rest) (large (goal.at.loop-rest-preserved-then-blocked c).Start)
+          (closed_large (goal.at.loop-rest-preserved-then-blocked c).Start) c.loop-rest.invariant.4
+          (rw (blocked_none (goal.at.loop-rest-preserved-then-blocked c).After-blocked c.if-blocked.true)),
     )
 
 pub offset_bounds-t-i : goal.offset_bounds-t-i
@@ -122,12 +131,25 @@ shape_of-t-then-limit-t c =
 pub returns-then-limit-t : goal.returns-then-limit-t
 returns-then-limit-t c =
     let here : large (goal.at.returns-then-limit-t c).Start (unknown (goal.at.returns-then-limit-t c).In-loop-rest) ≡ true =
-    rw (free_one (goal.at.returns-then-limit-t c).After-blocked c.if-blocked.false, eq-eqb (tuple c.args.t.now (unknown (goal.at.returns-then-limit-t c).In-loop-rest)) c.args.limit (reached c)) in
-    record { value = tried_large _ _ _ _ (any_holds _ (large (goal.at.returns-then-limit-t c).Start) (unknown (goal.at.returns-then-limit-t c).In-loop-rest) (inside (goal.at.returns-then-limit-t c).In-loop-rest) here); t_unchanged = c.blocked.ensures.t_unchanged ∙ c.loop-rest.invariant.0 }
+    rw (
+      free_one (goal.at.returns-then-limit-t c).After-blocked c.if-blocked.false,
+      eq-eqb
+          (tuple c.args.t.now (unknown (goal.at.returns-then-limit-t c).In-loop-rest)) c.args.limit (reached c),
+    ) in
+    record {
+      value = tried_large _ _ _ _
+          (any_holds _ (large (goal.at.returns-then-limit-t c).Start) (unknown (goal.at.returns-then-limit-t c).In-loop-rest)
+          (inside (goal.at.returns-then-limit-t c).In-loop-rest) here);
+      t_unchanged = c.blocked.ensures.t_unchanged ∙ c.loop-rest.invariant.0;
+    }
 
 pub overflow_add-made : goal.overflow_add-made
 overflow_add-made c =
-    omega (arith, next_room c.loop-rest.invariant.2 c.requires.q_nonzero.1 (some (goal.at.overflow_add-made c).In-loop-rest) (child (goal.at.overflow_add-made c).Start) (closed (goal.at.overflow_add-made c).Start) c.loop-rest.invariant.3)
+    omega (
+      arith,
+      next_room c.loop-rest.invariant.2 c.requires.q_nonzero.1 (some (goal.at.overflow_add-made c).In-loop-rest)
+          (child (goal.at.overflow_add-made c).Start) (closed (goal.at.overflow_add-made c).Start) c.loop-rest.invariant.3,
+    )
 
 pub loop-rest-smaller : goal.loop-rest-smaller
 loop-rest-smaller c = next_less c.loop-rest.invariant.2 c.requires.q_nonzero.1 (some (goal.at.loop-rest-smaller c).In-loop-rest)
@@ -139,12 +161,18 @@ loop-rest-preserved c =
       c.blocked.ensures.t_unchanged ∙ c.loop-rest.invariant.0,
       unknown (goal.at.loop-rest-preserved c).In-loop-rest + 1,
       left_next left few (some (goal.at.loop-rest-preserved c).In-loop-rest),
-      next_add left few (some (goal.at.loop-rest-preserved c).In-loop-rest) (child (goal.at.loop-rest-preserved c).Start) (closed (goal.at.loop-rest-preserved c).Start) c.loop-rest.invariant.3 (free_one (goal.at.loop-rest-preserved c).After-blocked c.if-blocked.false),
-      none_next left few (some (goal.at.loop-rest-preserved c).In-loop-rest) (large (goal.at.loop-rest-preserved c).Start) (closed_large (goal.at.loop-rest-preserved c).Start) c.loop-rest.invariant.4
+      next_add left few (some (goal.at.loop-rest-preserved c).In-loop-rest) (child (goal.at.loop-rest-preserved c).Start)
+          (closed (goal.at.loop-rest-preserved c).Start) c.loop-rest.invariant.3 (free_one (goal.at.loop-rest-preserved c).After-blocked c.if-blocked.false),
+      none_next left few (some (goal.at.loop-rest-preserved c).In-loop-rest) (large (goal.at.loop-rest-preserved c).Start)
+          (closed_large (goal.at.loop-rest-preserved c).Start) c.loop-rest.invariant.4
           (rw (ne_eqb (tuple c.args.t.now (unknown (goal.at.loop-rest-preserved c).In-loop-rest)) c.args.limit (below c), and-false)),
     )
 
 pub returns : goal.returns
 returns c =
     let left = rw c.loop-rest-test.false at c.loop-rest.invariant.2 in
-    record { value = tried_made _ _ _ _ (none_end left (large (goal.at.returns c).Start) (closed_large (goal.at.returns c).Start) c.loop-rest.invariant.4) (left_end left (child (goal.at.returns c).Start) (closed (goal.at.returns c).Start) c.loop-rest.invariant.3); t_unchanged = c.loop-rest.invariant.0 }
+    record {
+      value = tried_made _ _ _ _ (none_end left (large (goal.at.returns c).Start) (closed_large (goal.at.returns c).Start) c.loop-rest.invariant.4)
+          (left_end left (child (goal.at.returns c).Start) (closed (goal.at.returns c).Start) c.loop-rest.invariant.3);
+      t_unchanged = c.loop-rest.invariant.0;
+    }

@@ -13,7 +13,8 @@ use Rattle.candidates.proofs.admitted_plain.Given as goal
 
 abbrev pub invariant-loop-rest : goal.invariant-loop-rest
 invariant-loop-rest l =
-    (l.t ≡ l.initial.t) × (n : ℕ) × Left l.q (frozen l.candidates) n l.rest × (l.made ≡ marks_to n (child_by l.q 0 l.found (at l.list l.q) (tuple l.initial.t) l.candidates))
+    (l.t ≡ l.initial.t) × (n : ℕ) × Left l.q (frozen l.candidates) n l.rest
+    × (l.made ≡ marks_to n (child_by l.q 0 l.found (at l.list l.q) (tuple l.initial.t) l.candidates))
     × (any_to n (λ j. child_by l.q 0 l.found (at l.list l.q) (tuple l.initial.t) l.candidates j && eqb (tuple l.initial.t j) l.limit) ≡ false)
 
 abbrev pub decreases-loop-rest : goal.decreases-loop-rest

@@ -52,4 +52,7 @@ shape_of-t c = simp length-set
 
 pub returns : goal.returns
 returns c =
-    record { value = c.covered-r.ensures ∙ covered_same c.args.w c.args.found _ (part_raised (goal.at.returns c).Start); t_unchanged = raise_lower c.args.t.now c.args.i c.requires.0 }
+    record {
+      value = c.covered-r.ensures ∙ covered_same c.args.w c.args.found _ (part_raised (goal.at.returns c).Start);
+      t_unchanged = raise_lower c.args.t.now c.args.i c.requires.0;
+    }

@@ -55,10 +55,22 @@ bounds-t-i c = omega (arith, inside (goal.at.bounds-t-i c).In-loop-rest, c.requi
 
 pub returns-then-limit-t : goal.returns-then-limit-t
 returns-then-limit-t c =
-    let reached : tuple c.args.t.now (unknown (goal.at.returns-then-limit-t c).In-loop-rest) ≡ c.args.limit = omega (arith, c.if-limit-t.true, c.requires.1.at_most (unknown (goal.at.returns-then-limit-t c).In-loop-rest) (inside (goal.at.returns-then-limit-t c).In-loop-rest)) in
+    let reached : tuple c.args.t.now (unknown (goal.at.returns-then-limit-t c).In-loop-rest) ≡ c.args.limit =
+    omega (
+      arith,
+      c.if-limit-t.true,
+      c.requires.1.at_most (unknown (goal.at.returns-then-limit-t c).In-loop-rest)
+          (inside (goal.at.returns-then-limit-t c).In-loop-rest),
+    ) in
     let here : large (goal.at.returns-then-limit-t c).Start (unknown (goal.at.returns-then-limit-t c).In-loop-rest) ≡ true =
-    rw (next_holds c.loop-rest.invariant.1 c.requires.0.0 (some (goal.at.returns-then-limit-t c).In-loop-rest), eq-eqb (tuple c.args.t.now (unknown (goal.at.returns-then-limit-t c).In-loop-rest)) c.args.limit reached) in
-    let any : any_to c.args.q (large (goal.at.returns-then-limit-t c).Start) ≡ true = any_holds _ (large (goal.at.returns-then-limit-t c).Start) (unknown (goal.at.returns-then-limit-t c).In-loop-rest) (inside (goal.at.returns-then-limit-t c).In-loop-rest) here in
+    rw (
+      next_holds c.loop-rest.invariant.1 c.requires.0.0 (some (goal.at.returns-then-limit-t c).In-loop-rest),
+      eq-eqb
+          (tuple c.args.t.now (unknown (goal.at.returns-then-limit-t c).In-loop-rest)) c.args.limit reached,
+    ) in
+    let any : any_to c.args.q (large (goal.at.returns-then-limit-t c).Start) ≡ true =
+    any_holds _ (large (goal.at.returns-then-limit-t c).Start) (unknown (goal.at.returns-then-limit-t c).In-loop-rest)
+    (inside (goal.at.returns-then-limit-t c).In-loop-rest) here in
     rw any
 
 pub loop-rest-smaller : goal.loop-rest-smaller
@@ -71,11 +83,14 @@ loop-rest-preserved c =
     let below : tuple c.args.t.now (unknown (goal.at.loop-rest-preserved c).In-loop-rest) ≢ c.args.limit = omega (arith, c.if-limit-t.false) in (
       unknown (goal.at.loop-rest-preserved c).In-loop-rest + 1,
       left_next left c.requires.0.0 (some (goal.at.loop-rest-preserved c).In-loop-rest),
-      none_next left c.requires.0.0 (some (goal.at.loop-rest-preserved c).In-loop-rest) (large (goal.at.loop-rest-preserved c).Start) (closed (goal.at.loop-rest-preserved c).Start) c.loop-rest.invariant.2
+      none_next left c.requires.0.0 (some (goal.at.loop-rest-preserved c).In-loop-rest) (large (goal.at.loop-rest-preserved c).Start)
+          (closed (goal.at.loop-rest-preserved c).Start) c.loop-rest.invariant.2
           (rw (ne_eqb (tuple c.args.t.now (unknown (goal.at.loop-rest-preserved c).In-loop-rest)) c.args.limit below, and-false)),
     )
 
 pub returns : goal.returns
 returns c =
-    let none : any_to c.args.q (large (goal.at.returns c).Start) ≡ false = none_end (rw c.loop-rest-test.false at c.loop-rest.invariant.1) (large (goal.at.returns c).Start) (closed (goal.at.returns c).Start) c.loop-rest.invariant.2 in
+    let none : any_to c.args.q (large (goal.at.returns c).Start) ≡ false =
+    none_end (rw c.loop-rest-test.false at c.loop-rest.invariant.1) (large (goal.at.returns c).Start) (closed (goal.at.returns c).Start)
+    c.loop-rest.invariant.2 in
     rw none

@@ -16,4 +16,7 @@ shape_of-t c = ap length c.unstopped-made.ensures.t_unchanged
 
 pub returns : goal.returns
 returns c =
-    record { value = rw c.unstopped-made.ensures.t_unchanged at c.limited.ensures ∙ tried_marks c.args.limit c.args.q _ _ c.unstopped-made.ensures.value; t_unchanged = c.unstopped-made.ensures.t_unchanged }
+    record {
+      value = rw c.unstopped-made.ensures.t_unchanged at c.limited.ensures ∙ tried_marks c.args.limit c.args.q _ _ c.unstopped-made.ensures.value;
+      t_unchanged = c.unstopped-made.ensures.t_unchanged;
+    }

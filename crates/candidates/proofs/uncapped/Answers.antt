@@ -39,7 +39,10 @@ overflow_sub-q c = omega (arith, c.requires.nonzero.0.0)
 pub unstopped-requires : goal.unstopped-requires
 unstopped-requires c =
     let p = c.requires in
-    record { w_nonzero = ((p.nonzero.0.0, omega (arith, p.nonzero.0.0)), p.nonzero.0.1, p.nonzero.0.2, p.nonzero.1, omega (arith, p.nonzero.2)); limited = p.limited.0 }
+    record {
+      w_nonzero = ((p.nonzero.0.0, omega (arith, p.nonzero.0.0)), p.nonzero.0.1, p.nonzero.0.2, p.nonzero.1, omega (arith, p.nonzero.2));
+      limited = p.limited.0;
+    }
 
 pub overflow_add-result : goal.overflow_add-result
 overflow_add-result c =

@@ -81,12 +81,18 @@ loop-rest-preserved-then-blocked c =
       c.blocked.ensures.t_unchanged ∙ c.loop-rest.invariant.0,
       unknown (goal.at.loop-rest-preserved-then-blocked c).In-loop-rest + 1,
       left_next left few (some (goal.at.loop-rest-preserved-then-blocked c).In-loop-rest),
-      next_skip left few (some (goal.at.loop-rest-preserved-then-blocked c).In-loop-rest) (child (goal.at.loop-rest-preserved-then-blocked c).Start) (closed (goal.at.loop-rest-preserved-then-blocked c).Start) c.loop-rest.invariant.3 (blocked_none (goal.at.loop-rest-preserved-then-blocked c).After-blocked c.if-blocked.true),
+      next_skip left few (some (goal.at.loop-rest-preserved-then-blocked c).In-loop-rest) (child (goal.at.loop-rest-preserved-then-blocked c).Start)
+          (closed (goal.at.loop-rest-preserved-then-blocked c).Start) c.loop-rest.invariant.3
+          (blocked_none (goal.at.loop-rest-preserved-then-blocked c).After-blocked c.if-blocked.true),
     )
 
 pub overflow_add-left : goal.overflow_add-left
 overflow_add-left c =
-    omega (arith, next_room c.loop-rest.invariant.2 c.requires.w_nonzero.1 (some (goal.at.overflow_add-left c).In-loop-rest) (child (goal.at.overflow_add-left c).Start) (closed (goal.at.overflow_add-left c).Start) c.loop-rest.invariant.3)
+    omega (
+      arith,
+      next_room c.loop-rest.invariant.2 c.requires.w_nonzero.1 (some (goal.at.overflow_add-left c).In-loop-rest)
+          (child (goal.at.overflow_add-left c).Start) (closed (goal.at.overflow_add-left c).Start) c.loop-rest.invariant.3,
+    )
 
 pub loop-rest-smaller : goal.loop-rest-smaller
 loop-rest-smaller c = next_less c.loop-rest.invariant.2 c.requires.w_nonzero.1 (some (goal.at.loop-rest-smaller c).In-loop-rest)
@@ -98,10 +104,14 @@ loop-rest-preserved c =
       c.blocked.ensures.t_unchanged ∙ c.loop-rest.invariant.0,
       unknown (goal.at.loop-rest-preserved c).In-loop-rest + 1,
       left_next left few (some (goal.at.loop-rest-preserved c).In-loop-rest),
-      next_add left few (some (goal.at.loop-rest-preserved c).In-loop-rest) (child (goal.at.loop-rest-preserved c).Start) (closed (goal.at.loop-rest-preserved c).Start) c.loop-rest.invariant.3 (free_one (goal.at.loop-rest-preserved c).After-blocked c.if-blocked.false),
+      next_add left few (some (goal.at.loop-rest-preserved c).In-loop-rest) (child (goal.at.loop-rest-preserved c).Start)
+          (closed (goal.at.loop-rest-preserved c).Start) c.loop-rest.invariant.3 (free_one (goal.at.loop-rest-preserved c).After-blocked c.if-blocked.false),
     )
 
 pub returns : goal.returns
 returns c =
     let left = rw c.loop-rest-test.false at c.loop-rest.invariant.2 in
-    record { value = left_end left (child (goal.at.returns c).Start) (closed (goal.at.returns c).Start) c.loop-rest.invariant.3; t_unchanged = c.loop-rest.invariant.0 }
+    record {
+      value = left_end left (child (goal.at.returns c).Start) (closed (goal.at.returns c).Start) c.loop-rest.invariant.3;
+      t_unchanged = c.loop-rest.invariant.0;
+    }

@@ -10,7 +10,8 @@ use Rattle.candidates.proofs.unstopped.Given as goal
 
 abbrev pub invariant-loop-rest : goal.invariant-loop-rest
 invariant-loop-rest l =
-    (l.t ≡ l.initial.t) × (n : ℕ) × Left l.q (frozen l.candidates) n l.rest × (l.left ≡ marks_to n (child_by l.w l.from l.found (at l.list l.w) (tuple l.initial.t) l.candidates))
+    (l.t ≡ l.initial.t) × (n : ℕ) × Left l.q (frozen l.candidates) n l.rest
+    × (l.left ≡ marks_to n (child_by l.w l.from l.found (at l.list l.w) (tuple l.initial.t) l.candidates))
 
 abbrev pub decreases-loop-rest : goal.decreases-loop-rest
 decreases-loop-rest l = l.rest

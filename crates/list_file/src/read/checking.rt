@@ -1,7 +1,8 @@
 // What the reader looks at: refusals 19, 20, 21, 22 and 29.
 ghost use Rattle.std.specs.Prelude.{◌≡◌, ◌+◌, ◌*◌, ◌<◌, ◌≤◌, length};
 ghost use Rattle.list_spec.specs.Words.{word_at};
-ghost use Rattle.list_spec.specs.Reading.{coef_words, row_words, block_checks, header_in_range, stream_word_in_range, block_in_range, stream_checks, file_checks, read_checks};
+ghost use Rattle.list_spec.specs.Reading.{coef_words, row_words, block_checks, header_in_range, stream_word_in_range, block_in_range};
+ghost use Rattle.list_spec.specs.Reading.{stream_checks, file_checks, read_checks};
 ghost use Rattle.list_file.specs.Paper.{check_of};
 ghost use Rattle.list_file.specs.ReadLaws.{HeaderRead, StreamRead, later_checks, table_checks};
 

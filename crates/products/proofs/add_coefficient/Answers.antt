@@ -66,7 +66,11 @@ sum_and-requires c =
     let small = c.requires.small_coefs.0 in
     let x = c.wide.ensures ∙ to_z-of_z (coef_fits small _) in
     let y = c.wide-in-loop-j.ensures ∙ to_z-of_z (coef_fits small _) in
-    let all = next_fits (terms (goal.at.sum_and-requires c).In-loop-j) c.args.e (held (goal.at.sum_and-requires c).In-loop-j) c.requires.small_coefs.2 x y in record { sfits = all.0; sfits_2 = all.1 }
+    let all = next_fits (terms (goal.at.sum_and-requires c).In-loop-j) c.args.e (held (goal.at.sum_and-requires c).In-loop-j) c.requires.small_coefs.2 x y in
+    record {
+      sfits = all.0;
+      sfits_2 = all.1;
+    }
 
 pub loop-j-preserved : goal.loop-j-preserved
 unfolding gram
@@ -74,7 +78,8 @@ loop-j-preserved c =
     let small = c.requires.small_coefs.0 in
     let x = c.wide.ensures ∙ to_z-of_z (coef_fits small _) in
     let y = c.wide-in-loop-j.ensures ∙ to_z-of_z (coef_fits small _) in
-    let e = next_value (terms (goal.at.loop-j-preserved c).In-loop-j) c.args.e (held (goal.at.loop-j-preserved c).In-loop-j) c.requires.small_coefs.2 x y c.sum_and.ensures in
+    let e = next_value (terms (goal.at.loop-j-preserved c).In-loop-j) c.args.e (held (goal.at.loop-j-preserved c).In-loop-j) c.requires.small_coefs.2 x y
+    c.sum_and.ensures in
     (search rules, written_next c.loop-j.invariant.1 (omega arith) e)
 
 pub returns : goal.returns

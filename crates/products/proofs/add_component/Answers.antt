@@ -34,11 +34,16 @@ loop-j-init c = (search rules, written_none)
 
 pub sum_and-requires : goal.sum_and-requires
 sum_and-requires c =
-    let all = next_fits (terms (goal.at.sum_and-requires c).In-loop-j) c.args.i (held (goal.at.sum_and-requires c).In-loop-j) c.requires.small_gram.4 c.natural.ensures refl in record { sfits = all.0; sfits_2 = all.1 }
+    let all = next_fits (terms (goal.at.sum_and-requires c).In-loop-j) c.args.i (held (goal.at.sum_and-requires c).In-loop-j) c.requires.small_gram.4
+    c.natural.ensures refl in record {
+      sfits = all.0;
+      sfits_2 = all.1;
+    }
 
 pub loop-j-preserved : goal.loop-j-preserved
 loop-j-preserved c =
-    let e = next_value (terms (goal.at.loop-j-preserved c).In-loop-j) c.args.i (held (goal.at.loop-j-preserved c).In-loop-j) c.requires.small_gram.4 c.natural.ensures refl c.sum_and.ensures in
+    let e = next_value (terms (goal.at.loop-j-preserved c).In-loop-j) c.args.i (held (goal.at.loop-j-preserved c).In-loop-j) c.requires.small_gram.4
+    c.natural.ensures refl c.sum_and.ensures in
     (search rules, written_next c.loop-j.invariant.1 (omega arith) e)
 
 pub returns : goal.returns

@@ -11,7 +11,10 @@ loop-i-init c = (search rules, c.requires.1, (λ i j l k. absurd (omega arith)),
 
 pub add_coefficient-requires : goal.add_coefficient-requires
 add_coefficient-requires c =
-    record { small_coefs = (c.requires.0, c.loop-i.invariant.1, c.requires.2, c.loop-i-test.true); filled = record { holds = λ j k. c.loop-i.invariant.3.rows c.loop-i.i j (omega arith) c.loop-i-test.true k } }
+    record {
+      small_coefs = (c.requires.0, c.loop-i.invariant.1, c.requires.2, c.loop-i-test.true);
+      filled = record { holds = λ j k. c.loop-i.invariant.3.rows c.loop-i.i j (omega arith) c.loop-i-test.true k };
+    }
 
 pub loop-i-preserved : goal.loop-i-preserved
 loop-i-preserved c =

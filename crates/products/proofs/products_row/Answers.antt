@@ -52,11 +52,18 @@ overflow_add-sum-in-loop-i-2 c =
 
 pub add_component-requires : goal.add_component-requires
 add_component-requires c =
-    record { small_gram = (c.requires.0, c.requires.1, c.loop-i.invariant.1.size ∙ c.requires.2, c.requires.3, c.loop-i-test.true); summed = record { sums = c.loop-i.invariant.1.new } }
+    record {
+      small_gram = (c.requires.0, c.requires.1, c.loop-i.invariant.1.size ∙ c.requires.2, c.requires.3, c.loop-i-test.true);
+      summed = record { sums = c.loop-i.invariant.1.new };
+    }
 
 pub loop-i-preserved : goal.loop-i-preserved
-loop-i-preserved c =
-    (search rules, written_again c.loop-i.invariant.1 c.add_component.ensures, total_more (tuple (goal.at.loop-i-preserved c).Start) c.loop-i.i c.loop-i.invariant.2)
+loop-i-preserved c = (
+  search rules,
+  written_again c.loop-i.invariant.1 c.add_component.ensures,
+  total_more (tuple (goal.at.loop-i-preserved c).Start) c.loop-i.i
+      c.loop-i.invariant.2,
+)
 
 pub returns : goal.returns
 returns c =

@@ -7,7 +7,8 @@ use Rattle.products.specs.Products.{Written, partial}
 use Rattle.products.proofs.products_row.Given as goal
 
 abbrev pub invariant-loop-i : goal.invariant-loop-i
-invariant-loop-i l = (l.i ≤ l.q) × Written l.k l.q (partial l.gram (at l.stack (l.q + 1) l.k) l.i) l.initial.c l.c × (l.sum ≡ total (at l.stack (l.q + 1) l.k) l.i)
+invariant-loop-i l = (l.i ≤ l.q) × Written l.k l.q (partial l.gram (at l.stack (l.q + 1) l.k) l.i) l.initial.c l.c
+    × (l.sum ≡ total (at l.stack (l.q + 1) l.k) l.i)
 
 abbrev pub decreases-loop-i : goal.decreases-loop-i
 decreases-loop-i l = l.q - l.i

@@ -19,11 +19,13 @@ loop-j-init c = (search rules, written_none)
 
 pub overflow_add-c-in-loop-j-2 : goal.overflow_add-c-in-loop-j-2
 overflow_add-c-in-loop-j-2 c =
-    child_fits c.requires.gram_small c.requires.parent_small _ _ c.requires.unknown c.loop-j-test.true (ahead (goal.at.overflow_add-c-in-loop-j-2 c).At-loop-j c.loop-j-test.true)
+    child_fits c.requires.gram_small c.requires.parent_small _ _ c.requires.unknown c.loop-j-test.true
+    (ahead (goal.at.overflow_add-c-in-loop-j-2 c).At-loop-j c.loop-j-test.true)
 
 pub loop-j-preserved : goal.loop-j-preserved
 loop-j-preserved c =
-    let e = child_stored c.requires.gram_small c.requires.parent_small _ _ c.requires.unknown c.loop-j-test.true (ahead (goal.at.loop-j-preserved c).At-loop-j c.loop-j-test.true) in
+    let e = child_stored c.requires.gram_small c.requires.parent_small _ _ c.requires.unknown c.loop-j-test.true
+    (ahead (goal.at.loop-j-preserved c).At-loop-j c.loop-j-test.true) in
     (search rules, written_next c.loop-j.invariant.1 (omega arith) e)
 
 pub returns : goal.returns

@@ -14,7 +14,8 @@ use Rattle.products.specs.Products.{entry}
 use Rattle.candidates.specs.Grow.{child_for}
 use Rattle.candidates.specs.Kinds.{asked, kind_by, width_any}
 use Rattle.candidates.specs.Tried.{large_tried, made_tried, tried_same, tried_by}
-use Rattle.step.proofs.TakeLaws.{child_asked, enlisted_asked, made_below, made_few, part_back, second_asked, taken_grown, taken_large, taken_none, taken_solution, top_fits, top_inside, top_limited, top_parent, top_within}
+use Rattle.step.proofs.TakeLaws.{child_asked, enlisted_asked, made_below, made_few, part_back, second_asked, taken_grown, taken_large, taken_none}
+use Rattle.step.proofs.TakeLaws.{taken_solution, top_fits, top_inside, top_limited, top_parent, top_within}
 use Rattle.step.proofs.take.Goals as goal
 use Rattle.step.proofs.take.Goals.{After-admitted, After-candidate_marks-left, Start}
 
@@ -49,15 +50,22 @@ module _ (d : After-candidate_marks-left) where
 -- and its children have been tried
 module _ (x : After-admitted) where
   back : take (base x.before.before.before.before.before.before.before.before.before.before.before.before.before) x.args.stack.now
-      ++ (x.admitted.new.t ++ drop (length x.args.stack.now - base x.before.before.before.before.before.before.before.before.before.before.before.before.before) (drop (base x.before.before.before.before.before.before.before.before.before.before.before.before.before) x.args.stack.now))
+      ++ (x.admitted.new.t ++ drop (length x.args.stack.now - base x.before.before.before.before.before.before.before.before.before.before.before.before.before)
+      (drop (base x.before.before.before.before.before.before.before.before.before.before.before.before.before) x.args.stack.now))
       ≡ x.args.stack.now
-  back = part_back x.args.stack.now (base x.before.before.before.before.before.before.before.before.before.before.before.before.before) (length x.args.stack.now - base x.before.before.before.before.before.before.before.before.before.before.before.before.before) x.admitted.ensures.t_unchanged
+  back = part_back x.args.stack.now (base x.before.before.before.before.before.before.before.before.before.before.before.before.before)
+      (length x.args.stack.now - base x.before.before.before.before.before.before.before.before.before.before.before.before.before)
+      x.admitted.ensures.t_unchanged
 
   tried_asked : x.admitted.result ≡ tried_by x.args.limit x.args.q
-      (child_for (kind x.before.before.before.before.before.before.before.before.before.before.before.before.before) x.args.q (state x.before.before.before.before.before.before.before.before.before.before.before.before.before) (tuple (row x.before.before.before.before.before.before.before.before.before.before.before.before.before)) x.candidate_marks-left.result) (tuple (row x.before.before.before.before.before.before.before.before.before.before.before.before.before))
+      (child_for (kind x.before.before.before.before.before.before.before.before.before.before.before.before.before) x.args.q
+      (state x.before.before.before.before.before.before.before.before.before.before.before.before.before)
+      (tuple (row x.before.before.before.before.before.before.before.before.before.before.before.before.before)) x.candidate_marks-left.result)
+      (tuple (row x.before.before.before.before.before.before.before.before.before.before.before.before.before))
   tried_asked =
       x.admitted.ensures.value ∙ tried_same x.args.limit x.args.q _ _ _
-      (λ j l. child_asked (kind x.before.before.before.before.before.before.before.before.before.before.before.before.before) x.args.q x.args.list.now x.args.second.now x.args.found x.args.other _ _
+      (λ j l. child_asked (kind x.before.before.before.before.before.before.before.before.before.before.before.before.before) x.args.q x.args.list.now
+      x.args.second.now x.args.found x.args.other _ _
       x.args.stack.now x.args.height j)
 
 pub overflow_mul-base : goal.overflow_mul-base
@@ -89,7 +97,8 @@ bounds-stack-base c = omega (arith, fits (goal.at.bounds-stack-base c).Start)
 
 pub returns-then-left-eq0 : goal.returns-then-left-eq0
 returns-then-left-eq0 c =
-    taken_none c.requires.standing (no (goal.at.returns-then-left-eq0 c).After-candidate_marks-left) refl (rw c.if-left-eq0.true at c.candidate_marks-left.ensures)
+    taken_none c.requires.standing (no (goal.at.returns-then-left-eq0 c).After-candidate_marks-left) refl
+    (rw c.if-left-eq0.true at c.candidate_marks-left.ensures)
 
 pub offset_bounds-stack-base-2 : goal.offset_bounds-stack-base-2
 offset_bounds-stack-base-2 c = omega (arith, fits (goal.at.offset_bounds-stack-base-2 c).Start)
@@ -102,27 +111,51 @@ slice_bounds-admitted-start c = omega (arith, fits (goal.at.slice_bounds-admitte
 
 pub admitted-requires : goal.admitted-requires
 admitted-requires c =
-    let v = c.requires.standing in record { q_nonzero = ((v.wide, v.few, v.listed), c.requires.bounds.0); second_fits = (second_asked (kind (goal.at.admitted-requires c).Start) c.args.q (state (goal.at.admitted-requires c).Start) v.listed₂, long (goal.at.admitted-requires c).Start, c.candidate_marks-left.ensures.below); limited = (top_limited v (held (goal.at.admitted-requires c).Start), top_within v (held (goal.at.admitted-requires c).Start), top_inside v (held (goal.at.admitted-requires c).Start)) }
+    let v = c.requires.standing in record {
+      q_nonzero = ((v.wide, v.few, v.listed), c.requires.bounds.0);
+      second_fits = (
+        second_asked (kind (goal.at.admitted-requires c).Start) c.args.q (state (goal.at.admitted-requires c).Start) v.listed₂,
+        long
+            (goal.at.admitted-requires c).Start,
+        c.candidate_marks-left.ensures.below,
+      );
+      limited = (
+        top_limited v (held (goal.at.admitted-requires c).Start),
+        top_within v (held (goal.at.admitted-requires c).Start),
+        top_inside v
+            (held (goal.at.admitted-requires c).Start),
+      );
+    }
 
 pub push-risen-requires : goal.push-risen-requires
 push-risen-requires c =
     let made = (made_tried _ _ _ _ (sym c.in-Made.is ∙ tried_asked (goal.at.push-risen-requires c).After-admitted)).1 in
     record {
-      parent = rw (back (goal.at.push-risen-requires c).After-admitted) ((top_parent c.requires.standing (held (goal.at.push-risen-requires c).Start) (no (goal.at.push-risen-requires c).After-candidate_marks-left) refl c.candidate_marks-left.ensures made, c.requires.bounds.1));
+      parent = rw (back (goal.at.push-risen-requires c).After-admitted)
+          ((
+            top_parent c.requires.standing (held (goal.at.push-risen-requires c).Start) (no (goal.at.push-risen-requires c).After-candidate_marks-left) refl
+                c.candidate_marks-left.ensures made,
+            c.requires.bounds.1,
+          ));
       made_bound = (
-        made_few c.requires.standing (held (goal.at.push-risen-requires c).Start) (no (goal.at.push-risen-requires c).After-candidate_marks-left) refl c.candidate_marks-left.ensures made,
-        made_below c.requires.standing (held (goal.at.push-risen-requires c).Start) (no (goal.at.push-risen-requires c).After-candidate_marks-left) refl c.candidate_marks-left.ensures made,
+        made_few c.requires.standing (held (goal.at.push-risen-requires c).Start) (no (goal.at.push-risen-requires c).After-candidate_marks-left) refl
+            c.candidate_marks-left.ensures made,
+        made_below c.requires.standing (held (goal.at.push-risen-requires c).Start) (no (goal.at.push-risen-requires c).After-candidate_marks-left) refl
+            c.candidate_marks-left.ensures made,
       );
     }
 
 pub returns-in-TooLarge : goal.returns-in-TooLarge
 returns-in-TooLarge c =
     let large = large_tried _ _ _ _ (sym c.in-TooLarge.is ∙ tried_asked (goal.at.returns-in-TooLarge c).After-admitted) in
-    rw (back (goal.at.returns-in-TooLarge c).After-admitted) (taken_large c.requires.standing (held (goal.at.returns-in-TooLarge c).Start) (no (goal.at.returns-in-TooLarge c).After-candidate_marks-left) refl c.candidate_marks-left.ensures refl large)
+    rw (back (goal.at.returns-in-TooLarge c).After-admitted)
+    (taken_large c.requires.standing (held (goal.at.returns-in-TooLarge c).Start) (no (goal.at.returns-in-TooLarge c).After-candidate_marks-left) refl
+    c.candidate_marks-left.ensures refl large)
 
 pub returns-in-Made : goal.returns-in-Made
 returns-in-Made c =
     let (none, made) = made_tried _ _ _ _ (sym c.in-Made.is ∙ tried_asked (goal.at.returns-in-Made c).After-admitted) in
     let grown = rw (back (goal.at.returns-in-Made c).After-admitted) at c.push-risen.ensures.stack_after in
-    taken_grown c.requires.standing (held (goal.at.returns-in-Made c).Start) (no (goal.at.returns-in-Made c).After-candidate_marks-left) refl c.candidate_marks-left.ensures made none c.push-risen.ensures.value grown c.push-risen.ensures.combined
+    taken_grown c.requires.standing (held (goal.at.returns-in-Made c).Start) (no (goal.at.returns-in-Made c).After-candidate_marks-left) refl
+    c.candidate_marks-left.ensures made none c.push-risen.ensures.value grown c.push-risen.ensures.combined
     c.push-risen.ensures.totals

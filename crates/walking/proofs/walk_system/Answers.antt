@@ -67,7 +67,8 @@ module _ (t : After-take) where
   more = omega (arith, t.if-steps-stop.false, t.stop_at-stop.ensures, t.loop-height.invariant.5, t.loop-height.invariant.6)
 
   deep : max t.loop-height.deepest (get_or t.loop-height.sums (t.loop-height.height - 1) 0)
-      ≡ deeper t.args.q (beside (asked t.loop-height.stack t.loop-height.list t.loop-height.second t.loop-height.height t.loop-height.found t.loop-height.other) (kind_of r.kind) t.loop-height.steps r.steps2.0 t.loop-height.deepest)
+      ≡ deeper t.args.q (beside (asked t.loop-height.stack t.loop-height.list t.loop-height.second t.loop-height.height t.loop-height.found t.loop-height.other)
+      (kind_of r.kind) t.loop-height.steps r.steps2.0 t.loop-height.deepest)
       (top (system_with (kind_by t.args.kind t.args.lower.now) t.args.p t.args.q t.args.coefs.now t.args.limit)
       (asked t.loop-height.stack t.loop-height.list t.loop-height.second t.loop-height.height t.loop-height.found t.loop-height.other))
   deep = ap (max t.loop-height.deepest) (t.loop-height.invariant.3.summed.levels (t.loop-height.height - 1) (omega (arith, t.loop-height-test.true)))
@@ -107,12 +108,14 @@ overflow_sub-steps c = c.loop-height.invariant.6
 
 pub returns-then-steps-first : goal.returns-then-steps-first
 returns-then-steps-first c checks =
-    rw c.left.ensures (sym (ends_paused c.loop-height.invariant.3 checks c.loop-height-test.true (omega (arith, c.if-steps-first.true, c.loop-height.invariant.6))))
+    rw c.left.ensures (sym
+    (ends_paused c.loop-height.invariant.3 checks c.loop-height-test.true (omega (arith, c.if-steps-first.true, c.loop-height.invariant.6))))
 
 pub returns-then-steps-stop : goal.returns-then-steps-stop
 returns-then-steps-stop c checks =
     let at-stop = c.if-steps-stop.true in
-    let more : first (goal.at.returns-then-steps-stop c).In-loop-height + c.args.budget - c.loop-height.steps ≡ suc (first (goal.at.returns-then-steps-stop c).In-loop-height + c.args.budget - c.loop-height.steps - 1) =
+    let more : first (goal.at.returns-then-steps-stop c).In-loop-height + c.args.budget - c.loop-height.steps
+    ≡ suc (first (goal.at.returns-then-steps-stop c).In-loop-height + c.args.budget - c.loop-height.steps - 1) =
     omega (arith, c.if-steps-first.false, at-stop, stop_is (goal.at.returns-then-steps-stop c).In-loop-height, c.loop-height.invariant.6) in
     rw c.left-then-steps-stop.ensures
     (sym (ends_late c.loop-height.invariant.3 checks c.loop-height-test.true more
@@ -136,15 +139,19 @@ take-requires c =
 pub overflow_add-found : goal.overflow_add-found
 overflow_add-found c =
     let r = c.args.r in
-    let next = turn_listed (told (goal.at.overflow_add-found c).At-loop-height) (kind_of r.kind) c.loop-height.steps r.steps2.0 c.loop-height.deepest c.loop-height.invariant.3
-    c.write_gram.ensures c.loop-height-test.true (more (goal.at.overflow_add-found c).After-take) (early (goal.at.overflow_add-found c).After-take) c.take.ensures c.in-Listed.is refl refl refl refl in
+    let next = turn_listed (told (goal.at.overflow_add-found c).At-loop-height) (kind_of r.kind) c.loop-height.steps r.steps2.0 c.loop-height.deepest
+    c.loop-height.invariant.3
+    c.write_gram.ensures c.loop-height-test.true (more (goal.at.overflow_add-found c).After-take) (early (goal.at.overflow_add-found c).After-take)
+    c.take.ensures c.in-Listed.is refl refl refl refl in
     omega (arith, found_small next.valid, c.take.auto.list, c.loop-height.invariant.1, c.well_formed.1.1.1.1.1.0)
 
 pub overflow_add-other : goal.overflow_add-other
 overflow_add-other c =
     let r = c.args.r in
-    let small = second_small (told (goal.at.overflow_add-other c).At-loop-height) (kind_of r.kind) c.loop-height.steps r.steps2.0 c.loop-height.deepest c.loop-height.invariant.3
-    c.write_gram.ensures c.loop-height-test.true (more (goal.at.overflow_add-other c).After-take) (early (goal.at.overflow_add-other c).After-take) c.take.ensures c.in-ListedSecond.is in
+    let small = second_small (told (goal.at.overflow_add-other c).At-loop-height) (kind_of r.kind) c.loop-height.steps r.steps2.0 c.loop-height.deepest
+    c.loop-height.invariant.3
+    c.write_gram.ensures c.loop-height-test.true (more (goal.at.overflow_add-other c).After-take) (early (goal.at.overflow_add-other c).After-take)
+    c.take.ensures c.in-ListedSecond.is in
     omega (arith, small, c.loop-height.invariant.2, c.well_formed.1.1.1.1.1.1.0)
 
 pub shape_of-stack-in-Refused : goal.shape_of-stack-in-Refused
@@ -160,8 +167,10 @@ pub returns-in-Refused : goal.returns-in-Refused
 returns-in-Refused c checks =
     let r = c.args.r in
     rw c.left-in-Refused.ensures
-    (sym (turn_refused (told (goal.at.returns-in-Refused c).At-loop-height) (kind_of r.kind) c.loop-height.steps r.steps2.0 c.loop-height.deepest c.loop-height.invariant.3
-    c.write_gram.ensures c.loop-height-test.true (more (goal.at.returns-in-Refused c).After-take) (early (goal.at.returns-in-Refused c).After-take) c.take.ensures checks c.in-Refused.is))
+    (sym (turn_refused (told (goal.at.returns-in-Refused c).At-loop-height) (kind_of r.kind) c.loop-height.steps r.steps2.0 c.loop-height.deepest
+    c.loop-height.invariant.3
+    c.write_gram.ensures c.loop-height-test.true (more (goal.at.returns-in-Refused c).After-take) (early (goal.at.returns-in-Refused c).After-take)
+    c.take.ensures checks c.in-Refused.is))
 
 pub overflow_add-steps : goal.overflow_add-steps
 overflow_add-steps c = omega (arith, c.loop-height.invariant.5, stop_few (goal.at.overflow_add-steps c).In-loop-height)
@@ -180,12 +189,18 @@ loop-height-preserved c =
       c.take.auto.list ∙ c.loop-height.invariant.1,
       c.take.auto.second ∙ c.loop-height.invariant.2,
       elim c.match-take.branch [
-        | in-Listed v ↦ turn_listed (told (goal.at.loop-height-preserved c).At-loop-height) (kind_of r.kind) c.loop-height.steps r.steps2.0 c.loop-height.deepest w g
-            c.loop-height-test.true (more (goal.at.loop-height-preserved c).After-take) (early (goal.at.loop-height-preserved c).After-take) c.take.ensures v.in-Listed.is v.height-is v.found-is v.other-is d
-        | in-ListedSecond v ↦ turn_listed₂ (told (goal.at.loop-height-preserved c).At-loop-height) (kind_of r.kind) c.loop-height.steps r.steps2.0 c.loop-height.deepest w g
-            c.loop-height-test.true (more (goal.at.loop-height-preserved c).After-take) (early (goal.at.loop-height-preserved c).After-take) c.take.ensures v.in-ListedSecond.is v.height-is v.found-is v.other-is d
-        | in-Grown v ↦ turn_grown (told (goal.at.loop-height-preserved c).At-loop-height) (kind_of r.kind) c.loop-height.steps r.steps2.0 c.loop-height.deepest w g
-            c.loop-height-test.true (more (goal.at.loop-height-preserved c).After-take) (early (goal.at.loop-height-preserved c).After-take) c.take.ensures v.in-Grown.is v.height-is v.found-is v.other-is d
+        | in-Listed v ↦ turn_listed (told (goal.at.loop-height-preserved c).At-loop-height) (kind_of r.kind) c.loop-height.steps r.steps2.0
+            c.loop-height.deepest w g
+            c.loop-height-test.true (more (goal.at.loop-height-preserved c).After-take) (early (goal.at.loop-height-preserved c).After-take) c.take.ensures
+            v.in-Listed.is v.height-is v.found-is v.other-is d
+        | in-ListedSecond v ↦ turn_listed₂ (told (goal.at.loop-height-preserved c).At-loop-height) (kind_of r.kind) c.loop-height.steps r.steps2.0
+            c.loop-height.deepest w g
+            c.loop-height-test.true (more (goal.at.loop-height-preserved c).After-take) (early (goal.at.loop-height-preserved c).After-take) c.take.ensures
+            v.in-ListedSecond.is v.height-is v.found-is v.other-is d
+        | in-Grown v ↦ turn_grown (told (goal.at.loop-height-preserved c).At-loop-height) (kind_of r.kind) c.loop-height.steps r.steps2.0 c.loop-height.deepest
+            w g
+            c.loop-height-test.true (more (goal.at.loop-height-preserved c).After-take) (early (goal.at.loop-height-preserved c).After-take) c.take.ensures
+            v.in-Grown.is v.height-is v.found-is v.other-is d
       ],
       c.take.auto.top ∙ c.loop-height.invariant.4,
       omega (arith, c.if-steps-stop.false, c.loop-height.invariant.5),

@@ -22,7 +22,11 @@ loop-i-init c = (search rules, refl)
 
 pub returns-then-out_of_range : goal.returns-then-out_of_range
 returns-then-out_of_range c =
-    record { few = c.loop-i.invariant.0; before = c.loop-i.invariant.1; there = λ _. sym (tested (goal.at.returns-then-out_of_range c).After-out_of_range) ∙ c.if-out_of_range.true }
+    record {
+      few = c.loop-i.invariant.0;
+      before = c.loop-i.invariant.1;
+      there = λ _. sym (tested (goal.at.returns-then-out_of_range c).After-out_of_range) ∙ c.if-out_of_range.true;
+    }
 
 pub loop-i-preserved : goal.loop-i-preserved
 loop-i-preserved c =

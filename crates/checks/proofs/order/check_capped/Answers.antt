@@ -31,7 +31,8 @@ capped_fits-requires c =
 pub returns-then-not-capped_fits : goal.returns-then-not-capped_fits
 returns-then-not-capped_fits c p =
     let a = c.args in
-    capped_second p a.q (a.q + 1) _ _ (state_with a.stack.now a.list.now a.second.now a.r) _ (omega arith) (tested (goal.at.returns-then-not-capped_fits c).After-in_order)
+    capped_second p a.q (a.q + 1) _ _ (state_with a.stack.now a.list.now a.second.now a.r) _ (omega arith)
+    (tested (goal.at.returns-then-not-capped_fits c).After-in_order)
     (ap not c.if-not-in_order.false) c.capped_fits.ensures (ap not c.if-not-capped_fits.true)
 
 pub returns : goal.returns

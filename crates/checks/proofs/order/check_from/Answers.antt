@@ -28,7 +28,8 @@ pub returns-then-not-lower_in_order : goal.returns-then-not-lower_in_order
 returns-then-not-lower_in_order c p =
     let a = c.args in
     lower_second a.lower.now p a.q a.limit a.coefs.now (state_with a.stack.now a.list.now a.second.now a.r) _
-    (eq-eqb (length a.lower.now) a.q (search rules)) (tested (goal.at.returns-then-not-lower_in_order c).After-lower_in_order) (ap not c.if-not-lower_in_order.true)
+    (eq-eqb (length a.lower.now) a.q (search rules)) (tested (goal.at.returns-then-not-lower_in_order c).After-lower_in_order)
+    (ap not c.if-not-lower_in_order.true)
 
 pub returns : goal.returns
 returns c p =

@@ -42,7 +42,10 @@ pub serve_run-o-requires : goal.serve_run-o-requires
 serve_run-o-requires c =
     let ready = c.requires in
     let inv = c.loop-k.invariant in
-    record { size_in_bounds = omega (arith, ready.stacks _ (below (goal.at.serve_run-o-requires c).In-At), inv.stacks); size_in_bounds_2 = omega (arith, ready.lists _ (below (goal.at.serve_run-o-requires c).In-At), inv.lists) }
+    record {
+      size_in_bounds = omega (arith, ready.stacks _ (below (goal.at.serve_run-o-requires c).In-At), inv.stacks);
+      size_in_bounds_2 = omega (arith, ready.lists _ (below (goal.at.serve_run-o-requires c).In-At), inv.lists);
+    }
 
 pub offset_bounds-all-i-in-loop-k : goal.offset_bounds-all-i-in-loop-k
 offset_bounds-all-i-in-loop-k c = let l = below_eight (goal.at.offset_bounds-all-i-in-loop-k c).In-At in search rules

@@ -6,7 +6,8 @@ use Rattle.dispatch.proofs.turns.serve.Given as goal
 
 abbrev pub invariant-loop-k : goal.invariant-loop-k
 invariant-loop-k l =
-    Turning l.count l.shares l.coefs l.quantum (round_for l.initial.stack l.initial.list l.initial.all l.initial.number) l.turns l.k l.stack l.list l.all l.number
+    Turning l.count l.shares l.coefs l.quantum (round_for l.initial.stack l.initial.list l.initial.all l.initial.number) l.turns l.k l.stack l.list l.all
+    l.number
 
 abbrev pub decreases-loop-k : goal.decreases-loop-k
 decreases-loop-k l = l.turns - l.k

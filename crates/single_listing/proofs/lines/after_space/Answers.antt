@@ -10,4 +10,7 @@ number-requires c =
 
 pub returns : goal.returns
 returns c =
-    record { put = put_then c.byte-digits.ensures c.number.ensures; upper_bound = omega (arith, c.byte-digits.ensures.place, c.number.ensures.place, two_digits c.args.j c.requires.0) }
+    record {
+      put = put_then c.byte-digits.ensures c.number.ensures;
+      upper_bound = omega (arith, c.byte-digits.ensures.place, c.number.ensures.place, two_digits c.args.j c.requires.0);
+    }

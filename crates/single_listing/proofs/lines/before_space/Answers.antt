@@ -14,4 +14,7 @@ byte-requires c =
 
 pub returns : goal.returns
 returns c =
-    record { put = put_then c.number-end.ensures c.byte.ensures; upper_bound = omega (arith, c.byte.ensures.place, c.number-end.ensures.place, two_digits c.args.j c.requires.0) }
+    record {
+      put = put_then c.number-end.ensures c.byte.ensures;
+      upper_bound = omega (arith, c.byte.ensures.place, c.number-end.ensures.place, two_digits c.args.j c.requires.0);
+    }

@@ -17,8 +17,12 @@ after_space-next-requires c =
 
 pub loop-k-preserved : goal.loop-k-preserved
 loop-k-preserved c =
-    let l = c.loop-k in
-    (search rules, omega (arith, l.invariant.1, c.after_space-next.ensures.upper_bound), rw (order_next _ l.k) (put_then l.invariant.2 c.after_space-next.ensures.put))
+    let l = c.loop-k in (
+      search rules,
+      omega (arith, l.invariant.1, c.after_space-next.ensures.upper_bound),
+      rw (order_next _ l.k)
+          (put_then l.invariant.2 c.after_space-next.ensures.put),
+    )
 
 pub returns : goal.returns
 returns c =

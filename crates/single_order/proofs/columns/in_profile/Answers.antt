@@ -54,19 +54,24 @@ loop-i-preserved-then-is_unit c =
     (search rules, counted_one c.loop-i.invariant.1 (sym (one_tested (goal.at.loop-i-preserved-then-is_unit c).After-is_unit) ∙ c.if-is_unit.true))
 
 pub loop-i-preserved-then-is_unit-2 : goal.loop-i-preserved-then-is_unit-2
-loop-i-preserved-then-is_unit-2 c =
-    (search rules, counted_minus c.loop-i.invariant.1 (sym (one_tested (goal.at.loop-i-preserved-then-is_unit-2 c).After-is_unit) ∙ c.if-is_unit.false) (sym (minus_tested (goal.at.loop-i-preserved-then-is_unit-2 c).After-is_unit-in-loop-i) ∙ c.if-is_unit-2.true))
+loop-i-preserved-then-is_unit-2 c = (
+  search rules,
+  counted_minus c.loop-i.invariant.1 (sym (one_tested (goal.at.loop-i-preserved-then-is_unit-2 c).After-is_unit) ∙ c.if-is_unit.false)
+      (sym (minus_tested (goal.at.loop-i-preserved-then-is_unit-2 c).After-is_unit-in-loop-i) ∙ c.if-is_unit-2.true),
+)
 
 pub loop-i-preserved : goal.loop-i-preserved
 loop-i-preserved c = (
   search rules,
-  counted_zero c.loop-i.invariant.1 (sym (one_tested (goal.at.loop-i-preserved c).After-is_unit) ∙ c.if-is_unit.false) (sym (minus_tested (goal.at.loop-i-preserved c).After-is_unit-in-loop-i) ∙ c.if-is_unit-2.false)
+  counted_zero c.loop-i.invariant.1 (sym (one_tested (goal.at.loop-i-preserved c).After-is_unit) ∙ c.if-is_unit.false)
+      (sym (minus_tested (goal.at.loop-i-preserved c).After-is_unit-in-loop-i) ∙ c.if-is_unit-2.false)
       (sym (zero_tested (goal.at.loop-i-preserved c).After-is_zero) ∙ c.if-is_zero.true),
 )
 
 pub returns-in-loop-i : goal.returns-in-loop-i
 returns-in-loop-i c =
-    counted_other c.loop-i.invariant.1 _ c.loop-i-test.true (sym (one_tested (goal.at.returns-in-loop-i c).After-is_unit) ∙ c.if-is_unit.false) (sym (minus_tested (goal.at.returns-in-loop-i c).After-is_unit-in-loop-i)
+    counted_other c.loop-i.invariant.1 _ c.loop-i-test.true (sym (one_tested (goal.at.returns-in-loop-i c).After-is_unit) ∙ c.if-is_unit.false)
+    (sym (minus_tested (goal.at.returns-in-loop-i c).After-is_unit-in-loop-i)
     ∙ c.if-is_unit-2.false) (sym (zero_tested (goal.at.returns-in-loop-i c).After-is_zero) ∙ c.if-is_zero.false)
 
 pub returns-then-ones-minus_ones : goal.returns-then-ones-minus_ones

@@ -39,7 +39,8 @@ module _ (s : Start) where
       count_some =
           omega (
             arith,
-            count_step (frozen s.args.made) s.args.first s.args.q first_inside (rw (s.requires.made_bound.3, next_holds all (few s) s.requires.made_bound.2) tt),
+            count_step (frozen s.args.made) s.args.first s.args.q first_inside
+                (rw (s.requires.made_bound.3, next_holds all (few s) s.requires.made_bound.2) tt),
           )
 
   row_room : s.args.level * (s.args.q + 1) + (s.args.q + 1) ≤ length s.args.stack.now
@@ -73,7 +74,8 @@ inside l = next_inside l.loop-rest.invariant.2 (few l.before.before.before.befor
 
 -- the next row lies below row q
 low : (l : In-loop-rest) → l.loop-rest.h < l.args.q
-low l = pushed_low _ _ _ _ _ _ _ l.loop-rest.invariant.3 l.loop-rest.invariant.2 (few l.before.before.before.before.before.before.before.before.before.before.before.before) (some l) l.requires.made_bound.0
+low l = pushed_low _ _ _ _ _ _ _ l.loop-rest.invariant.3 l.loop-rest.invariant.2
+    (few l.before.before.before.before.before.before.before.before.before.before.before.before) (some l) l.requires.made_bound.0
 
 pub overflow_cast-bit : goal.overflow_cast-bit
 overflow_cast-bit c = omega (arith, few (goal.at.overflow_cast-bit c).Start, first_inside (goal.at.overflow_cast-bit c).Start)
@@ -82,7 +84,8 @@ pub overflow_shl-bit : goal.overflow_shl-bit
 overflow_shl-bit c = omega (arith, few (goal.at.overflow_shl-bit c).Start, first_inside (goal.at.overflow_shl-bit c).Start)
 
 pub overflow_sub-rest : goal.overflow_sub-rest
-overflow_sub-rest c = rw c.requires.made_bound.3 (next_le (all (goal.at.overflow_sub-rest c).Start) (few (goal.at.overflow_sub-rest c).Start) c.requires.made_bound.2)
+overflow_sub-rest c =
+    rw c.requires.made_bound.3 (next_le (all (goal.at.overflow_sub-rest c).Start) (few (goal.at.overflow_sub-rest c).Start) c.requires.made_bound.2)
 
 pub overflow_add-h : goal.overflow_add-h
 overflow_add-h c = omega (arith, few (goal.at.overflow_add-h c).Start, level_low (goal.at.overflow_add-h c).Start)
@@ -96,8 +99,10 @@ returns-then-rest-eq0 c =
     let rest = rw gone at (left_next left (few (goal.at.returns-then-rest-eq0 c).Start) c.requires.made_bound.2) in
     rw c.requires.made_bound.3
     (others_written _ _ _ _ _ _ _
-    (pushed_first _ _ _ _ _ _ _ (next_first left (few (goal.at.returns-then-rest-eq0 c).Start) c.requires.made_bound.2) (next_holds left (few (goal.at.returns-then-rest-eq0 c).Start) c.requires.made_bound.2)
-    (omega (arith, few (goal.at.returns-then-rest-eq0 c).Start, next_inside left (few (goal.at.returns-then-rest-eq0 c).Start) c.requires.made_bound.2)) c.requires.parent.0.row) rest c.requires.parent.0.cached c.requires.parent.0.summed)
+    (pushed_first _ _ _ _ _ _ _ (next_first left (few (goal.at.returns-then-rest-eq0 c).Start) c.requires.made_bound.2)
+    (next_holds left (few (goal.at.returns-then-rest-eq0 c).Start) c.requires.made_bound.2)
+    (omega (arith, few (goal.at.returns-then-rest-eq0 c).Start, next_inside left (few (goal.at.returns-then-rest-eq0 c).Start) c.requires.made_bound.2))
+    c.requires.parent.0.row) rest c.requires.parent.0.cached c.requires.parent.0.summed)
 
 pub overflow_mul-level : goal.overflow_mul-level
 overflow_mul-level c = omega (arith, row_room (goal.at.overflow_mul-level c).Start)
@@ -131,8 +136,10 @@ loop-rest-init c =
       refl,
       count_trailing_zeros 32 c.args.made + 1,
       left_next left (few (goal.at.loop-rest-init c).Start) c.requires.made_bound.2,
-      pushed_first _ _ _ _ _ _ _ (next_first left (few (goal.at.loop-rest-init c).Start) c.requires.made_bound.2) (next_holds left (few (goal.at.loop-rest-init c).Start) c.requires.made_bound.2)
-          (omega (arith, few (goal.at.loop-rest-init c).Start, next_inside left (few (goal.at.loop-rest-init c).Start) c.requires.made_bound.2)) (parent (goal.at.loop-rest-init c).After-slice_known-3-1).row,
+      pushed_first _ _ _ _ _ _ _ (next_first left (few (goal.at.loop-rest-init c).Start) c.requires.made_bound.2)
+          (next_holds left (few (goal.at.loop-rest-init c).Start) c.requires.made_bound.2)
+          (omega (arith, few (goal.at.loop-rest-init c).Start, next_inside left (few (goal.at.loop-rest-init c).Start) c.requires.made_bound.2))
+          (parent (goal.at.loop-rest-init c).After-slice_known-3-1).row,
       c.requires.parent.0.cached,
       c.requires.parent.0.summed,
       sum_is (goal.at.loop-rest-init c).After-slice_known-3-1,
@@ -161,7 +168,8 @@ write_child-requires c =
       row_fits (c.args.q + 1) _ _ (low (goal.at.write_child-requires c).In-loop-rest),
       c.requires.parent.0.long,
       c.loop-rest.invariant.0,
-      (parent (goal.at.write_child-requires c).After-slice_known-3-1).small.at_most (unknown (goal.at.write_child-requires c).In-loop-rest) (inside (goal.at.write_child-requires c).In-loop-rest),
+      (parent (goal.at.write_child-requires c).After-slice_known-3-1).small.at_most (unknown (goal.at.write_child-requires c).In-loop-rest)
+          (inside (goal.at.write_child-requires c).In-loop-rest),
     )
 
 pub write_child-requires-in-loop-rest : goal.write_child-requires-in-loop-rest
@@ -178,7 +186,13 @@ write_child-requires-in-loop-rest c =
     }
 
 pub overflow_add-sums : goal.overflow_add-sums
-overflow_add-sums c = omega (arith, c.loop-rest.invariant.6, total_fits (few (goal.at.overflow_add-sums c).Start) (parent (goal.at.overflow_add-sums c).After-slice_known-3-1).small)
+overflow_add-sums c =
+    omega (
+      arith,
+      c.loop-rest.invariant.6,
+      total_fits (few (goal.at.overflow_add-sums c).Start)
+          (parent (goal.at.overflow_add-sums c).After-slice_known-3-1).small,
+    )
 
 pub offset_bounds-sums-h : goal.offset_bounds-sums-h
 offset_bounds-sums-h c = omega (arith, few (goal.at.offset_bounds-sums-h c).Start, low (goal.at.offset_bounds-sums-h c).In-loop-rest)
@@ -188,7 +202,11 @@ bounds-sums-h c = omega (arith, few (goal.at.bounds-sums-h c).Start, low (goal.a
 
 pub overflow_add-frozen-in-loop-rest : goal.overflow_add-frozen-in-loop-rest
 overflow_add-frozen-in-loop-rest c =
-    omega (arith, pushed_room _ _ _ _ _ _ _ c.loop-rest.invariant.3 c.loop-rest.invariant.2 (few (goal.at.overflow_add-frozen-in-loop-rest c).Start) (some (goal.at.overflow_add-frozen-in-loop-rest c).In-loop-rest) c.requires.parent.0.fitting)
+    omega (
+      arith,
+      pushed_room _ _ _ _ _ _ _ c.loop-rest.invariant.3 c.loop-rest.invariant.2 (few (goal.at.overflow_add-frozen-in-loop-rest c).Start)
+          (some (goal.at.overflow_add-frozen-in-loop-rest c).In-loop-rest) c.requires.parent.0.fitting,
+    )
 
 pub overflow_add-h-in-loop-rest : goal.overflow_add-h-in-loop-rest
 overflow_add-h-in-loop-rest c = omega (arith, few (goal.at.overflow_add-h-in-loop-rest c).Start, low (goal.at.overflow_add-h-in-loop-rest c).In-loop-rest)
@@ -202,17 +220,24 @@ loop-rest-preserved c =
       c.write_child.auto.stack ∙ c.loop-rest.invariant.0,
       unknown (goal.at.loop-rest-preserved c).In-loop-rest + 1,
       left_next c.loop-rest.invariant.2 (few (goal.at.loop-rest-preserved c).Start) (some (goal.at.loop-rest-preserved c).In-loop-rest),
-      pushed_next _ _ _ _ _ _ _ c.loop-rest.invariant.3 c.loop-rest.invariant.2 (few (goal.at.loop-rest-preserved c).Start) (some (goal.at.loop-rest-preserved c).In-loop-rest) c.write_child.ensures,
+      pushed_next _ _ _ _ _ _ _ c.loop-rest.invariant.3 c.loop-rest.invariant.2 (few (goal.at.loop-rest-preserved c).Start)
+          (some (goal.at.loop-rest-preserved c).In-loop-rest) c.write_child.ensures,
       rw c.write_child.ensures
-          (combined_child from (unknown (goal.at.loop-rest-preserved c).In-loop-rest) (inside (goal.at.loop-rest-preserved c).In-loop-rest) c.loop-rest.frozen (few (goal.at.loop-rest-preserved c).Start)
-          (omega (arith, row_fits (c.args.q + 1) _ _ (low (goal.at.loop-rest-preserved c).In-loop-rest), c.requires.parent.0.long, c.loop-rest.invariant.0)) c.loop-rest.invariant.4 c.write_child-in-loop-rest.ensures),
+          (combined_child from (unknown (goal.at.loop-rest-preserved c).In-loop-rest) (inside (goal.at.loop-rest-preserved c).In-loop-rest) c.loop-rest.frozen
+          (few (goal.at.loop-rest-preserved c).Start)
+          (omega (arith, row_fits (c.args.q + 1) _ _ (low (goal.at.loop-rest-preserved c).In-loop-rest), c.requires.parent.0.long, c.loop-rest.invariant.0))
+          c.loop-rest.invariant.4 c.write_child-in-loop-rest.ensures),
       rw c.write_child.ensures
-          (totals_row (x (goal.at.loop-rest-preserved c).After-slice_known-3-1) (λ k kh ne. omega arith) (omega (arith, few (goal.at.loop-rest-preserved c).Start, low (goal.at.loop-rest-preserved c).In-loop-rest)) (unknown (goal.at.loop-rest-preserved c).In-loop-rest) (inside (goal.at.loop-rest-preserved c).In-loop-rest) c.loop-rest.frozen
-          (omega (arith, row_fits (c.args.q + 1) _ _ (low (goal.at.loop-rest-preserved c).In-loop-rest), c.requires.parent.0.long, c.loop-rest.invariant.0)) c.loop-rest.invariant.6 c.loop-rest.invariant.5),
+          (totals_row (x (goal.at.loop-rest-preserved c).After-slice_known-3-1) (λ k kh ne. omega arith)
+          (omega (arith, few (goal.at.loop-rest-preserved c).Start, low (goal.at.loop-rest-preserved c).In-loop-rest))
+          (unknown (goal.at.loop-rest-preserved c).In-loop-rest) (inside (goal.at.loop-rest-preserved c).In-loop-rest) c.loop-rest.frozen
+          (omega (arith, row_fits (c.args.q + 1) _ _ (low (goal.at.loop-rest-preserved c).In-loop-rest), c.requires.parent.0.long, c.loop-rest.invariant.0))
+          c.loop-rest.invariant.6 c.loop-rest.invariant.5),
       c.loop-rest.invariant.6,
     )
 
 pub returns : goal.returns
 returns c =
     others_same (λ j l. sym (same (goal.at.returns c).After-slice_known-3-1 j l))
-    (others_written _ _ _ _ _ _ _ c.loop-rest.invariant.3 (rw c.loop-rest-test.false at c.loop-rest.invariant.2) c.loop-rest.invariant.4 c.loop-rest.invariant.5)
+    (others_written _ _ _ _ _ _ _ c.loop-rest.invariant.3 (rw c.loop-rest-test.false at c.loop-rest.invariant.2) c.loop-rest.invariant.4
+    c.loop-rest.invariant.5)

@@ -13,7 +13,8 @@ use Rattle.step.proofs.children.push_others.Given as goal
 
 abbrev pub invariant-loop-rest : goal.invariant-loop-rest
 invariant-loop-rest l =
-    (length l.stack ≡ length l.initial.stack) × (n : ℕ) × Left l.q (frozen l.made) n l.rest × Pushed l.q l.initial.stack l.level (tuple l.top) l.marks (frozen l.made) l.first n l.stack l.h l.frozen
+    (length l.stack ≡ length l.initial.stack) × (n : ℕ) × Left l.q (frozen l.made) n l.rest
+    × Pushed l.q l.initial.stack l.level (tuple l.top) l.marks (frozen l.made) l.first n l.stack l.h l.frozen
     × Combined l.q l.gram l.stack l.h l.inner
     × Totals l.q l.stack l.h l.sums
     × (l.sum ≡ total (tuple l.top) l.q)

@@ -38,7 +38,8 @@ rows-smaller c =
 pub rows-preserved : goal.rows-preserved
 rows-preserved c = (
   c.rows.invariant.0,
-  left_next _ _ _ _ _ c.rows.invariant.1 (omega (arith, c.rows-test.true)) _ c.loop-j-test.true (lt-leb _ _ (rw (component (goal.at.rows-preserved c).Joined-j-eq0) at c.if-x-list.true)),
+  left_next _ _ _ _ _ c.rows.invariant.1 (omega (arith, c.rows-test.true)) _ c.loop-j-test.true
+      (lt-leb _ _ (rw (component (goal.at.rows-preserved c).Joined-j-eq0) at c.if-x-list.true)),
 )
 
 pub loop-j-preserved : goal.loop-j-preserved

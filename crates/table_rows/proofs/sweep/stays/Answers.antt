@@ -21,7 +21,10 @@ pub overflow_mul-m : goal.overflow_mul-m
 overflow_mul-m c = omega (arith, c.requires.0, row_fits c.args.q c.loop-m.m c.args.n (omega (arith, c.loop-m-test.true, c.requires.1, c.requires.2)))
 
 pub below-requires : goal.below-requires
-below-requires c = (omega (arith, c.requires.0, row_fits c.args.q c.loop-m.m c.args.n (omega (arith, c.loop-m-test.true, c.requires.1, c.requires.2))), c.loop-m.invariant.1)
+below-requires c = (
+  omega (arith, c.requires.0, row_fits c.args.q c.loop-m.m c.args.n (omega (arith, c.loop-m-test.true, c.requires.1, c.requires.2))),
+  c.loop-m.invariant.1,
+)
 
 pub returns-then-below : goal.returns-then-below
 returns-then-below c = sym (goes_earlier _ _ _ _ _ c.loop-m.m c.loop-m-test.true (sym c.below.ensures ∙ c.if-below.true))
@@ -69,7 +72,8 @@ loop-next-preserved c = (
 )
 
 pub returns-in-loop-next : goal.returns-in-loop-next
-returns-in-loop-next c = sym (goes_later _ _ _ _ _ c.loop-next.next c.loop-next.invariant.0 c.loop-next-test.true (sym c.below-in-loop-next.ensures ∙ c.if-not-below.false)
+returns-in-loop-next c =
+    sym (goes_later _ _ _ _ _ c.loop-next.next c.loop-next.invariant.0 c.loop-next-test.true (sym c.below-in-loop-next.ensures ∙ c.if-not-below.false)
     (sym c.below-in-loop-next-2.ensures ∙ c.if-below-2.false))
 
 pub returns : goal.returns

@@ -8,7 +8,8 @@ use mathlib.Core.Path.{◌≡◌}
 use Rattle.table_rows.proofs.sweep.sweep.Given as goal
 
 abbrev pub invariant-loop-i : goal.invariant-loop-i
-invariant-loop-i l = (l.i ≤ l.n) × (length l.table ≡ length l.initial.table) × Kept l.q l.i (keeps l.q l.n (at l.initial.table l.q)) l.initial.table l.table l.kept
+invariant-loop-i l = (l.i ≤ l.n) × (length l.table ≡ length l.initial.table)
+    × Kept l.q l.i (keeps l.q l.n (at l.initial.table l.q)) l.initial.table l.table l.kept
 
 abbrev pub decreases-loop-i : goal.decreases-loop-i
 decreases-loop-i l = l.n - l.i

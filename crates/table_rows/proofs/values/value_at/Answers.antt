@@ -15,12 +15,14 @@ loop-j-init c = (search rules, refl)
 
 pub sum_and-sum-requires : goal.sum_and-sum-requires
 sum_and-sum-requires c =
-    let all = product_fits c.requires.0 c.requires.1 c.loop-j.j (bits_are c.loop-j.auto.sum-fits c.loop-j.invariant.1) c.loop-j-test.true c.wide.ensures c.natural.ensures in
+    let all = product_fits c.requires.0 c.requires.1 c.loop-j.j (bits_are c.loop-j.auto.sum-fits c.loop-j.invariant.1) c.loop-j-test.true c.wide.ensures
+    c.natural.ensures in
     record { sfits = all.0; sfits_2 = all.1 }
 
 pub loop-j-preserved : goal.loop-j-preserved
 loop-j-preserved c =
-    let bits = product_added c.requires.0 c.requires.1 c.loop-j.j (bits_are c.loop-j.auto.sum-fits c.loop-j.invariant.1) c.loop-j-test.true c.wide.ensures c.natural.ensures
+    let bits = product_added c.requires.0 c.requires.1 c.loop-j.j (bits_are c.loop-j.auto.sum-fits c.loop-j.invariant.1) c.loop-j-test.true c.wide.ensures
+    c.natural.ensures
     c.sum_and-sum.ensures in
     (search rules, sum_read c.requires.0 c.requires.1 (c.loop-j.j + 1) bits (omega arith))
 

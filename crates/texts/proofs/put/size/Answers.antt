@@ -17,11 +17,13 @@ overflow_sub-result c = rw (to_z-of_z c.ranges.z) (fits (goal.at.overflow_sub-re
 
 pub overflow_cast-result : goal.overflow_cast-result
 overflow_cast-result c = let (a, b) = size_negative c.args.z (rw (to_z-of_z c.ranges.z) at c.if-z-lt0.true) in
-    rw (to_z-of_z c.ranges.z, to_z-of_z {w = w32} {z = pos 0 -ℤ c.args.z} (fits (goal.at.overflow_cast-result c).Start)) (a, record { fits = omega (arith, b, c.requires) })
+    rw (to_z-of_z c.ranges.z, to_z-of_z {w = w32} {z = pos 0 -ℤ c.args.z} (fits (goal.at.overflow_cast-result c).Start))
+    (a, record { fits = omega (arith, b, c.requires) })
 
 pub returns-then-z-lt0 : goal.returns-then-z-lt0
 returns-then-z-lt0 c = let (a, b) = size_negative c.args.z (rw (to_z-of_z c.ranges.z) at c.if-z-lt0.true) in
     rw (to_z-of_z c.ranges.z, to_z-of_z {w = w32} {z = pos 0 -ℤ c.args.z} (fits (goal.at.returns-then-z-lt0 c).Start)) b
 
 pub overflow_cast-result-2 : goal.overflow_cast-result-2
-overflow_cast-result-2 c = rw (to_z-of_z c.ranges.z) (size_other c.args.z (rw (to_z-of_z c.ranges.z) at c.if-z-lt0.false), record { fits = omega (arith, c.requires) })
+overflow_cast-result-2 c =
+    rw (to_z-of_z c.ranges.z) (size_other c.args.z (rw (to_z-of_z c.ranges.z) at c.if-z-lt0.false), record { fits = omega (arith, c.requires) })

@@ -25,7 +25,8 @@ state_at s = let a = s.args in state_with a.stack.now a.list.now a.second.now a.
 
 -- what the definitions say of the plain walk
 abbrev meant : After-walk_system-o → Outcome State
-meant w = plainly w.args.lower.now (input_at w.before.before.before.before.before.before.before.before.before.before.before) (state_at w.before.before.before.before.before.before.before.before.before.before.before) w.requires.0 w.requires.1 w.args.budget
+meant w = plainly w.args.lower.now (input_at w.before.before.before.before.before.before.before.before.before.before.before)
+    (state_at w.before.before.before.before.before.before.before.before.before.before.before) w.requires.0 w.requires.1 w.args.budget
 
 -- the walk that was made is that one
 made : (w : After-walk_system-o) → let a = w.args in walk a.budget (machine_of (λ t. paper.go) (system_with plain a.p a.q a.coefs.now w.limit_of-most.result))
@@ -41,39 +42,53 @@ made w =
     w.plain_part.ensures
 
 pub walk_system-o-requires : goal.walk_system-o-requires
-walk_system-o-requires c =
-    (rw (c.plain_part.ensures, c.limit_of-most.ensures) (plain_valid c.args.lower.now (input_at (goal.at.walk_system-o-requires c).Start) (state_at (goal.at.walk_system-o-requires c).Start) c.requires.1 c.requires.0), tt)
+walk_system-o-requires c = (
+  rw (c.plain_part.ensures, c.limit_of-most.ensures)
+      (plain_valid c.args.lower.now (input_at (goal.at.walk_system-o-requires c).Start) (state_at (goal.at.walk_system-o-requires c).Start) c.requires.1
+      c.requires.0),
+  tt,
+)
 
 -- the record has the steps of the plain walk more, and these are within the budget
 pub overflow_sub-left : goal.overflow_sub-left
 overflow_sub-left c =
     let e = ap (λ o. o.state.run.steps) (c.walk_system-o.ensures (λ t. paper.go) ∙ made (goal.at.overflow_sub-left c).After-walk_system-o) in
-    omega (arith, e, (steps_more c.args.lower.now (input_at (goal.at.overflow_sub-left c).Start) (state_at (goal.at.overflow_sub-left c).Start) c.requires.0 c.requires.1 c.args.budget).0)
+    omega (
+      arith,
+      e,
+      (steps_more c.args.lower.now (input_at (goal.at.overflow_sub-left c).Start) (state_at (goal.at.overflow_sub-left c).Start) c.requires.0
+          c.requires.1 c.args.budget).0,
+    )
 
 pub overflow_sub-left-in-Complete : goal.overflow_sub-left-in-Complete
 overflow_sub-left-in-Complete c =
     let e = ap (λ o. o.state.run.steps) (c.walk_system-o.ensures (λ t. paper.go) ∙ made (goal.at.overflow_sub-left-in-Complete c).After-walk_system-o) in
-    let m = steps_more c.args.lower.now (input_at (goal.at.overflow_sub-left-in-Complete c).Start) (state_at (goal.at.overflow_sub-left-in-Complete c).Start) c.requires.0 c.requires.1 c.args.budget in
+    let m = steps_more c.args.lower.now (input_at (goal.at.overflow_sub-left-in-Complete c).Start) (state_at (goal.at.overflow_sub-left-in-Complete c).Start)
+    c.requires.0 c.requires.1 c.args.budget in
     omega (arith, e, m.0, m.1)
 
 pub write_lower-requires : goal.write_lower-requires
 write_lower-requires c =
     let e = ap (λ o. length o.state.stack) (c.walk_system-o.ensures (λ t. paper.go) ∙ made (goal.at.write_lower-requires c).After-walk_system-o) in
-    let f = first_row c.args.lower.now (input_at (goal.at.write_lower-requires c).Start) (state_at (goal.at.write_lower-requires c).Start) c.requires.0 c.requires.1 c.args.budget in
+    let f = first_row c.args.lower.now (input_at (goal.at.write_lower-requires c).Start) (state_at (goal.at.write_lower-requires c).Start) c.requires.0
+    c.requires.1 c.args.budget in
     (omega (arith, e, f.0), f.1)
 
 pub further-requires : goal.further-requires
 further-requires c =
     let told = c.walk_system-o.ensures (λ t. paper.go) ∙ made (goal.at.further-requires c).After-walk_system-o in
-    let m = change_made c.args.lower.now (input_at (goal.at.further-requires c).Start) (state_at (goal.at.further-requires c).Start) c.requires.0 c.requires.1 c.args.budget c.walk_system-o.result told
+    let m = change_made c.args.lower.now (input_at (goal.at.further-requires c).Start) (state_at (goal.at.further-requires c).Start) c.requires.0 c.requires.1
+    c.args.budget c.walk_system-o.result told
     c.write_lower.ensures c.lowered.ensures in
-    let v = change_valid c.args.lower.now (input_at (goal.at.further-requires c).Start) (state_at (goal.at.further-requires c).Start) c.requires.0 c.requires.1 c.args.budget in
+    let v = change_valid c.args.lower.now (input_at (goal.at.further-requires c).Start) (state_at (goal.at.further-requires c).Start) c.requires.0 c.requires.1
+    c.args.budget in
     (subst (ValidFrom c.args.lower.now (input_at (goal.at.further-requires c).Start)) (sym m) v, ap (λ r. kind_of r.kind) c.lowered.ensures)
 
 pub returns-in-Started : goal.returns-in-Started
 returns-in-Started c =
     rw c.whole.ensures
-    (ended_by c.args.lower.now (input_at (goal.at.returns-in-Started c).Start) (state_at (goal.at.returns-in-Started c).Start) c.requires.0 c.requires.1 c.args.budget _ (c.walk_system-o.ensures (λ t. paper.go) ∙ made (goal.at.returns-in-Started c).After-walk_system-o)
+    (ended_by c.args.lower.now (input_at (goal.at.returns-in-Started c).Start) (state_at (goal.at.returns-in-Started c).Start) c.requires.0 c.requires.1
+    c.args.budget _ (c.walk_system-o.ensures (λ t. paper.go) ∙ made (goal.at.returns-in-Started c).After-walk_system-o)
     c.in-Started.is refl (λ e. let z : ◌≡◌ {A = ℕ} 0 1 = cc in omega arith))
 
 pub shape_of-stack-in-Complete : goal.shape_of-stack-in-Complete
@@ -91,24 +106,29 @@ shape_of-second-in-Complete c =
 pub returns-in-Complete : goal.returns-in-Complete
 returns-in-Complete c =
     let told = c.walk_system-o.ensures (λ t. paper.go) ∙ made (goal.at.returns-in-Complete c).After-walk_system-o in
-    let m = steps_more c.args.lower.now (input_at (goal.at.returns-in-Complete c).Start) (state_at (goal.at.returns-in-Complete c).Start) c.requires.0 c.requires.1 c.args.budget in
+    let m = steps_more c.args.lower.now (input_at (goal.at.returns-in-Complete c).Start) (state_at (goal.at.returns-in-Complete c).Start) c.requires.0
+    c.requires.1 c.args.budget in
     let counted = ap (λ o. o.state.run.steps) told in
     let left : ℕ = c.args.budget - (c.walk_system-o.result.run.steps.0 - c.args.r.steps2.0) in
     c.further.ensures
     ∙ ap (walk left (machine_from c.args.lower.now (input_at (goal.at.returns-in-Complete c).Start)))
-    (change_made c.args.lower.now (input_at (goal.at.returns-in-Complete c).Start) (state_at (goal.at.returns-in-Complete c).Start) c.requires.0 c.requires.1 c.args.budget c.walk_system-o.result told
+    (change_made c.args.lower.now (input_at (goal.at.returns-in-Complete c).Start) (state_at (goal.at.returns-in-Complete c).Start) c.requires.0 c.requires.1
+    c.args.budget c.walk_system-o.result told
     c.write_lower.ensures c.lowered.ensures)
-    ∙ changed_walk c.args.lower.now (input_at (goal.at.returns-in-Complete c).Start) (state_at (goal.at.returns-in-Complete c).Start) c.requires.0 c.requires.1 c.args.budget
+    ∙ changed_walk c.args.lower.now (input_at (goal.at.returns-in-Complete c).Start) (state_at (goal.at.returns-in-Complete c).Start) c.requires.0 c.requires.1
+    c.args.budget
     (sym (ap (λ o. o.answer) told) ∙ ap answer_of c.in-Complete.is) left (omega (arith, counted, m.0, m.1))
 
 pub returns-in-Paused : goal.returns-in-Paused
 returns-in-Paused c =
     rw c.whole-in-Paused.ensures
-    (ended_by c.args.lower.now (input_at (goal.at.returns-in-Paused c).Start) (state_at (goal.at.returns-in-Paused c).Start) c.requires.0 c.requires.1 c.args.budget _ (c.walk_system-o.ensures (λ t. paper.go) ∙ made (goal.at.returns-in-Paused c).After-walk_system-o)
+    (ended_by c.args.lower.now (input_at (goal.at.returns-in-Paused c).Start) (state_at (goal.at.returns-in-Paused c).Start) c.requires.0 c.requires.1
+    c.args.budget _ (c.walk_system-o.ensures (λ t. paper.go) ∙ made (goal.at.returns-in-Paused c).After-walk_system-o)
     c.in-Paused.is refl (λ e. let z : ◌≡◌ {A = ℕ} 0 1 = cc in omega arith))
 
 pub returns-in-Refused : goal.returns-in-Refused
 returns-in-Refused c =
     rw c.whole-in-Refused.ensures
-    (ended_by c.args.lower.now (input_at (goal.at.returns-in-Refused c).Start) (state_at (goal.at.returns-in-Refused c).Start) c.requires.0 c.requires.1 c.args.budget _ (c.walk_system-o.ensures (λ t. paper.go) ∙ made (goal.at.returns-in-Refused c).After-walk_system-o)
+    (ended_by c.args.lower.now (input_at (goal.at.returns-in-Refused c).Start) (state_at (goal.at.returns-in-Refused c).Start) c.requires.0 c.requires.1
+    c.args.budget _ (c.walk_system-o.ensures (λ t. paper.go) ∙ made (goal.at.returns-in-Refused c).After-walk_system-o)
     c.in-Refused.is refl (λ e. let z : ◌≡◌ {A = ℕ} 0 1 = cc in omega arith))

@@ -23,8 +23,12 @@ unasked : State → Check
 unasked s = go
 
 pub walk_system-requires : goal.walk_system-requires
-walk_system-requires c =
-    (rw c.limit_of-most.ensures (above_valid c.args.lower.now (input_at (goal.at.walk_system-requires c).Start) (state_at (goal.at.walk_system-requires c).Start) c.requires.1 c.requires.0), omega (arith, c.requires.0.long))
+walk_system-requires c = (
+  rw c.limit_of-most.ensures
+      (above_valid c.args.lower.now (input_at (goal.at.walk_system-requires c).Start) (state_at (goal.at.walk_system-requires c).Start) c.requires.1
+      c.requires.0),
+  omega (arith, c.requires.0.long),
+)
 
 pub returns : goal.returns
 returns c =
