@@ -46,6 +46,8 @@ def tokens(text, tele):
     text = re.sub(r"(?<=\))\.(?=[^\s(){}\[\],;.])", " .", text)
     words = re.findall(r"[^\s(){}\[\],;]+|[(){}\[\],;]", text)
     words = [w for w in words if w not in ("pub", "(", ")", ",")]
+    # what is laid out over lines has one sign more at its end
+    words = [w for i, w in enumerate(words) if w != ";" or words[i + 1 : i + 2] != ["}"]]
     return words
 
 
