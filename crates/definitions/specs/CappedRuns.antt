@@ -1,6 +1,6 @@
 -- Runs with right sides, by computation (document 02, Job 1): right sides of 0, whose list at 1 is the zero row and whose list at 0 is the plain map's; one
 -- that no tuple meets; one that a unit tuple meets; one cut short, and with too little room in either list. Each is begun on tables and a record with old
--- content. The greatest sum counts the extra unknown. (A longer run: laws/specs/CappedExample.antt.) Assumes nothing.
+-- content. The greatest sum counts the extra unknown. (A longer run: laws/proofs/CappedExample.antt.) Assumes nothing.
 use Rattle.std.specs.Prelude.{ℕ, ◌*◌, ◌≡◌, refl, false, true, List, ◌∷◌, map, [], ℤ, pos, negsuc, get_or, length, replicate, take}
 use Rattle.linear.specs.Sums.{sum_to}
 use Rattle.linear.specs.Tests.{all_to, any_to, count_to}

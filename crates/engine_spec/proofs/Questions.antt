@@ -1,5 +1,5 @@
 -- Questions about the lists of the engine (document 02, Jobs 7, 8 and 13), with the engine's own 1 and 2: they take its lists as they are. What holds of every
--- list is in theorems/specs/Reasons.antt and multiples_spec/specs/Plans.antt, whatever the most equations and unknowns are; here is what holds of the list
+-- list is in theorems/proofs/Reasons.antt and multiples_spec/proofs/Plans.antt, whatever the most equations and unknowns are; here is what holds of the list
 -- that a continuing call of a run left, where it answered "complete". Assumes nothing.
 use Rattle.std.specs.Prelude.{◌≡◌, refl, ◌≢◌, List, ℕ, ◌*◌, ◌≤◌, ◌<◌, ℤ, nat_abs, pos, get_or, length}
 use Rattle.std.proofs.Common.{inl, inr, arith}

@@ -47,6 +47,7 @@ pub fn reader_answer(q: usize) -> Readable
 }
 
 // Whether there is a row n to show, of a reader that is not refused.
+#[tactic(auto, unfolding(crate::specs::Reading::shows, definitions::specs::Reader::has_row))]
 fn shows_row(list: &[u32], q: usize, found: Solutions, n: usize) -> bool
     ensures { result ≡ shows q list.now found.0 n }
 {

@@ -1,3 +1,3 @@
 #![tactic(auto)]
 
-// A map in the place of another, with the same minimal solutions, and numbers that show it: see specs/Promises.antt. No code.
+// A map in the place of another, with the same minimal solutions, and numbers that show it: see proofs/Promises.antt. No code.

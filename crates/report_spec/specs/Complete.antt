@@ -1,6 +1,6 @@
 -- THE PROMISE OF THE PROGRAM: where "end complete" is printed, the rows printed are exactly the basis of the map read; where "end paused" or "end refused 11"
 -- is, they are of it. It is about the definition of what is printed (`printed`), with which the contract of `report` equates what the code writes. Which texts
--- are read as a map and which refusal another gets: map_text/specs/RuleLaws.antt (`text_renders`). Assumes nothing.
+-- are read as a map and which refusal another gets: map_text/proofs/RuleLaws.antt (`text_renders`). Assumes nothing.
 use Rattle.std.specs.Prelude.{ℕ, List, ◌++◌, map, ◌≡◌, ℤ, pos}
 use Rattle.definitions.specs.Answers.{complete, refused}
 use Rattle.definitions.specs.Input.{Input, input_of, map_of}

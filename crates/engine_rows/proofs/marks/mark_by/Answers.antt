@@ -2,8 +2,9 @@
 use native.Mathlib.Omega.{arith}
 use Rattle.laws.proofs.TableLaws.{row_fits}
 use Rattle.engine_rows.specs.Marking.{mark_small, marked_by, value_read}
-use mathlib.Core.Path.{ap}
-use mathlib.Core.Bool.{not}
+use mathlib.Core.Path.{◌≡◌, ap}
+use mathlib.Core.Bool.{not, true}
+use borrow.Author.Rules.{rules}
 use Rattle.engine_rows.proofs.marks.mark_by.Goals as goal
 
 pub returns-then-n-m : goal.returns-then-n-m
@@ -26,9 +27,6 @@ below-requires c = (
   omega (arith, c.requires.0.whole, row_fits c.args.q c.args.i c.args.n c.requires.2),
 )
 
-pub returns-then-not-below : goal.returns-then-not-below
-returns-then-not-below c = λ h. absurd (omega arith)
-
 pub size-requires : goal.size-requires
 size-requires c =
     rw (value_read c.requires.1 c.args.i c.requires.2) (c.requires.1.each c.args.i c.requires.2)
@@ -44,5 +42,6 @@ overflow_add-result c =
 
 pub returns : goal.returns
 returns c =
+    let under : c.below.result ≡ true = search rules in
     λ h. marked_by c.requires.1 c.requires.2 c.if-n-m.false c.size.ensures c.size-2.ensures
-    c.args.q c.args.table.now c.opposed.ensures (ap not c.if-not-opposed.false) c.below.ensures (ap not c.if-not-below.false)
+    c.args.q c.args.table.now c.opposed.ensures (ap not c.if-not-opposed.false) c.below.ensures (ap not under)

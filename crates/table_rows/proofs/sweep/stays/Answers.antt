@@ -68,13 +68,13 @@ loop-next-preserved c = (
   search rules,
   c.loop-next.invariant.2,
   c.loop-next.invariant.3,
-  later_same _ _ _ c.loop-next.next c.loop-next.invariant.4 (sym c.below-in-loop-next-2.ensures ∙ c.if-below-2.true),
+  later_same _ _ _ c.loop-next.next c.loop-next.invariant.4 (sym c.below-in-loop-next-2.ensures ∙ search rules),
 )
 
 pub returns-in-loop-next : goal.returns-in-loop-next
 returns-in-loop-next c =
     sym (goes_later _ _ _ _ _ c.loop-next.next c.loop-next.invariant.0 c.loop-next-test.true (sym c.below-in-loop-next.ensures ∙ c.if-not-below.false)
-    (sym c.below-in-loop-next-2.ensures ∙ c.if-below-2.false))
+    (sym c.below-in-loop-next-2.ensures ∙ search rules))
 
 pub returns : goal.returns
 returns c = sym (stays_both _ _ _ _ _ c.loop-next.invariant.3 (rw (le_antisymm c.loop-next.invariant.1 c.loop-next-test.false) at c.loop-next.invariant.4))
