@@ -41,18 +41,17 @@ def statement(leaf):
     return text[: len(lines[0]) + cut.start()] if cut and " :" in lines[0] else text
 
 
-def tokens(text, tele):
+def tokens(text):
+    """The words and brackets of a statement; what is laid out over lines has one comma or semicolon more before a bracket that closes."""
     text = re.sub(r"(?<=[^\s(){}\[\],;])\.(?=[^\s(){}\[\],;.])", " .", text)
     text = re.sub(r"(?<=\))\.(?=[^\s(){}\[\],;.])", " .", text)
-    words = re.findall(r"[^\s(){}\[\],;]+|[(){}\[\],;]", text)
-    words = [w for w in words if w not in ("pub", "(", ")", ",")]
-    # what is laid out over lines has one sign more at its end
-    words = [w for i, w in enumerate(words) if w != ";" or words[i + 1 : i + 2] != ["}"]]
-    return words
+    words = [w for w in re.findall(r"[^\s(){}\[\],;]+|[(){}\[\],;]", text) if w != "pub"]
+    return [w for i, w in enumerate(words) if w not in (";", ",") or words[i + 1 : i + 2] not in (["}"], [")"], ["]"])]
 
 
 def squeezed(words, tele):
-    """The words without runs of the parameters behind a name."""
+    """The words without runs of the parameters behind a name, and without the brackets that these bring."""
+    words = [w for w in words if w not in ("(", ")", ",")]
     while True:
         out, i = [], 0
         while i < len(words):
@@ -84,8 +83,8 @@ def main(old, new):
                     gone += 1
                     print(f"gone: {c} {mod} {name}")
                     continue
-                x = tokens(statement(leaf), tele)
-                ys = [tokens(statement(l), tele) for l, _, _ in found]
+                x = tokens(statement(leaf))
+                ys = [tokens(statement(l)) for l, _, _ in found]
                 if x in ys:
                     same += 1
                 elif any(squeezed(x, tele) == squeezed(y, tele) for y in ys):
