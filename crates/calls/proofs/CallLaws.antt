@@ -1,22 +1,20 @@
 -- A call as its check decides: refused, with all that was lent left as it was, or done. Assumes nothing.
-use Rattle.std.specs.Prelude.{◌≡◌}
+use Rattle.std.specs.Prelude.{◌≡◌, Result, Ok, Err}
 use Rattle.std.proofs.Common.{sym, ◌∙◌, ap}
 use Rattle.definitions.specs.Answers as paper
 use Rattle.definitions.specs.Machine as machine
 use Rattle.calls.specs.Paper.{number_of, values_of, check_of}
 use Rattle.calls.specs.declared.Refusal.{Refusal}
-use Rattle.calls.specs.declared.Check.{Check}
-use Rattle.calls.specs.declared.Check.TheVariants.{Refuse, Pass}
 
-module _ {r : Check} {c : paper.Check} (e : check_of r ≡ c) {S : Type 0} (s : S) (work : S → machine.Outcome S) where
-  pub call_refused : {why : Refusal} → r ≡ Refuse why → record { answer = paper.refused (number_of why) (values_of why); state = s } ≡ machine.checked c s work
+module _ {r : Result (Unit {0}) Refusal} {c : paper.Check} (e : check_of r ≡ c) {S : Type 0} (s : S) (work : S → machine.Outcome S) where
+  pub call_refused : {why : Refusal} → r ≡ Err why → record { answer = paper.refused (number_of why) (values_of why); state = s } ≡ machine.checked c s work
   unfolding machine.checked
   call_refused h = rw (← e, h)
 
-  pub call_passed : r ≡ Pass → {o : machine.Outcome S} → o ≡ work s → o ≡ machine.checked c s work
+  pub call_passed : {x : Unit {0}} → r ≡ Ok x → {o : machine.Outcome S} → o ≡ work s → o ≡ machine.checked c s work
   unfolding machine.checked
   call_passed h g = rw (← e, h) g
 
 -- a check that passed
-pub passes : {r : Check} {c : paper.Check} → check_of r ≡ c → r ≡ Pass → c ≡ paper.go
+pub passes : {r : Result (Unit {0}) Refusal} {c : paper.Check} {x : Unit {0}} → check_of r ≡ c → r ≡ Ok x → c ≡ paper.go
 passes e h = sym e ∙ ap check_of h

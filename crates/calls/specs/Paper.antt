@@ -1,5 +1,5 @@
 -- The calls' types as document 01 has them: a system, all that is lent, and for each case of an answer its number and values. Assumes nothing.
-use Rattle.std.specs.Prelude.{ℕ, List, [], ◌∷◌, ℤ}
+use Rattle.std.specs.Prelude.{ℕ, List, [], ◌∷◌, ℤ, Result, Ok, Err}
 use Rattle.definitions.specs.Answers as paper
 use Rattle.definitions.specs.Machine as machine
 use Rattle.definitions.specs.System.{Kind, System, plain}
@@ -17,8 +17,6 @@ use Rattle.calls.specs.declared.Refusal.TheVariants.{Generators, Column, TablesF
 use Rattle.calls.specs.declared.Answer.{Answer}
 use Rattle.calls.specs.declared.Answer.TheVariants.{Started, Complete, Paused, Refused}
 use Rattle.calls.specs.declared.Outcome.{Outcome}
-use Rattle.calls.specs.declared.Check.{Check}
-use Rattle.calls.specs.declared.Check.TheVariants.{Refuse, Pass}
 
 -- the system that a walk of a kind goes through
 abbrev pub system_with : Kind → ℕ → ℕ → List ℤ → ℕ → System
@@ -112,9 +110,10 @@ answer_of Complete = paper.complete
 answer_of Paused = paper.paused
 answer_of (Refused why) = paper.refused (number_of why) (values_of why)
 
-abbrev pub check_of : Check → paper.Check
-check_of (Refuse why) = paper.refuse (number_of why) (values_of why)
-check_of Pass = paper.go
+-- what a check finds: a refusal, or nothing against going on
+abbrev pub check_of : Result (Unit {0}) Refusal → paper.Check
+check_of (Err why) = paper.refuse (number_of why) (values_of why)
+check_of (Ok _) = paper.go
 
 -- ---- what a call leaves
 

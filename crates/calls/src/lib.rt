@@ -26,7 +26,7 @@ pub struct Steps(pub u64);
 pub struct Solutions(pub usize);
 
 // The kinds of run, as the run record has them.
-#[derive(Clone, Copy)]
+#[derive(Clone, Copy, PartialEq, Eq)]
 pub enum RunKind {
     Plain,
     Capped,
@@ -52,7 +52,7 @@ pub fn run_number(kind: RunKind) -> u64
 pub fn same_run(a: RunKind, b: RunKind) -> bool
     ensures { result ≡ is_run (kind_of a) (kind_of b) }
 {
-    run_number(a) == run_number(b)
+    a == b
 }
 
 // The run record. Where a run has two lists, `found2` counts the rows of the second one; of a run from a lower bound `steps2` are the steps of its plain walk.
@@ -175,13 +175,6 @@ pub enum Answer {
 pub struct Outcome {
     pub answer: Answer,
     pub run: Record,
-}
-
-// What a check finds.
-#[derive(Clone, Copy)]
-pub enum Check {
-    Refuse(Refusal),
-    Pass,
 }
 
 // What a start that is not refused answers.
