@@ -1,14 +1,12 @@
 -- The record, what is lent and what a call leaves, as the definitions have them; and a call after its check. Assumes nothing.
-use Rattle.std.specs.Prelude.{ℕ, List, ◌≡◌, ℤ, length}
+use Rattle.std.specs.Prelude.{ℕ, List, ◌≡◌, ℤ, Result, Ok, Err, length}
 use Rattle.definitions.specs.Answers as paper
 use Rattle.engine_spec.specs.Calls.{Lengths, checked}
-use Rattle.engine_spec.specs.Engine.{Result, Work, result}
+use Rattle.engine_spec.specs.Engine.{Result as Left, Work, result}
 use Rattle.engine_spec.specs.Stage.{Stage}
 use Rattle.calls.specs.Paper.{answer_of, check_of}
 use Rattle.calls.specs.declared.Answer.{Answer}
 use Rattle.calls.specs.declared.Answer.TheVariants.{Refused}
-use Rattle.calls.specs.declared.Check.{Check}
-use Rattle.calls.specs.declared.Check.TheVariants.{Pass, Refuse}
 use Rattle.calls.specs.declared.Refusal.{Refusal}
 use Rattle.engine_beside.specs.declared.Beside.{Beside}
 use Rattle.engine_beside.specs.declared.Outcome.{Outcome}
@@ -73,16 +71,17 @@ leaves answer r = record { answer = answer; run = r }
 abbrev pub refused_with : Refusal → Record → Outcome
 refused_with why r = leaves (Refused why) r
 
-abbrev pub outcome_of : Outcome → List ℤ → List ℕ → List ℕ → Result
+abbrev pub outcome_of : Outcome → List ℤ → List ℕ → List ℕ → Left
 outcome_of o equations basis table = result (answer_of o.answer) (work_of equations basis table o.run)
 
 -- ---- a call after its check
 
-module _ {r : Check} {c : paper.Check} (e : check_of r ≡ c) (equations : List ℤ) (basis table : List ℕ) (p : Record) (work : Work → Result) where
-  pub call_refused : {why : Refusal} → r ≡ Refuse why → outcome_of (refused_with why p) equations basis table ≡ checked c (work_of equations basis table p) work
+module _ {r : Result (Unit {0}) Refusal} {c : paper.Check} (e : check_of r ≡ c) (equations : List ℤ) (basis table : List ℕ) (p : Record)
+    (work : Work → Left) where
+  pub call_refused : {why : Refusal} → r ≡ Err why → outcome_of (refused_with why p) equations basis table ≡ checked c (work_of equations basis table p) work
   unfolding checked
   call_refused g = rw (← e, g)
 
-  pub call_passed : r ≡ Pass → {o : Result} → o ≡ work (work_of equations basis table p) → o ≡ checked c (work_of equations basis table p) work
+  pub call_passed : {x : Unit {0}} → r ≡ Ok x → {o : Left} → o ≡ work (work_of equations basis table p) → o ≡ checked c (work_of equations basis table p) work
   unfolding checked
   call_passed g h = rw (← e, g) h
