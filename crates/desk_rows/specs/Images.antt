@@ -1,9 +1,8 @@
 -- What is handed over to a call of the second walk, within the limits; tables with rows of 8 images; and one turn of the loops over them. Assumes nothing.
-use Rattle.std.specs.Prelude.{◌≡◌, refl, ◌≢◌, List, ℕ, ◌+◌, ◌*◌, ◌/◌, ◌≤◌, ◌<◌, ℤ, pos, nat_abs, ◌+ℤ◌, ◌*ℤ◌, length, get_or, set}
-use Rattle.std.proofs.Common.{sym, ◌∙◌, ap, inl, inr, div-mul-le_self, mul-le-mul, arith}
-use Rattle.std.proofs.Common.{length-set, get_or-set_other, get_or-set_same, to_z-of_z, SFits, of_z, to_z}
+use Rattle.std.specs.Prelude.{◌≡◌, ◌≢◌, List, ℕ, ◌+◌, ◌*◌, ◌/◌, ◌≤◌, ◌<◌, ℤ, pos, nat_abs, ◌+ℤ◌, ◌*ℤ◌, length, get_or}
+use Rattle.std.proofs.Common.{sym, ◌∙◌, ap, div-mul-le_self, mul-le-mul, arith}
+use Rattle.std.proofs.Common.{to_z-of_z, SFits, of_z, to_z}
 use Rattle.std.specs.Int.{w64}
-use Rattle.linear.proofs.Cases.{split}
 use Rattle.linear.proofs.Integers.{nat_abs_*ℤ, sfits_nat_abs}
 use Rattle.linear.proofs.SystemLaws.{inner_bound, inner_next}
 use Rattle.linear.specs.Systems.{inner, value}
@@ -74,34 +73,6 @@ pub record ImageWritten (k n : ℕ) (f : ℕ → ℤ) (images₀ images : List �
 -- those of the first n generators
 pub record Images (p q : ℕ) (coefs : List ℤ) (generators : List ℕ) (n : ℕ) (images : List ℤ) : Type 0 where
   pub each : (k i : ℕ) → k < n → i < p → entry images k i ≡ image_at q coefs generators (k * q) i
-
-pub image_none : {k : ℕ} {f : ℕ → ℤ} {images : List ℤ} → ImageWritten k 0 f images images
-image_none = record { new = λ i l. absurd (omega arith); other = λ m i ne l. refl; size = refl }
-
-pub image_next : {k n : ℕ} {f : ℕ → ℤ} {images₀ images : List ℤ} {x : ℤ} → ImageWritten k n f images₀ images → n < 8 → k * 8 + n < length images → x ≡ f n
-    → ImageWritten k (n + 1) f images₀ (set images (k * 8 + n) x)
-image_next {k} {n} {f} {images₀} {images} {x} w few h e =
-    record {
-      new = λ i l. elim (split i n) [
-        | inl y ↦ get_or-set_other images (k * 8 + n) (k * 8 + i) x (pos 0) (omega arith) ∙ w.new i y
-        | inr y ↦ let g : i ≡ n = omega arith in rw g (get_or-set_same images (k * 8 + n) x (pos 0) h ∙ e)
-      ];
-      other = λ m i ne l. get_or-set_other images (k * 8 + n) (m * 8 + i) x (pos 0) (omega arith) ∙ w.other m i ne l;
-      size = length-set images (k * 8 + n) x ∙ w.size;
-    }
-
-pub images_none : {p q : ℕ} {coefs : List ℤ} {generators : List ℕ} {images : List ℤ} → Images p q coefs generators 0 images
-images_none = record { each = λ k i l ip. absurd (omega arith) }
-
-pub images_next : {p q : ℕ} {coefs : List ℤ} {generators : List ℕ} {n : ℕ} {images images' : List ℤ} → p ≤ 8 → Images p q coefs generators n images
-    → ImageWritten n p (image_at q coefs generators (n * q)) images images' → Images p q coefs generators (n + 1) images'
-images_next {n = n} few s w =
-    record {
-      each = λ k i l ip. elim (split k n) [
-        | inl y ↦ w.other k i (omega arith) (omega arith) ∙ s.each k i y ip
-        | inr y ↦ let g : k ≡ n = omega arith in rw g (w.new i ip)
-      ];
-    }
 
 -- ---- inner products
 

@@ -1,7 +1,6 @@
 -- What the contracts on rows cite, and one turn of their loops. Assumes nothing.
 use Rattle.std.specs.Prelude.{◌≡◌, refl, Bool, true, false, cond, List, ℕ, suc, ◌+◌, ◌^◌, ◌/◌, ◌%◌, ◌≤◌, ◌<◌, T, eqb, ltb, length, set}
-use Rattle.std.proofs.Common.{◌∙◌, inl, inr, mul-le-mul_right, add-one, arith, ltb→lt, get_or-set_other, get_or-set_same}
-use Rattle.linear.proofs.Cases.{split}
+use Rattle.std.proofs.Common.{mul-le-mul_right, add-one, arith, ltb→lt}
 use Rattle.linear.proofs.TupleLaws.{total_most}
 use Rattle.linear.specs.Tuples.{Same, total}
 use Rattle.definitions.specs.System.{most_component}
@@ -19,16 +18,6 @@ pub record SmallTuple (q : ℕ) (t : List ℕ) : Type 0 where
 -- z holds the sum of t and the tuple that stands in a table from place base
 pub record Raised (q : ℕ) (z t table : List ℕ) (base : ℕ) : Type 0 where
   pub sums : (j : ℕ) → j < q → tuple z j ≡ tuple t j + row_at table base j
-
-pub raised_more : {j : ℕ} {z t table : List ℕ} {base : ℕ} → j < length z → Raised j z t table base
-    → Raised (j + 1) (set z j (tuple t j + row_at table base j)) t table base
-raised_more {j} {z} {t} {table} {base} l a =
-    record {
-      sums = λ i il. elim (split i j) [
-        | inl h ↦ get_or-set_other z j i (tuple t j + row_at table base j) 0 (omega arith) ∙ a.sums i h
-        | inr h ↦ let e : i ≡ j = omega arith in rw e (get_or-set_same z j (tuple t j + row_at table base j) 0 l)
-      ];
-    }
 
 -- ---- a row with its marks
 

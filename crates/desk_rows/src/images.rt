@@ -22,10 +22,8 @@ pub fn write(
     requires { SmallMap p q coefs.now × SmallRow q table.now base × (k < 65) × (length images.old ≡ 520) }
     ensures { ImageWritten k p (image_at q coefs.now table.now base) images.old images.new }
 {
-    let mut i = 0;
-    while i < p {
+    for i in 0..p {
         images[k * 8 + i] = values::value_at(coefs, i * q, table, base, q);
-        i += 1;
     }
 }
 
@@ -41,10 +39,8 @@ pub fn write_all(
     requires { SmallDesk p q coefs.now generators.now × (n ≤ 64) × (n * q ≤ length generators.now) × (length images.old ≡ 520) }
     ensures { Images p q coefs.now generators.now n images.new × (length images.new ≡ 520) }
 {
-    let mut k = 0;
-    while k < n {
+    for k in 0..n {
         write(p, q, coefs, generators, k * q, k, images);
-        k += 1;
     }
 }
 
@@ -53,14 +49,7 @@ pub fn vanishes(p: usize, images: &[i64; 520], k: usize) -> bool
     requires { (p ≤ 8) × (k < 65) }
     ensures { result ≡ all_to p (λ i. is_zero (entry images.now k i)) }
 {
-    let mut i = 0;
-    while i < p {
-        if images[k * 8 + i] != 0 {
-            return false;
-        }
-        i += 1;
-    }
-    true
+    (0..p).all(|i| images[k * 8 + i] == 0)
 }
 
 // The inner product of rows a and b.
@@ -69,10 +58,8 @@ pub fn product(p: usize, images: &[i64; 520], a: usize, b: usize) -> i64
     ensures { result ≡ inner p (entry images.now a) (entry images.now b) }
 {
     let mut sum: i64 = 0;
-    let mut i = 0;
-    while i < p {
+    for i in 0..p {
         sum = products::sum_and(sum, images[a * 8 + i], images[b * 8 + i]);
-        i += 1;
     }
     sum
 }

@@ -37,25 +37,18 @@ pub fn is_marked(marks: u64, j: usize) -> bool
 pub fn in_order(marks: u64, n: usize, k: usize) -> bool
     ensures { result ≡ (ltb marks (2 ^ n) && eqb (count_to n (frozen marks)) k) }
 {
-    if !fit(marks, n) {
-        return false;
-    }
-    count(marks) == k
+    fit(marks, n) && count(marks) == k
 }
 
 // Whether no mark is beyond generator n.
 fn fit(marks: u64, n: usize) -> bool
     ensures { result ≡ ltb marks (2 ^ n) }
 {
-    if 64 <= n {
-        return true;
-    }
-    let past: u64 = 1 << n;
-    marks < past
+    64 <= n || marks < 1 << n
 }
 
 fn count(marks: u64) -> usize
     ensures { result ≡ count_to 64 (frozen marks) }
 {
-    u64::count_ones(marks) as usize
+    marks.count_ones() as usize
 }

@@ -28,10 +28,8 @@ pub fn add(t: &[u32], table: &[u32], base: usize, q: usize, z: &mut [u32])
     requires { (q ≤ length z.old) × SmallTuple q t.now × SmallRow q table.now base }
     ensures { Raised q z.new t.now table.now base }
 {
-    let mut j = 0;
-    while j < q {
+    for j in 0..q {
         z[j] = t[j] + table[base + j];
-        j += 1;
     }
 }
 
@@ -49,10 +47,8 @@ pub fn sum(t: &[u32], q: usize) -> u64
     ensures { result ≡ total (tuple t.now) q }
 {
     let mut sum: u64 = 0;
-    let mut j = 0;
-    while j < q {
+    for j in 0..q {
         sum += t[j] as u64;
-        j += 1;
     }
     sum
 }

@@ -1,10 +1,6 @@
 -- `images::write` meets its contract. The sums passed have been written. Assumes nothing.
-use Prim.Native.Nat.{◌-◌, ◌≤◌}
 use Rattle.desk_rows.specs.Images.{ImageWritten, image_at}
 use Rattle.desk_rows.proofs.images.write.Given as goal
 
 abbrev pub invariant-loop-i : goal.invariant-loop-i
-invariant-loop-i l = (l.i ≤ l.p) × ImageWritten l.k l.i (image_at l.q l.coefs l.table l.base) l.initial.images l.images
-
-abbrev pub decreases-loop-i : goal.decreases-loop-i
-decreases-loop-i l = l.p - l.i
+invariant-loop-i l = ImageWritten l.k l.i (image_at l.q l.coefs l.table l.base) l.initial.images l.images
