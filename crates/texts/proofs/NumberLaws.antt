@@ -6,6 +6,7 @@ use Rattle.std.proofs.Common.{mul-le-mul_left, mul-le-mul_right, add-one, leb→
 use Rattle.std.proofs.Math.Nat.{one-le-pow, pow-le-pow_right, pow-succ'}
 use native.Mathlib.Omega.{arith}
 use borrow.Author.Tests.{ne_eqb}
+use Rattle.std.proofs.Math.Decide.{dec_lt}
 use Rattle.linear.proofs.TestLaws.{and_parts}
 use Rattle.texts.specs.Decimals.{minus, zero_digit}
 use Rattle.texts.specs.Reading.{parsed, malformed, is_digit, digit, starts_digit, more_digits, may_follow, read_natural, negative, unsigned, read_number}
@@ -35,13 +36,14 @@ module _ (t : List ℕ) (i n : ℕ) where
   more_none zero l = refl
   more_none (suc k) l = absurd (omega arith)
 
-  pub more_end : (k : ℕ) → length t ≤ i → parsed n (drop i t) ≡ more_digits k n (drop i t)
+  pub more_stop : (k : ℕ) → (i < length t → is_digit (get_or t i 0) ≡ false) → parsed n (drop i t) ≡ more_digits k n (drop i t)
   unfolding more_digits
-  more_end zero l = refl
-  more_end (suc k) l = rw (drop_of_length-le t l)
-
-  pub more_stop : (k : ℕ) → i < length t → is_digit (get_or t i 0) ≡ false → parsed n (drop i t) ≡ more_digits k n (drop i t)
-  more_stop k l e = rw (byte_at t i l, digits_end k n (get_or t i 0 ∷ drop (i + 1) t) e)
+  more_stop zero e = refl
+  more_stop (suc k) e =
+      elim (dec_lt i (length t)) [
+        | yes l ↦ rw (byte_at t i l, digits_end (suc k) n (get_or t i 0 ∷ drop (i + 1) t) (e l))
+        | no l ↦ let m : length t ≤ i = omega arith in rw (drop_of_length-le t m)
+      ]
 
   pub more_digit : (k : ℕ) → 0 < k → i < length t → is_digit (get_or t i 0) ≡ true
       → more_digits (k - 1) (n * 10 + digit (get_or t i 0)) (drop (i + 1) t) ≡ more_digits k n (drop i t)
@@ -52,13 +54,13 @@ module _ (t : List ℕ) (i n : ℕ) where
 -- ---- a number of most digits, from place i of the text on
 
 module _ (most : ℕ) (t : List ℕ) (i : ℕ) where
-  pub natural_end : length t ≤ i → malformed ≡ read_natural most (drop i t)
+  pub natural_stop : (i < length t → is_digit (get_or t i 0) ≡ false) → malformed ≡ read_natural most (drop i t)
   unfolding read_natural
-  natural_end l = rw (drop_of_length-le t l)
-
-  pub natural_stop : i < length t → is_digit (get_or t i 0) ≡ false → malformed ≡ read_natural most (drop i t)
-  unfolding read_natural
-  natural_stop l e = rw (byte_at t i l, e)
+  natural_stop e =
+      elim (dec_lt i (length t)) [
+        | yes l ↦ rw (byte_at t i l, e l)
+        | no l ↦ let m : length t ≤ i = omega arith in rw (drop_of_length-le t m)
+      ]
 
   pub natural_first : i < length t → is_digit (get_or t i 0) ≡ true
       → more_digits (may_follow most (digit (get_or t i 0))) (digit (get_or t i 0)) (drop (i + 1) t) ≡ read_natural most (drop i t)

@@ -1,20 +1,13 @@
 -- Theorems about what specs/Put.antt defines. Assumes nothing.
-use Rattle.std.specs.Prelude.{ℕ, ◌+◌, ◌≤◌, ◌<◌, List, [], ◌∷◌, ◌++◌, ◌≡◌, refl, length, get_or, take, drop, set}
-use Rattle.std.proofs.Common.{append-nil, append_assoc, sym, ◌∙◌, add-one, arith, length-append, length-set, take-append-drop, drop-drop, drop-set-lt, take-suc}
-use Rattle.std.proofs.Common.{take_all, take-suc-set}
+use Rattle.std.specs.Prelude.{ℕ, ◌+◌, ◌≤◌, List, [], ◌++◌, ◌≡◌, refl, length, take, drop}
+use Rattle.std.proofs.Common.{append-nil, append_assoc, sym, ◌∙◌, arith, length-append, take-append-drop, drop-drop}
+use Rattle.std.proofs.Common.{length-drop, length-take-le}
+use Rattle.std.proofs.lemmas.Slice.{take-put_mid, drop-put_mid}
+use borrow.Rule.Slice.PartMut.{put_mid, same_len_mid}
 use Rattle.texts.specs.Put.{Put, Rest}
 
 pub put_none : (before : List ℕ) (at : ℕ) → Put before at [] before at
 put_none before at = record { written = sym (append-nil (take at before)); kept = refl; place = omega arith; same = refl }
-
-pub put_byte : (before : List ℕ) (at b : ℕ) → at < length before → Put before at (b ∷ []) (set before at b) (at + 1)
-put_byte before at b l =
-    record {
-      written = rw add-one (take-suc-set before at b l);
-      kept = drop-set-lt (at + 1) before at b (omega arith);
-      place = refl;
-      same = length-set before at b;
-    }
 
 kept_past : (now before : List ℕ) (i n k : ℕ) → n ≡ i + k → drop i now ≡ drop i before → drop n now ≡ drop n before
 kept_past now before i n k e h = rw (e, ← drop-drop k i now, ← drop-drop k i before, h)
@@ -28,16 +21,17 @@ put_then {before} {now} {after} {at} {i} {next} {x} {y} a b =
       same = b.same ∙ a.same;
     }
 
--- ---- a word, byte by byte
+-- ---- a word
 
-module _ {before : List ℕ} {at : ℕ} (bytes : List ℕ) {now : List ℕ} (i : ℕ) (p : Put before at (take i bytes) now (at + i)) where
-  pub put_next : i < length bytes → at + i < length now → Put before at (take (i + 1) bytes) (set now (at + i) (get_or bytes i 0)) (at + (i + 1))
-  put_next l m =
-      let e : at + (i + 1) ≡ at + i + 1 = omega arith in
-      rw (e, add-one i, take-suc bytes i 0) (put_then p (put_byte now (at + i) (get_or bytes i 0) m))
-
-  pub put_all : i ≤ length bytes → length bytes ≤ i → Put before at bytes now (at + i)
-  put_all l m = rw (take_all i bytes m) at p
+pub put_part : (before : List ℕ) {at k : ℕ} {bytes part : List ℕ} → k ≡ length bytes → part ≡ bytes → at + length bytes ≤ length before
+    → Put before at bytes (put_mid at k before part) (at + length bytes)
+put_part before {at} {k} {bytes} {part} n e l =
+    rw (e, n) (record {
+      written = take-put_mid at (length bytes) before bytes (at + length bytes) refl (omega arith);
+      kept = drop-put_mid at (length bytes) before bytes (at + length bytes) (omega arith) (omega arith) refl;
+      place = refl;
+      same = same_len_mid at (length bytes) before bytes (omega (arith, length-take-le (length bytes) (drop at before) (omega (arith, length-drop at before))));
+    })
 
 pub rest_begins : (before : List ℕ) (at : ℕ) (whole : List ℕ) → Rest before at whole before at whole
 rest_begins before at whole = record { completes = λ p. p; same = refl }

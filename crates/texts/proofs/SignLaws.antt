@@ -1,8 +1,8 @@
 -- Signed numbers as the code has them: a number of nine digits in a word of 32 bits, and its negation. Assumes nothing.
-use Rattle.std.specs.Prelude.{ℕ, zero, suc, ◌<◌, true, false, List, ◌∷◌, ◌≡◌, refl, T, ℤ, pos, negsuc, nat_abs, ◌-ℤ◌}
+use Rattle.std.specs.Prelude.{ℕ, zero, suc, ◌<◌, true, List, ◌∷◌, ◌≡◌, refl, ℤ, pos, negsuc, nat_abs, ◌-ℤ◌}
 use Rattle.std.proofs.Common.{arith, to_z-of_z, SFits, to_z, ltb-true}
 use Rattle.std.proofs.Math.IntN.{+ℤ_idl}
-use Rattle.std.specs.Int.Signed.{lt_z, non_neg}
+use Rattle.std.specs.Int.Signed.{lt_z}
 use Rattle.std.specs.Int.{w32}
 use borrow.Author.Rules.{sfits_of}
 use Rattle.texts.specs.Decimals.{minus, decimal, numeral}
@@ -25,18 +25,6 @@ negated (suc n) t h = rw (+ℤ_idl (negsuc n))
 
 -- ---- a number by its sign and its size
 
-pub size_negative : (z : ℤ) → lt_z z (pos 0) ≡ true → T (non_neg (pos 0 -ℤ z)) × (nat_abs (pos 0 -ℤ z) ≡ nat_abs z)
-size_negative (pos n) e = absurd (omega (arith, ltb-true n 0 e))
-size_negative (negsuc n) e = (tt, omega arith)
-
-pub size_other : (z : ℤ) → lt_z z (pos 0) ≡ false → T (non_neg z)
-size_other (pos n) e = tt
-size_other (negsuc n) e = absurd (let z : ◌≡◌ {A = ℕ} 0 1 = cc in omega arith)
-
 pub numeral_negative : (z : ℤ) → lt_z z (pos 0) ≡ true → numeral z ≡ minus ∷ decimal (nat_abs z)
 numeral_negative (pos n) e = absurd (omega (arith, ltb-true n 0 e))
 numeral_negative (negsuc n) e = refl
-
-pub numeral_natural : (z : ℤ) → lt_z z (pos 0) ≡ false → numeral z ≡ decimal (nat_abs z)
-numeral_natural (pos n) e = refl
-numeral_natural (negsuc n) e = absurd (let z : ◌≡◌ {A = ℕ} 0 1 = cc in omega arith)

@@ -1,18 +1,17 @@
 -- What the readers answer and what they ask. A place in a text stands for the text from there on. Assumes nothing.
-use Rattle.std.specs.Prelude.{ℕ, ◌+◌, ◌*◌, ◌^◌, ◌≤◌, List, ℤ, drop}
-use Rattle.texts.specs.Reading.{Parse, parsed, malformed}
-use Rattle.texts.specs.declared.number.Natural.{Natural}
-use Rattle.texts.specs.declared.number.Natural.TheVariants as natural
-use Rattle.texts.specs.declared.number.Number.{Number}
-use Rattle.texts.specs.declared.number.Number.TheVariants as number
+use Rattle.std.specs.Prelude.{ℕ, ◌+◌, ◌*◌, ◌^◌, ◌≤◌, ◌<◌, ◌≡◌, true, false, List, Option, Some, None, length, get_or, drop}
+use Rattle.texts.specs.Reading.{Parse, parsed, malformed, is_digit, digit}
+use Rattle.texts.specs.declared.number.Parsed.{Parsed}
 
-abbrev pub natural_parse : List ℕ → Natural → Parse ℕ
-natural_parse t (natural.Parsed value next) = parsed value (drop next t)
-natural_parse t natural.Malformed = malformed
+-- what was read, up to the place after it; or nothing in the form
+abbrev pub parse_of : {A : Type 0} → List ℕ → Option (Parsed A) → Parse A
+parse_of t (Some p) = parsed p.value (drop p.next t)
+parse_of t None = malformed
 
-abbrev pub number_parse : List ℕ → Number → Parse ℤ
-number_parse t (number.Parsed value next) = parsed value (drop next t)
-number_parse t number.Malformed = malformed
+-- the digit that stands at a place, or none
+abbrev pub DigitAt : List ℕ → ℕ → Option ℕ → Type 0
+DigitAt t at (Some d) = (at < length t) × (is_digit (get_or t at 0) ≡ true) × (d ≡ digit (get_or t at 0))
+DigitAt t at None = at < length t → is_digit (get_or t at 0) ≡ false
 
 -- a number of so many digits fits into a word of 32 bits, signed too
 pub record FewDigits (most : ℕ) : Type 0 where

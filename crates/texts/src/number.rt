@@ -1,107 +1,89 @@
 // One number of a text, of 1 to `most` digits without leading zeros. A place stands for the text from there on.
 ghost use Rattle.std.specs.Prelude.{◌≡◌, drop};
-ghost use Rattle.texts.specs.Reading.{is_digit, more_digits, may_follow, read_natural, negative as negative_parse, read_number, and_then};
-ghost use Rattle.texts.specs.Places.{natural_parse, number_parse, Room, FewDigits};
+ghost use Rattle.texts.specs.Reading.{is_digit, parsed, more_digits, may_follow, read_natural, negative, read_number, and_then};
+ghost use Rattle.texts.specs.Places.{parse_of, DigitAt, Room, FewDigits};
 
-// A natural number, and the place after it; specs/Places.antt has what is read for each case.
+// What was read, and the place after it.
 #[derive(Clone, Copy)]
-pub enum Natural {
-    Parsed { value: u32, next: usize },
-    Malformed,
-}
-
-#[derive(Clone, Copy)]
-pub enum Number {
-    Parsed { value: i32, next: usize },
-    Malformed,
+pub struct Parsed<T> {
+    pub value: T,
+    pub next: usize,
 }
 
 // The number that stands at place `at`.
-pub fn read_number(text: &[u8], at: usize, most: usize) -> Number
+pub fn read_number(text: &[u8], at: usize, most: usize) -> Option<Parsed<i32>>
     requires { FewDigits most }
-    ensures { number_parse text.now result ≡ read_number most (drop at text.now) }
+    ensures { parse_of text.now result ≡ read_number most (drop at text.now) }
 {
     if text.len() <= at {
-        return Number::Malformed;
+        return None;
     }
     if text[at] == b'-' {
         return read_negative(text, at + 1, most);
     }
-    match read_natural(text, at, most) {
-        Natural::Malformed => Number::Malformed,
-        Natural::Parsed { value, next } => Number::Parsed {
-            value: value as i32,
-            next,
-        },
-    }
+    let size = read_natural(text, at, most)?;
+    Some(Parsed {
+        value: size.value as i32,
+        next: size.next,
+    })
 }
 
 // A number after its minus.
-fn read_negative(text: &[u8], at: usize, most: usize) -> Number
+fn read_negative(text: &[u8], at: usize, most: usize) -> Option<Parsed<i32>>
     requires { FewDigits most }
-    ensures { number_parse text.now result ≡ and_then (read_natural most (drop at text.now)) negative_parse }
+    ensures { parse_of text.now result ≡ and_then (read_natural most (drop at text.now)) negative }
 {
-    match read_natural(text, at, most) {
-        Natural::Malformed => Number::Malformed,
-        Natural::Parsed { value, next } => {
-            if value == 0 {
-                Number::Malformed
-            } else {
-                Number::Parsed {
-                    value: -(value as i32),
-                    next,
-                }
-            }
-        }
+    let size = read_natural(text, at, most)?;
+    if size.value == 0 {
+        return None;
     }
+    Some(Parsed {
+        value: -(size.value as i32),
+        next: size.next,
+    })
 }
 
 // The number without a sign that stands at place `at`.
-pub fn read_natural(text: &[u8], at: usize, most: usize) -> Natural
+pub fn read_natural(text: &[u8], at: usize, most: usize) -> Option<Parsed<u32>>
     requires { FewDigits most }
-    ensures { natural_parse text.now result ≡ read_natural most (drop at text.now) }
+    ensures { parse_of text.now result ≡ read_natural most (drop at text.now) }
 {
-    if text.len() <= at {
-        return Natural::Malformed;
-    }
-    let byte = text[at];
-    if !is_digit(byte) {
-        return Natural::Malformed;
-    }
-    let first = (byte - b'0') as u32;
-    more_digits(text, at + 1, most, may_follow(most, first), first)
+    let first = digit_at(text, at)?;
+    Some(more_digits(text, at + 1, most, may_follow(most, first), first))
 }
 
 // The number that begins with `first` and has up to `k` more digits, `most` of them in all, from place `at` on.
-fn more_digits(text: &[u8], at: usize, most: usize, k: usize, first: u32) -> Natural
+fn more_digits(text: &[u8], at: usize, most: usize, k: usize, first: u32) -> Parsed<u32>
     requires { (FewDigits most) × Room most first k }
-    ensures { natural_parse text.now result ≡ more_digits k first (drop at text.now) }
+    ensures { parsed result.value (drop result.next text.now) ≡ more_digits k first (drop at text.now) }
 {
     let mut value = first;
     let mut next = at;
-    let mut left = k;
-    while 0 < left {
-        if text.len() <= next {
-            return Natural::Parsed { value, next };
-        }
-        let byte = text[next];
-        if !is_digit(byte) {
-            return Natural::Parsed { value, next };
-        }
-        value = value * 10 + (byte - b'0') as u32;
+    for _ in 0..k {
+        let Some(digit) = digit_at(text, next) else {
+            break;
+        };
+        value = value * 10 + digit;
         next += 1;
-        left -= 1;
     }
-    Natural::Parsed { value, next }
+    Parsed { value, next }
+}
+
+// The digit that stands at place `at`.
+fn digit_at(text: &[u8], at: usize) -> Option<u32>
+    ensures { DigitAt text.now at result }
+{
+    if at < text.len() && is_digit(text[at]) {
+        Some((text[at] - b'0') as u32)
+    } else {
+        None
+    }
 }
 
 pub fn is_digit(byte: u8) -> bool
     ensures { result ≡ is_digit byte }
 {
-    if byte < b'0' {
-        return false;
-    }
-    byte <= b'9'
+    b'0' <= byte && byte <= b'9'
 }
 
 // How many digits may follow the first.

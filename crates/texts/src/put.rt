@@ -15,12 +15,9 @@ pub fn word(out: &mut [u8], at: usize, bytes: &[u8]) -> usize
     requires { at + length bytes.now ≤ length out.old }
     ensures { Put out.old at bytes.now out.new result }
 {
-    let mut i = 0;
-    while i < bytes.len() {
-        out[at + i] = bytes[i];
-        i += 1;
-    }
-    at + i
+    let next = at + bytes.len();
+    out[at..next].copy_from_slice(bytes);
+    next
 }
 
 // A number in decimal notation.
@@ -37,7 +34,7 @@ pub fn number(out: &mut [u8], at: usize, n: u64) -> usize
 
 // A number with its sign.
 pub fn signed(out: &mut [u8], at: usize, z: i32) -> usize
-    requires { (nat_abs z ≤ 1000000000) × (at + length (numeral z) ≤ length out.old) }
+    requires { at + length (numeral z) ≤ length out.old }
     ensures { Put out.old at (numeral z) out.new result }
 {
     if z < 0 {
@@ -49,11 +46,7 @@ pub fn signed(out: &mut [u8], at: usize, z: i32) -> usize
 
 // A number without its sign.
 pub fn size(z: i32) -> u64
-    requires { nat_abs z ≤ 1000000000 }
     ensures { result ≡ nat_abs z }
 {
-    if z < 0 {
-        return (-z) as u64;
-    }
-    z as u64
+    u64::from(z.unsigned_abs())
 }

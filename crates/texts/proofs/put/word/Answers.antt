@@ -1,14 +1,7 @@
--- `texts::put::word` meets its contract. The bytes passed have been written. Assumes nothing.
-use native.Mathlib.Nat.{add-zero}
-use borrow.Author.Rules.{rules}
-use Rattle.texts.proofs.PutTheorems.{put_none, put_next, put_all}
+-- `texts::put::word` meets its contract: the bytes passed are the part that was written. Assumes nothing.
+use Rattle.std.proofs.Common.{arith}
+use Rattle.texts.proofs.PutTheorems.{put_part}
 use Rattle.texts.proofs.put.word.Goals as goal
 
-pub loop-i-init : goal.loop-i-init
-loop-i-init c = (search rules, rw add-zero (put_none _ _))
-
-pub loop-i-preserved : goal.loop-i-preserved
-loop-i-preserved c = let l = c.loop-i in (search rules, put_next _ _ l.invariant.1 (search rules) (search rules))
-
 pub returns : goal.returns
-returns c = let l = c.loop-i in put_all _ _ l.invariant.1 l.invariant.0 c.loop-i-test.false
+returns c = put_part _ (omega arith) c.copy_from_slice.ensures.after c.requires
