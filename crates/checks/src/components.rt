@@ -6,12 +6,5 @@ ghost use Rattle.checks.specs.Shape.{above_limit};
 pub fn above_limit(t: &[u32], limit: u32) -> bool
     ensures { result ≡ above_limit limit t.now }
 {
-    let mut j = 0;
-    while j < t.len() {
-        if limit < t[j] {
-            return true;
-        }
-        j += 1;
-    }
-    false
+    t.iter().any(|x| limit < *x)
 }

@@ -4,10 +4,10 @@ ghost use Rattle.definitions.specs.Refusals.{sizes};
 ghost use Rattle.calls.specs.Paper.{check_of};
 ghost use Rattle.checks.specs.Counts.{Modest, count_checks, counts_within, size_checks, sizes_within};
 
-use calls::{Check, Refusal};
+use calls::Refusal;
 
 // From the number of coefficients, where `extra` unknowns come to those of the map.
-pub fn check(p: usize, q: usize, extra: usize, coefs: usize) -> Check
+pub fn check(p: usize, q: usize, extra: usize, coefs: usize) -> Result<(), Refusal>
     requires { extra ≤ 1 }
     ensures { check_of result ≡ count_checks p q extra coefs }
 {
@@ -15,7 +15,7 @@ pub fn check(p: usize, q: usize, extra: usize, coefs: usize) -> Check
 }
 
 // 1 and 2.
-pub fn check_sizes(p: usize, q: usize, extra: usize) -> Check
+pub fn check_sizes(p: usize, q: usize, extra: usize) -> Result<(), Refusal>
     requires { extra ≤ 1 }
     ensures { check_of result ≡ size_checks p q extra }
 {
@@ -23,36 +23,38 @@ pub fn check_sizes(p: usize, q: usize, extra: usize) -> Check
 }
 
 // From the number of coefficients, for maps of at most so many equations and unknowns.
-pub fn check_within(equations: usize, unknowns: usize, p: usize, q: usize, coefs: usize) -> Check
+pub fn check_within(
+    equations: usize,
+    unknowns: usize,
+    p: usize,
+    q: usize,
+    coefs: usize,
+) -> Result<(), Refusal>
     requires { Modest (sizes equations unknowns) }
     ensures { check_of result ≡ counts_within (sizes equations unknowns) p q coefs }
 {
-    match sizes_within(equations, unknowns, p, q) {
-        Check::Refuse(why) => Check::Refuse(why),
-        Check::Pass => {
-            if coefs != p * q {
-                return Check::Refuse(Refusal::CoefficientCount);
-            }
-            Check::Pass
-        }
+    sizes_within(equations, unknowns, p, q)?;
+    if coefs != p * q {
+        return Err(Refusal::CoefficientCount);
     }
+    Ok(())
 }
 
 // 1 and 2.
-fn sizes_within(equations: usize, unknowns: usize, p: usize, q: usize) -> Check
+fn sizes_within(equations: usize, unknowns: usize, p: usize, q: usize) -> Result<(), Refusal>
     ensures { check_of result ≡ sizes_within (sizes equations unknowns) p q }
 {
     if p < 1 {
-        return Check::Refuse(Refusal::Equations);
+        return Err(Refusal::Equations);
     }
     if equations < p {
-        return Check::Refuse(Refusal::Equations);
+        return Err(Refusal::Equations);
     }
     if q < 1 {
-        return Check::Refuse(Refusal::Unknowns);
+        return Err(Refusal::Unknowns);
     }
     if unknowns < q {
-        return Check::Refuse(Refusal::Unknowns);
+        return Err(Refusal::Unknowns);
     }
-    Check::Pass
+    Ok(())
 }

@@ -6,7 +6,7 @@ ghost use Rattle.definitions.specs.Refusals.{start_checks, lower_checks, resume_
 ghost use Rattle.definitions.specs.Input.{alone, input_of, input_with, rights as sides};
 ghost use Rattle.calls.specs.Paper.{state_of, state_with, check_of};
 
-use calls::{Check, Record};
+use calls::{Record, Refusal};
 
 pub mod coefficients; // coefficients.rt: their range, and that of right sides
 pub mod components; // components.rt: those of a lower bound or a tuple above a limit
@@ -22,13 +22,11 @@ pub fn check_start(
     stack: &[u32],
     list: &[u32],
     r: Record,
-) -> Check
+) -> Result<(), Refusal>
     ensures { check_of result ≡ start_checks (input_of p q coefs.now) (state_of stack.now list.now r) }
 {
-    match shape::check(p, q, 0, coefs.len(), p, stack.len()) {
-        Check::Refuse(why) => Check::Refuse(why),
-        Check::Pass => coefficients::check(coefs),
-    }
+    shape::check(p, q, 0, coefs.len(), p, stack.len())?;
+    coefficients::check(coefs)
 }
 
 // What the start of a capped run looks at; it does not depend on the limit of components.
@@ -41,15 +39,13 @@ pub fn check_start_capped(
     list: &[u32],
     second: &[u32],
     r: Record,
-) -> Check
+) -> Result<(), Refusal>
     ensures { (limit : ℕ)
         → check_of result ≡ start_checks (input_with (sides rights.now) limit p q coefs.now)
         (state_with stack.now list.now second.now r) }
 {
-    match shape::check(p, q, 1, coefs.len(), rights.len(), stack.len()) {
-        Check::Refuse(why) => Check::Refuse(why),
-        Check::Pass => coefficients::check_both(coefs, rights),
-    }
+    shape::check(p, q, 1, coefs.len(), rights.len(), stack.len())?;
+    coefficients::check_both(coefs, rights)
 }
 
 // What a start from a lower bound looks at.
@@ -63,14 +59,12 @@ pub fn check_start_from(
     second: &[u32],
     r: Record,
     limit: u32,
-) -> Check
+) -> Result<(), Refusal>
     ensures { check_of result ≡ lower_checks lower.now (input_with alone limit p q coefs.now)
         (state_with stack.now list.now second.now r) }
 {
-    match shape::check(p, q, 0, coefs.len(), p, stack.len()) {
-        Check::Refuse(why) => Check::Refuse(why),
-        Check::Pass => shape::check_lower(q, coefs, lower, limit),
-    }
+    shape::check(p, q, 0, coefs.len(), p, stack.len())?;
+    shape::check_lower(q, coefs, lower, limit)
 }
 
 // What a continuing call looks at.
@@ -82,13 +76,11 @@ pub fn check_resume(
     list: &[u32],
     r: Record,
     limit: u32,
-) -> Check
+) -> Result<(), Refusal>
     ensures { check_of result ≡ resume_checks (input_with alone limit p q coefs.now) (state_of stack.now list.now r) }
 {
-    match shape::check(p, q, 0, coefs.len(), p, stack.len()) {
-        Check::Refuse(why) => Check::Refuse(why),
-        Check::Pass => order::check(q, coefs, stack, list, r, limit),
-    }
+    shape::check(p, q, 0, coefs.len(), p, stack.len())?;
+    order::check(q, coefs, stack, list, r, limit)
 }
 
 // What a continuing call of a capped run looks at.
@@ -102,14 +94,12 @@ pub fn check_resume_capped(
     second: &[u32],
     r: Record,
     limit: u32,
-) -> Check
+) -> Result<(), Refusal>
     ensures { check_of result ≡ resume_checks (input_with (sides rights.now) limit p q coefs.now)
         (state_with stack.now list.now second.now r) }
 {
-    match shape::check(p, q, 1, coefs.len(), rights.len(), stack.len()) {
-        Check::Refuse(why) => Check::Refuse(why),
-        Check::Pass => order::check_capped(q, coefs, rights, stack, list, second, r, limit),
-    }
+    shape::check(p, q, 1, coefs.len(), rights.len(), stack.len())?;
+    order::check_capped(q, coefs, rights, stack, list, second, r, limit)
 }
 
 // What a continuing call of a run from a lower bound looks at.
@@ -123,12 +113,10 @@ pub fn check_resume_from(
     second: &[u32],
     r: Record,
     limit: u32,
-) -> Check
+) -> Result<(), Refusal>
     ensures { check_of result ≡ resume_from_checks lower.now (input_with alone limit p q coefs.now)
         (state_with stack.now list.now second.now r) }
 {
-    match shape::check(p, q, 0, coefs.len(), p, stack.len()) {
-        Check::Refuse(why) => Check::Refuse(why),
-        Check::Pass => order::check_from(q, coefs, lower, stack, list, second, r, limit),
-    }
+    shape::check(p, q, 0, coefs.len(), p, stack.len())?;
+    order::check_from(q, coefs, lower, stack, list, second, r, limit)
 }

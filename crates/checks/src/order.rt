@@ -7,10 +7,17 @@ ghost use Rattle.calls.specs.Paper.{state_of, state_with, check_of};
 ghost use Rattle.record_order.specs.Order.{InShape};
 
 use crate::{coefficients, shape};
-use calls::{Check, Record, Refusal, RunKind};
+use calls::{Record, Refusal, RunKind};
 
 // Refusals 6 and 7 of a plain run, which do not depend on p.
-pub fn check(q: usize, coefs: &[i32], stack: &[u32], list: &[u32], r: Record, limit: u32) -> Check
+pub fn check(
+    q: usize,
+    coefs: &[i32],
+    stack: &[u32],
+    list: &[u32],
+    r: Record,
+    limit: u32,
+) -> Result<(), Refusal>
     requires { InShape q (length stack.now) }
     ensures { (p : ℕ)
         → check_of result ≡ (check6 (system_of (input_with alone limit p q coefs.now)) (state_of stack.now list.now r)
@@ -18,7 +25,7 @@ pub fn check(q: usize, coefs: &[i32], stack: &[u32], list: &[u32], r: Record, li
 {
     let most = calls::limit_of(limit);
     if !record_order::in_order(RunKind::Plain, q, q, stack, list, r, most) {
-        return Check::Refuse(Refusal::OutOfOrder);
+        return Err(Refusal::OutOfOrder);
     }
     coefficients::check(coefs)
 }
@@ -33,7 +40,7 @@ pub fn check_capped(
     second: &[u32],
     r: Record,
     limit: u32,
-) -> Check
+) -> Result<(), Refusal>
     requires { (1 ≤ q) × InShape (q + 1) (length stack.now) }
     ensures { (p : ℕ)
         → check_of result ≡ (check6 (system_of (input_with (sides rights.now) limit p q coefs.now))
@@ -43,10 +50,10 @@ pub fn check_capped(
     let most = calls::limit_of(limit);
     let wide = q + 1;
     if !record_order::in_order(RunKind::Capped, wide, q, stack, list, r, most) {
-        return Check::Refuse(Refusal::OutOfOrder);
+        return Err(Refusal::OutOfOrder);
     }
     if !record_order::capped_fits(wide, q, stack, second, r) {
-        return Check::Refuse(Refusal::OutOfOrder);
+        return Err(Refusal::OutOfOrder);
     }
     coefficients::check_both(coefs, rights)
 }
@@ -61,7 +68,7 @@ pub fn check_from(
     second: &[u32],
     r: Record,
     limit: u32,
-) -> Check
+) -> Result<(), Refusal>
     requires { InShape q (length stack.now) }
     ensures { (p : ℕ) → check_of result ≡ (check5 (input_with alone limit p q coefs.now) lower.now
         then check6_from lower.now (input_with alone limit p q coefs.now)
@@ -70,11 +77,11 @@ pub fn check_from(
         then check8 (input_with alone limit p q coefs.now) lower.now) }
 {
     if lower.len() != q {
-        return Check::Refuse(Refusal::BoundLength);
+        return Err(Refusal::BoundLength);
     }
     let most = calls::limit_of(limit);
     if !record_order::lower_in_order(q, lower, stack, list, second, r, most) {
-        return Check::Refuse(Refusal::OutOfOrder);
+        return Err(Refusal::OutOfOrder);
     }
     shape::check_lower(q, coefs, lower, limit)
 }
