@@ -38,10 +38,8 @@ pub fn write_gram(p: usize, q: usize, coefs: &[i32], g: &mut [i64; 256])
     requires { SmallCoefs p q coefs.now × (length g.old ≡ 256) × Zeros g.old 0 }
     ensures { Gram p q coefs.now g.new }
 {
-    let mut e = 0;
-    while e < p {
+    for e in 0..p {
         add_equation(p, q, coefs, e, g);
-        e += 1;
     }
 }
 
@@ -50,10 +48,8 @@ fn add_equation(p: usize, q: usize, coefs: &[i32], e: usize, g: &mut [i64; 256])
     requires { SmallCoefs p q coefs.now × (length g.old ≡ 256) × (e < p) × Gram e q coefs.now g.old }
     ensures { Gram (e + 1) q coefs.now g.new × (length g.new ≡ 256) }
 {
-    let mut i = 0;
-    while i < q {
+    for i in 0..q {
         add_coefficient(p, q, coefs, e, i, g);
-        i += 1;
     }
 }
 
@@ -64,10 +60,8 @@ fn add_coefficient(p: usize, q: usize, coefs: &[i32], e: usize, i: usize, g: &mu
     ensures { Written i q (gram (e + 1) (given q coefs.now) i) g.old g.new }
 {
     let x = coefs[e * q + i];
-    let mut j = 0;
-    while j < q {
+    for j in 0..q {
         g[i * 16 + j] = sum_and(g[i * 16 + j], wide(x), wide(coefs[e * q + j]));
-        j += 1;
     }
 }
 
@@ -83,13 +77,13 @@ pub fn sum_and(sum: i64, x: i64, y: i64) -> i64
 pub fn wide(x: i32) -> i64
     ensures { result ≡ x }
 {
-    x as i64
+    i64::from(x)
 }
 
 pub fn natural(x: u32) -> i64
     ensures { result ≡ pos x }
 {
-    x as i64
+    i64::from(x)
 }
 
 // Writes the products of the rows on the stack, from the Gram matrix, into a table of zeros; and beside them the rows' sums of components.
@@ -106,10 +100,8 @@ pub fn write_products(
     ensures combined { Combined q gram.now stack.now height c.new }
     ensures totals { Totals q stack.now height sums.new }
 {
-    let mut k = 0;
-    while k < height {
+    for k in 0..height {
         sums[k] = products_row(q, gram, stack, k, c);
-        k += 1;
     }
 }
 
@@ -120,11 +112,9 @@ fn products_row(q: usize, gram: &[i64; 256], stack: &[u32], k: usize, c: &mut [i
     ensures value { result ≡ total (at stack.now (q + 1) k) q }
 {
     let mut sum: u64 = 0;
-    let mut i = 0;
-    while i < q {
+    for i in 0..q {
         sum += stack[k * (q + 1) + i] as u64;
         add_component(q, gram, stack, k, i, c);
-        i += 1;
     }
     sum
 }
@@ -139,10 +129,8 @@ fn add_component(q: usize, gram: &[i64; 256], stack: &[u32], k: usize, i: usize,
     if x == 0 {
         return;
     }
-    let mut j = 0;
-    while j < q {
+    for j in 0..q {
         c[k * 16 + j] = sum_and(c[k * 16 + j], natural(x), gram[i * 16 + j]);
-        j += 1;
     }
 }
 
@@ -151,14 +139,7 @@ pub fn vanish(c: &[i64; 256], k: usize, q: usize) -> bool
     requires { (k < 16) × (q ≤ 16) }
     ensures { result ≡ all_to q (λ j. is_zero (entry c.now k j)) }
 {
-    let mut j = 0;
-    while j < q {
-        if c[k * 16 + j] != 0 {
-            return false;
-        }
-        j += 1;
-    }
-    true
+    (0..q).all(|j| c[k * 16 + j] == 0)
 }
 
 // The unknowns that are not frozen by `marks` and whose product at level k is below zero, as marks.
@@ -175,9 +156,7 @@ fn below_zero(c: &[i64; 256], k: usize, q: usize) -> u32
     ensures { result ≡ marks_to q (λ j. lt_z (entry c.now k j) (pos 0)) }
 {
     let mut below: u32 = 0;
-    let mut j = q;
-    while 0 < j {
-        j -= 1;
+    for j in (0..q).rev() {
         below = below + below + sign(c[k * 16 + j]);
     }
     below
@@ -187,7 +166,7 @@ fn below_zero(c: &[i64; 256], k: usize, q: usize) -> u32
 fn sign(product: i64) -> u32
     ensures { result ≡ number (lt_z product (pos 0)) }
 {
-    if product < 0 { 1 } else { 0 }
+    u32::from(product < 0)
 }
 
 // Writes the products of a child at level k: those of its parent at level `from`, and the Gram row of the unknown that was raised. A child may
@@ -196,9 +175,7 @@ pub fn write_child(c: &mut [i64; 256], from: usize, k: usize, q: usize, gram: &[
     requires { ChildRoom q from k i c.old gram.now }
     ensures { Written k q (raised gram.now (entry c.old from) i) c.old c.new }
 {
-    let mut j = 0;
-    while j < q {
+    for j in 0..q {
         c[k * 16 + j] = c[from * 16 + j] + gram[i * 16 + j];
-        j += 1;
     }
 }

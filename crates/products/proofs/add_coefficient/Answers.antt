@@ -1,9 +1,7 @@
 -- `add_coefficient` meets its contract. The row is written up to j; a place that is read is as it was. Assumes nothing.
 use mathlib.Core.Path.{◌≡◌, ap, ◌∙◌}
 use Prim.Native.Nat.{◌+◌, ◌*◌, ◌≤◌}
-use native.Mathlib.Nat.{le_antisymm}
 use native.Mathlib.Omega.{arith}
-use borrow.Author.Rules.{rules}
 use lib.ListN.{length}
 use mir.Facts.{to_z-of_z}
 use mir.Syntax.{w64}
@@ -12,7 +10,7 @@ use Rattle.linear.specs.Gram.{gram}
 use Rattle.linear.specs.Systems.{inner}
 use Rattle.laws.proofs.TableLaws.{row_fits}
 use Rattle.products.specs.Products.{entry, given}
-use Rattle.products.specs.Turns.{SmallTerms, coef_fits, column_terms, next_fits, next_value, written_ahead, written_next, written_none}
+use Rattle.products.specs.Turns.{SmallTerms, coef_fits, column_terms, next_fits, next_value, written_ahead, written_next}
 use Rattle.products.proofs.add_coefficient.Goals as goal
 use Rattle.products.proofs.add_coefficient.Goals.{In-loop-j, Start}
 
@@ -31,35 +29,8 @@ module _ (l : In-loop-j) where
       (λ e. given l.args.q l.args.coefs.now e l.loop-j.j))
   unfolding gram
   held =
-      ap (of_z w64) (written_ahead l.loop-j.invariant.1 (omega arith) (omega (arith, l.loop-j-test.true, l.requires.small_coefs.0.unknowns))
+      ap (of_z w64) (written_ahead l.loop-j.invariant (omega arith) (omega (arith, l.loop-j-test.true, l.requires.small_coefs.0.unknowns))
       ∙ l.requires.filled.holds l.loop-j.j l.loop-j-test.true)
-
-pub overflow_mul-x : goal.overflow_mul-x
-overflow_mul-x c = omega (arith, row c)
-
-pub overflow_add-x : goal.overflow_add-x
-overflow_add-x c = omega (arith, row c, c.requires.small_coefs.3)
-
-pub offset_bounds-coefs-e : goal.offset_bounds-coefs-e
-offset_bounds-coefs-e c = omega (arith, row c, c.requires.small_coefs.3)
-
-pub bounds-coefs-e : goal.bounds-coefs-e
-bounds-coefs-e c = omega (arith, row c, c.requires.small_coefs.3)
-
-pub loop-j-init : goal.loop-j-init
-loop-j-init c = (search rules, written_none)
-
-pub overflow_mul-e : goal.overflow_mul-e
-overflow_mul-e c = omega (arith, row (goal.at.overflow_mul-e c).Start, c.loop-j-test.true)
-
-pub overflow_add-e : goal.overflow_add-e
-overflow_add-e c = omega (arith, row (goal.at.overflow_add-e c).Start, c.loop-j-test.true)
-
-pub offset_bounds-coefs-e-in-loop-j : goal.offset_bounds-coefs-e-in-loop-j
-offset_bounds-coefs-e-in-loop-j c = omega (arith, row (goal.at.offset_bounds-coefs-e-in-loop-j c).Start, c.loop-j-test.true)
-
-pub bounds-coefs-e-in-loop-j : goal.bounds-coefs-e-in-loop-j
-bounds-coefs-e-in-loop-j c = omega (arith, row (goal.at.bounds-coefs-e-in-loop-j c).Start, c.loop-j-test.true)
 
 pub sum_and-requires : goal.sum_and-requires
 sum_and-requires c =
@@ -80,7 +51,4 @@ loop-j-preserved c =
     let y = c.wide-in-loop-j.ensures ∙ to_z-of_z (coef_fits small _) in
     let e = next_value (terms (goal.at.loop-j-preserved c).In-loop-j) c.args.e (held (goal.at.loop-j-preserved c).In-loop-j) c.requires.small_coefs.2 x y
     c.sum_and.ensures in
-    (search rules, written_next c.loop-j.invariant.1 (omega arith) e)
-
-pub returns : goal.returns
-returns c = rw (le_antisymm c.loop-j.invariant.0 c.loop-j-test.false) at c.loop-j.invariant.1
+    written_next c.loop-j.invariant (omega arith) e

@@ -1,15 +1,13 @@
 -- `add_component` meets its contract. The row is written up to j; a place that is read is as it was. Assumes nothing.
 use mathlib.Core.Path.{◌≡◌, refl, ap, ◌∙◌}
 use Prim.Native.Nat.{◌+◌}
-use native.Mathlib.Nat.{le_antisymm}
 use native.Mathlib.Omega.{arith}
-use borrow.Author.Rules.{rules}
 use lib.IntN.{pos}
 use mir.Syntax.{w64}
 use mir.Val.{of_z}
 use Rattle.definitions.specs.Tables.{at}
 use Rattle.products.specs.Products.{entry, partial}
-use Rattle.products.specs.Turns.{SmallTerms, next_fits, next_value, partial_skip, row_terms, written_ahead, written_next, written_none, written_same}
+use Rattle.products.specs.Turns.{SmallTerms, next_fits, next_value, partial_skip, row_terms, written_ahead, written_next, written_same}
 use Rattle.products.proofs.add_component.Goals as goal
 use Rattle.products.proofs.add_component.Goals.{In-loop-j}
 
@@ -21,16 +19,13 @@ module _ (l : In-loop-j) where
   held : of_z w64 (entry l.loop-j.c l.args.k l.loop-j.j)
       ≡ of_z w64 (partial l.args.gram.now (at l.args.stack.now (l.args.q + 1) l.args.k) l.args.i l.loop-j.j)
   held =
-      ap (of_z w64) (written_ahead l.loop-j.invariant.1 (omega arith) (omega (arith, l.loop-j-test.true, l.requires.small_gram.0.unknowns))
+      ap (of_z w64) (written_ahead l.loop-j.invariant (omega arith) (omega (arith, l.loop-j-test.true, l.requires.small_gram.0.unknowns))
       ∙ l.requires.summed.sums l.loop-j.j l.loop-j-test.true)
 
 pub returns-then-x-eq0 : goal.returns-then-x-eq0
 returns-then-x-eq0 c =
     written_same (λ j l. c.requires.summed.sums j l ∙ partial_skip c.args.gram.now (at c.args.stack.now (c.args.q + 1) c.args.k)
     c.args.i j c.if-x-eq0.true)
-
-pub loop-j-init : goal.loop-j-init
-loop-j-init c = (search rules, written_none)
 
 pub sum_and-requires : goal.sum_and-requires
 sum_and-requires c =
@@ -44,7 +39,4 @@ pub loop-j-preserved : goal.loop-j-preserved
 loop-j-preserved c =
     let e = next_value (terms (goal.at.loop-j-preserved c).In-loop-j) c.args.i (held (goal.at.loop-j-preserved c).In-loop-j) c.requires.small_gram.4
     c.natural.ensures refl c.sum_and.ensures in
-    (search rules, written_next c.loop-j.invariant.1 (omega arith) e)
-
-pub returns : goal.returns
-returns c = rw (le_antisymm c.loop-j.invariant.0 c.loop-j-test.false) at c.loop-j.invariant.1
+    written_next c.loop-j.invariant (omega arith) e

@@ -1,5 +1,4 @@
 -- `below_zero` meets its contract. The marks so far are those of the unknowns passed, from the last one down. Assumes nothing.
-use Prim.Native.Nat.{◌≤◌}
 use lib.IntN.{pos}
 use lib.Signed.{lt_z}
 use Rattle.definitions.specs.Step.{marks_to}
@@ -8,7 +7,4 @@ use Rattle.products.specs.Products.{entry}
 use Rattle.products.proofs.below_zero.Given as goal
 
 abbrev pub invariant-loop-j : goal.invariant-loop-j
-invariant-loop-j l = (l.j ≤ l.q) × Folded (marks_to l.q (λ i. lt_z (entry l.c l.k i) (pos 0))) (λ i. lt_z (entry l.c l.k i) (pos 0)) l.j l.below
-
-abbrev pub decreases-loop-j : goal.decreases-loop-j
-decreases-loop-j l = l.j
+invariant-loop-j l = Folded (marks_to l.q (λ i. lt_z (entry l.c l.k i) (pos 0))) (λ i. lt_z (entry l.c l.k i) (pos 0)) l.j l.below

@@ -1,6 +1,6 @@
 -- `write_products` meets its contract. Every level passed holds what its row makes of the Gram matrix, and the row's sum is beside it. Assumes nothing.
 use mathlib.Core.Path.{◌≡◌}
-use Prim.Native.Nat.{◌+◌, ◌-◌, ◌≤◌}
+use Prim.Native.Nat.{◌+◌}
 use lib.ListN.{length}
 use Rattle.definitions.specs.Tables.{at}
 use Rattle.products.specs.Products.{Rows, Zeros, combine}
@@ -9,7 +9,4 @@ use Rattle.products.proofs.write_products.Given as goal
 
 abbrev pub invariant-loop-k : goal.invariant-loop-k
 invariant-loop-k w =
-    (w.k ≤ w.height) × (length w.c ≡ 256) × Rows w.k w.q (λ l. combine w.q w.gram (at w.stack (w.q + 1) l)) w.c × Zeros w.c w.k × Totals w.q w.stack w.k w.sums
-
-abbrev pub decreases-loop-k : goal.decreases-loop-k
-decreases-loop-k l = l.height - l.k
+    (length w.c ≡ 256) × Rows w.k w.q (λ l. combine w.q w.gram (at w.stack (w.q + 1) l)) w.c × Zeros w.c w.k × Totals w.q w.stack w.k w.sums
