@@ -1,5 +1,5 @@
 -- The loop of `order_of`: what it has met of a row's order, one more unknown, and the ways out. Assumes nothing.
-use Rattle.std.specs.Prelude.{◌≡◌, Bool, List, ℕ, suc, ◌+◌, ◌-◌, ◌≤◌, ◌<◌, leb, ltb, length, get_or, set}
+use Rattle.std.specs.Prelude.{◌≡◌, Bool, List, None, Some, ℕ, suc, ◌+◌, ◌-◌, ◌≤◌, ◌<◌, leb, ltb, length, get_or, set}
 use Rattle.std.proofs.Math.Path.{refl, ap}
 use Rattle.std.proofs.Common.{sym, ◌∙◌, get_or-set_other, get_or-set_same}
 use Rattle.std.proofs.Math.Bool.{true, false, and-false}
@@ -8,14 +8,15 @@ use native.Mathlib.Omega.{arith}
 use Rattle.std.proofs.Math.ListN.{length-set}
 use borrow.Author.Tests.{eq-eqb, le-ltb, lt-ltb, ne_eqb}
 use Rattle.linear.proofs.LoopLaws.{all_fails, all_next}
-use Rattle.linear.proofs.TestLaws.{count_le}
+use Rattle.linear.proofs.TestLaws.{count_le, count_step}
 use Rattle.linear.specs.Tests.{all_to}
 use Rattle.definitions.specs.System.{System}
+use Rattle.single_spec.proofs.FirstLaws.{first_of}
 use Rattle.single_spec.specs.First.{iterate}
-use Rattle.single_spec.specs.Graph.{gate, goes_on, is_circuit, lowest, named, next, size}
+use Rattle.single_spec.specs.Graph.{goes_on, is_circuit, lowest, named, next, size}
 use Rattle.single_spec.proofs.GraphLaws.{lowest_inside}
 use Rattle.single_spec.specs.Profile.{is_circuit_of, circuit_order, graph}
-use Rattle.single_order.specs.Rows.{OrderOf, ones_of}
+use Rattle.single_order.specs.Rows.{OrderOf, below_none, below_some, if_so, ones_of, place_below}
 
 abbrev small_row : ℕ → (ℕ → ℕ) → Bool
 small_row q x = all_to q (λ j. leb (x j) 1)
@@ -25,10 +26,6 @@ small_row q x = all_to q (λ j. leb (x j) 1)
 module _ (m : System) (x : ℕ → ℕ) where
   abbrev K : ℕ
   K = size m.q x
-
-  large_no_loop : small_row m.q x ≡ false → is_circuit_of m x ≡ false
-  unfolding is_circuit
-  large_no_loop e = rw e
 
   pub empty_no_loop : K ≡ 0 → is_circuit_of m x ≡ false
   unfolding is_circuit
@@ -50,39 +47,53 @@ module _ (m : System) (x : ℕ → ℕ) where
   closed_loop small some going e = rw (small, lt-ltb 0 K some, going) (eq-eqb (circuit_order m x K) (circuit_order m x 0) e)
 
   -- a row that is no minimal solution: nothing is said of the array
-  pub no_loop : (order : List ℕ) → length order ≡ 16 → is_circuit_of m x ≡ false → OrderOf m x order 0
-  no_loop order n e = record { result = rw e; few = omega arith; written = λ k l. absurd (omega arith); low = λ k l. absurd (omega arith); array = n }
+  pub no_loop : (order : List ℕ) → length order ≡ 16 → is_circuit_of m x ≡ false → OrderOf m x order None
+  no_loop order n e = record { result = rw e; ordered = λ k g. absurd (let z : Some k ≡ None = cc in cc); array = n }
 
   -- ---- the beginning
 
-  pub ones_no_loop : (order : List ℕ) (r : ℕ) → r ≡ ones_of m.q x → r ≡ 0 → length order ≡ 16 → OrderOf m x order 0
-  unfolding ones_of
-  ones_no_loop order r e z n = no_loop order n (go (small_row m.q x) refl (sym e ∙ z))
+  pub large_no_loop : (order : List ℕ) → None ≡ ones_of m.q x → length order ≡ 16 → OrderOf m x order None
+  unfolding ones_of is_circuit
+  large_no_loop order e n = no_loop order n (go (small_row m.q x) refl e)
     where
-      go : (b : Bool) → small_row m.q x ≡ b → gate b K ≡ 0 → is_circuit_of m x ≡ false
-      go true h g = empty_no_loop g
-      go false h g = large_no_loop h
+      go : (b : Bool) → small_row m.q x ≡ b → None ≡ if_so b K → is_circuit_of m x ≡ false
+      go true h g = absurd (cc)
+      go false h g = rw h
 
-  pub record Begun (r : ℕ) : Type 0 where
+  pub record Begun (r first : ℕ) : Type 0 where
     pub small : small_row m.q x ≡ true
     pub same : r ≡ K
+    pub first_is : first ≡ lowest m.q x
+    pub inside : first < m.q
     pub some : 0 < r
 
-  begun : (r : ℕ) → r ≡ ones_of m.q x → (r ≡ 0 → ⊥) → Begun r
+  named_some : lowest m.q x < m.q → 0 < K
+  unfolding lowest size
+  named_some l = omega (arith, count_step (named x) (lowest m.q x) m.q l ((first_of m.q (named x)).holds l))
+
+  begun : (r first : ℕ) → Some r ≡ ones_of m.q x → Some first ≡ place_below m.q (lowest m.q x) → Begun r first
   unfolding ones_of
-  begun r e ne = go (small_row m.q x) refl e
+  begun r first e f =
+      let b = ones_are (small_row m.q x) refl e in
+      let p = below_some f in
+      record { small = b.0; same = b.1; first_is = p.0; inside = omega (arith, p.0, p.1); some = omega (arith, b.1, named_some p.1) }
     where
-      go : (b : Bool) → small_row m.q x ≡ b → r ≡ gate b K → Begun r
-      go true h g = record { small = h; same = g; some = omega arith }
-      go false h g = absurd (ne g)
+      ones_are : (b : Bool) → small_row m.q x ≡ b → Some r ≡ if_so b K → (small_row m.q x ≡ true) × (r ≡ K)
+      ones_are true h g = (h, cc)
+      ones_are false h g = absurd (cc)
+
+  -- no unknown in the row
+  pub unnamed_no_loop : (order : List ℕ) → None ≡ place_below m.q (lowest m.q x) → length order ≡ 16 → OrderOf m x order None
+  unnamed_no_loop order e n =
+      no_loop order n
+      (elim (ℕ_discrete K 0) [ yes z ↦ empty_no_loop z | no ne ↦ absurd (omega (arith, below_none e, lowest_inside m.q x (omega arith))) ])
 
   -- The first k unknowns of the order are written, none of them the first again; `at` is the last of them.
   pub record Following (order : List ℕ) (r first at k : ℕ) : Type 0 where
-    pub begin : Begun r
+    pub begin : Begun r first
     pub few : r ≤ m.q
     pub some : 0 < k
     pub most : k ≤ r
-    pub first_is : first ≡ circuit_order m x 0
     pub at_is : at ≡ circuit_order m x (k - 1)
     pub inside : at < m.q
     pub going : all_to (k - 1) (goes_on (graph m) x) ≡ true
@@ -101,22 +112,21 @@ module _ (m : System) (x : ℕ → ℕ) where
   first_low : (order : List ℕ) (first : ℕ) → length order ≡ 16 → first < m.q → (i : ℕ) → i < 1 → get_or (set order 0 first) i 0 < m.q
   first_low order first n h i l = let z : i ≡ 0 = omega arith in rw (z, get_or-set_same order 0 first 0 (omega arith)) h
 
-  pub following_first : (order : List ℕ) (r first : ℕ) → r ≡ ones_of m.q x → (r ≡ 0 → ⊥) → length order ≡ 16 → first ≡ lowest m.q x → Following
+  pub following_first : (order : List ℕ) (r first : ℕ) → Some r ≡ ones_of m.q x → length order ≡ 16 → Some first ≡ place_below m.q (lowest m.q x) → Following
       (set order 0 first) r first first 1
   unfolding iterate all_to
-  following_first order r first e ne n f =
-      let b = begun r e ne in
+  following_first order r first e n f =
+      let b = begun r first e f in
       record {
         begin = b;
         few = omega (arith, size_few, b.same);
         some = omega arith;
         most = omega (arith, b.some);
-        first_is = f;
-        at_is = f;
-        inside = omega (arith, lowest_inside m.q x (omega (arith, b.same, b.some)));
+        at_is = b.first_is;
+        inside = b.inside;
         going = refl;
-        written = first_written order first n f;
-        low = first_low order first n (omega (arith, lowest_inside m.q x (omega (arith, b.same, b.some))));
+        written = first_written order first n b.first_is;
+        low = first_low order first n b.inside;
         array = length-set order 0 first ∙ n;
       }
 
@@ -126,6 +136,10 @@ module _ (m : System) (x : ℕ → ℕ) where
     pred_suc : suc (k - 1) ≡ k
     pred_suc = omega (arith, h.some)
 
+    first_at : first ≡ circuit_order m x 0
+    unfolding iterate
+    first_at = h.begin.first_is
+
     next_is : (v : ℕ) → v ≡ next (graph m) x at → v ≡ circuit_order m x (suc (k - 1))
     unfolding iterate
     next_is v e = e ∙ ap (next (graph m) x) h.at_is
@@ -133,22 +147,22 @@ module _ (m : System) (x : ℕ → ℕ) where
     goes : (v : ℕ) → v ≡ next (graph m) x at → v < m.q → (v ≡ first → ⊥) → goes_on (graph m) x (k - 1) ≡ true
     goes v e l ne =
         let g = next_is v e in
-        rw (← g, lt-ltb v m.q l, ← h.first_is, ne_eqb v first ne)
+        rw (← g, lt-ltb v m.q l, ← first_at, ne_eqb v first ne)
 
     stuck : (v : ℕ) → v ≡ next (graph m) x at → m.q ≤ v → goes_on (graph m) x (k - 1) ≡ false
     stuck v e l = let g = next_is v e in rw (← g, le-ltb v m.q l)
 
     early : (v : ℕ) → v ≡ next (graph m) x at → v ≡ first → goes_on (graph m) x (k - 1) ≡ false
-    early v e f = let g = next_is v e in rw (← g, ← h.first_is, eq-eqb v first f) (and-false (ltb v m.q))
+    early v e f = let g = next_is v e in rw (← g, ← first_at, eq-eqb v first f) (and-false (ltb v m.q))
 
-    stopped : k < r → goes_on (graph m) x (k - 1) ≡ false → OrderOf m x order 0
+    stopped : k < r → goes_on (graph m) x (k - 1) ≡ false → OrderOf m x order None
     stopped l e = no_loop order h.array (stopped_no_loop (k - 1) (omega (arith, h.some, h.begin.same)) e)
 
-    pub following_stuck : (v : ℕ) → k < r → v ≡ next (graph m) x at → m.q ≤ v → OrderOf m x order 0
-    following_stuck v l e u = stopped l (stuck v e u)
+    pub following_stuck : k < r → None ≡ place_below m.q (next (graph m) x at) → OrderOf m x order None
+    following_stuck l e = stopped l (stuck _ refl (below_none e))
 
-    pub following_early : (v : ℕ) → k < r → v ≡ next (graph m) x at → v ≡ first → OrderOf m x order 0
-    following_early v l e f = stopped l (early v e f)
+    pub following_early : (v : ℕ) → k < r → Some v ≡ place_below m.q (next (graph m) x at) → v ≡ first → OrderOf m x order None
+    following_early v l e f = stopped l (early v (below_some e).0 f)
 
     more_going : goes_on (graph m) x (k - 1) ≡ true → all_to (k + 1 - 1) (goes_on (graph m) x) ≡ true
     more_going g = let e : k + 1 - 1 ≡ k - 1 + 1 = omega (arith, h.some) in rw e (all_next (k - 1) (goes_on (graph m) x) h.going g)
@@ -167,8 +181,11 @@ module _ (m : System) (x : ℕ → ℕ) where
           | no ne ↦ rw (get_or-set_other order k i v 0 ne) (h.low i (omega arith))
         ]
 
-    pub following_next : (v : ℕ) → m.q ≤ 16 → k < r → v ≡ next (graph m) x at → v < m.q → (v ≡ first → ⊥) → Following (set order k v) r first v (k + 1)
-    following_next v few l e u ne =
+    pub following_next : (v : ℕ) → m.q ≤ 16 → k < r → Some v ≡ place_below m.q (next (graph m) x at) → (v ≡ first → ⊥) → Following
+        (set order k v) r first v (k + 1)
+    following_next v few l f ne =
+        let (e, l1) = below_some f in
+        let u : v < m.q = omega arith in
         let here : v ≡ circuit_order m x k = next_is v e ∙ ap (circuit_order m x) pred_suc in
         let back : k + 1 - 1 ≡ k = omega arith in
         record {
@@ -176,7 +193,6 @@ module _ (m : System) (x : ℕ → ℕ) where
           few = h.few;
           some = omega arith;
           most = omega arith;
-          first_is = h.first_is;
           at_is = here ∙ ap (circuit_order m x) (sym back);
           inside = u;
           going = more_going (goes v e u ne);
@@ -187,26 +203,27 @@ module _ (m : System) (x : ℕ → ℕ) where
 
     -- ---- the end
 
-    module _ (all : r ≤ k) (v : ℕ) (e : v ≡ next (graph m) x at) where
+    module _ (all : r ≤ k) where
       at_end : k ≡ K
       at_end = omega (arith, h.most, h.begin.same)
 
-      last_is : v ≡ circuit_order m x K
-      last_is = next_is v e ∙ ap (circuit_order m x) (pred_suc ∙ at_end)
+      last_is : next (graph m) x at ≡ circuit_order m x K
+      last_is = next_is _ refl ∙ ap (circuit_order m x) (pred_suc ∙ at_end)
 
       end_going : all_to (K - 1) (goes_on (graph m) x) ≡ true
       end_going = rw at_end at h.going
 
-      pub following_closed : v ≡ first → OrderOf m x order r
-      following_closed f =
-          let loop = closed_loop h.begin.small (omega (arith, h.begin.same, h.begin.some)) end_going (sym last_is ∙ f ∙ h.first_is) in
+      pub following_closed : place_below m.q (next (graph m) x at) ≡ Some first → OrderOf m x order (Some r)
+      following_closed e =
+          let loop = closed_loop h.begin.small (omega (arith, h.begin.same, h.begin.some)) end_going (sym last_is ∙ sym (below_some (sym e)).0 ∙ first_at) in
           record {
-            result = rw loop h.begin.same;
-            few = h.few;
-            written = λ i l. h.written i (omega arith);
-            low = λ i l. h.low i (omega arith);
+            result = rw loop (ap Some h.begin.same);
+            ordered = λ i g. let z : r ≡ i = cc in rw (← z)
+                (record { some = h.begin.some; few = h.few; written = λ j l. h.written j (omega arith); low = λ j l. h.low j (omega arith) });
             array = h.array;
           }
 
-      pub following_open : (v ≡ first → ⊥) → OrderOf m x order 0
-      following_open ne = no_loop order h.array (open_no_loop (λ g. ne (last_is ∙ g ∙ sym h.first_is)))
+      pub following_open : (place_below m.q (next (graph m) x at) ≡ Some first → ⊥) → OrderOf m x order None
+      following_open ne =
+          no_loop order h.array (open_no_loop (λ g. ne
+          (let e : next (graph m) x at ≡ first = last_is ∙ g ∙ sym first_at in rw (e, lt-ltb first m.q h.begin.inside))))

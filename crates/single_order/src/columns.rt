@@ -1,25 +1,23 @@
 // The columns of a system: whether each is in the profile of single-file maps, and the nodes between which it runs.
 ghost use Rattle.std.specs.Prelude.{◌≡◌, ◌*◌, ◌≤◌, ◌<◌, length};
-ghost use Rattle.definitions.specs.System.{column, is_zero};
+ghost use Rattle.definitions.specs.System.{column};
 ghost use Rattle.calls.specs.Paper.{check_of};
-ghost use Rattle.single_order.specs.Rows.{map_of};
+ghost use Rattle.single_order.specs.Rows.{map_of, place_below};
 ghost use Rattle.single_spec.specs.Profile.{is_unit, in_profile, node_of, check26};
 
-use calls::{Check, Refusal};
+use calls::Refusal;
 
 // The first column outside the profile: refusal 26.
-pub fn check(p: usize, q: usize, coefs: &[i32]) -> Check
+pub fn check(p: usize, q: usize, coefs: &[i32]) -> Result<(), Refusal>
     requires { p * q ≤ length coefs.now }
     ensures { check_of result ≡ check26 (map_of p q coefs.now) }
 {
-    let mut j = 0;
-    while j < q {
+    for j in 0..q {
         if !in_profile(p, q, coefs, j) {
-            return Check::Refuse(Refusal::Column(j + 1));
+            return Err(Refusal::Column(j + 1));
         }
-        j += 1;
     }
-    Check::Pass
+    Ok(())
 }
 
 // Whether column `j` has one 1, one -1 and otherwise zeros, or is all zeros.
@@ -29,56 +27,28 @@ fn in_profile(p: usize, q: usize, coefs: &[i32], j: usize) -> bool
 {
     let mut ones: usize = 0;
     let mut minus_ones: usize = 0;
-    let mut i = 0;
-    while i < p {
-        let c = coefs[i * q + j];
-        i += 1;
-        if is_unit(c, false) {
-            ones += 1;
-            continue;
+    for i in 0..p {
+        match coefs[i * q + j] {
+            1 => ones += 1,
+            -1 => minus_ones += 1,
+            0 => {}
+            _ => return false,
         }
-        if is_unit(c, true) {
-            minus_ones += 1;
-            continue;
-        }
-        if is_zero(c) {
-            continue;
-        }
-        return false;
     }
-    if ones == minus_ones {
-        return ones <= 1;
-    }
-    false
+    ones == minus_ones && ones <= 1
 }
 
-// The equation at which column `j` has its 1, or with `minus` its -1; `p` where it has none.
-pub fn node(p: usize, q: usize, coefs: &[i32], j: usize, minus: bool) -> usize
+// The equation at which column `j` has its 1, or with `minus` its -1.
+pub fn node(p: usize, q: usize, coefs: &[i32], j: usize, minus: bool) -> Option<usize>
     requires { (j < q) × (p * q ≤ length coefs.now) }
-    ensures { result ≡ node_of minus (map_of p q coefs.now) j }
+    ensures { result ≡ place_below p (node_of minus (map_of p q coefs.now) j) }
 {
-    let mut i = 0;
-    while i < p {
-        if is_unit(coefs[i * q + j], minus) {
-            return i;
-        }
-        i += 1;
-    }
-    p
+    (0..p).find(|i| is_unit(coefs[*i * q + j], minus))
 }
 
 // Whether `x` is 1, or with `minus` -1.
 fn is_unit(x: i32, minus: bool) -> bool
     ensures { result ≡ is_unit minus x }
 {
-    if minus {
-        return x == -1;
-    }
-    x == 1
-}
-
-fn is_zero(x: i32) -> bool
-    ensures { result ≡ is_zero x }
-{
-    x == 0
+    x == if minus { -1 } else { 1 }
 }

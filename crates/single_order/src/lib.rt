@@ -5,11 +5,11 @@ ghost use Rattle.std.specs.Prelude.{◌≡◌, ◌+◌, ◌≤◌, ◌<◌, leng
 ghost use Rattle.single_order.specs.Rows.{map_of};
 ghost use Rattle.single_spec.specs.Graph as graph;
 ghost use Rattle.single_spec.specs.Profile.{graph as graph_of};
-ghost use Rattle.single_order.specs.Rows.{row_of, ones_of, Fits, OrderOf};
+ghost use Rattle.single_order.specs.Rows.{row_of, ones_of, place_below, Fits, OrderOf};
 
 pub mod columns; // columns.rt: the profile, and where a column has its 1 and its -1
 
-// Of a row that is a minimal solution of a single-file map: writes its unknowns in their order, and says how many. Of any other: 0.
+// Of a row that is a minimal solution of a single-file map: writes its unknowns in their order, and says how many.
 pub fn order_of(
     p: usize,
     q: usize,
@@ -17,96 +17,51 @@ pub fn order_of(
     list: &[u32],
     base: usize,
     order: &mut [usize; 16],
-) -> usize
+) -> Option<usize>
     requires { (q ≤ 16) × Fits p q (length coefs.now) base (length list.now) × (length order.old ≡ 16) }
     ensures { OrderOf (map_of p q coefs.now) (row_of list.now base) order.new result }
 {
-    let size = ones(q, list, base);
-    if size == 0 {
-        return 0;
-    }
-    let first = lowest(q, list, base);
+    let size = ones(q, list, base)?;
+    let first = lowest(q, list, base)?;
     order[0] = first;
     let mut at = first;
-    let mut k = 1;
-    while k < size {
-        at = next(p, q, coefs, list, base, at);
-        if q <= at {
-            return 0;
-        }
+    for k in 1..size {
+        at = next(p, q, coefs, list, base, at)?;
         if at == first {
-            return 0;
+            return None;
         }
         order[k] = at;
-        k += 1;
     }
-    if next(p, q, coefs, list, base, at) == first {
-        return size;
+    if next(p, q, coefs, list, base, at) == Some(first) {
+        return Some(size);
     }
-    0
+    None
 }
 
-// How many components of the row from place `base` are 1; 0 where one is above 1.
-fn ones(q: usize, list: &[u32], base: usize) -> usize
+// How many components of the row from place `base` are 1, where none is above 1.
+fn ones(q: usize, list: &[u32], base: usize) -> Option<usize>
     requires { base + q ≤ length list.now }
     ensures { result ≡ ones_of q (row_of list.now base) }
 {
-    let mut n = 0;
-    let mut j = 0;
-    while j < q {
-        let x = list[base + j];
-        j += 1;
-        if 1 < x {
-            return 0;
-        }
-        if x == 0 {
-            continue;
-        }
-        n += 1;
+    if (0..q).any(|j| 1 < list[base + j]) {
+        return None;
     }
-    n
+    Some((0..q).filter(|j| list[base + *j] != 0).count())
 }
 
-// The lowest unknown of the row that is not 0; `q` where there is none.
-fn lowest(q: usize, list: &[u32], base: usize) -> usize
+// The lowest unknown of the row that is not 0.
+fn lowest(q: usize, list: &[u32], base: usize) -> Option<usize>
     requires { base + q ≤ length list.now }
-    ensures { result ≡ graph.lowest q (row_of list.now base) }
+    ensures { result ≡ place_below q (graph.lowest q (row_of list.now base)) }
 {
-    let mut j = 0;
-    while j < q {
-        if list[base + j] != 0 {
-            return j;
-        }
-        j += 1;
-    }
-    q
+    (0..q).find(|j| list[base + *j] != 0)
 }
 
-// The lowest of them whose column has its -1 at equation `t`; `q` where there is none.
-fn leaving(p: usize, q: usize, coefs: &[i32], list: &[u32], base: usize, t: usize) -> usize
-    requires { Fits p q (length coefs.now) base (length list.now) }
-    ensures { result ≡ graph.leaving (graph_of (map_of p q coefs.now)) (row_of list.now base) t }
-{
-    let mut k = 0;
-    while k < q {
-        let x = list[base + k];
-        if x == 0 {
-            k += 1;
-            continue;
-        }
-        if columns::node(p, q, coefs, k, true) == t {
-            return k;
-        }
-        k += 1;
-    }
-    q
-}
-
-// The unknown after `j`: its column has its -1 where column `j` has its 1.
-fn next(p: usize, q: usize, coefs: &[i32], list: &[u32], base: usize, j: usize) -> usize
+// The unknown after `j`: the lowest of them whose column has its -1 where column `j` has its 1.
+fn next(p: usize, q: usize, coefs: &[i32], list: &[u32], base: usize, j: usize) -> Option<usize>
     requires { (j < q) × Fits p q (length coefs.now) base (length list.now) }
-    ensures { result ≡ graph.next (graph_of (map_of p q coefs.now)) (row_of list.now base) j }
+    ensures { result ≡ place_below q (graph.next (graph_of (map_of p q coefs.now)) (row_of list.now base) j) }
 {
-    let t = columns::node(p, q, coefs, j, false);
-    leaving(p, q, coefs, list, base, t)
+    let head = columns::node(p, q, coefs, j, false);
+    (0..q).find(|k| list[base + *k] != 0 && columns::node(p, q, coefs, *k, true) == head)
 }

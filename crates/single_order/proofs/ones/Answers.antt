@@ -1,22 +1,19 @@
--- `ones` meets its contract. The components passed are 0 or 1, and so many are 1. Assumes nothing.
-use Rattle.single_order.specs.Rows.{ones_all, ones_large, ones_none, ones_one, ones_zero}
-use borrow.Author.Rules.{rules}
+-- `ones` meets its contract. Assumes nothing.
+use Rattle.std.proofs.Common.{refl, sym, ◌∙◌, rules}
+use borrow.Author.Tests.{tests}
+use Rattle.chains.proofs.ChainLaws.{any_in_range}
+use Rattle.single_spec.specs.Graph.{named}
+use Rattle.single_order.proofs.RangeLaws.{counted_in_range}
+use Rattle.single_order.specs.Rows.{large_none, small_some, row_of}
 use Rattle.single_order.proofs.ones.Goals as goal
 
-pub loop-j-init : goal.loop-j-init
-loop-j-init c = (search rules, ones_none _)
-
-pub returns-then-x-gt1 : goal.returns-then-x-gt1
-returns-then-x-gt1 c =
-    ones_large c.loop-j.invariant.1 _ c.loop-j-test.true c.if-x-gt1.true
-
-pub loop-j-preserved-then-x-eq0 : goal.loop-j-preserved-then-x-eq0
-loop-j-preserved-then-x-eq0 c =
-    (search rules, ones_zero c.loop-j.invariant.1 c.if-x-eq0.true)
-
-pub loop-j-preserved : goal.loop-j-preserved
-loop-j-preserved c =
-    (search rules, ones_one c.loop-j.invariant.1 c.if-x-eq0.false c.if-x-gt1.false)
+pub returns-then-any : goal.returns-then-any
+returns-then-any c =
+    large_none _ (row_of c.args.list.now c.args.base) (sym (any_in_range c.any.ensures.ran refl (λ x b q k. search (rules, tests))) ∙ c.if-any.true)
 
 pub returns : goal.returns
-returns c = ones_all c.loop-j.invariant.1 _ c.loop-j.invariant.0 c.loop-j-test.false
+returns c =
+    small_some _ (row_of c.args.list.now c.args.base)
+    (sym (any_in_range c.any.ensures.ran refl (λ x b q k. search (rules, tests))) ∙ c.if-any.false)
+    (counted_in_range {f = named (row_of c.args.list.now c.args.base)} c.count.ensures.ran c.filter.ensures.source c.filter.ensures.closure
+    (λ x b q k. search (rules, tests)))

@@ -1,5 +1,4 @@
 -- `order_of` meets its contract. So many unknowns of the order are written. Assumes nothing.
-use Prim.Native.Nat.{◌-◌}
 use Rattle.single_order.specs.Rows.{map_of}
 use Rattle.single_order.specs.Rows.{row_of}
 use Rattle.single_order.specs.Following.{Following}
@@ -7,6 +6,3 @@ use Rattle.single_order.proofs.order_of.Given as goal
 
 abbrev pub invariant-loop-k : goal.invariant-loop-k
 invariant-loop-k l = Following (map_of l.p l.q l.coefs) (row_of l.list l.base) l.order l.size l.first l.at l.k
-
-abbrev pub decreases-loop-k : goal.decreases-loop-k
-decreases-loop-k l = l.size - l.k
