@@ -1,5 +1,5 @@
 -- What listing a solution comes to. Assumes nothing.
-use Rattle.std.specs.Prelude.{◌≡◌, List, ℕ, ◌+◌, ◌*◌, ◌/◌, ◌≤◌, ◌<◌, length}
+use Rattle.std.specs.Prelude.{◌≡◌, List, ℕ, ◌+◌, ◌*◌, ◌/◌, ◌≤◌, ◌<◌, length, Result, Ok, Err}
 use Rattle.std.proofs.Common.{◌∙◌, ap, ap₂, div-mul-le_self, le-mul_of_pos_right, mul-le-mul_right, arith}
 use Rattle.linear.proofs.TestLaws.{count_le}
 use Rattle.linear.specs.Tests.{count_to}
@@ -8,9 +8,8 @@ use Rattle.laws.proofs.TableLaws.{row_fits}
 use Rattle.laws.proofs.Again.{swept_length}
 use Rattle.laws.specs.Sweep.{keeps, swept_to}
 use Rattle.table_rows.specs.Keeping.{Kept}
+use Rattle.calls.specs.declared.Refusal.{Refusal}
 use Rattle.calls.specs.declared.Refusal.TheVariants.{ListFull}
-use Rattle.desk_walk.specs.declared.step.DeskStepped.{DeskStepped}
-use Rattle.desk_walk.specs.declared.step.DeskStepped.TheVariants.{Listed, Refused}
 
 -- the rows that a sweep leaves, and their number
 abbrev pub swept_list : ℕ → ℕ → List ℕ → List ℕ
@@ -21,11 +20,11 @@ swept_count q found list = count_to found (keeps q found (at list q))
 
 -- the answer and the list afterwards: a list with room takes x as its next row; of a full one the rows that a sweep leaves are counted, and then it takes x, or
 -- there is no room
-pub data Enlisted (q found : ℕ) (x : ℕ → ℕ) (list after : List ℕ) (answer : DeskStepped) : Type 0 where
-  roomy : found < capacity q list → answer ≡ Listed (found + 1) → after ≡ write_to q list (found * q) x → Enlisted q found x list after answer
-  freed : capacity q list ≤ found → swept_count q found list < capacity q list → answer ≡ Listed (swept_count q found list + 1)
+pub data Enlisted (q found : ℕ) (x : ℕ → ℕ) (list after : List ℕ) (answer : Result ℕ Refusal) : Type 0 where
+  roomy : found < capacity q list → answer ≡ Ok (found + 1) → after ≡ write_to q list (found * q) x → Enlisted q found x list after answer
+  freed : capacity q list ≤ found → swept_count q found list < capacity q list → answer ≡ Ok (swept_count q found list + 1)
       → after ≡ write_to q (swept_list q found list) (swept_count q found list * q) x → Enlisted q found x list after answer
-  full : capacity q list ≤ found → capacity q list ≤ swept_count q found list → answer ≡ Refused ListFull → after ≡ swept_list q found list
+  full : capacity q list ≤ found → capacity q list ≤ swept_count q found list → answer ≡ Err ListFull → after ≡ swept_list q found list
       → Enlisted q found x list after answer
 
 -- ---- places
@@ -46,6 +45,6 @@ module _ {q found : ℕ} {list after : List ℕ} {left : ℕ} (k : Kept q found 
 -- room that a sweep has made
 pub freed_listed : {q found : ℕ} {x : ℕ → ℕ} {list after swept : List ℕ} {left : ℕ} → capacity q list ≤ found
     → Kept q found (keeps q found (at list q)) list swept left → left < capacity q list
-    → after ≡ write_to q swept (left * q) x → Enlisted q found x list after (Listed (left + 1))
+    → after ≡ write_to q swept (left * q) x → Enlisted q found x list after (Ok (left + 1))
 freed_listed {q} {found} {x} l k room w =
-    freed l (rw k.counted at room) (ap (λ n. Listed (n + 1)) k.counted) (w ∙ ap₂ (λ t n. write_to q t (n * q) x) k.rows k.counted)
+    freed l (rw k.counted at room) (ap (λ n. Ok (n + 1)) k.counted) (w ∙ ap₂ (λ t n. write_to q t (n * q) x) k.rows k.counted)

@@ -1,5 +1,5 @@
 -- One step of the second walk: what is known ahead of it, what it comes to, and its ways out. Assumes nothing.
-use Rattle.std.specs.Prelude.{◌≡◌, ◌≢◌, Bool, true, false, List, [], ℕ, zero, suc, ◌+◌, ◌*◌, ◌/◌, ◌≤◌, ◌<◌, T, leb, ltb, ℤ, pos, length}
+use Rattle.std.specs.Prelude.{◌≡◌, ◌≢◌, Bool, true, false, List, [], ℕ, zero, suc, ◌+◌, ◌*◌, ◌/◌, ◌≤◌, ◌<◌, T, leb, ltb, ℤ, pos, length, Result, Ok, Err}
 use Rattle.std.proofs.Math.Path.{refl, sym, ap, ap₂}
 use Rattle.std.proofs.Common.{◌∙◌, inl, inr, le-div_iff_mul-le, mul-le-mul_right, arith, le-leb, ne_eqb, lit<}
 use Rattle.std.proofs.Math.Bool.{◌&&◌}
@@ -28,6 +28,7 @@ use Rattle.table_rows.specs.Rows.{tuple}
 use Rattle.products.specs.Marks.{marks_frozen, marks_same}
 use Rattle.calls.specs.Paper.{number_of, record_of, state_of, values_of}
 use Rattle.calls.specs.declared.Record.{Record}
+use Rattle.calls.specs.declared.Refusal.{Refusal}
 use Rattle.calls.specs.declared.Refusal.TheVariants.{ComponentLimit}
 use Rattle.desk_spec.specs.Desks.{Desk, desk_children, desk_deeper, desk_full, desk_grown, desk_level, desk_listed, desk_makes, desk_row}
 use Rattle.desk_spec.specs.Desks.{desk_search_checks, desk_step}
@@ -42,9 +43,8 @@ use Rattle.desk_walk.specs.Enlisting as enlisting
 use Rattle.desk_walk.specs.Enlisting.{Enlisted, swept_count, swept_list}
 use Rattle.desk_walk.specs.Pushing.{Pushing, pushed}
 use Rattle.desk_walk.specs.Trying.{Tries, Trying, large_tried, large_by, made_tried, made_by, generators_tried}
-use Rattle.desk_walk.specs.declared.step.TriedGenerators.TheVariants.{Made, TooLarge}
 use Rattle.desk_walk.specs.declared.step.DeskStepped.{DeskStepped}
-use Rattle.desk_walk.specs.declared.step.DeskStepped.TheVariants.{Grown, Listed, Refused}
+use Rattle.desk_walk.specs.declared.step.DeskStepped.TheVariants.{Grown, Listed}
 
 -- a state with other tables, counts and depth
 abbrev pub moved_to : State → List ℕ → List ℕ → ℕ → ℕ → ℕ → ℕ → State
@@ -86,12 +86,12 @@ pub record Standing (p q : ℕ) (coefs : List ℤ) (generators : List ℕ) (imag
   pub long : q ≤ length top
 
 -- what a step came to
-abbrev pub Came : Desk → State → List ℕ → List ℕ → DeskStepped → Type 0
-Came d s stack list (Listed k) = (desk_search_checks d s ≡ go) × (moved_to s stack list (desk_level s) k (s.run.steps + 1) (desk_deeper d s) ≡ desk_step d s)
-Came d s stack list (Grown h) = (desk_search_checks d s ≡ go) × (moved_to s stack list h s.run.found (s.run.steps + 1) (desk_deeper d s) ≡ desk_step d s)
-Came d s stack list (Refused why) = (desk_search_checks d s ≡ refuse (number_of why) (values_of why)) × (stack ≡ s.stack) × (list ≡ s.list)
+abbrev pub Came : Desk → State → List ℕ → List ℕ → Result DeskStepped Refusal → Type 0
+Came d s stack list (Ok (Listed k)) = (desk_search_checks d s ≡ go) × (moved_to s stack list (desk_level s) k (s.run.steps + 1) (desk_deeper d s) ≡ desk_step d s)
+Came d s stack list (Ok (Grown h)) = (desk_search_checks d s ≡ go) × (moved_to s stack list h s.run.found (s.run.steps + 1) (desk_deeper d s) ≡ desk_step d s)
+Came d s stack list (Err why) = (desk_search_checks d s ≡ refuse (number_of why) (values_of why)) × (stack ≡ s.stack) × (list ≡ s.list)
 
-pub record Taken (d : Desk) (s : State) (stack list : List ℕ) (r : DeskStepped) : Type 0 where
+pub record Taken (d : Desk) (s : State) (stack list : List ℕ) (r : Result DeskStepped Refusal) : Type 0 where
   pub came : Came d s stack list r
 
 -- ---- lists of rows that all stay
@@ -234,7 +234,12 @@ module _ {p q : ℕ} {coefs : List ℤ} {generators : List ℕ} {images : List �
     unfolding swept
     swept_found = refl
 
-    pub came_listed : {after : List ℕ} {r : DeskStepped} → Enlisted q s.run.found (tuple top) s.list after r → Taken d s s.stack after r
+    -- what a step came to that lists
+    abbrev listed_of : Result ℕ Refusal → Result DeskStepped Refusal
+    listed_of (Ok k) = Ok (Listed k)
+    listed_of (Err why) = Err why
+
+    pub came_listed : {after : List ℕ} {r : Result ℕ Refusal} → Enlisted q s.run.found (tuple top) s.list after r → Taken d s s.stack after (listed_of r)
     came_listed {after} (enlisting.roomy room e w) =
         let none = unfreed room in
         let f : desk_full d s ≡ false = ap (λ t. leb (capacity q s.list) t.run.found) none ∙ lt-leb (capacity q s.list) s.run.found room in
@@ -267,7 +272,7 @@ module _ {p q : ℕ} {coefs : List ℤ} {generators : List ℕ} {images : List �
     refused e = rw (ne_eqb s.run.steps step_limit z.early, y, large_same ∙ e)
 
     pub came_large : any_to n (λ j. made_by p q generators images s.list s.run.found (tuple top) marks j && large_by q generators (tuple top) j) ≡ true
-        → Taken d s s.stack s.list (Refused ComponentLimit)
+        → Taken d s s.stack s.list (Err ComponentLimit)
     came_large e = record { came = (refused e, refl, refl) }
 
     module _ {made : ℕ} (t : Tries p q generators images s.list s.run.found top marks n made) where
@@ -323,17 +328,19 @@ module _ {p q : ℕ} {coefs : List ℤ} {generators : List ℕ} {images : List �
       goes_on = rw (ne_eqb s.run.steps step_limit z.early, y, large_same ∙ t.none)
 
       pub came_grown : {h : ℕ} {after : List ℕ} → h ≡ desk_level s + count_to n (frozen made)
-          → after ≡ pushed n q generators s.stack (desk_level s) (tuple top) marks (frozen made) → Taken d s after s.list (Grown h)
+          → after ≡ pushed n q generators s.stack (desk_level s) (tuple top) marks (frozen made) → Taken d s after s.list (Ok (Grown h))
       came_grown e w = record { came = (goes_on, grown_now (e ∙ ap (λ k. desk_level s + k) made_count) (w ∙ pushed_same) ∙ sym steps_grown) }
 
     -- ---- as code has them: the number of generators and the marks of the top known by equations
 
     module _ {m marks' : ℕ} (em : m ≡ n) (ek : marks' ≡ marks) where
-      pub take_large : TooLarge ≡ generators_tried p q generators m images s.list s.run.found (tuple top) marks'
-          → Taken d s s.stack s.list (Refused ComponentLimit)
-      take_large e = came_large (large_tried p q generators n images s.list s.run.found top marks (rw (em, ek) at e))
+      pub take_large : {why : Refusal} → Err why ≡ generators_tried p q generators m images s.list s.run.found (tuple top) marks'
+          → Taken d s s.stack s.list (Err why)
+      take_large e =
+          let (large, is) = large_tried p q generators n images s.list s.run.found top marks (rw (em, ek) at e) in
+          rw is (came_large large)
 
-      module _ {made : ℕ} (e : Made made ≡ generators_tried p q generators m images s.list s.run.found (tuple top) marks') where
+      module _ {made : ℕ} (e : Ok made ≡ generators_tried p q generators m images s.list s.run.found (tuple top) marks') where
         tries : Tries p q generators images s.list s.run.found top marks n made
         tries = made_tried p q generators n images s.list s.run.found top marks (rw (em, ek) at e)
 
@@ -341,5 +348,5 @@ module _ {p q : ℕ} {coefs : List ℤ} {generators : List ℕ} {images : List �
         take_pushing = rw (em, ek) (pushing tries)
 
         pub take_grown : {h : ℕ} {after : List ℕ} → h ≡ desk_level s + count_to m (frozen made)
-            → after ≡ pushed m q generators s.stack (desk_level s) (tuple top) marks' (frozen made) → Taken d s after s.list (Grown h)
+            → after ≡ pushed m q generators s.stack (desk_level s) (tuple top) marks' (frozen made) → Taken d s after s.list (Ok (Grown h))
         take_grown eh w = came_grown tries (rw em at eh) (rw (em, ek) at w)

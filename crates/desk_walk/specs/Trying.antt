@@ -1,5 +1,5 @@
 -- Which generators make a child, from the images kept beside the stack; and one turn of trying them. Assumes nothing.
-use Rattle.std.specs.Prelude.{◌≡◌, Bool, true, false, not, ◌&&◌, cond, List, ℕ, suc, ◌+◌, ◌*◌, ◌^◌, ◌%◌, ◌≤◌, ◌<◌, ltb, ℤ, pos, length, get_or}
+use Rattle.std.specs.Prelude.{◌≡◌, Bool, true, false, not, ◌&&◌, cond, List, ℕ, suc, ◌+◌, ◌*◌, ◌^◌, ◌%◌, ◌≤◌, ◌<◌, ltb, ℤ, pos, length, get_or, Result, Ok, Err}
 use Rattle.std.proofs.Math.Path.{refl}
 use Rattle.std.proofs.Common.{sym, ◌∙◌, ap, one-mul, add-one, arith, lit<, to_z-of_z, of_z, to_z}
 use Rattle.std.proofs.Math.Bool.{and-false}
@@ -19,13 +19,12 @@ use Rattle.laws.proofs.TableLaws.{row_fits}
 use Rattle.laws.proofs.MarkLaws.{shift_one_wide}
 use Rattle.table_rows.specs.Rows.{tuple}
 use Rattle.products.specs.Marks.{any_zero, marks_below, marks_skip, marks_zero}
-use Rattle.products.specs.Trials.{large_if, made_if}
+use Rattle.calls.specs.declared.Refusal.{Refusal}
+use Rattle.calls.specs.declared.Refusal.TheVariants.{ComponentLimit}
 use Rattle.table_rows.specs.Small.{SmallRow}
 use Rattle.desk_spec.specs.Desks.{plus}
 use Rattle.desk_rows.specs.Images.{Factors, entry, product_fits}
 use Rattle.desk_rows.specs.Rows.{Raised, SmallTuple}
-use Rattle.desk_walk.specs.declared.step.TriedGenerators.{TriedGenerators}
-use Rattle.desk_walk.specs.declared.step.TriedGenerators.TheVariants.{Made, TooLarge}
 
 -- generator j is not marked, and the inner product of rows 64 and j is below zero
 abbrev pub open_by : ℕ → List ℤ → ℕ → ℕ → Bool
@@ -41,10 +40,10 @@ large_by q generators x j = any_to q (λ i. ltb most_component (plus x (at gener
 
 -- a child that would have a component above the limit decides; else the generators that make one are told, as marks
 unfoldable pub generators_tried : (p q : ℕ) (generators : List ℕ) (n : ℕ) (images : List ℤ) (list : List ℕ) (found : ℕ) (x : ℕ → ℕ) (marks : ℕ)
-    → TriedGenerators
+    → Result ℕ Refusal
 generators_tried p q generators n images list found x marks =
-    cond (any_to n (λ j. made_by p q generators images list found x marks j && large_by q generators x j)) TooLarge
-    (Made (marks_to n (made_by p q generators images list found x marks)))
+    cond (any_to n (λ j. made_by p q generators images list found x marks j && large_by q generators x j)) (Err ComponentLimit)
+    (Ok (marks_to n (made_by p q generators images list found x marks)))
 
 -- what is known as they are tried on the tuple that `top` holds
 pub record Trying (p q : ℕ) (generators : List ℕ) (n : ℕ) (images : List ℤ) (list : List ℕ) (found : ℕ) (top : List ℕ) : Type 0 where
@@ -135,7 +134,7 @@ module _ (p q : ℕ) (generators : List ℕ) (images : List ℤ) (list : List �
     large_same = any_same q _ _ (λ i l. ap (ltb most_component) (same i l))
 
     pub tries_large : covered q found (at list q) z ≡ false → any_to q (λ i. ltb most_component (z i)) ≡ true → (n : ℕ) → j < n
-        → TooLarge ≡ generators_tried p q generators n images list found x marks
+        → Err ComponentLimit ≡ generators_tried p q generators n images list found x marks
     unfolding generators_tried
     tries_large e h n l = rw (any_holds n large j l (rw (makes_one e) (sym large_same ∙ h)))
 
@@ -144,26 +143,31 @@ module _ (p q : ℕ) (generators : List ℕ) (images : List ℤ) (list : List �
     tries_made l e h =
         record { marked = marks_add j made makes t.marked l (makes_one e); none = any_next j large t.none (rw (makes_one e) (sym large_same ∙ h)) }
 
-  pub tries_all : {n made : ℕ} → Tries n made → Made made ≡ generators_tried p q generators n images list found x marks
+  pub tries_all : {n made : ℕ} → Tries n made → Ok made ≡ generators_tried p q generators n images list found x marks
   unfolding generators_tried
   tries_all t = rw (t.none, t.marked)
 
 -- ---- the cases apart
 
-abbrev read_of : TriedGenerators → ℕ
-read_of TooLarge = 0
-read_of (Made made) = suc made
+large_if : (b : Bool) (m : ℕ) {why : Refusal} → Err why ≡ cond b (Err ComponentLimit) (Ok m) → (b ≡ true) × (why ≡ ComponentLimit)
+large_if true m e = (refl, cc)
+large_if false m e = (cc, cc)
+
+made_if : (b : Bool) (m : ℕ) {n : ℕ} → Ok n ≡ cond b (Err ComponentLimit) (Ok m) → (b ≡ false) × (n ≡ m)
+made_if true m e = (cc, cc)
+made_if false m e = (refl, cc)
 
 module _ (p q : ℕ) (generators : List ℕ) (n : ℕ) (images : List ℤ) (list : List ℕ) (found : ℕ) (top : List ℕ) (marks : ℕ) where
-  pub large_tried : TooLarge ≡ generators_tried p q generators n images list found (tuple top) marks
-      → any_to n (λ j. made_by p q generators images list found (tuple top) marks j && large_by q generators (tuple top) j) ≡ true
+  pub large_tried : {why : Refusal} → Err why ≡ generators_tried p q generators n images list found (tuple top) marks
+      → (any_to n (λ j. made_by p q generators images list found (tuple top) marks j && large_by q generators (tuple top) j) ≡ true)
+      × (why ≡ ComponentLimit)
   unfolding generators_tried
-  large_tried e = large_if TooLarge Made read_of refl (λ m. refl) _ _ e
+  large_tried e = large_if _ _ e
 
-  pub made_tried : {made : ℕ} → Made made ≡ generators_tried p q generators n images list found (tuple top) marks
+  pub made_tried : {made : ℕ} → Ok made ≡ generators_tried p q generators n images list found (tuple top) marks
       → Tries p q generators images list found top marks n made
   unfolding generators_tried
-  made_tried e = let (a, b) = made_if TooLarge Made read_of refl (λ m. refl) _ _ e in record { marked = b; none = a }
+  made_tried e = let (a, b) = made_if _ _ e in record { marked = b; none = a }
 
 -- an inner product as it is handed on and read back
 pub product_back : {p : ℕ} {images : List ℤ} {a b : ℕ} → Factors p images a b → {v : ℤ} → v ≡ inner p (entry images a) (entry images b)

@@ -1,5 +1,5 @@
 -- A turn of the second walk's loop, from what its parts ensure. Assumes nothing.
-use Rattle.std.specs.Prelude.{◌≡◌, ◌≢◌, List, ℕ, ◌+◌, ◌*◌, ◌-◌, ◌/◌, ◌≤◌, ◌<◌, max, ℤ, length, get_or}
+use Rattle.std.specs.Prelude.{◌≡◌, ◌≢◌, List, ℕ, ◌+◌, ◌*◌, ◌-◌, ◌/◌, ◌≤◌, ◌<◌, max, ℤ, length, get_or, Result, Ok, Err}
 use Rattle.std.proofs.Common.{sym, ◌∙◌, ap, ap₂, le-div_iff_mul-le, arith}
 use Rattle.linear.proofs.TupleLaws.{total_same}
 use Rattle.linear.specs.Tuples.{total}
@@ -18,7 +18,7 @@ use Rattle.desk_spec.specs.Valid.{DeskValid}
 use Rattle.desk_rows.specs.Images.{ImageWritten, Images, image_at}
 use Rattle.desk_rows.specs.Rows.{SmallTuple}
 use Rattle.desk_walk.specs.declared.step.DeskStepped.{DeskStepped}
-use Rattle.desk_walk.specs.declared.step.DeskStepped.TheVariants.{Grown, Listed, Refused}
+use Rattle.desk_walk.specs.declared.step.DeskStepped.TheVariants.{Grown, Listed}
 use Rattle.desk_walk.specs.Taking.{Standing, Taken, state_at}
 use Rattle.desk_walk.specs.Walking.{Walking, ends_refused, goes_on}
 
@@ -64,21 +64,21 @@ deeper {q} {top} {stack} {base} deepest h e m = m ∙ ap (max deepest) (e ∙ to
 
 module _ (r : Record) {d : Desk} {budget left : ℕ} {s₀ : State} {stack list : List ℕ} {height found steps deepest : ℕ}
     (w : Walking d budget s₀ left (state_at r stack list height found steps deepest)) (h : 0 < height) (more : 0 < left)
-    {came : DeskStepped} {stack' list' : List ℕ} (t : Taken d (state_at r stack list height found steps deepest) stack' list' came) where
+    {came : Result DeskStepped Refusal} {stack' list' : List ℕ} (t : Taken d (state_at r stack list height found steps deepest) stack' list' came) where
   abbrev s : State
   s = state_at r stack list height found steps deepest
 
-  pub turn_listed : {k : ℕ} → came ≡ Listed k → {height' found' deepest' : ℕ} → height' ≡ height - 1 → found' ≡ k
+  pub turn_listed : {k : ℕ} → came ≡ Ok (Listed k) → {height' found' deepest' : ℕ} → height' ≡ height - 1 → found' ≡ k
       → deepest' ≡ max deepest (total (at stack (d.q + 2) (height - 1)) d.q)
       → Walking d budget s₀ (left - 1) (state_at r stack' list' height' found' (steps + 1) deepest')
   turn_listed e eh ef ed = let c = rw e at t.came in rw (eh, ef, ed) (goes_on d w h more c.0 c.1)
 
-  pub turn_grown : {n : ℕ} → came ≡ Grown n → {height' found' deepest' : ℕ} → height' ≡ n → found' ≡ found
+  pub turn_grown : {n : ℕ} → came ≡ Ok (Grown n) → {height' found' deepest' : ℕ} → height' ≡ n → found' ≡ found
       → deepest' ≡ max deepest (total (at stack (d.q + 2) (height - 1)) d.q)
       → Walking d budget s₀ (left - 1) (state_at r stack' list' height' found' (steps + 1) deepest')
   turn_grown e eh ef ed = let c = rw e at t.came in rw (eh, ef, ed) (goes_on d w h more c.0 c.1)
 
-  pub turn_refused : {why : Refusal} → came ≡ Refused why
+  pub turn_refused : {why : Refusal} → came ≡ Err why
       → walk budget (desk_machine d) s₀
       ≡ record { answer = refused (number_of why) (values_of why); state = state_at r stack' list' height found steps deepest }
   turn_refused {why} e =

@@ -11,7 +11,7 @@ ghost use Rattle.calls.specs.Paper.{outcome_of, state_of};
 ghost use Rattle.desk_rows.specs.Images.{ImageWritten, SmallMap, image_at};
 ghost use Rattle.desk_walk.specs.Taking.{Standing, Taken, state_at};
 
-use crate::step::{DeskStepped, TriedGenerators};
+use crate::step::DeskStepped;
 use calls::{Answer, Outcome, Record, Refusal};
 use desk_rows::{images, marks, rows};
 
@@ -48,15 +48,8 @@ pub fn walk_desk(
             return calls::left(Answer::Paused, r, height, found, steps, second, deepest);
         }
         if steps == calls::STEP_LIMIT {
-            return calls::left(
-                Answer::Refused(Refusal::StepLimit),
-                r,
-                height,
-                found,
-                steps,
-                second,
-                deepest,
-            );
+            let answer = Answer::Refused(Refusal::StepLimit);
+            return calls::left(answer, r, height, found, steps, second, deepest);
         }
         look(
             p,
@@ -67,26 +60,24 @@ pub fn walk_desk(
             &mut images,
             &mut top,
         );
-        match take(
+        let stepped = match take(
             p, q, coefs, generators, n, &images, stack, list, &top, &mut child, r, height, found,
             steps, deepest,
         ) {
+            Ok(stepped) => stepped,
+            Err(why) => {
+                let answer = Answer::Refused(why);
+                return calls::left(answer, r, height, found, steps, second, deepest);
+            }
+        };
+        match stepped {
             DeskStepped::Listed(k) => {
                 height -= 1;
                 found = k;
             }
             DeskStepped::Grown(h) => height = h,
-            DeskStepped::Refused(why) => return calls::left(
-                Answer::Refused(why),
-                r,
-                height,
-                found,
-                steps,
-                second,
-                deepest,
-            ),
         }
-        deepest = larger(deepest, rows::sum(&top, q));
+        deepest = deepest.max(rows::sum(&top, q));
         steps += 1;
         left -= 1;
     }
@@ -112,12 +103,6 @@ fn look(
     images::write(p, q, coefs, stack, base, 64, images);
 }
 
-fn larger(a: u64, b: u64) -> u64
-    ensures { result ≡ max a b }
-{
-    if a < b { b } else { a }
-}
-
 // One step of a run from a height above 0. `top` holds the tuple of the top, and row 64 of the images its image.
 fn take(
     p: usize,
@@ -135,7 +120,7 @@ fn take(
     found: usize,
     steps: u64,
     deepest: u64,
-) -> DeskStepped
+) -> Result<DeskStepped, Refusal>
     requires standing { Standing p q coefs.now generators.now images.now top.now (state_at r stack.old list.old height found steps deepest) }
     requires n_value { (n ≡ length generators.now / q) × (q ≤ length child.old) }
     ensures { Taken (desk_of p q coefs.now generators.now)
@@ -144,14 +129,14 @@ fn take(
 {
     let level = height - 1;
     if images::vanishes(p, images, 64) {
-        return step::enlist(list, found, q, top);
+        let listed = step::enlist(list, found, q, top)?;
+        return Ok(DeskStepped::Listed(listed));
     }
     let base = level * (q + 2);
     let marks = marks::join(stack[base + q], stack[base + (q + 1)]);
-    match step::admitted_generators(p, q, generators, n, images, list, found, top, child, marks) {
-        TriedGenerators::TooLarge => DeskStepped::Refused(Refusal::ComponentLimit),
-        TriedGenerators::Made(made) => {
-            DeskStepped::Grown(step::push(q, generators, n, stack, level, top, child, marks, made))
-        }
-    }
+    let made = step::admitted_generators(
+        p, q, generators, n, images, list, found, top, child, marks,
+    )?;
+    let grown = step::push(q, generators, n, stack, level, top, child, marks, made);
+    Ok(DeskStepped::Grown(grown))
 }

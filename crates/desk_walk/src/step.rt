@@ -13,40 +13,33 @@ ghost use Rattle.desk_walk.specs.Enlisting.{Enlisted};
 use calls::Refusal;
 use desk_rows::{images, marks, rows};
 
-// What a step came to: a solution listed, with the number of rows then listed; children written up to a height; or a refusal.
+// What a step that was not refused came to: a solution listed, with the number of rows then listed; or children written up to a height.
 #[derive(Clone, Copy)]
 pub enum DeskStepped {
     Listed(usize),
     Grown(usize),
-    Refused(Refusal),
 }
 
-// What trying the generators came to: a child would have a component above the limit, or those that make a child, as marks.
-#[derive(Clone, Copy)]
-pub enum TriedGenerators {
-    TooLarge,
-    Made(u64),
-}
-
-// Lists a solution where there is room, or where a sweep makes room.
-pub fn enlist(list: &mut [u32], found: usize, q: usize, top: &[u32]) -> DeskStepped
+// Lists a solution where there is room, or where a sweep makes room, and returns the number of rows then listed.
+pub fn enlist(list: &mut [u32], found: usize, q: usize, top: &[u32]) -> Result<usize, Refusal>
     requires { (0 < q) × (q ≤ length top.now) × (found * q ≤ length list.old) }
     ensures { Enlisted q found (tuple top.now) list.old list.new result }
 {
     let capacity = list.len() / q;
     if found < capacity {
         table_rows::rows::write(list, found * q, q, top);
-        return DeskStepped::Listed(found + 1);
+        return Ok(found + 1);
     }
     let left = table_rows::sweep::sweep(list, found, q);
     if capacity <= left {
-        return DeskStepped::Refused(Refusal::ListFull);
+        return Err(Refusal::ListFull);
     }
     table_rows::rows::write(list, left * q, q, top);
-    DeskStepped::Listed(left + 1)
+    Ok(left + 1)
 }
 
-// Which of the n generators make a child of the tuple `top`, whose image stands in row 64; what `child` holds is of no meaning.
+// Which of the n generators make a child of the tuple `top`, whose image stands in row 64, as marks; what `child` holds is of no meaning. A child with a
+// component above the limit is refused.
 pub fn admitted_generators(
     p: usize,
     q: usize,
@@ -58,15 +51,12 @@ pub fn admitted_generators(
     top: &[u32],
     child: &mut [u32],
     marks: u64,
-) -> TriedGenerators
+) -> Result<u64, Refusal>
     requires { Trying p q generators.now n images.now list.now found top.now × (q ≤ length child.old) }
     ensures { result ≡ generators_tried p q generators.now n images.now list.now found (tuple top.now) marks }
 {
     let mut made: u64 = 0;
-    let mut next = 0;
-    while next < n {
-        let j = next;
-        next += 1;
+    for j in 0..n {
         if !is_open(p, images, marks, j) {
             continue;
         }
@@ -75,11 +65,11 @@ pub fn admitted_generators(
             continue;
         }
         if rows::is_large(child, q) {
-            return TriedGenerators::TooLarge;
+            return Err(Refusal::ComponentLimit);
         }
         made += 1 << j;
     }
-    TriedGenerators::Made(made)
+    Ok(made)
 }
 
 // Whether generator j is not marked, and the inner product below zero.
@@ -87,10 +77,7 @@ fn is_open(p: usize, images: &[i64; 520], marks: u64, j: usize) -> bool
     requires { Factors p images.now 64 j × (j < 64) }
     ensures { result ≡ (not (frozen marks j) && lt_z (inner p (entry images.now 64) (entry images.now j)) (pos 0)) }
 {
-    if marks::is_marked(marks, j) {
-        return false;
-    }
-    images::is_below_zero(images::product(p, images, 64, j))
+    !marks::is_marked(marks, j) && images::is_below_zero(images::product(p, images, 64, j))
 }
 
 // Writes the children's rows from `level` up, and returns the height that they reach.
@@ -111,10 +98,7 @@ pub fn push(
 {
     let mut h = level;
     let mut frozen = marks;
-    let mut next = 0;
-    while next < n {
-        let j = next;
-        next += 1;
+    for j in 0..n {
         if marks::is_marked(made, j) {
             rows::add(top, generators, j * q, q, child);
             rows::write(stack, h, q, child, frozen);

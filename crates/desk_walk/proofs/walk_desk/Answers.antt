@@ -1,15 +1,13 @@
 -- `walk_desk` meets its contract. The walk from the first state is, at each turn, the walk from the state reached with the budget left. The measure is
 -- that budget. Assumes nothing.
 use Prim.Native.Nat.{ℕ, ◌<◌}
-use lib.ListN.{length}
 use mathlib.Core.Path.{◌≡◌, refl, sym, ◌∙◌, ap}
-use native.Mathlib.Nat.{div-mul-le_self}
 use native.Mathlib.Omega.{arith}
+use Rattle.std.proofs.Common.{Ok}
 use Rattle.definitions.specs.Answers.{complete}
 use Rattle.desk_spec.specs.Desks.{Desk, desk_of}
-use Rattle.desk_walk.specs.Taking.{shaped_small}
-use Rattle.desk_walk.specs.Turning.{deeper, found_place, held_small, images_stay, standing, top_row, turn_grown, turn_listed, turn_refused}
-use Rattle.desk_walk.specs.Walking.{ends_complete, ends_late, ends_paused, swept_is, walking_none}
+use Rattle.desk_walk.specs.Turning.{deeper, images_stay, standing, turn_grown, turn_listed, turn_refused}
+use Rattle.desk_walk.specs.Walking.{ends_complete, ends_late, ends_paused, swept_is}
 use Rattle.desk_walk.proofs.walk_desk.Goals as goal
 use Rattle.desk_walk.proofs.walk_desk.Goals.{Else-steps-eq-STEP_LIMIT, Start}
 
@@ -22,21 +20,6 @@ desk s = desk_of s.args.p s.args.q s.args.coefs.now s.args.generators.now
 abbrev high : (e : Else-steps-eq-STEP_LIMIT) → 0 < e.loop-height.height
 high e = e.loop-height-test.true
 
-pub nonzero_div-n : goal.nonzero_div-n
-nonzero_div-n c = omega (arith, c.requires.shaped.q_some)
-
-pub write_all-requires : goal.write_all-requires
-write_all-requires c = (
-  shaped_small c.args.p c.args.q c.args.coefs.now c.args.generators.now c.requires.shaped,
-  c.requires.shaped.few,
-  div-mul-le_self (length c.args.generators.now) c.args.q,
-  refl,
-)
-
-pub loop-height-init : goal.loop-height-init
-loop-height-init c =
-    (refl, refl, walking_none (desk (goal.at.loop-height-init c).Start) c.requires, (c.write_all.ensures.0, c.write_all.ensures.1, refl, refl))
-
 pub returns-then-left-eq0 : goal.returns-then-left-eq0
 returns-then-left-eq0 c =
     rw c.left.ensures
@@ -48,21 +31,6 @@ returns-then-steps-eq-STEP_LIMIT c =
     (sym (ends_late (desk (goal.at.returns-then-steps-eq-STEP_LIMIT c).Start) c.loop-height.invariant.2 c.loop-height-test.true
     (positive c.if-left-eq0.false) c.if-steps-eq-STEP_LIMIT.true))
 
-pub overflow_add-q : goal.overflow_add-q
-overflow_add-q c = omega (arith, c.loop-height.invariant.2.valid.shaped.q_few)
-
-pub overflow_mul-height : goal.overflow_mul-height
-overflow_mul-height c =
-    omega (arith, (top_row c.args.r c.loop-height.invariant.2.valid (high c)).whole, c.loop-height.invariant.0, c.well_formed)
-
-pub look-requires : goal.look-requires
-look-requires c = (
-  (shaped_small c.args.p c.args.q c.args.coefs.now c.args.generators.now c.requires.shaped).group,
-  top_row c.args.r c.loop-height.invariant.2.valid (high (goal.at.look-requires c).Else-steps-eq-STEP_LIMIT),
-  c.loop-height.invariant.3.1,
-  omega (arith, c.loop-height.invariant.3.2, c.requires.shaped.q_few),
-)
-
 pub take-requires : goal.take-requires
 take-requires c =
     let at_top = high (goal.at.take-requires c).Else-steps-eq-STEP_LIMIT in
@@ -73,42 +41,23 @@ take-requires c =
       n_value = (refl, omega (arith, c.loop-height.invariant.3.3, c.requires.shaped.q_few));
     }
 
-pub shape_of-stack-in-Refused : goal.shape_of-stack-in-Refused
-shape_of-stack-in-Refused c =
-    c.take.auto.stack ∙ c.loop-height.invariant.0
-
-pub shape_of-list-in-Refused : goal.shape_of-list-in-Refused
-shape_of-list-in-Refused c =
-    c.take.auto.list ∙ c.loop-height.invariant.1
-
-pub returns-in-Refused : goal.returns-in-Refused
-returns-in-Refused c =
-    rw c.left-in-Refused.ensures
-    (sym (turn_refused c.args.r c.loop-height.invariant.2 (high (goal.at.returns-in-Refused c).Else-steps-eq-STEP_LIMIT)
+pub returns-in-Err : goal.returns-in-Err
+returns-in-Err c =
+    rw c.left-in-Err.ensures
+    (sym (turn_refused c.args.r c.loop-height.invariant.2 (high (goal.at.returns-in-Err c).Else-steps-eq-STEP_LIMIT)
     (positive c.if-left-eq0.false) c.take.ensures
-    c.in-Refused.is))
-
-pub sum-requires : goal.sum-requires
-sum-requires c = (
-  c.requires.shaped.q_few,
-  held_small c.args.r c.loop-height.invariant.2.valid (high (goal.at.sum-requires c).Else-steps-eq-STEP_LIMIT) c.look.ensures.holds
-      (omega (arith, c.look.auto.top, c.loop-height.invariant.3.2, c.requires.shaped.q_few)),
-)
-
-pub overflow_add-steps : goal.overflow_add-steps
-overflow_add-steps c =
-    omega (arith, c.loop-height.invariant.2.valid.ordered.early)
+    c.in-Err.is))
 
 pub loop-height-preserved : goal.loop-height-preserved
 loop-height-preserved c =
     let at_top = high (goal.at.loop-height-preserved c).Else-steps-eq-STEP_LIMIT in
     let more = positive c.if-left-eq0.false in
-    let deep = deeper c.loop-height.deepest c.look.ensures.holds c.sum.ensures c.larger-deepest.ensures in (
+    let deep = deeper c.loop-height.deepest c.look.ensures.holds c.sum.ensures c.max-deepest.ensures in (
       c.take.auto.stack ∙ c.loop-height.invariant.0,
       c.take.auto.list ∙ c.loop-height.invariant.1,
-      elim c.match-take.branch [
-        | goal.in-Listed w ↦ turn_listed c.args.r c.loop-height.invariant.2 at_top more c.take.ensures w.in-Listed.is w.height-is w.found-is deep
-        | goal.in-Grown w ↦ turn_grown c.args.r c.loop-height.invariant.2 at_top more c.take.ensures w.in-Grown.is w.height-is w.found-is deep
+      elim c.match-stepped.branch [
+        | goal.in-Listed w ↦ turn_listed c.args.r c.loop-height.invariant.2 at_top more c.in-Ok.ensures (ap Ok w.in-Listed.is) w.height-is w.found-is deep
+        | goal.in-Grown w ↦ turn_grown c.args.r c.loop-height.invariant.2 at_top more c.in-Ok.ensures (ap Ok w.in-Grown.is) w.height-is w.found-is deep
       ],
       (
         images_stay c.requires.shaped.p_few c.requires.shaped.few c.loop-height.invariant.3.0 c.look.ensures.image_written,
@@ -118,9 +67,6 @@ loop-height-preserved c =
         c.take.auto.child ∙ c.loop-height.invariant.3.3,
       ),
     )
-
-pub sweep-kept-requires : goal.sweep-kept-requires
-sweep-kept-requires c = found_place c.args.r c.loop-height.invariant.2.valid
 
 pub returns : goal.returns
 returns c =
