@@ -1,5 +1,6 @@
 pub mod DecimalLaws
 pub mod Facts
+pub mod FirstLaws
 pub mod NumberLaws
 pub mod ParseLaws
 pub mod PutTheorems
