@@ -1,30 +1,22 @@
 -- The kinds of walk as code has them, and what a step is told of a state: its tables, its height and the counts of its lists.
 -- The rest of the record it does not look at. Assumes nothing.
-use Rattle.std.specs.Prelude.{◌≡◌, refl, List, ℕ, ◌≤◌, length}
+use Rattle.std.specs.Prelude.{List, ℕ, ◌≤◌, length}
 use Rattle.definitions.specs.Input.{bound_of}
-use Rattle.definitions.specs.Step.{row_width}
 use Rattle.definitions.specs.System.{Kind, above, capped, plain}
 use Rattle.definitions.specs.Tables.{RunKind, State, plain_run}
 use Rattle.candidates.specs.declared.Kind as declared
 use Rattle.candidates.specs.declared.Kind.TheVariants.{Plain, Capped, Above}
 
--- the lower bound is that of a walk above one, and of no meaning in any other
-abbrev pub kind_by : declared.Kind → List ℕ → Kind
-kind_by Plain lower = plain
-kind_by Capped lower = capped
-kind_by Above lower = above (bound_of lower)
+abbrev pub kind_by : declared.Kind → Kind
+kind_by Plain = plain
+kind_by Capped = capped
+kind_by (Above lower) = above (bound_of lower.now)
 
--- of how many numbers a row of a list is does not depend on it
-pub width_any : (w : declared.Kind) (lower bound : List ℕ) (q : ℕ) → row_width (kind_by w lower) q ≡ row_width (kind_by w bound) q
-width_any Plain lower bound q = refl
-width_any Capped lower bound q = refl
-width_any Above lower bound q = refl
-
--- it has q numbers there
-abbrev pub Bounds : declared.Kind → ℕ → List ℕ → Type 0
-Bounds Plain q lower = Unit
-Bounds Capped q lower = Unit
-Bounds Above q lower = q ≤ length lower
+-- the lower bound has q numbers
+abbrev pub Bounds : declared.Kind → ℕ → Type 0
+Bounds Plain q = Unit
+Bounds Capped q = Unit
+Bounds (Above lower) q = q ≤ length lower.now
 
 abbrev pub asked : List ℕ → List ℕ → List ℕ → ℕ → ℕ → ℕ → State
 asked stack list second height found found2 =

@@ -2,12 +2,11 @@
 // and what of a tuple is compared with the first list.
 #![tactic(auto)]
 
-ghost use Rattle.std.specs.Prelude.{◌≡◌, ◌&&◌, [], ◌+◌, ◌*◌, ◌-◌, ◌^◌, ◌≤◌, ◌<◌, eqb, length};
-ghost use Rattle.linear.specs.Tests.{any_to};
+ghost use Rattle.std.specs.Prelude.{◌≡◌, [], ◌+◌, ◌*◌, ◌-◌, ◌^◌, ◌≤◌, ◌<◌, length};
 ghost use Rattle.linear.specs.Tuples.{AtOrBelow, raise};
 ghost use Rattle.definitions.specs.Input.{bound_of};
 ghost use Rattle.definitions.specs.System.{above, capped, covered};
-ghost use Rattle.definitions.specs.Tables.{at, capacity, frozen};
+ghost use Rattle.definitions.specs.Tables.{at, capacity};
 ghost use Rattle.definitions.specs.Step.{marks_to, row_width};
 ghost use Rattle.laws.specs.RefusalLaws.{Inside, SecondFits};
 ghost use Rattle.table_rows.specs.Rows.{Limited, Within, part, tuple};
@@ -15,98 +14,51 @@ ghost use Rattle.products.specs.Marks.{Marked};
 ghost use Rattle.candidates.specs.Kinds.{Bounds, asked, kind_by};
 ghost use Rattle.candidates.specs.Grow.{child_by, child_for, open_for};
 ghost use Rattle.candidates.specs.Open.{Differs};
-ghost use Rattle.candidates.specs.Tried.{tried_by, tried_if};
+ghost use Rattle.candidates.specs.Tried.{tried_by};
 
-// The kinds of walk: plain, with a first unknown that is never raised past 1, and above a lower bound. specs/Kinds.antt has what they are in the definitions.
+use calls::Refusal;
+
+// The kinds of walk: plain, with a first unknown that is never raised past 1, and above a lower bound. A run has one of five kinds (`calls::RunKind`):
+// one from a lower bound has a plain walk and then one above the bound, and one by desks has none of these. specs/Kinds.antt has what they are in the
+// definitions.
 #[derive(Clone, Copy)]
-pub enum Kind {
+pub enum Kind<'a> {
     Plain,
     Capped,
-    Above,
+    Above(&'a [u32]),
 }
 
-// What trying the candidates came to: a child would have a component above the limit, or the unknowns that make a child, as marks.
-#[derive(Clone, Copy)]
-pub enum Tried {
-    TooLarge,
-    Made(u32),
-}
-
-// Which of the candidates make a child of the tuple `t`: those that the cap and the second list leave open are put to the first list.
+// Which of the candidates make a child of the tuple `t`, as marks: those that the cap and the second list leave open are put to the first list. Refused
+// where a child would have a component above the limit.
 pub fn admitted(
     kind: Kind,
     list: &[u32],
     second: &[u32],
-    lower: &[u32],
     found: usize,
     other: usize,
     q: usize,
     t: &mut [u32],
     candidates: u32,
     limit: u32,
-) -> Tried
-    requires q_nonzero { ((0 < row_width (kind_by kind lower.now) q) × (q ≤ 16) × (found ≤ capacity (row_width (kind_by kind lower.now) q) list.now))
-        × Bounds kind q lower.now }
-    requires second_fits { SecondFits (kind_by kind lower.now) q (asked [] list.now second.now 0 found other) × (q ≤ length t.old) × (candidates < 2 ^ q) }
-    requires limited { Limited q (tuple t.old) × Within limit q (tuple t.old) × Inside (kind_by kind lower.now) q (tuple t.old) }
+) -> Result<u32, Refusal>
+    requires q_nonzero { ((0 < row_width (kind_by kind) q) × (q ≤ 16) × (found ≤ capacity (row_width (kind_by kind) q) list.now)) × Bounds kind q }
+    requires second_fits { SecondFits (kind_by kind) q (asked [] list.now second.now 0 found other) × (q ≤ length t.old) × (candidates < 2 ^ q) }
+    requires limited { Limited q (tuple t.old) × Within limit q (tuple t.old) × Inside (kind_by kind) q (tuple t.old) }
     ensures value { result ≡ tried_by limit q
-        (child_for (kind_by kind lower.now) q (asked [] list.now second.now 0 found other) (tuple t.old) candidates)
-        (tuple t.old) }
+        (child_for (kind_by kind.entry) q (asked [] list.now second.now 0 found other) (tuple t.old) candidates) (tuple t.old) }
     ensures t_unchanged { t.new ≡ t.old }
 {
     match kind {
-        Kind::Plain => admitted_plain(list, found, q, t, candidates, limit),
-        Kind::Capped => { admitted_capped(list, second, found, other, q, t, candidates, limit) }
-        Kind::Above => {
-            admitted_above(list, second, lower, found, other, q, t, candidates, limit)
+        Kind::Plain => passed(list, found, q, 0, q, t, candidates, limit),
+        Kind::Capped => {
+            let left = uncapped(second, other, q, t, candidates);
+            passed(list, found, q - 1, 1, q, t, left, limit)
+        }
+        Kind::Above(lower) => {
+            let left = apart(second, lower, other, q, t, candidates);
+            passed(list, found, q, 0, q, t, left, limit)
         }
     }
-}
-
-// Of a capped walk: those that the cap and the second list leave are put to the first list, without their first component.
-fn admitted_capped(
-    list: &[u32],
-    second: &[u32],
-    found: usize,
-    other: usize,
-    q: usize,
-    t: &mut [u32],
-    candidates: u32,
-    limit: u32,
-) -> Tried
-    requires nonzero { ((0 < q - 1) × (q ≤ 16) × (found * (q - 1) ≤ length list.now) × (other * (q - 1) ≤ length second.now)) × (q ≤ length t.old)
-        × (candidates < 2 ^ q) }
-    requires limited { Limited q (tuple t.old) × Within limit q (tuple t.old) × (tuple t.old 0 ≤ 1) }
-    ensures value { result ≡ tried_by limit q
-        (child_for capped q (asked [] list.now second.now 0 found other) (tuple t.old) candidates) (tuple t.old) }
-    ensures t_unchanged { t.new ≡ t.old }
-{
-    let left = uncapped(second, other, q, t, candidates);
-    passed(list, found, q - 1, 1, q, t, left, limit)
-}
-
-// Of a walk above a lower bound: those that the second list leaves are put to the first list.
-fn admitted_above(
-    list: &[u32],
-    second: &[u32],
-    lower: &[u32],
-    found: usize,
-    other: usize,
-    q: usize,
-    t: &mut [u32],
-    candidates: u32,
-    limit: u32,
-) -> Tried
-    requires q_nonzero { ((0 < q) × (q ≤ 16) × (found * q ≤ length list.now) × (other * q ≤ length second.now)) × (q ≤ length lower.now) × (q ≤ length t.old)
-        × (candidates < 2 ^ q) }
-    requires limited { Limited q (tuple t.old) × Within limit q (tuple t.old) × AtOrBelow q (bound_of lower.now) (tuple t.old) }
-    ensures value { result ≡ tried_by limit q
-        (child_for (above (bound_of lower.now)) q (asked [] list.now second.now 0 found other) (tuple t.old)
-        candidates) (tuple t.old) }
-    ensures t_unchanged { t.new ≡ t.old }
-{
-    let left = apart(second, lower, other, q, t, candidates);
-    passed(list, found, q, 0, q, t, left, limit)
 }
 
 // Which of the candidates of a capped walk the cap and the second list leave open. The list stops only tuples with 1 at the first place.
@@ -143,10 +95,8 @@ fn subtract(t: &[u32], lower: &[u32], q: usize, over: &mut [u32; 16])
     requires { ((q ≤ 16) × (q ≤ length lower.now) × (q ≤ length t.now) × (length over.old ≡ 16)) × AtOrBelow q (bound_of lower.now) (tuple t.now) }
     ensures { Differs q (tuple t.now) (bound_of lower.now) over.new }
 {
-    let mut j = 0;
-    while j < q {
+    for j in 0..q {
         over[j] = t[j] - lower[j];
-        j += 1;
     }
 }
 
@@ -171,15 +121,16 @@ fn unstopped(
         let i = u32::trailing_zeros(rest) as usize;
         let bit: u32 = 1 << i;
         rest -= bit;
-        if blocked(list, found, w, from, t, i) {
-            continue;
+        if !blocked(list, found, w, from, t, i) {
+            left += bit;
         }
-        left += bit;
     }
     left
 }
 
-// Which of the candidates that are left open make a child.
+// Which of the candidates that are left open make a child. Of a plain walk, most of its time goes into this loop: it tries the limit in the turn of a
+// candidate, and is compiled into each kind's walk, where the rows' width is at hand.
+#[inline(always)]
 fn passed(
     list: &[u32],
     found: usize,
@@ -189,63 +140,27 @@ fn passed(
     t: &mut [u32],
     left: u32,
     limit: u32,
-) -> Tried
+) -> Result<u32, Refusal>
     requires w_nonzero { ((0 < w) × (from + w ≤ q)) × (q ≤ 16) × (found * w ≤ length list.now) × (q ≤ length t.old) × (left < 2 ^ q) }
     requires limited { Limited q (tuple t.old) × Within limit q (tuple t.old) }
     ensures value { result ≡ tried_by limit q (child_by w from found (at list.now w) (tuple t.old) left) (tuple t.old) }
     ensures t_unchanged { t.new ≡ t.old }
 {
-    let made = unstopped(list, found, w, from, q, t, left);
-    limited(made, q, t, limit)
-}
-
-// Whether one of the children would have a component above the limit.
-fn limited(made: u32, q: usize, t: &[u32], limit: u32) -> Tried
-    requires { ((q ≤ 16) × (q ≤ length t.now) × (made < 2 ^ q)) × Within limit q (tuple t.now) }
-    ensures { result ≡ tried_if (any_to q (λ j. frozen made j && eqb (tuple t.now j) limit)) made }
-{
-    let mut rest = made;
-    while rest != 0 {
-        let i = u32::trailing_zeros(rest) as usize;
-        let bit: u32 = 1 << i;
-        rest -= bit;
-        if limit <= t[i] {
-            return Tried::TooLarge;
-        }
-    }
-    Tried::Made(made)
-}
-
-// Both at once, for a plain walk: most of its time goes into this loop, and with rows of q numbers and a single caller it is compiled into the loop over the
-// steps.
-fn admitted_plain(
-    list: &[u32],
-    found: usize,
-    q: usize,
-    t: &mut [u32],
-    candidates: u32,
-    limit: u32,
-) -> Tried
-    requires q_nonzero { (0 < q) × (q ≤ 16) × (found * q ≤ length list.now) × (q ≤ length t.old) × (candidates < 2 ^ q) }
-    requires limited { Limited q (tuple t.old) × Within limit q (tuple t.old) }
-    ensures value { result ≡ tried_by limit q (child_by q 0 found (at list.now q) (tuple t.old) candidates) (tuple t.old) }
-    ensures t_unchanged { t.new ≡ t.old }
-{
     let mut made: u32 = 0;
-    let mut rest = candidates;
+    let mut rest = left;
     while rest != 0 {
         let i = u32::trailing_zeros(rest) as usize;
         let bit: u32 = 1 << i;
         rest -= bit;
-        if blocked(list, found, q, 0, t, i) {
+        if blocked(list, found, w, from, t, i) {
             continue;
         }
         if limit <= t[i] {
-            return Tried::TooLarge;
+            return Err(Refusal::ComponentLimit);
         }
         made += bit;
     }
-    Tried::Made(made)
+    Ok(made)
 }
 
 // Whether the list has a row at or below the numbers of `t` from place `from` on, with component i raised by one; `t` is as before afterwards.

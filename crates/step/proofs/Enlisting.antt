@@ -1,22 +1,23 @@
 -- Theorems about what specs/Enlisting.antt defines. Assumes nothing.
-use Rattle.std.specs.Prelude.{◌≡◌, refl, Bool, true, false, List, ℕ, ◌*◌, ◌-◌, ◌≤◌, ◌<◌, leb}
+use Rattle.std.specs.Prelude.{◌≡◌, refl, Bool, true, false, List, ℕ, ◌*◌, ◌-◌, ◌≤◌, ◌<◌, leb, Result, Ok, Err}
 use Rattle.std.proofs.Common.{ap, ◌∙◌, zero-add, arith, le-leb}
 use Rattle.std.proofs.lemmas.Bool.{lt-leb}
 use Rattle.linear.specs.Tuples.{rest}
 use Rattle.definitions.specs.System.{above, capped, plain}
 use Rattle.definitions.specs.Tables.{State, capacity, write_to}
 use Rattle.laws.proofs.TableLaws.{write_same}
+use Rattle.calls.specs.declared.Refusal.{Refusal}
 use Rattle.calls.specs.declared.Refusal.TheVariants.{ListFull}
 use Rattle.table_rows.specs.Rows.{part}
 use Rattle.step.specs.declared.Stepped.{Stepped}
-use Rattle.step.specs.declared.Stepped.TheVariants.{Listed, ListedSecond, Refused}
+use Rattle.step.specs.declared.Stepped.TheVariants.{Listed, ListedSecond}
 use Rattle.step.specs.Enlisting.{Appended, Enlisted, append_answer, is_full, list_after, list_answer, lists_after}
 
 module _ (w found : ℕ) (y : ℕ → ℕ) (list : List ℕ) (done : Stepped) where
-  pub appended_none : capacity w list ≤ found → Appended w found y list list done (Refused ListFull)
+  pub appended_none : capacity w list ≤ found → Appended w found y list list done (Err ListFull)
   appended_none h = let full = le-leb (capacity w list) found h in record { answers = rw full; leaves = rw full }
 
-  pub appended_next : {after : List ℕ} → found < capacity w list → after ≡ write_to w list (found * w) y → Appended w found y list after done done
+  pub appended_next : {after : List ℕ} → found < capacity w list → after ≡ write_to w list (found * w) y → Appended w found y list after done (Ok done)
   appended_next h e = let room = lt-leb (capacity w list) found h in record { answers = rw room; leaves = rw room e }
 
 -- into the first list, or the second one, by what `append` ensures
@@ -50,7 +51,7 @@ after_same : (full : Bool) (w found : ℕ) {x y : ℕ → ℕ} (list : List ℕ)
 after_same true w found list e = refl
 after_same false w found list e = write_same w list (found * w) e
 
-pub enlisted_plain : (q : ℕ) (s : State) (x : ℕ → ℕ) {after : List ℕ} {r : Stepped} → Appended q s.run.found (part 0 x) s.list after Listed r
+pub enlisted_plain : (q : ℕ) (s : State) (x : ℕ → ℕ) {after : List ℕ} {r : Result Stepped Refusal} → Appended q s.run.found (part 0 x) s.list after Listed r
     → Enlisted plain q s x after s.second r
 enlisted_plain q s x a =
     let full = is_full q s.run.found s.list in
@@ -61,12 +62,12 @@ enlisted_plain q s x a =
     }
 
 -- a walk above a lower bound lists as a plain one
-pub enlisted_above : (f : ℕ → ℕ) (q : ℕ) (s : State) (x : ℕ → ℕ) {after : List ℕ} {r : Stepped} → Appended q s.run.found (part 0 x) s.list after Listed r
+pub enlisted_above : (f : ℕ → ℕ) (q : ℕ) (s : State) (x : ℕ → ℕ) {after : List ℕ} {r : Result Stepped Refusal} → Appended q s.run.found (part 0 x) s.list after Listed r
     → Enlisted (above f) q s x after s.second r
 enlisted_above f q s x a = let e = enlisted_plain q s x a in record { answers = e.answers; first = e.first; other = e.other }
 
 module _ (q : ℕ) (s : State) (x : ℕ → ℕ) where
-  pub enlisted_zero : x 0 ≡ 0 → {after : List ℕ} {r : Stepped} → Appended (q - 1) s.run.found (part 1 x) s.list after Listed r
+  pub enlisted_zero : x 0 ≡ 0 → {after : List ℕ} {r : Result Stepped Refusal} → Appended (q - 1) s.run.found (part 1 x) s.list after Listed r
       → Enlisted capped q s x after s.second r
   enlisted_zero z {after} {r} a =
       let full = is_full (q - 1) s.run.found s.list in
@@ -76,7 +77,7 @@ module _ (q : ℕ) (s : State) (x : ℕ → ℕ) where
         other = rw z (first_other (q - 1) s (rest x) full);
       }
 
-  pub enlisted_one : 0 < x 0 → {after : List ℕ} {r : Stepped} → Appended (q - 1) s.run.found2 (part 1 x) s.second after ListedSecond r
+  pub enlisted_one : 0 < x 0 → {after : List ℕ} {r : Result Stepped Refusal} → Appended (q - 1) s.run.found2 (part 1 x) s.second after ListedSecond r
       → Enlisted capped q s x s.list after r
   enlisted_one z {after} {r} a =
       let full = is_full (q - 1) s.run.found2 s.second in

@@ -1,6 +1,6 @@
 -- The ways through a step, from what its parts ensure: the top's tuple t, the marks of the row, the candidates for a child, and the unknowns that make one.
 -- Assumes nothing.
-use Rattle.std.specs.Prelude.{◌≡◌, refl, ◌≢◌, Bool, true, false, not, ◌&&◌, List, [], ◌++◌, ℕ, ◌+◌, ◌*◌, ◌^◌, ◌≤◌, ◌<◌, T, eqb, ℤ, pos, length, get_or, take}
+use Rattle.std.specs.Prelude.{◌≡◌, refl, ◌≢◌, Bool, true, false, not, ◌&&◌, List, [], ◌++◌, ℕ, ◌+◌, ◌*◌, ◌^◌, ◌≤◌, ◌<◌, T, eqb, ℤ, pos, length, get_or, take, Result, Ok, Err}
 use Rattle.std.specs.Prelude.{drop}
 use Rattle.std.proofs.Common.{sym, ◌∙◌, ap, arith, take-append-drop, get_or-drop}
 use Rattle.std.specs.Int.Signed.{lt_z}
@@ -16,9 +16,10 @@ use Rattle.laws.specs.RefusalLaws.{Inside, RowInOrder, SecondFits}
 use Rattle.laws.proofs.TableLaws.{row_fits, write_same}
 use Rattle.laws.proofs.ValidLaws.{inside_same}
 use Rattle.calls.specs.Paper.{system_with}
+use Rattle.calls.specs.declared.Refusal.{Refusal}
 use Rattle.calls.specs.declared.Refusal.TheVariants.{ComponentLimit}
 use Rattle.step.specs.declared.Stepped.{Stepped}
-use Rattle.step.specs.declared.Stepped.TheVariants.{Grown, Refused}
+use Rattle.step.specs.declared.Stepped.TheVariants.{Grown}
 use Rattle.table_rows.specs.Rows.{tuple, Holds, Limited, Within}
 use Rattle.products.specs.Marks.{Marked, any_over, any_zero, marks_below, marks_zero, marks_counted, marks_frozen, marks_over}
 use Rattle.products.specs.Products.{Gram, Combined, Products, entry}
@@ -57,7 +58,7 @@ second_asked capped q s h = h
 second_asked (above f) q s h = h
 
 pub enlisted_asked : (k : Kind) (q : ℕ) (stack : List ℕ) (height : ℕ) {list second : List ℕ} {found found2 : ℕ} {x : ℕ → ℕ} {after after₂ : List ℕ}
-    {r : Stepped} → Enlisted k q (asked [] list second 0 found found2) x after after₂ r
+    {r : Result Stepped Refusal} → Enlisted k q (asked [] list second 0 found found2) x after after₂ r
     → Enlisted k q (asked stack list second height found found2) x after after₂ r
 enlisted_asked k q stack height {list} {second} {found} {found2} {x} e =
     let b = to_second k x in
@@ -143,7 +144,7 @@ module _ {k : Kind} {limit q : ℕ} {g : List ℤ} {s : State} {c : List ℤ} {s
       enlisting early true false e f y = step_listed₂ m now early (sym solved_by ∙ y) (sym (to_second_same k v.some h.same) ∙ e) f refl
 
     -- the top is a solution
-    pub taken_solution : all_to q (λ j. is_zero (entry c (level s) j)) ≡ true → {r : Stepped} {list second : List ℕ} → Enlisted k q s (tuple t) list second r
+    pub taken_solution : all_to q (λ j. is_zero (entry c (level s) j)) ≡ true → {r : Result Stepped Refusal} {list second : List ℕ} → Enlisted k q s (tuple t) list second r
         → Taken k limit q g s r s.stack list second c sums
     taken_solution y {r} {list} {second} e =
         record {
@@ -230,7 +231,7 @@ module _ {k : Kind} {limit q : ℕ} {g : List ℤ} {s : State} {c : List ℤ} {s
       large_by p coefs gram run n n₂ d = too_large_by k p q coefs limit (beside s run n n₂ d) h.same (child_is p coefs gram run n n₂ d)
 
       pub taken_large : any_to q (λ j. child j && eqb (tuple t j) limit) ≡ true
-          → Taken k limit q g s (Refused ComponentLimit) s.stack s.list s.second c sums
+          → Taken k limit q g s (Err ComponentLimit) s.stack s.list s.second c sums
       taken_large l =
           record {
             cached = v.cached;
@@ -242,7 +243,7 @@ module _ {k : Kind} {limit q : ℕ} {g : List ℤ} {s : State} {c : List ℤ} {s
 
       pub taken_grown : any_to q (λ j. child j && eqb (tuple t j) limit) ≡ false → {r : ℕ} {after : List ℕ} {c' : List ℤ} {sums' : List ℕ}
           → r ≡ level s + count_to q (frozen made) → after ≡ write_children q q s.stack (level s) (at s.stack (q + 1) (level s)) marks (frozen made)
-          → Combined q g after r c' → Totals q after r sums' → Taken k limit q g s (Grown r) after s.list s.second c' sums'
+          → Combined q g after r c' → Totals q after r sums' → Taken k limit q g s (Ok (Grown r)) after s.list s.second c' sums'
       taken_grown none {r} {after} rise grow cached summed =
           record {
             cached = cached;
@@ -260,7 +261,7 @@ module _ {k : Kind} {limit q : ℕ} {g : List ℤ} {s : State} {c : List ℤ} {s
   -- no candidates, and so no children: the row is taken off, whatever tuple it has
   pub taken_none : all_to q (λ j. is_zero (entry c (level s) j)) ≡ false → {marks : ℕ} → marks ≡ get_or s.stack (level s * (q + 1) + q) 0
       → Marked q (λ j. lt_z (entry c (level s) j) (pos 0) && not (frozen marks j)) 0
-      → Taken k limit q g s (Grown (level s)) s.stack s.list s.second c sums
+      → Taken k limit q g s (Ok (Grown (level s))) s.stack s.list s.second c sums
   taken_none fails {marks} row are =
       let base : ℕ = level s * (q + 1) in
       let t : List ℕ = drop base s.stack in

@@ -1,7 +1,7 @@
 // One step of a walk, the count of steps aside. Which unknowns make a child is found before anything is written.
 #![tactic(auto)]
 
-ghost use Rattle.std.specs.Prelude.{List, [], ℕ, ◌+◌, ◌≤◌, ◌<◌, length};
+ghost use Rattle.std.specs.Prelude.{[], ◌+◌, ◌≤◌, ◌<◌, length};
 ghost use Rattle.definitions.specs.Step.{row_width};
 ghost use Rattle.table_rows.specs.Rows.{part, tuple};
 ghost use Rattle.candidates.specs.Kinds.{Bounds, asked, kind_by};
@@ -9,21 +9,20 @@ ghost use Rattle.step.specs.Enlisting.{Appended, Enlisted};
 ghost use Rattle.step.specs.Taken.{Standing, Taken};
 
 use calls::Refusal;
-use candidates::{Kind, Tried};
+use candidates::Kind;
 
 pub mod children; // children.rt: the children of the row taken off
 
-// What a step came to: a solution listed in the first or the second list, children written up to a height, or a refusal.
+// What a step that is not refused came to: a solution listed in the first or the second list, or children written up to a height.
 #[derive(Clone, Copy)]
 pub enum Stepped {
     Listed,
     ListedSecond,
     Grown(usize),
-    Refused(Refusal),
 }
 
-// One step from a height above 0. `lower` is the bound of a walk above one, else of no meaning;
-// `inner` holds the inner products of the rows on the stack, `sums` their sums of components; what `top` holds is of no meaning.
+// One step from a height above 0. `inner` holds the inner products of the rows on the stack, `sums` their sums of components; what `top` holds is of no
+// meaning.
 pub fn take(
     kind: Kind,
     q: usize,
@@ -31,7 +30,6 @@ pub fn take(
     stack: &mut [u32],
     list: &mut [u32],
     second: &mut [u32],
-    lower: &[u32],
     inner: &mut [i64; 256],
     sums: &mut [u64; 16],
     top: &mut [u32],
@@ -39,10 +37,10 @@ pub fn take(
     found: usize,
     other: usize,
     limit: u32,
-) -> Stepped
-    requires standing { Standing (kind_by kind lower.now) limit q gram.now (asked stack.old list.old second.old height found other) inner.old sums.old }
-    requires bounds { Bounds kind q lower.now × (q ≤ length top.old) }
-    ensures { Taken (kind_by kind lower.now) limit q gram.now
+) -> Result<Stepped, Refusal>
+    requires standing { Standing (kind_by kind) limit q gram.now (asked stack.old list.old second.old height found other) inner.old sums.old }
+    requires bounds { Bounds kind q × (q ≤ length top.old) }
+    ensures { Taken (kind_by kind.entry) limit q gram.now
         (asked stack.old list.old second.old height found other) result stack.new list.new second.new
         inner.new sums.new }
 {
@@ -55,26 +53,20 @@ pub fn take(
     let marks = stack[base + q];
     let left = products::candidate_marks(inner, level, q, marks);
     if left == 0 {
-        return Stepped::Grown(level);
+        return Ok(Stepped::Grown(level));
     }
-    match candidates::admitted(
+    let made = candidates::admitted(
         kind,
         list,
         second,
-        lower,
         found,
         other,
         q,
         &mut stack[base..],
         left,
         limit,
-    ) {
-        Tried::TooLarge => Stepped::Refused(Refusal::ComponentLimit),
-        Tried::Made(made) => {
-            let risen = children::push(q, gram, stack, inner, sums, level, top, marks, made);
-            Stepped::Grown(risen)
-        }
-    }
+    )?;
+    Ok(Stepped::Grown(children::push(q, gram, stack, inner, sums, level, top, marks, made)))
 }
 
 // Lists a solution where its list has room: of a capped walk without the first component, which says which list it is.
@@ -86,21 +78,14 @@ fn enlist(
     other: usize,
     q: usize,
     t: &[u32],
-) -> Stepped
-    requires { (0 < row_width (kind_by kind []) q) × (q ≤ length t.now) }
-    ensures { (lower : List ℕ)
-        → Enlisted (kind_by kind lower) q (asked [] list.old second.old 0 found other) (tuple t.now) list.new
-        second.new result }
+) -> Result<Stepped, Refusal>
+    requires { (0 < row_width (kind_by kind) q) × (q ≤ length t.now) }
+    ensures { Enlisted (kind_by kind.entry) q (asked [] list.old second.old 0 found other) (tuple t.now) list.new second.new result }
 {
     match kind {
-        Kind::Plain => append(list, found, q, 0, t, Stepped::Listed),
-        Kind::Capped => {
-            if t[0] == 0 {
-                return append(list, found, q - 1, 1, t, Stepped::Listed);
-            }
-            append(second, other, q - 1, 1, t, Stepped::ListedSecond)
-        }
-        Kind::Above => append(list, found, q, 0, t, Stepped::Listed),
+        Kind::Plain | Kind::Above(_) => append(list, found, q, 0, t, Stepped::Listed),
+        Kind::Capped if t[0] == 0 => append(list, found, q - 1, 1, t, Stepped::Listed),
+        Kind::Capped => append(second, other, q - 1, 1, t, Stepped::ListedSecond),
     }
 }
 
@@ -112,13 +97,13 @@ fn append(
     from: usize,
     t: &[u32],
     done: Stepped,
-) -> Stepped
+) -> Result<Stepped, Refusal>
     requires { (0 < w) × (from + w ≤ length t.now) }
     ensures { Appended w found (part from (tuple t.now)) list.old list.new done result }
 {
     if list.len() / w <= found {
-        return Stepped::Refused(Refusal::ListFull);
+        return Err(Refusal::ListFull);
     }
     table_rows::rows::write(list, found * w, w, &t[from..]);
-    done
+    Ok(done)
 }

@@ -1,5 +1,5 @@
 -- The loop of the walk: what it keeps, a turn of it, and its ends. Assumes nothing.
-use Rattle.std.specs.Prelude.{◌≡◌, refl, ◌≢◌, Bool, true, false, List, [], ◌∷◌, ℕ, zero, suc, ◌+◌, ◌-◌, ◌≤◌, ◌<◌, ℤ, pos, length, get_or, replicate}
+use Rattle.std.specs.Prelude.{◌≡◌, refl, ◌≢◌, Bool, true, false, List, [], ◌∷◌, ℕ, zero, suc, ◌+◌, ◌-◌, ◌≤◌, ◌<◌, ℤ, pos, length, get_or, replicate, Result, Ok, Err}
 use Rattle.std.proofs.Common.{sym, ◌∙◌, ap, inl, inr, arith, mul-le-mul_right, le-mul_of_pos_right, eq-eqb}
 use Rattle.std.proofs.Math.ListN.{get_or-eq_default}
 use Rattle.linear.proofs.Cases.{split}
@@ -17,7 +17,7 @@ use Rattle.laws.proofs.ValidLaws.{rows_fit, step_valid}
 use Rattle.calls.specs.Paper.{system_with, number_of, values_of}
 use Rattle.calls.specs.declared.Refusal.{Refusal}
 use Rattle.step.specs.declared.Stepped.{Stepped}
-use Rattle.step.specs.declared.Stepped.TheVariants.{Listed, ListedSecond, Grown, Refused}
+use Rattle.step.specs.declared.Stepped.TheVariants.{Listed, ListedSecond, Grown}
 use Rattle.products.specs.Products.{SmallCoefs, Gram, SmallGram, SmallRows, Combined, Zeros}
 use Rattle.candidates.specs.Kinds.{asked, beside}
 use Rattle.step.specs.Taken.{Standing, Taken}
@@ -148,7 +148,7 @@ second_room m s g e = of (solves m (top m s)) (to_second m.kind (top m s)) refl 
 
 module _ {k : Kind} {p q : ℕ} {coefs g : List ℤ} {limit budget left : ℕ} {s₀ : State} (s : State) (run : RunKind) (n n₂ d : ℕ) {c : List ℤ} {sums : List ℕ}
     (w : Walking (system_with k p q coefs limit) g budget s₀ left (beside s run n n₂ d) c sums) (gram : Gram p q coefs g) (h : 0 < s.run.height) {less : ℕ}
-    (more : left ≡ suc less) (early : n ≢ step_limit) {r : Stepped} {stack list second : List ℕ} {c' : List ℤ} {sums' : List ℕ}
+    (more : left ≡ suc less) (early : n ≢ step_limit) {r : Result Stepped Refusal} {stack list second : List ℕ} {c' : List ℤ} {sums' : List ℕ}
     (t : Taken k limit q g s r stack list second c' sums') where
   abbrev m : System
   m = system_with k p q coefs limit
@@ -163,7 +163,7 @@ module _ {k : Kind} {p q : ℕ} {coefs g : List ℤ} {limit budget left : ℕ} {
   abbrev left_by : ℕ → ℕ → ℕ → ℕ → State
   left_by height found found2 depth = beside (asked stack list second height found found2) run (n + 1) n₂ depth
 
-  pub turn_listed : r ≡ Listed → {height found found2 depth : ℕ} → height ≡ s.run.height - 1 → found ≡ s.run.found + 1 → found2 ≡ s.run.found2
+  pub turn_listed : r ≡ Ok Listed → {height found found2 depth : ℕ} → height ≡ s.run.height - 1 → found ≡ s.run.found + 1 → found2 ≡ s.run.found2
       → depth ≡ deep → Walking m g budget s₀ less (left_by height found found2 depth) c' sums'
   turn_listed e eh ef e₂ ed =
       let st = rw e at (t.steps p coefs gram run n n₂ d early) in
@@ -171,7 +171,7 @@ module _ {k : Kind} {p q : ℕ} {coefs g : List ℤ} {limit budget left : ℕ} {
       (goes_on w h more {next = left_by (s.run.height - 1) (s.run.found + 1) s.run.found2 deep} st.checks st.leaves
       (rw e at t.cached) (rw e at t.summed))
 
-  pub turn_listed₂ : r ≡ ListedSecond → {height found found2 depth : ℕ} → height ≡ s.run.height - 1 → found ≡ s.run.found → found2 ≡ s.run.found2 + 1
+  pub turn_listed₂ : r ≡ Ok ListedSecond → {height found found2 depth : ℕ} → height ≡ s.run.height - 1 → found ≡ s.run.found → found2 ≡ s.run.found2 + 1
       → depth ≡ deep → Walking m g budget s₀ less (left_by height found found2 depth) c' sums'
   turn_listed₂ e eh ef e₂ ed =
       let st = rw e at (t.steps p coefs gram run n n₂ d early) in
@@ -179,14 +179,14 @@ module _ {k : Kind} {p q : ℕ} {coefs g : List ℤ} {limit budget left : ℕ} {
       (goes_on w h more {next = left_by (s.run.height - 1) s.run.found (s.run.found2 + 1) deep} st.checks st.leaves
       (rw e at t.cached) (rw e at t.summed))
 
-  pub turn_grown : {rise : ℕ} → r ≡ Grown rise → {height found found2 depth : ℕ} → height ≡ rise → found ≡ s.run.found → found2 ≡ s.run.found2
+  pub turn_grown : {rise : ℕ} → r ≡ Ok (Grown rise) → {height found found2 depth : ℕ} → height ≡ rise → found ≡ s.run.found → found2 ≡ s.run.found2
       → depth ≡ deep → Walking m g budget s₀ less (left_by height found found2 depth) c' sums'
   turn_grown {rise} e eh ef e₂ ed =
       let st = rw e at (t.steps p coefs gram run n n₂ d early) in
       rw (eh, ef, e₂, ed)
       (goes_on w h more {next = left_by rise s.run.found s.run.found2 deep} st.checks st.leaves (rw e at t.cached) (rw e at t.summed))
 
-  pub turn_refused : (checks : State → Check) → {why : Refusal} → r ≡ Refused why
+  pub turn_refused : (checks : State → Check) → {why : Refusal} → r ≡ Err why
       → walk budget (machine_of checks m) s₀ ≡ record {
         answer = refused (number_of why) (values_of why);
         state = beside (asked stack list second s.run.height s.run.found s.run.found2) run n n₂ d;
@@ -196,7 +196,7 @@ module _ {k : Kind} {p q : ℕ} {coefs g : List ℤ} {limit budget left : ℕ} {
       ends_refused w checks h more st.checks ∙ ap (λ x. record { answer = refused (number_of why) (values_of why); state = x }) (sym st.leaves)
 
   -- one row more in the second list is still a place of it
-  pub second_small : r ≡ ListedSecond → s.run.found2 + 1 ≤ length s.second
+  pub second_small : r ≡ Ok ListedSecond → s.run.found2 + 1 ≤ length s.second
   second_small e =
       let st = rw e at (t.steps p coefs gram run n n₂ d early) in
       let room = second_room m now (search_going m now w.valid.ordered h st.checks) (sym (ap (λ x. x.run.found2) st.leaves)) in

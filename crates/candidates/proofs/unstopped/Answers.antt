@@ -71,29 +71,6 @@ blocked-requires c =
       omega (arith, c.requires.limited.at_most (unknown (goal.at.blocked-requires c).In-loop-rest) (inside (goal.at.blocked-requires c).In-loop-rest)),
     )
 
-pub loop-rest-smaller-then-blocked : goal.loop-rest-smaller-then-blocked
-loop-rest-smaller-then-blocked c = next_less c.loop-rest.invariant.2 c.requires.w_nonzero.1 (some (goal.at.loop-rest-smaller-then-blocked c).In-loop-rest)
-
-pub loop-rest-preserved-then-blocked : goal.loop-rest-preserved-then-blocked
-loop-rest-preserved-then-blocked c =
-    let few = c.requires.w_nonzero.1 in
-    let left = c.loop-rest.invariant.2 in (
-      c.blocked.ensures.t_unchanged ∙ c.loop-rest.invariant.0,
-      unknown (goal.at.loop-rest-preserved-then-blocked c).In-loop-rest + 1,
-      left_next left few (some (goal.at.loop-rest-preserved-then-blocked c).In-loop-rest),
-      next_skip left few (some (goal.at.loop-rest-preserved-then-blocked c).In-loop-rest) (child (goal.at.loop-rest-preserved-then-blocked c).Start)
-          (closed (goal.at.loop-rest-preserved-then-blocked c).Start) c.loop-rest.invariant.3
-          (blocked_none (goal.at.loop-rest-preserved-then-blocked c).After-blocked c.if-blocked.true),
-    )
-
-pub overflow_add-left : goal.overflow_add-left
-overflow_add-left c =
-    omega (
-      arith,
-      next_room c.loop-rest.invariant.2 c.requires.w_nonzero.1 (some (goal.at.overflow_add-left c).In-loop-rest)
-          (child (goal.at.overflow_add-left c).Start) (closed (goal.at.overflow_add-left c).Start) c.loop-rest.invariant.3,
-    )
-
 pub loop-rest-smaller : goal.loop-rest-smaller
 loop-rest-smaller c = next_less c.loop-rest.invariant.2 c.requires.w_nonzero.1 (some (goal.at.loop-rest-smaller c).In-loop-rest)
 
@@ -104,8 +81,31 @@ loop-rest-preserved c =
       c.blocked.ensures.t_unchanged ∙ c.loop-rest.invariant.0,
       unknown (goal.at.loop-rest-preserved c).In-loop-rest + 1,
       left_next left few (some (goal.at.loop-rest-preserved c).In-loop-rest),
-      next_add left few (some (goal.at.loop-rest-preserved c).In-loop-rest) (child (goal.at.loop-rest-preserved c).Start)
-          (closed (goal.at.loop-rest-preserved c).Start) c.loop-rest.invariant.3 (free_one (goal.at.loop-rest-preserved c).After-blocked c.if-blocked.false),
+      next_skip left few (some (goal.at.loop-rest-preserved c).In-loop-rest) (child (goal.at.loop-rest-preserved c).Start)
+          (closed (goal.at.loop-rest-preserved c).Start) c.loop-rest.invariant.3
+          (blocked_none (goal.at.loop-rest-preserved c).After-blocked c.if-not-blocked.false),
+    )
+
+pub overflow_add-left : goal.overflow_add-left
+overflow_add-left c =
+    omega (
+      arith,
+      next_room c.loop-rest.invariant.2 c.requires.w_nonzero.1 (some (goal.at.overflow_add-left c).In-loop-rest)
+          (child (goal.at.overflow_add-left c).Start) (closed (goal.at.overflow_add-left c).Start) c.loop-rest.invariant.3,
+    )
+
+pub loop-rest-smaller-then-not-blocked : goal.loop-rest-smaller-then-not-blocked
+loop-rest-smaller-then-not-blocked c = next_less c.loop-rest.invariant.2 c.requires.w_nonzero.1 (some (goal.at.loop-rest-smaller-then-not-blocked c).In-loop-rest)
+
+pub loop-rest-preserved-then-not-blocked : goal.loop-rest-preserved-then-not-blocked
+loop-rest-preserved-then-not-blocked c =
+    let few = c.requires.w_nonzero.1 in
+    let left = c.loop-rest.invariant.2 in (
+      c.blocked.ensures.t_unchanged ∙ c.loop-rest.invariant.0,
+      unknown (goal.at.loop-rest-preserved-then-not-blocked c).In-loop-rest + 1,
+      left_next left few (some (goal.at.loop-rest-preserved-then-not-blocked c).In-loop-rest),
+      next_add left few (some (goal.at.loop-rest-preserved-then-not-blocked c).In-loop-rest) (child (goal.at.loop-rest-preserved-then-not-blocked c).Start)
+          (closed (goal.at.loop-rest-preserved-then-not-blocked c).Start) c.loop-rest.invariant.3 (free_one (goal.at.loop-rest-preserved-then-not-blocked c).After-blocked c.if-not-blocked.true),
     )
 
 pub returns : goal.returns

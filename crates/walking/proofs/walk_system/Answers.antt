@@ -3,6 +3,7 @@
 use mathlib.Core.Path.{◌≡◌, refl, sym, ◌∙◌, ap}
 use Prim.Native.Nat.{ℕ, suc, max, ◌+◌, ◌-◌, ◌≤◌}
 use native.Mathlib.Omega.{arith}
+use Rattle.std.specs.Prelude.{Ok}
 use lib.ListN.{get_or}
 use Rattle.definitions.specs.Calls.{machine_of}
 use Rattle.definitions.specs.Machine.{walk}
@@ -29,7 +30,7 @@ use Rattle.walking.specs.WalkLaws.{
   turn_refused,
 }
 use Rattle.walking.proofs.walk_system.Goals as goal
-use Rattle.walking.proofs.walk_system.Goals.{After-take, At-loop-height, In-loop-height, in-Grown, in-Listed, in-ListedSecond}
+use Rattle.walking.proofs.walk_system.Goals.{After-min-stop, After-take, At-loop-height, In-loop-height, in-Grown, in-Listed, in-ListedSecond}
 
 -- ---- where things began
 
@@ -44,13 +45,13 @@ module _ (l : In-loop-height) where
   first = l.args.r.steps.0
 
   abbrev stop : ℕ
-  stop = l.stop_at-stop.result
+  stop = l.min-stop.result
 
   stop_is : stop ≤ first + l.args.budget
-  stop_is = omega (arith, l.stop_at-stop.ensures)
+  stop_is = omega (arith, l.min-stop.ensures)
 
   stop_few : stop ≤ step_limit
-  stop_few = omega (arith, l.stop_at-stop.ensures)
+  stop_few = omega (arith, l.min-stop.ensures)
 
   height_few : l.loop-height.height ≤ 16
   height_few = omega (arith, l.loop-height.invariant.3.valid.ordered.height, l.loop-height.invariant.3.valid.shaped.q_few)
@@ -61,20 +62,17 @@ module _ (t : After-take) where
   r = t.args.r
 
   early : ¬ (t.loop-height.steps ≡ step_limit)
-  early is = omega (arith, t.if-steps-stop.false, t.stop_at-stop.ensures, t.loop-height.invariant.5)
+  early is = omega (arith, t.if-steps-stop.false, t.min-stop.ensures, t.loop-height.invariant.5)
 
   more : t.args.r.steps.0 + t.args.budget - t.loop-height.steps ≡ suc (t.args.r.steps.0 + t.args.budget - (t.loop-height.steps + 1))
-  more = omega (arith, t.if-steps-stop.false, t.stop_at-stop.ensures, t.loop-height.invariant.5, t.loop-height.invariant.6)
+  more = omega (arith, t.if-steps-stop.false, t.min-stop.ensures, t.loop-height.invariant.5, t.loop-height.invariant.6)
 
   deep : max t.loop-height.deepest (get_or t.loop-height.sums (t.loop-height.height - 1) 0)
       ≡ deeper t.args.q (beside (asked t.loop-height.stack t.loop-height.list t.loop-height.second t.loop-height.height t.loop-height.found t.loop-height.other)
       (kind_of r.kind) t.loop-height.steps r.steps2.0 t.loop-height.deepest)
-      (top (system_with (kind_by t.args.kind t.args.lower.now) t.args.p t.args.q t.args.coefs.now t.args.limit)
+      (top (system_with (kind_by t.args.kind) t.args.p t.args.q t.args.coefs.now t.args.limit)
       (asked t.loop-height.stack t.loop-height.list t.loop-height.second t.loop-height.height t.loop-height.found t.loop-height.other))
   deep = ap (max t.loop-height.deepest) (t.loop-height.invariant.3.summed.levels (t.loop-height.height - 1) (omega (arith, t.loop-height-test.true)))
-
-pub stop_at-stop-requires : goal.stop_at-stop-requires
-stop_at-stop-requires c = c.requires.0.ordered.early
 
 pub write_gram-requires : goal.write_gram-requires
 write_gram-requires c = (small_coefs c.requires.0, refl, blank_zeros)
@@ -86,7 +84,7 @@ write_products-requires c =
 
 pub loop-height-init : goal.loop-height-init
 loop-height-init c =
-    let m = system_with (kind_by c.args.kind c.args.lower.now) c.args.p c.args.q c.args.coefs.now c.args.limit in (
+    let m = system_with (kind_by c.args.kind) c.args.p c.args.q c.args.coefs.now c.args.limit in (
       refl,
       refl,
       refl,
@@ -99,7 +97,7 @@ loop-height-init c =
             (omega arith);
       },
       refl,
-      omega (arith, c.stop_at-stop.ensures, c.requires.0.ordered.early),
+      omega (arith, c.min-stop.ensures, c.requires.0.ordered.early),
       omega arith,
     )
 
@@ -119,7 +117,7 @@ returns-then-steps-stop c checks =
     omega (arith, c.if-steps-first.false, at-stop, stop_is (goal.at.returns-then-steps-stop c).In-loop-height, c.loop-height.invariant.6) in
     rw c.left-then-steps-stop.ensures
     (sym (ends_late c.loop-height.invariant.3 checks c.loop-height-test.true more
-    (omega (arith, c.if-steps-first.false, at-stop, c.stop_at-stop.ensures, c.loop-height.invariant.6))))
+    (omega (arith, c.if-steps-first.false, at-stop, c.min-stop.ensures, c.loop-height.invariant.6))))
 
 pub offset_bounds-sums-height : goal.offset_bounds-sums-height
 offset_bounds-sums-height c = omega (arith, height_few (goal.at.offset_bounds-sums-height c).In-loop-height)
@@ -142,7 +140,7 @@ overflow_add-found c =
     let next = turn_listed (told (goal.at.overflow_add-found c).At-loop-height) (kind_of r.kind) c.loop-height.steps r.steps2.0 c.loop-height.deepest
     c.loop-height.invariant.3
     c.write_gram.ensures c.loop-height-test.true (more (goal.at.overflow_add-found c).After-take) (early (goal.at.overflow_add-found c).After-take)
-    c.take.ensures c.in-Listed.is refl refl refl refl in
+    c.take.ensures (c.in-Ok.is ∙ ap Ok c.in-Listed.is) refl refl refl refl in
     omega (arith, found_small next.valid, c.take.auto.list, c.loop-height.invariant.1, c.well_formed.1.1.1.1.1.0)
 
 pub overflow_add-other : goal.overflow_add-other
@@ -151,26 +149,26 @@ overflow_add-other c =
     let small = second_small (told (goal.at.overflow_add-other c).At-loop-height) (kind_of r.kind) c.loop-height.steps r.steps2.0 c.loop-height.deepest
     c.loop-height.invariant.3
     c.write_gram.ensures c.loop-height-test.true (more (goal.at.overflow_add-other c).After-take) (early (goal.at.overflow_add-other c).After-take)
-    c.take.ensures c.in-ListedSecond.is in
+    c.take.ensures (c.in-Ok.is ∙ ap Ok c.in-ListedSecond.is) in
     omega (arith, small, c.loop-height.invariant.2, c.well_formed.1.1.1.1.1.1.0)
 
-pub shape_of-stack-in-Refused : goal.shape_of-stack-in-Refused
-shape_of-stack-in-Refused c = c.take.auto.stack ∙ c.loop-height.invariant.0
+pub shape_of-stack-in-Err : goal.shape_of-stack-in-Err
+shape_of-stack-in-Err c = c.take.auto.stack ∙ c.loop-height.invariant.0
 
-pub shape_of-list-in-Refused : goal.shape_of-list-in-Refused
-shape_of-list-in-Refused c = c.take.auto.list ∙ c.loop-height.invariant.1
+pub shape_of-list-in-Err : goal.shape_of-list-in-Err
+shape_of-list-in-Err c = c.take.auto.list ∙ c.loop-height.invariant.1
 
-pub shape_of-second-in-Refused : goal.shape_of-second-in-Refused
-shape_of-second-in-Refused c = c.take.auto.second ∙ c.loop-height.invariant.2
+pub shape_of-second-in-Err : goal.shape_of-second-in-Err
+shape_of-second-in-Err c = c.take.auto.second ∙ c.loop-height.invariant.2
 
-pub returns-in-Refused : goal.returns-in-Refused
-returns-in-Refused c checks =
+pub returns-in-Err : goal.returns-in-Err
+returns-in-Err c checks =
     let r = c.args.r in
-    rw c.left-in-Refused.ensures
-    (sym (turn_refused (told (goal.at.returns-in-Refused c).At-loop-height) (kind_of r.kind) c.loop-height.steps r.steps2.0 c.loop-height.deepest
+    rw c.left-in-Err.ensures
+    (sym (turn_refused (told (goal.at.returns-in-Err c).At-loop-height) (kind_of r.kind) c.loop-height.steps r.steps2.0 c.loop-height.deepest
     c.loop-height.invariant.3
-    c.write_gram.ensures c.loop-height-test.true (more (goal.at.returns-in-Refused c).After-take) (early (goal.at.returns-in-Refused c).After-take)
-    c.take.ensures checks c.in-Refused.is))
+    c.write_gram.ensures c.loop-height-test.true (more (goal.at.returns-in-Err c).After-take) (early (goal.at.returns-in-Err c).After-take)
+    c.take.ensures checks c.in-Err.is))
 
 pub overflow_add-steps : goal.overflow_add-steps
 overflow_add-steps c = omega (arith, c.loop-height.invariant.5, stop_few (goal.at.overflow_add-steps c).In-loop-height)
@@ -184,23 +182,23 @@ loop-height-preserved c =
     let r = c.args.r in
     let w = c.loop-height.invariant.3 in
     let g = c.write_gram.ensures in
-    let d = c.greater-next.ensures ∙ deep (goal.at.loop-height-preserved c).After-take in (
+    let d = c.max-next.ensures ∙ deep (goal.at.loop-height-preserved c).After-take in (
       c.take.auto.stack ∙ c.loop-height.invariant.0,
       c.take.auto.list ∙ c.loop-height.invariant.1,
       c.take.auto.second ∙ c.loop-height.invariant.2,
-      elim c.match-take.branch [
+      elim c.match-taken.branch [
         | in-Listed v ↦ turn_listed (told (goal.at.loop-height-preserved c).At-loop-height) (kind_of r.kind) c.loop-height.steps r.steps2.0
             c.loop-height.deepest w g
             c.loop-height-test.true (more (goal.at.loop-height-preserved c).After-take) (early (goal.at.loop-height-preserved c).After-take) c.take.ensures
-            v.in-Listed.is v.height-is v.found-is v.other-is d
+            (c.in-Ok.is ∙ ap Ok v.in-Listed.is) v.height-is v.found-is v.other-is d
         | in-ListedSecond v ↦ turn_listed₂ (told (goal.at.loop-height-preserved c).At-loop-height) (kind_of r.kind) c.loop-height.steps r.steps2.0
             c.loop-height.deepest w g
             c.loop-height-test.true (more (goal.at.loop-height-preserved c).After-take) (early (goal.at.loop-height-preserved c).After-take) c.take.ensures
-            v.in-ListedSecond.is v.height-is v.found-is v.other-is d
+            (c.in-Ok.is ∙ ap Ok v.in-ListedSecond.is) v.height-is v.found-is v.other-is d
         | in-Grown v ↦ turn_grown (told (goal.at.loop-height-preserved c).At-loop-height) (kind_of r.kind) c.loop-height.steps r.steps2.0 c.loop-height.deepest
             w g
             c.loop-height-test.true (more (goal.at.loop-height-preserved c).After-take) (early (goal.at.loop-height-preserved c).After-take) c.take.ensures
-            v.in-Grown.is v.height-is v.found-is v.other-is d
+            (c.in-Ok.is ∙ ap Ok v.in-Grown.is) v.height-is v.found-is v.other-is d
       ],
       c.take.auto.top ∙ c.loop-height.invariant.4,
       omega (arith, c.if-steps-stop.false, c.loop-height.invariant.5),

@@ -11,7 +11,7 @@ use Rattle.walking.proofs.walk_system.Given as goal
 abbrev pub invariant-loop-height : goal.invariant-loop-height
 invariant-loop-height l =
     (length l.stack ≡ length l.initial.stack) × (length l.list ≡ length l.initial.list) × (length l.second ≡ length l.initial.second)
-    × Walking (system_with (kind_by l.kind l.lower) l.p l.q l.coefs l.limit) l.gram l.budget (state_with l.initial.stack l.initial.list l.initial.second l.r)
+    × Walking (system_with (kind_by l.kind) l.p l.q l.coefs l.limit) l.gram l.budget (state_with l.initial.stack l.initial.list l.initial.second l.r)
     (l.first + l.budget - l.steps)
     (beside (asked l.stack l.list l.second l.height l.found l.other) (kind_of l.r.kind) l.steps l.r.steps2.0 l.deepest) l.inner l.sums
     × (length l.top ≡ 16)
