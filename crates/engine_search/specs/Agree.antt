@@ -10,7 +10,7 @@ use Rattle.engine_spec.specs.Search.{first_in, least_to}
 use Rattle.engine_spec.specs.Sound.{Sorted}
 use Rattle.engine_spec.specs.Stage.{Stage, above, below, due_row, is_due, is_pair, next_degree, pair_degree}
 use Rattle.engine_search.specs.Firsts.{first_in_same, holder_same, least_same, partner_same}
-use Rattle.engine_search.specs.Places.{Falling, Found, Ranked, degree_of, due, due_by, least_pair, lower_of, next_degree_by, pair_degree_by, upper_of, value_of}
+use Rattle.engine_search.specs.Places.{Falling, IsNext, Ranked, degree_of, due, due_by, least_pair, lower_of, next_degree_by, pair_degree_by, upper_of, value_of}
 
 -- ---- tests
 
@@ -45,16 +45,15 @@ module _ {q : ℕ} {c : ℕ → ℤ} (s : Stage) {values : List ℤ} {degrees : 
   next_degree_by_lem {m} {basis} {sizes} z =
       rw (least_same s.degree m (degree_of sizes) (λ i. total (at basis q i) q) z.each, least_pair_same v g s.degree)
 
-  module _ {upper lower first : ℕ} (found : Found s.rows values degrees s.degree s.upper s.lower upper lower first) where
-    -- the pair that code found, or none
-    pub pair_by : upper < s.rows → (above q c s ≡ upper) × (below q c s ≡ lower)
-    pair_by less =
-        let x = found.pair less in
-        let up : above q c s ≡ upper = cc (above_by, x.upper_is) in
-        (up, sym (x.lower_is ∙ below_by (rw up less)))
+  -- the pair that code found, or none
+  pub pair_by : {upper lower first : ℕ} → upper < s.rows → IsNext s.rows values degrees s.degree s.upper s.lower upper lower first
+      → (above q c s ≡ upper) × (below q c s ≡ lower)
+  pair_by {upper} {lower} {first} less x =
+      let up : above q c s ≡ upper = cc (above_by, x.upper_is) in
+      (up, sym (x.lower_is ∙ below_by (rw up less)))
 
-    pub none_by : s.rows ≤ upper → s.rows ≤ above q c s
-    none_by past = rw above_by at (found.none past)
+  pub none_by : s.rows ≤ upper_of s.rows values degrees s.degree s.upper s.lower → s.rows ≤ above q c s
+  none_by past = rw above_by at past
 
 pub due_row_by : (q : ℕ) {m : ℕ} {basis sizes : List ℕ} (s : Stage) → Measured q m basis sizes
     → first_in m s.taken (λ i. eqb (degree_of sizes i) s.degree) ≡ due_row q m (at basis q) s

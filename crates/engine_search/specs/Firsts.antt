@@ -1,17 +1,20 @@
 -- The first place and the least number as a loop finds them, and the same of functions that agree. Assumes nothing.
-use Rattle.std.specs.Prelude.{◌≡◌, Bool, List, eqb, ltb}
+use Rattle.std.specs.Prelude.{◌≡◌, Bool, List, eqb, ltb, min, ℤ, Option, Some, None, MatchOption}
+use Rattle.std.specs.Option.{unwrap_or}
 use Rattle.std.proofs.Math.Path.{refl}
-use Rattle.std.proofs.Common.{sym, ◌∙◌, ap, eqb→eq}
+use Rattle.std.proofs.Common.{sym, ◌∙◌, ap}
 use Rattle.std.proofs.Math.Bool.{true, false, and-false}
 use Prim.Native.Nat.{ℕ, zero, suc, ◌+◌, ◌-◌, ◌≤◌, ◌<◌}
 use Rattle.std.proofs.Math.Decide.{ℕ_discrete}
 use Rattle.std.proofs.Math.Numerals.{add-one}
 use native.Mathlib.Omega.{arith}
 use borrow.Author.Tests.{le-ltb, lt-ltb, ne_eqb}
-use Rattle.std.proofs.Math.Dec.{T, eqb_refl}
+use Rattle.std.proofs.Math.Dec.{T}
 use Rattle.engine_spec.specs.Search.{begins, first_from, first_in, holder, least_to, lesser, partner}
-use Rattle.engine_spec.proofs.Search.{least_above, least_one, least_under}
-use Rattle.engine_search.specs.Places.{degree_of}
+use Rattle.engine_spec.proofs.Search.{first_least, first_passes, found_holds, least_above, least_one, least_under}
+use Rattle.linear.proofs.Cases.{split}
+use Rattle.std.proofs.Common.{inl, inr, ◌⊎◌}
+use Rattle.engine_search.specs.Places.{IsLeast, degree_of, least_pair, next_degree_by}
 
 -- ---- what a test in code says
 
@@ -21,44 +24,29 @@ told e h = rw (← e, h) tt
 pub untold : {b t : Bool} → b ≡ t → b ≡ false → ¬ (T t)
 untold e h = rw (← e, h) (λ t. t)
 
+pub is_false : {b : Bool} → b ≡ false → ¬ (T b)
+is_false e = rw e (λ t. t)
+
 -- ---- the first place
 
-module _ (n i : ℕ) (f : ℕ → Bool) where
-  pub first_here : i < n → T (f i) → first_in n i f ≡ i
-  unfolding first_from
-  first_here l t = let e : n - i ≡ suc (n - (i + 1)) = omega arith in rw e (go (f i) (first_from (n - (i + 1)) (suc i) f) t)
-    where
-      go : (b : Bool) (x : ℕ) → T b → elim b [ true ↦ i | false ↦ x ] ≡ i
-      go true x t = refl
-      go false x t = absurd t
+-- the first place as a search finds it, and that there is none
+module _ (n from : ℕ) (f : ℕ → Bool) where
+  pub first_found : (i : ℕ) → from ≤ i → i < n → T (f i) → ((k : ℕ) → from ≤ k → k < i → ¬ (T (f k))) → i ≡ first_in n from f
+  first_found i l h t none =
+      elim (split (first_in n from f) i) [
+        | inl x ↦ absurd (none (first_in n from f) (first_least (n - from) from f) x (found_holds n from f (omega arith)))
+        | inr x ↦ elim (split i (first_in n from f)) [
+          | inl y ↦ absurd (first_passes (n - from) from f i l y t)
+          | inr y ↦ omega arith
+        ]
+      ]
 
-  pub first_next : i < n → ¬ (T (f i)) → first_in n i f ≡ first_in n (i + 1) f
-  unfolding first_from
-  first_next l t = let e : n - i ≡ suc (n - (i + 1)) = omega arith in rw (e, add-one i) (go (f i) t)
-    where
-      go : (b : Bool) {x : ℕ} → ¬ (T b) → elim b [ true ↦ i | false ↦ x ] ≡ x
-      go true t = absurd (t tt)
-      go false t = refl
-
-  pub first_end : n ≤ i → first_in n i f ≡ i
-  unfolding first_from
-  first_end l = let e : n - i ≡ 0 = omega arith in rw e refl
-
--- a row of degree d by a table of degrees, as a loop looks for it: x is the degree at place i
-abbrev pub first_of : (sizes : List ℕ) (m from d : ℕ) → ℕ
-first_of sizes m from d = first_in m from (λ i. eqb (degree_of sizes i) d)
-
-module _ (sizes : List ℕ) (m from d i x : ℕ) (so_far : first_of sizes m from d ≡ first_of sizes m i d) where
-  pub size_here : i < m → x ≡ degree_of sizes i → x ≡ d → i ≡ first_of sizes m from d
-  size_here l e h =
-      let same : degree_of sizes i ≡ d = cc in
-      sym (so_far ∙ first_here m i (λ i. eqb (degree_of sizes i) d) l (rw same (eqb_refl d)))
-
-  pub size_next : i < m → x ≡ degree_of sizes i → ¬ (x ≡ d) → first_of sizes m from d ≡ first_of sizes m (i + 1) d
-  size_next l e h = so_far ∙ first_next m i (λ i. eqb (degree_of sizes i) d) l (λ t. h (e ∙ eqb→eq (degree_of sizes i) d t))
-
-  pub size_none : m ≤ i → i ≡ first_of sizes m from d
-  size_none l = sym (so_far ∙ first_end m i (λ i. eqb (degree_of sizes i) d) l)
+  pub first_missing : ((k : ℕ) → from ≤ k → k < n → ¬ (T (f k))) → n ≤ first_in n from f
+  first_missing none =
+      elim (split (first_in n from f) n) [
+        | inl x ↦ absurd (none (first_in n from f) (first_least (n - from) from f) x (found_holds n from f x))
+        | inr x ↦ x
+      ]
 
 pub first_same : (count from : ℕ) (f g : ℕ → Bool) → ((i : ℕ) → from ≤ i → i < from + count → f i ≡ g i) → first_from count from f ≡ first_from count from g
 unfolding first_from
@@ -99,21 +87,37 @@ unfolding least_to
 least_start d f = refl
 
 module _ (d x y : ℕ) where
-  pub lesser_first : d < x → y ≡ 0 → x ≡ lesser d x y
+  lesser_new : d < x → (y ≡ 0) ⊎ (x < y) → lesser d x y ≡ x
   unfolding lesser
-  lesser_first l e = rw (lt-ltb d x l, e)
+  lesser_new l (inl e) = rw (lt-ltb d x l, e) refl
+  lesser_new l (inr h) = rw (lt-ltb d x l, ne_eqb y 0 (omega arith), lt-ltb x y h) refl
 
-  pub lesser_new : d < x → ¬ (y ≡ 0) → x < y → x ≡ lesser d x y
+  lesser_old : 0 < y → y ≤ x → lesser d x y ≡ y
   unfolding lesser
-  lesser_new l ne h = rw (lt-ltb d x l, ne_eqb y 0 ne, lt-ltb x y h)
+  lesser_old l h = rw (ne_eqb y 0 (omega arith), le-ltb x y h, and-false) refl
 
-  pub lesser_old : ¬ (y ≡ 0) → y ≤ x → y ≡ lesser d x y
+  lesser_early : x ≤ d → lesser d x y ≡ y
   unfolding lesser
-  lesser_old ne h = rw (ne_eqb y 0 ne, le-ltb x y h, and-false)
+  lesser_early l = rw (le-ltb d x l) refl
 
-  pub lesser_early : x ≤ d → y ≡ lesser d x y
-  unfolding lesser
-  lesser_early l = rw (le-ltb d x l)
+-- the least so far stays where x is not above d; else the lesser of the two comes
+pub least_stays : (d x : ℕ) (known : Option ℕ) → MatchOption known (Unit {0}) (λ y. d < y) → x ≤ d → IsLeast d (lesser d x (unwrap_or known 0)) known
+least_stays d x None h l = lesser_early d x 0 l
+least_stays d x (Some y) h l = (sym (lesser_early d x y l), h)
+
+pub least_comes : (d x : ℕ) (known : Option ℕ) (z : ℕ) → MatchOption known (Unit {0}) (λ y. d < y) → d < x
+    → MatchOption known (z ≡ x) (λ y. z ≡ min y x) → (z ≡ lesser d x (unwrap_or known 0)) × (d < z)
+least_comes d x None z h l e = (e ∙ sym (lesser_new d x 0 l (inl refl)), omega arith)
+least_comes d x (Some y) z h l e =
+    elim (split x y) [
+      | inl m ↦ (sym (lesser_new d x y l (inr m) ∙ omega arith), omega arith)
+      | inr m ↦ (sym (lesser_old d x y (omega arith) m ∙ omega arith), omega arith)
+    ]
+
+-- the number of the least so far, with 0 for none, as the definitions have it
+pub least_number : (d x : ℕ) (r : Option ℕ) → IsLeast d x r → unwrap_or r 0 ≡ x
+least_number d x None h = sym h
+least_number d x (Some y) h = h.0
 
 -- 0 is never the lesser one
 pub lesser_zero : (d y : ℕ) → lesser d 0 y ≡ y
@@ -134,7 +138,30 @@ least_none d n f none =
       | no ne ↦ let (k, kn, e) = least_one d n f ne in absurd (omega (arith, none k kn, least_above d n f ne))
     ]
 
--- by a table of degrees: x is the one at place i, and y what is left of it and the least before
-pub size_lesser : (sizes : List ℕ) (d i best : ℕ) → best ≡ least_to d i (degree_of sizes) → (x : ℕ) → x ≡ degree_of sizes i → {y : ℕ} → y ≡ lesser d x best
-    → y ≡ least_to d (i + 1) (degree_of sizes)
-size_lesser sizes d i best so_far x e {y} h = h ∙ rw (e, so_far, least_next d i (degree_of sizes))
+-- one number more, as a loop has it
+pub least_more : (d i : ℕ) (f : ℕ → ℕ) (best r : Option ℕ) (x : ℕ) → IsLeast d (least_to d i f) best → x ≡ f i
+    → IsLeast d (lesser d x (unwrap_or best 0)) r → IsLeast d (least_to d (i + 1) f) r
+least_more d i f best r x so_far e h = rw (least_next d i f) (rw (least_number d (least_to d i f) best so_far, e) at h)
+
+-- the first place from `from` on and below n at which f holds, or there is none
+abbrev pub IsFirst : (from n : ℕ) → (ℕ → Bool) → Option ℕ → Type 0
+IsFirst from n f r =
+    MatchOption r ((k : ℕ) → from ≤ k → k < n → f k ≡ false)
+    (λ i. (from ≤ i) × (i < n) × (f i ≡ true) × ((k : ℕ) → from ≤ k → k < i → f k ≡ false))
+
+-- a search by a table of degrees
+pub size_named : (sizes : List ℕ) (m from d : ℕ) (r : Option ℕ)
+    → IsFirst from m (λ i. eqb (degree_of sizes i) d) r
+    → MatchOption r (m ≤ first_in m from (λ i. eqb (degree_of sizes i) d)) (λ i. (i < m) × (i ≡ first_in m from (λ i. eqb (degree_of sizes i) d)))
+size_named sizes m from d None none = first_missing m from (λ i. eqb (degree_of sizes i) d) (λ k l h. is_false (none k l h))
+size_named sizes m from d (Some i) (l, h, e, none) =
+    (h, first_found m from (λ i. eqb (degree_of sizes i) d) i l h (rw e tt) (λ k a b. is_false (none k a b)))
+
+-- of the basis and of the pairs
+pub least_all : (d m : ℕ) (size : ℕ → ℕ) (n : ℕ) (v : ℕ → ℤ) (deg : ℕ → ℕ) (sizes pairs r : Option ℕ) → IsLeast d (least_to d m size) sizes
+    → IsLeast d (least_pair d n v deg n) pairs
+    → MatchOption sizes (r ≡ pairs) (λ x. IsLeast d (lesser d x (unwrap_or pairs 0)) r)
+    → IsLeast d (next_degree_by d m size n v deg) r
+unfolding next_degree_by
+least_all d m size n v deg None pairs r e h g = rw (g, e, lesser_zero) h
+least_all d m size n v deg (Some x) pairs r e h g = rw (← e.0) (rw (least_number d (least_pair d n v deg n) pairs h) at g)

@@ -1,8 +1,9 @@
 -- The tests of a stage over the values and degrees of its rows instead of the rows, and what the code that finds the next pair takes and gives. All compute.
 -- Assumes nothing.
-use Rattle.std.specs.Prelude.{◌≡◌, Bool, cond, ◌&&◌, List, ℕ, ◌+◌, ◌≤◌, ◌<◌, eqb, ℤ, pos, length, get_or}
+use Rattle.std.specs.Prelude.{◌≡◌, Bool, cond, ◌&&◌, List, ℕ, ◌+◌, ◌≤◌, ◌<◌, eqb, ℤ, pos, length, get_or, Option, MatchOption}
 use Rattle.std.specs.Int.Signed.{lt_z}
 use Rattle.engine_spec.specs.Search.{holder, least_to, lesser, partner}
+use Rattle.engine_search.specs.declared.Place.{Place}
 
 -- ---- tables
 
@@ -38,6 +39,10 @@ least_pair d n v deg count = least_to d count (λ h. least_to d n (pair_degree_b
 unfoldable pub next_degree_by : (d m : ℕ) (size : ℕ → ℕ) (n : ℕ) (v : ℕ → ℤ) (deg : ℕ → ℕ) → ℕ
 next_degree_by d m size n v deg = lesser d (least_to d m size) (least_pair d n v deg n)
 
+-- the least number above d is x: none where x is 0
+abbrev pub IsLeast : (d x : ℕ) → Option ℕ → Type 0
+IsLeast d x r = MatchOption r (x ≡ 0) (λ y. (y ≡ x) × (d < y))
+
 -- ---- the next pair
 
 -- from row `first` on, no degree is below what the degree of row `upper` leaves of d
@@ -60,7 +65,7 @@ pub record IsNext (n : ℕ) (values : List ℤ) (degrees : List ℕ) (d u l uppe
   pub lower_is : lower ≡ lower_of n values degrees d u l
   pub falling : Falling n degrees d upper first
 
--- it is where `upper` is a row, and else there is none
-pub record Found (n : ℕ) (values : List ℤ) (degrees : List ℕ) (d u l upper lower first : ℕ) : Type 0 where
-  pub pair : upper < n → IsNext n values degrees d u l upper lower first
-  pub none : n ≤ upper → n ≤ upper_of n values degrees d u l
+-- the pair that is next from (u, l) on, or none
+abbrev pub Found : (n : ℕ) → List ℤ → List ℕ → (d u l : ℕ) → Option Place → Type 0
+Found n values degrees d u l r =
+    MatchOption r (n ≤ upper_of n values degrees d u l) (λ p. (p.upper < n) × IsNext n values degrees d u l p.upper p.lower p.first)

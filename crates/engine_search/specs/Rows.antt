@@ -9,8 +9,8 @@ use Rattle.linear.proofs.TestLaws.{and_both, and_parts}
 use Rattle.engine_spec.specs.Search.{Before, begins}
 use Rattle.engine_spec.proofs.Search.{none_unique, pair_unique}
 use Rattle.engine_search.specs.Falls.{Back, back_early, falling_back, is_below}
-use Rattle.engine_search.specs.Places.{Falling, Found, IsNext, Ranked, degree_of, due, due_by, upper_of, value_of}
-use Rattle.engine_search.specs.Scans.{Below}
+use Rattle.engine_search.specs.Places.{Falling, IsNext, Ranked, degree_of, due, due_by, upper_of, value_of}
+use Rattle.engine_search.specs.Scans.{Passed}
 
 abbrev pub is_above : List ℤ → ℕ → Type 0
 is_above values h = T (lt_z (pos 0) (value_of values h))
@@ -53,10 +53,6 @@ pub record Searched (n : ℕ) (values : List ℤ) (degrees : List ℕ) (d u l up
   pub since : u ≤ upper
   pub starts : lower ≡ begins u l upper
   pub none : (i j : ℕ) → i < upper → i < n → j < n → ¬ (Before u l i j) → ¬ (T (due values degrees d i j))
-
-pub searched_start : (n : ℕ) (values : List ℤ) (degrees : List ℕ) (d u l : ℕ) → Searched n values degrees d u l u l
-searched_start n values degrees d u l =
-    record { since = omega arith; starts = sym (begins_at u l u refl); none = λ i j h hn kn late. absurd (late (inl h)) }
 
 module _ {n : ℕ} {values : List ℤ} {degrees : List ℕ} {d u l upper lower : ℕ} (s : Searched n values degrees d u l upper lower) where
   -- of row `upper`, the pairs from (u, l) on are those from `lower` on
@@ -102,34 +98,26 @@ module _ {n : ℕ} {values : List ℤ} {degrees : List ℕ} {d u l upper lower :
   -- ---- row `upper`: what its degree leaves is e, and the search went from the first row of that degree on
 
   module _ (ranked : Ranked n values degrees) (un : upper < n) (over : is_above values upper) {e from first k : ℕ} (sum : degree_of degrees upper + e ≡ d)
-      (low : first ≤ n) (b : Back degrees e from first) (w : Below n values degrees e (max lower first) k) where
+      (low : first ≤ n) (b : Back degrees e from first) (w : Passed values degrees e (max lower first) k) where
     none_before : (j : ℕ) → lower ≤ j → j < k → j < n → ¬ (T (due values degrees d upper j))
     none_before j lj jk jn t =
         let (o, under, g) = due_says values degrees d upper j t in
         elim (split j first) [
           | inl x ↦ omega (arith, back_early ranked b low j x)
-          | inr x ↦ w.passed.none j (omega arith) jk under (omega arith)
+          | inr x ↦ w.none j (omega arith) jk under (omega arith)
         ]
 
     pub row_passed : n ≤ k → Searched n values degrees d u l (upper + 1) 0
     row_passed past = searched_next (λ j lj jn. none_before j lj (omega arith) jn)
 
-    pub row_found : k < n → Falling n degrees d upper from → IsNext n values degrees d u l upper k first
-    row_found kn f =
-        let (under, g) = w.here kn in
+    pub row_found : k < n → max lower first ≤ k → is_below values k → degree_of degrees k ≡ e → Falling n degrees d upper from
+        → IsNext n values degrees d u l upper k first
+    row_found kn since under g f =
         let found = pair_unique n (due values degrees d) u l upper k un kn (due_shown values degrees d upper k over under (omega arith))
-        (lower_late k (omega (arith, w.passed.since)))
+        (lower_late k (omega arith))
         (λ i j hn jn early late. first_one i j hn jn early late) in
         record { upper_is = sym found.0; lower_is = sym found.1; falling = falling_back f b (omega arith) }
       where
         first_one : (i j : ℕ) → i < n → j < n → Before upper k i j → ¬ (Before u l i j) → ¬ (T (due values degrees d i j))
         first_one i j hn jn (inl x) late = s.none i j x hn jn late
         first_one i j hn jn (inr (x, jk)) late = rw x (none_before j (from_lower j (rw x at late)) jk jn)
-
-pub found_next : {n : ℕ} {values : List ℤ} {degrees : List ℕ} {d u l upper lower first : ℕ} → upper < n → IsNext n values degrees d u l upper lower first
-    → Found n values degrees d u l upper lower first
-found_next un x = record { pair = λ h. x; none = λ h. absurd (omega arith) }
-
-pub found_none : {n : ℕ} {values : List ℤ} {degrees : List ℕ} {d u l : ℕ} (lower first : ℕ) → n ≤ upper_of n values degrees d u l
-    → Found n values degrees d u l n lower first
-found_none lower first x = record { pair = λ h. absurd (omega arith); none = λ h. x }

@@ -1,15 +1,11 @@
--- `due_row` meets its contract: the first row from the loop's place on is the first from `from` on. Assumes nothing.
-use Rattle.engine_search.specs.Firsts.{size_here, size_next, size_none}
+-- `due_row` meets its contract: what `find` names is the first row. Assumes nothing.
+use Rattle.std.proofs.Common.{refl, rules, tests, eqb}
+use Rattle.engine_search.proofs.Finds.{find_in_range}
+use Rattle.engine_search.specs.Firsts.{size_named}
+use Rattle.engine_search.specs.Places.{degree_of}
 use Rattle.engine_search.proofs.due_row.Goals as goal
-
-pub returns-then-wide-d : goal.returns-then-wide-d
-returns-then-wide-d c =
-    size_here c.args.sizes.now _ _ _ _ _ c.loop-i.invariant c.loop-i-test.true c.wide.ensures c.if-wide-d.true
-
-pub loop-i-preserved : goal.loop-i-preserved
-loop-i-preserved c =
-    size_next c.args.sizes.now _ _ _ _ _ c.loop-i.invariant c.loop-i-test.true c.wide.ensures c.if-wide-d.false
 
 pub returns : goal.returns
 returns c =
-    size_none c.args.sizes.now _ _ c.args.d _ 0 c.loop-i.invariant c.loop-i-test.false
+    size_named c.args.sizes.now c.args.m c.args.from c.args.d c.find.result
+    (find_in_range _ _ c.args.from c.args.m (λ i. eqb (degree_of c.args.sizes.now i) c.args.d) c.find.ensures.ran refl (λ x b q k. search (rules, tests)))

@@ -1,24 +1,17 @@
--- `fall` meets its contract: the pointer falls as in `back`, and the first row below 0 from it on is known throughout. Assumes nothing.
-use Prim.Native.Nat.{◌-◌}
-use native.Mathlib.Omega.{arith}
-use borrow.Author.Rules.{sfits_of}
-use mir.Facts.{to_z-of_z}
-use mir.Syntax.{w64}
-use Rattle.engine_search.specs.Falls.{late_next, low_here, low_stays}
-use Rattle.engine_search.specs.Firsts.{told, untold}
+-- `fall` meets its contract. Assumes nothing.
+use Rattle.std.proofs.Common.{refl, rules, tests, pos}
+use Rattle.std.specs.Int.Signed.{lt_z}
+use Rattle.engine_search.proofs.Finds.{find_in_range}
+use Rattle.engine_search.specs.Falls.{low_falls}
 use Rattle.engine_search.specs.Places.{value_of}
 use Rattle.engine_search.proofs.fall.Goals as goal
 
-pub loop-first-preserved-then-is_below : goal.loop-first-preserved-then-is_below
-loop-first-preserved-then-is_below c =
-    let known = to_z-of_z {w = w64} {z = value_of c.args.values.now (c.loop-first.first - 1)} (sfits_of c.is_below-arg-1.given) in (
-      late_next c.loop-first.invariant.0 c.loop-first-test.true (omega (arith, c.wide.ensures, c.if-wide-e.false)),
-      low_here c.loop-first.invariant.1 c.loop-first-test.true (rw known at (told c.is_below.ensures c.if-is_below.true)),
-    )
-
-pub loop-first-preserved : goal.loop-first-preserved
-loop-first-preserved c =
-    let known = to_z-of_z {w = w64} {z = value_of c.args.values.now (c.loop-first.first - 1)} (sfits_of c.is_below-arg-1.given) in (
-      late_next c.loop-first.invariant.0 c.loop-first-test.true (omega (arith, c.wide.ensures, c.if-wide-e.false)),
-      low_stays c.loop-first.invariant.1 c.loop-first-test.true (rw known at (untold c.is_below.ensures c.if-is_below.false)),
-    )
+pub returns : goal.returns
+returns c = record {
+  back = c.back-first.ensures;
+  lowest =
+      low_falls c.args.n c.args.values.now c.args.at.first c.back-first.result c.find-low.result c.args.at.low c.or.result c.back-first.ensures.late.fallen
+      c.requires.1 c.requires.2
+      (find_in_range _ _ c.back-first.result c.args.at.first (λ k. lt_z (value_of c.args.values.now k) (pos 0)) c.find-low.ensures.ran refl
+      (λ x b q k. search (rules, tests))) (search rules);
+}
