@@ -5,15 +5,15 @@ ghost use Rattle.calls.specs.Codes.{code, refusal_code};
 
 use crate::Refusal;
 
+// The largest place that 56 bits hold.
+const LARGEST_PLACE: usize = 72057594037927935;
+
 // A number, with a place above its 8 bits.
 pub fn coded(number: u64, place: usize) -> u64
     requires { number < 256 }
     ensures { result ≡ code number place }
 {
-    if place < 72057594037927936 {
-        return number + 256 * place as u64;
-    }
-    number + 18446744073709551360
+    number + 256 * place.min(LARGEST_PLACE) as u64
 }
 
 // A refusal, with the place that it comes with.

@@ -258,26 +258,9 @@ pub fn value_of(why: Refusal) -> usize
     ensures { result ≡ value (values_of why) }
 {
     match why {
-        Refusal::Equations => 0,
-        Refusal::Unknowns => 0,
-        Refusal::CoefficientCount => 0,
-        Refusal::TableLength => 0,
-        Refusal::BoundLength => 0,
-        Refusal::OutOfOrder => 0,
         Refusal::Coefficient(place) => place,
-        Refusal::BoundRange => 0,
-        Refusal::ListFull => 0,
-        Refusal::ComponentLimit => 0,
-        Refusal::StepLimit => 0,
-        Refusal::RightSide => 0,
-        Refusal::SeatUnknowns => 0,
-        Refusal::SeatComponent => 0,
-        Refusal::Generators => 0,
-        Refusal::Column(column) => column,
-        Refusal::TablesFull => 0,
-        Refusal::NotLeft => 0,
-        Refusal::NotFresh => 0,
-        Refusal::NotOperation => 0,
         Refusal::ShiftedSide(place) => place,
+        Refusal::Column(column) => column,
+        _ => 0,
     }
 }
