@@ -1,6 +1,7 @@
 -- Refusals 1 to 4 from counts and lengths alone, what holds where they find nothing, and the checks that come after them. Assumes nothing.
-use Rattle.std.specs.Prelude.{◌≡◌, Bool, true, false, not, List, [], ℕ, ◌+◌, ◌*◌, ◌/◌, ◌%◌, ◌≤◌, ◌<◌, leb, ltb, eqb, ℤ, pos, length, get_or}
-use Rattle.std.proofs.Common.{inl, inr, le-div_iff_mul-le, arith, leb→le, ltb-false}
+use Rattle.std.specs.Prelude.{◌≡◌, Bool, true, false, not, ◌&&◌, List, [], ℕ, ◌+◌, ◌*◌, ◌/◌, ◌%◌, ◌≤◌, ◌<◌, leb, ltb, eqb, ℤ, pos, length, get_or}
+use Rattle.std.proofs.Common.{refl, ap, ◌∙◌, inl, inr, le-div_iff_mul-le, arith, leb→le, ltb-false}
+use Rattle.std.proofs.lemmas.Bool.{not-false}
 use Rattle.std.proofs.Math.ListN.{get_or-eq_default}
 use Rattle.linear.proofs.Cases.{split}
 use Rattle.linear.proofs.TestLaws.{all_at}
@@ -11,12 +12,8 @@ use Rattle.definitions.specs.System.{most_component, most_equations, most_unknow
 use Rattle.definitions.specs.Tables.{State}
 use Rattle.laws.proofs.AnswerLaws.{refuse_if_go, then_assoc, then_go}
 use Rattle.laws.proofs.RefusalLaws.{at_most, decides_range}
-use Rattle.desk_spec.specs.Desks.{Desk, desk_checks, desk_of, group_input, ranges_checks, wide}
-use Rattle.calls.specs.Paper.{check_of}
-use Rattle.calls.specs.declared.Check as made
-use Rattle.calls.specs.declared.Check.TheVariants.{Pass, Refuse}
-use Rattle.calls.specs.declared.Refusal.{Refusal}
-use Rattle.calls.specs.declared.Refusal.TheVariants.{Generators}
+use Rattle.desk_spec.specs.Desks.{Desk, desk_checks, desk_in_order, desk_of, desk_resume_checks, desk_start_checks, generators_in_order, group_input}
+use Rattle.desk_spec.specs.Desks.{ranges_checks}
 use Rattle.checks.specs.Counts.{counted, count_checks, either_refuses}
 use Rattle.desk_rows.specs.Images.{SmallDesk}
 
@@ -71,29 +68,47 @@ shape_fits p q coefs generators stack e =
 
 -- ---- the checks after them
 
+-- what both calls look at first: refusals 1 to 4, then that no generator has a component above the limit
+unfoldable pub table_checks : (p q coefs : ℕ) (generators : List ℕ) (stack : ℕ) → Check
+table_checks p q coefs generators stack =
+    shape_checks p q coefs (length generators) stack
+    then refuse_if (not (all_to (length generators) (λ i. leb (get_or generators i 0) most_component))) 6
+
 shape_then_lem : (d : Desk) (s : State) (own : Check)
     → shape_checks d.p d.q (length d.coefs) (length d.generators) (length s.stack) then own then ranges_checks d ≡ desk_checks d s own
 unfolding shape_checks count_checks
 shape_then_lem d s own =
     rw (← either_refuses (not (eqb (length d.coefs) (d.p * d.q))) (not (eqb (length d.generators % d.q) 0)) 3 _) (simp then_assoc)
 
-module _ (d : Desk) (s : State) (own : Check) {r : made.Check}
-    (e : check_of r ≡ shape_checks d.p d.q (length d.coefs) (length d.generators) (length s.stack)) where
-  pub shape_refused : {why : Refusal} → r ≡ Refuse why → check_of (Refuse why) ≡ desk_checks d s own
-  unfolding ◌then◌
-  shape_refused g = rw (← shape_then_lem d s own, ← e, g)
+-- a refusal where either of two tests fails
+both_refuse : (a b : Bool) (n : ℕ) (c : Check) → refuse_if (not a) n then refuse_if (not b) n then c ≡ refuse_if (not (a && b)) n then c
+unfolding refuse_with ◌then◌
+both_refuse true b n c = refl
+both_refuse false b n c = refl
 
-  pub shape_passed : {c : Check} → r ≡ Pass → c ≡ own then ranges_checks d → c ≡ desk_checks d s own
-  unfolding ◌then◌
-  shape_passed g h = rw (← shape_then_lem d s own, ← e, g) h
+module _ (d : Desk) (s : State) where
+  abbrev first : Check
+  first = table_checks d.p d.q (length d.coefs) d.generators (length s.stack)
+
+  pub start_first : first then ranges_checks d ≡ desk_start_checks d s
+  unfolding table_checks desk_start_checks generators_in_order
+  start_first = then_assoc _ _ _ ∙ shape_then_lem d s _
+
+  pub resume_first : first then refuse_if (not (desk_in_order d s)) 6 then ranges_checks d ≡ desk_resume_checks d s
+  unfolding table_checks desk_resume_checks generators_in_order
+  resume_first =
+      then_assoc _ _ _
+      ∙ ap (λ c. shape_checks d.p d.q (length d.coefs) (length d.generators) (length s.stack) then c)
+      (both_refuse _ (desk_in_order d s) 6 (ranges_checks d))
+      ∙ shape_then_lem d s _
 
 pub six_refused : (b : Bool) (rest : Check) → b ≡ false → refuse 6 [] ≡ refuse_if (not b) 6 then rest
 unfolding refuse_with ◌then◌
 six_refused b rest e = rw e
 
-pub six_passed : (b : Bool) (rest : Check) → b ≡ true → {c : Check} → c ≡ rest → c ≡ refuse_if (not b) 6 then rest
+pub six_passed : (b : Bool) (rest : Check) → b ≡ true → rest ≡ refuse_if (not b) 6 then rest
 unfolding refuse_with ◌then◌
-six_passed b rest e h = rw e h
+six_passed b rest e = rw e
 
 -- ---- 7 and 25
 
@@ -105,7 +120,7 @@ pub record Handed (p q coefs : ℕ) (generators : List ℕ) : Type 0 where
   pub count : coefs ≡ p * q
   pub small : (i : ℕ) → i < length generators → get_or generators i 0 ≤ most_component
 
-pub handed_by : {p q coefs : ℕ} {generators : List ℕ} {stack : ℕ} → InShape p q coefs (length generators) stack
+handed_by : {p q coefs : ℕ} {generators : List ℕ} {stack : ℕ} → InShape p q coefs (length generators) stack
     → all_to (length generators) (λ i. leb (get_or generators i 0) most_component) ≡ true → Handed p q coefs generators
 handed_by {generators = generators} s h =
     record {
@@ -115,6 +130,14 @@ handed_by {generators = generators} s h =
       count = s.count;
       small = λ i l. leb→le (get_or generators i 0) most_component (all_at (length generators) (λ i. leb (get_or generators i 0) most_component) (rw h tt) i l);
     }
+
+pub tables_fit : (p q coefs : ℕ) (generators : List ℕ) (stack : ℕ) → table_checks p q coefs generators stack ≡ go
+    → InShape p q coefs (length generators) stack × Handed p q coefs generators
+unfolding table_checks
+tables_fit p q coefs generators stack e =
+    let (shape, small) = then_go (shape_checks p q coefs (length generators) stack) _ e in
+    let fits = shape_fits p q coefs (length generators) stack shape in
+    (fits, handed_by fits (not-false _ (refuse_if_go _ 6 small)))
 
 pub handed_small : (p q : ℕ) (coefs : List ℤ) (generators : List ℕ) → Handed p q (length coefs) generators
     → check7 (group_input (desk_of p q coefs generators)) ≡ go → SmallDesk p q coefs generators
@@ -131,16 +154,3 @@ handed_small p q coefs generators s e =
           };
       handed = λ i. elim (split i (length generators)) [ inl l ↦ s.small i l | inr l ↦ rw (get_or-eq_default generators 0 l) (omega arith) ];
     }
-
-module _ (d : Desk) {r : made.Check} (e : check_of r ≡ check7 (group_input d)) where
-  pub range_refused : {why : Refusal} → r ≡ Refuse why → check_of (Refuse why) ≡ ranges_checks d
-  unfolding ◌then◌
-  range_refused g = rw (← e, g)
-
-  pub range_wide : r ≡ Pass → wide d ≡ true → check_of (Refuse Generators) ≡ ranges_checks d
-  unfolding ◌then◌ refuse_with
-  range_wide g h = rw (← e, g, h)
-
-  pub range_passed : r ≡ Pass → wide d ≡ false → check_of Pass ≡ ranges_checks d
-  unfolding ◌then◌ refuse_with
-  range_passed g h = rw (← e, g, h)

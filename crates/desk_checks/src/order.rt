@@ -22,27 +22,12 @@ pub fn in_order(q: usize, generators: &[u32], stack: &[u32], list: &[u32], r: Re
     requires { RowsFit q (length generators.now) (length stack.now) }
     ensures { result ≡ desk_in_order (desk_of 0 q [] generators.now) (state_of stack.now list.now r) }
 {
-    let kind = r.kind;
-    let height = r.height;
-    let found = r.found.0;
-    let steps = r.steps.0;
-    let deepest = r.deepest;
-    if !calls::same_run(kind, RunKind::Desks) {
-        return false;
-    }
-    if generators.len() / q < height {
-        return false;
-    }
-    if list.len() / q < found {
-        return false;
-    }
-    if calls::STEP_LIMIT < steps {
-        return false;
-    }
-    if calls::DEEPEST_LIMIT < deepest {
-        return false;
-    }
-    rows_in_order(q, generators, stack, height)
+    r.kind == RunKind::Desks
+        && r.height <= generators.len() / q
+        && r.found.0 <= list.len() / q
+        && r.steps.0 <= calls::STEP_LIMIT
+        && r.deepest <= calls::DEEPEST_LIMIT
+        && rows_in_order(q, generators, stack, r.height)
 }
 
 // Whether the first `height` rows are in order.
@@ -50,14 +35,7 @@ fn rows_in_order(q: usize, generators: &[u32], stack: &[u32], height: usize) -> 
     requires { (0 < q) × (q ≤ 16) × (height * (q + 2) ≤ length stack.now) }
     ensures { result ≡ all_to height (desk_row_in_order (desk_of 0 q [] generators.now) stack.now) }
 {
-    let mut k = 0;
-    while k < height {
-        if !row_in_order(q, generators, stack, k) {
-            return false;
-        }
-        k += 1;
-    }
-    true
+    (0..height).all(|k| row_in_order(q, generators, stack, k))
 }
 
 // Whether row k is in order: components, marks within the generators, and k marks.
@@ -66,9 +44,7 @@ fn row_in_order(q: usize, generators: &[u32], stack: &[u32], k: usize) -> bool
     ensures { result ≡ desk_row_in_order (desk_of 0 q [] generators.now) stack.now k }
 {
     let base = k * (q + 2);
-    if !rows::small_at(stack, base, q, calls::COMPONENT_LIMIT) {
-        return false;
-    }
     let marks = marks::join(stack[base + q], stack[base + (q + 1)]);
-    marks::in_order(marks, generators.len() / q, k)
+    rows::small_at(stack, base, q, calls::COMPONENT_LIMIT)
+        && marks::in_order(marks, generators.len() / q, k)
 }

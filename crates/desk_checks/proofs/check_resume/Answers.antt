@@ -1,53 +1,35 @@
--- `desk_checks::check_resume` meets its contract: the shape decides, else the generators, the record and the tables, else the ranges do. Assumes nothing.
-use mathlib.Core.Bool.{◌&&◌, and-false}
-use mathlib.Core.Path.{sym, ◌∙◌, ap}
-use Rattle.calls.specs.Paper.{check_of, state_of}
-use Rattle.desk_checks.specs.Shape.{handed_by, rows_fit, shape_fits, shape_passed, shape_refused, six_passed, six_refused}
-use Rattle.desk_spec.specs.Desks.{desk_in_order, desk_of, desk_resume_checks, desk_row_in_order, generators_in_order}
+-- `desk_checks::check_resume` meets its contract: what both calls look at first decides, else the record and the tables, else the ranges do. Assumes nothing.
+use mathlib.Core.Path.{sym, ◌∙◌}
+use Rattle.calls.proofs.CallLaws.{handed_on, passes}
+use Rattle.calls.specs.Paper.{state_of}
+use Rattle.checks.specs.CheckLaws.{passed_first, refused_first}
+use Rattle.desk_checks.specs.Shape.{resume_first, rows_fit, six_passed, six_refused, tables_fit}
+use Rattle.desk_spec.specs.Desks.{desk_in_order, desk_of, desk_row_in_order}
 use Rattle.desk_checks.proofs.check_resume.Goals as goal
 
-pub returns-then-not-small : goal.returns-then-not-small
-unfolding desk_resume_checks generators_in_order
-returns-then-not-small c =
+pub returns-in_err-check_tables : goal.returns-in_err-check_tables
+returns-in_err-check_tables c =
     let a = c.args in
-    let d = desk_of a.p a.q a.coefs.now a.generators.now in
-    let s = state_of a.stack.now a.list.now a.r in
-    shape_passed d s _ c.check.ensures c.in-Pass.is
-    (six_refused (generators_in_order d && desk_in_order d s) _ (ap (λ b. b && desk_in_order d s) (sym c.small.ensures ∙ c.if-not-small.true)))
+    rw (handed_on c.from_residual.ensures)
+    (refused_first _ c.in_err-check_tables.was c.check_tables.ensures
+    ∙ resume_first (desk_of a.p a.q a.coefs.now a.generators.now) (state_of a.stack.now a.list.now a.r))
 
 pub in_order-requires : goal.in_order-requires
-in_order-requires c =
-    rows_fit (shape_fits _ _ _ _ _ (sym c.check.ensures ∙ ap check_of c.in-Pass.is))
+in_order-requires c = rows_fit (tables_fit _ _ _ _ _ (passes c.check_tables.ensures c.in_ok-check_tables.was)).0
 
 pub returns-then-not-in_order : goal.returns-then-not-in_order
-unfolding desk_resume_checks generators_in_order desk_in_order desk_row_in_order
+unfolding desk_in_order desk_row_in_order
 returns-then-not-in_order c =
     let a = c.args in
-    let d = desk_of a.p a.q a.coefs.now a.generators.now in
-    let no = sym c.in_order.ensures ∙ c.if-not-in_order.true in
-    let s = state_of a.stack.now a.list.now a.r in
-    shape_passed d s _ c.check.ensures c.in-Pass.is
-    (six_refused (generators_in_order d && desk_in_order d s) _ (ap (λ b. generators_in_order d && b) no ∙ and-false (generators_in_order d)))
+    six_refused _ _ (sym c.in_order.ensures ∙ c.if-not-in_order.true) ∙ passed_first _ c.in_ok-check_tables.was c.check_tables.ensures
+    ∙ resume_first (desk_of a.p a.q a.coefs.now a.generators.now) (state_of a.stack.now a.list.now a.r)
 
-pub check-requires-in-Pass : goal.check-requires-in-Pass
-check-requires-in-Pass c =
-    handed_by (shape_fits _ _ _ _ _ (sym c.check.ensures ∙ ap check_of c.in-Pass.is))
-    (sym c.small.ensures ∙ c.if-not-small.false)
+pub check-requires : goal.check-requires
+check-requires c = (tables_fit _ _ _ _ _ (passes c.check_tables.ensures c.in_ok-check_tables.was)).1
 
-pub returns-in-Refuse : goal.returns-in-Refuse
-unfolding desk_resume_checks
-returns-in-Refuse c =
+pub returns : goal.returns
+unfolding desk_in_order desk_row_in_order
+returns c =
     let a = c.args in
-    let d = desk_of a.p a.q a.coefs.now a.generators.now in
-    shape_refused d (state_of a.stack.now a.list.now a.r) _ c.check.ensures c.in-Refuse.is
-
-pub returns-else-not-in_order : goal.returns-else-not-in_order
-unfolding desk_resume_checks generators_in_order desk_in_order desk_row_in_order
-returns-else-not-in_order c =
-    let a = c.args in
-    let d = desk_of a.p a.q a.coefs.now a.generators.now in
-    let yes = sym c.in_order.ensures ∙ c.if-not-in_order.false in
-    let small = sym c.small.ensures ∙ c.if-not-small.false in
-    let s = state_of a.stack.now a.list.now a.r in
-    shape_passed d s _ c.check.ensures c.in-Pass.is
-    (six_passed (generators_in_order d && desk_in_order d s) _ (ap (λ b. b && desk_in_order d s) small ∙ yes) c.check-in-Pass.ensures)
+    c.check.ensures ∙ six_passed _ _ (sym c.in_order.ensures ∙ c.if-not-in_order.false) ∙ passed_first _ c.in_ok-check_tables.was c.check_tables.ensures
+    ∙ resume_first (desk_of a.p a.q a.coefs.now a.generators.now) (state_of a.stack.now a.list.now a.r)

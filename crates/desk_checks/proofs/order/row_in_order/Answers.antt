@@ -3,11 +3,10 @@ use mathlib.Core.Path.{sym, ◌∙◌}
 use Rattle.desk_spec.specs.Desks.{desk_row_in_order}
 use Rattle.desk_checks.proofs.order.row_in_order.Goals as goal
 
-pub returns-then-not-small_at : goal.returns-then-not-small_at
+pub returns-then-small_at : goal.returns-then-small_at
 unfolding desk_row_in_order
-returns-then-not-small_at c = rw (sym c.small_at.ensures ∙ c.if-not-small_at.true)
+returns-then-small_at c = rw (sym c.small_at.ensures ∙ c.if-small_at.true) (rw c.join-marks.ensures at c.in_order.ensures)
 
-pub returns : goal.returns
+pub returns-else-small_at : goal.returns-else-small_at
 unfolding desk_row_in_order
-returns c =
-    rw (sym c.small_at.ensures ∙ c.if-not-small_at.false) (rw c.join-marks.ensures at c.in_order.ensures)
+returns-else-small_at c = rw (sym c.small_at.ensures ∙ c.if-small_at.false) c.if-small_at.false
