@@ -6,7 +6,7 @@ ghost use Rattle.definitions.specs.Calls.{start, start_from};
 ghost use Rattle.definitions.specs.Input.{alone, input_with, rights as sides};
 ghost use Rattle.calls.specs.Paper.{state_of, state_with, outcome_of, outcome_with};
 
-use calls::{Check, Outcome, Record, RunKind};
+use calls::{Outcome, Record, RunKind};
 
 mod rows; // rows.rt: the rows that the starts write
 
@@ -23,13 +23,11 @@ pub fn started(
         → outcome_of result stack.new list.new
         ≡ start (input_with alone limit p q coefs.now) (state_of stack.old list.old r) }
 {
-    match checks::check_start(p, q, coefs, stack, list, r) {
-        Check::Refuse(why) => calls::refused(why, r),
-        Check::Pass => {
-            rows::write_units(stack, q);
-            calls::begun(RunKind::Plain, q)
-        }
+    if let Err(why) = checks::check_start(p, q, coefs, stack, list, r) {
+        return calls::refused(why, r);
     }
+    rows::write_units(stack, q);
+    calls::begun(RunKind::Plain, q)
 }
 
 // The start of a run from a lower bound: it writes as a plain one.
@@ -48,13 +46,11 @@ pub fn started_from(
         ≡ start_from lower.now (input_with alone limit p q coefs.now)
         (state_with stack.old list.old second.old r) }
 {
-    match checks::check_start_from(p, q, coefs, lower, stack, list, second, r, limit) {
-        Check::Refuse(why) => calls::refused(why, r),
-        Check::Pass => {
-            rows::write_units(stack, q);
-            calls::begun(RunKind::LowerPlain, q)
-        }
+    if let Err(why) = checks::check_start_from(p, q, coefs, lower, stack, list, second, r, limit) {
+        return calls::refused(why, r);
     }
+    rows::write_units(stack, q);
+    calls::begun(RunKind::LowerPlain, q)
 }
 
 // The start of a capped run; it does not depend on the limit of components.
@@ -73,12 +69,10 @@ pub fn started_capped(
         ≡ start (input_with (sides rights.now) limit p q coefs.now)
         (state_with stack.old list.old second.old r) }
 {
-    match checks::check_start_capped(p, q, coefs, rights, stack, list, second, r) {
-        Check::Refuse(why) => calls::refused(why, r),
-        Check::Pass => {
-            let wide = q + 1;
-            rows::write_units(stack, wide);
-            calls::begun(RunKind::Capped, wide)
-        }
+    if let Err(why) = checks::check_start_capped(p, q, coefs, rights, stack, list, second, r) {
+        return calls::refused(why, r);
     }
+    let wide = q + 1;
+    rows::write_units(stack, wide);
+    calls::begun(RunKind::Capped, wide)
 }

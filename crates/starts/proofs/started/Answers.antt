@@ -8,15 +8,15 @@ use Rattle.starts.proofs.started.Goals as goal
 
 pub write_units-requires : goal.write_units-requires
 write_units-requires c =
-    let g = start_shaped _ _ (passes c.check_start.ensures c.in-Pass.is) in
+    let g = start_shaped _ _ (passes c.check_start.ensures c.in_default.is) in
     (g.q_few, g.stack)
 
-pub returns-in-Refuse : goal.returns-in-Refuse
+pub returns-in-Err : goal.returns-in-Err
 unfolding start
-returns-in-Refuse c =
-    for_every _ _ _ _ (rw c.refused.ensures (call_refused c.check_start.ensures _ _ c.in-Refuse.is))
+returns-in-Err c =
+    for_every _ _ _ _ (rw c.refused.ensures (call_refused c.check_start.ensures _ _ c.in-Err.is))
 
-pub returns-in-Pass : goal.returns-in-Pass
+pub returns : goal.returns
 unfolding start units_start
-returns-in-Pass c =
-    for_every _ _ _ _ (call_passed c.check_start.ensures _ _ c.in-Pass.is (rw (c.begun.ensures, c.write_units.ensures)))
+returns c =
+    for_every _ _ _ _ (call_passed c.check_start.ensures _ _ c.in_default.is (rw (c.begun.ensures, c.write_units.ensures)))

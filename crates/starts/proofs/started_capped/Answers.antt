@@ -9,22 +9,22 @@ use Rattle.starts.proofs.started_capped.Goals as goal
 
 pub overflow_add-wide : goal.overflow_add-wide
 overflow_add-wide c =
-    let g = start_shaped _ _ (passes (c.check_start_capped.ensures 0) c.in-Pass.is) in
+    let g = start_shaped _ _ (passes (c.check_start_capped.ensures 0) c.in_default.is) in
     omega (arith, g.q_few)
 
 pub write_units-requires : goal.write_units-requires
 write_units-requires c =
     let a = c.args in
-    let g = start_shaped _ _ (passes (c.check_start_capped.ensures 0) c.in-Pass.is) in
+    let g = start_shaped _ _ (passes (c.check_start_capped.ensures 0) c.in_default.is) in
     rw (add-one a.q) (g.q_few, g.stack)
 
-pub returns-in-Refuse : goal.returns-in-Refuse
+pub returns-in-Err : goal.returns-in-Err
 unfolding start
-returns-in-Refuse c limit =
-    rw c.refused.ensures (call_refused (c.check_start_capped.ensures limit) _ _ c.in-Refuse.is)
+returns-in-Err c limit =
+    rw c.refused.ensures (call_refused (c.check_start_capped.ensures limit) _ _ c.in-Err.is)
 
-pub returns-in-Pass : goal.returns-in-Pass
+pub returns : goal.returns
 unfolding start units_start
-returns-in-Pass c limit =
+returns c limit =
     let a = c.args in
-    call_passed (c.check_start_capped.ensures limit) _ _ c.in-Pass.is (rw (c.begun.ensures, c.write_units.ensures, add-one a.q))
+    call_passed (c.check_start_capped.ensures limit) _ _ c.in_default.is (rw (c.begun.ensures, c.write_units.ensures, add-one a.q))

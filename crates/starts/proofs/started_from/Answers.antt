@@ -8,15 +8,15 @@ use Rattle.starts.proofs.started_from.Goals as goal
 
 pub write_units-requires : goal.write_units-requires
 write_units-requires c =
-    let g = (lower_shaped _ _ _ refl (passes c.check_start_from.ensures c.in-Pass.is)).0 in
+    let g = (lower_shaped _ _ _ refl (passes c.check_start_from.ensures c.in_default.is)).0 in
     (g.q_few, g.stack)
 
-pub returns-in-Refuse : goal.returns-in-Refuse
+pub returns-in-Err : goal.returns-in-Err
 unfolding start_from
-returns-in-Refuse c =
-    rw c.refused.ensures (call_refused c.check_start_from.ensures _ _ c.in-Refuse.is)
+returns-in-Err c =
+    rw c.refused.ensures (call_refused c.check_start_from.ensures _ _ c.in-Err.is)
 
-pub returns-in-Pass : goal.returns-in-Pass
+pub returns : goal.returns
 unfolding start_from lower_start
-returns-in-Pass c =
-    call_passed c.check_start_from.ensures _ _ c.in-Pass.is (rw (c.begun.ensures, c.write_units.ensures))
+returns c =
+    call_passed c.check_start_from.ensures _ _ c.in_default.is (rw (c.begun.ensures, c.write_units.ensures))
