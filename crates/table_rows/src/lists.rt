@@ -6,32 +6,22 @@ ghost use Rattle.definitions.specs.Tables.{at};
 ghost use Rattle.table_rows.specs.Places.{place_of};
 ghost use Rattle.table_rows.specs.Rows.{tuple};
 
-// A place in a list, from 1; specs/Places.antt has the document's values.
-#[derive(Clone, Copy)]
-pub enum Place {
-    At(usize),
-    Nowhere,
-}
-
 // Whether one of the first `found` rows of w numbers is at or below `t`.
 pub fn covered(list: &[u32], found: usize, w: usize, t: &[u32]) -> bool
     requires { (0 < w) × (w ≤ length t.now) × (found * w ≤ length list.now) }
     ensures { result ≡ system.covered w found (at list.now w) (tuple t.now) }
 {
-    match highest(list, found, w, t) {
-        Place::At(_) => true,
-        Place::Nowhere => false,
-    }
+    highest(list, found, w, t).is_some()
 }
 
-// The highest place of such a row. The newest rows come first: it is they that most often are at or below `t`. Most rows fail at their first component,
+// The highest place, from 1, of such a row. The newest rows come first: it is they that most often are at or below `t`. Most rows fail at their first component,
 // so that of `t` is kept at hand: the compiler then takes the first turn of the inner loop out of it.
-pub fn highest(list: &[u32], found: usize, w: usize, t: &[u32]) -> Place
+pub fn highest(list: &[u32], found: usize, w: usize, t: &[u32]) -> Option<usize>
     requires { (0 < w) × (w ≤ length t.now) × (found * w ≤ length list.now) }
     ensures { place_of result ≡ paper.highest w found (at list.now w) (tuple t.now) }
 {
     let first = t[0];
-    let mut verdict = Place::Nowhere;
+    let mut verdict = None;
     let mut rest = found * w;
     'rows: while 0 < rest {
         rest -= w;
@@ -44,7 +34,7 @@ pub fn highest(list: &[u32], found: usize, w: usize, t: &[u32]) -> Place
             j += 1;
         }
         let place = rest / w + 1;
-        verdict = Place::At(place);
+        verdict = Some(place);
         break 'rows;
     }
     verdict

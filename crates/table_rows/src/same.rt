@@ -5,14 +5,12 @@ ghost use Rattle.definitions.specs.Tables.{at};
 ghost use Rattle.table_rows.specs.Places.{place_of};
 ghost use Rattle.table_rows.specs.Rows.{tuple};
 
-use crate::lists::Place;
-
-// The highest place of one of the first `found` rows of w numbers that is `t`.
-pub fn standing(list: &[u32], found: usize, w: usize, t: &[u32]) -> Place
+// The highest place, from 1, of one of the first `found` rows of w numbers that is `t`.
+pub fn standing(list: &[u32], found: usize, w: usize, t: &[u32]) -> Option<usize>
     requires { (0 < w) × (w ≤ length t.now) × (found * w ≤ length list.now) }
     ensures { place_of result ≡ paper.standing w found (at list.now w) (tuple t.now) }
 {
-    let mut verdict = Place::Nowhere;
+    let mut verdict = None;
     let mut rest = found * w;
     'rows: while 0 < rest {
         rest -= w;
@@ -24,7 +22,7 @@ pub fn standing(list: &[u32], found: usize, w: usize, t: &[u32]) -> Place
             j += 1;
         }
         let place = rest / w + 1;
-        verdict = Place::At(place);
+        verdict = Some(place);
         break 'rows;
     }
     verdict

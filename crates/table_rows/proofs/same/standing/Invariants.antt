@@ -6,7 +6,7 @@ use Prim.Native.Nat.{◌+◌, ◌-◌, ◌≤◌}
 use lib.Dec.{eqb}
 use lib.ListN.{length, get_or}
 use Rattle.linear.specs.Tests.{all_to}
-use Rattle.table_rows.specs.declared.lists.Place.TheVariants.{Nowhere}
+use Rattle.std.proofs.Common.{None}
 use Rattle.table_rows.specs.Rows.{tuple}
 use Rattle.table_rows.proofs.Search.{Left}
 use Rattle.table_rows.proofs.same.standing.Given as goal
@@ -18,7 +18,7 @@ abbrev pub decreases-loop-j : goal.decreases-loop-j
 decreases-loop-j l = l.w - l.j
 
 abbrev pub invariant-rows : goal.invariant-rows
-invariant-rows l = (l.verdict ≡ Nowhere) × Left eqb l.w l.list (tuple l.t) l.found l.rest
+invariant-rows l = (l.verdict ≡ None) × Left eqb l.w l.list (tuple l.t) l.found l.rest
 
 abbrev pub decreases-rows : goal.decreases-rows
 decreases-rows l = l.rest

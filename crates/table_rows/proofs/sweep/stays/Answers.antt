@@ -1,7 +1,6 @@
 -- `sweep::stays` meets its contract. No row passed, kept or later, spoils row i. Assumes nothing.
 use Rattle.table_rows.proofs.Keeping.{later_start, later_above, later_same, goes_earlier, goes_later, stays_both}
 use Rattle.laws.proofs.TableLaws.{row_fits}
-use Rattle.definitions.specs.Tables.{at}
 use Rattle.linear.proofs.LoopLaws.{any_next}
 use Rattle.linear.specs.Tests.{any_to}
 use native.Mathlib.Nat.{le_antisymm}

@@ -1,7 +1,6 @@
 -- `sweep::sweep` meets its contract. Of the rows passed those that stay stand one behind the other. Assumes nothing.
 use Rattle.table_rows.proofs.Keeping.{kept_none, kept_length, kept_few, kept_skip, kept_copied, kept_test}
 use Rattle.laws.proofs.TableLaws.{place_fits}
-use Rattle.definitions.specs.Tables.{at}
 use native.Mathlib.Nat.{le_antisymm}
 use mathlib.Core.Path.{refl, sym, ◌∙◌}
 use borrow.Author.Rules.{rules}
