@@ -4,32 +4,28 @@ use Rattle.std.proofs.Math.Option.{Option}
 use Rattle.std.proofs.Common.{div-mul-le_self, mul-le-mul_right, arith}
 use Rattle.definitions.specs.Answers.{◌then◌, refuse_with}
 use Rattle.definitions.specs.Highest as paper
+use Rattle.definitions.specs.Refusals.{between}
 use Rattle.definitions.specs.Tables.{at, capacity}
 
 module _ (most q : ℕ) (list : List ℕ) (found : ℕ) (t : List ℕ) where
-  pub no_unknowns : leb 1 q ≡ false → paper.refused 2 [] ≡ paper.locate_within most q list found t
+  pub unknowns_outside : between 1 most q ≡ false → paper.refused 2 [] ≡ paper.locate_within most q list found t
   unfolding paper.locate_within paper.locate_checks paper.unless_refused refuse_with ◌then◌
-  no_unknowns a = rw a
+  unknowns_outside a = rw a
 
-  module _ (a : leb 1 q ≡ true) where
-    pub many_unknowns : leb q most ≡ false → paper.refused 2 [] ≡ paper.locate_within most q list found t
+  module _ (a : between 1 most q ≡ true) where
+    pub other_length : eqb (length t) q ≡ false → paper.refused 5 [] ≡ paper.locate_within most q list found t
     unfolding paper.locate_within paper.locate_checks paper.unless_refused refuse_with ◌then◌
-    many_unknowns b = rw (a, b)
+    other_length c = rw (a, c)
 
-    module _ (b : leb q most ≡ true) where
-      pub other_length : eqb (length t) q ≡ false → paper.refused 5 [] ≡ paper.locate_within most q list found t
+    module _ (c : eqb (length t) q ≡ true) where
+      pub many_rows : leb found (capacity q list) ≡ false → paper.refused 6 [] ≡ paper.locate_within most q list found t
       unfolding paper.locate_within paper.locate_checks paper.unless_refused refuse_with ◌then◌
-      other_length c = rw (a, b, c)
+      many_rows d = rw (a, c, d)
 
-      module _ (c : eqb (length t) q ≡ true) where
-        pub many_rows : leb found (capacity q list) ≡ false → paper.refused 6 [] ≡ paper.locate_within most q list found t
-        unfolding paper.locate_within paper.locate_checks paper.unless_refused refuse_with ◌then◌
-        many_rows d = rw (a, b, c, d)
-
-        pub asked : leb found (capacity q list) ≡ true → {o : Option ℕ} → o ≡ paper.highest q found (at list q) (λ j. get_or t j 0)
-            → paper.placed o ≡ paper.locate_within most q list found t
-        unfolding paper.locate_within paper.locate_checks paper.unless_refused refuse_with ◌then◌
-        asked d e = rw (a, b, c, d, ← e)
+      pub asked : leb found (capacity q list) ≡ true → {o : Option ℕ} → o ≡ paper.highest q found (at list q) (λ j. get_or t j 0)
+          → paper.placed o ≡ paper.locate_within most q list found t
+      unfolding paper.locate_within paper.locate_checks paper.unless_refused refuse_with ◌then◌
+      asked d e = rw (a, c, d, ← e)
 
 pub rows_fit : (n q : ℕ) {found : ℕ} → found ≤ n / q → found * q ≤ n
 rows_fit n q l = omega (arith, mul-le-mul_right q l, div-mul-le_self n q)

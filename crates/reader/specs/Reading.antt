@@ -8,7 +8,7 @@ use Rattle.std.proofs.Math.Dec.{T, leb, leb→le}
 use Rattle.std.proofs.Math.ListN.{length, length-drop}
 use Rattle.std.proofs.lemmas.Bool.{lt-leb}
 use Rattle.linear.proofs.TestLaws.{and_parts}
-use Rattle.definitions.specs.Answers.{Check, go, refuse, refuse_with}
+use Rattle.definitions.specs.Answers.{refuse_with}
 use Rattle.definitions.specs.System.{most_unknowns}
 use Rattle.definitions.specs.Input.{rights}
 use Rattle.definitions.specs.Refusals.{between, most_for}
@@ -34,17 +34,10 @@ use Rattle.definitions.specs.Reader.{
 }
 use Rattle.reader.specs.declared.Which.{Which as CodeWhich}
 use Rattle.reader.specs.declared.Which.TheVariants.{Zero, One}
-use Rattle.reader.specs.declared.Readable.{Readable}
-use Rattle.reader.specs.declared.Readable.TheVariants.{Yes, Refused}
-use Rattle.calls.specs.Paper.{number_of, values_of}
 
 abbrev pub which_of : CodeWhich → Which
 which_of Zero = at_zero
 which_of One = at_one
-
-abbrev pub readable_of : Readable → Check
-readable_of Yes = go
-readable_of (Refused why) = refuse (number_of why) (values_of why)
 
 abbrev pub part_if : Bool → List ℕ → List ℕ
 part_if true part = part

@@ -5,7 +5,8 @@ ghost use Rattle.std.specs.Prelude.{◌≡◌};
 ghost use Rattle.definitions.specs.Reader.{reader_check, row_of_either};
 ghost use Rattle.definitions.specs.Refusals.{between};
 ghost use Rattle.definitions.specs.System.{most_unknowns};
-ghost use Rattle.reader.specs.Reading.{readable_of, shown_part, capped_part, shows, which_of};
+ghost use Rattle.calls.specs.Paper.{check_of};
+ghost use Rattle.reader.specs.Reading.{shown_part, capped_part, shows, which_of};
 
 use calls::{Refusal, Solutions};
 
@@ -18,31 +19,21 @@ pub struct Reader<'a> {
     pub q: usize,
 }
 
-// Whether a reader shows rows.
-#[derive(Clone, Copy)]
-pub enum Readable {
-    Yes,
-    Refused(Refusal),
-}
-
 // Whether a system may have q unknowns.
 fn in_range(q: usize) -> bool
     ensures { result ≡ between 1 most_unknowns q }
 {
-    if q < 1 {
-        return false;
-    }
-    q <= 16
+    (1..=16).contains(&q)
 }
 
 // Whether a reader for rows of q numbers is refused.
-pub fn reader_answer(q: usize) -> Readable
-    ensures { readable_of result ≡ reader_check q }
+pub fn reader_answer(q: usize) -> Result<(), Refusal>
+    ensures { check_of result ≡ reader_check q }
 {
     if in_range(q) {
-        Readable::Yes
+        Ok(())
     } else {
-        Readable::Refused(Refusal::Unknowns)
+        Err(Refusal::Unknowns)
     }
 }
 
@@ -117,8 +108,8 @@ impl<'a> Reader<'a> {
         Reader { list, q }
     }
 
-    pub fn answer(self) -> Readable
-        ensures { readable_of result ≡ reader_check self.entry.q }
+    pub fn answer(self) -> Result<(), Refusal>
+        ensures { check_of result ≡ reader_check self.entry.q }
     {
         reader_answer(self.q)
     }

@@ -5,50 +5,46 @@ ghost use Rattle.definitions.specs.Refusals.{large_sizes};
 ghost use Rattle.reader.specs.Answers.{located_of, located_number};
 
 use calls::{Refusal, Solutions};
-use table_rows::lists::Place;
 
-// Where the row is, its place from 1; specs/Answers.antt has the documents' values for each.
-#[derive(Clone, Copy)]
-pub enum Located {
-    At(usize),
-    Nowhere,
-    Refused(Refusal),
-}
-
-// The highest place of one of the first `found` rows of a list table that is at or below `t`.
-pub fn locate(list: &[u32], q: usize, found: Solutions, t: &[u32]) -> Located
+// The highest place, from 1, of one of the first `found` rows of a list table that is at or below `t`.
+pub fn locate(list: &[u32], q: usize, found: Solutions, t: &[u32]) -> Result<Option<usize>, Refusal>
     ensures { located_of result ≡ paper.locate q list.now found.0 t.now }
 {
     locate_within(16, list, q, found, t)
 }
 
 // The same of a list of a larger map, as the engine lists them: up to 32 unknowns.
-pub fn locate_large(list: &[u32], q: usize, found: Solutions, t: &[u32]) -> Located
+pub fn locate_large(
+    list: &[u32],
+    q: usize,
+    found: Solutions,
+    t: &[u32],
+) -> Result<Option<usize>, Refusal>
     ensures { located_of result ≡ paper.locate_within large_sizes.unknowns q list.now found.0 t.now }
 {
     locate_within(32, list, q, found, t)
 }
 
 // For rows of at most so many numbers.
-fn locate_within(unknowns: usize, list: &[u32], q: usize, found: Solutions, t: &[u32]) -> Located
+fn locate_within(
+    unknowns: usize,
+    list: &[u32],
+    q: usize,
+    found: Solutions,
+    t: &[u32],
+) -> Result<Option<usize>, Refusal>
     ensures { located_of result ≡ paper.locate_within unknowns q list.now found.0 t.now }
 {
-    if q < 1 {
-        return Located::Refused(Refusal::Unknowns);
-    }
-    if unknowns < q {
-        return Located::Refused(Refusal::Unknowns);
+    if !(1..=unknowns).contains(&q) {
+        return Err(Refusal::Unknowns);
     }
     if t.len() != q {
-        return Located::Refused(Refusal::BoundLength);
+        return Err(Refusal::BoundLength);
     }
     if list.len() / q < found.0 {
-        return Located::Refused(Refusal::OutOfOrder);
+        return Err(Refusal::OutOfOrder);
     }
-    match table_rows::lists::highest(list, found.0, q, t) {
-        Place::At(n) => Located::At(n),
-        Place::Nowhere => Located::Nowhere,
-    }
+    Ok(table_rows::lists::highest(list, found.0, q, t))
 }
 
 // The same as one number, for callers in other languages: 126 with the place, 127 for no such row, and a refusal's own number.
@@ -65,12 +61,12 @@ pub fn locate_large_number(list: &[u32], q: usize, found: usize, t: &[u32]) -> u
 }
 
 // What was located, as one number.
-fn number(l: Located) -> u64
+fn number(l: Result<Option<usize>, Refusal>) -> u64
     ensures { result ≡ located_number (located_of l) }
 {
     match l {
-        Located::At(n) => calls::codes::coded(126, n),
-        Located::Nowhere => 127,
-        Located::Refused(why) => calls::codes::refusal(why),
+        Ok(Some(n)) => calls::codes::coded(126, n),
+        Ok(None) => 127,
+        Err(why) => calls::codes::refusal(why),
     }
 }
