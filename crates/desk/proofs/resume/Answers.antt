@@ -10,14 +10,14 @@ pub walk_desk-requires : goal.walk_desk-requires
 walk_desk-requires c =
     let a = c.args in
     resume_valid (desk_of a.p a.q a.coefs.now a.generators.now) (state_of a.stack.now a.list.now a.r)
-    (passes c.check_resume.ensures c.in-Pass.is)
+    (passes c.check_resume.ensures c.in-Ok.is)
 
-pub returns-in-Refuse : goal.returns-in-Refuse
+pub returns-in-Err : goal.returns-in-Err
 unfolding call
-returns-in-Refuse c =
-    rw c.refused.ensures (call_refused c.check_resume.ensures _ _ c.in-Refuse.is)
+returns-in-Err c =
+    rw c.refused.ensures (call_refused c.check_resume.ensures _ _ c.in-Err.is)
 
-pub returns-in-Pass : goal.returns-in-Pass
+pub returns-in-Ok : goal.returns-in-Ok
 unfolding call
-returns-in-Pass c =
-    call_passed c.check_resume.ensures _ _ c.in-Pass.is c.walk_desk.ensures
+returns-in-Ok c =
+    call_passed c.check_resume.ensures _ _ c.in-Ok.is c.walk_desk.ensures

@@ -13,22 +13,22 @@ pub nonzero_div-n : goal.nonzero_div-n
 nonzero_div-n c =
     let a = c.args in
     let g = start_shaped (desk_of a.p a.q a.coefs.now a.generators.now) (state_of a.stack.now a.list.now a.r)
-    (passes c.check_start.ensures c.in-Pass.is) in
+    (passes c.check_start.ensures c.in-Ok.is) in
     omega (arith, g.q_some)
 
 pub write_start-requires : goal.write_start-requires
 write_start-requires c =
     let a = c.args in
     let g = start_shaped (desk_of a.p a.q a.coefs.now a.generators.now) (state_of a.stack.now a.list.now a.r)
-    (passes c.check_start.ensures c.in-Pass.is) in
+    (passes c.check_start.ensures c.in-Ok.is) in
     (g.q_few, g.few, div-mul-le_self (length a.generators.now) a.q, g.stack)
 
-pub returns-in-Refuse : goal.returns-in-Refuse
+pub returns-in-Err : goal.returns-in-Err
 unfolding desk_begin
-returns-in-Refuse c =
-    rw c.refused.ensures (call_refused c.check_start.ensures _ _ c.in-Refuse.is)
+returns-in-Err c =
+    rw c.refused.ensures (call_refused c.check_start.ensures _ _ c.in-Err.is)
 
-pub returns-in-Pass : goal.returns-in-Pass
+pub returns-in-Ok : goal.returns-in-Ok
 unfolding desk_begin desk_start
-returns-in-Pass c =
-    call_passed c.check_start.ensures _ _ c.in-Pass.is (rw (c.begun.ensures, c.write_start.ensures) refl)
+returns-in-Ok c =
+    call_passed c.check_start.ensures _ _ c.in-Ok.is (rw (c.begun.ensures, c.write_start.ensures) refl)

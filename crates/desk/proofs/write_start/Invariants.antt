@@ -1,14 +1,8 @@
 -- `write_start` meets its contract. The rows of the generators passed have been written. Assumes nothing.
-use Prim.Native.Nat.{◌-◌, ◌^◌, ◌≤◌}
 use lib.ListN.{length}
 use mathlib.Core.Path.{◌≡◌}
 use Rattle.desk.specs.Starting.{start_to}
 use Rattle.desk.proofs.write_start.Given as goal
 
 abbrev pub invariant-loop-k : goal.invariant-loop-k
-invariant-loop-k l =
-    (l.k ≤ l.n) × (length l.stack ≡ length l.initial.stack) × (length l.t ≡ 16) × (l.frozen ≡ 2 ^ l.k - 1)
-    × (l.stack ≡ start_to l.k l.q l.generators l.initial.stack)
-
-abbrev pub decreases-loop-k : goal.decreases-loop-k
-decreases-loop-k l = l.n - l.k
+invariant-loop-k l = (length l.stack ≡ length l.initial.stack) × (length l.t ≡ 16) × (l.stack ≡ start_to l.k l.q l.generators l.initial.stack)
