@@ -8,38 +8,29 @@ use Rattle.definitions.specs.Input.{Input, bound_of, map_of}
 use Rattle.definitions.specs.Machine as machine
 use Rattle.definitions.specs.Machine.{walk, walk_steps}
 use Rattle.definitions.specs.Tables as tables
-use Rattle.definitions.specs.Tables.{State, capped_run, desk_by_desk, lower_above, lower_plain, lowered, plain_part, plain_run, run_number, whole_of, write_row}
+use Rattle.definitions.specs.Tables.{State, capped_run, desk_by_desk, lower_above, lower_plain, lowered, plain_part, plain_run, whole_of, write_row}
 use Rattle.laws.specs.LowerLaws.{InOrderBy, ValidFrom}
 use Rattle.laws.proofs.LowerLaws.{lowered_valid}
 use Rattle.laws.proofs.LowerWalk.{above_walks, from_plain, plain_walk_valid, then_above, walk_counts, walk_steps_few}
-use Rattle.laws.proofs.RefusalLaws.{run_from}
 use Rattle.calls.specs.Paper.{answer_of, outcome_with, record_of, state_with}
 use Rattle.calls.specs.declared.Answer.{Answer}
 use Rattle.calls.specs.declared.Answer.TheVariants.{Started, Complete, Paused, Refused}
 use Rattle.calls.specs.declared.Outcome.{Outcome}
+use Rattle.calls.specs.declared.RunKind.{RunKind}
 use Rattle.calls.specs.declared.Record.{Record}
-use Rattle.calls.specs.declared.RunKind.TheVariants.{LowerPlain, LowerAbove}
+use Rattle.calls.specs.declared.RunKind.TheVariants.{LowerAbove}
 
--- the record of the run, from that of its plain walk; and after the change of walk
-abbrev pub whole_record : Record → ℕ → Record
-whole_record part deepest = record_of LowerPlain part.height part.found2 part.steps2 part.found part.steps deepest
-
-abbrev pub whole_outcome : Answer → Record → ℕ → Outcome
-whole_outcome answer part deepest = record { answer = answer; run = whole_record part deepest }
-
-abbrev pub lowered_record : Record → ℕ → Record
-lowered_record part deepest = record_of LowerAbove 1 part.found2 part.steps2 part.found part.steps deepest
+-- the record of the run, from that of its plain walk: of the kind and the height that it has, and no count changed
+abbrev pub run_by : RunKind → ℕ → Record → ℕ → Record
+run_by kind height part deepest = record_of kind height part.found2 part.steps2 part.found part.steps deepest
 
 -- ---- which walk the record names
 
 module _ (lower : List ℕ) (i : Input) (s : State) (v : ValidFrom lower i s) where
-  pub names_plain : run_number s.run.kind ≡ 2 → s.run.kind ≡ lower_plain
-  names_plain e = run_from s.run.kind lower_plain (rw e tt)
-
-  pub names_above : ¬ (run_number s.run.kind ≡ 2) → s.run.kind ≡ lower_above
+  pub names_above : ¬ (s.run.kind ≡ lower_plain) → s.run.kind ≡ lower_above
   names_above n = go s.run.kind v.ordered n
     where
-      go : (r : tables.RunKind) → InOrderBy r lower i s → ¬ (run_number r ≡ 2) → r ≡ lower_above
+      go : (r : tables.RunKind) → InOrderBy r lower i s → ¬ (r ≡ lower_plain) → r ≡ lower_above
       go plain_run o n = absurd o
       go capped_run o n = absurd o
       go lower_plain o n = absurd (n refl)
@@ -113,11 +104,11 @@ module _ (lower : List ℕ) (i : Input) (s : State) (v : ValidFrom lower i s) (e
 
   -- else the bound's row is written, no count changed
   pub change_made : (o : Outcome) {stack list second stack' : List ℕ} {r : Record} → outcome_with o stack second list ≡ plainly
-      → stack' ≡ write_row i.q stack 0 (bound_of lower) 0 → r ≡ lowered_record o.run d
+      → stack' ≡ write_row i.q stack 0 (bound_of lower) 0 → r ≡ run_by LowerAbove 1 o.run d
       → state_with stack' list second r ≡ lowered (bound_of lower) i.q (whole_of d plainly.state)
   unfolding lowered
   change_made o {stack} {list} {second} {stack'} told wrote is =
-      ap (λ r. state_with stack' list second r) is ∙ ap (λ stack. state_with stack list second (lowered_record o.run d)) wrote
+      ap (λ r. state_with stack' list second r) is ∙ ap (λ stack. state_with stack list second (run_by LowerAbove 1 o.run d)) wrote
       ∙ ap (λ (u : machine.Outcome State). lowered (bound_of lower) i.q (whole_of d u.state)) told
 
   -- and the walk above the bound goes on from there

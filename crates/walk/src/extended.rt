@@ -8,10 +8,8 @@ pub fn write(p: usize, q: usize, coefs: &[i32], rights: &[i32], wide: &mut [i32;
     requires { Sided p q coefs.now rights.now × (length wide.old ≡ 128) }
     ensures { Extends p q coefs.now rights.now wide.new }
 {
-    let mut i = 0;
-    while i < p {
+    for i in 0..p {
         row(q, coefs, rights, i, wide);
-        i += 1;
     }
 }
 
@@ -21,10 +19,8 @@ fn row(q: usize, coefs: &[i32], rights: &[i32], i: usize, wide: &mut [i32; 128])
     ensures { RowWritten i q coefs.now rights.now q wide.old wide.new }
 {
     wide[i * (q + 1)] = negated(rights[i]);
-    let mut j = 0;
-    while j < q {
+    for j in 0..q {
         wide[i * (q + 1) + (j + 1)] = coefs[i * q + j];
-        j += 1;
     }
 }
 
@@ -32,5 +28,5 @@ fn negated(x: i32) -> i32
     requires { nat_abs x ≤ coef_limit }
     ensures { result ≡ neg_ℤ x }
 {
-    0 - x
+    -x
 }

@@ -7,7 +7,7 @@ ghost use Rattle.definitions.specs.Machine as paper;
 ghost use Rattle.definitions.specs.Tables.{lowered, lower_above, lower_plain, write_row};
 ghost use Rattle.laws.specs.LowerLaws.{ValidFrom};
 ghost use Rattle.calls.specs.Paper.{kind_of, outcome_with, state_with};
-ghost use Rattle.walk.specs.Lower.{lowered_record, whole_outcome};
+ghost use Rattle.walk.specs.Lower.{run_by};
 
 use calls::{Answer, Outcome, Record, RunKind};
 use candidates::Kind;
@@ -30,8 +30,7 @@ pub fn walk_from(
         ≡ paper.walk budget (machine_from lower.now (input_with alone limit p q coefs.now))
         (state_with stack.old list.old second.old r) }
 {
-    let kind = r.kind;
-    if calls::run_number(kind) == 2 {
+    if r.kind == RunKind::LowerPlain {
         return both(p, q, coefs, lower, stack, list, second, r, budget, limit);
     }
     further(p, q, coefs, lower, stack, list, second, r, budget, limit)
@@ -58,14 +57,13 @@ fn further(
 {
     let most = calls::limit_of(limit);
     walking::walk_system(
-        Kind::Above,
+        Kind::Above(lower),
         p,
         q,
         coefs,
         stack,
         list,
         second,
-        lower,
         r,
         budget,
         most,
@@ -92,8 +90,7 @@ fn both(
         (state_with stack.old list.old second.old r) }
 {
     let most = calls::limit_of(limit);
-    let first = r.steps2.0;
-    let deepest = r.deepest;
+    let plain = calls::plain_part(r);
     let o = walking::walk_system(
         Kind::Plain,
         p,
@@ -102,65 +99,31 @@ fn both(
         stack,
         second,
         list,
-        lower,
-        calls::plain_part(r),
+        plain,
         budget,
         most,
     );
-    let answer = o.answer;
     let part = o.run;
-    match answer {
-        Answer::Started => whole(Answer::Started, part, deepest),
+    match o.answer {
         Answer::Complete => {
-            let left = budget - (part.steps.0 - first);
+            let left = budget - (part.steps.0 - r.steps2.0);
             write_lower(stack, q, lower);
-            further(
-                p,
-                q,
-                coefs,
-                lower,
-                stack,
-                list,
-                second,
-                lowered(part, deepest),
-                left,
-                limit,
-            )
+            let next = run_by(RunKind::LowerAbove, 1, part, r.deepest);
+            further(p, q, coefs, lower, stack, list, second, next, left, limit)
         }
-        Answer::Paused => whole(Answer::Paused, part, deepest),
-        Answer::Refused(why) => whole(Answer::Refused(why), part, deepest),
+        answer => {
+            let run = run_by(RunKind::LowerPlain, part.height, part, r.deepest);
+            Outcome { answer, run }
+        }
     }
 }
 
-// What the run is left with where its plain walk, which leaves the record `part`, does not complete.
-fn whole(answer: Answer, part: Record, deepest: u64) -> Outcome
-    ensures { result ≡ whole_outcome answer part deepest }
+// The record of the run from that of its plain walk: before the change of walk, which changes no count, and after it.
+fn run_by(kind: RunKind, height: usize, part: Record, deepest: u64) -> Record
+    ensures { result ≡ run_by kind height part deepest }
 {
-    let run = Record::of(
-        RunKind::LowerPlain,
-        part.height,
-        part.found2,
-        part.steps2,
-        part.found,
-        part.steps,
-        deepest,
-    );
-    Outcome { answer, run }
-}
-
-// The record after the change of walk: no count is changed.
-fn lowered(part: Record, deepest: u64) -> Record
-    ensures { result ≡ lowered_record part deepest }
-{
-    Record::of(
-        RunKind::LowerAbove,
-        1,
-        part.found2,
-        part.steps2,
-        part.found,
-        part.steps,
-        deepest,
-    )
+    let (found, steps) = (part.found2, part.steps2);
+    Record::of(kind, height, found, steps, part.found, part.steps, deepest)
 }
 
 // Writes the first row: the lower bound, and no marks.
@@ -168,10 +131,6 @@ fn write_lower(stack: &mut [u32], q: usize, lower: &[u32])
     requires { (q < length stack.old) × (q ≤ length lower.now) }
     ensures { stack.new ≡ write_row q stack.old 0 (bound_of lower.now) 0 }
 {
-    let mut j = 0;
-    while j < q {
-        stack[j] = lower[j];
-        j += 1;
-    }
+    table_rows::rows::write(stack, 0, q, lower);
     stack[q] = 0;
 }

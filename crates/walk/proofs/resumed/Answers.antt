@@ -15,18 +15,18 @@ use Rattle.walk.proofs.resumed.Goals as goal
 
 pub walk_system-requires : goal.walk_system-requires
 walk_system-requires c =
-    (rw c.limit_of-most.ensures (resume_valid _ _ (passes c.check_resume.ensures c.in-Pass.is)), tt)
+    (rw c.limit_of-most.ensures (resume_valid _ _ (passes c.check_resume.ensures c.in_default.is)), tt)
 
-pub returns-in-Refuse : goal.returns-in-Refuse
+pub returns-in-Err : goal.returns-in-Err
 unfolding call
-returns-in-Refuse c =
-    rw c.refused.ensures (call_refused c.check_resume.ensures _ _ c.in-Refuse.is)
+returns-in-Err c =
+    rw c.refused.ensures (call_refused c.check_resume.ensures _ _ c.in-Err.is)
 
-pub returns-in-Pass : goal.returns-in-Pass
+pub returns : goal.returns
 unfolding call
-returns-in-Pass c =
+returns c =
     let i = input_with alone c.args.limit c.args.p c.args.q c.args.coefs.now in
     let none = empty_is c.walk_system.new.second c.walk_system.auto.second in
     let go : ℕ → Outcome State = λ n. walk c.args.budget (machine_of (resume_checks i) (system_with plain c.args.p c.args.q c.args.coefs.now n))
     (state_of c.args.stack.now c.args.list.now c.args.r) in
-    call_passed c.check_resume.ensures _ _ c.in-Pass.is (rw none at (c.walk_system.ensures (resume_checks i)) ∙ ap go c.limit_of-most.ensures)
+    call_passed c.check_resume.ensures _ _ c.in_default.is (rw none at (c.walk_system.ensures (resume_checks i)) ∙ ap go c.limit_of-most.ensures)

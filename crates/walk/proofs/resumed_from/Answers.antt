@@ -7,14 +7,14 @@ use Rattle.walk.proofs.resumed_from.Goals as goal
 
 pub walk_from-requires : goal.walk_from-requires
 walk_from-requires c =
-    (resume_from_valid _ _ _ refl (passes c.check_resume_from.ensures c.in-Pass.is)).1
+    (resume_from_valid _ _ _ refl (passes c.check_resume_from.ensures c.in_default.is)).1
 
-pub returns-in-Refuse : goal.returns-in-Refuse
+pub returns-in-Err : goal.returns-in-Err
 unfolding call
-returns-in-Refuse c =
-    rw c.refused.ensures (call_refused c.check_resume_from.ensures _ _ c.in-Refuse.is)
+returns-in-Err c =
+    rw c.refused.ensures (call_refused c.check_resume_from.ensures _ _ c.in-Err.is)
 
-pub returns-in-Pass : goal.returns-in-Pass
+pub returns : goal.returns
 unfolding call
-returns-in-Pass c =
-    call_passed c.check_resume_from.ensures _ _ c.in-Pass.is c.walk_from.ensures
+returns c =
+    call_passed c.check_resume_from.ensures _ _ c.in_default.is c.walk_from.ensures

@@ -8,7 +8,7 @@ use lib.ListN.{length, get_or, length-set}
 use mir.Facts.{to_z-of_z}
 use mir.Syntax.{w32}
 use mir.Val.{of_z, to_z}
-use borrow.Author.Rules.{rules, sfits_of}
+use borrow.Author.Rules.{sfits_of}
 use Rattle.definitions.specs.System.{coef_limit}
 use Rattle.walk.specs.ExtendLaws.{coef_fits, coef_number_fits, place_fits, row_all, row_first, row_next, side_fits}
 use Rattle.walk.proofs.extended.row.Goals as goal
@@ -51,11 +51,9 @@ pub bounds-wide-i : goal.bounds-wide-i
 bounds-wide-i c = omega (arith, first_place (goal.at.bounds-wide-i c).Start)
 
 pub loop-j-init : goal.loop-j-init
-loop-j-init c = (
-  search rules,
-  row_first c.args.i c.args.q c.args.coefs.now c.args.rights.now c.args.wide.now (first_number c)
-      (omega (arith, first_place (goal.at.loop-j-init c).Start, c.requires.1)),
-)
+loop-j-init c =
+    row_first c.args.i c.args.q c.args.coefs.now c.args.rights.now c.args.wide.now (first_number c)
+    (omega (arith, first_place (goal.at.loop-j-init c).Start, c.requires.1))
 
 pub overflow_mul-wide : goal.overflow_mul-wide
 overflow_mul-wide c = omega (arith, next_coef (goal.at.overflow_mul-wide c).Start c.loop-j.j c.loop-j-test.true)
@@ -89,20 +87,18 @@ bounds-wide-i-in-loop-j c = omega (arith, next_place (goal.at.bounds-wide-i-in-l
 
 pub loop-j-preserved : goal.loop-j-preserved
 loop-j-preserved c =
-    let w = c.loop-j.invariant.1 in
-    let number = to_z-of_z {w = w32} (coef_number_fits c.requires.0 (c.args.i * c.args.q + c.loop-j.j)) in (
-      search rules,
-      row_next c.args.i c.args.q c.args.coefs.now c.args.rights.now number w
-          (omega (
-            arith,
-            next_place (goal.at.loop-j-preserved c).Start c.loop-j.j c.loop-j-test.true,
-            w.size,
-            length-set c.args.wide.now (c.args.i * (c.args.q + 1)) (to_z w32 (of_z w32 c.negated.result)),
-            c.requires.1,
-          )),
-    )
+    let w = c.loop-j.invariant in
+    let number = to_z-of_z {w = w32} (coef_number_fits c.requires.0 (c.args.i * c.args.q + c.loop-j.j)) in
+    row_next c.args.i c.args.q c.args.coefs.now c.args.rights.now number w
+    (omega (
+      arith,
+      next_place (goal.at.loop-j-preserved c).Start c.loop-j.j c.loop-j-test.true,
+      w.size,
+      length-set c.args.wide.now (c.args.i * (c.args.q + 1)) (to_z w32 (of_z w32 c.negated.result)),
+      c.requires.1,
+    ))
 
 pub returns : goal.returns
 returns c =
     row_all c.args.i c.args.q c.args.coefs.now c.args.rights.now c.args.wide.now
-    (to_z w32 (of_z w32 c.negated.result)) (rw (le_antisymm c.loop-j.invariant.0 c.loop-j-test.false) at c.loop-j.invariant.1)
+    (to_z w32 (of_z w32 c.negated.result)) (rw (le_antisymm c.loop-j.auto.j-end c.loop-j-test.false) at c.loop-j.invariant)

@@ -30,20 +30,20 @@ meant w = plainly w.args.lower.now (input_at w.before.before.before.before.befor
 
 -- the walk that was made is that one
 made : (w : After-walk_system-o) → let a = w.args in walk a.budget (machine_of (λ t. paper.go) (system_with plain a.p a.q a.coefs.now w.limit_of-most.result))
-    (state_with a.stack.now a.second.now a.list.now w.plain_part.result)
+    (state_with a.stack.now a.second.now a.list.now w.plain_part-plain.result)
     ≡ meant w
 made w =
     let a = w.args in
     ap (λ most. walk a.budget (machine_of (λ t. paper.go) (system_with plain a.p a.q a.coefs.now most))
-    (state_with a.stack.now a.second.now a.list.now w.plain_part.result))
+    (state_with a.stack.now a.second.now a.list.now w.plain_part-plain.result))
     w.limit_of-most.ensures
     ∙ ap (λ r. walk a.budget (machine_of (λ t. paper.go) (system_with plain a.p a.q a.coefs.now (limit_of a.limit)))
     (state_with a.stack.now a.second.now a.list.now r))
-    w.plain_part.ensures
+    w.plain_part-plain.ensures
 
 pub walk_system-o-requires : goal.walk_system-o-requires
 walk_system-o-requires c = (
-  rw (c.plain_part.ensures, c.limit_of-most.ensures)
+  rw (c.plain_part-plain.ensures, c.limit_of-most.ensures)
       (plain_valid c.args.lower.now (input_at (goal.at.walk_system-o-requires c).Start) (state_at (goal.at.walk_system-o-requires c).Start) c.requires.1
       c.requires.0),
   tt,
@@ -79,17 +79,10 @@ further-requires c =
     let told = c.walk_system-o.ensures (λ t. paper.go) ∙ made (goal.at.further-requires c).After-walk_system-o in
     let m = change_made c.args.lower.now (input_at (goal.at.further-requires c).Start) (state_at (goal.at.further-requires c).Start) c.requires.0 c.requires.1
     c.args.budget c.walk_system-o.result told
-    c.write_lower.ensures c.lowered.ensures in
+    c.write_lower.ensures c.run_by-next.ensures in
     let v = change_valid c.args.lower.now (input_at (goal.at.further-requires c).Start) (state_at (goal.at.further-requires c).Start) c.requires.0 c.requires.1
     c.args.budget in
-    (subst (ValidFrom c.args.lower.now (input_at (goal.at.further-requires c).Start)) (sym m) v, ap (λ r. kind_of r.kind) c.lowered.ensures)
-
-pub returns-in-Started : goal.returns-in-Started
-returns-in-Started c =
-    rw c.whole.ensures
-    (ended_by c.args.lower.now (input_at (goal.at.returns-in-Started c).Start) (state_at (goal.at.returns-in-Started c).Start) c.requires.0 c.requires.1
-    c.args.budget _ (c.walk_system-o.ensures (λ t. paper.go) ∙ made (goal.at.returns-in-Started c).After-walk_system-o)
-    c.in-Started.is refl (λ e. let z : ◌≡◌ {A = ℕ} 0 1 = cc in omega arith))
+    (subst (ValidFrom c.args.lower.now (input_at (goal.at.further-requires c).Start)) (sym m) v, ap (λ r. kind_of r.kind) c.run_by-next.ensures)
 
 pub shape_of-stack-in-Complete : goal.shape_of-stack-in-Complete
 shape_of-stack-in-Complete c =
@@ -114,21 +107,14 @@ returns-in-Complete c =
     ∙ ap (walk left (machine_from c.args.lower.now (input_at (goal.at.returns-in-Complete c).Start)))
     (change_made c.args.lower.now (input_at (goal.at.returns-in-Complete c).Start) (state_at (goal.at.returns-in-Complete c).Start) c.requires.0 c.requires.1
     c.args.budget c.walk_system-o.result told
-    c.write_lower.ensures c.lowered.ensures)
+    c.write_lower.ensures c.run_by-next.ensures)
     ∙ changed_walk c.args.lower.now (input_at (goal.at.returns-in-Complete c).Start) (state_at (goal.at.returns-in-Complete c).Start) c.requires.0 c.requires.1
     c.args.budget
     (sym (ap (λ o. o.answer) told) ∙ ap answer_of c.in-Complete.is) left (omega (arith, counted, m.0, m.1))
 
-pub returns-in-Paused : goal.returns-in-Paused
-returns-in-Paused c =
-    rw c.whole-in-Paused.ensures
-    (ended_by c.args.lower.now (input_at (goal.at.returns-in-Paused c).Start) (state_at (goal.at.returns-in-Paused c).Start) c.requires.0 c.requires.1
-    c.args.budget _ (c.walk_system-o.ensures (λ t. paper.go) ∙ made (goal.at.returns-in-Paused c).After-walk_system-o)
-    c.in-Paused.is refl (λ e. let z : ◌≡◌ {A = ℕ} 0 1 = cc in omega arith))
-
-pub returns-in-Refused : goal.returns-in-Refused
-returns-in-Refused c =
-    rw c.whole-in-Refused.ensures
-    (ended_by c.args.lower.now (input_at (goal.at.returns-in-Refused c).Start) (state_at (goal.at.returns-in-Refused c).Start) c.requires.0 c.requires.1
-    c.args.budget _ (c.walk_system-o.ensures (λ t. paper.go) ∙ made (goal.at.returns-in-Refused c).After-walk_system-o)
-    c.in-Refused.is refl (λ e. let z : ◌≡◌ {A = ℕ} 0 1 = cc in omega arith))
+pub returns-in_default : goal.returns-in_default
+returns-in_default c =
+    rw c.run_by-run.ensures
+    (ended_by c.args.lower.now (input_at (goal.at.returns-in_default c).Start) (state_at (goal.at.returns-in_default c).Start) c.requires.0 c.requires.1
+    c.args.budget _ (c.walk_system-o.ensures (λ t. paper.go) ∙ made (goal.at.returns-in_default c).After-walk_system-o)
+    refl refl c.in_default.not-Complete)

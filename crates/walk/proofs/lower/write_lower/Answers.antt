@@ -1,19 +1,8 @@
--- `walk::lower::write_lower` meets its contract. The components passed have been written. Assumes nothing.
-use mathlib.Core.Path.{refl}
-use native.Mathlib.Nat.{le_antisymm, zero-add, zero-mul}
-use lib.ListN.{length-set}
-use borrow.Author.Rules.{rules}
-use Rattle.definitions.specs.Tables.{write_to, write_row}
-use Rattle.laws.proofs.TableLaws.{write_next}
+-- `walk::lower::write_lower` meets its contract. Assumes nothing.
+use native.Mathlib.Nat.{zero-add, zero-mul}
+use Rattle.definitions.specs.Tables.{write_row}
 use Rattle.walk.proofs.lower.write_lower.Goals as goal
-
-pub loop-j-init : goal.loop-j-init
-unfolding write_to
-loop-j-init c = (search rules, refl, refl)
-
-pub loop-j-preserved : goal.loop-j-preserved
-loop-j-preserved c = (search rules, rw length-set c.loop-j.invariant.1, rw (write_next, zero-add, c.loop-j.invariant.2))
 
 pub returns : goal.returns
 unfolding write_row
-returns c = rw (zero-mul, zero-add, c.loop-j.invariant.2, le_antisymm c.loop-j.invariant.0 c.loop-j-test.false)
+returns c = rw (zero-mul, zero-add, c.write.ensures)
