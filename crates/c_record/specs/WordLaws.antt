@@ -1,6 +1,6 @@
 -- The calls on a record of words, as the code goes about them; and that another number of words is refused with 6, after 1 to 4. (With a lower bound it is
 -- after 5: c_walk/specs/LowerLaws.) Assumes nothing.
-use Rattle.std.specs.Prelude.{ℕ, zero, suc, ◌^◌, ◌≤◌, ◌<◌, ◌≢◌, List, [], ◌∷◌, ◌≡◌, refl, ltb, length, get_or}
+use Rattle.std.specs.Prelude.{ℕ, zero, suc, ◌^◌, ◌≤◌, ◌<◌, ◌≢◌, List, [], ◌∷◌, ◌≡◌, refl, ltb, length, get_or, Result, Ok, Err}
 use Rattle.std.proofs.Common.{inl, inr, subst, ◌∙◌, arith, lit<}
 use Rattle.std.proofs.Math.Path.{sym, ap}
 use Rattle.std.proofs.Math.Decide.{ℕ_discrete}
@@ -19,8 +19,6 @@ use Rattle.laws.proofs.CheckLaws.{refuse_not_go}
 use Rattle.laws.specs.RefusalLaws.{high}
 use Rattle.laws.proofs.RefusalLaws.{decides_order}
 use Rattle.calls.specs.Paper.{check_of, kind_of, number_of, run_of, state_with, values_of}
-use Rattle.calls.specs.declared.Check as values-check
-use Rattle.calls.specs.declared.Check.TheVariants.{Refuse, Pass}
 use Rattle.calls.specs.declared.Refusal.{Refusal}
 use Rattle.calls.specs.declared.RunKind.TheVariants.{LowerAbove}
 use Rattle.c_record.specs.Codes.{code, refusal_code}
@@ -172,14 +170,14 @@ module _ (words : List ℕ) (m : Input) (stack list second : List ℕ) (ne : len
 
   -- ---- the same from a check of the code
 
-  module _ {k : values-check.Check} (e : check_of k ≡ resume_checks m lent) where
-    pub misfit_never_passes : k ≡ Pass → ⊥
+  module _ {k : Result (Unit {0}) Refusal} (e : check_of k ≡ resume_checks m lent) where
+    pub misfit_never_passes : {x : Unit {0}} → k ≡ Ok x → ⊥
     misfit_never_passes h =
         let a = sym misfit_checks_lem ∙ sym e ∙ ap check_of h in
         let b = (then_go _ _ (then_go _ _ (then_go _ _ a).1).1).1 in
         refuse_not_go (then_go _ _ b).1
 
-    module _ {why : Refusal} (h : k ≡ Refuse why) where
+    module _ {why : Refusal} (h : k ≡ Err why) where
       refuses : resume_checks m lent ≡ refuse (number_of why) (values_of why)
       refuses = sym e ∙ ap check_of h
 

@@ -18,8 +18,6 @@ pub fn tell(o: Outcome, run: &mut [u64]) -> u64
     ensures value { result ≡ code (answer_of o.answer) }
     ensures run_after { run.new ≡ words_left run.old (run_of o.run) }
 {
-    let answer = o.answer;
-    let left = o.run;
-    words::write(run, left);
-    answers::number(answer)
+    words::write(run, o.run);
+    answers::number(o.answer)
 }

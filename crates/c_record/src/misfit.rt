@@ -3,7 +3,6 @@ ghost use Rattle.std.specs.Prelude.{◌≡◌, ◌≢◌, length};
 ghost use Rattle.c_record.specs.Words.{resume_words};
 
 use crate::words;
-use calls::Check;
 
 pub fn misfit(p: usize, q: usize, coefs: &[i32], stack: &[u32], list: &[u32], run: &[u64]) -> u64
     requires { length run.now ≢ 7 }
@@ -12,7 +11,7 @@ pub fn misfit(p: usize, q: usize, coefs: &[i32], stack: &[u32], list: &[u32], ru
 {
     let r = words::read(run);
     match checks::check_resume(p, q, coefs, stack, list, r, calls::COMPONENT_LIMIT) {
-        Check::Refuse(why) => crate::answers::refusal(why),
-        Check::Pass => 6,
+        Err(why) => crate::answers::refusal(why),
+        Ok(()) => 6,
     }
 }

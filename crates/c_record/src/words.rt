@@ -24,23 +24,17 @@ pub fn read(words: &[u64]) -> Record
     Record::new(65, Solutions(0), Steps(0))
 }
 
-// The kind of run of a number.
+// The kind of run of a number. It is no TryFrom: C lends any number, and each is read as some kind, as `kind_at` of specs/Words.antt says.
 pub fn kind_at(n: u64) -> RunKind
     ensures { result ≡ kind_at n }
 {
-    if n == 0 {
-        return RunKind::Plain;
+    match n {
+        0 => RunKind::Plain,
+        1 => RunKind::Capped,
+        2 => RunKind::LowerPlain,
+        4 => RunKind::Desks,
+        _ => RunKind::LowerAbove,
     }
-    if n == 1 {
-        return RunKind::Capped;
-    }
-    if n == 2 {
-        return RunKind::LowerPlain;
-    }
-    if n == 4 {
-        return RunKind::Desks;
-    }
-    RunKind::LowerAbove
 }
 
 // The height, or one out of order where the number is no kind's.
@@ -57,37 +51,15 @@ fn height_at(kind: u64, height: usize) -> usize
 pub fn write(words: &mut [u64], r: Record)
     ensures { words.new ≡ words_left words.old (run_of r) }
 {
-    if words.len() != 7 {
-        return;
-    }
-    if r.height < 65 {
-        let kind = r.kind;
-        write_counts(words, r.height as u64, r.found.0 as u64, r.steps.0);
-        write_others(
-            words,
-            calls::run_number(kind),
+    if words.len() == 7 && r.height < 65 {
+        words.copy_from_slice(&[
+            r.height as u64,
+            r.found.0 as u64,
+            r.steps.0,
+            calls::run_number(r.kind),
             r.found2.0 as u64,
             r.steps2.0,
             r.deepest,
-        );
+        ]);
     }
-}
-
-fn write_counts(words: &mut [u64], height: u64, found: u64, steps: u64)
-    requires { length words.old ≡ 7 }
-    ensures { words.new ≡ set (set (set words.old 0 height) 1 found) 2 steps }
-{
-    words[0] = height;
-    words[1] = found;
-    words[2] = steps;
-}
-
-fn write_others(words: &mut [u64], kind: u64, found2: u64, steps2: u64, deepest: u64)
-    requires { length words.old ≡ 7 }
-    ensures { words.new ≡ set (set (set (set words.old 3 kind) 4 found2) 5 steps2) 6 deepest }
-{
-    words[3] = kind;
-    words[4] = found2;
-    words[5] = steps2;
-    words[6] = deepest;
 }

@@ -6,15 +6,15 @@ use Rattle.c_record.proofs.misfit.misfit.Goals as goal
 pub refusal-requires : goal.refusal-requires
 refusal-requires c =
     misfit_fits _ _ _ _ _ c.requires (rw c.read-r.ensures at c.check_resume.ensures)
-    c.in-Refuse.is
+    c.in-Err.is
 
-pub returns-in-Refuse : goal.returns-in-Refuse
+pub returns-in-Err : goal.returns-in-Err
 unfolding resume_words
-returns-in-Refuse c =
+returns-in-Err c =
     misfit_told _ _ _ _ _ c.requires (rw c.read-r.ensures at c.check_resume.ensures)
-    c.in-Refuse.is
+    c.in-Err.is
     0 c.refusal.ensures
 
-pub returns-in-Pass : goal.returns-in-Pass
-returns-in-Pass c =
-    absurd (misfit_never_passes _ _ _ _ _ c.requires (rw c.read-r.ensures at c.check_resume.ensures) c.in-Pass.is)
+pub returns-in-Ok : goal.returns-in-Ok
+returns-in-Ok c =
+    absurd (misfit_never_passes _ _ _ _ _ c.requires (rw c.read-r.ensures at c.check_resume.ensures) c.in-Ok.is)
