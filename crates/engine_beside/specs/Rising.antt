@@ -1,8 +1,8 @@
 -- Degrees in order: each is at least 1, and none is below the one before. The test computes. Assumes nothing.
-use Rattle.std.specs.Prelude.{◌≡◌, Bool, List, T, leb, get_or}
+use Rattle.std.specs.Prelude.{◌≡◌, refl, Bool, List, T, leb, get_or}
 use Rattle.std.proofs.Math.Logic.{inl, inr}
 use Prim.Native.Nat.{ℕ, zero, suc, ◌+◌, ◌≤◌, ◌<◌}
-use Rattle.std.proofs.Common.{add-one}
+use Rattle.std.proofs.Common.{add-one, ◌-◌}
 use native.Mathlib.Omega.{arith}
 use Rattle.std.proofs.Math.Dec.{le→leb, leb→le}
 use Rattle.linear.proofs.Cases.{split}
@@ -28,6 +28,11 @@ pub record Rising (n : ℕ) (f : ℕ → ℕ) : Type 0 where
 pub before_next : (f : ℕ → ℕ) (i : ℕ) → before f (i + 1) ≡ f i
 unfolding before
 before_next f i = rw add-one
+
+pub before_later : (f : ℕ → ℕ) (i : ℕ) → ¬ (i ≡ 0) → f (i - 1) ≡ before f i
+unfolding before
+before_later f zero ne = absurd (ne refl)
+before_later f (suc i) ne = let e : suc i - 1 ≡ i = omega arith in rw e refl
 
 module _ (n : ℕ) (f : ℕ → ℕ) where
   step : T (is_rising n f) → (i : ℕ) → i < n → before f i ≤ f i

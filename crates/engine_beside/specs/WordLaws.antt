@@ -1,10 +1,9 @@
 -- The words of tuples of up to 32 places: that they are low, that the word of a sum comes from the words, that what lies at or below passes the test; and one
 -- turn of the loops that make one. Assumes nothing.
-use Rattle.std.specs.Prelude.{◌≡◌, Bool, true, false, cond, ℕ, zero, suc, ◌+◌, ◌*◌, ◌-◌, ◌^◌, ◌≤◌, ◌<◌, min, T, ltb}
+use Rattle.std.specs.Prelude.{◌≡◌, Bool, true, false, cond, ℕ, zero, suc, ◌+◌, ◌*◌, ◌-◌, ◌≤◌, ◌<◌, min, T, ltb}
 use Rattle.std.proofs.Math.Path.{refl}
-use Rattle.std.proofs.Common.{◌∙◌, mul-le-mul, pow-suc, add-one, le-ltb, lt-ltb}
+use Rattle.std.proofs.Common.{◌∙◌, add-one, le-ltb, lt-ltb}
 use Rattle.std.proofs.Math.Logic.{inl, inr}
-use Rattle.std.proofs.Math.Nat.{one-le-pow}
 use native.Mathlib.Omega.{arith}
 use Rattle.linear.proofs.Cases.{split}
 use Rattle.linear.proofs.TestLaws.{T-same}
@@ -83,15 +82,11 @@ module _ (q : ℕ) (r z : ℕ → ℕ) where
   pub not_fits : fits 16 (word_of q r) (word_of q z) ≡ false → is_at_or_below q r z ≡ false
   not_fits e = T-same (is_at_or_below q r z) false (λ h. rw e at (below_fits (below_from q r z h))) (λ h. absurd h)
 
--- ---- the loops that make a word, from its last field to its first
+-- ---- the fields of a word
 
 -- field j
 abbrev pub field_at : ℕ → (ℕ → ℕ) → ℕ → ℕ
 field_at q x j = capped (folded q x j)
-
--- w is the fields of the word of x from field j on
-pub record MadeTo (q : ℕ) (x : ℕ → ℕ) (j w : ℕ) : Type 0 where
-  pub made : word_of q x ≡ digits j (field_at q x) + w * 16 ^ j
 
 digits_more : (n m : ℕ) (f : ℕ → ℕ) → n ≤ m → ((j : ℕ) → n ≤ j → f j ≡ 0) → digits m f ≡ digits n f
 digits_more n zero f l none = let e : n ≡ 0 = omega arith in rw e refl
@@ -109,7 +104,7 @@ pub plain_field : (q : ℕ) (x : ℕ → ℕ) (j : ℕ) → q ≤ 16 → j < q �
 plain_field q x j few l = rw (lt-ltb j q l, le-ltb (16 + j) q (omega arith)) (omega arith)
 
 module _ (q : ℕ) (x : ℕ → ℕ) where
-  all_fields : (n : ℕ) → n ≡ min q 16 → word_of q x ≡ digits n (field_at q x)
+  pub all_fields : (n : ℕ) → n ≡ min q 16 → word_of q x ≡ digits n (field_at q x)
   unfolding word
   all_fields n e =
       elim (split q 16) [
@@ -117,25 +112,53 @@ module _ (q : ℕ) (x : ℕ → ℕ) where
         | inr l ↦ let s : n ≡ 16 = omega arith in rw s refl
       ]
 
-  -- at first it is none: those past q are 0
-  pub made_none : (n : ℕ) → n ≡ min q 16 → MadeTo q x n 0
-  made_none n e = record { made = all_fields n e ∙ omega arith }
+-- ---- the loop that makes a word, from its last field to its first
 
-  made_suc : (j w : ℕ) → MadeTo q x (suc j) w → MadeTo q x j (16 * w + field_at q x j)
-  made_suc j w m = record { made = m.made ∙ rw (← add-one j, digits_next j (field_at q x)) (rw (add-one j, pow-suc 16 j) (omega arith)) }
+-- fields j to n - 1 are made
+abbrev pub fields_from : (n : ℕ) (x : ℕ → ℕ) (j : ℕ) → ℕ
+fields_from n x j = digits (n - j) (λ i. capped (x (j + i)))
 
-  -- one field more, in the place of the last: y is its component, or the sum of its two, and f that as far as 7
-  pub made_next : (j : ℕ) → 0 < j → {w y f : ℕ} → MadeTo q x j w → y ≡ folded q x (j - 1) → f ≡ capped y → MadeTo q x (j - 1) (16 * w + f)
-  made_next (suc j) l {w} m e g = let s : suc j - 1 ≡ j = omega arith in rw (g, e, s) (made_suc j w m)
-  made_next zero l m e g = absurd (omega arith)
+fields_step : (n j : ℕ) (x : ℕ → ℕ) {w y f : ℕ} → j < n → w ≡ fields_from n x (suc j) → f ≡ capped y → y ≡ x j → 16 * w + f ≡ fields_from n x j
+unfolding digits
+fields_step n j x l m e g =
+    let s : n - j ≡ suc (n - suc j) = omega arith in
+    let z : j + 0 ≡ j = omega arith in
+    rw (s, z, m, e, g) (omega (
+      arith,
+      digits_same (n - suc j) (λ i. capped (x (suc j + i))) (λ i. capped (x (j + suc i)))
+          (λ i h. let t : suc j + i ≡ j + suc i = omega arith in rw t refl),
+    ))
 
-  -- it fits, and so it does moved up by a field
-  pub made_fits : {j w : ℕ} → MadeTo q x j w → w ≤ word_limit
-  made_fits {j} {w} m = omega (arith, m.made, word_low q x, mul-le-mul {n₁ = w} {m₁ = 1} {n₂ = w} {m₂ = 16 ^ j} (omega arith) (one-le-pow j 16 (omega arith)))
+-- one field more: y is its component, or the sum of its two, and f that as far as 7
+pub fields_next : (n j : ℕ) (x : ℕ → ℕ) {w y f : ℕ} → 0 < j → j ≤ n → w ≡ fields_from n x j → f ≡ capped y → y ≡ x (j - 1)
+    → 16 * w + f ≡ fields_from n x (j - 1)
+fields_next n zero x some l m e g = absurd (omega arith)
+fields_next n (suc j) x some l m e g =
+    let s : suc j - 1 ≡ j = omega arith in
+    rw s (fields_step n j x (omega arith) m e (rw s at g))
 
-  pub made_moves : (j : ℕ) → 0 < j → {w : ℕ} → MadeTo q x j w → 16 * w ≤ word_limit
-  made_moves j l m = omega (arith, made_fits (made_next j l m refl refl))
+pub fields_all : (n : ℕ) (x : ℕ → ℕ) {w : ℕ} → w ≡ fields_from n x 0 → w ≡ word n x
+unfolding word
+fields_all n x m =
+    let s : n - 0 ≡ n = omega arith in
+    rw s at m ∙ digits_same n (λ i. capped (x (0 + i))) (λ i. capped (x i)) (λ i h. let t : 0 + i ≡ i = omega arith in rw t refl)
 
-  pub made_all : {w : ℕ} → MadeTo q x 0 w → w ≡ word_of q x
-  unfolding digits
-  made_all m = omega (arith, m.made)
+-- n fields, none of them above 7
+abbrev pub sevens : ℕ → ℕ
+sevens n = digits n (λ j. 7)
+
+sevens_more : (k m : ℕ) → k ≤ m → sevens k ≤ sevens m
+sevens_more k zero l = let e : k ≡ 0 = omega arith in rw e (omega arith)
+sevens_more k (suc m) l =
+    elim (split k (suc m)) [
+      | inl h ↦ rw (← add-one m) (omega (arith, sevens_more k m (omega arith), digits_next m (λ j. 7)))
+      | inr h ↦ let e : k ≡ suc m = omega arith in rw e (omega arith)
+    ]
+
+-- one field more, and it fits
+pub sevens_next : (n j w f : ℕ) → 0 < j → j ≤ n → n ≤ 16 → w ≤ sevens (n - j) → f ≤ 7 → (16 * w + f ≤ sevens (n - (j - 1))) × (16 * w + f ≤ word_limit)
+unfolding digits others
+sevens_next n j w f some l few h g =
+    let s : n - (j - 1) ≡ suc (n - j) = omega arith in
+    let most : 16 * w + f ≤ sevens (n - (j - 1)) = rw s (omega arith) in
+    (most, omega (arith, most, sevens_more (n - (j - 1)) 16 (omega arith), others_are))

@@ -13,6 +13,12 @@ pub record Kept {A : Type 0} (z : A) (n : ℕ) (old new : List A) : Type 0 where
   pub long : length new ≡ length old
   pub rest : (i : ℕ) → n ≤ i → get_or new i z ≡ get_or old i z
 
+-- Its first n entries are such that f holds of their places and them, whatever stands past its end.
+pub record Written {A : Type 0} (f : ℕ → A → Type 0) (n : ℕ) (old new : List A) : Type 0 where
+  pub long : length new ≡ length old
+  pub each : (z : A) (i : ℕ) → i < n → f i (get_or new i z)
+  pub rest : (z : A) (i : ℕ) → n ≤ i → get_or new i z ≡ get_or old i z
+
 pub kept_none : {A : Type 0} {z : A} {n : ℕ} {old : List A} → Kept z n old old
 kept_none = record { long = refl; rest = λ i l. refl }
 

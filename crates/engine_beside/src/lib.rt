@@ -8,6 +8,7 @@ ghost use Rattle.engine_beside.specs.Records.{refused_with};
 use calls::{Answer, Refusal, Solutions, Steps};
 
 pub mod degrees; // degrees.rt: the degrees of rows
+pub mod places; // places.rt: what is done at each of n places
 pub mod small; // small.rt: whether rows are within the component limit
 pub mod values; // values.rt: the values of rows under one equation
 pub mod words; // words.rt: the words of rows, and the tests on them

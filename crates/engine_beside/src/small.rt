@@ -5,6 +5,8 @@ ghost use Rattle.engine_spec.specs.Beside.{row_at};
 ghost use Rattle.engine_spec.specs.Reduction.{is_small};
 ghost use Rattle.engine_beside.specs.SmallRows.{are_small};
 
+use crate::places;
+
 // Whether no component of the first n rows is above 1,000,000. They stand one behind the other, and are asked as one row.
 pub fn small_rows(table: &[u32], n: usize, q: usize) -> bool
     requires { n * q ≤ length table.now }
@@ -13,17 +15,10 @@ pub fn small_rows(table: &[u32], n: usize, q: usize) -> bool
     small_at(table, 0, n * q)
 }
 
-// The same of the row that stands in the table from place `base`. It looks at every component: with no way out of the loop, several are
-// compared at a time.
+// The same of the row that stands in the table from place `base`.
 pub fn small_at(table: &[u32], base: usize, q: usize) -> bool
     requires { base + q ≤ length table.now }
     ensures { result ≡ is_small q (row_at table.now base) }
 {
-    let mut small = true;
-    let mut j = 0;
-    while j < q {
-        small &= table[base + j] <= calls::COMPONENT_LIMIT;
-        j += 1;
-    }
-    small
+    places::at_every(q, |j| table[base + j] <= calls::COMPONENT_LIMIT)
 }

@@ -4,6 +4,8 @@ ghost use Rattle.linear.specs.Systems.{value};
 ghost use Rattle.engine_spec.specs.Beside.{SmallEquation, SmallRow, SmallTable, Valued, equation_at, row_at};
 ghost use Rattle.engine_beside.specs.Writing.{Kept};
 
+use crate::places;
+
 // The value of the row that stands in the table from place `base`.
 pub fn value_at(coefs: &[i32], from: usize, table: &[u32], base: usize, q: usize) -> i64
     requires { SmallEquation q coefs.now from × SmallRow q table.now base }
@@ -25,9 +27,5 @@ pub fn write_values(
     ensures { Valued (equation_at coefs.now from) q n table.now values.new
         × Kept (pos 0) n values.old values.new }
 {
-    let mut i = 0;
-    while i < n {
-        values[i] = value_at(coefs, from, table, i * q, q);
-        i += 1;
-    }
+    places::write_first(values, n, |i| value_at(coefs, from, table, i * q, q));
 }

@@ -1,8 +1,10 @@
 // The words of rows: 16 fields of four bits, of which the highest, the guard, is clear. Field j holds components j and 16 + j added up, as far as 7.
-ghost use Rattle.std.specs.Prelude.{◌≡◌, ◌≤◌, ◌<◌, min, length};
+ghost use Rattle.std.specs.Prelude.{◌≡◌, ℕ, ◌≤◌, ◌<◌, min, length};
 ghost use Rattle.engine_spec.specs.Beside.{SmallRow, SmallTable, Worded, folded, row_at, word_of};
-ghost use Rattle.engine_spec.specs.Words.{fits as fits_word, joined as joined_word};
+ghost use Rattle.engine_spec.specs.Words.{fits as fits_word, joined as joined_word, word};
 ghost use Rattle.engine_beside.specs.Writing.{Kept};
+
+use crate::places;
 
 const GUARDS: u64 = 0x8888888888888888;
 
@@ -14,35 +16,19 @@ pub fn word_at(table: &[u32], base: usize, q: usize) -> u64
     ensures { result ≡ word_of q (row_at table.now base) }
 {
     if q <= 16 {
-        return plain_word(table, base, q);
+        return word_of_fields(q, |j| table[base + j]);
     }
-    folded_word(table, base, q)
+    word_of_fields(16, |j| folded_at(table, base, q, j))
 }
 
-// That of a row whose fields hold one component each. A field moves those made before it up by four bits: the same shift in each turn.
-fn plain_word(table: &[u32], base: usize, q: usize) -> u64
-    requires { (q ≤ 16) × SmallRow q table.now base }
-    ensures { result ≡ word_of q (row_at table.now base) }
+// The word of so many fields, made from the last one on. A field moves those made before it up by four bits: the same shift in each turn.
+fn word_of_fields<F: Fn(usize) -> u32>(fields: usize, field: F) -> u64
+    requires { (fields ≤ 16) × ((j : ℕ) → j < fields → F.pre field j) }
+    ensures { (x : ℕ → ℕ) → ((j y : ℕ) → j < fields → F.post field j y → y ≡ x j) → result ≡ word fields x }
 {
     let mut word: u64 = 0;
-    let mut j = q;
-    while 0 < j {
-        j -= 1;
-        word = 16 * word + cut(table[base + j]);
-    }
-    word
-}
-
-// That of a row of more than 16 components.
-fn folded_word(table: &[u32], base: usize, q: usize) -> u64
-    requires { (16 < q) × SmallRow q table.now base }
-    ensures { result ≡ word_of q (row_at table.now base) }
-{
-    let mut word: u64 = 0;
-    let mut j: usize = 16;
-    while 0 < j {
-        j -= 1;
-        word = 16 * word + cut(folded_at(table, base, q, j));
+    for j in (0..fields).rev() {
+        word = 16 * word + cut(field(j));
     }
     word
 }
@@ -52,11 +38,7 @@ pub fn write_words(table: &[u32], n: usize, q: usize, words: &mut [u64])
     requires { SmallTable q n table.now × (n ≤ length words.old) }
     ensures { Worded q n table.now words.new × Kept 0 n words.old words.new }
 {
-    let mut i = 0;
-    while i < n {
-        words[i] = word_at(table, i * q, q);
-        i += 1;
-    }
+    places::write_first(words, n, |i| word_at(table, i * q, q));
 }
 
 // The word of the sum of two tuples, by their words. A field that has reached its guard becomes 7.
@@ -93,5 +75,5 @@ fn folded_at(table: &[u32], base: usize, q: usize, j: usize) -> u32
 fn cut(x: u32) -> u64
     ensures { result ≡ min x 7 }
 {
-    if x < 7 { x as u64 } else { 7 }
+    u64::from(x.min(7))
 }

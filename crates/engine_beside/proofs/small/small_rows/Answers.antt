@@ -1,14 +1,7 @@
 -- `small::small_rows` meets its contract: the rows are asked as one. Assumes nothing.
 use mathlib.Core.Path.{◌∙◌}
-use native.Mathlib.Omega.{arith}
 use Rattle.engine_beside.specs.SmallRows.{small_as_one}
 use Rattle.engine_beside.proofs.small.small_rows.Goals as goal
-
-pub overflow_mul-n : goal.overflow_mul-n
-overflow_mul-n c = omega (arith, c.requires)
-
-pub small_at-requires : goal.small_at-requires
-small_at-requires c = omega (arith, c.requires)
 
 pub returns : goal.returns
 returns c = c.small_at.ensures ∙ small_as_one c.args.q c.args.n c.args.table.now

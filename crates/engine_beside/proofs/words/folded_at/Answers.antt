@@ -5,10 +5,6 @@ use native.Mathlib.Omega.{arith}
 use borrow.Author.Tests.{le-ltb, lt-ltb}
 use Rattle.engine_beside.proofs.words.folded_at.Goals as goal
 
-pub overflow_add-result-then-j-q-2 : goal.overflow_add-result-then-j-q-2
-overflow_add-result-then-j-q-2 c =
-    omega (arith, c.requires.1.small c.args.j c.requires.0, c.requires.1.small (16 + c.args.j) c.if-j-q.true)
-
 pub returns-then-j-q : goal.returns-then-j-q
 returns-then-j-q c =
     rw (lt-ltb c.args.j c.args.q c.requires.0, lt-ltb (16 + c.args.j) c.args.q c.if-j-q.true) refl

@@ -1,31 +1,9 @@
--- `words::write_words` meets its contract. The rows passed have their words written. Assumes nothing.
-use native.Mathlib.Nat.{le_antisymm}
-use native.Mathlib.Omega.{arith}
-use Rattle.laws.proofs.TableLaws.{row_fits}
-use Rattle.engine_beside.specs.Writing.{kept_more, kept_none, worded_more, worded_none, table_row}
-use borrow.Author.Rules.{rules}
+-- It meets its contract: the first n entries are those of the rows. Assumes nothing.
+use Rattle.std.proofs.Common.{rules, arith}
 use Rattle.engine_beside.proofs.words.write_words.Goals as goal
 
-pub loop-i-init : goal.loop-i-init
-loop-i-init c = (search rules, worded_none, kept_none)
-
-pub overflow_mul-i : goal.overflow_mul-i
-overflow_mul-i c =
-    omega (arith, c.requires.0.whole, row_fits c.args.q c.loop-i.i c.args.n c.loop-i-test.true)
-
-pub word_at-requires : goal.word_at-requires
-word_at-requires c =
-    (c.requires.0.few, table_row c.requires.0 c.loop-i.i c.loop-i-test.true)
-
-pub loop-i-preserved : goal.loop-i-preserved
-loop-i-preserved c = (
-  search rules,
-  worded_more (omega (arith, c.loop-i.invariant.2.long, c.requires.1, c.loop-i-test.true)) c.loop-i.invariant.1 _ c.word_at.ensures,
-  kept_more c.loop-i.i _ c.loop-i-test.true c.loop-i.invariant.2,
-)
-
-pub shape_of-words : goal.shape_of-words
-shape_of-words c = c.loop-i.invariant.2.long
-
 pub returns : goal.returns
-returns c = (rw (le_antisymm c.loop-i.invariant.0 c.loop-i-test.false) at c.loop-i.invariant.1, c.loop-i.invariant.2)
+returns c = (
+  record { long = omega (arith, c.write_first.ensures.long); each = λ i l. search (rules, c.write_first.ensures.each 0 i l) },
+  record { long = c.write_first.ensures.long; rest = c.write_first.ensures.rest 0 },
+)
