@@ -1,8 +1,7 @@
 -- What the code is sure of once the checks before the numbers have passed; and those checks as code makes them. Assumes nothing.
-use Rattle.std.specs.Prelude.{◌≡◌, Bool, true, false, not, ◌&&◌, List, [], ℕ, ◌+◌, ◌*◌, ◌-◌, ◌≤◌, leb, ℤ, length}
-use Rattle.std.proofs.Common.{sym, ◌∙◌, inl, inr, mul-le-mul, arith, le-leb, leb→le}
-use Rattle.std.proofs.lemmas.Bool.{lt-leb, not-false, not-true}
-use Rattle.linear.proofs.Cases.{split}
+use Rattle.std.specs.Prelude.{◌≡◌, Bool, true, false, not, ◌&&◌, List, [], ℕ, ◌+◌, ◌*◌, ◌≤◌, leb, ℤ, length}
+use Rattle.std.proofs.Common.{sym, ◌∙◌, mul-le-mul, arith, leb→le}
+use Rattle.std.proofs.lemmas.Bool.{not-false, not-true}
 use Rattle.linear.proofs.TestLaws.{and_parts}
 use Rattle.definitions.specs.Answers.{Check, ◌then◌, go, refuse, refuse_with}
 use Rattle.definitions.specs.Refusals.{between, check7}
@@ -30,37 +29,6 @@ pub record Sized (p q k m : ℕ) : Type 0 where
 -- a product of two of them, or of one more
 pub product_few : {x y : ℕ} → x ≤ 65 → y ≤ 65 → x * y ≤ 4225
 product_few a b = omega (arith, mul-le-mul a b)
-
--- the numbers of all tables
-pub record Counts (p q k m : ℕ) : Type 0 where
-  pub map : p * q ≤ 4225
-  pub extended : (p + k) * (q + k) ≤ 4225
-  pub other : m * (q + k) ≤ 4225
-  pub onto : m * (1 + (p + k)) ≤ 4225
-  pub back : (p + k) * (1 + m) ≤ 4225
-  pub above : k * (1 + p) ≤ 4225
-
-pub counts_few : {p q k m : ℕ} → Sized p q k m → Counts p q k m
-counts_few {p} {q} {k} {m} s =
-    let a : p ≤ 32 = s.p_few in
-    let b : m ≤ 32 = s.m_few in
-    let c : q + k ≤ 32 = s.few in
-    record {
-      map = product_few (omega arith) (omega arith);
-      extended = product_few (omega arith) (omega arith);
-      other = product_few (omega arith) (omega arith);
-      onto = product_few (omega arith) (omega arith);
-      back = product_few (omega arith) (omega arith);
-      above = product_few (omega arith) (omega arith);
-    }
-
--- as many further unknowns as 32 leave
-pub room_left : (q k : ℕ) → q ≤ 32 → leb k (32 - q) ≡ leb (q + k) 32
-room_left q k l =
-    elim (split 32 (q + k)) [
-      | inl h ↦ rw (lt-leb k (32 - q) (omega arith), lt-leb (q + k) 32 h)
-      | inr h ↦ rw (le-leb k (32 - q) (omega arith), le-leb (q + k) 32 h)
-    ]
 
 pub unknowns_few : (q k : ℕ) → few_unknowns q k ≡ true → (1 ≤ q) × (q + k ≤ 32)
 unknowns_few q k e = let (a, b) = and_parts (leb 1 q) (leb (q + k) 32) (rw e tt) in (leb→le 1 q a, leb→le (q + k) 32 b)

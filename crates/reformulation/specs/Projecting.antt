@@ -1,12 +1,33 @@
 -- Rows copied, and the call that projects as code makes its checks. Assumes nothing.
-use Rattle.std.specs.Prelude.{◌≡◌, true, false, List, ℕ, ◌+◌, ◌*◌, ◌/◌, ◌≤◌, leb, get_or, length}
-use Rattle.std.proofs.Common.{div-mul-le_self, mul-le-mul_right, arith}
+use Rattle.std.proofs.Math.Seq.{paste, paste-suc, paste-zero}
+use borrow.Rule.Slice.PartMut.{mid_of, put_mid}
+use Rattle.std.specs.Prelude.{◌≡◌, true, false, List, ℕ, zero, suc, ◌+◌, ◌*◌, ◌/◌, ◌≤◌, leb, get_or, length}
+use Rattle.std.proofs.lemmas.Slice.{put_mid-paste}
+use Rattle.std.proofs.lemmas.List.{get_or-drop, get_or-take}
+use Rattle.laws.proofs.TableLaws.{write_same}
+use Rattle.std.proofs.Common.{refl, sym, ◌∙◌, drop, length-drop, length-take-le, div-mul-le_self, mul-le-mul_right, arith}
 use Rattle.definitions.specs.Answers.{◌then◌, refuse_with}
 use Rattle.definitions.specs.Tables.{at, write_to}
 use Rattle.reformulation_spec.proofs.Projection.{project_next}
 use Rattle.reformulation_spec.specs.Reformulation.{project_checks, project_to, projected}
 use Rattle.reformulation_spec.specs.Rules.{few_unknowns}
 use Rattle.reformulation.specs.Numbers.{project_told}
+
+-- a part of a table copied, number by number
+written_by_paste : (table part : List ℕ) (base n : ℕ) → n ≤ length part → base + n ≤ length table
+    → write_to n table base (λ j. get_or part j 0) ≡ paste table base part n
+unfolding write_to
+written_by_paste table part base zero l m = paste-zero table base part
+written_by_paste table part base (suc n) l m =
+    rw (written_by_paste table part base n (omega arith) (omega arith)) (paste-suc table base part n 0 (omega arith) (omega arith))
+
+-- the q numbers from place `from` on put at place `base` of the other table
+pub row_put : (q from base : ℕ) (rows out : List ℕ) {part : List ℕ} → from + q ≤ length rows → base + q ≤ length out → part ≡ mid_of from q rows
+    → put_mid base q out part ≡ write_to q out base (λ j. get_or rows (from + j) 0)
+row_put q from base rows out {part} l m e =
+    let n : q ≡ length part = rw e (omega (arith, length-take-le q (drop from rows) (omega (arith, length-drop from rows)))) in
+    put_mid-paste base q out part part q refl refl n ∙ sym (written_by_paste out part base q (omega arith) m)
+    ∙ write_same q out base (λ j u. rw (e, get_or-take q (drop from rows) j 0 u, get_or-drop from rows j 0))
 
 -- one row more
 pub row_more : (q k : ℕ) (rows out₀ : List ℕ) (i : ℕ) {out after : List ℕ} → out ≡ project_to i q (at rows (q + k)) out₀

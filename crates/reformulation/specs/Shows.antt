@@ -1,13 +1,11 @@
 -- What the functions that show ask for, from what was checked before them; and the answer that the tests give. Assumes nothing.
-use Rattle.std.specs.Prelude.{◌≡◌, true, false, List, ℕ, ◌+◌, ◌≤◌, T, ℤ, nat_abs, pos, get_or, length}
+use Rattle.std.specs.Prelude.{Result, Ok, Err, ◌≡◌, true, false, List, ℕ, ◌+◌, ◌≤◌, T, ℤ, nat_abs, pos, get_or, length}
 use Rattle.std.proofs.Common.{inl, inr, mul-le-mul_right, arith}
 use Rattle.std.proofs.Math.ListN.{get_or-eq_default}
 use Rattle.linear.proofs.Cases.{split}
 use Rattle.linear.proofs.TestLaws.{and_parts}
 use Rattle.definitions.specs.Answers.{◌then◌, refuse_with}
 use Rattle.calls.specs.Paper.{check_of, number_of, values_of}
-use Rattle.calls.specs.declared.Check.{Check}
-use Rattle.calls.specs.declared.Check.TheVariants.{Pass, Refuse}
 use Rattle.calls.specs.declared.Refusal.{Refusal}
 use Rattle.calls.specs.Codes.{refusal_code}
 use Rattle.reformulation_spec.specs.Reformulation.{Reformulation, are_multiples, are_small, equations, given_checks, in_range, reformulates, shows, unknowns}
@@ -81,12 +79,12 @@ module _ (r : Reformulation) (g : Given r) (small : are_small r ≡ true) where
 
 -- ---- the answer
 
-module _ (r : Reformulation) {c : Check} (e : check_of c ≡ given_checks r) where
-  pub told_refused : {why : Refusal} → c ≡ Refuse why → refusal_code (number_of why) (values_of why) ≡ shown_told (reformulates r)
+module _ (r : Reformulation) {c : Result (Unit {0}) Refusal} (e : check_of c ≡ given_checks r) where
+  pub told_refused : {why : Refusal} → c ≡ Err why → refusal_code (number_of why) (values_of why) ≡ shown_told (reformulates r)
   unfolding reformulates ◌then◌
   told_refused g = rw (← e, g)
 
-  module _ (g : c ≡ Pass) where
+  module _ {x : Unit {0}} (g : c ≡ Ok x) where
     pub told_shown : shows r ≡ true → 128 ≡ shown_told (reformulates r)
     unfolding reformulates ◌then◌ refuse_with
     told_shown s = rw (← e, g, s)

@@ -2,21 +2,14 @@
 ghost use Rattle.std.specs.Prelude.{◌≡◌, ◌+◌, ◌*◌, ◌≤◌, ◌<◌, length};
 ghost use Rattle.linear.specs.Tests.{all_to};
 ghost use Rattle.reformulation_spec.specs.Reformulation as paper;
-ghost use Rattle.reformulation_spec.specs.Reformulation.{is_entry, is_same, row_of};
+ghost use Rattle.reformulation_spec.specs.Reformulation.{is_entry, row_of};
 ghost use Rattle.reformulation.specs.Given.{Laid};
 
 pub fn extends(p: usize, q: usize, k: usize, coefs: &[i32], extended: &[i32]) -> bool
     requires { Laid p q k coefs.now extended.now }
     ensures { result ≡ paper.extends p q k (row_of q coefs.now) (row_of (q + k) extended.now) }
 {
-    let mut i = 0;
-    while i < p + k {
-        if !row_extends(p, q, k, coefs, extended, i) {
-            return false;
-        }
-        i += 1;
-    }
-    true
+    (0..p + k).all(|i| row_extends(p, q, k, coefs, extended, i))
 }
 
 // Whether row i is such.
@@ -24,14 +17,7 @@ fn row_extends(p: usize, q: usize, k: usize, coefs: &[i32], extended: &[i32], i:
     requires { Laid p q k coefs.now extended.now × (i < p + k) }
     ensures { result ≡ all_to (q + k) (λ j. is_entry p q (row_of q coefs.now) i j (row_of (q + k) extended.now i j)) }
 {
-    let mut j = 0;
-    while j < q + k {
-        if !is_entry(p, q, coefs, i, j, extended[i * (q + k) + j]) {
-            return false;
-        }
-        j += 1;
-    }
-    true
+    (0..q + k).all(|j| is_entry(p, q, coefs, i, j, extended[i * (q + k) + j]))
 }
 
 // Whether x may stand in column j of row i.
@@ -40,22 +26,10 @@ fn is_entry(p: usize, q: usize, coefs: &[i32], i: usize, j: usize, x: i32) -> bo
     ensures { result ≡ is_entry p q (row_of q coefs.now) i j x }
 {
     if j < q {
-        if i < p {
-            return is_same(x, coefs[i * q + j]);
-        }
-        return true;
+        p <= i || x == coefs[i * q + j]
+    } else if j + p == i + q {
+        x == -1
+    } else {
+        x == 0
     }
-    if j + p == i + q {
-        return is_same(x, -1);
-    }
-    is_same(x, 0)
-}
-
-fn is_same(x: i32, y: i32) -> bool
-    ensures { result ≡ is_same x y }
-{
-    if x < y {
-        return false;
-    }
-    !(y < x)
 }

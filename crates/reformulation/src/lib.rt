@@ -5,16 +5,31 @@
 ghost use Rattle.std.specs.Prelude.{◌≡◌};
 ghost use Rattle.reformulation_spec.specs.Reformulation as paper;
 ghost use Rattle.reformulation_spec.specs.Reformulation.{reformulation};
+ghost use Rattle.reformulation.specs.Handed.{paper_of};
 ghost use Rattle.reformulation.specs.Numbers.{project_told, shown_told};
 ghost use Rattle.reformulation.specs.Given.{Given};
-
-use calls::Check;
 
 mod entries; // entries.rt: whether one map is another with further unknowns
 mod given; // given.rt: what is refused before the numbers are looked at
 mod multiples; // multiples.rt: whether rows follow from others
 mod rows; // rows.rt: rows copied
 mod small; // small.rt: whether numbers are within their limits
+
+// What is handed over: the map has p equations in q unknowns, the extended one k further unknowns and equations, and the other map m equations; `onto` and
+// `back` are the multiples between these two, and `above` those by which no further unknown is below 0.
+#[derive(Clone, Copy)]
+struct Handed<'a> {
+    p: usize,
+    q: usize,
+    k: usize,
+    m: usize,
+    coefs: &'a [i32],
+    extended: &'a [i32],
+    other: &'a [i32],
+    onto: &'a [i64],
+    back: &'a [i64],
+    above: &'a [i64],
+}
 
 // Whether the numbers show it. Nothing lent is written.
 pub fn reformulates(
@@ -33,48 +48,41 @@ pub fn reformulates(
         shown_told (paper.reformulates (reformulation p q k m coefs.now extended.now other.now onto.now
         back.now above.now)) }
 {
-    match given::check(p, q, k, m, coefs, extended, other, onto, back, above) {
-        Check::Refuse(why) => calls::codes::refusal(why),
-        Check::Pass => {
-            if shows(p, q, k, m, coefs, extended, other, onto, back, above) {
-                return 128;
-            }
-            36
-        }
+    let handed = Handed {
+        p,
+        q,
+        k,
+        m,
+        coefs,
+        extended,
+        other,
+        onto,
+        back,
+        above,
+    };
+    match given::check(&handed) {
+        Err(why) => calls::codes::refusal(why),
+        Ok(()) => if shows(&handed) { 128 } else { 36 },
     }
 }
 
 // The same of numbers that are as many as they should be.
-fn shows(
-    p: usize,
-    q: usize,
-    k: usize,
-    m: usize,
-    coefs: &[i32],
-    extended: &[i32],
-    other: &[i32],
-    onto: &[i64],
-    back: &[i64],
-    above: &[i64],
-) -> bool
-    requires { Given (reformulation p q k m coefs.now extended.now other.now onto.now back.now above.now) }
-    ensures { result ≡
-        paper.shows (reformulation p q k m coefs.now extended.now other.now onto.now back.now
-        above.now) }
+fn shows(r: &Handed) -> bool
+    requires { Given (paper_of r.now) }
+    ensures { result ≡ paper.shows (paper_of r.now) }
 {
-    if !small::all(extended, other, onto, back, above) {
-        return false;
-    }
-    if !entries::extends(p, q, k, coefs, extended) {
-        return false;
-    }
-    if !multiples::all_follow(true, q + k, q + k, p + k, m, 0, onto, other, extended) {
-        return false;
-    }
-    if !multiples::all_follow(true, q + k, q + k, m, p + k, 0, back, extended, other) {
-        return false;
-    }
-    multiples::all_follow(false, q, q + k, p, k, p, above, extended, extended)
+    let (unknowns, equations) = (r.q + r.k, r.p + r.k);
+    small::all(r)
+        && entries::extends(r.p, r.q, r.k, r.coefs, r.extended)
+        && multiples::all_follow(
+            true, unknowns, unknowns, equations, r.m, 0, r.onto, r.other, r.extended,
+        )
+        && multiples::all_follow(
+            true, unknowns, unknowns, r.m, equations, 0, r.back, r.extended, r.other,
+        )
+        && multiples::all_follow(
+            false, r.q, unknowns, r.p, r.k, r.p, r.above, r.extended, r.extended,
+        )
 }
 
 // The first q numbers of `found` rows of q + k numbers, one row behind the other from the beginning of `out`.

@@ -1,60 +1,33 @@
 // Whether numbers are within their limits.
-ghost use Rattle.std.specs.Prelude.{◌&&◌, ◌≡◌, leb, nat_abs};
-ghost use Rattle.reformulation_spec.specs.Reformulation.{are_multiples, in_range, most_multiple};
+ghost use Rattle.std.specs.Prelude.{◌≡◌};
+ghost use Rattle.reformulation_spec.specs.Reformulation as paper;
+ghost use Rattle.reformulation_spec.specs.Reformulation.{are_multiples, in_range};
+ghost use Rattle.reformulation.specs.Handed.{paper_of};
 
-use calls::Check;
+use super::Handed;
 
 // The most that a multiple may be, above zero or below.
-const MOST_MULTIPLE: i64 = 1000000000000;
+const MOST_MULTIPLE: u64 = 1000000000000;
 
 // Coefficients of both maps, and multiples.
-pub fn all(extended: &[i32], other: &[i32], onto: &[i64], back: &[i64], above: &[i64]) -> bool
-    ensures { result ≡
-        (in_range extended.now && (in_range other.now && (are_multiples onto.now && (are_multiples back.now
-        && are_multiples above.now)))) }
+pub fn all(r: &Handed) -> bool
+    ensures { result ≡ paper.are_small (paper_of r.now) }
 {
-    if !in_range(extended) {
-        return false;
-    }
-    if !in_range(other) {
-        return false;
-    }
-    if !are_multiples(onto) {
-        return false;
-    }
-    if !are_multiples(back) {
-        return false;
-    }
-    are_multiples(above)
+    in_range(r.extended)
+        && in_range(r.other)
+        && are_multiples(r.onto)
+        && are_multiples(r.back)
+        && are_multiples(r.above)
 }
 
 fn in_range(table: &[i32]) -> bool
     ensures { result ≡ in_range table.now }
 {
-    match checks::coefficients::check(table) {
-        Check::Refuse(_) => false,
-        Check::Pass => true,
-    }
+    checks::coefficients::check(table).is_ok()
 }
 
 fn are_multiples(by: &[i64]) -> bool
     ensures { result ≡ are_multiples by.now }
 {
-    let mut i = 0;
-    while i < by.len() {
-        if !is_multiple(by[i]) {
-            return false;
-        }
-        i += 1;
-    }
-    true
-}
-
-fn is_multiple(x: i64) -> bool
-    ensures { result ≡ leb (nat_abs x) most_multiple }
-{
-    if x < -MOST_MULTIPLE {
-        return false;
-    }
-    !(MOST_MULTIPLE < x)
+    by.iter().all(|x| x.unsigned_abs() <= MOST_MULTIPLE)
 }

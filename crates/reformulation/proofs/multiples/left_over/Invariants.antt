@@ -1,13 +1,8 @@
 -- `multiples::left_over` meets its contract. The sum is what is left over after the rows passed. Assumes nothing.
 use mathlib.Core.Path.{◌≡◌}
-use Prim.Native.Nat.{◌-◌, ◌≤◌}
 use Rattle.reformulation_spec.specs.Reformulation.{left_over, row_of}
 use Rattle.reformulation.specs.Sums.{line_at}
 use Rattle.reformulation.proofs.multiples.left_over.Given as goal
 
 abbrev pub invariant-loop-r : goal.invariant-loop-r
-invariant-loop-r l =
-    (l.r ≤ l.n) × (l.sum ≡ left_over l.r (line_at l.by l.from) (line_at l.rows l.base) (row_of l.w l.table) l.j)
-
-abbrev pub decreases-loop-r : goal.decreases-loop-r
-decreases-loop-r l = l.n - l.r
+invariant-loop-r l = l.sum ≡ left_over l.r (line_at l.by l.from) (line_at l.rows l.base) (row_of l.w l.table) l.j
