@@ -9,6 +9,8 @@ ghost use Rattle.reformulation.specs.Handed.{paper_of};
 ghost use Rattle.reformulation.specs.Numbers.{project_told, shown_told};
 ghost use Rattle.reformulation.specs.Given.{Given};
 
+use multiples::Tables;
+
 mod entries; // entries.rt: whether one map is another with further unknowns
 mod given; // given.rt: what is refused before the numbers are looked at
 mod multiples; // multiples.rt: whether rows follow from others
@@ -17,6 +19,7 @@ mod small; // small.rt: whether numbers are within their limits
 
 // What is handed over: the map has p equations in q unknowns, the extended one k further unknowns and equations, and the other map m equations; `onto` and
 // `back` are the multiples between these two, and `above` those by which no further unknown is below 0.
+// The public call takes it one by one, as dezgula exports it to C.
 #[derive(Clone, Copy)]
 struct Handed<'a> {
     p: usize,
@@ -72,17 +75,32 @@ fn shows(r: &Handed) -> bool
     ensures { result ≡ paper.shows (paper_of r.now) }
 {
     let (unknowns, equations) = (r.q + r.k, r.p + r.k);
+    let onto = Tables {
+        w: unknowns,
+        n: equations,
+        by: r.onto,
+        rows: r.other,
+        table: r.extended,
+    };
+    let back = Tables {
+        w: unknowns,
+        n: r.m,
+        by: r.back,
+        rows: r.extended,
+        table: r.other,
+    };
+    let above = Tables {
+        w: unknowns,
+        n: r.p,
+        by: r.above,
+        rows: r.extended,
+        table: r.extended,
+    };
     small::all(r)
         && entries::extends(r.p, r.q, r.k, r.coefs, r.extended)
-        && multiples::all_follow(
-            true, unknowns, unknowns, equations, r.m, 0, r.onto, r.other, r.extended,
-        )
-        && multiples::all_follow(
-            true, unknowns, unknowns, r.m, equations, 0, r.back, r.extended, r.other,
-        )
-        && multiples::all_follow(
-            false, r.q, unknowns, r.p, r.k, r.p, r.above, r.extended, r.extended,
-        )
+        && multiples::all_follow(true, unknowns, r.m, 0, &onto)
+        && multiples::all_follow(true, unknowns, equations, 0, &back)
+        && multiples::all_follow(false, r.q, r.k, r.p, &above)
 }
 
 // The first q numbers of `found` rows of q + k numbers, one row behind the other from the beginning of `out`.

@@ -8,18 +8,18 @@ use Rattle.reformulation_spec.specs.Reformulation.{left_over, meets, row_of}
 use Rattle.reformulation.specs.Sums.{line_at, line_first}
 use Rattle.reformulation.proofs.multiples.follows.Goals as goal
 
-pub returns-then-by-from-gt0 : goal.returns-then-by-from-gt0
+pub returns-then-t-from-gt0 : goal.returns-then-t-from-gt0
 unfolding paper.follows
-returns-then-by-from-gt0 c =
+returns-then-t-from-gt0 c =
     let a = c.args in
-    let left : ℕ → ℤ = left_over a.n (line_at a.by.now a.from) (line_at a.rows.now a.base) (row_of a.w a.table.now) in
+    let left : ℕ → ℤ = left_over a.t.now.n (line_at a.t.now.by.now a.from) (line_at a.t.now.rows.now a.base) (row_of a.t.now.w a.t.now.table.now) in
     let e = all_in_range {f = λ j. meets a.exact (left j)} c.all.ensures.ran refl (λ x b q k. search (rules, tests)) in
-    let t = rw (to_z-of_z {w = w64} {z = get_or a.by.now a.from (pos 0)} (search rules)) at c.if-by-from-gt0.true in
-    rw (← line_first a.by.now a.from, t) e
+    let t = rw (to_z-of_z {w = w64} {z = get_or a.t.now.by.now a.from (pos 0)} (search rules)) at c.if-t-from-gt0.true in
+    rw (← line_first a.t.now.by.now a.from, t) e
 
-pub returns-else-by-from-gt0 : goal.returns-else-by-from-gt0
+pub returns-else-t-from-gt0 : goal.returns-else-t-from-gt0
 unfolding paper.follows
-returns-else-by-from-gt0 c =
+returns-else-t-from-gt0 c =
     let a = c.args in
-    let t = rw (to_z-of_z {w = w64} {z = get_or a.by.now a.from (pos 0)} (search rules)) at c.if-by-from-gt0.false in
-    rw (c.if-by-from-gt0.false, ← line_first a.by.now a.from, t) refl
+    let t = rw (to_z-of_z {w = w64} {z = get_or a.t.now.by.now a.from (pos 0)} (search rules)) at c.if-t-from-gt0.false in
+    rw (c.if-t-from-gt0.false, ← line_first a.t.now.by.now a.from, t) refl

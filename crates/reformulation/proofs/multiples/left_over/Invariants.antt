@@ -5,4 +5,4 @@ use Rattle.reformulation.specs.Sums.{line_at}
 use Rattle.reformulation.proofs.multiples.left_over.Given as goal
 
 abbrev pub invariant-loop-r : goal.invariant-loop-r
-invariant-loop-r l = l.sum ≡ left_over l.r (line_at l.by l.from) (line_at l.rows l.base) (row_of l.w l.table) l.j
+invariant-loop-r l = l.sum ≡ left_over l.r (line_at l.t.by.now l.from) (line_at l.t.rows.now l.base) (row_of l.t.w l.t.table.now) l.j
