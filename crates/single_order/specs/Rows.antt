@@ -59,21 +59,23 @@ named_yes n h = lt-ltb 0 n (omega arith)
 pub named_no : (n : ℕ) → n ≡ 0 → ltb 0 n ≡ false
 named_no n e = le-ltb 0 n (omega arith)
 
+-- ---- what is there, and what is not
+
+pub so_some : (b : Bool) (n : ℕ) {k : ℕ} → Some k ≡ if_so b n → (b ≡ true) × (k ≡ n)
+so_some true n e = (refl, cc)
+so_some false n e = absurd (cc)
+
+pub so_none : (b : Bool) (n : ℕ) → None ≡ if_so b n → b ≡ false
+so_none true n e = absurd (cc)
+so_none false n e = refl
+
 -- ---- the place that a search found
 
 pub below_some : {n k v : ℕ} → Some v ≡ place_below n k → (v ≡ k) × (k < n)
-below_some {n} {k} {v} e = go (ltb k n) refl e
-  where
-    go : (b : Bool) → ltb k n ≡ b → Some v ≡ if_so b k → (v ≡ k) × (k < n)
-    go true h g = (cc, ltb-true k n h)
-    go false h g = absurd (cc)
+below_some {n} {k} e = let (b, g) = so_some (ltb k n) k e in (g, ltb-true k n b)
 
 pub below_none : {n k : ℕ} → None ≡ place_below n k → n ≤ k
-below_none {n} {k} e = go (ltb k n) refl e
-  where
-    go : (b : Bool) → ltb k n ≡ b → None ≡ if_so b k → n ≤ k
-    go true h g = absurd (cc)
-    go false h g = ltb-false k n h
+below_none {n} {k} e = ltb-false k n (so_none (ltb k n) k e)
 
 -- two such places compared
 same_place : (n a b : ℕ) → a ≤ n → b ≤ n → option_eq eqb (place_below n a) (place_below n b) ≡ eqb a b
