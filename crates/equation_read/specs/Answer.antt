@@ -1,11 +1,9 @@
 -- What reading an equation answers and leaves. Assumes nothing.
-use Rattle.std.specs.Prelude.{ℕ, suc, ◌≤◌, ◌<◌, List, [], ◌∷◌, ℤ, pos, neg_ℤ, nat_abs, get_or}
+use Rattle.std.specs.Prelude.{ℕ, suc, ◌≤◌, ◌<◌, List, [], ◌∷◌, ℤ, pos, neg_ℤ, nat_abs, Result, Ok, Err, get_or}
 use Rattle.definitions.specs.Answers.{◌then◌, refuse_if, refuse_first}
 use Rattle.definitions.specs.Refusals.{out_of_range}
 use Rattle.equation_spec.specs.Outcome as form
 use Rattle.equation_spec.specs.Outcome.{Outcome, accepted, checked, list}
-use Rattle.equation_read.specs.declared.equation.EquationRead.{EquationRead}
-use Rattle.equation_read.specs.declared.equation.EquationRead.TheVariants.{Equation, Refused}
 use Rattle.equation_read.specs.declared.equation.EquationRefusal.{EquationRefusal}
 use Rattle.equation_read.specs.declared.equation.EquationRefusal.TheVariants.{Length, Unknowns, Row, Grammar, Depth, Multiplier, Coefficient, RightSide}
 
@@ -40,9 +38,9 @@ values_of Multiplier = []
 values_of (Coefficient place) = place ∷ []
 values_of RightSide = []
 
-abbrev pub answer_of : EquationRead → List ℤ → Answer
-answer_of (Equation right) table = read right table
-answer_of (Refused why) table = refused (number_of why) (values_of why) table
+abbrev pub answer_of : Result ℤ EquationRefusal → List ℤ → Answer
+answer_of (Ok right) table = read right table
+answer_of (Err why) table = refused (number_of why) (values_of why) table
 
 -- what totals come to: the constants stand at place 0, those of the right side less
 unfoldable pub totals_outcome : ℕ → List ℤ → Outcome

@@ -31,9 +31,6 @@ module _ (t : List ℕ) (i : ℕ) where
 
   -- ---- a byte
 
-  pub starts_end : (b : ℕ) → length t ≤ i → false ≡ starts b (drop i t)
-  starts_end b l = rw (drop_of_length-le t l)
-
   pub starts_at : (b : ℕ) → i < length t → eqb (get_or t i 0) b ≡ starts b (drop i t)
   starts_at b l = rw (byte_at t i l)
 

@@ -1,9 +1,8 @@
 -- A whole equation: the row that is written, and the outcome, case by case. Assumes nothing.
-use Rattle.std.specs.Prelude.{ℕ, zero, suc, ◌+◌, ◌≤◌, ◌<◌, max, Bool, true, false, ◌||◌, ◌≡◌, ltb, ℤ, pos, nat_abs, ◌-ℤ◌, length, set}
+use Rattle.std.specs.Prelude.{ℕ, zero, suc, ◌+◌, ◌≤◌, ◌<◌, max, Bool, true, false, ◌||◌, ◌≡◌, ltb, ℤ, pos, nat_abs, ◌-ℤ◌, length}
 use mathlib.Core.List.{List, [], ◌∷◌}
 use Rattle.std.proofs.Math.Path.{refl, ap}
 use Rattle.std.proofs.Common.{sym, ap₂, ◌∙◌, add-one, arith}
-use Rattle.std.proofs.Math.Decide.{ℕ_discrete}
 use Rattle.std.proofs.Math.IntN.{neg_ℤ}
 use Rattle.std.proofs.Math.ListN.{get_or}
 use borrow.Author.Tests.{ne_eqb, eq-eqb, lt-ltb, le-ltb, le-leb, lt-leb, ltb-false}
@@ -13,7 +12,7 @@ use Rattle.linear.proofs.Terms.{ring}
 use Rattle.definitions.specs.Answers.{go, refuse_with, refuse_first, ◌then◌}
 use Rattle.definitions.specs.System.{coef_limit}
 use Rattle.definitions.specs.Refusals.{out_of_range}
-use Rattle.laws.proofs.AnswerLaws.{refuse_at, refuse_next}
+use Rattle.texts.proofs.FirstLaws.{none_refused, first_refused}
 use Rattle.texts.specs.Reading.{most_bytes, Parse, parsed, malformed}
 use Rattle.equation_spec.specs.Grammar.{Equation, Reads}
 use Rattle.equation_spec.specs.Meaning.{of_sum, coefficient, right_side, sum_depth, sum_exceeds}
@@ -23,18 +22,8 @@ use Rattle.equation_spec.specs.Outcome.{Outcome, accepted, checked, list, most_d
 use Rattle.equation_spec.proofs.Agreement.{read_any, read_reads}
 use Rattle.equation_spec.proofs.PlaceLaws.{reads_placed}
 use Rattle.equation_read.specs.Answer.{read, refused, answered, totals_outcome, Ranged}
-use Rattle.equation_read.specs.MeaningLaws.{set_at}
 
 -- ---- the row
-
-pub row_next : (row ts : List ℤ) (i : ℕ) (x : ℤ) → i < length row → ((j : ℕ) → j < i → get_or row j (pos 0) ≡ get_or ts (suc j) (pos 0))
-    → x ≡ get_or ts (i + 1) (pos 0)
-    → (j : ℕ) → j < i + 1 → get_or (set row i x) j (pos 0) ≡ get_or ts (suc j) (pos 0)
-row_next row ts i x l h e j m =
-    elim (ℕ_discrete j i) [
-      | yes y ↦ set_at row i j x l ∙ rw (y, eq-eqb i i refl, e, add-one i)
-      | no y ↦ set_at row i j x l ∙ rw (ne_eqb j i y) (h j (omega arith))
-    ]
 
 list_eq : (zs : List ℤ) (k : ℕ) (f : ℕ → ℤ) → ((j : ℕ) → j < length zs → get_or zs j (pos 0) ≡ f (k + j)) → zs ≡ list (length zs) k f
 unfolding list
@@ -58,10 +47,19 @@ module _ (q : ℕ) (ts row : List ℤ) where
   negated_range : (z : ℤ) → out_of_range (neg_ℤ z) ≡ out_of_range z
   negated_range z = ap (ltb coef_limit) (nat_abs_negℤ z)
 
-  pub coefficient_out : (i : ℕ) → i < q → refuse_first 7 i out_at ≡ go → out_of_range (get_or ts (i + 1) (pos 0)) ≡ true
+  abbrev at_place : ℕ → Bool
+  at_place i = out_of_range (get_or ts (i + 1) (pos 0))
+
+  same_place : (i : ℕ) → at_place i ≡ out_at i
+  same_place i = ap (λ k. out_of_range (get_or ts k (pos 0))) (add-one i)
+
+  pub coefficient_out : {i : ℕ} → (i < q) × (at_place i ≡ true) × ((j : ℕ) → j < i → at_place j ≡ false)
       → refused 7 ((i + 1) ∷ []) row ≡ answered (totals_outcome q ts) row
   unfolding answered totals_outcome checked ◌then◌
-  coefficient_out i l h e = rw (refuse_at 7 q out_at i l h (ap (λ k. out_of_range (get_or ts k (pos 0))) (sym (add-one i)) ∙ e))
+  coefficient_out {i} (l, e, f) = rw (first_refused 7 q out_at (l, sym (same_place i) ∙ e, λ j m. sym (same_place j) ∙ f j m))
+
+  pub none_out : ((i : ℕ) → i < q → at_place i ≡ false) → refuse_first 7 q out_at ≡ go
+  none_out f = none_refused 7 q out_at (λ j m. sym (same_place j) ∙ f j m)
 
   pub right_out : refuse_first 7 q out_at ≡ go → out_of_range (get_or ts 0 (pos 0)) ≡ true → refused 15 [] row ≡ answered (totals_outcome q ts) row
   unfolding answered totals_outcome checked ◌then◌ refuse_with
@@ -74,18 +72,8 @@ module _ (q : ℕ) (ts row : List ℤ) where
   unfolding answered totals_outcome checked ◌then◌ refuse_with
   all_in h e x y = rw (h, negated_range (get_or ts 0 (pos 0)), e, x, y)
 
-  pub range_next : (i : ℕ) → refuse_first 7 i out_at ≡ go → out_of_range (get_or ts (i + 1) (pos 0)) ≡ false → refuse_first 7 (i + 1) out_at ≡ go
-  range_next i h e = refuse_next 7 i out_at h (ap (λ k. out_of_range (get_or ts k (pos 0))) (sym (add-one i)) ∙ e)
-
-pub ranged_next : (ts : List ℤ) (i : ℕ) → Ranged i ts → out_of_range (get_or ts (i + 1) (pos 0)) ≡ false → Ranged (i + 1) ts
-ranged_next ts i r e =
-    record {
-      range = λ j l.
-          elim (ℕ_discrete j i) [
-            | yes y ↦ rw y (rw (add-one i) at (ltb-false 10000 (nat_abs (get_or ts (i + 1) (pos 0))) e))
-            | no y ↦ r.range j (omega arith)
-          ];
-    }
+pub ranged : (q : ℕ) (ts : List ℤ) → ((i : ℕ) → i < q → out_of_range (get_or ts (i + 1) (pos 0)) ≡ false) → Ranged q ts
+ranged q ts f = record { range = λ i l. rw (add-one i) at (ltb-false 10000 (nat_abs (get_or ts (i + 1) (pos 0))) (f i l)) }
 
 -- ---- the reading
 

@@ -1,5 +1,5 @@
 -- What is left of a text, and the room for it. Assumes nothing.
-use Rattle.std.specs.Prelude.{ℕ, zero, suc, ◌+◌, ◌*◌, ◌-◌, ◌≤◌, ◌<◌, List, [], ◌∷◌, ◌++◌, ◌≡◌, ℤ, pos, nat_abs, ◌+ℤ◌, length, get_or, drop, set}
+use Rattle.std.specs.Prelude.{ℕ, zero, suc, ◌+◌, ◌*◌, ◌-◌, ◌≤◌, ◌<◌, List, [], ◌∷◌, ◌++◌, ◌≡◌, ℤ, pos, nat_abs, ◌+ℤ◌, Option, Some, None, length, get_or, drop, set}
 use mathlib.Core.Bool.{true, false}
 use Rattle.std.proofs.Common.{sym, ap, arith, length-drop, length-append}
 use Rattle.linear.proofs.Integers.{nat_abs_+ℤ, nat_abs_negℤ}
@@ -11,7 +11,6 @@ use Rattle.equation_spec.proofs.PartLaws.{skip_shorter}
 use Rattle.equation_spec.proofs.SoundLaws.{numeral_read, index_read}
 use Rattle.equation_read.specs.Totals.{add_at, signed_by, Small}
 use Rattle.equation_read.specs.declared.sums.After.{After}
-use Rattle.equation_read.specs.declared.sums.After.TheVariants.{At, Stopped}
 use Rattle.equation_read.specs.After.{Passed}
 
 -- ---- what is left
@@ -69,6 +68,6 @@ signed_small true z l = omega (arith, nat_abs_negℤ z)
 signed_small false z l = l
 
 -- what was read from place j on was read from an earlier place on
-pub passed_from : (t : List ℕ) (i j : ℕ) (r : After) (us : List ℤ) → length t - j ≤ length t - i → Passed t j r us → Passed t i r us
-passed_from t i j (At next exceeds) us l a = record { less = omega (arith, a.less); room = a.room }
-passed_from t i j Stopped us l a = tt
+pub passed_from : (t : List ℕ) (i j : ℕ) (r : Option After) (us : List ℤ) → length t - j ≤ length t - i → Passed t j r us → Passed t i r us
+passed_from t i j (Some r) us l a = record { less = omega (arith, a.less); room = a.room }
+passed_from t i j None us l a = tt

@@ -1,20 +1,17 @@
 // Spaces, signs and numbers at a place of a text. A place stands for the text from there on.
 ghost use Rattle.std.specs.Prelude.{◌≡◌, drop};
 ghost use Rattle.equation_spec.specs.Reader.{skip as skipped, read_index};
-ghost use Rattle.texts.specs.Places.{natural_parse};
+ghost use Rattle.texts.specs.Places.{parse_of};
 ghost use Rattle.equation_read.specs.Places.{lead_of, is_led, is_minus, after_lead, starts};
 
-use texts::number::{Natural, read_natural};
+use texts::number::{Parsed, read_natural};
 
 // The place after the spaces at place `at`.
 pub fn skip(text: &[u8], at: usize) -> usize
     ensures { drop result text.now ≡ skipped (drop at text.now) }
 {
     let mut i = at;
-    while i < text.len() {
-        if text[i] != b' ' {
-            return i;
-        }
+    while i < text.len() && text[i] == b' ' {
         i += 1;
     }
     i
@@ -24,20 +21,14 @@ pub fn skip(text: &[u8], at: usize) -> usize
 pub fn stands(text: &[u8], at: usize, byte: u8) -> bool
     ensures { result ≡ starts byte (drop at text.now) }
 {
-    if text.len() <= at {
-        return false;
-    }
-    text[at] == byte
+    at < text.len() && text[at] == byte
 }
 
 // Whether a sign stands at place `at`.
 pub fn is_sign(text: &[u8], at: usize) -> bool
     ensures { result ≡ is_led (lead_of (drop at text.now)) }
 {
-    if stands(text, at, b'+') {
-        return true;
-    }
-    stands(text, at, b'-')
+    stands(text, at, b'+') || stands(text, at, b'-')
 }
 
 // Whether a minus stands at place `at`.
@@ -52,25 +43,19 @@ pub fn after_sign(text: &[u8], at: usize) -> usize
     ensures { drop result text.now ≡ after_lead (drop at text.now) }
 {
     if is_sign(text, at) {
-        return skip(text, at + 1);
+        skip(text, at + 1)
+    } else {
+        at
     }
-    at
 }
 
 // The number of an unknown.
-pub fn read_index(text: &[u8], at: usize, q: usize) -> Natural
-    ensures { natural_parse text.now result ≡ read_index q (drop at text.now) }
+pub fn read_index(text: &[u8], at: usize, q: usize) -> Option<Parsed<u32>>
+    ensures { parse_of text.now result ≡ read_index q (drop at text.now) }
 {
-    match read_natural(text, at, 5) {
-        Natural::Malformed => Natural::Malformed,
-        Natural::Parsed { value, next } => {
-            if value < 1 {
-                return Natural::Malformed;
-            }
-            if q < value as usize {
-                return Natural::Malformed;
-            }
-            Natural::Parsed { value, next }
-        }
+    let index = read_natural(text, at, 5)?;
+    if index.value < 1 || q < index.value as usize {
+        return None;
     }
+    Some(index)
 }

@@ -6,18 +6,17 @@ ghost use Rattle.equation_read.specs.Totals.{Ready, sum_collected, term_collecte
 ghost use Rattle.equation_read.specs.After.{collected_by, Passed};
 
 use crate::bytes::{after_sign, is_minus, is_sign, read_index, skip, stands};
-use crate::totals::{add_at, either, out_of_range, scaled, signed, within};
-use texts::number::{Natural, is_digit, read_natural};
+use crate::totals::{add_at, out_of_range, scaled, signed, within};
+use texts::number::{is_digit, read_natural};
 
-// The place after what was read, and whether the multipliers around a bracket exceed the limit; or nothing of the form, of brackets at most `depth` deep,
-// stands there.
+// The place after what was read, and whether the multipliers around a bracket exceed the limit.
 #[derive(Clone, Copy)]
-pub enum After {
-    At { next: usize, exceeds: bool },
-    Stopped,
+pub struct After {
+    pub next: usize,
+    pub exceeds: bool,
 }
 
-// The sum at place `at`.
+// The sum at place `at`, of brackets at most `depth` deep.
 #[cycle(read_bracket_read_factor_read_sum_read_term)]
 pub fn read_sum(
     text: &[u8],
@@ -26,7 +25,7 @@ pub fn read_sum(
     depth: usize,
     times: i64,
     totals: &mut [i64; 17],
-) -> After
+) -> Option<After>
     requires { Ready 10000 text.now at q times totals.old }
     ensures read { collected_by text.now result totals.new
         ≡ sum_collected times totals.old (read_sum (read_bracket q depth) q (drop at text.now)) }
@@ -36,23 +35,17 @@ pub fn read_sum(
     let mut minus = is_minus(text, at);
     let mut exceeds = false;
     loop {
-        match read_term(text, next, q, depth, signed(minus, times), totals) {
-            After::Stopped => {
-                return After::Stopped;
-            }
-            After::At {
-                next: end,
-                exceeds: more,
-            } => {
-                exceeds = either(exceeds, more);
-                let sign = skip(text, end);
-                if !is_sign(text, sign) {
-                    return After::At { next: end, exceeds };
-                }
-                minus = is_minus(text, sign);
-                next = after_sign(text, sign);
-            }
+        let term = read_term(text, next, q, depth, signed(minus, times), totals)?;
+        exceeds |= term.exceeds;
+        let sign = skip(text, term.next);
+        if !is_sign(text, sign) {
+            return Some(After {
+                next: term.next,
+                exceeds,
+            });
         }
+        minus = is_minus(text, sign);
+        next = after_sign(text, sign);
     }
 }
 
@@ -65,39 +58,29 @@ fn read_term(
     depth: usize,
     times: i64,
     totals: &mut [i64; 17],
-) -> After
+) -> Option<After>
     requires { Ready 10000 text.now at q times totals.old }
     ensures read { collected_by text.now result totals.new
         ≡ term_collected times totals.old (read_term (read_bracket q depth) q (drop at text.now)) }
     ensures passed { Passed text.now at result totals.new }
 {
     if text.len() <= at {
-        return After::Stopped;
+        return None;
     }
     if !is_digit(text[at]) {
         return read_factor(text, at, q, depth, times, totals);
     }
-    match read_natural(text, at, 5) {
-        Natural::Malformed => After::Stopped,
-        Natural::Parsed { value, next } => {
-            let star = skip(text, next);
-            if stands(text, star, b'*') {
-                return read_factor(
-                    text,
-                    skip(text, star + 1),
-                    q,
-                    depth,
-                    scaled(times, value),
-                    totals,
-                );
-            }
-            add_at(totals, 0, scaled(times, value));
-            After::At {
-                next,
-                exceeds: false,
-            }
-        }
+    let number = read_natural(text, at, 5)?;
+    let star = skip(text, number.next);
+    let product = scaled(times, number.value);
+    if stands(text, star, b'*') {
+        return read_factor(text, skip(text, star + 1), q, depth, product, totals);
     }
+    add_at(totals, 0, product);
+    Some(After {
+        next: number.next,
+        exceeds: false,
+    })
 }
 
 // The unknown or the bracketed sum at place `at`.
@@ -109,7 +92,7 @@ fn read_factor(
     depth: usize,
     times: i64,
     totals: &mut [i64; 17],
-) -> After
+) -> Option<After>
     requires { Ready 1000000000 text.now at q times totals.old }
     ensures read { collected_by text.now result totals.new
         ≡ factor_collected times totals.old (read_factor (read_bracket q depth) q (drop at text.now)) }
@@ -119,18 +102,14 @@ fn read_factor(
         return read_bracket(text, at + 1, q, depth, times, totals);
     }
     if !stands(text, at, b'x') {
-        return After::Stopped;
+        return None;
     }
-    match read_index(text, at + 1, q) {
-        Natural::Malformed => After::Stopped,
-        Natural::Parsed { value, next } => {
-            add_at(totals, value as usize, times);
-            After::At {
-                next,
-                exceeds: false,
-            }
-        }
-    }
+    let index = read_index(text, at + 1, q)?;
+    add_at(totals, index.value as usize, times);
+    Some(After {
+        next: index.next,
+        exceeds: false,
+    })
 }
 
 // The bracketed sum after "(" at place `at`.
@@ -142,26 +121,22 @@ fn read_bracket(
     depth: usize,
     times: i64,
     totals: &mut [i64; 17],
-) -> After
+) -> Option<After>
     requires { Ready 1000000000 text.now at q times totals.old }
     ensures read { collected_by text.now result totals.new
         ≡ bracket_collected times totals.old (read_bracket q depth (drop at text.now)) }
     ensures passed { Passed text.now at result totals.new }
 {
     if depth == 0 {
-        return After::Stopped;
+        return None;
     }
-    match read_sum(text, skip(text, at), q, depth - 1, within(times), totals) {
-        After::Stopped => After::Stopped,
-        After::At { next, exceeds } => {
-            let close = skip(text, next);
-            if !stands(text, close, b')') {
-                return After::Stopped;
-            }
-            After::At {
-                next: close + 1,
-                exceeds: either(exceeds, out_of_range(times)),
-            }
-        }
+    let sum = read_sum(text, skip(text, at), q, depth - 1, within(times), totals)?;
+    let close = skip(text, sum.next);
+    if !stands(text, close, b')') {
+        return None;
     }
+    Some(After {
+        next: close + 1,
+        exceeds: sum.exceeds | out_of_range(times),
+    })
 }

@@ -1,5 +1,5 @@
 // Numbers collected: the constants at place 0, and unknown k at place k. Small functions with contracts in ℤ.
-ghost use Rattle.std.specs.Prelude.{◌≡◌, ◌||◌, ◌≤◌, pos, nat_abs, ◌+ℤ◌, ◌*ℤ◌, get_or};
+ghost use Rattle.std.specs.Prelude.{◌≡◌, ◌≤◌, pos, nat_abs, ◌+ℤ◌, ◌*ℤ◌, get_or};
 ghost use Rattle.definitions.specs.Refusals.{out_of_range};
 ghost use Rattle.equation_read.specs.Totals.{add_at, signed_by, bounded};
 
@@ -24,10 +24,7 @@ pub fn signed(minus: bool, times: i64) -> i64
     requires { nat_abs times ≤ 10000 }
     ensures { result ≡ signed_by minus times }
 {
-    if minus {
-        return -times;
-    }
-    times
+    if minus { -times } else { times }
 }
 
 pub fn scaled(times: i64, n: u32) -> i64
@@ -41,27 +38,12 @@ pub fn scaled(times: i64, n: u32) -> i64
 pub fn out_of_range(times: i64) -> bool
     ensures { result ≡ out_of_range times }
 {
-    if 10000 < times {
-        return true;
-    }
-    times < -10000
+    10000 < times.unsigned_abs()
 }
 
 // The multiplier with which the sum in a bracket is read: 0 if it is out of range, as the sum then does not matter.
 pub fn within(times: i64) -> i64
     ensures { result ≡ bounded times }
 {
-    if out_of_range(times) {
-        return 0;
-    }
-    times
-}
-
-pub fn either(a: bool, b: bool) -> bool
-    ensures { result ≡ a || b }
-{
-    if a {
-        return true;
-    }
-    b
+    if out_of_range(times) { 0 } else { times }
 }

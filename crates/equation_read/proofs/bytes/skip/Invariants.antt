@@ -1,7 +1,5 @@
 -- `equation_read::bytes::skip` meets its contract. Assumes nothing.
-use Prim.Native.Nat.{◌-◌}
-use mathlib.Core.Path.{◌≡◌}
-use lib.ListN.{length, drop}
+use Rattle.std.proofs.Common.{◌≡◌, ◌-◌, length, drop}
 use Rattle.equation_spec.specs.Reader.{skip}
 use Rattle.equation_read.proofs.bytes.skip.Given as goal
 

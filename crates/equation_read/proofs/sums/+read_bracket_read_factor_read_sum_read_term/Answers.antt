@@ -1,9 +1,6 @@
 -- The readers of sums, terms, factors and brackets meet their contracts, one by the others: the depth falls with each bracket. Assumes nothing.
-use Rattle.std.proofs.Common.{◌+◌, ◌≤◌, sym, ap, ◌∙◌, arith, rules, pos, ◌*ℤ◌}
-use native.Mathlib.Nat.{pos_of_ne-zero}
-use mir.Facts.{to_z-of_z}
-use mir.Syntax.{w64}
-use mir.Val.{SFits}
+use Rattle.std.proofs.Common.{◌+◌, ◌≤◌, sym, ap, ◌∙◌, arith, rules, pos, ◌*ℤ◌, w64, SFits, to_z-of_z}
+use Rattle.std.proofs.Math.Nat.{pos_of_ne-zero}
 use Rattle.equation_read.specs.Totals.{signed_by, bounded}
 use Rattle.equation_read.specs.SizeLaws.{product_small, bounded_small}
 use Rattle.equation_read.specs.ByteLaws.{starts_inside}
@@ -35,39 +32,40 @@ pub read_bracket-returns-then-not-stands-clause-read : goal.read_bracket-returns
 read_bracket-returns-then-not-stands-clause-read t c =
     let f : SFits w64 c.within.result = search rules in
     let m = to_z-of_z {w = w64} f ∙ c.within.ensures ∙ ap bounded (to_z-of_z c.ranges.times) in
-    let h = rw (c.in-At.is, m) at c.read_sum.ensures.read in
+    let h = rw m at c.in_ok-sum.ensures.read in
     bracket_open
     c.args.q c.args.depth c.args.times c.args.totals.now c.args.text.now c.args.at c.skip.result
     c.if-depth-eq0.false c.skip.ensures
-    c.in-At.next c.skip-close.result h c.skip-close.ensures (sym c.stands.ensures ∙ c.if-not-stands.true)
+    c.in_ok-sum.sum.next c.skip-close.result h c.skip-close.ensures (sym c.stands.ensures ∙ c.if-not-stands.true)
 
 pub read_bracket-overflow_add-result : goal.read_bracket-overflow_add-result
 read_bracket-overflow_add-result t c =
     omega (arith, starts_inside c.args.text.now c.skip-close.result 41 (sym c.stands.ensures ∙ c.if-not-stands.false), c.well_formed)
 
-pub read_bracket-returns-in-Stopped-clause-read : goal.read_bracket-returns-in-Stopped-clause-read
-read_bracket-returns-in-Stopped-clause-read t c =
+pub read_bracket-returns-in_err-sum-clause-read : goal.read_bracket-returns-in_err-sum-clause-read
+read_bracket-returns-in_err-sum-clause-read t c =
     let f : SFits w64 c.within.result = search rules in
     let m = to_z-of_z {w = w64} f ∙ c.within.ensures ∙ ap bounded (to_z-of_z c.ranges.times) in
-    let h = rw (c.in-Stopped.is, m) at c.read_sum.ensures.read in
-    bracket_stopped
+    let h = rw m at c.in_err-sum.ensures.read in
+    rw c.from_residual.ensures
+    (bracket_stopped
     c.args.q c.args.depth c.args.times c.args.totals.now c.args.text.now c.args.at c.skip.result
-    c.if-depth-eq0.false c.skip.ensures h
+    c.if-depth-eq0.false c.skip.ensures h)
 
-pub read_bracket-returns-else-not-stands : goal.read_bracket-returns-else-not-stands
-read_bracket-returns-else-not-stands t c =
+pub read_bracket-returns : goal.read_bracket-returns
+read_bracket-returns t c =
     let f : SFits w64 c.within.result = search rules in
     let text = c.args.text.now in
     let m = to_z-of_z {w = w64} f ∙ c.within.ensures ∙ ap bounded (to_z-of_z c.ranges.times) in
-    let h = rw (c.in-At.is, m) at c.read_sum.ensures.read in
-    let a = rw c.in-At.is at c.read_sum.ensures.passed in
+    let h = rw m at c.in_ok-sum.ensures.read in
+    let a = c.in_ok-sum.ensures.passed in
     let x = sym c.stands.ensures ∙ c.if-not-stands.false in
     let y = skip_left text c.args.at c.skip.result c.skip.ensures in
-    let v = skip_left text c.in-At.next c.skip-close.result c.skip-close.ensures in record {
-      read = rw (c.either.ensures, c.out_of_range.ensures, to_z-of_z c.ranges.times)
+    let v = skip_left text c.in_ok-sum.sum.next c.skip-close.result c.skip-close.ensures in record {
+      read = rw (c.out_of_range.ensures, to_z-of_z c.ranges.times)
           (bracket_closed
           c.args.q c.args.depth c.args.times c.args.totals.now text c.args.at c.skip.result c.if-depth-eq0.false c.skip.ensures
-          c.in-At.next c.skip-close.result h c.skip-close.ensures x);
+          c.in_ok-sum.sum.next c.skip-close.result h c.skip-close.ensures x);
       passed = record { less = omega (arith, a.less); room = less_left (omega arith) a.room };
     }
 
@@ -99,24 +97,25 @@ read_factor-overflow_add-at-2 t c =
 
 pub read_factor-add_at-requires : goal.read_factor-add_at-requires
 read_factor-add_at-requires t c =
-    let h = rw c.in-Parsed.is at c.read_index.ensures in
-    let i : c.in-Parsed.value ≤ c.args.q = index_most c.args.q c.in-Parsed.value _ _ h in (
+    let h = c.in_ok-index.ensures in
+    let i : c.in_ok-index.index.value ≤ c.args.q = index_most c.args.q c.in_ok-index.index.value _ _ h in (
       omega (arith, i, c.requires.few),
-      total_small c.in-Parsed.value c.requires.room,
+      total_small c.in_ok-index.index.value c.requires.room,
       rw (to_z-of_z c.ranges.times) c.requires.multiple,
     )
 
-pub read_factor-returns-in-Malformed-clause-read : goal.read_factor-returns-in-Malformed-clause-read
-read_factor-returns-in-Malformed-clause-read t c =
-    let h = rw c.in-Malformed.is at c.read_index.ensures in
-    factor_malformed c.args.q c.args.depth c.args.times c.args.totals.now c.args.text.now c.args.at (sym c.stands-2.ensures ∙ c.if-not-stands.false) h
+pub read_factor-returns-in_err-index-clause-read : goal.read_factor-returns-in_err-index-clause-read
+read_factor-returns-in_err-index-clause-read t c =
+    let h = c.in_err-index.ensures in
+    rw c.from_residual.ensures
+    (factor_malformed c.args.q c.args.depth c.args.times c.args.totals.now c.args.text.now c.args.at (sym c.stands-2.ensures ∙ c.if-not-stands.false) h)
 
-pub read_factor-returns-in-Parsed : goal.read_factor-returns-in-Parsed
-read_factor-returns-in-Parsed t c =
+pub read_factor-returns : goal.read_factor-returns
+read_factor-returns t c =
     let text = c.args.text.now in
-    let n = c.in-Parsed.value in
-    let h = rw c.in-Parsed.is at c.read_index.ensures in
-    let y = index_left text (c.args.at + 1) c.in-Parsed.next c.args.q n h in record {
+    let n = c.in_ok-index.index.value in
+    let h = c.in_ok-index.ensures in
+    let y = index_left text (c.args.at + 1) c.in_ok-index.index.next c.args.q n h in record {
       read = rw (c.add_at.ensures, to_z-of_z c.ranges.times)
           (factor_unknown c.args.q c.args.depth c.args.times c.args.totals.now text c.args.at n
           (sym c.stands-2.ensures ∙ c.if-not-stands.false) h);
@@ -129,8 +128,8 @@ read_factor-returns-in-Parsed t c =
 
 -- ---- a sum
 
-pub read_sum-loop-end-init : goal.read_sum-loop-end-init
-read_sum-loop-end-init t c =
+pub read_sum-loop-term-init : goal.read_sum-loop-term-init
+read_sum-loop-term-init t c =
     rw (to_z-of_z c.ranges.times, c.is_minus-minus.ensures)
     (due_first c.args.q c.args.depth c.args.text.now c.args.at c.args.times c.args.totals.now c.after_sign-next.result
     c.after_sign-next.ensures c.requires.room)
@@ -144,57 +143,56 @@ read_sum-read_term-requires t c =
       omega (arith, c.decreases),
       record {
         few = c.requires.few;
-        multiple = rw (to_z-of_z {w = w64} f, c.signed.ensures, to_z-of_z c.ranges.times) (signed_small c.loop-end.minus c.args.times c.requires.multiple);
-        room = c.loop-end.invariant.room;
+        multiple = rw (to_z-of_z {w = w64} f, c.signed.ensures, to_z-of_z c.ranges.times) (signed_small c.loop-term.minus c.args.times c.requires.multiple);
+        room = c.loop-term.invariant.room;
       },
     )
 
-pub read_sum-returns-in-Stopped-clause-read : goal.read_sum-returns-in-Stopped-clause-read
-read_sum-returns-in-Stopped-clause-read t c =
+pub read_sum-returns-in_err-term-clause-read : goal.read_sum-returns-in_err-term-clause-read
+read_sum-returns-in_err-term-clause-read t c =
     let f : SFits w64 c.signed.result = search rules in
-    let inv = rw (to_z-of_z c.ranges.times) at c.loop-end.invariant in
-    let m = to_z-of_z {w = w64} f ∙ c.signed.ensures ∙ ap (signed_by c.loop-end.minus) (to_z-of_z c.ranges.times) in
-    let h = rw (c.in-Stopped.is, m) at c.read_term.ensures.read in
-    due_stopped c.args.q c.args.depth c.args.text.now c.args.at c.args.times c.args.totals.now inv h
+    let inv = rw (to_z-of_z c.ranges.times) at c.loop-term.invariant in
+    let m = to_z-of_z {w = w64} f ∙ c.signed.ensures ∙ ap (signed_by c.loop-term.minus) (to_z-of_z c.ranges.times) in
+    let h = rw m at c.in_err-term.ensures.read in
+    rw c.from_residual.ensures (due_stopped c.args.q c.args.depth c.args.text.now c.args.at c.args.times c.args.totals.now inv h)
 
 pub read_sum-returns-then-not-is_sign : goal.read_sum-returns-then-not-is_sign
 read_sum-returns-then-not-is_sign t c =
     let f : SFits w64 c.signed.result = search rules in
-    let inv = rw (to_z-of_z c.ranges.times) at c.loop-end.invariant in
-    let m = to_z-of_z {w = w64} f ∙ c.signed.ensures ∙ ap (signed_by c.loop-end.minus) (to_z-of_z c.ranges.times) in
-    let h = rw (c.in-At.is, m) at c.read_term.ensures.read in
-    let a = rw c.in-At.is at c.read_term.ensures.passed in record {
-      read = rw c.either-exceeds.ensures
-          (due_over
-          c.args.q c.args.depth c.args.text.now c.args.at c.args.times c.args.totals.now inv c.in-At.end
+    let inv = rw (to_z-of_z c.ranges.times) at c.loop-term.invariant in
+    let m = to_z-of_z {w = w64} f ∙ c.signed.ensures ∙ ap (signed_by c.loop-term.minus) (to_z-of_z c.ranges.times) in
+    let h = rw m at c.in_ok-term.ensures.read in
+    let a = c.in_ok-term.ensures.passed in record {
+      read = (due_over
+          c.args.q c.args.depth c.args.text.now c.args.at c.args.times c.args.totals.now inv c.in_ok-term.term.next
           c.skip-sign.result h c.skip-sign.ensures
           (sym c.is_sign.ensures ∙ c.if-not-is_sign.true));
       passed = record { less = omega (arith, a.less, inv.onward); room = a.room };
     }
 
-pub read_sum-loop-end-smaller : goal.read_sum-loop-end-smaller
-read_sum-loop-end-smaller t c =
+pub read_sum-loop-term-smaller : goal.read_sum-loop-term-smaller
+read_sum-loop-term-smaller t c =
     let text = c.args.text.now in
-    let a = rw c.in-At.is at c.read_term.ensures.passed in
+    let a = c.in_ok-term.ensures.passed in
     omega (
       arith,
       a.less,
-      skip_left text c.in-At.end c.skip-sign.result c.skip-sign.ensures,
-      after_left text c.skip-sign.result c.after_sign-next-in-At.result c.after_sign-next-in-At.ensures,
+      skip_left text c.in_ok-term.term.next c.skip-sign.result c.skip-sign.ensures,
+      after_left text c.skip-sign.result c.after_sign-next-in-loop-term.result c.after_sign-next-in-loop-term.ensures,
     )
 
-pub read_sum-loop-end-preserved : goal.read_sum-loop-end-preserved
-read_sum-loop-end-preserved t c =
+pub read_sum-loop-term-preserved : goal.read_sum-loop-term-preserved
+read_sum-loop-term-preserved t c =
     let f : SFits w64 c.signed.result = search rules in
-    let inv = rw (to_z-of_z c.ranges.times) at c.loop-end.invariant in
-    let m = to_z-of_z {w = w64} f ∙ c.signed.ensures ∙ ap (signed_by c.loop-end.minus) (to_z-of_z c.ranges.times) in
-    let h = rw (c.in-At.is, m) at c.read_term.ensures.read in
-    let a = rw c.in-At.is at c.read_term.ensures.passed in
-    rw (to_z-of_z c.ranges.times, c.either-exceeds.ensures, c.is_minus-minus-in-At.ensures)
+    let inv = rw (to_z-of_z c.ranges.times) at c.loop-term.invariant in
+    let m = to_z-of_z {w = w64} f ∙ c.signed.ensures ∙ ap (signed_by c.loop-term.minus) (to_z-of_z c.ranges.times) in
+    let h = rw m at c.in_ok-term.ensures.read in
+    let a = c.in_ok-term.ensures.passed in
+    rw (to_z-of_z c.ranges.times, c.is_minus-minus-in-loop-term.ensures)
     (due_next
-    c.args.q c.args.depth c.args.text.now c.args.at c.args.times c.args.totals.now inv c.in-At.end
+    c.args.q c.args.depth c.args.text.now c.args.at c.args.times c.args.totals.now inv c.in_ok-term.term.next
     c.skip-sign.result h c.skip-sign.ensures
-    c.after_sign-next-in-At.result (sym c.is_sign.ensures ∙ c.if-not-is_sign.false) c.after_sign-next-in-At.ensures a.less a.room)
+    c.after_sign-next-in-loop-term.result (sym c.is_sign.ensures ∙ c.if-not-is_sign.false) c.after_sign-next-in-loop-term.ensures a.less a.room)
 
 -- ---- a term
 
@@ -218,17 +216,17 @@ read_term-returns-then-not-is_digit t c =
 pub read_term-overflow_add-star : goal.read_term-overflow_add-star
 read_term-overflow_add-star t c = omega (arith, starts_inside c.args.text.now c.skip-star.result 42 (sym c.stands.ensures ∙ c.if-stands.true), c.well_formed)
 
-pub read_term-scaled-requires : goal.read_term-scaled-requires
-read_term-scaled-requires t c =
-    (rw (to_z-of_z c.ranges.times) c.requires.multiple, numeral_most c.in-Parsed.value _ _ (rw c.in-Parsed.is at c.read_natural.ensures))
+pub read_term-scaled-product-requires : goal.read_term-scaled-product-requires
+read_term-scaled-product-requires t c =
+    (rw (to_z-of_z c.ranges.times) c.requires.multiple, numeral_most c.in_ok-number.number.value _ _ c.in_ok-number.ensures)
 
 pub read_term-read_factor-requires-then-stands : goal.read_term-read_factor-requires-then-stands
 read_term-read_factor-requires-then-stands t c =
-    let f : SFits w64 c.scaled.result = search rules in
+    let f : SFits w64 c.scaled-product.result = search rules in
     let text = c.args.text.now in
-    let h = rw c.in-Parsed.is at c.read_natural.ensures in
-    let n = c.in-Parsed.value in
-    let j = c.in-Parsed.next in
+    let h = c.in_ok-number.ensures in
+    let n = c.in_ok-number.number.value in
+    let j = c.in_ok-number.number.next in
     let y = numeral_left text c.args.at j n h in
     let w = skip_left text j c.skip-star.result c.skip-star.ensures in
     let o = skip_left text (c.skip-star.result + 1) c.skip.result c.skip.ensures in (
@@ -236,7 +234,7 @@ read_term-read_factor-requires-then-stands t c =
       record {
         few = c.requires.few;
         multiple =
-            rw (to_z-of_z {w = w64} f, c.scaled.ensures, to_z-of_z c.ranges.times)
+            rw (to_z-of_z {w = w64} f, c.scaled-product.ensures, to_z-of_z c.ranges.times)
             (product_small c.args.times n c.requires.multiple (numeral_most n _ _ h));
         room = less_left (omega arith) c.requires.room;
       },
@@ -244,15 +242,15 @@ read_term-read_factor-requires-then-stands t c =
 
 pub read_term-returns-then-stands : goal.read_term-returns-then-stands
 read_term-returns-then-stands t c =
-    let f : SFits w64 c.scaled.result = search rules in
+    let f : SFits w64 c.scaled-product.result = search rules in
     let text = c.args.text.now in
-    let h = rw c.in-Parsed.is at c.read_natural.ensures in
-    let n = c.in-Parsed.value in
-    let j = c.in-Parsed.next in
+    let h = c.in_ok-number.ensures in
+    let n = c.in_ok-number.number.value in
+    let j = c.in_ok-number.number.next in
     let y = numeral_left text c.args.at j n h in
     let w = skip_left text j c.skip-star.result c.skip-star.ensures in
     let o = skip_left text (c.skip-star.result + 1) c.skip.result c.skip.ensures in
-    let z = to_z-of_z {w = w64} f ∙ c.scaled.ensures ∙ ap (λ a. a *ℤ pos n) (to_z-of_z c.ranges.times) in record {
+    let z = to_z-of_z {w = w64} f ∙ c.scaled-product.ensures ∙ ap (λ a. a *ℤ pos n) (to_z-of_z c.ranges.times) in record {
       read = term_times
           c.args.q c.args.depth c.args.times c.args.totals.now text c.args.at n j c.skip-star.result c.if-text-at.false
           (sym c.is_digit.ensures ∙ c.if-not-is_digit.false) h c.skip-star.ensures c.skip.result
@@ -261,35 +259,32 @@ read_term-returns-then-stands t c =
       passed = passed_from text c.args.at c.skip.result c.read_factor-then-stands.result _ (omega arith) c.read_factor-then-stands.ensures.passed;
     }
 
-pub read_term-scaled-requires-in-Parsed : goal.read_term-scaled-requires-in-Parsed
-read_term-scaled-requires-in-Parsed t c =
-    (rw (to_z-of_z c.ranges.times) c.requires.multiple, numeral_most c.in-Parsed.value _ _ (rw c.in-Parsed.is at c.read_natural.ensures))
-
 pub read_term-add_at-requires : goal.read_term-add_at-requires
 read_term-add_at-requires t c =
-    let f : SFits w64 c.scaled-in-Parsed.result = search rules in
-    let n = c.in-Parsed.value in
-    let h = rw c.in-Parsed.is at c.read_natural.ensures in (
+    let f : SFits w64 c.scaled-product.result = search rules in
+    let n = c.in_ok-number.number.value in
+    let h = c.in_ok-number.ensures in (
       omega arith,
       total_small 0 c.requires.room,
-      rw (to_z-of_z {w = w64} f, c.scaled-in-Parsed.ensures, to_z-of_z c.ranges.times)
+      rw (to_z-of_z {w = w64} f, c.scaled-product.ensures, to_z-of_z c.ranges.times)
           (product_small c.args.times n c.requires.multiple (numeral_most n _ _ h)),
     )
 
-pub read_term-returns-in-Malformed-clause-read : goal.read_term-returns-in-Malformed-clause-read
-read_term-returns-in-Malformed-clause-read t c =
-    let h = rw c.in-Malformed.is at c.read_natural.ensures in
-    term_malformed c.args.q c.args.depth c.args.times c.args.totals.now c.args.text.now c.args.at c.if-text-at.false
-    (sym c.is_digit.ensures ∙ c.if-not-is_digit.false) h
+pub read_term-returns-in_err-number-clause-read : goal.read_term-returns-in_err-number-clause-read
+read_term-returns-in_err-number-clause-read t c =
+    let h = c.in_err-number.ensures in
+    rw c.from_residual.ensures
+    (term_malformed c.args.q c.args.depth c.args.times c.args.totals.now c.args.text.now c.args.at c.if-text-at.false
+    (sym c.is_digit.ensures ∙ c.if-not-is_digit.false) h)
 
-pub read_term-returns-else-stands : goal.read_term-returns-else-stands
-read_term-returns-else-stands t c =
-    let f : SFits w64 c.scaled-in-Parsed.result = search rules in
+pub read_term-returns : goal.read_term-returns
+read_term-returns t c =
+    let f : SFits w64 c.scaled-product.result = search rules in
     let text = c.args.text.now in
-    let h = rw c.in-Parsed.is at c.read_natural.ensures in
-    let n = c.in-Parsed.value in
-    let j = c.in-Parsed.next in
-    let z = to_z-of_z {w = w64} f ∙ c.scaled-in-Parsed.ensures ∙ ap (λ a. a *ℤ pos n) (to_z-of_z c.ranges.times) in record {
+    let h = c.in_ok-number.ensures in
+    let n = c.in_ok-number.number.value in
+    let j = c.in_ok-number.number.next in
+    let z = to_z-of_z {w = w64} f ∙ c.scaled-product.ensures ∙ ap (λ a. a *ℤ pos n) (to_z-of_z c.ranges.times) in record {
       read = rw (c.add_at.ensures, z)
           (term_number
           c.args.q c.args.depth c.args.times c.args.totals.now text c.args.at n j c.skip-star.result c.if-text-at.false

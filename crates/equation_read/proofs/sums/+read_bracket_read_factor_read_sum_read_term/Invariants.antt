@@ -15,8 +15,8 @@ decreases-read_sum l = 4 * l.depth + 3
 abbrev pub decreases-read_term : goal.decreases-read_term
 decreases-read_term l = 4 * l.depth + 2
 
-abbrev pub invariant-read_sum-loop-end : goal.invariant-read_sum-loop-end
-invariant-read_sum-loop-end l = Due l.q l.depth l.text l.at l.times l.initial.totals l.totals l.next l.minus l.exceeds
+abbrev pub invariant-read_sum-loop-term : goal.invariant-read_sum-loop-term
+invariant-read_sum-loop-term l = Due l.q l.depth l.text l.at l.times l.initial.totals l.totals l.next l.minus l.exceeds
 
-abbrev pub decreases-read_sum-loop-end : goal.decreases-read_sum-loop-end
-decreases-read_sum-loop-end l = length l.text - l.next
+abbrev pub decreases-read_sum-loop-term : goal.decreases-read_sum-loop-term
+decreases-read_sum-loop-term l = length l.text - l.next
