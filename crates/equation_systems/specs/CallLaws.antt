@@ -1,5 +1,5 @@
 -- What the call answers, case by case. Assumes nothing.
-use Rattle.std.specs.Prelude.{ℕ, ◌≤◌, ◌<◌, List, [], ◌∷◌, ◌++◌, ◌≡◌, ℤ, length, drop}
+use Rattle.std.specs.Prelude.{ℕ, ◌≤◌, ◌<◌, List, [], ◌∷◌, ◌++◌, ◌≡◌, ℤ, Err, length, drop}
 use borrow.Author.Tests.{lt-ltb, le-ltb, lt-leb, le-leb}
 use Rattle.definitions.specs.Answers.{refuse_with, ◌then◌}
 use Rattle.texts.specs.Reading.{most_bytes}
@@ -7,6 +7,10 @@ use Rattle.equation_spec.specs.Lines.{line_count}
 use Rattle.equation_spec.specs.Systems as form
 use Rattle.equation_spec.specs.Systems.{Rows, rows, refused_at, read_lines, accepted, of_rows}
 use Rattle.equation_spec.specs.Systems.{unless, system_checks, system_outcome, hand_out, table_checks, handed_out, read_system}
+use Rattle.equation_systems.specs.Answer.{number_of, values_of, rows_by, RefusesLine}
+use Rattle.equation_systems.specs.declared.SystemRefusal.{SystemRefusal}
+use Rattle.equation_systems.specs.declared.lines.BadLine.{BadLine}
+use Rattle.equation_systems.specs.declared.lines.BadLine.TheVariants as bad
 
 -- ---- the tables
 
@@ -30,6 +34,11 @@ module _ (p : ℕ) (r : Rows) (coefs rights : List ℤ) where
   pub line_refused : {n k : ℕ} {values : List ℕ} → refused_at n k values ≡ r → form.refused k (n ∷ values) coefs rights ≡ handed_out (of_rows p r) coefs rights
   unfolding handed_out of_rows
   line_refused e = rw (← e)
+
+  pub bad_line : (zs rs : List ℤ) (line : BadLine) (why : SystemRefusal) → RefusesLine line why → rows_by (Err line) zs rs ≡ r
+      → form.refused (number_of why) (values_of why) coefs rights ≡ handed_out (of_rows p r) coefs rights
+  bad_line zs rs (bad.Newline n) why e h = rw e (line_refused h)
+  bad_line zs rs (bad.Refused n w) why e h = rw e (line_refused h)
 
   pub lines_accepted : {zs rs : List ℤ} {a : form.Answer} → rows zs rs ≡ r → a ≡ handed_out (accepted p zs rs) coefs rights
       → a ≡ handed_out (of_rows p r) coefs rights

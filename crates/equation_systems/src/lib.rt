@@ -3,9 +3,9 @@
 
 ghost use Rattle.std.specs.Prelude.{◌≡◌, [], ◌≤◌};
 ghost use Rattle.equation_spec.specs.Systems.{read_lines, of_rows, accepted, handed_out, read_system};
-ghost use Rattle.equation_systems.specs.Answer.{answer_of};
+ghost use Rattle.equation_systems.specs.Answer.{answer_of, RefusesLine};
 
-use crate::lines::Lines;
+use crate::lines::BadLine;
 use equation_read::equation::EquationRefusal;
 use texts::rows::copy;
 
@@ -22,33 +22,36 @@ pub enum SystemRefusal {
     Tables,
 }
 
-// What reading a system answers.
-#[derive(Clone, Copy)]
-pub enum SystemRead {
-    System { p: usize },
-    Refused(SystemRefusal),
+impl From<BadLine> for SystemRefusal {
+    ghost from_gives = { λ line e. RefusesLine line e };
+
+    fn from(line: BadLine) -> SystemRefusal {
+        match line {
+            BadLine::Newline(n) => SystemRefusal::Newline(n),
+            BadLine::Refused(n, why) => SystemRefusal::Line(n, why),
+        }
+    }
 }
 
-// Reads the system that `text` writes for `q` unknowns, one equation a line. Its coefficients go to the beginning of `coefs`, row by row, and its right sides
+// Reads the system that `text` writes for `q` unknowns, one equation a line, and answers how many there are. Its coefficients go to the beginning of `coefs`, row by row, and its right sides
 // to the beginning of `rights`.
-pub fn read_system(text: &[u8], q: usize, coefs: &mut [i32], rights: &mut [i32]) -> SystemRead
+pub fn read_system(
+    text: &[u8],
+    q: usize,
+    coefs: &mut [i32],
+    rights: &mut [i32],
+) -> Result<usize, SystemRefusal>
     ensures { answer_of result coefs.new rights.new ≡ read_system q text.now coefs.old rights.old }
 {
     if 4096 < text.len() {
-        return SystemRead::Refused(SystemRefusal::Length);
+        return Err(SystemRefusal::Length);
     }
     let p = lines::count(text);
-    if p < 1 {
-        return SystemRead::Refused(SystemRefusal::Equations);
+    if p < 1 || 8 < p {
+        return Err(SystemRefusal::Equations);
     }
-    if 8 < p {
-        return SystemRead::Refused(SystemRefusal::Equations);
-    }
-    if q < 1 {
-        return SystemRead::Refused(SystemRefusal::Unknowns);
-    }
-    if 16 < q {
-        return SystemRead::Refused(SystemRefusal::Unknowns);
+    if q < 1 || 16 < q {
+        return Err(SystemRefusal::Unknowns);
     }
     read_equations(text, p, q, coefs, rights)
 }
@@ -60,21 +63,15 @@ fn read_equations(
     q: usize,
     coefs: &mut [i32],
     rights: &mut [i32],
-) -> SystemRead
+) -> Result<usize, SystemRefusal>
     requires { (p ≤ 8) × (q ≤ 16) }
     ensures { answer_of result coefs.new rights.new
         ≡ handed_out (of_rows p (read_lines p q 1 [] [] text.now)) coefs.old rights.old }
 {
     let mut found = [0i32; 128];
     let mut sides = [0i32; 8];
-    match lines::read_lines(text, p, q, &mut found, &mut sides) {
-        Lines::Newline(line) => SystemRead::Refused(SystemRefusal::Newline(line)),
-        Lines::Refused(line, why) => SystemRead::Refused(SystemRefusal::Line(line, why)),
-        Lines::Read => {
-            let n = p * q;
-            hand_out(p, &found[..n], &sides[..p], coefs, rights)
-        }
-    }
+    lines::read_lines(text, p, q, &mut found, &mut sides)?;
+    hand_out(p, &found[..p * q], &sides[..p], coefs, rights)
 }
 
 // What was read, where both tables are long enough for it.
@@ -84,17 +81,17 @@ fn hand_out(
     sides: &[i32],
     coefs: &mut [i32],
     rights: &mut [i32],
-) -> SystemRead
+) -> Result<usize, SystemRefusal>
     ensures { answer_of result coefs.new rights.new
         ≡ handed_out (accepted p found.now sides.now) coefs.old rights.old }
 {
     if coefs.len() < found.len() {
-        return SystemRead::Refused(SystemRefusal::Tables);
+        return Err(SystemRefusal::Tables);
     }
     if rights.len() < sides.len() {
-        return SystemRead::Refused(SystemRefusal::Tables);
+        return Err(SystemRefusal::Tables);
     }
     copy(found, coefs);
     copy(sides, rights);
-    SystemRead::System { p }
+    Ok(p)
 }

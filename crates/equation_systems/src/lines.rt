@@ -5,21 +5,13 @@ ghost use Rattle.equation_spec.specs.Lines.{line_length, line_count};
 ghost use Rattle.equation_spec.specs.Systems.{rows, at_line, read_lines};
 ghost use Rattle.equation_systems.specs.Answer.{rows_by, row_by, Shape};
 
-use equation_read::equation::{EquationRead, EquationRefusal, read_equation};
+use equation_read::equation::{EquationRefusal, read_equation};
 
-// All lines; or the first that no newline ends, or that is refused, by its number from 1.
+// The first line that no newline ends, or that is refused, by its number from 1.
 #[derive(Clone, Copy)]
-pub enum Lines {
-    Read,
+pub enum BadLine {
     Newline(usize),
     Refused(usize, EquationRefusal),
-}
-
-// One line.
-#[derive(Clone, Copy)]
-pub enum Row {
-    Read,
-    Refused(EquationRefusal),
 }
 
 // How many lines the text has.
@@ -27,14 +19,10 @@ pub fn count(text: &[u8]) -> usize
     ensures { result ≡ line_count text.now }
 {
     let mut n = 0;
-    let mut i = text.len();
-    while 0 < i {
-        i -= 1;
+    for i in (0..text.len()).rev() {
         if text[i] == b'\n' {
             n += 1;
-            continue;
-        }
-        if n == 0 {
+        } else if n == 0 {
             n = 1;
         }
     }
@@ -47,52 +35,50 @@ pub fn line_end(text: &[u8], at: usize) -> usize
     ensures { (result ≡ at + line_length (drop at text.now)) × (result ≤ length text.now) }
 {
     let mut end = at;
-    while end < text.len() {
-        if text[end] == b'\n' {
-            return end;
-        }
+    while end < text.len() && text[end] != b'\n' {
         end += 1;
     }
     end
 }
 
 // The first `p` lines, equations in `q` unknowns. The coefficients go to the beginning of `coefs`, row by row, the right sides to that of `rights`.
-pub fn read_lines(text: &[u8], p: usize, q: usize, coefs: &mut [i32], rights: &mut [i32]) -> Lines
+pub fn read_lines(
+    text: &[u8],
+    p: usize,
+    q: usize,
+    coefs: &mut [i32],
+    rights: &mut [i32],
+) -> Result<(), BadLine>
     requires { Shape p q (length coefs.old) (length rights.old) }
     ensures { rows_by result (take (p * q) coefs.new) (take p rights.new) ≡ read_lines p q 1 [] [] text.now }
 {
     let mut at = 0;
-    let mut i = 0;
-    while i < p {
+    for i in 0..p {
         let end = line_end(text, at);
         if text.len() <= end {
-            return Lines::Newline(i + 1);
+            return Err(BadLine::Newline(i + 1));
         }
-        match read_row(&text[at..end], q, i, coefs, rights) {
-            Row::Refused(why) => {
-                return Lines::Refused(i + 1, why);
-            }
-            Row::Read => {
-                at = end + 1;
-            }
+        if let Err(why) = read_row(&text[at..end], q, i, coefs, rights) {
+            return Err(BadLine::Refused(i + 1, why));
         }
-        i += 1;
+        at = end + 1;
     }
-    Lines::Read
+    Ok(())
 }
 
 // The equation on line `i`, from 0: its coefficients go to row `i` of `coefs`, its right side to place `i` of `rights`.
-fn read_row(line: &[u8], q: usize, i: usize, coefs: &mut [i32], rights: &mut [i32]) -> Row
+fn read_row(
+    line: &[u8],
+    q: usize,
+    i: usize,
+    coefs: &mut [i32],
+    rights: &mut [i32],
+) -> Result<(), EquationRefusal>
     requires { (i * q + q ≤ length coefs.old) × (i < length rights.old) }
     ensures { row_by (i + 1) result (take (i * q + q) coefs.new) (take (i + 1) rights.new)
         ≡ at_line (i + 1) (take (i * q) coefs.old) (take i rights.old) (outcome q q line.now) rows }
 {
     let base = i * q;
-    match read_equation(line, q, &mut coefs[base..base + q]) {
-        EquationRead::Refused(why) => Row::Refused(why),
-        EquationRead::Equation { right } => {
-            rights[i] = right;
-            Row::Read
-        }
-    }
+    rights[i] = read_equation(line, q, &mut coefs[base..base + q])?;
+    Ok(())
 }
