@@ -8,48 +8,57 @@ ghost use Rattle.definitions.specs.Refusals.{out_of_range};
 ghost use Rattle.equation_spec.specs.Writing.{multiple as multiple_text, terms as terms_text, written, put_out, write};
 ghost use Rattle.equation_write.specs.Texts.{lead_text, term_text, InRange};
 ghost use Rattle.equation_write.specs.Answer.{wrote_by};
+ghost use Rattle.equation_write.specs.declared.WriteRefusal.TheVariants.{Row};
 
-use calls::{Check, Refusal};
+use calls::Refusal;
 use checks::coefficients::out_of_range;
 use texts::put::{byte, number, signed, size, word};
 
-// What writing a row answers: how many bytes it has, or why it is not written; specs/Answer.antt has the papers' number for each case.
+// Why a row is not written; specs/Answer.antt has the papers' number for each.
 #[derive(Clone, Copy)]
-pub enum EquationWritten {
-    Written(usize),
-    Refused(Refusal),
+pub enum WriteRefusal {
+    Row(Refusal),
     RightSide,
     Space,
 }
 
-// Writes the equation of `row`, the coefficients of `q` unknowns, with the right side `right` to the beginning of `out`.
-pub fn write_equation(q: usize, row: &[i32], right: i32, out: &mut [u8]) -> EquationWritten
-    ensures { wrote_by result out.new ≡ write q row.now right out.old }
-{
-    if q < 1 {
-        return EquationWritten::Refused(Refusal::Unknowns);
-    }
-    if 16 < q {
-        return EquationWritten::Refused(Refusal::Unknowns);
-    }
-    if row.len() != q {
-        return EquationWritten::Refused(Refusal::CoefficientCount);
-    }
-    match checks::coefficients::check(row) {
-        Check::Refuse(why) => EquationWritten::Refused(why),
-        Check::Pass => write_row(row, right, out),
+impl From<Refusal> for WriteRefusal {
+    ghost from_gives = { λ why e. e ≡ Row why };
+
+    fn from(why: Refusal) -> WriteRefusal {
+        WriteRefusal::Row(why)
     }
 }
 
+// Writes the equation of `row`, the coefficients of `q` unknowns, with the right side `right` to the beginning of `out`, and
+// answers how many bytes it has.
+pub fn write_equation(
+    q: usize,
+    row: &[i32],
+    right: i32,
+    out: &mut [u8],
+) -> Result<usize, WriteRefusal>
+    ensures { wrote_by result out.new ≡ write q row.now right out.old }
+{
+    if q < 1 || 16 < q {
+        return Err(WriteRefusal::Row(Refusal::Unknowns));
+    }
+    if row.len() != q {
+        return Err(WriteRefusal::Row(Refusal::CoefficientCount));
+    }
+    checks::coefficients::check(row)?;
+    write_row(row, right, out)
+}
+
 // A row whose coefficients are in range.
-fn write_row(row: &[i32], right: i32, out: &mut [u8]) -> EquationWritten
+fn write_row(row: &[i32], right: i32, out: &mut [u8]) -> Result<usize, WriteRefusal>
     requires { (length row.now ≤ 16) × InRange row.now }
     ensures { wrote_by result out.new
         ≡ put_out (refuse_if (out_of_range right) 15 then refuse_if (ltb (length out.old) (length (written row.now right))) 29)
         (written row.now right) out.old }
 {
     if out_of_range(right) {
-        return EquationWritten::RightSide;
+        return Err(WriteRefusal::RightSide);
     }
     let mut text = [0u8; 256];
     let n = sides(&mut text, row, right);
@@ -57,14 +66,14 @@ fn write_row(row: &[i32], right: i32, out: &mut [u8]) -> EquationWritten
 }
 
 // A text, if there is space for it.
-fn hand_out(text: &[u8], out: &mut [u8]) -> EquationWritten
+fn hand_out(text: &[u8], out: &mut [u8]) -> Result<usize, WriteRefusal>
     ensures { wrote_by result out.new
         ≡ put_out (refuse_if (ltb (length out.old) (length text.now)) 29) text.now out.old }
 {
     if out.len() < text.len() {
-        return EquationWritten::Space;
+        return Err(WriteRefusal::Space);
     }
-    EquationWritten::Written(word(out, 0, text))
+    Ok(word(out, 0, text))
 }
 
 // Both sides of an equation, at the beginning.
@@ -97,16 +106,12 @@ fn lead(out: &mut [u8], at: usize, first: bool, minus: bool) -> usize
     requires { at + 3 ≤ length out.old }
     ensures { Put out.old at (lead_text first minus) out.new result }
 {
-    if first {
-        if minus {
-            return byte(out, at, b'-');
-        }
-        return at;
+    match (first, minus) {
+        (true, true) => byte(out, at, b'-'),
+        (true, false) => at,
+        (false, true) => word(out, at, b" - "),
+        (false, false) => word(out, at, b" + "),
     }
-    if minus {
-        return word(out, at, b" - ");
-    }
-    word(out, at, b" + ")
 }
 
 // A term that is not zero: its sign and size, and its unknown.
@@ -125,18 +130,12 @@ fn terms(out: &mut [u8], row: &[i32]) -> usize
 {
     let mut next = 0;
     let mut first = true;
-    let mut i = 0;
-    while i < row.len() {
-        let c = row[i];
-        i += 1;
-        if c == 0 {
+    for (i, c) in row.iter().enumerate() {
+        if *c == 0 {
             continue;
         }
-        next = term(out, next, first, c, i);
+        next = term(out, next, first, *c, i + 1);
         first = false;
     }
-    if first {
-        return byte(out, next, b'0');
-    }
-    next
+    if first { byte(out, next, b'0') } else { next }
 }

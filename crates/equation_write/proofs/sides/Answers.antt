@@ -18,18 +18,16 @@ word-number-requires c =
 
 pub signed-requires : goal.signed-requires
 signed-requires c =
-    rw (to_z-of_z c.ranges.right) (
-      omega (arith, c.requires.2),
-      omega (
-        arith,
-        c.word-number.ensures.place,
-        c.word-number.ensures.same,
-        c.terms-next.ensures.place,
-        c.terms-next.ensures.same,
-        sides_short c.args.row.now c.args.right c.requires.0 c.requires.1 c.requires.2,
-        c.requires.3,
-      ),
-    )
+    rw (to_z-of_z c.ranges.right)
+    (omega (
+      arith,
+      c.word-number.ensures.place,
+      c.word-number.ensures.same,
+      c.terms-next.ensures.place,
+      c.terms-next.ensures.same,
+      sides_short c.args.row.now c.args.right c.requires.0 c.requires.1 c.requires.2,
+      c.requires.3,
+    ))
 
 pub returns : goal.returns
 unfolding written

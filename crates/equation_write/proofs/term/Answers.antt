@@ -11,10 +11,6 @@ use Rattle.equation_spec.proofs.WriteLaws.{multiple_short}
 use Rattle.equation_write.specs.TextLaws.{lead_short, negative_is}
 use Rattle.equation_write.proofs.term.Goals as goal
 
-pub size-requires : goal.size-requires
-size-requires c =
-    rw (to_z-of_z c.ranges.c) (omega (arith, c.requires.1))
-
 pub multiple-requires : goal.multiple-requires
 multiple-requires c = let e = c.size.ensures ∙ ap nat_abs (to_z-of_z c.ranges.c) in (
   rw e c.requires.0,
