@@ -1,11 +1,6 @@
 -- What each way through the code comes to: the tests that were made, and the reason that they give. Assumes nothing.
-use Rattle.std.specs.Prelude.{◌≡◌, true, false, List, ℕ, ◌-◌, ◌≤◌, eqb, ℤ, get_or, length}
-use Rattle.std.proofs.Common.{inl, inr, arith}
+use Rattle.std.specs.Prelude.{◌≡◌, true, false, List, ℕ, ◌-◌, ℤ, get_or, Option, Some, None, Result, Ok, Err}
 use Rattle.std.proofs.Math.Option.{some, none}
-use Rattle.std.proofs.Math.ListN.{get_or-eq_default}
-use Rattle.linear.proofs.Cases.{split}
-use Rattle.linear.proofs.TestLaws.{all_at, all_from, is_true}
-use Rattle.linear.specs.Tests.{all_to}
 use Rattle.definitions.specs.Reasons as paper
 use Rattle.definitions.specs.Highest.{highest}
 use Rattle.definitions.specs.Input.{Input, map_of}
@@ -14,29 +9,25 @@ use Rattle.definitions.specs.Refusals.{Sizes}
 use Rattle.definitions.specs.System.{System, image_of}
 use Rattle.definitions.specs.Tables.{at}
 use Rattle.table_rows.specs.Places.{place_of}
-use Rattle.table_rows.specs.declared.lists.Place.{Place}
-use Rattle.table_rows.specs.declared.lists.Place.TheVariants.{At, Nowhere}
 use Rattle.calls.specs.Paper.{check_of, number_of, values_of}
-use Rattle.calls.specs.declared.Check.{Check}
-use Rattle.calls.specs.declared.Check.TheVariants.{Pass, Refuse}
 use Rattle.calls.specs.declared.Refusal.{Refusal}
-use Rattle.reasons.specs.Answers.{reason_of}
+use Rattle.reasons.specs.Answers.{answer_of}
 use Rattle.reasons.specs.Numbers.{reason_told}
 use Rattle.reasons.specs.declared.Reason.{Reason}
 
 -- ---- a solution in the list
 
-module _ (q found : ℕ) (row : ℕ → ℕ → ℕ) (x : ℕ → ℕ) {s : Place} (e : place_of s ≡ standing q found row x) where
-  pub stands_at : {n : ℕ} → s ≡ At n → paper.stands n ≡ paper.in_list q found row x
+module _ (q found : ℕ) (row : ℕ → ℕ → ℕ) (x : ℕ → ℕ) {s : Option ℕ} (e : place_of s ≡ standing q found row x) where
+  pub stands_at : {n : ℕ} → s ≡ Some n → paper.stands n ≡ paper.in_list q found row x
   unfolding paper.in_list paper.stands_or
   stands_at g = rw (← e, g)
 
-  module _ (g : s ≡ Nowhere) {h : Place} (f : place_of h ≡ highest q found row x) where
-    pub above_at : {n : ℕ} → h ≡ At n → paper.above n ≡ paper.in_list q found row x
+  module _ (g : s ≡ None) {h : Option ℕ} (f : place_of h ≡ highest q found row x) where
+    pub above_at : {n : ℕ} → h ≡ Some n → paper.above n ≡ paper.in_list q found row x
     unfolding paper.in_list paper.stands_or paper.above_or
     above_at k = rw (← e, g, ← f, k)
 
-    pub unlisted_at : h ≡ Nowhere → paper.unlisted ≡ paper.in_list q found row x
+    pub unlisted_at : h ≡ None → paper.unlisted ≡ paper.in_list q found row x
     unfolding paper.in_list paper.stands_or paper.above_or
     unlisted_at k = rw (← e, g, ← f, k)
 
@@ -56,29 +47,19 @@ module _ (m : System) (found : ℕ) (row : ℕ → ℕ → ℕ) (x : ℕ → ℕ
     unfolding paper.first_true paper.zero_or paper.off_or
     even_at f g = rw (e, f) g
 
--- ---- a tuple of fewer components than asked for
-
-pub zeros_beyond : (q : ℕ) (t : List ℕ) (j : ℕ) → all_to j (λ k. eqb (get_or t k 0) 0) ≡ true → length t ≤ j → all_to q (λ k. eqb (get_or t k 0) 0) ≡ true
-zeros_beyond q t j e l =
-    is_true _ (all_from q (λ k. eqb (get_or t k 0) 0)
-    (λ k kq. elim (split k j) [
-      | inl kj ↦ all_at j (λ k. eqb (get_or t k 0) 0) (rw e tt) k kj
-      | inr jk ↦ rw (get_or-eq_default t 0 {n = k} (omega arith)) tt
-    ]))
-
 -- ---- refused or not
 
-module _ (s : Sizes) (i : Input) (list : List ℕ) (found : ℕ) (t : List ℕ) {c : Check} (e : check_of c ≡ paper.reason_checks s i list found t) where
-  pub refused_at : {why : Refusal} → c ≡ Refuse why → paper.refused (number_of why) (values_of why) ≡ paper.reason_within s i list found t
+module _ (s : Sizes) (i : Input) (list : List ℕ) (found : ℕ) (t : List ℕ) {c : Result (Unit {0}) Refusal} (e : check_of c ≡ paper.reason_checks s i list found t) where
+  pub refused_at : {why : Refusal} → c ≡ Err why → paper.refused (number_of why) (values_of why) ≡ paper.reason_within s i list found t
   unfolding paper.reason_within paper.unless_refused
   refused_at g = rw (← e, g)
 
-  pub passed_at : c ≡ Pass → {r : paper.Reason} → r ≡ paper.first_true (map_of i) found (at list i.q) (λ j. get_or t j 0) → r ≡ paper.reason_within s i list
+  pub passed_at : {x : Unit {0}} → c ≡ Ok x → {r : paper.Reason} → r ≡ paper.first_true (map_of i) found (at list i.q) (λ j. get_or t j 0) → r ≡ paper.reason_within s i list
       found t
   unfolding paper.reason_within paper.unless_refused
   passed_at g h = rw (← e, g) h
 
 -- ---- as one number
 
-pub told_as : {r s : Reason} {reason : paper.Reason} (held : List ℤ) → reason_of r ≡ reason → r ≡ s → reason_told (reason_of s) held ≡ reason_told reason held
+pub told_as : {r s : Result Reason Refusal} {reason : paper.Reason} (held : List ℤ) → answer_of r ≡ reason → r ≡ s → reason_told (answer_of s) held ≡ reason_told reason held
 told_as held e f = rw (← e, f)

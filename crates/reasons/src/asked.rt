@@ -7,7 +7,7 @@ ghost use Rattle.calls.specs.Paper.{check_of};
 ghost use Rattle.checks.specs.Counts.{Modest};
 ghost use Rattle.reasons.specs.Refusals.{range_checks};
 
-use calls::{Check, Refusal};
+use calls::Refusal;
 
 pub fn check(
     equations: usize,
@@ -18,36 +18,27 @@ pub fn check(
     list: &[u32],
     found: usize,
     t: &[u32],
-) -> Check
+) -> Result<(), Refusal>
     requires { Modest (sizes equations unknowns) }
     ensures { check_of result ≡ reason_checks (sizes equations unknowns) (input_of p q coefs.now) list.now found t.now }
 {
-    match checks::counts::check_within(equations, unknowns, p, q, coefs.len()) {
-        Check::Refuse(why) => Check::Refuse(why),
-        Check::Pass => {
-            if t.len() != q {
-                return Check::Refuse(Refusal::BoundLength);
-            }
-            if list.len() / q < found {
-                return Check::Refuse(Refusal::OutOfOrder);
-            }
-            ranges(coefs, t)
-        }
+    checks::counts::check_within(equations, unknowns, p, q, coefs.len())?;
+    if t.len() != q {
+        return Err(Refusal::BoundLength);
     }
+    if list.len() / q < found {
+        return Err(Refusal::OutOfOrder);
+    }
+    ranges(coefs, t)
 }
 
 // Refusals 7 and 8.
-fn ranges(coefs: &[i32], t: &[u32]) -> Check
+fn ranges(coefs: &[i32], t: &[u32]) -> Result<(), Refusal>
     ensures { check_of result ≡ range_checks coefs.now t.now }
 {
-    match checks::coefficients::check(coefs) {
-        Check::Refuse(why) => Check::Refuse(why),
-        Check::Pass => {
-            if checks::components::above_limit(t, calls::COMPONENT_LIMIT) {
-                Check::Refuse(Refusal::BoundRange)
-            } else {
-                Check::Pass
-            }
-        }
+    checks::coefficients::check(coefs)?;
+    if checks::components::above_limit(t, calls::COMPONENT_LIMIT) {
+        return Err(Refusal::BoundRange);
     }
+    Ok(())
 }

@@ -11,10 +11,9 @@ ghost use Rattle.laws.specs.ReasonLaws.{Askable};
 ghost use Rattle.checks.specs.Counts.{Modest};
 ghost use Rattle.table_rows.specs.Rows.{tuple};
 ghost use Rattle.reasons.specs.Amounts.{SmallEquation, SmallSystem, SmallTuple};
-ghost use Rattle.reasons.specs.Answers.{reason_of, OffIs};
+ghost use Rattle.reasons.specs.Answers.{answer_of, reason_of, OffIs};
 
-use calls::{Check, Refusal, Solutions};
-use table_rows::lists::Place;
+use calls::{Refusal, Solutions};
 
 mod asked; // asked.rt: what is refused
 pub mod told; // told.rt: a reason as numbers
@@ -27,14 +26,6 @@ pub enum Reason {
     Stands(usize),
     Above(usize),
     Unlisted,
-    Refused(Refusal),
-}
-
-// The first equation that is off, from 1, and its amount.
-#[derive(Clone, Copy)]
-pub enum Balance {
-    Even,
-    Off(usize, i64),
 }
 
 // The answer to a question: a system, the first `found` rows of a list table, and a tuple.
@@ -45,8 +36,8 @@ pub fn explain(
     list: &[u32],
     found: Solutions,
     t: &[u32],
-) -> Reason
-    ensures { reason_of result ≡ paper.reason (input_of p q coefs.now) list.now found.0 t.now }
+) -> Result<Reason, Refusal>
+    ensures { answer_of result ≡ paper.reason (input_of p q coefs.now) list.now found.0 t.now }
 {
     explain_within(8, 16, p, q, coefs, list, found.0, t)
 }
@@ -59,8 +50,8 @@ pub fn explain_large(
     list: &[u32],
     found: Solutions,
     t: &[u32],
-) -> Reason
-    ensures { reason_of result ≡
+) -> Result<Reason, Refusal>
+    ensures { answer_of result ≡
         paper.reason_within large_sizes (input_of p q coefs.now) list.now found.0 t.now }
 {
     explain_within(32, 32, p, q, coefs, list, found.0, t)
@@ -76,13 +67,13 @@ pub fn explain_at_most(
     list: &[u32],
     found: usize,
     t: &[u32],
-) -> Reason
-    ensures { reason_of result ≡ paper.reason_within (sizes (min equations 32) (min unknowns 32)) (input_of p q coefs.now) list.now found
+) -> Result<Reason, Refusal>
+    ensures { answer_of result ≡ paper.reason_within (sizes (min equations 32) (min unknowns 32)) (input_of p q coefs.now) list.now found
         t.now }
 {
     explain_within(
-        counted(equations),
-        counted(unknowns),
+        equations.min(32),
+        unknowns.min(32),
         p,
         q,
         coefs,
@@ -90,13 +81,6 @@ pub fn explain_at_most(
         found,
         t,
     )
-}
-
-// As many of them as count.
-fn counted(n: usize) -> usize
-    ensures { result ≡ min n 32 }
-{
-    if n < 32 { n } else { 32 }
 }
 
 // Of maps of at most so many equations and unknowns.
@@ -109,15 +93,13 @@ fn explain_within(
     list: &[u32],
     found: usize,
     t: &[u32],
-) -> Reason
+) -> Result<Reason, Refusal>
     requires { Modest (sizes equations unknowns) }
-    ensures { reason_of result ≡
+    ensures { answer_of result ≡
         paper.reason_within (sizes equations unknowns) (input_of p q coefs.now) list.now found t.now }
 {
-    match asked::check(equations, unknowns, p, q, coefs, list, found, t) {
-        Check::Refuse(why) => Reason::Refused(why),
-        Check::Pass => first_true(p, q, coefs, list, found, t),
-    }
+    asked::check(equations, unknowns, p, q, coefs, list, found, t)?;
+    Ok(first_true(p, q, coefs, list, found, t))
 }
 
 // The first reason that is true, of a question that is not refused.
@@ -129,8 +111,8 @@ fn first_true(p: usize, q: usize, coefs: &[i32], list: &[u32], found: usize, t: 
         return Reason::Zero;
     }
     match first_off(p, q, coefs, t) {
-        Balance::Off(k, amount) => Reason::Off(k, amount),
-        Balance::Even => in_list(list, found, q, t),
+        Some((k, amount)) => Reason::Off(k, amount),
+        None => in_list(list, found, q, t),
     }
 }
 
@@ -140,10 +122,10 @@ fn in_list(list: &[u32], found: usize, q: usize, t: &[u32]) -> Reason
     ensures { reason_of result ≡ paper.in_list q found (at list.now q) (tuple t.now) }
 {
     match table_rows::same::standing(list, found, q, t) {
-        Place::At(n) => Reason::Stands(n),
-        Place::Nowhere => match table_rows::lists::highest(list, found, q, t) {
-            Place::At(n) => Reason::Above(n),
-            Place::Nowhere => Reason::Unlisted,
+        Some(n) => Reason::Stands(n),
+        None => match table_rows::lists::highest(list, found, q, t) {
+            Some(n) => Reason::Above(n),
+            None => Reason::Unlisted,
         },
     }
 }
@@ -152,33 +134,21 @@ fn in_list(list: &[u32], found: usize, q: usize, t: &[u32]) -> Reason
 pub fn vanishes(q: usize, t: &[u32]) -> bool
     ensures { result ≡ paper.vanishes q (tuple t.now) }
 {
-    let mut j = 0;
-    while j < q {
-        if t.len() <= j {
-            return true;
-        }
-        if t[j] != 0 {
-            return false;
-        }
-        j += 1;
-    }
-    true
+    t.iter().take(q).all(|x| *x == 0)
 }
 
-// The first equation that is off.
-fn first_off(p: usize, q: usize, coefs: &[i32], t: &[u32]) -> Balance
+// The first equation that is off, from 1, and its amount.
+fn first_off(p: usize, q: usize, coefs: &[i32], t: &[u32]) -> Option<(usize, i64)>
     requires { SmallSystem p q coefs.now × SmallTuple q t.now }
     ensures { OffIs (map_of (input_of p q coefs.now)) (tuple t.now) result }
 {
-    let mut i = 0;
-    while i < p {
+    for i in 0..p {
         let amount = left_side(q, coefs, i, t);
         if amount != 0 {
-            return Balance::Off(i + 1, amount);
+            return Some((i + 1, amount));
         }
-        i += 1;
     }
-    Balance::Even
+    None
 }
 
 // The left side of equation i, from 0, at the tuple.
@@ -187,14 +157,12 @@ fn left_side(q: usize, coefs: &[i32], i: usize, t: &[u32]) -> i64
     ensures { result ≡ value (λ j. get_or coefs.now (i * q + j) (pos 0)) q (tuple t.now) }
 {
     let mut sum: i64 = 0;
-    let mut j = 0;
-    while j < q {
+    for j in 0..q {
         sum = products::sum_and(
             sum,
             products::wide(coefs[i * q + j]),
             products::natural(t[j]),
         );
-        j += 1;
     }
     sum
 }

@@ -56,14 +56,14 @@ fn reason_within(
         amount.old }
 {
     match explain_within(equations, unknowns, p, q, coefs, list, found, t) {
-        Reason::Zero => 120,
-        Reason::Off(k, by) => {
+        Ok(Reason::Zero) => 120,
+        Ok(Reason::Off(k, by)) => {
             amount[0] = by;
             calls::codes::coded(121, k)
         }
-        Reason::Stands(n) => calls::codes::coded(122, n),
-        Reason::Above(n) => calls::codes::coded(123, n),
-        Reason::Unlisted => 124,
-        Reason::Refused(why) => calls::codes::refusal(why),
+        Ok(Reason::Stands(n)) => calls::codes::coded(122, n),
+        Ok(Reason::Above(n)) => calls::codes::coded(123, n),
+        Ok(Reason::Unlisted) => 124,
+        Err(why) => calls::codes::refusal(why),
     }
 }

@@ -2,7 +2,6 @@
 use mathlib.Core.Path.{◌≡◌}
 use mathlib.Core.Bool.{not}
 use mathlib.Core.Option.{none}
-use Prim.Native.Nat.{◌-◌, ◌≤◌}
 use Rattle.linear.specs.Places.{first_to}
 use Rattle.definitions.specs.System.{image_of, is_zero}
 use Rattle.table_rows.specs.Rows.{tuple}
@@ -10,7 +9,4 @@ use Rattle.definitions.specs.Input.{input_of, map_of}
 use Rattle.reasons.proofs.first_off.Given as goal
 
 abbrev pub invariant-loop-i : goal.invariant-loop-i
-invariant-loop-i l = (l.i ≤ l.p) × (first_to l.i (λ k. not (is_zero (image_of (map_of (input_of l.p l.q l.coefs)) (tuple l.t) k))) ≡ none)
-
-abbrev pub decreases-loop-i : goal.decreases-loop-i
-decreases-loop-i l = l.p - l.i
+invariant-loop-i l = (first_to l.i (λ k. not (is_zero (image_of (map_of (input_of l.p l.q l.coefs)) (tuple l.t) k))) ≡ none)

@@ -13,12 +13,12 @@ first_off-requires c = let a = c.requires in (asked_system large a, asked_tuple 
 pub in_list-requires : goal.in_list-requires
 in_list-requires c = let a = c.requires in (a.q_some, (asked_tuple large a).whole, asked_rows large a)
 
-pub returns-in-Off : goal.returns-in-Off
-returns-in-Off c =
+pub returns-in-Some : goal.returns-in-Some
+returns-in-Some c =
     let a = c.requires in
-    let (k, amount) = rw c.in-Off.is at c.first_off.ensures in
-    off_at _ _ _ _ (sym c.vanishes.ensures ∙ c.if-vanishes.false) k (amount_read (asked_system large a) (asked_tuple large a) k amount)
+    let off = rw c.in-Some.is at c.first_off.ensures in
+    off_at _ _ _ _ (sym c.vanishes.ensures ∙ c.if-vanishes.false) off.0 (amount_read (asked_system large a) (asked_tuple large a) off.0 off.1)
 
-pub returns-in-Even : goal.returns-in-Even
-returns-in-Even c =
-    even_at _ _ _ _ (sym c.vanishes.ensures ∙ c.if-vanishes.false) (rw c.in-Even.is at c.first_off.ensures) c.in_list.ensures
+pub returns-in-None : goal.returns-in-None
+returns-in-None c =
+    even_at _ _ _ _ (sym c.vanishes.ensures ∙ c.if-vanishes.false) (rw c.in-None.is at c.first_off.ensures) c.in_list.ensures

@@ -9,18 +9,17 @@ use Rattle.linear.specs.Sums.{sum_to}
 use Rattle.linear.specs.Systems.{inner, value}
 use Rattle.products.specs.Turns.{next_fits, next_sum, sum_value}
 use Rattle.reasons.proofs.Amounts.{equation_fits, equation_terms}
-use borrow.Author.Rules.{rules}
 use Rattle.reasons.proofs.left_side.Goals as goal
 
 pub loop-j-init : goal.loop-j-init
 unfolding inner sum_to
-loop-j-init c = (search rules, refl)
+loop-j-init c = refl
 
 pub sum_and-sum-requires : goal.sum_and-sum-requires
 sum_and-sum-requires c =
     let s = c.requires in
     let x = c.wide.ensures ∙ to_z-of_z (equation_fits s.0 _) in
-    let bits = bits_are c.loop-j.auto.sum-fits c.loop-j.invariant.1 in
+    let bits = bits_are c.loop-j.auto.sum-fits c.loop-j.invariant in
     let all = next_fits (equation_terms s.0 s.1) c.loop-j.j bits c.loop-j-test.true x c.natural.ensures in
     record { sfits = all.0; sfits_2 = all.1 }
 
@@ -28,14 +27,14 @@ pub loop-j-preserved : goal.loop-j-preserved
 loop-j-preserved c =
     let s = c.requires in
     let x = c.wide.ensures ∙ to_z-of_z (equation_fits s.0 _) in
-    let bits = bits_are c.loop-j.auto.sum-fits c.loop-j.invariant.1 in
+    let bits = bits_are c.loop-j.auto.sum-fits c.loop-j.invariant in
     let next = next_sum (equation_terms s.0 s.1) c.loop-j.j bits c.loop-j-test.true x c.natural.ensures c.sum_and-sum.ensures in
-    (search rules, sum_value (equation_terms s.0 s.1) (c.loop-j.j + 1) next (omega arith))
+    sum_value (equation_terms s.0 s.1) (c.loop-j.j + 1) next (omega arith)
 
 pub returns : goal.returns
 unfolding value
 returns c =
     let s = c.requires in
-    let bits = bits_are c.loop-j.auto.sum-fits c.loop-j.invariant.1 in
-    let sum = sum_value (equation_terms s.0 s.1) c.loop-j.j bits c.loop-j.invariant.0 in
-    rw (le_antisymm c.loop-j.invariant.0 c.loop-j-test.false) at sum
+    let bits = bits_are c.loop-j.auto.sum-fits c.loop-j.invariant in
+    let sum = sum_value (equation_terms s.0 s.1) c.loop-j.j bits c.loop-j.auto.j-end in
+    rw (le_antisymm c.loop-j.auto.j-end c.loop-j-test.false) at sum
