@@ -1,9 +1,8 @@
 -- What each way through the calls comes to: the tests that were made, and the outcome that they give. Assumes nothing.
-use Rattle.std.specs.Prelude.{Bool, true, false, List, ◌≡◌, ℕ, ◌*◌, ◌≤◌, ◌<◌, leb, ℤ, length, get_or, set}
+use Rattle.std.specs.Prelude.{Bool, true, false, List, ◌≡◌, ℕ, ◌*◌, ◌≤◌, ◌<◌, leb, ℤ, length, get_or}
 use Rattle.std.proofs.Math.Logic.{inl, inr}
 use Rattle.std.proofs.Math.Path.{refl}
-use Rattle.std.proofs.Common.{sym, ◌∙◌, ap, zero-add, arith, to_z-of_z, of_z, to_z}
-use Rattle.std.specs.Int.{w64}
+use Rattle.std.proofs.Common.{sym, ◌∙◌, ap, zero-add, arith}
 use borrow.Author.Tests.{le-leb, lt-leb}
 use Rattle.linear.proofs.TestLaws.{all_same}
 use Rattle.linear.specs.Tuples.{Same}
@@ -16,17 +15,14 @@ use Rattle.laws.proofs.CheckLaws.{check_cases}
 use Rattle.laws.specs.ReasonLaws.{Askable}
 use Rattle.laws.proofs.ReasonLaws.{reason_askable}
 use Rattle.laws.proofs.TableLaws.{write_inside, write_length}
-use Rattle.calls.specs.Codes.{code}
 use Rattle.table_rows.specs.Rows.{tuple}
 use Rattle.checks.specs.Counts.{Modest}
-use Rattle.reasons.proofs.Amounts.{asked_rows, told_fits}
+use Rattle.reasons.proofs.Amounts.{asked_rows}
 use Rattle.multiples_spec.specs.Parts.{Outcome, all_taken, decomposed_within, if_space, no_space, off, refused, taken_apart, unless_off, write_times}
 use Rattle.multiples_spec.specs.Parts as paper
 use Rattle.multiples_spec.proofs.PartsLaws.{left_same, times_same}
-use Rattle.multiples.specs.Answers.{Solves, outcome_of, parts_told}
+use Rattle.multiples.specs.Answers.{Solves}
 use Rattle.multiples.specs.Taking.{Left}
-use Rattle.multiples.specs.declared.Parts.{Parts}
-use Rattle.multiples.specs.declared.Parts.TheVariants.{Off}
 
 -- ---- a solution
 
@@ -114,38 +110,3 @@ module _ (s : Sizes) (p q : ℕ) (coefs : List ℤ) (list : List ℕ) (found : �
         → o ≡ decomposed_within s (input_of p q coefs) list found t times
     unfolding decomposed_within
     solved_at {o} h e = e ∙ solving r _ h
-
--- ---- as one number: an amount that is told is that of a reason, so that it fits 64 bits
-
-abbrev IsOff : paper.Parts → Type 0
-IsOff paper.made = ⊥
-IsOff (off k amount) = Unit {0}
-IsOff paper.unlisted = ⊥
-IsOff no_space = ⊥
-IsOff (refused n values) = ⊥
-
-apart_not_off : (space all : Bool) (times taken : List ℕ) → ¬ (IsOff (if_space space times (record { answer = all_taken all; times = taken })).answer)
-unfolding if_space all_taken
-apart_not_off true true times taken h = h
-apart_not_off true false times taken h = h
-apart_not_off false all times taken h = h
-
-off_reason : (s : why.Reason) (times : List ℕ) (o : Outcome) → ¬ (IsOff o.answer) → {k : ℕ} {amount : ℤ} → off k amount ≡ (unless_off s times o).answer
-    → why.off k amount ≡ s
-unfolding unless_off
-off_reason why.zero times o h e = absurd (h (rw (← e) tt))
-off_reason (why.off j by) times o h e = cc
-off_reason (why.stands n) times o h e = absurd (h (rw (← e) tt))
-off_reason (why.above n) times o h e = absurd (h (rw (← e) tt))
-off_reason why.unlisted times o h e = absurd (h (rw (← e) tt))
-off_reason (why.refused n values) times o h e = absurd (let z : ◌≡◌ {A = ℕ} 0 1 = cc in omega arith)
-
-module _ {s : Sizes} (m : Modest s) (p q : ℕ) (coefs : List ℤ) (list : List ℕ) (found : ℕ) (t times : List ℕ) (held : List ℤ) {r : Parts}
-    (after : List ℕ) (e : outcome_of r after ≡ decomposed_within s (input_of p q coefs) list found t times) where
-  by_reason : {k : ℕ} {amount : ℤ} → r ≡ Off k amount → why.off k amount ≡ reason_within s (input_of p q coefs) list found t
-  unfolding decomposed_within taken_apart
-  by_reason f = off_reason (reason_within s (input_of p q coefs) list found t) times _ (apart_not_off _ _ times _) (ap (λ o. o.answer) (rw f at e))
-
-  pub told_off : {k : ℕ} {amount : ℤ} → r ≡ Off k amount
-      → (code 121 k, (after, set held 0 (to_z w64 (of_z w64 amount)))) ≡ parts_told (decomposed_within s (input_of p q coefs) list found t times) held
-  told_off {k} {amount} f = rw (to_z-of_z (told_fits m p q coefs list found t k amount (by_reason f)), ← e, f)

@@ -5,21 +5,8 @@ use Rattle.std.specs.Int.{w64}
 use Rattle.definitions.specs.Input.{input_of}
 use Rattle.definitions.specs.Refusals.{Sizes}
 use Rattle.definitions.specs.Reasons as why
-use Rattle.multiples_spec.specs.Parts as paper
 use Rattle.checks.specs.Counts.{Modest}
 use Rattle.reasons.proofs.Amounts.{told_fits}
-use Rattle.reasons.specs.Answers.{reason_of}
-use Rattle.reasons.specs.declared.Reason as reasons
-use Rattle.multiples.specs.declared.Parts.{Parts}
-use Rattle.multiples.specs.Answers.{Solves, outcome_of, parts_told}
-
-pub told : {r s : Parts} {o : paper.Outcome} (times : List ℕ) (held : List ℤ) → outcome_of r times ≡ o → r ≡ s
-    → parts_told (outcome_of s times) held ≡ parts_told o held
-told times held e f = rw (← e, f)
-
--- what is told of a reason that the code found
-pub solves : {r s : reasons.Reason} {paper : why.Reason} → reason_of r ≡ paper → r ≡ s → Solves (reason_of s) → Solves paper
-solves e f h = rw (← e, f) h
 
 pub off_told : {s : Sizes} → Modest s → (p q : ℕ) (coefs : List ℤ) (list : List ℕ) (found : ℕ) (t : List ℕ) {k : ℕ} {amount : ℤ}
     → why.off k amount ≡ why.reason_within s (input_of p q coefs) list found t

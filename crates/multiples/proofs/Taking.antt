@@ -1,9 +1,10 @@
 -- Theorems about what specs/Taking.antt defines. Assumes nothing.
-use Rattle.std.specs.Prelude.{List, ◌≢◌, ◌≡◌, refl, length, get_or, set}
-use Rattle.std.proofs.Common.{◌∙◌, add-one, arith, get_or-set_other, get_or-set_same, le-ltb, lt-ltb, ne_eqb}
+use Rattle.std.specs.Prelude.{List, ◌≢◌, ◌≡◌, refl, min, length, get_or, set}
+use Rattle.std.proofs.Common.{inl, inr, ◌∙◌, add-one, arith, get_or-set_other, get_or-set_same, le-ltb, lt-ltb, ne_eqb}
 use Prim.Native.Nat.{ℕ, zero, suc, ◌+◌, ◌*◌, ◌-◌, ◌/◌, ◌≤◌, ◌<◌}
 use Rattle.std.proofs.Math.Decide.{ℕ_discrete}
 use Rattle.std.proofs.Math.ListN.{length-set}
+use Rattle.linear.proofs.Cases.{split}
 use Rattle.linear.specs.Tuples.{Same}
 use Rattle.definitions.specs.System.{most_component}
 use Rattle.definitions.specs.Tables.{at}
@@ -27,15 +28,14 @@ module _ (n : ℕ) where
   unfolding lower
   lower_none a b e = rw e
 
-  pub lower_less : (a b : ℕ) → a ≢ 0 → b / a < n → b / a ≡ lower n a b
+  pub lower_min : (a b : ℕ) → a ≢ 0 → min n (b / a) ≡ lower n a b
   unfolding lower
-  lower_less zero b ne l = absurd (ne refl)
-  lower_less (suc a) b ne l = rw (lt-ltb (b / suc a) n l)
-
-  pub lower_more : (a b : ℕ) → a ≢ 0 → n ≤ b / a → n ≡ lower n a b
-  unfolding lower
-  lower_more zero b ne l = absurd (ne refl)
-  lower_more (suc a) b ne l = rw (le-ltb (b / suc a) n l)
+  lower_min zero b ne = absurd (ne refl)
+  lower_min (suc a) b ne =
+      elim (split (b / suc a) n) [
+        | inl l ↦ rw (lt-ltb (b / suc a) n l) (omega arith)
+        | inr l ↦ rw (le-ltb (b / suc a) n l) (omega arith)
+      ]
 
 pub often_next : (j : ℕ) (r x : ℕ → ℕ) → often_to (j + 1) r x ≡ lower (often_to j r x) (r j) (x j)
 unfolding often_to

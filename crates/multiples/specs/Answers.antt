@@ -1,23 +1,22 @@
 -- The answers in the definition's terms, as one number for C, and why a tuple is not taken apart. Assumes nothing.
-use Rattle.std.specs.Prelude.{List, ◌≡◌, ℕ, ℤ, set}
+use Rattle.std.specs.Prelude.{List, ◌≡◌, ℕ, ℤ, set, Option, Some, None, Result, Ok, Err}
 use Rattle.definitions.specs.Reasons as why
 use Rattle.multiples_spec.specs.Parts as paper
 use Rattle.multiples_spec.specs.Parts.{parts_number}
 use Rattle.calls.specs.Codes.{code}
 use Rattle.calls.specs.Paper.{number_of, value, values_of}
-use Rattle.multiples.specs.declared.Excuse.{Excuse}
-use Rattle.multiples.specs.declared.Excuse.TheVariants as excuses
+use Rattle.calls.specs.declared.Refusal.{Refusal}
 use Rattle.multiples.specs.declared.Parts.{Parts}
-use Rattle.multiples.specs.declared.Parts.TheVariants.{Made, Off, Unlisted, NoSpace, Refused}
+use Rattle.multiples.specs.declared.Parts.TheVariants.{Made, Off, Unlisted, NoSpace}
 
-abbrev pub parts_of : Parts → paper.Parts
-parts_of Made = paper.made
-parts_of (Off k amount) = paper.off k amount
-parts_of Unlisted = paper.unlisted
-parts_of NoSpace = paper.no_space
-parts_of (Refused cause) = paper.refused (number_of cause) (values_of cause)
+abbrev pub parts_of : Result Parts Refusal → paper.Parts
+parts_of (Ok Made) = paper.made
+parts_of (Ok (Off k amount)) = paper.off k amount
+parts_of (Ok Unlisted) = paper.unlisted
+parts_of (Ok NoSpace) = paper.no_space
+parts_of (Err cause) = paper.refused (number_of cause) (values_of cause)
 
-abbrev pub outcome_of : Parts → List ℕ → paper.Outcome
+abbrev pub outcome_of : Result Parts Refusal → List ℕ → paper.Outcome
 outcome_of r times = record { answer = parts_of r; times = times }
 
 -- the equation that is off, or the value of a refusal
@@ -48,7 +47,8 @@ Solves (why.above n) = Unit {0}
 Solves why.unlisted = Unit {0}
 Solves (why.refused n values) = ⊥
 
-abbrev pub ExcuseIs : why.Reason → Excuse → Type 0
-ExcuseIs r excuses.Solves = Solves r
-ExcuseIs r (excuses.Off k amount) = r ≡ why.off k amount
-ExcuseIs r (excuses.Refused cause) = r ≡ why.refused (number_of cause) (values_of cause)
+-- why a tuple is not taken apart: the equation that is off with its amount, or the refusal; or that it is
+abbrev pub ExcuseIs : why.Reason → Result (Option (ℕ × ℤ)) Refusal → Type 0
+ExcuseIs r (Ok None) = Solves r
+ExcuseIs r (Ok (Some off)) = r ≡ why.off off.0 off.1
+ExcuseIs r (Err cause) = r ≡ why.refused (number_of cause) (values_of cause)

@@ -1,7 +1,7 @@
 // What a solution is made of (document 02, Job 13): the multiples of the rows of a list.
 #![tactic(auto)]
 
-ghost use Rattle.std.specs.Prelude.{◌≡◌, ◌*◌, ◌≤◌, ◌<◌, leb, length};
+ghost use Rattle.std.specs.Prelude.{◌≡◌, ◌*◌, ◌≤◌, ◌<◌, leb, length, Ok};
 ghost use Rattle.definitions.specs.Input.{input_of};
 ghost use Rattle.definitions.specs.Reasons.{reason_within};
 ghost use Rattle.definitions.specs.Refusals.{large_sizes, sizes};
@@ -23,15 +23,6 @@ pub enum Parts {
     Off(usize, i64),
     Unlisted,
     NoSpace,
-    Refused(Refusal),
-}
-
-// Why a tuple is not taken apart: it is no solution, or the question is refused.
-#[derive(Clone, Copy)]
-pub enum Excuse {
-    Solves,
-    Off(usize, i64),
-    Refused(Refusal),
 }
 
 // Takes a tuple apart into the first `found` rows of a list table: where it is made of them, `times` tells how often each is taken.
@@ -43,7 +34,7 @@ pub fn decompose(
     found: Solutions,
     t: &[u32],
     times: &mut [u32],
-) -> Parts
+) -> Result<Parts, Refusal>
     ensures { outcome_of result times.new ≡
         paper.decomposed (input_of p q coefs.now) list.now found.0 t.now times.old }
 {
@@ -59,7 +50,7 @@ pub fn decompose_large(
     found: Solutions,
     t: &[u32],
     times: &mut [u32],
-) -> Parts
+) -> Result<Parts, Refusal>
     ensures { outcome_of result times.new ≡
         paper.decomposed_within large_sizes (input_of p q coefs.now) list.now found.0 t.now times.old }
 {
@@ -77,16 +68,15 @@ fn decompose_within(
     found: usize,
     t: &[u32],
     times: &mut [u32],
-) -> Parts
+) -> Result<Parts, Refusal>
     requires { Modest (sizes equations unknowns) }
     ensures { outcome_of result times.new ≡
         paper.decomposed_within (sizes equations unknowns) (input_of p q coefs.now) list.now found t.now
         times.old }
 {
-    match why_not(equations, unknowns, p, q, coefs, list, found, t) {
-        Excuse::Refused(why) => Parts::Refused(why),
-        Excuse::Off(k, amount) => Parts::Off(k, amount),
-        Excuse::Solves => apart(list, found, q, t, times),
+    match why_not(equations, unknowns, p, q, coefs, list, found, t)? {
+        Some((k, amount)) => Ok(Parts::Off(k, amount)),
+        None => Ok(apart(list, found, q, t, times)),
     }
 }
 
@@ -147,18 +137,18 @@ fn number_within(
         amount.old }
 {
     match decompose_within(equations, unknowns, p, q, coefs, list, found, t, times) {
-        Parts::Made => 125,
-        Parts::Off(k, by) => {
+        Ok(Parts::Made) => 125,
+        Ok(Parts::Off(k, by)) => {
             amount[0] = by;
             calls::codes::coded(121, k)
         }
-        Parts::Unlisted => 124,
-        Parts::NoSpace => 29,
-        Parts::Refused(why) => calls::codes::refusal(why),
+        Ok(Parts::Unlisted) => 124,
+        Ok(Parts::NoSpace) => 29,
+        Err(why) => calls::codes::refusal(why),
     }
 }
 
-// Why the tuple is not taken apart, if it is not.
+// The equation that is off, from 1, and its amount, where one is: then the tuple is not taken apart.
 fn why_not(
     equations: usize,
     unknowns: usize,
@@ -168,24 +158,20 @@ fn why_not(
     list: &[u32],
     found: usize,
     t: &[u32],
-) -> Excuse
+) -> Result<Option<(usize, i64)>, Refusal>
     requires { Modest (sizes equations unknowns) }
     ensures { ExcuseIs (reason_within (sizes equations unknowns) (input_of p q coefs.now) list.now found t.now) result }
 {
-    match reasons::explain_at_most(equations, unknowns, p, q, coefs, list, found, t) {
-        Reason::Zero => Excuse::Solves,
-        Reason::Off(k, amount) => Excuse::Off(k, amount),
-        Reason::Stands(_) => Excuse::Solves,
-        Reason::Above(_) => Excuse::Solves,
-        Reason::Unlisted => Excuse::Solves,
-        Reason::Refused(why) => Excuse::Refused(why),
+    match reasons::explain_at_most(equations, unknowns, p, q, coefs, list, found, t)? {
+        Reason::Off(k, amount) => Ok(Some((k, amount))),
+        Reason::Zero | Reason::Stands(_) | Reason::Above(_) | Reason::Unlisted => Ok(None),
     }
 }
 
 // A solution, if there is a place for a multiple of each row.
 fn apart(list: &[u32], found: usize, q: usize, t: &[u32], times: &mut [u32]) -> Parts
     requires { (q ≤ 32) × (q ≤ length t.now) × (found * q ≤ length list.now) }
-    ensures { outcome_of result times.new ≡
+    ensures { outcome_of (Ok result) times.new ≡
         paper.if_space (leb found (length times.old)) times.old
         (paper.taken_apart q found (at list.now q) (tuple t.now) times.old) }
 {

@@ -11,9 +11,7 @@ pub fn take(list: &[u32], found: usize, q: usize, rest: &mut [u32], times: &mut 
     ensures left { Left q found list.now rest.old rest.new }
     ensures times_after { times.new ≡ paper.write_times q found (at list.now q) (tuple rest.old) times.old }
 {
-    let mut i = found;
-    while 0 < i {
-        i -= 1;
+    for i in (0..found).rev() {
         let n = often(list, i * q, q, rest);
         take_off(list, i * q, q, rest, n);
         times[i] = n;
@@ -26,10 +24,8 @@ fn often(list: &[u32], base: usize, q: usize, rest: &[u32]) -> u32
     ensures { result ≡ paper.often q (row_at list.now base) (tuple rest.now) }
 {
     let mut n = calls::COMPONENT_LIMIT + 1;
-    let mut j = 0;
-    while j < q {
+    for j in 0..q {
         n = lower(n, list[base + j], rest[j]);
-        j += 1;
     }
     bounded(n)
 }
@@ -49,13 +45,7 @@ fn bounded(n: u32) -> u32
 fn lower(n: u32, a: u32, b: u32) -> u32
     ensures { result ≡ paper.lower n a b }
 {
-    if a == 0 {
-        return n;
-    }
-    if b / a < n {
-        return b / a;
-    }
-    n
+    if a == 0 { n } else { n.min(b / a) }
 }
 
 // Takes the row off n times.
@@ -63,10 +53,9 @@ fn take_off(list: &[u32], base: usize, q: usize, rest: &mut [u32], n: u32)
     requires { (base + q ≤ length list.now) × (q ≤ length rest.old) × Goes q n (row_at list.now base) (tuple rest.old) }
     ensures { Less q n list.now base rest.old rest.new }
 {
-    let mut j = 0;
-    while j < q {
+    for j in 0..q {
+        // read first: that it fits bounds the product
         let x = rest[j];
         rest[j] = x - n * list[base + j];
-        j += 1;
     }
 }

@@ -1,5 +1,5 @@
 -- Theorems about what specs/Amounts.antt defines. Assumes nothing.
-use Rattle.std.specs.Prelude.{◌≡◌, refl, Bool, true, false, List, ℕ, min, ◌+◌, ◌*◌, ◌-◌, ◌≤◌, ◌<◌, T, ℤ, pos, get_or, length, set}
+use Rattle.std.specs.Prelude.{◌≡◌, refl, Bool, true, false, List, ℕ, min, ◌+◌, ◌*◌, ◌-◌, ◌≤◌, ◌<◌, T, ℤ, pos, get_or, length}
 use Rattle.std.proofs.Common.{sym, ◌∙◌, ap, inl, inr, mul-le-mul_right, div-mul-le_self, arith, to_z-of_z, SFits, of_z, to_z}
 use Rattle.std.proofs.Math.Bool.{not}
 use Rattle.std.proofs.Math.Option.{some}
@@ -18,10 +18,8 @@ use Rattle.laws.specs.ReasonLaws.{Askable}
 use Rattle.laws.proofs.ReasonLaws.{reason_askable, reason_given, reason_renders}
 use Rattle.laws.proofs.SystemLaws.{is_zero_lem}
 use Rattle.laws.proofs.TableLaws.{row_fits}
-use Rattle.calls.specs.Codes.{code}
 use Rattle.checks.specs.Counts.{Modest}
 use Rattle.table_rows.specs.Rows.{tuple}
-use Rattle.reasons.specs.Numbers.{reason_told}
 use Rattle.products.specs.Turns.{SmallTerms, sum_fits, zero_bits}
 use Rattle.reasons.specs.Amounts.{SmallEquation, SmallSystem, SmallTuple, image, m}
 
@@ -131,9 +129,3 @@ told_fits {s} m p q coefs list found t k amount e =
           rw (← claim.by) (amount_fits (asked_system m a) (asked_tuple m a) {i = k - 1} (omega (arith, claim.some, claim.few)))
       | inr (n, values, g) ↦ absurd (told_otherwise (rw g at e))
     ]
-
--- as it is told
-pub told_off : {s : Sizes} → Modest s → (p q : ℕ) (coefs : List ℤ) (list : List ℕ) (found : ℕ) (t : List ℕ) (held : List ℤ) {k : ℕ} {amount : ℤ}
-    → off k amount ≡ reason_within s (input_of p q coefs) list found t
-    → (code 121 k, set held 0 (to_z w64 (of_z w64 amount))) ≡ reason_told (reason_within s (input_of p q coefs) list found t) held
-told_off m p q coefs list found t held e = rw (to_z-of_z (told_fits m p q coefs list found t _ _ e), ← e)

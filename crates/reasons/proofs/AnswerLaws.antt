@@ -11,9 +11,6 @@ use Rattle.definitions.specs.Tables.{at}
 use Rattle.table_rows.specs.Places.{place_of}
 use Rattle.calls.specs.Paper.{check_of, number_of, values_of}
 use Rattle.calls.specs.declared.Refusal.{Refusal}
-use Rattle.reasons.specs.Answers.{answer_of}
-use Rattle.reasons.specs.Numbers.{reason_told}
-use Rattle.reasons.specs.declared.Reason.{Reason}
 
 -- ---- a solution in the list
 
@@ -58,8 +55,3 @@ module _ (s : Sizes) (i : Input) (list : List ℕ) (found : ℕ) (t : List ℕ) 
       found t
   unfolding paper.reason_within paper.unless_refused
   passed_at g h = rw (← e, g) h
-
--- ---- as one number
-
-pub told_as : {r s : Result Reason Refusal} {reason : paper.Reason} (held : List ℤ) → answer_of r ≡ reason → r ≡ s → reason_told (answer_of s) held ≡ reason_told reason held
-told_as held e f = rw (← e, f)

@@ -1,13 +1,9 @@
 -- `rows::often` meets its contract: the places passed bound it. Assumes nothing.
 use mathlib.Core.Path.{◌≡◌}
-use Prim.Native.Nat.{◌-◌, ◌≤◌}
 use Rattle.table_rows.specs.Rows.{tuple}
 use Rattle.multiples_spec.specs.Parts.{often_to}
 use Rattle.multiples.specs.Taking.{row_at}
 use Rattle.multiples.proofs.rows.often.Given as goal
 
 abbrev pub invariant-loop-j : goal.invariant-loop-j
-invariant-loop-j l = (l.j ≤ l.q) × (l.n ≡ often_to l.j (row_at l.list l.base) (tuple l.rest))
-
-abbrev pub decreases-loop-j : goal.decreases-loop-j
-decreases-loop-j l = l.q - l.j
+invariant-loop-j l = (l.n ≡ often_to l.j (row_at l.list l.base) (tuple l.rest))
