@@ -31,7 +31,7 @@ pub fn in_order(
     let found = r.found.0;
     let steps = r.steps.0;
     let deepest = r.deepest;
-    if !calls::same_run(own, kind) {
+    if own != kind {
         return false;
     }
     if q < height {
@@ -67,14 +67,7 @@ fn firsts_fit(q: usize, stack: &[u32], height: usize) -> bool
     requires { (q ≤ 16) × (height * (q + 1) ≤ length stack.now) }
     ensures { result ≡ all_to height (λ k. leb (at stack.now (q + 1) k 0) 1) }
 {
-    let mut k = 0;
-    while k < height {
-        if 1 < stack[k * (q + 1)] {
-            return false;
-        }
-        k += 1;
-    }
-    true
+    (0..height).all(|k| stack[k * (q + 1)] <= 1)
 }
 
 // Whether the first `height` rows are in order, with components up to the limit.
@@ -82,14 +75,7 @@ fn rows_in_order(q: usize, stack: &[u32], height: usize, limit: u32) -> bool
     requires { (q ≤ 16) × (height * (q + 1) ≤ length stack.now) }
     ensures { result ≡ all_to height (row_fits limit q stack.now) }
 {
-    let mut k = 0;
-    while k < height {
-        if !row_in_order(q, stack, k, limit) {
-            return false;
-        }
-        k += 1;
-    }
-    true
+    (0..height).all(|k| row_in_order(q, stack, k, limit))
 }
 
 // Whether row `k` is in order: components, marks within the unknowns, and k marks.
@@ -136,13 +122,10 @@ pub fn lower_in_order(
     requires { InShape q (length stack.now) × (length lower.now ≡ q) }
     ensures { result ≡ lower_fits (run_of r).kind q limit lower.now stack.now list.now second.now (run_of r) }
 {
-    let kind = r.kind;
-    match kind {
-        RunKind::Plain => false,
-        RunKind::Capped => false,
+    match r.kind {
         RunKind::LowerPlain => plain_walk_fits(q, stack, list, second, r, limit),
         RunKind::LowerAbove => above_walk_fits(q, lower, stack, list, second, r, limit),
-        RunKind::Desks => false,
+        RunKind::Plain | RunKind::Capped | RunKind::Desks => false,
     }
 }
 
@@ -211,14 +194,7 @@ fn rows_above(q: usize, lower: &[u32], stack: &[u32], height: usize) -> bool
     requires { (q ≤ 16) × (height * (q + 1) ≤ length stack.now) × (length lower.now ≡ q) }
     ensures { result ≡ all_to height (λ k. is_at_or_below q (bound_of lower.now) (at stack.now (q + 1) k)) }
 {
-    let mut k = 0;
-    while k < height {
-        if !row_above(q, lower, stack, k) {
-            return false;
-        }
-        k += 1;
-    }
-    true
+    (0..height).all(|k| row_above(q, lower, stack, k))
 }
 
 // Whether row `k` is.
@@ -227,12 +203,5 @@ fn row_above(q: usize, lower: &[u32], stack: &[u32], k: usize) -> bool
     ensures { result ≡ is_at_or_below q (bound_of lower.now) (at stack.now (q + 1) k) }
 {
     let base = k * (q + 1);
-    let mut j = 0;
-    while j < q {
-        if stack[base + j] < lower[j] {
-            return false;
-        }
-        j += 1;
-    }
-    true
+    (0..q).all(|j| lower[j] <= stack[base + j])
 }

@@ -1,9 +1,6 @@
 -- `record_order::capped_fits` meets its contract: the room decides, else the first components do. Assumes nothing.
-use Prim.Native.Nat.{◌+◌}
 use mathlib.Core.Bool.{false}
 use mathlib.Core.Path.{◌≡◌}
-use native.Mathlib.Nat.{mul-le-mul_right}
-use native.Mathlib.Omega.{arith}
 use lib.Dec.{leb}
 use borrow.Author.Tests.{le-leb, lt-leb}
 use Rattle.definitions.specs.Tables.{capacity}
@@ -16,10 +13,6 @@ returns-then-second-width c =
     let a = c.args in
     let e : leb a.r.found2.0 (capacity a.width a.second.now) ≡ false = lt-leb _ _ c.if-second-width.true in
     rw e
-
-pub firsts_fit-requires : goal.firsts_fit-requires
-firsts_fit-requires c =
-    (c.requires.2.most, omega (arith, c.requires.2.rows, mul-le-mul_right (c.args.q + 1) c.requires.1))
 
 pub returns : goal.returns
 unfolding capped_fits

@@ -1,18 +1,20 @@
 -- `record_order::in_order` meets its contract: a test that fails decides. Assumes nothing.
-use Prim.Native.Nat.{◌+◌}
-use mathlib.Core.Bool.{false, and-false}
-use mathlib.Core.Path.{◌≡◌, sym, ◌∙◌}
-use native.Mathlib.Nat.{mul-le-mul_right}
-use native.Mathlib.Omega.{arith}
+use mathlib.Core.Bool.{true, false, and-false}
+use mathlib.Core.Path.{◌≡◌}
 use lib.Dec.{leb}
 use borrow.Author.Tests.{le-leb, lt-leb}
+use borrow.Author.Rules.{rules}
 use Rattle.definitions.specs.Refusals.{deepest_limit}
+use Rattle.definitions.specs.Tables.{is_run}
+use Rattle.calls.specs.Paper.{kind_of}
 use Rattle.record_order.specs.Order.{record_fits}
 use Rattle.record_order.proofs.in_order.Goals as goal
 
-pub returns-then-not-same_run : goal.returns-then-not-same_run
+pub returns-then-ne : goal.returns-then-ne
 unfolding record_fits
-returns-then-not-same_run c = let e = sym c.same_run.ensures ∙ c.if-not-same_run.true in rw e
+returns-then-ne c =
+    let other : is_run (kind_of c.args.r.kind) (kind_of c.args.kind) ≡ false = search rules in
+    rw other
 
 pub returns-then-q-height : goal.returns-then-q-height
 unfolding record_fits
@@ -36,15 +38,12 @@ pub returns-then-list-width : goal.returns-then-list-width
 unfolding record_fits
 returns-then-list-width c = rw (lt-leb _ _ c.if-list-width.true, and-false, and-false)
 
-pub rows_in_order-requires : goal.rows_in_order-requires
-rows_in_order-requires c =
-    (c.requires.1.most, omega (arith, c.requires.1.rows, mul-le-mul_right (c.args.q + 1) c.if-q-height.false))
-
 pub returns : goal.returns
 unfolding record_fits
 returns c =
+    let own : is_run (kind_of c.args.r.kind) (kind_of c.args.kind) ≡ true = search rules in
     rw (
-      sym c.same_run.ensures ∙ c.if-not-same_run.false,
+      own,
       le-leb _ _ c.if-q-height.false,
       le-leb _ _ c.if-list-width.false,
       le-leb _ _ c.if-steps-gt-STEP_LIMIT.false,

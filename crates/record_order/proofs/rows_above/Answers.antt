@@ -1,29 +1,8 @@
--- `record_order::rows_above` meets its contract. Every row passed is at or above the bound. Assumes nothing.
-use Prim.Native.Nat.{◌+◌}
-use mathlib.Core.Path.{refl, sym, ◌∙◌}
-use native.Mathlib.Nat.{le_antisymm}
-use native.Mathlib.Omega.{arith}
-use borrow.Author.Rules.{rules}
-use Rattle.linear.specs.Tests.{all_to}
-use Rattle.linear.proofs.LoopLaws.{all_next, all_fails}
-use Rattle.laws.proofs.TableLaws.{row_fits}
+-- `record_order::rows_above` meets its contract. Assumes nothing.
+use Rattle.std.proofs.Common.{rules, refl}
+use borrow.Author.Tests.{tests}
+use Rattle.chains.proofs.ChainLaws.{all_in_range}
 use Rattle.record_order.proofs.rows_above.Goals as goal
 
-pub loop-k-init : goal.loop-k-init
-unfolding all_to
-loop-k-init c = (search rules, refl)
-
-pub row_above-requires : goal.row_above-requires
-row_above-requires c =
-    (c.requires.0, omega (arith, row_fits (c.args.q + 1) _ _ c.loop-k-test.true), c.requires.2)
-
-pub returns-then-not-row_above : goal.returns-then-not-row_above
-returns-then-not-row_above c =
-    sym (all_fails _ _ _ c.loop-k-test.true (sym c.row_above.ensures ∙ c.if-not-row_above.true))
-
-pub loop-k-preserved : goal.loop-k-preserved
-loop-k-preserved c =
-    (search rules, all_next _ _ c.loop-k.invariant.1 (sym c.row_above.ensures ∙ c.if-not-row_above.false))
-
 pub returns : goal.returns
-returns c = cc (le_antisymm c.loop-k.invariant.0 c.loop-k-test.false)
+returns c = all_in_range c.all.ensures.ran refl (λ x b q k. search (rules, tests))
