@@ -44,11 +44,18 @@ zero_test x f = T-same (eqb (of_z w64 x) 0) (is_zero x) (λ h. back (eqb→eq (o
     is_zero_lem (pos n) h = ap pos (eqb→eq n 0 h)
     is_zero_lem (negsuc n) h = absurd h
 
-pub large_small : (x : ℤ) → lt_z (pos most_component) x ≡ true → le_z x (pos most_component) ≡ false
+large_small : (x : ℤ) → lt_z (pos most_component) x ≡ true → le_z x (pos most_component) ≡ false
 large_small x h = T-same (le_z x (pos most_component)) false (λ y. clash_ℤ (lt_z_yes {a = pos most_component} {b = x} (rw h tt)) (le_z_yes y)) (λ y. absurd y)
 
-pub small_large : (x : ℤ) → lt_z (pos most_component) x ≡ false → le_z x (pos most_component) ≡ true
+small_large : (x : ℤ) → lt_z (pos most_component) x ≡ false → le_z x (pos most_component) ≡ true
 small_large x h = T-same (le_z x (pos most_component)) true (λ y. tt) (λ y. (lt_z_no {a = pos most_component} {b = x} (rw h tt)).le)
+
+pub not_large : (x : ℤ) → not (lt_z (pos most_component) x) ≡ le_z x (pos most_component)
+not_large x = go (lt_z (pos most_component) x) refl
+  where
+    go : (b : Bool) → lt_z (pos most_component) x ≡ b → not b ≡ le_z x (pos most_component)
+    go true e = sym (large_small x e)
+    go false e = sym (small_large x e)
 
 -- a value that is not below 0 nor above 1,000,000
 pub natural_fits : (x : ℤ) → lt_z x (pos 0) ≡ false → le_z x (pos most_component) ≡ true → T (non_neg x) × Fits w32 (nat_abs x)
@@ -63,10 +70,6 @@ pub all_true : (n : ℕ) (f : ℕ → Bool) → all_to n f ≡ true → (i : ℕ
 all_true n f h i l = T-same (f i) true (λ y. tt) (λ y. all_at n f (rw h tt) i l)
 
 -- ---- counts
-
-pub none_counted : (f : ℕ → Bool) → 0 ≡ count_to 0 f
-unfolding count_to
-none_counted f = refl
 
 pub counted_more : (f : ℕ → Bool) (i : ℕ) {count : ℕ} → count ≡ count_to i f → f i ≡ true → count + 1 ≡ count_to (i + 1) f
 unfolding count_to

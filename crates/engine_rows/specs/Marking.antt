@@ -1,35 +1,9 @@
 -- What the contracts on marks cite, and one turn of their loop. Assumes nothing.
-use Rattle.std.specs.Prelude.{
-  ◌≡◌,
-  refl,
-  List,
-  Bool,
-  true,
-  false,
-  not,
-  ◌&&◌,
-  ◌||◌,
-  ℕ,
-  ◌+◌,
-  ◌*◌,
-  ◌≤◌,
-  ◌<◌,
-  T,
-  ℤ,
-  pos,
-  negsuc,
-  nat_abs,
-  ◌-ℤ◌,
-  length,
-  get_or,
-  set,
-  ◌<ℤ◌,
-}
-use Rattle.std.proofs.Common.{sym, ◌∙◌, ap, inl, inr, arith, ltb-true, length-set, get_or-set_same, get_or-set_other, to_z-of_z, SFits, of_z, to_z}
+use Rattle.std.specs.Prelude.{◌≡◌, refl, List, Bool, true, false, not, ◌&&◌, ◌||◌, ℕ, ◌+◌, ◌*◌, ◌≤◌, ◌<◌, T, ℤ, pos, negsuc, nat_abs, ◌-ℤ◌, length, get_or, ◌<ℤ◌}
+use Rattle.std.proofs.Common.{sym, ◌∙◌, ap, inl, inr, arith, ltb-true, to_z-of_z, SFits, of_z, to_z}
 use Rattle.std.proofs.lemmas.Bool.{not-false}
 use Rattle.std.specs.Int.Signed.{lt_z, lt_z_yes}
 use Rattle.std.specs.Int.{w64}
-use Rattle.linear.proofs.Cases.{split}
 use Rattle.linear.specs.Differences.{up_lt}
 use Rattle.linear.proofs.Differences.{one_side}
 use Rattle.linear.proofs.Integers.{sfits_nat_abs}
@@ -40,6 +14,7 @@ use Rattle.linear.specs.Tuples.{AtOrBelow}
 use Rattle.definitions.specs.System.{is_at_or_below, most_component}
 use Rattle.definitions.specs.Tables.{at}
 use Rattle.laws.proofs.SystemLaws.{below_from}
+use Rattle.engine_beside.specs.Writing.{Written}
 use Rattle.engine_spec.specs.Beside.{AllMarked, SmallEquation, SmallTable, Valued, coefficient_limit, equation_at, no_mark, value_limit}
 use Rattle.engine_spec.specs.Marks.{Opposed, size}
 use Rattle.engine_spec.specs.ReductionLaws.{Against}
@@ -178,38 +153,17 @@ module _ {n : ℕ} {values : List ℤ} (b : BoundedValues n values) {i m : ℕ} 
         sizes = omega (arith, rw (value_read b i il) at sized, rw (value_read b m ml) at sized');
       }
 
--- ---- the loop
+-- ---- all of them
 
--- the first i marks are written
-pub record MarksTo (q n i : ℕ) (table : List ℕ) (values : List ℤ) (marks₀ marks : List ℕ) : Type 0 where
-  pub each : (k : ℕ) → k < i → get_or marks k 0 < no_mark → ValueMarked q n table values k (get_or marks k 0)
-  pub same_length : length marks ≡ length marks₀
-  pub beyond : (k : ℕ) → i ≤ k → get_or marks k 0 ≡ get_or marks₀ k 0
-
-pub marks_none : (q n : ℕ) (table : List ℕ) (values : List ℤ) (marks : List ℕ) → MarksTo q n 0 table values marks marks
-marks_none q n table values marks = record { each = λ k l h. absurd (omega arith); same_length = refl; beyond = λ k l. refl }
-
-pub marks_next : {q n i : ℕ} {table : List ℕ} {values : List ℤ} {marks₀ marks : List ℕ} → MarksTo q n i table values marks₀ marks → i < length marks → (r : ℕ)
-    → (r < no_mark → ValueMarked q n table values i r)
-    → MarksTo q n (i + 1) table values marks₀ (set marks i r)
-marks_next {q} {n} {i} {table} {values} {marks₀} {marks} w l r is =
-    record {
-      each = λ k kl. elim (split k i) [
-        | inl h ↦ rw (get_or-set_other marks i k r 0 (omega arith)) (w.each k h)
-        | inr h ↦ let e : k ≡ i = omega arith in rw (e, get_or-set_same marks i r 0 l) is
-      ];
-      same_length = length-set marks i r ∙ w.same_length;
-      beyond = λ k kl. get_or-set_other marks i k r 0 (omega arith) ∙ w.beyond k (omega arith);
-    }
-
-pub marks_all : {q n : ℕ} {table : List ℕ} {values : List ℤ} {marks₀ marks : List ℕ} → MarksTo q n n table values marks₀ marks → n ≤ length marks₀
+pub marks_all : {q n : ℕ} {table : List ℕ} {values : List ℤ} {marks₀ marks : List ℕ} {f : ℕ → ℕ → Type 0} → Written f n marks₀ marks → n ≤ length marks₀
+    → ((i : ℕ) → i < n → get_or marks i 0 < no_mark → ValueMarked q n table values i (get_or marks i 0))
     → MarksWritten q n table values marks₀ marks
-marks_all {q} {n} {table} {values} {marks₀} {marks} w l =
+marks_all {q} {n} {table} {values} {marks₀} {marks} w l each =
     record {
       marked = λ c v. record {
-        long = omega (arith, w.same_length);
+        long = omega (arith, w.long);
         each = λ i il h.
-            let m = w.each i il h in
+            let m = each i il h in
             record {
               by = m.by;
               low = m.low;
@@ -218,6 +172,6 @@ marks_all {q} {n} {table} {values} {marks₀} {marks} w l =
               sizes = rw (v.each i il, v.each m.by m.low) at m.sizes;
             };
       };
-      same_length = w.same_length;
-      beyond = w.beyond;
+      same_length = w.long;
+      beyond = w.rest 0;
     }

@@ -5,6 +5,7 @@ ghost use Rattle.engine_spec.specs.Marks as marks;
 ghost use Rattle.engine_rows.specs.Marking.{BoundedValues, MarksWritten, ValueMarked, is_opposed};
 
 use crate::rows;
+use engine_beside::places;
 
 // No mark.
 const NO_MARK: u64 = 18446744073709551615;
@@ -48,12 +49,11 @@ pub fn write_marks(
     requires { SmallTable q n table.now × BoundedValues n values.now × (n ≤ length mothers.now) × (n ≤ length marks.old) }
     ensures { MarksWritten q n table.now values.now marks.old marks.new }
 {
-    let mut i = 0;
-    while i < n {
-        let mother = mothers[i] as usize;
-        marks[i] = mark_by(table, values, n, q, i, mother);
-        i += 1;
-    }
+    places::write_first(
+        marks,
+        n,
+        |i| mark_by(table, values, n, q, i, mothers[i] as usize),
+    );
 }
 
 // The mark that row m gives to row i.

@@ -1,5 +1,5 @@
 // Rows kept, one behind the other: what a stage leaves, and what it begins with.
-ghost use Rattle.std.specs.Prelude.{true, false, ◌≡◌, ◌+◌, ◌*◌, ◌≤◌, ◌<◌, pos, length};
+ghost use Rattle.std.specs.Prelude.{Bool, true, false, ℕ, ◌≡◌, ◌+◌, ◌*◌, ◌≤◌, ◌<◌, pos, length};
 ghost use Rattle.std.specs.Int.Signed.{le_z, lt_z};
 ghost use Rattle.linear.specs.Differences.{up};
 ghost use Rattle.linear.specs.Tests.{all_to, count_to};
@@ -18,14 +18,11 @@ pub fn keep_zeros(basis: &mut [u32], table: &[u32], values: &[i64], n: usize, q:
         × (result ≡ count_to n (zero_value values.now)) }
 {
     let mut kept = 0;
-    let mut i = 0;
-    while i < n {
-        let k = i;
-        i += 1;
-        if !is_zero(values[k]) {
+    for i in 0..n {
+        if !is_zero(values[i]) {
             continue;
         }
-        rows::append_row(table, k * q, basis, kept * q, q);
+        rows::append_row(table, i * q, basis, kept * q, q);
         kept += 1;
     }
     kept
@@ -36,15 +33,19 @@ pub fn count_zeros(values: &[i64], n: usize) -> usize
     requires { n ≤ length values.now }
     ensures { result ≡ count_to n (zero_value values.now) }
 {
+    count_where(n, |i| is_zero(values[i]))
+}
+
+// At how many of n places a test holds.
+fn count_where<F: Fn(usize) -> bool>(n: usize, test: F) -> usize
+    requires { (i : ℕ) → i < n → F.pre test i }
+    ensures { (f : ℕ → Bool) → ((i : ℕ) (b : Bool) → i < n → F.post test i b → b ≡ f i) → result ≡ count_to n f }
+{
     let mut count = 0;
-    let mut i = 0;
-    while i < n {
-        let k = i;
-        i += 1;
-        if !is_zero(values[k]) {
-            continue;
+    for i in 0..n {
+        if test(i) {
+            count += 1;
         }
-        count += 1;
     }
     count
 }
@@ -55,7 +56,8 @@ fn is_zero(x: i64) -> bool
     x == 0
 }
 
-// Writes those of the first n rows that have a value not below 0 into `basis`, each with its value at place f, and says how many.
+// Writes those of the first n rows that have a value not below 0 into `basis`, each with its value at place f, and says how many. Kept beside keep_zeros:
+// one function for both would take the test, what is written and the room for what stays, and each call would be longer than its loop.
 pub fn keep_filled(
     basis: &mut [u32],
     table: &[u32],
@@ -71,14 +73,11 @@ pub fn keep_filled(
         × (result ≡ count_to n (not_below_value values.now)) }
 {
     let mut kept = 0;
-    let mut i = 0;
-    while i < n {
-        let k = i;
-        i += 1;
-        if is_below(values[k]) {
+    for i in 0..n {
+        if is_below(values[i]) {
             continue;
         }
-        rows::append_filled(table, k * q, basis, kept * q, q, f, natural(values[k]));
+        rows::append_filled(table, i * q, basis, kept * q, q, f, natural(values[i]));
         kept += 1;
     }
     kept
@@ -89,17 +88,7 @@ pub fn count_not_below(values: &[i64], n: usize) -> usize
     requires { n ≤ length values.now }
     ensures { result ≡ count_to n (not_below_value values.now) }
 {
-    let mut count = 0;
-    let mut i = 0;
-    while i < n {
-        let k = i;
-        i += 1;
-        if is_below(values[k]) {
-            continue;
-        }
-        count += 1;
-    }
-    count
+    count_where(n, |i| !is_below(values[i]))
 }
 
 fn is_below(x: i64) -> bool
@@ -121,14 +110,7 @@ pub fn most_value_small(values: &[i64], n: usize) -> bool
     requires { n ≤ length values.now }
     ensures { result ≡ all_to n (small_value values.now) }
 {
-    let mut i = 0;
-    while i < n {
-        if is_large(values[i]) {
-            return false;
-        }
-        i += 1;
-    }
-    true
+    (0..n).all(|i| !is_large(values[i]))
 }
 
 fn is_large(x: i64) -> bool
@@ -144,11 +126,8 @@ pub fn drop_fresh(basis: &mut [u32], m: usize, q: usize, f: usize) -> usize
         × (result ≡ count_to m (lacks f (at basis.old q))) }
 {
     let mut kept = 0;
-    let mut i = 0;
-    while i < m {
-        let k = i;
-        i += 1;
-        let base = k * q;
+    for i in 0..m {
+        let base = i * q;
         if basis[base + f] != 0 {
             continue;
         }

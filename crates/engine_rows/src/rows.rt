@@ -1,6 +1,5 @@
 // Rows of a table, and the sums of two.
-ghost use Rattle.std.specs.Prelude.{◌≡◌, ◌+◌, ◌*◌, ◌≤◌, ◌<◌, ltb, length};
-ghost use Rattle.linear.specs.Tests.{number};
+ghost use Rattle.std.specs.Prelude.{◌≡◌, ℕ, ◌+◌, ◌*◌, ◌≤◌, ◌<◌, length};
 ghost use Rattle.linear.specs.Tuples.{unit};
 ghost use Rattle.definitions.specs.System.{is_at_or_below};
 ghost use Rattle.definitions.specs.Tables.{write_to};
@@ -11,40 +10,22 @@ ghost use Rattle.engine_spec.specs.Reduction.{is_small};
 ghost use Rattle.engine_spec.specs.Signs.{plus};
 ghost use Rattle.engine_rows.specs.Packing.{always};
 
-// Whether the row from place i is at or below the sum of the rows from places x and y. It looks at every component: with no way out of the
-// loop, several are compared at a time.
+use engine_beside::places;
+
+// Whether the row from place i is at or below the sum of the rows from places x and y.
 pub fn below_sum(table: &[u32], i: usize, x: usize, y: usize, q: usize) -> bool
     requires { SmallRow q table.now x × SmallRow q table.now y × (i + q ≤ length table.now) }
     ensures { result ≡ is_at_or_below q (row_at table.now i) (plus (row_at table.now x) (row_at table.now y)) }
 {
-    let mut over: u32 = 0;
-    let mut j = 0;
-    while j < q {
-        over |= exceeds(table[i + j], table[x + j] + table[y + j]);
-        j += 1;
-    }
-    over == 0
+    places::at_every(q, |j| table[i + j] <= table[x + j] + table[y + j])
 }
 
-// 1 where a is above b.
-fn exceeds(a: u32, b: u32) -> u32
-    ensures { result ≡ number (ltb b a) }
-{
-    if b < a { 1 } else { 0 }
-}
-
-// Whether the row from place x is at or below the row from place y. It looks at every component, as above.
+// Whether the row from place x is at or below the row from place y.
 pub fn below(table: &[u32], x: usize, y: usize, q: usize) -> bool
     requires { (x + q ≤ length table.now) × (y + q ≤ length table.now) }
     ensures { result ≡ is_at_or_below q (row_at table.now x) (row_at table.now y) }
 {
-    let mut above: u32 = 0;
-    let mut j = 0;
-    while j < q {
-        above |= exceeds(table[x + j], table[y + j]);
-        j += 1;
-    }
-    above == 0
+    places::at_every(q, |j| table[x + j] <= table[y + j])
 }
 
 // Whether no component of the sum of the rows from places x and y is above 1,000,000.
@@ -52,14 +33,7 @@ pub fn small_sum(table: &[u32], x: usize, y: usize, q: usize) -> bool
     requires { SmallRow q table.now x × SmallRow q table.now y }
     ensures { result ≡ is_small q (plus (row_at table.now x) (row_at table.now y)) }
 {
-    let mut j = 0;
-    while j < q {
-        if calls::COMPONENT_LIMIT < table[x + j] + table[y + j] {
-            return false;
-        }
-        j += 1;
-    }
-    true
+    (0..q).all(|j| table[x + j] + table[y + j] <= calls::COMPONENT_LIMIT)
 }
 
 // Writes the sum of the rows from places x and y behind them, from place `to`.
@@ -67,10 +41,18 @@ pub fn append_sum(table: &mut [u32], x: usize, y: usize, to: usize, q: usize)
     requires { SmallRow q table.old x × SmallRow q table.old y × (x + q ≤ to) × (y + q ≤ to) × (to + q ≤ length table.old) }
     ensures { table.new ≡ write_to q table.old to (plus (row_at table.old x) (row_at table.old y)) }
 {
-    let mut j = 0;
-    while j < q {
+    for j in 0..q {
         table[to + j] = table[x + j] + table[y + j];
-        j += 1;
+    }
+}
+
+// Writes a row of q components into the table from place `base`.
+fn write_row<F: Fn(usize) -> u32>(table: &mut [u32], base: usize, q: usize, component: F)
+    requires { (base + q ≤ length table.old) × ((j : ℕ) → j < q → F.pre component j) }
+    ensures { (x : ℕ → ℕ) → ((j y : ℕ) → j < q → F.post component j y → y ≡ x j) → table.new ≡ write_to q table.old base x }
+{
+    for j in 0..q {
+        table[base + j] = component(j);
     }
 }
 
@@ -79,11 +61,7 @@ pub fn append_row(source: &[u32], from: usize, table: &mut [u32], to: usize, q: 
     requires { (from + q ≤ length source.now) × (to + q ≤ length table.old) }
     ensures { table.new ≡ write_to q table.old to (row_at source.now from) }
 {
-    let mut j = 0;
-    while j < q {
-        table[to + j] = source[from + j];
-        j += 1;
-    }
+    write_row(table, to, q, |j| source[from + j]);
 }
 
 // The same with x at place f of the row.
@@ -99,11 +77,7 @@ pub fn append_filled(
     requires { (from + q ≤ length source.now) × (to + q ≤ length table.old) }
     ensures { table.new ≡ write_to q table.old to (put_at f x (row_at source.now from)) }
 {
-    let mut j = 0;
-    while j < q {
-        table[to + j] = put(source[from + j], j, f, x);
-        j += 1;
-    }
+    write_row(table, to, q, |j| put(source[from + j], j, f, x));
 }
 
 // x at place f, elsewhere y.
@@ -118,10 +92,8 @@ pub fn copy(table: &mut [u32], from: usize, to: usize, q: usize)
     requires { (to ≤ from) × (from + q ≤ length table.old) }
     ensures { table.new ≡ write_to q table.old to (row_at table.old from) }
 {
-    let mut j = 0;
-    while j < q {
+    for j in 0..q {
         table[to + j] = table[from + j];
-        j += 1;
     }
 }
 
@@ -130,10 +102,8 @@ pub fn write_units(table: &mut [u32], q: usize)
     requires { q * q ≤ length table.old }
     ensures { table.new ≡ pack_to q q table.old 0 always unit }
 {
-    let mut i = 0;
-    while i < q {
+    for i in 0..q {
         write_unit(table, i * q, q, i);
-        i += 1;
     }
 }
 
@@ -142,11 +112,7 @@ pub fn write_unit(table: &mut [u32], base: usize, q: usize, i: usize)
     requires { base + q ≤ length table.old }
     ensures { table.new ≡ write_to q table.old base (unit i) }
 {
-    let mut j = 0;
-    while j < q {
-        table[base + j] = one_at(i, j);
-        j += 1;
-    }
+    write_row(table, base, q, |j| one_at(i, j));
 }
 
 // 1 at place i, 0 elsewhere.

@@ -3,7 +3,7 @@ use mathlib.Core.Path.{refl, sym, ◌∙◌, ap}
 use mathlib.Core.Bool.{not}
 use native.Mathlib.Nat.{le_antisymm}
 use native.Mathlib.Omega.{arith}
-use borrow.Author.Rules.{rules, sfits_of}
+use borrow.Author.Rules.{sfits_of}
 use lib.IntN.{pos}
 use lib.ListN.{get_or}
 use mir.Facts.{to_z-of_z}
@@ -14,22 +14,22 @@ use Rattle.engine_rows.specs.Packing.{packed_few, packed_fits, packed_length, pa
 use Rattle.engine_rows.proofs.packing.keep_filled.Goals as goal
 
 pub loop-i-init : goal.loop-i-init
-loop-i-init c = (search rules, refl, packed_none _ _ _ _)
+loop-i-init c = (refl, packed_none _ _ _ _)
 
 pub loop-i-preserved-then-is_below : goal.loop-i-preserved-then-is_below
 loop-i-preserved-then-is_below c =
     let known = to_z-of_z {w = w64} {z = get_or c.args.values.now c.loop-i.i (pos 0)} (sfits_of c.is_below-arg-1.given) in
-    (search rules, c.loop-i.invariant.1, packed_skip _ _ _ _ c.loop-i.invariant.2 (ap not (rw known at (sym c.is_below.ensures ∙ c.if-is_below.true))))
+    (c.loop-i.invariant.0, packed_skip _ _ _ _ c.loop-i.invariant.1 (ap not (rw known at (sym c.is_below.ensures ∙ c.if-is_below.true))))
 
-pub overflow_mul-k : goal.overflow_mul-k
-overflow_mul-k c =
+pub overflow_mul-i : goal.overflow_mul-i
+overflow_mul-i c =
     omega (arith, c.requires.0, row_fits c.args.q c.loop-i.i c.args.n c.loop-i-test.true)
 
 pub overflow_mul-kept : goal.overflow_mul-kept
 overflow_mul-kept c =
     let known = to_z-of_z {w = w64} {z = get_or c.args.values.now c.loop-i.i (pos 0)} (sfits_of c.is_below-arg-1.given) in
     let stays = ap not (rw known at (sym c.is_below.ensures ∙ c.if-is_below.false)) in
-    omega (arith, c.loop-i.invariant.1, packed_fits _ _ _ _ c.loop-i.invariant.2 c.args.n c.loop-i-test.true stays c.requires.3)
+    omega (arith, c.loop-i.invariant.0, packed_fits _ _ _ _ c.loop-i.invariant.1 c.args.n c.loop-i-test.true stays c.requires.3)
 
 pub natural-requires : goal.natural-requires
 natural-requires c =
@@ -42,20 +42,20 @@ append_filled-requires c =
     let known = to_z-of_z {w = w64} {z = get_or c.args.values.now c.loop-i.i (pos 0)} (sfits_of c.is_below-arg-1.given) in
     let stays = ap not (rw known at (sym c.is_below.ensures ∙ c.if-is_below.false)) in (
       omega (arith, c.requires.0, row_fits c.args.q c.loop-i.i c.args.n c.loop-i-test.true),
-      packed_fits _ _ _ _ c.loop-i.invariant.2 c.args.n c.loop-i-test.true stays c.requires.3,
+      packed_fits _ _ _ _ c.loop-i.invariant.1 c.args.n c.loop-i-test.true stays c.requires.3,
     )
 
 pub overflow_add-kept : goal.overflow_add-kept
 overflow_add-kept c =
-    omega (arith, packed_few _ _ _ _ c.loop-i.invariant.2)
+    omega (arith, packed_few _ _ _ _ c.loop-i.invariant.1)
 
 pub loop-i-preserved : goal.loop-i-preserved
 loop-i-preserved c =
     let known = to_z-of_z {w = w64} {z = get_or c.args.values.now c.loop-i.i (pos 0)} (sfits_of c.is_below-arg-1.given) in
     let stays = ap not (rw known at (sym c.is_below.ensures ∙ c.if-is_below.false)) in
     let value = rw known at c.natural.ensures in
-    let k = packed_more _ _ _ _ c.loop-i.invariant.2 stays (rw value at c.append_filled.ensures) in
-    (search rules, packed_length _ _ _ _ k, k)
+    let k = packed_more _ _ _ _ c.loop-i.invariant.1 stays (rw value at c.append_filled.ensures) in
+    (packed_length _ _ _ _ k, k)
 
 pub returns : goal.returns
-returns c = let k = rw (le_antisymm c.loop-i.invariant.0 c.loop-i-test.false) at c.loop-i.invariant.2 in (k.rows, k.counted)
+returns c = let k = rw (le_antisymm c.loop-i.auto.i-end c.loop-i-test.false) at c.loop-i.invariant.1 in (k.rows, k.counted)

@@ -1,18 +1,7 @@
--- `rows::append_row` meets its contract. The components passed have been written. Assumes nothing.
-use mathlib.Core.Path.{refl}
-use native.Mathlib.Nat.{le_antisymm}
-use lib.ListN.{length-set}
-use borrow.Author.Rules.{rules}
-use Rattle.definitions.specs.Tables.{write_to}
-use Rattle.laws.proofs.TableLaws.{write_next}
+-- `rows::append_row` meets its contract. Assumes nothing.
+use Rattle.std.proofs.Common.{rules}
+use Rattle.engine_spec.specs.Beside.{row_at}
 use Rattle.engine_rows.proofs.rows.append_row.Goals as goal
 
-pub loop-j-init : goal.loop-j-init
-unfolding write_to
-loop-j-init c = (search rules, refl, refl)
-
-pub loop-j-preserved : goal.loop-j-preserved
-loop-j-preserved c = (search rules, rw length-set c.loop-j.invariant.1, rw (write_next, c.loop-j.invariant.2))
-
 pub returns : goal.returns
-returns c = rw (c.loop-j.invariant.2, le_antisymm c.loop-j.invariant.0 c.loop-j-test.false)
+returns c = c.write_row.ensures (row_at c.args.source.now c.args.from) (λ j y l p. search rules)

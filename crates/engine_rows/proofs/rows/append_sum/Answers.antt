@@ -2,7 +2,6 @@
 use mathlib.Core.Path.{refl}
 use native.Mathlib.Nat.{le_antisymm}
 use lib.ListN.{length-set}
-use borrow.Author.Rules.{rules}
 use Rattle.definitions.specs.Tables.{write_to}
 use Rattle.laws.proofs.TableLaws.{write_next}
 use native.Mathlib.Omega.{arith}
@@ -13,7 +12,7 @@ use Rattle.engine_rows.proofs.rows.append_sum.Goals as goal
 
 pub loop-j-init : goal.loop-j-init
 unfolding write_to
-loop-j-init c = (search rules, refl, refl)
+loop-j-init c = (refl, refl)
 
 pub overflow_add-table-in-loop-j-2 : goal.overflow_add-table-in-loop-j-2
 overflow_add-table-in-loop-j-2 c =
@@ -22,7 +21,7 @@ overflow_add-table-in-loop-j-2 c =
     let x = row_at c.args.table.now c.args.x in
     let y = row_at c.args.table.now c.args.y in
     rw (
-      c.loop-j.invariant.2,
+      c.loop-j.invariant.1,
       read_before (plus x y) c.args.table.now c.args.x c.args.to j c.args.q c.requires.2 l,
       read_before (plus x y) c.args.table.now c.args.y c.args.to j c.args.q c.requires.3 l,
     )
@@ -34,15 +33,14 @@ loop-j-preserved c =
     let l = c.loop-j-test.true in
     let x = row_at c.args.table.now c.args.x in
     let y = row_at c.args.table.now c.args.y in (
-      search rules,
-      rw length-set c.loop-j.invariant.1,
+      rw length-set c.loop-j.invariant.0,
       rw (
         write_next,
-        c.loop-j.invariant.2,
+        c.loop-j.invariant.1,
         read_before (plus x y) c.args.table.now c.args.x c.args.to j c.args.q c.requires.2 l,
         read_before (plus x y) c.args.table.now c.args.y c.args.to j c.args.q c.requires.3 l,
       ),
     )
 
 pub returns : goal.returns
-returns c = rw (c.loop-j.invariant.2, le_antisymm c.loop-j.invariant.0 c.loop-j-test.false)
+returns c = rw (c.loop-j.invariant.1, le_antisymm c.loop-j.auto.j-end c.loop-j-test.false)

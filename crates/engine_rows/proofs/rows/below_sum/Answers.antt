@@ -1,25 +1,14 @@
--- `rows::below_sum` meets its contract. `over` says whether a component passed is above its fellow. Assumes nothing.
-use native.Mathlib.Nat.{le_antisymm}
-use native.Mathlib.Omega.{arith}
-use borrow.Author.Rules.{rules}
+-- `rows::below_sum` meets its contract. Assumes nothing.
+use Rattle.std.proofs.Common.{rules, tests, leb, ◌+◌}
+use Rattle.definitions.specs.System.{is_at_or_below}
 use Rattle.engine_spec.specs.Beside.{row_at}
-use Rattle.engine_spec.specs.Signs.{plus}
-use Rattle.engine_rows.specs.Summing.{exceeds_below, exceeds_next, none_exceeds}
 use Rattle.engine_rows.proofs.rows.below_sum.Goals as goal
 
-pub loop-j-init : goal.loop-j-init
-loop-j-init c = (search rules, none_exceeds _)
-
-pub overflow_add-table : goal.overflow_add-table
-overflow_add-table c =
-    let l = c.loop-j-test.true in
-    omega (arith, c.requires.0.small c.loop-j.j l, c.requires.1.small c.loop-j.j l)
-
-pub loop-j-preserved : goal.loop-j-preserved
-loop-j-preserved c = (search rules, exceeds_next _ c.loop-j.j c.loop-j.invariant.1 c.exceeds-over.ensures)
+pub at_every-requires : goal.at_every-requires
+at_every-requires c = λ j l. search (rules, c.requires.0.small j l, c.requires.1.small j l)
 
 pub returns : goal.returns
+unfolding is_at_or_below
 returns c =
     let t = c.args.table.now in
-    rw (c.loop-j.invariant.1, le_antisymm c.loop-j.invariant.0 c.loop-j-test.false)
-    (exceeds_below c.args.q (row_at t c.args.i) (plus (row_at t c.args.x) (row_at t c.args.y)))
+    c.at_every.ensures (λ j. leb (row_at t c.args.i j) (row_at t c.args.x j + row_at t c.args.y j)) (λ j b l p. search (rules, tests))

@@ -1,13 +1,9 @@
 -- `rows::copy` meets its contract. The components passed have been written, and those ahead are as they were. Assumes nothing.
 use mathlib.Core.Path.{◌≡◌}
-use Prim.Native.Nat.{◌-◌, ◌≤◌}
 use lib.ListN.{length}
 use Rattle.definitions.specs.Tables.{write_to}
 use Rattle.engine_spec.specs.Beside.{row_at}
 use Rattle.engine_rows.proofs.rows.copy.Given as goal
 
 abbrev pub invariant-loop-j : goal.invariant-loop-j
-invariant-loop-j l = (l.j ≤ l.q) × (length l.table ≡ length l.initial.table) × (l.table ≡ write_to l.j l.initial.table l.to (row_at l.initial.table l.from))
-
-abbrev pub decreases-loop-j : goal.decreases-loop-j
-decreases-loop-j l = l.q - l.j
+invariant-loop-j l = (length l.table ≡ length l.initial.table) × (l.table ≡ write_to l.j l.initial.table l.to (row_at l.initial.table l.from))

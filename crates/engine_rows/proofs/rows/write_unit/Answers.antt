@@ -1,18 +1,7 @@
--- `rows::write_unit` meets its contract. The components passed have been written. Assumes nothing.
-use mathlib.Core.Path.{refl}
-use native.Mathlib.Nat.{le_antisymm}
-use lib.ListN.{length-set}
-use borrow.Author.Rules.{rules}
-use Rattle.definitions.specs.Tables.{write_to}
-use Rattle.laws.proofs.TableLaws.{write_next}
+-- `rows::write_unit` meets its contract. Assumes nothing.
+use Rattle.std.proofs.Common.{rules}
+use Rattle.linear.specs.Tuples.{unit}
 use Rattle.engine_rows.proofs.rows.write_unit.Goals as goal
 
-pub loop-j-init : goal.loop-j-init
-unfolding write_to
-loop-j-init c = (search rules, refl, refl)
-
-pub loop-j-preserved : goal.loop-j-preserved
-loop-j-preserved c = (search rules, rw length-set c.loop-j.invariant.1, rw (write_next, c.loop-j.invariant.2, c.one_at.ensures))
-
 pub returns : goal.returns
-returns c = rw (c.loop-j.invariant.2, le_antisymm c.loop-j.invariant.0 c.loop-j-test.false)
+returns c = c.write_row.ensures (unit c.args.i) (λ j y l p. search rules)
