@@ -1,4 +1,6 @@
 // The calls of the training seat on a record of words, with an answer that is one number.
+// The calls here and in c_walk are not one function over the call by value: what they share, reading the record and telling what came of it, is c_record's
+// `read` and `tell`. The rest is the call itself, and a contract over any call would ask and say more than these three lines do.
 #![tactic(auto)]
 
 ghost use Rattle.std.specs.Prelude.{◌≡◌};

@@ -1,4 +1,6 @@
 // A run from a lower bound: the start and the continuing call on a record of words, with an answer that is one number.
+// The calls here and in rights.rt are not one function over the call by value: what they share, reading the record and telling what came of it, is c_record's
+// `read` and `tell`. The rest is the call itself, and a contract over any call would ask and say more than these three lines do.
 ghost use Rattle.std.specs.Prelude.{◌≡◌};
 ghost use Rattle.c_walk.specs.Lower.{start_bounded, resume_bounded};
 

@@ -5,15 +5,15 @@ ghost use Rattle.reader.specs.Reading.{which_of};
 ghost use Rattle.c_walk.specs.Rows.{row_told, copy_told, either_told, which_at, count_at};
 
 use calls::Solutions;
-use reader::{Readable, Which};
+use reader::Which;
 
 // Whether the reader is refused, and then what it shows.
 pub fn tell(list: &[u32], q: usize, found: usize, n: usize, out: &mut [u32]) -> u64
     ensures { (result, out.new) ≡ row_told q list.now found n out.old }
 {
     match reader::reader_answer(q) {
-        Readable::Refused(why) => calls::number_of(why),
-        Readable::Yes => tell_part(reader::row_of(list, q, Solutions(found), n), out),
+        Err(why) => calls::number_of(why),
+        Ok(()) => tell_part(reader::row_of(list, q, Solutions(found), n), out),
     }
 }
 
@@ -43,28 +43,22 @@ pub fn tell_either<'a>(
 fn has_two_lists(q: usize) -> bool
     ensures { result ≡ between 1 15 q }
 {
-    if q < 1 {
-        return false;
-    }
-    q <= 15
+    (1..=15).contains(&q)
 }
 
 fn which_at(at: usize) -> Which
     ensures { which_of result ≡ which_at at }
 {
-    if at == 0 {
-        return Which::Zero;
+    match at {
+        0 => Which::Zero,
+        _ => Which::One,
     }
-    Which::One
 }
 
 fn count_at(at: usize, found: usize) -> usize
     ensures { result ≡ count_at at found }
 {
-    if at < 2 {
-        return found;
-    }
-    0
+    if at < 2 { found } else { 0 }
 }
 
 // A part of the list: no row where it is empty.
@@ -85,9 +79,5 @@ fn copy(part: &[u32], out: &mut [u32])
     requires { length part.now ≤ length out.old }
     ensures { out.new ≡ part.now ++ drop (length part.now) out.old }
 {
-    let mut i = 0;
-    while i < part.len() {
-        out[i] = part[i];
-        i += 1;
-    }
+    out[..part.len()].copy_from_slice(part);
 }
