@@ -1,14 +1,13 @@
 -- Numbers written into the working system: what the contracts cite, and one turn of their loops. Assumes nothing.
-use Rattle.std.specs.Prelude.{◌≡◌, refl, ◌⊎◌, true, List, ℕ, ◌+◌, ◌≤◌, ◌<◌, ℤ, pos, nat_abs, ◌+ℤ◌, ◌*ℤ◌, get_or, length, set}
-use Rattle.std.proofs.Common.{◌∙◌, ap, inl, inr, add-one, arith, to_z-of_z, SFits}
+use Rattle.std.specs.Prelude.{◌≡◌, refl, ◌⊎◌, true, List, ℕ, ◌+◌, ◌≤◌, ◌<◌, ℤ, nat_abs, ◌+ℤ◌, ◌*ℤ◌, set}
+use Rattle.std.proofs.Common.{inl, inr, add-one, arith, to_z-of_z, SFits}
 use Rattle.std.proofs.Math.Dec.{T, leb→le}
 use Rattle.std.specs.Int.{w32}
 use Rattle.linear.proofs.Integers.{sfits_nat_abs}
 use Rattle.linear.proofs.TestLaws.{all_at}
-use Rattle.definitions.specs.Tables.{write_to}
 use Rattle.engine_spec.specs.Beside.{SmallEquation, coefficient_limit, equation_at}
 use Rattle.engine_spec.specs.Engine.{fill_to}
-use Rattle.engine_spec.proofs.Operations.{fill_length, fill_outside}
+use Rattle.engine_spec.proofs.Operations.{fill_outside}
 use Rattle.engine_beside.specs.Small.{coefficient_fits}
 use Rattle.engine_checks.specs.Operating.{combined_read, combines_small, read32, read64}
 
@@ -21,9 +20,6 @@ pub fill_more : (i : ℕ) (table₀ : List ℤ) (base : ℕ) (f : ℕ → ℤ) {
     → set table (base + i) v ≡ fill_to (i + 1) table₀ base f
 unfolding fill_to
 fill_more i table₀ base f e g = rw (add-one i, e, g)
-
-pub filled_length : (i : ℕ) (table₀ : List ℤ) (base : ℕ) (f : ℕ → ℤ) {table : List ℤ} → table ≡ fill_to i table₀ base f → length table ≡ length table₀
-filled_length i table₀ base f e = ap length e ∙ fill_length i table₀ base f
 
 -- u times the number of one equation and t times that of another
 abbrev pub combined_at : (x y : ℕ) (u t : ℤ) → List ℤ → ℕ → ℤ
@@ -72,20 +68,3 @@ module _ {q x y : ℕ} {u t : ℤ} {equations : List ℤ} (c : Combines q x y u 
 
         pub next_written : {z : ℤ} → z ≡ read64 v → read32 z ≡ combined_at x y u t equations j
         next_written g = rw (g, next_read) (to_z-of_z {w = w32} (sfits_nat_abs (omega (arith, combined_small j l))))
-
--- ---- the coefficients copied
-
-pub copy_more : (i : ℕ) (coefs table₀ : List ℤ) {table : List ℤ} {v : ℤ} → table ≡ fill_to i table₀ 0 (λ k. get_or coefs k (pos 0)) → v ≡ get_or coefs i (pos 0)
-    → set table i v ≡ fill_to (i + 1) table₀ 0 (λ k. get_or coefs k (pos 0))
-copy_more i coefs table₀ e g = let place : 0 + i ≡ i = omega arith in rw place at (fill_more i table₀ 0 (λ k. get_or coefs k (pos 0)) e g)
-
--- ---- the rows of a list copied
-
-pub list_none : (table : List ℕ) (f : ℕ → ℕ) → table ≡ write_to 0 table 0 f
-unfolding write_to
-list_none table f = refl
-
-pub list_more : (i : ℕ) (rows table₀ : List ℕ) {table : List ℕ} {v : ℕ} → table ≡ write_to i table₀ 0 (λ k. get_or rows k 0) → v ≡ get_or rows i 0
-    → set table i v ≡ write_to (i + 1) table₀ 0 (λ k. get_or rows k 0)
-unfolding write_to
-list_more i rows table₀ e g = let place : 0 + i ≡ i = omega arith in rw (add-one i, e, g, place)

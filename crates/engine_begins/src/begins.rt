@@ -61,23 +61,7 @@ pub fn begin_sides(
 fn begun(p: usize, q: usize, count: usize, cap: u64) -> Outcome
     ensures { result ≡ leaves Started (record_of 0 p q count 0 0 0 0 0 0 cap) }
 {
-    let run = Record {
-        done: 0,
-        equation: p,
-        fresh: q,
-        count: Solutions(count),
-        rows: 0,
-        taken: 0,
-        degree: 0,
-        upper: 0,
-        lower: 0,
-        steps: Steps(0),
-        cap,
-    };
-    Outcome {
-        answer: Answer::Started,
-        run,
-    }
+    taken(0, p, q, count, 0, cap)
 }
 
 pub fn operate(

@@ -19,11 +19,9 @@ pub fn write_system(
     ensures { equations.new ≡ fill_to (p * (q + 1)) equations.old 0
         (λ k. get_or (sides_system p q coefs.now rights.now lower.now) k (pos 0)) }
 {
-    let mut i = 0;
-    while i < p {
+    for i in 0..p {
         let side = sides::side_at(coefs, i * q, q, rights[i], lower);
         write_row(equations, i * (q + 1), opposite(side), coefs, i * q, q);
-        i += 1;
     }
 }
 
@@ -41,11 +39,7 @@ fn copy(coefs: &[i32], from: usize, q: usize, equations: &mut [i32], to: usize)
     requires { (from + q ≤ length coefs.now) × (to + q ≤ length equations.old) }
     ensures { equations.new ≡ fill_to q equations.old to (equation_at coefs.now from) }
 {
-    let mut j = 0;
-    while j < q {
-        equations[to + j] = coefs[from + j];
-        j += 1;
-    }
+    equations[to..to + q].copy_from_slice(&coefs[from..from + q]);
 }
 
 fn opposite(v: i64) -> i32

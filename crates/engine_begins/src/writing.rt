@@ -12,11 +12,7 @@ pub fn copy(coefs: &[i32], n: usize, equations: &mut [i32])
     requires { (n ≤ length coefs.now) × (n ≤ length equations.old) }
     ensures { equations.new ≡ fill_to n equations.old 0 (λ k. get_or coefs.now k (pos 0)) }
 {
-    let mut i = 0;
-    while i < n {
-        equations[i] = coefs[i];
-        i += 1;
-    }
+    equations[..n].copy_from_slice(&coefs[..n]);
 }
 
 // The first n numbers of a list.
@@ -24,11 +20,7 @@ pub fn copy_rows(rows: &[u32], n: usize, basis: &mut [u32])
     requires { (n ≤ length rows.now) × (n ≤ length basis.old) }
     ensures { basis.new ≡ write_to n basis.old 0 (λ k. get_or rows.now k 0) }
 {
-    let mut i = 0;
-    while i < n {
-        basis[i] = rows[i];
-        i += 1;
-    }
+    basis[..n].copy_from_slice(&rows[..n]);
 }
 
 // u times the equation from place x and t times that from place y, in the place of the first.
@@ -36,10 +28,8 @@ pub fn combine(equations: &mut [i32], q: usize, x: usize, y: usize, u: i32, t: i
     requires { Combines q x y u t equations.old }
     ensures { equations.new ≡ fill_to q equations.old x (combined_at x y u t equations.old) }
 {
-    let mut j = 0;
-    while j < q {
+    for j in 0..q {
         equations[x + j] = narrow(operations::combined(u, equations[x + j], t, equations[y + j]));
-        j += 1;
     }
 }
 

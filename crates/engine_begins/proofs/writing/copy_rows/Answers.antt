@@ -1,23 +1,11 @@
--- `writing::copy_rows` meets its contract: the numbers passed have been written. Assumes nothing.
-use Prim.Native.Nat.{◌+◌}
-use mathlib.Core.Path.{refl, ◌∙◌, ap}
-use native.Mathlib.Nat.{le_antisymm}
-use borrow.Author.Rules.{rules}
-use lib.ListN.{length}
-use Rattle.laws.proofs.TableLaws.{write_length}
-use Rattle.engine_begins.specs.Writing.{list_more, list_none}
+-- `writing::copy_rows` meets its contract. Assumes nothing.
+use Rattle.std.proofs.Common.{refl, take, arith, length-take-le}
+use Rattle.std.proofs.lemmas.List.{get_or-take}
+use Rattle.engine_begins.proofs.Copies.{write_copied}
 use Rattle.engine_begins.proofs.writing.copy_rows.Goals as goal
 
-pub loop-i-init : goal.loop-i-init
-loop-i-init c = (search rules, refl, list_none _ _)
-
-pub loop-i-preserved : goal.loop-i-preserved
-loop-i-preserved c = let s = c.args in
-    let e = list_more c.loop-i.i s.rows.now s.basis.now c.loop-i.invariant.2 refl in
-    (search rules, ap length e ∙ write_length _ s.basis.now 0 (c.loop-i.i + 1), e)
-
-pub shape_of-basis : goal.shape_of-basis
-shape_of-basis c = c.loop-i.invariant.1
-
 pub returns : goal.returns
-returns c = rw (le_antisymm c.loop-i.invariant.0 c.loop-i-test.false) at c.loop-i.invariant.2
+returns c =
+    let n = c.args.n in
+    write_copied n n c.args.basis.now 0 (take n c.args.rows.now) _ c.copy_from_slice.ensures.after refl (length-take-le n _ c.requires.0) (omega (arith, c.requires.1))
+    (λ j l. get_or-take n c.args.rows.now j 0 l)
