@@ -12,7 +12,7 @@ use Rattle.definitions.specs.Refusals.{check15}
 use Rattle.laws.proofs.AnswerLaws.{refuse_if_go, then_go}
 use Rattle.laws.proofs.Extended.{extends}
 use Rattle.engine_checks.specs.Operating.{read32}
-use Rattle.engine_checks.specs.Sides.{Shaped, bound_row, bound_small, equation_small, number_checks, range_checks, ranged, side_checks}
+use Rattle.engine_checks.specs.Sides.{Shaped, bound_row, bound_small, equation_small, range_checks, ranged, side_checks}
 use Rattle.engine_spec.specs.Beside.{SmallEquation, SmallRow, coefficient_limit, equation_at}
 use Rattle.engine_spec.specs.Calls.{check7}
 use Rattle.engine_spec.specs.Engine.{fill_to, system_of}
@@ -41,7 +41,7 @@ pub record Extending (p q : ℕ) (coefs rights : List ℤ) (lower : List ℕ) (e
 
 pub extending : {p q : ℕ} {coefs rights : List ℤ} {lower : List ℕ} {equations : ℕ} → Shaped p q (length coefs) (length rights) (length lower)
     → p * suc q ≤ equations → range_checks p q coefs rights lower ≡ go → Extending p q coefs rights lower equations
-unfolding range_checks number_checks side_checks
+unfolding range_checks side_checks
 extending {p} {q} {coefs} {rights} {lower} s whole e =
     let (a, e₁) = then_go (check7 p q coefs) _ e in
     let (b, e₂) = then_go (refuse_if (not (is_small q (bound_of lower))) 8) _ e₁ in

@@ -1,6 +1,5 @@
 pub mod Room
 pub mod Sizes
-pub mod Signs
 pub mod Order
 pub mod Taking
 pub mod Operating

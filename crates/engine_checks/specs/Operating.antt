@@ -50,7 +50,7 @@ fit_small (pos n) f = omega (arith, f.sfits)
 fit_small (negsuc n) f = omega (arith, f.sfits)
 
 -- a number of 32 bits made one of 64
-widened : {a u : ℤ} → SFits w32 u → a ≡ read32 u → read64 a ≡ u
+pub widened : {a u : ℤ} → SFits w32 u → a ≡ read32 u → read64 a ≡ u
 widened f e = let w : SFits w64 _ = sfits_widen tt f in rw (e, to_z-of_z f) (to_z-of_z w)
 
 -- u times x and t times y, from the numbers widened
@@ -71,9 +71,6 @@ module _ {u x t y : ℤ} (fu : SFits w32 u) (fx : SFits w32 x) (ft : SFits w32 t
 -- the coefficients of two equations
 module _ {q x y : ℕ} {equations : List ℤ} (a : SmallEquation q equations x) (b : SmallEquation q equations y) {u t : ℤ} (fu : SFits w32 u) (ft : SFits w32 t)
     (j : ℕ) (l : j < q) where
-  pub reads_small : (nat_abs (read32 (equation_at equations x j)) ≤ coefficient_limit) × (nat_abs (read32 (equation_at equations y j)) ≤ coefficient_limit)
-  reads_small = (rw (to_z-of_z (coefficient_fits a j l)) (a.small j l), rw (to_z-of_z (coefficient_fits b j l)) (b.small j l))
-
   pub combined_is : {v : ℤ} → v ≡ (read32 u *ℤ read32 (equation_at equations x j)) +ℤ (read32 t *ℤ read32 (equation_at equations y j))
       → v ≡ (u *ℤ equation_at equations x j) +ℤ (t *ℤ equation_at equations y j)
   combined_is h = rw (to_z-of_z fu, to_z-of_z ft, to_z-of_z (coefficient_fits a j l), to_z-of_z (coefficient_fits b j l)) at h

@@ -1,8 +1,8 @@
 -- The record and the tables in order, part by part. Assumes nothing.
-use Rattle.std.specs.Prelude.{◌≡◌, refl, ◌≢◌, Bool, not, ◌&&◌, List, ℕ, zero, suc, ◌+◌, ◌*◌, ◌^◌, ◌-◌, ◌≤◌, ◌<◌, T, ltb, length}
-use Rattle.std.proofs.Common.{sym, ◌∙◌, mul-le-mul_right, add-one, arith}
+use Rattle.std.specs.Prelude.{◌≡◌, refl, Bool, ◌&&◌, List, ℕ, zero, suc, ◌+◌, ◌*◌, ◌^◌, ◌-◌, ◌≤◌, ltb, length}
+use Rattle.std.proofs.Common.{◌∙◌, mul-le-mul_right, add-one, arith}
 use Rattle.std.proofs.Math.Bool.{true, false}
-use borrow.Author.Tests.{le-leb, le-ltb, leb-true, lt-leb, lt-ltb, not-false, not-true}
+use borrow.Author.Tests.{le-leb, leb-true}
 use Rattle.std.proofs.Math.Dec.{leb}
 use Rattle.linear.proofs.TestLaws.{T-same, all_at, all_from, and_both, and_parts}
 use Rattle.linear.specs.Tests.{all_to}
@@ -51,19 +51,11 @@ abbrev rising_of : ℕ → Work → Bool
 rising_of q w = is_rising w.stage.rows (λ i. total (row q w.stage i) q) w.stage.degree
 
 module _ (p q most room : ℕ) (w : Work) where
-  parts : in_order p q most room w ≡ record_of p most room w && (coefficients_small (p * q) w.equations
+  pub parts : in_order p q most room w ≡ record_of p most room w && (coefficients_small (p * q) w.equations
       && (are_rows q w.count (basis_row q w) && (are_small q w.stage.rows (row q w.stage) && rising_of q w)))
   unfolding in_order record_in_order are_rows are_small
   parts = regroup (leb w.count most) (leb w.stage.rows room) (leb w.stage.steps step_limit) (ltb w.done (2 ^ p))
       (marks_in_order p w.done w.equation) _
-
-  module _ {b : Bool} (e : b ≡ record_of p most room w) where
-    pub by_record : not b ≡ true → false ≡ in_order p q most room w
-    by_record h = rw (parts, ← e, falsified b h)
-      where
-        falsified : (b : Bool) → not b ≡ true → b ≡ false
-        falsified true h = sym h
-        falsified false h = refl
 
   pub record_few : record_of p most room w ≡ true → (w.count ≤ most) × (w.stage.rows ≤ room)
   unfolding record_in_order
@@ -76,21 +68,6 @@ module _ (p q most room : ℕ) (w : Work) where
       both true b h = (refl, h)
       both false b h = (h, cc)
 
-  module _ (e₁ : record_of p most room w ≡ true) where
-    pub by_coefficients : coefficients_small (p * q) w.equations ≡ false → false ≡ in_order p q most room w
-    by_coefficients h = rw (parts, e₁, h)
-
-    module _ (e₂ : coefficients_small (p * q) w.equations ≡ true) where
-      pub by_basis : are_rows q w.count (basis_row q w) ≡ false → false ≡ in_order p q most room w
-      by_basis h = rw (parts, e₁, e₂, h)
-
-      module _ (e₃ : are_rows q w.count (basis_row q w) ≡ true) where
-        pub by_rows : are_small q w.stage.rows (row q w.stage) ≡ false → false ≡ in_order p q most room w
-        by_rows h = rw (parts, e₁, e₂, e₃, h)
-
-        pub by_degrees : are_small q w.stage.rows (row q w.stage) ≡ true → {b : Bool} → b ≡ rising_of q w → b ≡ in_order p q most room w
-        by_degrees h g = rw (parts, e₁, e₂, e₃, h) g
-
   pub rows_room : {equations basis table : ℕ} → Within p q most room equations basis table → record_of p most room w ≡ true
       → (w.count * q ≤ basis) × (w.stage.rows * q ≤ table)
   rows_room x h =
@@ -98,15 +75,12 @@ module _ (p q most room : ℕ) (w : Work) where
       (omega (arith, x.long, mul-le-mul_right q a), omega (arith, x.wide, mul-le-mul_right q c))
 
 -- the rows that were tested
-pub tested_small : (q n : ℕ) (table : List ℕ) {b : Bool} → b ≡ are_small q n (at table q) → not b ≡ false → q ≤ 32 → n * q ≤ length table → SmallTable q n table
-tested_small q n table {b} e h few whole = small_table q n table few whole (rw (← e) (holds b h))
-  where
-    holds : (b : Bool) → not b ≡ false → T b
-    holds b h = rw (not-false b h) tt
+pub tested_small : (q n : ℕ) (table : List ℕ) → are_small q n (at table q) ≡ true → q ≤ 32 → n * q ≤ length table → SmallTable q n table
+tested_small q n table e few whole = small_table q n table few whole (rw e tt)
 
 -- the two parts of each row, asked one after the other of all
 module _ (q m : ℕ) (row : ℕ → ℕ → ℕ) where
-  both_parts : are_small q m row && none_zero q m row ≡ are_rows q m row
+  pub both_parts : are_small q m row && none_zero q m row ≡ are_rows q m row
   unfolding are_rows are_small none_zero is_row
   both_parts =
       T-same _ _
@@ -117,26 +91,6 @@ module _ (q m : ℕ) (row : ℕ → ℕ → ℕ) where
       and_both (all_to m (λ i. is_small q (row i))) _
       (all_from m _ (λ i l. (and_parts (is_small q (row i)) _ (all_at m _ h i l)).0))
       (all_from m _ (λ i l. (and_parts (is_small q (row i)) _ (all_at m _ h i l)).1)))
-
-  module _ {b : Bool} (e : b ≡ are_small q m row) where
-    pub rows_not_small : not b ≡ true → false ≡ are_rows q m row
-    rows_not_small h = rw (← both_parts, ← e, not-true b h)
-
-    pub rows_small : not b ≡ false → {d : Bool} → d ≡ none_zero q m row → d ≡ are_rows q m row
-    rows_small h g = rw (← both_parts, ← e, not-false b h) g
-
--- one row, whose degree is d
-pub is_zero_lem : {degree d : ℕ} → degree ≡ d → degree ≡ 0 → ltb 0 d ≡ false
-is_zero_lem {degree} {d} e z = le-ltb 0 d (omega arith)
-
-pub is_above : {degree d : ℕ} → degree ≡ d → degree ≢ 0 → ltb 0 d ≡ true
-is_above {degree} {d} e z = lt-ltb 0 d (omega arith)
-
--- ---- marks
-
-pub past_equation : (p done equation : ℕ) → p < equation → false ≡ marks_in_order p done equation
-unfolding marks_in_order
-past_equation p done equation l = rw (lt-leb equation p l)
 
 -- ---- the degrees, one after the other
 

@@ -1,7 +1,6 @@
 -- The rows that find room, from the lengths alone. Assumes nothing.
-use Rattle.std.specs.Prelude.{◌≡◌, ℕ, ◌*◌, ◌/◌, ◌≤◌, min}
+use Rattle.std.specs.Prelude.{ℕ, ◌*◌, ◌/◌, ◌≤◌, min}
 use Rattle.std.proofs.Common.{div-mul-le_self, mul-le-mul_right, arith}
-use Rattle.std.proofs.Math.Nat.{div-zero}
 use Rattle.engine_spec.specs.Calls.{row_limit, rows_in}
 
 abbrev pub basis_rows : (q basis sizes : ℕ) → ℕ
@@ -10,9 +9,6 @@ basis_rows q basis sizes = min (rows_in q basis) sizes
 abbrev pub stage_rows : (q table values words degrees marks mothers : ℕ) → ℕ
 stage_rows q table values words degrees marks mothers =
     min (min (min (rows_in q table) values) (min words degrees)) (min marks mothers)
-
-pub no_rows : (q numbers : ℕ) → q ≡ 0 → 0 ≡ rows_in q numbers
-no_rows q numbers e = rw (e, div-zero numbers) (omega arith)
 
 rows_fit : (q numbers rows : ℕ) → rows ≤ rows_in q numbers → rows * q ≤ numbers
 rows_fit q numbers rows l = omega (arith, div-mul-le_self numbers q, mul-le-mul_right q few)

@@ -1,27 +1,26 @@
 -- What the start for right sides and lower bounds checks, check by check, and what holds where they find nothing. Assumes nothing.
-use Rattle.std.specs.Prelude.{◌≡◌, refl, Bool, not, ◌||◌, ◌≢◌, List, [], T, eqb, leb, ltb, ℤ, pos, neg_ℤ, nat_abs, ◌+ℤ◌, get_or, length}
+use Rattle.std.specs.Prelude.{◌≡◌, refl, Bool, not, ◌||◌, ◌≢◌, List, eqb, ltb, ℤ, pos, neg_ℤ, nat_abs, ◌+ℤ◌, get_or, length}
 use Rattle.std.proofs.Common.{◌∙◌, ap, arith, to_z-of_z, SFits}
 use Rattle.std.proofs.Math.Bool.{true, false}
 use Prim.Native.Nat.{ℕ, suc, ◌+◌, ◌*◌, ◌≤◌, ◌<◌}
-use borrow.Author.Tests.{eqb-true, le-ltb, leb-false, leb-true, lt-ltb, ltb-false, ne_eqb, not-false}
-use Rattle.std.proofs.Math.Dec.{eqb_refl}
+use borrow.Author.Tests.{eqb-true, ltb-false, not-false}
 use Rattle.std.specs.Int.{w32, w64}
+use Rattle.std.specs.Prelude.{Result, Ok, Err}
+use Rattle.std.specs.Result.{is_err}
 use Rattle.linear.proofs.Integers.{nat_abs_+ℤ, nat_abs_negℤ, sfits_nat_abs}
 use Rattle.linear.proofs.SystemLaws.{value_same}
 use Rattle.linear.specs.Systems.{value}
-use Rattle.definitions.specs.Answers.{Check, go, refuse, refuse_first, refuse_if, refuse_with, ◌then◌}
+use Rattle.definitions.specs.Answers.{Check, go, refuse_first, refuse_if, refuse_with, ◌then◌}
 use Rattle.definitions.specs.Input.{bound_of}
 use Rattle.definitions.specs.Refusals.{check15}
 use Rattle.definitions.specs.System.{coef_limit}
 use Rattle.laws.proofs.AnswerLaws.{refuse_if_go, then_assoc, then_go}
 use Rattle.laws.proofs.TableLaws.{row_fits}
 use Rattle.calls.specs.Paper.{check_of}
-use Rattle.calls.specs.declared.Check as made
-use Rattle.calls.specs.declared.Check.TheVariants.{Pass, Refuse}
 use Rattle.calls.specs.declared.Refusal.{Refusal}
 use Rattle.checks.specs.Coefficients.{coefficient_checks, sides_checked}
 use Rattle.engine_spec.specs.Beside.{SmallEquation, SmallRow, coefficient_limit, equation_at, row_at, value_limit}
-use Rattle.engine_spec.specs.Calls.{check1, check2, check7}
+use Rattle.engine_spec.specs.Calls.{check7}
 use Rattle.engine_spec.specs.Engine.{Work}
 use Rattle.engine_spec.proofs.Promise.{false_not, first_silent}
 use Rattle.engine_spec.specs.Reduction.{is_small}
@@ -44,14 +43,14 @@ shape_rest p q coefs rights lower numbers basis sizes =
     then refuse_if (not (eqb lower q)) 5
 
 unfoldable pub shape_checks : (p q coefs rights lower numbers basis sizes : ℕ) → Check
-shape_checks p q coefs rights lower numbers basis sizes = check1 p then check2 q then shape_rest p q coefs rights lower numbers basis sizes
+shape_checks p q coefs rights lower numbers basis sizes = size_checks p q then shape_rest p q coefs rights lower numbers basis sizes
 
 -- 35, of the first n equations
 unfoldable pub side_checks : (n p q : ℕ) (coefs rights : List ℤ) (lower : List ℕ) → Check
 side_checks n p q coefs rights lower = refuse_first 35 n (λ i. ltb coefficient_limit (nat_abs (side_at q coefs rights lower i)))
 
 -- 8 and 15 before it
-unfoldable pub number_checks : (p q : ℕ) (coefs rights : List ℤ) (lower : List ℕ) → Check
+abbrev pub number_checks : (p q : ℕ) (coefs rights : List ℤ) (lower : List ℕ) → Check
 number_checks p q coefs rights lower =
     refuse_if (not (is_small q (bound_of lower))) 8 then check15 rights then side_checks p p q coefs rights lower
 
@@ -65,53 +64,8 @@ sides_checks_by p q coefs rights lower numbers basis sizes =
 
 pub sides_checks_lem : (p q : ℕ) (coefs rights : List ℤ) (lower : List ℕ) (basis sizes : ℕ) (w : Work)
     → sides_checks_by p q coefs rights lower (length w.equations) basis sizes ≡ sides_checks p q coefs rights lower (basis_rows (suc q) basis sizes) w
-unfolding sides_checks_by shape_checks range_checks number_checks side_checks sides_checks
+unfolding sides_checks_by shape_checks size_checks range_checks side_checks sides_checks
 sides_checks_lem p q coefs rights lower basis sizes w = simp then_assoc
-
--- ---- one check after the other
-
--- what comes after a check that the code has made
-module _ {r : made.Check} {c : Check} (e : check_of r ≡ c) (own : Check) where
-  pub then_refused : {why : Refusal} → r ≡ Refuse why → check_of (Refuse why) ≡ c then own
-  unfolding ◌then◌
-  then_refused g = rw (← e, g)
-
-  pub then_passed : {d : Check} → r ≡ Pass → d ≡ own → d ≡ c then own
-  unfolding ◌then◌
-  then_passed g h = rw (← e, g) h
-
--- a test that refuses, and one that does not
-pub now_refuses : (b : Bool) (n : ℕ) (own : Check) → b ≡ true → refuse n [] ≡ refuse_if b n then own
-unfolding refuse_with ◌then◌
-now_refuses b n own e = rw e
-
-pub now_passes : (b : Bool) (n : ℕ) (own : Check) {c : Check} → b ≡ false → c ≡ own → c ≡ refuse_if b n then own
-unfolding refuse_with ◌then◌
-now_passes b n own e h = rw e h
-
-pub last_refuses : (b : Bool) (n : ℕ) → b ≡ true → refuse n [] ≡ refuse_if b n
-unfolding refuse_with
-last_refuses b n e = rw e
-
-pub last_passes : (b : Bool) (n : ℕ) → b ≡ false → go ≡ refuse_if b n
-unfolding refuse_with
-last_passes b n e = rw e
-
-pub unequal : (n m : ℕ) → n ≢ m → not (eqb n m) ≡ true
-unequal n m ne = rw (ne_eqb n m ne)
-
-pub equal : (n m : ℕ) → n ≡ m → not (eqb n m) ≡ false
-equal n m e = rw (e, holds (eqb m m) (eqb_refl m))
-  where
-    holds : (b : Bool) → T b → b ≡ true
-    holds true h = refl
-    holds false h = absurd h
-
-pub first_short : (b d : Bool) → b ≡ true → (b || d) ≡ true
-first_short b d e = rw e
-
-pub then_short : (b d : Bool) {x : Bool} → b ≡ false → d ≡ x → (b || d) ≡ x
-then_short b d e g = rw e g
 
 -- ---- what holds where they find nothing
 
@@ -128,14 +82,13 @@ pub shaped : (p q coefs rights lower numbers basis sizes : ℕ) → shape_checks
 unfolding shape_checks
 shaped p q coefs rights lower numbers basis sizes e =
     let most = basis_rows (suc q) basis sizes in
-    let (a, e₁) = then_go (check1 p) _ e in
-    let (b, e₂) = then_go (check2 q) _ e₁ in
+    let (a, e₂) = then_go (size_checks p q) _ e in
     let (c, e₃) = then_go (refuse_if (eqb q 32) 2) _ e₂ in
     let (d, e₄) = then_go (refuse_if (not (eqb coefs (p * q))) 3) _ e₃ in
     let (f, e₅) = then_go (refuse_if (not (eqb rights p)) 3) _ e₄ in
     let (g, h) = then_go (refuse_if (ltb numbers (p * suc q) || ltb most (suc q)) 4) _ e₅ in
     let (s, m) = or_false (ltb numbers (p * suc q)) (ltb most (suc q)) (refuse_if_go _ 4 g) in
-    let z = sized p q (unfold size_checks in (ap (λ x. x then check2 q) a ∙ unfold ◌then◌ in b)) in (
+    let z = sized p q a in (
       record {
         size = z;
         narrow = below q z.unknowns (refuse_if_go _ 2 c);
@@ -196,6 +149,12 @@ bound_small q lower = simp (bound_at lower)
 pub bound_row : (q : ℕ) (lower : List ℕ) → length lower ≡ q → is_small q (row_at lower 0) ≡ true → SmallRow q lower 0
 bound_row q lower long e = record { whole = omega arith; small = λ j l. small_from q (row_at lower 0) (rw e tt) j l }
 
+-- 15, from what a check for 7 finds of the right sides
+pub sides_tested : (rights : List ℤ) (r : Result (Unit {0}) Refusal) → check_of r ≡ coefficient_checks rights → check15 rights ≡ refuse_if (is_err r) 15
+unfolding refuse_with
+sides_tested rights (Ok x) e = rw (← sides_checked rights, ← e) refl
+sides_tested rights (Err why) e = rw (← sides_checked rights, ← e) refl
+
 -- ---- a right side, less what the bound makes of its equation
 
 -- a number of 32 bits less a value fits 64
@@ -218,26 +177,3 @@ module _ {q : ℕ} {coefs : List ℤ} {lower : List ℕ} (i : ℕ) (s : SmallEqu
   side_read f {v} e =
       let g : SFits w64 v = rw e (less_fits right made_of f (value_small (row_at lower 0) s row.small)) in
       to_z-of_z g ∙ side_is e
-
-pub over_limit : (n : ℕ) → leb n coefficient_limit ≡ false → ltb coefficient_limit n ≡ true
-over_limit n e = lt-ltb coefficient_limit n (leb-false n coefficient_limit e)
-
-pub within_limit : (n : ℕ) → leb n coefficient_limit ≡ true → ltb coefficient_limit n ≡ false
-within_limit n e = le-ltb coefficient_limit n (leb-true n coefficient_limit e)
-
--- ---- the bound, and the right sides
-
-pub bound_large : (q : ℕ) (lower : List ℕ) → is_small q (row_at lower 0) ≡ false → not (is_small q (bound_of lower)) ≡ true
-bound_large q lower e = rw (← bound_small q lower, e)
-
-pub bound_fine : (q : ℕ) (lower : List ℕ) → is_small q (row_at lower 0) ≡ true → not (is_small q (bound_of lower)) ≡ false
-bound_fine q lower e = rw (← bound_small q lower, e)
-
-module _ (rights : List ℤ) {r : made.Check} (e : check_of r ≡ coefficient_checks rights) (own : Check) where
-  pub sides_refused : {why : Refusal} → r ≡ Refuse why → refuse 15 [] ≡ check15 rights then own
-  unfolding ◌then◌
-  sides_refused g = rw (← sides_checked rights, ← e, g)
-
-  pub sides_passed : {c : Check} → r ≡ Pass → c ≡ own → c ≡ check15 rights then own
-  unfolding ◌then◌
-  sides_passed g h = rw (← sides_checked rights, ← e, g) h

@@ -1,22 +1,15 @@
 -- Refusals 1 and 2, what holds where they find nothing, and what comes after them. Assumes nothing.
 use Rattle.std.specs.Prelude.{◌≡◌, true, ℕ, ◌≤◌, leb}
-use Rattle.std.proofs.Common.{leb→le, le-leb}
+use Rattle.std.proofs.Common.{leb→le}
 use Rattle.std.proofs.lemmas.Bool.{not-false}
 use Rattle.linear.proofs.TestLaws.{and_parts}
 use Rattle.definitions.specs.Answers.{Check, go, ◌then◌}
 use Rattle.definitions.specs.Refusals.{between}
-use Rattle.laws.proofs.AnswerLaws.{refuse_if_go, then_assoc, then_go}
+use Rattle.laws.proofs.AnswerLaws.{refuse_if_go, then_go}
 use Rattle.engine_spec.specs.Calls.{check1, check2}
-use Rattle.calls.specs.Paper.{check_of}
-use Rattle.calls.specs.declared.Check as made
-use Rattle.calls.specs.declared.Check.TheVariants.{Pass, Refuse}
-use Rattle.calls.specs.declared.Refusal.{Refusal}
 
 unfoldable pub size_checks : (p q : ℕ) → Check
 size_checks p q = check1 p then check2 q
-
-pub in_range : (n : ℕ) → 1 ≤ n → n ≤ 32 → between 1 32 n ≡ true
-in_range n l m = rw (le-leb 1 n l, le-leb n 32 m)
 
 pub record Sized (p q : ℕ) : Type 0 where
   pub equations : p ≤ 32
@@ -33,16 +26,3 @@ sized p q e =
     let (a, b) = within p (not-false _ (refuse_if_go _ 1 equations)) in
     let (c, d) = within q (not-false _ (refuse_if_go _ 2 unknowns)) in
     record { equations = b; some = c; unknowns = d }
-
-sizes_then : (p q : ℕ) (own : Check) → size_checks p q then own ≡ check1 p then check2 q then own
-unfolding size_checks
-sizes_then p q own = then_assoc (check1 p) (check2 q) own
-
-module _ (p q : ℕ) {r : made.Check} (e : check_of r ≡ size_checks p q) (own : Check) where
-  pub sizes_refused : {why : Refusal} → r ≡ Refuse why → check_of (Refuse why) ≡ check1 p then check2 q then own
-  unfolding ◌then◌
-  sizes_refused g = rw (← sizes_then p q own, ← e, g)
-
-  pub sizes_passed : {c : Check} → r ≡ Pass → c ≡ own → c ≡ check1 p then check2 q then own
-  unfolding ◌then◌
-  sizes_passed g h = rw (← sizes_then p q own, ← e, g) h

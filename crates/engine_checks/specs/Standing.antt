@@ -1,21 +1,17 @@
 -- What each call checks before its work, check by check, and what holds where they find nothing. Assumes nothing.
-use Rattle.std.specs.Prelude.{◌≡◌, Bool, not, ◌&&◌, ◌||◌, List, [], ℕ, ◌+◌, ◌*◌, ◌^◌, ◌≤◌, ◌<◌, eqb, ℤ, pos, nat_abs, get_or, length}
+use Rattle.std.specs.Prelude.{◌≡◌, Bool, ◌&&◌, ◌||◌, List, ℕ, ◌+◌, ◌*◌, ◌^◌, ◌≤◌, ◌<◌, eqb, ℤ, pos, nat_abs, get_or, length}
 use Rattle.std.proofs.Math.Path.{refl, sym}
-use Rattle.std.proofs.Common.{◌∙◌, ap, arith, eqb→eq, ltb→lt}
+use Rattle.std.proofs.Common.{◌∙◌, arith, eqb→eq, ltb→lt}
 use Rattle.std.proofs.Math.Bool.{true, false}
 use Rattle.std.proofs.Math.Nat.{mul-le-mul_right}
 use borrow.Author.Tests.{eqb-true, ltb-false, not-false}
 use Rattle.std.proofs.Math.Dec.{T, leb, leb→le, ltb}
 use Rattle.linear.proofs.TestLaws.{all_at, and_parts}
 use Rattle.linear.specs.Tests.{all_to}
-use Rattle.definitions.specs.Answers.{Check, go, refuse, refuse_if, refuse_with, ◌then◌}
+use Rattle.definitions.specs.Answers.{Check, go, refuse, refuse_if, ◌then◌}
 use Rattle.definitions.specs.Refusals.{step_limit}
 use Rattle.laws.proofs.AnswerLaws.{refuse_if_go, then_assoc, then_go}
 use Rattle.laws.proofs.TableLaws.{row_fits}
-use Rattle.calls.specs.Paper.{check_of}
-use Rattle.calls.specs.declared.Check as made
-use Rattle.calls.specs.declared.Check.TheVariants.{Pass, Refuse}
-use Rattle.calls.specs.declared.Refusal.{Refusal}
 use Rattle.checks.specs.Coefficients.{coefficient_checks}
 use Rattle.engine_spec.specs.Calls.{check1, check2, check3, check4, check6, check6_list, check7, coefficients_small, in_order, is_list, is_row, marks_in_order}
 use Rattle.engine_spec.specs.Calls.{resume_checks, standing_then, start_checks, start_from_checks}
@@ -42,7 +38,7 @@ map_rest p q coefs most numbers = check3 p q coefs then check4_by p q most numbe
 
 -- what every start checks of the map
 unfoldable pub map_checks : (p q : ℕ) (coefs : List ℤ) (most numbers : ℕ) → Check
-map_checks p q coefs most numbers = check1 p then check2 q then map_rest p q coefs most numbers
+map_checks p q coefs most numbers = size_checks p q then map_rest p q coefs most numbers
 
 unfoldable pub start_checks_by : (p q : ℕ) (coefs : List ℤ) (most numbers : ℕ) → Check
 start_checks_by p q coefs most numbers = map_checks p q coefs most numbers then check7 p q coefs
@@ -56,7 +52,7 @@ start_from_checks_by p q coefs n rows most numbers = map_checks p q coefs most n
 
 map_then : (p q : ℕ) (coefs : List ℤ) (most numbers : ℕ) (own : Check)
     → map_checks p q coefs most numbers then own ≡ check1 p then check2 q then check3 p q coefs then check4_by p q most numbers then own
-unfolding map_checks
+unfolding map_checks size_checks
 map_then p q coefs most numbers own = simp then_assoc
 
 pub start_checks_lem : (p q : ℕ) (coefs : List ℤ) (most : ℕ) (w : Work) → start_checks_by p q coefs most (length w.equations) ≡ start_checks p q coefs most w
@@ -68,48 +64,9 @@ pub start_from_checks_lem : (p q : ℕ) (coefs : List ℤ) (n : ℕ) (rows : Lis
 unfolding start_from_checks_by start_from_checks
 start_from_checks_lem p q coefs n rows most w = map_then p q coefs most (length w.equations) (list_rest p q coefs n rows most)
 
-module _ (p q : ℕ) (coefs : List ℤ) (most numbers : ℕ) where
-  pub count_refuses : eqb (length coefs) (p * q) ≡ false → refuse 3 [] ≡ map_rest p q coefs most numbers
-  unfolding refuse_with ◌then◌
-  count_refuses e = rw e
-
-  pub short_refuses : eqb (length coefs) (p * q) ≡ true → ltb numbers (p * q) ≡ true → refuse 4 [] ≡ map_rest p q coefs most numbers
-  unfolding refuse_with ◌then◌
-  short_refuses e g = rw (e, g)
-
-  pub few_refuses : eqb (length coefs) (p * q) ≡ true → ltb numbers (p * q) ≡ false → ltb most q ≡ true → refuse 4 [] ≡ map_rest p q coefs most numbers
-  unfolding refuse_with ◌then◌
-  few_refuses e g h = rw (e, g, h)
-
-  pub rest_passes : eqb (length coefs) (p * q) ≡ true → ltb numbers (p * q) ≡ false → ltb most q ≡ false → go ≡ map_rest p q coefs most numbers
-  unfolding refuse_with ◌then◌
-  rest_passes e g h = rw (e, g, h)
-
-  module _ {r : made.Check} (e : check_of r ≡ map_checks p q coefs most numbers) (own : Check) where
-    pub map_refused : {why : Refusal} → r ≡ Refuse why → check_of (Refuse why) ≡ map_checks p q coefs most numbers then own
-    unfolding ◌then◌
-    map_refused g = rw (← e, g)
-
-    pub map_passed : {c : Check} → r ≡ Pass → c ≡ own → c ≡ map_checks p q coefs most numbers then own
-    unfolding ◌then◌
-    map_passed g h = rw (← e, g) h
-
 -- the coefficients, where there are as many as the map has
 pub coefficients_are : (p q : ℕ) (coefs : List ℤ) → length coefs ≡ p * q → {c : Check} → c ≡ coefficient_checks coefs → c ≡ check7 p q coefs
 coefficients_are p q coefs n k = rw n at k
-
-module _ (p q : ℕ) (coefs : List ℤ) (n : ℕ) (rows : List ℕ) (most : ℕ) where
-  pub list_many : ltb most n ≡ true → refuse 4 [] ≡ list_rest p q coefs n rows most
-  unfolding refuse_with ◌then◌
-  list_many e = rw e
-
-  pub list_refuses : ltb most n ≡ false → is_list q n rows ≡ false → refuse 6 [] ≡ list_rest p q coefs n rows most
-  unfolding refuse_with ◌then◌
-  list_refuses e g = rw (e, g)
-
-  pub list_passes : ltb most n ≡ false → is_list q n rows ≡ true → {c : Check} → c ≡ check7 p q coefs → c ≡ list_rest p q coefs n rows most
-  unfolding refuse_with ◌then◌
-  list_passes e g h = rw (e, g) h
 
 -- what holds where the map is not refused
 pub record Starts (p q : ℕ) (coefs : List ℤ) (most numbers : ℕ) : Type 0 where
@@ -121,12 +78,11 @@ pub record Starts (p q : ℕ) (coefs : List ℤ) (most numbers : ℕ) : Type 0 w
 pub map_starts : (p q : ℕ) (coefs : List ℤ) (most numbers : ℕ) → map_checks p q coefs most numbers ≡ go → Starts p q coefs most numbers
 unfolding map_checks
 map_starts p q coefs most numbers e =
-    let (a, e₁) = then_go (check1 p) _ e in
-    let (b, e₂) = then_go (check2 q) _ e₁ in
-    let (c, d) = then_go (check3 p q coefs) _ e₂ in
+    let (a, e₁) = then_go (size_checks p q) _ e in
+    let (c, d) = then_go (check3 p q coefs) _ e₁ in
     let (s, m) = or_false (ltb numbers (p * q)) (ltb most q) (refuse_if_go _ 4 d) in
     record {
-      size = sized p q (unfold size_checks in (ap (λ x. x then check2 q) a ∙ unfold ◌then◌ in b));
+      size = sized p q a;
       count = eqb-true (length coefs) (p * q) (not-false _ (refuse_if_go _ 3 c));
       whole = ltb-false numbers (p * q) s;
       some = ltb-false most q m;
@@ -157,47 +113,20 @@ abbrev pub standing_rest : (p q most room : ℕ) → Work → Check
 standing_rest p q most room w = check4 p q most w then check6 p q most room w
 
 unfoldable pub standing : (p q most room : ℕ) → Work → Check
-standing p q most room w = check1 p then check2 q then standing_rest p q most room w
+standing p q most room w = size_checks p q then standing_rest p q most room w
 
-module _ (p q most room : ℕ) (w : Work) where
-  pub system_short : ltb (length w.equations) (p * q) ≡ true → refuse 4 [] ≡ standing_rest p q most room w
-  unfolding refuse_with ◌then◌
-  system_short e = rw e
+pub standing_then_lem : (p q most room : ℕ) (w : Work) (own : Check) → standing p q most room w then own ≡ standing_then p q most room w own
+unfolding standing size_checks
+standing_then_lem p q most room w own = simp then_assoc
 
-  pub basis_short : ltb (length w.equations) (p * q) ≡ false → ltb most q ≡ true → refuse 4 [] ≡ standing_rest p q most room w
-  unfolding refuse_with ◌then◌
-  basis_short e g = rw (e, g)
+then_none : (c : Check) → c then go ≡ c
+unfolding ◌then◌
+then_none (refuse n values) = refl
+then_none go = refl
 
-  module _ (e : ltb (length w.equations) (p * q) ≡ false) (g : ltb most q ≡ false) {b : Bool} (o : b ≡ in_order p q most room w) where
-    pub order_refuses : not b ≡ true → refuse 6 [] ≡ standing_rest p q most room w
-    unfolding refuse_with ◌then◌
-    order_refuses h = rw (e, g, ← o, h)
-
-    pub order_passes : not b ≡ false → go ≡ standing_rest p q most room w
-    unfolding refuse_with ◌then◌
-    order_passes h = rw (e, g, ← o, h)
-
-  standing_then_lem : (own : Check) → standing p q most room w then own ≡ standing_then p q most room w own
-  unfolding standing
-  standing_then_lem own = simp then_assoc
-
-  then_none : (c : Check) → c then go ≡ c
-  unfolding ◌then◌
-  then_none (refuse n values) = refl
-  then_none go = refl
-
-  pub resume_checks_lem : standing p q most room w ≡ resume_checks p q most room w
-  unfolding resume_checks
-  resume_checks_lem = sym (then_none (standing p q most room w)) ∙ standing_then_lem go
-
-  module _ {r : made.Check} (e : check_of r ≡ standing p q most room w) (own : Check) where
-    pub standing_refused : {why : Refusal} → r ≡ Refuse why → check_of (Refuse why) ≡ standing_then p q most room w own
-    unfolding ◌then◌
-    standing_refused g = rw (← standing_then_lem own, ← e, g)
-
-    pub standing_passed : {c : Check} → r ≡ Pass → c ≡ own → c ≡ standing_then p q most room w own
-    unfolding ◌then◌
-    standing_passed g h = rw (← standing_then_lem own, ← e, g) h
+pub resume_checks_lem : (p q most room : ℕ) (w : Work) → standing p q most room w ≡ resume_checks p q most room w
+unfolding resume_checks
+resume_checks_lem p q most room w = sym (then_none (standing p q most room w)) ∙ standing_then_lem p q most room w go
 
 -- what holds where it is not refused
 pub record Stands (p q most room : ℕ) (w : Work) : Type 0 where
@@ -209,12 +138,11 @@ pub record Stands (p q most room : ℕ) (w : Work) : Type 0 where
 pub stands : (p q most room : ℕ) (w : Work) → standing p q most room w ≡ go → Stands p q most room w
 unfolding standing
 stands p q most room w e =
-    let (a, e₁) = then_go (check1 p) _ e in
-    let (b, e₂) = then_go (check2 q) _ e₁ in
-    let (c, d) = then_go (check4 p q most w) _ e₂ in
+    let (a, e₁) = then_go (size_checks p q) _ e in
+    let (c, d) = then_go (check4 p q most w) _ e₁ in
     let (s, m) = or_false (ltb (length w.equations) (p * q)) (ltb most q) (refuse_if_go _ 4 c) in
     record {
-      size = sized p q (unfold size_checks in (ap (λ x. x then check2 q) a ∙ unfold ◌then◌ in b));
+      size = sized p q a;
       whole = ltb-false (length w.equations) (p * q) s;
       some = ltb-false most q m;
       order = not-false _ (refuse_if_go _ 6 d);
@@ -223,24 +151,6 @@ stands p q most room w e =
     or_false : (b c : Bool) → (b || c) ≡ false → (b ≡ false) × (c ≡ false)
     or_false true c e = (e, cc)
     or_false false c e = (refl, e)
-
--- ---- what is a call's own
-
-pub first_refuses : (b : Bool) (n : ℕ) (own : Check) → b ≡ false → refuse n [] ≡ refuse_if (not b) n then own
-unfolding refuse_with ◌then◌
-first_refuses b n own e = rw e
-
-pub first_passes : (b : Bool) (n : ℕ) (own : Check) {c : Check} → b ≡ true → c ≡ own → c ≡ refuse_if (not b) n then own
-unfolding refuse_with ◌then◌
-first_passes b n own e h = rw e h
-
-pub last_refuses : (b : Bool) (n : ℕ) → b ≡ false → refuse n [] ≡ refuse_if (not b) n
-unfolding refuse_with
-last_refuses b n e = rw e
-
-pub last_passes : (b : Bool) (n : ℕ) → b ≡ true → go ≡ refuse_if (not b) n
-unfolding refuse_with
-last_passes b n e = rw e
 
 -- ---- what the own checks need of a run that stands
 
@@ -279,24 +189,6 @@ module _ {p q most room : ℕ} {w : Work} (s : Stands p q most room w) where
         whole = omega (arith, s.whole, row_fits q i p l);
         small = λ j jq. coefficient_small (i * q + j) (omega (arith, row_fits q i p l));
       }
-
--- 32 of a row operation: the equation is left, and there is the other one
-pub left_other : (b d : Bool) → b ≡ true → d ≡ true → (b && d) ≡ true
-left_other b d e g = rw (e, g)
-
-pub left_none : (b d : Bool) → b ≡ false → (b && d) ≡ false
-left_none b d e = rw e
-
-pub left_past : (b d : Bool) → d ≡ false → (b && d) ≡ false
-left_past true d e = e
-left_past false d e = refl
-
--- 33: no unknown, or a fresh one
-pub none_asked : (b d : Bool) → b ≡ true → (b || d) ≡ true
-none_asked b d e = rw e
-
-pub fresh_asked : (b d : Bool) {x : Bool} → b ≡ false → d ≡ x → (b || d) ≡ x
-fresh_asked b d e g = rw e g
 
 -- an equation that is left is one of p
 pub left_below : (p e equation done : ℕ) → left_by p e equation done ≡ true → e < p

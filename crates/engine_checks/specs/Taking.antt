@@ -1,5 +1,5 @@
 -- Whether an equation is left, and an unknown fresh, from the marks and the working system. Assumes nothing.
-use Rattle.std.specs.Prelude.{◌≡◌, refl, Bool, true, false, not, ◌&&◌, ◌||◌, List, ◌≢◌, ℕ, zero, suc, ◌*◌, ◌<◌, T, eqb, ltb, ℤ}
+use Rattle.std.specs.Prelude.{◌≡◌, refl, Bool, true, false, not, ◌&&◌, ◌||◌, List, ℕ, ◌*◌, ◌<◌, T, eqb, ltb, ℤ}
 use Rattle.std.proofs.Common.{arith, ltb→lt}
 use Rattle.linear.proofs.TestLaws.{and_parts}
 use Rattle.linear.specs.Tests.{all_to, any_to}
@@ -21,14 +21,6 @@ free_in p q f equations done = all_to p (λ i. not (frozen done i) || is_zero (s
 abbrev pub fresh_by : (cap p q e f : ℕ) → List ℤ → ℕ → Bool
 fresh_by cap p q e f equations done =
     not (is_capped cap f) && (ltb f q && (is_minus_one (system_of q equations e f) && free_in p q f equations done))
-
--- a cap that is none, and one that there is
-pub no_cap : (cap f : ℕ) → cap ≡ 0 → false ≡ is_capped cap f
-no_cap cap f e = rw e
-
-pub some_cap : (cap f : ℕ) → cap ≢ 0 → eqb f 0 ≡ is_capped cap f
-some_cap zero f ne = absurd (ne refl)
-some_cap (suc c) f ne = refl
 
 -- ---- of the basis
 
@@ -63,12 +55,6 @@ row_of {q} {m} s i l = record { whole = omega (arith, s.whole, row_fits q i m l)
 module _ (p q e f : ℕ) (w : Work) where
   abbrev fresh : Bool
   fresh = fresh_by w.stage.cap p q e f w.equations w.done
-
-  pub fresh_fails : fresh ≡ false → is_fresh p q e f w ≡ false
-  fresh_fails h = rw (fresh_parts p q e f w, h)
-
-  pub fresh_alone : fresh ≡ true → {b : Bool} → is_alone q f w.count (basis_row q w) ≡ b → is_fresh p q e f w ≡ b
-  fresh_alone h g = rw (fresh_parts p q e f w, h) g
 
   pub fresh_low : fresh ≡ true → f < q
   fresh_low h =

@@ -23,67 +23,34 @@ pub fn in_order(
     requires { Within p q most room (length equations.now) (length basis.now) (length table.now) }
     ensures { result ≡ in_order p q most room (work_of equations.now basis.now table.now r) }
 {
-    let count = r.count.0;
-    let n = r.rows;
-    let steps = r.steps.0;
-    let degree = r.degree;
-    if !record_in_order(p, most, room, count, n, steps, r.done, r.equation) {
-        return false;
-    }
-    if !coefficients_small(equations, p * q) {
-        return false;
-    }
-    if !are_rows(basis, count, q) {
-        return false;
-    }
-    if !small::small_rows(table, n, q) {
-        return false;
-    }
-    rising(table, n, q, degree)
+    record_in_order(p, most, room, r)
+        && coefficients_small(equations, p * q)
+        && are_rows(basis, r.count.0, q)
+        && small::small_rows(table, r.rows, q)
+        && rising(table, r.rows, q, r.degree)
 }
 
 // The numbers of the record.
-fn record_in_order(
-    p: usize,
-    most: usize,
-    room: usize,
-    count: usize,
-    rows: usize,
-    steps: u64,
-    done: u32,
-    equation: usize,
-) -> bool
+#[tactic(auto, unfolding(crate::specs::Order::record_in_order))]
+fn record_in_order(p: usize, most: usize, room: usize, r: Record) -> bool
     requires { p ≤ 32 }
-    ensures { result ≡ record_in_order p most room count rows steps done equation }
+    ensures { result ≡ record_in_order p most room r.count.0 r.rows r.steps.0 r.done r.equation }
 {
-    if most < count {
-        return false;
-    }
-    if room < rows {
-        return false;
-    }
-    if calls::STEP_LIMIT < steps {
-        return false;
-    }
     let past: u64 = 1 << p;
-    if past <= done as u64 {
-        return false;
-    }
-    marks_in_order(p, done, equation)
+    r.count.0 <= most
+        && r.rows <= room
+        && r.steps.0 <= calls::STEP_LIMIT
+        && u64::from(r.done) < past
+        && marks_in_order(p, r.done, r.equation)
 }
 
 // Whether the equation under way is not done.
+#[tactic(auto, unfolding(engine_spec::specs::Calls::marks_in_order))]
 fn marks_in_order(p: usize, done: u32, equation: usize) -> bool
     requires { p ≤ 32 }
     ensures { result ≡ marks_in_order p done equation }
 {
-    if p < equation {
-        return false;
-    }
-    if equation < p {
-        return !signs::is_done(done, equation);
-    }
-    true
+    equation <= p && !(equation < p && signs::is_done(done, equation))
 }
 
 // Whether the first n coefficients of the working system are within their limit.
@@ -91,36 +58,25 @@ fn coefficients_small(equations: &[i32], n: usize) -> bool
     requires { n ≤ length equations.now }
     ensures { result ≡ coefficients_small n equations.now }
 {
-    let mut i = 0;
-    while i < n {
-        if !signs::is_small(equations[i]) {
-            return false;
-        }
-        i += 1;
-    }
-    true
+    (0..n).all(|i| signs::is_small(i64::from(equations[i])))
 }
 
 // Whether each of the first m rows is within the component limit and not all zero.
+
 fn are_rows(table: &[u32], m: usize, q: usize) -> bool
     requires { (q ≤ 32) × (m * q ≤ length table.now) }
     ensures { result ≡ are_rows q m (at table.now q) }
 {
-    if !small::small_rows(table, m, q) {
-        return false;
-    }
-    none_zero(table, m, q)
+    small::small_rows(table, m, q) && none_zero(table, m, q)
 }
 
 // Whether a list handed over is n rows of q numbers, each within the component limit and not all zero.
+#[tactic(auto, unfolding(engine_spec::specs::Calls::is_list, crate::specs::Order::are_rows))]
 pub fn is_list(rows: &[u32], n: usize, q: usize) -> bool
     requires { (q ≤ 32) × (n ≤ row_limit) }
     ensures { result ≡ is_list q n rows.now }
 {
-    if rows.len() != n * q {
-        return false;
-    }
-    are_rows(rows, n, q)
+    rows.len() == n * q && are_rows(rows, n, q)
 }
 
 // Whether none of the first m rows is all zero.
@@ -128,14 +84,7 @@ fn none_zero(table: &[u32], m: usize, q: usize) -> bool
     requires { SmallTable q m table.now }
     ensures { result ≡ none_zero q m (at table.now q) }
 {
-    let mut i = 0;
-    while i < m {
-        if degrees::degree_at(table, i * q, q) == 0 {
-            return false;
-        }
-        i += 1;
-    }
-    true
+    (0..m).all(|i| degrees::degree_at(table, i * q, q) != 0)
 }
 
 // Whether no degree of the first n rows is 0, below the one before or above d.
@@ -144,26 +93,19 @@ fn rising(table: &[u32], n: usize, q: usize, d: u64) -> bool
     ensures { result ≡ is_rising n (λ i. total (at table.now q i) q) d }
 {
     let mut before: u32 = 0;
-    let mut i = 0;
-    while i < n {
+    for i in 0..n {
         let degree = degrees::degree_at(table, i * q, q);
         if !rises(before, degree, d) {
             return false;
         }
         before = degree;
-        i += 1;
     }
     true
 }
 
+#[tactic(auto, unfolding(crate::specs::Order::rises_by))]
 fn rises(before: u32, degree: u32, d: u64) -> bool
     ensures { result ≡ rises_by before degree d }
 {
-    if degree == 0 {
-        return false;
-    }
-    if degree < before {
-        return false;
-    }
-    degree as u64 <= d
+    0 < degree && before <= degree && u64::from(degree) <= d
 }

@@ -7,7 +7,7 @@ ghost use Rattle.engine_checks.specs.Room.{basis_rows, stage_rows};
 pub fn basis_room(q: usize, basis: usize, sizes: usize) -> usize
     ensures { result ≡ basis_rows q basis sizes }
 {
-    smaller(rows_in(q, basis), sizes)
+    rows_in(q, basis).min(sizes)
 }
 
 // Those of the stage.
@@ -22,10 +22,10 @@ pub fn stage_room(
 ) -> usize
     ensures { result ≡ stage_rows q table values words degrees marks mothers }
 {
-    smaller(
-        smaller(smaller(rows_in(q, table), values), smaller(words, degrees)),
-        smaller(marks, mothers),
-    )
+    rows_in(q, table)
+        .min(values)
+        .min(words.min(degrees))
+        .min(marks.min(mothers))
 }
 
 fn rows_in(q: usize, numbers: usize) -> usize
@@ -34,11 +34,5 @@ fn rows_in(q: usize, numbers: usize) -> usize
     if q == 0 {
         return 0;
     }
-    smaller(numbers / q, 1000000000)
-}
-
-fn smaller(a: usize, b: usize) -> usize
-    ensures { result ≡ min a b }
-{
-    if a < b { a } else { b }
+    (numbers / q).min(1000000000)
 }

@@ -3,22 +3,16 @@ ghost use Rattle.std.specs.Prelude.{◌≡◌};
 ghost use Rattle.calls.specs.Paper.{check_of};
 ghost use Rattle.engine_checks.specs.Sizes.{size_checks};
 
-use calls::{Check, Refusal};
+use calls::Refusal;
 
-pub fn check(p: usize, q: usize) -> Check
+pub fn check(p: usize, q: usize) -> Result<(), Refusal>
     ensures { check_of result ≡ size_checks p q }
 {
-    if p < 1 {
-        return Check::Refuse(Refusal::Equations);
+    if p < 1 || 32 < p {
+        return Err(Refusal::Equations);
     }
-    if 32 < p {
-        return Check::Refuse(Refusal::Equations);
+    if q < 1 || 32 < q {
+        return Err(Refusal::Unknowns);
     }
-    if q < 1 {
-        return Check::Refuse(Refusal::Unknowns);
-    }
-    if 32 < q {
-        return Check::Refuse(Refusal::Unknowns);
-    }
-    Check::Pass
+    Ok(())
 }

@@ -6,18 +6,22 @@ ghost use Rattle.engine_beside.specs.Records.{work_of};
 ghost use Rattle.engine_checks.specs.Standing.{Roomed, map_checks, standing, start_checks_by, start_from_checks_by};
 
 use crate::{operations, order, sizes, taking};
-use calls::{Check, Refusal};
+use calls::Refusal;
 use checks::coefficients;
 use engine_beside::Record;
 
 // A start, with room for `most` rows in the basis: refusals 1, 2, 3, 4 and 7.
-pub fn check_start(p: usize, q: usize, coefs: &[i32], equations: usize, most: usize) -> Check
+pub fn check_start(
+    p: usize,
+    q: usize,
+    coefs: &[i32],
+    equations: usize,
+    most: usize,
+) -> Result<(), Refusal>
     ensures { check_of result ≡ start_checks_by p q coefs.now most equations }
 {
-    match check_map(p, q, coefs, equations, most) {
-        Check::Refuse(why) => Check::Refuse(why),
-        Check::Pass => coefficients::check(coefs),
-    }
+    check_map(p, q, coefs, equations, most)?;
+    coefficients::check(coefs)
 }
 
 // A start from n rows: 4 also of these, and 6 before 7.
@@ -29,43 +33,38 @@ pub fn check_start_from(
     rows: &[u32],
     equations: usize,
     most: usize,
-) -> Check
+) -> Result<(), Refusal>
     requires { most ≤ row_limit }
     ensures { check_of result ≡ start_from_checks_by p q coefs.now n rows.now most equations }
 {
-    match check_map(p, q, coefs, equations, most) {
-        Check::Refuse(why) => Check::Refuse(why),
-        Check::Pass => {
-            if most < n {
-                return Check::Refuse(Refusal::TableLength);
-            }
-            if !order::is_list(rows, n, q) {
-                return Check::Refuse(Refusal::OutOfOrder);
-            }
-            coefficients::check(coefs)
-        }
+    check_map(p, q, coefs, equations, most)?;
+    if most < n {
+        return Err(Refusal::TableLength);
     }
+    if !order::is_list(rows, n, q) {
+        return Err(Refusal::OutOfOrder);
+    }
+    coefficients::check(coefs)
 }
 
 // What every start checks of the map: refusals 1, 2, 3 and 4.
-fn check_map(p: usize, q: usize, coefs: &[i32], equations: usize, most: usize) -> Check
+fn check_map(
+    p: usize,
+    q: usize,
+    coefs: &[i32],
+    equations: usize,
+    most: usize,
+) -> Result<(), Refusal>
     ensures { check_of result ≡ map_checks p q coefs.now most equations }
 {
-    match sizes::check(p, q) {
-        Check::Refuse(why) => Check::Refuse(why),
-        Check::Pass => {
-            if coefs.len() != p * q {
-                return Check::Refuse(Refusal::CoefficientCount);
-            }
-            if equations < p * q {
-                return Check::Refuse(Refusal::TableLength);
-            }
-            if most < q {
-                return Check::Refuse(Refusal::TableLength);
-            }
-            Check::Pass
-        }
+    sizes::check(p, q)?;
+    if coefs.len() != p * q {
+        return Err(Refusal::CoefficientCount);
     }
+    if equations < p * q || most < q {
+        return Err(Refusal::TableLength);
+    }
+    Ok(())
 }
 
 // A call on a run: refusals 1, 2, 4 and 6.
@@ -78,25 +77,18 @@ pub fn check_standing(
     most: usize,
     room: usize,
     r: Record,
-) -> Check
+) -> Result<(), Refusal>
     requires { Roomed q most room (length basis.now) (length table.now) }
     ensures { check_of result ≡ standing p q most room (work_of equations.now basis.now table.now r) }
 {
-    match sizes::check(p, q) {
-        Check::Refuse(why) => Check::Refuse(why),
-        Check::Pass => {
-            if equations.len() < p * q {
-                return Check::Refuse(Refusal::TableLength);
-            }
-            if most < q {
-                return Check::Refuse(Refusal::TableLength);
-            }
-            if !order::in_order(p, q, equations, basis, table, most, room, r) {
-                return Check::Refuse(Refusal::OutOfOrder);
-            }
-            Check::Pass
-        }
+    sizes::check(p, q)?;
+    if equations.len() < p * q || most < q {
+        return Err(Refusal::TableLength);
     }
+    if !order::in_order(p, q, equations, basis, table, most, room, r) {
+        return Err(Refusal::OutOfOrder);
+    }
+    Ok(())
 }
 
 // The begin of a stage: 32 and 33 besides.
@@ -111,28 +103,21 @@ pub fn check_take(
     r: Record,
     e: usize,
     f: usize,
-) -> Check
+) -> Result<(), Refusal>
     requires { Roomed q most room (length basis.now) (length table.now) }
     ensures { check_of result ≡ take_checks p q most room e f (work_of equations.now basis.now table.now r) }
 {
-    match check_standing(p, q, equations, basis, table, most, room, r) {
-        Check::Refuse(why) => Check::Refuse(why),
-        Check::Pass => {
-            if !taking::is_left(p, e, r.equation, r.done) {
-                return Check::Refuse(Refusal::NotLeft);
-            }
-            if f == q {
-                return Check::Pass;
-            }
-            if !taking::is_fresh(equations, p, q, e, f, r.done, r.cap) {
-                return Check::Refuse(Refusal::NotFresh);
-            }
-            if !taking::is_alone(basis, r.count.0, q, f) {
-                return Check::Refuse(Refusal::NotFresh);
-            }
-            Check::Pass
-        }
+    check_standing(p, q, equations, basis, table, most, room, r)?;
+    if !taking::is_left(p, e, r.equation, r.done) {
+        return Err(Refusal::NotLeft);
     }
+    if f != q
+        && !(taking::is_fresh(equations, p, q, e, f, r.done, r.cap)
+            && taking::is_alone(basis, r.count.0, q, f))
+    {
+        return Err(Refusal::NotFresh);
+    }
+    Ok(())
 }
 
 // A row operation: 32 and 34 besides.
@@ -149,23 +134,16 @@ pub fn check_combine(
     s: usize,
     u: i32,
     t: i32,
-) -> Check
+) -> Result<(), Refusal>
     requires { Roomed q most room (length basis.now) (length table.now) }
     ensures { check_of result ≡ combine_checks p q most room r s u t (work_of equations.now basis.now table.now run) }
 {
-    match check_standing(p, q, equations, basis, table, most, room, run) {
-        Check::Refuse(why) => Check::Refuse(why),
-        Check::Pass => {
-            if !taking::is_left(p, r, run.equation, run.done) {
-                return Check::Refuse(Refusal::NotLeft);
-            }
-            if p <= s {
-                return Check::Refuse(Refusal::NotLeft);
-            }
-            if !operations::is_operation(equations, q, r, s, u, t) {
-                return Check::Refuse(Refusal::NotOperation);
-            }
-            Check::Pass
-        }
+    check_standing(p, q, equations, basis, table, most, room, run)?;
+    if !taking::is_left(p, r, run.equation, run.done) || p <= s {
+        return Err(Refusal::NotLeft);
     }
+    if !operations::is_operation(equations, q, r, s, u, t) {
+        return Err(Refusal::NotOperation);
+    }
+    Ok(())
 }

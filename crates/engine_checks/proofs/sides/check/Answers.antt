@@ -1,18 +1,17 @@
--- `sides::check` meets its contract: the shape decides, else the range. Assumes nothing.
-use mathlib.Core.Path.{sym, ◌∙◌, ap}
-use Rattle.calls.specs.Paper.{check_of}
-use Rattle.engine_checks.specs.Sides.{shaped, sides_checks_by, then_passed, then_refused}
+-- `sides::check` meets its contract: the shape decides, else the numbers. Assumes nothing.
+use Rattle.std.proofs.Common.{◌∙◌}
+use Rattle.calls.proofs.CallLaws.{handed_on, passes}
+use Rattle.checks.specs.CheckLaws.{passed_first, refused_first}
+use Rattle.engine_checks.specs.Sides.{shaped, sides_checks_by}
 use Rattle.engine_checks.proofs.sides.check.Goals as goal
 
+pub returns-in_err-check_shape : goal.returns-in_err-check_shape
+unfolding sides_checks_by
+returns-in_err-check_shape c = rw (handed_on c.from_residual.ensures) (refused_first _ c.in_err-check_shape.was c.check_shape.ensures)
+
 pub check_range-requires : goal.check_range-requires
-check_range-requires c =
-    let s = c.args in
-    (shaped s.p s.q _ _ _ s.equations s.basis s.sizes (sym c.check_shape.ensures ∙ ap check_of c.in-Pass.is)).0
+check_range-requires c = (shaped _ _ _ _ _ _ _ _ (passes c.check_shape.ensures c.in_ok-check_shape.was)).0
 
-pub returns-in-Refuse : goal.returns-in-Refuse
+pub returns : goal.returns
 unfolding sides_checks_by
-returns-in-Refuse c = then_refused c.check_shape.ensures _ c.in-Refuse.is
-
-pub returns-in-Pass : goal.returns-in-Pass
-unfolding sides_checks_by
-returns-in-Pass c = then_passed c.check_shape.ensures _ c.in-Pass.is c.check_range.ensures
+returns c = c.check_range.ensures ∙ passed_first _ c.in_ok-check_shape.was c.check_shape.ensures

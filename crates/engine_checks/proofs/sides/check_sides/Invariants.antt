@@ -1,12 +1,8 @@
 -- `sides::check_sides` meets its contract: no side passed is beyond the limit. Assumes nothing.
-use Prim.Native.Nat.{◌-◌, ◌≤◌}
 use mathlib.Core.Path.{◌≡◌}
 use Rattle.definitions.specs.Answers.{go}
 use Rattle.engine_checks.specs.Sides.{side_checks}
 use Rattle.engine_checks.proofs.sides.check_sides.Given as goal
 
 abbrev pub invariant-loop-i : goal.invariant-loop-i
-invariant-loop-i l = (l.i ≤ l.p) × (side_checks l.i l.p l.q l.coefs l.rights l.lower ≡ go)
-
-abbrev pub decreases-loop-i : goal.decreases-loop-i
-decreases-loop-i l = l.p - l.i
+invariant-loop-i l = side_checks l.i l.p l.q l.coefs l.rights l.lower ≡ go

@@ -1,81 +1,44 @@
--- `standing::check_combine` meets its contract: the first check that refuses decides. Assumes nothing.
-use mathlib.Core.Path.{sym, ◌∙◌, ap}
-use borrow.Author.Tests.{le-ltb, lt-ltb}
-use Rattle.calls.specs.Paper.{check_of}
-use Rattle.engine_beside.specs.Records.{work_of}
-use mir.Facts.{to_z-of_z}
+-- `standing::check_combine` meets its contract. Assumes nothing.
+use Rattle.std.proofs.Common.{◌∙◌, ◌≡◌, true, arith, sym, to_z-of_z}
+use Rattle.std.proofs.lemmas.Grind.{common_steps}
+use Rattle.definitions.specs.Answers.{refuse_with, ◌then◌}
 use Rattle.engine_spec.specs.Calls.{combine_checks, is_left, is_operation}
-use lib.Dec.{ltb}
+use Rattle.calls.proofs.CallLaws.{handed_on, passes}
+use Rattle.checks.specs.CheckLaws.{passed_first, refused_first}
 use Rattle.engine_checks.specs.Operating.{combines_small}
-use Rattle.engine_checks.specs.Taking.{left_by}
-use Rattle.engine_checks.specs.Standing.{
-  equation_small,
-  first_passes,
-  first_refuses,
-  last_passes,
-  last_refuses,
-  left_below,
-  left_none,
-  left_other,
-  left_past,
-  standing_passed,
-  standing_refused,
-  stands,
-}
+use Rattle.engine_checks.specs.Standing.{equation_small, left_below, standing_then_lem, stands}
 use Rattle.engine_checks.proofs.standing.check_combine.Goals as goal
 
-pub check_standing-requires : goal.check_standing-requires
-check_standing-requires c = c.requires
+pub returns-in_err-check_standing : goal.returns-in_err-check_standing
+unfolding combine_checks
+returns-in_err-check_standing c =
+    rw (handed_on c.from_residual.ensures) (refused_first _ c.in_err-check_standing.was c.check_standing.ensures ∙ standing_then_lem _ _ _ _ _ _)
 
 pub is_left-requires : goal.is_left-requires
-is_left-requires c = (stands c.args.p c.args.q c.args.most c.args.room
-    (work_of c.args.equations.now c.args.basis.now c.args.table.now c.args.run)
-    (sym c.check_standing.ensures ∙ ap check_of c.in-Pass.is)).size.equations
+is_left-requires c = (stands _ _ _ _ _ (passes c.check_standing.ensures c.in_ok-check_standing.was)).size.equations
 
 pub returns-then-not-is_left : goal.returns-then-not-is_left
-unfolding combine_checks is_left
-returns-then-not-is_left c = standing_passed c.args.p c.args.q c.args.most c.args.room
-    (work_of c.args.equations.now c.args.basis.now c.args.table.now c.args.run)
-    c.check_standing.ensures _ c.in-Pass.is
-    (first_refuses _ 32 _ (left_none _ _ (sym c.is_left.ensures ∙ c.if-not-is_left.true)))
-
-pub returns-then-p-s : goal.returns-then-p-s
-unfolding combine_checks is_left
-returns-then-p-s c = standing_passed c.args.p c.args.q c.args.most
-    c.args.room (work_of c.args.equations.now c.args.basis.now c.args.table.now c.args.run)
-    c.check_standing.ensures _ c.in-Pass.is
-    (first_refuses _ 32 _ (left_past (left_by c.args.p c.args.r c.args.run.equation c.args.run.done) (ltb c.args.s c.args.p)
-    (le-ltb c.args.s c.args.p c.if-p-s.true)))
+unfolding combine_checks is_left refuse_with ◌then◌
+returns-then-not-is_left c =
+    grind (arith, common_steps) ∙ passed_first _ c.in_ok-check_standing.was c.check_standing.ensures ∙ standing_then_lem _ _ _ _ _ _
 
 pub is_operation-requires : goal.is_operation-requires
-is_operation-requires c = let z = stands c.args.p c.args.q c.args.most c.args.room (work_of c.args.equations.now c.args.basis.now c.args.table.now
-    c.args.run) (sym c.check_standing.ensures ∙ ap check_of
-    c.in-Pass.is) in (
-      equation_small z c.args.r (left_below c.args.p c.args.r c.args.run.equation c.args.run.done
-          (sym c.is_left.ensures ∙ c.if-not-is_left.false)),
-      equation_small z c.args.s c.if-p-s.false,
+is_operation-requires c =
+    let s = c.args in
+    let z = stands _ _ _ _ _ (passes c.check_standing.ensures c.in_ok-check_standing.was) in
+    let left : c.is_left.result ≡ true = grind arith in (
+      equation_small z s.r (left_below s.p s.r s.run.equation s.run.done (sym c.is_left.ensures ∙ left)),
+      equation_small z s.s (grind arith),
     )
 
 pub returns-then-not-is_operation : goal.returns-then-not-is_operation
-unfolding combine_checks is_left is_operation combines_small
-returns-then-not-is_operation c = standing_passed c.args.p c.args.q
-    c.args.most c.args.room (work_of c.args.equations.now c.args.basis.now c.args.table.now c.args.run)
-    c.check_standing.ensures _ c.in-Pass.is
-    (first_passes _ 32 _ (left_other _ _ (sym c.is_left.ensures ∙ c.if-not-is_left.false)
-    (lt-ltb _ _ c.if-p-s.false))
-    (last_refuses _ 34 (sym (rw (to_z-of_z c.ranges.u, to_z-of_z c.ranges.t) at c.is_operation.ensures) ∙ c.if-not-is_operation.true)))
+unfolding combine_checks is_left is_operation combines_small refuse_with ◌then◌
+returns-then-not-is_operation c =
+    let o = rw (to_z-of_z c.ranges.u, to_z-of_z c.ranges.t) at c.is_operation.ensures in
+    grind (arith, common_steps) ∙ passed_first _ c.in_ok-check_standing.was c.check_standing.ensures ∙ standing_then_lem _ _ _ _ _ _
 
-pub returns-in-Refuse : goal.returns-in-Refuse
-unfolding combine_checks
-returns-in-Refuse c = standing_refused c.args.p c.args.q c.args.most c.args.room
-    (work_of c.args.equations.now c.args.basis.now c.args.table.now c.args.run) c.check_standing.ensures _
-    c.in-Refuse.is
-
-pub returns-else-not-is_operation : goal.returns-else-not-is_operation
-unfolding combine_checks is_left is_operation combines_small
-returns-else-not-is_operation c = standing_passed c.args.p c.args.q
-    c.args.most c.args.room (work_of c.args.equations.now c.args.basis.now c.args.table.now c.args.run)
-    c.check_standing.ensures _ c.in-Pass.is
-    (first_passes _ 32 _ (left_other _ _ (sym c.is_left.ensures ∙ c.if-not-is_left.false)
-    (lt-ltb _ _ c.if-p-s.false))
-    (last_passes _ 34 (sym (rw (to_z-of_z c.ranges.u, to_z-of_z c.ranges.t) at c.is_operation.ensures) ∙ c.if-not-is_operation.false)))
+pub returns : goal.returns
+unfolding combine_checks is_left is_operation combines_small refuse_with ◌then◌
+returns c =
+    let o = rw (to_z-of_z c.ranges.u, to_z-of_z c.ranges.t) at c.is_operation.ensures in
+    grind (arith, common_steps) ∙ passed_first _ c.in_ok-check_standing.was c.check_standing.ensures ∙ standing_then_lem _ _ _ _ _ _

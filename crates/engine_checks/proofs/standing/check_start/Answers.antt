@@ -1,21 +1,17 @@
--- `standing::check_start` meets its contract: what is found of the map decides, else the coefficients. Assumes nothing.
-use mathlib.Core.Path.{sym, ◌∙◌, ap}
-use Rattle.calls.specs.Paper.{check_of}
-use Rattle.engine_checks.specs.Standing.{coefficients_are, map_passed, map_refused, map_starts, start_checks_by}
+-- `standing::check_start` meets its contract. Assumes nothing.
+use Rattle.std.proofs.Common.{◌∙◌}
+use Rattle.calls.proofs.CallLaws.{handed_on, passes}
+use Rattle.checks.specs.CheckLaws.{passed_first, refused_first}
+use Rattle.engine_checks.specs.Standing.{coefficients_are, map_starts, start_checks_by}
 use Rattle.engine_checks.proofs.standing.check_start.Goals as goal
 
-pub returns-in-Refuse : goal.returns-in-Refuse
+pub returns-in_err-check_map : goal.returns-in_err-check_map
 unfolding start_checks_by
-returns-in-Refuse c =
-    let s = c.args in
-    map_refused s.p s.q s.coefs.now s.most s.equations c.check_map.ensures _ c.in-Refuse.is
+returns-in_err-check_map c = rw (handed_on c.from_residual.ensures) (refused_first _ c.in_err-check_map.was c.check_map.ensures)
 
-pub returns-in-Pass : goal.returns-in-Pass
+pub returns : goal.returns
 unfolding start_checks_by
-returns-in-Pass c =
+returns c =
     let s = c.args in
-    let e = c.check_map.ensures in
-    let told = c.in-Pass.is in
-    map_passed s.p s.q s.coefs.now s.most s.equations e _ told
-    (coefficients_are s.p s.q s.coefs.now (map_starts s.p s.q s.coefs.now s.most s.equations (sym e ∙ ap check_of told)).count
-    c.check.ensures)
+    let z = map_starts s.p s.q s.coefs.now s.most s.equations (passes c.check_map.ensures c.in_ok-check_map.was) in
+    coefficients_are s.p s.q s.coefs.now z.count c.check.ensures ∙ passed_first _ c.in_ok-check_map.was c.check_map.ensures
