@@ -7,7 +7,7 @@ ghost use Rattle.definitions.specs.Input.{input_of};
 ghost use Rattle.calls.specs.Paper.{state_of, outcome_of, left_by, check_of};
 ghost use Rattle.single_spec.specs.Calls.{single_start, single_resume, single_start_checks, single_resume_checks};
 
-use calls::{Answer, Check, Outcome, Record};
+use calls::{Answer, Outcome, Record, Refusal};
 
 // The plain start.
 pub fn started(
@@ -21,10 +21,10 @@ pub fn started(
     ensures { outcome_of result stack.new list.new ≡
         single_start (input_of p q coefs.now) (state_of stack.old list.old r) }
 {
-    match check_start(p, q, coefs, stack, list, r) {
-        Check::Refuse(why) => calls::refused(why, r),
-        Check::Pass => starts::started(p, q, coefs, stack, list, r),
+    if let Err(why) = check_start(p, q, coefs, stack, list, r) {
+        return calls::refused(why, r);
     }
+    starts::started(p, q, coefs, stack, list, r)
 }
 
 // The continuing call.
@@ -40,10 +40,10 @@ pub fn resumed(
     ensures { outcome_of result stack.new list.new ≡
         single_resume budget (input_of p q coefs.now) (state_of stack.old list.old r) }
 {
-    match check_resume(p, q, coefs, stack, list, r) {
-        Check::Refuse(why) => calls::refused(why, r),
-        Check::Pass => walk::resumed(p, q, coefs, stack, list, r, budget, calls::COMPONENT_LIMIT),
+    if let Err(why) = check_resume(p, q, coefs, stack, list, r) {
+        return calls::refused(why, r);
     }
+    walk::resumed(p, q, coefs, stack, list, r, budget, calls::COMPONENT_LIMIT)
 }
 
 // The plain start on the caller's own record.
@@ -82,21 +82,31 @@ pub fn resume(
 }
 
 // What the start looks at.
-fn check_start(p: usize, q: usize, coefs: &[i32], stack: &[u32], list: &[u32], r: Record) -> Check
+fn check_start(
+    p: usize,
+    q: usize,
+    coefs: &[i32],
+    stack: &[u32],
+    list: &[u32],
+    r: Record,
+) -> Result<(), Refusal>
     ensures { check_of result ≡ single_start_checks (input_of p q coefs.now) (state_of stack.now list.now r) }
 {
-    match checks::check_start(p, q, coefs, stack, list, r) {
-        Check::Refuse(why) => Check::Refuse(why),
-        Check::Pass => single_order::columns::check(p, q, coefs),
-    }
+    checks::check_start(p, q, coefs, stack, list, r)?;
+    single_order::columns::check(p, q, coefs)
 }
 
 // What the continuing call looks at.
-fn check_resume(p: usize, q: usize, coefs: &[i32], stack: &[u32], list: &[u32], r: Record) -> Check
+fn check_resume(
+    p: usize,
+    q: usize,
+    coefs: &[i32],
+    stack: &[u32],
+    list: &[u32],
+    r: Record,
+) -> Result<(), Refusal>
     ensures { check_of result ≡ single_resume_checks (input_of p q coefs.now) (state_of stack.now list.now r) }
 {
-    match checks::check_resume(p, q, coefs, stack, list, r, calls::COMPONENT_LIMIT) {
-        Check::Refuse(why) => Check::Refuse(why),
-        Check::Pass => single_order::columns::check(p, q, coefs),
-    }
+    checks::check_resume(p, q, coefs, stack, list, r, calls::COMPONENT_LIMIT)?;
+    single_order::columns::check(p, q, coefs)
 }

@@ -2,20 +2,18 @@
 use mathlib.Core.Path.{◌∙◌}
 use native.Mathlib.Omega.{arith}
 use Rattle.laws.proofs.RefusalLaws.{start_shaped}
-use Rattle.calls.proofs.CallLaws.{passes}
+use Rattle.calls.proofs.CallLaws.{handed_on, passes}
 use Rattle.checks.specs.CheckLaws.{passed_first, refused_first}
 use Rattle.single_spec.specs.Calls.{single_start_checks}
 use Rattle.single.proofs.check_start.Goals as goal
 
 pub check-requires : goal.check-requires
-check-requires c =
-    let g = start_shaped _ _ (passes c.check_start.ensures c.in-Pass.is) in
-    omega (arith, g.coefs)
+check-requires c = let g = start_shaped _ _ (passes c.check_start.ensures c.in_ok-check_start.was) in omega (arith, g.coefs)
 
-pub returns-in-Refuse : goal.returns-in-Refuse
+pub returns-in_err-check_start : goal.returns-in_err-check_start
 unfolding single_start_checks
-returns-in-Refuse c = refused_first _ c.in-Refuse.is c.check_start.ensures
+returns-in_err-check_start c = rw (handed_on c.from_residual.ensures) (refused_first _ c.in_err-check_start.was c.check_start.ensures)
 
-pub returns-in-Pass : goal.returns-in-Pass
+pub returns : goal.returns
 unfolding single_start_checks
-returns-in-Pass c = c.check.ensures ∙ passed_first _ c.in-Pass.is c.check_start.ensures
+returns c = c.check.ensures ∙ passed_first _ c.in_ok-check_start.was c.check_start.ensures

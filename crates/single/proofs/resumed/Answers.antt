@@ -3,12 +3,12 @@ use Rattle.calls.proofs.CallLaws.{call_passed, call_refused}
 use Rattle.single_spec.specs.Calls.{single_resume}
 use Rattle.single.proofs.resumed.Goals as goal
 
-pub returns-in-Refuse : goal.returns-in-Refuse
+pub returns-in-Err : goal.returns-in-Err
 unfolding single_resume
-returns-in-Refuse c =
-    rw c.refused.ensures (call_refused c.check_resume.ensures _ _ c.in-Refuse.is)
+returns-in-Err c =
+    rw c.refused.ensures (call_refused c.check_resume.ensures _ _ c.in-Err.is)
 
-pub returns-in-Pass : goal.returns-in-Pass
+pub returns : goal.returns
 unfolding single_resume
-returns-in-Pass c =
-    call_passed c.check_resume.ensures _ _ c.in-Pass.is c.resumed.ensures
+returns c =
+    call_passed c.check_resume.ensures _ _ c.in_default.is c.resumed.ensures

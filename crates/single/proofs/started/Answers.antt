@@ -4,12 +4,12 @@ use Rattle.calls.proofs.CallLaws.{call_passed, call_refused}
 use Rattle.single_spec.specs.Calls.{single_start}
 use Rattle.single.proofs.started.Goals as goal
 
-pub returns-in-Refuse : goal.returns-in-Refuse
+pub returns-in-Err : goal.returns-in-Err
 unfolding single_start
-returns-in-Refuse c =
-    rw c.refused.ensures (call_refused c.check_start.ensures _ _ c.in-Refuse.is)
+returns-in-Err c =
+    rw c.refused.ensures (call_refused c.check_start.ensures _ _ c.in-Err.is)
 
-pub returns-in-Pass : goal.returns-in-Pass
+pub returns : goal.returns
 unfolding single_start
-returns-in-Pass c =
-    call_passed c.check_start.ensures _ _ c.in-Pass.is (c.started.ensures most_component)
+returns c =
+    call_passed c.check_start.ensures _ _ c.in_default.is (c.started.ensures most_component)
