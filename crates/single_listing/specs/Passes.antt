@@ -1,12 +1,14 @@
 -- The two passes of the listing: its checks as the code makes them, what is known once they find nothing, and the rows passed so far. Assumes nothing.
-use Rattle.std.specs.Prelude.{◌≡◌, refl, Bool, List, [], ◌∷◌, ◌++◌, ℕ, zero, suc, ◌+◌, ◌*◌, ◌-◌, ◌/◌, ◌≤◌, ◌<◌, ltb, length, drop}
+use Rattle.std.specs.Prelude.{◌≡◌, refl, Bool, Option, None, Some, List, [], ◌∷◌, ◌++◌, ℕ, zero, suc, ◌+◌, ◌*◌, ◌-◌, ◌/◌, ◌≤◌, ◌<◌, ltb, length, drop}
+use Rattle.std.specs.Option.{MatchOption, SomeIff}
 use Rattle.std.proofs.Math.Path.{sym}
 use Rattle.std.proofs.Common.{◌∙◌, ap, inl, inr, div-add-mod', mul-le-mul_right, arith, take-append-drop}
 use Rattle.std.proofs.Math.Bool.{true, false, not}
 use Rattle.std.proofs.Math.Nat.{le_antisymm}
 use Rattle.std.proofs.Math.Dec.{T}
 use Rattle.std.proofs.Math.ListN.{length-append}
-use borrow.Author.Tests.{le-ltb, lt-ltb, ltb-false}
+use borrow.Author.Tests.{le-ltb, lt-ltb, ltb-false, ltb-true}
+use Rattle.std.proofs.lemmas.Bool.{not-false, not-true}
 use Rattle.linear.proofs.Cases.{split}
 use Rattle.definitions.specs.Answers.{Check, ◌then◌, go, refuse, refuse_first, refuse_if, refuse_with}
 use Rattle.definitions.specs.Refusals.{check7}
@@ -17,7 +19,7 @@ use Rattle.laws.proofs.AnswerLaws.{refuse_at, refuse_if_go, refuse_next, then_as
 use Rattle.laws.proofs.CheckLaws.{decides_first}
 use Rattle.checks.specs.Counts.{counted, count_checks}
 use Rattle.texts.specs.Put.{Put}
-use Rattle.single_spec.specs.Graph.{gate}
+use Rattle.single_order.specs.Rows.{if_so, so_none, so_some}
 use Rattle.single_spec.specs.Listing.{lines_to, listed_by, listing, listing_call, listing_checks, loop_line, refused, row_checks, written}
 use Rattle.single_spec.proofs.ListingLaws.{lines_next}
 use Rattle.single_spec.specs.Profile.{check26, check30, is_circuit_of}
@@ -110,88 +112,87 @@ module _ (i : Input) (list : List ℕ) (found : ℕ) (out : List ℕ) where
 
 -- ---- the first pass: one more row
 
+-- what is left of a room after n more bytes
+abbrev pub less : Option ℕ → ℕ → Option ℕ
+less (Some room) n = if_so (not (ltb room n)) (room - n)
+less None n = None
+
+-- what a checked subtraction leaves of it
+pub less_by : (left : Option ℕ) (n : ℕ) (r : Option ℕ) {Q : ℕ → Type 0} → MatchOption left (r ≡ None) Q
+    → ((room : ℕ) → Q room → SomeIff r (n ≤ room) (room - n)) → r ≡ less left n
+less_by None n r e each = e
+less_by (Some room) n r e each =
+    let h = each room e in
+    elim (split room n) [
+      | inl l ↦ rw (lt-ltb room n l) (grind arith)
+      | inr l ↦ rw (le-ltb room n l) (grind arith)
+    ]
+
 module _ (m : System) (list : List ℕ) (room : ℕ) where
   -- how long the lines of the first i rows are
   abbrev lines : ℕ → ℕ
   lines i = length (lines_to i m (at list m.q))
 
-  -- the first i rows are minimal solutions; what is left of the space; and whether it is too short for their lines
-  pub record Checked (left : ℕ) (short : Bool) (i : ℕ) : Type 0 where
+  -- the first i rows are minimal solutions; and what is left of the space, where it is long enough for their lines
+  pub record Checked (left : Option ℕ) (i : ℕ) : Type 0 where
     pub minimal : check30 m i (at list m.q) ≡ go
-    pub rest : left ≡ room - lines i
-    pub lacking : short ≡ ltb room (lines i)
+    pub rest : left ≡ if_so (not (ltb room (lines i))) (room - lines i)
 
   lines_more : (i : ℕ) → lines (i + 1) ≡ lines i + length (loop_line m (at list m.q i))
   lines_more i = ap length (lines_next m (at list m.q) i) ∙ length-append (lines_to i m (at list m.q)) (loop_line m (at list m.q i))
 
-  pub checked_none : Checked room false 0
+  pub checked_none : Checked (Some room) 0
   unfolding check30 refuse_first lines_to
-  checked_none = record { minimal = refl; rest = omega arith; lacking = sym (le-ltb room 0 (omega arith)) }
+  checked_none = record { minimal = refl; rest = rw (le-ltb room 0 (omega arith)) (ap Some (omega arith)) }
 
-  -- the length n that the row's line has; 0 where the row is no minimal solution
-  module _ {left : ℕ} {short : Bool} {i : ℕ} (h : Checked left short i) (n : ℕ)
-      (e : n ≡ gate (is_circuit_of m (at list m.q i)) (length (loop_line m (at list m.q i)))) where
+  module _ {left : Option ℕ} {i : ℕ} (h : Checked left i) where
     abbrev minimal_row : Bool
     minimal_row = is_circuit_of m (at list m.q i)
 
     abbrev row_line : ℕ
     row_line = length (loop_line m (at list m.q i))
 
-    line_some : 0 < row_line
-    unfolding loop_line
-    line_some = rw length-append (omega arith)
-
-    zero_fails : n ≡ 0 → minimal_row ≡ false
-    zero_fails z = go minimal_row e
-      where
-        go : (b : Bool) → n ≡ gate b row_line → b ≡ false
-        go true g = absurd (omega (arith, line_some))
-        go false g = refl
-
-    some_holds : (n ≡ 0 → ⊥) → (minimal_row ≡ true) × (n ≡ row_line)
-    some_holds ne = go minimal_row e
-      where
-        go : (b : Bool) → n ≡ gate b row_line → (b ≡ true) × (n ≡ row_line)
-        go true g = (refl, g)
-        go false g = absurd (ne g)
-
-    pub checked_fails : (found : ℕ) → i < found → n ≡ 0 → refuse 30 ((i + 1) ∷ []) ≡ row_checks m list found room
+    pub checked_fails : (found : ℕ) → i < found → None ≡ if_so minimal_row row_line → refuse 30 ((i + 1) ∷ []) ≡ row_checks m list found room
     unfolding row_checks check30 ◌then◌
-    checked_fails found l z = let g = zero_fails z in rw (refuse_at 30 found (λ k. not (is_circuit_of m (at list m.q k))) i l h.minimal (rw g))
+    checked_fails found l e =
+        let g = so_none minimal_row row_line e in
+        rw (refuse_at 30 found (λ k. not (is_circuit_of m (at list m.q k))) i l h.minimal (rw g))
 
-    more_minimal : (n ≡ 0 → ⊥) → check30 m (i + 1) (at list m.q) ≡ go
+    -- the row's line has length n
+    pub checked_more : (n : ℕ) → Some n ≡ if_so minimal_row row_line → {after : Option ℕ} → after ≡ less left n → Checked after (i + 1)
     unfolding check30
-    more_minimal ne = let (g, _) = some_holds ne in refuse_next 30 i (λ k. not (is_circuit_of m (at list m.q k))) h.minimal (rw g)
-
-    pub checked_short : (n ≡ 0 → ⊥) → left < n → Checked 0 true (i + 1)
-    checked_short ne l =
-        let (_, g) = some_holds ne in
-        let r = h.rest in
+    checked_more n e {after} f =
+        let (g, k) = so_some minimal_row row_line e in
         record {
-          minimal = more_minimal ne;
-          rest = omega (arith, lines_more i);
-          lacking = sym (lt-ltb room (lines (i + 1)) (omega (arith, lines_more i)));
+          minimal = refuse_next 30 i (λ k. not (is_circuit_of m (at list m.q k))) h.minimal (rw g);
+          rest = f ∙ ap (λ l. less l n) h.rest ∙ go (ltb room (lines i)) refl (k ∙ sym (omega (arith, lines_more i)));
         }
-
-    pub checked_fits : (n ≡ 0 → ⊥) → n ≤ left → Checked (left - n) short (i + 1)
-    checked_fits ne l =
-        let (_, g) = some_holds ne in
-        let r = h.rest in
-        record {
-          minimal = more_minimal ne;
-          rest = omega (arith, lines_more i);
-          lacking = h.lacking ∙ le-ltb room (lines i) (omega arith) ∙ sym (le-ltb room (lines (i + 1)) (omega (arith, lines_more i)));
-        }
+      where
+        go : (b : Bool) → ltb room (lines i) ≡ b → n ≡ lines (i + 1) - lines i
+            → less (if_so (not b) (room - lines i)) n ≡ if_so (not (ltb room (lines (i + 1)))) (room - lines (i + 1))
+        go true u v = rw (lt-ltb room (lines (i + 1)) (omega (arith, ltb-true room (lines i) u, lines_more i)))
+        go false u v =
+            let l : lines i ≤ room = ltb-false room (lines i) u in
+            elim (split room (lines (i + 1))) [
+              | inl o ↦ rw (lt-ltb room (lines (i + 1)) o, lt-ltb (room - lines i) n (omega (arith, lines_more i)))
+              | inr o ↦ rw (le-ltb room (lines (i + 1)) o, le-ltb (room - lines i) n (omega (arith, lines_more i))) (ap Some (omega (arith, lines_more i)))
+            ]
 
   -- all rows are passed
-  module _ {left : ℕ} {short : Bool} {i found : ℕ} (h : Checked left short i) (a : i ≤ found) (b : found ≤ i) where
-    pub checked_lacks : short ≡ true → refuse 29 [] ≡ row_checks m list found room
+  module _ {left : Option ℕ} {i found : ℕ} (h : Checked left i) (a : i ≤ found) (b : found ≤ i) where
+    pub checked_lacks : left ≡ None → refuse 29 [] ≡ row_checks m list found room
     unfolding row_checks listing refuse_with ◌then◌
-    checked_lacks s = let e = le_antisymm a b in rw (← e, h.minimal, ← h.lacking, s)
+    checked_lacks s =
+        let e = le_antisymm a b in
+        let g = so_none (not (ltb room (lines i))) _ (sym s ∙ h.rest) in
+        rw (← e, h.minimal, not-false (ltb room (lines i)) g)
 
-    pub checked_all : short ≡ false → go ≡ row_checks m list found room
+    pub checked_all : (k : ℕ) → left ≡ Some k → go ≡ row_checks m list found room
     unfolding row_checks listing refuse_with ◌then◌
-    checked_all s = let e = le_antisymm a b in rw (← e, h.minimal, ← h.lacking, s)
+    checked_all k s =
+        let e = le_antisymm a b in
+        let (g, _) = so_some (not (ltb room (lines i))) _ (sym s ∙ h.rest) in
+        rw (← e, h.minimal, not-true (ltb room (lines i)) g)
 
 -- ---- the second pass: the next row has room
 

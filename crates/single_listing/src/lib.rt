@@ -9,9 +9,10 @@ ghost use Rattle.single_order.specs.Rows.{map_of};
 ghost use Rattle.single_spec.specs.Listing.{listing, listing_call, row_checks};
 ghost use Rattle.texts.specs.Put.{Put};
 ghost use Rattle.single_listing.specs.Listed.{listed_of, check_of, number_of, values_of};
+ghost use Rattle.single_listing.specs.declared.ListingRefusal.TheVariants.{Call};
 ghost use Rattle.single_listing.specs.Passes.{Whole, Listable, checks_in};
 
-use calls::{Check, Refusal, Solutions};
+use calls::{Refusal, Solutions};
 
 mod lines; // lines.rt: the line of a minimal solution
 mod map; // map.rt: what the listing looks at before the rows
@@ -24,18 +25,12 @@ pub enum ListingRefusal {
     OutputLength,
 }
 
-// What the listing answers: how many bytes it wrote, or a refusal.
-#[derive(Clone, Copy)]
-pub enum ListingAnswer {
-    Written(usize),
-    Refused(ListingRefusal),
-}
+impl From<Refusal> for ListingRefusal {
+    ghost from_gives = { λ why r. r ≡ Call why };
 
-// What the first pass finds.
-#[derive(Clone, Copy)]
-enum ListingCheck {
-    Refuse(ListingRefusal),
-    Pass,
+    fn from(why: Refusal) -> ListingRefusal {
+        ListingRefusal::Call(why)
+    }
 }
 
 // Writes the listing of the first `found` rows of the list to the beginning of `out`.
@@ -46,23 +41,26 @@ pub fn listed(
     list: &[u32],
     found: Solutions,
     out: &mut [u8],
-) -> ListingAnswer
+) -> Result<usize, ListingRefusal>
     ensures { listed_of result out.new ≡ listing_call (input_of p q coefs.now) list.now found.0 out.old }
 {
-    match check(p, q, coefs, list, found.0, out.len()) {
-        ListingCheck::Refuse(why) => ListingAnswer::Refused(why),
-        ListingCheck::Pass => ListingAnswer::Written(write(p, q, coefs, list, found.0, out)),
-    }
+    check(p, q, coefs, list, found.0, out.len())?;
+    Ok(write(p, q, coefs, list, found.0, out))
 }
 
 // The first pass: all that the listing looks at, into an output space of length `room`.
-fn check(p: usize, q: usize, coefs: &[i32], list: &[u32], found: usize, room: usize) -> ListingCheck
+fn check(
+    p: usize,
+    q: usize,
+    coefs: &[i32],
+    list: &[u32],
+    found: usize,
+    room: usize,
+) -> Result<(), ListingRefusal>
     ensures { check_of result ≡ checks_in (input_of p q coefs.now) list.now found room }
 {
-    match map::check(p, q, coefs, list.len(), found) {
-        Check::Refuse(why) => ListingCheck::Refuse(ListingRefusal::Call(why)),
-        Check::Pass => check_rows(p, q, coefs, list, found, room),
-    }
+    map::check(p, q, coefs, list.len(), found)?;
+    check_rows(p, q, coefs, list, found, room)
 }
 
 // Refusals 30 and 29: the rows, and the length of their lines.
@@ -73,30 +71,22 @@ fn check_rows(
     list: &[u32],
     found: usize,
     room: usize,
-) -> ListingCheck
+) -> Result<(), ListingRefusal>
     requires { Whole (map_of p q coefs.now) list.now found }
     ensures { check_of result ≡ row_checks (map_of p q coefs.now) list.now found room }
 {
-    let mut left = room;
-    let mut short = false;
-    let mut i = 0;
-    while i < found {
-        let length = lines::measure(p, q, coefs, list, i * q);
-        if length == 0 {
-            return ListingCheck::Refuse(ListingRefusal::NotMinimal(i + 1));
-        }
-        i += 1;
-        if left < length {
-            left = 0;
-            short = true;
-            continue;
-        }
-        left -= length;
+    // what is left of the room, while there is enough
+    let mut left = Some(room);
+    for i in 0..found {
+        let Some(length) = lines::measure(p, q, coefs, list, i * q) else {
+            return Err(ListingRefusal::NotMinimal(i + 1));
+        };
+        left = left.and_then(|room| room.checked_sub(length));
     }
-    if short {
-        return ListingCheck::Refuse(ListingRefusal::OutputLength);
+    match left {
+        Some(_) => Ok(()),
+        None => Err(ListingRefusal::OutputLength),
     }
-    ListingCheck::Pass
 }
 
 // The second pass: the lines of the first `found` rows.
@@ -105,10 +95,8 @@ fn write(p: usize, q: usize, coefs: &[i32], list: &[u32], found: usize, out: &mu
     ensures { Put out.old 0 (listing (map_of p q coefs.now) list.now found) out.new result }
 {
     let mut at = 0;
-    let mut i = 0;
-    while i < found {
+    for i in 0..found {
         at = lines::write(p, q, coefs, list, i * q, out, at);
-        i += 1;
     }
     at
 }

@@ -3,18 +3,17 @@ ghost use Rattle.std.specs.Prelude.{◌≡◌, ◌++◌, ◌∷◌, [], ◌+◌,
 ghost use Rattle.single_order.specs.Rows.{map_of};
 ghost use Rattle.texts.specs.Decimals.{decimal, space};
 ghost use Rattle.texts.specs.Put.{Put};
-ghost use Rattle.single_spec.specs.Graph.{gate};
 ghost use Rattle.single_spec.specs.Listing.{loop_line, rising_to, order_to};
 ghost use Rattle.single_spec.specs.Profile.{is_circuit_of};
-ghost use Rattle.single_order.specs.Rows.{row_of, Fits};
+ghost use Rattle.single_order.specs.Rows.{if_so, row_of, Fits};
 ghost use Rattle.single_listing.specs.Lines.{LineOf, Low, Room};
 
 use texts::put;
 
-// How long the line of the row from place `base` is; 0 where the row is no minimal solution.
-pub fn measure(p: usize, q: usize, coefs: &[i32], list: &[u32], base: usize) -> usize
+// How long the line of the row from place `base` is, where the row is a minimal solution.
+pub fn measure(p: usize, q: usize, coefs: &[i32], list: &[u32], base: usize) -> Option<usize>
     requires { (q ≤ 16) × Fits p q (length coefs.now) base (length list.now) }
-    ensures { result ≡ gate (is_circuit_of (map_of p q coefs.now) (row_of list.now base))
+    ensures { result ≡ if_so (is_circuit_of (map_of p q coefs.now) (row_of list.now base))
         (length (loop_line (map_of p q coefs.now) (row_of list.now base))) }
 {
     let mut line = [0u8; 128];
@@ -36,24 +35,28 @@ pub fn write(
     ensures { Put out.old at (loop_line (map_of p q coefs.now) (row_of list.now base)) out.new result }
 {
     let mut line = [0u8; 128];
-    let n = make(p, q, coefs, list, base, &mut line);
+    let n = make(p, q, coefs, list, base, &mut line).unwrap();
     put::word(out, at, &line[..n])
 }
 
-// Makes the line at the beginning of `line`, and says how long it is; 0 where the row is no minimal solution.
-fn make(p: usize, q: usize, coefs: &[i32], list: &[u32], base: usize, line: &mut [u8]) -> usize
+// Makes the line of a minimal solution at the beginning of `line`, and says how long it is.
+fn make(
+    p: usize,
+    q: usize,
+    coefs: &[i32],
+    list: &[u32],
+    base: usize,
+    line: &mut [u8],
+) -> Option<usize>
     requires { (q ≤ 16) × Fits p q (length coefs.now) base (length list.now) × (128 ≤ length line.old) }
     ensures { LineOf (map_of p q coefs.now) (row_of list.now base) line.new result }
 {
     let mut order = [0usize; 16];
-    let size = single_order::order_of(p, q, coefs, list, base, &mut order);
-    if size == 0 {
-        return 0;
-    }
+    let size = single_order::order_of(p, q, coefs, list, base, &mut order)?;
     let named = rising(line, q, list, base);
     let word = put::word(line, named, b"order");
-    let end = ordered(line, word, &order, size);
-    put::byte(line, end, b'\n')
+    let end = ordered(line, word, &order[..size]);
+    Some(put::byte(line, end, b'\n'))
 }
 
 // The unknowns of the row, rising, each before a space.
@@ -63,29 +66,23 @@ fn rising(line: &mut [u8], q: usize, list: &[u32], base: usize) -> usize
     ensures upper_bound { result ≤ 3 * q }
 {
     let mut at = 0;
-    let mut j = 0;
-    while j < q {
-        if list[base + j] == 0 {
-            j += 1;
-            continue;
+    for j in 0..q {
+        if list[base + j] != 0 {
+            at = before_space(line, at, j);
         }
-        at = before_space(line, at, j);
-        j += 1;
     }
     at
 }
 
-// The first `size` unknowns of the order, each after a space.
-fn ordered(line: &mut [u8], at: usize, order: &[usize; 16], size: usize) -> usize
-    requires { (size ≤ 16) × (at + 3 * size ≤ length line.old) × Low order.now size × (length order.now ≡ 16) }
-    ensures put { Put line.old at (order_to size (λ k. get_or order.now k 0)) line.new result }
-    ensures upper_bound { result ≤ at + 3 * size }
+// The unknowns of the order, each after a space.
+fn ordered(line: &mut [u8], at: usize, order: &[usize]) -> usize
+    requires { (length order.now ≤ 16) × (at + 3 * length order.now ≤ length line.old) × Low order.now }
+    ensures put { Put line.old at (order_to (length order.now) (λ k. get_or order.now k 0)) line.new result }
+    ensures upper_bound { result ≤ at + 3 * length order.now }
 {
     let mut next = at;
-    let mut k = 0;
-    while k < size {
-        next = after_space(line, next, order[k]);
-        k += 1;
+    for j in order {
+        next = after_space(line, next, *j);
     }
     next
 }

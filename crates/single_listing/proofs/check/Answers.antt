@@ -2,6 +2,7 @@
 use mathlib.Core.Path.{◌∙◌}
 use Rattle.calls.proofs.CallLaws.{passes}
 use Rattle.definitions.specs.Input.{input_of}
+use Rattle.std.proofs.lemmas.Result.{err_from_is_err_and}
 use Rattle.checks.specs.CheckLaws.{refused_first, passed_first}
 use Rattle.single_listing.specs.Passes.{checks_in, map_whole}
 use Rattle.single_listing.proofs.check.Goals as goal
@@ -9,12 +10,14 @@ use Rattle.single_listing.proofs.check.Goals as goal
 pub check_rows-requires : goal.check_rows-requires
 check_rows-requires c =
     let a = c.args in
-    map_whole (input_of a.p a.q a.coefs.now) a.list.now a.found (passes c.check.ensures c.in-Pass.is)
+    map_whole (input_of a.p a.q a.coefs.now) a.list.now a.found (passes c.check.ensures c.in_ok-check.was)
 
-pub returns-in-Refuse : goal.returns-in-Refuse
+pub returns-in_err-check : goal.returns-in_err-check
 unfolding checks_in
-returns-in-Refuse c = refused_first _ c.in-Refuse.is c.check.ensures
+returns-in_err-check c =
+    let p = err_from_is_err_and c.from_residual.result c.from_residual.ensures.1 in
+    rw (p.1, p.2) (refused_first _ c.in_err-check.was c.check.ensures)
 
-pub returns-in-Pass : goal.returns-in-Pass
+pub returns : goal.returns
 unfolding checks_in
-returns-in-Pass c = c.check_rows.ensures ∙ passed_first _ c.in-Pass.is c.check.ensures
+returns c = c.check_rows.ensures ∙ passed_first _ c.in_ok-check.was c.check.ensures

@@ -7,12 +7,11 @@ use Rattle.texts.proofs.PutTheorems.{put_none, put_then}
 use Rattle.single_spec.specs.Listing.{lines_to, listing}
 use Rattle.single_spec.proofs.ListingLaws.{lines_next}
 use Rattle.single_listing.specs.Passes.{line_inside}
-use borrow.Author.Rules.{rules}
 use Rattle.single_listing.proofs.write.Goals as goal
 
 pub loop-i-init : goal.loop-i-init
 unfolding lines_to
-loop-i-init c = (search rules, put_none _ _)
+loop-i-init c = put_none _ _
 
 pub overflow_mul-i : goal.overflow_mul-i
 overflow_mul-i c =
@@ -27,18 +26,18 @@ write-at-requires c =
       record { whole = c.requires.whole.coefs; row = omega (arith, c.requires.whole.rows, there) },
       record {
         minimal = c.requires.minimal c.loop-i.i c.loop-i-test.true;
-        fits = omega (arith, c.requires.fits, inside, c.loop-i.invariant.1.place, c.loop-i.invariant.1.same);
+        fits = omega (arith, c.requires.fits, inside, c.loop-i.invariant.place, c.loop-i.invariant.same);
       },
     )
 
 pub loop-i-preserved : goal.loop-i-preserved
 loop-i-preserved c =
     let l = c.loop-i in
-    (search rules, rw (lines_next _ _ l.i) (put_then l.invariant.1 c.write-at.ensures))
+    rw (lines_next _ _ l.i) (put_then l.invariant c.write-at.ensures)
 
 pub returns : goal.returns
 unfolding listing
 returns c =
     let l = c.loop-i in
-    let e = le_antisymm l.invariant.0 c.loop-i-test.false in
-    rw e at l.invariant.1
+    let e = le_antisymm l.auto.i-end c.loop-i-test.false in
+    rw e at l.invariant

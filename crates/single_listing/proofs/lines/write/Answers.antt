@@ -2,21 +2,20 @@
 use native.Mathlib.Omega.{arith}
 use mathlib.Core.Path.{sym}
 use lib.Seq.{length-take-le}
-use Rattle.single_listing.specs.Lines.{line_copied}
+use Rattle.single_listing.specs.Lines.{line_there}
 use Rattle.single_listing.proofs.lines.write.Goals as goal
 
+pub unwrap-n-requires : goal.unwrap-n-requires
+unwrap-n-requires c = line_there c.make.ensures c.requires.2.minimal
+
 pub slice_bounds-line-end : goal.slice_bounds-line-end
-slice_bounds-line-end c = omega (arith, c.make-n.ensures.few)
+slice_bounds-line-end c = let made = c.make.ensures.made _ c.unwrap-n.ensures in omega (arith, made.few)
 
 pub slice_bounds-word-end : goal.slice_bounds-word-end
-slice_bounds-word-end c = sym (length-take-le _ _ c.make-n.ensures.inside)
+slice_bounds-word-end c = let made = c.make.ensures.made _ c.unwrap-n.ensures in sym (length-take-le _ _ made.inside)
 
 pub word-requires : goal.word-requires
-word-requires c =
-    let (t, n) = line_copied c.make-n.ensures c.requires.2.minimal in
-    rw t (omega (arith, c.requires.2.fits))
+word-requires c = let made = c.make.ensures.made _ c.unwrap-n.ensures in rw made.text (omega (arith, c.requires.2.fits))
 
 pub returns : goal.returns
-returns c =
-    let (t, n) = line_copied c.make-n.ensures c.requires.2.minimal in
-    rw t at c.word.ensures
+returns c = let made = c.make.ensures.made _ c.unwrap-n.ensures in rw made.text at c.word.ensures
