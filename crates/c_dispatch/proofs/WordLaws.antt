@@ -1,5 +1,5 @@
 -- Theorems about what specs/WordLaws.antt defines. Assumes nothing.
-use Rattle.std.specs.Prelude.{ℕ, zero, suc, ◌+◌, ◌*◌, ◌≤◌, ◌<◌, ◌≡◌, refl, ◌≢◌, Bool, true, false, List, ltb, ℤ, length, get_or, set}
+use Rattle.std.specs.Prelude.{ℕ, zero, suc, ◌+◌, ◌*◌, ◌≤◌, ◌<◌, ◌≡◌, refl, ◌≢◌, Bool, true, false, List, ltb, ℤ, length, get_or, set, Result, Ok, Err}
 use Rattle.std.proofs.Common.{sym, subst, ap, ◌∙◌, inl, inr, add-one, arith, lt-ltb, le-ltb, eq-eqb, ne_eqb, length-set}
 use Rattle.std.proofs.Math.Path.{fun_ext}
 use Rattle.std.proofs.Math.Option.{none}
@@ -20,8 +20,6 @@ use Rattle.dispatch.specs.Form.{fault_of, no_outcome, no_record, no_share, sched
 use Rattle.dispatch.specs.declared.types.Dispatched.{Dispatched}
 use Rattle.dispatch.specs.declared.types.Fault.{Fault}
 use Rattle.dispatch.specs.declared.types.Share.{Share}
-use Rattle.dispatch.specs.declared.types.Verdict.{Verdict}
-use Rattle.dispatch.specs.declared.types.Verdict.TheVariants.{Refuse, Pass}
 use Rattle.c_record.specs.WordLaws.{kind_none, kind_number, set_own}
 use Rattle.c_dispatch.specs.Words.{base, dispatch_words, last_in, record_in, records_in, round_in, run_at}
 use Rattle.c_dispatch.specs.Words.{schedule_in, share_in, shares_in, told, write_counts, write_if, write_others, write_record, write_run, write_runs}
@@ -78,14 +76,14 @@ module _ (count quantum : ℕ) (shares : List ℕ) (coefs : List ℤ) (stack lis
       ≡ dispatch turns (schedule_in count quantum shares coefs) (round_in stack list words)
   dispatch_is turns = rw (schedule_is, round_is)
 
-pub fitting_pass : (words : List ℕ) {v : Verdict} → v ≡ Pass → Fitting v words → length words ≡ 74
+pub fitting_pass : (words : List ℕ) {v : Result (Unit {0}) Fault} {x : Unit {0}} → v ≡ Ok x → Fitting v words → length words ≡ 74
 fitting_pass words e h = rw e at h
 
-module _ (words : List ℕ) (d : Dispatched) {v : Verdict} where
-  pub told_refused : {why : Fault} → v ≡ Refuse why → {a : ℕ} → a ≡ fault_of why → (a, words) ≡ told_by v words d
+module _ (words : List ℕ) (d : Dispatched) {v : Result (Unit {0}) Fault} where
+  pub told_refused : {why : Fault} → v ≡ Err why → {a : ℕ} → a ≡ fault_of why → (a, words) ≡ told_by v words d
   told_refused e q = rw (e, q)
 
-  pub told_served : v ≡ Pass → {left : List ℕ} → left ≡ served_by words d → (110, left) ≡ told_by v words d
+  pub told_served : {x : Unit {0}} → v ≡ Ok x → {left : List ℕ} → left ≡ served_by words d → (110, left) ≡ told_by v words d
   told_served e q = rw (e, q)
 
 pub record_length : (words : List ℕ) (at : ℕ) (r : tables.Record) → length (write_record words at r) ≡ length words
@@ -167,12 +165,12 @@ runs_same (suc n) words runs runs' answers answers' h g =
     rw (runs_same n words runs runs' answers answers' (λ i l. h i (omega arith)) (λ i l. g i (omega arith)), h n (omega arith), g n (omega arith))
 
 module _ (x : form.Dispatched) (d : Dispatched) {stack list : List ℕ} (r : Returns x d stack list) (words : List ℕ) where
-  told_is : (v : Verdict) → verdict_of v ≡ x.check → {a : ℕ} {left : List ℕ} → (a, left) ≡ told_by v words d → (a, (stack, (list, left))) ≡ told words x
-  told_is (Refuse why) e {a} {left} q =
+  told_is : (v : Result (Unit {0}) Fault) → verdict_of v ≡ x.check → {a : ℕ} {left : List ℕ} → (a, left) ≡ told_by v words d → (a, (stack, (list, left))) ≡ told words x
+  told_is (Err why) e {a} {left} q =
       let ea : a ≡ fault_of why = ap (λ (p : ℕ × List ℕ). p.0) q in
       let el : left ≡ words = ap (λ (p : ℕ × List ℕ). p.1) q in
       rw (ea, el, ← e, r.stacks, r.lists) refl
-  told_is Pass e {a} {left} q =
+  told_is (Ok _) e {a} {left} q =
       let ea : a ≡ 110 = ap (λ (p : ℕ × List ℕ). p.0) q in
       let el : left ≡ served_by words d = ap (λ (p : ℕ × List ℕ). p.1) q in
       rw (ea, el, ← e, r.stacks, r.lists, r.last, r.steps)
@@ -189,9 +187,9 @@ unfolding dispatch
 check_is turns d r = check_of (dispatch_checks d r) turns d r
 
 module _ (count quantum turns : ℕ) (shares : List ℕ) (coefs : List ℤ) (stack list words : List ℕ) where
-  fitting_by : (v : Verdict) → verdict_of v ≡ (served count quantum turns shares coefs stack list words).check → Fitting v words
-  fitting_by (Refuse why) e = tt
-  fitting_by Pass e =
+  fitting_by : (v : Result (Unit {0}) Fault) → verdict_of v ≡ (served count quantum turns shares coefs stack list words).check → Fitting v words
+  fitting_by (Err why) e = tt
+  fitting_by (Ok _) e =
       let a = accepted (schedule_in count quantum shares coefs) (round_in stack list words) (sym (check_is turns _ _) ∙ sym e) in
       elim (ℕ_discrete (length words) 74) [ yes q ↦ q | no ne ↦ absurd (omega (arith, a.kept, last_other words ne)) ]
 

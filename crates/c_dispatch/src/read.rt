@@ -7,15 +7,13 @@ ghost use Rattle.c_dispatch.specs.Words.{last_in, record_in, run_at, share_at, s
 use c_record::words;
 use calls::{Record, Solutions, Steps};
 use dispatch::types::{Part, Share};
+use std::array;
 
 // A word, and 0 past the end.
 fn word(words: &[u64], k: usize) -> u64
     ensures { result ≡ get_or words.now k 0 }
 {
-    if k < words.len() {
-        return words[k];
-    }
-    0
+    words.get(k).copied().unwrap_or(0)
 }
 
 // The share whose words begin at a place.
@@ -48,13 +46,7 @@ fn share(words: &[u64], base: usize) -> Share
 pub fn shares(words: &[u64]) -> [Share; 8]
     ensures { Filled 8 (share_in words.now) no_share result 8 }
 {
-    let mut all = [share(words, 0); 8];
-    let mut i = 0;
-    while i < 8 {
-        all[i] = share(words, 8 * i);
-        i += 1;
-    }
-    all
+    array::from_fn(|i| share(words, 8 * i))
 }
 
 // The run record whose words begin at a place.
@@ -77,13 +69,7 @@ fn record(words: &[u64], base: usize) -> Record
 pub fn records(words: &[u64]) -> [Record; 8]
     ensures { Filled 8 (record_in words.now) no_record result 8 }
 {
-    let mut all = [record(words, 2); 8];
-    let mut i = 0;
-    while i < 8 {
-        all[i] = record(words, 2 + 9 * i);
-        i += 1;
-    }
-    all
+    array::from_fn(|i| record(words, 2 + 9 * i))
 }
 
 // The number of the run served last.

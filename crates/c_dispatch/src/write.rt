@@ -6,7 +6,7 @@ ghost use Rattle.c_dispatch.specs.Words.{answer_number, answer_place, write_coun
 ghost use Rattle.c_dispatch.specs.WordLaws.{Fitting, left_by, served_by, told_by};
 
 use calls::{Answer, Outcome, Record};
-use dispatch::types::{Dispatched, Fault, Verdict};
+use dispatch::types::{Dispatched, Fault};
 
 // The number of an answer.
 fn number(answer: Answer) -> u64
@@ -25,10 +25,8 @@ fn place(answer: Answer) -> u64
     ensures { result ≡ answer_place (answer_of answer) }
 {
     match answer {
-        Answer::Started => 0,
-        Answer::Complete => 0,
-        Answer::Paused => 0,
         Answer::Refused(why) => calls::value_of(why) as u64,
+        Answer::Started | Answer::Complete | Answer::Paused => 0,
     }
 }
 
@@ -66,8 +64,7 @@ fn others(words: &mut [u64], at: usize, r: Record)
     requires { at + 6 < length words.old }
     ensures { words.new ≡ write_others words.old at (run_of r) }
 {
-    let kind = r.kind;
-    words[at + 3] = calls::run_number(kind);
+    words[at + 3] = calls::run_number(r.kind);
     words[at + 4] = r.found2.0 as u64;
     words[at + 5] = r.steps2.0;
     words[at + 6] = r.deepest;
@@ -78,11 +75,9 @@ fn run(words: &mut [u64], at: usize, o: Outcome)
     requires { at + 8 < length words.old }
     ensures { words.new ≡ write_run words.old at (run_of o.run) (answer_of o.answer) }
 {
-    let answer = o.answer;
-    let r = o.run;
-    record(words, at, r);
-    words[at + 7] = number(answer);
-    words[at + 8] = place(answer);
+    record(words, at, o.run);
+    words[at + 7] = number(o.answer);
+    words[at + 8] = place(o.answer);
 }
 
 // Writes what eight runs answered and left.
@@ -90,10 +85,8 @@ fn runs(words: &mut [u64], outcomes: [Outcome; 8])
     requires { length words.old ≡ 74 }
     ensures { words.new ≡ left_by 8 words.old outcomes }
 {
-    let mut i = 0;
-    while i < 8 {
+    for i in 0..8 {
         run(words, 2 + 9 * i, outcomes[i]);
-        i += 1;
     }
 }
 
@@ -113,10 +106,9 @@ pub fn told(words: &mut [u64], d: Dispatched) -> u64
     requires { Fitting d.verdict words.old }
     ensures { (result, words.new) ≡ told_by d.verdict words.old d }
 {
-    let verdict = d.verdict;
-    match verdict {
-        Verdict::Refuse(why) => fault(why),
-        Verdict::Pass => {
+    match d.verdict {
+        Err(why) => fault(why),
+        Ok(()) => {
             served(words, d);
             110
         }

@@ -1,5 +1,5 @@
 -- A call of the dispatcher, as the definitions have it. Assumes nothing.
-use Rattle.std.specs.Prelude.{◌≡◌, ℤ, length, get_or}
+use Rattle.std.specs.Prelude.{◌≡◌, ℤ, length, get_or, Result, Ok, Err}
 use Rattle.std.proofs.Math.Path.{refl, sym, ap, fun_ext}
 use Rattle.std.proofs.Common.{◌∙◌, arith, lt-ltb, le-ltb}
 use Rattle.std.proofs.Math.Logic.{inl, inr}
@@ -20,8 +20,6 @@ use Rattle.dispatch_spec.proofs.TurnLaws.{turns_past, turns_rise}
 use Rattle.dispatch.specs.declared.types.Share.{Share}
 use Rattle.dispatch.specs.declared.types.Progress.{Progress}
 use Rattle.dispatch.specs.declared.types.Fault.{Fault}
-use Rattle.dispatch.specs.declared.types.Verdict.{Verdict}
-use Rattle.dispatch.specs.declared.types.Verdict.TheVariants.{Refuse, Pass}
 use Rattle.dispatch.specs.declared.types.Dispatched.{Dispatched}
 use Rattle.dispatch.specs.Form.{no_record, no_progress, no_outcome, schedule_for, progress_of}
 use Rattle.dispatch.specs.Form.{round_for, unserved_of, kept_of, fault_of, verdict_of, checks_for}
@@ -46,7 +44,7 @@ pub record Returns (x : form.Dispatched) (d : Dispatched) (stack list : List ℕ
 -- ---- refused
 
 pub record Refused (why : Fault) (records : List Record) (last : ℕ) (d : Dispatched) : Type 0 where
-  pub verdict : d.verdict ≡ Refuse why
+  pub verdict : d.verdict ≡ Err why
   pub outcomes : Filled 8 (λ i. kept_of (get_or records i no_record)) no_outcome d.outcomes 8
   pub number : d.last ≡ last
   pub steps : d.steps.0 ≡ 0
@@ -59,7 +57,7 @@ unfolding checks_for dispatch_checks
 checks_are count shares coefs quantum stack list records last = refl
 
 module _ (count : ℕ) (shares : List Share) (coefs : List ℤ) (quantum : ℕ) (stack list : List ℕ) (records : List Record) (last turns : ℕ) where
-  pub returns_refused : {why : Fault} {v : Verdict} → verdict_of v ≡ checks_for count shares quantum last (length stack) (length list) → v ≡ Refuse why
+  pub returns_refused : {why : Fault} {v : Result (Unit {0}) Fault} → verdict_of v ≡ checks_for count shares quantum last (length stack) (length list) → v ≡ Err why
       → (d : Dispatched) → Refused why records last d
       → Returns (dispatch turns (schedule_for count shares coefs quantum) (handed stack list records last)) d stack list
   unfolding dispatch
@@ -97,7 +95,7 @@ module _ (count : ℕ) (shares : List Share) (coefs : List ℤ) (quantum : ℕ) 
   unfolding opened
   opened_handed {p} e f = ap (λ (x : ℕ → form.Progress). record { stack = stack; list = list; progress = x; last = last }) (fun_ext (unserved_at e f))
 
-  module _ {v : Verdict} (e : verdict_of v ≡ checks_for count shares quantum last (length stack) (length list)) (q : v ≡ Pass) where
+  module _ {v : Result (Unit {0}) Fault} (e : verdict_of v ≡ checks_for count shares quantum last (length stack) (length list)) {x : Unit {0}} (q : v ≡ Ok x) where
     goes : dispatch_checks (schedule_for count shares coefs quantum) (handed stack list records last) ≡ paper.go
     goes = sym (sym (ap verdict_of q) ∙ e ∙ checks_are count shares coefs quantum stack list records last)
 
@@ -128,7 +126,7 @@ module _ (count : ℕ) (shares : List Share) (coefs : List ℤ) (quantum : ℕ) 
 
       pub returns_served : {outcomes : List Outcome} {steps : Steps} → Finishing count shares coefs stack' list' records progress' outcomes steps.0 count
           → Returns (dispatch turns (schedule_for count shares coefs quantum) (handed stack list records last))
-          (record { verdict = Pass; outcomes = outcomes; last = last'; steps = steps }) stack' list'
+          (record { verdict = Ok tt; outcomes = outcomes; last = last'; steps = steps }) stack' list'
       unfolding dispatch answer_for own steps_between
       returns_served g =
           rw (goes, turned_to)

@@ -1,6 +1,6 @@
 -- The dispatcher's types as the definitions have them. Assumes nothing.
-use Rattle.std.specs.Prelude.{ℕ, ◌+◌, ◌≤◌, ◌≡◌, Bool, true, false, not, ◌&&◌, ◌||◌, List, [], eqb, ltb, ℤ, get_or}
-use Rattle.std.proofs.Math.Option.{Option, none, some}
+use Rattle.std.specs.Prelude.{ℕ, Bool, true, false, not, ◌&&◌, ◌||◌, List, [], eqb, ltb, ℤ, get_or, Option, Some, None, Result, Ok, Err}
+use Rattle.std.proofs.Math.Option as math
 use Rattle.definitions.specs.Answers as paper
 use Rattle.definitions.specs.Answers.{◌then◌}
 use Rattle.definitions.specs.Input.{Input, input_of}
@@ -10,6 +10,7 @@ use Rattle.definitions.specs.Tables.{State}
 use Rattle.calls.specs.Paper.{answer_of, plain_record, run_of, state_of}
 use Rattle.calls.specs.declared.Record.{Record}
 use Rattle.calls.specs.declared.Outcome.{Outcome}
+use Rattle.calls.specs.declared.Answer.{Answer}
 use Rattle.calls.specs.declared.Answer.TheVariants.{Started}
 use Rattle.dispatch_spec.specs.Parts as parts
 use Rattle.dispatch_spec.specs.Parts.{part_in, part_of, with_part, apart}
@@ -18,14 +19,8 @@ use Rattle.dispatch_spec.specs.Dispatch.{stays_in}
 use Rattle.dispatch.specs.declared.types.Part.{Part}
 use Rattle.dispatch.specs.declared.types.Share.{Share}
 use Rattle.dispatch.specs.declared.types.Progress.{Progress}
-use Rattle.dispatch.specs.declared.types.Last.{Last}
-use Rattle.dispatch.specs.declared.types.Last.TheVariants.{Turn, NoTurn}
 use Rattle.dispatch.specs.declared.types.Fault.{Fault}
 use Rattle.dispatch.specs.declared.types.Fault.TheVariants.{Schedule, Parts}
-use Rattle.dispatch.specs.declared.types.Verdict.{Verdict}
-use Rattle.dispatch.specs.declared.types.Verdict.TheVariants.{Refuse, Pass}
-use Rattle.dispatch.specs.declared.round.Found.{Found}
-use Rattle.dispatch.specs.declared.round.Found.TheVariants as found
 
 -- ---- places of an array past its end, which are never asked for
 
@@ -39,7 +34,7 @@ abbrev pub no_record : Record
 no_record = plain_record 0 (record { 0 = 0 }) (record { 0 = 0 })
 
 abbrev pub no_progress : Progress
-no_progress = record { run = no_record; last = NoTurn }
+no_progress = record { run = no_record; last = None }
 
 abbrev pub no_outcome : Outcome
 no_outcome = record { answer = Started; run = no_record }
@@ -48,9 +43,6 @@ no_outcome = record { answer = Started; run = no_record }
 
 abbrev pub part_for : Part → parts.Part
 part_for a = record { start = a.start; size = a.size }
-
-pub part_fits : {len : ℕ} (a : Part) {x : parts.Part} → part_for a ≡ x → x.start + x.size ≤ len → a.start + a.size ≤ len
-part_fits a e l = rw (← e) at l
 
 -- a run's coefficients are those that lie in its part of the slice; of a part that leaves the slice there are none, which is the run's own refusal 3
 abbrev pub input_for : Share → List ℤ → Input
@@ -77,9 +69,9 @@ abbrev pub fault_of : Fault → ℕ
 fault_of Schedule = 27
 fault_of Parts = 28
 
-abbrev pub verdict_of : Verdict → paper.Check
-verdict_of (Refuse why) = paper.refuse (fault_of why) []
-verdict_of Pass = paper.go
+abbrev pub verdict_of : Result (Unit {0}) Fault → paper.Check
+verdict_of (Err why) = paper.refuse (fault_of why) []
+verdict_of (Ok _) = paper.go
 
 -- 27 and 28, from what they look at
 unfoldable pub checks_for : ℕ → List Share → ℕ → ℕ → ℕ → ℕ → paper.Check
@@ -89,9 +81,9 @@ checks_for count shares quantum last stack_length list_length =
 
 -- ---- how far the runs have come
 
-abbrev pub last_of : Last → Option paper.Answer
-last_of (Turn a) = some (answer_of a)
-last_of NoTurn = none
+abbrev pub last_of : Option Answer → math.Option paper.Answer
+last_of (Some a) = math.some (answer_of a)
+last_of None = math.none
 
 abbrev pub progress_of : Progress → form.Progress
 progress_of p = record { run = run_of p.run; answer = last_of p.last }
@@ -102,17 +94,17 @@ round_for stack list progress last = record { stack = stack; list = list; progre
 abbrev pub stays_for : List Progress → ℕ → Bool
 stays_for progress i = stays_in (get_or progress i no_progress).run.height (last_of (get_or progress i no_progress).last)
 
-abbrev pub found_of : Found → Option ℕ
-found_of (found.At i) = some i
-found_of found.Nothing = none
+abbrev pub found_of : Option ℕ → math.Option ℕ
+found_of (Some i) = math.some i
+found_of None = math.none
 
 -- what a turn leaves of a run
 abbrev pub turned : Outcome → Progress
-turned o = record { run = o.run; last = Turn o.answer }
+turned o = record { run = o.run; last = Some o.answer }
 
 -- a run's record before a call
 abbrev pub unserved_of : Record → Progress
-unserved_of r = record { run = r; last = NoTurn }
+unserved_of r = record { run = r; last = None }
 
 -- where no run is answered for: "started", which no continuing call answers, and the record as it was handed over
 abbrev pub kept_of : Record → Outcome

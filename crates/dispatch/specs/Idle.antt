@@ -1,5 +1,5 @@
 -- What a run answers that had no turn. Assumes nothing.
-use Rattle.std.specs.Prelude.{◌≡◌, List, ℕ, ◌+◌, ◌-◌, eqb, ℤ, length, take, drop}
+use Rattle.std.specs.Prelude.{◌≡◌, List, ℕ, ◌+◌, ◌-◌, eqb, ℤ, length, take, drop, Result, Ok, Err}
 use Rattle.std.proofs.Common.{sym, ◌∙◌, ap, arith, eq-eqb, ne_eqb}
 use Rattle.std.proofs.Math.Decide.{ℕ_discrete}
 use Rattle.definitions.specs.Answers as paper
@@ -14,8 +14,6 @@ use Rattle.calls.proofs.CallLaws.{passes}
 use Rattle.calls.specs.declared.Record.{Record}
 use Rattle.calls.specs.declared.Refusal.{Refusal}
 use Rattle.calls.specs.declared.Outcome.{Outcome}
-use Rattle.calls.specs.declared.Check.{Check}
-use Rattle.calls.specs.declared.Check.TheVariants.{Refuse, Pass}
 use Rattle.dispatch_spec.specs.Dispatch.{either, or_idle}
 use Rattle.dispatch_spec.specs.Parts.{part_of}
 use Rattle.dispatch.specs.declared.types.Part.{Part}
@@ -45,12 +43,12 @@ own_between a b stack list r =
     let eb : b.start + b.size - b.start ≡ b.size = omega arith in
     rw (ea, eb)
 
-module _ (input : Input) (s : State) {c : Check} (e : check_of c ≡ resume_checks input s) where
-  pub idle_refused : {why : Refusal} → c ≡ Refuse why → paper.refused (number_of why) (values_of why) ≡ (resume 0 input s).answer
+module _ (input : Input) (s : State) {c : Result (Unit {0}) Refusal} (e : check_of c ≡ resume_checks input s) where
+  pub idle_refused : {why : Refusal} → c ≡ Err why → paper.refused (number_of why) (values_of why) ≡ (resume 0 input s).answer
   idle_refused {why} q =
       sym (ap (λ (o : paper-machine.Outcome State). o.answer) (call_refused (machine input) s 0 (number_of why) (values_of why) (sym e ∙ ap check_of q)).0)
 
-  pub idle_passed : c ≡ Pass → rest_of s.run.height ≡ (resume 0 input s).answer
+  pub idle_passed : {x : Unit {0}} → c ≡ Ok x → rest_of s.run.height ≡ (resume 0 input s).answer
   idle_passed q =
       let w = (call_walks (machine input) s 0 (passes e q)).0 in
       elim (ℕ_discrete s.run.height 0) [

@@ -12,12 +12,9 @@ use Rattle.calls.specs.Paper.{outcome_of}
 use Rattle.calls.specs.declared.Outcome.{Outcome}
 use Rattle.dispatch_spec.specs.Dispatch as form
 use Rattle.dispatch_spec.specs.Dispatch.{Schedule, put, own, next, next_after, leave_turn, serve_run, serve, after_turns}
-use Rattle.dispatch_spec.proofs.RoundLaws.{next_some}
 use Rattle.dispatch.specs.declared.types.Share.{Share}
 use Rattle.dispatch.specs.declared.types.Progress.{Progress}
-use Rattle.dispatch.specs.declared.round.Found.{Found}
-use Rattle.dispatch.specs.declared.round.Found.TheVariants as found
-use Rattle.dispatch.specs.Form.{no_share, no_progress, schedule_for, input_for, progress_of, round_for, stays_for, found_of, turned, own_state, placed}
+use Rattle.dispatch.specs.Form.{no_share, no_progress, schedule_for, input_for, progress_of, round_for, turned, own_state, placed}
 
 -- the runs are 1 to 8, and their parts lie in tables of these lengths
 pub record Ready (count : ℕ) (shares : List Share) (stack_length list_length : ℕ) : Type 0 where
@@ -112,11 +109,3 @@ module _ {count : ℕ} {shares : List Share} {coefs : List ℤ} {quantum : ℕ} 
       → round_for stack list progress last ≡ after_turns turns (schedule_for count shares coefs quantum) r₀
   unfolding serve
   turning_stops e = sym (after_idle (schedule_for count shares coefs quantum) r₀ (round_for stack list progress last) k t.same (rw e) turns t.upto)
-
--- the run found is one of them
-pub found_below : (count last : ℕ) (progress : List Progress) (stack list : List ℕ) → 0 < count → {r : Found}
-    → found_of r ≡ next_after count last (stays_for progress) → {i : ℕ} → r ≡ found.At i → (next count (round_for stack list progress last) ≡ some i)
-    × (i < count)
-found_below count last progress stack list some_run {r} e {i} q =
-    let h : next count (round_for stack list progress last) ≡ some i = sym e ∙ ap found_of q in
-    (h, (next_some count (round_for stack list progress last) some_run i h).below)

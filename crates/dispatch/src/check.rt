@@ -6,25 +6,20 @@ ghost use Rattle.dispatch_spec.specs.Parts.{all_fit, none_overlap, apart};
 ghost use Rattle.dispatch.specs.Form.{part_for, part_at, chosen, verdict_of, checks_for};
 ghost use Rattle.dispatch.specs.Clear.{Within};
 
-use crate::types::{Fault, Part, Share, Verdict};
+use crate::types::{Fault, Part, Share};
 
 // A run's part of one of the two tables.
 fn part_of(share: Share, lists: bool) -> Part
     ensures { part_for result ≡ chosen lists share }
 {
-    let stack = share.stack;
-    let list = share.list;
-    if lists { list } else { stack }
+    if lists { share.list } else { share.stack }
 }
 
 // Whether a part lies in a table of so many numbers.
 fn fits(len: usize, a: Part) -> bool
     ensures { result ≡ parts.fits len (part_for a) }
 {
-    if len < a.start {
-        return false;
-    }
-    a.size <= len - a.start
+    a.start <= len && a.size <= len - a.start
 }
 
 // Whether two parts that lie in a table have a place in common.
@@ -34,14 +29,7 @@ fn overlap(a: Part, b: Part, len: usize) -> bool
 {
     let a_end = a.start + a.size;
     let b_end = b.start + b.size;
-    if a.start < a_end {
-        if a.start < b_end {
-            if b.start < a_end {
-                return b.start < b_end;
-            }
-        }
-    }
-    false
+    a.start < a_end && a.start < b_end && b.start < a_end && b.start < b_end
 }
 
 // Whether each of the runs' parts lies in the table.
@@ -49,15 +37,7 @@ fn all_fit(count: usize, shares: [Share; 8], lists: bool, len: usize) -> bool
     requires { count ≤ 8 }
     ensures { result ≡ all_fit count len (part_at lists shares) }
 {
-    let mut i = 0;
-    while i < count {
-        let a = part_of(shares[i], lists);
-        if !fits(len, a) {
-            return false;
-        }
-        i += 1;
-    }
-    true
+    (0..count).all(|i| fits(len, part_of(shares[i], lists)))
 }
 
 // Whether a part overlaps none of the first n runs' parts. All of them lie in a table.
@@ -65,15 +45,7 @@ fn clear(n: usize, a: Part, shares: [Share; 8], lists: bool, len: usize) -> bool
     requires { (n ≤ 8) × (a.start + a.size ≤ len) × Within n len (part_at lists shares) }
     ensures { result ≡ all_to n (λ j. not (parts.overlap (part_for a) (part_at lists shares j))) }
 {
-    let mut j = 0;
-    while j < n {
-        let b = part_of(shares[j], lists);
-        if overlap(a, b, len) {
-            return false;
-        }
-        j += 1;
-    }
-    true
+    (0..n).all(|j| !overlap(a, part_of(shares[j], lists), len))
 }
 
 // Whether no two of the runs' parts overlap. All of them lie in a table.
@@ -81,15 +53,7 @@ fn none_overlap(count: usize, shares: [Share; 8], lists: bool, len: usize) -> bo
     requires { (count ≤ 8) × Within count len (part_at lists shares) }
     ensures { result ≡ none_overlap count (part_at lists shares) }
 {
-    let mut i = 0;
-    while i < count {
-        let a = part_of(shares[i], lists);
-        if !clear(i, a, shares, lists, len) {
-            return false;
-        }
-        i += 1;
-    }
-    true
+    (0..count).all(|i| clear(i, part_of(shares[i], lists), shares, lists, len))
 }
 
 // Whether the runs' parts lie in the table and no two overlap.
@@ -97,11 +61,7 @@ fn parts_apart(count: usize, shares: [Share; 8], lists: bool, len: usize) -> boo
     requires { count ≤ 8 }
     ensures { result ≡ apart count len (part_at lists shares) }
 {
-    if all_fit(count, shares, lists, len) {
-        none_overlap(count, shares, lists, len)
-    } else {
-        false
-    }
+    all_fit(count, shares, lists, len) && none_overlap(count, shares, lists, len)
 }
 
 // What a call looks at before any turn.
@@ -112,26 +72,17 @@ pub fn check(
     last: usize,
     stack_length: usize,
     list_length: usize,
-) -> Verdict
+) -> Result<(), Fault>
     ensures { verdict_of result ≡ checks_for count shares quantum last stack_length list_length }
 {
-    if count == 0 {
-        return Verdict::Refuse(Fault::Schedule);
+    if count == 0 || 8 < count || quantum == 0 || 8 < last {
+        return Err(Fault::Schedule);
     }
-    if 8 < count {
-        return Verdict::Refuse(Fault::Schedule);
+    if parts_apart(count, shares, false, stack_length)
+        && parts_apart(count, shares, true, list_length)
+    {
+        Ok(())
+    } else {
+        Err(Fault::Parts)
     }
-    if quantum == 0 {
-        return Verdict::Refuse(Fault::Schedule);
-    }
-    if 8 < last {
-        return Verdict::Refuse(Fault::Schedule);
-    }
-    if !parts_apart(count, shares, false, stack_length) {
-        return Verdict::Refuse(Fault::Parts);
-    }
-    if !parts_apart(count, shares, true, list_length) {
-        return Verdict::Refuse(Fault::Parts);
-    }
-    Verdict::Pass
 }

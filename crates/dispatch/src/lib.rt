@@ -6,7 +6,7 @@ ghost use Rattle.dispatch.specs.Form.{schedule_for};
 ghost use Rattle.dispatch.specs.Entry.{handed, Refused, Returns};
 
 use calls::{Record, Steps};
-use types::{Dispatched, Fault, Share, Verdict};
+use types::{Dispatched, Fault, Share};
 
 mod check; // check.rt: refusals 27 and 28
 mod results; // results.rt: what a call answers for each run
@@ -32,8 +32,8 @@ pub fn dispatch(
         stack.new list.new }
 {
     match check::check(count, shares, quantum, last, stack.len(), list.len()) {
-        Verdict::Refuse(why) => refused(why, records, last),
-        Verdict::Pass => {
+        Err(why) => refused(why, records, last),
+        Ok(()) => {
             let before = results::unserved(records);
             let s = turns::serve(
                 count, shares, coefs, stack, list, before, last, quantum, turns,
@@ -41,12 +41,11 @@ pub fn dispatch(
             let progress = s.progress;
             let f = results::finish(count, shares, coefs, stack, list, records, progress);
             let outcomes = f.outcomes;
-            let steps = f.steps;
             Dispatched {
-                verdict: Verdict::Pass,
+                verdict: Ok(()),
                 outcomes,
                 last: s.last,
-                steps,
+                steps: f.steps,
             }
         }
     }
@@ -58,7 +57,7 @@ fn refused(why: Fault, records: [Record; 8], last: usize) -> Dispatched
 {
     let outcomes = results::kept(records);
     Dispatched {
-        verdict: Verdict::Refuse(why),
+        verdict: Err(why),
         outcomes,
         last,
         steps: Steps(0),

@@ -10,8 +10,8 @@ ghost use Rattle.dispatch.specs.Finish.{Rising, Finishing};
 ghost use Rattle.dispatch.specs.Idle.{rest_of, OutcomeFor};
 
 use crate::turn;
-use crate::types::{Last, Progress, Share};
-use calls::{Answer, Check, Outcome, Record, Steps};
+use crate::types::{Progress, Share};
+use calls::{Answer, Outcome, Record, Steps};
 
 // What a run answers that its checks let go on, to a budget of 0.
 fn rest(height: usize) -> Answer
@@ -48,8 +48,8 @@ fn idle(share: Share, coefs: &[i32], stack: &[u32], list: &[u32], r: Record) -> 
         r,
         calls::COMPONENT_LIMIT,
     ) {
-        Check::Refuse(why) => Answer::Refused(why),
-        Check::Pass => rest(r.height),
+        Err(why) => Answer::Refused(why),
+        Ok(()) => rest(r.height),
     }
 }
 
@@ -61,11 +61,9 @@ fn answer(share: Share, coefs: &[i32], stack: &[u32], list: &[u32], p: Progress)
         ≡ or_idle (last_of p.last) (input_for share coefs.now)
         (own_state share.stack share.list stack.now list.now p.run) }
 {
-    let last = p.last;
-    let r = p.run;
-    match last {
-        Last::Turn(a) => a,
-        Last::NoTurn => idle(share, coefs, stack, list, r),
+    match p.last {
+        Some(a) => a,
+        None => idle(share, coefs, stack, list, p.run),
     }
 }
 
@@ -76,10 +74,9 @@ fn outcome(share: Share, coefs: &[i32], stack: &[u32], list: &[u32], p: Progress
     ensures { OutcomeFor p (input_for share coefs.now)
         (own_state share.stack share.list stack.now list.now p.run) result }
 {
-    let r = p.run;
     Outcome {
         answer: answer(share, coefs, stack, list, p),
-        run: r,
+        run: p.run,
     }
 }
 
@@ -95,38 +92,17 @@ fn taken(before: Record, after: Record) -> u64
 pub fn unserved(records: [Record; 8]) -> [Progress; 8]
     ensures { Filled 8 (λ i. unserved_of (get_or records i no_record)) no_progress result 8 }
 {
-    let mut all = [Progress {
-        run: records[0],
-        last: Last::NoTurn,
-    }; 8];
-    let mut i = 0;
-    while i < 8 {
-        all[i] = Progress {
-            run: records[i],
-            last: Last::NoTurn,
-        };
-        i += 1;
-    }
-    all
+    records.map(|run| Progress { run, last: None })
 }
 
 // The runs' records as they are, where nothing is answered.
 pub fn kept(records: [Record; 8]) -> [Outcome; 8]
     ensures { Filled 8 (λ i. kept_of (get_or records i no_record)) no_outcome result 8 }
 {
-    let mut all = [Outcome {
+    records.map(|run| Outcome {
         answer: Answer::Started,
-        run: records[0],
-    }; 8];
-    let mut i = 0;
-    while i < 8 {
-        all[i] = Outcome {
-            answer: Answer::Started,
-            run: records[i],
-        };
-        i += 1;
-    }
-    all
+        run,
+    })
 }
 
 // What is answered for the runs, and the steps that they took.
@@ -151,13 +127,10 @@ pub fn finish(
 {
     let mut outcomes = kept(records);
     let mut steps = 0;
-    let mut i = 0;
-    while i < count {
+    for i in 0..count {
         let o = outcome(shares[i], coefs, stack, list, progress[i]);
-        let after = o.run;
-        steps += taken(records[i], after);
+        steps += taken(records[i], o.run);
         outcomes[i] = o;
-        i += 1;
     }
     Finished {
         outcomes,

@@ -1,33 +1,20 @@
 // Whose turn it is.
-ghost use Rattle.std.specs.Prelude.{◌≡◌, ◌≤◌, ◌<◌};
+ghost use Rattle.std.specs.Prelude.{◌≡◌, ◌≤◌, ◌<◌, IfSome};
 ghost use Rattle.dispatch_spec.specs.Dispatch as Dispatch;
 ghost use Rattle.dispatch_spec.specs.Dispatch.{stays_in, first_asked, next_after};
 ghost use Rattle.dispatch.specs.Form.{last_of, stays_for, found_of};
 
-use crate::types::{Last, Progress};
+use crate::types::Progress;
 use calls::Answer;
-
-// A run, or none.
-#[derive(Clone, Copy)]
-pub enum Found {
-    At(usize),
-    Nothing,
-}
 
 // Whether a run is in the round.
 pub fn stays(p: Progress) -> bool
     ensures { result ≡ stays_in p.run.height (last_of p.last) }
 {
-    let height = p.run.height;
-    let last = p.last;
-    match last {
-        Last::NoTurn => 0 < height,
-        Last::Turn(a) => match a {
-            Answer::Paused => true,
-            Answer::Started => false,
-            Answer::Complete => false,
-            Answer::Refused(_) => false,
-        },
+    match p.last {
+        None => 0 < p.run.height,
+        Some(Answer::Paused) => true,
+        Some(_) => false,
     }
 }
 
@@ -51,18 +38,17 @@ fn further(count: usize, start: usize, k: usize) -> usize
 }
 
 // The first run asked that is in the round, rising from the one after the run served last.
-pub fn next_after(count: usize, last: usize, progress: [Progress; 8]) -> Found
+pub fn next_after(count: usize, last: usize, progress: [Progress; 8]) -> Option<usize>
     requires { (0 < count) × (count ≤ 8) }
-    ensures { found_of result ≡ next_after count last (stays_for progress) }
+    ensures found { found_of result ≡ next_after count last (stays_for progress) }
+    ensures below { IfSome result (λ i. i < count) }
 {
     let start = first_asked(count, last);
-    let mut k = 0;
-    while k < count {
+    for k in 0..count {
         let i = further(count, start, k);
         if stays(progress[i]) {
-            return Found::At(i);
+            return Some(i);
         }
-        k += 1;
     }
-    Found::Nothing
+    None
 }

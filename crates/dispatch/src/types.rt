@@ -19,18 +19,11 @@ pub struct Share {
     pub list: Part,
 }
 
-// What a run's last turn in a call answered.
-#[derive(Clone, Copy)]
-pub enum Last {
-    NoTurn,
-    Turn(Answer),
-}
-
-// How far a run has come.
+// How far a run has come: its record, and what its last turn in the call answered.
 #[derive(Clone, Copy)]
 pub struct Progress {
     pub run: Record,
-    pub last: Last,
+    pub last: Option<Answer>,
 }
 
 // Why a call is refused as a whole: 27 and 28.
@@ -40,19 +33,12 @@ pub enum Fault {
     Parts,
 }
 
-// What the checks of a call find.
-#[derive(Clone, Copy)]
-pub enum Verdict {
-    Refuse(Fault),
-    Pass,
-}
-
 // What a call returns: whether it was refused as a whole; for each run what it answers and the record that it leaves; the number of the run served
 // last; and the steps that the runs took. A place past the number of runs, and each place of a call that was refused, has the answer `Started`, which no turn
 // gives, and its record as it was handed over.
 #[derive(Clone, Copy)]
 pub struct Dispatched {
-    pub verdict: Verdict,
+    pub verdict: Result<(), Fault>,
     pub outcomes: [Outcome; 8],
     pub last: usize,
     pub steps: Steps,

@@ -13,13 +13,13 @@ records_long c = search rules
 pub serve-s-requires : goal.serve-s-requires
 serve-s-requires c =
     let s = c.args in
-    let told = c.in-Pass.is in
+    let told = c.in-Ok.is in
     ready s.count s.shares s.coefs.now s.quantum s.stack.now s.list.now s.records s.last s.turns c.check.ensures told
 
 pub finish-f-requires : goal.finish-f-requires
 finish-f-requires c =
     let s = c.args in
-    let told = c.in-Pass.is in
+    let told = c.in-Ok.is in
     let kept = c.serve-s.auto in
     let long = records_long (goal.at.finish-f-requires c).Start in record {
       ready = rw (kept.stack, kept.list)
@@ -29,16 +29,16 @@ finish-f-requires c =
           c.check.ensures told long c.unserved-before.ensures c.serve-s.result.progress c.serve-s.ensures;
     }
 
-pub returns-in-Refuse : goal.returns-in-Refuse
-returns-in-Refuse c =
+pub returns-in-Err : goal.returns-in-Err
+returns-in-Err c =
     let s = c.args in
     returns_refused s.count s.shares s.coefs.now s.quantum s.stack.now s.list.now s.records s.last s.turns
-    c.check.ensures c.in-Refuse.is c.refused.result c.refused.ensures
+    c.check.ensures c.in-Err.is c.refused.result c.refused.ensures
 
-pub returns-in-Pass : goal.returns-in-Pass
-returns-in-Pass c =
+pub returns-in-Ok : goal.returns-in-Ok
+returns-in-Ok c =
     let s = c.args in
-    let told = c.in-Pass.is in
-    let long = records_long (goal.at.returns-in-Pass c).Start in
+    let told = c.in-Ok.is in
+    let long = records_long (goal.at.returns-in-Ok c).Start in
     returns_served s.count s.shares s.coefs.now s.quantum s.stack.now s.list.now s.records s.last s.turns
     c.check.ensures told long c.unserved-before.ensures c.serve-s.result.progress c.serve-s.ensures c.finish-f.ensures

@@ -1,10 +1,6 @@
 -- `c_dispatch::write::runs` meets its contract. Assumes nothing.
-use Prim.Native.Nat.{◌-◌}
 use Rattle.c_dispatch.specs.WordLaws.{Writing}
 use Rattle.c_dispatch.proofs.write.runs.Given as goal
 
 abbrev pub invariant-loop-i : goal.invariant-loop-i
 invariant-loop-i l = Writing l.outcomes l.initial.words l.words l.i
-
-abbrev pub decreases-loop-i : goal.decreases-loop-i
-decreases-loop-i l = 8 - l.i

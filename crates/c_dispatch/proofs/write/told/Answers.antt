@@ -4,14 +4,14 @@ use Rattle.c_dispatch.proofs.write.told.Goals as goal
 
 pub served-requires : goal.served-requires
 served-requires c =
-    fitting_pass c.args.words.now c.in-Pass.is c.requires
+    fitting_pass c.args.words.now c.in-Ok.is c.requires
 
-pub returns-in-Refuse : goal.returns-in-Refuse
-returns-in-Refuse c =
+pub returns-in-Err : goal.returns-in-Err
+returns-in-Err c =
     let s = c.args in
-    told_refused s.words.now s.d c.in-Refuse.is c.fault.ensures
+    told_refused s.words.now s.d c.in-Err.is c.fault.ensures
 
-pub returns-in-Pass : goal.returns-in-Pass
-returns-in-Pass c =
+pub returns-in-Ok : goal.returns-in-Ok
+returns-in-Ok c =
     let s = c.args in
-    told_served s.words.now s.d c.in-Pass.is c.served.ensures
+    told_served s.words.now s.d c.in-Ok.is c.served.ensures

@@ -4,30 +4,29 @@ use Rattle.dispatch.specs.Verdicts.{runs_none, runs_many, turn_empty, kept_large
 use Rattle.dispatch.proofs.check.check.Goals as goal
 
 pub returns-then-count-eq0 : goal.returns-then-count-eq0
-returns-then-count-eq0 c = runs_none _ _ _ _ _ _ c.if-count-eq0.true
+returns-then-count-eq0 c =
+    elim c.then-count-eq0.branch [
+      | goal.then-count-eq0-via-then-count-eq0 w ↦ runs_none _ _ _ _ _ _ w.if-count-eq0.true
+      | goal.then-count-eq0-via-else-count-eq0+then-count-gt8 w ↦ runs_many _ _ _ _ _ _ w.if-count-eq0.false w.if-count-gt8.true
+      | goal.then-count-eq0-via-else-count-eq0+else-count-gt8+then-quantum-eq0 w ↦
+          turn_empty _ _ _ _ _ _ w.if-count-eq0.false w.if-count-gt8.false w.if-quantum-eq0.true
+      | goal.then-count-eq0-via-else-count-eq0+else-count-gt8+else-quantum-eq0+then-last-gt8 w ↦
+          kept_large _ _ _ _ _ _ w.if-count-eq0.false w.if-count-gt8.false w.if-quantum-eq0.false w.if-last-gt8.true
+    ]
 
-pub returns-then-count-gt8 : goal.returns-then-count-gt8
-returns-then-count-gt8 c = runs_many _ _ _ _ _ _ c.if-count-eq0.false c.if-count-gt8.true
+pub returns-then-parts_apart-2 : goal.returns-then-parts_apart-2
+returns-then-parts_apart-2 c =
+    passes _ _ _ _ _ _ c.if-count-eq0.false c.if-count-gt8.false c.if-quantum-eq0.false c.if-last-gt8.false (sym c.parts_apart.ensures ∙ c.if-parts_apart.true)
+    (sym c.parts_apart-then-parts_apart.ensures ∙ c.if-parts_apart-2.true)
 
-pub returns-then-quantum-eq0 : goal.returns-then-quantum-eq0
-returns-then-quantum-eq0 c = turn_empty _ _ _ _ _ _ c.if-count-eq0.false c.if-count-gt8.false c.if-quantum-eq0.true
-
-pub returns-then-last-gt8 : goal.returns-then-last-gt8
-returns-then-last-gt8 c = kept_large _ _ _ _ _ _ c.if-count-eq0.false c.if-count-gt8.false c.if-quantum-eq0.false c.if-last-gt8.true
-
-pub returns-then-not-parts_apart : goal.returns-then-not-parts_apart
-returns-then-not-parts_apart c =
-    stacks_clash _ _ _ _ _ _ c.if-count-eq0.false c.if-count-gt8.false c.if-quantum-eq0.false c.if-last-gt8.false
-    (sym c.parts_apart.ensures ∙ c.if-not-parts_apart.true)
-
-pub returns-then-not-parts_apart-2 : goal.returns-then-not-parts_apart-2
-returns-then-not-parts_apart-2 c =
-    lists_clash _ _ _ _ _ _ c.if-count-eq0.false c.if-count-gt8.false c.if-quantum-eq0.false c.if-last-gt8.false
-    (sym c.parts_apart.ensures ∙ c.if-not-parts_apart.false)
-    (sym c.parts_apart-2.ensures ∙ c.if-not-parts_apart-2.true)
-
-pub returns : goal.returns
-returns c =
-    passes _ _ _ _ _ _ c.if-count-eq0.false c.if-count-gt8.false c.if-quantum-eq0.false c.if-last-gt8.false
-    (sym c.parts_apart.ensures ∙ c.if-not-parts_apart.false)
-    (sym c.parts_apart-2.ensures ∙ c.if-not-parts_apart-2.false)
+pub returns-else-parts_apart : goal.returns-else-parts_apart
+returns-else-parts_apart c =
+    elim c.else-parts_apart.branch [
+      | goal.else-parts_apart-via-else-parts_apart w ↦
+          stacks_clash _ _ _ _ _ _ c.if-count-eq0.false c.if-count-gt8.false c.if-quantum-eq0.false c.if-last-gt8.false
+          (sym c.parts_apart.ensures ∙ w.if-parts_apart.false)
+      | goal.else-parts_apart-via-then-parts_apart+else-parts_apart-2 w ↦
+          lists_clash _ _ _ _ _ _ c.if-count-eq0.false c.if-count-gt8.false c.if-quantum-eq0.false c.if-last-gt8.false
+          (sym c.parts_apart.ensures ∙ w.if-parts_apart.true)
+          (sym w.parts_apart-then-parts_apart.ensures ∙ w.if-parts_apart-2.false)
+    ]

@@ -12,4 +12,4 @@ returns-then-all_fit c =
     c.none_overlap.ensures ∙ apart_rest _ _ _ (sym c.all_fit.ensures ∙ c.if-all_fit.true)
 
 pub returns-else-all_fit : goal.returns-else-all_fit
-returns-else-all_fit c = apart_not _ _ _ (sym c.all_fit.ensures ∙ c.if-all_fit.false)
+returns-else-all_fit c = c.if-all_fit.false ∙ apart_not _ _ _ (sym c.all_fit.ensures ∙ c.if-all_fit.false)

@@ -1,11 +1,7 @@
 -- `dispatch::round::next_after` meets its contract. Assumes nothing.
-use Prim.Native.Nat.{◌-◌}
 use Rattle.dispatch.specs.Form.{stays_for}
 use Rattle.dispatch.specs.Asking.{Asking}
 use Rattle.dispatch.proofs.round.next_after.Given as goal
 
 abbrev pub invariant-loop-k : goal.invariant-loop-k
 invariant-loop-k l = Asking l.count l.last (stays_for l.progress) l.start l.k
-
-abbrev pub decreases-loop-k : goal.decreases-loop-k
-decreases-loop-k l = l.count - l.k
