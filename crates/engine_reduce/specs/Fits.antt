@@ -1,5 +1,5 @@
 -- Words that do not let their rows lie at or below a sum, one after the other. Assumes nothing.
-use Rattle.std.specs.Prelude.{◌≡◌, ◌⊎◌, Bool, true, false, List, ℕ, zero, suc, ◌+◌, ◌≤◌, ◌<◌, ℤ, get_or, length}
+use Rattle.std.specs.Prelude.{◌≡◌, ◌⊎◌, Bool, true, false, List, ℕ, zero, suc, ◌+◌, ◌≤◌, ◌<◌, ℤ, get_or, length, Option, Some, None, MatchOption}
 use Rattle.std.proofs.Common.{sym, ◌∙◌, inl, inr, add-one, arith}
 use Rattle.linear.proofs.Cases.{split}
 use Rattle.definitions.specs.Tables.{at}
@@ -16,6 +16,10 @@ pub record Low (n : ℕ) (words : List ℕ) : Type 0 where
 pub record Unfit (words : List ℕ) (word from past : ℕ) : Type 0 where
   pub behind : from ≤ past
   pub none : (i : ℕ) → from ≤ i → i < past → fits 16 (get_or words i 0) word ≡ false
+
+-- the first of n words from place `from` on that fits, or there is none
+abbrev pub FirstFit : (words : List ℕ) (word from n : ℕ) → Option ℕ → Type 0
+FirstFit words word from n r = MatchOption r (Unfit words word from n) (λ k. Unfit words word from k × (k < n))
 
 -- so it is unless r says otherwise
 pub record UnfitIf (r : Bool) (words : List ℕ) (word from past : ℕ) : Type 0 where
@@ -38,6 +42,11 @@ unfit_then {words} {word} {from} {past} {last} u v =
       behind = omega (arith, u.behind, v.behind);
       none = λ i l h. elim (split i past) [ inl k ↦ u.none i l k | inr k ↦ v.none i k h ];
     }
+
+pub first_then : (words : List ℕ) (word from past n : ℕ) (r : Option ℕ) → Unfit words word from past → FirstFit words word past n r
+    → FirstFit words word from n r
+first_then words word from past n None u h = unfit_then u h
+first_then words word from past n (Some k) u h = (unfit_then u h.0, h.1)
 
 pub if_none : (r : Bool) (words : List ℕ) (word from : ℕ) → UnfitIf r words word from (from + 0)
 if_none r words word from = let s : from + 0 ≡ from = omega arith in rw s (record { unless = λ e. unfit_none words word from })

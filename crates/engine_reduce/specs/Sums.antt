@@ -1,5 +1,5 @@
 -- The test of a sum as code makes it: with the values of the rows in a table of their own. Assumes nothing.
-use Rattle.std.specs.Prelude.{◌≡◌, Bool, true, false, not, ◌&&◌, List, ℕ, ◌+◌, ◌≤◌, ◌<◌, ℤ, pos, get_or, length}
+use Rattle.std.specs.Prelude.{◌≡◌, Bool, true, false, not, ◌&&◌, List, ℕ, ◌+◌, ◌≤◌, ◌<◌, ℤ, pos, get_or, length, Option, MatchOption}
 use Rattle.std.proofs.Math.Path.{refl}
 use Rattle.std.proofs.Common.{sym, ap}
 use Rattle.std.proofs.Math.Bool.{and-false}
@@ -58,10 +58,10 @@ test q n table values upper lower sum = reducible_by q n (at table q) (integer_a
 pub record Yes (q n : ℕ) (table : List ℕ) (values : List ℤ) (upper lower : ℕ) (sum : ℤ) (r : Bool) : Type 0 where
   pub named : r ≡ true → test q n table values upper lower sum ≡ true
 
--- all rows were looked at
-pub record Searched (q n : ℕ) (table : List ℕ) (values : List ℤ) (upper lower : ℕ) (sum : ℤ) (r : ℕ) : Type 0 where
-  pub named : r < n → test q n table values upper lower sum ≡ true
-  pub none : n ≤ r → test q n table values upper lower sum ≡ false
+-- a row that reduces the sum, or all rows were looked at
+abbrev pub Searched : (q n : ℕ) (table : List ℕ) (values : List ℤ) (upper lower : ℕ) (sum : ℤ) → Option ℕ → Type 0
+Searched q n table values upper lower sum r =
+    MatchOption r (test q n table values upper lower sum ≡ false) (λ k. (k < n) × (test q n table values upper lower sum ≡ true))
 
 -- ---- the test of one value
 

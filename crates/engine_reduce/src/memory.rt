@@ -3,7 +3,7 @@
 //   held        the words of the droppers, 256 for each sign
 //   places      their rows, 256 for each sign; from 768 on how many there are of each sign, from 772 on whose turn it is to go; from 1024 on the rows
 //               by remainder
-ghost use Rattle.std.specs.Prelude.{◌≡◌, ◌+◌, ◌*◌, ◌≤◌, ◌<◌};
+ghost use Rattle.std.specs.Prelude.{◌≡◌, ◌+◌, ◌*◌, ◌≤◌, ◌<◌, MatchOption};
 
 use engine_beside::words as fields;
 
@@ -12,8 +12,7 @@ pub fn count(places: &[u32; 66560], sign: usize) -> usize
     requires { sign < 3 }
     ensures { result ≤ 256 }
 {
-    let n = number(places[768 + sign]);
-    if n < 256 { n } else { 256 }
+    number(places[768 + sign]).min(256)
 }
 
 // The row remembered at place k.
@@ -30,19 +29,17 @@ pub fn slot(word: u64) -> usize
     1024 + (word % 65521) as usize
 }
 
-// The first of the droppers at places `from` to `past` - 1 whose word lets it drop a sum of this word; `past` where there is none.
-pub fn next_held(held: &[u64; 768], from: usize, past: usize, word: u64) -> usize
+// The first of the droppers at places `from` to `past` - 1 whose word lets it drop a sum of this word.
+pub fn next_held(held: &[u64; 768], from: usize, past: usize, word: u64) -> Option<usize>
     requires { (from ≤ past) × (past ≤ 768) }
-    ensures { (from ≤ result) × (result ≤ past) }
+    ensures { MatchOption result (Unit {0}) (λ k. (from ≤ k) × (k < past)) }
 {
-    let mut k = from;
-    while k < past {
+    for k in from..past {
         if may_drop(held[k], word) {
-            return k;
+            return Some(k);
         }
-        k += 1;
     }
-    k
+    None
 }
 
 // The dropper at place k changes places with the one halfway to the first.
@@ -50,12 +47,8 @@ pub fn advance(held: &mut [u64; 768], places: &mut [u32; 66560], from: usize, k:
     requires { (from ≤ k) × (k < 768) }
 {
     let to = from + (k - from) / 2;
-    let word = held[k];
-    held[k] = held[to];
-    held[to] = word;
-    let row = places[k];
-    places[k] = places[to];
-    places[to] = row;
+    held.swap(to, k);
+    places.swap(to, k);
 }
 
 // A row that dropped a sum: it comes last; where there are 256, in the place of one of the later half, each in its turn.

@@ -3,7 +3,7 @@ ghost use Rattle.std.specs.Prelude.{◌≡◌, ◌&&◌, ◌+◌, ◌*◌, ◌�
 ghost use Rattle.std.specs.Int.Signed.{le_z};
 ghost use Rattle.definitions.specs.Tables.{at};
 ghost use Rattle.engine_spec.specs.Reduction.{is_within};
-ghost use Rattle.engine_reduce.specs.Fits.{Low, Unfit, UnfitIf};
+ghost use Rattle.engine_reduce.specs.Fits.{FirstFit, Low, UnfitIf};
 ghost use Rattle.engine_reduce.specs.Sums.{Handed, Looked, Searched, Yes, fits_by, integer_at, reducible_by, sum_of};
 
 use crate::memory;
@@ -36,15 +36,14 @@ pub fn reducible(
     if known(table, values, n, q, upper, lower, sum, word, places) {
         return true;
     }
-    let by = search(table, values, words, n, q, upper, lower, sum, word);
-    if by < n {
+    if let Some(by) = search(table, values, words, n, q, upper, lower, sum, word) {
         memory::remember(held, places, sign, by, words[by]);
         return true;
     }
     false
 }
 
-// 0, 1 or 2 for a value of 0, above or below.
+// 0, 1 or 2 for a value of 0, above or below. It stays a number: it is the place of the sign in what is remembered.
 fn sign_of(sum: i64) -> usize
     ensures { result < 3 }
 {
@@ -74,11 +73,7 @@ fn dropped(
     let from = sign * 256;
     let past = from + memory::count(places, sign);
     let mut i = from;
-    while i < past {
-        let k = memory::next_held(held, i, past, word);
-        if past <= k {
-            return false;
-        }
+    while let Some(k) = memory::next_held(held, i, past, word) {
         i = k + 1;
         if reduces(
             table,
@@ -184,7 +179,7 @@ fn between(x: i64, lo: i64, hi: i64) -> bool
     x <= hi
 }
 
-// The first of the n rows that reduces the sum; n where there is none.
+// The first of the n rows that reduces the sum.
 fn search(
     table: &[u32],
     values: &[i64],
@@ -195,40 +190,33 @@ fn search(
     lower: usize,
     sum: i64,
     word: u64,
-) -> usize
+) -> Option<usize>
     requires { Looked q n table.now values.now words.now upper lower word }
     ensures { Searched q n table.now values.now upper lower sum result }
 {
     let mut i = 0;
-    while i < n {
-        let k = next_fit(words, i, n, word);
-        if n <= k {
-            return n;
-        }
+    while let Some(k) = next_fit(words, i, n, word) {
         i = k + 1;
         if reduces_at(table, values, n, q, k, upper, lower, sum) {
-            return k;
+            return Some(k);
         }
     }
-    n
+    None
 }
 
-// The first of the words from place `from` to n - 1 that lets its row lie at or below the sum; n where there is none. Eight are looked at together.
-fn next_fit(words: &[u64], from: usize, n: usize, word: u64) -> usize
+// The first of the words from place `from` to n - 1 that lets its row lie at or below the sum. Eight are looked at together.
+fn next_fit(words: &[u64], from: usize, n: usize, word: u64) -> Option<usize>
     requires { Low n words.now × (from ≤ n) }
-    ensures { Unfit words.now word from result × (result ≤ n) }
+    ensures { FirstFit words.now word from n result }
 {
-    let mut i = from;
-    while i < n {
-        if n - i < 8 {
-            return first_fit(words, i, n, word);
-        }
+    let eights = (n - from) / 8;
+    for e in 0..eights {
+        let i = from + 8 * e;
         if some_fit(words, i, n, word) {
             return first_fit(words, i, n, word);
         }
-        i += 8;
     }
-    i
+    first_fit(words, from + 8 * eights, n, word)
 }
 
 // Whether one of the eight words from place `from` on does: no branch for each.
@@ -237,27 +225,23 @@ fn some_fit(words: &[u64], from: usize, n: usize, word: u64) -> bool
     ensures { UnfitIf result words.now word from (from + 8) }
 {
     let mut any = false;
-    let mut j = 0;
-    while j < 8 {
+    for j in 0..8 {
         if fields::fits(words[from + j], word) {
             any = true;
         }
-        j += 1;
     }
     any
 }
 
 // The same, one by one.
-fn first_fit(words: &[u64], from: usize, n: usize, word: u64) -> usize
+fn first_fit(words: &[u64], from: usize, n: usize, word: u64) -> Option<usize>
     requires { Low n words.now × (from ≤ n) }
-    ensures { Unfit words.now word from result × (result ≤ n) }
+    ensures { FirstFit words.now word from n result }
 {
-    let mut i = from;
-    while i < n {
+    for i in from..n {
         if fields::fits(words[i], word) {
-            return i;
+            return Some(i);
         }
-        i += 1;
     }
-    i
+    None
 }

@@ -3,9 +3,6 @@ use mir.Facts.{to_z-of_z}
 use Rattle.engine_reduce.specs.Sums.{never}
 use Rattle.engine_reduce.proofs.sums.dropped.Goals as goal
 
-pub returns-then-past-k : goal.returns-then-past-k
-returns-then-past-k c = record { named = λ e. never e }
-
 pub returns-then-reduces : goal.returns-then-reduces
 returns-then-reduces c =
     record { named = λ e. rw (to_z-of_z c.ranges.sum) at (c.reduces.ensures.named c.if-reduces.true) }

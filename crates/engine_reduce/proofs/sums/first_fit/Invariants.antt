@@ -1,10 +1,6 @@
 -- `first_fit` meets its contract: none of the words passed fits. Assumes nothing.
-use Prim.Native.Nat.{◌≤◌, ◌-◌}
 use Rattle.engine_reduce.specs.Fits.{Unfit}
 use Rattle.engine_reduce.proofs.sums.first_fit.Given as goal
 
 abbrev pub invariant-loop-i : goal.invariant-loop-i
-invariant-loop-i l = (l.i ≤ l.n) × Unfit l.words l.word l.from l.i
-
-abbrev pub decreases-loop-i : goal.decreases-loop-i
-decreases-loop-i l = l.n - l.i
+invariant-loop-i l = Unfit l.words l.word l.from l.i

@@ -11,10 +11,12 @@ pub returns-then-known : goal.returns-then-known
 returns-then-known c =
     sym (rw (to_z-of_z c.ranges.sum) at (c.known.ensures.named c.if-known.true))
 
-pub returns-then-by-n : goal.returns-then-by-n
-returns-then-by-n c =
-    sym (rw (to_z-of_z c.ranges.sum) at (c.search-by.ensures.named c.if-by-n.true))
+pub returns-in-Some : goal.returns-in-Some
+returns-in-Some c =
+    let f = rw c.in-Some.is at c.search.ensures in
+    sym (rw (to_z-of_z c.ranges.sum) at f.1)
 
 pub returns : goal.returns
 returns c =
-    sym (rw (to_z-of_z c.ranges.sum) at (c.search-by.ensures.none c.if-by-n.false))
+    let f = rw c.in_default.is at c.search.ensures in
+    sym (rw (to_z-of_z c.ranges.sum) at f)

@@ -6,9 +6,9 @@ use Rattle.definitions.specs.Tables.{at}
 use Rattle.engine_reduce.specs.Sums.{integer_at, reducible_by, sum_of}
 use Rattle.engine_reduce.proofs.sums.search.Given as goal
 
-abbrev pub invariant-loop-i : goal.invariant-loop-i
-invariant-loop-i l = (l.i ≤ l.n) × (reducible_by l.q l.i (at l.table l.q) (integer_at l.values) (sum_of l.q l.table l.upper l.lower)
+abbrev pub invariant-loop-k : goal.invariant-loop-k
+invariant-loop-k l = (l.i ≤ l.n) × (reducible_by l.q l.i (at l.table l.q) (integer_at l.values) (sum_of l.q l.table l.upper l.lower)
     l.sum ≡ false)
 
-abbrev pub decreases-loop-i : goal.decreases-loop-i
-decreases-loop-i l = l.n - l.i
+abbrev pub decreases-loop-k : goal.decreases-loop-k
+decreases-loop-k l = l.n - l.i

@@ -1,10 +1,7 @@
 -- `some_fit` meets its contract: none of the words passed fits, unless it says so. Assumes nothing.
-use Prim.Native.Nat.{◌+◌, ◌≤◌, ◌-◌}
+use Prim.Native.Nat.{◌+◌}
 use Rattle.engine_reduce.specs.Fits.{UnfitIf}
 use Rattle.engine_reduce.proofs.sums.some_fit.Given as goal
 
 abbrev pub invariant-loop-j : goal.invariant-loop-j
-invariant-loop-j l = (l.j ≤ 8) × UnfitIf l.any l.words l.word l.from (l.from + l.j)
-
-abbrev pub decreases-loop-j : goal.decreases-loop-j
-decreases-loop-j l = 8 - l.j
+invariant-loop-j l = UnfitIf l.any l.words l.word l.from (l.from + l.j)
