@@ -10,7 +10,8 @@ use Rattle.engine_spec.specs.Search.{first_in, least_to}
 use Rattle.engine_spec.specs.Sound.{Sorted}
 use Rattle.engine_spec.specs.Stage.{Stage, above, below, due_row, is_due, is_pair, next_degree, pair_degree}
 use Rattle.engine_search.specs.Firsts.{first_in_same, holder_same, least_same, partner_same}
-use Rattle.engine_search.specs.Places.{Falling, IsNext, Ranked, degree_of, due, due_by, least_pair, lower_of, next_degree_by, pair_degree_by, upper_of, value_of}
+use Rattle.engine_search.specs.Places.{Falling, IsNext, Ranked, degree_of, due, due_by, least_pair, lower_of}
+use Rattle.engine_search.specs.Places.{next_degree_by, pair_degree_by, upper_of, value_of}
 
 -- ---- tests
 
