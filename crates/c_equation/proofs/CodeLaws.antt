@@ -1,6 +1,6 @@
 -- A number of 64 bits holds each answer: places are bounded by the length of a text that is not too long, or by the number of unknowns; right sides are in
 -- range; a written row is short. Assumes nothing.
-use Rattle.std.specs.Prelude.{ℕ, ◌+◌, ◌*◌, ◌^◌, ◌≤◌, ◌<◌, List, ◌≢◌, ◌≡◌, refl, ℤ, nat_abs, length, set}
+use Rattle.std.specs.Prelude.{ℕ, ◌+◌, ◌*◌, ◌^◌, ◌≤◌, ◌<◌, List, ◌≢◌, ◌≡◌, refl, ℤ, Result, Ok, Err, nat_abs, length, set}
 use Rattle.std.proofs.Common.{inl, inr, ap, arith, to_z-of_z, of_z, to_z}
 use Rattle.std.proofs.Math.Decide.{ℕ_discrete}
 use Rattle.std.specs.Int.{w32}
@@ -20,12 +20,10 @@ use Rattle.equation_spec.proofs.WriteLaws.{written_short}
 use Rattle.equation_spec.proofs.WriteRules.{write_rules, write_renders}
 use Rattle.equation_read.specs.Answer.{answered, answer_of, number_of, values_of}
 use Rattle.equation_read.specs.AnsweredLaws.{answered_refused, side_small}
-use Rattle.equation_read.specs.declared.equation.EquationRead.{EquationRead}
-use Rattle.equation_read.specs.declared.equation.EquationRead.TheVariants as read
 use Rattle.equation_read.specs.declared.equation.EquationRefusal.{EquationRefusal}
 use Rattle.equation_write.specs.Answer.{wrote_by}
-use Rattle.equation_write.specs.declared.EquationWritten.{EquationWritten}
-use Rattle.equation_write.specs.declared.EquationWritten.TheVariants as wrote
+use Rattle.equation_write.specs.declared.WriteRefusal.{WriteRefusal}
+use Rattle.equation_write.specs.declared.WriteRefusal.TheVariants as unwritten
 use Rattle.c_equation.specs.Codes.{refusal_code, read_told, write_told}
 
 -- ---- refusals by rules
@@ -74,21 +72,21 @@ module _ (q n : ℕ) (t : List ℕ) where
   outcome_fits k values e = due_fits (equation_rules q n t) k values reader_small ((equation_renders q n t).refuses k values (ap verdict e))
 
 -- what a call answered and left, as it is told
-module _ (q : ℕ) (t : List ℕ) (row : List ℤ) (r : EquationRead) (after : List ℤ) (e : answer_of r after ≡ answered (outcome q (length row) t) row) where
-  pub read_refusal_fits : {why : EquationRefusal} → r ≡ read.Refused why → refusal_code (number_of why) (values_of why) < 2 ^ 64
+module _ (q : ℕ) (t : List ℕ) (row : List ℤ) (r : Result ℤ EquationRefusal) (after : List ℤ) (e : answer_of r after ≡ answered (outcome q (length row) t) row) where
+  pub read_refusal_fits : {why : EquationRefusal} → r ≡ Err why → refusal_code (number_of why) (values_of why) < 2 ^ 64
   read_refusal_fits {why} g =
       fitting_code (number_of why) (values_of why)
       (outcome_fits q (length row) t (number_of why) (values_of why) (answered_refused (outcome q (length row) t) row (rw g at e)))
 
-  pub read_side_small : {right : ℤ} → r ≡ read.Equation right → nat_abs right ≤ 10000
+  pub read_side_small : {right : ℤ} → r ≡ Ok right → nat_abs right ≤ 10000
   read_side_small {right} g = side_small q (length row) t row {right = right} {left = after} (rw g at e)
 
-  pub read_refused_told : (side : List ℤ) {why : EquationRefusal} {a : ℕ} → r ≡ read.Refused why → a ≡ refusal_code (number_of why) (values_of why)
+  pub read_refused_told : (side : List ℤ) {why : EquationRefusal} {a : ℕ} → r ≡ Err why → a ≡ refusal_code (number_of why) (values_of why)
       → (a, (after, side)) ≡ read_told (answered (outcome q (length row) t) row) side
   read_refused_told side g d = rw (← e, g, d)
 
   -- a right side that was read fits 32 bits
-  pub read_told_lem : (side : List ℤ) {right : ℤ} → r ≡ read.Equation right
+  pub read_told_lem : (side : List ℤ) {right : ℤ} → r ≡ Ok right
       → (130, (after, set side 0 (to_z w32 (of_z w32 right)))) ≡ read_told (answered (outcome q (length row) t) row) side
   read_told_lem side {right} g = rw (to_z-of_z {w = w32} {z = right} (sfits_nat_abs (omega (arith, read_side_small g))), ← e, g)
 
@@ -122,28 +120,28 @@ unfolding put_out
 put_wrote go text out h = (refl, cc)
 put_wrote (refuse k values) text out h = absurd (let z : ◌≡◌ {A = ℕ} 0 1 = cc in omega arith)
 
-module _ (q : ℕ) (row : List ℤ) (right : ℤ) (out : List ℕ) (r : EquationWritten) (after : List ℕ) (e : wrote_by r after ≡ write q row right out) where
-  pub write_refusal_fits : {why : Refusal} → r ≡ wrote.Refused why → refusal_code (paper.number_of why) (paper.values_of why) < 2 ^ 64
+module _ (q : ℕ) (row : List ℤ) (right : ℤ) (out : List ℕ) (r : Result ℕ WriteRefusal) (after : List ℕ) (e : wrote_by r after ≡ write q row right out) where
+  pub write_refusal_fits : {why : Refusal} → r ≡ Err (unwritten.Row why) → refusal_code (paper.number_of why) (paper.values_of why) < 2 ^ 64
   unfolding write
   write_refusal_fits {why} g =
       checks_fit q row right out (paper.number_of why) (paper.values_of why)
       (put_refused (write_checks q row right (length out)) (written row right) out (rw g at e))
 
-  pub write_short : {n : ℕ} → r ≡ wrote.Written n → n ≤ 256
+  pub write_short : {n : ℕ} → r ≡ Ok n → n ≤ 256
   unfolding write
   write_short {n} g =
       let (a, b) = put_wrote (write_checks q row right (length out)) (written row right) out (rw g at e) in
       rw b (passed_short q row right out a)
 
-  pub write_refused_told : {why : Refusal} {a : ℕ} → r ≡ wrote.Refused why → a ≡ refusal_code (paper.number_of why) (paper.values_of why)
+  pub write_refused_told : {why : Refusal} {a : ℕ} → r ≡ Err (unwritten.Row why) → a ≡ refusal_code (paper.number_of why) (paper.values_of why)
       → (a, after) ≡ write_told (write q row right out)
   write_refused_told g d = rw (← e, g, d)
 
-  pub write_told_lem : {n a : ℕ} → r ≡ wrote.Written n → a ≡ 131 + 256 * n → (a, after) ≡ write_told (write q row right out)
+  pub write_told_lem : {n a : ℕ} → r ≡ Ok n → a ≡ 131 + 256 * n → (a, after) ≡ write_told (write q row right out)
   write_told_lem g d = rw (← e, g, d)
 
-  pub side_told : r ≡ wrote.RightSide → (15, after) ≡ write_told (write q row right out)
+  pub side_told : r ≡ Err unwritten.RightSide → (15, after) ≡ write_told (write q row right out)
   side_told g = rw (← e, g)
 
-  pub space_told : r ≡ wrote.Space → (29, after) ≡ write_told (write q row right out)
+  pub space_told : r ≡ Err unwritten.Space → (29, after) ≡ write_told (write q row right out)
   space_told g = rw (← e, g)

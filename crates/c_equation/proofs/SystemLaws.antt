@@ -1,5 +1,5 @@
 -- A number of 64 bits holds each answer of a system of several lines: there are at most eight, and each line's own refusal is small. Assumes nothing.
-use Rattle.std.specs.Prelude.{ℕ, ◌+◌, ◌*◌, ◌^◌, ◌≤◌, ◌<◌, Bool, true, false, List, [], ◌≡◌, refl, ℤ, set}
+use Rattle.std.specs.Prelude.{ℕ, ◌+◌, ◌*◌, ◌^◌, ◌≤◌, ◌<◌, Bool, true, false, List, [], ◌≡◌, refl, ℤ, Result, Ok, Err, set}
 use Rattle.std.proofs.Common.{inl, inr, arith}
 use Rattle.linear.proofs.Cases.{split}
 use Rattle.definitions.specs.Answers.{Check, refuse, go, refuse_with}
@@ -11,8 +11,6 @@ use Rattle.equation_spec.specs.Systems as form
 use Rattle.equation_spec.specs.Systems.{Outcome, accepted, line_outcome, system_outcome, table_checks, hand_out, handed_out, read_system}
 use Rattle.equation_spec.proofs.SystemRules.{FirstBad, system_rules, system_answers, tables_render}
 use Rattle.equation_systems.specs.Answer.{answer_of, number_of, values_of}
-use Rattle.equation_systems.specs.declared.SystemRead.{SystemRead}
-use Rattle.equation_systems.specs.declared.SystemRead.TheVariants as read
 use Rattle.equation_systems.specs.declared.SystemRefusal.{SystemRefusal}
 use Rattle.c_equation.specs.Codes.{refusal_code, second, system_told}
 use Rattle.c_equation.proofs.CodeLaws.{Fitting, outcome_fits}
@@ -91,20 +89,20 @@ handed_few (form.refused k ws) coefs rights f e = absurd (let z : ◌≡◌ {A =
 
 -- ---- what a call answered and left, as it is told
 
-module _ (q : ℕ) (t : List ℕ) (coefs rights : List ℤ) (r : SystemRead) (after sides : List ℤ) (e : answer_of r after sides ≡ read_system q t coefs rights) where
-  pub system_refusal_fits : {why : SystemRefusal} → r ≡ read.Refused why → refusal_code (number_of why) (values_of why) < 2 ^ 64
+module _ (q : ℕ) (t : List ℕ) (coefs rights : List ℤ) (r : Result ℕ SystemRefusal) (after sides : List ℤ) (e : answer_of r after sides ≡ read_system q t coefs rights) where
+  pub system_refusal_fits : {why : SystemRefusal} → r ≡ Err why → refusal_code (number_of why) (values_of why) < 2 ^ 64
   unfolding read_system
   system_refusal_fits {why} g =
       handed_fits (system_outcome q t) coefs rights {n = number_of why} {values = values_of why} {xs = after} {ds = sides} (outcome_fit q t) (rw g at e)
 
-  pub system_few : {p : ℕ} → r ≡ read.System p → p ≤ 8
+  pub system_few : {p : ℕ} → r ≡ Ok p → p ≤ 8
   unfolding read_system
   system_few {p} g = handed_few (system_outcome q t) coefs rights {k = p} {xs = after} {ds = sides} (accepted_few q t) (rw g at e)
 
-  pub system_refused_told : (within : List ℕ) {why : SystemRefusal} {a place : ℕ} → r ≡ read.Refused why → a ≡ refusal_code (number_of why) (values_of why)
+  pub system_refused_told : (within : List ℕ) {why : SystemRefusal} {a place : ℕ} → r ≡ Err why → a ≡ refusal_code (number_of why) (values_of why)
       → place ≡ second (values_of why) → (a, (after, (sides, set within 0 place))) ≡ system_told (read_system q t coefs rights) within
   system_refused_told within g d f = rw (← e, g, d, f)
 
-  pub system_told_lem : (within : List ℕ) {p a : ℕ} → r ≡ read.System p → a ≡ 132 + 256 * p
+  pub system_told_lem : (within : List ℕ) {p a : ℕ} → r ≡ Ok p → a ≡ 132 + 256 * p
       → (a, (after, (sides, within))) ≡ system_told (read_system q t coefs rights) within
   system_told_lem within g d = rw (← e, g, d)

@@ -9,8 +9,8 @@ ghost use Rattle.equation_read.specs.Answer.{answered, number_of, values_of};
 ghost use Rattle.c_equation.specs.Codes.{refusal_code, read_told, write_told};
 
 use calls::Refusal;
-use equation_read::equation::{EquationRead, EquationRefusal};
-use equation_write::EquationWritten;
+use equation_read::equation::EquationRefusal;
+use equation_write::WriteRefusal;
 
 pub mod systems; // systems.rt: a system of several lines
 
@@ -20,11 +20,11 @@ pub fn read_equation(text: &[u8], q: usize, row: &mut [i32], side: &mut [i32; 1]
         read_told (answered (outcome q (length row.old) text.now) row.old) side.old }
 {
     match equation_read::equation::read_equation(text, q, row) {
-        EquationRead::Equation { right } => {
+        Ok(right) => {
             side[0] = right;
             130
         }
-        EquationRead::Refused(why) => refusal(why),
+        Err(why) => refusal(why),
     }
 }
 
@@ -33,10 +33,12 @@ pub fn write_equation(q: usize, row: &[i32], right: i32, out: &mut [u8]) -> u64
     ensures { (result, out.new) ≡ write_told (write q row.now right out.old) }
 {
     match equation_write::write_equation(q, row, right, out) {
-        EquationWritten::Written(n) => written_code(n),
-        EquationWritten::Refused(why) => row_refusal(why),
-        EquationWritten::RightSide => 15,
-        EquationWritten::Space => 29,
+        Ok(n) => written_code(n),
+        Err(why) => match why {
+            WriteRefusal::Row(own) => row_refusal(own),
+            WriteRefusal::RightSide => 15,
+            WriteRefusal::Space => 29,
+        },
     }
 }
 
@@ -84,13 +86,7 @@ pub fn value_of(why: EquationRefusal) -> usize
     ensures { result ≡ paper.value (values_of why) }
 {
     match why {
-        EquationRefusal::Length => 0,
-        EquationRefusal::Unknowns => 0,
-        EquationRefusal::Row => 0,
-        EquationRefusal::Grammar(place) => place,
-        EquationRefusal::Depth => 0,
-        EquationRefusal::Multiplier => 0,
-        EquationRefusal::Coefficient(place) => place,
-        EquationRefusal::RightSide => 0,
+        EquationRefusal::Grammar(place) | EquationRefusal::Coefficient(place) => place,
+        _ => 0,
     }
 }

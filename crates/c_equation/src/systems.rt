@@ -6,7 +6,7 @@ ghost use Rattle.equation_systems.specs.Answer.{number_of, values_of};
 ghost use Rattle.c_equation.specs.Codes.{second, refusal_code, system_told};
 
 use crate::{number_of, value_of};
-use equation_systems::{SystemRead, SystemRefusal};
+use equation_systems::SystemRefusal;
 
 // Reads the system that `text` writes for `q` unknowns, one equation a line; its coefficients go to the beginning of `coefs`, its right sides to that of
 // `rights`. A refusal comes with its line, and where in the line goes to `within`.
@@ -21,8 +21,8 @@ pub fn read_system(
         system_told (read_system q text.now coefs.old rights.old) within.old }
 {
     match equation_systems::read_system(text, q, coefs, rights) {
-        SystemRead::System { p } => read_code(p),
-        SystemRead::Refused(why) => {
+        Ok(p) => read_code(p),
+        Err(why) => {
             within[0] = place(why) as u64;
             refusal(why)
         }
@@ -63,12 +63,8 @@ fn line(why: SystemRefusal) -> usize
     ensures { result ≡ value (values_of why) }
 {
     match why {
-        SystemRefusal::Length => 0,
-        SystemRefusal::Equations => 0,
-        SystemRefusal::Unknowns => 0,
-        SystemRefusal::Newline(line) => line,
-        SystemRefusal::Line(line, _) => line,
-        SystemRefusal::Tables => 0,
+        SystemRefusal::Newline(line) | SystemRefusal::Line(line, _) => line,
+        _ => 0,
     }
 }
 
@@ -77,11 +73,7 @@ fn place(why: SystemRefusal) -> usize
     ensures { result ≡ second (values_of why) }
 {
     match why {
-        SystemRefusal::Length => 0,
-        SystemRefusal::Equations => 0,
-        SystemRefusal::Unknowns => 0,
-        SystemRefusal::Newline(_) => 0,
         SystemRefusal::Line(_, own) => value_of(own),
-        SystemRefusal::Tables => 0,
+        _ => 0,
     }
 }

@@ -4,13 +4,13 @@ use Rattle.c_equation.proofs.read_equation.Goals as goal
 
 pub refusal-requires : goal.refusal-requires
 refusal-requires c =
-    read_refusal_fits c.args.q c.args.text.now c.args.row.now _ _ c.read_equation.ensures c.in-Refused.is
+    read_refusal_fits c.args.q c.args.text.now c.args.row.now _ _ c.read_equation.ensures c.in-Err.is
 
-pub returns-in-Equation : goal.returns-in-Equation
-returns-in-Equation c =
-    read_told_lem c.args.q c.args.text.now c.args.row.now _ _ c.read_equation.ensures c.args.side.now c.in-Equation.is
+pub returns-in-Ok : goal.returns-in-Ok
+returns-in-Ok c =
+    read_told_lem c.args.q c.args.text.now c.args.row.now _ _ c.read_equation.ensures c.args.side.now c.in-Ok.is
 
-pub returns-in-Refused : goal.returns-in-Refused
-returns-in-Refused c =
+pub returns-in-Err : goal.returns-in-Err
+returns-in-Err c =
     read_refused_told c.args.q c.args.text.now c.args.row.now _ _ c.read_equation.ensures c.args.side.now
-    c.in-Refused.is c.refusal.ensures
+    c.in-Err.is c.refusal.ensures
