@@ -1,13 +1,12 @@
 -- Theorems about what specs/Keeping.antt defines. Assumes nothing.
-use Rattle.std.specs.Prelude.{◌≡◌, List, Bool, true, false, not, ℕ, zero, suc, ◌+◌, ◌*◌, ◌≤◌, ◌<◌, ltb, length, set}
+use Rattle.std.specs.Prelude.{◌≡◌, List, [], ◌∷◌, ◌++◌, Bool, true, false, ◌&&◌, ℕ, zero, suc, ◌+◌, ◌*◌, ◌≤◌, ◌<◌, ltb, length, set}
 use Rattle.std.proofs.Math.Path.{refl}
 use Rattle.std.proofs.Common.{sym, ◌∙◌, ap, ap₂, inr, add-one, le-ltb, lt-ltb}
-use Rattle.std.proofs.Math.Bool.{and-false}
+use Rattle.std.proofs.lemmas.List.Folds.{list_any-append}
+use Rattle.std.specs.List.{list_any, range_with_len}
 use native.Mathlib.Omega.{arith}
-use Rattle.linear.proofs.LoopLaws.{any_holds, any_next}
 use Rattle.linear.proofs.TestLaws.{count_le}
 use Rattle.linear.specs.Tests.{any_to, count_to}
-use Rattle.definitions.specs.System.{is_at_or_below}
 use Rattle.definitions.specs.Tables.{at, write_to}
 use Rattle.laws.proofs.TableLaws.{write_next, write_outside, write_same}
 use Rattle.laws.specs.Pack.{pack_to}
@@ -16,7 +15,7 @@ use Rattle.laws.specs.Sweep.{keeps}
 use Rattle.laws.specs.SweepTable.{stays_here}
 use Rattle.laws.proofs.SweepTable.{swept_ahead, sweep_test}
 use Rattle.table_rows.specs.Small.{row_at}
-use Rattle.table_rows.specs.Keeping.{Kept, spoils_earlier, spoils_later}
+use Rattle.table_rows.specs.Keeping.{Kept}
 
 module _ (q : ℕ) (stay : ℕ → Bool) (table₀ : List ℕ) where
   pub kept_none : Kept q 0 stay table₀ table₀ 0
@@ -62,28 +61,22 @@ unfolding any_to
 any_low f zero h = refl
 any_low f (suc n) h = rw (any_low f n (λ i l. h i (omega arith)), h n (omega arith))
 
-module _ (q : ℕ) (now : ℕ → ℕ → ℕ) (i : ℕ) where
-  pub later_start : any_to (i + 1) (spoils_later q now i) ≡ false
-  later_start = any_low (spoils_later q now i) (i + 1) (λ k l. rw (le-ltb i k (omega arith)))
+range_last : (a n : ℕ) → range_with_len a (suc n) ≡ range_with_len a n ++ (a + n) ∷ []
+range_last a zero = ap (λ x. x ∷ []) (omega arith)
+range_last a (suc n) = ap (λ xs. a ∷ xs) (range_last (a + 1) n ∙ ap (λ x. range_with_len (a + 1) n ++ x ∷ []) (omega arith))
 
-  pub later_above : (k : ℕ) → any_to k (spoils_later q now i) ≡ false → is_at_or_below q (now k) (now i) ≡ false → any_to (k + 1) (spoils_later q now i) ≡ false
-  later_above k h e = any_next k (spoils_later q now i) h (rw e (and-false (ltb i k)))
+any_one : (f : ℕ → Bool) (x : ℕ) → list_any f (x ∷ []) ≡ f x
+any_one f x = grind arith
 
-  pub later_same : (k : ℕ) → any_to k (spoils_later q now i) ≡ false → is_at_or_below q (now i) (now k) ≡ true → any_to (k + 1) (spoils_later q now i) ≡ false
-  later_same k h e = any_next k (spoils_later q now i) h (rw (e, and-false (is_at_or_below q (now k) (now i))) (and-false (ltb i k)))
-
-  pub goes_earlier : (n c m : ℕ) → m < c → is_at_or_below q (now m) (now i) ≡ true → stays_here q n now c i ≡ false
-  unfolding stays_here
-  goes_earlier n c m l e = rw (any_holds c (spoils_earlier q now i) m l e)
-
-  pub goes_later : (n c k : ℕ) → i < k → k < n → is_at_or_below q (now k) (now i) ≡ true → is_at_or_below q (now i) (now k) ≡ false → stays_here q n now c i
-      ≡ false
-  unfolding stays_here
-  goes_later n c k ik l e g = rw (any_holds n (spoils_later q now i) k l (rw (lt-ltb i k ik, e, g))) (and-false (not (any_to c (spoils_earlier q now i))))
-
-  pub stays_both : (n c : ℕ) → any_to c (spoils_earlier q now i) ≡ false → any_to n (spoils_later q now i) ≡ false → stays_here q n now c i ≡ true
-  unfolding stays_here
-  stays_both n c e g = rw (e, g)
+-- f holds at one of the d places after i
+pub any_after : (f : ℕ → Bool) (i d : ℕ) → list_any f (range_with_len (i + 1) d) ≡ any_to (i + 1 + d) (λ k. ltb i k && f k)
+unfolding any_to
+any_after f i zero = sym (any_low (λ k. ltb i k && f k) (i + 1 + 0) (λ k l. rw (le-ltb i k (omega arith))))
+any_after f i (suc d) =
+    let e : i + 1 + suc d ≡ suc (i + 1 + d) = omega arith in
+    ap (list_any f) (range_last (i + 1) d)
+    ∙ list_any-append f (range_with_len (i + 1) d) ((i + 1 + d) ∷ [])
+    ∙ rw (e, any_after f i d, any_one f (i + 1 + d), lt-ltb i (i + 1 + d) (omega arith)) refl
 
 -- the test made on the table as it is written over
 pub kept_test : (q n : ℕ) (table₀ : List ℕ) {i : ℕ} {table : List ℕ} {count : ℕ} → n * q ≤ length table₀ → i < n

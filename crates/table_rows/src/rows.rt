@@ -11,14 +11,7 @@ pub fn small_at(table: &[u32], base: usize, q: usize, limit: u32) -> bool
     requires { base + q ≤ length table.now }
     ensures { result ≡ all_to q (λ j. leb (row_at table.now base j) limit) }
 {
-    let mut j = 0;
-    while j < q {
-        if limit < table[base + j] {
-            return false;
-        }
-        j += 1;
-    }
-    true
+    (0..q).all(|j| table[base + j] <= limit)
 }
 
 // Copies the row that stands from place `from` to an earlier place.
@@ -26,10 +19,8 @@ pub fn copy(table: &mut [u32], from: usize, to: usize, q: usize)
     requires { (to ≤ from) × (from + q ≤ length table.old) }
     ensures { table.new ≡ write_to q table.old to (row_at table.old from) }
 {
-    let mut j = 0;
-    while j < q {
+    for j in 0..q {
         table[to + j] = table[from + j];
-        j += 1;
     }
 }
 
@@ -38,14 +29,7 @@ pub fn below(table: &[u32], x: usize, y: usize, q: usize) -> bool
     requires { (x + q ≤ length table.now) × (y + q ≤ length table.now) }
     ensures { result ≡ is_at_or_below q (row_at table.now x) (row_at table.now y) }
 {
-    let mut j = 0;
-    while j < q {
-        if table[y + j] < table[x + j] {
-            return false;
-        }
-        j += 1;
-    }
-    true
+    (0..q).all(|j| table[x + j] <= table[y + j])
 }
 
 // Copies the tuple of w numbers that stands in a table from place `base`.
@@ -53,10 +37,8 @@ pub fn read(table: &[u32], base: usize, w: usize, t: &mut [u32])
     requires { (w ≤ length t.old) × (base + w ≤ length table.now) }
     ensures { Holds w t.new table.now base }
 {
-    let mut j = 0;
-    while j < w {
+    for j in 0..w {
         t[j] = table[base + j];
-        j += 1;
     }
 }
 
@@ -65,9 +47,7 @@ pub fn write(table: &mut [u32], base: usize, w: usize, t: &[u32])
     requires { (w ≤ length t.now) × (base + w ≤ length table.old) }
     ensures { table.new ≡ write_to w table.old base (tuple t.now) }
 {
-    let mut j = 0;
-    while j < w {
+    for j in 0..w {
         table[base + j] = t[j];
-        j += 1;
     }
 }

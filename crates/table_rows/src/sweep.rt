@@ -13,12 +13,9 @@ pub fn sweep(table: &mut [u32], n: usize, q: usize) -> usize
     ensures { Kept q n (keeps q n (at table.old q)) table.old table.new result }
 {
     let mut kept = 0;
-    let mut i = 0;
-    while i < n {
-        let k = i;
-        i += 1;
-        if stays(table, n, q, kept, k) {
-            rows::copy(table, k * q, kept * q, q);
+    for i in 0..n {
+        if stays(table, n, q, kept, i) {
+            rows::copy(table, i * q, kept * q, q);
             kept += 1;
         }
     }
@@ -31,24 +28,7 @@ fn stays(table: &[u32], n: usize, q: usize, kept: usize, i: usize) -> bool
     ensures { result ≡ stays_here q n (at table.now q) kept i }
 {
     let base = i * q;
-    let mut m = 0;
-    while m < kept {
-        if rows::below(table, m * q, base, q) {
-            return false;
-        }
-        m += 1;
-    }
-    let mut next = i + 1;
-    while next < n {
-        let k = next;
-        next += 1;
-        if !rows::below(table, k * q, base, q) {
-            continue;
-        }
-        if rows::below(table, base, k * q, q) {
-            continue;
-        }
-        return false;
-    }
-    true
+    !(0..kept).any(|m| rows::below(table, m * q, base, q))
+        && !(i + 1..n).any(|k| rows::below(table, k * q, base, q)
+            && !rows::below(table, base, k * q, q))
 }

@@ -11,10 +11,8 @@ pub fn value_at(coefs: &[i32], from: usize, table: &[u32], base: usize, q: usize
     ensures { result ≡ value (equation_at coefs.now from) q (row_at table.now base) }
 {
     let mut sum: i64 = 0;
-    let mut j = 0;
-    while j < q {
+    for j in 0..q {
         sum = sum_and(sum, wide(coefs[from + j]), natural(table[base + j]));
-        j += 1;
     }
     sum
 }

@@ -2,12 +2,8 @@
 use Rattle.table_rows.specs.Small.{row_at}
 use Rattle.definitions.specs.Tables.{write_to}
 use lib.ListN.{length}
-use Prim.Native.Nat.{◌-◌, ◌≤◌}
 use mathlib.Core.Path.{◌≡◌}
 use Rattle.table_rows.proofs.rows.copy.Given as goal
 
 abbrev pub invariant-loop-j : goal.invariant-loop-j
-invariant-loop-j l = (l.j ≤ l.q) × (length l.table ≡ length l.initial.table) × (l.table ≡ write_to l.j l.initial.table l.to (row_at l.initial.table l.from))
-
-abbrev pub decreases-loop-j : goal.decreases-loop-j
-decreases-loop-j l = l.q - l.j
+invariant-loop-j l = (length l.table ≡ length l.initial.table) × (l.table ≡ write_to l.j l.initial.table l.to (row_at l.initial.table l.from))

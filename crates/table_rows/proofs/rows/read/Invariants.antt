@@ -1,12 +1,8 @@
 -- `rows::read` meets its contract. The components passed have been copied. Assumes nothing.
 use mathlib.Core.Path.{◌≡◌}
-use Prim.Native.Nat.{◌-◌, ◌≤◌}
 use lib.ListN.{length}
 use Rattle.table_rows.specs.Rows.{Holds}
 use Rattle.table_rows.proofs.rows.read.Given as goal
 
 abbrev pub invariant-loop-j : goal.invariant-loop-j
-invariant-loop-j l = (l.j ≤ l.w) × (length l.t ≡ length l.initial.t) × Holds l.j l.t l.table l.base
-
-abbrev pub decreases-loop-j : goal.decreases-loop-j
-decreases-loop-j l = l.w - l.j
+invariant-loop-j l = (length l.t ≡ length l.initial.t) × Holds l.j l.t l.table l.base

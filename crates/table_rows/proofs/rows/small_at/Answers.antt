@@ -1,21 +1,8 @@
--- `rows::small_at` meets its contract. No number passed is above the limit. Assumes nothing.
-use Rattle.linear.proofs.LoopLaws.{all_fails, all_next}
-use Rattle.linear.specs.Tests.{all_to}
-use borrow.Author.Tests.{le-leb, lt-leb}
-use native.Mathlib.Nat.{le_antisymm}
-use mathlib.Core.Path.{refl, sym}
-use borrow.Author.Rules.{rules}
+-- `rows::small_at` meets its contract. Assumes nothing.
+use Rattle.std.proofs.Common.{rules, refl}
+use borrow.Author.Tests.{tests}
+use Rattle.chains.proofs.ChainLaws.{all_in_range}
 use Rattle.table_rows.proofs.rows.small_at.Goals as goal
 
-pub loop-j-init : goal.loop-j-init
-unfolding all_to
-loop-j-init c = (search rules, refl)
-
-pub returns-then-limit-table : goal.returns-then-limit-table
-returns-then-limit-table c = sym (all_fails _ _ c.loop-j.j c.loop-j-test.true (lt-leb _ _ c.if-limit-table.true))
-
-pub loop-j-preserved : goal.loop-j-preserved
-loop-j-preserved c = (search rules, all_next _ _ c.loop-j.invariant.1 (le-leb _ _ c.if-limit-table.false))
-
 pub returns : goal.returns
-returns c = sym (rw (le_antisymm c.loop-j.invariant.0 c.loop-j-test.false) at c.loop-j.invariant.1)
+returns c = all_in_range c.all.ensures.ran refl (λ x b q k. search (rules, tests))

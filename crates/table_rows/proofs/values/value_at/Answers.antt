@@ -6,25 +6,24 @@ use Rattle.table_rows.proofs.Small.{product_added, product_fits, sum_read, value
 use mathlib.Core.Path.{refl}
 use Prim.Native.Nat.{◌+◌}
 use native.Mathlib.Omega.{arith}
-use borrow.Author.Rules.{rules}
 use Rattle.table_rows.proofs.values.value_at.Goals as goal
 
 pub loop-j-init : goal.loop-j-init
 unfolding inner sum_to
-loop-j-init c = (search rules, refl)
+loop-j-init c = refl
 
 pub sum_and-sum-requires : goal.sum_and-sum-requires
 sum_and-sum-requires c =
-    let all = product_fits c.requires.0 c.requires.1 c.loop-j.j (bits_are c.loop-j.auto.sum-fits c.loop-j.invariant.1) c.loop-j-test.true c.wide.ensures
+    let all = product_fits c.requires.0 c.requires.1 c.loop-j.j (bits_are c.loop-j.auto.sum-fits c.loop-j.invariant) c.loop-j-test.true c.wide.ensures
     c.natural.ensures in
     record { sfits = all.0; sfits_2 = all.1 }
 
 pub loop-j-preserved : goal.loop-j-preserved
 loop-j-preserved c =
-    let bits = product_added c.requires.0 c.requires.1 c.loop-j.j (bits_are c.loop-j.auto.sum-fits c.loop-j.invariant.1) c.loop-j-test.true c.wide.ensures
+    let bits = product_added c.requires.0 c.requires.1 c.loop-j.j (bits_are c.loop-j.auto.sum-fits c.loop-j.invariant) c.loop-j-test.true c.wide.ensures
     c.natural.ensures
     c.sum_and-sum.ensures in
-    (search rules, sum_read c.requires.0 c.requires.1 (c.loop-j.j + 1) bits (omega arith))
+    sum_read c.requires.0 c.requires.1 (c.loop-j.j + 1) bits (omega arith)
 
 pub returns : goal.returns
-returns c = value_whole c.requires.0 c.requires.1 c.loop-j.j (bits_are c.loop-j.auto.sum-fits c.loop-j.invariant.1) c.loop-j.invariant.0 c.loop-j-test.false
+returns c = value_whole c.requires.0 c.requires.1 c.loop-j.j (bits_are c.loop-j.auto.sum-fits c.loop-j.invariant) c.loop-j.auto.j-end c.loop-j-test.false
