@@ -21,21 +21,15 @@ pub fn highest(list: &[u32], found: usize, w: usize, t: &[u32]) -> Option<usize>
     ensures { place_of result ≡ paper.highest w found (at list.now w) (tuple t.now) }
 {
     let first = t[0];
-    let mut verdict = None;
-    let mut rest = found * w;
-    'rows: while 0 < rest {
-        rest -= w;
-        let mut j = 0;
-        while j < w {
+    'rows: for i in (0..found).rev() {
+        let row = i * w;
+        for j in 0..w {
             let x = if j == 0 { first } else { t[j] };
-            if x < list[rest + j] {
+            if x < list[row + j] {
                 continue 'rows;
             }
-            j += 1;
         }
-        let place = rest / w + 1;
-        verdict = Some(place);
-        break 'rows;
+        return Some(i + 1);
     }
-    verdict
+    None
 }

@@ -10,20 +10,14 @@ pub fn standing(list: &[u32], found: usize, w: usize, t: &[u32]) -> Option<usize
     requires { (0 < w) × (w ≤ length t.now) × (found * w ≤ length list.now) }
     ensures { place_of result ≡ paper.standing w found (at list.now w) (tuple t.now) }
 {
-    let mut verdict = None;
-    let mut rest = found * w;
-    'rows: while 0 < rest {
-        rest -= w;
-        let mut j = 0;
-        while j < w {
-            if list[rest + j] != t[j] {
+    'rows: for i in (0..found).rev() {
+        let row = i * w;
+        for j in 0..w {
+            if list[row + j] != t[j] {
                 continue 'rows;
             }
-            j += 1;
         }
-        let place = rest / w + 1;
-        verdict = Some(place);
-        break 'rows;
+        return Some(i + 1);
     }
-    verdict
+    None
 }
