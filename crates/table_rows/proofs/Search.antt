@@ -3,7 +3,8 @@ use Rattle.std.specs.Prelude.{◌≡◌, refl, Bool, true, false, List, T, get_o
 use Rattle.std.proofs.Math.Path.{sym}
 use Rattle.std.proofs.Common.{ap, ◌∙◌, add-one, arith}
 use Rattle.std.proofs.Math.Option.{some, none}
-use Prim.Native.Nat.{ℕ, suc, ◌+◌, ◌*◌, ◌-◌, ◌≤◌, ◌<◌}
+use Prim.Native.Nat.{ℕ, zero, suc, ◌+◌, ◌*◌, ◌-◌, ◌/◌, ◌≤◌, ◌<◌}
+use Rattle.std.proofs.Math.Nat.{div-eq_of_eq-mul_left, suc-mul}
 use Rattle.linear.proofs.LoopLaws.{all_fails}
 use Rattle.linear.specs.Places.{last_to}
 use Rattle.linear.proofs.PlaceLaws.{last_here, last_passed}
@@ -11,6 +12,7 @@ use Rattle.linear.specs.Tests.{all_to, any_to}
 use Rattle.linear.proofs.TestLaws.{any_at, any_from}
 use Rattle.definitions.specs.System.{covered, is_at_or_below}
 use Rattle.definitions.specs.Tables.{at}
+use Rattle.laws.proofs.TableLaws.{row_fits}
 
 -- ---- the order of the rows
 
@@ -56,23 +58,61 @@ module _ (test : ℕ → ℕ → Bool) (w : ℕ) (list : List ℕ) (t : ℕ → 
   abbrev pub passes : ℕ → Bool
   passes i = all_to w (λ j. test (at list w i j) (t j))
 
-  -- the first n rows are left, and none of those after them passes
-  pub record Left (n : ℕ) : Type 0 where
-    pub same : last_to found passes ≡ last_to n passes
+  -- the rows before place `rest` are left, and none of those after it passes
+  pub record Left (rest : ℕ) : Type 0 where
+    pub rows : ℕ
+    pub few : rows ≤ found
+    pub place : rest ≡ rows * w
+    pub same : last_to found passes ≡ last_to rows passes
 
-  pub left_all : Left found
-  left_all = record { same = refl }
+  pub left_all : Left (found * w)
+  left_all = record { rows = found; few = omega arith; place = refl; same = refl }
 
-  pub left_none : {n : ℕ} → Left n → n ≤ 0 → none ≡ last_to found passes
+  pub left_none : {rest : ℕ} → Left rest → 0 < w → rest ≤ 0 → none ≡ last_to found passes
   unfolding last_to
-  left_none {n} s l = let e : n ≡ 0 = omega arith in sym (rw e at s.same)
+  left_none {rest} s positive l = sym (at_end s.rows s.place s.same)
+    where
+      at_end : (n : ℕ) → rest ≡ n * w → last_to found passes ≡ last_to n passes → last_to found passes ≡ none
+      at_end zero e h = h
+      at_end (suc n) e h = absurd (omega (arith, suc-mul n w))
 
-  module _ {n : ℕ} (s : Left n) (more : 0 < n) where
-    last : last_to found passes ≡ last_to (suc (n - 1)) passes
-    last = let e : suc (n - 1) ≡ n = omega arith in rw e s.same
+  module _ {rest : ℕ} (s : Left rest) (more : 0 < rest) where
+    -- the last row that is left
+    record Last : Type 0 where
+      row : ℕ
+      there : row < found
+      begins : rest - w ≡ row * w
+      long : w ≤ rest
+      same : last_to found passes ≡ last_to (suc row) passes
 
-    pub left_next : (j : ℕ) → j < w → test (get_or list ((n - 1) * w + j) 0) (t j) ≡ false → Left (n - 1)
-    left_next j l e = record { same = last ∙ last_passed (n - 1) passes (all_fails w _ j l e) }
+    last : Last
+    last = of s.rows s.few s.place s.same
+      where
+        of : (n : ℕ) → n ≤ found → rest ≡ n * w → last_to found passes ≡ last_to n passes → Last
+        of zero few e h = absurd (omega arith)
+        of (suc n) few e h =
+            record { row = n; there = omega arith; begins = omega (arith, suc-mul n w); long = omega (arith, suc-mul n w); same = h }
 
-    pub left_here : all_to w (λ k. test (get_or list ((n - 1) * w + k) 0) (t k)) ≡ true → some (n - 1 + 1) ≡ last_to found passes
-    left_here e = sym (last ∙ last_here (n - 1) passes e ∙ ap some (sym (add-one (n - 1))))
+    pub left_long : w ≤ rest
+    left_long = last.long
+
+    pub left_fits : rest - w + w ≤ found * w
+    left_fits = omega (arith, last.begins, row_fits w last.row found last.there)
+
+    pub left_next : (j : ℕ) → j < w → test (get_or list (rest - w + j) 0) (t j) ≡ false → Left (rest - w)
+    left_next j l e =
+        record {
+          rows = last.row;
+          few = omega (arith, last.there);
+          place = last.begins;
+          same = last.same ∙ last_passed last.row passes (all_fails w _ j l (rw last.begins at e));
+        }
+
+    pub left_here : 0 < w → all_to w (λ k. test (get_or list (rest - w + k) 0) (t k)) ≡ true → some ((rest - w) / w + 1) ≡ last_to found passes
+    left_here positive e =
+        let row_is : (rest - w) / w ≡ last.row = div-eq_of_eq-mul_left positive last.begins in
+        sym (last.same ∙ last_here last.row passes (rw last.begins at e) ∙ ap some (sym (ap (λ n. n + 1) row_is ∙ add-one last.row)))
+
+    -- the place is one of the list's
+    pub left_place : 0 < w → (rest - w) / w < found
+    left_place positive = rw (div-eq_of_eq-mul_left {k = last.row} positive last.begins) last.there

@@ -21,15 +21,20 @@ pub fn highest(list: &[u32], found: usize, w: usize, t: &[u32]) -> Option<usize>
     ensures { place_of result ≡ paper.highest w found (at list.now w) (tuple t.now) }
 {
     let first = t[0];
-    'rows: for i in (0..found).rev() {
-        let row = i * w;
+    let mut verdict = None;
+    let mut rest = found * w;
+    // a row's width down at each turn: `for i in (0..found).rev()` multiplies at each row, 9 instructions in the place of 6 (tried)
+    'rows: while 0 < rest {
+        rest -= w;
         for j in 0..w {
             let x = if j == 0 { first } else { t[j] };
-            if x < list[row + j] {
+            if x < list[rest + j] {
                 continue 'rows;
             }
         }
-        return Some(i + 1);
+        let place = rest / w + 1;
+        verdict = Some(place);
+        break 'rows;
     }
-    None
+    verdict
 }

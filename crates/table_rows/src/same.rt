@@ -10,14 +10,19 @@ pub fn standing(list: &[u32], found: usize, w: usize, t: &[u32]) -> Option<usize
     requires { (0 < w) × (w ≤ length t.now) × (found * w ≤ length list.now) }
     ensures { place_of result ≡ paper.standing w found (at list.now w) (tuple t.now) }
 {
-    'rows: for i in (0..found).rev() {
-        let row = i * w;
+    let mut verdict = None;
+    let mut rest = found * w;
+    // as in `lists::highest`, whose laws (proofs/Search.antt) it shares
+    'rows: while 0 < rest {
+        rest -= w;
         for j in 0..w {
-            if list[row + j] != t[j] {
+            if list[rest + j] != t[j] {
                 continue 'rows;
             }
         }
-        return Some(i + 1);
+        let place = rest / w + 1;
+        verdict = Some(place);
+        break 'rows;
     }
-    None
+    verdict
 }
