@@ -4,11 +4,24 @@ ghost use Rattle.std.specs.Int.Signed.{le_z};
 ghost use Rattle.definitions.specs.Tables.{at};
 ghost use Rattle.engine_spec.specs.Reduction.{is_within};
 ghost use Rattle.engine_reduce.specs.Fits.{FirstFit, Low, UnfitIf};
-ghost use Rattle.engine_reduce.specs.Sums.{Handed, Looked, Searched, Yes, fits_by, integer_at, reducible_by, sum_of};
+ghost use Rattle.engine_reduce.specs.Pairs.{PairHanded, PairLooked, PairSearched, PairYes, pair_fits};
+ghost use Rattle.engine_reduce.specs.Sums.{Looked, integer_at, reducible_by, sum_of};
 
 use crate::memory;
 use engine_beside::words as fields;
 use engine_rows::rows;
+
+// The two rows whose sum is asked, and what the test reads: the first n rows of the table, their values, and the sum's.
+#[derive(Clone, Copy)]
+struct Pair<'a> {
+    table: &'a [u32],
+    values: &'a [i64],
+    n: usize,
+    q: usize,
+    upper: usize,
+    lower: usize,
+    sum: i64,
+}
 
 // Whether one of the first n rows is at or below the sum, whose word is handed over, and has a value between 0 and the sum's.
 pub fn reducible(
@@ -27,16 +40,23 @@ pub fn reducible(
     requires { Looked q n table.now values.now words.now upper lower word }
     ensures { result ≡ reducible_by q n (at table.now q) (integer_at values.now) (sum_of q table.now upper lower) sum }
 {
+    let pair = Pair {
+        table: table,
+        values: values,
+        n: n,
+        q: q,
+        upper: upper,
+        lower: lower,
+        sum: sum,
+    };
     let sign = sign_of(sum);
-    if dropped(
-        table, values, n, q, upper, lower, sum, word, sign, held, places,
-    ) {
+    if dropped(pair, word, sign, held, places) {
         return true;
     }
-    if known(table, values, n, q, upper, lower, sum, word, places) {
+    if known(pair, word, places) {
         return true;
     }
-    if let Some(by) = search(table, values, words, n, q, upper, lower, sum, word) {
+    if let Some(by) = search(pair, words, word) {
         memory::remember(held, places, sign, by, words[by]);
         return true;
     }
@@ -55,36 +75,21 @@ fn sign_of(sum: i64) -> usize
 
 // Whether a row that dropped a sum of this sign lately drops this one. It moves half the way ahead.
 fn dropped(
-    table: &[u32],
-    values: &[i64],
-    n: usize,
-    q: usize,
-    upper: usize,
-    lower: usize,
-    sum: i64,
+    pair: Pair,
     word: u64,
     sign: usize,
     held: &mut [u64; 768],
     places: &mut [u32; 66560],
 ) -> bool
-    requires { Handed q n table.now values.now upper lower × (sign < 3) }
-    ensures { Yes q n table.now values.now upper lower sum result }
+    requires { PairHanded pair × (sign < 3) }
+    ensures { PairYes pair.entry result }
 {
     let from = sign * 256;
     let past = from + memory::count(places, sign);
     let mut i = from;
     while let Some(k) = memory::next_held(held, i, past, word) {
         i = k + 1;
-        if reduces(
-            table,
-            values,
-            n,
-            q,
-            memory::place(places, k),
-            upper,
-            lower,
-            sum,
-        ) {
+        if reduces(pair, memory::place(places, k)) {
             memory::advance(held, places, from, k);
             return true;
         }
@@ -93,70 +98,38 @@ fn dropped(
 }
 
 // Whether the row that was last appended or found with a word of the same remainder drops the sum.
-fn known(
-    table: &[u32],
-    values: &[i64],
-    n: usize,
-    q: usize,
-    upper: usize,
-    lower: usize,
-    sum: i64,
-    word: u64,
-    places: &[u32; 66560],
-) -> bool
-    requires { Handed q n table.now values.now upper lower }
-    ensures { Yes q n table.now values.now upper lower sum result }
+fn known(pair: Pair, word: u64, places: &[u32; 66560]) -> bool
+    requires { PairHanded pair }
+    ensures { PairYes pair.entry result }
 {
-    reduces(
-        table,
-        values,
-        n,
-        q,
-        memory::place(places, memory::slot(word)),
-        upper,
-        lower,
-        sum,
-    )
+    reduces(pair, memory::place(places, memory::slot(word)))
 }
 
 // Whether there is a row i, and it reduces the sum.
-fn reduces(
-    table: &[u32],
-    values: &[i64],
-    n: usize,
-    q: usize,
-    i: usize,
-    upper: usize,
-    lower: usize,
-    sum: i64,
-) -> bool
-    requires { Handed q n table.now values.now upper lower }
-    ensures { Yes q n table.now values.now upper lower sum result }
+fn reduces(pair: Pair, i: usize) -> bool
+    requires { PairHanded pair }
+    ensures { PairYes pair.entry result }
 {
+    let n = pair.n;
     if n <= i {
         return false;
     }
-    reduces_at(table, values, n, q, i, upper, lower, sum)
+    reduces_at(pair, i)
 }
 
 // Whether row i is at or below the sum and has a value between 0 and the sum's.
-fn reduces_at(
-    table: &[u32],
-    values: &[i64],
-    n: usize,
-    q: usize,
-    i: usize,
-    upper: usize,
-    lower: usize,
-    sum: i64,
-) -> bool
-    requires { Handed q n table.now values.now upper lower × (i < n) }
-    ensures { result ≡ fits_by q (at table.now q) (integer_at values.now) (sum_of q table.now upper lower) sum i }
+fn reduces_at(pair: Pair, i: usize) -> bool
+    requires { PairHanded pair × (i < pair.n) }
+    ensures { result ≡ pair_fits pair.entry i }
 {
-    if !within(values[i], sum) {
+    if !within(pair.values[i], pair.sum) {
         return false;
     }
-    rows::below_sum(table, i * q, upper * q, lower * q, q)
+    let q = pair.q;
+    let row = i * q;
+    let upper = pair.upper * q;
+    let lower = pair.lower * q;
+    rows::below_sum(pair.table, row, upper, lower, q)
 }
 
 // Whether y lies between 0 and x.
@@ -180,24 +153,14 @@ fn between(x: i64, lo: i64, hi: i64) -> bool
 }
 
 // The first of the n rows that reduces the sum.
-fn search(
-    table: &[u32],
-    values: &[i64],
-    words: &[u64],
-    n: usize,
-    q: usize,
-    upper: usize,
-    lower: usize,
-    sum: i64,
-    word: u64,
-) -> Option<usize>
-    requires { Looked q n table.now values.now words.now upper lower word }
-    ensures { Searched q n table.now values.now upper lower sum result }
+fn search(pair: Pair, words: &[u64], word: u64) -> Option<usize>
+    requires { PairLooked pair words.now word }
+    ensures { PairSearched pair.entry result }
 {
     let mut i = 0;
-    while let Some(k) = next_fit(words, i, n, word) {
+    while let Some(k) = next_fit(words, i, pair.n, word) {
         i = k + 1;
-        if reduces_at(table, values, n, q, k, upper, lower, sum) {
+        if reduces_at(pair, k) {
             return Some(k);
         }
     }

@@ -1,7 +1,6 @@
 -- `search` meets its contract: none of the rows passed reduces the sum. Assumes nothing.
 use mathlib.Core.Path.{sym, ◌∙◌}
 use native.Mathlib.Omega.{arith}
-use mir.Facts.{to_z-of_z}
 use Rattle.engine_reduce.specs.Fits.{looked_low, passed_unfit}
 use Rattle.engine_reduce.specs.Sums.{found, none_yet, passed}
 use borrow.Author.Rules.{rules}
@@ -16,8 +15,7 @@ next_fit-requires c = (looked_low c.requires, c.loop-k.invariant.0)
 pub returns-then-reduces_at : goal.returns-then-reduces_at
 returns-then-reduces_at c =
     let f = rw c.in-Some.is at c.next_fit.ensures in
-    let yes = rw (to_z-of_z c.ranges.sum) at (sym c.reduces_at.ensures ∙ c.if-reduces_at.true) in
-    (f.1, found _ _ _ _ _ c.args.n c.in-Some.k f.1 yes)
+    (f.1, found _ _ _ _ _ c.args.pair.n c.in-Some.k f.1 (sym c.reduces_at.ensures ∙ c.if-reduces_at.true))
 
 pub loop-k-smaller : goal.loop-k-smaller
 loop-k-smaller c = let f = rw c.in-Some.is at c.next_fit.ensures in omega (arith, f.0.behind, f.1)
@@ -31,4 +29,4 @@ loop-k-preserved c =
 pub returns : goal.returns
 returns c =
     let f = rw c.in_default.is at c.next_fit.ensures in
-    rw (to_z-of_z c.ranges.sum) at (passed_unfit c.requires _ c.loop-k.i c.args.n (omega arith) f c.loop-k.invariant.1)
+    passed_unfit c.requires _ c.loop-k.i c.args.pair.n (omega arith) f c.loop-k.invariant.1

@@ -7,8 +7,8 @@ use Rattle.engine_reduce.specs.Sums.{integer_at, reducible_by, sum_of}
 use Rattle.engine_reduce.proofs.sums.search.Given as goal
 
 abbrev pub invariant-loop-k : goal.invariant-loop-k
-invariant-loop-k l = (l.i ≤ l.n) × (reducible_by l.q l.i (at l.table l.q) (integer_at l.values) (sum_of l.q l.table l.upper l.lower)
-    l.sum ≡ false)
+invariant-loop-k l = (l.i ≤ l.pair.n) × (reducible_by l.pair.q l.i (at l.pair.table.now l.pair.q) (integer_at l.pair.values.now) (sum_of l.pair.q l.pair.table.now l.pair.upper l.pair.lower)
+    l.pair.sum ≡ false)
 
 abbrev pub decreases-loop-k : goal.decreases-loop-k
-decreases-loop-k l = l.n - l.i
+decreases-loop-k l = l.pair.n - l.i
