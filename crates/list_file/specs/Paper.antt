@@ -1,11 +1,9 @@
 -- The refusals of the calls on files as the documents have them: for each case its number and values. Assumes nothing.
-use Rattle.std.specs.Prelude.{ℕ, List, []}
+use Rattle.std.specs.Prelude.{ℕ, List, [], Result, Ok, Err}
 use Rattle.definitions.specs.Answers as paper
 use Rattle.calls.specs.Paper as calls
 use Rattle.list_file.specs.declared.words.FileRefusal.{FileRefusal}
 use Rattle.list_file.specs.declared.words.FileRefusal.TheVariants.{System, Length, Sum, Number, Range, TableLength}
-use Rattle.list_file.specs.declared.words.FileCheck.{FileCheck}
-use Rattle.list_file.specs.declared.words.FileCheck.TheVariants.{Refuse, Pass}
 
 -- the number of a refusal
 abbrev pub number_of : FileRefusal → ℕ
@@ -25,6 +23,6 @@ values_of Number = []
 values_of Range = []
 values_of TableLength = []
 
-abbrev pub check_of : FileCheck → paper.Check
-check_of (Refuse why) = paper.refuse (number_of why) (values_of why)
-check_of Pass = paper.go
+abbrev pub check_of : Result (Unit {0}) FileRefusal → paper.Check
+check_of (Err why) = paper.refuse (number_of why) (values_of why)
+check_of (Ok done) = paper.go

@@ -5,6 +5,7 @@ ghost use Rattle.linear.specs.Tests.{all_to};
 ghost use Rattle.calls.specs.Paper.{value};
 ghost use Rattle.list_spec.specs.Words.{word_at, word_bytes, wrapping_sum, unsigned, signed as signed_word};
 ghost use Rattle.list_file.specs.Paper.{number_of, values_of};
+ghost use Rattle.list_file.specs.declared.words.FileRefusal.TheVariants.{System};
 
 use calls::Refusal;
 
@@ -19,11 +20,12 @@ pub enum FileRefusal {
     TableLength,
 }
 
-// What a check finds.
-#[derive(Clone, Copy)]
-pub enum FileCheck {
-    Refuse(FileRefusal),
-    Pass,
+impl From<Refusal> for FileRefusal {
+    ghost from_gives = { λ why e. e ≡ System why };
+
+    fn from(why: Refusal) -> FileRefusal {
+        FileRefusal::System(why)
+    }
 }
 
 // The document's number of a refusal.
@@ -46,11 +48,7 @@ pub fn value_of(why: FileRefusal) -> usize
 {
     match why {
         FileRefusal::System(reason) => calls::value_of(reason),
-        FileRefusal::Length => 0,
-        FileRefusal::Sum => 0,
-        FileRefusal::Number => 0,
-        FileRefusal::Range => 0,
-        FileRefusal::TableLength => 0,
+        _ => 0,
     }
 }
 
@@ -90,10 +88,8 @@ pub(crate) fn wrapping_sum(bytes: &[u8], first: usize, n: usize) -> u32
     ensures { result ≡ wrapping_sum n (λ j. word_at bytes.now (first + j)) }
 {
     let mut sum: u32 = 0;
-    let mut j = 0;
-    while j < n {
-        sum = std::num::wrapping_add_u32(sum, word_at(bytes, first + j));
-        j += 1;
+    for j in 0..n {
+        sum = sum.wrapping_add(word_at(bytes, first + j));
     }
     sum
 }
@@ -128,10 +124,8 @@ pub(crate) fn all_within(bytes: &[u8], first: usize, n: usize, limit: u32) -> bo
     ensures { result ≡ all_to n (λ j. leb (word_at bytes.now (first + j)) limit) }
 {
     let mut within = true;
-    let mut j = 0;
-    while j < n {
+    for j in 0..n {
         within = also_within(within, word_at(bytes, first + j), limit);
-        j += 1;
     }
     within
 }
@@ -140,5 +134,5 @@ pub(crate) fn all_within(bytes: &[u8], first: usize, n: usize, limit: u32) -> bo
 pub fn also_within(others: bool, w: u32, limit: u32) -> bool
     ensures { result ≡ (others && nat_le w limit) }
 {
-    if limit < w { false } else { others }
+    others && w <= limit
 }

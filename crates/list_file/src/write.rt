@@ -3,18 +3,11 @@ ghost use Rattle.std.specs.Prelude.{◌≡◌};
 ghost use Rattle.list_spec.specs.Writing.{write_list};
 ghost use Rattle.list_file.specs.WriteAnswer.{list_of, write_outcome};
 
-use crate::words::{FileCheck, FileRefusal};
+use crate::words::FileRefusal;
 
 mod blocks; // blocks.rt: writing the blocks
 mod checking; // checking.rt: what the writer looks at
 mod content; // content.rt: the words that are written
-
-// What the writer answers.
-#[derive(Clone, Copy)]
-pub enum Write {
-    Whole,
-    Refused(FileRefusal),
-}
 
 // Writes the system, the rows of its list and the ending (0 complete, 1 paused) into `out`, which has the exact length.
 pub fn write_list(
@@ -24,14 +17,10 @@ pub fn write_list(
     rows: &[u32],
     ending: u32,
     out: &mut [u8],
-) -> Write
+) -> Result<(), FileRefusal>
     ensures { write_outcome result out.new ≡ write_list (list_of p q coefs.now rows.now ending) out.old }
 {
-    match checking::check(p, q, coefs, rows, ending, out.len()) {
-        FileCheck::Refuse(why) => Write::Refused(why),
-        FileCheck::Pass => {
-            blocks::write(p, q, coefs, rows, ending, out);
-            Write::Whole
-        }
-    }
+    checking::check(p, q, coefs, rows, ending, out.len())?;
+    blocks::write(p, q, coefs, rows, ending, out);
+    Ok(())
 }

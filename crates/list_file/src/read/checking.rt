@@ -6,47 +6,43 @@ ghost use Rattle.list_spec.specs.Reading.{stream_checks, file_checks, read_check
 ghost use Rattle.list_file.specs.Paper.{check_of};
 ghost use Rattle.list_file.specs.ReadLaws.{HeaderRead, StreamRead, later_checks, table_checks};
 
-use crate::words::{FileCheck, FileRefusal, all_within, signed, word_at, wrapping_sum};
+use crate::words::{FileRefusal, all_within, signed, word_at, wrapping_sum};
 
 // All that the reader looks at; `coefs` and `list` are the lengths of the tables.
-pub fn check(file: &[u8], coefs: usize, list: usize) -> FileCheck
+pub fn check(file: &[u8], coefs: usize, list: usize) -> Result<(), FileRefusal>
     ensures { check_of result ≡ read_checks file.now coefs list }
 {
-    match check_blocks(file) {
-        FileCheck::Refuse(why) => FileCheck::Refuse(why),
-        FileCheck::Pass => check_tables(file, coefs, list),
-    }
+    check_blocks(file)?;
+    check_tables(file, coefs, list)
 }
 
 // Refusal 29.
-fn check_tables(file: &[u8], coefs: usize, list: usize) -> FileCheck
+fn check_tables(file: &[u8], coefs: usize, list: usize) -> Result<(), FileRefusal>
     requires { HeaderRead file.now }
     ensures { check_of result ≡ table_checks file.now coefs list }
 {
     if coefs < coef_words(file) {
-        return FileCheck::Refuse(FileRefusal::TableLength);
+        return Err(FileRefusal::TableLength);
     }
     if list < row_words(file) {
-        return FileCheck::Refuse(FileRefusal::TableLength);
+        return Err(FileRefusal::TableLength);
     }
-    FileCheck::Pass
+    Ok(())
 }
 
 // The length and the blocks, one after the other.
-fn check_blocks(file: &[u8]) -> FileCheck
+fn check_blocks(file: &[u8]) -> Result<(), FileRefusal>
     ensures { check_of result ≡ file_checks file.now }
 {
     if file.len() < 512 {
-        return FileCheck::Refuse(FileRefusal::Length);
+        return Err(FileRefusal::Length);
     }
-    match check_block(file, 0, header_in_range(file)) {
-        FileCheck::Refuse(why) => FileCheck::Refuse(why),
-        FileCheck::Pass => check_later(file),
-    }
+    check_block(file, 0, header_in_range(file))?;
+    check_later(file)
 }
 
 // What comes after block 0.
-fn check_later(file: &[u8]) -> FileCheck
+fn check_later(file: &[u8]) -> Result<(), FileRefusal>
     requires { HeaderRead file.now }
     ensures { check_of result ≡ later_checks file.now }
 {
@@ -54,44 +50,37 @@ fn check_later(file: &[u8]) -> FileCheck
     let rows = row_words(file);
     let later = (coefs + rows + 125) / 126;
     if file.len() != 512 * (later + 1) {
-        return FileCheck::Refuse(FileRefusal::Length);
+        return Err(FileRefusal::Length);
     }
     check_stream(file, coefs, rows, later)
 }
 
 // The first `later` blocks after block 0.
-fn check_stream(file: &[u8], coefs: usize, rows: usize, later: usize) -> FileCheck
+fn check_stream(file: &[u8], coefs: usize, rows: usize, later: usize) -> Result<(), FileRefusal>
     requires { StreamRead coefs rows later (length file.now) }
     ensures { check_of result ≡ stream_checks file.now coefs rows later }
 {
-    let mut b = 0;
-    while b < later {
-        match check_block(file, b + 1, block_in_range(file, coefs, rows, b)) {
-            FileCheck::Refuse(why) => {
-                return FileCheck::Refuse(why);
-            }
-            FileCheck::Pass => {}
-        }
-        b += 1;
+    for b in 0..later {
+        check_block(file, b + 1, block_in_range(file, coefs, rows, b))?;
     }
-    FileCheck::Pass
+    Ok(())
 }
 
 // Refusals 20, 21 and 22 for block `b`, of which it is known whether its words are in range.
-fn check_block(file: &[u8], b: usize, ranged: bool) -> FileCheck
+fn check_block(file: &[u8], b: usize, ranged: bool) -> Result<(), FileRefusal>
     requires { 512 * (b + 1) ≤ length file.now }
     ensures { check_of result ≡ block_checks file.now b ranged }
 {
     if wrapping_sum(file, 128 * b, 128) != 0 {
-        return FileCheck::Refuse(FileRefusal::Sum);
+        return Err(FileRefusal::Sum);
     }
     if word_at(file, 128 * b) as usize != b {
-        return FileCheck::Refuse(FileRefusal::Number);
+        return Err(FileRefusal::Number);
     }
     if !ranged {
-        return FileCheck::Refuse(FileRefusal::Range);
+        return Err(FileRefusal::Range);
     }
-    FileCheck::Pass
+    Ok(())
 }
 
 // Whether p, q, the row count and the ending are in range, with zeros after them.
@@ -141,13 +130,11 @@ fn words_in_range(file: &[u8], coefs: usize, rows: usize, b: usize) -> bool
     requires { StreamRead coefs rows (b + 1) (length file.now) }
     ensures { result ≡ block_in_range file.now coefs rows b }
 {
-    let mut j = 0;
-    while j < 126 {
+    for j in 0..126 {
         let w = word_at(file, 128 * (b + 1) + (j + 1));
         if !word_in_range(coefs, rows, 126 * b + j, w) {
             return false;
         }
-        j += 1;
     }
     true
 }

@@ -1,5 +1,5 @@
 // Handing out what a file holds.
-ghost use Rattle.std.specs.Prelude.{◌≡◌, ℕ, ◌+◌, ◌*◌, ◌/◌, ◌%◌, ◌<◌, ◌≤◌, List, ◌++◌, length, drop};
+ghost use Rattle.std.specs.Prelude.{◌≡◌, ℕ, ◌+◌, ◌*◌, ◌/◌, ◌%◌, ◌<◌, ◌≤◌, List, Ok, ◌++◌, length, drop};
 ghost use Rattle.list_spec.specs.Words.{signed as signed_word};
 ghost use Rattle.list_spec.specs.Reading.{stream_at, listed, list_in, handed_out};
 ghost use Rattle.list_file.specs.ReadAnswer.{read_outcome};
@@ -13,21 +13,17 @@ use calls::Solutions;
 // Copies the coefficients and the rows of a file in order to the beginning of the tables.
 pub fn hand_out(file: &[u8], coefs: &mut [i32], list: &mut [u32]) -> Read
     requires { Readable file.now (length coefs.old) (length list.old) }
-    ensures { read_outcome result coefs.new list.new ≡ handed_out (list_in file.now) coefs.old list.old }
+    ensures { read_outcome (Ok result) coefs.new list.new ≡ handed_out (list_in file.now) coefs.old list.old }
 {
     let first = coef_words(file);
     let numbers = row_words(file);
     copy_coefs(file, first, coefs);
     copy_rows(file, first, numbers, list);
-    let p = word_at(file, 1) as usize;
-    let q = word_at(file, 2) as usize;
-    let n = word_at(file, 3) as usize;
-    let ending = word_at(file, 4);
-    Read::List {
-        p,
-        q,
-        found: Solutions(n),
-        ending,
+    Read {
+        p: word_at(file, 1) as usize,
+        q: word_at(file, 2) as usize,
+        found: Solutions(word_at(file, 3) as usize),
+        ending: word_at(file, 4),
     }
 }
 
@@ -36,10 +32,8 @@ fn copy_coefs(file: &[u8], n: usize, coefs: &mut [i32])
     requires { (n ≤ length coefs.old) × (512 * ((n + 125) / 126 + 1) ≤ length file.now) }
     ensures { coefs.new ≡ listed n (λ i. signed_word (stream_at file.now i)) ++ drop n coefs.old }
 {
-    let mut i = 0;
-    while i < n {
+    for i in 0..n {
         coefs[i] = signed(stream_word(file, i));
-        i += 1;
     }
 }
 
@@ -70,10 +64,8 @@ fn copy_part(file: &[u8], first: usize, i: usize, m: usize, list: &mut [u32])
         → Filled (λ k. stream_at file.now (first + k)) (i + m) table list.new }
 {
     let at = place(first + i);
-    let mut j = 0;
-    while j < m {
+    for j in 0..m {
         list[i + j] = word_at(file, at + j);
-        j += 1;
     }
 }
 

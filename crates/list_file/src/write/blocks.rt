@@ -13,10 +13,8 @@ pub fn write(p: usize, q: usize, coefs: &[i32], rows: &[u32], ending: u32, out: 
     ensures { out.new ≡ written (list_of p q coefs.now rows.now ending) }
 {
     let blocks = out.len() / 512;
-    let mut b = 0;
-    while b < blocks {
+    for b in 0..blocks {
         write_block(p, q, coefs, rows, ending, b, out);
-        b += 1;
     }
 }
 
@@ -52,11 +50,7 @@ fn write_words(
     ensures { Begun (list_of p q coefs.now rows.now ending) (128 * b + 127) out.new }
 {
     let end = 126 * b;
-    if end < coefs.len() + 126 {
-        write_content(p, q, coefs, rows, ending, b, out);
-        return;
-    }
-    if coefs.len() + rows.len() < end {
+    if end < coefs.len() + 126 || coefs.len() + rows.len() < end {
         write_content(p, q, coefs, rows, ending, b, out);
         return;
     }
@@ -80,11 +74,9 @@ fn write_components(
     ensures { Begun (list_of p q coefs.now rows.now ending) (128 * b + 127) out.new }
 {
     put_word(out, 128 * b, b as u32);
-    let mut j = 0;
-    while j < 126 {
+    for j in 0..126 {
         let w = rows[from + j];
         put_word(out, 128 * b + 1 + j, w);
-        j += 1;
     }
 }
 
@@ -101,10 +93,8 @@ fn write_content(
     requires { AtBlock (list_of p q coefs.now rows.now ending) b out.old }
     ensures { Begun (list_of p q coefs.now rows.now ending) (128 * b + 127) out.new }
 {
-    let mut j = 0;
-    while j < 127 {
+    for j in 0..127 {
         let w = content::word(p, q, coefs, rows, ending, b, j);
         put_word(out, 128 * b + j, w);
-        j += 1;
     }
 }

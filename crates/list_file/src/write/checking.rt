@@ -5,35 +5,43 @@ ghost use Rattle.list_file.specs.Paper.{check_of};
 ghost use Rattle.list_file.specs.WriteAnswer.{list_of};
 ghost use Rattle.list_file.specs.WriteCheckLaws.{list_checks};
 
-use crate::words::{FileCheck, FileRefusal, also_within};
-use calls::Check;
+use crate::words::{FileRefusal, also_within};
 
 // All that the writer looks at; `room` is the length of the buffer.
-pub fn check(p: usize, q: usize, coefs: &[i32], rows: &[u32], ending: u32, room: usize) -> FileCheck
+pub fn check(
+    p: usize,
+    q: usize,
+    coefs: &[i32],
+    rows: &[u32],
+    ending: u32,
+    room: usize,
+) -> Result<(), FileRefusal>
     ensures { check_of result ≡ write_checks (list_of p q coefs.now rows.now ending) room }
 {
-    match checks::counts::check(p, q, 0, coefs.len()) {
-        Check::Refuse(why) => FileCheck::Refuse(FileRefusal::System(why)),
-        Check::Pass => match checks::coefficients::check(coefs) {
-            Check::Refuse(why) => FileCheck::Refuse(FileRefusal::System(why)),
-            Check::Pass => check_rows(q, coefs, rows, ending, room),
-        },
-    }
+    checks::counts::check(p, q, 0, coefs.len())?;
+    checks::coefficients::check(coefs)?;
+    check_rows(q, coefs, rows, ending, room)
 }
 
 // Refusals 22 and 19, which do not depend on p.
-fn check_rows(q: usize, coefs: &[i32], rows: &[u32], ending: u32, room: usize) -> FileCheck
+fn check_rows(
+    q: usize,
+    coefs: &[i32],
+    rows: &[u32],
+    ending: u32,
+    room: usize,
+) -> Result<(), FileRefusal>
     requires { (1 ≤ q) × (q ≤ 16) × (length coefs.now ≤ 128) }
     ensures { (p : ℕ) → check_of result ≡ list_checks (list_of p q coefs.now rows.now ending) room }
 {
     if !list_in_range(q, rows, ending) {
-        return FileCheck::Refuse(FileRefusal::Range);
+        return Err(FileRefusal::Range);
     }
     let later = (coefs.len() + rows.len() + 125) / 126;
     if room != 512 * (later + 1) {
-        return FileCheck::Refuse(FileRefusal::Length);
+        return Err(FileRefusal::Length);
     }
-    FileCheck::Pass
+    Ok(())
 }
 
 // Whether the rows are whole, few enough and in range, and the ending is one of the two.
@@ -58,10 +66,8 @@ fn rows_in_range(rows: &[u32]) -> bool
     ensures { result ≡ rows_in_range rows.now }
 {
     let mut within = true;
-    let mut i = 0;
-    while i < rows.len() {
-        within = also_within(within, rows[i], calls::COMPONENT_LIMIT);
-        i += 1;
+    for x in rows {
+        within = also_within(within, *x, calls::COMPONENT_LIMIT);
     }
     within
 }

@@ -25,19 +25,13 @@ fn header_word(p: usize, q: usize, count: usize, ending: u32, k: usize) -> u32
     requires { (p ≤ 4096) × (q ≤ 4096) × (count ≤ 4096) }
     ensures { result ≡ slice_index (p ∷ q ∷ count ∷ ending ∷ []) k }
 {
-    if k == 0 {
-        return p as u32;
+    match k {
+        0 => p as u32,
+        1 => q as u32,
+        2 => count as u32,
+        3 => ending,
+        _ => 0,
     }
-    if k == 1 {
-        return q as u32;
-    }
-    if k == 2 {
-        return count as u32;
-    }
-    if k == 3 {
-        return ending;
-    }
-    0
 }
 
 // Word `i` of the stream.

@@ -1,5 +1,6 @@
 -- `list_file::read::checking::check_blocks` meets its contract: the length, block 0, and what comes after it. Assumes nothing.
 use Rattle.std.proofs.Common.{◌∙◌}
+use Rattle.calls.proofs.CallLaws.{handed_on}
 use Rattle.list_spec.proofs.RuleLaws.{header_in}
 use Rattle.list_file.specs.WordCheckLaws.{refused_first, passed_first, passes}
 use Rattle.list_file.specs.ReadLaws.{later_checks, too_short, file_stages}
@@ -12,16 +13,17 @@ pub check_later-requires : goal.check_later-requires
 check_later-requires c =
     record {
       long = c.if-file-lt512.false;
-      range = header_in _ (passes (rw c.header_in_range.ensures at c.check_block.ensures) c.in-Pass.is);
+      range = header_in _ (passes (rw c.header_in_range.ensures at c.check_block.ensures) c.in_ok-check_block.was);
     }
 
-pub returns-in-Refuse : goal.returns-in-Refuse
-returns-in-Refuse c =
-    refused_first (later_checks _) c.in-Refuse.is (rw c.header_in_range.ensures at c.check_block.ensures)
-    ∙ file_stages _ c.if-file-lt512.false
+pub returns-in_err-check_block : goal.returns-in_err-check_block
+returns-in_err-check_block c =
+    rw (handed_on c.from_residual.ensures)
+    (refused_first (later_checks _) c.in_err-check_block.was (rw c.header_in_range.ensures at c.check_block.ensures)
+    ∙ file_stages _ c.if-file-lt512.false)
 
-pub returns-in-Pass : goal.returns-in-Pass
-returns-in-Pass c =
+pub returns : goal.returns
+returns c =
     c.check_later.ensures
-    ∙ passed_first (later_checks _) c.in-Pass.is (rw c.header_in_range.ensures at c.check_block.ensures)
+    ∙ passed_first (later_checks _) c.in_ok-check_block.was (rw c.header_in_range.ensures at c.check_block.ensures)
     ∙ file_stages _ c.if-file-lt512.false

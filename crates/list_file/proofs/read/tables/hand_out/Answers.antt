@@ -5,10 +5,10 @@ use Rattle.list_file.proofs.read.tables.hand_out.Goals as goal
 pub returns : goal.returns
 returns c =
     rw (
-      c.word_at-p.ensures,
-      c.word_at-q.ensures,
-      c.word_at-n.ensures,
-      c.word_at-ending.ensures,
+      c.word_at.ensures,
+      c.word_at-2.ensures,
+      c.word_at-3.ensures,
+      c.word_at-4.ensures,
       c.copy_coefs.ensures,
       c.copy_rows.ensures,
       c.row_words-numbers.ensures,

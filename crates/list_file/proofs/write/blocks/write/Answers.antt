@@ -10,31 +10,21 @@ abbrev list : Start → ListFile
 list s = list_of s.args.p s.args.q s.args.coefs.now s.args.rows.now s.args.ending
 
 pub loop-b-init : goal.loop-b-init
-loop-b-init c = (omega arith, refl, begun_none (list (goal.at.loop-b-init c).Start) _)
+loop-b-init c = record { same = refl; begun = begun_none (list (goal.at.loop-b-init c).Start) _ }
 
 pub write_block-requires : goal.write_block-requires
 write_block-requires c =
     record {
-      writable = record { list = c.requires.list; exact = c.loop-b.invariant.1 ∙ c.requires.exact };
+      writable = record { list = c.requires.list; exact = c.loop-b.invariant.same ∙ c.requires.exact };
       inside = omega (arith, c.requires.exact, c.loop-b-test.true);
-      begun = c.loop-b.invariant.2;
+      begun = c.loop-b.invariant.begun;
     }
 
-pub overflow_add-b : goal.overflow_add-b
-overflow_add-b c = omega arith
-
-pub loop-b-smaller : goal.loop-b-smaller
-loop-b-smaller c = omega arith
-
 pub loop-b-preserved : goal.loop-b-preserved
-loop-b-preserved c =
-    (omega arith, c.write_block.auto.out ∙ c.loop-b.invariant.1, c.write_block.ensures)
-
-pub shape_of-out : goal.shape_of-out
-shape_of-out c = c.loop-b.invariant.1
+loop-b-preserved c = record { same = c.write_block.auto.out ∙ c.loop-b.invariant.same; begun = c.write_block.ensures }
 
 pub returns : goal.returns
 returns c =
     let l = c.loop-b in
-    let e : l.b ≡ file_blocks (list (goal.at.returns c).Start) = omega (arith, c.requires.exact, l.invariant.0, c.loop-b-test.false) in
-    begun_all (list (goal.at.returns c).Start) l.out (l.invariant.1 ∙ c.requires.exact) (rw e at l.invariant.2)
+    let e : l.b ≡ file_blocks (list (goal.at.returns c).Start) = omega (arith, c.requires.exact, l.auto.b-end, c.loop-b-test.false) in
+    begun_all (list (goal.at.returns c).Start) l.out (l.invariant.same ∙ c.requires.exact) (rw e at l.invariant.begun)

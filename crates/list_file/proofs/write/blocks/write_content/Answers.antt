@@ -10,8 +10,7 @@ abbrev list : Start → ListFile
 list s = list_of s.args.p s.args.q s.args.coefs.now s.args.rows.now s.args.ending
 
 pub loop-j-init : goal.loop-j-init
-loop-j-init c =
-    let e : 128 * c.args.b + 0 ≡ 128 * c.args.b = omega arith in (omega arith, refl, rw e c.requires.begun)
+loop-j-init c = let e : 128 * c.args.b + 0 ≡ 128 * c.args.b = omega arith in record { same = refl; begun = rw e c.requires.begun }
 
 pub word-w-requires : goal.word-w-requires
 word-w-requires c =
@@ -23,28 +22,15 @@ overflow_mul-b c = omega (arith, c.requires.inside, blocks_few c.requires.writab
 pub overflow_add-b : goal.overflow_add-b
 overflow_add-b c = omega (arith, c.requires.inside, blocks_few c.requires.writable.list)
 
-pub put_word-requires : goal.put_word-requires
-put_word-requires c = omega (arith, c.requires.inside, c.requires.writable.exact, c.loop-j.invariant.1)
-
-pub overflow_add-j : goal.overflow_add-j
-overflow_add-j c = omega arith
-
-pub loop-j-smaller : goal.loop-j-smaller
-loop-j-smaller c = omega arith
-
 pub loop-j-preserved : goal.loop-j-preserved
 loop-j-preserved c =
     let b = c.args.b in
     let j = c.loop-j.j in
     let e : 128 * b + (j + 1) ≡ 128 * b + j + 1 = omega arith in
-    let f = c.word-w.ensures ∙ content_place (list (goal.at.loop-j-preserved c).Start) b j c.loop-j-test.true in (
-      omega arith,
-      c.put_word.auto.bytes ∙ c.loop-j.invariant.1,
-      rw e (begun_next (list (goal.at.loop-j-preserved c).Start) (128 * b + j) _ c.loop-j.out _ c.loop-j.invariant.2 c.put_word.ensures f),
-    )
-
-pub shape_of-out : goal.shape_of-out
-shape_of-out c = c.loop-j.invariant.1
+    let f = c.word-w.ensures ∙ content_place (list (goal.at.loop-j-preserved c).Start) b j c.loop-j-test.true in record {
+      same = c.put_word.auto.bytes ∙ c.loop-j.invariant.same;
+      begun = rw e (begun_next (list (goal.at.loop-j-preserved c).Start) (128 * b + j) _ c.loop-j.out _ c.loop-j.invariant.begun c.put_word.ensures f);
+    }
 
 pub returns : goal.returns
-returns c = let l = c.loop-j in rw (← le_antisymm l.invariant.0 c.loop-j-test.false) l.invariant.2
+returns c = let l = c.loop-j in rw (← le_antisymm l.auto.j-end c.loop-j-test.false) l.invariant.begun

@@ -1,21 +1,20 @@
 -- `list_file::write::checking::rows_in_range` meets its contract. The answer so far is that for the components passed. Assumes nothing.
-use Rattle.std.proofs.Common.{ℕ, Bool, leb, get_or, refl, le_antisymm, rules}
+use Rattle.std.proofs.Common.{ℕ, Bool, leb, get_or, refl, le_antisymm}
 use Rattle.linear.specs.Tests.{all_to}
 use Rattle.definitions.specs.System.{most_component}
 use Rattle.list_spec.specs.Writing.{rows_in_range}
 use Rattle.list_file.specs.RangeLaws.{all_more}
 use Rattle.list_file.proofs.write.checking.rows_in_range.Goals as goal
 
-pub loop-i-init : goal.loop-i-init
+pub loop-x-init : goal.loop-x-init
 unfolding all_to
-loop-i-init c = (search rules, refl)
+loop-x-init c = refl
 
-pub loop-i-preserved : goal.loop-i-preserved
-loop-i-preserved c =
-    let a = c.args in
-    let f : ℕ → Bool = λ k. leb (get_or a.rows.now k 0) most_component in
-    (search rules, cc (c.also_within-within.ensures, c.loop-i.invariant.1, all_more c.loop-i.i f))
+pub loop-x-preserved : goal.loop-x-preserved
+loop-x-preserved c =
+    let f : ℕ → Bool = λ k. leb (get_or c.args.rows.now k 0) most_component in
+    cc (c.also_within-within.ensures, c.loop-x.invariant, all_more c.loop-x.x-index f)
 
 pub returns : goal.returns
 unfolding rows_in_range
-returns c = rw (← le_antisymm c.loop-i.invariant.0 c.loop-i-test.false) c.loop-i.invariant.1
+returns c = rw (← le_antisymm c.loop-x.auto.x-index-end c.loop-x-test.false) c.loop-x.invariant
