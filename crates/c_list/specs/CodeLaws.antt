@@ -1,6 +1,6 @@
 -- A number of 64 bits holds each answer: a place is one of at most 128 coefficients. Assumes nothing.
 use Prim.Native.Nat.{ℕ, zero, suc, ◌*◌, ◌^◌, ◌≤◌, ◌<◌}
-use Rattle.std.specs.Prelude.{Bool, true, false, not, List, [], ◌∷◌, ◌≡◌, refl, eqb, ℤ, length, set}
+use Rattle.std.specs.Prelude.{Bool, true, false, not, List, [], ◌∷◌, ◌≡◌, refl, eqb, ℤ, Result, Ok, Err, length, set}
 use Rattle.std.proofs.Common.{inr, mul-le-mul}
 use native.Mathlib.Omega.{arith}
 use Rattle.definitions.specs.Answers.{Check, refuse, go, refuse_with, refuse_if, refuse_first, ◌then◌}
@@ -10,15 +10,11 @@ use Rattle.laws.proofs.RefusalLaws.{at_most, decides_outside, decides_unequal, e
 use Rattle.list_spec.specs.Form.{ListFile}
 use Rattle.list_spec.specs.Writing.{write_checks, write_decided, write_list}
 use Rattle.list_spec.specs.Reading.{block_checks, stream_checks, file_checks, read_checks, list_in, handed_out, read_decided, read_file, coef_words, row_words}
-use Rattle.calls.specs.declared.Solutions.{Solutions}
 use Rattle.list_file.specs.Paper.{number_of, values_of}
 use Rattle.list_file.specs.declared.words.FileRefusal.{FileRefusal}
 use Rattle.list_file.specs.WriteAnswer.{write_answer, write_outcome}
-use Rattle.list_file.specs.declared.write.Write.{Write}
-use Rattle.list_file.specs.declared.write.Write.TheVariants as write
 use Rattle.list_file.specs.ReadAnswer.{read_answer, read_outcome}
 use Rattle.list_file.specs.declared.read.Read.{Read}
-use Rattle.list_file.specs.declared.read.Read.TheVariants as read
 use Rattle.c_list.specs.Codes.{refusal_code, write_code, read_code, write_told, read_told}
 
 abbrev Small : Check → Type 0
@@ -107,26 +103,26 @@ module _ (file : List ℕ) where
 
 -- ---- what a call answered and left, as it is told
 
-module _ (l : ListFile) (out : List ℕ) {r : Write} {after : List ℕ} (e : write_outcome r after ≡ write_list l out) where
-  pub write_refusal_fits : {why : FileRefusal} → r ≡ write.Refused why → refusal_code (number_of why) (values_of why) < 2 ^ 64
+module _ (l : ListFile) (out : List ℕ) {r : Result (Unit {0}) FileRefusal} {after : List ℕ} (e : write_outcome r after ≡ write_list l out) where
+  pub write_refusal_fits : {why : FileRefusal} → r ≡ Err why → refusal_code (number_of why) (values_of why) < 2 ^ 64
   write_refusal_fits g = let h : write_code (write_answer r) < 2 ^ 64 = rw (← e) at (write_fits l out) in rw g at h
 
-  pub write_refused_told : {why : FileRefusal} {a : ℕ} → r ≡ write.Refused why → a ≡ refusal_code (number_of why) (values_of why)
+  pub write_refused_told : {why : FileRefusal} {a : ℕ} → r ≡ Err why → a ≡ refusal_code (number_of why) (values_of why)
       → (a, after) ≡ write_told (write_list l out)
   write_refused_told g d = rw (← e, g, d)
 
-  pub write_whole_told : r ≡ write.Whole → (106, after) ≡ write_told (write_list l out)
+  pub write_whole_told : {done : Unit {0}} → r ≡ Ok done → (106, after) ≡ write_told (write_list l out)
   write_whole_told g = rw (← e, g)
 
-module _ (file : List ℕ) (coefs : List ℤ) (list : List ℕ) {r : Read} {coefs' : List ℤ} {list' : List ℕ}
+module _ (file : List ℕ) (coefs : List ℤ) (list : List ℕ) {r : Result Read FileRefusal} {coefs' : List ℤ} {list' : List ℕ}
     (e : read_outcome r coefs' list' ≡ read_file file coefs list) where
-  pub read_refusal_fits : {why : FileRefusal} → r ≡ read.Refused why → refusal_code (number_of why) (values_of why) < 2 ^ 64
+  pub read_refusal_fits : {why : FileRefusal} → r ≡ Err why → refusal_code (number_of why) (values_of why) < 2 ^ 64
   read_refusal_fits g = let h : read_code (read_answer r) < 2 ^ 64 = rw (← e) at (read_fits file coefs list) in rw g at h
 
-  pub read_refused_told : (words : List ℕ) {why : FileRefusal} {a : ℕ} → r ≡ read.Refused why → a ≡ refusal_code (number_of why) (values_of why)
+  pub read_refused_told : (words : List ℕ) {why : FileRefusal} {a : ℕ} → r ≡ Err why → a ≡ refusal_code (number_of why) (values_of why)
       → (a, (coefs', (list', words))) ≡ read_told (read_file file coefs list) words
   read_refused_told words g d = rw (← e, g, d)
 
-  pub read_list_told : (words : List ℕ) {p q : ℕ} {found : Solutions} {ending : ℕ} → r ≡ read.List p q found ending
-      → (107, (coefs', (list', set (set (set (set words 0 p) 1 q) 2 found.0) 3 ending))) ≡ read_told (read_file file coefs list) words
+  pub read_list_told : (words : List ℕ) {l : Read} → r ≡ Ok l
+      → (107, (coefs', (list', set (set (set (set words 0 l.p) 1 l.q) 2 l.found.0) 3 l.ending))) ≡ read_told (read_file file coefs list) words
   read_list_told words g = rw (← e, g)

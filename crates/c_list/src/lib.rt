@@ -8,9 +8,7 @@ ghost use Rattle.list_file.specs.Paper.{number_of, values_of};
 ghost use Rattle.list_file.specs.WriteAnswer.{list_of};
 ghost use Rattle.c_list.specs.Codes.{refusal_code, write_told, read_told};
 
-use list_file::read::Read;
 use list_file::words::FileRefusal;
-use list_file::write::Write;
 
 // Writes a list into `out`, which has the exact length.
 pub fn write_list(
@@ -24,8 +22,8 @@ pub fn write_list(
     ensures { (result, out.new) ≡ write_told (write_list (list_of p q coefs.now rows.now ending) out.old) }
 {
     match list_file::write::write_list(p, q, coefs, rows, ending, out) {
-        Write::Whole => 106,
-        Write::Refused(why) => refusal(why),
+        Ok(()) => 106,
+        Err(why) => refusal(why),
     }
 }
 
@@ -35,17 +33,12 @@ pub fn read_list(file: &[u8], coefs: &mut [i32], list: &mut [u32], words: &mut [
         read_told (read_file file.now coefs.old list.old) words.old }
 {
     match list_file::read::read_list(file, coefs, list) {
-        Read::Refused(why) => refusal(why),
-        Read::List {
-            p,
-            q,
-            found,
-            ending,
-        } => {
-            words[0] = p as u64;
-            words[1] = q as u64;
-            words[2] = found.0 as u64;
-            words[3] = ending as u64;
+        Err(why) => refusal(why),
+        Ok(read) => {
+            words[0] = read.p as u64;
+            words[1] = read.q as u64;
+            words[2] = read.found.0 as u64;
+            words[3] = read.ending as u64;
             107
         }
     }

@@ -10,12 +10,12 @@ list s = list_of s.args.p s.args.q s.args.coefs.now s.args.rows.now s.args.endin
 
 pub refusal-requires : goal.refusal-requires
 refusal-requires c =
-    write_refusal_fits (list (goal.at.refusal-requires c).Start) c.args.out.now c.write_list.ensures c.in-Refused.is
+    write_refusal_fits (list (goal.at.refusal-requires c).Start) c.args.out.now c.write_list.ensures c.in-Err.is
 
-pub returns-in-Whole : goal.returns-in-Whole
-returns-in-Whole c =
-    write_whole_told (list (goal.at.returns-in-Whole c).Start) c.args.out.now c.write_list.ensures c.in-Whole.is
+pub returns-in-Ok : goal.returns-in-Ok
+returns-in-Ok c =
+    write_whole_told (list (goal.at.returns-in-Ok c).Start) c.args.out.now c.write_list.ensures c.in-Ok.is
 
-pub returns-in-Refused : goal.returns-in-Refused
-returns-in-Refused c =
-    write_refused_told (list (goal.at.returns-in-Refused c).Start) c.args.out.now c.write_list.ensures c.in-Refused.is c.refusal.ensures
+pub returns-in-Err : goal.returns-in-Err
+returns-in-Err c =
+    write_refused_told (list (goal.at.returns-in-Err c).Start) c.args.out.now c.write_list.ensures c.in-Err.is c.refusal.ensures
