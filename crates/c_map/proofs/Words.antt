@@ -1,5 +1,5 @@
 -- Theorems about what specs/Words.antt defines. Assumes nothing.
-use Rattle.std.specs.Prelude.{ℕ, ◌^◌, ◌<◌, List, ◌≡◌, ℤ}
+use Rattle.std.specs.Prelude.{ℕ, ◌^◌, ◌<◌, List, ◌≡◌, ℤ, Result, Ok, Err}
 use Rattle.std.proofs.Common.{inl, inr, ap, arith}
 use Rattle.definitions.specs.Answers.{refuse}
 use Rattle.laws.specs.CheckLaws.{FirstDue}
@@ -8,8 +8,7 @@ use Rattle.map_spec.specs.Reading.{Reading, read_map}
 use Rattle.map_text.specs.Answer.{answered, number_of, outcome, values_of}
 use Rattle.map_text.proofs.RuleLaws.{text_renders, verdict}
 use Rattle.map_text.specs.Rules.{text_rules}
-use Rattle.map_text.specs.declared.Read.{Read}
-use Rattle.map_text.specs.declared.Read.TheVariants.{Map, Refused}
+use Rattle.map_text.specs.declared.Map.{Map}
 use Rattle.map_text.specs.declared.TextRefusal.{TextRefusal}
 use Rattle.c_record.specs.Codes.{refusal_code}
 use Rattle.c_map.specs.Words.{read_words, two_words}
@@ -28,25 +27,25 @@ refusal_fits t n values (inr (_, inr (_, inr (_, inr (_, inl (e, i, l, f, _, _))
 refusal_fits t n values (inr (_, inr (_, inr (_, inr (_, inr (_, inl (e, i, l, f, _, _))))))) = fits_at e f (omega arith)
 refusal_fits t n values (inr (_, inr (_, inr (_, inr (_, inr (_, inr (_, y))))))) = absurd y
 
-refused_verdict : (r : Reading) (table after : List ℤ) (why : TextRefusal) → outcome (Refused why) after ≡ answered r table
+refused_verdict : (r : Reading) (table after : List ℤ) (why : TextRefusal) → outcome (Err why) after ≡ answered r table
     → verdict r ≡ refuse (number_of why) (values_of why)
 unfolding verdict answered
 refused_verdict (reading.accepted p q coefs) table after why e = absurd (let z : ◌≡◌ {A = ℕ} 0 1 = cc (ap (λ o. o.answer) e) in omega arith)
 refused_verdict (reading.refused n values) table after why e = cc (ap (λ o. o.answer) e)
 
-pub told_fits : (text : List ℕ) (table after : List ℤ) {r : Read} → outcome r after ≡ answered (read_map text) table → {why : TextRefusal} → r ≡ Refused why
+pub told_fits : (text : List ℕ) (table after : List ℤ) {r : Result Map TextRefusal} → outcome r after ≡ answered (read_map text) table → {why : TextRefusal} → r ≡ Err why
     → refusal_code (number_of why) (values_of why) < 2 ^ 64
 told_fits text table after e {why} g =
     refusal_fits text _ _ ((text_renders text).refuses (number_of why) (values_of why) (refused_verdict (read_map text) table after why (rw g at e)))
 
 -- ---- by what the reader answered
 
-module _ (text : List ℕ) (table after : List ℤ) (words : List ℕ) {r : Read} (e : outcome r after ≡ answered (read_map text) table) where
-  pub told_map : {p q : ℕ} → r ≡ Map p q → (108, (after, two_words words p q)) ≡ read_words text table words
+module _ (text : List ℕ) (table after : List ℤ) (words : List ℕ) {r : Result Map TextRefusal} (e : outcome r after ≡ answered (read_map text) table) where
+  pub told_map : {map : Map} → r ≡ Ok map → (108, (after, two_words words map.p map.q)) ≡ read_words text table words
   unfolding read_words
   told_map g = rw (← e, g)
 
-  pub told_refused : {why : TextRefusal} {a : ℕ} → r ≡ Refused why → a ≡ refusal_code (number_of why) (values_of why)
+  pub told_refused : {why : TextRefusal} {a : ℕ} → r ≡ Err why → a ≡ refusal_code (number_of why) (values_of why)
       → (a, (after, words)) ≡ read_words text table words
   unfolding read_words
   told_refused g d = rw (← e, g, d)

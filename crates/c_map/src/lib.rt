@@ -7,19 +7,19 @@ ghost use Rattle.map_text.specs.Answer.{number_of, values_of};
 ghost use Rattle.c_map.specs.Words.{read_words};
 ghost use Rattle.c_record.specs.Codes.{refusal_code};
 
-use map_text::{Read, TextRefusal};
+use map_text::TextRefusal;
 
 // Reads the map that `text` writes: its coefficients go to the beginning of `coefs`, row by row, p and q into the words. A refusal writes nothing.
 pub fn read_map(text: &[u8], coefs: &mut [i32; 128], words: &mut [u64; 2]) -> u64
     ensures { (result, (coefs.new, words.new)) ≡ read_words text.now coefs.old words.old }
 {
     match map_text::read_map(text, coefs) {
-        Read::Map { p, q } => {
-            words[0] = p as u64;
-            words[1] = q as u64;
+        Ok(map) => {
+            words[0] = map.p as u64;
+            words[1] = map.q as u64;
             108
         }
-        Read::Refused(why) => refusal(why),
+        Err(why) => refusal(why),
     }
 }
 
