@@ -1,6 +1,6 @@
 -- A call of the seat from what the core's calls left, and 24 for 12 in the code's answers. Assumes nothing.
-use Rattle.std.specs.Prelude.{◌≢◌, ◌≡◌, refl, List, [], ℕ, ℤ}
-use Rattle.std.proofs.Common.{sym, ◌∙◌, ap, arith, eq-eqb, ne_eqb}
+use Rattle.std.specs.Prelude.{◌≡◌, refl, List, ℕ, ℤ, Result, Ok, Err}
+use Rattle.std.proofs.Common.{sym, ◌∙◌, ap}
 use Rattle.definitions.specs.Answers as paper
 use Rattle.definitions.specs.Answers.{◌then◌}
 use Rattle.definitions.specs.Calls.{resume, resume_from, start, start_from}
@@ -11,53 +11,17 @@ use Rattle.definitions.specs.Tables.{State, units_start}
 use Rattle.laws.proofs.AnswerLaws.{then_assoc}
 use Rattle.checks.specs.Counts.{size_checks}
 use Rattle.seat_spec.specs.Training.{check23, seat_input, seat_resume, seat_resume_from, seat_start, seat_start_from}
-use Rattle.seat_spec.specs.TrainingRules.{renumber, renumbered, seat_first}
+use Rattle.seat_spec.specs.TrainingRules.{renumbered, seat_first}
 use Rattle.seat_spec.proofs.TrainingRules.{seat_resumes, seat_resumes_from, seat_starts, seat_starts_from}
 use Rattle.calls.proofs.CallLaws.{call_passed, call_refused}
-use Rattle.calls.specs.Paper.{answer_of, check_of, number_of, values_of}
-use Rattle.calls.specs.declared.Answer.{Answer}
+use Rattle.calls.specs.Paper.{answer_of, check_of}
 use Rattle.calls.specs.declared.Answer.TheVariants.{Refused}
-use Rattle.calls.specs.declared.Check.{Check}
-use Rattle.calls.specs.declared.Check.TheVariants.{Refuse, Pass}
 use Rattle.calls.specs.declared.Refusal.{Refusal}
-use Rattle.calls.specs.declared.Refusal.TheVariants.{Equations, Unknowns, CoefficientCount, TableLength, BoundLength, OutOfOrder, Coefficient, BoundRange}
-use Rattle.calls.specs.declared.Refusal.TheVariants.{ListFull, ComponentLimit, StepLimit, RightSide, SeatUnknowns, SeatComponent}
-use Rattle.calls.specs.declared.Refusal.TheVariants.{Generators, Column, TablesFull, NotLeft, NotFresh, NotOperation, ShiftedSide}
 
 -- ---- 24 for 12
 
 abbrev pub refused_for : Refusal → paper.Answer
 refused_for why = answer_of (Refused why)
-
--- 12 comes with no value
-alone_at_12 : (why : Refusal) → number_of why ≡ 12 → values_of why ≡ []
-alone_at_12 Equations e = refl
-alone_at_12 Unknowns e = refl
-alone_at_12 CoefficientCount e = refl
-alone_at_12 TableLength e = refl
-alone_at_12 BoundLength e = refl
-alone_at_12 OutOfOrder e = refl
-alone_at_12 (Coefficient place) e = absurd (omega arith)
-alone_at_12 BoundRange e = refl
-alone_at_12 ListFull e = refl
-alone_at_12 ComponentLimit e = refl
-alone_at_12 StepLimit e = refl
-alone_at_12 RightSide e = refl
-alone_at_12 SeatUnknowns e = refl
-alone_at_12 SeatComponent e = refl
-alone_at_12 Generators e = refl
-alone_at_12 (Column column) e = absurd (omega arith)
-alone_at_12 TablesFull e = refl
-alone_at_12 NotLeft e = refl
-alone_at_12 NotFresh e = refl
-alone_at_12 NotOperation e = refl
-alone_at_12 (ShiftedSide place) e = absurd (omega arith)
-
-pub at_12 : (why : Refusal) {n : ℕ} → n ≡ number_of why → n ≡ 12 → refused_for SeatComponent ≡ renumber (refused_for why)
-at_12 why h e = rw (alone_at_12 why (sym h ∙ e), eq-eqb (number_of why) 12 (sym h ∙ e))
-
-pub not_at_12 : (why : Refusal) {n : ℕ} → n ≡ number_of why → n ≢ 12 → refused_for why ≡ renumber (refused_for why)
-not_at_12 why h ne = rw (ne_eqb (number_of why) 12 (λ e. ne (h ∙ e)))
 
 -- ---- 1 and 2 are those of every call, and 23 comes straight after them
 
@@ -77,15 +41,15 @@ module _ (p q : ℕ) (coefs : List ℤ) (s : State) where
   i = seat_input p q coefs
 
   -- a start of the seat is the core's behind its own check, and a continuing call the core's with 24 for 12; r is what that check found
-  module _ {r : Check} (e : (given : List ℤ) → check_of r ≡ seat_first (seat_input p q given)) where
+  module _ {r : Result (Unit {0}) Refusal} (e : (given : List ℤ) → check_of r ≡ seat_first (seat_input p q given)) where
     module _ {call : machine.Outcome State} (core : State → machine.Outcome State) (splits : call ≡ machine.checked (seat_first i) s core) where
-      seat_refused : {why : Refusal} → r ≡ Refuse why → record { answer = refused_for why; state = s } ≡ call
+      seat_refused : {why : Refusal} → r ≡ Err why → record { answer = refused_for why; state = s } ≡ call
       seat_refused h = call_refused (e coefs) s core h ∙ sym splits
 
-      seat_passed : r ≡ Pass → {o : machine.Outcome State} → o ≡ core s → o ≡ call
+      seat_passed : {x : Unit {0}} → r ≡ Ok x → {o : machine.Outcome State} → o ≡ core s → o ≡ call
       seat_passed h g = call_passed (e coefs) s core h g ∙ sym splits
 
-    module _ {why : Refusal} (h : r ≡ Refuse why) where
+    module _ {why : Refusal} (h : r ≡ Err why) where
       pub start_refused : record { answer = refused_for why; state = s } ≡ seat_start i s
       start_refused = seat_refused (start i) (seat_starts p q coefs s) h
 
@@ -98,7 +62,7 @@ module _ (p q : ℕ) (coefs : List ℤ) (s : State) where
       pub resume_from_refused : (budget : ℕ) (lower : List ℕ) → record { answer = refused_for why; state = s } ≡ seat_resume_from budget lower i s
       resume_from_refused budget lower = seat_refused (λ t. renumbered (resume_from budget lower i t)) (seat_resumes_from p q coefs lower budget s) h
 
-    module _ (h : r ≡ Pass) {o : machine.Outcome State} where
+    module _ {x : Unit {0}} (h : r ≡ Ok x) {o : machine.Outcome State} where
       pub start_passed : o ≡ start (input_of p q coefs) s → o ≡ seat_start i s
       start_passed g = seat_passed (start i) (seat_starts p q coefs s) h (g ∙ any_limit p q coefs s)
 

@@ -5,10 +5,9 @@
 ghost use Rattle.std.specs.Prelude.{◌≡◌, List, ℕ, ℤ};
 ghost use Rattle.calls.specs.Paper.{check_of, outcome_of, outcome_with, state_of, state_with};
 ghost use Rattle.seat_spec.specs.Training.{seat_input, seat_resume, seat_resume_from, seat_start, seat_start_from};
-ghost use Rattle.seat_spec.specs.TrainingRules.{renumber, renumbered, seat_first};
-ghost use Rattle.seat.specs.Seat.{refused_for};
+ghost use Rattle.seat_spec.specs.TrainingRules.{renumbered, seat_first};
 
-use calls::{Answer, Check, Outcome, Record, Refusal};
+use calls::{Answer, Outcome, Record, Refusal};
 
 // "at most 6 unknowns and components up to 20"
 pub const SEAT_UNKNOWNS: usize = 6;
@@ -27,10 +26,10 @@ pub fn started(
     ensures { outcome_of result stack.new list.new ≡
         seat_start (seat_input p q coefs.now) (state_of stack.old list.old r) }
 {
-    match check(p, q) {
-        Check::Refuse(why) => calls::refused(why, r),
-        Check::Pass => starts::started(p, q, coefs, stack, list, r),
+    if let Err(why) = check(p, q) {
+        return calls::refused(why, r);
     }
+    starts::started(p, q, coefs, stack, list, r)
 }
 
 // The start of a run from a lower bound.
@@ -48,12 +47,10 @@ pub fn started_from(
         seat_start_from lower.now (seat_input p q coefs.now)
         (state_with stack.old list.old second.old r) }
 {
-    match check(p, q) {
-        Check::Refuse(why) => calls::refused(why, r),
-        Check::Pass => {
-            starts::started_from(p, q, coefs, lower, stack, list, second, r, SEAT_LIMIT)
-        }
+    if let Err(why) = check(p, q) {
+        return calls::refused(why, r);
     }
+    starts::started_from(p, q, coefs, lower, stack, list, second, r, SEAT_LIMIT)
 }
 
 // The continuing call of a plain run.
@@ -69,13 +66,11 @@ pub fn resumed(
     ensures { outcome_of result stack.new list.new ≡
         seat_resume budget (seat_input p q coefs.now) (state_of stack.old list.old r) }
 {
-    match check(p, q) {
-        Check::Refuse(why) => calls::refused(why, r),
-        Check::Pass => {
-            let o = walk::resumed(p, q, coefs, stack, list, r, budget, SEAT_LIMIT);
-            seat_outcome(o)
-        }
+    if let Err(why) = check(p, q) {
+        return calls::refused(why, r);
     }
+    let o = walk::resumed(p, q, coefs, stack, list, r, budget, SEAT_LIMIT);
+    seat_outcome(o)
 }
 
 // The continuing call of a run from a lower bound: it is handed the lower bound anew.
@@ -94,49 +89,31 @@ pub fn resumed_from(
         seat_resume_from budget lower.now (seat_input p q coefs.now)
         (state_with stack.old list.old second.old r) }
 {
-    match check(p, q) {
-        Check::Refuse(why) => calls::refused(why, r),
-        Check::Pass => {
-            let most = SEAT_LIMIT;
-            let o = walk::resumed_from(p, q, coefs, lower, stack, list, second, r, budget, most);
-            seat_outcome(o)
-        }
+    if let Err(why) = check(p, q) {
+        return calls::refused(why, r);
     }
+    let most = SEAT_LIMIT;
+    let o = walk::resumed_from(p, q, coefs, lower, stack, list, second, r, budget, most);
+    seat_outcome(o)
 }
 
 // 1, 2 and 23, which each call of the seat asks ahead of all else.
-fn check(p: usize, q: usize) -> Check
+fn check(p: usize, q: usize) -> Result<(), Refusal>
     ensures { (coefs : List ℤ) → check_of result ≡ seat_first (seat_input p q coefs) }
 {
-    match checks::counts::check_sizes(p, q, 0) {
-        Check::Refuse(why) => Check::Refuse(why),
-        Check::Pass => {
-            if SEAT_UNKNOWNS < q {
-                return Check::Refuse(Refusal::SeatUnknowns);
-            }
-            Check::Pass
-        }
+    checks::counts::check_sizes(p, q, 0)?;
+    if SEAT_UNKNOWNS < q {
+        return Err(Refusal::SeatUnknowns);
     }
+    Ok(())
 }
 
 // What a continuing call of the core left, as the seat has it: 24 for 12.
 fn seat_outcome(o: Outcome) -> Outcome
     ensures { (stack list second : List ℕ) → outcome_with result stack list second ≡ renumbered (outcome_with o stack list second) }
 {
-    let answer = o.answer;
-    match answer {
-        Answer::Started => o,
-        Answer::Complete => o,
-        Answer::Paused => o,
-        Answer::Refused(why) => calls::refused(seat_refusal(why), o.run),
+    match o.answer {
+        Answer::Refused(Refusal::ComponentLimit) => calls::refused(Refusal::SeatComponent, o.run),
+        _ => o,
     }
-}
-
-fn seat_refusal(why: Refusal) -> Refusal
-    ensures { refused_for result ≡ renumber (refused_for why) }
-{
-    if calls::number_of(why) == 12 {
-        return Refusal::SeatComponent;
-    }
-    why
 }

@@ -2,10 +2,10 @@
 use Rattle.seat.specs.Seat.{resume_from_passed, resume_from_refused}
 use Rattle.seat.proofs.resumed_from.Goals as goal
 
-pub returns-in-Refuse : goal.returns-in-Refuse
-returns-in-Refuse c =
-    rw c.refused.ensures (resume_from_refused _ _ _ _ c.check.ensures c.in-Refuse.is _ _)
+pub returns-in-Err : goal.returns-in-Err
+returns-in-Err c =
+    rw c.refused.ensures (resume_from_refused _ _ _ _ c.check.ensures c.in-Err.is _ _)
 
-pub returns-in-Pass : goal.returns-in-Pass
-returns-in-Pass c =
-    resume_from_passed _ _ _ _ c.check.ensures c.in-Pass.is _ _ c.resumed_from-o.ensures (c.seat_outcome.ensures _ _ _)
+pub returns : goal.returns
+returns c =
+    resume_from_passed _ _ _ _ c.check.ensures c.in_default.is _ _ c.resumed_from-o.ensures (c.seat_outcome.ensures _ _ _)

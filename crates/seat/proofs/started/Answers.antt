@@ -3,10 +3,10 @@ use Rattle.definitions.specs.System.{most_component}
 use Rattle.seat.specs.Seat.{start_passed, start_refused}
 use Rattle.seat.proofs.started.Goals as goal
 
-pub returns-in-Refuse : goal.returns-in-Refuse
-returns-in-Refuse c =
-    rw c.refused.ensures (start_refused _ _ _ _ c.check.ensures c.in-Refuse.is)
+pub returns-in-Err : goal.returns-in-Err
+returns-in-Err c =
+    rw c.refused.ensures (start_refused _ _ _ _ c.check.ensures c.in-Err.is)
 
-pub returns-in-Pass : goal.returns-in-Pass
-returns-in-Pass c =
-    start_passed _ _ _ _ c.check.ensures c.in-Pass.is (c.started.ensures most_component)
+pub returns : goal.returns
+returns c =
+    start_passed _ _ _ _ c.check.ensures c.in_default.is (c.started.ensures most_component)

@@ -2,10 +2,10 @@
 use Rattle.seat.specs.Seat.{start_from_passed, start_from_refused}
 use Rattle.seat.proofs.started_from.Goals as goal
 
-pub returns-in-Refuse : goal.returns-in-Refuse
-returns-in-Refuse c =
-    rw c.refused.ensures (start_from_refused _ _ _ _ c.check.ensures c.in-Refuse.is _)
+pub returns-in-Err : goal.returns-in-Err
+returns-in-Err c =
+    rw c.refused.ensures (start_from_refused _ _ _ _ c.check.ensures c.in-Err.is _)
 
-pub returns-in-Pass : goal.returns-in-Pass
-returns-in-Pass c =
-    start_from_passed _ _ _ _ c.check.ensures c.in-Pass.is _ c.started_from.ensures
+pub returns : goal.returns
+returns c =
+    start_from_passed _ _ _ _ c.check.ensures c.in_default.is _ c.started_from.ensures
