@@ -22,6 +22,7 @@ pub fn in_order(q: usize, generators: &[u32], stack: &[u32], list: &[u32], r: Re
     requires { RowsFit q (length generators.now) (length stack.now) }
     ensures { result ≡ desk_in_order (desk_of 0 q [] generators.now) (state_of stack.now list.now r) }
 {
+    // record_order::in_order asks the first five of other runs: a function of them would take as many parameters as it makes tests.
     r.kind == RunKind::Desks
         && r.height <= generators.len() / q
         && r.found.0 <= list.len() / q

@@ -59,6 +59,10 @@ abbrev pub chosen : Bool → Share → parts.Part
 chosen true share = part_for share.list
 chosen false share = part_for share.stack
 
+-- the parts of one table
+abbrev pub parts_at : List Part → ℕ → parts.Part
+parts_at all i = part_for (get_or all i no_part)
+
 abbrev pub part_at : Bool → List Share → ℕ → parts.Part
 part_at of_list shares i = chosen of_list (get_or shares i no_share)
 

@@ -44,6 +44,7 @@ pub fn next_after(count: usize, last: usize, progress: [Progress; 8]) -> Option<
     ensures below { IfSome result (λ i. i < count) }
 {
     let start = first_asked(count, last);
+    // A find over these places would tell k, and the run would be worked out of it once more.
     for k in 0..count {
         let i = further(count, start, k);
         if stays(progress[i]) {
