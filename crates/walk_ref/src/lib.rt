@@ -5,9 +5,9 @@ ghost use Rattle.std.specs.Prelude.{◌≡◌, ℕ};
 ghost use Rattle.definitions.specs.Calls.{start as start_of, resume as resume_of};
 ghost use Rattle.definitions.specs.System.{most_component};
 ghost use Rattle.definitions.specs.Input.{alone, input_of, input_with, rights as sides};
-ghost use Rattle.calls.specs.Paper.{state_of, state_with, left_by, left_with, outcome_of, outcome_with};
+ghost use Rattle.calls.specs.Paper.{state_of, state_with, left_by, left_with};
 
-use calls::{Answer, Outcome, Record};
+use calls::{Answer, Record};
 
 pub mod lower; // lower.rt: runs from a lower bound
 
@@ -50,7 +50,7 @@ pub fn start_capped(
     o.answer
 }
 
-// The continuing call.
+// The continuing call, with document 01's limit of components.
 pub fn resume(
     p: usize,
     q: usize,
@@ -63,28 +63,12 @@ pub fn resume(
     ensures { left_by result stack.new list.new r.new ≡ resume_of budget (input_of p q coefs.now)
         (state_of stack.old list.old r.old) }
 {
-    let o = resumed(p, q, coefs, stack, list, *r, budget);
+    let o = walk::resumed(p, q, coefs, stack, list, *r, budget, calls::COMPONENT_LIMIT);
     *r = o.run;
     o.answer
 }
 
-// The same by value, with document 01's limit of components.
-fn resumed(
-    p: usize,
-    q: usize,
-    coefs: &[i32],
-    stack: &mut [u32],
-    list: &mut [u32],
-    r: Record,
-    budget: u64,
-) -> Outcome
-    ensures { outcome_of result stack.new list.new
-        ≡ resume_of budget (input_of p q coefs.now) (state_of stack.old list.old r) }
-{
-    walk::resumed(p, q, coefs, stack, list, r, budget, calls::COMPONENT_LIMIT)
-}
-
-// The continuing call of a capped run.
+// The continuing call of a capped run, with the same limit.
 pub fn resume_capped(
     p: usize,
     q: usize,
@@ -100,37 +84,8 @@ pub fn resume_capped(
         (input_with (sides rights.now) most_component p q coefs.now)
         (state_with stack.old list.old second.old r.old) }
 {
-    let o = resumed_capped(p, q, coefs, rights, stack, list, second, *r, budget);
+    let most = calls::COMPONENT_LIMIT;
+    let o = walk::resumed_capped(p, q, coefs, rights, stack, list, second, *r, budget, most);
     *r = o.run;
     o.answer
-}
-
-// The same by value, with document 01's limit of components.
-fn resumed_capped(
-    p: usize,
-    q: usize,
-    coefs: &[i32],
-    rights: &[i32],
-    stack: &mut [u32],
-    list: &mut [u32],
-    second: &mut [u32],
-    r: Record,
-    budget: u64,
-) -> Outcome
-    ensures { outcome_with result stack.new list.new second.new
-        ≡ resume_of budget (input_with (sides rights.now) most_component p q coefs.now)
-        (state_with stack.old list.old second.old r) }
-{
-    walk::resumed_capped(
-        p,
-        q,
-        coefs,
-        rights,
-        stack,
-        list,
-        second,
-        r,
-        budget,
-        calls::COMPONENT_LIMIT,
-    )
 }
