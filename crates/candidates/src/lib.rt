@@ -100,7 +100,8 @@ fn subtract(t: &[u32], lower: &[u32], q: usize, over: &mut [u32; 16])
     }
 }
 
-// Which of the `candidates` of q unknowns a list leaves. Its rows of w numbers stand for those of a tuple from place `from` on.
+// Which of the `candidates` of q unknowns a list leaves. Its rows of w numbers stand for those of a tuple from place `from` on. The loop takes the marks of
+// a word, the lowest first, and counts nothing.
 fn unstopped(
     list: &[u32],
     found: usize,
@@ -128,8 +129,8 @@ fn unstopped(
     left
 }
 
-// Which of the candidates that are left open make a child. Of a plain walk, most of its time goes into this loop: it tries the limit in the turn of a
-// candidate, and is compiled into each kind's walk, where the rows' width is at hand.
+// Which of the candidates that are left open make a child. Not `unstopped` and then a test of what it leaves: of a plain walk most of its time goes into
+// this loop, which tries the limit in the turn of a candidate, and is compiled into each kind's arm, where the rows' width is at hand.
 #[inline(always)]
 fn passed(
     list: &[u32],

@@ -62,7 +62,8 @@ enlisted_plain q s x a =
     }
 
 -- a walk above a lower bound lists as a plain one
-pub enlisted_above : (f : ℕ → ℕ) (q : ℕ) (s : State) (x : ℕ → ℕ) {after : List ℕ} {r : Result Stepped Refusal} → Appended q s.run.found (part 0 x) s.list after Listed r
+pub enlisted_above : (f : ℕ → ℕ) (q : ℕ) (s : State) (x : ℕ → ℕ) {after : List ℕ} {r : Result Stepped Refusal}
+    → Appended q s.run.found (part 0 x) s.list after Listed r
     → Enlisted (above f) q s x after s.second r
 enlisted_above f q s x a = let e = enlisted_plain q s x a in record { answers = e.answers; first = e.first; other = e.other }
 

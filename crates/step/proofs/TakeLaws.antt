@@ -1,7 +1,7 @@
 -- The ways through a step, from what its parts ensure: the top's tuple t, the marks of the row, the candidates for a child, and the unknowns that make one.
 -- Assumes nothing.
-use Rattle.std.specs.Prelude.{◌≡◌, refl, ◌≢◌, Bool, true, false, not, ◌&&◌, List, [], ◌++◌, ℕ, ◌+◌, ◌*◌, ◌^◌, ◌≤◌, ◌<◌, T, eqb, ℤ, pos, length, get_or, take, Result, Ok, Err}
-use Rattle.std.specs.Prelude.{drop}
+use Rattle.std.specs.Prelude.{◌≡◌, refl, ◌≢◌, Bool, true, false, not, ◌&&◌, List, [], ◌++◌, ℕ, ◌+◌, ◌*◌, ◌^◌, ◌≤◌, ◌<◌, T, eqb, ℤ, pos, length, get_or, take}
+use Rattle.std.specs.Prelude.{drop, Result, Ok, Err}
 use Rattle.std.proofs.Common.{sym, ◌∙◌, ap, arith, take-append-drop, get_or-drop}
 use Rattle.std.specs.Int.Signed.{lt_z}
 use Rattle.linear.proofs.TestLaws.{is_false}
@@ -144,7 +144,8 @@ module _ {k : Kind} {limit q : ℕ} {g : List ℤ} {s : State} {c : List ℤ} {s
       enlisting early true false e f y = step_listed₂ m now early (sym solved_by ∙ y) (sym (to_second_same k v.some h.same) ∙ e) f refl
 
     -- the top is a solution
-    pub taken_solution : all_to q (λ j. is_zero (entry c (level s) j)) ≡ true → {r : Result Stepped Refusal} {list second : List ℕ} → Enlisted k q s (tuple t) list second r
+    pub taken_solution : all_to q (λ j. is_zero (entry c (level s) j)) ≡ true → {r : Result Stepped Refusal} {list second : List ℕ}
+        → Enlisted k q s (tuple t) list second r
         → Taken k limit q g s r s.stack list second c sums
     taken_solution y {r} {list} {second} e =
         record {

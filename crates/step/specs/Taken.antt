@@ -65,7 +65,8 @@ pub record Steps (m : System) (s : State) (r : Result Stepped Refusal) (stack li
   pub leaves : state_by r m s stack list second ≡ step_by (check_by r) m s
 
 -- whatever the rest of the record is
-pub record Taken (k : Kind) (limit q : ℕ) (g : List ℤ) (s : State) (r : Result Stepped Refusal) (stack list second : List ℕ) (c : List ℤ) (sums : List ℕ) : Type 0 where
+pub record Taken (k : Kind) (limit q : ℕ) (g : List ℤ) (s : State) (r : Result Stepped Refusal) (stack list second : List ℕ) (c : List ℤ)
+    (sums : List ℕ) : Type 0 where
   pub cached : Combined q g stack (height_by r s) c
   pub summed : Totals q stack (height_by r s) sums
   pub steps : (p : ℕ) (coefs : List ℤ) → Gram p q coefs g → (run : RunKind) (n n₂ d : ℕ) → n ≢ step_limit

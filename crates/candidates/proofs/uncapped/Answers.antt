@@ -6,18 +6,6 @@ use lib.ListN.{length}
 use Rattle.table_rows.specs.Rows.{tuple}
 use Rattle.candidates.specs.Open.{alone_room, open_alone, open_none, open_others}
 use Rattle.candidates.proofs.uncapped.Goals as goal
-use Rattle.candidates.proofs.uncapped.Goals.{After-slice_known-then-t-eq0-1}
-
--- ---- the first alone is asked about
-
-module _ (c : After-slice_known-then-t-eq0-1) where
-  first_is : c.args.candidates % 2 ≡ 1
-  first_is = omega (arith, c.if-first-eq0.false)
-
-  some : 0 < c.args.q
-  some = omega (arith, c.requires.nonzero.0.0)
-
--- ---- all others are
 
 pub bounds-t-0 : goal.bounds-t-0
 bounds-t-0 c = omega (arith, c.requires.nonzero.0.0, c.requires.nonzero.1)
@@ -47,12 +35,14 @@ unstopped-requires c =
 pub overflow_add-result : goal.overflow_add-result
 overflow_add-result c =
     let a = c.args in
+    let some : 0 < a.q = omega (arith, c.requires.nonzero.0.0) in
+    let first_is : a.candidates % 2 ≡ 1 = omega (arith, c.if-first-eq0.false) in
     omega (
       arith,
       alone_room a.q a.found a.second.now (tuple a.t.now) a.candidates c.requires.nonzero.2
-          c.if-t-eq0.true (some c) (first_is c) c.unstopped.ensures.value,
+          c.if-t-eq0.true some first_is c.unstopped.ensures.value,
       c.ranges.candidates.fits,
-      first_is c,
+      first_is,
     )
 
 pub shape_of-t-then-t-eq0 : goal.shape_of-t-then-t-eq0
@@ -60,9 +50,11 @@ shape_of-t-then-t-eq0 c = ap length c.unstopped.ensures.t_unchanged
 
 pub returns-then-t-eq0 : goal.returns-then-t-eq0
 returns-then-t-eq0 c =
-    let a = c.args in record {
+    let a = c.args in
+    let some : 0 < a.q = omega (arith, c.requires.nonzero.0.0) in
+    let first_is : a.candidates % 2 ≡ 1 = omega (arith, c.if-first-eq0.false) in record {
       marked = open_alone a.q a.found a.second.now (tuple a.t.now) a.candidates c.requires.nonzero.2
-          c.if-t-eq0.true (some c) (first_is c) c.unstopped.ensures.value;
+          c.if-t-eq0.true some first_is c.unstopped.ensures.value;
       t_unchanged = c.unstopped.ensures.t_unchanged;
     }
 

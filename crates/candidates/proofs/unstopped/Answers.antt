@@ -95,7 +95,8 @@ overflow_add-left c =
     )
 
 pub loop-rest-smaller-then-not-blocked : goal.loop-rest-smaller-then-not-blocked
-loop-rest-smaller-then-not-blocked c = next_less c.loop-rest.invariant.2 c.requires.w_nonzero.1 (some (goal.at.loop-rest-smaller-then-not-blocked c).In-loop-rest)
+loop-rest-smaller-then-not-blocked c =
+    next_less c.loop-rest.invariant.2 c.requires.w_nonzero.1 (some (goal.at.loop-rest-smaller-then-not-blocked c).In-loop-rest)
 
 pub loop-rest-preserved-then-not-blocked : goal.loop-rest-preserved-then-not-blocked
 loop-rest-preserved-then-not-blocked c =
@@ -105,7 +106,8 @@ loop-rest-preserved-then-not-blocked c =
       unknown (goal.at.loop-rest-preserved-then-not-blocked c).In-loop-rest + 1,
       left_next left few (some (goal.at.loop-rest-preserved-then-not-blocked c).In-loop-rest),
       next_add left few (some (goal.at.loop-rest-preserved-then-not-blocked c).In-loop-rest) (child (goal.at.loop-rest-preserved-then-not-blocked c).Start)
-          (closed (goal.at.loop-rest-preserved-then-not-blocked c).Start) c.loop-rest.invariant.3 (free_one (goal.at.loop-rest-preserved-then-not-blocked c).After-blocked c.if-not-blocked.true),
+          (closed (goal.at.loop-rest-preserved-then-not-blocked c).Start) c.loop-rest.invariant.3
+          (free_one (goal.at.loop-rest-preserved-then-not-blocked c).After-blocked c.if-not-blocked.true),
     )
 
 pub returns : goal.returns

@@ -103,7 +103,8 @@ admitted-requires c =
     let v = c.requires.standing in record {
       q_nonzero = ((v.wide, v.few, v.listed), c.requires.bounds.0);
       second_fits = (
-        second_asked (kind_by c.args.kind) c.args.q (asked c.args.stack.now c.args.list.now c.args.second.now c.args.height c.args.found c.args.other) v.listed₂,
+        second_asked (kind_by c.args.kind) c.args.q
+            (asked c.args.stack.now c.args.list.now c.args.second.now c.args.height c.args.found c.args.other) v.listed₂,
         long
             (goal.at.admitted-requires c).Start,
         c.candidate_marks-left.ensures.below,

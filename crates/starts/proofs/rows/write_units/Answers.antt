@@ -43,4 +43,5 @@ loop-k-preserved c =
 
 pub returns : goal.returns
 returns c =
-    rw (c.loop-k.invariant.1, le_antisymm c.loop-k.auto.k-end c.loop-k-test.false, cleared_is (goal.at.returns c).After-fill) (units_cleared c.args.q c.args.stack.now c.requires.1)
+    rw (c.loop-k.invariant.1, le_antisymm c.loop-k.auto.k-end c.loop-k-test.false, cleared_is (goal.at.returns c).After-fill)
+    (units_cleared c.args.q c.args.stack.now c.requires.1)

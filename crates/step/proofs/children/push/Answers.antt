@@ -1,6 +1,7 @@
 -- `push` meets its contract: the first child is its parent's row with one component raised. Assumes nothing.
 use mathlib.Core.Path.{◌≡◌, refl, ◌∙◌, ap}
 use mathlib.Core.Bool.{false}
+use mathlib.Core.List.{List}
 use Prim.Native.Nat.{ℕ, ◌+◌, ◌*◌, ◌≤◌, ◌<◌}
 use native.Mathlib.Omega.{arith}
 use lib.Count.{count_trailing_zeros}
@@ -17,11 +18,11 @@ use Rattle.step.proofs.Totals.{total_fits, totals_row}
 use Rattle.products.specs.Totals.{totals_less}
 use Rattle.step.proofs.Pushed.{raise_row, none_pushed}
 use Rattle.step.proofs.children.push.Goals as goal
-use Rattle.step.proofs.children.push.Goals.{After-push_others-height, Else-made-eq0, Start}
+use Rattle.step.proofs.children.push.Goals.{After-push_others-height, Else-made-eq0}
 
 -- the parent's tuple
-abbrev x : Start → ℕ → ℕ
-x s = at s.args.stack.now (s.args.q + 1) s.args.level
+abbrev x : List ℕ → (q level : ℕ) → ℕ → ℕ
+x stack q level = at stack (q + 1) level
 
 module _ (e : Else-made-eq0) where
   some : 0 < e.args.made
@@ -39,19 +40,19 @@ module _ (w : After-push_others-height) where
   row_room = omega (arith, row_fits (w.args.q + 1) _ _ level_low, w.requires.parent.0.long, w.push_others-height.auto.stack)
 
   component : get_or w.push_others-height.new.stack (w.args.level * (w.args.q + 1) + count_trailing_zeros 32 w.args.made) 0
-      ≡ x w.before.before.before.before.before.before.before.before (count_trailing_zeros 32 w.args.made)
+      ≡ x w.args.stack.now w.args.q w.args.level (count_trailing_zeros 32 w.args.made)
   component = w.push_others-height.ensures.row.tuple _
       (next_inside (left_all _ _ w.requires.made_bound.1) w.requires.parent.0.few (omega (arith, w.if-made-eq0.false)))
 
 -- the parent's sum
 sum_is : (w : After-push_others-height) → get_or w.push_others-height.new.sums w.args.level 0
-    ≡ total (x w.before.before.before.before.before.before.before.before) w.args.q
+    ≡ total (x w.args.stack.now w.args.q w.args.level) w.args.q
 sum_is w = let o = w.push_others-height.ensures in o.summed.levels _ o.above ∙ total_same _ _ w.args.q o.row.tuple
 
 pub returns-then-made-eq0 : goal.returns-then-made-eq0
 returns-then-made-eq0 c =
     let none : (j : ℕ) → 0 ≤ j → j < c.args.q → frozen c.args.made j ≡ false = λ j _ _. rw c.if-made-eq0.true (is_false (frozen 0 j) (frozen_none j)) in
-    let (a, b) = none_pushed c.args.q c.args.stack.now c.args.level (x (goal.at.returns-then-made-eq0 c).Start) c.args.marks (frozen c.args.made) none in
+    let (a, b) = none_pushed c.args.q c.args.stack.now c.args.level (x c.args.stack.now c.args.q c.args.level) c.args.marks (frozen c.args.made) none in
     record {
       value = a;
       stack_after = b;
@@ -131,13 +132,13 @@ returns c =
     let inside = first_inside (goal.at.returns c).Else-made-eq0 in
     let raised = ap (λ y. set c.push_others-height.new.stack (c.args.level * (c.args.q + 1) + count_trailing_zeros 32 c.args.made) (y + 1))
     (component (goal.at.returns c).After-push_others-height)
-    ∙ raise_row c.args.q c.push_others-height.new.stack c.args.level (x (goal.at.returns c).Start) c.args.marks _ o.row inside in record {
+    ∙ raise_row c.args.q c.push_others-height.new.stack c.args.level (x c.args.stack.now c.args.q c.args.level) c.args.marks _ o.row inside in record {
       value = o.height;
       stack_after = raised ∙ o.rows;
       combined = rw raised (combined_over (level_products o.cached o.above o.row.tuple) o.above _ inside c.args.marks c.requires.parent.0.few
           (row_room (goal.at.returns c).After-push_others-height)
           o.cached c.write_child.ensures);
-      totals = rw raised (totals_row (x (goal.at.returns c).Start) (λ k kh ne. kh)
+      totals = rw raised (totals_row (x c.args.stack.now c.args.q c.args.level) (λ k kh ne. kh)
           (omega (arith, level_low (goal.at.returns c).After-push_others-height, c.requires.parent.0.few)) _ inside c.args.marks
           (row_room (goal.at.returns c).After-push_others-height) (sum_is (goal.at.returns c).After-push_others-height) o.summed);
     }
