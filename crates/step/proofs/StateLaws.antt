@@ -1,6 +1,6 @@
 -- A step's children, as code finds and writes them, are those of the state: with the top's tuple, inner products and children's marks in the
 -- hands of code, each test and each table is that of the definitions. Assumes nothing.
-use Rattle.std.specs.Prelude.{◌≡◌, Bool, not, ◌&&◌, List, ℕ, zero, ◌<◌, eqb, ℤ, pos}
+use Rattle.std.specs.Prelude.{◌≡◌, Bool, not, ◌&&◌, List, ℕ, ◌<◌, eqb, ℤ, pos}
 use Rattle.std.proofs.Math.Path.{sym, ap}
 use Rattle.std.proofs.Common.{◌∙◌}
 use Rattle.std.proofs.Math.Numerals.{add-one}

@@ -4,7 +4,7 @@ use Rattle.std.specs.Prelude.{◌≡◌, ◌≢◌, List, ℕ, ◌+◌, ◌*◌,
 use Rattle.definitions.specs.Answers.{Check, refuse, go}
 use Rattle.definitions.specs.System.{Kind, System, most_component, most_unknowns}
 use Rattle.definitions.specs.Tables.{RunKind, State, capacity, stepped}
-use Rattle.definitions.specs.Step.{deeper, level, listed, row_width, step, top}
+use Rattle.definitions.specs.Step.{deeper, level, row_width, step, top}
 use Rattle.definitions.specs.Refusals.{search_checks, step_limit}
 use Rattle.laws.specs.RefusalLaws.{RowInOrder, SecondFits}
 use Rattle.calls.specs.Paper.{system_with, number_of, values_of}

@@ -1,13 +1,13 @@
 -- `take` meets its contract: each way out is one of `TakeLaws`. Assumes nothing.
 use mathlib.Core.Path.{◌≡◌, refl, sym, ◌∙◌}
 use mathlib.Core.Bool.{false}
-use mathlib.Core.List.{List, [], ◌++◌}
-use Prim.Native.Nat.{ℕ, ◌+◌, ◌*◌, ◌-◌, ◌≤◌, ◌<◌}
+use mathlib.Core.List.{List, ◌++◌}
+use Prim.Native.Nat.{ℕ, ◌+◌, ◌*◌, ◌-◌, ◌≤◌}
 use native.Mathlib.Omega.{arith}
 use lib.ListN.{length, take, drop, length-take, length-drop}
 use Rattle.linear.specs.Tests.{all_to}
 use Rattle.calls.proofs.CallLaws.{handed_on}
-use Rattle.definitions.specs.System.{Kind, is_zero}
+use Rattle.definitions.specs.System.{is_zero}
 use Rattle.definitions.specs.Tables.{State}
 use Rattle.table_rows.specs.Rows.{Holds, tuple}
 use Rattle.table_rows.proofs.RowsTheorems.{part_holds}
