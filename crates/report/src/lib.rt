@@ -9,14 +9,15 @@ ghost use Rattle.report_spec.specs.Printed as paper;
 ghost use Rattle.texts.specs.Put.{Put};
 
 use calls::{Answer, Outcome, Record, Solutions, Steps};
-use map_text::{Read, TextRefusal};
+use map_text::TextRefusal;
 
 mod lines; // lines.rt: lines of the report
 
 // The budget of the program's one continuing call.
 const BUDGET: u64 = 1000000;
 
-// Writes the report on `text` to the beginning of `out`, and returns how many bytes it has.
+// Writes the report on `text` to the beginning of `out`, and returns how many bytes it has. There is no heap: the caller lends the buffer, and every
+// writer below takes the place to write at and returns the place after it.
 pub fn report(text: &[u8], out: &mut [u8; 91000]) -> usize
     ensures out_after { take result out.new ≡ paper.printed text.now }
     ensures out_unchanged { drop result out.new ≡ drop result out.old }
@@ -24,10 +25,10 @@ pub fn report(text: &[u8], out: &mut [u8; 91000]) -> usize
 {
     let mut coefs = [0i32; 128];
     match map_text::read_map(text, &mut coefs) {
-        Read::Refused(why) => refused(out, why),
-        Read::Map { p, q } => {
-            let n = p * q;
-            solved(out, p, q, &coefs[..n])
+        Err(why) => refused(out, why),
+        Ok(map) => {
+            let n = map.p * map.q;
+            solved(out, map.p, map.q, &coefs[..n])
         }
     }
 }

@@ -36,11 +36,8 @@ fn row(out: &mut [u8], at: usize, numbers: &[u32]) -> usize
     ensures upper_bound { result ≤ at + 11 * length numbers.now }
 {
     let mut next = at;
-    let mut i = 0;
-    while i < numbers.len() {
-        let n = numbers[i];
-        i += 1;
-        next = field(out, next, n, numbers.len() - i);
+    for (i, n) in numbers.iter().enumerate() {
+        next = field(out, next, *n, numbers.len() - (i + 1));
     }
     next
 }
@@ -62,11 +59,9 @@ pub fn rows(out: &mut [u8], at: usize, list: &[u32], found: usize, q: usize) -> 
     ensures upper_bound { result ≤ at + 11 * (found * q) }
 {
     let mut next = at;
-    let mut k = 0;
-    while k < found {
+    for k in 0..found {
         let base = k * q;
         next = row(out, next, &list[base..base + q]);
-        k += 1;
     }
     next
 }

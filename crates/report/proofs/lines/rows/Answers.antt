@@ -8,7 +8,7 @@ use Rattle.report.specs.Rows.{part_size, rows_next, rows_done}
 use Rattle.report.proofs.lines.rows.Goals as goal
 
 pub loop-k-init : goal.loop-k-init
-loop-k-init c = (search rules, search rules, rw (sub-zero, zero-mul) (rest_begins _ _ _))
+loop-k-init c = (search rules, rw (sub-zero, zero-mul) (rest_begins _ _ _))
 
 pub overflow_mul-base : goal.overflow_mul-base
 overflow_mul-base c = omega (arith, row_fits c.args.q c.loop-k.k c.args.found c.loop-k-test.true)
@@ -40,9 +40,8 @@ row-next-requires c =
 pub loop-k-preserved : goal.loop-k-preserved
 loop-k-preserved c =
     let a = c.args in (
-      search rules,
       omega (arith, c.row-next.ensures.upper_bound, part_size a.list.now a.q a.found c.loop-k.k (search rules) (search rules)),
-      rest_next (rw (rows_next a.list.now a.q a.found c.loop-k.k (search rules)) at c.loop-k.invariant.2) c.row-next.ensures.put,
+      rest_next (rw (rows_next a.list.now a.q a.found c.loop-k.k (search rules)) at c.loop-k.invariant.1) c.row-next.ensures.put,
     )
 
 pub returns : goal.returns
@@ -50,6 +49,6 @@ returns c =
     let l = c.loop-k in
     let a = c.args in
     record {
-      put = rest_ends (rw (rows_done a.list.now a.q a.found l.k c.loop-k-test.false) at l.invariant.2);
-      upper_bound = rw (← le_antisymm l.invariant.0 c.loop-k-test.false) l.invariant.1;
+      put = rest_ends (rw (rows_done a.list.now a.q a.found l.k c.loop-k-test.false) at l.invariant.1);
+      upper_bound = rw (← le_antisymm l.auto.k-end c.loop-k-test.false) l.invariant.0;
     }

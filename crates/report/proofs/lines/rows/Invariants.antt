@@ -9,8 +9,5 @@ use Rattle.report.proofs.lines.rows.Given as goal
 
 abbrev pub invariant-loop-k : goal.invariant-loop-k
 invariant-loop-k l =
-    (l.k ≤ l.found) × (l.next ≤ l.at + 11 * (l.k * l.q))
+    (l.next ≤ l.at + 11 * (l.k * l.q))
     × Rest l.initial.out l.at (lines l.found l.q (map pos l.list)) l.out l.next (lines (l.found - l.k) l.q (map pos (drop (l.k * l.q) l.list)))
-
-abbrev pub decreases-loop-k : goal.decreases-loop-k
-decreases-loop-k l = l.found - l.k
