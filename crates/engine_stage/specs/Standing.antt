@@ -1,5 +1,5 @@
 -- What code has of a stage, and what a turn leaves. Assumes nothing.
-use Rattle.std.specs.Prelude.{◌≡◌, refl, Bool, true, false, List, ℕ, ◌+◌, ◌*◌, ◌≤◌, ◌<◌, ℤ, pos, get_or, length, set}
+use Rattle.std.specs.Prelude.{Result, Ok, Err, ◌≡◌, refl, Bool, true, false, List, ℕ, ◌+◌, ◌*◌, ◌≤◌, ◌<◌, ℤ, pos, get_or, length, set}
 use Rattle.std.proofs.Common.{sym, inl, inr, arith, length-set, get_or-set_other, get_or-set_same}
 use Rattle.linear.proofs.Cases.{split}
 use Rattle.linear.specs.Systems.{value}
@@ -22,8 +22,8 @@ use Rattle.engine_search.specs.Places.{Falling, Ranked, degree_of}
 use Rattle.engine_reduce.specs.Sums.{never}
 use Rattle.engine_stage.specs.declared.turns.Frame.{Frame}
 use Rattle.engine_stage.specs.declared.turns.Next.{Next}
-use Rattle.engine_stage.specs.declared.turns.Turned as code
-use Rattle.engine_stage.specs.declared.turns.Turned.TheVariants.{Ends, Full, Goes, Large, Late}
+use Rattle.engine_stage.specs.declared.turns.Stop.{Stop}
+use Rattle.engine_stage.specs.declared.turns.Stop.TheVariants.{Ends, Full, Large, Late}
 
 -- the tables beside the rows
 pub record Sides : Type 0 where
@@ -131,12 +131,16 @@ pub record Still (t u : Turned) (table table' : List ℕ) (x x' : Sides) : Type 
   pub same : table' ≡ table
   pub aside : x' ≡ x
 
-abbrev pub Left : (f : Frame) (l : Lent) (t : Turned) (n : ℕ) (table : List ℕ) (x : Sides) → code.Turned → (table' : List ℕ) (x' : Sides) → Type 0
-Left f l t n table x (Goes s') table' x' = Gone f l t n table x s' table' x'
-Left f l t n table x Late table' x' = Still t (stops 14) table table' x x'
-Left f l t n table x Large table' x' = Still t (stops 12) table table' x x'
-Left f l t n table x Full table' x' = Still t (stops 31) table table' x x'
-Left f l t n table x Ends table' x' = Still t ends table table' x x'
+-- the turn that stops so
+abbrev pub stopped : Stop → Turned
+stopped Late = stops 14
+stopped Large = stops 12
+stopped Full = stops 31
+stopped Ends = ends
+
+abbrev pub Left : (f : Frame) (l : Lent) (t : Turned) (n : ℕ) (table : List ℕ) (x : Sides) → Result Next Stop → (table' : List ℕ) (x' : Sides) → Type 0
+Left f l t n table x (Ok s') table' x' = Gone f l t n table x s' table' x'
+Left f l t n table x (Err e) table' x' = Still t (stopped e) table table' x x'
 
 -- ---- rows appended and passed
 

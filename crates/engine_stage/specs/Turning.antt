@@ -1,5 +1,5 @@
 -- What each way through a turn leaves. Assumes nothing.
-use Rattle.std.specs.Prelude.{◌≡◌, List, ℕ, ◌+◌, ◌*◌, ◌≤◌, ◌<◌, ◌≢◌, T, eqb, ltb, ℤ, ◌+ℤ◌, get_or, set}
+use Rattle.std.specs.Prelude.{Option, MatchOption, ◌≡◌, List, ℕ, ◌+◌, ◌*◌, ◌≤◌, ◌<◌, ◌≢◌, T, eqb, ltb, ℤ, ◌+ℤ◌, get_or, set}
 use Rattle.std.proofs.Math.Path.{refl}
 use Rattle.std.proofs.Common.{sym, ◌∙◌, arith, eqb→eq, ltb→lt, lt→ltb}
 use Rattle.std.proofs.Math.Bool.{true, false}
@@ -23,7 +23,7 @@ use Rattle.engine_spec.proofs.Tests.{due_pair, is_due_lem, next_above}
 use Rattle.engine_reduce.specs.Sums.{integer_at, never}
 use Rattle.engine_search.specs.Agree.{due_row_by, next_degree_by_lem, none_by, pair_by}
 use Rattle.engine_search.specs.Falls.{falling_start}
-use Rattle.engine_search.specs.Places.{Falling, Found, degree_of, next_degree_by, value_of}
+use Rattle.engine_search.specs.Places.{Falling, IsNext, degree_of, next_degree_by, upper_of, value_of}
 use Rattle.laws.proofs.TableLaws.{row_fits, write_length}
 use Rattle.engine_rows.specs.Marking.{valued_bounded}
 use Rattle.engine_stage.specs.Appended.{PairAppended, PairFits, Room, RowAppended}
@@ -297,9 +297,8 @@ module _ {f : Frame} {l : Lent} {table : List ℕ} {values : List ℤ} {words de
 -- ---- what is found is due
 
 -- the row of the basis that is next, or none
-pub record RowFound (m first r : ℕ) : Type 0 where
-  pub here : r < m → r ≡ first
-  pub none : m ≤ r → m ≤ first
+abbrev pub RowFound : (m first : ℕ) → Option ℕ → Type 0
+RowFound m first r = MatchOption r (m ≤ first) (λ i. (i < m) × (i ≡ first))
 
 module _ {f : Frame} {l : Lent} {table : List ℕ} {x : Sides} {s : Next} (r : Ready f l table x s) where
   abbrev due_at : ℕ
@@ -316,11 +315,11 @@ module _ {f : Frame} {l : Lent} {table : List ℕ} {x : Sides} {s : Next} (r : R
       record { early = omega (arith, r.early, ne); low = low; exact = rw (← e) at (sym (r.given.sized.each due_at (omega arith)) ∙ exact) }
 
   pub pair_due : {h k first : ℕ} → s.steps ≢ step_limit → f.m ≤ due_row f.q f.m (at l.basis f.q) (stage_of f table s)
-      → Found s.rows x.values x.degrees s.degree s.upper s.lower h k first → h < s.rows
+      → IsNext s.rows x.values x.degrees s.degree s.upper s.lower h k first → h < s.rows
       → PairDue f l table x.degrees s h k first
   pair_due {h} {k} {first} ne spent found less =
       let c = equation f l in
-      let (up, low) = pair_by (stage_of f table s) r.valued r.measured found less in
+      let (up, low) = pair_by (stage_of f table s) r.valued r.measured less found in
       let (inside, due) =
       pair_found s.rows (is_due f.q c (at table f.q) s.degree) s.upper s.lower (rw (← up) at less) in
       record {
@@ -329,7 +328,7 @@ module _ {f : Frame} {l : Lent} {table : List ℕ} {x : Sides} {s : Next} (r : R
         lower = rw low at inside;
         signs = rw (low, up) at (due_pair f.q c (at table f.q) (above f.q c (stage_of f table s)) (below f.q c (stage_of f table s)) s.degree due);
         exact = rw (low, up) at (is_due_lem f.q c (at table f.q) (above f.q c (stage_of f table s)) (below f.q c (stage_of f table s)) s.degree due);
-        falling = (found.pair less).falling;
+        falling = found.falling;
         spent = spent;
       }
 
@@ -338,24 +337,24 @@ module _ {f : Frame} {l : Lent} {table : List ℕ} {x : Sides} {s : Next} (r : R
   pub by_late : s.steps ≡ step_limit → Still (turn_of f l table s) (stops 14) table table x x
   by_late e = record { is = turn_late f l table s e; same = refl; aside = refl }
 
-  pub spent_by : {r' : ℕ} → RowFound f.m due_at r' → f.m ≤ r' → f.m ≤ due_row f.q f.m (at l.basis f.q) (stage_of f table s)
-  spent_by g past = rw row_is at (g.none past)
+  pub spent_by : f.m ≤ due_at → f.m ≤ due_row f.q f.m (at l.basis f.q) (stage_of f table s)
+  spent_by past = rw row_is at past
 
-  pub by_row : {i : ℕ} → s.steps ≢ step_limit → RowFound f.m due_at i → i < f.m
+  pub by_row : {i : ℕ} → s.steps ≢ step_limit → i ≡ due_at → i < f.m
       → turn_of f l table s ≡ row_turn f.q (at l.basis f.q) f.room (stage_of f table s) i
-  by_row {i} ne g low = turn_row f l table s (eqb_no s.steps step_limit ne) i (sym (g.here low ∙ row_is)) (ltb_yes i f.m low)
+  by_row {i} ne e low = turn_row f l table s (eqb_no s.steps step_limit ne) i (sym (e ∙ row_is)) (ltb_yes i f.m low)
 
   module _ (ne : s.steps ≢ step_limit) (spent : f.m ≤ due_row f.q f.m (at l.basis f.q) (stage_of f table s)) where
     abbrev no_row : ltb (due_row f.q f.m (at l.basis f.q) (stage_of f table s)) f.m ≡ false
     no_row = ltb_no (due_row f.q f.m (at l.basis f.q) (stage_of f table s)) f.m spent
 
-    pub by_pair : {h k first : ℕ} → Found s.rows x.values x.degrees s.degree s.upper s.lower h k first → h < s.rows
+    pub by_pair : {h k first : ℕ} → IsNext s.rows x.values x.degrees s.degree s.upper s.lower h k first → h < s.rows
         → turn_of f l table s ≡ pair_turn f.q (equation f l) f.room (stage_of f table s) h k
     by_pair {h} {k} found less =
-        let (up, low) = pair_by (stage_of f table s) r.valued r.measured found less in
+        let (up, low) = pair_by (stage_of f table s) r.valued r.measured less found in
         turn_pair f l table s (eqb_no s.steps step_limit ne) no_row h k up low (ltb_yes h s.rows less)
 
-    module _ {h k first d : ℕ} (found : Found s.rows x.values x.degrees s.degree s.upper s.lower h k first) (past : s.rows ≤ h)
+    module _ {d : ℕ} (past : s.rows ≤ upper_of s.rows x.values x.degrees s.degree s.upper s.lower)
         (d_is : d ≡ next_degree_by s.degree f.m (degree_of l.sizes) s.rows (value_of x.values) (degree_of x.degrees)) where
       next_is : next_degree f.q (equation f l) f.m (at l.basis f.q) (stage_of f table s) ≡ d
       next_is = sym (d_is ∙ next_degree_by_lem (stage_of f table s) r.valued r.measured r.given.sized)
@@ -363,7 +362,7 @@ module _ {f : Frame} {l : Lent} {table : List ℕ} {x : Sides} {s : Next} (r : R
       by_degree : turn_of f l table s ≡ degree_turn d (stage_of f table s)
       by_degree =
           turn_degree f l table s (eqb_no s.steps step_limit ne) no_row
-          (ltb_no _ s.rows (none_by (stage_of f table s) r.valued r.measured found past)) d next_is
+          (ltb_no _ s.rows (none_by (stage_of f table s) r.valued r.measured past)) d next_is
 
       pub by_end : d ≡ 0 → Still (turn_of f l table s) ends table table x x
       by_end e = rw by_degree (degree_ends r d e)

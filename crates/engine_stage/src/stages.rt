@@ -4,22 +4,12 @@ ghost use Rattle.engine_stage.specs.Running.{RunLeft, ran_of};
 ghost use Rattle.engine_stage.specs.Standing.{Ready, lent_of, sides_of};
 
 use crate::turns;
-use crate::turns::{Frame, Next, Turned};
+use crate::turns::{Frame, Next, Stop};
 
-// How a loop over turns ended: the budget is used up; refused with 14, 12 or 31; or the stage is at its end.
-#[derive(Clone, Copy)]
-pub enum Ending {
-    Paused,
-    Late,
-    Large,
-    Full,
-    Ends,
-}
-
-// How it ended, and where the stage stands.
+// Where a stage stands after a loop over turns, and why it stopped there; nothing did where the budget is used up.
 #[derive(Clone, Copy)]
 pub struct Ran {
-    pub ending: Ending,
+    pub stopped: Option<Stop>,
     pub next: Next,
 }
 
@@ -47,8 +37,7 @@ pub fn run(
     let mut held = [0u64; 768];
     let mut places = [0u32; 66560];
     let mut at = s;
-    let mut left = budget;
-    while 0 < left {
+    for _ in 0..budget {
         match turns::turn(
             f,
             coefs,
@@ -64,21 +53,15 @@ pub fn run(
             &mut places,
             at,
         ) {
-            Turned::Goes(next) => {
-                at = next;
-                left -= 1;
-            }
-            Turned::Late => return ended(Ending::Late, at),
-            Turned::Large => return ended(Ending::Large, at),
-            Turned::Full => return ended(Ending::Full, at),
-            Turned::Ends => return ended(Ending::Ends, at),
+            Ok(next) => at = next,
+            Err(stop) => return ended(Some(stop), at),
         }
     }
-    ended(Ending::Paused, at)
+    ended(None, at)
 }
 
-fn ended(ending: Ending, next: Next) -> Ran
-    ensures { result ≡ ran_of ending next }
+fn ended(stopped: Option<Stop>, next: Next) -> Ran
+    ensures { result ≡ ran_of stopped next }
 {
-    Ran { ending, next }
+    Ran { stopped, next }
 }

@@ -27,6 +27,7 @@ pub struct Frame {
 
 // Where a stage stands: its rows, the row of the basis that is next, the degree under way, the pair that is next, the steps; from row `first` on no degree is
 // below what the degree of `upper` leaves; and whether a row of the basis of this degree may be left.
+// `first` has a meaning whether `more` is set or not, so the two stay two fields.
 #[derive(Clone, Copy)]
 pub struct Next {
     pub rows: usize,
@@ -39,10 +40,9 @@ pub struct Next {
     pub more: bool,
 }
 
-// What a turn came to: 14, 12 and 31 stop it.
+// Why a stage stops: refused with 14, 12 or 31, or at its end.
 #[derive(Clone, Copy)]
-pub enum Turned {
-    Goes(Next),
+pub enum Stop {
     Late,
     Large,
     Full,
@@ -64,7 +64,7 @@ pub fn turn(
     held: &mut [u64; 768],
     places: &mut [u32; 66560],
     s: Next,
-) -> Turned
+) -> Result<Next, Stop>
     requires { Ready f (lent_of coefs.now basis.now sizes.now) table.old
         (sides_of values.old words.old degrees.old marks.old mothers.old) s }
     ensures { Left f (lent_of coefs.now basis.now sizes.now)
@@ -72,58 +72,49 @@ pub fn turn(
         (sides_of values.old words.old degrees.old marks.old mothers.old) result table.new
         (sides_of values.new words.new degrees.new marks.new mothers.new) }
 {
-    let m = f.m;
     let n = s.rows;
     let d = s.degree;
     if s.steps == calls::STEP_LIMIT {
-        return Turned::Late;
+        return Err(Stop::Late);
     }
-    let i = due(sizes, m, s.taken, d, s.more);
-    if i < m {
+    if let Some(i) = due(sizes, f.m, s.taken, d, s.more) {
         return row_turn(
             f, coefs, basis, sizes, table, values, words, degrees, marks, mothers, places, s, i,
         );
     }
-    let at = engine_search::next_pair(
-        values,
-        degrees,
-        n,
-        d,
-        Place {
-            upper: s.upper,
-            lower: s.lower,
-            first: s.first,
-        },
-    );
-    if at.upper < n {
+    let from = Place {
+        upper: s.upper,
+        lower: s.lower,
+        first: s.first,
+    };
+    if let Some(at) = engine_search::next_pair(values, degrees, n, d, from) {
         return pair_turn(
             f, coefs, basis, sizes, table, values, words, degrees, marks, mothers, held, places, s,
             at,
         );
     }
-    let next = engine_search::next_degree(values, degrees, n, sizes, m, d);
-    if next == 0 {
-        return Turned::Ends;
+    match engine_search::next_degree(values, degrees, n, sizes, f.m, d) {
+        Some(next) => Ok(Next {
+            rows: n,
+            taken: 0,
+            degree: next,
+            upper: 0,
+            lower: 0,
+            steps: s.steps + 1,
+            first: n,
+            more: true,
+        }),
+        None => Err(Stop::Ends),
     }
-    Turned::Goes(Next {
-        rows: n,
-        taken: 0,
-        degree: next,
-        upper: 0,
-        lower: 0,
-        steps: s.steps + 1,
-        first: n,
-        more: true,
-    })
 }
 
-// The row of the basis that is due; at least m where there is none. `more` says that there may be one.
-fn due(sizes: &[u32], m: usize, from: usize, d: u64, more: bool) -> usize
+// The row of the basis that is due. `more` says that there may be one.
+fn due(sizes: &[u32], m: usize, from: usize, d: u64, more: bool) -> Option<usize>
     requires { (m ≤ length sizes.now) × (more ≡ false → m ≤ first_in m from (λ i. eqb (degree_of sizes.now i) d)) }
     ensures { RowFound m (first_in m from (λ i. eqb (degree_of sizes.now i) d)) result }
 {
     if !more {
-        return m;
+        return None;
     }
     engine_search::due_row(sizes, m, from, d)
 }
@@ -143,7 +134,7 @@ fn row_turn(
     places: &mut [u32; 66560],
     s: Next,
     i: usize,
-) -> Turned
+) -> Result<Next, Stop>
     requires { Ready f (lent_of coefs.now basis.now sizes.now) table.old
         (sides_of values.old words.old degrees.old marks.old mothers.old) s × RowDue f (lent_of coefs.now basis.now sizes.now) s i }
     ensures { Left f (lent_of coefs.now basis.now sizes.now)
@@ -153,9 +144,8 @@ fn row_turn(
 {
     let q = f.q;
     let n = s.rows;
-    let d = s.degree;
     if f.room <= n {
-        return Turned::Full;
+        return Err(Stop::Full);
     }
     let word = fields::word_at(basis, i * q, q);
     append::append_row(
@@ -163,15 +153,13 @@ fn row_turn(
         sizes[i],
     );
     memory::appended(places, n, word);
-    Turned::Goes(Next {
+    Ok(Next {
         rows: n + 1,
         taken: i + 1,
-        degree: d,
-        upper: s.upper,
-        lower: s.lower,
         steps: s.steps + 1,
         first: n + 1,
         more: true,
+        ..s
     })
 }
 
@@ -191,7 +179,7 @@ fn pair_turn(
     places: &mut [u32; 66560],
     s: Next,
     at: Place,
-) -> Turned
+) -> Result<Next, Stop>
     requires { Ready f (lent_of coefs.now basis.now sizes.now) table.old
         (sides_of values.old words.old degrees.old marks.old mothers.old) s
         × PairDue f (lent_of coefs.now basis.now sizes.now) table.old degrees.old s at.upper at.lower at.first }
@@ -206,38 +194,31 @@ fn pair_turn(
     let h = at.upper;
     let k = at.lower;
     let word = fields::joined(words[h], words[k]);
-    if tests::needless(
-        f.cap, coefs, f.from, table, values, words, marks, n, q, h, k, word, held, places,
-    ) {
-        return Turned::Goes(Next {
-            rows: n,
-            taken: s.taken,
-            degree: s.degree,
-            upper: h,
-            lower: k + 1,
-            steps: s.steps + 1,
-            first: at.first,
-            more: false,
-        });
-    }
-    if !rows::small_sum(table, h * q, k * q, q) {
-        return Turned::Large;
-    }
-    if f.room <= n {
-        return Turned::Full;
-    }
-    append::append_pair(
-        table, values, words, degrees, marks, mothers, n, q, h, k, word,
-    );
-    memory::appended(places, n, word);
-    Turned::Goes(Next {
-        rows: n + 1,
-        taken: s.taken,
-        degree: s.degree,
+    let passed = Next {
         upper: h,
         lower: k + 1,
         steps: s.steps + 1,
         first: at.first,
         more: false,
+        ..s
+    };
+    if tests::needless(
+        f.cap, coefs, f.from, table, values, words, marks, n, q, h, k, word, held, places,
+    ) {
+        return Ok(passed);
+    }
+    if !rows::small_sum(table, h * q, k * q, q) {
+        return Err(Stop::Large);
+    }
+    if f.room <= n {
+        return Err(Stop::Full);
+    }
+    append::append_pair(
+        table, values, words, degrees, marks, mothers, n, q, h, k, word,
+    );
+    memory::appended(places, n, word);
+    Ok(Next {
+        rows: n + 1,
+        ..passed
     })
 }

@@ -23,11 +23,11 @@ needless-requires c =
     let p = pair_paired c.requires.0 c.requires.1 in
     (p, word_is p c.joined-word.ensures, c.requires.0.given.some)
 
-pub overflow_add-result : goal.overflow_add-result
-overflow_add-result c = omega (arith, c.requires.1.lower, c.requires.0.few, c.requires.0.roomy.few)
+pub overflow_add-passed : goal.overflow_add-passed
+overflow_add-passed c = omega (arith, c.requires.1.lower, c.requires.0.few, c.requires.0.roomy.few)
 
-pub overflow_add-result-then-needless : goal.overflow_add-result-then-needless
-overflow_add-result-then-needless c = omega (arith, c.requires.1.early)
+pub overflow_add-passed-2 : goal.overflow_add-passed-2
+overflow_add-passed-2 c = omega (arith, c.requires.1.early)
 
 pub returns-then-needless : goal.returns-then-needless
 returns-then-needless c =
@@ -62,14 +62,8 @@ pub appended-requires : goal.appended-requires
 appended-requires c =
     omega (arith, c.requires.0.few, c.requires.0.roomy.few)
 
-pub overflow_add-result-2 : goal.overflow_add-result-2
-overflow_add-result-2 c = omega (arith, c.requires.0.few, c.requires.0.roomy.few)
-
-pub overflow_add-result-3 : goal.overflow_add-result-3
-overflow_add-result-3 c = omega (arith, c.requires.1.lower, c.requires.0.few, c.requires.0.roomy.few)
-
-pub overflow_add-result-4 : goal.overflow_add-result-4
-overflow_add-result-4 c = omega (arith, c.requires.1.early)
+pub overflow_add-result : goal.overflow_add-result
+overflow_add-result c = omega (arith, c.requires.0.few, c.requires.0.roomy.few)
 
 pub returns : goal.returns
 returns c =
