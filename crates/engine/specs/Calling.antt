@@ -1,5 +1,5 @@
 -- The calls by what their checks find. Assumes nothing.
-use Rattle.std.specs.Prelude.{◌≡◌, refl, ◌⊎◌, Bool, true, false, not, ◌&&◌, ◌||◌, List, ℕ, suc, ◌+◌, ◌*◌, ◌≤◌, eqb, leb, ℤ, length}
+use Rattle.std.specs.Prelude.{Result, Ok, Err, ◌≡◌, refl, ◌⊎◌, Bool, true, false, not, ◌&&◌, ◌||◌, List, ℕ, suc, ◌+◌, ◌*◌, ◌≤◌, eqb, leb, ℤ, length}
 use Rattle.std.proofs.Common.{◌∙◌, inl, inr, mul-le-mul, add-one, arith, leb-true, ltb-true}
 use Rattle.std.proofs.Math.Nat.{mul-le-mul_right}
 use Rattle.std.proofs.lemmas.Bool.{not-false}
@@ -8,15 +8,13 @@ use Rattle.linear.proofs.Cases.{order}
 use Rattle.definitions.specs.Answers as paper
 use Rattle.definitions.specs.Answers.{◌then◌}
 use Rattle.definitions.specs.System.{is_zero}
-use Rattle.laws.proofs.AnswerLaws.{refuse_if_go, then_assoc, then_go}
+use Rattle.laws.proofs.AnswerLaws.{refuse_if_go, then_go}
 use Rattle.laws.proofs.TableLaws.{row_fits}
 use Rattle.engine_spec.specs.Calls as spec
 use Rattle.engine_spec.specs.Engine.{Work}
 use Rattle.engine_spec.specs.StartSides.{start_sides}
 use Rattle.calls.specs.Paper.{check_of}
 use Rattle.calls.proofs.CallLaws.{passes}
-use Rattle.calls.specs.declared.Check.{Check}
-use Rattle.calls.specs.declared.Check.TheVariants.{Pass, Refuse}
 use Rattle.calls.specs.declared.Refusal.{Refusal}
 use Rattle.engine_beside.specs.Records.{call_passed, call_refused, lengths_of, outcome_of, refused_with, work_of}
 use Rattle.engine_beside.specs.declared.Beside.{Beside}
@@ -31,6 +29,7 @@ use Rattle.engine_checks.specs.Standing.{
   equation_small,
   left_below,
   standing,
+  standing_then_lem,
   stands,
   start_checks_lem,
   start_from_checks_lem,
@@ -68,15 +67,15 @@ roomed q basis table l =
 
 -- ---- the start
 
-module _ (p q : ℕ) (coefs equations : List ℤ) (basis table : List ℕ) (l : Beside) (r : Record) {made : Check} {most : ℕ}
+module _ (p q : ℕ) (coefs equations : List ℤ) (basis table : List ℕ) (l : Beside) (r : Record) {made : Result (Unit {0}) Refusal} {most : ℕ}
     (m : most ≡ spec.basis_room q (lengths_of basis table l)) (e : check_of made ≡ start_checks_by p q coefs most (length equations)) where
-  pub start_refused : {why : Refusal} → made ≡ Refuse why
+  pub start_refused : {why : Refusal} → made ≡ Err why
       → outcome_of (refused_with why r) equations basis table ≡ spec.start p q coefs (spec.basis_room q (lengths_of basis table l))
       (work_of equations basis table r)
   unfolding spec.start_under
   start_refused g = call_refused (rw m at (e ∙ start_checks_lem p q coefs most (work_of equations basis table r))) equations basis table r _ g
 
-  pub start_enters : made ≡ Pass → Fitting p q (length coefs) (length equations) (length basis)
+  pub start_enters : {nothing : Unit {0}} → made ≡ Ok nothing → Fitting p q (length coefs) (length equations) (length basis)
   start_enters g =
       let s = starts p q coefs most (length equations) (passes e g) in
       record {
@@ -86,7 +85,7 @@ module _ (p q : ℕ) (coefs equations : List ℤ) (basis table : List ℕ) (l : 
         few = omega (arith, mul-le-mul {n₁ = p} {m₁ = q} {n₂ = 32} {m₂ = 32} s.size.equations s.size.unknowns);
       }
 
-  pub start_passed : made ≡ Pass → {o : Outcome} {equations' : List ℤ} {basis' : List ℕ} → Begun p q coefs equations basis o equations' basis'
+  pub start_passed : {nothing : Unit {0}} → made ≡ Ok nothing → {o : Outcome} {equations' : List ℤ} {basis' : List ℕ} → Begun p q coefs equations basis o equations' basis'
       → outcome_of o equations' basis' table ≡ spec.start p q coefs (spec.basis_room q (lengths_of basis table l)) (work_of equations basis table r)
   unfolding spec.start_under
   start_passed g b = call_passed (rw m at (e ∙ start_checks_lem p q coefs most (work_of equations basis table r))) equations basis table r _ g
@@ -94,16 +93,16 @@ module _ (p q : ℕ) (coefs equations : List ℤ) (basis table : List ℕ) (l : 
 
 -- ---- the start from a list
 
-module _ (p q : ℕ) (coefs : List ℤ) (n : ℕ) (rows : List ℕ) (equations : List ℤ) (basis table : List ℕ) (l : Beside) (r : Record) {made : Check} {most : ℕ}
+module _ (p q : ℕ) (coefs : List ℤ) (n : ℕ) (rows : List ℕ) (equations : List ℤ) (basis table : List ℕ) (l : Beside) (r : Record) {made : Result (Unit {0}) Refusal} {most : ℕ}
     (m : most ≡ spec.basis_room q (lengths_of basis table l)) (e : check_of made ≡ start_from_checks_by p q coefs n rows most (length equations)) where
-  pub start_from_refused : {why : Refusal} → made ≡ Refuse why
+  pub start_from_refused : {why : Refusal} → made ≡ Err why
       → outcome_of (refused_with why r) equations basis table
       ≡ spec.start_from p q coefs n rows (spec.basis_room q (lengths_of basis table l)) (work_of equations basis table r)
   unfolding spec.start_from_under
   start_from_refused g =
       call_refused (rw m at (e ∙ start_from_checks_lem p q coefs n rows most (work_of equations basis table r))) equations basis table r _ g
 
-  pub start_from_enters : made ≡ Pass → FittingList p q (length coefs) n (length rows) (length equations) (length basis)
+  pub start_from_enters : {nothing : Unit {0}} → made ≡ Ok nothing → FittingList p q (length coefs) n (length rows) (length equations) (length basis)
   start_from_enters g =
       let (s, some, list) = starts_from p q coefs n rows most (length equations) (passes e g) in
       let few : n ≤ 1000000000 = omega (arith, rw m at some, (basis_few q (length basis) l.sizes).1) in
@@ -116,7 +115,7 @@ module _ (p q : ℕ) (coefs : List ℤ) (n : ℕ) (rows : List ℕ) (equations :
         some = omega (arith, mul-le-mul {n₁ = n} {m₁ = q} {n₂ = 1000000000} {m₂ = 32} few s.size.unknowns);
       }
 
-  pub start_from_passed : made ≡ Pass → {o : Outcome} {equations' : List ℤ} {basis' : List ℕ}
+  pub start_from_passed : {nothing : Unit {0}} → made ≡ Ok nothing → {o : Outcome} {equations' : List ℤ} {basis' : List ℕ}
       → BegunFrom p q coefs n rows equations basis o equations' basis'
       → outcome_of o equations' basis' table
       ≡ spec.start_from p q coefs n rows (spec.basis_room q (lengths_of basis table l)) (work_of equations basis table r)
@@ -127,16 +126,16 @@ module _ (p q : ℕ) (coefs : List ℤ) (n : ℕ) (rows : List ℕ) (equations :
 
 -- ---- the start for right sides and lower bounds
 
-module _ (p q : ℕ) (coefs rights : List ℤ) (lower : List ℕ) (equations : List ℤ) (basis table : List ℕ) (l : Beside) (r : Record) {made : Check}
+module _ (p q : ℕ) (coefs rights : List ℤ) (lower : List ℕ) (equations : List ℤ) (basis table : List ℕ) (l : Beside) (r : Record) {made : Result (Unit {0}) Refusal}
     (e : check_of made ≡ sides_checks_by p q coefs rights lower (length equations) (length basis) l.sizes) where
-  pub sides_refused : {why : Refusal} → made ≡ Refuse why
+  pub sides_refused : {why : Refusal} → made ≡ Err why
       → outcome_of (refused_with why r) equations basis table
       ≡ start_sides p q coefs rights lower (spec.basis_room (suc q) (lengths_of basis table l)) (work_of equations basis table r)
   unfolding start_sides
   sides_refused g =
       call_refused (e ∙ sides_checks_lem p q coefs rights lower (length basis) l.sizes (work_of equations basis table r)) equations basis table r _ g
 
-  pub sides_enters : made ≡ Pass → Extending p q coefs rights lower (length equations) × ((q + 1) * (q + 1) ≤ length basis)
+  pub sides_enters : {nothing : Unit {0}} → made ≡ Ok nothing → Extending p q coefs rights lower (length equations) × ((q + 1) * (q + 1) ≤ length basis)
   unfolding sides_checks_by
   sides_enters g =
       let (a, b) = then_go _ _ (passes e g) in
@@ -145,7 +144,7 @@ module _ (p q : ℕ) (coefs rights : List ℤ) (lower : List ℕ) (equations : L
         rw (add-one q) (omega (arith, basis_fits (suc q) (length basis) l.sizes, mul-le-mul_right (suc q) enough)),
       )
 
-  pub sides_passed : made ≡ Pass → {o : Outcome} {equations' : List ℤ} {basis' : List ℕ}
+  pub sides_passed : {nothing : Unit {0}} → made ≡ Ok nothing → {o : Outcome} {equations' : List ℤ} {basis' : List ℕ}
       → BegunSides p q coefs rights lower equations basis o equations' basis'
       → outcome_of o equations' basis' table
       ≡ start_sides p q coefs rights lower (spec.basis_room (suc q) (lengths_of basis table l)) (work_of equations basis table r)
@@ -157,13 +156,9 @@ module _ (p q : ℕ) (coefs rights : List ℤ) (lower : List ℕ) (equations : L
 -- ---- a row operation, and the begin of a stage
 
 module _ (p q most room : ℕ) (w : Work) where
-  standing_then_lem : (own : paper.Check) → standing p q most room w then own ≡ spec.standing_then p q most room w own
-  unfolding standing
-  standing_then_lem own = simp then_assoc
-
   standing_both : (own : paper.Check) → spec.standing_then p q most room w own ≡ paper.go → Stands p q most room w × (own ≡ paper.go)
   standing_both own e =
-      let (a, b) = then_go (standing p q most room w) own (standing_then_lem own ∙ e) in
+      let (a, b) = then_go (standing p q most room w) own (standing_then_lem p q most room w own ∙ e) in
       (stands p q most room w a, b)
 
 passed : (b : Bool) (n : ℕ) → paper.refuse_if (not b) n ≡ paper.go → b ≡ true
@@ -192,15 +187,15 @@ module _ (p q : ℕ) (equations : List ℤ) (basis table : List ℕ) (l : Beside
   pub lent_roomed : Roomed q most room (length basis) (length table)
   lent_roomed = rw (m, n) (roomed q basis table l)
 
-  module _ (r s : ℕ) (u t : ℤ) {made : Check} (e : check_of made ≡ spec.combine_checks p q most room r s u t (work_of equations basis table run)) where
-    pub combine_refused : {why : Refusal} → made ≡ Refuse why
+  module _ (r s : ℕ) (u t : ℤ) {made : Result (Unit {0}) Refusal} (e : check_of made ≡ spec.combine_checks p q most room r s u t (work_of equations basis table run)) where
+    pub combine_refused : {why : Refusal} → made ≡ Err why
         → outcome_of (refused_with why run) equations basis table
         ≡ spec.combine p q (spec.basis_room q (lengths_of basis table l)) (spec.stage_room q (lengths_of basis table l)) r s u t
         (work_of equations basis table run)
     unfolding spec.combine
     combine_refused g = rw (← m, ← n) (call_refused e equations basis table run _ g)
 
-    pub combine_enters : made ≡ Pass → Combines q (r * q) (s * q) u t equations
+    pub combine_enters : {nothing : Unit {0}} → made ≡ Ok nothing → Combines q (r * q) (s * q) u t equations
     unfolding spec.combine_checks spec.is_left spec.is_operation combines_small
     combine_enters g =
         let (z, own) = standing_both p q most room (work_of equations basis table run) _ (passes e g) in
@@ -216,27 +211,27 @@ module _ (p q : ℕ) (equations : List ℤ) (basis table : List ℕ) (l : Beside
           apart = apart_rows q r s;
         }
 
-    pub combine_passed : made ≡ Pass → {o : Outcome} {equations' : List ℤ} → Operated q r s u t equations run o equations'
+    pub combine_passed : {nothing : Unit {0}} → made ≡ Ok nothing → {o : Outcome} {equations' : List ℤ} → Operated q r s u t equations run o equations'
         → outcome_of o equations' basis table
         ≡ spec.combine p q (spec.basis_room q (lengths_of basis table l)) (spec.stage_room q (lengths_of basis table l)) r s u t
         (work_of equations basis table run)
     unfolding spec.combine
     combine_passed g b = rw (← m, ← n) (call_passed e equations basis table run _ g (operated_is basis table b))
 
-  module _ (a f : ℕ) {made : Check} (e : check_of made ≡ spec.take_checks p q most room a f (work_of equations basis table run)) where
-    pub take_refused : {why : Refusal} → made ≡ Refuse why
+  module _ (a f : ℕ) {made : Result (Unit {0}) Refusal} (e : check_of made ≡ spec.take_checks p q most room a f (work_of equations basis table run)) where
+    pub take_refused : {why : Refusal} → made ≡ Err why
         → outcome_of (refused_with why run) equations basis table
         ≡ spec.take p q (spec.basis_room q (lengths_of basis table l)) (spec.stage_room q (lengths_of basis table l)) a f (work_of equations basis table run)
     unfolding spec.take
     take_refused g = rw (← m, ← n) (call_refused e equations basis table run _ g)
 
-    pub take_enters : made ≡ Pass → run.count.0 * q ≤ length basis
+    pub take_enters : {nothing : Unit {0}} → made ≡ Ok nothing → run.count.0 * q ≤ length basis
     unfolding spec.take_checks
     take_enters g =
         let (z, own) = standing_both p q most room (work_of equations basis table run) _ (passes e g) in
         omega (arith, lent_roomed.long, mul-le-mul_right q (count_few p q most room (work_of equations basis table run) z.order))
 
-    pub take_passed : made ≡ Pass → {o : Outcome} {basis' : List ℕ} → Taken q a f basis run o basis'
+    pub take_passed : {nothing : Unit {0}} → made ≡ Ok nothing → {o : Outcome} {basis' : List ℕ} → Taken q a f basis run o basis'
         → outcome_of o equations basis' table
         ≡ spec.take p q (spec.basis_room q (lengths_of basis table l)) (spec.stage_room q (lengths_of basis table l)) a f (work_of equations basis table run)
     unfolding spec.take

@@ -7,7 +7,6 @@ ghost use Rattle.engine_spec.specs.Calls as spec;
 ghost use Rattle.engine_spec.specs.StartSides.{start_sides};
 ghost use Rattle.engine_beside.specs.Records.{lengths_of, outcome_of, work_of};
 
-use calls::Check;
 use engine_begins::begins;
 use engine_beside::{Beside, Outcome, Record};
 use engine_checks::{room as capacity, sides, standing};
@@ -29,8 +28,8 @@ pub fn start(
 {
     let most = capacity::basis_room(q, basis.len(), l.sizes);
     match standing::check_start(p, q, coefs, equations.len(), most) {
-        Check::Refuse(why) => engine_beside::refused(why, r),
-        Check::Pass => begins::begin(p, q, coefs, equations, basis),
+        Err(why) => engine_beside::refused(why, r),
+        Ok(()) => begins::begin(p, q, coefs, equations, basis),
     }
 }
 
@@ -63,8 +62,8 @@ pub fn start_sides(
         basis.len(),
         sizes,
     ) {
-        Check::Refuse(why) => engine_beside::refused(why, r),
-        Check::Pass => begins::begin_sides(p, q, coefs, rights, lower, equations, basis),
+        Err(why) => engine_beside::refused(why, r),
+        Ok(()) => begins::begin_sides(p, q, coefs, rights, lower, equations, basis),
     }
 }
 
@@ -87,8 +86,8 @@ pub fn start_from(
 {
     let most = capacity::basis_room(q, basis.len(), l.sizes);
     match standing::check_start_from(p, q, coefs, n, rows, equations.len(), most) {
-        Check::Refuse(why) => engine_beside::refused(why, r),
-        Check::Pass => begins::begin_from(p, q, coefs, n, rows, equations, basis),
+        Err(why) => engine_beside::refused(why, r),
+        Ok(()) => begins::begin_from(p, q, coefs, n, rows, equations, basis),
     }
 }
 
@@ -122,8 +121,8 @@ pub fn combine(
         l.mothers,
     );
     match standing::check_combine(p, q, equations, basis, table, most, room, run, r, s, u, t) {
-        Check::Refuse(why) => engine_beside::refused(why, run),
-        Check::Pass => begins::operate(q, equations, run, r, s, u, t),
+        Err(why) => engine_beside::refused(why, run),
+        Ok(()) => begins::operate(q, equations, run, r, s, u, t),
     }
 }
 
@@ -155,7 +154,7 @@ pub fn take(
         l.mothers,
     );
     match standing::check_take(p, q, equations, basis, table, most, room, r, e, f) {
-        Check::Refuse(why) => engine_beside::refused(why, r),
-        Check::Pass => begins::take(q, basis, r, e, f),
+        Err(why) => engine_beside::refused(why, r),
+        Ok(()) => begins::take(q, basis, r, e, f),
     }
 }

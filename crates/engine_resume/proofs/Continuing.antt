@@ -1,6 +1,6 @@
 -- Theorems about what specs/Continuing.antt defines. Assumes nothing.
 use Rattle.std.proofs.Math.Path.{◌≡◌, sym}
-use Rattle.std.specs.Prelude.{refl, false, cond, ℕ, ◌^◌, ◌-◌, ◌≤◌, ◌<◌, eqb, ℤ, length}
+use Rattle.std.specs.Prelude.{Result as Checking, Ok, Err, refl, false, cond, ℕ, ◌^◌, ◌-◌, ◌≤◌, ◌<◌, eqb, ℤ, length}
 use Rattle.std.proofs.Common.{◌∙◌, ap}
 use Rattle.std.proofs.Math.Bool.{true}
 use mathlib.Core.List.{List}
@@ -13,8 +13,6 @@ use Rattle.engine_beside.specs.Writing.{kept_none, measured_none, valued_none, w
 use Rattle.engine_stage.specs.Standing.{Sides, beyond_none, unchanged}
 use Rattle.calls.specs.Paper.{answer_of, check_of}
 use Rattle.calls.proofs.CallLaws.{passes}
-use Rattle.calls.specs.declared.Check.{Check}
-use Rattle.calls.specs.declared.Check.TheVariants.{Pass, Refuse}
 use Rattle.calls.specs.declared.Refusal.{Refusal}
 use Rattle.engine_beside.specs.Records.{call_passed, call_refused, refused_with, work_of}
 use Rattle.engine_beside.specs.declared.Outcome.{Outcome}
@@ -65,17 +63,17 @@ module _ (p q most room budget : ℕ) (w : Work) (sizes : List ℕ) (x : Sides) 
       }
 
 module _ (p q budget : ℕ) (equations : List ℤ) (basis sizes table : List ℕ) (x : Sides) (r : Record) where
-  module _ {made : Check} {most room : ℕ} (m : most ≡ spec.basis_room q (lent_lengths basis sizes table x))
+  module _ {made : Checking (Unit {0}) Refusal} {most room : ℕ} (m : most ≡ spec.basis_room q (lent_lengths basis sizes table x))
       (n : room ≡ spec.stage_room q (lent_lengths basis sizes table x))
       (e : check_of made ≡ standing p q most room (work_of equations basis table r)) where
-    pub resume_refused : {why : Refusal} → made ≡ Refuse why → ResumeLeft p q budget equations basis sizes table x r (refused_with why r) basis sizes table x
+    pub resume_refused : {why : Refusal} → made ≡ Err why → ResumeLeft p q budget equations basis sizes table x r (refused_with why r) basis sizes table x
     unfolding spec.resume goes_on
     resume_refused g = rw (← m, ← n)
         (still p q most room budget (w p q budget equations basis sizes table x r) sizes x
         (rw (← (e ∙ resume_checks_lem p q most room (w p q budget equations basis sizes table x r)), g))
         (call_refused (e ∙ resume_checks_lem p q most room (w p q budget equations basis sizes table x r)) equations basis table r _ g) refl)
 
-    module _ (g : made ≡ Pass) where
+    module _ {nothing : Unit {0}} (g : made ≡ Ok nothing) where
       pub resume_stands : Stands p q most room (work_of equations basis table r)
       resume_stands = stands p q most room (work_of equations basis table r) (passes e g)
 

@@ -226,7 +226,7 @@ module _ {p q most room : ℕ} {equations : List ℤ} {basis sizes table : List 
         }
 
     pub resumed : {basis' : List ℕ} {o : made.Outcome}
-        → outcome_of o equations basis' table' ≡ ended p q most (answer_of a.ending) (work_of equations basis table' (record_at r a.next))
+        → outcome_of o equations basis' table' ≡ ended p q most (answer_of a.stopped) (work_of equations basis table' (record_at r a.next))
         → ResumedTo p q most room budget equations basis sizes table x r o basis' sizes' table' x'
     unfolding onward
     resumed g =

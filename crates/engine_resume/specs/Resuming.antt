@@ -88,7 +88,7 @@ pub record Written (coefs : List ℤ) (from : ℕ) (basis : List ℕ) (m : ℕ) 
 pub record Advanced (q room budget : ℕ) (equations : List ℤ) (basis sizes table : List ℕ) (x : Sides) (r : Record) (a : Ran) (sizes' table' : List ℕ)
     (x' : Sides) : Type 0 where
   pub is : run_of (frame_of q room r) (lent_of equations basis sizes') budget table (start_of r)
-      ≡ outcome (answer_of a.ending) (stage_of (frame_of q room r) table' a.next)
+      ≡ outcome (answer_of a.stopped) (stage_of (frame_of q room r) table' a.next)
   pub ready : Ready (frame_of q room r) (lent_of equations basis sizes') table' x' a.next
   pub rises : r.rows ≤ a.next.rows
   pub beyond : Beyond a.next.rows x x'

@@ -4,7 +4,6 @@
 ghost use Rattle.engine_stage.specs.Standing.{sides_of};
 ghost use Rattle.engine_resume.specs.Continuing.{ResumeLeft};
 
-use calls::Check;
 use engine_beside::{Outcome, Record};
 use engine_checks::{room as capacity, standing};
 
@@ -42,8 +41,8 @@ pub fn resume(
         mothers.len(),
     );
     match standing::check_standing(p, q, equations, basis, table, most, room, r) {
-        Check::Refuse(why) => engine_beside::refused(why, r),
-        Check::Pass => {
+        Err(why) => engine_beside::refused(why, r),
+        Ok(()) => {
             if p <= r.equation {
                 return resuming::rested(p, r);
             }

@@ -4,7 +4,7 @@ ghost use Rattle.definitions.specs.Answers.{complete, paused as paused_answer};
 ghost use Rattle.calls.specs.Paper.{answer_of};
 ghost use Rattle.calls.specs.declared.Answer.TheVariants.{Paused};
 ghost use Rattle.engine_beside.specs.Records.{leaves, outcome_of, work_of};
-ghost use Rattle.engine_stage.specs.Running.{answer_of as ending_of};
+ghost use Rattle.engine_stage.specs.Running.{answer_of as stopped_of};
 ghost use Rattle.engine_stage.specs.Standing.{sides_of};
 ghost use Rattle.engine_ends.specs.Closing.{Closing};
 ghost use Rattle.engine_resume.specs.EngineLaws.{ended};
@@ -14,8 +14,8 @@ use calls::{Answer, Refusal, Steps};
 use engine_beside::{Outcome, Record, degrees as measures, values as numbers, words as fields};
 use engine_rows::marks as magnitudes;
 use engine_stage::stages;
-use engine_stage::stages::{Ending, Ran};
-use engine_stage::turns::{Frame, Next};
+use engine_stage::stages::Ran;
+use engine_stage::turns::{Frame, Next, Stop};
 
 // At most `budget` turns, and the end of the stage where they come to it.
 pub fn go_on(
@@ -47,7 +47,7 @@ pub fn go_on(
         r, budget,
     );
     let next = ran.next;
-    let ending = ran.ending;
+    let stopped = ran.stopped;
     close(
         p,
         q,
@@ -57,7 +57,7 @@ pub fn go_on(
         table,
         values,
         stand(r, next),
-        ending,
+        stopped,
     )
 }
 
@@ -170,7 +170,8 @@ fn stand(r: Record, s: Next) -> Record
     }
 }
 
-// What the call answers, by how the turns ended.
+// What the call answers, by what stopped the turns.
+#[tactic(auto, unfolding(crate::specs::EngineLaws::ended))]
 fn close(
     p: usize,
     q: usize,
@@ -180,18 +181,18 @@ fn close(
     table: &[u32],
     values: &[i64],
     r: Record,
-    ending: Ending,
+    stopped: Option<Stop>,
 ) -> Outcome
     requires { Closing p q most equations.now basis.old table.now values.now r }
     ensures { outcome_of result equations.now basis.new table.now
-        ≡ ended p q most (ending_of ending) (work_of equations.now basis.old table.now r) }
+        ≡ ended p q most (stopped_of stopped) (work_of equations.now basis.old table.now r) }
 {
-    match ending {
-        Ending::Paused => paused(r),
-        Ending::Late => engine_beside::refused(Refusal::StepLimit, r),
-        Ending::Large => engine_beside::refused(Refusal::ComponentLimit, r),
-        Ending::Full => engine_beside::refused(Refusal::TablesFull, r),
-        Ending::Ends => engine_ends::finish(p, q, most, equations, basis, table, values, r),
+    match stopped {
+        None => paused(r),
+        Some(Stop::Late) => engine_beside::refused(Refusal::StepLimit, r),
+        Some(Stop::Large) => engine_beside::refused(Refusal::ComponentLimit, r),
+        Some(Stop::Full) => engine_beside::refused(Refusal::TablesFull, r),
+        Some(Stop::Ends) => engine_ends::finish(p, q, most, equations, basis, table, values, r),
     }
 }
 

@@ -12,20 +12,20 @@ operate-requires c = simp (to_z-of_z c.ranges.u, to_z-of_z c.ranges.t)
     (combine_enters c.args.p c.args.q c.args.equations.now c.args.basis.now c.args.table.now c.args.l c.args.run
     c.basis_room-most.ensures c.stage_room-room.ensures c.args.r
     c.args.s c.args.u c.args.t (simp (to_z-of_z c.ranges.u, to_z-of_z c.ranges.t) at c.check_combine.ensures)
-    c.in-Pass.is)
+    c.in-Ok.is)
 
-pub returns-in-Refuse : goal.returns-in-Refuse
-returns-in-Refuse c = rw c.refused.ensures
+pub returns-in-Err : goal.returns-in-Err
+returns-in-Err c = rw c.refused.ensures
     (combine_refused c.args.p c.args.q c.args.equations.now c.args.basis.now c.args.table.now c.args.l c.args.run
     c.basis_room-most.ensures
     c.stage_room-room.ensures c.args.r c.args.s c.args.u c.args.t
     (simp (to_z-of_z c.ranges.u, to_z-of_z c.ranges.t) at c.check_combine.ensures)
-    c.in-Refuse.is)
+    c.in-Err.is)
 
-pub returns-in-Pass : goal.returns-in-Pass
-returns-in-Pass c = combine_passed c.args.p c.args.q c.args.equations.now c.args.basis.now c.args.table.now c.args.l c.args.run
+pub returns-in-Ok : goal.returns-in-Ok
+returns-in-Ok c = combine_passed c.args.p c.args.q c.args.equations.now c.args.basis.now c.args.table.now c.args.l c.args.run
     c.basis_room-most.ensures
     c.stage_room-room.ensures c.args.r c.args.s c.args.u c.args.t
     (simp (to_z-of_z c.ranges.u, to_z-of_z c.ranges.t) at c.check_combine.ensures)
-    c.in-Pass.is
+    c.in-Ok.is
     (simp (to_z-of_z c.ranges.u, to_z-of_z c.ranges.t) at c.operate.ensures)

@@ -5,17 +5,17 @@ use Rattle.engine.proofs.start.Goals as goal
 pub begin-requires : goal.begin-requires
 begin-requires c = let s = c.args in start_enters s.p s.q s.coefs.now
     s.equations.now s.basis.now s.table.now s.l s.r c.basis_room-most.ensures
-    c.check_start.ensures c.in-Pass.is
+    c.check_start.ensures c.in-Ok.is
 
-pub returns-in-Refuse : goal.returns-in-Refuse
-returns-in-Refuse c = let s = c.args in rw c.refused.ensures
+pub returns-in-Err : goal.returns-in-Err
+returns-in-Err c = let s = c.args in rw c.refused.ensures
     (start_refused s.p s.q s.coefs.now s.equations.now s.basis.now s.table.now s.l s.r
     c.basis_room-most.ensures c.check_start.ensures
-    c.in-Refuse.is)
+    c.in-Err.is)
 
-pub returns-in-Pass : goal.returns-in-Pass
-returns-in-Pass c = let s = c.args in start_passed s.p s.q
+pub returns-in-Ok : goal.returns-in-Ok
+returns-in-Ok c = let s = c.args in start_passed s.p s.q
     s.coefs.now s.equations.now s.basis.now s.table.now s.l s.r
     c.basis_room-most.ensures
     c.check_start.ensures
-    c.in-Pass.is c.begin.ensures
+    c.in-Ok.is c.begin.ensures

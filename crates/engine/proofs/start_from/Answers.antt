@@ -9,17 +9,17 @@ check_start_from-requires c = let s = c.args in rw c.basis_room-most.ensures (ba
 pub begin_from-requires : goal.begin_from-requires
 begin_from-requires c = let s = c.args in start_from_enters s.p s.q s.coefs.now s.n s.rows.now s.equations.now s.basis.now s.table.now s.l s.r
     c.basis_room-most.ensures c.check_start_from.ensures
-    c.in-Pass.is
+    c.in-Ok.is
 
-pub returns-in-Refuse : goal.returns-in-Refuse
-returns-in-Refuse c = let s = c.args in rw c.refused.ensures (start_from_refused s.p
+pub returns-in-Err : goal.returns-in-Err
+returns-in-Err c = let s = c.args in rw c.refused.ensures (start_from_refused s.p
     s.q s.coefs.now s.n s.rows.now s.equations.now s.basis.now s.table.now s.l s.r
     c.basis_room-most.ensures c.check_start_from.ensures
-    c.in-Refuse.is)
+    c.in-Err.is)
 
-pub returns-in-Pass : goal.returns-in-Pass
-returns-in-Pass c = let s = c.args in start_from_passed
+pub returns-in-Ok : goal.returns-in-Ok
+returns-in-Ok c = let s = c.args in start_from_passed
     s.p s.q s.coefs.now s.n s.rows.now s.equations.now s.basis.now s.table.now s.l s.r
     c.basis_room-most.ensures
     c.check_start_from.ensures
-    c.in-Pass.is c.begin_from.ensures
+    c.in-Ok.is c.begin_from.ensures

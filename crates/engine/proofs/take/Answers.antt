@@ -10,17 +10,17 @@ pub take-requires : goal.take-requires
 take-requires c = let s = c.args in take_enters s.p s.q s.equations.now
     s.basis.now s.table.now s.l s.r c.basis_room-most.ensures
     c.stage_room-room.ensures s.e s.f c.check_take.ensures
-    c.in-Pass.is
+    c.in-Ok.is
 
-pub returns-in-Refuse : goal.returns-in-Refuse
-returns-in-Refuse c = let s = c.args in rw c.refused.ensures
+pub returns-in-Err : goal.returns-in-Err
+returns-in-Err c = let s = c.args in rw c.refused.ensures
     (take_refused s.p s.q s.equations.now s.basis.now s.table.now s.l s.r
     c.basis_room-most.ensures
     c.stage_room-room.ensures s.e s.f c.check_take.ensures
-    c.in-Refuse.is)
+    c.in-Err.is)
 
-pub returns-in-Pass : goal.returns-in-Pass
-returns-in-Pass c = let s = c.args in take_passed s.p s.q
+pub returns-in-Ok : goal.returns-in-Ok
+returns-in-Ok c = let s = c.args in take_passed s.p s.q
     s.equations.now s.basis.now s.table.now s.l s.r c.basis_room-most.ensures c.stage_room-room.ensures s.e s.f
-    c.check_take.ensures c.in-Pass.is
+    c.check_take.ensures c.in-Ok.is
     c.take.ensures

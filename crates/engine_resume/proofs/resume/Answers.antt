@@ -14,14 +14,14 @@ rested-requires c = let s = c.args in (resume_stands s.p s.q s.budget s.equation
     (sides_of s.values.now s.words.now s.degrees.now s.marks.now s.mothers.now) s.r
     c.basis_room-most.ensures
     c.stage_room-room.ensures c.check_standing.ensures
-    c.in-Pass.is).size.equations
+    c.in-Ok.is).size.equations
 
 pub returns-then-p-r : goal.returns-then-p-r
 returns-then-p-r c = let s = c.args in resume_rested s.p s.q s.budget s.equations.now s.basis.now s.sizes.now s.table.now
     (sides_of s.values.now s.words.now s.degrees.now s.marks.now s.mothers.now) s.r
     c.basis_room-most.ensures
     c.stage_room-room.ensures
-    c.check_standing.ensures c.in-Pass.is c.if-p-r.true
+    c.check_standing.ensures c.in-Ok.is c.if-p-r.true
     c.rested.result c.rested.ensures.0 c.rested.ensures.1
 
 pub go_on-requires : goal.go_on-requires
@@ -31,16 +31,16 @@ go_on-requires c = let s = c.args in resume_enters s.p s.q s.budget s.equations.
     c.basis_room-most.ensures
     c.stage_room-room.ensures
     c.check_standing.ensures
-    c.in-Pass.is
+    c.in-Ok.is
     c.if-p-r.false
 
-pub returns-in-Refuse : goal.returns-in-Refuse
-returns-in-Refuse c = let s = c.args
+pub returns-in-Err : goal.returns-in-Err
+returns-in-Err c = let s = c.args
     in rw c.refused.ensures (resume_refused s.p s.q s.budget s.equations.now s.basis.now s.sizes.now s.table.now
     (sides_of s.values.now s.words.now s.degrees.now s.marks.now s.mothers.now) s.r
     c.basis_room-most.ensures
     c.stage_room-room.ensures c.check_standing.ensures
-    c.in-Refuse.is)
+    c.in-Err.is)
 
 pub returns-else-p-r : goal.returns-else-p-r
 returns-else-p-r c = let s = c.args in resume_ran s.p s.q s.budget s.equations.now s.basis.now s.sizes.now s.table.now
@@ -48,6 +48,6 @@ returns-else-p-r c = let s = c.args in resume_ran s.p s.q s.budget s.equations.n
     c.basis_room-most.ensures
     c.stage_room-room.ensures
     c.check_standing.ensures
-    c.in-Pass.is
+    c.in-Ok.is
     c.if-p-r.false
     c.go_on.ensures
