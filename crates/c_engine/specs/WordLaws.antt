@@ -1,6 +1,6 @@
 -- The engine's calls on a record of words, as the code goes about them; a call that is refused leaves the words; and other words are refused with 6, after what
 -- is checked before it. Assumes nothing.
-use Rattle.std.specs.Prelude.{ℕ, zero, suc, ◌+◌, ◌*◌, ◌^◌, ◌<◌, ◌≤◌, Bool, true, not, ◌&&◌, cond, ◌≢◌, ◌≡◌, T, eqb, ltb, ℤ, length, get_or, set}
+use Rattle.std.specs.Prelude.{Result as Checking, Ok, Err, ℕ, zero, suc, ◌+◌, ◌*◌, ◌^◌, ◌<◌, ◌≤◌, Bool, true, not, ◌&&◌, cond, ◌≢◌, ◌≡◌, T, eqb, ltb, ℤ, length, get_or, set}
 use Rattle.std.proofs.Math.Bool.{false}
 use mathlib.Core.List.{List, [], ◌∷◌}
 use Rattle.std.proofs.Math.Path.{refl, ap}
@@ -10,8 +10,6 @@ use Rattle.std.proofs.Math.Dec.{leb}
 use Rattle.definitions.specs.Answers.{Check, go, refuse, refuse_first, refuse_if, refuse_with, started, ◌then◌}
 use Rattle.definitions.specs.Refusals.{step_limit}
 use Rattle.calls.specs.Paper.{answer_of, check_of, number_of, values_of}
-use Rattle.calls.specs.declared.Check as made
-use Rattle.calls.specs.declared.Check.TheVariants.{Pass, Refuse}
 use Rattle.calls.specs.declared.Refusal.{Refusal}
 use Rattle.c_record.specs.CodeLaws.{Fits}
 use Rattle.c_record.specs.Codes.{code, refusal_code}
@@ -26,6 +24,7 @@ use Rattle.engine_beside.specs.declared.Outcome.{Outcome}
 use Rattle.engine_beside.specs.declared.Record.{Record}
 use Rattle.engine_checks.specs.Room.{basis_rows}
 use Rattle.engine_checks.specs.Sides.{shape_checks}
+use Rattle.engine_checks.specs.Sizes.{size_checks}
 use Rattle.engine_checks.specs.Standing.{start_checks_lem, start_from_checks_lem, start_checks_by, start_from_checks_by}
 use Rattle.c_engine.specs.Words.{is_record, misfit, misfit_checks, misfit_list_checks, record_if, record_in, record_left, start_from_words, start_words, told}
 use Rattle.c_engine.specs.Words.{misfit_sides_checks, start_sides_words, words_if, words_left, work_in}
@@ -192,11 +191,11 @@ misfit_list_checks_lem p q coefs n rows most w =
     ∙ ap (λ c. refuse_if (ltb most n) 4 then c) (instead_list (not (calls.is_list q n rows)) (calls.check7 p q coefs) (instead_first (p * q) _))))))
 
 -- from the check of the code
-pub refused_first : {k : made.Check} {c : Check} {why : Refusal} → check_of k ≡ c → k ≡ Refuse why
+pub refused_first : {k : Checking (Unit {0}) Refusal} {c : Check} {why : Refusal} → check_of k ≡ c → k ≡ Err why
     → instead (refuse (number_of why) (values_of why)) ≡ instead c
 refused_first e h = ap instead (sym (ap check_of h) ∙ e)
 
-pub passed_first : {k : made.Check} {c : Check} → check_of k ≡ c → k ≡ Pass → check_code (instead c) ≡ 6
+pub passed_first : {k : Checking (Unit {0}) Refusal} {c : Check} → check_of k ≡ c → {nothing : Unit {0}} → k ≡ Ok nothing → check_code (instead c) ≡ 6
 unfolding instead
 passed_first e h = rw (← e, h)
 
@@ -261,21 +260,20 @@ bare_then (refuse n values) d x y = x
 bare_then go d x y = y
 
 shape_bare : (p q coefs rights lower numbers basis sizes : ℕ) → Bare (shape_checks p q coefs rights lower numbers basis sizes)
-unfolding shape_checks
+unfolding shape_checks size_checks
 shape_bare p q coefs rights lower numbers basis sizes =
-    bare_then _ _ (bare_if _ 1)
-    (bare_then _ _ (bare_if _ 2)
-    (bare_then _ _ (bare_if _ 2) (bare_then _ _ (bare_if _ 3) (bare_then _ _ (bare_if _ 3) (bare_then _ _ (bare_if _ 4) (bare_if _ 5))))))
+    bare_then _ _ (bare_then _ _ (bare_if _ 1) (bare_if _ 2))
+    (bare_then _ _ (bare_if _ 2) (bare_then _ _ (bare_if _ 3) (bare_then _ _ (bare_if _ 3) (bare_then _ _ (bare_if _ 4) (bare_if _ 5)))))
 
-pub shape_refused : (p q coefs rights lower numbers basis sizes : ℕ) {k : made.Check} {why : Refusal}
-    → check_of k ≡ shape_checks p q coefs rights lower numbers basis sizes → k ≡ Refuse why
+pub shape_refused : (p q coefs rights lower numbers basis sizes : ℕ) {k : Checking (Unit {0}) Refusal} {why : Refusal}
+    → check_of k ≡ shape_checks p q coefs rights lower numbers basis sizes → k ≡ Err why
     → number_of why ≡ check_code (shape_checks p q coefs rights lower numbers basis sizes then refuse 6 [])
 unfolding ◌then◌
 shape_refused p q coefs rights lower numbers basis sizes {why = why} e h =
     let none : values_of why ≡ [] = shape_bare p q coefs rights lower numbers basis sizes (number_of why) (values_of why) (sym e ∙ ap check_of h) in
     rw (← e, h, none) (omega arith)
 
-pub shape_passed : {k : made.Check} {c : Check} → check_of k ≡ c → k ≡ Pass → 6 ≡ check_code (c then refuse 6 [])
+pub shape_passed : {k : Checking (Unit {0}) Refusal} {c : Check} → check_of k ≡ c → {nothing : Unit {0}} → k ≡ Ok nothing → 6 ≡ check_code (c then refuse 6 [])
 unfolding ◌then◌
 shape_passed e h = rw (← e, h)
 
@@ -286,7 +284,7 @@ module _ (p q : ℕ) (coefs rights : List ℤ) (lower : List ℕ) (equations : L
   pub sides_misfit : b ≡ false → {a : ℕ}
       → a ≡ check_code (shape_checks p q (length coefs) (length rights) (length lower) (length equations) (length basis) sizes then refuse 6 [])
       → (a, (equations, (basis, ([], words)))) ≡ told words (start_sides_words p q coefs rights lower most equations basis words)
-  unfolding start_sides_words shape_checks
+  unfolding start_sides_words shape_checks size_checks
   sides_misfit t h =
       let w = work_in equations basis [] words in
       let checks : shape_checks p q (length coefs) (length rights) (length lower) (length equations) (length basis) sizes then refuse 6 []

@@ -17,7 +17,7 @@ ghost use Rattle.c_engine.specs.Words.{combine_words, most_of, record_in, resume
 ghost use Rattle.c_engine.specs.Words.{told, words_left};
 
 use c_record::answers;
-use calls::{Check, Refusal};
+use calls::Refusal;
 use engine_beside::{Beside, Outcome};
 use engine_checks::{room as capacity, sides, standing};
 
@@ -245,8 +245,8 @@ fn misfit(p: usize, q: usize, coefs: &[i32], equations: usize, most: usize) -> u
     ensures { result ≡ check_code (instead (start_checks_by p q coefs.now most equations)) }
 {
     match standing::check_start(p, q, coefs, equations, most) {
-        Check::Refuse(why) => first(why),
-        Check::Pass => 6,
+        Err(why) => first(why),
+        Ok(()) => 6,
     }
 }
 
@@ -264,8 +264,8 @@ fn misfit_list(
     ensures { result ≡ check_code (instead (start_from_checks_by p q coefs.now n rows.now most equations)) }
 {
     match standing::check_start_from(p, q, coefs, n, rows, equations, most) {
-        Check::Refuse(why) => first(why),
-        Check::Pass => 6,
+        Err(why) => first(why),
+        Ok(()) => 6,
     }
 }
 
@@ -283,8 +283,8 @@ fn misfit_sides(
     ensures { result ≡ check_code (shape_checks p q coefs rights lower equations basis sizes then refuse 6 []) }
 {
     match sides::check_shape(p, q, coefs, rights, lower, equations, basis, sizes) {
-        Check::Refuse(why) => calls::number_of(why),
-        Check::Pass => 6,
+        Err(why) => calls::number_of(why),
+        Ok(()) => 6,
     }
 }
 

@@ -3,10 +3,10 @@ use mathlib.Core.Path.{◌∙◌, sym, ap}
 use Rattle.c_engine.specs.WordLaws.{check_code, passed_first, refused_first}
 use Rattle.c_engine.proofs.misfit_list.Goals as goal
 
-pub returns-in-Refuse : goal.returns-in-Refuse
-returns-in-Refuse c =
-    c.first.ensures ∙ ap check_code (refused_first c.check_start_from.ensures c.in-Refuse.is)
+pub returns-in-Err : goal.returns-in-Err
+returns-in-Err c =
+    c.first.ensures ∙ ap check_code (refused_first c.check_start_from.ensures c.in-Err.is)
 
-pub returns-in-Pass : goal.returns-in-Pass
-returns-in-Pass c =
-    sym (passed_first c.check_start_from.ensures c.in-Pass.is)
+pub returns-in-Ok : goal.returns-in-Ok
+returns-in-Ok c =
+    sym (passed_first c.check_start_from.ensures c.in-Ok.is)
