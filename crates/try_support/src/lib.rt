@@ -3,16 +3,11 @@
 
 pub mod input; // input.rt: what a program reads
 pub mod line; // line.rt: the words of a line of vectors
-pub mod parts; // parts.rt: parts of a line's tables, and tables compared
 pub mod print; // print.rt: what a program prints
 pub mod tables; // tables.rt: tables of numbers
 pub mod tally; // tally.rt: what was counted
 
 // One more where what was checked is so.
 pub fn up(n: u64, so: bool) -> u64 {
-    if so {
-        std::num::wrapping_add_u64(n, 1)
-    } else {
-        n
-    }
+    n.wrapping_add(u64::from(so))
 }

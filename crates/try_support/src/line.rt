@@ -1,6 +1,7 @@
 // A line of vectors, put together word by word. The first word names the kind of call, and its letter is the line's kind; the numbers after it are the
 // operands. A word in capitals is the answer. Each other word says by its letter which table the numbers after it belong to, and by digits, as in
 // `s4`, from which entry on: with digits they are what stands there after the call, and without both what stood before and what stands after.
+use crate::tables;
 
 // How many entries a table of a line may have.
 pub const ROOM: usize = 320;
@@ -10,256 +11,229 @@ pub const COEFFICIENTS: usize = 160;
 
 pub const RECORD: usize = 80;
 
-// A word so far: its letter or 0, its sign, whether it has digits, and their number.
+// A word so far: its letter, its sign, whether it has digits, and their number.
 #[derive(Clone, Copy)]
 pub struct Word {
-    letter: u8,
+    letter: Option<u8>,
     minus: bool,
     digits: bool,
     number: u64,
 }
 
+impl Word {
+    pub fn new() -> Word {
+        Word {
+            letter: None,
+            minus: false,
+            digits: false,
+            number: 0,
+        }
+    }
+
+    // One more byte of the word.
+    pub fn push(&mut self, b: u8) {
+        match b {
+            b'-' => self.minus = true,
+            b'0'..=b'9' => {
+                self.digits = true;
+                self.number = self
+                    .number
+                    .wrapping_mul(10)
+                    .wrapping_add(u64::from(b - b'0'));
+            }
+            _ => self.letter = self.letter.or(Some(b)),
+        }
+    }
+}
+
+impl From<Word> for u64 {
+    fn from(w: Word) -> u64 {
+        w.number
+    }
+}
+
+impl From<Word> for u32 {
+    fn from(w: Word) -> u32 {
+        (w.number & 0xffff_ffff) as u32
+    }
+}
+
+impl From<Word> for i32 {
+    fn from(w: Word) -> i32 {
+        let size = u32::from(w);
+        if w.minus { size.wrapping_neg() } else { size }.cast_signed()
+    }
+}
+
+// A table of a line: its entries before the call and after it, and how many there are. Entries past its room are dropped; their number still counts them.
+#[derive(Clone, Copy)]
+pub struct Table<T, const N: usize> {
+    pub before: [T; N],
+    pub after: [T; N],
+    length: usize,
+}
+
+impl<T: Copy + PartialEq + From<Word>, const N: usize> Table<T, N> {
+    fn new() -> Table<T, N> {
+        let zero = T::from(Word::new());
+        Table {
+            before: [zero; N],
+            after: [zero; N],
+            length: 0,
+        }
+    }
+
+    // Whether it has room for all its entries.
+    fn fits(&self) -> bool {
+        self.length <= N
+    }
+
+    // How many entries the line gives it.
+    pub fn len(&self) -> usize {
+        self.length
+    }
+
+    // Its entries before the call, as many as it has room for.
+    pub fn entries(&self) -> &[T] {
+        tables::first(&self.before, self.length)
+    }
+
+    // The same, for a call to change.
+    pub fn lend(&mut self) -> &mut [T] {
+        let length = self.length;
+        let before = &mut self.before;
+        tables::first_mut(&mut before[..], length)
+    }
+
+    // Whether a call on what was lent left the table as the line says.
+    pub fn agrees(&self) -> bool {
+        self.before == self.after
+    }
+
+    // The next number of the table.
+    fn put(&mut self, at: usize, w: Word, after: bool) {
+        let x = T::from(w);
+        tables::put(&mut self.after, at, x);
+        if !after {
+            tables::put(&mut self.before, at, x);
+            self.length = at.wrapping_add(1);
+        }
+    }
+}
+
+// Where the next number belongs: to the operands of the call, to the numbers of its answer, or to the table of a letter.
+#[derive(Clone, Copy)]
+enum Part {
+    Operands,
+    Answered,
+    Table(u8),
+}
+
 // What a line has said so far.
 #[derive(Clone, Copy)]
 pub struct Line {
-    pub kind: u8,
+    pub kind: Option<u8>,
     pub operands: [u64; 8],
-    pub answer: u8,
+    pub answer: Option<u8>,
     pub answered: [u64; 8],
-    pub coefs: [i32; COEFFICIENTS],
-    pub coefs_length: usize,
-    pub list: [u32; ROOM],
-    pub list_after: [u32; ROOM],
-    pub list_length: usize,
-    pub tuple: [u32; ROOM],
-    pub tuple_length: usize,
-    pub generators: [u32; ROOM],
-    pub generators_length: usize,
-    pub stack: [u32; ROOM],
-    pub stack_after: [u32; ROOM],
-    pub stack_length: usize,
-    pub rights: [i32; COEFFICIENTS],
-    pub rights_length: usize,
-    pub second: [u32; ROOM],
-    pub second_after: [u32; ROOM],
-    pub second_length: usize,
-    pub record: [u64; RECORD],
-    pub record_after: [u64; RECORD],
-    pub record_length: usize,
-    pub shares: [u64; RECORD],
-    pub shares_length: usize,
-    pub equations: [i32; COEFFICIENTS],
-    pub equations_after: [i32; COEFFICIENTS],
-    pub equations_length: usize,
-    // the table that the next number belongs to, its place there, and whether it stands there only after the call
-    table: u8,
+    pub coefs: Table<i32, COEFFICIENTS>,
+    pub list: Table<u32, ROOM>,
+    pub tuple: Table<u32, ROOM>,
+    pub generators: Table<u32, ROOM>,
+    pub stack: Table<u32, ROOM>,
+    pub rights: Table<i32, COEFFICIENTS>,
+    pub second: Table<u32, ROOM>,
+    pub record: Table<u64, RECORD>,
+    pub shares: Table<u64, RECORD>,
+    pub equations: Table<i32, COEFFICIENTS>,
+    // where the next number belongs, its place there, and whether it stands there only after the call
+    part: Part,
     at: usize,
     after: bool,
 }
 
-// The tables that no letter of a word names.
-const OPERANDS: u8 = 1;
-
-const ANSWERED: u8 = 2;
-
-pub fn empty() -> Line {
-    Line {
-        kind: 0,
-        operands: [0; 8],
-        answer: 0,
-        answered: [0; 8],
-        record: [0; 80],
-        record_after: [0; 80],
-        record_length: 0,
-        shares: [0; 80],
-        shares_length: 0,
-        coefs: [0; 160],
-        coefs_length: 0,
-        equations: [0; 160],
-        equations_after: [0; 160],
-        equations_length: 0,
-        rights: [0; 160],
-        rights_length: 0,
-        tuple: [0; 320],
-        tuple_length: 0,
-        generators: [0; 320],
-        generators_length: 0,
-        stack: [0; 320],
-        stack_after: [0; 320],
-        stack_length: 0,
-        list: [0; 320],
-        list_after: [0; 320],
-        list_length: 0,
-        second: [0; 320],
-        second_after: [0; 320],
-        second_length: 0,
-        table: OPERANDS,
-        at: 0,
-        after: false,
-    }
-}
-
-pub fn no_word() -> Word {
-    Word {
-        letter: 0,
-        minus: false,
-        digits: false,
-        number: 0,
-    }
-}
-
-// One more byte of a word.
-pub fn longer(w: Word, b: u8) -> Word {
-    let mut v = w;
-    match b {
-        b'-' => v.minus = true,
-        b'0'..=b'9' => {
-            v.digits = true;
-            v.number = std::num::wrapping_add_u64(
-                (w.number % 1844674407370955162) * 10,
-                (b - b'0') as u64,
-            );
+impl Line {
+    pub fn new() -> Line {
+        Line {
+            kind: None,
+            operands: [0; 8],
+            answer: None,
+            answered: [0; 8],
+            coefs: Table::new(),
+            list: Table::new(),
+            tuple: Table::new(),
+            generators: Table::new(),
+            stack: Table::new(),
+            rights: Table::new(),
+            second: Table::new(),
+            record: Table::new(),
+            shares: Table::new(),
+            equations: Table::new(),
+            part: Part::Operands,
+            at: 0,
+            after: false,
         }
-        _ => {
-            if w.letter == 0 {
-                v.letter = b;
+    }
+
+    // Whether each table has room for its entries.
+    pub fn fits(&self) -> bool {
+        self.coefs.fits()
+            && self.list.fits()
+            && self.tuple.fits()
+            && self.generators.fits()
+            && self.stack.fits()
+            && self.rights.fits()
+            && self.second.fits()
+            && self.record.fits()
+            && self.shares.fits()
+            && self.equations.fits()
+    }
+
+    // One more word, if it is one.
+    pub fn push(&mut self, w: Word) {
+        match w.letter {
+            Some(letter) => self.name(letter, w),
+            None => {
+                if w.digits {
+                    self.enter(w);
+                }
             }
         }
     }
-    v
-}
 
-// The line with one more word, if it is one.
-pub fn with(l: Line, w: Word) -> Line {
-    if w.letter != 0 {
-        return named(l, w);
+    // A word that says what the next numbers are.
+    fn name(&mut self, letter: u8, w: Word) {
+        self.at = (w.number % 65536) as usize;
+        self.after = w.digits;
+        if self.kind.is_none() {
+            self.kind = Some(letter);
+        } else if letter < b'a' {
+            self.answer = Some(letter);
+            self.part = Part::Answered;
+        } else {
+            self.part = Part::Table(letter);
+        }
     }
-    if w.digits {
-        return entered(l, w);
-    }
-    l
-}
 
-// A word that says what the next numbers are.
-fn named(l: Line, w: Word) -> Line {
-    let mut m = l;
-    m.at = (w.number % 65536) as usize;
-    m.after = w.digits;
-    if l.kind == 0 {
-        m.kind = w.letter;
-        return m;
+    // The next number of a table.
+    fn enter(&mut self, w: Word) {
+        let at = self.at;
+        let after = self.after;
+        self.at = at.wrapping_add(1);
+        match self.part {
+            Part::Operands => tables::put(&mut self.operands, at, w.number),
+            Part::Answered => tables::put(&mut self.answered, at, w.number),
+            Part::Table(b'r') => self.record.put(at, w, after),
+            Part::Table(b'h') => self.shares.put(at, w, after),
+            Part::Table(b'c') => self.coefs.put(at, w, after),
+            Part::Table(b'e') => self.equations.put(at, w, after),
+            Part::Table(b'b') => self.rights.put(at, w, after),
+            Part::Table(b't') => self.tuple.put(at, w, after),
+            Part::Table(b'g') => self.generators.put(at, w, after),
+            Part::Table(b's') => self.stack.put(at, w, after),
+            Part::Table(b'l') => self.list.put(at, w, after),
+            Part::Table(b'n') => self.second.put(at, w, after),
+            Part::Table(_) => {}
+        }
     }
-    m.table = w.letter;
-    if w.letter < b'a' {
-        m.answer = w.letter;
-        m.table = ANSWERED;
-    }
-    m
-}
-
-// The next number of a table.
-fn entered(l: Line, w: Word) -> Line {
-    let mut m = l;
-    let at = l.at;
-    let next = std::num::wrapping_add_usize(at, 1);
-    m.at = next;
-    let table = l.table;
-    match table {
-        OPERANDS => put_count(&mut m.operands, at, w.number),
-        ANSWERED => put_count(&mut m.answered, at, w.number),
-        b'r' => {
-            put_word(&mut m.record_after, at, w.number);
-            if !l.after {
-                put_word(&mut m.record, at, w.number);
-                m.record_length = next;
-            }
-        }
-        b'h' => {
-            put_word(&mut m.shares, at, w.number);
-            m.shares_length = next;
-        }
-        b'c' => {
-            put_signed(&mut m.coefs, at, signed(w));
-            m.coefs_length = next;
-        }
-        b'e' => {
-            put_signed(&mut m.equations_after, at, signed(w));
-            if !l.after {
-                put_signed(&mut m.equations, at, signed(w));
-                m.equations_length = next;
-            }
-        }
-        b'b' => {
-            put_signed(&mut m.rights, at, signed(w));
-            m.rights_length = next;
-        }
-        b't' => {
-            put(&mut m.tuple, at, unsigned(w));
-            m.tuple_length = next;
-        }
-        b'g' => {
-            put(&mut m.generators, at, unsigned(w));
-            m.generators_length = next;
-        }
-        b's' => {
-            put(&mut m.stack_after, at, unsigned(w));
-            if !l.after {
-                put(&mut m.stack, at, unsigned(w));
-                m.stack_length = next;
-            }
-        }
-        b'l' => {
-            put(&mut m.list_after, at, unsigned(w));
-            if !l.after {
-                put(&mut m.list, at, unsigned(w));
-                m.list_length = next;
-            }
-        }
-        b'n' => {
-            put(&mut m.second_after, at, unsigned(w));
-            if !l.after {
-                put(&mut m.second, at, unsigned(w));
-                m.second_length = next;
-            }
-        }
-        _ => {}
-    }
-    m
-}
-
-// Entries past the room are dropped; the length still counts them.
-fn put(table: &mut [u32; ROOM], at: usize, x: u32) {
-    if at < ROOM {
-        table[at] = x;
-    }
-}
-
-fn put_signed(table: &mut [i32; COEFFICIENTS], at: usize, x: i32) {
-    if at < COEFFICIENTS {
-        table[at] = x;
-    }
-}
-
-fn put_count(table: &mut [u64; 8], at: usize, x: u64) {
-    if at < 8 {
-        table[at] = x;
-    }
-}
-
-fn put_word(table: &mut [u64; RECORD], at: usize, x: u64) {
-    if at < RECORD {
-        table[at] = x;
-    }
-}
-
-fn unsigned(w: Word) -> u32 {
-    (w.number % 4294967296) as u32
-}
-
-// The number of a word with its sign: -1 - x is what the bits of x are when each is turned over.
-fn signed(w: Word) -> i32 {
-    if w.minus {
-        return !((std::num::wrapping_sub_u64(w.number, 1) % 2147483648) as i32);
-    }
-    (w.number % 2147483648) as i32
 }

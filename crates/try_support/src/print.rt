@@ -1,60 +1,42 @@
 // What a program prints.
-use crate::tables;
 use calls::Answer;
-use std::io;
-
-pub fn text(rt: &impl Print, bytes: &[u8]) -> io::Result<()> {
-    rt.write_all(bytes)
-}
-
-pub fn number(rt: &impl Print, n: u64) -> io::Result<()> {
-    rt.print(n)
-}
+use std::{fmt, io};
 
 // A line that says how many.
-pub fn line(rt: &impl Print, name: &[u8], n: u64) -> io::Result<()> {
-    text(rt, name)?;
-    text(rt, b" ")?;
-    number(rt, n)?;
-    text(rt, b"\n")
+pub fn line(rt: &impl Print, name: &str, n: u64) -> io::Result<()> {
+    println!(rt; "{name} {n}")
 }
 
 // An answer in document 01's words.
-pub fn answer(rt: &impl Print, a: Answer) -> io::Result<()> {
-    match a {
-        Answer::Started => text(rt, b"started"),
-        Answer::Complete => text(rt, b"complete"),
-        Answer::Paused => text(rt, b"paused"),
-        Answer::Refused(why) => {
-            text(rt, b"refused ")?;
-            number(rt, calls::number_of(why))?;
-            let value = calls::value_of(why);
-            if 0 < value {
-                text(rt, b" place ")?;
-                number(rt, value as u64)?;
+#[derive(Clone, Copy)]
+pub struct Told(pub Answer);
+
+impl fmt::Display for Told {
+    fn fmt<W: fmt::Write>(&self, f: &mut fmt::Formatter<W>) -> fmt::Result {
+        match self.0 {
+            Answer::Started => write!(f, "started"),
+            Answer::Complete => write!(f, "complete"),
+            Answer::Paused => write!(f, "paused"),
+            Answer::Refused(why) => {
+                let number = calls::number_of(why);
+                write!(f, "refused {number}")?;
+                let value = calls::value_of(why);
+                if 0 < value {
+                    write!(f, " place {value}")?;
+                }
+                Ok(())
             }
-            Ok(())
         }
     }
 }
 
 // The rows of a list, a space before each number and a comma between two rows.
 pub fn rows(rt: &impl Print, list: &[u32], q: usize) -> io::Result<()> {
-    let mut i = 0;
-    while i < list.len() {
-        separator(rt, i, q)?;
-        number(rt, tables::wide(list[i]))?;
-        i += 1;
+    for (i, x) in list.iter().enumerate() {
+        if 0 < q && 0 < i && i % q == 0 {
+            print!(rt; ",")?;
+        }
+        print!(rt; " {x}")?;
     }
     Ok(())
-}
-
-// What comes before number i of rows of q numbers.
-fn separator(rt: &impl Print, i: usize, q: usize) -> io::Result<()> {
-    if 0 < q {
-        if i % q == 0 && 0 < i {
-            text(rt, b",")?;
-        }
-    }
-    text(rt, b" ")
 }
