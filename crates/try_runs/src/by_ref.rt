@@ -4,6 +4,7 @@ use calls::{Answer, Outcome, Record, Solutions, Steps};
 use reader::Which;
 use std::io;
 use try_support::print;
+use try_support::print::Told;
 
 mod lent; // lent.rt: each call with a record of its own
 
@@ -21,19 +22,19 @@ fn map_in_two_calls(rt: &impl Print) -> io::Result<()> {
     let mut list = [0u32; 8];
     let r = told(
         rt,
-        b"start",
+        "start",
         lent::started(2, 4, &coefs, &mut stack, &mut list, unused()),
     )?;
     let r = told(
         rt,
-        b"7 steps",
+        "7 steps",
         lent::resumed(2, 4, &coefs, &mut stack, &mut list, r, 7),
     )?;
     show(rt, &list, 4, r.found, 1)?;
     show(rt, &list, 4, r.found, 2)?;
     let r = told(
         rt,
-        b"all steps",
+        "all steps",
         lent::resumed(2, 4, &coefs, &mut stack, &mut list, r, 1000000),
     )?;
     show(rt, &list, 4, r.found, 1)?;
@@ -49,7 +50,7 @@ fn from_a_lower_bound(rt: &impl Print) -> io::Result<()> {
     let mut second = [0u32; 8];
     let r = told(
         rt,
-        b"start from 0 2",
+        "start from 0 2",
         lent::started_from(
             1,
             2,
@@ -63,7 +64,7 @@ fn from_a_lower_bound(rt: &impl Print) -> io::Result<()> {
     )?;
     let r = told(
         rt,
-        b"all steps",
+        "all steps",
         lent::resumed_from(
             1,
             2,
@@ -90,7 +91,7 @@ fn with_right_sides(rt: &impl Print) -> io::Result<()> {
     let mut second = [0u32; 8];
     let r = told(
         rt,
-        b"start with right sides",
+        "start with right sides",
         lent::started_capped(
             1,
             2,
@@ -139,7 +140,7 @@ fn further(
 ) -> io::Result<Record> {
     told(
         rt,
-        b"further steps",
+        "further steps",
         lent::resumed_capped(1, 2, coefs, rights, stack, list, second, r, budget),
     )
 }
@@ -150,12 +151,12 @@ fn refused_calls(rt: &impl Print) -> io::Result<()> {
     let mut list = [0u32; 8];
     let r = told(
         rt,
-        b"a coefficient out of range",
+        "a coefficient out of range",
         lent::started(1, 2, &coefs, &mut stack, &mut list, unused()),
     )?;
     told(
         rt,
-        b"going on all the same",
+        "going on all the same",
         lent::resumed(1, 2, &coefs, &mut stack, &mut list, r, 1),
     )?;
     Ok(())
@@ -167,8 +168,7 @@ fn by_value(rt: &impl Print) -> io::Result<()> {
     let mut stack = [0u32; 272];
     let mut list = [0u32; 8192];
     let s = starts::started(2, 4, &coefs, &mut stack, &mut list, unused());
-    let answer = s.answer;
-    let Answer::Started = answer else {
+    let Answer::Started = s.answer else {
         return Ok(());
     };
     let r = s.run;
@@ -184,9 +184,9 @@ fn by_value(rt: &impl Print) -> io::Result<()> {
     );
     let r = o.run;
     let row = reader::row_of(&list, 4, r.found, 1);
-    print::text(rt, b"by value:")?;
+    print!(rt; "by value:")?;
     print::rows(rt, row, 4)?;
-    print::text(rt, b"\n")
+    println!(rt; "")
 }
 
 // A record out of order, so that one which a start has not set is refused.
@@ -195,20 +195,13 @@ fn unused() -> Record {
 }
 
 // Prints what a call answered, and the record that it left.
-fn told(rt: &impl Print, name: &[u8], o: Outcome) -> io::Result<Record> {
-    let answer = o.answer;
-    let run = o.run;
-    print::text(rt, name)?;
-    print::text(rt, b": ")?;
-    print::answer(rt, answer)?;
-    print::text(rt, b", height ")?;
-    print::number(rt, run.height as u64)?;
-    print::text(rt, b", found ")?;
-    print::number(rt, run.found.0 as u64)?;
-    print::text(rt, b", steps ")?;
-    print::number(rt, run.steps.0)?;
-    print::text(rt, b"\n")?;
-    Ok(run)
+fn told(rt: &impl Print, name: &str, o: Outcome) -> io::Result<Record> {
+    let answer = Told(o.answer);
+    let height = o.run.height;
+    let found = o.run.found.0;
+    let steps = o.run.steps.0;
+    println!(rt; "{name}: {answer}, height {height}, found {found}, steps {steps}")?;
+    Ok(o.run)
 }
 
 // Prints a row as the reader shows it.
@@ -232,12 +225,10 @@ fn show_both<'a>(
 
 // Prints row n of a list, which is empty where there is none.
 fn shown(rt: &impl Print, row: &[u32], q: usize, n: usize) -> io::Result<()> {
-    print::text(rt, b"    row ")?;
-    print::number(rt, n as u64)?;
-    print::text(rt, b":")?;
-    if row.len() == 0 {
-        print::text(rt, b" none")?;
+    print!(rt; "    row {n}:")?;
+    if row.is_empty() {
+        print!(rt; " none")?;
     }
     print::rows(rt, row, q)?;
-    print::text(rt, b"\n")
+    println!(rt; "")
 }

@@ -1,86 +1,59 @@
 // A list held against the minimal solutions of a box.
-use crate::drawn::{boxes, sums};
-use try_support::{tables, up};
+use crate::drawn::boxes;
+use crate::drawn::systems::System;
+use try_support::tables;
 
-// How many of the first `found` rows lie in the box.
-pub fn rows_inside(list: &[u32], found: usize, q: usize) -> u64 {
-    let mut n: u64 = 0;
-    let mut i = 0;
-    while i < found {
-        n = up(n, boxes::holds(tables::row(list, i, q, q)));
-        i += 1;
-    }
-    n
+// The first `count` rows of a list of tuples.
+#[derive(Clone, Copy)]
+pub struct Rows<'a> {
+    pub list: &'a [u32],
+    pub q: usize,
+    pub count: usize,
 }
 
-// How many of the first `found` rows should not be listed.
-pub fn wrong_rows(
-    p: usize,
-    q: usize,
-    coefs: &[i32],
-    rights: &[i32],
-    lower: &[u32],
-    list: &[u32],
-    found: usize,
-    minimal: &[u32],
-    n: usize,
-) -> u64 {
-    let mut wrong: u64 = 0;
-    let mut i = 0;
-    while i < found {
-        let tuple = tables::row(list, i, q, q);
-        let right = boxes::allowed(lower, tuple)
-            && sums::solves(p, q, coefs, rights, tuple)
-            && least(tuple, q, minimal, n)
-            && alone(list, found, q, i);
-        wrong = up(wrong, !right);
-        i += 1;
+impl<'a> Rows<'a> {
+    fn row(&self, i: usize) -> &'a [u32] {
+        tables::row(self.list, i, self.q, self.q)
     }
-    wrong
-}
 
-// Whether no solution of the box is below a tuple: one in the box is among the minimal solutions, and one outside has none of them below it.
-fn least(tuple: &[u32], q: usize, minimal: &[u32], n: usize) -> bool {
-    if boxes::holds(tuple) {
-        return among(minimal, n, q, tuple);
+    // How many of them lie in the box.
+    pub fn inside(&self) -> u64 {
+        (0..self.count)
+            .filter(|i| boxes::holds(self.row(*i)))
+            .count() as u64
     }
-    !tables::any_at_or_below(minimal, n, q, tuple)
-}
 
-// Whether a tuple is one of the first n rows.
-fn among(rows: &[u32], n: usize, q: usize, tuple: &[u32]) -> bool {
-    let mut i = 0;
-    while i < n {
-        if tables::same(tuple, tables::row(rows, i, q, q)) {
-            return true;
+    // How many of them should not be listed as minimal solutions of a system, whose minimal solutions in the box are those of `minimal`.
+    pub fn wrong(&self, s: System, minimal: Rows) -> u64 {
+        let right = |i: usize| {
+            let tuple = self.row(i);
+            s.allows(tuple) && minimal.has_least(tuple) && self.alone(i)
+        };
+        (0..self.count).filter(|i| !right(*i)).count() as u64
+    }
+
+    // How many minimal solutions of the box are not listed.
+    pub fn missing(&self, minimal: Rows) -> u64 {
+        (0..minimal.count)
+            .filter(|i| !self.has(minimal.row(*i)))
+            .count() as u64
+    }
+
+    // Whether no solution of the box is below a tuple: one in the box is among its minimal solutions, and one outside has none of them below it.
+    fn has_least(&self, tuple: &[u32]) -> bool {
+        if boxes::holds(tuple) {
+            return self.has(tuple);
         }
-        i += 1;
+        !tables::any_at_or_below(self.list, self.count, self.q, tuple)
     }
-    false
-}
 
-// Whether no other row is at or below row i.
-fn alone(list: &[u32], found: usize, q: usize, i: usize) -> bool {
-    let mut k = 0;
-    while k < found {
-        if k != i && tables::at_or_below(tables::row(list, k, q, q), tables::row(list, i, q, q)) {
-            return false;
-        }
-        k += 1;
+    // Whether a tuple is one of the rows.
+    fn has(&self, tuple: &[u32]) -> bool {
+        (0..self.count).any(|i| tables::same(tuple, self.row(i)))
     }
-    true
-}
 
-// How many minimal solutions of the box are not listed.
-pub fn missing_rows(list: &[u32], found: usize, q: usize, minimal: &[u32], n: usize) -> u64 {
-    let mut missing: u64 = 0;
-    let mut i = 0;
-    while i < n {
-        missing = up(
-            missing,
-            !among(list, found, q, tables::row(minimal, i, q, q)),
-        );
-        i += 1;
+    // Whether no other row is at or below row i.
+    fn alone(&self, i: usize) -> bool {
+        (0..self.count).all(|k| k == i || !tables::at_or_below(self.row(k), self.row(i)))
     }
-    missing
 }

@@ -5,14 +5,6 @@ pub fn number(series: u64, place: u64) -> u64 {
     mixed(mixed(start + place % 4294967296)) % 4294967296
 }
 
-// A number below n, or 0 where n is 0.
-pub fn below(series: u64, place: u64, n: u64) -> u64 {
-    if n == 0 {
-        return 0;
-    }
-    number(series, place) % n
-}
-
 // A coefficient, by the place of its size: 0, 1, -1, 2, -2, .. up to -6 at places 0 to 12.
 pub fn coefficient(place: u64) -> i32 {
     let sizes = [0, 1, -1, 2, -2, 3, -3, 4, -4, 5, -5, 6, -6];
